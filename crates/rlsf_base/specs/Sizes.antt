@@ -1,0 +1,34 @@
+-- What the allocator computes of sizes and layouts: indices of classes, pool sizes and requests.
+use Rattle.std.specs.Prelude.{ℕ, ◌+◌, ◌-◌, ◌^◌, Option, Some, None, nat_lt, if◌then◌else◌}
+use Rattle.rlsf_base.specs.Rounding.{round32}
+use Rattle.rlsf_base.specs.SizeClass.{SizeClass, class_of, reaching_class, least_size}
+
+-- the row, counted from the one that begins at the size 32, and the place in it
+abbrev pub indices : SizeClass → ℕ × ℕ
+indices c = (c.exponent - 5, c.division)
+
+-- the indices of a class, if it is valid
+abbrev pub valid_indices : ℕ → SizeClass → Option (ℕ × ℕ)
+valid_indices fllen c = if nat_lt c.exponent (5 + fllen) then Some (indices c) else None
+
+-- the class of a block of this size, by its indices
+abbrev pub map_floor : ℕ → ℕ → ℕ → Option (ℕ × ℕ)
+map_floor fllen sllen size = valid_indices fllen (class_of sllen size)
+
+-- the first class that reaches this size, by its indices
+abbrev pub map_ceil : ℕ → ℕ → ℕ → Option (ℕ × ℕ)
+map_ceil fllen sllen size = valid_indices fllen (reaching_class sllen size)
+
+-- the least size of the first class that reaches this size, if the class is valid and its sizes fit in a word
+abbrev pub map_ceil_and_unmap : ℕ → ℕ → ℕ → Option ℕ
+map_ceil_and_unmap fllen sllen size =
+    let c = reaching_class sllen size in
+    if nat_lt c.exponent (5 + fllen) then (if nat_lt c.exponent 64 then Some (least_size sllen c) else None) else None
+
+-- the length of the longest chunk, whose one block, 32 bytes shorter, has a valid class; none where every size of a word has one
+abbrev pub max_pool_size : ℕ → Option ℕ
+max_pool_size fllen = if nat_lt (5 + fllen) 64 then Some (2 ^ (5 + fllen)) else None
+
+-- the block size that is sought for a layout: a payload begins 16 bytes into its block, or up to `align - 16` bytes later
+abbrev pub request_size : ℕ → ℕ → ℕ
+request_size size align = round32 (size + (align - 16) + 16)

@@ -1,0 +1,78 @@
+ghost use Rattle.std.specs.Prelude.{◌≡◌, ◌%◌, ◌+◌, ◌<◌, ◌≤◌, ◌↔◌, IsOk, IfOk, IsTrue};
+ghost use Rattle.std.specs.Int.{next_multiple_of};
+ghost use Rattle.rlsf_base.specs.Layout.{IsLayout};
+
+/// What a caller asks memory for: a size in bytes, and the alignment of its address.
+///
+/// The alignment is a power of two and the size is at most `2^63 - align`, by the type: so the size
+/// rounded up to the alignment fits in an `isize`.
+#[derive(Clone, Copy, Debug, PartialEq, Eq)]
+pub struct Layout {
+    /// The size in bytes.
+    pub size: usize,
+    /// The alignment in bytes, a power of two.
+    pub align: usize,
+    pub ghost valid: { IsLayout size align },
+}
+
+/// No layout has the size and the alignment that were asked for.
+#[derive(Clone, Copy, Debug, PartialEq, Eq)]
+pub struct LayoutError;
+
+impl Layout {
+    /// The layout of `size` bytes whose address is a multiple of `align`.
+    ///
+    /// Refused exactly where `align` is no power of two, or `size` is above `2^63 - align`.
+    pub fn from_size_align(size: usize, align: usize) -> Result<Layout, LayoutError>
+        ensures succeeds { IsOk result ↔ IsLayout size align }
+        ensures layout { IfOk result (λ l. (l.size ≡ size) × (l.align ≡ align)) }
+    {
+        if is_layout(size, align) {
+            Ok(Layout { size, align })
+        } else {
+            Err(LayoutError)
+        }
+    }
+
+    /// The same, for a caller that knows the size and the alignment to be those of a layout.
+    pub fn from_size_align_unchecked(size: usize, align: usize) -> Layout
+        requires { IsLayout size align }
+        ensures { (result.size ≡ size) × (result.align ≡ align) }
+    {
+        Layout { size, align }
+    }
+
+    /// The size in bytes.
+    pub fn size(&self) -> usize
+        ensures value { result ≡ self.now.size }
+        ensures valid { IsLayout self.now.size self.now.align }
+    {
+        self.size
+    }
+
+    /// The alignment in bytes, a power of two.
+    pub fn align(&self) -> usize
+        ensures value { result ≡ self.now.align }
+        ensures valid { IsLayout self.now.size self.now.align }
+    {
+        self.align
+    }
+
+    /// The layout whose size is the least multiple of the alignment that is not below the size, with the
+    /// same alignment.
+    pub fn pad_to_align(&self) -> Layout
+        ensures size { result.size ≡ next_multiple_of self.now.size self.now.align }
+        ensures align { result.align ≡ self.now.align }
+    {
+        Layout {
+            size: self.size.next_multiple_of(self.align),
+            align: self.align,
+        }
+    }
+}
+
+fn is_layout(size: usize, align: usize) -> bool
+    ensures { IsTrue result ↔ IsLayout size align }
+{
+    align.is_power_of_two() && size <= (1 << 63) - align
+}

@@ -1,0 +1,16 @@
+use std::num::NonZeroUsize;
+
+/// An address: a nonzero whole number that names a byte of a memory.
+pub type Addr = NonZeroUsize;
+
+/// The `len` bytes from the address `start` on.
+///
+/// A range lies in a memory if it begins no earlier and ends no later than the memory. An empty range
+/// has a place too: it lies in a memory that has no byte there, at its very end for one.
+#[derive(Clone, Copy, Debug, PartialEq, Eq)]
+pub struct Range {
+    /// The address of the first byte.
+    pub start: usize,
+    /// The number of bytes.
+    pub len: usize,
+}

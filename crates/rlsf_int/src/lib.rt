@@ -1,0 +1,10 @@
+//! Integers as bitmaps: a value stands for the set of the positions of its ones.
+#![tactic(auto)]
+
+mod impls;
+mod int;
+mod private;
+#[cfg(test)]
+mod tests;
+
+pub use int::{BinInteger, BitPattern};
