@@ -1,10 +1,229 @@
 //! Addresses, ranges and layouts, and the one block of bytes that they speak of.
+ghost use Rattle.std.specs.Prelude.{◌≡◌, ◌+◌, ◌-◌, ◌%◌, ◌^◌, ◌<◌, ◌≤◌, ◌↔◌, length, replicate, IfOk, IsOk, IsErrOf};
+ghost use Rattle.std.specs.Borrow.{sem};
+ghost use Rattle.rlsf_base.specs.Range.{LiesIn};
+ghost use Rattle.rlsf_base.specs.Space.{bytes_in, IsWord, word_at, with_word, with_bytes};
 
+use std::alloc::Global;
+use std::marker::Model;
+use std::mem::size_of;
+
+pub(crate) mod block;
+pub(crate) mod counters;
 mod layout;
 mod range;
-
-pub use layout::{Layout, LayoutError};
-pub use range::{Addr, Range};
-
 #[cfg(test)]
 mod tests;
+pub(crate) mod zeroed;
+
+use block::{Base, Bytes, Deed};
+use counters::Counters;
+pub use layout::{Layout, LayoutError};
+pub use range::{Addr, Range};
+use zeroed::{give_back, take_zeroed};
+
+/// Why a `Memory` wasn't made.
+#[derive(Clone, Copy, Debug, PartialEq, Eq)]
+pub enum MemoryError {
+    /// The start is zero, which is no address.
+    ZeroStart,
+    /// The end lies past the greatest address.
+    TooLong,
+    /// The machine has no block of this length.
+    OutOfMemory,
+}
+
+/// The address space that allocators divide up: `len` bytes at the addresses from `start` on.
+///
+/// It is one block of the machine, aligned so that each multiple of 8 is the address of an aligned word. It counts,
+/// for contracts alone, how often words were touched and how many bytes were copied.
+pub struct Memory {
+    base: Base,
+    start: usize,
+    len: usize,
+    bytes: Bytes,
+    deed: Deed<Global>,
+    counters: Counters,
+    alloc: Global,
+}
+
+const _: () = prove!(size_of::<Memory>() == size_of::<Vec<u8>>());
+
+impl Model for Memory {
+    ghost use Rattle.rlsf_base.specs.Space.{Space};
+
+    ghost Value = { Space };
+
+    ghost use Rattle.rlsf_base.specs.Block.{IsMemory};
+
+    ghost view = { λ m. record { start = m.start; bytes = m.bytes.bytes; touches = m.counters.touches; copied = m.counters.copied } };
+
+    ghost invariant = { λ m. IsMemory m.base m.start m.len m.bytes m.deed m.alloc };
+}
+
+impl Drop for Memory {
+    fn drop(self) {
+        let Memory {
+            base,
+            start,
+            len,
+            bytes,
+            deed,
+            counters: _,
+            alloc,
+        } = self;
+        give_back(&alloc, base, start % 8, len, bytes, deed);
+    }
+}
+
+impl Memory {
+    ghost use Rattle.rlsf_base.specs.Lends.{LendsBytes};
+
+    /// Makes a memory of `len` zero bytes from the address `start` on.
+    ///
+    /// Refused with `ZeroStart` if `start` is zero, else with `TooLong` if `start + len` passes the greatest address,
+    /// else with `OutOfMemory` if the machine has no such block. A memory of no bytes asks the machine for nothing.
+    pub fn new(alloc: Global, start: usize, len: usize) -> Result<Memory, MemoryError>
+        ensures zero_start { IsErrOf result MemoryError.ZeroStart ↔ (start ≡ 0) }
+        ensures too_long { IsErrOf result MemoryError.TooLong ↔ ((1 ≤ start) × (2 ^ 64 ≤ start + len)) }
+        ensures empty { (1 ≤ start) × (start < 2 ^ 64) × (len ≡ 0) → IsOk result }
+        ensures start { IfOk result (λ m. m.start ≡ start) }
+        ensures bytes { IfOk result (λ m. m.bytes ≡ replicate len 0) }
+        ensures counts { IfOk result (λ m. (m.touches ≡ 0) × (m.copied ≡ 0)) }
+    {
+        if start == 0 {
+            return Err(MemoryError::ZeroStart);
+        }
+        if usize::MAX - start < len {
+            return Err(MemoryError::TooLong);
+        }
+        match take_zeroed(&alloc, start % 8, len) {
+            Some((base, bytes, deed)) => Ok(Memory {
+                base,
+                start,
+                len,
+                bytes,
+                deed,
+                counters: Counters::new(),
+                alloc,
+            }),
+            None => Err(MemoryError::OutOfMemory),
+        }
+    }
+
+    /// The address of the first byte.
+    pub fn start(&self) -> usize
+        ensures value { result ≡ self.now.start }
+        ensures bounds { (0 < self.now.start) × (self.now.start + length self.now.bytes < 2 ^ 64) }
+    {
+        self.start
+    }
+
+    /// The number of bytes.
+    pub fn len(&self) -> usize
+        ensures value { result ≡ length self.now.bytes }
+        ensures bounds { (0 < self.now.start) × (self.now.start + length self.now.bytes < 2 ^ 64) }
+    {
+        self.len
+    }
+
+    // The place in the block of the byte at `addr`.
+    fn place(&self, addr: usize) -> usize
+        requires { self.now.start ≤ addr }
+        ensures { result ≡ self.now.start % 8 + (addr - self.now.start) }
+    {
+        addr - (self.start - self.start % 8)
+    }
+
+    /// The bytes of `range`, which lies in the memory.
+    pub fn slice(&self, range: Range) -> &[u8]
+        requires { LiesIn range self.now.start (length self.now.bytes) }
+        ensures { result.now ≡ bytes_in self.now range }
+    {
+        self.bytes
+            .slice(self.base, self.place(range.start), range.len)
+    }
+
+    /// The bytes of `range`, which lies in the memory, to write to. What is left there stays; nothing else changes.
+    pub fn slice_mut(&mut self, range: Range) -> &mut [u8]
+        requires { LiesIn range self.old.start (length self.old.bytes) }
+        ensures* writes_back { sem 𝓛 (LendsBytes self.entry range.start range.len result) }
+        ensures value { result.now ≡ bytes_in self.old range }
+    {
+        let (base, place) = (self.base, self.place(range.start));
+        self.bytes.slice_mut(base, place, range.len)
+    }
+
+    /// The word at `addr`, a multiple of 8 whose 8 bytes lie in the memory: these bytes, least first.
+    pub fn word(&self, addr: usize) -> u64
+        requires { IsWord self.now addr }
+        ensures { result ≡ word_at self.now addr }
+    {
+        let b = self.slice(Range {
+            start: addr,
+            len: 8,
+        });
+        u64::from_le_bytes([b[0], b[1], b[2], b[3], b[4], b[5], b[6], b[7]])
+    }
+
+    /// The word at `addr`, as `word` gives it, counted as one touch.
+    pub fn load(&mut self, addr: usize) -> u64
+        requires { IsWord self.old addr }
+        ensures word { result ≡ word_at self.old addr }
+        ensures start { self.new.start ≡ self.old.start }
+        ensures bytes { self.new.bytes ≡ self.old.bytes }
+        ensures touches { self.new.touches ≡ self.old.touches + 1 }
+        ensures copied { self.new.copied ≡ self.old.copied }
+    {
+        let word = self.word(addr);
+        self.counters.count_touch();
+        word
+    }
+
+    /// Writes the word at `addr`, a multiple of 8 whose 8 bytes lie in the memory, least byte first, and counts one
+    /// touch. No other byte changes.
+    pub fn set_word(&mut self, addr: usize, word: u64)
+        requires { IsWord self.old addr }
+        ensures start { self.new.start ≡ self.old.start }
+        ensures bytes { self.new.bytes ≡ with_word self.old addr word }
+        ensures len { length self.new.bytes ≡ length self.old.bytes }
+        ensures touches { self.new.touches ≡ self.old.touches + 1 }
+        ensures copied { self.new.copied ≡ self.old.copied }
+    {
+        let b = self.slice_mut(Range {
+            start: addr,
+            len: 8,
+        });
+        if let Some(chunk) = b.first_chunk_mut::<8>() {
+            *chunk = word.to_le_bytes();
+        }
+        self.counters.count_touch();
+    }
+
+    /// Counts one touch. Nothing else changes.
+    pub fn touch(&mut self)
+        ensures start { self.new.start ≡ self.old.start }
+        ensures bytes { self.new.bytes ≡ self.old.bytes }
+        ensures touches { self.new.touches ≡ self.old.touches + 1 }
+        ensures copied { self.new.copied ≡ self.old.copied }
+    {
+        self.counters.count_touch();
+    }
+
+    /// Copies the bytes of `range` to the same number of bytes from `to` on, and adds this number to the copied
+    /// bytes. Both lie in the memory, and may overlap: what is written is what stood in `range` before.
+    pub fn copy_within(&mut self, range: Range, to: usize)
+        requires from { LiesIn range self.old.start (length self.old.bytes) }
+        requires to { LiesIn (record { start = to; len = range.len }) self.old.start (length self.old.bytes) }
+        ensures start { self.new.start ≡ self.old.start }
+        ensures bytes { self.new.bytes ≡ with_bytes self.old to (bytes_in self.old range) }
+        ensures len { length self.new.bytes ≡ length self.old.bytes }
+        ensures touches { self.new.touches ≡ self.old.touches }
+        ensures copied { self.new.copied ≡ self.old.copied + range.len }
+    {
+        let (base, first, from) = (self.base, self.start % 8, range.start - self.start);
+        let bytes = self.bytes.slice_mut(base, first, self.len);
+        bytes.copy_within(from..from + range.len, to - self.start);
+        self.counters.count_copy(range.len);
+    }
+}

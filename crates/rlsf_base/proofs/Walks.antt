@@ -1,0 +1,26 @@
+-- What the walks over a call of the allocator share.
+use Prim.Native.Nat.{ℕ, zero, suc}
+use mathlib.Core.List.{List, [], ◌∷◌}
+use seplogic.Ra.Ura.{Ura}
+use mir.Syntax.{Body}
+use prog.Wp.{Env, Calls, Loops, Wp, after_seq, after_block}
+use types.Logic.{Logic}
+use types.Kit.{Post, any_q, post}
+use denote.Builtin.{unit}
+use denote.Signature.{Slot, plain}
+
+-- the k-th parameter
+abbrev pub slot_at : {n : ℕ} → ℕ → List (Slot n) → Slot n
+slot_at k [] = plain (λ _. unit)
+slot_at zero (s ∷ ss) = s
+slot_at (suc k) (s ∷ ss) = slot_at k ss
+
+module _ {M : Type 1} {𝓤 : Ura M} (𝓛 : Logic 𝓤) where
+  open 𝓛 use {H}
+
+  -- a statement, and then b; and the end of a block
+  abbrev pub then_runs : Calls 𝓤 H → Loops 𝓤 H → Env 𝓤 H → Body → Post 𝓤 H → Post 𝓤 H
+  then_runs C Λ E b q = any_q (after_seq 𝓤 H (Wp 𝓤 H C Λ E b (post 𝓤 H q)) (post 𝓤 H q))
+
+  abbrev pub out_of_block : Post 𝓤 H → Post 𝓤 H
+  out_of_block q = any_q (after_block 𝓤 H (post 𝓤 H q))
