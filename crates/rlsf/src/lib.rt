@@ -2,5 +2,7 @@
 #![tactic(auto)]
 
 mod promises;
+mod tlsf;
 
 pub use promises::laws;
+pub use tlsf::{GRANULARITY, Tlsf};

@@ -1,6 +1,6 @@
 -- The chunks that an aligned part is cut into.
 use mathlib.Core.Path.{ap₂}
-use Rattle.std.proofs.Common.{◌≡◌, ℕ, zero, suc, ◌+◌, ◌-◌, ◌*◌, ◌/◌, ◌%◌, ◌^◌, ◌<◌, ◌≤◌, ◌⊎◌, cond, [], ◌∷◌, ◌++◌, Option, Some, None, arith, refl, sym, ap, subst, inl, inr, min, ◌∙◌}
+use Rattle.std.proofs.Common.{◌≡◌, ℕ, zero, suc, ◌+◌, ◌-◌, ◌*◌, ◌/◌, ◌%◌, ◌^◌, ◌<◌, ◌≤◌, ◌⊎◌, cond, List, [], ◌∷◌, ◌++◌, Option, Some, None, arith, refl, sym, ap, subst, inl, inr, min, ◌∙◌}
 use Rattle.std.proofs.lemmas.Bool.{cases_lt, lt-ltb, le-ltb, le-leb, lt-leb}
 use Rattle.std.proofs.lemmas.Nat.{div_below, le-div, mod_below, div-add-mod', pow-add}
 use Rattle.std.proofs.Math.Nat.{div-mul-le_self}
@@ -8,7 +8,7 @@ use Rattle.std.proofs.Math.Pow.{pow_mono}
 use Rattle.rlsf_base.specs.declared.memory.range.Range.{Range}
 use Rattle.rlsf_base.specs.Range.{end_of}
 use Rattle.rlsf_base.specs.Sizes.{max_pool_size}
-use Rattle.rlsf.specs.Machine.Insert.{adjacent, remainder, cut, body}
+use Rattle.rlsf.specs.Machine.Insert.{adjacent, remainder, cut, body, end_of_last}
 use Rattle.rlsf.specs.Machine.Laws.{IsCutOff, ChunksAreCutOffTheFront}
 use Rattle.rlsf.specs.Machine.Lists.{IsIn}
 use Rattle.rlsf.specs.Machine.WellFormed.{covers, coverage, itself, last_bytes, IsWhole}
@@ -187,3 +187,47 @@ chunks_are_cut_off_the_front fllen at len rows = elim (max_pool-cases fllen) [
             cut_most-more at len most wide fits ∙ ap (λ n. from_with at n ∷ cut (Some most) (from_with (at + n) (len - n))) (sym least)
       ],
     )
+
+-- ---- where the last chunk ends
+
+end_of_last-adjacent : (n at len : ℕ) (more : List Range) → end_of_last at (adjacent at len n ++ more) ≡ end_of_last (at + n * len) more
+end_of_last-adjacent zero at len more = ap (λ a. end_of_last a more) same
+  where
+    same : at ≡ at + zero * len
+    same = omega arith
+end_of_last-adjacent (suc n) at len more = end_of_last-adjacent n (at + len) len more ∙ ap (λ a. end_of_last a more) same
+  where
+    same : at + len + n * len ≡ at + suc n * len
+    same = omega arith
+
+-- the range from an address to the last chunk's end
+abbrev to_last : ℕ → List Range → Range
+to_last at cs = from_with at (end_of_last at cs - at)
+
+coverage-remainder_last : (at len a : ℕ) → (at ≤ end_of_last at (remainder at len)) × (coverage itself (remainder at len) a ≤ covers (to_last at (remainder at len)) a)
+coverage-remainder_last at len a = elim (cases_lt len 64) [
+  | inl short ↦ subst (λ cs. (at ≤ end_of_last at cs) × (coverage itself cs a ≤ covers (to_last at cs) a)) (sym (remainder-none at len short)) (omega arith, omega arith)
+  | inr room ↦ subst (λ cs. (at ≤ end_of_last at cs) × (coverage itself cs a ≤ covers (to_last at cs) a)) (sym (remainder-one at len room))
+      (omega arith, subst (λ n. covers (from_with at len) a + 0 ≤ covers (from_with at n) a) whole (omega arith))
+]
+  where
+    whole : len ≡ at + len - at
+    whole = omega arith
+
+-- no chunk that a part is cut into has an address behind the last chunk
+pub coverage-cut_last : (o : Option ℕ) (part : Range) (a : ℕ) → coverage itself (cut o part) a ≤ covers (to_last part.start (cut o part)) a
+coverage-cut_last None part a = (coverage-remainder_last part.start part.len a).1
+coverage-cut_last (Some most) part a =
+    let n = part.len / most in
+    let behind = part.start + n * most in
+    let left = remainder behind (part.len - n * most) in
+    let rest = coverage-remainder_last behind (part.len - n * most) a in
+    let end = end_of_last behind left in
+    let from : behind ≤ end = rest.0 in
+    subst (λ e. coverage itself (adjacent part.start most n ++ left) a ≤ covers (from_with part.start (e - part.start)) a) (sym (end_of_last-adjacent n part.start most left)) (omega (
+      arith,
+      coverage-append itself (adjacent part.start most n) left a,
+      coverage-adjacent n part.start most a,
+      rest.1,
+      covers-split part.start behind end a (omega arith) from (from_with part.start (end - part.start)) (from_with part.start (n * most)) (from_with behind (end - behind)) refl (omega arith) refl refl refl (omega arith),
+    ))
