@@ -1,0 +1,6 @@
+pub mod LayoutTests
+pub mod LineParts
+pub mod NumberTests
+pub mod Commands
+pub mod TextFaults
+pub mod Writing

@@ -1,0 +1,10 @@
+pub mod Commands
+pub mod Configurations
+pub mod Faults
+pub mod Lines
+pub mod Numbers
+pub mod Output
+pub mod Printing
+pub mod Reading
+pub mod Steps
+pub mod Words

@@ -1,0 +1,23 @@
+//! The ops of a trace and their answers, how a trace is read from text, and how its answers are printed.
+
+mod configuration;
+mod cut;
+mod fault;
+mod input;
+mod lines;
+mod number;
+mod op;
+mod output;
+mod parse;
+mod printing;
+mod reading;
+mod words;
+
+pub use configuration::Configuration;
+pub use fault::{Fault, ReplayFault, status};
+pub use op::{Answer, Op, TraceError};
+pub use parse::Trace;
+pub use printing::text_of;
+
+#[cfg(test)]
+mod tests;

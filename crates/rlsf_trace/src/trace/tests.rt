@@ -1,0 +1,5 @@
+use super::*;
+
+mod printing;
+mod reading;
+mod streams;
