@@ -1,6 +1,10 @@
 pub mod LayoutTests
 pub mod LineParts
+pub mod NewPools
 pub mod NumberTests
 pub mod Commands
+pub mod Scenes
 pub mod TextFaults
+pub mod Touching
+pub mod Underway
 pub mod Writing

@@ -6,5 +6,8 @@ pub mod Numbers
 pub mod Output
 pub mod Printing
 pub mod Reading
+pub mod Replays
+pub mod Runs
 pub mod Steps
+pub mod Tables
 pub mod Words

@@ -1,5 +1,8 @@
 use super::*;
 
+mod faults;
 mod printing;
 mod reading;
+mod replays;
+mod runs;
 mod streams;

@@ -6,7 +6,7 @@ use std::io::{ErrorKind, Read, Write};
 use std::test::Fail;
 
 #[derive(Drop)]
-struct Broken;
+pub(super) struct Broken;
 
 impl Read for Broken {
     fn read(&mut self, _buf: &mut [u8]) -> io::Result<usize> {
@@ -16,10 +16,10 @@ impl Read for Broken {
 
 /// A writer that takes so many bytes, three at a time, and then none, or fails.
 #[derive(Drop)]
-struct Narrow {
-    taken: Vec<u8>,
-    room: usize,
-    fails: bool,
+pub(super) struct Narrow {
+    pub(super) taken: Vec<u8>,
+    pub(super) room: usize,
+    pub(super) fails: bool,
 }
 
 impl Write for Narrow {
