@@ -1,8 +1,13 @@
-//! A real-time memory allocator: two-level segregated fit over pools that the caller hands in.
+//! A real-time memory allocator: two-level segregated fit over memory that the caller hands in.
+//!
+//! This crate has no code of its own. It gives on what a user wants from one crate.
 #![tactic(auto)]
 
-mod promises;
-mod tlsf;
+pub use rlsf_base::memory::{Addr, Layout, LayoutError, Memory, MemoryError, Range};
+pub use rlsf_machine::laws;
+pub use rlsf_tlsf::{GRANULARITY, Tlsf};
 
-pub use promises::laws;
-pub use tlsf::{GRANULARITY, Tlsf};
+/// The integers that serve as bitmaps.
+pub mod int {
+    pub use rlsf_int::{BinInteger, BitPattern};
+}

@@ -4,11 +4,11 @@ use Rattle.std.proofs.lemmas.Nat.{pow-add, pow_pos}
 use Rattle.std.specs.Int.{next_multiple_of}
 use Rattle.rlsf_base.specs.Layout.{IsLayout}
 use Rattle.rlsf_base.specs.PowerOfTwo.{floor_log2}
-use Rattle.rlsf_base.proofs.PowersOfTwo.{IsPowerOfTwo-positive, pow-between}
-use Rattle.rlsf_base.proofs.Roundings.{next_multiple_of-least}
+use Rattle.rlsf_base.proofs.Numbers.PowersOfTwo.{IsPowerOfTwo-positive, pow-between}
+use Rattle.rlsf_base.proofs.Numbers.Roundings.{next_multiple_of-least}
 
 -- a power of two that is at most 2 ^ k goes into it a whole number of times
-pow-quotient : (j k : ℕ) → j ≤ k → 2 ^ k ≡ 2 ^ (k - j) * 2 ^ j
+pub pow-quotient : (j k : ℕ) → j ≤ k → 2 ^ k ≡ 2 ^ (k - j) * 2 ^ j
 pow-quotient j k order = let parts : k ≡ k - j + j = omega arith in ap (λ e. 2 ^ e) parts ∙ pow-add 2 (k - j) j
 
 -- 2 ^ 63 less an alignment is a multiple of the alignment, so rounding up to it stays within that

@@ -1,23 +1,13 @@
--- What bytes end as, once a `&mut` into them has ended.
+-- What a memory ends as, once a `&mut` into its bytes has ended.
 use Rattle.std.specs.Prelude.{ℕ, ◌+◌, ◌-◌, List, drop}
 use Rattle.std.specs.Borrow.{Fml, MutBor, Array, Lends, u8}
 use Rattle.std.specs.List.{splice, refill}
-use Rattle.rlsf_base.specs.declared.memory.block.Bytes.{Bytes}
-use Rattle.rlsf_base.specs.contracts.memory.block.Bytes as owner
 use Rattle.rlsf_base.specs.contracts.memory.Memory as memory
 use Rattle.rlsf_base.specs.Space.{Space}
 
 -- old, with its len elements from index i on as w has them: w is cut to len, or filled up from old
 abbrev pub refilled : {X : Type 0} → List X → ℕ → ℕ → List X → List X
 refilled old i len w = splice old i (i + len) (refill len (drop i old) w)
-
--- the owner, with these bytes
-abbrev pub owner_with : Bytes → List ℕ → Bytes
-owner_with b bs = record { mark = b.mark; at = b.at; skip = b.skip; bytes = bs; left = b.left }
-
--- the owner ends with what r leaves in its len bytes from the index i on
-abbrev pub lends_part : MutBor Bytes → ℕ → ℕ → MutBor (List ℕ) → Fml
-lends_part b i len r = Lends owner.the_row (Array u8 0) b r (λ w. owner_with b.now (refilled b.now.bytes i len w))
 
 -- a memory, with w in the place of its len bytes from the address at on
 abbrev pub lent_space : Space → ℕ → ℕ → List ℕ → Space

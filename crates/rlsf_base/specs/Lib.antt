@@ -1,10 +1,10 @@
-pub mod Block
+pub mod ClassLaws
 pub mod Layout
 pub mod Lends
-pub mod Ownership
 pub mod PowerOfTwo
 pub mod Range
 pub mod Rounding
 pub mod SizeClass
 pub mod Sizes
 pub mod Space
+pub mod Steps

@@ -1,7 +1,12 @@
 -- What the allocator computes of sizes and layouts: indices of classes, pool sizes and requests.
-use Rattle.std.specs.Prelude.{ℕ, ◌+◌, ◌-◌, ◌^◌, Option, Some, None, nat_lt, if◌then◌else◌}
+use Rattle.std.specs.Prelude.{◌≡◌, ℕ, ◌+◌, ◌-◌, ◌%◌, ◌^◌, ◌<◌, Option, Some, None, nat_lt, if◌then◌else◌}
+use Rattle.std.specs.Option.{option_map}
 use Rattle.rlsf_base.specs.Rounding.{round32}
 use Rattle.rlsf_base.specs.SizeClass.{SizeClass, class_of, reaching_class, least_size}
+
+-- the size of a block: a nonzero multiple of 32
+abbrev pub IsSize : ℕ → Type 0
+IsSize n = (0 < n) × (n % 32 ≡ 0)
 
 -- the row, counted from the one that begins at the size 32, and the place in it
 abbrev pub indices : SizeClass → ℕ × ℕ
@@ -32,3 +37,7 @@ max_pool_size fllen = if nat_lt (5 + fllen) 64 then Some (2 ^ (5 + fllen)) else 
 -- the block size that is sought for a layout: a payload begins 16 bytes into its block, or up to `align - 16` bytes later
 abbrev pub request_size : ℕ → ℕ → ℕ
 request_size size align = round32 (size + (align - 16) + 16)
+
+-- the length of the least chunk whose block has a class that reaches what is sought for a layout: its sentinel takes 32 bytes
+abbrev pub pool_size_to_contain_allocation : ℕ → ℕ → ℕ → ℕ → Option ℕ
+pool_size_to_contain_allocation fllen sllen size align = option_map (λ n. n + 32) (map_ceil_and_unmap fllen sllen (request_size size align))

@@ -3,7 +3,7 @@ use Rattle.std.specs.Prelude.{◌≡◌, ℕ, ◌+◌, ◌-◌, ◌%◌, List, l
 use Rattle.std.specs.Int.{w64, from_le_bytes, to_le_bytes}
 use Rattle.std.specs.List.{splice}
 use Rattle.rlsf_base.specs.declared.memory.range.Range.{Range}
-use Rattle.rlsf_base.specs.Range.{LiesIn}
+use Rattle.rlsf_base.specs.Range.{LiesIn, range_at}
 
 -- where it begins, its bytes, and two counts of the work done in it
 pub record Space : Type 0 where
@@ -14,7 +14,7 @@ pub record Space : Type 0 where
 
 -- the addresses of a memory
 abbrev pub range_of : Space → Range
-range_of m = record { start = m.start; len = length m.bytes }
+range_of m = range_at m.start (length m.bytes)
 
 -- start and length of a memory stay
 abbrev pub SamePlace : Space → Space → Type 0
@@ -30,11 +30,11 @@ bytes_in m r = take r.len (drop (r.start - m.start) m.bytes)
 
 -- one byte
 abbrev pub byte_range : ℕ → Range
-byte_range a = record { start = a; len = 1 }
+byte_range a = range_at a 1
 
 -- the eight bytes from an address on
 abbrev pub word_range : ℕ → Range
-word_range a = record { start = a; len = 8 }
+word_range a = range_at a 8
 
 -- the address is that of a word: a multiple of 8 whose eight bytes lie in the memory
 abbrev pub IsWord : Space → ℕ → Type 0

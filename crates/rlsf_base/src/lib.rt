@@ -1,4 +1,5 @@
 //! The address space that the allocators of this workspace stand on, and their size classes.
 #![tactic(auto)]
 
+pub mod classes;
 pub mod memory;

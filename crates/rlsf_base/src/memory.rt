@@ -1,8 +1,8 @@
 //! Addresses, ranges and layouts, and the one block of bytes that they speak of.
 ghost use Rattle.std.specs.Prelude.{◌≡◌, ◌+◌, ◌-◌, ◌%◌, ◌^◌, ◌<◌, ◌≤◌, ◌↔◌, length, replicate, IfOk, IsOk, IsErrOf};
 ghost use Rattle.std.specs.Borrow.{sem};
-ghost use Rattle.rlsf_base.specs.Range.{LiesIn};
-ghost use Rattle.rlsf_base.specs.Space.{bytes_in, IsWord, word_at, with_word, with_bytes};
+ghost use Rattle.rlsf_base.specs.Range.{range_at, LiesIn};
+ghost use Rattle.rlsf_base.specs.Space.{bytes_in, word_range, IsWord, word_at, with_word, with_bytes};
 
 use std::alloc::Global;
 use std::marker::Model;
@@ -54,7 +54,7 @@ impl Model for Memory {
 
     ghost Value = { Space };
 
-    ghost use Rattle.rlsf_base.specs.Block.{IsMemory};
+    ghost use Rattle.rlsf_base.specs.Steps.Block.{IsMemory};
 
     ghost view = { λ m. record { start = m.start; bytes = m.bytes.bytes; touches = m.counters.touches; copied = m.counters.copied } };
 
@@ -159,10 +159,7 @@ impl Memory {
         requires { IsWord self.now addr }
         ensures { result ≡ word_at self.now addr }
     {
-        let b = self.slice(Range {
-            start: addr,
-            len: 8,
-        });
+        let b = self.slice(word_range(addr));
         u64::from_le_bytes([b[0], b[1], b[2], b[3], b[4], b[5], b[6], b[7]])
     }
 
@@ -176,7 +173,7 @@ impl Memory {
         ensures copied { self.new.copied ≡ self.old.copied }
     {
         let word = self.word(addr);
-        self.counters.count_touch();
+        self.touch();
         word
     }
 
@@ -190,14 +187,11 @@ impl Memory {
         ensures touches { self.new.touches ≡ self.old.touches + 1 }
         ensures copied { self.new.copied ≡ self.old.copied }
     {
-        let b = self.slice_mut(Range {
-            start: addr,
-            len: 8,
-        });
+        let b = self.slice_mut(word_range(addr));
         if let Some(chunk) = b.first_chunk_mut::<8>() {
             *chunk = word.to_le_bytes();
         }
-        self.counters.count_touch();
+        self.touch();
     }
 
     /// Counts one touch. Nothing else changes.
@@ -214,7 +208,7 @@ impl Memory {
     /// bytes. Both lie in the memory, and may overlap: what is written is what stood in `range` before.
     pub fn copy_within(&mut self, range: Range, to: usize)
         requires from { LiesIn range self.old.start (length self.old.bytes) }
-        requires to { LiesIn (record { start = to; len = range.len }) self.old.start (length self.old.bytes) }
+        requires to { LiesIn (range_at to range.len) self.old.start (length self.old.bytes) }
         ensures start { self.new.start ≡ self.old.start }
         ensures bytes { self.new.bytes ≡ with_bytes self.old to (bytes_in self.old range) }
         ensures len { length self.new.bytes ≡ length self.old.bytes }
@@ -225,5 +219,14 @@ impl Memory {
         let bytes = self.bytes.slice_mut(base, first, self.len);
         bytes.copy_within(from..from + range.len, to - self.start);
         self.counters.count_copy(range.len);
+    }
+}
+
+fn word_range(addr: usize) -> Range
+    ensures { result ≡ word_range addr }
+{
+    Range {
+        start: addr,
+        len: 8,
     }
 }

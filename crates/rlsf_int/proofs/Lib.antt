@@ -1,1 +1,4 @@
-pub mod BitLemmas
+pub mod Bits
+pub mod Ceilings
+pub mod Signed
+pub mod Unsigned

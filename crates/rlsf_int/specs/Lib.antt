@@ -1,1 +1,4 @@
 pub mod Bits
+pub mod Ceilings
+pub mod Laws
+pub mod Values

@@ -1,9 +1,12 @@
 //! The trait of the integers that serve as bitmaps, and the meaning of their values.
 
-ghost use Rattle.std.specs.Prelude.{◌≡◌, ◌≤◌, ℕ, false};
-ghost use Rattle.rlsf_int.specs.Bits.{bit};
+ghost use Rattle.std.specs.Prelude.{◌≡◌, ◌+◌, ◌<◌, ◌≤◌, ℕ, ℤ, Bool, false, ◌&&◌, ◌||◌, not, nat_eq, nat_lt, nat_le, option_map};
+ghost use Rattle.rlsf_int.specs.Bits.{bit, IsFirstOne, IsLeadingZeros, ones_below};
+ghost use Rattle.rlsf_int.specs.Ceilings.{IsCheckedCeiling};
+ghost use Rattle.rlsf_int.specs.Values.{IsOneToOne, IsSpelled, IsValue};
 
 use crate::private::Sealed;
+use std::ops::Range;
 use std::{fmt, ops};
 
 /// What a value means: the set of the positions of its ones in two's complement. The lowest
@@ -19,9 +22,16 @@ pub trait BitPattern: Copy + Sealed {
 
     // The number whose ones, in binary, stand at the positions of the value's ones.
     ghost pattern: { Self → ℕ };
+
+    // The pattern is below `2 ^ width`, two values with one pattern are equal, and every number
+    // below `2 ^ width` is a value's pattern.
+    ghost one_to_one: { IsOneToOne (IsValue Self.row) width pattern };
 }
 
 /// Integral types with efficient binary operations.
+///
+/// A position is that of a binary digit, from 0 for the lowest on. A range of positions has its
+/// start and not its end.
 pub trait BinInteger: BitPattern
     + Clone
     + Copy
@@ -55,7 +65,78 @@ pub trait BinInteger: BitPattern
 
     ghost BITS: { ℕ };
 
+    // The value as a number, below 0 where the type is signed and the highest position has a one.
+    ghost number: { Self → ℤ };
+
+    // The greatest number of the type.
+    ghost greatest: { ℕ };
+
+    /// The value whose ones stand at the positions of the range, which the caller keeps in order
+    /// and not past `BITS`.
+    fn ones(range: Range<u32>) -> Self
+        requires ordered { range.start ≤ range.end }
+        requires within { range.end ≤ BITS }
+        ensures { (i : ℕ) → bit (Self.pattern result) i ≡ (nat_le range.start i && nat_lt i range.end) };
+
+    /// The same for any range in order: its positions from `BITS` on are dropped.
+    fn ones_truncated(range: Range<u32>) -> Self
+        requires { range.start ≤ range.end }
+        ensures { (i : ℕ) → bit (Self.pattern result) i ≡ (nat_le range.start i && (nat_lt i range.end && nat_lt i BITS)) }
+    {
+        Self::ones(range.start.min(Self::BITS)..range.end.min(Self::BITS))
+    }
+
+    /// The least position of a one, or `BITS` where there is none.
+    fn trailing_zeros(&self) -> u32
+        ensures { IsFirstOne BITS (Self.pattern self.now) 0 result };
+
+    /// How many positions lie above the greatest position of a one, which is `BITS` where there is
+    /// none.
+    fn leading_zeros(&self) -> u32
+        ensures { IsLeadingZeros BITS (Self.pattern self.now) result };
+
+    /// How many ones there are.
+    fn count_ones(&self) -> u32
+        ensures count { result ≡ ones_below (Self.pattern self.now) BITS }
+        // What the law of `BitPattern` asks of a value.
+        ensures value { IsValue Self.row self.now };
+
+    /// The least position of a one that isn't below `start`, or `BITS` where there is none.
+    fn bit_scan_forward(&self, start: u32) -> u32
+        ensures { IsFirstOne BITS (Self.pattern self.now) start result };
+
+    /// The ones at the positions of the range, moved down by the range's start. Of these the lowest
+    /// 32 are kept. The caller keeps the range in order; it may pass `BITS`, where no ones are.
+    fn extract_u32(&self, range: Range<u32>) -> u32
+        requires { range.start ≤ range.end }
+        ensures { (i : ℕ) → bit result i ≡ (bit (Self.pattern self.now) (range.start + i) && (nat_lt (range.start + i) range.end && nat_lt i 32)) };
+
+    /// Whether there is a one at the position, which is false from `BITS` on.
+    fn get_bit(&self, i: u32) -> bool
+        ensures { result ≡ (bit (Self.pattern self.now) i && nat_lt i BITS) }
+    {
+        i < Self::BITS && self.extract_u32(i..i + 1) == 1
+    }
+
+    /// Puts a one at the position. From `BITS` on nothing changes.
+    fn set_bit(&mut self, i: u32)
+        ensures { (j : ℕ) → bit (Self.pattern self.new) j ≡ (bit (Self.pattern self.old) j || (nat_eq j i && nat_lt i BITS)) };
+
+    /// Takes the one at the position away, if there is one. From `BITS` on nothing changes.
+    fn clear_bit(&mut self, i: u32)
+        ensures { (j : ℕ) → bit (Self.pattern self.new) j ≡ (bit (Self.pattern self.old) j && not (nat_eq j i && nat_lt i BITS)) };
+
+    /// Rounds up, where the value is a fixed-point number whose lowest `fp` digits are its fraction:
+    /// the least multiple of `2 ^ fp` that isn't below the value, and `None` exactly if that isn't a
+    /// number of the type. For an `fp` of `BITS` or more it is 0 for 0, and else `None`.
+    fn checked_ceil_fix(self, fp: u32) -> Option<Self>
+        ensures { IsCheckedCeiling BITS greatest fp (number self) (option_map number result) };
+
     ghost zero_has_no_one: { (i : ℕ) → bit (Self.pattern ZERO) i ≡ false };
 
     ghost bits_is_width: { BITS ≡ Self.width };
+
+    // The numbers of the type end at `greatest`, and each is its pattern's, less `2 ^ BITS` where
+    // that is above `greatest`.
+    ghost number_is: { (x : Self) → IsValue Self.row x → IsSpelled Self.width greatest (Self.pattern x) (number x) };
 }

@@ -1,6 +1,6 @@
-//! The constants of each type, and those of any type through the bound.
+//! Worked values of the operations, and each of them through the bound.
 
-ghost use Rattle.std.specs.Prelude.{◌≡◌, ◌≤◌, ℕ, false};
+ghost use Rattle.std.specs.Prelude.{◌≡◌, ◌≢◌, ◌+◌, ◌^◌, ◌<◌, ◌≤◌, ℕ, false, true, IfNone, IfSome};
 ghost use Rattle.rlsf_int.specs.Bits.{bit};
 
 use super::*;
@@ -20,34 +20,203 @@ fn empty<F: BinInteger>() -> F
     F::ZERO
 }
 
+/// Moves the first one from `start` on to the position `to`, and answers where it stood.
+fn move_first<F: BinInteger>(map: &mut F, start: u32, to: u32) -> Option<u32>
+    requires { to < F.BITS }
+    ensures from { IfSome result (λ k. (start ≤ k) × (k < F.BITS) × (bit (F.pattern map.old) k ≡ true)) }
+    ensures first { IfSome result (λ k. (i : ℕ) → start ≤ i → i < k → bit (F.pattern map.old) i ≡ false) }
+    ensures put { IfSome result (λ k. bit (F.pattern map.new) to ≡ true) }
+    ensures taken { IfSome result (λ k. k ≢ to → bit (F.pattern map.new) k ≡ false) }
+    ensures others { IfSome result (λ k. (j : ℕ) → j ≢ k → j ≢ to → bit (F.pattern map.new) j ≡ bit (F.pattern map.old) j) }
+    ensures none { IfNone result ((i : ℕ) → start ≤ i → i < F.BITS → bit (F.pattern map.old) i ≡ false) }
+{
+    let first = map.bit_scan_forward(start);
+    if first >= F::BITS {
+        return None;
+    }
+    map.clear_bit(first);
+    map.set_bit(to);
+    Some(first)
+}
+
+/// How many ones there are. A caller of any type learns that no position from the width on has one.
+fn count<F: BinInteger>(map: &F) -> u32
+    ensures { F.pattern map.now < 2 ^ F.width }
+{
+    map.count_ones()
+}
+
+/// The trailing zeros, the leading zeros, the first one from `start` on, and four positions there.
+fn reads<F: BinInteger>(map: &F, start: u32) -> [u32; 4]
+    requires { start < 128 }
+{
+    [
+        map.trailing_zeros(),
+        map.leading_zeros(),
+        map.bit_scan_forward(start),
+        map.extract_u32(start..start + 4),
+    ]
+}
+
+/// Whether there is a one at the position, through the bound.
+fn has<F: BinInteger>(map: &F, i: u32) -> bool {
+    map.get_bit(i)
+}
+
+/// A run of ones, through the bound.
+fn run<F: BinInteger>(start: u32, end: u32) -> F
+    requires ordered { start ≤ end }
+    requires within { end ≤ F.BITS }
+{
+    F::ones(start..end)
+}
+
+/// A run of ones that may pass the width, through the bound.
+fn cut_run<F: BinInteger>(start: u32, end: u32) -> F
+    requires { start ≤ end }
+{
+    F::ones_truncated(start..end)
+}
+
+/// The value with a one at the position, through the bound.
+fn with<F: BinInteger>(mut map: F, i: u32) -> F {
+    map.set_bit(i);
+    map
+}
+
+/// The value without a one at the position, through the bound.
+fn without<F: BinInteger>(mut map: F, i: u32) -> F {
+    map.clear_bit(i);
+    map
+}
+
+/// The value rounded up, through the bound.
+fn rounded<F: BinInteger>(map: F, fp: u32) -> Option<F> {
+    map.checked_ceil_fix(fp)
+}
+
 #[test]
 fn bits_of_each_type(rt: HostRuntime) {
-    assert_eq!(rt; <u8 as BinInteger>::BITS, 8);
-    assert_eq!(rt; <u16 as BinInteger>::BITS, 16);
-    assert_eq!(rt; <u64 as BinInteger>::BITS, 64);
-    assert_eq!(rt; <usize as BinInteger>::BITS, 64);
+    assert_eq!(rt; [positions::<i8>(), positions::<u8>()], [8, 8]);
+    assert_eq!(rt; [positions::<i16>(), positions::<u16>()], [16, 16]);
+    assert_eq!(rt; [positions::<i32>(), positions::<u32>()], [32, 32]);
+    assert_eq!(rt; [positions::<i64>(), positions::<u64>()], [64, 64]);
+    assert_eq!(rt; [positions::<i128>(), positions::<u128>()], [128, 128]);
+    assert_eq!(rt; [positions::<isize>(), positions::<usize>()], [64, 64]);
 }
 
 #[test]
 fn zero_of_each_type(rt: HostRuntime) {
-    assert_eq!(rt; u8::ZERO, 0);
-    assert_eq!(rt; u16::ZERO, 0);
-    assert_eq!(rt; u64::ZERO, 0);
-    assert_eq!(rt; usize::ZERO, 0);
+    assert_eq!(rt; (empty::<i8>(), empty::<u8>()), (0, 0));
+    assert_eq!(rt; (empty::<i16>(), empty::<u16>()), (0, 0));
+    assert_eq!(rt; (empty::<i32>(), empty::<u32>()), (0, 0));
+    assert_eq!(rt; (empty::<i64>(), empty::<u64>()), (0, 0));
+    assert_eq!(rt; (empty::<i128>(), empty::<u128>()), (0, 0));
+    assert_eq!(rt; (empty::<isize>(), empty::<usize>()), (0, 0));
 }
 
 #[test]
-fn bits_through_the_bound(rt: HostRuntime) {
-    assert_eq!(rt; positions::<u8>(), 8);
-    assert_eq!(rt; positions::<u16>(), 16);
-    assert_eq!(rt; positions::<u64>(), 64);
-    assert_eq!(rt; positions::<usize>(), 64);
+fn worked_scans_and_parts(rt: HostRuntime) {
+    assert_eq!(rt; 0b1010_u8.bit_scan_forward(2), 3);
+    assert_eq!(rt; 0b1010_u8.bit_scan_forward(4), 8);
+    assert_eq!(rt; (-1_i8).extract_u32(4..8), 15);
+    assert_eq!(rt; 0x12_3456_789A_u64.extract_u32(4..40), 0x2345_6789);
 }
 
 #[test]
-fn zero_through_the_bound(rt: HostRuntime) {
-    assert_eq!(rt; empty::<u8>(), 0);
-    assert_eq!(rt; empty::<u16>(), 0);
-    assert_eq!(rt; empty::<u64>(), 0);
-    assert_eq!(rt; empty::<usize>(), 0);
+fn worked_runs(rt: HostRuntime) {
+    assert_eq!(rt; u8::ones(8..8), 0);
+    assert_eq!(rt; i8::ones(0..8), -1);
+    assert_eq!(rt; i8::ones(7..8), -128);
+    assert_eq!(rt; u8::ones_truncated(6..20), 192);
+    assert_eq!(rt; u8::ones_truncated(9..20), 0);
+}
+
+#[test]
+fn worked_ceilings(rt: HostRuntime) {
+    assert_eq!(rt; 0x11_u8.checked_ceil_fix(4), Some(0x20));
+    assert_eq!(rt; 0xF1_u8.checked_ceil_fix(4), None);
+    assert_eq!(rt; (-7_i8).checked_ceil_fix(3), Some(0));
+    assert_eq!(rt; 127_i8.checked_ceil_fix(3), None);
+    assert_eq!(rt; (-1_i8).checked_ceil_fix(7), Some(0));
+    assert_eq!(rt; 1_i8.checked_ceil_fix(7), None);
+    assert_eq!(rt; (-1_i8).checked_ceil_fix(8), None);
+}
+
+#[test]
+fn worked_zero(rt: HostRuntime) {
+    assert_eq!(rt; BinInteger::trailing_zeros(&0_u8), 8);
+    assert_eq!(rt; BinInteger::leading_zeros(&0_u8), 8);
+    assert_eq!(rt; BinInteger::count_ones(&0_u8), 0);
+    assert_eq!(rt; 0_u8.get_bit(8), false);
+}
+
+#[test]
+fn reads_through_the_bound(rt: HostRuntime) {
+    assert_eq!(rt; reads(&0b0101_1000_u8, 4), [3, 1, 4, 0b0101]);
+    assert_eq!(rt; reads(&-88_i8, 4), [3, 0, 5, 0b1010]);
+    assert_eq!(rt; reads(&((1 << 100) + 12_u128), 98), [2, 27, 100, 0b0100]);
+    assert_eq!(rt; reads(&-(1_i128 << 100), 98), [100, 0, 100, 0b1100]);
+    assert_eq!(rt; (count(&88_u8), count(&-88_i8)), (3, 3));
+    assert_eq!(rt;
+        (count(&((1 << 100) + 12_u128)), count(&-(1_i128 << 100))),
+        (3, 28)
+    );
+    assert_eq!(rt; (has(&88_u8, 6), has(&88_u8, 7)), (true, false));
+    assert_eq!(rt; (has(&-88_i8, 7), has(&-88_i8, 6)), (true, false));
+    assert_eq!(rt;
+        (has(&(1_u128 << 100), 100), has(&(1_u128 << 100), 228)),
+        (true, false)
+    );
+    assert_eq!(rt; (has(&-1_i128, 127), has(&-1_i128, 128)), (true, false));
+}
+
+#[test]
+fn makes_through_the_bound(rt: HostRuntime) {
+    assert_eq!(rt; (run::<u8>(2, 5), run::<i8>(6, 8)), (28, -64));
+    assert_eq!(rt;
+        (run::<u128>(64, 65), run::<i128>(127, 128)),
+        (18_446_744_073_709_551_616, i128::MIN)
+    );
+    assert_eq!(rt; (cut_run::<u8>(7, 9), cut_run::<i8>(8, 9)), (128, 0));
+    assert_eq!(rt;
+        (cut_run::<u128>(0, 200), cut_run::<i128>(127, 200)),
+        (u128::MAX, i128::MIN)
+    );
+}
+
+#[test]
+fn writes_through_the_bound(rt: HostRuntime) {
+    assert_eq!(rt;
+        (with(1_u8, 7), with(1_i8, 7), with(1_u8, 8)),
+        (129, -127, 1)
+    );
+    assert_eq!(rt;
+        (with(0_u128, 64), with(0_i128, 127)),
+        (18_446_744_073_709_551_616, i128::MIN)
+    );
+    assert_eq!(rt;
+        (without(255_u8, 0), without(-1_i8, 7), without(-1_i8, 8)),
+        (254, 127, -1)
+    );
+    assert_eq!(rt;
+        (without(u128::MAX, 127), without(-1_i128, 127)),
+        (u128::MAX / 2, i128::MAX)
+    );
+    let mut map = 0b1001_0001_u8;
+    assert_eq!(rt; (move_first(&mut map, 1, 6), map), (Some(4), 0b1100_0001));
+    assert_eq!(rt; (move_first(&mut map, 8, 6), map), (None, 0b1100_0001));
+}
+
+#[test]
+fn rounds_through_the_bound(rt: HostRuntime) {
+    assert_eq!(rt; (rounded(9_u8, 3), rounded(-9_i8, 3)), (Some(16), Some(-8)));
+    assert_eq!(rt;
+        (rounded(5_u128, 2), rounded(u128::MAX, 1)),
+        (Some(8), None)
+    );
+    assert_eq!(rt;
+        (rounded(-9_i128, 3), rounded(0_i128, 128)),
+        (Some(-8), Some(0))
+    );
 }

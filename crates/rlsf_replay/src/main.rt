@@ -1,7 +1,7 @@
 //! Replays a trace of allocator calls: reads it from standard input, and writes the answers to standard output.
 #![tactic(auto)]
 
-use rlsf_trace::trace::{replay, status};
+use rlsf_trace::{replay, status};
 use std::process::ExitCode;
 
 fn main(rt: HostRuntime) -> ExitCode {

@@ -1,10 +1,9 @@
-pub mod LayoutTests
-pub mod LineParts
+pub mod NamedPayloads
 pub mod NewPools
-pub mod NumberTests
-pub mod Commands
-pub mod Scenes
-pub mod TextFaults
+pub mod Outcomes
+pub mod PoolOrder
+pub mod RunStates
+pub mod SpareBytes
 pub mod Touching
 pub mod Underway
 pub mod Writing

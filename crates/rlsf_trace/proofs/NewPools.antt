@@ -1,17 +1,17 @@
 -- The pool that an insert makes has the chunks that it makes.
-use Rattle.std.proofs.Common.{◌≡◌, ℕ, ◌+◌, ◌-◌, ◌≤◌, List, [], ◌∷◌, Option, Some, arith, refl, inl, inr, sym, ◌∙◌, ap, subst}
+use Rattle.std.proofs.Common.{◌≡◌, ℕ, ◌+◌, ◌-◌, ◌<◌, ◌≤◌, List, [], ◌∷◌, Option, Some, arith, refl, inl, inr, sym, ◌∙◌, ap, subst}
 use Rattle.rlsf_base.specs.declared.memory.range.Range.{Range}
 use Rattle.rlsf_base.specs.Range.{end_of}
 use Rattle.rlsf_base.specs.Rounding.{round32}
-use Rattle.rlsf_base.proofs.Roundings.{round32-le}
+use Rattle.rlsf_base.proofs.Numbers.Roundings.{round32-le}
 use Rattle.rlsf_base.specs.Sizes.{max_pool_size}
-use Rattle.rlsf.specs.Machine.Insert.{aligned_part, bytes_taken, cut, end_of_last, Inserts, with_chunk, with_chunks}
-use Rattle.rlsf.specs.Machine.Lists.{IsIn}
-use Rattle.rlsf.specs.Machine.State.{State}
-use Rattle.rlsf.specs.Machine.WellFormed.{covers, coverage, itself, IsWellFormed}
-use Rattle.rlsf.proofs.Machine.Coverage.{inside, before, behind, covers-inside, coverage-IsIn, where_is}
-use Rattle.rlsf.proofs.Machine.Cuts.{coverage-cut, coverage-cut_last}
-use Rattle.rlsf.proofs.Machine.Insertions.{IsWhole-aligned_part}
+use Rattle.rlsf_machine.specs.Insert.{aligned_part, bytes_taken, cut, end_of_last, Inserts, with_chunk, with_chunks}
+use Rattle.rlsf_machine.specs.Lists.{IsIn}
+use Rattle.rlsf_machine.specs.State.{State}
+use Rattle.rlsf_machine.specs.WellFormed.{covers, coverage, itself, IsWellFormed}
+use Rattle.rlsf_machine.proofs.Coverage.{inside, before, behind, covers-inside, coverage-IsIn, where_is}
+use Rattle.rlsf_machine.proofs.Cuts.{coverage-cut, coverage-cut_last}
+use Rattle.rlsf_machine.proofs.Insertions.{IsWhole-aligned_part}
 use Rattle.rlsf_trace.specs.Runs.{with_pool}
 
 coverage-with_chunks : (cs : List Range) (s : State) (a : ℕ) → coverage itself (with_chunks cs s).chunks a ≡ coverage itself cs a + coverage itself s.chunks a
@@ -54,7 +54,7 @@ coverage-with_pool fllen s r reply t step pools a old =
 
 -- where a pool ends, by the chunks that are made of its range
 bounds_by : (r : Range) (cs : List Range) (len : ℕ) → Some len ≡ bytes_taken r.start cs → ((d : Range) → IsIn d cs → 64 ≤ d.len)
-    → ((a : ℕ) → coverage itself cs a ≤ covers (aligned_part r) a) → (round32 r.start ≤ r.start + len) × (r.start + len ≤ end_of r)
+    → ((a : ℕ) → coverage itself cs a ≤ covers (aligned_part r) a) → (round32 r.start < r.start + len) × (r.start + len ≤ end_of r)
 bounds_by r [] len is room within = absurd (cc)
 bounds_by r (c ∷ cs) len is room within =
     let (d, i, end) = last_of c cs in
@@ -69,9 +69,9 @@ bounds_by r (c ∷ cs) len is room within =
       | behind none _ ↦ absurd (omega arith)
     ]
 
--- a pool begins no later than it ends, which is in its range
+-- a pool has a byte, and ends in its range
 pub pool_bounds : {sllen : ℕ} {memory : Range} (fllen : ℕ) (s : State) (r : Range) (len : ℕ) (t : State) → Inserts fllen s r (Some len) t → IsWellFormed fllen sllen memory t
-    → (round32 r.start ≤ r.start + len) × (r.start + len ≤ end_of r)
+    → (round32 r.start < r.start + len) × (r.start + len ≤ end_of r)
 pool_bounds fllen s r len t step w =
     let cs = cut (max_pool_size fllen) (aligned_part r) in
     bounds_by r cs len step.answer

@@ -1,13 +1,4 @@
-pub mod Commands
-pub mod Configurations
-pub mod Faults
-pub mod Lines
-pub mod Numbers
 pub mod Output
-pub mod Printing
-pub mod Reading
 pub mod Replays
 pub mod Runs
 pub mod Steps
-pub mod Tables
-pub mod Words

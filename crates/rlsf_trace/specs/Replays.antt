@@ -2,18 +2,19 @@
 use Rattle.std.specs.Prelude.{◌≡◌, ℕ, List, ◌⊎◌, map, Option, Ok, Err}
 use Rattle.std.specs.Io.KnownBytes.{Appends}
 use Rattle.rlsf_base.specs.declared.memory.range.Range.{Range}
-use Rattle.rlsf_trace.specs.declared.trace.configuration.Configuration.{Configuration}
-use Rattle.rlsf_trace.specs.declared.trace.configuration.Configuration.TheVariants.{EightByEight, TwelveBySixteen, FiftyNineByEight, OneByOne, EightByOne}
-use Rattle.rlsf_trace.specs.declared.trace.fault.Fault.TheVariants.{OutOfMemory, Read, Write}
-use Rattle.rlsf_trace.specs.declared.trace.fault.ReplayFault.{ReplayFault}
-use Rattle.rlsf_trace.specs.declared.trace.op.Answer.{Answer}
-use Rattle.rlsf_trace.specs.declared.trace.op.Op.{Op}
-use Rattle.rlsf_trace.specs.Commands.{command_of}
-use Rattle.rlsf_trace.specs.Faults.{out_of_memory}
+use Rattle.rlsf_base.specs.Range.{range_at}
+use Rattle.rlsf_text.specs.declared.configuration.Configuration.{Configuration}
+use Rattle.rlsf_text.specs.declared.configuration.Configuration.TheVariants.{EightByEight, TwelveBySixteen, FiftyNineByEight, OneByOne, EightByOne}
+use Rattle.rlsf_text.specs.declared.fault.Fault.TheVariants.{OutOfMemory, Read, Write}
+use Rattle.rlsf_text.specs.declared.fault.ReplayFault.{ReplayFault}
+use Rattle.rlsf_text.specs.declared.op.Answer.{Answer}
+use Rattle.rlsf_text.specs.declared.op.Op.{Op}
+use Rattle.rlsf_text.specs.Commands.{command_of}
+use Rattle.rlsf_text.specs.Faults.{out_of_memory}
 use Rattle.rlsf_trace.specs.Output.{AppendsBeginning}
-use Rattle.rlsf_trace.specs.Printing.{text_of}
-use Rattle.rlsf_trace.specs.Reading.{TraceText, trace_in}
-use Rattle.rlsf_trace.specs.Runs.{Scene, beginning, Runs}
+use Rattle.rlsf_text.specs.Printing.{text_of}
+use Rattle.rlsf_text.specs.Reading.{TraceText, trace_in}
+use Rattle.rlsf_trace.specs.Runs.{RunState, beginning, Runs}
 
 -- how many rows of size classes a configuration has
 abbrev pub rows_of : Configuration → ℕ
@@ -33,11 +34,7 @@ classes_of EightByOne = 1
 
 -- the ops, done from the beginning by an allocator with these parameters over this memory, are answered so
 abbrev pub IsRun : ℕ → ℕ → Range → List Op → List Answer → Type 0
-IsRun fllen sllen memory ops answers = (scene : Scene) × Runs fllen sllen memory beginning ops answers scene
-
--- the addresses of the memory of so many bytes from a start on
-abbrev pub memory_range : ℕ → ℕ → Range
-memory_range start len = record { start = start; len = len }
+IsRun fllen sllen memory ops answers = (last : RunState) × Runs fllen sllen memory beginning ops answers last
 
 -- the output is what is printed for a run of the input's ops, with the configuration and the memory that it names
 pub record IsOutput (input output : List ℕ) : Type 0 where
@@ -46,7 +43,7 @@ pub record IsOutput (input output : List ℕ) : Type 0 where
   pub ops : List Op
   pub asked : map command_of ops ≡ trace.commands
   pub answers : List Answer
-  pub ran : IsRun (rows_of trace.configuration) (classes_of trace.configuration) (memory_range trace.start trace.len) ops answers
+  pub ran : IsRun (rows_of trace.configuration) (classes_of trace.configuration) (range_at trace.start trace.len) ops answers
   pub printed : output ≡ text_of ops answers
 
 -- such an output is appended

@@ -3,7 +3,7 @@ ghost use Rattle.std.specs.Prelude.{◌≡◌, ℕ, ◌+◌, ◌-◌, ◌*◌, �
 ghost use Rattle.std.specs.Borrow.{sem};
 ghost use base.Fml.{ftrue};
 ghost use denote.RawPtr.{Ptr, null_ptr};
-ghost use Rattle.rlsf_base.specs.Ownership.{bytes_own, bytes_lent, deed_owns};
+ghost use Rattle.rlsf_base.specs.Steps.Ownership.{bytes_own, bytes_lent, deed_owns};
 
 use std::alloc::Allocator;
 use std::marker::{Model, PhantomData, Send, Sync};
@@ -118,7 +118,7 @@ pub(crate) fn forget<A: Allocator>(bytes: Bytes, deed: Deed<A>)
 }
 
 impl Bytes {
-    ghost use Rattle.rlsf_base.specs.Lends.{lends_part};
+    ghost use Rattle.rlsf_base.specs.Steps.LentParts.{lends_part};
 
     /// Writes the first byte that holds nothing yet. It is the place `place` of the block.
     pub(crate) fn push(&mut self, base: Base, place: usize, byte: u8)

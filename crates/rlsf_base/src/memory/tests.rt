@@ -1,4 +1,4 @@
-ghost use Rattle.std.specs.Prelude.{◌≡◌, length, IfOk};
+ghost use Rattle.std.specs.Prelude.{◌≡◌, ◌^◌, ◌<◌, length, IfOk};
 
 use super::{Memory, MemoryError, Range};
 use std::alloc::Global;
@@ -15,6 +15,14 @@ fn sixteen(alloc: Global) -> Result<Memory, MemoryError>
     memory.set_word(4096, 0x0807060504030201);
     memory.set_word(4104, 0x100f0e0d0c0b0a09);
     Ok(memory)
+}
+
+/// A memory of `len` zero bytes from 4096 on.
+fn zeroed(alloc: Global, len: usize) -> Result<Memory, MemoryError>
+    requires { len < 2 ^ 63 }
+    ensures { IfOk result (λ m. (m.start ≡ 4096) × (length m.bytes ≡ len)) }
+{
+    Memory::new(alloc, 4096, len)
 }
 
 #[test]
@@ -88,6 +96,30 @@ fn word_at_the_greatest_addresses(rt: HostRuntime) -> Result<(), Fail> {
     memory.set_word(MAX - 15, MAX as u64 - 1);
     assert_eq!(rt; memory.word(MAX - 15), MAX as u64 - 1);
     assert_eq!(rt; memory.word(MAX - 23), 0);
+    Ok(())
+}
+
+#[test]
+fn first_and_last_word_of_a_mebibyte(rt: HostRuntime) -> Result<(), Fail> {
+    let mut memory = zeroed(rt.alloc(), 1 << 20)?;
+    let last = 4096 + (1 << 20) - 8;
+    memory.set_word(4096, 0x0807060504030201);
+    memory.set_word(last, MAX as u64);
+    let (second, last_but_one) = (memory.word(4104), memory.word(last - 8));
+    assert_eq!(rt; (second, last_but_one), (0, 0));
+    assert_eq!(rt; memory.word(4096), 0x0807060504030201);
+    assert_eq!(rt; memory.word(last), MAX as u64);
+    Ok(())
+}
+
+// They are 6400 MiB together, so a process that may have 2 GiB passes only if each one is given back.
+#[test]
+fn dropped_memories_are_given_back(rt: HostRuntime) -> Result<(), Fail> {
+    for _ in 0..200 {
+        let mut memory = zeroed(rt.alloc(), 1 << 25)?;
+        memory.set_word(4096, 1);
+        assert_eq!(rt; memory.word(4096), 1);
+    }
     Ok(())
 }
 

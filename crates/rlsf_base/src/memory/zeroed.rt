@@ -1,6 +1,6 @@
 //! The block of a memory, zeroed when it is taken.
 ghost use Rattle.std.specs.Prelude.{◌≡◌, ◌+◌, ◌-◌, ◌/◌, ◌^◌, ◌≤◌, [], length, replicate, IfSome, IsSome};
-ghost use Rattle.rlsf_base.specs.Block.{IsDeedOf, words_for};
+ghost use Rattle.rlsf_base.specs.Steps.Block.{IsDeedOf, words_for};
 
 use super::block::{Base, Bytes, Deed, allocate, deallocate, forget, no_block};
 use std::alloc::Global;

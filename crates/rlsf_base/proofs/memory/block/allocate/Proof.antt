@@ -29,10 +29,10 @@ use Rattle.core.proofs.alloc.Shapes.{after, head, arm_body}
 use Rattle.core.proofs.atomic.Steps.{fm}
 use Rattle.core.proofs.option.Made.{Some-of, none_of}
 use Rattle.std.proofs.raw_atomic.Walks.{proved_at, leaves}
-use Rattle.rlsf_base.specs.Ownership.{bytes_ty, words_ty}
-use Rattle.rlsf_base.proofs.Rooms.{retypes}
-use Rattle.rlsf_base.proofs.Values.{base_val, base_own, base_made, mark_val, mark_own, mark_made, three_val, three_of}
-use Rattle.rlsf_base.proofs.Walks.{slot_at, then_runs}
+use Rattle.rlsf_base.specs.Steps.Ownership.{bytes_ty, words_ty}
+use Rattle.rlsf_base.proofs.RawBlock.Rooms.{retypes}
+use Rattle.rlsf_base.proofs.RawBlock.Values.{base_val, base_own, base_made, mark_val, mark_own, mark_made, three_val, three_of}
+use Rattle.rlsf_base.proofs.RawBlock.Walks.{slot_at, then_runs}
 use Rattle.rlsf_base.specs.contracts.memory.block.Base as base_type
 use Rattle.rlsf_base.specs.contracts.memory.block.Bytes as owner
 use Rattle.rlsf_base.specs.contracts.memory.block.Deed as deed

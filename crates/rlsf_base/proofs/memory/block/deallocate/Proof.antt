@@ -26,10 +26,10 @@ use Rattle.core.proofs.alloc.Calls.{Al, seen, Goes-blank, Gives, at_gives, Gives
 use Rattle.core.proofs.alloc.Shapes.{after}
 use Rattle.core.proofs.atomic.Steps.{fm}
 use Rattle.std.proofs.raw_atomic.Walks.{proved_at, leaves}
-use Rattle.rlsf_base.specs.Ownership.{bytes_ty, words_ty, bytes_own, deed_owns}
-use Rattle.rlsf_base.proofs.Rows.{emptied}
-use Rattle.rlsf_base.proofs.Values.{base_val, base_told, mark_val, mark_told}
-use Rattle.rlsf_base.proofs.Walks.{slot_at, then_runs, out_of_block}
+use Rattle.rlsf_base.specs.Steps.Ownership.{bytes_ty, words_ty, bytes_own, deed_owns}
+use Rattle.rlsf_base.proofs.RawBlock.Rows.{emptied}
+use Rattle.rlsf_base.proofs.RawBlock.Values.{base_val, base_told, mark_val, mark_told}
+use Rattle.rlsf_base.proofs.RawBlock.Walks.{slot_at, then_runs, out_of_block}
 use Rattle.rlsf_base.specs.contracts.memory.block.deallocate.{ended, clauses}
 use Rattle.rlsf_base.specs.contracts.memory.block.deallocate.Key.{name as #self}
 use Rattle.rlsf_base.proofs.memory.block.deallocate.Statement.{statement}

@@ -22,9 +22,9 @@ use denote.Struct.Tuple.{Tuple}
 use denote.Triple.Entry.{alive}
 use denote.Triple.Walked.{Stays, stay_dropped, walk_of, Goes-dropped}
 use Rattle.std.proofs.raw_atomic.Walks.{proved_at, leaves}
-use Rattle.rlsf_base.specs.Ownership.{bytes_ty}
-use Rattle.rlsf_base.proofs.Values.{base_val, base_own, base_made, mark_val, mark_own, mark_made, three_val, three_of}
-use Rattle.rlsf_base.proofs.Walks.{slot_at}
+use Rattle.rlsf_base.specs.Steps.Ownership.{bytes_ty}
+use Rattle.rlsf_base.proofs.RawBlock.Values.{base_val, base_own, base_made, mark_val, mark_own, mark_made, three_val, three_of}
+use Rattle.rlsf_base.proofs.RawBlock.Walks.{slot_at}
 use Rattle.rlsf_base.specs.contracts.memory.block.Base as base_type
 use Rattle.rlsf_base.specs.contracts.memory.block.Bytes as owner
 use Rattle.rlsf_base.specs.contracts.memory.block.Deed as deed

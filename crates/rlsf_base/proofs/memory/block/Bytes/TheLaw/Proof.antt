@@ -8,7 +8,7 @@ use denote.Struct.Lending.{of_Lends}
 use Rattle.core.specs.contracts.marker.PhantomData as marker
 use Rattle.rlsf_base.specs.contracts.memory.block.Bytes as C
 use Rattle.rlsf_base.proofs.memory.block.Bytes.TheLaw.Statement.{statement}
-use Rattle.rlsf_base.proofs.Sharing.{bytes_lent_laws, Lends-bytes}
+use Rattle.rlsf_base.proofs.RawBlock.Sharing.{bytes_lent_laws, Lends-bytes}
 
 pub shares : statement
 shares = of_Lends C.struct (C.the_codes (marker.the_row RawPtr).coded) C.the_heap C.the_lent

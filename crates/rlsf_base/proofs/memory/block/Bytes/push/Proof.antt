@@ -23,9 +23,9 @@ use denote.Steps.{nothing, heard, opens, closes}
 use denote.Triple.Walked.{says, Stays, stay_ref, stay_dropped, walk_of, Goes-ref, Goes-dropped, ends_at}
 use Rattle.core.proofs.alloc.Shapes.{after}
 use Rattle.std.proofs.raw_atomic.Walks.{proved}
-use Rattle.rlsf_base.specs.Ownership.{bytes_ty, bytes_own}
-use Rattle.rlsf_base.proofs.Rows.{Row, snoc}
-use Rattle.rlsf_base.proofs.Values.{base_val, base_val, base_vals, base_Tells, base_typed}
+use Rattle.rlsf_base.specs.Steps.Ownership.{bytes_ty, bytes_own}
+use Rattle.rlsf_base.proofs.RawBlock.Rows.{Row, snoc}
+use Rattle.rlsf_base.proofs.RawBlock.Values.{base_val, base_val, base_vals, base_Tells, base_typed}
 use Rattle.rlsf_base.specs.contracts.memory.block.Bytes as owner
 use Rattle.rlsf_base.specs.contracts.memory.block.Base as base_type
 use Rattle.rlsf_base.specs.contracts.memory.block.Bytes.push as f

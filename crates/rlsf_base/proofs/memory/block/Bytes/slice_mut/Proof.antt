@@ -32,10 +32,11 @@ use denote.Struct.Owning.{shape}
 use denote.Triple.Walked.{says, Stays, stay_dropped, walk_of, Goes-dropped, Goes-spent_ref, ends_at}
 use Rattle.core.proofs.alloc.Shapes.{after}
 use Rattle.std.proofs.raw_atomic.Walks.{proved}
-use Rattle.rlsf_base.specs.Ownership.{bytes_ty, bytes_own}
-use Rattle.rlsf_base.specs.Lends.{refilled, owner_with}
-use Rattle.rlsf_base.proofs.Rows.{Row, Around, run_out, run_in}
-use Rattle.rlsf_base.proofs.Values.{base_val, base_vals, base_Tells, base_typed}
+use Rattle.rlsf_base.specs.Steps.Ownership.{bytes_ty, bytes_own}
+use Rattle.rlsf_base.specs.Lends.{refilled}
+use Rattle.rlsf_base.specs.Steps.LentParts.{owner_with}
+use Rattle.rlsf_base.proofs.RawBlock.Rows.{Row, Around, run_out, run_in}
+use Rattle.rlsf_base.proofs.RawBlock.Values.{base_val, base_vals, base_Tells, base_typed}
 use Rattle.rlsf_base.specs.contracts.memory.block.Bytes as owner
 use Rattle.rlsf_base.specs.contracts.memory.block.Base as base_type
 use Rattle.rlsf_base.specs.contracts.memory.block.Bytes.slice_mut as f

@@ -1,9 +1,0 @@
-use Rattle.rlsf.specs.Machine.State.{empty}
-use Rattle.rlsf.proofs.Beginnings.{StandsFor-empty}
-use Rattle.rlsf.proofs.tlsf.Tlsf.new.Goals as goal
-
-pub invariant_of-result : goal.invariant_of-result
-invariant_of-result g c = record { valid = c.requires; stands = (empty, StandsFor-empty c.requires c.start.ensures.bounds) }
-
-pub returns-clause-stands : goal.returns-clause-stands
-returns-clause-stands g c = StandsFor-empty c.requires c.start.ensures.bounds

@@ -1,0 +1,4 @@
+-- Bytes that are lent or copied: what is left there, and what stays.
+pub mod Copied
+pub mod Lent
+pub mod Replaced

@@ -1,0 +1,10 @@
+-- What the functions of sizes compute.
+pub mod Laws
+pub mod Masks
+pub mod PoolSizes
+pub mod Quotients
+pub mod Reaching
+pub mod RowLengths
+pub mod Shifts
+pub mod Starts
+pub mod Unmapped

@@ -1,0 +1,62 @@
+-- Where the ones of a number stand after an operation, at any number.
+use Rattle.std.proofs.Common.{◌≡◌, ℕ, ◌+◌, ◌-◌, ◌/◌, ◌%◌, ◌^◌, ◌<◌, ◌≤◌, true, false, ◌&&◌, ◌||◌, ◌==◌, nat_lt, bit_and, bit_or, refl, sym, ap, ◌∙◌, arith, inl, inr}
+use Rattle.std.proofs.lemmas.Bool.{cases_Bool, cases_eq, cases_lt, eq-eqb, lt-ltb, ne_eqb}
+use Rattle.std.proofs.lemmas.Bool.Decides.{nat_tests}
+use Rattle.std.proofs.lemmas.Nat.{shr-shr}
+use Rattle.std.proofs.lemmas.Nat.Bits.{bit_at-lt, bit_at-pow_other, bit_at-pow_same, bit_at_above, bit_at_and, bit_at_ones, bit_at_ones_above, bit_at_or, same_from_bits}
+use Rattle.rlsf_int.specs.Bits.{bit, bit-zero}
+
+pub bit-or : (a b i : ℕ) → bit (bit_or a b) i ≡ (bit a i || bit b i)
+unfolding bit
+bit-or a b i = grind (arith, nat_tests, bit_at_or a b i, bit_at-lt a i, bit_at-lt b i)
+
+pub bit-and : (a b i : ℕ) → bit (bit_and a b) i ≡ (bit a i && bit b i)
+unfolding bit
+bit-and a b i = grind (arith, nat_tests, bit_at_and a b i, bit_at-lt a i, bit_at-lt b i)
+
+pub bit-pow : (k i : ℕ) → bit (2 ^ k) i ≡ (i == k)
+unfolding bit
+bit-pow k i = elim (cases_eq i k) [
+  | inl same ↦ rw same (ap (λ d. d == 1) (bit_at-pow_same k) ∙ sym (eq-eqb k k refl))
+  | inr apart ↦ ap (λ d. d == 1) (bit_at-pow_other k i apart) ∙ sym (ne_eqb i k apart)
+]
+
+-- `n >> k`
+pub bit-shr : (n k i : ℕ) → bit (n / 2 ^ k) i ≡ bit n (k + i)
+unfolding bit
+bit-shr n k i = ap (λ m. m % 2 == 1) (shr-shr n k i)
+
+-- the lowest k positions
+pub bit-low_ones : (k i : ℕ) → bit (2 ^ k - 1) i ≡ nat_lt i k
+unfolding bit
+bit-low_ones k i = elim (cases_lt i k) [
+  | inl low ↦ ap (λ d. d == 1) (bit_at_ones k i low) ∙ sym (lt-ltb i k low)
+  | inr high ↦ ap (λ d. d == 1) (bit_at_ones_above k i high) ∙ grind (arith, nat_tests)
+]
+
+-- a number below 2 ^ width has no one from `width` on
+pub bit-above : (width n i : ℕ) → n < 2 ^ width → width ≤ i → bit n i ≡ false
+unfolding bit
+bit-above width n i fits high = ap (λ d. d == 1) (bit_at_above n width i fits high)
+
+-- two numbers with the same ones are one
+pub same_from_ones : (a b : ℕ) → ((i : ℕ) → bit a i ≡ bit b i) → a ≡ b
+unfolding bit
+same_from_ones a b ones = same_from_bits a b (λ i. let same = ones i in grind (arith, nat_tests, bit_at-lt a i, bit_at-lt b i))
+
+-- a number that is a range of one position
+pub one_position : (r n i width : ℕ) → i < width → ((j : ℕ) → bit r j ≡ (bit n (i + j) && (nat_lt (i + j) (i + 1) && nat_lt j 32))) → (r == 1) ≡ (bit n i && nat_lt i width)
+one_position r n i width within cut = elim (cases_Bool (bit n i)) [
+  | inl one ↦
+      let is : r ≡ 1 = same_from_ones r 1 (λ j. cut j ∙ elim (cases_eq j 0) [
+        | inl first ↦ let here : bit n (i + j) ≡ true = ap (λ m. bit n m) (omega arith) ∙ one in grind (arith, nat_tests, bit-pow 0 j)
+        | inr later ↦ grind (arith, nat_tests, bit-pow 0 j)
+      ]) in
+      eq-eqb r 1 is ∙ grind (arith, nat_tests)
+  | inr none ↦
+      let is : r ≡ 0 = same_from_ones r 0 (λ j. cut j ∙ elim (cases_eq j 0) [
+        | inl first ↦ let here : bit n (i + j) ≡ false = ap (λ m. bit n m) (omega arith) ∙ none in grind (arith, nat_tests, bit-zero j)
+        | inr later ↦ grind (arith, nat_tests, bit-zero j)
+      ]) in
+      ap (λ m. m == 1) is ∙ grind (arith, nat_tests)
+]

@@ -1,0 +1,7 @@
+use Rattle.std.proofs.Common.{arith}
+use Rattle.std.specs.Int.{w128}
+use Rattle.rlsf_int.proofs.Unsigned.{first_from_0}
+use Rattle.rlsf_int.proofs.impls.u128.U128BinInteger.trailing_zeros.Goals as goal
+
+pub returns : goal.returns
+returns c = first_from_0 w128 c.args.self.now (omega arith)

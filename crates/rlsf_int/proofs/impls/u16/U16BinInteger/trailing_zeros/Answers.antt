@@ -1,0 +1,7 @@
+use Rattle.std.proofs.Common.{arith}
+use Rattle.std.specs.Int.{w16}
+use Rattle.rlsf_int.proofs.Unsigned.{first_from_0}
+use Rattle.rlsf_int.proofs.impls.u16.U16BinInteger.trailing_zeros.Goals as goal
+
+pub returns : goal.returns
+returns c = first_from_0 w16 c.args.self.now (omega arith)

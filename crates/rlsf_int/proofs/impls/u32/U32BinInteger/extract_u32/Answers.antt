@@ -1,0 +1,10 @@
+use Rattle.std.proofs.Common.{arith, refl}
+use Rattle.std.specs.Int.{w32}
+use Rattle.rlsf_int.proofs.Unsigned.{nothing_past, moved}
+use Rattle.rlsf_int.proofs.impls.u32.U32BinInteger.extract_u32.Goals as goal
+
+pub returns-then-range-ge-BITS : goal.returns-then-range-ge-BITS
+returns-then-range-ge-BITS c i = nothing_past w32 c.args.self.now c.args.range.start c.args.range.end i (omega arith) (omega arith)
+
+pub returns-else-range-ge-BITS : goal.returns-else-range-ge-BITS
+returns-else-range-ge-BITS c i = moved c.args.self.now _ c.args.range.start c.args.range.end i _ (omega arith) refl (c.lowest.ensures i)

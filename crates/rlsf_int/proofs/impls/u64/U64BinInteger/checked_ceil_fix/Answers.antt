@@ -1,0 +1,10 @@
+use Rattle.std.proofs.Common.{arith, refl}
+use Rattle.std.specs.Int.{w64}
+use Rattle.rlsf_int.proofs.Ceilings.{ceil_unsigned, refused_unsigned}
+use Rattle.rlsf_int.proofs.impls.u64.U64BinInteger.checked_ceil_fix.Goals as goal
+
+pub returns-in-Some : goal.returns-in-Some
+returns-in-Some c = ceil_unsigned w64 c.args.self c.args.fp c.in-Some.sum (omega arith) c.in-Some.ensures.1 (omega arith)
+
+pub returns-in-None : goal.returns-in-None
+returns-in-None c = refused_unsigned w64 c.args.self c.args.fp _ (omega arith) refl (omega arith) c.in-None.ensures

@@ -1,0 +1,7 @@
+use Rattle.std.proofs.Common.{arith}
+use Rattle.std.specs.Int.{w8}
+use Rattle.rlsf_int.proofs.Unsigned.{first_one}
+use Rattle.rlsf_int.proofs.impls.u8.U8BinInteger.bit_scan_forward.Goals as goal
+
+pub returns-else-start-ge-BITS : goal.returns-else-start-ge-BITS
+returns-else-start-ge-BITS c = first_one w8 c.args.self.now c.args.start (omega arith) (omega arith)

@@ -1,0 +1,7 @@
+use Rattle.std.proofs.Common.{arith}
+use Rattle.std.specs.Int.{w64}
+use Rattle.rlsf_int.proofs.Unsigned.{zeros_above}
+use Rattle.rlsf_int.proofs.impls.usize.UsizeBinInteger.leading_zeros.Goals as goal
+
+pub returns : goal.returns
+returns c = zeros_above w64 c.args.self.now (omega arith)

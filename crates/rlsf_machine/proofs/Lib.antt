@@ -1,0 +1,23 @@
+-- The laws of the list machine, proved.
+pub mod Allocations
+pub mod Appends
+pub mod Changes
+pub mod Chunks
+pub mod Choices
+pub mod Coverage
+pub mod Cuts
+pub mod Determined
+pub mod Examples
+pub mod Insertions
+pub mod Joins
+pub mod Live
+pub mod Orders
+pub mod Payloads
+pub mod Plans
+pub mod Pools
+pub mod Reallocations
+pub mod Releases
+pub mod Room
+pub mod Rows
+pub mod Steps
+pub mod Tiling

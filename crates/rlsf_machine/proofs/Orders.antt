@@ -1,0 +1,175 @@
+-- The order of chunks and of used blocks means nothing.
+use Rattle.std.proofs.Common.{◌≡◌, ◌↔◌, ℕ, zero, suc, ◌+◌, ◌-◌, ◌*◌, ◌/◌, Bool, true, false, cond, List, [], ◌∷◌, Option, Some, None, find, true≢false, arith, refl, sym, ◌∙◌, ap, subst, inl, inr}
+use Rattle.std.proofs.lemmas.Bool.{eqb-true}
+use Rattle.rlsf_base.specs.declared.memory.range.Range.{Range}
+use Rattle.rlsf_base.specs.Range.{end_of, range_at}
+use Rattle.rlsf_base.specs.Sizes.{max_pool_size, request_size}
+use Rattle.rlsf_machine.specs.Allocate.{choice, placed, given, Allocates}
+use Rattle.rlsf_machine.specs.Insert.{cut, aligned_part, body, with_chunk, with_chunks, grown_if, extended, appended}
+use Rattle.rlsf_machine.specs.Join.{join, ends_at}
+use Rattle.rlsf_machine.specs.Laws.{OrderMeansNothing}
+use Rattle.rlsf_machine.specs.Lists.{IsIn, without}
+use Rattle.rlsf_machine.specs.Reallocate.{Plan, plan, moved, replanned, ReallocatesBy}
+use Rattle.rlsf_machine.specs.Release.{released, Deallocates}
+use Rattle.rlsf_machine.specs.Run.{insert, append, allocate, deallocate, reallocate, fill, Fills}
+use Rattle.rlsf_machine.specs.State.{State, Used, IsReordered, others}
+use Rattle.rlsf_machine.specs.WellFormed.{covers, itself, IsWellFormed}
+use Rattle.rlsf_machine.proofs.Allocations.{Allocates-keeps}
+use Rattle.rlsf_machine.proofs.Changes.{IsIn-others, IsIn-others_from}
+use Rattle.rlsf_machine.proofs.Coverage.{by_test, covers-inside, coverage-IsIn, coverage-unique, coverage-without, find-some, find-none, IsIn-without, IsIn-without_other}
+
+-- ---- lists with the same elements
+
+abbrev HasSame : {A : Type 0} → List A → List A → Type 0
+HasSame {A} xs ys = (x : A) → IsIn x xs ↔ IsIn x ys
+
+HasSame-cons : {A : Type 0} (x : A) (xs ys : List A) → HasSame xs ys → HasSame (x ∷ xs) (x ∷ ys)
+HasSame-cons x xs ys same y =
+    ((λ h. elim h [ inl e ↦ inl e | inr i ↦ inr ((same y).0 i) ]), (λ h. elim h [ inl e ↦ inl e | inr i ↦ inr ((same y).1 i) ]))
+
+HasSame-others : (addr : ℕ) (xs ys : List Used) → HasSame xs ys → HasSame (others addr xs) (others addr ys)
+HasSame-others addr xs ys same u = (
+  (λ h. let (i, apart) = IsIn-others addr u xs h in IsIn-others_from addr u ys ((same u).0 i) apart),
+  (λ h. let (i, apart) = IsIn-others addr u ys h in IsIn-others_from addr u xs ((same u).1 i) apart),
+)
+
+find-from_none : {A : Type 0} (p : A → Bool) (xs : List A) → ((x : A) → IsIn x xs → p x ≡ false) → find p xs ≡ None
+find-from_none p [] fails = refl
+find-from_none p (x ∷ xs) fails = ap (λ b. cond b (Some x) (find p xs)) (fails x (inl refl)) ∙ find-from_none p xs (λ y i. fails y (inr i))
+
+-- where one element at most passes a test, what is found doesn't depend on the order
+find-same : {A : Type 0} (p : A → Bool) (xs ys : List A) → HasSame xs ys → ((x y : A) → IsIn x xs → IsIn y xs → p x ≡ true → p y ≡ true → x ≡ y) → find p xs ≡ find p ys
+find-same {A} p xs ys same one = go (find p xs) (find p ys) refl refl
+  where
+    go : (o q : Option A) → find p xs ≡ o → find p ys ≡ q → find p xs ≡ find p ys
+    go None q e f = e ∙ sym (find-from_none p ys (λ y i. find-none p y xs e ((same y).1 i)))
+    go (Some x) None e f = let is = find-some p x xs e in absurd (true≢false (sym is.1 ∙ find-none p x ys f ((same x).0 is.0)))
+    go (Some x) (Some y) e f =
+        let is = find-some p x xs e in
+        let has = find-some p y ys f in
+        e ∙ ap Some (one x y is.0 ((same y).1 has.0) is.1 has.1) ∙ sym f
+
+-- ---- chunks
+
+module _ {fllen sllen : ℕ} {memory : Range} {s : State} (w : IsWellFormed fllen sllen memory s) (at : ℕ) where
+  -- one chunk at most ends at an address
+  one_ends : (c d : Range) → IsIn c s.chunks → IsIn d s.chunks → ends_at at c ≡ true → ends_at at d ≡ true → c ≡ d
+  one_ends c d i j e f =
+      let room = (w.chunks c i).has_room in
+      let room' = (w.chunks d j).has_room in
+      let c_end = eqb-true (end_of c) at e in
+      let d_end = eqb-true (end_of d) at f in
+      coverage-unique itself c d s.chunks (at - 1) (w.disjoint (at - 1)) i j (covers-inside c (at - 1) (omega arith) (omega arith)) (covers-inside d (at - 1) (omega arith) (omega arith))
+
+  -- once it is taken out, none does
+  none_ends : (x : Range) → IsIn x (without (ends_at at) s.chunks) → IsIn x s.chunks × (ends_at at x ≡ false)
+  none_ends x h = by_test (ends_at at x)
+      (λ e. absurd (twice (find (ends_at at) s.chunks) refl e))
+      (λ e. (IsIn-without (ends_at at) x s.chunks h, e))
+    where
+      twice : (o : Option Range) → find (ends_at at) s.chunks ≡ o → ends_at at x ≡ true → ⊥
+      twice None f e = true≢false (sym e ∙ find-none (ends_at at) x s.chunks f (IsIn-without (ends_at at) x s.chunks h))
+      twice (Some c) f e =
+          let is = find-some (ends_at at) c s.chunks f in
+          let room = (w.chunks c is.0).has_room in
+          let c_end = eqb-true (end_of c) at is.1 in
+          let same : c ≡ x = one_ends c x is.0 (IsIn-without (ends_at at) x s.chunks h) is.1 e in
+          let one : covers c (at - 1) ≡ 1 = covers-inside c (at - 1) (omega arith) (omega arith) in
+          let two : covers x (at - 1) ≡ covers c (at - 1) = ap (λ d. covers d (at - 1)) (sym same) in
+          omega (arith, w.disjoint (at - 1), coverage-without itself (ends_at at) c s.chunks (at - 1) f, coverage-IsIn itself x (without (ends_at at) s.chunks) (at - 1) h)
+
+with_chunks-reordered : (cs : List Range) (s s' : State) → IsReordered s s' → IsReordered (with_chunks cs s) (with_chunks cs s')
+with_chunks-reordered [] s s' r = r
+with_chunks-reordered (c ∷ cs) s s' r =
+    with_chunks-reordered cs (with_chunk c s) (with_chunk c s') (record { chunks = HasSame-cons c s.chunks s'.chunks r.chunks; used = r.used; free = ap (λ l. body c ∷ l) r.free })
+
+module _ {fllen sllen : ℕ} {memory : Range} {s s' : State} (w : IsWellFormed fllen sllen memory s) (w' : IsWellFormed fllen sllen memory s') (r : IsReordered s s') where
+  HasSame-without : (at : ℕ) → HasSame (without (ends_at at) s.chunks) (without (ends_at at) s'.chunks)
+  HasSame-without at x = (
+    (λ h. let (i, e) = none_ends w at x h in IsIn-without_other (ends_at at) x s'.chunks e ((r.chunks x).0 i)),
+    (λ h. let (i, e) = none_ends w' at x h in IsIn-without_other (ends_at at) x s.chunks e ((r.chunks x).1 i)),
+  )
+
+  grown_if-reordered : (o : Option Range) (n : ℕ) → IsReordered (grown_if o n s) (grown_if o n s')
+  grown_if-reordered None n = r
+  grown_if-reordered (Some c) n = record {
+    chunks = HasSame-cons (range_at c.start (c.len + n)) (without (ends_at (end_of c)) s.chunks) (without (ends_at (end_of c)) s'.chunks) (HasSame-without (end_of c));
+    used = r.used;
+    free = ap (join (range_at (end_of c - 32) n)) r.free;
+  }
+
+  extended-reordered : (at n : ℕ) → IsReordered (extended at n s) (extended at n s')
+  extended-reordered at zero = r
+  extended-reordered at (suc n) =
+      subst (λ o. IsReordered (grown_if (find (ends_at at) s.chunks) (suc n) s) (grown_if o (suc n) s')) (find-same (ends_at at) s.chunks s'.chunks r.chunks (one_ends w at)) (grown_if-reordered (find (ends_at at) s.chunks) (suc n))
+
+  -- a step from the other order, and what it leads to
+  abbrev Also : (State → Type 0) → State → Type 0
+  Also Step t = (t' : State) × Step t' × IsReordered t t'
+
+  at_first : {t u : State} → t ≡ u → (u' : State) → IsReordered u u' → IsReordered t u'
+  at_first e u' q = subst (λ x. IsReordered x u') (sym e) q
+
+  appended-reordered : (o : Option ℕ) (q : Range) → IsReordered (appended o q s) (appended o q s')
+  appended-reordered None q = extended-reordered q.start (q.len / 32 * 32)
+  appended-reordered (Some most) q = with_chunks-reordered (cut (Some most) (aligned_part q)) s s' r
+
+  allocate-reordered : (size align : ℕ) (o : Option ℕ) (t : State) → Allocates sllen s size align o t → Also (Allocates sllen s' size align o) t
+  allocate-reordered size align None t step = (s', (subst (λ l. choice sllen (request_size size align) l ≡ None) r.free step.0, refl), at_first step.1 s' r)
+  allocate-reordered size align (Some addr) t step =
+      let f = step.range in
+      let u = placed f size align step.bytes in (
+        given sllen s' f u,
+        record { range = f; bytes = step.bytes; chosen = subst (λ l. choice sllen (request_size size align) l ≡ Some f) r.free step.chosen; answer = step.answer; length = step.length; after = refl },
+        at_first step.after (given sllen s' f u) (record { chunks = r.chunks; used = HasSame-cons u s.used s'.used r.used; free = ap (λ l. (given sllen (record { chunks = s.chunks; used = s.used; free = l }) f u).free) r.free }),
+      )
+
+  deallocate-reordered : (addr : ℕ) (t : State) → Deallocates s addr t → Also (Deallocates s' addr) t
+  deallocate-reordered addr t step =
+      let u = step.block in (
+        released s' u,
+        record { block = u; holds = ((r.used u).0 step.holds.0, step.holds.1); after = refl },
+        at_first step.after (released s' u) (record { chunks = r.chunks; used = HasSame-others u.payload s.used s'.used r.used; free = ap (join u.block) r.free }),
+      )
+
+  fill-reordered : (addr : ℕ) (bytes : List ℕ) (t : State) → Fills s addr bytes t → Also (Fills s' addr bytes) t
+  fill-reordered addr bytes t step =
+      let u = step.block in
+      let v : Used = record { block = u.block; payload = u.payload; align = u.align; bytes = bytes } in
+      let t' : State = record { chunks = s'.chunks; used = v ∷ others addr s'.used; free = s'.free } in (
+        t',
+        record { block = u; holds = ((r.used u).0 step.holds.0, step.holds.1); length = step.length; after = refl },
+        at_first step.after t' (record { chunks = r.chunks; used = HasSame-cons v (others addr s.used) (others addr s'.used) (HasSame-others addr s.used s'.used r.used); free = r.free }),
+      )
+
+module _ {fllen sllen : ℕ} {memory : Range} {s s' : State} (w : IsWellFormed fllen sllen memory s) (w' : IsWellFormed fllen sllen memory s') (r : IsReordered s s') where
+  reallocate-reordered : (u : Used) → IsIn u s.used → (size : ℕ) (o : Option Plan) (n : Option ℕ) (t : State) → ReallocatesBy sllen s u size o n t → (t' : State) × ReallocatesBy sllen s' u size o n t' × IsReordered t t'
+  reallocate-reordered u h size (Some p) None t step = absurd step
+  reallocate-reordered u h size (Some p) (Some addr) t step =
+      let v = moved u p step.bytes in (
+        replanned s' u p step.bytes,
+        record { bytes = step.bytes; answer = step.answer; length = step.length; kept = step.kept; after = refl },
+        at_first w w' r step.after (replanned s' u p step.bytes) (record { chunks = r.chunks; used = HasSame-cons v (others u.payload s.used) (others u.payload s'.used) (HasSame-others u.payload s.used s'.used r.used); free = refl }),
+      )
+  reallocate-reordered u h size None None t step = allocate-reordered w w' r size u.align None t step
+  reallocate-reordered u h size None (Some addr) t step =
+      let power = (w.used u h).power in
+      let (m, a, q) = allocate-reordered w w' r size u.align (Some addr) step.meanwhile step.allocated in
+      let (t', d, q') = deallocate-reordered (Allocates-keeps w size u.align (Some addr) step.meanwhile power step.allocated) (Allocates-keeps w' size u.align (Some addr) m power a) q u.payload t step.released in
+      (t', record { meanwhile = m; allocated = a; block = step.block; holds = ((q.used step.block).0 step.holds.0, step.holds.1); kept = step.kept; released = d }, q')
+
+pub order_means_nothing : OrderMeansNothing
+order_means_nothing fllen sllen memory s s' t (insert q n) w w' r step =
+    let cs = cut (max_pool_size fllen) (aligned_part q) in
+    (with_chunks cs s', record { answer = step.answer; after = refl }, at_first w w' r step.after (with_chunks cs s') (with_chunks-reordered cs s s' r))
+order_means_nothing fllen sllen memory s s' t (append q n) w w' r step =
+    let o = max_pool_size fllen in
+    (appended o q s', record { answer = step.answer; after = refl }, at_first w w' r step.after (appended o q s') (appended-reordered w w' r o q))
+order_means_nothing fllen sllen memory s s' t (allocate size align o) w w' r step = allocate-reordered w w' r size align o t step
+order_means_nothing fllen sllen memory s s' t (deallocate addr) w w' r step = deallocate-reordered w w' r addr t step
+order_means_nothing fllen sllen memory s s' t (reallocate addr size o) w w' r step =
+    let u = step.block in
+    let same : plan s u size ≡ plan s' u size = ap (λ l. plan (record { chunks = []; used = []; free = l }) u size) r.free in
+    let (t', again, q) = reallocate-reordered w w' r u step.holds.0 size (plan s u size) o t step.step in
+    (t', record { block = u; holds = ((r.used u).0 step.holds.0, step.holds.1); step = subst (λ p. ReallocatesBy sllen s' u size p o t') same again }, q)
+order_means_nothing fllen sllen memory s s' t (fill addr bytes) w w' r step = fill-reordered w w' r addr bytes t step

@@ -1,0 +1,53 @@
+-- Each step and each run keeps a state well-formed.
+use Rattle.std.proofs.Common.{ℕ, List, [], ◌∷◌, arith, refl, sym, ◌∙◌, subst, inl, inr}
+use Rattle.rlsf_base.specs.declared.memory.range.Range.{Range}
+use Rattle.rlsf_machine.specs.Laws.{EmptyIsWellFormed, StepsKeepWellFormed, RunsKeepWellFormed}
+use Rattle.rlsf_machine.specs.Run.{insert, append, allocate, deallocate, reallocate, fill, Fills}
+use Rattle.rlsf_machine.specs.State.{State, Used, others}
+use Rattle.rlsf_machine.specs.WellFormed.{IsUsed, IsWellFormed}
+use Rattle.rlsf_machine.proofs.Allocations.{Allocates-keeps}
+use Rattle.rlsf_machine.proofs.Appends.{Appends-keeps}
+use Rattle.rlsf_machine.proofs.Changes.{reblocked, coverage-others, IsIn-others}
+use Rattle.rlsf_machine.proofs.Insertions.{Inserts-keeps}
+use Rattle.rlsf_machine.proofs.Reallocations.{Reallocates-keeps}
+use Rattle.rlsf_machine.proofs.Releases.{Deallocates-keeps}
+
+pub empty_is_well_formed : EmptyIsWellFormed
+empty_is_well_formed fllen sllen memory rows row_length addressable = record {
+  rows = rows;
+  row_length = row_length;
+  addressable = addressable;
+  chunks = λ c h. absurd h;
+  used = λ u h. absurd h;
+  free = λ f h. absurd h;
+  disjoint = λ a. omega arith;
+  tiled = λ a. refl;
+  apart = λ f g h. absurd h;
+}
+
+-- other bytes in a payload keep a state well-formed
+pub Fills-keeps : {fllen sllen : ℕ} {memory : Range} {s : State} → IsWellFormed fllen sllen memory s → (addr : ℕ) (bytes : List ℕ) (t : State) → Fills s addr bytes t → IsWellFormed fllen sllen memory t
+Fills-keeps {fllen} {sllen} {memory} {s} w addr bytes t step =
+    let u = step.block in
+    let is = w.used u step.holds.0 in
+    let v : Used = record { block = u.block; payload = u.payload; align = u.align; bytes = bytes } in
+    let v_used : IsUsed v = record { whole = is.whole; power = is.power; placed = is.placed; within = is.within; bytes = step.length ∙ is.bytes } in
+    subst (IsWellFormed fllen sllen memory) (sym step.after)
+    (reblocked w (v ∷ others addr s.used) s.free
+    (λ x. elim [ inl same ↦ subst IsUsed (sym same) v_used | inr i ↦ w.used x (IsIn-others addr x s.used i).0 ])
+    (λ f i. let free = w.free f i in (free.whole, free.some))
+    (λ a. omega (arith, coverage-others w addr u step.holds a))
+    w.apart)
+
+pub steps_keep_well_formed : StepsKeepWellFormed
+steps_keep_well_formed fllen sllen memory s t (insert r reply) w may step = Inserts-keeps w r may reply t step
+steps_keep_well_formed fllen sllen memory s t (append r reply) w may step = Appends-keeps w r may.fresh reply t step
+steps_keep_well_formed fllen sllen memory s t (allocate size align reply) w may step = Allocates-keeps w size align reply t may step
+steps_keep_well_formed fllen sllen memory s t (deallocate addr) w may step = Deallocates-keeps w addr t step
+steps_keep_well_formed fllen sllen memory s t (reallocate addr size reply) w may step = Reallocates-keeps w addr size reply t step
+steps_keep_well_formed fllen sllen memory s t (fill addr bytes) w may step = Fills-keeps w addr bytes t step
+
+pub runs_keep_well_formed : RunsKeepWellFormed
+runs_keep_well_formed fllen sllen memory s t [] w run = subst (IsWellFormed fllen sllen memory) (sym run) w
+runs_keep_well_formed fllen sllen memory s t (e ∷ es) w (u, may, step, rest) =
+    runs_keep_well_formed fllen sllen memory u t es (steps_keep_well_formed fllen sllen memory s u e w may step) rest

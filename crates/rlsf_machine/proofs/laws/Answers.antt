@@ -1,0 +1,41 @@
+use Rattle.rlsf_machine.proofs.Chunks.{chunks_stay}
+use Rattle.rlsf_machine.proofs.Cuts.{chunks_are_cut_off_the_front}
+use Rattle.rlsf_machine.proofs.Determined.{steps_are_determined, refusal_changes_nothing}
+use Rattle.rlsf_machine.proofs.Live.{live_addresses_are_aligned, live_address_has_one_block, payloads_are_disjoint, payload_lies_in_one_chunk, allocation_has_size, reallocation_has_size, other_payloads_stay, handed_out_is_new, reallocated_is_live, live_stays, released_is_not_live, filled_has_bytes, fill_leaves_others, deallocation_leaves_others}
+use Rattle.rlsf_machine.proofs.Orders.{order_means_nothing}
+use Rattle.rlsf_machine.proofs.Pools.{pool_has_room}
+use Rattle.rlsf_machine.proofs.Room.{room_is_found, allocation_answers, refused_without_reach, choice_is_first_of_least, idle_chunk_is_one_range}
+use Rattle.rlsf_machine.proofs.Steps.{empty_is_well_formed, steps_keep_well_formed, runs_keep_well_formed}
+use Rattle.rlsf_machine.proofs.laws.Goals as goal
+
+pub returns : goal.returns
+returns c = record {
+  empty = empty_is_well_formed;
+  steps = steps_keep_well_formed;
+  runs = runs_keep_well_formed;
+  determined = steps_are_determined;
+  order = order_means_nothing;
+  refusals = refusal_changes_nothing;
+  cut = chunks_are_cut_off_the_front;
+  aligned = live_addresses_are_aligned;
+  one_block = live_address_has_one_block;
+  disjoint = payloads_are_disjoint;
+  in_one_chunk = payload_lies_in_one_chunk;
+  allocated_size = allocation_has_size;
+  reallocated_size = reallocation_has_size;
+  room = room_is_found;
+  pool_has_room = pool_has_room;
+  answers = allocation_answers;
+  refused = refused_without_reach;
+  chosen = choice_is_first_of_least;
+  idle = idle_chunk_is_one_range;
+  chunks_stay = chunks_stay;
+  others_stay = other_payloads_stay;
+  handed_out = handed_out_is_new;
+  moved = reallocated_is_live;
+  live_stays = live_stays;
+  released = released_is_not_live;
+  filled = filled_has_bytes;
+  fill_leaves = fill_leaves_others;
+  release_leaves = deallocation_leaves_others;
+}

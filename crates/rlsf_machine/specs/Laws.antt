@@ -1,0 +1,178 @@
+-- What holds of the machine's states and steps.
+use Rattle.std.specs.Prelude.{◌≡◌, ◌≢◌, ◌↔◌, ◌⊎◌, ℕ, ◌+◌, ◌*◌, ◌%◌, ◌^◌, ◌<◌, ◌≤◌, List, [], ◌∷◌, ◌++◌, filter, Option, Some, None, IfSome, ◌==◌, min, ◌-◌}
+use Rattle.rlsf_base.specs.declared.memory.range.Range.{Range}
+use Rattle.rlsf_base.specs.PowerOfTwo.{IsPowerOfTwo}
+use Rattle.rlsf_base.specs.Range.{end_of, range_at}
+use Rattle.rlsf_base.specs.SizeClass.{class_of, IsAtMost, IsValid, Reaches}
+use Rattle.rlsf_base.specs.Sizes.{max_pool_size, pool_size_to_contain_allocation, request_size}
+use Rattle.rlsf_machine.specs.Allocate.{choice, has_class, Allocates}
+use Rattle.rlsf_machine.specs.Insert.{body, cut, Inserts}
+use Rattle.rlsf_machine.specs.Lists.{IsIn, without}
+use Rattle.rlsf_machine.specs.Reallocate.{Reallocates}
+use Rattle.rlsf_machine.specs.Release.{Deallocates}
+use Rattle.rlsf_machine.specs.Run.{Event, Fills, Leads, MayCall, Names, Runs, IsSameCall, IsRefused}
+use Rattle.rlsf_machine.specs.State.{State, Used, empty, usable, Holds, HasBytes, IsLive, AreAlike, IsReordered}
+use Rattle.rlsf_machine.specs.WellFormed.{covers, IsWellFormed}
+
+-- the machine to which nothing was handed is well-formed
+abbrev pub EmptyIsWellFormed : Type 0
+EmptyIsWellFormed = (fllen sllen : ℕ) (memory : Range) → 0 < fllen → 0 < sllen → end_of memory < 2 ^ 64 → IsWellFormed fllen sllen memory empty
+
+-- each step that its caller may make keeps a state well-formed
+abbrev pub StepsKeepWellFormed : Type 0
+StepsKeepWellFormed = (fllen sllen : ℕ) (memory : Range) (s t : State) (e : Event)
+    → IsWellFormed fllen sllen memory s → MayCall memory s e → Leads fllen sllen s e t → IsWellFormed fllen sllen memory t
+
+-- and so does each run of them
+abbrev pub RunsKeepWellFormed : Type 0
+RunsKeepWellFormed = (fllen sllen : ℕ) (memory : Range) (s t : State) (es : List Event)
+    → IsWellFormed fllen sllen memory s → Runs fllen sllen memory s es t → IsWellFormed fllen sllen memory t
+
+-- a step's only freedom is what fresh bytes hold: the call and the state before it determine the reply, and the
+-- state after it but for bytes
+abbrev pub StepsAreDetermined : Type 0
+StepsAreDetermined = (fllen sllen : ℕ) (memory : Range) (s t t' : State) (e e' : Event) → IsWellFormed fllen sllen memory s
+    → Leads fllen sllen s e t → Leads fllen sllen s e' t' → IsSameCall e e' → (e ≡ e') × AreAlike t t'
+
+-- the order of chunks and of used blocks means nothing: a step that can be made in one order can be made in
+-- another, with the same reply, and leads to states that differ in this order alone
+abbrev pub OrderMeansNothing : Type 0
+OrderMeansNothing = (fllen sllen : ℕ) (memory : Range) (s s' t : State) (e : Event) → IsWellFormed fllen sllen memory s → IsWellFormed fllen sllen memory s' → IsReordered s s'
+    → Leads fllen sllen s e t → (t' : State) × Leads fllen sllen s' e t' × IsReordered t t'
+
+-- a refused call changes nothing
+abbrev pub RefusalChangesNothing : Type 0
+RefusalChangesNothing = (fllen sllen : ℕ) (s t : State) (e : Event) → Leads fllen sllen s e t → IsRefused e → t ≡ s
+
+-- the length of the first chunk that is cut off: all there is, but no more than the greatest length
+abbrev pub first_length : Option ℕ → ℕ → ℕ
+first_length None len = len
+first_length (Some most) len = min len most
+
+-- no chunk is cut from fewer than 64 bytes; else the first one is cut off, and the others from what is left
+abbrev pub IsCutOff : ℕ → ℕ → Option ℕ → Type 0
+IsCutOff at len most =
+    (len < 64 → cut most (range_at at len) ≡ [])
+    × (64 ≤ len → cut most (range_at at len)
+    ≡ range_at at (first_length most len) ∷ cut most (range_at (at + first_length most len) (len - first_length most len)))
+
+-- the chunks of an aligned part are cut off its front, while 64 bytes or more are left
+abbrev pub ChunksAreCutOffTheFront : Type 0
+ChunksAreCutOffTheFront = (fllen at len : ℕ) → 0 < fllen → IsCutOff at len (max_pool_size fllen)
+
+-- a live address is a multiple of its alignment
+abbrev pub LiveAddressesAreAligned : Type 0
+LiveAddressesAreAligned = (fllen sllen : ℕ) (memory : Range) (s : State) (addr align : ℕ) → IsWellFormed fllen sllen memory s → IsLive s addr align → addr % align ≡ 0
+
+-- a live address has one used block, which stands once among them
+abbrev pub LiveAddressHasOneBlock : Type 0
+LiveAddressHasOneBlock = (fllen sllen : ℕ) (memory : Range) (s : State) (addr : ℕ) (u : Used) → IsWellFormed fllen sllen memory s → Holds s addr u → filter (λ v. v.payload == addr) s.used ≡ u ∷ []
+
+-- the usable ranges of different live payloads have no byte in common
+abbrev pub PayloadsAreDisjoint : Type 0
+PayloadsAreDisjoint = (fllen sllen : ℕ) (memory : Range) (s : State) (u v : Used) (a : ℕ) → IsWellFormed fllen sllen memory s → IsIn u s.used → IsIn v s.used → u.payload ≢ v.payload
+    → covers (usable u) a + covers (usable v) a ≤ 1
+
+-- a live payload's usable range lies in one chunk: there is a chunk that has it, and no byte of it is in another
+abbrev pub PayloadLiesInOneChunk : Type 0
+PayloadLiesInOneChunk = (fllen sllen : ℕ) (memory : Range) (s : State) (u : Used) → IsWellFormed fllen sllen memory s → IsIn u s.used
+    → (c : Range) × IsIn c s.chunks × (c.start ≤ (usable u).start) × (end_of (usable u) ≤ end_of c)
+    × ((d : Range) (a : ℕ) → IsIn d s.chunks → covers (usable u) a ≡ 1 → covers d a ≡ 1 → d ≡ c)
+
+-- a used block with the size that was asked for, and less than 32 bytes more
+abbrev pub HasSize : State → ℕ → ℕ → Type 0
+HasSize t size addr = (u : Used) × Holds t addr u × (size ≤ (usable u).len) × ((usable u).len < size + 32)
+
+-- an allocation gives as many usable bytes as were asked for, and less than 32 more
+abbrev pub AllocationHasSize : Type 0
+AllocationHasSize = (fllen sllen : ℕ) (memory : Range) (s t : State) (size align : ℕ) (reply : Option ℕ) → IsWellFormed fllen sllen memory s → IsPowerOfTwo align
+    → Allocates sllen s size align reply t → IfSome reply (HasSize t size)
+
+-- and so does a reallocation
+abbrev pub ReallocationHasSize : Type 0
+ReallocationHasSize = (fllen sllen : ℕ) (memory : Range) (s t : State) (addr size : ℕ) (reply : Option ℕ) → IsWellFormed fllen sllen memory s
+    → Reallocates sllen s addr size reply t → IfSome reply (HasSize t size)
+
+-- a free range that is longer than what is sought by one SLLENth of it makes an allocation succeed
+abbrev pub RoomIsFound : Type 0
+RoomIsFound = (fllen sllen : ℕ) (memory : Range) (s t : State) (size align : ℕ) (reply : Option ℕ) (f : Range) → IsWellFormed fllen sllen memory s → IsIn f s.free
+    → request_size size align * (sllen + 1) ≤ f.len * sllen → Allocates sllen s size align reply t → reply ≢ None
+
+-- a pool of the length that is computed for an allocation, at a multiple of 32, makes the allocation succeed from
+-- whatever state it is handed to
+abbrev pub PoolHasRoom : Type 0
+PoolHasRoom = (fl_bits sl_bits fllen sllen size align e at : ℕ) (s t u : State) (taken reply : Option ℕ) → IsValid fl_bits sl_bits fllen sllen
+    → pool_size_to_contain_allocation fllen sllen size align ≡ Some e → at % 32 ≡ 0
+    → Inserts fllen s (range_at at e) taken t → Allocates sllen t size align reply u → reply ≢ None
+
+-- every allocation can be answered, from every state
+abbrev pub AllocationAnswers : Type 0
+AllocationAnswers = (sllen : ℕ) (s : State) (size align : ℕ) → (reply : Option ℕ) × (t : State) × Allocates sllen s size align reply t
+
+-- an allocation is refused exactly where no free range's class reaches what is sought
+abbrev pub RefusedWithoutReach : Type 0
+RefusedWithoutReach = (sllen size : ℕ) (free : List Range) → (choice sllen size free ≡ None) ↔ ((f : Range) → IsIn f free → Reaches sllen (class_of sllen f.len) size → ⊥)
+
+-- the range f stands in the list, behind ranges of other classes alone; without it the others are left in their order
+pub record IsFirstOfClass (sllen : ℕ) (free : List Range) (f : Range) : Type 0 where
+  pub before : List Range
+  pub after : List Range
+  pub place : free ≡ before ++ f ∷ after
+  pub others : (g : Range) → IsIn g before → class_of sllen g.len ≢ class_of sllen f.len
+  pub left : without (has_class sllen (class_of sllen f.len)) free ≡ before ++ after
+
+-- else it takes the first range of the least class that reaches
+abbrev pub ChoiceIsFirstOfLeast : Type 0
+ChoiceIsFirstOfLeast = (sllen size : ℕ) (free : List Range) (f : Range) → choice sllen size free ≡ Some f
+    → IsFirstOfClass sllen free f × Reaches sllen (class_of sllen f.len) size
+    × ((g : Range) → IsIn g free → Reaches sllen (class_of sllen g.len) size → IsAtMost (class_of sllen f.len) (class_of sllen g.len))
+
+-- with nothing live, each chunk holds exactly one free range, all of it but its last 32 bytes
+abbrev pub IdleChunkIsOneRange : Type 0
+IdleChunkIsOneRange = (fllen sllen : ℕ) (memory : Range) (s : State) (c : Range) → IsWellFormed fllen sllen memory s → s.used ≡ [] → IsIn c s.chunks
+    → IsIn (body c) s.free × ((f : Range) → IsIn f s.free → covers c f.start ≡ 1 → f ≡ body c)
+
+-- among the chunks is this one, or a longer one that begins where it does
+abbrev pub IsKept : Range → State → Type 0
+IsKept c t = (d : Range) × IsIn d t.chunks × (d.start ≡ c.start) × ((d ≡ c) ⊎ (end_of c + 32 ≤ end_of d))
+
+-- each step keeps the chunks, one of which may grow: so no byte of a chunk ever leaves them
+abbrev pub ChunksStay : Type 0
+ChunksStay = (fllen sllen : ℕ) (s t : State) (e : Event) (c : Range) → Leads fllen sllen s e t → IsIn c s.chunks → IsKept c t
+
+-- a step that doesn't name a payload leaves its block with its bytes as it was
+abbrev pub OtherPayloadsStay : Type 0
+OtherPayloadsStay = (fllen sllen : ℕ) (s t : State) (e : Event) (u : Used) → Leads fllen sllen s e t → IsIn u s.used → (Names e u.payload → ⊥) → IsIn u t.used
+
+-- what an allocation hands out was not live, and is live with the alignment asked for
+abbrev pub HandedOutIsNew : Type 0
+HandedOutIsNew = (fllen sllen : ℕ) (memory : Range) (s t : State) (size align addr : ℕ) → IsWellFormed fllen sllen memory s → IsPowerOfTwo align
+    → Allocates sllen s size align (Some addr) t → ((old : ℕ) → IsLive s addr old → ⊥) × IsLive t addr align
+
+-- a reallocation keeps the payload live with its alignment, at an address that is its old one or was not live
+abbrev pub ReallocatedIsLive : Type 0
+ReallocatedIsLive = (fllen sllen : ℕ) (memory : Range) (s t : State) (addr size to align : ℕ) → IsWellFormed fllen sllen memory s → IsLive s addr align
+    → Reallocates sllen s addr size (Some to) t → IsLive t to align × ((other : ℕ) → IsLive s to other → to ≡ addr)
+
+-- a live address stays live over each step that doesn't name it, as an allocation or a deallocation of another
+abbrev pub LiveStays : Type 0
+LiveStays = (fllen sllen : ℕ) (s t : State) (e : Event) (addr align : ℕ) → Leads fllen sllen s e t → IsLive s addr align → (Names e addr → ⊥) → IsLive t addr align
+
+-- an address that was deallocated is not live
+abbrev pub ReleasedIsNotLive : Type 0
+ReleasedIsNotLive = (s t : State) (addr align : ℕ) → Deallocates s addr t → IsLive t addr align → ⊥
+
+-- what was filled is live with its alignment, and has the bytes that were left in it
+abbrev pub FilledHasBytes : Type 0
+FilledHasBytes = (fllen sllen : ℕ) (memory : Range) (s t : State) (addr align : ℕ) (bytes : List ℕ) → IsWellFormed fllen sllen memory s → IsLive s addr align
+    → Fills s addr bytes t → IsLive t addr align × HasBytes t addr bytes
+
+-- a fill leaves the chunks, the free ranges and all other used blocks, and makes no other
+abbrev pub FillLeavesOthers : Type 0
+FillLeavesOthers = (s t : State) (addr : ℕ) (bytes : List ℕ) → Fills s addr bytes t
+    → (t.chunks ≡ s.chunks) × (t.free ≡ s.free) × ((u : Used) → u.payload ≢ addr → IsIn u s.used ↔ IsIn u t.used)
+
+-- a deallocation leaves the chunks and all other used blocks, and makes none
+abbrev pub DeallocationLeavesOthers : Type 0
+DeallocationLeavesOthers = (s t : State) (addr : ℕ) → Deallocates s addr t
+    → (t.chunks ≡ s.chunks) × ((u : Used) → IsIn u t.used ↔ (IsIn u s.used × (u.payload ≢ addr)))

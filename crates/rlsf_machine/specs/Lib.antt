@@ -1,0 +1,14 @@
+-- The list machine: what an allocator does to lists of ranges. Every promise of this crate is about it.
+-- It knows the chunks of memory that were handed to it, the blocks that are in use, and one list of the
+-- ranges that are free, the newest first. All arithmetic is that of whole numbers without bound.
+pub mod Allocate
+pub mod Insert
+pub mod Join
+pub mod Laws
+pub mod Lists
+pub mod Payload
+pub mod Reallocate
+pub mod Release
+pub mod Run
+pub mod State
+pub mod WellFormed

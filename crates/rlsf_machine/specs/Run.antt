@@ -1,0 +1,81 @@
+-- Lists of calls with their replies, and where they lead.
+use Rattle.std.specs.Prelude.{◌≡◌, ℕ, List, [], ◌∷◌, length, Option, None}
+use Rattle.rlsf_base.specs.declared.memory.range.Range.{Range}
+use Rattle.rlsf_base.specs.PowerOfTwo.{IsPowerOfTwo}
+use Rattle.rlsf_machine.specs.Allocate.{Allocates}
+use Rattle.rlsf_machine.specs.Insert.{IsFresh, IsNext, Inserts, Appends}
+use Rattle.rlsf_machine.specs.Reallocate.{Reallocates}
+use Rattle.rlsf_machine.specs.Release.{Deallocates}
+use Rattle.rlsf_machine.specs.State.{State, Used, Holds, others}
+
+-- the caller of the payload at an address leaves these bytes in it, as many as it has
+pub record Fills (s : State) (addr : ℕ) (bytes : List ℕ) (t : State) : Type 0 where
+  pub block : Used
+  pub holds : Holds s addr block
+  pub length : length bytes ≡ length block.bytes
+  pub after : t ≡ record { chunks = s.chunks; used = record { block = block.block; payload = block.payload; align = block.align; bytes = bytes } ∷ others addr s.used; free = s.free }
+
+-- a call with its reply: a range is handed in, or handed in behind a chunk; a layout, by its size and its
+-- alignment, is allocated; a payload is deallocated, gets another size, or is written
+pub data Event : Type 0 where
+  insert : Range → Option ℕ → Event
+  append : Range → ℕ → Event
+  allocate : ℕ → ℕ → Option ℕ → Event
+  deallocate : ℕ → Event
+  reallocate : ℕ → ℕ → Option ℕ → Event
+  fill : ℕ → List ℕ → Event
+
+-- a call with its reply leads from one state to another
+abbrev pub Leads : ℕ → ℕ → State → Event → State → Type 0
+Leads fllen sllen s (insert r reply) t = Inserts fllen s r reply t
+Leads fllen sllen s (append r reply) t = Appends fllen s r reply t
+Leads fllen sllen s (allocate size align reply) t = Allocates sllen s size align reply t
+Leads fllen sllen s (deallocate addr) t = Deallocates s addr t
+Leads fllen sllen s (reallocate addr size reply) t = Reallocates sllen s addr size reply t
+Leads fllen sllen s (fill addr bytes) t = Fills s addr bytes t
+
+-- some payload is live at the address
+abbrev pub IsSomeLive : State → ℕ → Type 0
+IsSomeLive s addr = (u : Used) × Holds s addr u
+
+-- what the caller of a call owes
+abbrev pub MayCall : Range → State → Event → Type 0
+MayCall memory s (insert r reply) = IsFresh memory s r
+MayCall memory s (append r reply) = IsNext memory s r
+MayCall memory s (allocate size align reply) = IsPowerOfTwo align
+MayCall memory s (deallocate addr) = IsSomeLive s addr
+MayCall memory s (reallocate addr size reply) = IsSomeLive s addr
+MayCall memory s (fill addr bytes) = IsSomeLive s addr
+
+-- two calls are the same, whatever their replies
+abbrev pub IsSameCall : Event → Event → Type 0
+IsSameCall (insert r m) (insert q n) = r ≡ q
+IsSameCall (append r m) (append q n) = r ≡ q
+IsSameCall (allocate size align m) (allocate size' align' n) = (size ≡ size') × (align ≡ align')
+IsSameCall (deallocate addr) (deallocate addr') = addr ≡ addr'
+IsSameCall (reallocate addr size m) (reallocate addr' size' n) = (addr ≡ addr') × (size ≡ size')
+IsSameCall (fill addr bytes) (fill addr' bytes') = (addr ≡ addr') × (bytes ≡ bytes')
+IsSameCall e e' = ⊥
+
+-- the call refused: it had no room, or no chunk to make
+abbrev pub IsRefused : Event → Type 0
+IsRefused (insert r reply) = reply ≡ None
+IsRefused (append r reply) = ⊥
+IsRefused (allocate size align reply) = reply ≡ None
+IsRefused (deallocate addr) = ⊥
+IsRefused (reallocate addr size reply) = reply ≡ None
+IsRefused (fill addr bytes) = ⊥
+
+-- the call names the payload at the address
+abbrev pub Names : Event → ℕ → Type 0
+Names (insert r reply) addr = ⊥
+Names (append r reply) addr = ⊥
+Names (allocate size align reply) addr = ⊥
+Names (deallocate at) addr = at ≡ addr
+Names (reallocate at size reply) addr = at ≡ addr
+Names (fill at bytes) addr = at ≡ addr
+
+-- a list of calls with their replies, one after another, each of which its caller may make
+abbrev pub Runs : ℕ → ℕ → Range → State → List Event → State → Type 0
+Runs fllen sllen memory s [] t = t ≡ s
+Runs fllen sllen memory s (e ∷ es) t = (u : State) × MayCall memory s e × Leads fllen sllen s e u × Runs fllen sllen memory u es t

@@ -1,0 +1,71 @@
+-- The state of the machine.
+use Rattle.std.specs.Prelude.{◌≡◌, ◌↔◌, ℕ, ◌-◌, List, [], ◌==◌, not, filter, map}
+use Rattle.rlsf_base.specs.declared.memory.range.Range.{Range}
+use Rattle.rlsf_base.specs.Range.{end_of, range_at}
+use Rattle.rlsf_machine.specs.Lists.{IsIn}
+
+-- a block in use: its range, the address that its caller has, the alignment that was asked for, and the
+-- bytes from that address up to the block's end
+pub record Used : Type 0 where
+  pub block : Range
+  pub payload : ℕ
+  pub align : ℕ
+  pub bytes : List ℕ
+
+-- the chunks, the blocks in use, and the free ranges with the newest first.
+-- The order of `chunks` and of `used` means nothing: the definitions ask which elements these lists have and how
+-- many of their ranges have an address, and where they seek an element, a well-formed state has only one.
+pub record State : Type 0 where
+  pub chunks : List Range
+  pub used : List Used
+  pub free : List Range
+
+-- the machine to which nothing was handed yet
+abbrev pub empty : State
+empty = record { chunks = []; used = []; free = [] }
+
+-- the range from one address up to another
+abbrev pub between : ℕ → ℕ → Range
+between low high = range_at low (high - low)
+
+-- the bytes from the payload's address up to the block's end, all of which the caller may use
+abbrev pub usable : Used → Range
+usable u = between u.payload (end_of u.block)
+
+-- the used block u is the one whose caller has the address
+abbrev pub Holds : State → ℕ → Used → Type 0
+Holds s addr u = IsIn u s.used × (u.payload ≡ addr)
+
+-- some used block has the address, and that alignment
+abbrev pub IsLive : State → ℕ → ℕ → Type 0
+IsLive s addr align = (u : Used) × Holds s addr u × (u.align ≡ align)
+
+-- some used block has the address, and these bytes
+abbrev pub HasBytes : State → ℕ → List ℕ → Type 0
+HasBytes s addr bytes = (u : Used) × Holds s addr u × (u.bytes ≡ bytes)
+
+-- the used blocks but for the one at an address
+abbrev pub others : ℕ → List Used → List Used
+others addr used = filter (λ u. not (u.payload == addr)) used
+
+-- the range, the payload's address and the alignment of a used block
+pub record Shape : Type 0 where
+  pub block : Range
+  pub payload : ℕ
+  pub align : ℕ
+
+-- what a used block is but for its bytes
+abbrev pub shape_of : Used → Shape
+shape_of u = record { block = u.block; payload = u.payload; align = u.align }
+
+-- two states are alike but for the bytes in used blocks
+pub record AreAlike (s t : State) : Type 0 where
+  pub chunks : s.chunks ≡ t.chunks
+  pub used : map shape_of s.used ≡ map shape_of t.used
+  pub free : s.free ≡ t.free
+
+-- two states differ in the order of their chunks and of their used blocks alone
+pub record IsReordered (s t : State) : Type 0 where
+  pub chunks : (c : Range) → IsIn c s.chunks ↔ IsIn c t.chunks
+  pub used : (u : Used) → IsIn u s.used ↔ IsIn u t.used
+  pub free : s.free ≡ t.free

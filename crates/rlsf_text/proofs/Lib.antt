@@ -1,0 +1,5 @@
+pub mod Commands
+pub mod LayoutTests
+pub mod LineParts
+pub mod NumberTests
+pub mod TextFaults

@@ -1,0 +1,57 @@
+-- The text that is printed for ops and their answers.
+use Rattle.std.specs.Prelude.{ℕ, List, [], ◌∷◌, ◌++◌, codes, Option, Some, None}
+use Rattle.std.specs.Fmt.{decimal}
+use Rattle.std.specs.Int.NonZero.{non_zero_usize_get}
+use Rattle.std.specs.List.{flat_map, zip}
+use Rattle.std.specs.declared.num.NonZeroUsize.{NonZeroUsize}
+use Rattle.rlsf_text.specs.declared.op.Op.{Op}
+use Rattle.rlsf_text.specs.declared.op.Op.TheVariants.{Insert, Alloc, Free, Fill, Put, Get}
+use Rattle.rlsf_text.specs.declared.op.Answer.{Answer}
+use Rattle.rlsf_text.specs.declared.op.Answer.TheVariants.{Inserted, Placed, Done, Byte, Refused}
+use Rattle.rlsf_text.specs.declared.op.TraceError.{TraceError}
+use Rattle.rlsf_text.specs.declared.op.TraceError.TheVariants.{UnknownName, NameTaken, BadRange, BadOffset}
+
+-- the number of an error
+abbrev pub error_number : TraceError → ℕ
+error_number UnknownName = 1
+error_number NameTaken = 2
+error_number BadRange = 3
+error_number BadOffset = 4
+
+-- the word for an error
+abbrev pub error_word : TraceError → List ℕ
+error_word UnknownName = codes "UnknownName"
+error_word NameTaken = codes "NameTaken"
+error_word BadRange = codes "BadRange"
+error_word BadOffset = codes "BadOffset"
+
+-- how the line of an op begins: its command, and the name of its payload if it has one
+abbrev pub op_text : Op → List ℕ
+op_text (Insert range) = codes "insert"
+op_text (Alloc name layout) = codes "alloc " ++ decimal name
+op_text (Free name) = codes "free " ++ decimal name
+op_text (Fill name byte) = codes "fill " ++ decimal name
+op_text (Put name offset byte) = codes "put " ++ decimal name
+op_text (Get name offset) = codes "get " ++ decimal name
+
+-- how the line of an inserted range goes on: the length of its pool, if it was long enough for one
+abbrev pub inserted_text : Option NonZeroUsize → List ℕ
+inserted_text (Some len) = codes " some " ++ decimal (non_zero_usize_get len)
+inserted_text None = codes " none"
+
+-- how the line of a payload goes on: where it lies, if there was room
+abbrev pub placed_text : Option NonZeroUsize → List ℕ
+placed_text (Some addr) = codes " at " ++ decimal (non_zero_usize_get addr)
+placed_text None = codes " none"
+
+-- the line of an op and its answer; that of a refused op shows only why
+abbrev pub line_text : Op → Answer → List ℕ
+line_text op (Inserted len) = op_text op ++ inserted_text len
+line_text op (Placed addr) = op_text op ++ placed_text addr
+line_text op Done = op_text op ++ codes " done"
+line_text op (Byte byte) = op_text op ++ codes " " ++ decimal byte
+line_text op (Refused error) = codes "refused " ++ decimal (error_number error) ++ codes " " ++ error_word error
+
+-- the line of each op that has an answer, in their order, each with LF at its end
+abbrev pub text_of : List Op → List Answer → List ℕ
+text_of ops answers = flat_map (λ p. line_text p.0 p.1 ++ 10 ∷ []) (zip ops answers)

@@ -1,0 +1,39 @@
+ghost use Rattle.std.specs.Prelude.{◌≡◌};
+ghost use Rattle.rlsf_text.specs.Configurations.{configuration_named};
+
+/// The parameters of the allocator that a trace runs on: how many rows of size classes it has, how many
+/// classes in a row, and the type of its bitmaps.
+#[derive(Clone, Copy, Debug, PartialEq, Eq)]
+pub enum Configuration {
+    /// `8x8`: 8 rows of 8 classes, with bitmaps of type `u8`.
+    EightByEight,
+    /// `12x16`: 12 rows of 16 classes, with bitmaps of type `u16`.
+    TwelveBySixteen,
+    /// `59x8`: 59 rows of 8 classes, with bitmaps of type `u64`.
+    FiftyNineByEight,
+    /// `1x1`: one row of one class, with bitmaps of type `u8`.
+    OneByOne,
+    /// `8x1`: 8 rows of one class, with bitmaps of type `u8`.
+    EightByOne,
+}
+
+impl Configuration {
+    /// The configuration that the word names, if it names one.
+    pub(crate) fn named(word: &[u8]) -> Option<Configuration>
+        ensures { result ≡ configuration_named word.now }
+    {
+        if word == b"8x8".as_slice() {
+            Some(Configuration::EightByEight)
+        } else if word == b"12x16".as_slice() {
+            Some(Configuration::TwelveBySixteen)
+        } else if word == b"59x8".as_slice() {
+            Some(Configuration::FiftyNineByEight)
+        } else if word == b"1x1".as_slice() {
+            Some(Configuration::OneByOne)
+        } else if word == b"8x1".as_slice() {
+            Some(Configuration::EightByOne)
+        } else {
+            None
+        }
+    }
+}

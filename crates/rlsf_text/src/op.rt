@@ -1,0 +1,77 @@
+use rlsf_base::memory::{Addr, Layout, Range};
+use std::fmt;
+use std::num::NonZeroUsize;
+
+/// One op of a trace. Payloads are named by whole numbers of 64 bits.
+#[derive(Clone, Copy, Debug, PartialEq, Eq)]
+pub enum Op {
+    /// Gives the allocator the range as a pool.
+    Insert(Range),
+    /// Allocates a payload with the layout, and names it.
+    Alloc(usize, Layout),
+    /// Gives the payload of this name back. The name is free again.
+    Free(usize),
+    /// Sets every usable byte of the payload to the byte.
+    Fill(usize, u8),
+    /// Sets the byte at an offset of the payload.
+    Put(usize, usize, u8),
+    /// Reads the byte at an offset of the payload.
+    Get(usize, usize),
+}
+
+/// What an op of a trace answers.
+#[derive(Clone, Copy, Debug, PartialEq, Eq)]
+pub enum Answer {
+    /// The length of the pool that was made of the range, or that it was too short for one.
+    Inserted(Option<NonZeroUsize>),
+    /// The address of the payload, or that there was no room for it.
+    Placed(Option<Addr>),
+    /// The op was done, and there is nothing to tell of it.
+    Done,
+    /// The byte that was read.
+    Byte(u8),
+    /// The op was refused before any call of the allocator, and changed nothing.
+    Refused(TraceError),
+}
+
+/// Why an op of a trace is refused. Each error has a number, which printed answers show.
+#[derive(Clone, Copy, Debug, PartialEq, Eq)]
+pub enum TraceError {
+    /// No live payload has the name.
+    UnknownName = 1,
+    /// The name of a new payload is that of a live one.
+    NameTaken = 2,
+    /// The range doesn't lie in the memory, or touches a byte of a pool.
+    BadRange = 3,
+    /// The offset isn't below the usable size of the payload.
+    BadOffset = 4,
+}
+
+impl TraceError {
+    ghost use Rattle.std.specs.Prelude.{◌≡◌};
+    ghost use Rattle.rlsf_text.specs.Printing.{error_number};
+
+    /// The error's number.
+    pub fn number(self) -> u8
+        ensures { result ≡ error_number self }
+    {
+        self as u8
+    }
+}
+
+/// The error's word.
+impl fmt::Display for TraceError {
+    ghost use Rattle.std.specs.Prelude.{Some};
+    ghost use Rattle.rlsf_text.specs.Printing.{error_word};
+
+    ghost output = { λ error. Some (error_word error) };
+
+    fn fmt<W: fmt::Write>(&self, f: &mut fmt::Formatter<W>) -> fmt::Result {
+        match self {
+            TraceError::UnknownName => f.write_str("UnknownName"),
+            TraceError::NameTaken => f.write_str("NameTaken"),
+            TraceError::BadRange => f.write_str("BadRange"),
+            TraceError::BadOffset => f.write_str("BadOffset"),
+        }
+    }
+}

@@ -1,0 +1,80 @@
+ghost use Rattle.std.specs.Prelude.{◌≡◌, ◌++◌, OnOk, IfOk, string_bytes};
+ghost use Rattle.rlsf_text.specs.Printing.{op_text, inserted_text, placed_text, line_text, text_of};
+
+use crate::op::{Answer, Op};
+use rlsf_base::memory::Addr;
+use std::alloc::{AllocError, Global};
+use std::num::NonZeroUsize;
+
+/// The lines that are printed for ops and their answers: one for each op that has an answer, in their
+/// order, each ended by LF.
+///
+/// An error comes only where the machine refused memory.
+pub fn text_of(alloc: Global, ops: &[Op], answers: &[Answer]) -> Result<String, AllocError>
+    ensures { IfOk result (λ text. string_bytes text ≡ text_of ops.now answers.now) }
+{
+    let mut text = String::new(alloc);
+    for (op, answer) in ops.iter().zip(answers) {
+        print_line(&mut text, *op, *answer)?;
+        text.push('\n')?;
+    }
+    Ok(text)
+}
+
+fn print_line(text: &mut String, op: Op, answer: Answer) -> Result<(), AllocError>
+    ensures { OnOk result (string_bytes text.new ≡ string_bytes text.old ++ line_text op answer) }
+{
+    match answer {
+        Answer::Inserted(len) => {
+            print_op(text, op)?;
+            print_inserted(text, len)
+        }
+        Answer::Placed(addr) => {
+            print_op(text, op)?;
+            print_placed(text, addr)
+        }
+        Answer::Done => {
+            print_op(text, op)?;
+            write!(text, " done")
+        }
+        Answer::Byte(byte) => {
+            print_op(text, op)?;
+            write!(text, " {byte}")
+        }
+        Answer::Refused(error) => {
+            let number = error.number();
+            write!(text, "refused {number} {error}")
+        }
+    }
+}
+
+fn print_op(text: &mut String, op: Op) -> Result<(), AllocError>
+    ensures { OnOk result (string_bytes text.new ≡ string_bytes text.old ++ op_text op) }
+{
+    match op {
+        Op::Insert(_) => write!(text, "insert"),
+        Op::Alloc(name, _) => write!(text, "alloc {name}"),
+        Op::Free(name) => write!(text, "free {name}"),
+        Op::Fill(name, _) => write!(text, "fill {name}"),
+        Op::Put(name, _, _) => write!(text, "put {name}"),
+        Op::Get(name, _) => write!(text, "get {name}"),
+    }
+}
+
+fn print_inserted(text: &mut String, len: Option<NonZeroUsize>) -> Result<(), AllocError>
+    ensures { OnOk result (string_bytes text.new ≡ string_bytes text.old ++ inserted_text len) }
+{
+    match len {
+        Some(len) => write!(text, " some {len}"),
+        None => write!(text, " none"),
+    }
+}
+
+fn print_placed(text: &mut String, addr: Option<Addr>) -> Result<(), AllocError>
+    ensures { OnOk result (string_bytes text.new ≡ string_bytes text.old ++ placed_text addr) }
+{
+    match addr {
+        Some(addr) => write!(text, " at {addr}"),
+        None => write!(text, " none"),
+    }
+}

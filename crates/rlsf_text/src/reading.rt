@@ -1,0 +1,149 @@
+ghost use Rattle.std.specs.Prelude.{◌≡◌, ◌+◌, ◌^◌, ◌<◌, map, length, IfOk};
+ghost use Rattle.rlsf_text.specs.FallibleSteps.{Gives, GivesOrRefused};
+ghost use Rattle.rlsf_text.specs.Commands.{command_of};
+ghost use Rattle.rlsf_text.specs.Lines.{lines_left};
+ghost use Rattle.rlsf_text.specs.Words.{words, words_left};
+ghost use Rattle.rlsf_text.specs.Reading.{insert_in, layout_of, alloc_in, free_in, fill_in, put_in, get_in, command_in, header_in, commands_in};
+
+use crate::configuration::Configuration;
+use crate::fault::{Fault, ReplayFault};
+use crate::lines::Lines;
+use crate::number::{byte, number};
+use crate::op::Op;
+use crate::words::Words;
+use rlsf_base::memory::{Layout, Range};
+use std::alloc::Global;
+
+/// The first line: a configuration, and the start and the length of the memory.
+#[tactic(auto, unfolding(crate::specs::Reading::header_in))]
+pub(crate) fn read_header(line: &[u8]) -> Result<(Configuration, usize, usize), Fault>
+    ensures read { Gives (λ h. h) result (header_in (words line.now)) }
+    ensures starts { IfOk result (λ h. 0 < h.1) }
+    ensures fits { IfOk result (λ h. h.1 + h.2 < 2 ^ 64) }
+{
+    let (name, start, len) = Words::new(line).exactly_three()?;
+    let configuration = Configuration::named(name).ok_or(Fault::Config)?;
+    let start = number(start)?;
+    let len = number(len)?;
+    if start == 0 {
+        return Err(Fault::ZeroStart);
+    }
+    if len > usize::MAX - start {
+        return Err(Fault::TooLong);
+    }
+    Ok((configuration, start, len))
+}
+
+/// The ops of the lines after the first.
+#[tactic(auto, using(crate::proofs::Commands::commands_behind_all))]
+pub(crate) fn read_ops(alloc: Global, lines: Lines) -> Result<Vec<Op>, ReplayFault>
+    requires { 1 + length (lines_left lines) < 2 ^ 64 }
+    ensures { GivesOrRefused (λ ops. map command_of ops.items) result
+        (commands_in (lines_left lines.entry)) }
+{
+    let mut ops = Vec::new(alloc);
+    let mut earlier = 1;
+    for line in lines {
+        match read_op(line) {
+            Ok(op) => ops.push(op)?,
+            Err(fault) => return Err(fault.at_line(earlier + 1)),
+        }
+        earlier += 1;
+    }
+    Ok(ops)
+}
+
+#[tactic(auto, unfolding(crate::specs::Reading::command_in))]
+fn read_op(line: &[u8]) -> Result<Op, Fault>
+    ensures { Gives command_of result (command_in (words line.now)) }
+{
+    let mut fields = Words::new(line);
+    let name = fields.next().ok_or(Fault::UnknownOp)?;
+    if name == b"insert".as_slice() {
+        read_insert(fields)
+    } else if name == b"alloc".as_slice() {
+        read_alloc(fields)
+    } else if name == b"free".as_slice() {
+        read_free(fields)
+    } else if name == b"fill".as_slice() {
+        read_fill(fields)
+    } else if name == b"put".as_slice() {
+        read_put(fields)
+    } else if name == b"get".as_slice() {
+        read_get(fields)
+    } else {
+        Err(Fault::UnknownOp)
+    }
+}
+
+#[tactic(auto, unfolding(crate::specs::Reading::insert_in))]
+fn read_insert(fields: Words) -> Result<Op, Fault>
+    ensures { Gives command_of result (insert_in (words_left fields.entry)) }
+{
+    let (start, len) = fields.exactly_two()?;
+    let start = number(start)?;
+    let len = number(len)?;
+    Ok(Op::Insert(Range { start, len }))
+}
+
+#[tactic(auto, unfolding(crate::specs::Reading::alloc_in))]
+fn read_alloc(fields: Words) -> Result<Op, Fault>
+    ensures { Gives command_of result (alloc_in (words_left fields.entry)) }
+{
+    let (name, size, align) = fields.exactly_three()?;
+    let name = number(name)?;
+    let size = number(size)?;
+    let align = number(align)?;
+    let layout = layout_of(size, align)?;
+    Ok(Op::Alloc(name, layout))
+}
+
+#[tactic(auto, using(crate::proofs::LayoutTests::layout_tests), unfolding(crate::specs::Reading::layout_of))]
+fn layout_of(size: usize, align: usize) -> Result<Layout, Fault>
+    ensures { Gives (λ layout. (layout.size, layout.align)) result (layout_of size align) }
+{
+    match Layout::from_size_align(size, align) {
+        Ok(layout) => Ok(layout),
+        Err(_) => Err(Fault::BadLayout),
+    }
+}
+
+#[tactic(auto, unfolding(crate::specs::Reading::free_in))]
+fn read_free(fields: Words) -> Result<Op, Fault>
+    ensures { Gives command_of result (free_in (words_left fields.entry)) }
+{
+    let name = fields.exactly_one()?;
+    let name = number(name)?;
+    Ok(Op::Free(name))
+}
+
+#[tactic(auto, unfolding(crate::specs::Reading::fill_in))]
+fn read_fill(fields: Words) -> Result<Op, Fault>
+    ensures { Gives command_of result (fill_in (words_left fields.entry)) }
+{
+    let (name, value) = fields.exactly_two()?;
+    let name = number(name)?;
+    let value = byte(value)?;
+    Ok(Op::Fill(name, value))
+}
+
+#[tactic(auto, unfolding(crate::specs::Reading::put_in))]
+fn read_put(fields: Words) -> Result<Op, Fault>
+    ensures { Gives command_of result (put_in (words_left fields.entry)) }
+{
+    let (name, offset, value) = fields.exactly_three()?;
+    let name = number(name)?;
+    let offset = number(offset)?;
+    let value = byte(value)?;
+    Ok(Op::Put(name, offset, value))
+}
+
+#[tactic(auto, unfolding(crate::specs::Reading::get_in))]
+fn read_get(fields: Words) -> Result<Op, Fault>
+    ensures { Gives command_of result (get_in (words_left fields.entry)) }
+{
+    let (name, offset) = fields.exactly_two()?;
+    let name = number(name)?;
+    let offset = number(offset)?;
+    Ok(Op::Get(name, offset))
+}

@@ -1,0 +1,69 @@
+use crate::cut::cut;
+use crate::fault::Fault;
+
+/// The words of a line, from the first on. Each single space ends a word, and an empty word is a word.
+#[derive(Drop)]
+pub(crate) struct Words<'a> {
+    // What follows the last space that was passed.
+    rest: Option<&'a [u8]>,
+}
+
+impl<'a> Words<'a> {
+    ghost use Rattle.std.specs.Prelude.{◌≡◌, [], ◌∷◌, MatchOption};
+    ghost use Rattle.rlsf_text.specs.FallibleSteps.{Gives};
+    ghost use Rattle.rlsf_text.specs.Words.{words, words_left, exactly_one, exactly_two, exactly_three};
+
+    /// The words of `line`.
+    pub(crate) fn new(line: &'a [u8]) -> Words<'a>
+        ensures { words_left result ≡ words line.now }
+    {
+        Words { rest: Some(line) }
+    }
+
+    /// The next word, if there is one.
+    #[tactic(auto, unfolding(crate::specs::Words::words))]
+    pub(crate) fn next(&mut self) -> Option<&'a [u8]>
+        ensures { MatchOption result ((words_left self.old ≡ []) × (words_left self.new ≡ []))
+            (λ word. words_left self.old ≡ word.now ∷ words_left self.new) }
+    {
+        match self.rest {
+            Some(rest) => {
+                let (word, after) = cut(rest, b' ');
+                self.rest = after;
+                Some(word)
+            }
+            None => None,
+        }
+    }
+
+    /// The one word that is left. More or none are a fault.
+    pub(crate) fn exactly_one(mut self) -> Result<&'a [u8], Fault>
+        ensures { Gives (λ word. word.now) result (exactly_one (words_left self.entry)) }
+    {
+        let word = self.next().ok_or(Fault::FieldCount)?;
+        match self.next() {
+            Some(_) => Err(Fault::FieldCount),
+            None => Ok(word),
+        }
+    }
+
+    /// The two words that are left. More or fewer are a fault.
+    pub(crate) fn exactly_two(mut self) -> Result<(&'a [u8], &'a [u8]), Fault>
+        ensures { Gives (λ both. (both.0.now, both.1.now)) result
+            (exactly_two (words_left self.entry)) }
+    {
+        let first = self.next().ok_or(Fault::FieldCount)?;
+        let second = self.exactly_one()?;
+        Ok((first, second))
+    }
+
+    /// The three words that are left. More or fewer are a fault.
+    pub(crate) fn exactly_three(mut self) -> Result<(&'a [u8], &'a [u8], &'a [u8]), Fault>
+        ensures { Gives (λ all. (all.0.now, all.1.now, all.2.now)) result
+            (exactly_three (words_left self.entry)) }
+    {
+        let first = self.next().ok_or(Fault::FieldCount)?;
+        let (second, third) = self.exactly_two()?;
+        Ok((first, second, third))
+    }
+}

@@ -1,0 +1,5 @@
+-- The front of a free block becomes a used block.
+pub mod Placements
+pub mod Rests
+pub mod TakenOut
+pub mod UsedBlocks

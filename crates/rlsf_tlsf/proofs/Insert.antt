@@ -1,0 +1,4 @@
+-- A range becomes chunks.
+pub mod ChunkWrites
+pub mod NewChunks
+pub mod Pools

@@ -1,0 +1,8 @@
+pub mod Allocate
+pub mod Deallocate
+pub mod FreeLists
+pub mod Insert
+pub mod Machine
+pub mod Payloads
+pub mod Search
+pub mod Words

@@ -1,0 +1,9 @@
+use Rattle.rlsf_machine.specs.State.{empty}
+use Rattle.rlsf_tlsf.proofs.Machine.EmptyState.{StandsFor-empty}
+use Rattle.rlsf_tlsf.proofs.tlsf.Tlsf.new.Goals as goal
+
+pub invariant_of-result : goal.invariant_of-result
+invariant_of-result g c = record { valid = c.requires; stands = (empty, StandsFor-empty c.requires c.start.ensures.bounds) }
+
+pub returns-clause-stands : goal.returns-clause-stands
+returns-clause-stands g c = StandsFor-empty c.requires c.start.ensures.bounds

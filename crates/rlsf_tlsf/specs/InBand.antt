@@ -1,0 +1,36 @@
+-- The words that stand inside the pools. Each block begins with its size word and a word that names the block
+-- before it; the addresses of blocks are multiples of 32, and the address 0 means none.
+use Rattle.std.specs.Prelude.{◌≡◌, ℕ, ◌+◌, ◌-◌, ◌≤◌, List, [], ◌∷◌}
+use Rattle.rlsf_base.specs.declared.memory.range.Range.{Range}
+use Rattle.rlsf_base.specs.Range.{end_of}
+use Rattle.rlsf_base.specs.Space.{Space, bytes_in, word_at}
+use Rattle.rlsf_machine.specs.Lists.{IsIn}
+use Rattle.rlsf_machine.specs.State.{State, Used, usable}
+
+-- where the sentinel of a chunk stands: its last 32 bytes
+abbrev pub sentinel_of : Range → ℕ
+sentinel_of c = end_of c - 32
+
+-- the size word of a used block is its length with the lowest bit set, of a free one its length, and of a
+-- sentinel 32 with the two lowest bits set
+pub record HasSizes (m : Space) (s : State) : Type 0 where
+  pub used : (u : Used) → IsIn u s.used → word_at m u.block.start ≡ u.block.len + 1
+  pub free : (f : Range) → IsIn f s.free → word_at m f.start ≡ f.len
+  pub sentinel : (c : Range) → IsIn c s.chunks → word_at m (sentinel_of c) ≡ 35
+
+-- the word at +8 of the block behind a block names that block, and of a chunk's first block it is 0
+pub record HasPrevious (m : Space) (s : State) : Type 0 where
+  pub used : (u : Used) → IsIn u s.used → word_at m (end_of u.block + 8) ≡ u.block.start
+  pub free : (f : Range) → IsIn f s.free → word_at m (end_of f + 8) ≡ f.start
+  pub first : (c : Range) → IsIn c s.chunks → word_at m (c.start + 8) ≡ 0
+
+-- a used block holds its payload's bytes; for an alignment of 32 or more the word before them names the block
+pub record HasPayloads (m : Space) (s : State) : Type 0 where
+  pub bytes : (u : Used) → IsIn u s.used → bytes_in m (usable u) ≡ u.bytes
+  pub pad : (u : Used) → IsIn u s.used → 32 ≤ u.align → word_at m (u.payload - 8) ≡ u.block.start
+
+-- free blocks from `head` on are linked as a list has them: each names the next one at +16 and the one
+-- before it at +24, which is `previous` for the first
+abbrev pub Links : Space → ℕ → List Range → ℕ → Type 0
+Links m previous [] head = head ≡ 0
+Links m previous (f ∷ fs) head = (head ≡ f.start) × (word_at m (f.start + 24) ≡ previous) × Links m f.start fs (word_at m (f.start + 16))

@@ -1,0 +1,5 @@
+pub mod InBand
+pub mod Lending
+pub mod Spare
+pub mod StandsFor
+pub mod Steps

@@ -1,0 +1,6 @@
+-- What the allocator's own functions say to each other: no public contract cites these.
+pub mod FreeList
+pub mod Join
+pub mod LiveBlock
+pub mod Pool
+pub mod Rest

@@ -1,0 +1,41 @@
+-- The list of free blocks, as its words stand in a memory.
+use Rattle.std.specs.Prelude.{◌≡◌, ℕ, ◌+◌, ◌%◌, ◌^◌, ◌<◌, ◌≤◌, ◌⊎◌, List, length}
+use Rattle.rlsf_base.specs.declared.memory.range.Range.{Range}
+use Rattle.rlsf_base.specs.Range.{end_of, LiesIn}
+use Rattle.rlsf_base.specs.Space.{Space, bytes_in, word_at}
+use Rattle.rlsf_tlsf.specs.InBand.{Links}
+use Rattle.rlsf_machine.specs.Lists.{IsIn}
+use Rattle.rlsf_machine.specs.WellFormed.{coverage, itself}
+
+-- a range that can be a block: not at the address 0, at a multiple of 32, 32 bytes or more, and inside the memory
+pub record IsPlaced (m : Space) (f : Range) : Type 0 where
+  pub some : 0 < f.start
+  pub whole : f.start % 32 ≡ 0
+  pub room : 32 ≤ f.len
+  pub lies_in : LiesIn f m.start (length m.bytes)
+
+-- the free blocks from `head` on are those of a list, none of which overlap, each with its size word; and addresses fit in a word
+pub record IsFreeList (m : Space) (head : ℕ) (free : List Range) : Type 0 where
+  pub links : Links m 0 free head
+  pub placed : (f : Range) → IsIn f free → IsPlaced m f
+  pub apart : (a : ℕ) → coverage itself free a ≤ 1
+  pub sizes : (f : Range) → IsIn f free → word_at m f.start ≡ f.len
+  pub addressable : m.start + length m.bytes < 2 ^ 64
+
+-- the address is that of a link: the third or the fourth word of one of the blocks
+abbrev pub IsLink : List Range → ℕ → Type 0
+IsLink free a = (f : Range) × IsIn f free × ((a ≡ f.start + 16) ⊎ (a ≡ f.start + 24))
+
+-- no words were written but at addresses of one kind, and the memory stays where it is
+pub record Rewrites (m n : Space) (at : ℕ → Type 0) : Type 0 where
+  pub start : n.start ≡ m.start
+  pub length : length n.bytes ≡ length m.bytes
+  pub words : (a : ℕ) → a % 8 ≡ 0 → m.start ≤ a → ¬ at a → word_at n a ≡ word_at m a
+  pub bytes : (r : Range) → m.start ≤ r.start → ((a : ℕ) → at a → (end_of r ≤ a) ⊎ (a + 8 ≤ r.start)) → bytes_in n r ≡ bytes_in m r
+
+-- the address is that of a word which may be written while a hole is: a link of a free block, a word inside the
+-- hole, or one other word
+pub data Touched (free : List Range) (hole : Range) (other a : ℕ) : Type 0 where
+  at_link : IsLink free a → Touched free hole other a
+  in_hole : hole.start ≤ a → a + 8 ≤ end_of hole → Touched free hole other a
+  at_other : a ≡ other → Touched free hole other a

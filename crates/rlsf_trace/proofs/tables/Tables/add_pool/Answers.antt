@@ -1,0 +1,15 @@
+use Rattle.std.proofs.Common.{arith, sym, subst}
+use Rattle.rlsf_trace.specs.Steps.Tables.{IsAdded, IsInOrder}
+use Rattle.rlsf_trace.proofs.PoolOrder.{IsAdded-insert, IsInOrder-insert}
+use Rattle.rlsf_trace.proofs.Outcomes.{unless_err}
+use Rattle.rlsf_trace.proofs.tables.Tables.add_pool.Goals as goal
+
+pub returns-clause-pools : goal.returns-clause-pools
+returns-clause-pools c =
+    let is = unless_err c.insert.result c.insert.ensures.items c.insert.ensures.full (λ full. omega (arith, full, c.requires.room.pools)) in
+    subst (IsAdded c.args.pool c.args.self.now.pools.items) (sym is) (IsAdded-insert c.args.self.now.pools.items c.begun_before-begun.result c.args.pool)
+
+pub returns-clause-in_order : goal.returns-clause-in_order
+returns-clause-in_order c =
+    let is = unless_err c.insert.result c.insert.ensures.items c.insert.ensures.full (λ full. omega (arith, full, c.requires.room.pools)) in
+    subst IsInOrder (sym is) (IsInOrder-insert c.requires.in_order c.args.pool c.begun_before-begun.result c.begun_before-begun.ensures.bound c.begun_before-begun.ensures.point c.requires.some c.requires.apart)

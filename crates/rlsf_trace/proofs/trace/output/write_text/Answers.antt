@@ -1,7 +1,0 @@
-use Rattle.rlsf_trace.proofs.Writing.{Appends-more}
-use Rattle.rlsf_trace.proofs.trace.output.write_text.Goals as goal
-
-pub loop-preserved : goal.loop-preserved
-loop-preserved g c =
-    let (done, split, so_far) = c.loop.invariant in
-    Appends-more _ _ _ c.args.text.now done c.loop.rest.now c.in-Ok.taken split so_far c.in-Ok.ensures.bytes

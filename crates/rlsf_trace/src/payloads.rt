@@ -1,0 +1,105 @@
+//! The ops on named payloads.
+
+ghost use Rattle.std.specs.Prelude.{ℕ, ◌+◌};
+ghost use Rattle.rlsf_base.specs.Space.{SamePlace};
+ghost use Rattle.rlsf_text.specs.declared.op.Op.TheVariants.{Free, Fill, Put, Get};
+ghost use Rattle.rlsf_trace.specs.Runs.{RunState};
+ghost use Rattle.rlsf_trace.specs.Steps.Tables.{HasRoom, IsAt, LeadsOn};
+
+use crate::tables::Tables;
+use rlsf_int::BinInteger;
+use rlsf_text::{Answer, TraceError};
+use rlsf_tlsf::Tlsf;
+
+/// Gives the payload of a name back, unless no live one has it. The name is free again.
+pub(crate) fn free<
+    FLBitmap: BinInteger,
+    SLBitmap: BinInteger,
+    const FLLEN: usize,
+    const SLLEN: usize,
+>(tlsf: &mut Tlsf<FLBitmap, SLBitmap, FLLEN, SLLEN>, tables: &mut Tables, name: usize) -> Answer
+    requires { (s : RunState) × IsAt FLLEN SLLEN tlsf.old tables.old s }
+    ensures does { (s : RunState) → IsAt FLLEN SLLEN tlsf.old tables.old s → LeadsOn FLLEN SLLEN tlsf.old s (Free name) result tlsf.new tables.new }
+    ensures room { (ops : ℕ) → HasRoom tables.old (ops + 1) → HasRoom tables.new ops }
+    ensures place { SamePlace tlsf.old.memory tlsf.new.memory }
+{
+    let Some(payload) = tables.take_name(name) else {
+        return Answer::Refused(TraceError::UnknownName);
+    };
+    tlsf.deallocate(payload.addr, payload.align);
+    Answer::Done
+}
+
+/// Sets every usable byte of the payload of a name, unless no live one has it.
+pub(crate) fn fill<
+    FLBitmap: BinInteger,
+    SLBitmap: BinInteger,
+    const FLLEN: usize,
+    const SLLEN: usize,
+>(
+    tlsf: &mut Tlsf<FLBitmap, SLBitmap, FLLEN, SLLEN>,
+    tables: &Tables,
+    name: usize,
+    byte: u8,
+) -> Answer
+    requires { (s : RunState) × IsAt FLLEN SLLEN tlsf.old tables.now s }
+    ensures does { (s : RunState) → IsAt FLLEN SLLEN tlsf.old tables.now s → LeadsOn FLLEN SLLEN tlsf.old s (Fill name byte) result tlsf.new tables.now }
+    ensures place { SamePlace tlsf.old.memory tlsf.new.memory }
+{
+    let Some(payload) = tables.payload(name) else {
+        return Answer::Refused(TraceError::UnknownName);
+    };
+    tlsf.payload_mut(payload.addr).fill(byte);
+    Answer::Done
+}
+
+/// Sets the byte at an offset of the payload of a name, unless no live one has it or the offset isn't below its usable size.
+pub(crate) fn put<
+    FLBitmap: BinInteger,
+    SLBitmap: BinInteger,
+    const FLLEN: usize,
+    const SLLEN: usize,
+>(
+    tlsf: &mut Tlsf<FLBitmap, SLBitmap, FLLEN, SLLEN>,
+    tables: &Tables,
+    name: usize,
+    offset: usize,
+    byte: u8,
+) -> Answer
+    requires { (s : RunState) × IsAt FLLEN SLLEN tlsf.old tables.now s }
+    ensures does { (s : RunState) → IsAt FLLEN SLLEN tlsf.old tables.now s → LeadsOn FLLEN SLLEN tlsf.old s (Put name offset byte) result tlsf.new tables.now }
+    ensures place { SamePlace tlsf.old.memory tlsf.new.memory }
+{
+    let Some(payload) = tables.payload(name) else {
+        return Answer::Refused(TraceError::UnknownName);
+    };
+    if offset >= tlsf.payload(payload.addr).len() {
+        return Answer::Refused(TraceError::BadOffset);
+    }
+    tlsf.payload_mut(payload.addr)[offset] = byte;
+    Answer::Done
+}
+
+/// Reads the byte at an offset of the payload of a name, unless no live one has it or the offset isn't below its usable size.
+pub(crate) fn get<
+    FLBitmap: BinInteger,
+    SLBitmap: BinInteger,
+    const FLLEN: usize,
+    const SLLEN: usize,
+>(
+    tlsf: &Tlsf<FLBitmap, SLBitmap, FLLEN, SLLEN>,
+    tables: &Tables,
+    name: usize,
+    offset: usize,
+) -> Answer
+    requires { (s : RunState) × IsAt FLLEN SLLEN tlsf.now tables.now s }
+    ensures { (s : RunState) → IsAt FLLEN SLLEN tlsf.now tables.now s → LeadsOn FLLEN SLLEN tlsf.now s (Get name offset) result tlsf.now tables.now }
+{
+    let Some(payload) = tables.payload(name) else {
+        return Answer::Refused(TraceError::UnknownName);
+    };
+    match tlsf.payload(payload.addr).get(offset) {
+        Some(byte) => Answer::Byte(*byte),
+        None => Answer::Refused(TraceError::BadOffset),
+    }
+}

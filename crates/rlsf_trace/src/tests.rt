@@ -1,0 +1,7 @@
+use super::*;
+
+mod faults;
+mod refusals;
+mod replays;
+mod runs;
+mod streams;

@@ -1,8 +1,0 @@
-use super::*;
-
-mod faults;
-mod printing;
-mod reading;
-mod replays;
-mod runs;
-mod streams;
