@@ -4,10 +4,12 @@
 #![tactic(auto)]
 
 pub use rlsf_base::memory::{Addr, Layout, LayoutError, Memory, MemoryError, Range};
-pub use rlsf_machine::laws;
-pub use rlsf_tlsf::{GRANULARITY, Tlsf};
+pub use rlsf_tlsf::{GRANULARITY, Tlsf, laws};
 
 /// The integers that serve as bitmaps.
 pub mod int {
     pub use rlsf_int::{BinInteger, BitPattern};
 }
+
+#[cfg(test)]
+mod tests;

@@ -1,5 +1,6 @@
 -- A used block becomes free.
 pub mod Addresses
+pub mod Loaded
 pub mod Marks
 pub mod Outs
 pub mod Puts

@@ -4,5 +4,5 @@ pub mod FreeLists
 pub mod Insert
 pub mod Machine
 pub mod Payloads
-pub mod Search
+pub mod Tables
 pub mod Words

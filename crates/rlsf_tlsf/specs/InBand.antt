@@ -29,7 +29,7 @@ pub record HasPayloads (m : Space) (s : State) : Type 0 where
   pub bytes : (u : Used) → IsIn u s.used → bytes_in m (usable u) ≡ u.bytes
   pub pad : (u : Used) → IsIn u s.used → 32 ≤ u.align → word_at m (u.payload - 8) ≡ u.block.start
 
--- free blocks from `head` on are linked as a list has them: each names the next one at +16 and the one
+-- free blocks of a class from `head` on are linked as a list has them: each names the next one at +16 and the one
 -- before it at +24, which is `previous` for the first
 abbrev pub Links : Space → ℕ → List Range → ℕ → Type 0
 Links m previous [] head = head ≡ 0

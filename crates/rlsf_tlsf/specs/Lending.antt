@@ -1,7 +1,8 @@
 -- What the allocator ends as, once a `&mut` to a payload's bytes has ended.
-use Rattle.std.specs.Prelude.{ℕ, List, length}
+use Rattle.std.specs.Prelude.{ℕ, ◌+◌, List, length}
 use Rattle.std.specs.Borrow.{Fml, RattleType, MutBor, Array, Lends, u8}
 use Rattle.rlsf_base.specs.Lends.{lent_space}
+use Rattle.rlsf_base.specs.Space.{Space}
 use Rattle.rlsf_int.specs.declared.int.BitPattern.{Ghosts}
 use Rattle.rlsf_machine.specs.Run.{Fills}
 use Rattle.rlsf_machine.specs.State.{State}
@@ -9,9 +10,14 @@ use Rattle.rlsf_tlsf.specs.Spare.{KeepsSpare}
 use Rattle.rlsf_tlsf.specs.StandsFor.{Contents, StandsFor}
 use Rattle.rlsf_tlsf.specs.contracts.tlsf.Tlsf.{the_row}
 
--- the allocator, with w in the place of the len bytes from the address on: w is cut to len, or filled up from what stood there
+-- a memory with so many more touches
+abbrev pub touched : Space → ℕ → Space
+touched m more = record m { touches = m.touches + more }
+
+-- the allocator, with w in the place of the len bytes from the address on: w is cut to len, or filled up from what stood
+-- there. Three words are read that tell where these bytes end
 abbrev pub written : Contents → ℕ → ℕ → List ℕ → Contents
-written v addr len w = record v { memory = lent_space v.memory addr len w }
+written v addr len w = record v { memory = lent_space (touched v.memory 3) addr len w }
 
 -- the allocator ends with what r leaves in the bytes from the address on, and else as it was
 abbrev pub lends_payload : (FL SL FLLEN SLLEN : RattleType) → Ghosts FL.Denot → Ghosts SL.Denot → MutBor Contents → ℕ → MutBor (List ℕ) → Fml

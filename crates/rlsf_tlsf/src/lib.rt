@@ -1,6 +1,58 @@
 //! The allocator over pools that its caller hands in: two-level segregated fit (Masmano and others, ECRTS 2004).
 #![tactic(auto)]
 
+ghost use Rattle.rlsf_machine.specs.Laws.{EmptyIsWellFormed, StepsKeepWellFormed, RunsKeepWellFormed, StepsAreDetermined, OrderMeansNothing, RefusalChangesNothing, ChunksAreCutOffTheFront, LiveAddressesAreAligned, LiveAddressHasOneBlock, PayloadsAreDisjoint, PayloadLiesInOneChunk, AllocationHasSize, ReallocationHasSize, RoomIsFound, PoolHasRoom, AllocationAnswers, RefusedWithoutReach, ChoiceIsFirstOfLeast, IdleChunkIsOneRange, ChunksStay, OtherPayloadsStay, HandedOutIsNew, ReallocatedIsLive, LiveStays, ReleasedIsNotLive, FilledHasBytes, FillLeavesOthers, DeallocationLeavesOthers};
+ghost use Rattle.rlsf_tlsf.specs.Laws.{WordsReadNoPayload};
+
 mod tlsf;
 
 pub use tlsf::{GRANULARITY, Tlsf};
+
+/// Does nothing. Its contract states the laws of the states that an allocator stands for, so that a check proves them.
+///
+/// Each step keeps a state well-formed, and so does each run. A call and the state before it determine the
+/// reply and the state after it but for fresh bytes; the order of chunks and of used blocks means nothing; a
+/// refused call changes nothing. Chunks are cut off an aligned part's front, and stay or grow. A live address is
+/// a multiple of its alignment and has one block; usable ranges of different payloads are disjoint, and each lies
+/// in one chunk. What was asked for is usable, and less than 32 bytes more. A free range that is longer by one
+/// SLLENth than what is sought makes an allocation succeed, which takes the first range of the least class that
+/// reaches and is refused only where none reaches; so does a pool of the length that is computed for the
+/// allocation, at a multiple of 32. With nothing live a chunk holds one free range. A step that doesn't name a
+/// payload leaves it as it was; what is handed out was not live and is live. A fill leaves its bytes in one
+/// payload, and a deallocation takes one away; neither changes another, or hands one out.
+///
+/// What is said of the words inside the pools and of the class table reads no usable byte of a live payload: a memory that
+/// differs in such bytes alone stands for the state with these bytes.
+pub fn laws()
+    ensures empty { EmptyIsWellFormed }
+    ensures steps { StepsKeepWellFormed }
+    ensures runs { RunsKeepWellFormed }
+    ensures determined { StepsAreDetermined }
+    ensures order { OrderMeansNothing }
+    ensures refusals { RefusalChangesNothing }
+    ensures cut { ChunksAreCutOffTheFront }
+    ensures aligned { LiveAddressesAreAligned }
+    ensures one_block { LiveAddressHasOneBlock }
+    ensures disjoint { PayloadsAreDisjoint }
+    ensures in_one_chunk { PayloadLiesInOneChunk }
+    ensures allocated_size { AllocationHasSize }
+    ensures reallocated_size { ReallocationHasSize }
+    ensures room { RoomIsFound }
+    ensures pool_has_room { PoolHasRoom }
+    ensures answers { AllocationAnswers }
+    ensures refused { RefusedWithoutReach }
+    ensures chosen { ChoiceIsFirstOfLeast }
+    ensures idle { IdleChunkIsOneRange }
+    ensures chunks_stay { ChunksStay }
+    ensures others_stay { OtherPayloadsStay }
+    ensures handed_out { HandedOutIsNew }
+    ensures moved { ReallocatedIsLive }
+    ensures live_stays { LiveStays }
+    ensures released { ReleasedIsNotLive }
+    ensures filled { FilledHasBytes }
+    ensures fill_leaves { FillLeavesOthers }
+    ensures release_leaves { DeallocationLeavesOthers }
+    ensures words { WordsReadNoPayload }
+{
+    rlsf_machine::laws();
+}

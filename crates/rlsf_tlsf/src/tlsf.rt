@@ -1,18 +1,22 @@
 //! The allocator over pools that its caller hands in.
 
 ghost use Rattle.std.specs.Borrow.{sem};
-ghost use Rattle.std.specs.Prelude.{◌≡◌, ◌≤◌, ◌<◌, ℕ, List, length, IfNone, IfSome};
+ghost use Rattle.std.specs.Prelude.{◌≡◌, ◌≤◌, ◌<◌, ◌+◌, ◌*◌, ℕ, List, length, IfNone, IfSome};
 ghost use Rattle.std.specs.Int.NonZero.{non_zero_usize_get};
+ghost use Rattle.std.specs.List.{list_any};
 ghost use Rattle.std.specs.Option.{option_map};
 ghost use Rattle.rlsf_base.specs.SizeClass.{IsValid};
+ghost use Rattle.rlsf_base.specs.Sizes.{max_pool_size};
 ghost use Rattle.rlsf_base.specs.Space.{bytes_in, range_of, SamePlace};
-ghost use Rattle.rlsf_machine.specs.Allocate.{Allocates};
-ghost use Rattle.rlsf_machine.specs.Insert.{Inserts, IsFresh};
+ghost use Rattle.rlsf_int.specs.Bits.{bit};
+ghost use Rattle.rlsf_machine.specs.Allocate.{Allocates, has_class};
+ghost use Rattle.rlsf_machine.specs.Insert.{Inserts, IsFresh, aligned_part, cut};
 ghost use Rattle.rlsf_machine.specs.Release.{Deallocates};
 ghost use Rattle.rlsf_machine.specs.Run.{IsSomeLive};
 ghost use Rattle.rlsf_machine.specs.State.{State, Used, empty, usable, Holds, IsLive};
 ghost use Rattle.rlsf_tlsf.specs.Spare.{KeepsSpare};
 ghost use Rattle.rlsf_tlsf.specs.StandsFor.{StandsFor};
+ghost use Rattle.rlsf_tlsf.specs.Table.{class_at, is_in_row, newest_of, of_class};
 
 mod fit;
 mod free;
@@ -20,19 +24,19 @@ mod list;
 mod payload;
 mod place;
 mod pool;
-#[cfg(test)]
-mod tests;
+mod table;
 
 use fit::first_fit;
 use free::{deallocate_block, used_block};
-use payload::usable_bytes;
+use payload::{load_usable_bytes, usable_bytes};
 use place::place;
 use pool::insert;
 use rlsf_base::classes::request_size;
 use rlsf_base::memory::{Addr, Layout, Memory, Range};
 use rlsf_int::{BinInteger, BitPattern};
-use std::marker::{Model, PhantomData};
+use std::marker::Model;
 use std::num::NonZeroUsize;
+use table::ClassTable;
 
 /// The unit of sizes and addresses of blocks, in bytes.
 pub const GRANULARITY: usize = 32;
@@ -52,9 +56,7 @@ pub struct Tlsf<
     const SLLEN: usize,
 > {
     memory: Memory,
-    // The newest free block, or 0.
-    first_free: usize,
-    marker: PhantomData<(FLBitmap, SLBitmap)>,
+    table: ClassTable<FLBitmap, SLBitmap, FLLEN, SLLEN>,
 }
 
 impl<FLBitmap: BitPattern, SLBitmap: BitPattern, const FLLEN: usize, const SLLEN: usize> Model
@@ -63,9 +65,9 @@ impl<FLBitmap: BitPattern, SLBitmap: BitPattern, const FLLEN: usize, const SLLEN
 
     ghost Value = { Contents };
 
-    ghost view = { λ t. record { memory = t.memory; first_free = t.first_free } };
+    ghost view = { λ t. record { memory = t.memory; table = t.table } };
 
-    ghost invariant = { λ t. IsTlsf FLBitmap.width SLBitmap.width FLLEN SLLEN (record { memory = t.memory; first_free = t.first_free }) };
+    ghost invariant = { λ t. IsTlsf FLBitmap.width SLBitmap.width FLLEN SLLEN (record { memory = t.memory; table = t.table }) };
 }
 
 impl<FLBitmap: BinInteger, SLBitmap: BinInteger, const FLLEN: usize, const SLLEN: usize> Tlsf<
@@ -89,8 +91,7 @@ impl<FLBitmap: BinInteger, SLBitmap: BinInteger, const FLLEN: usize, const SLLEN
         let _ = memory.start();
         Tlsf {
             memory,
-            first_free: 0,
-            marker: PhantomData,
+            table: ClassTable::new(),
         }
     }
 
@@ -116,14 +117,10 @@ impl<FLBitmap: BinInteger, SLBitmap: BinInteger, const FLLEN: usize, const SLLEN
             → (t : State) × Inserts FLLEN s range (option_map non_zero_usize_get result) t × StandsFor FLLEN SLLEN self.new t × KeepsSpare self.old.memory s self.new.memory t }
         ensures refused { IfNone result (self.new.memory.bytes ≡ self.old.memory.bytes) }
         ensures place { SamePlace self.old.memory self.new.memory }
+        ensures touches { self.new.memory.touches ≤ self.old.memory.touches + 13 * length (cut (max_pool_size FLLEN) (aligned_part range)) }
+        ensures copied { self.new.memory.copied ≡ self.old.memory.copied }
     {
-        let (newest, taken) = insert::<FLBitmap, SLBitmap, FLLEN, SLLEN>(
-            &mut self.memory,
-            self.first_free,
-            range,
-        );
-        self.first_free = newest;
-        taken
+        insert(&mut self.memory, &mut self.table, range)
     }
 
     /// Allocates a payload for a layout: the front of the newest free block of the first class that reaches the size
@@ -135,11 +132,11 @@ impl<FLBitmap: BinInteger, SLBitmap: BinInteger, const FLLEN: usize, const SLLEN
         ensures placed { IfSome result (λ addr. (t : State) × StandsFor FLLEN SLLEN self.new t × IsLive t (non_zero_usize_get addr) layout.align) }
         ensures refused { IfNone result (self.new.memory.bytes ≡ self.old.memory.bytes) }
         ensures place { SamePlace self.old.memory self.new.memory }
+        ensures touches { self.new.memory.touches ≤ self.old.memory.touches + 27 }
+        ensures copied { self.new.memory.copied ≡ self.old.memory.copied }
     {
-        let block = first_fit::<SLLEN>(&self.memory, self.first_free, request_size(layout))?;
-        let (first_free, payload) = place(&mut self.memory, self.first_free, block, layout);
-        self.first_free = first_free;
-        NonZeroUsize::new(payload)
+        let block = first_fit(&mut self.memory, &self.table, request_size(layout))?;
+        NonZeroUsize::new(place(&mut self.memory, &mut self.table, block, layout))
     }
 
     /// Gives a payload back. Its block becomes free: joined with the free block before it and the one behind it, if there
@@ -151,9 +148,11 @@ impl<FLBitmap: BinInteger, SLBitmap: BinInteger, const FLLEN: usize, const SLLEN
         ensures step { (s : State) → StandsFor FLLEN SLLEN self.old s → IsLive s (non_zero_usize_get addr) align
             → (t : State) × Deallocates s (non_zero_usize_get addr) t × StandsFor FLLEN SLLEN self.new t × KeepsSpare self.old.memory s self.new.memory t }
         ensures place { SamePlace self.old.memory self.new.memory }
+        ensures touches { self.new.memory.touches ≤ self.old.memory.touches + 32 }
+        ensures copied { self.new.memory.copied ≡ self.old.memory.copied }
     {
-        let block = used_block(&self.memory, addr.get(), align);
-        self.first_free = deallocate_block(&mut self.memory, self.first_free, block);
+        let block = used_block(&mut self.memory, addr.get(), align);
+        deallocate_block(&mut self.memory, &mut self.table, block);
     }
 
     /// The bytes of the payload at `addr`, from there to its block's end: all that its caller may use.
@@ -180,8 +179,36 @@ impl<FLBitmap: BinInteger, SLBitmap: BinInteger, const FLLEN: usize, const SLLEN
             → Leaves FLLEN SLLEN self.old s (non_zero_usize_get addr) w (written self.old (non_zero_usize_get addr) (length result.now) w)) }
         ensures place { (w : List ℕ) → SamePlace self.old.memory (written self.old (non_zero_usize_get addr) (length result.now) w).memory }
     {
-        let range = usable_bytes(&self.memory, addr.get());
+        let range = load_usable_bytes(&mut self.memory, addr.get());
         self.memory.slice_mut(range)
+    }
+
+    /// The address of the newest free block of a class, by its row and its place in the row; `None` exactly if none is
+    /// free. It is the one that an allocation takes which takes one of the class.
+    ///
+    /// The row is below `FLLEN`, and the place below `SLLEN`.
+    pub fn first_free(&self, fl: usize, sl: usize) -> Option<Addr>
+        requires { (fl < FLLEN) × (sl < SLLEN) }
+        ensures { (s : State) → StandsFor FLLEN SLLEN self.now s → option_map non_zero_usize_get result ≡ newest_of (of_class SLLEN fl sl s.free) }
+    {
+        NonZeroUsize::new(self.table.newest(fl, sl))
+    }
+
+    /// The first-level bitmap: a row's position has a one exactly where a block is free whose class is in the row.
+    pub fn fl_bitmap(&self) -> FLBitmap
+        ensures { (s : State) (fl : ℕ) → StandsFor FLLEN SLLEN self.now s → bit (FLBitmap.pattern result) fl ≡ list_any (is_in_row SLLEN fl) s.free }
+    {
+        self.table.fl_bitmap()
+    }
+
+    /// The second-level bitmap of a row: a class's position has a one exactly where a block of the class is free.
+    ///
+    /// The row is below `FLLEN`.
+    pub fn sl_bitmap(&self, fl: usize) -> SLBitmap
+        requires { fl < FLLEN }
+        ensures { (s : State) (sl : ℕ) → StandsFor FLLEN SLLEN self.now s → bit (SLBitmap.pattern result) sl ≡ list_any (has_class SLLEN (class_at fl sl)) s.free }
+    {
+        self.table.sl_bitmap(fl)
     }
 
     /// The memory, to read.

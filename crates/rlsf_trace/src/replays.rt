@@ -3,7 +3,8 @@
 ghost use Rattle.std.specs.Prelude.{◌≡◌, ◌≢◌, ◌⊎◌, IfOk, IfErr, IfSome, OnOk, string_bytes};
 ghost use Rattle.std.specs.Io.KnownBytes.{IsAtEnd};
 ghost use Rattle.rlsf_base.specs.Range.{range_at};
-ghost use Rattle.rlsf_base.specs.SizeClass.{IsValid};
+ghost use Rattle.rlsf_machine.specs.State.{empty};
+ghost use Rattle.rlsf_tlsf.specs.StandsFor.{StandsFor};
 ghost use Rattle.rlsf_base.specs.Space.{range_of};
 ghost use Rattle.rlsf_text.specs.Faults.{out_of_memory};
 ghost use Rattle.rlsf_trace.specs.Replays.{rows_of, classes_of, IsRun, IsOutput};
@@ -27,17 +28,16 @@ fn memory_of(alloc: Global, trace: &Trace) -> Result<Memory, ReplayFault>
     Memory::new(alloc, trace.start, trace.len).map_err(|_| Fault::OutOfMemory.at_line(1))
 }
 
-// What ops answer, done by a new allocator with these parameters over the memory.
+// What ops answer, on an allocator that has no chunk.
 fn answers_with<FLBitmap: BinInteger, SLBitmap: BinInteger, const FLLEN: usize, const SLLEN: usize>(
     alloc: Global,
-    memory: Memory,
+    mut tlsf: Tlsf<FLBitmap, SLBitmap, FLLEN, SLLEN>,
     ops: &[Op],
 ) -> Result<Vec<Answer>, ReplayFault>
-    requires { IsValid FLBitmap.width SLBitmap.width FLLEN SLLEN }
-    ensures ok { IfOk result (λ answers. IsRun FLLEN SLLEN (range_of memory) ops.now answers.items) }
+    requires { StandsFor FLLEN SLLEN tlsf empty }
+    ensures ok { IfOk result (λ answers. IsRun FLLEN SLLEN (range_of tlsf.memory) ops.now answers.items) }
     ensures err { IfErr result (λ f. f ≡ out_of_memory) }
 {
-    let mut tlsf = Tlsf::<FLBitmap, SLBitmap, FLLEN, SLLEN>::new(memory);
     let mut answers = Vec::new(alloc);
     run(alloc, &mut tlsf, ops, &mut answers).map_err(|_| Fault::OutOfMemory.at_line(0))?;
     Ok(answers)
@@ -53,11 +53,19 @@ fn answers_of(alloc: Global, trace: &Trace) -> Result<Vec<Answer>, ReplayFault>
     let memory = memory_of(alloc, trace)?;
     let ops = &trace.ops;
     match trace.configuration {
-        Configuration::EightByEight => answers_with::<u8, u8, 8, 8>(alloc, memory, ops),
-        Configuration::TwelveBySixteen => answers_with::<u16, u16, 12, 16>(alloc, memory, ops),
-        Configuration::FiftyNineByEight => answers_with::<u64, u64, 59, 8>(alloc, memory, ops),
-        Configuration::OneByOne => answers_with::<u8, u8, 1, 1>(alloc, memory, ops),
-        Configuration::EightByOne => answers_with::<u8, u8, 8, 1>(alloc, memory, ops),
+        Configuration::EightByEight => answers_with(alloc, Tlsf::<u8, u8, 8, 8>::new(memory), ops),
+        Configuration::TwelveBySixteen => answers_with(
+            alloc,
+            Tlsf::<u16, u16, 12, 16>::new(memory),
+            ops,
+        ),
+        Configuration::FiftyNineByEight => answers_with(
+            alloc,
+            Tlsf::<u64, u64, 59, 8>::new(memory),
+            ops,
+        ),
+        Configuration::OneByOne => answers_with(alloc, Tlsf::<u8, u8, 1, 1>::new(memory), ops),
+        Configuration::EightByOne => answers_with(alloc, Tlsf::<u8, u8, 8, 1>::new(memory), ops),
     }
 }
 

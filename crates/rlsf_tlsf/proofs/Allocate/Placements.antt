@@ -19,11 +19,11 @@ use Rattle.rlsf_machine.specs.WellFormed.{IsWellFormed}
 use Rattle.rlsf_tlsf.specs.Spare.{KeepsSpare}
 use Rattle.rlsf_tlsf.specs.Steps.Rest.{IsOpened, IsTaken}
 use Rattle.rlsf_tlsf.specs.StandsFor.{contents, StandsFor}
+use Rattle.rlsf_tlsf.specs.Table.{Table}
 use Rattle.rlsf_tlsf.proofs.Words.Apart.{Has, free_in_memory, home_of_free}
 use Rattle.rlsf_tlsf.proofs.Allocate.UsedBlocks.{IsCarved, StandsFor-carved}
 use Rattle.rlsf_tlsf.proofs.Words.Frames.{wide_whole}
-use Rattle.rlsf_tlsf.proofs.FreeLists.FreeBlocks.{IsPlaced-free}
-use Rattle.rlsf_tlsf.proofs.FreeLists.Chains.{Links-Rewrites}
+use Rattle.rlsf_tlsf.proofs.FreeLists.Tables.{HasTable-Rewrites, IsPlaced-free}
 use Rattle.rlsf_tlsf.proofs.FreeLists.Writes.{IsPlaced-Rewrites, Rewrites-trans, Rewrites-weaken, Writes}
 use Rattle.rlsf_machine.proofs.Allocations.{IsWellFormed-given, placed-fits}
 use Rattle.rlsf_machine.proofs.Changes.{IsIn-rest_behind}
@@ -37,7 +37,7 @@ use Rattle.rlsf_tlsf.proofs.Words.Writing.{IsWrite, write, rewrites_of, reads_of
 length-bytes_in : (m : Space) (r : Range) → LiesIn r m.start (length m.bytes) → length (bytes_in m r) ≡ r.len
 length-bytes_in m r inside = length-take-le r.len (drop (r.start - m.start) m.bytes) (omega (arith, length-drop (r.start - m.start) m.bytes, inside))
 
-module _ {fllen sllen : ℕ} {m : Space} {newest : ℕ} {s : State} (v : StandsFor fllen sllen (contents m newest) s) (f : Range) (size align : ℕ) (power : IsPowerOfTwo align)
+module _ {fllen sllen : ℕ} {m : Space} {table : Table} {s : State} (v : StandsFor fllen sllen (contents m table) s) (f : Range) (size align : ℕ) (power : IsPowerOfTwo align)
     (chosen : choice sllen (request_size size align) s.free ≡ Some f) where
   abbrev payload : ℕ
   payload = payload_of f.start align
@@ -77,7 +77,7 @@ module _ {fllen sllen : ℕ} {m : Space} {newest : ℕ} {s : State} (v : StandsF
       record { found = (choice-some sllen (request_size size align) s.free f chosen).found; start = refl; length = refl; whole = fit.granules; some = omega (arith, fit.long); fits = placed-fits v.well_formed f size align power chosen }
 
   -- the used block's words were written
-  module _ {n1 n2 n : Space} {head : ℕ} (opened : IsOpened sllen m n1 s f (range_at f.start (block_length f.start (payload_of f.start align) size)) head)
+  module _ {n1 n2 n : Space} {changed : Table} (opened : IsOpened fllen sllen m n1 changed s f (range_at f.start (block_length f.start (payload_of f.start align) size)))
       (sized : IsWrite n1 n2 f.start (block_length f.start (payload_of f.start align) size + 1)) (padded : Writes n2 n (32 ≤ align) (payload_of f.start align - 8) f.start) where
     abbrev u : Used
     u = placed f size align (bytes_in n (between (payload_of f.start align) (end_of (block_for f.start (payload_of f.start align) size))))
@@ -105,7 +105,7 @@ module _ {fllen sllen : ℕ} {m : Space} {newest : ℕ} {s : State} (v : StandsF
         go (inl at) = omega (arith, fitting.whole)
         go (inr (w, at)) = omega (arith, fitting.wide w, fitting.after_start)
 
-    pub IsCarved-written : IsCarved sllen m n s f (placed f size align (bytes_in n (between (payload_of f.start align) (end_of (block_for f.start (payload_of f.start align) size))))) head
+    pub IsCarved-written : IsCarved fllen sllen m n changed s f (placed f size align (bytes_in n (between (payload_of f.start align) (end_of (block_for f.start (payload_of f.start align) size)))))
     IsCarved-written =
         let fit = fitting in
         let place = free_in_memory v.well_formed f is_free in
@@ -118,7 +118,7 @@ module _ {fllen sllen : ℕ} {m : Space} {newest : ℕ} {s : State} (v : StandsF
           rest = λ g i. (rest_size g i ∙ (opened.rest g i).0, rest_previous g i ∙ (opened.rest g i).1);
           pad = padded.reads;
           bytes = refl;
-          links = Links-Rewrites 0 (rest_behind (range_at f.start (block_length f.start (payload_of f.start align) size)) (end_of f) ++ without (has_class sllen (class_of sllen f.len)) s.free) head last linked other opened.links;
+          listed = HasTable-Rewrites last linked other opened.table;
         }
       where
         size_apart : (32 ≤ align) × (f.start ≡ payload_of f.start align - 8) → ⊥
@@ -187,7 +187,7 @@ module _ {fllen sllen : ℕ} {m : Space} {newest : ℕ} {s : State} (v : StandsF
         other g i = (no_link g i 16 refl (omega arith) (omega arith), no_link g i 24 refl (omega arith) (omega arith))
 
     -- the state with the block stands in the memory, and no spare byte has changed
-    pub Places-written : (addr : ℕ) → addr ≡ payload_of f.start align → (t : State) × Places sllen s size align addr t × StandsFor fllen sllen (contents n head) t × KeepsSpare m s n t
+    pub Places-written : (addr : ℕ) → addr ≡ payload_of f.start align → (t : State) × Places sllen s size align addr t × StandsFor fllen sllen (contents n changed) t × KeepsSpare m s n t
     Places-written addr is =
         let fit = fitting in
         let place = free_in_memory v.well_formed f is_free in
@@ -231,7 +231,7 @@ module _ {fllen sllen : ℕ} {m : Space} {newest : ℕ} {s : State} (v : StandsF
         taken = is_bytes ∙ ap (λ w. next_multiple_of (address - block + w) 32) same_wanted ∙ ap₂ (λ p b. next_multiple_of (p - b + size) 32) at (sym start);
       }
 
-module _ {fllen sllen : ℕ} {m : Space} {newest : ℕ} {s : State} {v : StandsFor fllen sllen (contents m newest) s} {f : Range} {size align : ℕ} {power : IsPowerOfTwo align}
+module _ {fllen sllen : ℕ} {m : Space} {table : Table} {s : State} {v : StandsFor fllen sllen (contents m table) s} {f : Range} {size align : ℕ} {power : IsPowerOfTwo align}
     {chosen : choice sllen (request_size size align) s.free ≡ Some f} {block len address bytes : ℕ} (are : AreComputed v f size align power chosen block len address bytes) where
   fit : IsFitting v f size align power chosen
   fit = fitting v f size align power chosen
@@ -252,14 +252,14 @@ module _ {fllen sllen : ℕ} {m : Space} {newest : ℕ} {s : State} {v : StandsF
       (omega (arith, are.start, fits.whole), (omega (arith, are.start, place.0), omega (arith, are.start, place.1)))
 
   -- the block was taken out of the list, and then its size word was written
-  pub record IsSized (n1 n2 : Space) (head : ℕ) : Type 0 where
-    pub opened : IsOpened sllen m n1 s f (range_at block bytes) head
+  pub record IsSized (n1 n2 : Space) (changed : Table) : Type 0 where
+    pub opened : IsOpened fllen sllen m n1 changed s f (range_at block bytes)
     pub sized : IsWrite n1 n2 block (bytes + 1)
 
-  pub IsSized-from : {n1 n2 : Space} {head : ℕ} → IsOpened sllen m n1 s f (range_at block bytes) head → n2.start ≡ n1.start → n2.bytes ≡ with_word n1 block (bytes + 1) → bytes + 1 < 2 ^ 64 → IsSized n1 n2 head
+  pub IsSized-from : {n1 n2 : Space} {changed : Table} → IsOpened fllen sllen m n1 changed s f (range_at block bytes) → n2.start ≡ n1.start → n2.bytes ≡ with_word n1 block (bytes + 1) → bytes + 1 < 2 ^ 64 → IsSized n1 n2 changed
   IsSized-from {n1} opened start written fits = record { opened = opened; sized = write (IsWord-block n1 opened.rewrites.start opened.rewrites.length) start written fits }
 
-  module _ {n1 n2 : Space} {head : ℕ} (is : IsSized n1 n2 head) where
+  module _ {n1 n2 : Space} {changed : Table} (is : IsSized n1 n2 changed) where
     pub SamePlace-sized : SamePlace m n2
     SamePlace-sized =
         let size = rewrites_of is.sized in
@@ -274,9 +274,9 @@ module _ {fllen sllen : ℕ} {m : Space} {newest : ℕ} {s : State} {v : StandsF
         (omega (arith, are.payload, fits.wide wide, fits.after_start), (omega (arith, are.payload, fits.after_start, place.0, same.0), omega (arith, are.payload, fits.after_start, fits.before_end, placed-fits v.well_formed f size align power chosen, place.1, same.0, same.1)))
 
     -- with that word, where it is wanted, the block stands in the memory
-    pub Places-sized : {n : Space} → Writes n2 n (32 ≤ align) (address - 8) block → (t : State) × Places sllen s size align address t × StandsFor fllen sllen (contents n head) t × KeepsSpare m s n t
+    pub Places-sized : {n : Space} → Writes n2 n (32 ≤ align) (address - 8) block → (t : State) × Places sllen s size align address t × StandsFor fllen sllen (contents n changed) t × KeepsSpare m s n t
     Places-sized {n} padded =
-        Places-written v f size align power chosen (subst (λ q. IsOpened sllen m n1 s f q head) (ap₂ (λ b t. range_at b t) (sym are.start) are.taken) is.opened)
+        Places-written v f size align power chosen (subst (λ q. IsOpened fllen sllen m n1 changed s f q) (ap₂ (λ b t. range_at b t) (sym are.start) are.taken) is.opened)
         (subst (λ b. IsWrite n1 n2 b (block_length f.start (payload_of f.start align) size + 1)) (sym are.start) (subst (λ t. IsWrite n1 n2 block (t + 1)) are.taken is.sized))
         (subst (λ b. Writes n2 n (32 ≤ align) (payload_of f.start align - 8) b) (sym are.start) (subst (λ p. Writes n2 n (32 ≤ align) (p - 8) block) are.payload padded))
         address are.payload

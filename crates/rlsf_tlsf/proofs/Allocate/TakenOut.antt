@@ -1,24 +1,25 @@
 -- A free block is taken out of the list, and what is left of it behind its front is put in.
-use Rattle.std.proofs.Common.{◌≡◌, ℕ, ◌+◌, ◌%◌, ◌<◌, ◌≤◌, ◌⊎◌, List, [], ◌∷◌, ◌++◌, cond, arith, inl, inr, sym, ◌∙◌, ap, subst}
+use Rattle.std.proofs.Common.{◌≡◌, ℕ, ◌+◌, ◌-◌, ◌%◌, ◌<◌, ◌≤◌, ◌⊎◌, List, [], ◌∷◌, ◌++◌, cond, arith, inl, inr, sym, ◌∙◌, ap, subst}
 use Rattle.std.proofs.lemmas.Bool.{le-ltb, lt-ltb}
 use Rattle.rlsf_base.specs.declared.memory.range.Range.{Range}
 use Rattle.rlsf_base.specs.Range.{end_of, range_at}
 use Rattle.rlsf_base.specs.SizeClass.{class_of}
 use Rattle.rlsf_base.specs.Space.{Space, word_at}
-use Rattle.rlsf_tlsf.specs.Steps.FreeList.{IsFreeList, IsLink, Rewrites, Touched, at_link, in_hole, at_other}
-use Rattle.rlsf_tlsf.specs.InBand.{Links}
+use Rattle.rlsf_tlsf.specs.Steps.FreeList.{IsLink, Rewrites, Touched, at_link, in_hole, at_other}
+use Rattle.rlsf_tlsf.specs.Steps.FreeTable.{IsFreeTable}
 use Rattle.rlsf_machine.specs.Allocate.{has_class, rest_behind}
 use Rattle.rlsf_machine.specs.Lists.{IsIn, without}
 use Rattle.rlsf_machine.specs.State.{State, between}
 use Rattle.rlsf_machine.specs.WellFormed.{covers, itself}
-use Rattle.rlsf_tlsf.specs.Steps.Rest.{IsLeft, IsOpened, IsRoom, IsTaken}
+use Rattle.rlsf_tlsf.specs.Steps.Rest.{IsInnerRoom, IsLeft, IsOpened, IsTaken}
 use Rattle.rlsf_tlsf.specs.StandsFor.{contents, StandsFor}
+use Rattle.rlsf_tlsf.specs.Table.{Table, HasTable}
 use Rattle.rlsf_tlsf.proofs.Words.Apart.{free_in_memory}
-use Rattle.rlsf_tlsf.proofs.FreeLists.FreeBlocks.{IsFreeList-free}
-use Rattle.rlsf_tlsf.proofs.FreeLists.After.{IsFreeList-removal}
+use Rattle.rlsf_tlsf.proofs.FreeLists.Tables.{IsFreeTable-free, IsFreeTable-removal}
 use Rattle.rlsf_tlsf.proofs.FreeLists.Chains.{find-split}
 use Rattle.rlsf_tlsf.proofs.FreeLists.Writes.{Rewrites-trans, Rewrites-weaken}
 use Rattle.rlsf_machine.proofs.Changes.{IsIn-rest_behind}
+use Rattle.rlsf_machine.proofs.Tiling.{IsValidClass-le}
 use Rattle.rlsf_machine.proofs.Coverage.{inside, before, behind, where_is, covers-inside, coverage-append, coverage-IsIn, find-some, IsIn-append, IsIn-append_left, IsIn-append_right}
 
 -- a part of a range has no address that the range doesn't have
@@ -29,7 +30,7 @@ covers-part r f a from to = elim (where_is r a) [
   | behind none high ↦ omega arith
 ]
 
-module _ {fllen sllen : ℕ} {m : Space} {newest : ℕ} {s : State} {f : Range} {block len taken : ℕ} (v : StandsFor fllen sllen (contents m newest) s) (take : IsTaken sllen s f block len taken) where
+module _ {fllen sllen : ℕ} {m : Space} {table : Table} {s : State} {f : Range} {block len taken : ℕ} (v : StandsFor fllen sllen (contents m table) s) (take : IsTaken sllen s f block len taken) where
   pub is_free : IsIn f s.free
   is_free = (find-some (has_class sllen (class_of sllen f.len)) f s.free take.found).0
 
@@ -43,9 +44,9 @@ module _ {fllen sllen : ℕ} {m : Space} {newest : ℕ} {s : State} {f : Range} 
   pub later : List Range
   later = parts.1
 
-  pub split_list : IsFreeList m newest (ahead ++ (f ∷ later))
+  pub split_list : IsFreeTable fllen sllen m table (ahead ++ (f ∷ later))
   unfolding ahead later
-  split_list = subst (IsFreeList m newest) parts.2 (IsFreeList-free v)
+  split_list = subst (IsFreeTable fllen sllen m table) parts.2 (IsFreeTable-free v)
 
   abbrev pub rest : Range
   rest = between (end_of (range_at block taken)) (end_of f)
@@ -58,7 +59,7 @@ module _ {fllen sllen : ℕ} {m : Space} {newest : ℕ} {s : State} {f : Range} 
       omega (arith, split_list.apart a, coverage-append itself parts.0 (f ∷ parts.1) a, coverage-append itself parts.0 parts.1 a, coverage-IsIn itself g (parts.0 ++ parts.1) a among, covers-inside g a from to, covers-inside f a low high)
 
   -- the block was unlinked
-  module _ {m1 : Space} (others : ℕ) (unlinked : Links m1 0 (ahead ++ later) others × Rewrites m m1 (IsLink (ahead ++ (f ∷ later)))) where
+  module _ {m1 : Space} {others : Table} (unlinked : HasTable fllen sllen m1 others (ahead ++ later) × Rewrites m m1 (IsLink (ahead ++ (f ∷ later)))) where
     unlinked_rewrites : Rewrites m m1 (IsLink s.free)
     unfolding ahead later
     unlinked_rewrites = subst (λ l. Rewrites m m1 (IsLink l)) (sym parts.2) unlinked.1
@@ -71,25 +72,33 @@ module _ {fllen sllen : ℕ} {m : Space} {newest : ℕ} {s : State} {f : Range} 
         no_link (g, i, inl at) = omega (arith, (v.well_formed.free g i).whole.start)
         no_link (g, i, inr at) = omega (arith, (v.well_formed.free g i).whole.start)
 
-    pub IsRoom-rest : taken < len → IsRoom m1 others (ahead ++ later) rest
-    IsRoom-rest short =
+    pub IsInnerRoom-rest : taken < len → IsInnerRoom fllen sllen m1 others (ahead ++ later) rest
+    IsInnerRoom-rest short =
         let is = v.well_formed.free f is_free in
         let place = free_in_memory v.well_formed f is_free in
         let moved = unlinked.1 in
         let start = take.start in
         let long = take.length in
         let granules = take.whole in
-        let list = IsFreeList-removal ahead f later split_list unlinked.0 unlinked.1 in
+        let list = IsFreeTable-removal ahead f later split_list unlinked.0 unlinked.1 in
+        let some : 0 < end_of f - (block + taken) = omega arith in
+        let shorter : end_of f - (block + taken) ≤ f.len = omega arith in
         record {
-          list = list;
-          placed = record { some = omega (arith, take.some); whole = omega (arith, is.whole.start); room = omega (arith, is.whole.start, is.whole.len); lies_in = (omega (arith, moved.start, place.0), omega (arith, moved.start, moved.length, place.1)) };
-          whole = record { start = omega (arith, is.whole.start); len = omega (arith, is.whole.start, is.whole.len) };
-          apart = λ a. omega (arith, split_list.apart a, coverage-append itself ahead (f ∷ later) a, coverage-append itself ahead later a, covers-part (between (end_of (range_at block taken)) (end_of f)) f a (omega arith) (omega arith));
+          room = record {
+            list = list;
+            block = record {
+              whole = record { start = omega (arith, is.whole.start); len = omega (arith, is.whole.start, is.whole.len) };
+              some = some;
+              valid = IsValidClass-le fllen sllen (end_of f - (block + taken)) f.len some shorter is.valid;
+            };
+            placed = record { some = omega (arith, take.some); whole = omega (arith, is.whole.start); room = omega (arith, is.whole.start, is.whole.len); lies_in = (omega (arith, moved.start, place.0), omega (arith, moved.start, moved.length, place.1)) };
+            apart = λ a. omega (arith, split_list.apart a, coverage-append itself ahead (f ∷ later) a, coverage-append itself ahead later a, covers-part (between (end_of (range_at block taken)) (end_of f)) f a (omega arith) (omega arith));
+          };
           not_last = omega (arith, moved.start, moved.length, place.1);
         }
 
     -- nothing is left
-    pub IsOpened-whole : len ≤ taken → IsOpened sllen m m1 s f (range_at block taken) others
+    pub IsOpened-whole : len ≤ taken → IsOpened fllen sllen m m1 others s f (range_at block taken)
     unfolding ahead later
     IsOpened-whole all =
         let is = v.well_formed.free f is_free in
@@ -104,13 +113,13 @@ module _ {fllen sllen : ℕ} {m : Space} {newest : ℕ} {s : State} {f : Range} 
           first = second_word (f.start + 8) (omega (arith, is.whole.start)) (omega (arith, place.0));
           behind = ap (λ a. word_at m1 (a + 8)) end ∙ second_word (end_of f + 8) (omega (arith, is.whole.start, is.whole.len)) (omega (arith, place.0)) ∙ v.previous.free f is_free;
           rest = λ g i. absurd (subst (λ l. IsIn g l) none i);
-          links = subst (λ l. Links m1 0 (l ++ without (has_class sllen (class_of sllen f.len)) s.free) others) (sym none) (subst (λ l. Links m1 0 l others) (sym parts.3) unlinked.0);
+          table = subst (λ l. HasTable fllen sllen m1 others (l ++ without (has_class sllen (class_of sllen f.len)) s.free)) (sym none) (subst (HasTable fllen sllen m1 others) (sym parts.3) unlinked.0);
         }
 
     -- a rest is left
-    pub IsOpened-rest : {n : Space} → taken < len → IsLeft m1 n (ahead ++ later) block rest → IsOpened sllen m n s f (range_at block taken) (block + taken)
+    pub IsOpened-rest : {n : Space} {changed : Table} → taken < len → IsLeft fllen sllen m1 n changed (ahead ++ later) block rest → IsOpened fllen sllen m n changed s f (range_at block taken)
     unfolding ahead later
-    IsOpened-rest {n} short left =
+    IsOpened-rest {n} {changed} short left =
         let is = v.well_formed.free f is_free in
         let place = free_in_memory v.well_formed f is_free in
         let start = take.start in
@@ -123,8 +132,8 @@ module _ {fllen sllen : ℕ} {m : Space} {newest : ℕ} {s : State} {f : Range} 
           first = left.rewrites.words (f.start + 8) (omega (arith, is.whole.start)) (omega (arith, moved.start, place.0)) not_first ∙ second_word (f.start + 8) (omega (arith, is.whole.start)) (omega (arith, place.0));
           behind = left.previous ∙ sym start;
           rest = λ g i. (let same = (IsIn-rest_behind (range_at block taken) (end_of f) g i).0 in subst (λ q. (word_at n q.start ≡ q.len) × (word_at n (end_of q + 8) ≡ q.start)) (sym same) (left.size, left.behind));
-          links = subst (λ l. Links n 0 (l ++ without (has_class sllen (class_of sllen f.len)) s.free) (block + taken)) (sym some)
-              (subst (λ l. Links n 0 (between (end_of (range_at block taken)) (end_of f) ∷ l) (block + taken)) (sym parts.3) left.links);
+          table = subst (λ l. HasTable fllen sllen n changed (l ++ without (has_class sllen (class_of sllen f.len)) s.free)) (sym some)
+              (subst (λ l. HasTable fllen sllen n changed (between (end_of (range_at block taken)) (end_of f) ∷ l)) (sym parts.3) left.table);
         }
       where
         was_free : (g : Range) → IsIn g (parts.0 ++ parts.1) → IsIn g s.free

@@ -6,19 +6,20 @@ use Rattle.rlsf_base.specs.Range.{end_of}
 use Rattle.rlsf_base.specs.SizeClass.{class_of}
 use Rattle.rlsf_base.specs.Space.{Space, bytes_in, range_of, word_at}
 use Rattle.rlsf_tlsf.specs.Steps.FreeList.{Rewrites, Touched}
-use Rattle.rlsf_tlsf.specs.InBand.{Links, sentinel_of}
+use Rattle.rlsf_tlsf.specs.InBand.{sentinel_of}
 use Rattle.rlsf_machine.specs.Allocate.{given, has_class, rest_behind}
 use Rattle.rlsf_machine.specs.Lists.{IsIn, without}
 use Rattle.rlsf_machine.specs.State.{State, Used, usable}
 use Rattle.rlsf_machine.specs.WellFormed.{IsWellFormed}
-use Rattle.rlsf_tlsf.specs.StandsFor.{StandsFor}
+use Rattle.rlsf_tlsf.specs.StandsFor.{contents, StandsFor}
+use Rattle.rlsf_tlsf.specs.Table.{Table, HasTable}
 use Rattle.rlsf_tlsf.proofs.Words.Apart.{Has, used_free, free_free, chunk_chunk, free_last, home_of_free}
 use Rattle.rlsf_tlsf.proofs.Words.Frames.{used_size, used_previous, used_bytes, used_pad, free_size, free_previous, chunk_first, chunk_sentinel}
 use Rattle.rlsf_machine.proofs.Coverage.{IsIn-append, IsIn-without}
 use Rattle.rlsf_machine.proofs.Payloads.{IsUsed-some}
 
--- the words of the used block u at the front of the free block f, of the rest behind it, and of the list without f
-pub record IsCarved (sllen : ℕ) (m n : Space) (s : State) (f : Range) (u : Used) (head : ℕ) : Type 0 where
+-- the words of the used block u at the front of the free block f, of the rest behind it, and of the table without f
+pub record IsCarved (fllen sllen : ℕ) (m n : Space) (table : Table) (s : State) (f : Range) (u : Used) : Type 0 where
   pub rewrites : Rewrites m n (Touched s.free f (end_of f + 8))
   pub size : word_at n f.start ≡ u.block.len + 1
   pub first : word_at n (f.start + 8) ≡ word_at m (f.start + 8)
@@ -26,10 +27,10 @@ pub record IsCarved (sllen : ℕ) (m n : Space) (s : State) (f : Range) (u : Use
   pub rest : (g : Range) → IsIn g (rest_behind u.block (end_of f)) → (word_at n g.start ≡ g.len) × (word_at n (end_of g + 8) ≡ g.start)
   pub pad : 32 ≤ u.align → word_at n (u.payload - 8) ≡ f.start
   pub bytes : bytes_in n (usable u) ≡ u.bytes
-  pub links : Links n 0 (given sllen s f u).free head
+  pub listed : HasTable fllen sllen n table (given sllen s f u).free
 
-module _ {fllen sllen : ℕ} {m n : Space} {head head' : ℕ} {s : State} (old : StandsFor fllen sllen (record { memory = m; first_free = head }) s) (f : Range) (f_free : IsIn f s.free)
-    (u : Used) (front : u.block.start ≡ f.start) (some : 0 < u.block.len) (carved : IsCarved sllen m n s f u head')
+module _ {fllen sllen : ℕ} {m n : Space} {table changed : Table} {s : State} (old : StandsFor fllen sllen (contents m table) s) (f : Range) (f_free : IsIn f s.free)
+    (u : Used) (front : u.block.start ≡ f.start) (some : 0 < u.block.len) (carved : IsCarved fllen sllen m n changed s f u)
     (t_well_formed : IsWellFormed fllen sllen (range_of n) (given sllen s f u)) where
   w : IsWellFormed fllen sllen (range_of m) s
   w = old.well_formed
@@ -130,12 +131,12 @@ module _ {fllen sllen : ℕ} {m n : Space} {head head' : ℕ} {s : State} (old :
   payload_pad v (inl is) = subst (λ x. 32 ≤ x.align → word_at n (x.payload - 8) ≡ x.block.start) (sym is) (λ wide. carved.pad wide ∙ sym front)
   payload_pad v (inr i) = λ wide. used_pad w f hole_start hole_some (end_of f + 8) second (omega arith) (omega arith) carved.rewrites v i (old_apart v i) wide ∙ old.payloads.pad v i wide
 
-  pub StandsFor-carved : StandsFor fllen sllen (record { memory = n; first_free = head' }) (given sllen s f u)
+  pub StandsFor-carved : StandsFor fllen sllen (contents n changed) (given sllen s f u)
   StandsFor-carved = record {
     nonzero = omega (arith, old.nonzero, carved.rewrites.start);
     well_formed = t_well_formed;
     sizes = record { used = sizes_used; free = sizes_free; sentinel = sizes_sentinel };
     previous = record { used = previous_used; free = previous_free; first = previous_first };
     payloads = record { bytes = payload_bytes; pad = payload_pad };
-    links = carved.links;
+    table = carved.listed;
   }

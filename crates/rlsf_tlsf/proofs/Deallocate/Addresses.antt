@@ -3,13 +3,14 @@ use Rattle.std.proofs.Common.{◌≡◌, ℕ, ◌+◌, ◌-◌, ◌^◌, ◌<◌
 use Rattle.rlsf_base.specs.Space.{Space, IsWord, word_at}
 use Rattle.rlsf_base.proofs.Numbers.PowersOfTwo.{IsPowerOfTwo-le}
 use Rattle.rlsf_tlsf.specs.StandsFor.{contents, StandsFor}
+use Rattle.rlsf_tlsf.specs.Table.{Table}
 use Rattle.rlsf_machine.specs.Lists.{IsIn}
 use Rattle.rlsf_machine.specs.State.{State, Used}
 use Rattle.rlsf_machine.proofs.Payloads.{payload_of-le, IsUsed-aligned, IsUsed-after_start}
 use Rattle.rlsf_tlsf.proofs.Words.Apart.{used_in_memory}
 use Rattle.rlsf_tlsf.proofs.Words.Frames.{wide_whole}
 
-module _ {fllen sllen : ℕ} {m : Space} {first : ℕ} {s : State} (v : StandsFor fllen sllen (contents m first) s) (u : Used) (i : IsIn u s.used) {payload align : ℕ} (at : u.payload ≡ payload) (is : u.align ≡ align) where
+module _ {fllen sllen : ℕ} {m : Space} {t : Table} {s : State} (v : StandsFor fllen sllen (contents m t) s) (u : Used) (i : IsIn u s.used) {payload align : ℕ} (at : u.payload ≡ payload) (is : u.align ≡ align) where
   pub narrow_start : align < 32 → u.block.start + 16 ≡ payload
   narrow_start narrow =
       let used = v.well_formed.used u i in

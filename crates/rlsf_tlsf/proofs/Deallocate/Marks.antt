@@ -6,16 +6,18 @@ use Rattle.rlsf_base.specs.Range.{end_of}
 use Rattle.rlsf_base.specs.Space.{Space, word_at}
 use Rattle.rlsf_tlsf.specs.InBand.{sentinel_of}
 use Rattle.rlsf_tlsf.specs.StandsFor.{contents, StandsFor}
-use Rattle.rlsf_tlsf.specs.Steps.FreeList.{IsFreeList, IsLink}
+use Rattle.rlsf_tlsf.specs.Steps.FreeList.{IsLink}
+use Rattle.rlsf_tlsf.specs.Steps.FreeTable.{IsFreeTable}
 use Rattle.rlsf_tlsf.specs.Steps.Join.{Begins, IsMarked, IsOut, IsPreviousOut}
+use Rattle.rlsf_tlsf.specs.Table.{Table}
 use Rattle.rlsf_machine.specs.Join.{ends_at, starts_at, start_or, end_or}
 use Rattle.rlsf_machine.specs.Lists.{IsIn, without}
 use Rattle.rlsf_machine.specs.State.{State, Used}
 use Rattle.rlsf_machine.proofs.Coverage.{IsIn-without, IsIn-without_other, without-none}
 use Rattle.rlsf_machine.proofs.Payloads.{IsUsed-some}
 use Rattle.rlsf_tlsf.proofs.FreeLists.Found.{find-one, find-no, find-start, find-no_start, without-same}
-use Rattle.rlsf_tlsf.proofs.FreeLists.FreeBlocks.{IsFreeList-free}
-use Rattle.rlsf_tlsf.proofs.FreeLists.Writes.{Rewrites-refl}
+use Rattle.rlsf_tlsf.proofs.FreeLists.Counted.{IsFreeTable-counted, Rewrites-counted}
+use Rattle.rlsf_tlsf.proofs.FreeLists.Tables.{IsFreeTable-free}
 use Rattle.rlsf_tlsf.proofs.Machine.Neighbours.{Before, free_before, used_before, none_before, Behind, free_behind, used_behind, last_behind, before_used, behind_used}
 use Rattle.rlsf_tlsf.proofs.Words.Apart.{used_free, free_free, free_last, chunk_chunk, home_of_free, used_in_memory, free_in_memory}
 
@@ -25,7 +27,7 @@ pub data Named (m : Space) (s : State) (b previous : ℕ) : Type 0 where
   names_used : (x : Used) → IsIn x s.used → previous ≡ x.block.start → find (ends_at b) s.free ≡ None → Named m s b previous
   names_none : previous ≡ 0 → find (ends_at b) s.free ≡ None → Named m s b previous
 
-module _ {fllen sllen : ℕ} {m : Space} {newest : ℕ} {s : State} (v : StandsFor fllen sllen (contents m newest) s) where
+module _ {fllen sllen : ℕ} {m : Space} {t : Table} {s : State} (v : StandsFor fllen sllen (contents m t) s) where
   -- where a used block begins, its word is odd, and no free block begins
   used_odd : (x : Used) → IsIn x s.used → word_at m x.block.start % 2 ≡ 1
   used_odd x i = omega (arith, v.sizes.used x i, (v.well_formed.used x i).whole.len)
@@ -89,17 +91,17 @@ module _ {fllen sllen : ℕ} {m : Space} {newest : ℕ} {s : State} (v : StandsF
     some_used x j same none = omega (arith, (used_in_memory v.well_formed x j).0, v.nonzero)
 
     -- no block is before it
-    pub IsPreviousOut-none : previous ≡ 0 → IsPreviousOut m m s.free b newest b
-    IsPreviousOut-none none = go named
+    pub IsPreviousOut-none : (n : Space) → n.start ≡ m.start → n.bytes ≡ m.bytes → previous ≡ 0 → IsPreviousOut fllen sllen m n t s.free b b
+    IsPreviousOut-none n start bytes none = go named
       where
-        missing : find (ends_at b) s.free ≡ None → IsPreviousOut m m s.free b newest b
+        missing : find (ends_at b) s.free ≡ None → IsPreviousOut fllen sllen m n t s.free b b
         missing e = record {
-          rewrites = Rewrites-refl m (IsLink s.free);
-          list = subst (IsFreeList m newest) (sym (without-none (ends_at b) s.free e)) (IsFreeList-free v);
+          rewrites = Rewrites-counted m n start bytes (IsLink s.free);
+          list = subst (IsFreeTable fllen sllen n t) (sym (without-none (ends_at b) s.free e)) (IsFreeTable-counted m n start bytes (IsFreeTable-free v));
           begins = sym (ap (start_or b) e);
         }
 
-        go : Named m s b previous → IsPreviousOut m m s.free b newest b
+        go : Named m s b previous → IsPreviousOut fllen sllen m n t s.free b b
         go (names_free f j end same found) = absurd (some_previous f j same none)
         go (names_used x j same e) = missing e
         go (names_none zero e) = missing e
@@ -127,10 +129,10 @@ module _ {fllen sllen : ℕ} {m : Space} {newest : ℕ} {s : State} (v : StandsF
         go (names_none none e) = absurd (some none)
 
     -- and was taken out, if it is free
-    pub previous_out : {n : Space} {head len : ℕ} → previous ≢ 0 → IsOut m n s.free previous head len → (len ≤ b) × IsPreviousOut m n s.free b head (b - len)
-    previous_out {n} {head} {len} some out = go named
+    pub previous_out : {n : Space} {x : Table} {len : ℕ} → previous ≢ 0 → IsOut fllen sllen m n x s.free previous len → (len ≤ b) × IsPreviousOut fllen sllen m n x s.free b (b - len)
+    previous_out {n} {x} {len} some out = go named
       where
-        missing : (Begins s.free previous → ⊥) → find (ends_at b) s.free ≡ None → (len ≤ b) × IsPreviousOut m n s.free b head (b - len)
+        missing : (Begins s.free previous → ⊥) → find (ends_at b) s.free ≡ None → (len ≤ b) × IsPreviousOut fllen sllen m n x s.free b (b - len)
         missing none e =
             let no_start = find-no_start s.free previous (λ f j same. none (f, j, same)) in
             let left : without (starts_at previous) s.free ≡ without (ends_at b) s.free = without-none (starts_at previous) s.free no_start ∙ sym (without-none (ends_at b) s.free e) in
@@ -138,29 +140,29 @@ module _ {fllen sllen : ℕ} {m : Space} {newest : ℕ} {s : State} (v : StandsF
               omega (arith, end),
               record {
                 rewrites = out.rewrites;
-                list = subst (IsFreeList n head) left out.list;
+                list = subst (IsFreeTable fllen sllen n x) left out.list;
                 begins = omega (arith, end) ∙ sym (ap (start_or b) e);
               },
             )
 
-        go : Named m s b previous → (len ≤ b) × IsPreviousOut m n s.free b head (b - len)
+        go : Named m s b previous → (len ≤ b) × IsPreviousOut fllen sllen m n x s.free b (b - len)
         go (names_free f j end same found) =
-            let start = find-start s.free f previous (IsFreeList-free v).apart (λ g k. (v.well_formed.free g k).some) j (sym same) in
+            let start = find-start s.free f previous (IsFreeTable-free v).apart (λ g k. (v.well_formed.free g k).some) j (sym same) in
             let left = without-same (starts_at previous) (ends_at b) f s.free start found in
             let long : previous + len ≡ end_of f = out.end ∙ ap (end_or previous) start in (
               omega arith,
               record {
                 rewrites = out.rewrites;
-                list = subst (IsFreeList n head) left out.list;
+                list = subst (IsFreeTable fllen sllen n x) left out.list;
                 begins = omega arith ∙ sym (ap (start_or b) found);
               },
             )
-        go (names_used x j same e) = missing (used_begins x j previous (sym same)) e
+        go (names_used y j same e) = missing (used_begins y j previous (sym same)) e
         go (names_none none e) = absurd (some none)
 
   -- ---- the block behind
 
-  module _ (u : Used) (i : IsIn u s.used) {n : Space} {b head start : ℕ} (at : u.block.start ≡ b) (out : IsPreviousOut m n s.free b head start) where
+  module _ (u : Used) (i : IsIn u s.used) {n : Space} {x : Table} {b start : ℕ} (at : u.block.start ≡ b) (out : IsPreviousOut fllen sllen m n x s.free b start) where
     -- a size word is as it was
     kept : (a : ℕ) → a % 32 ≡ 0 → m.start ≤ a → word_at n a ≡ word_at m a
     kept a whole from = out.rewrites.words a (omega arith) from no_link

@@ -1,40 +1,48 @@
--- A block is taken out of the list, if it is free.
+-- A block is taken out of the table, if it is free.
 use Rattle.std.proofs.Common.{◌≡◌, ℕ, ◌%◌, List, ◌∷◌, ◌++◌, arith, sym, ◌∙◌, ap, subst}
 use Rattle.rlsf_base.specs.declared.memory.range.Range.{Range}
 use Rattle.rlsf_base.specs.Space.{Space, word_at}
-use Rattle.rlsf_tlsf.specs.Steps.FreeList.{IsFreeList, IsLink, Rewrites}
+use Rattle.rlsf_tlsf.specs.Steps.FreeList.{IsLink, Rewrites}
+use Rattle.rlsf_tlsf.specs.Steps.FreeTable.{IsFreeTable}
 use Rattle.rlsf_tlsf.specs.Steps.Join.{IsMarked, IsOut}
-use Rattle.rlsf_tlsf.specs.InBand.{Links}
+use Rattle.rlsf_tlsf.specs.Table.{Table, HasTable}
 use Rattle.rlsf_machine.specs.Join.{starts_at, end_or}
+use Rattle.rlsf_machine.specs.Lists.{IsIn}
 use Rattle.rlsf_machine.proofs.Coverage.{without-none}
-use Rattle.rlsf_tlsf.proofs.FreeLists.After.{IsFreeList-removal}
 use Rattle.rlsf_tlsf.proofs.FreeLists.Chains.{find-split}
+use Rattle.rlsf_tlsf.proofs.FreeLists.Counted.{IsFreeTable-counted, Rewrites-counted}
 use Rattle.rlsf_tlsf.proofs.FreeLists.Found.{find-start, find-no_start}
-use Rattle.rlsf_tlsf.proofs.FreeLists.Writes.{Rewrites-refl}
+use Rattle.rlsf_tlsf.proofs.FreeLists.Tables.{IsFreeTable-removal}
 
-module _ {m : Space} {newest block : ℕ} {free : List Range} (list : IsFreeList m newest free) (marked : IsMarked m free block) where
-  -- the free block that begins there was unlinked
-  pub IsOut-unlinked : {n : Space} {head len : ℕ} → len ≡ word_at m block → len % 2 ≡ 0
-      → ((r : Range) (before after : List Range) → r.start ≡ block → IsFreeList m newest (before ++ (r ∷ after)) → Links n 0 (before ++ after) head × Rewrites m n (IsLink (before ++ (r ∷ after))))
-      → IsOut m n free block head len
-  IsOut-unlinked {n} {head} {len} is even unlinked =
+module _ {fllen sllen : ℕ} {m : Space} {t : Table} {block : ℕ} {free : List Range} (list : IsFreeTable fllen sllen m t free) (marked : IsMarked m free block) where
+  -- the free block that begins there
+  pub block_there : {len : ℕ} → len ≡ word_at m block → len % 2 ≡ 0 → (r : Range) × (IsIn r free) × (r.start ≡ block) × (r.len ≡ len)
+  block_there {len} is even =
       let (f, i, at) = marked.mark.0 (ap (λ w. w % 2) (sym is) ∙ even) in
+      (f, i, at, sym (list.sizes f i) ∙ ap (word_at m) at ∙ sym is)
+
+  -- it was unlinked
+  pub IsOut-unlinked : {n : Space} {u : Table} {len : ℕ} → len ≡ word_at m block → len % 2 ≡ 0
+      → ((r : Range) (before after : List Range) → r.start ≡ block → r.len ≡ len → IsFreeTable fllen sllen m t (before ++ (r ∷ after)) → HasTable fllen sllen n u (before ++ after) × Rewrites m n (IsLink (before ++ (r ∷ after))))
+      → IsOut fllen sllen m n u free block len
+  IsOut-unlinked {n} {u} {len} is even unlinked =
+      let (f, i, at, long) = block_there is even in
       let found = find-start free f block list.apart (λ g j. let p = list.placed g j in omega (arith, p.room)) i at in
       let (before, after, parts, left) = find-split (starts_at block) f free found in
-      let whole = subst (IsFreeList m newest) parts list in
-      let (links, rewrites) = unlinked f before after at whole in
+      let whole = subst (IsFreeTable fllen sllen m t) parts list in
+      let (table, rewrites) = unlinked f before after at long whole in
       record {
         rewrites = subst (λ l. Rewrites m n (IsLink l)) (sym parts) rewrites;
-        list = subst (IsFreeList n head) (sym left) (IsFreeList-removal before f after whole links rewrites);
-        end = omega (arith, at, is, ap (word_at m) (sym at) ∙ list.sizes f i) ∙ sym (ap (end_or block) found);
+        list = subst (IsFreeTable fllen sllen n u) (sym left) (IsFreeTable-removal before f after whole table rewrites);
+        end = omega (arith, at, long) ∙ sym (ap (end_or block) found);
       }
 
   -- no free block begins there
-  pub IsOut-none : {size : ℕ} → size ≡ word_at m block → size % 2 ≡ 1 → IsOut m m free block newest 0
-  IsOut-none {size} is odd =
+  pub IsOut-none : (n : Space) → n.start ≡ m.start → n.bytes ≡ m.bytes → {size : ℕ} → size ≡ word_at m block → size % 2 ≡ 1 → IsOut fllen sllen m n t free block 0
+  IsOut-none n start bytes {size} is odd =
       let none = find-no_start free block (λ f i at. omega (arith, ap (λ w. w % 2) is, marked.mark.1 (f, i, at))) in
       record {
-        rewrites = Rewrites-refl m (IsLink free);
-        list = subst (IsFreeList m newest) (sym (without-none (starts_at block) free none)) list;
+        rewrites = Rewrites-counted m n start bytes (IsLink free);
+        list = subst (IsFreeTable fllen sllen n t) (sym (without-none (starts_at block) free none)) (IsFreeTable-counted m n start bytes list);
         end = omega arith ∙ sym (ap (end_or block) none);
       }

@@ -8,7 +8,8 @@ use Rattle.rlsf_tlsf.specs.Spare.{KeepsSpare}
 use Rattle.rlsf_tlsf.specs.StandsFor.{contents, StandsFor}
 use Rattle.rlsf_tlsf.specs.Steps.FreeList.{IsLink, Rewrites, Touched, at_link, in_hole, at_other}
 use Rattle.rlsf_tlsf.specs.Steps.Join.{IsOut, IsPreviousOut, IsPut, union, untouched}
-use Rattle.rlsf_tlsf.specs.Steps.Rest.{IsRoom}
+use Rattle.rlsf_tlsf.specs.Steps.Rest.{IsInnerRoom}
+use Rattle.rlsf_tlsf.specs.Table.{Table}
 use Rattle.rlsf_machine.specs.Join.{ends_at, starts_at, join}
 use Rattle.rlsf_machine.specs.Lists.{IsIn, without}
 use Rattle.rlsf_machine.specs.Release.{released}
@@ -23,7 +24,7 @@ use Rattle.rlsf_tlsf.proofs.FreeLists.Writes.{Rewrites-trans, Rewrites-weaken}
 use Rattle.rlsf_tlsf.proofs.Words.Apart.{used_free, free_in_memory, home_of_free}
 use Rattle.rlsf_tlsf.proofs.Words.Refilled.{old_used, IsFreeStill, old_free, new_free, IsRefilled, StandsFor-refilled, KeepsSpare-refilled}
 
-module _ {fllen sllen : ℕ} {m : Space} {newest : ℕ} {s : State} (v : StandsFor fllen sllen (contents m newest) s) (u : Used) (i : IsIn u s.used) where
+module _ {fllen sllen : ℕ} {m : Space} {t : Table} {s : State} (v : StandsFor fllen sllen (contents m t) s) (u : Used) (i : IsIn u s.used) where
   -- the state without the block
   t_well_formed : IsWellFormed fllen sllen (range_of m) (released s u)
   t_well_formed = IsWellFormed-released v.well_formed u i
@@ -39,17 +40,17 @@ module _ {fllen sllen : ℕ} {m : Space} {newest : ℕ} {s : State} (v : StandsF
   end_computed {block} {word} at is = omega (arith, at, is ∙ ap (word_at m) (sym at) ∙ v.sizes.used u i)
 
   -- what was taken out, at the block's own start and end
-  pub before_at : {m1 : Space} {block head start : ℕ} → u.block.start ≡ block → IsPreviousOut m m1 s.free block head start → IsPreviousOut m m1 s.free u.block.start head start
-  before_at {m1} {block} {head} {start} at out = subst (λ b. IsPreviousOut m m1 s.free b head start) (sym at) out
+  pub before_at : {m1 : Space} {x : Table} {block start : ℕ} → u.block.start ≡ block → IsPreviousOut fllen sllen m m1 x s.free block start → IsPreviousOut fllen sllen m m1 x s.free u.block.start start
+  before_at {m1} {x} {block} {start} at out = subst (λ b. IsPreviousOut fllen sllen m m1 x s.free b start) (sym at) out
 
-  pub behind_at : {m1 m2 : Space} {block end head next : ℕ} → u.block.start ≡ block → end_of u.block ≡ end → IsOut m1 m2 (without (ends_at block) s.free) end head next
-      → IsOut m1 m2 (without (ends_at u.block.start) s.free) (end_of u.block) head next
-  behind_at {m1} {m2} {block} {end} {head} {next} at is out =
-      subst (λ b. IsOut m1 m2 (without (ends_at b) s.free) (end_of u.block) head next) (sym at) (subst (λ e. IsOut m1 m2 (without (ends_at block) s.free) e head next) (sym is) out)
+  pub behind_at : {m1 m2 : Space} {x : Table} {block end next : ℕ} → u.block.start ≡ block → end_of u.block ≡ end → IsOut fllen sllen m1 m2 x (without (ends_at block) s.free) end next
+      → IsOut fllen sllen m1 m2 x (without (ends_at u.block.start) s.free) (end_of u.block) next
+  behind_at {m1} {m2} {x} {block} {end} {next} at is out =
+      subst (λ b. IsOut fllen sllen m1 m2 x (without (ends_at b) s.free) (end_of u.block) next) (sym at) (subst (λ e. IsOut fllen sllen m1 m2 x (without (ends_at block) s.free) e next) (sym is) out)
 
   -- the free blocks before it and behind it were taken out
-  module _ {m1 m2 : Space} {head1 start head2 next : ℕ} (before : IsPreviousOut m m1 s.free u.block.start head1 start)
-      (behind : IsOut m1 m2 (without (ends_at u.block.start) s.free) (end_of u.block) head2 next) where
+  module _ {m1 m2 : Space} {t1 t2 : Table} {start next : ℕ} (before : IsPreviousOut fllen sllen m m1 t1 s.free u.block.start start)
+      (behind : IsOut fllen sllen m1 m2 t2 (without (ends_at u.block.start) s.free) (end_of u.block) next) where
     pub union_start : (union u.block s.free).start ≡ start
     union_start = sym before.begins
 
@@ -70,39 +71,41 @@ module _ {fllen sllen : ℕ} {m : Space} {newest : ℕ} {s : State} (v : StandsF
         among a (inl l) = l
         among a (inr (f, j, at)) = (f, IsIn-without (ends_at u.block.start) f s.free j, at)
 
-    pub IsRoom-union : IsRoom m2 head2 (untouched u.block s.free) (union u.block s.free)
-    IsRoom-union =
+    pub IsInnerRoom-union : IsInnerRoom fllen sllen m2 t2 (untouched u.block s.free) (union u.block s.free)
+    IsInnerRoom-union =
         let is = is_free in
         let place = free_in_memory t_well_formed (union u.block s.free) (inl refl) in
         let moved = gone in
         record {
-          list = behind.list;
-          placed = record {
-            some = omega (arith, v.nonzero, place.0);
-            whole = is.whole.start;
-            room = omega (arith, is.some, is.whole.len);
-            lies_in = (omega (arith, place.0, moved.start), omega (arith, place.1, moved.start, moved.length));
+          room = record {
+            list = behind.list;
+            block = is;
+            placed = record {
+              some = omega (arith, v.nonzero, place.0);
+              whole = is.whole.start;
+              room = omega (arith, is.some, is.whole.len);
+              lies_in = (omega (arith, place.0, moved.start), omega (arith, place.1, moved.start, moved.length));
+            };
+            apart = λ a. free-le (released s u) (tiling_of t_well_formed) a;
           };
-          whole = is.whole;
-          apart = λ a. free-le (released s u) (tiling_of t_well_formed) a;
           not_last = omega (arith, place.1, moved.start, moved.length);
         }
 
     -- and their union with it was put in front
-    module _ {n : Space} (put : IsPut m2 n (untouched u.block s.free) (union u.block s.free)) where
+    module _ {n : Space} {x : Table} (put : IsPut fllen sllen m2 n x (untouched u.block s.free) (union u.block s.free)) where
       was_free : (f : Range) → IsIn f (untouched u.block s.free) → IsIn f s.free
       was_free f j = IsIn-without (ends_at u.block.start) f s.free (IsIn-without (starts_at (end_of u.block)) f (without (ends_at u.block.start) s.free) j)
 
-      pub IsRefilled-released : IsRefilled m n s (others u.payload s.used) (join u.block s.free) (union u.block s.free) (union u.block s.free).start
+      pub IsRefilled-released : IsRefilled fllen sllen m n x s (others u.payload s.used) (join u.block s.free) (union u.block s.free)
       IsRefilled-released =
           let is = is_free in
           let place = free_in_memory t_well_formed (union u.block s.free) (inl refl) in
           record {
             rewrites = Rewrites-weaken joined (Rewrites-trans gone put.rewrites);
             first = put.first ∙ gone.words ((union u.block s.free).start + 8) (omega (arith, is.whole.start)) (omega (arith, place.0)) no_link;
-            used_still = λ x j. old_used (IsIn-others u.payload x s.used j).0 (λ a hx hu. used_free t_well_formed x (union u.block s.free) a j (inl refl) hx hu);
+            used_still = λ y j. old_used (IsIn-others u.payload y s.used j).0 (λ a hy hu. used_free t_well_formed y (union u.block s.free) a j (inl refl) hy hu);
             free_still = still;
-            links = put.links;
+            table = put.table;
           }
         where
           joined : (a : ℕ) → IsLink s.free a ⊎ Touched (untouched u.block s.free) (union u.block s.free) (end_of (union u.block s.free) + 8) a → Touched s.free (union u.block s.free) (end_of (union u.block s.free) + 8) a
@@ -121,12 +124,12 @@ module _ {fllen sllen : ℕ} {m : Space} {newest : ℕ} {s : State} (v : StandsF
               old_free (was_free f j)
               (λ a hf hu. omega (arith, free-le (released s u) (tiling_of t_well_formed) a, covers-inside (union u.block s.free) a hu.from hu.to, covers-inside f a hf.from hf.to, coverage-IsIn itself f (untouched u.block s.free) a j))
 
-      pub released_stands : StandsFor fllen sllen (contents n start) (released s u) × KeepsSpare m s n (released s u)
+      pub released_stands : StandsFor fllen sllen (contents n x) (released s u) × KeepsSpare m s n (released s u)
       released_stands =
           let is = is_free in
           let refilled = IsRefilled-released in
           let same : range_of n ≡ range_of m = ap₂ (λ a l. record { start = a; len = l }) refilled.rewrites.start refilled.rewrites.length in
           let well_formed = subst (λ p. IsWellFormed fllen sllen p (released s u)) (sym same) t_well_formed in (
-            subst (λ a. StandsFor fllen sllen (contents n a) (released s u)) union_start (StandsFor-refilled v (union u.block s.free) is.whole is.some home refilled well_formed),
+            StandsFor-refilled v (union u.block s.free) is.whole is.some home refilled well_formed,
             KeepsSpare-refilled v (union u.block s.free) is.whole is.some home refilled,
           )

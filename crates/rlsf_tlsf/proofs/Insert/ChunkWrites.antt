@@ -2,18 +2,19 @@
 use Rattle.std.proofs.Common.{◌≡◌, ℕ, ◌+◌, ◌-◌, ◌%◌, ◌^◌, ◌<◌, ◌≤◌, ◌⊎◌, ◌∷◌, length, arith, inl, inr, ◌∙◌, ap, subst}
 use Rattle.rlsf_base.specs.declared.memory.range.Range.{Range}
 use Rattle.rlsf_base.specs.Space.{Space, word_at, with_word}
-use Rattle.rlsf_tlsf.specs.Steps.FreeList.{IsFreeList, IsLink, IsPlaced, Rewrites, Touched, at_link, in_hole}
-use Rattle.rlsf_tlsf.specs.InBand.{Links, sentinel_of}
+use Rattle.rlsf_tlsf.specs.Steps.FreeList.{IsLink, IsPlaced, Rewrites, Touched, at_link, in_hole}
+use Rattle.rlsf_tlsf.specs.Steps.FreeTable.{IsFreeTable, IsRoom}
+use Rattle.rlsf_tlsf.specs.InBand.{sentinel_of}
 use Rattle.rlsf_machine.specs.Insert.{body}
 use Rattle.rlsf_machine.specs.Lists.{IsIn}
 use Rattle.rlsf_machine.specs.State.{State}
 use Rattle.rlsf_machine.specs.WellFormed.{coverage, itself}
 use Rattle.rlsf_tlsf.specs.Steps.Pool.{IsAdded, IsNewChunk, opened}
 use Rattle.rlsf_tlsf.specs.StandsFor.{contents, StandsFor}
+use Rattle.rlsf_tlsf.specs.Table.{Table, HasTable}
 use Rattle.rlsf_tlsf.proofs.Words.Apart.{Has}
 use Rattle.rlsf_tlsf.proofs.Words.Frames.{free_size}
-use Rattle.rlsf_tlsf.proofs.FreeLists.FreeBlocks.{IsFreeList-free}
-use Rattle.rlsf_tlsf.proofs.FreeLists.Chains.{Links-Rewrites}
+use Rattle.rlsf_tlsf.proofs.FreeLists.Tables.{HasTable-Rewrites, IsFreeTable-free}
 use Rattle.rlsf_tlsf.proofs.Words.Writing.{IsWrite, write, rewrites_of, reads_of}
 use Rattle.rlsf_tlsf.proofs.FreeLists.Writes.{before_links, Rewrites-word, Rewrites-trans, Rewrites-weaken, IsPlaced-Rewrites}
 use Rattle.rlsf_machine.proofs.Coverage.{inside, before, behind, where_is, covers-inside, coverage-IsIn}
@@ -26,10 +27,10 @@ pub record AreWrites (m m1 m2 m3 m4 : Space) (c : Range) : Type 0 where
   pub three : IsWrite m2 m3 (sentinel_of c) 35
   pub four : IsWrite m3 m4 (sentinel_of c + 8) c.start
 
-pub AreWrites-from : {m m1 m2 m3 m4 : Space} {s : State} (c : Range) (len sentinel : ℕ) → IsNewChunk m s c → m.start + length m.bytes < 2 ^ 64 → len ≡ c.len - 32 → sentinel ≡ c.start + len
+pub AreWrites-from : {fllen sllen : ℕ} {m m1 m2 m3 m4 : Space} {s : State} (c : Range) (len sentinel : ℕ) → IsNewChunk fllen sllen m s c → m.start + length m.bytes < 2 ^ 64 → len ≡ c.len - 32 → sentinel ≡ c.start + len
     → (m1.start ≡ m.start) × (m1.bytes ≡ with_word m c.start len) → (m2.start ≡ m1.start) × (m2.bytes ≡ with_word m1 (c.start + 8) 0)
     → (m3.start ≡ m2.start) × (m3.bytes ≡ with_word m2 sentinel 35) → (m4.start ≡ m3.start) × (m4.bytes ≡ with_word m3 (sentinel + 8) c.start) → AreWrites m m1 m2 m3 m4 c
-AreWrites-from {m} {m1} {m2} {m3} {m4} c len sentinel new addressable len_is sentinel_is e1 e2 e3 e4 =
+AreWrites-from {m = m} {m1 = m1} {m2 = m2} {m3 = m3} {m4 = m4} c len sentinel new addressable len_is sentinel_is e1 e2 e3 e4 =
     let whole = new.whole in
     let room = new.room in
     let inside = new.lies_in in
@@ -48,7 +49,7 @@ AreWrites-from {m} {m1} {m2} {m3} {m4} c len sentinel new addressable len_is sen
       four = subst (λ a. IsWrite m3 m4 (a + 8) c.start) place w4;
     }
 
-module _ {fllen sllen : ℕ} {m m1 m2 m3 m4 : Space} {newest : ℕ} {s : State} (v : StandsFor fllen sllen (contents m newest) s) (c : Range) (new : IsNewChunk m s c) (writes : AreWrites m m1 m2 m3 m4 c) where
+module _ {fllen sllen : ℕ} {m m1 m2 m3 m4 : Space} {table : Table} {s : State} (v : StandsFor fllen sllen (contents m table) s) (c : Range) (new : IsNewChunk fllen sllen m s c) (writes : AreWrites m m1 m2 m3 m4 c) where
   -- each of the four words stands in the chunk
   rewrites : Rewrites m m4 (Touched s.free (opened c) (c.start + 8))
   rewrites =
@@ -70,12 +71,13 @@ module _ {fllen sllen : ℕ} {m m1 m2 m3 m4 : Space} {newest : ℕ} {s : State} 
       go a (inl (inr at)) = inl (omega (arith, new.whole.start, new.whole.len))
       go a (inr at) = inr (omega (arith, new.whole.start, new.whole.len))
 
-  -- the list of free blocks stands as it did
-  pub free_list : IsFreeList m4 newest s.free
-  free_list =
-      let list = IsFreeList-free v in
+  -- the table of free blocks stands as it did
+  free_table : IsFreeTable fllen sllen m4 table s.free
+  free_table =
+      let list = IsFreeTable-free v in
       record {
-        links = Links-Rewrites 0 s.free newest sized list.placed (λ f i. (third f i, fourth f i)) list.links;
+        table = HasTable-Rewrites sized list.placed (λ f i. (third f i, fourth f i)) list.table;
+        blocks = list.blocks;
         placed = λ f i. IsPlaced-Rewrites sized (list.placed f i);
         apart = list.apart;
         sizes = λ f i. free_size v.well_formed (opened c) new.whole.start (omega (arith, new.room)) (c.start + 8) (omega (arith, new.whole.start)) (omega arith) (omega (arith, new.room)) rewrites f i (unmet f i) ∙ list.sizes f i;
@@ -93,18 +95,22 @@ module _ {fllen sllen : ℕ} {m m1 m2 m3 m4 : Space} {newest : ℕ} {s : State} 
       unmet : (f : Range) → IsIn f s.free → (a : ℕ) → Has f a → Has (opened c) a → ⊥
       unmet f i a hf hc = omega (arith, new.fresh a hc.from (omega (arith, hc.to)), v.well_formed.tiled a, coverage-IsIn itself f s.free a i, covers-inside f a hf.from hf.to)
 
-  pub placed_body : IsPlaced m4 (body c)
+  placed_body : IsPlaced m4 (body c)
   placed_body = record { some = new.some; whole = new.whole.start; room = omega (arith, new.room); lies_in = (omega (arith, new.lies_in, sized.start), omega (arith, new.lies_in, new.room, sized.start, sized.length)) }
 
-  pub apart_body : (a : ℕ) → coverage itself (body c ∷ s.free) a ≤ 1
+  apart_body : (a : ℕ) → coverage itself (body c ∷ s.free) a ≤ 1
   apart_body a = elim (where_is (body c) a) [
     | inside one low high ↦ omega (arith, new.fresh a low (omega arith), v.well_formed.tiled a)
     | before none low ↦ omega (arith, free-le s (tiling_of v.well_formed) a)
     | behind none high ↦ omega (arith, free-le s (tiling_of v.well_formed) a)
   ]
 
+  -- the new block has room beside them
+  pub IsRoom-body : IsRoom fllen sllen m4 table s.free (body c)
+  IsRoom-body = record { list = free_table; block = new.block; placed = placed_body; apart = apart_body }
+
   -- and once the block is linked, the chunk is there
-  module _ {n : Space} (linked : Links n 0 (body c ∷ s.free) c.start × Rewrites m4 n (IsLink (body c ∷ s.free))) where
+  module _ {n : Space} {changed : Table} (linked : HasTable fllen sllen n changed (body c ∷ s.free) × Rewrites m4 n (IsLink (body c ∷ s.free))) where
     -- a word that is no link is as the four writes left it
     kept : (a : ℕ) → (a % 32 ≡ 0) ⊎ (a % 32 ≡ 8) → c.start ≤ a → word_at n a ≡ word_at m4 a
     kept a place from = before_links (body c ∷ s.free) start linked.1 a place (omega (arith, new.lies_in, sized.start))
@@ -113,7 +119,7 @@ module _ {fllen sllen : ℕ} {m m1 m2 m3 m4 : Space} {newest : ℕ} {s : State} 
         start f (inl is) = omega (arith, new.whole.start, ap (λ r. r.start) is)
         start f (inr i) = (v.well_formed.free f i).whole.start
 
-    pub IsAdded-written : IsAdded m n s.free c
+    pub IsAdded-written : IsAdded fllen sllen m n changed s.free c
     IsAdded-written =
         let whole = new.whole in
         let room = new.room in
@@ -130,7 +136,7 @@ module _ {fllen sllen : ℕ} {m m1 m2 m3 m4 : Space} {newest : ℕ} {s : State} 
           first = kept (c.start + 8) (inr (omega (arith, whole.start))) (omega arith) ∙ r24.words (c.start + 8) (omega (arith, whole.start)) (omega (arith, inside2)) first_apart ∙ reads_of writes.two;
           sentinel = kept (sentinel_of c) (inl granule) (omega arith) ∙ r34.words (sentinel_of c) (omega arith) (omega arith) (λ e. omega arith) ∙ reads_of writes.three;
           previous = kept (sentinel_of c + 8) (inr (omega arith)) (omega arith) ∙ reads_of writes.four;
-          links = linked.0;
+          table = linked.0;
         }
       where
         joined : (a : ℕ) → Touched s.free (opened c) (c.start + 8) a ⊎ IsLink (body c ∷ s.free) a → Touched s.free (opened c) (c.start + 8) a

@@ -9,13 +9,14 @@ use Rattle.rlsf_machine.specs.Insert.{body}
 use Rattle.rlsf_machine.specs.Lists.{IsIn}
 use Rattle.rlsf_machine.specs.State.{State, Used, usable}
 use Rattle.rlsf_machine.specs.WellFormed.{coverage, itself, IsWhole, IsWellFormed}
-use Rattle.rlsf_tlsf.specs.StandsFor.{StandsFor}
+use Rattle.rlsf_tlsf.specs.StandsFor.{contents, StandsFor}
+use Rattle.rlsf_tlsf.specs.Table.{Table}
 use Rattle.rlsf_tlsf.proofs.Words.Apart.{Has, home_of_free, home_of_used}
 use Rattle.rlsf_tlsf.proofs.Words.Frames.{used_size, used_previous, used_bytes, used_pad, free_size, free_previous, chunk_first, chunk_sentinel}
 use Rattle.rlsf_machine.proofs.Coverage.{covers-inside, coverage-IsIn}
 
-module _ {fllen sllen : ℕ} {m n : Space} {head : ℕ} {s : State} (old : StandsFor fllen sllen (record { memory = m; first_free = head }) s) (c : Range) (whole : IsWhole c) (room : 64 ≤ c.len)
-    (fresh : (a : ℕ) → Has c a → coverage itself s.chunks a ≡ 0) (added : IsAdded m n s.free c) where
+module _ {fllen sllen : ℕ} {m n : Space} {table changed : Table} {s : State} (old : StandsFor fllen sllen (contents m table) s) (c : Range) (whole : IsWhole c) (room : 64 ≤ c.len)
+    (fresh : (a : ℕ) → Has c a → coverage itself s.chunks a ≡ 0) (added : IsAdded fllen sllen m n changed s.free c) where
   w : IsWellFormed fllen sllen (range_of m) s
   w = old.well_formed
 
@@ -47,14 +48,14 @@ module _ {fllen sllen : ℕ} {m n : Space} {head : ℕ} {s : State} (old : Stand
     t : State
     t = record { chunks = cs; used = s.used; free = body c ∷ s.free }
 
-    pub StandsFor-added : StandsFor fllen sllen (record { memory = n; first_free = c.start }) (record { chunks = cs; used = s.used; free = body c ∷ s.free })
+    pub StandsFor-added : StandsFor fllen sllen (contents n changed) (record { chunks = cs; used = s.used; free = body c ∷ s.free })
     StandsFor-added = record {
       nonzero = omega (arith, old.nonzero, added.rewrites.start);
       well_formed = t_well_formed;
       sizes = record { used = sizes_used; free = sizes_free; sentinel = sizes_sentinel };
       previous = record { used = previous_used; free = previous_free; first = previous_first };
       payloads = record { bytes = payload_bytes; pad = payload_pad };
-      links = added.links;
+      table = added.table;
     }
       where
         some : 0 < c.len - 16

@@ -1,5 +1,5 @@
 -- The chunks of an inserted range are made one after another.
-use Rattle.std.proofs.Common.{◌≡◌, ◌≢◌, ℕ, ◌+◌, ◌-◌, ◌<◌, ◌≤◌, ◌⊎◌, List, [], ◌∷◌, drop, get_or, Option, Some, None, arith, inl, inr, refl, sym, ◌∙◌, ap, subst}
+use Rattle.std.proofs.Common.{◌≡◌, ◌≢◌, ℕ, suc, ◌+◌, ◌-◌, ◌<◌, ◌≤◌, ◌⊎◌, List, [], ◌∷◌, ◌*◌, length, drop, get_or, Option, Some, None, arith, inl, inr, refl, sym, ◌∙◌, ap, subst}
 use mathlib.Core.Path.{ap₂}
 use Rattle.std.proofs.lemmas.Bool.{cases_lt}
 use Rattle.std.proofs.lemmas.List.{get_or-drop, get_or-take}
@@ -8,14 +8,15 @@ use Rattle.rlsf_base.specs.Range.{end_of, range_at}
 use Rattle.rlsf_base.specs.Sizes.{max_pool_size}
 use Rattle.rlsf_base.specs.Space.{Space, byte_at, bytes_in, range_of}
 use Rattle.rlsf_tlsf.specs.Steps.FreeList.{Rewrites, Touched, at_link, in_hole, at_other}
-use Rattle.rlsf_machine.specs.Insert.{aligned_part, bytes_taken, cut, end_of_last, Inserts, IsFresh, with_chunk, with_chunks}
+use Rattle.rlsf_machine.specs.Insert.{aligned_part, body, bytes_taken, cut, end_of_last, Inserts, IsFresh, with_chunk, with_chunks}
 use Rattle.rlsf_machine.specs.Laws.{first_length}
 use Rattle.rlsf_machine.specs.Lists.{IsIn}
 use Rattle.rlsf_machine.specs.State.{State}
-use Rattle.rlsf_machine.specs.WellFormed.{IsWellFormed}
+use Rattle.rlsf_machine.specs.WellFormed.{IsChunk, IsFree, IsWellFormed}
 use Rattle.rlsf_tlsf.specs.Steps.Pool.{IsAdded, IsNewChunk, opened}
 use Rattle.rlsf_tlsf.specs.Spare.{IsSpare, KeepsSpare}
 use Rattle.rlsf_tlsf.specs.StandsFor.{contents, StandsFor}
+use Rattle.rlsf_tlsf.specs.Table.{Table}
 use Rattle.rlsf_tlsf.proofs.Insert.NewChunks.{StandsFor-added}
 use Rattle.rlsf_tlsf.proofs.Words.Apart.{Has, home_of_free}
 use Rattle.rlsf_machine.proofs.Coverage.{covers-inside}
@@ -59,6 +60,10 @@ KeepsSpare-Touched {m = m} {n = n} {s = s} w t hole other rewrites no_hole no_ot
 
 -- ---- the state of the loop
 
+-- all but the last 32 bytes of a chunk can be free
+IsFree-body : {fllen sllen : ℕ} {memory : Range} (c : Range) → IsChunk fllen sllen memory c → IsFree fllen sllen (body c)
+IsFree-body c chunk = let room = chunk.has_room in record { whole = record { start = chunk.whole.start; len = omega (arith, chunk.whole.len) }; some = omega arith; valid = chunk.valid }
+
 first_length-le : (o : Option ℕ) (left : ℕ) → first_length o left ≤ left
 first_length-le None left = omega arith
 first_length-le (Some most) left = omega arith
@@ -69,20 +74,22 @@ pub data Answers (r : Range) (all left : List Range) (start : ℕ) : Type 0 wher
   some_chunk : (aligned_part r).start < start → bytes_taken r.start all ≡ Some (end_of_last start left - r.start) → Answers r all left start
 
 -- the chunks of the range r of the memory m0 are made up to `start`, and so much is left
-pub record IsFilled (fllen sllen : ℕ) (m0 : Space) (s : State) (r : Range) (m : Space) (newest start left : ℕ) : Type 0 where
+pub record IsFilled (fllen sllen : ℕ) (m0 : Space) (s : State) (r : Range) (m : Space) (table : Table) (start left : ℕ) : Type 0 where
   pub now : State
   pub parts : with_chunks (cut (max_pool_size fllen) (range_at start left)) now ≡ with_chunks (cut (max_pool_size fllen) (aligned_part r)) s
   pub new : AreNew fllen sllen (range_of m) now (cut (max_pool_size fllen) (range_at start left))
   pub answer : Answers r (cut (max_pool_size fllen) (aligned_part r)) (cut (max_pool_size fllen) (range_at start left)) start
-  pub stands : StandsFor fllen sllen (contents m newest) now
+  pub stands : StandsFor fllen sllen (contents m table) now
   pub spare : KeepsSpare m0 s m now
   pub place : range_of m ≡ range_of m0
   pub untouched : start ≡ (aligned_part r).start → m.bytes ≡ m0.bytes
+  pub touches : m.touches + 13 * length (cut (max_pool_size fllen) (range_at start left)) ≤ m0.touches + 13 * length (cut (max_pool_size fllen) (aligned_part r))
+  pub copied : m.copied ≡ m0.copied
   pub from : (aligned_part r).start ≤ start
   pub to : start + left ≤ end_of r
 
-module _ {fllen sllen : ℕ} {m0 : Space} {newest0 : ℕ} {s : State} (v : StandsFor fllen sllen (contents m0 newest0) s) (r : Range) (fresh : IsFresh (range_of m0) s r) where
-  pub IsFilled-init : (start left : ℕ) → start ≡ (aligned_part r).start → left ≡ (aligned_part r).len → start ≤ end_of r → IsFilled fllen sllen m0 s r m0 newest0 start left
+module _ {fllen sllen : ℕ} {m0 : Space} {table0 : Table} {s : State} (v : StandsFor fllen sllen (contents m0 table0) s) (r : Range) (fresh : IsFresh (range_of m0) s r) where
+  pub IsFilled-init : (start left : ℕ) → start ≡ (aligned_part r).start → left ≡ (aligned_part r).len → start ≤ end_of r → IsFilled fllen sllen m0 s r m0 table0 start left
   IsFilled-init start left begin whole inside =
       let same : cut (max_pool_size fllen) (range_at start left) ≡ cut (max_pool_size fllen) (aligned_part r) = ap₂ (λ a n. cut (max_pool_size fllen) (range_at a n)) begin whole in
       record {
@@ -94,11 +101,13 @@ module _ {fllen sllen : ℕ} {m0 : Space} {newest0 : ℕ} {s : State} (v : Stand
         spare = λ a from to spare_s spare_t. refl;
         place = refl;
         untouched = λ at. refl;
+        touches = (let count = ap length same in omega arith);
+        copied = refl;
         from = omega arith;
         to = omega arith;
       }
 
-  module _ {m : Space} {newest start left : ℕ} (filled : IsFilled fllen sllen m0 s r m newest start left) (long : 64 ≤ left) where
+  module _ {m : Space} {table : Table} {start left : ℕ} (filled : IsFilled fllen sllen m0 s r m table start left) (long : 64 ≤ left) where
     -- what is left begins with the longest chunk that may be
     more : cut (max_pool_size fllen) (range_at start left) ≡ range_at start (first_length (max_pool_size fllen) left)
         ∷ cut (max_pool_size fllen) (range_at (start + first_length (max_pool_size fllen) left) (left - first_length (max_pool_size fllen) left))
@@ -109,7 +118,7 @@ module _ {fllen sllen : ℕ} {m0 : Space} {newest0 : ℕ} {s : State} (v : Stand
         ∷ cut (max_pool_size fllen) (range_at (start + first_length (max_pool_size fllen) left) (left - first_length (max_pool_size fllen) left)))
     new = subst (AreNew fllen sllen (range_of m) filled.now) more filled.new
 
-    pub IsNewChunk-next : IsNewChunk m filled.now (range_at start (first_length (max_pool_size fllen) left))
+    pub IsNewChunk-next : IsNewChunk fllen sllen m filled.now (range_at start (first_length (max_pool_size fllen) left))
     IsNewChunk-next =
         let c = range_at start (first_length (max_pool_size fllen) left) in
         let chunk = new.chunk c (inl refl) in
@@ -119,11 +128,12 @@ module _ {fllen sllen : ℕ} {m0 : Space} {newest0 : ℕ} {s : State} (v : Stand
           some = omega (arith, chunk.lies_in.0, filled.stands.nonzero);
           lies_in = chunk.lies_in;
           fresh = λ a low high. omega (arith, new.apart a, covers-inside c a low high);
+          block = IsFree-body c chunk;
         }
 
-    pub IsFilled-next : (n : Space) → IsAdded m n filled.now.free (range_at start (first_length (max_pool_size fllen) left))
-        → IsFilled fllen sllen m0 s r n start (start + first_length (max_pool_size fllen) left) (left - first_length (max_pool_size fllen) left)
-    IsFilled-next n added =
+    pub IsFilled-next : (n : Space) (changed : Table) → IsAdded fllen sllen m n changed filled.now.free (range_at start (first_length (max_pool_size fllen) left)) → n.touches ≤ m.touches + 13 → n.copied ≡ m.copied
+        → IsFilled fllen sllen m0 s r n changed (start + first_length (max_pool_size fllen) left) (left - first_length (max_pool_size fllen) left)
+    IsFilled-next n changed added touches copied =
         let c = range_at start (first_length (max_pool_size fllen) left) in
         let rest = cut (max_pool_size fllen) (range_at (start + first_length (max_pool_size fllen) left) (left - first_length (max_pool_size fllen) left)) in
         let chunk = new.chunk c (inl refl) in
@@ -143,6 +153,8 @@ module _ {fllen sllen : ℕ} {m0 : Space} {newest0 : ℕ} {s : State} (v : Stand
               KeepsSpare-Touched filled.stands.well_formed (with_chunk c filled.now) (opened c) (c.start + 8) added.rewrites no_hole no_other a (omega (arith, from, ap (λ p. p.start) filled.place)) (omega (arith, to, ap (λ p. p.start) filled.place, ap (λ p. p.len) filled.place)) spare_now spare_t ∙ filled.spare a from to spare_s spare_now;
           place = place ∙ filled.place;
           untouched = λ at. absurd (omega (arith, filled.from, chunk.has_room));
+          touches = (let count : length (cut (max_pool_size fllen) (range_at start left)) ≡ suc (length rest) = ap length more in omega (arith, filled.touches));
+          copied = copied ∙ filled.copied;
           from = omega (arith, filled.from);
           to = omega (arith, filled.to, shorter);
         }
@@ -168,10 +180,10 @@ module _ {fllen sllen : ℕ} {m0 : Space} {newest0 : ℕ} {s : State} (v : Stand
             let room = (new.chunk c (inl refl)).has_room in
             omega (arith, spare c (inl refl) (omega arith) (omega arith))
 
-  pub IsFilled-end : {m : Space} {newest start left : ℕ} → IsFilled fllen sllen m0 s r m newest start left → left < 64 → (reply : Option ℕ)
+  pub IsFilled-end : {m : Space} {table : Table} {start left : ℕ} → IsFilled fllen sllen m0 s r m table start left → left < 64 → (reply : Option ℕ)
       → (start ≡ (aligned_part r).start → reply ≡ None) → (start ≢ (aligned_part r).start → reply ≡ Some (start - r.start))
-      → (t : State) × Inserts fllen s r reply t × StandsFor fllen sllen (contents m newest) t × KeepsSpare m0 s m t
-  IsFilled-end {m} {newest} {start} {left} filled short reply none some =
+      → (t : State) × Inserts fllen s r reply t × StandsFor fllen sllen (contents m table) t × KeepsSpare m0 s m t
+  IsFilled-end {m} {table} {start} {left} filled short reply none some =
       let no_more : cut (max_pool_size fllen) (range_at start left) ≡ [] = (chunks_are_cut_off_the_front fllen start left v.well_formed.rows).0 short in
       (filled.now, record { answer = answered no_more filled.answer; after = sym (ap (λ cs. with_chunks cs filled.now) no_more) ∙ filled.parts }, filled.stands, filled.spare)
     where
@@ -181,7 +193,7 @@ module _ {fllen sllen : ℕ} {m0 : Space} {newest0 : ℕ} {s : State} (v : Stand
       answered no_more (some_chunk after is) = some (λ at. omega arith) ∙ sym (is ∙ ap (λ cs. Some (end_of_last start cs - r.start)) no_more)
 
   -- a range with no aligned byte is no chunk
-  pub nothing_inserted : (aligned_part r).len ≡ 0 → (t : State) × Inserts fllen s r None t × StandsFor fllen sllen (contents m0 newest0) t × KeepsSpare m0 s m0 t
+  pub nothing_inserted : (aligned_part r).len ≡ 0 → (t : State) × Inserts fllen s r None t × StandsFor fllen sllen (contents m0 table0) t × KeepsSpare m0 s m0 t
   nothing_inserted none =
       let no_chunk_left : cut (max_pool_size fllen) (aligned_part r) ≡ [] = (chunks_are_cut_off_the_front fllen (aligned_part r).start (aligned_part r).len v.well_formed.rows).0 (omega arith) in
       (s, record { answer = sym (ap (bytes_taken r.start) no_chunk_left); after = sym (ap (λ cs. with_chunks cs s) no_chunk_left) }, v, λ a from to spare_s spare_t. refl)

@@ -1,22 +1,23 @@
 -- A new value stands for the empty state.
-use Rattle.std.proofs.Common.{ℕ, ◌+◌, ◌^◌, ◌<◌, ◌≤◌, IsTrue, length, arith, refl}
+use Rattle.std.proofs.Common.{ℕ, ◌+◌, ◌^◌, ◌<◌, ◌≤◌, IsTrue, [], length, arith}
 use Rattle.std.proofs.lemmas.Bool.Decides.{nat_tests}
 use Rattle.rlsf_base.specs.SizeClass.{is_row_length, IsValid}
 use Rattle.rlsf_base.specs.Space.{Space, range_of}
 use Rattle.rlsf_machine.specs.State.{empty}
 use Rattle.rlsf_tlsf.specs.StandsFor.{contents, StandsFor}
+use Rattle.rlsf_tlsf.specs.Table.{Table, HasTable}
 use Rattle.rlsf_machine.proofs.Steps.{empty_is_well_formed}
 
 -- a row length is not 0, and at most 128
 pub row_length-bounds : (n : ℕ) → IsTrue (is_row_length n) → (0 < n) × (n ≤ 128)
 row_length-bounds n row = (grind (arith, nat_tests, row), grind (arith, nat_tests, row))
 
-pub StandsFor-empty : {fl_bits sl_bits fllen sllen : ℕ} {m : Space} → IsValid fl_bits sl_bits fllen sllen → (0 < m.start) × (m.start + length m.bytes < 2 ^ 64) → StandsFor fllen sllen (contents m 0) empty
-StandsFor-empty {fllen = fllen} {sllen = sllen} {m = m} valid bounds = record {
+pub StandsFor-empty : {fl_bits sl_bits fllen sllen : ℕ} {m : Space} {t : Table} → IsValid fl_bits sl_bits fllen sllen → (0 < m.start) × (m.start + length m.bytes < 2 ^ 64) → HasTable fllen sllen m t [] → StandsFor fllen sllen (contents m t) empty
+StandsFor-empty {fllen = fllen} {sllen = sllen} {m = m} valid bounds table = record {
   nonzero = bounds.0;
   well_formed = empty_is_well_formed fllen sllen (range_of m) valid.some_rows (row_length-bounds sllen valid.power_of_two).0 bounds.1;
   sizes = record { used = λ u i. absurd i; free = λ f i. absurd i; sentinel = λ c i. absurd i };
   previous = record { used = λ u i. absurd i; free = λ f i. absurd i; first = λ c i. absurd i };
   payloads = record { bytes = λ u i. absurd i; pad = λ u i. absurd i };
-  links = refl;
+  table = table;
 }

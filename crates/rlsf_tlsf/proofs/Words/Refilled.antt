@@ -5,9 +5,10 @@ use Rattle.rlsf_base.specs.declared.memory.range.Range.{Range}
 use Rattle.rlsf_base.specs.Range.{end_of}
 use Rattle.rlsf_base.specs.Space.{Space, bytes_in, range_of, word_at}
 use Rattle.rlsf_tlsf.specs.Steps.FreeList.{Rewrites, Touched}
-use Rattle.rlsf_tlsf.specs.InBand.{Links, sentinel_of}
+use Rattle.rlsf_tlsf.specs.InBand.{sentinel_of}
 use Rattle.rlsf_tlsf.specs.Spare.{KeepsSpare}
 use Rattle.rlsf_tlsf.specs.StandsFor.{contents, StandsFor}
+use Rattle.rlsf_tlsf.specs.Table.{Table, HasTable}
 use Rattle.rlsf_machine.specs.Lists.{IsIn}
 use Rattle.rlsf_machine.specs.State.{State, Used, usable}
 use Rattle.rlsf_machine.specs.WellFormed.{IsWhole, IsWellFormed}
@@ -29,15 +30,15 @@ pub data IsFreeStill (n : Space) (s : State) (hole f : Range) : Type 0 where
   new_free : word_at n f.start ≡ f.len → word_at n (end_of f + 8) ≡ f.start → IsFreeStill n s hole f
 
 -- the words once a hole was filled with other blocks
-pub record IsRefilled (m n : Space) (s : State) (used : List Used) (free : List Range) (hole : Range) (head : ℕ) : Type 0 where
+pub record IsRefilled (fllen sllen : ℕ) (m n : Space) (t : Table) (s : State) (used : List Used) (free : List Range) (hole : Range) : Type 0 where
   pub rewrites : Rewrites m n (Touched s.free hole (end_of hole + 8))
   pub first : word_at n (hole.start + 8) ≡ word_at m (hole.start + 8)
   pub used_still : (u : Used) → IsIn u used → IsUsedStill n s hole u
   pub free_still : (f : Range) → IsIn f free → IsFreeStill n s hole f
-  pub links : Links n 0 free head
+  pub table : HasTable fllen sllen n t free
 
-module _ {fllen sllen : ℕ} {m n : Space} {head head' : ℕ} {s : State} (old : StandsFor fllen sllen (contents m head) s) {used : List Used} {free : List Range}
-    (hole : Range) (whole : IsWhole hole) (some : 0 < hole.len) (home : LiesInChunk s hole) (is : IsRefilled m n s used free hole head') where
+module _ {fllen sllen : ℕ} {m n : Space} {table changed : Table} {s : State} (old : StandsFor fllen sllen (contents m table) s) {used : List Used} {free : List Range}
+    (hole : Range) (whole : IsWhole hole) (some : 0 < hole.len) (home : LiesInChunk s hole) (is : IsRefilled fllen sllen m n changed s used free hole) where
   w : IsWellFormed fllen sllen (range_of m) s
   w = old.well_formed
 
@@ -99,7 +100,7 @@ module _ {fllen sllen : ℕ} {m n : Space} {head head' : ℕ} {s : State} (old :
   payload_pad u (old_used i apart) wide = used_pad w hole whole.start some (end_of hole + 8) second (omega arith) (omega arith) is.rewrites u i apart wide ∙ old.payloads.pad u i wide
   payload_pad u (new_used size previous bytes pad) wide = pad wide
 
-  pub StandsFor-refilled : IsWellFormed fllen sllen (range_of n) (record { chunks = s.chunks; used = used; free = free }) → StandsFor fllen sllen (contents n head') (record { chunks = s.chunks; used = used; free = free })
+  pub StandsFor-refilled : IsWellFormed fllen sllen (range_of n) (record { chunks = s.chunks; used = used; free = free }) → StandsFor fllen sllen (contents n changed) (record { chunks = s.chunks; used = used; free = free })
   StandsFor-refilled well_formed = record {
     nonzero = omega (arith, old.nonzero, is.rewrites.start);
     well_formed = well_formed;
@@ -110,7 +111,7 @@ module _ {fllen sllen : ℕ} {m n : Space} {head head' : ℕ} {s : State} (old :
     };
     previous = record { used = λ u i. previous_used u (is.used_still u i); free = λ f i. previous_free f (is.free_still f i); first = previous_first };
     payloads = record { bytes = λ u i. payload_bytes u (is.used_still u i); pad = λ u i. payload_pad u (is.used_still u i) };
-    links = is.links;
+    table = is.table;
   }
 
   -- and no spare byte has changed

@@ -3,8 +3,9 @@ use Rattle.std.specs.Prelude.{◌≡◌, ◌↔◌, ℕ, ◌+◌, ◌%◌, List,
 use Rattle.rlsf_base.specs.declared.memory.range.Range.{Range}
 use Rattle.rlsf_base.specs.Range.{end_of}
 use Rattle.rlsf_base.specs.Space.{Space, IsWord, word_at}
-use Rattle.rlsf_tlsf.specs.Steps.FreeList.{IsFreeList, IsLink, Rewrites, Touched}
-use Rattle.rlsf_tlsf.specs.InBand.{Links}
+use Rattle.rlsf_tlsf.specs.Steps.FreeList.{IsLink, Rewrites, Touched}
+use Rattle.rlsf_tlsf.specs.Steps.FreeTable.{IsFreeTable}
+use Rattle.rlsf_tlsf.specs.Table.{Table, HasTable}
 use Rattle.rlsf_machine.specs.Join.{ends_at, starts_at, start_or, end_or}
 use Rattle.rlsf_machine.specs.Lists.{IsIn, without}
 use Rattle.rlsf_machine.specs.State.{between}
@@ -18,25 +19,25 @@ pub record IsMarked (m : Space) (free : List Range) (a : ℕ) : Type 0 where
   pub word : IsWord m a
   pub mark : (word_at m a % 2 ≡ 0) ↔ Begins free a
 
--- the list without the block that begins at an address, if there is one, and its length, or 0
-pub record IsOut (m n : Space) (free : List Range) (a head len : ℕ) : Type 0 where
+-- the table without the block that begins at an address, if there is one, and its length, or 0
+pub record IsOut (fllen sllen : ℕ) (m n : Space) (t : Table) (free : List Range) (a len : ℕ) : Type 0 where
   pub rewrites : Rewrites m n (IsLink free)
-  pub list : IsFreeList n head (without (starts_at a) free)
+  pub list : IsFreeTable fllen sllen n t (without (starts_at a) free)
   pub end : a + len ≡ end_or a (find (starts_at a) free)
 
--- the list without the block that ends at an address, if there is one, and where that begins, or the address
-pub record IsPreviousOut (m n : Space) (free : List Range) (a head start : ℕ) : Type 0 where
+-- the table without the block that ends at an address, if there is one, and where that begins, or the address
+pub record IsPreviousOut (fllen sllen : ℕ) (m n : Space) (t : Table) (free : List Range) (a start : ℕ) : Type 0 where
   pub rewrites : Rewrites m n (IsLink free)
-  pub list : IsFreeList n head (without (ends_at a) free)
+  pub list : IsFreeTable fllen sllen n t (without (ends_at a) free)
   pub begins : start ≡ start_or a (find (ends_at a) free)
 
--- the words of a new free block, linked in front of the others; the word that names the block before it stays
-pub record IsPut (m n : Space) (free : List Range) (r : Range) : Type 0 where
+-- the words of a new free block, put in front of its class; the word that names the block before it stays
+pub record IsPut (fllen sllen : ℕ) (m n : Space) (t : Table) (free : List Range) (r : Range) : Type 0 where
   pub rewrites : Rewrites m n (Touched free r (end_of r + 8))
   pub size : word_at n r.start ≡ r.len
   pub first : word_at n (r.start + 8) ≡ word_at m (r.start + 8)
   pub behind : word_at n (end_of r + 8) ≡ r.start
-  pub links : Links n 0 (r ∷ free) r.start
+  pub table : HasTable fllen sllen n t (r ∷ free)
 
 -- the union of a range with the free ranges that it touches
 abbrev pub union : Range → List Range → Range

@@ -1,47 +1,37 @@
 //! The search for a free block of the first class that reaches a size.
 
-ghost use Rattle.std.specs.Prelude.{◌≡◌, ℕ, ◌<◌, ◌^◌, List, MatchOption, Some, None};
+ghost use Rattle.std.specs.Prelude.{◌≡◌, ℕ, List, MatchOption, Some, None};
 ghost use Rattle.rlsf_base.specs.declared.memory.range.Range.{Range};
-ghost use Rattle.rlsf_base.specs.SizeClass.{class_of, class_start};
-ghost use Rattle.rlsf_tlsf.specs.Steps.FreeList.{IsFreeList};
+ghost use Rattle.rlsf_base.specs.SizeClass.{IsValid};
+ghost use Rattle.rlsf_base.specs.Sizes.{IsSize};
 ghost use Rattle.rlsf_machine.specs.Allocate.{choice};
+ghost use Rattle.rlsf_tlsf.specs.Steps.Counts.{Counts};
+ghost use Rattle.rlsf_tlsf.specs.Steps.FreeTable.{IsFreeTable};
 
+use crate::tlsf::table::ClassTable;
+use rlsf_base::classes::map_ceil;
 use rlsf_base::memory::Memory;
+use rlsf_int::BinInteger;
 
-/// Where the class of a block begins, in SLLENths of a byte: the block's size, less what it has above its
-/// class.
-pub(crate) fn start_of_class<const SLLEN: usize>(size: usize) -> u128
-    requires { (0 < size) × (0 < SLLEN) × (SLLEN < 256) }
-    ensures { result ≡ class_start SLLEN (class_of SLLEN size) }
-{
-    let row = size.ilog2();
-    ((size as u128 * SLLEN as u128) >> row) << row
-}
-
-/// The newest of the free blocks of the first class that reaches a size, in the list that begins with
-/// `newest`; `None` exactly where no block's class reaches it.
-pub(crate) fn first_fit<const SLLEN: usize>(
-    memory: &Memory,
-    newest: usize,
+/// The newest of the free blocks of the first class that reaches a size; `None` exactly where no block's class
+/// reaches it.
+pub(crate) fn first_fit<
+    FLBitmap: BinInteger,
+    SLBitmap: BinInteger,
+    const FLLEN: usize,
+    const SLLEN: usize,
+>(
+    memory: &mut Memory,
+    table: &ClassTable<FLBitmap, SLBitmap, FLLEN, SLLEN>,
     size: usize,
 ) -> Option<usize>
-    requires { (0 < SLLEN) × (SLLEN < 256) × ((free : List Range) × IsFreeList memory.now newest free) }
-    ensures { (free : List Range) → IsFreeList memory.now newest free → MatchOption result (choice SLLEN size free ≡ None) (λ block. (f : Range) × (choice SLLEN size free ≡ Some f) × (f.start ≡ block)) }
+    requires parameters { IsValid FLBitmap.width SLBitmap.width FLLEN SLLEN }
+    requires size { IsSize size }
+    requires list { (free : List Range) × IsFreeTable FLLEN SLLEN memory.old table.now free }
+    ensures choice { (free : List Range) → IsFreeTable FLLEN SLLEN memory.old table.now free → MatchOption result (choice SLLEN size free ≡ None) (λ block. (f : Range) × (choice SLLEN size free ≡ Some f) × (f.start ≡ block)) }
+    ensures counts { Counts memory.old memory.new 4 }
 {
-    let wanted = size as u128 * SLLEN as u128;
-    let mut best = None;
-    let mut best_start = u128::MAX;
-    let mut block = newest;
-    while block != 0 {
-        let len = memory.word(block) as usize;
-        let start = start_of_class::<SLLEN>(len);
-        let reaches = wanted <= start;
-        let earlier = start < best_start;
-        if reaches && earlier {
-            best = Some(block);
-            best_start = start;
-        }
-        block = memory.word(block + 16) as usize;
-    }
-    best
+    let (fl, sl) = map_ceil::<FLBitmap, SLBitmap, FLLEN, SLLEN>(size)?;
+    let (row, place) = table.first_from(memory, fl, sl)?;
+    Some(table.head(memory, row, place))
 }

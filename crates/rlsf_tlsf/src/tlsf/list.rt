@@ -1,19 +1,28 @@
-//! The list of free blocks, newest first, through the words at +16 and +24 of each.
+//! The lists of free blocks of one class, newest first, through the words at +16 and +24 of each.
 
-ghost use Rattle.std.specs.Prelude.{◌≡◌, ℕ, ◌≤◌, List, ◌∷◌, ◌++◌};
+ghost use Rattle.std.specs.Prelude.{◌≡◌, ℕ, ◌+◌, ◌≤◌, List, ◌∷◌, ◌++◌, unwrap_or};
 ghost use Rattle.rlsf_base.specs.declared.memory.range.Range.{Range};
-ghost use Rattle.rlsf_tlsf.specs.Steps.FreeList.{IsFreeList, IsLink, IsPlaced, Rewrites};
-ghost use Rattle.rlsf_tlsf.specs.InBand.{Links};
+ghost use Rattle.rlsf_base.specs.SizeClass.{IsValid};
 ghost use Rattle.rlsf_machine.specs.Lists.{IsIn};
 ghost use Rattle.rlsf_machine.specs.WellFormed.{coverage, itself};
+ghost use Rattle.rlsf_tlsf.specs.InBand.{Links};
+ghost use Rattle.rlsf_tlsf.specs.Steps.Counts.{unlinking_touches};
+ghost use Rattle.rlsf_tlsf.specs.Steps.FreeList.{IsFreeList, IsLink, IsPlaced, Rewrites};
+ghost use Rattle.rlsf_tlsf.specs.Steps.FreeTable.{IsFreeTable, IsRoom};
+ghost use Rattle.rlsf_tlsf.specs.Table.{HasTable};
 
+use crate::tlsf::table::ClassTable;
+use rlsf_base::classes::map_floor;
 use rlsf_base::memory::Memory;
+use rlsf_int::BinInteger;
 
-/// Puts the block at `block` in front of the list that begins with `newest`.
-pub(crate) fn link(memory: &mut Memory, newest: usize, block: usize)
+/// Links the block at `block` in front of the blocks from `newest` on.
+fn link_front(memory: &mut Memory, newest: usize, block: usize)
     requires { (r : Range) × (free : List Range) × (r.start ≡ block) × IsFreeList memory.old newest free × IsPlaced memory.old r × ((a : ℕ) → coverage itself (r ∷ free) a ≤ 1) }
-    ensures { (r : Range) (free : List Range) → r.start ≡ block → IsFreeList memory.old newest free → IsPlaced memory.old r → ((a : ℕ) → coverage itself (r ∷ free) a ≤ 1)
+    ensures step { (r : Range) (free : List Range) → r.start ≡ block → IsFreeList memory.old newest free → IsPlaced memory.old r → ((a : ℕ) → coverage itself (r ∷ free) a ≤ 1)
         → Links memory.new 0 (r ∷ free) block × Rewrites memory.old memory.new (IsLink (r ∷ free)) }
+    ensures touches { memory.new.touches ≤ memory.old.touches + 3 }
+    ensures copied { memory.new.copied ≡ memory.old.copied }
 {
     memory.set_word(block + 16, newest as u64);
     memory.set_word(block + 24, 0);
@@ -22,21 +31,79 @@ pub(crate) fn link(memory: &mut Memory, newest: usize, block: usize)
     }
 }
 
-/// Takes the block at `block` out of the list that begins with `newest`, and answers the newest block then.
-pub(crate) fn unlink(memory: &mut Memory, newest: usize, block: usize) -> usize
-    requires { (r : Range) × (free : List Range) × (r.start ≡ block) × IsIn r free × IsFreeList memory.old newest free }
-    ensures { (r : Range) (before after : List Range) → r.start ≡ block → IsFreeList memory.old newest (before ++ r ∷ after)
-        → Links memory.new 0 (before ++ after) result × Rewrites memory.old memory.new (IsLink (before ++ r ∷ after)) }
+/// Takes the block at `block` out from between the two that its links name. If none is before it, answers the one
+/// behind it, which is the newest then, or 0.
+fn unlink_between(memory: &mut Memory, block: usize) -> Option<usize>
+    requires { (r : Range) × (free : List Range) × (newest : ℕ) × (r.start ≡ block) × IsIn r free × IsFreeList memory.old newest free }
+    ensures step { (newest : ℕ) (r : Range) (before after : List Range) → r.start ≡ block → IsFreeList memory.old newest (before ++ r ∷ after)
+        → Links memory.new 0 (before ++ after) (unwrap_or result newest) × Rewrites memory.old memory.new (IsLink (before ++ r ∷ after)) }
+    ensures touches { memory.new.touches ≤ memory.old.touches + unlinking_touches result }
+    ensures copied { memory.new.copied ≡ memory.old.copied }
 {
-    let next = memory.word(block + 16) as usize;
-    let previous = memory.word(block + 24) as usize;
+    let next = memory.load(block + 16) as usize;
+    let previous = memory.load(block + 24) as usize;
     if next != 0 {
         memory.set_word(next + 24, previous as u64);
     }
     if previous == 0 {
-        next
+        Some(next)
     } else {
         memory.set_word(previous + 16, next as u64);
-        newest
+        None
+    }
+}
+
+/// Puts the block of `len` bytes at `block` in front of the list of its class.
+pub(crate) fn link<
+    FLBitmap: BinInteger,
+    SLBitmap: BinInteger,
+    const FLLEN: usize,
+    const SLLEN: usize,
+>(
+    memory: &mut Memory,
+    table: &mut ClassTable<FLBitmap, SLBitmap, FLLEN, SLLEN>,
+    block: usize,
+    len: usize,
+)
+    requires parameters { IsValid FLBitmap.width SLBitmap.width FLLEN SLLEN }
+    requires room { (r : Range) × (free : List Range) × (r.start ≡ block) × (r.len ≡ len) × IsRoom FLLEN SLLEN memory.old table.old free r }
+    ensures step { (r : Range) (free : List Range) → r.start ≡ block → r.len ≡ len → IsRoom FLLEN SLLEN memory.old table.old free r
+        → HasTable FLLEN SLLEN memory.new table.new (r ∷ free) × Rewrites memory.old memory.new (IsLink (r ∷ free)) }
+    ensures touches { memory.new.touches ≤ memory.old.touches + 9 }
+    ensures copied { memory.new.copied ≡ memory.old.copied }
+{
+    let Some((fl, sl)) = map_floor::<FLBitmap, SLBitmap, FLLEN, SLLEN>(len) else {
+        unreachable!()
+    };
+    let newest = table.head(memory, fl, sl);
+    link_front(memory, newest, block);
+    table.put(memory, fl, sl, block);
+}
+
+/// Takes the block of `len` bytes at `block` out of the list of its class.
+pub(crate) fn unlink<
+    FLBitmap: BinInteger,
+    SLBitmap: BinInteger,
+    const FLLEN: usize,
+    const SLLEN: usize,
+>(
+    memory: &mut Memory,
+    table: &mut ClassTable<FLBitmap, SLBitmap, FLLEN, SLLEN>,
+    block: usize,
+    len: usize,
+)
+    requires parameters { IsValid FLBitmap.width SLBitmap.width FLLEN SLLEN }
+    requires listed { (r : Range) × (free : List Range) × (r.start ≡ block) × (r.len ≡ len) × IsIn r free × IsFreeTable FLLEN SLLEN memory.old table.old free }
+    ensures step { (r : Range) (before after : List Range) → r.start ≡ block → r.len ≡ len → IsFreeTable FLLEN SLLEN memory.old table.old (before ++ r ∷ after)
+        → HasTable FLLEN SLLEN memory.new table.new (before ++ after) × Rewrites memory.old memory.new (IsLink (before ++ r ∷ after)) }
+    ensures touches { memory.new.touches ≤ memory.old.touches + 8 }
+    ensures copied { memory.new.copied ≡ memory.old.copied }
+{
+    let newest = unlink_between(memory, block);
+    if let Some(next) = newest {
+        let Some((fl, sl)) = map_floor::<FLBitmap, SLBitmap, FLLEN, SLLEN>(len) else {
+            unreachable!()
+        };
+        table.take(memory, fl, sl, next);
     }
 }

@@ -1,6 +1,6 @@
 //! The block of a payload, and the bytes that its caller may use.
 
-ghost use Rattle.std.specs.Prelude.{◌≡◌};
+ghost use Rattle.std.specs.Prelude.{◌≡◌, ◌+◌};
 ghost use Rattle.rlsf_machine.specs.State.{usable};
 ghost use Rattle.rlsf_tlsf.specs.Steps.LiveBlock.{IsLiveIn, AtEachBlock};
 
@@ -33,6 +33,37 @@ pub(crate) fn usable_bytes(memory: &Memory, payload: usize) -> Range
     let block = block_of(memory, payload);
     // The lowest bit of the size word is a flag.
     let end = block + (memory.word(block) as usize - 1);
+    Range {
+        start: payload,
+        len: end - payload,
+    }
+}
+
+/// The same as `block_of`, by words that are counted: two touches, whatever the words say.
+pub(crate) fn load_block_of(memory: &mut Memory, payload: usize) -> usize
+    requires { IsLiveIn memory.old payload }
+    ensures block { AtEachBlock memory.old payload (λ u. result ≡ u.block.start) }
+    ensures memory { memory.new ≡ record memory.old { touches = memory.old.touches + 2 } }
+{
+    let named = memory.load(payload - 8) as usize;
+    let nearest = payload - 16;
+    if named == 0 {
+        // Counted as the second word is, so that the count does not depend on the words.
+        memory.touch();
+        return nearest;
+    }
+    let end = named + memory.load(named) as usize;
+    if payload > end { nearest } else { named }
+}
+
+/// The same as `usable_bytes`, by words that are counted: three touches, whatever the words say.
+pub(crate) fn load_usable_bytes(memory: &mut Memory, payload: usize) -> Range
+    requires { IsLiveIn memory.old payload }
+    ensures range { AtEachBlock memory.old payload (λ u. result ≡ usable u) }
+    ensures memory { memory.new ≡ record memory.old { touches = memory.old.touches + 3 } }
+{
+    let block = load_block_of(memory, payload);
+    let end = block + (memory.load(block) as usize - 1);
     Range {
         start: payload,
         len: end - payload,

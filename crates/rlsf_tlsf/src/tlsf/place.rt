@@ -3,68 +3,95 @@
 ghost use Rattle.std.specs.Prelude.{◌≡◌, ◌+◌, ◌-◌, ◌≤◌, ◌<◌, ℕ, List, Some};
 ghost use Rattle.rlsf_base.specs.declared.memory.range.Range.{Range};
 ghost use Rattle.rlsf_base.specs.Range.{range_at};
+ghost use Rattle.rlsf_base.specs.SizeClass.{IsValid};
 ghost use Rattle.rlsf_base.specs.Sizes.{request_size};
 ghost use Rattle.rlsf_base.specs.Space.{SamePlace};
 ghost use Rattle.rlsf_machine.specs.Allocate.{choice, Places};
 ghost use Rattle.rlsf_machine.specs.State.{State};
 ghost use Rattle.rlsf_tlsf.specs.Spare.{KeepsSpare};
-ghost use Rattle.rlsf_tlsf.specs.Steps.Rest.{IsLeft, IsOpened, IsRoom, IsTaken};
+ghost use Rattle.rlsf_tlsf.specs.Steps.Rest.{IsInnerRoom, IsLeft, IsOpened, IsTaken};
 ghost use Rattle.rlsf_tlsf.specs.StandsFor.{contents, StandsFor};
 
 use crate::tlsf::list::{link, unlink};
+use crate::tlsf::table::ClassTable;
 use crate::tlsf::{GRANULARITY, HEADER};
 use rlsf_base::memory::{Layout, Memory};
+use rlsf_int::BinInteger;
 
-/// Makes a free block of what is left behind the first `taken` of the `len` bytes at `block`, and puts it in front
-/// of the list that begins with `newest`.
-fn leave_rest(memory: &mut Memory, newest: usize, block: usize, len: usize, taken: usize)
-    requires { (free : List Range) × (r : Range) × (r.start ≡ block + taken) × (r.len + taken ≡ len) × IsRoom memory.old newest free r }
-    ensures { (free : List Range) (r : Range) → r.start ≡ block + taken → r.len + taken ≡ len → IsRoom memory.old newest free r → IsLeft memory.old memory.new free block r }
+/// Makes a free block of what is left behind the first `taken` of the `len` bytes at `block`.
+fn leave_rest<FLBitmap: BinInteger, SLBitmap: BinInteger, const FLLEN: usize, const SLLEN: usize>(
+    memory: &mut Memory,
+    table: &mut ClassTable<FLBitmap, SLBitmap, FLLEN, SLLEN>,
+    block: usize,
+    len: usize,
+    taken: usize,
+)
+    requires parameters { IsValid FLBitmap.width SLBitmap.width FLLEN SLLEN }
+    requires room { (free : List Range) × (r : Range) × (r.start ≡ block + taken) × (r.len + taken ≡ len) × IsInnerRoom FLLEN SLLEN memory.old table.old free r }
+    ensures step { (free : List Range) (r : Range) → r.start ≡ block + taken → r.len + taken ≡ len → IsInnerRoom FLLEN SLLEN memory.old table.old free r
+        → IsLeft FLLEN SLLEN memory.old memory.new table.new free block r }
+    ensures touches { memory.new.touches ≤ memory.old.touches + 12 }
+    ensures copied { memory.new.copied ≡ memory.old.copied }
 {
     let rest = block + taken;
     memory.set_word(rest, (len - taken) as u64);
     memory.set_word(rest + 8, block as u64);
     memory.set_word(block + len + 8, rest as u64);
-    link(memory, newest, rest);
+    link(memory, table, rest, len - taken);
 }
 
-/// Takes the free block of `len` bytes at `block` out of the list that begins with `newest`, for a block of its first
-/// `taken` bytes; a rest becomes a free block. Answers the newest free block.
-fn take_out(memory: &mut Memory, newest: usize, block: usize, len: usize, taken: usize) -> usize
-    requires { (fllen : ℕ) × (sllen : ℕ) × (s : State) × (f : Range) × StandsFor fllen sllen (contents memory.old newest) s × IsTaken sllen s f block len taken }
-    ensures { (fllen sllen : ℕ) (s : State) (f : Range) → StandsFor fllen sllen (contents memory.old newest) s → IsTaken sllen s f block len taken → IsOpened sllen memory.old memory.new s f (range_at block taken) result }
+/// Takes the free block of `len` bytes at `block` out of its list, for a block of its first `taken` bytes; a rest
+/// becomes a free block.
+fn take_out<FLBitmap: BinInteger, SLBitmap: BinInteger, const FLLEN: usize, const SLLEN: usize>(
+    memory: &mut Memory,
+    table: &mut ClassTable<FLBitmap, SLBitmap, FLLEN, SLLEN>,
+    block: usize,
+    len: usize,
+    taken: usize,
+)
+    requires parameters { IsValid FLBitmap.width SLBitmap.width FLLEN SLLEN }
+    requires taken { (s : State) × (f : Range) × StandsFor FLLEN SLLEN (contents memory.old table.old) s × IsTaken SLLEN s f block len taken }
+    ensures step { (s : State) (f : Range) → StandsFor FLLEN SLLEN (contents memory.old table.old) s → IsTaken SLLEN s f block len taken
+        → IsOpened FLLEN SLLEN memory.old memory.new table.new s f (range_at block taken) }
+    ensures touches { memory.new.touches ≤ memory.old.touches + 20 }
+    ensures copied { memory.new.copied ≡ memory.old.copied }
 {
-    let others = unlink(memory, newest, block);
+    unlink(memory, table, block, len);
     let longer = taken < len;
     if longer {
-        leave_rest(memory, others, block, len, taken);
-        block + taken
-    } else {
-        others
+        leave_rest(memory, table, block, len, taken);
     }
 }
 
-/// Makes a used block for a layout of the front of the free block at `block`, the choice for it, in the list that begins
-/// with `newest`. Answers the newest free block and the payload's address.
-pub(crate) fn place(
+/// Makes a used block for a layout of the front of the free block at `block`, the choice for it. Answers the payload's
+/// address.
+pub(crate) fn place<
+    FLBitmap: BinInteger,
+    SLBitmap: BinInteger,
+    const FLLEN: usize,
+    const SLLEN: usize,
+>(
     memory: &mut Memory,
-    newest: usize,
+    table: &mut ClassTable<FLBitmap, SLBitmap, FLLEN, SLLEN>,
     block: usize,
     layout: Layout,
-) -> (usize, usize)
-    requires { (fllen : ℕ) × (sllen : ℕ) × (s : State) × (f : Range) × StandsFor fllen sllen (contents memory.old newest) s × (choice sllen (request_size layout.size layout.align) s.free ≡ Some f) × (f.start ≡ block) }
-    ensures step { (fllen sllen : ℕ) (s : State) (f : Range) → StandsFor fllen sllen (contents memory.old newest) s → choice sllen (request_size layout.size layout.align) s.free ≡ Some f → f.start ≡ block
-        → (t : State) × Places sllen s layout.size layout.align result.1 t × StandsFor fllen sllen (contents memory.new result.0) t × KeepsSpare memory.old s memory.new t }
+) -> usize
+    requires parameters { IsValid FLBitmap.width SLBitmap.width FLLEN SLLEN }
+    requires chosen { (s : State) × (f : Range) × StandsFor FLLEN SLLEN (contents memory.old table.old) s × (choice SLLEN (request_size layout.size layout.align) s.free ≡ Some f) × (f.start ≡ block) }
+    ensures step { (s : State) (f : Range) → StandsFor FLLEN SLLEN (contents memory.old table.old) s → choice SLLEN (request_size layout.size layout.align) s.free ≡ Some f → f.start ≡ block
+        → (t : State) × Places SLLEN s layout.size layout.align result t × StandsFor FLLEN SLLEN (contents memory.new table.new) t × KeepsSpare memory.old s memory.new t }
     ensures place { SamePlace memory.old memory.new }
+    ensures touches { memory.new.touches ≤ memory.old.touches + 23 }
+    ensures copied { memory.new.copied ≡ memory.old.copied }
 {
-    let len = memory.word(block) as usize;
+    let len = memory.load(block) as usize;
     let payload = (block + HEADER).next_multiple_of(layout.align());
     let taken = (payload - block + layout.size()).next_multiple_of(GRANULARITY);
-    let head = take_out(memory, newest, block, len, taken);
+    take_out(memory, table, block, len, taken);
     memory.set_word(block, taken as u64 + 1);
     let wide = layout.align() >= GRANULARITY;
     if wide {
         memory.set_word(payload - 8, block as u64);
     }
-    (head, payload)
+    payload
 }

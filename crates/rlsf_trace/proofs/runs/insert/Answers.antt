@@ -1,4 +1,4 @@
-use Rattle.std.proofs.Common.{◌≡◌, ◌+◌, length, None, arith, refl, sym, ap, subst}
+use Rattle.std.proofs.Common.{rules, ◌≡◌, ◌+◌, length, None, arith, refl, sym, ap, subst}
 use Rattle.std.specs.Int.NonZero.{non_zero_usize_get}
 use Rattle.std.specs.Option.{option_map}
 use Rattle.rlsf_base.specs.Range.{LiesIn}
@@ -21,6 +21,24 @@ touches_any-requires g c =
       in_order = at.in_order;
       addressable = (omega (arith, to, at.stands.well_formed.addressable), λ p i. omega (arith, (at.inside p i).1, at.stands.well_formed.addressable));
     }
+
+pub insert_free_block_ptr-taken-requires-send-FLBitmap : goal.insert_free_block_ptr-taken-requires-send-FLBitmap
+insert_free_block_ptr-taken-requires-send-FLBitmap g c κs within = c.type_bounds.send-FLBitmap
+
+pub insert_free_block_ptr-taken-requires-send-SLBitmap : goal.insert_free_block_ptr-taken-requires-send-SLBitmap
+insert_free_block_ptr-taken-requires-send-SLBitmap g c κs within = c.type_bounds.send-SLBitmap
+
+pub insert_free_block_ptr-taken-requires-sync-FLBitmap : goal.insert_free_block_ptr-taken-requires-sync-FLBitmap
+insert_free_block_ptr-taken-requires-sync-FLBitmap g c κs within = c.type_bounds.sync-FLBitmap
+
+pub insert_free_block_ptr-taken-requires-sync-SLBitmap : goal.insert_free_block_ptr-taken-requires-sync-SLBitmap
+insert_free_block_ptr-taken-requires-sync-SLBitmap g c κs within = c.type_bounds.sync-SLBitmap
+
+pub insert_free_block_ptr-taken-requires-after_bounds : goal.insert_free_block_ptr-taken-requires-after_bounds
+insert_free_block_ptr-taken-requires-after_bounds g c κs within =
+    let (s, at) = c.requires.state in
+    let may = MayInsert-tested at c.args.range c.memory_ref.ensures.memory (c.lies_in.ensures.0 c.if-not-lies_in.false) c.if-touches_any.false c.touches_any.ensures.1 in
+    (search rules, (s.machine, at.stands, IsFresh-MayInsert at c.args.range may))
 
 pub pool_of-requires : goal.pool_of-requires
 pool_of-requires g c =

@@ -1,4 +1,4 @@
-use Rattle.std.proofs.Common.{sym, subst}
+use Rattle.std.proofs.Common.{arith, sym, subst}
 use Rattle.std.specs.Int.NonZero.{non_zero_usize_get}
 use Rattle.std.specs.Option.{option_map}
 use Rattle.rlsf_base.specs.Space.{range_of}
@@ -8,15 +8,32 @@ use Rattle.rlsf_tlsf.specs.Spare.{KeepsSpare}
 use Rattle.rlsf_tlsf.specs.StandsFor.{contents, Contents, StandsFor}
 use Rattle.rlsf_tlsf.proofs.tlsf.Tlsf.insert_free_block_ptr.Goals as goal
 
+pub insert-requires-send-FLBitmap : goal.insert-requires-send-FLBitmap
+insert-requires-send-FLBitmap g c κs within = c.type_bounds.send-FLBitmap
+
+pub insert-requires-send-SLBitmap : goal.insert-requires-send-SLBitmap
+insert-requires-send-SLBitmap g c κs within = c.type_bounds.send-SLBitmap
+
+pub insert-requires-sync-FLBitmap : goal.insert-requires-sync-FLBitmap
+insert-requires-sync-FLBitmap g c κs within = c.type_bounds.sync-FLBitmap
+
+pub insert-requires-sync-SLBitmap : goal.insert-requires-sync-SLBitmap
+insert-requires-sync-SLBitmap g c κs within = c.type_bounds.sync-SLBitmap
+
+pub insert-requires-after_bounds : goal.insert-requires-after_bounds
+insert-requires-after_bounds g c κs within =
+    let (s, v, fresh) = subst (λ (old : Contents). (s : State) × StandsFor g.row.FLLEN g.row.SLLEN old s × IsFresh (range_of old.memory) s c.args.range) (sym c.self.view_is) c.requires in
+    (omega arith, (c.self.invariant.valid, (s, v, fresh)))
+
 pub invariant_of-self : goal.invariant_of-self
 invariant_of-self g c =
     let (s, v, fresh) = subst (λ (old : Contents). (s : State) × StandsFor g.row.FLLEN g.row.SLLEN old s × IsFresh (range_of old.memory) s c.args.range) (sym c.self.view_is) c.requires in
-    let (t, step, stands, spare) = c.insert-newest.ensures.step s v fresh in
+    let (t, step, stands, spare) = c.insert.ensures.step s v fresh in
     record { valid = c.self.invariant.valid; stands = (t, stands) }
 
 pub returns-clause-step : goal.returns-clause-step
 returns-clause-step g c =
     subst (λ (old : Contents). (s : State) → StandsFor g.row.FLLEN g.row.SLLEN old s → IsFresh (range_of old.memory) s c.args.range
-    → (t : State) × Inserts g.row.FLLEN s c.args.range (option_map non_zero_usize_get c.insert-newest.result.1) t
-    × StandsFor g.row.FLLEN g.row.SLLEN (contents c.insert-newest.new.memory c.insert-newest.result.0) t × KeepsSpare old.memory s c.insert-newest.new.memory t)
-    c.self.view_is (λ s v fresh. c.insert-newest.ensures.step s v fresh)
+    → (t : State) × Inserts g.row.FLLEN s c.args.range (option_map non_zero_usize_get c.insert.result) t
+    × StandsFor g.row.FLLEN g.row.SLLEN (contents c.insert.new.memory c.insert.new.table) t × KeepsSpare old.memory s c.insert.new.memory t)
+    c.self.view_is (λ s v fresh. c.insert.ensures.step s v fresh)

@@ -1,56 +1,65 @@
--- The scan begins at the newest block with nothing kept, passes one block after another, and ends at the address 0.
-use Rattle.std.proofs.Common.{◌≡◌, ℕ, arith, ◌∙◌, ap}
-use Rattle.rlsf_base.specs.SizeClass.{class_of, class_start}
-use Rattle.rlsf_base.specs.Space.{word_at}
-use Rattle.rlsf_tlsf.proofs.Search.Scans.{IsAt-init, IsAt-end, IsAt-readable, IsAt-kept, IsAt-taken, blocks_from-next}
+-- The head of the least class from the first on that reaches the size is the choice.
+use Rattle.std.proofs.Common.{rules, ◌≡◌, Some, None, MatchOption, ◌∙◌, sym, subst}
+use Rattle.rlsf_base.specs.declared.memory.range.Range.{Range}
+use Rattle.rlsf_machine.specs.Allocate.{choice}
+use Rattle.rlsf_tlsf.proofs.Machine.EmptyState.{row_length-bounds}
+use Rattle.rlsf_tlsf.proofs.Tables.Choice.{choice-past_rows, choice-none_from, choice-head, IsReaching-map_ceil}
 use Rattle.rlsf_tlsf.proofs.tlsf.fit.first_fit.Goals as goal
-use Rattle.rlsf_tlsf.proofs.tlsf.fit.first_fit.Goals.{then-reaches+then-earlier, else-reaches, else-reaches-via-then-reaches+else-earlier, else-reaches-via-else-reaches}
 
-pub loop-block-init : goal.loop-block-init
-loop-block-init g c free is = IsAt-init is _ (omega arith)
+pub first_from-requires-send-FLBitmap : goal.first_from-requires-send-FLBitmap
+first_from-requires-send-FLBitmap g c κs within = c.type_bounds.send-FLBitmap
 
-pub word-len-requires : goal.word-len-requires
-word-len-requires g c =
-    let (free, is) = c.requires.2 in
-    (IsAt-readable is (c.loop-block.invariant free is) c.loop-block-test.true).size
+pub first_from-requires-send-SLBitmap : goal.first_from-requires-send-SLBitmap
+first_from-requires-send-SLBitmap g c κs within = c.type_bounds.send-SLBitmap
 
-pub start_of_class-start-requires : goal.start_of_class-start-requires
-start_of_class-start-requires g c =
-    let (free, is) = c.requires.2 in
-    let readable = IsAt-readable is (c.loop-block.invariant free is) c.loop-block-test.true in
-    (omega (arith, readable.some), c.requires.0, c.requires.1)
+pub first_from-requires-sync-FLBitmap : goal.first_from-requires-sync-FLBitmap
+first_from-requires-sync-FLBitmap g c κs within = c.type_bounds.sync-FLBitmap
 
-pub overflow_add-block : goal.overflow_add-block
-overflow_add-block g c =
-    let (free, is) = c.requires.2 in
-    let readable = IsAt-readable is (c.loop-block.invariant free is) c.loop-block-test.true in
-    omega (arith, readable.fits)
+pub first_from-requires-sync-SLBitmap : goal.first_from-requires-sync-SLBitmap
+first_from-requires-sync-SLBitmap g c κs within = c.type_bounds.sync-SLBitmap
 
-pub word-block-requires : goal.word-block-requires
-word-block-requires g c =
-    let (free, is) = c.requires.2 in
-    (IsAt-readable is (c.loop-block.invariant free is) c.loop-block-test.true).next
+pub head-requires-send-FLBitmap : goal.head-requires-send-FLBitmap
+head-requires-send-FLBitmap g c κs within = c.type_bounds.send-FLBitmap
 
-pub loop-block-smaller : goal.loop-block-smaller
-loop-block-smaller g c =
-    let (free, is) = c.requires.2 in
-    blocks_from-next is (c.loop-block.invariant free is) c.loop-block-test.true c.word-block.ensures
+pub head-requires-send-SLBitmap : goal.head-requires-send-SLBitmap
+head-requires-send-SLBitmap g c κs within = c.type_bounds.send-SLBitmap
 
-pub loop-block-preserved : goal.loop-block-preserved
-loop-block-preserved g c free is =
-    let scan = c.loop-block.invariant free is in
-    let class = λ (size : ℕ). class_of g.row.SLLEN size in
-    let starts : c.start_of_class-start.result ≡ class_start g.row.SLLEN (class (word_at c.args.memory.now c.loop-block.block)) =
-    c.start_of_class-start.ensures ∙ ap (λ n. class_start g.row.SLLEN (class n)) c.word-len.ensures in
-    elim c.if-reaches.branch [
-      | then-reaches+then-earlier w ↦ rw (w.best-is, w.best_start-is)
-          (IsAt-taken is scan c.loop-block-test.true c.word-block.ensures c.requires.0 starts (omega arith) (omega arith))
-      | else-reaches w ↦ rw (w.best-is, w.best_start-is)
-          (IsAt-kept is scan c.loop-block-test.true c.word-block.ensures c.requires.0 starts c.requires.1 (λ reached. elim w.else-reaches.branch [
-            | else-reaches-via-then-reaches+else-earlier w' ↦ omega arith
-            | else-reaches-via-else-reaches w' ↦ omega arith
-          ]))
-    ]
+pub head-requires-sync-FLBitmap : goal.head-requires-sync-FLBitmap
+head-requires-sync-FLBitmap g c κs within = c.type_bounds.sync-FLBitmap
 
-pub returns : goal.returns
-returns g c free is = IsAt-end is (c.loop-block.invariant free is) c.loop-block-test.false
+pub head-requires-sync-SLBitmap : goal.head-requires-sync-SLBitmap
+head-requires-sync-SLBitmap g c κs within = c.type_bounds.sync-SLBitmap
+
+pub returns-in_err-fl-clause-choice : goal.returns-in_err-fl-clause-choice
+returns-in_err-fl-clause-choice g c free is =
+    let some = row_length-bounds g.row.SLLEN c.requires.parameters.power_of_two in
+    let none = choice-past_rows g.row.FLLEN g.row.SLLEN c.args.size some.0 c.requires.size free is.blocks (sym c.map_ceil.ensures ∙ c.in_err-fl.was) in
+    subst (λ o. MatchOption o (choice g.row.SLLEN c.args.size free ≡ None) (λ block. (f : Range) × (choice g.row.SLLEN c.args.size free ≡ Some f) × (f.start ≡ block))) (sym c.from_residual.ensures) none
+
+pub first_from-requires-after_bounds : goal.first_from-requires-after_bounds
+first_from-requires-after_bounds g c κs within =
+    let some = row_length-bounds g.row.SLLEN c.requires.parameters.power_of_two in
+    let at = IsReaching-map_ceil g.row.FLLEN g.row.SLLEN c.args.size some.0 c.requires.size (c.in_ok-fl.fl, c.in_ok-fl.sl) (sym c.map_ceil.ensures ∙ c.in_ok-fl.was) in
+    let (free, is) = c.requires.list in
+    (search rules, (c.requires.parameters, ((at.row, at.place), (free, is.table.bits, is.blocks))))
+
+pub returns-in_err-row-clause-choice : goal.returns-in_err-row-clause-choice
+returns-in_err-row-clause-choice g c free is =
+    let some = row_length-bounds g.row.SLLEN c.requires.parameters.power_of_two in
+    let at = IsReaching-map_ceil g.row.FLLEN g.row.SLLEN c.args.size some.0 c.requires.size (c.in_ok-fl.fl, c.in_ok-fl.sl) (sym c.map_ceil.ensures ∙ c.in_ok-fl.was) in
+    let none = choice-none_from g.row.FLLEN g.row.SLLEN c.args.size some.0 c.requires.size free is.blocks (c.in_ok-fl.fl, c.in_ok-fl.sl) at (c.in_err-row.ensures.first free is.table.bits is.blocks) in
+    subst (λ o. MatchOption o (choice g.row.SLLEN c.args.size free ≡ None) (λ block. (f : Range) × (choice g.row.SLLEN c.args.size free ≡ Some f) × (f.start ≡ block))) (sym c.from_residual-in_err-row.ensures) none
+
+pub head-requires-after_bounds : goal.head-requires-after_bounds
+head-requires-after_bounds g c κs within =
+    let (free, is) = c.requires.list in
+    let least = c.in_ok-row.ensures.first free is.table.bits is.blocks in
+    (search rules, (least.0, least.1))
+
+pub returns-clause-choice : goal.returns-clause-choice
+returns-clause-choice g c free is =
+    let some = row_length-bounds g.row.SLLEN c.requires.parameters.power_of_two in
+    let at = IsReaching-map_ceil g.row.FLLEN g.row.SLLEN c.args.size some.0 c.requires.size (c.in_ok-fl.fl, c.in_ok-fl.sl) (sym c.map_ceil.ensures ∙ c.in_ok-fl.was) in
+    let (f, chosen, starts) = choice-head g.row.FLLEN g.row.SLLEN c.args.size some.0 c.requires.size free is.blocks (c.in_ok-fl.fl, c.in_ok-fl.sl) at (c.in_ok-row.row, c.in_ok-row.place)
+    (c.in_ok-row.ensures.first free is.table.bits is.blocks) _ c.args.table.now is.table.lists in
+    (f, chosen, starts ∙ sym c.head.ensures.value)

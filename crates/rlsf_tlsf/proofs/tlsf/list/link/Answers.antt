@@ -1,61 +1,60 @@
--- The newest block till now, if there is one, has room for the word that names the block before it; and the three writes put the block in front.
-use Rattle.std.proofs.Common.{◌≡◌, ◌≢◌, ◌+◌, ◌∙◌, arith, refl}
-use Rattle.rlsf_base.specs.declared.memory.range.Range.{Range}
-use Rattle.rlsf_tlsf.specs.Steps.FreeList.{IsPlaced}
-use Rattle.rlsf_tlsf.proofs.FreeLists.Front.{Fronts, Links-front, newest_placed, Rewrites-front, Writes-front}
-use Rattle.rlsf_tlsf.proofs.FreeLists.Writes.{fits_at, IsWord-at, Writes, Writes-none, Writes-some}
-use Rattle.rlsf_tlsf.proofs.Words.Writing.{wrote}
+-- The indices are those of the block's class, and the table has the block in front of that class's list.
+use Rattle.std.proofs.Common.{rules}
+use Rattle.rlsf_tlsf.specs.Table.{of_class}
+use Rattle.rlsf_tlsf.proofs.FreeLists.ClassTables.{coverage-front_class, HasTable-front, IsFreeList-of_class_from, Rewrites-front_class}
+use Rattle.rlsf_tlsf.proofs.FreeLists.Counted.{HasTable-counted, IsRoom-counted, Rewrites-counted_first, Rewrites-counted_last}
+use Rattle.rlsf_tlsf.proofs.FreeLists.Indices.{IsClassAt-told}
 use Rattle.rlsf_tlsf.proofs.tlsf.list.link.Goals as goal
-use Rattle.rlsf_tlsf.proofs.tlsf.list.link.Goals.{After-set_word-2}
 
--- the two links of the block are written
-links : (c : After-set_word-2) {r : Range} → r.start ≡ c.args.block → IsPlaced c.args.memory.now r
-    → Writes c.args.memory.now c.set_word.new.self (Unit {0}) (c.args.block + 16) c.args.newest × Writes c.set_word.new.self c.set_word-2.new.self (Unit {0}) (c.args.block + 24) 0
-links c place placed =
-    let next = wrote c.args.memory.now c.set_word.new.self (c.args.block + 16) c.args.newest c.set_word.ensures.bytes (omega arith) (omega arith) in
-    Writes-front c.args.memory.now c.set_word.new.self c.set_word-2.new.self place placed c.ranges.newest.fits c.set_word.ensures.start next c.set_word-2.ensures.start c.set_word-2.ensures.bytes
+pub head-newest-requires-after_bounds : goal.head-newest-requires-after_bounds
+head-newest-requires-after_bounds g c κs within =
+    let (r, free, place, len, room) = c.requires.room in
+    let at = IsClassAt-told c.requires.parameters room.block c.args.len c.in-Some.fl c.in-Some.sl len c.in-Some.ensures in
+    (search rules, (at.row, at.place))
 
-pub overflow_add-newest : goal.overflow_add-newest
-overflow_add-newest c =
-    let first = newest_placed c.requires.3 c.if-newest-ne0.true in
-    omega (arith, fits_at 24 (omega arith) refl first.1 first.2 c.requires.3.addressable)
+pub link_front-requires : goal.link_front-requires
+link_front-requires g c =
+    let fl = c.in-Some.fl in
+    let sl = c.in-Some.sl in
+    let (r, free, place, len, room) = c.requires.room in
+    let at = IsClassAt-told c.requires.parameters room.block c.args.len fl sl len c.in-Some.ensures in
+    let counts = c.head-newest.ensures.counts in
+    let kept = IsRoom-counted c.args.memory.now c.head-newest.new.memory counts.start counts.bytes room in
+    let list = IsFreeList-of_class_from kept.list fl sl at.row at.place c.head-newest.result c.head-newest.ensures.value in
+    (r, of_class g.row.SLLEN fl sl free, place, list, kept.placed, coverage-front_class fl sl kept at)
 
-pub set_word-requires-then-newest-ne0 : goal.set_word-requires-then-newest-ne0
-set_word-requires-then-newest-ne0 c =
-    let first = newest_placed c.requires.3 c.if-newest-ne0.true in
-    let words = links (goal.at.set_word-requires-then-newest-ne0 c).After-set_word-2 c.requires.2 c.requires.4 in
-    let start = words.1.rewrites.start ∙ words.0.rewrites.start in
-    let len = words.1.rewrites.length ∙ words.0.rewrites.length in
-    (omega (arith, first.1, first.2.whole), (omega (arith, start, first.1, first.2.lies_in), omega (arith, start, len, first.1, first.2.lies_in, first.2.room)))
+pub put-requires-send-FLBitmap : goal.put-requires-send-FLBitmap
+put-requires-send-FLBitmap g c κs within = c.type_bounds.send-FLBitmap
 
-pub returns-then-newest-ne0 : goal.returns-then-newest-ne0
-returns-then-newest-ne0 c r free place list placed apart =
+pub put-requires-send-SLBitmap : goal.put-requires-send-SLBitmap
+put-requires-send-SLBitmap g c κs within = c.type_bounds.send-SLBitmap
+
+pub put-requires-sync-FLBitmap : goal.put-requires-sync-FLBitmap
+put-requires-sync-FLBitmap g c κs within = c.type_bounds.sync-FLBitmap
+
+pub put-requires-sync-SLBitmap : goal.put-requires-sync-SLBitmap
+put-requires-sync-SLBitmap g c κs within = c.type_bounds.sync-SLBitmap
+
+pub put-requires-after_bounds : goal.put-requires-after_bounds
+put-requires-after_bounds g c κs within =
+    let (r, free, place, len, room) = c.requires.room in
+    let at = IsClassAt-told c.requires.parameters room.block c.args.len c.in-Some.fl c.in-Some.sl len c.in-Some.ensures in
+    (search rules, (c.requires.parameters, (at.row, at.place)))
+
+pub returns-clause-step : goal.returns-clause-step
+returns-clause-step g c r free place len room =
     let m = c.args.memory.now in
-    let n = c.set_word-then-newest-ne0.new.self in
-    let some : c.args.newest ≢ 0 = c.if-newest-ne0.true in
-    let first = newest_placed list some in
-    let words = links (goal.at.returns-then-newest-ne0 c).After-set_word-2 place placed in
-    let word = IsWord-at 24 (omega arith) refl first.1 first.2 c.set_word-2.new.self (omega (arith, words.0.rewrites.start, words.1.rewrites.start)) (omega (arith, words.0.rewrites.length, words.1.rewrites.length)) in
-    let back = wrote c.set_word-2.new.self n (c.args.newest + 24) c.args.block c.set_word-then-newest-ne0.ensures.bytes (omega arith) (omega arith) in
-    let fronts : Fronts m n c.args.newest c.args.block = record {
-      one = c.set_word.new.self;
-      two = c.set_word-2.new.self;
-      next = words.0;
-      previous = words.1;
-      back = Writes-some (c.args.newest ≢ 0) some word c.ranges.block.fits c.set_word-then-newest-ne0.ensures.start back;
-    } in
-    (Links-front m n c.args.newest c.args.block r free place list placed apart fronts, Rewrites-front m n c.args.newest c.args.block r free place list placed apart fronts)
-
-pub returns-else-newest-ne0 : goal.returns-else-newest-ne0
-returns-else-newest-ne0 c r free place list placed apart =
-    let m = c.args.memory.now in
-    let n = c.set_word-2.new.self in
-    let words = links (goal.at.returns-else-newest-ne0 c).After-set_word-2 place placed in
-    let fronts : Fronts m n c.args.newest c.args.block = record {
-      one = c.set_word.new.self;
-      two = n;
-      next = words.0;
-      previous = words.1;
-      back = Writes-none n n (c.args.newest ≢ 0) (c.args.newest + 24) c.args.block refl (λ some. some c.if-newest-ne0.false);
-    } in
-    (Links-front m n c.args.newest c.args.block r free place list placed apart fronts, Rewrites-front m n c.args.newest c.args.block r free place list placed apart fronts)
+    let n = c.head-newest.new.memory in
+    let o = c.link_front.new.memory in
+    let fl = c.in-Some.fl in
+    let sl = c.in-Some.sl in
+    let at = IsClassAt-told c.requires.parameters room.block c.args.len fl sl len c.in-Some.ensures in
+    let read = c.head-newest.ensures.counts in
+    let kept = IsRoom-counted m n read.start read.bytes room in
+    let list = IsFreeList-of_class_from kept.list fl sl at.row at.place c.head-newest.result c.head-newest.ensures.value in
+    let (linked, rewrites) = c.link_front.ensures.step r (of_class g.row.SLLEN fl sl free) place list kept.placed (coverage-front_class fl sl kept at) in
+    let bits = c.put.ensures.bits r free at.class room.list.table.bits in
+    let counts = c.put.ensures.counts in (
+      HasTable-counted o c.put.new.memory counts.start counts.bytes (HasTable-front fl sl kept at c.args.block place c.put.ensures.heads bits linked rewrites),
+      Rewrites-counted_first m n read.start read.bytes (Rewrites-counted_last o c.put.new.memory counts.start counts.bytes (Rewrites-front_class fl sl kept at rewrites)),
+    )

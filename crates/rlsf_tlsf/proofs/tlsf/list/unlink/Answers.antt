@@ -1,84 +1,68 @@
--- The blocks that the block's links name are placed, so that their words can be written; and the two writes take the block out.
-use Rattle.std.proofs.Common.{◌≢◌, ◌∷◌, ◌+◌, arith, inl, refl}
-use Rattle.rlsf_tlsf.proofs.FreeLists.Removal.{Cuts, Links-out, next_placed, previous_placed, Rewrites-out, Writes-back, Writes-forth}
-use Rattle.rlsf_tlsf.proofs.FreeLists.Writes.{fits_at, IsWord-at, Writes, Writes-none}
+-- The block is taken out of the list of its class; where it was the newest one there, the class's head is set.
+use Rattle.std.proofs.Common.{◌∷◌, inl, refl, rules, subst}
+use Rattle.rlsf_base.specs.Sizes.{IsSize}
+use Rattle.rlsf_machine.proofs.Choices.{has_class-from}
 use Rattle.rlsf_machine.proofs.Coverage.{IsIn-append_right}
+use Rattle.rlsf_tlsf.specs.Table.{class_at, head_at, of_class}
+use Rattle.rlsf_tlsf.proofs.FreeLists.ClassTables.{HasTable-removal, HasTable-removal_behind, IsFreeList-amid, IsFreeList-of_class, IsHeadOf-removal, Rewrites-amid_class}
+use Rattle.rlsf_tlsf.proofs.FreeLists.Classes.{IsIn-of_class_from}
+use Rattle.rlsf_tlsf.proofs.FreeLists.Counted.{HasTable-counted, Rewrites-counted_last}
+use Rattle.rlsf_tlsf.proofs.FreeLists.Indices.{IsClassAt-told, indices_of, IsSize-free}
+use Rattle.rlsf_tlsf.proofs.FreeLists.Tables.{IsIn-removal}
 use Rattle.rlsf_tlsf.proofs.tlsf.list.unlink.Goals as goal
-use Rattle.rlsf_tlsf.proofs.tlsf.list.unlink.Goals.{then-next-ne0, else-next-ne0}
 
-pub overflow_add-block : goal.overflow_add-block
-overflow_add-block c = record { fits = fits_at 16 (omega arith) refl c.requires.2 (c.requires.4.placed c.requires.0 c.requires.3) c.requires.4.addressable }
+pub unlink_between-newest-requires : goal.unlink_between-newest-requires
+unlink_between-newest-requires g c =
+    let sllen = g.row.SLLEN in
+    let (r, free, place, len, i, list) = c.requires.listed in
+    let (fl, sl, at) = indices_of c.requires.parameters (list.blocks r i) in
+    (r, of_class sllen fl sl free, head_at c.args.table.now fl sl, place, IsIn-of_class_from sllen fl sl r free i (has_class-from sllen (class_at fl sl) r at.class), IsFreeList-of_class list fl sl at.row at.place)
 
-pub word-next-requires : goal.word-next-requires
-word-next-requires c = IsWord-at 16 (omega arith) refl c.requires.2 (c.requires.4.placed c.requires.0 c.requires.3) c.args.memory.now refl refl
+pub map_floor-requires-clause-size : goal.map_floor-requires-clause-size
+map_floor-requires-clause-size g c κs within =
+    let (r, free, place, len, i, list) = c.requires.listed in
+    subst IsSize len (IsSize-free (list.blocks r i))
 
-pub overflow_add-block-2 : goal.overflow_add-block-2
-overflow_add-block-2 c = record { fits = fits_at 24 (omega arith) refl c.requires.2 (c.requires.4.placed c.requires.0 c.requires.3) c.requires.4.addressable }
+pub take-requires-send-FLBitmap : goal.take-requires-send-FLBitmap
+take-requires-send-FLBitmap g c κs within = c.type_bounds.send-FLBitmap
 
-pub word-previous-requires : goal.word-previous-requires
-word-previous-requires c = IsWord-at 24 (omega arith) refl c.requires.2 (c.requires.4.placed c.requires.0 c.requires.3) c.args.memory.now refl refl
+pub take-requires-send-SLBitmap : goal.take-requires-send-SLBitmap
+take-requires-send-SLBitmap g c κs within = c.type_bounds.send-SLBitmap
 
-pub overflow_add-next : goal.overflow_add-next
-overflow_add-next c =
-    let found = next_placed c.requires.0 c.requires.2 c.requires.3 c.requires.4 c.word-next.ensures c.if-next-ne0.true in
-    record { fits = fits_at 24 (omega arith) refl found.1 found.2 c.requires.4.addressable }
+pub take-requires-sync-FLBitmap : goal.take-requires-sync-FLBitmap
+take-requires-sync-FLBitmap g c κs within = c.type_bounds.sync-FLBitmap
 
-pub set_word-requires : goal.set_word-requires
-set_word-requires c =
-    let found = next_placed c.requires.0 c.requires.2 c.requires.3 c.requires.4 c.word-next.ensures c.if-next-ne0.true in
-    IsWord-at 24 (omega arith) refl found.1 found.2 c.args.memory.now refl refl
+pub take-requires-sync-SLBitmap : goal.take-requires-sync-SLBitmap
+take-requires-sync-SLBitmap g c κs within = c.type_bounds.sync-SLBitmap
 
-pub overflow_add-previous : goal.overflow_add-previous
-overflow_add-previous c =
-    let found = previous_placed c.requires.0 c.requires.2 c.requires.3 c.requires.4 c.word-previous.ensures c.if-previous-eq0.false in
-    record { fits = fits_at 16 (omega arith) refl found.1 found.2 c.requires.4.addressable }
+pub take-requires-after_bounds : goal.take-requires-after_bounds
+take-requires-after_bounds g c κs within =
+    let (r, free, place, len, i, list) = c.requires.listed in
+    let at = IsClassAt-told c.requires.parameters (list.blocks r i) c.args.len c.in-Some-map_floor.fl c.in-Some-map_floor.sl len c.in-Some-map_floor.ensures in
+    (search rules, (c.requires.parameters, (at.row, at.place)))
 
-pub set_word-requires-else-previous-eq0 : goal.set_word-requires-else-previous-eq0
-set_word-requires-else-previous-eq0 c =
-    let found = previous_placed c.requires.0 c.requires.2 c.requires.3 c.requires.4 c.word-previous.ensures c.if-previous-eq0.false in
-    let back : Writes c.args.memory.now c.if-next-ne0.memory (c.word-next.result ≢ 0) (c.word-next.result + 24) c.word-previous.result = elim c.if-next-ne0.branch [
-      | then-next-ne0 w ↦ Writes-back c.requires.0 c.requires.2 c.requires.3 c.requires.4 c.if-next-ne0.memory w.set_word.new.self c.word-next.ensures w.if-next-ne0.true c.word-previous.type_inv w.memory-is w.set_word.ensures.start w.set_word.ensures.bytes
-      | else-next-ne0 w ↦ Writes-none _ _ _ _ _ w.memory-is (λ some. some w.if-next-ne0.false)
-    ] in
-    IsWord-at 16 (omega arith) refl found.1 found.2 c.if-next-ne0.memory back.rewrites.start back.rewrites.length
-
-pub returns-then-previous-eq0 : goal.returns-then-previous-eq0
-returns-then-previous-eq0 c r before after place list =
-    let m = c.args.memory.now in
-    let n = c.if-next-ne0.memory in
-    let next = c.word-next.result in
-    let previous = c.word-previous.result in
-    let back : Writes m n (next ≢ 0) (next + 24) previous = elim c.if-next-ne0.branch [
-      | then-next-ne0 w ↦ Writes-back r place (IsIn-append_right r before (r ∷ after) (inl refl)) list n w.set_word.new.self c.word-next.ensures w.if-next-ne0.true c.word-previous.type_inv w.memory-is w.set_word.ensures.start w.set_word.ensures.bytes
-      | else-next-ne0 w ↦ Writes-none _ _ _ _ _ w.memory-is (λ some. some w.if-next-ne0.false)
-    ] in
-    let cuts : Cuts m n next previous = record {
-      one = n;
-      back = back;
-      forth = Writes-none n n (previous ≢ 0) (previous + 16) next refl (λ some. some c.if-previous-eq0.true);
-    } in (
-      Links-out m n c.args.newest c.args.block next previous r before after place list c.word-next.ensures c.word-previous.ensures cuts
-          next (λ none. refl) (λ some. absurd (some c.if-previous-eq0.true)),
-      Rewrites-out m n c.args.newest c.args.block next previous r before after place list c.word-next.ensures c.word-previous.ensures cuts,
+pub returns-in-Some-map_floor-clause-step : goal.returns-in-Some-map_floor-clause-step
+returns-in-Some-map_floor-clause-step g c r before after place len list =
+    let sllen = g.row.SLLEN in
+    let n = c.unlink_between-newest.new.memory in
+    let o = c.take.new.memory in
+    let fl = c.in-Some-map_floor.fl in
+    let sl = c.in-Some-map_floor.sl in
+    let next = c.in-Some.next in
+    let block = list.blocks r (IsIn-append_right r before (r ∷ after) (inl refl)) in
+    let at = IsClassAt-told c.requires.parameters block c.args.len fl sl len c.in-Some-map_floor.ensures in
+    let (linked, rewrites) = c.in-Some.ensures.step (head_at c.args.table.now fl sl) r (of_class sllen fl sl before) (of_class sllen fl sl after) place (IsFreeList-amid before r after fl sl list at) in
+    let is_head = IsHeadOf-removal before r after fl sl list at next linked rewrites in
+    let bits = c.take.ensures.bits r before after at.class (λ f i. list.blocks f (IsIn-removal before r after f i)) is_head list.table.bits in
+    let counts = c.take.ensures.counts in (
+      HasTable-counted n o counts.start counts.bytes (HasTable-removal before r after fl sl list at next linked rewrites c.take.ensures.heads bits),
+      Rewrites-counted_last n o counts.start counts.bytes (Rewrites-amid_class before r after fl sl list at rewrites),
     )
 
-pub returns-else-previous-eq0 : goal.returns-else-previous-eq0
-returns-else-previous-eq0 c r before after place list =
-    let m = c.args.memory.now in
-    let n = c.set_word-else-previous-eq0.new.self in
-    let next = c.word-next.result in
-    let previous = c.word-previous.result in
-    let there = IsIn-append_right r before (r ∷ after) (inl refl) in
-    let back : Writes m c.if-next-ne0.memory (next ≢ 0) (next + 24) previous = elim c.if-next-ne0.branch [
-      | then-next-ne0 w ↦ Writes-back r place there list c.if-next-ne0.memory w.set_word.new.self c.word-next.ensures w.if-next-ne0.true c.word-previous.type_inv w.memory-is w.set_word.ensures.start w.set_word.ensures.bytes
-      | else-next-ne0 w ↦ Writes-none _ _ _ _ _ w.memory-is (λ some. some w.if-next-ne0.false)
-    ] in
-    let cuts : Cuts m n next previous = record {
-      one = c.if-next-ne0.memory;
-      back = back;
-      forth = Writes-forth r place there list c.if-next-ne0.memory n c.word-previous.ensures c.if-previous-eq0.false c.word-next.type_inv back c.set_word-else-previous-eq0.ensures.start c.set_word-else-previous-eq0.ensures.bytes;
-    } in (
-      Links-out m n c.args.newest c.args.block next previous r before after place list c.word-next.ensures c.word-previous.ensures cuts
-          c.args.newest (λ none. absurd (c.if-previous-eq0.false none)) (λ some. refl),
-      Rewrites-out m n c.args.newest c.args.block next previous r before after place list c.word-next.ensures c.word-previous.ensures cuts,
-    )
+pub returns-in_default-clause-step : goal.returns-in_default-clause-step
+returns-in_default-clause-step g c r before after place len list =
+    let sllen = g.row.SLLEN in
+    let (fl, sl, at) = indices_of c.requires.parameters (list.blocks r (IsIn-append_right r before (r ∷ after) (inl refl))) in
+    let head = head_at c.args.table.now fl sl in
+    let (linked, rewrites) = c.in_default.ensures.step head r (of_class sllen fl sl before) (of_class sllen fl sl after) place (IsFreeList-amid before r after fl sl list at) in
+    (HasTable-removal_behind before r after fl sl list at head linked rewrites refl, Rewrites-amid_class before r after fl sl list at rewrites)

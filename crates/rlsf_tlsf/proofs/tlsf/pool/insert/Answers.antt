@@ -32,12 +32,24 @@ loop-left-init g c = λ s v fresh.
     let first : c.in-Some.first ≡ round32 c.args.range.start = c.in-Some.ensures.1 in
     IsFilled-init v c.args.range fresh _ _ first (ap (λ a. (c.args.range.start + c.args.range.len - a) / 32 * 32) first) c.if-first-end.true
 
-pub add_chunk-requires : goal.add_chunk-requires
-add_chunk-requires g c =
+pub add_chunk-requires-send-FLBitmap : goal.add_chunk-requires-send-FLBitmap
+add_chunk-requires-send-FLBitmap g c κs within = c.type_bounds.send-FLBitmap
+
+pub add_chunk-requires-send-SLBitmap : goal.add_chunk-requires-send-SLBitmap
+add_chunk-requires-send-SLBitmap g c κs within = c.type_bounds.send-SLBitmap
+
+pub add_chunk-requires-sync-FLBitmap : goal.add_chunk-requires-sync-FLBitmap
+add_chunk-requires-sync-FLBitmap g c κs within = c.type_bounds.sync-FLBitmap
+
+pub add_chunk-requires-sync-SLBitmap : goal.add_chunk-requires-sync-SLBitmap
+add_chunk-requires-sync-SLBitmap g c κs within = c.type_bounds.sync-SLBitmap
+
+pub add_chunk-requires-after_bounds : goal.add_chunk-requires-after_bounds
+add_chunk-requires-after_bounds g c κs within =
     let (s, v, fresh) = c.requires.fresh in
     let filled = c.loop-left.invariant s v fresh in
     let new = IsNewChunk-next v c.args.range fresh filled (omega arith) in
-    (g.row.FLLEN, g.row.SLLEN, filled.now, filled.stands, subst (λ n. IsNewChunk c.loop-left.memory filled.now (range_at c.loop-left.start n)) (sym c.chunk_length-len.ensures.value) new)
+    (omega arith, (c.requires.parameters, (filled.now, filled.stands, subst (λ n. IsNewChunk g.row.FLLEN g.row.SLLEN c.loop-left.memory filled.now (range_at c.loop-left.start n)) (sym c.chunk_length-len.ensures.value) new)))
 
 pub overflow_add-start : goal.overflow_add-start
 overflow_add-start g c =
@@ -51,10 +63,10 @@ loop-left-preserved g c = λ s v fresh.
     let filled = c.loop-left.invariant s v fresh in
     let same = c.chunk_length-len.ensures.value in
     let new = IsNewChunk-next v c.args.range fresh filled (omega arith) in
-    let made = c.add_chunk.ensures g.row.FLLEN g.row.SLLEN filled.now filled.stands (subst (λ n. IsNewChunk c.loop-left.memory filled.now (range_at c.loop-left.start n)) (sym same) new) in
-    let added = subst (λ n. IsAdded c.loop-left.memory c.add_chunk.new.memory filled.now.free (range_at c.loop-left.start n)) same made in
-    subst (λ n. IsFilled g.row.FLLEN g.row.SLLEN c.args.memory.now s c.args.range c.add_chunk.new.memory c.loop-left.start (c.loop-left.start + n) (c.loop-left.left - n)) (sym same)
-    (IsFilled-next v c.args.range fresh filled (omega arith) c.add_chunk.new.memory added)
+    let made = c.add_chunk.ensures.step filled.now filled.stands (subst (λ n. IsNewChunk g.row.FLLEN g.row.SLLEN c.loop-left.memory filled.now (range_at c.loop-left.start n)) (sym same) new) in
+    let added = subst (λ n. IsAdded g.row.FLLEN g.row.SLLEN c.loop-left.memory c.add_chunk.new.memory c.add_chunk.new.table filled.now.free (range_at c.loop-left.start n)) same made in
+    subst (λ n. IsFilled g.row.FLLEN g.row.SLLEN c.args.memory.now s c.args.range c.add_chunk.new.memory c.add_chunk.new.table (c.loop-left.start + n) (c.loop-left.left - n)) (sym same)
+    (IsFilled-next v c.args.range fresh filled (omega arith) c.add_chunk.new.memory c.add_chunk.new.table added c.add_chunk.ensures.touches c.add_chunk.ensures.copied)
 
 pub overflow_sub-taken : goal.overflow_sub-taken
 overflow_sub-taken g c =
@@ -90,3 +102,14 @@ returns-clause-place g c =
     let (s, v, fresh) = c.requires.fresh in
     let filled = c.loop-left.invariant s v fresh in
     (ap (λ p. p.start) filled.place, ap (λ p. p.len) filled.place)
+
+pub returns-clause-touches : goal.returns-clause-touches
+returns-clause-touches g c =
+    let (s, v, fresh) = c.requires.fresh in
+    let filled = c.loop-left.invariant s v fresh in
+    omega (arith, filled.touches)
+
+pub returns-clause-copied : goal.returns-clause-copied
+returns-clause-copied g c =
+    let (s, v, fresh) = c.requires.fresh in
+    (c.loop-left.invariant s v fresh).copied

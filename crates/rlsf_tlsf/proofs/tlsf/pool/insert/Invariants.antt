@@ -7,8 +7,8 @@ use Rattle.rlsf_tlsf.proofs.tlsf.pool.insert.Given as goal
 
 abbrev pub invariant-loop-left : goal.invariant-loop-left
 invariant-loop-left g l =
-    (s : State) → StandsFor g.row.FLLEN g.row.SLLEN (contents l.fn.memory l.fn.newest) s → IsFresh (range_of l.fn.memory) s l.fn.range
-    → IsFilled g.row.FLLEN g.row.SLLEN l.fn.memory s l.fn.range l.memory l.head l.start l.left
+    (s : State) → StandsFor g.row.FLLEN g.row.SLLEN (contents l.fn.memory l.fn.table) s → IsFresh (range_of l.fn.memory) s l.fn.range
+    → IsFilled g.row.FLLEN g.row.SLLEN l.fn.memory s l.fn.range l.memory l.table l.start l.left
 
 abbrev pub decreases-loop-left : goal.decreases-loop-left
 decreases-loop-left g l = l.left

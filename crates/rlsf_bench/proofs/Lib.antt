@@ -1,0 +1,3 @@
+pub mod SlotChanges
+pub mod Underway
+pub mod WholePool

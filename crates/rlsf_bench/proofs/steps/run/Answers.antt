@@ -1,0 +1,72 @@
+use Rattle.std.proofs.Common.{rules, ◌≡◌, ◌+◌, length, drop, None, replicate, arith, sym, ◌∙◌, ap, subst}
+use Rattle.std.specs.Int.NonZero.{non_zero_usize_get}
+use Rattle.std.specs.Option.{option_map}
+use Rattle.rlsf_machine.specs.State.{empty}
+use Rattle.rlsf_bench.proofs.WholePool.{whole_is_fresh}
+use Rattle.rlsf_bench.specs.Runs.{IsBench, RunState}
+use Rattle.rlsf_bench.specs.Slots.{IsAt, LeadsOn}
+use Rattle.rlsf_bench.proofs.Underway.{IsUnderway, IsUnderway-beginning, IsUnderway-next, IsBench-end, take_all}
+use Rattle.rlsf_bench.proofs.steps.run.Goals as goal
+
+pub insert_free_block_ptr-requires-after_bounds : goal.insert_free_block_ptr-requires-after_bounds
+insert_free_block_ptr-requires-after_bounds g c κs within =
+    (search rules, (empty, c.requires.new, whole_is_fresh c.args.tlsf.memory c.args.pool c.requires.pool.0 c.requires.pool.1))
+
+pub loop-init : goal.loop-init
+loop-init g c =
+    let fresh = whole_is_fresh c.args.tlsf.memory c.args.pool c.requires.pool.0 c.requires.pool.1 in
+    let (t, step, stands, _) = c.insert_free_block_ptr.ensures.step empty c.requires.new fresh in
+    IsUnderway-beginning (option_map non_zero_usize_get c.insert_free_block_ptr.result) t step stands (c.in_ok-live.ensures.ok ∙ ap (λ n. replicate n None) c.get.ensures.value) c.new-tally.ensures c.new-draws.ensures
+
+pub step-requires-after_bounds : goal.step-requires-after_bounds
+step-requires-after_bounds g c κs within =
+    let w = c.loop.invariant in
+    let items = c.deref_mut.ensures.value in (
+      search rules,
+      (
+        omega (arith, ap length items, w.slots, c.get.ensures.value, c.get.ensures.nonzero),
+        (
+          (w.state, subst (λ t. IsAt g.row.FLLEN g.row.SLLEN c.loop.tlsf t c.loop.tally w.state) (sym items) w.at),
+          omega (arith, w.refused, c.loop-test.true, c.ranges.steps.fits),
+        ),
+      ),
+    )
+
+pub loop-preserved : goal.loop-preserved
+loop-preserved g c =
+    let items = c.deref_mut.ensures.value in
+    let does = subst (λ t. (s : RunState) → IsAt g.row.FLLEN g.row.SLLEN c.loop.tlsf t c.loop.tally s → LeadsOn g.row.FLLEN g.row.SLLEN (length t) c.next.result s c.step.new.tlsf c.step.new.slots c.step.new.tally) items c.step.ensures.does in
+    let long : length c.step.new.slots ≡ length c.loop.live.items = omega (arith, c.step.auto.slots, ap length items) in
+    let whole : length c.step.new.slots ≡ c.loop.live.len = omega (arith, c.step.auto.slots, c.deref_mut.ensures.len) in
+    let next = IsUnderway-next c.loop.invariant c.next.result c.next.new.self.state c.next.ensures.state c.next.ensures.number c.step.new.tlsf c.step.new.slots c.step.new.tally does long c.step.ensures.refused in
+    subst (λ t. IsUnderway g.row.FLLEN g.row.SLLEN c.args.pool (non_zero_usize_get c.args.slots) c.step.new.tlsf t c.step.new.tally c.next.new.self.state (c.loop.counter + 1))
+    (sym (take_all c.step.new.slots (drop (length c.step.new.slots) c.loop.live.items) c.loop.live.len whole)) next
+
+pub returns-clause-ok : goal.returns-clause-ok
+returns-clause-ok g c =
+    let all : c.loop.counter ≡ c.args.steps = omega (arith, c.loop-test.false, c.loop.auto.counter-end) in
+    subst (λ n. IsBench g.row.FLLEN g.row.SLLEN c.args.pool (non_zero_usize_get c.args.slots) n c.loop.tally) all (IsBench-end c.loop.invariant)
+
+pub insert_free_block_ptr-requires-send-FLBitmap : goal.insert_free_block_ptr-requires-send-FLBitmap
+insert_free_block_ptr-requires-send-FLBitmap g c κs within = c.type_bounds.send-FLBitmap
+
+pub insert_free_block_ptr-requires-send-SLBitmap : goal.insert_free_block_ptr-requires-send-SLBitmap
+insert_free_block_ptr-requires-send-SLBitmap g c κs within = c.type_bounds.send-SLBitmap
+
+pub insert_free_block_ptr-requires-sync-FLBitmap : goal.insert_free_block_ptr-requires-sync-FLBitmap
+insert_free_block_ptr-requires-sync-FLBitmap g c κs within = c.type_bounds.sync-FLBitmap
+
+pub insert_free_block_ptr-requires-sync-SLBitmap : goal.insert_free_block_ptr-requires-sync-SLBitmap
+insert_free_block_ptr-requires-sync-SLBitmap g c κs within = c.type_bounds.sync-SLBitmap
+
+pub step-requires-send-FLBitmap : goal.step-requires-send-FLBitmap
+step-requires-send-FLBitmap g c κs within = c.type_bounds.send-FLBitmap
+
+pub step-requires-send-SLBitmap : goal.step-requires-send-SLBitmap
+step-requires-send-SLBitmap g c κs within = c.type_bounds.send-SLBitmap
+
+pub step-requires-sync-FLBitmap : goal.step-requires-sync-FLBitmap
+step-requires-sync-FLBitmap g c κs within = c.type_bounds.sync-FLBitmap
+
+pub step-requires-sync-SLBitmap : goal.step-requires-sync-SLBitmap
+step-requires-sync-SLBitmap g c κs within = c.type_bounds.sync-SLBitmap

@@ -1,0 +1,80 @@
+-- Runs of the benchmark: what steps do to the list machine, and what is counted.
+use Rattle.std.specs.Prelude.{◌≡◌, ℕ, zero, suc, ◌+◌, ◌*◌, ◌/◌, ◌%◌, ◌^◌, nat_eq, if◌then◌else◌, Option, Some, None}
+use Rattle.rlsf_base.specs.declared.memory.range.Range.{Range}
+use Rattle.rlsf_machine.specs.Allocate.{Allocates}
+use Rattle.rlsf_machine.specs.Insert.{Inserts}
+use Rattle.rlsf_machine.specs.Release.{Deallocates}
+use Rattle.rlsf_machine.specs.State.{State, empty}
+use Rattle.rlsf_bench.specs.declared.arguments.Configuration.{Configuration}
+use Rattle.rlsf_bench.specs.declared.arguments.Configuration.TheVariants.{TwelveBySixteen, FiftyNineByEight, SixtyFourBySixtyFour}
+use Rattle.rlsf_bench.specs.declared.tally.Tally.{Tally}
+use Rattle.rlsf_bench.specs.Draws.{drawn}
+
+-- how many rows of size classes a configuration has
+abbrev pub rows_of : Configuration → ℕ
+rows_of TwelveBySixteen = 12
+rows_of FiftyNineByEight = 59
+rows_of SixtyFourBySixtyFour = 64
+
+-- how many classes a row of a configuration has
+abbrev pub classes_of : Configuration → ℕ
+classes_of TwelveBySixteen = 16
+classes_of FiftyNineByEight = 8
+classes_of SixtyFourBySixtyFour = 64
+
+-- what a run has come to: the machine's state, the address of each slot's payload, and what was counted
+pub record RunState : Type 0 where
+  pub machine : State
+  pub slots : ℕ → Option ℕ
+  pub tally : Tally
+
+-- nothing is counted yet
+abbrev pub nothing : Tally
+nothing = record { refused = 0; checksum = 0 }
+
+-- from this state of the machine on, with empty slots
+abbrev pub beginning : State → RunState
+beginning machine = record { machine = machine; slots = λ slot. None; tally = nothing }
+
+-- the slots with what one of them holds now
+abbrev pub with_slot : ℕ → Option ℕ → (ℕ → Option ℕ) → ℕ → Option ℕ
+with_slot slot held slots = λ other. if nat_eq slot other then held else slots other
+
+-- what is counted once an allocation was answered too
+abbrev pub counted : Option ℕ → Tally → Tally
+counted None tally = record { refused = tally.refused + 1; checksum = tally.checksum }
+counted (Some addr) tally = record { refused = tally.refused; checksum = (tally.checksum * 31 % 2 ^ 64 + addr) % 2 ^ 64 }
+
+-- the slot that a number names, of so many
+abbrev pub slot_of : ℕ → ℕ → ℕ
+slot_of slots draw = draw / 2 ^ 32 % slots
+
+-- the size that it asks for
+abbrev pub size_of : ℕ → ℕ
+size_of draw = draw % 512
+
+-- the payload that the slot holds is freed; where it holds none, one of this size is allocated into it
+abbrev pub Changes : ℕ → ℕ → ℕ → RunState → Option ℕ → RunState → Type 0
+Changes sllen slot size s (Some addr) t =
+    (machine : State) × Deallocates s.machine addr machine × (t ≡ record { machine = machine; slots = with_slot slot None s.slots; tally = s.tally })
+Changes sllen slot size s None t =
+    (reply : Option ℕ) × (machine : State) × Allocates sllen s.machine size 1 reply machine
+    × (t ≡ record { machine = machine; slots = with_slot slot reply s.slots; tally = counted reply s.tally })
+
+-- one step, by a number
+abbrev pub Does : ℕ → ℕ → ℕ → RunState → RunState → Type 0
+Does sllen slots draw s t = Changes sllen (slot_of slots draw) (size_of draw) s (s.slots (slot_of slots draw)) t
+
+-- so many steps, by the numbers in the order that they are drawn in
+abbrev pub Runs : ℕ → ℕ → ℕ → RunState → RunState → Type 0
+Runs sllen slots zero s t = t ≡ s
+Runs sllen slots (suc n) s t = (u : RunState) × Runs sllen slots n s u × Does sllen slots (drawn n) u t
+
+-- this is counted in a run of so many steps, from the state that a pool leads to
+pub record IsBench (fllen sllen : ℕ) (pool : Range) (slots steps : ℕ) (tally : Tally) : Type 0 where
+  pub taken : Option ℕ
+  pub machine : State
+  pub inserted : Inserts fllen empty pool taken machine
+  pub last : RunState
+  pub ran : Runs sllen slots steps (beginning machine) last
+  pub counts : tally ≡ last.tally

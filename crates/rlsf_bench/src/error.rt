@@ -1,0 +1,49 @@
+ghost use Rattle.std.specs.Prelude.{◌≡◌};
+
+use std::alloc::AllocError;
+use std::error::Error;
+use std::{fmt, io};
+
+/// Why nothing was done.
+#[derive(Debug, Drop)]
+pub(crate) enum BenchError {
+    /// The arguments aren't a configuration, a number of slots that isn't 0, a number of steps, and a mode.
+    Usage,
+    /// The mode wants payloads reallocated, which the allocator doesn't do yet.
+    NoReallocation,
+    /// The machine refused memory.
+    OutOfMemory,
+    /// The command line could not be read, or the output could not be written.
+    Io(io::Error),
+}
+
+impl fmt::Display for BenchError {
+    fn fmt<W: fmt::Write>(&self, f: &mut fmt::Formatter<W>) -> fmt::Result {
+        match self {
+            BenchError::Usage => f.write_str(
+                "usage: rlsf_bench 12x16|59x8|64x64 SLOTS STEPS free|realloc, with SLOTS from 1 on",
+            ),
+            BenchError::NoReallocation => f.write_str("payloads can't be reallocated yet"),
+            BenchError::OutOfMemory => f.write_str("the machine refused memory"),
+            BenchError::Io(error) => write!(f, "{error}"),
+        }
+    }
+}
+
+impl Error for BenchError {}
+
+impl From<AllocError> for BenchError {
+    ghost use Rattle.rlsf_bench.specs.declared.error.BenchError.TheVariants.{OutOfMemory};
+
+    ghost from_gives = { λ _ error. error ≡ OutOfMemory };
+
+    fn from(_refused: AllocError) -> BenchError {
+        BenchError::OutOfMemory
+    }
+}
+
+impl From<io::Error> for BenchError {
+    fn from(error: io::Error) -> BenchError {
+        BenchError::Io(error)
+    }
+}

@@ -1,0 +1,102 @@
+//! The run: payloads are allocated into slots and freed.
+
+ghost use Rattle.std.specs.Prelude.{◌≡◌, ◌+◌, ◌<◌, ◌≤◌, ◌^◌, length, replicate, None, IfOk, IfErr};
+ghost use Rattle.std.specs.Int.NonZero.{non_zero_usize_get};
+ghost use Rattle.rlsf_machine.specs.State.{empty};
+ghost use Rattle.rlsf_tlsf.specs.StandsFor.{StandsFor};
+ghost use Rattle.rlsf_bench.specs.Runs.{slot_of, size_of, RunState, IsBench};
+ghost use Rattle.rlsf_bench.specs.Slots.{IsAt, LeadsOn};
+
+use crate::error::BenchError;
+use crate::random::Xorshift;
+use crate::tally::Tally;
+use rlsf_base::memory::{Addr, Layout, Memory, Range};
+use rlsf_int::BinInteger;
+use rlsf_tlsf::Tlsf;
+use std::alloc::Global;
+use std::num::NonZeroUsize;
+
+/// The layout that a drawn number asks for: up to 511 bytes, anywhere.
+fn layout_of(draw: u64) -> Layout
+    ensures { (result.size ≡ size_of draw) × (result.align ≡ 1) }
+{
+    Layout::from_size_align_unchecked((draw % 512) as usize, 1)
+}
+
+/// The slot that a drawn number names, of so many.
+fn slot_of(slots: usize, draw: u64) -> usize
+    requires { 0 < slots }
+    ensures value { result ≡ slot_of slots draw }
+    ensures bound { result < slots }
+{
+    (draw >> 32) as usize % slots
+}
+
+/// A memory of these addresses.
+pub(crate) fn memory_of(alloc: Global, addresses: Range) -> Result<Memory, BenchError>
+    ensures ok { IfOk result (λ memory. (memory.start ≡ addresses.start) × (length memory.bytes ≡ addresses.len)) }
+    ensures err { IfErr result (λ error. error ≡ BenchError.OutOfMemory) }
+{
+    Memory::new(alloc, addresses.start, addresses.len).map_err(|_| BenchError::OutOfMemory)
+}
+
+/// So many slots, without a payload.
+fn empty_slots(alloc: Global, slots: usize) -> Result<Vec<Option<Addr>>, BenchError>
+    ensures ok { IfOk result (λ live. live.items ≡ replicate slots None) }
+    ensures err { IfErr result (λ error. error ≡ BenchError.OutOfMemory) }
+{
+    Ok(vec![in alloc; None; slots]?)
+}
+
+/// Frees the payload of the slot that a drawn number names, or else allocates one into it.
+fn step<FLBitmap: BinInteger, SLBitmap: BinInteger, const FLLEN: usize, const SLLEN: usize>(
+    tlsf: &mut Tlsf<FLBitmap, SLBitmap, FLLEN, SLLEN>,
+    slots: &mut [Option<Addr>],
+    tally: &mut Tally,
+    draw: u64,
+)
+    requires some { 0 < length slots.old }
+    requires state { (s : RunState) × IsAt FLLEN SLLEN tlsf.old slots.old tally.old s }
+    requires refused { tally.old.refused + 1 < 2 ^ 64 }
+    ensures does { (s : RunState) → IsAt FLLEN SLLEN tlsf.old slots.old tally.old s → LeadsOn FLLEN SLLEN (length slots.old) draw s tlsf.new slots.new tally.new }
+    ensures refused { tally.new.refused ≤ tally.old.refused + 1 }
+{
+    let slot = slot_of(slots.len(), draw);
+    if let Some(addr) = slots[slot] {
+        tlsf.deallocate(addr, 1);
+        slots[slot] = None;
+    } else {
+        let placed = tlsf.allocate(layout_of(draw));
+        slots[slot] = placed;
+        tally.count(placed);
+    }
+}
+
+/// Does so many steps on so many slots, with an allocator that has no chunk: its memory, which is the pool, is inserted
+/// first. Answers what came of the allocations.
+pub(crate) fn run<
+    FLBitmap: BinInteger,
+    SLBitmap: BinInteger,
+    const FLLEN: usize,
+    const SLLEN: usize,
+>(
+    alloc: Global,
+    mut tlsf: Tlsf<FLBitmap, SLBitmap, FLLEN, SLLEN>,
+    pool: Range,
+    slots: NonZeroUsize,
+    steps: u64,
+) -> Result<Tally, BenchError>
+    requires new { StandsFor FLLEN SLLEN tlsf empty }
+    requires pool { (tlsf.memory.start ≡ pool.start) × (length tlsf.memory.bytes ≡ pool.len) }
+    ensures ok { IfOk result (λ tally. IsBench FLLEN SLLEN pool (non_zero_usize_get slots) steps tally) }
+    ensures err { IfErr result (λ error. error ≡ BenchError.OutOfMemory) }
+{
+    let _ = tlsf.insert_free_block_ptr(pool);
+    let mut live = empty_slots(alloc, slots.get())?;
+    let mut draws = Xorshift::new();
+    let mut tally = Tally::new();
+    for _ in 0..steps {
+        step(&mut tlsf, &mut live, &mut tally, draws.next());
+    }
+    Ok(tally)
+}

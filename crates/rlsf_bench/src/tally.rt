@@ -1,0 +1,52 @@
+ghost use Rattle.std.specs.Prelude.{◌≡◌, ◌+◌, ◌<◌, ◌≤◌, ◌^◌};
+ghost use Rattle.std.specs.Int.NonZero.{non_zero_usize_get};
+ghost use Rattle.std.specs.Option.{option_map};
+ghost use Rattle.rlsf_bench.specs.Runs.{counted, nothing};
+
+use rlsf_base::memory::Addr;
+use std::fmt;
+
+/// What came of the allocations so far.
+#[derive(Clone, Copy, Debug, PartialEq, Eq)]
+pub(crate) struct Tally {
+    /// How many were refused.
+    pub(crate) refused: u64,
+    /// A sum over the addresses that were allocated, in their order.
+    pub(crate) checksum: u64,
+}
+
+impl Tally {
+    /// Before the first allocation.
+    pub(crate) fn new() -> Tally
+        ensures { result ≡ nothing }
+    {
+        Tally {
+            refused: 0,
+            checksum: 0,
+        }
+    }
+
+    /// Counts one allocation more, by its answer.
+    pub(crate) fn count(&mut self, placed: Option<Addr>)
+        requires { self.old.refused + 1 < 2 ^ 64 }
+        ensures counts { self.new ≡ counted (option_map non_zero_usize_get placed) self.old }
+        ensures refused { self.new.refused ≤ self.old.refused + 1 }
+    {
+        match placed {
+            Some(addr) => {
+                self.checksum = self
+                    .checksum
+                    .wrapping_mul(31)
+                    .wrapping_add(addr.get() as u64);
+            }
+            None => self.refused += 1,
+        }
+    }
+}
+
+impl fmt::Display for Tally {
+    fn fmt<W: fmt::Write>(&self, f: &mut fmt::Formatter<W>) -> fmt::Result {
+        let Tally { refused, checksum } = *self;
+        write!(f, "{refused} refused, checksum {checksum}")
+    }
+}

@@ -1,0 +1,32 @@
+-- The word of a row, copied one bit after another.
+use Rattle.std.proofs.Common.{◌≡◌, ◌≢◌, ℕ, ◌+◌, ◌<◌, ◌==◌, nat_lt, Bool, true, false, ◌&&◌, ◌||◌, arith, sym, ◌∙◌, ap, inl, inr}
+use Rattle.std.proofs.Math.Bool.{or-false}
+use Rattle.std.proofs.lemmas.Bool.{cases_eq, cases_lt, eq-eqb, ne_eqb, lt-ltb, le-ltb, or_right, and_from, and_left}
+
+-- one more place makes a difference there alone
+lt-next : (k place : ℕ) → k ≢ place → nat_lt k place ≡ nat_lt k (place + 1)
+lt-next k place apart = elim (cases_lt k place) [
+  | inl before ↦ lt-ltb k place before ∙ sym (lt-ltb k (place + 1) (omega arith))
+  | inr from ↦ le-ltb k place from ∙ sym (le-ltb k (place + 1) (omega arith))
+]
+
+module _ (word : ℕ → Bool) (k place : ℕ) (was : Bool) (copied : was ≡ (word k && nat_lt k place)) where
+  -- a one is copied
+  pub copied-one : (now : Bool) (width : ℕ) → now ≡ (was || (k == place && nat_lt place width)) → word place ≡ true → place < width → now ≡ (word k && nat_lt k (place + 1))
+  copied-one now width set one within = elim (cases_eq k place) [
+    | inl same ↦
+        let here : (k == place && nat_lt place width) ≡ true = and_from (k == place) (nat_lt place width) (eq-eqb k place same) (lt-ltb place width within) in
+        set ∙ or_right was (k == place && nat_lt place width) here ∙ sym (and_from (word k) (nat_lt k (place + 1)) (ap word same ∙ one) (lt-ltb k (place + 1) (omega arith)))
+    | inr apart ↦
+        let none : (k == place && nat_lt place width) ≡ false = and_left (k == place) (nat_lt place width) (ne_eqb k place apart) in
+        set ∙ ap (λ b. was || b) none ∙ or-false was ∙ copied ∙ ap (λ b. word k && b) (lt-next k place apart)
+  ]
+
+  -- where there is none, nothing is
+  pub copied-none : word place ≡ false → was ≡ (word k && nat_lt k (place + 1))
+  copied-none none = elim (cases_eq k place) [
+    | inl same ↦
+        let empty : word k ≡ false = ap word same ∙ none in
+        copied ∙ and_left (word k) (nat_lt k place) empty ∙ sym (and_left (word k) (nat_lt k (place + 1)) empty)
+    | inr apart ↦ copied ∙ ap (λ b. word k && b) (lt-next k place apart)
+  ]
