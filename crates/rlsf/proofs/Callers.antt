@@ -1,3 +1,5 @@
 -- What callers of the allocator know by its clauses alone.
+pub mod Appended
 pub mod Filled
 pub mod Live
+pub mod Moved

@@ -7,8 +7,10 @@ ghost use Rattle.rlsf_base.specs.SizeClass.{IsValid};
 ghost use Rattle.rlsf_machine.specs.State.{State, IsLive};
 ghost use Rattle.rlsf_tlsf.specs.StandsFor.{StandsFor};
 
+mod appends;
 mod frees;
 mod loans;
+mod reallocations;
 mod tables;
 
 use crate::int::BinInteger;

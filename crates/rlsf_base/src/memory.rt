@@ -40,6 +40,8 @@ pub enum MemoryError {
 pub struct Memory {
     base: Base,
     start: usize,
+    // The address at which the block begins: `start`, rounded down to a multiple of 8.
+    origin: usize,
     len: usize,
     bytes: Bytes,
     deed: Deed<Global>,
@@ -47,7 +49,7 @@ pub struct Memory {
     alloc: Global,
 }
 
-const _: () = prove!(size_of::<Memory>() == size_of::<Vec<u8>>());
+const _: () = prove!(size_of::<Memory>() == size_of::<Vec<u8>>() + size_of::<usize>());
 
 impl Model for Memory {
     ghost use Rattle.rlsf_base.specs.Space.{Space};
@@ -58,14 +60,17 @@ impl Model for Memory {
 
     ghost view = { λ m. record { start = m.start; bytes = m.bytes.bytes; touches = m.counters.touches; copied = m.counters.copied } };
 
-    ghost invariant = { λ m. IsMemory m.base m.start m.len m.bytes m.deed m.alloc };
+    ghost invariant = { λ m. IsMemory m.base m.start m.origin m.len m.bytes m.deed m.alloc };
 }
 
 impl Drop for Memory {
+    // Once in a memory's life: apart from its other calls, this lets the compiler keep where the block is in registers there.
+    #[inline(never)]
     fn drop(self) {
         let Memory {
             base,
             start,
+            origin: _,
             len,
             bytes,
             deed,
@@ -101,6 +106,7 @@ impl Memory {
             Some((base, bytes, deed)) => Ok(Memory {
                 base,
                 start,
+                origin: start - start % 8,
                 len,
                 bytes,
                 deed,
@@ -132,7 +138,7 @@ impl Memory {
         requires { self.now.start ≤ addr }
         ensures { result ≡ self.now.start % 8 + (addr - self.now.start) }
     {
-        addr - (self.start - self.start % 8)
+        addr - self.origin
     }
 
     /// The bytes of `range`, which lies in the memory.

@@ -1,3 +1,3 @@
+pub mod FirstPool
 pub mod SlotChanges
 pub mod Underway
-pub mod WholePool

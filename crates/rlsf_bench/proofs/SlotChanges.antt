@@ -1,21 +1,23 @@
 -- Where a run has come to, by its slots, and where a step takes it.
-use Rattle.std.proofs.Common.{◌≡◌, ℕ, ◌<◌, ◌⊎◌, cond, Option, Some, None, List, length, slice_index_or, slice_set, replicate, arith, inl, inr, refl, sym, ◌∙◌, ap, subst}
+use Rattle.std.proofs.Common.{◌≡◌, ℕ, zero, suc, ◌<◌, ◌⊎◌, Bool, true, false, cond, Option, Some, None, MatchOption, List, length, slice_index_or, slice_set, replicate, arith, inl, inr, refl, sym, ◌∙◌, ap, subst}
 use Rattle.std.proofs.lemmas.Bool.Decides.{eqb_tells, leb_tells}
 use Rattle.std.proofs.lemmas.List.{get_or-replicate, get_or-set_same, get_or-set_other, get_or_past, length-replicate}
 use Rattle.std.specs.Int.NonZero.{non_zero_usize_get}
-use Rattle.std.specs.Option.{option_map}
+use Rattle.std.specs.Option.{option_map, unwrap_or}
 use Rattle.std.specs.declared.num.NonZeroUsize.{NonZeroUsize}
 use Rattle.rlsf_base.specs.PowerOfTwo.{IsPowerOfTwo}
 use Rattle.rlsf_base.specs.Space.{range_of}
 use Rattle.rlsf_machine.specs.Allocate.{Allocates}
+use Rattle.rlsf_machine.specs.Reallocate.{Reallocates}
 use Rattle.rlsf_machine.specs.Release.{Deallocates}
-use Rattle.rlsf_machine.specs.Run.{allocate, deallocate}
+use Rattle.rlsf_machine.specs.Run.{allocate, deallocate, reallocate}
 use Rattle.rlsf_machine.specs.State.{State, IsLive}
-use Rattle.rlsf_machine.proofs.Live.{handed_out_is_new, live_stays}
+use Rattle.rlsf_machine.proofs.Determined.{refusal_changes_nothing}
+use Rattle.rlsf_machine.proofs.Live.{handed_out_is_new, live_stays, reallocated_is_live}
 use Rattle.rlsf_tlsf.specs.StandsFor.{Contents, StandsFor}
 use Rattle.rlsf_bench.specs.declared.tally.Tally.{Tally}
-use Rattle.rlsf_bench.specs.Runs.{Changes, RunState, beginning, counted, nothing, size_of, slot_of, with_slot}
-use Rattle.rlsf_bench.specs.Slots.{IsAt, LeadsOn}
+use Rattle.rlsf_bench.specs.Runs.{Changes, Does, RunState, beginning, counted, nothing, size_of, slot_of, with_slot}
+use Rattle.rlsf_bench.specs.Slots.{IsAt, LeadsOn, held}
 
 -- an address in changed slots is in the one that was changed, or was in another before
 with_slot-cases : (slot : ℕ) (held : Option ℕ) (slots : ℕ → Option ℕ) (other addr : ℕ) → with_slot slot held slots other ≡ Some addr
@@ -25,25 +27,25 @@ with_slot-cases slot held slots other addr is = elim (eqb_tells slot other) [
   | inr (is_false, differ) ↦ inr (differ, sym (ap (λ b. cond b held (slots other)) is_false) ∙ is)
 ]
 
-module _ {fllen sllen : ℕ} {v : Contents} {table : List (Option NonZeroUsize)} {counts : Tally} {s : RunState} (at : IsAt fllen sllen v table counts s) (slot : ℕ) (below : slot < length table) where
+module _ {fllen sllen : ℕ} {v : Contents} {table : List ℕ} {counts : Tally} {s : RunState} (at : IsAt fllen sllen v table counts s) (slot : ℕ) (below : slot < length table) where
   -- what the slots hold once one is changed
-  slots-set : (held : Option NonZeroUsize) (other : ℕ) → option_map non_zero_usize_get (slice_index_or (slice_set table slot held) other None) ≡ with_slot slot (option_map non_zero_usize_get held) s.slots other
-  slots-set held other = elim (eqb_tells slot other) [
+  slots-set : (number other : ℕ) → held (slice_index_or (slice_set table slot number) other 0) ≡ with_slot slot (held number) s.slots other
+  slots-set number other = elim (eqb_tells slot other) [
     | inl (is_true, same) ↦
-        ap (option_map non_zero_usize_get) (subst (λ i. slice_index_or (slice_set table slot held) i None ≡ held) same (get_or-set_same table slot held None below))
-        ∙ sym (ap (λ b. cond b (option_map non_zero_usize_get held) (s.slots other)) is_true)
+        ap held (subst (λ i. slice_index_or (slice_set table slot number) i 0 ≡ number) same (get_or-set_same table slot number 0 below))
+        ∙ sym (ap (λ b. cond b (held number) (s.slots other)) is_true)
     | inr (is_false, differ) ↦
-        ap (option_map non_zero_usize_get) (get_or-set_other table slot other held None (λ same. differ (sym same)))
-        ∙ at.slots other ∙ sym (ap (λ b. cond b (option_map non_zero_usize_get held) (s.slots other)) is_false)
+        ap held (get_or-set_other table slot other number 0 (λ same. differ (sym same)))
+        ∙ at.slots other ∙ sym (ap (λ b. cond b (held number) (s.slots other)) is_false)
   ]
 
   module _ {w : Contents} (t : State) (stands : StandsFor fllen sllen w t) where
     -- after the deallocation of the slot's payload
     pub IsAt-freed : (addr : ℕ) → s.slots slot ≡ Some addr → Deallocates s.machine addr t
-        → IsAt fllen sllen w (slice_set table slot None) counts (record { machine = t; slots = with_slot slot None s.slots; tally = s.tally })
+        → IsAt fllen sllen w (slice_set table slot 0) counts (record { machine = t; slots = with_slot slot None s.slots; tally = s.tally })
     IsAt-freed addr its step = record {
       stands = stands;
-      slots = slots-set None;
+      slots = slots-set 0;
       live = λ other a is. let (differ, there) = kept other a is in
           live_stays fllen sllen s.machine t (deallocate addr) a 1 step (at.live other a there) (λ same. differ (at.one_slot slot other a (its ∙ ap Some same) there));
       one_slot = λ one other a first second. at.one_slot one other a (kept one a first).1 (kept other a second).1;
@@ -54,12 +56,12 @@ module _ {fllen sllen : ℕ} {v : Contents} {table : List (Option NonZeroUsize)}
         kept other a is = elim (with_slot-cases slot None s.slots other a is) [ inl (_, none) ↦ absurd (cc) | inr was ↦ was ]
 
     -- after an allocation into it
-    pub IsAt-answered : (placed : Option NonZeroUsize) (size : ℕ) → IsPowerOfTwo 1 → Allocates sllen s.machine size 1 (option_map non_zero_usize_get placed) t
-        → (now : Tally) → now ≡ counted (option_map non_zero_usize_get placed) counts
-        → IsAt fllen sllen w (slice_set table slot placed) now (record { machine = t; slots = with_slot slot (option_map non_zero_usize_get placed) s.slots; tally = counted (option_map non_zero_usize_get placed) s.tally })
-    IsAt-answered placed size power step now counts_are = record {
+    pub IsAt-answered : (reply : Option ℕ) (number size : ℕ) → held number ≡ reply → IsPowerOfTwo 1 → Allocates sllen s.machine size 1 reply t
+        → (now : Tally) → now ≡ counted reply counts
+        → IsAt fllen sllen w (slice_set table slot number) now (record { machine = t; slots = with_slot slot reply s.slots; tally = counted reply s.tally })
+    IsAt-answered reply number size kept power step now counts_are = record {
       stands = stands;
-      slots = slots-set placed;
+      slots = λ other. slots-set number other ∙ ap (λ o. with_slot slot o s.slots other) kept;
       live = λ other a is. elim (cases other a is) [
         | inl (_, new) ↦ (handed a new).1
         | inr (_, there) ↦ live_stays fllen sllen s.machine t (allocate size 1 reply) a 1 step (at.live other a there) (λ never. never)
@@ -77,47 +79,114 @@ module _ {fllen sllen : ℕ} {v : Contents} {table : List (Option NonZeroUsize)}
       tally = counts_are ∙ ap (counted reply) at.tally;
     }
       where
-        reply : Option ℕ
-        reply = option_map non_zero_usize_get placed
-
         cases : (other a : ℕ) → with_slot slot reply s.slots other ≡ Some a → ((slot ≡ other) × (reply ≡ Some a)) ⊎ ((slot ≡ other → ⊥) × (s.slots other ≡ Some a))
         cases other a is = with_slot-cases slot reply s.slots other a is
 
         handed : (a : ℕ) → reply ≡ Some a → ((old : ℕ) → IsLive s.machine a old → ⊥) × IsLive t a 1
         handed a new = handed_out_is_new fllen sllen (range_of v.memory) s.machine t size 1 a at.stands.well_formed power (subst (λ r. Allocates sllen s.machine size 1 r t) new step)
 
-    -- a step that frees the slot's payload
-    pub LeadsOn-freed : (draw : ℕ) → slot ≡ slot_of (length table) draw → (addr : NonZeroUsize) → slice_index_or table slot None ≡ Some addr → Deallocates s.machine (non_zero_usize_get addr) t
-        → LeadsOn fllen sllen (length table) draw s w (slice_set table slot None) counts
-    LeadsOn-freed draw named addr there step = (after, subst (λ n. Changes sllen n (size_of draw) s (s.slots n) after) named (subst (λ o. Changes sllen slot (size_of draw) s o after) (sym its) (t, step, refl)), IsAt-freed (non_zero_usize_get addr) its step)
+    -- after a reallocation of the slot's payload
+    pub IsAt-reallocated : (addr : ℕ) → s.slots slot ≡ Some addr → (reply : Option ℕ) (number size : ℕ) → held number ≡ Some (unwrap_or reply addr) → Reallocates sllen s.machine addr size reply t
+        → (now : Tally) → now ≡ counted reply counts
+        → IsAt fllen sllen w (slice_set table slot number) now (record { machine = t; slots = with_slot slot (Some (unwrap_or reply addr)) s.slots; tally = counted reply s.tally })
+    IsAt-reallocated addr its reply number size kept step now counts_are = record {
+      stands = stands;
+      slots = λ other. slots-set number other ∙ ap (λ o. with_slot slot o s.slots other) kept;
+      live = λ other a is. elim (cases other a is) [
+        | inl (_, moved) ↦ subst (λ x. IsLive t x 1) moved (there_now reply step).0
+        | inr (differ, there) ↦ live_stays fllen sllen s.machine t (reallocate addr size reply) a 1 step (at.live other a there) (λ same. differ (at.one_slot slot other a (its ∙ ap Some same) there))
+      ];
+      one_slot = λ one other a first second. elim (cases one a first) [
+        | inl (same, moved) ↦ elim (cases other a second) [
+          | inl (same_too, _) ↦ sym same ∙ same_too
+          | inr (differ, there) ↦ absurd (differ (unshared other a moved there))
+        ]
+        | inr (differ, there) ↦ elim (cases other a second) [
+          | inl (_, moved) ↦ absurd (differ (unshared one a moved there))
+          | inr (_, there_too) ↦ at.one_slot one other a there there_too
+        ]
+      ];
+      tally = counts_are ∙ ap (counted reply) at.tally;
+    }
       where
-        its : s.slots slot ≡ Some (non_zero_usize_get addr)
-        its = sym (at.slots slot) ∙ ap (option_map non_zero_usize_get) there
+        cases : (other a : ℕ) → with_slot slot (Some (unwrap_or reply addr)) s.slots other ≡ Some a → ((slot ≡ other) × (unwrap_or reply addr ≡ a)) ⊎ ((slot ≡ other → ⊥) × (s.slots other ≡ Some a))
+        cases other a is = elim (with_slot-cases slot (Some (unwrap_or reply addr)) s.slots other a is) [
+          | inl (same, now) ↦ inl (same, ap (λ o. unwrap_or o 0) now)
+          | inr was ↦ inr was
+        ]
 
+        -- the payload is live where it is now, and that is where it was if something was live there
+        there_now : (reply : Option ℕ) → Reallocates sllen s.machine addr size reply t → IsLive t (unwrap_or reply addr) 1 × (IsLive s.machine (unwrap_or reply addr) 1 → unwrap_or reply addr ≡ addr)
+        there_now None step = (subst (λ x. IsLive x addr 1) (sym (refusal_changes_nothing fllen sllen s.machine t (reallocate addr size None) step refl)) (at.live slot addr its), λ _. refl)
+        there_now (Some to) step =
+            let (live, same) = reallocated_is_live fllen sllen (range_of v.memory) s.machine t addr size to 1 at.stands.well_formed (at.live slot addr its) step in
+            (live, same 1)
+
+        -- no other slot held where it is now
+        unshared : (other a : ℕ) → unwrap_or reply addr ≡ a → s.slots other ≡ Some a → slot ≡ other
+        unshared other a moved there =
+            let same = (there_now reply step).1 (subst (λ x. IsLive s.machine x 1) (sym moved) (at.live other a there)) in
+            at.one_slot slot other a (its ∙ ap Some (sym same ∙ moved)) there
+
+    -- a step on the slot, by what it holds
+    does_on : (reallocates : Bool) (draw : ℕ) → slot ≡ slot_of (length table) draw → (o : Option ℕ) → held (slice_index_or table slot 0) ≡ o → (after : RunState) → Changes sllen reallocates slot (size_of draw) s o after
+        → Does sllen (length table) reallocates draw s after
+    does_on reallocates draw named o holds after step =
+        subst (λ n. Changes sllen reallocates n (size_of draw) s (s.slots n) after) named (subst (λ p. Changes sllen reallocates slot (size_of draw) s p after) (sym holds ∙ at.slots slot) step)
+
+    -- a step that frees the slot's payload
+    pub LeadsOn-freed : (reallocates : Bool) → reallocates ≡ false → (draw : ℕ) → slot ≡ slot_of (length table) draw → (addr : ℕ) → held (slice_index_or table slot 0) ≡ Some addr → Deallocates s.machine addr t
+        → LeadsOn fllen sllen (length table) reallocates draw s w (slice_set table slot 0) counts
+    LeadsOn-freed reallocates frees draw named addr there step =
+        (after, does_on reallocates draw named (Some addr) there after (subst (λ r. Changes sllen r slot (size_of draw) s (Some addr) after) (sym frees) (t, step, refl)), IsAt-freed addr (sym (at.slots slot) ∙ there) step)
+      where
         after : RunState
         after = record { machine = t; slots = with_slot slot None s.slots; tally = s.tally }
 
-    -- a step that allocates into it
-    pub LeadsOn-answered : (draw : ℕ) → slot ≡ slot_of (length table) draw → slice_index_or table slot None ≡ None → (placed : Option NonZeroUsize) (size align : ℕ) → size ≡ size_of draw → align ≡ 1
-        → Allocates sllen s.machine size align (option_map non_zero_usize_get placed) t → (now : Tally) → now ≡ counted (option_map non_zero_usize_get placed) counts
-        → LeadsOn fllen sllen (length table) draw s w (slice_set table slot placed) now
-    LeadsOn-answered draw named empty placed size align size_is align_is step now counts_are = (
+    -- a step that reallocates it
+    pub LeadsOn-reallocated : (reallocates : Bool) → reallocates ≡ true → (draw : ℕ) → slot ≡ slot_of (length table) draw → (addr : ℕ) → held (slice_index_or table slot 0) ≡ Some addr → (reply : Option ℕ) (number size : ℕ)
+        → held number ≡ Some (unwrap_or reply addr) → size ≡ size_of draw → Reallocates sllen s.machine addr size reply t → (now : Tally) → now ≡ counted reply counts
+        → LeadsOn fllen sllen (length table) reallocates draw s w (slice_set table slot number) now
+    LeadsOn-reallocated reallocates does draw named addr there reply number size kept size_is step now counts_are = (
       after,
-      subst (λ n. Changes sllen n (size_of draw) s (s.slots n) after) named (subst (λ o. Changes sllen slot (size_of draw) s o after) (sym none) (reply, t, asked, refl)),
-      IsAt-answered placed (size_of draw) refl asked now counts_are,
+      does_on reallocates draw named (Some addr) there after (subst (λ r. Changes sllen r slot (size_of draw) s (Some addr) after) (sym does) (reply, t, asked, refl)),
+      IsAt-reallocated addr (sym (at.slots slot) ∙ there) reply number (size_of draw) kept asked now counts_are,
     )
       where
-        reply : Option ℕ
-        reply = option_map non_zero_usize_get placed
+        asked : Reallocates sllen s.machine addr (size_of draw) reply t
+        asked = subst (λ n. Reallocates sllen s.machine addr n reply t) size_is step
 
-        none : s.slots slot ≡ None
-        none = sym (at.slots slot) ∙ ap (option_map non_zero_usize_get) empty
+        after : RunState
+        after = record { machine = t; slots = with_slot slot (Some (unwrap_or reply addr)) s.slots; tally = counted reply s.tally }
 
+    -- a step that allocates into it
+    pub LeadsOn-answered : (reallocates : Bool) (draw : ℕ) → slot ≡ slot_of (length table) draw → held (slice_index_or table slot 0) ≡ None → (reply : Option ℕ) (number size align : ℕ) → held number ≡ reply → size ≡ size_of draw → align ≡ 1
+        → Allocates sllen s.machine size align reply t → (now : Tally) → now ≡ counted reply counts
+        → LeadsOn fllen sllen (length table) reallocates draw s w (slice_set table slot number) now
+    LeadsOn-answered reallocates draw named empty reply number size align kept size_is align_is step now counts_are = (
+      after,
+      does_on reallocates draw named None empty after (reply, t, asked, refl),
+      IsAt-answered reply number (size_of draw) kept refl asked now counts_are,
+    )
+      where
         asked : Allocates sllen s.machine (size_of draw) 1 reply t
         asked = subst (λ a. Allocates sllen s.machine (size_of draw) a reply t) align_is (subst (λ n. Allocates sllen s.machine n align reply t) size_is step)
 
         after : RunState
         after = record { machine = t; slots = with_slot slot reply s.slots; tally = counted reply s.tally }
+
+-- what a slot holds, by the address that its number is
+pub held-address : (number : ℕ) (o : Option NonZeroUsize) → MatchOption o (number ≡ 0) (λ addr. non_zero_usize_get addr ≡ number) → held number ≡ option_map non_zero_usize_get o
+held-address zero None is = refl
+held-address zero (Some addr) is = absurd (omega (arith, is, addr.ok))
+held-address (suc before) None is = absurd (omega (arith, is))
+held-address (suc before) (Some addr) is = ap Some (sym is)
+
+-- what the slot of a payload holds once a reallocation was answered
+pub held-moved : (number : ℕ) (now : NonZeroUsize) (moved : Option NonZeroUsize) (addr : NonZeroUsize) → number ≡ non_zero_usize_get now → now ≡ unwrap_or moved addr
+    → held number ≡ Some (unwrap_or (option_map non_zero_usize_get moved) (non_zero_usize_get addr))
+held-moved number now None addr value is = held-address number (Some addr) (ap non_zero_usize_get (sym is) ∙ sym value)
+held-moved number now (Some to) addr value is = held-address number (Some to) (ap non_zero_usize_get (sym is) ∙ sym value)
 
 -- an element of a list of equal ones, or what stands for one past its end
 replicate_same : {A : Type 0} (x : A) (n i : ℕ) → slice_index_or (replicate n x) i x ≡ x
@@ -127,11 +196,11 @@ replicate_same x n i = elim (leb_tells n i) [
 ]
 
 -- with empty slots, a run is at its beginning
-pub IsAt-beginning : {fllen sllen : ℕ} {v : Contents} {table : List (Option NonZeroUsize)} {counts : Tally} (s : State) (n : ℕ) → StandsFor fllen sllen v s → table ≡ replicate n None → counts ≡ nothing
+pub IsAt-beginning : {fllen sllen : ℕ} {v : Contents} {table : List ℕ} {counts : Tally} (s : State) (n : ℕ) → StandsFor fllen sllen v s → table ≡ replicate n 0 → counts ≡ nothing
     → IsAt fllen sllen v table counts (beginning s)
 IsAt-beginning {table = table} s n stands empty none = record {
   stands = stands;
-  slots = λ slot. ap (λ t. option_map non_zero_usize_get (slice_index_or t slot None)) empty ∙ ap (option_map non_zero_usize_get) (replicate_same None n slot);
+  slots = λ slot. ap (λ t. held (slice_index_or t slot 0)) empty ∙ ap held (replicate_same 0 n slot);
   live = λ slot addr is. absurd (no_address addr is);
   one_slot = λ slot other addr is _. absurd (no_address addr is);
   tally = none;

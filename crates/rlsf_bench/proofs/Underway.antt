@@ -1,15 +1,15 @@
 -- A run that has done the first of its steps.
-use Rattle.std.proofs.Common.{◌≡◌, ℕ, suc, ◌+◌, ◌*◌, ◌%◌, ◌^◌, ◌≤◌, Option, List, ◌++◌, length, take, replicate, None, arith, refl, sym, ◌∙◌, ap, subst}
+use Rattle.std.proofs.Common.{◌≡◌, ℕ, suc, ◌+◌, ◌*◌, ◌%◌, ◌^◌, ◌≤◌, Bool, Option, List, ◌++◌, length, take, replicate, arith, refl, sym, ◌∙◌, ap, subst}
 use Rattle.std.proofs.Math.Seq.{take-append_seam}
 use Rattle.std.proofs.lemmas.List.{length-replicate}
-use Rattle.std.specs.declared.num.NonZeroUsize.{NonZeroUsize}
 use Rattle.rlsf_base.specs.declared.memory.range.Range.{Range}
 use Rattle.rlsf_machine.specs.Insert.{Inserts}
 use Rattle.rlsf_machine.specs.State.{State, empty}
 use Rattle.rlsf_tlsf.specs.StandsFor.{Contents, StandsFor}
+use Rattle.rlsf_bench.specs.declared.arguments.Mode.{Mode}
 use Rattle.rlsf_bench.specs.declared.tally.Tally.{Tally}
 use Rattle.rlsf_bench.specs.Draws.{drawn, next_state, seed, state_after}
-use Rattle.rlsf_bench.specs.Runs.{Does, IsBench, RunState, Runs, beginning, nothing}
+use Rattle.rlsf_bench.specs.Runs.{Does, IsBench, RunState, Runs, beginning, nothing, reallocates_at}
 use Rattle.rlsf_bench.specs.Slots.{IsAt, LeadsOn}
 use Rattle.rlsf_bench.proofs.SlotChanges.{IsAt-beginning}
 
@@ -28,21 +28,21 @@ unfolding state_after
 state_after-next n = let more : suc n ≡ n + 1 = omega arith in subst (λ k. next_state (state_after n) ≡ state_after k) more refl
 
 -- the first steps were done: the allocator, the slots and the tally are where they lead to, and the generator too
-pub record IsUnderway (fllen sllen : ℕ) (pool : Range) (size : ℕ) (v : Contents) (table : List (Option NonZeroUsize)) (counts : Tally) (draws done : ℕ) : Type 0 where
+pub record IsUnderway (fllen sllen : ℕ) (pool : Range) (size : ℕ) (mode : Mode) (v : Contents) (table : List ℕ) (counts : Tally) (draws done : ℕ) : Type 0 where
   pub taken : Option ℕ
   pub machine : State
   pub inserted : Inserts fllen empty pool taken machine
   pub state : RunState
-  pub ran : Runs sllen size done (beginning machine) state
+  pub ran : Runs sllen size mode done (beginning machine) state
   pub at : IsAt fllen sllen v table counts state
   pub slots : length table ≡ size
   pub generator : draws ≡ state_after done
   pub refused : counts.refused ≤ done
 
-module _ {fllen sllen : ℕ} {pool : Range} {size : ℕ} {v : Contents} {table : List (Option NonZeroUsize)} {counts : Tally} {draws : ℕ} where
+module _ {fllen sllen : ℕ} {pool : Range} {size : ℕ} {mode : Mode} {v : Contents} {table : List ℕ} {counts : Tally} {draws : ℕ} where
   -- before the first step
-  pub IsUnderway-beginning : (taken : Option ℕ) (s : State) → Inserts fllen empty pool taken s → StandsFor fllen sllen v s → table ≡ replicate size None → counts ≡ nothing → draws ≡ seed
-      → IsUnderway fllen sllen pool size v table counts draws 0
+  pub IsUnderway-beginning : (taken : Option ℕ) (s : State) → Inserts fllen empty pool taken s → StandsFor fllen sllen v s → table ≡ replicate size 0 → counts ≡ nothing → draws ≡ seed
+      → IsUnderway fllen sllen pool size mode v table counts draws 0
   IsUnderway-beginning taken s inserted stands none nothing_yet seeded = record {
     taken = taken;
     machine = s;
@@ -50,27 +50,29 @@ module _ {fllen sllen : ℕ} {pool : Range} {size : ℕ} {v : Contents} {table :
     state = beginning s;
     ran = refl;
     at = IsAt-beginning s size stands none nothing_yet;
-    slots = ap length none ∙ length-replicate size None;
+    slots = ap length none ∙ length-replicate size 0;
     generator = seeded ∙ sym state_after-none;
     refused = omega (arith, ap (λ t. t.refused) nothing_yet);
   }
 
   -- one step more
-  pub IsUnderway-next : {done : ℕ} (w : IsUnderway fllen sllen pool size v table counts draws done) (draw now : ℕ) → now ≡ next_state draws → draw ≡ now * 0x2545f4914f6cdd1d % 2 ^ 64
-      → (u : Contents) (new : List (Option NonZeroUsize)) (more : Tally) → ((s : RunState) → IsAt fllen sllen v table counts s → LeadsOn fllen sllen (length table) draw s u new more)
-      → length new ≡ length table → more.refused ≤ counts.refused + 1 → IsUnderway fllen sllen pool size u new more now (done + 1)
-  IsUnderway-next {done} w draw now after number u new more does long refused =
+  pub IsUnderway-next : {done : ℕ} (w : IsUnderway fllen sllen pool size mode v table counts draws done) (reallocates : Bool) → reallocates ≡ reallocates_at mode done → (draw now : ℕ) → now ≡ next_state draws → draw ≡ now * 0x2545f4914f6cdd1d % 2 ^ 64
+      → (u : Contents) (new : List ℕ) (more : Tally) → ((s : RunState) → IsAt fllen sllen v table counts s → LeadsOn fllen sllen (length table) reallocates draw s u new more)
+      → length new ≡ length table → more.refused ≤ counts.refused + 1 → IsUnderway fllen sllen pool size mode u new more now (done + 1)
+  IsUnderway-next {done} w reallocates turn draw now after number u new more does long refused =
       let (t, step, at) = does w.state w.at in
       let drawing = after ∙ ap next_state w.generator in
       let same = number ∙ ap (λ x. x * 0x2545f4914f6cdd1d % 2 ^ 64) drawing in
-      let here : Does sllen size (drawn done) w.state t = subst (λ n. Does sllen n (drawn done) w.state t) w.slots (subst (λ d. Does sllen (length table) d w.state t) same step) in
+      let turned : Does sllen (length table) (reallocates_at mode done) draw w.state t = subst (λ r. Does sllen (length table) r draw w.state t) turn step in
+      let here : Does sllen size (reallocates_at mode done) (drawn done) w.state t =
+      subst (λ n. Does sllen n (reallocates_at mode done) (drawn done) w.state t) w.slots (subst (λ d. Does sllen (length table) (reallocates_at mode done) d w.state t) same turned) in
       let last : suc done ≡ done + 1 = omega arith in
       record {
         taken = w.taken;
         machine = w.machine;
         inserted = w.inserted;
         state = t;
-        ran = subst (λ n. Runs sllen size n (beginning w.machine) t) last (w.state, w.ran, here);
+        ran = subst (λ n. Runs sllen size mode n (beginning w.machine) t) last (w.state, w.ran, here);
         at = at;
         slots = long ∙ w.slots;
         generator = drawing ∙ state_after-next done;
@@ -78,6 +80,6 @@ module _ {fllen sllen : ℕ} {pool : Range} {size : ℕ} {v : Contents} {table :
       }
 
 -- after the last step
-pub IsBench-end : {fllen sllen : ℕ} {pool : Range} {size : ℕ} {v : Contents} {table : List (Option NonZeroUsize)} {counts : Tally} {draws done : ℕ} → IsUnderway fllen sllen pool size v table counts draws done
-    → IsBench fllen sllen pool size done counts
+pub IsBench-end : {fllen sllen : ℕ} {pool : Range} {size : ℕ} {mode : Mode} {v : Contents} {table : List ℕ} {counts : Tally} {draws done : ℕ} → IsUnderway fllen sllen pool size mode v table counts draws done
+    → IsBench fllen sllen pool size done mode counts
 IsBench-end w = record { taken = w.taken; machine = w.machine; inserted = w.inserted; last = w.state; ran = w.ran; counts = w.at.tally }

@@ -1,12 +1,16 @@
 -- Runs of the benchmark: what steps do to the list machine, and what is counted.
-use Rattle.std.specs.Prelude.{◌≡◌, ℕ, zero, suc, ◌+◌, ◌*◌, ◌/◌, ◌%◌, ◌^◌, nat_eq, if◌then◌else◌, Option, Some, None}
+use Rattle.std.specs.Prelude.{◌≡◌, ℕ, zero, suc, ◌+◌, ◌*◌, ◌/◌, ◌%◌, ◌^◌, nat_eq, ◌==◌, Bool, true, false, if◌then◌else◌, Option, Some, None}
+use Rattle.std.specs.Option.{unwrap_or}
 use Rattle.rlsf_base.specs.declared.memory.range.Range.{Range}
 use Rattle.rlsf_machine.specs.Allocate.{Allocates}
 use Rattle.rlsf_machine.specs.Insert.{Inserts}
+use Rattle.rlsf_machine.specs.Reallocate.{Reallocates}
 use Rattle.rlsf_machine.specs.Release.{Deallocates}
 use Rattle.rlsf_machine.specs.State.{State, empty}
 use Rattle.rlsf_bench.specs.declared.arguments.Configuration.{Configuration}
 use Rattle.rlsf_bench.specs.declared.arguments.Configuration.TheVariants.{TwelveBySixteen, FiftyNineByEight, SixtyFourBySixtyFour}
+use Rattle.rlsf_bench.specs.declared.arguments.Mode.{Mode}
+use Rattle.rlsf_bench.specs.declared.arguments.Mode.TheVariants.{Free, Realloc}
 use Rattle.rlsf_bench.specs.declared.tally.Tally.{Tally}
 use Rattle.rlsf_bench.specs.Draws.{drawn}
 
@@ -21,6 +25,11 @@ abbrev pub classes_of : Configuration → ℕ
 classes_of TwelveBySixteen = 16
 classes_of FiftyNineByEight = 8
 classes_of SixtyFourBySixtyFour = 64
+
+-- whether the step of this number, from 0 on, reallocates the payload that its slot holds: each eighth does, in the mode for it
+abbrev pub reallocates_at : Mode → ℕ → Bool
+reallocates_at Free step = false
+reallocates_at Realloc step = step % 8 == 0
 
 -- what a run has come to: the machine's state, the address of each slot's payload, and what was counted
 pub record RunState : Type 0 where
@@ -40,7 +49,7 @@ beginning machine = record { machine = machine; slots = λ slot. None; tally = n
 abbrev pub with_slot : ℕ → Option ℕ → (ℕ → Option ℕ) → ℕ → Option ℕ
 with_slot slot held slots = λ other. if nat_eq slot other then held else slots other
 
--- what is counted once an allocation was answered too
+-- what is counted once an allocation or a reallocation was answered too
 abbrev pub counted : Option ℕ → Tally → Tally
 counted None tally = record { refused = tally.refused + 1; checksum = tally.checksum }
 counted (Some addr) tally = record { refused = tally.refused; checksum = (tally.checksum * 31 % 2 ^ 64 + addr) % 2 ^ 64 }
@@ -53,28 +62,32 @@ slot_of slots draw = draw / 2 ^ 32 % slots
 abbrev pub size_of : ℕ → ℕ
 size_of draw = draw % 512
 
--- the payload that the slot holds is freed; where it holds none, one of this size is allocated into it
-abbrev pub Changes : ℕ → ℕ → ℕ → RunState → Option ℕ → RunState → Type 0
-Changes sllen slot size s (Some addr) t =
-    (machine : State) × Deallocates s.machine addr machine × (t ≡ record { machine = machine; slots = with_slot slot None s.slots; tally = s.tally })
-Changes sllen slot size s None t =
+-- where the slot holds no payload, one of this size is allocated into it; else the one that it holds is freed, or, in a step that
+-- reallocates, gets this size, and stays where it was if that is refused
+abbrev pub Changes : ℕ → Bool → ℕ → ℕ → RunState → Option ℕ → RunState → Type 0
+Changes sllen reallocates slot size s None t =
     (reply : Option ℕ) × (machine : State) × Allocates sllen s.machine size 1 reply machine
     × (t ≡ record { machine = machine; slots = with_slot slot reply s.slots; tally = counted reply s.tally })
+Changes sllen false slot size s (Some addr) t =
+    (machine : State) × Deallocates s.machine addr machine × (t ≡ record { machine = machine; slots = with_slot slot None s.slots; tally = s.tally })
+Changes sllen true slot size s (Some addr) t =
+    (reply : Option ℕ) × (machine : State) × Reallocates sllen s.machine addr size reply machine
+    × (t ≡ record { machine = machine; slots = with_slot slot (Some (unwrap_or reply addr)) s.slots; tally = counted reply s.tally })
 
--- one step, by a number
-abbrev pub Does : ℕ → ℕ → ℕ → RunState → RunState → Type 0
-Does sllen slots draw s t = Changes sllen (slot_of slots draw) (size_of draw) s (s.slots (slot_of slots draw)) t
+-- one step by a number, which may be one that reallocates
+abbrev pub Does : ℕ → ℕ → Bool → ℕ → RunState → RunState → Type 0
+Does sllen slots reallocates draw s t = Changes sllen reallocates (slot_of slots draw) (size_of draw) s (s.slots (slot_of slots draw)) t
 
--- so many steps, by the numbers in the order that they are drawn in
-abbrev pub Runs : ℕ → ℕ → ℕ → RunState → RunState → Type 0
-Runs sllen slots zero s t = t ≡ s
-Runs sllen slots (suc n) s t = (u : RunState) × Runs sllen slots n s u × Does sllen slots (drawn n) u t
+-- so many steps in a mode, by the numbers in the order that they are drawn in
+abbrev pub Runs : ℕ → ℕ → Mode → ℕ → RunState → RunState → Type 0
+Runs sllen slots mode zero s t = t ≡ s
+Runs sllen slots mode (suc n) s t = (u : RunState) × Runs sllen slots mode n s u × Does sllen slots (reallocates_at mode n) (drawn n) u t
 
--- this is counted in a run of so many steps, from the state that a pool leads to
-pub record IsBench (fllen sllen : ℕ) (pool : Range) (slots steps : ℕ) (tally : Tally) : Type 0 where
+-- this is counted in a run of so many steps in a mode, from the state that a pool leads to
+pub record IsBench (fllen sllen : ℕ) (pool : Range) (slots steps : ℕ) (mode : Mode) (tally : Tally) : Type 0 where
   pub taken : Option ℕ
   pub machine : State
   pub inserted : Inserts fllen empty pool taken machine
   pub last : RunState
-  pub ran : Runs sllen slots steps (beginning machine) last
+  pub ran : Runs sllen slots mode steps (beginning machine) last
   pub counts : tally ≡ last.tally

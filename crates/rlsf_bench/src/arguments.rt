@@ -1,3 +1,6 @@
+ghost use Rattle.std.specs.Prelude.{◌≡◌};
+ghost use Rattle.rlsf_bench.specs.Runs.{reallocates_at};
+
 use crate::error::BenchError;
 use std::num::NonZeroUsize;
 
@@ -25,6 +28,36 @@ impl Configuration {
     }
 }
 
+/// What a step does to a payload that its slot holds.
+#[derive(Clone, Copy, Debug, PartialEq, Eq)]
+pub(crate) enum Mode {
+    /// `free`: it is freed.
+    Free,
+    /// `realloc`: each eighth step, from the first on, gives it another size, and the others free it.
+    Realloc,
+}
+
+impl Mode {
+    /// The mode that the word names, if it names one.
+    fn named(word: &str) -> Option<Mode> {
+        match word {
+            "free" => Some(Mode::Free),
+            "realloc" => Some(Mode::Realloc),
+            _ => None,
+        }
+    }
+
+    /// Whether the step of this number, from 0 on, reallocates the payload that its slot holds.
+    pub(crate) fn reallocates_at(self, step: u64) -> bool
+        ensures { result ≡ reallocates_at self step }
+    {
+        match self {
+            Mode::Free => false,
+            Mode::Realloc => step % 8 == 0,
+        }
+    }
+}
+
 /// What the command line asks for.
 #[derive(Clone, Copy, Debug, PartialEq, Eq)]
 pub(crate) struct Arguments {
@@ -32,8 +65,10 @@ pub(crate) struct Arguments {
     pub(crate) configuration: Configuration,
     /// How many payloads can be live at once.
     pub(crate) slots: NonZeroUsize,
-    /// How often a payload is allocated or freed.
+    /// How often a payload is allocated, freed or reallocated.
     pub(crate) steps: u64,
+    /// What a step does to a payload that its slot holds.
+    pub(crate) mode: Mode,
 }
 
 impl Arguments {
@@ -42,15 +77,11 @@ impl Arguments {
         let [_, configuration, slots, steps, mode] = words else {
             return Err(BenchError::Usage);
         };
-        let arguments = Arguments {
+        Ok(Arguments {
             configuration: Configuration::named(configuration).ok_or(BenchError::Usage)?,
             slots: slots.parse().map_err(|_| BenchError::Usage)?,
             steps: steps.parse().map_err(|_| BenchError::Usage)?,
-        };
-        match mode.as_str() {
-            "free" => Ok(arguments),
-            "realloc" => Err(BenchError::NoReallocation),
-            _ => Err(BenchError::Usage),
-        }
+            mode: Mode::named(mode).ok_or(BenchError::Usage)?,
+        })
     }
 }

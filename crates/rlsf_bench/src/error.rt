@@ -9,8 +9,6 @@ use std::{fmt, io};
 pub(crate) enum BenchError {
     /// The arguments aren't a configuration, a number of slots that isn't 0, a number of steps, and a mode.
     Usage,
-    /// The mode wants payloads reallocated, which the allocator doesn't do yet.
-    NoReallocation,
     /// The machine refused memory.
     OutOfMemory,
     /// The command line could not be read, or the output could not be written.
@@ -23,7 +21,6 @@ impl fmt::Display for BenchError {
             BenchError::Usage => f.write_str(
                 "usage: rlsf_bench 12x16|59x8|64x64 SLOTS STEPS free|realloc, with SLOTS from 1 on",
             ),
-            BenchError::NoReallocation => f.write_str("payloads can't be reallocated yet"),
             BenchError::OutOfMemory => f.write_str("the machine refused memory"),
             BenchError::Io(error) => write!(f, "{error}"),
         }

@@ -1,5 +1,5 @@
-//! Times the allocator: `rlsf_bench CONFIG SLOTS STEPS MODE` allocates payloads into slots and frees them, in an order
-//! that seems random and is the same in each run.
+//! Times the allocator: `rlsf_bench CONFIG SLOTS STEPS MODE` allocates payloads into slots and frees or reallocates them,
+//! in an order that seems random and is the same in each run.
 #![tactic(auto)]
 
 ghost use Rattle.std.specs.Prelude.{◌≡◌, ◌^◌, IfOk, IfErr};
@@ -24,10 +24,17 @@ use std::rt::Env;
 use steps::{memory_of, run};
 use tally::Tally;
 
-/// The addresses of the pool, which is all of the memory.
+/// The addresses of the pool.
 const POOL: Range = Range {
     start: 4096,
     len: 1 << 25,
+};
+
+/// The addresses of the memory. The machine gives a block of this length 16 bytes past the begin of a page: with 48
+/// bytes more before the pool no block's links lie across two of its cache lines, as they don't in the original.
+const MEMORY: Range = Range {
+    start: 4096 - 48,
+    len: (1 << 25) + 48,
 };
 
 fn main(rt: HostRuntime) -> ExitCode {
@@ -53,15 +60,16 @@ fn bench(rt: &(impl Env + Print + AllocGlobal)) -> Result<(), BenchError> {
 fn tally_of(alloc: Global, arguments: Arguments) -> Result<Tally, BenchError>
     ensures ok { IfOk result (λ tally. IsBench
         (rows_of arguments.configuration) (classes_of arguments.configuration)
-        (range_at 4096 (2 ^ 25)) (non_zero_usize_get arguments.slots) arguments.steps tally) }
+        (range_at 4096 (2 ^ 25)) (non_zero_usize_get arguments.slots) arguments.steps arguments.mode tally) }
     ensures err { IfErr result (λ error. error ≡ BenchError.OutOfMemory) }
 {
     let Arguments {
         configuration,
         slots,
         steps,
+        mode,
     } = arguments;
-    let memory = memory_of(alloc, POOL)?;
+    let memory = memory_of(alloc, MEMORY)?;
     match configuration {
         Configuration::TwelveBySixteen => {
             run(
@@ -70,6 +78,7 @@ fn tally_of(alloc: Global, arguments: Arguments) -> Result<Tally, BenchError>
                 POOL,
                 slots,
                 steps,
+                mode,
             )
         }
         Configuration::FiftyNineByEight => {
@@ -79,6 +88,7 @@ fn tally_of(alloc: Global, arguments: Arguments) -> Result<Tally, BenchError>
                 POOL,
                 slots,
                 steps,
+                mode,
             )
         }
         Configuration::SixtyFourBySixtyFour => {
@@ -88,6 +98,7 @@ fn tally_of(alloc: Global, arguments: Arguments) -> Result<Tally, BenchError>
                 POOL,
                 slots,
                 steps,
+                mode,
             )
         }
     }

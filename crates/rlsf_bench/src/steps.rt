@@ -1,12 +1,15 @@
-//! The run: payloads are allocated into slots and freed.
+//! The run: payloads are allocated into slots, and freed or reallocated.
 
-ghost use Rattle.std.specs.Prelude.{◌≡◌, ◌+◌, ◌<◌, ◌≤◌, ◌^◌, length, replicate, None, IfOk, IfErr};
+ghost use Rattle.std.specs.Prelude.{◌≡◌, ◌+◌, ◌<◌, ◌≤◌, ◌^◌, length, replicate, IfOk, IfErr};
 ghost use Rattle.std.specs.Int.NonZero.{non_zero_usize_get};
+ghost use Rattle.std.specs.Option.{option_map};
+ghost use Rattle.rlsf_base.specs.Range.{LiesIn};
 ghost use Rattle.rlsf_machine.specs.State.{empty};
 ghost use Rattle.rlsf_tlsf.specs.StandsFor.{StandsFor};
 ghost use Rattle.rlsf_bench.specs.Runs.{slot_of, size_of, RunState, IsBench};
-ghost use Rattle.rlsf_bench.specs.Slots.{IsAt, LeadsOn};
+ghost use Rattle.rlsf_bench.specs.Slots.{IsAt, LeadsOn, held};
 
+use crate::arguments::Mode;
 use crate::error::BenchError;
 use crate::random::Xorshift;
 use crate::tally::Tally;
@@ -40,40 +43,57 @@ pub(crate) fn memory_of(alloc: Global, addresses: Range) -> Result<Memory, Bench
     Memory::new(alloc, addresses.start, addresses.len).map_err(|_| BenchError::OutOfMemory)
 }
 
-/// So many slots, without a payload.
-fn empty_slots(alloc: Global, slots: usize) -> Result<Vec<Option<Addr>>, BenchError>
-    ensures ok { IfOk result (λ live. live.items ≡ replicate slots None) }
+/// So many slots, without a payload. A slot is the address of the payload that it holds, or 0.
+fn empty_slots(alloc: Global, slots: usize) -> Result<Vec<usize>, BenchError>
+    ensures ok { IfOk result (λ live. live.items ≡ replicate slots 0) }
     ensures err { IfErr result (λ error. error ≡ BenchError.OutOfMemory) }
 {
-    Ok(vec![in alloc; None; slots]?)
+    Ok(vec![in alloc; 0; slots]?)
 }
 
-/// Frees the payload of the slot that a drawn number names, or else allocates one into it.
+/// A slot that holds what an allocation answered.
+fn slot_with(placed: Option<Addr>) -> usize
+    ensures { held result ≡ option_map non_zero_usize_get placed }
+{
+    match placed {
+        Some(addr) => addr.get(),
+        None => 0,
+    }
+}
+
+/// Frees the payload of the slot that a drawn number names, or reallocates it; a slot without a payload gets one.
 fn step<FLBitmap: BinInteger, SLBitmap: BinInteger, const FLLEN: usize, const SLLEN: usize>(
     tlsf: &mut Tlsf<FLBitmap, SLBitmap, FLLEN, SLLEN>,
-    slots: &mut [Option<Addr>],
+    slots: &mut [usize],
     tally: &mut Tally,
+    reallocates: bool,
     draw: u64,
 )
     requires some { 0 < length slots.old }
     requires state { (s : RunState) × IsAt FLLEN SLLEN tlsf.old slots.old tally.old s }
     requires refused { tally.old.refused + 1 < 2 ^ 64 }
-    ensures does { (s : RunState) → IsAt FLLEN SLLEN tlsf.old slots.old tally.old s → LeadsOn FLLEN SLLEN (length slots.old) draw s tlsf.new slots.new tally.new }
+    ensures does { (s : RunState) → IsAt FLLEN SLLEN tlsf.old slots.old tally.old s → LeadsOn FLLEN SLLEN (length slots.old) reallocates draw s tlsf.new slots.new tally.new }
     ensures refused { tally.new.refused ≤ tally.old.refused + 1 }
 {
     let slot = slot_of(slots.len(), draw);
-    if let Some(addr) = slots[slot] {
-        tlsf.deallocate(addr, 1);
-        slots[slot] = None;
+    if let Some(addr) = NonZeroUsize::new(slots[slot]) {
+        if reallocates {
+            let moved = tlsf.reallocate(addr, layout_of(draw));
+            slots[slot] = moved.unwrap_or(addr).get();
+            tally.count(moved);
+        } else {
+            tlsf.deallocate(addr, 1);
+            slots[slot] = 0;
+        }
     } else {
         let placed = tlsf.allocate(layout_of(draw));
-        slots[slot] = placed;
+        slots[slot] = slot_with(placed);
         tally.count(placed);
     }
 }
 
-/// Does so many steps on so many slots, with an allocator that has no chunk: its memory, which is the pool, is inserted
-/// first. Answers what came of the allocations.
+/// Does so many steps on so many slots, with an allocator that has no chunk: the pool, which lies in its memory, is inserted
+/// first. Answers what came of the allocations and reallocations.
 pub(crate) fn run<
     FLBitmap: BinInteger,
     SLBitmap: BinInteger,
@@ -85,18 +105,25 @@ pub(crate) fn run<
     pool: Range,
     slots: NonZeroUsize,
     steps: u64,
+    mode: Mode,
 ) -> Result<Tally, BenchError>
     requires new { StandsFor FLLEN SLLEN tlsf empty }
-    requires pool { (tlsf.memory.start ≡ pool.start) × (length tlsf.memory.bytes ≡ pool.len) }
-    ensures ok { IfOk result (λ tally. IsBench FLLEN SLLEN pool (non_zero_usize_get slots) steps tally) }
+    requires pool { LiesIn pool tlsf.memory.start (length tlsf.memory.bytes) }
+    ensures ok { IfOk result (λ tally. IsBench FLLEN SLLEN pool (non_zero_usize_get slots) steps mode tally) }
     ensures err { IfErr result (λ error. error ≡ BenchError.OutOfMemory) }
 {
     let _ = tlsf.insert_free_block_ptr(pool);
     let mut live = empty_slots(alloc, slots.get())?;
     let mut draws = Xorshift::new();
     let mut tally = Tally::new();
-    for _ in 0..steps {
-        step(&mut tlsf, &mut live, &mut tally, draws.next());
+    for number in 0..steps {
+        step(
+            &mut tlsf,
+            &mut live,
+            &mut tally,
+            mode.reallocates_at(number),
+            draws.next(),
+        );
     }
     Ok(tally)
 }

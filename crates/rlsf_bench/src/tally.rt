@@ -6,17 +6,17 @@ ghost use Rattle.rlsf_bench.specs.Runs.{counted, nothing};
 use rlsf_base::memory::Addr;
 use std::fmt;
 
-/// What came of the allocations so far.
+/// What came of the allocations and reallocations so far.
 #[derive(Clone, Copy, Debug, PartialEq, Eq)]
 pub(crate) struct Tally {
     /// How many were refused.
     pub(crate) refused: u64,
-    /// A sum over the addresses that were allocated, in their order.
+    /// A sum over the addresses that they answered, in their order.
     pub(crate) checksum: u64,
 }
 
 impl Tally {
-    /// Before the first allocation.
+    /// Before the first of them.
     pub(crate) fn new() -> Tally
         ensures { result ≡ nothing }
     {
@@ -26,7 +26,7 @@ impl Tally {
         }
     }
 
-    /// Counts one allocation more, by its answer.
+    /// Counts one more, by its answer.
     pub(crate) fn count(&mut self, placed: Option<Addr>)
         requires { self.old.refused + 1 < 2 ^ 64 }
         ensures counts { self.new ≡ counted (option_map non_zero_usize_get placed) self.old }

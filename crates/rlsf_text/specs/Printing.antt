@@ -5,11 +5,11 @@ use Rattle.std.specs.Int.NonZero.{non_zero_usize_get}
 use Rattle.std.specs.List.{flat_map, zip}
 use Rattle.std.specs.declared.num.NonZeroUsize.{NonZeroUsize}
 use Rattle.rlsf_text.specs.declared.op.Op.{Op}
-use Rattle.rlsf_text.specs.declared.op.Op.TheVariants.{Insert, Alloc, Free, Fill, Put, Get}
+use Rattle.rlsf_text.specs.declared.op.Op.TheVariants.{Insert, Append, Alloc, Free, Realloc, Fill, Put, Get}
 use Rattle.rlsf_text.specs.declared.op.Answer.{Answer}
-use Rattle.rlsf_text.specs.declared.op.Answer.TheVariants.{Inserted, Placed, Done, Byte, Refused}
+use Rattle.rlsf_text.specs.declared.op.Answer.TheVariants.{Inserted, Appended, Placed, Done, Byte, Refused}
 use Rattle.rlsf_text.specs.declared.op.TraceError.{TraceError}
-use Rattle.rlsf_text.specs.declared.op.TraceError.TheVariants.{UnknownName, NameTaken, BadRange, BadOffset}
+use Rattle.rlsf_text.specs.declared.op.TraceError.TheVariants.{UnknownName, NameTaken, BadRange, BadOffset, BadLayout}
 
 -- the number of an error
 abbrev pub error_number : TraceError → ℕ
@@ -17,6 +17,7 @@ error_number UnknownName = 1
 error_number NameTaken = 2
 error_number BadRange = 3
 error_number BadOffset = 4
+error_number BadLayout = 5
 
 -- the word for an error
 abbrev pub error_word : TraceError → List ℕ
@@ -24,12 +25,15 @@ error_word UnknownName = codes "UnknownName"
 error_word NameTaken = codes "NameTaken"
 error_word BadRange = codes "BadRange"
 error_word BadOffset = codes "BadOffset"
+error_word BadLayout = codes "BadLayout"
 
 -- how the line of an op begins: its command, and the name of its payload if it has one
 abbrev pub op_text : Op → List ℕ
 op_text (Insert range) = codes "insert"
+op_text (Append range) = codes "append"
 op_text (Alloc name layout) = codes "alloc " ++ decimal name
 op_text (Free name) = codes "free " ++ decimal name
+op_text (Realloc name size) = codes "realloc " ++ decimal name
 op_text (Fill name byte) = codes "fill " ++ decimal name
 op_text (Put name offset byte) = codes "put " ++ decimal name
 op_text (Get name offset) = codes "get " ++ decimal name
@@ -47,6 +51,7 @@ placed_text None = codes " none"
 -- the line of an op and its answer; that of a refused op shows only why
 abbrev pub line_text : Op → Answer → List ℕ
 line_text op (Inserted len) = op_text op ++ inserted_text len
+line_text op (Appended len) = op_text op ++ codes " " ++ decimal len
 line_text op (Placed addr) = op_text op ++ placed_text addr
 line_text op Done = op_text op ++ codes " done"
 line_text op (Byte byte) = op_text op ++ codes " " ++ decimal byte

@@ -8,7 +8,7 @@ use Rattle.rlsf_text.specs.declared.fault.Fault.{Fault}
 use Rattle.rlsf_text.specs.declared.fault.Fault.TheVariants.{Config, UnknownOp, ZeroStart, TooLong, BadLayout}
 use Rattle.rlsf_text.specs.declared.fault.ReplayFault.{ReplayFault}
 use Rattle.rlsf_text.specs.declared.parse.Trace.{Trace}
-use Rattle.rlsf_text.specs.Commands.{Command, insert, alloc, free, fill, put, get, command_of}
+use Rattle.rlsf_text.specs.Commands.{Command, insert, append, alloc, free, realloc, fill, put, get, command_of}
 use Rattle.rlsf_text.specs.Configurations.{configuration_named}
 use Rattle.rlsf_text.specs.FallibleSteps.{◌>>=◌, or_fault, at_line, all_or_fault}
 use Rattle.rlsf_text.specs.Lines.{lines, first_line}
@@ -22,6 +22,14 @@ insert_in fields = do
   start ← number_of both.0
   len ← number_of both.1
   Ok (insert start len)
+
+-- `append START LEN`
+unfoldable pub append_in : List (List ℕ) → Result Command Fault
+append_in fields = do
+  both ← exactly_two fields
+  start ← number_of both.0
+  len ← number_of both.1
+  Ok (append start len)
 
 -- there is a layout of this size and alignment, as a test
 abbrev pub is_layout : ℕ → ℕ → Bool
@@ -47,6 +55,14 @@ free_in fields = do
   word ← exactly_one fields
   name ← number_of word
   Ok (free name)
+
+-- `realloc NAME SIZE`: whether there is such a layout depends on the name's alignment, which the text doesn't have
+unfoldable pub realloc_in : List (List ℕ) → Result Command Fault
+realloc_in fields = do
+  both ← exactly_two fields
+  name ← number_of both.0
+  size ← number_of both.1
+  Ok (realloc name size)
 
 -- `fill NAME BYTE`
 unfoldable pub fill_in : List (List ℕ) → Result Command Fault
@@ -78,12 +94,14 @@ unfoldable pub command_in : List (List ℕ) → Result Command Fault
 command_in [] = Err UnknownOp
 command_in (name ∷ fields) =
     if bytes_eq name (codes "insert") then insert_in fields
+    else (if bytes_eq name (codes "append") then append_in fields
     else (if bytes_eq name (codes "alloc") then alloc_in fields
     else (if bytes_eq name (codes "free") then free_in fields
+    else (if bytes_eq name (codes "realloc") then realloc_in fields
     else (if bytes_eq name (codes "fill") then fill_in fields
     else (if bytes_eq name (codes "put") then put_in fields
     else (if bytes_eq name (codes "get") then get_in fields
-    else Err UnknownOp)))))
+    else Err UnknownOp)))))))
 
 -- `CONFIG START LEN`
 unfoldable pub header_in : List (List ℕ) → Result (Configuration × ℕ × ℕ) Fault

@@ -7,10 +7,14 @@ use std::num::NonZeroUsize;
 pub enum Op {
     /// Gives the allocator the range as a pool.
     Insert(Range),
+    /// Gives the allocator the range, which begins where a pool ends, to lengthen that pool.
+    Append(Range),
     /// Allocates a payload with the layout, and names it.
     Alloc(usize, Layout),
     /// Gives the payload of this name back. The name is free again.
     Free(usize),
+    /// Gives the payload of this name another size, with the alignment that it was allocated with.
+    Realloc(usize, usize),
     /// Sets every usable byte of the payload to the byte.
     Fill(usize, u8),
     /// Sets the byte at an offset of the payload.
@@ -24,6 +28,8 @@ pub enum Op {
 pub enum Answer {
     /// The length of the pool that was made of the range, or that it was too short for one.
     Inserted(Option<NonZeroUsize>),
+    /// How many bytes of the range the pool took.
+    Appended(usize),
     /// The address of the payload, or that there was no room for it.
     Placed(Option<Addr>),
     /// The op was done, and there is nothing to tell of it.
@@ -41,10 +47,12 @@ pub enum TraceError {
     UnknownName = 1,
     /// The name of a new payload is that of a live one.
     NameTaken = 2,
-    /// The range doesn't lie in the memory, or touches a byte of a pool.
+    /// The range doesn't lie in the memory, or touches a byte of a pool; or it is to be appended, and no pool ends where it begins.
     BadRange = 3,
     /// The offset isn't below the usable size of the payload.
     BadOffset = 4,
+    /// No layout has the new size and the alignment of the payload.
+    BadLayout = 5,
 }
 
 impl TraceError {
@@ -72,6 +80,7 @@ impl fmt::Display for TraceError {
             TraceError::NameTaken => f.write_str("NameTaken"),
             TraceError::BadRange => f.write_str("BadRange"),
             TraceError::BadOffset => f.write_str("BadOffset"),
+            TraceError::BadLayout => f.write_str("BadLayout"),
         }
     }
 }

@@ -34,9 +34,9 @@ impl Trace {
     /// in any text. Single spaces part the words of a line, and CR means nothing. A number is one to
     /// twenty decimal digits with a value of at most `2^64 - 1`.
     ///
-    /// The first line is `CONFIG START LEN`. The others are `insert START LEN`,
-    /// `alloc NAME SIZE ALIGN`, `free NAME`, `fill NAME BYTE`, `put NAME OFFSET BYTE` or
-    /// `get NAME OFFSET`, where a BYTE is a number of at most 255. The first line that isn't so is a
+    /// The first line is `CONFIG START LEN`. The others are `insert START LEN`, `append START LEN`,
+    /// `alloc NAME SIZE ALIGN`, `free NAME`, `realloc NAME SIZE`, `fill NAME BYTE`,
+    /// `put NAME OFFSET BYTE` or `get NAME OFFSET`, where a BYTE is a number of at most 255. The first line that isn't so is a
     /// fault, with its number. The first line is tested for `FieldCount`, `Config`, `BadNumber`,
     /// `ZeroStart` and `TooLong`, in this order, and any other for `UnknownOp`, `FieldCount`,
     /// `BadNumber` and `BadLayout`.

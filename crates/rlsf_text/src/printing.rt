@@ -29,6 +29,10 @@ fn print_line(text: &mut String, op: Op, answer: Answer) -> Result<(), AllocErro
             print_op(text, op)?;
             print_inserted(text, len)
         }
+        Answer::Appended(len) => {
+            print_op(text, op)?;
+            write!(text, " {len}")
+        }
         Answer::Placed(addr) => {
             print_op(text, op)?;
             print_placed(text, addr)
@@ -53,8 +57,10 @@ fn print_op(text: &mut String, op: Op) -> Result<(), AllocError>
 {
     match op {
         Op::Insert(_) => write!(text, "insert"),
+        Op::Append(_) => write!(text, "append"),
         Op::Alloc(name, _) => write!(text, "alloc {name}"),
         Op::Free(name) => write!(text, "free {name}"),
+        Op::Realloc(name, _) => write!(text, "realloc {name}"),
         Op::Fill(name, _) => write!(text, "fill {name}"),
         Op::Put(name, _, _) => write!(text, "put {name}"),
         Op::Get(name, _) => write!(text, "get {name}"),

@@ -3,7 +3,7 @@ ghost use Rattle.rlsf_text.specs.FallibleSteps.{Gives, GivesOrRefused};
 ghost use Rattle.rlsf_text.specs.Commands.{command_of};
 ghost use Rattle.rlsf_text.specs.Lines.{lines_left};
 ghost use Rattle.rlsf_text.specs.Words.{words, words_left};
-ghost use Rattle.rlsf_text.specs.Reading.{insert_in, layout_of, alloc_in, free_in, fill_in, put_in, get_in, command_in, header_in, commands_in};
+ghost use Rattle.rlsf_text.specs.Reading.{insert_in, append_in, layout_of, alloc_in, free_in, realloc_in, fill_in, put_in, get_in, command_in, header_in, commands_in};
 
 use crate::configuration::Configuration;
 use crate::fault::{Fault, ReplayFault};
@@ -61,10 +61,14 @@ fn read_op(line: &[u8]) -> Result<Op, Fault>
     let name = fields.next().ok_or(Fault::UnknownOp)?;
     if name == b"insert".as_slice() {
         read_insert(fields)
+    } else if name == b"append".as_slice() {
+        read_append(fields)
     } else if name == b"alloc".as_slice() {
         read_alloc(fields)
     } else if name == b"free".as_slice() {
         read_free(fields)
+    } else if name == b"realloc".as_slice() {
+        read_realloc(fields)
     } else if name == b"fill".as_slice() {
         read_fill(fields)
     } else if name == b"put".as_slice() {
@@ -84,6 +88,16 @@ fn read_insert(fields: Words) -> Result<Op, Fault>
     let start = number(start)?;
     let len = number(len)?;
     Ok(Op::Insert(Range { start, len }))
+}
+
+#[tactic(auto, unfolding(crate::specs::Reading::append_in))]
+fn read_append(fields: Words) -> Result<Op, Fault>
+    ensures { Gives command_of result (append_in (words_left fields.entry)) }
+{
+    let (start, len) = fields.exactly_two()?;
+    let start = number(start)?;
+    let len = number(len)?;
+    Ok(Op::Append(Range { start, len }))
 }
 
 #[tactic(auto, unfolding(crate::specs::Reading::alloc_in))]
@@ -115,6 +129,16 @@ fn read_free(fields: Words) -> Result<Op, Fault>
     let name = fields.exactly_one()?;
     let name = number(name)?;
     Ok(Op::Free(name))
+}
+
+#[tactic(auto, unfolding(crate::specs::Reading::realloc_in))]
+fn read_realloc(fields: Words) -> Result<Op, Fault>
+    ensures { Gives command_of result (realloc_in (words_left fields.entry)) }
+{
+    let (name, size) = fields.exactly_two()?;
+    let name = number(name)?;
+    let size = number(size)?;
+    Ok(Op::Realloc(name, size))
 }
 
 #[tactic(auto, unfolding(crate::specs::Reading::fill_in))]

@@ -1,8 +1,8 @@
 pub mod Allocate
+pub mod Append
 pub mod Deallocate
-pub mod FreeLists
 pub mod Insert
 pub mod Machine
 pub mod Payloads
-pub mod Tables
+pub mod Reallocate
 pub mod Words

@@ -1,4 +1,7 @@
 -- States that values of the allocator stand for.
+pub mod Counted
 pub mod EmptyState
+pub mod FreeBlocks
 pub mod Neighbours
+pub mod Readers
 pub mod SpareBytes

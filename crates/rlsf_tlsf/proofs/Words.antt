@@ -3,4 +3,3 @@ pub mod Apart
 pub mod Frames
 pub mod NonZeroNumbers
 pub mod Refilled
-pub mod Writing

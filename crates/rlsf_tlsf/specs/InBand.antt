@@ -1,6 +1,6 @@
 -- The words that stand inside the pools. Each block begins with its size word and a word that names the block
 -- before it; the addresses of blocks are multiples of 32, and the address 0 means none.
-use Rattle.std.specs.Prelude.{◌≡◌, ℕ, ◌+◌, ◌-◌, ◌≤◌, List, [], ◌∷◌}
+use Rattle.std.specs.Prelude.{◌≡◌, ℕ, ◌+◌, ◌-◌, ◌≤◌}
 use Rattle.rlsf_base.specs.declared.memory.range.Range.{Range}
 use Rattle.rlsf_base.specs.Range.{end_of}
 use Rattle.rlsf_base.specs.Space.{Space, bytes_in, word_at}
@@ -28,9 +28,3 @@ pub record HasPrevious (m : Space) (s : State) : Type 0 where
 pub record HasPayloads (m : Space) (s : State) : Type 0 where
   pub bytes : (u : Used) → IsIn u s.used → bytes_in m (usable u) ≡ u.bytes
   pub pad : (u : Used) → IsIn u s.used → 32 ≤ u.align → word_at m (u.payload - 8) ≡ u.block.start
-
--- free blocks of a class from `head` on are linked as a list has them: each names the next one at +16 and the one
--- before it at +24, which is `previous` for the first
-abbrev pub Links : Space → ℕ → List Range → ℕ → Type 0
-Links m previous [] head = head ≡ 0
-Links m previous (f ∷ fs) head = (head ≡ f.start) × (word_at m (f.start + 24) ≡ previous) × Links m f.start fs (word_at m (f.start + 16))

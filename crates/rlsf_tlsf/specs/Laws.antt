@@ -4,8 +4,8 @@ use Rattle.rlsf_base.specs.Range.{end_of}
 use Rattle.rlsf_base.specs.Space.{Space, byte_at, bytes_in}
 use Rattle.rlsf_machine.specs.Lists.{IsIn}
 use Rattle.rlsf_machine.specs.State.{State, Used, usable}
+use Rattle.rlsf_table.specs.Table.{Table}
 use Rattle.rlsf_tlsf.specs.StandsFor.{contents, StandsFor}
-use Rattle.rlsf_tlsf.specs.Table.{Table}
 
 -- an address that no caller may use: outside the usable bytes of each live payload
 abbrev pub IsUnlent : State → ℕ → Type 0

@@ -4,4 +4,3 @@ pub mod Lending
 pub mod Spare
 pub mod StandsFor
 pub mod Steps
-pub mod Table

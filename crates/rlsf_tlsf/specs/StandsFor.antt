@@ -2,8 +2,8 @@
 use Rattle.std.specs.Prelude.{ℕ, ◌<◌}
 use Rattle.rlsf_base.specs.SizeClass.{IsValid}
 use Rattle.rlsf_base.specs.Space.{Space, range_of}
+use Rattle.rlsf_table.specs.Table.{Table, HasTable}
 use Rattle.rlsf_tlsf.specs.InBand.{HasSizes, HasPrevious, HasPayloads}
-use Rattle.rlsf_tlsf.specs.Table.{Table, HasTable}
 use Rattle.rlsf_machine.specs.State.{State}
 use Rattle.rlsf_machine.specs.WellFormed.{IsWellFormed}
 

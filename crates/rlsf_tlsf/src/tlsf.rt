@@ -1,7 +1,7 @@
 //! The allocator over pools that its caller hands in.
 
 ghost use Rattle.std.specs.Borrow.{sem};
-ghost use Rattle.std.specs.Prelude.{◌≡◌, ◌≤◌, ◌<◌, ◌+◌, ◌*◌, ℕ, List, length, IfNone, IfSome};
+ghost use Rattle.std.specs.Prelude.{◌≡◌, ◌≤◌, ◌<◌, ◌+◌, ◌*◌, ℕ, List, Option, Some, length, IfNone, IfSome};
 ghost use Rattle.std.specs.Int.NonZero.{non_zero_usize_get};
 ghost use Rattle.std.specs.List.{list_any};
 ghost use Rattle.std.specs.Option.{option_map};
@@ -10,33 +10,37 @@ ghost use Rattle.rlsf_base.specs.Sizes.{max_pool_size};
 ghost use Rattle.rlsf_base.specs.Space.{bytes_in, range_of, SamePlace};
 ghost use Rattle.rlsf_int.specs.Bits.{bit};
 ghost use Rattle.rlsf_machine.specs.Allocate.{Allocates, has_class};
-ghost use Rattle.rlsf_machine.specs.Insert.{Inserts, IsFresh, aligned_part, cut};
+ghost use Rattle.rlsf_machine.specs.Insert.{Appends, Inserts, IsFresh, IsNext, aligned_part, cut};
+ghost use Rattle.rlsf_machine.specs.Reallocate.{Plan, Reallocates, in_place, into_next, or_else};
 ghost use Rattle.rlsf_machine.specs.Release.{Deallocates};
 ghost use Rattle.rlsf_machine.specs.Run.{IsSomeLive};
 ghost use Rattle.rlsf_machine.specs.State.{State, Used, empty, usable, Holds, IsLive};
+ghost use Rattle.rlsf_table.specs.Table.{class_at, is_in_row, newest_of, of_class};
 ghost use Rattle.rlsf_tlsf.specs.Spare.{KeepsSpare};
 ghost use Rattle.rlsf_tlsf.specs.StandsFor.{StandsFor};
-ghost use Rattle.rlsf_tlsf.specs.Table.{class_at, is_in_row, newest_of, of_class};
 
-mod fit;
+mod append;
+mod elsewhere;
 mod free;
-mod list;
 mod payload;
 mod place;
 mod pool;
-mod table;
+mod previous;
+mod reallocate;
+mod resize;
 
-use fit::first_fit;
+use append::append;
 use free::{deallocate_block, used_block};
 use payload::{load_usable_bytes, usable_bytes};
 use place::place;
 use pool::insert;
+use reallocate::reallocate_block;
 use rlsf_base::classes::request_size;
 use rlsf_base::memory::{Addr, Layout, Memory, Range};
 use rlsf_int::{BinInteger, BitPattern};
+use rlsf_table::{ClassTable, first_fit};
 use std::marker::Model;
 use std::num::NonZeroUsize;
-use table::ClassTable;
 
 /// The unit of sizes and addresses of blocks, in bytes.
 pub const GRANULARITY: usize = 32;
@@ -123,6 +127,41 @@ impl<FLBitmap: BinInteger, SLBitmap: BinInteger, const FLLEN: usize, const SLLEN
         insert(&mut self.memory, &mut self.table, range)
     }
 
+    /// Hands a range of the memory in, as `insert_free_block_ptr` does, for a caller that doesn't ask how many bytes were
+    /// taken.
+    ///
+    /// The range lies in the memory, and touches no byte of a chunk, in some state that the allocator stands for.
+    pub fn insert_free_block(&mut self, range: Range)
+        requires { (s : State) × StandsFor FLLEN SLLEN self.old s × IsFresh (range_of self.old.memory) s range }
+        ensures step { (s : State) → StandsFor FLLEN SLLEN self.old s → IsFresh (range_of self.old.memory) s range
+            → (reply : Option ℕ) × (t : State) × Inserts FLLEN s range reply t × StandsFor FLLEN SLLEN self.new t × KeepsSpare self.old.memory s self.new.memory t }
+        ensures place { SamePlace self.old.memory self.new.memory }
+        ensures touches { self.new.memory.touches ≤ self.old.memory.touches + 13 * length (cut (max_pool_size FLLEN) (aligned_part range)) }
+        ensures copied { self.new.memory.copied ≡ self.old.memory.copied }
+    {
+        let _ = insert(&mut self.memory, &mut self.table, range);
+    }
+
+    /// Hands in a range of the memory that begins where a chunk ends. Where chunks have a greatest length, the range
+    /// becomes chunks of its own, as `insert_free_block_ptr` makes them. Else the chunk grows by the range's length
+    /// rounded down to a multiple of 32: its old sentinel, a free block before that and the new bytes, but for a new
+    /// sentinel, become one free block, the newest of all. Answers how many bytes are taken; where that is 0, nothing
+    /// changes.
+    ///
+    /// The range lies in the memory, touches no byte of a chunk and begins where one ends, in some state that the
+    /// allocator stands for.
+    pub fn append_free_block_ptr(&mut self, range: Range) -> usize
+        requires { (s : State) × StandsFor FLLEN SLLEN self.old s × IsNext (range_of self.old.memory) s range }
+        ensures step { (s : State) → StandsFor FLLEN SLLEN self.old s → IsNext (range_of self.old.memory) s range
+            → (t : State) × Appends FLLEN s range result t × StandsFor FLLEN SLLEN self.new t × KeepsSpare self.old.memory s self.new.memory t }
+        ensures unchanged { result ≡ 0 → self.new.memory.bytes ≡ self.old.memory.bytes }
+        ensures place { SamePlace self.old.memory self.new.memory }
+        ensures touches { self.new.memory.touches ≤ self.old.memory.touches + 34 + 13 * length (cut (max_pool_size FLLEN) (aligned_part range)) }
+        ensures copied { self.new.memory.copied ≡ self.old.memory.copied }
+    {
+        append(&mut self.memory, &mut self.table, range)
+    }
+
     /// Allocates a payload for a layout: the front of the newest free block of the first class that reaches the size
     /// that is sought. Answers its address, a multiple of the alignment, or `None` exactly where no free block's class
     /// reaches, and then nothing changes.
@@ -135,8 +174,8 @@ impl<FLBitmap: BinInteger, SLBitmap: BinInteger, const FLLEN: usize, const SLLEN
         ensures touches { self.new.memory.touches ≤ self.old.memory.touches + 27 }
         ensures copied { self.new.memory.copied ≡ self.old.memory.copied }
     {
-        let block = first_fit(&mut self.memory, &self.table, request_size(layout))?;
-        NonZeroUsize::new(place(&mut self.memory, &mut self.table, block, layout))
+        let (block, class) = first_fit(&mut self.memory, &self.table, request_size(layout))?;
+        NonZeroUsize::new(place(&mut self.memory, &mut self.table, block, class, layout))
     }
 
     /// Gives a payload back. Its block becomes free: joined with the free block before it and the one behind it, if there
@@ -153,6 +192,29 @@ impl<FLBitmap: BinInteger, SLBitmap: BinInteger, const FLLEN: usize, const SLLEN
     {
         let block = used_block(&mut self.memory, addr.get(), align);
         deallocate_block(&mut self.memory, &mut self.table, block);
+    }
+
+    /// Gives a payload another size: where it stands, if its block's bytes and those of a free block behind it suffice;
+    /// else in the free block before it, if that suffices with these; else in a block that is allocated for it, and then
+    /// the old one is given back. Answers its address, a multiple of the alignment. As many of its first bytes as both
+    /// sizes have are kept. `None` exactly where the allocation is refused, and then nothing changes.
+    ///
+    /// The address is live, with the layout's alignment.
+    pub fn reallocate(&mut self, addr: Addr, layout: Layout) -> Option<Addr>
+        requires { (s : State) × StandsFor FLLEN SLLEN self.old s × IsLive s (non_zero_usize_get addr) layout.align }
+        ensures step { (s : State) → StandsFor FLLEN SLLEN self.old s → IsLive s (non_zero_usize_get addr) layout.align
+            → (t : State) × Reallocates SLLEN s (non_zero_usize_get addr) layout.size (option_map non_zero_usize_get result) t × StandsFor FLLEN SLLEN self.new t × KeepsSpare self.old.memory s self.new.memory t }
+        ensures placed { IfSome result (λ addr. (t : State) × StandsFor FLLEN SLLEN self.new t × IsLive t (non_zero_usize_get addr) layout.align) }
+        ensures refused { IfNone result (self.new.memory.bytes ≡ self.old.memory.bytes) }
+        ensures place { SamePlace self.old.memory self.new.memory }
+        ensures touches { self.new.memory.touches ≤ self.old.memory.touches + 66 }
+        ensures copied { (s : State) (u : Used) → StandsFor FLLEN SLLEN self.old s → Holds s (non_zero_usize_get addr) u → u.align ≡ layout.align → self.new.memory.copied ≤ self.old.memory.copied + (usable u).len }
+        ensures stays { (s : State) (u : Used) (p : Plan) → StandsFor FLLEN SLLEN self.old s → Holds s (non_zero_usize_get addr) u → u.align ≡ layout.align → or_else (in_place s u layout.size) (into_next s u layout.size) ≡ Some p → self.new.memory.copied ≡ self.old.memory.copied }
+    {
+        let payload = addr.get();
+        let block = used_block(&mut self.memory, payload, layout.align());
+        let moved = reallocate_block(&mut self.memory, &mut self.table, block, payload, layout)?;
+        NonZeroUsize::new(moved)
     }
 
     /// The bytes of the payload at `addr`, from there to its block's end: all that its caller may use.

@@ -1,9 +1,1 @@
-pub mod NamedPayloads
-pub mod NewPools
-pub mod Outcomes
-pub mod PoolOrder
-pub mod RunStates
-pub mod SpareBytes
-pub mod Touching
-pub mod Underway
 pub mod Writing

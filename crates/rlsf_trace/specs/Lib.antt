@@ -1,4 +1,2 @@
 pub mod Output
 pub mod Replays
-pub mod Runs
-pub mod Steps

@@ -14,7 +14,7 @@ use Rattle.rlsf_text.specs.Faults.{out_of_memory}
 use Rattle.rlsf_trace.specs.Output.{AppendsBeginning}
 use Rattle.rlsf_text.specs.Printing.{text_of}
 use Rattle.rlsf_text.specs.Reading.{TraceText, trace_in}
-use Rattle.rlsf_trace.specs.Runs.{RunState, beginning, Runs}
+use Rattle.rlsf_runs.specs.Runs.{RunState, beginning, Runs}
 
 -- how many rows of size classes a configuration has
 abbrev pub rows_of : Configuration → ℕ

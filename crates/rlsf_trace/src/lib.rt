@@ -1,17 +1,14 @@
-//! Traces of allocator calls: runs of their ops, and replays of their text.
+//! Replays of the text of a trace: it is read, run and printed.
 #![tactic(auto)]
 
 mod input;
 mod output;
-mod payloads;
 mod replays;
-mod runs;
-mod tables;
 #[cfg(test)]
 mod tests;
 
 pub use replays::replay;
+pub use rlsf_runs::{RunError, run};
 pub use rlsf_text::{
     Answer, Configuration, Fault, Op, ReplayFault, Trace, TraceError, status, text_of,
 };
-pub use runs::{RunError, run};

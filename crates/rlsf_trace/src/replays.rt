@@ -12,9 +12,9 @@ ghost use Rattle.rlsf_trace.specs.Replays.{IsReplay, IsCutReplay, no_memory, not
 
 use crate::input::read_input;
 use crate::output::write_text;
-use crate::runs::run;
 use rlsf_base::memory::Memory;
 use rlsf_int::BinInteger;
+use rlsf_runs::run;
 use rlsf_text::{Answer, Configuration, Fault, Op, ReplayFault, Trace, text_of};
 use rlsf_tlsf::Tlsf;
 use std::alloc::Global;

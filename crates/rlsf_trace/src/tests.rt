@@ -1,7 +1,5 @@
 use super::*;
 
 mod faults;
-mod refusals;
 mod replays;
-mod runs;
 mod streams;

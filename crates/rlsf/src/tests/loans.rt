@@ -27,7 +27,7 @@ fn filled(tlsf: &mut Tlsf<u8, u8, 8, 8>, layout: Layout, byte: u8, offset: usize
 }
 
 /// Copies as many bytes as both have.
-fn copy_front(from: &[u8], to: &mut [u8]) {
+pub(crate) fn copy_front(from: &[u8], to: &mut [u8]) {
     let n = to.len().min(from.len());
     to[..n].copy_from_slice(&from[..n]);
 }

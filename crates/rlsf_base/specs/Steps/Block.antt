@@ -15,9 +15,10 @@ pub record IsDeedOf (base : Base) (skip len : ℕ) (deed : Deed Global) (alloc :
   pub none : len ≡ 0 → deed.at ≡ null_ptr
   pub block : 0 < len → (deed.at ≡ base.ptr) × (deed.words ≡ words_for skip len) × (deed.skip ≡ skip) × (deed.len ≡ len) × (deed.alloc ≡ alloc)
 
--- the parts of a memory of len bytes from the address start on: its block begins start % 8 bytes before the byte of start
-pub record IsMemory (base : Base) (start len : ℕ) (bytes : Bytes) (deed : Deed Global) (alloc : Global) : Type 0 where
+-- the parts of a memory of len bytes from the address start on: its block begins at the address origin, start % 8 bytes before the byte of start
+pub record IsMemory (base : Base) (start origin len : ℕ) (bytes : Bytes) (deed : Deed Global) (alloc : Global) : Type 0 where
   pub lies : (base.ptr ≡ bytes.at) × (bytes.skip ≡ start % 8)
   pub whole : (length bytes.bytes ≡ len) × (bytes.left ≡ 0)
+  pub origin_is : origin + start % 8 ≡ start
   pub bounds : (1 ≤ start) × (start + len < 2 ^ 64) × (start % 8 + len ≤ 2 ^ 63 - 8)
   pub returns : IsDeedOf base (start % 8) len deed alloc

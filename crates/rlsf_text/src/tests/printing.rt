@@ -53,9 +53,10 @@ fn refusals(rt: HostRuntime) -> Result<(), Fail> {
             TraceError::UnknownName.number(),
             TraceError::NameTaken.number(),
             TraceError::BadRange.number(),
-            TraceError::BadOffset.number()
+            TraceError::BadOffset.number(),
+            TraceError::BadLayout.number()
         ),
-        (1, 2, 3, 4)
+        (1, 2, 3, 4, 5)
     );
     Ok(())
 }
@@ -83,6 +84,37 @@ fn ops_on_payloads(rt: HostRuntime) -> Result<(), Fail> {
     assert_eq!(rt;
         text_of(rt.alloc(), &ops, &answers)?.as_str(),
         "refused 1 UnknownName\nfill 18446744073709551615 done\nput 3 done\nrefused 4 BadOffset\nget 3 255\nget 3 0\nfree 3 done\n"
+    );
+    Ok(())
+}
+
+#[test]
+fn pools_and_payloads_grow(rt: HostRuntime) -> Result<(), Fail> {
+    let range = Range {
+        start: 4352,
+        len: 256,
+    };
+    let ops = [
+        Op::Append(range),
+        Op::Append(range),
+        Op::Append(range),
+        Op::Realloc(1, 0),
+        Op::Realloc(18446744073709551615, 200),
+        Op::Realloc(9, 0),
+        Op::Realloc(1, 18446744073709551615),
+    ];
+    let answers = [
+        Answer::Appended(256),
+        Answer::Appended(0),
+        Answer::Refused(TraceError::BadRange),
+        Answer::Placed(NonZeroUsize::new(4112)),
+        Answer::Placed(None),
+        Answer::Refused(TraceError::UnknownName),
+        Answer::Refused(TraceError::BadLayout),
+    ];
+    assert_eq!(rt;
+        text_of(rt.alloc(), &ops, &answers)?.as_str(),
+        "append 256\nappend 0\nrefused 3 BadRange\nrealloc 1 at 4112\nrealloc 18446744073709551615 none\nrefused 1 UnknownName\nrefused 5 BadLayout\n"
     );
     Ok(())
 }

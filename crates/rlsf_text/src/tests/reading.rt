@@ -69,6 +69,27 @@ fn ops_on_payloads(rt: HostRuntime) -> Result<(), Fail> {
     Ok(())
 }
 
+#[test]
+fn pools_and_payloads_grow(rt: HostRuntime) -> Result<(), Fail> {
+    // A size with which the text knows no layout is none of its faults.
+    let text = b"59x8 4096 512\nappend 4352 256\nrealloc 1 0\nrealloc 2 18446744073709551615";
+    let trace = Trace::parse(rt.alloc(), text)?;
+    let range = Range {
+        start: 4352,
+        len: 256,
+    };
+    assert_eq!(rt;
+        trace.ops.as_slice(),
+        [
+            Op::Append(range),
+            Op::Realloc(1, 0),
+            Op::Realloc(2, usize::MAX),
+        ]
+        .as_slice()
+    );
+    Ok(())
+}
+
 // The fault of line 2, where that is the first fault.
 fn fault_of_line_2(alloc: Global, text: &[u8]) -> Option<Fault> {
     match Trace::parse(alloc, text) {
@@ -88,6 +109,10 @@ fn too_few_or_many_words(rt: HostRuntime) -> Result<(), Fail> {
         b"1x1 1 0\nput 1 2 3 4",
         b"1x1 1 0\nget 1",
         b"1x1 1 0\nget 1 2 ",
+        b"1x1 1 0\nappend 1",
+        b"1x1 1 0\nappend 1 2 3",
+        b"1x1 1 0\nrealloc x",
+        b"1x1 1 0\nrealloc 1 2 1",
     ];
     for text in texts {
         assert_eq!(rt; fault_of_line_2(rt.alloc(), text), Some(Fault::FieldCount));
@@ -110,6 +135,10 @@ fn words_that_are_no_numbers(rt: HostRuntime) -> Result<(), Fail> {
         b"1x1 1 0\nput 1 0 18446744073709551616",
         b"1x1 1 0\nget x 0",
         b"1x1 1 0\nget 1 x",
+        b"1x1 1 0\nappend x 1",
+        b"1x1 1 0\nappend 1 18446744073709551616",
+        b"1x1 1 0\nrealloc x 1",
+        b"1x1 1 0\nrealloc 1 x",
     ];
     for text in texts {
         assert_eq!(rt; fault_of_line_2(rt.alloc(), text), Some(Fault::BadNumber));

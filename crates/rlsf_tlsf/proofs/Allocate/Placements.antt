@@ -9,7 +9,12 @@ use Rattle.rlsf_base.specs.Range.{end_of, LiesIn, range_at}
 use Rattle.rlsf_base.specs.SizeClass.{class_of}
 use Rattle.rlsf_base.specs.Sizes.{request_size}
 use Rattle.rlsf_base.specs.Space.{Space, bytes_in, range_of, IsWord, SamePlace, with_word, word_at}
-use Rattle.rlsf_tlsf.specs.Steps.FreeList.{IsPlaced, Rewrites, Touched, in_hole}
+use Rattle.rlsf_table.specs.FreeList.{IsPlaced, Rewrites}
+use Rattle.rlsf_table.specs.Table.{Table}
+use Rattle.rlsf_table.proofs.Tables.FreeTables.{HasTable-Rewrites}
+use Rattle.rlsf_table.proofs.Words.Writes.{IsPlaced-Rewrites, Rewrites-trans, Rewrites-weaken, Writes}
+use Rattle.rlsf_table.proofs.Words.Writing.{IsWrite, write, rewrites_of, reads_of}
+use Rattle.rlsf_tlsf.specs.Steps.Touched.{Touched, in_hole}
 use Rattle.rlsf_tlsf.specs.InBand.{sentinel_of}
 use Rattle.rlsf_machine.specs.Allocate.{choice, given, has_class, placed, Places, rest_behind}
 use Rattle.rlsf_machine.specs.Lists.{IsIn, without}
@@ -19,12 +24,10 @@ use Rattle.rlsf_machine.specs.WellFormed.{IsWellFormed}
 use Rattle.rlsf_tlsf.specs.Spare.{KeepsSpare}
 use Rattle.rlsf_tlsf.specs.Steps.Rest.{IsOpened, IsTaken}
 use Rattle.rlsf_tlsf.specs.StandsFor.{contents, StandsFor}
-use Rattle.rlsf_tlsf.specs.Table.{Table}
 use Rattle.rlsf_tlsf.proofs.Words.Apart.{Has, free_in_memory, home_of_free}
 use Rattle.rlsf_tlsf.proofs.Allocate.UsedBlocks.{IsCarved, StandsFor-carved}
 use Rattle.rlsf_tlsf.proofs.Words.Frames.{wide_whole}
-use Rattle.rlsf_tlsf.proofs.FreeLists.Tables.{HasTable-Rewrites, IsPlaced-free}
-use Rattle.rlsf_tlsf.proofs.FreeLists.Writes.{IsPlaced-Rewrites, Rewrites-trans, Rewrites-weaken, Writes}
+use Rattle.rlsf_tlsf.proofs.Machine.FreeBlocks.{IsPlaced-free}
 use Rattle.rlsf_machine.proofs.Allocations.{IsWellFormed-given, placed-fits}
 use Rattle.rlsf_machine.proofs.Changes.{IsIn-rest_behind}
 use Rattle.rlsf_machine.proofs.Choices.{choice-some}
@@ -32,9 +35,8 @@ use Rattle.rlsf_machine.proofs.Coverage.{IsIn-append, IsIn-without}
 use Rattle.rlsf_machine.proofs.Payloads.{block_length-le, block_length-whole, payload_of-after, payload_of-aligned}
 use Rattle.rlsf_tlsf.proofs.Allocate.TakenOut.{left_apart}
 use Rattle.rlsf_tlsf.proofs.Insert.Pools.{KeepsSpare-Touched}
-use Rattle.rlsf_tlsf.proofs.Words.Writing.{IsWrite, write, rewrites_of, reads_of}
 
-length-bytes_in : (m : Space) (r : Range) → LiesIn r m.start (length m.bytes) → length (bytes_in m r) ≡ r.len
+pub length-bytes_in : (m : Space) (r : Range) → LiesIn r m.start (length m.bytes) → length (bytes_in m r) ≡ r.len
 length-bytes_in m r inside = length-take-le r.len (drop (r.start - m.start) m.bytes) (omega (arith, length-drop (r.start - m.start) m.bytes, inside))
 
 module _ {fllen sllen : ℕ} {m : Space} {table : Table} {s : State} (v : StandsFor fllen sllen (contents m table) s) (f : Range) (size align : ℕ) (power : IsPowerOfTwo align)

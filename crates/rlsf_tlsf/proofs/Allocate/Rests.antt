@@ -3,16 +3,17 @@ use Rattle.std.proofs.Common.{◌≡◌, ◌≢◌, ℕ, ◌+◌, ◌-◌, ◌%�
 use Rattle.rlsf_base.specs.declared.memory.range.Range.{Range}
 use Rattle.rlsf_base.specs.Range.{end_of}
 use Rattle.rlsf_base.specs.Space.{Space, word_at, with_word}
-use Rattle.rlsf_tlsf.specs.Steps.FreeList.{IsLink, Rewrites, Touched, at_link, in_hole, at_other}
-use Rattle.rlsf_tlsf.specs.Steps.FreeTable.{IsRoom}
+use Rattle.rlsf_table.specs.FreeList.{IsLink, Rewrites}
+use Rattle.rlsf_table.specs.FreeTable.{IsRoom}
+use Rattle.rlsf_table.specs.Table.{Table, HasTable}
+use Rattle.rlsf_table.proofs.Tables.FreeTables.{IsFreeTable-Rewrites}
+use Rattle.rlsf_table.proofs.Words.Writes.{before_links, Rewrites-trans, Rewrites-weaken, Rewrites-word, IsPlaced-Rewrites}
+use Rattle.rlsf_table.proofs.Words.Writing.{IsWrite, write, rewrites_of, reads_of}
+use Rattle.rlsf_tlsf.specs.Steps.Touched.{Touched, at_link, in_hole, at_other}
 use Rattle.rlsf_machine.specs.Lists.{IsIn}
 use Rattle.rlsf_machine.specs.WellFormed.{itself}
 use Rattle.rlsf_tlsf.specs.Steps.Rest.{IsInnerRoom, IsLeft}
-use Rattle.rlsf_tlsf.specs.Table.{Table, HasTable}
-use Rattle.rlsf_tlsf.proofs.FreeLists.Tables.{IsFreeTable-Rewrites}
-use Rattle.rlsf_tlsf.proofs.FreeLists.Writes.{before_links, Rewrites-trans, Rewrites-weaken, Rewrites-word, IsPlaced-Rewrites}
 use Rattle.rlsf_machine.proofs.Coverage.{covers-inside, coverage-IsIn}
-use Rattle.rlsf_tlsf.proofs.Words.Writing.{IsWrite, write, rewrites_of, reads_of}
 
 -- the memories m1 to m3 after the three writes
 pub record AreLeft (m m1 m2 m3 : Space) (block : ℕ) (r : Range) : Type 0 where

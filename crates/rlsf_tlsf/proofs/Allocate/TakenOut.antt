@@ -5,25 +5,27 @@ use Rattle.rlsf_base.specs.declared.memory.range.Range.{Range}
 use Rattle.rlsf_base.specs.Range.{end_of, range_at}
 use Rattle.rlsf_base.specs.SizeClass.{class_of}
 use Rattle.rlsf_base.specs.Space.{Space, word_at}
-use Rattle.rlsf_tlsf.specs.Steps.FreeList.{IsLink, Rewrites, Touched, at_link, in_hole, at_other}
-use Rattle.rlsf_tlsf.specs.Steps.FreeTable.{IsFreeTable}
+use Rattle.rlsf_table.specs.FreeList.{IsLink, Rewrites}
+use Rattle.rlsf_table.specs.FreeTable.{IsFreeTable}
+use Rattle.rlsf_table.specs.Table.{Table, HasTable}
+use Rattle.rlsf_table.proofs.Tables.FreeTables.{IsFreeTable-removal}
+use Rattle.rlsf_table.proofs.FreeLists.Chains.{find-split}
+use Rattle.rlsf_table.proofs.Words.Writes.{Rewrites-trans, Rewrites-weaken}
+use Rattle.rlsf_tlsf.specs.Steps.Touched.{Touched, at_link, in_hole, at_other}
 use Rattle.rlsf_machine.specs.Allocate.{has_class, rest_behind}
 use Rattle.rlsf_machine.specs.Lists.{IsIn, without}
 use Rattle.rlsf_machine.specs.State.{State, between}
 use Rattle.rlsf_machine.specs.WellFormed.{covers, itself}
 use Rattle.rlsf_tlsf.specs.Steps.Rest.{IsInnerRoom, IsLeft, IsOpened, IsTaken}
 use Rattle.rlsf_tlsf.specs.StandsFor.{contents, StandsFor}
-use Rattle.rlsf_tlsf.specs.Table.{Table, HasTable}
 use Rattle.rlsf_tlsf.proofs.Words.Apart.{free_in_memory}
-use Rattle.rlsf_tlsf.proofs.FreeLists.Tables.{IsFreeTable-free, IsFreeTable-removal}
-use Rattle.rlsf_tlsf.proofs.FreeLists.Chains.{find-split}
-use Rattle.rlsf_tlsf.proofs.FreeLists.Writes.{Rewrites-trans, Rewrites-weaken}
+use Rattle.rlsf_tlsf.proofs.Machine.FreeBlocks.{IsFreeTable-free}
 use Rattle.rlsf_machine.proofs.Changes.{IsIn-rest_behind}
 use Rattle.rlsf_machine.proofs.Tiling.{IsValidClass-le}
 use Rattle.rlsf_machine.proofs.Coverage.{inside, before, behind, where_is, covers-inside, coverage-append, coverage-IsIn, find-some, IsIn-append, IsIn-append_left, IsIn-append_right}
 
 -- a part of a range has no address that the range doesn't have
-covers-part : (r f : Range) (a : ℕ) → f.start ≤ r.start → end_of r ≤ end_of f → covers r a ≤ covers f a
+pub covers-part : (r f : Range) (a : ℕ) → f.start ≤ r.start → end_of r ≤ end_of f → covers r a ≤ covers f a
 covers-part r f a from to = elim (where_is r a) [
   | inside one low high ↦ omega (arith, covers-inside f a (omega arith) (omega arith))
   | before none low ↦ omega arith

@@ -5,14 +5,15 @@ use Rattle.rlsf_base.specs.declared.memory.range.Range.{Range}
 use Rattle.rlsf_base.specs.Range.{end_of}
 use Rattle.rlsf_base.specs.SizeClass.{class_of}
 use Rattle.rlsf_base.specs.Space.{Space, bytes_in, range_of, word_at}
-use Rattle.rlsf_tlsf.specs.Steps.FreeList.{Rewrites, Touched}
+use Rattle.rlsf_table.specs.FreeList.{Rewrites}
+use Rattle.rlsf_table.specs.Table.{Table, HasTable}
+use Rattle.rlsf_tlsf.specs.Steps.Touched.{Touched}
 use Rattle.rlsf_tlsf.specs.InBand.{sentinel_of}
 use Rattle.rlsf_machine.specs.Allocate.{given, has_class, rest_behind}
 use Rattle.rlsf_machine.specs.Lists.{IsIn, without}
 use Rattle.rlsf_machine.specs.State.{State, Used, usable}
 use Rattle.rlsf_machine.specs.WellFormed.{IsWellFormed}
 use Rattle.rlsf_tlsf.specs.StandsFor.{contents, StandsFor}
-use Rattle.rlsf_tlsf.specs.Table.{Table, HasTable}
 use Rattle.rlsf_tlsf.proofs.Words.Apart.{Has, used_free, free_free, chunk_chunk, free_last, home_of_free}
 use Rattle.rlsf_tlsf.proofs.Words.Frames.{used_size, used_previous, used_bytes, used_pad, free_size, free_previous, chunk_first, chunk_sentinel}
 use Rattle.rlsf_machine.proofs.Coverage.{IsIn-append, IsIn-without}

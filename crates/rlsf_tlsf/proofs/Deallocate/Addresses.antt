@@ -2,8 +2,8 @@
 use Rattle.std.proofs.Common.{◌≡◌, ℕ, ◌+◌, ◌-◌, ◌^◌, ◌<◌, ◌≤◌, arith, sym, ◌∙◌, ap}
 use Rattle.rlsf_base.specs.Space.{Space, IsWord, word_at}
 use Rattle.rlsf_base.proofs.Numbers.PowersOfTwo.{IsPowerOfTwo-le}
+use Rattle.rlsf_table.specs.Table.{Table}
 use Rattle.rlsf_tlsf.specs.StandsFor.{contents, StandsFor}
-use Rattle.rlsf_tlsf.specs.Table.{Table}
 use Rattle.rlsf_machine.specs.Lists.{IsIn}
 use Rattle.rlsf_machine.specs.State.{State, Used}
 use Rattle.rlsf_machine.proofs.Payloads.{payload_of-le, IsUsed-aligned, IsUsed-after_start}

@@ -2,10 +2,10 @@
 use Rattle.std.proofs.Common.{◌≡◌, ℕ, ◌%◌, List, length, arith, ◌∙◌, ap, sym}
 use Rattle.rlsf_base.specs.declared.memory.range.Range.{Range}
 use Rattle.rlsf_base.specs.Space.{Space, IsWord, word_at}
+use Rattle.rlsf_table.specs.Table.{Table}
+use Rattle.rlsf_table.proofs.FreeLists.Counted.{Rewrites-counted_first, word_at-counted}
 use Rattle.rlsf_tlsf.specs.Lending.{touched}
 use Rattle.rlsf_tlsf.specs.Steps.Join.{IsMarked, IsOut}
-use Rattle.rlsf_tlsf.specs.Table.{Table}
-use Rattle.rlsf_tlsf.proofs.FreeLists.Counted.{Rewrites-counted_first, word_at-counted}
 
 module _ (m n : Space) (start : n.start ≡ m.start) (bytes : n.bytes ≡ m.bytes) where
   pub IsWord-loaded : {a : ℕ} → IsWord m a → IsWord n a

@@ -4,20 +4,20 @@ use Rattle.std.proofs.lemmas.Bool.{eq-eqb, eqb-true, ne_eqb}
 use Rattle.rlsf_base.specs.declared.memory.range.Range.{Range}
 use Rattle.rlsf_base.specs.Range.{end_of}
 use Rattle.rlsf_base.specs.Space.{Space, word_at}
+use Rattle.rlsf_table.specs.FreeList.{IsLink}
+use Rattle.rlsf_table.specs.FreeTable.{IsFreeTable}
+use Rattle.rlsf_table.specs.Table.{Table}
+use Rattle.rlsf_table.proofs.FreeLists.Found.{find-one, find-no, find-start, find-no_start, without-same}
+use Rattle.rlsf_table.proofs.FreeLists.Counted.{IsFreeTable-counted, Rewrites-counted}
 use Rattle.rlsf_tlsf.specs.InBand.{sentinel_of}
 use Rattle.rlsf_tlsf.specs.StandsFor.{contents, StandsFor}
-use Rattle.rlsf_tlsf.specs.Steps.FreeList.{IsLink}
-use Rattle.rlsf_tlsf.specs.Steps.FreeTable.{IsFreeTable}
 use Rattle.rlsf_tlsf.specs.Steps.Join.{Begins, IsMarked, IsOut, IsPreviousOut}
-use Rattle.rlsf_tlsf.specs.Table.{Table}
 use Rattle.rlsf_machine.specs.Join.{ends_at, starts_at, start_or, end_or}
 use Rattle.rlsf_machine.specs.Lists.{IsIn, without}
 use Rattle.rlsf_machine.specs.State.{State, Used}
 use Rattle.rlsf_machine.proofs.Coverage.{IsIn-without, IsIn-without_other, without-none}
 use Rattle.rlsf_machine.proofs.Payloads.{IsUsed-some}
-use Rattle.rlsf_tlsf.proofs.FreeLists.Found.{find-one, find-no, find-start, find-no_start, without-same}
-use Rattle.rlsf_tlsf.proofs.FreeLists.Counted.{IsFreeTable-counted, Rewrites-counted}
-use Rattle.rlsf_tlsf.proofs.FreeLists.Tables.{IsFreeTable-free}
+use Rattle.rlsf_tlsf.proofs.Machine.FreeBlocks.{IsFreeTable-free}
 use Rattle.rlsf_tlsf.proofs.Machine.Neighbours.{Before, free_before, used_before, none_before, Behind, free_behind, used_behind, last_behind, before_used, behind_used}
 use Rattle.rlsf_tlsf.proofs.Words.Apart.{used_free, free_free, free_last, chunk_chunk, home_of_free, used_in_memory, free_in_memory}
 
@@ -29,24 +29,24 @@ pub data Named (m : Space) (s : State) (b previous : ℕ) : Type 0 where
 
 module _ {fllen sllen : ℕ} {m : Space} {t : Table} {s : State} (v : StandsFor fllen sllen (contents m t) s) where
   -- where a used block begins, its word is odd, and no free block begins
-  used_odd : (x : Used) → IsIn x s.used → word_at m x.block.start % 2 ≡ 1
+  pub used_odd : (x : Used) → IsIn x s.used → word_at m x.block.start % 2 ≡ 1
   used_odd x i = omega (arith, v.sizes.used x i, (v.well_formed.used x i).whole.len)
 
-  used_begins : (x : Used) → IsIn x s.used → (a : ℕ) → x.block.start ≡ a → Begins s.free a → ⊥
+  pub used_begins : (x : Used) → IsIn x s.used → (a : ℕ) → x.block.start ≡ a → Begins s.free a → ⊥
   used_begins x i a at (f, j, same) =
       let some = IsUsed-some x (v.well_formed.used x i) in
       let more = (v.well_formed.free f j).some in
       used_free v.well_formed x f a i j (record { from = omega arith; to = omega arith }) (record { from = omega arith; to = omega arith })
 
   -- where a chunk's last bytes begin, none begins either
-  last_begins : (c : Range) → IsIn c s.chunks → (a : ℕ) → sentinel_of c ≡ a → Begins s.free a → ⊥
+  pub last_begins : (c : Range) → IsIn c s.chunks → (a : ℕ) → sentinel_of c ≡ a → Begins s.free a → ⊥
   last_begins c i a at (f, j, same) =
       let more = (v.well_formed.free f j).some in
       let room = (v.well_formed.chunks c i).has_room in
       free_last v.well_formed f c a j i (record { from = omega arith; to = omega arith }) (omega arith) (omega arith)
 
   -- a free block's word is even
-  free_even : (f : Range) → IsIn f s.free → word_at m f.start % 2 ≡ 0
+  pub free_even : (f : Range) → IsIn f s.free → word_at m f.start % 2 ≡ 0
   free_even f i = omega (arith, v.sizes.free f i, (v.well_formed.free f i).whole.len)
 
   -- ---- the block before

@@ -2,17 +2,17 @@
 use Rattle.std.proofs.Common.{◌≡◌, ℕ, ◌%◌, List, ◌∷◌, ◌++◌, arith, sym, ◌∙◌, ap, subst}
 use Rattle.rlsf_base.specs.declared.memory.range.Range.{Range}
 use Rattle.rlsf_base.specs.Space.{Space, word_at}
-use Rattle.rlsf_tlsf.specs.Steps.FreeList.{IsLink, Rewrites}
-use Rattle.rlsf_tlsf.specs.Steps.FreeTable.{IsFreeTable}
+use Rattle.rlsf_table.specs.FreeList.{IsLink, Rewrites}
+use Rattle.rlsf_table.specs.FreeTable.{IsFreeTable}
+use Rattle.rlsf_table.specs.Table.{Table, HasTable}
+use Rattle.rlsf_table.proofs.FreeLists.Chains.{find-split}
+use Rattle.rlsf_table.proofs.FreeLists.Counted.{IsFreeTable-counted, Rewrites-counted}
+use Rattle.rlsf_table.proofs.FreeLists.Found.{find-start, find-no_start}
+use Rattle.rlsf_table.proofs.Tables.FreeTables.{IsFreeTable-removal}
 use Rattle.rlsf_tlsf.specs.Steps.Join.{IsMarked, IsOut}
-use Rattle.rlsf_tlsf.specs.Table.{Table, HasTable}
 use Rattle.rlsf_machine.specs.Join.{starts_at, end_or}
 use Rattle.rlsf_machine.specs.Lists.{IsIn}
 use Rattle.rlsf_machine.proofs.Coverage.{without-none}
-use Rattle.rlsf_tlsf.proofs.FreeLists.Chains.{find-split}
-use Rattle.rlsf_tlsf.proofs.FreeLists.Counted.{IsFreeTable-counted, Rewrites-counted}
-use Rattle.rlsf_tlsf.proofs.FreeLists.Found.{find-start, find-no_start}
-use Rattle.rlsf_tlsf.proofs.FreeLists.Tables.{IsFreeTable-removal}
 
 module _ {fllen sllen : ℕ} {m : Space} {t : Table} {block : ℕ} {free : List Range} (list : IsFreeTable fllen sllen m t free) (marked : IsMarked m free block) where
   -- the free block that begins there

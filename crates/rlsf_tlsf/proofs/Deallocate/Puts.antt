@@ -3,17 +3,18 @@ use Rattle.std.proofs.Common.{◌≡◌, ◌≢◌, ℕ, ◌+◌, ◌%◌, ◌<�
 use Rattle.rlsf_base.specs.declared.memory.range.Range.{Range}
 use Rattle.rlsf_base.specs.Range.{end_of}
 use Rattle.rlsf_base.specs.Space.{Space, word_at, with_word}
-use Rattle.rlsf_tlsf.specs.Steps.FreeList.{IsLink, Rewrites, Touched, at_link, in_hole, at_other}
-use Rattle.rlsf_tlsf.specs.Steps.FreeTable.{IsFreeTable, IsRoom}
+use Rattle.rlsf_table.specs.FreeList.{IsLink, Rewrites}
+use Rattle.rlsf_table.specs.FreeTable.{IsFreeTable, IsRoom}
+use Rattle.rlsf_table.specs.Table.{Table, HasTable}
+use Rattle.rlsf_table.proofs.Tables.FreeTables.{IsFreeTable-Rewrites}
+use Rattle.rlsf_table.proofs.Words.Writes.{Rewrites-trans, Rewrites-weaken, Rewrites-word, IsPlaced-Rewrites}
+use Rattle.rlsf_table.proofs.Words.Writing.{IsWrite, write, rewrites_of, reads_of}
+use Rattle.rlsf_tlsf.specs.Steps.Touched.{Touched, at_link, in_hole, at_other}
 use Rattle.rlsf_tlsf.specs.Steps.Join.{IsPut}
 use Rattle.rlsf_tlsf.specs.Steps.Rest.{IsInnerRoom}
-use Rattle.rlsf_tlsf.specs.Table.{Table, HasTable}
 use Rattle.rlsf_machine.specs.Lists.{IsIn}
 use Rattle.rlsf_machine.specs.WellFormed.{itself}
 use Rattle.rlsf_machine.proofs.Coverage.{covers-inside, coverage-IsIn}
-use Rattle.rlsf_tlsf.proofs.FreeLists.Tables.{IsFreeTable-Rewrites}
-use Rattle.rlsf_tlsf.proofs.FreeLists.Writes.{Rewrites-trans, Rewrites-weaken, Rewrites-word, IsPlaced-Rewrites}
-use Rattle.rlsf_tlsf.proofs.Words.Writing.{IsWrite, write, rewrites_of, reads_of}
 
 -- the memories m1 and m2 after the two writes
 pub record ArePut (m m1 m2 : Space) (r : Range) : Type 0 where

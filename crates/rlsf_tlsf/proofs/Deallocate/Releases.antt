@@ -4,12 +4,14 @@ use mathlib.Core.Path.{ap₂}
 use Rattle.rlsf_base.specs.declared.memory.range.Range.{Range}
 use Rattle.rlsf_base.specs.Range.{end_of}
 use Rattle.rlsf_base.specs.Space.{Space, range_of, word_at}
+use Rattle.rlsf_table.specs.FreeList.{IsLink, Rewrites}
+use Rattle.rlsf_table.specs.Table.{Table}
+use Rattle.rlsf_table.proofs.Words.Writes.{Rewrites-trans, Rewrites-weaken}
 use Rattle.rlsf_tlsf.specs.Spare.{KeepsSpare}
 use Rattle.rlsf_tlsf.specs.StandsFor.{contents, StandsFor}
-use Rattle.rlsf_tlsf.specs.Steps.FreeList.{IsLink, Rewrites, Touched, at_link, in_hole, at_other}
+use Rattle.rlsf_tlsf.specs.Steps.Touched.{Touched, at_link, in_hole, at_other}
 use Rattle.rlsf_tlsf.specs.Steps.Join.{IsOut, IsPreviousOut, IsPut, union, untouched}
 use Rattle.rlsf_tlsf.specs.Steps.Rest.{IsInnerRoom}
-use Rattle.rlsf_tlsf.specs.Table.{Table}
 use Rattle.rlsf_machine.specs.Join.{ends_at, starts_at, join}
 use Rattle.rlsf_machine.specs.Lists.{IsIn, without}
 use Rattle.rlsf_machine.specs.Release.{released}
@@ -20,7 +22,6 @@ use Rattle.rlsf_machine.proofs.Coverage.{covers-inside, coverage-IsIn, IsIn-with
 use Rattle.rlsf_machine.proofs.Joins.{left_of}
 use Rattle.rlsf_machine.proofs.Releases.{IsSound-free, IsWellFormed-released}
 use Rattle.rlsf_machine.proofs.Tiling.{LiesInChunk, free-le, tiling_of}
-use Rattle.rlsf_tlsf.proofs.FreeLists.Writes.{Rewrites-trans, Rewrites-weaken}
 use Rattle.rlsf_tlsf.proofs.Words.Apart.{used_free, free_in_memory, home_of_free}
 use Rattle.rlsf_tlsf.proofs.Words.Refilled.{old_used, IsFreeStill, old_free, new_free, IsRefilled, StandsFor-refilled, KeepsSpare-refilled}
 
@@ -29,10 +30,10 @@ module _ {fllen sllen : ℕ} {m : Space} {t : Table} {s : State} (v : StandsFor 
   t_well_formed : IsWellFormed fllen sllen (range_of m) (released s u)
   t_well_formed = IsWellFormed-released v.well_formed u i
 
-  is_free : IsFree fllen sllen (union u.block s.free)
+  pub is_free : IsFree fllen sllen (union u.block s.free)
   is_free = t_well_formed.free (union u.block s.free) (inl refl)
 
-  home : LiesInChunk s (union u.block s.free)
+  pub home : LiesInChunk s (union u.block s.free)
   home = let here = home_of_free t_well_formed (union u.block s.free) (inl refl) in record { chunk = here.chunk; is_chunk = here.is_chunk; from = here.from; to = here.to }
 
   -- where the block ends, by its size word
@@ -64,7 +65,7 @@ module _ {fllen sllen : ℕ} {m : Space} {t : Table} {s : State} (v : StandsFor 
     pub union_end : end_of u.block + next + 32 ≤ m.start + length m.bytes
     union_end = omega (arith, (free_in_memory t_well_formed (union u.block s.free) (inl refl)).1, union_start, union_len, start_before)
 
-    gone : Rewrites m m2 (IsLink s.free)
+    pub gone : Rewrites m m2 (IsLink s.free)
     gone = Rewrites-weaken among (Rewrites-trans before.rewrites behind.rewrites)
       where
         among : (a : ℕ) → IsLink s.free a ⊎ IsLink (without (ends_at u.block.start) s.free) a → IsLink s.free a

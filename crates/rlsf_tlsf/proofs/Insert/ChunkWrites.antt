@@ -2,8 +2,13 @@
 use Rattle.std.proofs.Common.{◌≡◌, ℕ, ◌+◌, ◌-◌, ◌%◌, ◌^◌, ◌<◌, ◌≤◌, ◌⊎◌, ◌∷◌, length, arith, inl, inr, ◌∙◌, ap, subst}
 use Rattle.rlsf_base.specs.declared.memory.range.Range.{Range}
 use Rattle.rlsf_base.specs.Space.{Space, word_at, with_word}
-use Rattle.rlsf_tlsf.specs.Steps.FreeList.{IsLink, IsPlaced, Rewrites, Touched, at_link, in_hole}
-use Rattle.rlsf_tlsf.specs.Steps.FreeTable.{IsFreeTable, IsRoom}
+use Rattle.rlsf_table.specs.FreeList.{IsLink, IsPlaced, Rewrites}
+use Rattle.rlsf_table.specs.FreeTable.{IsFreeTable, IsRoom}
+use Rattle.rlsf_table.specs.Table.{Table, HasTable}
+use Rattle.rlsf_table.proofs.Tables.FreeTables.{HasTable-Rewrites}
+use Rattle.rlsf_table.proofs.Words.Writing.{IsWrite, write, rewrites_of, reads_of}
+use Rattle.rlsf_table.proofs.Words.Writes.{before_links, Rewrites-word, Rewrites-trans, Rewrites-weaken, IsPlaced-Rewrites}
+use Rattle.rlsf_tlsf.specs.Steps.Touched.{Touched, at_link, in_hole}
 use Rattle.rlsf_tlsf.specs.InBand.{sentinel_of}
 use Rattle.rlsf_machine.specs.Insert.{body}
 use Rattle.rlsf_machine.specs.Lists.{IsIn}
@@ -11,12 +16,9 @@ use Rattle.rlsf_machine.specs.State.{State}
 use Rattle.rlsf_machine.specs.WellFormed.{coverage, itself}
 use Rattle.rlsf_tlsf.specs.Steps.Pool.{IsAdded, IsNewChunk, opened}
 use Rattle.rlsf_tlsf.specs.StandsFor.{contents, StandsFor}
-use Rattle.rlsf_tlsf.specs.Table.{Table, HasTable}
 use Rattle.rlsf_tlsf.proofs.Words.Apart.{Has}
 use Rattle.rlsf_tlsf.proofs.Words.Frames.{free_size}
-use Rattle.rlsf_tlsf.proofs.FreeLists.Tables.{HasTable-Rewrites, IsFreeTable-free}
-use Rattle.rlsf_tlsf.proofs.Words.Writing.{IsWrite, write, rewrites_of, reads_of}
-use Rattle.rlsf_tlsf.proofs.FreeLists.Writes.{before_links, Rewrites-word, Rewrites-trans, Rewrites-weaken, IsPlaced-Rewrites}
+use Rattle.rlsf_tlsf.proofs.Machine.FreeBlocks.{IsFreeTable-free}
 use Rattle.rlsf_machine.proofs.Coverage.{inside, before, behind, where_is, covers-inside, coverage-IsIn}
 use Rattle.rlsf_machine.proofs.Tiling.{free-le, tiling_of}
 

@@ -3,6 +3,7 @@ use Rattle.std.proofs.Common.{◌≡◌, ◌≢◌, ℕ, ◌+◌, ◌-◌, ◌%�
 use Rattle.rlsf_base.specs.declared.memory.range.Range.{Range}
 use Rattle.rlsf_base.specs.Range.{end_of}
 use Rattle.rlsf_base.specs.Space.{Space, bytes_in, range_of, word_at}
+use Rattle.rlsf_table.specs.Table.{Table}
 use Rattle.rlsf_tlsf.specs.Steps.Pool.{IsAdded, opened}
 use Rattle.rlsf_tlsf.specs.InBand.{sentinel_of}
 use Rattle.rlsf_machine.specs.Insert.{body}
@@ -10,7 +11,6 @@ use Rattle.rlsf_machine.specs.Lists.{IsIn}
 use Rattle.rlsf_machine.specs.State.{State, Used, usable}
 use Rattle.rlsf_machine.specs.WellFormed.{coverage, itself, IsWhole, IsWellFormed}
 use Rattle.rlsf_tlsf.specs.StandsFor.{contents, StandsFor}
-use Rattle.rlsf_tlsf.specs.Table.{Table}
 use Rattle.rlsf_tlsf.proofs.Words.Apart.{Has, home_of_free, home_of_used}
 use Rattle.rlsf_tlsf.proofs.Words.Frames.{used_size, used_previous, used_bytes, used_pad, free_size, free_previous, chunk_first, chunk_sentinel}
 use Rattle.rlsf_machine.proofs.Coverage.{covers-inside, coverage-IsIn}

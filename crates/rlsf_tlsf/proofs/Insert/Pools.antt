@@ -7,7 +7,9 @@ use Rattle.rlsf_base.specs.declared.memory.range.Range.{Range}
 use Rattle.rlsf_base.specs.Range.{end_of, range_at}
 use Rattle.rlsf_base.specs.Sizes.{max_pool_size}
 use Rattle.rlsf_base.specs.Space.{Space, byte_at, bytes_in, range_of}
-use Rattle.rlsf_tlsf.specs.Steps.FreeList.{Rewrites, Touched, at_link, in_hole, at_other}
+use Rattle.rlsf_table.specs.FreeList.{Rewrites}
+use Rattle.rlsf_table.specs.Table.{Table}
+use Rattle.rlsf_tlsf.specs.Steps.Touched.{Touched, at_link, in_hole, at_other}
 use Rattle.rlsf_machine.specs.Insert.{aligned_part, body, bytes_taken, cut, end_of_last, Inserts, IsFresh, with_chunk, with_chunks}
 use Rattle.rlsf_machine.specs.Laws.{first_length}
 use Rattle.rlsf_machine.specs.Lists.{IsIn}
@@ -16,7 +18,6 @@ use Rattle.rlsf_machine.specs.WellFormed.{IsChunk, IsFree, IsWellFormed}
 use Rattle.rlsf_tlsf.specs.Steps.Pool.{IsAdded, IsNewChunk, opened}
 use Rattle.rlsf_tlsf.specs.Spare.{IsSpare, KeepsSpare}
 use Rattle.rlsf_tlsf.specs.StandsFor.{contents, StandsFor}
-use Rattle.rlsf_tlsf.specs.Table.{Table}
 use Rattle.rlsf_tlsf.proofs.Insert.NewChunks.{StandsFor-added}
 use Rattle.rlsf_tlsf.proofs.Words.Apart.{Has, home_of_free}
 use Rattle.rlsf_machine.proofs.Coverage.{covers-inside}

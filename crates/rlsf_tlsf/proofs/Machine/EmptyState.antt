@@ -1,16 +1,12 @@
 -- A new value stands for the empty state.
-use Rattle.std.proofs.Common.{ℕ, ◌+◌, ◌^◌, ◌<◌, ◌≤◌, IsTrue, [], length, arith}
-use Rattle.std.proofs.lemmas.Bool.Decides.{nat_tests}
-use Rattle.rlsf_base.specs.SizeClass.{is_row_length, IsValid}
+use Rattle.std.proofs.Common.{ℕ, ◌+◌, ◌^◌, ◌<◌, [], length}
+use Rattle.rlsf_base.specs.SizeClass.{IsValid}
 use Rattle.rlsf_base.specs.Space.{Space, range_of}
 use Rattle.rlsf_machine.specs.State.{empty}
+use Rattle.rlsf_table.specs.Table.{Table, HasTable}
+use Rattle.rlsf_table.proofs.Tables.RowLengths.{row_length-bounds}
 use Rattle.rlsf_tlsf.specs.StandsFor.{contents, StandsFor}
-use Rattle.rlsf_tlsf.specs.Table.{Table, HasTable}
 use Rattle.rlsf_machine.proofs.Steps.{empty_is_well_formed}
-
--- a row length is not 0, and at most 128
-pub row_length-bounds : (n : ℕ) → IsTrue (is_row_length n) → (0 < n) × (n ≤ 128)
-row_length-bounds n row = (grind (arith, nat_tests, row), grind (arith, nat_tests, row))
 
 pub StandsFor-empty : {fl_bits sl_bits fllen sllen : ℕ} {m : Space} {t : Table} → IsValid fl_bits sl_bits fllen sllen → (0 < m.start) × (m.start + length m.bytes < 2 ^ 64) → HasTable fllen sllen m t [] → StandsFor fllen sllen (contents m t) empty
 StandsFor-empty {fllen = fllen} {sllen = sllen} {m = m} valid bounds table = record {

@@ -11,12 +11,12 @@ use Rattle.rlsf_machine.specs.State.{State, Used, usable}
 use Rattle.rlsf_machine.specs.WellFormed.{coverage, covers, IsUsed, IsWellFormed}
 use Rattle.rlsf_machine.proofs.Payloads.{IsUsed-after_start}
 use Rattle.rlsf_machine.proofs.Tiling.{block_of}
+use Rattle.rlsf_table.specs.Table.{Table, head_at, of_class, HasTable}
+use Rattle.rlsf_table.proofs.FreeLists.Chains.{Links-same}
+use Rattle.rlsf_table.proofs.FreeLists.Classes.{IsIn-of_class}
 use Rattle.rlsf_tlsf.specs.InBand.{sentinel_of, HasSizes, HasPrevious, HasPayloads}
 use Rattle.rlsf_tlsf.specs.Laws.{DiffersInPayloads, read_from, with_bytes_of, WordsReadNoPayload}
 use Rattle.rlsf_tlsf.specs.StandsFor.{contents, StandsFor}
-use Rattle.rlsf_tlsf.specs.Table.{Table, head_at, of_class, HasTable}
-use Rattle.rlsf_tlsf.proofs.FreeLists.Chains.{Links-same}
-use Rattle.rlsf_tlsf.proofs.FreeLists.Classes.{IsIn-of_class}
 use Rattle.rlsf_tlsf.proofs.Words.Apart.{Has, used_free, used_used, used_last, chunk_chunk, home_of_used, free_in_memory, used_in_memory}
 
 -- ---- equal bytes make equal words

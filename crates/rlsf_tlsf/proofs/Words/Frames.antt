@@ -9,13 +9,14 @@ use Rattle.rlsf_base.proofs.Numbers.PowersOfTwo.{floor_log2-lt, pow-between}
 use Rattle.rlsf_base.specs.declared.memory.range.Range.{Range}
 use Rattle.rlsf_base.specs.Range.{end_of}
 use Rattle.rlsf_base.specs.Space.{Space, bytes_in, range_of, word_at}
-use Rattle.rlsf_tlsf.specs.Steps.FreeList.{Rewrites, Touched, at_link, in_hole, at_other}
+use Rattle.rlsf_table.specs.FreeList.{Rewrites}
+use Rattle.rlsf_table.proofs.Words.Writes.{link_place}
+use Rattle.rlsf_tlsf.specs.Steps.Touched.{Touched, at_link, in_hole, at_other}
 use Rattle.rlsf_tlsf.specs.InBand.{sentinel_of}
 use Rattle.rlsf_machine.specs.Lists.{IsIn}
 use Rattle.rlsf_machine.specs.State.{State, Used, usable}
 use Rattle.rlsf_machine.specs.WellFormed.{IsWellFormed}
 use Rattle.rlsf_machine.proofs.Payloads.{IsUsed-aligned, IsUsed-after_start, IsUsed-some}
-use Rattle.rlsf_tlsf.proofs.FreeLists.Writes.{link_place}
 use Rattle.rlsf_tlsf.proofs.Words.Apart.{Has, used_free, free_in_memory, used_in_memory}
 
 -- of two ranges that have no address in common, one ends before the other begins

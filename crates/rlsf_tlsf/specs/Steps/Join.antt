@@ -3,9 +3,10 @@ use Rattle.std.specs.Prelude.{◌≡◌, ◌↔◌, ℕ, ◌+◌, ◌%◌, List,
 use Rattle.rlsf_base.specs.declared.memory.range.Range.{Range}
 use Rattle.rlsf_base.specs.Range.{end_of}
 use Rattle.rlsf_base.specs.Space.{Space, IsWord, word_at}
-use Rattle.rlsf_tlsf.specs.Steps.FreeList.{IsLink, Rewrites, Touched}
-use Rattle.rlsf_tlsf.specs.Steps.FreeTable.{IsFreeTable}
-use Rattle.rlsf_tlsf.specs.Table.{Table, HasTable}
+use Rattle.rlsf_table.specs.FreeList.{IsLink, Rewrites}
+use Rattle.rlsf_table.specs.FreeTable.{IsFreeTable}
+use Rattle.rlsf_table.specs.Table.{Table, HasTable}
+use Rattle.rlsf_tlsf.specs.Steps.Touched.{Touched}
 use Rattle.rlsf_machine.specs.Join.{ends_at, starts_at, start_or, end_or}
 use Rattle.rlsf_machine.specs.Lists.{IsIn, without}
 use Rattle.rlsf_machine.specs.State.{between}

@@ -3,9 +3,10 @@ use Rattle.std.specs.Prelude.{◌≡◌, ℕ, ◌+◌, ◌-◌, ◌<◌, ◌≤�
 use Rattle.rlsf_base.specs.declared.memory.range.Range.{Range}
 use Rattle.rlsf_base.specs.Range.{LiesIn, range_at}
 use Rattle.rlsf_base.specs.Space.{Space, word_at}
-use Rattle.rlsf_tlsf.specs.Steps.FreeList.{Rewrites, Touched}
+use Rattle.rlsf_table.specs.FreeList.{Rewrites}
+use Rattle.rlsf_table.specs.Table.{Table, HasTable}
+use Rattle.rlsf_tlsf.specs.Steps.Touched.{Touched}
 use Rattle.rlsf_tlsf.specs.InBand.{sentinel_of}
-use Rattle.rlsf_tlsf.specs.Table.{Table, HasTable}
 use Rattle.rlsf_machine.specs.Insert.{body, IsClear}
 use Rattle.rlsf_machine.specs.State.{State}
 use Rattle.rlsf_machine.specs.WellFormed.{IsFree, IsWhole}

@@ -4,9 +4,10 @@ use Rattle.rlsf_base.specs.declared.memory.range.Range.{Range}
 use Rattle.rlsf_base.specs.Range.{end_of}
 use Rattle.rlsf_base.specs.SizeClass.{class_of}
 use Rattle.rlsf_base.specs.Space.{Space, word_at}
-use Rattle.rlsf_tlsf.specs.Steps.FreeList.{Rewrites, Touched}
-use Rattle.rlsf_tlsf.specs.Steps.FreeTable.{IsRoom}
-use Rattle.rlsf_tlsf.specs.Table.{Table, HasTable}
+use Rattle.rlsf_table.specs.FreeList.{Rewrites}
+use Rattle.rlsf_table.specs.FreeTable.{IsRoom}
+use Rattle.rlsf_table.specs.Table.{Table, HasTable}
+use Rattle.rlsf_tlsf.specs.Steps.Touched.{Touched}
 use Rattle.rlsf_machine.specs.Allocate.{has_class, rest_behind}
 use Rattle.rlsf_machine.specs.Lists.{IsIn, without}
 use Rattle.rlsf_machine.specs.State.{State}

@@ -7,19 +7,18 @@ ghost use Rattle.rlsf_base.specs.Space.{SamePlace};
 ghost use Rattle.rlsf_machine.specs.Lists.{IsIn};
 ghost use Rattle.rlsf_machine.specs.Release.{released};
 ghost use Rattle.rlsf_machine.specs.State.{State, Used, Holds, IsLive};
+ghost use Rattle.rlsf_table.specs.Counts.{Counts};
+ghost use Rattle.rlsf_table.specs.FreeTable.{IsFreeTable};
+ghost use Rattle.rlsf_table.specs.Table.{Table};
 ghost use Rattle.rlsf_tlsf.specs.Spare.{KeepsSpare};
 ghost use Rattle.rlsf_tlsf.specs.StandsFor.{contents, StandsFor};
-ghost use Rattle.rlsf_tlsf.specs.Steps.Counts.{Counts};
-ghost use Rattle.rlsf_tlsf.specs.Steps.FreeTable.{IsFreeTable};
 ghost use Rattle.rlsf_tlsf.specs.Steps.Join.{IsMarked, IsOut, IsPreviousOut, IsPut};
 ghost use Rattle.rlsf_tlsf.specs.Steps.Rest.{IsInnerRoom};
-ghost use Rattle.rlsf_tlsf.specs.Table.{Table};
 
 use crate::tlsf::GRANULARITY;
-use crate::tlsf::list::{link, unlink};
-use crate::tlsf::table::ClassTable;
 use rlsf_base::memory::Memory;
 use rlsf_int::BinInteger;
+use rlsf_table::{ClassTable, link, unlink};
 
 /// The used block whose payload at `payload` was allocated with that alignment.
 pub(crate) fn used_block(memory: &mut Memory, payload: usize, align: usize) -> usize
@@ -35,7 +34,12 @@ pub(crate) fn used_block(memory: &mut Memory, payload: usize, align: usize) -> u
 }
 
 /// Takes the block at `block` out of its list, if it is free. Answers the bytes of the block that was taken out, or 0.
-fn take_if_free<FLBitmap: BinInteger, SLBitmap: BinInteger, const FLLEN: usize, const SLLEN: usize>(
+pub(crate) fn take_if_free<
+    FLBitmap: BinInteger,
+    SLBitmap: BinInteger,
+    const FLLEN: usize,
+    const SLLEN: usize,
+>(
     memory: &mut Memory,
     table: &mut ClassTable<FLBitmap, SLBitmap, FLLEN, SLLEN>,
     block: usize,
@@ -57,7 +61,8 @@ fn take_if_free<FLBitmap: BinInteger, SLBitmap: BinInteger, const FLLEN: usize, 
 
 /// Takes the block before the used one at `block` out of its list, if it is free. Answers where the block that was taken
 /// out begins, or `block`.
-fn take_previous<
+#[inline(always)]
+pub(crate) fn take_previous<
     FLBitmap: BinInteger,
     SLBitmap: BinInteger,
     const FLLEN: usize,
@@ -102,6 +107,7 @@ fn put<FLBitmap: BinInteger, SLBitmap: BinInteger, const FLLEN: usize, const SLL
 
 /// Makes the used block at `block` free: joined with a free block before it and a free block behind it, it becomes the
 /// newest.
+#[inline(always)]
 pub(crate) fn deallocate_block<
     FLBitmap: BinInteger,
     SLBitmap: BinInteger,

@@ -14,15 +14,14 @@ ghost use Rattle.rlsf_tlsf.specs.Spare.{KeepsSpare};
 ghost use Rattle.rlsf_tlsf.specs.StandsFor.{contents, StandsFor};
 
 use crate::tlsf::GRANULARITY;
-use crate::tlsf::list::link;
-use crate::tlsf::table::ClassTable;
 use rlsf_base::classes;
 use rlsf_base::memory::{Memory, Range};
 use rlsf_int::BinInteger;
+use rlsf_table::{ClassTable, link};
 use std::num::NonZeroUsize;
 
 // A sentinel's size word: its length, in use, the last block of its chunk.
-const SENTINEL: u64 = GRANULARITY as u64 + 3;
+pub(crate) const SENTINEL: u64 = GRANULARITY as u64 + 3;
 
 /// Makes a chunk of a range: one free block and a sentinel in the last 32 bytes.
 pub(crate) fn add_chunk<
@@ -64,6 +63,8 @@ fn chunk_length<FLBitmap: BinInteger, SLBitmap: BinInteger, const FLLEN: usize, 
 
 /// Makes chunks of a range, from its first multiple of 32 on and while 64 bytes or more are left. Answers the bytes from
 /// the range's start up to the last chunk's end, or `None` without a chunk.
+// Pools are rare: apart from the calls that are not, this lets the compiler keep where the memory is in registers there.
+#[inline(never)]
 pub(crate) fn insert<
     FLBitmap: BinInteger,
     SLBitmap: BinInteger,

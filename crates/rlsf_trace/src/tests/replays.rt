@@ -95,6 +95,27 @@ fn named_payloads(rt: HostRuntime) -> Result<(), Fail> {
 }
 
 #[test]
+fn pools_and_payloads_grow(rt: HostRuntime) -> Result<(), Fail> {
+    let pool = replayed(
+        &rt,
+        b"59x8 4096 4096\ninsert 4096 256\nalloc 1 384 1\nappend 4352 256\nalloc 1 384 1\nappend 4097 0\n",
+    )?;
+    assert_eq!(rt;
+        pool.as_str(),
+        "insert some 256\nalloc 1 none\nappend 256\nalloc 1 at 4112\nrefused 3 BadRange\nstatus 0"
+    );
+    let payload = replayed(
+        &rt,
+        b"8x8 4096 4096\ninsert 4096 96\nalloc 1 17 1\nrealloc 1 0\nrealloc 9 0\nrealloc 1 9223372036854775808\nrealloc 1 9223372036854775807\nalloc 2 0 1\n",
+    )?;
+    assert_eq!(rt;
+        payload.as_str(),
+        "insert some 96\nalloc 1 at 4112\nrealloc 1 at 4112\nrefused 1 UnknownName\nrefused 5 BadLayout\nrealloc 1 none\nalloc 2 at 4144\nstatus 0"
+    );
+    Ok(())
+}
+
+#[test]
 fn configurations(rt: HostRuntime) -> Result<(), Fail> {
     // One row of one class makes chunks of 64 bytes.
     let one = replayed(&rt, b"1x1 4096 4096\ninsert 4096 200\nalloc 1 0 1\n")?;

@@ -1,8 +1,8 @@
-use Rattle.std.proofs.Common.{rules, ◌≡◌, ◌+◌, length, drop, None, replicate, arith, sym, ◌∙◌, ap, subst}
+use Rattle.std.proofs.Common.{rules, ◌≡◌, ◌+◌, length, drop, replicate, arith, sym, ◌∙◌, ap, subst}
 use Rattle.std.specs.Int.NonZero.{non_zero_usize_get}
 use Rattle.std.specs.Option.{option_map}
 use Rattle.rlsf_machine.specs.State.{empty}
-use Rattle.rlsf_bench.proofs.WholePool.{whole_is_fresh}
+use Rattle.rlsf_bench.proofs.FirstPool.{pool_is_fresh}
 use Rattle.rlsf_bench.specs.Runs.{IsBench, RunState}
 use Rattle.rlsf_bench.specs.Slots.{IsAt, LeadsOn}
 use Rattle.rlsf_bench.proofs.Underway.{IsUnderway, IsUnderway-beginning, IsUnderway-next, IsBench-end, take_all}
@@ -10,42 +10,42 @@ use Rattle.rlsf_bench.proofs.steps.run.Goals as goal
 
 pub insert_free_block_ptr-requires-after_bounds : goal.insert_free_block_ptr-requires-after_bounds
 insert_free_block_ptr-requires-after_bounds g c κs within =
-    (search rules, (empty, c.requires.new, whole_is_fresh c.args.tlsf.memory c.args.pool c.requires.pool.0 c.requires.pool.1))
+    (search rules, (empty, c.requires.new, pool_is_fresh c.args.tlsf.memory c.args.pool c.requires.pool))
 
-pub loop-init : goal.loop-init
-loop-init g c =
-    let fresh = whole_is_fresh c.args.tlsf.memory c.args.pool c.requires.pool.0 c.requires.pool.1 in
+pub loop-number-init : goal.loop-number-init
+loop-number-init g c =
+    let fresh = pool_is_fresh c.args.tlsf.memory c.args.pool c.requires.pool in
     let (t, step, stands, _) = c.insert_free_block_ptr.ensures.step empty c.requires.new fresh in
-    IsUnderway-beginning (option_map non_zero_usize_get c.insert_free_block_ptr.result) t step stands (c.in_ok-live.ensures.ok ∙ ap (λ n. replicate n None) c.get.ensures.value) c.new-tally.ensures c.new-draws.ensures
+    IsUnderway-beginning (option_map non_zero_usize_get c.insert_free_block_ptr.result) t step stands (c.in_ok-live.ensures.ok ∙ ap (λ n. replicate n 0) c.get.ensures.value) c.new-tally.ensures c.new-draws.ensures
 
 pub step-requires-after_bounds : goal.step-requires-after_bounds
 step-requires-after_bounds g c κs within =
-    let w = c.loop.invariant in
+    let w = c.loop-number.invariant in
     let items = c.deref_mut.ensures.value in (
       search rules,
       (
         omega (arith, ap length items, w.slots, c.get.ensures.value, c.get.ensures.nonzero),
         (
-          (w.state, subst (λ t. IsAt g.row.FLLEN g.row.SLLEN c.loop.tlsf t c.loop.tally w.state) (sym items) w.at),
-          omega (arith, w.refused, c.loop-test.true, c.ranges.steps.fits),
+          (w.state, subst (λ t. IsAt g.row.FLLEN g.row.SLLEN c.loop-number.tlsf t c.loop-number.tally w.state) (sym items) w.at),
+          omega (arith, w.refused, c.loop-number-test.true, c.ranges.steps.fits),
         ),
       ),
     )
 
-pub loop-preserved : goal.loop-preserved
-loop-preserved g c =
+pub loop-number-preserved : goal.loop-number-preserved
+loop-number-preserved g c =
     let items = c.deref_mut.ensures.value in
-    let does = subst (λ t. (s : RunState) → IsAt g.row.FLLEN g.row.SLLEN c.loop.tlsf t c.loop.tally s → LeadsOn g.row.FLLEN g.row.SLLEN (length t) c.next.result s c.step.new.tlsf c.step.new.slots c.step.new.tally) items c.step.ensures.does in
-    let long : length c.step.new.slots ≡ length c.loop.live.items = omega (arith, c.step.auto.slots, ap length items) in
-    let whole : length c.step.new.slots ≡ c.loop.live.len = omega (arith, c.step.auto.slots, c.deref_mut.ensures.len) in
-    let next = IsUnderway-next c.loop.invariant c.next.result c.next.new.self.state c.next.ensures.state c.next.ensures.number c.step.new.tlsf c.step.new.slots c.step.new.tally does long c.step.ensures.refused in
-    subst (λ t. IsUnderway g.row.FLLEN g.row.SLLEN c.args.pool (non_zero_usize_get c.args.slots) c.step.new.tlsf t c.step.new.tally c.next.new.self.state (c.loop.counter + 1))
-    (sym (take_all c.step.new.slots (drop (length c.step.new.slots) c.loop.live.items) c.loop.live.len whole)) next
+    let does = subst (λ t. (s : RunState) → IsAt g.row.FLLEN g.row.SLLEN c.loop-number.tlsf t c.loop-number.tally s → LeadsOn g.row.FLLEN g.row.SLLEN (length t) c.reallocates_at.result c.next.result s c.step.new.tlsf c.step.new.slots c.step.new.tally) items c.step.ensures.does in
+    let long : length c.step.new.slots ≡ length c.loop-number.live.items = omega (arith, c.step.auto.slots, ap length items) in
+    let whole : length c.step.new.slots ≡ c.loop-number.live.len = omega (arith, c.step.auto.slots, c.deref_mut.ensures.len) in
+    let next = IsUnderway-next c.loop-number.invariant c.reallocates_at.result c.reallocates_at.ensures c.next.result c.next.new.self.state c.next.ensures.state c.next.ensures.number c.step.new.tlsf c.step.new.slots c.step.new.tally does long c.step.ensures.refused in
+    subst (λ t. IsUnderway g.row.FLLEN g.row.SLLEN c.args.pool (non_zero_usize_get c.args.slots) c.args.mode c.step.new.tlsf t c.step.new.tally c.next.new.self.state (c.loop-number.number + 1))
+    (sym (take_all c.step.new.slots (drop (length c.step.new.slots) c.loop-number.live.items) c.loop-number.live.len whole)) next
 
 pub returns-clause-ok : goal.returns-clause-ok
 returns-clause-ok g c =
-    let all : c.loop.counter ≡ c.args.steps = omega (arith, c.loop-test.false, c.loop.auto.counter-end) in
-    subst (λ n. IsBench g.row.FLLEN g.row.SLLEN c.args.pool (non_zero_usize_get c.args.slots) n c.loop.tally) all (IsBench-end c.loop.invariant)
+    let all : c.loop-number.number ≡ c.args.steps = omega (arith, c.loop-number-test.false, c.loop-number.auto.number-end) in
+    subst (λ n. IsBench g.row.FLLEN g.row.SLLEN c.args.pool (non_zero_usize_get c.args.slots) n c.args.mode c.loop-number.tally) all (IsBench-end c.loop-number.invariant)
 
 pub insert_free_block_ptr-requires-send-FLBitmap : goal.insert_free_block_ptr-requires-send-FLBitmap
 insert_free_block_ptr-requires-send-FLBitmap g c κs within = c.type_bounds.send-FLBitmap

@@ -53,3 +53,63 @@ deallocate-requires-in-FirstLast-2-after_bounds g c κs within =
     let all = AreLive-asked r w.well_formed (two ∷ one ∷ []) both c.args.other.size c.args.other.align (option_map non_zero_usize_get c.allocate-third.result) asked in
     let (q, freed, y, _) = c.deallocate-in-FirstLast.ensures.step r x (IsLive-align r two.addr c.align-in-FirstLast.ensures.value (AreLive-in r (two ∷ one ∷ []) all two (inl refl))) in
     (omega arith, (q, y, IsLive-align q one.addr c.align-in-FirstLast-2.ensures.value (AreLive-deallocated [] two (one ∷ []) all freed).0))
+
+pub allocate-third-requires-send-FLBitmap : goal.allocate-third-requires-send-FLBitmap
+allocate-third-requires-send-FLBitmap g c κs within = c.type_bounds.send-FLBitmap
+
+pub allocate-third-requires-send-SLBitmap : goal.allocate-third-requires-send-SLBitmap
+allocate-third-requires-send-SLBitmap g c κs within = c.type_bounds.send-SLBitmap
+
+pub allocate-third-requires-sync-FLBitmap : goal.allocate-third-requires-sync-FLBitmap
+allocate-third-requires-sync-FLBitmap g c κs within = c.type_bounds.sync-FLBitmap
+
+pub allocate-third-requires-sync-SLBitmap : goal.allocate-third-requires-sync-SLBitmap
+allocate-third-requires-sync-SLBitmap g c κs within = c.type_bounds.sync-SLBitmap
+
+pub deallocate-requires-send-FLBitmap : goal.deallocate-requires-send-FLBitmap
+deallocate-requires-send-FLBitmap g c κs within = c.type_bounds.send-FLBitmap
+
+pub deallocate-requires-send-SLBitmap : goal.deallocate-requires-send-SLBitmap
+deallocate-requires-send-SLBitmap g c κs within = c.type_bounds.send-SLBitmap
+
+pub deallocate-requires-sync-FLBitmap : goal.deallocate-requires-sync-FLBitmap
+deallocate-requires-sync-FLBitmap g c κs within = c.type_bounds.sync-FLBitmap
+
+pub deallocate-requires-sync-SLBitmap : goal.deallocate-requires-sync-SLBitmap
+deallocate-requires-sync-SLBitmap g c κs within = c.type_bounds.sync-SLBitmap
+
+pub deallocate-requires-in-FirstFirst-send-FLBitmap : goal.deallocate-requires-in-FirstFirst-send-FLBitmap
+deallocate-requires-in-FirstFirst-send-FLBitmap g c κs within = c.type_bounds.send-FLBitmap
+
+pub deallocate-requires-in-FirstFirst-send-SLBitmap : goal.deallocate-requires-in-FirstFirst-send-SLBitmap
+deallocate-requires-in-FirstFirst-send-SLBitmap g c κs within = c.type_bounds.send-SLBitmap
+
+pub deallocate-requires-in-FirstFirst-sync-FLBitmap : goal.deallocate-requires-in-FirstFirst-sync-FLBitmap
+deallocate-requires-in-FirstFirst-sync-FLBitmap g c κs within = c.type_bounds.sync-FLBitmap
+
+pub deallocate-requires-in-FirstFirst-sync-SLBitmap : goal.deallocate-requires-in-FirstFirst-sync-SLBitmap
+deallocate-requires-in-FirstFirst-sync-SLBitmap g c κs within = c.type_bounds.sync-SLBitmap
+
+pub deallocate-requires-in-FirstLast-send-FLBitmap : goal.deallocate-requires-in-FirstLast-send-FLBitmap
+deallocate-requires-in-FirstLast-send-FLBitmap g c κs within = c.type_bounds.send-FLBitmap
+
+pub deallocate-requires-in-FirstLast-send-SLBitmap : goal.deallocate-requires-in-FirstLast-send-SLBitmap
+deallocate-requires-in-FirstLast-send-SLBitmap g c κs within = c.type_bounds.send-SLBitmap
+
+pub deallocate-requires-in-FirstLast-sync-FLBitmap : goal.deallocate-requires-in-FirstLast-sync-FLBitmap
+deallocate-requires-in-FirstLast-sync-FLBitmap g c κs within = c.type_bounds.sync-FLBitmap
+
+pub deallocate-requires-in-FirstLast-sync-SLBitmap : goal.deallocate-requires-in-FirstLast-sync-SLBitmap
+deallocate-requires-in-FirstLast-sync-SLBitmap g c κs within = c.type_bounds.sync-SLBitmap
+
+pub deallocate-requires-in-FirstLast-2-send-FLBitmap : goal.deallocate-requires-in-FirstLast-2-send-FLBitmap
+deallocate-requires-in-FirstLast-2-send-FLBitmap g c κs within = c.type_bounds.send-FLBitmap
+
+pub deallocate-requires-in-FirstLast-2-send-SLBitmap : goal.deallocate-requires-in-FirstLast-2-send-SLBitmap
+deallocate-requires-in-FirstLast-2-send-SLBitmap g c κs within = c.type_bounds.send-SLBitmap
+
+pub deallocate-requires-in-FirstLast-2-sync-FLBitmap : goal.deallocate-requires-in-FirstLast-2-sync-FLBitmap
+deallocate-requires-in-FirstLast-2-sync-FLBitmap g c κs within = c.type_bounds.sync-FLBitmap
+
+pub deallocate-requires-in-FirstLast-2-sync-SLBitmap : goal.deallocate-requires-in-FirstLast-2-sync-SLBitmap
+deallocate-requires-in-FirstLast-2-sync-SLBitmap g c κs within = c.type_bounds.sync-SLBitmap

@@ -1,15 +1,18 @@
-use Rattle.std.proofs.Common.{ℕ, ◌≡◌, ◌<◌, List, Option, Some, arith, refl, sym, subst}
+use Rattle.std.proofs.Common.{ℕ, ◌≡◌, ◌<◌, List, Option, Some, arith, refl, sym, ◌∙◌, ap, subst}
 use Rattle.std.specs.Int.NonZero.{non_zero_usize_get}
 use Rattle.std.specs.Option.{option_map}
 use Rattle.rlsf_base.specs.declared.memory.range.Range.{Range}
 use Rattle.rlsf_base.specs.Sizes.{request_size}
-use Rattle.rlsf_base.specs.Space.{range_of}
+use Rattle.rlsf_base.specs.Space.{range_of, word_at}
 use Rattle.rlsf_machine.specs.Allocate.{Allocates, choice, Places}
 use Rattle.rlsf_machine.specs.State.{State, IsLive}
+use Rattle.rlsf_machine.proofs.Choices.{choice-some}
+use Rattle.rlsf_table.specs.Table.{IsClassAt}
+use Rattle.rlsf_table.proofs.FreeLists.Counted.{word_at-counted}
 use Rattle.rlsf_tlsf.specs.Spare.{KeepsSpare}
 use Rattle.rlsf_tlsf.specs.StandsFor.{contents, Contents, StandsFor}
-use Rattle.rlsf_tlsf.proofs.FreeLists.Counted.{KeepsSpare-counted, KeepsSpare-counted_first, StandsFor-counted}
-use Rattle.rlsf_tlsf.proofs.FreeLists.Tables.{IsFreeTable-free}
+use Rattle.rlsf_tlsf.proofs.Machine.Counted.{KeepsSpare-counted, KeepsSpare-counted_first, StandsFor-counted}
+use Rattle.rlsf_tlsf.proofs.Machine.FreeBlocks.{IsFreeTable-free}
 use Rattle.rlsf_machine.proofs.Live.{handed_out_is_new}
 use Rattle.rlsf_machine.proofs.Payloads.{payload_of-after}
 use Rattle.rlsf_tlsf.proofs.Words.NonZeroNumbers.{number, on_none, on_some}
@@ -71,7 +74,7 @@ placing : (g : given.Over) (c : After-place g) (s : State) → StandsFor g.row.F
     → (t : State) × Places g.row.SLLEN s c.args.layout.size c.args.layout.align c.place.result t × StandsFor g.row.FLLEN g.row.SLLEN (contents c.place.new.memory c.place.new.table) t × KeepsSpare c.self.inside.memory s c.place.new.memory t
 placing g c s v =
     let counts = c.first_fit.ensures.counts in
-    let (f, chosen, start) = c.in_ok-block.ensures.choice s.free (IsFreeTable-free v) in
+    let (f, chosen, start, _) = c.in_ok-block.ensures.choice s.free (IsFreeTable-free v) in
     let stands = StandsFor-counted c.self.inside.memory c.first_fit.new.memory counts.start counts.bytes v in
     let (t, places, now, spare) = c.place.ensures.step s f stands (sought g.row.SLLEN s.free c.request_size.ensures.value chosen) start in
     (t, places, now, KeepsSpare-counted_first c.self.inside.memory c.first_fit.new.memory counts.start counts.bytes s t c.place.new.memory spare)
@@ -91,9 +94,13 @@ place-requires-sync-SLBitmap g c κs within = c.type_bounds.sync-SLBitmap
 pub place-requires-after_bounds : goal.place-requires-after_bounds
 place-requires-after_bounds g c κs within =
     let (s, v) = c.self.invariant.stands in
-    let (f, chosen, start) = c.in_ok-block.ensures.choice s.free (IsFreeTable-free v) in
+    let (f, chosen, start, class) = c.in_ok-block.ensures.choice s.free (IsFreeTable-free v) in
+    let counts = c.first_fit.ensures.counts in
+    let own = (choice-some g.row.SLLEN c.request_size.result s.free f chosen).is_in in
+    let size = word_at-counted c.self.inside.memory c.first_fit.new.memory counts.start counts.bytes c.in_ok-block.block ∙ ap (word_at c.self.inside.memory) (sym start) ∙ (IsFreeTable-free v).sizes f own in
+    let at_class = subst (λ n. IsClassAt g.row.FLLEN g.row.SLLEN n c.in_ok-block.class.0 c.in_ok-block.class.1) (sym size) class in
     let picked : choice g.row.SLLEN (request_size c.args.layout.size c.args.layout.align) s.free ≡ Some f = sought g.row.SLLEN s.free c.request_size.ensures.value chosen in
-    (omega arith, (c.self.invariant.valid, (s, f, searched g (goal.at.place-requires-after_bounds g c).After-first_fit v, picked, start)))
+    (omega arith, (c.self.invariant.valid, (at_class, (s, f, searched g (goal.at.place-requires-after_bounds g c).After-first_fit v, picked, start))))
 
 pub invariant_of-self-2 : goal.invariant_of-self-2
 invariant_of-self-2 g c =

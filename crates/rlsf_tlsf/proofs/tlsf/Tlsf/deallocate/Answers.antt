@@ -4,7 +4,7 @@ use Rattle.rlsf_machine.specs.Release.{Deallocates, released}
 use Rattle.rlsf_machine.specs.State.{State, IsLive}
 use Rattle.rlsf_tlsf.specs.Spare.{KeepsSpare}
 use Rattle.rlsf_tlsf.specs.StandsFor.{contents, Contents, StandsFor}
-use Rattle.rlsf_tlsf.proofs.FreeLists.Counted.{KeepsSpare-counted_first, StandsFor-counted}
+use Rattle.rlsf_tlsf.proofs.Machine.Counted.{KeepsSpare-counted_first, StandsFor-counted}
 use Rattle.rlsf_tlsf.proofs.tlsf.Tlsf.deallocate.Goals as goal
 
 pub deallocate_block-requires-send-FLBitmap : goal.deallocate_block-requires-send-FLBitmap

@@ -1,7 +1,7 @@
 -- The head of a class's list is the address of its newest block.
 use Rattle.std.proofs.Common.{sym, subst}
 use Rattle.rlsf_tlsf.specs.StandsFor.{StandsFor}
-use Rattle.rlsf_tlsf.proofs.Tables.Readers.{newest_of-head}
+use Rattle.rlsf_tlsf.proofs.Machine.Readers.{newest_of-head}
 use Rattle.rlsf_tlsf.proofs.tlsf.Tlsf.first_free.Goals as goal
 
 pub newest-requires-send-FLBitmap : goal.newest-requires-send-FLBitmap

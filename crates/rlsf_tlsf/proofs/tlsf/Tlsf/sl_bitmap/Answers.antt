@@ -1,7 +1,7 @@
 -- The row's word has a one exactly where the class has a free block.
 use Rattle.std.proofs.Common.{sym, subst}
 use Rattle.rlsf_tlsf.specs.StandsFor.{StandsFor}
-use Rattle.rlsf_tlsf.proofs.Tables.Readers.{places_of-row}
+use Rattle.rlsf_tlsf.proofs.Machine.Readers.{places_of-row}
 use Rattle.rlsf_tlsf.proofs.tlsf.Tlsf.sl_bitmap.Goals as goal
 
 pub sl_bitmap-requires-send-FLBitmap : goal.sl_bitmap-requires-send-FLBitmap

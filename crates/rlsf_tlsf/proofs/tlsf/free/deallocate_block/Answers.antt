@@ -5,7 +5,7 @@ use Rattle.rlsf_machine.specs.Lists.{without}
 use Rattle.rlsf_machine.specs.Release.{released}
 use Rattle.rlsf_tlsf.proofs.Deallocate.Marks.{IsMarked-behind}
 use Rattle.rlsf_tlsf.proofs.Deallocate.Releases.{before_at, behind_at, end_computed, IsInnerRoom-union, released_stands, start_before, union_end, union_len, union_start}
-use Rattle.rlsf_tlsf.proofs.FreeLists.Counted.{KeepsSpare-counted_first, StandsFor-counted}
+use Rattle.rlsf_tlsf.proofs.Machine.Counted.{KeepsSpare-counted_first, StandsFor-counted}
 use Rattle.rlsf_tlsf.proofs.Words.Apart.{used_in_memory}
 use Rattle.rlsf_tlsf.proofs.tlsf.free.deallocate_block.Goals as goal
 

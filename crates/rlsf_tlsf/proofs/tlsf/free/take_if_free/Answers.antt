@@ -1,7 +1,7 @@
 use Rattle.std.proofs.Common.{arith, rules}
+use Rattle.rlsf_table.proofs.FreeLists.Counted.{IsFreeTable-counted}
 use Rattle.rlsf_tlsf.proofs.Deallocate.Loaded.{IsMarked-loaded, IsOut-loaded, word_at-loaded}
 use Rattle.rlsf_tlsf.proofs.Deallocate.Outs.{block_there, IsOut-none, IsOut-unlinked}
-use Rattle.rlsf_tlsf.proofs.FreeLists.Counted.{IsFreeTable-counted}
 use Rattle.rlsf_tlsf.proofs.tlsf.free.take_if_free.Goals as goal
 
 pub unlink-requires-after_bounds : goal.unlink-requires-after_bounds

@@ -1,8 +1,8 @@
 use Rattle.std.proofs.Common.{arith, rules}
+use Rattle.rlsf_table.proofs.FreeLists.Counted.{IsFreeTable-counted}
 use Rattle.rlsf_tlsf.proofs.Deallocate.Loaded.{IsMarked-loaded, IsOut-loaded}
 use Rattle.rlsf_tlsf.proofs.Deallocate.Marks.{IsMarked-previous, IsPreviousOut-none, previous_out}
-use Rattle.rlsf_tlsf.proofs.FreeLists.Counted.{IsFreeTable-counted}
-use Rattle.rlsf_tlsf.proofs.FreeLists.Tables.{IsFreeTable-free}
+use Rattle.rlsf_tlsf.proofs.Machine.FreeBlocks.{IsFreeTable-free}
 use Rattle.rlsf_tlsf.proofs.Words.Apart.{used_in_memory}
 use Rattle.rlsf_tlsf.proofs.tlsf.free.take_previous.Goals as goal
 

@@ -1,6 +1,6 @@
 use Rattle.std.proofs.Common.{arith, ◌∙◌}
+use Rattle.rlsf_table.proofs.FreeLists.Counted.{word_at-counted}
 use Rattle.rlsf_tlsf.proofs.Deallocate.Loaded.{IsWord-loaded}
-use Rattle.rlsf_tlsf.proofs.FreeLists.Counted.{word_at-counted}
 use Rattle.rlsf_tlsf.proofs.Payloads.UnknownAlignment.{IsPayloadOf-holds, IsWord-named, fits_named, begins_first, begins_behind, begins_there}
 use Rattle.rlsf_tlsf.proofs.tlsf.payload.load_block_of.Goals as goal
 

@@ -1,8 +1,8 @@
 use Rattle.std.proofs.Common.{◌≡◌, ◌+◌, ◌-◌, List, arith}
 use Rattle.rlsf_base.specs.declared.memory.range.Range.{Range}
+use Rattle.rlsf_table.proofs.Words.Writing.{wrote}
 use Rattle.rlsf_tlsf.specs.Steps.Rest.{IsInnerRoom}
 use Rattle.rlsf_tlsf.proofs.Allocate.Rests.{AreLeft, AreLeft-from, IsLeft-written, IsRoom-written}
-use Rattle.rlsf_tlsf.proofs.Words.Writing.{wrote}
 use Rattle.rlsf_tlsf.proofs.tlsf.place.leave_rest.Given as given
 use Rattle.rlsf_tlsf.proofs.tlsf.place.leave_rest.Goals as goal
 use Rattle.rlsf_tlsf.proofs.tlsf.place.leave_rest.Goals.{After-set_word-3}

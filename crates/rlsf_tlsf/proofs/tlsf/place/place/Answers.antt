@@ -4,12 +4,14 @@ use Rattle.rlsf_base.specs.declared.memory.range.Range.{Range}
 use Rattle.rlsf_base.specs.Sizes.{request_size}
 use Rattle.rlsf_machine.specs.Allocate.{choice}
 use Rattle.rlsf_machine.specs.State.{State}
+use Rattle.rlsf_table.proofs.FreeLists.Counted.{word_at-counted}
+use Rattle.rlsf_table.proofs.Words.Writes.{Writes-none, Writes-some}
+use Rattle.rlsf_table.proofs.Words.Writing.{wrote}
 use Rattle.rlsf_tlsf.specs.StandsFor.{contents, StandsFor}
+use Rattle.rlsf_table.specs.Table.{IsClassAt}
 use Rattle.rlsf_tlsf.proofs.Words.Apart.{free_in_memory}
-use Rattle.rlsf_tlsf.proofs.FreeLists.Counted.{KeepsSpare-counted_first, StandsFor-counted, word_at-counted}
-use Rattle.rlsf_tlsf.proofs.FreeLists.Writes.{Writes-none, Writes-some}
+use Rattle.rlsf_tlsf.proofs.Machine.Counted.{KeepsSpare-counted_first, StandsFor-counted}
 use Rattle.rlsf_tlsf.proofs.Allocate.Placements.{AreComputed, AreComputed-from, fitting, is_free, IsSized, IsSized-from, IsTaken-computed, IsWord-block, IsWord-pad, Places-sized, SamePlace-sized}
-use Rattle.rlsf_tlsf.proofs.Words.Writing.{wrote}
 use Rattle.rlsf_machine.proofs.Allocations.{placed-fits}
 use Rattle.rlsf_tlsf.proofs.tlsf.place.place.Given as given
 use Rattle.rlsf_tlsf.proofs.tlsf.place.place.Goals as goal
@@ -77,7 +79,8 @@ take_out-requires-after_bounds g c κs within =
     let (s, f, v, chosen, start) = c.requires.chosen in
     let at = goal.at.take_out-requires-after_bounds g c in
     let stands = loaded g at.After-load-len v in
-    (omega arith, (c.requires.parameters, (s, f, stands, IsTaken-computed (computed g at.After-next_multiple_of-taken stands f chosen start))))
+    let class = subst (λ n. IsClassAt g.row.FLLEN g.row.SLLEN n c.args.class.0 c.args.class.1) (sym c.load-len.ensures.word) c.requires.class in
+    (omega arith, (c.requires.parameters, (class, (s, f, stands, IsTaken-computed (computed g at.After-next_multiple_of-taken stands f chosen start)))))
 
 pub set_word-requires : goal.set_word-requires
 set_word-requires g c =

@@ -1,24 +1,32 @@
-use Rattle.std.proofs.Common.{◌<◌, ◌++◌, arith, refl}
-use Rattle.rlsf_tlsf.proofs.FreeLists.Tables.{IsFreeTable-free}
+use Rattle.std.proofs.Common.{ℕ, ◌<◌, ◌++◌, arith, refl, sym, subst}
+use Rattle.rlsf_base.specs.declared.memory.range.Range.{Range}
+use Rattle.rlsf_machine.specs.State.{State}
+use Rattle.rlsf_table.specs.Table.{IsClassAt}
+use Rattle.rlsf_tlsf.specs.Steps.Rest.{IsTaken}
+use Rattle.rlsf_tlsf.proofs.Machine.FreeBlocks.{IsFreeTable-free}
 use Rattle.rlsf_tlsf.proofs.Allocate.TakenOut.{ahead, later, is_free, IsInnerRoom-rest, IsOpened-rest, IsOpened-whole, rest, split_list}
 use Rattle.rlsf_tlsf.proofs.tlsf.place.take_out.Goals as goal
 
-pub unlink-requires-send-FLBitmap : goal.unlink-requires-send-FLBitmap
-unlink-requires-send-FLBitmap g c κs within = c.type_bounds.send-FLBitmap
+-- the free block has the class at the indices of its length
+at_class : {fllen sllen : ℕ} {s : State} {f : Range} {block len taken fl sl : ℕ} → IsClassAt fllen sllen len fl sl → IsTaken sllen s f block len taken → IsClassAt fllen sllen f.len fl sl
+at_class {fllen} {sllen} {fl = fl} {sl = sl} at take = subst (λ n. IsClassAt fllen sllen n fl sl) (sym take.length) at
 
-pub unlink-requires-send-SLBitmap : goal.unlink-requires-send-SLBitmap
-unlink-requires-send-SLBitmap g c κs within = c.type_bounds.send-SLBitmap
+pub unlink_at-requires-send-FLBitmap : goal.unlink_at-requires-send-FLBitmap
+unlink_at-requires-send-FLBitmap g c κs within = c.type_bounds.send-FLBitmap
 
-pub unlink-requires-sync-FLBitmap : goal.unlink-requires-sync-FLBitmap
-unlink-requires-sync-FLBitmap g c κs within = c.type_bounds.sync-FLBitmap
+pub unlink_at-requires-send-SLBitmap : goal.unlink_at-requires-send-SLBitmap
+unlink_at-requires-send-SLBitmap g c κs within = c.type_bounds.send-SLBitmap
 
-pub unlink-requires-sync-SLBitmap : goal.unlink-requires-sync-SLBitmap
-unlink-requires-sync-SLBitmap g c κs within = c.type_bounds.sync-SLBitmap
+pub unlink_at-requires-sync-FLBitmap : goal.unlink_at-requires-sync-FLBitmap
+unlink_at-requires-sync-FLBitmap g c κs within = c.type_bounds.sync-FLBitmap
 
-pub unlink-requires-after_bounds : goal.unlink-requires-after_bounds
-unlink-requires-after_bounds g c κs within =
+pub unlink_at-requires-sync-SLBitmap : goal.unlink_at-requires-sync-SLBitmap
+unlink_at-requires-sync-SLBitmap g c κs within = c.type_bounds.sync-SLBitmap
+
+pub unlink_at-requires-after_bounds : goal.unlink_at-requires-after_bounds
+unlink_at-requires-after_bounds g c κs within =
     let (s, f, v, take) = c.requires.taken in
-    (omega arith, (c.requires.parameters, (f, s.free, take.start, take.length, is_free v take, IsFreeTable-free v)))
+    (omega arith, (c.requires.parameters, (f, s.free, take.start, at_class c.requires.class take, is_free v take, IsFreeTable-free v)))
 
 pub leave_rest-requires-send-FLBitmap : goal.leave_rest-requires-send-FLBitmap
 leave_rest-requires-send-FLBitmap g c κs within = c.type_bounds.send-FLBitmap
@@ -35,17 +43,17 @@ leave_rest-requires-sync-SLBitmap g c κs within = c.type_bounds.sync-SLBitmap
 pub leave_rest-requires-after_bounds : goal.leave_rest-requires-after_bounds
 leave_rest-requires-after_bounds g c κs within =
     let (s, f, v, take) = c.requires.taken in
-    let unlinked = c.unlink.ensures.step f (ahead v take) (later v take) take.start take.length (split_list v take) in
+    let unlinked = c.unlink_at.ensures.step f (ahead v take) (later v take) take.start (at_class c.requires.class take) (split_list v take) in
     (omega arith, (c.requires.parameters, (ahead v take ++ later v take, rest v take, refl, omega (arith, take.start, take.length, take.fits), IsInnerRoom-rest v take unlinked (omega (arith, take.fits)))))
 
 pub returns-then-longer-clause-step : goal.returns-then-longer-clause-step
 returns-then-longer-clause-step g c = λ s f v take.
-    let unlinked = c.unlink.ensures.step f (ahead v take) (later v take) take.start take.length (split_list v take) in
+    let unlinked = c.unlink_at.ensures.step f (ahead v take) (later v take) take.start (at_class c.requires.class take) (split_list v take) in
     let short : c.args.taken < c.args.len = omega (arith, take.fits) in
     let room = IsInnerRoom-rest v take unlinked short in
     IsOpened-rest v take unlinked short (c.leave_rest.ensures.step (ahead v take ++ later v take) (rest v take) refl (omega (arith, take.start, take.length, take.fits)) room)
 
 pub returns-else-longer-clause-step : goal.returns-else-longer-clause-step
 returns-else-longer-clause-step g c = λ s f v take.
-    let unlinked = c.unlink.ensures.step f (ahead v take) (later v take) take.start take.length (split_list v take) in
+    let unlinked = c.unlink_at.ensures.step f (ahead v take) (later v take) take.start (at_class c.requires.class take) (split_list v take) in
     IsOpened-whole v take unlinked (omega (arith, take.fits))

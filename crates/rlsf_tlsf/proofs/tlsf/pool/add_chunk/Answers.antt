@@ -1,10 +1,10 @@
 use Rattle.std.proofs.Common.{◌+◌, ◌-◌, arith, refl}
 use Rattle.rlsf_machine.specs.Insert.{body}
 use Rattle.rlsf_machine.specs.State.{State}
+use Rattle.rlsf_table.proofs.Words.Writing.{wrote}
 use Rattle.rlsf_tlsf.specs.StandsFor.{contents, StandsFor}
 use Rattle.rlsf_tlsf.specs.Steps.Pool.{IsNewChunk}
 use Rattle.rlsf_tlsf.proofs.Insert.ChunkWrites.{AreWrites, AreWrites-from, IsAdded-written, IsRoom-body}
-use Rattle.rlsf_tlsf.proofs.Words.Writing.{wrote}
 use Rattle.rlsf_tlsf.proofs.tlsf.pool.add_chunk.Given as given
 use Rattle.rlsf_tlsf.proofs.tlsf.pool.add_chunk.Goals as goal
 use Rattle.rlsf_tlsf.proofs.tlsf.pool.add_chunk.Goals.{After-set_word-4}

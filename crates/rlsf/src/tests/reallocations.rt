@@ -1,0 +1,380 @@
+//! Payloads that get another size: where they lie then, and what they hold.
+
+ghost use Rattle.std.specs.Prelude.{◌≡◌, ◌≢◌, ◌<◌, length, IfOk, IfSome, unwrap_or};
+ghost use Rattle.std.specs.Int.NonZero.{non_zero_usize_get};
+ghost use Rattle.rlsf_base.specs.Space.{SamePlace};
+ghost use Rattle.rlsf_machine.specs.Run.{IsSomeLive};
+ghost use Rattle.rlsf_machine.specs.State.{State, IsLive};
+ghost use Rattle.rlsf_tlsf.specs.StandsFor.{StandsFor};
+
+use super::frees::{allocated, with_pool};
+use super::loans::copy_front;
+use crate::int::BinInteger;
+use crate::{Addr, Layout, LayoutError, Tlsf};
+use std::num::NonZeroUsize;
+use std::test::Fail;
+
+// What is left in a payload, as far as there is room, before it gets another size.
+const BYTES: &[u8] = b"abcdefghijklmnopqrstuvwxyzABCDEFGHIJKLMNOPQRSTUVWXYZ0123456789+-";
+
+/// Allocates a payload, fills it with a byte, gives it another size, and reads it at an offset that both sizes have. Answers
+/// what was read.
+fn kept(
+    tlsf: &mut Tlsf<u8, u8, 8, 8>,
+    layout: Layout,
+    wanted: Layout,
+    byte: u8,
+    offset: usize,
+) -> Option<u8>
+    requires { (wanted.align ≡ layout.align) × (offset < layout.size) × (offset < wanted.size) }
+    ensures { IfSome result (λ read. read ≡ byte) }
+{
+    // Some state stands: what each call says is about the states that do.
+    let _ = tlsf.memory_ref();
+    let addr = tlsf.allocate(layout)?;
+    tlsf.payload_mut(addr).fill(byte);
+    let moved = tlsf.reallocate(addr, wanted)?;
+    let bytes = tlsf.payload(moved);
+    let read = bytes[offset];
+    tlsf.deallocate(moved, wanted.align());
+    Some(read)
+}
+
+/// Leaves bytes in a payload, as far as there is room. Answers how many it has.
+fn leave_bytes(payload: &mut [u8]) -> usize
+    ensures { length payload.new ≡ length payload.old }
+{
+    let had = payload.len();
+    copy_front(BYTES, payload);
+    had
+}
+
+/// A payload that was asked to get another size: where it was, how many bytes it had, and where it is if that wasn't refused.
+#[derive(Clone, Copy)]
+struct Moved {
+    was: Addr,
+    had: usize,
+    moved: Option<Addr>,
+}
+
+/// Where a payload was and where it is, or 0; how many bytes it has; and whether they begin as they did.
+fn outcome<FLBitmap: BinInteger, SLBitmap: BinInteger, const FLLEN: usize, const SLLEN: usize>(
+    tlsf: &Tlsf<FLBitmap, SLBitmap, FLLEN, SLLEN>,
+    payload: Moved,
+) -> ((usize, usize), (usize, bool))
+    requires { (s : State) × StandsFor FLLEN SLLEN tlsf.now s × IsSomeLive s (non_zero_usize_get (unwrap_or payload.moved payload.was)) }
+{
+    let places = (
+        payload.was.get(),
+        payload.moved.map_or(0, NonZeroUsize::get),
+    );
+    let bytes = tlsf.payload(payload.moved.unwrap_or(payload.was));
+    let n = bytes.len().min(payload.had).min(BYTES.len());
+    (places, (bytes.len(), bytes[..n] == BYTES[..n]))
+}
+
+/// Allocates a payload, leaves bytes in it, and asks for another size.
+fn one_moved(tlsf: &mut Tlsf<u8, u8, 8, 8>, layout: Layout, wanted: Layout) -> Option<Moved>
+    requires { wanted.align ≡ layout.align }
+    ensures live { IfSome result (λ r. (t : State) × StandsFor 8 8 tlsf.new t × IsLive t (non_zero_usize_get (unwrap_or r.moved r.was)) wanted.align) }
+{
+    let addr = tlsf.allocate(layout)?;
+    let had = leave_bytes(tlsf.payload_mut(addr));
+    let moved = tlsf.reallocate(addr, wanted);
+    Some(Moved {
+        was: addr,
+        had,
+        moved,
+    })
+}
+
+/// Which neighbour of a payload is given back.
+#[derive(Clone, Copy)]
+enum Freed {
+    Neither,
+    Before,
+    Behind,
+}
+
+/// Gives one of the neighbours of the second of three payloads back, or neither. The second stays live.
+fn give_back<FLBitmap: BinInteger, SLBitmap: BinInteger, const FLLEN: usize, const SLLEN: usize>(
+    tlsf: &mut Tlsf<FLBitmap, SLBitmap, FLLEN, SLLEN>,
+    addresses: (Addr, Addr, Addr),
+    layouts: (Layout, Layout, Layout),
+    freed: Freed,
+)
+    requires live { (s : State) × StandsFor FLLEN SLLEN tlsf.old s × IsLive s (non_zero_usize_get addresses.0) layouts.0.align × IsLive s (non_zero_usize_get addresses.1) layouts.1.align
+        × IsLive s (non_zero_usize_get addresses.2) layouts.2.align }
+    requires apart { (non_zero_usize_get addresses.0 ≢ non_zero_usize_get addresses.1) × (non_zero_usize_get addresses.2 ≢ non_zero_usize_get addresses.1) }
+    ensures live { (t : State) × StandsFor FLLEN SLLEN tlsf.new t × IsLive t (non_zero_usize_get addresses.1) layouts.1.align }
+    ensures place { SamePlace tlsf.old.memory tlsf.new.memory }
+{
+    match freed {
+        Freed::Neither => {}
+        Freed::Before => tlsf.deallocate(addresses.0, layouts.0.align()),
+        Freed::Behind => tlsf.deallocate(addresses.2, layouts.2.align()),
+    }
+}
+
+/// Allocates three payloads, leaves bytes in the second one, gives one of its neighbours back, and asks for another size
+/// for it.
+fn second_moved<FLBitmap: BinInteger, SLBitmap: BinInteger, const FLLEN: usize, const SLLEN: usize>(
+    tlsf: &mut Tlsf<FLBitmap, SLBitmap, FLLEN, SLLEN>,
+    layouts: (Layout, Layout, Layout),
+    freed: Freed,
+    wanted: Layout,
+) -> Option<Moved>
+    requires { wanted.align ≡ layouts.1.align }
+    ensures live { IfSome result (λ r. (t : State) × StandsFor FLLEN SLLEN tlsf.new t × IsLive t (non_zero_usize_get (unwrap_or r.moved r.was)) wanted.align) }
+    ensures place { SamePlace tlsf.old.memory tlsf.new.memory }
+{
+    let first = tlsf.allocate(layouts.0)?;
+    let second = tlsf.allocate(layouts.1)?;
+    let third = tlsf.allocate(layouts.2)?;
+    let had = leave_bytes(tlsf.payload_mut(second));
+    give_back(tlsf, (first, second, third), layouts, freed);
+    let moved = tlsf.reallocate(second, wanted);
+    Some(Moved {
+        was: second,
+        had,
+        moved,
+    })
+}
+
+/// What became of one payload.
+fn one(
+    tlsf: &mut Tlsf<u8, u8, 8, 8>,
+    layout: Layout,
+    wanted: Layout,
+) -> Option<((usize, usize), (usize, bool))>
+    requires { wanted.align ≡ layout.align }
+{
+    let payload = one_moved(tlsf, layout, wanted)?;
+    Some(outcome(tlsf, payload))
+}
+
+/// What became of the second of three payloads.
+fn second<FLBitmap: BinInteger, SLBitmap: BinInteger, const FLLEN: usize, const SLLEN: usize>(
+    tlsf: &mut Tlsf<FLBitmap, SLBitmap, FLLEN, SLLEN>,
+    layouts: (Layout, Layout, Layout),
+    freed: Freed,
+    wanted: Layout,
+) -> Option<((usize, usize), (usize, bool))>
+    requires { wanted.align ≡ layouts.1.align }
+    ensures { SamePlace tlsf.old.memory tlsf.new.memory }
+{
+    let payload = second_moved(tlsf, layouts, freed, wanted)?;
+    Some(outcome(tlsf, payload))
+}
+
+/// What becomes of a payload that has moved before its neighbour, once it is asked to get another size again.
+fn second_again(
+    tlsf: &mut Tlsf<u8, u8, 8, 8>,
+    layouts: (Layout, Layout, Layout),
+    wanted: Layout,
+    again: Layout,
+) -> Option<((usize, usize), (usize, bool))>
+    requires { (wanted.align ≡ layouts.1.align) × (again.align ≡ wanted.align) }
+{
+    let first = second_moved(tlsf, layouts, Freed::Before, wanted)?;
+    let addr = first.moved?;
+    let moved = tlsf.reallocate(addr, again);
+    let payload = Moved {
+        was: addr,
+        had: first.had,
+        moved,
+    };
+    Some(outcome(tlsf, payload))
+}
+
+/// Three layouts of one alignment.
+fn layouts(
+    align: usize,
+    first: usize,
+    second: usize,
+    third: usize,
+) -> Result<(Layout, Layout, Layout), LayoutError>
+    ensures { IfOk result (λ r. r.1.align ≡ align) }
+{
+    Ok((
+        Layout::from_size_align(first, align)?,
+        Layout::from_size_align(second, align)?,
+        Layout::from_size_align(third, align)?,
+    ))
+}
+
+#[test]
+fn shrunk_to_nothing(rt: HostRuntime) -> Result<(), Fail> {
+    let mut tlsf = with_pool::<u8, u8, 8, 8>(rt.alloc(), 96)?;
+    let layout = Layout::from_size_align(17, 1)?;
+    let nothing = Layout::from_size_align(0, 1)?;
+    let outcome = one(&mut tlsf, layout, nothing);
+    assert_eq!(rt; outcome, Some(((4112, 4112), (16, true))));
+    assert_eq!(rt; allocated(&mut tlsf, 0, 1)?, 4144);
+    Ok(())
+}
+
+#[test]
+fn moved_over_its_own_bytes(rt: HostRuntime) -> Result<(), Fail> {
+    let mut tlsf = with_pool::<u8, u8, 8, 8>(rt.alloc(), 256)?;
+    let wanted = Layout::from_size_align(70, 1)?;
+    let outcome = second(&mut tlsf, layouts(1, 0, 40, 100)?, Freed::Before, wanted);
+    // By 32 bytes, where it has 48.
+    assert_eq!(rt; outcome, Some(((4144, 4112), (80, true))));
+    assert_eq!(rt; tlsf.fl_bitmap(), 0);
+    Ok(())
+}
+
+#[test]
+fn moved_with_a_rest(rt: HostRuntime) -> Result<(), Fail> {
+    let mut tlsf = with_pool::<u8, u8, 8, 8>(rt.alloc(), 256)?;
+    let wanted = Layout::from_size_align(70, 1)?;
+    let outcome = second(&mut tlsf, layouts(1, 17, 40, 50)?, Freed::Before, wanted);
+    assert_eq!(rt; outcome, Some(((4176, 4112), (80, true))));
+    assert_eq!(rt; tlsf.first_free(0, 0).map(NonZeroUsize::get), Some(4192));
+    assert_eq!(rt; tlsf.memory_ref().word(4192), 32);
+    Ok(())
+}
+
+#[test]
+fn refused_without_room(rt: HostRuntime) -> Result<(), Fail> {
+    let mut tlsf = with_pool::<u8, u8, 8, 8>(rt.alloc(), 256)?;
+    let wanted = Layout::from_size_align(70, 1)?;
+    let again = Layout::from_size_align(200, 1)?;
+    let outcome = second_again(&mut tlsf, layouts(1, 0, 40, 100)?, wanted, again);
+    assert_eq!(rt; outcome, Some(((4112, 0), (80, true))));
+    assert_eq!(rt; tlsf.fl_bitmap(), 0);
+    Ok(())
+}
+
+#[test]
+fn grown_to_the_end_of_the_next(rt: HostRuntime) -> Result<(), Fail> {
+    let mut tlsf = with_pool::<u8, u8, 8, 8>(rt.alloc(), 256)?;
+    let wanted = Layout::from_size_align(144, 1)?;
+    let outcome = second(&mut tlsf, layouts(1, 40, 40, 70)?, Freed::Behind, wanted);
+    assert_eq!(rt; outcome, Some(((4176, 4176), (144, true))));
+    assert_eq!(rt; tlsf.fl_bitmap(), 0);
+    // The sentinel names the block that reaches up to it.
+    assert_eq!(rt; tlsf.memory_ref().word(4328), 4160);
+    Ok(())
+}
+
+#[test]
+fn greatest_layouts_are_refused(rt: HostRuntime) -> Result<(), Fail> {
+    let mut tlsf = with_pool::<u8, u8, 8, 8>(rt.alloc(), 256)?;
+    let most = Layout::from_size_align((1 << 63) - 1, 1)?;
+    let outcome = second(&mut tlsf, layouts(1, 40, 40, 70)?, Freed::Neither, most);
+    assert_eq!(rt; outcome, Some(((4176, 0), (48, true))));
+    let mut wide = with_pool::<u16, u16, 12, 16>(rt.alloc(), 65536)?;
+    let most_wide = Layout::from_size_align((1 << 63) - 4096, 4096)?;
+    let wide_outcome = second(
+        &mut wide,
+        layouts(4096, 40, 40, 40)?,
+        Freed::Behind,
+        most_wide,
+    );
+    assert_eq!(rt; wide_outcome, Some(((12288, 0), (64, true))));
+    Ok(())
+}
+
+/// What becomes of the second of three payloads of 40 bytes, in a pool of 65,536 bytes.
+fn case(
+    rt: &HostRuntime,
+    align: usize,
+    freed: Freed,
+    size: usize,
+) -> Result<Option<((usize, usize), (usize, bool))>, Fail> {
+    let mut tlsf = with_pool::<u16, u16, 12, 16>(rt.alloc(), 65536)?;
+    let wanted = Layout::from_size_align(size, align)?;
+    Ok(second(&mut tlsf, layouts(align, 40, 40, 40)?, freed, wanted))
+}
+
+#[test]
+fn in_place(rt: HostRuntime) -> Result<(), Fail> {
+    assert_eq!(rt;
+        case(&rt, 1, Freed::Neither, 0)?,
+        Some(((4176, 4176), (16, true)))
+    );
+    assert_eq!(rt;
+        case(&rt, 1, Freed::Neither, 48)?,
+        Some(((4176, 4176), (48, true)))
+    );
+    assert_eq!(rt;
+        case(&rt, 32, Freed::Neither, 0)?,
+        Some(((4224, 4224), (0, true)))
+    );
+    assert_eq!(rt;
+        case(&rt, 32, Freed::Neither, 48)?,
+        Some(((4224, 4224), (64, true)))
+    );
+    assert_eq!(rt;
+        case(&rt, 4096, Freed::Neither, 0)?,
+        Some(((12288, 12288), (0, true)))
+    );
+    assert_eq!(rt;
+        case(&rt, 4096, Freed::Neither, 48)?,
+        Some(((12288, 12288), (64, true)))
+    );
+    Ok(())
+}
+
+#[test]
+fn into_the_next(rt: HostRuntime) -> Result<(), Fail> {
+    assert_eq!(rt;
+        case(&rt, 1, Freed::Behind, 100)?,
+        Some(((4176, 4176), (112, true)))
+    );
+    assert_eq!(rt;
+        case(&rt, 32, Freed::Behind, 100)?,
+        Some(((4224, 4224), (128, true)))
+    );
+    assert_eq!(rt;
+        case(&rt, 4096, Freed::Behind, 100)?,
+        Some(((12288, 12288), (128, true)))
+    );
+    Ok(())
+}
+
+#[test]
+fn into_the_previous(rt: HostRuntime) -> Result<(), Fail> {
+    assert_eq!(rt;
+        case(&rt, 1, Freed::Before, 100)?,
+        Some(((4176, 4112), (112, true)))
+    );
+    assert_eq!(rt;
+        case(&rt, 32, Freed::Before, 100)?,
+        Some(((4224, 4128), (128, true)))
+    );
+    assert_eq!(rt;
+        case(&rt, 4096, Freed::Before, 3000)?,
+        Some(((12288, 8192), (3008, true)))
+    );
+    Ok(())
+}
+
+#[test]
+fn elsewhere(rt: HostRuntime) -> Result<(), Fail> {
+    assert_eq!(rt;
+        case(&rt, 1, Freed::Neither, 100)?,
+        Some(((4176, 4304), (112, true)))
+    );
+    assert_eq!(rt;
+        case(&rt, 32, Freed::Neither, 100)?,
+        Some(((4224, 4416), (128, true)))
+    );
+    assert_eq!(rt;
+        case(&rt, 4096, Freed::Neither, 100)?,
+        Some(((12288, 20480), (128, true)))
+    );
+    Ok(())
+}
+
+#[test]
+fn kept_reads_back(rt: HostRuntime) -> Result<(), Fail> {
+    let mut tlsf = with_pool::<u8, u8, 8, 8>(rt.alloc(), 256)?;
+    let layout = Layout::from_size_align(40, 1)?;
+    let wanted = Layout::from_size_align(100, 1)?;
+    assert_eq!(rt; kept(&mut tlsf, layout, wanted, 7, 39), Some(7));
+    assert_eq!(rt; kept(&mut tlsf, wanted, layout, 8, 39), Some(8));
+    Ok(())
+}

@@ -1,0 +1,11 @@
+pub mod AppendedChunks
+pub mod Lengthened
+pub mod NamedPayloads
+pub mod NewPools
+pub mod Outcomes
+pub mod PoolOrder
+pub mod RunStates
+pub mod SamePools
+pub mod SpareBytes
+pub mod Touching
+pub mod Underway

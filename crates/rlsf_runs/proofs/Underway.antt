@@ -1,0 +1,72 @@
+-- A run that has done the first of its ops.
+use mathlib.Core.Path.{ap₂}
+use Rattle.std.proofs.Common.{◌≡◌, ℕ, ◌+◌, ◌-◌, ◌<◌, ◌≤◌, ◌++◌, length, List, [], ◌∷◌, slice_index_or, arith, refl, sym, ◌∙◌, ap, subst}
+use Rattle.std.proofs.Math.ListN.{drop, drop_of_length-le}
+use Rattle.std.proofs.lemmas.List.{append_assoc, append-nil, at_drop_more}
+use Rattle.rlsf_base.specs.Range.{range_at}
+use Rattle.rlsf_base.specs.Space.{Space, byte_at, range_of, SamePlace}
+use Rattle.rlsf_machine.specs.State.{empty}
+use Rattle.rlsf_tlsf.specs.Spare.{KeepsSpare}
+use Rattle.rlsf_tlsf.specs.StandsFor.{Contents}
+use Rattle.rlsf_text.specs.declared.op.Answer.{Answer}
+use Rattle.rlsf_text.specs.declared.op.Op.{Op}
+use Rattle.rlsf_runs.specs.declared.tables.Tables.{Tables}
+use Rattle.rlsf_runs.specs.Runs.{beginning, Does, Runs, RunState}
+use Rattle.rlsf_runs.specs.Steps.Tables.{HasRoom, IsAt, LeadsOn}
+use Rattle.rlsf_runs.proofs.SpareBytes.{KeepsSpare-op}
+
+-- the first ops were done, with one answer each, and there is room for the others
+pub record IsUnderway (fllen sllen : ℕ) (m : Space) (ops : List Op) (v : Contents) (tables : Tables) (done : ℕ) (given : List Answer) : Type 0 where
+  pub state : RunState
+  pub at : IsAt fllen sllen v tables state
+  pub leads : (more : List Answer) (t : RunState) → Runs fllen sllen (range_of m) state (drop done ops) more t → Runs fllen sllen (range_of m) beginning ops (given ++ more) t
+  pub place : SamePlace m v.memory
+  pub spare : KeepsSpare m empty v.memory state.machine
+  pub room : HasRoom tables (length ops - done)
+
+module _ {fllen sllen : ℕ} {m : Space} {ops : List Op} {v : Contents} {tables : Tables} where
+  -- at the beginning
+  pub IsUnderway-beginning : IsAt fllen sllen v tables beginning → m ≡ v.memory → HasRoom tables (length ops) → IsUnderway fllen sllen m ops v tables 0 []
+  IsUnderway-beginning at same room = record {
+    state = beginning;
+    at = at;
+    leads = λ more t runs. runs;
+    place = (sym (ap (λ x. x.start) same), sym (ap (λ x. length x.bytes) same));
+    spare = λ a from to was is. sym (ap (λ x. byte_at x a) same);
+    room = subst (HasRoom tables) whole room;
+  }
+    where
+      whole : length ops ≡ length ops - 0
+      whole = omega arith
+
+  -- one op more
+  pub IsUnderway-next : {done : ℕ} {given : List Answer} (w : IsUnderway fllen sllen m ops v tables done given) (op : Op) → ((d : Op) → op ≡ slice_index_or ops done d) → done < length ops → (answer : Answer) (w2 : Contents) (new : Tables)
+      → ((s : RunState) → IsAt fllen sllen v tables s → LeadsOn fllen sllen v s op answer w2 new)
+      → ((n : ℕ) → HasRoom tables (n + 1) → HasRoom new n) → SamePlace v.memory w2.memory
+      → IsUnderway fllen sllen m ops w2 new (done + 1) (given ++ answer ∷ [])
+  IsUnderway-next {done} {given} w op is below answer w2 new does room place =
+      let (t, step, at, keeps) = does w.state w.at in
+      let here = subst (λ r. Does fllen sllen r w.state op answer t) same step in
+      record {
+        state = t;
+        at = at;
+        leads = λ more u runs. subst (λ l. Runs fllen sllen (range_of m) beginning ops l u) (sym (append_assoc given (answer ∷ []) more))
+            (w.leads (answer ∷ more) u (subst (λ l. Runs fllen sllen (range_of m) w.state l (answer ∷ more) u) (sym left_ops) (t, here, runs)));
+        place = (place.0 ∙ w.place.0, place.1 ∙ w.place.1);
+        spare = KeepsSpare-op fllen sllen (range_of v.memory) m v.memory w2.memory empty w.state t op answer w.place step w.spare keeps;
+        room = room (length ops - (done + 1)) (subst (HasRoom tables) left w.room);
+      }
+    where
+      same : range_of v.memory ≡ range_of m
+      same = ap₂ range_at w.place.0 w.place.1
+
+      left_ops : drop done ops ≡ op ∷ drop (done + 1) ops
+      left_ops = at_drop_more (λ l. l) ops done op below ∙ ap (λ o. o ∷ drop (done + 1) ops) (sym (is op))
+
+      left : length ops - done ≡ length ops - (done + 1) + 1
+      left = omega arith
+
+  -- at the end
+  pub Runs-end : {done : ℕ} {given : List Answer} (w : IsUnderway fllen sllen m ops v tables done given) → length ops ≤ done → Runs fllen sllen (range_of m) beginning ops given w.state
+  Runs-end {done} {given} w past = subst (λ l. Runs fllen sllen (range_of m) beginning ops l w.state) (append-nil given)
+      (w.leads [] w.state (subst (λ l. Runs fllen sllen (range_of m) w.state l [] w.state) (sym (drop_of_length-le ops past)) refl))

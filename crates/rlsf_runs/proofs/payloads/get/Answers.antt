@@ -1,0 +1,19 @@
+use Rattle.std.proofs.Common.{length, slice_index, arith, refl, sym, ◌∙◌, ap}
+use Rattle.rlsf_text.specs.declared.op.Answer.TheVariants.{Byte, Refused}
+use Rattle.rlsf_text.specs.declared.op.Op.TheVariants.{Get}
+use Rattle.rlsf_text.specs.declared.op.TraceError.TheVariants.{BadOffset}
+use Rattle.rlsf_runs.proofs.NamedPayloads.{LeadsOn-nothing, owned}
+use Rattle.rlsf_runs.proofs.payloads.get.Goals as goal
+
+pub returns-in-Some-get : goal.returns-in-Some-get
+returns-in-Some-get g c = λ s at.
+    let (u, owns, holds, long) = owned at c.args.name c.in-Some.payload (sym c.payload.ensures ∙ c.in-Some.is) in
+    let bytes = c.payload-2.ensures s.machine u at.stands holds in
+    let (below, value) = c.in-Some-get.ensures.lookup.3 in
+    LeadsOn-nothing at (Get c.args.name c.args.offset) (Byte c.in-Some-get.byte.now) (u, owns, omega (arith, below, ap length bytes, long), value 0 ∙ ap (λ l. slice_index l c.args.offset) bytes, refl)
+
+pub returns-in-None : goal.returns-in-None
+returns-in-None g c = λ s at.
+    let (u, owns, holds, long) = owned at c.args.name c.in-Some.payload (sym c.payload.ensures ∙ c.in-Some.is) in
+    let bytes = c.payload-2.ensures s.machine u at.stands holds in
+    LeadsOn-nothing at (Get c.args.name c.args.offset) (Refused BadOffset) ((u, owns, omega (arith, c.in-None.ensures.lookup.3, ap length bytes, long)), refl)

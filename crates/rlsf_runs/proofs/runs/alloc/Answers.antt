@@ -1,0 +1,34 @@
+use Rattle.std.proofs.Common.{◌≡◌, Some, None, refl, ap, sym, ◌∙◌, subst}
+use Rattle.std.specs.Int.NonZero.{non_zero_usize_get}
+use Rattle.std.specs.Option.{option_map}
+use Rattle.rlsf_machine.specs.Allocate.{Allocates}
+use Rattle.rlsf_machine.specs.State.{State}
+use Rattle.rlsf_tlsf.specs.Spare.{KeepsSpare}
+use Rattle.rlsf_runs.specs.Runs.{RunState, with_name}
+use Rattle.rlsf_runs.specs.Steps.Tables.{IsAt}
+use Rattle.rlsf_runs.proofs.NamedPayloads.{allocation_keeps_chunks, IsAt-allocated, IsAt-unmoved, none_is, unnamed}
+use Rattle.rlsf_runs.proofs.runs.alloc.Goals as goal
+
+pub returns-in-Some-clause-does : goal.returns-in-Some-clause-does
+returns-in-Some-clause-does g c = λ s at.
+    let (t, step, stands, keeps) = c.in-Some.ensures.step s.machine at.stands in
+    let layout = c.args.layout in
+    let free = unnamed at c.args.name (none_is _ (sym c.contains_key.ensures ∙ c.if-contains_key.false)) in (
+      _,
+      (free, t, step, refl),
+      IsAt-allocated at c.in-Some.ensures.place t stands (allocation_keeps_chunks g.row.SLLEN s.machine t layout.size layout.align (Some (non_zero_usize_get c.in-Some.addr)) step) c.args.name layout.size layout.align (non_zero_usize_get c.in-Some.addr) _ layout.valid.aligned step refl
+          c.align.ensures.value c.add_name.ensures.pools c.add_name.ensures.names,
+      keeps,
+    )
+
+pub returns-in_default-clause-does : goal.returns-in_default-clause-does
+returns-in_default-clause-does g c = λ s at.
+    let (t, step, stands, keeps) = c.allocate-placed.ensures.step s.machine at.stands in
+    let layout = c.args.layout in
+    let free = unnamed at c.args.name (none_is _ (sym c.contains_key.ensures ∙ c.if-contains_key.false)) in
+    let none : option_map non_zero_usize_get c.allocate-placed.result ≡ None = ap (option_map non_zero_usize_get) c.in_default.is in
+    let refused = subst (λ o. Allocates g.row.SLLEN s.machine layout.size layout.align o t) none step in
+    subst (λ o. (x : RunState) × ((s.named c.args.name ≡ None) × (machine : State) × Allocates g.row.SLLEN s.machine c.args.layout.size c.args.layout.align o machine
+    × (x ≡ record { machine = machine; named = with_name c.args.name o s.named; pools = s.pools }))
+    × IsAt g.row.FLLEN g.row.SLLEN c.allocate-placed.new.self c.args.tables.now x × KeepsSpare c.args.tlsf.now.memory s.machine c.allocate-placed.new.self.memory x.machine) (sym none)
+    (_, (free, t, refused, refl), IsAt-unmoved at c.allocate-placed.ensures.place t stands (allocation_keeps_chunks g.row.SLLEN s.machine t layout.size layout.align None refused) refused.1, keeps)

@@ -1,0 +1,62 @@
+use Rattle.std.proofs.Common.{rules, length, true≢false, arith, refl, sym, ◌∙◌, subst}
+use Rattle.rlsf_base.specs.Range.{LiesIn}
+use Rattle.rlsf_text.specs.declared.op.Answer.TheVariants.{Refused}
+use Rattle.rlsf_text.specs.declared.op.Op.TheVariants.{Append}
+use Rattle.rlsf_text.specs.declared.op.TraceError.TheVariants.{BadRange}
+use Rattle.rlsf_runs.proofs.AppendedChunks.{IsLonger-appended}
+use Rattle.rlsf_runs.proofs.NamedPayloads.{LeadsOn-nothing}
+use Rattle.rlsf_runs.proofs.RunStates.{IsAt-appended, IsNext-MayAppend, IsVacant-tables, MayAppend-none, MayAppend-tested, MayInsert-tested}
+use Rattle.rlsf_runs.proofs.Touching.{no_range}
+use Rattle.rlsf_runs.proofs.runs.append.Goals as goal
+
+pub is_vacant-requires-clause-inside : goal.is_vacant-requires-clause-inside
+is_vacant-requires-clause-inside g c =
+    let (s, at) = c.requires in
+    λ p i. subst (λ m. LiesIn p m.start (length m.bytes)) (sym c.memory_ref.ensures.memory) (at.inside p i)
+
+pub append_free_block_ptr-taken-requires-send-FLBitmap : goal.append_free_block_ptr-taken-requires-send-FLBitmap
+append_free_block_ptr-taken-requires-send-FLBitmap g c κs within = c.type_bounds.send-FLBitmap
+
+pub append_free_block_ptr-taken-requires-send-SLBitmap : goal.append_free_block_ptr-taken-requires-send-SLBitmap
+append_free_block_ptr-taken-requires-send-SLBitmap g c κs within = c.type_bounds.send-SLBitmap
+
+pub append_free_block_ptr-taken-requires-sync-FLBitmap : goal.append_free_block_ptr-taken-requires-sync-FLBitmap
+append_free_block_ptr-taken-requires-sync-FLBitmap g c κs within = c.type_bounds.sync-FLBitmap
+
+pub append_free_block_ptr-taken-requires-sync-SLBitmap : goal.append_free_block_ptr-taken-requires-sync-SLBitmap
+append_free_block_ptr-taken-requires-sync-SLBitmap g c κs within = c.type_bounds.sync-SLBitmap
+
+pub append_free_block_ptr-taken-requires-after_bounds : goal.append_free_block_ptr-taken-requires-after_bounds
+append_free_block_ptr-taken-requires-after_bounds g c κs within =
+    let (s, at) = c.requires in
+    let may = MayAppend-tested at c.args.range c.in-Some.place (MayInsert-tested at c.args.range c.memory_ref.ensures.memory (c.is_vacant.ensures.0 c.if-not-is_vacant.false)) c.in-Some.ensures.found in
+    (search rules, (s.machine, at.stands, IsNext-MayAppend at c.args.range may))
+
+pub lengthen_pool-requires : goal.lengthen_pool-requires
+lengthen_pool-requires g c =
+    let (s, at) = c.requires in
+    let r = c.args.range in
+    let (below, ends) = c.in-Some.ensures.found in
+    let may = MayAppend-tested at r c.in-Some.place (MayInsert-tested at r c.memory_ref.ensures.memory (c.is_vacant.ensures.0 c.if-not-is_vacant.false)) c.in-Some.ensures.found in
+    let next = IsNext-MayAppend at r may in
+    let (t, step, stands, _) = c.append_free_block_ptr-taken.ensures.step s.machine at.stands next in
+    let longer = IsLonger-appended at.stands.well_formed r next c.append_free_block_ptr-taken.result t step stands.well_formed in
+    (below, λ d. omega (arith, ends d, longer.within, may.vacant.lies_in.1, at.stands.well_formed.addressable))
+
+pub returns-then-not-is_vacant-clause-does : goal.returns-then-not-is_vacant-clause-does
+returns-then-not-is_vacant-clause-does g c = λ s at.
+    LeadsOn-nothing at (Append c.args.range) (Refused BadRange)
+    (λ may. true≢false (sym (c.is_vacant.ensures.1 (IsVacant-tables at c.args.range c.memory_ref.ensures.memory may.vacant)) ∙ c.if-not-is_vacant.true), refl)
+
+pub returns-in_default-clause-does : goal.returns-in_default-clause-does
+returns-in_default-clause-does g c = λ s at.
+    LeadsOn-nothing at (Append c.args.range) (Refused BadRange) (MayAppend-none at c.args.range c.in_default.ensures.none, refl)
+
+pub returns-clause-does : goal.returns-clause-does
+returns-clause-does g c = λ s at.
+    let r = c.args.range in
+    let place = c.in-Some.place in
+    let ends = c.in-Some.ensures.found in
+    let may = MayAppend-tested at r place (MayInsert-tested at r c.memory_ref.ensures.memory (c.is_vacant.ensures.0 c.if-not-is_vacant.false)) ends in
+    let (t, step, stands, keeps) = c.append_free_block_ptr-taken.ensures.step s.machine at.stands (IsNext-MayAppend at r may) in
+    (_, (may, t, step, refl), IsAt-appended at c.append_free_block_ptr-taken.ensures.place t stands r c.append_free_block_ptr-taken.result place step may ends c.lengthen_pool.ensures.names (c.lengthen_pool.ensures.pools no_range), keeps)

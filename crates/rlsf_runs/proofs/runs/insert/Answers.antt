@@ -1,0 +1,81 @@
+use Rattle.std.proofs.Common.{rules, ◌≡◌, ◌+◌, length, None, true≢false, arith, refl, sym, ◌∙◌, ap, subst}
+use Rattle.std.specs.Int.NonZero.{non_zero_usize_get}
+use Rattle.std.specs.Option.{option_map}
+use Rattle.rlsf_base.specs.Range.{LiesIn}
+use Rattle.rlsf_base.specs.Rounding.{round32}
+use Rattle.rlsf_base.specs.Space.{range_of}
+use Rattle.rlsf_machine.specs.Insert.{Inserts}
+use Rattle.rlsf_machine.specs.State.{State, between}
+use Rattle.rlsf_text.specs.declared.op.Answer.TheVariants.{Refused}
+use Rattle.rlsf_text.specs.declared.op.Op.TheVariants.{Insert}
+use Rattle.rlsf_text.specs.declared.op.TraceError.TheVariants.{BadRange}
+use Rattle.rlsf_tlsf.specs.Spare.{KeepsSpare}
+use Rattle.rlsf_runs.specs.Runs.{MayInsert, RunState, with_pool}
+use Rattle.rlsf_runs.specs.Steps.Tables.{IsAt}
+use Rattle.rlsf_runs.proofs.NewPools.{pool_bounds}
+use Rattle.rlsf_runs.proofs.NamedPayloads.{LeadsOn-nothing}
+use Rattle.rlsf_runs.proofs.RunStates.{IsAt-inserted, IsAt-not_inserted, IsFresh-MayInsert, IsVacant-tables, MayInsert-tested, new_pool}
+use Rattle.rlsf_runs.proofs.runs.insert.Goals as goal
+
+pub is_vacant-requires-clause-inside : goal.is_vacant-requires-clause-inside
+is_vacant-requires-clause-inside g c =
+    let (s, at) = c.requires.state in
+    λ p i. subst (λ m. LiesIn p m.start (length m.bytes)) (sym c.memory_ref.ensures.memory) (at.inside p i)
+
+pub returns-then-not-is_vacant-clause-does : goal.returns-then-not-is_vacant-clause-does
+returns-then-not-is_vacant-clause-does g c = λ s at.
+    LeadsOn-nothing at (Insert c.args.range) (Refused BadRange)
+    (λ may. true≢false (sym (c.is_vacant.ensures.1 (IsVacant-tables at c.args.range c.memory_ref.ensures.memory may)) ∙ c.if-not-is_vacant.true), refl)
+
+pub insert_free_block_ptr-taken-requires-send-FLBitmap : goal.insert_free_block_ptr-taken-requires-send-FLBitmap
+insert_free_block_ptr-taken-requires-send-FLBitmap g c κs within = c.type_bounds.send-FLBitmap
+
+pub insert_free_block_ptr-taken-requires-send-SLBitmap : goal.insert_free_block_ptr-taken-requires-send-SLBitmap
+insert_free_block_ptr-taken-requires-send-SLBitmap g c κs within = c.type_bounds.send-SLBitmap
+
+pub insert_free_block_ptr-taken-requires-sync-FLBitmap : goal.insert_free_block_ptr-taken-requires-sync-FLBitmap
+insert_free_block_ptr-taken-requires-sync-FLBitmap g c κs within = c.type_bounds.sync-FLBitmap
+
+pub insert_free_block_ptr-taken-requires-sync-SLBitmap : goal.insert_free_block_ptr-taken-requires-sync-SLBitmap
+insert_free_block_ptr-taken-requires-sync-SLBitmap g c κs within = c.type_bounds.sync-SLBitmap
+
+pub insert_free_block_ptr-taken-requires-after_bounds : goal.insert_free_block_ptr-taken-requires-after_bounds
+insert_free_block_ptr-taken-requires-after_bounds g c κs within =
+    let (s, at) = c.requires.state in
+    let may = MayInsert-tested at c.args.range c.memory_ref.ensures.memory (c.is_vacant.ensures.0 c.if-not-is_vacant.false) in
+    (search rules, (s.machine, at.stands, IsFresh-MayInsert at c.args.range may))
+
+pub pool_of-requires : goal.pool_of-requires
+pool_of-requires g c =
+    let (s, at) = c.requires.state in
+    let may = MayInsert-tested at c.args.range c.memory_ref.ensures.memory (c.is_vacant.ensures.0 c.if-not-is_vacant.false) in
+    let (t, step, stands, _) = c.in-Some.ensures.step s.machine at.stands (IsFresh-MayInsert at c.args.range may) in
+    let bounds = pool_bounds g.row.FLLEN s.machine c.args.range (non_zero_usize_get c.in-Some.len) t step stands.well_formed in
+    (omega (arith, bounds, c.get.ensures.value), omega (arith, bounds, c.get.ensures.value, may.lies_in.1, at.stands.well_formed.addressable))
+
+pub add_pool-requires : goal.add_pool-requires
+add_pool-requires g c =
+    let (s, at) = c.requires.state in
+    let may = MayInsert-tested at c.args.range c.memory_ref.ensures.memory (c.is_vacant.ensures.0 c.if-not-is_vacant.false) in
+    let (t, step, stands, _) = c.in-Some.ensures.step s.machine at.stands (IsFresh-MayInsert at c.args.range may) in
+    let pool = subst (λ n. c.pool_of.result ≡ between (round32 c.args.range.start) (c.args.range.start + n)) c.get.ensures.value c.pool_of.ensures in
+    let (some, apart) = new_pool at c.args.range c.pool_of.result (non_zero_usize_get c.in-Some.len) t may step stands.well_formed pool in
+    record { room = c.requires.room; in_order = at.in_order; some = some; apart = apart }
+
+pub returns-in-Some-clause-does : goal.returns-in-Some-clause-does
+returns-in-Some-clause-does g c = λ s at.
+    let may = MayInsert-tested at c.args.range c.memory_ref.ensures.memory (c.is_vacant.ensures.0 c.if-not-is_vacant.false) in
+    let (t, step, stands, keeps) = c.in-Some.ensures.step s.machine at.stands (IsFresh-MayInsert at c.args.range may) in
+    let pool = subst (λ n. c.pool_of.result ≡ between (round32 c.args.range.start) (c.args.range.start + n)) c.get.ensures.value c.pool_of.ensures in
+    (_, (may, t, step, refl), IsAt-inserted at c.in-Some.ensures.place t stands c.args.range c.pool_of.result (non_zero_usize_get c.in-Some.len) step may.lies_in pool c.add_pool.ensures.names c.add_pool.ensures.pools c.add_pool.ensures.in_order, keeps)
+
+pub returns-in_default-clause-does : goal.returns-in_default-clause-does
+returns-in_default-clause-does g c = λ s at.
+    let may = MayInsert-tested at c.args.range c.memory_ref.ensures.memory (c.is_vacant.ensures.0 c.if-not-is_vacant.false) in
+    let (t, step, stands, keeps) = c.insert_free_block_ptr-taken.ensures.step s.machine at.stands (IsFresh-MayInsert at c.args.range may) in
+    let none : option_map non_zero_usize_get c.insert_free_block_ptr-taken.result ≡ None = ap (option_map non_zero_usize_get) c.in_default.is in
+    let refused = subst (λ o. Inserts g.row.FLLEN s.machine c.args.range o t) none step in
+    subst (λ o. (x : RunState) × (MayInsert (range_of c.args.tlsf.now.memory) s.pools c.args.range × (machine : State) × Inserts g.row.FLLEN s.machine c.args.range o machine
+    × (x ≡ record { machine = machine; named = s.named; pools = with_pool c.args.range o s.pools }))
+    × IsAt g.row.FLLEN g.row.SLLEN c.insert_free_block_ptr-taken.new.self c.args.tables.now x × KeepsSpare c.args.tlsf.now.memory s.machine c.insert_free_block_ptr-taken.new.self.memory x.machine) (sym none)
+    (_, (may, t, refused, refl), IsAt-not_inserted at c.insert_free_block_ptr-taken.ensures.place t stands c.args.range refused, keeps)

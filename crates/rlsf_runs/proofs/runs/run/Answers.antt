@@ -1,0 +1,38 @@
+use Rattle.std.proofs.Common.{◌++◌, [], ◌∷◌, arith, refl, sym, ◌∙◌, ap}
+use Rattle.std.proofs.lemmas.List.{append_assoc, append-nil, get_or_default}
+use Rattle.rlsf_runs.proofs.RunStates.{IsAt-beginning}
+use Rattle.rlsf_runs.proofs.Underway.{IsUnderway-beginning, IsUnderway-next, Runs-end}
+use Rattle.rlsf_runs.proofs.Outcomes.{when_ok}
+use Rattle.rlsf_runs.proofs.runs.run.Goals as goal
+
+pub loop-op-init : goal.loop-op-init
+loop-op-init g c =
+    let (no_names, no_pools) = c.in_ok-tables.ensures.empty in
+    let begun = IsUnderway-beginning {ops = c.args.ops.now} (IsAt-beginning c.requires no_names no_pools) refl c.in_ok-tables.ensures.room in
+    (([], c.try_reserve.ensures.items ∙ sym (append-nil c.args.answers.now.items), begun), omega (arith, c.in_ok-try_reserve.ensures.ok))
+
+pub step-answer-requires-send-FLBitmap : goal.step-answer-requires-send-FLBitmap
+step-answer-requires-send-FLBitmap g c κs within = c.type_bounds.send-FLBitmap
+
+pub step-answer-requires-send-SLBitmap : goal.step-answer-requires-send-SLBitmap
+step-answer-requires-send-SLBitmap g c κs within = c.type_bounds.send-SLBitmap
+
+pub step-answer-requires-sync-FLBitmap : goal.step-answer-requires-sync-FLBitmap
+step-answer-requires-sync-FLBitmap g c κs within = c.type_bounds.sync-FLBitmap
+
+pub step-answer-requires-sync-SLBitmap : goal.step-answer-requires-sync-SLBitmap
+step-answer-requires-sync-SLBitmap g c κs within = c.type_bounds.sync-SLBitmap
+
+pub loop-op-preserved : goal.loop-op-preserved
+loop-op-preserved g c =
+    let ((given, items, w), space) = c.loop-op.invariant in
+    let pushed = c.push.ensures.succeeds (omega (arith, space, c.loop-op-test.true)) in
+    let answer = c.step-answer.result in
+    let next = IsUnderway-next w c.op-item.result (λ d. c.op-item.is ∙ get_or_default c.args.ops.now c.loop-op.op-index _ d c.loop-op-test.true) c.loop-op-test.true answer c.step-answer.new.tlsf c.step-answer.new.tables c.step-answer.ensures.does c.step-answer.ensures.room c.step-answer.ensures.place in
+    let more = when_ok c.push.result _ pushed c.push.ensures.items ∙ ap (λ l. l ++ answer ∷ []) items ∙ append_assoc c.args.answers.now.items given (answer ∷ []) in
+    ((given ++ answer ∷ [], more, next), omega (arith, space, c.loop-op-test.true, when_ok c.push.result _ pushed c.push.ensures.len, c.push.ensures.capacity))
+
+pub returns-clause-runs : goal.returns-clause-runs
+returns-clause-runs g c =
+    let ((given, items, w), _) = c.loop-op.invariant in
+    (given, w.state, items, Runs-end w c.loop-op-test.false, w.at.stands, w.spare)

@@ -1,0 +1,120 @@
+-- Runs: what the ops of a trace do to the list machine, and what they answer.
+use Rattle.std.specs.Prelude.{◌≡◌, ℕ, ◌+◌, ◌<◌, ◌≤◌, ◌==◌, nat_eq, if◌then◌else◌, List, [], ◌∷◌, map, Option, Some, None, IsSome, replicate, slice_index, slice_set}
+use Rattle.std.specs.Int.NonZero.{non_zero_usize_get}
+use Rattle.std.specs.Option.{option_map}
+use Rattle.rlsf_base.specs.declared.memory.range.Range.{Range}
+use Rattle.rlsf_base.specs.Layout.{IsLayout}
+use Rattle.rlsf_base.specs.Range.{end_of, range_at}
+use Rattle.rlsf_base.specs.Rounding.{round32}
+use Rattle.rlsf_machine.specs.Allocate.{Allocates}
+use Rattle.rlsf_machine.specs.Insert.{Appends, Inserts, IsVacant}
+use Rattle.rlsf_machine.specs.Lists.{IsIn}
+use Rattle.rlsf_machine.specs.Reallocate.{Reallocates}
+use Rattle.rlsf_machine.specs.Release.{Deallocates}
+use Rattle.rlsf_machine.specs.Run.{Fills}
+use Rattle.rlsf_machine.specs.State.{State, Used, between, empty, usable}
+use Rattle.rlsf_text.specs.declared.op.Op.{Op}
+use Rattle.rlsf_text.specs.declared.op.Op.TheVariants.{Insert, Append, Alloc, Free, Realloc, Fill, Put, Get}
+use Rattle.rlsf_text.specs.declared.op.Answer.{Answer}
+use Rattle.rlsf_text.specs.declared.op.Answer.TheVariants.{Inserted, Appended, Placed, Done, Byte, Refused}
+use Rattle.rlsf_text.specs.declared.op.TraceError.{TraceError}
+use Rattle.rlsf_text.specs.declared.op.TraceError.TheVariants.{UnknownName, NameTaken, BadRange, BadOffset, BadLayout}
+
+-- what a run has come to: the machine's state, the address of each live payload by its name, and the pools
+pub record RunState : Type 0 where
+  pub machine : State
+  pub named : ℕ → Option ℕ
+  pub pools : List Range
+
+-- nothing is done yet
+abbrev pub beginning : RunState
+beginning = record { machine = empty; named = λ name. None; pools = [] }
+
+-- the range lies in the memory, and touches no byte of a pool
+abbrev pub MayInsert : Range → List Range → Range → Type 0
+MayInsert memory pools r = IsVacant memory pools r
+
+-- the pools with the one that is made of a range: it goes from the range's start rounded up to 32 as far as the answer counts
+abbrev pub with_pool : Range → Option ℕ → List Range → List Range
+with_pool r None pools = pools
+with_pool r (Some len) pools = between (round32 r.start) (r.start + len) ∷ pools
+
+-- the range may be inserted, and begins where a pool ends
+pub record MayAppend (memory : Range) (pools : List Range) (r : Range) : Type 0 where
+  pub vacant : MayInsert memory pools r
+  pub pool : Range
+  pub is_pool : IsIn pool pools
+  pub ends : end_of pool ≡ r.start
+
+-- a pool with so many bytes more
+abbrev pub lengthened : ℕ → Range → Range
+lengthened more pool = range_at pool.start (pool.len + more)
+
+-- a pool that ends at an address with so many bytes more, and any other as it is
+abbrev pub lengthened_at : ℕ → ℕ → Range → Range
+lengthened_at addr more pool = if end_of pool == addr then lengthened more pool else pool
+
+-- the names with that of a payload that was placed; another that had the name doesn't have it any more
+abbrev pub with_name : ℕ → Option ℕ → (ℕ → Option ℕ) → ℕ → Option ℕ
+with_name name None named = named
+with_name name (Some addr) named = λ other. if nat_eq name other then Some addr else named other
+
+-- the names without one
+abbrev pub without_name : ℕ → (ℕ → Option ℕ) → ℕ → Option ℕ
+without_name name named = λ other. if nat_eq name other then None else named other
+
+-- u is the block of the payload that has the name
+abbrev pub Owns : RunState → ℕ → Used → Type 0
+Owns s name u = IsIn u s.machine.used × (s.named name ≡ Some u.payload)
+
+-- another state of the machine, with the same names and pools
+abbrev pub with_machine : State → RunState → RunState
+with_machine machine s = record { machine = machine; named = s.named; pools = s.pools }
+
+-- why an op is refused
+abbrev pub IsRefused : Range → RunState → Op → TraceError → Type 0
+IsRefused memory s (Insert r) BadRange = MayInsert memory s.pools r → ⊥
+IsRefused memory s (Append r) BadRange = MayAppend memory s.pools r → ⊥
+IsRefused memory s (Alloc name layout) NameTaken = IsSome (s.named name)
+IsRefused memory s (Free name) UnknownName = s.named name ≡ None
+IsRefused memory s (Realloc name size) UnknownName = s.named name ≡ None
+IsRefused memory s (Realloc name size) BadLayout = (u : Used) × Owns s name u × (IsLayout size u.align → ⊥)
+IsRefused memory s (Fill name byte) UnknownName = s.named name ≡ None
+IsRefused memory s (Put name offset byte) UnknownName = s.named name ≡ None
+IsRefused memory s (Put name offset byte) BadOffset = (u : Used) × Owns s name u × ((usable u).len ≤ offset)
+IsRefused memory s (Get name offset) UnknownName = s.named name ≡ None
+IsRefused memory s (Get name offset) BadOffset = (u : Used) × Owns s name u × ((usable u).len ≤ offset)
+IsRefused memory s op error = ⊥
+
+-- an op and its answer: a step of the machine, or a refusal, which comes exactly where it has to and changes nothing
+abbrev pub Does : ℕ → ℕ → Range → RunState → Op → Answer → RunState → Type 0
+Does fllen sllen memory s op (Refused error) t = IsRefused memory s op error × (t ≡ s)
+Does fllen sllen memory s (Insert r) (Inserted len) t =
+    MayInsert memory s.pools r × (machine : State) × Inserts fllen s.machine r (option_map non_zero_usize_get len) machine
+    × (t ≡ record { machine = machine; named = s.named; pools = with_pool r (option_map non_zero_usize_get len) s.pools })
+Does fllen sllen memory s (Append r) (Appended more) t =
+    MayAppend memory s.pools r × (machine : State) × Appends fllen s.machine r more machine
+    × (t ≡ record { machine = machine; named = s.named; pools = map (lengthened_at r.start more) s.pools })
+Does fllen sllen memory s (Alloc name layout) (Placed addr) t =
+    (s.named name ≡ None) × (machine : State) × Allocates sllen s.machine layout.size layout.align (option_map non_zero_usize_get addr) machine
+    × (t ≡ record { machine = machine; named = with_name name (option_map non_zero_usize_get addr) s.named; pools = s.pools })
+Does fllen sllen memory s (Free name) Done t =
+    (u : Used) × Owns s name u × (machine : State) × Deallocates s.machine u.payload machine
+    × (t ≡ record { machine = machine; named = without_name name s.named; pools = s.pools })
+Does fllen sllen memory s (Realloc name size) (Placed addr) t =
+    (u : Used) × Owns s name u × IsLayout size u.align × (machine : State) × Reallocates sllen s.machine u.payload size (option_map non_zero_usize_get addr) machine
+    × (t ≡ record { machine = machine; named = with_name name (option_map non_zero_usize_get addr) s.named; pools = s.pools })
+Does fllen sllen memory s (Fill name byte) Done t =
+    (u : Used) × Owns s name u × (machine : State) × Fills s.machine u.payload (replicate (usable u).len byte) machine × (t ≡ with_machine machine s)
+Does fllen sllen memory s (Put name offset byte) Done t =
+    (u : Used) × Owns s name u × (offset < (usable u).len) × (machine : State) × Fills s.machine u.payload (slice_set u.bytes offset byte) machine × (t ≡ with_machine machine s)
+Does fllen sllen memory s (Get name offset) (Byte byte) t =
+    (u : Used) × Owns s name u × (offset < (usable u).len) × (byte ≡ slice_index u.bytes offset) × (t ≡ s)
+Does fllen sllen memory s op answer t = ⊥
+
+-- ops, one after another, each with one answer
+abbrev pub Runs : ℕ → ℕ → Range → RunState → List Op → List Answer → RunState → Type 0
+Runs fllen sllen memory s [] [] t = t ≡ s
+Runs fllen sllen memory s [] (answer ∷ answers) t = ⊥
+Runs fllen sllen memory s (op ∷ ops) [] t = ⊥
+Runs fllen sllen memory s (op ∷ ops) (answer ∷ answers) t = (u : RunState) × Does fllen sllen memory s op answer u × Runs fllen sllen memory u ops answers t

@@ -1,0 +1,10 @@
+//! Runs of a trace: its ops, done one after another with an allocator.
+#![tactic(auto)]
+
+mod payloads;
+mod runs;
+mod tables;
+#[cfg(test)]
+mod tests;
+
+pub use runs::{RunError, run};

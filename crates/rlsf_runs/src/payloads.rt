@@ -1,0 +1,139 @@
+//! The ops on named payloads.
+
+ghost use Rattle.std.specs.Prelude.{ℕ, ◌+◌};
+ghost use Rattle.rlsf_base.specs.Space.{SamePlace};
+ghost use Rattle.rlsf_text.specs.declared.op.Op.TheVariants.{Free, Realloc, Fill, Put, Get};
+ghost use Rattle.rlsf_runs.specs.Runs.{RunState};
+ghost use Rattle.rlsf_runs.specs.Steps.Tables.{HasRoom, IsAt, LeadsOn};
+
+use crate::tables::{Payload, Tables};
+use rlsf_base::memory::Layout;
+use rlsf_int::BinInteger;
+use rlsf_text::{Answer, TraceError};
+use rlsf_tlsf::Tlsf;
+
+/// Gives the payload of a name back, unless no live one has it. The name is free again.
+pub(crate) fn free<
+    FLBitmap: BinInteger,
+    SLBitmap: BinInteger,
+    const FLLEN: usize,
+    const SLLEN: usize,
+>(tlsf: &mut Tlsf<FLBitmap, SLBitmap, FLLEN, SLLEN>, tables: &mut Tables, name: usize) -> Answer
+    requires { (s : RunState) × IsAt FLLEN SLLEN tlsf.old tables.old s }
+    ensures does { (s : RunState) → IsAt FLLEN SLLEN tlsf.old tables.old s → LeadsOn FLLEN SLLEN tlsf.old s (Free name) result tlsf.new tables.new }
+    ensures room { (ops : ℕ) → HasRoom tables.old (ops + 1) → HasRoom tables.new ops }
+    ensures place { SamePlace tlsf.old.memory tlsf.new.memory }
+{
+    let Some(payload) = tables.take_name(name) else {
+        return Answer::Refused(TraceError::UnknownName);
+    };
+    tlsf.deallocate(payload.addr, payload.align);
+    Answer::Done
+}
+
+/// Gives the payload of a name another size, unless no live one has it or no layout has that size with its alignment. Where
+/// there is no room for it, the name keeps its payload as it is.
+pub(crate) fn realloc<
+    FLBitmap: BinInteger,
+    SLBitmap: BinInteger,
+    const FLLEN: usize,
+    const SLLEN: usize,
+>(
+    tlsf: &mut Tlsf<FLBitmap, SLBitmap, FLLEN, SLLEN>,
+    tables: &mut Tables,
+    name: usize,
+    size: usize,
+) -> Answer
+    requires state { (s : RunState) × IsAt FLLEN SLLEN tlsf.old tables.old s }
+    requires room { HasRoom tables.old 1 }
+    ensures does { (s : RunState) → IsAt FLLEN SLLEN tlsf.old tables.old s → LeadsOn FLLEN SLLEN tlsf.old s (Realloc name size) result tlsf.new tables.new }
+    ensures room { (ops : ℕ) → HasRoom tables.old (ops + 1) → HasRoom tables.new ops }
+    ensures place { SamePlace tlsf.old.memory tlsf.new.memory }
+{
+    let Some(old) = tables.payload(name) else {
+        return Answer::Refused(TraceError::UnknownName);
+    };
+    let Ok(layout) = Layout::from_size_align(size, old.align) else {
+        return Answer::Refused(TraceError::BadLayout);
+    };
+    let placed = tlsf.reallocate(old.addr, layout);
+    if let Some(addr) = placed {
+        let align = old.align;
+        tables.add_name(name, Payload { addr, align });
+    }
+    Answer::Placed(placed)
+}
+
+/// Sets every usable byte of the payload of a name, unless no live one has it.
+pub(crate) fn fill<
+    FLBitmap: BinInteger,
+    SLBitmap: BinInteger,
+    const FLLEN: usize,
+    const SLLEN: usize,
+>(
+    tlsf: &mut Tlsf<FLBitmap, SLBitmap, FLLEN, SLLEN>,
+    tables: &Tables,
+    name: usize,
+    byte: u8,
+) -> Answer
+    requires { (s : RunState) × IsAt FLLEN SLLEN tlsf.old tables.now s }
+    ensures does { (s : RunState) → IsAt FLLEN SLLEN tlsf.old tables.now s → LeadsOn FLLEN SLLEN tlsf.old s (Fill name byte) result tlsf.new tables.now }
+    ensures place { SamePlace tlsf.old.memory tlsf.new.memory }
+{
+    let Some(payload) = tables.payload(name) else {
+        return Answer::Refused(TraceError::UnknownName);
+    };
+    tlsf.payload_mut(payload.addr).fill(byte);
+    Answer::Done
+}
+
+/// Sets the byte at an offset of the payload of a name, unless no live one has it or the offset isn't below its usable size.
+pub(crate) fn put<
+    FLBitmap: BinInteger,
+    SLBitmap: BinInteger,
+    const FLLEN: usize,
+    const SLLEN: usize,
+>(
+    tlsf: &mut Tlsf<FLBitmap, SLBitmap, FLLEN, SLLEN>,
+    tables: &Tables,
+    name: usize,
+    offset: usize,
+    byte: u8,
+) -> Answer
+    requires { (s : RunState) × IsAt FLLEN SLLEN tlsf.old tables.now s }
+    ensures does { (s : RunState) → IsAt FLLEN SLLEN tlsf.old tables.now s → LeadsOn FLLEN SLLEN tlsf.old s (Put name offset byte) result tlsf.new tables.now }
+    ensures place { SamePlace tlsf.old.memory tlsf.new.memory }
+{
+    let Some(payload) = tables.payload(name) else {
+        return Answer::Refused(TraceError::UnknownName);
+    };
+    if offset >= tlsf.payload(payload.addr).len() {
+        return Answer::Refused(TraceError::BadOffset);
+    }
+    tlsf.payload_mut(payload.addr)[offset] = byte;
+    Answer::Done
+}
+
+/// Reads the byte at an offset of the payload of a name, unless no live one has it or the offset isn't below its usable size.
+pub(crate) fn get<
+    FLBitmap: BinInteger,
+    SLBitmap: BinInteger,
+    const FLLEN: usize,
+    const SLLEN: usize,
+>(
+    tlsf: &Tlsf<FLBitmap, SLBitmap, FLLEN, SLLEN>,
+    tables: &Tables,
+    name: usize,
+    offset: usize,
+) -> Answer
+    requires { (s : RunState) × IsAt FLLEN SLLEN tlsf.now tables.now s }
+    ensures { (s : RunState) → IsAt FLLEN SLLEN tlsf.now tables.now s → LeadsOn FLLEN SLLEN tlsf.now s (Get name offset) result tlsf.now tables.now }
+{
+    let Some(payload) = tables.payload(name) else {
+        return Answer::Refused(TraceError::UnknownName);
+    };
+    match tlsf.payload(payload.addr).get(offset) {
+        Some(byte) => Answer::Byte(*byte),
+        None => Answer::Refused(TraceError::BadOffset),
+    }
+}

@@ -1,0 +1,194 @@
+//! Runs: the ops of a trace, done with an allocator.
+
+ghost use Rattle.std.specs.Prelude.{◌≡◌, ℕ, ◌+◌, ◌<◌, ◌≤◌, ◌^◌, ◌++◌, List, length, IsTrue, ◌↔◌, OnOk, OnErr};
+ghost use Rattle.rlsf_base.specs.Range.{end_of, LiesIn};
+ghost use Rattle.rlsf_base.specs.Rounding.{round32};
+ghost use Rattle.rlsf_base.specs.Space.{range_of, SamePlace};
+ghost use Rattle.rlsf_machine.specs.Insert.{IsVacant};
+ghost use Rattle.rlsf_machine.specs.Lists.{IsIn};
+ghost use Rattle.rlsf_machine.specs.State.{between, empty};
+ghost use Rattle.rlsf_tlsf.specs.Spare.{KeepsSpare};
+ghost use Rattle.rlsf_tlsf.specs.StandsFor.{StandsFor};
+ghost use Rattle.rlsf_text.specs.declared.op.Answer.{Answer};
+ghost use Rattle.rlsf_runs.specs.declared.runs.RunError.TheVariants.{OutOfMemory};
+ghost use Rattle.rlsf_text.specs.declared.op.Op.TheVariants.{Insert, Append, Alloc};
+ghost use Rattle.rlsf_runs.specs.Runs.{RunState, beginning, Runs};
+ghost use Rattle.rlsf_runs.specs.Steps.Tables.{HasRoom, IsAt, IsInOrder, LeadsOn};
+
+use crate::payloads::{fill, free, get, put, realloc};
+use crate::tables::{Payload, Tables, ending_at, touches_any};
+use rlsf_base::memory::{Layout, Memory, Range};
+use rlsf_int::BinInteger;
+use rlsf_text::{Answer, Op, TraceError};
+use rlsf_tlsf::{GRANULARITY, Tlsf};
+use std::alloc::{AllocError, Global};
+use std::collections::VecDeque;
+
+/// Why a run did nothing.
+#[derive(Clone, Copy, Debug, PartialEq, Eq)]
+pub enum RunError {
+    /// The machine refused memory for the answers or for the run's own tables.
+    OutOfMemory = 1,
+}
+
+impl From<AllocError> for RunError {
+    ghost from_gives = { λ _ error. error ≡ OutOfMemory };
+
+    fn from(_refused: AllocError) -> RunError {
+        RunError::OutOfMemory
+    }
+}
+
+// Whether the range lies in the memory.
+fn lies_in(memory: &Memory, range: Range) -> bool
+    ensures { IsTrue result ↔ LiesIn range memory.now.start (length memory.now.bytes) }
+{
+    let start = memory.start();
+    let len = memory.len();
+    range.start >= start && range.len <= len && range.start - start <= len - range.len
+}
+
+// Whether the range lies in the memory, and touches no byte of a pool.
+fn is_vacant(memory: &Memory, pools: &VecDeque<Range>, range: Range) -> bool
+    requires in_order { IsInOrder pools.now.items }
+    requires inside { (p : Range) → IsIn p pools.now.items → LiesIn p memory.now.start (length memory.now.bytes) }
+    requires addressable { end_of (range_of memory.now) < 2 ^ 64 }
+    ensures { IsTrue result ↔ IsVacant (range_of memory.now) pools.now.items range }
+{
+    lies_in(memory, range) && !touches_any(pools, range)
+}
+
+/// Does one op, and answers it.
+fn step<FLBitmap: BinInteger, SLBitmap: BinInteger, const FLLEN: usize, const SLLEN: usize>(
+    tlsf: &mut Tlsf<FLBitmap, SLBitmap, FLLEN, SLLEN>,
+    tables: &mut Tables,
+    op: Op,
+) -> Answer
+    requires state { (s : RunState) × IsAt FLLEN SLLEN tlsf.old tables.old s }
+    requires room { HasRoom tables.old 1 }
+    ensures does { (s : RunState) → IsAt FLLEN SLLEN tlsf.old tables.old s → LeadsOn FLLEN SLLEN tlsf.old s op result tlsf.new tables.new }
+    ensures room { (ops : ℕ) → HasRoom tables.old (ops + 1) → HasRoom tables.new ops }
+    ensures place { SamePlace tlsf.old.memory tlsf.new.memory }
+{
+    match op {
+        Op::Insert(range) => insert(tlsf, tables, range),
+        Op::Append(range) => append(tlsf, tables, range),
+        Op::Alloc(name, layout) => alloc(tlsf, tables, name, layout),
+        Op::Free(name) => free(tlsf, tables, name),
+        Op::Realloc(name, size) => realloc(tlsf, tables, name, size),
+        Op::Fill(name, byte) => fill(tlsf, tables, name, byte),
+        Op::Put(name, offset, byte) => put(tlsf, tables, name, offset, byte),
+        Op::Get(name, offset) => get(tlsf, tables, name, offset),
+    }
+}
+
+/// Inserts a range, unless it doesn't lie in the memory or touches a pool.
+fn insert<FLBitmap: BinInteger, SLBitmap: BinInteger, const FLLEN: usize, const SLLEN: usize>(
+    tlsf: &mut Tlsf<FLBitmap, SLBitmap, FLLEN, SLLEN>,
+    tables: &mut Tables,
+    range: Range,
+) -> Answer
+    requires state { (s : RunState) × IsAt FLLEN SLLEN tlsf.old tables.old s }
+    requires room { HasRoom tables.old 1 }
+    ensures does { (s : RunState) → IsAt FLLEN SLLEN tlsf.old tables.old s → LeadsOn FLLEN SLLEN tlsf.old s (Insert range) result tlsf.new tables.new }
+    ensures room { (ops : ℕ) → HasRoom tables.old (ops + 1) → HasRoom tables.new ops }
+    ensures place { SamePlace tlsf.old.memory tlsf.new.memory }
+{
+    if !is_vacant(tlsf.memory_ref(), &tables.pools, range) {
+        return Answer::Refused(TraceError::BadRange);
+    }
+    let taken = tlsf.insert_free_block_ptr(range);
+    if let Some(len) = taken {
+        tables.add_pool(pool_of(range, len.get()));
+    }
+    Answer::Inserted(taken)
+}
+
+// The pool that an insert makes of a range, by its answer.
+fn pool_of(range: Range, len: usize) -> Range
+    requires { (round32 range.start ≤ range.start + len) × (range.start + len < 2 ^ 64) }
+    ensures { result ≡ between (round32 range.start) (range.start + len) }
+{
+    let start = range.start.next_multiple_of(GRANULARITY);
+    Range {
+        start,
+        len: range.start + len - start,
+    }
+}
+
+/// Appends a range, unless it doesn't lie in the memory, touches a pool, or begins where none ends.
+fn append<FLBitmap: BinInteger, SLBitmap: BinInteger, const FLLEN: usize, const SLLEN: usize>(
+    tlsf: &mut Tlsf<FLBitmap, SLBitmap, FLLEN, SLLEN>,
+    tables: &mut Tables,
+    range: Range,
+) -> Answer
+    requires { (s : RunState) × IsAt FLLEN SLLEN tlsf.old tables.old s }
+    ensures does { (s : RunState) → IsAt FLLEN SLLEN tlsf.old tables.old s → LeadsOn FLLEN SLLEN tlsf.old s (Append range) result tlsf.new tables.new }
+    ensures room { (ops : ℕ) → HasRoom tables.old (ops + 1) → HasRoom tables.new ops }
+    ensures place { SamePlace tlsf.old.memory tlsf.new.memory }
+{
+    if !is_vacant(tlsf.memory_ref(), &tables.pools, range) {
+        return Answer::Refused(TraceError::BadRange);
+    }
+    let Some(place) = ending_at(&tables.pools, range.start) else {
+        return Answer::Refused(TraceError::BadRange);
+    };
+    let taken = tlsf.append_free_block_ptr(range);
+    tables.lengthen_pool(place, taken);
+    Answer::Appended(taken)
+}
+
+/// Allocates a payload and names it, unless a live one has the name.
+fn alloc<FLBitmap: BinInteger, SLBitmap: BinInteger, const FLLEN: usize, const SLLEN: usize>(
+    tlsf: &mut Tlsf<FLBitmap, SLBitmap, FLLEN, SLLEN>,
+    tables: &mut Tables,
+    name: usize,
+    layout: Layout,
+) -> Answer
+    requires state { (s : RunState) × IsAt FLLEN SLLEN tlsf.old tables.old s }
+    requires room { HasRoom tables.old 1 }
+    ensures does { (s : RunState) → IsAt FLLEN SLLEN tlsf.old tables.old s → LeadsOn FLLEN SLLEN tlsf.old s (Alloc name layout) result tlsf.new tables.new }
+    ensures room { (ops : ℕ) → HasRoom tables.old (ops + 1) → HasRoom tables.new ops }
+    ensures place { SamePlace tlsf.old.memory tlsf.new.memory }
+{
+    if tables.names.contains_key(&name) {
+        return Answer::Refused(TraceError::NameTaken);
+    }
+    let placed = tlsf.allocate(layout);
+    if let Some(addr) = placed {
+        let payload = Payload {
+            addr,
+            align: layout.align(),
+        };
+        tables.add_name(name, payload);
+    }
+    Answer::Placed(placed)
+}
+
+/// Does the ops, one after another, with an allocator that has no chunk yet. One answer an op follows those already there.
+///
+/// The memory stays in place, and at `Ok` each of its bytes that no block is made of at the end is as it was.
+///
+/// `OutOfMemory` comes only where the machine refused memory for the answers or for the run's own tables. Then no op
+/// was done, and the answers are as before.
+pub fn run<FLBitmap: BinInteger, SLBitmap: BinInteger, const FLLEN: usize, const SLLEN: usize>(
+    alloc: Global,
+    tlsf: &mut Tlsf<FLBitmap, SLBitmap, FLLEN, SLLEN>,
+    ops: &[Op],
+    answers: &mut Vec<Answer>,
+) -> Result<(), RunError>
+    requires { StandsFor FLLEN SLLEN tlsf.old empty }
+    ensures runs { OnOk result ((given : List Answer) × (t : RunState) × (answers.new.items ≡ answers.old.items ++ given)
+        × Runs FLLEN SLLEN (range_of tlsf.old.memory) beginning ops.now given t × StandsFor FLLEN SLLEN tlsf.new t.machine
+        × KeepsSpare tlsf.old.memory empty tlsf.new.memory t.machine) }
+    ensures refused { OnErr result ((answers.new.items ≡ answers.old.items) × (tlsf.new ≡ tlsf.old)) }
+    ensures place { SamePlace tlsf.old.memory tlsf.new.memory }
+{
+    answers.try_reserve(ops.len())?;
+    let mut tables = Tables::with_room(alloc, ops.len())?;
+    for op in ops {
+        let answer = step(tlsf, &mut tables, *op);
+        let _ = answers.push(answer);
+    }
+    Ok(())
+}

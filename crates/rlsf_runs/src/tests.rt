@@ -1,0 +1,5 @@
+use super::*;
+
+mod growth;
+mod refusals;
+mod runs;

@@ -1,0 +1,51 @@
+-- The links of one class were written: the lists of the other classes are as they were.
+use Rattle.std.proofs.Common.{◌≡◌, ℕ, ◌+◌, ◌≤◌, List, arith, inl, inr, subst, sym, ◌∙◌, ap}
+use Rattle.std.proofs.lemmas.Bool.{cases_eq}
+use Rattle.rlsf_base.specs.SizeClass.{class_of}
+use Rattle.rlsf_base.specs.declared.memory.range.Range.{Range}
+use Rattle.rlsf_base.specs.Space.{Space}
+use Rattle.rlsf_machine.specs.Lists.{IsIn}
+use Rattle.rlsf_machine.specs.WellFormed.{coverage, itself}
+use Rattle.rlsf_machine.proofs.Choices.{has_class-true}
+use Rattle.rlsf_table.specs.FreeList.{Links, IsLink, IsPlaced, Rewrites}
+use Rattle.rlsf_table.specs.Table.{class_at, of_class}
+use Rattle.rlsf_table.proofs.FreeLists.Chains.{Links-Rewrites, starts_apart}
+use Rattle.rlsf_table.proofs.FreeLists.Classes.{IsIn-of_class}
+
+-- the indices of a class are its own
+pub class_at-injective : (fl sl i j : ℕ) → class_at i j ≡ class_at fl sl → (i ≡ fl) × (j ≡ sl)
+class_at-injective fl sl i j same =
+    let exponent : 5 + i ≡ 5 + fl = ap (λ c. c.exponent) same in
+    (omega arith, ap (λ c. c.division) same)
+
+-- what is true of the class at two indices, and of every other one
+pub each_class : (P : ℕ → ℕ → Type 0) (fl sl : ℕ) → P fl sl → ((i j : ℕ) → ¬ ((i ≡ fl) × (j ≡ sl)) → P i j) → (i j : ℕ) → P i j
+each_class P fl sl here other i j = elim (cases_eq i fl) [
+  | inl row ↦ elim (cases_eq j sl) [ inl place ↦ subst (λ a. P a j) (sym row) (subst (P fl) (sym place) here) | inr apart ↦ other i j (λ h. apart h.1) ]
+  | inr apart ↦ other i j (λ h. apart h.0)
+]
+
+-- `all` are placed blocks that don't overlap, of which those in `written` have the class at fl and sl
+module _ {m n : Space} (sllen fl sl : ℕ) (all written : List Range) (placed : (f : Range) → IsIn f all → IsPlaced m f) (apart : (a : ℕ) → coverage itself all a ≤ 1)
+    (among : (f : Range) → IsIn f written → IsIn f all × (class_of sllen f.len ≡ class_at fl sl)) (rewrites : Rewrites m n (IsLink written)) where
+  -- a block of another class has no link of theirs
+  no_link : (i j : ℕ) → ¬ ((i ≡ fl) × (j ≡ sl)) → (f : Range) → IsIn f all → class_of sllen f.len ≡ class_at i j → ¬ IsLink written (f.start + 16) × ¬ IsLink written (f.start + 24)
+  no_link i j other f in_all class =
+      let here = placed f in_all in
+      let differ : (g : Range) → IsIn g written → f.start ≡ g.start → ⊥ = λ g k start.
+      let there = among g k in
+      let same : f ≡ g = starts_apart all f g apart in_all there.0 (omega (arith, here.room)) (omega (arith, (placed g there.0).room)) start in
+      other (class_at-injective fl sl i j (sym class ∙ ap (λ r. class_of sllen r.len) same ∙ there.1)) in (
+        (λ link. let there = placed link.0 (among link.0 link.1).0 in
+            elim link.2 [ inl e ↦ differ link.0 link.1 (omega (arith, e)) | inr e ↦ omega (arith, e, here.whole, there.whole) ]),
+        (λ link. let there = placed link.0 (among link.0 link.1).0 in
+            elim link.2 [ inl e ↦ omega (arith, e, here.whole, there.whole) | inr e ↦ differ link.0 link.1 (omega (arith, e)) ]),
+      )
+
+  -- the list of another class
+  pub Links-other_class : (i j : ℕ) → ¬ ((i ≡ fl) × (j ≡ sl)) → (free : List Range) → ((f : Range) → IsIn f free → IsIn f all) → (head : ℕ)
+      → Links m 0 (of_class sllen i j free) head → Links n 0 (of_class sllen i j free) head
+  Links-other_class i j other free inside head links =
+      Links-Rewrites 0 (of_class sllen i j free) head rewrites (λ f k. placed f (inside f (IsIn-of_class sllen i j f free k).0))
+      (λ f k. let is = IsIn-of_class sllen i j f free k in no_link i j other f (inside f is.0) (has_class-true sllen (class_at i j) f is.1))
+      links

@@ -1,0 +1,3 @@
+pub mod FreeLists
+pub mod Tables
+pub mod Words

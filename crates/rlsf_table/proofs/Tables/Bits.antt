@@ -1,0 +1,212 @@
+-- The bits of the class table, where a range is put in front of the free ones, or taken out from among them.
+use Rattle.std.proofs.Common.{◌≡◌, ◌≢◌, ℕ, ◌+◌, ◌-◌, ◌^◌, ◌<◌, bit_and, bit_or, ◌==◌, nat_lt, Bool, true, false, ◌&&◌, ◌||◌, not, true≢false, List, ◌∷◌, ◌++◌, length, slice_index, arith, refl, sym, ◌∙◌, ap, subst, inl, inr}
+use Rattle.std.specs.List.{list_any}
+use Rattle.std.proofs.Math.Bool.{or_comm, and-true}
+use Rattle.std.proofs.lemmas.Bool.{cases_eq, eq-eqb, lt-ltb, ne_eqb, and_from, and_left, and_right}
+use Rattle.rlsf_base.specs.declared.memory.range.Range.{Range}
+use Rattle.rlsf_base.specs.SizeClass.{SizeClass, class_of}
+use Rattle.rlsf_int.specs.Bits.{bit, bit-zero}
+use Rattle.rlsf_int.proofs.Bits.{bit-or, bit-pow, same_from_ones}
+use Rattle.rlsf_int.proofs.Unsigned.{bit-clear}
+use Rattle.std.specs.Int.{w128}
+use Rattle.std.proofs.lemmas.Nat.{one_shl}
+use Rattle.rlsf_machine.specs.Allocate.{has_class}
+use Rattle.rlsf_machine.proofs.Choices.{has_class-from, has_class-true}
+use Rattle.rlsf_machine.specs.Lists.{IsIn}
+use Rattle.rlsf_machine.proofs.Coverage.{by_test, IsIn-append_right}
+use Rattle.rlsf_table.specs.Table.{Table, class_at, is_in_row, HasBits, IsHeadOf}
+use Rattle.rlsf_table.proofs.Tables.Tests.{list_any-true, list_any-some, list_any-false, list_any-less_one, list_any-amid, filter-none, list_any-filtered}
+
+-- ---- a bit that is set or cleared, below the width
+
+-- a bit has a one if it had one or is the one that is set
+pub bit-set : (b x : Bool) (i j width : ℕ) → i < width → b ≡ (x || (j == i && nat_lt i width)) → b ≡ (x || j == i)
+bit-set b x i j width within is = is ∙ ap (λ y. x || (j == i && y)) (lt-ltb i width within) ∙ ap (λ y. x || y) (and-true (j == i))
+
+-- the bit that is cleared has none
+pub bit-cleared : (b x : Bool) (i width : ℕ) → i < width → b ≡ (x && not (i == i && nat_lt i width)) → b ≡ false
+bit-cleared b x i width within is = is ∙ ap (λ y. x && not (i == i && y)) (lt-ltb i width within) ∙ ap (λ y. x && not (y && true)) (eq-eqb i i refl) ∙ and_right x false refl
+
+-- and each other is as it was
+pub bit-kept : (b x : Bool) (i j width : ℕ) → j ≢ i → b ≡ (x && not (j == i && nat_lt i width)) → b ≡ x
+bit-kept b x i j width apart is = is ∙ ap (λ y. x && not (y && nat_lt i width)) (ne_eqb j i apart) ∙ and-true x
+
+-- the same of a word and the word that has one one
+pub bit-with_one : (n one i j : ℕ) → one ≡ 2 ^ i → bit (bit_or n one) j ≡ (bit n j || j == i)
+bit-with_one n one i j is = bit-or n one j ∙ ap (λ b. bit n j || b) (ap (λ m. bit m j) is ∙ bit-pow i j)
+
+pub bit-without_one : (n one i j : ℕ) → n < 2 ^ 128 → i < 128 → one ≡ 2 ^ i → bit (bit_and n (2 ^ 128 - 1 - one)) j ≡ (bit n j && not (j == i && nat_lt i 128))
+bit-without_one n one i j fits within is = ap (λ m. bit (bit_and n (2 ^ 128 - 1 - m)) j) (is ∙ sym (one_shl i 128 within)) ∙ bit-clear w128 n i fits within j
+
+-- ---- a range of a class
+
+module _ (sllen fl sl : ℕ) (r : Range) (class : class_of sllen r.len ≡ class_at fl sl) where
+  -- its row and its place
+  row_is : (class_of sllen r.len).exponent ≡ 5 + fl
+  row_is = ap (λ c. c.exponent) class
+
+  place_is : (class_of sllen r.len).division ≡ sl
+  place_is = ap (λ c. c.division) class
+
+  -- a range of a class is in the class's row
+  pub is_in_row-own : is_in_row sllen fl r ≡ true
+  is_in_row-own = eq-eqb (class_of sllen r.len).exponent (5 + fl) row_is
+
+  -- and in no other
+  pub is_in_row-other : (i : ℕ) → i ≢ fl → is_in_row sllen i r ≡ false
+  is_in_row-other i apart = ne_eqb (class_of sllen r.len).exponent (5 + i) (λ e. apart (omega (arith, e, row_is)))
+
+  -- it has the class, and none of another row or place
+  pub has_class-own : has_class sllen (class_at fl sl) r ≡ true
+  has_class-own = has_class-from sllen (class_at fl sl) r class
+
+  pub has_class-other_row : (i k : ℕ) → i ≢ fl → has_class sllen (class_at i k) r ≡ false
+  has_class-other_row i k apart = and_left (is_in_row sllen i r) ((class_of sllen r.len).division == k) (is_in_row-other i apart)
+
+  pub has_class-other_place : (i k : ℕ) → k ≢ sl → has_class sllen (class_at i k) r ≡ false
+  has_class-other_place i k apart = and_right (is_in_row sllen i r) ((class_of sllen r.len).division == k) (ne_eqb (class_of sllen r.len).division k (λ e. apart (sym e ∙ place_is)))
+
+-- a range in a row has the class at its own place there
+pub has_class-in_row : (sllen fl : ℕ) (r : Range) → is_in_row sllen fl r ≡ true → has_class sllen (class_at fl (class_of sllen r.len).division) r ≡ true
+has_class-in_row sllen fl r h = and_from (is_in_row sllen fl r) _ h (eq-eqb (class_of sllen r.len).division _ refl)
+
+-- where ranges have a class, they are in its row
+pub in_row-from_class : (sllen fl sl : ℕ) (free : List Range) → list_any (has_class sllen (class_at fl sl)) free ≡ true → list_any (is_in_row sllen fl) free ≡ true
+in_row-from_class sllen fl sl free h =
+    let (r, i, has) = list_any-some (has_class sllen (class_at fl sl)) free h in
+    list_any-true (is_in_row sllen fl) free r i (is_in_row-own sllen fl sl r (has_class-true sllen (class_at fl sl) r has))
+
+-- where they are not in a row, they have no class of it
+no_class : (sllen fl sl : ℕ) (free : List Range) → list_any (is_in_row sllen fl) free ≡ false → list_any (has_class sllen (class_at fl sl)) free ≡ false
+no_class sllen fl sl free none = by_test (list_any (has_class sllen (class_at fl sl)) free) (λ e. absurd (true≢false (sym (in_row-from_class sllen fl sl free e) ∙ none))) (λ e. e)
+
+-- where they have no class of a row, they are not in it
+pub in_row-none : (sllen fl : ℕ) (free : List Range) → ((sl : ℕ) → list_any (has_class sllen (class_at fl sl)) free ≡ false) → list_any (is_in_row sllen fl) free ≡ false
+in_row-none sllen fl free none = list_any-false (is_in_row sllen fl) free (λ r i. by_test (is_in_row sllen fl r)
+    (λ e. absurd (true≢false (sym (list_any-true (has_class sllen (class_at fl (class_of sllen r.len).division)) free r i (has_class-in_row sllen fl r e)) ∙ none (class_of sllen r.len).division)))
+    (λ e. e))
+
+-- ---- a range put in front
+
+-- the table t, but for a bit of each level that is set
+pub record IsClassSet (fllen : ℕ) (t u : Table) (fl sl : ℕ) : Type 0 where
+  pub rows : length u.second_level ≡ fllen
+  pub first : (i : ℕ) → bit u.first_level i ≡ (bit t.first_level i || i == fl)
+  pub second : (k : ℕ) → bit (slice_index u.second_level fl) k ≡ (bit (slice_index t.second_level fl) k || k == sl)
+  pub others : (i : ℕ) → i ≢ fl → slice_index u.second_level i ≡ slice_index t.second_level i
+
+-- the table u of a range and the others
+module _ (fllen sllen fl sl : ℕ) (t u : Table) (r : Range) (free : List Range) (class : class_of sllen r.len ≡ class_at fl sl) (set : IsClassSet fllen t u fl sl) (bits : HasBits fllen sllen t free) where
+  -- the row and the place of the range are those whose bits are set
+  put_row : (i : ℕ) → (i == fl) ≡ is_in_row sllen i r
+  put_row i = elim (cases_eq i fl) [
+    | inl same ↦ eq-eqb i fl same ∙ sym (subst (λ j. is_in_row sllen j r ≡ true) (sym same) (is_in_row-own sllen fl sl r class))
+    | inr apart ↦ ne_eqb i fl apart ∙ sym (is_in_row-other sllen fl sl r class i apart)
+  ]
+
+  put_place : (k : ℕ) → (k == sl) ≡ has_class sllen (class_at fl k) r
+  put_place k = elim (cases_eq k sl) [
+    | inl same ↦ eq-eqb k sl same ∙ sym (subst (λ j. has_class sllen (class_at fl j) r ≡ true) (sym same) (has_class-own sllen fl sl r class))
+    | inr apart ↦ ne_eqb k sl apart ∙ sym (has_class-other_place sllen fl sl r class fl k apart)
+  ]
+
+  -- the bits of the row of the range, and then all
+  put_own : (k : ℕ) → fl < fllen → bit (slice_index u.second_level fl) k ≡ list_any (has_class sllen (class_at fl k)) (r ∷ free)
+  put_own k within =
+      let rest = list_any (has_class sllen (class_at fl k)) free in
+      set.second k ∙ ap (λ b. b || k == sl) (bits.second fl k within) ∙ or_comm rest (k == sl) ∙ ap (λ b. b || rest) (put_place k)
+
+  pub HasBits-put : HasBits fllen sllen u (r ∷ free)
+  HasBits-put = record {
+    rows = set.rows;
+    first = λ i. let rest = list_any (is_in_row sllen i) free in set.first i ∙ ap (λ b. b || i == fl) (bits.first i) ∙ or_comm rest (i == fl) ∙ ap (λ b. b || rest) (put_row i);
+    second = λ i k within. elim (cases_eq i fl) [
+      | inl same ↦ subst (λ j. bit (slice_index u.second_level j) k ≡ list_any (has_class sllen (class_at j k)) (r ∷ free)) (sym same) (put_own k (subst (λ j. j < fllen) same within))
+      | inr apart ↦
+          ap (λ n. bit n k) (set.others i apart) ∙ bits.second i k within
+          ∙ sym (ap (λ b. b || list_any (has_class sllen (class_at i k)) free) (has_class-other_row sllen fl sl r class i k apart))
+    ];
+  }
+
+-- ---- a range taken out
+
+-- the table t, but for the bits of a row and of a class in it
+pub record IsClassCleared (fllen : ℕ) (t u : Table) (fl sl : ℕ) : Type 0 where
+  pub rows : length u.second_level ≡ fllen
+  pub first : (i : ℕ) → i ≢ fl → bit u.first_level i ≡ bit t.first_level i
+  pub places : (k : ℕ) → k ≢ sl → bit (slice_index u.second_level fl) k ≡ bit (slice_index t.second_level fl) k
+  pub others : (i : ℕ) → i ≢ fl → slice_index u.second_level i ≡ slice_index t.second_level i
+
+-- the table u of the others than r, if it is right of r's row and class
+module _ (fllen sllen fl sl : ℕ) (t u : Table) (r : Range) (before after : List Range) (class : class_of sllen r.len ≡ class_at fl sl) (bits : HasBits fllen sllen t (before ++ r ∷ after)) (within : fl < fllen)
+    (cleared : IsClassCleared fllen t u fl sl) where
+  -- the bits of the row's other classes, and then all, if those of the class and its row are right
+  taken_place : (k : ℕ) → k ≢ sl → bit (slice_index u.second_level fl) k ≡ list_any (has_class sllen (class_at fl k)) (before ++ after)
+  taken_place k apart = cleared.places k apart ∙ bits.second fl k within ∙ list_any-less_one (has_class sllen (class_at fl k)) before r after (has_class-other_place sllen fl sl r class fl k apart)
+
+  HasBits-taken : bit u.first_level fl ≡ list_any (is_in_row sllen fl) (before ++ after) → bit (slice_index u.second_level fl) sl ≡ list_any (has_class sllen (class_at fl sl)) (before ++ after)
+      → HasBits fllen sllen u (before ++ after)
+  HasBits-taken row place = record {
+    rows = cleared.rows;
+    first = λ i. elim (cases_eq i fl) [
+      | inl same ↦ subst (λ j. bit u.first_level j ≡ list_any (is_in_row sllen j) (before ++ after)) (sym same) row
+      | inr apart ↦ cleared.first i apart ∙ bits.first i ∙ list_any-less_one (is_in_row sllen i) before r after (is_in_row-other sllen fl sl r class i apart)
+    ];
+    second = λ i k in_rows. elim (cases_eq i fl) [
+      | inl same ↦ subst (λ j. bit (slice_index u.second_level j) k ≡ list_any (has_class sllen (class_at j k)) (before ++ after)) (sym same) (elim (cases_eq k sl) [
+        | inl here ↦ subst (λ j. bit (slice_index u.second_level fl) j ≡ list_any (has_class sllen (class_at fl j)) (before ++ after)) (sym here) place
+        | inr apart ↦ taken_place k apart
+      ])
+      | inr apart ↦ ap (λ n. bit n k) (cleared.others i apart) ∙ bits.second i k in_rows ∙ list_any-less_one (has_class sllen (class_at i k)) before r after (has_class-other_row sllen fl sl r class i k apart)
+    ];
+  }
+
+  -- the bits of the range that was taken out were set
+  taken_row : bit t.first_level fl ≡ true
+  taken_row = bits.first fl ∙ list_any-true (is_in_row sllen fl) (before ++ r ∷ after) r (IsIn-append_right r before (r ∷ after) (inl refl)) (is_in_row-own sllen fl sl r class)
+
+  taken_class : bit (slice_index t.second_level fl) sl ≡ true
+  taken_class = bits.second fl sl within ∙ list_any-true (has_class sllen (class_at fl sl)) (before ++ r ∷ after) r (IsIn-append_right r before (r ∷ after) (inl refl)) (has_class-own sllen fl sl r class)
+
+  module _ (head : ℕ) (is_head : IsHeadOf sllen fl sl head (before ++ after)) where
+    -- where ranges of the class are left, its bits stay
+    pub HasBits-some_left : head ≢ 0 → bit u.first_level fl ≡ bit t.first_level fl → bit (slice_index u.second_level fl) sl ≡ bit (slice_index t.second_level fl) sl → HasBits fllen sllen u (before ++ after)
+    HasBits-some_left some row place =
+        let left : list_any (has_class sllen (class_at fl sl)) (before ++ after) ≡ true = by_test (list_any (has_class sllen (class_at fl sl)) (before ++ after))
+        (λ e. e) (λ e. absurd (some (is_head.1 (filter-none (has_class sllen (class_at fl sl)) (before ++ after) e)))) in
+        HasBits-taken (row ∙ taken_row ∙ sym (in_row-from_class sllen fl sl (before ++ after) left)) (place ∙ taken_class ∙ sym left)
+
+    module _ (none : head ≡ 0) (place : bit (slice_index u.second_level fl) sl ≡ false) where
+      -- no range of the class is left
+      gone : list_any (has_class sllen (class_at fl sl)) (before ++ after) ≡ false
+      gone = list_any-filtered (has_class sllen (class_at fl sl)) (before ++ after) (is_head.0 none)
+
+      -- the bit of each class in the row
+      left_place : (k : ℕ) → bit (slice_index u.second_level fl) k ≡ list_any (has_class sllen (class_at fl k)) (before ++ after)
+      left_place k = elim (cases_eq k sl) [
+        | inl here ↦ subst (λ j. bit (slice_index u.second_level fl) j ≡ list_any (has_class sllen (class_at fl j)) (before ++ after)) (sym here) (place ∙ sym gone)
+        | inr apart ↦ taken_place k apart
+      ]
+
+      -- where none is left, but others in its row, the row's bit stays
+      pub HasBits-row_left : slice_index u.second_level fl ≢ 0 → bit u.first_level fl ≡ bit t.first_level fl → HasBits fllen sllen u (before ++ after)
+      HasBits-row_left some row =
+          let left : list_any (is_in_row sllen fl) (before ++ after) ≡ true = by_test (list_any (is_in_row sllen fl) (before ++ after)) (λ e. e)
+          (λ e. absurd (some (same_from_ones (slice_index u.second_level fl) 0 (λ k. left_place k ∙ no_class sllen fl k (before ++ after) e ∙ sym (bit-zero k))))) in
+          HasBits-taken (row ∙ taken_row ∙ sym left) (place ∙ sym gone)
+
+      -- and where its row has none, that bit is cleared too
+      pub HasBits-none_left : slice_index u.second_level fl ≡ 0 → bit u.first_level fl ≡ false → HasBits fllen sllen u (before ++ after)
+      HasBits-none_left empty row =
+          HasBits-taken (row ∙ sym (in_row-none sllen fl (before ++ after) (λ k. sym (left_place k) ∙ ap (λ n. bit n k) empty ∙ bit-zero k))) (place ∙ sym gone)
+
+-- ---- a range taken out, while its class has another one
+
+-- where a range of the same class is left, the bits are those of the ranges that are left
+pub HasBits-amid : {fllen sllen : ℕ} {t : Table} (before : List Range) (r : Range) (after : List Range) (g : Range) → IsIn g (before ++ after) → class_of sllen g.len ≡ class_of sllen r.len
+    → HasBits fllen sllen t (before ++ (r ∷ after)) → HasBits fllen sllen t (before ++ after)
+HasBits-amid {fllen} {sllen} {t} before r after g i class bits = record {
+  rows = bits.rows;
+  first = λ fl. bits.first fl ∙ list_any-amid (is_in_row sllen fl) before r after g i (ap (λ c. c.exponent == 5 + fl) class);
+  second = λ fl sl row. bits.second fl sl row ∙ list_any-amid (has_class sllen (class_at fl sl)) before r after g i (ap (λ (c : SizeClass). (c.exponent == 5 + fl && c.division == sl)) class);
+}

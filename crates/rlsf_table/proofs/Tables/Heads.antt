@@ -1,0 +1,37 @@
+-- The heads of the class table, one of which is written.
+use Rattle.std.proofs.Common.{◌≡◌, ◌≢◌, ℕ, ◌<◌, [], length, slice_index, slice_index_or, slice_set, get_or-set_same, get_or-set_other, length-set, arith, ◌∙◌, ap, subst, inl, inr}
+use Rattle.std.proofs.lemmas.Bool.{cases_eq}
+use Rattle.rlsf_table.specs.Table.{Table, HasPlaces, IsHeadSet}
+
+module _ (fllen sllen fl sl head : ℕ) (t u : Table) (row_within : fl < fllen) (place_within : sl < sllen) (rows : length t.heads ≡ fllen)
+    (places : HasPlaces fllen sllen t.heads)
+    (written : u.heads ≡ slice_set t.heads fl (slice_set (slice_index_or t.heads fl []) sl head)) where
+  -- the row of the head, and any other
+  row_written : slice_index_or u.heads fl [] ≡ slice_set (slice_index_or t.heads fl []) sl head
+  row_written = ap (λ h. slice_index_or h fl []) written ∙ get_or-set_same t.heads fl (slice_set (slice_index_or t.heads fl []) sl head) [] (omega arith)
+
+  row_other : (i : ℕ) → i ≢ fl → slice_index_or u.heads i [] ≡ slice_index_or t.heads i []
+  row_other i apart = ap (λ h. slice_index_or h i []) written ∙ get_or-set_other t.heads fl i (slice_set (slice_index_or t.heads fl []) sl head) [] apart
+
+  -- a written head is the only one that changed
+  pub IsHeadSet-written : IsHeadSet fllen sllen t u fl sl head
+  IsHeadSet-written = record {
+    rows = ap length written ∙ length-set t.heads fl (slice_set (slice_index_or t.heads fl []) sl head) ∙ rows;
+    places = λ i within. elim (cases_eq i fl) [
+      | inl same ↦ rw same (ap length row_written ∙ length-set (slice_index_or t.heads fl []) sl head ∙ places fl row_within)
+      | inr apart ↦ ap length (row_other i apart) ∙ places i within
+    ];
+    set = ap (λ row. slice_index row sl) row_written ∙ get_or-set_same (slice_index_or t.heads fl []) sl head 0 (let long = places fl row_within in omega arith);
+    others = λ i j row place other. elim (cases_eq i fl) [
+      | inl same ↦
+          let apart : j ≢ sl = λ here. other (same, here) in
+          rw same (ap (λ row. slice_index row j) row_written ∙ get_or-set_other (slice_index_or t.heads fl []) sl j head 0 apart)
+      | inr apart ↦ ap (λ row. slice_index row j) (row_other i apart)
+    ];
+  }
+
+-- the same of the table that a value stood for when it was opened
+pub IsHeadSet-opened : (fllen sllen fl sl head : ℕ) (inside t u : Table) → inside ≡ t → fl < fllen → sl < sllen → length inside.heads ≡ fllen → HasPlaces fllen sllen inside.heads
+    → u.heads ≡ slice_set inside.heads fl (slice_set (slice_index_or inside.heads fl []) sl head) → IsHeadSet fllen sllen t u fl sl head
+IsHeadSet-opened fllen sllen fl sl head inside t u same row place rows places written =
+    subst (λ v. IsHeadSet fllen sllen v u fl sl head) same (IsHeadSet-written fllen sllen fl sl head inside u row place rows places written)

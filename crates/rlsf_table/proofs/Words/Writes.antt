@@ -1,0 +1,85 @@
+-- Words that were written, one after another, and the words of placed blocks.
+use Rattle.std.proofs.Common.{◌≡◌, ℕ, ◌+◌, ◌%◌, ◌^◌, ◌<◌, ◌≤◌, ◌⊎◌, List, length, arith, inl, inr, refl, sym, ◌∙◌, subst}
+use Rattle.rlsf_base.specs.declared.memory.range.Range.{Range}
+use Rattle.rlsf_base.specs.Space.{Space, IsWord, word_at, with_word}
+use Rattle.rlsf_base.proofs.Words.Written.{bytes_in-with_word, length-with_word, word_at-other, word_at-same}
+use Rattle.rlsf_table.specs.FreeList.{IsLink, IsPlaced, Rewrites}
+use Rattle.rlsf_machine.specs.Lists.{IsIn}
+
+pub Rewrites-refl : (m : Space) (at : ℕ → Type 0) → Rewrites m m at
+Rewrites-refl m at = record { start = refl; length = refl; words = λ a whole inside other. refl; bytes = λ r inside apart. refl }
+
+-- one word was written
+pub Rewrites-word : (m n : Space) (addr word : ℕ) → IsWord m addr → n.start ≡ m.start → n.bytes ≡ with_word m addr word → Rewrites m n (λ a. a ≡ addr)
+Rewrites-word m n addr word placed start bytes = record {
+  start = start;
+  length = length-with_word m n addr word placed start bytes;
+  words = λ a whole inside other. word_at-other m n addr word placed start bytes a whole inside other;
+  bytes = λ r inside apart. bytes_in-with_word m n addr word placed start bytes r inside (apart addr refl);
+}
+
+pub Rewrites-weaken : {m n : Space} {P Q : ℕ → Type 0} → ((a : ℕ) → P a → Q a) → Rewrites m n P → Rewrites m n Q
+Rewrites-weaken more h = record {
+  start = h.start;
+  length = h.length;
+  words = λ a whole inside other. h.words a whole inside (λ p. other (more a p));
+  bytes = λ r inside apart. h.bytes r inside (λ a p. apart a (more a p));
+}
+
+pub Rewrites-trans : {m n o : Space} {P Q : ℕ → Type 0} → Rewrites m n P → Rewrites n o Q → Rewrites m o (λ a. P a ⊎ Q a)
+Rewrites-trans {m} {n} h k =
+    let same : n.start ≡ m.start = h.start in
+    record {
+      start = k.start ∙ h.start;
+      length = k.length ∙ h.length;
+      words = λ a whole inside other. k.words a whole (omega arith) (λ q. other (inr q)) ∙ h.words a whole inside (λ p. other (inl p));
+      bytes = λ r inside apart. k.bytes r (omega arith) (λ a q. apart a (inr q)) ∙ h.bytes r inside (λ a p. apart a (inl p));
+    }
+
+-- a link stands 16 or 24 bytes into a block
+pub link_place : (free : List Range) → ((f : Range) → IsIn f free → f.start % 32 ≡ 0) → (a : ℕ) → IsLink free a → (a % 32 ≡ 16) ⊎ (a % 32 ≡ 24)
+link_place free whole a (f, i, inl at) = inl (omega (arith, whole f i))
+link_place free whole a (f, i, inr at) = inr (omega (arith, whole f i))
+
+-- so linking leaves the first two words of each block
+pub before_links : {m n : Space} (free : List Range) → ((f : Range) → IsIn f free → f.start % 32 ≡ 0) → Rewrites m n (IsLink free)
+    → (a : ℕ) → (a % 32 ≡ 0) ⊎ (a % 32 ≡ 8) → m.start ≤ a → word_at n a ≡ word_at m a
+before_links free whole linked a place from = linked.words a (aligned place) from (λ link. apart place (link_place free whole a link))
+  where
+    aligned : (a % 32 ≡ 0) ⊎ (a % 32 ≡ 8) → a % 8 ≡ 0
+    aligned (inl at) = omega arith
+    aligned (inr at) = omega arith
+
+    apart : (a % 32 ≡ 0) ⊎ (a % 32 ≡ 8) → (a % 32 ≡ 16) ⊎ (a % 32 ≡ 24) → ⊥
+    apart (inl at) (inl link) = omega arith
+    apart (inl at) (inr link) = omega arith
+    apart (inr at) (inl link) = omega arith
+    apart (inr at) (inr link) = omega arith
+
+-- a word was written at an address, if something holds, and else nothing
+pub record Writes (m n : Space) (some : Type 0) (addr word : ℕ) : Type 0 where
+  pub rewrites : Rewrites m n (λ a. some × (a ≡ addr))
+  pub reads : some → word_at n addr ≡ word
+
+pub Writes-some : {m n : Space} {addr word : ℕ} (some : Type 0) → some → IsWord m addr → word < 2 ^ 64 → n.start ≡ m.start → n.bytes ≡ with_word m addr word → Writes m n some addr word
+Writes-some {m} {n} {addr} {word} some holds placed fits start bytes = record {
+  rewrites = Rewrites-weaken (λ a e. (holds, e)) (Rewrites-word m n addr word placed start bytes);
+  reads = λ s. word_at-same m n addr word placed start bytes fits;
+}
+
+pub Writes-none : (m n : Space) (some : Type 0) (addr word : ℕ) → n ≡ m → ¬ some → Writes m n some addr word
+Writes-none m n some addr word same none =
+    subst (λ x. Writes m x some addr word) (sym same) (record { rewrites = Rewrites-refl m (λ a. some × (a ≡ addr)); reads = λ s. absurd (none s) })
+
+-- ---- placed blocks
+
+pub IsPlaced-Rewrites : {m n : Space} {at : ℕ → Type 0} {f : Range} → Rewrites m n at → IsPlaced m f → IsPlaced n f
+IsPlaced-Rewrites h p = record { some = p.some; whole = p.whole; room = p.room; lies_in = (omega (arith, h.start, p.lies_in), omega (arith, h.start, h.length, p.lies_in)) }
+
+-- the word at `block + i` of the block at `block`, in the memory or in another one of the same place and length; its address fits in a word
+module _ {m : Space} {f : Range} {block : ℕ} (i : ℕ) (within : i + 8 ≤ 32) (whole : i % 8 ≡ 0) (place : f.start ≡ block) (p : IsPlaced m f) where
+  pub IsWord-at : (n : Space) → n.start ≡ m.start → length n.bytes ≡ length m.bytes → IsWord n (block + i)
+  IsWord-at n start same = (omega (arith, p.whole), (omega (arith, p.lies_in), omega (arith, p.lies_in, p.room)))
+
+  pub fits_at : m.start + length m.bytes < 2 ^ 64 → block + i < 2 ^ 64
+  fits_at addressable = omega (arith, p.lies_in, p.room)

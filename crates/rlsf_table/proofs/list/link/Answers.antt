@@ -1,0 +1,60 @@
+-- The indices are those of the block's class, and the table has the block in front of that class's list.
+use Rattle.std.proofs.Common.{rules}
+use Rattle.rlsf_table.specs.Table.{of_class}
+use Rattle.rlsf_table.proofs.Tables.Linking.{coverage-front_class, HasTable-front, IsFreeList-of_class_from, Rewrites-front_class}
+use Rattle.rlsf_table.proofs.FreeLists.Counted.{HasTable-counted, IsRoom-counted, Rewrites-counted_first, Rewrites-counted_last}
+use Rattle.rlsf_table.proofs.FreeLists.Indices.{IsClassAt-told}
+use Rattle.rlsf_table.proofs.list.link.Goals as goal
+
+pub head-newest-requires-after_bounds : goal.head-newest-requires-after_bounds
+head-newest-requires-after_bounds g c κs within =
+    let (r, free, place, len, room) = c.requires.room in
+    let at = IsClassAt-told c.requires.parameters room.block c.args.len c.in-Some.fl c.in-Some.sl len c.in-Some.ensures in
+    (search rules, (at.row, at.place))
+
+pub link_front-requires : goal.link_front-requires
+link_front-requires g c =
+    let fl = c.in-Some.fl in
+    let sl = c.in-Some.sl in
+    let (r, free, place, len, room) = c.requires.room in
+    let at = IsClassAt-told c.requires.parameters room.block c.args.len fl sl len c.in-Some.ensures in
+    let counts = c.head-newest.ensures.counts in
+    let kept = IsRoom-counted c.args.memory.now c.head-newest.new.memory counts.start counts.bytes room in
+    let list = IsFreeList-of_class_from kept.list fl sl at.row at.place c.head-newest.result c.head-newest.ensures.value in
+    (r, of_class g.row.SLLEN fl sl free, place, list, kept.placed, coverage-front_class fl sl kept at)
+
+pub put-requires-send-FLBitmap : goal.put-requires-send-FLBitmap
+put-requires-send-FLBitmap g c κs within = c.type_bounds.send-FLBitmap
+
+pub put-requires-send-SLBitmap : goal.put-requires-send-SLBitmap
+put-requires-send-SLBitmap g c κs within = c.type_bounds.send-SLBitmap
+
+pub put-requires-sync-FLBitmap : goal.put-requires-sync-FLBitmap
+put-requires-sync-FLBitmap g c κs within = c.type_bounds.sync-FLBitmap
+
+pub put-requires-sync-SLBitmap : goal.put-requires-sync-SLBitmap
+put-requires-sync-SLBitmap g c κs within = c.type_bounds.sync-SLBitmap
+
+pub put-requires-after_bounds : goal.put-requires-after_bounds
+put-requires-after_bounds g c κs within =
+    let (r, free, place, len, room) = c.requires.room in
+    let at = IsClassAt-told c.requires.parameters room.block c.args.len c.in-Some.fl c.in-Some.sl len c.in-Some.ensures in
+    (search rules, (c.requires.parameters, (at.row, at.place)))
+
+pub returns-clause-step : goal.returns-clause-step
+returns-clause-step g c r free place len room =
+    let m = c.args.memory.now in
+    let n = c.head-newest.new.memory in
+    let o = c.link_front.new.memory in
+    let fl = c.in-Some.fl in
+    let sl = c.in-Some.sl in
+    let at = IsClassAt-told c.requires.parameters room.block c.args.len fl sl len c.in-Some.ensures in
+    let read = c.head-newest.ensures.counts in
+    let kept = IsRoom-counted m n read.start read.bytes room in
+    let list = IsFreeList-of_class_from kept.list fl sl at.row at.place c.head-newest.result c.head-newest.ensures.value in
+    let (linked, rewrites) = c.link_front.ensures.step r (of_class g.row.SLLEN fl sl free) place list kept.placed (coverage-front_class fl sl kept at) in
+    let bits = c.put.ensures.bits r free at.class room.list.table.bits in
+    let counts = c.put.ensures.counts in (
+      HasTable-counted o c.put.new.memory counts.start counts.bytes (HasTable-front fl sl kept at c.args.block place c.put.ensures.heads bits linked rewrites),
+      Rewrites-counted_first m n read.start read.bytes (Rewrites-counted_last o c.put.new.memory counts.start counts.bytes (Rewrites-front_class fl sl kept at rewrites)),
+    )

@@ -1,0 +1,58 @@
+-- The block is taken out of the list of its class; where it was the newest one there, the class's head is set.
+use Rattle.std.proofs.Common.{refl, rules}
+use Rattle.rlsf_machine.proofs.Choices.{has_class-from}
+use Rattle.rlsf_table.specs.Table.{class_at, head_at, of_class}
+use Rattle.rlsf_table.proofs.Tables.Linking.{HasTable-removal, HasTable-removal_behind, IsFreeList-amid, IsFreeList-of_class, IsHeadOf-removal, Rewrites-amid_class}
+use Rattle.rlsf_table.proofs.FreeLists.Classes.{IsIn-of_class_from}
+use Rattle.rlsf_table.proofs.FreeLists.Counted.{HasTable-counted, Rewrites-counted_last}
+use Rattle.rlsf_table.proofs.list.unlink_at.Goals as goal
+
+pub unlink_between-newest-requires : goal.unlink_between-newest-requires
+unlink_between-newest-requires g c =
+    let sllen = g.row.SLLEN in
+    let fl = c.args.class.0 in
+    let sl = c.args.class.1 in
+    let (r, free, place, at, i, list) = c.requires.listed in
+    (r, of_class sllen fl sl free, head_at c.args.table.now fl sl, place, IsIn-of_class_from sllen fl sl r free i (has_class-from sllen (class_at fl sl) r at.class), IsFreeList-of_class list fl sl at.row at.place)
+
+pub take-requires-send-FLBitmap : goal.take-requires-send-FLBitmap
+take-requires-send-FLBitmap g c κs within = c.type_bounds.send-FLBitmap
+
+pub take-requires-send-SLBitmap : goal.take-requires-send-SLBitmap
+take-requires-send-SLBitmap g c κs within = c.type_bounds.send-SLBitmap
+
+pub take-requires-sync-FLBitmap : goal.take-requires-sync-FLBitmap
+take-requires-sync-FLBitmap g c κs within = c.type_bounds.sync-FLBitmap
+
+pub take-requires-sync-SLBitmap : goal.take-requires-sync-SLBitmap
+take-requires-sync-SLBitmap g c κs within = c.type_bounds.sync-SLBitmap
+
+pub take-requires-after_bounds : goal.take-requires-after_bounds
+take-requires-after_bounds g c κs within =
+    let (r, free, place, at, i, list) = c.requires.listed in
+    (search rules, (c.requires.parameters, (at.row, at.place)))
+
+pub returns-in-Some-clause-step : goal.returns-in-Some-clause-step
+returns-in-Some-clause-step g c r before after place at list =
+    let sllen = g.row.SLLEN in
+    let n = c.unlink_between-newest.new.memory in
+    let o = c.take.new.memory in
+    let fl = c.args.class.0 in
+    let sl = c.args.class.1 in
+    let next = c.in-Some.next in
+    let (linked, rewrites) = c.in-Some.ensures.step (head_at c.args.table.now fl sl) r (of_class sllen fl sl before) (of_class sllen fl sl after) place (IsFreeList-amid before r after fl sl list at) in
+    let is_head = IsHeadOf-removal before r after fl sl list at next linked rewrites in
+    let bits = c.take.ensures.bits r before after at.class is_head list.table.bits in
+    let counts = c.take.ensures.counts in (
+      HasTable-counted n o counts.start counts.bytes (HasTable-removal before r after fl sl list at next linked rewrites c.take.ensures.heads bits),
+      Rewrites-counted_last n o counts.start counts.bytes (Rewrites-amid_class before r after fl sl list at rewrites),
+    )
+
+pub returns-in_default-clause-step : goal.returns-in_default-clause-step
+returns-in_default-clause-step g c r before after place at list =
+    let sllen = g.row.SLLEN in
+    let fl = c.args.class.0 in
+    let sl = c.args.class.1 in
+    let head = head_at c.args.table.now fl sl in
+    let (linked, rewrites) = c.in_default.ensures.step head r (of_class sllen fl sl before) (of_class sllen fl sl after) place (IsFreeList-amid before r after fl sl list at) in
+    (HasTable-removal_behind before r after fl sl list at head linked rewrites refl, Rewrites-amid_class before r after fl sl list at rewrites)

@@ -1,0 +1,26 @@
+-- The scans of the bitmaps find the least class.
+use Rattle.std.proofs.Common.{arith, sym, subst}
+use Rattle.rlsf_table.specs.Table.{HasBits}
+use Rattle.rlsf_table.proofs.Tables.RowLengths.{row_length-bounds}
+use Rattle.rlsf_table.proofs.Tables.Search.{IsLeastFrom-own_row, IsLeastFrom-none, IsLeastFrom-row_behind, scanned_places-whole_row}
+use Rattle.rlsf_table.proofs.table.ClassTable.first_from.Goals as goal
+
+pub returns-then-place-scanned_places-clause-first : goal.returns-then-place-scanned_places-clause-first
+returns-then-place-scanned_places-clause-first g c free bits blocks =
+    let some = row_length-bounds g.row.SLLEN c.requires.parameters.power_of_two in
+    let inside = subst (λ t. HasBits g.row.FLLEN g.row.SLLEN t free) (sym c.self.view_is) bits in
+    IsLeastFrom-own_row some.0 inside blocks c.requires.class.0 c.first_place-place.ensures (omega (arith, c.scanned_places.ensures, c.if-place-scanned_places.true))
+
+pub returns-then-row-clause-first : goal.returns-then-row-clause-first
+returns-then-row-clause-first g c free bits blocks =
+    let some = row_length-bounds g.row.SLLEN c.requires.parameters.power_of_two in
+    let inside = subst (λ t. HasBits g.row.FLLEN g.row.SLLEN t free) (sym c.self.view_is) bits in
+    IsLeastFrom-none some.0 inside blocks c.requires.class.0 c.first_place-place.ensures (scanned_places-whole_row g.row.SLLEN some.1) (omega (arith, c.scanned_places.ensures, c.if-place-scanned_places.false)) c.bit_scan_forward-row.ensures c.if-row.true
+
+pub returns-clause-first : goal.returns-clause-first
+returns-clause-first g c free bits blocks =
+    let some = row_length-bounds g.row.SLLEN c.requires.parameters.power_of_two in
+    let inside = subst (λ t. HasBits g.row.FLLEN g.row.SLLEN t free) (sym c.self.view_is) bits in
+    let laws = g.met.FLBitmap.BinInteger g.world.𝓛 g.world.𝓜 g.world.𝓡 ((λ s x. x), (λ x. x), (λ x. x), λ x. x) in
+    IsLeastFrom-row_behind some.0 inside blocks c.requires.class.0 c.first_place-place.ensures (scanned_places-whole_row g.row.SLLEN some.1) (omega (arith, c.scanned_places.ensures, c.if-place-scanned_places.false)) c.bit_scan_forward-row.ensures
+    c.if-row.false (omega (arith, c.requires.parameters.rows_fit, laws.bits_is_width)) c.first_place-place-2.ensures

@@ -1,0 +1,5 @@
+pub mod Counts
+pub mod FreeList
+pub mod FreeTable
+pub mod Steps
+pub mod Table

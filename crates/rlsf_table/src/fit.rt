@@ -1,0 +1,40 @@
+//! The search for a free block of the first class that reaches a size.
+
+ghost use Rattle.std.specs.Prelude.{◌≡◌, ℕ, List, MatchOption, Some, None};
+ghost use Rattle.rlsf_base.specs.declared.memory.range.Range.{Range};
+ghost use Rattle.rlsf_base.specs.SizeClass.{IsValid};
+ghost use Rattle.rlsf_base.specs.Sizes.{IsSize};
+ghost use Rattle.rlsf_machine.specs.Allocate.{choice};
+ghost use Rattle.rlsf_table.specs.Counts.{Counts};
+ghost use Rattle.rlsf_table.specs.FreeTable.{IsFreeTable};
+ghost use Rattle.rlsf_table.specs.Table.{IsClassAt};
+
+use crate::table::ClassTable;
+use rlsf_base::classes::map_ceil;
+use rlsf_base::memory::Memory;
+use rlsf_int::BinInteger;
+
+/// The address of the newest of the free blocks of the first class that reaches a size, in bytes, and the two indices of that
+/// class; `None` exactly where no block's class reaches it. At most 4 touches.
+///
+/// The size is a multiple of 32 that is not 0; table and memory are those of some free blocks.
+pub fn first_fit<
+    FLBitmap: BinInteger,
+    SLBitmap: BinInteger,
+    const FLLEN: usize,
+    const SLLEN: usize,
+>(
+    memory: &mut Memory,
+    table: &ClassTable<FLBitmap, SLBitmap, FLLEN, SLLEN>,
+    size: usize,
+) -> Option<(usize, (usize, usize))>
+    requires parameters { IsValid FLBitmap.width SLBitmap.width FLLEN SLLEN }
+    requires size { IsSize size }
+    requires list { (free : List Range) × IsFreeTable FLLEN SLLEN memory.old table.now free }
+    ensures choice { (free : List Range) → IsFreeTable FLLEN SLLEN memory.old table.now free → MatchOption result (choice SLLEN size free ≡ None) (λ found. (f : Range) × (choice SLLEN size free ≡ Some f) × (f.start ≡ found.0) × IsClassAt FLLEN SLLEN f.len found.1.0 found.1.1) }
+    ensures counts { Counts memory.old memory.new 4 }
+{
+    let (fl, sl) = map_ceil::<FLBitmap, SLBitmap, FLLEN, SLLEN>(size)?;
+    let (row, place) = table.first_from(memory, fl, sl)?;
+    Some((table.head(memory, row, place), (row, place)))
+}

@@ -1,0 +1,135 @@
+//! The lists of free blocks of one class, newest first, through the words at +16 and +24 of each.
+
+ghost use Rattle.std.specs.Prelude.{◌≡◌, ℕ, ◌+◌, ◌≤◌, List, ◌∷◌, ◌++◌, unwrap_or};
+ghost use Rattle.rlsf_base.specs.declared.memory.range.Range.{Range};
+ghost use Rattle.rlsf_base.specs.SizeClass.{IsValid};
+ghost use Rattle.rlsf_machine.specs.Lists.{IsIn};
+ghost use Rattle.rlsf_machine.specs.WellFormed.{coverage, itself};
+ghost use Rattle.rlsf_table.specs.FreeList.{Links, IsLink, IsPlaced, Rewrites};
+ghost use Rattle.rlsf_table.specs.Steps.ClassList.{unlinking_touches, IsFreeList};
+ghost use Rattle.rlsf_table.specs.FreeTable.{IsFreeTable, IsRoom};
+ghost use Rattle.rlsf_table.specs.Table.{HasTable, IsClassAt};
+
+use crate::table::ClassTable;
+use rlsf_base::classes::map_floor;
+use rlsf_base::memory::Memory;
+use rlsf_int::BinInteger;
+
+/// Links the block at `block` in front of the blocks from `newest` on.
+fn link_front(memory: &mut Memory, newest: usize, block: usize)
+    requires { (r : Range) × (free : List Range) × (r.start ≡ block) × IsFreeList memory.old newest free × IsPlaced memory.old r × ((a : ℕ) → coverage itself (r ∷ free) a ≤ 1) }
+    ensures step { (r : Range) (free : List Range) → r.start ≡ block → IsFreeList memory.old newest free → IsPlaced memory.old r → ((a : ℕ) → coverage itself (r ∷ free) a ≤ 1)
+        → Links memory.new 0 (r ∷ free) block × Rewrites memory.old memory.new (IsLink (r ∷ free)) }
+    ensures touches { memory.new.touches ≤ memory.old.touches + 3 }
+    ensures copied { memory.new.copied ≡ memory.old.copied }
+{
+    memory.set_word(block + 16, newest as u64);
+    memory.set_word(block + 24, 0);
+    if newest != 0 {
+        memory.set_word(newest + 24, block as u64);
+    }
+}
+
+/// Takes the block at `block` out from between the two that its links name. If none is before it, answers the one
+/// behind it, which is the newest then, or 0.
+fn unlink_between(memory: &mut Memory, block: usize) -> Option<usize>
+    requires { (r : Range) × (free : List Range) × (newest : ℕ) × (r.start ≡ block) × IsIn r free × IsFreeList memory.old newest free }
+    ensures step { (newest : ℕ) (r : Range) (before after : List Range) → r.start ≡ block → IsFreeList memory.old newest (before ++ r ∷ after)
+        → Links memory.new 0 (before ++ after) (unwrap_or result newest) × Rewrites memory.old memory.new (IsLink (before ++ r ∷ after)) }
+    ensures touches { memory.new.touches ≤ memory.old.touches + unlinking_touches result }
+    ensures copied { memory.new.copied ≡ memory.old.copied }
+{
+    let next = memory.load(block + 16) as usize;
+    let previous = memory.load(block + 24) as usize;
+    if next != 0 {
+        memory.set_word(next + 24, previous as u64);
+    }
+    if previous == 0 {
+        Some(next)
+    } else {
+        memory.set_word(previous + 16, next as u64);
+        None
+    }
+}
+
+/// Puts the block of `len` bytes at the address `block` in front of the list of its class. Writes links of free blocks and the
+/// table alone: the size word of the block is its caller's. At most 9 touches.
+///
+/// Table and memory are those of some free blocks, of valid classes, with their size words, none of which overlap, and the
+/// block can be one beside them.
+pub fn link<FLBitmap: BinInteger, SLBitmap: BinInteger, const FLLEN: usize, const SLLEN: usize>(
+    memory: &mut Memory,
+    table: &mut ClassTable<FLBitmap, SLBitmap, FLLEN, SLLEN>,
+    block: usize,
+    len: usize,
+)
+    requires parameters { IsValid FLBitmap.width SLBitmap.width FLLEN SLLEN }
+    requires room { (r : Range) × (free : List Range) × (r.start ≡ block) × (r.len ≡ len) × IsRoom FLLEN SLLEN memory.old table.old free r }
+    ensures step { (r : Range) (free : List Range) → r.start ≡ block → r.len ≡ len → IsRoom FLLEN SLLEN memory.old table.old free r
+        → HasTable FLLEN SLLEN memory.new table.new (r ∷ free) × Rewrites memory.old memory.new (IsLink (r ∷ free)) }
+    ensures touches { memory.new.touches ≤ memory.old.touches + 9 }
+    ensures copied { memory.new.copied ≡ memory.old.copied }
+{
+    let Some((fl, sl)) = map_floor::<FLBitmap, SLBitmap, FLLEN, SLLEN>(len) else {
+        unreachable!()
+    };
+    let newest = table.head(memory, fl, sl);
+    link_front(memory, newest, block);
+    table.put(memory, fl, sl, block);
+}
+
+/// Takes the block of `len` bytes at the address `block` out of the list of its class, whichever place it has there. Writes links
+/// of free blocks and the table alone. At most 8 touches.
+///
+/// Table and memory are those of some free blocks, of valid classes, with their size words, none of which overlap, and the
+/// block is one of them.
+pub fn unlink<FLBitmap: BinInteger, SLBitmap: BinInteger, const FLLEN: usize, const SLLEN: usize>(
+    memory: &mut Memory,
+    table: &mut ClassTable<FLBitmap, SLBitmap, FLLEN, SLLEN>,
+    block: usize,
+    len: usize,
+)
+    requires parameters { IsValid FLBitmap.width SLBitmap.width FLLEN SLLEN }
+    requires listed { (r : Range) × (free : List Range) × (r.start ≡ block) × (r.len ≡ len) × IsIn r free × IsFreeTable FLLEN SLLEN memory.old table.old free }
+    ensures step { (r : Range) (before after : List Range) → r.start ≡ block → r.len ≡ len → IsFreeTable FLLEN SLLEN memory.old table.old (before ++ r ∷ after)
+        → HasTable FLLEN SLLEN memory.new table.new (before ++ after) × Rewrites memory.old memory.new (IsLink (before ++ r ∷ after)) }
+    ensures touches { memory.new.touches ≤ memory.old.touches + 8 }
+    ensures copied { memory.new.copied ≡ memory.old.copied }
+{
+    let newest = unlink_between(memory, block);
+    if let Some(next) = newest {
+        let Some((fl, sl)) = map_floor::<FLBitmap, SLBitmap, FLLEN, SLLEN>(len) else {
+            unreachable!()
+        };
+        table.take(memory, fl, sl, next);
+    }
+}
+
+/// Takes the block at the address `block` out of the list of its class, whose two indices are known: a row of the table and a place
+/// in it. Writes what `unlink` does, and at most 8 touches as there, but computes no class of a length.
+///
+/// Table and memory are those of some free blocks, of valid classes, with their size words, none of which overlap, the block is
+/// one of them, and the indices are those of the class of its length.
+pub fn unlink_at<
+    FLBitmap: BinInteger,
+    SLBitmap: BinInteger,
+    const FLLEN: usize,
+    const SLLEN: usize,
+>(
+    memory: &mut Memory,
+    table: &mut ClassTable<FLBitmap, SLBitmap, FLLEN, SLLEN>,
+    block: usize,
+    class: (usize, usize),
+)
+    requires parameters { IsValid FLBitmap.width SLBitmap.width FLLEN SLLEN }
+    requires listed { (r : Range) × (free : List Range) × (r.start ≡ block) × IsClassAt FLLEN SLLEN r.len class.0 class.1 × IsIn r free × IsFreeTable FLLEN SLLEN memory.old table.old free }
+    ensures step { (r : Range) (before after : List Range) → r.start ≡ block → IsClassAt FLLEN SLLEN r.len class.0 class.1 → IsFreeTable FLLEN SLLEN memory.old table.old (before ++ r ∷ after)
+        → HasTable FLLEN SLLEN memory.new table.new (before ++ after) × Rewrites memory.old memory.new (IsLink (before ++ r ∷ after)) }
+    ensures touches { memory.new.touches ≤ memory.old.touches + 8 }
+    ensures copied { memory.new.copied ≡ memory.old.copied }
+{
+    let newest = unlink_between(memory, block);
+    if let Some(next) = newest {
+        table.take(memory, class.0, class.1, next);
+    }
+}

@@ -1,0 +1,224 @@
+//! The class table: bitmaps of two levels, and the newest free block of each class.
+
+ghost use Rattle.std.specs.Prelude.{◌≡◌, ℕ, ◌^◌, ◌<◌, ◌≤◌, false, List, [], ◌∷◌, ◌++◌, ◌==◌, if◌then◌else◌, slice_index};
+ghost use Rattle.rlsf_base.specs.declared.memory.range.Range.{Range};
+ghost use Rattle.rlsf_base.specs.SizeClass.{IsValid, class_of};
+ghost use Rattle.rlsf_base.specs.Space.{Space};
+ghost use Rattle.rlsf_int.specs.Bits.{bit, IsFirstOne};
+ghost use Rattle.rlsf_machine.specs.Lists.{IsIn};
+ghost use Rattle.rlsf_machine.specs.WellFormed.{IsFree};
+ghost use Rattle.rlsf_table.specs.Counts.{Counts};
+ghost use Rattle.rlsf_table.specs.Steps.Places.{scanned_places};
+ghost use Rattle.rlsf_table.specs.Table.{IsHeadOf, IsHeadSet, IsLeastFrom, class_at, head_at, HasBits, HasTable};
+
+use rlsf_base::memory::Memory;
+use rlsf_int::{BinInteger, BitPattern};
+use std::marker::{Model, PhantomData};
+
+/// Which classes have free blocks, and where the list of each begins.
+///
+/// A class is named by its row, below `FLLEN`, and its place in the row, below `SLLEN`; a block by its address, and 0 means none.
+/// The parameters are valid: from 1 to `FLBitmap`'s bits rows, of a power of two of classes that is at most `SLBitmap`'s bits.
+/// Each read or write of a word of the table counts as a touch of the memory that it is handed; `newest`, `fl_bitmap` and
+/// `sl_bitmap`, which are handed none, count nothing.
+#[derive(Drop)]
+pub struct ClassTable<
+    FLBitmap: BitPattern,
+    SLBitmap: BitPattern,
+    const FLLEN: usize,
+    const SLLEN: usize,
+> {
+    // The rows that have a free block.
+    fl_bitmap: FLBitmap,
+    // The classes of each row that have one.
+    sl_bitmaps: [u128; FLLEN],
+    // The newest free block of each class, or 0.
+    heads: [[usize; SLLEN]; FLLEN],
+    marker: PhantomData<SLBitmap>,
+}
+
+impl<FLBitmap: BitPattern, SLBitmap: BitPattern, const FLLEN: usize, const SLLEN: usize> Model
+    for ClassTable<FLBitmap, SLBitmap, FLLEN, SLLEN> {
+    ghost use Rattle.rlsf_table.specs.Table.{Table, HasPlaces};
+
+    ghost Value = { Table };
+
+    ghost view = { λ t. record { first_level = FLBitmap.pattern t.fl_bitmap; second_level = t.sl_bitmaps; heads = t.heads } };
+
+    // Each row has a head for each class.
+    ghost invariant = { λ t. HasPlaces FLLEN SLLEN t.heads };
+}
+
+impl<FLBitmap: BinInteger, SLBitmap: BinInteger, const FLLEN: usize, const SLLEN: usize> ClassTable<
+    FLBitmap,
+    SLBitmap,
+    FLLEN,
+    SLLEN,
+> {
+    /// A table of no blocks, of any memory.
+    pub fn new() -> Self
+        ensures { (m : Space) → HasTable FLLEN SLLEN m result [] }
+    {
+        ClassTable {
+            fl_bitmap: FLBitmap::ZERO,
+            sl_bitmaps: [0; FLLEN],
+            heads: [[0; SLLEN]; FLLEN],
+            marker: PhantomData,
+        }
+    }
+
+    /// The address of the newest free block of a class, or 0 if none is free. Not counted.
+    ///
+    /// The row is below `FLLEN`, and the place below `SLLEN`.
+    pub fn newest(&self, fl: usize, sl: usize) -> usize
+        requires { (fl < FLLEN) × (sl < SLLEN) }
+        ensures { result ≡ head_at self.now fl sl }
+    {
+        let row = &self.heads[fl];
+        row[sl]
+    }
+
+    /// The first-level bitmap: a row's position has a one exactly where a block of the row is free. Not counted.
+    pub fn fl_bitmap(&self) -> FLBitmap
+        ensures { FLBitmap.pattern result ≡ self.now.first_level }
+    {
+        let ClassTable { fl_bitmap, .. } = self;
+        *fl_bitmap
+    }
+
+    /// The second-level bitmap of a row: a place's position has a one exactly where a block of that class is free. Not counted.
+    ///
+    /// The row is below `FLLEN`.
+    pub fn sl_bitmap(&self, fl: usize) -> SLBitmap
+        requires parameters { IsValid FLBitmap.width SLBitmap.width FLLEN SLLEN }
+        requires row { fl < FLLEN }
+        ensures within { (sl : ℕ) → sl < SLLEN → bit (SLBitmap.pattern result) sl ≡ bit (slice_index self.now.second_level fl) sl }
+        ensures past { (sl : ℕ) → SLLEN ≤ sl → bit (SLBitmap.pattern result) sl ≡ false }
+    {
+        let mut places = SLBitmap::ZERO;
+        for place in 0..SLLEN as u32 {
+            if self.sl_bitmaps[fl].get_bit(place) {
+                places.set_bit(place);
+            }
+        }
+        places
+    }
+
+    /// The address of the newest free block of a class, or 0 if none is free. One touch.
+    ///
+    /// The row is below `FLLEN`, and the place below `SLLEN`.
+    pub fn head(&self, memory: &mut Memory, fl: usize, sl: usize) -> usize
+        requires { (fl < FLLEN) × (sl < SLLEN) }
+        ensures value { result ≡ head_at self.now fl sl }
+        ensures counts { Counts memory.old memory.new 1 }
+    {
+        memory.touch();
+        self.newest(fl, sl)
+    }
+
+    /// Makes the block at the address `block` the newest one of a class, which has a free block then. Five touches.
+    ///
+    /// The row is below `FLLEN`, and the place below `SLLEN`.
+    pub fn put(&mut self, memory: &mut Memory, fl: usize, sl: usize, block: usize)
+        requires parameters { IsValid FLBitmap.width SLBitmap.width FLLEN SLLEN }
+        requires class { (fl < FLLEN) × (sl < SLLEN) }
+        ensures heads { IsHeadSet FLLEN SLLEN self.old self.new fl sl block }
+        ensures bits { (r : Range) (free : List Range) → class_of SLLEN r.len ≡ class_at fl sl → HasBits FLLEN SLLEN self.old free → HasBits FLLEN SLLEN self.new (r ∷ free) }
+        ensures counts { Counts memory.old memory.new 5 }
+    {
+        memory.touch();
+        self.heads[fl][sl] = block;
+        memory.touch();
+        memory.touch();
+        self.sl_bitmaps[fl] |= one_at::<SLLEN>(sl);
+        memory.touch();
+        memory.touch();
+        self.fl_bitmap.set_bit(fl as u32);
+    }
+
+    /// Makes the block at the address `next` the newest one of a class whose newest one was taken out; 0 if no block of the class
+    /// is left. One touch, and at most six where none is left.
+    ///
+    /// The row is below `FLLEN`, and the place below `SLLEN`.
+    pub fn take(&mut self, memory: &mut Memory, fl: usize, sl: usize, next: usize)
+        requires parameters { IsValid FLBitmap.width SLBitmap.width FLLEN SLLEN }
+        requires class { (fl < FLLEN) × (sl < SLLEN) }
+        ensures heads { IsHeadSet FLLEN SLLEN self.old self.new fl sl next }
+        ensures bits { (r : Range) (before after : List Range) → class_of SLLEN r.len ≡ class_at fl sl
+            → IsHeadOf SLLEN fl sl next (before ++ after) → HasBits FLLEN SLLEN self.old (before ++ r ∷ after) → HasBits FLLEN SLLEN self.new (before ++ after) }
+        ensures counts { Counts memory.old memory.new (if next == 0 then 6 else 1) }
+    {
+        memory.touch();
+        self.heads[fl][sl] = next;
+        if next == 0 {
+            memory.touch();
+            memory.touch();
+            self.sl_bitmaps[fl] &= !one_at::<SLLEN>(sl);
+            memory.touch();
+            if self.sl_bitmaps[fl] == 0 {
+                memory.touch();
+                memory.touch();
+                self.fl_bitmap.clear_bit(fl as u32);
+            }
+        }
+    }
+
+    /// The first class from a row and place on that has a free block, by its row and place; `None` exactly if none has. At most
+    /// three touches.
+    ///
+    /// The row is below `FLLEN`, and the place below `SLLEN`.
+    pub fn first_from(&self, memory: &mut Memory, fl: usize, sl: usize) -> Option<(usize, usize)>
+        requires parameters { IsValid FLBitmap.width SLBitmap.width FLLEN SLLEN }
+        requires class { (fl < FLLEN) × (sl < SLLEN) }
+        ensures first { (free : List Range) → HasBits FLLEN SLLEN self.now free → ((f : Range) → IsIn f free → IsFree FLLEN SLLEN f) → IsLeastFrom FLLEN SLLEN fl sl free result }
+        ensures counts { Counts memory.old memory.new 3 }
+    {
+        memory.touch();
+        let place = first_place::<SLLEN>(self.sl_bitmaps[fl], sl as u32);
+        if place < scanned_places::<SLLEN>() {
+            return Some((fl, place as usize));
+        }
+        memory.touch();
+        let row = self.fl_bitmap.bit_scan_forward(fl as u32 + 1) as usize;
+        if row >= FLLEN {
+            return None;
+        }
+        memory.touch();
+        let place = first_place::<SLLEN>(self.sl_bitmaps[row], 0);
+        Some((row, place as usize))
+    }
+}
+
+// A row's word has 128 places. Where a row has 64 classes or fewer, the functions below work on its low half alone, which
+// takes the machine fewer steps.
+
+/// The word that has a one at a place of a row, and no other.
+fn one_at<const SLLEN: usize>(place: usize) -> u128
+    requires { (place < SLLEN) × (SLLEN ≤ 128) }
+    ensures { result ≡ 2 ^ place }
+{
+    if SLLEN <= 64 {
+        (1u64 << place) as u128
+    } else {
+        1 << place
+    }
+}
+
+/// How many places of a row are scanned.
+fn scanned_places<const SLLEN: usize>() -> u32
+    ensures { result ≡ scanned_places SLLEN }
+{
+    if SLLEN <= 64 { u64::BITS } else { u128::BITS }
+}
+
+/// The least scanned place from `start` on that has a one, or the number of scanned places where there is none.
+fn first_place<const SLLEN: usize>(places: u128, start: u32) -> u32
+    ensures { IsFirstOne (scanned_places SLLEN) places start result }
+{
+    if SLLEN <= 64 {
+        let low = (places & u64::MAX as u128) as u64;
+        low.bit_scan_forward(start)
+    } else {
+        places.bit_scan_forward(start)
+    }
+}

@@ -1,0 +1,41 @@
+use Rattle.std.proofs.Common.{ℕ, Option, arith, sym, subst}
+use Rattle.std.specs.Int.NonZero.{non_zero_usize_get}
+use Rattle.std.specs.Option.{option_map}
+use Rattle.rlsf_base.specs.Space.{range_of}
+use Rattle.rlsf_machine.specs.Insert.{Inserts, IsFresh}
+use Rattle.rlsf_machine.specs.State.{State}
+use Rattle.rlsf_tlsf.specs.Spare.{KeepsSpare}
+use Rattle.rlsf_tlsf.specs.StandsFor.{contents, Contents, StandsFor}
+use Rattle.rlsf_tlsf.proofs.tlsf.Tlsf.insert_free_block.Goals as goal
+
+pub insert-requires-send-FLBitmap : goal.insert-requires-send-FLBitmap
+insert-requires-send-FLBitmap g c κs within = c.type_bounds.send-FLBitmap
+
+pub insert-requires-send-SLBitmap : goal.insert-requires-send-SLBitmap
+insert-requires-send-SLBitmap g c κs within = c.type_bounds.send-SLBitmap
+
+pub insert-requires-sync-FLBitmap : goal.insert-requires-sync-FLBitmap
+insert-requires-sync-FLBitmap g c κs within = c.type_bounds.sync-FLBitmap
+
+pub insert-requires-sync-SLBitmap : goal.insert-requires-sync-SLBitmap
+insert-requires-sync-SLBitmap g c κs within = c.type_bounds.sync-SLBitmap
+
+pub insert-requires-after_bounds : goal.insert-requires-after_bounds
+insert-requires-after_bounds g c κs within =
+    let (s, v, fresh) = subst (λ (old : Contents). (s : State) × StandsFor g.row.FLLEN g.row.SLLEN old s × IsFresh (range_of old.memory) s c.args.range) (sym c.self.view_is) c.requires in
+    (omega arith, (c.self.invariant.valid, (s, v, fresh)))
+
+pub invariant_of-self : goal.invariant_of-self
+invariant_of-self g c =
+    let (s, v, fresh) = subst (λ (old : Contents). (s : State) × StandsFor g.row.FLLEN g.row.SLLEN old s × IsFresh (range_of old.memory) s c.args.range) (sym c.self.view_is) c.requires in
+    let (t, step, stands, spare) = c.insert.ensures.step s v fresh in
+    record { valid = c.self.invariant.valid; stands = (t, stands) }
+
+pub returns-clause-step : goal.returns-clause-step
+returns-clause-step g c =
+    subst (λ (old : Contents). (s : State) → StandsFor g.row.FLLEN g.row.SLLEN old s → IsFresh (range_of old.memory) s c.args.range
+    → (reply : Option ℕ) × (t : State) × Inserts g.row.FLLEN s c.args.range reply t
+    × StandsFor g.row.FLLEN g.row.SLLEN (contents c.insert.new.memory c.insert.new.table) t × KeepsSpare old.memory s c.insert.new.memory t)
+    c.self.view_is (λ s v fresh.
+    let (t, step, stands, spare) = c.insert.ensures.step s v fresh in
+    (option_map non_zero_usize_get c.insert.result, t, step, stands, spare))

@@ -1,0 +1,24 @@
+-- A used block can begin where the free block before it does.
+use Rattle.std.specs.Prelude.{◌≡◌, ℕ, ◌+◌, ◌≤◌, Some, find}
+use Rattle.rlsf_base.specs.declared.memory.range.Range.{Range}
+use Rattle.rlsf_base.specs.Range.{end_of}
+use Rattle.rlsf_machine.specs.Join.{ends_at, starts_at, end_or}
+use Rattle.rlsf_machine.specs.Lists.{IsIn, without}
+use Rattle.rlsf_machine.specs.Payload.{block_length, payload_of}
+use Rattle.rlsf_machine.specs.State.{State, Used}
+
+-- a used block of the state goes from `block` to `end`, and its payload has that alignment
+pub record IsBlock (s : State) (u : Used) (block end align : ℕ) : Type 0 where
+  pub is_used : IsIn u s.used
+  pub start : u.block.start ≡ block
+  pub end_is : end_of u.block ≡ end
+  pub alignment : u.align ≡ align
+
+-- a free range is before the used block, and with the block and a free range behind it they are long enough for a block of
+-- `taken` bytes, whose payload of `size` bytes lies at `payload`
+pub record FitsBefore (s : State) (u : Used) (size payload taken : ℕ) : Type 0 where
+  pub previous : Range
+  pub found : find (ends_at u.block.start) s.free ≡ Some previous
+  pub placed : payload ≡ payload_of previous.start u.align
+  pub long : taken ≡ block_length previous.start payload size
+  pub fits : previous.start + taken ≤ end_or (end_of u.block) (find (starts_at (end_of u.block)) (without (ends_at u.block.start) s.free))
