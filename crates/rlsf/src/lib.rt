@@ -4,11 +4,11 @@
 #![tactic(auto)]
 
 pub use rlsf_base::memory::{Addr, Layout, LayoutError, Memory, MemoryError, Range};
-pub use rlsf_tlsf::{GRANULARITY, Tlsf, laws};
+pub use rlsf_tlsf::{BlockInfo, Blocks, GRANULARITY, Tlsf, laws};
 
 /// The integers that serve as bitmaps.
 pub mod int {
-    pub use rlsf_int::{BinInteger, BitPattern};
+    pub use rlsf_int::{BinInteger, BitPattern, Bitmap};
 }
 
 #[cfg(test)]

@@ -15,12 +15,12 @@ ghost use Rattle.rlsf_base.specs.Sizes as sizes;
 mod tests;
 
 use crate::memory::Layout;
-use rlsf_int::BinInteger;
+use rlsf_int::BitPattern;
 
 /// The class of a block of `size` bytes. `None` exactly where it lies past the last row.
 pub fn map_floor<
-    FLBitmap: BinInteger,
-    SLBitmap: BinInteger,
+    FLBitmap: BitPattern,
+    SLBitmap: BitPattern,
     const FLLEN: usize,
     const SLLEN: usize,
 >(size: usize) -> Option<(usize, usize)>
@@ -33,7 +33,7 @@ pub fn map_floor<
 
 /// The first class that reaches `size`: each of its blocks is at least that long. `None` exactly where it lies past the
 /// last row. From 60 rows on it can be the first class of the row that begins at `2^64`, which no block has.
-pub fn map_ceil<FLBitmap: BinInteger, SLBitmap: BinInteger, const FLLEN: usize, const SLLEN: usize>(
+pub fn map_ceil<FLBitmap: BitPattern, SLBitmap: BitPattern, const FLLEN: usize, const SLLEN: usize>(
     size: usize,
 ) -> Option<(usize, usize)>
     requires parameters { IsValid FLBitmap.width SLBitmap.width FLLEN SLLEN }
@@ -46,8 +46,8 @@ pub fn map_ceil<FLBitmap: BinInteger, SLBitmap: BinInteger, const FLLEN: usize, 
 /// The least size of the first class that reaches `size`. `None` exactly where `map_ceil` gives `None` or a class whose
 /// sizes are past a `usize`.
 pub fn map_ceil_and_unmap<
-    FLBitmap: BinInteger,
-    SLBitmap: BinInteger,
+    FLBitmap: BitPattern,
+    SLBitmap: BitPattern,
     const FLLEN: usize,
     const SLLEN: usize,
 >(size: usize) -> Option<usize>
@@ -65,8 +65,8 @@ pub fn map_ceil_and_unmap<
 /// The length of the longest chunk, whose one block, 32 bytes shorter, has a class. `None` exactly where each size of a
 /// `usize` has one.
 pub fn max_pool_size<
-    FLBitmap: BinInteger,
-    SLBitmap: BinInteger,
+    FLBitmap: BitPattern,
+    SLBitmap: BitPattern,
     const FLLEN: usize,
     const SLLEN: usize,
 >() -> Option<usize>
@@ -91,8 +91,8 @@ pub fn request_size(layout: Layout) -> usize
 /// The least length of a chunk whose block has a class that reaches what is sought for a layout. `None` exactly where
 /// no chunk has.
 pub fn pool_size_to_contain_allocation<
-    FLBitmap: BinInteger,
-    SLBitmap: BinInteger,
+    FLBitmap: BitPattern,
+    SLBitmap: BitPattern,
     const FLLEN: usize,
     const SLLEN: usize,
 >(layout: Layout) -> Option<usize>

@@ -14,7 +14,7 @@ use Rattle.rlsf_machine.specs.Run.{allocate, deallocate, reallocate}
 use Rattle.rlsf_machine.specs.State.{State, IsLive}
 use Rattle.rlsf_machine.proofs.Determined.{refusal_changes_nothing}
 use Rattle.rlsf_machine.proofs.Live.{handed_out_is_new, live_stays, reallocated_is_live}
-use Rattle.rlsf_tlsf.specs.StandsFor.{Contents, StandsFor}
+use Rattle.rlsf_blocks.specs.StandsFor.{Contents, StandsFor}
 use Rattle.rlsf_bench.specs.declared.tally.Tally.{Tally}
 use Rattle.rlsf_bench.specs.Runs.{Changes, Does, RunState, beginning, counted, nothing, size_of, slot_of, with_slot}
 use Rattle.rlsf_bench.specs.Slots.{IsAt, LeadsOn, held}

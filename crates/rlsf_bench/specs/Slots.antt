@@ -1,7 +1,7 @@
 -- What the slots of a run hold.
 use Rattle.std.specs.Prelude.{◌≡◌, ℕ, zero, suc, Bool, List, Option, Some, None, slice_index_or}
 use Rattle.rlsf_machine.specs.State.{IsLive}
-use Rattle.rlsf_tlsf.specs.StandsFor.{Contents, StandsFor}
+use Rattle.rlsf_blocks.specs.StandsFor.{Contents, StandsFor}
 use Rattle.rlsf_bench.specs.declared.tally.Tally.{Tally}
 use Rattle.rlsf_bench.specs.Runs.{RunState, Does}
 

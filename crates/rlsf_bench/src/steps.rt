@@ -5,7 +5,7 @@ ghost use Rattle.std.specs.Int.NonZero.{non_zero_usize_get};
 ghost use Rattle.std.specs.Option.{option_map};
 ghost use Rattle.rlsf_base.specs.Range.{LiesIn};
 ghost use Rattle.rlsf_machine.specs.State.{empty};
-ghost use Rattle.rlsf_tlsf.specs.StandsFor.{StandsFor};
+ghost use Rattle.rlsf_blocks.specs.StandsFor.{StandsFor};
 ghost use Rattle.rlsf_bench.specs.Runs.{slot_of, size_of, RunState, IsBench};
 ghost use Rattle.rlsf_bench.specs.Slots.{IsAt, LeadsOn, held};
 
@@ -14,7 +14,7 @@ use crate::error::BenchError;
 use crate::random::Xorshift;
 use crate::tally::Tally;
 use rlsf_base::memory::{Addr, Layout, Memory, Range};
-use rlsf_int::BinInteger;
+use rlsf_int::Bitmap;
 use rlsf_tlsf::Tlsf;
 use std::alloc::Global;
 use std::num::NonZeroUsize;
@@ -62,7 +62,7 @@ fn slot_with(placed: Option<Addr>) -> usize
 }
 
 /// Frees the payload of the slot that a drawn number names, or reallocates it; a slot without a payload gets one.
-fn step<FLBitmap: BinInteger, SLBitmap: BinInteger, const FLLEN: usize, const SLLEN: usize>(
+fn step<FLBitmap: Bitmap, SLBitmap: Bitmap, const FLLEN: usize, const SLLEN: usize>(
     tlsf: &mut Tlsf<FLBitmap, SLBitmap, FLLEN, SLLEN>,
     slots: &mut [usize],
     tally: &mut Tally,
@@ -94,12 +94,7 @@ fn step<FLBitmap: BinInteger, SLBitmap: BinInteger, const FLLEN: usize, const SL
 
 /// Does so many steps on so many slots, with an allocator that has no chunk: the pool, which lies in its memory, is inserted
 /// first. Answers what came of the allocations and reallocations.
-pub(crate) fn run<
-    FLBitmap: BinInteger,
-    SLBitmap: BinInteger,
-    const FLLEN: usize,
-    const SLLEN: usize,
->(
+pub(crate) fn run<FLBitmap: Bitmap, SLBitmap: Bitmap, const FLLEN: usize, const SLLEN: usize>(
     alloc: Global,
     mut tlsf: Tlsf<FLBitmap, SLBitmap, FLLEN, SLLEN>,
     pool: Range,

@@ -28,11 +28,33 @@ pub trait BitPattern: Copy + Sealed {
     ghost one_to_one: { IsOneToOne (IsValue Self.row) width pattern };
 }
 
+/// What the allocator asks of its bitmaps, in the words of sets of positions.
+///
+/// `BinInteger` has all of it under the original's names. It is apart from that for the functions that are generic over
+/// bitmaps, whose proofs carry every parent of the trait that bounds them.
+pub trait Bitmap: BitPattern {
+    /// The value without a one.
+    fn empty() -> Self
+        ensures { Self.pattern result ≡ 0 };
+
+    /// Puts a one at the position. Past the last one nothing changes.
+    fn insert(&mut self, i: u32)
+        ensures { (j : ℕ) → bit (Self.pattern self.new) j ≡ (bit (Self.pattern self.old) j || (nat_eq j i && nat_lt i Self.width)) };
+
+    /// Takes the one at the position away, if there is one. Past the last one nothing changes.
+    fn remove(&mut self, i: u32)
+        ensures { (j : ℕ) → bit (Self.pattern self.new) j ≡ (bit (Self.pattern self.old) j && not (nat_eq j i && nat_lt i Self.width)) };
+
+    /// The least position of a one that isn't below `start`, or the number of positions where there is none.
+    fn first_from(&self, start: u32) -> u32
+        ensures { IsFirstOne Self.width (Self.pattern self.now) start result };
+}
+
 /// Integral types with efficient binary operations.
 ///
 /// A position is that of a binary digit, from 0 for the lowest on. A range of positions has its
 /// start and not its end.
-pub trait BinInteger: BitPattern
+pub trait BinInteger: Bitmap
     + Clone
     + Copy
     + PartialEq

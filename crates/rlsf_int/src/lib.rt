@@ -7,4 +7,4 @@ mod private;
 #[cfg(test)]
 mod tests;
 
-pub use int::{BinInteger, BitPattern};
+pub use int::{BinInteger, BitPattern, Bitmap};

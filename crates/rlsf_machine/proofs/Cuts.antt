@@ -2,7 +2,7 @@
 use mathlib.Core.Path.{ap₂}
 use Rattle.std.proofs.Common.{◌≡◌, ℕ, zero, suc, ◌+◌, ◌-◌, ◌*◌, ◌/◌, ◌%◌, ◌^◌, ◌<◌, ◌≤◌, ◌⊎◌, cond, List, [], ◌∷◌, ◌++◌, Option, Some, None, arith, refl, sym, ap, subst, inl, inr, min, ◌∙◌}
 use Rattle.std.proofs.lemmas.Bool.{cases_lt, lt-ltb, le-ltb, le-leb, lt-leb}
-use Rattle.std.proofs.lemmas.Nat.{div_below, le-div, mod_below, div-add-mod', pow-add}
+use Rattle.std.proofs.lemmas.Nat.{div_below, le-div, mod_below, div-add-mod', pow_pos, pow-add}
 use Rattle.std.proofs.Math.Nat.{div-mul-le_self}
 use Rattle.std.proofs.Math.Pow.{pow_mono}
 use Rattle.rlsf_base.specs.declared.memory.range.Range.{Range}
@@ -114,6 +114,36 @@ module _ (part : Range) (part_whole : IsWhole part) where
         subst (IsPiece (2 ^ (5 + fllen)) part) (sym is) (record { whole = part_whole; from = omega arith; to = omega arith; room = room; short = omega arith })
   ]
 
+-- ---- chunks of any range
+
+-- a range that isn't empty lies in another one
+abbrev LiesWithin : ℕ → ℕ → Range → Type 0
+LiesWithin low high c = (low ≤ c.start) × (end_of c ≤ high) × (0 < c.len)
+
+IsIn-adjacent_within : (n at len : ℕ) → 0 < len → (c : Range) → IsIn c (adjacent at len n) → LiesWithin at (at + n * len) c
+IsIn-adjacent_within zero at len some c h = absurd h
+IsIn-adjacent_within (suc n) at len some c (inl same) = subst (LiesWithin at (at + suc n * len)) (sym same) (omega arith, omega arith, some)
+IsIn-adjacent_within (suc n) at len some c (inr h) = let (from, to, is_some) = IsIn-adjacent_within n (at + len) len some c h in (omega arith, omega arith, is_some)
+
+IsIn-remainder_within : (at len : ℕ) (c : Range) → IsIn c (remainder at len) → LiesWithin at (at + len) c
+IsIn-remainder_within at len c h = let (is, room) = IsIn-remainder at len c h in subst (LiesWithin at (at + len)) (sym is) (omega arith, omega arith, omega arith)
+
+IsIn-cut_most_within : (most : ℕ) → 0 < most → (part c : Range) → IsIn c (cut (Some most) part) → LiesWithin part.start (end_of part) c
+IsIn-cut_most_within most some part c h =
+    let n = part.len / most in
+    let fits : n * most ≤ part.len = div-mul-le_self part.len most in
+    elim (IsIn-append c (adjacent part.start most n) (remainder (part.start + n * most) (part.len - n * most)) h) [
+      | inl i ↦ let (from, to, is_some) = IsIn-adjacent_within n part.start most some c i in (from, omega arith, is_some)
+      | inr j ↦ let (from, to, is_some) = IsIn-remainder_within (part.start + n * most) (part.len - n * most) c j in (omega arith, omega arith, is_some)
+    ]
+
+-- the chunks that a part is cut into lie in it
+pub IsIn-cut_within : (fllen : ℕ) (part c : Range) → IsIn c (cut (max_pool_size fllen) part) → LiesWithin part.start (end_of part) c
+IsIn-cut_within fllen part c h = elim (max_pool-cases fllen) [
+  | inl is ↦ IsIn-cut_most_within (2 ^ (5 + fllen)) (pow_pos (5 + fllen)) part c (subst (λ o. IsIn c (cut o part)) is h)
+  | inr (none, large) ↦ IsIn-remainder_within part.start part.len c (subst (λ o. IsIn c (cut o part)) none h)
+]
+
 -- a chunk is its free range and its last 32 bytes
 pub covers-body : (c : Range) (a : ℕ) → 64 ≤ c.len → covers c a ≡ covers (body c) a + covers (last_bytes c) a
 covers-body c a room = covers-split c.start (end_of c - 32) (end_of c) a (omega arith) (omega arith) c (body c) (last_bytes c) refl refl refl (omega arith) refl (omega arith)
@@ -135,10 +165,10 @@ div-more len most some fits =
 div-none : (len most : ℕ) → 0 < most → len < most → len / most ≡ 0
 div-none len most some short = let to : len / most < 1 = div_below len most 1 some (omega arith) in omega arith
 
-remainder-none : (at len : ℕ) → len < 64 → remainder at len ≡ []
+pub remainder-none : (at len : ℕ) → len < 64 → remainder at len ≡ []
 remainder-none at len short = ap (λ b. cond b (range_at at len ∷ []) []) (lt-leb 64 len short)
 
-remainder-one : (at len : ℕ) → 64 ≤ len → remainder at len ≡ range_at at len ∷ []
+pub remainder-one : (at len : ℕ) → 64 ≤ len → remainder at len ≡ range_at at len ∷ []
 remainder-one at len room = ap (λ b. cond b (range_at at len ∷ []) []) (le-leb 64 len room)
 
 module _ (at len most : ℕ) (wide : 64 ≤ most) where

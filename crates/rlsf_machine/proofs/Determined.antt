@@ -22,10 +22,10 @@ alike : {s t : State} → s ≡ t → AreAlike s t
 alike e = record { chunks = ap (λ s. s.chunks) e; used = ap (λ s. map shape_of s.used) e; free = ap (λ s. s.free) e }
 
 -- the other blocks' shapes are the others among the shapes
-abbrev other_shapes : ℕ → List Shape → List Shape
+abbrev pub other_shapes : ℕ → List Shape → List Shape
 other_shapes addr shapes = filter (λ x. not (eqb x.payload addr)) shapes
 
-map-others : (addr : ℕ) (used : List Used) → map shape_of (others addr used) ≡ other_shapes addr (map shape_of used)
+pub map-others : (addr : ℕ) (used : List Used) → map shape_of (others addr used) ≡ other_shapes addr (map shape_of used)
 map-others addr [] = refl
 map-others addr (u ∷ us) = by_test (eqb u.payload addr)
     (λ e. ap (λ b. map shape_of (cond (not b) (u ∷ others addr us) (others addr us))) e ∙ map-others addr us

@@ -172,7 +172,7 @@ module _ (fllen sllen : ℕ) (memory : Range) (s : State) where
         released = record { block = u; holds = (inr h, refl); after = refl };
       }
 
-  planned_step : (u : Used) → IsIn u s.used → (size : ℕ) (o : Option Plan) → ReallocatesBy sllen s u size o (planned_reply sllen s u size o) (planned_after sllen s u size o)
+  pub planned_step : (u : Used) → IsIn u s.used → (size : ℕ) (o : Option Plan) → ReallocatesBy sllen s u size o (planned_reply sllen s u size o) (planned_after sllen s u size o)
   planned_step u h size (Some p) = record { bytes = refilled (end_of p.block - p.payload) u.bytes; answer = refl; length = length-refilled (end_of p.block - p.payload) u.bytes; kept = Keeps-refilled (end_of p.block - p.payload) u.bytes; after = refl }
   planned_step u h size None = move_step u h size (choice sllen (request_size size u.align) s.free) refl
 

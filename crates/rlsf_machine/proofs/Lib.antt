@@ -2,6 +2,7 @@
 pub mod Allocations
 pub mod Appends
 pub mod Changes
+pub mod ChunkRows
 pub mod Chunks
 pub mod Choices
 pub mod Coverage
@@ -17,7 +18,9 @@ pub mod Plans
 pub mod Pools
 pub mod Reallocations
 pub mod Releases
+pub mod Replies
 pub mod Room
 pub mod Rows
+pub mod Similar
 pub mod Steps
 pub mod Tiling

@@ -1,22 +1,21 @@
 -- The laws of live payloads.
-use Rattle.std.proofs.Common.{◌≡◌, ◌≢◌, ◌⊎◌, ℕ, zero, suc, ◌+◌, ◌-◌, ◌*◌, ◌/◌, ◌%◌, ◌<◌, ◌≤◌, cond, eqb, filter, List, [], ◌∷◌, Option, Some, None, find, true≢false, arith, refl, sym, ◌∙◌, ap, subst, inl, inr}
+use Rattle.std.proofs.Common.{◌≡◌, ◌≢◌, ◌⊎◌, ℕ, ◌+◌, ◌-◌, ◌%◌, ◌<◌, ◌≤◌, cond, eqb, filter, List, [], ◌∷◌, Option, Some, None, true≢false, arith, refl, sym, ◌∙◌, ap, subst, inl, inr}
 use Rattle.std.proofs.lemmas.Bool.{eq-eqb, eqb-true, ne_eqb}
 use Rattle.rlsf_base.specs.declared.memory.range.Range.{Range}
 use Rattle.rlsf_base.specs.PowerOfTwo.{IsPowerOfTwo}
 use Rattle.rlsf_base.specs.Range.{end_of}
-use Rattle.rlsf_base.specs.Sizes.{max_pool_size, request_size}
+use Rattle.rlsf_base.specs.Sizes.{request_size}
 use Rattle.rlsf_machine.specs.Allocate.{placed, Places, Allocates}
-use Rattle.rlsf_machine.specs.Insert.{cut, aligned_part, with_chunk, with_chunks, grown_if, extended, appended}
-use Rattle.rlsf_machine.specs.Join.{ends_at}
-use Rattle.rlsf_machine.specs.Laws.{LiveAddressesAreAligned, LiveAddressHasOneBlock, PayloadsAreDisjoint, PayloadLiesInOneChunk, HasSize, AllocationHasSize, ReallocationHasSize, OtherPayloadsStay, HandedOutIsNew, ReallocatedIsLive, LiveStays, ReleasedIsNotLive, FilledHasBytes, FillLeavesOthers, DeallocationLeavesOthers}
+use Rattle.rlsf_machine.specs.Laws.{LiveAddressesAreAligned, LiveAddressHasOneBlock, PayloadsAreDisjoint, PayloadLiesInOneChunk, HasSize, AllocationHasSize, ReallocationHasSize, ReallocationKeepsBytes, OtherPayloadsStay, UsedWasUsed, HandedOutIsNew, ReallocatedIsLive, LiveStays, ReleasedIsNotLive, FilledHasBytes, FillLeavesOthers, DeallocationLeavesOthers}
 use Rattle.rlsf_machine.specs.Lists.{IsIn}
-use Rattle.rlsf_machine.specs.Reallocate.{Plan, plan, moved, ReallocatesBy, Reallocates}
+use Rattle.rlsf_machine.specs.Reallocate.{Keeps, Plan, plan, moved, ReallocatesBy, Reallocates}
 use Rattle.rlsf_machine.specs.Run.{insert, append, allocate, deallocate, reallocate, fill, Names}
 use Rattle.rlsf_machine.specs.State.{State, Used, Holds, IsLive, usable, others}
 use Rattle.rlsf_machine.specs.WellFormed.{covers, coverage, itself, IsUsed, IsWellFormed}
 use Rattle.rlsf_machine.proofs.Allocations.{placed-fits, IsUsed-placed}
 use Rattle.rlsf_machine.proofs.Changes.{Holds-unique, IsIn-others, IsIn-others_from}
 use Rattle.rlsf_machine.proofs.Choices.{choice-some}
+use Rattle.rlsf_machine.proofs.Chunks.{used-inserted, used-appended}
 use Rattle.rlsf_machine.proofs.Coverage.{by_test, inside, before, behind, where_is, covers-inside, covers-le, coverage-IsIn, coverage-unique}
 use Rattle.rlsf_machine.proofs.Plans.{IsSoundPlan, IsSound-plan}
 use Rattle.rlsf_machine.proofs.Payloads.{payload_of-after, IsUsed-aligned, IsUsed-after_start, IsUsed-some}
@@ -143,11 +142,12 @@ handed_out_is_new fllen sllen memory s t size align addr w power step = (
 -- ---- what a reallocation hands out
 
 module _ {fllen sllen : ℕ} {memory : Range} {s : State} (w : IsWellFormed fllen sllen memory s) (u : Used) (h : IsIn u s.used) (size addr : ℕ) (t : State) where
-  -- the block that it leaves: its size, its alignment, and that its address is the old one or new
+  -- the block that it leaves: its alignment, its bytes, its size, and that its address is the old one or new
   record IsMoved : Type 0 where
     block : Used
     holds : Holds t addr block
     same : block.align ≡ u.align
+    kept : Keeps u.bytes block.bytes
     enough : size ≤ (usable block).len
     few : (usable block).len < size + 32
     new : (v : Used) → IsIn v s.used → v.payload ≡ addr → addr ≡ u.payload
@@ -177,6 +177,7 @@ module _ {fllen sllen : ℕ} {memory : Range} {s : State} (w : IsWellFormed flle
         block = v;
         holds = subst (λ x. Holds x addr v) (sym step.after) (inl refl, sym step.answer);
         same = refl;
+        kept = step.kept;
         enough = enough;
         few = few;
         new = λ x i at. step.answer ∙ planned_new p sound x i (at ∙ step.answer);
@@ -189,10 +190,13 @@ module _ {fllen sllen : ℕ} {memory : Range} {s : State} (w : IsWellFormed flle
       let new : (x : Used) → IsIn x s.used → x.payload ≡ addr → ⊥ = new_address w size u.align addr step.meanwhile power placing in
       let after_start = payload_of-after placing.range.start u.align in
       let gone = step.released in
+      let (i, at) = step.holds in
+      let meanwhile_used : (step.block ≡ v) ⊎ IsIn step.block s.used = subst (λ x. IsIn step.block x.used) placing.after i in
       record {
         block = v;
         holds = (subst (λ x. IsIn v x.used) (sym gone.after) (IsIn-others_from gone.block.payload v step.meanwhile.used held.0 (λ at. new u h (sym gone.holds.1 ∙ sym at ∙ held.1))), held.1);
         same = refl;
+        kept = elim meanwhile_used [ inl is ↦ subst (λ x. Keeps u.bytes x.bytes) is step.kept | inr j ↦ absurd (new step.block j at) ];
         enough = omega arith;
         few = omega arith;
         new = λ x i at. absurd (new x i at);
@@ -213,6 +217,15 @@ module _ {fllen sllen : ℕ} {memory : Range} {s : State} (w : IsWellFormed flle
         (λ other (x, (i, at), _). m.new x i at ∙ step.holds.1),
       )
 
+  pub IsMoved-kept : (u : Used) → Holds s addr u → (v : Used) × Holds t to v × (v.align ≡ u.align) × Keeps u.bytes v.bytes × (size ≤ (usable v).len) × ((usable v).len < size + 32)
+  IsMoved-kept u holds =
+      let m = moved_block in
+      let same : step.block ≡ u = Holds-unique w addr step.block u step.holds holds in
+      (m.block, m.holds, m.same ∙ ap (λ x. x.align) same, subst (λ x. Keeps x.bytes m.block.bytes) same m.kept, m.enough, m.few)
+
+pub reallocation_keeps_bytes : ReallocationKeepsBytes
+reallocation_keeps_bytes fllen sllen memory s t addr size to u w holds step = IsMoved-kept w addr size to t step u holds
+
 pub reallocation_has_size : ReallocationHasSize
 reallocation_has_size fllen sllen memory s t addr size None w step = tt
 reallocation_has_size fllen sllen memory s t addr size (Some to) w step = HasSize-moved w addr size to t step
@@ -225,22 +238,6 @@ reallocated_is_live fllen sllen memory s t addr size to align w live step = IsLi
 module _ (u : Used) (s t : State) (i : IsIn u s.used) where
   stays_at : {r : State} → t ≡ r → IsIn u r.used → IsIn u t.used
   stays_at is j = subst (λ x. IsIn u x.used) (sym is) j
-
-  grown_stays : (o : Option Range) (n : ℕ) → IsIn u (grown_if o n s).used
-  grown_stays None n = i
-  grown_stays (Some c) n = i
-
-  extended_stays : (at n : ℕ) → IsIn u (extended at n s).used
-  extended_stays at zero = i
-  extended_stays at (suc n) = grown_stays (find (ends_at at) s.chunks) (suc n)
-
-  with_chunks_stay : (cs : List Range) (r : State) → IsIn u r.used → IsIn u (with_chunks cs r).used
-  with_chunks_stay [] r j = j
-  with_chunks_stay (c ∷ cs) r j = with_chunks_stay cs (with_chunk c r) j
-
-  appended_stays : (o : Option ℕ) (r : Range) → IsIn u (appended o r s).used
-  appended_stays None r = extended_stays r.start (r.len / 32 * 32)
-  appended_stays (Some most) r = with_chunks_stay (cut (Some most) (aligned_part r)) s i
 
   allocate_stays : (sllen size align : ℕ) (reply : Option ℕ) → Allocates sllen s size align reply t → IsIn u t.used
   allocate_stays sllen size align None step = stays_at step.1 i
@@ -259,8 +256,8 @@ module _ (u : Used) (s t : State) (i : IsIn u s.used) where
       stays_at gone.after (IsIn-others_from gone.block.payload u step.meanwhile.used j (λ at. apart (sym holds.1 ∙ sym gone.holds.1 ∙ sym at)))
 
 pub other_payloads_stay : OtherPayloadsStay
-other_payloads_stay fllen sllen s t (insert r reply) u step i apart = stays_at u s t i step.after (with_chunks_stay u s t i (cut (max_pool_size fllen) (aligned_part r)) s i)
-other_payloads_stay fllen sllen s t (append r reply) u step i apart = stays_at u s t i step.after (appended_stays u s t i (max_pool_size fllen) r)
+other_payloads_stay fllen sllen s t (insert r reply) u step i apart = subst (IsIn u) (sym (used-inserted fllen s t r reply step)) i
+other_payloads_stay fllen sllen s t (append r reply) u step i apart = subst (IsIn u) (sym (used-appended fllen s t r reply step)) i
 other_payloads_stay fllen sllen s t (allocate size align reply) u step i apart = allocate_stays u s t i sllen size align reply step
 other_payloads_stay fllen sllen s t (deallocate addr) u step i apart = stays_at u s t i step.after (others_stay u s t i addr step.block step.holds apart)
 other_payloads_stay fllen sllen s t (reallocate addr size reply) u step i apart = reallocate_stays u s t i sllen addr size step.block step.holds apart (plan s step.block size) reply step.step
@@ -272,6 +269,38 @@ live_stays fllen sllen s t e addr align step (u, (i, at), is) apart = (u, (other
 pub released_is_not_live : ReleasedIsNotLive
 released_is_not_live s t addr align step (v, (i, at), is) =
     (IsIn-others step.block.payload v s.used (subst (λ x. IsIn v x.used) step.after i)).1 (at ∙ sym step.holds.1)
+
+-- ---- where used blocks come from
+
+module _ (u : Used) (s t : State) (i : IsIn u t.used) where
+  -- it isn't the first one, whose address is another
+  from_rest : (v : Used) (rest : List Used) → t.used ≡ v ∷ rest → (v.payload ≡ u.payload → ⊥) → IsIn u rest
+  from_rest v rest is other =
+      let j : (u ≡ v) ⊎ IsIn u rest = subst (IsIn u) is i in
+      elim j [ inl same ↦ absurd (other (ap (λ x. x.payload) (sym same))) | inr k ↦ k ]
+
+  allocate_from : (sllen size align : ℕ) (reply : Option ℕ) → (reply ≡ Some u.payload → ⊥) → Allocates sllen s size align reply t → IsIn u s.used
+  allocate_from sllen size align None new step = subst (λ x. IsIn u x.used) step.1 i
+  allocate_from sllen size align (Some addr) new step = from_rest (placed step.range size align step.bytes) s.used (ap (λ x. x.used) step.after) (λ at. new (ap Some (step.answer ∙ at)))
+
+module _ (u : Used) (s t : State) (i : IsIn u t.used) where
+  reallocate_from : (sllen size : ℕ) (v : Used) (o : Option Plan) (reply : Option ℕ) → (reply ≡ Some u.payload → ⊥) → ReallocatesBy sllen s v size o reply t → IsIn u s.used
+  reallocate_from sllen size v (Some p) None new step = absurd step
+  reallocate_from sllen size v (Some p) (Some to) new step =
+      (IsIn-others v.payload u s.used (from_rest u s t i (moved v p step.bytes) (others v.payload s.used) (ap (λ x. x.used) step.after) (λ at. new (ap Some (step.answer ∙ at))))).0
+  reallocate_from sllen size v None None new step = subst (λ x. IsIn u x.used) step.1 i
+  reallocate_from sllen size v None (Some to) new step =
+      let gone = step.released in
+      allocate_from u s step.meanwhile (IsIn-others gone.block.payload u step.meanwhile.used (subst (λ x. IsIn u x.used) gone.after i)).0 sllen size v.align (Some to) new step.allocated
+
+pub used_was_used : UsedWasUsed
+used_was_used fllen sllen s t (insert r reply) u step i other new = subst (IsIn u) (used-inserted fllen s t r reply step) i
+used_was_used fllen sllen s t (append r reply) u step i other new = subst (IsIn u) (used-appended fllen s t r reply step) i
+used_was_used fllen sllen s t (allocate size align reply) u step i other new = allocate_from u s t i sllen size align reply new step
+used_was_used fllen sllen s t (deallocate addr) u step i other new = (IsIn-others step.block.payload u s.used (subst (λ x. IsIn u x.used) step.after i)).0
+used_was_used fllen sllen s t (reallocate addr size reply) u step i other new = reallocate_from u s t i sllen size step.block (plan s step.block size) reply new step.step
+used_was_used fllen sllen s t (fill addr bytes) u step i other new =
+    (IsIn-others addr u s.used (from_rest u s t i _ (others addr s.used) (ap (λ x. x.used) step.after) (λ at. other (sym step.holds.1 ∙ at)))).0
 
 -- ---- what a fill and a deallocation leave
 

@@ -1,11 +1,11 @@
 -- The order of chunks and of used blocks means nothing.
-use Rattle.std.proofs.Common.{◌≡◌, ◌↔◌, ℕ, zero, suc, ◌+◌, ◌-◌, ◌*◌, ◌/◌, Bool, true, false, cond, List, [], ◌∷◌, Option, Some, None, find, true≢false, arith, refl, sym, ◌∙◌, ap, subst, inl, inr}
+use Rattle.std.proofs.Common.{◌≡◌, ◌↔◌, ℕ, zero, suc, ◌+◌, ◌-◌, ◌*◌, ◌/◌, Bool, true, false, cond, not, eqb, filter, List, [], ◌∷◌, Option, Some, None, find, true≢false, arith, refl, sym, ◌∙◌, ap, subst, inl, inr}
 use Rattle.std.proofs.lemmas.Bool.{eqb-true}
 use Rattle.rlsf_base.specs.declared.memory.range.Range.{Range}
 use Rattle.rlsf_base.specs.Range.{end_of, range_at}
 use Rattle.rlsf_base.specs.Sizes.{max_pool_size, request_size}
 use Rattle.rlsf_machine.specs.Allocate.{choice, placed, given, Allocates}
-use Rattle.rlsf_machine.specs.Insert.{cut, aligned_part, body, with_chunk, with_chunks, grown_if, extended, appended}
+use Rattle.rlsf_machine.specs.Insert.{cut, aligned_part, body, with_chunk, with_chunks, grown_if, extended, appended, Inserts, Appends}
 use Rattle.rlsf_machine.specs.Join.{join, ends_at}
 use Rattle.rlsf_machine.specs.Laws.{OrderMeansNothing}
 use Rattle.rlsf_machine.specs.Lists.{IsIn, without}
@@ -15,23 +15,42 @@ use Rattle.rlsf_machine.specs.Run.{insert, append, allocate, deallocate, realloc
 use Rattle.rlsf_machine.specs.State.{State, Used, IsReordered, others}
 use Rattle.rlsf_machine.specs.WellFormed.{covers, itself, IsWellFormed}
 use Rattle.rlsf_machine.proofs.Allocations.{Allocates-keeps}
-use Rattle.rlsf_machine.proofs.Changes.{IsIn-others, IsIn-others_from}
+use Rattle.rlsf_machine.proofs.Chunks.{used-inserted, used-appended}
 use Rattle.rlsf_machine.proofs.Coverage.{by_test, covers-inside, coverage-IsIn, coverage-unique, coverage-without, find-some, find-none, IsIn-without, IsIn-without_other}
 
 -- ---- lists with the same elements
 
-abbrev HasSame : {A : Type 0} → List A → List A → Type 0
+abbrev pub HasSame : {A : Type 0} → List A → List A → Type 0
 HasSame {A} xs ys = (x : A) → IsIn x xs ↔ IsIn x ys
 
-HasSame-cons : {A : Type 0} (x : A) (xs ys : List A) → HasSame xs ys → HasSame (x ∷ xs) (x ∷ ys)
+pub HasSame-cons : {A : Type 0} (x : A) (xs ys : List A) → HasSame xs ys → HasSame (x ∷ xs) (x ∷ ys)
 HasSame-cons x xs ys same y =
     ((λ h. elim h [ inl e ↦ inl e | inr i ↦ inr ((same y).0 i) ]), (λ h. elim h [ inl e ↦ inl e | inr i ↦ inr ((same y).1 i) ]))
 
-HasSame-others : (addr : ℕ) (xs ys : List Used) → HasSame xs ys → HasSame (others addr xs) (others addr ys)
-HasSame-others addr xs ys same u = (
-  (λ h. let (i, apart) = IsIn-others addr u xs h in IsIn-others_from addr u ys ((same u).0 i) apart),
-  (λ h. let (i, apart) = IsIn-others addr u ys h in IsIn-others_from addr u xs ((same u).1 i) apart),
+IsIn-filter : {A : Type 0} (p : A → Bool) (x : A) (xs : List A) → IsIn x (filter p xs) → IsIn x xs × (p x ≡ true)
+IsIn-filter p x [] i = absurd i
+IsIn-filter p x (y ∷ ys) i = by_test (p y)
+    (λ e. elim (subst (λ b. IsIn x (cond b (y ∷ filter p ys) (filter p ys))) e i) [
+      | inl same ↦ (inl same, ap p same ∙ e)
+      | inr j ↦ let rest = IsIn-filter p x ys j in (inr rest.0, rest.1)
+    ])
+    (λ e. let rest = IsIn-filter p x ys (subst (λ b. IsIn x (cond b (y ∷ filter p ys) (filter p ys))) e i) in (inr rest.0, rest.1))
+
+IsIn-filter_from : {A : Type 0} (p : A → Bool) (x : A) (xs : List A) → IsIn x xs → p x ≡ true → IsIn x (filter p xs)
+IsIn-filter_from p x [] i passes = i
+IsIn-filter_from p x (y ∷ ys) i passes = by_test (p y)
+    (λ e. subst (λ b. IsIn x (cond b (y ∷ filter p ys) (filter p ys))) (sym e) (elim i [ inl same ↦ inl same | inr j ↦ inr (IsIn-filter_from p x ys j passes) ]))
+    (λ e. subst (λ b. IsIn x (cond b (y ∷ filter p ys) (filter p ys))) (sym e)
+    (elim i [ inl same ↦ absurd (true≢false (sym passes ∙ ap p same ∙ e)) | inr j ↦ IsIn-filter_from p x ys j passes ]))
+
+pub HasSame-filter : {A : Type 0} (p : A → Bool) (xs ys : List A) → HasSame xs ys → HasSame (filter p xs) (filter p ys)
+HasSame-filter p xs ys same x = (
+  (λ h. let (i, e) = IsIn-filter p x xs h in IsIn-filter_from p x ys ((same x).0 i) e),
+  (λ h. let (i, e) = IsIn-filter p x ys h in IsIn-filter_from p x xs ((same x).1 i) e),
 )
+
+HasSame-others : (addr : ℕ) (xs ys : List Used) → HasSame xs ys → HasSame (others addr xs) (others addr ys)
+HasSame-others addr = HasSame-filter (λ u. not (eqb u.payload addr))
 
 find-from_none : {A : Type 0} (p : A → Bool) (xs : List A) → ((x : A) → IsIn x xs → p x ≡ false) → find p xs ≡ None
 find-from_none p [] fails = refl
@@ -53,7 +72,7 @@ find-same {A} p xs ys same one = go (find p xs) (find p ys) refl refl
 
 module _ {fllen sllen : ℕ} {memory : Range} {s : State} (w : IsWellFormed fllen sllen memory s) (at : ℕ) where
   -- one chunk at most ends at an address
-  one_ends : (c d : Range) → IsIn c s.chunks → IsIn d s.chunks → ends_at at c ≡ true → ends_at at d ≡ true → c ≡ d
+  pub one_ends : (c d : Range) → IsIn c s.chunks → IsIn d s.chunks → ends_at at c ≡ true → ends_at at d ≡ true → c ≡ d
   one_ends c d i j e f =
       let room = (w.chunks c i).has_room in
       let room' = (w.chunks d j).has_room in
@@ -78,41 +97,65 @@ module _ {fllen sllen : ℕ} {memory : Range} {s : State} (w : IsWellFormed flle
           let two : covers x (at - 1) ≡ covers c (at - 1) = ap (λ d. covers d (at - 1)) (sym same) in
           omega (arith, w.disjoint (at - 1), coverage-without itself (ends_at at) c s.chunks (at - 1) f, coverage-IsIn itself x (without (ends_at at) s.chunks) (at - 1) h)
 
-with_chunks-reordered : (cs : List Range) (s s' : State) → IsReordered s s' → IsReordered (with_chunks cs s) (with_chunks cs s')
-with_chunks-reordered [] s s' r = r
-with_chunks-reordered (c ∷ cs) s s' r =
-    with_chunks-reordered cs (with_chunk c s) (with_chunk c s') (record { chunks = HasSame-cons c s.chunks s'.chunks r.chunks; used = r.used; free = ap (λ l. body c ∷ l) r.free })
+-- two states have the same chunks, in any order, and the same free ranges
+pub record HasSameRanges (s t : State) : Type 0 where
+  pub chunks : HasSame s.chunks t.chunks
+  pub free : s.free ≡ t.free
 
-module _ {fllen sllen : ℕ} {memory : Range} {s s' : State} (w : IsWellFormed fllen sllen memory s) (w' : IsWellFormed fllen sllen memory s') (r : IsReordered s s') where
+with_chunks-same : (cs : List Range) (s s' : State) → HasSameRanges s s' → HasSameRanges (with_chunks cs s) (with_chunks cs s')
+with_chunks-same [] s s' r = r
+with_chunks-same (c ∷ cs) s s' r =
+    with_chunks-same cs (with_chunk c s) (with_chunk c s') (record { chunks = HasSame-cons c s.chunks s'.chunks r.chunks; free = ap (λ l. body c ∷ l) r.free })
+
+module _ {fllen sllen : ℕ} {memory : Range} {s s' : State} (w : IsWellFormed fllen sllen memory s) (w' : IsWellFormed fllen sllen memory s') (r : HasSameRanges s s') where
   HasSame-without : (at : ℕ) → HasSame (without (ends_at at) s.chunks) (without (ends_at at) s'.chunks)
   HasSame-without at x = (
     (λ h. let (i, e) = none_ends w at x h in IsIn-without_other (ends_at at) x s'.chunks e ((r.chunks x).0 i)),
     (λ h. let (i, e) = none_ends w' at x h in IsIn-without_other (ends_at at) x s.chunks e ((r.chunks x).1 i)),
   )
 
-  grown_if-reordered : (o : Option Range) (n : ℕ) → IsReordered (grown_if o n s) (grown_if o n s')
-  grown_if-reordered None n = r
-  grown_if-reordered (Some c) n = record {
+  grown_if-same : (o : Option Range) (n : ℕ) → HasSameRanges (grown_if o n s) (grown_if o n s')
+  grown_if-same None n = r
+  grown_if-same (Some c) n = record {
     chunks = HasSame-cons (range_at c.start (c.len + n)) (without (ends_at (end_of c)) s.chunks) (without (ends_at (end_of c)) s'.chunks) (HasSame-without (end_of c));
-    used = r.used;
     free = ap (join (range_at (end_of c - 32) n)) r.free;
   }
 
-  extended-reordered : (at n : ℕ) → IsReordered (extended at n s) (extended at n s')
-  extended-reordered at zero = r
-  extended-reordered at (suc n) =
-      subst (λ o. IsReordered (grown_if (find (ends_at at) s.chunks) (suc n) s) (grown_if o (suc n) s')) (find-same (ends_at at) s.chunks s'.chunks r.chunks (one_ends w at)) (grown_if-reordered (find (ends_at at) s.chunks) (suc n))
+  extended-same : (at n : ℕ) → HasSameRanges (extended at n s) (extended at n s')
+  extended-same at zero = r
+  extended-same at (suc n) =
+      let found = find-same (ends_at at) s.chunks s'.chunks r.chunks (one_ends w at) in
+      subst (λ o. HasSameRanges (grown_if (find (ends_at at) s.chunks) (suc n) s) (grown_if o (suc n) s')) found (grown_if-same (find (ends_at at) s.chunks) (suc n))
 
+  appended-same : (o : Option ℕ) (q : Range) → HasSameRanges (appended o q s) (appended o q s')
+  appended-same None q = extended-same q.start (q.len / 32 * 32)
+  appended-same (Some most) q = with_chunks-same (cut (Some most) (aligned_part q)) s s' r
+
+  HasSameRanges-at : {t t' u u' : State} → t ≡ u → t' ≡ u' → HasSameRanges u u' → HasSameRanges t t'
+  HasSameRanges-at {t} {t'} {u} e e' q = subst (λ x. HasSameRanges x t') (sym e) (subst (HasSameRanges u) (sym e') q)
+
+  -- from states with the same ranges, memory that is handed in leads to such states
+  pub HasSameRanges-inserted : (q : Range) (m n : Option ℕ) (t t' : State) → Inserts fllen s q m t → Inserts fllen s' q n t' → HasSameRanges t t'
+  HasSameRanges-inserted q m n t t' a b = HasSameRanges-at a.after b.after (with_chunks-same (cut (max_pool_size fllen) (aligned_part q)) s s' r)
+
+  pub HasSameRanges-appended : (q : Range) (m n : ℕ) (t t' : State) → Appends fllen s q m t → Appends fllen s' q n t' → HasSameRanges t t'
+  HasSameRanges-appended q m n t t' a b = HasSameRanges-at a.after b.after (appended-same (max_pool_size fllen) q)
+
+ranges_of : {s t : State} → IsReordered s t → HasSameRanges s t
+ranges_of r = record { chunks = r.chunks; free = r.free }
+
+-- states with the same ranges, whose used blocks are those of reordered states
+reordered_from : {s s' t t' : State} → IsReordered s s' → HasSameRanges t t' → t.used ≡ s.used → t'.used ≡ s'.used → IsReordered t t'
+reordered_from {s} {s'} {t} {t'} r q e e' =
+    record { chunks = q.chunks; used = subst (λ l. HasSame l t'.used) (sym e) (subst (HasSame s.used) (sym e') r.used); free = q.free }
+
+module _ {fllen sllen : ℕ} {memory : Range} {s s' : State} (w : IsWellFormed fllen sllen memory s) (w' : IsWellFormed fllen sllen memory s') (r : IsReordered s s') where
   -- a step from the other order, and what it leads to
   abbrev Also : (State → Type 0) → State → Type 0
   Also Step t = (t' : State) × Step t' × IsReordered t t'
 
   at_first : {t u : State} → t ≡ u → (u' : State) → IsReordered u u' → IsReordered t u'
   at_first e u' q = subst (λ x. IsReordered x u') (sym e) q
-
-  appended-reordered : (o : Option ℕ) (q : Range) → IsReordered (appended o q s) (appended o q s')
-  appended-reordered None q = extended-reordered q.start (q.len / 32 * 32)
-  appended-reordered (Some most) q = with_chunks-reordered (cut (Some most) (aligned_part q)) s s' r
 
   allocate-reordered : (size align : ℕ) (o : Option ℕ) (t : State) → Allocates sllen s size align o t → Also (Allocates sllen s' size align o) t
   allocate-reordered size align None t step = (s', (subst (λ l. choice sllen (request_size size align) l ≡ None) r.free step.0, refl), at_first step.1 s' r)
@@ -160,11 +203,13 @@ module _ {fllen sllen : ℕ} {memory : Range} {s s' : State} (w : IsWellFormed f
 
 pub order_means_nothing : OrderMeansNothing
 order_means_nothing fllen sllen memory s s' t (insert q n) w w' r step =
-    let cs = cut (max_pool_size fllen) (aligned_part q) in
-    (with_chunks cs s', record { answer = step.answer; after = refl }, at_first w w' r step.after (with_chunks cs s') (with_chunks-reordered cs s s' r))
+    let t' = with_chunks (cut (max_pool_size fllen) (aligned_part q)) s' in
+    let again : Inserts fllen s' q n t' = record { answer = step.answer; after = refl } in
+    (t', again, reordered_from r (HasSameRanges-inserted w w' (ranges_of r) q n n t t' step again) (used-inserted fllen s t q n step) (used-inserted fllen s' t' q n again))
 order_means_nothing fllen sllen memory s s' t (append q n) w w' r step =
-    let o = max_pool_size fllen in
-    (appended o q s', record { answer = step.answer; after = refl }, at_first w w' r step.after (appended o q s') (appended-reordered w w' r o q))
+    let t' = appended (max_pool_size fllen) q s' in
+    let again : Appends fllen s' q n t' = record { answer = step.answer; after = refl } in
+    (t', again, reordered_from r (HasSameRanges-appended w w' (ranges_of r) q n n t t' step again) (used-appended fllen s t q n step) (used-appended fllen s' t' q n again))
 order_means_nothing fllen sllen memory s s' t (allocate size align o) w w' r step = allocate-reordered w w' r size align o t step
 order_means_nothing fllen sllen memory s s' t (deallocate addr) w w' r step = deallocate-reordered w w' r addr t step
 order_means_nothing fllen sllen memory s s' t (reallocate addr size o) w w' r step =

@@ -1,5 +1,5 @@
 -- What holds of the machine's states and steps.
-use Rattle.std.specs.Prelude.{◌≡◌, ◌≢◌, ◌↔◌, ◌⊎◌, ℕ, ◌+◌, ◌*◌, ◌%◌, ◌^◌, ◌<◌, ◌≤◌, List, [], ◌∷◌, ◌++◌, filter, Option, Some, None, IfSome, ◌==◌, min, ◌-◌}
+use Rattle.std.specs.Prelude.{◌≡◌, ◌≢◌, ◌↔◌, ◌⊎◌, ℕ, ◌+◌, ◌*◌, ◌%◌, ◌^◌, ◌<◌, ◌≤◌, List, [], ◌∷◌, ◌++◌, filter, length, Option, Some, None, IfSome, ◌==◌, min, ◌-◌}
 use Rattle.rlsf_base.specs.declared.memory.range.Range.{Range}
 use Rattle.rlsf_base.specs.PowerOfTwo.{IsPowerOfTwo}
 use Rattle.rlsf_base.specs.Range.{end_of, range_at}
@@ -8,10 +8,10 @@ use Rattle.rlsf_base.specs.Sizes.{max_pool_size, pool_size_to_contain_allocation
 use Rattle.rlsf_machine.specs.Allocate.{choice, has_class, Allocates}
 use Rattle.rlsf_machine.specs.Insert.{body, cut, Inserts}
 use Rattle.rlsf_machine.specs.Lists.{IsIn, without}
-use Rattle.rlsf_machine.specs.Reallocate.{Reallocates}
+use Rattle.rlsf_machine.specs.Reallocate.{Keeps, Reallocates}
 use Rattle.rlsf_machine.specs.Release.{Deallocates}
-use Rattle.rlsf_machine.specs.Run.{Event, Fills, Leads, MayCall, Names, Runs, IsSameCall, IsRefused}
-use Rattle.rlsf_machine.specs.State.{State, Used, empty, usable, Holds, HasBytes, IsLive, AreAlike, IsReordered}
+use Rattle.rlsf_machine.specs.Run.{Event, insert, append, allocate, deallocate, reallocate, fill, Fills, Leads, MayCall, Names, Runs, IsSameCall, IsRefused}
+use Rattle.rlsf_machine.specs.State.{State, Used, empty, usable, Holds, HasBytes, IsLive, AreAlike, IsReordered, AreSimilar}
 use Rattle.rlsf_machine.specs.WellFormed.{covers, IsWellFormed}
 
 -- the machine to which nothing was handed is well-formed
@@ -176,3 +176,44 @@ FillLeavesOthers = (s t : State) (addr : ℕ) (bytes : List ℕ) → Fills s add
 abbrev pub DeallocationLeavesOthers : Type 0
 DeallocationLeavesOthers = (s t : State) (addr : ℕ) → Deallocates s addr t
     → (t.chunks ≡ s.chunks) × ((u : Used) → IsIn u t.used ↔ (IsIn u s.used × (u.payload ≢ addr)))
+
+-- a chunk that an insert makes lies in the range that was handed in
+abbrev pub InsertedChunksLieInRange : Type 0
+InsertedChunksLieInRange = (fllen : ℕ) (s t : State) (r : Range) (reply : Option ℕ) (c : Range) → Inserts fllen s r reply t → IsIn c t.chunks
+    → IsIn c s.chunks ⊎ ((r.start ≤ c.start) × (end_of c ≤ end_of r))
+
+-- the reply hands out the address
+abbrev pub Gives : Event → ℕ → Type 0
+Gives (insert r reply) addr = ⊥
+Gives (append r reply) addr = ⊥
+Gives (allocate size align reply) addr = reply ≡ Some addr
+Gives (deallocate at) addr = ⊥
+Gives (reallocate at size reply) addr = reply ≡ Some addr
+Gives (fill at bytes) addr = ⊥
+
+-- a used block that a step names neither in its call nor in its reply was there before, with the same bytes
+abbrev pub UsedWasUsed : Type 0
+UsedWasUsed = (fllen sllen : ℕ) (s t : State) (e : Event) (u : Used) → Leads fllen sllen s e t → IsIn u t.used
+    → (Names e u.payload → ⊥) → (Gives e u.payload → ⊥) → IsIn u s.used
+
+-- from similar states the same call has the same reply, and leads to similar states
+abbrev pub SimilarStatesAgree : Type 0
+SimilarStatesAgree = (fllen sllen : ℕ) (memory : Range) (s s' t t' : State) (e e' : Event) → IsWellFormed fllen sllen memory s → IsWellFormed fllen sllen memory s'
+    → AreSimilar s s' → Leads fllen sllen s e t → Leads fllen sllen s' e' t' → IsSameCall e e' → (e ≡ e') × AreSimilar t t'
+
+-- a call that fills a payload has as many bytes as the payload
+abbrev pub FillsWhole : State → Event → Type 0
+FillsWhole s (fill addr bytes) = (u : Used) × Holds s addr u × (length bytes ≡ length u.bytes)
+FillsWhole s e = Unit {0}
+
+-- each call that its caller may make has a reply and a state after
+abbrev pub EachCallAnswers : Type 0
+EachCallAnswers = (fllen sllen : ℕ) (memory : Range) (s : State) (e : Event) → MayCall memory s e → FillsWhole s e
+    → (e' : Event) × (t : State) × IsSameCall e e' × Leads fllen sllen s e' t
+
+-- a payload that gets another size is one used block with its alignment, the bytes that both sizes have, and the size
+-- that was asked for
+abbrev pub ReallocationKeepsBytes : Type 0
+ReallocationKeepsBytes = (fllen sllen : ℕ) (memory : Range) (s t : State) (addr size to : ℕ) (u : Used) → IsWellFormed fllen sllen memory s → Holds s addr u
+    → Reallocates sllen s addr size (Some to) t
+    → (v : Used) × Holds t to v × (v.align ≡ u.align) × Keeps u.bytes v.bytes × (size ≤ (usable v).len) × ((usable v).len < size + 32)

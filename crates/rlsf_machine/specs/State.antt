@@ -69,3 +69,9 @@ pub record IsReordered (s t : State) : Type 0 where
   pub chunks : (c : Range) → IsIn c s.chunks ↔ IsIn c t.chunks
   pub used : (u : Used) → IsIn u s.used ↔ IsIn u t.used
   pub free : s.free ≡ t.free
+
+-- two states are alike but for bytes and for the order of their chunks and of their used blocks
+pub record AreSimilar (s t : State) : Type 0 where
+  pub chunks : (c : Range) → IsIn c s.chunks ↔ IsIn c t.chunks
+  pub used : (h : Shape) → IsIn h (map shape_of s.used) ↔ IsIn h (map shape_of t.used)
+  pub free : s.free ≡ t.free

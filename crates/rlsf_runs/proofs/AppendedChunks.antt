@@ -1,6 +1,6 @@
 -- What an append leaves of the chunks.
-use Rattle.std.proofs.Common.{◌≡◌, ℕ, zero, suc, ◌+◌, ◌-◌, ◌*◌, ◌/◌, ◌<◌, ◌≤◌, List, [], ◌∷◌, Option, Some, None, find, true≢false, arith, refl, inl, inr, sym, ◌∙◌, subst}
-use Rattle.std.proofs.lemmas.Bool.{eqb-true, eq-eqb, ne_eqb}
+use Rattle.std.proofs.Common.{◌≡◌, ℕ, zero, suc, ◌+◌, ◌-◌, ◌*◌, ◌/◌, ◌≤◌, List, [], ◌∷◌, Option, Some, None, find, true≢false, arith, refl, sym, ◌∙◌, subst}
+use Rattle.std.proofs.lemmas.Bool.{eqb-true, eq-eqb}
 use Rattle.rlsf_base.specs.declared.memory.range.Range.{Range}
 use Rattle.rlsf_base.specs.Range.{end_of, range_at}
 use Rattle.rlsf_base.specs.Rounding.{round32}
@@ -11,25 +11,21 @@ use Rattle.rlsf_machine.specs.Join.{ends_at}
 use Rattle.rlsf_machine.specs.Lists.{IsIn}
 use Rattle.rlsf_machine.specs.State.{State}
 use Rattle.rlsf_machine.specs.WellFormed.{covers, coverage, itself, IsWellFormed}
-use Rattle.rlsf_machine.proofs.Coverage.{coverage-without, covers-split, find-none, find-some, IsIn-without_other}
+use Rattle.rlsf_machine.proofs.Coverage.{coverage-without, covers-split, find-none, find-some}
 use Rattle.rlsf_machine.proofs.Cuts.{coverage-cut, coverage-cut_last}
 use Rattle.rlsf_machine.proofs.Insertions.{IsWhole-aligned_part}
-use Rattle.rlsf_runs.proofs.NewPools.{bounds_of_chunks, coverage-with_chunks, IsIn-with_chunks, IsIn-with_chunks_old, last_of}
+use Rattle.rlsf_runs.proofs.NewPools.{bounds_of_chunks, coverage-with_chunks, IsIn-with_chunks}
 
 -- the chunks once so many bytes of a range are theirs, behind a chunk that ended where it begins
 pub record IsLonger (s : State) (r : Range) (more : ℕ) (t : State) : Type 0 where
   pub within : more ≤ r.len
   pub coverage : (a : ℕ) → coverage itself t.chunks a ≤ covers (range_at r.start more) a + coverage itself s.chunks a
-  pub end : 0 < more → (c : Range) × IsIn c t.chunks × (end_of c ≡ r.start + more)
-  pub stay : (c : Range) → IsIn c s.chunks → (end_of c ≡ r.start → 0 < more → ⊥) → IsIn c t.chunks
 
 -- a chunk that ends where the range begins grows
 IsLonger-extended : (s : State) (r : Range) (n : ℕ) → n ≤ r.len → (c : Range) → IsIn c s.chunks → end_of c ≡ r.start → IsLonger s r n (extended r.start n s)
 IsLonger-extended s r zero fits c there ends = record {
   within = omega arith;
   coverage = λ a. omega arith;
-  end = λ some. absurd (omega arith);
-  stay = λ d i apart. i;
 }
 IsLonger-extended s r (suc n) fits c there ends = go (find (ends_at r.start) s.chunks) refl
   where
@@ -47,8 +43,6 @@ IsLonger-extended s r (suc n) fits c there ends = go (find (ends_at r.start) s.c
             covers-split d.start (end_of d) (end_of longer) a (omega arith) (omega arith) longer d more refl refl refl refl (sym at) (omega (arith, at)),
             coverage-without itself (ends_at (end_of d)) d s.chunks a found,
           );
-          end = λ some. (longer, inl refl, omega (arith, at));
-          stay = λ b i apart. inr (IsIn-without_other (ends_at (end_of d)) b s.chunks (ne_eqb (end_of b) (end_of d) (λ same. apart (same ∙ at) (omega arith))) i);
         }
 
 -- chunks of their own follow the one that ends where the range begins
@@ -57,19 +51,14 @@ IsLonger-with_chunks : (s : State) (r : Range) (cs : List Range) → round32 r.s
 IsLonger-with_chunks s r [] whole room within covered = record {
   within = omega arith;
   coverage = λ a. omega arith;
-  end = λ some. absurd (omega arith);
-  stay = λ d i apart. i;
 }
 IsLonger-with_chunks s r (c ∷ cs) whole room within covered =
     let n = end_of_last (end_of c) cs - r.start in
     let (some, fits) = bounds_of_chunks r (c ∷ cs) n refl room within in
-    let (d, i, is) = last_of c cs in
     let here : (a : ℕ) → coverage itself (c ∷ cs) a ≤ covers (range_at r.start n) a = subst (λ at. (a : ℕ) → coverage itself (c ∷ cs) a ≤ covers (range_at at (end_of_last (end_of c) cs - at)) a) whole covered in
     record {
       within = omega (arith, fits);
       coverage = λ a. omega (arith, coverage-with_chunks (c ∷ cs) s a, here a);
-      end = λ positive. (d, IsIn-with_chunks (c ∷ cs) s d i, omega (arith, is, some));
-      stay = λ b j apart. IsIn-with_chunks_old (c ∷ cs) s b j;
     }
 
 module _ {fllen sllen : ℕ} {memory : Range} {s : State} (w : IsWellFormed fllen sllen memory s) (r : Range) (next : IsNext memory s r) where

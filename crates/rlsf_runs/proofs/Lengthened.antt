@@ -63,7 +63,14 @@ module _ {xs : List Range} (o : IsInOrder xs) where
     ]
   ]
 
-  -- so that to lengthen it is to lengthen each that ends there
+  -- so a pool that ends where the one at a place does is that one
+  pub same_end : (i addr : ℕ) → EndsAt xs i addr → (p : Range) → IsIn p xs → end_of p ≡ addr → p ≡ nth_range xs i
+  same_end i addr at p there = IsIn-each (λ q. end_of q ≡ addr → q ≡ nth_range xs i) p xs (λ k d below ends. elim (cases_eq k i) [
+    | inl same ↦ sym (get_or_default xs k no_range d below) ∙ ap (nth_range xs) same
+    | inr other ↦ absurd (one_end i k addr at below other (ap end_of (get_or_default xs k no_range d below) ∙ ends))
+  ]) there
+
+  -- and to lengthen it is to lengthen each that ends there
   pub lengthened-each : (i addr more : ℕ) → EndsAt xs i addr → slice_set xs i (lengthened more (nth_range xs i)) ≡ map (lengthened_at addr more) xs
   lengthened-each i addr more (below, ends) = ext_get_or no_range (slice_set xs i new) (map f xs) (length-set xs i new ∙ sym (length-map xs f)) each
     where

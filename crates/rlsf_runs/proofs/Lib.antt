@@ -9,3 +9,4 @@ pub mod SamePools
 pub mod SpareBytes
 pub mod Touching
 pub mod Underway
+pub mod Walked

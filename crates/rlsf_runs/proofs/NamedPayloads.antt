@@ -16,13 +16,15 @@ use Rattle.rlsf_machine.specs.Release.{Deallocates}
 use Rattle.rlsf_machine.specs.Run.{allocate, deallocate, fill, Fills, reallocate}
 use Rattle.rlsf_machine.specs.State.{State, Used, Holds, IsLive, usable}
 use Rattle.rlsf_machine.specs.WellFormed.{coverage, itself, IsWellFormed}
-use Rattle.rlsf_machine.proofs.Live.{filled_has_bytes, handed_out_is_new, live_stays, reallocated_is_live}
-use Rattle.rlsf_tlsf.specs.StandsFor.{Contents, StandsFor}
+use Rattle.rlsf_machine.proofs.ChunkRows.{IsRow-same}
+use Rattle.rlsf_machine.proofs.Live.{deallocation_leaves_others, filled_has_bytes, handed_out_is_new, live_stays, reallocated_is_live}
+use Rattle.rlsf_blocks.specs.Spare.{KeepsSpare}
+use Rattle.rlsf_blocks.specs.StandsFor.{Contents, StandsFor}
 use Rattle.rlsf_text.specs.declared.op.Answer.{Answer}
 use Rattle.rlsf_text.specs.declared.op.Op.{Op}
 use Rattle.rlsf_runs.specs.declared.tables.Payload.{Payload}
 use Rattle.rlsf_runs.specs.declared.tables.Tables.{Tables}
-use Rattle.rlsf_runs.specs.Runs.{Does, Owns, RunState, with_machine, with_name, without_name}
+use Rattle.rlsf_runs.specs.Runs.{Does, Frees, Owns, RunState, with_machine, with_name, without_name}
 use Rattle.rlsf_runs.specs.Steps.Tables.{address, IsAt, IsInOrder, LeadsOn}
 
 -- the payload at an address of a table
@@ -82,7 +84,7 @@ module _ {fllen sllen : ℕ} {v : Contents} {tables : Tables} {s : RunState} (at
     in_order = subst (λ p. IsInOrder p.items) (sym pools) at.in_order;
     inside = λ p i. at.inside p (subst (λ table. IsIn p table.items) pools i);
     covered = at.covered;
-    ends = at.ends;
+    rows = at.rows;
   }
 
   -- and so are the tables once a name that was free is made free
@@ -111,7 +113,7 @@ module _ {fllen sllen : ℕ} {v : Contents} {tables : Tables} {s : RunState} (at
       in_order = subst (λ p. IsInOrder p.items) (sym same) at.in_order;
       inside = λ p i. moved p (at.inside p (subst (λ table. IsIn p table.items) same i));
       covered = λ a. subst (λ cs. coverage itself cs a ≤ coverage itself s.pools a) (sym chunks) (at.covered a);
-      ends = λ p i. (let (c, there, ends) = at.ends p i in (c, subst (IsIn c) (sym chunks) there, ends));
+      rows = λ p i. IsRow-same s.machine t p chunks (at.rows p i);
     }
       where
         moved : (p : Range) → LiesIn p v.memory.start (length v.memory.bytes) → LiesIn p w.memory.start (length w.memory.bytes)
@@ -220,6 +222,25 @@ module _ {fllen sllen : ℕ} {v : Contents} {tables : Tables} {s : RunState} (at
     -- after a step that changed nothing
     pub IsAt-unmoved : t ≡ s.machine → IsAt fllen sllen w tables (record { machine = t; named = s.named; pools = s.pools })
     IsAt-unmoved is = IsAt-named s.named refl at.names (λ name p there. subst (λ x. IsLive x (address p) p.align) (sym is) (at.live name p there)) at.one_name
+
+  -- a name that no payload has isn't freed
+  pub not_freed : {new : Tables} (name : ℕ) → get nat_eq tables.names name ≡ None → new.pools ≡ tables.pools
+      → ((other : ℕ) → get nat_eq new.names other ≡ cond (nat_eq name other) None (get nat_eq tables.names other))
+      → (r : RunState) × ((s.named name ≡ None) × (r ≡ s)) × IsAt fllen sllen v new r × KeepsSpare v.memory s.machine v.memory r.machine
+  not_freed name none same taken = (s, (unnamed name none, refl), IsAt-untaken name none taken same, λ a from to was is. refl)
+
+  -- the payload of a name was given back
+  pub freed : {w : Contents} {new : Tables} → SamePlace v.memory w.memory → (t : State) → StandsFor fllen sllen w t → KeepsSpare v.memory s.machine w.memory t → (name : ℕ) (p : Payload)
+      → get nat_eq tables.names name ≡ Some p → Deallocates s.machine (address p) t → new.pools ≡ tables.pools
+      → ((other : ℕ) → get nat_eq new.names other ≡ cond (nat_eq name other) None (get nat_eq tables.names other))
+      → (r : RunState) × Frees s name r × IsAt fllen sllen w new r × KeepsSpare v.memory s.machine w.memory r.machine
+  freed place t stands keeps name p there step same taken =
+      let (u, owns, holds, _) = owned name p there in (
+        _,
+        (u, owns, t, subst (λ a. Deallocates s.machine a t) (sym holds.1) step, refl),
+        IsAt-freed place t stands (deallocation_leaves_others s.machine t (address p) step).0 name (address p) (owns.1 ∙ ap Some holds.1) step same taken,
+        keeps,
+      )
 
 -- the chunks stay over an allocation
 pub allocation_keeps_chunks : (sllen : ℕ) (s t : State) (size align : ℕ) (reply : Option ℕ) → Allocates sllen s size align reply t → t.chunks ≡ s.chunks

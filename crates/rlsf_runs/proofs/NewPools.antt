@@ -7,7 +7,7 @@ use Rattle.rlsf_base.proofs.Numbers.Roundings.{round32-le}
 use Rattle.rlsf_base.specs.Sizes.{max_pool_size}
 use Rattle.rlsf_machine.specs.Insert.{aligned_part, bytes_taken, cut, end_of_last, Inserts, with_chunk, with_chunks}
 use Rattle.rlsf_machine.specs.Lists.{IsIn}
-use Rattle.rlsf_machine.specs.State.{State, between}
+use Rattle.rlsf_machine.specs.State.{State}
 use Rattle.rlsf_machine.specs.WellFormed.{covers, coverage, itself, IsWellFormed}
 use Rattle.rlsf_machine.proofs.Coverage.{inside, before, behind, covers-inside, coverage-IsIn, where_is}
 use Rattle.rlsf_machine.proofs.Cuts.{coverage-cut, coverage-cut_last}
@@ -80,23 +80,3 @@ pool_bounds fllen s r len t step w =
     bounds_of_chunks r cs len step.answer
     (λ d i. (w.chunks d (subst (λ u. IsIn d u.chunks) (sym step.after) (IsIn-with_chunks cs s d i))).has_room)
     (coverage-cut (aligned_part r) (IsWhole-aligned_part r) (max_pool_size fllen))
-
--- a chunk ends where such a pool does
-pub pool_end : {sllen : ℕ} {memory : Range} (fllen : ℕ) (s : State) (r : Range) (len : ℕ) (t : State) → Inserts fllen s r (Some len) t → IsWellFormed fllen sllen memory t
-    → (c : Range) × IsIn c t.chunks × (end_of c ≡ end_of (between (round32 r.start) (r.start + len)))
-pool_end fllen s r len t step w =
-    let cs = cut (max_pool_size fllen) (aligned_part r) in
-    let bounds = pool_bounds fllen s r len t step w in
-    let (c, i, is) = ends_by cs step.answer in
-    (c, subst (λ u. IsIn c u.chunks) (sym step.after) (IsIn-with_chunks cs s c i), omega (arith, is, bounds))
-  where
-    ends_by : (cs : List Range) → Some len ≡ bytes_taken r.start cs → (c : Range) × IsIn c cs × (len ≡ end_of c - r.start)
-    ends_by [] is = absurd (cc)
-    ends_by (c ∷ cs) is =
-        let (d, i, end) = last_of c cs in
-        let count : len ≡ end_of_last (end_of c) cs - r.start = cc in
-        (d, i, count ∙ ap (λ n. n - r.start) end)
-
--- each chunk stays over an insert
-pub IsIn-inserted : (fllen : ℕ) (s : State) (r : Range) (reply : Option ℕ) (t : State) → Inserts fllen s r reply t → (c : Range) → IsIn c s.chunks → IsIn c t.chunks
-IsIn-inserted fllen s r reply t step c i = subst (λ u. IsIn c u.chunks) (sym step.after) (IsIn-with_chunks_old (cut (max_pool_size fllen) (aligned_part r)) s c i)

@@ -1,6 +1,5 @@
 -- Where a run has come to, by its tables, and where an op takes it.
-use Rattle.std.proofs.Common.{◌≡◌, ◌≢◌, ℕ, ◌+◌, ◌<◌, nat_eq, length, [], ◌∷◌, map, slice_set, Some, None, arith, refl, inl, inr, sym, ◌∙◌, ap, subst}
-use Rattle.std.proofs.lemmas.Bool.{cases_lt}
+use Rattle.std.proofs.Common.{◌≡◌, ◌≢◌, ℕ, ◌+◌, ◌-◌, ◌<◌, nat_eq, length, [], ◌∷◌, map, slice_set, Some, None, arith, refl, inl, inr, sym, ◌∙◌, ap, subst}
 use Rattle.std.proofs.lemmas.List.Sorted.{IsPermutation-cons, IsPermutation-map, IsPermutation-refl, IsPermutation-sym, IsPermutation-trans}
 use Rattle.std.specs.Prelude.{IsPermutation}
 use Rattle.std.specs.HashMap.{get}
@@ -12,21 +11,27 @@ use Rattle.rlsf_base.specs.Rounding.{round32}
 use Rattle.rlsf_base.proofs.Numbers.Roundings.{round32-le}
 use Rattle.rlsf_base.specs.Space.{Space, range_of, SamePlace}
 use Rattle.rlsf_machine.specs.Insert.{Appends, Inserts, IsClear, IsFresh, IsNext, IsVacant}
+use Rattle.rlsf_machine.specs.ChunkRows.{IsRow}
 use Rattle.rlsf_machine.specs.Lists.{IsIn}
 use Rattle.rlsf_machine.specs.State.{State, between, empty}
 use Rattle.rlsf_machine.specs.WellFormed.{coverage, itself, IsWellFormed}
-use Rattle.rlsf_tlsf.specs.StandsFor.{Contents, StandsFor}
+use Rattle.rlsf_blocks.specs.StandsFor.{Contents, StandsFor}
 use Rattle.rlsf_machine.specs.Run.{append, insert}
+use Rattle.rlsf_machine.proofs.ChunkRows.{IsRow-appended, IsRow-inserted, IsRow-kept, IsRow-kept_apart}
 use Rattle.rlsf_machine.proofs.Live.{live_stays}
 use Rattle.rlsf_runs.specs.declared.tables.Payload.{Payload}
 use Rattle.rlsf_runs.specs.declared.tables.Tables.{Tables}
 use Rattle.rlsf_runs.specs.Runs.{RunState, beginning, lengthened, lengthened_at, MayAppend, MayInsert, with_pool}
 use Rattle.rlsf_runs.specs.Steps.Tables.{address, EndsAt, IsAt, IsInOrder}
-use Rattle.rlsf_runs.proofs.NewPools.{coverage-with_pool, IsIn-inserted, pool_bounds, pool_end}
+use Rattle.rlsf_runs.proofs.NewPools.{coverage-with_pool, pool_bounds}
 use Rattle.rlsf_runs.proofs.AppendedChunks.{IsLonger, IsLonger-appended}
 use Rattle.rlsf_runs.proofs.Lengthened.{coverage-lengthened, is_lengthened, IsIn-lengthened, IsInOrder-lengthened, lengthened-each}
 use Rattle.rlsf_runs.proofs.Touching.{IsIn-at, no_range, nth_range}
-use Rattle.rlsf_runs.proofs.SamePools.{coverage-permutation, IsIn-permutation}
+use Rattle.rlsf_runs.proofs.SamePools.{coverage-permutation, IsIn-each, IsIn-permutation}
+
+-- a chunk ends where a row does that isn't empty
+row_end : (s : State) (p : Range) → 0 < p.len → IsRow s p → (c : Range) × IsIn c s.chunks × (end_of c ≡ end_of p)
+row_end s p some row = let (c, i, _, _, high, to) = row (end_of p - 1) (omega arith) (omega arith) in (c, i, omega arith)
 
 module _ {fllen sllen : ℕ} {v : Contents} {tables : Tables} {s : RunState} (at : IsAt fllen sllen v tables s) where
   -- the table's pools have as many ranges at an address as the run's
@@ -78,10 +83,14 @@ module _ {fllen sllen : ℕ} {v : Contents} {tables : Tables} {s : RunState} (at
   pub IsFresh-MayInsert : (r : Range) → MayInsert (range_of v.memory) s.pools r → IsFresh (range_of v.memory) s.machine r
   IsFresh-MayInsert r may = record { lies_in = may.lies_in; apart = λ a low high. omega (arith, at.covered a, may.apart a low high) }
 
+  -- no pool is empty
+  pub some_pool : (p : Range) → IsIn p s.pools → 0 < p.len
+  some_pool p there = omega (arith, IsIn-each (λ q. q.start < end_of q) p tables.pools.items at.in_order.some (IsIn-permutation p s.pools tables.pools.items at.pools there))
+
   -- what may be appended follows a chunk
   pub IsNext-MayAppend : (r : Range) → MayAppend (range_of v.memory) s.pools r → IsNext (range_of v.memory) s.machine r
   IsNext-MayAppend r may =
-      let (c, i, ends) = at.ends may.pool may.is_pool in
+      let (c, i, ends) = row_end s.machine may.pool (some_pool may.pool may.is_pool) (at.rows may.pool may.is_pool) in
       record { fresh = IsFresh-MayInsert r may.vacant; chunk = c; is_chunk = i; ends = ends ∙ may.ends }
 
   module _ {w : Contents} (place : SamePlace v.memory w.memory) (t : State) (stands : StandsFor fllen sllen w t) where
@@ -106,9 +115,9 @@ module _ {fllen sllen : ℕ} {v : Contents} {tables : Tables} {s : RunState} (at
             | inr old ↦ let (p_from, p_to) = at.inside p old in (omega (arith, p_from, place), omega (arith, p_to, place))
           ];
           covered = λ a. coverage-with_pool fllen s.machine r (Some len) t step s.pools a (at.covered a);
-          ends = λ p. elim [
-            | inl new ↦ (let (c, i, ends) = pool_end fllen s.machine r len t step stands.well_formed in (c, i, ends ∙ sym (ap end_of new)))
-            | inr old ↦ (let (c, i, ends) = at.ends p old in (c, IsIn-inserted fllen s.machine r (Some len) t step c i, ends))
+          rows = λ p. elim [
+            | inl new ↦ subst (IsRow t) (sym new) (IsRow-inserted fllen s.machine t r len step)
+            | inr old ↦ IsRow-kept fllen s.machine t r p (Some len) step (at.rows p old)
           ];
         }
 
@@ -123,7 +132,7 @@ module _ {fllen sllen : ℕ} {v : Contents} {tables : Tables} {s : RunState} (at
       in_order = at.in_order;
       inside = λ p i. (let (p_from, p_to) = at.inside p i in (omega (arith, p_from, place), omega (arith, p_to, place)));
       covered = λ a. coverage-with_pool fllen s.machine r None t step s.pools a (at.covered a);
-      ends = λ p i. (let (c, there, ends) = at.ends p i in (c, IsIn-inserted fllen s.machine r None t step c there, ends));
+      rows = λ p i. IsRow-kept fllen s.machine t r p None step (at.rows p i);
     }
 
     -- after an append
@@ -139,7 +148,7 @@ module _ {fllen sllen : ℕ} {v : Contents} {tables : Tables} {s : RunState} (at
       in_order = subst IsInOrder (sym is) (IsInOrder-lengthened at.in_order r (IsClear-tables r may.vacant) r.start more refl longer.within);
       inside = λ p there. inside p (subst (IsIn p) is there);
       covered = λ a. omega (arith, longer.coverage a, at.covered a, coverage-lengthened r.start more may.pool s.pools a may.is_pool may.ends);
-      ends = ends_after;
+      rows = rows;
     }
       where
         f : Range → Range
@@ -162,16 +171,12 @@ module _ {fllen sllen : ℕ} {v : Contents} {tables : Tables} {s : RunState} (at
               | inr (_, new_q) ↦ subst (λ x. LiesIn x w.memory.start (length w.memory.bytes)) (sym (is_q ∙ new_q)) (omega (arith, from, place), omega (arith, to, place))
             ]
 
-        ends_after : (p : Range) → IsIn p (map f s.pools) → (c : Range) × IsIn c t.chunks × (end_of c ≡ end_of p)
-        ends_after p there =
+        rows : (p : Range) → IsIn p (map f s.pools) → IsRow t p
+        rows p there =
             let (q, old, is_q) = IsIn-lengthened r.start more p s.pools there in
-            let (c, j, end) = at.ends q old in
             elim (is_lengthened r.start more q) [
-              | inr (differ, new_q) ↦ (c, longer.stay c j (λ same _. differ (sym end ∙ same)), end ∙ sym (ap end_of (is_q ∙ new_q)))
-              | inl (same, new_q) ↦ elim (cases_lt 0 more) [
-                | inl some ↦ (let (d, k, last) = longer.end some in (d, k, omega (arith, last, same, ap end_of (is_q ∙ new_q))))
-                | inr none ↦ (c, longer.stay c j (λ _ some. absurd (omega arith)), omega (arith, end, ap end_of (is_q ∙ new_q)))
-              ]
+              | inl (same, new_q) ↦ subst (IsRow t) (sym (is_q ∙ new_q)) (IsRow-appended at.stands.well_formed r q same (some_pool q old) (at.rows q old) more t step)
+              | inr (differ, new_q) ↦ subst (IsRow t) (sym (is_q ∙ new_q)) (IsRow-kept_apart s.machine r q (IsFresh-MayInsert r may.vacant).apart differ (at.rows q old) fllen more t step)
             ]
 
 -- with no chunk and empty tables, a run is at its beginning
@@ -185,7 +190,7 @@ IsAt-beginning {v = v} stands no_names no_pools = record {
   in_order = record { some = λ i d below. absurd (omega (arith, ap length no_pools)); apart = λ i j d before below. absurd (omega (arith, ap length no_pools)) };
   inside = λ p i. absurd (subst (IsIn p) no_pools i);
   covered = λ a. omega arith;
-  ends = λ p i. absurd i;
+  rows = λ p i. absurd i;
 }
   where
     no_payload : (p : Payload) {X : Type 0} → None ≡ Some p → X

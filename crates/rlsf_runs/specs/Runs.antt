@@ -1,11 +1,13 @@
 -- Runs: what the ops of a trace do to the list machine, and what they answer.
-use Rattle.std.specs.Prelude.{◌≡◌, ℕ, ◌+◌, ◌<◌, ◌≤◌, ◌==◌, nat_eq, if◌then◌else◌, List, [], ◌∷◌, map, Option, Some, None, IsSome, replicate, slice_index, slice_set}
+use Rattle.std.specs.Prelude.{◌≡◌, ℕ, ◌+◌, ◌<◌, ◌≤◌, ◌==◌, nat_eq, if◌then◌else◌, Bool, List, [], ◌∷◌, map, Option, Some, None, IsSome, replicate, slice_index, slice_set}
 use Rattle.std.specs.Int.NonZero.{non_zero_usize_get}
+use Rattle.std.specs.List.{slice_get}
 use Rattle.std.specs.Option.{option_map}
 use Rattle.rlsf_base.specs.declared.memory.range.Range.{Range}
 use Rattle.rlsf_base.specs.Layout.{IsLayout}
-use Rattle.rlsf_base.specs.Range.{end_of, range_at}
+use Rattle.rlsf_base.specs.Range.{end_of, LiesIn, range_at}
 use Rattle.rlsf_base.specs.Rounding.{round32}
+use Rattle.rlsf_blocks.specs.Blocks.{AreBlocks, Block as BlockOf, walked}
 use Rattle.rlsf_machine.specs.Allocate.{Allocates}
 use Rattle.rlsf_machine.specs.Insert.{Appends, Inserts, IsVacant}
 use Rattle.rlsf_machine.specs.Lists.{IsIn}
@@ -14,9 +16,9 @@ use Rattle.rlsf_machine.specs.Release.{Deallocates}
 use Rattle.rlsf_machine.specs.Run.{Fills}
 use Rattle.rlsf_machine.specs.State.{State, Used, between, empty, usable}
 use Rattle.rlsf_text.specs.declared.op.Op.{Op}
-use Rattle.rlsf_text.specs.declared.op.Op.TheVariants.{Insert, Append, Alloc, Free, Realloc, Fill, Put, Get}
+use Rattle.rlsf_text.specs.declared.op.Op.TheVariants.{Insert, Append, Alloc, Free, FreeUnknown, Realloc, Fill, Put, Get, Usable as OpUsable, Block as OpBlock}
 use Rattle.rlsf_text.specs.declared.op.Answer.{Answer}
-use Rattle.rlsf_text.specs.declared.op.Answer.TheVariants.{Inserted, Appended, Placed, Done, Byte, Refused}
+use Rattle.rlsf_text.specs.declared.op.Answer.TheVariants.{Inserted, Appended, Placed, Done, Byte, Usable, Block, Refused}
 use Rattle.rlsf_text.specs.declared.op.TraceError.{TraceError}
 use Rattle.rlsf_text.specs.declared.op.TraceError.TheVariants.{UnknownName, NameTaken, BadRange, BadOffset, BadLayout}
 
@@ -46,6 +48,14 @@ pub record MayAppend (memory : Range) (pools : List Range) (r : Range) : Type 0 
   pub is_pool : IsIn pool pools
   pub ends : end_of pool ≡ r.start
 
+-- the range lies in the memory, and its start rounded up to 32 and its end are those of a pool
+pub record MayWalk (memory : Range) (pools : List Range) (r : Range) : Type 0 where
+  pub lies_in : LiesIn r memory.start memory.len
+  pub pool : Range
+  pub is_pool : IsIn pool pools
+  pub begins : pool.start ≡ round32 r.start
+  pub ends : end_of pool ≡ end_of r
+
 -- a pool with so many bytes more
 abbrev pub lengthened : ℕ → Range → Range
 lengthened more pool = range_at pool.start (pool.len + more)
@@ -71,12 +81,23 @@ Owns s name u = IsIn u s.machine.used × (s.named name ≡ Some u.payload)
 abbrev pub with_machine : State → RunState → RunState
 with_machine machine s = record { machine = machine; named = s.named; pools = s.pools }
 
+-- the payload that has a name is given back, and the name is free
+abbrev pub Frees : RunState → ℕ → RunState → Type 0
+Frees s name t =
+    (u : Used) × Owns s name u × (machine : State) × Deallocates s.machine u.payload machine
+    × (t ≡ record { machine = machine; named = without_name name s.named; pools = s.pools })
+
+-- what is told of a block: its range, and whether it is used
+abbrev pub told_of : BlockOf → Range × Bool
+told_of b = (b.range, b.is_occupied)
+
 -- why an op is refused
 abbrev pub IsRefused : Range → RunState → Op → TraceError → Type 0
 IsRefused memory s (Insert r) BadRange = MayInsert memory s.pools r → ⊥
 IsRefused memory s (Append r) BadRange = MayAppend memory s.pools r → ⊥
 IsRefused memory s (Alloc name layout) NameTaken = IsSome (s.named name)
 IsRefused memory s (Free name) UnknownName = s.named name ≡ None
+IsRefused memory s (FreeUnknown name) UnknownName = s.named name ≡ None
 IsRefused memory s (Realloc name size) UnknownName = s.named name ≡ None
 IsRefused memory s (Realloc name size) BadLayout = (u : Used) × Owns s name u × (IsLayout size u.align → ⊥)
 IsRefused memory s (Fill name byte) UnknownName = s.named name ≡ None
@@ -84,6 +105,8 @@ IsRefused memory s (Put name offset byte) UnknownName = s.named name ≡ None
 IsRefused memory s (Put name offset byte) BadOffset = (u : Used) × Owns s name u × ((usable u).len ≤ offset)
 IsRefused memory s (Get name offset) UnknownName = s.named name ≡ None
 IsRefused memory s (Get name offset) BadOffset = (u : Used) × Owns s name u × ((usable u).len ≤ offset)
+IsRefused memory s (OpUsable name) UnknownName = s.named name ≡ None
+IsRefused memory s (OpBlock r index) BadRange = MayWalk memory s.pools r → ⊥
 IsRefused memory s op error = ⊥
 
 -- an op and its answer: a step of the machine, or a refusal, which comes exactly where it has to and changes nothing
@@ -98,9 +121,8 @@ Does fllen sllen memory s (Append r) (Appended more) t =
 Does fllen sllen memory s (Alloc name layout) (Placed addr) t =
     (s.named name ≡ None) × (machine : State) × Allocates sllen s.machine layout.size layout.align (option_map non_zero_usize_get addr) machine
     × (t ≡ record { machine = machine; named = with_name name (option_map non_zero_usize_get addr) s.named; pools = s.pools })
-Does fllen sllen memory s (Free name) Done t =
-    (u : Used) × Owns s name u × (machine : State) × Deallocates s.machine u.payload machine
-    × (t ≡ record { machine = machine; named = without_name name s.named; pools = s.pools })
+Does fllen sllen memory s (Free name) Done t = Frees s name t
+Does fllen sllen memory s (FreeUnknown name) Done t = Frees s name t
 Does fllen sllen memory s (Realloc name size) (Placed addr) t =
     (u : Used) × Owns s name u × IsLayout size u.align × (machine : State) × Reallocates sllen s.machine u.payload size (option_map non_zero_usize_get addr) machine
     × (t ≡ record { machine = machine; named = with_name name (option_map non_zero_usize_get addr) s.named; pools = s.pools })
@@ -110,6 +132,9 @@ Does fllen sllen memory s (Put name offset byte) Done t =
     (u : Used) × Owns s name u × (offset < (usable u).len) × (machine : State) × Fills s.machine u.payload (slice_set u.bytes offset byte) machine × (t ≡ with_machine machine s)
 Does fllen sllen memory s (Get name offset) (Byte byte) t =
     (u : Used) × Owns s name u × (offset < (usable u).len) × (byte ≡ slice_index u.bytes offset) × (t ≡ s)
+Does fllen sllen memory s (OpUsable name) (Usable bytes) t = (u : Used) × Owns s name u × (bytes ≡ (usable u).len) × (t ≡ s)
+Does fllen sllen memory s (OpBlock r index) (Block block) t =
+    MayWalk memory s.pools r × (bs : List BlockOf) × AreBlocks s.machine (walked r) bs × (block ≡ option_map told_of (slice_get bs index)) × (t ≡ s)
 Does fllen sllen memory s op answer t = ⊥
 
 -- ops, one after another, each with one answer

@@ -6,5 +6,6 @@ mod runs;
 mod tables;
 #[cfg(test)]
 mod tests;
+mod walks;
 
 pub use runs::{RunError, run};

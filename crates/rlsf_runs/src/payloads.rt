@@ -2,23 +2,22 @@
 
 ghost use Rattle.std.specs.Prelude.{ℕ, ◌+◌};
 ghost use Rattle.rlsf_base.specs.Space.{SamePlace};
-ghost use Rattle.rlsf_text.specs.declared.op.Op.TheVariants.{Free, Realloc, Fill, Put, Get};
+ghost use Rattle.rlsf_text.specs.declared.op.Op.TheVariants.{Free, FreeUnknown, Realloc, Fill, Put, Get, Usable};
 ghost use Rattle.rlsf_runs.specs.Runs.{RunState};
 ghost use Rattle.rlsf_runs.specs.Steps.Tables.{HasRoom, IsAt, LeadsOn};
 
 use crate::tables::{Payload, Tables};
 use rlsf_base::memory::Layout;
-use rlsf_int::BinInteger;
+use rlsf_int::Bitmap;
 use rlsf_text::{Answer, TraceError};
 use rlsf_tlsf::Tlsf;
 
 /// Gives the payload of a name back, unless no live one has it. The name is free again.
-pub(crate) fn free<
-    FLBitmap: BinInteger,
-    SLBitmap: BinInteger,
-    const FLLEN: usize,
-    const SLLEN: usize,
->(tlsf: &mut Tlsf<FLBitmap, SLBitmap, FLLEN, SLLEN>, tables: &mut Tables, name: usize) -> Answer
+pub(crate) fn free<FLBitmap: Bitmap, SLBitmap: Bitmap, const FLLEN: usize, const SLLEN: usize>(
+    tlsf: &mut Tlsf<FLBitmap, SLBitmap, FLLEN, SLLEN>,
+    tables: &mut Tables,
+    name: usize,
+) -> Answer
     requires { (s : RunState) × IsAt FLLEN SLLEN tlsf.old tables.old s }
     ensures does { (s : RunState) → IsAt FLLEN SLLEN tlsf.old tables.old s → LeadsOn FLLEN SLLEN tlsf.old s (Free name) result tlsf.new tables.new }
     ensures room { (ops : ℕ) → HasRoom tables.old (ops + 1) → HasRoom tables.new ops }
@@ -31,14 +30,28 @@ pub(crate) fn free<
     Answer::Done
 }
 
-/// Gives the payload of a name another size, unless no live one has it or no layout has that size with its alignment. Where
-/// there is no room for it, the name keeps its payload as it is.
-pub(crate) fn realloc<
-    FLBitmap: BinInteger,
-    SLBitmap: BinInteger,
+/// Gives the payload of a name back without telling its alignment, unless no live one has it. The name is free again.
+pub(crate) fn free_unknown<
+    FLBitmap: Bitmap,
+    SLBitmap: Bitmap,
     const FLLEN: usize,
     const SLLEN: usize,
->(
+>(tlsf: &mut Tlsf<FLBitmap, SLBitmap, FLLEN, SLLEN>, tables: &mut Tables, name: usize) -> Answer
+    requires { (s : RunState) × IsAt FLLEN SLLEN tlsf.old tables.old s }
+    ensures does { (s : RunState) → IsAt FLLEN SLLEN tlsf.old tables.old s → LeadsOn FLLEN SLLEN tlsf.old s (FreeUnknown name) result tlsf.new tables.new }
+    ensures room { (ops : ℕ) → HasRoom tables.old (ops + 1) → HasRoom tables.new ops }
+    ensures place { SamePlace tlsf.old.memory tlsf.new.memory }
+{
+    let Some(payload) = tables.take_name(name) else {
+        return Answer::Refused(TraceError::UnknownName);
+    };
+    tlsf.deallocate_unknown_align(payload.addr);
+    Answer::Done
+}
+
+/// Gives the payload of a name another size, unless no live one has it or no layout has that size with its alignment. Where
+/// there is no room for it, the name keeps its payload as it is.
+pub(crate) fn realloc<FLBitmap: Bitmap, SLBitmap: Bitmap, const FLLEN: usize, const SLLEN: usize>(
     tlsf: &mut Tlsf<FLBitmap, SLBitmap, FLLEN, SLLEN>,
     tables: &mut Tables,
     name: usize,
@@ -65,12 +78,7 @@ pub(crate) fn realloc<
 }
 
 /// Sets every usable byte of the payload of a name, unless no live one has it.
-pub(crate) fn fill<
-    FLBitmap: BinInteger,
-    SLBitmap: BinInteger,
-    const FLLEN: usize,
-    const SLLEN: usize,
->(
+pub(crate) fn fill<FLBitmap: Bitmap, SLBitmap: Bitmap, const FLLEN: usize, const SLLEN: usize>(
     tlsf: &mut Tlsf<FLBitmap, SLBitmap, FLLEN, SLLEN>,
     tables: &Tables,
     name: usize,
@@ -88,12 +96,7 @@ pub(crate) fn fill<
 }
 
 /// Sets the byte at an offset of the payload of a name, unless no live one has it or the offset isn't below its usable size.
-pub(crate) fn put<
-    FLBitmap: BinInteger,
-    SLBitmap: BinInteger,
-    const FLLEN: usize,
-    const SLLEN: usize,
->(
+pub(crate) fn put<FLBitmap: Bitmap, SLBitmap: Bitmap, const FLLEN: usize, const SLLEN: usize>(
     tlsf: &mut Tlsf<FLBitmap, SLBitmap, FLLEN, SLLEN>,
     tables: &Tables,
     name: usize,
@@ -115,12 +118,7 @@ pub(crate) fn put<
 }
 
 /// Reads the byte at an offset of the payload of a name, unless no live one has it or the offset isn't below its usable size.
-pub(crate) fn get<
-    FLBitmap: BinInteger,
-    SLBitmap: BinInteger,
-    const FLLEN: usize,
-    const SLLEN: usize,
->(
+pub(crate) fn get<FLBitmap: Bitmap, SLBitmap: Bitmap, const FLLEN: usize, const SLLEN: usize>(
     tlsf: &Tlsf<FLBitmap, SLBitmap, FLLEN, SLLEN>,
     tables: &Tables,
     name: usize,
@@ -135,5 +133,20 @@ pub(crate) fn get<
     match tlsf.payload(payload.addr).get(offset) {
         Some(byte) => Answer::Byte(*byte),
         None => Answer::Refused(TraceError::BadOffset),
+    }
+}
+
+/// How many bytes of the payload of a name are usable, unless no live one has it.
+pub(crate) fn usable<FLBitmap: Bitmap, SLBitmap: Bitmap, const FLLEN: usize, const SLLEN: usize>(
+    tlsf: &Tlsf<FLBitmap, SLBitmap, FLLEN, SLLEN>,
+    tables: &Tables,
+    name: usize,
+) -> Answer
+    requires { (s : RunState) × IsAt FLLEN SLLEN tlsf.now tables.now s }
+    ensures { (s : RunState) → IsAt FLLEN SLLEN tlsf.now tables.now s → LeadsOn FLLEN SLLEN tlsf.now s (Usable name) result tlsf.now tables.now }
+{
+    match tables.payload(name) {
+        Some(payload) => Answer::Usable(tlsf.allocation_usable_size(payload.addr)),
+        None => Answer::Refused(TraceError::UnknownName),
     }
 }

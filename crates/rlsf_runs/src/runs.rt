@@ -7,18 +7,19 @@ ghost use Rattle.rlsf_base.specs.Space.{range_of, SamePlace};
 ghost use Rattle.rlsf_machine.specs.Insert.{IsVacant};
 ghost use Rattle.rlsf_machine.specs.Lists.{IsIn};
 ghost use Rattle.rlsf_machine.specs.State.{between, empty};
-ghost use Rattle.rlsf_tlsf.specs.Spare.{KeepsSpare};
-ghost use Rattle.rlsf_tlsf.specs.StandsFor.{StandsFor};
+ghost use Rattle.rlsf_blocks.specs.Spare.{KeepsSpare};
+ghost use Rattle.rlsf_blocks.specs.StandsFor.{StandsFor};
 ghost use Rattle.rlsf_text.specs.declared.op.Answer.{Answer};
 ghost use Rattle.rlsf_runs.specs.declared.runs.RunError.TheVariants.{OutOfMemory};
 ghost use Rattle.rlsf_text.specs.declared.op.Op.TheVariants.{Insert, Append, Alloc};
 ghost use Rattle.rlsf_runs.specs.Runs.{RunState, beginning, Runs};
 ghost use Rattle.rlsf_runs.specs.Steps.Tables.{HasRoom, IsAt, IsInOrder, LeadsOn};
 
-use crate::payloads::{fill, free, get, put, realloc};
+use crate::payloads::{fill, free, free_unknown, get, put, realloc, usable};
 use crate::tables::{Payload, Tables, ending_at, touches_any};
+use crate::walks::block;
 use rlsf_base::memory::{Layout, Memory, Range};
-use rlsf_int::BinInteger;
+use rlsf_int::Bitmap;
 use rlsf_text::{Answer, Op, TraceError};
 use rlsf_tlsf::{GRANULARITY, Tlsf};
 use std::alloc::{AllocError, Global};
@@ -39,8 +40,8 @@ impl From<AllocError> for RunError {
     }
 }
 
-// Whether the range lies in the memory.
-fn lies_in(memory: &Memory, range: Range) -> bool
+/// Whether the range lies in the memory.
+pub(crate) fn lies_in(memory: &Memory, range: Range) -> bool
     ensures { IsTrue result ↔ LiesIn range memory.now.start (length memory.now.bytes) }
 {
     let start = memory.start();
@@ -59,7 +60,7 @@ fn is_vacant(memory: &Memory, pools: &VecDeque<Range>, range: Range) -> bool
 }
 
 /// Does one op, and answers it.
-fn step<FLBitmap: BinInteger, SLBitmap: BinInteger, const FLLEN: usize, const SLLEN: usize>(
+fn step<FLBitmap: Bitmap, SLBitmap: Bitmap, const FLLEN: usize, const SLLEN: usize>(
     tlsf: &mut Tlsf<FLBitmap, SLBitmap, FLLEN, SLLEN>,
     tables: &mut Tables,
     op: Op,
@@ -75,15 +76,18 @@ fn step<FLBitmap: BinInteger, SLBitmap: BinInteger, const FLLEN: usize, const SL
         Op::Append(range) => append(tlsf, tables, range),
         Op::Alloc(name, layout) => alloc(tlsf, tables, name, layout),
         Op::Free(name) => free(tlsf, tables, name),
+        Op::FreeUnknown(name) => free_unknown(tlsf, tables, name),
         Op::Realloc(name, size) => realloc(tlsf, tables, name, size),
         Op::Fill(name, byte) => fill(tlsf, tables, name, byte),
         Op::Put(name, offset, byte) => put(tlsf, tables, name, offset, byte),
         Op::Get(name, offset) => get(tlsf, tables, name, offset),
+        Op::Usable(name) => usable(tlsf, tables, name),
+        Op::Block(range, index) => block(tlsf, tables, range, index),
     }
 }
 
 /// Inserts a range, unless it doesn't lie in the memory or touches a pool.
-fn insert<FLBitmap: BinInteger, SLBitmap: BinInteger, const FLLEN: usize, const SLLEN: usize>(
+fn insert<FLBitmap: Bitmap, SLBitmap: Bitmap, const FLLEN: usize, const SLLEN: usize>(
     tlsf: &mut Tlsf<FLBitmap, SLBitmap, FLLEN, SLLEN>,
     tables: &mut Tables,
     range: Range,
@@ -117,7 +121,7 @@ fn pool_of(range: Range, len: usize) -> Range
 }
 
 /// Appends a range, unless it doesn't lie in the memory, touches a pool, or begins where none ends.
-fn append<FLBitmap: BinInteger, SLBitmap: BinInteger, const FLLEN: usize, const SLLEN: usize>(
+fn append<FLBitmap: Bitmap, SLBitmap: Bitmap, const FLLEN: usize, const SLLEN: usize>(
     tlsf: &mut Tlsf<FLBitmap, SLBitmap, FLLEN, SLLEN>,
     tables: &mut Tables,
     range: Range,
@@ -139,7 +143,7 @@ fn append<FLBitmap: BinInteger, SLBitmap: BinInteger, const FLLEN: usize, const 
 }
 
 /// Allocates a payload and names it, unless a live one has the name.
-fn alloc<FLBitmap: BinInteger, SLBitmap: BinInteger, const FLLEN: usize, const SLLEN: usize>(
+fn alloc<FLBitmap: Bitmap, SLBitmap: Bitmap, const FLLEN: usize, const SLLEN: usize>(
     tlsf: &mut Tlsf<FLBitmap, SLBitmap, FLLEN, SLLEN>,
     tables: &mut Tables,
     name: usize,
@@ -171,7 +175,7 @@ fn alloc<FLBitmap: BinInteger, SLBitmap: BinInteger, const FLLEN: usize, const S
 ///
 /// `OutOfMemory` comes only where the machine refused memory for the answers or for the run's own tables. Then no op
 /// was done, and the answers are as before.
-pub fn run<FLBitmap: BinInteger, SLBitmap: BinInteger, const FLLEN: usize, const SLLEN: usize>(
+pub fn run<FLBitmap: Bitmap, SLBitmap: Bitmap, const FLLEN: usize, const SLLEN: usize>(
     alloc: Global,
     tlsf: &mut Tlsf<FLBitmap, SLBitmap, FLLEN, SLLEN>,
     ops: &[Op],

@@ -3,6 +3,7 @@ ghost use Rattle.std.specs.HashMap.{get, IsEmpty};
 ghost use Rattle.std.specs.List.Sorted.{IsPartitionPoint};
 ghost use Rattle.rlsf_base.specs.declared.memory.range.Range.{Range};
 ghost use Rattle.rlsf_base.specs.Range.{end_of};
+ghost use Rattle.rlsf_base.specs.Rounding.{round32};
 ghost use Rattle.rlsf_machine.specs.Insert.{IsClear};
 ghost use Rattle.rlsf_machine.specs.Lists.{IsIn};
 ghost use Rattle.rlsf_machine.specs.WellFormed.{coverage, itself};
@@ -10,6 +11,7 @@ ghost use Rattle.rlsf_runs.specs.Runs.{lengthened};
 ghost use Rattle.rlsf_runs.specs.Steps.Tables.{EndsAt, HasRoom, IsInOrder};
 
 use rlsf_base::memory::{Addr, Range};
+use rlsf_tlsf::GRANULARITY;
 use std::alloc::{AllocError, Global};
 use std::collections::{HashMap, VecDeque};
 
@@ -136,5 +138,20 @@ pub(crate) fn ending_at(pools: &VecDeque<Range>, addr: usize) -> Option<usize>
         Some(begun - 1)
     } else {
         None
+    }
+}
+
+/// Whether a pool begins at the range's start rounded up to 32, and ends where the range does.
+pub(crate) fn is_pool(pools: &VecDeque<Range>, range: Range) -> bool
+    requires in_order { IsInOrder pools.now.items }
+    requires addressable { (end_of range < 2 ^ 64) × ((p : Range) → IsIn p pools.now.items → end_of p < 2 ^ 64) }
+    ensures { IsTrue result ↔ ((p : Range) × IsIn p pools.now.items × (p.start ≡ round32 range.start) × (end_of p ≡ end_of range)) }
+{
+    let Some(place) = ending_at(pools, range.start + range.len) else {
+        return false;
+    };
+    match range.start.checked_next_multiple_of(GRANULARITY) {
+        Some(start) => pools[place].start == start,
+        None => false,
     }
 }

@@ -1,5 +1,7 @@
 use super::*;
 
 mod growth;
+mod random;
 mod refusals;
 mod runs;
+mod walks;

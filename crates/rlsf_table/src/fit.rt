@@ -12,18 +12,13 @@ ghost use Rattle.rlsf_table.specs.Table.{IsClassAt};
 use crate::table::ClassTable;
 use rlsf_base::classes::map_ceil;
 use rlsf_base::memory::Memory;
-use rlsf_int::BinInteger;
+use rlsf_int::Bitmap;
 
 /// The address of the newest of the free blocks of the first class that reaches a size, in bytes, and the two indices of that
 /// class; `None` exactly where no block's class reaches it. At most 4 touches.
 ///
 /// The size is a multiple of 32 that is not 0; table and memory are those of some free blocks.
-pub fn first_fit<
-    FLBitmap: BinInteger,
-    SLBitmap: BinInteger,
-    const FLLEN: usize,
-    const SLLEN: usize,
->(
+pub fn first_fit<FLBitmap: Bitmap, SLBitmap: Bitmap, const FLLEN: usize, const SLLEN: usize>(
     memory: &mut Memory,
     table: &ClassTable<FLBitmap, SLBitmap, FLLEN, SLLEN>,
     size: usize,

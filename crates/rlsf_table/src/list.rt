@@ -13,7 +13,7 @@ ghost use Rattle.rlsf_table.specs.Table.{HasTable, IsClassAt};
 use crate::table::ClassTable;
 use rlsf_base::classes::map_floor;
 use rlsf_base::memory::Memory;
-use rlsf_int::BinInteger;
+use rlsf_int::Bitmap;
 
 /// Links the block at `block` in front of the blocks from `newest` on.
 fn link_front(memory: &mut Memory, newest: usize, block: usize)
@@ -57,7 +57,7 @@ fn unlink_between(memory: &mut Memory, block: usize) -> Option<usize>
 ///
 /// Table and memory are those of some free blocks, of valid classes, with their size words, none of which overlap, and the
 /// block can be one beside them.
-pub fn link<FLBitmap: BinInteger, SLBitmap: BinInteger, const FLLEN: usize, const SLLEN: usize>(
+pub fn link<FLBitmap: Bitmap, SLBitmap: Bitmap, const FLLEN: usize, const SLLEN: usize>(
     memory: &mut Memory,
     table: &mut ClassTable<FLBitmap, SLBitmap, FLLEN, SLLEN>,
     block: usize,
@@ -83,7 +83,7 @@ pub fn link<FLBitmap: BinInteger, SLBitmap: BinInteger, const FLLEN: usize, cons
 ///
 /// Table and memory are those of some free blocks, of valid classes, with their size words, none of which overlap, and the
 /// block is one of them.
-pub fn unlink<FLBitmap: BinInteger, SLBitmap: BinInteger, const FLLEN: usize, const SLLEN: usize>(
+pub fn unlink<FLBitmap: Bitmap, SLBitmap: Bitmap, const FLLEN: usize, const SLLEN: usize>(
     memory: &mut Memory,
     table: &mut ClassTable<FLBitmap, SLBitmap, FLLEN, SLLEN>,
     block: usize,
@@ -110,12 +110,7 @@ pub fn unlink<FLBitmap: BinInteger, SLBitmap: BinInteger, const FLLEN: usize, co
 ///
 /// Table and memory are those of some free blocks, of valid classes, with their size words, none of which overlap, the block is
 /// one of them, and the indices are those of the class of its length.
-pub fn unlink_at<
-    FLBitmap: BinInteger,
-    SLBitmap: BinInteger,
-    const FLLEN: usize,
-    const SLLEN: usize,
->(
+pub fn unlink_at<FLBitmap: Bitmap, SLBitmap: Bitmap, const FLLEN: usize, const SLLEN: usize>(
     memory: &mut Memory,
     table: &mut ClassTable<FLBitmap, SLBitmap, FLLEN, SLLEN>,
     block: usize,

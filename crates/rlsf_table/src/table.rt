@@ -12,7 +12,7 @@ ghost use Rattle.rlsf_table.specs.Steps.Places.{scanned_places};
 ghost use Rattle.rlsf_table.specs.Table.{IsHeadOf, IsHeadSet, IsLeastFrom, class_at, head_at, HasBits, HasTable};
 
 use rlsf_base::memory::Memory;
-use rlsf_int::{BinInteger, BitPattern};
+use rlsf_int::{BinInteger, BitPattern, Bitmap};
 use std::marker::{Model, PhantomData};
 
 /// Which classes have free blocks, and where the list of each begins.
@@ -49,7 +49,7 @@ impl<FLBitmap: BitPattern, SLBitmap: BitPattern, const FLLEN: usize, const SLLEN
     ghost invariant = { λ t. HasPlaces FLLEN SLLEN t.heads };
 }
 
-impl<FLBitmap: BinInteger, SLBitmap: BinInteger, const FLLEN: usize, const SLLEN: usize> ClassTable<
+impl<FLBitmap: Bitmap, SLBitmap: Bitmap, const FLLEN: usize, const SLLEN: usize> ClassTable<
     FLBitmap,
     SLBitmap,
     FLLEN,
@@ -60,7 +60,7 @@ impl<FLBitmap: BinInteger, SLBitmap: BinInteger, const FLLEN: usize, const SLLEN
         ensures { (m : Space) → HasTable FLLEN SLLEN m result [] }
     {
         ClassTable {
-            fl_bitmap: FLBitmap::ZERO,
+            fl_bitmap: FLBitmap::empty(),
             sl_bitmaps: [0; FLLEN],
             heads: [[0; SLLEN]; FLLEN],
             marker: PhantomData,
@@ -95,16 +95,16 @@ impl<FLBitmap: BinInteger, SLBitmap: BinInteger, const FLLEN: usize, const SLLEN
         ensures within { (sl : ℕ) → sl < SLLEN → bit (SLBitmap.pattern result) sl ≡ bit (slice_index self.now.second_level fl) sl }
         ensures past { (sl : ℕ) → SLLEN ≤ sl → bit (SLBitmap.pattern result) sl ≡ false }
     {
-        let mut places = SLBitmap::ZERO;
+        let mut places = SLBitmap::empty();
         for place in 0..SLLEN as u32 {
             if self.sl_bitmaps[fl].get_bit(place) {
-                places.set_bit(place);
+                places.insert(place);
             }
         }
         places
     }
 
-    /// The address of the newest free block of a class, or 0 if none is free. One touch.
+    /// The address of the newest free block of a class, or 0 if none is free. At most one touch.
     ///
     /// The row is below `FLLEN`, and the place below `SLLEN`.
     pub fn head(&self, memory: &mut Memory, fl: usize, sl: usize) -> usize
@@ -116,7 +116,7 @@ impl<FLBitmap: BinInteger, SLBitmap: BinInteger, const FLLEN: usize, const SLLEN
         self.newest(fl, sl)
     }
 
-    /// Makes the block at the address `block` the newest one of a class, which has a free block then. Five touches.
+    /// Makes the block at the address `block` the newest one of a class, which has a free block then. At most five touches.
     ///
     /// The row is below `FLLEN`, and the place below `SLLEN`.
     pub fn put(&mut self, memory: &mut Memory, fl: usize, sl: usize, block: usize)
@@ -133,11 +133,11 @@ impl<FLBitmap: BinInteger, SLBitmap: BinInteger, const FLLEN: usize, const SLLEN
         self.sl_bitmaps[fl] |= one_at::<SLLEN>(sl);
         memory.touch();
         memory.touch();
-        self.fl_bitmap.set_bit(fl as u32);
+        self.fl_bitmap.insert(fl as u32);
     }
 
     /// Makes the block at the address `next` the newest one of a class whose newest one was taken out; 0 if no block of the class
-    /// is left. One touch, and at most six where none is left.
+    /// is left. At most one touch, and at most six where none is left.
     ///
     /// The row is below `FLLEN`, and the place below `SLLEN`.
     pub fn take(&mut self, memory: &mut Memory, fl: usize, sl: usize, next: usize)
@@ -158,7 +158,7 @@ impl<FLBitmap: BinInteger, SLBitmap: BinInteger, const FLLEN: usize, const SLLEN
             if self.sl_bitmaps[fl] == 0 {
                 memory.touch();
                 memory.touch();
-                self.fl_bitmap.clear_bit(fl as u32);
+                self.fl_bitmap.remove(fl as u32);
             }
         }
     }
@@ -179,7 +179,7 @@ impl<FLBitmap: BinInteger, SLBitmap: BinInteger, const FLLEN: usize, const SLLEN
             return Some((fl, place as usize));
         }
         memory.touch();
-        let row = self.fl_bitmap.bit_scan_forward(fl as u32 + 1) as usize;
+        let row = self.fl_bitmap.first_from(fl as u32 + 1) as usize;
         if row >= FLLEN {
             return None;
         }

@@ -1,7 +1,7 @@
 -- Commands: what the lines of a trace ask for.
 use Rattle.std.specs.Prelude.{ℕ}
 use Rattle.rlsf_text.specs.declared.op.Op.{Op}
-use Rattle.rlsf_text.specs.declared.op.Op.TheVariants.{Insert, Append, Alloc, Free, Realloc, Fill, Put, Get}
+use Rattle.rlsf_text.specs.declared.op.Op.TheVariants.{Insert, Append, Alloc, Free, FreeUnknown, Realloc, Fill, Put, Get, Usable, Block}
 
 -- a command, with its numbers as they stand on the line
 pub data Command : Type 0 where
@@ -9,10 +9,13 @@ pub data Command : Type 0 where
   append : (start len : ℕ) → Command
   alloc : (name size align : ℕ) → Command
   free : (name : ℕ) → Command
+  free_unknown : (name : ℕ) → Command
   realloc : (name size : ℕ) → Command
   fill : (name byte : ℕ) → Command
   put : (name offset byte : ℕ) → Command
   get : (name offset : ℕ) → Command
+  usable : (name : ℕ) → Command
+  block : (start len index : ℕ) → Command
 
 -- the command that asks for an op
 abbrev pub command_of : Op → Command
@@ -20,7 +23,10 @@ command_of (Insert range) = insert range.start range.len
 command_of (Append range) = append range.start range.len
 command_of (Alloc name layout) = alloc name layout.size layout.align
 command_of (Free name) = free name
+command_of (FreeUnknown name) = free_unknown name
 command_of (Realloc name size) = realloc name size
 command_of (Fill name byte) = fill name byte
 command_of (Put name offset byte) = put name offset byte
 command_of (Get name offset) = get name offset
+command_of (Usable name) = usable name
+command_of (Block range index) = block range.start range.len index

@@ -1,13 +1,14 @@
 -- The text that is printed for ops and their answers.
-use Rattle.std.specs.Prelude.{ℕ, List, [], ◌∷◌, ◌++◌, codes, Option, Some, None}
+use Rattle.std.specs.Prelude.{ℕ, List, [], ◌∷◌, ◌++◌, codes, Bool, Option, Some, None, if◌then◌else◌}
 use Rattle.std.specs.Fmt.{decimal}
 use Rattle.std.specs.Int.NonZero.{non_zero_usize_get}
 use Rattle.std.specs.List.{flat_map, zip}
 use Rattle.std.specs.declared.num.NonZeroUsize.{NonZeroUsize}
+use Rattle.rlsf_base.specs.declared.memory.range.Range.{Range}
 use Rattle.rlsf_text.specs.declared.op.Op.{Op}
-use Rattle.rlsf_text.specs.declared.op.Op.TheVariants.{Insert, Append, Alloc, Free, Realloc, Fill, Put, Get}
+use Rattle.rlsf_text.specs.declared.op.Op.TheVariants.{Insert, Append, Alloc, Free, FreeUnknown, Realloc, Fill, Put, Get, Usable as OpUsable, Block as OpBlock}
 use Rattle.rlsf_text.specs.declared.op.Answer.{Answer}
-use Rattle.rlsf_text.specs.declared.op.Answer.TheVariants.{Inserted, Appended, Placed, Done, Byte, Refused}
+use Rattle.rlsf_text.specs.declared.op.Answer.TheVariants.{Inserted, Appended, Placed, Done, Byte, Usable, Block, Refused}
 use Rattle.rlsf_text.specs.declared.op.TraceError.{TraceError}
 use Rattle.rlsf_text.specs.declared.op.TraceError.TheVariants.{UnknownName, NameTaken, BadRange, BadOffset, BadLayout}
 
@@ -33,10 +34,13 @@ op_text (Insert range) = codes "insert"
 op_text (Append range) = codes "append"
 op_text (Alloc name layout) = codes "alloc " ++ decimal name
 op_text (Free name) = codes "free " ++ decimal name
+op_text (FreeUnknown name) = codes "ufree " ++ decimal name
 op_text (Realloc name size) = codes "realloc " ++ decimal name
 op_text (Fill name byte) = codes "fill " ++ decimal name
 op_text (Put name offset byte) = codes "put " ++ decimal name
 op_text (Get name offset) = codes "get " ++ decimal name
+op_text (OpUsable name) = codes "usable " ++ decimal name
+op_text (OpBlock range index) = codes "block"
 
 -- how the line of an inserted range goes on: the length of its pool, if it was long enough for one
 abbrev pub inserted_text : Option NonZeroUsize → List ℕ
@@ -48,6 +52,11 @@ abbrev pub placed_text : Option NonZeroUsize → List ℕ
 placed_text (Some addr) = codes " at " ++ decimal (non_zero_usize_get addr)
 placed_text None = codes " none"
 
+-- how the line of a block goes on: where it begins, its size, and whether it is used; none past the last one
+abbrev pub block_text : Option (Range × Bool) → List ℕ
+block_text (Some block) = codes " " ++ decimal block.0.start ++ codes " " ++ decimal block.0.len ++ (if block.1 then codes " used" else codes " free")
+block_text None = codes " none"
+
 -- the line of an op and its answer; that of a refused op shows only why
 abbrev pub line_text : Op → Answer → List ℕ
 line_text op (Inserted len) = op_text op ++ inserted_text len
@@ -55,6 +64,8 @@ line_text op (Appended len) = op_text op ++ codes " " ++ decimal len
 line_text op (Placed addr) = op_text op ++ placed_text addr
 line_text op Done = op_text op ++ codes " done"
 line_text op (Byte byte) = op_text op ++ codes " " ++ decimal byte
+line_text op (Usable bytes) = op_text op ++ codes " " ++ decimal bytes
+line_text op (Block block) = op_text op ++ block_text block
 line_text op (Refused error) = codes "refused " ++ decimal (error_number error) ++ codes " " ++ error_word error
 
 -- the line of each op that has an answer, in their order, each with LF at its end

@@ -8,7 +8,7 @@ use Rattle.rlsf_text.specs.declared.fault.Fault.{Fault}
 use Rattle.rlsf_text.specs.declared.fault.Fault.TheVariants.{Config, UnknownOp, ZeroStart, TooLong, BadLayout}
 use Rattle.rlsf_text.specs.declared.fault.ReplayFault.{ReplayFault}
 use Rattle.rlsf_text.specs.declared.parse.Trace.{Trace}
-use Rattle.rlsf_text.specs.Commands.{Command, insert, append, alloc, free, realloc, fill, put, get, command_of}
+use Rattle.rlsf_text.specs.Commands.{Command, insert, append, alloc, free, free_unknown, realloc, fill, put, get, usable, block, command_of}
 use Rattle.rlsf_text.specs.Configurations.{configuration_named}
 use Rattle.rlsf_text.specs.FallibleSteps.{◌>>=◌, or_fault, at_line, all_or_fault}
 use Rattle.rlsf_text.specs.Lines.{lines, first_line}
@@ -56,6 +56,13 @@ free_in fields = do
   name ← number_of word
   Ok (free name)
 
+-- `ufree NAME`
+unfoldable pub free_unknown_in : List (List ℕ) → Result Command Fault
+free_unknown_in fields = do
+  word ← exactly_one fields
+  name ← number_of word
+  Ok (free_unknown name)
+
 -- `realloc NAME SIZE`: whether there is such a layout depends on the name's alignment, which the text doesn't have
 unfoldable pub realloc_in : List (List ℕ) → Result Command Fault
 realloc_in fields = do
@@ -89,6 +96,22 @@ get_in fields = do
   offset ← number_of both.1
   Ok (get name offset)
 
+-- `usable NAME`
+unfoldable pub usable_in : List (List ℕ) → Result Command Fault
+usable_in fields = do
+  word ← exactly_one fields
+  name ← number_of word
+  Ok (usable name)
+
+-- `block START LEN INDEX`
+unfoldable pub block_in : List (List ℕ) → Result Command Fault
+block_in fields = do
+  all ← exactly_three fields
+  start ← number_of all.0
+  len ← number_of all.1
+  index ← number_of all.2
+  Ok (block start len index)
+
 -- what a line's words ask for: the first is the command's name
 unfoldable pub command_in : List (List ℕ) → Result Command Fault
 command_in [] = Err UnknownOp
@@ -97,11 +120,14 @@ command_in (name ∷ fields) =
     else (if bytes_eq name (codes "append") then append_in fields
     else (if bytes_eq name (codes "alloc") then alloc_in fields
     else (if bytes_eq name (codes "free") then free_in fields
+    else (if bytes_eq name (codes "ufree") then free_unknown_in fields
     else (if bytes_eq name (codes "realloc") then realloc_in fields
     else (if bytes_eq name (codes "fill") then fill_in fields
     else (if bytes_eq name (codes "put") then put_in fields
     else (if bytes_eq name (codes "get") then get_in fields
-    else Err UnknownOp)))))))
+    else (if bytes_eq name (codes "usable") then usable_in fields
+    else (if bytes_eq name (codes "block") then block_in fields
+    else Err UnknownOp))))))))))
 
 -- `CONFIG START LEN`
 unfoldable pub header_in : List (List ℕ) → Result (Configuration × ℕ × ℕ) Fault

@@ -13,6 +13,8 @@ pub enum Op {
     Alloc(usize, Layout),
     /// Gives the payload of this name back. The name is free again.
     Free(usize),
+    /// Gives the payload of this name back without telling its alignment. The name is free again.
+    FreeUnknown(usize),
     /// Gives the payload of this name another size, with the alignment that it was allocated with.
     Realloc(usize, usize),
     /// Sets every usable byte of the payload to the byte.
@@ -21,6 +23,10 @@ pub enum Op {
     Put(usize, usize, u8),
     /// Reads the byte at an offset of the payload.
     Get(usize, usize),
+    /// Asks how many bytes of the payload of this name are usable.
+    Usable(usize),
+    /// Asks for the block at an index, from 0, of the pool that is the range.
+    Block(Range, usize),
 }
 
 /// What an op of a trace answers.
@@ -36,6 +42,10 @@ pub enum Answer {
     Done,
     /// The byte that was read.
     Byte(u8),
+    /// How many bytes of the payload are usable.
+    Usable(usize),
+    /// The block's range with its header, and whether it is used; none past the last one.
+    Block(Option<(Range, bool)>),
     /// The op was refused before any call of the allocator, and changed nothing.
     Refused(TraceError),
 }
@@ -47,7 +57,8 @@ pub enum TraceError {
     UnknownName = 1,
     /// The name of a new payload is that of a live one.
     NameTaken = 2,
-    /// The range doesn't lie in the memory, or touches a byte of a pool; or it is to be appended, and no pool ends where it begins.
+    /// The range doesn't lie in the memory, or touches a byte of a pool; or it is to be appended, and no pool ends where it
+    /// begins; or its blocks are asked for, and its start rounded up to 32 and its end aren't those of one pool.
     BadRange = 3,
     /// The offset isn't below the usable size of the payload.
     BadOffset = 4,

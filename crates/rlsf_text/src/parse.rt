@@ -35,11 +35,11 @@ impl Trace {
     /// twenty decimal digits with a value of at most `2^64 - 1`.
     ///
     /// The first line is `CONFIG START LEN`. The others are `insert START LEN`, `append START LEN`,
-    /// `alloc NAME SIZE ALIGN`, `free NAME`, `realloc NAME SIZE`, `fill NAME BYTE`,
-    /// `put NAME OFFSET BYTE` or `get NAME OFFSET`, where a BYTE is a number of at most 255. The first line that isn't so is a
-    /// fault, with its number. The first line is tested for `FieldCount`, `Config`, `BadNumber`,
-    /// `ZeroStart` and `TooLong`, in this order, and any other for `UnknownOp`, `FieldCount`,
-    /// `BadNumber` and `BadLayout`.
+    /// `alloc NAME SIZE ALIGN`, `free NAME`, `ufree NAME`, `realloc NAME SIZE`, `fill NAME BYTE`,
+    /// `put NAME OFFSET BYTE`, `get NAME OFFSET`, `usable NAME` or `block START LEN INDEX`, where a BYTE is
+    /// a number of at most 255. The first line that isn't so is a fault, with its number. The first line is
+    /// tested for `FieldCount`, `Config`, `BadNumber`, `ZeroStart` and `TooLong`, in this order, and any
+    /// other for `UnknownOp`, `FieldCount`, `BadNumber` and `BadLayout`.
     ///
     /// `OutOfMemory`, of no line, comes only where the machine refused memory for the ops.
     #[tactic(auto, using(crate::proofs::TextFaults::fault_of_line))]

@@ -1,8 +1,8 @@
 ghost use Rattle.std.specs.Prelude.{◌≡◌, ◌++◌, OnOk, IfOk, string_bytes};
-ghost use Rattle.rlsf_text.specs.Printing.{op_text, inserted_text, placed_text, line_text, text_of};
+ghost use Rattle.rlsf_text.specs.Printing.{op_text, inserted_text, placed_text, block_text, line_text, text_of};
 
 use crate::op::{Answer, Op};
-use rlsf_base::memory::Addr;
+use rlsf_base::memory::{Addr, Range};
 use std::alloc::{AllocError, Global};
 use std::num::NonZeroUsize;
 
@@ -45,6 +45,14 @@ fn print_line(text: &mut String, op: Op, answer: Answer) -> Result<(), AllocErro
             print_op(text, op)?;
             write!(text, " {byte}")
         }
+        Answer::Usable(bytes) => {
+            print_op(text, op)?;
+            write!(text, " {bytes}")
+        }
+        Answer::Block(block) => {
+            print_op(text, op)?;
+            print_block(text, block)
+        }
         Answer::Refused(error) => {
             let number = error.number();
             write!(text, "refused {number} {error}")
@@ -60,10 +68,13 @@ fn print_op(text: &mut String, op: Op) -> Result<(), AllocError>
         Op::Append(_) => write!(text, "append"),
         Op::Alloc(name, _) => write!(text, "alloc {name}"),
         Op::Free(name) => write!(text, "free {name}"),
+        Op::FreeUnknown(name) => write!(text, "ufree {name}"),
         Op::Realloc(name, _) => write!(text, "realloc {name}"),
         Op::Fill(name, _) => write!(text, "fill {name}"),
         Op::Put(name, _, _) => write!(text, "put {name}"),
         Op::Get(name, _) => write!(text, "get {name}"),
+        Op::Usable(name) => write!(text, "usable {name}"),
+        Op::Block(_, _) => write!(text, "block"),
     }
 }
 
@@ -81,6 +92,16 @@ fn print_placed(text: &mut String, addr: Option<Addr>) -> Result<(), AllocError>
 {
     match addr {
         Some(addr) => write!(text, " at {addr}"),
+        None => write!(text, " none"),
+    }
+}
+
+fn print_block(text: &mut String, block: Option<(Range, bool)>) -> Result<(), AllocError>
+    ensures { OnOk result (string_bytes text.new ≡ string_bytes text.old ++ block_text block) }
+{
+    match block {
+        Some((Range { start, len }, true)) => write!(text, " {start} {len} used"),
+        Some((Range { start, len }, false)) => write!(text, " {start} {len} free"),
         None => write!(text, " none"),
     }
 }

@@ -3,7 +3,7 @@ ghost use Rattle.rlsf_text.specs.FallibleSteps.{Gives, GivesOrRefused};
 ghost use Rattle.rlsf_text.specs.Commands.{command_of};
 ghost use Rattle.rlsf_text.specs.Lines.{lines_left};
 ghost use Rattle.rlsf_text.specs.Words.{words, words_left};
-ghost use Rattle.rlsf_text.specs.Reading.{insert_in, append_in, layout_of, alloc_in, free_in, realloc_in, fill_in, put_in, get_in, command_in, header_in, commands_in};
+ghost use Rattle.rlsf_text.specs.Reading.{insert_in, append_in, layout_of, alloc_in, free_in, free_unknown_in, realloc_in, fill_in, put_in, get_in, usable_in, block_in, command_in, header_in, commands_in};
 
 use crate::configuration::Configuration;
 use crate::fault::{Fault, ReplayFault};
@@ -67,6 +67,8 @@ fn read_op(line: &[u8]) -> Result<Op, Fault>
         read_alloc(fields)
     } else if name == b"free".as_slice() {
         read_free(fields)
+    } else if name == b"ufree".as_slice() {
+        read_free_unknown(fields)
     } else if name == b"realloc".as_slice() {
         read_realloc(fields)
     } else if name == b"fill".as_slice() {
@@ -75,6 +77,10 @@ fn read_op(line: &[u8]) -> Result<Op, Fault>
         read_put(fields)
     } else if name == b"get".as_slice() {
         read_get(fields)
+    } else if name == b"usable".as_slice() {
+        read_usable(fields)
+    } else if name == b"block".as_slice() {
+        read_block(fields)
     } else {
         Err(Fault::UnknownOp)
     }
@@ -131,6 +137,15 @@ fn read_free(fields: Words) -> Result<Op, Fault>
     Ok(Op::Free(name))
 }
 
+#[tactic(auto, unfolding(crate::specs::Reading::free_unknown_in))]
+fn read_free_unknown(fields: Words) -> Result<Op, Fault>
+    ensures { Gives command_of result (free_unknown_in (words_left fields.entry)) }
+{
+    let name = fields.exactly_one()?;
+    let name = number(name)?;
+    Ok(Op::FreeUnknown(name))
+}
+
 #[tactic(auto, unfolding(crate::specs::Reading::realloc_in))]
 fn read_realloc(fields: Words) -> Result<Op, Fault>
     ensures { Gives command_of result (realloc_in (words_left fields.entry)) }
@@ -170,4 +185,24 @@ fn read_get(fields: Words) -> Result<Op, Fault>
     let name = number(name)?;
     let offset = number(offset)?;
     Ok(Op::Get(name, offset))
+}
+
+#[tactic(auto, unfolding(crate::specs::Reading::usable_in))]
+fn read_usable(fields: Words) -> Result<Op, Fault>
+    ensures { Gives command_of result (usable_in (words_left fields.entry)) }
+{
+    let name = fields.exactly_one()?;
+    let name = number(name)?;
+    Ok(Op::Usable(name))
+}
+
+#[tactic(auto, unfolding(crate::specs::Reading::block_in))]
+fn read_block(fields: Words) -> Result<Op, Fault>
+    ensures { Gives command_of result (block_in (words_left fields.entry)) }
+{
+    let (start, len, index) = fields.exactly_three()?;
+    let start = number(start)?;
+    let len = number(len)?;
+    let index = number(index)?;
+    Ok(Op::Block(Range { start, len }, index))
 }

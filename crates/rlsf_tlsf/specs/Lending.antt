@@ -6,8 +6,8 @@ use Rattle.rlsf_base.specs.Space.{Space}
 use Rattle.rlsf_int.specs.declared.int.BitPattern.{Ghosts}
 use Rattle.rlsf_machine.specs.Run.{Fills}
 use Rattle.rlsf_machine.specs.State.{State}
-use Rattle.rlsf_tlsf.specs.Spare.{KeepsSpare}
-use Rattle.rlsf_tlsf.specs.StandsFor.{Contents, StandsFor}
+use Rattle.rlsf_blocks.specs.Spare.{KeepsSpare}
+use Rattle.rlsf_blocks.specs.StandsFor.{Contents, StandsFor}
 use Rattle.rlsf_tlsf.specs.contracts.tlsf.Tlsf.{the_row}
 
 -- a memory with so many more touches

@@ -1,12 +1,13 @@
 //! The allocator over pools that its caller hands in: two-level segregated fit (Masmano and others, ECRTS 2004).
 #![tactic(auto)]
 
-ghost use Rattle.rlsf_machine.specs.Laws.{EmptyIsWellFormed, StepsKeepWellFormed, RunsKeepWellFormed, StepsAreDetermined, OrderMeansNothing, RefusalChangesNothing, ChunksAreCutOffTheFront, LiveAddressesAreAligned, LiveAddressHasOneBlock, PayloadsAreDisjoint, PayloadLiesInOneChunk, AllocationHasSize, ReallocationHasSize, RoomIsFound, PoolHasRoom, AllocationAnswers, RefusedWithoutReach, ChoiceIsFirstOfLeast, IdleChunkIsOneRange, ChunksStay, OtherPayloadsStay, HandedOutIsNew, ReallocatedIsLive, LiveStays, ReleasedIsNotLive, FilledHasBytes, FillLeavesOthers, DeallocationLeavesOthers};
-ghost use Rattle.rlsf_tlsf.specs.Laws.{WordsReadNoPayload};
+ghost use Rattle.rlsf_machine.specs.Laws.{EmptyIsWellFormed, StepsKeepWellFormed, RunsKeepWellFormed, StepsAreDetermined, OrderMeansNothing, RefusalChangesNothing, ChunksAreCutOffTheFront, LiveAddressesAreAligned, LiveAddressHasOneBlock, PayloadsAreDisjoint, PayloadLiesInOneChunk, AllocationHasSize, ReallocationHasSize, RoomIsFound, PoolHasRoom, AllocationAnswers, RefusedWithoutReach, ChoiceIsFirstOfLeast, IdleChunkIsOneRange, ChunksStay, OtherPayloadsStay, HandedOutIsNew, ReallocatedIsLive, LiveStays, ReleasedIsNotLive, FilledHasBytes, FillLeavesOthers, DeallocationLeavesOthers, InsertedChunksLieInRange, UsedWasUsed, SimilarStatesAgree, EachCallAnswers, ReallocationKeepsBytes};
+ghost use Rattle.rlsf_blocks.specs.Laws.{WordsReadNoPayload};
 
 mod tlsf;
 
-pub use tlsf::{GRANULARITY, Tlsf};
+pub use rlsf_blocks::{BlockInfo, Blocks, GRANULARITY};
+pub use tlsf::Tlsf;
 
 /// Does nothing. Its contract states the laws of the states that an allocator stands for, so that a check proves them.
 ///
@@ -19,7 +20,11 @@ pub use tlsf::{GRANULARITY, Tlsf};
 /// reaches and is refused only where none reaches; so does a pool of the length that is computed for the
 /// allocation, at a multiple of 32. With nothing live a chunk holds one free range. A step that doesn't name a
 /// payload leaves it as it was; what is handed out was not live and is live. A fill leaves its bytes in one
-/// payload, and a deallocation takes one away; neither changes another, or hands one out.
+/// payload, and a deallocation takes one away; neither changes another, or hands one out. A chunk that an insert
+/// makes lies in the range that was handed in. What a step names neither in its call nor in its reply, and is used
+/// after it, was used before with the same bytes. States that are alike but for bytes and for the order of chunks
+/// and of used blocks give the same reply to the same call, and stay so alike. Each call that its caller may make
+/// has a reply. A payload that gets another size keeps the bytes that both sizes have.
 ///
 /// What is said of the words inside the pools and of the class table reads no usable byte of a live payload: a memory that
 /// differs in such bytes alone stands for the state with these bytes.
@@ -52,6 +57,11 @@ pub fn laws()
     ensures filled { FilledHasBytes }
     ensures fill_leaves { FillLeavesOthers }
     ensures release_leaves { DeallocationLeavesOthers }
+    ensures inserted_range { InsertedChunksLieInRange }
+    ensures was_used { UsedWasUsed }
+    ensures similar { SimilarStatesAgree }
+    ensures each_call { EachCallAnswers }
+    ensures kept_bytes { ReallocationKeepsBytes }
     ensures words { WordsReadNoPayload }
 {
     rlsf_machine::laws();

@@ -4,52 +4,35 @@ ghost use Rattle.std.specs.Borrow.{sem};
 ghost use Rattle.std.specs.Prelude.{◌≡◌, ◌≤◌, ◌<◌, ◌+◌, ◌*◌, ℕ, List, Option, Some, length, IfNone, IfSome};
 ghost use Rattle.std.specs.Int.NonZero.{non_zero_usize_get};
 ghost use Rattle.std.specs.List.{list_any};
+ghost use Rattle.std.specs.Map.Iter.{GivesInOrder};
 ghost use Rattle.std.specs.Option.{option_map};
 ghost use Rattle.rlsf_base.specs.SizeClass.{IsValid};
 ghost use Rattle.rlsf_base.specs.Sizes.{max_pool_size};
 ghost use Rattle.rlsf_base.specs.Space.{bytes_in, range_of, SamePlace};
 ghost use Rattle.rlsf_int.specs.Bits.{bit};
 ghost use Rattle.rlsf_machine.specs.Allocate.{Allocates, has_class};
+ghost use Rattle.rlsf_machine.specs.ChunkRows.{IsRow};
 ghost use Rattle.rlsf_machine.specs.Insert.{Appends, Inserts, IsFresh, IsNext, aligned_part, cut};
 ghost use Rattle.rlsf_machine.specs.Reallocate.{Plan, Reallocates, in_place, into_next, or_else};
 ghost use Rattle.rlsf_machine.specs.Release.{Deallocates};
 ghost use Rattle.rlsf_machine.specs.Run.{IsSomeLive};
 ghost use Rattle.rlsf_machine.specs.State.{State, Used, empty, usable, Holds, IsLive};
 ghost use Rattle.rlsf_table.specs.Table.{class_at, is_in_row, newest_of, of_class};
-ghost use Rattle.rlsf_tlsf.specs.Spare.{KeepsSpare};
-ghost use Rattle.rlsf_tlsf.specs.StandsFor.{StandsFor};
+ghost use Rattle.rlsf_blocks.specs.Blocks.{AreBlocks, walked};
+ghost use Rattle.rlsf_blocks.specs.Spare.{KeepsSpare};
+ghost use Rattle.rlsf_blocks.specs.StandsFor.{StandsFor};
 
-mod append;
-mod elsewhere;
-mod free;
-mod payload;
-mod place;
-mod pool;
-mod previous;
-mod reallocate;
-mod resize;
-
-use append::append;
-use free::{deallocate_block, used_block};
-use payload::{load_usable_bytes, usable_bytes};
-use place::place;
-use pool::insert;
-use reallocate::reallocate_block;
 use rlsf_base::classes::request_size;
 use rlsf_base::memory::{Addr, Layout, Memory, Range};
-use rlsf_int::{BinInteger, BitPattern};
+use rlsf_blocks::{
+    BlockInfo, Blocks, deallocate_block, insert, load_block_of, load_usable_bytes, place,
+    usable_bytes, used_block, walk,
+};
+use rlsf_int::{BitPattern, Bitmap};
+use rlsf_resize::{append, reallocate_block};
 use rlsf_table::{ClassTable, first_fit};
 use std::marker::Model;
 use std::num::NonZeroUsize;
-
-/// The unit of sizes and addresses of blocks, in bytes.
-pub const GRANULARITY: usize = 32;
-
-// The words in memory, and what contracts say of them, are those of this unit.
-const _: () = prove!(GRANULARITY == 32);
-
-// The bytes of a used block before its payload, at the least.
-const HEADER: usize = GRANULARITY / 2;
 
 /// The allocator over pools of one memory, which it owns.
 #[derive(Drop)]
@@ -65,7 +48,7 @@ pub struct Tlsf<
 
 impl<FLBitmap: BitPattern, SLBitmap: BitPattern, const FLLEN: usize, const SLLEN: usize> Model
     for Tlsf<FLBitmap, SLBitmap, FLLEN, SLLEN> {
-    ghost use Rattle.rlsf_tlsf.specs.StandsFor.{Contents, IsTlsf};
+    ghost use Rattle.rlsf_blocks.specs.StandsFor.{Contents, IsTlsf};
 
     ghost Value = { Contents };
 
@@ -74,7 +57,7 @@ impl<FLBitmap: BitPattern, SLBitmap: BitPattern, const FLLEN: usize, const SLLEN
     ghost invariant = { λ t. IsTlsf FLBitmap.width SLBitmap.width FLLEN SLLEN (record { memory = t.memory; table = t.table }) };
 }
 
-impl<FLBitmap: BinInteger, SLBitmap: BinInteger, const FLLEN: usize, const SLLEN: usize> Tlsf<
+impl<FLBitmap: Bitmap, SLBitmap: Bitmap, const FLLEN: usize, const SLLEN: usize> Tlsf<
     FLBitmap,
     SLBitmap,
     FLLEN,
@@ -194,6 +177,22 @@ impl<FLBitmap: BinInteger, SLBitmap: BinInteger, const FLLEN: usize, const SLLEN
         deallocate_block(&mut self.memory, &mut self.table, block);
     }
 
+    /// Gives a payload back, as `deallocate` does, for a caller that doesn't know the payload's alignment. The state after it
+    /// is the same.
+    ///
+    /// The address is live, with any alignment.
+    pub fn deallocate_unknown_align(&mut self, addr: Addr)
+        requires { (s : State) × StandsFor FLLEN SLLEN self.old s × IsSomeLive s (non_zero_usize_get addr) }
+        ensures step { (s : State) → StandsFor FLLEN SLLEN self.old s → IsSomeLive s (non_zero_usize_get addr)
+            → (t : State) × Deallocates s (non_zero_usize_get addr) t × StandsFor FLLEN SLLEN self.new t × KeepsSpare self.old.memory s self.new.memory t }
+        ensures place { SamePlace self.old.memory self.new.memory }
+        ensures touches { self.new.memory.touches ≤ self.old.memory.touches + 33 }
+        ensures copied { self.new.memory.copied ≡ self.old.memory.copied }
+    {
+        let block = load_block_of(&mut self.memory, addr.get());
+        deallocate_block(&mut self.memory, &mut self.table, block);
+    }
+
     /// Gives a payload another size: where it stands, if its block's bytes and those of a free block behind it suffice;
     /// else in the free block before it, if that suffices with these; else in a block that is allocated for it, and then
     /// the old one is given back. Answers its address, a multiple of the alignment. As many of its first bytes as both
@@ -215,6 +214,17 @@ impl<FLBitmap: BinInteger, SLBitmap: BinInteger, const FLLEN: usize, const SLLEN
         let block = used_block(&mut self.memory, payload, layout.align());
         let moved = reallocate_block(&mut self.memory, &mut self.table, block, payload, layout)?;
         NonZeroUsize::new(moved)
+    }
+
+    /// How many bytes the caller of the payload at `addr` may use: those from there to its block's end. They are as many as
+    /// were asked for, and less than 32 more.
+    ///
+    /// The address is live, with any alignment.
+    pub fn allocation_usable_size(&self, addr: Addr) -> usize
+        requires { (s : State) × StandsFor FLLEN SLLEN self.now s × IsSomeLive s (non_zero_usize_get addr) }
+        ensures { (s : State) (u : Used) → StandsFor FLLEN SLLEN self.now s → Holds s (non_zero_usize_get addr) u → result ≡ (usable u).len }
+    {
+        usable_bytes(&self.memory, addr.get()).len
     }
 
     /// The bytes of the payload at `addr`, from there to its block's end: all that its caller may use.
@@ -243,6 +253,19 @@ impl<FLBitmap: BinInteger, SLBitmap: BinInteger, const FLLEN: usize, const SLLEN
     {
         let range = load_usable_bytes(&mut self.memory, addr.get());
         self.memory.slice_mut(range)
+    }
+
+    /// The blocks of a range, used and free, in address order, from its start rounded up to 32 to its end; the sentinels at
+    /// the ends of chunks are left out.
+    ///
+    /// From there to there the range is a row of whole adjacent chunks, or empty, in some state that the allocator stands
+    /// for.
+    pub fn iter_blocks(&self, range: Range) -> Blocks<'_>
+        requires { (s : State) × StandsFor FLLEN SLLEN self.now s × IsRow s (walked range) }
+        ensures blocks { (s : State) → StandsFor FLLEN SLLEN self.now s → IsRow s (walked range) → AreBlocks s (walked range) result }
+        ensures runs { GivesInOrder BlockInfo }
+    {
+        walk(&self.memory, range)
     }
 
     /// The address of the newest free block of a class, by its row and its place in the row; `None` exactly if none is

@@ -4,7 +4,7 @@ ghost use Rattle.std.specs.Prelude.{◌≡◌, ◌≢◌, ◌⊎◌, IfOk, IfErr
 ghost use Rattle.std.specs.Io.KnownBytes.{IsAtEnd};
 ghost use Rattle.rlsf_base.specs.Range.{range_at};
 ghost use Rattle.rlsf_machine.specs.State.{empty};
-ghost use Rattle.rlsf_tlsf.specs.StandsFor.{StandsFor};
+ghost use Rattle.rlsf_blocks.specs.StandsFor.{StandsFor};
 ghost use Rattle.rlsf_base.specs.Space.{range_of};
 ghost use Rattle.rlsf_text.specs.Faults.{out_of_memory};
 ghost use Rattle.rlsf_trace.specs.Replays.{rows_of, classes_of, IsRun, IsOutput};
@@ -13,7 +13,7 @@ ghost use Rattle.rlsf_trace.specs.Replays.{IsReplay, IsCutReplay, no_memory, not
 use crate::input::read_input;
 use crate::output::write_text;
 use rlsf_base::memory::Memory;
-use rlsf_int::BinInteger;
+use rlsf_int::Bitmap;
 use rlsf_runs::run;
 use rlsf_text::{Answer, Configuration, Fault, Op, ReplayFault, Trace, text_of};
 use rlsf_tlsf::Tlsf;
@@ -29,7 +29,7 @@ fn memory_of(alloc: Global, trace: &Trace) -> Result<Memory, ReplayFault>
 }
 
 // What ops answer, on an allocator that has no chunk.
-fn answers_with<FLBitmap: BinInteger, SLBitmap: BinInteger, const FLLEN: usize, const SLLEN: usize>(
+fn answers_with<FLBitmap: Bitmap, SLBitmap: Bitmap, const FLLEN: usize, const SLLEN: usize>(
     alloc: Global,
     mut tlsf: Tlsf<FLBitmap, SLBitmap, FLLEN, SLLEN>,
     ops: &[Op],

@@ -10,9 +10,9 @@ use Rattle.rlsf_machine.specs.State.{State, Used, Holds}
 use Rattle.rlsf_machine.proofs.Changes.{Holds-unique}
 use Rattle.rlsf_machine.proofs.Live.{allocation_has_size, handed_out_is_new, other_payloads_stay}
 use Rattle.rlsf_tlsf.specs.Lending.{Leaves, written}
-use Rattle.rlsf_tlsf.specs.Spare.{KeepsSpare}
-use Rattle.rlsf_tlsf.specs.StandsFor.{Contents, StandsFor}
-use Rattle.rlsf_tlsf.proofs.Payloads.Filled.{with_bytes}
+use Rattle.rlsf_blocks.specs.Spare.{KeepsSpare}
+use Rattle.rlsf_blocks.specs.StandsFor.{Contents, StandsFor}
+use Rattle.rlsf_blocks.proofs.Payloads.Filled.{with_bytes}
 
 -- the payload that was filled has the bytes that were left, and the block and the alignment that it had
 pub filled_holds : {s t : State} {addr : ℕ} {w : List ℕ} (step : Fills s addr w t) → Holds t addr (with_bytes step.block w)

@@ -13,8 +13,8 @@ use Rattle.rlsf_machine.specs.WellFormed.{IsWellFormed}
 use Rattle.rlsf_machine.proofs.Changes.{Holds-unique}
 use Rattle.rlsf_machine.proofs.Determined.{refusal_changes_nothing}
 use Rattle.rlsf_machine.proofs.Live.{deallocation_leaves_others, filled_has_bytes, handed_out_is_new, live_stays, reallocated_is_live, reallocation_has_size}
-use Rattle.rlsf_tlsf.specs.Spare.{KeepsSpare}
-use Rattle.rlsf_tlsf.specs.StandsFor.{Contents, StandsFor}
+use Rattle.rlsf_blocks.specs.Spare.{KeepsSpare}
+use Rattle.rlsf_blocks.specs.StandsFor.{Contents, StandsFor}
 use Rattle.rlsf.proofs.Callers.Filled.{IsRead}
 
 -- a payload that was given another size: as many of its first bytes as both sizes have are those that it had

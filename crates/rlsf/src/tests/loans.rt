@@ -4,15 +4,15 @@ ghost use Rattle.std.specs.Prelude.{◌≡◌, ◌<◌, ℕ, IfSome};
 ghost use Rattle.std.specs.Int.NonZero.{non_zero_usize_get};
 ghost use Rattle.rlsf_machine.specs.Run.{IsSomeLive};
 ghost use Rattle.rlsf_machine.specs.State.{State};
-ghost use Rattle.rlsf_tlsf.specs.StandsFor.{StandsFor};
+ghost use Rattle.rlsf_blocks.specs.StandsFor.{StandsFor};
 
-use super::{from_4096, with_pool};
-use crate::int::BinInteger;
-use crate::{Addr, Layout, Tlsf};
+use super::frees::with_pool;
+use super::{Small, Wide, number, wide};
+use crate::{Addr, Layout};
 use std::test::Fail;
 
 /// Allocates a payload, fills it with a byte, reads it at an offset, and gives it back. Answers what was read.
-fn filled(tlsf: &mut Tlsf<u8, u8, 8, 8>, layout: Layout, byte: u8, offset: usize) -> Option<u8>
+fn filled(tlsf: &mut Small, layout: Layout, byte: u8, offset: usize) -> Option<u8>
     requires { offset < layout.size }
     ensures { IfSome result (λ read. read ≡ byte) }
 {
@@ -33,34 +33,19 @@ pub(crate) fn copy_front(from: &[u8], to: &mut [u8]) {
 }
 
 /// Allocates a payload and leaves bytes in its front, as many as there is room for. What was live stays live.
-fn put<FLBitmap: BinInteger, SLBitmap: BinInteger, const FLLEN: usize, const SLLEN: usize>(
-    tlsf: &mut Tlsf<FLBitmap, SLBitmap, FLLEN, SLLEN>,
-    layout: Layout,
-    bytes: &[u8],
-) -> Option<Addr>
-    ensures live { IfSome result (λ addr. (t : State) × StandsFor FLLEN SLLEN tlsf.new t × IsSomeLive t (non_zero_usize_get addr)) }
-    ensures stays { (s : State) → StandsFor FLLEN SLLEN tlsf.old s
-        → (t : State) × StandsFor FLLEN SLLEN tlsf.new t × ((a : ℕ) → IsSomeLive s a → IsSomeLive t a) × IfSome result (λ addr. IsSomeLive t (non_zero_usize_get addr)) }
+fn put(tlsf: &mut Small, layout: Layout, bytes: &[u8]) -> Option<Addr>
+    ensures live { IfSome result (λ addr. (t : State) × StandsFor 8 8 tlsf.new t × IsSomeLive t (non_zero_usize_get addr)) }
+    ensures stays { (s : State) → StandsFor 8 8 tlsf.old s
+        → (t : State) × StandsFor 8 8 tlsf.new t × ((a : ℕ) → IsSomeLive s a → IsSomeLive t a) × IfSome result (λ addr. IsSomeLive t (non_zero_usize_get addr)) }
 {
     let addr = tlsf.allocate(layout)?;
     copy_front(bytes, tlsf.payload_mut(addr));
     Some(addr)
 }
 
-/// The address of a payload that is allocated, and its length as lent to read and as lent to write.
-fn lengths<FLBitmap: BinInteger, SLBitmap: BinInteger, const FLLEN: usize, const SLLEN: usize>(
-    tlsf: &mut Tlsf<FLBitmap, SLBitmap, FLLEN, SLLEN>,
-    layout: Layout,
-) -> Option<(usize, usize, usize)> {
-    let addr = put(tlsf, layout, &[])?;
-    let read = tlsf.payload(addr).len();
-    let written = tlsf.payload_mut(addr).len();
-    Some((addr.get(), read, written))
-}
-
 /// Where three payloads lie, whose bytes were left one after the other, and whether each has them then.
 fn neighbours(
-    tlsf: &mut Tlsf<u8, u8, 8, 8>,
+    tlsf: &mut Small,
     layouts: (Layout, Layout, Layout),
     bytes: (&[u8], &[u8], &[u8]),
 ) -> Option<((usize, bool), (usize, bool), (usize, bool))> {
@@ -83,13 +68,15 @@ fn front_word(bytes: &[u8]) -> Option<u64> {
 
 /// Where two payloads lie, in whose fronts words were left one after the other, and the words that stand there then.
 fn words(
-    tlsf: &mut Tlsf<u16, u16, 12, 16>,
+    tlsf: &mut Wide,
     layout: Layout,
     first: u64,
     second: u64,
 ) -> Option<((usize, u64), (usize, u64))> {
-    let one = put(tlsf, layout, &first.to_le_bytes())?;
-    let two = put(tlsf, layout, &second.to_le_bytes())?;
+    let one = tlsf.allocate(layout)?;
+    copy_front(&first.to_le_bytes(), tlsf.payload_mut(one));
+    let two = tlsf.allocate(layout)?;
+    copy_front(&second.to_le_bytes(), tlsf.payload_mut(two));
     let read = front_word(tlsf.payload(one))?;
     Some((
         (one.get(), read),
@@ -99,27 +86,35 @@ fn words(
 
 #[test]
 fn page_is_lent(rt: HostRuntime) -> Result<(), Fail> {
-    let (mut page, _) = with_pool::<u8, u8, 8, 8>(rt.alloc(), from_4096(8192), from_4096(8192))?;
+    let mut tlsf = with_pool(rt.alloc(), 8192)?;
     let layout = Layout::from_size_align(1, 4096)?;
-    assert_eq!(rt; lengths(&mut page, layout), Some((8192, 32, 32)));
+    let addr = tlsf.allocate(layout);
+    assert_eq!(rt; number(addr), 8192);
+    if let Some(addr) = addr {
+        let read = tlsf.payload(addr).len();
+        let written = tlsf.payload_mut(addr).len();
+        assert_eq!(rt; (read, written), (32, 32));
+    }
     Ok(())
 }
 
 #[test]
 fn payload_without_bytes_is_lent(rt: HostRuntime) -> Result<(), Fail> {
-    let (mut tlsf, _) = with_pool::<u16, u16, 12, 16>(
-        rt.alloc(),
-        from_4096(65536),
-        from_4096(65536),
-    )?;
+    let mut tlsf = wide(rt.alloc())?;
     let layout = Layout::from_size_align(0, 32)?;
-    assert_eq!(rt; lengths(&mut tlsf, layout), Some((4128, 0, 0)));
+    let addr = tlsf.allocate(layout);
+    assert_eq!(rt; number(addr), 4128);
+    if let Some(addr) = addr {
+        let read = tlsf.payload(addr).len();
+        let written = tlsf.payload_mut(addr).len();
+        assert_eq!(rt; (read, written), (0, 0));
+    }
     Ok(())
 }
 
 #[test]
 fn neighbours_keep_their_bytes(rt: HostRuntime) -> Result<(), Fail> {
-    let (mut tlsf, _) = with_pool::<u8, u8, 8, 8>(rt.alloc(), from_4096(256), from_4096(256))?;
+    let mut tlsf = with_pool(rt.alloc(), 256)?;
     let layouts = (
         Layout::from_size_align(0, 1)?,
         Layout::from_size_align(40, 1)?,
@@ -132,7 +127,7 @@ fn neighbours_keep_their_bytes(rt: HostRuntime) -> Result<(), Fail> {
 
 #[test]
 fn filled_reads_back(rt: HostRuntime) -> Result<(), Fail> {
-    let (mut tlsf, _) = with_pool::<u8, u8, 8, 8>(rt.alloc(), from_4096(256), from_4096(256))?;
+    let mut tlsf = with_pool(rt.alloc(), 256)?;
     let layout = Layout::from_size_align(100, 1)?;
     assert_eq!(rt; filled(&mut tlsf, layout, 7, 99), Some(7));
     // It was given back: else there would be no room for another.
@@ -142,11 +137,7 @@ fn filled_reads_back(rt: HostRuntime) -> Result<(), Fail> {
 
 #[test]
 fn words_read_back(rt: HostRuntime) -> Result<(), Fail> {
-    let (mut tlsf, _) = with_pool::<u16, u16, 12, 16>(
-        rt.alloc(),
-        from_4096(65536),
-        from_4096(65536),
-    )?;
+    let mut tlsf = wide(rt.alloc())?;
     let layout = Layout::from_size_align(8, 8)?;
     assert_eq!(rt;
         words(&mut tlsf, layout, 42, 56),

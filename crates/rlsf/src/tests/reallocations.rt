@@ -5,12 +5,12 @@ ghost use Rattle.std.specs.Int.NonZero.{non_zero_usize_get};
 ghost use Rattle.rlsf_base.specs.Space.{SamePlace};
 ghost use Rattle.rlsf_machine.specs.Run.{IsSomeLive};
 ghost use Rattle.rlsf_machine.specs.State.{State, IsLive};
-ghost use Rattle.rlsf_tlsf.specs.StandsFor.{StandsFor};
+ghost use Rattle.rlsf_blocks.specs.StandsFor.{StandsFor};
 
-use super::frees::{allocated, with_pool};
+use super::frees::with_pool;
 use super::loans::copy_front;
-use crate::int::BinInteger;
-use crate::{Addr, Layout, LayoutError, Tlsf};
+use super::{Small, Wide, allocated, number, wide};
+use crate::{Addr, Layout, LayoutError};
 use std::num::NonZeroUsize;
 use std::test::Fail;
 
@@ -19,13 +19,7 @@ const BYTES: &[u8] = b"abcdefghijklmnopqrstuvwxyzABCDEFGHIJKLMNOPQRSTUVWXYZ01234
 
 /// Allocates a payload, fills it with a byte, gives it another size, and reads it at an offset that both sizes have. Answers
 /// what was read.
-fn kept(
-    tlsf: &mut Tlsf<u8, u8, 8, 8>,
-    layout: Layout,
-    wanted: Layout,
-    byte: u8,
-    offset: usize,
-) -> Option<u8>
+fn kept(tlsf: &mut Small, layout: Layout, wanted: Layout, byte: u8, offset: usize) -> Option<u8>
     requires { (wanted.align ≡ layout.align) × (offset < layout.size) × (offset < wanted.size) }
     ensures { IfSome result (λ read. read ≡ byte) }
 {
@@ -58,34 +52,26 @@ struct Moved {
 }
 
 /// Where a payload was and where it is, or 0; how many bytes it has; and whether they begin as they did.
-fn outcome<FLBitmap: BinInteger, SLBitmap: BinInteger, const FLLEN: usize, const SLLEN: usize>(
-    tlsf: &Tlsf<FLBitmap, SLBitmap, FLLEN, SLLEN>,
-    payload: Moved,
-) -> ((usize, usize), (usize, bool))
-    requires { (s : State) × StandsFor FLLEN SLLEN tlsf.now s × IsSomeLive s (non_zero_usize_get (unwrap_or payload.moved payload.was)) }
-{
-    let places = (
-        payload.was.get(),
-        payload.moved.map_or(0, NonZeroUsize::get),
-    );
-    let bytes = tlsf.payload(payload.moved.unwrap_or(payload.was));
+fn outcome(payload: Moved, bytes: &[u8]) -> ((usize, usize), (usize, bool)) {
+    let places = (payload.was.get(), number(payload.moved));
     let n = bytes.len().min(payload.had).min(BYTES.len());
     (places, (bytes.len(), bytes[..n] == BYTES[..n]))
 }
 
-/// Allocates a payload, leaves bytes in it, and asks for another size.
-fn one_moved(tlsf: &mut Tlsf<u8, u8, 8, 8>, layout: Layout, wanted: Layout) -> Option<Moved>
+/// What becomes of a payload, in which bytes are left, that is asked to get another size.
+fn one(tlsf: &mut Small, layout: Layout, wanted: Layout) -> Option<((usize, usize), (usize, bool))>
     requires { wanted.align ≡ layout.align }
-    ensures live { IfSome result (λ r. (t : State) × StandsFor 8 8 tlsf.new t × IsLive t (non_zero_usize_get (unwrap_or r.moved r.was)) wanted.align) }
 {
     let addr = tlsf.allocate(layout)?;
     let had = leave_bytes(tlsf.payload_mut(addr));
     let moved = tlsf.reallocate(addr, wanted);
-    Some(Moved {
+    let payload = Moved {
         was: addr,
         had,
         moved,
-    })
+    };
+    let bytes = tlsf.payload(moved.unwrap_or(addr));
+    Some(outcome(payload, bytes))
 }
 
 /// Which neighbour of a payload is given back.
@@ -97,16 +83,16 @@ enum Freed {
 }
 
 /// Gives one of the neighbours of the second of three payloads back, or neither. The second stays live.
-fn give_back<FLBitmap: BinInteger, SLBitmap: BinInteger, const FLLEN: usize, const SLLEN: usize>(
-    tlsf: &mut Tlsf<FLBitmap, SLBitmap, FLLEN, SLLEN>,
+fn give_back(
+    tlsf: &mut Small,
     addresses: (Addr, Addr, Addr),
     layouts: (Layout, Layout, Layout),
     freed: Freed,
 )
-    requires live { (s : State) × StandsFor FLLEN SLLEN tlsf.old s × IsLive s (non_zero_usize_get addresses.0) layouts.0.align × IsLive s (non_zero_usize_get addresses.1) layouts.1.align
+    requires live { (s : State) × StandsFor 8 8 tlsf.old s × IsLive s (non_zero_usize_get addresses.0) layouts.0.align × IsLive s (non_zero_usize_get addresses.1) layouts.1.align
         × IsLive s (non_zero_usize_get addresses.2) layouts.2.align }
     requires apart { (non_zero_usize_get addresses.0 ≢ non_zero_usize_get addresses.1) × (non_zero_usize_get addresses.2 ≢ non_zero_usize_get addresses.1) }
-    ensures live { (t : State) × StandsFor FLLEN SLLEN tlsf.new t × IsLive t (non_zero_usize_get addresses.1) layouts.1.align }
+    ensures live { (t : State) × StandsFor 8 8 tlsf.new t × IsLive t (non_zero_usize_get addresses.1) layouts.1.align }
     ensures place { SamePlace tlsf.old.memory tlsf.new.memory }
 {
     match freed {
@@ -118,14 +104,14 @@ fn give_back<FLBitmap: BinInteger, SLBitmap: BinInteger, const FLLEN: usize, con
 
 /// Allocates three payloads, leaves bytes in the second one, gives one of its neighbours back, and asks for another size
 /// for it.
-fn second_moved<FLBitmap: BinInteger, SLBitmap: BinInteger, const FLLEN: usize, const SLLEN: usize>(
-    tlsf: &mut Tlsf<FLBitmap, SLBitmap, FLLEN, SLLEN>,
+fn second_moved(
+    tlsf: &mut Small,
     layouts: (Layout, Layout, Layout),
     freed: Freed,
     wanted: Layout,
 ) -> Option<Moved>
     requires { wanted.align ≡ layouts.1.align }
-    ensures live { IfSome result (λ r. (t : State) × StandsFor FLLEN SLLEN tlsf.new t × IsLive t (non_zero_usize_get (unwrap_or r.moved r.was)) wanted.align) }
+    ensures live { IfSome result (λ r. (t : State) × StandsFor 8 8 tlsf.new t × IsLive t (non_zero_usize_get (unwrap_or r.moved r.was)) wanted.align) }
     ensures place { SamePlace tlsf.old.memory tlsf.new.memory }
 {
     let first = tlsf.allocate(layouts.0)?;
@@ -141,21 +127,9 @@ fn second_moved<FLBitmap: BinInteger, SLBitmap: BinInteger, const FLLEN: usize, 
     })
 }
 
-/// What became of one payload.
-fn one(
-    tlsf: &mut Tlsf<u8, u8, 8, 8>,
-    layout: Layout,
-    wanted: Layout,
-) -> Option<((usize, usize), (usize, bool))>
-    requires { wanted.align ≡ layout.align }
-{
-    let payload = one_moved(tlsf, layout, wanted)?;
-    Some(outcome(tlsf, payload))
-}
-
 /// What became of the second of three payloads.
-fn second<FLBitmap: BinInteger, SLBitmap: BinInteger, const FLLEN: usize, const SLLEN: usize>(
-    tlsf: &mut Tlsf<FLBitmap, SLBitmap, FLLEN, SLLEN>,
+fn second(
+    tlsf: &mut Small,
     layouts: (Layout, Layout, Layout),
     freed: Freed,
     wanted: Layout,
@@ -164,12 +138,13 @@ fn second<FLBitmap: BinInteger, SLBitmap: BinInteger, const FLLEN: usize, const 
     ensures { SamePlace tlsf.old.memory tlsf.new.memory }
 {
     let payload = second_moved(tlsf, layouts, freed, wanted)?;
-    Some(outcome(tlsf, payload))
+    let bytes = tlsf.payload(payload.moved.unwrap_or(payload.was));
+    Some(outcome(payload, bytes))
 }
 
 /// What becomes of a payload that has moved before its neighbour, once it is asked to get another size again.
 fn second_again(
-    tlsf: &mut Tlsf<u8, u8, 8, 8>,
+    tlsf: &mut Small,
     layouts: (Layout, Layout, Layout),
     wanted: Layout,
     again: Layout,
@@ -184,7 +159,47 @@ fn second_again(
         had: first.had,
         moved,
     };
-    Some(outcome(tlsf, payload))
+    let bytes = tlsf.payload(moved.unwrap_or(addr));
+    Some(outcome(payload, bytes))
+}
+
+/// As `give_back`, for payloads of one layout.
+fn wide_give_back(tlsf: &mut Wide, addresses: (Addr, Addr, Addr), layout: Layout, freed: Freed)
+    requires live { (s : State) × StandsFor 12 16 tlsf.old s × IsLive s (non_zero_usize_get addresses.0) layout.align × IsLive s (non_zero_usize_get addresses.1) layout.align
+        × IsLive s (non_zero_usize_get addresses.2) layout.align }
+    requires apart { (non_zero_usize_get addresses.0 ≢ non_zero_usize_get addresses.1) × (non_zero_usize_get addresses.2 ≢ non_zero_usize_get addresses.1) }
+    ensures { (t : State) × StandsFor 12 16 tlsf.new t × IsLive t (non_zero_usize_get addresses.1) layout.align }
+{
+    match freed {
+        Freed::Neither => {}
+        Freed::Before => tlsf.deallocate(addresses.0, layout.align()),
+        Freed::Behind => tlsf.deallocate(addresses.2, layout.align()),
+    }
+}
+
+/// What becomes of the second of three payloads of one layout, in which bytes are left, that is asked to get another size once
+/// one of its neighbours was given back, or neither.
+fn wide_second(
+    tlsf: &mut Wide,
+    layout: Layout,
+    freed: Freed,
+    wanted: Layout,
+) -> Option<((usize, usize), (usize, bool))>
+    requires { wanted.align ≡ layout.align }
+{
+    let first = tlsf.allocate(layout)?;
+    let second = tlsf.allocate(layout)?;
+    let third = tlsf.allocate(layout)?;
+    let had = leave_bytes(tlsf.payload_mut(second));
+    wide_give_back(tlsf, (first, second, third), layout, freed);
+    let moved = tlsf.reallocate(second, wanted);
+    let payload = Moved {
+        was: second,
+        had,
+        moved,
+    };
+    let bytes = tlsf.payload(moved.unwrap_or(second));
+    Some(outcome(payload, bytes))
 }
 
 /// Three layouts of one alignment.
@@ -205,7 +220,7 @@ fn layouts(
 
 #[test]
 fn shrunk_to_nothing(rt: HostRuntime) -> Result<(), Fail> {
-    let mut tlsf = with_pool::<u8, u8, 8, 8>(rt.alloc(), 96)?;
+    let mut tlsf = with_pool(rt.alloc(), 96)?;
     let layout = Layout::from_size_align(17, 1)?;
     let nothing = Layout::from_size_align(0, 1)?;
     let outcome = one(&mut tlsf, layout, nothing);
@@ -216,7 +231,7 @@ fn shrunk_to_nothing(rt: HostRuntime) -> Result<(), Fail> {
 
 #[test]
 fn moved_over_its_own_bytes(rt: HostRuntime) -> Result<(), Fail> {
-    let mut tlsf = with_pool::<u8, u8, 8, 8>(rt.alloc(), 256)?;
+    let mut tlsf = with_pool(rt.alloc(), 256)?;
     let wanted = Layout::from_size_align(70, 1)?;
     let outcome = second(&mut tlsf, layouts(1, 0, 40, 100)?, Freed::Before, wanted);
     // By 32 bytes, where it has 48.
@@ -227,7 +242,7 @@ fn moved_over_its_own_bytes(rt: HostRuntime) -> Result<(), Fail> {
 
 #[test]
 fn moved_with_a_rest(rt: HostRuntime) -> Result<(), Fail> {
-    let mut tlsf = with_pool::<u8, u8, 8, 8>(rt.alloc(), 256)?;
+    let mut tlsf = with_pool(rt.alloc(), 256)?;
     let wanted = Layout::from_size_align(70, 1)?;
     let outcome = second(&mut tlsf, layouts(1, 17, 40, 50)?, Freed::Before, wanted);
     assert_eq!(rt; outcome, Some(((4176, 4112), (80, true))));
@@ -238,7 +253,7 @@ fn moved_with_a_rest(rt: HostRuntime) -> Result<(), Fail> {
 
 #[test]
 fn refused_without_room(rt: HostRuntime) -> Result<(), Fail> {
-    let mut tlsf = with_pool::<u8, u8, 8, 8>(rt.alloc(), 256)?;
+    let mut tlsf = with_pool(rt.alloc(), 256)?;
     let wanted = Layout::from_size_align(70, 1)?;
     let again = Layout::from_size_align(200, 1)?;
     let outcome = second_again(&mut tlsf, layouts(1, 0, 40, 100)?, wanted, again);
@@ -249,7 +264,7 @@ fn refused_without_room(rt: HostRuntime) -> Result<(), Fail> {
 
 #[test]
 fn grown_to_the_end_of_the_next(rt: HostRuntime) -> Result<(), Fail> {
-    let mut tlsf = with_pool::<u8, u8, 8, 8>(rt.alloc(), 256)?;
+    let mut tlsf = with_pool(rt.alloc(), 256)?;
     let wanted = Layout::from_size_align(144, 1)?;
     let outcome = second(&mut tlsf, layouts(1, 40, 40, 70)?, Freed::Behind, wanted);
     assert_eq!(rt; outcome, Some(((4176, 4176), (144, true))));
@@ -261,19 +276,12 @@ fn grown_to_the_end_of_the_next(rt: HostRuntime) -> Result<(), Fail> {
 
 #[test]
 fn greatest_layouts_are_refused(rt: HostRuntime) -> Result<(), Fail> {
-    let mut tlsf = with_pool::<u8, u8, 8, 8>(rt.alloc(), 256)?;
+    let mut tlsf = with_pool(rt.alloc(), 256)?;
     let most = Layout::from_size_align((1 << 63) - 1, 1)?;
     let outcome = second(&mut tlsf, layouts(1, 40, 40, 70)?, Freed::Neither, most);
     assert_eq!(rt; outcome, Some(((4176, 0), (48, true))));
-    let mut wide = with_pool::<u16, u16, 12, 16>(rt.alloc(), 65536)?;
-    let most_wide = Layout::from_size_align((1 << 63) - 4096, 4096)?;
-    let wide_outcome = second(
-        &mut wide,
-        layouts(4096, 40, 40, 40)?,
-        Freed::Behind,
-        most_wide,
-    );
-    assert_eq!(rt; wide_outcome, Some(((12288, 0), (64, true))));
+    let outcome = case(&rt, 4096, Freed::Behind, (1 << 63) - 4096)?;
+    assert_eq!(rt; outcome, Some(((12288, 0), (64, true))));
     Ok(())
 }
 
@@ -284,9 +292,10 @@ fn case(
     freed: Freed,
     size: usize,
 ) -> Result<Option<((usize, usize), (usize, bool))>, Fail> {
-    let mut tlsf = with_pool::<u16, u16, 12, 16>(rt.alloc(), 65536)?;
+    let mut tlsf = wide(rt.alloc())?;
+    let layout = Layout::from_size_align(40, align)?;
     let wanted = Layout::from_size_align(size, align)?;
-    Ok(second(&mut tlsf, layouts(align, 40, 40, 40)?, freed, wanted))
+    Ok(wide_second(&mut tlsf, layout, freed, wanted))
 }
 
 #[test]
@@ -371,7 +380,7 @@ fn elsewhere(rt: HostRuntime) -> Result<(), Fail> {
 
 #[test]
 fn kept_reads_back(rt: HostRuntime) -> Result<(), Fail> {
-    let mut tlsf = with_pool::<u8, u8, 8, 8>(rt.alloc(), 256)?;
+    let mut tlsf = with_pool(rt.alloc(), 256)?;
     let layout = Layout::from_size_align(40, 1)?;
     let wanted = Layout::from_size_align(100, 1)?;
     assert_eq!(rt; kept(&mut tlsf, layout, wanted, 7, 39), Some(7));

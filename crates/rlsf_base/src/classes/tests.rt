@@ -10,7 +10,7 @@ type Row = (
     Option<usize>,
 );
 
-fn row<F: BinInteger, S: BinInteger, const FLLEN: usize, const SLLEN: usize>(size: usize) -> Row
+fn row<F: BitPattern, S: BitPattern, const FLLEN: usize, const SLLEN: usize>(size: usize) -> Row
     requires parameters { IsValid F.width S.width FLLEN SLLEN }
     requires size { sizes.IsSize size }
 {
@@ -98,7 +98,7 @@ fn pools_for_one_allocation(rt: HostRuntime) {
 }
 
 /// Whether the number is a size and its three answers keep the laws.
-fn laws_hold<F: BinInteger, S: BinInteger, const FLLEN: usize, const SLLEN: usize>(
+fn laws_hold<F: BitPattern, S: BitPattern, const FLLEN: usize, const SLLEN: usize>(
     size: usize,
 ) -> bool
     requires parameters { IsValid F.width S.width FLLEN SLLEN }
@@ -118,7 +118,7 @@ fn laws_hold<F: BinInteger, S: BinInteger, const FLLEN: usize, const SLLEN: usiz
 }
 
 /// Whether the longest chunk keeps its laws.
-fn chunk_laws_hold<F: BinInteger, S: BinInteger, const FLLEN: usize, const SLLEN: usize>() -> bool
+fn chunk_laws_hold<F: BitPattern, S: BitPattern, const FLLEN: usize, const SLLEN: usize>() -> bool
     requires parameters { IsValid F.width S.width FLLEN SLLEN }
 {
     match max_pool_size::<F, S, FLLEN, SLLEN>() {
@@ -133,7 +133,7 @@ fn chunk_laws_hold<F: BinInteger, S: BinInteger, const FLLEN: usize, const SLLEN
 
 /// Whether the laws hold of all sizes up to `2^14`, of ten around each power of two from there on, and of the longest
 /// chunk.
-fn all_laws_hold<F: BinInteger, S: BinInteger, const FLLEN: usize, const SLLEN: usize>() -> bool
+fn all_laws_hold<F: BitPattern, S: BitPattern, const FLLEN: usize, const SLLEN: usize>() -> bool
     requires parameters { IsValid F.width S.width FLLEN SLLEN }
 {
     for i in 1..=512 {

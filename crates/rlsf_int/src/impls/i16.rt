@@ -6,7 +6,7 @@ ghost use Rattle.std.proofs.Common.{lit≤};
 ghost use Rattle.rlsf_int.specs.Bits.{bit-zero};
 ghost use Rattle.rlsf_int.specs.Laws.{signed-IsOneToOne, signed-IsSpelled};
 
-use crate::int::{BinInteger, BitPattern};
+use crate::int::{BinInteger, BitPattern, Bitmap};
 use crate::private::Sealed;
 use std::ops::Range;
 
@@ -20,6 +20,24 @@ impl BitPattern for i16 {
     ghost pattern = { cast_unsigned w16 };
 
     ghost one_to_one = { signed-IsOneToOne w16 };
+}
+
+impl Bitmap for i16 {
+    fn empty() -> i16 {
+        0
+    }
+
+    fn insert(&mut self, i: u32) {
+        self.set_bit(i);
+    }
+
+    fn remove(&mut self, i: u32) {
+        self.clear_bit(i);
+    }
+
+    fn first_from(&self, start: u32) -> u32 {
+        self.bit_scan_forward(start)
+    }
 }
 
 impl BinInteger for i16 {

@@ -7,7 +7,7 @@ ghost use Rattle.rlsf_int.specs.Bits.{bit-zero};
 ghost use Rattle.rlsf_int.specs.Laws.{unsigned-IsOneToOne, unsigned-IsSpelled};
 
 use crate::impls::lowest;
-use crate::int::{BinInteger, BitPattern};
+use crate::int::{BinInteger, BitPattern, Bitmap};
 use crate::private::Sealed;
 use std::ops::Range;
 
@@ -21,6 +21,24 @@ impl BitPattern for usize {
     ghost pattern = { λ n. n };
 
     ghost one_to_one = { unsigned-IsOneToOne w64 };
+}
+
+impl Bitmap for usize {
+    fn empty() -> usize {
+        0
+    }
+
+    fn insert(&mut self, i: u32) {
+        self.set_bit(i);
+    }
+
+    fn remove(&mut self, i: u32) {
+        self.clear_bit(i);
+    }
+
+    fn first_from(&self, start: u32) -> u32 {
+        self.bit_scan_forward(start)
+    }
 }
 
 impl BinInteger for usize {

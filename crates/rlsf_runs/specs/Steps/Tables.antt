@@ -7,13 +7,14 @@ use Rattle.std.specs.VecDeque.{deque_len, deque_capacity}
 use Rattle.rlsf_base.specs.declared.memory.range.Range.{Range}
 use Rattle.rlsf_base.specs.Range.{end_of, LiesIn}
 use Rattle.rlsf_base.specs.Space.{range_of}
+use Rattle.rlsf_machine.specs.ChunkRows.{IsRow}
 use Rattle.rlsf_machine.specs.Lists.{IsIn}
 use Rattle.rlsf_machine.specs.State.{IsLive}
 use Rattle.rlsf_machine.specs.WellFormed.{coverage, itself}
 use Rattle.rlsf_text.specs.declared.op.Answer.{Answer}
 use Rattle.rlsf_text.specs.declared.op.Op.{Op}
-use Rattle.rlsf_tlsf.specs.Spare.{KeepsSpare}
-use Rattle.rlsf_tlsf.specs.StandsFor.{Contents, StandsFor}
+use Rattle.rlsf_blocks.specs.Spare.{KeepsSpare}
+use Rattle.rlsf_blocks.specs.StandsFor.{Contents, StandsFor}
 use Rattle.rlsf_runs.specs.declared.tables.Payload.{Payload}
 use Rattle.rlsf_runs.specs.declared.tables.Tables.{Tables}
 use Rattle.rlsf_runs.specs.Runs.{Does, RunState}
@@ -46,7 +47,7 @@ pub record IsAt (fllen sllen : ℕ) (v : Contents) (tables : Tables) (s : RunSta
   pub in_order : IsInOrder tables.pools.items
   pub inside : (p : Range) → IsIn p tables.pools.items → LiesIn p v.memory.start (length v.memory.bytes)
   pub covered : (a : ℕ) → coverage itself s.machine.chunks a ≤ coverage itself s.pools a
-  pub ends : (p : Range) → IsIn p s.pools → (c : Range) × IsIn c s.machine.chunks × (end_of c ≡ end_of p)
+  pub rows : (p : Range) → IsIn p s.pools → IsRow s.machine p
 
 -- an op and its answer lead on from this state of the run to one where the allocator and the tables then are, and spare bytes stay
 abbrev pub LeadsOn : ℕ → ℕ → Contents → RunState → Op → Answer → Contents → Tables → Type 0

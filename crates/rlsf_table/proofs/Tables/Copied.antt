@@ -1,5 +1,5 @@
 -- The word of a row, copied one bit after another.
-use Rattle.std.proofs.Common.{◌≡◌, ◌≢◌, ℕ, ◌+◌, ◌<◌, ◌==◌, nat_lt, Bool, true, false, ◌&&◌, ◌||◌, arith, sym, ◌∙◌, ap, inl, inr}
+use Rattle.std.proofs.Common.{◌≡◌, ◌≢◌, ℕ, ◌+◌, ◌<◌, ◌==◌, nat_lt, Bool, true, false, ◌&&◌, ◌||◌, arith, refl, sym, ◌∙◌, ap, inl, inr}
 use Rattle.std.proofs.Math.Bool.{or-false}
 use Rattle.std.proofs.lemmas.Bool.{cases_eq, cases_lt, eq-eqb, ne_eqb, lt-ltb, le-ltb, or_right, and_from, and_left}
 
@@ -9,6 +9,14 @@ lt-next k place apart = elim (cases_lt k place) [
   | inl before ↦ lt-ltb k place before ∙ sym (lt-ltb k (place + 1) (omega arith))
   | inr from ↦ le-ltb k place from ∙ sym (le-ltb k (place + 1) (omega arith))
 ]
+
+and-false : (b : Bool) → (b && false) ≡ false
+and-false true = refl
+and-false false = refl
+
+-- before the first place nothing is copied
+pub copied-nothing : (word : ℕ → Bool) (k : ℕ) → false ≡ (word k && nat_lt k 0)
+copied-nothing word k = sym (and-false (word k)) ∙ ap (λ b. word k && b) (sym (le-ltb k 0 (omega arith)))
 
 module _ (word : ℕ → Bool) (k place : ℕ) (was : Bool) (copied : was ≡ (word k && nat_lt k place)) where
   -- a one is copied

@@ -118,3 +118,38 @@ fn pools_and_payloads_grow(rt: HostRuntime) -> Result<(), Fail> {
     );
     Ok(())
 }
+
+#[test]
+fn blocks_and_their_bytes(rt: HostRuntime) -> Result<(), Fail> {
+    let range = Range {
+        start: 4096,
+        len: 96,
+    };
+    let block = Range {
+        start: 4128,
+        len: 32,
+    };
+    let ops = [
+        Op::FreeUnknown(1),
+        Op::Usable(18446744073709551615),
+        Op::Block(range, 1),
+        Op::Block(range, 1),
+        Op::Block(range, 2),
+        Op::Block(range, 0),
+        Op::FreeUnknown(9),
+    ];
+    let answers = [
+        Answer::Done,
+        Answer::Usable(48),
+        Answer::Block(Some((block, true))),
+        Answer::Block(Some((block, false))),
+        Answer::Block(None),
+        Answer::Refused(TraceError::BadRange),
+        Answer::Refused(TraceError::UnknownName),
+    ];
+    assert_eq!(rt;
+        text_of(rt.alloc(), &ops, &answers)?.as_str(),
+        "ufree 1 done\nusable 18446744073709551615 48\nblock 4128 32 used\nblock 4128 32 free\nblock none\nrefused 3 BadRange\nrefused 1 UnknownName\n"
+    );
+    Ok(())
+}

@@ -90,6 +90,26 @@ fn pools_and_payloads_grow(rt: HostRuntime) -> Result<(), Fail> {
     Ok(())
 }
 
+#[test]
+fn blocks_and_their_bytes(rt: HostRuntime) -> Result<(), Fail> {
+    let text = b"8x8 4096 96\nufree 1\nusable 18446744073709551615\nblock 4096 96 02\n";
+    let trace = Trace::parse(rt.alloc(), text)?;
+    let range = Range {
+        start: 4096,
+        len: 96,
+    };
+    assert_eq!(rt;
+        trace.ops.as_slice(),
+        [
+            Op::FreeUnknown(1),
+            Op::Usable(usize::MAX),
+            Op::Block(range, 2),
+        ]
+        .as_slice()
+    );
+    Ok(())
+}
+
 // The fault of line 2, where that is the first fault.
 fn fault_of_line_2(alloc: Global, text: &[u8]) -> Option<Fault> {
     match Trace::parse(alloc, text) {
@@ -113,6 +133,10 @@ fn too_few_or_many_words(rt: HostRuntime) -> Result<(), Fail> {
         b"1x1 1 0\nappend 1 2 3",
         b"1x1 1 0\nrealloc x",
         b"1x1 1 0\nrealloc 1 2 1",
+        b"1x1 1 0\nufree 1 x",
+        b"1x1 1 0\nusable",
+        b"1x1 1 0\nblock x 2",
+        b"1x1 1 0\nblock 1 2 3 4",
     ];
     for text in texts {
         assert_eq!(rt; fault_of_line_2(rt.alloc(), text), Some(Fault::FieldCount));
@@ -139,6 +163,11 @@ fn words_that_are_no_numbers(rt: HostRuntime) -> Result<(), Fail> {
         b"1x1 1 0\nappend 1 18446744073709551616",
         b"1x1 1 0\nrealloc x 1",
         b"1x1 1 0\nrealloc 1 x",
+        b"1x1 1 0\nufree x",
+        b"1x1 1 0\nusable ",
+        b"1x1 1 0\nblock x 1 1",
+        b"1x1 1 0\nblock 1 x 1",
+        b"1x1 1 0\nblock 1 1 18446744073709551616",
     ];
     for text in texts {
         assert_eq!(rt; fault_of_line_2(rt.alloc(), text), Some(Fault::BadNumber));

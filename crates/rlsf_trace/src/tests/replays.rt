@@ -115,6 +115,20 @@ fn pools_and_payloads_grow(rt: HostRuntime) -> Result<(), Fail> {
     Ok(())
 }
 
+// The stored run of the program.
+#[test]
+fn stored_run(rt: HostRuntime) -> Result<(), Fail> {
+    let told = replayed(
+        &rt,
+        b"8x8 4096 4096\ninsert 4096 96\nalloc 1 17 1\nusable 1\nrealloc 1 0\nfree 9\nalloc 1 0 1\nalloc 2 0 1\nblock 4096 96 1\nblock 4096 96 2\n",
+    )?;
+    assert_eq!(rt;
+        told.as_str(),
+        "insert some 96\nalloc 1 at 4112\nusable 1 48\nrealloc 1 at 4112\nrefused 1 UnknownName\nrefused 2 NameTaken\nalloc 2 at 4144\nblock 4128 32 used\nblock none\nstatus 0"
+    );
+    Ok(())
+}
+
 #[test]
 fn configurations(rt: HostRuntime) -> Result<(), Fail> {
     // One row of one class makes chunks of 64 bytes.

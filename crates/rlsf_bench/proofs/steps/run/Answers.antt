@@ -8,8 +8,8 @@ use Rattle.rlsf_bench.specs.Slots.{IsAt, LeadsOn}
 use Rattle.rlsf_bench.proofs.Underway.{IsUnderway, IsUnderway-beginning, IsUnderway-next, IsBench-end, take_all}
 use Rattle.rlsf_bench.proofs.steps.run.Goals as goal
 
-pub insert_free_block_ptr-requires-after_bounds : goal.insert_free_block_ptr-requires-after_bounds
-insert_free_block_ptr-requires-after_bounds g c κs within =
+pub insert_free_block_ptr-requires : goal.insert_free_block_ptr-requires
+insert_free_block_ptr-requires g c =
     (search rules, (empty, c.requires.new, pool_is_fresh c.args.tlsf.memory c.args.pool c.requires.pool))
 
 pub loop-number-init : goal.loop-number-init
@@ -18,8 +18,8 @@ loop-number-init g c =
     let (t, step, stands, _) = c.insert_free_block_ptr.ensures.step empty c.requires.new fresh in
     IsUnderway-beginning (option_map non_zero_usize_get c.insert_free_block_ptr.result) t step stands (c.in_ok-live.ensures.ok ∙ ap (λ n. replicate n 0) c.get.ensures.value) c.new-tally.ensures c.new-draws.ensures
 
-pub step-requires-after_bounds : goal.step-requires-after_bounds
-step-requires-after_bounds g c κs within =
+pub step-requires : goal.step-requires
+step-requires g c =
     let w = c.loop-number.invariant in
     let items = c.deref_mut.ensures.value in (
       search rules,
@@ -46,27 +46,3 @@ pub returns-clause-ok : goal.returns-clause-ok
 returns-clause-ok g c =
     let all : c.loop-number.number ≡ c.args.steps = omega (arith, c.loop-number-test.false, c.loop-number.auto.number-end) in
     subst (λ n. IsBench g.row.FLLEN g.row.SLLEN c.args.pool (non_zero_usize_get c.args.slots) n c.args.mode c.loop-number.tally) all (IsBench-end c.loop-number.invariant)
-
-pub insert_free_block_ptr-requires-send-FLBitmap : goal.insert_free_block_ptr-requires-send-FLBitmap
-insert_free_block_ptr-requires-send-FLBitmap g c κs within = c.type_bounds.send-FLBitmap
-
-pub insert_free_block_ptr-requires-send-SLBitmap : goal.insert_free_block_ptr-requires-send-SLBitmap
-insert_free_block_ptr-requires-send-SLBitmap g c κs within = c.type_bounds.send-SLBitmap
-
-pub insert_free_block_ptr-requires-sync-FLBitmap : goal.insert_free_block_ptr-requires-sync-FLBitmap
-insert_free_block_ptr-requires-sync-FLBitmap g c κs within = c.type_bounds.sync-FLBitmap
-
-pub insert_free_block_ptr-requires-sync-SLBitmap : goal.insert_free_block_ptr-requires-sync-SLBitmap
-insert_free_block_ptr-requires-sync-SLBitmap g c κs within = c.type_bounds.sync-SLBitmap
-
-pub step-requires-send-FLBitmap : goal.step-requires-send-FLBitmap
-step-requires-send-FLBitmap g c κs within = c.type_bounds.send-FLBitmap
-
-pub step-requires-send-SLBitmap : goal.step-requires-send-SLBitmap
-step-requires-send-SLBitmap g c κs within = c.type_bounds.send-SLBitmap
-
-pub step-requires-sync-FLBitmap : goal.step-requires-sync-FLBitmap
-step-requires-sync-FLBitmap g c κs within = c.type_bounds.sync-FLBitmap
-
-pub step-requires-sync-SLBitmap : goal.step-requires-sync-SLBitmap
-step-requires-sync-SLBitmap g c κs within = c.type_bounds.sync-SLBitmap

@@ -7,16 +7,16 @@ use Rattle.rlsf_bench.specs.Slots.{held}
 use Rattle.rlsf_bench.proofs.SlotChanges.{LeadsOn-freed, LeadsOn-reallocated, LeadsOn-answered, held-address, held-moved}
 use Rattle.rlsf_bench.proofs.steps.step.Goals as goal
 
-pub reallocate-moved-requires-after_bounds : goal.reallocate-moved-requires-after_bounds
-reallocate-moved-requires-after_bounds g c κs within =
+pub reallocate-moved-requires : goal.reallocate-moved-requires
+reallocate-moved-requires g c =
     let (s, at) = c.requires.state in
     let addr = non_zero_usize_get c.in-Some.addr in
     let there = ap held (get_or_default c.args.slots.now c.slot_of-slot.result 0 _ c.slot_of-slot.ensures.bound) ∙ held-address _ c.new.result c.new.ensures ∙ ap (option_map non_zero_usize_get) c.in-Some.is in
     let live = at.live c.slot_of-slot.result addr (sym (at.slots c.slot_of-slot.result) ∙ there) in
     (search rules, (s.machine, at.stands, subst (λ n. IsLive s.machine addr n) (sym c.layout_of.ensures.1) live))
 
-pub deallocate-requires-after_bounds : goal.deallocate-requires-after_bounds
-deallocate-requires-after_bounds g c κs within =
+pub deallocate-requires : goal.deallocate-requires
+deallocate-requires g c =
     let (s, at) = c.requires.state in
     let addr = non_zero_usize_get c.in-Some.addr in
     let there = ap held (get_or_default c.args.slots.now c.slot_of-slot.result 0 _ c.slot_of-slot.ensures.bound) ∙ held-address _ c.new.result c.new.ensures ∙ ap (option_map non_zero_usize_get) c.in-Some.is in

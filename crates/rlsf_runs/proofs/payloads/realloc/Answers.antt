@@ -4,7 +4,7 @@ use Rattle.std.specs.Option.{option_map}
 use Rattle.rlsf_base.specs.Layout.{IsLayout}
 use Rattle.rlsf_machine.specs.Reallocate.{Reallocates}
 use Rattle.rlsf_machine.specs.State.{State, Used, IsLive}
-use Rattle.rlsf_tlsf.specs.Spare.{KeepsSpare}
+use Rattle.rlsf_blocks.specs.Spare.{KeepsSpare}
 use Rattle.rlsf_runs.specs.Runs.{Owns, RunState, with_name}
 use Rattle.rlsf_runs.specs.Steps.Tables.{address, IsAt}
 use Rattle.rlsf_runs.proofs.NamedPayloads.{IsAt-reallocated, IsAt-unmoved, owned_live, reallocation_keeps_chunks, reallocation_refused}

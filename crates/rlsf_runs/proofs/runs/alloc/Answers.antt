@@ -3,7 +3,7 @@ use Rattle.std.specs.Int.NonZero.{non_zero_usize_get}
 use Rattle.std.specs.Option.{option_map}
 use Rattle.rlsf_machine.specs.Allocate.{Allocates}
 use Rattle.rlsf_machine.specs.State.{State}
-use Rattle.rlsf_tlsf.specs.Spare.{KeepsSpare}
+use Rattle.rlsf_blocks.specs.Spare.{KeepsSpare}
 use Rattle.rlsf_runs.specs.Runs.{RunState, with_name}
 use Rattle.rlsf_runs.specs.Steps.Tables.{IsAt}
 use Rattle.rlsf_runs.proofs.NamedPayloads.{allocation_keeps_chunks, IsAt-allocated, IsAt-unmoved, none_is, unnamed}

@@ -14,20 +14,13 @@ is_vacant-requires-clause-inside g c =
     let (s, at) = c.requires in
     λ p i. subst (λ m. LiesIn p m.start (length m.bytes)) (sym c.memory_ref.ensures.memory) (at.inside p i)
 
-pub append_free_block_ptr-taken-requires-send-FLBitmap : goal.append_free_block_ptr-taken-requires-send-FLBitmap
-append_free_block_ptr-taken-requires-send-FLBitmap g c κs within = c.type_bounds.send-FLBitmap
+pub ending_at-requires-clause-addressable : goal.ending_at-requires-clause-addressable
+ending_at-requires-clause-addressable g c =
+    let (s, at) = c.requires in
+    λ p i. omega (arith, (at.inside p i).1, at.stands.well_formed.addressable)
 
-pub append_free_block_ptr-taken-requires-send-SLBitmap : goal.append_free_block_ptr-taken-requires-send-SLBitmap
-append_free_block_ptr-taken-requires-send-SLBitmap g c κs within = c.type_bounds.send-SLBitmap
-
-pub append_free_block_ptr-taken-requires-sync-FLBitmap : goal.append_free_block_ptr-taken-requires-sync-FLBitmap
-append_free_block_ptr-taken-requires-sync-FLBitmap g c κs within = c.type_bounds.sync-FLBitmap
-
-pub append_free_block_ptr-taken-requires-sync-SLBitmap : goal.append_free_block_ptr-taken-requires-sync-SLBitmap
-append_free_block_ptr-taken-requires-sync-SLBitmap g c κs within = c.type_bounds.sync-SLBitmap
-
-pub append_free_block_ptr-taken-requires-after_bounds : goal.append_free_block_ptr-taken-requires-after_bounds
-append_free_block_ptr-taken-requires-after_bounds g c κs within =
+pub append_free_block_ptr-taken-requires : goal.append_free_block_ptr-taken-requires
+append_free_block_ptr-taken-requires g c =
     let (s, at) = c.requires in
     let may = MayAppend-tested at c.args.range c.in-Some.place (MayInsert-tested at c.args.range c.memory_ref.ensures.memory (c.is_vacant.ensures.0 c.if-not-is_vacant.false)) c.in-Some.ensures.found in
     (search rules, (s.machine, at.stands, IsNext-MayAppend at c.args.range may))

@@ -9,7 +9,7 @@ use Rattle.rlsf_machine.specs.State.{State, between}
 use Rattle.rlsf_text.specs.declared.op.Answer.TheVariants.{Refused}
 use Rattle.rlsf_text.specs.declared.op.Op.TheVariants.{Insert}
 use Rattle.rlsf_text.specs.declared.op.TraceError.TheVariants.{BadRange}
-use Rattle.rlsf_tlsf.specs.Spare.{KeepsSpare}
+use Rattle.rlsf_blocks.specs.Spare.{KeepsSpare}
 use Rattle.rlsf_runs.specs.Runs.{MayInsert, RunState, with_pool}
 use Rattle.rlsf_runs.specs.Steps.Tables.{IsAt}
 use Rattle.rlsf_runs.proofs.NewPools.{pool_bounds}
@@ -27,20 +27,8 @@ returns-then-not-is_vacant-clause-does g c = λ s at.
     LeadsOn-nothing at (Insert c.args.range) (Refused BadRange)
     (λ may. true≢false (sym (c.is_vacant.ensures.1 (IsVacant-tables at c.args.range c.memory_ref.ensures.memory may)) ∙ c.if-not-is_vacant.true), refl)
 
-pub insert_free_block_ptr-taken-requires-send-FLBitmap : goal.insert_free_block_ptr-taken-requires-send-FLBitmap
-insert_free_block_ptr-taken-requires-send-FLBitmap g c κs within = c.type_bounds.send-FLBitmap
-
-pub insert_free_block_ptr-taken-requires-send-SLBitmap : goal.insert_free_block_ptr-taken-requires-send-SLBitmap
-insert_free_block_ptr-taken-requires-send-SLBitmap g c κs within = c.type_bounds.send-SLBitmap
-
-pub insert_free_block_ptr-taken-requires-sync-FLBitmap : goal.insert_free_block_ptr-taken-requires-sync-FLBitmap
-insert_free_block_ptr-taken-requires-sync-FLBitmap g c κs within = c.type_bounds.sync-FLBitmap
-
-pub insert_free_block_ptr-taken-requires-sync-SLBitmap : goal.insert_free_block_ptr-taken-requires-sync-SLBitmap
-insert_free_block_ptr-taken-requires-sync-SLBitmap g c κs within = c.type_bounds.sync-SLBitmap
-
-pub insert_free_block_ptr-taken-requires-after_bounds : goal.insert_free_block_ptr-taken-requires-after_bounds
-insert_free_block_ptr-taken-requires-after_bounds g c κs within =
+pub insert_free_block_ptr-taken-requires : goal.insert_free_block_ptr-taken-requires
+insert_free_block_ptr-taken-requires g c =
     let (s, at) = c.requires.state in
     let may = MayInsert-tested at c.args.range c.memory_ref.ensures.memory (c.is_vacant.ensures.0 c.if-not-is_vacant.false) in
     (search rules, (s.machine, at.stands, IsFresh-MayInsert at c.args.range may))

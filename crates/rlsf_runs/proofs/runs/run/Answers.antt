@@ -11,18 +11,6 @@ loop-op-init g c =
     let begun = IsUnderway-beginning {ops = c.args.ops.now} (IsAt-beginning c.requires no_names no_pools) refl c.in_ok-tables.ensures.room in
     (([], c.try_reserve.ensures.items ∙ sym (append-nil c.args.answers.now.items), begun), omega (arith, c.in_ok-try_reserve.ensures.ok))
 
-pub step-answer-requires-send-FLBitmap : goal.step-answer-requires-send-FLBitmap
-step-answer-requires-send-FLBitmap g c κs within = c.type_bounds.send-FLBitmap
-
-pub step-answer-requires-send-SLBitmap : goal.step-answer-requires-send-SLBitmap
-step-answer-requires-send-SLBitmap g c κs within = c.type_bounds.send-SLBitmap
-
-pub step-answer-requires-sync-FLBitmap : goal.step-answer-requires-sync-FLBitmap
-step-answer-requires-sync-FLBitmap g c κs within = c.type_bounds.sync-FLBitmap
-
-pub step-answer-requires-sync-SLBitmap : goal.step-answer-requires-sync-SLBitmap
-step-answer-requires-sync-SLBitmap g c κs within = c.type_bounds.sync-SLBitmap
-
 pub loop-op-preserved : goal.loop-op-preserved
 loop-op-preserved g c =
     let ((given, items, w), space) = c.loop-op.invariant in

@@ -7,38 +7,14 @@ use Rattle.rlsf_table.proofs.Tables.RowLengths.{row_length-bounds}
 use Rattle.rlsf_table.proofs.Tables.Choice.{choice-past_rows, choice-none_from, choice-head, IsReaching-map_ceil}
 use Rattle.rlsf_table.proofs.fit.first_fit.Goals as goal
 
-pub first_from-requires-send-FLBitmap : goal.first_from-requires-send-FLBitmap
-first_from-requires-send-FLBitmap g c κs within = c.type_bounds.send-FLBitmap
-
-pub first_from-requires-send-SLBitmap : goal.first_from-requires-send-SLBitmap
-first_from-requires-send-SLBitmap g c κs within = c.type_bounds.send-SLBitmap
-
-pub first_from-requires-sync-FLBitmap : goal.first_from-requires-sync-FLBitmap
-first_from-requires-sync-FLBitmap g c κs within = c.type_bounds.sync-FLBitmap
-
-pub first_from-requires-sync-SLBitmap : goal.first_from-requires-sync-SLBitmap
-first_from-requires-sync-SLBitmap g c κs within = c.type_bounds.sync-SLBitmap
-
-pub head-requires-send-FLBitmap : goal.head-requires-send-FLBitmap
-head-requires-send-FLBitmap g c κs within = c.type_bounds.send-FLBitmap
-
-pub head-requires-send-SLBitmap : goal.head-requires-send-SLBitmap
-head-requires-send-SLBitmap g c κs within = c.type_bounds.send-SLBitmap
-
-pub head-requires-sync-FLBitmap : goal.head-requires-sync-FLBitmap
-head-requires-sync-FLBitmap g c κs within = c.type_bounds.sync-FLBitmap
-
-pub head-requires-sync-SLBitmap : goal.head-requires-sync-SLBitmap
-head-requires-sync-SLBitmap g c κs within = c.type_bounds.sync-SLBitmap
-
 pub returns-in_err-fl-clause-choice : goal.returns-in_err-fl-clause-choice
 returns-in_err-fl-clause-choice g c free is =
     let some = row_length-bounds g.row.SLLEN c.requires.parameters.power_of_two in
     let none = choice-past_rows g.row.FLLEN g.row.SLLEN c.args.size some.0 c.requires.size free is.blocks (sym c.map_ceil.ensures ∙ c.in_err-fl.was) in
     subst (λ o. MatchOption o (choice g.row.SLLEN c.args.size free ≡ None) (λ found. (f : Range) × (choice g.row.SLLEN c.args.size free ≡ Some f) × (f.start ≡ found.0) × IsClassAt g.row.FLLEN g.row.SLLEN f.len found.1.0 found.1.1)) (sym c.from_residual.ensures) none
 
-pub first_from-requires-after_bounds : goal.first_from-requires-after_bounds
-first_from-requires-after_bounds g c κs within =
+pub first_from-requires : goal.first_from-requires
+first_from-requires g c =
     let some = row_length-bounds g.row.SLLEN c.requires.parameters.power_of_two in
     let at = IsReaching-map_ceil g.row.FLLEN g.row.SLLEN c.args.size some.0 c.requires.size (c.in_ok-fl.fl, c.in_ok-fl.sl) (sym c.map_ceil.ensures ∙ c.in_ok-fl.was) in
     (search rules, (c.requires.parameters, (at.row, at.place)))
@@ -50,8 +26,8 @@ returns-in_err-row-clause-choice g c free is =
     let none = choice-none_from g.row.FLLEN g.row.SLLEN c.args.size some.0 c.requires.size free is.blocks (c.in_ok-fl.fl, c.in_ok-fl.sl) at (c.in_err-row.ensures.first free is.table.bits is.blocks) in
     subst (λ o. MatchOption o (choice g.row.SLLEN c.args.size free ≡ None) (λ found. (f : Range) × (choice g.row.SLLEN c.args.size free ≡ Some f) × (f.start ≡ found.0) × IsClassAt g.row.FLLEN g.row.SLLEN f.len found.1.0 found.1.1)) (sym c.from_residual-in_err-row.ensures) none
 
-pub head-requires-after_bounds : goal.head-requires-after_bounds
-head-requires-after_bounds g c κs within =
+pub head-requires : goal.head-requires
+head-requires g c =
     let (free, is) = c.requires.list in
     let least = c.in_ok-row.ensures.first free is.table.bits is.blocks in
     (search rules, (least.0, least.1))

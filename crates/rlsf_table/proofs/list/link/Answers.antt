@@ -6,8 +6,8 @@ use Rattle.rlsf_table.proofs.FreeLists.Counted.{HasTable-counted, IsRoom-counted
 use Rattle.rlsf_table.proofs.FreeLists.Indices.{IsClassAt-told}
 use Rattle.rlsf_table.proofs.list.link.Goals as goal
 
-pub head-newest-requires-after_bounds : goal.head-newest-requires-after_bounds
-head-newest-requires-after_bounds g c κs within =
+pub head-newest-requires : goal.head-newest-requires
+head-newest-requires g c =
     let (r, free, place, len, room) = c.requires.room in
     let at = IsClassAt-told c.requires.parameters room.block c.args.len c.in-Some.fl c.in-Some.sl len c.in-Some.ensures in
     (search rules, (at.row, at.place))
@@ -23,20 +23,8 @@ link_front-requires g c =
     let list = IsFreeList-of_class_from kept.list fl sl at.row at.place c.head-newest.result c.head-newest.ensures.value in
     (r, of_class g.row.SLLEN fl sl free, place, list, kept.placed, coverage-front_class fl sl kept at)
 
-pub put-requires-send-FLBitmap : goal.put-requires-send-FLBitmap
-put-requires-send-FLBitmap g c κs within = c.type_bounds.send-FLBitmap
-
-pub put-requires-send-SLBitmap : goal.put-requires-send-SLBitmap
-put-requires-send-SLBitmap g c κs within = c.type_bounds.send-SLBitmap
-
-pub put-requires-sync-FLBitmap : goal.put-requires-sync-FLBitmap
-put-requires-sync-FLBitmap g c κs within = c.type_bounds.sync-FLBitmap
-
-pub put-requires-sync-SLBitmap : goal.put-requires-sync-SLBitmap
-put-requires-sync-SLBitmap g c κs within = c.type_bounds.sync-SLBitmap
-
-pub put-requires-after_bounds : goal.put-requires-after_bounds
-put-requires-after_bounds g c κs within =
+pub put-requires : goal.put-requires
+put-requires g c =
     let (r, free, place, len, room) = c.requires.room in
     let at = IsClassAt-told c.requires.parameters room.block c.args.len c.in-Some.fl c.in-Some.sl len c.in-Some.ensures in
     (search rules, (c.requires.parameters, (at.row, at.place)))

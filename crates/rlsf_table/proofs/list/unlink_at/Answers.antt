@@ -15,20 +15,8 @@ unlink_between-newest-requires g c =
     let (r, free, place, at, i, list) = c.requires.listed in
     (r, of_class sllen fl sl free, head_at c.args.table.now fl sl, place, IsIn-of_class_from sllen fl sl r free i (has_class-from sllen (class_at fl sl) r at.class), IsFreeList-of_class list fl sl at.row at.place)
 
-pub take-requires-send-FLBitmap : goal.take-requires-send-FLBitmap
-take-requires-send-FLBitmap g c κs within = c.type_bounds.send-FLBitmap
-
-pub take-requires-send-SLBitmap : goal.take-requires-send-SLBitmap
-take-requires-send-SLBitmap g c κs within = c.type_bounds.send-SLBitmap
-
-pub take-requires-sync-FLBitmap : goal.take-requires-sync-FLBitmap
-take-requires-sync-FLBitmap g c κs within = c.type_bounds.sync-FLBitmap
-
-pub take-requires-sync-SLBitmap : goal.take-requires-sync-SLBitmap
-take-requires-sync-SLBitmap g c κs within = c.type_bounds.sync-SLBitmap
-
-pub take-requires-after_bounds : goal.take-requires-after_bounds
-take-requires-after_bounds g c κs within =
+pub take-requires : goal.take-requires
+take-requires g c =
     let (r, free, place, at, i, list) = c.requires.listed in
     (search rules, (c.requires.parameters, (at.row, at.place)))
 

@@ -3,8 +3,8 @@ use Rattle.std.specs.Int.NonZero.{non_zero_usize_get}
 use Rattle.rlsf.proofs.Callers.Live.{at_address, IsLive-align, AreLive-in, AreLive-allocated, AreLive-deallocated}
 use Rattle.rlsf.proofs.tests.frees.every_other_freed.Goals as goal
 
-pub deallocate-requires-after_bounds : goal.deallocate-requires-after_bounds
-deallocate-requires-after_bounds c κs =
+pub deallocate-requires : goal.deallocate-requires
+deallocate-requires c =
     let size = c.args.layout.size in
     let align = c.args.layout.align in
     let power = c.args.layout.valid.aligned in
@@ -22,8 +22,8 @@ deallocate-requires-after_bounds c κs =
     let first = IsLive-align q one.addr c.align.ensures.value (AreLive-in q (four ∷ three ∷ two ∷ one ∷ []) all one (inr (inr (inr (inl refl))))) in
     (lit< tt, (q, y, first))
 
-pub deallocate-requires-2-after_bounds : goal.deallocate-requires-2-after_bounds
-deallocate-requires-2-after_bounds c κs =
+pub deallocate-requires-2 : goal.deallocate-requires-2
+deallocate-requires-2 c =
     let size = c.args.layout.size in
     let align = c.args.layout.align in
     let power = c.args.layout.valid.aligned in

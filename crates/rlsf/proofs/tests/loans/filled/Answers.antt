@@ -3,8 +3,8 @@ use Rattle.std.specs.Int.NonZero.{non_zero_usize_get}
 use Rattle.rlsf.proofs.Callers.Filled.{is_read}
 use Rattle.rlsf.proofs.tests.loans.filled.Goals as goal
 
-pub payload-bytes-requires-after_bounds : goal.payload-bytes-requires-after_bounds
-payload-bytes-requires-after_bounds c κs =
+pub payload-bytes-requires : goal.payload-bytes-requires
+payload-bytes-requires c =
     let layout = c.args.layout in
     let read = is_read 8 8 c.args.tlsf.now c.allocate.new.self layout.size layout.align (non_zero_usize_get c.in_ok-addr.addr) c.payload_mut.result.now c.fill.new.self layout.valid.aligned
     c.memory_ref.ensures.stands c.in_ok-addr.ensures.step c.payload_mut.ensures.meaning c.fill.ensures.len in
@@ -18,8 +18,8 @@ bounds-bytes-offset c =
     let long : length c.payload-bytes.result.now ≡ length c.fill.new.self = ap length (c.payload-bytes.ensures read.state read.block read.stands read.holds ∙ read.bytes) in
     omega (arith, read.enough, c.requires)
 
-pub deallocate-requires-after_bounds : goal.deallocate-requires-after_bounds
-deallocate-requires-after_bounds c κs =
+pub deallocate-requires : goal.deallocate-requires
+deallocate-requires c =
     let layout = c.args.layout in
     let read = is_read 8 8 c.args.tlsf.now c.allocate.new.self layout.size layout.align (non_zero_usize_get c.in_ok-addr.addr) c.payload_mut.result.now c.fill.new.self layout.valid.aligned
     c.memory_ref.ensures.stands c.in_ok-addr.ensures.step c.payload_mut.ensures.meaning c.fill.ensures.len in

@@ -1,22 +1,22 @@
-use Rattle.std.proofs.Common.{rules}
+use Rattle.std.proofs.Common.{lit<}
 use Rattle.std.specs.Int.NonZero.{non_zero_usize_get}
 use Rattle.rlsf_machine.specs.Run.{deallocate}
 use Rattle.rlsf_machine.proofs.Live.{live_stays}
 use Rattle.rlsf.proofs.Callers.Live.{IsLive-align}
 use Rattle.rlsf.proofs.tests.reallocations.give_back.Goals as goal
 
-pub deallocate-requires-after_bounds : goal.deallocate-requires-after_bounds
-deallocate-requires-after_bounds g c κs within =
+pub deallocate-requires : goal.deallocate-requires
+deallocate-requires c =
     let (s, stands, first, second, third) = c.requires.live in
-    (search rules, (s, stands, IsLive-align s (non_zero_usize_get c.args.addresses.0) c.align.ensures.value first))
+    (lit< tt, (s, stands, IsLive-align s (non_zero_usize_get c.args.addresses.0) c.align.ensures.value first))
 
-pub deallocate-requires-in-Behind-after_bounds : goal.deallocate-requires-in-Behind-after_bounds
-deallocate-requires-in-Behind-after_bounds g c κs within =
+pub deallocate-requires-in-Behind : goal.deallocate-requires-in-Behind
+deallocate-requires-in-Behind c =
     let (s, stands, first, second, third) = c.requires.live in
-    (search rules, (s, stands, IsLive-align s (non_zero_usize_get c.args.addresses.2) c.align-in-Behind.ensures.value third))
+    (lit< tt, (s, stands, IsLive-align s (non_zero_usize_get c.args.addresses.2) c.align-in-Behind.ensures.value third))
 
 pub returns-in-Before : goal.returns-in-Before
-returns-in-Before g c =
+returns-in-Before c =
     let (s, stands, first, second, third) = c.requires.live in
     let gone = non_zero_usize_get c.args.addresses.0 in
     let (t, step, after, _) = c.deallocate.ensures.step s stands (IsLive-align s gone c.align.ensures.value first) in
@@ -24,7 +24,7 @@ returns-in-Before g c =
     record { live = (t, after, live); place = c.deallocate.ensures.place }
 
 pub returns-in-Behind : goal.returns-in-Behind
-returns-in-Behind g c =
+returns-in-Behind c =
     let (s, stands, first, second, third) = c.requires.live in
     let gone = non_zero_usize_get c.args.addresses.2 in
     let (t, step, after, _) = c.deallocate-in-Behind.ensures.step s stands (IsLive-align s gone c.align-in-Behind.ensures.value third) in

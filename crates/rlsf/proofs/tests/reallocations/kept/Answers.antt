@@ -14,14 +14,14 @@ read c =
     is_read 8 8 c.args.tlsf.now c.allocate.new.self layout.size layout.align (non_zero_usize_get c.in_ok-addr.addr) c.payload_mut.result.now c.fill.new.self layout.valid.aligned
     c.memory_ref.ensures.stands c.in_ok-addr.ensures.step c.payload_mut.ensures.meaning c.fill.ensures.len
 
-pub reallocate-requires-after_bounds : goal.reallocate-requires-after_bounds
-reallocate-requires-after_bounds c κs =
-    let had = read (goal.at.reallocate-requires-after_bounds c).After-fill in
+pub reallocate-requires : goal.reallocate-requires
+reallocate-requires c =
+    let had = read (goal.at.reallocate-requires c).After-fill in
     (lit< tt, (had.state, had.stands, (had.block, had.holds, had.aligned ∙ sym c.requires.0)))
 
-pub payload-bytes-requires-after_bounds : goal.payload-bytes-requires-after_bounds
-payload-bytes-requires-after_bounds c κs =
-    let kept = is_kept c.requires.0 (read (goal.at.payload-bytes-requires-after_bounds c).After-fill) c.in_ok-moved.ensures.step in
+pub payload-bytes-requires : goal.payload-bytes-requires
+payload-bytes-requires c =
+    let kept = is_kept c.requires.0 (read (goal.at.payload-bytes-requires c).After-fill) c.in_ok-moved.ensures.step in
     (lit< tt, (kept.state, kept.stands, (kept.block, kept.holds)))
 
 pub bounds-bytes-offset : goal.bounds-bytes-offset

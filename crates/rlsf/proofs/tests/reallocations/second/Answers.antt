@@ -1,7 +1,9 @@
-use Rattle.std.proofs.Common.{rules}
+use Rattle.std.proofs.Common.{lit<, sym, subst}
+use Rattle.std.specs.Int.NonZero.{non_zero_usize_get}
+use Rattle.rlsf_machine.specs.Run.{IsSomeLive}
 use Rattle.rlsf.proofs.tests.reallocations.second.Goals as goal
 
-pub outcome-requires-after_bounds : goal.outcome-requires-after_bounds
-outcome-requires-after_bounds g c κs within =
+pub payload-bytes-requires : goal.payload-bytes-requires
+payload-bytes-requires c =
     let (t, stands, live) = c.in_ok-payload.ensures.live in
-    (search rules, (t, stands, (live.0, live.1)))
+    (lit< tt, (t, stands, subst (λ x. IsSomeLive t (non_zero_usize_get x)) (sym c.unwrap_or.ensures) (live.0, live.1)))

@@ -1,56 +1,20 @@
-use Rattle.std.proofs.Common.{rules, [], ◌∷◌, inl, refl, sym, ◌∙◌}
+use Rattle.std.proofs.Common.{lit<, [], ◌∷◌, inl, refl, sym, ◌∙◌}
 use Rattle.std.specs.Int.NonZero.{non_zero_usize_get}
 use Rattle.rlsf.proofs.Callers.Filled.{live_allocated}
 use Rattle.rlsf.proofs.Callers.Live.{at_address, IsLive-align, AreLive-allocated, AreLive-still}
 use Rattle.rlsf.proofs.Callers.Moved.{IsLive-filled, live_moved}
 use Rattle.rlsf.proofs.tests.reallocations.second_moved.Goals as goal
 
-pub allocate-requires-3-send-FLBitmap : goal.allocate-requires-3-send-FLBitmap
-allocate-requires-3-send-FLBitmap g c κs within = c.type_bounds.send-FLBitmap
-
-pub allocate-requires-3-send-SLBitmap : goal.allocate-requires-3-send-SLBitmap
-allocate-requires-3-send-SLBitmap g c κs within = c.type_bounds.send-SLBitmap
-
-pub allocate-requires-3-sync-FLBitmap : goal.allocate-requires-3-sync-FLBitmap
-allocate-requires-3-sync-FLBitmap g c κs within = c.type_bounds.sync-FLBitmap
-
-pub allocate-requires-3-sync-SLBitmap : goal.allocate-requires-3-sync-SLBitmap
-allocate-requires-3-sync-SLBitmap g c κs within = c.type_bounds.sync-SLBitmap
-
-pub payload_mut-requires-send-FLBitmap : goal.payload_mut-requires-send-FLBitmap
-payload_mut-requires-send-FLBitmap g c κs within = c.type_bounds.send-FLBitmap
-
-pub payload_mut-requires-send-SLBitmap : goal.payload_mut-requires-send-SLBitmap
-payload_mut-requires-send-SLBitmap g c κs within = c.type_bounds.send-SLBitmap
-
-pub payload_mut-requires-sync-FLBitmap : goal.payload_mut-requires-sync-FLBitmap
-payload_mut-requires-sync-FLBitmap g c κs within = c.type_bounds.sync-FLBitmap
-
-pub payload_mut-requires-sync-SLBitmap : goal.payload_mut-requires-sync-SLBitmap
-payload_mut-requires-sync-SLBitmap g c κs within = c.type_bounds.sync-SLBitmap
-
-pub payload_mut-requires-after_bounds : goal.payload_mut-requires-after_bounds
-payload_mut-requires-after_bounds g c κs within =
+pub payload_mut-requires : goal.payload_mut-requires
+payload_mut-requires c =
     let (s, v, live) = c.in_ok-second.ensures.placed in
     let (t, step, w, _) = c.in_ok-third.ensures.step s v in
     let addr = non_zero_usize_get c.in_ok-second.second in
     let last = c.args.layouts.2 in
-    (search rules, (t, w, live_allocated g.row.SLLEN s t last.size last.align (non_zero_usize_get c.in_ok-third.third) step addr (live.0, live.1)))
+    (lit< tt, (t, w, live_allocated 8 s t last.size last.align (non_zero_usize_get c.in_ok-third.third) step addr (live.0, live.1)))
 
-pub give_back-requires-send-FLBitmap : goal.give_back-requires-send-FLBitmap
-give_back-requires-send-FLBitmap g c κs within = c.type_bounds.send-FLBitmap
-
-pub give_back-requires-send-SLBitmap : goal.give_back-requires-send-SLBitmap
-give_back-requires-send-SLBitmap g c κs within = c.type_bounds.send-SLBitmap
-
-pub give_back-requires-sync-FLBitmap : goal.give_back-requires-sync-FLBitmap
-give_back-requires-sync-FLBitmap g c κs within = c.type_bounds.sync-FLBitmap
-
-pub give_back-requires-sync-SLBitmap : goal.give_back-requires-sync-SLBitmap
-give_back-requires-sync-SLBitmap g c κs within = c.type_bounds.sync-SLBitmap
-
-pub give_back-requires-after_bounds : goal.give_back-requires-after_bounds
-give_back-requires-after_bounds g c κs within =
+pub give_back-requires : goal.give_back-requires
+give_back-requires c =
     let one = at_address (non_zero_usize_get c.in_ok-first.first) c.args.layouts.0.align in
     let two = at_address (non_zero_usize_get c.in_ok-second.second) c.args.layouts.1.align in
     let three = at_address (non_zero_usize_get c.in_ok-third.third) c.args.layouts.2.align in
@@ -61,27 +25,15 @@ give_back-requires-after_bounds g c κs within =
     let all = AreLive-allocated r w.well_formed (two ∷ one ∷ []) both c.args.layouts.2.size three.align three.addr c.args.layouts.2.valid.aligned next in
     let (q, fills, y, _) = (c.payload_mut.ensures.meaning r all.2.0.0 x all.2.0.1).1 c.leave_bytes-had.new.payload c.leave_bytes-had.ensures in
     let still = AreLive-still r q (three ∷ two ∷ one ∷ []) all (λ p i live. IsLive-filled x.well_formed fills p.addr p.align live) in
-    (search rules, ((q, y, still.2.2.0, still.2.0, still.0), (all.2.1 one (inl refl), λ same. all.1 two (inl refl) (sym same))))
+    record { live = (q, y, still.2.2.0, still.2.0, still.0); apart = (all.2.1 one (inl refl), λ same. all.1 two (inl refl) (sym same)) }
 
-pub reallocate-moved-requires-send-FLBitmap : goal.reallocate-moved-requires-send-FLBitmap
-reallocate-moved-requires-send-FLBitmap g c κs within = c.type_bounds.send-FLBitmap
-
-pub reallocate-moved-requires-send-SLBitmap : goal.reallocate-moved-requires-send-SLBitmap
-reallocate-moved-requires-send-SLBitmap g c κs within = c.type_bounds.send-SLBitmap
-
-pub reallocate-moved-requires-sync-FLBitmap : goal.reallocate-moved-requires-sync-FLBitmap
-reallocate-moved-requires-sync-FLBitmap g c κs within = c.type_bounds.sync-FLBitmap
-
-pub reallocate-moved-requires-sync-SLBitmap : goal.reallocate-moved-requires-sync-SLBitmap
-reallocate-moved-requires-sync-SLBitmap g c κs within = c.type_bounds.sync-SLBitmap
-
-pub reallocate-moved-requires-after_bounds : goal.reallocate-moved-requires-after_bounds
-reallocate-moved-requires-after_bounds g c κs within =
+pub reallocate-moved-requires : goal.reallocate-moved-requires
+reallocate-moved-requires c =
     let (t, stands, live) = c.give_back.ensures.live in
-    (search rules, (t, stands, IsLive-align t (non_zero_usize_get c.in_ok-second.second) c.requires live))
+    (lit< tt, (t, stands, IsLive-align t (non_zero_usize_get c.in_ok-second.second) c.requires live))
 
 pub returns : goal.returns
-returns g c =
+returns c =
     let (t, stands, live) = c.give_back.ensures.live in
     let aligned = IsLive-align t (non_zero_usize_get c.in_ok-second.second) c.requires live in
     let (r, step, then, _) = c.reallocate-moved.ensures.step t stands aligned in

@@ -15,12 +15,11 @@ pub returns-then-row-clause-first : goal.returns-then-row-clause-first
 returns-then-row-clause-first g c free bits blocks =
     let some = row_length-bounds g.row.SLLEN c.requires.parameters.power_of_two in
     let inside = subst (λ t. HasBits g.row.FLLEN g.row.SLLEN t free) (sym c.self.view_is) bits in
-    IsLeastFrom-none some.0 inside blocks c.requires.class.0 c.first_place-place.ensures (scanned_places-whole_row g.row.SLLEN some.1) (omega (arith, c.scanned_places.ensures, c.if-place-scanned_places.false)) c.bit_scan_forward-row.ensures c.if-row.true
+    IsLeastFrom-none some.0 inside blocks c.requires.class.0 c.first_place-place.ensures (scanned_places-whole_row g.row.SLLEN some.1) (omega (arith, c.scanned_places.ensures, c.if-place-scanned_places.false)) c.first_from-row.ensures c.if-row.true
 
 pub returns-clause-first : goal.returns-clause-first
 returns-clause-first g c free bits blocks =
     let some = row_length-bounds g.row.SLLEN c.requires.parameters.power_of_two in
     let inside = subst (λ t. HasBits g.row.FLLEN g.row.SLLEN t free) (sym c.self.view_is) bits in
-    let laws = g.met.FLBitmap.BinInteger g.world.𝓛 g.world.𝓜 g.world.𝓡 ((λ s x. x), (λ x. x), (λ x. x), λ x. x) in
-    IsLeastFrom-row_behind some.0 inside blocks c.requires.class.0 c.first_place-place.ensures (scanned_places-whole_row g.row.SLLEN some.1) (omega (arith, c.scanned_places.ensures, c.if-place-scanned_places.false)) c.bit_scan_forward-row.ensures
-    c.if-row.false (omega (arith, c.requires.parameters.rows_fit, laws.bits_is_width)) c.first_place-place-2.ensures
+    IsLeastFrom-row_behind some.0 inside blocks c.requires.class.0 c.first_place-place.ensures (scanned_places-whole_row g.row.SLLEN some.1) (omega (arith, c.scanned_places.ensures, c.if-place-scanned_places.false)) c.first_from-row.ensures
+    c.if-row.false c.requires.parameters.rows_fit c.first_place-place-2.ensures

@@ -17,12 +17,11 @@ returns-clause-heads g c =
 
 pub returns-clause-bits : goal.returns-clause-bits
 returns-clause-bits g c r free class bits =
-    let laws = g.met.FLBitmap.BinInteger g.world.𝓛 g.world.𝓜 g.world.𝓡 ((λ s x. x), (λ x. x), (λ x. x), λ x. x) in
-    let row : c.args.fl < g.FLBitmap.BinInteger.BITS = omega (arith, c.requires.parameters.rows_fit, c.requires.class.0, laws.bits_is_width) in
+    let row : c.args.fl < g.FLBitmap.BitPattern.width = omega (arith, c.requires.parameters.rows_fit, c.requires.class.0) in
     let inside = subst (λ t. HasBits g.row.FLLEN g.row.SLLEN t free) (sym c.self.view_is) bits in
     HasBits-put g.row.FLLEN g.row.SLLEN c.args.fl c.args.sl _ _ r free class (record {
       rows = length-set c.self.inside.sl_bitmaps c.args.fl _ ∙ c.self.told;
-      first = λ i. bit-set _ _ c.args.fl i g.FLBitmap.BinInteger.BITS row (c.set_bit.ensures i);
+      first = λ i. bit-set _ _ c.args.fl i g.FLBitmap.BitPattern.width row (c.insert.ensures i);
       second = λ k. ap (λ n. bit n k) (get_or-set_same c.self.inside.sl_bitmaps c.args.fl _ 0 (omega (arith, c.self.told, c.requires.class.0))) ∙ bit-with_one _ _ c.args.sl k c.one_at.ensures;
       others = λ i apart. get_or-set_other c.self.inside.sl_bitmaps c.args.fl i _ 0 apart;
     }) inside

@@ -9,13 +9,13 @@ use Rattle.rlsf_machine.specs.State.{State, IsLive}
 use Rattle.rlsf_machine.proofs.Choices.{choice-some}
 use Rattle.rlsf_table.specs.Table.{IsClassAt}
 use Rattle.rlsf_table.proofs.FreeLists.Counted.{word_at-counted}
-use Rattle.rlsf_tlsf.specs.Spare.{KeepsSpare}
-use Rattle.rlsf_tlsf.specs.StandsFor.{contents, Contents, StandsFor}
-use Rattle.rlsf_tlsf.proofs.Machine.Counted.{KeepsSpare-counted, KeepsSpare-counted_first, StandsFor-counted}
-use Rattle.rlsf_tlsf.proofs.Machine.FreeBlocks.{IsFreeTable-free}
+use Rattle.rlsf_blocks.specs.Spare.{KeepsSpare}
+use Rattle.rlsf_blocks.specs.StandsFor.{contents, Contents, StandsFor}
+use Rattle.rlsf_blocks.proofs.Machine.Counted.{KeepsSpare-counted, KeepsSpare-counted_first, StandsFor-counted}
+use Rattle.rlsf_blocks.proofs.Machine.FreeBlocks.{IsFreeTable-free}
 use Rattle.rlsf_machine.proofs.Live.{handed_out_is_new}
 use Rattle.rlsf_machine.proofs.Payloads.{payload_of-after}
-use Rattle.rlsf_tlsf.proofs.Words.NonZeroNumbers.{number, on_none, on_some}
+use Rattle.rlsf_blocks.proofs.Words.NonZeroNumbers.{number, on_none, on_some}
 use Rattle.rlsf_tlsf.proofs.tlsf.Tlsf.allocate.Given as given
 use Rattle.rlsf_tlsf.proofs.tlsf.Tlsf.allocate.Goals as goal
 use Rattle.rlsf_tlsf.proofs.tlsf.Tlsf.allocate.Goals.{After-first_fit, After-place}
@@ -33,20 +33,8 @@ searched : (g : given.Over) (c : After-first_fit g) {s : State} → StandsFor g.
     → StandsFor g.row.FLLEN g.row.SLLEN (contents c.first_fit.new.memory c.self.inside.table) s
 searched g c v = StandsFor-counted c.self.inside.memory c.first_fit.new.memory c.first_fit.ensures.counts.start c.first_fit.ensures.counts.bytes v
 
-pub first_fit-requires-send-FLBitmap : goal.first_fit-requires-send-FLBitmap
-first_fit-requires-send-FLBitmap g c κs within = c.type_bounds.send-FLBitmap
-
-pub first_fit-requires-send-SLBitmap : goal.first_fit-requires-send-SLBitmap
-first_fit-requires-send-SLBitmap g c κs within = c.type_bounds.send-SLBitmap
-
-pub first_fit-requires-sync-FLBitmap : goal.first_fit-requires-sync-FLBitmap
-first_fit-requires-sync-FLBitmap g c κs within = c.type_bounds.sync-FLBitmap
-
-pub first_fit-requires-sync-SLBitmap : goal.first_fit-requires-sync-SLBitmap
-first_fit-requires-sync-SLBitmap g c κs within = c.type_bounds.sync-SLBitmap
-
-pub first_fit-requires-after_bounds : goal.first_fit-requires-after_bounds
-first_fit-requires-after_bounds g c κs within =
+pub first_fit-requires : goal.first_fit-requires
+first_fit-requires g c =
     let (s, v) = c.self.invariant.stands in
     (omega arith, (c.self.invariant.valid, (c.request_size.ensures.size, (s.free, IsFreeTable-free v))))
 
@@ -79,20 +67,8 @@ placing g c s v =
     let (t, places, now, spare) = c.place.ensures.step s f stands (sought g.row.SLLEN s.free c.request_size.ensures.value chosen) start in
     (t, places, now, KeepsSpare-counted_first c.self.inside.memory c.first_fit.new.memory counts.start counts.bytes s t c.place.new.memory spare)
 
-pub place-requires-send-FLBitmap : goal.place-requires-send-FLBitmap
-place-requires-send-FLBitmap g c κs within = c.type_bounds.send-FLBitmap
-
-pub place-requires-send-SLBitmap : goal.place-requires-send-SLBitmap
-place-requires-send-SLBitmap g c κs within = c.type_bounds.send-SLBitmap
-
-pub place-requires-sync-FLBitmap : goal.place-requires-sync-FLBitmap
-place-requires-sync-FLBitmap g c κs within = c.type_bounds.sync-FLBitmap
-
-pub place-requires-sync-SLBitmap : goal.place-requires-sync-SLBitmap
-place-requires-sync-SLBitmap g c κs within = c.type_bounds.sync-SLBitmap
-
-pub place-requires-after_bounds : goal.place-requires-after_bounds
-place-requires-after_bounds g c κs within =
+pub place-requires : goal.place-requires
+place-requires g c =
     let (s, v) = c.self.invariant.stands in
     let (f, chosen, start, class) = c.in_ok-block.ensures.choice s.free (IsFreeTable-free v) in
     let counts = c.first_fit.ensures.counts in
@@ -100,7 +76,7 @@ place-requires-after_bounds g c κs within =
     let size = word_at-counted c.self.inside.memory c.first_fit.new.memory counts.start counts.bytes c.in_ok-block.block ∙ ap (word_at c.self.inside.memory) (sym start) ∙ (IsFreeTable-free v).sizes f own in
     let at_class = subst (λ n. IsClassAt g.row.FLLEN g.row.SLLEN n c.in_ok-block.class.0 c.in_ok-block.class.1) (sym size) class in
     let picked : choice g.row.SLLEN (request_size c.args.layout.size c.args.layout.align) s.free ≡ Some f = sought g.row.SLLEN s.free c.request_size.ensures.value chosen in
-    (omega arith, (c.self.invariant.valid, (at_class, (s, f, searched g (goal.at.place-requires-after_bounds g c).After-first_fit v, picked, start))))
+    (omega arith, (c.self.invariant.valid, (at_class, (s, f, searched g (goal.at.place-requires g c).After-first_fit v, picked, start))))
 
 pub invariant_of-self-2 : goal.invariant_of-self-2
 invariant_of-self-2 g c =

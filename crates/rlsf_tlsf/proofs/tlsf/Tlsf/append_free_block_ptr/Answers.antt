@@ -2,24 +2,12 @@ use Rattle.std.proofs.Common.{arith, sym, subst}
 use Rattle.rlsf_base.specs.Space.{range_of}
 use Rattle.rlsf_machine.specs.Insert.{Appends, IsNext}
 use Rattle.rlsf_machine.specs.State.{State}
-use Rattle.rlsf_tlsf.specs.Spare.{KeepsSpare}
-use Rattle.rlsf_tlsf.specs.StandsFor.{contents, Contents, StandsFor}
+use Rattle.rlsf_blocks.specs.Spare.{KeepsSpare}
+use Rattle.rlsf_blocks.specs.StandsFor.{contents, Contents, StandsFor}
 use Rattle.rlsf_tlsf.proofs.tlsf.Tlsf.append_free_block_ptr.Goals as goal
 
-pub append-requires-send-FLBitmap : goal.append-requires-send-FLBitmap
-append-requires-send-FLBitmap g c κs within = c.type_bounds.send-FLBitmap
-
-pub append-requires-send-SLBitmap : goal.append-requires-send-SLBitmap
-append-requires-send-SLBitmap g c κs within = c.type_bounds.send-SLBitmap
-
-pub append-requires-sync-FLBitmap : goal.append-requires-sync-FLBitmap
-append-requires-sync-FLBitmap g c κs within = c.type_bounds.sync-FLBitmap
-
-pub append-requires-sync-SLBitmap : goal.append-requires-sync-SLBitmap
-append-requires-sync-SLBitmap g c κs within = c.type_bounds.sync-SLBitmap
-
-pub append-requires-after_bounds : goal.append-requires-after_bounds
-append-requires-after_bounds g c κs within =
+pub append-requires : goal.append-requires
+append-requires g c =
     let (s, v, next) = subst (λ (old : Contents). (s : State) × StandsFor g.row.FLLEN g.row.SLLEN old s × IsNext (range_of old.memory) s c.args.range) (sym c.self.view_is) c.requires in
     (omega arith, (c.self.invariant.valid, (s, v, next)))
 

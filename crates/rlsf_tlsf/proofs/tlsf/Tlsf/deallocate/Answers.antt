@@ -2,25 +2,13 @@ use Rattle.std.proofs.Common.{rules, refl, sym, ◌∙◌, subst}
 use Rattle.std.specs.Int.NonZero.{non_zero_usize_get}
 use Rattle.rlsf_machine.specs.Release.{Deallocates, released}
 use Rattle.rlsf_machine.specs.State.{State, IsLive}
-use Rattle.rlsf_tlsf.specs.Spare.{KeepsSpare}
-use Rattle.rlsf_tlsf.specs.StandsFor.{contents, Contents, StandsFor}
-use Rattle.rlsf_tlsf.proofs.Machine.Counted.{KeepsSpare-counted_first, StandsFor-counted}
+use Rattle.rlsf_blocks.specs.Spare.{KeepsSpare}
+use Rattle.rlsf_blocks.specs.StandsFor.{contents, Contents, StandsFor}
+use Rattle.rlsf_blocks.proofs.Machine.Counted.{KeepsSpare-counted_first, StandsFor-counted}
 use Rattle.rlsf_tlsf.proofs.tlsf.Tlsf.deallocate.Goals as goal
 
-pub deallocate_block-requires-send-FLBitmap : goal.deallocate_block-requires-send-FLBitmap
-deallocate_block-requires-send-FLBitmap g c κs within = c.type_bounds.send-FLBitmap
-
-pub deallocate_block-requires-send-SLBitmap : goal.deallocate_block-requires-send-SLBitmap
-deallocate_block-requires-send-SLBitmap g c κs within = c.type_bounds.send-SLBitmap
-
-pub deallocate_block-requires-sync-FLBitmap : goal.deallocate_block-requires-sync-FLBitmap
-deallocate_block-requires-sync-FLBitmap g c κs within = c.type_bounds.sync-FLBitmap
-
-pub deallocate_block-requires-sync-SLBitmap : goal.deallocate_block-requires-sync-SLBitmap
-deallocate_block-requires-sync-SLBitmap g c κs within = c.type_bounds.sync-SLBitmap
-
-pub deallocate_block-requires-after_bounds : goal.deallocate_block-requires-after_bounds
-deallocate_block-requires-after_bounds g c κs within =
+pub deallocate_block-requires : goal.deallocate_block-requires
+deallocate_block-requires g c =
     let (s, v, live) = subst (λ (old : Contents). (s : State) × StandsFor g.row.FLLEN g.row.SLLEN old s × IsLive s (non_zero_usize_get c.args.addr) c.args.align) (sym c.self.view_is) c.requires in
     let (u, (i, at), is, start) = c.used_block-block.ensures.block g.row.FLLEN g.row.SLLEN c.self.inside.table s v (subst (λ p. IsLive s p c.args.align) (sym c.get.ensures.value) live) in
     let counts = c.used_block-block.ensures.counts in

@@ -4,24 +4,12 @@ use Rattle.std.specs.Option.{option_map}
 use Rattle.rlsf_base.specs.Space.{range_of}
 use Rattle.rlsf_machine.specs.Insert.{Inserts, IsFresh}
 use Rattle.rlsf_machine.specs.State.{State}
-use Rattle.rlsf_tlsf.specs.Spare.{KeepsSpare}
-use Rattle.rlsf_tlsf.specs.StandsFor.{contents, Contents, StandsFor}
+use Rattle.rlsf_blocks.specs.Spare.{KeepsSpare}
+use Rattle.rlsf_blocks.specs.StandsFor.{contents, Contents, StandsFor}
 use Rattle.rlsf_tlsf.proofs.tlsf.Tlsf.insert_free_block_ptr.Goals as goal
 
-pub insert-requires-send-FLBitmap : goal.insert-requires-send-FLBitmap
-insert-requires-send-FLBitmap g c κs within = c.type_bounds.send-FLBitmap
-
-pub insert-requires-send-SLBitmap : goal.insert-requires-send-SLBitmap
-insert-requires-send-SLBitmap g c κs within = c.type_bounds.send-SLBitmap
-
-pub insert-requires-sync-FLBitmap : goal.insert-requires-sync-FLBitmap
-insert-requires-sync-FLBitmap g c κs within = c.type_bounds.sync-FLBitmap
-
-pub insert-requires-sync-SLBitmap : goal.insert-requires-sync-SLBitmap
-insert-requires-sync-SLBitmap g c κs within = c.type_bounds.sync-SLBitmap
-
-pub insert-requires-after_bounds : goal.insert-requires-after_bounds
-insert-requires-after_bounds g c κs within =
+pub insert-requires : goal.insert-requires
+insert-requires g c =
     let (s, v, fresh) = subst (λ (old : Contents). (s : State) × StandsFor g.row.FLLEN g.row.SLLEN old s × IsFresh (range_of old.memory) s c.args.range) (sym c.self.view_is) c.requires in
     (omega arith, (c.self.invariant.valid, (s, v, fresh)))
 

@@ -1,7 +1,7 @@
 use Rattle.std.proofs.Common.{refl, sym, ◌∙◌}
 use Rattle.std.specs.Int.NonZero.{non_zero_usize_get}
-use Rattle.rlsf_tlsf.specs.StandsFor.{contents}
-use Rattle.rlsf_tlsf.proofs.Payloads.Lent.{is_lent, LiesIn-lent, live_inside}
+use Rattle.rlsf_blocks.specs.StandsFor.{contents}
+use Rattle.rlsf_tlsf.proofs.Lent.{is_lent, LiesIn-lent, live_inside}
 use Rattle.rlsf_tlsf.proofs.tlsf.Tlsf.payload.Goals as goal
 
 pub usable_bytes-requires : goal.usable_bytes-requires

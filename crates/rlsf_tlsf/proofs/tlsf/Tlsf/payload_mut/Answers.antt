@@ -3,8 +3,8 @@ use Rattle.std.specs.Int.NonZero.{non_zero_usize_get}
 use Rattle.rlsf_base.specs.Range.{LiesIn}
 use Rattle.rlsf_base.specs.Space.{Space, bytes_in}
 use Rattle.rlsf_machine.specs.State.{State, Used, Holds}
-use Rattle.rlsf_tlsf.specs.StandsFor.{contents, StandsFor}
-use Rattle.rlsf_tlsf.proofs.Payloads.Lent.{IsLent, is_lent, IsTlsf-lent, leaves, LiesIn-lent, live_inside, SamePlace-lent, written-lent}
+use Rattle.rlsf_blocks.specs.StandsFor.{contents, StandsFor}
+use Rattle.rlsf_tlsf.proofs.Lent.{IsLent, is_lent, IsTlsf-lent, leaves, LiesIn-lent, live_inside, SamePlace-lent, written-lent}
 use Rattle.rlsf_tlsf.proofs.tlsf.Tlsf.payload_mut.Goals as goal
 
 pub load_usable_bytes-range-requires : goal.load_usable_bytes-range-requires

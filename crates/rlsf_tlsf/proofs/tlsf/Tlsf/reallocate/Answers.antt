@@ -4,14 +4,14 @@ use Rattle.std.specs.Option.{option_map}
 use Rattle.rlsf_base.specs.Space.{range_of}
 use Rattle.rlsf_machine.specs.Reallocate.{Plan, Reallocates, ReallocatesBy, in_place, into_next, or_else, plan}
 use Rattle.rlsf_machine.specs.State.{State, Used, usable, Holds, IsLive}
-use Rattle.rlsf_tlsf.specs.Spare.{KeepsSpare}
-use Rattle.rlsf_tlsf.specs.StandsFor.{contents, Contents, StandsFor}
-use Rattle.rlsf_tlsf.specs.Steps.Resize.{IsUsedAt}
+use Rattle.rlsf_blocks.specs.Spare.{KeepsSpare}
+use Rattle.rlsf_blocks.specs.StandsFor.{contents, Contents, StandsFor}
+use Rattle.rlsf_resize.specs.Steps.Resize.{IsUsedAt}
 use Rattle.rlsf_machine.proofs.Changes.{Holds-unique}
 use Rattle.rlsf_machine.proofs.Live.{reallocated_is_live}
 use Rattle.rlsf_machine.proofs.Payloads.{IsUsed-after_start}
-use Rattle.rlsf_tlsf.proofs.Machine.Counted.{KeepsSpare-counted_first, StandsFor-counted}
-use Rattle.rlsf_tlsf.proofs.Words.NonZeroNumbers.{number, on_none, on_some}
+use Rattle.rlsf_blocks.proofs.Machine.Counted.{KeepsSpare-counted_first, StandsFor-counted}
+use Rattle.rlsf_blocks.proofs.Words.NonZeroNumbers.{number, on_none, on_some}
 use Rattle.rlsf_tlsf.proofs.tlsf.Tlsf.reallocate.Given as given
 use Rattle.rlsf_tlsf.proofs.tlsf.Tlsf.reallocate.Goals as goal
 use Rattle.rlsf_tlsf.proofs.tlsf.Tlsf.reallocate.Goals.{After-used_block-block}
@@ -42,22 +42,10 @@ is_live : (g : given.Over) (c : After-used_block-block g) {s : State} (u : Used)
 is_live g c {s} u v holds is to t step =
     (reallocated_is_live g.row.FLLEN g.row.SLLEN (range_of c.self.inside.memory) s t (non_zero_usize_get c.args.addr) c.args.layout.size to c.args.layout.align v.well_formed (u, holds, is) (record { block = u; holds = holds; step = step })).0
 
-pub reallocate_block-requires-send-FLBitmap : goal.reallocate_block-requires-send-FLBitmap
-reallocate_block-requires-send-FLBitmap g c κs within = c.type_bounds.send-FLBitmap
-
-pub reallocate_block-requires-send-SLBitmap : goal.reallocate_block-requires-send-SLBitmap
-reallocate_block-requires-send-SLBitmap g c κs within = c.type_bounds.send-SLBitmap
-
-pub reallocate_block-requires-sync-FLBitmap : goal.reallocate_block-requires-sync-FLBitmap
-reallocate_block-requires-sync-FLBitmap g c κs within = c.type_bounds.sync-FLBitmap
-
-pub reallocate_block-requires-sync-SLBitmap : goal.reallocate_block-requires-sync-SLBitmap
-reallocate_block-requires-sync-SLBitmap g c κs within = c.type_bounds.sync-SLBitmap
-
-pub reallocate_block-requires-after_bounds : goal.reallocate_block-requires-after_bounds
-reallocate_block-requires-after_bounds g c κs within =
+pub reallocate_block-requires : goal.reallocate_block-requires
+reallocate_block-requires g c =
     let (s, v, (u, holds, is)) = subst (λ (old : Contents). (s : State) × StandsFor g.row.FLLEN g.row.SLLEN old s × IsLive s (non_zero_usize_get c.args.addr) c.args.layout.align) (sym c.self.view_is) c.requires in
-    let at = (goal.at.reallocate_block-requires-after_bounds g c).After-used_block-block in
+    let at = (goal.at.reallocate_block-requires g c).After-used_block-block in
     (omega arith, (c.self.invariant.valid, (s, u, read_in g at v, used_at g at s u v holds is)))
 
 pub invariant_of-self : goal.invariant_of-self

@@ -1,20 +1,8 @@
 -- The row's word has a one exactly where the class has a free block.
 use Rattle.std.proofs.Common.{sym, subst}
-use Rattle.rlsf_tlsf.specs.StandsFor.{StandsFor}
-use Rattle.rlsf_tlsf.proofs.Machine.Readers.{places_of-row}
+use Rattle.rlsf_blocks.specs.StandsFor.{StandsFor}
+use Rattle.rlsf_blocks.proofs.Machine.Readers.{places_of-row}
 use Rattle.rlsf_tlsf.proofs.tlsf.Tlsf.sl_bitmap.Goals as goal
-
-pub sl_bitmap-requires-send-FLBitmap : goal.sl_bitmap-requires-send-FLBitmap
-sl_bitmap-requires-send-FLBitmap g c κs within = c.type_bounds.send-FLBitmap
-
-pub sl_bitmap-requires-send-SLBitmap : goal.sl_bitmap-requires-send-SLBitmap
-sl_bitmap-requires-send-SLBitmap g c κs within = c.type_bounds.send-SLBitmap
-
-pub sl_bitmap-requires-sync-FLBitmap : goal.sl_bitmap-requires-sync-FLBitmap
-sl_bitmap-requires-sync-FLBitmap g c κs within = c.type_bounds.sync-FLBitmap
-
-pub sl_bitmap-requires-sync-SLBitmap : goal.sl_bitmap-requires-sync-SLBitmap
-sl_bitmap-requires-sync-SLBitmap g c κs within = c.type_bounds.sync-SLBitmap
 
 pub returns : goal.returns
 returns g c s sl stands =

@@ -1,0 +1,14 @@
+use Rattle.std.proofs.Common.{lit<}
+use Rattle.rlsf_base.specs.Range.{range_at}
+use Rattle.rlsf.proofs.Callers.Inserted.{HasRow-allocated}
+use Rattle.rlsf.proofs.tests.walks.used_blocks_are_walked.Goals as goal
+
+pub iter_blocks-requires : goal.iter_blocks-requires
+iter_blocks-requires g c =
+    let whole = range_at 4096 96 in
+    (lit< tt, HasRow-allocated whole _ _ _ (HasRow-allocated whole _ _ _ c.in_ok-tlsf.ensures c.allocate.ensures.step) c.allocate-2.ensures.step)
+
+pub iter_blocks-requires-2 : goal.iter_blocks-requires-2
+iter_blocks-requires-2 g c =
+    let whole = range_at 4096 96 in
+    (lit< tt, HasRow-allocated whole _ _ _ (HasRow-allocated whole _ _ _ c.in_ok-tlsf.ensures c.allocate.ensures.step) c.allocate-2.ensures.step)

@@ -1,0 +1,107 @@
+-- The writes that leave a rest.
+use Rattle.std.proofs.Common.{◌≡◌, ◌≢◌, ℕ, ◌+◌, ◌-◌, ◌%◌, ◌^◌, ◌<◌, ◌≤◌, ◌⊎◌, List, ◌∷◌, arith, inl, inr, sym, ◌∙◌, ap, subst}
+use Rattle.rlsf_base.specs.declared.memory.range.Range.{Range}
+use Rattle.rlsf_base.specs.Range.{end_of}
+use Rattle.rlsf_base.specs.Space.{Space, word_at, with_word}
+use Rattle.rlsf_table.specs.FreeList.{IsLink, Rewrites}
+use Rattle.rlsf_table.specs.FreeTable.{IsRoom}
+use Rattle.rlsf_table.specs.Table.{Table, HasTable}
+use Rattle.rlsf_table.proofs.Tables.FreeTables.{IsFreeTable-Rewrites}
+use Rattle.rlsf_table.proofs.Words.Writes.{before_links, Rewrites-trans, Rewrites-weaken, Rewrites-word, IsPlaced-Rewrites}
+use Rattle.rlsf_table.proofs.Words.Writing.{IsWrite, write, rewrites_of, reads_of}
+use Rattle.rlsf_blocks.specs.Steps.Touched.{Touched, at_link, in_hole, at_other}
+use Rattle.rlsf_machine.specs.Lists.{IsIn}
+use Rattle.rlsf_machine.specs.WellFormed.{itself}
+use Rattle.rlsf_blocks.specs.Steps.Rest.{IsInnerRoom, IsLeft}
+use Rattle.rlsf_machine.proofs.Coverage.{covers-inside, coverage-IsIn}
+
+-- the memories m1 to m3 after the three writes
+pub record AreLeft (m m1 m2 m3 : Space) (block : ℕ) (r : Range) : Type 0 where
+  pub one : IsWrite m m1 r.start r.len
+  pub two : IsWrite m1 m2 (r.start + 8) block
+  pub three : IsWrite m2 m3 (end_of r + 8) r.start
+
+pub AreLeft-from : {fllen sllen : ℕ} {m m1 m2 m3 : Space} {table : Table} {free : List Range} (block len taken : ℕ) (r : Range) → IsInnerRoom fllen sllen m table free r → r.start ≡ block + taken → r.len + taken ≡ len → block < 2 ^ 64
+    → (m1.start ≡ m.start) × (m1.bytes ≡ with_word m (block + taken) (len - taken)) → (m2.start ≡ m1.start) × (m2.bytes ≡ with_word m1 (block + taken + 8) block)
+    → (m3.start ≡ m2.start) × (m3.bytes ≡ with_word m2 (block + len + 8) (block + taken)) → AreLeft m m1 m2 m3 block r
+AreLeft-from {m = m} {m1 = m1} {m2 = m2} {m3 = m3} block len taken r room start_is len_is fits e1 e2 e3 =
+    let inside = room.room.placed.lies_in in
+    let whole = room.room.block.whole in
+    let not_last = room.not_last in
+    let addressable = room.room.list.addressable in
+    let start : block + taken ≡ r.start = sym start_is in
+    let size : len - taken ≡ r.len = omega arith in
+    let end : block + len ≡ end_of r = omega arith in
+    let w1 : IsWrite m m1 (block + taken) (len - taken) = write (omega arith, (omega arith, omega arith)) e1.0 e1.1 (omega arith) in
+    let l1 = (Rewrites-word m m1 (block + taken) (len - taken) w1.placed w1.start w1.bytes).length in
+    let w2 : IsWrite m1 m2 (block + taken + 8) block = write (omega arith, (omega arith, omega arith)) e2.0 e2.1 fits in
+    let l2 = (Rewrites-word m1 m2 (block + taken + 8) block w2.placed w2.start w2.bytes).length in
+    let w3 : IsWrite m2 m3 (block + len + 8) (block + taken) = write (omega arith, (omega arith, omega arith)) e3.0 e3.1 (omega arith) in
+    record {
+      one = subst (λ a. IsWrite m m1 a r.len) start (subst (λ n. IsWrite m m1 (block + taken) n) size w1);
+      two = subst (λ a. IsWrite m1 m2 (a + 8) block) start w2;
+      three = subst (λ a. IsWrite m2 m3 (end_of r + 8) a) start (subst (λ a. IsWrite m2 m3 (a + 8) (block + taken)) end w3);
+    }
+
+module _ {fllen sllen : ℕ} {m m1 m2 m3 : Space} {table : Table} {block : ℕ} {free : List Range} (r : Range) (inner : IsInnerRoom fllen sllen m table free r) (writes : AreLeft m m1 m2 m3 block r) where
+  -- the words were written at the rest and at the second word behind it
+  written : Rewrites m m3 (λ a. (a ≡ r.start) ⊎ ((a ≡ r.start + 8) ⊎ (a ≡ end_of r + 8)))
+  written = Rewrites-trans (rewrites_of writes.one) (Rewrites-trans (rewrites_of writes.two) (rewrites_of writes.three))
+
+  room : IsRoom fllen sllen m table free r
+  room = inner.room
+
+  pub IsRoom-written : IsRoom fllen sllen m3 table free r
+  IsRoom-written = record { list = IsFreeTable-Rewrites written other room.list; block = room.block; placed = IsPlaced-Rewrites written room.placed; apart = room.apart }
+    where
+      other : (f : Range) → IsIn f free → ¬ ((f.start ≡ r.start) ⊎ ((f.start ≡ r.start + 8) ⊎ (f.start ≡ end_of r + 8)))
+          × ¬ ((f.start + 16 ≡ r.start) ⊎ ((f.start + 16 ≡ r.start + 8) ⊎ (f.start + 16 ≡ end_of r + 8)))
+          × ¬ ((f.start + 24 ≡ r.start) ⊎ ((f.start + 24 ≡ r.start + 8) ⊎ (f.start + 24 ≡ end_of r + 8)))
+      other f i =
+          let placed = room.list.placed f i in
+          let mine = room.placed.whole in
+          let long = room.placed.room in
+          let whole = room.block.whole in
+          let apart : f.start ≢ r.start = λ same. omega (arith, room.apart r.start, covers-inside r r.start (omega arith) (omega arith), coverage-IsIn itself f free r.start i, covers-inside f r.start (omega arith) (omega (arith, placed.room))) in (
+            (elim [ inl e ↦ apart e | inr (inl e) ↦ omega (arith, placed.whole) | inr (inr e) ↦ omega (arith, placed.whole) ]),
+            (elim [ inl e ↦ omega (arith, placed.whole) | inr (inl e) ↦ omega (arith, placed.whole) | inr (inr e) ↦ omega (arith, placed.whole) ]),
+            (elim [ inl e ↦ omega (arith, placed.whole) | inr (inl e) ↦ omega (arith, placed.whole) | inr (inr e) ↦ omega (arith, placed.whole) ]),
+          )
+
+  -- and once the rest is linked, it is a free block
+  module _ {n : Space} {changed : Table} (linked : HasTable fllen sllen n changed (r ∷ free) × Rewrites m3 n (IsLink (r ∷ free))) where
+    kept : (a : ℕ) → (a % 32 ≡ 0) ⊎ (a % 32 ≡ 8) → m.start ≤ a → word_at n a ≡ word_at m3 a
+    kept a place from = before_links (r ∷ free) start linked.1 a place (omega (arith, written.start))
+      where
+        start : (f : Range) → IsIn f (r ∷ free) → f.start % 32 ≡ 0
+        start f (inl is) = omega (arith, room.placed.whole, ap (λ q. q.start) is)
+        start f (inr i) = (room.list.placed f i).whole
+
+    pub IsLeft-written : IsLeft fllen sllen m n changed free block r
+    IsLeft-written =
+        let whole = room.block.whole in
+        let long = room.placed.room in
+        let inside = room.placed.lies_in in
+        let r3 = rewrites_of writes.three in
+        let r2 = Rewrites-trans (rewrites_of writes.two) r3 in
+        let same1 = writes.one.start in
+        let same2 = writes.two.start in
+        record {
+          rewrites = Rewrites-weaken joined (Rewrites-trans written linked.1);
+          size = kept r.start (inl whole.start) inside.0 ∙ r2.words r.start (omega arith) (omega arith) size_apart ∙ reads_of writes.one;
+          previous = kept (r.start + 8) (inr (omega arith)) (omega arith) ∙ r3.words (r.start + 8) (omega arith) (omega arith) (λ e. omega arith) ∙ reads_of writes.two;
+          behind = kept (end_of r + 8) (inr (omega arith)) (omega arith) ∙ reads_of writes.three;
+          table = linked.0;
+        }
+      where
+        size_apart : (r.start ≡ r.start + 8) ⊎ (r.start ≡ end_of r + 8) → ⊥
+        size_apart (inl e) = omega arith
+        size_apart (inr e) = omega arith
+
+        joined : (a : ℕ) → ((a ≡ r.start) ⊎ ((a ≡ r.start + 8) ⊎ (a ≡ end_of r + 8))) ⊎ IsLink (r ∷ free) a → Touched free r (end_of r + 8) a
+        joined a (inl (inl e)) = in_hole (omega arith) (omega (arith, room.placed.room))
+        joined a (inl (inr (inl e))) = in_hole (omega arith) (omega (arith, room.placed.room))
+        joined a (inl (inr (inr e))) = at_other e
+        joined a (inr (f, inl is, inl at)) = in_hole (omega (arith, ap (λ q. q.start) is)) (omega (arith, ap (λ q. q.start) is, room.placed.room))
+        joined a (inr (f, inl is, inr at)) = in_hole (omega (arith, ap (λ q. q.start) is)) (omega (arith, ap (λ q. q.start) is, room.placed.room))
+        joined a (inr (f, inr i, at)) = at_link (f, i, at)

@@ -1,0 +1,199 @@
+-- The words at the neighbours of a used block tell if they are free.
+use Rattle.std.proofs.Common.{◌≡◌, ◌≢◌, ◌↔◌, ℕ, eqb, false, ◌+◌, ◌-◌, ◌%◌, ◌≤◌, Some, None, find, arith, inl, inr, sym, ◌∙◌, ap, subst}
+use Rattle.std.proofs.lemmas.Bool.{eq-eqb, eqb-true, ne_eqb}
+use Rattle.rlsf_base.specs.declared.memory.range.Range.{Range}
+use Rattle.rlsf_base.specs.Range.{end_of}
+use Rattle.rlsf_base.specs.Space.{Space, word_at}
+use Rattle.rlsf_table.specs.FreeList.{IsLink}
+use Rattle.rlsf_table.specs.FreeTable.{IsFreeTable}
+use Rattle.rlsf_table.specs.Table.{Table}
+use Rattle.rlsf_table.proofs.FreeLists.Found.{find-one, find-no, find-start, find-no_start, without-same}
+use Rattle.rlsf_table.proofs.FreeLists.Counted.{IsFreeTable-counted, Rewrites-counted}
+use Rattle.rlsf_blocks.specs.InBand.{sentinel_of}
+use Rattle.rlsf_blocks.specs.StandsFor.{contents, StandsFor}
+use Rattle.rlsf_blocks.specs.Steps.Join.{Begins, IsMarked, IsOut, IsPreviousOut}
+use Rattle.rlsf_machine.specs.Join.{ends_at, starts_at, start_or, end_or}
+use Rattle.rlsf_machine.specs.Lists.{IsIn, without}
+use Rattle.rlsf_machine.specs.State.{State, Used}
+use Rattle.rlsf_machine.proofs.Coverage.{IsIn-without, IsIn-without_other, without-none}
+use Rattle.rlsf_machine.proofs.Payloads.{IsUsed-some}
+use Rattle.rlsf_blocks.proofs.Machine.FreeBlocks.{IsFreeTable-free}
+use Rattle.rlsf_blocks.proofs.Machine.Neighbours.{Before, free_before, used_before, none_before, Behind, free_behind, used_behind, last_behind, before_used, behind_used}
+use Rattle.rlsf_blocks.proofs.Words.Apart.{used_free, free_free, free_last, chunk_chunk, home_of_free, used_in_memory, free_in_memory}
+
+-- what the word names that tells the block before an address: a free block, a used one, or none
+pub data Named (m : Space) (s : State) (b previous : ℕ) : Type 0 where
+  names_free : (f : Range) → IsIn f s.free → end_of f ≡ b → previous ≡ f.start → find (ends_at b) s.free ≡ Some f → Named m s b previous
+  names_used : (x : Used) → IsIn x s.used → previous ≡ x.block.start → find (ends_at b) s.free ≡ None → Named m s b previous
+  names_none : previous ≡ 0 → find (ends_at b) s.free ≡ None → Named m s b previous
+
+module _ {fllen sllen : ℕ} {m : Space} {t : Table} {s : State} (v : StandsFor fllen sllen (contents m t) s) where
+  -- where a used block begins, its word is odd, and no free block begins
+  pub used_odd : (x : Used) → IsIn x s.used → word_at m x.block.start % 2 ≡ 1
+  used_odd x i = omega (arith, v.sizes.used x i, (v.well_formed.used x i).whole.len)
+
+  pub used_begins : (x : Used) → IsIn x s.used → (a : ℕ) → x.block.start ≡ a → Begins s.free a → ⊥
+  used_begins x i a at (f, j, same) =
+      let some = IsUsed-some x (v.well_formed.used x i) in
+      let more = (v.well_formed.free f j).some in
+      used_free v.well_formed x f a i j (record { from = omega arith; to = omega arith }) (record { from = omega arith; to = omega arith })
+
+  -- where a chunk's last bytes begin, none begins either
+  pub last_begins : (c : Range) → IsIn c s.chunks → (a : ℕ) → sentinel_of c ≡ a → Begins s.free a → ⊥
+  last_begins c i a at (f, j, same) =
+      let more = (v.well_formed.free f j).some in
+      let room = (v.well_formed.chunks c i).has_room in
+      free_last v.well_formed f c a j i (record { from = omega arith; to = omega arith }) (omega arith) (omega arith)
+
+  -- a free block's word is even
+  pub free_even : (f : Range) → IsIn f s.free → word_at m f.start % 2 ≡ 0
+  free_even f i = omega (arith, v.sizes.free f i, (v.well_formed.free f i).whole.len)
+
+  -- ---- the block before
+
+  module _ (u : Used) (i : IsIn u s.used) {b previous : ℕ} (at : u.block.start ≡ b) (is : previous ≡ word_at m (b + 8)) where
+    no_other_end : (x : Used) → IsIn x s.used → end_of x.block ≡ b → find (ends_at b) s.free ≡ None
+    no_other_end x j end =
+        find-no (ends_at b) s.free (λ f k passes.
+        let f_end = eqb-true (end_of f) b passes in
+        let some = IsUsed-some x (v.well_formed.used x j) in
+        let more = (v.well_formed.free f k).some in
+        used_free v.well_formed x f (b - 1) j k (record { from = omega arith; to = omega arith }) (record { from = omega arith; to = omega arith }))
+
+    no_end_before : (c : Range) → IsIn c s.chunks → c.start ≡ b → find (ends_at b) s.free ≡ None
+    no_end_before c j start =
+        find-no (ends_at b) s.free (λ f k passes.
+        let f_end = eqb-true (end_of f) b passes in
+        let more = (v.well_formed.free f k).some in
+        let room = (v.well_formed.chunks c j).has_room in
+        let home = home_of_free v.well_formed f k in
+        let same = chunk_chunk v.well_formed home.chunk c b home.is_chunk j (record { from = omega (arith, home.from); to = omega (arith, home.to) }) (record { from = omega arith; to = omega arith }) in
+        omega (arith, home.from, ap (λ r. r.start) same))
+
+    pub named : Named m s b previous
+    named = go (subst (Before s) at (before_used v.well_formed u i))
+      where
+        go : Before s b → Named m s b previous
+        go (free_before f j end) =
+            names_free f j end (is ∙ ap (λ a. word_at m (a + 8)) (sym end) ∙ v.previous.free f j)
+            (find-one (ends_at b) f s.free j (eq-eqb (end_of f) b end) (λ g k passes.
+            let g_end = eqb-true (end_of g) b passes in
+            let some = (v.well_formed.free f j).some in
+            let more = (v.well_formed.free g k).some in
+            free_free v.well_formed g f (b - 1) k j (record { from = omega arith; to = omega arith }) (record { from = omega arith; to = omega arith })))
+        go (used_before x j end) = names_used x j (is ∙ ap (λ a. word_at m (a + 8)) (sym end) ∙ v.previous.used x j) (no_other_end x j end)
+        go (none_before c j start) = names_none (is ∙ ap (λ a. word_at m (a + 8)) (sym start) ∙ v.previous.first c j) (no_end_before c j start)
+
+    some_previous : (f : Range) → IsIn f s.free → previous ≡ f.start → previous ≢ 0
+    some_previous f j same none = omega (arith, (free_in_memory v.well_formed f j).0, v.nonzero)
+
+    some_used : (x : Used) → IsIn x s.used → previous ≡ x.block.start → previous ≢ 0
+    some_used x j same none = omega (arith, (used_in_memory v.well_formed x j).0, v.nonzero)
+
+    -- no block is before it
+    pub IsPreviousOut-none : (n : Space) → n.start ≡ m.start → n.bytes ≡ m.bytes → previous ≡ 0 → IsPreviousOut fllen sllen m n t s.free b b
+    IsPreviousOut-none n start bytes none = go named
+      where
+        missing : find (ends_at b) s.free ≡ None → IsPreviousOut fllen sllen m n t s.free b b
+        missing e = record {
+          rewrites = Rewrites-counted m n start bytes (IsLink s.free);
+          list = subst (IsFreeTable fllen sllen n t) (sym (without-none (ends_at b) s.free e)) (IsFreeTable-counted m n start bytes (IsFreeTable-free v));
+          begins = sym (ap (start_or b) e);
+        }
+
+        go : Named m s b previous → IsPreviousOut fllen sllen m n t s.free b b
+        go (names_free f j end same found) = absurd (some_previous f j same none)
+        go (names_used x j same e) = missing e
+        go (names_none zero e) = missing e
+
+    -- the block before it is marked
+    pub IsMarked-previous : previous ≢ 0 → IsMarked m s.free previous
+    IsMarked-previous some = go named
+      where
+        go : Named m s b previous → IsMarked m s.free previous
+        go (names_free f j end same found) =
+            let is = v.well_formed.free f j in
+            let place = free_in_memory v.well_formed f j in
+            record {
+              word = (omega (arith, is.whole.start), (omega (arith, place.0), omega (arith, place.1)));
+              mark = (λ even. (f, j, sym same), λ begins. ap (λ a. word_at m a % 2) same ∙ free_even f j);
+            }
+        go (names_used x j same e) =
+            let is = v.well_formed.used x j in
+            let place = used_in_memory v.well_formed x j in
+            let odd = ap (λ a. word_at m a % 2) same ∙ used_odd x j in
+            record {
+              word = (omega (arith, is.whole.start), (omega (arith, place.0), omega (arith, place.1)));
+              mark = (λ even. absurd (omega (arith, odd, even)), λ begins. absurd (used_begins x j previous (sym same) begins));
+            }
+        go (names_none none e) = absurd (some none)
+
+    -- and was taken out, if it is free
+    pub previous_out : {n : Space} {x : Table} {len : ℕ} → previous ≢ 0 → IsOut fllen sllen m n x s.free previous len → (len ≤ b) × IsPreviousOut fllen sllen m n x s.free b (b - len)
+    previous_out {n} {x} {len} some out = go named
+      where
+        missing : (Begins s.free previous → ⊥) → find (ends_at b) s.free ≡ None → (len ≤ b) × IsPreviousOut fllen sllen m n x s.free b (b - len)
+        missing none e =
+            let no_start = find-no_start s.free previous (λ f j same. none (f, j, same)) in
+            let left : without (starts_at previous) s.free ≡ without (ends_at b) s.free = without-none (starts_at previous) s.free no_start ∙ sym (without-none (ends_at b) s.free e) in
+            let end : previous + len ≡ previous = out.end ∙ ap (end_or previous) no_start in (
+              omega (arith, end),
+              record {
+                rewrites = out.rewrites;
+                list = subst (IsFreeTable fllen sllen n x) left out.list;
+                begins = omega (arith, end) ∙ sym (ap (start_or b) e);
+              },
+            )
+
+        go : Named m s b previous → (len ≤ b) × IsPreviousOut fllen sllen m n x s.free b (b - len)
+        go (names_free f j end same found) =
+            let start = find-start s.free f previous (IsFreeTable-free v).apart (λ g k. (v.well_formed.free g k).some) j (sym same) in
+            let left = without-same (starts_at previous) (ends_at b) f s.free start found in
+            let long : previous + len ≡ end_of f = out.end ∙ ap (end_or previous) start in (
+              omega arith,
+              record {
+                rewrites = out.rewrites;
+                list = subst (IsFreeTable fllen sllen n x) left out.list;
+                begins = omega arith ∙ sym (ap (start_or b) found);
+              },
+            )
+        go (names_used y j same e) = missing (used_begins y j previous (sym same)) e
+        go (names_none none e) = absurd (some none)
+
+  -- ---- the block behind
+
+  module _ (u : Used) (i : IsIn u s.used) {n : Space} {x : Table} {b start : ℕ} (at : u.block.start ≡ b) (out : IsPreviousOut fllen sllen m n x s.free b start) where
+    -- a size word is as it was
+    kept : (a : ℕ) → a % 32 ≡ 0 → m.start ≤ a → word_at n a ≡ word_at m a
+    kept a whole from = out.rewrites.words a (omega arith) from no_link
+      where
+        no_link : IsLink s.free a → ⊥
+        no_link (g, j, inl at_link) = omega (arith, (v.well_formed.free g j).whole.start)
+        no_link (g, j, inr at_link) = omega (arith, (v.well_formed.free g j).whole.start)
+
+    -- what begins in the list without the block before began in the whole list
+    still : (a : ℕ) → Begins (without (ends_at b) s.free) a → Begins s.free a
+    still a (f, j, same) = (f, IsIn-without (ends_at b) f s.free j, same)
+
+    -- the block behind it is marked
+    pub IsMarked-behind : (e : ℕ) → end_of u.block ≡ e → IsMarked n (without (ends_at b) s.free) e
+    IsMarked-behind e end =
+        let is = v.well_formed.used u i in
+        let place = used_in_memory v.well_formed u i in
+        let whole : e % 32 ≡ 0 = omega (arith, end, is.whole.start, is.whole.len) in
+        record {
+          word = (omega (arith, whole), (omega (arith, end, place.0, out.rewrites.start), omega (arith, end, place.1, out.rewrites.start, out.rewrites.length)));
+          mark = go (kept e whole (omega (arith, end, place.0))) (subst (Behind s) end (behind_used v.well_formed u i));
+        }
+      where
+        odd : word_at n e % 2 ≡ 1 → (Begins s.free e → ⊥) → (word_at n e % 2 ≡ 0) ↔ Begins (without (ends_at b) s.free) e
+        odd is_odd none = (λ even. absurd (omega (arith, even, is_odd)), λ begins. absurd (none (still e begins)))
+
+        go : word_at n e ≡ word_at m e → Behind s e → (word_at n e % 2 ≡ 0) ↔ Begins (without (ends_at b) s.free) e
+        go same (free_behind f j begin) =
+            let more = (v.well_formed.free f j).some in
+            let other : eqb (end_of f) b ≡ false = ne_eqb (end_of f) b (λ same_end. omega arith) in
+            let even : word_at n e % 2 ≡ 0 = ap (λ w. w % 2) (same ∙ ap (word_at m) (sym begin)) ∙ free_even f j in
+            (λ _. (f, IsIn-without_other (ends_at b) f s.free other j, begin), λ _. even)
+        go same (used_behind x j begin) = odd (ap (λ w. w % 2) (same ∙ ap (word_at m) (sym begin)) ∙ used_odd x j) (used_begins x j e begin)
+        go same (last_behind c j begin) = odd (ap (λ w. w % 2) (same ∙ ap (word_at m) (sym begin) ∙ v.sizes.sentinel c j)) (last_begins c j e begin)

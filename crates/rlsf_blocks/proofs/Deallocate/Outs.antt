@@ -1,0 +1,48 @@
+-- A block is taken out of the table, if it is free.
+use Rattle.std.proofs.Common.{◌≡◌, ℕ, ◌%◌, List, ◌∷◌, ◌++◌, arith, sym, ◌∙◌, ap, subst}
+use Rattle.rlsf_base.specs.declared.memory.range.Range.{Range}
+use Rattle.rlsf_base.specs.Space.{Space, word_at}
+use Rattle.rlsf_table.specs.FreeList.{IsLink, Rewrites}
+use Rattle.rlsf_table.specs.FreeTable.{IsFreeTable}
+use Rattle.rlsf_table.specs.Table.{Table, HasTable}
+use Rattle.rlsf_table.proofs.FreeLists.Chains.{find-split}
+use Rattle.rlsf_table.proofs.FreeLists.Counted.{IsFreeTable-counted, Rewrites-counted}
+use Rattle.rlsf_table.proofs.FreeLists.Found.{find-start, find-no_start}
+use Rattle.rlsf_table.proofs.Tables.FreeTables.{IsFreeTable-removal}
+use Rattle.rlsf_blocks.specs.Steps.Join.{IsMarked, IsOut}
+use Rattle.rlsf_machine.specs.Join.{starts_at, end_or}
+use Rattle.rlsf_machine.specs.Lists.{IsIn}
+use Rattle.rlsf_machine.proofs.Coverage.{without-none}
+
+module _ {fllen sllen : ℕ} {m : Space} {t : Table} {block : ℕ} {free : List Range} (list : IsFreeTable fllen sllen m t free) (marked : IsMarked m free block) where
+  -- the free block that begins there
+  pub block_there : {len : ℕ} → len ≡ word_at m block → len % 2 ≡ 0 → (r : Range) × (IsIn r free) × (r.start ≡ block) × (r.len ≡ len)
+  block_there {len} is even =
+      let (f, i, at) = marked.mark.0 (ap (λ w. w % 2) (sym is) ∙ even) in
+      (f, i, at, sym (list.sizes f i) ∙ ap (word_at m) at ∙ sym is)
+
+  -- it was unlinked
+  pub IsOut-unlinked : {n : Space} {u : Table} {len : ℕ} → len ≡ word_at m block → len % 2 ≡ 0
+      → ((r : Range) (before after : List Range) → r.start ≡ block → r.len ≡ len → IsFreeTable fllen sllen m t (before ++ (r ∷ after)) → HasTable fllen sllen n u (before ++ after) × Rewrites m n (IsLink (before ++ (r ∷ after))))
+      → IsOut fllen sllen m n u free block len
+  IsOut-unlinked {n} {u} {len} is even unlinked =
+      let (f, i, at, long) = block_there is even in
+      let found = find-start free f block list.apart (λ g j. let p = list.placed g j in omega (arith, p.room)) i at in
+      let (before, after, parts, left) = find-split (starts_at block) f free found in
+      let whole = subst (IsFreeTable fllen sllen m t) parts list in
+      let (table, rewrites) = unlinked f before after at long whole in
+      record {
+        rewrites = subst (λ l. Rewrites m n (IsLink l)) (sym parts) rewrites;
+        list = subst (IsFreeTable fllen sllen n u) (sym left) (IsFreeTable-removal before f after whole table rewrites);
+        end = omega (arith, at, long) ∙ sym (ap (end_or block) found);
+      }
+
+  -- no free block begins there
+  pub IsOut-none : (n : Space) → n.start ≡ m.start → n.bytes ≡ m.bytes → {size : ℕ} → size ≡ word_at m block → size % 2 ≡ 1 → IsOut fllen sllen m n t free block 0
+  IsOut-none n start bytes {size} is odd =
+      let none = find-no_start free block (λ f i at. omega (arith, ap (λ w. w % 2) is, marked.mark.1 (f, i, at))) in
+      record {
+        rewrites = Rewrites-counted m n start bytes (IsLink free);
+        list = subst (IsFreeTable fllen sllen n t) (sym (without-none (starts_at block) free none)) (IsFreeTable-counted m n start bytes list);
+        end = omega arith ∙ sym (ap (end_or block) none);
+      }

@@ -1,0 +1,136 @@
+-- A used block was joined with its free neighbours: the value stands for the state without it.
+use Rattle.std.proofs.Common.{◌≡◌, ℕ, ◌+◌, ◌-◌, ◌≤◌, ◌⊎◌, length, arith, inl, inr, refl, sym, ◌∙◌, ap, subst}
+use mathlib.Core.Path.{ap₂}
+use Rattle.rlsf_base.specs.declared.memory.range.Range.{Range}
+use Rattle.rlsf_base.specs.Range.{end_of}
+use Rattle.rlsf_base.specs.Space.{Space, range_of, word_at}
+use Rattle.rlsf_table.specs.FreeList.{IsLink, Rewrites}
+use Rattle.rlsf_table.specs.Table.{Table}
+use Rattle.rlsf_table.proofs.Words.Writes.{Rewrites-trans, Rewrites-weaken}
+use Rattle.rlsf_blocks.specs.Spare.{KeepsSpare}
+use Rattle.rlsf_blocks.specs.StandsFor.{contents, StandsFor}
+use Rattle.rlsf_blocks.specs.Steps.Touched.{Touched, at_link, in_hole, at_other}
+use Rattle.rlsf_blocks.specs.Steps.Join.{IsOut, IsPreviousOut, IsPut, union, untouched}
+use Rattle.rlsf_blocks.specs.Steps.Rest.{IsInnerRoom}
+use Rattle.rlsf_machine.specs.Join.{ends_at, starts_at, join}
+use Rattle.rlsf_machine.specs.Lists.{IsIn, without}
+use Rattle.rlsf_machine.specs.Release.{released}
+use Rattle.rlsf_machine.specs.State.{State, Used, others}
+use Rattle.rlsf_machine.specs.WellFormed.{itself, IsFree, IsWellFormed}
+use Rattle.rlsf_machine.proofs.Changes.{IsIn-others}
+use Rattle.rlsf_machine.proofs.Coverage.{covers-inside, coverage-IsIn, IsIn-without}
+use Rattle.rlsf_machine.proofs.Joins.{left_of}
+use Rattle.rlsf_machine.proofs.Releases.{IsSound-free, IsWellFormed-released}
+use Rattle.rlsf_machine.proofs.Tiling.{LiesInChunk, free-le, tiling_of}
+use Rattle.rlsf_blocks.proofs.Words.Apart.{used_free, free_in_memory, home_of_free}
+use Rattle.rlsf_blocks.proofs.Words.Refilled.{old_used, IsFreeStill, old_free, new_free, IsRefilled, StandsFor-refilled, KeepsSpare-refilled}
+
+module _ {fllen sllen : ℕ} {m : Space} {t : Table} {s : State} (v : StandsFor fllen sllen (contents m t) s) (u : Used) (i : IsIn u s.used) where
+  -- the state without the block
+  t_well_formed : IsWellFormed fllen sllen (range_of m) (released s u)
+  t_well_formed = IsWellFormed-released v.well_formed u i
+
+  pub is_free : IsFree fllen sllen (union u.block s.free)
+  is_free = t_well_formed.free (union u.block s.free) (inl refl)
+
+  pub home : LiesInChunk s (union u.block s.free)
+  home = let here = home_of_free t_well_formed (union u.block s.free) (inl refl) in record { chunk = here.chunk; is_chunk = here.is_chunk; from = here.from; to = here.to }
+
+  -- where the block ends, by its size word
+  pub end_computed : {block word : ℕ} → u.block.start ≡ block → word ≡ word_at m block → end_of u.block ≡ block + (word - 1)
+  end_computed {block} {word} at is = omega (arith, at, is ∙ ap (word_at m) (sym at) ∙ v.sizes.used u i)
+
+  -- what was taken out, at the block's own start and end
+  pub before_at : {m1 : Space} {x : Table} {block start : ℕ} → u.block.start ≡ block → IsPreviousOut fllen sllen m m1 x s.free block start → IsPreviousOut fllen sllen m m1 x s.free u.block.start start
+  before_at {m1} {x} {block} {start} at out = subst (λ b. IsPreviousOut fllen sllen m m1 x s.free b start) (sym at) out
+
+  pub behind_at : {m1 m2 : Space} {x : Table} {block end next : ℕ} → u.block.start ≡ block → end_of u.block ≡ end → IsOut fllen sllen m1 m2 x (without (ends_at block) s.free) end next
+      → IsOut fllen sllen m1 m2 x (without (ends_at u.block.start) s.free) (end_of u.block) next
+  behind_at {m1} {m2} {x} {block} {end} {next} at is out =
+      subst (λ b. IsOut fllen sllen m1 m2 x (without (ends_at b) s.free) (end_of u.block) next) (sym at) (subst (λ e. IsOut fllen sllen m1 m2 x (without (ends_at block) s.free) e next) (sym is) out)
+
+  -- the free blocks before it and behind it were taken out
+  module _ {m1 m2 : Space} {t1 t2 : Table} {start next : ℕ} (before : IsPreviousOut fllen sllen m m1 t1 s.free u.block.start start)
+      (behind : IsOut fllen sllen m1 m2 t2 (without (ends_at u.block.start) s.free) (end_of u.block) next) where
+    pub union_start : (union u.block s.free).start ≡ start
+    union_start = sym before.begins
+
+    pub start_before : start ≤ end_of u.block
+    start_before = omega (arith, before.begins, (left_of u.block.start s.free (v.well_formed.used u i).whole.start (IsSound-free v.well_formed)).order)
+
+    pub union_len : (union u.block s.free).len ≡ end_of u.block - start + next
+    union_len = omega (arith, before.begins, behind.end, start_before)
+
+    -- where their union ends is in the memory
+    pub union_end : end_of u.block + next + 32 ≤ m.start + length m.bytes
+    union_end = omega (arith, (free_in_memory t_well_formed (union u.block s.free) (inl refl)).1, union_start, union_len, start_before)
+
+    pub gone : Rewrites m m2 (IsLink s.free)
+    gone = Rewrites-weaken among (Rewrites-trans before.rewrites behind.rewrites)
+      where
+        among : (a : ℕ) → IsLink s.free a ⊎ IsLink (without (ends_at u.block.start) s.free) a → IsLink s.free a
+        among a (inl l) = l
+        among a (inr (f, j, at)) = (f, IsIn-without (ends_at u.block.start) f s.free j, at)
+
+    pub IsInnerRoom-union : IsInnerRoom fllen sllen m2 t2 (untouched u.block s.free) (union u.block s.free)
+    IsInnerRoom-union =
+        let is = is_free in
+        let place = free_in_memory t_well_formed (union u.block s.free) (inl refl) in
+        let moved = gone in
+        record {
+          room = record {
+            list = behind.list;
+            block = is;
+            placed = record {
+              some = omega (arith, v.nonzero, place.0);
+              whole = is.whole.start;
+              room = omega (arith, is.some, is.whole.len);
+              lies_in = (omega (arith, place.0, moved.start), omega (arith, place.1, moved.start, moved.length));
+            };
+            apart = λ a. free-le (released s u) (tiling_of t_well_formed) a;
+          };
+          not_last = omega (arith, place.1, moved.start, moved.length);
+        }
+
+    -- and their union with it was put in front
+    module _ {n : Space} {x : Table} (put : IsPut fllen sllen m2 n x (untouched u.block s.free) (union u.block s.free)) where
+      was_free : (f : Range) → IsIn f (untouched u.block s.free) → IsIn f s.free
+      was_free f j = IsIn-without (ends_at u.block.start) f s.free (IsIn-without (starts_at (end_of u.block)) f (without (ends_at u.block.start) s.free) j)
+
+      pub IsRefilled-released : IsRefilled fllen sllen m n x s (others u.payload s.used) (join u.block s.free) (union u.block s.free)
+      IsRefilled-released =
+          let is = is_free in
+          let place = free_in_memory t_well_formed (union u.block s.free) (inl refl) in
+          record {
+            rewrites = Rewrites-weaken joined (Rewrites-trans gone put.rewrites);
+            first = put.first ∙ gone.words ((union u.block s.free).start + 8) (omega (arith, is.whole.start)) (omega (arith, place.0)) no_link;
+            used_still = λ y j. old_used (IsIn-others u.payload y s.used j).0 (λ a hy hu. used_free t_well_formed y (union u.block s.free) a j (inl refl) hy hu);
+            free_still = still;
+            table = put.table;
+          }
+        where
+          joined : (a : ℕ) → IsLink s.free a ⊎ Touched (untouched u.block s.free) (union u.block s.free) (end_of (union u.block s.free) + 8) a → Touched s.free (union u.block s.free) (end_of (union u.block s.free) + 8) a
+          joined a (inl l) = at_link l
+          joined a (inr (at_link (f, j, at))) = at_link (f, was_free f j, at)
+          joined a (inr (in_hole low high)) = in_hole low high
+          joined a (inr (at_other at)) = at_other at
+
+          no_link : IsLink s.free ((union u.block s.free).start + 8) → ⊥
+          no_link (f, j, inl at) = omega (arith, (v.well_formed.free f j).whole.start, is_free.whole.start)
+          no_link (f, j, inr at) = omega (arith, (v.well_formed.free f j).whole.start, is_free.whole.start)
+
+          still : (f : Range) → IsIn f (join u.block s.free) → IsFreeStill n s (union u.block s.free) f
+          still f (inl same) = subst (IsFreeStill n s (union u.block s.free)) (sym same) (new_free put.size put.behind)
+          still f (inr j) =
+              old_free (was_free f j)
+              (λ a hf hu. omega (arith, free-le (released s u) (tiling_of t_well_formed) a, covers-inside (union u.block s.free) a hu.from hu.to, covers-inside f a hf.from hf.to, coverage-IsIn itself f (untouched u.block s.free) a j))
+
+      pub released_stands : StandsFor fllen sllen (contents n x) (released s u) × KeepsSpare m s n (released s u)
+      released_stands =
+          let is = is_free in
+          let refilled = IsRefilled-released in
+          let same : range_of n ≡ range_of m = ap₂ (λ a l. record { start = a; len = l }) refilled.rewrites.start refilled.rewrites.length in
+          let well_formed = subst (λ p. IsWellFormed fllen sllen p (released s u)) (sym same) t_well_formed in (
+            StandsFor-refilled v (union u.block s.free) is.whole is.some home refilled well_formed,
+            KeepsSpare-refilled v (union u.block s.free) is.whole is.some home refilled,
+          )

@@ -1,0 +1,53 @@
+-- What is read of the class table of a value, in the words of the state that it stands for.
+use Rattle.std.proofs.Common.{◌≡◌, ℕ, ◌<◌, ◌≤◌, false, List, [], ◌∷◌, Option, Some, MatchOption, option_map, slice_index, arith, refl, sym, ◌∙◌, ap, subst, inl, inr}
+use Rattle.std.specs.Int.NonZero.{non_zero_usize_get}
+use Rattle.std.specs.List.{list_any}
+use Rattle.std.specs.declared.num.NonZeroUsize.{NonZeroUsize}
+use Rattle.std.proofs.lemmas.Bool.{cases_lt, ne_eqb, and_right}
+use Rattle.rlsf_base.specs.declared.memory.range.Range.{Range}
+use Rattle.rlsf_base.specs.SizeClass.{class_of}
+use Rattle.rlsf_base.specs.Space.{Space}
+use Rattle.rlsf_base.proofs.SizeClasses.Reach.{division-lt}
+use Rattle.rlsf_int.specs.Bits.{bit}
+use Rattle.rlsf_machine.specs.Allocate.{has_class}
+use Rattle.rlsf_machine.specs.Lists.{IsIn}
+use Rattle.rlsf_machine.specs.State.{State}
+use Rattle.rlsf_table.specs.FreeList.{Links}
+use Rattle.rlsf_table.specs.Table.{class_at, head_at, newest_of, of_class}
+use Rattle.rlsf_table.proofs.FreeLists.Classes.{IsIn-of_class}
+use Rattle.rlsf_table.proofs.Tables.Tests.{list_any-false}
+use Rattle.rlsf_blocks.specs.StandsFor.{Contents, StandsFor}
+use Rattle.rlsf_blocks.proofs.Words.Apart.{free_in_memory}
+use Rattle.rlsf_blocks.proofs.Words.NonZeroNumbers.{number}
+
+-- the address of the first of some ranges that are linked, as a number that is not 0
+newest_of-Links : (m : Space) (xs : List Range) (head : ℕ) (o : Option NonZeroUsize) → MatchOption o (head ≡ 0) (λ x. non_zero_usize_get x ≡ head) → Links m 0 xs head → ((f : Range) → IsIn f xs → 0 < f.start)
+    → option_map non_zero_usize_get o ≡ newest_of xs
+newest_of-Links m [] head o is links some = (number o head is).0 links
+newest_of-Links m (f ∷ fs) head o is links some = (number o head is).1 (omega (arith, links.0, some f (inl refl))) ∙ ap (λ n. Some n) links.0
+
+module _ (fllen sllen : ℕ) (v : Contents) (s : State) (stands : StandsFor fllen sllen v s) (fl : ℕ) (row : fl < fllen) where
+  -- no free range begins at 0
+  some : (f : Range) → IsIn f s.free → 0 < f.start
+  some f i = omega (arith, stands.nonzero, (free_in_memory stands.well_formed f i).0)
+
+  -- the head of a class is where its newest free range begins
+  pub newest_of-head : (sl : ℕ) → sl < sllen → (o : Option NonZeroUsize) (head : ℕ) → head ≡ head_at v.table fl sl → MatchOption o (head ≡ 0) (λ x. non_zero_usize_get x ≡ head)
+      → option_map non_zero_usize_get o ≡ newest_of (of_class sllen fl sl s.free)
+  newest_of-head sl place o head same is =
+      let ranges = of_class sllen fl sl s.free in
+      newest_of-Links v.memory ranges head o is (subst (Links v.memory 0 ranges) (sym same) (stands.table.lists.links fl sl row place))
+      (λ f i. some f ((IsIn-of_class sllen fl sl f s.free i).0))
+
+  -- no range has a place past the row
+  past_row : (sl : ℕ) → sllen ≤ sl → list_any (has_class sllen (class_at fl sl)) s.free ≡ false
+  past_row sl past = list_any-false (has_class sllen (class_at fl sl)) s.free (λ f i. and_right _ _
+      (ne_eqb (class_of sllen f.len).division sl (λ same. let within = division-lt sllen f.len (stands.well_formed.free f i).some stands.well_formed.row_length in omega (arith, within, same))))
+
+  -- the row's word, read place by place
+  pub places_of-row : (read : ℕ) → ((sl : ℕ) → sl < sllen → bit read sl ≡ bit (slice_index v.table.second_level fl) sl) → ((sl : ℕ) → sllen ≤ sl → bit read sl ≡ false)
+      → (sl : ℕ) → bit read sl ≡ list_any (has_class sllen (class_at fl sl)) s.free
+  places_of-row read within past sl = elim (cases_lt sl sllen) [
+    | inl place ↦ within sl place ∙ stands.table.bits.second fl sl row
+    | inr behind ↦ past sl behind ∙ sym (past_row sl behind)
+  ]

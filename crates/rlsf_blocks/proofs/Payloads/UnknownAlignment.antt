@@ -1,0 +1,161 @@
+-- What the word before a payload says of its block, whatever its alignment.
+use Rattle.std.proofs.Common.{◌≡◌, ◌≢◌, ℕ, ◌+◌, ◌-◌, ◌^◌, ◌<◌, ◌≤◌, length, arith, inl, inr, refl, sym, ◌∙◌, ap, subst}
+use Rattle.std.proofs.lemmas.Bool.{cases_lt}
+use Rattle.rlsf_base.specs.declared.memory.range.Range.{Range}
+use Rattle.rlsf_base.specs.Range.{end_of, LiesIn}
+use Rattle.rlsf_base.specs.Space.{Space, IsWord, word_at}
+use Rattle.rlsf_machine.specs.Lists.{IsIn}
+use Rattle.rlsf_machine.specs.State.{State, Used, usable, Holds}
+use Rattle.rlsf_machine.proofs.Payloads.{IsUsed-after_start}
+use Rattle.rlsf_blocks.specs.StandsFor.{Contents, StandsFor}
+use Rattle.rlsf_blocks.proofs.Deallocate.Addresses.{IsWord-before, narrow_start, wide_start}
+use Rattle.rlsf_blocks.proofs.Machine.Neighbours.{before_used, free_before, none_before, used_before}
+use Rattle.rlsf_blocks.proofs.Words.Apart.{free_in_memory, used_in_memory}
+
+-- the word before the payload of u: 0, or where the block before u's block begins, which ends where u's block begins,
+-- and in both cases the payload lies 16 bytes into its block; or where u's block begins
+pub data Says (m : Space) (u : Used) (word : ℕ) : Type 0 where
+  nothing : word ≡ 0 → u.payload ≡ u.block.start + 16 → Says m u word
+  another : IsWord m word → word + word_at m word ≤ u.block.start + 1 → u.payload ≡ u.block.start + 16 → Says m u word
+  its_own : word ≡ u.block.start → Says m u word
+
+-- what the words in a memory are around the payload of u, which is at the address
+pub record IsPayloadOf (m : Space) (addr : ℕ) (u : Used) : Type 0 where
+  pub at : u.payload ≡ addr
+  pub in_block : u.block.start + 16 ≤ addr
+  pub within : addr ≤ end_of u.block
+  pub from_start : m.start ≤ u.block.start
+  pub to_end : end_of u.block + 32 ≤ m.start + length m.bytes
+  pub some : 0 < u.block.start
+  pub ends : end_of u.block + 32 < 2 ^ 64
+  pub word : IsWord m (addr - 8)
+  pub says : Says m u (word_at m (addr - 8))
+  pub own_word : IsWord m u.block.start
+  pub size : word_at m u.block.start ≡ u.block.len + 1
+
+module _ {fllen sllen : ℕ} {v : Contents} {s : State} (stands : StandsFor fllen sllen v s) (u : Used) (i : IsIn u s.used) where
+  -- the word before a payload 16 bytes into its block is that block's second one
+  says_narrow : u.payload ≡ u.block.start + 16 → Says v.memory u (word_at v.memory (u.payload - 8))
+  says_narrow at =
+      let w = stands.well_formed in
+      elim (before_used w u i) [
+        | none_before c j begins ↦
+            let place : u.payload - 8 ≡ c.start + 8 = omega arith in
+            nothing (ap (word_at v.memory) place ∙ stands.previous.first c j) at
+        | used_before x j ends ↦
+            let place : u.payload - 8 ≡ end_of x.block + 8 = omega arith in
+            let names = ap (word_at v.memory) place ∙ stands.previous.used x j in
+            let inside = used_in_memory w x j in
+            subst (Says v.memory u) (sym names) (another (omega (arith, (w.used x j).whole.start), (inside.0, omega (arith, inside.1))) (omega (arith, stands.sizes.used x j)) at)
+        | free_before f j ends ↦
+            let place : u.payload - 8 ≡ end_of f + 8 = omega arith in
+            let names = ap (word_at v.memory) place ∙ stands.previous.free f j in
+            let inside = free_in_memory w f j in
+            subst (Says v.memory u) (sym names) (another (omega (arith, (w.free f j).whole.start), (inside.0, omega (arith, inside.1))) (omega (arith, stands.sizes.free f j)) at)
+      ]
+
+  -- that word, at any alignment
+  before_payload : IsWord v.memory (u.payload - 8) × Says v.memory u (word_at v.memory (u.payload - 8))
+  before_payload = elim (cases_lt u.align 32) [
+    | inr wide ↦ (IsWord-before stands u i refl refl wide, its_own (wide_start stands u i refl refl wide))
+    | inl few ↦
+        let at : u.block.start + 16 ≡ u.payload = narrow_start stands u i refl refl few in
+        let is = stands.well_formed.used u i in
+        let place = used_in_memory stands.well_formed u i in
+        ((omega (arith, is.whole.start), (omega (arith, place.0), omega (arith, place.1, is.within))), says_narrow (sym at))
+  ]
+
+  is_payload : IsPayloadOf v.memory u.payload u
+  is_payload =
+      let w = stands.well_formed in
+      let is = w.used u i in
+      let place = used_in_memory w u i in
+      let after_start = IsUsed-after_start u is in
+      let (word, says) = before_payload in
+      record {
+        at = refl;
+        in_block = after_start;
+        within = is.within;
+        from_start = place.0;
+        to_end = place.1;
+        some = omega (arith, stands.nonzero, place.0);
+        ends = omega (arith, place.1, w.addressable);
+        word = word;
+        says = says;
+        own_word = (omega (arith, is.whole.start), (place.0, omega (arith, place.1)));
+        size = stands.sizes.used u i;
+      }
+
+-- so it is for each state that stands in the memory
+pub IsPayloadOf-holds : {fllen sllen : ℕ} {v : Contents} {s : State} {m : Space} {addr : ℕ} (u : Used) → v.memory ≡ m → StandsFor fllen sllen v s → Holds s addr u → IsPayloadOf m addr u
+IsPayloadOf-holds {v = v} {m = m} {addr = addr} u same stands holds =
+    subst (λ n. IsPayloadOf n addr u) same (subst (λ a. IsPayloadOf v.memory a u) holds.1 (is_payload stands u holds.0))
+
+module _ {m : Space} {addr : ℕ} {u : Used} (is : IsPayloadOf m addr u) where
+  -- ---- the word before the payload
+
+  module _ (word : ℕ) (read : word ≡ word_at m (addr - 8)) where
+    said : Says m u word
+    said = subst (Says m u) (sym read) is.says
+
+    -- a word that isn't 0 is the address of a size word
+    pub IsWord-named : word ≢ 0 → IsWord m word
+    IsWord-named some = elim said [
+      | nothing none at ↦ absurd (some none)
+      | another placed before at ↦ placed
+      | its_own own ↦ subst (IsWord m) (sym own) is.own_word
+    ]
+
+    -- the end of the block there, with the flag of its size word, fits in a word
+    pub fits_named : (size : ℕ) → word ≢ 0 → size ≡ word_at m word → word + size < 2 ^ 64
+    fits_named size some sized = elim said [
+      | nothing none at ↦ absurd (some none)
+      | another placed before at ↦ omega (arith, is.ends)
+      | its_own own ↦ let length : size ≡ u.block.len + 1 = sized ∙ ap (word_at m) own ∙ is.size in omega (arith, is.ends)
+    ]
+
+    -- no block is named
+    pub begins_first : word ≡ 0 → addr - 16 ≡ u.block.start
+    begins_first none = elim said [
+      | nothing zero at ↦ omega (arith, is.at)
+      | another placed before at ↦ omega (arith, is.at)
+      | its_own own ↦ absurd (omega (arith, is.some))
+    ]
+
+    -- a block is named that ends before the payload
+    pub begins_behind : (size : ℕ) → size ≡ word_at m word → word + size < addr → addr - 16 ≡ u.block.start
+    begins_behind size sized ends = elim said [
+      | nothing none at ↦ omega (arith, is.at)
+      | another placed before at ↦ omega (arith, is.at)
+      | its_own own ↦ let length : size ≡ u.block.len + 1 = sized ∙ ap (word_at m) own ∙ is.size in absurd (omega (arith, is.within))
+    ]
+
+    -- a block is named that has the payload
+    pub begins_there : (size : ℕ) → word ≢ 0 → size ≡ word_at m word → addr ≤ word + size → word ≡ u.block.start
+    begins_there size some sized at_most = elim said [
+      | nothing none at ↦ absurd (some none)
+      | another placed before at ↦ absurd (omega (arith, is.at))
+      | its_own own ↦ own
+    ]
+
+  -- ---- the bytes from the payload to the block's end
+
+  module _ (block : ℕ) (begins : block ≡ u.block.start) where
+    pub IsWord-block : IsWord m block
+    IsWord-block = subst (IsWord m) (sym begins) is.own_word
+
+    -- its size word is the number of its bytes, with the flag
+    pub sized : (size : ℕ) → size ≡ word_at m block → size ≡ u.block.len + 1
+    sized size read = read ∙ ap (word_at m) begins ∙ is.size
+
+    -- all bytes from the payload to the block's end, and no others
+    pub usable-sized : (size : ℕ) → size ≡ word_at m block → (r : Range) → r.start ≡ addr → r.len ≡ block + (size - 1) - addr → r ≡ usable u
+    usable-sized size read r start len =
+        let long = sized size read in
+        let first : r.start ≡ u.payload = start ∙ sym is.at in
+        let rest : r.len ≡ end_of u.block - u.payload = omega (arith, is.at) in
+        λ i. record { start = first i; len = rest i }
+
+  -- they lie in the memory
+  pub LiesIn-usable : LiesIn (usable u) m.start (length m.bytes)
+  LiesIn-usable = (omega (arith, is.at, is.in_block, is.from_start), omega (arith, is.at, is.within, is.to_end))

@@ -1,0 +1,9 @@
+-- A walk from block to block.
+pub mod Begins
+pub mod Blocks
+pub mod Listed
+pub mod Nexts
+pub mod Places
+pub mod Rows
+pub mod Sizes
+pub mod Steps

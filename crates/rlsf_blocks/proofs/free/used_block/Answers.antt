@@ -1,0 +1,27 @@
+use Rattle.std.proofs.Common.{arith, sym, ◌∙◌}
+use Rattle.rlsf_blocks.proofs.Deallocate.Addresses.{IsWord-before, narrow_start, wide_start}
+use Rattle.rlsf_machine.proofs.Payloads.{IsUsed-after_start}
+use Rattle.rlsf_blocks.proofs.free.used_block.Goals as goal
+
+pub overflow_sub-result : goal.overflow_sub-result
+overflow_sub-result c =
+    let (fllen, sllen, t, s, v, (u, (i, at), is)) = c.requires in
+    omega (arith, at, IsUsed-after_start u (v.well_formed.used u i))
+
+pub overflow_sub-payload : goal.overflow_sub-payload
+overflow_sub-payload c =
+    let (fllen, sllen, t, s, v, (u, (i, at), is)) = c.requires in
+    omega (arith, at, IsUsed-after_start u (v.well_formed.used u i))
+
+pub load-requires : goal.load-requires
+load-requires c =
+    let (fllen, sllen, t, s, v, (u, (i, at), is)) = c.requires in
+    IsWord-before v u i at is c.if-align-lt-GRANULARITY.false
+
+pub returns-then-align-lt-GRANULARITY-clause-block : goal.returns-then-align-lt-GRANULARITY-clause-block
+returns-then-align-lt-GRANULARITY-clause-block c = λ fllen sllen t s v (u, (i, at), is).
+    (u, (i, at), is, omega (arith, narrow_start v u i at is c.if-align-lt-GRANULARITY.true))
+
+pub returns-else-align-lt-GRANULARITY-clause-block : goal.returns-else-align-lt-GRANULARITY-clause-block
+returns-else-align-lt-GRANULARITY-clause-block c = λ fllen sllen t s v (u, (i, at), is).
+    (u, (i, at), is, sym (c.load.ensures.word ∙ wide_start v u i at is c.if-align-lt-GRANULARITY.false))

@@ -1,0 +1,103 @@
+use Rattle.std.proofs.Common.{◌≡◌, ◌+◌, ◌-◌, ◌*◌, ◌/◌, ◌^◌, ◌≤◌, Some, arith, inl, inr, sym, ◌∙◌, ap, subst}
+use Rattle.std.proofs.lemmas.Bool.{cases_lt}
+use Rattle.std.specs.Int.NonZero.{non_zero_usize_get}
+use Rattle.std.specs.Option.{option_map}
+use Rattle.rlsf_machine.specs.Insert.{aligned_part}
+use Rattle.rlsf_base.specs.Range.{range_at}
+use Rattle.rlsf_base.specs.Rounding.{round32}
+use Rattle.rlsf_base.proofs.Numbers.Roundings.{round32-le}
+use Rattle.rlsf_blocks.specs.Steps.Pool.{IsAdded, IsNewChunk}
+use Rattle.rlsf_blocks.proofs.Words.NonZeroNumbers.{number, on_none}
+use Rattle.rlsf_blocks.proofs.Chunks.Pools.{IsFilled, IsFilled-end, IsFilled-init, IsFilled-next, IsNewChunk-next, nothing_inserted}
+use Rattle.rlsf_blocks.proofs.pool.insert.Goals as goal
+use Rattle.rlsf_blocks.proofs.pool.insert.Goals.{then-start-first, else-start-first}
+
+pub returns-in_default-clause-step : goal.returns-in_default-clause-step
+returns-in_default-clause-step g c = λ s v fresh.
+    let first : c.in-Some.first ≡ round32 c.args.range.start = c.in-Some.ensures.1 in
+    nothing_inserted v c.args.range fresh (omega (arith, c.if-first-end.false))
+
+pub returns-in_default-2-clause-step : goal.returns-in_default-2-clause-step
+returns-in_default-2-clause-step g c = λ s v fresh.
+    let past : 2 ^ 64 ≤ round32 c.args.range.start = elim (cases_lt (round32 c.args.range.start) (2 ^ 64)) [
+      | inl below ↦ absurd (c.in_default.ensures (omega arith, below))
+      | inr above ↦ above
+    ] in
+    let inside = fresh.lies_in.1 in
+    let none : (aligned_part c.args.range).len ≡ 0 = omega (arith, v.well_formed.addressable) in
+    nothing_inserted v c.args.range fresh none
+
+pub loop-left-init : goal.loop-left-init
+loop-left-init g c = λ s v fresh.
+    let first : c.in-Some.first ≡ round32 c.args.range.start = c.in-Some.ensures.1 in
+    IsFilled-init v c.args.range fresh _ _ first (ap (λ a. (c.args.range.start + c.args.range.len - a) / 32 * 32) first) c.if-first-end.true
+
+pub add_chunk-requires : goal.add_chunk-requires
+add_chunk-requires g c =
+    let (s, v, fresh) = c.requires.fresh in
+    let filled = c.loop-left.invariant s v fresh in
+    let new = IsNewChunk-next v c.args.range fresh filled (omega arith) in
+    (omega arith, (c.requires.parameters, (filled.now, filled.stands, subst (λ n. IsNewChunk g.row.FLLEN g.row.SLLEN c.loop-left.memory filled.now (range_at c.loop-left.start n)) (sym c.chunk_length-len.ensures.value) new)))
+
+pub overflow_add-start : goal.overflow_add-start
+overflow_add-start g c =
+    let (s, v, fresh) = c.requires.fresh in
+    let filled = c.loop-left.invariant s v fresh in
+    let within = fresh.lies_in.1 in
+    omega (arith, filled.to, c.chunk_length-len.ensures.bounds, v.well_formed.addressable)
+
+pub loop-left-preserved : goal.loop-left-preserved
+loop-left-preserved g c = λ s v fresh.
+    let filled = c.loop-left.invariant s v fresh in
+    let same = c.chunk_length-len.ensures.value in
+    let new = IsNewChunk-next v c.args.range fresh filled (omega arith) in
+    let made = c.add_chunk.ensures.step filled.now filled.stands (subst (λ n. IsNewChunk g.row.FLLEN g.row.SLLEN c.loop-left.memory filled.now (range_at c.loop-left.start n)) (sym same) new) in
+    let added = subst (λ n. IsAdded g.row.FLLEN g.row.SLLEN c.loop-left.memory c.add_chunk.new.memory c.add_chunk.new.table filled.now.free (range_at c.loop-left.start n)) same made in
+    subst (λ n. IsFilled g.row.FLLEN g.row.SLLEN c.args.memory.now s c.args.range c.add_chunk.new.memory c.add_chunk.new.table (c.loop-left.start + n) (c.loop-left.left - n)) (sym same)
+    (IsFilled-next v c.args.range fresh filled (omega arith) c.add_chunk.new.memory c.add_chunk.new.table added c.add_chunk.ensures.touches c.add_chunk.ensures.copied)
+
+pub overflow_sub-taken : goal.overflow_sub-taken
+overflow_sub-taken g c =
+    let (s, v, fresh) = c.requires.fresh in
+    let filled = c.loop-left.invariant s v fresh in
+    omega (arith, filled.from, round32-le c.args.range.start)
+
+pub returns-clause-step : goal.returns-clause-step
+returns-clause-step g c = λ s v fresh.
+    let filled = c.loop-left.invariant s v fresh in
+    let answer = number c.new.result c.if-start-first.taken c.new.ensures in
+    let first : c.in-Some.first ≡ round32 c.args.range.start = c.in-Some.ensures.1 in
+    let skipped = round32-le c.args.range.start in
+    IsFilled-end v c.args.range fresh filled (omega arith) (option_map non_zero_usize_get c.new.result)
+    (λ at. answer.0 (elim c.if-start-first.branch [ then-start-first w ↦ w.taken-is | else-start-first w ↦ absurd (w.if-start-first.false (at ∙ sym first)) ]))
+    (λ past. elim c.if-start-first.branch [
+      | then-start-first w ↦ absurd (past (w.if-start-first.true ∙ first))
+      | else-start-first w ↦ answer.1 (omega (arith, w.taken-is, filled.from, past)) ∙ ap Some w.taken-is
+    ])
+
+pub returns-clause-refused : goal.returns-clause-refused
+returns-clause-refused g c =
+    let (s, v, fresh) = c.requires.fresh in
+    let filled = c.loop-left.invariant s v fresh in
+    let first : c.in-Some.first ≡ round32 c.args.range.start = c.in-Some.ensures.1 in
+    on_none c.new.result c.if-start-first.taken c.new.ensures (λ none. filled.untouched (elim c.if-start-first.branch [
+      | then-start-first w ↦ w.if-start-first.true ∙ first
+      | else-start-first w ↦ omega (arith, w.taken-is, filled.from, round32-le c.args.range.start)
+    ]))
+
+pub returns-clause-place : goal.returns-clause-place
+returns-clause-place g c =
+    let (s, v, fresh) = c.requires.fresh in
+    let filled = c.loop-left.invariant s v fresh in
+    (ap (λ p. p.start) filled.place, ap (λ p. p.len) filled.place)
+
+pub returns-clause-touches : goal.returns-clause-touches
+returns-clause-touches g c =
+    let (s, v, fresh) = c.requires.fresh in
+    let filled = c.loop-left.invariant s v fresh in
+    omega (arith, filled.touches)
+
+pub returns-clause-copied : goal.returns-clause-copied
+returns-clause-copied g c =
+    let (s, v, fresh) = c.requires.fresh in
+    (c.loop-left.invariant s v fresh).copied

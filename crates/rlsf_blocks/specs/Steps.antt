@@ -1,0 +1,7 @@
+-- What the calls on a memory and its class table say to those who build on them: no contract of the allocator cites these.
+pub mod Join
+pub mod LiveBlock
+pub mod Pool
+pub mod Rest
+pub mod Touched
+pub mod Walk

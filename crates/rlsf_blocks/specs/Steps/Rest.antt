@@ -1,0 +1,43 @@
+-- What is left of a free block whose front is taken.
+use Rattle.std.specs.Prelude.{◌≡◌, ℕ, ◌+◌, ◌%◌, ◌<◌, ◌≤◌, List, ◌∷◌, ◌++◌, length, Some, find}
+use Rattle.rlsf_base.specs.declared.memory.range.Range.{Range}
+use Rattle.rlsf_base.specs.Range.{end_of}
+use Rattle.rlsf_base.specs.SizeClass.{class_of}
+use Rattle.rlsf_base.specs.Space.{Space, word_at}
+use Rattle.rlsf_table.specs.FreeList.{Rewrites}
+use Rattle.rlsf_table.specs.FreeTable.{IsRoom}
+use Rattle.rlsf_table.specs.Table.{Table, HasTable}
+use Rattle.rlsf_blocks.specs.Steps.Touched.{Touched}
+use Rattle.rlsf_machine.specs.Allocate.{has_class, rest_behind}
+use Rattle.rlsf_machine.specs.Lists.{IsIn, without}
+use Rattle.rlsf_machine.specs.State.{State}
+
+-- a range can become a free block beside those of a list, with the first words of another block behind it
+pub record IsInnerRoom (fllen sllen : ℕ) (m : Space) (t : Table) (free : List Range) (r : Range) : Type 0 where
+  pub room : IsRoom fllen sllen m t free r
+  pub not_last : end_of r + 16 ≤ m.start + length m.bytes
+
+-- the words of a new free block behind the block at `block`, put in front of its class
+pub record IsLeft (fllen sllen : ℕ) (m n : Space) (t : Table) (free : List Range) (block : ℕ) (r : Range) : Type 0 where
+  pub rewrites : Rewrites m n (Touched free r (end_of r + 8))
+  pub size : word_at n r.start ≡ r.len
+  pub previous : word_at n (r.start + 8) ≡ block
+  pub behind : word_at n (end_of r + 8) ≡ r.start
+  pub table : HasTable fllen sllen n t (r ∷ free)
+
+-- the first free range of its class gives its first `taken` bytes to a block
+pub record IsTaken (sllen : ℕ) (s : State) (f : Range) (block len taken : ℕ) : Type 0 where
+  pub found : find (has_class sllen (class_of sllen f.len)) s.free ≡ Some f
+  pub start : f.start ≡ block
+  pub length : f.len ≡ len
+  pub whole : taken % 32 ≡ 0
+  pub some : 0 < taken
+  pub fits : taken ≤ len
+
+-- the words once the free range f isn't in the list any more, and what is left of it behind its front is
+pub record IsOpened (fllen sllen : ℕ) (m n : Space) (t : Table) (s : State) (f front : Range) : Type 0 where
+  pub rewrites : Rewrites m n (Touched s.free f (end_of f + 8))
+  pub first : word_at n (f.start + 8) ≡ word_at m (f.start + 8)
+  pub behind : word_at n (end_of front + 8) ≡ f.start
+  pub rest : (g : Range) → IsIn g (rest_behind front (end_of f)) → (word_at n g.start ≡ g.len) × (word_at n (end_of g + 8) ≡ g.start)
+  pub table : HasTable fllen sllen n t (rest_behind front (end_of f) ++ without (has_class sllen (class_of sllen f.len)) s.free)

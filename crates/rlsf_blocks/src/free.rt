@@ -1,0 +1,118 @@
+//! A used block becomes free.
+
+ghost use Rattle.std.specs.Prelude.{◌≡◌, ◌+◌, ◌≤◌, ℕ, List};
+ghost use Rattle.rlsf_base.specs.declared.memory.range.Range.{Range};
+ghost use Rattle.rlsf_base.specs.SizeClass.{IsValid};
+ghost use Rattle.rlsf_base.specs.Space.{SamePlace};
+ghost use Rattle.rlsf_machine.specs.Lists.{IsIn};
+ghost use Rattle.rlsf_machine.specs.Release.{released};
+ghost use Rattle.rlsf_machine.specs.State.{State, Used, Holds, IsLive};
+ghost use Rattle.rlsf_table.specs.Counts.{Counts};
+ghost use Rattle.rlsf_table.specs.FreeTable.{IsFreeTable};
+ghost use Rattle.rlsf_table.specs.Table.{Table};
+ghost use Rattle.rlsf_blocks.specs.Spare.{KeepsSpare};
+ghost use Rattle.rlsf_blocks.specs.StandsFor.{contents, StandsFor};
+ghost use Rattle.rlsf_blocks.specs.Steps.Join.{IsMarked, IsOut, IsPreviousOut, IsPut};
+ghost use Rattle.rlsf_blocks.specs.Steps.Rest.{IsInnerRoom};
+
+use crate::GRANULARITY;
+use rlsf_base::memory::Memory;
+use rlsf_int::Bitmap;
+use rlsf_table::{ClassTable, link, unlink};
+
+/// The used block whose payload at `payload` was allocated with that alignment.
+pub fn used_block(memory: &mut Memory, payload: usize, align: usize) -> usize
+    requires { (fllen : ℕ) × (sllen : ℕ) × (t : Table) × (s : State) × StandsFor fllen sllen (contents memory.old t) s × IsLive s payload align }
+    ensures block { (fllen sllen : ℕ) (t : Table) (s : State) → StandsFor fllen sllen (contents memory.old t) s → IsLive s payload align → (u : Used) × Holds s payload u × (u.align ≡ align) × (u.block.start ≡ result) }
+    ensures counts { Counts memory.old memory.new 1 }
+{
+    if align < GRANULARITY {
+        payload - 16
+    } else {
+        memory.load(payload - 8) as usize
+    }
+}
+
+/// Takes the block at `block` out of its list, if it is free. Answers the bytes of the block that was taken out, or 0.
+pub fn take_if_free<FLBitmap: Bitmap, SLBitmap: Bitmap, const FLLEN: usize, const SLLEN: usize>(
+    memory: &mut Memory,
+    table: &mut ClassTable<FLBitmap, SLBitmap, FLLEN, SLLEN>,
+    block: usize,
+) -> usize
+    requires parameters { IsValid FLBitmap.width SLBitmap.width FLLEN SLLEN }
+    requires marked { (free : List Range) × IsFreeTable FLLEN SLLEN memory.old table.old free × IsMarked memory.old free block }
+    ensures step { (free : List Range) → IsFreeTable FLLEN SLLEN memory.old table.old free → IsMarked memory.old free block → IsOut FLLEN SLLEN memory.old memory.new table.new free block result }
+    ensures touches { memory.new.touches ≤ memory.old.touches + 9 }
+    ensures copied { memory.new.copied ≡ memory.old.copied }
+{
+    let size = memory.load(block);
+    if size % 2 == 0 {
+        unlink(memory, table, block, size as usize);
+        size as usize
+    } else {
+        0
+    }
+}
+
+/// Takes the block before the used one at `block` out of its list, if it is free. Answers where the block that was taken
+/// out begins, or `block`.
+#[inline(always)]
+pub fn take_previous<FLBitmap: Bitmap, SLBitmap: Bitmap, const FLLEN: usize, const SLLEN: usize>(
+    memory: &mut Memory,
+    table: &mut ClassTable<FLBitmap, SLBitmap, FLLEN, SLLEN>,
+    block: usize,
+) -> usize
+    requires parameters { IsValid FLBitmap.width SLBitmap.width FLLEN SLLEN }
+    requires used { (s : State) × (u : Used) × StandsFor FLLEN SLLEN (contents memory.old table.old) s × IsIn u s.used × (u.block.start ≡ block) }
+    ensures step { (s : State) (u : Used) → StandsFor FLLEN SLLEN (contents memory.old table.old) s → IsIn u s.used → u.block.start ≡ block
+        → IsPreviousOut FLLEN SLLEN memory.old memory.new table.new s.free block result }
+    ensures touches { memory.new.touches ≤ memory.old.touches + 10 }
+    ensures copied { memory.new.copied ≡ memory.old.copied }
+{
+    let previous = memory.load(block + 8) as usize;
+    if previous == 0 {
+        block
+    } else {
+        block - take_if_free(memory, table, previous)
+    }
+}
+
+/// Makes a free block of the `len` bytes at `block`. The word that names the block before it stays.
+fn put<FLBitmap: Bitmap, SLBitmap: Bitmap, const FLLEN: usize, const SLLEN: usize>(
+    memory: &mut Memory,
+    table: &mut ClassTable<FLBitmap, SLBitmap, FLLEN, SLLEN>,
+    block: usize,
+    len: usize,
+)
+    requires parameters { IsValid FLBitmap.width SLBitmap.width FLLEN SLLEN }
+    requires room { (free : List Range) × (r : Range) × (r.start ≡ block) × (r.len ≡ len) × IsInnerRoom FLLEN SLLEN memory.old table.old free r }
+    ensures step { (free : List Range) (r : Range) → r.start ≡ block → r.len ≡ len → IsInnerRoom FLLEN SLLEN memory.old table.old free r → IsPut FLLEN SLLEN memory.old memory.new table.new free r }
+    ensures touches { memory.new.touches ≤ memory.old.touches + 11 }
+    ensures copied { memory.new.copied ≡ memory.old.copied }
+{
+    memory.set_word(block, len as u64);
+    memory.set_word(block + len + 8, block as u64);
+    link(memory, table, block, len);
+}
+
+/// Makes the used block at `block` free: joined with a free block before it and a free block behind it, it becomes the
+/// newest.
+#[inline(always)]
+pub fn deallocate_block<FLBitmap: Bitmap, SLBitmap: Bitmap, const FLLEN: usize, const SLLEN: usize>(
+    memory: &mut Memory,
+    table: &mut ClassTable<FLBitmap, SLBitmap, FLLEN, SLLEN>,
+    block: usize,
+)
+    requires parameters { IsValid FLBitmap.width SLBitmap.width FLLEN SLLEN }
+    requires used { (s : State) × (u : Used) × StandsFor FLLEN SLLEN (contents memory.old table.old) s × IsIn u s.used × (u.block.start ≡ block) }
+    ensures step { (s : State) (u : Used) → StandsFor FLLEN SLLEN (contents memory.old table.old) s → IsIn u s.used → u.block.start ≡ block
+        → StandsFor FLLEN SLLEN (contents memory.new table.new) (released s u) × KeepsSpare memory.old s memory.new (released s u) }
+    ensures place { SamePlace memory.old memory.new }
+    ensures touches { memory.new.touches ≤ memory.old.touches + 31 }
+    ensures copied { memory.new.copied ≡ memory.old.copied }
+{
+    let end = block + (memory.load(block) as usize - 1);
+    let start = take_previous(memory, table, block);
+    let next = take_if_free(memory, table, end);
+    put(memory, table, start, end - start + next);
+}

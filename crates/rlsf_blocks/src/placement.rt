@@ -1,0 +1,99 @@
+//! The front of a free block becomes a used block.
+
+ghost use Rattle.std.specs.Prelude.{◌≡◌, ◌+◌, ◌-◌, ◌≤◌, ◌<◌, ℕ, List, Some};
+ghost use Rattle.rlsf_base.specs.declared.memory.range.Range.{Range};
+ghost use Rattle.rlsf_base.specs.Range.{range_at};
+ghost use Rattle.rlsf_base.specs.SizeClass.{IsValid};
+ghost use Rattle.rlsf_base.specs.Sizes.{request_size};
+ghost use Rattle.rlsf_base.specs.Space.{SamePlace, word_at};
+ghost use Rattle.rlsf_machine.specs.Allocate.{choice, Places};
+ghost use Rattle.rlsf_machine.specs.State.{State};
+ghost use Rattle.rlsf_blocks.specs.Spare.{KeepsSpare};
+ghost use Rattle.rlsf_table.specs.Table.{IsClassAt};
+ghost use Rattle.rlsf_blocks.specs.Steps.Rest.{IsInnerRoom, IsLeft, IsOpened, IsTaken};
+ghost use Rattle.rlsf_blocks.specs.StandsFor.{contents, StandsFor};
+
+use crate::{GRANULARITY, HEADER};
+use rlsf_base::memory::{Layout, Memory};
+use rlsf_int::Bitmap;
+use rlsf_table::{ClassTable, link, unlink_at};
+
+/// Makes a free block of what is left behind the first `taken` of the `len` bytes at `block`.
+#[inline(always)]
+pub fn leave_rest<FLBitmap: Bitmap, SLBitmap: Bitmap, const FLLEN: usize, const SLLEN: usize>(
+    memory: &mut Memory,
+    table: &mut ClassTable<FLBitmap, SLBitmap, FLLEN, SLLEN>,
+    block: usize,
+    len: usize,
+    taken: usize,
+)
+    requires parameters { IsValid FLBitmap.width SLBitmap.width FLLEN SLLEN }
+    requires room { (free : List Range) × (r : Range) × (r.start ≡ block + taken) × (r.len + taken ≡ len) × IsInnerRoom FLLEN SLLEN memory.old table.old free r }
+    ensures step { (free : List Range) (r : Range) → r.start ≡ block + taken → r.len + taken ≡ len → IsInnerRoom FLLEN SLLEN memory.old table.old free r
+        → IsLeft FLLEN SLLEN memory.old memory.new table.new free block r }
+    ensures touches { memory.new.touches ≤ memory.old.touches + 12 }
+    ensures copied { memory.new.copied ≡ memory.old.copied }
+{
+    let rest = block + taken;
+    memory.set_word(rest, (len - taken) as u64);
+    memory.set_word(rest + 8, block as u64);
+    memory.set_word(block + len + 8, rest as u64);
+    link(memory, table, rest, len - taken);
+}
+
+/// Takes the free block of `len` bytes at `block` out of the list of its class, whose indices these are, for a block of
+/// its first `taken` bytes; a rest becomes a free block.
+#[inline(always)]
+fn take_out<FLBitmap: Bitmap, SLBitmap: Bitmap, const FLLEN: usize, const SLLEN: usize>(
+    memory: &mut Memory,
+    table: &mut ClassTable<FLBitmap, SLBitmap, FLLEN, SLLEN>,
+    block: usize,
+    len: usize,
+    class: (usize, usize),
+    taken: usize,
+)
+    requires parameters { IsValid FLBitmap.width SLBitmap.width FLLEN SLLEN }
+    requires class { IsClassAt FLLEN SLLEN len class.0 class.1 }
+    requires taken { (s : State) × (f : Range) × StandsFor FLLEN SLLEN (contents memory.old table.old) s × IsTaken SLLEN s f block len taken }
+    ensures step { (s : State) (f : Range) → StandsFor FLLEN SLLEN (contents memory.old table.old) s → IsTaken SLLEN s f block len taken
+        → IsOpened FLLEN SLLEN memory.old memory.new table.new s f (range_at block taken) }
+    ensures touches { memory.new.touches ≤ memory.old.touches + 20 }
+    ensures copied { memory.new.copied ≡ memory.old.copied }
+{
+    unlink_at(memory, table, block, class);
+    let longer = taken < len;
+    if longer {
+        leave_rest(memory, table, block, len, taken);
+    }
+}
+
+/// Makes a used block for a layout of the front of the free block at `block`, the choice for it, which has the class at
+/// these indices. Answers the payload's address.
+#[inline(always)]
+pub fn place<FLBitmap: Bitmap, SLBitmap: Bitmap, const FLLEN: usize, const SLLEN: usize>(
+    memory: &mut Memory,
+    table: &mut ClassTable<FLBitmap, SLBitmap, FLLEN, SLLEN>,
+    block: usize,
+    class: (usize, usize),
+    layout: Layout,
+) -> usize
+    requires parameters { IsValid FLBitmap.width SLBitmap.width FLLEN SLLEN }
+    requires class { IsClassAt FLLEN SLLEN (word_at memory.old block) class.0 class.1 }
+    requires chosen { (s : State) × (f : Range) × StandsFor FLLEN SLLEN (contents memory.old table.old) s × (choice SLLEN (request_size layout.size layout.align) s.free ≡ Some f) × (f.start ≡ block) }
+    ensures step { (s : State) (f : Range) → StandsFor FLLEN SLLEN (contents memory.old table.old) s → choice SLLEN (request_size layout.size layout.align) s.free ≡ Some f → f.start ≡ block
+        → (t : State) × Places SLLEN s layout.size layout.align result t × StandsFor FLLEN SLLEN (contents memory.new table.new) t × KeepsSpare memory.old s memory.new t }
+    ensures place { SamePlace memory.old memory.new }
+    ensures touches { memory.new.touches ≤ memory.old.touches + 23 }
+    ensures copied { memory.new.copied ≡ memory.old.copied }
+{
+    let len = memory.load(block) as usize;
+    let payload = (block + HEADER).next_multiple_of(layout.align());
+    let taken = (payload - block + layout.size()).next_multiple_of(GRANULARITY);
+    take_out(memory, table, block, len, class, taken);
+    memory.set_word(block, taken as u64 + 1);
+    let wide = layout.align() >= GRANULARITY;
+    if wide {
+        memory.set_word(payload - 8, block as u64);
+    }
+    payload
+}

@@ -1,0 +1,100 @@
+//! Pools: ranges of the memory that are made into chunks.
+
+ghost use Rattle.std.specs.Prelude.{◌≡◌, ◌+◌, ◌*◌, ◌≤◌, ℕ, IfNone, length};
+ghost use Rattle.std.specs.Int.NonZero.{non_zero_usize_get};
+ghost use Rattle.std.specs.Option.{option_map};
+ghost use Rattle.rlsf_base.specs.SizeClass.{IsValid};
+ghost use Rattle.rlsf_base.specs.Sizes.{max_pool_size};
+ghost use Rattle.rlsf_base.specs.Space.{range_of, SamePlace};
+ghost use Rattle.rlsf_machine.specs.Insert.{Inserts, IsFresh, aligned_part, cut};
+ghost use Rattle.rlsf_machine.specs.Laws.{first_length};
+ghost use Rattle.rlsf_machine.specs.State.{State};
+ghost use Rattle.rlsf_blocks.specs.Steps.Pool.{IsAdded, IsNewChunk};
+ghost use Rattle.rlsf_blocks.specs.Spare.{KeepsSpare};
+ghost use Rattle.rlsf_blocks.specs.StandsFor.{contents, StandsFor};
+
+use crate::GRANULARITY;
+use rlsf_base::classes;
+use rlsf_base::memory::{Memory, Range};
+use rlsf_int::Bitmap;
+use rlsf_table::{ClassTable, link};
+use std::num::NonZeroUsize;
+
+// A sentinel's size word: its length, in use, the last block of its chunk.
+pub const SENTINEL: u64 = GRANULARITY as u64 + 3;
+
+/// Makes a chunk of a range: one free block and a sentinel in the last 32 bytes.
+pub fn add_chunk<FLBitmap: Bitmap, SLBitmap: Bitmap, const FLLEN: usize, const SLLEN: usize>(
+    memory: &mut Memory,
+    table: &mut ClassTable<FLBitmap, SLBitmap, FLLEN, SLLEN>,
+    chunk: Range,
+)
+    requires parameters { IsValid FLBitmap.width SLBitmap.width FLLEN SLLEN }
+    requires fresh { (s : State) × StandsFor FLLEN SLLEN (contents memory.old table.old) s × IsNewChunk FLLEN SLLEN memory.old s chunk }
+    ensures step { (s : State) → StandsFor FLLEN SLLEN (contents memory.old table.old) s → IsNewChunk FLLEN SLLEN memory.old s chunk → IsAdded FLLEN SLLEN memory.old memory.new table.new s.free chunk }
+    ensures touches { memory.new.touches ≤ memory.old.touches + 13 }
+    ensures copied { memory.new.copied ≡ memory.old.copied }
+{
+    let block = chunk.start;
+    let len = chunk.len - GRANULARITY;
+    let sentinel = block + len;
+    memory.set_word(block, len as u64);
+    memory.set_word(block + 8, 0);
+    memory.set_word(sentinel, SENTINEL);
+    memory.set_word(sentinel + 8, block as u64);
+    link(memory, table, block, len);
+}
+
+// The length of the chunk that begins what is left of a range.
+fn chunk_length<FLBitmap: Bitmap, SLBitmap: Bitmap, const FLLEN: usize, const SLLEN: usize>(
+    left: usize,
+) -> usize
+    requires parameters { IsValid FLBitmap.width SLBitmap.width FLLEN SLLEN }
+    requires room { 64 ≤ left }
+    ensures value { result ≡ first_length (max_pool_size FLLEN) left }
+    ensures bounds { (64 ≤ result) × (result ≤ left) }
+{
+    match classes::max_pool_size::<FLBitmap, SLBitmap, FLLEN, SLLEN>() {
+        Some(most) => left.min(most),
+        None => left,
+    }
+}
+
+/// Makes chunks of a range, from its first multiple of 32 on and while 64 bytes or more are left. Answers the bytes from
+/// the range's start up to the last chunk's end, or `None` without a chunk.
+// Pools are rare: apart from the calls that are not, this lets the compiler keep where the memory is in registers there.
+#[inline(never)]
+pub fn insert<FLBitmap: Bitmap, SLBitmap: Bitmap, const FLLEN: usize, const SLLEN: usize>(
+    memory: &mut Memory,
+    table: &mut ClassTable<FLBitmap, SLBitmap, FLLEN, SLLEN>,
+    range: Range,
+) -> Option<NonZeroUsize>
+    requires parameters { IsValid FLBitmap.width SLBitmap.width FLLEN SLLEN }
+    requires fresh { (s : State) × StandsFor FLLEN SLLEN (contents memory.old table.old) s × IsFresh (range_of memory.old) s range }
+    ensures step { (s : State) → StandsFor FLLEN SLLEN (contents memory.old table.old) s → IsFresh (range_of memory.old) s range
+        → (t : State) × Inserts FLLEN s range (option_map non_zero_usize_get result) t × StandsFor FLLEN SLLEN (contents memory.new table.new) t × KeepsSpare memory.old s memory.new t }
+    ensures refused { IfNone result (memory.new.bytes ≡ memory.old.bytes) }
+    ensures place { SamePlace memory.old memory.new }
+    ensures touches { memory.new.touches ≤ memory.old.touches + 13 * length (cut (max_pool_size FLLEN) (aligned_part range)) }
+    ensures copied { memory.new.copied ≡ memory.old.copied }
+{
+    let end = range.start + range.len;
+    let first = match range.start.checked_next_multiple_of(GRANULARITY) {
+        Some(first) if first <= end => first,
+        _ => return None,
+    };
+    let mut start = first;
+    let mut left = (end - first) / GRANULARITY * GRANULARITY;
+    while left >= 2 * GRANULARITY {
+        let len = chunk_length::<FLBitmap, SLBitmap, FLLEN, SLLEN>(left);
+        add_chunk(memory, table, Range { start, len });
+        start += len;
+        left -= len;
+    }
+    let taken = if start == first {
+        0
+    } else {
+        start - range.start
+    };
+    NonZeroUsize::new(taken)
+}

@@ -1,0 +1,36 @@
+-- Each call that its caller may make has a reply and a state after.
+use Rattle.std.proofs.Common.{◌∷◌, refl}
+use Rattle.rlsf_base.specs.Sizes.{max_pool_size}
+use Rattle.rlsf_machine.specs.Insert.{cut, aligned_part, bytes_taken, with_chunks, appended, appended_bytes}
+use Rattle.rlsf_machine.specs.Laws.{EachCallAnswers}
+use Rattle.rlsf_machine.specs.Reallocate.{plan}
+use Rattle.rlsf_machine.specs.Release.{released}
+use Rattle.rlsf_machine.specs.Run.{insert, append, allocate, deallocate, reallocate, fill}
+use Rattle.rlsf_machine.specs.State.{others}
+use Rattle.rlsf_machine.proofs.Examples.{planned_reply, planned_after, planned_step}
+use Rattle.rlsf_machine.proofs.Room.{allocation_answers}
+
+pub each_call_answers : EachCallAnswers
+each_call_answers fllen sllen memory s (insert r reply) may whole =
+    let cs = cut (max_pool_size fllen) (aligned_part r) in
+    (insert r (bytes_taken r.start cs), with_chunks cs s, refl, record { answer = refl; after = refl })
+each_call_answers fllen sllen memory s (append r reply) may whole =
+    let most = max_pool_size fllen in
+    (append r (appended_bytes most r), appended most r s, refl, record { answer = refl; after = refl })
+each_call_answers fllen sllen memory s (allocate size align reply) may whole =
+    let (answer, t, step) = allocation_answers sllen s size align in
+    (allocate size align answer, t, (refl, refl), step)
+each_call_answers fllen sllen memory s (deallocate addr) (u, holds) whole =
+    (deallocate addr, released s u, refl, record { block = u; holds = holds; after = refl })
+each_call_answers fllen sllen memory s (reallocate addr size reply) (u, holds) whole = (
+  reallocate addr size (planned_reply sllen s u size (plan s u size)),
+  planned_after sllen s u size (plan s u size),
+  (refl, refl),
+  record { block = u; holds = holds; step = planned_step fllen sllen memory s u holds.0 size (plan s u size) },
+)
+each_call_answers fllen sllen memory s (fill addr bytes) may (u, holds, length) = (
+  fill addr bytes,
+  record { chunks = s.chunks; used = record { block = u.block; payload = u.payload; align = u.align; bytes = bytes } ∷ others addr s.used; free = s.free },
+  (refl, refl),
+  record { block = u; holds = holds; length = length; after = refl },
+)

@@ -1,0 +1,2 @@
+pub mod LongerChunks
+pub mod Reallocate

@@ -1,0 +1,79 @@
+-- What an append does, by the greatest length of a chunk.
+use Rattle.std.proofs.Common.{◌≡◌, ℕ, zero, suc, ◌+◌, ◌*◌, ◌/◌, ◌^◌, ◌<◌, true, false, List, [], ◌∷◌, Option, Some, None, find, true≢false, arith, refl, sym, ◌∙◌, ap, subst, inl, inr}
+use Rattle.std.proofs.lemmas.Bool.{eq-eqb, eqb-true}
+use Rattle.std.specs.Option.{is_some}
+use Rattle.rlsf_base.specs.declared.memory.range.Range.{Range}
+use Rattle.rlsf_base.specs.Range.{end_of}
+use Rattle.rlsf_base.specs.Sizes.{max_pool_size}
+use Rattle.rlsf_machine.specs.Insert.{aligned_part, appended, appended_bytes, bytes_taken, cut, extended, grown, grown_if, total_length, with_chunks, Appends, Inserts, IsNext}
+use Rattle.rlsf_machine.specs.Join.{ends_at}
+use Rattle.rlsf_machine.specs.State.{State}
+use Rattle.rlsf_machine.proofs.Coverage.{find-none, find-some}
+use Rattle.rlsf_machine.proofs.Cuts.{max_pool-cases}
+use Rattle.rlsf_resize.specs.Steps.Extension.{IsExtensible}
+
+-- ---- whether chunks have a greatest length
+
+pub some_most : (fllen : ℕ) → is_some (max_pool_size fllen) ≡ true → max_pool_size fllen ≡ Some (2 ^ (5 + fllen))
+some_most fllen is = elim (max_pool-cases fllen) [ inl some ↦ some | inr (none, large) ↦ absurd (true≢false (sym is ∙ ap is_some none)) ]
+
+pub no_most : (fllen : ℕ) → is_some (max_pool_size fllen) ≡ false → max_pool_size fllen ≡ None
+no_most fllen is = elim (max_pool-cases fllen) [ inl some ↦ absurd (true≢false (sym (ap is_some some) ∙ is)) | inr (none, large) ↦ none ]
+
+-- ---- chunks of their own
+
+-- the number, or 0 where there is none
+abbrev pub or_zero : Option ℕ → ℕ
+or_zero None = 0
+or_zero (Some n) = n
+
+bytes_taken-total : (at : ℕ) (cs : List Range) → or_zero (bytes_taken at cs) ≡ total_length at cs
+bytes_taken-total at [] = omega arith
+bytes_taken-total at (c ∷ cs) = refl
+
+-- where chunks have a greatest length, an append is an insertion
+pub Appends-inserted : (fllen most : ℕ) (s : State) (r : Range) (reply : Option ℕ) (number : ℕ) (t : State) → max_pool_size fllen ≡ Some most → number ≡ or_zero reply → Inserts fllen s r reply t → Appends fllen s r number t
+Appends-inserted fllen most s r reply number t limited same step =
+    let of = aligned_part r in
+    let answer : number ≡ total_length r.start (cut (Some most) of) = same ∙ ap or_zero step.answer ∙ bytes_taken-total r.start (cut (max_pool_size fllen) of) ∙ ap (λ o. total_length r.start (cut o of)) limited in
+    let after : t ≡ appended (Some most) r s = step.after ∙ ap (λ o. with_chunks (cut o of) s) limited in
+    record { answer = answer ∙ ap (λ o. appended_bytes o r) (sym limited); after = after ∙ ap (λ o. appended o r s) (sym limited) }
+
+-- ---- a longer chunk
+
+module _ (fllen : ℕ) (s : State) (r : Range) (unlimited : max_pool_size fllen ≡ None) where
+  grows : (reply : ℕ) (t : State) → reply ≡ r.len / 32 * 32 → t ≡ extended r.start (r.len / 32 * 32) s → Appends fllen s r reply t
+  grows reply t answer after = record { answer = answer ∙ ap (λ o. appended_bytes o r) (sym unlimited); after = after ∙ ap (λ o. appended o r s) (sym unlimited) }
+
+  -- by no bytes
+  pub Appends-none : r.len / 32 * 32 ≡ 0 → Appends fllen s r 0 s
+  Appends-none none = grows 0 s (sym none) (ap (λ n. extended r.start n s) (sym none))
+
+  -- the chunk that is found
+  pub found_chunk : (memory : Range) → 0 < r.len / 32 * 32 → IsNext memory s r → (c : Range) × IsExtensible fllen memory s c (r.len / 32 * 32) × (end_of c ≡ r.start)
+  found_chunk memory some next = go (find (ends_at r.start) s.chunks) refl
+    where
+      go : (o : Option Range) → find (ends_at r.start) s.chunks ≡ o → (c : Range) × IsExtensible fllen memory s c (r.len / 32 * 32) × (end_of c ≡ r.start)
+      go None e = absurd (true≢false (sym (eq-eqb (end_of next.chunk) r.start next.ends) ∙ find-none (ends_at r.start) next.chunk s.chunks e next.is_chunk))
+      go (Some c) e =
+          let ends : end_of c ≡ r.start = eqb-true (end_of c) r.start (find-some (ends_at r.start) c s.chunks e).1 in
+          let (from, to) = next.fresh.lies_in in (
+            c,
+            record {
+              unlimited = unlimited;
+              found = subst (λ a. find (ends_at a) s.chunks ≡ Some c) (sym ends) e;
+              some = some;
+              whole = omega arith;
+              fresh = record { lies_in = (omega arith, omega arith); apart = λ a low high. next.fresh.apart a (omega arith) (omega arith) };
+            },
+            ends,
+          )
+
+  pub Appends-grown : {memory : Range} (len : ℕ) (c : Range) → len ≡ r.len / 32 * 32 → IsExtensible fllen memory s c len → end_of c ≡ r.start → Appends fllen s r len (grown c len s)
+  Appends-grown len c whole is ends =
+      let found : find (ends_at r.start) s.chunks ≡ Some c = subst (λ a. find (ends_at a) s.chunks ≡ Some c) ends is.found in
+      grows len (grown c len s) whole (by_length len is.some found ∙ ap (λ n. extended r.start n s) whole)
+    where
+      by_length : (n : ℕ) → 0 < n → find (ends_at r.start) s.chunks ≡ Some c → grown c n s ≡ extended r.start n s
+      by_length zero some found = absurd (omega arith)
+      by_length (suc n) some found = ap (λ o. grown_if o (suc n) s) (sym found)

@@ -1,0 +1,281 @@
+-- The writes that make a chunk longer: the value stands for the state with a used block more, and then for that of the grown chunk.
+use Rattle.std.proofs.Common.{◌≡◌, ℕ, ◌+◌, ◌-◌, ◌%◌, ◌^◌, ◌<◌, ◌≤◌, ◌⊎◌, List, ◌∷◌, length, arith, inl, inr, refl, sym, ◌∙◌, ap, subst}
+use mathlib.Core.Path.{ap₂}
+use Rattle.std.proofs.lemmas.Bool.{cases_eq, cases_lt}
+use Rattle.rlsf_base.specs.declared.memory.range.Range.{Range}
+use Rattle.rlsf_base.specs.Range.{end_of, range_at}
+use Rattle.rlsf_base.specs.Space.{Space, bytes_in, range_of, with_word, word_at}
+use Rattle.rlsf_machine.specs.Insert.{grown}
+use Rattle.rlsf_machine.specs.Join.{ends_at}
+use Rattle.rlsf_machine.specs.Lists.{IsIn, without}
+use Rattle.rlsf_machine.specs.Release.{released}
+use Rattle.rlsf_machine.specs.State.{State, Used, between, usable}
+use Rattle.rlsf_machine.specs.WellFormed.{itself, IsWellFormed}
+use Rattle.rlsf_machine.proofs.Coverage.{covers-inside, coverage-IsIn, IsIn-without}
+use Rattle.rlsf_blocks.specs.InBand.{sentinel_of}
+use Rattle.rlsf_blocks.specs.Spare.{IsSpare, KeepsSpare}
+use Rattle.rlsf_blocks.specs.StandsFor.{contents, StandsFor}
+use Rattle.rlsf_resize.specs.Steps.Extension.{IsExtensible, lengthened, more_block}
+use Rattle.rlsf_table.specs.FreeList.{Rewrites}
+use Rattle.rlsf_blocks.specs.Steps.Touched.{Touched, in_hole}
+use Rattle.rlsf_table.specs.Table.{Table}
+use Rattle.rlsf_blocks.proofs.Allocate.Placements.{length-bytes_in}
+use Rattle.rlsf_resize.proofs.LongerChunks.Lengthened.{is_chunk, IsWellFormed-lengthened, released-lengthened}
+use Rattle.rlsf_table.proofs.Tables.FreeTables.{HasTable-Rewrites}
+use Rattle.rlsf_blocks.proofs.Machine.FreeBlocks.{IsPlaced-free}
+use Rattle.rlsf_table.proofs.Words.Writes.{Rewrites-trans, Rewrites-weaken, Rewrites-word}
+use Rattle.rlsf_blocks.proofs.Chunks.Pools.{KeepsSpare-Touched}
+use Rattle.rlsf_blocks.proofs.Words.Apart.{Has, chunk_chunk, home_of_free, home_of_used, free_last, used_last}
+use Rattle.rlsf_blocks.proofs.Words.Frames.{used_size, used_previous, used_bytes, used_pad, free_size, free_previous, chunk_first, chunk_sentinel}
+use Rattle.rlsf_table.proofs.Words.Writing.{IsWrite, write, rewrites_of, reads_of}
+
+-- the memories m1 to m3 after the three writes: the size word of the new block, and the words of the new sentinel
+pub record AreExtended (m m1 m2 m3 : Space) (c : Range) (len : ℕ) : Type 0 where
+  pub one : IsWrite m m1 (sentinel_of c) (len + 1)
+  pub two : IsWrite m1 m2 (sentinel_of c + len) 35
+  pub three : IsWrite m2 m3 (sentinel_of c + len + 8) (sentinel_of c)
+
+-- the bytes of the new block's payload
+abbrev pub more_bytes : Space → Range → ℕ → List ℕ
+more_bytes n c len = bytes_in n (between (end_of c - 16) (end_of (range_at (end_of c - 32) len)))
+
+module _ {fllen sllen : ℕ} {m : Space} {table : Table} {s : State} (v : StandsFor fllen sllen (contents m table) s) (c : Range) (len : ℕ) (is : IsExtensible fllen (range_of m) s c len) where
+  -- where the words stand
+  pub record IsBehind : Type 0 where
+    pub start : c.start % 32 ≡ 0
+    pub length : c.len % 32 ≡ 0
+    pub room : 64 ≤ c.len
+    pub from : m.start ≤ c.start
+    pub to : end_of c + len ≤ end_of (range_of m)
+    pub more : len % 32 ≡ 0
+    pub some : 32 ≤ len
+    pub addressable : end_of (range_of m) < 2 ^ 64
+
+  pub placed : IsBehind
+  placed =
+      let chunk = v.well_formed.chunks c (is_chunk v.well_formed c len is) in
+      record {
+        start = chunk.whole.start;
+        length = chunk.whole.len;
+        room = chunk.has_room;
+        from = chunk.lies_in.0;
+        to = is.fresh.lies_in.1;
+        more = is.whole;
+        some = omega (arith, is.some, is.whole);
+        addressable = v.well_formed.addressable;
+      }
+
+  pub AreExtended-from : {m1 m2 m3 : Space} {end : ℕ} → end_of c ≡ end
+      → (m1.start ≡ m.start) × (m1.bytes ≡ with_word m (end - 32) (len + 1)) → (m2.start ≡ m1.start) × (m2.bytes ≡ with_word m1 (end - 32 + len) 35)
+      → (m3.start ≡ m2.start) × (m3.bytes ≡ with_word m2 (end - 32 + len + 8) (end - 32)) → AreExtended m m1 m2 m3 c len
+  AreExtended-from {m1} {m2} {m3} {end} at e1 e2 e3 =
+      let start = placed.start in
+      let granules = placed.length in
+      let room = placed.room in
+      let from = placed.from in
+      let to = placed.to in
+      let more = placed.more in
+      let some = placed.some in
+      let addressable = placed.addressable in
+      let w1 : IsWrite m m1 (end - 32) (len + 1) = write (omega arith, (omega arith, omega arith)) e1.0 e1.1 (omega arith) in
+      let l1 = (Rewrites-word m m1 (end - 32) (len + 1) w1.placed w1.start w1.bytes).length in
+      let w2 : IsWrite m1 m2 (end - 32 + len) 35 = write (omega arith, (omega arith, omega arith)) e2.0 e2.1 (omega arith) in
+      let l2 = (Rewrites-word m1 m2 (end - 32 + len) 35 w2.placed w2.start w2.bytes).length in
+      let w3 : IsWrite m2 m3 (end - 32 + len + 8) (end - 32) = write (omega arith, (omega arith, omega arith)) e3.0 e3.1 (omega arith) in
+      let writes = λ (e : ℕ). IsWrite m m1 (e - 32) (len + 1) × IsWrite m1 m2 (e - 32 + len) 35 × IsWrite m2 m3 (e - 32 + len + 8) (e - 32) in
+      let (one, two, three) = subst writes (sym at) (w1, w2, w3) in
+      record { one = one; two = two; three = three }
+
+  -- the three words were written
+  module _ {m1 m2 n : Space} (writes : AreExtended m m1 m2 n c len) where
+    written : Rewrites m n (λ a. ((a ≡ sentinel_of c) ⊎ (a ≡ sentinel_of c + len)) ⊎ (a ≡ sentinel_of c + len + 8))
+    written = Rewrites-trans (Rewrites-trans (rewrites_of writes.one) (rewrites_of writes.two)) (rewrites_of writes.three)
+
+    -- they stand in a hole from the old sentinel on
+    abbrev hole : Range
+    hole = range_at (sentinel_of c) (len + 16)
+
+    granule : sentinel_of c % 32 ≡ 0
+    granule = omega (arith, placed.start, placed.length, placed.room)
+
+    some : 0 < len + 16
+    some = omega arith
+
+    second : (sentinel_of c + 8) % 32 ≡ 8
+    second = omega (arith, granule)
+
+    rewrites : Rewrites m n (Touched s.free hole (sentinel_of c + 8))
+    rewrites = Rewrites-weaken go written
+      where
+        go : (a : ℕ) → (((a ≡ sentinel_of c) ⊎ (a ≡ sentinel_of c + len)) ⊎ (a ≡ sentinel_of c + len + 8)) → Touched s.free hole (sentinel_of c + 8) a
+        go a (inl (inl at)) = in_hole (omega arith) (omega arith)
+        go a (inl (inr at)) = in_hole (omega arith) (omega arith)
+        go a (inr at) = in_hole (omega arith) (omega arith)
+
+    -- the words that were written, and one that stays
+    size : word_at n (sentinel_of c) ≡ len + 1
+    size = rest.words (sentinel_of c) (omega (arith, placed.start, placed.length)) (omega (arith, placed.from, placed.room, writes.one.start)) apart ∙ reads_of writes.one
+      where
+        rest : Rewrites m1 n (λ a. (a ≡ sentinel_of c + len) ⊎ (a ≡ sentinel_of c + len + 8))
+        rest = Rewrites-trans (rewrites_of writes.two) (rewrites_of writes.three)
+
+        apart : (sentinel_of c ≡ sentinel_of c + len) ⊎ (sentinel_of c ≡ sentinel_of c + len + 8) → ⊥
+        apart (inl at) = omega (arith, is.some)
+        apart (inr at) = omega arith
+
+    sentinel : word_at n (sentinel_of c + len) ≡ 35
+    sentinel =
+        (rewrites_of writes.three).words (sentinel_of c + len) (omega (arith, placed.start, placed.length, placed.more)) (omega (arith, placed.from, placed.room, writes.one.start, writes.two.start)) (λ at. omega arith)
+        ∙ reads_of writes.two
+
+    stays : word_at n (sentinel_of c + 8) ≡ word_at m (sentinel_of c + 8)
+    stays = written.words (sentinel_of c + 8) (omega (arith, placed.start, placed.length)) (omega (arith, placed.from, placed.room)) apart
+      where
+        apart : (((sentinel_of c + 8 ≡ sentinel_of c) ⊎ (sentinel_of c + 8 ≡ sentinel_of c + len)) ⊎ (sentinel_of c + 8 ≡ sentinel_of c + len + 8)) → ⊥
+        apart (inl (inl at)) = omega arith
+        apart (inl (inr at)) = omega (arith, placed.some)
+        apart (inr at) = omega (arith, placed.some)
+
+    -- ---- what lies outside the hole
+
+    w : IsWellFormed fllen sllen (range_of m) s
+    w = v.well_formed
+
+    is_c : IsIn c s.chunks
+    is_c = is_chunk w c len is
+
+    -- no chunk has an address behind c
+    chunk_apart : (d : Range) (a : ℕ) → IsIn d s.chunks → Has d a → end_of c ≤ a → a < end_of c + len → ⊥
+    chunk_apart d a i h low high = omega (arith, is.fresh.apart a low high, coverage-IsIn itself d s.chunks a i, covers-inside d a h.from h.to)
+
+    used_apart : (u : Used) → IsIn u s.used → (a : ℕ) → Has u.block a → Has hole a → ⊥
+    used_apart u i a hu hh =
+        let home = home_of_used w u i in
+        elim (cases_lt a (end_of c)) [
+          | inl low ↦ used_last w u c a i is_c hu (omega (arith, hh.from)) low
+          | inr high ↦ chunk_apart home.chunk a home.is_chunk (record { from = omega (arith, home.from, hu.from); to = omega (arith, home.to, hu.to) }) high (omega (arith, hh.to))
+        ]
+
+    free_apart : (f : Range) → IsIn f s.free → (a : ℕ) → Has f a → Has hole a → ⊥
+    free_apart f i a hf hh =
+        let home = home_of_free w f i in
+        elim (cases_lt a (end_of c)) [
+          | inl low ↦ free_last w f c a i is_c hf (omega (arith, hh.from)) low
+          | inr high ↦ chunk_apart home.chunk a home.is_chunk (record { from = omega (arith, home.from, hf.from); to = omega (arith, home.to, hf.to) }) high (omega (arith, hh.to))
+        ]
+
+    -- the word that names the block before the old sentinel, and others like it
+    used_way_back : (u : Used) → IsIn u s.used → word_at n (end_of u.block + 8) ≡ word_at m (end_of u.block + 8)
+    used_way_back u i = elim (cases_eq (end_of u.block) (sentinel_of c)) [
+      | inl at ↦ ap (λ a. word_at n (a + 8)) at ∙ stays ∙ ap (λ a. word_at m (a + 8)) (sym at)
+      | inr off ↦ used_previous w hole granule some (sentinel_of c + 8) second (omega arith) (omega arith) rewrites u i (used_apart u i) off (λ e. off (omega arith))
+    ]
+
+    free_way_back : (f : Range) → IsIn f s.free → word_at n (end_of f + 8) ≡ word_at m (end_of f + 8)
+    free_way_back f i = elim (cases_eq (end_of f) (sentinel_of c)) [
+      | inl at ↦ ap (λ a. word_at n (a + 8)) at ∙ stays ∙ ap (λ a. word_at m (a + 8)) (sym at)
+      | inr off ↦ free_previous w hole granule some (sentinel_of c + 8) second (omega arith) (omega arith) rewrites f i (free_apart f i) off (λ e. off (omega arith))
+    ]
+
+    -- ---- the state with a used block more
+
+    bytes : List ℕ
+    bytes = more_bytes n c len
+
+    long : length (more_bytes n c len) ≡ len - 16
+    long =
+        let room = placed.room in
+        let more = placed.some in
+        length-bytes_in n (between (end_of c - 16) (end_of (range_at (end_of c - 32) len))) (omega (arith, placed.from, written.start), omega (arith, placed.to, written.start, written.length)) ∙ omega arith
+
+    t_well_formed : IsWellFormed fllen sllen (range_of m) (lengthened c len (more_bytes n c len) s)
+    t_well_formed = IsWellFormed-lengthened w c len is (more_bytes n c len) long
+
+    -- another chunk than c has no address of the longer chunk
+    other_apart : (d : Range) (a : ℕ) → IsIn d (without (ends_at (end_of c)) s.chunks) → Has d a → Has (range_at c.start (c.len + len)) a → ⊥
+    other_apart d a j hd hc =
+        let same : range_at c.start (c.len + len) ≡ d = chunk_chunk t_well_formed (range_at c.start (c.len + len)) d a (inl refl) (inr j) hc hd in
+        let begins = ap (λ r. r.start) same in
+        let ends = ap end_of same in
+        let more = placed.some in
+        chunk_apart d (end_of c) (IsIn-without (ends_at (end_of c)) d s.chunks j) (record { from = omega arith; to = omega arith }) (omega arith) (omega arith)
+
+    pub StandsFor-lengthened : StandsFor fllen sllen (contents n table) (lengthened c len (more_bytes n c len) s)
+    StandsFor-lengthened = record {
+      nonzero = omega (arith, v.nonzero, written.start);
+      well_formed = (let same : range_of n ≡ range_of m = ap₂ (λ a l. record { start = a; len = l }) written.start written.length in subst (λ p. IsWellFormed fllen sllen p (lengthened c len (more_bytes n c len) s)) (sym same) t_well_formed);
+      sizes = record { used = sizes_used; free = sizes_free; sentinel = sizes_sentinel };
+      previous = record { used = previous_used; free = λ f i. free_way_back f i ∙ v.previous.free f i; first = previous_first };
+      payloads = record { bytes = payload_bytes; pad = payload_pad };
+      table = HasTable-Rewrites written (IsPlaced-free v) (λ f i. (no_link f i 16 refl (omega arith), no_link f i 24 refl (omega arith))) v.table;
+    }
+      where
+        no_link : (f : Range) → IsIn f s.free → (i : ℕ) → i % 32 ≡ i → 16 ≤ i → (((f.start + i ≡ sentinel_of c) ⊎ (f.start + i ≡ sentinel_of c + len)) ⊎ (f.start + i ≡ sentinel_of c + len + 8)) → ⊥
+        no_link f j i inner late at =
+            let start = (w.free f j).whole.start in
+            let more = placed.more in
+            let whole = granule in
+            elim at [ inl first ↦ elim first [ inl e ↦ omega arith | inr e ↦ omega arith ] | inr e ↦ omega arith ]
+
+        sizes_used : (u : Used) → IsIn u (more_block c len (more_bytes n c len) ∷ s.used) → word_at n u.block.start ≡ u.block.len + 1
+        sizes_used u (inl same) = subst (λ (x : Used). word_at n x.block.start ≡ x.block.len + 1) (sym same) size
+        sizes_used u (inr i) = used_size w hole granule some (sentinel_of c + 8) second (omega arith) (omega arith) rewrites u i (used_apart u i) ∙ v.sizes.used u i
+
+        sizes_free : (f : Range) → IsIn f s.free → word_at n f.start ≡ f.len
+        sizes_free f i = free_size w hole granule some (sentinel_of c + 8) second (omega arith) (omega arith) rewrites f i (free_apart f i) ∙ v.sizes.free f i
+
+        sizes_sentinel : (d : Range) → IsIn d (range_at c.start (c.len + len) ∷ without (ends_at (end_of c)) s.chunks) → word_at n (sentinel_of d) ≡ 35
+        sizes_sentinel d (inl same) = ap (λ e. word_at n (sentinel_of e)) same ∙ ap (word_at n) (omega (arith, placed.room)) ∙ sentinel
+        sizes_sentinel d (inr j) =
+            let i = IsIn-without (ends_at (end_of c)) d s.chunks j in
+            let room = (w.chunks d i).has_room in
+            let apart : Has hole (sentinel_of d) → ⊥ = λ h. other_apart d (sentinel_of d) j (record { from = omega arith; to = omega arith }) (record { from = omega (arith, h.from, placed.room); to = omega (arith, h.to) }) in
+            chunk_sentinel w hole granule some (sentinel_of c + 8) second (omega arith) (omega arith) rewrites d i apart ∙ v.sizes.sentinel d i
+
+        previous_used : (u : Used) → IsIn u (more_block c len (more_bytes n c len) ∷ s.used) → word_at n (end_of u.block + 8) ≡ u.block.start
+        previous_used u (inl same) = subst (λ (x : Used). word_at n (end_of x.block + 8) ≡ x.block.start) (sym same) (reads_of writes.three)
+        previous_used u (inr i) = used_way_back u i ∙ v.previous.used u i
+
+        first_word : (d : Range) → IsIn d s.chunks → (Has hole d.start → ⊥) → word_at n (d.start + 8) ≡ 0
+        first_word d i apart = chunk_first w hole granule some (sentinel_of c + 8) second (omega arith) (omega arith) rewrites d i apart (λ e. apart (record { from = omega arith; to = omega arith })) ∙ v.previous.first d i
+
+        previous_first : (d : Range) → IsIn d (range_at c.start (c.len + len) ∷ without (ends_at (end_of c)) s.chunks) → word_at n (d.start + 8) ≡ 0
+        previous_first d (inl same) = ap (λ (e : Range). word_at n (e.start + 8)) same ∙ first_word c is_c (λ h. omega (arith, h.from, placed.room))
+        previous_first d (inr j) =
+            let i = IsIn-without (ends_at (end_of c)) d s.chunks j in
+            let room = (w.chunks d i).has_room in
+            first_word d i (λ h. other_apart d d.start j (record { from = omega arith; to = omega arith }) (record { from = omega (arith, h.from, placed.room); to = omega (arith, h.to) }))
+
+        payload_bytes : (u : Used) → IsIn u (more_block c len (more_bytes n c len) ∷ s.used) → bytes_in n (usable u) ≡ u.bytes
+        payload_bytes u (inl same) = subst (λ (x : Used). bytes_in n (usable x) ≡ x.bytes) (sym same) refl
+        payload_bytes u (inr i) = used_bytes w hole granule some (sentinel_of c + 8) second (omega arith) (omega arith) rewrites u i (used_apart u i) ∙ v.payloads.bytes u i
+
+        payload_pad : (u : Used) → IsIn u (more_block c len (more_bytes n c len) ∷ s.used) → 32 ≤ u.align → word_at n (u.payload - 8) ≡ u.block.start
+        payload_pad u (inl same) wide = absurd (omega (arith, ap (λ (x : Used). x.align) same))
+        payload_pad u (inr i) wide = used_pad w hole granule some (sentinel_of c + 8) second (omega arith) (omega arith) rewrites u i (used_apart u i) wide ∙ v.payloads.pad u i wide
+
+    -- no spare byte has changed
+    KeepsSpare-lengthened : KeepsSpare m s n (lengthened c len (more_bytes n c len) s)
+    KeepsSpare-lengthened = KeepsSpare-Touched w (lengthened c len (more_bytes n c len) s) hole (sentinel_of c + 8) rewrites no_hole no_other
+      where
+        beyond : (a : ℕ) → IsSpare (lengthened c len (more_bytes n c len) s) a → sentinel_of c ≤ a → a < sentinel_of c + len + 16 → ⊥
+        beyond a spare low high =
+            let room = placed.room in
+            let more = placed.some in
+            omega (arith, spare (range_at c.start (c.len + len)) (inl refl) (omega arith) (omega arith))
+
+        no_hole : (a : ℕ) → IsSpare (lengthened c len (more_bytes n c len) s) a → Has hole a → ⊥
+        no_hole a spare h = beyond a spare h.from (omega (arith, h.to))
+
+        no_other : (a : ℕ) → IsSpare (lengthened c len (more_bytes n c len) s) a → sentinel_of c + 8 ≤ a → a < sentinel_of c + 8 + 8 → ⊥
+        no_other a spare low high = beyond a spare (omega arith) (omega arith)
+
+    -- once the block is released, the value stands for the state with the grown chunk
+    pub grown_stands : {o : Space} {changed : Table} → StandsFor fllen sllen (contents o changed) (released (lengthened c len (more_bytes n c len) s) (more_block c len (more_bytes n c len)))
+        × KeepsSpare n (lengthened c len (more_bytes n c len) s) o (released (lengthened c len (more_bytes n c len) s) (more_block c len (more_bytes n c len)))
+        → StandsFor fllen sllen (contents o changed) (grown c len s) × KeepsSpare m s o (grown c len s)
+    grown_stands {o} {changed} (stands, spare) =
+        let first = KeepsSpare-lengthened in (
+          subst (StandsFor fllen sllen (contents o changed)) (released-lengthened w c len is (more_bytes n c len) long) stands,
+          λ a from to before after. spare a (omega (arith, from, written.start)) (omega (arith, to, written.start, written.length)) after after ∙ first a from to before after,
+        )

@@ -1,0 +1,85 @@
+-- Bytes were copied to a place inside a hole that is no block's: the free blocks are as they were.
+use Rattle.std.proofs.Common.{◌≡◌, ℕ, ◌+◌, ◌-◌, ◌%◌, ◌≤◌, ◌<◌, ◌⊎◌, List, length, take, drop, arith, inl, inr, sym, ◌∙◌, ap}
+use Rattle.std.proofs.lemmas.Bool.{cases_lt}
+use Rattle.rlsf_base.specs.declared.memory.range.Range.{Range}
+use Rattle.rlsf_base.specs.Range.{end_of, LiesIn}
+use Rattle.rlsf_base.specs.Space.{Space, bytes_in, with_bytes}
+use Rattle.rlsf_base.proofs.Lending.Copied.{length-with_bytes, bytes_in-with_bytes, word_at-with_bytes}
+use Rattle.rlsf_machine.specs.Lists.{IsIn}
+use Rattle.rlsf_machine.specs.WellFormed.{itself}
+use Rattle.rlsf_machine.proofs.Coverage.{covers-inside, coverage-IsIn}
+use Rattle.rlsf_table.specs.FreeList.{Rewrites}
+use Rattle.rlsf_blocks.specs.Steps.Rest.{IsInnerRoom}
+use Rattle.rlsf_table.specs.Table.{Table}
+use Rattle.rlsf_table.proofs.Tables.FreeTables.{IsFreeTable-Rewrites}
+use Rattle.rlsf_table.proofs.Words.Writes.{IsPlaced-Rewrites}
+
+-- the word at the address lies in the hole
+abbrev pub IsInside : Range → ℕ → Type 0
+IsInside hole a = (hole.start ≤ a) × (a + 8 ≤ end_of hole)
+
+-- the bytes of a range were copied to an address in the hole, where they end in it too
+pub record IsCopied (m n : Space) (hole from : Range) (to : ℕ) : Type 0 where
+  pub placed : LiesIn from m.start (length m.bytes)
+  pub low : hole.start ≤ to
+  pub high : to + from.len ≤ end_of hole
+  pub start : n.start ≡ m.start
+  pub bytes : n.bytes ≡ with_bytes m to (bytes_in m from)
+
+module _ {fllen sllen : ℕ} {m : Space} {t : Table} {free : List Range} (hole : Range) (inner : IsInnerRoom fllen sllen m t free hole) {n : Space} (from : Range) (to : ℕ) (copied : IsCopied m n hole from to) where
+  -- what was written lies in the memory
+  pub LiesIn-copied : (m.start ≤ to) × (to + from.len ≤ m.start + length m.bytes)
+  LiesIn-copied = let inside = inner.room.placed.lies_in in (omega (arith, inside.0, copied.low), omega (arith, inside.1, copied.high))
+
+  pub Rewrites-copied : Rewrites m n (IsInside hole)
+  Rewrites-copied = record {
+    start = copied.start;
+    length = length-with_bytes m n from to copied.placed LiesIn-copied copied.start copied.bytes;
+    words = λ a whole inside other. word_at-with_bytes m n from to copied.placed LiesIn-copied copied.start copied.bytes a inside (word_side a whole other);
+    bytes = λ r inside apart. elim (cases_lt 0 r.len) [
+      | inl some ↦ bytes_in-with_bytes m n from to copied.placed LiesIn-copied copied.start copied.bytes r inside (side r some apart)
+      | inr none ↦ let empty : r.len ≡ 0 = omega arith in ap (λ k. take k (drop (r.start - n.start) n.bytes)) empty ∙ sym (ap (λ k. take k (drop (r.start - m.start) m.bytes)) empty)
+    ];
+  }
+    where
+      word_side : (a : ℕ) → a % 8 ≡ 0 → (IsInside hole a → ⊥) → (a + 8 ≤ to) ⊎ (to + from.len ≤ a)
+      word_side a whole other = elim (cases_lt a hole.start) [
+        | inl before ↦ inl (omega (arith, inner.room.placed.whole, copied.low))
+        | inr low ↦ elim (cases_lt (end_of hole) (a + 8)) [
+          | inl behind ↦ inr (omega (arith, inner.room.block.whole, copied.high))
+          | inr high ↦ absurd (other (low, high))
+        ]
+      ]
+
+      -- a range that none of the hole's words touches lies before the hole or behind it
+      side : (r : Range) → 0 < r.len → ((a : ℕ) → IsInside hole a → (end_of r ≤ a) ⊎ (a + 8 ≤ r.start)) → (end_of r ≤ to) ⊎ (to + from.len ≤ r.start)
+      side r some apart = elim (apart hole.start (omega arith, omega (arith, inner.room.placed.room))) [
+        | inl before ↦ inl (omega (arith, copied.low))
+        | inr low ↦ elim (apart (end_of hole - 8) (omega (arith, inner.room.placed.room), omega (arith, inner.room.placed.room))) [
+          | inr behind ↦ inr (omega (arith, copied.high, inner.room.placed.room))
+          | inl high ↦ elim (apart r.start (omega arith, omega (arith, inner.room.placed.room))) [ inl none ↦ absurd (omega arith) | inr none ↦ absurd (omega arith) ]
+        ]
+      ]
+
+  -- the hole is room for a block as before
+  pub IsInnerRoom-copied : IsInnerRoom fllen sllen n t free hole
+  IsInnerRoom-copied =
+      let rewrites = Rewrites-copied in
+      record {
+        room = record {
+          list = IsFreeTable-Rewrites rewrites other inner.room.list;
+          block = inner.room.block;
+          placed = IsPlaced-Rewrites rewrites inner.room.placed;
+          apart = inner.room.apart;
+        };
+        not_last = omega (arith, inner.not_last, rewrites.start, rewrites.length);
+      }
+    where
+      none : (f : Range) → IsIn f free → (k : ℕ) → k + 8 ≤ 32 → IsInside hole (f.start + k) → ⊥
+      none f i k early (low, high) =
+          let placed = inner.room.list.placed f i in
+          let a = f.start + k in
+          omega (arith, inner.room.apart a, covers-inside hole a low (omega arith), coverage-IsIn itself f free a i, covers-inside f a (omega arith) (omega (arith, placed.room)))
+
+      other : (f : Range) → IsIn f free → ¬ IsInside hole f.start × ¬ IsInside hole (f.start + 16) × ¬ IsInside hole (f.start + 24)
+      other f i = ((λ (low, high). none f i 0 (omega arith) (omega arith, omega arith)), none f i 16 (omega arith), none f i 24 (omega arith))

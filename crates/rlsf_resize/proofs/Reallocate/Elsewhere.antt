@@ -1,0 +1,166 @@
+-- The bytes of a payload are copied into one that is allocated for it, and then its block is given back.
+use Rattle.std.proofs.Common.{◌≡◌, ◌≢◌, ℕ, ◌+◌, ◌-◌, ◌<◌, List, [], ◌∷◌, Some, None, cond, not, length, min, take, drop, arith, inl, inr, refl, sym, ◌∙◌, ap, subst}
+use Rattle.std.proofs.lemmas.Bool.{cases_lt, eq-eqb, le-leb, ne_eqb}
+use Rattle.std.proofs.lemmas.List.{take-take, take_all}
+use Rattle.std.specs.List.{splice}
+use Rattle.rlsf_base.specs.declared.memory.range.Range.{Range}
+use Rattle.rlsf_base.specs.Range.{end_of, range_at, LiesIn}
+use Rattle.rlsf_base.specs.Space.{Space, bytes_in, with_bytes, SamePlace}
+use Rattle.rlsf_base.proofs.Lending.Replaced.{length-with, bytes_in-with, bytes_in-there}
+use Rattle.rlsf_machine.specs.Allocate.{given, placed, Places}
+use Rattle.rlsf_machine.specs.Lists.{IsIn}
+use Rattle.rlsf_machine.specs.Reallocate.{in_place, resized, tail_joined, Keeps, MovesAway, Plan}
+use Rattle.rlsf_machine.specs.Release.{released}
+use Rattle.rlsf_machine.specs.Run.{Fills}
+use Rattle.rlsf_machine.specs.State.{State, Used, usable, others, Holds}
+use Rattle.rlsf_machine.specs.WellFormed.{IsWellFormed}
+use Rattle.rlsf_machine.proofs.Changes.{Holds-unique}
+use Rattle.rlsf_machine.proofs.Live.{new_address}
+use Rattle.rlsf_machine.proofs.Payloads.{payload_of-after, IsUsed-after_start}
+use Rattle.rlsf_blocks.specs.Spare.{IsSpare, KeepsSpare}
+use Rattle.rlsf_blocks.specs.StandsFor.{contents, StandsFor}
+use Rattle.rlsf_table.specs.Table.{Table}
+use Rattle.rlsf_blocks.proofs.Payloads.Filled.{IsSameOutside, stands_filled}
+use Rattle.rlsf_blocks.proofs.Words.Apart.{used_in_memory}
+
+-- used blocks none of which has the address
+others-none : (addr : ℕ) (used : List Used) → ((v : Used) → IsIn v used → v.payload ≢ addr) → others addr used ≡ used
+others-none addr [] none = refl
+others-none addr (x ∷ xs) none =
+    ap (λ b. cond (not b) (x ∷ others addr xs) (others addr xs)) (ne_eqb x.payload addr (none x (inl refl))) ∙ ap (λ l. x ∷ l) (others-none addr xs (λ v i. none v (inr i)))
+
+-- a block that can't have the size where it stands has fewer usable bytes
+usable-short : {fllen sllen : ℕ} {memory : Range} {s : State} → IsWellFormed fllen sllen memory s → (u : Used) → IsIn u s.used → (size : ℕ) → in_place s u size ≡ None → (usable u).len < size
+usable-short {s = s} w u i size short =
+    let is = w.used u i in
+    elim (cases_lt (end_of u.block) (end_of (resized u size))) [
+      | inl past ↦ omega (arith, past, is.whole.len, is.within, IsUsed-after_start u is)
+      | inr fits ↦
+          let plan : Plan = record { block = resized u size; payload = u.payload; free = tail_joined (resized u size) (end_of u.block) s.free } in
+          let bad : Some plan ≡ None = sym (ap (λ b. cond b (Some plan) None) (le-leb (end_of (resized u size)) (end_of u.block) fits)) ∙ short in
+          absurd (cc)
+    ]
+
+module _ {fllen sllen : ℕ} {memory : Range} {m : Space} {table : Table} {s t : State} (w : IsWellFormed fllen sllen memory s) (u : Used) (i : IsIn u s.used) (size : ℕ) (short : in_place s u size ≡ None)
+    {addr : ℕ} (places : Places sllen s size u.align addr t) (v : StandsFor fllen sllen (contents m table) t) where
+  -- the block that was allocated, with these bytes
+  abbrev block_with : List ℕ → Used
+  block_with bytes = placed places.range size u.align bytes
+
+  -- the state in which both blocks stand, with these bytes in the new one
+  abbrev pub both : List ℕ → State
+  both bytes = given sllen s places.range (block_with bytes)
+
+  abbrev new : Used
+  new = block_with places.bytes
+
+  Holds-new : Holds t addr new
+  Holds-new = subst (λ x. Holds x addr new) (sym places.after) (inl refl, sym places.answer)
+
+  old_stays : IsIn u t.used
+  old_stays = subst (λ x. IsIn u x.used) (sym places.after) (inr i)
+
+  shorter : (usable u).len < (usable new).len
+  shorter = omega (arith, usable-short w u i size short, payload_of-after places.range.start u.align)
+
+  pub LiesIn-old : LiesIn (usable u) m.start (length m.bytes)
+  LiesIn-old =
+      let place = used_in_memory v.well_formed u old_stays in
+      let is = w.used u i in
+      (omega (arith, place.0, IsUsed-after_start u is), omega (arith, place.1, is.within))
+
+  -- as many bytes lie in the new payload
+  pub LiesIn-new : LiesIn (range_at addr (usable u).len) m.start (length m.bytes)
+  LiesIn-new =
+      let place = used_in_memory v.well_formed new Holds-new.0 in
+      (omega (arith, places.answer, place.0, payload_of-after places.range.start u.align), omega (arith, places.answer, place.1, shorter, payload_of-after places.range.start u.align))
+
+  -- no old block has the new address
+  others-both : others addr t.used ≡ s.used
+  others-both =
+      ap (λ x. others addr x.used) places.after ∙ ap (λ b. cond (not b) (new ∷ others addr s.used) (others addr s.used)) (eq-eqb new.payload addr (sym places.answer))
+      ∙ others-none addr s.used (new_address w size u.align addr t (w.used u i).power places)
+
+  -- a fill of the new payload
+  filled_both : (bytes : List ℕ) (x : State) → Fills t addr bytes x → x ≡ both bytes
+  filled_both bytes x step =
+      let same : step.block ≡ new = Holds-unique v.well_formed addr step.block new step.holds Holds-new in
+      step.after ∙ (λ k. record {
+        chunks = (places.after k).chunks;
+        used = record { block = (same k).block; payload = (same k).payload; align = (same k).align; bytes = bytes } ∷ others-both k;
+        free = (places.after k).free;
+      })
+
+  -- the bytes of the old payload were copied to the new one
+  pub record IsCopied (n : Space) (bytes : List ℕ) : Type 0 where
+    pub length : length bytes ≡ end_of new.block - addr
+    pub kept : Keeps u.bytes bytes
+    pub stands : StandsFor fllen sllen (contents n table) (both bytes)
+    pub spare : KeepsSpare m t n (both bytes)
+    pub place : SamePlace m n
+
+  module _ {r : Range} (is : r ≡ usable u) (n : Space) (start : n.start ≡ m.start) (copied : n.bytes ≡ with_bytes m addr (bytes_in m r)) where
+    abbrev target : Range
+    target = range_at addr (usable u).len
+
+    long : length u.bytes ≡ (usable u).len
+    long = (w.used u i).bytes
+
+    spliced : n.bytes ≡ splice m.bytes (addr - m.start) (addr - m.start + (usable u).len) u.bytes
+    spliced = copied ∙ ap (with_bytes m addr) (ap (bytes_in m) is ∙ v.payloads.bytes u old_stays) ∙ ap (λ k. splice m.bytes (addr - m.start) (addr - m.start + k) u.bytes) long
+
+    IsSameOutside-copied : IsSameOutside m n (usable new)
+    IsSameOutside-copied = record {
+      start = start;
+      length = length-with m n target u.bytes LiesIn-new long start spliced;
+      bytes = λ q from side. bytes_in-with m n target u.bytes LiesIn-new long start spliced q from (elim side [
+        | inl before ↦ inl (omega (arith, before, places.answer))
+        | inr behind ↦ inr (omega (arith, behind, places.answer, shorter, payload_of-after places.range.start u.align))
+      ]);
+    }
+
+    -- the first bytes of the new payload are those of the old one
+    Keeps-copied : length (bytes_in n (usable new)) ≡ (usable new).len → Keeps u.bytes (bytes_in n (usable new))
+    Keeps-copied whole =
+        let few : min (length u.bytes) (length (bytes_in n (usable new))) ≡ length u.bytes = omega (arith, whole, long, shorter) in
+        let front : take (length u.bytes) (bytes_in n (usable new)) ≡ u.bytes =
+        take-take (length u.bytes) (usable new).len (drop (new.payload - n.start) n.bytes) (omega (arith, long, shorter))
+        ∙ (λ k. take (long k) (drop (sym places.answer k - n.start) n.bytes))
+        ∙ bytes_in-there m n target u.bytes LiesIn-new long start spliced in
+        subst (λ k. take k (bytes_in n (usable new)) ≡ take k u.bytes) (sym few) (front ∙ sym (take_all (length u.bytes) u.bytes (omega arith)))
+
+    pub copied_stands : (bytes : List ℕ) × IsCopied n bytes
+    copied_stands =
+        let (x, fills, stands, spare) = stands_filled v addr new Holds-new n IsSameOutside-copied in
+        let same : fills.block ≡ new = Holds-unique v.well_formed addr fills.block new fills.holds Holds-new in
+        let bytes = bytes_in n (usable new) in
+        let whole : length bytes ≡ end_of new.block - addr = fills.length ∙ ap (λ b. length b.bytes) same ∙ places.length in
+        let is_both : x ≡ both bytes = filled_both bytes x fills in (
+          bytes,
+          record {
+            length = whole;
+            kept = Keeps-copied (whole ∙ ap (λ a. end_of new.block - a) places.answer);
+            stands = subst (StandsFor fllen sllen (contents n table)) is_both stands;
+            spare = subst (KeepsSpare m t n) is_both spare;
+            place = (start, IsSameOutside-copied.length);
+          },
+        )
+
+  -- and then the old block was given back
+  module _ {n : Space} {bytes : List ℕ} (is : IsCopied n bytes) where
+    pub MovesAway-copied : MovesAway sllen s u size addr (released (both bytes) u)
+    MovesAway-copied = record {
+      meanwhile = both bytes;
+      allocated = record { range = places.range; bytes = bytes; chosen = places.chosen; answer = places.answer; length = is.length; after = refl };
+      block = block_with bytes;
+      holds = (inl refl, sym places.answer);
+      kept = is.kept;
+      released = record { block = u; holds = (inr i, refl); after = refl };
+    }
+
+    pub KeepsSpare-copied : (l o : Space) → SamePlace l m → KeepsSpare l s m t → KeepsSpare n (both bytes) o (released (both bytes) u) → KeepsSpare l s o (released (both bytes) u)
+    KeepsSpare-copied l o place first last a from to before after =
+        let between : IsSpare t a = subst (λ x. IsSpare x a) (sym places.after) before in
+        last a (omega (arith, place.0, is.place.0)) (omega (arith, place.0, place.1, is.place.0, is.place.1)) before after
+        ∙ is.spare a (omega (arith, place.0)) (omega (arith, place.0, place.1)) between before
+        ∙ first a from to before between

@@ -1,0 +1,115 @@
+-- A used block and the free block behind it, if there is one: the span of both.
+use Rattle.std.proofs.Common.{◌≡◌, ℕ, ◌+◌, ◌<◌, ◌≤◌, ◌-◌, List, find, length, arith, refl}
+use Rattle.rlsf_base.specs.declared.memory.range.Range.{Range}
+use Rattle.rlsf_base.specs.Range.{end_of}
+use Rattle.rlsf_base.specs.Space.{Space}
+use Rattle.rlsf_machine.specs.Join.{starts_at, end_or}
+use Rattle.rlsf_machine.specs.Lists.{IsIn, without}
+use Rattle.rlsf_machine.specs.State.{State, Used, between, others}
+use Rattle.rlsf_machine.specs.WellFormed.{covers, coverage, itself, IsFree, IsWhole}
+use Rattle.rlsf_machine.proofs.Changes.{coverage-others}
+use Rattle.rlsf_machine.proofs.Coverage.{covers-inside, covers-split, coverage-IsIn, IsIn-without}
+use Rattle.rlsf_machine.proofs.Joins.{IsRight, right_of}
+use Rattle.rlsf_machine.proofs.Payloads.{IsUsed-some}
+use Rattle.rlsf_machine.proofs.Releases.{IsSound-free}
+use Rattle.rlsf_machine.proofs.Tiling.{block_of, blocks, blocks-le, tiling_of, IsValidClass-le, LiesInChunk, lies_in_chunk}
+use Rattle.rlsf_blocks.specs.StandsFor.{contents, StandsFor}
+use Rattle.rlsf_blocks.specs.Steps.Join.{IsOut}
+use Rattle.rlsf_blocks.specs.Steps.Rest.{IsInnerRoom}
+use Rattle.rlsf_table.specs.Table.{Table}
+use Rattle.rlsf_blocks.proofs.Words.Apart.{Has}
+
+-- where the free block behind a used one ends, or where that ends itself
+abbrev pub reach : State → Used → ℕ
+reach s u = end_or (end_of u.block) (find (starts_at (end_of u.block)) s.free)
+
+abbrev pub span_of : State → Used → Range
+span_of s u = between u.block.start (reach s u)
+
+-- the free blocks that aren't behind it
+abbrev pub staying : State → Used → List Range
+staying s u = without (starts_at (end_of u.block)) s.free
+
+module _ {fllen sllen : ℕ} {m : Space} {t : Table} {s : State} (v : StandsFor fllen sllen (contents m t) s) (u : Used) (i : IsIn u s.used) where
+  some : 0 < u.block.len
+  some = IsUsed-some u (v.well_formed.used u i)
+
+  right : IsRight (end_of u.block) s.free (find (starts_at (end_of u.block)) s.free)
+  right = let whole = (v.well_formed.used u i).whole in right_of (end_of u.block) s.free (omega (arith, whole.start, whole.len)) (IsSound-free v.well_formed)
+
+  pub reach-le : end_of u.block ≤ reach s u
+  reach-le = right.order
+
+  pub end_of-span : end_of (span_of s u) ≡ reach s u
+  end_of-span = omega (arith, reach-le)
+
+  pub span-some : 0 < (span_of s u).len
+  span-some = omega (arith, reach-le, some)
+
+  pub IsWhole-span : IsWhole (span_of s u)
+  IsWhole-span = let whole = (v.well_formed.used u i).whole in record { start = whole.start; len = omega (arith, whole.start, right.whole, reach-le) }
+
+  span_parts : (a : ℕ) → covers (span_of s u) a ≡ covers u.block a + covers (between (end_of u.block) (reach s u)) a
+  span_parts a =
+      let order = reach-le in
+      covers-split u.block.start (end_of u.block) (reach s u) a (omega arith) order (span_of s u) u.block (between (end_of u.block) (reach s u)) refl (omega arith) refl refl refl (omega arith)
+
+  -- no other used block and no other free block has an address of it
+  pub span_alone : (a : ℕ) → covers (span_of s u) a + coverage block_of (others u.payload s.used) a + coverage itself (staying s u) a ≤ 1
+  span_alone a = omega (arith, right.cover a, span_parts a, blocks-le s (tiling_of v.well_formed) a, coverage-others v.well_formed u.payload u (i, refl) a)
+
+  pub used_apart : (y : Used) → IsIn y (others u.payload s.used) → (a : ℕ) → Has y.block a → Has (span_of s u) a → ⊥
+  used_apart y j a hy hs = omega (arith, span_alone a, covers-inside (span_of s u) a hs.from hs.to, covers-inside y.block a hy.from hy.to, coverage-IsIn block_of y (others u.payload s.used) a j)
+
+  pub free_apart : (g : Range) → IsIn g (staying s u) → (a : ℕ) → Has g a → Has (span_of s u) a → ⊥
+  free_apart g j a hg hs = omega (arith, span_alone a, covers-inside (span_of s u) a hs.from hs.to, covers-inside g a hg.from hg.to, coverage-IsIn itself g (staying s u) a j)
+
+  pub was_free : (g : Range) → IsIn g (staying s u) → IsIn g s.free
+  was_free g j = IsIn-without (starts_at (end_of u.block)) g s.free j
+
+  -- it lies in a chunk
+  pub home : LiesInChunk s (span_of s u)
+  home = lies_in_chunk s (tiling_of v.well_formed) (span_of s u) span-some part
+    where
+      part : (a : ℕ) → covers (span_of s u) a ≤ blocks s a
+      part a = omega (arith, right.cover a, span_parts a, coverage-others v.well_formed u.payload u (i, refl) a)
+
+  -- and in the memory, 32 bytes or more before its end
+  pub span_in_memory : (m.start ≤ u.block.start) × (reach s u + 32 ≤ m.start + length m.bytes)
+  span_in_memory =
+      let here = home in
+      let placed = (v.well_formed.chunks here.chunk here.is_chunk).lies_in in
+      (omega (arith, here.from, placed.0), omega (arith, here.to, placed.1, end_of-span))
+
+  pub IsFree-span : IsFree fllen sllen (span_of s u)
+  IsFree-span =
+      let here = home in
+      let chunk = v.well_formed.chunks here.chunk here.is_chunk in
+      let shorter : (span_of s u).len ≤ here.chunk.len - 32 = omega (arith, here.from, here.to, chunk.has_room) in
+      record { whole = IsWhole-span; some = span-some; valid = IsValidClass-le fllen sllen (span_of s u).len (here.chunk.len - 32) span-some shorter chunk.valid }
+
+  -- ---- the block behind it was taken out
+
+  module _ {m1 : Space} {t1 : Table} {next : ℕ} (out : IsOut fllen sllen m m1 t1 s.free (end_of u.block) next) where
+    pub span_len : (span_of s u).len ≡ u.block.len + next
+    span_len = omega (arith, out.end)
+
+    pub IsInnerRoom-span : IsInnerRoom fllen sllen m1 t1 (staying s u) (span_of s u)
+    IsInnerRoom-span =
+        let place = span_in_memory in
+        let whole = IsWhole-span in
+        let moved = out.rewrites in
+        record {
+          room = record {
+            list = out.list;
+            block = IsFree-span;
+            placed = record {
+              some = omega (arith, v.nonzero, place.0);
+              whole = whole.start;
+              room = omega (arith, span-some, whole.len);
+              lies_in = (omega (arith, place.0, moved.start), omega (arith, place.1, end_of-span, moved.start, moved.length));
+            };
+            apart = λ a. omega (arith, span_alone a);
+          };
+          not_last = omega (arith, place.1, end_of-span, moved.start, moved.length);
+        }

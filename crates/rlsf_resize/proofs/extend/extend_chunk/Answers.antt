@@ -1,0 +1,65 @@
+use Rattle.std.proofs.Common.{◌≡◌, ◌-◌, arith, inl, refl, rules, ap}
+use Rattle.rlsf_base.specs.declared.memory.range.Range.{Range}
+use Rattle.rlsf_base.specs.Range.{end_of}
+use Rattle.rlsf_base.specs.Space.{range_of}
+use Rattle.rlsf_machine.specs.State.{State}
+use Rattle.rlsf_blocks.specs.StandsFor.{contents, StandsFor}
+use Rattle.rlsf_resize.specs.Steps.Extension.{IsExtensible, lengthened, more_block}
+use Rattle.rlsf_resize.proofs.LongerChunks.Extensions.{AreExtended, AreExtended-from, StandsFor-lengthened, grown_stands, more_bytes, placed}
+use Rattle.rlsf_resize.proofs.extend.extend_chunk.Given as given
+use Rattle.rlsf_resize.proofs.extend.extend_chunk.Goals as goal
+use Rattle.rlsf_resize.proofs.extend.extend_chunk.Goals.{After-set_word-3}
+
+-- the three words are written
+written : (g : given.Over) (c : After-set_word-3 g) {s : State} (d : Range) → StandsFor g.row.FLLEN g.row.SLLEN (contents c.args.memory.now c.args.table.now) s
+    → IsExtensible g.row.FLLEN (range_of c.args.memory.now) s d c.args.len → end_of d ≡ c.args.end → AreExtended c.args.memory.now c.set_word.new.self c.set_word-2.new.self c.set_word-3.new.self d c.args.len
+written g c d v is at =
+    AreExtended-from v d c.args.len is at (c.set_word.ensures.start, c.set_word.ensures.bytes) (c.set_word-2.ensures.start, c.set_word-2.ensures.bytes) (c.set_word-3.ensures.start, c.set_word-3.ensures.bytes)
+
+pub overflow_sub-block : goal.overflow_sub-block
+overflow_sub-block g c =
+    let (s, d, v, is, at) = c.requires.extensible in
+    omega (arith, at, (placed v d c.args.len is).room)
+
+pub set_word-requires : goal.set_word-requires
+set_word-requires g c =
+    let (s, d, v, is, at) = c.requires.extensible in
+    let p = placed v d c.args.len is in
+    let room = p.room in
+    let from = p.from in
+    let to = p.to in
+    (omega (arith, p.start, p.length), (omega arith, omega arith))
+
+pub set_word-requires-2 : goal.set_word-requires-2
+set_word-requires-2 g c =
+    let (s, d, v, is, at) = c.requires.extensible in
+    let p = placed v d c.args.len is in
+    let room = p.room in
+    let from = p.from in
+    let to = p.to in
+    (omega (arith, p.start, p.length, p.more), (omega arith, omega arith))
+
+pub set_word-requires-3 : goal.set_word-requires-3
+set_word-requires-3 g c =
+    let (s, d, v, is, at) = c.requires.extensible in
+    let p = placed v d c.args.len is in
+    let room = p.room in
+    let from = p.from in
+    let to = p.to in
+    (omega (arith, p.start, p.length, p.more), (omega arith, omega arith))
+
+pub deallocate_block-requires : goal.deallocate_block-requires
+deallocate_block-requires g c =
+    let (s, d, v, is, at) = c.requires.extensible in
+    let len = c.args.len in
+    let n = c.set_word-3.new.self in
+    let writes = written g (goal.at.deallocate_block-requires g c).After-set_word-3 d v is at in
+    (search rules, (c.requires.parameters, (lengthened d len (more_bytes n d len) s, more_block d len (more_bytes n d len), StandsFor-lengthened v d len is writes, inl refl, ap (λ e. e - 32) at)))
+
+pub returns-clause-step : goal.returns-clause-step
+returns-clause-step g c = λ s d v is at.
+    let len = c.args.len in
+    let n = c.set_word-3.new.self in
+    let writes = written g (goal.at.returns-clause-step g c).After-set_word-3 d v is at in
+    let step = c.deallocate_block.ensures.step (lengthened d len (more_bytes n d len) s) (more_block d len (more_bytes n d len)) (StandsFor-lengthened v d len is writes) (inl refl) (ap (λ e. e - 32) at) in
+    grown_stands v d len is writes step

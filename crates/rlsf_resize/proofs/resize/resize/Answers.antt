@@ -1,0 +1,138 @@
+use Rattle.std.proofs.Common.{◌≡◌, ◌≢◌, ◌+◌, ◌-◌, ◌%◌, ◌<◌, ◌≤◌, arith, rules, sym, ◌∙◌, subst}
+use mathlib.Core.Path.{ap₂}
+use Rattle.rlsf_base.specs.Range.{end_of, range_at}
+use Rattle.rlsf_machine.specs.Reallocate.{resized}
+use Rattle.rlsf_machine.specs.State.{State, Used}
+use Rattle.rlsf_blocks.specs.StandsFor.{contents, StandsFor}
+use Rattle.rlsf_blocks.specs.Steps.Join.{IsMarked, IsOut}
+use Rattle.rlsf_resize.specs.Steps.Resize.{IsOccupied, IsUsedAt}
+use Rattle.rlsf_table.proofs.FreeLists.Counted.{IsFreeTable-counted}
+use Rattle.rlsf_blocks.proofs.Machine.FreeBlocks.{IsFreeTable-free}
+use Rattle.rlsf_resize.proofs.Reallocate.Computations.{end_is, IsMarked-loaded_end, IsOut-end, IsTaken-len, IsWord-size, reach_is, taken_computed}
+use Rattle.rlsf_resize.proofs.Reallocate.NextPlans.{kept_whole, no_plan, or_else-kept, or_else-stretched, stretched}
+use Rattle.rlsf_resize.proofs.Reallocate.Resized.{IsCarriedOut-kept, IsCarriedOut-stretched}
+use Rattle.rlsf_resize.proofs.Reallocate.Spans.{IsInnerRoom-span, reach, reach-le, span_in_memory, span_len, span_of, staying}
+use Rattle.rlsf_resize.proofs.resize.resize.Given as given
+use Rattle.rlsf_resize.proofs.resize.resize.Goals as goal
+use Rattle.rlsf_resize.proofs.resize.resize.Goals.{After-next_multiple_of-taken, After-free_length, After-take_if_free-next}
+
+pub load-requires : goal.load-requires
+load-requires g c = let (s, u, v, at) = c.requires.used in IsWord-size v u at
+
+-- the length that the block gets
+taken_is : (g : given.Over) (c : After-next_multiple_of-taken g) {s : State} (v : StandsFor g.row.FLLEN g.row.SLLEN (contents c.args.memory.now c.args.table.now) s) (u : Used)
+    → IsUsedAt s u c.args.block c.args.payload c.args.layout.align → c.next_multiple_of-taken.result ≡ (resized u c.args.layout.size).len
+taken_is g c v u at = taken_computed v u at c.args.layout.size c.size.ensures.value c.next_multiple_of-taken.ensures.value
+
+pub returns-then-taken-len-clause-done : goal.returns-then-taken-len-clause-done
+returns-then-taken-len-clause-done g c = λ s u v at yes.
+    let size = c.args.layout.size in
+    let taken = taken_is g (goal.at.returns-then-taken-len-clause-done g c).After-next_multiple_of-taken v u at in
+    let same : end_of (resized u size) ≡ end_of u.block = omega (arith, taken, at.start, end_is v u at c.load.ensures.word, c.if-taken-len.true) in
+    (kept_whole s u size, or_else-kept s u size v.well_formed at.is_used same, at.caller, IsCarriedOut-kept v u at.is_used size c.load.ensures.start c.load.ensures.bytes same)
+
+pub free_length-requires : goal.free_length-requires
+free_length-requires g c =
+    let (s, u, v, at) = c.requires.used in
+    let start = c.load.ensures.start in
+    let bytes = c.load.ensures.bytes in
+    (g.row.FLLEN, g.row.SLLEN, c.args.table.now, s.free, IsFreeTable-counted c.args.memory.now c.load.new.self start bytes (IsFreeTable-free v), IsMarked-loaded_end v u at c.load.ensures.word start bytes)
+
+-- where a free block behind it ends, or the block itself
+reached : (g : given.Over) (c : After-free_length g) {s : State} (v : StandsFor g.row.FLLEN g.row.SLLEN (contents c.args.memory.now c.args.table.now) s) (u : Used)
+    → IsUsedAt s u c.args.block c.args.payload c.args.layout.align → end_of u.block + c.free_length.result ≡ reach s u
+reached g c {s} v u at =
+    let start = c.load.ensures.start in
+    let bytes = c.load.ensures.bytes in
+    let list = IsFreeTable-counted c.args.memory.now c.load.new.self start bytes (IsFreeTable-free v) in
+    reach_is v u at c.load.ensures.word c.free_length.result
+    (c.free_length.ensures.length g.row.FLLEN g.row.SLLEN c.args.table.now s.free list (IsMarked-loaded_end v u at c.load.ensures.word start bytes))
+
+pub overflow_add-len : goal.overflow_add-len
+overflow_add-len g c =
+    let (s, u, v, at) = c.requires.used in
+    let ends = reached g (goal.at.overflow_add-len g c).After-free_length v u at in
+    record { fits = omega (arith, ends, end_is v u at c.load.ensures.word, span_in_memory v u at.is_used, v.well_formed.addressable) }
+
+pub returns-then-taken-len-2-clause-refused : goal.returns-then-taken-len-2-clause-refused
+returns-then-taken-len-2-clause-refused g c = λ s u v at no.
+    let size = c.args.layout.size in
+    let here = goal.at.returns-then-taken-len-2-clause-refused g c in
+    let taken = taken_is g here.After-next_multiple_of-taken v u at in
+    let ends = reached g here.After-free_length v u at in
+    let end = end_is v u at c.load.ensures.word in
+    let start = at.start in
+    no_plan s u size (omega (arith, c.if-taken-len-2.true)) (omega (arith, c.if-taken-len-2.true))
+
+-- the free block behind it, once two words were read
+marked : (g : given.Over) (c : After-free_length g) {s : State} (v : StandsFor g.row.FLLEN g.row.SLLEN (contents c.args.memory.now c.args.table.now) s) (u : Used)
+    → IsUsedAt s u c.args.block c.args.payload c.args.layout.align → IsMarked c.free_length.new.memory s.free (c.args.block + (c.load.result - 1))
+marked g c v u at =
+    let counts = c.free_length.ensures.counts in
+    IsMarked-loaded_end v u at c.load.ensures.word (counts.start ∙ c.load.ensures.start) (counts.bytes ∙ c.load.ensures.bytes)
+
+pub take_if_free-next-requires : goal.take_if_free-next-requires
+take_if_free-next-requires g c =
+    let (s, u, v, at) = c.requires.used in
+    let counts = c.free_length.ensures.counts in
+    let list = IsFreeTable-counted c.args.memory.now c.free_length.new.memory (counts.start ∙ c.load.ensures.start) (counts.bytes ∙ c.load.ensures.bytes) (IsFreeTable-free v) in
+    (search rules, (c.requires.parameters, (s.free, list, marked g (goal.at.take_if_free-next-requires g c).After-free_length v u at)))
+
+-- and once it was taken out
+out : (g : given.Over) (c : After-take_if_free-next g) {s : State} (v : StandsFor g.row.FLLEN g.row.SLLEN (contents c.args.memory.now c.args.table.now) s) (u : Used)
+    → IsUsedAt s u c.args.block c.args.payload c.args.layout.align
+    → IsOut g.row.FLLEN g.row.SLLEN c.args.memory.now c.take_if_free-next.new.memory c.take_if_free-next.new.table s.free (end_of u.block) c.take_if_free-next.result
+out g c {s} v u at =
+    let counts = c.free_length.ensures.counts in
+    let start = counts.start ∙ c.load.ensures.start in
+    let bytes = counts.bytes ∙ c.load.ensures.bytes in
+    let list = IsFreeTable-counted c.args.memory.now c.free_length.new.memory start bytes (IsFreeTable-free v) in
+    IsOut-end v u at c.load.ensures.word start bytes (c.take_if_free-next.ensures.step s.free list (IsMarked-loaded_end v u at c.load.ensures.word start bytes))
+
+pub overflow_add-len-2 : goal.overflow_add-len-2
+overflow_add-len-2 g c =
+    let (s, u, v, at) = c.requires.used in
+    let gone = out g (goal.at.overflow_add-len-2 g c).After-take_if_free-next v u at in
+    record { fits = omega (arith, gone.end, end_is v u at c.load.ensures.word, span_in_memory v u at.is_used, v.well_formed.addressable) }
+
+pub occupy-requires : goal.occupy-requires
+occupy-requires g c =
+    let (s, u, v, at) = c.requires.used in
+    let here = goal.at.occupy-requires g c in
+    let size = c.args.layout.size in
+    let gone = out g here.After-take_if_free-next v u at in
+    let taken = taken_is g here.After-next_multiple_of-taken v u at in
+    let ends = reached g here.After-free_length v u at in
+    let end = end_is v u at c.load.ensures.word in
+    let parts = IsTaken-len v u at size in
+    let start = at.start in
+    let long : (span_of s u).len ≡ c.load.result - 1 + c.take_if_free-next.result = omega (arith, span_len v u at.is_used gone) in
+    let inner = IsInnerRoom-span v u at.is_used gone in
+    let whole : c.next_multiple_of-taken.result % 32 ≡ 0 = omega (arith, parts.0) in
+    let some : 0 < c.next_multiple_of-taken.result = omega (arith, parts.1) in
+    (search rules, (c.requires.parameters, ((staying s u, span_of s u, at.start, long, inner), (whole, some, omega (arith, gone.end, c.if-taken-len-2.false)))))
+
+pub returns-clause-done : goal.returns-clause-done
+returns-clause-done g c = λ s u v at yes.
+    let here = goal.at.returns-clause-done g c in
+    let size = c.args.layout.size in
+    let gone = out g here.After-take_if_free-next v u at in
+    let taken = taken_is g here.After-next_multiple_of-taken v u at in
+    let ends = reached g here.After-free_length v u at in
+    let end = end_is v u at c.load.ensures.word in
+    let start = at.start in
+    let words = c.occupy.ensures.step (staying s u) (span_of s u) at.start (omega (arith, span_len v u at.is_used gone)) (IsInnerRoom-span v u at.is_used gone) in
+    let front : range_at c.args.block c.next_multiple_of-taken.result ≡ resized u size = ap₂ (λ b l. range_at b l) (sym at.start) taken in
+    let occupied = subst (λ q. IsOccupied g.row.FLLEN g.row.SLLEN c.take_if_free-next.new.memory c.occupy.new.memory c.occupy.new.table (staying s u) (span_of s u) q) front words in
+    let fits : end_of (resized u size) ≤ reach s u = omega (arith, c.if-taken-len-2.false) in
+    let other : end_of (resized u size) ≢ end_of u.block = omega (arith, c.if-taken-len.false) in
+    (stretched s u size, or_else-stretched s u size v.well_formed at.is_used other (reach-le v u at.is_used) fits, at.caller, IsCarriedOut-stretched v u at.is_used size fits gone occupied)
+
+pub returns-clause-place : goal.returns-clause-place
+returns-clause-place g c =
+    let (s, u, v, at) = c.requires.used in
+    let gone = out g (goal.at.returns-clause-place g c).After-take_if_free-next v u at in
+    let end = end_is v u at c.load.ensures.word in
+    let start = at.start in
+    let words = c.occupy.ensures.step (staying s u) (span_of s u) at.start (omega (arith, span_len v u at.is_used gone)) (IsInnerRoom-span v u at.is_used gone) in
+    (words.rewrites.start ∙ gone.rewrites.start, words.rewrites.length ∙ gone.rewrites.length)

@@ -1,0 +1,49 @@
+//! A used block gets another size, where it stands if that can be.
+
+ghost use Rattle.std.specs.Prelude.{◌≡◌, ◌+◌, ◌≤◌, ℕ, Some, IfNone};
+ghost use Rattle.rlsf_base.specs.SizeClass.{IsValid};
+ghost use Rattle.rlsf_base.specs.Space.{SamePlace};
+ghost use Rattle.rlsf_machine.specs.Reallocate.{Plan, ReallocatesBy, in_place, into_next, or_else, plan};
+ghost use Rattle.rlsf_machine.specs.State.{State, Used, usable};
+ghost use Rattle.rlsf_blocks.specs.Spare.{KeepsSpare};
+ghost use Rattle.rlsf_blocks.specs.StandsFor.{contents, StandsFor};
+ghost use Rattle.rlsf_resize.specs.Steps.Resize.{IsUsedAt};
+
+use crate::elsewhere::move_elsewhere;
+use crate::previous::move_into_previous;
+use crate::resize::resize;
+use rlsf_base::memory::{Layout, Memory};
+use rlsf_int::Bitmap;
+use rlsf_table::ClassTable;
+
+/// Gives the payload at `payload`, in the used block at `block`, the layout's size: where it stands, else in the free
+/// block before it, else elsewhere. Answers its address, or `None` exactly where the allocation is refused, and then
+/// nothing changes.
+// It has four cases: apart from the calls that are short, it lets the compiler keep where the memory is in registers there.
+#[inline(never)]
+pub fn reallocate_block<FLBitmap: Bitmap, SLBitmap: Bitmap, const FLLEN: usize, const SLLEN: usize>(
+    memory: &mut Memory,
+    table: &mut ClassTable<FLBitmap, SLBitmap, FLLEN, SLLEN>,
+    block: usize,
+    payload: usize,
+    layout: Layout,
+) -> Option<usize>
+    requires parameters { IsValid FLBitmap.width SLBitmap.width FLLEN SLLEN }
+    requires used { (s : State) × (u : Used) × StandsFor FLLEN SLLEN (contents memory.old table.old) s × IsUsedAt s u block payload layout.align }
+    ensures step { (s : State) (u : Used) → StandsFor FLLEN SLLEN (contents memory.old table.old) s → IsUsedAt s u block payload layout.align
+        → (t : State) × ReallocatesBy SLLEN s u layout.size (plan s u layout.size) result t × StandsFor FLLEN SLLEN (contents memory.new table.new) t × KeepsSpare memory.old s memory.new t }
+    ensures refused { IfNone result (memory.new.bytes ≡ memory.old.bytes) }
+    ensures place { SamePlace memory.old memory.new }
+    ensures touches { memory.new.touches ≤ memory.old.touches + 65 }
+    ensures copied { (s : State) (u : Used) → StandsFor FLLEN SLLEN (contents memory.old table.old) s → IsUsedAt s u block payload layout.align → memory.new.copied ≤ memory.old.copied + (usable u).len }
+    ensures stays { (s : State) (u : Used) (p : Plan) → StandsFor FLLEN SLLEN (contents memory.old table.old) s → IsUsedAt s u block payload layout.align
+        → or_else (in_place s u layout.size) (into_next s u layout.size) ≡ Some p → memory.new.copied ≡ memory.old.copied }
+{
+    if resize(memory, table, block, payload, layout) {
+        return Some(payload);
+    }
+    if let Some(moved) = move_into_previous(memory, table, block, payload, layout) {
+        return Some(moved);
+    }
+    move_elsewhere(memory, table, block, payload, layout)
+}

@@ -1,0 +1,59 @@
+//! A payload moves into a block that is allocated for it.
+
+ghost use Rattle.std.specs.Prelude.{◌≡◌, ◌+◌, ◌≤◌, ℕ, None, MatchOption, IfNone};
+ghost use Rattle.rlsf_base.specs.SizeClass.{IsValid};
+ghost use Rattle.rlsf_base.specs.Space.{SamePlace};
+ghost use Rattle.rlsf_machine.specs.Allocate.{Allocates};
+ghost use Rattle.rlsf_machine.specs.Reallocate.{in_place, MovesAway};
+ghost use Rattle.rlsf_machine.specs.State.{State, Used, usable};
+ghost use Rattle.rlsf_blocks.specs.Spare.{KeepsSpare};
+ghost use Rattle.rlsf_blocks.specs.StandsFor.{contents, StandsFor};
+ghost use Rattle.rlsf_table.specs.Counts.{Counts};
+ghost use Rattle.rlsf_resize.specs.Steps.Resize.{IsUsedAt};
+
+use rlsf_base::classes::request_size;
+use rlsf_base::memory::{Layout, Memory, Range};
+use rlsf_blocks::{deallocate_block, place};
+use rlsf_int::Bitmap;
+use rlsf_table::{ClassTable, first_fit};
+
+/// Allocates a payload for the layout, moves the bytes of the payload at `payload` there, whose used block is at
+/// `block`, and gives the old block back. Answers the new address, or `None` exactly where an allocation is refused, and then nothing
+/// changes.
+///
+/// The old block is too short for the layout.
+pub(crate) fn move_elsewhere<
+    FLBitmap: Bitmap,
+    SLBitmap: Bitmap,
+    const FLLEN: usize,
+    const SLLEN: usize,
+>(
+    memory: &mut Memory,
+    table: &mut ClassTable<FLBitmap, SLBitmap, FLLEN, SLLEN>,
+    block: usize,
+    payload: usize,
+    layout: Layout,
+) -> Option<usize>
+    requires parameters { IsValid FLBitmap.width SLBitmap.width FLLEN SLLEN }
+    requires used { (s : State) × (u : Used) × StandsFor FLLEN SLLEN (contents memory.old table.old) s × IsUsedAt s u block payload layout.align × (in_place s u layout.size ≡ None) }
+    ensures step { (s : State) (u : Used) → StandsFor FLLEN SLLEN (contents memory.old table.old) s → IsUsedAt s u block payload layout.align → in_place s u layout.size ≡ None
+        → MatchOption result (Allocates SLLEN s layout.size u.align None s) (λ addr. (t : State) × MovesAway SLLEN s u layout.size addr t
+        × StandsFor FLLEN SLLEN (contents memory.new table.new) t × KeepsSpare memory.old s memory.new t) }
+    ensures unchanged { IfNone result (Counts memory.old memory.new 5 × (table.new ≡ table.old)) }
+    ensures place { SamePlace memory.old memory.new }
+    ensures touches { memory.new.touches ≤ memory.old.touches + 59 }
+    ensures copied { (s : State) (u : Used) → StandsFor FLLEN SLLEN (contents memory.old table.old) s → IsUsedAt s u block payload layout.align → memory.new.copied ≤ memory.old.copied + (usable u).len }
+{
+    let end = block + (memory.load(block) as usize - 1);
+    let (free, class) = first_fit(memory, table, request_size(layout))?;
+    let moved = place(memory, table, free, class, layout);
+    memory.copy_within(
+        Range {
+            start: payload,
+            len: end - payload,
+        },
+        moved,
+    );
+    deallocate_block(memory, table, block);
+    Some(moved)
+}

@@ -1,0 +1,74 @@
+//! Appends: ranges that are handed in behind a chunk.
+
+ghost use Rattle.std.specs.Prelude.{◌≡◌, ◌+◌, ◌*◌, ◌≤◌, ℕ, length};
+ghost use Rattle.rlsf_base.specs.declared.memory.range.Range.{Range};
+ghost use Rattle.rlsf_base.specs.Range.{end_of};
+ghost use Rattle.rlsf_base.specs.SizeClass.{IsValid};
+ghost use Rattle.rlsf_base.specs.Sizes.{max_pool_size};
+ghost use Rattle.rlsf_base.specs.Space.{range_of, SamePlace};
+ghost use Rattle.rlsf_machine.specs.Insert.{Appends, IsNext, aligned_part, cut, grown};
+ghost use Rattle.rlsf_machine.specs.State.{State};
+ghost use Rattle.rlsf_blocks.specs.Spare.{KeepsSpare};
+ghost use Rattle.rlsf_blocks.specs.StandsFor.{contents, StandsFor};
+ghost use Rattle.rlsf_resize.specs.Steps.Extension.{IsExtensible};
+
+use rlsf_base::classes;
+use rlsf_base::memory::{Memory, Range};
+use rlsf_blocks::{GRANULARITY, SENTINEL, deallocate_block, insert};
+use rlsf_int::Bitmap;
+use rlsf_table::ClassTable;
+
+/// Makes the chunk that ends at `end` longer by `len` bytes. Its old sentinel and the new bytes but those of a new
+/// sentinel become free: joined with a free block before them, they are the newest free block.
+fn extend_chunk<FLBitmap: Bitmap, SLBitmap: Bitmap, const FLLEN: usize, const SLLEN: usize>(
+    memory: &mut Memory,
+    table: &mut ClassTable<FLBitmap, SLBitmap, FLLEN, SLLEN>,
+    end: usize,
+    len: usize,
+)
+    requires parameters { IsValid FLBitmap.width SLBitmap.width FLLEN SLLEN }
+    requires extensible { (s : State) × (c : Range) × StandsFor FLLEN SLLEN (contents memory.old table.old) s × IsExtensible FLLEN (range_of memory.old) s c len × (end_of c ≡ end) }
+    ensures step { (s : State) (c : Range) → StandsFor FLLEN SLLEN (contents memory.old table.old) s → IsExtensible FLLEN (range_of memory.old) s c len → end_of c ≡ end
+        → StandsFor FLLEN SLLEN (contents memory.new table.new) (grown c len s) × KeepsSpare memory.old s memory.new (grown c len s) }
+    ensures place { SamePlace memory.old memory.new }
+    ensures touches { memory.new.touches ≤ memory.old.touches + 34 }
+    ensures copied { memory.new.copied ≡ memory.old.copied }
+{
+    // The word that names the block before the old sentinel stays: it names the one before the new block.
+    let block = end - GRANULARITY;
+    let sentinel = block + len;
+    memory.set_word(block, len as u64 + 1);
+    memory.set_word(sentinel, SENTINEL);
+    memory.set_word(sentinel + 8, block as u64);
+    deallocate_block(memory, table, block);
+}
+
+/// Hands in a range that begins where a chunk ends. Where chunks have a greatest length, the range becomes chunks of its
+/// own; else the chunk grows by the range's length rounded down to a multiple of 32. Answers how many bytes are taken.
+pub fn append<FLBitmap: Bitmap, SLBitmap: Bitmap, const FLLEN: usize, const SLLEN: usize>(
+    memory: &mut Memory,
+    table: &mut ClassTable<FLBitmap, SLBitmap, FLLEN, SLLEN>,
+    range: Range,
+) -> usize
+    requires parameters { IsValid FLBitmap.width SLBitmap.width FLLEN SLLEN }
+    requires next { (s : State) × StandsFor FLLEN SLLEN (contents memory.old table.old) s × IsNext (range_of memory.old) s range }
+    ensures step { (s : State) → StandsFor FLLEN SLLEN (contents memory.old table.old) s → IsNext (range_of memory.old) s range
+        → (t : State) × Appends FLLEN s range result t × StandsFor FLLEN SLLEN (contents memory.new table.new) t × KeepsSpare memory.old s memory.new t }
+    ensures unchanged { result ≡ 0 → memory.new.bytes ≡ memory.old.bytes }
+    ensures place { SamePlace memory.old memory.new }
+    ensures touches { memory.new.touches ≤ memory.old.touches + 34 + 13 * length (cut (max_pool_size FLLEN) (aligned_part range)) }
+    ensures copied { memory.new.copied ≡ memory.old.copied }
+{
+    if classes::max_pool_size::<FLBitmap, SLBitmap, FLLEN, SLLEN>().is_some() {
+        return match insert(memory, table, range) {
+            Some(taken) => taken.get(),
+            None => 0,
+        };
+    }
+    let len = range.len / GRANULARITY * GRANULARITY;
+    if len == 0 {
+        return 0;
+    }
+    extend_chunk(memory, table, range.start, len);
+    len
+}

@@ -1,0 +1,110 @@
+//! A payload moves into the free block before its own.
+
+ghost use Rattle.std.specs.Prelude.{◌≡◌, ◌+◌, ◌≤◌, ℕ, Some, None, find, IfNone, IfSome, MatchOption};
+ghost use Rattle.rlsf_base.specs.SizeClass.{IsValid};
+ghost use Rattle.rlsf_base.specs.Space.{SamePlace};
+ghost use Rattle.rlsf_machine.specs.Join.{ends_at, start_or};
+ghost use Rattle.rlsf_machine.specs.Lists.{IsIn};
+ghost use Rattle.rlsf_machine.specs.Reallocate.{Plan, in_place, into_previous};
+ghost use Rattle.rlsf_machine.specs.State.{State, Used, usable};
+ghost use Rattle.rlsf_blocks.specs.StandsFor.{contents, StandsFor};
+ghost use Rattle.rlsf_table.specs.Counts.{Counts};
+ghost use Rattle.rlsf_resize.specs.Steps.Previous.{FitsBefore, IsBlock};
+ghost use Rattle.rlsf_resize.specs.Steps.Resize.{IsCarriedOut, IsUsedAt};
+ghost use Rattle.rlsf_table.specs.Table.{Table};
+
+use crate::resize::{free_length, occupy};
+use rlsf_base::memory::{Layout, Memory, Range};
+use rlsf_blocks::{GRANULARITY, HEADER, take_if_free, take_previous};
+use rlsf_int::Bitmap;
+use rlsf_table::ClassTable;
+
+/// Where the free block before the used one at `block` begins, or `block` where none is before it.
+fn start_before(memory: &mut Memory, block: usize) -> usize
+    requires { (fllen : ℕ) × (sllen : ℕ) × (t : Table) × (s : State) × (u : Used) × StandsFor fllen sllen (contents memory.old t) s × IsIn u s.used × (u.block.start ≡ block) }
+    ensures start { (fllen sllen : ℕ) (t : Table) (s : State) (u : Used) → StandsFor fllen sllen (contents memory.old t) s → IsIn u s.used → u.block.start ≡ block → result ≡ start_or block (find (ends_at block) s.free) }
+    ensures counts { Counts memory.old memory.new 2 }
+{
+    let previous = memory.load(block + 8) as usize;
+    if previous == 0 {
+        block
+    } else {
+        block - free_length(memory, previous)
+    }
+}
+
+/// Where the payload for the layout would lie, and how many bytes its block would take, if the used block from `block` to
+/// `end` began where the free block before it does. `None` if no free block is before it, or if the bytes of both and those
+/// of a free block behind it don't suffice.
+fn place_before(
+    memory: &mut Memory,
+    block: usize,
+    end: usize,
+    layout: Layout,
+) -> Option<(usize, usize)>
+    requires { (fllen : ℕ) × (sllen : ℕ) × (t : Table) × (s : State) × (u : Used) × StandsFor fllen sllen (contents memory.old t) s × IsBlock s u block end layout.align }
+    ensures place { (fllen sllen : ℕ) (t : Table) (s : State) (u : Used) → StandsFor fllen sllen (contents memory.old t) s → IsBlock s u block end layout.align
+        → MatchOption result (into_previous s u layout.size ≡ None) (λ place. FitsBefore s u layout.size place.0 place.1) }
+    ensures counts { Counts memory.old memory.new 3 }
+{
+    let start = start_before(memory, block);
+    if start == block {
+        return None;
+    }
+    let payload = (start + HEADER).next_multiple_of(layout.align());
+    let taken = (payload - start + layout.size()).next_multiple_of(GRANULARITY);
+    let room = end - start + free_length(memory, end);
+    if taken > room {
+        return None;
+    }
+    Some((payload, taken))
+}
+
+/// Moves the payload at `payload`, in the used block at `block`, into the free block before it, if that and the block's own bytes
+/// and those of a free block behind it suffice for the layout. Answers the payload's new address. What is left becomes a
+/// free block; all bytes of the payload are kept.
+///
+/// The block is too short for the layout where it stands.
+pub(crate) fn move_into_previous<
+    FLBitmap: Bitmap,
+    SLBitmap: Bitmap,
+    const FLLEN: usize,
+    const SLLEN: usize,
+>(
+    memory: &mut Memory,
+    table: &mut ClassTable<FLBitmap, SLBitmap, FLLEN, SLLEN>,
+    block: usize,
+    payload: usize,
+    layout: Layout,
+) -> Option<usize>
+    requires parameters { IsValid FLBitmap.width SLBitmap.width FLLEN SLLEN }
+    requires used { (s : State) × (u : Used) × StandsFor FLLEN SLLEN (contents memory.old table.old) s × IsUsedAt s u block payload layout.align × (in_place s u layout.size ≡ None) }
+    ensures moved { (s : State) (u : Used) → StandsFor FLLEN SLLEN (contents memory.old table.old) s → IsUsedAt s u block payload layout.align → in_place s u layout.size ≡ None
+        → IfSome result (λ addr. (p : Plan) × (into_previous s u layout.size ≡ Some p) × (p.payload ≡ addr)
+        × IsCarriedOut FLLEN SLLEN (contents memory.old table.old) (contents memory.new table.new) s u p) }
+    ensures refused { (s : State) (u : Used) → StandsFor FLLEN SLLEN (contents memory.old table.old) s → IsUsedAt s u block payload layout.align → in_place s u layout.size ≡ None
+        → IfNone result (into_previous s u layout.size ≡ None) }
+    ensures unchanged { IfNone result (Counts memory.old memory.new 4 × (table.new ≡ table.old)) }
+    ensures place { SamePlace memory.old memory.new }
+    ensures touches { memory.new.touches ≤ memory.old.touches + 37 }
+    ensures copied { (s : State) (u : Used) → StandsFor FLLEN SLLEN (contents memory.old table.old) s → IsUsedAt s u block payload layout.align → memory.new.copied ≤ memory.old.copied + (usable u).len }
+{
+    let end = block + (memory.load(block) as usize - 1);
+    let (moved, taken) = place_before(memory, block, end, layout)?;
+    let start = take_previous(memory, table, block);
+    let next = take_if_free(memory, table, end);
+    // Before any header is written: the bytes may lie where one will stand.
+    memory.copy_within(
+        Range {
+            start: payload,
+            len: end - payload,
+        },
+        moved,
+    );
+    occupy(memory, table, start, end - start + next, taken);
+    let wide = layout.align() >= GRANULARITY;
+    if wide {
+        memory.set_word(moved - 8, start as u64);
+    }
+    Some(moved)
+}

@@ -1,0 +1,93 @@
+//! A used block gets another size where it stands.
+
+ghost use Rattle.std.specs.Prelude.{◌≡◌, ◌+◌, ◌%◌, ◌≤◌, ◌<◌, ℕ, List, Some, None, find, true, false};
+ghost use Rattle.rlsf_base.specs.declared.memory.range.Range.{Range};
+ghost use Rattle.rlsf_base.specs.Range.{range_at};
+ghost use Rattle.rlsf_base.specs.SizeClass.{IsValid};
+ghost use Rattle.rlsf_base.specs.Space.{SamePlace};
+ghost use Rattle.rlsf_machine.specs.Join.{end_or, starts_at};
+ghost use Rattle.rlsf_machine.specs.Reallocate.{Plan, in_place, into_next, or_else};
+ghost use Rattle.rlsf_machine.specs.State.{State, Used};
+ghost use Rattle.rlsf_blocks.specs.StandsFor.{contents, StandsFor};
+ghost use Rattle.rlsf_table.specs.Counts.{Counts};
+ghost use Rattle.rlsf_table.specs.FreeTable.{IsFreeTable};
+ghost use Rattle.rlsf_blocks.specs.Steps.Join.{IsMarked};
+ghost use Rattle.rlsf_resize.specs.Steps.Resize.{IsCarriedOut, IsOccupied, IsUsedAt};
+ghost use Rattle.rlsf_blocks.specs.Steps.Rest.{IsInnerRoom};
+ghost use Rattle.rlsf_table.specs.Table.{Table};
+
+use rlsf_base::memory::{Layout, Memory};
+use rlsf_blocks::{GRANULARITY, leave_rest, take_if_free};
+use rlsf_int::Bitmap;
+use rlsf_table::ClassTable;
+
+/// The bytes of the free block at `block`, or 0 where no free block begins.
+pub(crate) fn free_length(memory: &mut Memory, block: usize) -> usize
+    requires { (fllen : ℕ) × (sllen : ℕ) × (t : Table) × (free : List Range) × IsFreeTable fllen sllen memory.old t free × IsMarked memory.old free block }
+    ensures length { (fllen sllen : ℕ) (t : Table) (free : List Range) → IsFreeTable fllen sllen memory.old t free → IsMarked memory.old free block → block + result ≡ end_or block (find (starts_at block) free) }
+    ensures counts { Counts memory.old memory.new 1 }
+{
+    let size = memory.load(block);
+    if size % 2 == 0 { size as usize } else { 0 }
+}
+
+/// Makes a used block of the first `taken` of the `total` bytes at `block`, which are no block's; a rest becomes a free
+/// block. The word that names the block before it stays, and so do the bytes of the used block behind its first 16.
+pub(crate) fn occupy<FLBitmap: Bitmap, SLBitmap: Bitmap, const FLLEN: usize, const SLLEN: usize>(
+    memory: &mut Memory,
+    table: &mut ClassTable<FLBitmap, SLBitmap, FLLEN, SLLEN>,
+    block: usize,
+    total: usize,
+    taken: usize,
+)
+    requires parameters { IsValid FLBitmap.width SLBitmap.width FLLEN SLLEN }
+    requires room { (free : List Range) × (span : Range) × (span.start ≡ block) × (span.len ≡ total) × IsInnerRoom FLLEN SLLEN memory.old table.old free span }
+    requires part { (taken % 32 ≡ 0) × (0 < taken) × (taken ≤ total) }
+    ensures step { (free : List Range) (span : Range) → span.start ≡ block → span.len ≡ total → IsInnerRoom FLLEN SLLEN memory.old table.old free span
+        → IsOccupied FLLEN SLLEN memory.old memory.new table.new free span (range_at block taken) }
+    ensures touches { memory.new.touches ≤ memory.old.touches + 13 }
+    ensures copied { memory.new.copied ≡ memory.old.copied }
+{
+    memory.set_word(block, taken as u64 + 1);
+    if taken < total {
+        leave_rest(memory, table, block, total, taken);
+    } else {
+        memory.set_word(block + total + 8, block as u64);
+    }
+}
+
+/// Gives the used block at `block` another size where it stands, if its own bytes and those of a free block behind it
+/// suffice, and answers whether they do. What is left of them becomes a free block; if nothing is left over and nothing
+/// more is taken, nothing changes.
+pub(crate) fn resize<FLBitmap: Bitmap, SLBitmap: Bitmap, const FLLEN: usize, const SLLEN: usize>(
+    memory: &mut Memory,
+    table: &mut ClassTable<FLBitmap, SLBitmap, FLLEN, SLLEN>,
+    block: usize,
+    payload: usize,
+    layout: Layout,
+) -> bool
+    requires parameters { IsValid FLBitmap.width SLBitmap.width FLLEN SLLEN }
+    requires used { (s : State) × (u : Used) × StandsFor FLLEN SLLEN (contents memory.old table.old) s × IsUsedAt s u block payload layout.align }
+    ensures done { (s : State) (u : Used) → StandsFor FLLEN SLLEN (contents memory.old table.old) s → IsUsedAt s u block payload layout.align → result ≡ true
+        → (p : Plan) × (or_else (in_place s u layout.size) (into_next s u layout.size) ≡ Some p) × (p.payload ≡ payload)
+        × IsCarriedOut FLLEN SLLEN (contents memory.old table.old) (contents memory.new table.new) s u p }
+    ensures refused { (s : State) (u : Used) → StandsFor FLLEN SLLEN (contents memory.old table.old) s → IsUsedAt s u block payload layout.align → result ≡ false
+        → or_else (in_place s u layout.size) (into_next s u layout.size) ≡ None }
+    ensures unchanged { result ≡ false → Counts memory.old memory.new 2 × (table.new ≡ table.old) }
+    ensures place { SamePlace memory.old memory.new }
+    ensures touches { memory.new.touches ≤ memory.old.touches + 24 }
+    ensures copied { memory.new.copied ≡ memory.old.copied }
+{
+    let len = memory.load(block) as usize - 1;
+    let taken = (payload - block + layout.size()).next_multiple_of(GRANULARITY);
+    if taken == len {
+        return true;
+    }
+    let end = block + len;
+    if taken > len + free_length(memory, end) {
+        return false;
+    }
+    let next = take_if_free(memory, table, end);
+    occupy(memory, table, block, len + next, taken);
+    true
+}

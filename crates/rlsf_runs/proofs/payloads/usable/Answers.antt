@@ -1,0 +1,10 @@
+use Rattle.std.proofs.Common.{refl, sym, ◌∙◌}
+use Rattle.rlsf_text.specs.declared.op.Answer.TheVariants.{Usable as Told}
+use Rattle.rlsf_text.specs.declared.op.Op.TheVariants.{Usable}
+use Rattle.rlsf_runs.proofs.NamedPayloads.{LeadsOn-nothing, owned}
+use Rattle.rlsf_runs.proofs.payloads.usable.Goals as goal
+
+pub returns-in-Some : goal.returns-in-Some
+returns-in-Some g c = λ s at.
+    let (u, owns, holds, _) = owned at c.args.name c.in-Some.payload (sym c.payload.ensures ∙ c.in-Some.is) in
+    LeadsOn-nothing at (Usable c.args.name) (Told c.allocation_usable_size.result) (u, owns, c.allocation_usable_size.ensures s.machine u at.stands holds, refl)
