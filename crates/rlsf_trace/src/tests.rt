@@ -1,5 +1,6 @@
 use super::*;
 
+mod examples;
 mod faults;
 mod replays;
 mod streams;
