@@ -8,6 +8,7 @@ ghost use Rattle.rlsf_machine.specs.State.{State, IsLive};
 ghost use Rattle.rlsf_blocks.specs.StandsFor.{StandsFor};
 
 mod appends;
+mod copies;
 mod frees;
 mod loans;
 mod reallocations;

@@ -11,9 +11,6 @@ ghost use Rattle.rlsf_base.specs.ClassLaws.{UnmappedIsEnough, UnmappedBeginsItsC
 ghost use Rattle.rlsf_base.specs.SizeClass.{SizeClass, IsValid, is_row_length, class_of, class_start, reaching_class};
 ghost use Rattle.rlsf_base.specs.Sizes as sizes;
 
-#[cfg(test)]
-mod tests;
-
 use crate::memory::Layout;
 use rlsf_int::BitPattern;
 

@@ -12,8 +12,6 @@ pub(crate) mod block;
 pub(crate) mod counters;
 mod layout;
 mod range;
-#[cfg(test)]
-mod tests;
 pub(crate) mod zeroed;
 
 use block::{Base, Bytes, Deed};

@@ -5,3 +5,4 @@ pub mod FreeBlocks
 pub mod Neighbours
 pub mod Readers
 pub mod SpareBytes
+pub mod SpareWords

@@ -4,7 +4,5 @@
 mod impls;
 mod int;
 mod private;
-#[cfg(test)]
-mod tests;
 
 pub use int::{BinInteger, BitPattern, Bitmap};

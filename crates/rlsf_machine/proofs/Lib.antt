@@ -1,6 +1,7 @@
 -- The laws of the list machine, proved.
 pub mod Allocations
 pub mod Appends
+pub mod Callers
 pub mod Changes
 pub mod ChunkRows
 pub mod Chunks

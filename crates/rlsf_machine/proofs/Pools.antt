@@ -3,14 +3,18 @@ use mathlib.Core.Path.{ap₂}
 use Rattle.std.proofs.Common.{◌≡◌, ℕ, ◌+◌, ◌-◌, ◌%◌, ◌<◌, ◌≤◌, Option, Some, None, [], ◌∷◌, arith, refl, sym, ◌∙◌, ap, subst, inl}
 use Rattle.rlsf_base.specs.Range.{range_at}
 use Rattle.rlsf_base.specs.Sizes.{max_pool_size, request_size}
+use Rattle.rlsf_base.specs.SizeClass.{class_of}
+use Rattle.rlsf_base.proofs.SizeClasses.Order.{IsAtMost-class_of, Reaches-IsAtMost}
+use Rattle.rlsf_base.proofs.SizeClasses.Reach.{division-lt}
 use Rattle.rlsf_base.proofs.SizeMaps.Laws.{pool_contains_its_allocation, pool_is_one_chunk}
 use Rattle.rlsf_machine.specs.Allocate.{Allocates}
 use Rattle.rlsf_machine.specs.Insert.{aligned_part, body, cut, with_chunks}
-use Rattle.rlsf_machine.specs.Laws.{first_length, PoolHasRoom}
+use Rattle.rlsf_machine.specs.Laws.{first_length, IdleChunkHasRoom, PoolHasRoom}
 use Rattle.rlsf_machine.specs.Lists.{IsIn}
 use Rattle.rlsf_machine.specs.State.{State}
 use Rattle.rlsf_machine.proofs.Choices.{choice-none}
 use Rattle.rlsf_machine.proofs.Cuts.{chunks_are_cut_off_the_front}
+use Rattle.rlsf_machine.proofs.Room.{idle_chunk_is_one_range}
 
 -- a range of whole units at a whole unit is its own aligned part
 aligned_part-whole : (at e : ℕ) → at % 32 ≡ 0 → e % 32 ≡ 0 → aligned_part (range_at at e) ≡ range_at at e
@@ -43,3 +47,13 @@ pool_has_room fl_bits sl_bits fllen sllen size align e at s t u taken reply vali
     let free : t.free ≡ body pool ∷ s.free = ap (λ (x : State). x.free) (inserted.after ∙ ap (λ cs. with_chunks cs s) one) in
     let refused : Allocates sllen t size align None u = subst (λ r. Allocates sllen t size align r u) none allocated in
     choice-none sllen (request_size size align) t.free refused.0 (body pool) (subst (IsIn (body pool)) (sym free) (inl refl)) reached
+
+pub idle_chunk_has_room : IdleChunkHasRoom
+idle_chunk_has_room fl_bits sl_bits fllen sllen size align e memory s t c reply valid w told idle is_chunk long allocated none =
+    let (room, e_is, class, reached) = pool_contains_its_allocation fl_bits sl_bits fllen sllen size align e valid told in
+    let some = w.row_length in
+    let less : 0 < e - 32 = omega (arith, room) in
+    let order : e - 32 ≤ (body c).len = omega (arith, long) in
+    let longer = Reaches-IsAtMost sllen (class_of sllen (e - 32)) (class_of sllen (body c).len) (request_size size align) (division-lt sllen (e - 32) less some) (IsAtMost-class_of sllen (e - 32) (body c).len some less order) reached in
+    let refused : Allocates sllen s size align None t = subst (λ r. Allocates sllen s size align r t) none allocated in
+    choice-none sllen (request_size size align) s.free refused.0 (body c) (idle_chunk_is_one_range fllen sllen memory s c w idle is_chunk).0 longer

@@ -6,6 +6,7 @@ use Rattle.rlsf_base.specs.Range.{end_of, range_at}
 use Rattle.rlsf_base.specs.SizeClass.{class_of, IsAtMost, IsValid, Reaches}
 use Rattle.rlsf_base.specs.Sizes.{max_pool_size, pool_size_to_contain_allocation, request_size}
 use Rattle.rlsf_machine.specs.Allocate.{choice, has_class, Allocates}
+use Rattle.rlsf_machine.specs.Callers.{Payload, payload_in, payload_at, Changes}
 use Rattle.rlsf_machine.specs.Insert.{body, cut, Inserts}
 use Rattle.rlsf_machine.specs.Lists.{IsIn, without}
 use Rattle.rlsf_machine.specs.Reallocate.{Keeps, Reallocates}
@@ -217,3 +218,19 @@ abbrev pub ReallocationKeepsBytes : Type 0
 ReallocationKeepsBytes = (fllen sllen : ℕ) (memory : Range) (s t : State) (addr size to : ℕ) (u : Used) → IsWellFormed fllen sllen memory s → Holds s addr u
     → Reallocates sllen s addr size (Some to) t
     → (v : Used) × Holds t to v × (v.align ≡ u.align) × Keeps u.bytes v.bytes × (size ≤ (usable v).len) × ((usable v).len < size + 32)
+
+-- what is at an address is the payload of the used block whose caller has the address
+abbrev pub PayloadIsInBlock : Type 0
+PayloadIsInBlock = (fllen sllen : ℕ) (memory : Range) (s : State) (addr : ℕ) (p : Payload) → IsWellFormed fllen sllen memory s
+    → (payload_at s addr ≡ Some p) ↔ ((u : Used) × Holds s addr u × (payload_in u ≡ p))
+
+-- to its callers the machine is a map from addresses to payloads: each step changes it as the call and its reply say
+abbrev pub CallersSeeMap : Type 0
+CallersSeeMap = (fllen sllen : ℕ) (memory : Range) (s t : State) (e : Event) → IsWellFormed fllen sllen memory s → MayCall memory s e
+    → Leads fllen sllen s e t → Changes (payload_at s) e (payload_at t)
+
+-- with nothing live, a chunk of the pool size that is computed for an allocation makes it succeed
+abbrev pub IdleChunkHasRoom : Type 0
+IdleChunkHasRoom = (fl_bits sl_bits fllen sllen size align e : ℕ) (memory : Range) (s t : State) (c : Range) (reply : Option ℕ) → IsValid fl_bits sl_bits fllen sllen
+    → IsWellFormed fllen sllen memory s → pool_size_to_contain_allocation fllen sllen size align ≡ Some e → s.used ≡ [] → IsIn c s.chunks → e ≤ c.len
+    → Allocates sllen s size align reply t → reply ≢ None

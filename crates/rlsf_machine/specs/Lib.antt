@@ -2,6 +2,7 @@
 -- It knows the chunks of memory that were handed to it, the blocks that are in use, and one list of the
 -- ranges that are free, the newest first. All arithmetic is that of whole numbers without bound.
 pub mod Allocate
+pub mod Callers
 pub mod ChunkRows
 pub mod Insert
 pub mod Join

@@ -3,10 +3,10 @@
 //! It knows the chunks of memory that were handed to it, the blocks that are in use, and one list of the ranges that
 //! are free, the newest first; nothing of how a program keeps them. Read `specs/` in this order: `Lists` (two words),
 //! `State`, `Payload`, `WellFormed`, `Join`, `Insert` (and append), `Allocate`, `Release`, `Reallocate`, `Run` (lists of
-//! calls), `Laws`. Each step is a relation between the state before, the call, the reply and the state after.
+//! calls), `Callers` (what these see of it), `Laws`. Each step is a relation between the state before, the call, the reply and the state after.
 #![tactic(auto)]
 
-ghost use Rattle.rlsf_machine.specs.Laws.{EmptyIsWellFormed, StepsKeepWellFormed, RunsKeepWellFormed, StepsAreDetermined, OrderMeansNothing, RefusalChangesNothing, ChunksAreCutOffTheFront, LiveAddressesAreAligned, LiveAddressHasOneBlock, PayloadsAreDisjoint, PayloadLiesInOneChunk, AllocationHasSize, ReallocationHasSize, RoomIsFound, PoolHasRoom, AllocationAnswers, RefusedWithoutReach, ChoiceIsFirstOfLeast, IdleChunkIsOneRange, ChunksStay, OtherPayloadsStay, HandedOutIsNew, ReallocatedIsLive, LiveStays, ReleasedIsNotLive, FilledHasBytes, FillLeavesOthers, DeallocationLeavesOthers, InsertedChunksLieInRange, UsedWasUsed, SimilarStatesAgree, EachCallAnswers, ReallocationKeepsBytes};
+ghost use Rattle.rlsf_machine.specs.Laws.{EmptyIsWellFormed, StepsKeepWellFormed, RunsKeepWellFormed, StepsAreDetermined, OrderMeansNothing, RefusalChangesNothing, ChunksAreCutOffTheFront, LiveAddressesAreAligned, LiveAddressHasOneBlock, PayloadsAreDisjoint, PayloadLiesInOneChunk, AllocationHasSize, ReallocationHasSize, RoomIsFound, PoolHasRoom, AllocationAnswers, RefusedWithoutReach, ChoiceIsFirstOfLeast, IdleChunkIsOneRange, ChunksStay, OtherPayloadsStay, HandedOutIsNew, ReallocatedIsLive, LiveStays, ReleasedIsNotLive, FilledHasBytes, FillLeavesOthers, DeallocationLeavesOthers, InsertedChunksLieInRange, UsedWasUsed, SimilarStatesAgree, EachCallAnswers, ReallocationKeepsBytes, PayloadIsInBlock, CallersSeeMap, IdleChunkHasRoom};
 
 /// Does nothing. Its contract states the laws of the machine, so that a check proves them.
 ///
@@ -23,7 +23,9 @@ ghost use Rattle.rlsf_machine.specs.Laws.{EmptyIsWellFormed, StepsKeepWellFormed
 /// makes lies in the range that was handed in. What a step names neither in its call nor in its reply, and is used
 /// after it, was used before with the same bytes. States that are alike but for bytes and for the order of chunks
 /// and of used blocks give the same reply to the same call, and stay so alike. Each call that its caller may make
-/// has a reply. A payload that gets another size keeps the bytes that both sizes have.
+/// has a reply. A payload that gets another size keeps the bytes that both sizes have. To its callers the machine is a
+/// map from addresses to payloads, which each step changes as its call and its reply say. With nothing live, a chunk of
+/// the pool size that is computed for an allocation makes it succeed.
 pub fn laws()
     ensures empty { EmptyIsWellFormed }
     ensures steps { StepsKeepWellFormed }
@@ -58,4 +60,7 @@ pub fn laws()
     ensures similar { SimilarStatesAgree }
     ensures each_call { EachCallAnswers }
     ensures kept_bytes { ReallocationKeepsBytes }
+    ensures in_block { PayloadIsInBlock }
+    ensures callers { CallersSeeMap }
+    ensures idle_room { IdleChunkHasRoom }
 {}

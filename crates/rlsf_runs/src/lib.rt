@@ -4,8 +4,6 @@
 mod payloads;
 mod runs;
 mod tables;
-#[cfg(test)]
-mod tests;
 mod walks;
 
 pub use runs::{RunError, run};

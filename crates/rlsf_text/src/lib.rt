@@ -10,8 +10,6 @@ mod op;
 mod parse;
 mod printing;
 mod reading;
-#[cfg(test)]
-mod tests;
 mod words;
 
 pub use configuration::Configuration;

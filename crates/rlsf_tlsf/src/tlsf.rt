@@ -1,25 +1,25 @@
 //! The allocator over pools that its caller hands in.
 
 ghost use Rattle.std.specs.Borrow.{sem};
-ghost use Rattle.std.specs.Prelude.{◌≡◌, ◌≤◌, ◌<◌, ◌+◌, ◌*◌, ℕ, List, Option, Some, length, IfNone, IfSome};
+ghost use Rattle.std.specs.Prelude.{◌≡◌, ◌≤◌, ◌<◌, ◌+◌, ◌*◌, ℕ, List, [], Option, Some, length, IfNone, IfSome};
 ghost use Rattle.std.specs.Int.NonZero.{non_zero_usize_get};
 ghost use Rattle.std.specs.List.{list_any};
 ghost use Rattle.std.specs.Map.Iter.{GivesInOrder};
 ghost use Rattle.std.specs.Option.{option_map};
 ghost use Rattle.rlsf_base.specs.SizeClass.{IsValid};
 ghost use Rattle.rlsf_base.specs.Sizes.{max_pool_size};
-ghost use Rattle.rlsf_base.specs.Space.{bytes_in, range_of, SamePlace};
+ghost use Rattle.rlsf_base.specs.Space.{bytes_in, range_of, with_word, SamePlace};
 ghost use Rattle.rlsf_int.specs.Bits.{bit};
 ghost use Rattle.rlsf_machine.specs.Allocate.{Allocates, has_class};
 ghost use Rattle.rlsf_machine.specs.ChunkRows.{IsRow};
 ghost use Rattle.rlsf_machine.specs.Insert.{Appends, Inserts, IsFresh, IsNext, aligned_part, cut};
 ghost use Rattle.rlsf_machine.specs.Reallocate.{Plan, Reallocates, in_place, into_next, or_else};
 ghost use Rattle.rlsf_machine.specs.Release.{Deallocates};
-ghost use Rattle.rlsf_machine.specs.Run.{IsSomeLive};
-ghost use Rattle.rlsf_machine.specs.State.{State, Used, empty, usable, Holds, IsLive};
+ghost use Rattle.rlsf_machine.specs.Run.{Fills, IsSomeLive};
+ghost use Rattle.rlsf_machine.specs.State.{State, Used, empty, usable, with_front, HasFront, Holds, IsLive, IsPlaced};
 ghost use Rattle.rlsf_table.specs.Table.{class_at, is_in_row, newest_of, of_class};
 ghost use Rattle.rlsf_blocks.specs.Blocks.{AreBlocks, walked};
-ghost use Rattle.rlsf_blocks.specs.Spare.{KeepsSpare};
+ghost use Rattle.rlsf_blocks.specs.Spare.{IsSpareWord, KeepsSpare};
 ghost use Rattle.rlsf_blocks.specs.StandsFor.{StandsFor};
 
 use rlsf_base::classes::request_size;
@@ -118,6 +118,7 @@ impl<FLBitmap: Bitmap, SLBitmap: Bitmap, const FLLEN: usize, const SLLEN: usize>
         requires { (s : State) × StandsFor FLLEN SLLEN self.old s × IsFresh (range_of self.old.memory) s range }
         ensures step { (s : State) → StandsFor FLLEN SLLEN self.old s → IsFresh (range_of self.old.memory) s range
             → (reply : Option ℕ) × (t : State) × Inserts FLLEN s range reply t × StandsFor FLLEN SLLEN self.new t × KeepsSpare self.old.memory s self.new.memory t }
+        ensures unchanged { cut (max_pool_size FLLEN) (aligned_part range) ≡ [] → self.new.memory.bytes ≡ self.old.memory.bytes }
         ensures place { SamePlace self.old.memory self.new.memory }
         ensures touches { self.new.memory.touches ≤ self.old.memory.touches + 13 * length (cut (max_pool_size FLLEN) (aligned_part range)) }
         ensures copied { self.new.memory.copied ≡ self.old.memory.copied }
@@ -152,6 +153,7 @@ impl<FLBitmap: Bitmap, SLBitmap: Bitmap, const FLLEN: usize, const SLLEN: usize>
         ensures step { (s : State) → StandsFor FLLEN SLLEN self.old s
             → (t : State) × Allocates SLLEN s layout.size layout.align (option_map non_zero_usize_get result) t × StandsFor FLLEN SLLEN self.new t × KeepsSpare self.old.memory s self.new.memory t }
         ensures placed { IfSome result (λ addr. (t : State) × StandsFor FLLEN SLLEN self.new t × IsLive t (non_zero_usize_get addr) layout.align) }
+        ensures sized { IfSome result (λ addr. (t : State) × StandsFor FLLEN SLLEN self.new t × IsPlaced t (non_zero_usize_get addr) layout.size layout.align) }
         ensures refused { IfNone result (self.new.memory.bytes ≡ self.old.memory.bytes) }
         ensures place { SamePlace self.old.memory self.new.memory }
         ensures touches { self.new.memory.touches ≤ self.old.memory.touches + 27 }
@@ -204,6 +206,7 @@ impl<FLBitmap: Bitmap, SLBitmap: Bitmap, const FLLEN: usize, const SLLEN: usize>
         ensures step { (s : State) → StandsFor FLLEN SLLEN self.old s → IsLive s (non_zero_usize_get addr) layout.align
             → (t : State) × Reallocates SLLEN s (non_zero_usize_get addr) layout.size (option_map non_zero_usize_get result) t × StandsFor FLLEN SLLEN self.new t × KeepsSpare self.old.memory s self.new.memory t }
         ensures placed { IfSome result (λ addr. (t : State) × StandsFor FLLEN SLLEN self.new t × IsLive t (non_zero_usize_get addr) layout.align) }
+        ensures sized { IfSome result (λ addr. (t : State) × StandsFor FLLEN SLLEN self.new t × IsPlaced t (non_zero_usize_get addr) layout.size layout.align) }
         ensures refused { IfNone result (self.new.memory.bytes ≡ self.old.memory.bytes) }
         ensures place { SamePlace self.old.memory self.new.memory }
         ensures touches { self.new.memory.touches ≤ self.old.memory.touches + 66 }
@@ -253,6 +256,44 @@ impl<FLBitmap: Bitmap, SLBitmap: Bitmap, const FLLEN: usize, const SLLEN: usize>
     {
         let range = load_usable_bytes(&mut self.memory, addr.get());
         self.memory.slice_mut(range)
+    }
+
+    /// Copies the first `len` bytes of the payload at `from` over the first of the one at `to`, whose other bytes stay. Nothing
+    /// else changes. The two may be one payload, and then no byte does.
+    ///
+    /// Both addresses are live, with any alignment, and both payloads have `len` usable bytes.
+    pub fn copy_payload(&mut self, from: Addr, to: Addr, len: usize)
+        requires { (s : State) × StandsFor FLLEN SLLEN self.old s × HasFront s (non_zero_usize_get from) len × HasFront s (non_zero_usize_get to) len }
+        ensures step { (s : State) (u v : Used) → StandsFor FLLEN SLLEN self.old s → Holds s (non_zero_usize_get from) u → Holds s (non_zero_usize_get to) v → len ≤ (usable u).len → len ≤ (usable v).len
+            → (t : State) × Fills s (non_zero_usize_get to) (with_front len u.bytes v.bytes) t × StandsFor FLLEN SLLEN self.new t × KeepsSpare self.old.memory s self.new.memory t }
+        ensures place { SamePlace self.old.memory self.new.memory }
+        ensures touches { self.new.memory.touches ≡ self.old.memory.touches }
+        ensures copied { self.new.memory.copied ≡ self.old.memory.copied + len }
+    {
+        self.memory.copy_within(
+            Range {
+                start: from.get(),
+                len,
+            },
+            to.get(),
+        );
+    }
+
+    /// Sets a word that no block is made of, which the allocator leaves to its caller: no other call changes a byte that is
+    /// spare before and after it. Nothing else changes.
+    ///
+    /// The address is a multiple of 8, and the 8 bytes there lie in the memory and are spare: each lies in no chunk or in the last
+    /// 16 bytes of a sentinel, in some state that the allocator stands for. What is promised is promised of the states in which
+    /// this holds.
+    pub fn set_spare_word(&mut self, addr: usize, word: u64)
+        requires { (s : State) × StandsFor FLLEN SLLEN self.old s × IsSpareWord self.old.memory s addr }
+        ensures step { (s : State) → StandsFor FLLEN SLLEN self.old s → IsSpareWord self.old.memory s addr → StandsFor FLLEN SLLEN self.new s }
+        ensures bytes { self.new.memory.bytes ≡ with_word self.old.memory addr word }
+        ensures place { SamePlace self.old.memory self.new.memory }
+        ensures touches { self.new.memory.touches ≡ self.old.memory.touches + 1 }
+        ensures copied { self.new.memory.copied ≡ self.old.memory.copied }
+    {
+        self.memory.set_word(addr, word);
     }
 
     /// The blocks of a range, used and free, in address order, from its start rounded up to 32 to its end; the sentinels at

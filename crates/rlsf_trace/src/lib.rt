@@ -4,8 +4,6 @@
 mod input;
 mod output;
 mod replays;
-#[cfg(test)]
-mod tests;
 
 pub use replays::replay;
 pub use rlsf_runs::{RunError, run};

@@ -76,6 +76,3 @@ fn is_layout(size: usize, align: usize) -> bool
 {
     align.is_power_of_two() && size <= (1 << 63) - align
 }
-
-#[cfg(test)]
-mod tests;

@@ -1,9 +1,10 @@
+use Rattle.rlsf_machine.proofs.Callers.{payload_is_in_block, callers_see_map}
 use Rattle.rlsf_machine.proofs.Chunks.{chunks_stay, inserted_chunks_lie_in_range}
 use Rattle.rlsf_machine.proofs.Cuts.{chunks_are_cut_off_the_front}
 use Rattle.rlsf_machine.proofs.Determined.{steps_are_determined, refusal_changes_nothing}
 use Rattle.rlsf_machine.proofs.Live.{live_addresses_are_aligned, live_address_has_one_block, payloads_are_disjoint, payload_lies_in_one_chunk, allocation_has_size, reallocation_has_size, reallocation_keeps_bytes, other_payloads_stay, used_was_used, handed_out_is_new, reallocated_is_live, live_stays, released_is_not_live, filled_has_bytes, fill_leaves_others, deallocation_leaves_others}
 use Rattle.rlsf_machine.proofs.Orders.{order_means_nothing}
-use Rattle.rlsf_machine.proofs.Pools.{pool_has_room}
+use Rattle.rlsf_machine.proofs.Pools.{pool_has_room, idle_chunk_has_room}
 use Rattle.rlsf_machine.proofs.Replies.{each_call_answers}
 use Rattle.rlsf_machine.proofs.Room.{room_is_found, allocation_answers, refused_without_reach, choice_is_first_of_least, idle_chunk_is_one_range}
 use Rattle.rlsf_machine.proofs.Similar.{similar_states_agree}
@@ -45,4 +46,7 @@ returns c = record {
   similar = similar_states_agree;
   each_call = each_call_answers;
   kept_bytes = reallocation_keeps_bytes;
+  in_block = payload_is_in_block;
+  callers = callers_see_map;
+  idle_room = idle_chunk_has_room;
 }

@@ -40,3 +40,8 @@ returns c =
     let in_new : c.args.offset < length kept.block.bytes = omega (arith, kept.enough, c.requires.2) in
     ap (λ bytes. slice_index_or bytes i 0) (c.payload-bytes.ensures kept.state kept.block kept.stands kept.holds)
     ∙ Keeps-get_or c.fill.new.self kept.block.bytes i kept.kept inside in_new ∙ c.fill.ensures.clones i 0 here refl
+
+pub deallocate-requires : goal.deallocate-requires
+deallocate-requires c =
+    let kept = is_kept c.requires.0 (read (goal.at.deallocate-requires c).After-fill) c.in_ok-moved.ensures.step in
+    (lit< tt, (kept.state, kept.stands, (kept.block, kept.holds, kept.aligned ∙ sym c.align.ensures.value)))

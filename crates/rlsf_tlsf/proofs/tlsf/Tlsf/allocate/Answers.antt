@@ -5,7 +5,8 @@ use Rattle.rlsf_base.specs.declared.memory.range.Range.{Range}
 use Rattle.rlsf_base.specs.Sizes.{request_size}
 use Rattle.rlsf_base.specs.Space.{range_of, word_at}
 use Rattle.rlsf_machine.specs.Allocate.{Allocates, choice, Places}
-use Rattle.rlsf_machine.specs.State.{State, IsLive}
+use Rattle.rlsf_machine.specs.State.{State, IsLive, IsPlaced}
+use Rattle.rlsf_machine.proofs.Changes.{Holds-unique}
 use Rattle.rlsf_machine.proofs.Choices.{choice-some}
 use Rattle.rlsf_table.specs.Table.{IsClassAt}
 use Rattle.rlsf_table.proofs.FreeLists.Counted.{word_at-counted}
@@ -13,7 +14,7 @@ use Rattle.rlsf_blocks.specs.Spare.{KeepsSpare}
 use Rattle.rlsf_blocks.specs.StandsFor.{contents, Contents, StandsFor}
 use Rattle.rlsf_blocks.proofs.Machine.Counted.{KeepsSpare-counted, KeepsSpare-counted_first, StandsFor-counted}
 use Rattle.rlsf_blocks.proofs.Machine.FreeBlocks.{IsFreeTable-free}
-use Rattle.rlsf_machine.proofs.Live.{handed_out_is_new}
+use Rattle.rlsf_machine.proofs.Live.{allocation_has_size, handed_out_is_new}
 use Rattle.rlsf_machine.proofs.Payloads.{payload_of-after}
 use Rattle.rlsf_blocks.proofs.Words.NonZeroNumbers.{number, on_none, on_some}
 use Rattle.rlsf_tlsf.proofs.tlsf.Tlsf.allocate.Given as given
@@ -101,6 +102,16 @@ returns-clause-placed g c =
     let live = (handed_out_is_new g.row.FLLEN g.row.SLLEN (range_of c.self.inside.memory) s t c.args.layout.size c.args.layout.align c.place.result v.well_formed c.args.layout.valid.aligned places).1 in
     on_some (λ addr. (t : State) × StandsFor g.row.FLLEN g.row.SLLEN (contents c.place.new.memory c.place.new.table) t × IsLive t addr c.args.layout.align)
     c.new.result c.place.result c.new.ensures (t, stands, live)
+
+pub returns-clause-sized : goal.returns-clause-sized
+returns-clause-sized g c =
+    let (s, v) = c.self.invariant.stands in
+    let (t, places, stands, spare) = placing g (goal.at.returns-clause-sized g c).After-place s v in
+    let layout = c.args.layout in
+    let (u, holds, is) = (handed_out_is_new g.row.FLLEN g.row.SLLEN (range_of c.self.inside.memory) s t layout.size layout.align c.place.result v.well_formed layout.valid.aligned places).1 in
+    let (x, too, enough, few) = allocation_has_size g.row.FLLEN g.row.SLLEN (range_of c.self.inside.memory) s t layout.size layout.align (Some c.place.result) v.well_formed layout.valid.aligned places in
+    on_some (λ addr. (t : State) × StandsFor g.row.FLLEN g.row.SLLEN (contents c.place.new.memory c.place.new.table) t × IsPlaced t addr layout.size layout.align)
+    c.new.result c.place.result c.new.ensures (t, stands, (x, too, ap (λ y. y.align) (Holds-unique stands.well_formed c.place.result x u too holds) ∙ is, enough))
 
 pub returns-clause-refused : goal.returns-clause-refused
 returns-clause-refused g c =

@@ -3,12 +3,12 @@ use Rattle.std.specs.Int.NonZero.{non_zero_usize_get}
 use Rattle.std.specs.Option.{option_map}
 use Rattle.rlsf_base.specs.Space.{range_of}
 use Rattle.rlsf_machine.specs.Reallocate.{Plan, Reallocates, ReallocatesBy, in_place, into_next, or_else, plan}
-use Rattle.rlsf_machine.specs.State.{State, Used, usable, Holds, IsLive}
+use Rattle.rlsf_machine.specs.State.{State, Used, usable, Holds, IsLive, IsPlaced}
 use Rattle.rlsf_blocks.specs.Spare.{KeepsSpare}
 use Rattle.rlsf_blocks.specs.StandsFor.{contents, Contents, StandsFor}
 use Rattle.rlsf_resize.specs.Steps.Resize.{IsUsedAt}
 use Rattle.rlsf_machine.proofs.Changes.{Holds-unique}
-use Rattle.rlsf_machine.proofs.Live.{reallocated_is_live}
+use Rattle.rlsf_machine.proofs.Live.{reallocated_is_live, reallocation_keeps_bytes}
 use Rattle.rlsf_machine.proofs.Payloads.{IsUsed-after_start}
 use Rattle.rlsf_blocks.proofs.Machine.Counted.{KeepsSpare-counted_first, StandsFor-counted}
 use Rattle.rlsf_blocks.proofs.Words.NonZeroNumbers.{number, on_none, on_some}
@@ -41,6 +41,13 @@ is_live : (g : given.Over) (c : After-used_block-block g) {s : State} (u : Used)
     → (to : ℕ) (t : State) → ReallocatesBy g.row.SLLEN s u c.args.layout.size (plan s u c.args.layout.size) (Some to) t → IsLive t to c.args.layout.align
 is_live g c {s} u v holds is to t step =
     (reallocated_is_live g.row.FLLEN g.row.SLLEN (range_of c.self.inside.memory) s t (non_zero_usize_get c.args.addr) c.args.layout.size to c.args.layout.align v.well_formed (u, holds, is) (record { block = u; holds = holds; step = step })).0
+
+-- with as many bytes as were asked for
+is_placed : (g : given.Over) (c : After-used_block-block g) {s : State} (u : Used) → StandsFor g.row.FLLEN g.row.SLLEN (contents c.self.inside.memory c.self.inside.table) s → Holds s (non_zero_usize_get c.args.addr) u → u.align ≡ c.args.layout.align
+    → (to : ℕ) (t : State) → ReallocatesBy g.row.SLLEN s u c.args.layout.size (plan s u c.args.layout.size) (Some to) t → IsPlaced t to c.args.layout.size c.args.layout.align
+is_placed g c {s} u v holds is to t step =
+    let (x, now, aligned, kept, enough, few) = reallocation_keeps_bytes g.row.FLLEN g.row.SLLEN (range_of c.self.inside.memory) s t (non_zero_usize_get c.args.addr) c.args.layout.size to u v.well_formed holds (record { block = u; holds = holds; step = step }) in
+    (x, now, aligned ∙ is, enough)
 
 pub reallocate_block-requires : goal.reallocate_block-requires
 reallocate_block-requires g c =
@@ -132,6 +139,14 @@ returns-clause-placed g c =
     let (t, step, stands, spare) = c.in_ok-moved.ensures.step s u (read_in g at v) (used_at g at s u v holds is) in
     on_some (λ addr. (t : State) × StandsFor g.row.FLLEN g.row.SLLEN (contents c.reallocate_block.new.memory c.reallocate_block.new.table) t × IsLive t addr c.args.layout.align)
     c.new.result c.in_ok-moved.moved c.new.ensures (t, stands, is_live g at u v holds is c.in_ok-moved.moved t step)
+
+pub returns-clause-sized : goal.returns-clause-sized
+returns-clause-sized g c =
+    let (s, v, (u, holds, is)) = subst (λ (old : Contents). (s : State) × StandsFor g.row.FLLEN g.row.SLLEN old s × IsLive s (non_zero_usize_get c.args.addr) c.args.layout.align) (sym c.self.view_is) c.requires in
+    let at = (goal.at.returns-clause-sized g c).After-used_block-block in
+    let (t, step, stands, spare) = c.in_ok-moved.ensures.step s u (read_in g at v) (used_at g at s u v holds is) in
+    on_some (λ addr. (t : State) × StandsFor g.row.FLLEN g.row.SLLEN (contents c.reallocate_block.new.memory c.reallocate_block.new.table) t × IsPlaced t addr c.args.layout.size c.args.layout.align)
+    c.new.result c.in_ok-moved.moved c.new.ensures (t, stands, is_placed g at u v holds is c.in_ok-moved.moved t step)
 
 pub returns-clause-refused : goal.returns-clause-refused
 returns-clause-refused g c =

@@ -1,7 +1,0 @@
-use super::*;
-
-mod growth;
-mod random;
-mod refusals;
-mod runs;
-mod walks;

@@ -1,4 +1,0 @@
-use super::*;
-
-mod printing;
-mod reading;

@@ -1,6 +1,0 @@
-use super::*;
-
-mod examples;
-mod faults;
-mod replays;
-mod streams;

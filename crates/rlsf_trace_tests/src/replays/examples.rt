@@ -1,0 +1,126 @@
+//! Worked examples, with the blocks and the sizes that they end with: what each text prints.
+
+use super::replayed;
+use std::test::Fail;
+
+const EXAMPLES: [(&[u8], &str); 22] = [
+    // What is given back is joined with its neighbours.
+    (
+        b"8x8 4096 4096\ninsert 4096 96\nalloc 1 0 1\nalloc 2 0 1\nalloc 3 0 1\nfree 1\nfree 2\nblock 4096 96 0\nblock 4096 96 1\n",
+        "insert some 96\nalloc 1 at 4112\nalloc 2 at 4144\nalloc 3 none\nfree 1 done\nfree 2 done\nblock 4096 64 free\nblock none\nstatus 0",
+    ),
+    // A payload that shrinks leaves its tail.
+    (
+        b"8x8 4096 4096\ninsert 4096 96\nalloc 1 17 1\nusable 1\nrealloc 1 0\nalloc 2 0 1\n",
+        "insert some 96\nalloc 1 at 4112\nusable 1 48\nrealloc 1 at 4112\nalloc 2 at 4144\nstatus 0",
+    ),
+    // A chunk without a greatest length grows by what is appended.
+    (
+        b"59x8 4096 4096\ninsert 4096 256\nalloc 1 384 1\nappend 4352 256\nalloc 1 384 1\nblock 4096 512 0\nblock 4096 512 1\nblock 4096 512 2\n",
+        "insert some 256\nalloc 1 none\nappend 256\nalloc 1 at 4112\nblock 4096 416 used\nblock 4512 64 free\nblock none\nstatus 0",
+    ),
+    // Where chunks have a greatest length, what is appended is a chunk of its own.
+    (
+        b"8x8 4096 4096\ninsert 4096 256\nalloc 1 384 1\nappend 4352 256\nalloc 1 384 1\n",
+        "insert some 256\nalloc 1 none\nappend 256\nalloc 1 none\nstatus 0",
+    ),
+    // A class of the same row that does not reach.
+    (
+        b"8x1 4096 4096\ninsert 4096 128\nalloc 1 66 1\n",
+        "insert some 128\nalloc 1 none\nstatus 0",
+    ),
+    // And one that does.
+    (
+        b"8x8 4096 4096\ninsert 4096 128\nalloc 1 66 1\n",
+        "insert some 128\nalloc 1 at 4112\nstatus 0",
+    ),
+    // The front that is skipped counts.
+    (
+        b"8x8 4097 4096\ninsert 4097 1024\nblock 4097 1023 0\n",
+        "insert some 1023\nblock 4128 960 free\nstatus 0",
+    ),
+    // An alignment of 32.
+    (
+        b"12x16 4096 65536\ninsert 4096 65536\nalloc 1 1 32\nusable 1\n",
+        "insert some 65536\nalloc 1 at 4128\nusable 1 32\nstatus 0",
+    ),
+    // A payload of no bytes at its block's end, given back without its alignment.
+    (
+        b"12x16 4096 65536\ninsert 4096 65536\nalloc 1 0 32\nusable 1\nufree 1\nblock 4096 65536 0\n",
+        "insert some 65536\nalloc 1 at 4128\nusable 1 0\nufree 1 done\nblock 4096 65504 free\nstatus 0",
+    ),
+    // Chunks of the greatest length, the last one newest.
+    (
+        b"1x1 4096 4096\ninsert 4096 200\nalloc 1 0 1\nalloc 2 0 1\nalloc 3 0 1\nalloc 4 0 1\n",
+        "insert some 192\nalloc 1 at 4240\nalloc 2 at 4176\nalloc 3 at 4112\nalloc 4 none\nstatus 0",
+    ),
+    // What is left is too short for a chunk.
+    (
+        b"1x1 4096 4096\ninsert 4096 160\n",
+        "insert some 128\nstatus 0",
+    ),
+    // The newest free block of a class is taken first.
+    (
+        b"8x8 4096 4096\ninsert 4096 256\nalloc 1 0 1\nalloc 2 0 1\nalloc 3 0 1\nalloc 4 0 1\nfree 1\nfree 3\nalloc 5 0 1\n",
+        "insert some 256\nalloc 1 at 4112\nalloc 2 at 4144\nalloc 3 at 4176\nalloc 4 at 4208\nfree 1 done\nfree 3 done\nalloc 5 at 4176\nstatus 0",
+    ),
+    // A payload moves into the free block before its own.
+    (
+        b"8x8 4096 4096\ninsert 4096 256\nalloc 1 0 1\nalloc 2 40 1\nalloc 3 100 1\nfill 2 7\nfree 1\nrealloc 2 70\nusable 2\nget 2 0\nget 2 47\nblock 4096 256 0\nblock 4096 256 1\nblock 4096 256 2\n",
+        "insert some 256\nalloc 1 at 4112\nalloc 2 at 4144\nalloc 3 at 4208\nfill 2 done\nfree 1 done\nrealloc 2 at 4112\nusable 2 80\nget 2 7\nget 2 7\nblock 4096 96 used\nblock 4192 128 used\nblock none\nstatus 0",
+    ),
+    // A refused reallocation changes nothing.
+    (
+        b"8x8 4096 4096\ninsert 4096 256\nalloc 1 0 1\nalloc 2 40 1\nalloc 3 100 1\nfree 1\nrealloc 2 70\nrealloc 2 200\nusable 2\nblock 4096 256 0\nblock 4096 256 1\n",
+        "insert some 256\nalloc 1 at 4112\nalloc 2 at 4144\nalloc 3 at 4208\nfree 1 done\nrealloc 2 at 4112\nrealloc 2 none\nusable 2 80\nblock 4096 96 used\nblock 4192 128 used\nstatus 0",
+    ),
+    // A move by less than the payload's length.
+    (
+        b"8x8 4096 4096\ninsert 4096 256\nalloc 1 17 1\nalloc 2 40 1\nalloc 3 50 1\nfill 2 9\nfree 1\nrealloc 2 70\nusable 2\nget 2 0\nget 2 47\nblock 4096 256 0\nblock 4096 256 1\nblock 4096 256 2\n",
+        "insert some 256\nalloc 1 at 4112\nalloc 2 at 4176\nalloc 3 at 4240\nfill 2 done\nfree 1 done\nrealloc 2 at 4112\nusable 2 80\nget 2 9\nget 2 9\nblock 4096 96 used\nblock 4192 32 free\nblock 4224 96 used\nstatus 0",
+    ),
+    // A start that can't be rounded.
+    (
+        b"8x8 18446744073709551552 63\ninsert 18446744073709551585 0\n",
+        "insert none\nstatus 0",
+    ),
+    // The greatest addresses.
+    (
+        b"8x8 18446744073709551424 191\ninsert 18446744073709551424 191\nalloc 1 0 1\n",
+        "insert some 160\nalloc 1 at 18446744073709551440\nstatus 0",
+    ),
+    // Appends to a full chunk.
+    (
+        b"59x8 4096 4096\ninsert 4096 64\nalloc 1 0 1\nappend 4160 31\nappend 4160 32\nblock 4096 96 1\n",
+        "insert some 64\nalloc 1 at 4112\nappend 0\nappend 32\nblock 4128 32 free\nstatus 0",
+    ),
+    // The same, where chunks have a greatest length.
+    (
+        b"8x8 4096 4096\ninsert 4096 64\nalloc 1 0 1\nappend 4160 31\nappend 4160 32\n",
+        "insert some 64\nalloc 1 at 4112\nappend 0\nappend 0\nstatus 0",
+    ),
+    // An alignment of 4096.
+    (
+        b"8x8 4096 8192\ninsert 4096 8192\nalloc 1 1 4096\nusable 1\nblock 4096 8192 0\nblock 4096 8192 1\n",
+        "insert some 8192\nalloc 1 at 8192\nusable 1 32\nblock 4096 4128 used\nblock 8224 4032 free\nstatus 0",
+    ),
+    // A used block shorter than what was sought.
+    (
+        b"8x8 4096 4096\ninsert 4096 256\nalloc 1 0 1\nalloc 2 1 64\nusable 2\nblock 4096 256 1\nblock 4096 256 2\n",
+        "insert some 256\nalloc 1 at 4112\nalloc 2 at 4160\nusable 2 32\nblock 4128 64 used\nblock 4192 128 free\nstatus 0",
+    ),
+    // The free bytes before and after an allocation.
+    (
+        b"12x16 4096 4096\ninsert 4096 1024\nblock 4096 1024 0\nalloc 1 8 8\nblock 4096 1024 1\n",
+        "insert some 1024\nblock 4096 992 free\nalloc 1 at 4112\nblock 4128 960 free\nstatus 0",
+    ),
+];
+
+#[test]
+fn worked_examples(rt: HostRuntime) -> Result<(), Fail> {
+    for (text, printed) in &EXAMPLES {
+        let told = replayed(&rt, text)?;
+        assert_eq!(rt; told.as_str(), *printed);
+    }
+    Ok(())
+}

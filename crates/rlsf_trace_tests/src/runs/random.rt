@@ -1,0 +1,454 @@
+//! Runs over fixed lists of random bytes, with tables of every shape. What is known of the answers without looking at the
+//! allocator is kept beside it: where payloads lie, which bytes they were filled with, and which chunks the pool has.
+//!
+//! The words of list `n`, from 1 on, are the bytes that Python gives as `random.Random(n).randbytes(160)`, four a word, the
+//! lowest first.
+
+ghost use Rattle.rlsf_base.specs.SizeClass.{IsValid};
+
+use rlsf_base::memory::{Layout, Memory, Range};
+use rlsf_int::Bitmap;
+use rlsf_runs::run;
+use rlsf_text::{Answer, Op, TraceError};
+use rlsf_tlsf::Tlsf;
+use std::alloc::Global;
+use std::num::NonZeroUsize;
+use std::test::Fail;
+
+const FIRST: [u32; 40] = [
+    0x2265b1f5, 0x91b7584a, 0xd8f16adf, 0xcd613e30, 0xc386bbc4, 0x1027c4d1, 0x414c343c, 0x1e2feb89,
+    0x7ed4d57b, 0xc2ce6f44, 0x7311d8a3, 0x78e51061, 0xa6cecc1b, 0x612e7696, 0xc9e9c616, 0x35bf992d,
+    0x18072e8c, 0x7ce42c82, 0x0741c7a8, 0xe4b06ce6, 0xd5f4b3b2, 0x63ca828d, 0x6ec9d286, 0x9b810e76,
+    0xc324c985, 0xc4647159, 0x008a05a6, 0xb2221a58, 0x7204e52d, 0x442e3d43, 0xb8b6d8fe, 0xcd447e35,
+    0x3a902931, 0x9755d4c1, 0xf1fd42a2, 0x1a2b8f1f, 0xe6c3f339, 0x51431193, 0x07d4bedc, 0x05b6e6e3,
+];
+
+const SECOND: [u32; 40] = [
+    0xf4bea973, 0xdcf4bb99, 0xf2a4d27b, 0xd95bafc8, 0x0e7a269f, 0x177219d3, 0x15ba2bdd, 0x5c6e4337,
+    0xd5e34124, 0x2b491044, 0xbc688778, 0xcf1822ff, 0xab73738f, 0xda94e3e8, 0x4ee207f8, 0x4067c358,
+    0x9b1f282e, 0x3653f8dd, 0x9b575bd1, 0x0925e474, 0x94c9c950, 0xae662675, 0x288bc781, 0xffed9235,
+    0x6e405d93, 0xa372db8f, 0x64be8049, 0xcdbd47d3, 0xb91751da, 0xdc38f519, 0xfeac7eb7, 0x82523e86,
+    0xf30b94fa, 0x5f3f57eb, 0x8b4f2fc1, 0xef8acd12, 0x71e1f6d2, 0x80877b6f, 0x44ab6cce, 0xe6b58de7,
+];
+
+const THIRD: [u32; 40] = [
+    0x3ceb3ffd, 0x97b75092, 0x8b529b4a, 0x21636369, 0x5eb561a4, 0xea7b5bf5, 0x9a9a80fd, 0x795b929e,
+    0xa02f34a6, 0x94b2b8fd, 0x10c67fd9, 0x9b08923d, 0x035efa25, 0xe8a8529f, 0xd6645fa9, 0x781f9c58,
+    0x42650644, 0x8d0038ec, 0x3bfd1d33, 0x31162427, 0xfee29476, 0xb7970386, 0x78633074, 0x8a7d43b5,
+    0xd6225675, 0x8cb4a0d7, 0x79f248b0, 0x65aa9c82, 0xa399f82a, 0xdc6bf1e1, 0x268ecc45, 0x3b5f3d86,
+    0xa2863a7f, 0x26d0b944, 0xde383784, 0xed038db4, 0x85ef3430, 0x63d2e490, 0xbdc2ae99, 0x03e0a813,
+];
+
+const FOURTH: [u32; 40] = [
+    0x3c6da5d7, 0x4da4f9fc, 0x1a6916c7, 0xb8a1abcd, 0x656412a9, 0x7a97c643, 0x27ac435a, 0x1710cf53,
+    0x11072231, 0x0512bd13, 0x66ceab36, 0x8ca59966, 0xeaff1a09, 0x4a14876a, 0xccea71ff, 0xfd724452,
+    0xc3e1b258, 0x0f1099c6, 0x38d048ec, 0x8534f457, 0x8963dc6e, 0x5c3902b3, 0x46d4ac7a, 0xc79d6793,
+    0x2c33be0a, 0xd3addccb, 0x1b2ed40e, 0x43000de0, 0x36e2f24b, 0xf165c8ce, 0xed6f0b09, 0x06905269,
+    0xd4341aad, 0xa4042bb3, 0xce80c4b0, 0x42a00403, 0xccea2645, 0x459142de, 0x3184ff27, 0x2a318785,
+];
+
+const FIFTH: [u32; 40] = [
+    0x9f767c45, 0x4164d839, 0xbde5c099, 0x5bc8fbbc, 0xcb91ce37, 0xb0c11fde, 0xf1446bea, 0xd76d4330,
+    0xbd69fe29, 0xa6eb8c9e, 0xec1d7da0, 0x87b0b125, 0x076ce2ef, 0xd7210dff, 0x77330bdb, 0xc6a53877,
+    0xf17fd374, 0x3fc1ea36, 0xa6233255, 0x0d464138, 0xe6a16a3b, 0x2827688d, 0x1cfb10f6, 0x5f2dd97f,
+    0x7814e8a2, 0xde527100, 0x3f1f65a8, 0x617959ce, 0x8b33e968, 0x1a1afe87, 0x92edcf45, 0x3fd42359,
+    0x035b7399, 0xbb2edb20, 0x377b9aa2, 0x687c966c, 0x478c281d, 0x2e9c82b1, 0xea959c21, 0xde11cc9d,
+];
+
+const SIXTH: [u32; 40] = [
+    0xcb1855fe, 0x92e5dfe8, 0xd26b9496, 0x14a03569, 0x7c2b3abe, 0xc320a473, 0x42f9a039, 0x096d3737,
+    0x001d9a88, 0x254499c7, 0xa9ae7a34, 0x9623d7cf, 0x78629522, 0xf72c2c26, 0xc27db4ec, 0xbc1e3ac1,
+    0x5f877031, 0x51c34250, 0xc527e279, 0x059a91e1, 0x45cf8aa4, 0x7d24b396, 0xcd4a5557, 0x32b7228f,
+    0xbad5ccc2, 0xdf5ca32e, 0x69fc5360, 0xe91b4ad1, 0x89ce5ef7, 0x8a0c5100, 0xae9af169, 0x181e290a,
+    0x316774fe, 0x903c2ac9, 0x8db9b92c, 0xb313fc7e, 0xce1c9c17, 0xba98666a, 0x43f9300c, 0xa9b3d1a2,
+];
+
+const LISTS: usize = 6;
+
+/// The list with the index. A proof of a caller sees none of its words.
+fn list(index: usize) -> [u32; 40] {
+    match index {
+        0 => FIRST,
+        1 => SECOND,
+        2 => THIRD,
+        3 => FOURTH,
+        4 => FIFTH,
+        _ => SIXTH,
+    }
+}
+
+const NAMES: usize = 8;
+
+const MEMORY_START: usize = 4096;
+
+const MEMORY_LEN: usize = 16384;
+
+/// The ops of a list, what those on the pool answer, and the chunks that the pool has at the end.
+#[derive(Drop)]
+struct Plan {
+    ops: Vec<Op>,
+    pool_answers: Vec<Answer>,
+    pool: Range,
+    chunks: Vec<Range>,
+    most: usize,
+}
+
+/// Cuts a range into chunks of at most `most` bytes while 64 or more are left, and tells how many of its bytes they have.
+fn add_chunks(chunks: &mut Vec<Range>, range: Range, most: usize) -> Result<usize, Fail> {
+    let mut taken: usize = 0;
+    for _ in 0..range.len / 64 {
+        let len = (range.len / 32 * 32).wrapping_sub(taken).min(most);
+        if len >= 64 {
+            let start = range.start.wrapping_add(taken);
+            chunks.push(Range { start, len })?;
+            taken = taken.wrapping_add(len);
+        }
+    }
+    Ok(taken)
+}
+
+impl Plan {
+    /// An insert of a pool, whose start and length the word chooses.
+    fn begin(alloc: Global, word: u32, most: usize) -> Result<Plan, Fail> {
+        let [start, low, high, shift] = word.to_le_bytes();
+        let skipped = (start % 32) as usize;
+        let part = u16::from_le_bytes([low, high]) >> (shift % 8);
+        let body = Range {
+            start: MEMORY_START + 32 + (start % 64 / 32 * 32) as usize,
+            len: 128 + part as usize / 16,
+        };
+        let mut chunks = Vec::new(alloc);
+        let taken = add_chunks(&mut chunks, body, most)?;
+        let start = body.start - skipped;
+        let mut ops = Vec::new(alloc);
+        let len = body.len + skipped;
+        ops.push(Op::Insert(Range { start, len }))?;
+        let len = taken.wrapping_add(skipped);
+        let mut pool_answers = Vec::new(alloc);
+        pool_answers.push(Answer::Inserted(NonZeroUsize::new(len)))?;
+        Ok(Plan {
+            ops,
+            pool_answers,
+            pool: Range { start, len },
+            chunks,
+            most,
+        })
+    }
+
+    /// An append of some of the memory behind the pool.
+    fn append(&mut self, word: u32) -> Result<(), Fail> {
+        let [_, low, high, _] = word.to_le_bytes();
+        let start = self.pool.start.wrapping_add(self.pool.len);
+        let room = (MEMORY_START + MEMORY_LEN).saturating_sub(start);
+        let len = u16::from_le_bytes([low, high]) as usize % room.min(512).saturating_add(1);
+        let range = Range { start, len };
+        let taken = match self.chunks.last_mut() {
+            Some(last) if self.most == usize::MAX => {
+                last.len = last.len.wrapping_add(len / 32 * 32);
+                len / 32 * 32
+            }
+            _ => add_chunks(&mut self.chunks, range, self.most)?,
+        };
+        self.pool.len = self.pool.len.wrapping_add(taken);
+        self.ops.push(Op::Append(range))?;
+        self.pool_answers.push(Answer::Appended(taken))?;
+        Ok(())
+    }
+
+    /// Frees of all names, and a walk over the pool, each of whose chunks is one free block then.
+    fn end(&mut self) -> Result<(), Fail> {
+        for name in 0..NAMES {
+            self.ops.push(Op::Free(name))?;
+        }
+        for (index, chunk) in self.chunks.iter().enumerate() {
+            let start = chunk.start;
+            let len = chunk.len.wrapping_sub(32);
+            self.ops.push(Op::Block(self.pool, index))?;
+            self.pool_answers
+                .push(Answer::Block(Some((Range { start, len }, false))))?;
+        }
+        self.ops.push(Op::Block(self.pool, self.chunks.len()))?;
+        self.pool_answers.push(Answer::Block(None))?;
+        Ok(())
+    }
+}
+
+/// What a word does to a payload: allocates, frees or reallocates it, and reads the first and the last byte that were asked
+/// for. `sizes` are those that the names were given last.
+fn payload_ops(word: u32, scale: usize, sizes: &mut [usize; NAMES]) -> Result<[Op; 5], Fail> {
+    let [kind, low, high, shape] = word.to_le_bytes();
+    let name = kind as usize / 8 % NAMES;
+    let part = u16::from_le_bytes([low, high]) as usize;
+    let size = part.wrapping_mul(scale) >> 16 >> (shape / 6 % 4);
+    let end = size.saturating_sub(1);
+    let old_end = sizes[name].saturating_sub(1);
+    if kind % 8 > 2 && kind % 8 < 5 {
+        return Ok([
+            Op::Get(name, 0),
+            Op::Get(name, old_end),
+            Op::Usable(name),
+            if kind < 128 {
+                Op::Free(name)
+            } else {
+                Op::FreeUnknown(name)
+            },
+            Op::Get(name, 0),
+        ]);
+    }
+    sizes[name] = size;
+    if kind % 8 < 3 {
+        return Ok([
+            Op::Alloc(name, Layout::from_size_align(size, 1 << (shape % 6))?),
+            Op::Usable(name),
+            Op::Fill(name, low),
+            Op::Get(name, 0),
+            Op::Get(name, end),
+        ]);
+    }
+    Ok([
+        Op::Realloc(name, size),
+        Op::Usable(name),
+        Op::Get(name, 0),
+        Op::Get(name, old_end.min(end)),
+        Op::Fill(name, low),
+    ])
+}
+
+/// The plan of a list, where chunks have at most `most` bytes.
+fn plan_of(alloc: Global, list: &[u32; 40], most: usize) -> Result<Plan, Fail> {
+    let mut plan = Plan::begin(alloc, list[0], most)?;
+    let scale = plan.pool.len.min(most);
+    let mut sizes = [0; NAMES];
+    for word in list.iter().skip(1) {
+        if *word % 8 == 7 {
+            plan.append(*word)?;
+        } else {
+            plan.ops
+                .extend_from_slice(&payload_ops(*word, scale, &mut sizes)?)?;
+        }
+    }
+    plan.end()?;
+    Ok(plan)
+}
+
+/// A live payload, as the answers tell of it.
+#[derive(Clone, Copy)]
+struct Payload {
+    addr: usize,
+    align: usize,
+    /// As far as it is known.
+    usable: usize,
+    value: u8,
+    /// How many bytes, from the first one on, have the value.
+    filled: usize,
+}
+
+/// The name of a payload that the op is on.
+fn name_of(op: Op) -> Option<usize> {
+    match op {
+        Op::Alloc(name, _)
+        | Op::Free(name)
+        | Op::FreeUnknown(name)
+        | Op::Realloc(name, _)
+        | Op::Fill(name, _)
+        | Op::Put(name, _, _)
+        | Op::Get(name, _)
+        | Op::Usable(name) => Some(name),
+        Op::Insert(_) | Op::Append(_) | Op::Block(_, _) => None,
+    }
+}
+
+/// Whether the answer is right where no payload has the op's name, and the payload that has it then.
+fn follow_free(op: Op, answer: Answer) -> (bool, Option<Payload>) {
+    let Op::Alloc(_, layout) = op else {
+        return (answer == Answer::Refused(TraceError::UnknownName), None);
+    };
+    let Answer::Placed(placed) = answer else {
+        return (false, None);
+    };
+    let payload = placed.map(|addr| Payload {
+        addr: addr.get(),
+        align: layout.align(),
+        usable: layout.size(),
+        value: 0,
+        filled: 0,
+    });
+    (true, payload)
+}
+
+/// Whether the answer is right where the payload has the op's name, and the payload that has it then.
+fn follow_live(payload: Payload, op: Op, answer: Answer) -> (bool, Option<Payload>) {
+    let mut next = payload;
+    let is_right = match op {
+        Op::Alloc(_, _) => answer == Answer::Refused(TraceError::NameTaken),
+        Op::Free(_) | Op::FreeUnknown(_) => return (answer == Answer::Done, None),
+        Op::Realloc(_, size) => {
+            let Answer::Placed(placed) = answer else {
+                return (false, None);
+            };
+            if let Some(addr) = placed {
+                next.addr = addr.get();
+                next.usable = size;
+                next.filled = payload.filled.min(size);
+            }
+            true
+        }
+        Op::Fill(_, value) => {
+            next.value = value;
+            next.filled = payload.usable;
+            answer == Answer::Done
+        }
+        Op::Get(_, offset) if offset < payload.filled => answer == Answer::Byte(payload.value),
+        Op::Get(_, offset) if offset < payload.usable => matches!(answer, Answer::Byte(_)),
+        Op::Get(_, _) => answer == Answer::Refused(TraceError::BadOffset),
+        Op::Usable(_) => {
+            let Answer::Usable(usable) = answer else {
+                return (false, None);
+            };
+            next.usable = usable;
+            usable >= payload.usable
+        }
+        _ => false,
+    };
+    (is_right, Some(next))
+}
+
+fn is_overlap(one: &Payload, other: &Payload) -> bool {
+    one.addr < other.addr.wrapping_add(other.usable)
+        && other.addr < one.addr.wrapping_add(one.usable)
+}
+
+/// Whether the payload lies at its alignment in a chunk, before the chunk's last header.
+fn is_inside(payload: &Payload, chunks: &[Range]) -> bool {
+    let end = payload.addr.wrapping_add(payload.usable).wrapping_add(32);
+    payload.addr % payload.align.max(1) == 0
+        && chunks.iter().any(|chunk| chunk.start <= payload.addr
+            && end <= chunk.start.wrapping_add(chunk.len))
+}
+
+/// The index of the first wrong answer.
+fn first_wrong(plan: &Plan, answers: &[Answer]) -> Option<usize> {
+    let mut live: [Option<Payload>; NAMES] = [None; NAMES];
+    let mut pool_answers = plan.pool_answers.iter();
+    for (index, (op, answer)) in plan.ops.iter().zip(answers.iter()).enumerate() {
+        let is_right = match name_of(*op) {
+            None => pool_answers.next() == Some(answer),
+            Some(name) => {
+                let name = name % NAMES;
+                let (is_right, payload) = match live[name] {
+                    None => follow_free(*op, *answer),
+                    Some(payload) => follow_live(payload, *op, *answer),
+                };
+                live[name] = payload;
+                is_right && is_apart(payload, &plan.chunks, &live)
+            }
+        };
+        if !is_right {
+            return Some(index);
+        }
+    }
+    None
+}
+
+/// Whether a payload lies in the chunks, and overlaps no live one but itself.
+fn is_apart(payload: Option<Payload>, chunks: &[Range], live: &[Option<Payload>]) -> bool {
+    let Some(payload) = payload else {
+        return true;
+    };
+    let overlaps = live
+        .iter()
+        .flatten()
+        .filter(|other| is_overlap(&payload, other));
+    is_inside(&payload, chunks) && overlaps.count() <= 1
+}
+
+/// The index of the first wrong answer to a list's ops, and the allocator after them.
+fn ran<FLBitmap: Bitmap, SLBitmap: Bitmap, const FLLEN: usize, const SLLEN: usize>(
+    alloc: Global,
+    list: &[u32; 40],
+) -> Result<(Option<usize>, Tlsf<FLBitmap, SLBitmap, FLLEN, SLLEN>), Fail>
+    requires { IsValid FLBitmap.width SLBitmap.width FLLEN SLLEN }
+{
+    let most = if FLLEN < 59 { 32 << FLLEN } else { usize::MAX };
+    let plan = plan_of(alloc, list, most)?;
+    let memory = Memory::new(alloc, MEMORY_START, MEMORY_LEN)?;
+    let mut tlsf = Tlsf::new(memory);
+    let mut answers = Vec::new(alloc);
+    run(alloc, &mut tlsf, plan.ops.as_slice(), &mut answers)?;
+    Ok((first_wrong(&plan, answers.as_slice()), tlsf))
+}
+
+#[test]
+fn few_classes(rt: HostRuntime) -> Result<(), Fail> {
+    let alloc = rt.alloc();
+    for index in 0..LISTS {
+        let list = &list(index);
+        assert_eq!(rt; ran::<u8, u8, 1, 1>(alloc, list)?.0, None);
+        assert_eq!(rt; ran::<u8, u8, 1, 2>(alloc, list)?.0, None);
+        assert_eq!(rt; ran::<u8, u8, 1, 4>(alloc, list)?.0, None);
+        assert_eq!(rt; ran::<u8, u8, 1, 8>(alloc, list)?.0, None);
+        assert_eq!(rt; ran::<u8, u8, 3, 4>(alloc, list)?.0, None);
+    }
+    Ok(())
+}
+
+#[test]
+fn rows_of_8_bits(rt: HostRuntime) -> Result<(), Fail> {
+    let alloc = rt.alloc();
+    for index in 0..LISTS {
+        let list = &list(index);
+        assert_eq!(rt; ran::<u8, u8, 5, 4>(alloc, list)?.0, None);
+        assert_eq!(rt; ran::<u8, u8, 8, 1>(alloc, list)?.0, None);
+        assert_eq!(rt; ran::<u8, u8, 8, 8>(alloc, list)?.0, None);
+        assert_eq!(rt; ran::<u16, u8, 3, 4>(alloc, list)?.0, None);
+        assert_eq!(rt; ran::<u16, u8, 11, 4>(alloc, list)?.0, None);
+        assert_eq!(rt; ran::<u16, u8, 16, 4>(alloc, list)?.0, None);
+    }
+    Ok(())
+}
+
+#[test]
+fn rows_of_16_classes(rt: HostRuntime) -> Result<(), Fail> {
+    let alloc = rt.alloc();
+    for index in 0..LISTS {
+        let list = &list(index);
+        assert_eq!(rt; ran::<u16, u16, 3, 16>(alloc, list)?.0, None);
+        assert_eq!(rt; ran::<u16, u16, 11, 16>(alloc, list)?.0, None);
+        assert_eq!(rt; ran::<u16, u16, 16, 16>(alloc, list)?.0, None);
+        assert_eq!(rt; ran::<u16, u32, 3, 16>(alloc, list)?.0, None);
+        assert_eq!(rt; ran::<u16, u32, 11, 16>(alloc, list)?.0, None);
+        assert_eq!(rt; ran::<u16, u32, 16, 16>(alloc, list)?.0, None);
+    }
+    Ok(())
+}
+
+#[test]
+fn rows_of_32_classes(rt: HostRuntime) -> Result<(), Fail> {
+    let alloc = rt.alloc();
+    for index in 0..LISTS {
+        let list = &list(index);
+        assert_eq!(rt; ran::<u16, u32, 3, 32>(alloc, list)?.0, None);
+        assert_eq!(rt; ran::<u16, u32, 11, 32>(alloc, list)?.0, None);
+        assert_eq!(rt; ran::<u16, u32, 16, 32>(alloc, list)?.0, None);
+        assert_eq!(rt; ran::<u32, u32, 20, 32>(alloc, list)?.0, None);
+        assert_eq!(rt; ran::<u32, u32, 27, 32>(alloc, list)?.0, None);
+        assert_eq!(rt; ran::<u32, u32, 28, 32>(alloc, list)?.0, None);
+        assert_eq!(rt; ran::<u32, u32, 29, 32>(alloc, list)?.0, None);
+        assert_eq!(rt; ran::<u32, u32, 32, 32>(alloc, list)?.0, None);
+    }
+    Ok(())
+}
+
+#[test]
+fn most_rows(rt: HostRuntime) -> Result<(), Fail> {
+    let alloc = rt.alloc();
+    for index in 0..LISTS {
+        let list = &list(index);
+        assert_eq!(rt; ran::<u64, u64, 58, 8>(alloc, list)?.0, None);
+        assert_eq!(rt; ran::<u64, u64, 59, 8>(alloc, list)?.0, None);
+        assert_eq!(rt; ran::<u64, u64, 60, 8>(alloc, list)?.0, None);
+        assert_eq!(rt; ran::<u64, u64, 61, 8>(alloc, list)?.0, None);
+        assert_eq!(rt; ran::<u64, u64, 64, 8>(alloc, list)?.0, None);
+    }
+    Ok(())
+}

@@ -1,0 +1,7 @@
+-- Lemmas of the libraries.
+pub mod Entries
+pub mod Fronts
+pub mod HandledStores
+pub mod Maps
+pub mod Queues
+pub mod Stores

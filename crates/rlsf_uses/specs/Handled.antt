@@ -1,0 +1,52 @@
+-- Handles: numbers that count up, each with a value.
+use Rattle.std.specs.Prelude.{◌≡◌, ℕ, ◌<◌, List, map}
+use Rattle.std.specs.Int.NonZero.{non_zero_usize_get}
+use Rattle.std.specs.List.{AllByRecursion}
+use Rattle.std.specs.Map.{values_of}
+use Rattle.rlsf_base.specs.declared.memory.range.Range.{Range}
+use Rattle.rlsf_base.specs.Space.{range_of}
+use Rattle.rlsf_uses.specs.Stored.{StoreContents, Stored, IsStore, Place, place_of, bytes_at}
+use Rattle.rlsf_uses.specs.declared.handles.Spot.{Spot}
+
+-- the handles with where their bytes are stored, in the order of the handles, and the number that the next one has
+pub record HandleRows : Type 0 where
+  pub rows : List (ℕ × Spot)
+  pub next : ℕ
+
+-- each handle is below a number
+abbrev pub AreBelow : {A : Type 0} → List (ℕ × A) → ℕ → Type 0
+AreBelow es n = AllByRecursion (λ e. e.0 < n) es
+
+-- the entries with f of each value
+abbrev pub map_values : {A B : Type 0} → (A → B) → List (ℕ × A) → List (ℕ × B)
+map_values f es = map (λ e. (e.0, f e.1)) es
+
+-- the place of a spot, at an alignment
+abbrev pub place_at : ℕ → Spot → Place
+place_at align s = record { addr = non_zero_usize_get s.addr; align = align; len = s.len }
+
+-- the bytes of each handle, where the rows say
+abbrev pub lists_in : StoreContents → ℕ → List (ℕ × Spot) → List (ℕ × List ℕ)
+lists_in v align rows = map_values (λ s. bytes_at v.heap.memory (place_at align s)) rows
+
+-- the store keeps a list of bytes for each handle, where the rows say, and nothing else
+pub record IsHandled (v : StoreContents) (align : ℕ) (rows : List (ℕ × Spot)) : Type 0 where
+  pub items : List (ℕ × Stored)
+  pub store : IsStore v (values_of items)
+  pub places : map_values place_of items ≡ map_values (place_at align) rows
+
+-- lists of bytes by their handles, in the order of the handles; the number that the next handle has; and the alignment and the
+-- memory of their payloads
+pub record Handled : Type 0 where
+  pub lists : List (ℕ × List ℕ)
+  pub next : ℕ
+  pub align : ℕ
+  pub memory : Range
+
+-- the same by its parts
+abbrev pub handled : List (ℕ × List ℕ) → ℕ → ℕ → Range → Handled
+handled lists next align memory = record { lists = lists; next = next; align = align; memory = memory }
+
+-- a store with handles, as callers see it
+abbrev pub handled_by : StoreContents → ℕ → HandleRows → Handled
+handled_by v align h = handled (lists_in v align h.rows) h.next align (range_of v.heap.memory)

@@ -1,0 +1,86 @@
+-- Lists of bytes that an owner keeps in the payloads of one allocator.
+use Rattle.std.specs.Prelude.{◌≡◌, ◌≢◌, ℕ, ◌+◌, ◌≤◌, List, [], ◌∷◌, length, take, Option, Some, map, ⊤}
+use Rattle.rlsf_base.specs.declared.memory.range.Range.{Range}
+use Rattle.rlsf_base.specs.Range.{range_at}
+use Rattle.rlsf_base.specs.Sizes.{max_pool_size, pool_size_to_contain_allocation}
+use Rattle.rlsf_base.specs.Space.{Space, bytes_in, range_of}
+use Rattle.rlsf_blocks.specs.Blocks.{walked}
+use Rattle.rlsf_blocks.specs.StandsFor.{Contents, StandsFor}
+use Rattle.rlsf_machine.specs.Callers.{Payload, payload_at}
+use Rattle.rlsf_machine.specs.ChunkRows.{IsRow}
+use Rattle.rlsf_machine.specs.Insert.{aligned_part, cut}
+use Rattle.rlsf_machine.specs.Lists.{IsIn}
+use Rattle.rlsf_machine.specs.State.{State}
+
+-- an allocator with its pool
+pub record StoreContents : Type 0 where
+  pub heap : Contents
+  pub pool : Range
+
+-- the contents by their parts
+abbrev pub store_contents : Contents → Range → StoreContents
+store_contents h r = record { heap = h; pool = r }
+
+-- a list of bytes that is kept at an address, in the front of a payload with this alignment
+pub record Stored : Type 0 where
+  pub addr : ℕ
+  pub align : ℕ
+  pub bytes : List ℕ
+
+-- the same by its parts
+abbrev pub stored : ℕ → ℕ → List ℕ → Stored
+stored addr align bytes = record { addr = addr; align = align; bytes = bytes }
+
+-- a payload keeps the bytes: it has the alignment, and begins with them
+pub record Keeps (k : Stored) (p : Payload) : Type 0 where
+  pub aligned : p.align ≡ k.align
+  pub front : take (length k.bytes) p.bytes ≡ k.bytes
+
+-- no two are kept at one address
+abbrev pub AreApart : List Stored → Type 0
+AreApart [] = ⊤
+AreApart (k ∷ ks) = ((j : Stored) → IsIn j ks → j.addr ≢ k.addr) × AreApart ks
+
+-- a map from addresses to payloads keeps these lists of bytes and nothing else
+pub record IsMapOf (payloads : ℕ → Option Payload) (all : List Stored) : Type 0 where
+  pub kept : (k : Stored) → IsIn k all → (p : Payload) × (payloads k.addr ≡ Some p) × Keeps k p
+  pub apart : AreApart all
+  pub no_other : (a : ℕ) (p : Payload) → payloads a ≡ Some p → (k : Stored) × IsIn k all × (k.addr ≡ a)
+
+-- the allocator keeps these lists of bytes and nothing else, and all of its memory is its pool
+pub record IsStore (v : StoreContents) (all : List Stored) : Type 0 where
+  pub state : State
+  pub stands : StandsFor 59 8 v.heap state
+  pub payloads : IsMapOf (payload_at state) all
+  pub chunks : state.chunks ≡ cut (max_pool_size 59) (aligned_part (range_of v.heap.memory))
+  pub row : IsRow state (walked v.pool)
+
+-- so many bytes are kept at the address
+abbrev pub HasStored : List Stored → Stored → ℕ → ℕ → Type 0
+HasStored all k addr len = IsIn k all × (k.addr ≡ addr) × (length k.bytes ≡ len)
+
+-- so many bytes are kept at the address, or more
+abbrev pub HasRoomFor : Stored → ℕ → ℕ → Type 0
+HasRoomFor k addr len = (k.addr ≡ addr) × (len ≤ length k.bytes)
+
+-- a pool of a memory has room for one payload of this size and alignment: its aligned part is as long as a pool for it
+abbrev pub FitsPool : Range → ℕ → ℕ → Type 0
+FitsPool memory size align = (e : ℕ) × (pool_size_to_contain_allocation 59 8 size align ≡ Some e) × (e ≤ (aligned_part memory).len)
+
+-- where a list of bytes is kept, and how many they are
+pub record Place : Type 0 where
+  pub addr : ℕ
+  pub align : ℕ
+  pub len : ℕ
+
+-- the place of what is stored
+abbrev pub place_of : Stored → Place
+place_of k = record { addr = k.addr; align = k.align; len = length k.bytes }
+
+-- the bytes that a memory has at a place
+abbrev pub bytes_at : Space → Place → List ℕ
+bytes_at m p = bytes_in m (range_at p.addr p.len)
+
+-- the allocator keeps lists of bytes at these places, and nothing else
+abbrev pub HasPlaces : StoreContents → List Place → Type 0
+HasPlaces v places = (all : List Stored) × IsStore v all × (map place_of all ≡ places)

@@ -1,0 +1,204 @@
+//! Lists of bytes by handle, each in a payload of one store: what the pool of objects and the strings share.
+
+ghost use Rattle.std.specs.Prelude.{◌≡◌, ◌+◌, ◌↔◌, [], ◌∷◌, ◌++◌, List, None, Some, IfOk, OnOk, OnErr, IsErr, IsErrOf, IsSomeAnd, length, nat_eq, replicate};
+ghost use Rattle.std.specs.Int.NonZero.{non_zero_usize_get};
+ghost use Rattle.std.specs.List.{splice};
+ghost use Rattle.std.specs.Map.{lookup, remove_entry, set_value};
+ghost use Rattle.rlsf_base.specs.Space.{SamePlace, range_of};
+ghost use Rattle.std.specs.Map.Iter.{GivesInOrder};
+ghost use Rattle.rlsf_blocks.specs.Blocks.{IsInOrder};
+ghost use Rattle.rlsf_uses.specs.Objects.{set_answer};
+ghost use Rattle.rlsf_uses.specs.Stored.{FitsPool, IsStore, Stored};
+ghost use Rattle.rlsf_uses.specs.declared.objects.TakeError.TheVariants.{NoRoom};
+ghost use Rattle.rlsf_uses.specs.declared.strings.StringError.TheVariants as string_error;
+
+use crate::handles::{Handles, Spot};
+use crate::objects::{SetError, TakeError, UnknownHandle};
+use crate::store::Store;
+use crate::strings::StringError;
+use rlsf::{BlockInfo, Blocks, Layout, Memory};
+use std::alloc::{AllocError, Global};
+use std::marker::Model;
+
+/// Lists of bytes by handle, whose payloads all have one alignment.
+#[derive(Drop)]
+pub(crate) struct Items {
+    store: Store,
+    handles: Handles,
+    align: usize,
+}
+
+impl Model for Items {
+    ghost use Rattle.rlsf_uses.specs.Handled.{Handled, IsHandled, handled_by};
+
+    ghost Value = { Handled };
+
+    ghost view = { λ s. handled_by s.store s.align s.handles };
+
+    ghost invariant = { λ s. IsHandled s.store s.align s.handles.rows };
+}
+
+impl Items {
+    /// No list of bytes, over a memory that is the pool.
+    pub(crate) fn new(alloc: Global, memory: Memory, align: usize) -> Items
+        ensures empty { result.lists ≡ [] }
+        ensures next { result.next ≡ 0 }
+        ensures align { result.align ≡ align }
+        ensures memory { result.memory ≡ range_of memory }
+    {
+        Items {
+            store: Store::new(memory),
+            handles: Handles::new(alloc),
+            align,
+        }
+    }
+
+    /// How many there are.
+    pub(crate) fn len(&self) -> usize
+        ensures { result ≡ length self.now.lists }
+    {
+        self.handles.len()
+    }
+
+    /// Adds a list of bytes under a new handle. Refused without room for it, or without memory for the handle, and then nothing
+    /// changes.
+    pub(crate) fn add(&mut self, bytes: &[u8]) -> Result<usize, StringError>
+        requires { self.old.align ≡ 1 }
+        ensures added { IfOk result (λ handle. (handle ≡ self.old.next)
+            × (self.new ≡ record self.old { lists = self.old.lists ++ (handle, bytes.now) ∷ []; next = handle + 1 })) }
+        ensures new { IfOk result (λ handle. lookup (nat_eq handle) self.old.lists ≡ None) }
+        ensures known { IsErrOf result string_error.UnknownHandle → ⊥ }
+        ensures refused { OnErr result (self.new ≡ self.old) }
+    {
+        let Some(addr) = self.store.add(bytes) else {
+            return Err(StringError::NoRoom);
+        };
+        let spot = Spot {
+            addr,
+            len: bytes.len(),
+        };
+        let handle = keep(&mut self.store, &mut self.handles, spot, 1)?;
+        Ok(handle)
+    }
+
+    /// Adds as many zeros as a layout has bytes under a new handle. Refused without room for them, or without memory for the
+    /// handle, and then nothing changes.
+    pub(crate) fn add_zeros(&mut self, layout: Layout) -> Result<usize, TakeError>
+        requires { self.old.align ≡ layout.align }
+        ensures added { IfOk result (λ handle. (handle ≡ self.old.next)
+            × (self.new ≡ record self.old { lists = self.old.lists ++ (handle, replicate layout.size 0) ∷ []; next = handle + 1 })) }
+        ensures new { IfOk result (λ handle. lookup (nat_eq handle) self.old.lists ≡ None) }
+        ensures room { self.old.lists ≡ [] → FitsPool self.old.memory layout.size layout.align → IsErrOf result NoRoom → ⊥ }
+        ensures refused { OnErr result (self.new ≡ self.old) }
+    {
+        let Some(addr) = self.store.add_zeros(layout) else {
+            return Err(TakeError::NoRoom);
+        };
+        let spot = Spot {
+            addr,
+            len: layout.size,
+        };
+        let handle = keep(&mut self.store, &mut self.handles, spot, layout.align)?;
+        Ok(handle)
+    }
+
+    /// The bytes of a handle.
+    pub(crate) fn get(&self, handle: usize) -> Result<&[u8], UnknownHandle>
+        ensures known { IfOk result (λ bytes. lookup (nat_eq handle) self.now.lists ≡ Some bytes.now) }
+        ensures unknown { OnErr result (lookup (nat_eq handle) self.now.lists ≡ None) }
+    {
+        let Some(spot) = self.handles.get(handle) else {
+            return Err(UnknownHandle);
+        };
+        Ok(self.store.read(spot.addr, spot.len))
+    }
+
+    /// Writes bytes over those of a handle, from an offset on. Refused where the handle isn't there, or has not that many bytes,
+    /// and then nothing changes.
+    pub(crate) fn write(
+        &mut self,
+        handle: usize,
+        offset: usize,
+        bytes: &[u8],
+    ) -> Result<(), SetError>
+        ensures answer { result ≡ set_answer (lookup (nat_eq handle) self.old.lists) (offset + length bytes.now) }
+        ensures written { OnOk result (IsSomeAnd (lookup (nat_eq handle) self.old.lists) (λ old.
+            self.new ≡ record self.old { lists = set_value (nat_eq handle) self.old.lists (splice old offset (offset + length bytes.now) bytes.now) })) }
+        ensures refused { OnErr result (self.new ≡ self.old) }
+    {
+        let Some(spot) = self.handles.get(handle) else {
+            return Err(SetError::UnknownHandle);
+        };
+        if offset > spot.len || bytes.len() > spot.len - offset {
+            return Err(SetError::OutOfRange);
+        }
+        self.store.write(spot.addr, offset, bytes);
+        Ok(())
+    }
+
+    /// Adds bytes behind those of a handle. Refused where the handle isn't there, or without room, and then nothing changes.
+    pub(crate) fn append(&mut self, handle: usize, more: &[u8]) -> Result<(), StringError>
+        requires { self.old.align ≡ 1 }
+        ensures appended { OnOk result (IsSomeAnd (lookup (nat_eq handle) self.old.lists) (λ old.
+            self.new ≡ record self.old { lists = set_value (nat_eq handle) self.old.lists (old ++ more.now) })) }
+        ensures unknown { IsErrOf result string_error.UnknownHandle ↔ (lookup (nat_eq handle) self.old.lists ≡ None) }
+        ensures refused { OnErr result (self.new ≡ self.old) }
+    {
+        let Some(spot) = self.handles.get(handle) else {
+            return Err(StringError::UnknownHandle);
+        };
+        let Some(len) = spot.len.checked_add(more.len()) else {
+            return Err(StringError::NoRoom);
+        };
+        let Some(addr) = self.store.append(spot.addr, spot.len, more) else {
+            return Err(StringError::NoRoom);
+        };
+        self.handles.set(handle, Spot { addr, len });
+        Ok(())
+    }
+
+    /// Takes a handle out, and gives back its payload. Refused where the handle isn't there, and then nothing changes.
+    pub(crate) fn remove(&mut self, handle: usize) -> Result<(), UnknownHandle>
+        ensures removed { OnOk result ((self.new ≡ record self.old { lists = remove_entry (nat_eq handle) self.old.lists })
+            × (lookup (nat_eq handle) self.new.lists ≡ None)) }
+        ensures unknown { IsErr result ↔ (lookup (nat_eq handle) self.old.lists ≡ None) }
+        ensures refused { OnErr result (self.new ≡ self.old) }
+    {
+        let Some(spot) = self.handles.remove(handle) else {
+            return Err(UnknownHandle);
+        };
+        self.store.remove(spot.addr, self.align);
+        Ok(())
+    }
+
+    /// The blocks of the pool, used and free, in address order, as for a picture.
+    pub(crate) fn blocks(&self) -> Blocks<'_>
+        ensures order { IsInOrder result }
+        ensures runs { GivesInOrder BlockInfo }
+    {
+        self.store.blocks()
+    }
+}
+
+/// Gives what is stored last in a store a new handle. Where the memory for that is refused, what is stored there is given back.
+fn keep(
+    store: &mut Store,
+    handles: &mut Handles,
+    spot: Spot,
+    align: usize,
+) -> Result<usize, AllocError>
+    requires { (before : List Stored) × (k : Stored) × IsStore store.old (before ++ k ∷ []) × (k.addr ≡ non_zero_usize_get spot.addr) × (k.align ≡ align) }
+    ensures kept { IfOk result (λ handle. (store.new ≡ store.old) × (handle ≡ handles.old.next)
+        × (handles.new ≡ record { rows = handles.old.rows ++ (handle, spot) ∷ []; next = handle + 1 })) }
+    ensures new { IfOk result (λ handle. lookup (nat_eq handle) handles.old.rows ≡ None) }
+    ensures given_back { OnErr result ((before : List Stored) (k : Stored) → IsStore store.old (before ++ k ∷ [])
+        → k.addr ≡ non_zero_usize_get spot.addr → k.align ≡ align → IsStore store.new (before ++ [])) }
+    ensures refused { OnErr result (handles.new ≡ handles.old) }
+    ensures place { SamePlace store.old.heap.memory store.new.heap.memory }
+{
+    let added = handles.add(spot);
+    if added.is_err() {
+        store.remove(spot.addr, align);
+    }
+    added
+}

@@ -1,0 +1,21 @@
+//! Small libraries over the allocator: a queue of messages, a pool of objects, strings that grow, and a picture of a pool.
+//!
+//! Each has a contract in its own words, in which no block, chunk or free range appears: a caller sees a list of messages,
+//! or a map from handles to bytes.
+#![tactic(auto)]
+
+mod drawing;
+mod handles;
+mod items;
+mod messages;
+mod objects;
+mod store;
+mod strings;
+#[cfg(test)]
+mod tests;
+
+pub use drawing::picture;
+pub use messages::{Messages, PopError, PushError};
+pub use objects::{Objects, SetError, TakeError, UnknownHandle};
+pub use store::Heap;
+pub use strings::{StringError, Strings};

@@ -1,0 +1,141 @@
+//! A pool of objects of one size and alignment, which are handed out and taken back by handle.
+
+ghost use Rattle.std.specs.Prelude.{◌≡◌, ◌+◌, ◌↔◌, [], ◌∷◌, ◌++◌, None, Some, IfOk, OnOk, OnErr, IsErr, IsErrOf, IsSomeAnd, length, nat_eq, replicate};
+ghost use Rattle.std.specs.List.{splice};
+ghost use Rattle.std.specs.Map.{lookup, remove_entry, set_value};
+ghost use Rattle.rlsf_base.specs.Space.{range_of};
+ghost use Rattle.std.specs.Map.Iter.{GivesInOrder};
+ghost use Rattle.rlsf_blocks.specs.Blocks.{IsInOrder};
+ghost use Rattle.rlsf_uses.specs.Objects.{set_answer};
+ghost use Rattle.rlsf_uses.specs.Stored.{FitsPool};
+ghost use Rattle.rlsf_uses.specs.declared.objects.TakeError.TheVariants.{NoRoom, OutOfMemory};
+
+use crate::items::Items;
+use rlsf::{BlockInfo, Blocks, Layout, Memory};
+use std::alloc::{AllocError, Global};
+use std::marker::Model;
+
+/// Why no object was handed out.
+#[derive(Clone, Copy, Debug, PartialEq, Eq)]
+pub enum TakeError {
+    /// The pool's memory has no room for another object.
+    NoRoom,
+    /// No memory was left for the table of handles, or every number was a handle already.
+    OutOfMemory,
+}
+
+impl From<AllocError> for TakeError {
+    ghost from_gives = { λ _ e. e ≡ OutOfMemory };
+
+    fn from(_error: AllocError) -> TakeError {
+        TakeError::OutOfMemory
+    }
+}
+
+/// No object with that handle is out.
+#[derive(Clone, Copy, Debug, PartialEq, Eq)]
+pub struct UnknownHandle;
+
+/// Why no bytes were written into an object.
+#[derive(Clone, Copy, Debug, PartialEq, Eq)]
+pub enum SetError {
+    /// No object with that handle is out.
+    UnknownHandle,
+    /// The bytes would reach past the end of the object.
+    OutOfRange,
+}
+
+/// A pool of objects of one layout, in a memory of its own.
+///
+/// Handles count up from 0, and a handle that was given back never comes back.
+#[derive(Drop)]
+pub struct Objects {
+    items: Items,
+    layout: Layout,
+}
+
+impl Model for Objects {
+    ghost use Rattle.std.specs.Prelude.{◌≡◌};
+    ghost use Rattle.rlsf_uses.specs.Objects.{Pool, HaveSize};
+
+    ghost Value = { Pool };
+
+    ghost view = { λ o. record { objects = o.items.lists; next = o.items.next; size = o.layout.size; align = o.layout.align; memory = o.items.memory } };
+
+    ghost invariant = { λ o. (o.items.align ≡ o.layout.align) × HaveSize o.layout.size o.items.lists };
+}
+
+impl Objects {
+    /// A pool of which no object is out yet. Its memory is all that objects are taken from.
+    pub fn new(alloc: Global, memory: Memory, layout: Layout) -> Objects
+        ensures { result ≡ record { objects = []; next = 0; size = layout.size; align = layout.align; memory = range_of memory } }
+    {
+        Objects {
+            items: Items::new(alloc, memory, layout.align),
+            layout,
+        }
+    }
+
+    /// How many objects are out.
+    pub fn len(&self) -> usize
+        ensures { result ≡ length self.now.objects }
+    {
+        self.items.len()
+    }
+
+    /// Hands out an object of zeros, under a new handle.
+    ///
+    /// Refused without room for it, or without memory for its handle, and then nothing changes. A pool of which no object is out, and
+    /// whose memory fits one, has room.
+    pub fn take(&mut self) -> Result<usize, TakeError>
+        ensures taken { IfOk result (λ handle. (handle ≡ self.old.next)
+            × (self.new ≡ record self.old { objects = self.old.objects ++ (handle, replicate self.old.size 0) ∷ []; next = handle + 1 })) }
+        ensures new { IfOk result (λ handle. lookup (nat_eq handle) self.old.objects ≡ None) }
+        ensures room { self.old.objects ≡ [] → FitsPool self.old.memory self.old.size self.old.align → IsErrOf result NoRoom → ⊥ }
+        ensures refused { OnErr result (self.new ≡ self.old) }
+    {
+        self.items.add_zeros(self.layout)
+    }
+
+    /// Takes an object back. Its handle is unknown from then on, and all others are as they were.
+    ///
+    /// Refused exactly where no object with that handle is out, and then nothing changes.
+    pub fn give_back(&mut self, handle: usize) -> Result<(), UnknownHandle>
+        ensures given_back { OnOk result (self.new ≡ record self.old { objects = remove_entry (nat_eq handle) self.old.objects }) }
+        ensures gone { lookup (nat_eq handle) self.new.objects ≡ None }
+        ensures unknown { IsErr result ↔ (lookup (nat_eq handle) self.old.objects ≡ None) }
+        ensures refused { OnErr result (self.new ≡ self.old) }
+    {
+        self.items.remove(handle)
+    }
+
+    /// The bytes of an object. Refused exactly where no object with that handle is out.
+    pub fn get(&self, handle: usize) -> Result<&[u8], UnknownHandle>
+        ensures bytes { IfOk result (λ bytes. lookup (nat_eq handle) self.now.objects ≡ Some bytes.now) }
+        ensures len { IfOk result (λ bytes. length bytes.now ≡ self.now.size) }
+        ensures unknown { OnErr result (lookup (nat_eq handle) self.now.objects ≡ None) }
+    {
+        self.items.get(handle)
+    }
+
+    /// Writes bytes over those of one object, from an offset on. All others are as they were.
+    ///
+    /// Refused exactly where no object with that handle is out, or else where the bytes would reach past its end, and then nothing
+    /// changes.
+    pub fn set(&mut self, handle: usize, offset: usize, bytes: &[u8]) -> Result<(), SetError>
+        ensures answer { result ≡ set_answer (lookup (nat_eq handle) self.old.objects) (offset + length bytes.now) }
+        ensures written { OnOk result (IsSomeAnd (lookup (nat_eq handle) self.old.objects) (λ old.
+            self.new ≡ record self.old { objects = set_value (nat_eq handle) self.old.objects (splice old offset (offset + length bytes.now) bytes.now) })) }
+        ensures refused { OnErr result (self.new ≡ self.old) }
+    {
+        self.items.write(handle, offset, bytes)
+    }
+
+    /// The blocks of the pool, used and free, in address order, as for a picture.
+    pub fn blocks(&self) -> Blocks<'_>
+        ensures order { IsInOrder result }
+        ensures runs { GivesInOrder BlockInfo }
+    {
+        self.items.blocks()
+    }
+}

@@ -1,0 +1,150 @@
+//! Lists of bytes, each in a payload of one allocator: what the libraries of this crate share.
+
+ghost use Rattle.std.specs.Prelude.{◌≡◌, ◌≤◌, ◌+◌, ◌∷◌, ◌++◌, ℕ, List, [], length, replicate, IfNone, IfSome, IsSome};
+ghost use Rattle.std.specs.Int.NonZero.{non_zero_usize_get};
+ghost use Rattle.std.specs.List.{splice};
+ghost use Rattle.std.specs.Map.Iter.{GivesInOrder};
+ghost use Rattle.rlsf_base.specs.Space.{SamePlace, range_of};
+ghost use Rattle.rlsf_blocks.specs.Blocks.{AreBlocks, walked};
+ghost use Rattle.rlsf_uses.specs.Stored.{Stored, stored, FitsPool, IsStore, HasStored, HasRoomFor};
+
+use rlsf::{Addr, BlockInfo, Blocks, Layout, Memory, Range, Tlsf};
+use std::marker::Model;
+use std::num::NonZeroUsize;
+
+/// The allocator of these libraries: chunks of any length, and eight size classes a row.
+pub type Heap = Tlsf<u64, u64, 59, 8>;
+
+/// An allocator over one pool, whose payloads each keep a list of bytes in their front.
+#[derive(Drop)]
+pub(crate) struct Store {
+    heap: Heap,
+    pool: Range,
+}
+
+impl Model for Store {
+    ghost use Rattle.rlsf_uses.specs.Stored.{StoreContents, store_contents};
+
+    ghost Value = { StoreContents };
+
+    ghost view = { λ s. store_contents s.heap s.pool };
+}
+
+impl Store {
+    /// A store that keeps nothing, over a memory that is its pool.
+    pub(crate) fn new(memory: Memory) -> Store
+        ensures empty { IsStore result [] }
+        ensures place { SamePlace memory result.heap.memory }
+        ensures touches { result.heap.memory.touches ≤ memory.touches + 13 }
+    {
+        let start = memory.start();
+        let len = memory.len();
+        let mut heap = Tlsf::new(memory);
+        let taken = heap.insert_free_block_ptr(Range { start, len });
+        let len = taken.map_or(0, NonZeroUsize::get);
+        Store {
+            heap,
+            pool: Range { start, len },
+        }
+    }
+
+    /// Stores bytes in a payload of their own. Answers its address, or `None` without room, and then nothing changes.
+    pub(crate) fn add(&mut self, bytes: &[u8]) -> Option<Addr>
+        ensures stored { IfSome result (λ addr. (before after : List Stored) → IsStore self.old (before ++ after)
+            → IsStore self.new (before ++ stored (non_zero_usize_get addr) 1 bytes.now ∷ after)) }
+        ensures refused { IfNone result ((all : List Stored) → IsStore self.old all → IsStore self.new all) }
+        ensures room { IsStore self.old [] → FitsPool (range_of self.old.heap.memory) (length bytes.now) 1 → IsSome result }
+        ensures place { SamePlace self.old.heap.memory self.new.heap.memory }
+        ensures touches { self.new.heap.memory.touches ≤ self.old.heap.memory.touches + 30 }
+    {
+        let Ok(layout) = Layout::from_size_align(bytes.len(), 1) else {
+            return None;
+        };
+        let addr = self.heap.allocate(layout)?;
+        write_at(self.heap.payload_mut(addr), 0, bytes);
+        Some(addr)
+    }
+
+    /// Stores as many zeros as a layout has bytes, at its alignment. Answers their address, or `None` without room, and then
+    /// nothing changes.
+    pub(crate) fn add_zeros(&mut self, layout: Layout) -> Option<Addr>
+        ensures stored { IfSome result (λ addr. (before after : List Stored) → IsStore self.old (before ++ after)
+            → IsStore self.new (before ++ stored (non_zero_usize_get addr) layout.align (replicate layout.size 0) ∷ after)) }
+        ensures refused { IfNone result ((all : List Stored) → IsStore self.old all → IsStore self.new all) }
+        ensures room { IsStore self.old [] → FitsPool (range_of self.old.heap.memory) layout.size layout.align → IsSome result }
+        ensures place { SamePlace self.old.heap.memory self.new.heap.memory }
+        ensures touches { self.new.heap.memory.touches ≤ self.old.heap.memory.touches + 30 }
+    {
+        let addr = self.heap.allocate(layout)?;
+        self.heap.payload_mut(addr).fill(0);
+        Some(addr)
+    }
+
+    /// The bytes that are stored at an address, as many as are kept there.
+    pub(crate) fn read(&self, addr: Addr, len: usize) -> &[u8]
+        requires { (all : List Stored) × (k : Stored) × IsStore self.now all × HasStored all k (non_zero_usize_get addr) len }
+        ensures { (all : List Stored) (k : Stored) → IsStore self.now all → HasStored all k (non_zero_usize_get addr) len → result.now ≡ k.bytes }
+    {
+        &self.heap.payload(addr)[..len]
+    }
+
+    /// Writes bytes over those that are stored at an address, from an offset on.
+    pub(crate) fn write(&mut self, addr: Addr, offset: usize, bytes: &[u8])
+        requires { (before after : List Stored) × (k : Stored) × IsStore self.old (before ++ k ∷ after) × HasRoomFor k (non_zero_usize_get addr) (offset + length bytes.now) }
+        ensures stored { (before after : List Stored) (k : Stored) → IsStore self.old (before ++ k ∷ after) → HasRoomFor k (non_zero_usize_get addr) (offset + length bytes.now)
+            → IsStore self.new (before ++ stored k.addr k.align (splice k.bytes offset (offset + length bytes.now) bytes.now) ∷ after) }
+        ensures place { SamePlace self.old.heap.memory self.new.heap.memory }
+        ensures touches { self.new.heap.memory.touches ≤ self.old.heap.memory.touches + 3 }
+    {
+        write_at(self.heap.payload_mut(addr), offset, bytes);
+    }
+
+    /// Stores more bytes behind the `len` bytes that are stored at an address, whose payload may move. Answers its address, or
+    /// `None` without room, and then nothing changes.
+    pub(crate) fn append(&mut self, addr: Addr, len: usize, more: &[u8]) -> Option<Addr>
+        requires { (before after : List Stored) × (k : Stored) × IsStore self.old (before ++ k ∷ after) × (k.addr ≡ non_zero_usize_get addr) × (k.align ≡ 1) × (length k.bytes ≡ len) }
+        ensures stored { IfSome result (λ to. (before after : List Stored) (k : Stored) → IsStore self.old (before ++ k ∷ after) → k.addr ≡ non_zero_usize_get addr → k.align ≡ 1 → length k.bytes ≡ len
+            → IsStore self.new (before ++ stored (non_zero_usize_get to) 1 (k.bytes ++ more.now) ∷ after)) }
+        ensures refused { IfNone result ((before after : List Stored) (k : Stored) → IsStore self.old (before ++ k ∷ after) → k.addr ≡ non_zero_usize_get addr → k.align ≡ 1 → length k.bytes ≡ len
+            → IsStore self.new (before ++ k ∷ after)) }
+        ensures place { SamePlace self.old.heap.memory self.new.heap.memory }
+        ensures touches { self.new.heap.memory.touches ≤ self.old.heap.memory.touches + 69 }
+    {
+        let size = len.checked_add(more.len())?;
+        let Ok(layout) = Layout::from_size_align(size, 1) else {
+            return None;
+        };
+        let to = self.heap.reallocate(addr, layout)?;
+        write_at(self.heap.payload_mut(to), len, more);
+        Some(to)
+    }
+
+    /// Gives back what is stored at an address, with that alignment.
+    pub(crate) fn remove(&mut self, addr: Addr, align: usize)
+        requires { (before after : List Stored) × (k : Stored) × IsStore self.old (before ++ k ∷ after) × (k.addr ≡ non_zero_usize_get addr) × (k.align ≡ align) }
+        ensures stored { (before after : List Stored) (k : Stored) → IsStore self.old (before ++ k ∷ after) → k.addr ≡ non_zero_usize_get addr → k.align ≡ align
+            → IsStore self.new (before ++ after) }
+        ensures place { SamePlace self.old.heap.memory self.new.heap.memory }
+        ensures touches { self.new.heap.memory.touches ≤ self.old.heap.memory.touches + 32 }
+    {
+        self.heap.deallocate(addr, align);
+    }
+
+    /// The blocks of the pool, used and free, in address order.
+    pub(crate) fn blocks(&self) -> Blocks<'_>
+        requires { (all : List Stored) × IsStore self.now all }
+        ensures blocks { (all : List Stored) (store : IsStore self.now all) → AreBlocks store.state (walked self.now.pool) result }
+        ensures runs { GivesInOrder BlockInfo }
+    {
+        self.heap.iter_blocks(self.pool)
+    }
+}
+
+/// Writes bytes over those of a payload, from an offset on.
+fn write_at(payload: &mut [u8], offset: usize, bytes: &[u8])
+    requires { offset + length bytes.now ≤ length payload.old }
+    ensures bytes { payload.new ≡ splice payload.old offset (offset + length bytes.now) bytes.now }
+    ensures len { length payload.new ≡ length payload.old }
+{
+    payload[offset..offset + bytes.len()].copy_from_slice(bytes);
+}
