@@ -100,7 +100,7 @@ chunks-filled s t addr bytes step = ap (λ x. x.chunks) step.after
 
 -- ---- what an insert makes
 
-IsIn-with_chunks : (c : Range) (cs : List Range) (r : State) → IsIn c (with_chunks cs r).chunks → IsIn c cs ⊎ IsIn c r.chunks
+pub IsIn-with_chunks : (c : Range) (cs : List Range) (r : State) → IsIn c (with_chunks cs r).chunks → IsIn c cs ⊎ IsIn c r.chunks
 IsIn-with_chunks c [] r i = inr i
 IsIn-with_chunks c (d ∷ cs) r i = elim (IsIn-with_chunks c cs (with_chunk d r) i) [
   | inl new ↦ inl (inr new)

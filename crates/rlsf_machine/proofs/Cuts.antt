@@ -62,6 +62,9 @@ most_whole fllen rows =
     let least : 2 ^ 6 ≤ 2 ^ (5 + fllen) = (let more : 6 ≤ 5 + fllen = omega arith in pow_mono {i = 6} more) in
     (omega arith, omega arith)
 
+whole_product : (m n : ℕ) → m % 32 ≡ 0 → n * m % 32 ≡ 0
+whole_product m n e = let times : m ≡ 32 * (m / 32) = omega arith in let product : n * m ≡ n * (32 * (m / 32)) = ap (λ k. n * k) times in omega arith
+
 module _ (part : Range) (part_whole : IsWhole part) where
   IsIn-cut_most : (most : ℕ) → most % 32 ≡ 0 → 64 ≤ most → (c : Range) → IsIn c (cut (Some most) part) → IsPiece most part c
   IsIn-cut_most most most32 room c h =
@@ -81,9 +84,6 @@ module _ (part : Range) (part_whole : IsWhole part) where
             })
       ]
     where
-      whole_product : (m n : ℕ) → m % 32 ≡ 0 → n * m % 32 ≡ 0
-      whole_product m n e = let times : m ≡ 32 * (m / 32) = omega arith in let product : n * m ≡ n * (32 * (m / 32)) = ap (λ k. n * k) times in omega arith
-
       last : (len most : ℕ) → 64 ≤ most → len - len / most * most ≤ most
       last len most room = omega arith
 
@@ -257,3 +257,27 @@ coverage-cut_last (Some most) part a =
       rest.1,
       covers-split part.start behind end a (omega arith) from (range_at part.start (end - part.start)) (range_at part.start (n * most)) (range_at behind (end - behind)) refl (omega arith) refl refl refl (omega arith),
     ))
+
+-- the last chunk ends where the part does, or 32 bytes before
+abbrev EndsNear : ℕ → ℕ → Type 0
+EndsNear last end = (last ≤ end) × (end ≤ last + 32)
+
+end_of_last-remainder : (at len : ℕ) → len % 32 ≡ 0 → EndsNear (end_of_last at (remainder at len)) (at + len)
+end_of_last-remainder at len whole = elim (cases_lt len 64) [
+  | inl short ↦ subst (λ cs. EndsNear (end_of_last at cs) (at + len)) (sym (remainder-none at len short)) (omega arith, omega arith)
+  | inr room ↦ subst (λ cs. EndsNear (end_of_last at cs) (at + len)) (sym (remainder-one at len room)) (omega arith, omega arith)
+]
+
+end_of_last-cut_most : (most : ℕ) (part : Range) → most % 32 ≡ 0 → part.len % 32 ≡ 0 → EndsNear (end_of_last part.start (cut (Some most) part)) (end_of part)
+end_of_last-cut_most most part most32 whole =
+    let n = part.len / most in
+    let fits : n * most ≤ part.len = div-mul-le_self part.len most in
+    let rest = end_of_last-remainder (part.start + n * most) (part.len - n * most) (omega (arith, whole_product most n most32)) in
+    let last = end_of_last-adjacent n part.start most (remainder (part.start + n * most) (part.len - n * most)) in
+    (omega (arith, rest.0), omega (arith, rest.1))
+
+pub end_of_last-cut : (fllen : ℕ) (part : Range) → 0 < fllen → part.len % 32 ≡ 0 → EndsNear (end_of_last part.start (cut (max_pool_size fllen) part)) (end_of part)
+end_of_last-cut fllen part rows whole = elim (max_pool-cases fllen) [
+  | inl some ↦ subst (λ o. EndsNear (end_of_last part.start (cut o part)) (end_of part)) (sym some) (end_of_last-cut_most (2 ^ (5 + fllen)) part (most_whole fllen rows).0 whole)
+  | inr (none, large) ↦ subst (λ o. EndsNear (end_of_last part.start (cut o part)) (end_of part)) (sym none) (end_of_last-remainder part.start part.len whole)
+]

@@ -105,6 +105,13 @@ module _ (r : Range) (free : List Range) (r_whole : IsWhole r) (some : 0 < r.len
       let second : covers (between low (end_of r)) a ≡ covers (between low r.start) a + covers r a = covers-split low r.start (end_of r) a l.order (omega arith) (between low (end_of r)) (between low r.start) r refl (omega arith) refl (omega arith) refl refl in
       omega (arith, l.cover a, h.cover a, first, second)
 
+  -- and is no shorter than the range
+  pub IsIn-join : (f : Range) × IsIn f (join r free) × (r.len ≤ f.len)
+  IsIn-join =
+      let low = start_or r.start (find (ends_at r.start) free) in
+      let high = end_or (end_of r) (find (starts_at (end_of r)) (without (ends_at r.start) free)) in
+      (between low high, inl refl, omega (arith, left.order, right.order))
+
   pub IsSound-join : IsSound (join r free)
   IsSound-join =
       let low = start_or r.start (find (ends_at r.start) free) in

@@ -1,4 +1,5 @@
 -- The laws of the list machine, proved.
+pub mod AddedChunks
 pub mod Allocations
 pub mod Appends
 pub mod Callers
@@ -10,9 +11,11 @@ pub mod Coverage
 pub mod Cuts
 pub mod Determined
 pub mod Examples
+pub mod Growths
 pub mod Insertions
 pub mod Joins
 pub mod Live
+pub mod Notes
 pub mod Orders
 pub mod Payloads
 pub mod Plans
@@ -24,4 +27,5 @@ pub mod Room
 pub mod Rows
 pub mod Similar
 pub mod Steps
+pub mod TakenPools
 pub mod Tiling

@@ -1,15 +1,20 @@
 -- Where a payload lies in its block, and how long the block is.
-use Rattle.std.proofs.Common.{◌≡◌, ℕ, zero, suc, ◌+◌, ◌-◌, ◌*◌, ◌/◌, ◌%◌, ◌^◌, ◌<◌, ◌≤◌, arith, sym, ap, subst}
+use Rattle.std.proofs.Common.{◌≡◌, ◌≢◌, ℕ, zero, suc, ◌+◌, ◌-◌, ◌*◌, ◌/◌, ◌%◌, ◌^◌, ◌<◌, ◌≤◌, List, [], ◌∷◌, Some, None, cond, not, arith, inl, inr, refl, sym, ◌∙◌, ap, subst}
+use Rattle.std.proofs.lemmas.Bool.{cases_lt, le-leb, ne_eqb}
 use Rattle.std.proofs.lemmas.Nat.{pow_pos, pow-add}
 use Rattle.std.proofs.Math.Nat.{div-add-mod'}
 use Rattle.std.specs.Int.{next_multiple_of}
+use Rattle.rlsf_base.specs.declared.memory.range.Range.{Range}
 use Rattle.rlsf_base.specs.PowerOfTwo.{IsPowerOfTwo, floor_log2}
+use Rattle.rlsf_base.specs.Range.{end_of}
 use Rattle.rlsf_base.specs.Sizes.{request_size}
 use Rattle.rlsf_base.proofs.Numbers.PowersOfTwo.{IsPowerOfTwo-positive}
 use Rattle.rlsf_base.proofs.Numbers.Roundings.{next_multiple_of-le, next_multiple_of-lt, next_multiple_of-multiple}
+use Rattle.rlsf_machine.specs.Lists.{IsIn}
 use Rattle.rlsf_machine.specs.Payload.{payload_of, block_length}
-use Rattle.rlsf_machine.specs.State.{Used}
-use Rattle.rlsf_machine.specs.WellFormed.{IsUsed}
+use Rattle.rlsf_machine.specs.Reallocate.{in_place, resized, tail_joined, Plan}
+use Rattle.rlsf_machine.specs.State.{State, Used, others, usable}
+use Rattle.rlsf_machine.specs.WellFormed.{IsUsed, IsWellFormed}
 
 -- rounding the address 16 bytes into a block up to a power of two adds that power less 16 at most
 payload_pow : (k b : ℕ) → b % 32 ≡ 0 → payload_of b (2 ^ k) ≤ b + 16 + (2 ^ k - 16)
@@ -67,3 +72,21 @@ block_length-request b size align whole power =
   where
     rounded : (m n : ℕ) → m ≤ n → next_multiple_of m 32 ≤ next_multiple_of n 32
     rounded m n order = omega arith
+
+-- used blocks none of which has the address are all left without it
+pub others-none : (addr : ℕ) (used : List Used) → ((v : Used) → IsIn v used → v.payload ≢ addr) → others addr used ≡ used
+others-none addr [] none = refl
+others-none addr (x ∷ xs) none =
+    ap (λ b. cond (not b) (x ∷ others addr xs) (others addr xs)) (ne_eqb x.payload addr (none x (inl refl))) ∙ ap (λ l. x ∷ l) (others-none addr xs (λ v i. none v (inr i)))
+
+-- a block that can't have the size where it stands has fewer usable bytes
+pub usable-short : {fllen sllen : ℕ} {memory : Range} {s : State} → IsWellFormed fllen sllen memory s → (u : Used) → IsIn u s.used → (size : ℕ) → in_place s u size ≡ None → (usable u).len < size
+usable-short {s = s} w u i size short =
+    let is = w.used u i in
+    elim (cases_lt (end_of u.block) (end_of (resized u size))) [
+      | inl past ↦ omega (arith, past, is.whole.len, is.within, IsUsed-after_start u is)
+      | inr fits ↦
+          let plan : Plan = record { block = resized u size; payload = u.payload; free = tail_joined (resized u size) (end_of u.block) s.free } in
+          let bad : Some plan ≡ None = sym (ap (λ b. cond b (Some plan) None) (le-leb (end_of (resized u size)) (end_of u.block) fits)) ∙ short in
+          absurd (cc)
+    ]

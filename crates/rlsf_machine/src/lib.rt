@@ -3,7 +3,8 @@
 //! It knows the chunks of memory that were handed to it, the blocks that are in use, and one list of the ranges that
 //! are free, the newest first; nothing of how a program keeps them. Read `specs/` in this order: `Lists` (two words),
 //! `State`, `Payload`, `WellFormed`, `Join`, `Insert` (and append), `Allocate`, `Release`, `Reallocate`, `Run` (lists of
-//! calls), `Callers` (what these see of it), `Laws`. Each step is a relation between the state before, the call, the reply and the state after.
+//! calls), `Callers` (what these see of it), `Laws`; and for a machine that asks a source for memory `Terms` and `Note` (sources),
+//! `FlexState`, `Growth`, `FlexAllocate`, `FlexReallocate`, `End`. Each step is a relation between the state before, the call, the reply and the state after.
 #![tactic(auto)]
 
 ghost use Rattle.rlsf_machine.specs.Laws.{EmptyIsWellFormed, StepsKeepWellFormed, RunsKeepWellFormed, StepsAreDetermined, OrderMeansNothing, RefusalChangesNothing, ChunksAreCutOffTheFront, LiveAddressesAreAligned, LiveAddressHasOneBlock, PayloadsAreDisjoint, PayloadLiesInOneChunk, AllocationHasSize, ReallocationHasSize, RoomIsFound, PoolHasRoom, AllocationAnswers, RefusedWithoutReach, ChoiceIsFirstOfLeast, IdleChunkIsOneRange, ChunksStay, OtherPayloadsStay, HandedOutIsNew, ReallocatedIsLive, LiveStays, ReleasedIsNotLive, FilledHasBytes, FillLeavesOthers, DeallocationLeavesOthers, InsertedChunksLieInRange, UsedWasUsed, SimilarStatesAgree, EachCallAnswers, ReallocationKeepsBytes, PayloadIsInBlock, CallersSeeMap, IdleChunkHasRoom};

@@ -4,7 +4,9 @@ mod streams;
 
 use rlsf_text::{Fault, status};
 use rlsf_trace::replay;
+use std::alloc::Global;
 use std::io::Read;
+use std::process::Abort;
 use std::test::Fail;
 use streams::{Broken, Interrupted, Narrow};
 
@@ -22,136 +24,136 @@ fn narrow(rt: &HostRuntime, room: usize) -> Narrow {
 }
 
 /// What is written for a text, and what is told of its fault and the status.
-fn replayed(rt: &HostRuntime, text: &[u8]) -> Result<String, Fail> {
-    let mut writer = Vec::new(rt.alloc());
+fn replayed(alloc: Global, text: &[u8]) -> Result<String, Fail> {
+    let mut writer = Vec::new(alloc);
     let mut reader = text;
-    let outcome = replay(rt.alloc(), &mut reader, &mut writer);
+    let outcome = replay(alloc, &mut reader, &mut writer);
     let code = status(&outcome);
     let written = str::from_utf8(&writer)?;
     match outcome {
-        Ok(()) => Ok(format!(in rt.alloc(); "{written}status {code}")?),
-        Err(fault) => Ok(format!(in rt.alloc(); "{written}{fault}, status {code}")?),
+        Ok(()) => Ok(format!(in alloc; "{written}status {code}")?),
+        Err(fault) => Ok(format!(in alloc; "{written}{fault}, status {code}")?),
     }
+}
+
+/// Passes where for each text is written, and told of its fault and the status, what stands beside it.
+fn replays(rt: &impl Abort, alloc: Global, cases: &[(&[u8], &str)]) -> Result<(), Fail> {
+    for (text, wanted) in cases {
+        let told = replayed(alloc, text)?;
+        assert_eq!(rt; told.as_str(), *wanted);
+    }
+    Ok(())
 }
 
 #[test]
 fn first_run(rt: HostRuntime) -> Result<(), Fail> {
-    let told = replayed(&rt, FIRST_RUN)?;
-    assert_eq!(rt;
-        told.as_str(),
-        "insert some 96\nalloc 1 at 4112\nalloc 2 at 4144\nalloc 3 none\nstatus 0"
-    );
-    Ok(())
+    let cases: [(&[u8], &str); 1] = [(
+        FIRST_RUN,
+        "insert some 96\nalloc 1 at 4112\nalloc 2 at 4144\nalloc 3 none\nstatus 0",
+    )];
+    replays(&rt, rt.alloc(), &cases)
 }
 
 #[test]
 fn memory_that_the_machine_lacks(rt: HostRuntime) -> Result<(), Fail> {
-    let told = replayed(&rt, b"8x8 1 18446744073709551614\nalloc 1 0 1\n")?;
-    assert_eq!(rt; told.as_str(), "line 1: OutOfMemory, status 1");
-    // The text's own faults come first.
-    let late = replayed(&rt, b"8x8 1 18446744073709551614\nfoo 1\n")?;
-    assert_eq!(rt; late.as_str(), "line 2: UnknownOp, status 1");
-    Ok(())
+    let cases: [(&[u8], &str); 2] = [
+        (
+            b"8x8 1 18446744073709551614\nalloc 1 0 1\n",
+            "line 1: OutOfMemory, status 1",
+        ),
+        // The text's own faults come first.
+        (
+            b"8x8 1 18446744073709551614\nfoo 1\n",
+            "line 2: UnknownOp, status 1",
+        ),
+    ];
+    replays(&rt, rt.alloc(), &cases)
 }
 
 #[test]
 fn refused_ops(rt: HostRuntime) -> Result<(), Fail> {
-    let outside = replayed(&rt, b"8x8 4096 96\ninsert 1 1\n")?;
-    assert_eq!(rt; outside.as_str(), "refused 3 BadRange\nstatus 0");
-    let twice = replayed(
-        &rt,
-        b"8x8 4096 4096\ninsert 4096 96\nalloc 1 0 1\nalloc 1 0 1\n",
-    )?;
-    assert_eq!(rt;
-        twice.as_str(),
-        "insert some 96\nalloc 1 at 4112\nrefused 2 NameTaken\nstatus 0"
-    );
-    let past = replayed(
-        &rt,
-        b"8x8 4096 4096\ninsert 4096 96\nalloc 1 17 1\nput 1 48 0\nget 1 48\nget 1 18446744073709551615\n",
-    )?;
-    assert_eq!(rt;
-        past.as_str(),
-        "insert some 96\nalloc 1 at 4112\nrefused 4 BadOffset\nrefused 4 BadOffset\nrefused 4 BadOffset\nstatus 0"
-    );
-    let unknown = replayed(
-        &rt,
-        b"8x8 4096 4096\ninsert 4096 96\nfree 1\nfill 1 0\nput 1 0 0\nget 1 0\nalloc 1 0 1\nfree 1\nfree 1\n",
-    )?;
-    assert_eq!(rt;
-        unknown.as_str(),
-        "insert some 96\nrefused 1 UnknownName\nrefused 1 UnknownName\nrefused 1 UnknownName\nrefused 1 UnknownName\nalloc 1 at 4112\nfree 1 done\nrefused 1 UnknownName\nstatus 0"
-    );
-    Ok(())
+    let cases: [(&[u8], &str); 4] = [
+        (b"8x8 4096 96\ninsert 1 1\n", "refused 3 BadRange\nstatus 0"),
+        (
+            b"8x8 4096 4096\ninsert 4096 96\nalloc 1 0 1\nalloc 1 0 1\n",
+            "insert some 96\nalloc 1 at 4112\nrefused 2 NameTaken\nstatus 0",
+        ),
+        (
+            b"8x8 4096 4096\ninsert 4096 96\nalloc 1 17 1\nput 1 48 0\nget 1 48\nget 1 18446744073709551615\n",
+            "insert some 96\nalloc 1 at 4112\nrefused 4 BadOffset\nrefused 4 BadOffset\nrefused 4 BadOffset\nstatus 0",
+        ),
+        (
+            b"8x8 4096 4096\ninsert 4096 96\nfree 1\nfill 1 0\nput 1 0 0\nget 1 0\nalloc 1 0 1\nfree 1\nfree 1\n",
+            "insert some 96\nrefused 1 UnknownName\nrefused 1 UnknownName\nrefused 1 UnknownName\nrefused 1 UnknownName\nalloc 1 at 4112\nfree 1 done\nrefused 1 UnknownName\nstatus 0",
+        ),
+    ];
+    replays(&rt, rt.alloc(), &cases)
 }
 
 #[test]
 fn named_payloads(rt: HostRuntime) -> Result<(), Fail> {
-    // 48 bytes are usable.
-    let told = replayed(
-        &rt,
-        b"8x8 4096 4096\ninsert 4096 96\nalloc 1 17 1\nfill 1 7\nget 1 47\nput 1 47 200\nget 1 47\nget 1 46\nfree 1\nalloc 1 0 1\n",
-    )?;
-    assert_eq!(rt;
-        told.as_str(),
-        "insert some 96\nalloc 1 at 4112\nfill 1 done\nget 1 7\nput 1 done\nget 1 200\nget 1 7\nfree 1 done\nalloc 1 at 4112\nstatus 0"
-    );
-    Ok(())
+    let cases: [(&[u8], &str); 1] = [
+        // 48 bytes are usable.
+        (
+            b"8x8 4096 4096\ninsert 4096 96\nalloc 1 17 1\nfill 1 7\nget 1 47\nput 1 47 200\nget 1 47\nget 1 46\nfree 1\nalloc 1 0 1\n",
+            "insert some 96\nalloc 1 at 4112\nfill 1 done\nget 1 7\nput 1 done\nget 1 200\nget 1 7\nfree 1 done\nalloc 1 at 4112\nstatus 0",
+        ),
+    ];
+    replays(&rt, rt.alloc(), &cases)
 }
 
 #[test]
 fn pools_and_payloads_grow(rt: HostRuntime) -> Result<(), Fail> {
-    let pool = replayed(
-        &rt,
-        b"59x8 4096 4096\ninsert 4096 256\nalloc 1 384 1\nappend 4352 256\nalloc 1 384 1\nappend 4097 0\n",
-    )?;
-    assert_eq!(rt;
-        pool.as_str(),
-        "insert some 256\nalloc 1 none\nappend 256\nalloc 1 at 4112\nrefused 3 BadRange\nstatus 0"
-    );
-    let payload = replayed(
-        &rt,
-        b"8x8 4096 4096\ninsert 4096 96\nalloc 1 17 1\nrealloc 1 0\nrealloc 9 0\nrealloc 1 9223372036854775808\nrealloc 1 9223372036854775807\nalloc 2 0 1\n",
-    )?;
-    assert_eq!(rt;
-        payload.as_str(),
-        "insert some 96\nalloc 1 at 4112\nrealloc 1 at 4112\nrefused 1 UnknownName\nrefused 5 BadLayout\nrealloc 1 none\nalloc 2 at 4144\nstatus 0"
-    );
-    Ok(())
+    let cases: [(&[u8], &str); 2] = [
+        (
+            b"59x8 4096 4096\ninsert 4096 256\nalloc 1 384 1\nappend 4352 256\nalloc 1 384 1\nappend 4097 0\n",
+            "insert some 256\nalloc 1 none\nappend 256\nalloc 1 at 4112\nrefused 3 BadRange\nstatus 0",
+        ),
+        (
+            b"8x8 4096 4096\ninsert 4096 96\nalloc 1 17 1\nrealloc 1 0\nrealloc 9 0\nrealloc 1 9223372036854775808\nrealloc 1 9223372036854775807\nalloc 2 0 1\n",
+            "insert some 96\nalloc 1 at 4112\nrealloc 1 at 4112\nrefused 1 UnknownName\nrefused 5 BadLayout\nrealloc 1 none\nalloc 2 at 4144\nstatus 0",
+        ),
+    ];
+    replays(&rt, rt.alloc(), &cases)
 }
 
 // The stored run of the program.
 #[test]
 fn stored_run(rt: HostRuntime) -> Result<(), Fail> {
-    let told = replayed(
-        &rt,
+    let cases: [(&[u8], &str); 1] = [(
         b"8x8 4096 4096\ninsert 4096 96\nalloc 1 17 1\nusable 1\nrealloc 1 0\nfree 9\nalloc 1 0 1\nalloc 2 0 1\nblock 4096 96 1\nblock 4096 96 2\n",
-    )?;
-    assert_eq!(rt;
-        told.as_str(),
-        "insert some 96\nalloc 1 at 4112\nusable 1 48\nrealloc 1 at 4112\nrefused 1 UnknownName\nrefused 2 NameTaken\nalloc 2 at 4144\nblock 4128 32 used\nblock none\nstatus 0"
-    );
-    Ok(())
+        "insert some 96\nalloc 1 at 4112\nusable 1 48\nrealloc 1 at 4112\nrefused 1 UnknownName\nrefused 2 NameTaken\nalloc 2 at 4144\nblock 4128 32 used\nblock none\nstatus 0",
+    )];
+    replays(&rt, rt.alloc(), &cases)
 }
 
 #[test]
 fn configurations(rt: HostRuntime) -> Result<(), Fail> {
-    // One row of one class makes chunks of 64 bytes.
-    let one = replayed(&rt, b"1x1 4096 4096\ninsert 4096 200\nalloc 1 0 1\n")?;
-    assert_eq!(rt; one.as_str(), "insert some 192\nalloc 1 at 4240\nstatus 0");
-    // A free block of 96 bytes is in the class from 64 bytes on where a row has one class, which does not reach 96.
-    let eight = replayed(&rt, b"8x1 4096 128\ninsert 4096 128\nalloc 1 66 1\n")?;
-    assert_eq!(rt; eight.as_str(), "insert some 128\nalloc 1 none\nstatus 0");
-    let rows = replayed(&rt, b"8x8 4096 128\ninsert 4096 128\nalloc 1 66 1\n")?;
-    assert_eq!(rt; rows.as_str(), "insert some 128\nalloc 1 at 4112\nstatus 0");
-    let twelve = replayed(&rt, b"12x16 4096 128\ninsert 4096 128\nalloc 1 66 1\n")?;
-    assert_eq!(rt;
-        twelve.as_str(),
-        "insert some 128\nalloc 1 at 4112\nstatus 0"
-    );
-    let wide = replayed(&rt, b"59x8 4096 128\ninsert 4096 128\nalloc 1 66 1\n")?;
-    assert_eq!(rt; wide.as_str(), "insert some 128\nalloc 1 at 4112\nstatus 0");
-    Ok(())
+    let cases: [(&[u8], &str); 5] = [
+        // One row of one class makes chunks of 64 bytes.
+        (
+            b"1x1 4096 4096\ninsert 4096 200\nalloc 1 0 1\n",
+            "insert some 192\nalloc 1 at 4240\nstatus 0",
+        ),
+        // A free block of 96 bytes is in the class from 64 bytes on where a row has one class, which does not reach 96.
+        (
+            b"8x1 4096 128\ninsert 4096 128\nalloc 1 66 1\n",
+            "insert some 128\nalloc 1 none\nstatus 0",
+        ),
+        (
+            b"8x8 4096 128\ninsert 4096 128\nalloc 1 66 1\n",
+            "insert some 128\nalloc 1 at 4112\nstatus 0",
+        ),
+        (
+            b"12x16 4096 128\ninsert 4096 128\nalloc 1 66 1\n",
+            "insert some 128\nalloc 1 at 4112\nstatus 0",
+        ),
+        (
+            b"59x8 4096 128\ninsert 4096 128\nalloc 1 66 1\n",
+            "insert some 128\nalloc 1 at 4112\nstatus 0",
+        ),
+    ];
+    replays(&rt, rt.alloc(), &cases)
 }
 
 #[test]

@@ -9,6 +9,7 @@ use rlsf_text::{Answer, Op, TraceError};
 use rlsf_tlsf::Tlsf;
 use std::alloc::Global;
 use std::num::NonZeroUsize;
+use std::process::Abort;
 use std::test::Fail;
 
 /// The answers to the ops, with 4096 bytes from 4096 on.
@@ -18,6 +19,12 @@ fn answers_to(alloc: Global, ops: &[Op]) -> Result<Vec<Answer>, Fail> {
     let mut answers = Vec::new(alloc);
     run(alloc, &mut tlsf, ops, &mut answers)?;
     Ok(answers)
+}
+
+/// Passes where these are the answers to the ops.
+fn answers(rt: &impl Abort, alloc: Global, ops: &[Op], expected: &[Answer]) -> Result<(), Fail> {
+    assert_eq!(rt; answers_to(alloc, ops)?.as_slice(), expected);
+    Ok(())
 }
 
 fn alloc_op(name: usize, size: usize) -> Result<Op, LayoutError> {
@@ -40,18 +47,13 @@ fn one_answer_an_op(rt: HostRuntime) -> Result<(), Fail> {
         alloc_op(2, 0)?,
         alloc_op(3, 0)?,
     ];
-    let answers = answers_to(rt.alloc(), &ops)?;
-    assert_eq!(rt;
-        answers.as_slice(),
-        [
-            Answer::Inserted(NonZeroUsize::new(96)),
-            placed(4112),
-            placed(4144),
-            Answer::Placed(None),
-        ]
-        .as_slice()
-    );
-    Ok(())
+    let expected = [
+        Answer::Inserted(NonZeroUsize::new(96)),
+        placed(4112),
+        placed(4144),
+        Answer::Placed(None),
+    ];
+    answers(&rt, rt.alloc(), &ops, &expected)
 }
 
 #[test]
@@ -63,20 +65,15 @@ fn names_are_taken_while_live(rt: HostRuntime) -> Result<(), Fail> {
         alloc_op(2, 0)?,
         alloc_op(2, 0)?,
     ];
-    let answers = answers_to(rt.alloc(), &ops)?;
     // A name whose payload found no room stays free.
-    assert_eq!(rt;
-        answers.as_slice(),
-        [
-            Answer::Inserted(NonZeroUsize::new(96)),
-            placed(4112),
-            Answer::Refused(TraceError::NameTaken),
-            Answer::Placed(None),
-            Answer::Placed(None),
-        ]
-        .as_slice()
-    );
-    Ok(())
+    let expected = [
+        Answer::Inserted(NonZeroUsize::new(96)),
+        placed(4112),
+        Answer::Refused(TraceError::NameTaken),
+        Answer::Placed(None),
+        Answer::Placed(None),
+    ];
+    answers(&rt, rt.alloc(), &ops, &expected)
 }
 
 #[test]
@@ -95,26 +92,21 @@ fn names_are_free_again(rt: HostRuntime) -> Result<(), Fail> {
         Op::Get(2, 0),
         Op::Get(1, 15),
     ];
-    let answers = answers_to(rt.alloc(), &ops)?;
-    assert_eq!(rt;
-        answers.as_slice(),
-        [
-            Answer::Inserted(NonZeroUsize::new(128)),
-            placed(4112),
-            placed(4144),
-            Answer::Done,
-            Answer::Done,
-            Answer::Byte(1),
-            Answer::Done,
-            Answer::Byte(2),
-            placed(4112),
-            Answer::Done,
-            Answer::Byte(2),
-            Answer::Byte(3),
-        ]
-        .as_slice()
-    );
-    Ok(())
+    let expected = [
+        Answer::Inserted(NonZeroUsize::new(128)),
+        placed(4112),
+        placed(4144),
+        Answer::Done,
+        Answer::Done,
+        Answer::Byte(1),
+        Answer::Done,
+        Answer::Byte(2),
+        placed(4112),
+        Answer::Done,
+        Answer::Byte(2),
+        Answer::Byte(3),
+    ];
+    answers(&rt, rt.alloc(), &ops, &expected)
 }
 
 #[test]
@@ -132,25 +124,20 @@ fn ranges_lie_in_the_memory_and_touch_no_pool(rt: HostRuntime) -> Result<(), Fai
         insert_op(4150, 0),
         insert_op(4224, 64),
     ];
-    let answers = answers_to(rt.alloc(), &ops)?;
     let bad = Answer::Refused(TraceError::BadRange);
-    assert_eq!(rt;
-        answers.as_slice(),
-        [
-            bad,
-            bad,
-            bad,
-            Answer::Inserted(NonZeroUsize::new(127)),
-            bad,
-            bad,
-            bad,
-            Answer::Inserted(None),
-            Answer::Inserted(None),
-            Answer::Inserted(NonZeroUsize::new(64)),
-        ]
-        .as_slice()
-    );
-    Ok(())
+    let expected = [
+        bad,
+        bad,
+        bad,
+        Answer::Inserted(NonZeroUsize::new(127)),
+        bad,
+        bad,
+        bad,
+        Answer::Inserted(None),
+        Answer::Inserted(None),
+        Answer::Inserted(NonZeroUsize::new(64)),
+    ];
+    answers(&rt, rt.alloc(), &ops, &expected)
 }
 
 #[test]
@@ -168,25 +155,20 @@ fn pools_are_found_whatever_their_order(rt: HostRuntime) -> Result<(), Fail> {
         insert_op(4160, 192),
         insert_op(4672, 64),
     ];
-    let answers = answers_to(rt.alloc(), &ops)?;
     let bad = Answer::Refused(TraceError::BadRange);
-    assert_eq!(rt;
-        answers.as_slice(),
-        [
-            Answer::Inserted(NonZeroUsize::new(64)),
-            Answer::Inserted(NonZeroUsize::new(64)),
-            Answer::Inserted(NonZeroUsize::new(64)),
-            bad,
-            bad,
-            bad,
-            bad,
-            Answer::Inserted(NonZeroUsize::new(192)),
-            Answer::Inserted(NonZeroUsize::new(192)),
-            Answer::Inserted(NonZeroUsize::new(64)),
-        ]
-        .as_slice()
-    );
-    Ok(())
+    let expected = [
+        Answer::Inserted(NonZeroUsize::new(64)),
+        Answer::Inserted(NonZeroUsize::new(64)),
+        Answer::Inserted(NonZeroUsize::new(64)),
+        bad,
+        bad,
+        bad,
+        bad,
+        Answer::Inserted(NonZeroUsize::new(192)),
+        Answer::Inserted(NonZeroUsize::new(192)),
+        Answer::Inserted(NonZeroUsize::new(64)),
+    ];
+    answers(&rt, rt.alloc(), &ops, &expected)
 }
 
 #[test]

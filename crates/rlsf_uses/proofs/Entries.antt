@@ -1,5 +1,5 @@
 -- Lists of entries, each a handle with a value.
-use Rattle.std.proofs.Common.{◌≡◌, ℕ, ◌<◌, Bool, true, false, List, [], ◌∷◌, ◌++◌, Option, None, Some, map, nat_eq, cond, arith, refl, sym, ap, subst, ◌∙◌, Greater, inl, inr}
+use Rattle.std.proofs.Common.{◌≡◌, ℕ, ◌<◌, Bool, true, false, List, [], ◌∷◌, ◌++◌, None, Some, map, nat_eq, arith, refl, sym, ap, subst, ◌∙◌, Greater, inl, inr}
 use Rattle.std.proofs.Math.Path.{fun_ext, ap₂}
 use Rattle.std.proofs.lemmas.Bool.{cases_Bool, ne_eqb}
 use Rattle.std.proofs.lemmas.Option.{none-some}
@@ -65,16 +65,18 @@ pub record IsFound {A : Type 0} (test : ℕ → Bool) (es : List (ℕ × A)) (x 
   pub whole : es ≡ before ++ (key, x) ∷ after
   pub less : remove_entry test es ≡ before ++ after
   pub changed : (y : A) → set_value test es y ≡ before ++ (key, y) ∷ after
+  pub passes : test key ≡ true
+  pub others : AllByRecursion (λ e. test e.0 ≡ false) before
 
 pub found : {A : Type 0} (test : ℕ → Bool) (es : List (ℕ × A)) (x : A) → lookup test es ≡ Some x → IsFound test es x
 found test [] x is = absurd (none-some x is)
 found test (e ∷ es) x is = elim (cases_Bool (test e.0)) [
   | inl here ↦
       let same : e.1 ≡ x = let head : Some e.1 ≡ Some x = rw here at is in cc in
-      record { before = []; after = es; key = e.0; whole = ap (λ y. (e.0, y) ∷ es) same; less = rw here refl; changed = λ y. rw here refl }
+      record { before = []; after = es; key = e.0; whole = ap (λ y. (e.0, y) ∷ es) same; less = rw here refl; changed = λ y. rw here refl; passes = here; others = tt }
   | inr other ↦
       let f : IsFound test es x = found test es x (rw other at is) in
-      record { before = e ∷ f.before; after = f.after; key = f.key; whole = ap (λ l. e ∷ l) f.whole; less = rw other (ap (λ l. e ∷ l) f.less); changed = λ y. rw other (ap (λ l. e ∷ l) (f.changed y)) }
+      record { before = e ∷ f.before; after = f.after; key = f.key; whole = ap (λ l. e ∷ l) f.whole; less = rw other (ap (λ l. e ∷ l) f.less); changed = λ y. rw other (ap (λ l. e ∷ l) (f.changed y)); passes = f.passes; others = (other, f.others) }
 ]
 
 -- ---- with f of each value
@@ -88,13 +90,11 @@ module _ {A B : Type 0} (f : A → B) where
   remove_entry-map_values test [] = refl
   remove_entry-map_values test (e ∷ es) = elim (cases_Bool (test e.0)) [ inl here ↦ rw here refl | inr other ↦ rw other (ap (λ l. (e.0, f e.1) ∷ l) (remove_entry-map_values test es)) ]
 
-  pub set_value-map_values : (test : ℕ → Bool) (es : List (ℕ × A)) (x : A) → set_value test (map_values f es) (f x) ≡ map_values f (set_value test es x)
-  set_value-map_values test [] x = refl
-  set_value-map_values test (e ∷ es) x = elim (cases_Bool (test e.0)) [ inl here ↦ rw here refl | inr other ↦ rw other (ap (λ l. (e.0, f e.1) ∷ l) (set_value-map_values test es x)) ]
-
-pub map_values-map_values : {A B C : Type 0} (f : B → C) (g : A → B) (es : List (ℕ × A)) → map_values f (map_values g es) ≡ map_values (λ x. f (g x)) es
-map_values-map_values f g [] = refl
-map_values-map_values f g (e ∷ es) = ap (λ l. (e.0, f (g e.1)) ∷ l) (map_values-map_values f g es)
+-- the value of a key that none before it passes for
+pub set_value-middle : {A B : Type 0} (f : A → B) (test : ℕ → Bool) (before after : List (ℕ × A)) (key : ℕ) (x : A) (y : B) → AllByRecursion (λ e. test e.0 ≡ false) before → test key ≡ true
+    → set_value test (map_values f (before ++ (key, x) ∷ after)) y ≡ map_values f before ++ (key, y) ∷ map_values f after
+set_value-middle f test [] after key x y others passes = rw passes refl
+set_value-middle f test (e ∷ es) after key x y (first, rest) passes = rw first (ap (λ l. (e.0, f e.1) ∷ l) (set_value-middle f test es after key x y rest passes))
 
 -- two functions that agree on the values
 pub map_values-same : {A B : Type 0} (f g : A → B) (es : List (ℕ × A)) → map f (values_of es) ≡ map g (values_of es) → map_values f es ≡ map_values g es

@@ -3,5 +3,7 @@ pub mod Entries
 pub mod Fronts
 pub mod HandledStores
 pub mod Maps
+pub mod Places
 pub mod Queues
 pub mod Stores
+pub mod UsedBlocks

@@ -1,6 +1,6 @@
 -- What a store keeps, over the allocator's steps.
 use mathlib.Core.Path.{ap₂}
-use Rattle.std.proofs.Common.{◌≡◌, ◌≢◌, ℕ, ◌+◌, ◌-◌, ◌<◌, ◌≤◌, cond, lit<, List, [], ◌∷◌, ◌++◌, length, map, take, drop, Option, Some, None, arith, refl, sym, ◌∙◌, ap, subst, inl, inr}
+use Rattle.std.proofs.Common.{◌≡◌, ◌≢◌, ℕ, ◌-◌, ◌<◌, ◌≤◌, cond, lit<, List, [], ◌∷◌, ◌++◌, length, map, take, drop, Option, Some, None, arith, refl, sym, ◌∙◌, ap, subst, inl, inr}
 use Rattle.std.proofs.lemmas.Bool.{cases_lt, le-leb, lt-leb}
 use Rattle.std.proofs.lemmas.List.{take-take}
 use Rattle.rlsf_base.specs.SizeClass.{IsValid}
@@ -10,26 +10,27 @@ use Rattle.rlsf_base.specs.PowerOfTwo.{IsPowerOfTwo}
 use Rattle.rlsf_base.specs.Range.{end_of, range_at}
 use Rattle.rlsf_base.proofs.Numbers.Roundings.{round32-le}
 use Rattle.std.specs.Option.{unwrap_or}
-use Rattle.rlsf_base.specs.Space.{Space, SamePlace, bytes_in, range_of}
+use Rattle.rlsf_base.specs.Space.{SamePlace, range_of}
 use Rattle.rlsf_blocks.specs.Spare.{KeepsSpare}
 use Rattle.rlsf_blocks.specs.StandsFor.{Contents, StandsFor}
+use Rattle.rlsf_base.specs.Rounding.{round32}
 use Rattle.rlsf_base.specs.Sizes.{max_pool_size}
 use Rattle.rlsf_blocks.specs.Blocks.{walked}
 use Rattle.rlsf_machine.specs.Allocate.{Allocates}
 use Rattle.rlsf_machine.specs.ChunkRows.{IsRow}
-use Rattle.rlsf_machine.specs.Insert.{aligned_part, cut, with_chunks, Inserts, IsFresh}
+use Rattle.rlsf_machine.specs.Insert.{aligned_part, bytes_taken, cut, with_chunks, Inserts, IsFresh}
 use Rattle.rlsf_machine.proofs.Changes.{Holds-unique}
 use Rattle.rlsf_machine.specs.Callers.{Payload, payload_at, payload_in, IsResized, IsSet}
 use Rattle.rlsf_machine.specs.Lists.{IsIn}
 use Rattle.rlsf_machine.specs.Reallocate.{Reallocates}
 use Rattle.rlsf_machine.specs.Release.{Deallocates}
-use Rattle.rlsf_machine.specs.Run.{Event, allocate, deallocate, fill, reallocate, Fills}
+use Rattle.rlsf_machine.specs.Run.{allocate, deallocate, fill, reallocate}
 use Rattle.rlsf_machine.specs.State.{State, Used, Holds, IsLive, empty, usable}
 use Rattle.rlsf_machine.proofs.Callers.{callers_see_map, payload_at-has, payload_at-held}
 use Rattle.rlsf_machine.proofs.ChunkRows.{IsRow-inserted, IsRow-same}
 use Rattle.rlsf_machine.proofs.Chunks.{chunks-allocated, chunks-deallocated, chunks-filled, chunks-reallocated, used-inserted}
 use Rattle.rlsf_tlsf.specs.Lending.{Leaves, written}
-use Rattle.rlsf_uses.specs.Stored.{StoreContents, store_contents, Stored, stored, FitsPool, IsMapOf, IsStore, Keeps, Place, place_of, bytes_at}
+use Rattle.rlsf_uses.specs.Stored.{StoreContents, store_contents, Stored, stored, FitsPool, HasChunksIn, IsMapOf, IsStore, Keeps, place_of, bytes_at}
 use Rattle.rlsf_machine.proofs.Pools.{idle_chunk_has_room}
 use Rattle.rlsf_uses.proofs.Fronts.{front-kept, front-le}
 use Rattle.rlsf_uses.proofs.Maps.{IsIn-middle, IsMapOf-less, IsMapOf-more, IsMapOf-resized, IsMapOf-set, IsMapOf-unchanged, IsSet-then}
@@ -45,6 +46,7 @@ IsStore-after {v} {w} now store t stands place pool chunks maps = record {
   payloads = maps;
   chunks = chunks ∙ store.chunks ∙ ap (λ r. cut (max_pool_size 59) (aligned_part r)) (ap₂ range_at (sym place.0) (sym place.1));
   row = subst (λ r. IsRow t (walked r)) (sym pool) (IsRow-same store.state t (walked v.pool) chunks store.row);
+  whole = subst (λ r. HasChunksIn t (walked r)) (sym pool) (λ c i. store.whole c (subst (IsIn c) chunks i));
 }
 
 -- the block of what is kept
@@ -161,25 +163,27 @@ IsStore-not_resized {v} {addr = addr} size all store live reallocated place =
 
 -- ---- what is read, and room
 
--- the bytes of a memory at the places are those that are kept
-pub bytes_at-stored : (v : StoreContents) (all : List Stored) → IsStore v all → map (bytes_at v.heap.memory) (map place_of all) ≡ map (λ k. k.bytes) all
-bytes_at-stored v all store = go all (λ k i. here k i)
-  where
-    here : (k : Stored) → IsIn k all → bytes_at v.heap.memory (place_of k) ≡ k.bytes
-    here k i =
-        let (u, held, is, front) = block_of store k i in
-        let m = v.heap.memory in
-        let bytes = store.stands.payloads.bytes u held.0 in
-        let n = length k.bytes in
-        let room = front-le k.bytes u.bytes front in
-        let long = (store.stands.well_formed.used u held.0).bytes in
-        let begin = k.addr - m.start in
-        let whole : take (usable u).len (drop begin m.bytes) ≡ u.bytes = ap (λ a. take (usable u).len (drop (a - m.start) m.bytes)) (sym held.1) ∙ bytes in
-        sym (take-take n (usable u).len (drop begin m.bytes) (omega arith)) ∙ ap (take n) whole ∙ front
+module _ (v : StoreContents) (all : List Stored) (store : IsStore v all) where
+  -- the bytes of a memory at a place are those that are kept there
+  pub bytes_at-kept : (k : Stored) → IsIn k all → bytes_at v.heap.memory (place_of k) ≡ k.bytes
+  bytes_at-kept k i =
+      let (u, held, is, front) = block_of store k i in
+      let m = v.heap.memory in
+      let bytes = store.stands.payloads.bytes u held.0 in
+      let n = length k.bytes in
+      let room = front-le k.bytes u.bytes front in
+      let long = (store.stands.well_formed.used u held.0).bytes in
+      let begin = k.addr - m.start in
+      let whole : take (usable u).len (drop begin m.bytes) ≡ u.bytes = ap (λ a. take (usable u).len (drop (a - m.start) m.bytes)) (sym held.1) ∙ bytes in
+      sym (take-take n (usable u).len (drop begin m.bytes) (omega arith)) ∙ ap (take n) whole ∙ front
 
-    go : (ks : List Stored) → ((k : Stored) → IsIn k ks → bytes_at v.heap.memory (place_of k) ≡ k.bytes) → map (bytes_at v.heap.memory) (map place_of ks) ≡ map (λ k. k.bytes) ks
-    go [] each = refl
-    go (k ∷ ks) each = ap₂ (λ x xs. x ∷ xs) (each k (inl refl)) (go ks (λ j i. each j (inr i)))
+  -- and so at the places of some of them
+  pub bytes_at-some : (ks : List Stored) → ((k : Stored) → IsIn k ks → IsIn k all) → map (bytes_at v.heap.memory) (map place_of ks) ≡ map (λ k. k.bytes) ks
+  bytes_at-some [] within = refl
+  bytes_at-some (k ∷ ks) within = ap₂ (λ x xs. x ∷ xs) (bytes_at-kept k (within k (inl refl))) (bytes_at-some ks (λ j i. within j (inr i)))
+
+  pub bytes_at-stored : map (bytes_at v.heap.memory) (map place_of all) ≡ map (λ k. k.bytes) all
+  bytes_at-stored = bytes_at-some all (λ k i. i)
 
 -- an empty store has nothing used
 none_used : {v : StoreContents} (store : IsStore v []) → store.state.used ≡ []
@@ -230,6 +234,24 @@ row-first : (t : State) (r : Range) (reply : Option ℕ) → Inserts 59 empty r 
 row-first t r (Some len) step = IsRow-inserted 59 empty t r len step
 row-first t r None step = λ a low high. absurd (omega (arith, round32-le r.start))
 
+-- the chunk that is cut of a pool lies in what is taken
+chunks_lie-first : (r : Range) (reply : Option ℕ) → reply ≡ bytes_taken r.start (cut (max_pool_size 59) (aligned_part r)) → (c : Range) → IsIn c (cut (max_pool_size 59) (aligned_part r))
+    → ((walked (range_at r.start (unwrap_or reply 0))).start ≤ c.start) × (end_of c ≤ end_of (walked (range_at r.start (unwrap_or reply 0))))
+chunks_lie-first r reply answer c i = elim (cases_lt part.len 64) [
+  | inl few ↦ absurd (subst (IsIn c) (ap (λ b. cond b (part ∷ []) []) (lt-leb 64 part.len few)) i)
+  | inr enough ↦
+      let one : cut (max_pool_size 59) part ≡ part ∷ [] = ap (λ b. cond b (part ∷ []) []) (le-leb 64 part.len enough) in
+      let taken : reply ≡ Some (end_of part - r.start) = answer ∙ ap (bytes_taken r.start) one in
+      let lies : (round32 r.start ≤ part.start) × (end_of part ≤ end_of (walked (range_at r.start (end_of part - r.start)))) = (omega arith, omega (arith, round32-le r.start)) in
+      elim (subst (IsIn c) one i) [
+        | inl same ↦ subst (λ o. (round32 r.start ≤ c.start) × (end_of c ≤ end_of (walked (range_at r.start (unwrap_or o 0))))) (sym taken) (subst (λ p. (round32 r.start ≤ p.start) × (end_of p ≤ end_of (walked (range_at r.start (end_of part - r.start))))) (sym same) lies)
+        | inr bad ↦ absurd bad
+      ]
+]
+  where
+    part : Range
+    part = aligned_part r
+
 pub IsStore-new : {v w : Contents} (r : Range) (reply : Option ℕ) → StandsFor 59 8 v empty → range_of v.memory ≡ r
     → ((s : State) → StandsFor 59 8 v s → IsFresh (range_of v.memory) s r → (t : State) × Inserts 59 s r reply t × StandsFor 59 8 w t × KeepsSpare v.memory s w.memory t)
     → SamePlace v.memory w.memory → IsStore (store_contents w (range_at r.start (unwrap_or reply 0))) []
@@ -243,4 +265,5 @@ IsStore-new {v} {w} r reply stands whole inserted place =
       payloads = IsMapOf-empty t (used-inserted 59 empty t r reply step);
       chunks = ap (λ x. x.chunks) step.after ∙ chunks-first (aligned_part r) ∙ ap (λ q. cut (max_pool_size 59) (aligned_part q)) (sym there);
       row = row-first t r reply step;
+      whole = λ c i. chunks_lie-first r reply step.answer c (subst (IsIn c) (ap (λ x. x.chunks) step.after ∙ chunks-first (aligned_part r)) i);
     }

@@ -1,11 +1,11 @@
 -- Handles: numbers that count up, each with a value.
-use Rattle.std.specs.Prelude.{◌≡◌, ℕ, ◌<◌, List, map}
+use Rattle.std.specs.Prelude.{ℕ, ◌<◌, List, map}
 use Rattle.std.specs.Int.NonZero.{non_zero_usize_get}
 use Rattle.std.specs.List.{AllByRecursion}
 use Rattle.std.specs.Map.{values_of}
 use Rattle.rlsf_base.specs.declared.memory.range.Range.{Range}
 use Rattle.rlsf_base.specs.Space.{range_of}
-use Rattle.rlsf_uses.specs.Stored.{StoreContents, Stored, IsStore, Place, place_of, bytes_at}
+use Rattle.rlsf_uses.specs.Stored.{StoreContents, HasPlaces, Place, bytes_at}
 use Rattle.rlsf_uses.specs.declared.handles.Spot.{Spot}
 
 -- the handles with where their bytes are stored, in the order of the handles, and the number that the next one has
@@ -29,11 +29,13 @@ place_at align s = record { addr = non_zero_usize_get s.addr; align = align; len
 abbrev pub lists_in : StoreContents → ℕ → List (ℕ × Spot) → List (ℕ × List ℕ)
 lists_in v align rows = map_values (λ s. bytes_at v.heap.memory (place_at align s)) rows
 
+-- where the bytes of the handles are
+abbrev pub places_in : ℕ → List (ℕ × Spot) → List Place
+places_in align rows = map (place_at align) (values_of rows)
+
 -- the store keeps a list of bytes for each handle, where the rows say, and nothing else
-pub record IsHandled (v : StoreContents) (align : ℕ) (rows : List (ℕ × Spot)) : Type 0 where
-  pub items : List (ℕ × Stored)
-  pub store : IsStore v (values_of items)
-  pub places : map_values place_of items ≡ map_values (place_at align) rows
+abbrev pub IsHandled : StoreContents → ℕ → List (ℕ × Spot) → Type 0
+IsHandled v align rows = HasPlaces v (places_in align rows)
 
 -- lists of bytes by their handles, in the order of the handles; the number that the next handle has; and the alignment and the
 -- memory of their payloads

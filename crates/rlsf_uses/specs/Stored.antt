@@ -1,10 +1,10 @@
 -- Lists of bytes that an owner keeps in the payloads of one allocator.
-use Rattle.std.specs.Prelude.{◌≡◌, ◌≢◌, ℕ, ◌+◌, ◌≤◌, List, [], ◌∷◌, length, take, Option, Some, map, ⊤}
+use Rattle.std.specs.Prelude.{◌≡◌, ◌≢◌, ℕ, ◌≤◌, List, [], ◌∷◌, ◌++◌, length, take, Option, Some, count_by, map, ⊤}
 use Rattle.rlsf_base.specs.declared.memory.range.Range.{Range}
-use Rattle.rlsf_base.specs.Range.{range_at}
+use Rattle.rlsf_base.specs.Range.{end_of, range_at}
 use Rattle.rlsf_base.specs.Sizes.{max_pool_size, pool_size_to_contain_allocation}
 use Rattle.rlsf_base.specs.Space.{Space, bytes_in, range_of}
-use Rattle.rlsf_blocks.specs.Blocks.{walked}
+use Rattle.rlsf_blocks.specs.Blocks.{Block, walked}
 use Rattle.rlsf_blocks.specs.StandsFor.{Contents, StandsFor}
 use Rattle.rlsf_machine.specs.Callers.{Payload, payload_at}
 use Rattle.rlsf_machine.specs.ChunkRows.{IsRow}
@@ -47,6 +47,10 @@ pub record IsMapOf (payloads : ℕ → Option Payload) (all : List Stored) : Typ
   pub apart : AreApart all
   pub no_other : (a : ℕ) (p : Payload) → payloads a ≡ Some p → (k : Stored) × IsIn k all × (k.addr ≡ a)
 
+-- each chunk lies in the range
+abbrev pub HasChunksIn : State → Range → Type 0
+HasChunksIn s r = (c : Range) → IsIn c s.chunks → (r.start ≤ c.start) × (end_of c ≤ end_of r)
+
 -- the allocator keeps these lists of bytes and nothing else, and all of its memory is its pool
 pub record IsStore (v : StoreContents) (all : List Stored) : Type 0 where
   pub state : State
@@ -54,14 +58,7 @@ pub record IsStore (v : StoreContents) (all : List Stored) : Type 0 where
   pub payloads : IsMapOf (payload_at state) all
   pub chunks : state.chunks ≡ cut (max_pool_size 59) (aligned_part (range_of v.heap.memory))
   pub row : IsRow state (walked v.pool)
-
--- so many bytes are kept at the address
-abbrev pub HasStored : List Stored → Stored → ℕ → ℕ → Type 0
-HasStored all k addr len = IsIn k all × (k.addr ≡ addr) × (length k.bytes ≡ len)
-
--- so many bytes are kept at the address, or more
-abbrev pub HasRoomFor : Stored → ℕ → ℕ → Type 0
-HasRoomFor k addr len = (k.addr ≡ addr) × (len ≤ length k.bytes)
+  pub whole : HasChunksIn state (walked v.pool)
 
 -- a pool of a memory has room for one payload of this size and alignment: its aligned part is as long as a pool for it
 abbrev pub FitsPool : Range → ℕ → ℕ → Type 0
@@ -84,3 +81,30 @@ bytes_at m p = bytes_in m (range_at p.addr p.len)
 -- the allocator keeps lists of bytes at these places, and nothing else
 abbrev pub HasPlaces : StoreContents → List Place → Type 0
 HasPlaces v places = (all : List Stored) × IsStore v all × (map place_of all ≡ places)
+
+-- a place by its parts
+abbrev pub place : ℕ → ℕ → ℕ → Place
+place addr align len = record { addr = addr; align = align; len = len }
+
+-- the bytes that a store has at these places
+abbrev pub lists_at : StoreContents → List Place → List (List ℕ)
+lists_at v places = map (bytes_at v.heap.memory) places
+
+-- w keeps lists of bytes at these places, and nothing else, and they are those that v has there
+abbrev pub HasSame : StoreContents → StoreContents → List Place → Type 0
+HasSame v w places = HasPlaces w places × (lists_at w places ≡ lists_at v places)
+
+-- w keeps what v keeps
+abbrev pub KeepsAll : StoreContents → StoreContents → Type 0
+KeepsAll v w = (places : List Place) → HasPlaces v places → HasSame v w places
+
+-- w keeps these bytes at a place, lists of bytes at the places before and after it, which are those that v has there, and nothing else
+pub record HasAmong (v w : StoreContents) (before after : List Place) (p : Place) (bytes : List ℕ) : Type 0 where
+  pub places : HasPlaces w (before ++ p ∷ after)
+  pub front : lists_at w before ≡ lists_at v before
+  pub here : bytes_at w.heap.memory p ≡ bytes
+  pub back : lists_at w after ≡ lists_at v after
+
+-- how many of the blocks are used
+abbrev pub used_count : List Block → ℕ
+used_count bs = count_by (λ b. b.is_occupied) bs

@@ -7,9 +7,6 @@ ghost use Rattle.rlsf_uses.specs.Picture.{total_size, line_of, picture_of};
 use rlsf::{BlockInfo, Blocks, Range};
 use std::alloc::{AllocError, Global};
 
-#[cfg(test)]
-mod tests;
-
 /// A picture of blocks, as `iter_blocks` gives them: a line for each block, in their order, ended by LF.
 ///
 /// A line is the block's range in decimal, `used` or `free`, and a bar of `#` or of `.`:

@@ -8,7 +8,7 @@ ghost use Rattle.rlsf_base.specs.Space.{SamePlace, range_of};
 ghost use Rattle.std.specs.Map.Iter.{GivesInOrder};
 ghost use Rattle.rlsf_blocks.specs.Blocks.{IsInOrder};
 ghost use Rattle.rlsf_uses.specs.Objects.{set_answer};
-ghost use Rattle.rlsf_uses.specs.Stored.{FitsPool, IsStore, Stored};
+ghost use Rattle.rlsf_uses.specs.Stored.{FitsPool, HasPlaces, HasSame, Place, used_count};
 ghost use Rattle.rlsf_uses.specs.declared.objects.TakeError.TheVariants.{NoRoom};
 ghost use Rattle.rlsf_uses.specs.declared.strings.StringError.TheVariants as string_error;
 
@@ -68,6 +68,7 @@ impl Items {
             × (self.new ≡ record self.old { lists = self.old.lists ++ (handle, bytes.now) ∷ []; next = handle + 1 })) }
         ensures new { IfOk result (λ handle. lookup (nat_eq handle) self.old.lists ≡ None) }
         ensures known { IsErrOf result string_error.UnknownHandle → ⊥ }
+        ensures room { self.old.lists ≡ [] → FitsPool self.old.memory (length bytes.now) 1 → IsErrOf result string_error.NoRoom → ⊥ }
         ensures refused { OnErr result (self.new ≡ self.old) }
     {
         let Some(addr) = self.store.add(bytes) else {
@@ -171,8 +172,9 @@ impl Items {
         Ok(())
     }
 
-    /// The blocks of the pool, used and free, in address order, as for a picture.
+    /// The blocks of the pool, used and free, in address order, as for a picture. As many are used as there are lists.
     pub(crate) fn blocks(&self) -> Blocks<'_>
+        ensures used { used_count result ≡ length self.now.lists }
         ensures order { IsInOrder result }
         ensures runs { GivesInOrder BlockInfo }
     {
@@ -187,12 +189,12 @@ fn keep(
     spot: Spot,
     align: usize,
 ) -> Result<usize, AllocError>
-    requires { (before : List Stored) × (k : Stored) × IsStore store.old (before ++ k ∷ []) × (k.addr ≡ non_zero_usize_get spot.addr) × (k.align ≡ align) }
+    requires { (before : List Place) × (p : Place) × HasPlaces store.old (before ++ p ∷ []) × (p.addr ≡ non_zero_usize_get spot.addr) × (p.align ≡ align) }
     ensures kept { IfOk result (λ handle. (store.new ≡ store.old) × (handle ≡ handles.old.next)
         × (handles.new ≡ record { rows = handles.old.rows ++ (handle, spot) ∷ []; next = handle + 1 })) }
     ensures new { IfOk result (λ handle. lookup (nat_eq handle) handles.old.rows ≡ None) }
-    ensures given_back { OnErr result ((before : List Stored) (k : Stored) → IsStore store.old (before ++ k ∷ [])
-        → k.addr ≡ non_zero_usize_get spot.addr → k.align ≡ align → IsStore store.new (before ++ [])) }
+    ensures given_back { OnErr result ((before : List Place) (p : Place) → HasPlaces store.old (before ++ p ∷ [])
+        → p.addr ≡ non_zero_usize_get spot.addr → p.align ≡ align → HasSame store.old store.new (before ++ [])) }
     ensures refused { OnErr result (handles.new ≡ handles.old) }
     ensures place { SamePlace store.old.heap.memory store.new.heap.memory }
 {

@@ -11,8 +11,6 @@ mod messages;
 mod objects;
 mod store;
 mod strings;
-#[cfg(test)]
-mod tests;
 
 pub use drawing::picture;
 pub use messages::{Messages, PopError, PushError};

@@ -6,7 +6,7 @@ ghost use Rattle.std.specs.Map.Iter.{GivesInOrder};
 ghost use Rattle.rlsf_base.specs.Space.{range_of};
 ghost use Rattle.rlsf_blocks.specs.Blocks.{IsInOrder};
 ghost use Rattle.rlsf_uses.specs.Queue.{oldest};
-ghost use Rattle.rlsf_uses.specs.Stored.{FitsPool};
+ghost use Rattle.rlsf_uses.specs.Stored.{FitsPool, used_count};
 
 use crate::store::Store;
 use rlsf::{Addr, BlockInfo, Blocks, Memory};
@@ -154,8 +154,9 @@ impl Messages {
         self.entries.capacity()
     }
 
-    /// The blocks of the pool, used and free, in address order, as for a picture.
+    /// The blocks of the pool, used and free, in address order, as for a picture. As many are used as there are messages.
     pub fn blocks(&self) -> Blocks<'_>
+        ensures used { used_count result ≡ length self.now.messages }
         ensures order { IsInOrder result }
         ensures runs { GivesInOrder BlockInfo }
     {

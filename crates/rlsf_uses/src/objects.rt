@@ -7,7 +7,7 @@ ghost use Rattle.rlsf_base.specs.Space.{range_of};
 ghost use Rattle.std.specs.Map.Iter.{GivesInOrder};
 ghost use Rattle.rlsf_blocks.specs.Blocks.{IsInOrder};
 ghost use Rattle.rlsf_uses.specs.Objects.{set_answer};
-ghost use Rattle.rlsf_uses.specs.Stored.{FitsPool};
+ghost use Rattle.rlsf_uses.specs.Stored.{FitsPool, used_count};
 ghost use Rattle.rlsf_uses.specs.declared.objects.TakeError.TheVariants.{NoRoom, OutOfMemory};
 
 use crate::items::Items;
@@ -131,8 +131,9 @@ impl Objects {
         self.items.write(handle, offset, bytes)
     }
 
-    /// The blocks of the pool, used and free, in address order, as for a picture.
+    /// The blocks of the pool, used and free, in address order, as for a picture. As many are used as objects are out.
     pub fn blocks(&self) -> Blocks<'_>
+        ensures used { used_count result ≡ length self.now.objects }
         ensures order { IsInOrder result }
         ensures runs { GivesInOrder BlockInfo }
     {

@@ -4,9 +4,10 @@ ghost use Rattle.std.specs.Prelude.{◌≡◌, ◌≤◌, ◌+◌, ◌∷◌, �
 ghost use Rattle.std.specs.Int.NonZero.{non_zero_usize_get};
 ghost use Rattle.std.specs.List.{splice};
 ghost use Rattle.std.specs.Map.Iter.{GivesInOrder};
-ghost use Rattle.rlsf_base.specs.Space.{SamePlace, range_of};
-ghost use Rattle.rlsf_blocks.specs.Blocks.{AreBlocks, walked};
-ghost use Rattle.rlsf_uses.specs.Stored.{Stored, stored, FitsPool, IsStore, HasStored, HasRoomFor};
+ghost use Rattle.rlsf_base.specs.Range.{range_at};
+ghost use Rattle.rlsf_base.specs.Space.{SamePlace, bytes_in, range_of};
+ghost use Rattle.rlsf_blocks.specs.Blocks.{IsInOrder};
+ghost use Rattle.rlsf_uses.specs.Stored.{FitsPool, HasAmong, HasPlaces, HasSame, KeepsAll, Place, bytes_at, place, used_count};
 
 use rlsf::{Addr, BlockInfo, Blocks, Layout, Memory, Range, Tlsf};
 use std::marker::Model;
@@ -33,7 +34,7 @@ impl Model for Store {
 impl Store {
     /// A store that keeps nothing, over a memory that is its pool.
     pub(crate) fn new(memory: Memory) -> Store
-        ensures empty { IsStore result [] }
+        ensures empty { HasPlaces result [] }
         ensures place { SamePlace memory result.heap.memory }
         ensures touches { result.heap.memory.touches ≤ memory.touches + 13 }
     {
@@ -50,10 +51,10 @@ impl Store {
 
     /// Stores bytes in a payload of their own. Answers its address, or `None` without room, and then nothing changes.
     pub(crate) fn add(&mut self, bytes: &[u8]) -> Option<Addr>
-        ensures stored { IfSome result (λ addr. (before after : List Stored) → IsStore self.old (before ++ after)
-            → IsStore self.new (before ++ stored (non_zero_usize_get addr) 1 bytes.now ∷ after)) }
-        ensures refused { IfNone result ((all : List Stored) → IsStore self.old all → IsStore self.new all) }
-        ensures room { IsStore self.old [] → FitsPool (range_of self.old.heap.memory) (length bytes.now) 1 → IsSome result }
+        ensures stored { IfSome result (λ addr. (places : List Place) → HasPlaces self.old places
+            → HasAmong self.old self.new places [] (place (non_zero_usize_get addr) 1 (length bytes.now)) bytes.now) }
+        ensures refused { IfNone result (KeepsAll self.old self.new) }
+        ensures room { HasPlaces self.old [] → FitsPool (range_of self.old.heap.memory) (length bytes.now) 1 → IsSome result }
         ensures place { SamePlace self.old.heap.memory self.new.heap.memory }
         ensures touches { self.new.heap.memory.touches ≤ self.old.heap.memory.touches + 30 }
     {
@@ -68,10 +69,10 @@ impl Store {
     /// Stores as many zeros as a layout has bytes, at its alignment. Answers their address, or `None` without room, and then
     /// nothing changes.
     pub(crate) fn add_zeros(&mut self, layout: Layout) -> Option<Addr>
-        ensures stored { IfSome result (λ addr. (before after : List Stored) → IsStore self.old (before ++ after)
-            → IsStore self.new (before ++ stored (non_zero_usize_get addr) layout.align (replicate layout.size 0) ∷ after)) }
-        ensures refused { IfNone result ((all : List Stored) → IsStore self.old all → IsStore self.new all) }
-        ensures room { IsStore self.old [] → FitsPool (range_of self.old.heap.memory) layout.size layout.align → IsSome result }
+        ensures stored { IfSome result (λ addr. (places : List Place) → HasPlaces self.old places
+            → HasAmong self.old self.new places [] (place (non_zero_usize_get addr) layout.align layout.size) (replicate layout.size 0)) }
+        ensures refused { IfNone result (KeepsAll self.old self.new) }
+        ensures room { HasPlaces self.old [] → FitsPool (range_of self.old.heap.memory) layout.size layout.align → IsSome result }
         ensures place { SamePlace self.old.heap.memory self.new.heap.memory }
         ensures touches { self.new.heap.memory.touches ≤ self.old.heap.memory.touches + 30 }
     {
@@ -82,17 +83,18 @@ impl Store {
 
     /// The bytes that are stored at an address, as many as are kept there.
     pub(crate) fn read(&self, addr: Addr, len: usize) -> &[u8]
-        requires { (all : List Stored) × (k : Stored) × IsStore self.now all × HasStored all k (non_zero_usize_get addr) len }
-        ensures { (all : List Stored) (k : Stored) → IsStore self.now all → HasStored all k (non_zero_usize_get addr) len → result.now ≡ k.bytes }
+        requires { (before after : List Place) × (p : Place) × HasPlaces self.now (before ++ p ∷ after) × (p.addr ≡ non_zero_usize_get addr) × (p.len ≡ len) }
+        ensures bytes { result.now ≡ bytes_in self.now.heap.memory (range_at (non_zero_usize_get addr) len) }
+        ensures len { length result.now ≡ len }
     {
         &self.heap.payload(addr)[..len]
     }
 
     /// Writes bytes over those that are stored at an address, from an offset on.
     pub(crate) fn write(&mut self, addr: Addr, offset: usize, bytes: &[u8])
-        requires { (before after : List Stored) × (k : Stored) × IsStore self.old (before ++ k ∷ after) × HasRoomFor k (non_zero_usize_get addr) (offset + length bytes.now) }
-        ensures stored { (before after : List Stored) (k : Stored) → IsStore self.old (before ++ k ∷ after) → HasRoomFor k (non_zero_usize_get addr) (offset + length bytes.now)
-            → IsStore self.new (before ++ stored k.addr k.align (splice k.bytes offset (offset + length bytes.now) bytes.now) ∷ after) }
+        requires { (before after : List Place) × (p : Place) × HasPlaces self.old (before ++ p ∷ after) × (p.addr ≡ non_zero_usize_get addr) × (offset + length bytes.now ≤ p.len) }
+        ensures stored { (before after : List Place) (p : Place) → HasPlaces self.old (before ++ p ∷ after) → p.addr ≡ non_zero_usize_get addr → offset + length bytes.now ≤ p.len
+            → HasAmong self.old self.new before after p (splice (bytes_at self.old.heap.memory p) offset (offset + length bytes.now) bytes.now) }
         ensures place { SamePlace self.old.heap.memory self.new.heap.memory }
         ensures touches { self.new.heap.memory.touches ≤ self.old.heap.memory.touches + 3 }
     {
@@ -102,11 +104,11 @@ impl Store {
     /// Stores more bytes behind the `len` bytes that are stored at an address, whose payload may move. Answers its address, or
     /// `None` without room, and then nothing changes.
     pub(crate) fn append(&mut self, addr: Addr, len: usize, more: &[u8]) -> Option<Addr>
-        requires { (before after : List Stored) × (k : Stored) × IsStore self.old (before ++ k ∷ after) × (k.addr ≡ non_zero_usize_get addr) × (k.align ≡ 1) × (length k.bytes ≡ len) }
-        ensures stored { IfSome result (λ to. (before after : List Stored) (k : Stored) → IsStore self.old (before ++ k ∷ after) → k.addr ≡ non_zero_usize_get addr → k.align ≡ 1 → length k.bytes ≡ len
-            → IsStore self.new (before ++ stored (non_zero_usize_get to) 1 (k.bytes ++ more.now) ∷ after)) }
-        ensures refused { IfNone result ((before after : List Stored) (k : Stored) → IsStore self.old (before ++ k ∷ after) → k.addr ≡ non_zero_usize_get addr → k.align ≡ 1 → length k.bytes ≡ len
-            → IsStore self.new (before ++ k ∷ after)) }
+        requires { (before after : List Place) × (p : Place) × HasPlaces self.old (before ++ p ∷ after) × (p.addr ≡ non_zero_usize_get addr) × (p.align ≡ 1) × (p.len ≡ len) }
+        ensures stored { IfSome result (λ to. (before after : List Place) (p : Place) → HasPlaces self.old (before ++ p ∷ after) → p.addr ≡ non_zero_usize_get addr → p.align ≡ 1 → p.len ≡ len
+            → HasAmong self.old self.new before after (place (non_zero_usize_get to) 1 (len + length more.now)) (bytes_at self.old.heap.memory p ++ more.now)) }
+        ensures refused { IfNone result ((before after : List Place) (p : Place) → HasPlaces self.old (before ++ p ∷ after) → p.addr ≡ non_zero_usize_get addr → p.align ≡ 1 → p.len ≡ len
+            → HasSame self.old self.new (before ++ p ∷ after)) }
         ensures place { SamePlace self.old.heap.memory self.new.heap.memory }
         ensures touches { self.new.heap.memory.touches ≤ self.old.heap.memory.touches + 69 }
     {
@@ -121,9 +123,9 @@ impl Store {
 
     /// Gives back what is stored at an address, with that alignment.
     pub(crate) fn remove(&mut self, addr: Addr, align: usize)
-        requires { (before after : List Stored) × (k : Stored) × IsStore self.old (before ++ k ∷ after) × (k.addr ≡ non_zero_usize_get addr) × (k.align ≡ align) }
-        ensures stored { (before after : List Stored) (k : Stored) → IsStore self.old (before ++ k ∷ after) → k.addr ≡ non_zero_usize_get addr → k.align ≡ align
-            → IsStore self.new (before ++ after) }
+        requires { (before after : List Place) × (p : Place) × HasPlaces self.old (before ++ p ∷ after) × (p.addr ≡ non_zero_usize_get addr) × (p.align ≡ align) }
+        ensures removed { (before after : List Place) (p : Place) → HasPlaces self.old (before ++ p ∷ after) → p.addr ≡ non_zero_usize_get addr → p.align ≡ align
+            → HasSame self.old self.new (before ++ after) }
         ensures place { SamePlace self.old.heap.memory self.new.heap.memory }
         ensures touches { self.new.heap.memory.touches ≤ self.old.heap.memory.touches + 32 }
     {
@@ -132,8 +134,9 @@ impl Store {
 
     /// The blocks of the pool, used and free, in address order.
     pub(crate) fn blocks(&self) -> Blocks<'_>
-        requires { (all : List Stored) × IsStore self.now all }
-        ensures blocks { (all : List Stored) (store : IsStore self.now all) → AreBlocks store.state (walked self.now.pool) result }
+        requires { (places : List Place) × HasPlaces self.now places }
+        ensures used { (places : List Place) → HasPlaces self.now places → used_count result ≡ length places }
+        ensures order { IsInOrder result }
         ensures runs { GivesInOrder BlockInfo }
     {
         self.heap.iter_blocks(self.pool)

@@ -5,6 +5,7 @@ ghost use Rattle.std.specs.Map.{lookup, remove_entry, set_value};
 ghost use Rattle.rlsf_base.specs.Space.{range_of};
 ghost use Rattle.std.specs.Map.Iter.{GivesInOrder};
 ghost use Rattle.rlsf_blocks.specs.Blocks.{IsInOrder};
+ghost use Rattle.rlsf_uses.specs.Stored.{FitsPool, used_count};
 ghost use Rattle.rlsf_uses.specs.Strings.{joined_of};
 ghost use Rattle.rlsf_uses.specs.declared.strings.StringError.TheVariants as string_error;
 
@@ -81,12 +82,14 @@ impl Strings {
 
     /// Makes an empty string, under a new handle.
     ///
-    /// Refused without room, or without memory for its handle, and then nothing changes.
+    /// Refused without room, or without memory for its handle, and then nothing changes. Where there is no string yet, and the memory
+    /// fits one, there is room.
     pub fn create(&mut self) -> Result<usize, StringError>
         ensures made { IfOk result (λ handle. (handle ≡ self.old.next)
             × (self.new ≡ record self.old { strings = self.old.strings ++ (handle, []) ∷ []; next = handle + 1 })) }
         ensures new { IfOk result (λ handle. lookup (nat_eq handle) self.old.strings ≡ None) }
         ensures known { IsErrOf result string_error.UnknownHandle → ⊥ }
+        ensures room { self.old.strings ≡ [] → FitsPool self.old.memory 0 1 → IsErrOf result string_error.NoRoom → ⊥ }
         ensures refused { OnErr result (self.new ≡ self.old) }
     {
         self.items.add(&[])
@@ -152,8 +155,9 @@ impl Strings {
         self.items.get(handle)
     }
 
-    /// The blocks of the pool, used and free, in address order, as for a picture.
+    /// The blocks of the pool, used and free, in address order, as for a picture. As many are used as there are strings.
     pub fn blocks(&self) -> Blocks<'_>
+        ensures used { used_count result ≡ length self.now.strings }
         ensures order { IsInOrder result }
         ensures runs { GivesInOrder BlockInfo }
     {

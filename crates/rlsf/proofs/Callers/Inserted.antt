@@ -1,5 +1,5 @@
 -- What a caller that makes an allocator with one pool knows, and the rows of chunks that it may walk then.
-use Rattle.std.proofs.Common.{◌≡◌, ℕ, ◌+◌, length, replicate, Option, Some, arith, refl, sym, ◌∙◌, ap, subst}
+use Rattle.std.proofs.Common.{◌≡◌, ℕ, ◌+◌, length, replicate, Option, Some, arith, refl, ◌∙◌, ap, subst}
 use Rattle.std.proofs.lemmas.List.{length-replicate}
 use Rattle.rlsf_base.specs.declared.memory.range.Range.{Range}
 use Rattle.rlsf_base.specs.Range.{LiesIn}
@@ -38,6 +38,12 @@ pub HasRow-inserted : {fllen sllen : ℕ} {v w : Contents} (r : Range) (len : �
 HasRow-inserted {fllen} r len stands fresh inserted some =
     let (reply, t, step, after, _) = inserted empty stands fresh in
     (t, after, IsRow-inserted fllen empty t r len (subst (λ o. Inserts fllen empty r o t) (step.answer ∙ some) step))
+
+-- the same, where the insert was the only call
+pub HasRow-first : {fllen sllen : ℕ} {v : Contents} (r : Range) (len : ℕ) → (s : State) × (reply : Option ℕ) × StandsFor fllen sllen v s × Inserts fllen empty r reply s
+    → bytes_taken r.start (cut (max_pool_size fllen) (aligned_part r)) ≡ Some len → HasRow fllen sllen v (between (round32 r.start) (r.start + len))
+HasRow-first {fllen} r len (s, reply, stands, step) some =
+    (s, stands, IsRow-inserted fllen empty s r len (subst (λ o. Inserts fllen empty r o s) (step.answer ∙ some) step))
 
 -- allocations and deallocations leave rows
 pub HasRow-allocated : {fllen sllen : ℕ} {v w : Contents} (r : Range) (size align : ℕ) (reply : Option ℕ) → HasRow fllen sllen v r

@@ -1,6 +1,6 @@
 -- The state in which what a chunk has more is a used block: it is well-formed, and the chunk has grown once the block is released.
-use Rattle.std.proofs.Common.{◌≡◌, ◌≢◌, ℕ, ◌+◌, ◌-◌, ◌^◌, ◌<◌, ◌≤◌, cond, not, List, [], ◌∷◌, length, arith, refl, sym, ◌∙◌, ap, subst, inl, inr}
-use Rattle.std.proofs.lemmas.Bool.{eq-eqb, ne_eqb}
+use Rattle.std.proofs.Common.{◌≡◌, ◌≢◌, ℕ, ◌+◌, ◌-◌, ◌^◌, ◌<◌, ◌≤◌, cond, not, List, ◌∷◌, length, arith, refl, sym, ◌∙◌, ap, subst, inl, inr}
+use Rattle.std.proofs.lemmas.Bool.{eq-eqb}
 use Rattle.std.proofs.Math.Pow.{pow_mono}
 use Rattle.rlsf_base.specs.declared.memory.range.Range.{Range}
 use Rattle.rlsf_base.specs.Range.{end_of, range_at}
@@ -13,17 +13,11 @@ use Rattle.rlsf_machine.specs.Release.{released}
 use Rattle.rlsf_machine.specs.State.{State, Used, others}
 use Rattle.rlsf_machine.specs.WellFormed.{covers, coverage, itself, last_bytes, IsChunk, IsUsed, IsWellFormed}
 use Rattle.rlsf_machine.proofs.Coverage.{inside, before, behind, where_is, covers-inside, covers-split, coverage-IsIn, coverage-without, find-some, IsIn-without}
-use Rattle.rlsf_machine.proofs.Payloads.{IsUsed-after_start}
+use Rattle.rlsf_machine.proofs.Payloads.{others-none, IsUsed-after_start}
 use Rattle.rlsf_machine.proofs.Tiling.{block_of, used-le, tiling_of, IsWellFormed-from}
 use Rattle.rlsf_machine.proofs.Releases.{IsSound-free}
 use Rattle.rlsf_resize.specs.Steps.Extension.{IsExtensible, lengthened, more_block}
 use Rattle.rlsf_blocks.proofs.Words.Apart.{Has}
-
--- used blocks of which none has an address are all left
-others-none : (addr : ℕ) (used : List Used) → ((u : Used) → IsIn u used → u.payload ≢ addr) → others addr used ≡ used
-others-none addr [] none = refl
-others-none addr (x ∷ xs) none =
-    ap (λ b. cond (not b) (x ∷ others addr xs) (others addr xs)) (ne_eqb x.payload addr (none x (inl refl))) ∙ ap (λ us. x ∷ us) (others-none addr xs (λ u i. none u (inr i)))
 
 module _ {fllen sllen : ℕ} {memory : Range} {s : State} (w : IsWellFormed fllen sllen memory s) (c : Range) (len : ℕ) (is : IsExtensible fllen memory s c len) where
   pub is_chunk : IsIn c s.chunks

@@ -1,6 +1,6 @@
 -- The bytes of a payload are copied into one that is allocated for it, and then its block is given back.
-use Rattle.std.proofs.Common.{◌≡◌, ◌≢◌, ℕ, ◌+◌, ◌-◌, ◌<◌, List, [], ◌∷◌, Some, None, cond, not, length, min, take, drop, arith, inl, inr, refl, sym, ◌∙◌, ap, subst}
-use Rattle.std.proofs.lemmas.Bool.{cases_lt, eq-eqb, le-leb, ne_eqb}
+use Rattle.std.proofs.Common.{◌≡◌, ℕ, ◌+◌, ◌-◌, ◌<◌, List, ◌∷◌, None, cond, not, length, min, take, drop, arith, inl, inr, refl, sym, ◌∙◌, ap, subst}
+use Rattle.std.proofs.lemmas.Bool.{eq-eqb}
 use Rattle.std.proofs.lemmas.List.{take-take, take_all}
 use Rattle.std.specs.List.{splice}
 use Rattle.rlsf_base.specs.declared.memory.range.Range.{Range}
@@ -9,37 +9,19 @@ use Rattle.rlsf_base.specs.Space.{Space, bytes_in, with_bytes, SamePlace}
 use Rattle.rlsf_base.proofs.Lending.Replaced.{length-with, bytes_in-with, bytes_in-there}
 use Rattle.rlsf_machine.specs.Allocate.{given, placed, Places}
 use Rattle.rlsf_machine.specs.Lists.{IsIn}
-use Rattle.rlsf_machine.specs.Reallocate.{in_place, resized, tail_joined, Keeps, MovesAway, Plan}
+use Rattle.rlsf_machine.specs.Reallocate.{in_place, Keeps, MovesAway}
 use Rattle.rlsf_machine.specs.Release.{released}
 use Rattle.rlsf_machine.specs.Run.{Fills}
 use Rattle.rlsf_machine.specs.State.{State, Used, usable, others, Holds}
 use Rattle.rlsf_machine.specs.WellFormed.{IsWellFormed}
 use Rattle.rlsf_machine.proofs.Changes.{Holds-unique}
 use Rattle.rlsf_machine.proofs.Live.{new_address}
-use Rattle.rlsf_machine.proofs.Payloads.{payload_of-after, IsUsed-after_start}
+use Rattle.rlsf_machine.proofs.Payloads.{others-none, payload_of-after, usable-short, IsUsed-after_start}
 use Rattle.rlsf_blocks.specs.Spare.{IsSpare, KeepsSpare}
 use Rattle.rlsf_blocks.specs.StandsFor.{contents, StandsFor}
 use Rattle.rlsf_table.specs.Table.{Table}
 use Rattle.rlsf_blocks.proofs.Payloads.Filled.{IsSameOutside, stands_filled}
 use Rattle.rlsf_blocks.proofs.Words.Apart.{used_in_memory}
-
--- used blocks none of which has the address
-others-none : (addr : ℕ) (used : List Used) → ((v : Used) → IsIn v used → v.payload ≢ addr) → others addr used ≡ used
-others-none addr [] none = refl
-others-none addr (x ∷ xs) none =
-    ap (λ b. cond (not b) (x ∷ others addr xs) (others addr xs)) (ne_eqb x.payload addr (none x (inl refl))) ∙ ap (λ l. x ∷ l) (others-none addr xs (λ v i. none v (inr i)))
-
--- a block that can't have the size where it stands has fewer usable bytes
-usable-short : {fllen sllen : ℕ} {memory : Range} {s : State} → IsWellFormed fllen sllen memory s → (u : Used) → IsIn u s.used → (size : ℕ) → in_place s u size ≡ None → (usable u).len < size
-usable-short {s = s} w u i size short =
-    let is = w.used u i in
-    elim (cases_lt (end_of u.block) (end_of (resized u size))) [
-      | inl past ↦ omega (arith, past, is.whole.len, is.within, IsUsed-after_start u is)
-      | inr fits ↦
-          let plan : Plan = record { block = resized u size; payload = u.payload; free = tail_joined (resized u size) (end_of u.block) s.free } in
-          let bad : Some plan ≡ None = sym (ap (λ b. cond b (Some plan) None) (le-leb (end_of (resized u size)) (end_of u.block) fits)) ∙ short in
-          absurd (cc)
-    ]
 
 module _ {fllen sllen : ℕ} {memory : Range} {m : Space} {table : Table} {s t : State} (w : IsWellFormed fllen sllen memory s) (u : Used) (i : IsIn u s.used) (size : ℕ) (short : in_place s u size ≡ None)
     {addr : ℕ} (places : Places sllen s size u.align addr t) (v : StandsFor fllen sllen (contents m table) t) where

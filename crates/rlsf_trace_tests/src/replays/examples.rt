@@ -1,6 +1,6 @@
 //! Worked examples, with the blocks and the sizes that they end with: what each text prints.
 
-use super::replayed;
+use super::replays;
 use std::test::Fail;
 
 const EXAMPLES: [(&[u8], &str); 22] = [
@@ -118,9 +118,5 @@ const EXAMPLES: [(&[u8], &str); 22] = [
 
 #[test]
 fn worked_examples(rt: HostRuntime) -> Result<(), Fail> {
-    for (text, printed) in &EXAMPLES {
-        let told = replayed(&rt, text)?;
-        assert_eq!(rt; told.as_str(), *printed);
-    }
-    Ok(())
+    replays(&rt, rt.alloc(), &EXAMPLES)
 }

@@ -1,4 +1,4 @@
-use super::replayed;
+use super::replays;
 use std::test::Fail;
 
 #[test]
@@ -27,10 +27,7 @@ fn faults_of_the_first_line(rt: HostRuntime) -> Result<(), Fail> {
         (b"8x8 00000000000000000000 0", "line 1: ZeroStart, status 1"),
         (b"8x8 1 18446744073709551615", "line 1: TooLong, status 1"),
     ];
-    for (text, want) in cases {
-        assert_eq!(rt; replayed(&rt, text)?.as_str(), want);
-    }
-    Ok(())
+    replays(&rt, rt.alloc(), &cases)
 }
 
 #[test]
@@ -82,8 +79,5 @@ fn faults_of_other_lines(rt: HostRuntime) -> Result<(), Fail> {
             "line 3: UnknownOp, status 1",
         ),
     ];
-    for (text, want) in cases {
-        assert_eq!(rt; replayed(&rt, text)?.as_str(), want);
-    }
-    Ok(())
+    replays(&rt, rt.alloc(), &cases)
 }

@@ -1,10 +1,11 @@
-use super::{alloc_op, answers_to, insert_op, placed};
+use super::{alloc_op, answers, insert_op, placed};
 use rlsf_base::memory::{Memory, Range};
 use rlsf_runs::run;
 use rlsf_text::{Answer, Op, TraceError};
 use rlsf_tlsf::Tlsf;
 use std::alloc::Global;
 use std::num::NonZeroUsize;
+use std::process::Abort;
 use std::test::Fail;
 
 /// The answers to the ops, with 59 rows of classes and 4096 bytes from 4096 on: no chunk is too long for them.
@@ -14,6 +15,17 @@ fn wide_answers_to(alloc: Global, ops: &[Op]) -> Result<Vec<Answer>, Fail> {
     let mut answers = Vec::new(alloc);
     run(alloc, &mut tlsf, ops, &mut answers)?;
     Ok(answers)
+}
+
+/// Passes where these are the answers to the ops.
+fn wide_answers(
+    rt: &impl Abort,
+    alloc: Global,
+    ops: &[Op],
+    expected: &[Answer],
+) -> Result<(), Fail> {
+    assert_eq!(rt; wide_answers_to(alloc, ops)?.as_slice(), expected);
+    Ok(())
 }
 
 fn append_op(start: usize, len: usize) -> Op {
@@ -32,28 +44,21 @@ fn appended_bytes_join_the_pool(rt: HostRuntime) -> Result<(), Fail> {
         append_op(4352, 256),
         alloc_op(1, 384)?,
     ];
-    assert_eq!(rt;
-        wide_answers_to(rt.alloc(), &ops)?.as_slice(),
-        [
-            inserted(256),
-            Answer::Placed(None),
-            Answer::Appended(256),
-            placed(4112),
-        ]
-        .as_slice()
-    );
+    let expected = [
+        inserted(256),
+        Answer::Placed(None),
+        Answer::Appended(256),
+        placed(4112),
+    ];
+    wide_answers(&rt, rt.alloc(), &ops, &expected)?;
     // Where chunks have a greatest length, the range becomes a chunk of its own.
-    assert_eq!(rt;
-        answers_to(rt.alloc(), &ops)?.as_slice(),
-        [
-            inserted(256),
-            Answer::Placed(None),
-            Answer::Appended(256),
-            Answer::Placed(None),
-        ]
-        .as_slice()
-    );
-    Ok(())
+    let expected = [
+        inserted(256),
+        Answer::Placed(None),
+        Answer::Appended(256),
+        Answer::Placed(None),
+    ];
+    answers(&rt, rt.alloc(), &ops, &expected)
 }
 
 #[test]
@@ -64,27 +69,20 @@ fn short_ranges_are_not_appended(rt: HostRuntime) -> Result<(), Fail> {
         append_op(4160, 31),
         append_op(4160, 32),
     ];
-    assert_eq!(rt;
-        wide_answers_to(rt.alloc(), &ops)?.as_slice(),
-        [
-            inserted(64),
-            placed(4112),
-            Answer::Appended(0),
-            Answer::Appended(32),
-        ]
-        .as_slice()
-    );
-    assert_eq!(rt;
-        answers_to(rt.alloc(), &ops)?.as_slice(),
-        [
-            inserted(64),
-            placed(4112),
-            Answer::Appended(0),
-            Answer::Appended(0),
-        ]
-        .as_slice()
-    );
-    Ok(())
+    let expected = [
+        inserted(64),
+        placed(4112),
+        Answer::Appended(0),
+        Answer::Appended(32),
+    ];
+    wide_answers(&rt, rt.alloc(), &ops, &expected)?;
+    let expected = [
+        inserted(64),
+        placed(4112),
+        Answer::Appended(0),
+        Answer::Appended(0),
+    ];
+    answers(&rt, rt.alloc(), &ops, &expected)
 }
 
 #[test]
@@ -108,28 +106,24 @@ fn appends_begin_where_a_pool_ends(rt: HostRuntime) -> Result<(), Fail> {
         append_op(4544, 64),
     ];
     let bad = Answer::Refused(TraceError::BadRange);
-    assert_eq!(rt;
-        wide_answers_to(rt.alloc(), &ops)?.as_slice(),
-        [
-            bad,
-            inserted(128),
-            inserted(128),
-            bad,
-            bad,
-            bad,
-            bad,
-            bad,
-            bad,
-            Answer::Appended(128),
-            bad,
-            Answer::Appended(0),
-            Answer::Appended(64),
-            bad,
-            Answer::Appended(64),
-        ]
-        .as_slice()
-    );
-    Ok(())
+    let expected = [
+        bad,
+        inserted(128),
+        inserted(128),
+        bad,
+        bad,
+        bad,
+        bad,
+        bad,
+        bad,
+        Answer::Appended(128),
+        bad,
+        Answer::Appended(0),
+        Answer::Appended(64),
+        bad,
+        Answer::Appended(64),
+    ];
+    wide_answers(&rt, rt.alloc(), &ops, &expected)
 }
 
 #[test]
@@ -151,27 +145,23 @@ fn payloads_get_other_sizes(rt: HostRuntime) -> Result<(), Fail> {
         Op::Free(2),
         Op::Realloc(2, 0),
     ];
-    assert_eq!(rt;
-        answers_to(rt.alloc(), &ops)?.as_slice(),
-        [
-            inserted(256),
-            placed(4112),
-            placed(4144),
-            placed(4208),
-            Answer::Done,
-            Answer::Done,
-            placed(4112),
-            Answer::Byte(9),
-            Answer::Placed(None),
-            Answer::Byte(9),
-            Answer::Done,
-            Answer::Refused(TraceError::BadOffset),
-            Answer::Done,
-            Answer::Refused(TraceError::UnknownName),
-        ]
-        .as_slice()
-    );
-    Ok(())
+    let expected = [
+        inserted(256),
+        placed(4112),
+        placed(4144),
+        placed(4208),
+        Answer::Done,
+        Answer::Done,
+        placed(4112),
+        Answer::Byte(9),
+        Answer::Placed(None),
+        Answer::Byte(9),
+        Answer::Done,
+        Answer::Refused(TraceError::BadOffset),
+        Answer::Done,
+        Answer::Refused(TraceError::UnknownName),
+    ];
+    answers(&rt, rt.alloc(), &ops, &expected)
 }
 
 #[test]
@@ -186,18 +176,14 @@ fn sizes_have_layouts(rt: HostRuntime) -> Result<(), Fail> {
         // An unknown name is told first.
         Op::Realloc(9, 18446744073709551615),
     ];
-    assert_eq!(rt;
-        answers_to(rt.alloc(), &ops)?.as_slice(),
-        [
-            inserted(96),
-            placed(4112),
-            Answer::Refused(TraceError::BadLayout),
-            Answer::Placed(None),
-            placed(4112),
-            placed(4144),
-            Answer::Refused(TraceError::UnknownName),
-        ]
-        .as_slice()
-    );
-    Ok(())
+    let expected = [
+        inserted(96),
+        placed(4112),
+        Answer::Refused(TraceError::BadLayout),
+        Answer::Placed(None),
+        placed(4112),
+        placed(4144),
+        Answer::Refused(TraceError::UnknownName),
+    ];
+    answers(&rt, rt.alloc(), &ops, &expected)
 }

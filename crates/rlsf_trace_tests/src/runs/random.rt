@@ -362,93 +362,114 @@ fn is_apart(payload: Option<Payload>, chunks: &[Range], live: &[Option<Payload>]
     is_inside(&payload, chunks) && overlaps.count() <= 1
 }
 
-/// The index of the first wrong answer to a list's ops, and the allocator after them.
-fn ran<FLBitmap: Bitmap, SLBitmap: Bitmap, const FLLEN: usize, const SLLEN: usize>(
+/// Names the type of an allocator. A proof knows that it fits in memory where a caller names it.
+type Shape<'a, FLBitmap, SLBitmap, const FLLEN: usize, const SLLEN: usize> = Option<
+    &'a Tlsf<FLBitmap, SLBitmap, FLLEN, SLLEN>,
+>;
+
+/// The index of the first wrong answer to a list's ops.
+fn wrong_of<FLBitmap: Bitmap, SLBitmap: Bitmap, const FLLEN: usize, const SLLEN: usize>(
     alloc: Global,
     list: &[u32; 40],
-) -> Result<(Option<usize>, Tlsf<FLBitmap, SLBitmap, FLLEN, SLLEN>), Fail>
+    _shape: Shape<'_, FLBitmap, SLBitmap, FLLEN, SLLEN>,
+) -> Result<Option<usize>, Fail>
     requires { IsValid FLBitmap.width SLBitmap.width FLLEN SLLEN }
 {
     let most = if FLLEN < 59 { 32 << FLLEN } else { usize::MAX };
     let plan = plan_of(alloc, list, most)?;
     let memory = Memory::new(alloc, MEMORY_START, MEMORY_LEN)?;
-    let mut tlsf = Tlsf::new(memory);
+    let mut tlsf = Tlsf::<FLBitmap, SLBitmap, FLLEN, SLLEN>::new(memory);
     let mut answers = Vec::new(alloc);
     run(alloc, &mut tlsf, plan.ops.as_slice(), &mut answers)?;
-    Ok((first_wrong(&plan, answers.as_slice()), tlsf))
+    Ok(first_wrong(&plan, answers.as_slice()))
+}
+
+/// The index of the first list with a wrong answer to its ops, and the index of that answer.
+fn wrong<FLBitmap: Bitmap, SLBitmap: Bitmap, const FLLEN: usize, const SLLEN: usize>(
+    alloc: Global,
+    shape: Shape<'_, FLBitmap, SLBitmap, FLLEN, SLLEN>,
+) -> Result<Option<(usize, usize)>, Fail>
+    requires { IsValid FLBitmap.width SLBitmap.width FLLEN SLLEN }
+{
+    for index in 0..LISTS {
+        if let Some(answer) = wrong_of(alloc, &list(index), shape)? {
+            return Ok(Some((index, answer)));
+        }
+    }
+    Ok(None)
 }
 
 #[test]
 fn few_classes(rt: HostRuntime) -> Result<(), Fail> {
     let alloc = rt.alloc();
-    for index in 0..LISTS {
-        let list = &list(index);
-        assert_eq!(rt; ran::<u8, u8, 1, 1>(alloc, list)?.0, None);
-        assert_eq!(rt; ran::<u8, u8, 1, 2>(alloc, list)?.0, None);
-        assert_eq!(rt; ran::<u8, u8, 1, 4>(alloc, list)?.0, None);
-        assert_eq!(rt; ran::<u8, u8, 1, 8>(alloc, list)?.0, None);
-        assert_eq!(rt; ran::<u8, u8, 3, 4>(alloc, list)?.0, None);
-    }
+    let found = [
+        wrong::<u8, u8, 1, 1>(alloc, None)?,
+        wrong::<u8, u8, 1, 2>(alloc, None)?,
+        wrong::<u8, u8, 1, 4>(alloc, None)?,
+        wrong::<u8, u8, 1, 8>(alloc, None)?,
+        wrong::<u8, u8, 3, 4>(alloc, None)?,
+    ];
+    assert_eq!(rt; found, [None; 5]);
     Ok(())
 }
 
 #[test]
 fn rows_of_8_bits(rt: HostRuntime) -> Result<(), Fail> {
     let alloc = rt.alloc();
-    for index in 0..LISTS {
-        let list = &list(index);
-        assert_eq!(rt; ran::<u8, u8, 5, 4>(alloc, list)?.0, None);
-        assert_eq!(rt; ran::<u8, u8, 8, 1>(alloc, list)?.0, None);
-        assert_eq!(rt; ran::<u8, u8, 8, 8>(alloc, list)?.0, None);
-        assert_eq!(rt; ran::<u16, u8, 3, 4>(alloc, list)?.0, None);
-        assert_eq!(rt; ran::<u16, u8, 11, 4>(alloc, list)?.0, None);
-        assert_eq!(rt; ran::<u16, u8, 16, 4>(alloc, list)?.0, None);
-    }
+    let found = [
+        wrong::<u8, u8, 5, 4>(alloc, None)?,
+        wrong::<u8, u8, 8, 1>(alloc, None)?,
+        wrong::<u8, u8, 8, 8>(alloc, None)?,
+        wrong::<u16, u8, 3, 4>(alloc, None)?,
+        wrong::<u16, u8, 11, 4>(alloc, None)?,
+        wrong::<u16, u8, 16, 4>(alloc, None)?,
+    ];
+    assert_eq!(rt; found, [None; 6]);
     Ok(())
 }
 
 #[test]
 fn rows_of_16_classes(rt: HostRuntime) -> Result<(), Fail> {
     let alloc = rt.alloc();
-    for index in 0..LISTS {
-        let list = &list(index);
-        assert_eq!(rt; ran::<u16, u16, 3, 16>(alloc, list)?.0, None);
-        assert_eq!(rt; ran::<u16, u16, 11, 16>(alloc, list)?.0, None);
-        assert_eq!(rt; ran::<u16, u16, 16, 16>(alloc, list)?.0, None);
-        assert_eq!(rt; ran::<u16, u32, 3, 16>(alloc, list)?.0, None);
-        assert_eq!(rt; ran::<u16, u32, 11, 16>(alloc, list)?.0, None);
-        assert_eq!(rt; ran::<u16, u32, 16, 16>(alloc, list)?.0, None);
-    }
+    let found = [
+        wrong::<u16, u16, 3, 16>(alloc, None)?,
+        wrong::<u16, u16, 11, 16>(alloc, None)?,
+        wrong::<u16, u16, 16, 16>(alloc, None)?,
+        wrong::<u16, u32, 3, 16>(alloc, None)?,
+        wrong::<u16, u32, 11, 16>(alloc, None)?,
+        wrong::<u16, u32, 16, 16>(alloc, None)?,
+    ];
+    assert_eq!(rt; found, [None; 6]);
     Ok(())
 }
 
 #[test]
 fn rows_of_32_classes(rt: HostRuntime) -> Result<(), Fail> {
     let alloc = rt.alloc();
-    for index in 0..LISTS {
-        let list = &list(index);
-        assert_eq!(rt; ran::<u16, u32, 3, 32>(alloc, list)?.0, None);
-        assert_eq!(rt; ran::<u16, u32, 11, 32>(alloc, list)?.0, None);
-        assert_eq!(rt; ran::<u16, u32, 16, 32>(alloc, list)?.0, None);
-        assert_eq!(rt; ran::<u32, u32, 20, 32>(alloc, list)?.0, None);
-        assert_eq!(rt; ran::<u32, u32, 27, 32>(alloc, list)?.0, None);
-        assert_eq!(rt; ran::<u32, u32, 28, 32>(alloc, list)?.0, None);
-        assert_eq!(rt; ran::<u32, u32, 29, 32>(alloc, list)?.0, None);
-        assert_eq!(rt; ran::<u32, u32, 32, 32>(alloc, list)?.0, None);
-    }
+    let found = [
+        wrong::<u16, u32, 3, 32>(alloc, None)?,
+        wrong::<u16, u32, 11, 32>(alloc, None)?,
+        wrong::<u16, u32, 16, 32>(alloc, None)?,
+        wrong::<u32, u32, 20, 32>(alloc, None)?,
+        wrong::<u32, u32, 27, 32>(alloc, None)?,
+        wrong::<u32, u32, 28, 32>(alloc, None)?,
+        wrong::<u32, u32, 29, 32>(alloc, None)?,
+        wrong::<u32, u32, 32, 32>(alloc, None)?,
+    ];
+    assert_eq!(rt; found, [None; 8]);
     Ok(())
 }
 
 #[test]
 fn most_rows(rt: HostRuntime) -> Result<(), Fail> {
     let alloc = rt.alloc();
-    for index in 0..LISTS {
-        let list = &list(index);
-        assert_eq!(rt; ran::<u64, u64, 58, 8>(alloc, list)?.0, None);
-        assert_eq!(rt; ran::<u64, u64, 59, 8>(alloc, list)?.0, None);
-        assert_eq!(rt; ran::<u64, u64, 60, 8>(alloc, list)?.0, None);
-        assert_eq!(rt; ran::<u64, u64, 61, 8>(alloc, list)?.0, None);
-        assert_eq!(rt; ran::<u64, u64, 64, 8>(alloc, list)?.0, None);
-    }
+    let found = [
+        wrong::<u64, u64, 58, 8>(alloc, None)?,
+        wrong::<u64, u64, 59, 8>(alloc, None)?,
+        wrong::<u64, u64, 60, 8>(alloc, None)?,
+        wrong::<u64, u64, 61, 8>(alloc, None)?,
+        wrong::<u64, u64, 64, 8>(alloc, None)?,
+    ];
+    assert_eq!(rt; found, [None; 5]);
     Ok(())
 }

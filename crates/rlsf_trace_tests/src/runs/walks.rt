@@ -1,4 +1,4 @@
-use super::{alloc_op, answers_to, insert_op, placed};
+use super::{alloc_op, answers, insert_op, placed};
 use rlsf_base::memory::Range;
 use rlsf_text::{Answer, Op, TraceError};
 use std::num::NonZeroUsize;
@@ -27,25 +27,20 @@ fn blocks_and_their_bytes(rt: HostRuntime) -> Result<(), Fail> {
         Op::FreeUnknown(2),
         Op::Usable(2),
     ];
-    let answers = answers_to(rt.alloc(), &ops)?;
-    assert_eq!(rt;
-        answers.as_slice(),
-        [
-            Answer::Inserted(NonZeroUsize::new(96)),
-            placed(4112),
-            Answer::Usable(48),
-            placed(4112),
-            placed(4144),
-            told(4128, 32, true),
-            Answer::Block(None),
-            Answer::Done,
-            told(4128, 32, false),
-            Answer::Refused(TraceError::UnknownName),
-            Answer::Refused(TraceError::UnknownName),
-        ]
-        .as_slice()
-    );
-    Ok(())
+    let expected = [
+        Answer::Inserted(NonZeroUsize::new(96)),
+        placed(4112),
+        Answer::Usable(48),
+        placed(4112),
+        placed(4144),
+        told(4128, 32, true),
+        Answer::Block(None),
+        Answer::Done,
+        told(4128, 32, false),
+        Answer::Refused(TraceError::UnknownName),
+        Answer::Refused(TraceError::UnknownName),
+    ];
+    answers(&rt, rt.alloc(), &ops, &expected)
 }
 
 #[test]
@@ -64,23 +59,18 @@ fn ranges_are_those_of_one_pool(rt: HostRuntime) -> Result<(), Fail> {
         block_op(4161, 95, 0),
         block_op(4160, 96, 0),
     ];
-    let answers = answers_to(rt.alloc(), &ops)?;
     let bad = Answer::Refused(TraceError::BadRange);
-    assert_eq!(rt;
-        answers.as_slice(),
-        [
-            Answer::Inserted(NonZeroUsize::new(96)),
-            Answer::Inserted(NonZeroUsize::new(64)),
-            bad,
-            bad,
-            bad,
-            bad,
-            bad,
-            bad,
-            told(4192, 32, false),
-            bad,
-        ]
-        .as_slice()
-    );
-    Ok(())
+    let expected = [
+        Answer::Inserted(NonZeroUsize::new(96)),
+        Answer::Inserted(NonZeroUsize::new(64)),
+        bad,
+        bad,
+        bad,
+        bad,
+        bad,
+        bad,
+        told(4192, 32, false),
+        bad,
+    ];
+    answers(&rt, rt.alloc(), &ops, &expected)
 }

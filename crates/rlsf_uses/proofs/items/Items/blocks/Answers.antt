@@ -1,5 +1,6 @@
-use Rattle.std.specs.Map.{values_of}
+use Rattle.std.proofs.Common.{◌∙◌}
+use Rattle.rlsf_uses.proofs.HandledStores.{length-lists_in}
 use Rattle.rlsf_uses.proofs.items.Items.blocks.Goals as goal
 
-pub returns-clause-order : goal.returns-clause-order
-returns-clause-order c = (c.blocks-2.ensures.blocks (values_of c.self.invariant.items) c.self.invariant.store).in_order
+pub returns-clause-used : goal.returns-clause-used
+returns-clause-used c = rw (← c.self.view_is) (c.blocks-2.ensures.used _ c.self.invariant ∙ length-lists_in c.self.inside.store c.self.inside.align c.self.inside.handles.rows)

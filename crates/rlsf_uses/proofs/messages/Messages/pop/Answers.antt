@@ -1,10 +1,11 @@
-use Rattle.std.proofs.Common.{◌<◌, [], ◌∷◌, ◌++◌, length, drop, arith, refl, ◌∙◌, ap, sym, subst}
+use Rattle.std.proofs.Common.{◌≡◌, ◌<◌, [], ◌++◌, length, drop, map, arith, refl, ◌∙◌, ap, sym, subst}
 use Rattle.std.proofs.lemmas.List.{length-take}
 use Rattle.std.specs.Option.{IsSomeAnd}
-use Rattle.rlsf_uses.specs.Queue.{oldest}
-use Rattle.rlsf_uses.proofs.Queues.{Oldest, oldest_stored, popped}
+use Rattle.rlsf_uses.specs.Queue.{oldest, place_of_entry}
+use Rattle.rlsf_uses.specs.Stored.{HasPlaces, HasSame, bytes_at}
+use Rattle.rlsf_uses.proofs.Queues.{Oldest, oldest_stored}
 use Rattle.rlsf_uses.proofs.messages.Messages.pop.Goals as goal
-use Rattle.rlsf_uses.proofs.messages.Messages.pop.Goals.{In-Some}
+use Rattle.rlsf_uses.proofs.messages.Messages.pop.Goals.{After-remove, In-Some}
 
 -- the oldest message, at the entry that was found
 found : (c : In-Some) → Oldest c.self.inside.store c.self.inside.entries.items c.in-Some.field-0.now
@@ -16,34 +17,36 @@ found c =
 pub returns-then-into-entry-clause-short : goal.returns-then-into-entry-clause-short
 returns-then-into-entry-clause-short c =
     let o = found (goal.at.returns-then-into-entry-clause-short c).In-Some in
-    rw (← c.self.view_is) (λ _. subst (λ ms. IsSomeAnd (oldest ms) (λ m. length c.args.into.now < length m)) (sym o.messages) (omega (arith, o.here.2)), λ _. refl)
+    rw (← c.self.view_is) (λ _. subst (λ ms. IsSomeAnd (oldest ms) (λ m. length c.args.into.now < length m)) (sym o.messages) (omega (arith, o.len)), λ _. refl)
 
 pub read-requires : goal.read-requires
-read-requires c = let o = found (goal.at.read-requires c).In-Some in (o.message ∷ o.others, o.message, o.is, o.here)
+read-requires c = ([], _, _, (found (goal.at.read-requires c).In-Some).places, refl, refl)
 
 pub copy_from_slice-requires : goal.copy_from_slice-requires
-copy_from_slice-requires c =
-    let o = found (goal.at.copy_from_slice-requires c).In-Some in
-    let same = ap length (c.read.ensures _ o.message o.is o.here) in
-    omega (arith, o.here.2, length-take c.in-Some.field-0.now.len c.args.into.now)
+copy_from_slice-requires c = omega (arith, c.read.ensures.len, length-take c.in-Some.field-0.now.len c.args.into.now)
 
 pub remove-requires : goal.remove-requires
-remove-requires c = let o = found (goal.at.remove-requires c).In-Some in ([], o.others, o.message, o.is, o.here.1, o.align)
+remove-requires c = ([], _, _, (found (goal.at.remove-requires c).In-Some).places, refl, refl)
+
+-- the messages that are left
+left : (c : After-remove) → Oldest c.self.inside.store c.self.inside.entries.items c.in-Some.field-0.now → HasSame c.self.inside.store c.remove.new.self (map place_of_entry (drop 1 c.self.inside.entries.items))
+left c o = c.remove.ensures.removed [] _ _ o.places refl refl
 
 pub invariant_of-self : goal.invariant_of-self
 invariant_of-self c =
-    let o = found (goal.at.invariant_of-self c).In-Some in
-    (popped c.self.inside.store c.remove.new.self c.self.inside.entries.items _ c.in-Some.field-0.now o (cc) c.remove.ensures.stored).0
+    let at = goal.at.invariant_of-self c in
+    let rest : drop 1 c.self.inside.entries.items ≡ c.pop_front.new.self.items = cc in
+    subst (λ es. HasPlaces c.remove.new.self (map place_of_entry es)) rest (left at.After-remove (found at.In-Some)).0
 
 pub returns-clause-ok : goal.returns-clause-ok
 returns-clause-ok c =
-    let o = found (goal.at.returns-clause-ok c).In-Some in
-    let entries = c.self.inside.entries.items in
-    let left = (popped c.self.inside.store c.remove.new.self entries (drop 1 entries) c.in-Some.field-0.now o refl c.remove.ensures.stored).1 in
-    let bytes = c.copy_from_slice.ensures.after ∙ c.read.ensures _ o.message o.is o.here in
+    let at = goal.at.returns-clause-ok c in
+    let o = found at.In-Some in
+    let rest = (left at.After-remove o).1 in
+    let bytes = c.copy_from_slice.ensures.after ∙ c.read.ensures.bytes in
     rw (← c.self.view_is) (
-      o.message.bytes,
-      cc (left),
-      sym o.here.2,
+      bytes_at c.self.inside.store.heap.memory (place_of_entry c.in-Some.field-0.now),
+      cc (o.messages, rest),
+      sym o.len,
       ap (λ bs. bs ++ drop c.in-Some.field-0.now.len c.args.into.now) bytes,
     )

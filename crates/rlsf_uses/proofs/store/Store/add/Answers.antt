@@ -1,26 +1,28 @@
-use Rattle.std.proofs.Common.{◌≡◌, ◌∷◌, ◌++◌, [], List, None, Some, length, take, refl, sym, ◌∙◌, ap, subst}
+use Rattle.std.proofs.Common.{◌≡◌, [], List, None, Some, length, take, refl, sym, ◌∙◌, ap, subst}
 use Rattle.std.specs.Prelude.{IfNone, IsSome}
 use Rattle.std.specs.Int.NonZero.{non_zero_usize_get}
 use Rattle.rlsf_base.specs.Sizes.{pool_size_to_contain_allocation}
 use Rattle.rlsf_base.specs.Space.{range_of}
 use Rattle.rlsf_tlsf.specs.Lending.{written}
-use Rattle.rlsf_uses.specs.Stored.{FitsPool, IsStore, StoreContents, Stored, store_contents, stored}
+use Rattle.rlsf_uses.specs.Stored.{FitsPool, HasAmong, HasPlaces, KeepsAll, Place, StoreContents, place, store_contents}
 use Rattle.rlsf_uses.proofs.Fronts.{front-append}
+use Rattle.rlsf_uses.proofs.Places.{HasAmong-added, HasSame-stored, IsStore-none}
 use Rattle.rlsf_uses.proofs.Stores.{IsStore-added, IsStore-refused, empty_has_room}
 use Rattle.rlsf_uses.proofs.store.Store.add.Goals as goal
 
 pub returns-in_err-addr-clause-refused : goal.returns-in_err-addr-clause-refused
 returns-in_err-addr-clause-refused c =
     let layout = c.in-Ok.layout in
-    subst (λ (old : StoreContents). IfNone c.from_residual.result ((all : List Stored) → IsStore old all → IsStore (store_contents c.allocate.new.self c.self.inside.pool) all)) c.self.view_is
-    (subst (λ o. IfNone o ((all : List Stored) → IsStore (store_contents c.self.inside.heap c.self.inside.pool) all → IsStore (store_contents c.allocate.new.self c.self.inside.pool) all)) (sym c.from_residual.ensures)
-    (λ all store. IsStore-refused layout.size layout.align layout.valid.aligned all store c.in_err-addr.ensures.step c.in_err-addr.ensures.place))
+    subst (λ (old : StoreContents). IfNone c.from_residual.result (KeepsAll old (store_contents c.allocate.new.self c.self.inside.pool))) c.self.view_is
+    (subst (λ o. IfNone o (KeepsAll (store_contents c.self.inside.heap c.self.inside.pool) (store_contents c.allocate.new.self c.self.inside.pool))) (sym c.from_residual.ensures)
+    (λ places has. HasSame-stored places has (λ all store. IsStore-refused layout.size layout.align layout.valid.aligned all store c.in_err-addr.ensures.step c.in_err-addr.ensures.place)))
 
 pub returns-in_err-addr-clause-room : goal.returns-in_err-addr-clause-room
 returns-in_err-addr-clause-room c =
     let layout = c.in-Ok.layout in
-    subst (λ (old : StoreContents). IsStore old [] → FitsPool (range_of old.heap.memory) (length c.args.bytes.now) 1 → IsSome c.from_residual.result) c.self.view_is
-    (λ store (e, told, long).
+    subst (λ (old : StoreContents). HasPlaces old [] → FitsPool (range_of old.heap.memory) (length c.args.bytes.now) 1 → IsSome c.from_residual.result) c.self.view_is
+    (λ has (e, told, long).
+    let store = IsStore-none has in
     let (t, step, _, _) = c.in_err-addr.ensures.step store.state store.stands in
     let (size, align) = c.in-Ok.ensures.layout in
     absurd (empty_has_room store layout.size layout.align (e, subst (λ n. pool_size_to_contain_allocation 59 8 n layout.align ≡ Some e) (sym size) (subst (λ n. pool_size_to_contain_allocation 59 8 (length c.args.bytes.now) n ≡ Some e) (sym align) told), long) t None step refl))
@@ -32,7 +34,8 @@ returns-clause-stored c =
     let lent = c.payload_mut.result.now in
     let w = c.write_at.new.payload in
     let front = c.args.bytes.now in
-    subst (λ (old : StoreContents). (before after : List Stored) → IsStore old (before ++ after) → IsStore (store_contents (written c.allocate.new.self addr (length lent) w) c.self.inside.pool) (before ++ stored addr 1 front ∷ after)) c.self.view_is
-    (λ before after store. subst (λ n. IsStore (store_contents (written c.allocate.new.self addr (length lent) w) c.self.inside.pool) (before ++ stored addr n front ∷ after)) c.in-Ok.ensures.layout.1
-    (IsStore-added layout.size layout.align addr layout.valid.aligned lent w before after store front c.in_ok-addr.ensures.step c.payload_mut.ensures.meaning c.write_at.ensures.len
-    (ap (take (length front)) c.write_at.ensures.bytes ∙ front-append [] lent front 0 refl refl) c.in_ok-addr.ensures.place (c.payload_mut.ensures.place w)))
+    let new = store_contents (written c.allocate.new.self addr (length lent) w) c.self.inside.pool in
+    subst (λ (old : StoreContents). (places : List Place) → HasPlaces old places → HasAmong old new places [] (place addr 1 (length front)) front) c.self.view_is
+    (λ places has. subst (λ n. HasAmong (store_contents c.self.inside.heap c.self.inside.pool) new places [] (place addr n (length front)) front) c.in-Ok.ensures.layout.1
+    (HasAmong-added places addr layout.align front (length front) refl has (λ before after store. IsStore-added layout.size layout.align addr layout.valid.aligned lent w before after store front c.in_ok-addr.ensures.step c.payload_mut.ensures.meaning c.write_at.ensures.len
+    (ap (take (length front)) c.write_at.ensures.bytes ∙ front-append [] lent front 0 refl refl) c.in_ok-addr.ensures.place (c.payload_mut.ensures.place w))))

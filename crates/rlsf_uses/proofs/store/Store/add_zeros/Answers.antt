@@ -1,25 +1,26 @@
-use Rattle.std.proofs.Common.{◌≡◌, ◌≤◌, ◌∷◌, ◌++◌, [], List, None, length, replicate, take, arith, refl, sym, ◌∙◌, ap, subst}
+use Rattle.std.proofs.Common.{◌≡◌, ◌≤◌, [], List, None, length, replicate, take, arith, refl, sym, ◌∙◌, ap, subst}
 use Rattle.std.proofs.lemmas.List.{length-replicate, take-replicate}
 use Rattle.std.specs.Prelude.{IfNone, IsSome}
 use Rattle.std.specs.Int.NonZero.{non_zero_usize_get}
 use Rattle.rlsf_base.specs.Space.{range_of}
 use Rattle.rlsf_tlsf.specs.Lending.{written}
-use Rattle.rlsf_uses.specs.Stored.{FitsPool, IsStore, StoreContents, Stored, store_contents, stored}
+use Rattle.rlsf_uses.specs.Stored.{FitsPool, HasAmong, HasPlaces, KeepsAll, Place, StoreContents, place, store_contents}
+use Rattle.rlsf_uses.proofs.Places.{HasAmong-added, HasSame-stored, IsStore-none}
 use Rattle.rlsf_uses.proofs.Stores.{IsStore-added, IsStore-refused, empty_has_room}
 use Rattle.rlsf_uses.proofs.store.Store.add_zeros.Goals as goal
 
 pub returns-in_err-addr-clause-refused : goal.returns-in_err-addr-clause-refused
 returns-in_err-addr-clause-refused c =
     let layout = c.args.layout in
-    subst (λ (old : StoreContents). IfNone c.from_residual.result ((all : List Stored) → IsStore old all → IsStore (store_contents c.allocate.new.self c.self.inside.pool) all)) c.self.view_is
-    (subst (λ o. IfNone o ((all : List Stored) → IsStore (store_contents c.self.inside.heap c.self.inside.pool) all → IsStore (store_contents c.allocate.new.self c.self.inside.pool) all)) (sym c.from_residual.ensures)
-    (λ all store. IsStore-refused layout.size layout.align layout.valid.aligned all store c.in_err-addr.ensures.step c.in_err-addr.ensures.place))
+    subst (λ (old : StoreContents). IfNone c.from_residual.result (KeepsAll old (store_contents c.allocate.new.self c.self.inside.pool))) c.self.view_is
+    (subst (λ o. IfNone o (KeepsAll (store_contents c.self.inside.heap c.self.inside.pool) (store_contents c.allocate.new.self c.self.inside.pool))) (sym c.from_residual.ensures)
+    (λ places has. HasSame-stored places has (λ all store. IsStore-refused layout.size layout.align layout.valid.aligned all store c.in_err-addr.ensures.step c.in_err-addr.ensures.place)))
 
 pub returns-in_err-addr-clause-room : goal.returns-in_err-addr-clause-room
 returns-in_err-addr-clause-room c =
     let layout = c.args.layout in
-    subst (λ (old : StoreContents). IsStore old [] → FitsPool (range_of old.heap.memory) layout.size layout.align → IsSome c.from_residual.result) c.self.view_is
-    (λ store fits. let (t, step, _, _) = c.in_err-addr.ensures.step store.state store.stands in absurd (empty_has_room store layout.size layout.align fits t None step refl))
+    subst (λ (old : StoreContents). HasPlaces old [] → FitsPool (range_of old.heap.memory) layout.size layout.align → IsSome c.from_residual.result) c.self.view_is
+    (λ has fits. let store = IsStore-none has in let (t, step, _, _) = c.in_err-addr.ensures.step store.state store.stands in absurd (empty_has_room store layout.size layout.align fits t None step refl))
 
 pub returns-clause-stored : goal.returns-clause-stored
 returns-clause-stored c =
@@ -33,5 +34,6 @@ returns-clause-stored c =
     let room : layout.size ≤ length lent = omega (arith, long, enough) in
     let zeros : w ≡ replicate (length lent) 0 = c.fill.ensures.after (λ y same. same) in
     let begins : take (length front) w ≡ front = ap (λ n. take n w) (length-replicate layout.size 0) ∙ ap (take layout.size) zeros ∙ take-replicate layout.size (length lent) 0 room in
-    subst (λ (old : StoreContents). (before after : List Stored) → IsStore old (before ++ after) → IsStore (store_contents (written c.allocate.new.self addr (length lent) w) c.self.inside.pool) (before ++ stored addr layout.align front ∷ after)) c.self.view_is
-    (λ before after store. IsStore-added layout.size layout.align addr layout.valid.aligned lent w before after store front c.in_ok-addr.ensures.step c.payload_mut.ensures.meaning c.fill.ensures.len begins c.in_ok-addr.ensures.place (c.payload_mut.ensures.place w))
+    subst (λ (old : StoreContents). (places : List Place) → HasPlaces old places → HasAmong old (store_contents (written c.allocate.new.self addr (length lent) w) c.self.inside.pool) places [] (place addr layout.align layout.size) front) c.self.view_is
+    (λ places has. HasAmong-added places addr layout.align front layout.size (length-replicate layout.size 0) has
+    (λ before after store. IsStore-added layout.size layout.align addr layout.valid.aligned lent w before after store front c.in_ok-addr.ensures.step c.payload_mut.ensures.meaning c.fill.ensures.len begins c.in_ok-addr.ensures.place (c.payload_mut.ensures.place w)))

@@ -1,26 +1,31 @@
-use Rattle.std.proofs.Common.{◌≡◌, ◌+◌, ◌≤◌, ◌∷◌, ◌++◌, List, None, Some, length, take, lit<, arith, refl, sym, ◌∙◌, ap, subst}
+use Rattle.std.proofs.Common.{◌≡◌, ◌+◌, ◌≤◌, ◌∷◌, ◌++◌, ℕ, List, length, length-append, take, lit<, arith, refl, sym, ◌∙◌, ap, subst}
 use Rattle.std.specs.Prelude.{IfNone}
 use Rattle.std.specs.Int.NonZero.{non_zero_usize_get}
-use Rattle.std.specs.Option.{option_map}
-use Rattle.rlsf_base.specs.Space.{SamePlace}
 use Rattle.rlsf_tlsf.specs.Lending.{written}
-use Rattle.rlsf_uses.specs.Stored.{IsStore, StoreContents, Stored, store_contents, stored}
+use Rattle.rlsf_uses.specs.Stored.{HasAmong, HasPlaces, HasSame, Place, StoreContents, bytes_at, place, store_contents, stored}
 use Rattle.rlsf_uses.proofs.Fronts.{front-append}
+use Rattle.rlsf_uses.proofs.Places.{HasAmong-changed, HasSame-live, among}
 use Rattle.rlsf_uses.proofs.Stores.{IsLive-stored, IsStore-not_resized, IsStore-resized, IsStore-written}
 use Rattle.rlsf_uses.proofs.store.Store.append.Goals as goal
 
 pub reallocate-requires : goal.reallocate-requires
 reallocate-requires c =
-    let (before, after, k, store, at, aligned, long) = subst (λ (old : StoreContents). (before after : List Stored) × (k : Stored) × IsStore old (before ++ k ∷ after) × (k.addr ≡ non_zero_usize_get c.args.addr) × (k.align ≡ 1) × (length k.bytes ≡ c.args.len)) (sym c.self.view_is) c.requires in
-    (lit< tt, (store.state, store.stands, IsLive-stored before after k store at (aligned ∙ sym c.in-Ok.ensures.layout.1)))
+    let (before, after, p, has, at, aligned, long) = subst (λ (old : StoreContents). (before after : List Place) × (p : Place) × HasPlaces old (before ++ p ∷ after) × (p.addr ≡ non_zero_usize_get c.args.addr) × (p.align ≡ 1) × (p.len ≡ c.args.len)) (sym c.self.view_is) c.requires in
+    let a = among before after p has in
+    (lit< tt, (a.is.state, a.is.stands, IsLive-stored a.front a.back a.here a.is (ap (λ q. q.addr) a.here_at ∙ at) (ap (λ q. q.align) a.here_at ∙ aligned ∙ sym c.in-Ok.ensures.layout.1)))
+
+-- what is kept where a call is refused
+abbrev Stays : StoreContents → StoreContents → ℕ → ℕ → Type 0
+Stays v w addr len = (before after : List Place) (p : Place) → HasPlaces v (before ++ p ∷ after) → p.addr ≡ addr → p.align ≡ 1 → p.len ≡ len → HasSame v w (before ++ p ∷ after)
 
 pub returns-in_err-to-clause-refused : goal.returns-in_err-to-clause-refused
 returns-in_err-to-clause-refused c =
-    subst (λ (old : StoreContents). IfNone c.from_residual-in_err-to.result ((before after : List Stored) (k : Stored) → IsStore old (before ++ k ∷ after) → k.addr ≡ non_zero_usize_get c.args.addr → k.align ≡ 1 → length k.bytes ≡ c.args.len
-    → IsStore (store_contents c.reallocate.new.self c.self.inside.pool) (before ++ k ∷ after))) c.self.view_is
-    (subst (λ o. IfNone o ((before after : List Stored) (k : Stored) → IsStore (store_contents c.self.inside.heap c.self.inside.pool) (before ++ k ∷ after) → k.addr ≡ non_zero_usize_get c.args.addr → k.align ≡ 1 → length k.bytes ≡ c.args.len
-    → IsStore (store_contents c.reallocate.new.self c.self.inside.pool) (before ++ k ∷ after))) (sym c.from_residual-in_err-to.ensures)
-    (λ before after k store at aligned long. IsStore-not_resized c.in-Ok.layout.size (before ++ k ∷ after) store (IsLive-stored before after k store at (aligned ∙ sym c.in-Ok.ensures.layout.1)) c.in_err-to.ensures.step c.in_err-to.ensures.place))
+    let addr = non_zero_usize_get c.args.addr in
+    let new = store_contents c.reallocate.new.self c.self.inside.pool in
+    subst (λ (old : StoreContents). IfNone c.from_residual-in_err-to.result (Stays old new addr c.args.len)) c.self.view_is
+    (subst (λ o. IfNone o (Stays (store_contents c.self.inside.heap c.self.inside.pool) new addr c.args.len)) (sym c.from_residual-in_err-to.ensures)
+    (λ before after p has at aligned long. HasSame-live before after p has at (aligned ∙ sym c.in-Ok.ensures.layout.1)
+    (λ all store live. IsStore-not_resized c.in-Ok.layout.size all store live c.in_err-to.ensures.step c.in_err-to.ensures.place)))
 
 pub returns-clause-stored : goal.returns-clause-stored
 returns-clause-stored c =
@@ -29,12 +34,15 @@ returns-clause-stored c =
     let more = c.args.more.now in
     let lent = c.payload_mut.result.now in
     let w = c.write_at.new.payload in
-    subst (λ (old : StoreContents). (before after : List Stored) (k : Stored) → IsStore old (before ++ k ∷ after) → k.addr ≡ non_zero_usize_get c.args.addr → k.align ≡ 1 → length k.bytes ≡ c.args.len
-    → IsStore (store_contents (written c.reallocate.new.self to (length lent) w) c.self.inside.pool) (before ++ stored to 1 (k.bytes ++ more) ∷ after)) c.self.view_is
-    (λ before after k store at aligned long.
+    subst (λ (old : StoreContents). (before after : List Place) (p : Place) → HasPlaces old (before ++ p ∷ after) → p.addr ≡ non_zero_usize_get c.args.addr → p.align ≡ 1 → p.len ≡ c.args.len
+    → HasAmong old (store_contents (written c.reallocate.new.self to (length lent) w) c.self.inside.pool) before after (place to 1 (c.args.len + length more)) (bytes_at old.heap.memory p ++ more)) c.self.view_is
+    (λ before after p has at one p_len. HasAmong-changed before after p (place to 1 (c.args.len + length more)) (bytes_at c.self.inside.heap.memory p ++ more) has (λ front back k store there are.
+    let aligned = ap (λ q. q.align) there ∙ one in
+    let long : length k.bytes ≡ c.args.len = ap (λ q. q.len) there ∙ p_len in
     let room : length k.bytes ≤ layout.size = omega (arith, long, c.in-Ok.ensures.layout.0, c.in_ok-size.ensures) in
-    let resized = IsStore-resized layout.size before after k store at (aligned ∙ sym c.in-Ok.ensures.layout.1) to room c.in_ok-to.ensures.step c.in_ok-to.ensures.place in
+    let resized = IsStore-resized layout.size front back k store (ap (λ q. q.addr) there ∙ at) (aligned ∙ sym c.in-Ok.ensures.layout.1) to room c.in_ok-to.ensures.step c.in_ok-to.ensures.place in
     let begins : take (length k.bytes) lent ≡ k.bytes → take (length (k.bytes ++ more)) w ≡ k.bytes ++ more = λ front.
     ap (take (length (k.bytes ++ more))) c.write_at.ensures.bytes ∙ front-append k.bytes lent more c.args.len long (ap (λ n. take n lent) (sym long) ∙ front) in
-    subst (λ n. IsStore (store_contents (written c.reallocate.new.self to (length lent) w) c.self.inside.pool) (before ++ stored to n (k.bytes ++ more) ∷ after)) aligned
-    (IsStore-written lent w before after (stored to k.align k.bytes) resized refl (k.bytes ++ more) c.payload_mut.ensures.meaning c.write_at.ensures.len begins (c.payload_mut.ensures.place w)))
+    let stores = IsStore-written lent w front back (stored to k.align k.bytes) resized refl (k.bytes ++ more) c.payload_mut.ensures.meaning c.write_at.ensures.len begins (c.payload_mut.ensures.place w) in
+    let new_len : length (k.bytes ++ more) ≡ c.args.len + length more = length-append k.bytes more ∙ ap (λ n. n + length more) long in
+    (stored to k.align (k.bytes ++ more), stores, ap (λ n. place to n (length (k.bytes ++ more))) aligned ∙ ap (place to 1) new_len, ap (λ bs. bs ++ more) are)))

@@ -1,14 +1,20 @@
-use Rattle.std.proofs.Common.{List, lit<, sym, subst}
-use Rattle.rlsf_blocks.specs.Blocks.{AreBlocks, walked}
-use Rattle.rlsf_uses.specs.Stored.{IsStore, StoreContents, Stored}
+use Rattle.std.proofs.Common.{◌≡◌, List, length, lit<, sym, subst, ap, ◌∙◌}
+use Rattle.std.proofs.lemmas.List.{length-map}
+use Rattle.rlsf_uses.specs.Stored.{HasPlaces, Place, StoreContents, place_of, used_count}
+use Rattle.rlsf_uses.proofs.UsedBlocks.{used_count-stored}
 use Rattle.rlsf_uses.proofs.store.Store.blocks.Goals as goal
 
 pub iter_blocks-requires : goal.iter_blocks-requires
 iter_blocks-requires c =
-    let (all, store) = subst (λ (now : StoreContents). (all : List Stored) × IsStore now all) (sym c.self.view_is) c.requires in
+    let (places, (all, store, at)) = subst (λ (now : StoreContents). (places : List Place) × HasPlaces now places) (sym c.self.view_is) c.requires in
     (lit< tt, (store.state, store.stands, store.row))
 
-pub returns-clause-blocks : goal.returns-clause-blocks
-returns-clause-blocks c =
-    subst (λ (now : StoreContents). (all : List Stored) (store : IsStore now all) → AreBlocks store.state (walked now.pool) c.iter_blocks.result) c.self.view_is
-    (λ all store. c.iter_blocks.ensures.blocks store.state store.stands store.row)
+pub returns-clause-used : goal.returns-clause-used
+returns-clause-used c =
+    subst (λ (now : StoreContents). (places : List Place) → HasPlaces now places → used_count c.iter_blocks.result ≡ length places) c.self.view_is
+    (λ places (all, store, at). used_count-stored store c.iter_blocks.result (c.iter_blocks.ensures.blocks store.state store.stands store.row) ∙ sym (length-map all place_of) ∙ ap length at)
+
+pub returns-clause-order : goal.returns-clause-order
+returns-clause-order c =
+    let (places, (all, store, at)) = subst (λ (now : StoreContents). (places : List Place) × HasPlaces now places) (sym c.self.view_is) c.requires in
+    (c.iter_blocks.ensures.blocks store.state store.stands store.row).in_order

@@ -1,0 +1,50 @@
+-- The two words of a footer, written and read.
+use Rattle.std.proofs.Common.{◌≡◌, ℕ, ◌+◌, ◌^◌, ◌<◌, List, [], ◌∷◌, Option, Some, None, arith, refl, sym, ◌∙◌, ap, inl, cond, eqb}
+use Rattle.std.proofs.lemmas.Bool.{ne_eqb}
+use Rattle.rlsf_base.specs.declared.memory.range.Range.{Range}
+use Rattle.rlsf_base.specs.Range.{range_at}
+use Rattle.rlsf_base.specs.Space.{Space, word_at, with_word, SamePlace, IsWord}
+use Rattle.rlsf_base.proofs.Words.Written.{word_at-same, word_at-other}
+use Rattle.rlsf_blocks.specs.Spare.{IsSpareWord}
+use Rattle.rlsf_flex.specs.Footers.{footer_of, first, first_start, Footers, WritesFooter}
+use Rattle.rlsf_machine.specs.Lists.{IsIn}
+use Rattle.rlsf_machine.specs.State.{State}
+
+-- a spare word of a memory is one of every memory at the same place
+pub IsSpareWord-place : (m n : Space) (s : State) (a b : ℕ) → SamePlace m n → a ≡ b → IsSpareWord m s b → IsSpareWord n s a
+IsSpareWord-place m n s a b place same (word, spare) =
+    ((omega (arith, word.0), (omega (arith, word.1, place), omega (arith, word.1, place))), λ x from to. spare x (omega arith) (omega arith))
+
+-- the two words were written, one after the other
+pub writes_footer : (m k n : Space) (p : Range) (at start len : ℕ) → at ≡ footer_of p → IsWord m (footer_of p) → IsWord m (footer_of p + 8) → start < 2 ^ 64 → len < 2 ^ 64
+    → SamePlace m k → k.bytes ≡ with_word m at start → SamePlace k n → n.bytes ≡ with_word k (at + 8) len → WritesFooter m n p start len
+writes_footer m k n p at start len is has_first has_second start_fits len_fits place1 bytes1 place2 bytes2 =
+    let first : IsWord m at = (omega (arith, has_first.0), (omega (arith, has_first.1), omega (arith, has_first.1))) in
+    let second : IsWord k (at + 8) = (omega (arith, has_second.0), (omega (arith, has_second.1, place1), omega (arith, has_second.1, place1))) in
+    record {
+      place = (place2.0 ∙ place1.0, place2.1 ∙ place1.1);
+      reads_start = ap (word_at n) (sym is) ∙ word_at-other k n (at + 8) len second place2.0 bytes2 at first.0 (omega (arith, first.1, place1)) (λ e. omega (arith, e)) ∙ word_at-same m k at start first place1.0 bytes1 start_fits;
+      reads_len = ap (λ a. word_at n (a + 8)) (sym is) ∙ word_at-same k n (at + 8) len second place2.0 bytes2 len_fits;
+      others = λ a whole from not_start not_len.
+          word_at-other k n (at + 8) len second place2.0 bytes2 a whole (omega (arith, from, place1)) (λ e. not_len (omega (arith, e, is)))
+          ∙ word_at-other m k at start first place1.0 bytes1 a whole from (λ e. not_start (omega (arith, e, is)));
+    }
+
+-- where no range begins at 0, the start that is 0 names none
+pub first-none : (rest : List Range) → first_start rest ≡ 0 → ((p : Range) → IsIn p rest → 0 < p.start) → None ≡ first rest
+first-none [] zero some = refl
+first-none (p ∷ ps) zero some = absurd (omega (arith, zero, some p (inl refl)))
+
+-- the range that a footer names, if any
+abbrev pub before : Space → Range → Option Range
+before m p = cond (eqb (word_at m (footer_of p)) 0) None (Some (range_at (word_at m (footer_of p)) (word_at m (footer_of p + 8))))
+
+range_named : (start len : ℕ) (q : Range) → start ≡ q.start → len ≡ q.len → 0 < q.start → cond (eqb start 0) None (Some (range_at start len)) ≡ Some q
+range_named start len q same_start same_len some =
+    ap (λ b. cond b None (Some (range_at start len))) (ne_eqb start 0 (λ z. absurd (omega (arith, z, same_start, some))))
+    ∙ ap (λ x. Some (range_at x len)) same_start ∙ ap (λ x. Some (range_at q.start x)) same_len
+
+-- it is the first of those that follow
+pub before-first : (m : Space) (p : Range) (rest : List Range) → Footers m (p ∷ rest) → ((q : Range) → IsIn q rest → 0 < q.start) → before m p ≡ first rest
+before-first m p [] (start, len, rest) some = ap (λ w. cond (eqb w 0) None (Some (range_at w (word_at m (footer_of p + 8))))) start
+before-first m p (q ∷ qs) (start, len, rest) some = range_named _ _ q start len (some q (inl refl))

@@ -1,0 +1,111 @@
+-- A payload moves into a block that is allocated for it: its bytes are copied there, and its old block is given back.
+use Rattle.std.proofs.Common.{◌≡◌, ◌≢◌, ℕ, ◌≤◌, List, ◌∷◌, Some, cond, not, length, min, take, drop, arith, inl, inr, refl, sym, ◌∙◌, ap, subst}
+use Rattle.std.proofs.lemmas.Bool.{eq-eqb}
+use Rattle.std.proofs.lemmas.List.{length-append, take_all, take_at}
+use Rattle.rlsf_base.specs.PowerOfTwo.{IsPowerOfTwo}
+use Rattle.rlsf_base.specs.Space.{range_of, SamePlace}
+use Rattle.rlsf_blocks.specs.Spare.{KeepsSpare}
+use Rattle.rlsf_blocks.specs.StandsFor.{Contents, StandsFor}
+use Rattle.rlsf_machine.specs.Allocate.{Allocates, given, placed, Places}
+use Rattle.rlsf_machine.specs.Lists.{IsIn}
+use Rattle.rlsf_machine.specs.Reallocate.{Keeps, MovesAway}
+use Rattle.rlsf_machine.specs.Release.{Deallocates}
+use Rattle.rlsf_machine.specs.Run.{Fills, allocate, deallocate, fill}
+use Rattle.rlsf_machine.specs.State.{State, Used, usable, with_front, others, Holds, HasFront, IsLive}
+use Rattle.rlsf_machine.proofs.Changes.{Holds-unique}
+use Rattle.rlsf_machine.proofs.Live.{allocation_has_size, handed_out_is_new, other_payloads_stay}
+use Rattle.rlsf_machine.proofs.Payloads.{others-none}
+use Rattle.rlsf_blocks.proofs.Machine.SpareBytes.{KeepsSpare-trans}
+
+-- a list with the whole of a shorter one in front keeps it
+Keeps-front : (n : ℕ) (old new : List ℕ) → length old ≡ n → n ≤ length new → Keeps old (with_front n old new)
+Keeps-front n old new is short =
+    let whole : take n old ≡ old = take_all n old (omega (arith, is)) in
+    let front : length (take n old) ≡ n = ap length whole ∙ is in
+    let long : n ≤ length (with_front n old new) = omega (arith, length-append (take n old) (drop n new), front) in
+    let least : min (length old) (length (with_front n old new)) ≡ n = omega (arith, is, long) in
+    subst (λ k. take k (with_front n old new) ≡ take k old) (sym least) (take_at (take n old) (drop n new) n front)
+
+module _ {fllen sllen : ℕ} {v w : Contents} {s t : State} (stands : StandsFor fllen sllen v s) (addr : ℕ) (u : Used) (holds : Holds s addr u) (size align to : ℕ) (is : u.align ≡ align) (short : (usable u).len ≤ size)
+    (step : Places sllen s size align to t) (now : StandsFor fllen sllen w t) where
+  power : IsPowerOfTwo align
+  power = subst IsPowerOfTwo is (stands.well_formed.used u holds.0).power
+
+  -- the block that was allocated, which has the address
+  abbrev pub new : Used
+  new = placed step.range size align step.bytes
+
+  pub Holds-new : Holds t to new
+  Holds-new = subst (λ x. Holds x to new) (sym step.after) (inl refl, sym step.answer)
+
+  -- no used block was at its address
+  new_alone : (x : Used) → IsIn x s.used → x.payload ≢ to
+  new_alone x i at = (handed_out_is_new fllen sllen (range_of v.memory) s t size align to stands.well_formed power step).0 x.align (x, (i, at), refl)
+
+  -- the old one is used still
+  pub Holds-old : Holds t addr u
+  Holds-old = (other_payloads_stay fllen sllen s t (allocate size align (Some to)) u step holds.0 (λ none. none), holds.1)
+
+  -- which is no shorter than the old one
+  pub long : (usable u).len ≤ (usable new).len
+  long =
+      let (x, at, enough, few) = allocation_has_size fllen sllen (range_of v.memory) s t size align (Some to) stands.well_formed power step in
+      let same : x ≡ new = Holds-unique now.well_formed to x new at Holds-new in
+      omega (arith, short, subst (λ x. size ≤ (usable x).len) same enough)
+
+  -- both have the bytes of the old one
+  pub fronts : HasFront t addr (usable u).len × HasFront t to (usable u).len
+  fronts = ((u, Holds-old, omega arith), (new, Holds-new, long))
+
+  -- a fill of the new block is an allocation with other bytes
+  module _ (bytes : List ℕ) (r : State) (fills : Fills t to bytes r) where
+    same : fills.block ≡ new
+    same = Holds-unique now.well_formed to fills.block new fills.holds Holds-new
+
+    others-new : others to t.used ≡ s.used
+    others-new =
+        ap (λ x. others to x.used) step.after ∙ ap (λ b. cond (not b) (new ∷ others to s.used) (others to s.used)) (eq-eqb new.payload to (sym step.answer))
+        ∙ others-none to s.used new_alone
+
+    filled : r ≡ given sllen s step.range (placed step.range size align bytes)
+    filled = fills.after ∙ (λ k. record {
+      chunks = (step.after k).chunks;
+      used = record { block = (same k).block; payload = (same k).payload; align = (same k).align; bytes = bytes } ∷ others-new k;
+      free = (step.after k).free;
+    })
+
+    pub Places-filled : Places sllen s size align to r
+    Places-filled = record {
+      range = step.range;
+      bytes = bytes;
+      chosen = step.chosen;
+      answer = step.answer;
+      length = fills.length ∙ ap (λ (x : Used). length x.bytes) same ∙ step.length;
+      after = filled;
+    }
+
+    pub Holds-filled : Holds r addr u
+    Holds-filled = (subst (λ x. IsIn u x.used) (sym filled) (inr holds.0), holds.1)
+
+    pub IsLive-filled : IsLive r addr align
+    IsLive-filled = (u, Holds-filled, is)
+
+  -- then the old block was given back
+  module _ (x y : Contents) (r q : State) (fills : Fills t to (with_front (usable u).len u.bytes step.bytes) r) (gone : Deallocates r addr q) where
+    pub MovesAway-copied : MovesAway sllen s u size to q
+    MovesAway-copied =
+        let bytes = with_front (usable u).len u.bytes step.bytes in
+        record {
+          meanwhile = r;
+          allocated = subst (λ a. Allocates sllen s size a (Some to) r) (sym is) (Places-filled bytes r fills);
+          block = placed step.range size align bytes;
+          holds = subst (λ x. Holds x to (placed step.range size align bytes)) (sym (filled bytes r fills)) (inl refl, sym step.answer);
+          kept = Keeps-front (usable u).len u.bytes step.bytes (stands.well_formed.used u holds.0).bytes (omega (arith, long, (now.well_formed.used new Holds-new.0).bytes));
+          released = subst (λ a. Deallocates r a q) (sym holds.1) gone;
+        }
+
+    pub KeepsSpare-copied : SamePlace v.memory w.memory → SamePlace w.memory x.memory → KeepsSpare v.memory s w.memory t → KeepsSpare w.memory t x.memory r → KeepsSpare x.memory r y.memory q
+        → KeepsSpare v.memory s y.memory q
+    KeepsSpare-copied first second one two three =
+        KeepsSpare-trans fllen sllen v.memory x.memory y.memory s r q (deallocate addr) (second.0 ∙ first.0, second.1 ∙ first.1) gone
+        (KeepsSpare-trans fllen sllen v.memory w.memory x.memory s t r (fill to (with_front (usable u).len u.bytes step.bytes)) first fills one two) three

@@ -1,0 +1,40 @@
+use Rattle.std.proofs.Common.{rules, ◌≡◌, ◌+◌, arith, None, sym, ◌∙◌, ap}
+use Rattle.rlsf_flex.specs.StandsFor.{kept_of}
+use Rattle.rlsf_flex.proofs.Asks.{extended_first, extended_grown, extended_refused, extended_second, stands_still, sum_fits, terms_stay}
+use Rattle.rlsf_flex.proofs.growth.extend.Goals as goal
+
+pub returns-in_default-clause-step : goal.returns-in_default-clause-step
+returns-in_default-clause-step g c s v =
+    let none : c.args.kept.now ≡ None = search rules in
+    extended_first v (ap kept_of none) (c.ask_range.ensures.step s v)
+
+pub ask_range-requires-else-is_contiguous_growable : goal.ask_range-requires-else-is_contiguous_growable
+ask_range-requires-else-is_contiguous_growable g c =
+    let (s, v) = c.requires.stands in
+    let fits = sum_fits c.checked_add.result (c.in-Some.pool.len + c.args.wanted) c.in-Some-checked_add.len c.checked_add.ensures c.in-Some-checked_add.is in
+    (omega arith, (c.requires.valid, (c.requires.wanted, (s, stands_still v (ap kept_of c.in-Some.is) fits.0 (c.ask_growth.ensures.step s v) c.if-ask_growth.false))))
+
+pub returns-then-ask_growth-clause-step : goal.returns-then-ask_growth-clause-step
+returns-then-ask_growth-clause-step g c s v =
+    let fits = sum_fits c.checked_add.result (c.in-Some.pool.len + c.args.wanted) c.in-Some-checked_add.len c.checked_add.ensures c.in-Some-checked_add.is in
+    extended_grown v (ap kept_of c.in-Some.is) fits.0 (c.ask_growth.ensures.step s v) c.if-ask_growth.true
+
+pub returns-then-is_contiguous_growable-clause-step : goal.returns-then-is_contiguous_growable-clause-step
+returns-then-is_contiguous_growable-clause-step g c s v =
+    let fits = sum_fits c.checked_add.result (c.in-Some.pool.len + c.args.wanted) c.in-Some-checked_add.len c.checked_add.ensures c.in-Some-checked_add.is in
+    let kept = ap kept_of c.in-Some.is in
+    let h = c.ask_growth.ensures.step s v in
+    let same = terms_stay v kept fits.0 h g.met.S.FlexSource.constant in
+    extended_refused v kept fits.0 h c.if-ask_growth.false (sym (ap (λ t. t.contiguous) same) ∙ sym c.is_contiguous_growable.ensures ∙ c.if-is_contiguous_growable.true)
+
+pub returns-else-is_contiguous_growable-clause-step : goal.returns-else-is_contiguous_growable-clause-step
+returns-else-is_contiguous_growable-clause-step g c s v =
+    let fits = sum_fits c.checked_add.result (c.in-Some.pool.len + c.args.wanted) c.in-Some-checked_add.len c.checked_add.ensures c.in-Some-checked_add.is in
+    let kept = ap kept_of c.in-Some.is in
+    let h = c.ask_growth.ensures.step s v in
+    let same = terms_stay v kept fits.0 h g.met.S.FlexSource.constant in
+    extended_second v kept fits.0 h c.if-ask_growth.false (sym (ap (λ t. t.contiguous) same) ∙ sym c.is_contiguous_growable.ensures ∙ c.if-is_contiguous_growable.false) same
+    c.ask_range-else-is_contiguous_growable.ensures.step
+
+pub returns-else-is_contiguous_growable-clause-refused : goal.returns-else-is_contiguous_growable-clause-refused
+returns-else-is_contiguous_growable-clause-refused g c none = c.ask_range-else-is_contiguous_growable.ensures.refused none ∙ c.ask_growth.ensures.refused c.if-ask_growth.false

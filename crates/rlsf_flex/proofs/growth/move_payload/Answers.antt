@@ -1,0 +1,65 @@
+use Rattle.std.proofs.Common.{◌≡◌, ◌≤◌, arith, sym, subst}
+use Rattle.std.specs.Int.NonZero.{non_zero_usize_get}
+use Rattle.rlsf_blocks.specs.Spare.{KeepsSpare}
+use Rattle.rlsf_blocks.specs.StandsFor.{StandsFor}
+use Rattle.rlsf_machine.specs.Allocate.{Places}
+use Rattle.rlsf_machine.specs.Run.{Fills}
+use Rattle.rlsf_machine.specs.State.{State, Used, usable, with_front, HasFront, Holds, IsLive}
+use Rattle.rlsf_flex.proofs.Moves.{new, Holds-new, Holds-old, IsLive-filled, KeepsSpare-copied, MovesAway-copied, fronts, long}
+use Rattle.rlsf_flex.proofs.growth.move_payload.Given as given
+use Rattle.rlsf_flex.proofs.growth.move_payload.Goals as goal
+use Rattle.rlsf_flex.proofs.growth.move_payload.Goals.{After-copy_payload}
+
+pub allocation_usable_size-len-requires : goal.allocation_usable_size-len-requires
+allocation_usable_size-len-requires g c =
+    let (s, u, v, holds, is, short) = c.requires in
+    let (t, step, now, spare) = c.in_ok-to.ensures.step s v in
+    (omega arith, (t, now, (u, Holds-old v (non_zero_usize_get c.args.addr) u holds c.args.layout.size c.args.layout.align (non_zero_usize_get c.in_ok-to.to) is short step now)))
+
+pub copy_payload-requires : goal.copy_payload-requires
+copy_payload-requires g c =
+    let (s, u, v, holds, is, short) = c.requires in
+    let (t, step, now, spare) = c.in_ok-to.ensures.step s v in
+    let at = Holds-old v (non_zero_usize_get c.args.addr) u holds c.args.layout.size c.args.layout.align (non_zero_usize_get c.in_ok-to.to) is short step now in
+    let both = fronts v (non_zero_usize_get c.args.addr) u holds c.args.layout.size c.args.layout.align (non_zero_usize_get c.in_ok-to.to) is short step now in
+    let len = c.allocation_usable_size-len.ensures t u now at in
+    let (from, into) = subst (λ n. HasFront t (non_zero_usize_get c.args.addr) n × HasFront t (non_zero_usize_get c.in_ok-to.to) n) (sym len) both in
+    (omega arith, (t, now, from, into))
+
+-- the bytes of the old block were copied into the new one
+copied : (g : given.Over) (c : After-copy_payload g) (s t : State) (u : Used) → StandsFor g.row.FLLEN g.row.SLLEN c.args.tlsf.now s → Holds s (non_zero_usize_get c.args.addr) u → u.align ≡ c.args.layout.align → (usable u).len ≤ c.args.layout.size
+    → (step : Places g.row.SLLEN s c.args.layout.size c.args.layout.align (non_zero_usize_get c.in_ok-to.to) t) → StandsFor g.row.FLLEN g.row.SLLEN c.allocate.new.self t
+    → (r : State) × Fills t (non_zero_usize_get c.in_ok-to.to) (with_front (usable u).len u.bytes step.bytes) r × StandsFor g.row.FLLEN g.row.SLLEN c.copy_payload.new.self r × KeepsSpare c.allocate.new.self.memory t c.copy_payload.new.self.memory r
+copied g c s t u v holds is short step now =
+    let addr = non_zero_usize_get c.args.addr in
+    let to = non_zero_usize_get c.in_ok-to.to in
+    let at = Holds-old v addr u holds c.args.layout.size c.args.layout.align to is short step now in
+    let there = Holds-new v addr u holds c.args.layout.size c.args.layout.align to is short step now in
+    let enough = long v addr u holds c.args.layout.size c.args.layout.align to is short step now in
+    let len = c.allocation_usable_size-len.ensures t u now at in
+    subst (λ n. (r : State) × Fills t to (with_front n u.bytes step.bytes) r × StandsFor g.row.FLLEN g.row.SLLEN c.copy_payload.new.self r × KeepsSpare c.allocate.new.self.memory t c.copy_payload.new.self.memory r) len
+    (c.copy_payload.ensures.step t u (new v addr u holds c.args.layout.size c.args.layout.align to is short step now) now at there (omega (arith, len)) (omega (arith, len, enough)))
+
+pub deallocate-requires : goal.deallocate-requires
+deallocate-requires g c =
+    let addr = non_zero_usize_get c.args.addr in
+    let to = non_zero_usize_get c.in_ok-to.to in
+    let (s, u, v, holds, is, short) = c.requires in
+    let (t, step, now, spare) = c.in_ok-to.ensures.step s v in
+    let (r, fills, stands, kept) = copied g (goal.at.deallocate-requires g c).After-copy_payload s t u v holds is short step now in
+    let live = IsLive-filled v addr u holds c.args.layout.size c.args.layout.align to is short step now (with_front (usable u).len u.bytes step.bytes) r fills in
+    (omega arith, (r, stands, subst (IsLive r addr) (sym c.align.ensures.value) live))
+
+pub returns-clause-step : goal.returns-clause-step
+returns-clause-step g c s u v holds is short =
+    let addr = non_zero_usize_get c.args.addr in
+    let to = non_zero_usize_get c.in_ok-to.to in
+    let (t, step, now, spare) = c.in_ok-to.ensures.step s v in
+    let (r, fills, stands, kept) = copied g (goal.at.returns-clause-step g c).After-copy_payload s t u v holds is short step now in
+    let live = IsLive-filled v addr u holds c.args.layout.size c.args.layout.align to is short step now (with_front (usable u).len u.bytes step.bytes) r fills in
+    let (q, gone, last, rest) = c.deallocate.ensures.step r stands (subst (IsLive r addr) (sym c.align.ensures.value) live) in (
+      q,
+      MovesAway-copied v addr u holds c.args.layout.size c.args.layout.align to is short step now c.copy_payload.new.self c.deallocate.new.self r q fills gone,
+      last,
+      KeepsSpare-copied v addr u holds c.args.layout.size c.args.layout.align to is short step now c.copy_payload.new.self c.deallocate.new.self r q fills gone c.in_ok-to.ensures.place c.copy_payload.ensures.place spare kept rest,
+    )

@@ -1,0 +1,5 @@
+pub mod Footers
+pub mod Lending
+pub mod Outstanding
+pub mod StandsFor
+pub mod Steps

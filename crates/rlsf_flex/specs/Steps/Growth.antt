@@ -1,0 +1,65 @@
+-- What the parts of a growth leave.
+use Rattle.std.specs.Prelude.{◌≡◌, ℕ, Bool, true, List, Option, Some, None}
+use Rattle.rlsf_base.specs.declared.memory.range.Range.{Range}
+use Rattle.rlsf_flex.specs.declared.pool.Pool.{Pool}
+use Rattle.rlsf_flex.specs.StandsFor.{FlexContents, FlexStandsFor}
+use Rattle.rlsf_machine.specs.FlexState.{FlexState, KeptPool}
+use Rattle.rlsf_machine.specs.Growth.{Extends, Outcome, TakesIn, given, grown, growth_note, growth_question, is_more, range_length, range_note, refused}
+use Rattle.rlsf_machine.specs.Note.{Note, LeadsBy}
+use Rattle.rlsf_machine.specs.Terms.{Terms}
+use Rattle.rlsf_machine.specs.PoolLength.{HasPool}
+
+-- what a range that was asked for came to
+abbrev pub outcome_of_range : Option Range → Outcome
+outcome_of_range None = refused
+outcome_of_range (Some r) = given r
+
+-- what a growth that was asked for came to
+abbrev pub outcome_of_growth : Option ℕ → Outcome
+outcome_of_growth None = refused
+outcome_of_growth (Some len) = grown len
+
+-- where the newest range begins, or 0 where none is kept
+abbrev pub kept_start : Option Pool → ℕ
+kept_start None = 0
+kept_start (Some k) = k.range.start
+
+-- how long it is, or 0
+abbrev pub kept_len : Option Pool → ℕ
+kept_len None = 0
+kept_len (Some k) = k.range.len
+
+-- what came was handed in, and where something came there is room for a pool of e bytes
+pub record Took {S : Type 0} (fllen sllen : ℕ) (terms : S → Terms) (owes : S → List Range → Type 0) (before after : FlexContents S) (s : FlexState) (e : ℕ) (outcome : Outcome) : Type 0 where
+  pub state : FlexState
+  pub takes : TakesIn fllen (terms before.source) s outcome state
+  pub stands : FlexStandsFor fllen sllen terms owes after state
+  pub room : is_more outcome ≡ true → HasPool e state.machine
+
+module _ {S : Type 0} (fllen sllen : ℕ) (terms : S → Terms) (owes : S → List Range → Type 0) (leads : S → Note → S → Type 0) (before after : FlexContents S) (s : FlexState) where
+  -- a range was asked for, if there is a question, and what came was taken in
+  pub record AskedRange (e : ℕ) (more : Bool) : Type 0 where
+    pub answer : Option Range
+    pub notes : LeadsBy leads before.source (range_note (range_length (terms before.source) e) answer) after.source
+    pub asked : range_length (terms before.source) e ≡ None → answer ≡ None
+    pub took : Took fllen sllen terms owes before after s e (outcome_of_range answer)
+    pub came : more ≡ is_more (outcome_of_range answer)
+
+  -- growth to n bytes was asked for, if there is a question, and what came was taken in
+  pub record AskedGrowth (k : KeptPool) (n e : ℕ) (more : Bool) : Type 0 where
+    pub answer : Option ℕ
+    pub notes : LeadsBy leads before.source (growth_note (growth_question (terms before.source) k n) answer) after.source
+    pub asked : growth_question (terms before.source) k n ≡ None → answer ≡ None
+    pub took : Took fllen sllen terms owes before after s e (outcome_of_growth answer)
+    pub came : more ≡ is_more (outcome_of_growth answer)
+
+  -- the source was asked for e bytes more
+  pub record Extended (e : ℕ) (more : Bool) : Type 0 where
+    pub outcome : Outcome
+    pub notes : List Note
+    pub state : FlexState
+    pub extends : Extends fllen (terms before.source) s (Some e) outcome notes state
+    pub leads_by : LeadsBy leads before.source notes after.source
+    pub stands : FlexStandsFor fllen sllen terms owes after state
+    pub came : more ≡ is_more outcome
+    pub room : is_more outcome ≡ true → HasPool e state.machine

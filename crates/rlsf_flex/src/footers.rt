@@ -1,0 +1,55 @@
+//! The footers of ranges: where a source takes ranges back, each names the range that came before it.
+
+ghost use Rattle.std.specs.Prelude.{◌≡◌, ◌≤◌, ◌<◌, ◌^◌, ◌+◌};
+ghost use Rattle.rlsf_blocks.specs.Spare.{IsSpareWord, KeepsSpare};
+ghost use Rattle.rlsf_blocks.specs.StandsFor.{StandsFor};
+ghost use Rattle.rlsf_base.specs.Range.{end_of};
+ghost use Rattle.rlsf_base.specs.Space.{word_at, IsWord};
+ghost use Rattle.rlsf_flex.specs.Footers.{footer_of, WritesFooter};
+ghost use Rattle.rlsf_machine.specs.State.{State};
+
+use rlsf_base::memory::{Memory, Range};
+use rlsf_int::Bitmap;
+use rlsf_tlsf::Tlsf;
+
+/// Where a range's footer stands.
+fn footer_at(range: Range) -> usize
+    requires { (16 ≤ end_of range) × (end_of range < 2 ^ 64) }
+    ensures { result ≡ footer_of range }
+{
+    (range.start + range.len - 16) / 8 * 8
+}
+
+/// The start and the length that a range's footer names.
+pub(crate) fn read_footer(memory: &Memory, range: Range) -> (usize, usize)
+    requires range { (16 ≤ end_of range) × (end_of range < 2 ^ 64) }
+    requires words { IsWord memory.now (footer_of range) × IsWord memory.now (footer_of range + 8) }
+    ensures { (result.0 ≡ word_at memory.now (footer_of range)) × (result.1 ≡ word_at memory.now (footer_of range + 8)) }
+{
+    let footer = footer_at(range);
+    (
+        memory.word(footer) as usize,
+        memory.word(footer + 8) as usize,
+    )
+}
+
+/// Writes a range's footer.
+///
+/// Its two words are spare in some state that the allocator stands for.
+pub(crate) fn write_footer<
+    FLBitmap: Bitmap,
+    SLBitmap: Bitmap,
+    const FLLEN: usize,
+    const SLLEN: usize,
+>(tlsf: &mut Tlsf<FLBitmap, SLBitmap, FLLEN, SLLEN>, range: Range, start: usize, len: usize)
+    requires range { (16 ≤ end_of range) × (end_of range < 2 ^ 64) }
+    requires spare { (s : State) × StandsFor FLLEN SLLEN tlsf.old s × IsSpareWord tlsf.old.memory s (footer_of range) × IsSpareWord tlsf.old.memory s (footer_of range + 8) }
+    ensures footer { WritesFooter tlsf.old.memory tlsf.new.memory range start len }
+    ensures step { (s : State) → StandsFor FLLEN SLLEN tlsf.old s → IsSpareWord tlsf.old.memory s (footer_of range) → IsSpareWord tlsf.old.memory s (footer_of range + 8)
+        → StandsFor FLLEN SLLEN tlsf.new s }
+    ensures copied { tlsf.new.memory.copied ≡ tlsf.old.memory.copied }
+{
+    let footer = footer_at(range);
+    tlsf.set_spare_word(footer, start as u64);
+    tlsf.set_spare_word(footer + 8, len as u64);
+}

@@ -1,0 +1,26 @@
+use Rattle.std.proofs.Common.{◌≡◌, ◌∙◌, ◌∷◌, map, max, ap, subst, sym}
+use Rattle.std.specs.Int.{next_multiple_of}
+use Rattle.std.specs.Int.NonZero.{non_zero_usize_get}
+use Rattle.rlsf_base.specs.declared.memory.range.Range.{Range}
+use Rattle.rlsf_base.specs.Layout.{IsLayout}
+use Rattle.rlsf_base.specs.Range.{range_at}
+use Rattle.rlsf_heap.proofs.Heaps.{Allocation-equal, HeapOwes-more}
+use Rattle.rlsf_heap.specs.Heap.{Allocation, allocation_at, allocation_of, IsAllocated}
+use Rattle.rlsf_heap.proofs.heap.GlobalAllocAsFlexSourceFlexSource.alloc.Goals as goal
+
+pub returns-in_ok-addr-in-Ok-clause-owes : goal.returns-in_ok-addr-in-Ok-clause-owes
+returns-in_ok-addr-in-Ok-clause-owes g c owed h =
+    let align = max g.row.ALIGN 32 in
+    let space = g.T.GlobalAlloc.space c.args.self.now.0 in
+    let layout = c.pad_to_align-layout in
+    let size = c.size.result in
+    let r : Range = range_at c.get.result size in
+    let (same_size, same_align) = c.in-Ok.ensures.layout in
+    let aligned : layout.result.align ≡ align = layout.ensures.align ∙ same_align ∙ c.max.ensures in
+    let long : size ≡ next_multiple_of c.args.min_size align = c.size.ensures.value ∙ layout.ensures.size ∙ ap (λ n. next_multiple_of n c.in-Ok.least.align) same_size ∙ ap (next_multiple_of c.args.min_size) (same_align ∙ c.max.ensures) in
+    let valid : IsLayout size align = subst (IsLayout size) aligned (subst (λ n. IsLayout n layout.result.align) (sym c.size.ensures.value) c.size.ensures.valid) in
+    let answered : Allocation = allocation_at (non_zero_usize_get c.in_ok-addr-in-Ok.addr) layout.result.size layout.result.align in
+    let same : answered ≡ allocation_of align r = Allocation-equal answered (sym c.get.ensures.value) (sym c.size.ensures.value) aligned in
+    let before = map (allocation_of align) owed in
+    let came = subst (λ a. IsAllocated space before a × g.T.GlobalAlloc.owes c.alloc.new.self (a ∷ before)) same (c.in_ok-addr-in-Ok.ensures.owes before h.allocations) in
+    HeapOwes-more g.T.GlobalAlloc.owes align c.args.self.now.0 c.alloc.new.self space c.args.min_size r owed long valid c.get.ensures.nonzero came h

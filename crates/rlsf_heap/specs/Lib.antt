@@ -1,0 +1,2 @@
+pub mod Constant
+pub mod Heap

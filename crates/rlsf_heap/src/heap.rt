@@ -1,0 +1,116 @@
+//! Allocators of single allocations, and one as a source of memory.
+
+ghost use Rattle.std.specs.Prelude.{◌≡◌, ◌≤◌, ◌∷◌, ◌++◌, List, max, MatchOption};
+ghost use Rattle.std.specs.Int.NonZero.{non_zero_usize_get};
+ghost use Rattle.std.specs.Option.{option_map};
+ghost use Rattle.rlsf_base.specs.declared.memory.range.Range.{Range};
+ghost use Rattle.rlsf_heap.specs.Constant.{heap_terms-constant};
+ghost use Rattle.rlsf_heap.specs.Heap.{Allocation, allocation_at, HeapNote, allocate, deallocate, IsAllocated, heap_terms, HeapOwes, HeapLeads};
+ghost use Rattle.rlsf_machine.specs.Note.{grow};
+ghost use Rattle.rlsf_machine.specs.Terms.{IsGrown, with_len};
+
+use rlsf_base::memory::{Addr, Layout, Range};
+use rlsf_flex::FlexSource;
+use std::num::NonZeroUsize;
+
+/// An allocator: it hands out addresses of its space, and takes them back.
+///
+/// Its meaning is its space, which never changes; which lists of allocations, that is of addresses with the layouts that they
+/// were answered for, may be those that it owes, `owes`; and where a question with its answer leads, `leads`. An answer of none
+/// leaves the allocations as they were.
+pub trait GlobalAlloc {
+    ghost space: { Self → Range };
+
+    ghost owes: { Self → List Allocation → Type 0 };
+
+    ghost leads: { Self → HeapNote → Self → Type 0 };
+
+    /// The address of a new allocation, a multiple of the layout's alignment: the layout's `size` bytes from there on lie in the
+    /// space and are no other allocation's. It is owed then.
+    fn alloc(&mut self, layout: Layout) -> Option<Addr>
+        ensures leads { leads self.old (allocate layout.size layout.align (option_map non_zero_usize_get result)) self.new }
+        ensures owes { (owed : List Allocation) → owes self.old owed
+            → MatchOption result (owes self.new owed) (λ addr. let a = allocation_at (non_zero_usize_get addr) layout.size layout.align in IsAllocated (space self.old) owed a × owes self.new (a ∷ owed)) };
+
+    /// Takes an allocation back, which is owed no more.
+    ///
+    /// The address with this layout is owed.
+    fn dealloc(&mut self, addr: Addr, layout: Layout)
+        requires { (before : List Allocation) × (after : List Allocation) × owes self.old (before ++ allocation_at (non_zero_usize_get addr) layout.size layout.align ∷ after) }
+        ensures leads { leads self.old (deallocate (allocation_at (non_zero_usize_get addr) layout.size layout.align)) self.new }
+        ensures owes { (before after : List Allocation) → owes self.old (before ++ allocation_at (non_zero_usize_get addr) layout.size layout.align ∷ after) → owes self.new (before ++ after) };
+
+    // No question changes the space.
+    ghost constant: { (x y : Self) (n : HeapNote) → leads x n y → space y ≡ space x };
+}
+
+/// An allocator as a source of memory, whose ranges start at multiples of `ALIGN`, and of 32 at least.
+///
+/// It asks the allocator for each range, with the greater of `ALIGN` and 32 as the alignment and the size rounded up to a
+/// multiple of that; where no layout has that size, it answers none without asking. It takes ranges back and can't grow them,
+/// so an allocator over it may come to hold many small pools.
+///
+/// `ALIGN` is a power of two. With any other above 32 no layout is valid, and it answers none.
+#[derive(Default, Debug, Copy, Clone)]
+pub struct GlobalAllocAsFlexSource<T, const ALIGN: usize>(
+    /// The allocator that is asked.
+    pub T,
+);
+
+impl<T: GlobalAlloc, const ALIGN: usize> FlexSource for GlobalAllocAsFlexSource<T, ALIGN> {
+    ghost terms = { λ x. heap_terms (T.space x.0) (max ALIGN 32) };
+
+    ghost owes = { λ x ranges. HeapOwes T.owes (max ALIGN 32) x.0 ranges };
+
+    ghost leads = { λ x n y. HeapLeads T.leads (max ALIGN 32) x.0 n y.0 };
+
+    fn alloc(&mut self, min_size: usize) -> Option<Range> {
+        match Layout::from_size_align(min_size, ALIGN.max(32)) {
+            Ok(least) => {
+                let layout = least.pad_to_align();
+                let addr = self.0.alloc(layout)?;
+                Some(Range {
+                    start: addr.get(),
+                    len: layout.size(),
+                })
+            }
+            Err(_) => None,
+        }
+    }
+
+    // It asks less of its caller than the trait: what the trait requires, no caller of a source that can't grow meets.
+    fn realloc_inplace_grow(&mut self, range: Range, min_new_len: usize) -> Option<usize>
+        requires { range.len ≤ min_new_len }
+        ensures leads { HeapLeads T.leads (max ALIGN 32) self.old.0 (grow range min_new_len result) self.new.0 }
+        ensures owes { (before after : List Range) → HeapOwes T.owes (max ALIGN 32) self.old.0 (before ++ range ∷ after)
+            → MatchOption result (HeapOwes T.owes (max ALIGN 32) self.new.0 (before ++ range ∷ after)) (λ len. IsGrown (heap_terms (T.space self.old.0) (max ALIGN 32)) (before ++ after) range min_new_len len × HeapOwes T.owes (max ALIGN 32) self.new.0 (before ++ with_len range len ∷ after)) }
+    {
+        let _ = (range, min_new_len);
+        None
+    }
+
+    fn dealloc(&mut self, range: Range) {
+        let layout = Layout::from_size_align_unchecked(range.len, ALIGN.max(32));
+        if let Some(addr) = NonZeroUsize::new(range.start) {
+            self.0.dealloc(addr, layout);
+        }
+    }
+
+    fn supports_dealloc(&self) -> bool {
+        true
+    }
+
+    fn supports_realloc_inplace_grow(&self) -> bool {
+        false
+    }
+
+    fn is_contiguous_growable(&self) -> bool {
+        false
+    }
+
+    fn min_align(&self) -> usize {
+        ALIGN.max(32)
+    }
+
+    ghost constant = { λ x y n led. heap_terms-constant T.leads T.space (max ALIGN 32) T.constant x.0 y.0 n led };
+}

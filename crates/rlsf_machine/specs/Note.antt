@@ -1,0 +1,14 @@
+-- Questions to a source of memory, with their answers.
+use Rattle.std.specs.Prelude.{◌≡◌, ℕ, List, [], ◌∷◌, Option}
+use Rattle.rlsf_base.specs.declared.memory.range.Range.{Range}
+
+-- a range of so many bytes or more is asked for; a range is to be so long or longer; a range is given back
+pub data Note : Type 0 where
+  alloc : ℕ → Option Range → Note
+  grow : Range → ℕ → Option ℕ → Note
+  dealloc : Range → Note
+
+-- the notes, one by one and no others, lead from one value of a source to another
+abbrev pub LeadsBy : {S : Type 0} → (S → Note → S → Type 0) → S → List Note → S → Type 0
+LeadsBy leads x [] y = y ≡ x
+LeadsBy {S} leads x (n ∷ ns) y = (z : S) × leads x n z × LeadsBy leads z ns y

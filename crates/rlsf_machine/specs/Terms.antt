@@ -1,0 +1,33 @@
+-- What a source of memory keeps to.
+use Rattle.std.specs.Prelude.{◌≡◌, ℕ, ◌%◌, ◌≤◌, Bool, List}
+use Rattle.rlsf_base.specs.declared.memory.range.Range.{Range}
+use Rattle.rlsf_base.specs.PowerOfTwo.{IsPowerOfTwo}
+use Rattle.rlsf_base.specs.Range.{range_at, LiesIn}
+use Rattle.rlsf_machine.specs.Insert.{IsClear}
+
+-- in which range a source hands out memory, whether it takes memory back, grows what it handed out, and hands out nothing
+-- but one range that grows; and what the starts of its ranges are multiples of
+pub record Terms : Type 0 where
+  pub space : Range
+  pub dealloc : Bool
+  pub grow : Bool
+  pub contiguous : Bool
+  pub min_align : ℕ
+
+-- the range, made so long
+abbrev pub with_len : Range → ℕ → Range
+with_len r len = range_at r.start len
+
+-- a range that answers the question for so many bytes, while these ranges are outstanding
+pub record IsGiven (t : Terms) (owed : List Range) (min_size : ℕ) (r : Range) : Type 0 where
+  pub lies_in : LiesIn r t.space.start t.space.len
+  pub apart : IsClear r owed
+  pub long : min_size ≤ r.len
+  pub power : IsPowerOfTwo t.min_align
+  pub aligned : r.start % t.min_align ≡ 0
+
+-- a length that answers the question for growth of a range, while these others are outstanding
+pub record IsGrown (t : Terms) (others : List Range) (r : Range) (min_new_len len : ℕ) : Type 0 where
+  pub lies_in : LiesIn (with_len r len) t.space.start t.space.len
+  pub apart : IsClear (with_len r len) others
+  pub long : min_new_len ≤ len

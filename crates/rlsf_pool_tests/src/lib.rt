@@ -1,0 +1,16 @@
+//! Tests of `rlsf` by calls: what becomes of pools, as addresses, words and walks tell it. This crate has no other code, so
+//! that `rlsf` and the crates below it are proved once.
+#![tactic(auto)]
+
+#[cfg(test)]
+mod allocations;
+#[cfg(test)]
+mod appends;
+#[cfg(test)]
+mod frees;
+#[cfg(test)]
+mod pools;
+#[cfg(test)]
+mod tables;
+#[cfg(test)]
+mod walks;

@@ -1,2 +1,0 @@
-mod printing;
-mod reading;

@@ -1,0 +1,167 @@
+//! Pools of objects: filled, emptied in another order and filled again, written, and each refusal.
+//!
+//! A memory from the address 4096 on loses 32 bytes to the word behind its last block, and an object of 16 bytes takes 32 of the
+//! others.
+
+use rlsf::{Layout, Memory};
+use rlsf_uses::{Objects, SetError, TakeError, UnknownHandle};
+use std::alloc::Global;
+use std::test::Fail;
+
+/// A pool of objects of 16 bytes in a memory of so many bytes.
+fn pool(alloc: Global, len: usize) -> Result<Objects, Fail> {
+    let memory = Memory::new(alloc, 4096, len)?;
+    let layout = Layout::from_size_align(16, 8)?;
+    Ok(Objects::new(alloc, memory, layout))
+}
+
+/// What a pool is asked, and what it must answer.
+#[derive(Clone, Copy)]
+enum Step {
+    /// An object is taken.
+    Take(Result<usize, TakeError>),
+    /// The one with this handle is given back.
+    GiveBack(usize, Result<(), UnknownHandle>),
+    /// These bytes are written into one, from an offset on.
+    Set(usize, usize, &'static [u8], Result<(), SetError>),
+    /// The bytes of one.
+    Get(usize, Result<&'static [u8], UnknownHandle>),
+    /// How many are out.
+    Len(usize),
+}
+
+/// Whether the pool answers so.
+fn is_right(pool: &mut Objects, step: Step) -> bool {
+    match step {
+        Step::Take(answer) => pool.take() == answer,
+        Step::GiveBack(handle, answer) => pool.give_back(handle) == answer,
+        Step::Set(handle, offset, bytes, answer) => pool.set(handle, offset, bytes) == answer,
+        Step::Get(handle, answer) => pool.get(handle) == answer,
+        Step::Len(len) => pool.len() == len,
+    }
+}
+
+/// The index of the first step that a pool over so many bytes answers otherwise.
+fn first_wrong(alloc: Global, len: usize, steps: &[Step]) -> Result<Option<usize>, Fail> {
+    let mut pool = pool(alloc, len)?;
+    for (index, step) in steps.iter().enumerate() {
+        if !is_right(&mut pool, *step) {
+            return Ok(Some(index));
+        }
+    }
+    Ok(None)
+}
+
+const ZEROS: &[u8] = &[0; 16];
+
+static EMPTIED_IN_ANOTHER_ORDER: [Step; 40] = [
+    Step::Take(Ok(0)),
+    Step::Take(Ok(1)),
+    Step::Take(Ok(2)),
+    Step::Take(Ok(3)),
+    Step::Take(Ok(4)),
+    Step::Take(Ok(5)),
+    Step::Take(Ok(6)),
+    Step::Take(Err(TakeError::NoRoom)),
+    Step::Len(7),
+    Step::GiveBack(3, Ok(())),
+    Step::GiveBack(0, Ok(())),
+    Step::GiveBack(6, Ok(())),
+    Step::GiveBack(1, Ok(())),
+    Step::GiveBack(5, Ok(())),
+    Step::GiveBack(2, Ok(())),
+    Step::GiveBack(4, Ok(())),
+    Step::Len(0),
+    Step::Take(Ok(7)),
+    Step::Take(Ok(8)),
+    Step::Take(Ok(9)),
+    Step::Take(Ok(10)),
+    Step::Take(Ok(11)),
+    Step::Take(Ok(12)),
+    Step::Take(Ok(13)),
+    Step::Take(Err(TakeError::NoRoom)),
+    Step::Len(7),
+    // A handle that was given back never comes back.
+    Step::GiveBack(0, Err(UnknownHandle)),
+    Step::GiveBack(1, Err(UnknownHandle)),
+    Step::GiveBack(2, Err(UnknownHandle)),
+    Step::GiveBack(3, Err(UnknownHandle)),
+    Step::GiveBack(4, Err(UnknownHandle)),
+    Step::GiveBack(5, Err(UnknownHandle)),
+    Step::GiveBack(6, Err(UnknownHandle)),
+    Step::Get(0, Err(UnknownHandle)),
+    Step::Get(1, Err(UnknownHandle)),
+    Step::Get(2, Err(UnknownHandle)),
+    Step::Get(3, Err(UnknownHandle)),
+    Step::Get(4, Err(UnknownHandle)),
+    Step::Get(5, Err(UnknownHandle)),
+    Step::Get(6, Err(UnknownHandle)),
+];
+
+#[test]
+fn emptied_in_another_order(rt: HostRuntime) -> Result<(), Fail> {
+    assert_eq!(rt;
+        first_wrong(rt.alloc(), 256, &EMPTIED_IN_ANOTHER_ORDER)?,
+        None
+    );
+    Ok(())
+}
+
+static ONE_IS_WRITTEN: [Step; 12] = [
+    Step::Take(Ok(0)),
+    Step::Take(Ok(1)),
+    Step::Take(Ok(2)),
+    Step::Set(1, 2, b"abc", Ok(())),
+    Step::Get(0, Ok(ZEROS)),
+    Step::Get(1, Ok(b"\0\0abc\0\0\0\0\0\0\0\0\0\0\0")),
+    Step::Get(2, Ok(ZEROS)),
+    Step::Set(0, 0, b"0123456789abcdef", Ok(())),
+    Step::Set(1, 13, b"xyz", Ok(())),
+    Step::Get(0, Ok(b"0123456789abcdef")),
+    Step::Get(1, Ok(b"\0\0abc\0\0\0\0\0\0\0\0xyz")),
+    Step::Get(2, Ok(ZEROS)),
+];
+
+#[test]
+fn one_is_written(rt: HostRuntime) -> Result<(), Fail> {
+    assert_eq!(rt; first_wrong(rt.alloc(), 256, &ONE_IS_WRITTEN)?, None);
+    Ok(())
+}
+
+static TAKEN_AGAIN: [Step; 5] = [
+    Step::Take(Ok(0)),
+    Step::Set(0, 0, b"0123456789abcdef", Ok(())),
+    Step::GiveBack(0, Ok(())),
+    Step::Take(Ok(1)),
+    Step::Get(1, Ok(ZEROS)),
+];
+
+#[test]
+fn taken_again_is_zeros(rt: HostRuntime) -> Result<(), Fail> {
+    assert_eq!(rt; first_wrong(rt.alloc(), 64, &TAKEN_AGAIN)?, None);
+    Ok(())
+}
+
+static REFUSED_WRITES: [Step; 7] = [
+    Step::Set(0, 99, b"", Err(SetError::UnknownHandle)),
+    Step::Take(Ok(0)),
+    Step::Set(0, 14, b"xyz", Err(SetError::OutOfRange)),
+    Step::Set(0, 17, b"", Err(SetError::OutOfRange)),
+    Step::Set(0, usize::MAX, b"xy", Err(SetError::OutOfRange)),
+    Step::Set(0, 16, b"", Ok(())),
+    Step::Get(0, Ok(ZEROS)),
+];
+
+#[test]
+fn writes_are_refused(rt: HostRuntime) -> Result<(), Fail> {
+    assert_eq!(rt; first_wrong(rt.alloc(), 64, &REFUSED_WRITES)?, None);
+    Ok(())
+}
+
+static TOO_SMALL: [Step; 1] = [Step::Take(Err(TakeError::NoRoom))];
+
+#[test]
+fn too_small_for_one(rt: HostRuntime) -> Result<(), Fail> {
+    assert_eq!(rt; first_wrong(rt.alloc(), 63, &TOO_SMALL)?, None);
+    Ok(())
+}

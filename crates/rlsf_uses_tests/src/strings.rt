@@ -1,0 +1,149 @@
+//! Strings that grow past one another, are joined and dropped, and each refusal.
+//!
+//! A memory from the address 4096 on loses 32 bytes to the word behind its last block, and a string of up to 16 bytes takes 32 of
+//! the others.
+
+use rlsf::Memory;
+use rlsf_uses::{StringError, Strings, UnknownHandle};
+use std::alloc::Global;
+use std::test::Fail;
+
+/// What strings are asked, and what they must answer.
+#[derive(Clone, Copy)]
+enum Step {
+    /// An empty string is made.
+    Create(Result<usize, StringError>),
+    /// These bytes are added behind those of the string with this handle.
+    Append(usize, &'static [u8], Result<(), StringError>),
+    /// A string is made of two.
+    Concat(usize, usize, Result<usize, StringError>),
+    /// One is dropped.
+    Drop(usize, Result<(), UnknownHandle>),
+    /// The bytes of one.
+    Bytes(usize, Result<&'static [u8], UnknownHandle>),
+    /// How many there are.
+    Len(usize),
+}
+
+/// Whether the strings answer so.
+fn is_right(strings: &mut Strings, step: Step) -> bool {
+    match step {
+        Step::Create(answer) => strings.create() == answer,
+        Step::Append(handle, more, answer) => strings.append(handle, more) == answer,
+        Step::Concat(left, right, answer) => strings.concat(left, right) == answer,
+        Step::Drop(handle, answer) => strings.drop_string(handle) == answer,
+        Step::Bytes(handle, answer) => strings.bytes(handle) == answer,
+        Step::Len(len) => strings.len() == len,
+    }
+}
+
+/// The index of the first step that strings in so many bytes answer otherwise.
+fn first_wrong(alloc: Global, len: usize, steps: &[Step]) -> Result<Option<usize>, Fail> {
+    let memory = Memory::new(alloc, 4096, len)?;
+    let mut strings = Strings::new(alloc, memory);
+    for (index, step) in steps.iter().enumerate() {
+        if !is_right(&mut strings, *step) {
+            return Ok(Some(index));
+        }
+    }
+    Ok(None)
+}
+
+static GROWN_PAST_THEIR_NEIGHBOURS: [Step; 18] = [
+    Step::Create(Ok(0)),
+    Step::Create(Ok(1)),
+    Step::Create(Ok(2)),
+    Step::Append(2, b"+-", Ok(())),
+    Step::Append(0, b"0123456789", Ok(())),
+    Step::Append(1, b"abcdefghij", Ok(())),
+    Step::Append(0, b"0123456789", Ok(())),
+    Step::Append(1, b"abcdefghij", Ok(())),
+    Step::Append(0, b"0123456789", Ok(())),
+    Step::Append(1, b"abcdefghij", Ok(())),
+    Step::Append(0, b"0123456789", Ok(())),
+    Step::Append(1, b"abcdefghij", Ok(())),
+    Step::Append(0, b"0123456789", Ok(())),
+    Step::Append(1, b"abcdefghij", Ok(())),
+    Step::Bytes(0, Ok(b"01234567890123456789012345678901234567890123456789")),
+    Step::Bytes(1, Ok(b"abcdefghijabcdefghijabcdefghijabcdefghijabcdefghij")),
+    Step::Bytes(2, Ok(b"+-")),
+    Step::Len(3),
+];
+
+#[test]
+fn grow_past_their_neighbours(rt: HostRuntime) -> Result<(), Fail> {
+    assert_eq!(rt;
+        first_wrong(rt.alloc(), 1024, &GROWN_PAST_THEIR_NEIGHBOURS)?,
+        None
+    );
+    Ok(())
+}
+
+static JOINED_WITH_ITSELF: [Step; 7] = [
+    Step::Create(Ok(0)),
+    Step::Append(0, b"ab", Ok(())),
+    Step::Concat(0, 0, Ok(1)),
+    Step::Concat(1, 0, Ok(2)),
+    Step::Bytes(0, Ok(b"ab")),
+    Step::Bytes(1, Ok(b"abab")),
+    Step::Bytes(2, Ok(b"ababab")),
+];
+
+#[test]
+fn joined_with_itself(rt: HostRuntime) -> Result<(), Fail> {
+    assert_eq!(rt; first_wrong(rt.alloc(), 1024, &JOINED_WITH_ITSELF)?, None);
+    Ok(())
+}
+
+static LEFT_BEFORE_RIGHT: [Step; 8] = [
+    Step::Create(Ok(0)),
+    Step::Create(Ok(1)),
+    Step::Append(0, b"left", Ok(())),
+    Step::Append(1, b"right", Ok(())),
+    Step::Concat(0, 1, Ok(2)),
+    Step::Drop(0, Ok(())),
+    Step::Bytes(2, Ok(b"leftright")),
+    Step::Bytes(1, Ok(b"right")),
+];
+
+#[test]
+fn left_before_right(rt: HostRuntime) -> Result<(), Fail> {
+    assert_eq!(rt; first_wrong(rt.alloc(), 1024, &LEFT_BEFORE_RIGHT)?, None);
+    Ok(())
+}
+
+static WITHOUT_ROOM: [Step; 9] = [
+    Step::Create(Ok(0)),
+    Step::Create(Err(StringError::NoRoom)),
+    Step::Append(0, b"0123456789", Ok(())),
+    Step::Append(0, b"abcdefg", Err(StringError::NoRoom)),
+    Step::Concat(0, 0, Err(StringError::NoRoom)),
+    Step::Bytes(0, Ok(b"0123456789")),
+    Step::Append(0, b"abcdef", Ok(())),
+    Step::Bytes(0, Ok(b"0123456789abcdef")),
+    Step::Len(1),
+];
+
+#[test]
+fn no_room(rt: HostRuntime) -> Result<(), Fail> {
+    assert_eq!(rt; first_wrong(rt.alloc(), 64, &WITHOUT_ROOM)?, None);
+    Ok(())
+}
+
+static WITH_UNKNOWN_HANDLES: [Step; 9] = [
+    Step::Create(Ok(0)),
+    Step::Drop(0, Ok(())),
+    Step::Create(Ok(1)),
+    Step::Append(0, b"a", Err(StringError::UnknownHandle)),
+    Step::Concat(1, 0, Err(StringError::UnknownHandle)),
+    Step::Concat(0, 1, Err(StringError::UnknownHandle)),
+    Step::Drop(0, Err(UnknownHandle)),
+    Step::Bytes(0, Err(UnknownHandle)),
+    Step::Bytes(1, Ok(b"")),
+];
+
+#[test]
+fn unknown_handles(rt: HostRuntime) -> Result<(), Fail> {
+    assert_eq!(rt; first_wrong(rt.alloc(), 1024, &WITH_UNKNOWN_HANDLES)?, None);
+    Ok(())
+}
