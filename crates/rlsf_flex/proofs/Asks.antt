@@ -10,7 +10,7 @@ use Rattle.rlsf_machine.specs.FlexState.{FlexState, KeptPool}
 use Rattle.rlsf_machine.specs.Growth.{IsPossible, Questions, grown, growth_note, growth_question, if_fits, is_more, notes_of, questions, questions_for, questions_kept, range_length, range_note, refused, TakesIn}
 use Rattle.rlsf_machine.specs.Note.{Note, LeadsBy}
 use Rattle.rlsf_machine.specs.Terms.{Terms}
-use Rattle.rlsf_machine.proofs.Notes.{LeadsBy-append}
+use Rattle.rlsf_machine.proofs.Notes.{LeadsBy-append, terms-led}
 
 -- what is asked where the pool is kept
 questions-kept : (t : Terms) (kept : Option KeptPool) (k : KeptPool) (e n : ℕ) → kept ≡ Some k → if_fits (k.len + e) ≡ Some n
@@ -41,12 +41,6 @@ sum_fits None n len is some = absurd (none-some len some)
 sum_fits (Some m) n len (below, same) some =
     let is : m ≡ len = same_Some m len some in
     (ap (λ b. cond b (Some n) None) (lt-ltb n (2 ^ 64) below) ∙ ap Some (sym same ∙ is), sym is ∙ same)
-
--- notes lead from a source to one with the same terms
-terms-led : {S : Type 0} (terms : S → Terms) (leads : S → Note → S → Type 0) → ((x y : S) (n : Note) → leads x n y → terms y ≡ terms x)
-    → (x y : S) (ns : List Note) → LeadsBy leads x ns y → terms y ≡ terms x
-terms-led terms leads constant x y [] led = ap terms led
-terms-led terms leads constant x y (n ∷ ns) (z, led, rest) = terms-led terms leads constant z y ns rest ∙ constant x z n led
 
 module _ {S : Type 0} {fllen sllen : ℕ} {terms : S → Terms} {owes : S → List Range → Type 0} {leads : S → Note → S → Type 0} {before after : FlexContents S} {s : FlexState} {e : ℕ} (v : FlexStandsFor fllen sllen terms owes before s) where
   -- no pool is kept

@@ -9,7 +9,6 @@ use Rattle.rlsf_base.specs.Space.{Space, IsWord, range_of}
 use Rattle.rlsf_blocks.specs.StandsFor.{Contents}
 use Rattle.rlsf_flex.specs.declared.pool.Pool.{Pool}
 use Rattle.rlsf_flex.specs.Footers.{AreSpelled, Footers, first, footer_of}
-use Rattle.rlsf_flex.specs.Outstanding.{AreOutstanding}
 use Rattle.rlsf_flex.specs.StandsFor.{FlexStandsFor, IsNewest, flex_contents, kept_of}
 use Rattle.rlsf_machine.specs.End.{notes_at_end, owed_at_end}
 use Rattle.rlsf_machine.specs.FlexState.{FlexState}
@@ -20,11 +19,9 @@ use Rattle.rlsf_machine.proofs.Notes.{LeadsBy-append}
 use Rattle.rlsf_flex.proofs.DisjointRanges.{length-disjoint}
 use Rattle.rlsf_flex.proofs.FooterWords.{before, before-first}
 use Rattle.rlsf_flex.proofs.Frames.{outstanding_in}
+use Rattle.rlsf_flex.proofs.Housing.{AreOutstanding-rest}
 
 -- ---- the ranges that are left
-
-AreOutstanding-rest : (space p : Range) (ps : List Range) → AreOutstanding space (p ∷ ps) → AreOutstanding space ps
-AreOutstanding-rest space p ps is = record { in_space = λ q i. is.in_space q (inr i); long = λ q i. is.long q (inr i); disjoint = λ a. omega (arith, is.disjoint a) }
 
 -- no range begins at the address 0
 starts : (m : Space) (next : Option Range) (ps : List Range) → AreSpelled m next ps → (p : Range) → IsIn p ps → 0 < p.start

@@ -1,5 +1,5 @@
 -- A reallocation of the allocator over a source.
-use Rattle.std.proofs.Common.{◌≡◌, ℕ, ◌<◌, true, List, [], Option, Some, None, refl, sym, ◌∙◌, ap, subst, inl, inr}
+use Rattle.std.proofs.Common.{◌≡◌, ◌≢◌, ℕ, ◌<◌, true, List, [], Option, Some, None, refl, sym, ◌∙◌, ap, subst, inl, inr}
 use Rattle.std.proofs.lemmas.Option.{none-some}
 use Rattle.rlsf_base.specs.declared.memory.range.Range.{Range}
 use Rattle.rlsf_base.specs.Sizes.{pool_size_to_contain_allocation}
@@ -57,6 +57,11 @@ refused_move_alone {sllen = sllen} {s = s} w addr size align to u m stuck is ful
     let same : some.block ≡ u = Holds-unique w addr some.block u some.holds stuck.holds in
     let step : ReallocatesBy sllen s u size None (Some to) m = subst (λ o. ReallocatesBy sllen s u size o (Some to) m) stuck.no_plan (subst (λ x. ReallocatesBy sllen s x size (plan s x size) (Some to) m) same some.step) in
     refused_alone sllen size align to s s step.meanwhile full (subst (λ a. Allocates sllen s size a (Some to) step.meanwhile) is step.allocated)
+
+-- a payload that moved isn't where it was
+moved_elsewhere : {fllen sllen : ℕ} {memory : Range} {s : State} → IsWellFormed fllen sllen memory s → (u : Used) → IsIn u s.used → (size to : ℕ) (t : State) → MovesAway sllen s u size to t → to ≢ u.payload
+moved_elsewhere {fllen} {sllen} {memory} {s} w u i size to t moves same =
+    (handed_out_is_new fllen sllen memory s moves.meanwhile size u.align to w (w.used u i).power moves.allocated).0 u.align (u, (i, sym same), refl)
 
 -- a payload that moved is live where it is
 moved_is_live : {fllen sllen : ℕ} {memory : Range} {s : State} → IsWellFormed fllen sllen memory s → (u : Used) → IsIn u s.used → (size to : ℕ) (t : State) → MovesAway sllen s u size to t → IsLive t to u.align
@@ -143,6 +148,7 @@ module _ {S : Type 0} {fllen sllen : ℕ} {terms : S → Terms} {owes : S → Li
             more = sym h.came;
             machine = a.0;
             moves = a.1;
+            elsewhere = λ same. moved_elsewhere h.stands.machine.well_formed u Holds-came.0 size to a.0 a.1 (same ∙ sym Holds-came.1);
             after = refl;
           });
           leads_by = h.leads_by;

@@ -8,7 +8,8 @@ use Rattle.rlsf_machine.specs.Insert.{IsClear}
 use Rattle.rlsf_machine.specs.Lists.{IsIn}
 use Rattle.rlsf_machine.specs.Terms.{IsGiven, IsGrown, with_len}
 use Rattle.rlsf_machine.specs.WellFormed.{covers, coverage, itself}
-use Rattle.rlsf_machine.proofs.Coverage.{IsIn-append, IsIn-append_left, IsIn-append_right, inside, before, behind, covers-behind, coverage-append, where_is}
+use Rattle.rlsf_machine.proofs.Between.{IsIn-between, coverage-between}
+use Rattle.rlsf_machine.proofs.Coverage.{IsIn-append, IsIn-append_left, IsIn-append_right, inside, before, behind, covers-behind, where_is}
 use Rattle.rlsf_flex_tests.specs.Cursor.{Cursor, IsCursor, MayOwe}
 
 -- a power of two isn't 0
@@ -19,13 +20,6 @@ positive = IsPowerOfTwo-positive
 coverage-above : (qs : List Range) (c a : ℕ) → ((r : Range) → IsIn r qs → end_of r ≤ c) → c ≤ a → coverage itself qs a ≡ 0
 coverage-above [] c a low above = refl
 coverage-above (q ∷ qs) c a low above = omega (arith, covers-behind q a (omega (arith, low q (inl refl))), coverage-above qs c a (λ r i. low r (inr i)) above)
-
--- an element of the others is one of all
-IsIn-others : (q r : Range) (xs ys : List Range) → IsIn q (xs ++ ys) → IsIn q (xs ++ r ∷ ys)
-IsIn-others q r xs ys i = elim (IsIn-append q xs ys i) [ inl l ↦ IsIn-append_left q xs (r ∷ ys) l | inr h ↦ IsIn-append_right q xs (r ∷ ys) (inr h) ]
-
-coverage-between : (r : Range) (xs ys : List Range) (a : ℕ) → coverage itself (xs ++ r ∷ ys) a ≡ covers r a + coverage itself (xs ++ ys) a
-coverage-between r xs ys a = omega (arith, coverage-append itself xs (r ∷ ys) a, coverage-append itself xs ys a)
 
 -- the source with its cursor at another address
 abbrev pub moved : Cursor → ℕ → Cursor
@@ -73,7 +67,7 @@ grown_range c r min_new_len len is last long longer fits xs ys may =
     apart a low high = elim (where_is r a) [
       | inside one l h ↦ omega (arith, may.disjoint a, coverage-between r xs ys a)
       | before none l ↦ absurd (omega arith)
-      | behind none h ↦ coverage-above (xs ++ ys) c.at a (λ q i. may.end q (IsIn-others q r xs ys i)) (omega (arith, last))
+      | behind none h ↦ coverage-above (xs ++ ys) c.at a (λ q i. may.end q (IsIn-between q r xs ys i)) (omega (arith, last))
     ]
 
     -- an element is an old one or the one that grew
@@ -100,8 +94,8 @@ grown_range c r min_new_len len is last long longer fits xs ys may =
 -- a range goes back
 pub gone_range : (c : Cursor) (r : Range) (xs ys : List Range) → MayOwe c (xs ++ r ∷ ys) → MayOwe c (xs ++ ys)
 gone_range c r xs ys may = record {
-  start = λ q i. may.start q (IsIn-others q r xs ys i);
-  end = λ q i. may.end q (IsIn-others q r xs ys i);
+  start = λ q i. may.start q (IsIn-between q r xs ys i);
+  end = λ q i. may.end q (IsIn-between q r xs ys i);
   disjoint = λ a. omega (arith, may.disjoint a, coverage-between r xs ys a);
 }
 

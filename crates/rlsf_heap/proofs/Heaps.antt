@@ -8,17 +8,14 @@ use Rattle.rlsf_base.specs.Layout.{IsLayout}
 use Rattle.rlsf_machine.specs.Insert.{IsClear}
 use Rattle.rlsf_machine.specs.Lists.{IsIn}
 use Rattle.rlsf_machine.specs.Terms.{IsGiven}
-use Rattle.rlsf_machine.proofs.Coverage.{IsIn-append, IsIn-append_left, IsIn-append_right}
+use Rattle.rlsf_machine.proofs.Between.{IsIn-between}
+use Rattle.rlsf_machine.proofs.Coverage.{IsIn-append_right}
 use Rattle.rlsf_heap.specs.Heap.{Allocation, allocation_at, allocation_of, bytes_of, HeapOwes, heap_terms, IsAllocated}
 
 -- the bytes of the ranges' allocations are the ranges
 bytes_of-allocations : (align : ℕ) (rs : List Range) → map bytes_of (map (allocation_of align) rs) ≡ rs
 bytes_of-allocations align [] = refl
 bytes_of-allocations align (r ∷ rs) = ap (λ qs. r ∷ qs) (bytes_of-allocations align rs)
-
--- an element of the others is one of all
-IsIn-others : (q r : Range) (xs ys : List Range) → IsIn q (xs ++ ys) → IsIn q (xs ++ r ∷ ys)
-IsIn-others q r xs ys i = elim (IsIn-append q xs ys i) [ inl l ↦ IsIn-append_left q xs (r ∷ ys) l | inr h ↦ IsIn-append_right q xs (r ∷ ys) (inr h) ]
 
 -- allocations with equal numbers are equal
 pub Allocation-equal : {align : ℕ} {r : Range} (a : Allocation) → a.addr ≡ r.start → a.size ≡ r.len → a.align ≡ align → a ≡ allocation_of align r
@@ -40,7 +37,7 @@ module _ {T : Type 0} (owes : T → List Allocation → Type 0) (align : ℕ) wh
       → HeapOwes owes align x (xs ++ r ∷ ys) → HeapOwes owes align y (xs ++ ys)
   HeapOwes-less x y r xs ys gone h = record {
     allocations = subst (owes y) (sym (map-append (allocation_of align) xs ys)) (gone (HeapOwes-allocations x r xs ys h));
-    layouts = λ q i. h.layouts q (IsIn-others q r xs ys i);
+    layouts = λ q i. h.layouts q (IsIn-between q r xs ys i);
   }
 
   -- an allocation is answered

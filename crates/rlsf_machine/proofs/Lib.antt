@@ -2,6 +2,7 @@
 pub mod AddedChunks
 pub mod Allocations
 pub mod Appends
+pub mod Between
 pub mod Callers
 pub mod Changes
 pub mod ChunkRows

@@ -1,5 +1,5 @@
 -- A used block of the machine that asks a source for memory gets another size.
-use Rattle.std.specs.Prelude.{◌≡◌, ◌⊎◌, ℕ, true, List, [], Option, Some, None}
+use Rattle.std.specs.Prelude.{◌≡◌, ◌≢◌, ◌⊎◌, ℕ, true, List, [], Option, Some, None}
 use Rattle.rlsf_machine.specs.FlexAllocate.{Asks}
 use Rattle.rlsf_machine.specs.FlexState.{FlexState, with_machine}
 use Rattle.rlsf_machine.specs.Growth.{Outcome, is_more, refused}
@@ -20,7 +20,7 @@ pub record ReallocatesInRoom (sllen : ℕ) (s : FlexState) (addr size to : ℕ) 
   pub none : notes ≡ []
   pub after : u ≡ with_machine s machine
 
--- into the memory that came: the block moves there
+-- into the memory that came: the block moves there, to another address
 pub record ReallocatesInMore (fllen sllen : ℕ) (t : Terms) (s : FlexState) (addr size to : ℕ) (notes : List Note) (u : FlexState) : Type 0 where
   pub block : Used
   pub stuck : IsStuck s.machine addr size block
@@ -30,6 +30,7 @@ pub record ReallocatesInMore (fllen sllen : ℕ) (t : Terms) (s : FlexState) (ad
   pub more : is_more outcome ≡ true
   pub machine : State
   pub moves : MovesAway sllen meanwhile.machine block size to machine
+  pub elsewhere : to ≢ addr
   pub after : u ≡ with_machine meanwhile machine
 
 -- there is no room, and no memory came

@@ -72,31 +72,19 @@ fn with_spare_word(alloc: Global, addr: usize, word: u64) -> Result<Small, Memor
 }
 
 #[test]
-fn first_bytes_are_copied(rt: HostRuntime) -> Result<(), Fail> {
-    let mut tlsf = with_pool(rt.alloc(), 256)?;
+fn front_is_copied(rt: HostRuntime) -> Result<(), Fail> {
     let layout = Layout::from_size_align(16, 1)?;
     let bytes: (&[u8], &[u8]) = (b"ABCDEFGHIJKLMNOP", b"abcdefghijklmnop");
-    let reads = copied(&mut tlsf, layout, bytes, 10, b"ABCDEFGHIJklmnop");
-    assert_eq!(rt; reads, Some(((4112, true), (4144, true))));
-    Ok(())
-}
-
-#[test]
-fn no_bytes_are_copied(rt: HostRuntime) -> Result<(), Fail> {
-    let mut tlsf = with_pool(rt.alloc(), 256)?;
-    let layout = Layout::from_size_align(16, 1)?;
-    let bytes: (&[u8], &[u8]) = (b"ABCDEFGHIJKLMNOP", b"abcdefghijklmnop");
-    let reads = copied(&mut tlsf, layout, bytes, 0, b"abcdefghijklmnop");
-    assert_eq!(rt; reads, Some(((4112, true), (4144, true))));
-    Ok(())
-}
-
-#[test]
-fn payload_is_copied_onto_itself(rt: HostRuntime) -> Result<(), Fail> {
-    let mut tlsf = with_pool(rt.alloc(), 256)?;
-    let layout = Layout::from_size_align(16, 1)?;
-    let read = copied_onto_itself(&mut tlsf, layout, b"ABCDEFGHIJKLMNOP", 10);
-    assert_eq!(rt; read, Some(true));
+    let mut ten = with_pool(rt.alloc(), 256)?;
+    let mut none = with_pool(rt.alloc(), 256)?;
+    let mut itself = with_pool(rt.alloc(), 256)?;
+    let reads = (
+        copied(&mut ten, layout, bytes, 10, b"ABCDEFGHIJklmnop"),
+        copied(&mut none, layout, bytes, 0, b"abcdefghijklmnop"),
+        copied_onto_itself(&mut itself, layout, bytes.0, 10),
+    );
+    let expected = Some(((4112, true), (4144, true)));
+    assert_eq!(rt; reads, (expected, expected, Some(true)));
     Ok(())
 }
 

@@ -10,7 +10,6 @@ use super::loans::copy_front;
 use super::pools::{Small, Wide, allocated, has_words, number, wide, with_pool};
 use rlsf::{Addr, Layout, LayoutError};
 use std::alloc::Global;
-use std::process::Abort;
 use std::test::Fail;
 
 // What is left in a payload, as far as there is room, before it gets another size.
@@ -223,25 +222,89 @@ fn shrunk_to_nothing(rt: HostRuntime) -> Result<(), Fail> {
     Ok(())
 }
 
-#[test]
-fn moved_over_its_own_bytes(rt: HostRuntime) -> Result<(), Fail> {
-    let mut tlsf = with_pool(rt.alloc(), 256)?;
-    let wanted = Layout::from_size_align(70, 1)?;
-    let outcome = second(&mut tlsf, layouts(1, 0, 40, 100)?, Freed::Before, wanted);
-    // By 32 bytes, where it has 48.
-    assert_eq!(rt; outcome, Some(((4144, 4112), (80, true))));
-    assert_eq!(rt; tlsf.fl_bitmap(), 0);
-    Ok(())
+/// The second of three payloads of these sizes, in a pool of 256 bytes, that is asked to get another size once one of its
+/// neighbours was given back, or neither: what becomes of it, and what stands then, where a test tells it.
+#[derive(Clone, Copy)]
+struct Case {
+    sizes: (usize, usize, usize),
+    freed: Freed,
+    wanted: usize,
+    outcome: Outcome,
+    first_level: Option<u8>,
+    newest: Option<usize>,
+    words: &'static [(usize, u64)],
+}
+
+// By 32 bytes, where it has 48.
+const MOVED_OVER_ITS_OWN_BYTES: Case = Case {
+    sizes: (0, 40, 100),
+    freed: Freed::Before,
+    wanted: 70,
+    outcome: ((4144, 4112), (80, true)),
+    first_level: Some(0),
+    newest: None,
+    words: &[],
+};
+
+const MOVED_WITH_A_REST: Case = Case {
+    sizes: (17, 40, 50),
+    freed: Freed::Before,
+    wanted: 70,
+    outcome: ((4176, 4112), (80, true)),
+    first_level: None,
+    newest: Some(4192),
+    words: &[(4192, 32)],
+};
+
+// The sentinel names the block that reaches up to it.
+const GROWN_TO_THE_END_OF_THE_NEXT: Case = Case {
+    sizes: (40, 40, 70),
+    freed: Freed::Behind,
+    wanted: 144,
+    outcome: ((4176, 4176), (144, true)),
+    first_level: Some(0),
+    newest: None,
+    words: &[(4328, 4160)],
+};
+
+const GREATEST_LAYOUT_IS_REFUSED: Case = Case {
+    sizes: (40, 40, 70),
+    freed: Freed::Neither,
+    wanted: (1 << 63) - 1,
+    outcome: ((4176, 0), (48, true)),
+    first_level: None,
+    newest: None,
+    words: &[],
+};
+
+/// An allocator over the pool of a case, and what became of the second payload.
+fn second_in_pool(alloc: Global, case: Case) -> Result<(Small, Option<Outcome>), Fail> {
+    let mut tlsf = with_pool(alloc, 256)?;
+    let (before, size, behind) = case.sizes;
+    let wanted = Layout::from_size_align(case.wanted, 1)?;
+    let sizes = layouts(1, before, size, behind)?;
+    let outcome = second(&mut tlsf, sizes, case.freed, wanted);
+    Ok((tlsf, outcome))
 }
 
 #[test]
-fn moved_with_a_rest(rt: HostRuntime) -> Result<(), Fail> {
-    let mut tlsf = with_pool(rt.alloc(), 256)?;
-    let wanted = Layout::from_size_align(70, 1)?;
-    let outcome = second(&mut tlsf, layouts(1, 17, 40, 50)?, Freed::Before, wanted);
-    assert_eq!(rt; outcome, Some(((4176, 4112), (80, true))));
-    assert_eq!(rt; number(tlsf.first_free(0, 0)), 4192);
-    has_words(&rt, tlsf.memory_ref(), &[(4192, 32)]);
+fn second_of_three(rt: HostRuntime) -> Result<(), Fail> {
+    for case in [
+        MOVED_OVER_ITS_OWN_BYTES,
+        MOVED_WITH_A_REST,
+        GROWN_TO_THE_END_OF_THE_NEXT,
+        GREATEST_LAYOUT_IS_REFUSED,
+    ] {
+        let (tlsf, outcome) = second_in_pool(rt.alloc(), case)?;
+        assert_eq!(rt; outcome, Some(case.outcome));
+        if let Some(bitmap) = case.first_level {
+            assert_eq!(rt; tlsf.fl_bitmap(), bitmap);
+        }
+        if let Some(addr) = case.newest {
+            assert_eq!(rt; number(tlsf.first_free(0, 0)), addr);
+        }
+        has_words(&rt, tlsf.memory_ref(), case.words);
+    }
     Ok(())
 }
 
@@ -256,90 +319,55 @@ fn refused_without_room(rt: HostRuntime) -> Result<(), Fail> {
     Ok(())
 }
 
-#[test]
-fn grown_to_the_end_of_the_next(rt: HostRuntime) -> Result<(), Fail> {
-    let mut tlsf = with_pool(rt.alloc(), 256)?;
-    let wanted = Layout::from_size_align(144, 1)?;
-    let outcome = second(&mut tlsf, layouts(1, 40, 40, 70)?, Freed::Behind, wanted);
-    assert_eq!(rt; outcome, Some(((4176, 4176), (144, true))));
-    assert_eq!(rt; tlsf.fl_bitmap(), 0);
-    // The sentinel names the block that reaches up to it.
-    has_words(&rt, tlsf.memory_ref(), &[(4328, 4160)]);
-    Ok(())
-}
-
-#[test]
-fn greatest_layouts_are_refused(rt: HostRuntime) -> Result<(), Fail> {
-    let mut tlsf = with_pool(rt.alloc(), 256)?;
-    let most = Layout::from_size_align((1 << 63) - 1, 1)?;
-    let outcome = second(&mut tlsf, layouts(1, 40, 40, 70)?, Freed::Neither, most);
-    assert_eq!(rt; outcome, Some(((4176, 0), (48, true))));
-    let rows = [(4096, (1 << 63) - 4096, ((12288, 0), (64, true)))];
-    cases(&rt, rt.alloc(), Freed::Behind, &rows)
-}
-
 /// What becomes of the second of three payloads of 40 bytes, in a pool of 65,536 bytes.
-fn case(alloc: Global, align: usize, freed: Freed, size: usize) -> Result<Option<Outcome>, Fail> {
+fn wide_case(
+    alloc: Global,
+    align: usize,
+    freed: Freed,
+    size: usize,
+) -> Result<Option<Outcome>, Fail> {
     let mut tlsf = wide(alloc)?;
     let layout = Layout::from_size_align(40, align)?;
     let wanted = Layout::from_size_align(size, align)?;
     Ok(wide_second(&mut tlsf, layout, freed, wanted))
 }
 
-/// Passes where each alignment and each new size has its outcome, in cases of one kind.
-fn cases(
-    rt: &impl Abort,
-    alloc: Global,
-    freed: Freed,
-    rows: &[(usize, usize, Outcome)],
-) -> Result<(), Fail> {
-    for (align, size, outcome) in rows {
-        assert_eq!(rt; case(alloc, *align, freed, *size)?, Some(*outcome));
+// Which neighbour is given back, the alignment, the size that is asked for, and what becomes of the payload.
+const WIDE_CASES: [(Freed, usize, usize, Outcome); 16] = [
+    // in place
+    (Freed::Neither, 1, 0, ((4176, 4176), (16, true))),
+    (Freed::Neither, 1, 48, ((4176, 4176), (48, true))),
+    (Freed::Neither, 32, 0, ((4224, 4224), (0, true))),
+    (Freed::Neither, 32, 48, ((4224, 4224), (64, true))),
+    (Freed::Neither, 4096, 0, ((12288, 12288), (0, true))),
+    (Freed::Neither, 4096, 48, ((12288, 12288), (64, true))),
+    // into the next
+    (Freed::Behind, 1, 100, ((4176, 4176), (112, true))),
+    (Freed::Behind, 32, 100, ((4224, 4224), (128, true))),
+    (Freed::Behind, 4096, 100, ((12288, 12288), (128, true))),
+    // into the previous
+    (Freed::Before, 1, 100, ((4176, 4112), (112, true))),
+    (Freed::Before, 32, 100, ((4224, 4128), (128, true))),
+    (Freed::Before, 4096, 3000, ((12288, 8192), (3008, true))),
+    // elsewhere
+    (Freed::Neither, 1, 100, ((4176, 4304), (112, true))),
+    (Freed::Neither, 32, 100, ((4224, 4416), (128, true))),
+    (Freed::Neither, 4096, 100, ((12288, 20480), (128, true))),
+    // The greatest layout is refused.
+    (
+        Freed::Behind,
+        4096,
+        (1 << 63) - 4096,
+        ((12288, 0), (64, true)),
+    ),
+];
+
+#[test]
+fn second_of_three_in_a_wide_pool(rt: HostRuntime) -> Result<(), Fail> {
+    for (freed, align, size, outcome) in WIDE_CASES {
+        assert_eq!(rt; wide_case(rt.alloc(), align, freed, size)?, Some(outcome));
     }
     Ok(())
-}
-
-#[test]
-fn in_place(rt: HostRuntime) -> Result<(), Fail> {
-    let rows = [
-        (1, 0, ((4176, 4176), (16, true))),
-        (1, 48, ((4176, 4176), (48, true))),
-        (32, 0, ((4224, 4224), (0, true))),
-        (32, 48, ((4224, 4224), (64, true))),
-        (4096, 0, ((12288, 12288), (0, true))),
-        (4096, 48, ((12288, 12288), (64, true))),
-    ];
-    cases(&rt, rt.alloc(), Freed::Neither, &rows)
-}
-
-#[test]
-fn into_the_next(rt: HostRuntime) -> Result<(), Fail> {
-    let rows = [
-        (1, 100, ((4176, 4176), (112, true))),
-        (32, 100, ((4224, 4224), (128, true))),
-        (4096, 100, ((12288, 12288), (128, true))),
-    ];
-    cases(&rt, rt.alloc(), Freed::Behind, &rows)
-}
-
-#[test]
-fn into_the_previous(rt: HostRuntime) -> Result<(), Fail> {
-    let rows = [
-        (1, 100, ((4176, 4112), (112, true))),
-        (32, 100, ((4224, 4128), (128, true))),
-        (4096, 3000, ((12288, 8192), (3008, true))),
-    ];
-    cases(&rt, rt.alloc(), Freed::Before, &rows)
-}
-
-#[test]
-fn elsewhere(rt: HostRuntime) -> Result<(), Fail> {
-    let rows = [
-        (1, 100, ((4176, 4304), (112, true))),
-        (32, 100, ((4224, 4416), (128, true))),
-        (4096, 100, ((12288, 20480), (128, true))),
-    ];
-    cases(&rt, rt.alloc(), Freed::Neither, &rows)
 }
 
 #[test]

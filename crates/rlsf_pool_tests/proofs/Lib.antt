@@ -1,1 +1,2 @@
+pub mod OneChunk
 pub mod Shapes

@@ -12,6 +12,7 @@ use rlsf::{Addr, Layout, LayoutError, Memory, MemoryError, Range, Tlsf};
 use std::alloc::Global;
 use std::num::NonZeroUsize;
 use std::process::Abort;
+use std::test::Fail;
 
 /// The shapes of most tests: chunks up to 8160 bytes, up to 131,072 bytes, and of any length.
 pub(crate) type Small = Tlsf<u8, u8, 8, 8>;
@@ -19,6 +20,22 @@ pub(crate) type Small = Tlsf<u8, u8, 8, 8>;
 pub(crate) type Wide = Tlsf<u16, u16, 12, 16>;
 
 pub(crate) type Long = Tlsf<u64, u8, 59, 8>;
+
+/// Passes where the answers are the expected ones.
+pub(crate) fn are(rt: &impl Abort, answers: &[usize], expected: &[usize]) {
+    assert_eq!(rt; answers, expected);
+}
+
+/// A step of a test, and what it answers.
+#[derive(Clone, Copy)]
+pub(crate) enum Step {
+    /// Allocates for a size and an alignment: the payload's address, or 0.
+    Allocate(usize, usize, usize),
+    /// The same, and gives the payload back.
+    GiveBack(usize, usize, usize),
+    /// Reads the word at an address.
+    Word(usize, u64),
+}
 
 /// An allocator over a memory of these addresses, with the pool that was inserted, and the answer to that, or 0.
 pub(crate) fn with_inserted<
@@ -104,4 +121,36 @@ pub(crate) fn has_words(rt: &impl Abort, memory: &Memory, words: &[(usize, u64)]
     for (addr, word) in words {
         assert_eq!(rt; word_at(memory, *addr), Some(*word), "at {addr}");
     }
+}
+
+/// Passes where each step answers what is expected.
+pub(crate) fn takes_steps(
+    rt: &impl Abort,
+    tlsf: &mut Small,
+    steps: &[Step],
+) -> Result<(), LayoutError> {
+    for step in steps {
+        match *step {
+            Step::Allocate(size, align, addr) => {
+                assert_eq!(rt; allocated(tlsf, size, align)?, addr, "{size} bytes");
+            }
+            Step::GiveBack(size, align, addr) => {
+                assert_eq!(rt; given_back(tlsf, size, align)?, addr, "{size} bytes");
+            }
+            Step::Word(addr, word) => has_words(rt, tlsf.memory_ref(), &[(addr, word)]),
+        }
+    }
+    Ok(())
+}
+
+/// Passes where an allocator over a pool of so many bytes answers each step as is expected.
+pub(crate) fn pool_takes_steps(
+    rt: &impl Abort,
+    alloc: Global,
+    len: usize,
+    steps: &[Step],
+) -> Result<(), Fail> {
+    let mut tlsf = with_pool(alloc, len)?;
+    takes_steps(rt, &mut tlsf, steps)?;
+    Ok(())
 }

@@ -1,5 +1,6 @@
 pub mod AppendedChunks
 pub mod Lengthened
+pub mod Named
 pub mod NamedPayloads
 pub mod NewPools
 pub mod Outcomes

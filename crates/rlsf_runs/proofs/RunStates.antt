@@ -3,8 +3,6 @@ use Rattle.std.proofs.Common.{◌≡◌, ◌≢◌, ℕ, ◌+◌, ◌-◌, ◌<�
 use Rattle.std.proofs.lemmas.List.Sorted.{IsPermutation-cons, IsPermutation-map, IsPermutation-refl, IsPermutation-sym, IsPermutation-trans}
 use Rattle.std.specs.Prelude.{IsPermutation}
 use Rattle.std.specs.HashMap.{get}
-use Rattle.std.specs.Map.{lookup}
-use Rattle.std.specs.Option.{option_map}
 use Rattle.rlsf_base.specs.declared.memory.range.Range.{Range}
 use Rattle.rlsf_base.specs.Range.{end_of, LiesIn}
 use Rattle.rlsf_base.specs.Rounding.{round32}
@@ -19,10 +17,10 @@ use Rattle.rlsf_blocks.specs.StandsFor.{Contents, StandsFor}
 use Rattle.rlsf_machine.specs.Run.{append, insert}
 use Rattle.rlsf_machine.proofs.ChunkRows.{IsRow-appended, IsRow-inserted, IsRow-kept, IsRow-kept_apart}
 use Rattle.rlsf_machine.proofs.Live.{live_stays}
-use Rattle.rlsf_runs.specs.declared.tables.Payload.{Payload}
 use Rattle.rlsf_runs.specs.declared.tables.Tables.{Tables}
 use Rattle.rlsf_runs.specs.Runs.{RunState, beginning, lengthened, lengthened_at, MayAppend, MayInsert, with_pool}
-use Rattle.rlsf_runs.specs.Steps.Tables.{address, EndsAt, IsAt, IsInOrder}
+use Rattle.rlsf_runs.specs.Steps.Tables.{EndsAt, IsAt, IsInOrder}
+use Rattle.rlsf_runs.proofs.Named.{AreNamed-empty, AreNamed-kept, AreNamed-same}
 use Rattle.rlsf_runs.proofs.NewPools.{coverage-with_pool, pool_bounds}
 use Rattle.rlsf_runs.proofs.AppendedChunks.{IsLonger, IsLonger-appended}
 use Rattle.rlsf_runs.proofs.Lengthened.{coverage-lengthened, is_lengthened, IsIn-lengthened, IsInOrder-lengthened, lengthened-each}
@@ -105,9 +103,7 @@ module _ {fllen sllen : ℕ} {v : Contents} {tables : Tables} {s : RunState} (at
         let home : LiesIn made w.memory.start (length w.memory.bytes) = (omega (arith, from, low, place), omega (arith, bounds, to, place)) in
         record {
           stands = stands;
-          names = λ name. ap (λ table. option_map address (get nat_eq table name)) names ∙ at.names name;
-          live = λ name p is. live_stays fllen sllen s.machine t (insert r (Some len)) (address p) p.align step (at.live name p (ap (λ table. get nat_eq table name) (sym names) ∙ is)) (λ never. never);
-          one_name = at.one_name;
+          named = AreNamed-kept (AreNamed-same at.named (λ name. ap (λ table. get nat_eq table name) names)) t (λ addr align live. live_stays fllen sllen s.machine t (insert r (Some len)) addr align step live (λ never. never));
           pools = IsPermutation-trans _ _ _ (IsPermutation-cons made s.pools tables.pools.items at.pools) (subst (λ p. IsPermutation (p ∷ tables.pools.items) new.pools.items) is added);
           in_order = in_order;
           inside = λ p i. elim (IsIn-permutation p new.pools.items (pool ∷ tables.pools.items) (IsPermutation-sym (pool ∷ tables.pools.items) new.pools.items added) i) [
@@ -125,9 +121,7 @@ module _ {fllen sllen : ℕ} {v : Contents} {tables : Tables} {s : RunState} (at
     pub IsAt-not_inserted : (r : Range) → Inserts fllen s.machine r None t → IsAt fllen sllen w tables (record { machine = t; named = s.named; pools = s.pools })
     IsAt-not_inserted r step = record {
       stands = stands;
-      names = at.names;
-      live = λ name p is. live_stays fllen sllen s.machine t (insert r None) (address p) p.align step (at.live name p is) (λ never. never);
-      one_name = at.one_name;
+      named = AreNamed-kept at.named t (λ addr align live. live_stays fllen sllen s.machine t (insert r None) addr align step live (λ never. never));
       pools = at.pools;
       in_order = at.in_order;
       inside = λ p i. (let (p_from, p_to) = at.inside p i in (omega (arith, p_from, place), omega (arith, p_to, place)));
@@ -141,9 +135,7 @@ module _ {fllen sllen : ℕ} {v : Contents} {tables : Tables} {s : RunState} (at
         → IsAt fllen sllen w new (record { machine = t; named = s.named; pools = map (lengthened_at r.start more) s.pools })
     IsAt-appended {new} r more i step may ends names set = record {
       stands = stands;
-      names = λ name. ap (λ table. option_map address (get nat_eq table name)) names ∙ at.names name;
-      live = λ name p is. live_stays fllen sllen s.machine t (append r more) (address p) p.align step (at.live name p (ap (λ table. get nat_eq table name) (sym names) ∙ is)) (λ never. never);
-      one_name = at.one_name;
+      named = AreNamed-kept (AreNamed-same at.named (λ name. ap (λ table. get nat_eq table name) names)) t (λ addr align live. live_stays fllen sllen s.machine t (append r more) addr align step live (λ never. never));
       pools = subst (IsPermutation (map f s.pools)) (sym is) (IsPermutation-map f s.pools tables.pools.items at.pools);
       in_order = subst IsInOrder (sym is) (IsInOrder-lengthened at.in_order r (IsClear-tables r may.vacant) r.start more refl longer.within);
       inside = λ p there. inside p (subst (IsIn p) is there);
@@ -183,18 +175,10 @@ module _ {fllen sllen : ℕ} {v : Contents} {tables : Tables} {s : RunState} (at
 pub IsAt-beginning : {fllen sllen : ℕ} {v : Contents} {tables : Tables} → StandsFor fllen sllen v empty → tables.names.entries ≡ [] → tables.pools.items ≡ [] → IsAt fllen sllen v tables beginning
 IsAt-beginning {v = v} stands no_names no_pools = record {
   stands = stands;
-  names = λ name. ap (λ es. option_map address (lookup (nat_eq name) es)) no_names;
-  live = λ name p is. no_payload p (ap (λ es. lookup (nat_eq name) es) (sym no_names) ∙ is);
-  one_name = λ name other addr is _. no_address addr is;
+  named = AreNamed-empty empty no_names;
   pools = subst (IsPermutation []) (sym no_pools) (IsPermutation-refl []);
   in_order = record { some = λ i d below. absurd (omega (arith, ap length no_pools)); apart = λ i j d before below. absurd (omega (arith, ap length no_pools)) };
   inside = λ p i. absurd (subst (IsIn p) no_pools i);
   covered = λ a. omega arith;
   rows = λ p i. absurd i;
 }
-  where
-    no_payload : (p : Payload) {X : Type 0} → None ≡ Some p → X
-    no_payload p is = absurd (cc)
-
-    no_address : (addr : ℕ) {X : Type 0} → None ≡ Some addr → X
-    no_address addr is = absurd (cc)

@@ -6,7 +6,8 @@ ghost use Rattle.rlsf_text.specs.declared.op.Op.TheVariants.{Free, FreeUnknown, 
 ghost use Rattle.rlsf_runs.specs.Runs.{RunState};
 ghost use Rattle.rlsf_runs.specs.Steps.Tables.{HasRoom, IsAt, LeadsOn};
 
-use crate::tables::{Payload, Tables};
+use crate::names::Payload;
+use crate::tables::Tables;
 use rlsf_base::memory::Layout;
 use rlsf_int::Bitmap;
 use rlsf_text::{Answer, TraceError};

@@ -15,8 +15,9 @@ ghost use Rattle.rlsf_text.specs.declared.op.Op.TheVariants.{Insert, Append, All
 ghost use Rattle.rlsf_runs.specs.Runs.{RunState, beginning, Runs};
 ghost use Rattle.rlsf_runs.specs.Steps.Tables.{HasRoom, IsAt, IsInOrder, LeadsOn};
 
+use crate::names::Payload;
 use crate::payloads::{fill, free, free_unknown, get, put, realloc, usable};
-use crate::tables::{Payload, Tables, ending_at, touches_any};
+use crate::tables::{Tables, ending_at, touches_any};
 use crate::walks::block;
 use rlsf_base::memory::{Layout, Memory, Range};
 use rlsf_int::Bitmap;

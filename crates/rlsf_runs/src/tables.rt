@@ -10,17 +10,11 @@ ghost use Rattle.rlsf_machine.specs.WellFormed.{coverage, itself};
 ghost use Rattle.rlsf_runs.specs.Runs.{lengthened};
 ghost use Rattle.rlsf_runs.specs.Steps.Tables.{EndsAt, HasRoom, IsInOrder};
 
-use rlsf_base::memory::{Addr, Range};
+use crate::names::Payload;
+use rlsf_base::memory::Range;
 use rlsf_tlsf::GRANULARITY;
 use std::alloc::{AllocError, Global};
 use std::collections::{HashMap, VecDeque};
-
-/// A live payload: its address, and the alignment that was asked for.
-#[derive(Clone, Copy, Drop)]
-pub(crate) struct Payload {
-    pub(crate) addr: Addr,
-    pub(crate) align: usize,
-}
 
 /// What a run remembers: where each live payload is, by its name, and the pools.
 #[derive(Drop)]

@@ -10,7 +10,7 @@ use Rattle.rlsf_text.specs.declared.op.Op.TheVariants.{Insert, Append, Alloc, Fr
 use Rattle.rlsf_text.specs.declared.op.Answer.{Answer}
 use Rattle.rlsf_text.specs.declared.op.Answer.TheVariants.{Inserted, Appended, Placed, Done, Byte, Usable, Block, Refused}
 use Rattle.rlsf_text.specs.declared.op.TraceError.{TraceError}
-use Rattle.rlsf_text.specs.declared.op.TraceError.TheVariants.{UnknownName, NameTaken, BadRange, BadOffset, BadLayout}
+use Rattle.rlsf_text.specs.declared.op.TraceError.TheVariants.{UnknownName, NameTaken, BadRange, BadOffset, BadLayout, NotForFlex}
 
 -- the number of an error
 abbrev pub error_number : TraceError → ℕ
@@ -19,6 +19,7 @@ error_number NameTaken = 2
 error_number BadRange = 3
 error_number BadOffset = 4
 error_number BadLayout = 5
+error_number NotForFlex = 6
 
 -- the word for an error
 abbrev pub error_word : TraceError → List ℕ
@@ -27,6 +28,7 @@ error_word NameTaken = codes "NameTaken"
 error_word BadRange = codes "BadRange"
 error_word BadOffset = codes "BadOffset"
 error_word BadLayout = codes "BadLayout"
+error_word NotForFlex = codes "NotForFlex"
 
 -- how the line of an op begins: its command, and the name of its payload if it has one
 abbrev pub op_text : Op → List ℕ

@@ -64,6 +64,8 @@ pub enum TraceError {
     BadOffset = 4,
     /// No layout has the new size and the alignment of the payload.
     BadLayout = 5,
+    /// A range is inserted, appended or walked in a run over a source: there the source's ranges are the pools.
+    NotForFlex = 6,
 }
 
 impl TraceError {
@@ -92,6 +94,7 @@ impl fmt::Display for TraceError {
             TraceError::BadRange => f.write_str("BadRange"),
             TraceError::BadOffset => f.write_str("BadOffset"),
             TraceError::BadLayout => f.write_str("BadLayout"),
+            TraceError::NotForFlex => f.write_str("NotForFlex"),
         }
     }
 }

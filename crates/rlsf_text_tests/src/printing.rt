@@ -70,9 +70,10 @@ fn refusals(rt: HostRuntime) -> Result<(), Fail> {
             TraceError::NameTaken.number(),
             TraceError::BadRange.number(),
             TraceError::BadOffset.number(),
-            TraceError::BadLayout.number()
+            TraceError::BadLayout.number(),
+            TraceError::NotForFlex.number()
         ),
-        (1, 2, 3, 4, 5)
+        (1, 2, 3, 4, 5, 6)
     );
     Ok(())
 }
@@ -120,6 +121,7 @@ fn pools_and_payloads_grow(rt: HostRuntime) -> Result<(), Fail> {
         Op::Realloc(18446744073709551615, 200),
         Op::Realloc(9, 0),
         Op::Realloc(1, 18446744073709551615),
+        Op::Append(range),
     ];
     let answers = [
         Answer::Appended(256),
@@ -129,13 +131,14 @@ fn pools_and_payloads_grow(rt: HostRuntime) -> Result<(), Fail> {
         Answer::Placed(None),
         Answer::Refused(TraceError::UnknownName),
         Answer::Refused(TraceError::BadLayout),
+        Answer::Refused(TraceError::NotForFlex),
     ];
     prints(
         &rt,
         rt.alloc(),
         &ops,
         &answers,
-        "append 256\nappend 0\nrefused 3 BadRange\nrealloc 1 at 4112\nrealloc 18446744073709551615 none\nrefused 1 UnknownName\nrefused 5 BadLayout\n",
+        "append 256\nappend 0\nrefused 3 BadRange\nrealloc 1 at 4112\nrealloc 18446744073709551615 none\nrefused 1 UnknownName\nrefused 5 BadLayout\nrefused 6 NotForFlex\n",
     )
 }
 

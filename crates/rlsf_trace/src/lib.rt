@@ -1,4 +1,4 @@
-//! Replays of the text of a trace: it is read, run and printed.
+//! Replays of the text of a trace: it is read, run and printed. Runs of ops are given on.
 #![tactic(auto)]
 
 mod input;
@@ -6,6 +6,7 @@ mod output;
 mod replays;
 
 pub use replays::replay;
+pub use rlsf_flex_runs::run_flex;
 pub use rlsf_runs::{RunError, run};
 pub use rlsf_text::{
     Answer, Configuration, Fault, Op, ReplayFault, Trace, TraceError, status, text_of,

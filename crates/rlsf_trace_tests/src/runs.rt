@@ -1,174 +1,252 @@
-mod growth;
+//! Runs: what their ops answer. Most are traces, whose texts have one op a line; the others are calls of `run`.
+
 mod random;
 mod refusals;
-mod walks;
 
-use rlsf_base::memory::{Layout, LayoutError, Memory, Range};
+use crate::replays::replays;
+use rlsf_base::memory::{Layout, Memory};
 use rlsf_runs::{RunError, run};
-use rlsf_text::{Answer, Op, TraceError};
+use rlsf_text::{Answer, Op};
 use rlsf_tlsf::Tlsf;
 use std::alloc::Global;
 use std::num::NonZeroUsize;
 use std::process::Abort;
 use std::test::Fail;
 
-/// The answers to the ops, with 4096 bytes from 4096 on.
-fn answers_to(alloc: Global, ops: &[Op]) -> Result<Vec<Answer>, Fail> {
-    let memory = Memory::new(alloc, 4096, 4096)?;
-    let mut tlsf = Tlsf::<u8, u8, 8, 8>::new(memory);
-    let mut answers = Vec::new(alloc);
-    run(alloc, &mut tlsf, ops, &mut answers)?;
-    Ok(answers)
+/// The first line of a trace, and each further line with what it writes. The memory has 4096 bytes from 4096 on. With 59 rows of
+/// classes no chunk is too long for it.
+type Lines = (&'static str, &'static [(&'static str, &'static str)]);
+
+static RUNS: [Lines; 14] = [
+    // One answer an op.
+    (
+        "8x8 4096 4096",
+        &[
+            ("insert 4096 96", "insert some 96"),
+            ("alloc 1 0 1", "alloc 1 at 4112"),
+            ("alloc 2 0 1", "alloc 2 at 4144"),
+            ("alloc 3 0 1", "alloc 3 none"),
+        ],
+    ),
+    // Names are taken while live. A name whose payload found no room stays free.
+    (
+        "8x8 4096 4096",
+        &[
+            ("insert 4096 96", "insert some 96"),
+            ("alloc 1 17 1", "alloc 1 at 4112"),
+            ("alloc 1 0 1", "refused 2 NameTaken"),
+            ("alloc 2 0 1", "alloc 2 none"),
+            ("alloc 2 0 1", "alloc 2 none"),
+        ],
+    ),
+    // Names are free again.
+    (
+        "8x8 4096 4096",
+        &[
+            ("insert 4096 128", "insert some 128"),
+            ("alloc 1 0 1", "alloc 1 at 4112"),
+            ("alloc 2 0 1", "alloc 2 at 4144"),
+            ("fill 1 1", "fill 1 done"),
+            ("fill 2 2", "fill 2 done"),
+            ("get 1 15", "get 1 1"),
+            ("free 1", "free 1 done"),
+            ("get 2 0", "get 2 2"),
+            ("alloc 1 0 1", "alloc 1 at 4112"),
+            ("put 1 15 3", "put 1 done"),
+            ("get 2 0", "get 2 2"),
+            ("get 1 15", "get 1 3"),
+        ],
+    ),
+    // Ranges lie in the memory and touch no pool.
+    (
+        "8x8 4096 4096",
+        &[
+            ("insert 4095 96", "refused 3 BadRange"),
+            ("insert 8190 3", "refused 3 BadRange"),
+            ("insert 18446744073709551615 1", "refused 3 BadRange"),
+            ("insert 4097 127", "insert some 127"),
+            ("insert 4100 64", "refused 3 BadRange"),
+            ("insert 4128 1", "refused 3 BadRange"),
+            ("insert 4223 64", "refused 3 BadRange"),
+            // Bytes before the pool and behind it are free, and so is an empty range in it.
+            ("insert 4096 32", "insert none"),
+            ("insert 4150 0", "insert none"),
+            ("insert 4224 64", "insert some 64"),
+        ],
+    ),
+    // Pools are found whatever their order.
+    (
+        "8x8 4096 4096",
+        &[
+            ("insert 4608 64", "insert some 64"),
+            ("insert 4096 64", "insert some 64"),
+            ("insert 4352 64", "insert some 64"),
+            // The first byte of one, the last of another, all of a third, and what lies between them.
+            ("insert 4544 65", "refused 3 BadRange"),
+            ("insert 4415 1", "refused 3 BadRange"),
+            ("insert 4064 128", "refused 3 BadRange"),
+            ("insert 4096 64", "refused 3 BadRange"),
+            ("insert 4416 192", "insert some 192"),
+            ("insert 4160 192", "insert some 192"),
+            ("insert 4672 64", "insert some 64"),
+        ],
+    ),
+    // Appended bytes join the pool.
+    (
+        "59x8 4096 4096",
+        &[
+            ("insert 4096 256", "insert some 256"),
+            ("alloc 1 384 1", "alloc 1 none"),
+            ("append 4352 256", "append 256"),
+            ("alloc 1 384 1", "alloc 1 at 4112"),
+        ],
+    ),
+    // Where chunks have a greatest length, the range becomes a chunk of its own.
+    (
+        "8x8 4096 4096",
+        &[
+            ("insert 4096 256", "insert some 256"),
+            ("alloc 1 384 1", "alloc 1 none"),
+            ("append 4352 256", "append 256"),
+            ("alloc 1 384 1", "alloc 1 none"),
+        ],
+    ),
+    // Short ranges are not appended.
+    (
+        "59x8 4096 4096",
+        &[
+            ("insert 4096 64", "insert some 64"),
+            ("alloc 1 0 1", "alloc 1 at 4112"),
+            ("append 4160 31", "append 0"),
+            ("append 4160 32", "append 32"),
+        ],
+    ),
+    // The same, where chunks have a greatest length.
+    (
+        "8x8 4096 4096",
+        &[
+            ("insert 4096 64", "insert some 64"),
+            ("alloc 1 0 1", "alloc 1 at 4112"),
+            ("append 4160 31", "append 0"),
+            ("append 4160 32", "append 0"),
+        ],
+    ),
+    // Appends begin where a pool ends.
+    (
+        "59x8 4096 4096",
+        &[
+            ("append 4096 64", "refused 3 BadRange"),
+            ("insert 4096 128", "insert some 128"),
+            ("insert 4352 128", "insert some 128"),
+            ("append 4223 64", "refused 3 BadRange"),
+            ("append 4225 64", "refused 3 BadRange"),
+            ("append 4192 64", "refused 3 BadRange"),
+            ("append 4224 160", "refused 3 BadRange"),
+            ("append 8192 64", "refused 3 BadRange"),
+            ("append 4480 8192", "refused 3 BadRange"),
+            ("append 4224 128", "append 128"),
+            // The pool ends at the next one's begin now.
+            ("append 4224 64", "refused 3 BadRange"),
+            ("append 4352 0", "append 0"),
+            ("append 4480 64", "append 64"),
+            ("insert 4500 64", "refused 3 BadRange"),
+            ("append 4544 64", "append 64"),
+        ],
+    ),
+    // Payloads get other sizes.
+    (
+        "8x8 4096 4096",
+        &[
+            ("insert 4096 256", "insert some 256"),
+            ("alloc 1 0 1", "alloc 1 at 4112"),
+            ("alloc 2 40 1", "alloc 2 at 4144"),
+            ("alloc 3 100 1", "alloc 3 at 4208"),
+            ("put 2 47 9", "put 2 done"),
+            ("free 1", "free 1 done"),
+            ("realloc 2 70", "realloc 2 at 4112"),
+            ("get 2 47", "get 2 9"),
+            // There is no room, and the name keeps its payload.
+            ("realloc 2 200", "realloc 2 none"),
+            ("get 2 47", "get 2 9"),
+            ("put 2 79 1", "put 2 done"),
+            ("put 2 80 1", "refused 4 BadOffset"),
+            ("free 2", "free 2 done"),
+            ("realloc 2 0", "refused 1 UnknownName"),
+        ],
+    ),
+    // Sizes have layouts.
+    (
+        "8x8 4096 4096",
+        &[
+            ("insert 4096 96", "insert some 96"),
+            ("alloc 1 17 1", "alloc 1 at 4112"),
+            ("realloc 1 9223372036854775808", "refused 5 BadLayout"),
+            ("realloc 1 9223372036854775807", "realloc 1 none"),
+            ("realloc 1 0", "realloc 1 at 4112"),
+            ("alloc 2 0 1", "alloc 2 at 4144"),
+            // An unknown name is told first.
+            ("realloc 9 18446744073709551615", "refused 1 UnknownName"),
+        ],
+    ),
+    // Blocks, and their usable bytes.
+    (
+        "8x8 4096 4096",
+        &[
+            ("insert 4096 96", "insert some 96"),
+            ("alloc 1 17 1", "alloc 1 at 4112"),
+            ("usable 1", "usable 1 48"),
+            ("realloc 1 0", "realloc 1 at 4112"),
+            ("alloc 2 0 1", "alloc 2 at 4144"),
+            ("block 4096 96 1", "block 4128 32 used"),
+            ("block 4096 96 2", "block none"),
+            ("ufree 2", "ufree 2 done"),
+            ("block 4096 96 1", "block 4128 32 free"),
+            ("ufree 2", "refused 1 UnknownName"),
+            ("usable 2", "refused 1 UnknownName"),
+        ],
+    ),
+    // The ranges of walks are those of one pool.
+    (
+        "8x8 4096 4096",
+        &[
+            ("insert 4096 96", "insert some 96"),
+            ("insert 4192 64", "insert some 64"),
+            // Not in the memory, two pools, and parts of one.
+            ("block 4095 97 0", "refused 3 BadRange"),
+            ("block 18446744073709551615 1 0", "refused 3 BadRange"),
+            ("block 4096 160 0", "refused 3 BadRange"),
+            ("block 4128 64 0", "refused 3 BadRange"),
+            ("block 4096 64 0", "refused 3 BadRange"),
+            ("block 4192 0 0", "refused 3 BadRange"),
+            // The start is rounded up to that of the pool.
+            ("block 4161 95 0", "block 4192 32 free"),
+            ("block 4160 96 0", "refused 3 BadRange"),
+        ],
+    ),
+];
+
+/// Passes where the lines write what stands beside them.
+fn writes(rt: &impl Abort, alloc: Global, lines: Lines) -> Result<(), Fail> {
+    let (first, others) = lines;
+    let mut text = String::new(alloc);
+    let mut wanted = String::new(alloc);
+    text.push_str(first)?;
+    for (line, answer) in others {
+        text.push('\n')?;
+        text.push_str(line)?;
+        wanted.push_str(answer)?;
+        wanted.push('\n')?;
+    }
+    wanted.push_str("status 0")?;
+    replays(rt, alloc, &[(text.as_bytes(), wanted.as_str())])
 }
 
-/// Passes where these are the answers to the ops.
-fn answers(rt: &impl Abort, alloc: Global, ops: &[Op], expected: &[Answer]) -> Result<(), Fail> {
-    assert_eq!(rt; answers_to(alloc, ops)?.as_slice(), expected);
+#[test]
+fn lines_and_their_answers(rt: HostRuntime) -> Result<(), Fail> {
+    for lines in RUNS {
+        writes(&rt, rt.alloc(), lines)?;
+    }
     Ok(())
-}
-
-fn alloc_op(name: usize, size: usize) -> Result<Op, LayoutError> {
-    Ok(Op::Alloc(name, Layout::from_size_align(size, 1)?))
-}
-
-fn insert_op(start: usize, len: usize) -> Op {
-    Op::Insert(Range { start, len })
-}
-
-fn placed(addr: usize) -> Answer {
-    Answer::Placed(NonZeroUsize::new(addr))
-}
-
-#[test]
-fn one_answer_an_op(rt: HostRuntime) -> Result<(), Fail> {
-    let ops = [
-        insert_op(4096, 96),
-        alloc_op(1, 0)?,
-        alloc_op(2, 0)?,
-        alloc_op(3, 0)?,
-    ];
-    let expected = [
-        Answer::Inserted(NonZeroUsize::new(96)),
-        placed(4112),
-        placed(4144),
-        Answer::Placed(None),
-    ];
-    answers(&rt, rt.alloc(), &ops, &expected)
-}
-
-#[test]
-fn names_are_taken_while_live(rt: HostRuntime) -> Result<(), Fail> {
-    let ops = [
-        insert_op(4096, 96),
-        alloc_op(1, 17)?,
-        alloc_op(1, 0)?,
-        alloc_op(2, 0)?,
-        alloc_op(2, 0)?,
-    ];
-    // A name whose payload found no room stays free.
-    let expected = [
-        Answer::Inserted(NonZeroUsize::new(96)),
-        placed(4112),
-        Answer::Refused(TraceError::NameTaken),
-        Answer::Placed(None),
-        Answer::Placed(None),
-    ];
-    answers(&rt, rt.alloc(), &ops, &expected)
-}
-
-#[test]
-fn names_are_free_again(rt: HostRuntime) -> Result<(), Fail> {
-    let ops = [
-        insert_op(4096, 128),
-        alloc_op(1, 0)?,
-        alloc_op(2, 0)?,
-        Op::Fill(1, 1),
-        Op::Fill(2, 2),
-        Op::Get(1, 15),
-        Op::Free(1),
-        Op::Get(2, 0),
-        alloc_op(1, 0)?,
-        Op::Put(1, 15, 3),
-        Op::Get(2, 0),
-        Op::Get(1, 15),
-    ];
-    let expected = [
-        Answer::Inserted(NonZeroUsize::new(128)),
-        placed(4112),
-        placed(4144),
-        Answer::Done,
-        Answer::Done,
-        Answer::Byte(1),
-        Answer::Done,
-        Answer::Byte(2),
-        placed(4112),
-        Answer::Done,
-        Answer::Byte(2),
-        Answer::Byte(3),
-    ];
-    answers(&rt, rt.alloc(), &ops, &expected)
-}
-
-#[test]
-fn ranges_lie_in_the_memory_and_touch_no_pool(rt: HostRuntime) -> Result<(), Fail> {
-    let ops = [
-        insert_op(4095, 96),
-        insert_op(8190, 3),
-        insert_op(18446744073709551615, 1),
-        insert_op(4097, 127),
-        insert_op(4100, 64),
-        insert_op(4128, 1),
-        insert_op(4223, 64),
-        // Bytes before the pool and behind it are free, and so is an empty range in it.
-        insert_op(4096, 32),
-        insert_op(4150, 0),
-        insert_op(4224, 64),
-    ];
-    let bad = Answer::Refused(TraceError::BadRange);
-    let expected = [
-        bad,
-        bad,
-        bad,
-        Answer::Inserted(NonZeroUsize::new(127)),
-        bad,
-        bad,
-        bad,
-        Answer::Inserted(None),
-        Answer::Inserted(None),
-        Answer::Inserted(NonZeroUsize::new(64)),
-    ];
-    answers(&rt, rt.alloc(), &ops, &expected)
-}
-
-#[test]
-fn pools_are_found_whatever_their_order(rt: HostRuntime) -> Result<(), Fail> {
-    let ops = [
-        insert_op(4608, 64),
-        insert_op(4096, 64),
-        insert_op(4352, 64),
-        // The first byte of one, the last of another, all of a third, and what lies between them.
-        insert_op(4544, 65),
-        insert_op(4415, 1),
-        insert_op(4064, 128),
-        insert_op(4096, 64),
-        insert_op(4416, 192),
-        insert_op(4160, 192),
-        insert_op(4672, 64),
-    ];
-    let bad = Answer::Refused(TraceError::BadRange);
-    let expected = [
-        Answer::Inserted(NonZeroUsize::new(64)),
-        Answer::Inserted(NonZeroUsize::new(64)),
-        Answer::Inserted(NonZeroUsize::new(64)),
-        bad,
-        bad,
-        bad,
-        bad,
-        Answer::Inserted(NonZeroUsize::new(192)),
-        Answer::Inserted(NonZeroUsize::new(192)),
-        Answer::Inserted(NonZeroUsize::new(64)),
-    ];
-    answers(&rt, rt.alloc(), &ops, &expected)
 }
 
 #[test]
@@ -176,11 +254,16 @@ fn answers_follow_those_already_there(rt: HostRuntime) -> Result<(), Fail> {
     let memory = Memory::new(rt.alloc(), 4096, 4096)?;
     let mut tlsf = Tlsf::<u8, u8, 8, 8>::new(memory);
     let mut answers = Vec::new(rt.alloc());
-    answers.push(placed(1))?;
-    run(rt.alloc(), &mut tlsf, &[alloc_op(1, 0)?], &mut answers)?;
+    answers.push(Answer::Placed(NonZeroUsize::new(1)))?;
+    run(
+        rt.alloc(),
+        &mut tlsf,
+        &[Op::Alloc(1, Layout::from_size_align(0, 1)?)],
+        &mut answers,
+    )?;
     assert_eq!(rt;
         answers.as_slice(),
-        [placed(1), Answer::Placed(None)].as_slice()
+        [Answer::Placed(NonZeroUsize::new(1)), Answer::Placed(None)].as_slice()
     );
     Ok(())
 }

@@ -48,41 +48,40 @@ fn drawn(alloc: Global, tlsf: &Small, width: usize) -> Result<String, AllocError
 }
 
 #[test]
-fn nothing_of_an_empty_range(rt: HostRuntime) -> Result<(), Fail> {
+fn one_free_block_and_an_empty_range(rt: HostRuntime) -> Result<(), Fail> {
     let tlsf = one_chunk(rt.alloc())?;
     let blocks = tlsf.iter_blocks(Range {
         start: 4096,
         len: 0,
     });
-    assert_eq!(rt; picture(rt.alloc(), blocks, 16)?.as_str(), "");
+    let nothing = picture(rt.alloc(), blocks, 16)?;
+    let text = drawn(rt.alloc(), &tlsf, 16)?;
+    assert_eq!(rt;
+        [nothing.as_str(), text.as_str()],
+        ["", "4096..4320 free ................\n"]
+    );
     Ok(())
 }
 
-#[test]
-fn one_free_block(rt: HostRuntime) -> Result<(), Fail> {
-    let tlsf = one_chunk(rt.alloc())?;
-    let text = drawn(rt.alloc(), &tlsf, 16)?;
-    assert_eq!(rt; text.as_str(), "4096..4320 free ................\n");
-    Ok(())
-}
+/// Pictures of two used blocks and a free one, by their widths.
+static PICTURES: [(usize, &str); 3] = [
+    (
+        16,
+        "4096..4128 used ###\n4128..4192 used #####\n4192..4320 free ..........\n",
+    ),
+    (0, "4096..4128 used \n4128..4192 used \n4192..4320 free \n"),
+    (
+        1,
+        "4096..4128 used #\n4128..4192 used #\n4192..4320 free .\n",
+    ),
+];
 
 #[test]
 fn two_used_blocks_and_a_free_one(rt: HostRuntime) -> Result<(), Fail> {
     let tlsf = two_payloads(rt.alloc())?;
-    let text = drawn(rt.alloc(), &tlsf, 16)?;
-    assert_eq!(rt;
-        text.as_str(),
-        "4096..4128 used ###\n4128..4192 used #####\n4192..4320 free ..........\n"
-    );
-    let without_bars = drawn(rt.alloc(), &tlsf, 0)?;
-    assert_eq!(rt;
-        without_bars.as_str(),
-        "4096..4128 used \n4128..4192 used \n4192..4320 free \n"
-    );
-    let one_mark = drawn(rt.alloc(), &tlsf, 1)?;
-    assert_eq!(rt;
-        one_mark.as_str(),
-        "4096..4128 used #\n4128..4192 used #\n4192..4320 free .\n"
-    );
+    for (width, wanted) in PICTURES {
+        let text = drawn(rt.alloc(), &tlsf, width)?;
+        assert_eq!(rt; text.as_str(), wanted);
+    }
     Ok(())
 }

@@ -54,7 +54,7 @@ fn first_wrong(alloc: Global, len: usize, steps: &[Step]) -> Result<Option<usize
 
 const ZEROS: &[u8] = &[0; 16];
 
-static EMPTIED_IN_ANOTHER_ORDER: [Step; 40] = [
+const EMPTIED_IN_ANOTHER_ORDER: &[Step] = &[
     Step::Take(Ok(0)),
     Step::Take(Ok(1)),
     Step::Take(Ok(2)),
@@ -98,16 +98,7 @@ static EMPTIED_IN_ANOTHER_ORDER: [Step; 40] = [
     Step::Get(6, Err(UnknownHandle)),
 ];
 
-#[test]
-fn emptied_in_another_order(rt: HostRuntime) -> Result<(), Fail> {
-    assert_eq!(rt;
-        first_wrong(rt.alloc(), 256, &EMPTIED_IN_ANOTHER_ORDER)?,
-        None
-    );
-    Ok(())
-}
-
-static ONE_IS_WRITTEN: [Step; 12] = [
+const ONE_IS_WRITTEN: &[Step] = &[
     Step::Take(Ok(0)),
     Step::Take(Ok(1)),
     Step::Take(Ok(2)),
@@ -122,13 +113,7 @@ static ONE_IS_WRITTEN: [Step; 12] = [
     Step::Get(2, Ok(ZEROS)),
 ];
 
-#[test]
-fn one_is_written(rt: HostRuntime) -> Result<(), Fail> {
-    assert_eq!(rt; first_wrong(rt.alloc(), 256, &ONE_IS_WRITTEN)?, None);
-    Ok(())
-}
-
-static TAKEN_AGAIN: [Step; 5] = [
+const TAKEN_AGAIN: &[Step] = &[
     Step::Take(Ok(0)),
     Step::Set(0, 0, b"0123456789abcdef", Ok(())),
     Step::GiveBack(0, Ok(())),
@@ -136,13 +121,7 @@ static TAKEN_AGAIN: [Step; 5] = [
     Step::Get(1, Ok(ZEROS)),
 ];
 
-#[test]
-fn taken_again_is_zeros(rt: HostRuntime) -> Result<(), Fail> {
-    assert_eq!(rt; first_wrong(rt.alloc(), 64, &TAKEN_AGAIN)?, None);
-    Ok(())
-}
-
-static REFUSED_WRITES: [Step; 7] = [
+const REFUSED_WRITES: &[Step] = &[
     Step::Set(0, 99, b"", Err(SetError::UnknownHandle)),
     Step::Take(Ok(0)),
     Step::Set(0, 14, b"xyz", Err(SetError::OutOfRange)),
@@ -152,16 +131,21 @@ static REFUSED_WRITES: [Step; 7] = [
     Step::Get(0, Ok(ZEROS)),
 ];
 
-#[test]
-fn writes_are_refused(rt: HostRuntime) -> Result<(), Fail> {
-    assert_eq!(rt; first_wrong(rt.alloc(), 64, &REFUSED_WRITES)?, None);
-    Ok(())
-}
+const TOO_SMALL: &[Step] = &[Step::Take(Err(TakeError::NoRoom))];
 
-static TOO_SMALL: [Step; 1] = [Step::Take(Err(TakeError::NoRoom))];
+/// How many bytes the pool is over, and its steps.
+static SCRIPTS: [(usize, &[Step]); 5] = [
+    (256, EMPTIED_IN_ANOTHER_ORDER),
+    (256, ONE_IS_WRITTEN),
+    (64, TAKEN_AGAIN),
+    (64, REFUSED_WRITES),
+    (63, TOO_SMALL),
+];
 
 #[test]
-fn too_small_for_one(rt: HostRuntime) -> Result<(), Fail> {
-    assert_eq!(rt; first_wrong(rt.alloc(), 63, &TOO_SMALL)?, None);
+fn objects(rt: HostRuntime) -> Result<(), Fail> {
+    for (len, steps) in SCRIPTS {
+        assert_eq!(rt; first_wrong(rt.alloc(), len, steps)?, None);
+    }
     Ok(())
 }

@@ -25,10 +25,20 @@ enum Step {
     Capacity(usize),
 }
 
+/// Whether the bytes are all `rest`.
+fn is_all(bytes: &[u8], rest: u8) -> bool {
+    for byte in bytes {
+        if *byte != rest {
+            return false;
+        }
+    }
+    true
+}
+
 /// Whether the bytes begin with the message, and those behind it are all `rest`.
 fn begins_with(bytes: &[u8], message: &[u8], rest: u8) -> bool {
     match bytes.split_at_checked(message.len()) {
-        Some((front, behind)) => front == message && behind.iter().all(|byte| *byte == rest),
+        Some((front, behind)) => front == message && is_all(behind, rest),
         None => false,
     }
 }
@@ -71,7 +81,7 @@ fn first_wrong(
     Ok(None)
 }
 
-static FULL_QUEUE: [Step; 10] = [
+const FULL_QUEUE: &[Step] = &[
     Step::Push(b"one", Ok(())),
     Step::Push(b"three", Ok(())),
     Step::Push(b"x", Err(PushError::Full)),
@@ -84,14 +94,8 @@ static FULL_QUEUE: [Step; 10] = [
     Step::Capacity(2),
 ];
 
-#[test]
-fn full_queue_goes_on(rt: HostRuntime) -> Result<(), Fail> {
-    assert_eq!(rt; first_wrong(rt.alloc(), 1024, 2, &FULL_QUEUE)?, None);
-    Ok(())
-}
-
 /// The pool is one chunk of 128 bytes. Its last 32 end it, and a message of up to 16 bytes takes 32 of the others.
-static FULL_POOL: [Step; 12] = [
+const FULL_POOL: &[Step] = &[
     Step::Push(&[1; 16], Ok(())),
     Step::Push(&[2], Ok(())),
     Step::Push(&[3], Ok(())),
@@ -107,13 +111,7 @@ static FULL_POOL: [Step; 12] = [
     Step::Pop(80, Ok(&[5; 80])),
 ];
 
-#[test]
-fn full_pool_goes_on(rt: HostRuntime) -> Result<(), Fail> {
-    assert_eq!(rt; first_wrong(rt.alloc(), 128, 8, &FULL_POOL)?, None);
-    Ok(())
-}
-
-static SHORT_SLICES: [Step; 10] = [
+const SHORT_SLICES: &[Step] = &[
     Step::Len(0, None),
     Step::Push(&[1, 2, 3], Ok(())),
     Step::Push(&[], Ok(())),
@@ -126,20 +124,24 @@ static SHORT_SLICES: [Step; 10] = [
     Step::Len(0, None),
 ];
 
+const NO_CAPACITY: &[Step] = &[Step::Push(&[], Err(PushError::Full))];
+
+const NO_POOL: &[Step] = &[Step::Push(&[], Err(PushError::NoRoom))];
+
+/// How many bytes the queue is over, how many messages it can hold, and its steps.
+static SCRIPTS: [(usize, usize, &[Step]); 5] = [
+    (1024, 2, FULL_QUEUE),
+    (128, 8, FULL_POOL),
+    (1024, 3, SHORT_SLICES),
+    (1024, 0, NO_CAPACITY),
+    (63, 1, NO_POOL),
+];
+
 #[test]
-fn short_slices_and_empty_messages(rt: HostRuntime) -> Result<(), Fail> {
-    assert_eq!(rt; first_wrong(rt.alloc(), 1024, 3, &SHORT_SLICES)?, None);
-    Ok(())
-}
-
-static NO_CAPACITY: [Step; 1] = [Step::Push(&[], Err(PushError::Full))];
-
-static NO_POOL: [Step; 1] = [Step::Push(&[], Err(PushError::NoRoom))];
-
-#[test]
-fn no_capacity_and_no_pool(rt: HostRuntime) -> Result<(), Fail> {
-    assert_eq!(rt; first_wrong(rt.alloc(), 1024, 0, &NO_CAPACITY)?, None);
-    assert_eq!(rt; first_wrong(rt.alloc(), 63, 1, &NO_POOL)?, None);
+fn queues(rt: HostRuntime) -> Result<(), Fail> {
+    for (len, capacity, steps) in SCRIPTS {
+        assert_eq!(rt; first_wrong(rt.alloc(), len, capacity, steps)?, None);
+    }
     Ok(())
 }
 
@@ -193,16 +195,23 @@ impl Pair {
         }
     }
 
+    /// The length of the oldest message that must be in the queue.
+    fn front_len(&self) -> Option<usize> {
+        match self.expected.front() {
+            Some(message) => Some(message.len()),
+            None => None,
+        }
+    }
+
     /// Whether both have as many messages, and the oldest ones are as long.
     fn is_same_len(&self) -> bool {
-        let front = self.expected.front().map(|message| message.len());
-        self.queue.len() == self.expected.len() && self.queue.front_len() == front
+        self.queue.len() == self.expected.len() && self.queue.front_len() == self.front_len()
     }
 
     /// Pops from both, and tells whether the answer is right, with the message in front of bytes that are all `rest`.
     fn pop(&mut self, into: &mut [u8], rest: u8) -> bool {
         into.fill(rest);
-        let expected_len = self.expected.front().map(|message| message.len());
+        let expected_len = self.front_len();
         let answer = self.queue.pop(into);
         match (answer, expected_len) {
             (Err(PopError::Empty), None) => {

@@ -49,7 +49,7 @@ fn first_wrong(alloc: Global, len: usize, steps: &[Step]) -> Result<Option<usize
     Ok(None)
 }
 
-static GROWN_PAST_THEIR_NEIGHBOURS: [Step; 18] = [
+const GROWN_PAST_THEIR_NEIGHBOURS: &[Step] = &[
     Step::Create(Ok(0)),
     Step::Create(Ok(1)),
     Step::Create(Ok(2)),
@@ -70,16 +70,7 @@ static GROWN_PAST_THEIR_NEIGHBOURS: [Step; 18] = [
     Step::Len(3),
 ];
 
-#[test]
-fn grow_past_their_neighbours(rt: HostRuntime) -> Result<(), Fail> {
-    assert_eq!(rt;
-        first_wrong(rt.alloc(), 1024, &GROWN_PAST_THEIR_NEIGHBOURS)?,
-        None
-    );
-    Ok(())
-}
-
-static JOINED_WITH_ITSELF: [Step; 7] = [
+const JOINED_WITH_ITSELF: &[Step] = &[
     Step::Create(Ok(0)),
     Step::Append(0, b"ab", Ok(())),
     Step::Concat(0, 0, Ok(1)),
@@ -89,13 +80,7 @@ static JOINED_WITH_ITSELF: [Step; 7] = [
     Step::Bytes(2, Ok(b"ababab")),
 ];
 
-#[test]
-fn joined_with_itself(rt: HostRuntime) -> Result<(), Fail> {
-    assert_eq!(rt; first_wrong(rt.alloc(), 1024, &JOINED_WITH_ITSELF)?, None);
-    Ok(())
-}
-
-static LEFT_BEFORE_RIGHT: [Step; 8] = [
+const LEFT_BEFORE_RIGHT: &[Step] = &[
     Step::Create(Ok(0)),
     Step::Create(Ok(1)),
     Step::Append(0, b"left", Ok(())),
@@ -106,13 +91,7 @@ static LEFT_BEFORE_RIGHT: [Step; 8] = [
     Step::Bytes(1, Ok(b"right")),
 ];
 
-#[test]
-fn left_before_right(rt: HostRuntime) -> Result<(), Fail> {
-    assert_eq!(rt; first_wrong(rt.alloc(), 1024, &LEFT_BEFORE_RIGHT)?, None);
-    Ok(())
-}
-
-static WITHOUT_ROOM: [Step; 9] = [
+const WITHOUT_ROOM: &[Step] = &[
     Step::Create(Ok(0)),
     Step::Create(Err(StringError::NoRoom)),
     Step::Append(0, b"0123456789", Ok(())),
@@ -124,13 +103,7 @@ static WITHOUT_ROOM: [Step; 9] = [
     Step::Len(1),
 ];
 
-#[test]
-fn no_room(rt: HostRuntime) -> Result<(), Fail> {
-    assert_eq!(rt; first_wrong(rt.alloc(), 64, &WITHOUT_ROOM)?, None);
-    Ok(())
-}
-
-static WITH_UNKNOWN_HANDLES: [Step; 9] = [
+const WITH_UNKNOWN_HANDLES: &[Step] = &[
     Step::Create(Ok(0)),
     Step::Drop(0, Ok(())),
     Step::Create(Ok(1)),
@@ -142,8 +115,19 @@ static WITH_UNKNOWN_HANDLES: [Step; 9] = [
     Step::Bytes(1, Ok(b"")),
 ];
 
+/// How many bytes the strings are in, and their steps.
+static SCRIPTS: [(usize, &[Step]); 5] = [
+    (1024, GROWN_PAST_THEIR_NEIGHBOURS),
+    (1024, JOINED_WITH_ITSELF),
+    (1024, LEFT_BEFORE_RIGHT),
+    (64, WITHOUT_ROOM),
+    (1024, WITH_UNKNOWN_HANDLES),
+];
+
 #[test]
-fn unknown_handles(rt: HostRuntime) -> Result<(), Fail> {
-    assert_eq!(rt; first_wrong(rt.alloc(), 1024, &WITH_UNKNOWN_HANDLES)?, None);
+fn strings(rt: HostRuntime) -> Result<(), Fail> {
+    for (len, steps) in SCRIPTS {
+        assert_eq!(rt; first_wrong(rt.alloc(), len, steps)?, None);
+    }
     Ok(())
 }

@@ -1,22 +1,19 @@
 -- What the tables of a run hold.
-use Rattle.std.specs.Prelude.{◌≡◌, ℕ, ◌+◌, ◌<◌, ◌≤◌, nat_eq, IsPermutation, List, length, slice_index_or, Some}
-use Rattle.std.specs.HashMap.{get, spare}
-use Rattle.std.specs.Int.NonZero.{non_zero_usize_get}
-use Rattle.std.specs.Option.{option_map}
+use Rattle.std.specs.Prelude.{◌≡◌, ℕ, ◌+◌, ◌<◌, ◌≤◌, IsPermutation, List, length, slice_index_or}
+use Rattle.std.specs.HashMap.{spare}
 use Rattle.std.specs.VecDeque.{deque_len, deque_capacity}
 use Rattle.rlsf_base.specs.declared.memory.range.Range.{Range}
 use Rattle.rlsf_base.specs.Range.{end_of, LiesIn}
 use Rattle.rlsf_base.specs.Space.{range_of}
 use Rattle.rlsf_machine.specs.ChunkRows.{IsRow}
 use Rattle.rlsf_machine.specs.Lists.{IsIn}
-use Rattle.rlsf_machine.specs.State.{IsLive}
 use Rattle.rlsf_machine.specs.WellFormed.{coverage, itself}
 use Rattle.rlsf_text.specs.declared.op.Answer.{Answer}
 use Rattle.rlsf_text.specs.declared.op.Op.{Op}
 use Rattle.rlsf_blocks.specs.Spare.{KeepsSpare}
 use Rattle.rlsf_blocks.specs.StandsFor.{Contents, StandsFor}
-use Rattle.rlsf_runs.specs.declared.tables.Payload.{Payload}
 use Rattle.rlsf_runs.specs.declared.tables.Tables.{Tables}
+use Rattle.rlsf_runs.specs.Names.{AreNamed}
 use Rattle.rlsf_runs.specs.Runs.{Does, RunState}
 
 -- the tables have room for so many ops
@@ -33,16 +30,10 @@ pub record IsInOrder (pools : List Range) : Type 0 where
 abbrev pub EndsAt : List Range → ℕ → ℕ → Type 0
 EndsAt pools i addr = (i < length pools) × ((d : Range) → end_of (slice_index_or pools i d) ≡ addr)
 
--- where a payload of the table is
-abbrev pub address : Payload → ℕ
-address p = non_zero_usize_get p.addr
-
 -- the allocator and the tables are where the run has come to
 pub record IsAt (fllen sllen : ℕ) (v : Contents) (tables : Tables) (s : RunState) : Type 0 where
   pub stands : StandsFor fllen sllen v s.machine
-  pub names : (name : ℕ) → option_map address (get nat_eq tables.names name) ≡ s.named name
-  pub live : (name : ℕ) (p : Payload) → get nat_eq tables.names name ≡ Some p → IsLive s.machine (address p) p.align
-  pub one_name : (name other addr : ℕ) → s.named name ≡ Some addr → s.named other ≡ Some addr → name ≡ other
+  pub named : AreNamed s.machine tables.names s.named
   pub pools : IsPermutation s.pools tables.pools.items
   pub in_order : IsInOrder tables.pools.items
   pub inside : (p : Range) → IsIn p tables.pools.items → LiesIn p v.memory.start (length v.memory.bytes)

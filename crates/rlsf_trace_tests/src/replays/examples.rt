@@ -3,7 +3,7 @@
 use super::replays;
 use std::test::Fail;
 
-const EXAMPLES: [(&[u8], &str); 22] = [
+static EXAMPLES: [(&[u8], &str); 22] = [
     // What is given back is joined with its neighbours.
     (
         b"8x8 4096 4096\ninsert 4096 96\nalloc 1 0 1\nalloc 2 0 1\nalloc 3 0 1\nfree 1\nfree 2\nblock 4096 96 0\nblock 4096 96 1\n",

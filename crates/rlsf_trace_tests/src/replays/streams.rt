@@ -1,62 +1,55 @@
-use rlsf_text::Fault;
+//! Readers and writers that fail, that a signal interrupts, and that take little.
+
+use super::FIRST_RUN;
+use rlsf_text::{Fault, ReplayFault};
 use rlsf_trace::replay;
+use std::alloc::Global;
 use std::io;
 use std::io::{ErrorKind, Read, Write};
-use std::test::Fail;
+use std::process::Abort;
 
+/// A reader of a text, which fails behind it where `fails` is set.
 #[derive(Drop)]
-pub(super) struct Broken;
-
-impl Read for Broken {
-    fn read(&mut self, _buf: &mut [u8]) -> io::Result<usize> {
-        Err(io::Error::from(ErrorKind::BrokenPipe))
-    }
+struct Source {
+    text: &'static [u8],
+    fails: bool,
+    /// Whether a signal interrupts every other call.
+    is_interrupted: bool,
+    /// Whether the last call was interrupted.
+    was_interrupted: bool,
 }
 
-/// A stream that a signal interrupts at every other call.
-#[derive(Drop)]
-pub(super) struct Interrupted<S> {
-    pub(super) stream: S,
-    /// Whether the next call is interrupted.
-    pub(super) interrupts: bool,
-}
-
-impl<S: Read> Read for Interrupted<S> {
+impl Read for Source {
     fn read(&mut self, buf: &mut [u8]) -> io::Result<usize> {
-        let interrupts = self.interrupts;
-        self.interrupts = !interrupts;
-        if interrupts {
+        self.was_interrupted = self.is_interrupted && !self.was_interrupted;
+        if self.was_interrupted {
             return Err(io::Error::from(ErrorKind::Interrupted));
         }
-        self.stream.read(buf)
-    }
-}
-
-impl<S: Write> Write for Interrupted<S> {
-    fn write(&mut self, buf: &[u8]) -> io::Result<usize> {
-        let interrupts = self.interrupts;
-        self.interrupts = !interrupts;
-        if interrupts {
-            return Err(io::Error::from(ErrorKind::Interrupted));
+        if self.fails && self.text.is_empty() {
+            return Err(io::Error::from(ErrorKind::BrokenPipe));
         }
-        self.stream.write(buf)
-    }
-
-    fn flush(&mut self) -> io::Result<()> {
-        self.stream.flush()
+        self.text.read(buf)
     }
 }
 
 /// A writer that takes so many bytes, three at a time, and then none, or fails.
 #[derive(Drop)]
-pub(super) struct Narrow {
-    pub(super) taken: Vec<u8>,
-    pub(super) room: usize,
-    pub(super) fails: bool,
+struct Narrow {
+    taken: Vec<u8>,
+    room: usize,
+    fails: bool,
+    /// Whether a signal interrupts every other call.
+    is_interrupted: bool,
+    /// Whether the last call was interrupted.
+    was_interrupted: bool,
 }
 
 impl Write for Narrow {
     fn write(&mut self, buf: &[u8]) -> io::Result<usize> {
+        self.was_interrupted = self.is_interrupted && !self.was_interrupted;
+        if self.was_interrupted {
+            return Err(io::Error::from(ErrorKind::Interrupted));
+        }
         if self.room == 0 && self.fails {
             return Err(io::Error::from(ErrorKind::BrokenPipe));
         }
@@ -71,36 +64,178 @@ impl Write for Narrow {
     }
 }
 
+/// How a reader and a writer behave.
+#[derive(Clone, Copy)]
+struct Streams {
+    text: &'static [u8],
+    /// Whether the reader fails behind the text.
+    reader_fails: bool,
+    /// How many bytes the writer takes.
+    room: usize,
+    /// Whether the writer fails then.
+    writer_fails: bool,
+    /// Whether a signal interrupts every other call of both.
+    is_interrupted: bool,
+}
+
+/// Passes where a replay over the streams has this fault or none, and these bytes were written. All of the text is read.
+fn leaves(
+    rt: &impl Abort,
+    alloc: Global,
+    streams: Streams,
+    fault: Option<ReplayFault>,
+    written: &[u8],
+) {
+    let mut reader = Source {
+        text: streams.text,
+        fails: streams.reader_fails,
+        is_interrupted: streams.is_interrupted,
+        was_interrupted: false,
+    };
+    let mut writer = Narrow {
+        taken: Vec::new(alloc),
+        room: streams.room,
+        fails: streams.writer_fails,
+        is_interrupted: streams.is_interrupted,
+        was_interrupted: false,
+    };
+    let outcome = replay(alloc, &mut reader, &mut writer);
+    assert_eq!(rt; outcome.err(), fault);
+    assert_eq!(rt; writer.taken.as_slice(), written);
+    assert!(rt; reader.text.is_empty());
+}
+
+const NOT_READ: Option<ReplayFault> = Some(ReplayFault {
+    line: 0,
+    fault: Fault::Read,
+});
+
+const NOT_WRITTEN: Option<ReplayFault> = Some(ReplayFault {
+    line: 0,
+    fault: Fault::Write,
+});
+
+const FIRST_OUTPUT: &[u8] = b"insert some 96\nalloc 1 at 4112\nalloc 2 at 4144\nalloc 3 none\n";
+
+/// Streams of the first run, without faults.
+const STREAMS: Streams = Streams {
+    text: FIRST_RUN,
+    reader_fails: false,
+    room: FIRST_OUTPUT.len(),
+    writer_fails: true,
+    is_interrupted: false,
+};
+
+/// A text that makes no pool.
+const NO_POOL: Streams = Streams {
+    text: b"8x8 4096 96\ninsert 4096 0\n",
+    ..STREAMS
+};
+
+static CASES: [(Streams, Option<ReplayFault>, &[u8]); 11] = [
+    (
+        Streams {
+            text: b"8x8 1 2\n",
+            ..STREAMS
+        },
+        None,
+        b"",
+    ),
+    (
+        Streams {
+            text: b"",
+            reader_fails: true,
+            room: usize::MAX,
+            ..STREAMS
+        },
+        NOT_READ,
+        b"",
+    ),
+    (
+        Streams {
+            text: b"",
+            reader_fails: true,
+            room: 99,
+            ..STREAMS
+        },
+        NOT_READ,
+        b"",
+    ),
+    // The same where it fails behind a whole trace.
+    (
+        Streams {
+            reader_fails: true,
+            room: 99,
+            ..STREAMS
+        },
+        NOT_READ,
+        b"",
+    ),
+    // The writer takes three bytes at a time, so it is interrupted many times.
+    (
+        Streams {
+            is_interrupted: true,
+            ..STREAMS
+        },
+        None,
+        FIRST_OUTPUT,
+    ),
+    (
+        Streams {
+            room: 15,
+            ..NO_POOL
+        },
+        None,
+        b"insert none\n",
+    ),
+    (
+        Streams {
+            room: 12,
+            ..NO_POOL
+        },
+        None,
+        b"insert none\n",
+    ),
+    (
+        Streams {
+            room: 12,
+            writer_fails: false,
+            ..NO_POOL
+        },
+        None,
+        b"insert none\n",
+    ),
+    (
+        Streams {
+            room: 11,
+            ..NO_POOL
+        },
+        NOT_WRITTEN,
+        b"insert none",
+    ),
+    (
+        Streams {
+            room: 10,
+            writer_fails: false,
+            ..NO_POOL
+        },
+        NOT_WRITTEN,
+        b"insert non",
+    ),
+    (Streams { room: 0, ..NO_POOL }, NOT_WRITTEN, b""),
+];
+
 #[test]
-fn inputs(rt: HostRuntime) {
-    let mut writer = Vec::new(rt.alloc());
-    let mut reader = b"8x8 1 2\n".as_slice();
-    assert_eq!(rt; replay(rt.alloc(), &mut reader, &mut writer), Ok(()));
-    assert!(rt; reader.is_empty());
-    let broken = replay(rt.alloc(), &mut Broken, &mut writer);
-    assert_eq!(rt; broken, Err(Fault::Read.at_line(0)));
-    assert!(rt; writer.is_empty());
+fn faults_and_interruptions(rt: HostRuntime) {
+    for (streams, fault, written) in CASES {
+        leaves(&rt, rt.alloc(), streams, fault, written);
+    }
 }
 
 #[test]
-fn outputs(rt: HostRuntime) {
-    for (room, fails, want) in [
-        (15, true, "insert none\n"),
-        (12, true, "insert none\n"),
-        (12, false, "insert none\n"),
-        (11, true, "insert none"),
-        (10, false, "insert non"),
-        (0, true, ""),
-    ] {
-        let mut writer = Narrow {
-            taken: Vec::new(rt.alloc()),
-            room,
-            fails,
-        };
-        let mut reader = b"8x8 4096 96\ninsert 4096 0\n".as_slice();
-        let outcome = replay(rt.alloc(), &mut reader, &mut writer);
-        assert_eq!(rt; outcome.is_ok(), room >= 12);
-        assert!(rt; outcome.is_ok() || outcome == Err(Fault::Write.at_line(0)));
-        assert_eq!(rt; writer.taken.as_slice(), want.as_bytes());
+fn writers_without_room(rt: HostRuntime) {
+    for room in 0..FIRST_OUTPUT.len() {
+        let streams = Streams { room, ..STREAMS };
+        leaves(&rt, rt.alloc(), streams, NOT_WRITTEN, &FIRST_OUTPUT[..room]);
     }
 }

@@ -13,7 +13,6 @@ use rlsf_text::{Answer, Op, TraceError};
 use rlsf_tlsf::Tlsf;
 use std::alloc::Global;
 use std::num::NonZeroUsize;
-use std::test::Fail;
 
 const FIRST: [u32; 40] = [
     0x2265b1f5, 0x91b7584a, 0xd8f16adf, 0xcd613e30, 0xc386bbc4, 0x1027c4d1, 0x414c343c, 0x1e2feb89,
@@ -94,22 +93,22 @@ struct Plan {
 }
 
 /// Cuts a range into chunks of at most `most` bytes while 64 or more are left, and tells how many of its bytes they have.
-fn add_chunks(chunks: &mut Vec<Range>, range: Range, most: usize) -> Result<usize, Fail> {
+fn add_chunks(chunks: &mut Vec<Range>, range: Range, most: usize) -> Option<usize> {
     let mut taken: usize = 0;
     for _ in 0..range.len / 64 {
         let len = (range.len / 32 * 32).wrapping_sub(taken).min(most);
         if len >= 64 {
             let start = range.start.wrapping_add(taken);
-            chunks.push(Range { start, len })?;
+            chunks.push(Range { start, len }).ok()?;
             taken = taken.wrapping_add(len);
         }
     }
-    Ok(taken)
+    Some(taken)
 }
 
 impl Plan {
     /// An insert of a pool, whose start and length the word chooses.
-    fn begin(alloc: Global, word: u32, most: usize) -> Result<Plan, Fail> {
+    fn begin(alloc: Global, word: u32, most: usize) -> Option<Plan> {
         let [start, low, high, shift] = word.to_le_bytes();
         let skipped = (start % 32) as usize;
         let part = u16::from_le_bytes([low, high]) >> (shift % 8);
@@ -122,11 +121,13 @@ impl Plan {
         let start = body.start - skipped;
         let mut ops = Vec::new(alloc);
         let len = body.len + skipped;
-        ops.push(Op::Insert(Range { start, len }))?;
+        ops.push(Op::Insert(Range { start, len })).ok()?;
         let len = taken.wrapping_add(skipped);
         let mut pool_answers = Vec::new(alloc);
-        pool_answers.push(Answer::Inserted(NonZeroUsize::new(len)))?;
-        Ok(Plan {
+        pool_answers
+            .push(Answer::Inserted(NonZeroUsize::new(len)))
+            .ok()?;
+        Some(Plan {
             ops,
             pool_answers,
             pool: Range { start, len },
@@ -136,7 +137,7 @@ impl Plan {
     }
 
     /// An append of some of the memory behind the pool.
-    fn append(&mut self, word: u32) -> Result<(), Fail> {
+    fn append(&mut self, word: u32) -> Option<()> {
         let [_, low, high, _] = word.to_le_bytes();
         let start = self.pool.start.wrapping_add(self.pool.len);
         let room = (MEMORY_START + MEMORY_LEN).saturating_sub(start);
@@ -150,72 +151,106 @@ impl Plan {
             _ => add_chunks(&mut self.chunks, range, self.most)?,
         };
         self.pool.len = self.pool.len.wrapping_add(taken);
-        self.ops.push(Op::Append(range))?;
-        self.pool_answers.push(Answer::Appended(taken))?;
-        Ok(())
+        self.ops.push(Op::Append(range)).ok()?;
+        self.pool_answers.push(Answer::Appended(taken)).ok()?;
+        Some(())
     }
 
     /// Frees of all names, and a walk over the pool, each of whose chunks is one free block then.
-    fn end(&mut self) -> Result<(), Fail> {
+    fn end(&mut self) -> Option<()> {
         for name in 0..NAMES {
-            self.ops.push(Op::Free(name))?;
+            self.ops.push(Op::Free(name)).ok()?;
         }
         for (index, chunk) in self.chunks.iter().enumerate() {
             let start = chunk.start;
             let len = chunk.len.wrapping_sub(32);
-            self.ops.push(Op::Block(self.pool, index))?;
+            self.ops.push(Op::Block(self.pool, index)).ok()?;
             self.pool_answers
-                .push(Answer::Block(Some((Range { start, len }, false))))?;
+                .push(Answer::Block(Some((Range { start, len }, false))))
+                .ok()?;
         }
-        self.ops.push(Op::Block(self.pool, self.chunks.len()))?;
-        self.pool_answers.push(Answer::Block(None))?;
-        Ok(())
+        self.ops.push(Op::Block(self.pool, self.chunks.len())).ok()?;
+        self.pool_answers.push(Answer::Block(None)).ok()?;
+        Some(())
     }
 }
 
-/// What a word does to a payload: allocates, frees or reallocates it, and reads the first and the last byte that were asked
-/// for. `sizes` are those that the names were given last.
-fn payload_ops(word: u32, scale: usize, sizes: &mut [usize; NAMES]) -> Result<[Op; 5], Fail> {
+/// What a word says of a payload.
+#[derive(Drop)]
+struct Draw {
+    kind: u8,
+    name: usize,
+    size: usize,
+    align: usize,
+    byte: u8,
+}
+
+fn drawn(word: u32, scale: usize) -> Draw {
     let [kind, low, high, shape] = word.to_le_bytes();
-    let name = kind as usize / 8 % NAMES;
     let part = u16::from_le_bytes([low, high]) as usize;
-    let size = part.wrapping_mul(scale) >> 16 >> (shape / 6 % 4);
-    let end = size.saturating_sub(1);
-    let old_end = sizes[name].saturating_sub(1);
-    if kind % 8 > 2 && kind % 8 < 5 {
-        return Ok([
-            Op::Get(name, 0),
-            Op::Get(name, old_end),
+    Draw {
+        kind,
+        name: kind as usize / 8 % NAMES,
+        size: part.wrapping_mul(scale) >> 16 >> (shape / 6 % 4),
+        align: 1 << (shape % 6),
+        byte: low,
+    }
+}
+
+/// Frees a payload, and reads the first and the last byte that were asked for.
+fn free_ops(draw: Draw, last: usize) -> [Op; 5] {
+    let name = draw.name;
+    let free = if draw.kind < 128 {
+        Op::Free(name)
+    } else {
+        Op::FreeUnknown(name)
+    };
+    [
+        Op::Get(name, 0),
+        Op::Get(name, last),
+        Op::Usable(name),
+        free,
+        Op::Get(name, 0),
+    ]
+}
+
+/// Allocates or reallocates a payload, and reads the first and the last byte that were asked for: of a payload that moves, of
+/// both its sizes.
+fn size_ops(draw: Draw, old_last: usize) -> Option<[Op; 5]> {
+    let name = draw.name;
+    let last = draw.size.saturating_sub(1);
+    if draw.kind % 8 < 3 {
+        return Some([
+            Op::Alloc(name, Layout::from_size_align(draw.size, draw.align).ok()?),
             Op::Usable(name),
-            if kind < 128 {
-                Op::Free(name)
-            } else {
-                Op::FreeUnknown(name)
-            },
+            Op::Fill(name, draw.byte),
             Op::Get(name, 0),
+            Op::Get(name, last),
         ]);
     }
-    sizes[name] = size;
-    if kind % 8 < 3 {
-        return Ok([
-            Op::Alloc(name, Layout::from_size_align(size, 1 << (shape % 6))?),
-            Op::Usable(name),
-            Op::Fill(name, low),
-            Op::Get(name, 0),
-            Op::Get(name, end),
-        ]);
-    }
-    Ok([
-        Op::Realloc(name, size),
+    Some([
+        Op::Realloc(name, draw.size),
         Op::Usable(name),
         Op::Get(name, 0),
-        Op::Get(name, old_end.min(end)),
-        Op::Fill(name, low),
+        Op::Get(name, old_last.min(last)),
+        Op::Fill(name, draw.byte),
     ])
 }
 
+/// What a word does to a payload. `sizes` are those that the names were given last.
+fn payload_ops(word: u32, scale: usize, sizes: &mut [usize; NAMES]) -> Option<[Op; 5]> {
+    let draw = drawn(word, scale);
+    let name = draw.name % NAMES;
+    let old_last = sizes[name].saturating_sub(1);
+    if draw.kind % 8 == 3 || draw.kind % 8 == 4 {
+        return Some(free_ops(draw, old_last));
+    }
+    sizes[name] = draw.size;
+    size_ops(draw, old_last)
+}
+
 /// The plan of a list, where chunks have at most `most` bytes.
-fn plan_of(alloc: Global, list: &[u32; 40], most: usize) -> Result<Plan, Fail> {
+fn plan_of(alloc: Global, list: &[u32; 40], most: usize) -> Option<Plan> {
     let mut plan = Plan::begin(alloc, list[0], most)?;
     let scale = plan.pool.len.min(most);
     let mut sizes = [0; NAMES];
@@ -224,11 +259,12 @@ fn plan_of(alloc: Global, list: &[u32; 40], most: usize) -> Result<Plan, Fail> {
             plan.append(*word)?;
         } else {
             plan.ops
-                .extend_from_slice(&payload_ops(*word, scale, &mut sizes)?)?;
+                .extend_from_slice(&payload_ops(*word, scale, &mut sizes)?)
+                .ok()?;
         }
     }
     plan.end()?;
-    Ok(plan)
+    Some(plan)
 }
 
 /// A live payload, as the answers tell of it.
@@ -266,14 +302,17 @@ fn follow_free(op: Op, answer: Answer) -> (bool, Option<Payload>) {
     let Answer::Placed(placed) = answer else {
         return (false, None);
     };
-    let payload = placed.map(|addr| Payload {
+    let Some(addr) = placed else {
+        return (true, None);
+    };
+    let payload = Payload {
         addr: addr.get(),
         align: layout.align(),
         usable: layout.size(),
         value: 0,
         filled: 0,
-    });
-    (true, payload)
+    };
+    (true, Some(payload))
 }
 
 /// Whether the answer is right where the payload has the op's name, and the payload that has it then.
@@ -321,9 +360,13 @@ fn is_overlap(one: &Payload, other: &Payload) -> bool {
 /// Whether the payload lies at its alignment in a chunk, before the chunk's last header.
 fn is_inside(payload: &Payload, chunks: &[Range]) -> bool {
     let end = payload.addr.wrapping_add(payload.usable).wrapping_add(32);
-    payload.addr % payload.align.max(1) == 0
-        && chunks.iter().any(|chunk| chunk.start <= payload.addr
-            && end <= chunk.start.wrapping_add(chunk.len))
+    let is_aligned = payload.addr % payload.align.max(1) == 0;
+    for chunk in chunks {
+        if chunk.start <= payload.addr && end <= chunk.start.wrapping_add(chunk.len) {
+            return is_aligned;
+        }
+    }
+    false
 }
 
 /// The index of the first wrong answer.
@@ -355,11 +398,13 @@ fn is_apart(payload: Option<Payload>, chunks: &[Range], live: &[Option<Payload>]
     let Some(payload) = payload else {
         return true;
     };
-    let overlaps = live
-        .iter()
-        .flatten()
-        .filter(|other| is_overlap(&payload, other));
-    is_inside(&payload, chunks) && overlaps.count() <= 1
+    let mut overlaps: u32 = 0;
+    for other in live.iter().flatten() {
+        if is_overlap(&payload, other) {
+            overlaps = overlaps.wrapping_add(1);
+        }
+    }
+    is_inside(&payload, chunks) && overlaps <= 1
 }
 
 /// Names the type of an allocator. A proof knows that it fits in memory where a caller names it.
@@ -367,109 +412,107 @@ type Shape<'a, FLBitmap, SLBitmap, const FLLEN: usize, const SLLEN: usize> = Opt
     &'a Tlsf<FLBitmap, SLBitmap, FLLEN, SLLEN>,
 >;
 
-/// The index of the first wrong answer to a list's ops.
+/// The index of the first wrong answer to a list's ops; nothing where the machine refused memory.
 fn wrong_of<FLBitmap: Bitmap, SLBitmap: Bitmap, const FLLEN: usize, const SLLEN: usize>(
     alloc: Global,
     list: &[u32; 40],
     _shape: Shape<'_, FLBitmap, SLBitmap, FLLEN, SLLEN>,
-) -> Result<Option<usize>, Fail>
+) -> Option<Option<usize>>
     requires { IsValid FLBitmap.width SLBitmap.width FLLEN SLLEN }
 {
     let most = if FLLEN < 59 { 32 << FLLEN } else { usize::MAX };
     let plan = plan_of(alloc, list, most)?;
-    let memory = Memory::new(alloc, MEMORY_START, MEMORY_LEN)?;
+    let memory = Memory::new(alloc, MEMORY_START, MEMORY_LEN).ok()?;
     let mut tlsf = Tlsf::<FLBitmap, SLBitmap, FLLEN, SLLEN>::new(memory);
     let mut answers = Vec::new(alloc);
-    run(alloc, &mut tlsf, plan.ops.as_slice(), &mut answers)?;
-    Ok(first_wrong(&plan, answers.as_slice()))
+    run(alloc, &mut tlsf, plan.ops.as_slice(), &mut answers).ok()?;
+    Some(first_wrong(&plan, answers.as_slice()))
 }
 
-/// The index of the first list with a wrong answer to its ops, and the index of that answer.
+/// The index of the first list with a wrong answer to its ops, and the index of that answer: past all where the machine refused
+/// memory.
 fn wrong<FLBitmap: Bitmap, SLBitmap: Bitmap, const FLLEN: usize, const SLLEN: usize>(
     alloc: Global,
     shape: Shape<'_, FLBitmap, SLBitmap, FLLEN, SLLEN>,
-) -> Result<Option<(usize, usize)>, Fail>
+) -> Option<(usize, usize)>
     requires { IsValid FLBitmap.width SLBitmap.width FLLEN SLLEN }
 {
     for index in 0..LISTS {
-        if let Some(answer) = wrong_of(alloc, &list(index), shape)? {
-            return Ok(Some((index, answer)));
+        match wrong_of(alloc, &list(index), shape) {
+            Some(None) => {}
+            Some(Some(answer)) => return Some((index, answer)),
+            None => return Some((index, usize::MAX)),
         }
     }
-    Ok(None)
+    None
 }
 
 #[test]
-fn few_classes(rt: HostRuntime) -> Result<(), Fail> {
+fn few_classes(rt: HostRuntime) {
     let alloc = rt.alloc();
     let found = [
-        wrong::<u8, u8, 1, 1>(alloc, None)?,
-        wrong::<u8, u8, 1, 2>(alloc, None)?,
-        wrong::<u8, u8, 1, 4>(alloc, None)?,
-        wrong::<u8, u8, 1, 8>(alloc, None)?,
-        wrong::<u8, u8, 3, 4>(alloc, None)?,
+        wrong::<u8, u8, 1, 1>(alloc, None),
+        wrong::<u8, u8, 1, 2>(alloc, None),
+        wrong::<u8, u8, 1, 4>(alloc, None),
+        wrong::<u8, u8, 1, 8>(alloc, None),
+        wrong::<u8, u8, 3, 4>(alloc, None),
     ];
     assert_eq!(rt; found, [None; 5]);
-    Ok(())
 }
 
 #[test]
-fn rows_of_8_bits(rt: HostRuntime) -> Result<(), Fail> {
+fn rows_of_8_bits(rt: HostRuntime) {
     let alloc = rt.alloc();
     let found = [
-        wrong::<u8, u8, 5, 4>(alloc, None)?,
-        wrong::<u8, u8, 8, 1>(alloc, None)?,
-        wrong::<u8, u8, 8, 8>(alloc, None)?,
-        wrong::<u16, u8, 3, 4>(alloc, None)?,
-        wrong::<u16, u8, 11, 4>(alloc, None)?,
-        wrong::<u16, u8, 16, 4>(alloc, None)?,
+        wrong::<u8, u8, 5, 4>(alloc, None),
+        wrong::<u8, u8, 8, 1>(alloc, None),
+        wrong::<u8, u8, 8, 8>(alloc, None),
+        wrong::<u16, u8, 3, 4>(alloc, None),
+        wrong::<u16, u8, 11, 4>(alloc, None),
+        wrong::<u16, u8, 16, 4>(alloc, None),
     ];
     assert_eq!(rt; found, [None; 6]);
-    Ok(())
 }
 
 #[test]
-fn rows_of_16_classes(rt: HostRuntime) -> Result<(), Fail> {
+fn rows_of_16_classes(rt: HostRuntime) {
     let alloc = rt.alloc();
     let found = [
-        wrong::<u16, u16, 3, 16>(alloc, None)?,
-        wrong::<u16, u16, 11, 16>(alloc, None)?,
-        wrong::<u16, u16, 16, 16>(alloc, None)?,
-        wrong::<u16, u32, 3, 16>(alloc, None)?,
-        wrong::<u16, u32, 11, 16>(alloc, None)?,
-        wrong::<u16, u32, 16, 16>(alloc, None)?,
+        wrong::<u16, u16, 3, 16>(alloc, None),
+        wrong::<u16, u16, 11, 16>(alloc, None),
+        wrong::<u16, u16, 16, 16>(alloc, None),
+        wrong::<u16, u32, 3, 16>(alloc, None),
+        wrong::<u16, u32, 11, 16>(alloc, None),
+        wrong::<u16, u32, 16, 16>(alloc, None),
     ];
     assert_eq!(rt; found, [None; 6]);
-    Ok(())
 }
 
 #[test]
-fn rows_of_32_classes(rt: HostRuntime) -> Result<(), Fail> {
+fn rows_of_32_classes(rt: HostRuntime) {
     let alloc = rt.alloc();
     let found = [
-        wrong::<u16, u32, 3, 32>(alloc, None)?,
-        wrong::<u16, u32, 11, 32>(alloc, None)?,
-        wrong::<u16, u32, 16, 32>(alloc, None)?,
-        wrong::<u32, u32, 20, 32>(alloc, None)?,
-        wrong::<u32, u32, 27, 32>(alloc, None)?,
-        wrong::<u32, u32, 28, 32>(alloc, None)?,
-        wrong::<u32, u32, 29, 32>(alloc, None)?,
-        wrong::<u32, u32, 32, 32>(alloc, None)?,
+        wrong::<u16, u32, 3, 32>(alloc, None),
+        wrong::<u16, u32, 11, 32>(alloc, None),
+        wrong::<u16, u32, 16, 32>(alloc, None),
+        wrong::<u32, u32, 20, 32>(alloc, None),
+        wrong::<u32, u32, 27, 32>(alloc, None),
+        wrong::<u32, u32, 28, 32>(alloc, None),
+        wrong::<u32, u32, 29, 32>(alloc, None),
+        wrong::<u32, u32, 32, 32>(alloc, None),
     ];
     assert_eq!(rt; found, [None; 8]);
-    Ok(())
 }
 
 #[test]
-fn most_rows(rt: HostRuntime) -> Result<(), Fail> {
+fn most_rows(rt: HostRuntime) {
     let alloc = rt.alloc();
     let found = [
-        wrong::<u64, u64, 58, 8>(alloc, None)?,
-        wrong::<u64, u64, 59, 8>(alloc, None)?,
-        wrong::<u64, u64, 60, 8>(alloc, None)?,
-        wrong::<u64, u64, 61, 8>(alloc, None)?,
-        wrong::<u64, u64, 64, 8>(alloc, None)?,
+        wrong::<u64, u64, 58, 8>(alloc, None),
+        wrong::<u64, u64, 59, 8>(alloc, None),
+        wrong::<u64, u64, 60, 8>(alloc, None),
+        wrong::<u64, u64, 61, 8>(alloc, None),
+        wrong::<u64, u64, 64, 8>(alloc, None),
     ];
     assert_eq!(rt; found, [None; 5]);
-    Ok(())
 }

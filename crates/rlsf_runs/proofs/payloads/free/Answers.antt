@@ -9,5 +9,5 @@ pub returns-clause-does : goal.returns-clause-does
 returns-clause-does g c = λ s at.
     let p = c.in-Some.payload in
     let there = sym c.take_name.ensures.value ∙ c.in-Some.is in
-    let (t, step, stands, keeps) = c.deallocate.ensures.step s.machine at.stands (at.live c.args.name p there) in
+    let (t, step, stands, keeps) = c.deallocate.ensures.step s.machine at.stands (at.named.live c.args.name p there) in
     freed at c.deallocate.ensures.place t stands keeps c.args.name p there step c.take_name.ensures.pools c.take_name.ensures.names

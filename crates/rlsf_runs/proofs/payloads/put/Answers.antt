@@ -1,12 +1,11 @@
 use Rattle.std.proofs.Common.{length, slice_set, arith, refl, sym, ◌∙◌, ap, subst}
 use Rattle.std.proofs.lemmas.List.{length-set}
 use Rattle.rlsf_machine.specs.Run.{Fills}
-use Rattle.rlsf_machine.proofs.Live.{fill_leaves_others}
 use Rattle.rlsf_text.specs.declared.op.Answer.TheVariants.{Refused}
 use Rattle.rlsf_text.specs.declared.op.Op.TheVariants.{Put}
 use Rattle.rlsf_text.specs.declared.op.TraceError.TheVariants.{BadOffset}
+use Rattle.rlsf_runs.specs.Names.{address}
 use Rattle.rlsf_runs.specs.Runs.{with_machine}
-use Rattle.rlsf_runs.specs.Steps.Tables.{address}
 use Rattle.rlsf_runs.proofs.NamedPayloads.{IsAt-filled, LeadsOn-nothing, owned}
 use Rattle.rlsf_runs.proofs.payloads.put.Goals as goal
 
@@ -34,6 +33,6 @@ returns-clause-does g c = λ s at.
     let fills = subst (λ a. Fills s.machine a (slice_set u.bytes c.args.offset c.args.byte) t) (sym holds.1) (subst (λ l. Fills s.machine (address p) (slice_set l c.args.offset c.args.byte) t) lent step) in (
       with_machine t s,
       (u, owns, omega (arith, c.if-offset-payload.false, ap length bytes, long), t, fills, refl),
-      IsAt-filled at (c.payload_mut.ensures.place w) t stands (fill_leaves_others s.machine t (address p) w step).0 (address p) w step,
+      IsAt-filled at (c.payload_mut.ensures.place w) t stands (address p) w step,
       keeps,
     )

@@ -5,26 +5,28 @@ use Rattle.rlsf_base.specs.Layout.{IsLayout}
 use Rattle.rlsf_machine.specs.Reallocate.{Reallocates}
 use Rattle.rlsf_machine.specs.State.{State, Used, IsLive}
 use Rattle.rlsf_blocks.specs.Spare.{KeepsSpare}
+use Rattle.rlsf_runs.specs.Names.{address}
 use Rattle.rlsf_runs.specs.Runs.{Owns, RunState, with_name}
-use Rattle.rlsf_runs.specs.Steps.Tables.{address, IsAt}
-use Rattle.rlsf_runs.proofs.NamedPayloads.{IsAt-reallocated, IsAt-unmoved, owned_live, reallocation_keeps_chunks, reallocation_refused}
+use Rattle.rlsf_runs.specs.Steps.Tables.{IsAt}
+use Rattle.rlsf_runs.proofs.Named.{AreNamed-reallocated, owned_live}
+use Rattle.rlsf_runs.proofs.NamedPayloads.{IsAt-named, IsAt-unmoved, reallocation_keeps_chunks, reallocation_refused}
 use Rattle.rlsf_runs.proofs.payloads.realloc.Goals as goal
 
 pub returns-in-Some-placed-clause-does : goal.returns-in-Some-placed-clause-does
 returns-in-Some-placed-clause-does g c = λ s at.
     let p = c.in-Some.old in
     let there = sym c.payload.ensures ∙ c.in-Some.is in
-    let live = at.live c.args.name p there in
+    let live = at.named.live c.args.name p there in
     let to = non_zero_usize_get c.in-Some-placed.addr in
     let (size, align) = c.in-Ok.ensures.layout in
     let (t, moved, stands, keeps) = c.in-Some-placed.ensures.step s.machine at.stands (subst (IsLive s.machine (address p)) (sym align) live) in
     let step = subst (λ n. Reallocates g.row.SLLEN s.machine (address p) n (Some to) t) size moved in
-    let (u, owns, holds, its) = owned_live at c.args.name p there in
-    let valid = subst (IsLayout c.args.size) (sym its) (c.in-Ok.ensures.succeeds.0 refl) in (
+    let (u, owns, holds, its) = owned_live at.named c.args.name p there in
+    let valid = subst (IsLayout c.args.size) (sym its) (c.in-Ok.ensures.succeeds.0 refl) in
+    let named = AreNamed-reallocated at.named g.row.FLLEN g.row.SLLEN _ t c.args.name c.args.size (address p) to _ at.stands.well_formed (owns.1 ∙ ap Some holds.1) live step refl c.add_name.ensures.names in (
       _,
       (u, owns, valid, t, subst (λ a. Reallocates g.row.SLLEN s.machine a c.args.size (Some to) t) (sym holds.1) step, refl),
-      IsAt-reallocated at c.in-Some-placed.ensures.place t stands (reallocation_keeps_chunks g.row.SLLEN s.machine t (address p) c.args.size (Some to) step) c.args.name c.args.size (address p) to _ (owns.1 ∙ ap Some holds.1) live step refl
-          c.add_name.ensures.pools c.add_name.ensures.names,
+      IsAt-named at c.in-Some-placed.ensures.place t stands (reallocation_keeps_chunks g.row.SLLEN s.machine t (address p) c.args.size (Some to) step) c.add_name.ensures.pools named,
       keeps,
     )
 
@@ -32,18 +34,18 @@ pub returns-in_default-placed-clause-does : goal.returns-in_default-placed-claus
 returns-in_default-placed-clause-does g c = λ s at.
     let p = c.in-Some.old in
     let there = sym c.payload.ensures ∙ c.in-Some.is in
-    let live = at.live c.args.name p there in
+    let live = at.named.live c.args.name p there in
     let (size, align) = c.in-Ok.ensures.layout in
     let (t, moved, stands, keeps) = c.reallocate-placed.ensures.step s.machine at.stands (subst (IsLive s.machine (address p)) (sym align) live) in
     let none : option_map non_zero_usize_get c.reallocate-placed.result ≡ None = ap (option_map non_zero_usize_get) c.in_default-placed.is in
     let step = subst (λ o. Reallocates g.row.SLLEN s.machine (address p) c.args.size o t) none (subst (λ n. Reallocates g.row.SLLEN s.machine (address p) n (option_map non_zero_usize_get c.reallocate-placed.result) t) size moved) in
-    let (u, owns, holds, its) = owned_live at c.args.name p there in
+    let (u, owns, holds, its) = owned_live at.named c.args.name p there in
     let valid = subst (IsLayout c.args.size) (sym its) (c.in-Ok.ensures.succeeds.0 refl) in
     subst (λ o. (x : RunState) × ((v : Used) × Owns s c.args.name v × IsLayout c.args.size v.align × (machine : State) × Reallocates g.row.SLLEN s.machine v.payload c.args.size o machine
     × (x ≡ record { machine = machine; named = with_name c.args.name o s.named; pools = s.pools }))
     × IsAt g.row.FLLEN g.row.SLLEN c.reallocate-placed.new.self c.args.tables.now x × KeepsSpare c.args.tlsf.now.memory s.machine c.reallocate-placed.new.self.memory x.machine) (sym none) (
       _,
       (u, owns, valid, t, subst (λ a. Reallocates g.row.SLLEN s.machine a c.args.size None t) (sym holds.1) step, refl),
-      IsAt-unmoved at c.reallocate-placed.ensures.place t stands (reallocation_keeps_chunks g.row.SLLEN s.machine t (address p) c.args.size None step) (reallocation_refused g.row.SLLEN s.machine t (address p) c.args.size step),
+      IsAt-unmoved at c.reallocate-placed.ensures.place t stands (reallocation_refused g.row.SLLEN s.machine t (address p) c.args.size step),
       keeps,
     )

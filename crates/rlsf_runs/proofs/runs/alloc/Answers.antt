@@ -6,18 +6,20 @@ use Rattle.rlsf_machine.specs.State.{State}
 use Rattle.rlsf_blocks.specs.Spare.{KeepsSpare}
 use Rattle.rlsf_runs.specs.Runs.{RunState, with_name}
 use Rattle.rlsf_runs.specs.Steps.Tables.{IsAt}
-use Rattle.rlsf_runs.proofs.NamedPayloads.{allocation_keeps_chunks, IsAt-allocated, IsAt-unmoved, none_is, unnamed}
+use Rattle.rlsf_runs.proofs.Named.{AreNamed-allocated, unnamed}
+use Rattle.rlsf_runs.proofs.NamedPayloads.{allocation_keeps_chunks, IsAt-named, IsAt-unmoved, none_is}
 use Rattle.rlsf_runs.proofs.runs.alloc.Goals as goal
 
 pub returns-in-Some-clause-does : goal.returns-in-Some-clause-does
 returns-in-Some-clause-does g c = λ s at.
     let (t, step, stands, keeps) = c.in-Some.ensures.step s.machine at.stands in
     let layout = c.args.layout in
-    let free = unnamed at c.args.name (none_is _ (sym c.contains_key.ensures ∙ c.if-contains_key.false)) in (
+    let addr = non_zero_usize_get c.in-Some.addr in
+    let free = unnamed at.named c.args.name (none_is _ (sym c.contains_key.ensures ∙ c.if-contains_key.false)) in
+    let named = AreNamed-allocated at.named g.row.FLLEN g.row.SLLEN _ t c.args.name layout.size layout.align addr _ stands.well_formed step refl c.align.ensures.value c.add_name.ensures.names in (
       _,
       (free, t, step, refl),
-      IsAt-allocated at c.in-Some.ensures.place t stands (allocation_keeps_chunks g.row.SLLEN s.machine t layout.size layout.align (Some (non_zero_usize_get c.in-Some.addr)) step) c.args.name layout.size layout.align (non_zero_usize_get c.in-Some.addr) _ layout.valid.aligned step refl
-          c.align.ensures.value c.add_name.ensures.pools c.add_name.ensures.names,
+      IsAt-named at c.in-Some.ensures.place t stands (allocation_keeps_chunks g.row.SLLEN s.machine t layout.size layout.align (Some addr) step) c.add_name.ensures.pools named,
       keeps,
     )
 
@@ -25,10 +27,10 @@ pub returns-in_default-clause-does : goal.returns-in_default-clause-does
 returns-in_default-clause-does g c = λ s at.
     let (t, step, stands, keeps) = c.allocate-placed.ensures.step s.machine at.stands in
     let layout = c.args.layout in
-    let free = unnamed at c.args.name (none_is _ (sym c.contains_key.ensures ∙ c.if-contains_key.false)) in
+    let free = unnamed at.named c.args.name (none_is _ (sym c.contains_key.ensures ∙ c.if-contains_key.false)) in
     let none : option_map non_zero_usize_get c.allocate-placed.result ≡ None = ap (option_map non_zero_usize_get) c.in_default.is in
     let refused = subst (λ o. Allocates g.row.SLLEN s.machine layout.size layout.align o t) none step in
     subst (λ o. (x : RunState) × ((s.named c.args.name ≡ None) × (machine : State) × Allocates g.row.SLLEN s.machine c.args.layout.size c.args.layout.align o machine
     × (x ≡ record { machine = machine; named = with_name c.args.name o s.named; pools = s.pools }))
     × IsAt g.row.FLLEN g.row.SLLEN c.allocate-placed.new.self c.args.tables.now x × KeepsSpare c.args.tlsf.now.memory s.machine c.allocate-placed.new.self.memory x.machine) (sym none)
-    (_, (free, t, refused, refl), IsAt-unmoved at c.allocate-placed.ensures.place t stands (allocation_keeps_chunks g.row.SLLEN s.machine t layout.size layout.align None refused) refused.1, keeps)
+    (_, (free, t, refused, refl), IsAt-unmoved at c.allocate-placed.ensures.place t stands refused.1, keeps)

@@ -1,0 +1,59 @@
+//! Runs traces with allocators over sources that follow lists of answers, to compare them with what a model says of them: reads
+//! runs from standard input, and writes to standard output what each answers and what its source was asked.
+//!
+//! A run begins with a line `run CAPABILITIES MIN_ALIGN`. CAPABILITIES is what its source can do: some of `dealloc`, `grow` and
+//! `contiguous`, with `+` between them, or `-` for none. MIN_ALIGN is a power of two, of which the starts of its ranges are
+//! multiples. Then come the source's answers to its questions, each a line `answer START LEN`, which gives a range,
+//! `answer LEN`, which grows one, or `answer none`; and then the text of a trace, whose memory is the source's space. An answer
+//! that the source may not give counts as none, and so does each one past the last.
+//!
+//! For a run there is a line `run NUMBER`, counted from 1, then a line for each op, as in the replay of a trace, and then a line
+//! for each question: `asked 96 got 4097 96` for a range, `asked 4097 96 to grow to 159 got 159` for growth, each with
+//! `got none` where it was refused, and `given back 4097 159` for a range that goes back.
+//!
+//! A text that isn't so ends the program with status 1.
+//!
+//! The script `random_runs.py` writes the runs and what a model says of them: first random ones, and at the end those of the
+//! original's tests of this allocator, which interpret fixed lists of random bytes as calls.
+#![tactic(auto)]
+
+mod error;
+mod output;
+mod reading;
+mod replays;
+
+use error::{Failure, ReplayError};
+use replays::output_of;
+use std::io;
+use std::process::ExitCode;
+
+fn main(rt: HostRuntime) -> ExitCode {
+    match replay(&rt) {
+        Ok(()) => ExitCode::SUCCESS,
+        Err(error) => {
+            // Where standard error fails too, only the status tells of the error.
+            let _ = eprintln!(rt; "{error}");
+            ExitCode::FAILURE
+        }
+    }
+}
+
+/// Replays all runs, and prints each before the next is begun.
+fn replay(rt: &(impl Input + Print + AllocGlobal)) -> Result<(), ReplayError> {
+    let input = io::read_to_string(rt.alloc(), rt.reader()).map_err(|error| in_run(
+        0,
+        error.into(),
+    ))?;
+    let runs = input.strip_prefix("run ").ok_or(in_run(0, Failure::Head))?;
+    let mut number: usize = 0;
+    for text in runs.split("\nrun ") {
+        number = number.saturating_add(1);
+        let output = output_of(rt.alloc(), text).map_err(|failure| in_run(number, failure))?;
+        print!(rt; "run {number}\n{output}").map_err(|error| in_run(number, error.into()))?;
+    }
+    Ok(())
+}
+
+fn in_run(run: usize, failure: Failure) -> ReplayError {
+    ReplayError { run, failure }
+}

@@ -1,0 +1,72 @@
+//! Replays of runs.
+
+ghost use Rattle.rlsf_flex.specs.StandsFor.{FlexStandsFor};
+ghost use Rattle.rlsf_listed.specs.Listed.{Listed, MayOwe};
+ghost use Rattle.rlsf_machine.specs.FlexState.{empty};
+
+use crate::error::Failure;
+use crate::output::print_questions;
+use crate::reading::{Run, read_run};
+use rlsf_base::memory::{Memory, Range};
+use rlsf_flex::FlexTlsf;
+use rlsf_flex_runs::run_flex;
+use rlsf_int::Bitmap;
+use rlsf_listed::ListedSource;
+use rlsf_text::{Configuration, Op, text_of};
+use std::alloc::Global;
+
+/// The lines of the run with this text: those of its ops, and then those of its source's questions.
+pub(crate) fn output_of(alloc: Global, text: &str) -> Result<String, Failure> {
+    let Run {
+        capabilities,
+        answers,
+        trace,
+    } = read_run(alloc, text)?;
+    let space = Range {
+        start: trace.start,
+        len: trace.len,
+    };
+    // An op asks two questions at most, and at the end each range goes back.
+    let questions = trace.ops.len().saturating_mul(3);
+    let source = ListedSource::new(alloc, space, capabilities, answers, questions)?;
+    let memory = Memory::new(alloc, trace.start, trace.len)?;
+    let configuration = trace.configuration;
+    let ops = &trace.ops;
+    match configuration {
+        Configuration::EightByEight => {
+            output_with(alloc, FlexTlsf::<_, u8, u8, 8, 8>::new(memory, source), ops)
+        }
+        Configuration::TwelveBySixteen => output_with(
+            alloc,
+            FlexTlsf::<_, u16, u16, 12, 16>::new(memory, source),
+            ops,
+        ),
+        Configuration::FiftyNineByEight => output_with(
+            alloc,
+            FlexTlsf::<_, u64, u64, 59, 8>::new(memory, source),
+            ops,
+        ),
+        Configuration::OneByOne => {
+            output_with(alloc, FlexTlsf::<_, u8, u8, 1, 1>::new(memory, source), ops)
+        }
+        Configuration::EightByOne => {
+            output_with(alloc, FlexTlsf::<_, u8, u8, 8, 1>::new(memory, source), ops)
+        }
+    }
+}
+
+/// The lines of ops on an allocator that has asked for nothing yet.
+fn output_with<FLBitmap: Bitmap, SLBitmap: Bitmap, const FLLEN: usize, const SLLEN: usize>(
+    alloc: Global,
+    mut flex: FlexTlsf<ListedSource, FLBitmap, SLBitmap, FLLEN, SLLEN>,
+    ops: &[Op],
+) -> Result<String, Failure>
+    requires { FlexStandsFor FLLEN SLLEN (λ (source : Listed). source.terms) MayOwe flex empty }
+{
+    let mut answers = Vec::new(alloc);
+    run_flex(alloc, &mut flex, ops, &mut answers)?;
+    let (_, source) = flex.into_parts();
+    let mut text = text_of(alloc, ops, &answers)?;
+    print_questions(&mut text, source.asked())?;
+    Ok(text)
+}

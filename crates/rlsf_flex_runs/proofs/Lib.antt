@@ -1,0 +1,3 @@
+pub mod NamedPayloads
+pub mod PlacedPayloads
+pub mod Underway

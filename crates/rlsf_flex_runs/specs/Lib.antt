@@ -1,0 +1,2 @@
+pub mod FlexRuns
+pub mod Steps

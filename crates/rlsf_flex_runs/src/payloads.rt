@@ -1,0 +1,225 @@
+//! The ops on named payloads.
+
+ghost use Rattle.std.specs.Prelude.{ℕ, ◌+◌, ◌≤◌};
+ghost use Rattle.std.specs.HashMap.{spare};
+ghost use Rattle.rlsf_base.specs.Space.{SamePlace};
+ghost use Rattle.rlsf_flex_runs.specs.FlexRuns.{FlexRunState};
+ghost use Rattle.rlsf_flex_runs.specs.Steps.Names.{IsAt, LeadsOn};
+ghost use Rattle.rlsf_text.specs.declared.op.Op.TheVariants.{Alloc, Free, FreeUnknown, Realloc, Fill, Put, Get, Usable};
+
+use rlsf_base::memory::Layout;
+use rlsf_flex::{FlexSource, FlexTlsf};
+use rlsf_int::Bitmap;
+use rlsf_runs::Payload;
+use rlsf_text::{Answer, TraceError};
+use std::collections::HashMap;
+
+/// Allocates a payload and names it, unless a live one has the name. A name whose payload found no room stays free.
+pub(crate) fn alloc<
+    S: FlexSource,
+    FLBitmap: Bitmap,
+    SLBitmap: Bitmap,
+    const FLLEN: usize,
+    const SLLEN: usize,
+>(
+    flex: &mut FlexTlsf<S, FLBitmap, SLBitmap, FLLEN, SLLEN>,
+    names: &mut HashMap<usize, Payload>,
+    name: usize,
+    layout: Layout,
+) -> Answer
+    requires state { (s : FlexRunState) × IsAt FLLEN SLLEN S.terms S.owes flex.old names.old s }
+    requires room { 1 ≤ spare names.old }
+    ensures does { (s : FlexRunState) → IsAt FLLEN SLLEN S.terms S.owes flex.old names.old s → LeadsOn FLLEN SLLEN S.terms S.owes S.leads flex.old s (Alloc name layout) result flex.new names.new }
+    ensures room { (ops : ℕ) → ops + 1 ≤ spare names.old → ops ≤ spare names.new }
+    ensures place { SamePlace flex.old.tlsf.memory flex.new.tlsf.memory }
+{
+    if names.contains_key(&name) {
+        return Answer::Refused(TraceError::NameTaken);
+    }
+    let placed = flex.allocate(layout);
+    if let Some(addr) = placed {
+        let align = layout.align();
+        let _ = names.insert(name, Payload { addr, align });
+    }
+    Answer::Placed(placed)
+}
+
+/// Gives the payload of a name back, unless no live one has it. The name is free again.
+pub(crate) fn free<
+    S: FlexSource,
+    FLBitmap: Bitmap,
+    SLBitmap: Bitmap,
+    const FLLEN: usize,
+    const SLLEN: usize,
+>(
+    flex: &mut FlexTlsf<S, FLBitmap, SLBitmap, FLLEN, SLLEN>,
+    names: &mut HashMap<usize, Payload>,
+    name: usize,
+) -> Answer
+    requires { (s : FlexRunState) × IsAt FLLEN SLLEN S.terms S.owes flex.old names.old s }
+    ensures does { (s : FlexRunState) → IsAt FLLEN SLLEN S.terms S.owes flex.old names.old s → LeadsOn FLLEN SLLEN S.terms S.owes S.leads flex.old s (Free name) result flex.new names.new }
+    ensures room { (ops : ℕ) → ops + 1 ≤ spare names.old → ops ≤ spare names.new }
+    ensures place { SamePlace flex.old.tlsf.memory flex.new.tlsf.memory }
+{
+    let Some(payload) = names.remove(&name) else {
+        return Answer::Refused(TraceError::UnknownName);
+    };
+    flex.deallocate(payload.addr, payload.align);
+    Answer::Done
+}
+
+/// Gives the payload of a name back without telling its alignment, unless no live one has it. The name is free again.
+pub(crate) fn free_unknown<
+    S: FlexSource,
+    FLBitmap: Bitmap,
+    SLBitmap: Bitmap,
+    const FLLEN: usize,
+    const SLLEN: usize,
+>(
+    flex: &mut FlexTlsf<S, FLBitmap, SLBitmap, FLLEN, SLLEN>,
+    names: &mut HashMap<usize, Payload>,
+    name: usize,
+) -> Answer
+    requires { (s : FlexRunState) × IsAt FLLEN SLLEN S.terms S.owes flex.old names.old s }
+    ensures does { (s : FlexRunState) → IsAt FLLEN SLLEN S.terms S.owes flex.old names.old s → LeadsOn FLLEN SLLEN S.terms S.owes S.leads flex.old s (FreeUnknown name) result flex.new names.new }
+    ensures room { (ops : ℕ) → ops + 1 ≤ spare names.old → ops ≤ spare names.new }
+    ensures place { SamePlace flex.old.tlsf.memory flex.new.tlsf.memory }
+{
+    let Some(payload) = names.remove(&name) else {
+        return Answer::Refused(TraceError::UnknownName);
+    };
+    flex.deallocate_unknown_align(payload.addr);
+    Answer::Done
+}
+
+/// Gives the payload of a name another size, unless no live one has it or no layout has that size with its alignment. Where
+/// there is no room for it and no memory came, the name keeps its payload as it is.
+pub(crate) fn realloc<
+    S: FlexSource,
+    FLBitmap: Bitmap,
+    SLBitmap: Bitmap,
+    const FLLEN: usize,
+    const SLLEN: usize,
+>(
+    flex: &mut FlexTlsf<S, FLBitmap, SLBitmap, FLLEN, SLLEN>,
+    names: &mut HashMap<usize, Payload>,
+    name: usize,
+    size: usize,
+) -> Answer
+    requires state { (s : FlexRunState) × IsAt FLLEN SLLEN S.terms S.owes flex.old names.old s }
+    requires room { 1 ≤ spare names.old }
+    ensures does { (s : FlexRunState) → IsAt FLLEN SLLEN S.terms S.owes flex.old names.old s → LeadsOn FLLEN SLLEN S.terms S.owes S.leads flex.old s (Realloc name size) result flex.new names.new }
+    ensures room { (ops : ℕ) → ops + 1 ≤ spare names.old → ops ≤ spare names.new }
+    ensures place { SamePlace flex.old.tlsf.memory flex.new.tlsf.memory }
+{
+    let Some(old) = names.get(&name).copied() else {
+        return Answer::Refused(TraceError::UnknownName);
+    };
+    let Ok(layout) = Layout::from_size_align(size, old.align) else {
+        return Answer::Refused(TraceError::BadLayout);
+    };
+    let placed = flex.reallocate(old.addr, layout);
+    if let Some(addr) = placed {
+        let align = old.align;
+        let _ = names.insert(name, Payload { addr, align });
+    }
+    Answer::Placed(placed)
+}
+
+/// Sets every usable byte of the payload of a name, unless no live one has it.
+pub(crate) fn fill<
+    S: FlexSource,
+    FLBitmap: Bitmap,
+    SLBitmap: Bitmap,
+    const FLLEN: usize,
+    const SLLEN: usize,
+>(
+    flex: &mut FlexTlsf<S, FLBitmap, SLBitmap, FLLEN, SLLEN>,
+    names: &HashMap<usize, Payload>,
+    name: usize,
+    byte: u8,
+) -> Answer
+    requires { (s : FlexRunState) × IsAt FLLEN SLLEN S.terms S.owes flex.old names.now s }
+    ensures does { (s : FlexRunState) → IsAt FLLEN SLLEN S.terms S.owes flex.old names.now s → LeadsOn FLLEN SLLEN S.terms S.owes S.leads flex.old s (Fill name byte) result flex.new names.now }
+    ensures place { SamePlace flex.old.tlsf.memory flex.new.tlsf.memory }
+{
+    let Some(payload) = names.get(&name).copied() else {
+        return Answer::Refused(TraceError::UnknownName);
+    };
+    flex.payload_mut(payload.addr).fill(byte);
+    Answer::Done
+}
+
+/// Sets the byte at an offset of the payload of a name, unless no live one has it or the offset isn't below its usable size.
+pub(crate) fn put<
+    S: FlexSource,
+    FLBitmap: Bitmap,
+    SLBitmap: Bitmap,
+    const FLLEN: usize,
+    const SLLEN: usize,
+>(
+    flex: &mut FlexTlsf<S, FLBitmap, SLBitmap, FLLEN, SLLEN>,
+    names: &HashMap<usize, Payload>,
+    name: usize,
+    offset: usize,
+    byte: u8,
+) -> Answer
+    requires { (s : FlexRunState) × IsAt FLLEN SLLEN S.terms S.owes flex.old names.now s }
+    ensures does { (s : FlexRunState) → IsAt FLLEN SLLEN S.terms S.owes flex.old names.now s → LeadsOn FLLEN SLLEN S.terms S.owes S.leads flex.old s (Put name offset byte) result flex.new names.now }
+    ensures place { SamePlace flex.old.tlsf.memory flex.new.tlsf.memory }
+{
+    let Some(payload) = names.get(&name).copied() else {
+        return Answer::Refused(TraceError::UnknownName);
+    };
+    if offset >= flex.payload(payload.addr).len() {
+        return Answer::Refused(TraceError::BadOffset);
+    }
+    flex.payload_mut(payload.addr)[offset] = byte;
+    Answer::Done
+}
+
+/// Reads the byte at an offset of the payload of a name, unless no live one has it or the offset isn't below its usable size.
+pub(crate) fn get<
+    S: FlexSource,
+    FLBitmap: Bitmap,
+    SLBitmap: Bitmap,
+    const FLLEN: usize,
+    const SLLEN: usize,
+>(
+    flex: &FlexTlsf<S, FLBitmap, SLBitmap, FLLEN, SLLEN>,
+    names: &HashMap<usize, Payload>,
+    name: usize,
+    offset: usize,
+) -> Answer
+    requires { (s : FlexRunState) × IsAt FLLEN SLLEN S.terms S.owes flex.now names.now s }
+    ensures { (s : FlexRunState) → IsAt FLLEN SLLEN S.terms S.owes flex.now names.now s → LeadsOn FLLEN SLLEN S.terms S.owes S.leads flex.now s (Get name offset) result flex.now names.now }
+{
+    let Some(payload) = names.get(&name).copied() else {
+        return Answer::Refused(TraceError::UnknownName);
+    };
+    match flex.payload(payload.addr).get(offset) {
+        Some(byte) => Answer::Byte(*byte),
+        None => Answer::Refused(TraceError::BadOffset),
+    }
+}
+
+/// How many bytes of the payload of a name are usable, unless no live one has it.
+pub(crate) fn usable<
+    S: FlexSource,
+    FLBitmap: Bitmap,
+    SLBitmap: Bitmap,
+    const FLLEN: usize,
+    const SLLEN: usize,
+>(
+    flex: &FlexTlsf<S, FLBitmap, SLBitmap, FLLEN, SLLEN>,
+    names: &HashMap<usize, Payload>,
+    name: usize,
+) -> Answer
+    requires { (s : FlexRunState) × IsAt FLLEN SLLEN S.terms S.owes flex.now names.now s }
+    ensures { (s : FlexRunState) → IsAt FLLEN SLLEN S.terms S.owes flex.now names.now s → LeadsOn FLLEN SLLEN S.terms S.owes S.leads flex.now s (Usable name) result flex.now names.now }
+{
+    match names.get(&name) {
+        Some(payload) => Answer::Usable(flex.allocation_usable_size(payload.addr)),
+        None => Answer::Refused(TraceError::UnknownName),
+    }
+}

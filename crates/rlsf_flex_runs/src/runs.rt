@@ -1,0 +1,79 @@
+//! Runs: the ops of a trace, done with an allocator over a source.
+
+ghost use Rattle.std.specs.Prelude.{◌≡◌, ℕ, ◌+◌, ◌≤◌, ◌++◌, List, OnOk, OnErr};
+ghost use Rattle.std.specs.HashMap.{spare};
+ghost use Rattle.rlsf_base.specs.Space.{SamePlace};
+ghost use Rattle.rlsf_flex.specs.StandsFor.{FlexStandsFor};
+ghost use Rattle.rlsf_flex_runs.specs.FlexRuns.{FlexRunState, beginning, RunsFlex};
+ghost use Rattle.rlsf_flex_runs.specs.Steps.Names.{IsAt, LeadsOn};
+ghost use Rattle.rlsf_machine.specs.FlexState.{empty};
+ghost use Rattle.rlsf_machine.specs.Note.{Note, LeadsBy};
+ghost use Rattle.rlsf_text.specs.declared.op.Answer.{Answer};
+
+use crate::payloads::{alloc, fill, free, free_unknown, get, put, realloc, usable};
+use rlsf_flex::{FlexSource, FlexTlsf};
+use rlsf_int::Bitmap;
+use rlsf_runs::{Payload, RunError};
+use rlsf_text::{Answer, Op, TraceError};
+use std::alloc::Global;
+use std::collections::HashMap;
+
+/// Does one op, and answers it.
+fn step<S: FlexSource, FLBitmap: Bitmap, SLBitmap: Bitmap, const FLLEN: usize, const SLLEN: usize>(
+    flex: &mut FlexTlsf<S, FLBitmap, SLBitmap, FLLEN, SLLEN>,
+    names: &mut HashMap<usize, Payload>,
+    op: Op,
+) -> Answer
+    requires state { (s : FlexRunState) × IsAt FLLEN SLLEN S.terms S.owes flex.old names.old s }
+    requires room { 1 ≤ spare names.old }
+    ensures does { (s : FlexRunState) → IsAt FLLEN SLLEN S.terms S.owes flex.old names.old s → LeadsOn FLLEN SLLEN S.terms S.owes S.leads flex.old s op result flex.new names.new }
+    ensures room { (ops : ℕ) → ops + 1 ≤ spare names.old → ops ≤ spare names.new }
+    ensures place { SamePlace flex.old.tlsf.memory flex.new.tlsf.memory }
+{
+    match op {
+        Op::Insert(_) | Op::Append(_) | Op::Block(_, _) => Answer::Refused(TraceError::NotForFlex),
+        Op::Alloc(name, layout) => alloc(flex, names, name, layout),
+        Op::Free(name) => free(flex, names, name),
+        Op::FreeUnknown(name) => free_unknown(flex, names, name),
+        Op::Realloc(name, size) => realloc(flex, names, name, size),
+        Op::Fill(name, byte) => fill(flex, names, name, byte),
+        Op::Put(name, offset, byte) => put(flex, names, name, offset, byte),
+        Op::Get(name, offset) => get(flex, names, name, offset),
+        Op::Usable(name) => usable(flex, names, name),
+    }
+}
+
+/// Does the ops, one after another, with an allocator over a source at which nothing is outstanding yet. One answer an op
+/// follows those already there. `Insert`, `Append` and `Block` are refused as `NotForFlex`.
+///
+/// The memory stays in place, and the source is asked what the machine asks it, and nothing else.
+///
+/// `OutOfMemory` comes only where the machine refused memory for the answers or for the run's own table. Then no op was
+/// done, nothing was asked, and the answers are as before.
+pub fn run_flex<
+    S: FlexSource,
+    FLBitmap: Bitmap,
+    SLBitmap: Bitmap,
+    const FLLEN: usize,
+    const SLLEN: usize,
+>(
+    alloc: Global,
+    flex: &mut FlexTlsf<S, FLBitmap, SLBitmap, FLLEN, SLLEN>,
+    ops: &[Op],
+    answers: &mut Vec<Answer>,
+) -> Result<(), RunError>
+    requires { FlexStandsFor FLLEN SLLEN S.terms S.owes flex.old empty }
+    ensures runs { OnOk result ((given : List Answer) × (notes : List Note) × (t : FlexRunState) × (answers.new.items ≡ answers.old.items ++ given)
+        × RunsFlex FLLEN SLLEN (S.terms flex.old.source) beginning ops.now given notes t × LeadsBy S.leads flex.old.source notes flex.new.source
+        × FlexStandsFor FLLEN SLLEN S.terms S.owes flex.new t.flex) }
+    ensures refused { OnErr result ((answers.new.items ≡ answers.old.items) × (flex.new ≡ flex.old)) }
+    ensures place { SamePlace flex.old.tlsf.memory flex.new.tlsf.memory }
+{
+    answers.try_reserve(ops.len())?;
+    let mut names = HashMap::with_capacity(alloc, ops.len())?;
+    for op in ops {
+        let answer = step(flex, &mut names, *op);
+        let _ = answers.push(answer);
+    }
+    Ok(())
+}

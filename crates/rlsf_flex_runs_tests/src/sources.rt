@@ -1,0 +1,32 @@
+//! The memory and the sources of these tests.
+
+ghost use Rattle.std.specs.Prelude.{◌≡◌, [], length, IfOk};
+ghost use Rattle.rlsf_base.specs.PowerOfTwo.{IsPowerOfTwo};
+ghost use Rattle.rlsf_base.specs.Range.{range_at};
+ghost use Rattle.rlsf_listed.specs.Listed.{MayOwe};
+
+use rlsf_base::memory::{Memory, Range};
+use rlsf_listed::{Capabilities, ListedSource, SourceAnswer};
+use std::alloc::Global;
+use std::test::Fail;
+
+/// How many questions a source remembers.
+const ROOM: usize = 64;
+
+/// A memory of 16384 bytes from the address 4096 on, and a source of all of it with these answers.
+pub fn parts(
+    alloc: Global,
+    capabilities: Capabilities,
+    answers: Vec<SourceAnswer>,
+) -> Result<(Memory, ListedSource), Fail>
+    requires { IsPowerOfTwo capabilities.min_align }
+    ensures { IfOk result (λ r. (r.0.start ≡ 4096) × (length r.0.bytes ≡ 16384) × (r.1.terms.space ≡ range_at 4096 16384) × MayOwe r.1 []) }
+{
+    let memory = Memory::new(alloc, 4096, 16384)?;
+    let space = Range {
+        start: 4096,
+        len: 16384,
+    };
+    let source = ListedSource::new(alloc, space, capabilities, answers, ROOM)?;
+    Ok((memory, source))
+}

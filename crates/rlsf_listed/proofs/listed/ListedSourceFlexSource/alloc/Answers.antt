@@ -1,0 +1,5 @@
+use Rattle.rlsf_listed.proofs.HandedOut.{answered}
+use Rattle.rlsf_listed.proofs.listed.ListedSourceFlexSource.alloc.Goals as goal
+
+pub returns-clause-owes : goal.returns-clause-owes
+returns-clause-owes c = answered c.args.self.now c.given-given.new.self c.remember.new.self c.args.min_size c.given-given.result c.given-given.ensures c.remember.ensures

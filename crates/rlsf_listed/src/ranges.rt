@@ -1,0 +1,51 @@
+//! Ranges that were handed out.
+
+ghost use Rattle.std.specs.Prelude.{◌≡◌, ◌≤◌, ◌⊎◌, ◌∷◌, ◌++◌, [], IsTrue, IsFalse};
+ghost use Rattle.rlsf_base.specs.Range.{end_of, LiesIn};
+ghost use Rattle.rlsf_machine.specs.Insert.{IsClear};
+
+use rlsf_base::memory::Range;
+
+/// Whether a range lies in a space.
+fn lies_in(range: Range, space: Range) -> bool
+    ensures { IsTrue result → LiesIn range space.start space.len }
+{
+    space.start <= range.start
+        && range.len <= space.len
+        && range.start - space.start <= space.len - range.len
+}
+
+/// Whether a range ends where another begins, or before.
+fn ends_before(one: Range, other: Range) -> bool
+    ensures { IsTrue result → end_of one ≤ other.start }
+{
+    one.start <= other.start && one.len <= other.start - one.start
+}
+
+/// Whether one range ends where the other begins, or before.
+fn are_apart(one: Range, other: Range) -> bool
+    ensures { IsTrue result → (end_of one ≤ other.start) ⊎ (end_of other ≤ one.start) }
+{
+    ends_before(one, other) || ends_before(other, one)
+}
+
+/// Whether a range touches none of those that were handed out.
+fn is_clear(range: Range, taken: &[Range]) -> bool
+    ensures { IsTrue result → IsClear range taken.now }
+{
+    taken.iter().all(|other| are_apart(range, *other))
+}
+
+/// Notes that a range is handed out, and answers whether it is: it has to lie in the space and to touch none that was before.
+pub(crate) fn hand_out(taken: &mut Vec<Range>, space: Range, range: Range) -> bool
+    ensures given { IsTrue result → LiesIn range space.start space.len × IsClear range taken.old.items × (taken.new.items ≡ taken.old.items ++ range ∷ []) }
+    ensures refused { IsFalse result → taken.new.items ≡ taken.old.items }
+{
+    if !lies_in(range, space) {
+        return false;
+    }
+    if !is_clear(range, taken) {
+        return false;
+    }
+    taken.push(range).is_ok()
+}

@@ -1,6 +1,0 @@
-use Rattle.std.proofs.Common.{lit<, lit≤, refl}
-use Rattle.rlsf_pool_tests.proofs.Shapes.{long}
-use Rattle.rlsf_pool_tests.proofs.appends.behind_a_used_last_block.Goals as goal
-
-pub appended-requires : goal.appended-requires
-appended-requires g c = (lit< tt, (long, ((refl, lit< tt, lit≤ tt, lit≤ tt), refl)))

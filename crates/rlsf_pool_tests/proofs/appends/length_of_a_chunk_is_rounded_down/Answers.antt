@@ -1,6 +1,0 @@
-use Rattle.std.proofs.Common.{lit<, lit≤, refl}
-use Rattle.rlsf_pool_tests.proofs.Shapes.{small}
-use Rattle.rlsf_pool_tests.proofs.appends.length_of_a_chunk_is_rounded_down.Goals as goal
-
-pub appended-requires : goal.appended-requires
-appended-requires g c = (lit< tt, (small, ((refl, lit< tt, lit≤ tt, lit≤ tt), refl)))
