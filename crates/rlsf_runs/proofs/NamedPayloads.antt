@@ -1,5 +1,5 @@
 -- What an op on a named payload leaves of the run's tables.
-use Rattle.std.proofs.Common.{◌≡◌, ℕ, ◌≤◌, nat_eq, false, true≢false, Option, Some, None, List, length, refl, sym, ◌∙◌, ap, subst, arith}
+use Rattle.std.proofs.Common.{◌≡◌, ℕ, ◌+◌, ◌≤◌, nat_eq, false, true≢false, Option, Some, None, List, length, refl, sym, ◌∙◌, ap, subst, arith}
 use Rattle.std.specs.HashMap.{get}
 use Rattle.std.specs.Prelude.{IsPermutation}
 use Rattle.std.specs.Option.{is_some}
@@ -23,13 +23,17 @@ use Rattle.rlsf_runs.specs.declared.names.Payload.{Payload}
 use Rattle.rlsf_runs.specs.declared.tables.Tables.{Tables}
 use Rattle.rlsf_runs.specs.Names.{address, AreNamed}
 use Rattle.rlsf_runs.specs.Runs.{Does, Frees, Owns, RunState, with_machine}
-use Rattle.rlsf_runs.specs.Steps.Tables.{IsAt, IsInOrder, LeadsOn}
+use Rattle.rlsf_runs.specs.Steps.Tables.{HasRoom, IsAt, IsInOrder, LeadsOn}
 use Rattle.rlsf_runs.proofs.Named.{AreNamed-filled, AreNamed-freed, AreNamed-untaken, IsSetAt, owned_live, unnamed}
 
 -- what a test for a payload didn't find
 pub none_is : {A : Type 0} (o : Option A) → is_some o ≡ false → o ≡ None
 none_is None e = refl
 none_is (Some x) e = absurd (true≢false e)
+
+-- tables with room for one op more have it for the others
+pub room_left : (tables : Tables) (ops : ℕ) → HasRoom tables (ops + 1) → HasRoom tables ops
+room_left tables ops room = record { names = omega (arith, room.names); pools = omega (arith, room.pools) }
 
 module _ {fllen sllen : ℕ} {v : Contents} {tables : Tables} {s : RunState} (at : IsAt fllen sllen v tables s) where
   -- a payload of the table has a block that its name owns, which has as many bytes as are usable

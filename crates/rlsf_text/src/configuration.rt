@@ -1,6 +1,8 @@
 ghost use Rattle.std.specs.Prelude.{◌≡◌};
 ghost use Rattle.rlsf_text.specs.Configurations.{configuration_named};
 
+use crate::words::is_same;
+
 /// The parameters of the allocator that a trace runs on: how many rows of size classes it has, how many
 /// classes in a row, and the type of its bitmaps.
 #[derive(Clone, Copy, Debug, PartialEq, Eq)]
@@ -22,15 +24,15 @@ impl Configuration {
     pub(crate) fn named(word: &[u8]) -> Option<Configuration>
         ensures { result ≡ configuration_named word.now }
     {
-        if word == b"8x8".as_slice() {
+        if is_same(word, b"8x8") {
             Some(Configuration::EightByEight)
-        } else if word == b"12x16".as_slice() {
+        } else if is_same(word, b"12x16") {
             Some(Configuration::TwelveBySixteen)
-        } else if word == b"59x8".as_slice() {
+        } else if is_same(word, b"59x8") {
             Some(Configuration::FiftyNineByEight)
-        } else if word == b"1x1".as_slice() {
+        } else if is_same(word, b"1x1") {
             Some(Configuration::OneByOne)
-        } else if word == b"8x1".as_slice() {
+        } else if is_same(word, b"8x1") {
             Some(Configuration::EightByOne)
         } else {
             None

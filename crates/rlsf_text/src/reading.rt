@@ -10,7 +10,7 @@ use crate::fault::{Fault, ReplayFault};
 use crate::lines::Lines;
 use crate::number::{byte, number};
 use crate::op::Op;
-use crate::words::Words;
+use crate::words::{Words, is_same};
 use rlsf_base::memory::{Layout, Range};
 use std::alloc::Global;
 
@@ -22,7 +22,9 @@ pub(crate) fn read_header(line: &[u8]) -> Result<(Configuration, usize, usize), 
     ensures fits { IfOk result (λ h. h.1 + h.2 < 2 ^ 64) }
 {
     let (name, start, len) = Words::new(line).exactly_three()?;
-    let configuration = Configuration::named(name).ok_or(Fault::Config)?;
+    let Some(configuration) = Configuration::named(name) else {
+        return Err(Fault::Config);
+    };
     let start = number(start)?;
     let len = number(len)?;
     if start == 0 {
@@ -58,28 +60,30 @@ fn read_op(line: &[u8]) -> Result<Op, Fault>
     ensures { Gives command_of result (command_in (words line.now)) }
 {
     let mut fields = Words::new(line);
-    let name = fields.next().ok_or(Fault::UnknownOp)?;
-    if name == b"insert".as_slice() {
+    let Some(name) = fields.next() else {
+        return Err(Fault::UnknownOp);
+    };
+    if is_same(name, b"insert") {
         read_insert(fields)
-    } else if name == b"append".as_slice() {
+    } else if is_same(name, b"append") {
         read_append(fields)
-    } else if name == b"alloc".as_slice() {
+    } else if is_same(name, b"alloc") {
         read_alloc(fields)
-    } else if name == b"free".as_slice() {
+    } else if is_same(name, b"free") {
         read_free(fields)
-    } else if name == b"ufree".as_slice() {
+    } else if is_same(name, b"ufree") {
         read_free_unknown(fields)
-    } else if name == b"realloc".as_slice() {
+    } else if is_same(name, b"realloc") {
         read_realloc(fields)
-    } else if name == b"fill".as_slice() {
+    } else if is_same(name, b"fill") {
         read_fill(fields)
-    } else if name == b"put".as_slice() {
+    } else if is_same(name, b"put") {
         read_put(fields)
-    } else if name == b"get".as_slice() {
+    } else if is_same(name, b"get") {
         read_get(fields)
-    } else if name == b"usable".as_slice() {
+    } else if is_same(name, b"usable") {
         read_usable(fields)
-    } else if name == b"block".as_slice() {
+    } else if is_same(name, b"block") {
         read_block(fields)
     } else {
         Err(Fault::UnknownOp)

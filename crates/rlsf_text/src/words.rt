@@ -1,3 +1,6 @@
+ghost use Rattle.std.specs.Prelude.{◌≡◌};
+ghost use Rattle.std.specs.Str.{bytes_eq};
+
 use crate::cut::cut;
 use crate::fault::Fault;
 
@@ -40,10 +43,9 @@ impl<'a> Words<'a> {
     pub(crate) fn exactly_one(mut self) -> Result<&'a [u8], Fault>
         ensures { Gives (λ word. word.now) result (exactly_one (words_left self.entry)) }
     {
-        let word = self.next().ok_or(Fault::FieldCount)?;
-        match self.next() {
-            Some(_) => Err(Fault::FieldCount),
-            None => Ok(word),
+        match (self.next(), self.next()) {
+            (Some(word), None) => Ok(word),
+            _ => Err(Fault::FieldCount),
         }
     }
 
@@ -52,7 +54,9 @@ impl<'a> Words<'a> {
         ensures { Gives (λ both. (both.0.now, both.1.now)) result
             (exactly_two (words_left self.entry)) }
     {
-        let first = self.next().ok_or(Fault::FieldCount)?;
+        let Some(first) = self.next() else {
+            return Err(Fault::FieldCount);
+        };
         let second = self.exactly_one()?;
         Ok((first, second))
     }
@@ -62,8 +66,17 @@ impl<'a> Words<'a> {
         ensures { Gives (λ all. (all.0.now, all.1.now, all.2.now)) result
             (exactly_three (words_left self.entry)) }
     {
-        let first = self.next().ok_or(Fault::FieldCount)?;
+        let Some(first) = self.next() else {
+            return Err(Fault::FieldCount);
+        };
         let (second, third) = self.exactly_two()?;
         Ok((first, second, third))
     }
+}
+
+/// Whether two words are the same.
+pub(crate) fn is_same(word: &[u8], other: &[u8]) -> bool
+    ensures { result ≡ bytes_eq word.now other.now }
+{
+    word == other
 }

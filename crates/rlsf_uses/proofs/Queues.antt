@@ -1,11 +1,16 @@
 -- A queue's messages, as its entries and its store have them.
 use Rattle.std.proofs.Common.{◌≡◌, ℕ, List, [], ◌∷◌, ◌++◌, length, map, drop, slice_index_or, ◌<◌, arith, sym, ◌∙◌, ap, subst}
 use Rattle.std.proofs.Math.Path.{ap₂}
-use Rattle.std.proofs.lemmas.List.{map-append}
+use Rattle.std.proofs.lemmas.List.{length-map, map-append}
+use Rattle.rlsf_base.specs.Space.{Space}
 use Rattle.rlsf_uses.specs.declared.messages.Entry.{Entry}
 use Rattle.rlsf_uses.specs.Queue.{messages_in, place_of_entry}
 use Rattle.rlsf_uses.specs.Stored.{HasAmong, HasPlaces, StoreContents, bytes_at, lists_at}
 use Rattle.rlsf_uses.proofs.Places.{length-bytes_at}
+
+-- there are as many messages as entries
+pub length-messages : (m : Space) (entries : List Entry) → length (messages_in m entries) ≡ length entries
+length-messages m entries = length-map (map place_of_entry entries) (bytes_at m) ∙ length-map entries place_of_entry
 
 -- without a message nothing is stored
 pub nothing_stored : (v : StoreContents) (entries : List Entry) → HasPlaces v (map place_of_entry entries) → messages_in v.heap.memory entries ≡ [] → HasPlaces v []

@@ -1,4 +1,4 @@
-use Rattle.std.proofs.Common.{sym, ◌∙◌}
+use Rattle.std.proofs.Common.{sym, ◌∙◌, rules}
 use Rattle.rlsf_runs.proofs.NamedPayloads.{freed, not_freed}
 use Rattle.rlsf_runs.proofs.payloads.free.Goals as goal
 
@@ -11,3 +11,14 @@ returns-clause-does g c = λ s at.
     let there = sym c.take_name.ensures.value ∙ c.in-Some.is in
     let (t, step, stands, keeps) = c.deallocate.ensures.step s.machine at.stands (at.named.live c.args.name p there) in
     freed at c.deallocate.ensures.place t stands keeps c.args.name p there step c.take_name.ensures.pools c.take_name.ensures.names
+
+pub deallocate-requires : goal.deallocate-requires
+deallocate-requires g c =
+    let (s, at) = c.requires in
+    (search rules, (s.machine, at.stands, at.named.live c.args.name c.in-Some.payload (sym c.take_name.ensures.value ∙ c.in-Some.is)))
+
+pub returns-in_default-clause-room : goal.returns-in_default-clause-room
+returns-in_default-clause-room g c = c.take_name.ensures.room
+
+pub returns-clause-room : goal.returns-clause-room
+returns-clause-room g c = c.take_name.ensures.room

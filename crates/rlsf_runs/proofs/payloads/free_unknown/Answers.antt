@@ -12,3 +12,9 @@ returns-clause-does g c = λ s at.
     let (u, owns, holds, _) = owned at c.args.name p there in
     let (t, step, stands, keeps) = c.deallocate_unknown_align.ensures.step s.machine at.stands (u, holds) in
     freed at c.deallocate_unknown_align.ensures.place t stands keeps c.args.name p there step c.take_name.ensures.pools c.take_name.ensures.names
+
+pub returns-in_default-clause-room : goal.returns-in_default-clause-room
+returns-in_default-clause-room g c = c.take_name.ensures.room
+
+pub returns-clause-room : goal.returns-clause-room
+returns-clause-room g c = c.take_name.ensures.room

@@ -1,8 +1,9 @@
 use Rattle.std.proofs.Common.{length, slice_index, arith, refl, sym, ◌∙◌, ap}
 use Rattle.rlsf_text.specs.declared.op.Answer.TheVariants.{Byte, Refused}
 use Rattle.rlsf_text.specs.declared.op.Op.TheVariants.{Get}
-use Rattle.rlsf_text.specs.declared.op.TraceError.TheVariants.{BadOffset}
+use Rattle.rlsf_text.specs.declared.op.TraceError.TheVariants.{BadOffset, UnknownName}
 use Rattle.rlsf_runs.proofs.NamedPayloads.{LeadsOn-nothing, owned}
+use Rattle.rlsf_runs.proofs.Named.{unnamed}
 use Rattle.rlsf_runs.proofs.payloads.get.Goals as goal
 
 pub returns-in-Some-get : goal.returns-in-Some-get
@@ -17,3 +18,7 @@ returns-in-None g c = λ s at.
     let (u, owns, holds, long) = owned at c.args.name c.in-Some.payload (sym c.payload.ensures ∙ c.in-Some.is) in
     let bytes = c.payload-2.ensures s.machine u at.stands holds in
     LeadsOn-nothing at (Get c.args.name c.args.offset) (Refused BadOffset) ((u, owns, omega (arith, c.in-None.ensures.lookup.3, ap length bytes, long)), refl)
+
+pub returns-in_default : goal.returns-in_default
+returns-in_default g c = λ s at.
+    LeadsOn-nothing at (Get c.args.name c.args.offset) (Refused UnknownName) (unnamed at.named c.args.name (sym c.payload.ensures ∙ c.in_default.is), refl)

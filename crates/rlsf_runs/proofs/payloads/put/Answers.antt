@@ -1,12 +1,13 @@
-use Rattle.std.proofs.Common.{length, slice_set, arith, refl, sym, ◌∙◌, ap, subst}
+use Rattle.std.proofs.Common.{length, slice_set, arith, refl, sym, ◌∙◌, ap, subst, rules}
 use Rattle.std.proofs.lemmas.List.{length-set}
 use Rattle.rlsf_machine.specs.Run.{Fills}
 use Rattle.rlsf_text.specs.declared.op.Answer.TheVariants.{Refused}
 use Rattle.rlsf_text.specs.declared.op.Op.TheVariants.{Put}
-use Rattle.rlsf_text.specs.declared.op.TraceError.TheVariants.{BadOffset}
+use Rattle.rlsf_text.specs.declared.op.TraceError.TheVariants.{BadOffset, UnknownName}
 use Rattle.rlsf_runs.specs.Names.{address}
 use Rattle.rlsf_runs.specs.Runs.{with_machine}
 use Rattle.rlsf_runs.proofs.NamedPayloads.{IsAt-filled, LeadsOn-nothing, owned}
+use Rattle.rlsf_runs.proofs.Named.{unnamed}
 use Rattle.rlsf_runs.proofs.payloads.put.Goals as goal
 
 pub returns-then-offset-payload-clause-does : goal.returns-then-offset-payload-clause-does
@@ -36,3 +37,22 @@ returns-clause-does g c = λ s at.
       IsAt-filled at (c.payload_mut.ensures.place w) t stands (address p) w step,
       keeps,
     )
+
+pub returns-in_default-clause-does : goal.returns-in_default-clause-does
+returns-in_default-clause-does g c = λ s at.
+    LeadsOn-nothing at (Put c.args.name c.args.offset c.args.byte) (Refused UnknownName) (unnamed at.named c.args.name (sym c.payload.ensures ∙ c.in_default.is), refl)
+
+pub payload-requires-2 : goal.payload-requires-2
+payload-requires-2 g c =
+    let (s, at) = c.requires in
+    let (u, owns, holds, _) = owned at c.args.name c.in-Some.payload (sym c.payload.ensures ∙ c.in-Some.is) in
+    (search rules, (s.machine, at.stands, (u, holds)))
+
+pub payload_mut-requires : goal.payload_mut-requires
+payload_mut-requires g c =
+    let (s, at) = c.requires in
+    let (u, owns, holds, _) = owned at c.args.name c.in-Some.payload (sym c.payload.ensures ∙ c.in-Some.is) in
+    (search rules, (s.machine, at.stands, (u, holds)))
+
+pub returns-clause-place : goal.returns-clause-place
+returns-clause-place g c = c.payload_mut.ensures.place (slice_set c.payload_mut.result.now c.args.offset c.args.byte)

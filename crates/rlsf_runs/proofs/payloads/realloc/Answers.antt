@@ -1,4 +1,4 @@
-use Rattle.std.proofs.Common.{◌≡◌, Some, None, refl, ap, sym, ◌∙◌, subst}
+use Rattle.std.proofs.Common.{◌≡◌, Some, None, refl, ap, sym, ◌∙◌, subst, rules}
 use Rattle.std.specs.Int.NonZero.{non_zero_usize_get}
 use Rattle.std.specs.Option.{option_map}
 use Rattle.rlsf_base.specs.Layout.{IsLayout}
@@ -8,8 +8,11 @@ use Rattle.rlsf_blocks.specs.Spare.{KeepsSpare}
 use Rattle.rlsf_runs.specs.Names.{address}
 use Rattle.rlsf_runs.specs.Runs.{Owns, RunState, with_name}
 use Rattle.rlsf_runs.specs.Steps.Tables.{IsAt}
-use Rattle.rlsf_runs.proofs.Named.{AreNamed-reallocated, owned_live}
-use Rattle.rlsf_runs.proofs.NamedPayloads.{IsAt-named, IsAt-unmoved, reallocation_keeps_chunks, reallocation_refused}
+use Rattle.rlsf_runs.proofs.Named.{AreNamed-reallocated, owned_live, unnamed}
+use Rattle.rlsf_runs.proofs.NamedPayloads.{IsAt-named, IsAt-unmoved, reallocation_keeps_chunks, reallocation_refused, LeadsOn-nothing, room_left}
+use Rattle.rlsf_text.specs.declared.op.Answer.TheVariants.{Refused}
+use Rattle.rlsf_text.specs.declared.op.Op.TheVariants.{Realloc}
+use Rattle.rlsf_text.specs.declared.op.TraceError.TheVariants.{UnknownName}
 use Rattle.rlsf_runs.proofs.payloads.realloc.Goals as goal
 
 pub returns-in-Some-placed-clause-does : goal.returns-in-Some-placed-clause-does
@@ -49,3 +52,27 @@ returns-in_default-placed-clause-does g c = λ s at.
       IsAt-unmoved at c.reallocate-placed.ensures.place t stands (reallocation_refused g.row.SLLEN s.machine t (address p) c.args.size step),
       keeps,
     )
+
+pub returns-in_default-clause-does : goal.returns-in_default-clause-does
+returns-in_default-clause-does g c = λ s at.
+    LeadsOn-nothing at (Realloc c.args.name c.args.size) (Refused UnknownName) (unnamed at.named c.args.name (sym c.payload.ensures ∙ c.in_default.is), refl)
+
+pub returns-in_default-clause-room : goal.returns-in_default-clause-room
+returns-in_default-clause-room g c = room_left c.args.tables.now
+
+pub returns-in_default-from_size_align-clause-room : goal.returns-in_default-from_size_align-clause-room
+returns-in_default-from_size_align-clause-room g c = room_left c.args.tables.now
+
+pub reallocate-placed-requires : goal.reallocate-placed-requires
+reallocate-placed-requires g c =
+    let (s, at) = c.requires.state in
+    let p = c.in-Some.old in
+    let live = at.named.live c.args.name p (sym c.payload.ensures ∙ c.in-Some.is) in
+    let (size, align) = c.in-Ok.ensures.layout in
+    (search rules, (s.machine, at.stands, subst (IsLive s.machine (address p)) (sym align) live))
+
+pub add_name-requires : goal.add_name-requires
+add_name-requires g c = c.requires.room
+
+pub returns-in_default-placed-clause-room : goal.returns-in_default-placed-clause-room
+returns-in_default-placed-clause-room g c = room_left c.args.tables.now

@@ -1,10 +1,16 @@
 use Rattle.std.proofs.Common.{refl, sym, ◌∙◌}
-use Rattle.rlsf_text.specs.declared.op.Answer.TheVariants.{Usable as Told}
+use Rattle.rlsf_text.specs.declared.op.Answer.TheVariants.{Usable as Told, Refused}
 use Rattle.rlsf_text.specs.declared.op.Op.TheVariants.{Usable}
 use Rattle.rlsf_runs.proofs.NamedPayloads.{LeadsOn-nothing, owned}
+use Rattle.rlsf_text.specs.declared.op.TraceError.TheVariants.{UnknownName}
+use Rattle.rlsf_runs.proofs.Named.{unnamed}
 use Rattle.rlsf_runs.proofs.payloads.usable.Goals as goal
 
 pub returns-in-Some : goal.returns-in-Some
 returns-in-Some g c = λ s at.
     let (u, owns, holds, _) = owned at c.args.name c.in-Some.payload (sym c.payload.ensures ∙ c.in-Some.is) in
     LeadsOn-nothing at (Usable c.args.name) (Told c.allocation_usable_size.result) (u, owns, c.allocation_usable_size.ensures s.machine u at.stands holds, refl)
+
+pub returns-in-None : goal.returns-in-None
+returns-in-None g c = λ s at.
+    LeadsOn-nothing at (Usable c.args.name) (Refused UnknownName) (unnamed at.named c.args.name (sym c.payload.ensures ∙ c.in-None.is), refl)

@@ -7,7 +7,7 @@ use Rattle.rlsf_blocks.specs.Spare.{KeepsSpare}
 use Rattle.rlsf_runs.specs.Runs.{RunState, with_name}
 use Rattle.rlsf_runs.specs.Steps.Tables.{IsAt}
 use Rattle.rlsf_runs.proofs.Named.{AreNamed-allocated, unnamed}
-use Rattle.rlsf_runs.proofs.NamedPayloads.{allocation_keeps_chunks, IsAt-named, IsAt-unmoved, none_is}
+use Rattle.rlsf_runs.proofs.NamedPayloads.{allocation_keeps_chunks, IsAt-named, IsAt-unmoved, none_is, room_left}
 use Rattle.rlsf_runs.proofs.runs.alloc.Goals as goal
 
 pub returns-in-Some-clause-does : goal.returns-in-Some-clause-does
@@ -34,3 +34,12 @@ returns-in_default-clause-does g c = λ s at.
     × (x ≡ record { machine = machine; named = with_name c.args.name o s.named; pools = s.pools }))
     × IsAt g.row.FLLEN g.row.SLLEN c.allocate-placed.new.self c.args.tables.now x × KeepsSpare c.args.tlsf.now.memory s.machine c.allocate-placed.new.self.memory x.machine) (sym none)
     (_, (free, t, refused, refl), IsAt-unmoved at c.allocate-placed.ensures.place t stands refused.1, keeps)
+
+pub returns-then-contains_key-clause-room : goal.returns-then-contains_key-clause-room
+returns-then-contains_key-clause-room g c = room_left c.args.tables.now
+
+pub add_name-requires : goal.add_name-requires
+add_name-requires g c = c.requires.room
+
+pub returns-in_default-clause-room : goal.returns-in_default-clause-room
+returns-in_default-clause-room g c = room_left c.args.tables.now

@@ -1,12 +1,13 @@
-use Rattle.std.proofs.Common.{rules, length, true≢false, arith, refl, sym, ◌∙◌, subst}
-use Rattle.rlsf_base.specs.Range.{LiesIn}
+use Rattle.std.proofs.Common.{rules, length, true≢false, arith, refl, sym, ◌∙◌, subst, ◌<◌, ◌^◌}
+use Rattle.rlsf_base.specs.Range.{LiesIn, end_of}
 use Rattle.rlsf_text.specs.declared.op.Answer.TheVariants.{Refused}
 use Rattle.rlsf_text.specs.declared.op.Op.TheVariants.{Append}
 use Rattle.rlsf_text.specs.declared.op.TraceError.TheVariants.{BadRange}
 use Rattle.rlsf_runs.proofs.AppendedChunks.{IsLonger-appended}
-use Rattle.rlsf_runs.proofs.NamedPayloads.{LeadsOn-nothing}
+use Rattle.rlsf_runs.proofs.NamedPayloads.{LeadsOn-nothing, room_left}
 use Rattle.rlsf_runs.proofs.RunStates.{IsAt-appended, IsNext-MayAppend, IsVacant-tables, MayAppend-none, MayAppend-tested, MayInsert-tested}
 use Rattle.rlsf_runs.proofs.Touching.{no_range}
+use Rattle.rlsf_base.specs.Space.{range_of}
 use Rattle.rlsf_runs.proofs.runs.append.Goals as goal
 
 pub is_vacant-requires-clause-inside : goal.is_vacant-requires-clause-inside
@@ -53,3 +54,27 @@ returns-clause-does g c = λ s at.
     let may = MayAppend-tested at r place (MayInsert-tested at r c.memory_ref.ensures.memory (c.is_vacant.ensures.0 c.if-not-is_vacant.false)) ends in
     let (t, step, stands, keeps) = c.append_free_block_ptr-taken.ensures.step s.machine at.stands (IsNext-MayAppend at r may) in
     (_, (may, t, step, refl), IsAt-appended at c.append_free_block_ptr-taken.ensures.place t stands r c.append_free_block_ptr-taken.result place step may ends c.lengthen_pool.ensures.names (c.lengthen_pool.ensures.pools no_range), keeps)
+
+pub is_vacant-requires-clause-in_order : goal.is_vacant-requires-clause-in_order
+is_vacant-requires-clause-in_order g c =
+    let (s, at) = c.requires in
+    at.in_order
+
+pub is_vacant-requires-clause-addressable : goal.is_vacant-requires-clause-addressable
+is_vacant-requires-clause-addressable g c =
+    let (s, at) = c.requires in
+    subst (λ m. end_of (range_of m) < 2 ^ 64) (sym c.memory_ref.ensures.memory) at.stands.well_formed.addressable
+
+pub returns-then-not-is_vacant-clause-room : goal.returns-then-not-is_vacant-clause-room
+returns-then-not-is_vacant-clause-room g c = room_left c.args.tables.now
+
+pub ending_at-requires-clause-in_order : goal.ending_at-requires-clause-in_order
+ending_at-requires-clause-in_order g c =
+    let (s, at) = c.requires in
+    at.in_order
+
+pub returns-in_default-clause-room : goal.returns-in_default-clause-room
+returns-in_default-clause-room g c = room_left c.args.tables.now
+
+pub returns-clause-room : goal.returns-clause-room
+returns-clause-room g c = c.lengthen_pool.ensures.room

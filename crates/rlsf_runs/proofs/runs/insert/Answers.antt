@@ -1,7 +1,7 @@
-use Rattle.std.proofs.Common.{rules, ◌≡◌, ◌+◌, length, None, true≢false, arith, refl, sym, ◌∙◌, ap, subst}
+use Rattle.std.proofs.Common.{rules, ◌≡◌, ◌+◌, length, None, true≢false, arith, refl, sym, ◌∙◌, ap, subst, ◌<◌, ◌^◌}
 use Rattle.std.specs.Int.NonZero.{non_zero_usize_get}
 use Rattle.std.specs.Option.{option_map}
-use Rattle.rlsf_base.specs.Range.{LiesIn}
+use Rattle.rlsf_base.specs.Range.{LiesIn, end_of}
 use Rattle.rlsf_base.specs.Rounding.{round32}
 use Rattle.rlsf_base.specs.Space.{range_of}
 use Rattle.rlsf_machine.specs.Insert.{Inserts}
@@ -13,7 +13,7 @@ use Rattle.rlsf_blocks.specs.Spare.{KeepsSpare}
 use Rattle.rlsf_runs.specs.Runs.{MayInsert, RunState, with_pool}
 use Rattle.rlsf_runs.specs.Steps.Tables.{IsAt}
 use Rattle.rlsf_runs.proofs.NewPools.{pool_bounds}
-use Rattle.rlsf_runs.proofs.NamedPayloads.{LeadsOn-nothing}
+use Rattle.rlsf_runs.proofs.NamedPayloads.{LeadsOn-nothing, room_left}
 use Rattle.rlsf_runs.proofs.RunStates.{IsAt-inserted, IsAt-not_inserted, IsFresh-MayInsert, IsVacant-tables, MayInsert-tested, new_pool}
 use Rattle.rlsf_runs.proofs.runs.insert.Goals as goal
 
@@ -67,3 +67,19 @@ returns-in_default-clause-does g c = λ s at.
     × (x ≡ record { machine = machine; named = s.named; pools = with_pool c.args.range o s.pools }))
     × IsAt g.row.FLLEN g.row.SLLEN c.insert_free_block_ptr-taken.new.self c.args.tables.now x × KeepsSpare c.args.tlsf.now.memory s.machine c.insert_free_block_ptr-taken.new.self.memory x.machine) (sym none)
     (_, (may, t, refused, refl), IsAt-not_inserted at c.insert_free_block_ptr-taken.ensures.place t stands c.args.range refused, keeps)
+
+pub is_vacant-requires-clause-in_order : goal.is_vacant-requires-clause-in_order
+is_vacant-requires-clause-in_order g c =
+    let (s, at) = c.requires.state in
+    at.in_order
+
+pub is_vacant-requires-clause-addressable : goal.is_vacant-requires-clause-addressable
+is_vacant-requires-clause-addressable g c =
+    let (s, at) = c.requires.state in
+    subst (λ m. end_of (range_of m) < 2 ^ 64) (sym c.memory_ref.ensures.memory) at.stands.well_formed.addressable
+
+pub returns-then-not-is_vacant-clause-room : goal.returns-then-not-is_vacant-clause-room
+returns-then-not-is_vacant-clause-room g c = room_left c.args.tables.now
+
+pub returns-in_default-clause-room : goal.returns-in_default-clause-room
+returns-in_default-clause-room g c = room_left c.args.tables.now

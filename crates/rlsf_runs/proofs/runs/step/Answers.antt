@@ -1,12 +1,8 @@
-use Rattle.std.proofs.Common.{ℕ, ◌+◌, arith, refl, sym, subst}
-use Rattle.rlsf_runs.specs.declared.tables.Tables.{Tables}
+use Rattle.std.proofs.Common.{refl, sym, subst}
 use Rattle.rlsf_runs.specs.Runs.{RunState}
-use Rattle.rlsf_runs.specs.Steps.Tables.{HasRoom, IsAt, LeadsOn}
+use Rattle.rlsf_runs.specs.Steps.Tables.{IsAt, LeadsOn}
+use Rattle.rlsf_runs.proofs.NamedPayloads.{room_left}
 use Rattle.rlsf_runs.proofs.runs.step.Goals as goal
-
--- tables with room for one op more have it for the others
-room_left : (tables : Tables) (ops : ℕ) → HasRoom tables (ops + 1) → HasRoom tables ops
-room_left tables ops room = record { names = omega (arith, room.names); pools = omega (arith, room.pools) }
 
 pub returns-in-Insert-clause-does : goal.returns-in-Insert-clause-does
 returns-in-Insert-clause-does g c =

@@ -1,4 +1,4 @@
-use Rattle.std.proofs.Common.{◌≡◌, ℕ, length, nat_eq, Result, Ok, Err, OnOk, OnErr, sym, subst}
+use Rattle.std.proofs.Common.{rules, ◌≡◌, ℕ, length, nat_eq, Result, Ok, Err, OnOk, OnErr, sym, subst}
 use Rattle.std.specs.Map.{remove_entry}
 use Rattle.rlsf_uses.specs.Handled.{Handled}
 use Rattle.rlsf_uses.specs.Objects.{HaveSize}
@@ -13,3 +13,12 @@ keep_size (Err e) o n size handle align P sized removed refused = subst (λ h. (
 
 pub invariant_of-self : goal.invariant_of-self
 invariant_of-self c = keep_size c.remove.result c.self.inside.items c.remove.new.self c.self.inside.layout.size _ c.self.inside.layout.align _ c.self.invariant c.remove.ensures.removed c.remove.ensures.refused
+
+pub returns-clause-given_back : goal.returns-clause-given_back
+returns-clause-given_back c = search rules
+
+pub returns-clause-gone : goal.returns-clause-gone
+returns-clause-gone c = search rules
+
+pub returns-clause-unknown : goal.returns-clause-unknown
+returns-clause-unknown c = search rules

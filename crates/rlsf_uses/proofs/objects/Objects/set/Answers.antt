@@ -1,4 +1,4 @@
-use Rattle.std.proofs.Common.{◌≡◌, ◌+◌, ◌≤◌, ℕ, List, length, nat_eq, Option, None, Some, Result, Ok, Err, OnOk, OnErr, IsSomeAnd, arith, refl, sym, ap, subst, ◌∙◌}
+use Rattle.std.proofs.Common.{rules, ◌≡◌, ◌+◌, ◌≤◌, ℕ, List, length, nat_eq, Option, None, Some, Result, Ok, Err, OnOk, OnErr, IsSomeAnd, arith, refl, sym, ap, subst, ◌∙◌}
 use Rattle.std.proofs.lemmas.Bool.Decides.{nat_tests}
 use Rattle.std.specs.List.{splice}
 use Rattle.std.specs.Map.{lookup, set_value}
@@ -31,3 +31,9 @@ pub invariant_of-self : goal.invariant_of-self
 invariant_of-self c =
     let i = c.self.inside in
     keep_size c.write.result i.items c.write.new.self i.layout.size _ _ i.layout.align _ c.self.invariant c.write.ensures.answer c.write.ensures.written c.write.ensures.refused
+
+pub returns-clause-answer : goal.returns-clause-answer
+returns-clause-answer c = search rules
+
+pub returns-clause-written : goal.returns-clause-written
+returns-clause-written c = search rules

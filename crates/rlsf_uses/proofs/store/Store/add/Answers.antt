@@ -1,8 +1,8 @@
-use Rattle.std.proofs.Common.{◌≡◌, [], List, None, Some, length, take, refl, sym, ◌∙◌, ap, subst}
+use Rattle.std.proofs.Common.{◌≡◌, [], List, None, Some, length, take, refl, sym, ◌∙◌, ap, subst, ◌+◌, ◌≤◌, lit<, arith}
 use Rattle.std.specs.Prelude.{IfNone, IsSome}
 use Rattle.std.specs.Int.NonZero.{non_zero_usize_get}
 use Rattle.rlsf_base.specs.Sizes.{pool_size_to_contain_allocation}
-use Rattle.rlsf_base.specs.Space.{range_of}
+use Rattle.rlsf_base.specs.Space.{range_of, SamePlace}
 use Rattle.rlsf_tlsf.specs.Lending.{written}
 use Rattle.rlsf_uses.specs.Stored.{FitsPool, HasAmong, HasPlaces, KeepsAll, Place, StoreContents, place, store_contents}
 use Rattle.rlsf_uses.proofs.Fronts.{front-append}
@@ -39,3 +39,25 @@ returns-clause-stored c =
     (λ places has. subst (λ n. HasAmong (store_contents c.self.inside.heap c.self.inside.pool) new places [] (place addr n (length front)) front) c.in-Ok.ensures.layout.1
     (HasAmong-added places addr layout.align front (length front) refl has (λ before after store. IsStore-added layout.size layout.align addr layout.valid.aligned lent w before after store front c.in_ok-addr.ensures.step c.payload_mut.ensures.meaning c.write_at.ensures.len
     (ap (take (length front)) c.write_at.ensures.bytes ∙ front-append [] lent front 0 refl refl) c.in_ok-addr.ensures.place (c.payload_mut.ensures.place w))))
+
+pub payload_mut-requires : goal.payload_mut-requires
+payload_mut-requires c =
+    let (t, stands, (u, held, aligned, enough)) = c.in_ok-addr.ensures.sized in
+    (lit< tt, (t, stands, (u, held)))
+
+pub returns-clause-place : goal.returns-clause-place
+returns-clause-place c =
+    let first = c.in_ok-addr.ensures.place in
+    let then = c.payload_mut.ensures.place c.write_at.new.payload in
+    subst (λ (old : StoreContents). SamePlace old.heap.memory (written c.allocate.new.self (non_zero_usize_get c.in_ok-addr.addr) (length c.payload_mut.result.now) c.write_at.new.payload).memory) c.self.view_is
+    (then.0 ∙ first.0, then.1 ∙ first.1)
+
+pub returns-clause-touches : goal.returns-clause-touches
+returns-clause-touches c =
+    subst (λ (old : StoreContents). (written c.allocate.new.self (non_zero_usize_get c.in_ok-addr.addr) (length c.payload_mut.result.now) c.write_at.new.payload).memory.touches ≤ old.heap.memory.touches + 30) c.self.view_is
+    (omega (arith, c.in_ok-addr.ensures.touches))
+
+pub write_at-requires : goal.write_at-requires
+write_at-requires c =
+    let (t, stands, (u, held, aligned, enough)) = c.in_ok-addr.ensures.sized in
+    omega (arith, c.payload_mut.ensures.len t u stands held, enough, c.in-Ok.ensures.layout.0)

@@ -1,8 +1,8 @@
-use Rattle.std.proofs.Common.{◌≡◌, ◌≤◌, [], List, None, length, replicate, take, arith, refl, sym, ◌∙◌, ap, subst}
+use Rattle.std.proofs.Common.{◌≡◌, ◌≤◌, [], List, None, length, replicate, take, arith, refl, sym, ◌∙◌, ap, subst, ◌+◌, lit<}
 use Rattle.std.proofs.lemmas.List.{length-replicate, take-replicate}
 use Rattle.std.specs.Prelude.{IfNone, IsSome}
 use Rattle.std.specs.Int.NonZero.{non_zero_usize_get}
-use Rattle.rlsf_base.specs.Space.{range_of}
+use Rattle.rlsf_base.specs.Space.{range_of, SamePlace}
 use Rattle.rlsf_tlsf.specs.Lending.{written}
 use Rattle.rlsf_uses.specs.Stored.{FitsPool, HasAmong, HasPlaces, KeepsAll, Place, StoreContents, place, store_contents}
 use Rattle.rlsf_uses.proofs.Places.{HasAmong-added, HasSame-stored, IsStore-none}
@@ -37,3 +37,20 @@ returns-clause-stored c =
     subst (λ (old : StoreContents). (places : List Place) → HasPlaces old places → HasAmong old (store_contents (written c.allocate.new.self addr (length lent) w) c.self.inside.pool) places [] (place addr layout.align layout.size) front) c.self.view_is
     (λ places has. HasAmong-added places addr layout.align front layout.size (length-replicate layout.size 0) has
     (λ before after store. IsStore-added layout.size layout.align addr layout.valid.aligned lent w before after store front c.in_ok-addr.ensures.step c.payload_mut.ensures.meaning c.fill.ensures.len begins c.in_ok-addr.ensures.place (c.payload_mut.ensures.place w)))
+
+pub payload_mut-requires : goal.payload_mut-requires
+payload_mut-requires c =
+    let (t, stands, (u, held, aligned, enough)) = c.in_ok-addr.ensures.sized in
+    (lit< tt, (t, stands, (u, held)))
+
+pub returns-clause-place : goal.returns-clause-place
+returns-clause-place c =
+    let first = c.in_ok-addr.ensures.place in
+    let then = c.payload_mut.ensures.place c.fill.new.self in
+    subst (λ (old : StoreContents). SamePlace old.heap.memory (written c.allocate.new.self (non_zero_usize_get c.in_ok-addr.addr) (length c.payload_mut.result.now) c.fill.new.self).memory) c.self.view_is
+    (then.0 ∙ first.0, then.1 ∙ first.1)
+
+pub returns-clause-touches : goal.returns-clause-touches
+returns-clause-touches c =
+    subst (λ (old : StoreContents). (written c.allocate.new.self (non_zero_usize_get c.in_ok-addr.addr) (length c.payload_mut.result.now) c.fill.new.self).memory.touches ≤ old.heap.memory.touches + 30) c.self.view_is
+    (omega (arith, c.in_ok-addr.ensures.touches))

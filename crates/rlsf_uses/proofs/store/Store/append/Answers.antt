@@ -1,6 +1,7 @@
 use Rattle.std.proofs.Common.{◌≡◌, ◌+◌, ◌≤◌, ◌∷◌, ◌++◌, ℕ, List, length, length-append, take, lit<, arith, refl, sym, ◌∙◌, ap, subst}
 use Rattle.std.specs.Prelude.{IfNone}
 use Rattle.std.specs.Int.NonZero.{non_zero_usize_get}
+use Rattle.rlsf_base.specs.Space.{SamePlace}
 use Rattle.rlsf_tlsf.specs.Lending.{written}
 use Rattle.rlsf_uses.specs.Stored.{HasAmong, HasPlaces, HasSame, Place, StoreContents, bytes_at, place, store_contents, stored}
 use Rattle.rlsf_uses.proofs.Fronts.{front-append}
@@ -46,3 +47,25 @@ returns-clause-stored c =
     let stores = IsStore-written lent w front back (stored to k.align k.bytes) resized refl (k.bytes ++ more) c.payload_mut.ensures.meaning c.write_at.ensures.len begins (c.payload_mut.ensures.place w) in
     let new_len : length (k.bytes ++ more) ≡ c.args.len + length more = length-append k.bytes more ∙ ap (λ n. n + length more) long in
     (stored to k.align (k.bytes ++ more), stores, ap (λ n. place to n (length (k.bytes ++ more))) aligned ∙ ap (place to 1) new_len, ap (λ bs. bs ++ more) are)))
+
+pub payload_mut-requires : goal.payload_mut-requires
+payload_mut-requires c =
+    let (t, stands, (u, held, aligned, enough)) = c.in_ok-to.ensures.sized in
+    (lit< tt, (t, stands, (u, held)))
+
+pub returns-clause-place : goal.returns-clause-place
+returns-clause-place c =
+    let first = c.in_ok-to.ensures.place in
+    let then = c.payload_mut.ensures.place c.write_at.new.payload in
+    subst (λ (old : StoreContents). SamePlace old.heap.memory (written c.reallocate.new.self (non_zero_usize_get c.in_ok-to.to) (length c.payload_mut.result.now) c.write_at.new.payload).memory) c.self.view_is
+    (then.0 ∙ first.0, then.1 ∙ first.1)
+
+pub returns-clause-touches : goal.returns-clause-touches
+returns-clause-touches c =
+    subst (λ (old : StoreContents). (written c.reallocate.new.self (non_zero_usize_get c.in_ok-to.to) (length c.payload_mut.result.now) c.write_at.new.payload).memory.touches ≤ old.heap.memory.touches + 69) c.self.view_is
+    (omega (arith, c.in_ok-to.ensures.touches))
+
+pub write_at-requires : goal.write_at-requires
+write_at-requires c =
+    let (t, stands, (u, held, aligned, enough)) = c.in_ok-to.ensures.sized in
+    omega (arith, c.payload_mut.ensures.len t u stands held, enough, c.in-Ok.ensures.layout.0, c.in_ok-size.ensures)
