@@ -1,12 +1,14 @@
 ghost use Rattle.rlsf_base.specs.SizeClass.{IsValid};
 ghost use Rattle.rlsf_base.specs.Sizes as sizes;
 
+use crate::answers::all;
 use rlsf_base::classes::{
     map_ceil, map_ceil_and_unmap, map_floor, max_pool_size, pool_size_to_contain_allocation,
     request_size,
 };
 use rlsf_base::memory::Layout;
 use rlsf_int::BitPattern;
+use std::process::Abort;
 
 /// What is computed of a size.
 type Row = (
@@ -31,35 +33,46 @@ fn start(fl: usize, sl: usize, size: usize) -> Row {
     (Some((fl, sl)), Some((fl, sl)), Some(size))
 }
 
+/// Passes where the rows are the expected ones.
+fn are(rt: &impl Abort, rows: &[Row], expected: &[Row]) {
+    assert_eq!(rt; rows, expected);
+}
+
 #[test]
 fn eight_rows_of_eight(rt: HostRuntime) {
-    assert_eq!(rt; row::<u8, u8, 8, 8>(32), start(0, 0, 32));
-    assert_eq!(rt; row::<u8, u8, 8, 8>(64), start(1, 0, 64));
-    assert_eq!(rt; row::<u8, u8, 8, 8>(96), start(1, 4, 96));
-    assert_eq!(rt; row::<u8, u8, 8, 8>(416), start(3, 5, 416));
-    assert_eq!(rt; row::<u8, u8, 8, 8>(448), start(3, 6, 448));
-    assert_eq!(rt;
+    let rows = [
+        row::<u8, u8, 8, 8>(32),
+        row::<u8, u8, 8, 8>(64),
+        row::<u8, u8, 8, 8>(96),
+        row::<u8, u8, 8, 8>(416),
+        row::<u8, u8, 8, 8>(448),
         row::<u8, u8, 8, 8>(544),
-        (Some((4, 0)), Some((4, 1)), Some(576))
-    );
-    assert_eq!(rt;
         row::<u8, u8, 8, 8>(2016),
-        (Some((5, 7)), Some((6, 0)), Some(2048))
-    );
-    assert_eq!(rt; row::<u8, u8, 8, 8>(7680), start(7, 7, 7680));
-    assert_eq!(rt; row::<u8, u8, 8, 8>(8160), (Some((7, 7)), None, None));
-    assert_eq!(rt; row::<u8, u8, 8, 8>(8192), (None, None, None));
+        row::<u8, u8, 8, 8>(7680),
+        row::<u8, u8, 8, 8>(8160),
+        row::<u8, u8, 8, 8>(8192),
+    ];
+    let expected = [
+        start(0, 0, 32),
+        start(1, 0, 64),
+        start(1, 4, 96),
+        start(3, 5, 416),
+        start(3, 6, 448),
+        (Some((4, 0)), Some((4, 1)), Some(576)),
+        (Some((5, 7)), Some((6, 0)), Some(2048)),
+        start(7, 7, 7680),
+        (Some((7, 7)), None, None),
+        (None, None, None),
+    ];
+    are(&rt, &rows, &expected);
 }
 
 #[test]
 fn other_rows(rt: HostRuntime) {
     let last = usize::MAX - 31;
-    let few_classes = [row::<u8, u8, 8, 1>(96), row::<u8, u8, 1, 1>(32)];
-    assert_eq!(rt;
-        few_classes,
-        [(Some((1, 0)), Some((2, 0)), Some(128)), start(0, 0, 32)]
-    );
-    let many_classes = [
+    let rows = [
+        row::<u8, u8, 8, 1>(96),
+        row::<u8, u8, 1, 1>(32),
         row::<u64, u64, 64, 64>(32),
         row::<u64, u64, 64, 64>(96),
         row::<u64, u64, 64, 64>(70016),
@@ -67,13 +80,15 @@ fn other_rows(rt: HostRuntime) {
         row::<u64, u8, 59, 8>(last),
     ];
     let expected = [
+        (Some((1, 0)), Some((2, 0)), Some(128)),
+        start(0, 0, 32),
         start(0, 0, 32),
         start(1, 32, 96),
         (Some((11, 4)), Some((11, 5)), Some(70656)),
         (Some((58, 63)), Some((59, 0)), None),
         (Some((58, 7)), None, None),
     ];
-    assert_eq!(rt; many_classes, expected);
+    are(&rt, &rows, &expected);
 }
 
 #[test]
@@ -83,13 +98,18 @@ fn longest_chunks(rt: HostRuntime) {
         max_pool_size::<u8, u8, 8, 8>(),
         max_pool_size::<u16, u8, 12, 8>(),
         max_pool_size::<u64, u8, 58, 8>(),
-    ];
-    assert_eq!(rt; ends, [Some(64), Some(8192), Some(131072), Some(1 << 63)]);
-    let none = [
         max_pool_size::<u64, u8, 59, 8>(),
         max_pool_size::<u64, u8, 60, 8>(),
     ];
-    assert_eq!(rt; none, [None; 2]);
+    let expected = [
+        Some(64),
+        Some(8192),
+        Some(131072),
+        Some(1 << 63),
+        None,
+        None,
+    ];
+    assert_eq!(rt; ends, expected);
 }
 
 #[test]
@@ -97,13 +117,15 @@ fn pools_for_one_allocation(rt: HostRuntime) {
     let one = Layout::from_size_align_unchecked(1, 1);
     let middling = Layout::from_size_align_unchecked(2000, 1);
     let large = Layout::from_size_align_unchecked(8000, 1);
-    assert_eq!(rt; request_size(one), 32);
     let pools = [
         pool_size_to_contain_allocation::<u8, u8, 8, 8>(one),
         pool_size_to_contain_allocation::<u8, u8, 8, 8>(middling),
         pool_size_to_contain_allocation::<u8, u8, 8, 8>(large),
     ];
-    assert_eq!(rt; pools, [Some(64), Some(2080), None]);
+    assert_eq!(rt;
+        (request_size(one), pools),
+        (32, [Some(64), Some(2080), None])
+    );
 }
 
 /// Whether the class is one, and is that of a size which begins it.
@@ -167,41 +189,36 @@ fn all_laws_hold<F: BitPattern, S: BitPattern, const FLLEN: usize, const SLLEN: 
 }
 
 #[test]
-fn laws_in_small_rows(rt: HostRuntime) {
-    assert!(rt; all_laws_hold::<u8, u8, 1, 1>());
-    assert!(rt; all_laws_hold::<u8, u8, 1, 2>());
-    assert!(rt; all_laws_hold::<u8, u8, 1, 4>());
-    assert!(rt; all_laws_hold::<u8, u8, 1, 8>());
-    assert!(rt; all_laws_hold::<u8, u8, 3, 4>());
-    assert!(rt; all_laws_hold::<u8, u8, 5, 4>());
-    assert!(rt; all_laws_hold::<u8, u8, 8, 1>());
-    assert!(rt; all_laws_hold::<u8, u8, 8, 8>());
-    assert!(rt; all_laws_hold::<u16, u8, 3, 4>());
-    assert!(rt; all_laws_hold::<u16, u8, 11, 4>());
-    assert!(rt; all_laws_hold::<u16, u8, 16, 4>());
-}
-
-#[test]
-fn laws_in_middling_rows(rt: HostRuntime) {
-    assert!(rt; all_laws_hold::<u16, u16, 3, 16>());
-    assert!(rt; all_laws_hold::<u16, u16, 11, 16>());
-    assert!(rt; all_laws_hold::<u16, u16, 16, 16>());
-    assert!(rt; all_laws_hold::<u16, u64, 3, 32>());
-    assert!(rt; all_laws_hold::<u16, u64, 11, 32>());
-    assert!(rt; all_laws_hold::<u16, u64, 16, 32>());
-    assert!(rt; all_laws_hold::<u64, u64, 20, 32>());
-    assert!(rt; all_laws_hold::<u64, u64, 27, 32>());
-    assert!(rt; all_laws_hold::<u64, u64, 28, 32>());
-    assert!(rt; all_laws_hold::<u64, u64, 29, 32>());
-    assert!(rt; all_laws_hold::<u64, u64, 32, 32>());
-}
-
-#[test]
-fn laws_in_rows_up_to_the_last_size(rt: HostRuntime) {
-    assert!(rt; all_laws_hold::<u64, u8, 58, 8>());
-    assert!(rt; all_laws_hold::<u64, u8, 59, 8>());
-    assert!(rt; all_laws_hold::<u64, u8, 60, 8>());
-    assert!(rt; all_laws_hold::<u64, u8, 61, 8>());
-    assert!(rt; all_laws_hold::<u64, u8, 64, 8>());
-    assert!(rt; all_laws_hold::<usize, usize, 64, 64>());
+fn laws(rt: HostRuntime) {
+    let answers = [
+        all_laws_hold::<u8, u8, 1, 1>(),
+        all_laws_hold::<u8, u8, 1, 2>(),
+        all_laws_hold::<u8, u8, 1, 4>(),
+        all_laws_hold::<u8, u8, 1, 8>(),
+        all_laws_hold::<u8, u8, 3, 4>(),
+        all_laws_hold::<u8, u8, 5, 4>(),
+        all_laws_hold::<u8, u8, 8, 1>(),
+        all_laws_hold::<u8, u8, 8, 8>(),
+        all_laws_hold::<u16, u8, 3, 4>(),
+        all_laws_hold::<u16, u8, 11, 4>(),
+        all_laws_hold::<u16, u8, 16, 4>(),
+        all_laws_hold::<u16, u16, 3, 16>(),
+        all_laws_hold::<u16, u16, 11, 16>(),
+        all_laws_hold::<u16, u16, 16, 16>(),
+        all_laws_hold::<u16, u64, 3, 32>(),
+        all_laws_hold::<u16, u64, 11, 32>(),
+        all_laws_hold::<u16, u64, 16, 32>(),
+        all_laws_hold::<u64, u64, 20, 32>(),
+        all_laws_hold::<u64, u64, 27, 32>(),
+        all_laws_hold::<u64, u64, 28, 32>(),
+        all_laws_hold::<u64, u64, 29, 32>(),
+        all_laws_hold::<u64, u64, 32, 32>(),
+        all_laws_hold::<u64, u8, 58, 8>(),
+        all_laws_hold::<u64, u8, 59, 8>(),
+        all_laws_hold::<u64, u8, 60, 8>(),
+        all_laws_hold::<u64, u8, 61, 8>(),
+        all_laws_hold::<u64, u8, 64, 8>(),
+        all_laws_hold::<usize, usize, 64, 64>(),
+    ];
+    all(&rt, &answers);
 }

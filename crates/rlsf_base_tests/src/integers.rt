@@ -3,6 +3,7 @@
 ghost use Rattle.std.specs.Prelude.{◌≡◌, ◌≢◌, ◌+◌, ◌^◌, ◌<◌, ◌≤◌, ℕ, false, true, IfNone, IfSome};
 ghost use Rattle.rlsf_int.specs.Bits.{bit};
 
+use crate::answers::all;
 use rlsf_int::BinInteger;
 
 /// The number of positions, through the bound.
@@ -118,15 +119,13 @@ fn bits_of_each_type(rt: HostRuntime) {
 
 #[test]
 fn zero_of_each_type(rt: HostRuntime) {
-    let signed = [
+    let answers = [
         empty::<i8>() == 0,
         empty::<i16>() == 0,
         empty::<i32>() == 0,
         empty::<i64>() == 0,
         empty::<i128>() == 0,
         empty::<isize>() == 0,
-    ];
-    let unsigned = [
         empty::<u8>() == 0,
         empty::<u16>() == 0,
         empty::<u32>() == 0,
@@ -134,126 +133,105 @@ fn zero_of_each_type(rt: HostRuntime) {
         empty::<u128>() == 0,
         empty::<usize>() == 0,
     ];
-    assert_eq!(rt; [signed, unsigned], [[true; 6]; 2]);
+    all(&rt, &answers);
 }
 
 #[test]
-fn worked_scans_and_parts(rt: HostRuntime) {
-    let scans = [0b1010_u8.bit_scan_forward(2), 0b1010_u8.bit_scan_forward(4)];
-    let parts = [
-        (-1_i8).extract_u32(4..8),
-        0x12_3456_789A_u64.extract_u32(4..40),
+fn worked_values(rt: HostRuntime) {
+    let answers = [
+        0b1010_u8.bit_scan_forward(2) == 3,
+        0b1010_u8.bit_scan_forward(4) == 8,
+        (-1_i8).extract_u32(4..8) == 15,
+        0x12_3456_789A_u64.extract_u32(4..40) == 0x2345_6789,
+        i8::ones(0..8) == -1,
+        i8::ones(7..8) == -128,
+        u8::ones(8..8) == 0,
+        u8::ones_truncated(6..20) == 192,
+        u8::ones_truncated(9..20) == 0,
+        0x11_u8.checked_ceil_fix(4) == Some(0x20),
+        0xF1_u8.checked_ceil_fix(4) == None,
+        (-7_i8).checked_ceil_fix(3) == Some(0),
+        127_i8.checked_ceil_fix(3) == None,
+        (-1_i8).checked_ceil_fix(7) == Some(0),
+        1_i8.checked_ceil_fix(7) == None,
+        (-1_i8).checked_ceil_fix(8) == None,
+        BinInteger::trailing_zeros(&0_u8) == 8,
+        BinInteger::leading_zeros(&0_u8) == 8,
+        BinInteger::count_ones(&0_u8) == 0,
+        !0_u8.get_bit(8),
     ];
-    assert_eq!(rt; [scans, parts], [[3, 8], [15, 0x2345_6789]]);
-}
-
-#[test]
-fn worked_runs(rt: HostRuntime) {
-    assert_eq!(rt; [i8::ones(0..8), i8::ones(7..8)], [-1, -128]);
-    let unsigned = [
-        u8::ones(8..8),
-        u8::ones_truncated(6..20),
-        u8::ones_truncated(9..20),
-    ];
-    assert_eq!(rt; unsigned, [0, 192, 0]);
-}
-
-#[test]
-fn worked_ceilings(rt: HostRuntime) {
-    let unsigned = [0x11_u8.checked_ceil_fix(4), 0xF1_u8.checked_ceil_fix(4)];
-    assert_eq!(rt; unsigned, [Some(0x20), None]);
-    let signed = [
-        (-7_i8).checked_ceil_fix(3),
-        127_i8.checked_ceil_fix(3),
-        (-1_i8).checked_ceil_fix(7),
-        1_i8.checked_ceil_fix(7),
-        (-1_i8).checked_ceil_fix(8),
-    ];
-    assert_eq!(rt; signed, [Some(0), None, Some(0), None, None]);
-}
-
-#[test]
-fn worked_zero(rt: HostRuntime) {
-    let counts = [
-        BinInteger::trailing_zeros(&0_u8),
-        BinInteger::leading_zeros(&0_u8),
-        BinInteger::count_ones(&0_u8),
-    ];
-    assert_eq!(rt; counts, [8, 8, 0]);
-    assert_eq!(rt; 0_u8.get_bit(8), false);
+    all(&rt, &answers);
 }
 
 #[test]
 fn reads_through_the_bound(rt: HostRuntime) {
-    let narrow = [reads(&0b0101_1000_u8, 4), reads(&-88_i8, 4)];
-    assert_eq!(rt; narrow, [[3, 1, 4, 0b0101], [3, 0, 5, 0b1010]]);
-    let wide = [
-        reads(&((1 << 100) + 12_u128), 98),
-        reads(&-(1_i128 << 100), 98),
+    let answers = [
+        reads(&0b0101_1000_u8, 4) == [3, 1, 4, 0b0101],
+        reads(&-88_i8, 4) == [3, 0, 5, 0b1010],
+        reads(&((1 << 100) + 12_u128), 98) == [2, 27, 100, 0b0100],
+        reads(&-(1_i128 << 100), 98) == [100, 0, 100, 0b1100],
+        count(&88_u8) == 3,
+        count(&-88_i8) == 3,
+        count(&((1 << 100) + 12_u128)) == 3,
+        count(&-(1_i128 << 100)) == 28,
+        has(&88_u8, 6),
+        !has(&88_u8, 7),
+        has(&-88_i8, 7),
+        !has(&-88_i8, 6),
+        has(&(1_u128 << 100), 100),
+        !has(&(1_u128 << 100), 228),
+        has(&-1_i128, 127),
+        !has(&-1_i128, 128),
     ];
-    assert_eq!(rt; wide, [[2, 27, 100, 0b0100], [100, 0, 100, 0b1100]]);
-    let counts = [
-        count(&88_u8),
-        count(&-88_i8),
-        count(&((1 << 100) + 12_u128)),
-        count(&-(1_i128 << 100)),
-    ];
-    assert_eq!(rt; counts, [3, 3, 3, 28]);
-    let bits = [
-        [has(&88_u8, 6), has(&88_u8, 7)],
-        [has(&-88_i8, 7), has(&-88_i8, 6)],
-        [has(&(1_u128 << 100), 100), has(&(1_u128 << 100), 228)],
-        [has(&-1_i128, 127), has(&-1_i128, 128)],
-    ];
-    assert_eq!(rt; bits, [[true, false]; 4]);
+    all(&rt, &answers);
 }
 
 #[test]
 fn makes_through_the_bound(rt: HostRuntime) {
-    assert_eq!(rt; (run::<u8>(2, 5), run::<i8>(6, 8)), (28, -64));
-    assert_eq!(rt;
-        (run::<u128>(64, 65), run::<i128>(127, 128)),
-        (18_446_744_073_709_551_616, i128::MIN)
-    );
-    assert_eq!(rt; (cut_run::<u8>(7, 9), cut_run::<i8>(8, 9)), (128, 0));
-    assert_eq!(rt;
-        (cut_run::<u128>(0, 200), cut_run::<i128>(127, 200)),
-        (u128::MAX, i128::MIN)
-    );
+    let answers = [
+        run::<u8>(2, 5) == 28,
+        run::<i8>(6, 8) == -64,
+        run::<u128>(64, 65) == 18_446_744_073_709_551_616,
+        run::<i128>(127, 128) == i128::MIN,
+        cut_run::<u8>(7, 9) == 128,
+        cut_run::<i8>(8, 9) == 0,
+        cut_run::<u128>(0, 200) == u128::MAX,
+        cut_run::<i128>(127, 200) == i128::MIN,
+    ];
+    all(&rt, &answers);
 }
 
 #[test]
 fn writes_through_the_bound(rt: HostRuntime) {
-    assert_eq!(rt;
-        (with(1_u8, 7), with(1_i8, 7), with(1_u8, 8)),
-        (129, -127, 1)
-    );
-    assert_eq!(rt;
-        (with(0_u128, 64), with(0_i128, 127)),
-        (18_446_744_073_709_551_616, i128::MIN)
-    );
-    assert_eq!(rt;
-        (without(255_u8, 0), without(-1_i8, 7), without(-1_i8, 8)),
-        (254, 127, -1)
-    );
-    assert_eq!(rt;
-        (without(u128::MAX, 127), without(-1_i128, 127)),
-        (u128::MAX / 2, i128::MAX)
-    );
     let mut map = 0b1001_0001_u8;
-    assert_eq!(rt; (move_first(&mut map, 1, 6), map), (Some(4), 0b1100_0001));
-    assert_eq!(rt; (move_first(&mut map, 8, 6), map), (None, 0b1100_0001));
+    let moved = move_first(&mut map, 1, 6) == Some(4) && map == 0b1100_0001;
+    let left = move_first(&mut map, 8, 6) == None && map == 0b1100_0001;
+    let answers = [
+        with(1_u8, 7) == 129,
+        with(1_i8, 7) == -127,
+        with(1_u8, 8) == 1,
+        with(0_u128, 64) == 18_446_744_073_709_551_616,
+        with(0_i128, 127) == i128::MIN,
+        without(255_u8, 0) == 254,
+        without(-1_i8, 7) == 127,
+        without(-1_i8, 8) == -1,
+        without(u128::MAX, 127) == u128::MAX / 2,
+        without(-1_i128, 127) == i128::MAX,
+        moved,
+        left,
+    ];
+    all(&rt, &answers);
 }
 
 #[test]
 fn rounds_through_the_bound(rt: HostRuntime) {
-    assert_eq!(rt; (rounded(9_u8, 3), rounded(-9_i8, 3)), (Some(16), Some(-8)));
-    assert_eq!(rt;
-        (rounded(5_u128, 2), rounded(u128::MAX, 1)),
-        (Some(8), None)
-    );
-    assert_eq!(rt;
-        (rounded(-9_i128, 3), rounded(0_i128, 128)),
-        (Some(-8), Some(0))
-    );
+    let answers = [
+        rounded(9_u8, 3) == Some(16),
+        rounded(-9_i8, 3) == Some(-8),
+        rounded(5_u128, 2) == Some(8),
+        rounded(u128::MAX, 1) == None,
+        rounded(-9_i128, 3) == Some(-8),
+        rounded(0_i128, 128) == Some(0),
+    ];
+    all(&rt, &answers);
 }

@@ -1,19 +1,32 @@
-use rlsf_base::memory::{Layout, LayoutError};
+use rlsf_base::memory::Layout;
 
 #[test]
 fn layouts(rt: HostRuntime) {
     let half = 1 << 63;
-    assert_eq!(rt; Layout::from_size_align(1, 3), Err(LayoutError));
-    assert_eq!(rt; Layout::from_size_align(1, 0), Err(LayoutError));
-    assert!(rt; Layout::from_size_align(half - 16, 16).is_ok());
-    assert_eq!(rt; Layout::from_size_align(half - 15, 16), Err(LayoutError));
+    let asked = [
+        (1, 3, false),
+        (1, 0, false),
+        (half - 16, 16, true),
+        (half - 15, 16, false),
+    ];
+    for (size, align, is_layout) in asked {
+        let layout = Layout::from_size_align(size, align);
+        assert_eq!(rt;
+            layout.is_ok(),
+            is_layout,
+            "{size} bytes at multiples of {align}"
+        );
+    }
 }
 
 #[test]
 fn sizes_and_alignments(rt: HostRuntime) {
     let layout = Layout::from_size_align_unchecked(20, 16);
-    assert_eq!(rt; (layout.size(), layout.align()), (20, 16));
     let padded = layout.pad_to_align();
-    assert_eq!(rt; (padded.size(), padded.align()), (32, 16));
-    assert_eq!(rt; padded.pad_to_align(), padded);
+    let is_padded = padded.pad_to_align() == padded;
+    let pairs = [
+        (layout.size(), layout.align()),
+        (padded.size(), padded.align()),
+    ];
+    assert_eq!(rt; (pairs, is_padded), ([(20, 16), (32, 16)], true));
 }

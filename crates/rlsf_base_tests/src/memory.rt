@@ -1,4 +1,6 @@
-ghost use Rattle.std.specs.Prelude.{◌≡◌, ◌^◌, ◌<◌, length, IfOk};
+ghost use Rattle.std.specs.Prelude.{◌≡◌, ◌%◌, length, IsTrue};
+ghost use Rattle.rlsf_base.specs.Range.{LiesIn};
+ghost use Rattle.rlsf_base.specs.Space.{IsWord};
 
 use rlsf_base::memory::{Memory, MemoryError, Range};
 use std::alloc::Global;
@@ -7,185 +9,288 @@ use std::thread;
 
 const MAX: usize = usize::MAX;
 
-/// A memory from 4096 on with the bytes 1 to 16.
-fn sixteen(alloc: Global) -> Result<Memory, MemoryError>
-    ensures { IfOk result (λ m. (m.start ≡ 4096) × (length m.bytes ≡ 16)) }
-{
-    let mut memory = Memory::new(alloc, 4096, 16)?;
-    memory.set_word(4096, 0x0807060504030201);
-    memory.set_word(4104, 0x100f0e0d0c0b0a09);
-    Ok(memory)
+/// What a memory is asked, and what it must answer.
+#[derive(Clone, Copy)]
+enum Step {
+    /// Writes the word at an address.
+    SetWord(usize, u64),
+    /// Reads the word at an address.
+    Word(usize, u64),
+    /// Reads the word at an address, counted as one touch.
+    Load(usize, u64),
+    /// Counts one touch.
+    Touch,
+    /// Copies the bytes of a range to an address.
+    Copy(Range, usize),
+    /// Fills a range with a byte.
+    Fill(Range, u8),
+    /// Reads the bytes of a range.
+    Bytes(Range, &'static [u8]),
 }
 
-/// A memory of `len` zero bytes from 4096 on.
-fn zeroed(alloc: Global, len: usize) -> Result<Memory, MemoryError>
-    requires { len < 2 ^ 63 }
-    ensures { IfOk result (λ m. (m.start ≡ 4096) × (length m.bytes ≡ len)) }
+/// Whether the range lies in the memory.
+fn has(memory: &Memory, range: Range) -> bool
+    ensures { IsTrue result → LiesIn range memory.now.start (length memory.now.bytes) }
 {
-    Memory::new(alloc, 4096, len)
+    match range.start.checked_sub(memory.start()) {
+        Some(offset) => offset <= memory.len() && range.len <= memory.len() - offset,
+        None => false,
+    }
 }
+
+/// Whether the memory has a word at the address.
+fn has_word(memory: &Memory, addr: usize) -> bool
+    ensures { IsTrue result → IsWord memory.now addr }
+{
+    addr % 8 == 0
+        && has(
+            memory,
+            Range {
+                start: addr,
+                len: 8,
+            },
+        )
+}
+
+/// Copies the bytes of a range, if the memory has both places.
+fn copied(memory: &mut Memory, range: Range, to: usize) -> bool {
+    let place = Range {
+        start: to,
+        len: range.len,
+    };
+    let is_inside = has(memory, range) && has(memory, place);
+    if is_inside {
+        memory.copy_within(range, to);
+    }
+    is_inside
+}
+
+/// Fills a range that is lent, if the memory has it, and tells whether the range is as long as was asked.
+fn filled(memory: &mut Memory, range: Range, byte: u8) -> bool {
+    if !has(memory, range) {
+        return false;
+    }
+    let lent = memory.slice_mut(range);
+    lent.fill(byte);
+    lent.len() == range.len
+}
+
+/// Whether the memory answers so. It doesn't where it lacks the place.
+fn is_right(memory: &mut Memory, step: Step) -> bool {
+    match step {
+        Step::SetWord(addr, word) => {
+            let is_inside = has_word(memory, addr);
+            if is_inside {
+                memory.set_word(addr, word);
+            }
+            is_inside
+        }
+        Step::Word(addr, word) => has_word(memory, addr) && memory.word(addr) == word,
+        Step::Load(addr, word) => has_word(memory, addr) && memory.load(addr) == word,
+        Step::Touch => {
+            memory.touch();
+            true
+        }
+        Step::Copy(range, to) => copied(memory, range, to),
+        Step::Fill(range, byte) => filled(memory, range, byte),
+        Step::Bytes(range, bytes) => has(memory, range) && memory.slice(range) == bytes,
+    }
+}
+
+/// The index of the first step that the memory answers otherwise.
+fn first_wrong(memory: &mut Memory, steps: &[Step]) -> Option<usize> {
+    for (index, step) in steps.iter().enumerate() {
+        if !is_right(memory, *step) {
+            return Some(index);
+        }
+    }
+    None
+}
+
+/// The start and the length of a memory that was made so, and the index of the first step that it answers otherwise.
+fn made(
+    alloc: Global,
+    start: usize,
+    len: usize,
+    steps: &[Step],
+) -> Result<(usize, usize, Option<usize>), MemoryError> {
+    let mut memory = Memory::new(alloc, start, len)?;
+    let wrong = first_wrong(&mut memory, steps);
+    Ok((memory.start(), memory.len(), wrong))
+}
+
+/// A start, a length, and why there is no such memory.
+const REFUSED: [(usize, usize, Option<MemoryError>); 8] = [
+    (0, 5, Some(MemoryError::ZeroStart)),
+    (0, MAX, Some(MemoryError::ZeroStart)),
+    (1, MAX, Some(MemoryError::TooLong)),
+    (2, MAX - 1, Some(MemoryError::TooLong)),
+    (MAX, 0, None),
+    // No machine has such a block.
+    (1, MAX - 1, Some(MemoryError::OutOfMemory)),
+    (4096, 1 << 63, Some(MemoryError::OutOfMemory)),
+    (4096, 1 << 62, Some(MemoryError::OutOfMemory)),
+];
 
 #[test]
 fn refuses_in_order(rt: HostRuntime) {
-    assert_eq!(rt;
-        Memory::new(rt.alloc(), 0, 5).err(),
-        Some(MemoryError::ZeroStart)
-    );
-    assert_eq!(rt;
-        Memory::new(rt.alloc(), 0, MAX).err(),
-        Some(MemoryError::ZeroStart)
-    );
-    assert_eq!(rt;
-        Memory::new(rt.alloc(), 1, MAX).err(),
-        Some(MemoryError::TooLong)
-    );
-    assert_eq!(rt;
-        Memory::new(rt.alloc(), 2, MAX - 1).err(),
-        Some(MemoryError::TooLong)
-    );
-    assert_eq!(rt; Memory::new(rt.alloc(), MAX, 0).err(), None);
+    for (start, len, error) in REFUSED {
+        assert_eq!(rt;
+            Memory::new(rt.alloc(), start, len).err(),
+            error,
+            "{len} bytes from {start} on"
+        );
+    }
 }
 
-#[test]
-fn no_such_block(rt: HostRuntime) {
-    assert_eq!(rt;
-        Memory::new(rt.alloc(), 1, MAX - 1).err(),
-        Some(MemoryError::OutOfMemory)
-    );
-    assert_eq!(rt;
-        Memory::new(rt.alloc(), 4096, 1 << 63).err(),
-        Some(MemoryError::OutOfMemory)
-    );
-    assert_eq!(rt;
-        Memory::new(rt.alloc(), 4096, 1 << 62).err(),
-        Some(MemoryError::OutOfMemory)
-    );
-}
+/// The range without a byte at the greatest address.
+const NONE: Range = Range { start: MAX, len: 0 };
+
+const EMPTY: &[Step] = &[
+    Step::Fill(NONE, 0),
+    Step::Copy(NONE, MAX),
+    Step::Bytes(NONE, &[]),
+];
+
+const WORD_BETWEEN_ADDRESSES: &[Step] = &[
+    Step::SetWord(4104, 0x0807060504030201),
+    Step::Bytes(
+        Range {
+            start: 4102,
+            len: 12,
+        },
+        &[0, 0, 1, 2, 3, 4, 5, 6, 7, 8, 0, 0],
+    ),
+    Step::Word(4104, 0x0807060504030201),
+    Step::Touch,
+    Step::Load(4104, 0x0807060504030201),
+    Step::Word(4112, 0),
+];
+
+const WORD_AT_THE_GREATEST_ADDRESSES: &[Step] = &[
+    Step::SetWord(MAX - 15, MAX as u64 - 1),
+    Step::Word(MAX - 15, MAX as u64 - 1),
+    Step::Word(MAX - 23, 0),
+];
+
+/// The address of the last word of a mebibyte.
+const LAST: usize = 4096 + (1 << 20) - 8;
+
+const FIRST_AND_LAST_WORD_OF_A_MEBIBYTE: &[Step] = &[
+    Step::SetWord(4096, 0x0807060504030201),
+    Step::SetWord(LAST, MAX as u64),
+    Step::Word(4104, 0),
+    Step::Word(LAST - 8, 0),
+    Step::Word(4096, 0x0807060504030201),
+    Step::Word(LAST, MAX as u64),
+];
+
+/// All addresses of a memory of 16 bytes.
+const ALL: Range = Range {
+    start: 4096,
+    len: 16,
+};
+
+const COPY_UP: &[Step] = &[
+    Step::SetWord(4096, 0x0807060504030201),
+    Step::SetWord(4104, 0x100f0e0d0c0b0a09),
+    Step::Copy(
+        Range {
+            start: 4096,
+            len: 12,
+        },
+        4100,
+    ),
+    Step::Bytes(ALL, &[1, 2, 3, 4, 1, 2, 3, 4, 5, 6, 7, 8, 9, 10, 11, 12]),
+];
+
+const COPY_DOWN: &[Step] = &[
+    Step::SetWord(4096, 0x0807060504030201),
+    Step::SetWord(4104, 0x100f0e0d0c0b0a09),
+    Step::Copy(
+        Range {
+            start: 4100,
+            len: 12,
+        },
+        4096,
+    ),
+    Step::Bytes(
+        ALL,
+        &[5, 6, 7, 8, 9, 10, 11, 12, 13, 14, 15, 16, 13, 14, 15, 16],
+    ),
+];
+
+const LENT_RANGE: &[Step] = &[
+    Step::SetWord(4096, 0x0807060504030201),
+    Step::SetWord(4104, 0x100f0e0d0c0b0a09),
+    Step::Fill(
+        Range {
+            start: 4099,
+            len: 3,
+        },
+        0,
+    ),
+    Step::Bytes(
+        Range {
+            start: 4096,
+            len: 8,
+        },
+        &[1, 2, 3, 0, 0, 0, 7, 8],
+    ),
+];
+
+/// A start, a length, and the steps of the memory.
+static SCRIPTS: [(usize, usize, &[Step]); 7] = [
+    (MAX, 0, EMPTY),
+    (4097, 23, WORD_BETWEEN_ADDRESSES),
+    (MAX - 23, 23, WORD_AT_THE_GREATEST_ADDRESSES),
+    (4096, 1 << 20, FIRST_AND_LAST_WORD_OF_A_MEBIBYTE),
+    (4096, 16, COPY_UP),
+    (4096, 16, COPY_DOWN),
+    (4096, 16, LENT_RANGE),
+];
 
 #[test]
-fn empty(rt: HostRuntime) -> Result<(), Fail> {
-    let mut memory = Memory::new(rt.alloc(), MAX, 0)?;
-    assert_eq!(rt; memory.start(), MAX);
-    assert_eq!(rt; memory.len(), 0);
-    let none = Range { start: MAX, len: 0 };
-    assert_eq!(rt; memory.slice_mut(none).len(), 0);
-    memory.copy_within(none, MAX);
-    assert_eq!(rt; memory.slice(none).len(), 0);
-    Ok(())
-}
-
-#[test]
-fn word_between_addresses(rt: HostRuntime) -> Result<(), Fail> {
-    let mut memory = Memory::new(rt.alloc(), 4097, 23)?;
-    memory.set_word(4104, 0x0807060504030201);
-    let seen = memory.slice(Range {
-        start: 4102,
-        len: 12,
-    });
-    assert_eq!(rt; seen, [0, 0, 1, 2, 3, 4, 5, 6, 7, 8, 0, 0].as_slice());
-    assert_eq!(rt; memory.word(4104), 0x0807060504030201);
-    memory.touch();
-    assert_eq!(rt; memory.load(4104), 0x0807060504030201);
-    assert_eq!(rt; memory.word(4112), 0);
-    Ok(())
-}
-
-#[test]
-fn word_at_the_greatest_addresses(rt: HostRuntime) -> Result<(), Fail> {
-    let mut memory = Memory::new(rt.alloc(), MAX - 23, 23)?;
-    memory.set_word(MAX - 15, MAX as u64 - 1);
-    assert_eq!(rt; memory.word(MAX - 15), MAX as u64 - 1);
-    assert_eq!(rt; memory.word(MAX - 23), 0);
-    Ok(())
-}
-
-#[test]
-fn first_and_last_word_of_a_mebibyte(rt: HostRuntime) -> Result<(), Fail> {
-    let mut memory = zeroed(rt.alloc(), 1 << 20)?;
-    let last = 4096 + (1 << 20) - 8;
-    memory.set_word(4096, 0x0807060504030201);
-    memory.set_word(last, MAX as u64);
-    let (second, last_but_one) = (memory.word(4104), memory.word(last - 8));
-    assert_eq!(rt; (second, last_but_one), (0, 0));
-    assert_eq!(rt; memory.word(4096), 0x0807060504030201);
-    assert_eq!(rt; memory.word(last), MAX as u64);
+fn steps(rt: HostRuntime) -> Result<(), Fail> {
+    for (start, len, steps) in SCRIPTS {
+        assert_eq!(rt; made(rt.alloc(), start, len, steps)?, (start, len, None));
+    }
     Ok(())
 }
 
 // They are 6400 MiB together, so a process that may have 2 GiB passes only if each one is given back.
 #[test]
 fn dropped_memories_are_given_back(rt: HostRuntime) -> Result<(), Fail> {
+    let steps = [Step::SetWord(4096, 1), Step::Word(4096, 1)];
     for _ in 0..200 {
-        let mut memory = zeroed(rt.alloc(), 1 << 25)?;
-        memory.set_word(4096, 1);
-        assert_eq!(rt; memory.word(4096), 1);
+        assert_eq!(rt;
+            made(rt.alloc(), 4096, 1 << 25, &steps)?,
+            (4096, 1 << 25, None)
+        );
     }
     Ok(())
 }
 
-#[test]
-fn copies_up_and_down(rt: HostRuntime) -> Result<(), Fail> {
-    let all = Range {
-        start: 4096,
-        len: 16,
-    };
-    let mut up = sixteen(rt.alloc())?;
-    up.copy_within(
-        Range {
-            start: 4096,
-            len: 12,
-        },
-        4100,
-    );
-    assert_eq!(rt;
-        up.slice(all),
-        [1, 2, 3, 4, 1, 2, 3, 4, 5, 6, 7, 8, 9, 10, 11, 12].as_slice()
-    );
-    let mut down = sixteen(rt.alloc())?;
-    down.copy_within(
-        Range {
-            start: 4100,
-            len: 12,
-        },
-        4096,
-    );
-    assert_eq!(rt;
-        down.slice(all),
-        [5, 6, 7, 8, 9, 10, 11, 12, 13, 14, 15, 16, 13, 14, 15, 16].as_slice()
-    );
-    Ok(())
-}
+const WRITTEN: &[Step] = &[
+    Step::SetWord(4096, 0x0807060504030201),
+    Step::SetWord(4104, 0x100f0e0d0c0b0a09),
+];
 
-#[test]
-fn lends_a_range(rt: HostRuntime) -> Result<(), Fail> {
-    let mut memory = sixteen(rt.alloc())?;
-    memory
-        .slice_mut(Range {
-            start: 4099,
-            len: 3,
-        })
-        .fill(0);
-    let seen = memory.slice(Range {
-        start: 4096,
-        len: 8,
-    });
-    assert_eq!(rt; seen, [1, 2, 3, 0, 0, 0, 7, 8].as_slice());
-    Ok(())
-}
+const SEEN: &[Step] = &[Step::Bytes(
+    ALL,
+    &[1, 2, 3, 4, 5, 6, 7, 8, 9, 10, 11, 12, 13, 14, 15, 16],
+)];
 
 #[test]
 fn crosses_threads(rt: HostRuntime) -> Result<(), Fail> {
-    let memory = sixteen(rt.alloc())?;
+    let mut memory = Memory::new(rt.alloc(), 4096, 16)?;
+    let before = first_wrong(&mut memory, WRITTEN);
     let child = thread::spawn(&rt, move || memory)?;
-    let back = child.join(&rt);
-    assert_eq!(rt; (back.start(), back.len()), (4096, 16));
-    let seen = back.slice(Range {
-        start: 4096,
-        len: 16,
-    });
+    let mut back = child.join(&rt);
+    let after = first_wrong(&mut back, SEEN);
     assert_eq!(rt;
-        seen,
-        [1, 2, 3, 4, 5, 6, 7, 8, 9, 10, 11, 12, 13, 14, 15, 16].as_slice()
+        (back.start(), back.len(), before, after),
+        (4096, 16, None, None)
     );
     Ok(())
 }

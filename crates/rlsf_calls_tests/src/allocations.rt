@@ -1,0 +1,129 @@
+//! What is inserted, which addresses are allocated, and the words that stand then.
+
+ghost use Rattle.std.specs.Prelude.{◌≢◌, IfSome};
+ghost use Rattle.std.specs.Int.NonZero.{non_zero_usize_get};
+ghost use Rattle.rlsf_machine.specs.State.{State, IsLive};
+ghost use Rattle.rlsf_blocks.specs.StandsFor.{StandsFor};
+
+use super::pools::{Small, Step, are, inserts, number, with_inserted, with_pool, word_at};
+use rlsf::{Addr, Layout, Range};
+use std::test::Fail;
+
+#[test]
+fn class_that_reaches(rt: HostRuntime) -> Result<(), Fail> {
+    let pool = (4096, 128);
+    inserts::<u8, u8, 8, 1>(&rt, rt.alloc(), pool, pool, &[Step::Allocate(66, 1, 0)])?;
+    inserts::<u8, u8, 8, 8>(&rt, rt.alloc(), pool, pool, &[Step::Allocate(66, 1, 4112)])?;
+    Ok(())
+}
+
+#[test]
+fn ranges_are_inserted(rt: HostRuntime) -> Result<(), Fail> {
+    let alloc = rt.alloc();
+    let last = (18446744073709551552, 63);
+    let top = (18446744073709551424, 191);
+    let steps = [Step::Allocate(0, 1, 18446744073709551440)];
+    // A skipped front counts.
+    let (_, front) = inserts::<u8, u8, 8, 8>(&rt, alloc, (4097, 4096), (4097, 1024), &[])?;
+    // At the top of the address space.
+    let (_, none) = inserts::<u8, u8, 8, 8>(&rt, alloc, last, (18446744073709551585, 0), &[])?;
+    let (_, all) = inserts::<u8, u8, 8, 8>(&rt, alloc, top, top, &steps)?;
+    are(&rt, &[front, none, all], &[1023, 0, 160]);
+    Ok(())
+}
+
+#[test]
+fn chunks_of_the_greatest_length(rt: HostRuntime) -> Result<(), Fail> {
+    let addresses = (4096, 4096);
+    let steps = [
+        Step::Allocate(0, 1, 4240),
+        Step::Allocate(0, 1, 4176),
+        Step::Allocate(0, 1, 4112),
+        Step::Allocate(0, 1, 0),
+    ];
+    let (_, more) = inserts::<u8, u8, 1, 1>(&rt, rt.alloc(), addresses, (4096, 200), &steps)?;
+    let (_, less) = inserts::<u8, u8, 1, 1>(&rt, rt.alloc(), addresses, (4096, 160), &[])?;
+    are(&rt, &[more, less], &[192, 128]);
+    Ok(())
+}
+
+#[test]
+fn wide_alignments(rt: HostRuntime) -> Result<(), Fail> {
+    let (page, short) = ((4096, 8192), (4096, 256));
+    inserts::<u8, u8, 8, 8>(
+        &rt,
+        rt.alloc(),
+        page,
+        page,
+        &[Step::Allocate(1, 4096, 8192)],
+    )?;
+    // The word before the payload names its block.
+    let steps = [
+        Step::Allocate(0, 1, 4112),
+        Step::Allocate(1, 64, 4160),
+        Step::Word(4152, 4128),
+    ];
+    inserts::<u8, u8, 8, 8>(&rt, rt.alloc(), short, short, &steps)?;
+    Ok(())
+}
+
+#[test]
+fn greatest_sizes_are_refused(rt: HostRuntime) -> Result<(), Fail> {
+    let pool = (4096, 256);
+    let steps = [
+        Step::Allocate((1 << 63) - 1, 1, 0),
+        Step::Allocate(0, 1 << 63, 0),
+        Step::Allocate(0, 1, 4112),
+    ];
+    inserts::<u64, u8, 59, 8>(&rt, rt.alloc(), pool, pool, &steps)?;
+    Ok(())
+}
+
+#[test]
+fn words_of_a_pool(rt: HostRuntime) -> Result<(), Fail> {
+    let layout = Layout::from_size_align(0, 1)?;
+    let pool = Range {
+        start: 4096,
+        len: 96,
+    };
+    let (mut tlsf, taken) = with_inserted::<u8, u8, 8, 8>(rt.alloc(), pool, pool)?;
+    let addr = number(tlsf.allocate(layout));
+    are(&rt, &[taken, addr], &[96, 4112]);
+    let memory = tlsf.into_memory();
+    let words = [
+        (4096, 33),
+        (4104, 0),
+        (4128, 32),
+        (4136, 4096),
+        (4144, 0),
+        (4152, 0),
+        (4160, 35),
+        (4168, 4128),
+    ];
+    for (addr, word) in words {
+        assert_eq!(rt; word_at(&memory, addr), Some(word), "at {addr}");
+    }
+    Ok(())
+}
+
+/// Allocates two payloads. What the clauses of the calls say is enough to give either back, in any order.
+fn two(tlsf: &mut Small, first: Layout, second: Layout) -> Option<(Addr, Addr)>
+    ensures live { IfSome result (λ r. (t : State) × StandsFor 8 8 tlsf.new t × IsLive t (non_zero_usize_get r.0) first.align × IsLive t (non_zero_usize_get r.1) second.align) }
+    ensures apart { IfSome result (λ r. non_zero_usize_get r.0 ≢ non_zero_usize_get r.1) }
+{
+    let one = tlsf.allocate(first)?;
+    let other = tlsf.allocate(second)?;
+    Some((one, other))
+}
+
+#[test]
+fn two_are_live(rt: HostRuntime) -> Result<(), Fail> {
+    let layout = Layout::from_size_align(0, 1)?;
+    let mut tlsf = with_pool(rt.alloc(), 96)?;
+    let addresses = match two(&mut tlsf, layout, layout) {
+        Some((one, other)) => [one.get(), other.get()],
+        None => [0; 2],
+    };
+    are(&rt, &addresses, &[4112, 4144]);
+    Ok(())
+}

@@ -1,0 +1,122 @@
+//! Bytes copied from one payload to another, and words that no block is made of.
+
+ghost use Rattle.std.specs.Prelude.{◌≡◌, ◌%◌, ◌+◌, ◌≤◌, ℕ, IfSome};
+ghost use Rattle.std.specs.Int.NonZero.{non_zero_usize_get};
+ghost use Rattle.rlsf_machine.specs.State.{State, HasFront};
+ghost use Rattle.rlsf_blocks.specs.StandsFor.{StandsFor};
+
+use super::loans::{copy_front, place};
+use super::pools::{Small, Step, are, takes_steps, with_pool};
+use rlsf::{Addr, Layout, Memory, MemoryError, Range};
+use std::alloc::Global;
+use std::test::Fail;
+
+/// Allocates a payload and leaves bytes in its front, as many as there is room for. As many are usable as were asked for,
+/// and those of other payloads stay so.
+fn left(tlsf: &mut Small, layout: Layout, bytes: &[u8]) -> Option<Addr>
+    ensures { (s : State) → StandsFor 8 8 tlsf.old s
+        → (t : State) × StandsFor 8 8 tlsf.new t × ((a n : ℕ) → HasFront s a n → HasFront t a n) × IfSome result (λ addr. HasFront t (non_zero_usize_get addr) layout.size) }
+{
+    let addr = tlsf.allocate(layout)?;
+    copy_front(bytes, tlsf.payload_mut(addr));
+    Some(addr)
+}
+
+/// Allocates two payloads, leaves bytes in both, and copies the first `len` bytes of the one over those of the other. Answers
+/// where they lie, or 0 where the one doesn't have what was left there, or the other not what is expected.
+fn copied(
+    tlsf: &mut Small,
+    layout: Layout,
+    bytes: (&[u8], &[u8]),
+    len: usize,
+    expected: &[u8],
+) -> Option<[usize; 2]>
+    requires { len ≤ layout.size }
+{
+    // Some state stands: what each call says is about the states that do.
+    let _ = tlsf.memory_ref();
+    let one = left(tlsf, layout, bytes.0)?;
+    let two = left(tlsf, layout, bytes.1)?;
+    tlsf.copy_payload(one, two, len);
+    Some([
+        place(one, tlsf.payload(one), bytes.0),
+        place(two, tlsf.payload(two), expected),
+    ])
+}
+
+/// Allocates a payload, leaves bytes in it, and copies its first `len` bytes over themselves. Answers whether it has what was
+/// left there.
+fn copied_onto_itself(tlsf: &mut Small, layout: Layout, bytes: &[u8], len: usize) -> Option<bool>
+    requires { len ≤ layout.size }
+{
+    // Some state stands: what each call says is about the states that do.
+    let _ = tlsf.memory_ref();
+    let addr = left(tlsf, layout, bytes)?;
+    tlsf.copy_payload(addr, addr, len);
+    Some(tlsf.payload(addr) == bytes)
+}
+
+/// Makes one chunk of the first 256 of 288 bytes from the address 4096 on, and sets a word in the last 16 bytes of its
+/// sentinel or behind it.
+fn with_spare_word(alloc: Global, addr: usize, word: u64) -> Result<Small, MemoryError>
+    requires { (addr % 8 ≡ 0) × (4336 ≤ addr) × (addr + 8 ≤ 4384) }
+{
+    let memory = Memory::new(alloc, 4096, 288)?;
+    let mut tlsf = Small::new(memory);
+    tlsf.insert_free_block(Range {
+        start: 4096,
+        len: 256,
+    });
+    tlsf.set_spare_word(addr, word);
+    Ok(tlsf)
+}
+
+/// How many bytes are copied over `abcdefghijklmnop`, and what stands there then.
+const COPIES: [(usize, &[u8]); 2] = [(10, b"ABCDEFGHIJklmnop"), (0, b"abcdefghijklmnop")];
+
+#[test]
+fn front_is_copied(rt: HostRuntime) -> Result<(), Fail> {
+    let layout = Layout::from_size_align(16, 1)?;
+    let bytes: (&[u8], &[u8]) = (b"ABCDEFGHIJKLMNOP", b"abcdefghijklmnop");
+    for (len, expected) in COPIES {
+        let mut tlsf = with_pool(rt.alloc(), 256)?;
+        let reads = copied(&mut tlsf, layout, bytes, len, expected);
+        are(&rt, &reads.unwrap_or([0; 2]), &[4112, 4144]);
+    }
+    let mut tlsf = with_pool(rt.alloc(), 256)?;
+    let stays = copied_onto_itself(&mut tlsf, layout, bytes.0, 10);
+    are(&rt, &[stays.unwrap_or(false) as usize], &[1]);
+    Ok(())
+}
+
+#[test]
+fn word_in_a_sentinel(rt: HostRuntime) -> Result<(), Fail> {
+    let mut tlsf = with_spare_word(rt.alloc(), 4344, 77)?;
+    let steps = [
+        Step::Word(4336, 0),
+        Step::Word(4344, 77),
+        Step::Word(4320, 35),
+        Step::Word(4328, 4096),
+        // The whole pool is free, and the word stays when it is allocated.
+        Step::Allocate(208, 1, 4112),
+        Step::Word(4336, 0),
+        Step::Word(4344, 77),
+        Step::Word(4096, 225),
+        Step::Word(4320, 35),
+    ];
+    takes_steps(&rt, &mut tlsf, &steps);
+    Ok(())
+}
+
+#[test]
+fn word_behind_a_pool(rt: HostRuntime) -> Result<(), Fail> {
+    let mut tlsf = with_spare_word(rt.alloc(), 4376, 77)?;
+    let steps = [
+        Step::Allocate(208, 1, 4112),
+        Step::Word(4368, 0),
+        Step::Word(4376, 77),
+        Step::Allocate(0, 1, 0),
+    ];
+    takes_steps(&rt, &mut tlsf, &steps);
+    Ok(())
+}

@@ -1,0 +1,161 @@
+//! Allocators with their pools, what they answer as numbers, and the words of their memories.
+
+ghost use Rattle.std.specs.Prelude.{ℕ, ◌+◌, ◌≤◌, Option, IfOk};
+ghost use Rattle.rlsf_base.specs.Range.{LiesIn, range_at};
+ghost use Rattle.rlsf_base.specs.SizeClass.{IsValid};
+ghost use Rattle.rlsf_machine.specs.Insert.{Inserts};
+ghost use Rattle.rlsf_machine.specs.State.{State, empty};
+ghost use Rattle.rlsf_blocks.specs.StandsFor.{StandsFor};
+
+use rlsf::int::Bitmap;
+use rlsf::{Addr, Layout, Memory, MemoryError, Range, Tlsf};
+use std::alloc::Global;
+use std::num::NonZeroUsize;
+use std::process::Abort;
+
+/// The shapes of most tests: chunks up to 8160 bytes, up to 131,072 bytes, and of any length.
+pub(crate) type Small = Tlsf<u8, u8, 8, 8>;
+
+pub(crate) type Wide = Tlsf<u16, u16, 12, 16>;
+
+pub(crate) type Long = Tlsf<u64, u8, 59, 8>;
+
+/// Passes where the answers are the expected ones.
+pub(crate) fn are(rt: &impl Abort, answers: &[usize], expected: &[usize]) {
+    assert_eq!(rt; answers, expected);
+}
+
+/// A step of a test, and what it answers.
+#[derive(Clone, Copy)]
+pub(crate) enum Step {
+    /// Allocates for a size and an alignment: the payload's address, or 0.
+    Allocate(usize, usize, usize),
+    /// The same, and gives the payload back.
+    GiveBack(usize, usize, usize),
+    /// Reads the word at an address.
+    Word(usize, u64),
+}
+
+/// An allocator over a memory of these addresses, with the pool that was inserted, and the answer to that, or 0.
+pub(crate) fn with_inserted<
+    FLBitmap: Bitmap,
+    SLBitmap: Bitmap,
+    const FLLEN: usize,
+    const SLLEN: usize,
+>(
+    alloc: Global,
+    addresses: Range,
+    pool: Range,
+) -> Result<(Tlsf<FLBitmap, SLBitmap, FLLEN, SLLEN>, usize), MemoryError>
+    requires shape { IsValid FLBitmap.width SLBitmap.width FLLEN SLLEN }
+    requires inside { LiesIn pool addresses.start addresses.len }
+    ensures { IfOk result (λ r. (s : State) × (reply : Option ℕ) × StandsFor FLLEN SLLEN r.0 s × Inserts FLLEN empty pool reply s) }
+{
+    let memory = Memory::new(alloc, addresses.start, addresses.len)?;
+    let mut tlsf = Tlsf::new(memory);
+    let taken = number(tlsf.insert_free_block_ptr(pool));
+    Ok((tlsf, taken))
+}
+
+/// An allocator over so many bytes from the address 4096 on, all of which are its pool.
+pub(crate) fn with_pool(alloc: Global, len: usize) -> Result<Small, MemoryError>
+    ensures { IfOk result (λ tlsf. (s : State) × (reply : Option ℕ) × StandsFor 8 8 tlsf s × Inserts 8 empty (range_at 4096 len) reply s) }
+{
+    let memory = Memory::new(alloc, 4096, len)?;
+    let mut tlsf = Small::new(memory);
+    tlsf.insert_free_block(Range { start: 4096, len });
+    Ok(tlsf)
+}
+
+/// The same, in the wide shape.
+pub(crate) fn wide(alloc: Global, len: usize) -> Result<Wide, MemoryError>
+    ensures { IfOk result (λ tlsf. (s : State) × (reply : Option ℕ) × StandsFor 12 16 tlsf s × Inserts 12 empty (range_at 4096 len) reply s) }
+{
+    let memory = Memory::new(alloc, 4096, len)?;
+    let mut tlsf = Wide::new(memory);
+    tlsf.insert_free_block(Range { start: 4096, len });
+    Ok(tlsf)
+}
+
+/// An address as a number, 0 if there is none.
+pub(crate) fn number(addr: Option<Addr>) -> usize {
+    addr.map_or(0, NonZeroUsize::get)
+}
+
+/// The address that is allocated for a layout, or 0; or 1, if there is no such layout. The payload is given back, unless it is to
+/// stay.
+fn asked<FLBitmap: Bitmap, SLBitmap: Bitmap, const FLLEN: usize, const SLLEN: usize>(
+    tlsf: &mut Tlsf<FLBitmap, SLBitmap, FLLEN, SLLEN>,
+    size: usize,
+    align: usize,
+    stays: bool,
+) -> usize {
+    let Ok(layout) = Layout::from_size_align(size, align) else {
+        return 1;
+    };
+    match tlsf.allocate(layout) {
+        Some(addr) => {
+            if !stays {
+                tlsf.deallocate(addr, layout.align());
+            }
+            addr.get()
+        }
+        None => 0,
+    }
+}
+
+/// The word at an address, where the memory has one there.
+pub(crate) fn word_at(memory: &Memory, addr: usize) -> Option<u64> {
+    let offset = addr.checked_sub(memory.start())?;
+    if addr % 8 == 0 && offset < memory.len() && memory.len() - offset >= 8 {
+        Some(memory.word(addr))
+    } else {
+        None
+    }
+}
+
+/// Passes where each step answers what is expected.
+pub(crate) fn takes_steps<
+    FLBitmap: Bitmap,
+    SLBitmap: Bitmap,
+    const FLLEN: usize,
+    const SLLEN: usize,
+>(rt: &impl Abort, tlsf: &mut Tlsf<FLBitmap, SLBitmap, FLLEN, SLLEN>, steps: &[Step]) {
+    for (i, step) in steps.iter().enumerate() {
+        let (answer, expected) = match *step {
+            Step::Allocate(size, align, addr) => {
+                (Some(asked(tlsf, size, align, true) as u64), addr as u64)
+            }
+            Step::GiveBack(size, align, addr) => {
+                (Some(asked(tlsf, size, align, false) as u64), addr as u64)
+            }
+            Step::Word(addr, word) => (word_at(tlsf.memory_ref(), addr), word),
+        };
+        assert_eq!(rt; answer, Some(expected), "step {i}");
+    }
+}
+
+/// Inserts a pool into a memory and does the steps; passes where each answers what is expected. Answers the allocator, and the
+/// bytes taken, or 0. The memory and the pool are a start and a length.
+pub(crate) fn inserts<FLBitmap: Bitmap, SLBitmap: Bitmap, const FLLEN: usize, const SLLEN: usize>(
+    rt: &impl Abort,
+    alloc: Global,
+    memory: (usize, usize),
+    pool: (usize, usize),
+    steps: &[Step],
+) -> Result<(Tlsf<FLBitmap, SLBitmap, FLLEN, SLLEN>, usize), MemoryError>
+    requires shape { IsValid FLBitmap.width SLBitmap.width FLLEN SLLEN }
+    requires inside { (memory.0 ≤ pool.0) × (pool.0 + pool.1 ≤ memory.0 + memory.1) }
+{
+    let addresses = Range {
+        start: memory.0,
+        len: memory.1,
+    };
+    let inserted = Range {
+        start: pool.0,
+        len: pool.1,
+    };
+    let (mut tlsf, taken) = with_inserted(alloc, addresses, inserted)?;
+    takes_steps(rt, &mut tlsf, steps);
+    Ok((tlsf, taken))
+}

@@ -1,0 +1,376 @@
+//! Payloads that get another size: where they lie then, and what they hold.
+
+ghost use Rattle.std.specs.Prelude.{◌≡◌, ◌≢◌, ◌<◌, length, IfOk, IfSome, unwrap_or};
+ghost use Rattle.std.specs.Int.NonZero.{non_zero_usize_get};
+ghost use Rattle.rlsf_machine.specs.Run.{IsSomeLive};
+ghost use Rattle.rlsf_machine.specs.State.{State, IsLive};
+ghost use Rattle.rlsf_blocks.specs.StandsFor.{StandsFor};
+
+use super::loans::{copy_front, numbers};
+use super::pools::{Small, Step, Wide, are, number, takes_steps, wide, with_pool};
+use rlsf::{Addr, Layout, LayoutError};
+use std::process::Abort;
+use std::test::Fail;
+
+// What is left in a payload, as far as there is room, before it gets another size.
+const BYTES: &[u8] = b"abcdefghijklmnopqrstuvwxyzABCDEFGHIJKLMNOPQRSTUVWXYZ0123456789+-";
+
+/// Allocates a payload, fills it with a byte, gives it another size, and reads it at an offset that both sizes have. Answers
+/// what was read.
+fn kept(tlsf: &mut Small, layout: Layout, wanted: Layout, byte: u8, offset: usize) -> Option<u8>
+    requires { (wanted.align ≡ layout.align) × (offset < layout.size) × (offset < wanted.size) }
+    ensures { IfSome result (λ read. read ≡ byte) }
+{
+    // Some state stands: what each call says is about the states that do.
+    let _ = tlsf.memory_ref();
+    let addr = tlsf.allocate(layout)?;
+    tlsf.payload_mut(addr).fill(byte);
+    let moved = tlsf.reallocate(addr, wanted)?;
+    let bytes = tlsf.payload(moved);
+    let read = bytes[offset];
+    tlsf.deallocate(moved, wanted.align());
+    Some(read)
+}
+
+/// Leaves bytes in a payload, as far as there is room. Answers how many it has.
+fn leave_bytes(payload: &mut [u8]) -> usize
+    ensures { length payload.new ≡ length payload.old }
+{
+    let had = payload.len();
+    copy_front(BYTES, payload);
+    had
+}
+
+/// A payload that was asked to get another size: where it was, how many bytes it had, and where it is if that wasn't refused.
+#[derive(Clone, Copy)]
+struct Moved {
+    was: Addr,
+    had: usize,
+    moved: Option<Addr>,
+}
+
+/// What became of a payload: where it was and where it is, or 0; how many bytes it has; and whether they begin as they did.
+type Outcome = ((usize, usize), (usize, bool));
+
+/// Where a payload was and where it is, or 0; how many bytes it has; and whether they begin as they did.
+fn outcome(payload: Moved, bytes: &[u8]) -> Outcome {
+    let places = (payload.was.get(), number(payload.moved));
+    let n = bytes.len().min(payload.had).min(BYTES.len());
+    (places, (bytes.len(), bytes[..n] == BYTES[..n]))
+}
+
+/// Passes where this became of a payload.
+fn became(rt: &impl Abort, outcome: Option<Outcome>, expected: Outcome) {
+    assert_eq!(rt; outcome, Some(expected));
+}
+
+/// What becomes of a payload, in which bytes are left, that is asked to get another size.
+fn one(tlsf: &mut Small, layout: Layout, wanted: Layout) -> Option<Outcome>
+    requires { wanted.align ≡ layout.align }
+{
+    let addr = tlsf.allocate(layout)?;
+    let had = leave_bytes(tlsf.payload_mut(addr));
+    let moved = tlsf.reallocate(addr, wanted);
+    let payload = Moved {
+        was: addr,
+        had,
+        moved,
+    };
+    let bytes = tlsf.payload(moved.unwrap_or(addr));
+    Some(outcome(payload, bytes))
+}
+
+/// Which neighbour of a payload is given back.
+#[derive(Clone, Copy)]
+enum Freed {
+    Neither,
+    Before,
+    Behind,
+}
+
+/// Gives one of the neighbours of the second of three payloads back, or neither. The second stays live.
+fn give_back(
+    tlsf: &mut Small,
+    addresses: (Addr, Addr, Addr),
+    layouts: (Layout, Layout, Layout),
+    freed: Freed,
+)
+    requires live { (s : State) × StandsFor 8 8 tlsf.old s × IsLive s (non_zero_usize_get addresses.0) layouts.0.align × IsLive s (non_zero_usize_get addresses.1) layouts.1.align
+        × IsLive s (non_zero_usize_get addresses.2) layouts.2.align }
+    requires apart { (non_zero_usize_get addresses.0 ≢ non_zero_usize_get addresses.1) × (non_zero_usize_get addresses.2 ≢ non_zero_usize_get addresses.1) }
+    ensures { (t : State) × StandsFor 8 8 tlsf.new t × IsLive t (non_zero_usize_get addresses.1) layouts.1.align }
+{
+    match freed {
+        Freed::Neither => {}
+        Freed::Before => tlsf.deallocate(addresses.0, layouts.0.align()),
+        Freed::Behind => tlsf.deallocate(addresses.2, layouts.2.align()),
+    }
+}
+
+/// Allocates three payloads, leaves bytes in the second one, gives one of its neighbours back, and asks for another size
+/// for it.
+fn second_moved(
+    tlsf: &mut Small,
+    layouts: (Layout, Layout, Layout),
+    freed: Freed,
+    wanted: Layout,
+) -> Option<Moved>
+    requires { wanted.align ≡ layouts.1.align }
+    ensures { IfSome result (λ r. (t : State) × StandsFor 8 8 tlsf.new t × IsLive t (non_zero_usize_get (unwrap_or r.moved r.was)) wanted.align) }
+{
+    let first = tlsf.allocate(layouts.0)?;
+    let second = tlsf.allocate(layouts.1)?;
+    let third = tlsf.allocate(layouts.2)?;
+    let had = leave_bytes(tlsf.payload_mut(second));
+    give_back(tlsf, (first, second, third), layouts, freed);
+    let moved = tlsf.reallocate(second, wanted);
+    Some(Moved {
+        was: second,
+        had,
+        moved,
+    })
+}
+
+/// What became of the second of three payloads.
+fn second(
+    tlsf: &mut Small,
+    layouts: (Layout, Layout, Layout),
+    freed: Freed,
+    wanted: Layout,
+) -> Option<Outcome>
+    requires { wanted.align ≡ layouts.1.align }
+{
+    let payload = second_moved(tlsf, layouts, freed, wanted)?;
+    let bytes = tlsf.payload(payload.moved.unwrap_or(payload.was));
+    Some(outcome(payload, bytes))
+}
+
+/// What becomes of a payload that has moved before its neighbour, once it is asked to get another size again.
+fn second_again(
+    tlsf: &mut Small,
+    layouts: (Layout, Layout, Layout),
+    wanted: Layout,
+    again: Layout,
+) -> Option<Outcome>
+    requires { (wanted.align ≡ layouts.1.align) × (again.align ≡ wanted.align) }
+{
+    let first = second_moved(tlsf, layouts, Freed::Before, wanted)?;
+    let addr = first.moved?;
+    let moved = tlsf.reallocate(addr, again);
+    let payload = Moved {
+        was: addr,
+        had: first.had,
+        moved,
+    };
+    let bytes = tlsf.payload(moved.unwrap_or(addr));
+    Some(outcome(payload, bytes))
+}
+
+/// As `give_back`, for payloads of one layout.
+fn wide_give_back(tlsf: &mut Wide, addresses: (Addr, Addr, Addr), layout: Layout, freed: Freed)
+    requires live { (s : State) × StandsFor 12 16 tlsf.old s × IsLive s (non_zero_usize_get addresses.0) layout.align × IsLive s (non_zero_usize_get addresses.1) layout.align
+        × IsLive s (non_zero_usize_get addresses.2) layout.align }
+    requires apart { (non_zero_usize_get addresses.0 ≢ non_zero_usize_get addresses.1) × (non_zero_usize_get addresses.2 ≢ non_zero_usize_get addresses.1) }
+    ensures { (t : State) × StandsFor 12 16 tlsf.new t × IsLive t (non_zero_usize_get addresses.1) layout.align }
+{
+    match freed {
+        Freed::Neither => {}
+        Freed::Before => tlsf.deallocate(addresses.0, layout.align()),
+        Freed::Behind => tlsf.deallocate(addresses.2, layout.align()),
+    }
+}
+
+/// What becomes of the second of three payloads of one layout, in which bytes are left, that is asked to get another size once
+/// one of its neighbours was given back, or neither.
+fn wide_second(tlsf: &mut Wide, layout: Layout, freed: Freed, wanted: Layout) -> Option<Outcome>
+    requires { wanted.align ≡ layout.align }
+{
+    let first = tlsf.allocate(layout)?;
+    let second = tlsf.allocate(layout)?;
+    let third = tlsf.allocate(layout)?;
+    let had = leave_bytes(tlsf.payload_mut(second));
+    wide_give_back(tlsf, (first, second, third), layout, freed);
+    let moved = tlsf.reallocate(second, wanted);
+    let payload = Moved {
+        was: second,
+        had,
+        moved,
+    };
+    let bytes = tlsf.payload(moved.unwrap_or(second));
+    Some(outcome(payload, bytes))
+}
+
+/// Three layouts of one alignment.
+fn layouts(
+    align: usize,
+    first: usize,
+    second: usize,
+    third: usize,
+) -> Result<(Layout, Layout, Layout), LayoutError>
+    ensures { IfOk result (λ r. r.1.align ≡ align) }
+{
+    Ok((
+        Layout::from_size_align(first, align)?,
+        Layout::from_size_align(second, align)?,
+        Layout::from_size_align(third, align)?,
+    ))
+}
+
+#[test]
+fn shrunk_to_nothing(rt: HostRuntime) -> Result<(), Fail> {
+    let layout = Layout::from_size_align(17, 1)?;
+    let nothing = Layout::from_size_align(0, 1)?;
+    let mut tlsf = with_pool(rt.alloc(), 96)?;
+    let outcome = one(&mut tlsf, layout, nothing);
+    became(&rt, outcome, ((4112, 4112), (16, true)));
+    takes_steps(&rt, &mut tlsf, &[Step::Allocate(0, 1, 4144)]);
+    Ok(())
+}
+
+/// The second of three payloads of these sizes, in a pool of 256 bytes, that is asked to get another size once one of its
+/// neighbours was given back, or neither: what becomes of it, and what stands then, where a test tells it.
+#[derive(Clone, Copy)]
+struct Case {
+    sizes: (usize, usize, usize),
+    freed: Freed,
+    wanted: usize,
+    outcome: Outcome,
+    first_level: Option<usize>,
+    newest: Option<usize>,
+    words: &'static [Step],
+}
+
+// By 32 bytes, where it has 48.
+const MOVED_OVER_ITS_OWN_BYTES: Case = Case {
+    sizes: (0, 40, 100),
+    freed: Freed::Before,
+    wanted: 70,
+    outcome: ((4144, 4112), (80, true)),
+    first_level: Some(0),
+    newest: None,
+    words: &[],
+};
+
+const MOVED_WITH_A_REST: Case = Case {
+    sizes: (17, 40, 50),
+    freed: Freed::Before,
+    wanted: 70,
+    outcome: ((4176, 4112), (80, true)),
+    first_level: None,
+    newest: Some(4192),
+    words: &[Step::Word(4192, 32)],
+};
+
+// The sentinel names the block that reaches up to it.
+const GROWN_TO_THE_END_OF_THE_NEXT: Case = Case {
+    sizes: (40, 40, 70),
+    freed: Freed::Behind,
+    wanted: 144,
+    outcome: ((4176, 4176), (144, true)),
+    first_level: Some(0),
+    newest: None,
+    words: &[Step::Word(4328, 4160)],
+};
+
+const GREATEST_LAYOUT_IS_REFUSED: Case = Case {
+    sizes: (40, 40, 70),
+    freed: Freed::Neither,
+    wanted: (1 << 63) - 1,
+    outcome: ((4176, 0), (48, true)),
+    first_level: None,
+    newest: None,
+    words: &[],
+};
+
+#[test]
+fn second_of_three(rt: HostRuntime) -> Result<(), Fail> {
+    for case in [
+        MOVED_OVER_ITS_OWN_BYTES,
+        MOVED_WITH_A_REST,
+        GROWN_TO_THE_END_OF_THE_NEXT,
+        GREATEST_LAYOUT_IS_REFUSED,
+    ] {
+        let (before, size, behind) = case.sizes;
+        let wanted = Layout::from_size_align(case.wanted, 1)?;
+        let sizes = layouts(1, before, size, behind)?;
+        let mut tlsf = with_pool(rt.alloc(), 256)?;
+        became(
+            &rt,
+            second(&mut tlsf, sizes, case.freed, wanted),
+            case.outcome,
+        );
+        if let Some(rows) = case.first_level {
+            are(&rt, &[tlsf.fl_bitmap() as usize], &[rows]);
+        }
+        if let Some(addr) = case.newest {
+            are(&rt, &[number(tlsf.first_free(0, 0))], &[addr]);
+        }
+        takes_steps(&rt, &mut tlsf, case.words);
+    }
+    Ok(())
+}
+
+#[test]
+fn refused_without_room(rt: HostRuntime) -> Result<(), Fail> {
+    let wanted = Layout::from_size_align(70, 1)?;
+    let again = Layout::from_size_align(200, 1)?;
+    let sizes = layouts(1, 0, 40, 100)?;
+    let mut tlsf = with_pool(rt.alloc(), 256)?;
+    let outcome = second_again(&mut tlsf, sizes, wanted, again);
+    became(&rt, outcome, ((4112, 0), (80, true)));
+    are(&rt, &[tlsf.fl_bitmap() as usize], &[0]);
+    Ok(())
+}
+
+// Of three payloads of 40 bytes in a pool of 65,536 bytes: which neighbour is given back, the alignment, the size that is asked for, and what becomes of the payload.
+const WIDE_CASES: [(Freed, usize, usize, Outcome); 16] = [
+    // in place
+    (Freed::Neither, 1, 0, ((4176, 4176), (16, true))),
+    (Freed::Neither, 1, 48, ((4176, 4176), (48, true))),
+    (Freed::Neither, 32, 0, ((4224, 4224), (0, true))),
+    (Freed::Neither, 32, 48, ((4224, 4224), (64, true))),
+    (Freed::Neither, 4096, 0, ((12288, 12288), (0, true))),
+    (Freed::Neither, 4096, 48, ((12288, 12288), (64, true))),
+    // into the next
+    (Freed::Behind, 1, 100, ((4176, 4176), (112, true))),
+    (Freed::Behind, 32, 100, ((4224, 4224), (128, true))),
+    (Freed::Behind, 4096, 100, ((12288, 12288), (128, true))),
+    // into the previous
+    (Freed::Before, 1, 100, ((4176, 4112), (112, true))),
+    (Freed::Before, 32, 100, ((4224, 4128), (128, true))),
+    (Freed::Before, 4096, 3000, ((12288, 8192), (3008, true))),
+    // elsewhere
+    (Freed::Neither, 1, 100, ((4176, 4304), (112, true))),
+    (Freed::Neither, 32, 100, ((4224, 4416), (128, true))),
+    (Freed::Neither, 4096, 100, ((12288, 20480), (128, true))),
+    // The greatest layout is refused.
+    (
+        Freed::Behind,
+        4096,
+        (1 << 63) - 4096,
+        ((12288, 0), (64, true)),
+    ),
+];
+
+#[test]
+fn second_of_three_in_a_wide_pool(rt: HostRuntime) -> Result<(), Fail> {
+    for (freed, align, size, expected) in WIDE_CASES {
+        let layout = Layout::from_size_align(40, align)?;
+        let wanted = Layout::from_size_align(size, align)?;
+        let mut tlsf = wide(rt.alloc(), 65536)?;
+        let outcome = wide_second(&mut tlsf, layout, freed, wanted);
+        became(&rt, outcome, expected);
+    }
+    Ok(())
+}
+
+#[test]
+fn kept_reads_back(rt: HostRuntime) -> Result<(), Fail> {
+    let layout = Layout::from_size_align(40, 1)?;
+    let wanted = Layout::from_size_align(100, 1)?;
+    let mut tlsf = with_pool(rt.alloc(), 256)?;
+    let grown = kept(&mut tlsf, layout, wanted, 7, 39);
+    let shrunk = kept(&mut tlsf, wanted, layout, 8, 39);
+    are(&rt, &numbers(grown, shrunk), &[7, 8]);
+    Ok(())
+}

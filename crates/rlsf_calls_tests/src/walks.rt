@@ -1,0 +1,231 @@
+//! Walks over the blocks of a range, payloads given back without their alignment, and how many bytes a payload has.
+
+ghost use Rattle.std.specs.Prelude.{IfOk};
+ghost use Rattle.rlsf_base.specs.Range.{range_at};
+ghost use Rattle.rlsf_machine.specs.ChunkRows.{IsRow};
+ghost use Rattle.rlsf_machine.specs.State.{State};
+ghost use Rattle.rlsf_blocks.specs.StandsFor.{StandsFor};
+
+use super::pools::{Small, are, number, wide, with_inserted, with_pool};
+use rlsf::{BlockInfo, Blocks, Layout, Range, Tlsf};
+use std::alloc::Global;
+use std::process::Abort;
+use std::test::Fail;
+
+/// Chunks of any length.
+type Growing = Tlsf<u64, u64, 59, 8>;
+
+/// Where a block begins, its size, and whether it is used.
+type Row = (usize, usize, bool);
+
+/// A block as a row.
+fn row(block: BlockInfo) -> Row {
+    (block.as_ptr().start, block.size(), block.is_occupied())
+}
+
+/// A row as numbers, which are 0 if there is none.
+fn numbers(row: Option<Row>) -> [usize; 3] {
+    match row {
+        Some((start, size, is_used)) => [start, size, is_used as usize],
+        None => [0; 3],
+    }
+}
+
+/// Passes where a walk gives these rows and no more.
+fn gives(rt: &impl Abort, mut blocks: Blocks<'_>, rows: &[Row]) {
+    for i in 0..=rows.len() {
+        let given = numbers(blocks.next().map(row));
+        are(rt, &given, &numbers(rows.get(i).copied()));
+    }
+}
+
+/// The greatest size that fits in a block.
+fn greatest_size(block: BlockInfo) -> usize {
+    block.max_payload_size()
+}
+
+/// The greatest sizes that fit in the first two blocks of a walk, 0 if there is none.
+fn greatest_sizes(mut blocks: Blocks<'_>) -> [usize; 2] {
+    [
+        blocks.next().map_or(0, greatest_size),
+        blocks.next().map_or(0, greatest_size),
+    ]
+}
+
+/// The text of the first block of a walk, or none.
+fn first_text(rt: &HostRuntime, mut blocks: Blocks<'_>) -> Result<String, Fail> {
+    match blocks.next() {
+        Some(block) => Ok(format!(in rt.alloc(); "{block:?}")?),
+        None => Ok(String::new(rt.alloc())),
+    }
+}
+
+/// Passes where a walk over no bytes gives nothing.
+fn walks_nowhere(rt: &impl Abort, tlsf: &Small) {
+    // Some state stands: what each call says is about the states that do.
+    let _ = tlsf.memory_ref();
+    let nowhere = Range {
+        start: 4096,
+        len: 0,
+    };
+    gives(rt, tlsf.iter_blocks(nowhere), &[]);
+}
+
+/// Passes where a walk over a pool of 96 bytes gives these rows, in the first two of which fit these greatest sizes, 0 if there is
+/// none.
+fn walks(rt: &impl Abort, tlsf: &Small, expected: &[Row], sizes: [usize; 2])
+    requires { (s : State) × StandsFor 8 8 tlsf.now s × IsRow s (range_at 4096 96) }
+{
+    let range = Range {
+        start: 4096,
+        len: 96,
+    };
+    gives(rt, tlsf.iter_blocks(range), expected);
+    are(rt, &greatest_sizes(tlsf.iter_blocks(range)), &sizes);
+}
+
+#[test]
+fn one_pool_is_walked(rt: HostRuntime) -> Result<(), Fail> {
+    let layout = Layout::from_size_align(0, 1)?;
+    let mut tlsf = with_pool(rt.alloc(), 96)?;
+    walks_nowhere(&rt, &tlsf);
+    walks(&rt, &tlsf, &[(4096, 64, false)], [48, 0]);
+    let addresses = [number(tlsf.allocate(layout)), number(tlsf.allocate(layout))];
+    are(&rt, &addresses, &[4112, 4144]);
+    walks(&rt, &tlsf, &[(4096, 32, true), (4128, 32, true)], [16, 16]);
+    Ok(())
+}
+
+#[test]
+fn blocks_have_a_text(rt: HostRuntime) -> Result<(), Fail> {
+    let tlsf = with_pool(rt.alloc(), 96)?;
+    let range = Range {
+        start: 4096,
+        len: 96,
+    };
+    let text = first_text(&rt, tlsf.iter_blocks(range))?;
+    assert_eq!(rt;
+        text.as_str(),
+        "BlockInfo { ptr: 4096..4160, size: 64, is_occupied: false }"
+    );
+    Ok(())
+}
+
+#[test]
+fn adjacent_chunks_are_walked(rt: HostRuntime) -> Result<(), Fail> {
+    let range = Range {
+        start: 4096,
+        len: 128,
+    };
+    let (tlsf, _) = with_inserted::<u8, u8, 1, 1>(rt.alloc(), range, range)?;
+    let rows = [(4096, 32, false), (4160, 32, false)];
+    gives(&rt, tlsf.iter_blocks(range), &rows);
+    Ok(())
+}
+
+/// The greatest sizes that fit in the free blocks of a walk, added up.
+fn free_bytes(blocks: Blocks<'_>) -> usize {
+    let mut total: usize = 0;
+    for block in blocks {
+        if !block.is_occupied() {
+            total = total.saturating_add(block.max_payload_size());
+        }
+    }
+    total
+}
+
+#[test]
+fn free_bytes_are_added_up(rt: HostRuntime) -> Result<(), Fail> {
+    let range = Range {
+        start: 4096,
+        len: 1024,
+    };
+    let layout = Layout::from_size_align(8, 8)?;
+    let mut tlsf = wide(rt.alloc(), 1024)?;
+    let before = free_bytes(tlsf.iter_blocks(range));
+    let _ = tlsf.allocate(layout);
+    let after = free_bytes(tlsf.iter_blocks(range));
+    are(&rt, &[before, after], &[976, 944]);
+    Ok(())
+}
+
+/// Allocates a payload and gives it back without its alignment. Passes where a walk gives these rows then.
+fn frees(rt: &impl Abort, tlsf: &mut Growing, layout: Layout, rows: &[Row])
+    requires { (s : State) × StandsFor 59 8 tlsf.old s × IsRow s (range_at 4096 16384) }
+{
+    let Some(addr) = tlsf.allocate(layout) else {
+        return are(rt, &[], &[1]);
+    };
+    tlsf.deallocate_unknown_align(addr);
+    let blocks = tlsf.iter_blocks(Range {
+        start: 4096,
+        len: 16384,
+    });
+    gives(rt, blocks, rows);
+}
+
+/// An allocator with a pool of 16,384 bytes.
+fn growing(alloc: Global) -> Result<Growing, Fail>
+    ensures { IfOk result (λ tlsf. (s : State) × StandsFor 59 8 tlsf s × IsRow s (range_at 4096 16384)) }
+{
+    let all = Range {
+        start: 4096,
+        len: 16384,
+    };
+    let (tlsf, _) = with_inserted(alloc, all, all)?;
+    Ok(tlsf)
+}
+
+// What stands then: one free block, and one behind the other payload's block.
+const ALONE: &[Row] = &[(4096, 16352, false)];
+
+const BEHIND: &[Row] = &[(4096, 32, true), (4128, 16320, false)];
+
+// Sizes and alignments.
+const LAYOUTS: [(usize, usize); 10] = [
+    // below 32
+    (0, 1),
+    (1, 1),
+    (0, 16),
+    (1, 16),
+    // from 32 on
+    (0, 32),
+    (1, 32),
+    (0, 64),
+    (1, 64),
+    (0, 4096),
+    (1, 4096),
+];
+
+#[test]
+fn alignments_are_found(rt: HostRuntime) -> Result<(), Fail> {
+    for (size, align) in LAYOUTS {
+        let layout = Layout::from_size_align(size, align)?;
+        let least = Layout::from_size_align(1, 1)?;
+        // The first payload of a new allocator, before which no word was written.
+        frees(&rt, &mut growing(rt.alloc())?, layout, ALONE);
+        // The same behind another payload.
+        let mut tlsf = growing(rt.alloc())?;
+        let _ = tlsf.allocate(least);
+        frees(&rt, &mut tlsf, layout, BEHIND);
+    }
+    Ok(())
+}
+
+/// The address of a payload that is allocated, and how many bytes it has; or 0.
+fn usable(tlsf: &mut Small, layout: Layout) -> [usize; 2] {
+    match tlsf.allocate(layout) {
+        Some(addr) => [addr.get(), tlsf.allocation_usable_size(addr)],
+        None => [0; 2],
+    }
+}
+
+#[test]
+fn usable_sizes(rt: HostRuntime) -> Result<(), Fail> {
+    for (len, size, align, expected) in [(96, 17, 1, [4112, 48]), (8192, 1, 4096, [8192, 32])] {
+        let layout = Layout::from_size_align(size, align)?;
+        let mut tlsf = with_pool(rt.alloc(), len)?;
+        are(&rt, &usable(&mut tlsf, layout), &expected);
+    }
+    Ok(())
+}

@@ -1,6 +1,0 @@
-use Rattle.std.proofs.Common.{lit<}
-use Rattle.rlsf_pool_tests.proofs.Shapes.{small}
-use Rattle.rlsf_pool_tests.proofs.tables.signed_bitmaps.Goals as goal
-
-pub with_pool-requires : goal.with_pool-requires
-with_pool-requires g c = (lit< tt, small)
