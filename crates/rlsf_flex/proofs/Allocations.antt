@@ -8,6 +8,7 @@ use Rattle.rlsf_base.specs.Sizes.{pool_size_to_contain_allocation}
 use Rattle.rlsf_base.specs.Space.{range_of, SamePlace}
 use Rattle.rlsf_blocks.specs.Spare.{KeepsSpare}
 use Rattle.rlsf_blocks.specs.StandsFor.{Contents, StandsFor}
+use Rattle.rlsf_flex.specs.Outside.{KeepsOutside}
 use Rattle.rlsf_flex.specs.StandsFor.{FlexContents, FlexStandsFor, FlexSteps}
 use Rattle.rlsf_flex.specs.Steps.Growth.{Extended}
 use Rattle.rlsf_machine.specs.Allocate.{Allocates}
@@ -21,6 +22,7 @@ use Rattle.rlsf_machine.proofs.Chunks.{chunks-allocated}
 use Rattle.rlsf_machine.proofs.Live.{handed_out_is_new}
 use Rattle.rlsf_machine.proofs.TakenPools.{pool_has_a_choice}
 use Rattle.rlsf_flex.proofs.Frames.{stands_stepped}
+use Rattle.rlsf_flex.proofs.Outside.{KeepsOutside-stands, KeepsOutside-then}
 
 -- what the allocator over pools does for an allocation
 abbrev pub Allocated : ℕ → ℕ → ℕ → ℕ → Contents → Contents → State → Option ℕ → Type 0
@@ -56,14 +58,18 @@ module _ {S : Type 0} {fllen sllen : ℕ} {terms : S → Terms} {owes : S → Li
     pub allocated_stands : (reply : Option ℕ) (a : Allocated fllen sllen size align v.tlsf new s.machine reply) → FlexStandsFor fllen sllen terms owes (with_tlsf v new) (with_machine s a.0)
     allocated_stands reply (t, all, stands, spare) = stands_stepped fllen sllen terms owes v new s t h stands (chunks-allocated sllen s.machine t size align reply all) spare place
 
+    allocated_outside : (reply : Option ℕ) → Allocated fllen sllen size align v.tlsf new s.machine reply → KeepsOutside v.tlsf.memory s.pools new.memory s.pools
+    allocated_outside reply a = KeepsOutside-stands h (allocated_stands reply a) place a.3
+
     -- there is room
     pub allocated_in_room : {leads : S → Note → S → Type 0} (addr : ℕ) → Allocated fllen sllen size align v.tlsf new s.machine (Some addr)
-        → FlexSteps fllen sllen terms owes leads v (with_tlsf v new) (FlexAllocates fllen sllen (terms v.source) s size align (Some addr))
+        → FlexSteps fllen sllen terms owes leads v (with_tlsf v new) s (FlexAllocates fllen sllen (terms v.source) s size align (Some addr))
     allocated_in_room addr a = record {
       notes = [];
       state = with_machine s a.0;
       is_step = inl (record { machine = a.0; allocates = a.1; none = refl; after = refl });
       leads_by = refl;
+      outside = allocated_outside (Some addr) a;
       stands = allocated_stands (Some addr) a;
     }
 
@@ -77,19 +83,20 @@ module _ {S : Type 0} {fllen sllen : ℕ} {terms : S → Terms} {owes : S → Li
     )
 
     -- there is no room, and nothing has changed yet
-    pub no_room : Allocated fllen sllen size align v.tlsf new s.machine None → Allocates sllen s.machine size align None s.machine × FlexStandsFor fllen sllen terms owes (with_tlsf v new) s
-    no_room a = ((a.1.0, refl), subst (λ m. FlexStandsFor fllen sllen terms owes (with_tlsf v new) (with_machine s m)) a.1.1 (allocated_stands None a))
+    pub no_room : Allocated fllen sllen size align v.tlsf new s.machine None → Allocates sllen s.machine size align None s.machine × FlexStandsFor fllen sllen terms owes (with_tlsf v new) s × KeepsOutside v.tlsf.memory s.pools new.memory s.pools
+    no_room a = ((a.1.0, refl), subst (λ m. FlexStandsFor fllen sllen terms owes (with_tlsf v new) (with_machine s m)) a.1.1 (allocated_stands None a), allocated_outside None a)
 
   -- there is no room, and the source is asked
   module _ {leads : S → Note → S → Type 0} (v : FlexContents S) {new : Contents} {s : FlexState} (full : Allocates sllen s.machine size align None s.machine) where
     -- no pool would do, so nothing is asked
-    pub nothing_asked : pool_size_to_contain_allocation fllen sllen size align ≡ None → FlexStandsFor fllen sllen terms owes (with_tlsf v new) s
-        → FlexSteps fllen sllen terms owes leads v (with_tlsf v new) (FlexAllocates fllen sllen (terms v.source) s size align None)
-    nothing_asked none stands = record {
+    pub nothing_asked : KeepsOutside v.tlsf.memory s.pools new.memory s.pools → pool_size_to_contain_allocation fllen sllen size align ≡ None → FlexStandsFor fllen sllen terms owes (with_tlsf v new) s
+        → FlexSteps fllen sllen terms owes leads v (with_tlsf v new) s (FlexAllocates fllen sllen (terms v.source) s size align None)
+    nothing_asked still none stands = record {
       notes = [];
       state = s;
       is_step = record { full = full; extends = subst (λ w. Extends fllen (terms v.source) s w refused [] s) (sym none) (record { possible = tt; asked = refl; after = refl }) };
       leads_by = refl;
+      outside = still;
       stands = stands;
     }
 
@@ -98,13 +105,14 @@ module _ {S : Type 0} {fllen sllen : ℕ} {terms : S → Terms} {owes : S → Li
       asks h = record { full = full; extends = subst (λ w. Extends fllen (terms v.source) s w h.outcome h.notes h.state) (sym wanted) h.extends }
 
       -- nothing came
-      pub nothing_more : Extended fllen sllen terms owes leads (with_tlsf v new) after s e false
-          → FlexSteps fllen sllen terms owes leads v after (FlexAllocates fllen sllen (terms v.source) s size align None)
-      nothing_more h = record {
+      pub nothing_more : KeepsOutside v.tlsf.memory s.pools new.memory s.pools → Extended fllen sllen terms owes leads (with_tlsf v new) after s e false
+          → FlexSteps fllen sllen terms owes leads v after s (FlexAllocates fllen sllen (terms v.source) s size align None)
+      nothing_more still h = record {
         notes = h.notes;
         state = h.state;
         is_step = subst (λ o. Asks fllen sllen (terms v.source) s size align o h.notes h.state) (nothing_came h.outcome h.came) (asks h);
         leads_by = h.leads_by;
+        outside = KeepsOutside-then v.tlsf.memory new.memory after.tlsf.memory s.pools s.pools h.state.pools still h.outside;
         stands = h.stands;
       }
 
@@ -113,13 +121,15 @@ module _ {S : Type 0} {fllen sllen : ℕ} {terms : S → Terms} {owes : S → Li
         pub more_is_found : {t : State} → Allocates sllen h.state.machine size align None t → ⊥
         more_is_found none = pool_has_a_choice fl_bits sl_bits fllen sllen size align e h.state.machine valid wanted (h.room (sym h.came)) none.0
 
-        pub allocated_in_more : {last : Contents} → SamePlace after.tlsf.memory last.memory → (reply : Option ℕ) → Allocated fllen sllen size align after.tlsf last h.state.machine reply
-            → FlexSteps fllen sllen terms owes leads v (with_tlsf after last) (FlexAllocates fllen sllen (terms v.source) s size align reply)
-        allocated_in_more place None a = absurd (more_is_found a.1)
-        allocated_in_more place (Some addr) a = record {
+        pub allocated_in_more : {last : Contents} → KeepsOutside v.tlsf.memory s.pools new.memory s.pools → SamePlace after.tlsf.memory last.memory → (reply : Option ℕ) → Allocated fllen sllen size align after.tlsf last h.state.machine reply
+            → FlexSteps fllen sllen terms owes leads v (with_tlsf after last) s (FlexAllocates fllen sllen (terms v.source) s size align reply)
+        allocated_in_more still place None a = absurd (more_is_found a.1)
+        allocated_in_more {last = last} still place (Some addr) a = record {
           notes = h.notes;
           state = with_machine h.state a.0;
           is_step = inr (record { outcome = h.outcome; meanwhile = h.state; asks = asks h; more = sym h.came; machine = a.0; allocates = a.1; after = refl });
           leads_by = h.leads_by;
+          outside = KeepsOutside-then v.tlsf.memory new.memory last.memory s.pools s.pools h.state.pools still
+              (KeepsOutside-then new.memory after.tlsf.memory last.memory s.pools h.state.pools h.state.pools h.outside (allocated_outside place h.stands (Some addr) a));
           stands = allocated_stands place h.stands (Some addr) a;
         }

@@ -1,9 +1,10 @@
 -- The questions of a growth, one after another.
-use Rattle.std.proofs.Common.{◌≡◌, ℕ, ◌+◌, ◌^◌, ◌<◌, Bool, true, false, true≢false, cond, List, [], ◌∷◌, ◌++◌, append-nil, Option, Some, None, refl, sym, ◌∙◌, ap, subst}
+use Rattle.std.proofs.Common.{◌≡◌, ℕ, ◌+◌, ◌^◌, ◌<◌, Bool, true, false, true≢false, cond, List, ◌++◌, append-nil, Option, Some, None, refl, sym, ◌∙◌, ap, subst}
 use Rattle.std.specs.Option.{is_some, SomeIff}
 use Rattle.std.proofs.lemmas.Bool.{false≢true, lt-ltb}
 use Rattle.std.proofs.lemmas.Option.{none-some, same_Some}
 use Rattle.rlsf_base.specs.declared.memory.range.Range.{Range}
+use Rattle.rlsf_flex.specs.Outside.{KeepsOutside}
 use Rattle.rlsf_flex.specs.StandsFor.{FlexContents, FlexStandsFor}
 use Rattle.rlsf_flex.specs.Steps.Growth.{AskedGrowth, AskedRange, Extended, outcome_of_growth, outcome_of_range}
 use Rattle.rlsf_machine.specs.FlexState.{FlexState, KeptPool}
@@ -11,6 +12,7 @@ use Rattle.rlsf_machine.specs.Growth.{IsPossible, Questions, grown, growth_note,
 use Rattle.rlsf_machine.specs.Note.{Note, LeadsBy}
 use Rattle.rlsf_machine.specs.Terms.{Terms}
 use Rattle.rlsf_machine.proofs.Notes.{LeadsBy-append, terms-led}
+use Rattle.rlsf_flex.proofs.Outside.{KeepsOutside-then}
 
 -- what is asked where the pool is kept
 questions-kept : (t : Terms) (kept : Option KeptPool) (k : KeptPool) (e n : ℕ) → kept ≡ Some k → if_fits (k.len + e) ≡ Some n
@@ -58,6 +60,7 @@ module _ {S : Type 0} {fllen sllen : ℕ} {terms : S → Terms} {owes : S → Li
           after = h.took.takes;
         };
         leads_by = h.notes;
+        outside = h.took.outside;
         stands = h.took.stands;
         came = h.came;
         room = h.took.room;
@@ -81,10 +84,15 @@ module _ {S : Type 0} {fllen sllen : ℕ} {terms : S → Terms} {owes : S → Li
     refused_notes : more ≡ false → LeadsBy leads before.source (growth_note (growth_question (terms before.source) k n) None) after.source
     refused_notes no_more = subst (λ o. LeadsBy leads before.source (growth_note (growth_question (terms before.source) k n) o) after.source) (no_answer no_more) h.notes
 
+    no_state : more ≡ false → h.took.state ≡ s
+    no_state no_more = subst (λ o. TakesIn fllen (terms before.source) s (outcome_of_growth o) h.took.state) (no_answer no_more) h.took.takes
+
+    refused_outside : more ≡ false → KeepsOutside before.tlsf.memory s.pools after.tlsf.memory s.pools
+    refused_outside no_more = subst (λ (u : FlexState). KeepsOutside before.tlsf.memory s.pools after.tlsf.memory u.pools) (no_state no_more) h.took.outside
+
     -- nothing came, so the state stands still
     pub stands_still : more ≡ false → FlexStandsFor fllen sllen terms owes after s
-    stands_still no_more =
-        subst (FlexStandsFor fllen sllen terms owes after) (subst (λ o. TakesIn fllen (terms before.source) s (outcome_of_growth o) h.took.state) (no_answer no_more) h.took.takes) h.took.stands
+    stands_still no_more = subst (FlexStandsFor fllen sllen terms owes after) (no_state no_more) h.took.stands
 
     -- growth came
     pub extended_grown : more ≡ true → Extended fllen sllen terms owes leads before after s e true
@@ -102,6 +110,7 @@ module _ {S : Type 0} {fllen sllen : ℕ} {terms : S → Terms} {owes : S → Li
             after = subst (λ o. TakesIn fllen (terms before.source) s (outcome_of_growth o) h.took.state) is h.took.takes;
           };
           leads_by = subst (λ o. LeadsBy leads before.source (growth_note (growth_question (terms before.source) k n) o) after.source) is h.notes;
+          outside = h.took.outside;
           stands = h.took.stands;
           came = refl;
           room = λ t. h.took.room (sym h.came ∙ is_true);
@@ -118,6 +127,7 @@ module _ {S : Type 0} {fllen sllen : ℕ} {terms : S → Terms} {owes : S → Li
           state = s;
           extends = record { possible = tt; asked = sym (append-nil _) ∙ ap (λ q. notes_of q refused) (sym q); after = refl };
           leads_by = refused_notes no_more;
+          outside = refused_outside no_more;
           stands = stands_still no_more;
           came = refl;
           room = λ t. absurd (false≢true t);
@@ -144,6 +154,7 @@ module _ {S : Type 0} {fllen sllen : ℕ} {terms : S → Terms} {owes : S → Li
             after = subst (λ t. TakesIn fllen t s (outcome_of_range r.answer) r.took.state) same r.took.takes;
           };
           leads_by = LeadsBy-append leads before.source after.source last.source _ _ (refused_notes no_more) notes;
+          outside = KeepsOutside-then before.tlsf.memory after.tlsf.memory last.tlsf.memory s.pools s.pools r.took.state.pools (refused_outside no_more) r.took.outside;
           stands = r.took.stands;
           came = r.came;
           room = r.took.room;

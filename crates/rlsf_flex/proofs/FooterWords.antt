@@ -1,10 +1,11 @@
 -- The two words of a footer, written and read.
-use Rattle.std.proofs.Common.{◌≡◌, ℕ, ◌+◌, ◌^◌, ◌<◌, List, [], ◌∷◌, Option, Some, None, arith, refl, sym, ◌∙◌, ap, inl, cond, eqb}
-use Rattle.std.proofs.lemmas.Bool.{ne_eqb}
+use Rattle.std.proofs.Common.{◌≡◌, ℕ, ◌+◌, ◌^◌, ◌<◌, ◌≤◌, ◌⊎◌, List, [], ◌∷◌, Option, Some, None, arith, refl, sym, ◌∙◌, ap, inl, inr, cond, eqb}
+use Rattle.std.proofs.lemmas.Bool.{cases_lt, ne_eqb}
 use Rattle.rlsf_base.specs.declared.memory.range.Range.{Range}
 use Rattle.rlsf_base.specs.Range.{range_at}
-use Rattle.rlsf_base.specs.Space.{Space, word_at, with_word, SamePlace, IsWord}
-use Rattle.rlsf_base.proofs.Words.Written.{word_at-same, word_at-other}
+use Rattle.rlsf_base.specs.Space.{Space, byte_range, word_at, with_word, SamePlace, IsWord}
+use Rattle.rlsf_base.proofs.Lending.Replaced.{byte_at-same}
+use Rattle.rlsf_base.proofs.Words.Written.{bytes_in-with_word, word_at-same, word_at-other}
 use Rattle.rlsf_blocks.specs.Spare.{IsSpareWord}
 use Rattle.rlsf_flex.specs.Footers.{footer_of, first, first_start, Footers, WritesFooter}
 use Rattle.rlsf_machine.specs.Lists.{IsIn}
@@ -14,6 +15,13 @@ use Rattle.rlsf_machine.specs.State.{State}
 pub IsSpareWord-place : (m n : Space) (s : State) (a b : ℕ) → SamePlace m n → a ≡ b → IsSpareWord m s b → IsSpareWord n s a
 IsSpareWord-place m n s a b place same (word, spare) =
     ((omega (arith, word.0), (omega (arith, word.1, place), omega (arith, word.1, place))), λ x from to. spare x (omega arith) (omega arith))
+
+-- a byte that a word doesn't have stands before it or behind it
+side : (a at : ℕ) → (at ≤ a → a < at + 8 → ⊥) → (a + 1 ≤ at) ⊎ (at + 8 ≤ a)
+side a at apart = elim (cases_lt a at) [
+  | inl low ↦ inl (omega (arith, low))
+  | inr high ↦ elim (cases_lt a (at + 8)) [ inl below ↦ absurd (apart high below) | inr above ↦ inr above ]
+]
 
 -- the two words were written, one after the other
 pub writes_footer : (m k n : Space) (p : Range) (at start len : ℕ) → at ≡ footer_of p → IsWord m (footer_of p) → IsWord m (footer_of p + 8) → start < 2 ^ 64 → len < 2 ^ 64
@@ -25,9 +33,9 @@ writes_footer m k n p at start len is has_first has_second start_fits len_fits p
       place = (place2.0 ∙ place1.0, place2.1 ∙ place1.1);
       reads_start = ap (word_at n) (sym is) ∙ word_at-other k n (at + 8) len second place2.0 bytes2 at first.0 (omega (arith, first.1, place1)) (λ e. omega (arith, e)) ∙ word_at-same m k at start first place1.0 bytes1 start_fits;
       reads_len = ap (λ a. word_at n (a + 8)) (sym is) ∙ word_at-same k n (at + 8) len second place2.0 bytes2 len_fits;
-      others = λ a whole from not_start not_len.
-          word_at-other k n (at + 8) len second place2.0 bytes2 a whole (omega (arith, from, place1)) (λ e. not_len (omega (arith, e, is)))
-          ∙ word_at-other m k at start first place1.0 bytes1 a whole from (λ e. not_start (omega (arith, e, is)));
+      bytes = λ a from below apart.
+          byte_at-same k n a (bytes_in-with_word k n (at + 8) len second place2.0 bytes2 (byte_range a) (omega (arith, from, place1)) (side a (at + 8) (λ low high. apart (omega (arith, is)) (omega (arith, is)))))
+          ∙ byte_at-same m k a (bytes_in-with_word m k at start first place1.0 bytes1 (byte_range a) from (side a at (λ low high. apart (omega (arith, is)) (omega (arith, is)))));
     }
 
 -- where no range begins at 0, the start that is 0 names none

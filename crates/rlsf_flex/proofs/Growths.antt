@@ -1,12 +1,13 @@
 -- The kept range has grown, and the new bytes are handed in, over plain values.
-use Rattle.std.proofs.Common.{◌≡◌, ℕ, ◌+◌, ◌-◌, ◌<◌, ◌≤◌, true, List, ◌∷◌, Some, arith, refl, sym, ap, subst, inl, inr}
+use Rattle.std.proofs.Common.{◌≡◌, ℕ, ◌+◌, ◌-◌, ◌<◌, ◌≤◌, true, List, ◌∷◌, length, Some, arith, refl, sym, ◌∙◌, ap, subst, inl, inr}
 use Rattle.rlsf_base.specs.declared.memory.range.Range.{Range}
-use Rattle.rlsf_base.specs.Range.{end_of}
+use Rattle.rlsf_base.specs.Range.{end_of, LiesIn}
 use Rattle.rlsf_base.specs.SizeClass.{IsValid}
 use Rattle.rlsf_base.specs.Space.{range_of, SamePlace}
 use Rattle.rlsf_blocks.specs.Spare.{KeepsSpare}
 use Rattle.rlsf_blocks.specs.StandsFor.{Contents, StandsFor}
 use Rattle.rlsf_flex.specs.Footers.{first_len, first_start, Footers}
+use Rattle.rlsf_flex.specs.Outside.{IsOutside, KeepsOutside}
 use Rattle.rlsf_flex.specs.StandsFor.{FlexContents, FlexStandsFor, IsKeptPool}
 use Rattle.rlsf_flex.specs.Steps.Growth.{Took}
 use Rattle.rlsf_machine.specs.FlexState.{FlexState, KeptPool}
@@ -16,12 +17,14 @@ use Rattle.rlsf_machine.specs.Lists.{IsIn}
 use Rattle.rlsf_machine.specs.PoolLength.{HasPool, IsPoolSize}
 use Rattle.rlsf_machine.specs.State.{State}
 use Rattle.rlsf_machine.specs.Terms.{IsGrown, Terms, with_len}
+use Rattle.rlsf_machine.specs.WellFormed.{coverage, itself}
 use Rattle.rlsf_machine.proofs.Coverage.{before, behind as past, inside, where_is}
 use Rattle.rlsf_machine.proofs.TakenPools.{appended_pool, IsTaken, longer as wider, new, old, pool_size_is}
 use Rattle.rlsf_flex.proofs.Frames.{Footers-kept}
 use Rattle.rlsf_flex.proofs.Houses.{FlexStandsFor-housed, Houses, Houses-flex, Houses-moved, Houses-spare}
 use Rattle.rlsf_flex.proofs.Housing.{AreHoused, AreHoused-longer, AreOutstanding-more, AreOutstanding-rest, coverage-in, coverage-none}
 use Rattle.rlsf_flex.proofs.Kept.{IsKeptPool-taken}
+use Rattle.rlsf_flex.proofs.Outside.{KeepsOutside-footed, KeepsOutside-spare, KeepsOutside-then}
 use Rattle.rlsf_flex.proofs.Rewritten.{Footers-written, IsFooted}
 
 -- a growth came that a source was asked for, in a state of an allocator over it
@@ -126,15 +129,37 @@ module _ {S : Type 0} {fl_bits sl_bits fllen sllen e : ℕ} (valid : IsValid fl_
       record {
         state = record { machine = t; pools = now ∷ c.kept.rest; kept = Some kept };
         takes = (k, n, c.was, step, sym (ap (longer len) c.kept.split), refl);
+        outside = outside after.housed;
         stands = FlexStandsFor-housed v.source y b t (now ∷ c.kept.rest) (Some kept) after same c.owed newest
             (λ takes. Footers-kept d.memory b.memory s.machine t (now ∷ c.kept.rest) spare place (λ p i. (Houses-spare middle p i, Houses-spare after p i)) (footers takes));
         room = λ came. pool;
       }
     where
+      -- the longer range has all that the range had
+      only_more : (a : ℕ) → IsOutside (with_len k.range len ∷ c.kept.rest) a → IsOutside s.pools a
+      only_more a none =
+          let (enough, more, long, some) = Grew-longer in
+          ap (λ ps. coverage itself ps a) c.kept.split ∙ coverage-none (k.range ∷ c.kept.rest) a (λ p. elim [
+            | inl same ↦ λ low high.
+                let start : p.start ≡ k.range.start = ap (λ q. q.start) {x = p} same in
+                let end : end_of p ≡ end_of k.range = ap end_of {x = p} same in
+                omega (arith, coverage-in (with_len k.range len) (with_len k.range len ∷ c.kept.rest) a (inl refl) (omega arith) (omega arith), none)
+            | inr i ↦ λ low high. omega (arith, coverage-in p (with_len k.range len ∷ c.kept.rest) a (inr i) low high, none)
+          ])
+
+      outside : AreHoused (with_len k.range len ∷ c.kept.rest) t.chunks → KeepsOutside v.tlsf.memory s.pools b.memory (with_len k.range len ∷ c.kept.rest)
+      outside housed =
+          let (enough, more, long, some) = Grew-longer in
+          let now = with_len k.range len in
+          KeepsOutside-then v.tlsf.memory d.memory b.memory s.pools (now ∷ c.kept.rest) (now ∷ c.kept.rest)
+          (KeepsOutside-footed (terms v.source).dealloc v.tlsf.memory d.memory now (first_start c.kept.rest) (first_len c.kept.rest) s.pools (now ∷ c.kept.rest) (inl refl) (omega arith) only_more foot)
+          (KeepsOutside-spare d.memory b.memory s.machine t (now ∷ c.kept.rest) (now ∷ c.kept.rest) (Grew-houses d footed_stands foot.place).housed housed (λ a none. none) place spare)
+
       footers : (terms v.source).dealloc ≡ true → Footers d.memory (with_len k.range len ∷ c.kept.rest)
       footers takes =
           let (enough, more, long, some) = Grew-longer in
           let w = foot.written takes in
           let old = subst (Footers v.tlsf.memory) c.kept.split (c.before.footers takes) in
-          let placed : (p : Range) → IsIn p c.kept.rest → (64 ≤ p.len) × (v.tlsf.memory.start ≤ p.start) = λ p i. (Grew-old.pools.long p (inr i), omega (arith, Grew-old.pools.in_space p (inr i), Grew-old.space)) in
+          let placed : (p : Range) → IsIn p c.kept.rest → (64 ≤ p.len) × LiesIn p v.tlsf.memory.start (length v.tlsf.memory.bytes) =
+          λ p i. (Grew-old.pools.long p (inr i), (omega (arith, Grew-old.pools.in_space p (inr i), Grew-old.space), omega (arith, Grew-old.pools.in_space p (inr i), Grew-old.space))) in
           (w.reads_start, w.reads_len, Footers-written v.tlsf.memory d.memory (with_len k.range len) (first_start c.kept.rest) (first_len c.kept.rest) c.kept.rest w (omega arith) c.is_grown.apart placed old.2)

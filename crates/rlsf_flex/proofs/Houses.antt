@@ -16,6 +16,7 @@ use Rattle.rlsf_machine.specs.State.{State}
 use Rattle.rlsf_machine.specs.Terms.{Terms}
 use Rattle.rlsf_flex.proofs.Frames.{HasSpareFooter, outstanding_in, spare_footer}
 use Rattle.rlsf_flex.proofs.Housing.{AreHoused}
+use Rattle.rlsf_flex.proofs.Outside.{KeepsOutside-refl}
 
 -- the allocator stands for the state, and the ranges lie in the space and house all chunks
 pub record Houses (fllen sllen : ℕ) (whole : Range) (v : Contents) (s : State) (ranges : List Range) : Type 0 where
@@ -78,4 +79,4 @@ module _ {S : Type 0} {fllen sllen : ℕ} {terms : S → Terms} {owes : S → Li
   -- nothing came
   pub Took-refused : (e : ℕ) (v : FlexContents S) (y : S) (s : FlexState) → FlexStandsFor fllen sllen terms owes v s → terms y ≡ terms v.source → owes y s.pools
       → Took fllen sllen terms owes v (record { tlsf = v.tlsf; kept = v.kept; source = y }) s e refused
-  Took-refused e v y s f same owed = record { state = s; takes = refl; stands = FlexStandsFor-refused v y s f same owed; room = λ more. absurd (false≢true more) }
+  Took-refused e v y s f same owed = record { state = s; takes = refl; outside = KeepsOutside-refl v.tlsf.memory s.pools; stands = FlexStandsFor-refused v y s f same owed; room = λ more. absurd (false≢true more) }

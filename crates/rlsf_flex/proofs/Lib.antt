@@ -13,6 +13,7 @@ pub mod Kept
 pub mod Loans
 pub mod Moves
 pub mod NewRanges
+pub mod Outside
 pub mod RangeLengths
 pub mod Reallocations
 pub mod Rewritten

@@ -28,7 +28,7 @@ module _ {S : Type 0} {fllen sllen : ℕ} {terms : S → Terms} {owes : S → Li
       let n = lent_space (touched v.tlsf.memory 3) (usable u).start (usable u).len w in
       let step = stands_filled h.machine addr u holds n (IsSameOutside-lent v.tlsf.memory 3 (usable u) w lies) in
       let here = written-lent h.machine addr u holds (touched v.tlsf.memory 3) refl (usable u) holds.1 len (sym whole) w in
-      let (m, fills, stands) = filled h (SamePlace-lent h.machine addr u holds len whole w) addr (bytes_in n (usable u))
+      let (m, fills, stands, spare) = filled h (SamePlace-lent h.machine addr u holds len whole w) addr (bytes_in n (usable u))
       (subst (λ (new : Contents). (t : State) × Fills s.machine addr (bytes_in n (usable u)) t × StandsFor fllen sllen new t × KeepsSpare v.tlsf.memory s.machine new.memory t) here step) in
       (m, stands)
 

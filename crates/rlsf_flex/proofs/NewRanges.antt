@@ -1,14 +1,16 @@
 -- A new range that came is handed in, over plain values.
-use Rattle.std.proofs.Common.{◌≡◌, ℕ, ◌≤◌, Bool, true, false, List, ◌∷◌, Option, Some, arith, refl, sym, ◌∙◌, subst, inr}
+use Rattle.std.proofs.Common.{◌≡◌, ℕ, ◌≤◌, Bool, true, false, List, ◌∷◌, length, Option, Some, arith, refl, sym, ◌∙◌, subst, inl, inr}
 use Rattle.std.specs.Bool.{then_some}
 use Rattle.std.proofs.lemmas.Bool.{false≢true}
 use Rattle.rlsf_base.specs.declared.memory.range.Range.{Range}
+use Rattle.rlsf_base.specs.Range.{LiesIn}
 use Rattle.rlsf_base.specs.SizeClass.{IsValid}
 use Rattle.rlsf_base.specs.Space.{range_of, SamePlace}
 use Rattle.rlsf_blocks.specs.Spare.{KeepsSpare}
 use Rattle.rlsf_blocks.specs.StandsFor.{Contents, StandsFor}
 use Rattle.rlsf_flex.specs.declared.pool.Pool.{Pool}
 use Rattle.rlsf_flex.specs.Footers.{Footers}
+use Rattle.rlsf_flex.specs.Outside.{KeepsOutside}
 use Rattle.rlsf_flex.specs.StandsFor.{FlexContents, FlexStandsFor, IsNewest, kept_of}
 use Rattle.rlsf_flex.specs.Steps.Growth.{kept_len, kept_start, Took}
 use Rattle.rlsf_machine.specs.FlexState.{FlexState, KeptPool}
@@ -23,6 +25,7 @@ use Rattle.rlsf_flex.proofs.Frames.{Footers-kept}
 use Rattle.rlsf_flex.proofs.Houses.{FlexStandsFor-housed, Houses, Houses-flex, Houses-moved, Houses-spare}
 use Rattle.rlsf_flex.proofs.Housing.{AreHoused-inserted, AreOutstanding-more, IsClear-housed}
 use Rattle.rlsf_flex.proofs.Kept.{IsKeptPool-taken, keeps-dealloc, words-first}
+use Rattle.rlsf_flex.proofs.Outside.{KeepsOutside-footed, KeepsOutside-spare, KeepsOutside-then}
 use Rattle.rlsf_flex.proofs.RangeLengths.{HasAlignedPart-given, range_length-whole}
 use Rattle.rlsf_flex.proofs.Rewritten.{Footers-written, IsFooted}
 
@@ -72,12 +75,18 @@ module _ {S : Type 0} {fl_bits sl_bits fllen sllen e : ℕ} (valid : IsValid fl_
       record {
         state = record { machine = t; pools = r ∷ s.pools; kept = later };
         takes = (n, subst (λ o. Inserts fllen s.machine r o t) is step, refl, told n is);
+        outside = outside;
         stands = FlexStandsFor-housed v.source y d t (r ∷ s.pools) later after same c.owed newest footers;
         room = λ more. pool;
       }
     where
       houses : Houses fllen sllen (terms v.source).space b t (r ∷ s.pools)
       houses = Came-houses b t taken step stands place
+
+      outside : KeepsOutside v.tlsf.memory s.pools d.memory (r ∷ s.pools)
+      outside = KeepsOutside-then v.tlsf.memory b.memory d.memory s.pools (r ∷ s.pools) (r ∷ s.pools)
+          (KeepsOutside-spare v.tlsf.memory b.memory s.machine t s.pools (r ∷ s.pools) c.before.housed houses.housed (λ a none. omega (arith, none)) place spare)
+          (KeepsOutside-footed (terms v.source).dealloc b.memory d.memory r (kept_start kept) (kept_len kept) (r ∷ s.pools) (r ∷ s.pools) (inl refl) Came-long (λ a none. none) foot)
 
       newest_by : (n : ℕ) → IsTaken s.machine r n t → (k : Bool) → keeps (terms v.source) ≡ k → IsNewest (terms v.source) (then_some k (record { range = r; len = n })) (r ∷ s.pools) t.chunks
       newest_by n is_taken true keep = IsKeptPool-taken (terms v.source) r n s.pools s.machine t r n keep (omega arith) refl refl Came-fresh.apart is_taken
@@ -89,5 +98,6 @@ module _ {S : Type 0} {fl_bits sl_bits fllen sllen e : ℕ} (valid : IsValid fl_
           let before = subst (λ k. IsNewest (terms v.source) k s.pools s.machine.chunks) (c.before.kept ∙ was) c.before.newest in
           let words = words-first (terms v.source) kept s.pools s.machine.chunks before (keeps-dealloc (terms v.source) takes) in
           let old = Footers-kept v.tlsf.memory b.memory s.machine t s.pools spare place (λ p i. (Houses-spare (Houses-flex c.before) p i, Houses-spare houses p (inr i))) (c.before.footers takes) in
-          let placed : (p : Range) → IsIn p s.pools → (64 ≤ p.len) × (b.memory.start ≤ p.start) = λ p i. (c.before.pools.long p i, omega (arith, c.before.pools.in_space p i, houses.space)) in
+          let placed : (p : Range) → IsIn p s.pools → (64 ≤ p.len) × LiesIn p b.memory.start (length b.memory.bytes) =
+          λ p i. (c.before.pools.long p i, (omega (arith, c.before.pools.in_space p i, houses.space), omega (arith, c.before.pools.in_space p i, houses.space))) in
           (w.reads_start ∙ words.0, w.reads_len ∙ words.1, Footers-written b.memory d.memory r (kept_start kept) (kept_len kept) s.pools w Came-long c.is_given.apart placed old)

@@ -6,6 +6,7 @@ use Rattle.rlsf_base.specs.Sizes.{pool_size_to_contain_allocation}
 use Rattle.rlsf_base.specs.Space.{range_of, SamePlace}
 use Rattle.rlsf_blocks.specs.Spare.{KeepsSpare}
 use Rattle.rlsf_blocks.specs.StandsFor.{Contents, StandsFor}
+use Rattle.rlsf_flex.specs.Outside.{KeepsOutside}
 use Rattle.rlsf_flex.specs.StandsFor.{FlexContents, FlexStandsFor, FlexSteps}
 use Rattle.rlsf_flex.specs.Steps.Growth.{Extended}
 use Rattle.rlsf_machine.specs.Allocate.{Allocates}
@@ -27,6 +28,7 @@ use Rattle.rlsf_machine.proofs.Live.{handed_out_is_new, live_stays, reallocated_
 use Rattle.rlsf_machine.proofs.Payloads.{usable-short}
 use Rattle.rlsf_flex.proofs.Allocations.{asks, refused_alone, with_tlsf}
 use Rattle.rlsf_flex.proofs.Frames.{stands_stepped}
+use Rattle.rlsf_flex.proofs.Outside.{KeepsOutside-stands, KeepsOutside-then}
 
 -- what the allocator over pools does for a reallocation
 abbrev pub Reallocated : ℕ → ℕ → ℕ → ℕ → Contents → Contents → State → Option ℕ → Type 0
@@ -74,14 +76,18 @@ module _ {S : Type 0} {fllen sllen : ℕ} {terms : S → Terms} {owes : S → Li
     pub reallocated_stands : (reply : Option ℕ) (a : Reallocated fllen sllen addr size v.tlsf new s.machine reply) → FlexStandsFor fllen sllen terms owes (with_tlsf v new) (with_machine s a.0)
     reallocated_stands reply (t, all, stands, spare) = stands_stepped fllen sllen terms owes v new s t h stands (chunks-reallocated sllen s.machine t addr size reply all) spare place
 
+    reallocated_outside : (reply : Option ℕ) → Reallocated fllen sllen addr size v.tlsf new s.machine reply → KeepsOutside v.tlsf.memory s.pools new.memory s.pools
+    reallocated_outside reply a = KeepsOutside-stands h (reallocated_stands reply a) place a.3
+
     -- there is room
     pub reallocated_in_room : {leads : S → Note → S → Type 0} (to : ℕ) → Reallocated fllen sllen addr size v.tlsf new s.machine (Some to)
-        → FlexSteps fllen sllen terms owes leads v (with_tlsf v new) (FlexReallocates fllen sllen (terms v.source) s addr size (Some to))
+        → FlexSteps fllen sllen terms owes leads v (with_tlsf v new) s (FlexReallocates fllen sllen (terms v.source) s addr size (Some to))
     reallocated_in_room to a = record {
       notes = [];
       state = with_machine s a.0;
       is_step = inl (record { machine = a.0; reallocates = a.1; none = refl; after = refl });
       leads_by = refl;
+      outside = reallocated_outside (Some to) a;
       stands = reallocated_stands (Some to) a;
     }
 
@@ -97,6 +103,7 @@ module _ {S : Type 0} {fllen sllen : ℕ} {terms : S → Terms} {owes : S → Li
     -- there is no room, and nothing has changed yet
     pub no_room_to_move : IsLive s.machine addr align → Reallocated fllen sllen addr size v.tlsf new s.machine None
         → (u : Used) × IsStuck s.machine addr size u × (u.align ≡ align) × Allocates sllen s.machine size align None s.machine × FlexStandsFor fllen sllen terms owes (with_tlsf v new) s
+        × KeepsOutside v.tlsf.memory s.pools new.memory s.pools
     no_room_to_move (x, holds, is) a =
         let u = a.1.block in
         let (none, full) = refused_by sllen size s.machine a.0 u (plan s.machine u size) a.1.step in
@@ -106,18 +113,20 @@ module _ {S : Type 0} {fllen sllen : ℕ} {terms : S → Terms} {owes : S → Li
           aligned,
           subst (λ k. Allocates sllen s.machine size k None s.machine) aligned (full.0, refl),
           subst (λ m. FlexStandsFor fllen sllen terms owes (with_tlsf v new) (with_machine s m)) full.1 (reallocated_stands None a),
+          reallocated_outside None a,
         )
 
   -- there is no room, and the source is asked
   module _ {leads : S → Note → S → Type 0} (v : FlexContents S) {s : FlexState} {u : Used} (stuck : IsStuck s.machine addr size u) (is : u.align ≡ align) where
     -- where an allocation is refused, the reallocation is
-    pub refused_too : {after : FlexContents S} → FlexSteps fllen sllen terms owes leads v after (FlexAllocates fllen sllen (terms v.source) s size align None)
-        → FlexSteps fllen sllen terms owes leads v after (FlexReallocates fllen sllen (terms v.source) s addr size None)
+    pub refused_too : {after : FlexContents S} → FlexSteps fllen sllen terms owes leads v after s (FlexAllocates fllen sllen (terms v.source) s size align None)
+        → FlexSteps fllen sllen terms owes leads v after s (FlexReallocates fllen sllen (terms v.source) s addr size None)
     refused_too h = record {
       notes = h.notes;
       state = h.state;
       is_step = record { block = u; stuck = stuck; asks = subst (λ a. Asks fllen sllen (terms v.source) s size a refused h.notes h.state) (sym is) h.is_step };
       leads_by = h.leads_by;
+      outside = h.outside;
       stands = h.stands;
     }
 
@@ -135,8 +144,8 @@ module _ {S : Type 0} {fllen sllen : ℕ} {terms : S → Terms} {owes : S → Li
             stands_stepped fllen sllen terms owes after last h.state a.0 h.stands a.2 chunks a.3 place
 
         -- the payload moved into what came
-        pub reallocated_in_more : FlexSteps fllen sllen terms owes leads v (with_tlsf after last) (FlexReallocates fllen sllen (terms v.source) s addr size (Some to))
-        reallocated_in_more = record {
+        pub reallocated_in_more : KeepsOutside v.tlsf.memory s.pools new.memory s.pools → FlexSteps fllen sllen terms owes leads v (with_tlsf after last) s (FlexReallocates fllen sllen (terms v.source) s addr size (Some to))
+        reallocated_in_more still = record {
           notes = h.notes;
           state = with_machine h.state a.0;
           is_step = inr (record {
@@ -152,6 +161,9 @@ module _ {S : Type 0} {fllen sllen : ℕ} {terms : S → Terms} {owes : S → Li
             after = refl;
           });
           leads_by = h.leads_by;
+          outside = KeepsOutside-then v.tlsf.memory new.memory last.memory s.pools s.pools h.state.pools still
+              (KeepsOutside-then new.memory after.tlsf.memory last.memory s.pools h.state.pools h.state.pools h.outside
+              (KeepsOutside-stands h.stands moved_stands place a.3));
           stands = moved_stands;
         }
 

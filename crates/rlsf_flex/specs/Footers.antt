@@ -1,8 +1,8 @@
 -- The footers: two words near the end of each range of the source, which name the range before it.
-use Rattle.std.specs.Prelude.{◌≡◌, ◌≢◌, ℕ, ◌+◌, ◌-◌, ◌*◌, ◌/◌, ◌%◌, ◌^◌, ◌<◌, ◌≤◌, List, [], ◌∷◌, Option, Some, None, length}
+use Rattle.std.specs.Prelude.{◌≡◌, ℕ, ◌+◌, ◌-◌, ◌*◌, ◌/◌, ◌^◌, ◌<◌, ◌≤◌, List, [], ◌∷◌, Option, Some, None, length}
 use Rattle.rlsf_base.specs.declared.memory.range.Range.{Range}
 use Rattle.rlsf_base.specs.Range.{end_of}
-use Rattle.rlsf_base.specs.Space.{Space, range_of, word_at, SamePlace}
+use Rattle.rlsf_base.specs.Space.{Space, byte_at, range_of, word_at, SamePlace}
 use Rattle.rlsf_flex.specs.Outstanding.{AreOutstanding}
 
 -- where a range's footer stands: the last multiple of 8 that leaves 16 bytes of the range
@@ -24,12 +24,12 @@ abbrev pub Footers : Space → List Range → Type 0
 Footers m [] = Unit {0}
 Footers m (p ∷ ps) = (word_at m (footer_of p) ≡ first_start ps) × (word_at m (footer_of p + 8) ≡ first_len ps) × Footers m ps
 
--- a range's footer is written, and no other word
+-- a range's footer is written, and no other byte
 pub record WritesFooter (m n : Space) (p : Range) (start len : ℕ) : Type 0 where
   pub place : SamePlace m n
   pub reads_start : word_at n (footer_of p) ≡ start
   pub reads_len : word_at n (footer_of p + 8) ≡ len
-  pub others : (a : ℕ) → a % 8 ≡ 0 → m.start ≤ a → a ≢ footer_of p → a ≢ footer_of p + 8 → word_at n a ≡ word_at m a
+  pub bytes : (a : ℕ) → m.start ≤ a → a < m.start + length m.bytes → (footer_of p ≤ a → a < footer_of p + 16 → ⊥) → byte_at n a ≡ byte_at m a
 
 -- the newest of the ranges, if there is one
 abbrev pub first : List Range → Option Range

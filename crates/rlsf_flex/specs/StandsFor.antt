@@ -7,6 +7,7 @@ use Rattle.rlsf_base.specs.SizeClass.{IsValid}
 use Rattle.rlsf_blocks.specs.StandsFor.{Contents, StandsFor}
 use Rattle.rlsf_flex.specs.declared.pool.Pool.{Pool}
 use Rattle.rlsf_flex.specs.Footers.{Footers}
+use Rattle.rlsf_flex.specs.Outside.{KeepsOutside}
 use Rattle.rlsf_flex.specs.Outstanding.{AreOutstanding}
 use Rattle.rlsf_machine.specs.FlexState.{FlexState, KeptPool}
 use Rattle.rlsf_machine.specs.Growth.{keeps}
@@ -71,11 +72,13 @@ pub record IsFlexTlsf {S : Type 0} (fl_bits sl_bits fllen sllen : ℕ) (terms : 
   pub valid : IsValid fl_bits sl_bits fllen sllen
   pub stands : (s : FlexState) × FlexStandsFor fllen sllen terms owes v s
 
--- A step of the machine that asks a source for memory: there are notes, with which the machine steps to a state that stands
--- after; they, one by one and no others, lead from the source's value before to the one after.
-pub record FlexSteps {S : Type 0} (fllen sllen : ℕ) (terms : S → Terms) (owes : S → List Range → Type 0) (leads : S → Note → S → Type 0) (before after : FlexContents S) (step : List Note → FlexState → Type 0) : Type 0 where
+-- A step of the machine that asks a source for memory, from a state that stands before: there are notes, with which the machine
+-- steps to a state that stands after; they, one by one and no others, lead from the source's value before to the one after. Bytes
+-- of the memory outside of the ranges stay.
+pub record FlexSteps {S : Type 0} (fllen sllen : ℕ) (terms : S → Terms) (owes : S → List Range → Type 0) (leads : S → Note → S → Type 0) (before after : FlexContents S) (s : FlexState) (step : List Note → FlexState → Type 0) : Type 0 where
   pub notes : List Note
   pub state : FlexState
   pub is_step : step notes state
   pub leads_by : LeadsBy leads before.source notes after.source
+  pub outside : KeepsOutside before.tlsf.memory s.pools after.tlsf.memory state.pools
   pub stands : FlexStandsFor fllen sllen terms owes after state

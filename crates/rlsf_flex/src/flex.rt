@@ -7,6 +7,7 @@ ghost use Rattle.std.specs.Option.{option_map};
 ghost use Rattle.rlsf_base.specs.Range.{LiesIn};
 ghost use Rattle.rlsf_base.specs.SizeClass.{IsValid};
 ghost use Rattle.rlsf_base.specs.Space.{bytes_in, SamePlace};
+ghost use Rattle.rlsf_blocks.specs.Spare.{KeepsSpare};
 ghost use Rattle.rlsf_flex.specs.StandsFor.{FlexStandsFor, FlexSteps};
 ghost use Rattle.rlsf_machine.specs.Allocate.{Allocates};
 ghost use Rattle.rlsf_machine.specs.End.{notes_at_end, owed_at_end};
@@ -117,11 +118,11 @@ impl<
     /// once for growth of its newest range, if it can grow ranges, and once for a new range, if no growth came and it isn't one
     /// range that grows. The allocation that the memory was asked for succeeds in what came, whatever its length.
     ///
-    /// `None` exactly where there is no room and no memory came; nothing is asked where no pool would do. Then the pools and all
-    /// bytes are as they were, and only the source was asked.
+    /// Bytes outside of the outstanding ranges stay. `None` exactly where there is no room and no memory came; nothing is asked
+    /// where no pool would do. Then the pools and all bytes are as they were, and only the source was asked.
     pub fn allocate(&mut self, layout: Layout) -> Option<Addr>
         ensures step { (s : FlexState) → FlexStandsFor FLLEN SLLEN S.terms S.owes self.old s
-            → FlexSteps FLLEN SLLEN S.terms S.owes S.leads self.old self.new (FlexAllocates FLLEN SLLEN (S.terms self.old.source) s layout.size layout.align (option_map non_zero_usize_get result)) }
+            → FlexSteps FLLEN SLLEN S.terms S.owes S.leads self.old self.new s (FlexAllocates FLLEN SLLEN (S.terms self.old.source) s layout.size layout.align (option_map non_zero_usize_get result)) }
         ensures placed { IfSome result (λ addr. (t : FlexState) × FlexStandsFor FLLEN SLLEN S.terms S.owes self.new t × IsLive t.machine (non_zero_usize_get addr) layout.align) }
         ensures refused { IfNone result (self.new.tlsf.memory.bytes ≡ self.old.tlsf.memory.bytes) }
         ensures place { SamePlace self.old.tlsf.memory self.new.tlsf.memory }
@@ -146,7 +147,8 @@ impl<
     pub fn deallocate(&mut self, addr: Addr, align: usize)
         requires { (s : FlexState) × FlexStandsFor FLLEN SLLEN S.terms S.owes self.old s × IsLive s.machine (non_zero_usize_get addr) align }
         ensures step { (s : FlexState) → FlexStandsFor FLLEN SLLEN S.terms S.owes self.old s → IsLive s.machine (non_zero_usize_get addr) align
-            → (m : State) × Deallocates s.machine (non_zero_usize_get addr) m × FlexStandsFor FLLEN SLLEN S.terms S.owes self.new (with_machine s m) }
+            → (m : State) × Deallocates s.machine (non_zero_usize_get addr) m × FlexStandsFor FLLEN SLLEN S.terms S.owes self.new (with_machine s m)
+            × KeepsSpare self.old.tlsf.memory s.machine self.new.tlsf.memory m }
         ensures source { self.new.source ≡ self.old.source }
         ensures place { SamePlace self.old.tlsf.memory self.new.tlsf.memory }
         ensures touches { self.new.tlsf.memory.touches ≤ self.old.tlsf.memory.touches + 32 }
@@ -162,7 +164,8 @@ impl<
     pub fn deallocate_unknown_align(&mut self, addr: Addr)
         requires { (s : FlexState) × FlexStandsFor FLLEN SLLEN S.terms S.owes self.old s × IsSomeLive s.machine (non_zero_usize_get addr) }
         ensures step { (s : FlexState) → FlexStandsFor FLLEN SLLEN S.terms S.owes self.old s → IsSomeLive s.machine (non_zero_usize_get addr)
-            → (m : State) × Deallocates s.machine (non_zero_usize_get addr) m × FlexStandsFor FLLEN SLLEN S.terms S.owes self.new (with_machine s m) }
+            → (m : State) × Deallocates s.machine (non_zero_usize_get addr) m × FlexStandsFor FLLEN SLLEN S.terms S.owes self.new (with_machine s m)
+            × KeepsSpare self.old.tlsf.memory s.machine self.new.tlsf.memory m }
         ensures source { self.new.source ≡ self.old.source }
         ensures place { SamePlace self.old.tlsf.memory self.new.tlsf.memory }
         ensures touches { self.new.tlsf.memory.touches ≤ self.old.tlsf.memory.touches + 33 }
@@ -174,14 +177,14 @@ impl<
     /// Gives a payload another size, as `Tlsf::reallocate` does where there is room. Else the source is asked for more memory as
     /// in `allocate`, and the payload moves there, with all its bytes.
     ///
-    /// `None` exactly where there is no room and no memory came. Then the payload, the pools and all bytes are as they were,
-    /// and only the source was asked.
+    /// Bytes outside of the outstanding ranges stay. `None` exactly where there is no room and no memory came. Then the payload,
+    /// the pools and all bytes are as they were, and only the source was asked.
     ///
     /// The address is live, with the layout's alignment.
     pub fn reallocate(&mut self, addr: Addr, layout: Layout) -> Option<Addr>
         requires { (s : FlexState) × FlexStandsFor FLLEN SLLEN S.terms S.owes self.old s × IsLive s.machine (non_zero_usize_get addr) layout.align }
         ensures step { (s : FlexState) → FlexStandsFor FLLEN SLLEN S.terms S.owes self.old s → IsLive s.machine (non_zero_usize_get addr) layout.align
-            → FlexSteps FLLEN SLLEN S.terms S.owes S.leads self.old self.new (FlexReallocates FLLEN SLLEN (S.terms self.old.source) s (non_zero_usize_get addr) layout.size (option_map non_zero_usize_get result)) }
+            → FlexSteps FLLEN SLLEN S.terms S.owes S.leads self.old self.new s (FlexReallocates FLLEN SLLEN (S.terms self.old.source) s (non_zero_usize_get addr) layout.size (option_map non_zero_usize_get result)) }
         ensures placed { IfSome result (λ addr. (t : FlexState) × FlexStandsFor FLLEN SLLEN S.terms S.owes self.new t × IsLive t.machine (non_zero_usize_get addr) layout.align) }
         ensures refused { IfNone result (self.new.tlsf.memory.bytes ≡ self.old.tlsf.memory.bytes) }
         ensures place { SamePlace self.old.tlsf.memory self.new.tlsf.memory }
@@ -233,7 +236,8 @@ impl<
         ensures len { (s : FlexState) (u : Used) → FlexStandsFor FLLEN SLLEN S.terms S.owes self.old s → Holds s.machine (non_zero_usize_get addr) u → length result.now ≡ (usable u).len }
         ensures meaning { (s : FlexState) (u : Used) → FlexStandsFor FLLEN SLLEN S.terms S.owes self.old s → Holds s.machine (non_zero_usize_get addr) u
             → (result.now ≡ u.bytes) × ((w : List ℕ) → length w ≡ length result.now
-            → (m : State) × Fills s.machine (non_zero_usize_get addr) w m × FlexStandsFor FLLEN SLLEN S.terms S.owes (written self.old (non_zero_usize_get addr) (length result.now) w) (with_machine s m)) }
+            → (m : State) × Fills s.machine (non_zero_usize_get addr) w m × FlexStandsFor FLLEN SLLEN S.terms S.owes (written self.old (non_zero_usize_get addr) (length result.now) w) (with_machine s m)
+            × KeepsSpare self.old.tlsf.memory s.machine (written self.old (non_zero_usize_get addr) (length result.now) w).tlsf.memory m) }
         ensures place { (w : List ℕ) → SamePlace self.old.tlsf.memory (written self.old (non_zero_usize_get addr) (length result.now) w).tlsf.memory }
     {
         self.tlsf.payload_mut(addr)
@@ -246,7 +250,8 @@ impl<
     pub fn copy_payload(&mut self, from: Addr, to: Addr, len: usize)
         requires { (s : FlexState) × FlexStandsFor FLLEN SLLEN S.terms S.owes self.old s × HasFront s.machine (non_zero_usize_get from) len × HasFront s.machine (non_zero_usize_get to) len }
         ensures step { (s : FlexState) (u v : Used) → FlexStandsFor FLLEN SLLEN S.terms S.owes self.old s → Holds s.machine (non_zero_usize_get from) u → Holds s.machine (non_zero_usize_get to) v → len ≤ (usable u).len → len ≤ (usable v).len
-            → (m : State) × Fills s.machine (non_zero_usize_get to) (with_front len u.bytes v.bytes) m × FlexStandsFor FLLEN SLLEN S.terms S.owes self.new (with_machine s m) }
+            → (m : State) × Fills s.machine (non_zero_usize_get to) (with_front len u.bytes v.bytes) m × FlexStandsFor FLLEN SLLEN S.terms S.owes self.new (with_machine s m)
+            × KeepsSpare self.old.tlsf.memory s.machine self.new.tlsf.memory m }
         ensures source { self.new.source ≡ self.old.source }
         ensures place { SamePlace self.old.tlsf.memory self.new.tlsf.memory }
         ensures touches { self.new.tlsf.memory.touches ≡ self.old.tlsf.memory.touches }

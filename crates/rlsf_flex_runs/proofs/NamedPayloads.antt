@@ -4,6 +4,7 @@ use Rattle.std.specs.HashMap.{get}
 use Rattle.rlsf_base.specs.declared.memory.range.Range.{Range}
 use Rattle.rlsf_base.specs.Space.{range_of}
 use Rattle.rlsf_flex.specs.StandsFor.{FlexContents, FlexStandsFor}
+use Rattle.rlsf_flex.proofs.Outside.{KeepsOutside-refl}
 use Rattle.rlsf_flex_runs.specs.FlexRuns.{DoesFlex, FlexRunState, with_run, without_source}
 use Rattle.rlsf_flex_runs.specs.Steps.Names.{IsAt, LeadsOn}
 use Rattle.rlsf_machine.specs.FlexState.{with_machine}
@@ -28,7 +29,7 @@ module _ {S : Type 0} {fllen sllen : ℕ} {terms : S → Terms} {owes : S → Li
 
   -- an op that changes nothing
   pub LeadsOn-nothing : {leads : S → Note → S → Type 0} (op : Op) (answer : Answer) → DoesFlex fllen sllen (terms v.source) s op answer [] s → LeadsOn fllen sllen terms owes leads v s op answer v table
-  LeadsOn-nothing op answer does = record { notes = []; state = s; does = does; leads_by = refl; at = at }
+  LeadsOn-nothing op answer does = record { notes = []; state = s; does = does; leads_by = refl; outside = KeepsOutside-refl v.tlsf.memory s.flex.pools; at = at }
 
   -- the payload of a name was given back
   pub freed : {w : FlexContents S} {new : NameTable} (m : State) → FlexStandsFor fllen sllen terms owes w (with_machine s.flex m) → (name : ℕ) (p : Payload) → get nat_eq table name ≡ Some p

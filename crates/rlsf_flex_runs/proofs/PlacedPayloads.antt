@@ -65,13 +65,14 @@ module _ {fllen sllen : ℕ} {terms : Terms} {s : FlexState} {table : NameTable}
 module _ {S : Type 0} {fllen sllen : ℕ} {terms : S → Terms} {owes : S → List Range → Type 0} {leads : S → Note → S → Type 0} {v w : FlexContents S} {table : NameTable} {s : FlexRunState} (at : IsAt fllen sllen terms owes v table s) where
   -- an allocation was made and named
   pub allocated : {new : NameTable} (name : ℕ) (layout : Layout) (addr : NonZeroUsize) (p : Payload) → s.named name ≡ None → address p ≡ non_zero_usize_get addr → p.align ≡ layout.align
-      → FlexSteps fllen sllen terms owes leads v w (FlexAllocates fllen sllen (terms v.source) s.flex layout.size layout.align (Some (non_zero_usize_get addr))) → IsSetAt name (Some p) table new
+      → FlexSteps fllen sllen terms owes leads v w s.flex (FlexAllocates fllen sllen (terms v.source) s.flex layout.size layout.align (Some (non_zero_usize_get addr))) → IsSetAt name (Some p) table new
       → LeadsOn fllen sllen terms owes leads v s (Alloc name layout) (Placed (Some addr)) w new
   allocated name layout addr p free p_addr p_align steps added = record {
     notes = steps.notes;
     state = record { flex = steps.state; named = with_name name (Some (non_zero_usize_get addr)) s.named };
     does = (free, steps.state, steps.is_step, refl);
     leads_by = steps.leads_by;
+    outside = steps.outside;
     at = record {
       stands = steps.stands;
       are_named = AreNamed-flex_allocated at.are_named (range_of w.tlsf.memory) name layout.size layout.align (non_zero_usize_get addr) p steps.stands.machine.well_formed steps.is_step p_addr p_align added;
@@ -80,7 +81,7 @@ module _ {S : Type 0} {fllen sllen : ℕ} {terms : S → Terms} {owes : S → Li
 
   -- an allocation was refused
   pub not_allocated : (name : ℕ) (layout : Layout) (addr : Option NonZeroUsize) → addr ≡ None → s.named name ≡ None
-      → FlexSteps fllen sllen terms owes leads v w (FlexAllocates fllen sllen (terms v.source) s.flex layout.size layout.align (option_map non_zero_usize_get addr))
+      → FlexSteps fllen sllen terms owes leads v w s.flex (FlexAllocates fllen sllen (terms v.source) s.flex layout.size layout.align (option_map non_zero_usize_get addr))
       → LeadsOn fllen sllen terms owes leads v s (Alloc name layout) (Placed addr) w table
   not_allocated name layout (Some addr) some free steps = absurd (cc)
   not_allocated name layout None none free steps = record {
@@ -88,17 +89,18 @@ module _ {S : Type 0} {fllen sllen : ℕ} {terms : S → Terms} {owes : S → Li
     state = record { flex = steps.state; named = s.named };
     does = (free, steps.state, steps.is_step, refl);
     leads_by = steps.leads_by;
+    outside = steps.outside;
     at = record { stands = steps.stands; are_named = AreNamed-asked at.are_named steps.is_step };
   }
 
   -- a reallocation to an equal size
-  pub of_size : (addr : ℕ) (reply : Option ℕ) {n size : ℕ} → n ≡ size → FlexSteps fllen sllen terms owes leads v w (FlexReallocates fllen sllen (terms v.source) s.flex addr n reply)
-      → FlexSteps fllen sllen terms owes leads v w (FlexReallocates fllen sllen (terms v.source) s.flex addr size reply)
-  of_size addr reply same = subst (λ k. FlexSteps fllen sllen terms owes leads v w (FlexReallocates fllen sllen (terms v.source) s.flex addr k reply)) same
+  pub of_size : (addr : ℕ) (reply : Option ℕ) {n size : ℕ} → n ≡ size → FlexSteps fllen sllen terms owes leads v w s.flex (FlexReallocates fllen sllen (terms v.source) s.flex addr n reply)
+      → FlexSteps fllen sllen terms owes leads v w s.flex (FlexReallocates fllen sllen (terms v.source) s.flex addr size reply)
+  of_size addr reply same = subst (λ k. FlexSteps fllen sllen terms owes leads v w s.flex (FlexReallocates fllen sllen (terms v.source) s.flex addr k reply)) same
 
   -- the payload of a name has another size
   pub reallocated : {new : NameTable} (name size : ℕ) (old p : Payload) (addr : NonZeroUsize) → get nat_eq table name ≡ Some old → IsLayout size old.align → address p ≡ non_zero_usize_get addr → p.align ≡ old.align
-      → FlexSteps fllen sllen terms owes leads v w (FlexReallocates fllen sllen (terms v.source) s.flex (address old) size (Some (non_zero_usize_get addr))) → IsSetAt name (Some p) table new
+      → FlexSteps fllen sllen terms owes leads v w s.flex (FlexReallocates fllen sllen (terms v.source) s.flex (address old) size (Some (non_zero_usize_get addr))) → IsSetAt name (Some p) table new
       → LeadsOn fllen sllen terms owes leads v s (Realloc name size) (Placed (Some addr)) w new
   reallocated name size old p addr there valid p_addr p_align steps added =
       let (u, owns, holds, aligned) = owned_live at.are_named name old there in
@@ -115,6 +117,7 @@ module _ {S : Type 0} {fllen sllen : ℕ} {terms : S → Terms} {owes : S → Li
           refl,
         );
         leads_by = steps.leads_by;
+        outside = steps.outside;
         at = record {
           stands = steps.stands;
           are_named = AreNamed-flex_reallocated at.are_named (range_of v.tlsf.memory) (range_of w.tlsf.memory) name size (address old) (non_zero_usize_get addr) p at.stands.machine.well_formed steps.stands.machine.well_formed
@@ -124,7 +127,7 @@ module _ {S : Type 0} {fllen sllen : ℕ} {terms : S → Terms} {owes : S → Li
 
   -- a reallocation was refused
   pub not_reallocated : (name size : ℕ) (old : Payload) (addr : Option NonZeroUsize) → get nat_eq table name ≡ Some old → IsLayout size old.align → addr ≡ None
-      → FlexSteps fllen sllen terms owes leads v w (FlexReallocates fllen sllen (terms v.source) s.flex (address old) size (option_map non_zero_usize_get addr))
+      → FlexSteps fllen sllen terms owes leads v w s.flex (FlexReallocates fllen sllen (terms v.source) s.flex (address old) size (option_map non_zero_usize_get addr))
       → LeadsOn fllen sllen terms owes leads v s (Realloc name size) (Placed addr) w table
   not_reallocated name size old (Some addr) there valid some steps = absurd (cc)
   not_reallocated name size old None there valid none steps =
@@ -142,5 +145,6 @@ module _ {S : Type 0} {fllen sllen : ℕ} {terms : S → Terms} {owes : S → Li
           refl,
         );
         leads_by = steps.leads_by;
+        outside = steps.outside;
         at = record { stands = steps.stands; are_named = AreNamed-asked at.are_named refused.asks };
       }

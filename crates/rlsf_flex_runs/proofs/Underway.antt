@@ -4,8 +4,9 @@ use Rattle.std.proofs.Math.ListN.{drop, drop_of_length-le}
 use Rattle.std.proofs.lemmas.List.{append_assoc, append-nil, at_drop_more}
 use Rattle.std.specs.HashMap.{spare, IsEmpty}
 use Rattle.rlsf_base.specs.declared.memory.range.Range.{Range}
-use Rattle.rlsf_base.specs.Space.{SamePlace}
+use Rattle.rlsf_flex.specs.Outside.{KeepsOutside}
 use Rattle.rlsf_flex.specs.StandsFor.{FlexContents, FlexStandsFor}
+use Rattle.rlsf_flex.proofs.Outside.{KeepsOutside-refl, KeepsOutside-then}
 use Rattle.rlsf_flex_runs.specs.FlexRuns.{beginning, DoesFlex, FlexRunState, RunsFlex}
 use Rattle.rlsf_flex_runs.specs.Steps.Names.{IsAt, LeadsOn}
 use Rattle.rlsf_machine.specs.FlexState.{empty}
@@ -27,7 +28,7 @@ pub record IsUnderway {S : Type 0} (fllen sllen : ℕ) (terms : S → Terms) (ow
       → RunsFlex fllen sllen (terms first.source) beginning ops (given ++ more) (notes ++ others) t
   pub leads_by : LeadsBy leads first.source notes v.source
   pub same_terms : terms v.source ≡ terms first.source
-  pub place : SamePlace first.tlsf.memory v.tlsf.memory
+  pub outside : KeepsOutside first.tlsf.memory [] v.tlsf.memory state.flex.pools
   pub room : length ops - done ≤ spare table
 
 module _ {S : Type 0} {fllen sllen : ℕ} {terms : S → Terms} {owes : S → List Range → Type 0} {leads : S → Note → S → Type 0} {first : FlexContents S} {ops : List Op} where
@@ -43,7 +44,7 @@ module _ {S : Type 0} {fllen sllen : ℕ} {terms : S → Terms} {owes : S → Li
     runs = λ more others t runs. runs;
     leads_by = refl;
     same_terms = refl;
-    place = (refl, refl);
+    outside = KeepsOutside-refl first.tlsf.memory [];
     room = omega (arith, room);
   }
 
@@ -51,9 +52,9 @@ module _ {S : Type 0} {fllen sllen : ℕ} {terms : S → Terms} {owes : S → Li
   pub IsUnderway-next : {v : FlexContents S} {table : NameTable} {done : ℕ} {given : List Answer} → ((x y : S) (n : Note) → leads x n y → terms y ≡ terms x)
       → (u : IsUnderway fllen sllen terms owes leads first ops v table done given) (op : Op) → ((d : Op) → op ≡ slice_index_or ops done d) → done < length ops → (answer : Answer) (w : FlexContents S) (new : NameTable)
       → ((s : FlexRunState) → IsAt fllen sllen terms owes v table s → LeadsOn fllen sllen terms owes leads v s op answer w new)
-      → ((n : ℕ) → n + 1 ≤ spare table → n ≤ spare new) → SamePlace v.tlsf.memory w.tlsf.memory
+      → ((n : ℕ) → n + 1 ≤ spare table → n ≤ spare new)
       → IsUnderway fllen sllen terms owes leads first ops w new (done + 1) (given ++ answer ∷ [])
-  IsUnderway-next {v} {table} {done} {given} constant u op is below answer w new does room place =
+  IsUnderway-next {v} {table} {done} {given} constant u op is below answer w new does room =
       let on = does u.state u.at in
       let here = subst (λ t. DoesFlex fllen sllen t u.state op answer on.notes on.state) u.same_terms on.does in
       record {
@@ -66,7 +67,7 @@ module _ {S : Type 0} {fllen sllen : ℕ} {terms : S → Terms} {owes : S → Li
             (subst (λ l. RunsFlex fllen sllen (terms first.source) u.state l (answer ∷ more) (on.notes ++ others) t) (sym left_ops) (on.state, on.notes, others, refl, here, runs))));
         leads_by = LeadsBy-append leads first.source v.source w.source u.notes on.notes u.leads_by on.leads_by;
         same_terms = terms-led terms leads constant v.source w.source on.notes on.leads_by ∙ u.same_terms;
-        place = (place.0 ∙ u.place.0, place.1 ∙ u.place.1);
+        outside = KeepsOutside-then first.tlsf.memory v.tlsf.memory w.tlsf.memory [] u.state.flex.pools on.state.flex.pools u.outside on.outside;
         room = room (length ops - (done + 1)) (omega (arith, below, u.room));
       }
     where

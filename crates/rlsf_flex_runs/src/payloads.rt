@@ -1,8 +1,7 @@
 //! The ops on named payloads.
 
-ghost use Rattle.std.specs.Prelude.{ℕ, ◌+◌, ◌≤◌};
-ghost use Rattle.std.specs.HashMap.{spare};
-ghost use Rattle.rlsf_base.specs.Space.{SamePlace};
+ghost use Rattle.std.specs.Prelude.{ℕ, ◌≡◌, ◌+◌, ◌≤◌, nat_eq};
+ghost use Rattle.std.specs.HashMap.{get, spare};
 ghost use Rattle.rlsf_flex_runs.specs.FlexRuns.{FlexRunState};
 ghost use Rattle.rlsf_flex_runs.specs.Steps.Names.{IsAt, LeadsOn};
 ghost use Rattle.rlsf_text.specs.declared.op.Op.TheVariants.{Alloc, Free, FreeUnknown, Realloc, Fill, Put, Get, Usable};
@@ -13,6 +12,13 @@ use rlsf_int::Bitmap;
 use rlsf_runs::Payload;
 use rlsf_text::{Answer, TraceError};
 use std::collections::HashMap;
+
+/// The live payload of a name.
+fn payload_of(names: &HashMap<usize, Payload>, name: usize) -> Option<Payload>
+    ensures { result ≡ get nat_eq names.now name }
+{
+    names.get(&name).copied()
+}
 
 /// Allocates a payload and names it, unless a live one has the name. A name whose payload found no room stays free.
 pub(crate) fn alloc<
@@ -31,7 +37,6 @@ pub(crate) fn alloc<
     requires room { 1 ≤ spare names.old }
     ensures does { (s : FlexRunState) → IsAt FLLEN SLLEN S.terms S.owes flex.old names.old s → LeadsOn FLLEN SLLEN S.terms S.owes S.leads flex.old s (Alloc name layout) result flex.new names.new }
     ensures room { (ops : ℕ) → ops + 1 ≤ spare names.old → ops ≤ spare names.new }
-    ensures place { SamePlace flex.old.tlsf.memory flex.new.tlsf.memory }
 {
     if names.contains_key(&name) {
         return Answer::Refused(TraceError::NameTaken);
@@ -59,7 +64,6 @@ pub(crate) fn free<
     requires { (s : FlexRunState) × IsAt FLLEN SLLEN S.terms S.owes flex.old names.old s }
     ensures does { (s : FlexRunState) → IsAt FLLEN SLLEN S.terms S.owes flex.old names.old s → LeadsOn FLLEN SLLEN S.terms S.owes S.leads flex.old s (Free name) result flex.new names.new }
     ensures room { (ops : ℕ) → ops + 1 ≤ spare names.old → ops ≤ spare names.new }
-    ensures place { SamePlace flex.old.tlsf.memory flex.new.tlsf.memory }
 {
     let Some(payload) = names.remove(&name) else {
         return Answer::Refused(TraceError::UnknownName);
@@ -83,7 +87,6 @@ pub(crate) fn free_unknown<
     requires { (s : FlexRunState) × IsAt FLLEN SLLEN S.terms S.owes flex.old names.old s }
     ensures does { (s : FlexRunState) → IsAt FLLEN SLLEN S.terms S.owes flex.old names.old s → LeadsOn FLLEN SLLEN S.terms S.owes S.leads flex.old s (FreeUnknown name) result flex.new names.new }
     ensures room { (ops : ℕ) → ops + 1 ≤ spare names.old → ops ≤ spare names.new }
-    ensures place { SamePlace flex.old.tlsf.memory flex.new.tlsf.memory }
 {
     let Some(payload) = names.remove(&name) else {
         return Answer::Refused(TraceError::UnknownName);
@@ -110,9 +113,8 @@ pub(crate) fn realloc<
     requires room { 1 ≤ spare names.old }
     ensures does { (s : FlexRunState) → IsAt FLLEN SLLEN S.terms S.owes flex.old names.old s → LeadsOn FLLEN SLLEN S.terms S.owes S.leads flex.old s (Realloc name size) result flex.new names.new }
     ensures room { (ops : ℕ) → ops + 1 ≤ spare names.old → ops ≤ spare names.new }
-    ensures place { SamePlace flex.old.tlsf.memory flex.new.tlsf.memory }
 {
-    let Some(old) = names.get(&name).copied() else {
+    let Some(old) = payload_of(names, name) else {
         return Answer::Refused(TraceError::UnknownName);
     };
     let Ok(layout) = Layout::from_size_align(size, old.align) else {
@@ -140,10 +142,9 @@ pub(crate) fn fill<
     byte: u8,
 ) -> Answer
     requires { (s : FlexRunState) × IsAt FLLEN SLLEN S.terms S.owes flex.old names.now s }
-    ensures does { (s : FlexRunState) → IsAt FLLEN SLLEN S.terms S.owes flex.old names.now s → LeadsOn FLLEN SLLEN S.terms S.owes S.leads flex.old s (Fill name byte) result flex.new names.now }
-    ensures place { SamePlace flex.old.tlsf.memory flex.new.tlsf.memory }
+    ensures { (s : FlexRunState) → IsAt FLLEN SLLEN S.terms S.owes flex.old names.now s → LeadsOn FLLEN SLLEN S.terms S.owes S.leads flex.old s (Fill name byte) result flex.new names.now }
 {
-    let Some(payload) = names.get(&name).copied() else {
+    let Some(payload) = payload_of(names, name) else {
         return Answer::Refused(TraceError::UnknownName);
     };
     flex.payload_mut(payload.addr).fill(byte);
@@ -165,10 +166,9 @@ pub(crate) fn put<
     byte: u8,
 ) -> Answer
     requires { (s : FlexRunState) × IsAt FLLEN SLLEN S.terms S.owes flex.old names.now s }
-    ensures does { (s : FlexRunState) → IsAt FLLEN SLLEN S.terms S.owes flex.old names.now s → LeadsOn FLLEN SLLEN S.terms S.owes S.leads flex.old s (Put name offset byte) result flex.new names.now }
-    ensures place { SamePlace flex.old.tlsf.memory flex.new.tlsf.memory }
+    ensures { (s : FlexRunState) → IsAt FLLEN SLLEN S.terms S.owes flex.old names.now s → LeadsOn FLLEN SLLEN S.terms S.owes S.leads flex.old s (Put name offset byte) result flex.new names.now }
 {
-    let Some(payload) = names.get(&name).copied() else {
+    let Some(payload) = payload_of(names, name) else {
         return Answer::Refused(TraceError::UnknownName);
     };
     if offset >= flex.payload(payload.addr).len() {
@@ -194,7 +194,7 @@ pub(crate) fn get<
     requires { (s : FlexRunState) × IsAt FLLEN SLLEN S.terms S.owes flex.now names.now s }
     ensures { (s : FlexRunState) → IsAt FLLEN SLLEN S.terms S.owes flex.now names.now s → LeadsOn FLLEN SLLEN S.terms S.owes S.leads flex.now s (Get name offset) result flex.now names.now }
 {
-    let Some(payload) = names.get(&name).copied() else {
+    let Some(payload) = payload_of(names, name) else {
         return Answer::Refused(TraceError::UnknownName);
     };
     match flex.payload(payload.addr).get(offset) {
@@ -218,7 +218,7 @@ pub(crate) fn usable<
     requires { (s : FlexRunState) × IsAt FLLEN SLLEN S.terms S.owes flex.now names.now s }
     ensures { (s : FlexRunState) → IsAt FLLEN SLLEN S.terms S.owes flex.now names.now s → LeadsOn FLLEN SLLEN S.terms S.owes S.leads flex.now s (Usable name) result flex.now names.now }
 {
-    match names.get(&name) {
+    match payload_of(names, name) {
         Some(payload) => Answer::Usable(flex.allocation_usable_size(payload.addr)),
         None => Answer::Refused(TraceError::UnknownName),
     }

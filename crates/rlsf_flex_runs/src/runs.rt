@@ -1,8 +1,9 @@
 //! Runs: the ops of a trace, done with an allocator over a source.
 
-ghost use Rattle.std.specs.Prelude.{◌≡◌, ℕ, ◌+◌, ◌≤◌, ◌++◌, List, OnOk, OnErr};
+ghost use Rattle.std.specs.Prelude.{◌≡◌, ℕ, ◌+◌, ◌≤◌, ◌++◌, List, [], OnOk, OnErr};
 ghost use Rattle.std.specs.HashMap.{spare};
 ghost use Rattle.rlsf_base.specs.Space.{SamePlace};
+ghost use Rattle.rlsf_flex.specs.Outside.{KeepsOutside};
 ghost use Rattle.rlsf_flex.specs.StandsFor.{FlexStandsFor};
 ghost use Rattle.rlsf_flex_runs.specs.FlexRuns.{FlexRunState, beginning, RunsFlex};
 ghost use Rattle.rlsf_flex_runs.specs.Steps.Names.{IsAt, LeadsOn};
@@ -28,7 +29,6 @@ fn step<S: FlexSource, FLBitmap: Bitmap, SLBitmap: Bitmap, const FLLEN: usize, c
     requires room { 1 ≤ spare names.old }
     ensures does { (s : FlexRunState) → IsAt FLLEN SLLEN S.terms S.owes flex.old names.old s → LeadsOn FLLEN SLLEN S.terms S.owes S.leads flex.old s op result flex.new names.new }
     ensures room { (ops : ℕ) → ops + 1 ≤ spare names.old → ops ≤ spare names.new }
-    ensures place { SamePlace flex.old.tlsf.memory flex.new.tlsf.memory }
 {
     match op {
         Op::Insert(_) | Op::Append(_) | Op::Block(_, _) => Answer::Refused(TraceError::NotForFlex),
@@ -46,7 +46,8 @@ fn step<S: FlexSource, FLBitmap: Bitmap, SLBitmap: Bitmap, const FLLEN: usize, c
 /// Does the ops, one after another, with an allocator over a source at which nothing is outstanding yet. One answer an op
 /// follows those already there. `Insert`, `Append` and `Block` are refused as `NotForFlex`.
 ///
-/// The memory stays in place, and the source is asked what the machine asks it, and nothing else.
+/// The memory stays in place, its bytes outside of the ranges that the source gave stay, and the source is asked what the machine
+/// asks it, and nothing else.
 ///
 /// `OutOfMemory` comes only where the machine refused memory for the answers or for the run's own table. Then no op was
 /// done, nothing was asked, and the answers are as before.
@@ -65,7 +66,7 @@ pub fn run_flex<
     requires { FlexStandsFor FLLEN SLLEN S.terms S.owes flex.old empty }
     ensures runs { OnOk result ((given : List Answer) × (notes : List Note) × (t : FlexRunState) × (answers.new.items ≡ answers.old.items ++ given)
         × RunsFlex FLLEN SLLEN (S.terms flex.old.source) beginning ops.now given notes t × LeadsBy S.leads flex.old.source notes flex.new.source
-        × FlexStandsFor FLLEN SLLEN S.terms S.owes flex.new t.flex) }
+        × FlexStandsFor FLLEN SLLEN S.terms S.owes flex.new t.flex × KeepsOutside flex.old.tlsf.memory [] flex.new.tlsf.memory t.flex.pools) }
     ensures refused { OnErr result ((answers.new.items ≡ answers.old.items) × (flex.new ≡ flex.old)) }
     ensures place { SamePlace flex.old.tlsf.memory flex.new.tlsf.memory }
 {

@@ -7,7 +7,7 @@ use Rattle.rlsf_base.proofs.Numbers.PowersOfTwo.{IsPowerOfTwo-positive}
 use Rattle.rlsf_machine.specs.Insert.{IsClear}
 use Rattle.rlsf_machine.specs.Lists.{IsIn}
 use Rattle.rlsf_machine.specs.Terms.{IsGiven, IsGrown, with_len}
-use Rattle.rlsf_machine.specs.WellFormed.{covers, coverage, itself}
+use Rattle.rlsf_machine.specs.WellFormed.{coverage, itself}
 use Rattle.rlsf_machine.proofs.Between.{IsIn-between, coverage-between}
 use Rattle.rlsf_machine.proofs.Coverage.{IsIn-append, IsIn-append_left, IsIn-append_right, inside, before, behind, covers-behind, where_is}
 use Rattle.rlsf_flex_tests.specs.Cursor.{Cursor, IsCursor, MayOwe}

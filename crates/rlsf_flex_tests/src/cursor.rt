@@ -7,6 +7,7 @@ ghost use Rattle.rlsf_flex_tests.specs.Cursor.{KeepsTerms, MayOwe};
 
 use rlsf_base::memory::Range;
 use rlsf_flex::FlexSource;
+use std::cell::Cell;
 use std::marker::Model;
 
 /// What a source was asked.
@@ -20,6 +21,10 @@ pub enum Question {
     Grow(usize, usize, usize),
     /// To take the range of that start and length back.
     Dealloc(usize, usize),
+    /// An address for that size and alignment.
+    AllocLayout(usize, usize),
+    /// To take the address with that size and alignment back.
+    DeallocLayout(usize, usize, usize),
 }
 
 /// How a source behaves.
@@ -47,7 +52,21 @@ pub struct Questions {
 }
 
 impl Questions {
-    fn with(self, question: Question) -> Questions {
+    /// No question yet.
+    pub fn new() -> Questions {
+        Questions {
+            asked: [Question::None; 8],
+            count: 0,
+        }
+    }
+
+    /// These questions, in the places behind which there is none.
+    pub fn asked(self) -> [Question; 8] {
+        self.asked
+    }
+
+    /// These questions and one more, if there is a place for it.
+    pub fn with(self, question: Question) -> Questions {
         let mut asked = self.asked;
         if self.count < 8 {
             asked[self.count] = question;
@@ -59,16 +78,16 @@ impl Questions {
     }
 }
 
-/// A source that hands out its space from a cursor on.
+/// A source that hands out its space from a cursor on. What it is asked can be read after it was dropped.
 #[derive(Drop)]
-pub struct CursorSource {
+pub struct CursorSource<'a> {
     space: Range,
     habits: Habits,
     at: usize,
-    questions: Questions,
+    seen: &'a Cell<Questions>,
 }
 
-impl Model for CursorSource {
+impl<'a> Model for CursorSource<'a> {
     ghost use Rattle.rlsf_flex_tests.specs.Cursor.{Cursor, IsCursor};
 
     ghost Value = { Cursor };
@@ -78,9 +97,9 @@ impl Model for CursorSource {
     ghost invariant = { λ c. IsCursor (record { terms = record { space = c.space; dealloc = c.habits.dealloc; grow = c.habits.grow; contiguous = c.habits.contiguous; min_align = c.habits.min_align }; at = c.at }) };
 }
 
-impl CursorSource {
+impl<'a> CursorSource<'a> {
     /// A source of the space.
-    pub fn new(space: Range, habits: Habits) -> CursorSource
+    pub fn new(space: Range, habits: Habits, seen: &'a Cell<Questions>) -> CursorSource<'a>
         requires addressable { end_of space < 2 ^ 64 }
         requires power { IsPowerOfTwo habits.min_align }
         ensures value { result ≡ record { terms = record { space = space; dealloc = habits.dealloc; grow = habits.grow; contiguous = habits.contiguous; min_align = habits.min_align }; at = space.start } }
@@ -90,23 +109,20 @@ impl CursorSource {
             space,
             habits,
             at: space.start,
-            questions: Questions {
-                asked: [Question::None; 8],
-                count: 0,
-            },
+            seen,
         }
     }
 
     /// What it was asked so far: the first eight questions.
     pub fn asked(&self) -> [Question; 8] {
-        self.questions.asked
+        self.seen.get().asked()
     }
 
     /// Remembers a question.
     fn remember(&mut self, question: Question)
         ensures { self.new ≡ self.old }
     {
-        self.questions = self.questions.with(question);
+        self.seen.set(self.seen.get().with(question));
     }
 
     /// The first multiple of the least alignment from the cursor on.
@@ -136,7 +152,7 @@ impl CursorSource {
     }
 }
 
-impl FlexSource for CursorSource {
+impl<'a> FlexSource for CursorSource<'a> {
     ghost terms = { λ c. c.terms };
 
     ghost owes = { MayOwe };

@@ -1,10 +1,8 @@
 //! Footers, and what goes back to a source.
 
-use crate::cursor::{Habits, Question};
-use crate::heaps::{allocated, footer, only, parts, small};
-use crate::watched::Watched;
-use rlsf_base::memory::{Layout, Range};
-use rlsf_flex::FlexTlsf;
+use crate::cursor::{Habits, Question, Questions};
+use crate::heaps::{Case, Step, are_right, first_wrong, is_right, small};
+use rlsf_base::memory::Range;
 use std::alloc::Global;
 use std::cell::Cell;
 use std::test::Fail;
@@ -25,87 +23,82 @@ const ALL: Range = Range {
     len: 4096,
 };
 
-#[test]
-fn footer_moves_with_growth(rt: HostRuntime) -> Result<(), Fail> {
-    let habits = Habits {
+const FOOTER_MOVES_WITH_GROWTH: Case = Case {
+    space: Range {
+        start: 4097,
+        len: 4095,
+    },
+    habits: Habits {
         grow: true,
         min_align: 1,
         ..TAKING
-    };
-    let odd = Range {
-        start: 4097,
-        len: 4095,
-    };
-    let mut flex = small(rt.alloc(), odd, habits)?;
-    assert_eq!(rt; allocated(&mut flex, 1, 1)?, 4144);
-    assert_eq!(rt; footer(flex.memory_ref(), 4176), (0, 0));
-    assert_eq!(rt; allocated(&mut flex, 1, 1)?, 4208);
-    assert_eq!(rt; footer(flex.memory_ref(), 4240), (0, 0));
-    let (_, source) = flex.into_parts();
-    assert_eq!(rt;
-        source.asked(),
-        only(&[
-            Question::Alloc(96),
-            Question::Grow(4097, 96, 159),
-            Question::Dealloc(4097, 159)
-        ])
-    );
-    Ok(())
-}
+    },
+    steps: &[
+        Step::Allocate(1, 4144),
+        Step::Footer(4176, (0, 0)),
+        Step::Allocate(1, 4208),
+        Step::Footer(4240, (0, 0)),
+    ],
+    asked: &[
+        Question::Alloc(96),
+        Question::Grow(4097, 96, 159),
+        Question::Dealloc(4097, 159),
+    ],
+    left: None,
+};
 
-#[test]
-fn footers_name_the_ranges_before(rt: HostRuntime) -> Result<(), Fail> {
-    let habits = Habits {
+const FOOTERS_NAME_THE_RANGES_BEFORE: Case = Case {
+    space: ALL,
+    habits: Habits {
         extra: 37,
         ..TAKING
-    };
-    let mut flex = small(rt.alloc(), ALL, habits)?;
-    assert_eq!(rt; allocated(&mut flex, 1, 1)?, 4112);
-    assert_eq!(rt; allocated(&mut flex, 1, 1)?, 4144);
-    assert_eq!(rt; allocated(&mut flex, 1, 1)?, 4240);
-    assert_eq!(rt; footer(flex.memory_ref(), 4176), (0, 0));
-    assert_eq!(rt; footer(flex.memory_ref(), 4304), (4096, 101));
-    let (memory, source) = flex.into_parts();
-    assert_eq!(rt; footer(&memory, 4304), (4096, 101));
-    assert_eq!(rt;
-        source.asked(),
-        only(&[
-            Question::Alloc(64),
-            Question::Alloc(64),
-            Question::Dealloc(4224, 101),
-            Question::Dealloc(4096, 101)
-        ])
-    );
-    Ok(())
-}
+    },
+    steps: &[
+        Step::Allocate(1, 4112),
+        Step::Allocate(1, 4144),
+        Step::Allocate(1, 4240),
+        Step::Footer(4176, (0, 0)),
+        Step::Footer(4304, (4096, 101)),
+    ],
+    asked: &[
+        Question::Alloc(64),
+        Question::Alloc(64),
+        Question::Dealloc(4224, 101),
+        Question::Dealloc(4096, 101),
+    ],
+    left: Some((4304, (4096, 101))),
+};
 
-/// Allocates twice, of a source that takes ranges back, and drops the allocator.
-fn dropped(alloc: Global, seen: &Cell<[Question; 8]>) -> Result<(), Fail> {
-    let (memory, source) = parts(alloc, ALL, TAKING)?;
-    let layout = Layout::from_size_align(1, 1)?;
-    let mut flex = FlexTlsf::<_, u8, u8, 8, 8>::new(memory, Watched::new(source, seen));
-    let _ = flex.allocate(layout);
-    let _ = flex.allocate(layout);
-    Ok(())
+const TWO_RANGES_GO_BACK: Case = Case {
+    space: ALL,
+    habits: TAKING,
+    steps: &[Step::Allocate(1, 4112), Step::Allocate(1, 4176)],
+    asked: &[
+        Question::Alloc(64),
+        Question::Alloc(64),
+        Question::Dealloc(4160, 64),
+        Question::Dealloc(4096, 64),
+    ],
+    left: None,
+};
+
+/// Takes the steps of a case and drops the allocator. Answers the index of the first step that went otherwise.
+fn dropped(alloc: Global, case: Case, seen: &Cell<Questions>) -> Result<Option<usize>, Fail> {
+    let mut flex = small(alloc, case.space, case.habits, seen)?;
+    Ok(first_wrong(&mut flex, case.steps)?)
 }
 
 #[test]
-fn drop_gives_back_what_into_parts_does(rt: HostRuntime) -> Result<(), Fail> {
-    let seen = Cell::new(only(&[]));
-    dropped(rt.alloc(), &seen)?;
-    let mut flex = small(rt.alloc(), ALL, TAKING)?;
-    assert_eq!(rt; allocated(&mut flex, 1, 1)?, 4112);
-    assert_eq!(rt; allocated(&mut flex, 1, 1)?, 4176);
-    let (_, source) = flex.into_parts();
-    assert_eq!(rt;
-        source.asked(),
-        only(&[
-            Question::Alloc(64),
-            Question::Alloc(64),
-            Question::Dealloc(4160, 64),
-            Question::Dealloc(4096, 64)
-        ])
-    );
-    assert_eq!(rt; seen.get(), source.asked());
+fn ends(rt: HostRuntime) -> Result<(), Fail> {
+    let cases = [
+        FOOTER_MOVES_WITH_GROWTH,
+        FOOTERS_NAME_THE_RANGES_BEFORE,
+        TWO_RANGES_GO_BACK,
+    ];
+    are_right(&rt, rt.alloc(), &cases)?;
+    // A drop gives back what `into_parts` does.
+    let seen = Cell::new(Questions::new());
+    let wrong = dropped(rt.alloc(), TWO_RANGES_GO_BACK, &seen)?;
+    is_right(&rt, (wrong, seen.get().asked()), TWO_RANGES_GO_BACK.asked);
     Ok(())
 }

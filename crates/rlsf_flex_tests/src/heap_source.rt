@@ -5,7 +5,8 @@ ghost use Rattle.rlsf_base.specs.PowerOfTwo.{IsPowerOfTwo};
 ghost use Rattle.rlsf_base.specs.Range.{end_of};
 ghost use Rattle.rlsf_flex_tests.specs.HeapCursor.{heap_cursor, KeepsSpace, OwesAllocations};
 
-use crate::heaps::number;
+use crate::cursor::{Question, Questions};
+use crate::heaps::{is_right, number};
 use rlsf_base::memory::{Addr, Layout, Memory, Range};
 use rlsf_flex::FlexTlsf;
 use rlsf_heap::{GlobalAlloc, GlobalAllocAsFlexSource};
@@ -13,24 +14,12 @@ use std::marker::Model;
 use std::num::NonZeroUsize;
 use std::test::Fail;
 
-/// What an allocator was asked.
-#[derive(Clone, Copy, Debug, PartialEq, Eq)]
-enum HeapQuestion {
-    /// Nothing.
-    None,
-    /// An address for that size and alignment.
-    Alloc(usize, usize),
-    /// To take the address with that size and alignment back.
-    Dealloc(usize, usize, usize),
-}
-
-/// An allocator that hands out its space from a cursor on, and remembers the first four questions.
+/// An allocator that hands out its space from a cursor on, and remembers what it was asked.
 #[derive(Drop)]
 struct CursorAlloc {
     space: Range,
     at: usize,
-    asked: [HeapQuestion; 4],
-    count: usize,
+    asked: Questions,
 }
 
 impl Model for CursorAlloc {
@@ -54,24 +43,20 @@ impl CursorAlloc {
         CursorAlloc {
             space,
             at: space.start,
-            asked: [HeapQuestion::None; 4],
-            count: 0,
+            asked: Questions::new(),
         }
     }
 
-    /// What it was asked so far: the first four questions.
-    fn asked(&self) -> [HeapQuestion; 4] {
-        self.asked
+    /// What it was asked so far: the first eight questions.
+    fn asked(&self) -> [Question; 8] {
+        self.asked.asked()
     }
 
     /// Remembers a question.
-    fn remember(&mut self, question: HeapQuestion)
+    fn remember(&mut self, question: Question)
         ensures { self.new ≡ self.old }
     {
-        if self.count < 4 {
-            self.asked[self.count] = question;
-            self.count += 1;
-        }
+        self.asked = self.asked.with(question);
     }
 
     /// The first multiple of the alignment from the cursor on.
@@ -110,7 +95,7 @@ impl GlobalAlloc for CursorAlloc {
 
     fn alloc(&mut self, layout: Layout) -> Option<Addr> {
         let (size, align) = (layout.size(), layout.align());
-        self.remember(HeapQuestion::Alloc(size, align));
+        self.remember(Question::AllocLayout(size, align));
         let start = self.next_start(align)?;
         let end = self.end(start, size)?;
         let addr = NonZeroUsize::new(start)?;
@@ -119,7 +104,7 @@ impl GlobalAlloc for CursorAlloc {
     }
 
     fn dealloc(&mut self, addr: Addr, layout: Layout) {
-        self.remember(HeapQuestion::Dealloc(addr.get(), layout.size(), layout.align()));
+        self.remember(Question::DeallocLayout(addr.get(), layout.size(), layout.align()));
     }
 
     ghost constant = { λ x y n led. led };
@@ -134,18 +119,16 @@ fn an_allocator_is_asked_for_whole_multiples(rt: HostRuntime) -> Result<(), Fail
     };
     let source = GlobalAllocAsFlexSource::<_, 1024>(CursorAlloc::new(space));
     let mut flex = FlexTlsf::<_, u8, u8, 8, 8>::new(memory, source);
-    assert_eq!(rt; number(flex.allocate(Layout::from_size_align(1, 1)?)), 4112);
-    assert_eq!(rt;
-        number(flex.allocate(Layout::from_size_align(2000, 1)?)),
-        5136
-    );
+    let first = number(flex.allocate(Layout::from_size_align(1, 1)?));
+    let second = number(flex.allocate(Layout::from_size_align(2000, 1)?));
     let (_, source) = flex.into_parts();
     let asked = [
-        HeapQuestion::Alloc(1024, 1024),
-        HeapQuestion::Alloc(3072, 1024),
-        HeapQuestion::Dealloc(5120, 3072, 1024),
-        HeapQuestion::Dealloc(4096, 1024, 1024),
+        Question::AllocLayout(1024, 1024),
+        Question::AllocLayout(3072, 1024),
+        Question::DeallocLayout(5120, 3072, 1024),
+        Question::DeallocLayout(4096, 1024, 1024),
     ];
-    assert_eq!(rt; source.0.asked(), asked);
+    assert_eq!(rt; [first, second], [4112, 5136]);
+    is_right(&rt, (None, source.0.asked()), &asked);
     Ok(())
 }

@@ -1,94 +1,165 @@
-//! The allocators that the tests are about, and what is read of them.
+//! The allocators that the tests are about, what they are asked, and what must come of it.
 
-ghost use Rattle.std.specs.Prelude.{◌≡◌, ◌≤◌, ◌%◌, [], length, IfOk};
-ghost use Rattle.rlsf_base.specs.PowerOfTwo.{IsPowerOfTwo};
+ghost use Rattle.std.specs.Prelude.{◌≡◌, [], length, IfOk};
 ghost use Rattle.rlsf_base.specs.Range.{LiesIn};
-ghost use Rattle.rlsf_base.specs.Space.{SamePlace};
 ghost use Rattle.rlsf_flex_tests.specs.Cursor.{MayOwe};
 
-use crate::cursor::{CursorSource, Habits, Question};
-use rlsf_base::memory::{Addr, Layout, LayoutError, Memory, MemoryError, Range};
+use crate::cursor::{CursorSource, Habits, Question, Questions};
+use rlsf_base::memory::{Addr, Layout, LayoutError, Memory, Range};
 use rlsf_flex::FlexTlsf;
 use std::alloc::Global;
-use std::num::NonZeroUsize;
+use std::cell::Cell;
+use std::process::Abort;
+use std::test::Fail;
 
-/// The shapes of most tests: chunks up to 8160 bytes, up to 131,072 bytes, and of any length.
-pub type Small = FlexTlsf<CursorSource, u8, u8, 8, 8>;
+/// The shape of most tests: chunks up to 8160 bytes.
+pub type Small<'a> = FlexTlsf<CursorSource<'a>, u8, u8, 8, 8>;
 
-pub type Wide = FlexTlsf<CursorSource, u16, u16, 12, 16>;
+/// A step of a test, and what it answers.
+#[derive(Clone, Copy)]
+pub enum Step {
+    /// Allocates for so many bytes: the payload's address, or 0.
+    Allocate(usize, usize),
+    /// The same, and gives the payload back.
+    GiveBack(usize, usize),
+    /// Reads the footer at an address.
+    Footer(usize, (u64, u64)),
+}
 
-pub type Long = FlexTlsf<CursorSource, u64, u8, 59, 8>;
+/// An allocator over a source, and what must come of its steps.
+#[derive(Clone, Copy)]
+pub struct Case {
+    /// The space of the source, a part of the memory of 4096 bytes from the address 4096 on.
+    pub space: Range,
+    pub habits: Habits,
+    pub steps: &'static [Step],
+    /// What the source is asked, up to the end.
+    pub asked: &'static [Question],
+    /// A footer that stands after the end.
+    pub left: Option<(usize, (u64, u64))>,
+}
+
+/// The index of the first step that went otherwise, and what the source was asked.
+pub type Outcome = (Option<usize>, [Question; 8]);
+
+/// Passes where no step went otherwise, and the source was asked so.
+pub fn is_right(rt: &impl Abort, outcome: Outcome, asked: &[Question]) {
+    assert_eq!(rt; outcome, (None, only(asked)));
+}
 
 /// A memory of 4096 bytes from the address 4096 on, and a source of a part of it.
-pub fn parts(
+pub fn parts<'a>(
     alloc: Global,
     space: Range,
     habits: Habits,
-) -> Result<(Memory, CursorSource), MemoryError>
-    requires inside { LiesIn space 4096 4096 }
-    requires power { IsPowerOfTwo habits.min_align }
-    ensures { IfOk result (λ r. (r.0.start ≡ 4096) × (length r.0.bytes ≡ 4096) × (r.1.terms.space ≡ space) × MayOwe r.1 []) }
+    seen: &'a Cell<Questions>,
+) -> Result<(Memory, CursorSource<'a>), Fail>
+    ensures { IfOk result (λ r. (r.0.start ≡ 4096) × (length r.0.bytes ≡ 4096) × LiesIn r.1.terms.space 4096 4096 × MayOwe r.1 []) }
 {
+    if space.start < 4096 || space.start > 8192 || space.len > 8192 - space.start {
+        return Err(Fail::new("no part of the memory"));
+    }
+    let min_align = Layout::from_size_align(1, habits.min_align)?.align();
     let memory = Memory::new(alloc, 4096, 4096)?;
-    Ok((memory, CursorSource::new(space, habits)))
+    let habits = Habits {
+        min_align,
+        ..habits
+    };
+    Ok((memory, CursorSource::new(space, habits, seen)))
 }
 
 /// An allocator over such a source.
-pub fn small(alloc: Global, space: Range, habits: Habits) -> Result<Small, MemoryError>
-    requires inside { LiesIn space 4096 4096 }
-    requires power { IsPowerOfTwo habits.min_align }
-    ensures { IfOk result (λ f. (f.tlsf.memory.start ≡ 4096) × (length f.tlsf.memory.bytes ≡ 4096)) }
-{
-    let (memory, source) = parts(alloc, space, habits)?;
-    Ok(FlexTlsf::new(memory, source))
-}
-
-/// As `small`.
-pub fn wide(alloc: Global, space: Range, habits: Habits) -> Result<Wide, MemoryError>
-    requires inside { LiesIn space 4096 4096 }
-    requires power { IsPowerOfTwo habits.min_align }
-    ensures { IfOk result (λ f. (f.tlsf.memory.start ≡ 4096) × (length f.tlsf.memory.bytes ≡ 4096)) }
-{
-    let (memory, source) = parts(alloc, space, habits)?;
-    Ok(FlexTlsf::new(memory, source))
-}
-
-/// As `small`.
-pub fn long(alloc: Global, space: Range, habits: Habits) -> Result<Long, MemoryError>
-    requires inside { LiesIn space 4096 4096 }
-    requires power { IsPowerOfTwo habits.min_align }
-    ensures { IfOk result (λ f. (f.tlsf.memory.start ≡ 4096) × (length f.tlsf.memory.bytes ≡ 4096)) }
-{
-    let (memory, source) = parts(alloc, space, habits)?;
+pub fn small<'a>(
+    alloc: Global,
+    space: Range,
+    habits: Habits,
+    seen: &'a Cell<Questions>,
+) -> Result<Small<'a>, Fail> {
+    let (memory, source) = parts(alloc, space, habits, seen)?;
     Ok(FlexTlsf::new(memory, source))
 }
 
 /// An address as a number, 0 if there is none.
 pub fn number(addr: Option<Addr>) -> usize {
-    addr.map_or(0, NonZeroUsize::get)
+    match addr {
+        Some(addr) => addr.get(),
+        None => 0,
+    }
 }
 
-/// The address that is allocated for a layout, or 0.
-pub fn allocated(flex: &mut Small, size: usize, align: usize) -> Result<usize, LayoutError>
-    ensures { SamePlace flex.old.tlsf.memory flex.new.tlsf.memory }
-{
-    let layout = Layout::from_size_align(size, align)?;
+/// The address that is allocated for so many bytes, or 0.
+fn allocated(flex: &mut Small, size: usize) -> Result<usize, LayoutError> {
+    let layout = Layout::from_size_align(size, 1)?;
     Ok(number(flex.allocate(layout)))
 }
 
-/// The two words of a footer in the memory of these tests.
-pub fn footer(memory: &Memory, addr: usize) -> (u64, u64)
-    requires memory { (memory.now.start ≡ 4096) × (length memory.now.bytes ≡ 4096) }
-    requires addr { (addr % 8 ≡ 0) × (4096 ≤ addr) × (addr ≤ 8176) }
-{
-    (memory.word(addr), memory.word(addr + 8))
+/// The same. The payload is given back.
+fn given_back(flex: &mut Small, size: usize) -> Result<usize, LayoutError> {
+    let layout = Layout::from_size_align(size, 1)?;
+    let addr = flex.allocate(layout);
+    if let Some(addr) = addr {
+        flex.deallocate(addr, layout.align());
+    }
+    Ok(number(addr))
+}
+
+/// The two words of a footer, where the memory has them.
+fn footer(memory: &Memory, addr: usize) -> Option<(u64, u64)> {
+    let offset = addr.checked_sub(memory.start())?;
+    if addr % 8 == 0 && offset < memory.len() && memory.len() - offset >= 16 {
+        Some((memory.word(addr), memory.word(addr + 8)))
+    } else {
+        None
+    }
+}
+
+/// The index of the first step that the allocator answers otherwise.
+pub fn first_wrong(flex: &mut Small, steps: &[Step]) -> Result<Option<usize>, LayoutError> {
+    for (index, step) in steps.iter().enumerate() {
+        let is_right = match *step {
+            Step::Allocate(size, addr) => allocated(flex, size)? == addr,
+            Step::GiveBack(size, addr) => given_back(flex, size)? == addr,
+            Step::Footer(addr, words) => footer(flex.memory_ref(), addr) == Some(words),
+        };
+        if !is_right {
+            return Ok(Some(index));
+        }
+    }
+    Ok(None)
+}
+
+/// What comes of a case up to its end. A source that takes nothing back must be asked nothing in the end.
+pub fn outcome(alloc: Global, case: Case) -> Result<Outcome, Fail> {
+    let seen = Cell::new(Questions::new());
+    let mut flex = small(alloc, case.space, case.habits, &seen)?;
+    let wrong = first_wrong(&mut flex, case.steps)?;
+    let before = flex.source_ref().asked();
+    let (memory, source) = flex.into_parts();
+    let asked = source.asked();
+    let is_left = match case.left {
+        Some((addr, words)) => footer(&memory, addr) == Some(words),
+        None => true,
+    };
+    if is_left && (case.habits.dealloc || before == asked) {
+        Ok((wrong, asked))
+    } else {
+        Ok((Some(case.steps.len()), asked))
+    }
+}
+
+/// Passes where what must comes of each case.
+pub fn are_right(rt: &impl Abort, alloc: Global, cases: &[Case]) -> Result<(), Fail> {
+    for case in cases {
+        is_right(rt, outcome(alloc, *case)?, case.asked);
+    }
+    Ok(())
 }
 
 /// These questions, and no others.
-pub fn only(asked: &[Question]) -> [Question; 8] {
-    let mut all = [Question::None; 8];
-    for (place, question) in all.iter_mut().zip(asked.iter()) {
-        *place = *question;
+fn only(asked: &[Question]) -> [Question; 8] {
+    let mut all = Questions::new();
+    for question in asked {
+        all = all.with(*question);
     }
-    all
+    all.asked()
 }

@@ -15,5 +15,3 @@ mod heap_source;
 mod heaps;
 #[cfg(test)]
 mod loans;
-#[cfg(test)]
-mod watched;

@@ -4,10 +4,11 @@ ghost use Rattle.std.specs.Prelude.{◌≡◌, IfSome};
 ghost use Rattle.std.specs.Int.NonZero.{non_zero_usize_get};
 ghost use Rattle.rlsf_flex_tests.specs.Live.{IsLiveIn};
 
-use crate::cursor::{Habits, Question};
-use crate::heaps::{Small, number, only, small};
+use crate::cursor::{Habits, Question, Questions};
+use crate::heaps::{Small, is_right, small};
 use rlsf_base::memory::{Addr, Layout, Range};
 use rlsf_flex::{FlexSource, SourceChange};
+use std::cell::Cell;
 use std::test::Fail;
 
 /// Leaves the source as it is, and answers a number.
@@ -60,17 +61,16 @@ fn moved(flex: &mut Small, addr: Addr, layout: Layout) -> Option<Addr>
     flex.reallocate(addr, layout)
 }
 
-/// The usable bytes of a payload, its first byte, and its sixteenth.
-fn read(flex: &Small, addr: Addr, align: usize) -> (usize, Option<u8>, Option<u8>)
+/// Whether a payload has so many usable bytes, of which the first and the sixteenth are `byte`.
+fn reads(flex: &Small, addr: Addr, align: usize, usable: usize, byte: u8) -> bool
     requires { IsLiveIn flex.now (non_zero_usize_get addr) align }
 {
     let _ = align;
     let bytes = flex.payload(addr);
-    (
-        flex.allocation_usable_size(addr),
-        bytes.first().copied(),
-        bytes.get(15).copied(),
-    )
+    flex.allocation_usable_size(addr) == usable
+        && bytes.len() > 15
+        && bytes[0] == byte
+        && bytes[15] == byte
 }
 
 /// Gives a payload back.
@@ -83,27 +83,29 @@ fn freed(flex: &mut Small, addr: Addr, align: usize)
 
 #[test]
 fn a_payload_moves_into_growth(rt: HostRuntime) -> Result<(), Fail> {
-    let mut flex = small(rt.alloc(), ALL, HABITS)?;
+    let seen = Cell::new(Questions::new());
     let layout = Layout::from_size_align(16, 1)?;
     let longer = Layout::from_size_align(500, 1)?;
+    let mut flex = small(rt.alloc(), ALL, HABITS, &seen)?;
+    let mut addresses = [0, 0];
+    let mut kept = [false, false];
     if let Some(addr) = filled(&mut flex, layout, 7) {
-        assert_eq!(rt; addr.get(), 4112);
-        assert_eq!(rt; read(&flex, addr, layout.align()), (16, Some(7), Some(7)));
+        kept[0] = reads(&flex, addr, layout.align(), 16, 7);
+        addresses[0] = addr.get();
         if let Some(to) = moved(&mut flex, addr, longer) {
-            assert_eq!(rt; to.get(), 4176);
-            assert_eq!(rt; read(&flex, to, longer.align()), (528, Some(7), Some(7)));
+            kept[1] = reads(&flex, to, longer.align(), 528, 7);
+            addresses[1] = to.get();
             freed(&mut flex, to, longer.align());
         }
     }
+    assert_eq!(rt; (addresses, kept), ([4112, 4176], [true, true]));
     let (_, source) = flex.into_parts();
-    assert_eq!(rt;
-        source.asked(),
-        only(&[
-            Question::Alloc(64),
-            Question::Grow(4096, 64, 672),
-            Question::Dealloc(4096, 672)
-        ])
-    );
+    let asked = [
+        Question::Alloc(64),
+        Question::Grow(4096, 64, 672),
+        Question::Dealloc(4096, 672),
+    ];
+    is_right(&rt, (None, source.asked()), &asked);
     Ok(())
 }
 
@@ -118,19 +120,23 @@ fn copied(flex: &mut Small, addr: Addr, align: usize)
 
 #[test]
 fn a_copy_asks_nothing(rt: HostRuntime) -> Result<(), Fail> {
-    let mut flex = small(rt.alloc(), ALL, HABITS)?;
+    let seen = Cell::new(Questions::new());
     let layout = Layout::from_size_align(16, 1)?;
+    let mut flex = small(rt.alloc(), ALL, HABITS, &seen)?;
     if let Some(addr) = filled(&mut flex, layout, 7) {
         copied(&mut flex, addr, layout.align());
     }
-    assert_eq!(rt; flex.source_ref().asked(), only(&[Question::Alloc(64)]));
+    let asked = flex.source_ref().asked();
+    is_right(&rt, (None, asked), &[Question::Alloc(64)]);
     Ok(())
 }
 
 #[test]
 fn a_change_of_the_source(rt: HostRuntime) -> Result<(), Fail> {
-    let mut flex = small(rt.alloc(), ALL, HABITS)?;
-    assert_eq!(rt; flex.source_mut_unchecked(Look(7)), 7);
-    assert_eq!(rt; flex.source_ref().asked(), only(&[]));
+    let seen = Cell::new(Questions::new());
+    let mut flex = small(rt.alloc(), ALL, HABITS, &seen)?;
+    let looked = flex.source_mut_unchecked(Look(7));
+    assert_eq!(rt; looked, 7);
+    is_right(&rt, (None, flex.source_ref().asked()), &[]);
     Ok(())
 }

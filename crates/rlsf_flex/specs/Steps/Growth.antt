@@ -2,6 +2,7 @@
 use Rattle.std.specs.Prelude.{◌≡◌, ℕ, Bool, true, List, Option, Some, None}
 use Rattle.rlsf_base.specs.declared.memory.range.Range.{Range}
 use Rattle.rlsf_flex.specs.declared.pool.Pool.{Pool}
+use Rattle.rlsf_flex.specs.Outside.{KeepsOutside}
 use Rattle.rlsf_flex.specs.StandsFor.{FlexContents, FlexStandsFor}
 use Rattle.rlsf_machine.specs.FlexState.{FlexState, KeptPool}
 use Rattle.rlsf_machine.specs.Growth.{Extends, Outcome, TakesIn, given, grown, growth_note, growth_question, is_more, range_length, range_note, refused}
@@ -33,6 +34,7 @@ kept_len (Some k) = k.range.len
 pub record Took {S : Type 0} (fllen sllen : ℕ) (terms : S → Terms) (owes : S → List Range → Type 0) (before after : FlexContents S) (s : FlexState) (e : ℕ) (outcome : Outcome) : Type 0 where
   pub state : FlexState
   pub takes : TakesIn fllen (terms before.source) s outcome state
+  pub outside : KeepsOutside before.tlsf.memory s.pools after.tlsf.memory state.pools
   pub stands : FlexStandsFor fllen sllen terms owes after state
   pub room : is_more outcome ≡ true → HasPool e state.machine
 
@@ -60,6 +62,7 @@ module _ {S : Type 0} (fllen sllen : ℕ) (terms : S → Terms) (owes : S → Li
     pub state : FlexState
     pub extends : Extends fllen (terms before.source) s (Some e) outcome notes state
     pub leads_by : LeadsBy leads before.source notes after.source
+    pub outside : KeepsOutside before.tlsf.memory s.pools after.tlsf.memory state.pools
     pub stands : FlexStandsFor fllen sllen terms owes after state
     pub came : more ≡ is_more outcome
     pub room : is_more outcome ≡ true → HasPool e state.machine

@@ -10,17 +10,17 @@ use Rattle.rlsf_flex_runs.proofs.payloads.get.Goals as goal
 pub returns-in_default : goal.returns-in_default
 returns-in_default g c = λ s at.
     LeadsOn-nothing at (Get c.args.name c.args.offset) (Refused UnknownName)
-    (refl, without_source s, (unnamed at.are_named c.args.name (sym c.get.ensures.value ∙ sym c.copied.ensures ∙ c.in_default.is), refl), refl, refl)
+    (refl, without_source s, (unnamed at.are_named c.args.name (sym c.payload_of.ensures ∙ c.in_default.is), refl), refl, refl)
 
 pub payload-requires : goal.payload-requires
 payload-requires g c =
     let (s, at) = c.requires in
-    let (u, _, holds, _) = owned at c.args.name c.in-Some.payload (sym c.get.ensures.value ∙ sym c.copied.ensures ∙ c.in-Some.is) in
+    let (u, _, holds, _) = owned at c.args.name c.in-Some.payload (sym c.payload_of.ensures ∙ c.in-Some.is) in
     (omega arith, (s.flex, at.stands, (u, holds)))
 
 pub returns-in-Some-get : goal.returns-in-Some-get
 returns-in-Some-get g c = λ s at.
-    let (u, owns, holds, long) = owned at c.args.name c.in-Some.payload (sym c.get.ensures.value ∙ sym c.copied.ensures ∙ c.in-Some.is) in
+    let (u, owns, holds, long) = owned at c.args.name c.in-Some.payload (sym c.payload_of.ensures ∙ c.in-Some.is) in
     let bytes = c.payload.ensures s.flex u at.stands holds in
     let (below, value) = c.in-Some-get.ensures.lookup.3 in
     LeadsOn-nothing at (Get c.args.name c.args.offset) (Byte c.in-Some-get.byte.now)
@@ -28,7 +28,7 @@ returns-in-Some-get g c = λ s at.
 
 pub returns-in-None : goal.returns-in-None
 returns-in-None g c = λ s at.
-    let (u, owns, holds, long) = owned at c.args.name c.in-Some.payload (sym c.get.ensures.value ∙ sym c.copied.ensures ∙ c.in-Some.is) in
+    let (u, owns, holds, long) = owned at c.args.name c.in-Some.payload (sym c.payload_of.ensures ∙ c.in-Some.is) in
     let bytes = c.payload.ensures s.flex u at.stands holds in
     LeadsOn-nothing at (Get c.args.name c.args.offset) (Refused BadOffset)
     (refl, without_source s, ((u, owns, omega (arith, c.in-None.ensures.lookup.3, ap length bytes, long)), refl), refl, refl)

@@ -16,25 +16,25 @@ use Rattle.rlsf_flex_runs.proofs.payloads.realloc.Goals as goal
 pub returns-in_default-clause-does : goal.returns-in_default-clause-does
 returns-in_default-clause-does g c = λ s at.
     LeadsOn-nothing at (Realloc c.args.name c.args.size) (Refused UnknownName)
-    (refl, without_source s, (unnamed at.are_named c.args.name (sym c.get.ensures.value ∙ sym c.copied.ensures ∙ c.in_default.is), refl), refl, refl)
+    (refl, without_source s, (unnamed at.are_named c.args.name (sym c.payload_of.ensures ∙ c.in_default.is), refl), refl, refl)
 
 pub returns-in_default-from_size_align-clause-does : goal.returns-in_default-from_size_align-clause-does
 returns-in_default-from_size_align-clause-does g c = λ s at.
-    let (u, owns, _, aligned) = owned_live at.are_named c.args.name c.in-Some.old (sym c.get.ensures.value ∙ sym c.copied.ensures ∙ c.in-Some.is) in
+    let (u, owns, _, aligned) = owned_live at.are_named c.args.name c.in-Some.old (sym c.payload_of.ensures ∙ c.in-Some.is) in
     LeadsOn-nothing at (Realloc c.args.name c.args.size) (Refused BadLayout)
     (refl, without_source s, ((u, owns, λ valid. true≢false (sym (c.in_default-from_size_align.ensures.succeeds.1 (subst (IsLayout c.args.size) aligned valid)))), refl), refl, refl)
 
 pub reallocate-placed-requires : goal.reallocate-placed-requires
 reallocate-placed-requires g c =
     let (s, at) = c.requires.state in
-    let live = at.are_named.live c.args.name c.in-Some.old (sym c.get.ensures.value ∙ sym c.copied.ensures ∙ c.in-Some.is) in
+    let live = at.are_named.live c.args.name c.in-Some.old (sym c.payload_of.ensures ∙ c.in-Some.is) in
     let (size, align) = c.in-Ok.ensures.layout in
     (omega arith, (s.flex, at.stands, subst (IsLive s.flex.machine (address c.in-Some.old)) (sym align) live))
 
 pub returns-in-Some-placed-clause-does : goal.returns-in-Some-placed-clause-does
 returns-in-Some-placed-clause-does g c = λ s at.
     let p = c.in-Some.old in
-    let there = sym c.get.ensures.value ∙ sym c.copied.ensures ∙ c.in-Some.is in
+    let there = sym c.payload_of.ensures ∙ c.in-Some.is in
     let (size, align) = c.in-Ok.ensures.layout in
     let live = subst (IsLive s.flex.machine (address p)) (sym align) (at.are_named.live c.args.name p there) in
     let steps = c.in-Some-placed.ensures.step s.flex at.stands live in
@@ -44,7 +44,7 @@ returns-in-Some-placed-clause-does g c = λ s at.
 pub returns-in_default-placed-clause-does : goal.returns-in_default-placed-clause-does
 returns-in_default-placed-clause-does g c = λ s at.
     let p = c.in-Some.old in
-    let there = sym c.get.ensures.value ∙ sym c.copied.ensures ∙ c.in-Some.is in
+    let there = sym c.payload_of.ensures ∙ c.in-Some.is in
     let (size, align) = c.in-Ok.ensures.layout in
     let live = subst (IsLive s.flex.machine (address p)) (sym align) (at.are_named.live c.args.name p there) in
     let steps = c.reallocate-placed.ensures.step s.flex at.stands live in

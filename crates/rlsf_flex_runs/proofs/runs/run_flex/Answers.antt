@@ -15,14 +15,14 @@ loop-op-preserved g c =
     let pushed = c.push.ensures.succeeds (omega (arith, space, c.loop-op-test.true)) in
     let answer = c.step-answer.result in
     let next = IsUnderway-next g.met.S.FlexSource.constant u c.op-item.result (λ d. c.op-item.is ∙ get_or_default c.args.ops.now c.loop-op.op-index _ d c.loop-op-test.true) c.loop-op-test.true answer
-    c.step-answer.new.flex c.step-answer.new.names c.step-answer.ensures.does c.step-answer.ensures.room c.step-answer.ensures.place in
+    c.step-answer.new.flex c.step-answer.new.names c.step-answer.ensures.does c.step-answer.ensures.room in
     let more = when_ok c.push.result _ pushed c.push.ensures.items ∙ ap (λ l. l ++ answer ∷ []) items ∙ append_assoc c.args.answers.now.items given (answer ∷ []) in
     ((given ++ answer ∷ [], more, next), omega (arith, space, c.loop-op-test.true, when_ok c.push.result _ pushed c.push.ensures.len, c.push.ensures.capacity))
 
 pub returns-clause-runs : goal.returns-clause-runs
 returns-clause-runs g c =
     let ((given, items, u), _) = c.loop-op.invariant in
-    (given, u.notes, u.state, items, RunsFlex-end u c.loop-op-test.false, u.leads_by, u.at.stands)
+    (given, u.notes, u.state, items, RunsFlex-end u c.loop-op-test.false, u.leads_by, u.at.stands, u.outside)
 
 pub returns-clause-place : goal.returns-clause-place
-returns-clause-place g c = let ((given, items, u), _) = c.loop-op.invariant in u.place
+returns-clause-place g c = let ((given, items, u), _) = c.loop-op.invariant in u.outside.place

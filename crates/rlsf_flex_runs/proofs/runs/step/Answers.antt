@@ -26,12 +26,12 @@ returns-in-Realloc-clause-does g c =
 pub returns-in-Fill-clause-does : goal.returns-in-Fill-clause-does
 returns-in-Fill-clause-does g c =
     subst (λ op. (s : FlexRunState) → IsAt g.row.FLLEN g.row.SLLEN g.S.FlexSource.terms g.S.FlexSource.owes c.args.flex.now c.args.names.now s → LeadsOn g.row.FLLEN g.row.SLLEN g.S.FlexSource.terms g.S.FlexSource.owes g.S.FlexSource.leads c.args.flex.now s op c.fill.result c.fill.new.flex c.args.names.now)
-    (sym c.in-Fill.is) c.fill.ensures.does
+    (sym c.in-Fill.is) c.fill.ensures
 
 pub returns-in-Put-clause-does : goal.returns-in-Put-clause-does
 returns-in-Put-clause-does g c =
     subst (λ op. (s : FlexRunState) → IsAt g.row.FLLEN g.row.SLLEN g.S.FlexSource.terms g.S.FlexSource.owes c.args.flex.now c.args.names.now s → LeadsOn g.row.FLLEN g.row.SLLEN g.S.FlexSource.terms g.S.FlexSource.owes g.S.FlexSource.leads c.args.flex.now s op c.put.result c.put.new.flex c.args.names.now)
-    (sym c.in-Put.is) c.put.ensures.does
+    (sym c.in-Put.is) c.put.ensures
 
 pub returns-in-Get-clause-does : goal.returns-in-Get-clause-does
 returns-in-Get-clause-does g c =

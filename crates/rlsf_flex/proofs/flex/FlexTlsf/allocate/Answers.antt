@@ -2,6 +2,7 @@ use Rattle.std.proofs.Common.{rules, ◌≡◌, ◌≤◌, ◌+◌, ℕ, true, S
 use Rattle.std.specs.Int.NonZero.{non_zero_usize_get}
 use Rattle.std.specs.Option.{option_map}
 use Rattle.rlsf_blocks.specs.StandsFor.{Contents}
+use Rattle.rlsf_flex.specs.Outside.{KeepsOutside}
 use Rattle.rlsf_flex.specs.StandsFor.{FlexContents, flex_contents, FlexStandsFor, FlexSteps}
 use Rattle.rlsf_flex.specs.Steps.Growth.{Extended}
 use Rattle.rlsf_machine.specs.Allocate.{Allocates}
@@ -27,7 +28,7 @@ returns-in-Some-clause-step g c =
     let new = flex_contents c.allocate.new.self c.self.inside.kept c.self.inside.source in
     subst (λ (old : FlexContents g.row.S.Denot). (s : FlexState) → FlexStandsFor g.row.FLLEN g.row.SLLEN g.S.FlexSource.terms g.S.FlexSource.owes old s
     → FlexSteps g.row.FLLEN g.row.SLLEN g.S.FlexSource.terms g.S.FlexSource.owes g.S.FlexSource.leads old new
-    (FlexAllocates g.row.FLLEN g.row.SLLEN (g.S.FlexSource.terms old.source) s c.args.layout.size c.args.layout.align (Some (non_zero_usize_get c.in-Some.addr))))
+    s (FlexAllocates g.row.FLLEN g.row.SLLEN (g.S.FlexSource.terms old.source) s c.args.layout.size c.args.layout.align (Some (non_zero_usize_get c.in-Some.addr))))
     c.self.view_is (λ s v.
     allocated_in_room c.args.layout.size c.args.layout.align c.in-Some.ensures.place v
     (non_zero_usize_get c.in-Some.addr) (c.in-Some.ensures.step s.machine v.machine))
@@ -43,6 +44,7 @@ full : (g : given.Over) (c : In_default g) (s : FlexState)
     → FlexStandsFor g.row.FLLEN g.row.SLLEN g.S.FlexSource.terms g.S.FlexSource.owes (flex_contents c.self.inside.tlsf c.self.inside.kept c.self.inside.source) s
     → Allocates g.row.SLLEN s.machine c.args.layout.size c.args.layout.align None s.machine
     × FlexStandsFor g.row.FLLEN g.row.SLLEN g.S.FlexSource.terms g.S.FlexSource.owes (flex_contents c.allocate.new.self c.self.inside.kept c.self.inside.source) s
+    × KeepsOutside c.self.inside.tlsf.memory s.pools c.allocate.new.self.memory s.pools
 full g c s v =
     let none : c.allocate.result ≡ None = search rules in
     no_room c.args.layout.size c.args.layout.align c.allocate.ensures.place v
@@ -59,12 +61,12 @@ returns-in_err-wanted-clause-step g c =
     let new = flex_contents c.allocate.new.self c.self.inside.kept c.self.inside.source in
     subst (λ (old : FlexContents g.row.S.Denot). (s : FlexState) → FlexStandsFor g.row.FLLEN g.row.SLLEN g.S.FlexSource.terms g.S.FlexSource.owes old s
     → FlexSteps g.row.FLLEN g.row.SLLEN g.S.FlexSource.terms g.S.FlexSource.owes g.S.FlexSource.leads old new
-    (FlexAllocates g.row.FLLEN g.row.SLLEN (g.S.FlexSource.terms old.source) s c.args.layout.size c.args.layout.align (option_map non_zero_usize_get c.from_residual.result)))
+    s (FlexAllocates g.row.FLLEN g.row.SLLEN (g.S.FlexSource.terms old.source) s c.args.layout.size c.args.layout.align (option_map non_zero_usize_get c.from_residual.result)))
     c.self.view_is (λ s v.
-    let (none, stands) = full g (goal.at.returns-in_err-wanted-clause-step g c).In_default s v in
+    let (none, stands, still) = full g (goal.at.returns-in_err-wanted-clause-step g c).In_default s v in
     subst (λ o. FlexSteps g.row.FLLEN g.row.SLLEN g.S.FlexSource.terms g.S.FlexSource.owes g.S.FlexSource.leads now new
-    (FlexAllocates g.row.FLLEN g.row.SLLEN (g.S.FlexSource.terms c.self.inside.source) s c.args.layout.size c.args.layout.align (option_map non_zero_usize_get o))) (sym c.from_residual.ensures)
-    (nothing_asked c.args.layout.size c.args.layout.align now none (sym c.in_err-wanted.ensures) stands))
+    s (FlexAllocates g.row.FLLEN g.row.SLLEN (g.S.FlexSource.terms c.self.inside.source) s c.args.layout.size c.args.layout.align (option_map non_zero_usize_get o))) (sym c.from_residual.ensures)
+    (nothing_asked c.args.layout.size c.args.layout.align now none still (sym c.in_err-wanted.ensures) stands))
 
 pub extend-requires : goal.extend-requires
 extend-requires g c =
@@ -82,22 +84,22 @@ more g c s stands = let h = c.if-extend.ensures.step s stands in (h, c.allocate-
 
 -- which is the machine's step
 in_more : (g : given.Over) (c : After-allocate-then-extend g) (s : FlexState) → Allocates g.row.SLLEN s.machine c.args.layout.size c.args.layout.align None s.machine
-    → FlexStandsFor g.row.FLLEN g.row.SLLEN g.S.FlexSource.terms g.S.FlexSource.owes (flex_contents c.allocate.new.self c.self.inside.kept c.self.inside.source) s
+    → KeepsOutside c.self.inside.tlsf.memory s.pools c.allocate.new.self.memory s.pools → FlexStandsFor g.row.FLLEN g.row.SLLEN g.S.FlexSource.terms g.S.FlexSource.owes (flex_contents c.allocate.new.self c.self.inside.kept c.self.inside.source) s
     → FlexSteps g.row.FLLEN g.row.SLLEN g.S.FlexSource.terms g.S.FlexSource.owes g.S.FlexSource.leads (flex_contents c.self.inside.tlsf c.self.inside.kept c.self.inside.source)
     (flex_contents c.allocate-then-extend.new.self c.extend.new.kept c.extend.new.source)
-    (FlexAllocates g.row.FLLEN g.row.SLLEN (g.S.FlexSource.terms c.self.inside.source) s c.args.layout.size c.args.layout.align (option_map non_zero_usize_get c.allocate-then-extend.result))
-in_more g c s none stands =
+    s (FlexAllocates g.row.FLLEN g.row.SLLEN (g.S.FlexSource.terms c.self.inside.source) s c.args.layout.size c.args.layout.align (option_map non_zero_usize_get c.allocate-then-extend.result))
+in_more g c s none still stands =
     let now = flex_contents c.self.inside.tlsf c.self.inside.kept c.self.inside.source in
     let (h, a) = more g c s stands in
     allocated_in_more c.args.layout.size c.args.layout.align now none
-    (sym c.in_ok-wanted.ensures) c.self.invariant.valid h c.allocate-then-extend.ensures.place
+    (sym c.in_ok-wanted.ensures) c.self.invariant.valid h still c.allocate-then-extend.ensures.place
     (option_map non_zero_usize_get c.allocate-then-extend.result) a
 
 pub invariant_of-self-then-extend : goal.invariant_of-self-then-extend
 invariant_of-self-then-extend g c =
     let (s, v) = c.self.invariant.stands in
-    let (none, stands) = full g (goal.at.invariant_of-self-then-extend g c).In_default s v in
-    let step = in_more g (goal.at.invariant_of-self-then-extend g c).After-allocate-then-extend s none stands in
+    let (none, stands, still) = full g (goal.at.invariant_of-self-then-extend g c).In_default s v in
+    let step = in_more g (goal.at.invariant_of-self-then-extend g c).After-allocate-then-extend s none still stands in
     record { valid = c.self.invariant.valid; stands = (step.state, step.stands) }
 
 pub returns-then-extend-clause-step : goal.returns-then-extend-clause-step
@@ -105,10 +107,10 @@ returns-then-extend-clause-step g c =
     let new = flex_contents c.allocate-then-extend.new.self c.extend.new.kept c.extend.new.source in
     subst (λ (old : FlexContents g.row.S.Denot). (s : FlexState) → FlexStandsFor g.row.FLLEN g.row.SLLEN g.S.FlexSource.terms g.S.FlexSource.owes old s
     → FlexSteps g.row.FLLEN g.row.SLLEN g.S.FlexSource.terms g.S.FlexSource.owes g.S.FlexSource.leads old new
-    (FlexAllocates g.row.FLLEN g.row.SLLEN (g.S.FlexSource.terms old.source) s c.args.layout.size c.args.layout.align (option_map non_zero_usize_get c.allocate-then-extend.result)))
+    s (FlexAllocates g.row.FLLEN g.row.SLLEN (g.S.FlexSource.terms old.source) s c.args.layout.size c.args.layout.align (option_map non_zero_usize_get c.allocate-then-extend.result)))
     c.self.view_is (λ s v.
-    let (none, stands) = full g (goal.at.returns-then-extend-clause-step g c).In_default s v in
-    in_more g (goal.at.returns-then-extend-clause-step g c).After-allocate-then-extend s none stands)
+    let (none, stands, still) = full g (goal.at.returns-then-extend-clause-step g c).In_default s v in
+    in_more g (goal.at.returns-then-extend-clause-step g c).After-allocate-then-extend s none still stands)
 
 pub returns-then-extend-clause-placed : goal.returns-then-extend-clause-placed
 returns-then-extend-clause-placed g c =
@@ -123,7 +125,7 @@ returns-then-extend-clause-placed g c =
 pub returns-then-extend-clause-refused : goal.returns-then-extend-clause-refused
 returns-then-extend-clause-refused g c =
     let (s, v) = c.self.invariant.stands in
-    let (none, stands) = full g (goal.at.returns-then-extend-clause-refused g c).In_default s v in
+    let (none, stands, still) = full g (goal.at.returns-then-extend-clause-refused g c).In_default s v in
     let now = flex_contents c.self.inside.tlsf c.self.inside.kept c.self.inside.source in
     let (h, a) = more g (goal.at.returns-then-extend-clause-refused g c).After-allocate-then-extend s stands in
     not_none _ c.allocate-then-extend.result (λ is.
@@ -150,11 +152,11 @@ returns-else-extend-clause-step g c =
     let new = flex_contents c.extend.new.tlsf c.extend.new.kept c.extend.new.source in
     subst (λ (old : FlexContents g.row.S.Denot). (s : FlexState) → FlexStandsFor g.row.FLLEN g.row.SLLEN g.S.FlexSource.terms g.S.FlexSource.owes old s
     → FlexSteps g.row.FLLEN g.row.SLLEN g.S.FlexSource.terms g.S.FlexSource.owes g.S.FlexSource.leads old new
-    (FlexAllocates g.row.FLLEN g.row.SLLEN (g.S.FlexSource.terms old.source) s c.args.layout.size c.args.layout.align None))
+    s (FlexAllocates g.row.FLLEN g.row.SLLEN (g.S.FlexSource.terms old.source) s c.args.layout.size c.args.layout.align None))
     c.self.view_is (λ s v.
-    let (none, stands) = full g (goal.at.returns-else-extend-clause-step g c).In_default s v in
+    let (none, stands, still) = full g (goal.at.returns-else-extend-clause-step g c).In_default s v in
     nothing_more c.args.layout.size c.args.layout.align now none
-    (sym c.in_ok-wanted.ensures) (c.if-extend.ensures.step s stands))
+    (sym c.in_ok-wanted.ensures) still (c.if-extend.ensures.step s stands))
 
 pub returns-else-extend-clause-refused : goal.returns-else-extend-clause-refused
 returns-else-extend-clause-refused g c =

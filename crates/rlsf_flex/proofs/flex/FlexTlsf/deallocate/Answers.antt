@@ -1,5 +1,6 @@
 use Rattle.std.proofs.Common.{sym, subst}
 use Rattle.std.specs.Int.NonZero.{non_zero_usize_get}
+use Rattle.rlsf_blocks.specs.Spare.{KeepsSpare}
 use Rattle.rlsf_machine.specs.FlexState.{FlexState, with_machine}
 use Rattle.rlsf_machine.specs.Release.{Deallocates}
 use Rattle.rlsf_machine.specs.State.{State, IsLive}
@@ -11,12 +12,13 @@ pub invariant_of-self : goal.invariant_of-self
 invariant_of-self g c =
     let addr = non_zero_usize_get c.args.addr in
     let (s, h, live) = subst (λ (old : FlexContents g.row.S.Denot). (s : FlexState) × FlexStandsFor g.row.FLLEN g.row.SLLEN g.S.FlexSource.terms g.S.FlexSource.owes old s × IsLive s.machine addr c.args.align) (sym c.self.view_is) c.requires in
-    let (t, step, stands) = deallocated h c.deallocate.ensures.place addr (c.deallocate.ensures.step s.machine h.machine live) in
+    let (t, step, stands, spare) = deallocated h c.deallocate.ensures.place addr (c.deallocate.ensures.step s.machine h.machine live) in
     record { valid = c.self.invariant.valid; stands = (with_machine s t, stands) }
 
 pub returns-clause-step : goal.returns-clause-step
 returns-clause-step g c =
     let addr = non_zero_usize_get c.args.addr in
     subst (λ (old : FlexContents g.row.S.Denot). (s : FlexState) → FlexStandsFor g.row.FLLEN g.row.SLLEN g.S.FlexSource.terms g.S.FlexSource.owes old s → IsLive s.machine addr c.args.align
-    → (m : State) × Deallocates s.machine addr m × FlexStandsFor g.row.FLLEN g.row.SLLEN g.S.FlexSource.terms g.S.FlexSource.owes (flex_contents c.deallocate.new.self c.self.inside.kept c.self.inside.source) (with_machine s m))
+    → (m : State) × Deallocates s.machine addr m × FlexStandsFor g.row.FLLEN g.row.SLLEN g.S.FlexSource.terms g.S.FlexSource.owes (flex_contents c.deallocate.new.self c.self.inside.kept c.self.inside.source) (with_machine s m)
+    × KeepsSpare old.tlsf.memory s.machine c.deallocate.new.self.memory m)
     c.self.view_is (λ s h live. deallocated h c.deallocate.ensures.place addr (c.deallocate.ensures.step s.machine h.machine live))

@@ -3,6 +3,7 @@ use Rattle.std.specs.declared.num.NonZeroUsize.{NonZeroUsize}
 use Rattle.std.specs.Int.NonZero.{non_zero_usize_get}
 use Rattle.std.specs.Option.{option_map}
 use Rattle.rlsf_blocks.specs.StandsFor.{Contents, StandsFor}
+use Rattle.rlsf_flex.specs.Outside.{KeepsOutside}
 use Rattle.rlsf_flex.specs.StandsFor.{FlexContents, flex_contents, FlexStandsFor, FlexSteps}
 use Rattle.rlsf_flex.specs.Steps.Growth.{Extended}
 use Rattle.rlsf_machine.specs.Allocate.{Allocates}
@@ -26,7 +27,7 @@ pub returns-in-Some-clause-step : goal.returns-in-Some-clause-step
 returns-in-Some-clause-step g c =
     let new = flex_contents c.reallocate.new.self c.self.inside.kept c.self.inside.source in
     subst (λ (old : FlexContents g.row.S.Denot). (s : FlexState) → FlexStandsFor g.row.FLLEN g.row.SLLEN g.S.FlexSource.terms g.S.FlexSource.owes old s → IsLive s.machine (non_zero_usize_get c.args.addr) c.args.layout.align
-    → FlexSteps g.row.FLLEN g.row.SLLEN g.S.FlexSource.terms g.S.FlexSource.owes g.S.FlexSource.leads old new (FlexReallocates g.row.FLLEN g.row.SLLEN (g.S.FlexSource.terms old.source) s (non_zero_usize_get c.args.addr) c.args.layout.size (Some (non_zero_usize_get c.in-Some.moved))))
+    → FlexSteps g.row.FLLEN g.row.SLLEN g.S.FlexSource.terms g.S.FlexSource.owes g.S.FlexSource.leads old new s (FlexReallocates g.row.FLLEN g.row.SLLEN (g.S.FlexSource.terms old.source) s (non_zero_usize_get c.args.addr) c.args.layout.size (Some (non_zero_usize_get c.in-Some.moved))))
     c.self.view_is (λ s v live.
     reallocated_in_room (non_zero_usize_get c.args.addr) c.args.layout.size c.args.layout.align c.in-Some.ensures.place v (non_zero_usize_get c.in-Some.moved) (c.in-Some.ensures.step s.machine v.machine live))
 
@@ -45,6 +46,7 @@ returns-in-Some-clause-copied g c =
 full : (g : given.Over) (c : In_default g) (s : FlexState) → FlexStandsFor g.row.FLLEN g.row.SLLEN g.S.FlexSource.terms g.S.FlexSource.owes (flex_contents c.self.inside.tlsf c.self.inside.kept c.self.inside.source) s → IsLive s.machine (non_zero_usize_get c.args.addr) c.args.layout.align
     → (u : Used) × IsStuck s.machine (non_zero_usize_get c.args.addr) c.args.layout.size u × (u.align ≡ c.args.layout.align) × Allocates g.row.SLLEN s.machine c.args.layout.size c.args.layout.align None s.machine
     × FlexStandsFor g.row.FLLEN g.row.SLLEN g.S.FlexSource.terms g.S.FlexSource.owes (flex_contents c.reallocate.new.self c.self.inside.kept c.self.inside.source) s
+    × KeepsOutside c.self.inside.tlsf.memory s.pools c.reallocate.new.self.memory s.pools
 full g c s v live =
     let none : c.reallocate.result ≡ None = search rules in
     no_room_to_move (non_zero_usize_get c.args.addr) c.args.layout.size c.args.layout.align c.reallocate.ensures.place v live
@@ -53,7 +55,7 @@ full g c s v live =
 pub invariant_of-self-in_err-wanted : goal.invariant_of-self-in_err-wanted
 invariant_of-self-in_err-wanted g c =
     let (s, v, live) = subst (λ (old : FlexContents g.row.S.Denot). (s : FlexState) × FlexStandsFor g.row.FLLEN g.row.SLLEN g.S.FlexSource.terms g.S.FlexSource.owes old s × IsLive s.machine (non_zero_usize_get c.args.addr) c.args.layout.align) (sym c.self.view_is) c.requires in
-    let (u, stuck, is, none, stands) = full g (goal.at.invariant_of-self-in_err-wanted g c).In_default s v live in
+    let (u, stuck, is, none, stands, still) = full g (goal.at.invariant_of-self-in_err-wanted g c).In_default s v live in
     record { valid = c.self.invariant.valid; stands = (s, stands) }
 
 pub returns-in_err-wanted-clause-step : goal.returns-in_err-wanted-clause-step
@@ -61,11 +63,11 @@ returns-in_err-wanted-clause-step g c =
     let now = flex_contents c.self.inside.tlsf c.self.inside.kept c.self.inside.source in
     let new = flex_contents c.reallocate.new.self c.self.inside.kept c.self.inside.source in
     subst (λ (old : FlexContents g.row.S.Denot). (s : FlexState) → FlexStandsFor g.row.FLLEN g.row.SLLEN g.S.FlexSource.terms g.S.FlexSource.owes old s → IsLive s.machine (non_zero_usize_get c.args.addr) c.args.layout.align
-    → FlexSteps g.row.FLLEN g.row.SLLEN g.S.FlexSource.terms g.S.FlexSource.owes g.S.FlexSource.leads old new (FlexReallocates g.row.FLLEN g.row.SLLEN (g.S.FlexSource.terms old.source) s (non_zero_usize_get c.args.addr) c.args.layout.size (option_map non_zero_usize_get c.from_residual.result)))
+    → FlexSteps g.row.FLLEN g.row.SLLEN g.S.FlexSource.terms g.S.FlexSource.owes g.S.FlexSource.leads old new s (FlexReallocates g.row.FLLEN g.row.SLLEN (g.S.FlexSource.terms old.source) s (non_zero_usize_get c.args.addr) c.args.layout.size (option_map non_zero_usize_get c.from_residual.result)))
     c.self.view_is (λ s v live.
-    let (u, stuck, is, none, stands) = full g (goal.at.returns-in_err-wanted-clause-step g c).In_default s v live in
-    subst (λ o. FlexSteps g.row.FLLEN g.row.SLLEN g.S.FlexSource.terms g.S.FlexSource.owes g.S.FlexSource.leads now new (FlexReallocates g.row.FLLEN g.row.SLLEN (g.S.FlexSource.terms c.self.inside.source) s (non_zero_usize_get c.args.addr) c.args.layout.size (option_map non_zero_usize_get o))) (sym c.from_residual.ensures)
-    (refused_too (non_zero_usize_get c.args.addr) c.args.layout.size c.args.layout.align now stuck is (nothing_asked c.args.layout.size c.args.layout.align now none (sym c.in_err-wanted.ensures) stands)))
+    let (u, stuck, is, none, stands, still) = full g (goal.at.returns-in_err-wanted-clause-step g c).In_default s v live in
+    subst (λ o. FlexSteps g.row.FLLEN g.row.SLLEN g.S.FlexSource.terms g.S.FlexSource.owes g.S.FlexSource.leads now new s (FlexReallocates g.row.FLLEN g.row.SLLEN (g.S.FlexSource.terms c.self.inside.source) s (non_zero_usize_get c.args.addr) c.args.layout.size (option_map non_zero_usize_get o))) (sym c.from_residual.ensures)
+    (refused_too (non_zero_usize_get c.args.addr) c.args.layout.size c.args.layout.align now stuck is (nothing_asked c.args.layout.size c.args.layout.align now none still (sym c.in_err-wanted.ensures) stands)))
 
 pub returns-in_err-wanted-clause-copied : goal.returns-in_err-wanted-clause-copied
 returns-in_err-wanted-clause-copied g c =
@@ -76,13 +78,13 @@ returns-in_err-wanted-clause-copied g c =
 pub extend-requires : goal.extend-requires
 extend-requires g c =
     let (s, v, live) = subst (λ (old : FlexContents g.row.S.Denot). (s : FlexState) × FlexStandsFor g.row.FLLEN g.row.SLLEN g.S.FlexSource.terms g.S.FlexSource.owes old s × IsLive s.machine (non_zero_usize_get c.args.addr) c.args.layout.align) (sym c.self.view_is) c.requires in
-    let (u, stuck, is, none, stands) = full g (goal.at.extend-requires g c).In_default s v live in
+    let (u, stuck, is, none, stands, still) = full g (goal.at.extend-requires g c).In_default s v live in
     (omega arith, (c.self.invariant.valid, (record { size = c.args.layout.size; align = c.args.layout.align; is = sym c.in_ok-wanted.ensures }, (s, stands))))
 
 pub move_payload-requires : goal.move_payload-requires
 move_payload-requires g c =
     let (s, v, live) = subst (λ (old : FlexContents g.row.S.Denot). (s : FlexState) × FlexStandsFor g.row.FLLEN g.row.SLLEN g.S.FlexSource.terms g.S.FlexSource.owes old s × IsLive s.machine (non_zero_usize_get c.args.addr) c.args.layout.align) (sym c.self.view_is) c.requires in
-    let (u, stuck, is, none, stands) = full g (goal.at.move_payload-requires g c).In_default s v live in
+    let (u, stuck, is, none, stands, still) = full g (goal.at.move_payload-requires g c).In_default s v live in
     let now = flex_contents c.self.inside.tlsf c.self.inside.kept c.self.inside.source in
     let h = c.if-extend.ensures.step s stands in
     let came = Holds-came (non_zero_usize_get c.args.addr) c.args.layout.size c.args.layout.align now stuck is none (sym c.in_ok-wanted.ensures) h in
@@ -107,28 +109,28 @@ moves g c s u stuck is none v h to some =
 
 -- which is the machine's step
 in_more : (g : given.Over) (c : After-move_payload g) (s : FlexState) (u : Used) (stuck : IsStuck s.machine (non_zero_usize_get c.args.addr) c.args.layout.size u) → u.align ≡ c.args.layout.align → Allocates g.row.SLLEN s.machine c.args.layout.size c.args.layout.align None s.machine
-    → FlexStandsFor g.row.FLLEN g.row.SLLEN g.S.FlexSource.terms g.S.FlexSource.owes (flex_contents c.self.inside.tlsf c.self.inside.kept c.self.inside.source) s → Extended g.row.FLLEN g.row.SLLEN g.S.FlexSource.terms g.S.FlexSource.owes g.S.FlexSource.leads (flex_contents c.reallocate.new.self c.self.inside.kept c.self.inside.source) (flex_contents c.extend.new.tlsf c.extend.new.kept c.extend.new.source) s c.in_ok-wanted.wanted true
+    → KeepsOutside c.self.inside.tlsf.memory s.pools c.reallocate.new.self.memory s.pools → FlexStandsFor g.row.FLLEN g.row.SLLEN g.S.FlexSource.terms g.S.FlexSource.owes (flex_contents c.self.inside.tlsf c.self.inside.kept c.self.inside.source) s → Extended g.row.FLLEN g.row.SLLEN g.S.FlexSource.terms g.S.FlexSource.owes g.S.FlexSource.leads (flex_contents c.reallocate.new.self c.self.inside.kept c.self.inside.source) (flex_contents c.extend.new.tlsf c.extend.new.kept c.extend.new.source) s c.in_ok-wanted.wanted true
     → (o : Option NonZeroUsize) → c.move_payload.result ≡ o
     → FlexSteps g.row.FLLEN g.row.SLLEN g.S.FlexSource.terms g.S.FlexSource.owes g.S.FlexSource.leads (flex_contents c.self.inside.tlsf c.self.inside.kept c.self.inside.source) (flex_contents c.move_payload.new.tlsf c.extend.new.kept c.extend.new.source)
-    (FlexReallocates g.row.FLLEN g.row.SLLEN (g.S.FlexSource.terms c.self.inside.source) s (non_zero_usize_get c.args.addr) c.args.layout.size (option_map non_zero_usize_get o))
-in_more g c s u stuck is none v h None e = absurd (found g c s none h e)
-in_more g c s u stuck is none v h (Some to) e =
+    s (FlexReallocates g.row.FLLEN g.row.SLLEN (g.S.FlexSource.terms c.self.inside.source) s (non_zero_usize_get c.args.addr) c.args.layout.size (option_map non_zero_usize_get o))
+in_more g c s u stuck is none still v h None e = absurd (found g c s none h e)
+in_more g c s u stuck is none still v h (Some to) e =
     let now = flex_contents c.self.inside.tlsf c.self.inside.kept c.self.inside.source in
     reallocated_in_more (non_zero_usize_get c.args.addr) c.args.layout.size c.args.layout.align now stuck is none (sym c.in_ok-wanted.ensures) h c.move_payload.ensures.place
-    (moves g c s u stuck is none v h to e)
+    (moves g c s u stuck is none v h to e) still
 
 pub invariant_of-self-then-extend : goal.invariant_of-self-then-extend
 invariant_of-self-then-extend g c =
     let (s, v, live) = subst (λ (old : FlexContents g.row.S.Denot). (s : FlexState) × FlexStandsFor g.row.FLLEN g.row.SLLEN g.S.FlexSource.terms g.S.FlexSource.owes old s × IsLive s.machine (non_zero_usize_get c.args.addr) c.args.layout.align) (sym c.self.view_is) c.requires in
-    let (u, stuck, is, none, stands) = full g (goal.at.invariant_of-self-then-extend g c).In_default s v live in
+    let (u, stuck, is, none, stands, still) = full g (goal.at.invariant_of-self-then-extend g c).In_default s v live in
     let at = (goal.at.invariant_of-self-then-extend g c).After-move_payload in
-    let step = in_more g at s u stuck is none v (c.if-extend.ensures.step s stands) c.move_payload.result refl in
+    let step = in_more g at s u stuck is none still v (c.if-extend.ensures.step s stands) c.move_payload.result refl in
     record { valid = c.self.invariant.valid; stands = (step.state, step.stands) }
 
 pub invariant_of-self-else-extend : goal.invariant_of-self-else-extend
 invariant_of-self-else-extend g c =
     let (s, v, live) = subst (λ (old : FlexContents g.row.S.Denot). (s : FlexState) × FlexStandsFor g.row.FLLEN g.row.SLLEN g.S.FlexSource.terms g.S.FlexSource.owes old s × IsLive s.machine (non_zero_usize_get c.args.addr) c.args.layout.align) (sym c.self.view_is) c.requires in
-    let (u, stuck, is, none, stands) = full g (goal.at.invariant_of-self-else-extend g c).In_default s v live in
+    let (u, stuck, is, none, stands, still) = full g (goal.at.invariant_of-self-else-extend g c).In_default s v live in
     let h = c.if-extend.ensures.step s stands in
     record { valid = c.self.invariant.valid; stands = (h.state, h.stands) }
 
@@ -136,15 +138,15 @@ pub returns-then-extend-clause-step : goal.returns-then-extend-clause-step
 returns-then-extend-clause-step g c =
     let new = flex_contents c.move_payload.new.tlsf c.extend.new.kept c.extend.new.source in
     subst (λ (old : FlexContents g.row.S.Denot). (s : FlexState) → FlexStandsFor g.row.FLLEN g.row.SLLEN g.S.FlexSource.terms g.S.FlexSource.owes old s → IsLive s.machine (non_zero_usize_get c.args.addr) c.args.layout.align
-    → FlexSteps g.row.FLLEN g.row.SLLEN g.S.FlexSource.terms g.S.FlexSource.owes g.S.FlexSource.leads old new (FlexReallocates g.row.FLLEN g.row.SLLEN (g.S.FlexSource.terms old.source) s (non_zero_usize_get c.args.addr) c.args.layout.size (option_map non_zero_usize_get c.move_payload.result)))
+    → FlexSteps g.row.FLLEN g.row.SLLEN g.S.FlexSource.terms g.S.FlexSource.owes g.S.FlexSource.leads old new s (FlexReallocates g.row.FLLEN g.row.SLLEN (g.S.FlexSource.terms old.source) s (non_zero_usize_get c.args.addr) c.args.layout.size (option_map non_zero_usize_get c.move_payload.result)))
     c.self.view_is (λ s v live.
-    let (u, stuck, is, none, stands) = full g (goal.at.returns-then-extend-clause-step g c).In_default s v live in
-    in_more g (goal.at.returns-then-extend-clause-step g c).After-move_payload s u stuck is none v (c.if-extend.ensures.step s stands) c.move_payload.result refl)
+    let (u, stuck, is, none, stands, still) = full g (goal.at.returns-then-extend-clause-step g c).In_default s v live in
+    in_more g (goal.at.returns-then-extend-clause-step g c).After-move_payload s u stuck is none still v (c.if-extend.ensures.step s stands) c.move_payload.result refl)
 
 pub returns-then-extend-clause-placed : goal.returns-then-extend-clause-placed
 returns-then-extend-clause-placed g c =
     let (s, v, live) = subst (λ (old : FlexContents g.row.S.Denot). (s : FlexState) × FlexStandsFor g.row.FLLEN g.row.SLLEN g.S.FlexSource.terms g.S.FlexSource.owes old s × IsLive s.machine (non_zero_usize_get c.args.addr) c.args.layout.align) (sym c.self.view_is) c.requires in
-    let (u, stuck, is, none, stands) = full g (goal.at.returns-then-extend-clause-placed g c).In_default s v live in
+    let (u, stuck, is, none, stands, still) = full g (goal.at.returns-then-extend-clause-placed g c).In_default s v live in
     let now = flex_contents c.self.inside.tlsf c.self.inside.kept c.self.inside.source in
     let h = c.if-extend.ensures.step s stands in
     for_some c.move_payload.result (λ to some.
@@ -154,7 +156,7 @@ returns-then-extend-clause-placed g c =
 pub returns-then-extend-clause-refused : goal.returns-then-extend-clause-refused
 returns-then-extend-clause-refused g c =
     let (s, v, live) = subst (λ (old : FlexContents g.row.S.Denot). (s : FlexState) × FlexStandsFor g.row.FLLEN g.row.SLLEN g.S.FlexSource.terms g.S.FlexSource.owes old s × IsLive s.machine (non_zero_usize_get c.args.addr) c.args.layout.align) (sym c.self.view_is) c.requires in
-    let (u, stuck, is, none, stands) = full g (goal.at.returns-then-extend-clause-refused g c).In_default s v live in
+    let (u, stuck, is, none, stands, still) = full g (goal.at.returns-then-extend-clause-refused g c).In_default s v live in
     not_none _ c.move_payload.result (found g (goal.at.returns-then-extend-clause-refused g c).After-move_payload s none (c.if-extend.ensures.step s stands))
 
 pub returns-then-extend-clause-touches : goal.returns-then-extend-clause-touches
@@ -162,7 +164,7 @@ returns-then-extend-clause-touches g c =
     subst (λ (old : FlexContents g.row.S.Denot). (s : FlexState) (to : ℕ) (m : State) → FlexStandsFor g.row.FLLEN g.row.SLLEN g.S.FlexSource.terms g.S.FlexSource.owes old s → IsLive s.machine (non_zero_usize_get c.args.addr) c.args.layout.align
     → Reallocates g.row.SLLEN s.machine (non_zero_usize_get c.args.addr) c.args.layout.size (Some to) m → c.move_payload.new.tlsf.memory.touches ≤ old.tlsf.memory.touches + 66)
     c.self.view_is (λ s to m v live some.
-    let (u, stuck, is, none, stands) = full g (goal.at.returns-then-extend-clause-touches g c).In_default s v live in
+    let (u, stuck, is, none, stands, still) = full g (goal.at.returns-then-extend-clause-touches g c).In_default s v live in
     absurd (refused_move_alone v.machine.well_formed (non_zero_usize_get c.args.addr) c.args.layout.size c.args.layout.align to u m stuck is none some))
 
 pub returns-then-extend-clause-copied : goal.returns-then-extend-clause-copied
@@ -170,7 +172,7 @@ returns-then-extend-clause-copied g c =
     subst (λ (old : FlexContents g.row.S.Denot). (s : FlexState) (x : Used) (to : ℕ) (m : State) → FlexStandsFor g.row.FLLEN g.row.SLLEN g.S.FlexSource.terms g.S.FlexSource.owes old s → Holds s.machine (non_zero_usize_get c.args.addr) x → x.align ≡ c.args.layout.align
     → Reallocates g.row.SLLEN s.machine (non_zero_usize_get c.args.addr) c.args.layout.size (Some to) m → c.move_payload.new.tlsf.memory.copied ≤ old.tlsf.memory.copied + (usable x).len)
     c.self.view_is (λ s x to m v holds aligned some.
-    let (u, stuck, is, none, stands) = full g (goal.at.returns-then-extend-clause-copied g c).In_default s v (x, holds, aligned) in
+    let (u, stuck, is, none, stands, still) = full g (goal.at.returns-then-extend-clause-copied g c).In_default s v (x, holds, aligned) in
     absurd (refused_move_alone v.machine.well_formed (non_zero_usize_get c.args.addr) c.args.layout.size c.args.layout.align to u m stuck is none some))
 
 pub returns-else-extend-clause-step : goal.returns-else-extend-clause-step
@@ -178,10 +180,10 @@ returns-else-extend-clause-step g c =
     let now = flex_contents c.self.inside.tlsf c.self.inside.kept c.self.inside.source in
     let new = flex_contents c.extend.new.tlsf c.extend.new.kept c.extend.new.source in
     subst (λ (old : FlexContents g.row.S.Denot). (s : FlexState) → FlexStandsFor g.row.FLLEN g.row.SLLEN g.S.FlexSource.terms g.S.FlexSource.owes old s → IsLive s.machine (non_zero_usize_get c.args.addr) c.args.layout.align
-    → FlexSteps g.row.FLLEN g.row.SLLEN g.S.FlexSource.terms g.S.FlexSource.owes g.S.FlexSource.leads old new (FlexReallocates g.row.FLLEN g.row.SLLEN (g.S.FlexSource.terms old.source) s (non_zero_usize_get c.args.addr) c.args.layout.size None))
+    → FlexSteps g.row.FLLEN g.row.SLLEN g.S.FlexSource.terms g.S.FlexSource.owes g.S.FlexSource.leads old new s (FlexReallocates g.row.FLLEN g.row.SLLEN (g.S.FlexSource.terms old.source) s (non_zero_usize_get c.args.addr) c.args.layout.size None))
     c.self.view_is (λ s v live.
-    let (u, stuck, is, none, stands) = full g (goal.at.returns-else-extend-clause-step g c).In_default s v live in
-    refused_too (non_zero_usize_get c.args.addr) c.args.layout.size c.args.layout.align now stuck is (nothing_more c.args.layout.size c.args.layout.align now none (sym c.in_ok-wanted.ensures) (c.if-extend.ensures.step s stands)))
+    let (u, stuck, is, none, stands, still) = full g (goal.at.returns-else-extend-clause-step g c).In_default s v live in
+    refused_too (non_zero_usize_get c.args.addr) c.args.layout.size c.args.layout.align now stuck is (nothing_more c.args.layout.size c.args.layout.align now none (sym c.in_ok-wanted.ensures) still (c.if-extend.ensures.step s stands)))
 
 pub returns-else-extend-clause-refused : goal.returns-else-extend-clause-refused
 returns-else-extend-clause-refused g c =
@@ -194,7 +196,7 @@ returns-else-extend-clause-touches g c =
     subst (λ (old : FlexContents g.row.S.Denot). (s : FlexState) (to : ℕ) (m : State) → FlexStandsFor g.row.FLLEN g.row.SLLEN g.S.FlexSource.terms g.S.FlexSource.owes old s → IsLive s.machine (non_zero_usize_get c.args.addr) c.args.layout.align
     → Reallocates g.row.SLLEN s.machine (non_zero_usize_get c.args.addr) c.args.layout.size (Some to) m → c.extend.new.tlsf.memory.touches ≤ old.tlsf.memory.touches + 66)
     c.self.view_is (λ s to m v live some.
-    let (u, stuck, is, none, stands) = full g (goal.at.returns-else-extend-clause-touches g c).In_default s v live in
+    let (u, stuck, is, none, stands, still) = full g (goal.at.returns-else-extend-clause-touches g c).In_default s v live in
     absurd (refused_move_alone v.machine.well_formed (non_zero_usize_get c.args.addr) c.args.layout.size c.args.layout.align to u m stuck is none some))
 
 pub returns-else-extend-clause-copied : goal.returns-else-extend-clause-copied
@@ -202,5 +204,5 @@ returns-else-extend-clause-copied g c =
     subst (λ (old : FlexContents g.row.S.Denot). (s : FlexState) (x : Used) (to : ℕ) (m : State) → FlexStandsFor g.row.FLLEN g.row.SLLEN g.S.FlexSource.terms g.S.FlexSource.owes old s → Holds s.machine (non_zero_usize_get c.args.addr) x → x.align ≡ c.args.layout.align
     → Reallocates g.row.SLLEN s.machine (non_zero_usize_get c.args.addr) c.args.layout.size (Some to) m → c.extend.new.tlsf.memory.copied ≤ old.tlsf.memory.copied + (usable x).len)
     c.self.view_is (λ s x to m v holds aligned some.
-    let (u, stuck, is, none, stands) = full g (goal.at.returns-else-extend-clause-copied g c).In_default s v (x, holds, aligned) in
+    let (u, stuck, is, none, stands, still) = full g (goal.at.returns-else-extend-clause-copied g c).In_default s v (x, holds, aligned) in
     absurd (refused_move_alone v.machine.well_formed (non_zero_usize_get c.args.addr) c.args.layout.size c.args.layout.align to u m stuck is none some))

@@ -1,0 +1,55 @@
+-- What leaves the bytes outside of the outstanding ranges.
+use Rattle.std.proofs.Common.{ℕ, ◌≤◌, Bool, List, arith, refl, ◌∙◌}
+use Rattle.rlsf_base.specs.declared.memory.range.Range.{Range}
+use Rattle.rlsf_base.specs.Space.{Space, SamePlace}
+use Rattle.rlsf_blocks.specs.Spare.{IsSpare, KeepsSpare}
+use Rattle.rlsf_flex.specs.Outside.{IsOutside, KeepsOutside}
+use Rattle.rlsf_flex.specs.StandsFor.{FlexContents, FlexStandsFor}
+use Rattle.rlsf_machine.specs.FlexState.{FlexState, with_machine}
+use Rattle.rlsf_machine.specs.Lists.{IsIn}
+use Rattle.rlsf_machine.specs.State.{State}
+use Rattle.rlsf_machine.specs.Terms.{Terms}
+use Rattle.rlsf_flex.proofs.Housing.{AreHoused, coverage-in}
+use Rattle.rlsf_flex.proofs.Rewritten.{IsFooted}
+
+-- a byte outside of the ranges that house all chunks is spare
+pub outside_spare : (pools : List Range) (s : State) → AreHoused pools s.chunks → (a : ℕ) → IsOutside pools a → IsSpare s a
+outside_spare pools s housed a none c i from to =
+    let (p, j, starts, ends) = housed c i in
+    omega (arith, coverage-in p pools a j (omega arith) (omega arith), none)
+
+pub KeepsOutside-refl : (m : Space) (pools : List Range) → KeepsOutside m pools m pools
+KeepsOutside-refl m pools = record { place = (refl, refl); only_more = λ a none. none; bytes = λ a low high none. refl }
+
+-- what keeps spare bytes keeps those outside of the ranges that house all chunks
+pub KeepsOutside-spare : (m n : Space) (s t : State) (before after : List Range) → AreHoused before s.chunks → AreHoused after t.chunks → ((a : ℕ) → IsOutside after a → IsOutside before a)
+    → SamePlace m n → KeepsSpare m s n t → KeepsOutside m before n after
+KeepsOutside-spare m n s t before after housed_before housed_after more place keeps = record {
+  place = place;
+  only_more = more;
+  bytes = λ a low high none. keeps a low high (outside_spare before s housed_before a (more a none)) (outside_spare after t housed_after a none);
+}
+
+-- so a step between states with the same ranges keeps them
+pub KeepsOutside-stands : {S : Type 0} {fllen sllen : ℕ} {terms : S → Terms} {owes : S → List Range → Type 0} {v w : FlexContents S} {s : FlexState} {m : State}
+    → FlexStandsFor fllen sllen terms owes v s → FlexStandsFor fllen sllen terms owes w (with_machine s m) → SamePlace v.tlsf.memory w.tlsf.memory → KeepsSpare v.tlsf.memory s.machine w.tlsf.memory m
+    → KeepsOutside v.tlsf.memory s.pools w.tlsf.memory s.pools
+KeepsOutside-stands {v = v} {w = w} {s = s} {m = m} before after place keeps =
+    KeepsOutside-spare v.tlsf.memory w.tlsf.memory s.machine m s.pools s.pools before.housed after.housed (λ a none. none) place keeps
+
+-- one after the other
+pub KeepsOutside-then : (m n o : Space) (first second third : List Range) → KeepsOutside m first n second → KeepsOutside n second o third → KeepsOutside m first o third
+KeepsOutside-then m n o first second third one two = record {
+  place = (two.place.0 ∙ one.place.0, two.place.1 ∙ one.place.1);
+  only_more = λ a none. one.only_more a (two.only_more a none);
+  bytes = λ a low high none. two.bytes a (omega (arith, one.place.0, low)) (omega (arith, one.place.0, one.place.1, high)) none ∙ one.bytes a low high (two.only_more a none);
+}
+
+-- a footer that is written lies in its range
+pub KeepsOutside-footed : (takes_back : Bool) (m n : Space) (r : Range) (start len : ℕ) (before after : List Range) → IsIn r after → 64 ≤ r.len → ((a : ℕ) → IsOutside after a → IsOutside before a)
+    → IsFooted takes_back m n r start len → KeepsOutside m before n after
+KeepsOutside-footed takes_back m n r start len before after i long more foot = record {
+  place = foot.place;
+  only_more = more;
+  bytes = λ a low high none. foot.bytes a low high (λ from to. absurd (omega (arith, coverage-in r after a i (omega arith) (omega arith), none)));
+}
