@@ -55,7 +55,7 @@ class Run:
 
     def __init__(self, config, source):
         self.config, self.source = config, source
-        self.flex = FlexMachine(*list_machine.CONFIGS[config], source)
+        self.flex = FlexMachine(*map(int, config.split("x")), source)
         self.lines, self.answers, self.names = [], [], {}
 
     def used(self, name):

@@ -2,6 +2,10 @@
 #![tactic(auto)]
 
 #[cfg(test)]
+mod calls;
+#[cfg(test)]
+mod originals;
+#[cfg(test)]
 mod refusals;
 #[cfg(test)]
 mod runs;

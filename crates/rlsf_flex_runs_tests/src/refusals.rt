@@ -13,8 +13,9 @@ use self::short_tables::{
 use self::tables::{
     GROWS_AND_TAKES_BACK_ANSWERS, GROWS_AND_TAKES_BACK_CALLS, GROWS_AND_TAKES_BACK_RUNS,
 };
+use crate::calls::{Call, op};
 use crate::sources::parts;
-use rlsf_base::memory::{Layout, LayoutError, Memory, Range};
+use rlsf_base::memory::{Memory, Range};
 use rlsf_flex::FlexTlsf;
 use rlsf_flex_runs::run_flex;
 use rlsf_listed::{Capabilities, ListedSource, Question, SourceAnswer};
@@ -22,17 +23,6 @@ use rlsf_text::{Answer, Op, TraceError};
 use std::alloc::{AllocError, Global};
 use std::num::NonZeroUsize;
 use std::test::Fail;
-
-/// A call of a run.
-#[derive(Clone, Copy)]
-enum Call {
-    /// A payload of this name is allocated, of so many bytes, with this alignment.
-    Alloc(usize, usize, usize),
-    /// It is given back.
-    Free(usize),
-    /// It gets this size.
-    Realloc(usize, usize),
-}
 
 /// What a source has to be asked, and what it has to answer: 0 for none.
 #[derive(Clone, Copy)]
@@ -56,16 +46,6 @@ struct Run {
     unknown: &'static [usize],
     /// What the source is asked, up to the end.
     asked: &'static [Asked],
-}
-
-fn op(call: Call) -> Result<Op, LayoutError> {
-    match call {
-        Call::Alloc(name, size, align) => {
-            Ok(Op::Alloc(name, Layout::from_size_align(size, align)?))
-        }
-        Call::Free(name) => Ok(Op::Free(name)),
-        Call::Realloc(name, size) => Ok(Op::Realloc(name, size)),
-    }
 }
 
 /// What a run has to answer to the op at a place.

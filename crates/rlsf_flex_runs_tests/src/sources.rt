@@ -1,6 +1,6 @@
 //! The memory and the sources of these tests.
 
-ghost use Rattle.std.specs.Prelude.{◌≡◌, [], length, IfOk};
+ghost use Rattle.std.specs.Prelude.{◌≡◌, [], length, IfOk, IfSome};
 ghost use Rattle.rlsf_base.specs.PowerOfTwo.{IsPowerOfTwo};
 ghost use Rattle.rlsf_base.specs.Range.{range_at};
 ghost use Rattle.rlsf_listed.specs.Listed.{MayOwe};
@@ -29,4 +29,21 @@ pub fn parts(
     };
     let source = ListedSource::new(alloc, space, capabilities, answers, ROOM)?;
     Ok((memory, source))
+}
+
+/// A memory of the space's bytes, and a source of all of it with these answers, which remembers so many questions; nothing where
+/// the machine refuses memory.
+pub fn parts_of(
+    alloc: Global,
+    space: Range,
+    capabilities: Capabilities,
+    answers: Vec<SourceAnswer>,
+    questions: usize,
+) -> Option<(Memory, ListedSource)>
+    requires { IsPowerOfTwo capabilities.min_align }
+    ensures { IfSome result (λ r. (r.0.start ≡ space.start) × (length r.0.bytes ≡ space.len) × (r.1.terms.space ≡ space) × MayOwe r.1 []) }
+{
+    let memory = Memory::new(alloc, space.start, space.len).ok()?;
+    let source = ListedSource::new(alloc, space, capabilities, answers, questions).ok()?;
+    Some((memory, source))
 }

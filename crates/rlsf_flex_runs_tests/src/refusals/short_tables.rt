@@ -1,6 +1,7 @@
 //! What each run answers and asks, as the list machine over a source computed it (`tables.py`).
 
-use super::{Asked, Call, Run};
+use super::{Asked, Run};
+use crate::calls::Call;
 use rlsf_base::memory::Range;
 use rlsf_listed::SourceAnswer;
 

@@ -1,0 +1,322 @@
+//! The original's tests of its allocator over sources, in its thirty configurations and over its two sources: fixed calls, and fixed
+//! lists of bytes that mean calls. What has to come of them are tables, as the list machine over a source computed them
+//! (`originals/tables.py`).
+
+mod asked;
+mod contiguous;
+mod lists;
+mod script;
+mod shapes;
+mod system;
+
+ghost use Rattle.rlsf_base.specs.SizeClass.{IsValid};
+
+use self::asked::{Asked, Source};
+use self::lists::{LIST_36, LIST_53, LIST_108, LIST_134, LIST_165, LIST_1241};
+use self::script::Script;
+use self::shapes::{
+    CHOICES, LIKE_1_BY_1, LIKE_3_BY_4, LIKE_5_BY_4, LIKE_8_BY_1, LIKE_8_BY_8, LIKE_11_BY_4,
+    LIKE_11_BY_16, LIKE_11_BY_32, LIKE_16_BY_4, LIKE_16_BY_16, LIKE_16_BY_32, LIKE_58_BY_8,
+    LIKE_59_BY_8,
+};
+use crate::calls::Call;
+use crate::sources::parts_of;
+use rlsf_flex::FlexTlsf;
+use rlsf_flex_runs::run_flex;
+use rlsf_int::Bitmap;
+use rlsf_listed::{ListedSource, Question, SourceAnswer};
+use rlsf_text::{Answer, Op};
+use std::alloc::Global;
+
+/// Where the spaces of the sources start.
+const START: usize = 65536;
+
+/// What has to come of a run.
+#[derive(Clone, Copy)]
+struct Outcome {
+    /// The address that each call answers which places a payload, less the space's start, or 0 where there is none.
+    placed: &'static [u32],
+    /// How many bytes the source is asked for, each time.
+    asked: &'static [u32],
+}
+
+/// Which of the outcomes each run has in some configurations.
+#[derive(Clone, Copy)]
+struct Choice {
+    system: [usize; RUNS],
+    contiguous: [usize; RUNS],
+}
+
+/// How many runs there are over a source.
+const RUNS: usize = 8;
+
+/// How many questions a source remembers.
+const QUESTIONS: usize = 128;
+
+/// The original's test `minimal`.
+static MINIMAL: [Call; 2] = [Call::Alloc(1, 1, 1), Call::Free(1)];
+
+/// The original's test `aadaadaraaadr`.
+static AADAADARAAADR: [Call; 13] = [
+    Call::Alloc(1, 20, 16),
+    Call::Alloc(2, 21, 1),
+    Call::Free(1),
+    Call::Alloc(3, 0, 32),
+    Call::Alloc(4, 10, 8),
+    Call::Free(2),
+    Call::Alloc(5, 12, 8),
+    Call::Realloc(3, 0),
+    Call::Alloc(6, 24, 2),
+    Call::Alloc(7, 11, 16),
+    Call::Alloc(8, 1, 32),
+    Call::Free(5),
+    Call::Realloc(3, 4),
+];
+
+/// Bytes that mean calls, and what else the original's test `random` is given: the first byte of the vector that is used, and a
+/// bound of sizes.
+#[derive(Clone, Copy)]
+struct List {
+    bytes: [u8; 160],
+    skipped: usize,
+    bound: usize,
+}
+
+/// What is done in a run.
+#[derive(Clone, Copy)]
+enum Calls {
+    Fixed(&'static [Call]),
+    Listed(&'static List),
+}
+
+/// The calls of the run at a place.
+fn calls_at(place: usize) -> Option<Calls> {
+    match place {
+        0 => Some(Calls::Fixed(&MINIMAL)),
+        1 => Some(Calls::Fixed(&AADAADARAAADR)),
+        2 => Some(Calls::Listed(&LIST_36)),
+        3 => Some(Calls::Listed(&LIST_134)),
+        4 => Some(Calls::Listed(&LIST_165)),
+        5 => Some(Calls::Listed(&LIST_1241)),
+        6 => Some(Calls::Listed(&LIST_53)),
+        7 => Some(Calls::Listed(&LIST_108)),
+        _ => None,
+    }
+}
+
+/// What comes of the run at a place over the system: in each configuration one of these.
+fn over_system(place: usize) -> &'static [Outcome] {
+    match place {
+        0 => &system::MINIMAL,
+        1 => &system::AADAADARAAADR,
+        2 => &system::LIST_36,
+        3 => &system::LIST_134,
+        4 => &system::LIST_165,
+        5 => &system::LIST_1241,
+        6 => &system::LIST_53,
+        _ => &system::LIST_108,
+    }
+}
+
+/// What comes of the run at a place over a vector: in each configuration one of these.
+fn over_contiguous(place: usize) -> &'static [Outcome] {
+    match place {
+        0 => &contiguous::MINIMAL,
+        1 => &contiguous::AADAADARAAADR,
+        2 => &contiguous::LIST_36,
+        3 => &contiguous::LIST_134,
+        4 => &contiguous::LIST_165,
+        5 => &contiguous::LIST_1241,
+        6 => &contiguous::LIST_53,
+        _ => &contiguous::LIST_108,
+    }
+}
+
+/// Names the type of an allocator. A proof knows that it fits in memory where a caller names it.
+type Shape<'a, FLBitmap, SLBitmap, const FLLEN: usize, const SLLEN: usize> = Option<
+    &'a FlexTlsf<ListedSource, FLBitmap, SLBitmap, FLLEN, SLLEN>,
+>;
+
+/// What is done in a run, and what has to be answered.
+fn script_of(alloc: Global, calls: Calls, placed: &[u32]) -> Option<Script> {
+    let mut script = Script::new(alloc, placed)?;
+    match calls {
+        Calls::Fixed(calls) => script.add_calls(calls)?,
+        Calls::Listed(list) => script.add_bytes(&list.bytes, list.bound)?,
+    }
+    Some(script)
+}
+
+/// What a run leaves over a source: what it answered, and the source.
+#[derive(Drop)]
+struct Left {
+    answers: Vec<Answer>,
+    source: ListedSource,
+}
+
+/// What ops leave; nothing where the machine refuses memory.
+fn left_by<FLBitmap: Bitmap, SLBitmap: Bitmap, const FLLEN: usize, const SLLEN: usize>(
+    alloc: Global,
+    source: Source,
+    given: Vec<SourceAnswer>,
+    ops: &[Op],
+    _shape: Shape<'_, FLBitmap, SLBitmap, FLLEN, SLLEN>,
+) -> Option<Left>
+    requires { IsValid FLBitmap.width SLBitmap.width FLLEN SLLEN }
+{
+    let (memory, source) = parts_of(
+        alloc,
+        source.space(),
+        source.capabilities(),
+        given,
+        QUESTIONS,
+    )?;
+    let mut flex = FlexTlsf::<_, FLBitmap, SLBitmap, FLLEN, SLLEN>::new(memory, source);
+    let mut answers = Vec::new(alloc);
+    run_flex(alloc, &mut flex, ops, &mut answers).ok()?;
+    let (_, source) = flex.into_parts();
+    Some(Left { answers, source })
+}
+
+/// A run, and what has to come of it.
+#[derive(Drop)]
+struct Plan {
+    source: Source,
+    script: Script,
+    asked: Asked,
+}
+
+/// The run with a number: with an even one over the system's allocator, and else over the vector.
+fn plan_of(alloc: Global, choice: usize, number: usize) -> Option<Plan> {
+    let place = number / 2;
+    let calls = calls_at(place)?;
+    let choice = CHOICES.get(choice)?;
+    let (source, outcome) = if number % 2 == 0 {
+        (
+            Source::System,
+            over_system(place).get(*choice.system.get(place)?)?,
+        )
+    } else {
+        let skipped = match calls {
+            Calls::Fixed(_) => 17,
+            Calls::Listed(list) => list.skipped,
+        };
+        let outcome = over_contiguous(place).get(*choice.contiguous.get(place)?)?;
+        (Source::Contiguous(skipped), outcome)
+    };
+    Some(Plan {
+        source,
+        script: script_of(alloc, calls, outcome.placed)?,
+        asked: Asked::new(alloc, source, outcome.asked)?,
+    })
+}
+
+/// Whether a run left what it has to.
+fn is_right(script: &Script, questions: &[Question], left: &Left) -> bool {
+    script.is_answered_by(&left.answers) && left.source.asked() == questions
+}
+
+/// Whether the run with a number goes as it has to; nothing where the machine refuses memory.
+fn goes_so<FLBitmap: Bitmap, SLBitmap: Bitmap, const FLLEN: usize, const SLLEN: usize>(
+    alloc: Global,
+    choice: usize,
+    number: usize,
+    shape: Shape<'_, FLBitmap, SLBitmap, FLLEN, SLLEN>,
+) -> Option<bool>
+    requires { IsValid FLBitmap.width SLBitmap.width FLLEN SLLEN }
+{
+    let Plan {
+        source,
+        script,
+        asked,
+    } = plan_of(alloc, choice, number)?;
+    let Asked { answers, questions } = asked;
+    let left = left_by(alloc, source, answers, &script.ops, shape)?;
+    Some(is_right(&script, &questions, &left))
+}
+
+/// The number of the first run that goes otherwise, or for which the machine refuses memory.
+fn first_wrong<FLBitmap: Bitmap, SLBitmap: Bitmap, const FLLEN: usize, const SLLEN: usize>(
+    alloc: Global,
+    choice: usize,
+    shape: Shape<'_, FLBitmap, SLBitmap, FLLEN, SLLEN>,
+) -> Option<usize>
+    requires { IsValid FLBitmap.width SLBitmap.width FLLEN SLLEN }
+{
+    for number in 0..2 * RUNS {
+        if goes_so(alloc, choice, number, shape) != Some(true) {
+            return Some(number);
+        }
+    }
+    None
+}
+
+#[test]
+fn few_classes(rt: HostRuntime) {
+    let alloc = rt.alloc();
+    let found = [
+        first_wrong::<u8, u8, 1, 1>(alloc, LIKE_1_BY_1, None),
+        first_wrong::<u8, u8, 1, 2>(alloc, LIKE_1_BY_1, None),
+        first_wrong::<u8, u8, 1, 4>(alloc, LIKE_1_BY_1, None),
+        first_wrong::<u8, u8, 1, 8>(alloc, LIKE_1_BY_1, None),
+        first_wrong::<u8, u8, 3, 4>(alloc, LIKE_3_BY_4, None),
+    ];
+    assert_eq!(rt; found, [None; 5]);
+}
+
+#[test]
+fn rows_of_8_bits(rt: HostRuntime) {
+    let alloc = rt.alloc();
+    let found = [
+        first_wrong::<u8, u8, 5, 4>(alloc, LIKE_5_BY_4, None),
+        first_wrong::<u8, u8, 8, 1>(alloc, LIKE_8_BY_1, None),
+        first_wrong::<u8, u8, 8, 8>(alloc, LIKE_8_BY_8, None),
+        first_wrong::<u16, u8, 3, 4>(alloc, LIKE_3_BY_4, None),
+        first_wrong::<u16, u8, 11, 4>(alloc, LIKE_11_BY_4, None),
+        first_wrong::<u16, u8, 16, 4>(alloc, LIKE_16_BY_4, None),
+    ];
+    assert_eq!(rt; found, [None; 6]);
+}
+
+#[test]
+fn rows_of_16_classes(rt: HostRuntime) {
+    let alloc = rt.alloc();
+    let found = [
+        first_wrong::<u16, u16, 3, 16>(alloc, LIKE_3_BY_4, None),
+        first_wrong::<u16, u16, 11, 16>(alloc, LIKE_11_BY_16, None),
+        first_wrong::<u16, u16, 16, 16>(alloc, LIKE_16_BY_16, None),
+        first_wrong::<u16, u32, 3, 16>(alloc, LIKE_3_BY_4, None),
+        first_wrong::<u16, u32, 11, 16>(alloc, LIKE_11_BY_16, None),
+        first_wrong::<u16, u32, 16, 16>(alloc, LIKE_16_BY_16, None),
+    ];
+    assert_eq!(rt; found, [None; 6]);
+}
+
+#[test]
+fn rows_of_32_classes(rt: HostRuntime) {
+    let alloc = rt.alloc();
+    let found = [
+        first_wrong::<u16, u32, 3, 32>(alloc, LIKE_3_BY_4, None),
+        first_wrong::<u16, u32, 11, 32>(alloc, LIKE_11_BY_32, None),
+        first_wrong::<u16, u32, 16, 32>(alloc, LIKE_16_BY_32, None),
+        first_wrong::<u32, u32, 20, 32>(alloc, LIKE_16_BY_32, None),
+        first_wrong::<u32, u32, 27, 32>(alloc, LIKE_16_BY_32, None),
+        first_wrong::<u32, u32, 28, 32>(alloc, LIKE_16_BY_32, None),
+        first_wrong::<u32, u32, 29, 32>(alloc, LIKE_16_BY_32, None),
+        first_wrong::<u32, u32, 32, 32>(alloc, LIKE_16_BY_32, None),
+    ];
+    assert_eq!(rt; found, [None; 8]);
+}
+
+#[test]
+fn most_rows(rt: HostRuntime) {
+    let alloc = rt.alloc();
+    let found = [
+        first_wrong::<u64, u64, 58, 8>(alloc, LIKE_58_BY_8, None),
+        first_wrong::<u64, u64, 59, 8>(alloc, LIKE_59_BY_8, None),
+        first_wrong::<u64, u64, 60, 8>(alloc, LIKE_59_BY_8, None),
+        first_wrong::<u64, u64, 61, 8>(alloc, LIKE_59_BY_8, None),
+        first_wrong::<u64, u64, 64, 8>(alloc, LIKE_59_BY_8, None),
+    ];
+    assert_eq!(rt; found, [None; 5]);
+}
