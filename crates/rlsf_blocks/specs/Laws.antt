@@ -3,7 +3,7 @@ use Rattle.std.specs.Prelude.{◌≡◌, ℕ, ◌<◌, ◌≤◌, ◌⊎◌, len
 use Rattle.rlsf_base.specs.Range.{end_of}
 use Rattle.rlsf_base.specs.Space.{Space, byte_at, bytes_in}
 use Rattle.rlsf_machine.specs.Lists.{IsIn}
-use Rattle.rlsf_machine.specs.State.{State, Used, usable}
+use Rattle.rlsf_machine.specs.State.{State, Used, usable, with_bytes}
 use Rattle.rlsf_table.specs.Table.{Table}
 use Rattle.rlsf_blocks.specs.StandsFor.{contents, StandsFor}
 
@@ -19,7 +19,7 @@ pub record DiffersInPayloads (m n : Space) (s : State) : Type 0 where
 
 -- the used block with the bytes that a memory has in its payload
 abbrev pub with_bytes_of : Space → Used → Used
-with_bytes_of n u = record { block = u.block; payload = u.payload; align = u.align; bytes = bytes_in n (usable u) }
+with_bytes_of n u = with_bytes u (bytes_in n (usable u))
 
 -- the state with the bytes that a memory has in its payloads
 abbrev pub read_from : Space → State → State

@@ -1,6 +1,5 @@
 -- A payload moves into a block that is allocated for it: its bytes are copied there, and its old block is given back.
-use Rattle.std.proofs.Common.{◌≡◌, ◌≢◌, ℕ, ◌≤◌, List, ◌∷◌, Some, cond, not, length, min, take, drop, arith, inl, inr, refl, sym, ◌∙◌, ap, subst}
-use Rattle.std.proofs.lemmas.Bool.{eq-eqb}
+use Rattle.std.proofs.Common.{◌≡◌, ℕ, ◌≤◌, List, Some, length, min, take, drop, arith, inl, inr, refl, sym, ◌∙◌, ap, subst}
 use Rattle.std.proofs.lemmas.List.{length-append, take_all, take_at}
 use Rattle.rlsf_base.specs.PowerOfTwo.{IsPowerOfTwo}
 use Rattle.rlsf_base.specs.Space.{range_of, SamePlace}
@@ -11,10 +10,9 @@ use Rattle.rlsf_machine.specs.Lists.{IsIn}
 use Rattle.rlsf_machine.specs.Reallocate.{Keeps, MovesAway}
 use Rattle.rlsf_machine.specs.Release.{Deallocates}
 use Rattle.rlsf_machine.specs.Run.{Fills, allocate, deallocate, fill}
-use Rattle.rlsf_machine.specs.State.{State, Used, usable, with_front, others, Holds, HasFront, IsLive}
+use Rattle.rlsf_machine.specs.State.{State, Used, usable, with_front, Holds, HasFront, IsLive}
 use Rattle.rlsf_machine.proofs.Changes.{Holds-unique}
-use Rattle.rlsf_machine.proofs.Live.{allocation_has_size, handed_out_is_new, other_payloads_stay}
-use Rattle.rlsf_machine.proofs.Payloads.{others-none}
+use Rattle.rlsf_machine.proofs.Live.{allocated_filled, allocation_has_size, other_payloads_stay}
 use Rattle.rlsf_blocks.proofs.Machine.SpareBytes.{KeepsSpare-trans}
 
 -- a list with the whole of a shorter one in front keeps it
@@ -38,10 +36,6 @@ module _ {fllen sllen : ℕ} {v w : Contents} {s t : State} (stands : StandsFor 
   pub Holds-new : Holds t to new
   Holds-new = subst (λ x. Holds x to new) (sym step.after) (inl refl, sym step.answer)
 
-  -- no used block was at its address
-  new_alone : (x : Used) → IsIn x s.used → x.payload ≢ to
-  new_alone x i at = (handed_out_is_new fllen sllen (range_of v.memory) s t size align to stands.well_formed power step).0 x.align (x, (i, at), refl)
-
   -- the old one is used still
   pub Holds-old : Holds t addr u
   Holds-old = (other_payloads_stay fllen sllen s t (allocate size align (Some to)) u step holds.0 (λ none. none), holds.1)
@@ -62,17 +56,8 @@ module _ {fllen sllen : ℕ} {v w : Contents} {s t : State} (stands : StandsFor 
     same : fills.block ≡ new
     same = Holds-unique now.well_formed to fills.block new fills.holds Holds-new
 
-    others-new : others to t.used ≡ s.used
-    others-new =
-        ap (λ x. others to x.used) step.after ∙ ap (λ b. cond (not b) (new ∷ others to s.used) (others to s.used)) (eq-eqb new.payload to (sym step.answer))
-        ∙ others-none to s.used new_alone
-
     filled : r ≡ given sllen s step.range (placed step.range size align bytes)
-    filled = fills.after ∙ (λ k. record {
-      chunks = (step.after k).chunks;
-      used = record { block = (same k).block; payload = (same k).payload; align = (same k).align; bytes = bytes } ∷ others-new k;
-      free = (step.after k).free;
-    })
+    filled = allocated_filled stands.well_formed power step fills
 
     pub Places-filled : Places sllen s size align to r
     Places-filled = record {

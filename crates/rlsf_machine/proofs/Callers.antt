@@ -9,11 +9,12 @@ use Rattle.rlsf_machine.specs.Laws.{CallersSeeMap, Gives, PayloadIsInBlock}
 use Rattle.rlsf_machine.specs.Lists.{IsIn}
 use Rattle.rlsf_machine.specs.Reallocate.{Plan, plan, moved, ReallocatesBy}
 use Rattle.rlsf_machine.specs.Run.{Event, insert, append, allocate, deallocate, reallocate, fill, Leads, MayCall, Names}
-use Rattle.rlsf_machine.specs.State.{State, Used, Holds, others}
+use Rattle.rlsf_machine.specs.State.{State, Used, Holds, others, with_bytes}
 use Rattle.rlsf_machine.specs.WellFormed.{IsWellFormed}
 use Rattle.rlsf_machine.proofs.Changes.{Holds-unique, IsIn-others}
 use Rattle.rlsf_machine.proofs.Coverage.{find-some, find-none}
 use Rattle.rlsf_machine.proofs.Determined.{refusal_changes_nothing}
+use Rattle.rlsf_machine.proofs.Fillings.{filled_holds}
 use Rattle.rlsf_machine.proofs.Live.{allocation_has_size, handed_out_is_new, other_payloads_stay, reallocated_is_live, reallocation_keeps_bytes, released_is_not_live, used_was_used}
 use Rattle.rlsf_machine.proofs.Steps.{steps_keep_well_formed}
 
@@ -132,10 +133,9 @@ callers_see_map fllen sllen memory s t (reallocate addr size (Some to)) w may st
 callers_see_map fllen sllen memory s t (fill addr bytes) w may step =
     let u = step.block in
     let wt = steps_keep_well_formed fllen sllen memory s t (fill addr bytes) w may step in
-    let v : Used = record { block = u.block; payload = u.payload; align = u.align; bytes = bytes } in
-    let now : Holds t addr v = (subst (λ (x : State). IsIn v x.used) (sym step.after) (inl refl), step.holds.1) in (
+    let v = with_bytes u bytes in (
       payload_in u,
       payload_at-held w addr u step.holds,
       step.length,
-      changed w t (fill addr bytes) may step addr (Some (payload_in v)) (payload_at-held wt addr v now) (λ a apart names. apart (sym names)) (λ a apart bad. bad),
+      changed w t (fill addr bytes) may step addr (Some (payload_in v)) (payload_at-held wt addr v (filled_holds step)) (λ a apart names. apart (sym names)) (λ a apart bad. bad),
     )

@@ -1,5 +1,5 @@
 -- How many ranges of a list have an address.
-use Rattle.std.proofs.Common.{◌≡◌, ℕ, ◌+◌, ◌<◌, ◌≤◌, ◌⊎◌, Bool, true, false, cond, ◌&&◌, ltb, find, true≢false, List, [], ◌∷◌, ◌++◌, Some, None, arith, refl, sym, ◌∙◌, ap, subst, inl, inr}
+use Rattle.std.proofs.Common.{◌≡◌, ℕ, ◌+◌, ◌<◌, ◌≤◌, ◌⊎◌, Bool, true, false, cond, ◌&&◌, ltb, find, map, true≢false, List, [], ◌∷◌, ◌++◌, Some, None, arith, refl, sym, ◌∙◌, ap, subst, inl, inr}
 use Rattle.std.proofs.lemmas.Bool.{cases_lt, le-leb, lt-leb, lt-ltb, le-ltb}
 use Rattle.rlsf_base.specs.declared.memory.range.Range.{Range}
 use Rattle.rlsf_base.specs.Range.{end_of}
@@ -95,6 +95,21 @@ IsIn-append_right x (y ∷ xs) ys h = inr (IsIn-append_right x xs ys h)
 
 pub IsIn-append_swap : {A : Type 0} (x : A) (xs ys : List A) → IsIn x (xs ++ ys) → IsIn x (ys ++ xs)
 IsIn-append_swap x xs ys h = elim (IsIn-append x xs ys h) [ inl l ↦ IsIn-append_right x ys xs l | inr r ↦ IsIn-append_left x ys xs r ]
+
+pub IsIn-map : {A B : Type 0} (f : A → B) (x : A) (xs : List A) → IsIn x xs → IsIn (f x) (map f xs)
+IsIn-map f x [] i = absurd i
+IsIn-map f x (y ∷ ys) (inl same) = inl (ap f same)
+IsIn-map f x (y ∷ ys) (inr i) = inr (IsIn-map f x ys i)
+
+pub IsIn-map_from : {A B : Type 0} (f : A → B) (y : B) (xs : List A) → IsIn y (map f xs) → (x : A) × IsIn x xs × (y ≡ f x)
+IsIn-map_from f y [] i = absurd i
+IsIn-map_from f y (x ∷ xs) (inl same) = (x, inl refl, same)
+IsIn-map_from f y (x ∷ xs) (inr i) = let (z, j, is) = IsIn-map_from f y xs i in (z, inr j, is)
+
+-- functions that agree on the elements make one list of them
+pub map-same : {A B : Type 0} (f g : A → B) (xs : List A) → ((x : A) → IsIn x xs → f x ≡ g x) → map f xs ≡ map g xs
+map-same f g [] same = refl
+map-same f g (x ∷ xs) same = λ k. same x (inl refl) k ∷ map-same f g xs (λ y i. same y (inr i)) k
 
 pub IsIn-without : {A : Type 0} (p : A → Bool) (x : A) (xs : List A) → IsIn x (without p xs) → IsIn x xs
 IsIn-without p x [] h = h

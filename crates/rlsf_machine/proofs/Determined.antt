@@ -56,10 +56,6 @@ module _ {fllen sllen : ℕ} {memory : Range} {s : State} (w : IsWellFormed flle
   Deallocates-determined : (t t' : State) (addr : ℕ) → Deallocates s addr t → Deallocates s addr t' → t ≡ t'
   Deallocates-determined t t' addr a b = a.after ∙ ap (released s) (Holds-unique w addr a.block b.block a.holds b.holds) ∙ sym b.after
 
-  Fills-determined : (t t' : State) (addr : ℕ) (bytes : List ℕ) → Fills s addr bytes t → Fills s addr bytes t' → t ≡ t'
-  Fills-determined t t' addr bytes a b =
-      a.after ∙ ap (λ u. record { chunks = s.chunks; used = record { block = u.block; payload = u.payload; align = u.align; bytes = bytes } ∷ others addr s.used; free = s.free }) (Holds-unique w addr a.block b.block a.holds b.holds) ∙ sym b.after
-
   ReallocatesBy-determined : (t t' : State) (u : Used) → IsIn u s.used → (size : ℕ) (o : Option Plan) (m n : Option ℕ) → ReallocatesBy sllen s u size o m t → ReallocatesBy sllen s u size o n t' → (m ≡ n) × AreAlike t t'
   ReallocatesBy-determined t t' u h size (Some p) None n a b = absurd a
   ReallocatesBy-determined t t' u h size (Some p) (Some x) None a b = absurd b
@@ -98,7 +94,8 @@ steps_are_determined fllen sllen memory s t t' (reallocate addr size m) (realloc
     let d = Reallocates-determined w t t' addr size m n a (subst (λ x. Reallocates sllen s x size n t') (sym same) (subst (λ y. Reallocates sllen s addr' y n t') (sym same') b)) in
     (ap₂ (λ x y. reallocate x y m) same same' ∙ ap (reallocate addr' size') d.0, d.1)
 steps_are_determined fllen sllen memory s t t' (fill addr bytes) (fill addr' bytes') w a b (same, same') =
-    (ap₂ fill same same', alike (Fills-determined w t t' addr bytes a (subst (λ x. Fills s x bytes t') (sym same) (subst (λ y. Fills s addr' y t') (sym same') b))))
+    let b' = subst (λ x. Fills s x bytes t') (sym same) (subst (λ y. Fills s addr' y t') (sym same') b) in
+    (ap₂ fill same same', alike (a.after ∙ sym b'.after))
 steps_are_determined fllen sllen memory s t t' e e' w a b same = absurd same
 
 -- ---- refusals

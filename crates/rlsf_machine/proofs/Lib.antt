@@ -12,6 +12,7 @@ pub mod Coverage
 pub mod Cuts
 pub mod Determined
 pub mod Examples
+pub mod Fillings
 pub mod Growths
 pub mod Insertions
 pub mod Joins

@@ -5,18 +5,19 @@ use Rattle.rlsf_base.specs.declared.memory.range.Range.{Range}
 use Rattle.rlsf_base.specs.PowerOfTwo.{IsPowerOfTwo}
 use Rattle.rlsf_base.specs.Range.{end_of}
 use Rattle.rlsf_base.specs.Sizes.{request_size}
-use Rattle.rlsf_machine.specs.Allocate.{placed, Places, Allocates}
+use Rattle.rlsf_machine.specs.Allocate.{placed, given, Places, Allocates}
 use Rattle.rlsf_machine.specs.Laws.{LiveAddressesAreAligned, LiveAddressHasOneBlock, PayloadsAreDisjoint, PayloadLiesInOneChunk, HasSize, AllocationHasSize, ReallocationHasSize, ReallocationKeepsBytes, OtherPayloadsStay, UsedWasUsed, HandedOutIsNew, ReallocatedIsLive, LiveStays, ReleasedIsNotLive, FilledHasBytes, FillLeavesOthers, DeallocationLeavesOthers}
 use Rattle.rlsf_machine.specs.Lists.{IsIn}
 use Rattle.rlsf_machine.specs.Reallocate.{Keeps, Plan, plan, moved, ReallocatesBy, Reallocates}
-use Rattle.rlsf_machine.specs.Run.{insert, append, allocate, deallocate, reallocate, fill, Names}
-use Rattle.rlsf_machine.specs.State.{State, Used, Holds, IsLive, usable, others}
+use Rattle.rlsf_machine.specs.Run.{insert, append, allocate, deallocate, reallocate, fill, Fills, Names}
+use Rattle.rlsf_machine.specs.State.{State, Used, Holds, IsLive, usable, others, filled, with_bytes}
 use Rattle.rlsf_machine.specs.WellFormed.{covers, coverage, itself, IsUsed, IsWellFormed}
 use Rattle.rlsf_machine.proofs.Allocations.{placed-fits, IsUsed-placed}
 use Rattle.rlsf_machine.proofs.Changes.{Holds-unique, IsIn-others, IsIn-others_from}
 use Rattle.rlsf_machine.proofs.Choices.{choice-some}
 use Rattle.rlsf_machine.proofs.Chunks.{used-inserted, used-appended}
 use Rattle.rlsf_machine.proofs.Coverage.{by_test, inside, before, behind, where_is, covers-inside, covers-le, coverage-IsIn, coverage-unique}
+use Rattle.rlsf_machine.proofs.Fillings.{filled_at-none, filled_if-here, IsIn-filled_other, IsIn-filled_other_from, filled_holds}
 use Rattle.rlsf_machine.proofs.Plans.{IsSoundPlan, IsSound-plan}
 use Rattle.rlsf_machine.proofs.Payloads.{payload_of-after, IsUsed-aligned, IsUsed-after_start, IsUsed-some}
 use Rattle.rlsf_machine.proofs.Tiling.{block_of, tiling_of, used-le, blocks-le, lies_in_chunk, IsPart-used}
@@ -138,6 +139,17 @@ handed_out_is_new fllen sllen memory s t size align addr w power step = (
   (λ old (u, (i, at), is). new_address w size align addr t power step u i at),
   (placed step.range size align step.bytes, Holds-placed w size align addr t power step, refl),
 )
+
+-- a fill of a payload that was just handed out is an allocation with other bytes
+pub allocated_filled : {fllen sllen : ℕ} {memory : Range} {s t x : State} {size align addr : ℕ} {bytes : List ℕ} → IsWellFormed fllen sllen memory s → IsPowerOfTwo align
+    → (places : Places sllen s size align addr t) → Fills t addr bytes x → x ≡ given sllen s places.range (placed places.range size align bytes)
+allocated_filled {sllen = sllen} {s = s} {t = t} {size = size} {align = align} {addr = addr} {bytes = bytes} w power places step =
+    let now = given sllen s places.range (placed places.range size align bytes) in
+    step.after ∙ ap (λ y. filled y addr bytes) places.after ∙ (λ k. record {
+      chunks = now.chunks;
+      used = filled_if-here addr bytes (placed places.range size align places.bytes) (sym places.answer) k ∷ filled_at-none addr bytes s.used (new_address w size align addr t power places) k;
+      free = now.free;
+    })
 
 -- ---- what a reallocation hands out
 
@@ -261,7 +273,7 @@ other_payloads_stay fllen sllen s t (append r reply) u step i apart = subst (IsI
 other_payloads_stay fllen sllen s t (allocate size align reply) u step i apart = allocate_stays u s t i sllen size align reply step
 other_payloads_stay fllen sllen s t (deallocate addr) u step i apart = stays_at u s t i step.after (others_stay u s t i addr step.block step.holds apart)
 other_payloads_stay fllen sllen s t (reallocate addr size reply) u step i apart = reallocate_stays u s t i sllen addr size step.block step.holds apart (plan s step.block size) reply step.step
-other_payloads_stay fllen sllen s t (fill addr bytes) u step i apart = stays_at u s t i step.after (inr (IsIn-others_from addr u s.used i (λ at. apart (sym at))))
+other_payloads_stay fllen sllen s t (fill addr bytes) u step i apart = stays_at u s t i step.after (IsIn-filled_other addr bytes u s.used i (λ at. apart (sym at)))
 
 pub live_stays : LiveStays
 live_stays fllen sllen s t e addr align step (u, (i, at), is) apart = (u, (other_payloads_stay fllen sllen s t e u step i (λ names. apart (subst (Names e) at names)), at), is)
@@ -300,29 +312,25 @@ used_was_used fllen sllen s t (allocate size align reply) u step i other new = a
 used_was_used fllen sllen s t (deallocate addr) u step i other new = (IsIn-others step.block.payload u s.used (subst (λ x. IsIn u x.used) step.after i)).0
 used_was_used fllen sllen s t (reallocate addr size reply) u step i other new = reallocate_from u s t i sllen size step.block (plan s step.block size) reply new step.step
 used_was_used fllen sllen s t (fill addr bytes) u step i other new =
-    (IsIn-others addr u s.used (from_rest u s t i _ (others addr s.used) (ap (λ x. x.used) step.after) (λ at. other (sym step.holds.1 ∙ at)))).0
+    IsIn-filled_other_from addr bytes u s.used (subst (λ x. IsIn u x.used) step.after i) (λ at. other (sym at))
 
 -- ---- what a fill and a deallocation leave
 
 pub filled_has_bytes : FilledHasBytes
 filled_has_bytes fllen sllen memory s t addr align bytes w (u, held, is) step =
     let same : step.block ≡ u = Holds-unique w addr step.block u step.holds held in
-    let v : Used = record { block = step.block.block; payload = step.block.payload; align = step.block.align; bytes = bytes } in
-    let now : Holds t addr v = (subst (λ x. IsIn v x.used) (sym step.after) (inl refl), step.holds.1) in
-    ((v, now, ap (λ x. x.align) same ∙ is), (v, now, refl))
+    let v = with_bytes step.block bytes in
+    ((v, filled_holds step, ap (λ x. x.align) same ∙ is), (v, filled_holds step, refl))
 
 pub fill_leaves_others : FillLeavesOthers
 fill_leaves_others s t addr bytes step = (
   ap (λ x. x.chunks) step.after,
   ap (λ x. x.free) step.after,
   λ u apart. (
-    λ i. stays_at u s t i step.after (inr (IsIn-others_from addr u s.used i apart)),
-    λ i. elim (was u i) [ inl is ↦ absurd (apart (ap (λ x. x.payload) is ∙ step.holds.1)) | inr j ↦ (IsIn-others addr u s.used j).0 ],
+    λ i. stays_at u s t i step.after (IsIn-filled_other addr bytes u s.used i apart),
+    λ i. IsIn-filled_other_from addr bytes u s.used (subst (λ x. IsIn u x.used) step.after i) apart,
   ),
 )
-  where
-    was : (u : Used) → IsIn u t.used → (u ≡ record { block = step.block.block; payload = step.block.payload; align = step.block.align; bytes = bytes }) ⊎ IsIn u (others addr s.used)
-    was u i = subst (λ x. IsIn u x.used) step.after i
 
 pub deallocation_leaves_others : DeallocationLeavesOthers
 deallocation_leaves_others s t addr step = (

@@ -1,5 +1,5 @@
 -- The order of chunks and of used blocks means nothing.
-use Rattle.std.proofs.Common.{◌≡◌, ◌↔◌, ℕ, zero, suc, ◌+◌, ◌-◌, ◌*◌, ◌/◌, Bool, true, false, cond, not, eqb, filter, List, [], ◌∷◌, Option, Some, None, find, true≢false, arith, refl, sym, ◌∙◌, ap, subst, inl, inr}
+use Rattle.std.proofs.Common.{◌≡◌, ◌↔◌, ℕ, zero, suc, ◌+◌, ◌-◌, ◌*◌, ◌/◌, Bool, true, false, cond, not, eqb, filter, map, List, [], ◌∷◌, Option, Some, None, find, true≢false, arith, refl, sym, ◌∙◌, ap, subst, inl, inr}
 use Rattle.std.proofs.lemmas.Bool.{eqb-true}
 use Rattle.rlsf_base.specs.declared.memory.range.Range.{Range}
 use Rattle.rlsf_base.specs.Range.{end_of, range_at}
@@ -12,11 +12,11 @@ use Rattle.rlsf_machine.specs.Lists.{IsIn, without}
 use Rattle.rlsf_machine.specs.Reallocate.{Plan, plan, moved, replanned, ReallocatesBy}
 use Rattle.rlsf_machine.specs.Release.{released, Deallocates}
 use Rattle.rlsf_machine.specs.Run.{insert, append, allocate, deallocate, reallocate, fill, Fills}
-use Rattle.rlsf_machine.specs.State.{State, Used, IsReordered, others}
+use Rattle.rlsf_machine.specs.State.{State, Used, IsReordered, others, filled_if, filled}
 use Rattle.rlsf_machine.specs.WellFormed.{covers, itself, IsWellFormed}
 use Rattle.rlsf_machine.proofs.Allocations.{Allocates-keeps}
 use Rattle.rlsf_machine.proofs.Chunks.{used-inserted, used-appended}
-use Rattle.rlsf_machine.proofs.Coverage.{by_test, covers-inside, coverage-IsIn, coverage-unique, coverage-without, find-some, find-none, IsIn-without, IsIn-without_other}
+use Rattle.rlsf_machine.proofs.Coverage.{by_test, covers-inside, coverage-IsIn, coverage-unique, coverage-without, find-some, find-none, IsIn-map, IsIn-map_from, IsIn-without, IsIn-without_other}
 
 -- ---- lists with the same elements
 
@@ -48,6 +48,12 @@ HasSame-filter p xs ys same x = (
   (λ h. let (i, e) = IsIn-filter p x xs h in IsIn-filter_from p x ys ((same x).0 i) e),
   (λ h. let (i, e) = IsIn-filter p x ys h in IsIn-filter_from p x xs ((same x).1 i) e),
 )
+
+HasSame-map : {A B : Type 0} (f : A → B) (xs ys : List A) → HasSame xs ys → HasSame (map f xs) (map f ys)
+HasSame-map {A} {B} f xs ys same y = (through xs ys (λ x. (same x).0), through ys xs (λ x. (same x).1))
+  where
+    through : (ks ls : List A) → ((x : A) → IsIn x ks → IsIn x ls) → IsIn y (map f ks) → IsIn y (map f ls)
+    through ks ls goes i = let (x, j, is) = IsIn-map_from f y ks i in subst (λ z. IsIn z (map f ls)) (sym is) (IsIn-map f x ls (goes x j))
 
 HasSame-others : (addr : ℕ) (xs ys : List Used) → HasSame xs ys → HasSame (others addr xs) (others addr ys)
 HasSame-others addr = HasSame-filter (λ u. not (eqb u.payload addr))
@@ -176,14 +182,11 @@ module _ {fllen sllen : ℕ} {memory : Range} {s s' : State} (w : IsWellFormed f
       )
 
   fill-reordered : (addr : ℕ) (bytes : List ℕ) (t : State) → Fills s addr bytes t → Also (Fills s' addr bytes) t
-  fill-reordered addr bytes t step =
-      let u = step.block in
-      let v : Used = record { block = u.block; payload = u.payload; align = u.align; bytes = bytes } in
-      let t' : State = record { chunks = s'.chunks; used = v ∷ others addr s'.used; free = s'.free } in (
-        t',
-        record { block = u; holds = ((r.used u).0 step.holds.0, step.holds.1); length = step.length; after = refl },
-        at_first step.after t' (record { chunks = r.chunks; used = HasSame-cons v (others addr s.used) (others addr s'.used) (HasSame-others addr s.used s'.used r.used); free = r.free }),
-      )
+  fill-reordered addr bytes t step = (
+    filled s' addr bytes,
+    record { block = step.block; holds = ((r.used step.block).0 step.holds.0, step.holds.1); length = step.length; after = refl },
+    at_first step.after (filled s' addr bytes) (record { chunks = r.chunks; used = HasSame-map (filled_if addr bytes) s.used s'.used r.used; free = r.free }),
+  )
 
 module _ {fllen sllen : ℕ} {memory : Range} {s s' : State} (w : IsWellFormed fllen sllen memory s) (w' : IsWellFormed fllen sllen memory s') (r : IsReordered s s') where
   reallocate-reordered : (u : Used) → IsIn u s.used → (size : ℕ) (o : Option Plan) (n : Option ℕ) (t : State) → ReallocatesBy sllen s u size o n t → (t' : State) × ReallocatesBy sllen s' u size o n t' × IsReordered t t'

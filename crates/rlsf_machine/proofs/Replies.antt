@@ -1,12 +1,12 @@
 -- Each call that its caller may make has a reply and a state after.
-use Rattle.std.proofs.Common.{◌∷◌, refl}
+use Rattle.std.proofs.Common.{refl}
 use Rattle.rlsf_base.specs.Sizes.{max_pool_size}
 use Rattle.rlsf_machine.specs.Insert.{cut, aligned_part, bytes_taken, with_chunks, appended, appended_bytes}
 use Rattle.rlsf_machine.specs.Laws.{EachCallAnswers}
 use Rattle.rlsf_machine.specs.Reallocate.{plan}
 use Rattle.rlsf_machine.specs.Release.{released}
 use Rattle.rlsf_machine.specs.Run.{insert, append, allocate, deallocate, reallocate, fill}
-use Rattle.rlsf_machine.specs.State.{others}
+use Rattle.rlsf_machine.specs.State.{filled}
 use Rattle.rlsf_machine.proofs.Examples.{planned_reply, planned_after, planned_step}
 use Rattle.rlsf_machine.proofs.Room.{allocation_answers}
 
@@ -30,7 +30,7 @@ each_call_answers fllen sllen memory s (reallocate addr size reply) (u, holds) w
 )
 each_call_answers fllen sllen memory s (fill addr bytes) may (u, holds, length) = (
   fill addr bytes,
-  record { chunks = s.chunks; used = record { block = u.block; payload = u.payload; align = u.align; bytes = bytes } ∷ others addr s.used; free = s.free },
+  filled s addr bytes,
   (refl, refl),
   record { block = u; holds = holds; length = length; after = refl },
 )

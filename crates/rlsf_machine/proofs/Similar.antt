@@ -1,6 +1,6 @@
 -- From similar states the same call has the same reply, and leads to similar states.
 use mathlib.Core.Path.{ap₂}
-use Rattle.std.proofs.Common.{◌≡◌, ℕ, not, eqb, map, List, [], ◌∷◌, Option, Some, None, refl, sym, ◌∙◌, ap, subst, inl, inr}
+use Rattle.std.proofs.Common.{◌≡◌, ℕ, not, eqb, map, List, [], ◌∷◌, Option, Some, None, refl, sym, ◌∙◌, ap, subst}
 use Rattle.rlsf_base.specs.declared.memory.range.Range.{Range}
 use Rattle.rlsf_base.specs.Sizes.{request_size}
 use Rattle.rlsf_machine.specs.Allocate.{choice, placed, given, Allocates}
@@ -11,26 +11,16 @@ use Rattle.rlsf_machine.specs.Lists.{IsIn}
 use Rattle.rlsf_machine.specs.Payload.{payload_of}
 use Rattle.rlsf_machine.specs.Reallocate.{Plan, plan, moved, ReallocatesBy, Reallocates}
 use Rattle.rlsf_machine.specs.Release.{Deallocates}
-use Rattle.rlsf_machine.specs.Run.{insert, append, allocate, deallocate, reallocate, fill, Fills}
-use Rattle.rlsf_machine.specs.State.{State, Used, Shape, shape_of, Holds, AreSimilar, others}
+use Rattle.rlsf_machine.specs.Run.{insert, append, allocate, deallocate, reallocate, fill}
+use Rattle.rlsf_machine.specs.State.{State, Used, Shape, shape_of, Holds, AreAlike, AreSimilar, others}
 use Rattle.rlsf_machine.specs.WellFormed.{IsWellFormed}
 use Rattle.rlsf_machine.proofs.Allocations.{Allocates-keeps}
 use Rattle.rlsf_machine.proofs.Changes.{Holds-unique}
 use Rattle.rlsf_machine.proofs.Chunks.{used-inserted, used-appended}
+use Rattle.rlsf_machine.proofs.Coverage.{IsIn-map, IsIn-map_from}
 use Rattle.rlsf_machine.proofs.Determined.{other_shapes, map-others}
+use Rattle.rlsf_machine.proofs.Fillings.{AreAlike-filled}
 use Rattle.rlsf_machine.proofs.Orders.{HasSame, HasSame-cons, HasSame-filter, HasSameRanges, HasSameRanges-inserted, HasSameRanges-appended}
-
--- ---- elements of mapped lists
-
-IsIn-map : {A B : Type 0} (f : A → B) (x : A) (xs : List A) → IsIn x xs → IsIn (f x) (map f xs)
-IsIn-map f x [] i = absurd i
-IsIn-map f x (y ∷ ys) (inl same) = inl (ap f same)
-IsIn-map f x (y ∷ ys) (inr i) = inr (IsIn-map f x ys i)
-
-IsIn-map_from : {A B : Type 0} (f : A → B) (y : B) (xs : List A) → IsIn y (map f xs) → (x : A) × IsIn x xs × (y ≡ f x)
-IsIn-map_from f y [] i = absurd i
-IsIn-map_from f y (x ∷ xs) (inl same) = (x, inl refl, same)
-IsIn-map_from f y (x ∷ xs) (inr i) = let (z, j, is) = IsIn-map_from f y xs i in (z, inr j, is)
 
 -- ---- used blocks with the same shapes
 
@@ -101,27 +91,13 @@ module _ {s s' : State} (r : AreSimilar s s') where
       AreSimilar-at a.after b.after
       (subst (λ h. AreSimilar (released_at s (shape_of a.block)) (released_at s' h)) same (released_at-similar (shape_of a.block)))
 
-  -- the state with a used block of some shape in place of the one at an address
-  replaced_at : State → ℕ → Shape → List ℕ → State
-  replaced_at x addr h bytes =
-      let v : Used = record { block = h.block; payload = h.payload; align = h.align; bytes = bytes } in
-      record { chunks = x.chunks; used = v ∷ others addr x.used; free = x.free }
-
-  replaced_at-similar : (addr : ℕ) (h : Shape) (old new : List ℕ) → AreSimilar (replaced_at s addr h old) (replaced_at s' addr h new)
-  unfolding replaced_at
-  replaced_at-similar addr h old new = record {
-    chunks = r.chunks;
-    used = HasSame-cons h (map shape_of (others addr s.used)) (map shape_of (others addr s'.used)) (HasSameShapes-others addr s.used s'.used r.used);
-    free = r.free;
+  -- states that differ from these in bytes alone are similar too
+  AreSimilar-alike : {t t' : State} → AreAlike s t → AreAlike s' t' → AreSimilar t t'
+  AreSimilar-alike {t} {t'} a b = record {
+    chunks = subst (λ l. HasSame l t'.chunks) a.chunks (subst (HasSame s.chunks) b.chunks r.chunks);
+    used = subst (λ l. HasSame l (map shape_of t'.used)) a.used (subst (HasSame (map shape_of s.used)) b.used r.used);
+    free = sym a.free ∙ r.free ∙ b.free;
   }
-
-  fill-similar : {fllen sllen : ℕ} {memory : Range} → IsWellFormed fllen sllen memory s'
-      → (addr : ℕ) (bytes : List ℕ) (t t' : State) → Fills s addr bytes t → Fills s' addr bytes t' → AreSimilar t t'
-  unfolding replaced_at
-  fill-similar w' addr bytes t t' a b =
-      let same : shape_of a.block ≡ shape_of b.block = shape-held w' r addr a.block b.block a.holds b.holds in
-      AreSimilar-at a.after b.after
-      (subst (λ h. AreSimilar (replaced_at s addr (shape_of a.block) bytes) (replaced_at s' addr h bytes)) same (replaced_at-similar addr (shape_of a.block) bytes bytes))
 
 module _ {fllen sllen : ℕ} {memory : Range} {s s' : State} (w' : IsWellFormed fllen sllen memory s') (r : AreSimilar s s')
     (u v : Used) (h : IsIn v s'.used) (same : shape_of u ≡ shape_of v) where
@@ -191,5 +167,5 @@ similar_states_agree fllen sllen memory s s' t t' (reallocate addr size m) (real
     let d = reallocate-similar w' r u v b'.holds.0 shape size (plan s u size) m n t t' a.step by in
     (ap₂ (λ x y. reallocate x y m) same same' ∙ ap (reallocate addr' size') d.0, d.1)
 similar_states_agree fllen sllen memory s s' t t' (fill addr bytes) (fill addr' bytes') w w' r a b (same, same') =
-    (ap₂ fill same same', fill-similar r w' addr bytes t t' a (subst (λ x. Fills s' x bytes t') (sym same) (subst (λ y. Fills s' addr' y t') (sym same') b)))
+    (ap₂ fill same same', AreSimilar-alike r (AreAlike-filled a) (AreAlike-filled b))
 similar_states_agree fllen sllen memory s s' t t' e e' w w' r a b same = absurd same

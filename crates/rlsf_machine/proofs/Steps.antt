@@ -1,13 +1,15 @@
 -- Each step and each run keeps a state well-formed.
-use Rattle.std.proofs.Common.{ℕ, List, [], ◌∷◌, arith, refl, sym, ◌∙◌, subst, inl, inr}
+use Rattle.std.proofs.Common.{ℕ, List, [], ◌∷◌, length, arith, refl, sym, ◌∙◌, ap, subst, inl, inr}
 use Rattle.rlsf_base.specs.declared.memory.range.Range.{Range}
 use Rattle.rlsf_machine.specs.Laws.{EmptyIsWellFormed, StepsKeepWellFormed, RunsKeepWellFormed}
+use Rattle.rlsf_machine.specs.Lists.{IsIn}
 use Rattle.rlsf_machine.specs.Run.{insert, append, allocate, deallocate, reallocate, fill, Fills}
-use Rattle.rlsf_machine.specs.State.{State, Used, others}
+use Rattle.rlsf_machine.specs.State.{State, Used, filled_at}
 use Rattle.rlsf_machine.specs.WellFormed.{IsUsed, IsWellFormed}
 use Rattle.rlsf_machine.proofs.Allocations.{Allocates-keeps}
 use Rattle.rlsf_machine.proofs.Appends.{Appends-keeps}
-use Rattle.rlsf_machine.proofs.Changes.{reblocked, coverage-others, IsIn-others}
+use Rattle.rlsf_machine.proofs.Changes.{reblocked, Holds-unique}
+use Rattle.rlsf_machine.proofs.Fillings.{coverage-filled, IsIn-filled_from}
 use Rattle.rlsf_machine.proofs.Insertions.{Inserts-keeps}
 use Rattle.rlsf_machine.proofs.Reallocations.{Reallocates-keeps}
 use Rattle.rlsf_machine.proofs.Releases.{Deallocates-keeps}
@@ -28,16 +30,22 @@ empty_is_well_formed fllen sllen memory rows row_length addressable = record {
 -- other bytes in a payload keep a state well-formed
 pub Fills-keeps : {fllen sllen : ℕ} {memory : Range} {s : State} → IsWellFormed fllen sllen memory s → (addr : ℕ) (bytes : List ℕ) (t : State) → Fills s addr bytes t → IsWellFormed fllen sllen memory t
 Fills-keeps {fllen} {sllen} {memory} {s} w addr bytes t step =
-    let u = step.block in
-    let is = w.used u step.holds.0 in
-    let v : Used = record { block = u.block; payload = u.payload; align = u.align; bytes = bytes } in
-    let v_used : IsUsed v = record { whole = is.whole; power = is.power; placed = is.placed; within = is.within; bytes = step.length ∙ is.bytes } in
     subst (IsWellFormed fllen sllen memory) (sym step.after)
-    (reblocked w (v ∷ others addr s.used) s.free
-    (λ x. elim [ inl same ↦ subst IsUsed (sym same) v_used | inr i ↦ w.used x (IsIn-others addr x s.used i).0 ])
+    (reblocked w (filled_at addr bytes s.used) s.free
+    is_used
     (λ f i. let free = w.free f i in (free.whole, free.some))
-    (λ a. omega (arith, coverage-others w addr u step.holds a))
+    (λ a. omega (arith, coverage-filled addr bytes s.used a))
     w.apart)
+  where
+    is_used : (x : Used) → IsIn x (filled_at addr bytes s.used) → IsUsed x
+    is_used x i = elim (IsIn-filled_from addr bytes x s.used i) [
+      | inl new ↦
+          let (u, j, at, same) = new in
+          let is = w.used u j in
+          let long = step.length ∙ ap (λ y. length y.bytes) (Holds-unique w addr step.block u step.holds (j, at)) ∙ is.bytes in
+          subst IsUsed (sym same) (record { whole = is.whole; power = is.power; placed = is.placed; within = is.within; bytes = long })
+      | inr was ↦ w.used x was.0
+    ]
 
 pub steps_keep_well_formed : StepsKeepWellFormed
 steps_keep_well_formed fllen sllen memory s t (insert r reply) w may step = Inserts-keeps w r may reply t step

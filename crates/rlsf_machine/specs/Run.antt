@@ -6,14 +6,14 @@ use Rattle.rlsf_machine.specs.Allocate.{Allocates}
 use Rattle.rlsf_machine.specs.Insert.{IsFresh, IsNext, Inserts, Appends}
 use Rattle.rlsf_machine.specs.Reallocate.{Reallocates}
 use Rattle.rlsf_machine.specs.Release.{Deallocates}
-use Rattle.rlsf_machine.specs.State.{State, Used, Holds, others}
+use Rattle.rlsf_machine.specs.State.{State, Used, Holds, filled}
 
 -- the caller of the payload at an address leaves these bytes in it, as many as it has
 pub record Fills (s : State) (addr : ℕ) (bytes : List ℕ) (t : State) : Type 0 where
   pub block : Used
   pub holds : Holds s addr block
   pub length : length bytes ≡ length block.bytes
-  pub after : t ≡ record { chunks = s.chunks; used = record { block = block.block; payload = block.payload; align = block.align; bytes = bytes } ∷ others addr s.used; free = s.free }
+  pub after : t ≡ filled s addr bytes
 
 -- a call with its reply: a range is handed in, or handed in behind a chunk; a layout, by its size and its
 -- alignment, is allocated; a payload is deallocated, gets another size, or is written

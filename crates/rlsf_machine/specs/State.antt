@@ -1,5 +1,5 @@
 -- The state of the machine.
-use Rattle.std.specs.Prelude.{◌≡◌, ◌↔◌, ℕ, ◌-◌, ◌≤◌, List, [], ◌++◌, ◌==◌, not, drop, filter, map, take}
+use Rattle.std.specs.Prelude.{◌≡◌, ◌↔◌, ℕ, ◌-◌, ◌≤◌, List, [], ◌++◌, ◌==◌, if◌then◌else◌, not, drop, filter, map, take}
 use Rattle.rlsf_base.specs.declared.memory.range.Range.{Range}
 use Rattle.rlsf_base.specs.Range.{end_of, range_at}
 use Rattle.rlsf_machine.specs.Lists.{IsIn}
@@ -59,6 +59,22 @@ with_front len new old = take len new ++ drop len old
 -- the used blocks but for the one at an address
 abbrev pub others : ℕ → List Used → List Used
 others addr used = filter (λ u. not (u.payload == addr)) used
+
+-- a used block with other bytes
+abbrev pub with_bytes : Used → List ℕ → Used
+with_bytes u bytes = record { block = u.block; payload = u.payload; align = u.align; bytes = bytes }
+
+-- a used block, with these bytes if its caller has the address
+abbrev pub filled_if : ℕ → List ℕ → Used → Used
+filled_if addr bytes u = if u.payload == addr then with_bytes u bytes else u
+
+-- the used blocks, with these bytes in the one at an address
+abbrev pub filled_at : ℕ → List ℕ → List Used → List Used
+filled_at addr bytes used = map (filled_if addr bytes) used
+
+-- the state with these bytes in the used block at an address
+abbrev pub filled : State → ℕ → List ℕ → State
+filled s addr bytes = record { chunks = s.chunks; used = filled_at addr bytes s.used; free = s.free }
 
 -- the range, the payload's address and the alignment of a used block
 pub record Shape : Type 0 where

@@ -5,14 +5,14 @@ use Rattle.rlsf_base.specs.declared.memory.range.Range.{Range}
 use Rattle.rlsf_base.specs.PowerOfTwo.{IsPowerOfTwo}
 use Rattle.rlsf_machine.specs.Allocate.{Allocates}
 use Rattle.rlsf_machine.specs.Run.{allocate, fill, Fills, IsSomeLive}
-use Rattle.rlsf_machine.specs.State.{State, Used, usable, with_front, HasFront, Holds}
+use Rattle.rlsf_machine.specs.State.{State, Used, usable, with_front, HasFront, Holds, with_bytes}
 use Rattle.rlsf_machine.specs.WellFormed.{IsWellFormed}
 use Rattle.rlsf_machine.proofs.Changes.{Holds-unique}
+use Rattle.rlsf_machine.proofs.Fillings.{filled_holds}
 use Rattle.rlsf_machine.proofs.Live.{allocation_has_size, other_payloads_stay}
 use Rattle.rlsf_blocks.specs.Spare.{KeepsSpare}
 use Rattle.rlsf_blocks.specs.StandsFor.{Contents, StandsFor}
-use Rattle.rlsf_blocks.proofs.Payloads.Filled.{with_bytes}
-use Rattle.rlsf.proofs.Callers.Filled.{filled_holds, live_filled}
+use Rattle.rlsf.proofs.Callers.Filled.{live_filled}
 
 -- where so many bytes are usable, so are fewer
 pub HasFront-fewer : (s : State) (addr len few : ℕ) → few ≤ len → HasFront s addr len → HasFront s addr few

@@ -1,22 +1,17 @@
 -- What a caller that fills payloads knows: which are live then, and what they hold.
-use Rattle.std.proofs.Common.{◌≡◌, ℕ, ◌≤◌, List, length, Some, arith, inl, inr, refl, sym, ◌∙◌, ap, subst}
+use Rattle.std.proofs.Common.{◌≡◌, ℕ, ◌≤◌, List, length, Some, arith, inl, inr, refl, sym, ◌∙◌, ap}
 use Rattle.std.proofs.lemmas.Bool.{cases_eq}
 use Rattle.rlsf_base.specs.PowerOfTwo.{IsPowerOfTwo}
 use Rattle.rlsf_base.specs.Space.{range_of}
 use Rattle.rlsf_machine.specs.Allocate.{Allocates}
-use Rattle.rlsf_machine.specs.Lists.{IsIn}
 use Rattle.rlsf_machine.specs.Run.{allocate, fill, Fills, IsSomeLive}
-use Rattle.rlsf_machine.specs.State.{State, Used, Holds}
+use Rattle.rlsf_machine.specs.State.{State, Used, Holds, with_bytes}
 use Rattle.rlsf_machine.proofs.Changes.{Holds-unique}
+use Rattle.rlsf_machine.proofs.Fillings.{filled_holds}
 use Rattle.rlsf_machine.proofs.Live.{allocation_has_size, handed_out_is_new, other_payloads_stay}
 use Rattle.rlsf_tlsf.specs.Lending.{Leaves, written}
 use Rattle.rlsf_blocks.specs.Spare.{KeepsSpare}
 use Rattle.rlsf_blocks.specs.StandsFor.{Contents, StandsFor}
-use Rattle.rlsf_blocks.proofs.Payloads.Filled.{with_bytes}
-
--- the payload that was filled has the bytes that were left, and the block and the alignment that it had
-pub filled_holds : {s t : State} {addr : ℕ} {w : List ℕ} (step : Fills s addr w t) → Holds t addr (with_bytes step.block w)
-filled_holds {t = t} {w = w} step = (subst (λ x. IsIn (with_bytes step.block w) x.used) (sym step.after) (inl refl), step.holds.1)
 
 -- what was live is live once a payload was filled
 pub live_filled : (s t : State) (addr : ℕ) (w : List ℕ) → Fills s addr w t → (a : ℕ) → IsSomeLive s a → IsSomeLive t a

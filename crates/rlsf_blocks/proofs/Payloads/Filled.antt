@@ -1,17 +1,18 @@
 -- The bytes of one payload change, and no other byte: the allocator stands for the state with these bytes in that payload.
-use Rattle.std.proofs.Common.{◌≡◌, ◌≢◌, ℕ, ◌≤◌, ◌⊎◌, List, [], ◌∷◌, length, map, arith, inl, inr, refl, sym, ◌∙◌, ap, subst}
-use Rattle.std.proofs.lemmas.Bool.{cases_lt}
+use Rattle.std.proofs.Common.{◌≡◌, ◌≢◌, ℕ, ◌≤◌, ◌⊎◌, length, arith, inl, inr, sym, ◌∙◌, ap}
+use Rattle.std.proofs.lemmas.Bool.{cases_eq, cases_lt}
 use Rattle.rlsf_base.specs.declared.memory.range.Range.{Range}
 use Rattle.rlsf_base.specs.Range.{end_of}
 use Rattle.rlsf_base.specs.Space.{Space, byte_range, bytes_in, range_of}
 use Rattle.rlsf_base.proofs.Lending.Replaced.{byte_at-same}
 use Rattle.rlsf_machine.specs.Lists.{IsIn}
 use Rattle.rlsf_machine.specs.Run.{Fills}
-use Rattle.rlsf_machine.specs.State.{State, Used, usable, others, Holds}
+use Rattle.rlsf_machine.specs.State.{State, Used, usable, Holds, with_bytes, filled_if, filled}
 use Rattle.rlsf_machine.specs.WellFormed.{IsUsed, IsWellFormed}
-use Rattle.rlsf_machine.proofs.Changes.{IsIn-others}
+use Rattle.rlsf_machine.proofs.Changes.{Holds-unique}
+use Rattle.rlsf_machine.proofs.Coverage.{IsIn-map, map-same}
+use Rattle.rlsf_machine.proofs.Fillings.{filled_if-here, filled_if-other}
 use Rattle.rlsf_machine.proofs.Payloads.{IsUsed-after_start, IsUsed-some}
-use Rattle.rlsf_machine.proofs.Steps.{Fills-keeps}
 use Rattle.rlsf_blocks.specs.Laws.{DiffersInPayloads, read_from, with_bytes_of}
 use Rattle.rlsf_blocks.specs.Spare.{KeepsSpare}
 use Rattle.rlsf_blocks.specs.StandsFor.{Contents, StandsFor}
@@ -24,20 +25,6 @@ pub record IsSameOutside (m n : Space) (r : Range) : Type 0 where
   pub start : n.start ≡ m.start
   pub length : length n.bytes ≡ length m.bytes
   pub bytes : (q : Range) → m.start ≤ q.start → (end_of q ≤ r.start) ⊎ (end_of r ≤ q.start) → bytes_in n q ≡ bytes_in m q
-
--- a used block with the bytes that a memory has is one of the used blocks with these bytes
-with_bytes_of-IsIn : (n : Space) (u : Used) (used : List Used) → IsIn u used → IsIn (with_bytes_of n u) (map (with_bytes_of n) used)
-with_bytes_of-IsIn n u [] i = absurd i
-with_bytes_of-IsIn n u (x ∷ xs) (inl same) = inl (ap (with_bytes_of n) same)
-with_bytes_of-IsIn n u (x ∷ xs) (inr i) = inr (with_bytes_of-IsIn n u xs i)
-
--- the used block u of a state, with these bytes in its payload
-abbrev pub with_bytes : Used → List ℕ → Used
-with_bytes u bytes = record { block = u.block; payload = u.payload; align = u.align; bytes = bytes }
-
--- the state, with these bytes in the payload of u at the address
-abbrev pub filled : State → ℕ → Used → List ℕ → State
-filled s addr u bytes = record { chunks = s.chunks; used = with_bytes u bytes ∷ others addr s.used; free = s.free }
 
 module _ {fllen sllen : ℕ} {v : Contents} {s : State} (old : StandsFor fllen sllen v s) (addr : ℕ) (u : Used) (holds : Holds s addr u) (n : Space) (same : IsSameOutside v.memory n (usable u)) where
   w : IsWellFormed fllen sllen (range_of v.memory) s
@@ -68,36 +55,26 @@ module _ {fllen sllen : ℕ} {v : Contents} {s : State} (old : StandsFor fllen s
         | inr behind ↦ inr (omega (arith, behind, deep, is.within))
       ]) ∙ old.payloads.bytes x i
 
-  abbrev t : State
-  t = filled s addr u (bytes_in n (usable u))
+  -- the state with the bytes that are there now in this payload is that with the bytes that are there in all payloads
+  pub filled-read_from : filled s addr (bytes_in n (usable u)) ≡ read_from n s
+  filled-read_from = λ k. record { chunks = s.chunks; used = map-same (filled_if addr (bytes_in n (usable u))) (with_bytes_of n) s.used reads k; free = s.free }
+    where
+      reads : (x : Used) → IsIn x s.used → filled_if addr (bytes_in n (usable u)) x ≡ with_bytes_of n x
+      reads x i = elim (cases_eq x.payload addr) [
+        | inl at ↦ filled_if-here addr (bytes_in n (usable u)) x at ∙ ap (λ y. with_bytes x (bytes_in n (usable y))) (Holds-unique w addr u x holds (i, at))
+        | inr other ↦ filled_if-other addr (bytes_in n (usable u)) x other ∙ ap (with_bytes x) (sym (bytes_in-other x i other))
+      ]
 
-  -- its used blocks are the state's with the bytes that the memory has
-  IsIn-filled : (x : Used) → IsIn x t.used → IsIn x (map (with_bytes_of n) s.used)
-  IsIn-filled x = elim [
-    | inl new ↦ subst (λ y. IsIn y (map (with_bytes_of n) s.used)) (sym new) (with_bytes_of-IsIn n u s.used holds.0)
-    | inr i ↦
-        let (was, other) = IsIn-others addr x s.used i in
-        let kept : with_bytes_of n x ≡ x = λ k. record { block = x.block; payload = x.payload; align = x.align; bytes = bytes_in-other x was other k } in
-        subst (λ y. IsIn y (map (with_bytes_of n) s.used)) kept (with_bytes_of-IsIn n x s.used was)
-  ]
-
-  fills : Fills s addr (bytes_in n (usable u)) t
-  fills = record { block = u; holds = holds; length = (all.well_formed.used (with_bytes_of n u) (with_bytes_of-IsIn n u s.used holds.0)).bytes ∙ sym is.bytes; after = refl }
-
-  stands : StandsFor fllen sllen (record v { memory = n }) t
-  stands =
-      let place : range_of v.memory ≡ range_of n = λ i. record { start = sym same.start i; len = sym same.length i } in
-      record {
-        nonzero = all.nonzero;
-        well_formed = subst (λ r. IsWellFormed fllen sllen r t) place (Fills-keeps w addr (bytes_in n (usable u)) t fills);
-        sizes = record { used = λ x i. all.sizes.used x (IsIn-filled x i); free = all.sizes.free; sentinel = all.sizes.sentinel };
-        previous = record { used = λ x i. all.previous.used x (IsIn-filled x i); free = all.previous.free; first = all.previous.first };
-        payloads = record { bytes = λ x i. all.payloads.bytes x (IsIn-filled x i); pad = λ x i. all.payloads.pad x (IsIn-filled x i) };
-        table = all.table;
-      }
+  fills : Fills s addr (bytes_in n (usable u)) (read_from n s)
+  fills = record {
+    block = u;
+    holds = holds;
+    length = (all.well_formed.used (with_bytes_of n u) (IsIn-map (with_bytes_of n) u s.used holds.0)).bytes ∙ sym is.bytes;
+    after = sym filled-read_from;
+  }
 
   -- a spare byte is no byte of the payload
-  spare : KeepsSpare v.memory s n t
+  spare : KeepsSpare v.memory s n (read_from n s)
   spare a from to before after = differs.bytes a from (λ x i. elim (cases_lt a x.payload) [
     | inl low ↦ inl low
     | inr high ↦ elim (cases_lt a (end_of x.block)) [
@@ -111,4 +88,4 @@ module _ {fllen sllen : ℕ} {v : Contents} {s : State} (old : StandsFor fllen s
   ])
 
   pub stands_filled : (t : State) × Fills s addr (bytes_in n (usable u)) t × StandsFor fllen sllen (record v { memory = n }) t × KeepsSpare v.memory s n t
-  stands_filled = (t, fills, stands, spare)
+  stands_filled = (read_from n s, fills, all, spare)

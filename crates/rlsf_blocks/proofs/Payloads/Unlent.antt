@@ -9,6 +9,7 @@ use Rattle.rlsf_base.specs.Space.{Space, byte_at, bytes_in, range_of, word_at, w
 use Rattle.rlsf_machine.specs.Lists.{IsIn}
 use Rattle.rlsf_machine.specs.State.{State, Used, usable}
 use Rattle.rlsf_machine.specs.WellFormed.{coverage, covers, IsUsed, IsWellFormed}
+use Rattle.rlsf_machine.proofs.Coverage.{IsIn-map_from}
 use Rattle.rlsf_machine.proofs.Payloads.{IsUsed-after_start}
 use Rattle.rlsf_machine.proofs.Tiling.{block_of}
 use Rattle.rlsf_table.specs.Table.{Table, head_at, of_class, HasTable}
@@ -38,13 +39,7 @@ bytes_in-same m n r start long inside same =
 
 -- ---- the used blocks with other bytes in their payloads
 
--- each of them is a used block of the state with the bytes that the memory has
-IsIn-with_bytes_of : (n : Space) (x : Used) (used : List Used) → IsIn x (map (with_bytes_of n) used) → (u : Used) × IsIn u used × (x ≡ with_bytes_of n u)
-IsIn-with_bytes_of n x [] i = absurd i
-IsIn-with_bytes_of n x (u ∷ us) (inl same) = (u, inl refl, same)
-IsIn-with_bytes_of n x (u ∷ us) (inr i) = let rest = IsIn-with_bytes_of n x us i in (rest.0, inr rest.1, rest.2)
-
--- they are the same blocks
+-- they are the blocks of the state
 coverage-with_bytes_of : (n : Space) (used : List Used) (a : ℕ) → coverage block_of (map (with_bytes_of n) used) a ≡ coverage block_of used a
 coverage-with_bytes_of n [] a = refl
 coverage-with_bytes_of n (u ∷ us) a = ap (λ k. covers u.block a + k) (coverage-with_bytes_of n us a)
@@ -141,22 +136,22 @@ module _ {fllen sllen : ℕ} {m n : Space} {t : Table} {s : State} (old : Stands
 
   sizes : HasSizes n now
   sizes = record {
-    used = λ x i. let (u, j, same) = IsIn-with_bytes_of n x s.used i in subst (λ y. word_at n y.block.start ≡ y.block.len + 1) (sym same) (used_size u j ∙ old.sizes.used u j);
+    used = λ x i. let (u, j, same) = IsIn-map_from (with_bytes_of n) x s.used i in subst (λ y. word_at n y.block.start ≡ y.block.len + 1) (sym same) (used_size u j ∙ old.sizes.used u j);
     free = λ f i. free_word f i f.start (omega arith) (omega arith) ∙ old.sizes.free f i;
     sentinel = λ c i. chunk_sentinel c i ∙ old.sizes.sentinel c i;
   }
 
   previous : HasPrevious n now
   previous = record {
-    used = λ x i. let (u, j, same) = IsIn-with_bytes_of n x s.used i in subst (λ y. word_at n (end_of y.block + 8) ≡ y.block.start) (sym same) (used_previous u j ∙ old.previous.used u j);
+    used = λ x i. let (u, j, same) = IsIn-map_from (with_bytes_of n) x s.used i in subst (λ y. word_at n (end_of y.block + 8) ≡ y.block.start) (sym same) (used_previous u j ∙ old.previous.used u j);
     free = λ f i. free_previous f i ∙ old.previous.free f i;
     first = λ c i. chunk_first c i ∙ old.previous.first c i;
   }
 
   payloads : HasPayloads n now
   payloads = record {
-    bytes = λ x i. let (u, j, same) = IsIn-with_bytes_of n x s.used i in subst (λ y. bytes_in n (usable y) ≡ y.bytes) (sym same) refl;
-    pad = λ x i. let (u, j, same) = IsIn-with_bytes_of n x s.used i in subst (λ y. 32 ≤ y.align → word_at n (y.payload - 8) ≡ y.block.start) (sym same) (λ wide. used_pad u j ∙ old.payloads.pad u j wide);
+    bytes = λ x i. let (u, j, same) = IsIn-map_from (with_bytes_of n) x s.used i in subst (λ y. bytes_in n (usable y) ≡ y.bytes) (sym same) refl;
+    pad = λ x i. let (u, j, same) = IsIn-map_from (with_bytes_of n) x s.used i in subst (λ y. 32 ≤ y.align → word_at n (y.payload - 8) ≡ y.block.start) (sym same) (λ wide. used_pad u j ∙ old.payloads.pad u j wide);
   }
 
   table : HasTable fllen sllen n t s.free
@@ -190,7 +185,7 @@ module _ {fllen sllen : ℕ} {m n : Space} {t : Table} {s : State} (old : Stands
     row_length = w.row_length;
     addressable = w.addressable;
     chunks = w.chunks;
-    used = λ x i. let (u, j, same) = IsIn-with_bytes_of n x s.used i in subst IsUsed (sym same) (IsUsed-with_bytes_of u j);
+    used = λ x i. let (u, j, same) = IsIn-map_from (with_bytes_of n) x s.used i in subst IsUsed (sym same) (IsUsed-with_bytes_of u j);
     free = w.free;
     disjoint = w.disjoint;
     tiled = λ a. omega (arith, coverage-with_bytes_of n s.used a, w.tiled a);

@@ -1,6 +1,5 @@
 -- The bytes of a payload are copied into one that is allocated for it, and then its block is given back.
-use Rattle.std.proofs.Common.{◌≡◌, ℕ, ◌+◌, ◌-◌, ◌<◌, List, ◌∷◌, None, cond, not, length, min, take, drop, arith, inl, inr, refl, sym, ◌∙◌, ap, subst}
-use Rattle.std.proofs.lemmas.Bool.{eq-eqb}
+use Rattle.std.proofs.Common.{◌≡◌, ℕ, ◌+◌, ◌-◌, ◌<◌, List, None, length, min, take, drop, arith, inl, inr, refl, sym, ◌∙◌, ap, subst}
 use Rattle.std.proofs.lemmas.List.{take-take, take_all}
 use Rattle.std.specs.List.{splice}
 use Rattle.rlsf_base.specs.declared.memory.range.Range.{Range}
@@ -11,12 +10,11 @@ use Rattle.rlsf_machine.specs.Allocate.{given, placed, Places}
 use Rattle.rlsf_machine.specs.Lists.{IsIn}
 use Rattle.rlsf_machine.specs.Reallocate.{in_place, Keeps, MovesAway}
 use Rattle.rlsf_machine.specs.Release.{released}
-use Rattle.rlsf_machine.specs.Run.{Fills}
-use Rattle.rlsf_machine.specs.State.{State, Used, usable, others, Holds}
+use Rattle.rlsf_machine.specs.State.{State, Used, usable, Holds}
 use Rattle.rlsf_machine.specs.WellFormed.{IsWellFormed}
 use Rattle.rlsf_machine.proofs.Changes.{Holds-unique}
-use Rattle.rlsf_machine.proofs.Live.{new_address}
-use Rattle.rlsf_machine.proofs.Payloads.{others-none, payload_of-after, usable-short, IsUsed-after_start}
+use Rattle.rlsf_machine.proofs.Live.{allocated_filled}
+use Rattle.rlsf_machine.proofs.Payloads.{payload_of-after, usable-short, IsUsed-after_start}
 use Rattle.rlsf_blocks.specs.Spare.{IsSpare, KeepsSpare}
 use Rattle.rlsf_blocks.specs.StandsFor.{contents, StandsFor}
 use Rattle.rlsf_table.specs.Table.{Table}
@@ -56,22 +54,6 @@ module _ {fllen sllen : ℕ} {memory : Range} {m : Space} {table : Table} {s t :
   LiesIn-new =
       let place = used_in_memory v.well_formed new Holds-new.0 in
       (omega (arith, places.answer, place.0, payload_of-after places.range.start u.align), omega (arith, places.answer, place.1, shorter, payload_of-after places.range.start u.align))
-
-  -- no old block has the new address
-  others-both : others addr t.used ≡ s.used
-  others-both =
-      ap (λ x. others addr x.used) places.after ∙ ap (λ b. cond (not b) (new ∷ others addr s.used) (others addr s.used)) (eq-eqb new.payload addr (sym places.answer))
-      ∙ others-none addr s.used (new_address w size u.align addr t (w.used u i).power places)
-
-  -- a fill of the new payload
-  filled_both : (bytes : List ℕ) (x : State) → Fills t addr bytes x → x ≡ both bytes
-  filled_both bytes x step =
-      let same : step.block ≡ new = Holds-unique v.well_formed addr step.block new step.holds Holds-new in
-      step.after ∙ (λ k. record {
-        chunks = (places.after k).chunks;
-        used = record { block = (same k).block; payload = (same k).payload; align = (same k).align; bytes = bytes } ∷ others-both k;
-        free = (places.after k).free;
-      })
 
   -- the bytes of the old payload were copied to the new one
   pub record IsCopied (n : Space) (bytes : List ℕ) : Type 0 where
@@ -117,7 +99,7 @@ module _ {fllen sllen : ℕ} {memory : Range} {m : Space} {table : Table} {s t :
         let same : fills.block ≡ new = Holds-unique v.well_formed addr fills.block new fills.holds Holds-new in
         let bytes = bytes_in n (usable new) in
         let whole : length bytes ≡ end_of new.block - addr = fills.length ∙ ap (λ b. length b.bytes) same ∙ places.length in
-        let is_both : x ≡ both bytes = filled_both bytes x fills in (
+        let is_both : x ≡ both bytes = allocated_filled w (w.used u i).power places fills in (
           bytes,
           record {
             length = whole;

@@ -1,8 +1,9 @@
 use Rattle.std.proofs.Common.{lit<}
 use Rattle.std.specs.Int.NonZero.{non_zero_usize_get}
+use Rattle.rlsf_machine.specs.State.{with_bytes}
+use Rattle.rlsf_machine.proofs.Fillings.{filled_holds}
 use Rattle.rlsf_machine.proofs.Live.{handed_out_is_new}
-use Rattle.rlsf.proofs.Callers.Filled.{filled_holds, live_allocated, live_filled}
-use Rattle.rlsf_blocks.proofs.Payloads.Filled.{with_bytes}
+use Rattle.rlsf.proofs.Callers.Filled.{live_allocated, live_filled}
 use Rattle.rlsf_calls_tests.proofs.loans.words.Goals as goal
 
 pub payload_mut-requires : goal.payload_mut-requires
