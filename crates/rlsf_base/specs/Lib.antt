@@ -1,3 +1,4 @@
+pub mod Addr
 pub mod ClassLaws
 pub mod Layout
 pub mod Lends

@@ -14,7 +14,7 @@ use Rattle.rlsf_machine.specs.Run.{allocate, deallocate, reallocate}
 use Rattle.rlsf_machine.specs.State.{State, IsLive}
 use Rattle.rlsf_machine.proofs.Determined.{refusal_changes_nothing}
 use Rattle.rlsf_machine.proofs.Live.{handed_out_is_new, live_stays, reallocated_is_live}
-use Rattle.rlsf_blocks.specs.StandsFor.{Contents, StandsFor}
+use Rattle.rlsf_tlsf.specs.Allocator.{Allocator, IsInState}
 use Rattle.rlsf_bench.specs.declared.tally.Tally.{Tally}
 use Rattle.rlsf_bench.specs.Runs.{Changes, Does, RunState, beginning, counted, nothing, size_of, slot_of, with_slot}
 use Rattle.rlsf_bench.specs.Slots.{IsAt, LeadsOn, held}
@@ -27,7 +27,7 @@ with_slot-cases slot held slots other addr is = elim (eqb_tells slot other) [
   | inr (is_false, differ) ↦ inr (differ, sym (ap (λ b. cond b held (slots other)) is_false) ∙ is)
 ]
 
-module _ {fllen sllen : ℕ} {v : Contents} {table : List ℕ} {counts : Tally} {s : RunState} (at : IsAt fllen sllen v table counts s) (slot : ℕ) (below : slot < length table) where
+module _ {fllen sllen : ℕ} {v : Allocator} {table : List ℕ} {counts : Tally} {s : RunState} (at : IsAt fllen sllen v table counts s) (slot : ℕ) (below : slot < length table) where
   -- what the slots hold once one is changed
   slots-set : (number other : ℕ) → held (slice_index_or (slice_set table slot number) other 0) ≡ with_slot slot (held number) s.slots other
   slots-set number other = elim (eqb_tells slot other) [
@@ -39,7 +39,7 @@ module _ {fllen sllen : ℕ} {v : Contents} {table : List ℕ} {counts : Tally} 
         ∙ at.slots other ∙ sym (ap (λ b. cond b (held number) (s.slots other)) is_false)
   ]
 
-  module _ {w : Contents} (t : State) (stands : StandsFor fllen sllen w t) where
+  module _ {w : Allocator} (t : State) (stands : IsInState fllen sllen w t) where
     -- after the deallocation of the slot's payload
     pub IsAt-freed : (addr : ℕ) → s.slots slot ≡ Some addr → Deallocates s.machine addr t
         → IsAt fllen sllen w (slice_set table slot 0) counts (record { machine = t; slots = with_slot slot None s.slots; tally = s.tally })
@@ -83,7 +83,7 @@ module _ {fllen sllen : ℕ} {v : Contents} {table : List ℕ} {counts : Tally} 
         cases other a is = with_slot-cases slot reply s.slots other a is
 
         handed : (a : ℕ) → reply ≡ Some a → ((old : ℕ) → IsLive s.machine a old → ⊥) × IsLive t a 1
-        handed a new = handed_out_is_new fllen sllen (range_of v.memory) s.machine t size 1 a at.stands.well_formed power (subst (λ r. Allocates sllen s.machine size 1 r t) new step)
+        handed a new = handed_out_is_new fllen sllen (range_of v.memory) s.machine t size 1 a at.stands.stands.well_formed power (subst (λ r. Allocates sllen s.machine size 1 r t) new step)
 
     -- after a reallocation of the slot's payload
     pub IsAt-reallocated : (addr : ℕ) → s.slots slot ≡ Some addr → (reply : Option ℕ) (number size : ℕ) → held number ≡ Some (unwrap_or reply addr) → Reallocates sllen s.machine addr size reply t
@@ -119,7 +119,7 @@ module _ {fllen sllen : ℕ} {v : Contents} {table : List ℕ} {counts : Tally} 
         there_now : (reply : Option ℕ) → Reallocates sllen s.machine addr size reply t → IsLive t (unwrap_or reply addr) 1 × (IsLive s.machine (unwrap_or reply addr) 1 → unwrap_or reply addr ≡ addr)
         there_now None step = (subst (λ x. IsLive x addr 1) (sym (refusal_changes_nothing fllen sllen s.machine t (reallocate addr size None) step refl)) (at.live slot addr its), λ _. refl)
         there_now (Some to) step =
-            let (live, same) = reallocated_is_live fllen sllen (range_of v.memory) s.machine t addr size to 1 at.stands.well_formed (at.live slot addr its) step in
+            let (live, same) = reallocated_is_live fllen sllen (range_of v.memory) s.machine t addr size to 1 at.stands.stands.well_formed (at.live slot addr its) step in
             (live, same 1)
 
         -- no other slot held where it is now
@@ -196,7 +196,7 @@ replicate_same x n i = elim (leb_tells n i) [
 ]
 
 -- with empty slots, a run is at its beginning
-pub IsAt-beginning : {fllen sllen : ℕ} {v : Contents} {table : List ℕ} {counts : Tally} (s : State) (n : ℕ) → StandsFor fllen sllen v s → table ≡ replicate n 0 → counts ≡ nothing
+pub IsAt-beginning : {fllen sllen : ℕ} {v : Allocator} {table : List ℕ} {counts : Tally} (s : State) (n : ℕ) → IsInState fllen sllen v s → table ≡ replicate n 0 → counts ≡ nothing
     → IsAt fllen sllen v table counts (beginning s)
 IsAt-beginning {table = table} s n stands empty none = record {
   stands = stands;

@@ -5,7 +5,7 @@ use Rattle.std.proofs.lemmas.List.{length-replicate}
 use Rattle.rlsf_base.specs.declared.memory.range.Range.{Range}
 use Rattle.rlsf_machine.specs.Insert.{Inserts}
 use Rattle.rlsf_machine.specs.State.{State, empty}
-use Rattle.rlsf_blocks.specs.StandsFor.{Contents, StandsFor}
+use Rattle.rlsf_tlsf.specs.Allocator.{Allocator, IsInState}
 use Rattle.rlsf_bench.specs.declared.arguments.Mode.{Mode}
 use Rattle.rlsf_bench.specs.declared.tally.Tally.{Tally}
 use Rattle.rlsf_bench.specs.Draws.{drawn, next_state, seed, state_after}
@@ -28,7 +28,7 @@ unfolding state_after
 state_after-next n = let more : suc n ≡ n + 1 = omega arith in subst (λ k. next_state (state_after n) ≡ state_after k) more refl
 
 -- the first steps were done: the allocator, the slots and the tally are where they lead to, and the generator too
-pub record IsUnderway (fllen sllen : ℕ) (pool : Range) (size : ℕ) (mode : Mode) (v : Contents) (table : List ℕ) (counts : Tally) (draws done : ℕ) : Type 0 where
+pub record IsUnderway (fllen sllen : ℕ) (pool : Range) (size : ℕ) (mode : Mode) (v : Allocator) (table : List ℕ) (counts : Tally) (draws done : ℕ) : Type 0 where
   pub taken : Option ℕ
   pub machine : State
   pub inserted : Inserts fllen empty pool taken machine
@@ -39,9 +39,9 @@ pub record IsUnderway (fllen sllen : ℕ) (pool : Range) (size : ℕ) (mode : Mo
   pub generator : draws ≡ state_after done
   pub refused : counts.refused ≤ done
 
-module _ {fllen sllen : ℕ} {pool : Range} {size : ℕ} {mode : Mode} {v : Contents} {table : List ℕ} {counts : Tally} {draws : ℕ} where
+module _ {fllen sllen : ℕ} {pool : Range} {size : ℕ} {mode : Mode} {v : Allocator} {table : List ℕ} {counts : Tally} {draws : ℕ} where
   -- before the first step
-  pub IsUnderway-beginning : (taken : Option ℕ) (s : State) → Inserts fllen empty pool taken s → StandsFor fllen sllen v s → table ≡ replicate size 0 → counts ≡ nothing → draws ≡ seed
+  pub IsUnderway-beginning : (taken : Option ℕ) (s : State) → Inserts fllen empty pool taken s → IsInState fllen sllen v s → table ≡ replicate size 0 → counts ≡ nothing → draws ≡ seed
       → IsUnderway fllen sllen pool size mode v table counts draws 0
   IsUnderway-beginning taken s inserted stands none nothing_yet seeded = record {
     taken = taken;
@@ -57,7 +57,7 @@ module _ {fllen sllen : ℕ} {pool : Range} {size : ℕ} {mode : Mode} {v : Cont
 
   -- one step more
   pub IsUnderway-next : {done : ℕ} (w : IsUnderway fllen sllen pool size mode v table counts draws done) (reallocates : Bool) → reallocates ≡ reallocates_at mode done → (draw now : ℕ) → now ≡ next_state draws → draw ≡ now * 0x2545f4914f6cdd1d % 2 ^ 64
-      → (u : Contents) (new : List ℕ) (more : Tally) → ((s : RunState) → IsAt fllen sllen v table counts s → LeadsOn fllen sllen (length table) reallocates draw s u new more)
+      → (u : Allocator) (new : List ℕ) (more : Tally) → ((s : RunState) → IsAt fllen sllen v table counts s → LeadsOn fllen sllen (length table) reallocates draw s u new more)
       → length new ≡ length table → more.refused ≤ counts.refused + 1 → IsUnderway fllen sllen pool size mode u new more now (done + 1)
   IsUnderway-next {done} w reallocates turn draw now after number u new more does long refused =
       let (t, step, at) = does w.state w.at in
@@ -80,6 +80,6 @@ module _ {fllen sllen : ℕ} {pool : Range} {size : ℕ} {mode : Mode} {v : Cont
       }
 
 -- after the last step
-pub IsBench-end : {fllen sllen : ℕ} {pool : Range} {size : ℕ} {mode : Mode} {v : Contents} {table : List ℕ} {counts : Tally} {draws done : ℕ} → IsUnderway fllen sllen pool size mode v table counts draws done
+pub IsBench-end : {fllen sllen : ℕ} {pool : Range} {size : ℕ} {mode : Mode} {v : Allocator} {table : List ℕ} {counts : Tally} {draws done : ℕ} → IsUnderway fllen sllen pool size mode v table counts draws done
     → IsBench fllen sllen pool size done mode counts
 IsBench-end w = record { taken = w.taken; machine = w.machine; inserted = w.inserted; last = w.state; ran = w.ran; counts = w.at.tally }

@@ -2,10 +2,9 @@
 
 ghost use Rattle.std.specs.Prelude.{◌≡◌, ◌+◌, ◌<◌, ◌≤◌, ◌^◌, length, replicate, IfOk, IfErr};
 ghost use Rattle.std.specs.Int.NonZero.{non_zero_usize_get};
-ghost use Rattle.std.specs.Option.{option_map};
+ghost use Rattle.rlsf_base.specs.Addr.{reply};
 ghost use Rattle.rlsf_base.specs.Range.{LiesIn};
 ghost use Rattle.rlsf_machine.specs.State.{empty};
-ghost use Rattle.rlsf_blocks.specs.StandsFor.{StandsFor};
 ghost use Rattle.rlsf_bench.specs.Runs.{slot_of, size_of, RunState, IsBench};
 ghost use Rattle.rlsf_bench.specs.Slots.{IsAt, LeadsOn, held};
 
@@ -53,7 +52,7 @@ fn empty_slots(alloc: Global, slots: usize) -> Result<Vec<usize>, BenchError>
 
 /// A slot that holds what an allocation answered.
 fn slot_with(placed: Option<Addr>) -> usize
-    ensures { held result ≡ option_map non_zero_usize_get placed }
+    ensures { held result ≡ reply placed }
 {
     match placed {
         Some(addr) => addr.get(),
@@ -102,7 +101,7 @@ pub(crate) fn run<FLBitmap: Bitmap, SLBitmap: Bitmap, const FLLEN: usize, const 
     steps: u64,
     mode: Mode,
 ) -> Result<Tally, BenchError>
-    requires new { StandsFor FLLEN SLLEN tlsf empty }
+    requires new { tlsf.state ≡ empty }
     requires pool { LiesIn pool tlsf.memory.start (length tlsf.memory.bytes) }
     ensures ok { IfOk result (λ tally. IsBench FLLEN SLLEN pool (non_zero_usize_get slots) steps mode tally) }
     ensures err { IfErr result (λ error. error ≡ BenchError.OutOfMemory) }

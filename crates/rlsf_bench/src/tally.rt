@@ -1,6 +1,5 @@
 ghost use Rattle.std.specs.Prelude.{◌≡◌, ◌+◌, ◌<◌, ◌≤◌, ◌^◌};
-ghost use Rattle.std.specs.Int.NonZero.{non_zero_usize_get};
-ghost use Rattle.std.specs.Option.{option_map};
+ghost use Rattle.rlsf_base.specs.Addr.{reply};
 ghost use Rattle.rlsf_bench.specs.Runs.{counted, nothing};
 
 use rlsf_base::memory::Addr;
@@ -29,7 +28,7 @@ impl Tally {
     /// Counts one more, by its answer.
     pub(crate) fn count(&mut self, placed: Option<Addr>)
         requires { self.old.refused + 1 < 2 ^ 64 }
-        ensures counts { self.new ≡ counted (option_map non_zero_usize_get placed) self.old }
+        ensures counts { self.new ≡ counted (reply placed) self.old }
         ensures refused { self.new.refused ≤ self.old.refused + 1 }
     {
         match placed {

@@ -1,6 +1,5 @@
 -- What a value of the allocator stands for.
 use Rattle.std.specs.Prelude.{ℕ, ◌<◌}
-use Rattle.rlsf_base.specs.SizeClass.{IsValid}
 use Rattle.rlsf_base.specs.Space.{Space, range_of}
 use Rattle.rlsf_table.specs.Table.{Table, HasTable}
 use Rattle.rlsf_blocks.specs.InBand.{HasSizes, HasPrevious, HasPayloads}
@@ -24,8 +23,3 @@ pub record StandsFor (fllen sllen : ℕ) (v : Contents) (s : State) : Type 0 whe
   pub previous : HasPrevious v.memory s
   pub payloads : HasPayloads v.memory s
   pub table : HasTable fllen sllen v.memory v.table s.free
-
--- what is true of every allocator's fields: the parameters are valid, and some state stands in its memory
-pub record IsTlsf (fl_bits sl_bits fllen sllen : ℕ) (v : Contents) : Type 0 where
-  pub valid : IsValid fl_bits sl_bits fllen sllen
-  pub stands : (s : State) × StandsFor fllen sllen v s

@@ -1,2 +1,3 @@
+pub mod FirstChunk
 pub mod OneChunk
-pub mod Shapes
+pub mod Rows

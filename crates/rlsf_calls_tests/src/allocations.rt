@@ -1,9 +1,8 @@
 //! What is inserted, which addresses are allocated, and the words that stand then.
 
-ghost use Rattle.std.specs.Prelude.{◌≢◌, IfSome};
-ghost use Rattle.std.specs.Int.NonZero.{non_zero_usize_get};
-ghost use Rattle.rlsf_machine.specs.State.{State, IsLive};
-ghost use Rattle.rlsf_blocks.specs.StandsFor.{StandsFor};
+ghost use Rattle.std.specs.Prelude.{◌≡◌, ◌≢◌, IfSome};
+ghost use Rattle.rlsf_base.specs.Addr.{at};
+ghost use Rattle.rlsf_machine.specs.Callers.{align_at};
 
 use super::pools::{Small, Step, are, inserts, number, with_inserted, with_pool, word_at};
 use rlsf::{Addr, Layout, Range};
@@ -108,8 +107,9 @@ fn words_of_a_pool(rt: HostRuntime) -> Result<(), Fail> {
 
 /// Allocates two payloads. What the clauses of the calls say is enough to give either back, in any order.
 fn two(tlsf: &mut Small, first: Layout, second: Layout) -> Option<(Addr, Addr)>
-    ensures live { IfSome result (λ r. (t : State) × StandsFor 8 8 tlsf.new t × IsLive t (non_zero_usize_get r.0) first.align × IsLive t (non_zero_usize_get r.1) second.align) }
-    ensures apart { IfSome result (λ r. non_zero_usize_get r.0 ≢ non_zero_usize_get r.1) }
+    ensures first { IfSome result (λ r. align_at tlsf.new.state (at r.0) ≡ Some first.align) }
+    ensures second { IfSome result (λ r. align_at tlsf.new.state (at r.1) ≡ Some second.align) }
+    ensures apart { IfSome result (λ r. at r.0 ≢ at r.1) }
 {
     let one = tlsf.allocate(first)?;
     let other = tlsf.allocate(second)?;

@@ -2,7 +2,6 @@
 
 ghost use Rattle.std.specs.Prelude.{◌≡◌, ◌≤◌, length};
 ghost use Rattle.rlsf_machine.specs.State.{empty};
-ghost use Rattle.rlsf_blocks.specs.StandsFor.{StandsFor};
 
 use super::pools::{Long, Small, Step, are, number, takes_steps};
 use rlsf::int::Bitmap;
@@ -30,7 +29,7 @@ fn appended<FLBitmap: Bitmap, const FLLEN: usize>(
     case: Case,
     layout: Layout,
 ) -> Option<[usize; 4]>
-    requires stands { StandsFor FLLEN 8 tlsf.old empty }
+    requires state { tlsf.old.state ≡ empty }
     requires rows { 8 ≤ FLLEN }
     requires place { (tlsf.old.memory.start ≡ 4096) × (length tlsf.old.memory.bytes ≡ 4096) }
 {

@@ -1,9 +1,8 @@
 //! Bytes copied from one payload to another, and words that no block is made of.
 
-ghost use Rattle.std.specs.Prelude.{◌≡◌, ◌%◌, ◌+◌, ◌≤◌, ℕ, IfSome};
-ghost use Rattle.std.specs.Int.NonZero.{non_zero_usize_get};
-ghost use Rattle.rlsf_machine.specs.State.{State, HasFront};
-ghost use Rattle.rlsf_blocks.specs.StandsFor.{StandsFor};
+ghost use Rattle.std.specs.Prelude.{◌≡◌, ◌%◌, ◌+◌, ◌≤◌, ℕ, length, IfSome, IsSome};
+ghost use Rattle.rlsf_base.specs.Addr.{at};
+ghost use Rattle.rlsf_machine.specs.Callers.{align_at, bytes_at};
 
 use super::loans::{copy_front, place};
 use super::pools::{Small, Step, are, takes_steps, with_pool};
@@ -14,8 +13,10 @@ use std::test::Fail;
 /// Allocates a payload and leaves bytes in its front, as many as there is room for. As many are usable as were asked for,
 /// and those of other payloads stay so.
 fn left(tlsf: &mut Small, layout: Layout, bytes: &[u8]) -> Option<Addr>
-    ensures { (s : State) → StandsFor 8 8 tlsf.old s
-        → (t : State) × StandsFor 8 8 tlsf.new t × ((a n : ℕ) → HasFront s a n → HasFront t a n) × IfSome result (λ addr. HasFront t (non_zero_usize_get addr) layout.size) }
+    ensures live { IfSome result (λ addr. IsSome (align_at tlsf.new.state (at addr))) }
+    ensures long { IfSome result (λ addr. layout.size ≤ length (bytes_at tlsf.new.state (at addr))) }
+    ensures stays { (a : ℕ) → IsSome (align_at tlsf.old.state a) → IsSome (align_at tlsf.new.state a) }
+    ensures lengths { (a : ℕ) → IsSome (align_at tlsf.old.state a) → length (bytes_at tlsf.new.state a) ≡ length (bytes_at tlsf.old.state a) }
 {
     let addr = tlsf.allocate(layout)?;
     copy_front(bytes, tlsf.payload_mut(addr));
@@ -33,8 +34,6 @@ fn copied(
 ) -> Option<[usize; 2]>
     requires { len ≤ layout.size }
 {
-    // Some state stands: what each call says is about the states that do.
-    let _ = tlsf.memory_ref();
     let one = left(tlsf, layout, bytes.0)?;
     let two = left(tlsf, layout, bytes.1)?;
     tlsf.copy_payload(one, two, len);
@@ -49,8 +48,6 @@ fn copied(
 fn copied_onto_itself(tlsf: &mut Small, layout: Layout, bytes: &[u8], len: usize) -> Option<bool>
     requires { len ≤ layout.size }
 {
-    // Some state stands: what each call says is about the states that do.
-    let _ = tlsf.memory_ref();
     let addr = left(tlsf, layout, bytes)?;
     tlsf.copy_payload(addr, addr, len);
     Some(tlsf.payload(addr) == bytes)

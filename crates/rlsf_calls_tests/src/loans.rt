@@ -1,10 +1,8 @@
 //! Payloads whose bytes are lent, to read and to write.
 
-ghost use Rattle.std.specs.Prelude.{◌≡◌, ◌<◌, ℕ, IfSome};
-ghost use Rattle.std.specs.Int.NonZero.{non_zero_usize_get};
-ghost use Rattle.rlsf_machine.specs.Run.{IsSomeLive};
-ghost use Rattle.rlsf_machine.specs.State.{State};
-ghost use Rattle.rlsf_blocks.specs.StandsFor.{StandsFor};
+ghost use Rattle.std.specs.Prelude.{◌≡◌, ◌<◌, ℕ, IfSome, IsSome};
+ghost use Rattle.rlsf_base.specs.Addr.{at};
+ghost use Rattle.rlsf_machine.specs.Callers.{align_at};
 
 use super::pools::{Small, Wide, are, wide, with_pool};
 use rlsf::{Addr, Layout};
@@ -15,8 +13,6 @@ fn filled(tlsf: &mut Small, layout: Layout, byte: u8, offset: usize) -> Option<u
     requires { offset < layout.size }
     ensures { IfSome result (λ read. read ≡ byte) }
 {
-    // Some state stands: what each call says is about the states that do.
-    let _ = tlsf.memory_ref();
     let addr = tlsf.allocate(layout)?;
     tlsf.payload_mut(addr).fill(byte);
     let bytes = tlsf.payload(addr);
@@ -38,9 +34,8 @@ pub(crate) fn copy_front(from: &[u8], to: &mut [u8]) {
 
 /// Allocates a payload and leaves bytes in its front, as many as there is room for. What was live stays live.
 fn put(tlsf: &mut Small, layout: Layout, bytes: &[u8]) -> Option<Addr>
-    ensures live { IfSome result (λ addr. (t : State) × StandsFor 8 8 tlsf.new t × IsSomeLive t (non_zero_usize_get addr)) }
-    ensures stays { (s : State) → StandsFor 8 8 tlsf.old s
-        → (t : State) × StandsFor 8 8 tlsf.new t × ((a : ℕ) → IsSomeLive s a → IsSomeLive t a) × IfSome result (λ addr. IsSomeLive t (non_zero_usize_get addr)) }
+    ensures live { IfSome result (λ addr. IsSome (align_at tlsf.new.state (at addr))) }
+    ensures stays { (a : ℕ) → IsSome (align_at tlsf.old.state a) → IsSome (align_at tlsf.new.state a) }
 {
     let addr = tlsf.allocate(layout)?;
     copy_front(bytes, tlsf.payload_mut(addr));

@@ -1,11 +1,9 @@
 //! Allocators with their pools, what they answer as numbers, and the words of their memories.
 
-ghost use Rattle.std.specs.Prelude.{ℕ, ◌+◌, ◌≤◌, Option, IfOk};
+ghost use Rattle.std.specs.Prelude.{◌+◌, ◌≤◌, IfOk};
 ghost use Rattle.rlsf_base.specs.Range.{LiesIn, range_at};
 ghost use Rattle.rlsf_base.specs.SizeClass.{IsValid};
-ghost use Rattle.rlsf_machine.specs.Insert.{Inserts};
-ghost use Rattle.rlsf_machine.specs.State.{State, empty};
-ghost use Rattle.rlsf_blocks.specs.StandsFor.{StandsFor};
+ghost use Rattle.rlsf_calls_tests.specs.Rows.{TakesRow};
 
 use rlsf::int::Bitmap;
 use rlsf::{Addr, Layout, Memory, MemoryError, Range, Tlsf};
@@ -49,7 +47,7 @@ pub(crate) fn with_inserted<
 ) -> Result<(Tlsf<FLBitmap, SLBitmap, FLLEN, SLLEN>, usize), MemoryError>
     requires shape { IsValid FLBitmap.width SLBitmap.width FLLEN SLLEN }
     requires inside { LiesIn pool addresses.start addresses.len }
-    ensures { IfOk result (λ r. (s : State) × (reply : Option ℕ) × StandsFor FLLEN SLLEN r.0 s × Inserts FLLEN empty pool reply s) }
+    ensures { IfOk result (λ r. TakesRow FLLEN pool r.0.state) }
 {
     let memory = Memory::new(alloc, addresses.start, addresses.len)?;
     let mut tlsf = Tlsf::new(memory);
@@ -59,7 +57,7 @@ pub(crate) fn with_inserted<
 
 /// An allocator over so many bytes from the address 4096 on, all of which are its pool.
 pub(crate) fn with_pool(alloc: Global, len: usize) -> Result<Small, MemoryError>
-    ensures { IfOk result (λ tlsf. (s : State) × (reply : Option ℕ) × StandsFor 8 8 tlsf s × Inserts 8 empty (range_at 4096 len) reply s) }
+    ensures { IfOk result (λ tlsf. TakesRow 8 (range_at 4096 len) tlsf.state) }
 {
     let memory = Memory::new(alloc, 4096, len)?;
     let mut tlsf = Small::new(memory);
@@ -69,7 +67,7 @@ pub(crate) fn with_pool(alloc: Global, len: usize) -> Result<Small, MemoryError>
 
 /// The same, in the wide shape.
 pub(crate) fn wide(alloc: Global, len: usize) -> Result<Wide, MemoryError>
-    ensures { IfOk result (λ tlsf. (s : State) × (reply : Option ℕ) × StandsFor 12 16 tlsf s × Inserts 12 empty (range_at 4096 len) reply s) }
+    ensures { IfOk result (λ tlsf. TakesRow 12 (range_at 4096 len) tlsf.state) }
 {
     let memory = Memory::new(alloc, 4096, len)?;
     let mut tlsf = Wide::new(memory);

@@ -1,10 +1,8 @@
 //! Payloads that get another size: where they lie then, and what they hold.
 
 ghost use Rattle.std.specs.Prelude.{◌≡◌, ◌≢◌, ◌<◌, length, IfOk, IfSome, unwrap_or};
-ghost use Rattle.std.specs.Int.NonZero.{non_zero_usize_get};
-ghost use Rattle.rlsf_machine.specs.Run.{IsSomeLive};
-ghost use Rattle.rlsf_machine.specs.State.{State, IsLive};
-ghost use Rattle.rlsf_blocks.specs.StandsFor.{StandsFor};
+ghost use Rattle.rlsf_base.specs.Addr.{at};
+ghost use Rattle.rlsf_machine.specs.Callers.{align_at};
 
 use super::loans::{copy_front, numbers};
 use super::pools::{Small, Step, Wide, are, number, takes_steps, wide, with_pool};
@@ -21,8 +19,6 @@ fn kept(tlsf: &mut Small, layout: Layout, wanted: Layout, byte: u8, offset: usiz
     requires { (wanted.align ≡ layout.align) × (offset < layout.size) × (offset < wanted.size) }
     ensures { IfSome result (λ read. read ≡ byte) }
 {
-    // Some state stands: what each call says is about the states that do.
-    let _ = tlsf.memory_ref();
     let addr = tlsf.allocate(layout)?;
     tlsf.payload_mut(addr).fill(byte);
     let moved = tlsf.reallocate(addr, wanted)?;
@@ -95,10 +91,11 @@ fn give_back(
     layouts: (Layout, Layout, Layout),
     freed: Freed,
 )
-    requires live { (s : State) × StandsFor 8 8 tlsf.old s × IsLive s (non_zero_usize_get addresses.0) layouts.0.align × IsLive s (non_zero_usize_get addresses.1) layouts.1.align
-        × IsLive s (non_zero_usize_get addresses.2) layouts.2.align }
-    requires apart { (non_zero_usize_get addresses.0 ≢ non_zero_usize_get addresses.1) × (non_zero_usize_get addresses.2 ≢ non_zero_usize_get addresses.1) }
-    ensures { (t : State) × StandsFor 8 8 tlsf.new t × IsLive t (non_zero_usize_get addresses.1) layouts.1.align }
+    requires first { align_at tlsf.old.state (at addresses.0) ≡ Some layouts.0.align }
+    requires second { align_at tlsf.old.state (at addresses.1) ≡ Some layouts.1.align }
+    requires third { align_at tlsf.old.state (at addresses.2) ≡ Some layouts.2.align }
+    requires apart { (at addresses.0 ≢ at addresses.1) × (at addresses.2 ≢ at addresses.1) }
+    ensures { align_at tlsf.new.state (at addresses.1) ≡ Some layouts.1.align }
 {
     match freed {
         Freed::Neither => {}
@@ -116,7 +113,7 @@ fn second_moved(
     wanted: Layout,
 ) -> Option<Moved>
     requires { wanted.align ≡ layouts.1.align }
-    ensures { IfSome result (λ r. (t : State) × StandsFor 8 8 tlsf.new t × IsLive t (non_zero_usize_get (unwrap_or r.moved r.was)) wanted.align) }
+    ensures { IfSome result (λ r. align_at tlsf.new.state (at (unwrap_or r.moved r.was)) ≡ Some wanted.align) }
 {
     let first = tlsf.allocate(layouts.0)?;
     let second = tlsf.allocate(layouts.1)?;
@@ -168,10 +165,11 @@ fn second_again(
 
 /// As `give_back`, for payloads of one layout.
 fn wide_give_back(tlsf: &mut Wide, addresses: (Addr, Addr, Addr), layout: Layout, freed: Freed)
-    requires live { (s : State) × StandsFor 12 16 tlsf.old s × IsLive s (non_zero_usize_get addresses.0) layout.align × IsLive s (non_zero_usize_get addresses.1) layout.align
-        × IsLive s (non_zero_usize_get addresses.2) layout.align }
-    requires apart { (non_zero_usize_get addresses.0 ≢ non_zero_usize_get addresses.1) × (non_zero_usize_get addresses.2 ≢ non_zero_usize_get addresses.1) }
-    ensures { (t : State) × StandsFor 12 16 tlsf.new t × IsLive t (non_zero_usize_get addresses.1) layout.align }
+    requires first { align_at tlsf.old.state (at addresses.0) ≡ Some layout.align }
+    requires second { align_at tlsf.old.state (at addresses.1) ≡ Some layout.align }
+    requires third { align_at tlsf.old.state (at addresses.2) ≡ Some layout.align }
+    requires apart { (at addresses.0 ≢ at addresses.1) × (at addresses.2 ≢ at addresses.1) }
+    ensures { align_at tlsf.new.state (at addresses.1) ≡ Some layout.align }
 {
     match freed {
         Freed::Neither => {}

@@ -3,8 +3,6 @@
 ghost use Rattle.std.specs.Prelude.{IfOk};
 ghost use Rattle.rlsf_base.specs.Range.{range_at};
 ghost use Rattle.rlsf_machine.specs.ChunkRows.{IsRow};
-ghost use Rattle.rlsf_machine.specs.State.{State};
-ghost use Rattle.rlsf_blocks.specs.StandsFor.{StandsFor};
 
 use super::pools::{Small, are, number, wide, with_inserted, with_pool};
 use rlsf::{BlockInfo, Blocks, Layout, Range, Tlsf};
@@ -62,8 +60,6 @@ fn first_text(rt: &HostRuntime, mut blocks: Blocks<'_>) -> Result<String, Fail> 
 
 /// Passes where a walk over no bytes gives nothing.
 fn walks_nowhere(rt: &impl Abort, tlsf: &Small) {
-    // Some state stands: what each call says is about the states that do.
-    let _ = tlsf.memory_ref();
     let nowhere = Range {
         start: 4096,
         len: 0,
@@ -74,7 +70,7 @@ fn walks_nowhere(rt: &impl Abort, tlsf: &Small) {
 /// Passes where a walk over a pool of 96 bytes gives these rows, in the first two of which fit these greatest sizes, 0 if there is
 /// none.
 fn walks(rt: &impl Abort, tlsf: &Small, expected: &[Row], sizes: [usize; 2])
-    requires { (s : State) × StandsFor 8 8 tlsf.now s × IsRow s (range_at 4096 96) }
+    requires { IsRow tlsf.now.state (range_at 4096 96) }
 {
     let range = Range {
         start: 4096,
@@ -151,7 +147,7 @@ fn free_bytes_are_added_up(rt: HostRuntime) -> Result<(), Fail> {
 
 /// Allocates a payload and gives it back without its alignment. Passes where a walk gives these rows then.
 fn frees(rt: &impl Abort, tlsf: &mut Growing, layout: Layout, rows: &[Row])
-    requires { (s : State) × StandsFor 59 8 tlsf.old s × IsRow s (range_at 4096 16384) }
+    requires { IsRow tlsf.old.state (range_at 4096 16384) }
 {
     let Some(addr) = tlsf.allocate(layout) else {
         return are(rt, &[], &[1]);
@@ -166,7 +162,7 @@ fn frees(rt: &impl Abort, tlsf: &mut Growing, layout: Layout, rows: &[Row])
 
 /// An allocator with a pool of 16,384 bytes.
 fn growing(alloc: Global) -> Result<Growing, Fail>
-    ensures { IfOk result (λ tlsf. (s : State) × StandsFor 59 8 tlsf s × IsRow s (range_at 4096 16384)) }
+    ensures { IfOk result (λ tlsf. IsRow tlsf.state (range_at 4096 16384)) }
 {
     let all = Range {
         start: 4096,

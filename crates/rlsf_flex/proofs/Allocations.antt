@@ -7,7 +7,8 @@ use Rattle.rlsf_base.specs.SizeClass.{IsValid}
 use Rattle.rlsf_base.specs.Sizes.{pool_size_to_contain_allocation}
 use Rattle.rlsf_base.specs.Space.{range_of, SamePlace}
 use Rattle.rlsf_blocks.specs.Spare.{KeepsSpare}
-use Rattle.rlsf_blocks.specs.StandsFor.{Contents, StandsFor}
+use Rattle.rlsf_tlsf.specs.Allocator.{Allocator, IsInState, Steps}
+use Rattle.rlsf_tlsf.proofs.Standing.{stepped}
 use Rattle.rlsf_flex.specs.Outside.{KeepsOutside}
 use Rattle.rlsf_flex.specs.StandsFor.{FlexContents, FlexStandsFor, FlexSteps}
 use Rattle.rlsf_flex.specs.Steps.Growth.{Extended}
@@ -25,11 +26,15 @@ use Rattle.rlsf_flex.proofs.Frames.{stands_stepped}
 use Rattle.rlsf_flex.proofs.Outside.{KeepsOutside-stands, KeepsOutside-then}
 
 -- what the allocator over pools does for an allocation
-abbrev pub Allocated : ℕ → ℕ → ℕ → ℕ → Contents → Contents → State → Option ℕ → Type 0
-Allocated fllen sllen size align old new s reply = (t : State) × Allocates sllen s size align reply t × StandsFor fllen sllen new t × KeepsSpare old.memory s new.memory t
+abbrev pub Allocated : ℕ → ℕ → ℕ → ℕ → Allocator → Allocator → State → Option ℕ → Type 0
+Allocated fllen sllen size align old new s reply = (t : State) × Allocates sllen s size align reply t × IsInState fllen sllen new t × KeepsSpare old.memory s new.memory t
+
+pub allocated : {fllen sllen : ℕ} (size align : ℕ) {old new : Allocator} {s : State} → IsInState fllen sllen old s → (reply : Option ℕ) → Steps fllen sllen old new (Allocates sllen old.state size align reply)
+    → Allocated fllen sllen size align old new s reply
+allocated {sllen = sllen} size align {new = new} is reply did = stepped is new (λ s. Allocates sllen s size align reply) did
 
 -- with other contents over the same source
-abbrev pub with_tlsf : {S : Type 0} → FlexContents S → Contents → FlexContents S
+abbrev pub with_tlsf : {S : Type 0} → FlexContents S → Allocator → FlexContents S
 with_tlsf v t = record { tlsf = t; kept = v.kept; source = v.source }
 
 -- what holds of the value wherever there is one
@@ -54,7 +59,7 @@ nothing_came (given r) is = absurd (true≢false (sym is))
 
 module _ {S : Type 0} {fllen sllen : ℕ} {terms : S → Terms} {owes : S → List Range → Type 0} (size align : ℕ) where
   -- what a step of the machine over a source is, once its allocation was made
-  module _ {v : FlexContents S} {new : Contents} {s : FlexState} (place : SamePlace v.tlsf.memory new.memory) (h : FlexStandsFor fllen sllen terms owes v s) where
+  module _ {v : FlexContents S} {new : Allocator} {s : FlexState} (place : SamePlace v.tlsf.memory new.memory) (h : FlexStandsFor fllen sllen terms owes v s) where
     pub allocated_stands : (reply : Option ℕ) (a : Allocated fllen sllen size align v.tlsf new s.machine reply) → FlexStandsFor fllen sllen terms owes (with_tlsf v new) (with_machine s a.0)
     allocated_stands reply (t, all, stands, spare) = stands_stepped fllen sllen terms owes v new s t h stands (chunks-allocated sllen s.machine t size align reply all) spare place
 
@@ -79,7 +84,7 @@ module _ {S : Type 0} {fllen sllen : ℕ} {terms : S → Terms} {owes : S → Li
     allocated_live addr power a = (
       with_machine s a.0,
       allocated_stands (Some addr) a,
-      (handed_out_is_new fllen sllen (range_of v.tlsf.memory) s.machine a.0 size align addr h.machine.well_formed power a.1).1,
+      (handed_out_is_new fllen sllen (range_of v.tlsf.memory) s.machine a.0 size align addr h.machine.stands.well_formed power a.1).1,
     )
 
     -- there is no room, and nothing has changed yet
@@ -87,7 +92,7 @@ module _ {S : Type 0} {fllen sllen : ℕ} {terms : S → Terms} {owes : S → Li
     no_room a = ((a.1.0, refl), subst (λ m. FlexStandsFor fllen sllen terms owes (with_tlsf v new) (with_machine s m)) a.1.1 (allocated_stands None a), allocated_outside None a)
 
   -- there is no room, and the source is asked
-  module _ {leads : S → Note → S → Type 0} (v : FlexContents S) {new : Contents} {s : FlexState} (full : Allocates sllen s.machine size align None s.machine) where
+  module _ {leads : S → Note → S → Type 0} (v : FlexContents S) {new : Allocator} {s : FlexState} (full : Allocates sllen s.machine size align None s.machine) where
     -- no pool would do, so nothing is asked
     pub nothing_asked : KeepsOutside v.tlsf.memory s.pools new.memory s.pools → pool_size_to_contain_allocation fllen sllen size align ≡ None → FlexStandsFor fllen sllen terms owes (with_tlsf v new) s
         → FlexSteps fllen sllen terms owes leads v (with_tlsf v new) s (FlexAllocates fllen sllen (terms v.source) s size align None)
@@ -121,7 +126,7 @@ module _ {S : Type 0} {fllen sllen : ℕ} {terms : S → Terms} {owes : S → Li
         pub more_is_found : {t : State} → Allocates sllen h.state.machine size align None t → ⊥
         more_is_found none = pool_has_a_choice fl_bits sl_bits fllen sllen size align e h.state.machine valid wanted (h.room (sym h.came)) none.0
 
-        pub allocated_in_more : {last : Contents} → KeepsOutside v.tlsf.memory s.pools new.memory s.pools → SamePlace after.tlsf.memory last.memory → (reply : Option ℕ) → Allocated fllen sllen size align after.tlsf last h.state.machine reply
+        pub allocated_in_more : {last : Allocator} → KeepsOutside v.tlsf.memory s.pools new.memory s.pools → SamePlace after.tlsf.memory last.memory → (reply : Option ℕ) → Allocated fllen sllen size align after.tlsf last h.state.machine reply
             → FlexSteps fllen sllen terms owes leads v (with_tlsf after last) s (FlexAllocates fllen sllen (terms v.source) s size align reply)
         allocated_in_more still place None a = absurd (more_is_found a.1)
         allocated_in_more {last = last} still place (Some addr) a = record {

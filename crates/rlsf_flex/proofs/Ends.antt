@@ -6,7 +6,7 @@ use Rattle.std.specs.Option.{option_map}
 use Rattle.rlsf_base.specs.declared.memory.range.Range.{Range}
 use Rattle.rlsf_base.specs.Range.{end_of}
 use Rattle.rlsf_base.specs.Space.{Space, IsWord, range_of}
-use Rattle.rlsf_blocks.specs.StandsFor.{Contents}
+use Rattle.rlsf_tlsf.specs.Allocator.{Allocator}
 use Rattle.rlsf_flex.specs.declared.pool.Pool.{Pool}
 use Rattle.rlsf_flex.specs.Footers.{AreSpelled, Footers, first, footer_of}
 use Rattle.rlsf_flex.specs.StandsFor.{FlexStandsFor, IsNewest, flex_contents, kept_of}
@@ -113,14 +113,14 @@ module _ {S : Type 0} {owes : S → List Range → Type 0} {leads : S → Note �
 -- ---- the end
 
 -- where the source takes ranges back, those that an allocator stands for are spelled in its memory
-pub spelled : {S : Type 0} (fllen sllen : ℕ) (terms : S → Terms) (owes : S → List Range → Type 0) (x : S) (a : Contents) (kept : Option Pool) (s : FlexState) (newest : Option Range) → FlexStandsFor fllen sllen terms owes (flex_contents a kept x) s
+pub spelled : {S : Type 0} (fllen sllen : ℕ) (terms : S → Terms) (owes : S → List Range → Type 0) (x : S) (a : Allocator) (kept : Option Pool) (s : FlexState) (newest : Option Range) → FlexStandsFor fllen sllen terms owes (flex_contents a kept x) s
     → (terms x).dealloc ≡ true → newest ≡ option_map (λ (p : Pool). p.range) kept → AreSpelled a.memory newest s.pools
 spelled fllen sllen terms owes x a kept s newest v has is_newest = record {
   is_first = is_newest ∙ is_first kept (subst (λ k. IsNewest (terms x) k s.pools s.machine.chunks) v.kept v.newest);
   footers = v.footers has;
   placed = outstanding_in a.memory (terms x).space s.pools v.space v.pools;
-  nonzero = v.machine.nonzero;
-  addressable = v.machine.well_formed.addressable;
+  nonzero = v.machine.stands.nonzero;
+  addressable = v.machine.stands.well_formed.addressable;
 }
   where
     is_first : (k : Option Pool) → IsNewest (terms x) (kept_of k) s.pools s.machine.chunks → option_map (λ (p : Pool). p.range) k ≡ first s.pools

@@ -7,7 +7,7 @@ use Rattle.rlsf_base.specs.Range.{end_of, LiesIn}
 use Rattle.rlsf_base.specs.Space.{Space, byte_at, bytes_in, range_of, word_at, word_range, IsWord, SamePlace}
 use Rattle.rlsf_blocks.specs.InBand.{sentinel_of}
 use Rattle.rlsf_blocks.specs.Spare.{IsSpareWord, KeepsSpare}
-use Rattle.rlsf_blocks.specs.StandsFor.{Contents, StandsFor}
+use Rattle.rlsf_tlsf.specs.Allocator.{Allocator, IsInState}
 use Rattle.rlsf_blocks.proofs.Allocate.Placements.{length-bytes_in}
 use Rattle.rlsf_flex.specs.Footers.{footer_of, Footers}
 use Rattle.rlsf_flex.specs.Outstanding.{AreOutstanding}
@@ -24,7 +24,7 @@ abbrev pub HasSpareFooter : Space → State → Range → Type 0
 HasSpareFooter m s p = IsSpareWord m s (footer_of p) × IsSpareWord m s (footer_of p + 8)
 
 -- where ranges house all chunks, the footer of each is spare
-pub spare_footer : (fllen sllen : ℕ) (v : Contents) (s : State) (pools : List Range) → StandsFor fllen sllen v s → AreOutstanding (range_of v.memory) pools
+pub spare_footer : (fllen sllen : ℕ) (v : Allocator) (s : State) (pools : List Range) → IsInState fllen sllen v s → AreOutstanding (range_of v.memory) pools
     → ((c : Range) → IsIn c s.chunks → IsHoused pools c) → (p : Range) → IsIn p pools → HasSpareFooter v.memory s p
 spare_footer fllen sllen v s pools stands placed housed p i =
     (((aligned, lies), λ a low high. spare a low (omega (arith, high))), ((next, behind), λ a low high. spare a (omega (arith, low)) (omega (arith, high))))
@@ -53,7 +53,7 @@ spare_footer fllen sllen v s pools stands placed housed p i =
         let room = long in
         let same : q ≡ p = coverage-unique itself q p pools a (placed.disjoint a) k i (covers-inside q a (omega arith) (omega arith)) (covers-inside p a (omega arith) (omega arith)) in
         let end : end_of q ≡ end_of p = ap end_of same in
-        let chunk = stands.well_formed.chunks c j in
+        let chunk = stands.stands.well_formed.chunks c j in
         let start32 = chunk.whole.start in
         let len32 = chunk.whole.len in
         let some = chunk.has_room in
@@ -97,8 +97,8 @@ Footers-kept m n s t (p ∷ ps) keeps place spare (start, len, rest) =
     stays a was is = word_at-bytes m n a place was.0 (λ b low high. keeps b (omega (arith, was.0, low)) (omega (arith, was.0, high)) (was.1 b low high) (is.1 b low high))
 
 -- a step of the machine that leaves the chunks is one of the allocator over a source
-pub stands_stepped : {S : Type 0} (fllen sllen : ℕ) (terms : S → Terms) (owes : S → List Range → Type 0) (v : FlexContents S) (new : Contents) (s : FlexState) (t : State)
-    → FlexStandsFor fllen sllen terms owes v s → StandsFor fllen sllen new t → t.chunks ≡ s.machine.chunks → KeepsSpare v.tlsf.memory s.machine new.memory t → SamePlace v.tlsf.memory new.memory
+pub stands_stepped : {S : Type 0} (fllen sllen : ℕ) (terms : S → Terms) (owes : S → List Range → Type 0) (v : FlexContents S) (new : Allocator) (s : FlexState) (t : State)
+    → FlexStandsFor fllen sllen terms owes v s → IsInState fllen sllen new t → t.chunks ≡ s.machine.chunks → KeepsSpare v.tlsf.memory s.machine new.memory t → SamePlace v.tlsf.memory new.memory
     → FlexStandsFor fllen sllen terms owes (record { tlsf = new; kept = v.kept; source = v.source }) (with_machine s t)
 stands_stepped fllen sllen terms owes v new s t h stands chunks keeps place = record {
   machine = stands;

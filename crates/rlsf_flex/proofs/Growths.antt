@@ -5,7 +5,7 @@ use Rattle.rlsf_base.specs.Range.{end_of, LiesIn}
 use Rattle.rlsf_base.specs.SizeClass.{IsValid}
 use Rattle.rlsf_base.specs.Space.{range_of, SamePlace}
 use Rattle.rlsf_blocks.specs.Spare.{KeepsSpare}
-use Rattle.rlsf_blocks.specs.StandsFor.{Contents, StandsFor}
+use Rattle.rlsf_tlsf.specs.Allocator.{Allocator, IsInState}
 use Rattle.rlsf_flex.specs.Footers.{first_len, first_start, Footers}
 use Rattle.rlsf_flex.specs.Outside.{IsOutside, KeepsOutside}
 use Rattle.rlsf_flex.specs.StandsFor.{FlexContents, FlexStandsFor, IsKeptPool}
@@ -50,7 +50,7 @@ module _ {S : Type 0} {fl_bits sl_bits fllen sllen e : ℕ} (valid : IsValid fl_
       (omega (arith, c.is_asked, c.is_grown.long), omega (arith, c.is_asked, c.is_grown.long, c.kept.nearly), long, omega (arith, c.kept.nearly))
 
   -- the longer range houses the chunks that there were
-  pub Grew-houses : (d : Contents) → StandsFor fllen sllen d s.machine → SamePlace v.tlsf.memory d.memory → Houses fllen sllen (terms v.source).space d s.machine (with_len k.range len ∷ c.kept.rest)
+  pub Grew-houses : (d : Allocator) → IsInState fllen sllen d s.machine → SamePlace v.tlsf.memory d.memory → Houses fllen sllen (terms v.source).space d s.machine (with_len k.range len ∷ c.kept.rest)
   Grew-houses d stands place =
       let (room, more, long, some) = Grew-longer in
       Houses-moved Grew-old d s.machine (with_len k.range len ∷ c.kept.rest) stands place
@@ -73,7 +73,7 @@ module _ {S : Type 0} {fl_bits sl_bits fllen sllen e : ℕ} (valid : IsValid fl_
       ]
 
   -- what is behind the kept pool may be appended
-  pub Grew-next : (d : Contents) → SamePlace v.tlsf.memory d.memory → IsNext (range_of d.memory) s.machine (behind k len)
+  pub Grew-next : (d : Allocator) → SamePlace v.tlsf.memory d.memory → IsNext (range_of d.memory) s.machine (behind k len)
   Grew-next d place =
       let (room, more, long, some) = Grew-longer in
       let (last, is_chunk, ends) = c.kept.last in
@@ -88,14 +88,14 @@ module _ {S : Type 0} {fl_bits sl_bits fllen sllen e : ℕ} (valid : IsValid fl_
       }
 
   -- a pool of it is taken
-  pub Grew-taken : (d : Contents) (t : State) (n : ℕ) → StandsFor fllen sllen d s.machine → SamePlace v.tlsf.memory d.memory → Appends fllen s.machine (behind k len) n t → IsTaken s.machine (behind k len) n t × HasPool e t
+  pub Grew-taken : (d : Allocator) (t : State) (n : ℕ) → IsInState fllen sllen d s.machine → SamePlace v.tlsf.memory d.memory → Appends fllen s.machine (behind k len) n t → IsTaken s.machine (behind k len) n t × HasPool e t
   Grew-taken d t n stands place step =
       let (room, whole, short) = pool_size_is fl_bits sl_bits fllen sllen e valid c.size in
       let (enough, more, long, some) = Grew-longer in
-      appended_pool fllen sllen e (range_of d.memory) s.machine t (behind k len) n stands.well_formed (Grew-next d place) room whole short (omega arith) step
+      appended_pool fllen sllen e (range_of d.memory) s.machine t (behind k len) n stands.stands.well_formed (Grew-next d place) room whole short (omega arith) step
 
   -- the longer range houses the chunks that there are then
-  Grew-housed : (d : Contents) (t : State) (n : ℕ) → StandsFor fllen sllen d s.machine → IsTaken s.machine (behind k len) n t → AreHoused (with_len k.range len ∷ c.kept.rest) t.chunks
+  Grew-housed : (d : Allocator) (t : State) (n : ℕ) → IsInState fllen sllen d s.machine → IsTaken s.machine (behind k len) n t → AreHoused (with_len k.range len ∷ c.kept.rest) t.chunks
   Grew-housed d t n stands taken x i =
       let (room, more, long, some) = Grew-longer in
       let now = with_len k.range len in
@@ -104,7 +104,7 @@ module _ {S : Type 0} {fl_bits sl_bits fllen sllen e : ℕ} (valid : IsValid fl_
         | new from to ↦ (now, inl refl, omega arith, omega (arith, taken.within))
         | wider b j starts b_ends ends ↦
             let (p, m, low, high) = Grew-old.housed b j in
-            let b_room = (stands.well_formed.chunks b j).has_room in
+            let b_room = (stands.stands.well_formed.chunks b j).has_room in
             elim m [
               | inl same ↦ let start : p.start ≡ k.range.start = ap (λ q. q.start) {x = p} same in (now, inl refl, omega arith, omega (arith, taken.within))
               | inr l ↦
@@ -114,9 +114,9 @@ module _ {S : Type 0} {fl_bits sl_bits fllen sllen e : ℕ} (valid : IsValid fl_
       ]
 
   -- The footer comes first, from v to d, and behind it the new bytes, from d to b.
-  pub Grew-took : (d b : Contents) (t : State) (n : ℕ) → terms y ≡ terms v.source → StandsFor fllen sllen d s.machine
+  pub Grew-took : (d b : Allocator) (t : State) (n : ℕ) → terms y ≡ terms v.source → IsInState fllen sllen d s.machine
       → IsFooted (terms v.source).dealloc v.tlsf.memory d.memory (with_len k.range len) (first_start c.kept.rest) (first_len c.kept.rest)
-      → Appends fllen s.machine (behind k len) n t → StandsFor fllen sllen b t → KeepsSpare d.memory s.machine b.memory t → SamePlace d.memory b.memory
+      → Appends fllen s.machine (behind k len) n t → IsInState fllen sllen b t → KeepsSpare d.memory s.machine b.memory t → SamePlace d.memory b.memory
       → Took fllen sllen terms owes v (record { tlsf = b; kept = Some (record { range = with_len k.range len; len = k.len + n }); source = y }) s e (grown len)
   Grew-took d b t n same footed_stands foot step stands spare place =
       let (enough, more, long, some) = Grew-longer in

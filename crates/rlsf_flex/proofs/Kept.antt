@@ -3,7 +3,7 @@ use Rattle.std.proofs.Common.{◌≡◌, ℕ, ◌+◌, ◌≤◌, Bool, true, fa
 use Rattle.std.specs.Bool.{then_some}
 use Rattle.rlsf_base.specs.declared.memory.range.Range.{Range}
 use Rattle.rlsf_base.specs.Range.{end_of}
-use Rattle.rlsf_blocks.specs.StandsFor.{Contents}
+use Rattle.rlsf_tlsf.specs.Allocator.{Allocator}
 use Rattle.rlsf_flex.specs.declared.pool.Pool.{Pool}
 use Rattle.rlsf_flex.specs.Footers.{first_len, first_start}
 use Rattle.rlsf_flex.specs.StandsFor.{flex_contents, FlexStandsFor, IsKeptPool, IsNewest, kept_of, kept_pool}
@@ -48,7 +48,7 @@ IsKeptPool-taken t range len rest s u r n keep from ends at clear taken =
     }
 
 -- the pool that is at hand is the kept one of each state that stands
-pub IsKeptPool-known : {S : Type 0} {fllen sllen : ℕ} {terms : S → Terms} {owes : S → List Range → Type 0} {tlsf : Contents} {source : S} {kept : Option Pool} {pool : Pool} {s : FlexState}
+pub IsKeptPool-known : {S : Type 0} {fllen sllen : ℕ} {terms : S → Terms} {owes : S → List Range → Type 0} {tlsf : Allocator} {source : S} {kept : Option Pool} {pool : Pool} {s : FlexState}
     → FlexStandsFor fllen sllen terms owes (flex_contents tlsf kept source) s → kept ≡ Some pool → (s.kept ≡ Some (kept_pool pool)) × IsKeptPool (terms source) (kept_pool pool) s.pools s.machine.chunks
 IsKeptPool-known {S} {fllen} {sllen} {terms} {owes} {tlsf} {source} {kept} {pool} {s} v is =
     let was = v.kept ∙ ap kept_of is in

@@ -4,7 +4,7 @@ use Rattle.std.proofs.lemmas.List.{length-append, take_all, take_at}
 use Rattle.rlsf_base.specs.PowerOfTwo.{IsPowerOfTwo}
 use Rattle.rlsf_base.specs.Space.{range_of, SamePlace}
 use Rattle.rlsf_blocks.specs.Spare.{KeepsSpare}
-use Rattle.rlsf_blocks.specs.StandsFor.{Contents, StandsFor}
+use Rattle.rlsf_tlsf.specs.Allocator.{Allocator, IsInState}
 use Rattle.rlsf_machine.specs.Allocate.{Allocates, given, placed, Places}
 use Rattle.rlsf_machine.specs.Lists.{IsIn}
 use Rattle.rlsf_machine.specs.Reallocate.{Keeps, MovesAway}
@@ -24,10 +24,10 @@ Keeps-front n old new is short =
     let least : min (length old) (length (with_front n old new)) ≡ n = omega (arith, is, long) in
     subst (λ k. take k (with_front n old new) ≡ take k old) (sym least) (take_at (take n old) (drop n new) n front)
 
-module _ {fllen sllen : ℕ} {v w : Contents} {s t : State} (stands : StandsFor fllen sllen v s) (addr : ℕ) (u : Used) (holds : Holds s addr u) (size align to : ℕ) (is : u.align ≡ align) (short : (usable u).len ≤ size)
-    (step : Places sllen s size align to t) (now : StandsFor fllen sllen w t) where
+module _ {fllen sllen : ℕ} {v w : Allocator} {s t : State} (stands : IsInState fllen sllen v s) (addr : ℕ) (u : Used) (holds : Holds s addr u) (size align to : ℕ) (is : u.align ≡ align) (short : (usable u).len ≤ size)
+    (step : Places sllen s size align to t) (now : IsInState fllen sllen w t) where
   power : IsPowerOfTwo align
-  power = subst IsPowerOfTwo is (stands.well_formed.used u holds.0).power
+  power = subst IsPowerOfTwo is (stands.stands.well_formed.used u holds.0).power
 
   -- the block that was allocated, which has the address
   abbrev pub new : Used
@@ -43,8 +43,8 @@ module _ {fllen sllen : ℕ} {v w : Contents} {s t : State} (stands : StandsFor 
   -- which is no shorter than the old one
   pub long : (usable u).len ≤ (usable new).len
   long =
-      let (x, at, enough, few) = allocation_has_size fllen sllen (range_of v.memory) s t size align (Some to) stands.well_formed power step in
-      let same : x ≡ new = Holds-unique now.well_formed to x new at Holds-new in
+      let (x, at, enough, few) = allocation_has_size fllen sllen (range_of v.memory) s t size align (Some to) stands.stands.well_formed power step in
+      let same : x ≡ new = Holds-unique now.stands.well_formed to x new at Holds-new in
       omega (arith, short, subst (λ x. size ≤ (usable x).len) same enough)
 
   -- both have the bytes of the old one
@@ -54,10 +54,10 @@ module _ {fllen sllen : ℕ} {v w : Contents} {s t : State} (stands : StandsFor 
   -- a fill of the new block is an allocation with other bytes
   module _ (bytes : List ℕ) (r : State) (fills : Fills t to bytes r) where
     same : fills.block ≡ new
-    same = Holds-unique now.well_formed to fills.block new fills.holds Holds-new
+    same = Holds-unique now.stands.well_formed to fills.block new fills.holds Holds-new
 
     filled : r ≡ given sllen s step.range (placed step.range size align bytes)
-    filled = allocated_filled stands.well_formed power step fills
+    filled = allocated_filled stands.stands.well_formed power step fills
 
     pub Places-filled : Places sllen s size align to r
     Places-filled = record {
@@ -76,7 +76,7 @@ module _ {fllen sllen : ℕ} {v w : Contents} {s t : State} (stands : StandsFor 
     IsLive-filled = (u, Holds-filled, is)
 
   -- then the old block was given back
-  module _ (x y : Contents) (r q : State) (fills : Fills t to (with_front (usable u).len u.bytes step.bytes) r) (gone : Deallocates r addr q) where
+  module _ (x y : Allocator) (r q : State) (fills : Fills t to (with_front (usable u).len u.bytes step.bytes) r) (gone : Deallocates r addr q) where
     pub MovesAway-copied : MovesAway sllen s u size to q
     MovesAway-copied =
         let bytes = with_front (usable u).len u.bytes step.bytes in
@@ -85,7 +85,7 @@ module _ {fllen sllen : ℕ} {v w : Contents} {s t : State} (stands : StandsFor 
           allocated = subst (λ a. Allocates sllen s size a (Some to) r) (sym is) (Places-filled bytes r fills);
           block = placed step.range size align bytes;
           holds = subst (λ x. Holds x to (placed step.range size align bytes)) (sym (filled bytes r fills)) (inl refl, sym step.answer);
-          kept = Keeps-front (usable u).len u.bytes step.bytes (stands.well_formed.used u holds.0).bytes (omega (arith, long, (now.well_formed.used new Holds-new.0).bytes));
+          kept = Keeps-front (usable u).len u.bytes step.bytes (stands.stands.well_formed.used u holds.0).bytes (omega (arith, long, (now.stands.well_formed.used new Holds-new.0).bytes));
           released = subst (λ a. Deallocates r a q) (sym holds.1) gone;
         }
 

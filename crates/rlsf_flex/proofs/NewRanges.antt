@@ -7,7 +7,7 @@ use Rattle.rlsf_base.specs.Range.{LiesIn}
 use Rattle.rlsf_base.specs.SizeClass.{IsValid}
 use Rattle.rlsf_base.specs.Space.{range_of, SamePlace}
 use Rattle.rlsf_blocks.specs.Spare.{KeepsSpare}
-use Rattle.rlsf_blocks.specs.StandsFor.{Contents, StandsFor}
+use Rattle.rlsf_tlsf.specs.Allocator.{Allocator, IsInState}
 use Rattle.rlsf_flex.specs.declared.pool.Pool.{Pool}
 use Rattle.rlsf_flex.specs.Footers.{Footers}
 use Rattle.rlsf_flex.specs.Outside.{KeepsOutside}
@@ -50,7 +50,7 @@ module _ {S : Type 0} {fl_bits sl_bits fllen sllen e : ℕ} (valid : IsValid fl_
   Came-long = omega (arith, (pool_size_is fl_bits sl_bits fllen sllen e valid c.size).0, range_length-whole (terms v.source) e len (pool_size_is fl_bits sl_bits fllen sllen e valid c.size).1 c.told, c.is_given.long)
 
   -- then it houses its chunks
-  pub Came-houses : (b : Contents) (t : State) (taken : Option ℕ) → Inserts fllen s.machine r taken t → StandsFor fllen sllen b t → SamePlace v.tlsf.memory b.memory → Houses fllen sllen (terms v.source).space b t (r ∷ s.pools)
+  pub Came-houses : (b : Allocator) (t : State) (taken : Option ℕ) → Inserts fllen s.machine r taken t → IsInState fllen sllen b t → SamePlace v.tlsf.memory b.memory → Houses fllen sllen (terms v.source).space b t (r ∷ s.pools)
   Came-houses b t taken step stands place =
       Houses-moved (Houses-flex c.before) b t (r ∷ s.pools) stands place
       (AreOutstanding-more (terms v.source).space r s.pools c.before.pools c.is_given.lies_in c.is_given.apart Came-long)
@@ -63,9 +63,9 @@ module _ {S : Type 0} {fl_bits sl_bits fllen sllen e : ℕ} (valid : IsValid fl_
       inserted_pool fllen sllen e s.machine t r taken valid.some_rows room whole short (HasAlignedPart-given (terms v.source) s.pools e len r c.told c.is_given) step
 
   -- Behind the insertion from a to b comes the footer, from b to d.
-  pub Came-took : (b d : Contents) (t : State) (taken : Option ℕ) (kept : Option Pool) (later : Option KeptPool) → terms y ≡ terms v.source → v.kept ≡ kept_of kept
-      → Inserts fllen s.machine r taken t → StandsFor fllen sllen b t → KeepsSpare v.tlsf.memory s.machine b.memory t → SamePlace v.tlsf.memory b.memory
-      → StandsFor fllen sllen d t → IsFooted (terms v.source).dealloc b.memory d.memory r (kept_start kept) (kept_len kept)
+  pub Came-took : (b d : Allocator) (t : State) (taken : Option ℕ) (kept : Option Pool) (later : Option KeptPool) → terms y ≡ terms v.source → v.kept ≡ kept_of kept
+      → Inserts fllen s.machine r taken t → IsInState fllen sllen b t → KeepsSpare v.tlsf.memory s.machine b.memory t → SamePlace v.tlsf.memory b.memory
+      → IsInState fllen sllen d t → IsFooted (terms v.source).dealloc b.memory d.memory r (kept_start kept) (kept_len kept)
       → ((n : ℕ) → taken ≡ Some n → later ≡ then_some (keeps (terms v.source)) (record { range = r; len = n }))
       → Took fllen sllen terms owes v (record { tlsf = d; kept = later; source = y }) s e (given r)
   Came-took b d t taken kept later same was step stands spare place footed_stands foot told =

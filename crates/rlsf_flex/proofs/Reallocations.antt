@@ -5,7 +5,8 @@ use Rattle.rlsf_base.specs.declared.memory.range.Range.{Range}
 use Rattle.rlsf_base.specs.Sizes.{pool_size_to_contain_allocation}
 use Rattle.rlsf_base.specs.Space.{range_of, SamePlace}
 use Rattle.rlsf_blocks.specs.Spare.{KeepsSpare}
-use Rattle.rlsf_blocks.specs.StandsFor.{Contents, StandsFor}
+use Rattle.rlsf_tlsf.specs.Allocator.{Allocator, IsInState, Steps}
+use Rattle.rlsf_tlsf.proofs.Standing.{stepped}
 use Rattle.rlsf_flex.specs.Outside.{KeepsOutside}
 use Rattle.rlsf_flex.specs.StandsFor.{FlexContents, FlexStandsFor, FlexSteps}
 use Rattle.rlsf_flex.specs.Steps.Growth.{Extended}
@@ -31,12 +32,16 @@ use Rattle.rlsf_flex.proofs.Frames.{stands_stepped}
 use Rattle.rlsf_flex.proofs.Outside.{KeepsOutside-stands, KeepsOutside-then}
 
 -- what the allocator over pools does for a reallocation
-abbrev pub Reallocated : ℕ → ℕ → ℕ → ℕ → Contents → Contents → State → Option ℕ → Type 0
-Reallocated fllen sllen addr size old new s reply = (t : State) × Reallocates sllen s addr size reply t × StandsFor fllen sllen new t × KeepsSpare old.memory s new.memory t
+abbrev pub Reallocated : ℕ → ℕ → ℕ → ℕ → Allocator → Allocator → State → Option ℕ → Type 0
+Reallocated fllen sllen addr size old new s reply = (t : State) × Reallocates sllen s addr size reply t × IsInState fllen sllen new t × KeepsSpare old.memory s new.memory t
+
+pub reallocated : {fllen sllen : ℕ} (addr size : ℕ) {old new : Allocator} {s : State} → IsInState fllen sllen old s → (reply : Option ℕ) → Steps fllen sllen old new (Reallocates sllen old.state addr size reply)
+    → Reallocated fllen sllen addr size old new s reply
+reallocated {sllen = sllen} addr size {new = new} is reply did = stepped is new (λ s. Reallocates sllen s addr size reply) did
 
 -- a payload moved
-abbrev pub Moved : ℕ → ℕ → Used → ℕ → Contents → Contents → State → ℕ → Type 0
-Moved fllen sllen u size old new s to = (t : State) × MovesAway sllen s u size to t × StandsFor fllen sllen new t × KeepsSpare old.memory s new.memory t
+abbrev pub Moved : ℕ → ℕ → Used → ℕ → Allocator → Allocator → State → ℕ → Type 0
+Moved fllen sllen u size old new s to = (t : State) × MovesAway sllen s u size to t × IsInState fllen sllen new t × KeepsSpare old.memory s new.memory t
 
 -- where a plan is none, the first of its cases can't be
 in_place-none : (o q : Option Plan) → or_else o q ≡ None → o ≡ None
@@ -72,7 +77,7 @@ moved_is_live {fllen} {sllen} {memory} {s} w u i size to t moves =
     live_stays fllen sllen moves.meanwhile t (deallocate u.payload) to u.align moves.released live (λ at. fresh u.align (u, (i, at), refl))
 
 module _ {S : Type 0} {fllen sllen : ℕ} {terms : S → Terms} {owes : S → List Range → Type 0} (addr size align : ℕ) where
-  module _ {v : FlexContents S} {new : Contents} {s : FlexState} (place : SamePlace v.tlsf.memory new.memory) (h : FlexStandsFor fllen sllen terms owes v s) where
+  module _ {v : FlexContents S} {new : Allocator} {s : FlexState} (place : SamePlace v.tlsf.memory new.memory) (h : FlexStandsFor fllen sllen terms owes v s) where
     pub reallocated_stands : (reply : Option ℕ) (a : Reallocated fllen sllen addr size v.tlsf new s.machine reply) → FlexStandsFor fllen sllen terms owes (with_tlsf v new) (with_machine s a.0)
     reallocated_stands reply (t, all, stands, spare) = stands_stepped fllen sllen terms owes v new s t h stands (chunks-reallocated sllen s.machine t addr size reply all) spare place
 
@@ -97,7 +102,7 @@ module _ {S : Type 0} {fllen sllen : ℕ} {terms : S → Terms} {owes : S → Li
     reallocated_live to live a = (
       with_machine s a.0,
       reallocated_stands (Some to) a,
-      (reallocated_is_live fllen sllen (range_of v.tlsf.memory) s.machine a.0 addr size to align h.machine.well_formed live a.1).0,
+      (reallocated_is_live fllen sllen (range_of v.tlsf.memory) s.machine a.0 addr size to align h.machine.stands.well_formed live a.1).0,
     )
 
     -- there is no room, and nothing has changed yet
@@ -107,7 +112,7 @@ module _ {S : Type 0} {fllen sllen : ℕ} {terms : S → Terms} {owes : S → Li
     no_room_to_move (x, holds, is) a =
         let u = a.1.block in
         let (none, full) = refused_by sllen size s.machine a.0 u (plan s.machine u size) a.1.step in
-        let aligned : u.align ≡ align = ap (λ (y : Used). y.align) (Holds-unique h.machine.well_formed addr u x a.1.holds holds) ∙ is in (
+        let aligned : u.align ≡ align = ap (λ (y : Used). y.align) (Holds-unique h.machine.stands.well_formed addr u x a.1.holds holds) ∙ is in (
           u,
           record { holds = a.1.holds; no_plan = none },
           aligned,
@@ -130,13 +135,13 @@ module _ {S : Type 0} {fllen sllen : ℕ} {terms : S → Terms} {owes : S → Li
       stands = h.stands;
     }
 
-    module _ {new : Contents} (full : Allocates sllen s.machine size align None s.machine) {e : ℕ} (wanted : pool_size_to_contain_allocation fllen sllen size align ≡ Some e) {after : FlexContents S}
+    module _ {new : Allocator} (full : Allocates sllen s.machine size align None s.machine) {e : ℕ} (wanted : pool_size_to_contain_allocation fllen sllen size align ≡ Some e) {after : FlexContents S}
         (h : Extended fllen sllen terms owes leads (with_tlsf v new) after s e true) where
       -- what came left the block
       pub Holds-came : Holds h.state.machine addr u
       Holds-came = Holds-same s.machine h.state.machine addr u (used-taken fllen (terms v.source) s h.state h.outcome h.extends.after) stuck.holds
 
-      module _ {last : Contents} (place : SamePlace after.tlsf.memory last.memory) {to : ℕ} (a : Moved fllen sllen u size after.tlsf last h.state.machine to) where
+      module _ {last : Allocator} (place : SamePlace after.tlsf.memory last.memory) {to : ℕ} (a : Moved fllen sllen u size after.tlsf last h.state.machine to) where
         pub moved_stands : FlexStandsFor fllen sllen terms owes (with_tlsf after last) (with_machine h.state a.0)
         moved_stands =
             let moves = a.1 in
@@ -157,7 +162,7 @@ module _ {S : Type 0} {fllen sllen : ℕ} {terms : S → Terms} {owes : S → Li
             more = sym h.came;
             machine = a.0;
             moves = a.1;
-            elsewhere = λ same. moved_elsewhere h.stands.machine.well_formed u Holds-came.0 size to a.0 a.1 (same ∙ sym Holds-came.1);
+            elsewhere = λ same. moved_elsewhere h.stands.machine.stands.well_formed u Holds-came.0 size to a.0 a.1 (same ∙ sym Holds-came.1);
             after = refl;
           });
           leads_by = h.leads_by;
@@ -168,4 +173,4 @@ module _ {S : Type 0} {fllen sllen : ℕ} {terms : S → Terms} {owes : S → Li
         }
 
         pub moved_live : (t : FlexState) × FlexStandsFor fllen sllen terms owes (with_tlsf after last) t × IsLive t.machine to align
-        moved_live = (with_machine h.state a.0, moved_stands, subst (IsLive a.0 to) is (moved_is_live h.stands.machine.well_formed u Holds-came.0 size to a.0 a.1))
+        moved_live = (with_machine h.state a.0, moved_stands, subst (IsLive a.0 to) is (moved_is_live h.stands.machine.stands.well_formed u Holds-came.0 size to a.0 a.1))

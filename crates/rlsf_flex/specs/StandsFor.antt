@@ -4,7 +4,7 @@ use Rattle.std.specs.Option.{option_map}
 use Rattle.rlsf_base.specs.declared.memory.range.Range.{Range}
 use Rattle.rlsf_base.specs.Range.{end_of, LiesIn}
 use Rattle.rlsf_base.specs.SizeClass.{IsValid}
-use Rattle.rlsf_blocks.specs.StandsFor.{Contents, StandsFor}
+use Rattle.rlsf_tlsf.specs.Allocator.{Allocator, IsInState}
 use Rattle.rlsf_flex.specs.declared.pool.Pool.{Pool}
 use Rattle.rlsf_flex.specs.Footers.{Footers}
 use Rattle.rlsf_flex.specs.Outside.{KeepsOutside}
@@ -19,7 +19,7 @@ use Rattle.rlsf_machine.specs.Terms.{Terms}
 
 -- the allocator as contracts see it: the one over pools, the kept pool and the source
 pub record FlexContents (S : Type 0) : Type 0 where
-  pub tlsf : Contents
+  pub tlsf : Allocator
   pub kept : Option KeptPool
   pub source : S
 
@@ -32,7 +32,7 @@ abbrev pub kept_of : Option Pool → Option KeptPool
 kept_of p = option_map kept_pool p
 
 -- the allocator by its parts
-abbrev pub flex_contents : {S : Type 0} → Contents → Option Pool → S → FlexContents S
+abbrev pub flex_contents : {S : Type 0} → Allocator → Option Pool → S → FlexContents S
 flex_contents t k s = record { tlsf = t; kept = kept_of k; source = s }
 
 -- the chunk lies in one of the ranges
@@ -58,7 +58,7 @@ IsNewest t (Some k) pools chunks = IsKeptPool t k pools chunks
 -- The allocator over pools stands for the machine's state, the source owes the ranges, which lie in the memory and house all
 -- chunks, and where it takes ranges back, their footers spell them.
 pub record FlexStandsFor {S : Type 0} (fllen sllen : ℕ) (terms : S → Terms) (owes : S → List Range → Type 0) (v : FlexContents S) (s : FlexState) : Type 0 where
-  pub machine : StandsFor fllen sllen v.tlsf s.machine
+  pub machine : IsInState fllen sllen v.tlsf s.machine
   pub kept : s.kept ≡ v.kept
   pub owed : owes v.source s.pools
   pub space : LiesIn (terms v.source).space v.tlsf.memory.start (length v.tlsf.memory.bytes)

@@ -1,12 +1,11 @@
 //! The footers of ranges: where a source takes ranges back, each names the range that came before it.
 
 ghost use Rattle.std.specs.Prelude.{◌≡◌, ◌≤◌, ◌<◌, ◌^◌, ◌+◌};
-ghost use Rattle.rlsf_blocks.specs.Spare.{IsSpareWord, KeepsSpare};
-ghost use Rattle.rlsf_blocks.specs.StandsFor.{StandsFor};
+ghost use Rattle.rlsf_blocks.specs.Spare.{IsSpareWord};
+ghost use Rattle.rlsf_tlsf.specs.Allocator.{Stands};
 ghost use Rattle.rlsf_base.specs.Range.{end_of};
 ghost use Rattle.rlsf_base.specs.Space.{word_at, IsWord};
 ghost use Rattle.rlsf_flex.specs.Footers.{footer_of, WritesFooter};
-ghost use Rattle.rlsf_machine.specs.State.{State};
 
 use rlsf_base::memory::{Memory, Range};
 use rlsf_int::Bitmap;
@@ -35,7 +34,7 @@ pub(crate) fn read_footer(memory: &Memory, range: Range) -> (usize, usize)
 
 /// Writes a range's footer.
 ///
-/// Its two words are spare in some state that the allocator stands for.
+/// Its two words are spare.
 pub(crate) fn write_footer<
     FLBitmap: Bitmap,
     SLBitmap: Bitmap,
@@ -43,10 +42,10 @@ pub(crate) fn write_footer<
     const SLLEN: usize,
 >(tlsf: &mut Tlsf<FLBitmap, SLBitmap, FLLEN, SLLEN>, range: Range, start: usize, len: usize)
     requires range { (16 ≤ end_of range) × (end_of range < 2 ^ 64) }
-    requires spare { (s : State) × StandsFor FLLEN SLLEN tlsf.old s × IsSpareWord tlsf.old.memory s (footer_of range) × IsSpareWord tlsf.old.memory s (footer_of range + 8) }
+    requires spare { IsSpareWord tlsf.old.memory tlsf.old.state (footer_of range) × IsSpareWord tlsf.old.memory tlsf.old.state (footer_of range + 8) }
     ensures footer { WritesFooter tlsf.old.memory tlsf.new.memory range start len }
-    ensures step { (s : State) → StandsFor FLLEN SLLEN tlsf.old s → IsSpareWord tlsf.old.memory s (footer_of range) → IsSpareWord tlsf.old.memory s (footer_of range + 8)
-        → StandsFor FLLEN SLLEN tlsf.new s }
+    ensures state { tlsf.new.state ≡ tlsf.old.state }
+    ensures stands { Stands FLLEN SLLEN tlsf.new }
     ensures copied { tlsf.new.memory.copied ≡ tlsf.old.memory.copied }
 {
     let footer = footer_at(range);

@@ -5,7 +5,7 @@ ghost use Rattle.std.specs.Int.NonZero.{non_zero_usize_get};
 ghost use Rattle.rlsf_base.specs.SizeClass.{IsValid};
 ghost use Rattle.rlsf_base.specs.Space.{SamePlace};
 ghost use Rattle.rlsf_blocks.specs.Spare.{KeepsSpare};
-ghost use Rattle.rlsf_blocks.specs.StandsFor.{StandsFor};
+ghost use Rattle.rlsf_tlsf.specs.Allocator.{IsInState};
 ghost use Rattle.rlsf_flex.specs.StandsFor.{FlexStandsFor, flex_contents, kept_pool};
 ghost use Rattle.rlsf_flex.specs.Steps.Growth.{AskedGrowth, AskedRange, Extended, Took, kept_len, kept_start, outcome_of_growth, outcome_of_range};
 ghost use Rattle.rlsf_machine.specs.Allocate.{Allocates};
@@ -240,10 +240,10 @@ pub(crate) fn move_payload<
     const FLLEN: usize,
     const SLLEN: usize,
 >(tlsf: &mut Tlsf<FLBitmap, SLBitmap, FLLEN, SLLEN>, addr: Addr, layout: Layout) -> Option<Addr>
-    requires { (s : State) × (u : Used) × StandsFor FLLEN SLLEN tlsf.old s × Holds s (non_zero_usize_get addr) u × (u.align ≡ layout.align) × ((usable u).len ≤ layout.size) }
-    ensures refused { IfNone result ((s : State) → StandsFor FLLEN SLLEN tlsf.old s → Allocates SLLEN s layout.size layout.align None s) }
-    ensures step { IfSome result (λ to. (s : State) (u : Used) → StandsFor FLLEN SLLEN tlsf.old s → Holds s (non_zero_usize_get addr) u → u.align ≡ layout.align → (usable u).len ≤ layout.size
-        → (t : State) × MovesAway SLLEN s u layout.size (non_zero_usize_get to) t × StandsFor FLLEN SLLEN tlsf.new t × KeepsSpare tlsf.old.memory s tlsf.new.memory t) }
+    requires { (s : State) × (u : Used) × IsInState FLLEN SLLEN tlsf.old s × Holds s (non_zero_usize_get addr) u × (u.align ≡ layout.align) × ((usable u).len ≤ layout.size) }
+    ensures refused { IfNone result ((s : State) → IsInState FLLEN SLLEN tlsf.old s → Allocates SLLEN s layout.size layout.align None s) }
+    ensures step { IfSome result (λ to. (s : State) (u : Used) → IsInState FLLEN SLLEN tlsf.old s → Holds s (non_zero_usize_get addr) u → u.align ≡ layout.align → (usable u).len ≤ layout.size
+        → (t : State) × MovesAway SLLEN s u layout.size (non_zero_usize_get to) t × IsInState FLLEN SLLEN tlsf.new t × KeepsSpare tlsf.old.memory s tlsf.new.memory t) }
     ensures place { SamePlace tlsf.old.memory tlsf.new.memory }
 {
     let to = tlsf.allocate(layout)?;

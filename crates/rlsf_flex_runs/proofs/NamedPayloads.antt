@@ -25,7 +25,7 @@ module _ {S : Type 0} {fllen sllen : ℕ} {terms : S → Terms} {owes : S → Li
   pub owned : (name : ℕ) (p : Payload) → get nat_eq table name ≡ Some p → (u : Used) × Owns (without_source s) name u × Holds s.flex.machine (address p) u × (length u.bytes ≡ (usable u).len)
   owned name p is =
       let (u, owns, holds, _) = owned_live at.are_named name p is in
-      (u, owns, holds, (at.stands.machine.well_formed.used u owns.0).bytes)
+      (u, owns, holds, (at.stands.machine.stands.well_formed.used u owns.0).bytes)
 
   -- an op that changes nothing
   pub LeadsOn-nothing : {leads : S → Note → S → Type 0} (op : Op) (answer : Answer) → DoesFlex fllen sllen (terms v.source) s op answer [] s → LeadsOn fllen sllen terms owes leads v s op answer v table
@@ -44,4 +44,4 @@ module _ {S : Type 0} {fllen sllen : ℕ} {terms : S → Terms} {owes : S → Li
   -- the bytes of a payload were written
   pub filled : {w : FlexContents S} (m : State) → FlexStandsFor fllen sllen terms owes w (with_machine s.flex m) → (addr : ℕ) (bytes : List ℕ) → Fills s.flex.machine addr bytes m
       → IsAt fllen sllen terms owes w table (with_run s (with_state m (without_source s)))
-  filled m stands addr bytes step = record { stands = stands; are_named = AreNamed-filled at.are_named fllen sllen (range_of v.tlsf.memory) m addr bytes at.stands.machine.well_formed step }
+  filled m stands addr bytes step = record { stands = stands; are_named = AreNamed-filled at.are_named fllen sllen (range_of v.tlsf.memory) m addr bytes at.stands.machine.stands.well_formed step }

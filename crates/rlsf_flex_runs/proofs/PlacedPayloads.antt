@@ -75,7 +75,7 @@ module _ {S : Type 0} {fllen sllen : ℕ} {terms : S → Terms} {owes : S → Li
     outside = steps.outside;
     at = record {
       stands = steps.stands;
-      are_named = AreNamed-flex_allocated at.are_named (range_of w.tlsf.memory) name layout.size layout.align (non_zero_usize_get addr) p steps.stands.machine.well_formed steps.is_step p_addr p_align added;
+      are_named = AreNamed-flex_allocated at.are_named (range_of w.tlsf.memory) name layout.size layout.align (non_zero_usize_get addr) p steps.stands.machine.stands.well_formed steps.is_step p_addr p_align added;
     };
   }
 
@@ -120,7 +120,7 @@ module _ {S : Type 0} {fllen sllen : ℕ} {terms : S → Terms} {owes : S → Li
         outside = steps.outside;
         at = record {
           stands = steps.stands;
-          are_named = AreNamed-flex_reallocated at.are_named (range_of v.tlsf.memory) (range_of w.tlsf.memory) name size (address old) (non_zero_usize_get addr) p at.stands.machine.well_formed steps.stands.machine.well_formed
+          are_named = AreNamed-flex_reallocated at.are_named (range_of v.tlsf.memory) (range_of w.tlsf.memory) name size (address old) (non_zero_usize_get addr) p at.stands.machine.stands.well_formed steps.stands.machine.stands.well_formed
               (owns.1 ∙ ap Some holds.1) live steps.is_step p_addr added;
         };
       }

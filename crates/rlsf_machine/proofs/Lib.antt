@@ -4,6 +4,7 @@ pub mod Allocations
 pub mod Appends
 pub mod Between
 pub mod Callers
+pub mod CallerWords
 pub mod Changes
 pub mod ChunkRows
 pub mod Chunks
@@ -31,3 +32,4 @@ pub mod Similar
 pub mod Steps
 pub mod TakenPools
 pub mod Tiling
+pub mod Untouched

@@ -1,5 +1,5 @@
 -- What callers see of the machine: a map from addresses to payloads, and nothing of chunks, blocks or free ranges.
-use Rattle.std.specs.Prelude.{◌≡◌, ◌≢◌, ℕ, ◌+◌, ◌<◌, ◌≤◌, ◌==◌, List, length, Option, Some, None, find}
+use Rattle.std.specs.Prelude.{◌≡◌, ◌≢◌, ℕ, ◌+◌, ◌<◌, ◌≤◌, ◌==◌, List, [], length, Option, Some, None, find}
 use Rattle.std.specs.Option.{option_map}
 use Rattle.rlsf_machine.specs.Reallocate.{Keeps}
 use Rattle.rlsf_machine.specs.Run.{Event, insert, append, allocate, deallocate, reallocate, fill}
@@ -17,6 +17,19 @@ payload_in u = record { align = u.align; bytes = u.bytes }
 -- the payload that is live at an address, or none
 abbrev pub payload_at : State → ℕ → Option Payload
 payload_at s addr = option_map payload_in (find (λ u. u.payload == addr) s.used)
+
+-- the alignment of the payload at an address, or none where no payload is
+unfoldable pub align_at : State → ℕ → Option ℕ
+align_at s addr = option_map (λ p. p.align) (payload_at s addr)
+
+-- the bytes of a payload, or none of a payload that isn't there
+abbrev pub bytes_of : Option Payload → List ℕ
+bytes_of None = []
+bytes_of (Some p) = p.bytes
+
+-- the bytes of the payload at an address, or none where no payload is
+unfoldable pub bytes_at : State → ℕ → List ℕ
+bytes_at s addr = bytes_of (payload_at s addr)
 
 -- a payload that serves a layout: it has the alignment, the bytes that were asked for, and less than 32 more
 pub record Serves (size align : ℕ) (p : Payload) : Type 0 where

@@ -57,6 +57,10 @@ bytes_taken start (c ∷ cs) = Some (end_of_last (end_of c) cs - start)
 abbrev pub IsClear : Range → List Range → Type 0
 IsClear r others = (a : ℕ) → r.start ≤ a → a < end_of r → coverage itself others a ≡ 0
 
+-- the range touches no byte of some chunks
+unfoldable pub IsUntouched : List Range → Range → Type 0
+IsUntouched chunks r = IsClear r chunks
+
 -- the range lies in the memory and touches no byte of some ranges there
 pub record IsVacant (memory : Range) (taken : List Range) (r : Range) : Type 0 where
   pub lies_in : LiesIn r memory.start memory.len

@@ -14,7 +14,8 @@ use Rattle.rlsf_machine.specs.WellFormed.{covers, coverage, itself, IsWellFormed
 use Rattle.rlsf_machine.proofs.Coverage.{coverage-without, covers-split, find-none, find-some}
 use Rattle.rlsf_machine.proofs.Cuts.{coverage-cut, coverage-cut_last}
 use Rattle.rlsf_machine.proofs.Insertions.{IsWhole-aligned_part}
-use Rattle.rlsf_runs.proofs.NewPools.{bounds_of_chunks, coverage-with_chunks, IsIn-with_chunks}
+use Rattle.rlsf_machine.proofs.Untouched.{coverage-with_chunks}
+use Rattle.rlsf_runs.proofs.NewPools.{bounds_of_chunks, IsIn-with_chunks}
 
 -- the chunks once so many bytes of a range are theirs, behind a chunk that ended where it begins
 pub record IsLonger (s : State) (r : Range) (more : ℕ) (t : State) : Type 0 where

@@ -16,7 +16,7 @@ use Rattle.rlsf_machine.proofs.ChunkRows.{IsRow-same}
 use Rattle.rlsf_machine.proofs.Live.{deallocation_leaves_others, fill_leaves_others}
 use Rattle.rlsf_machine.specs.Run.{Fills}
 use Rattle.rlsf_blocks.specs.Spare.{KeepsSpare}
-use Rattle.rlsf_blocks.specs.StandsFor.{Contents, StandsFor}
+use Rattle.rlsf_tlsf.specs.Allocator.{Allocator, IsInState}
 use Rattle.rlsf_text.specs.declared.op.Answer.{Answer}
 use Rattle.rlsf_text.specs.declared.op.Op.{Op}
 use Rattle.rlsf_runs.specs.declared.names.Payload.{Payload}
@@ -35,19 +35,19 @@ none_is (Some x) e = absurd (true≢false e)
 pub room_left : (tables : Tables) (ops : ℕ) → HasRoom tables (ops + 1) → HasRoom tables ops
 room_left tables ops room = record { names = omega (arith, room.names); pools = omega (arith, room.pools) }
 
-module _ {fllen sllen : ℕ} {v : Contents} {tables : Tables} {s : RunState} (at : IsAt fllen sllen v tables s) where
+module _ {fllen sllen : ℕ} {v : Allocator} {tables : Tables} {s : RunState} (at : IsAt fllen sllen v tables s) where
   -- a payload of the table has a block that its name owns, which has as many bytes as are usable
   pub owned : (name : ℕ) (p : Payload) → get nat_eq tables.names name ≡ Some p → (u : Used) × Owns s name u × Holds s.machine (address p) u × (length u.bytes ≡ (usable u).len)
   owned name p is =
       let (u, owns, holds, _) = owned_live at.named name p is in
-      (u, owns, holds, (at.stands.well_formed.used u owns.0).bytes)
+      (u, owns, holds, (at.stands.stands.well_formed.used u owns.0).bytes)
 
   -- an op that changes nothing
   pub LeadsOn-nothing : (op : Op) (answer : Answer) → Does fllen sllen (range_of v.memory) s op answer s → LeadsOn fllen sllen v s op answer v tables
   LeadsOn-nothing op answer does = (s, does, at, λ a from to was is. refl)
 
   -- where other payloads may be named, but the chunks stay
-  pub IsAt-named : {w : Contents} {new : Tables} {named : ℕ → Option ℕ} → SamePlace v.memory w.memory → (t : State) → StandsFor fllen sllen w t → t.chunks ≡ s.machine.chunks → new.pools ≡ tables.pools
+  pub IsAt-named : {w : Allocator} {new : Tables} {named : ℕ → Option ℕ} → SamePlace v.memory w.memory → (t : State) → IsInState fllen sllen w t → t.chunks ≡ s.machine.chunks → new.pools ≡ tables.pools
       → AreNamed t new.names named → IsAt fllen sllen w new (record { machine = t; named = named; pools = s.pools })
   IsAt-named {w} {new} place t stands chunks same are = record {
     stands = stands;
@@ -63,11 +63,11 @@ module _ {fllen sllen : ℕ} {v : Contents} {tables : Tables} {s : RunState} (at
       moved p (from, to) = (omega (arith, from, place.0), omega (arith, to, place))
 
   -- after a fill
-  pub IsAt-filled : {w : Contents} → SamePlace v.memory w.memory → (t : State) → StandsFor fllen sllen w t → (addr : ℕ) (bytes : List ℕ) → Fills s.machine addr bytes t → IsAt fllen sllen w tables (with_machine t s)
-  IsAt-filled place t stands addr bytes step = IsAt-named place t stands (fill_leaves_others s.machine t addr bytes step).0 refl (AreNamed-filled at.named fllen sllen (range_of v.memory) t addr bytes at.stands.well_formed step)
+  pub IsAt-filled : {w : Allocator} → SamePlace v.memory w.memory → (t : State) → IsInState fllen sllen w t → (addr : ℕ) (bytes : List ℕ) → Fills s.machine addr bytes t → IsAt fllen sllen w tables (with_machine t s)
+  IsAt-filled place t stands addr bytes step = IsAt-named place t stands (fill_leaves_others s.machine t addr bytes step).0 refl (AreNamed-filled at.named fllen sllen (range_of v.memory) t addr bytes at.stands.stands.well_formed step)
 
   -- after a step that changed nothing
-  pub IsAt-unmoved : {w : Contents} → SamePlace v.memory w.memory → (t : State) → StandsFor fllen sllen w t → t ≡ s.machine → IsAt fllen sllen w tables (record { machine = t; named = s.named; pools = s.pools })
+  pub IsAt-unmoved : {w : Allocator} → SamePlace v.memory w.memory → (t : State) → IsInState fllen sllen w t → t ≡ s.machine → IsAt fllen sllen w tables (record { machine = t; named = s.named; pools = s.pools })
   IsAt-unmoved place t stands is = IsAt-named place t stands (ap (λ u. u.chunks) is) refl (subst (λ u. AreNamed u tables.names s.named) (sym is) at.named)
 
   -- a name that no payload has isn't freed
@@ -77,7 +77,7 @@ module _ {fllen sllen : ℕ} {v : Contents} {tables : Tables} {s : RunState} (at
       (s, (unnamed at.named name none, refl), IsAt-named (refl, refl) s.machine at.stands refl same (AreNamed-untaken at.named name none taken), λ a from to was is. refl)
 
   -- the payload of a name was given back
-  pub freed : {w : Contents} {new : Tables} → SamePlace v.memory w.memory → (t : State) → StandsFor fllen sllen w t → KeepsSpare v.memory s.machine w.memory t → (name : ℕ) (p : Payload)
+  pub freed : {w : Allocator} {new : Tables} → SamePlace v.memory w.memory → (t : State) → IsInState fllen sllen w t → KeepsSpare v.memory s.machine w.memory t → (name : ℕ) (p : Payload)
       → get nat_eq tables.names name ≡ Some p → Deallocates s.machine (address p) t → new.pools ≡ tables.pools → IsSetAt name None tables.names new.names
       → (r : RunState) × Frees s name r × IsAt fllen sllen w new r × KeepsSpare v.memory s.machine w.memory r.machine
   freed place t stands keeps name p there step same taken =

@@ -12,12 +12,8 @@ use Rattle.rlsf_machine.specs.WellFormed.{covers, coverage, itself, IsWellFormed
 use Rattle.rlsf_machine.proofs.Coverage.{inside, before, behind, covers-inside, coverage-IsIn, where_is}
 use Rattle.rlsf_machine.proofs.Cuts.{coverage-cut, coverage-cut_last}
 use Rattle.rlsf_machine.proofs.Insertions.{IsWhole-aligned_part}
+use Rattle.rlsf_machine.proofs.Untouched.{coverage-with_chunks}
 use Rattle.rlsf_runs.specs.Runs.{with_pool}
-
--- new chunks have their addresses beside the old ones
-pub coverage-with_chunks : (cs : List Range) (s : State) (a : ℕ) → coverage itself (with_chunks cs s).chunks a ≡ coverage itself cs a + coverage itself s.chunks a
-coverage-with_chunks [] s a = omega arith
-coverage-with_chunks (c ∷ cs) s a = omega (arith, coverage-with_chunks cs (with_chunk c s) a)
 
 -- a chunk that was there is there still
 pub IsIn-with_chunks_old : (cs : List Range) (s : State) (c : Range) → IsIn c s.chunks → IsIn c (with_chunks cs s).chunks

@@ -13,7 +13,7 @@ use Rattle.rlsf_machine.specs.ChunkRows.{IsRow}
 use Rattle.rlsf_machine.specs.Lists.{IsIn}
 use Rattle.rlsf_machine.specs.State.{State, between, empty}
 use Rattle.rlsf_machine.specs.WellFormed.{coverage, itself, IsWellFormed}
-use Rattle.rlsf_blocks.specs.StandsFor.{Contents, StandsFor}
+use Rattle.rlsf_tlsf.specs.Allocator.{Allocator, IsInState}
 use Rattle.rlsf_machine.specs.Run.{append, insert}
 use Rattle.rlsf_machine.proofs.ChunkRows.{IsRow-appended, IsRow-inserted, IsRow-kept, IsRow-kept_apart}
 use Rattle.rlsf_machine.proofs.Live.{live_stays}
@@ -31,7 +31,7 @@ use Rattle.rlsf_runs.proofs.SamePools.{coverage-permutation, IsIn-each, IsIn-per
 row_end : (s : State) (p : Range) → 0 < p.len → IsRow s p → (c : Range) × IsIn c s.chunks × (end_of c ≡ end_of p)
 row_end s p some row = let (c, i, _, _, high, to) = row (end_of p - 1) (omega arith) (omega arith) in (c, i, omega arith)
 
-module _ {fllen sllen : ℕ} {v : Contents} {tables : Tables} {s : RunState} (at : IsAt fllen sllen v tables s) where
+module _ {fllen sllen : ℕ} {v : Allocator} {tables : Tables} {s : RunState} (at : IsAt fllen sllen v tables s) where
   -- the table's pools have as many ranges at an address as the run's
   coverage-tables : (a : ℕ) → coverage itself tables.pools.items a ≡ coverage itself s.pools a
   coverage-tables a = coverage-permutation s.pools tables.pools.items a at.pools
@@ -91,14 +91,14 @@ module _ {fllen sllen : ℕ} {v : Contents} {tables : Tables} {s : RunState} (at
       let (c, i, ends) = row_end s.machine may.pool (some_pool may.pool may.is_pool) (at.rows may.pool may.is_pool) in
       record { fresh = IsFresh-MayInsert r may.vacant; chunk = c; is_chunk = i; ends = ends ∙ may.ends }
 
-  module _ {w : Contents} (place : SamePlace v.memory w.memory) (t : State) (stands : StandsFor fllen sllen w t) where
+  module _ {w : Allocator} (place : SamePlace v.memory w.memory) (t : State) (stands : IsInState fllen sllen w t) where
     -- after an insert that made a pool
     pub IsAt-inserted : {new : Tables} (r pool : Range) (len : ℕ) → Inserts fllen s.machine r (Some len) t → LiesIn r v.memory.start (length v.memory.bytes)
         → pool ≡ between (round32 r.start) (r.start + len) → new.names ≡ tables.names → IsPermutation (pool ∷ tables.pools.items) new.pools.items → IsInOrder new.pools.items
         → IsAt fllen sllen w new (record { machine = t; named = s.named; pools = with_pool r (Some len) s.pools })
     IsAt-inserted {new} r pool len step (from, to) is names added in_order =
         let made = between (round32 r.start) (r.start + len) in
-        let bounds = pool_bounds fllen s.machine r len t step stands.well_formed in
+        let bounds = pool_bounds fllen s.machine r len t step stands.stands.well_formed in
         let low = round32-le r.start in
         let home : LiesIn made w.memory.start (length w.memory.bytes) = (omega (arith, from, low, place), omega (arith, bounds, to, place)) in
         record {
@@ -150,7 +150,7 @@ module _ {fllen sllen : ℕ} {v : Contents} {tables : Tables} {s : RunState} (at
         is = set ∙ lengthened-each at.in_order i r.start more ends
 
         longer : IsLonger s.machine r more t
-        longer = IsLonger-appended at.stands.well_formed r (IsNext-MayAppend r may) more t step stands.well_formed
+        longer = IsLonger-appended at.stands.stands.well_formed r (IsNext-MayAppend r may) more t step stands.stands.well_formed
 
         inside : (p : Range) → IsIn p (map f tables.pools.items) → LiesIn p w.memory.start (length w.memory.bytes)
         inside p there =
@@ -167,12 +167,12 @@ module _ {fllen sllen : ℕ} {v : Contents} {tables : Tables} {s : RunState} (at
         rows p there =
             let (q, old, is_q) = IsIn-lengthened r.start more p s.pools there in
             elim (is_lengthened r.start more q) [
-              | inl (same, new_q) ↦ subst (IsRow t) (sym (is_q ∙ new_q)) (IsRow-appended at.stands.well_formed r q same (some_pool q old) (at.rows q old) more t step)
+              | inl (same, new_q) ↦ subst (IsRow t) (sym (is_q ∙ new_q)) (IsRow-appended at.stands.stands.well_formed r q same (some_pool q old) (at.rows q old) more t step)
               | inr (differ, new_q) ↦ subst (IsRow t) (sym (is_q ∙ new_q)) (IsRow-kept_apart s.machine r q (IsFresh-MayInsert r may.vacant).apart differ (at.rows q old) fllen more t step)
             ]
 
 -- with no chunk and empty tables, a run is at its beginning
-pub IsAt-beginning : {fllen sllen : ℕ} {v : Contents} {tables : Tables} → StandsFor fllen sllen v empty → tables.names.entries ≡ [] → tables.pools.items ≡ [] → IsAt fllen sllen v tables beginning
+pub IsAt-beginning : {fllen sllen : ℕ} {v : Allocator} {tables : Tables} → IsInState fllen sllen v empty → tables.names.entries ≡ [] → tables.pools.items ≡ [] → IsAt fllen sllen v tables beginning
 IsAt-beginning {v = v} stands no_names no_pools = record {
   stands = stands;
   named = AreNamed-empty empty no_names;

@@ -1,7 +1,6 @@
 -- Bytes that are spare after an op were spare before it, so what each op keeps, a run of them keeps.
 use Rattle.std.proofs.Common.{ℕ, slice_set, replicate, arith, ◌∙◌, subst}
-use Rattle.std.specs.Int.NonZero.{non_zero_usize_get}
-use Rattle.std.specs.Option.{option_map}
+use Rattle.rlsf_base.specs.Addr.{reply}
 use Rattle.rlsf_base.specs.declared.memory.range.Range.{Range}
 use Rattle.rlsf_base.specs.Space.{Space, SamePlace}
 use Rattle.rlsf_machine.specs.Run.{insert, append, allocate, deallocate, reallocate, fill}
@@ -18,17 +17,17 @@ use Rattle.rlsf_runs.specs.Runs.{Does, RunState}
 pub IsSpare-before_op : (fllen sllen : ℕ) (memory : Range) (s t : RunState) (op : Op) (answer : Answer) (a : ℕ) → Does fllen sllen memory s op answer t → IsSpare t.machine a → IsSpare s.machine a
 IsSpare-before_op fllen sllen memory s t op (Refused error) a (_, is) spare = subst (λ x. IsSpare x.machine a) is spare
 IsSpare-before_op fllen sllen memory s t (Insert r) (Inserted len) a (_, machine, step, is) spare =
-    IsSpare-before fllen sllen s.machine machine (insert r (option_map non_zero_usize_get len)) a step (subst (λ x. IsSpare x.machine a) is spare)
+    IsSpare-before fllen sllen s.machine machine (insert r (reply len)) a step (subst (λ x. IsSpare x.machine a) is spare)
 IsSpare-before_op fllen sllen memory s t (Append r) (Appended more) a (_, machine, step, is) spare =
     IsSpare-before fllen sllen s.machine machine (append r more) a step (subst (λ x. IsSpare x.machine a) is spare)
 IsSpare-before_op fllen sllen memory s t (Alloc name layout) (Placed addr) a (_, machine, step, is) spare =
-    IsSpare-before fllen sllen s.machine machine (allocate layout.size layout.align (option_map non_zero_usize_get addr)) a step (subst (λ x. IsSpare x.machine a) is spare)
+    IsSpare-before fllen sllen s.machine machine (allocate layout.size layout.align (reply addr)) a step (subst (λ x. IsSpare x.machine a) is spare)
 IsSpare-before_op fllen sllen memory s t (Free name) Done a (u, _, machine, step, is) spare =
     IsSpare-before fllen sllen s.machine machine (deallocate u.payload) a step (subst (λ x. IsSpare x.machine a) is spare)
 IsSpare-before_op fllen sllen memory s t (FreeUnknown name) Done a (u, _, machine, step, is) spare =
     IsSpare-before fllen sllen s.machine machine (deallocate u.payload) a step (subst (λ x. IsSpare x.machine a) is spare)
 IsSpare-before_op fllen sllen memory s t (Realloc name size) (Placed addr) a (u, _, _, machine, step, is) spare =
-    IsSpare-before fllen sllen s.machine machine (reallocate u.payload size (option_map non_zero_usize_get addr)) a step (subst (λ x. IsSpare x.machine a) is spare)
+    IsSpare-before fllen sllen s.machine machine (reallocate u.payload size (reply addr)) a step (subst (λ x. IsSpare x.machine a) is spare)
 IsSpare-before_op fllen sllen memory s t (Fill name byte) Done a (u, _, machine, step, is) spare =
     IsSpare-before fllen sllen s.machine machine (fill u.payload (replicate (usable u).len byte)) a step (subst (λ x. IsSpare x.machine a) is spare)
 IsSpare-before_op fllen sllen memory s t (Put name offset byte) Done a (u, _, _, machine, step, is) spare =

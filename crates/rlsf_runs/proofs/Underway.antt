@@ -7,7 +7,7 @@ use Rattle.rlsf_base.specs.Range.{range_at}
 use Rattle.rlsf_base.specs.Space.{Space, byte_at, range_of, SamePlace}
 use Rattle.rlsf_machine.specs.State.{empty}
 use Rattle.rlsf_blocks.specs.Spare.{KeepsSpare}
-use Rattle.rlsf_blocks.specs.StandsFor.{Contents}
+use Rattle.rlsf_tlsf.specs.Allocator.{Allocator}
 use Rattle.rlsf_text.specs.declared.op.Answer.{Answer}
 use Rattle.rlsf_text.specs.declared.op.Op.{Op}
 use Rattle.rlsf_runs.specs.declared.tables.Tables.{Tables}
@@ -16,7 +16,7 @@ use Rattle.rlsf_runs.specs.Steps.Tables.{HasRoom, IsAt, LeadsOn}
 use Rattle.rlsf_runs.proofs.SpareBytes.{KeepsSpare-op}
 
 -- the first ops were done, with one answer each, and there is room for the others
-pub record IsUnderway (fllen sllen : ℕ) (m : Space) (ops : List Op) (v : Contents) (tables : Tables) (done : ℕ) (given : List Answer) : Type 0 where
+pub record IsUnderway (fllen sllen : ℕ) (m : Space) (ops : List Op) (v : Allocator) (tables : Tables) (done : ℕ) (given : List Answer) : Type 0 where
   pub state : RunState
   pub at : IsAt fllen sllen v tables state
   pub leads : (more : List Answer) (t : RunState) → Runs fllen sllen (range_of m) state (drop done ops) more t → Runs fllen sllen (range_of m) beginning ops (given ++ more) t
@@ -24,7 +24,7 @@ pub record IsUnderway (fllen sllen : ℕ) (m : Space) (ops : List Op) (v : Conte
   pub spare : KeepsSpare m empty v.memory state.machine
   pub room : HasRoom tables (length ops - done)
 
-module _ {fllen sllen : ℕ} {m : Space} {ops : List Op} {v : Contents} {tables : Tables} where
+module _ {fllen sllen : ℕ} {m : Space} {ops : List Op} {v : Allocator} {tables : Tables} where
   -- at the beginning
   pub IsUnderway-beginning : IsAt fllen sllen v tables beginning → m ≡ v.memory → HasRoom tables (length ops) → IsUnderway fllen sllen m ops v tables 0 []
   IsUnderway-beginning at same room = record {
@@ -40,7 +40,7 @@ module _ {fllen sllen : ℕ} {m : Space} {ops : List Op} {v : Contents} {tables 
       whole = omega arith
 
   -- one op more
-  pub IsUnderway-next : {done : ℕ} {given : List Answer} (w : IsUnderway fllen sllen m ops v tables done given) (op : Op) → ((d : Op) → op ≡ slice_index_or ops done d) → done < length ops → (answer : Answer) (w2 : Contents) (new : Tables)
+  pub IsUnderway-next : {done : ℕ} {given : List Answer} (w : IsUnderway fllen sllen m ops v tables done given) (op : Op) → ((d : Op) → op ≡ slice_index_or ops done d) → done < length ops → (answer : Answer) (w2 : Allocator) (new : Tables)
       → ((s : RunState) → IsAt fllen sllen v tables s → LeadsOn fllen sllen v s op answer w2 new)
       → ((n : ℕ) → HasRoom tables (n + 1) → HasRoom new n) → SamePlace v.memory w2.memory
       → IsUnderway fllen sllen m ops w2 new (done + 1) (given ++ answer ∷ [])

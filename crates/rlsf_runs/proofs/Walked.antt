@@ -12,7 +12,7 @@ use Rattle.rlsf_base.specs.Space.{Space, range_of}
 use Rattle.rlsf_machine.specs.ChunkRows.{IsRow}
 use Rattle.rlsf_machine.specs.State.{State}
 use Rattle.rlsf_blocks.specs.Blocks.{walked}
-use Rattle.rlsf_blocks.specs.StandsFor.{Contents}
+use Rattle.rlsf_tlsf.specs.Allocator.{Allocator}
 use Rattle.rlsf_runs.specs.declared.tables.Tables.{Tables}
 use Rattle.rlsf_runs.specs.Runs.{MayWalk, RunState}
 use Rattle.rlsf_runs.specs.Steps.Tables.{IsAt}
@@ -25,7 +25,7 @@ IsRow-between s p r begins ends some row a low high =
     let (c, i, from, at, under, to) = row a (omega arith) (omega arith) in
     (c, i, omega arith, at, under, omega arith)
 
-module _ {fllen sllen : ℕ} {v : Contents} {tables : Tables} {s : RunState} (at : IsAt fllen sllen v tables s) where
+module _ {fllen sllen : ℕ} {v : Allocator} {tables : Tables} {s : RunState} (at : IsAt fllen sllen v tables s) where
   -- a range that passes the test may be walked
   pub MayWalk-tested : (r : Range) {m : Space} → m ≡ v.memory → MayWalk (range_of m) tables.pools.items r → MayWalk (range_of v.memory) s.pools r
   MayWalk-tested r same may = record {

@@ -3,14 +3,14 @@ use Rattle.std.specs.Prelude.{◌≡◌, ℕ, nat_eq, Option, Some}
 use Rattle.std.specs.declared.hash.BuildHasherDefault.{BuildHasherDefault}
 use Rattle.std.specs.declared.hash.FoldHasher.{FoldHasher}
 use Rattle.std.specs.HashMap.{get, HashMap}
-use Rattle.std.specs.Int.NonZero.{non_zero_usize_get}
 use Rattle.std.specs.Option.{option_map}
+use Rattle.rlsf_base.specs.Addr.{at}
 use Rattle.rlsf_machine.specs.State.{State, IsLive}
 use Rattle.rlsf_runs.specs.declared.names.Payload.{Payload}
 
 -- where a payload is
 abbrev pub address : Payload → ℕ
-address p = non_zero_usize_get p.addr
+address p = at p.addr
 
 -- payloads by their names
 abbrev pub NameTable : Type 0

@@ -1,8 +1,8 @@
 -- Runs: what the ops of a trace do to the list machine, and what they answer.
 use Rattle.std.specs.Prelude.{◌≡◌, ℕ, ◌+◌, ◌<◌, ◌≤◌, ◌==◌, nat_eq, if◌then◌else◌, Bool, List, [], ◌∷◌, map, Option, Some, None, IsSome, replicate, slice_index, slice_set}
-use Rattle.std.specs.Int.NonZero.{non_zero_usize_get}
 use Rattle.std.specs.List.{slice_get}
 use Rattle.std.specs.Option.{option_map}
+use Rattle.rlsf_base.specs.Addr.{reply}
 use Rattle.rlsf_base.specs.declared.memory.range.Range.{Range}
 use Rattle.rlsf_base.specs.Layout.{IsLayout}
 use Rattle.rlsf_base.specs.Range.{end_of, LiesIn, range_at}
@@ -113,19 +113,19 @@ IsRefused memory s op error = ⊥
 abbrev pub Does : ℕ → ℕ → Range → RunState → Op → Answer → RunState → Type 0
 Does fllen sllen memory s op (Refused error) t = IsRefused memory s op error × (t ≡ s)
 Does fllen sllen memory s (Insert r) (Inserted len) t =
-    MayInsert memory s.pools r × (machine : State) × Inserts fllen s.machine r (option_map non_zero_usize_get len) machine
-    × (t ≡ record { machine = machine; named = s.named; pools = with_pool r (option_map non_zero_usize_get len) s.pools })
+    MayInsert memory s.pools r × (machine : State) × Inserts fllen s.machine r (reply len) machine
+    × (t ≡ record { machine = machine; named = s.named; pools = with_pool r (reply len) s.pools })
 Does fllen sllen memory s (Append r) (Appended more) t =
     MayAppend memory s.pools r × (machine : State) × Appends fllen s.machine r more machine
     × (t ≡ record { machine = machine; named = s.named; pools = map (lengthened_at r.start more) s.pools })
 Does fllen sllen memory s (Alloc name layout) (Placed addr) t =
-    (s.named name ≡ None) × (machine : State) × Allocates sllen s.machine layout.size layout.align (option_map non_zero_usize_get addr) machine
-    × (t ≡ record { machine = machine; named = with_name name (option_map non_zero_usize_get addr) s.named; pools = s.pools })
+    (s.named name ≡ None) × (machine : State) × Allocates sllen s.machine layout.size layout.align (reply addr) machine
+    × (t ≡ record { machine = machine; named = with_name name (reply addr) s.named; pools = s.pools })
 Does fllen sllen memory s (Free name) Done t = Frees s name t
 Does fllen sllen memory s (FreeUnknown name) Done t = Frees s name t
 Does fllen sllen memory s (Realloc name size) (Placed addr) t =
-    (u : Used) × Owns s name u × IsLayout size u.align × (machine : State) × Reallocates sllen s.machine u.payload size (option_map non_zero_usize_get addr) machine
-    × (t ≡ record { machine = machine; named = with_name name (option_map non_zero_usize_get addr) s.named; pools = s.pools })
+    (u : Used) × Owns s name u × IsLayout size u.align × (machine : State) × Reallocates sllen s.machine u.payload size (reply addr) machine
+    × (t ≡ record { machine = machine; named = with_name name (reply addr) s.named; pools = s.pools })
 Does fllen sllen memory s (Fill name byte) Done t =
     (u : Used) × Owns s name u × (machine : State) × Fills s.machine u.payload (replicate (usable u).len byte) machine × (t ≡ with_machine machine s)
 Does fllen sllen memory s (Put name offset byte) Done t =

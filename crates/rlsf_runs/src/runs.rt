@@ -8,7 +8,6 @@ ghost use Rattle.rlsf_machine.specs.Insert.{IsVacant};
 ghost use Rattle.rlsf_machine.specs.Lists.{IsIn};
 ghost use Rattle.rlsf_machine.specs.State.{between, empty};
 ghost use Rattle.rlsf_blocks.specs.Spare.{KeepsSpare};
-ghost use Rattle.rlsf_blocks.specs.StandsFor.{StandsFor};
 ghost use Rattle.rlsf_text.specs.declared.op.Answer.{Answer};
 ghost use Rattle.rlsf_runs.specs.declared.runs.RunError.TheVariants.{OutOfMemory};
 ghost use Rattle.rlsf_text.specs.declared.op.Op.TheVariants.{Insert, Append, Alloc};
@@ -182,13 +181,15 @@ pub fn run<FLBitmap: Bitmap, SLBitmap: Bitmap, const FLLEN: usize, const SLLEN: 
     ops: &[Op],
     answers: &mut Vec<Answer>,
 ) -> Result<(), RunError>
-    requires { StandsFor FLLEN SLLEN tlsf.old empty }
+    requires { tlsf.old.state ≡ empty }
     ensures runs { OnOk result ((given : List Answer) × (t : RunState) × (answers.new.items ≡ answers.old.items ++ given)
-        × Runs FLLEN SLLEN (range_of tlsf.old.memory) beginning ops.now given t × StandsFor FLLEN SLLEN tlsf.new t.machine
+        × Runs FLLEN SLLEN (range_of tlsf.old.memory) beginning ops.now given t × (tlsf.new.state ≡ t.machine)
         × KeepsSpare tlsf.old.memory empty tlsf.new.memory t.machine) }
     ensures refused { OnErr result ((answers.new.items ≡ answers.old.items) × (tlsf.new ≡ tlsf.old)) }
     ensures place { SamePlace tlsf.old.memory tlsf.new.memory }
 {
+    // What `memory_ref` says of every allocator: its memory and its class table stand for its state.
+    let _ = tlsf.memory_ref();
     answers.try_reserve(ops.len())?;
     let mut tables = Tables::with_room(alloc, ops.len())?;
     for op in ops {

@@ -1,1 +1,5 @@
+mod Crossing
+pub mod Arrivals
 pub mod Lent
+pub mod Moved
+pub mod Standing

@@ -1,1 +1,3 @@
+pub mod Allocator
 pub mod Lending
+pub mod Steps

@@ -1,27 +1,29 @@
 //! The allocator over pools that its caller hands in.
 
 ghost use Rattle.std.specs.Borrow.{sem};
-ghost use Rattle.std.specs.Prelude.{◌≡◌, ◌≤◌, ◌<◌, ◌+◌, ◌*◌, ℕ, List, [], Option, Some, length, IfNone, IfSome};
-ghost use Rattle.std.specs.Int.NonZero.{non_zero_usize_get};
+ghost use Rattle.std.specs.Prelude.{◌≡◌, ◌≢◌, ◌≤◌, ◌<◌, ◌+◌, ◌*◌, ℕ, List, [], Option, Some, None, length, IfNone, IfSome, IsSome};
 ghost use Rattle.std.specs.List.{list_any};
 ghost use Rattle.std.specs.Map.Iter.{GivesInOrder};
-ghost use Rattle.std.specs.Option.{option_map};
+ghost use Rattle.rlsf_base.specs.Addr.{at, reply};
+ghost use Rattle.rlsf_base.specs.declared.memory.range.Range.{Range};
+ghost use Rattle.rlsf_base.specs.Range.{AreApart, LiesIn};
 ghost use Rattle.rlsf_base.specs.SizeClass.{IsValid};
 ghost use Rattle.rlsf_base.specs.Sizes.{max_pool_size};
-ghost use Rattle.rlsf_base.specs.Space.{bytes_in, range_of, with_word, SamePlace};
+ghost use Rattle.rlsf_base.specs.Space.{range_of, with_word, SamePlace};
 ghost use Rattle.rlsf_int.specs.Bits.{bit};
 ghost use Rattle.rlsf_machine.specs.Allocate.{Allocates, has_class};
+ghost use Rattle.rlsf_machine.specs.Callers.{align_at, bytes_at};
 ghost use Rattle.rlsf_machine.specs.ChunkRows.{IsRow};
-ghost use Rattle.rlsf_machine.specs.Insert.{Appends, Inserts, IsFresh, IsNext, aligned_part, cut};
-ghost use Rattle.rlsf_machine.specs.Reallocate.{Plan, Reallocates, in_place, into_next, or_else};
+ghost use Rattle.rlsf_machine.specs.Insert.{Appends, Inserts, IsNext, IsUntouched, aligned_part, cut};
+ghost use Rattle.rlsf_machine.specs.Reallocate.{Keeps, Plan, Reallocates, in_place, into_next, or_else};
 ghost use Rattle.rlsf_machine.specs.Release.{Deallocates};
-ghost use Rattle.rlsf_machine.specs.Run.{Fills, IsSomeLive};
-ghost use Rattle.rlsf_machine.specs.State.{State, Used, empty, usable, with_front, HasFront, Holds, IsLive, IsPlaced};
+ghost use Rattle.rlsf_machine.specs.Run.{Fills};
+ghost use Rattle.rlsf_machine.specs.State.{State, Used, empty, with_front, Holds};
 ghost use Rattle.rlsf_table.specs.Table.{class_at, is_in_row, newest_of, of_class};
 ghost use Rattle.rlsf_blocks.specs.Blocks.{AreBlocks, walked};
 ghost use Rattle.rlsf_blocks.specs.Spare.{IsSpareWord, KeepsSpare};
-ghost use Rattle.rlsf_blocks.specs.StandsFor.{StandsFor};
 
+use crate::state::GhostState;
 use rlsf_base::classes::request_size;
 use rlsf_base::memory::{Addr, Layout, Memory, Range};
 use rlsf_blocks::{
@@ -44,17 +46,18 @@ pub struct Tlsf<
 > {
     memory: Memory,
     table: ClassTable<FLBitmap, SLBitmap, FLLEN, SLLEN>,
+    state: GhostState,
 }
 
 impl<FLBitmap: BitPattern, SLBitmap: BitPattern, const FLLEN: usize, const SLLEN: usize> Model
     for Tlsf<FLBitmap, SLBitmap, FLLEN, SLLEN> {
-    ghost use Rattle.rlsf_blocks.specs.StandsFor.{Contents, IsTlsf};
+    ghost use Rattle.rlsf_tlsf.specs.Allocator.{Allocator, allocator, IsAllocator};
 
-    ghost Value = { Contents };
+    ghost Value = { Allocator };
 
-    ghost view = { λ t. record { memory = t.memory; table = t.table } };
+    ghost view = { λ t. allocator t.memory t.table t.state.state };
 
-    ghost invariant = { λ t. IsTlsf FLBitmap.width SLBitmap.width FLLEN SLLEN (record { memory = t.memory; table = t.table }) };
+    ghost invariant = { λ t. IsAllocator FLBitmap.width SLBitmap.width FLLEN SLLEN t.memory t.table t.state.state };
 }
 
 impl<FLBitmap: Bitmap, SLBitmap: Bitmap, const FLLEN: usize, const SLLEN: usize> Tlsf<
@@ -63,7 +66,8 @@ impl<FLBitmap: Bitmap, SLBitmap: Bitmap, const FLLEN: usize, const SLLEN: usize>
     FLLEN,
     SLLEN,
 > {
-    ghost use Rattle.rlsf_tlsf.specs.Lending.{lends_payload, written, Leaves};
+    ghost use Rattle.rlsf_tlsf.specs.Allocator.{Stands, Steps};
+    ghost use Rattle.rlsf_tlsf.specs.Lending.{LeavesRest, lends_payload, written};
 
     /// An allocator over the memory, without a pool.
     ///
@@ -71,7 +75,9 @@ impl<FLBitmap: Bitmap, SLBitmap: Bitmap, const FLLEN: usize, const SLLEN: usize>
     /// most `SLBitmap`'s bits.
     pub fn new(memory: Memory) -> Self
         requires { IsValid FLBitmap.width SLBitmap.width FLLEN SLLEN }
-        ensures stands { StandsFor FLLEN SLLEN result empty }
+        ensures state { result.state ≡ empty }
+        ensures untouched { (r : Range) → IsUntouched result.state.chunks r }
+        ensures stands { Stands FLLEN SLLEN result }
         ensures memory { result.memory ≡ memory }
     {
         // What `start` says of every memory: no address is 0, and each fits in a word.
@@ -79,6 +85,7 @@ impl<FLBitmap: Bitmap, SLBitmap: Bitmap, const FLLEN: usize, const SLLEN: usize>
         Tlsf {
             memory,
             table: ClassTable::new(),
+            state: GhostState::new(),
         }
     }
 
@@ -94,36 +101,41 @@ impl<FLBitmap: Bitmap, SLBitmap: Bitmap, const FLLEN: usize, const SLLEN: usize>
     /// 64 bytes. Answers the bytes from the range's start up to the last chunk's end, or `None` without a chunk, and
     /// then nothing changes.
     ///
-    /// The range lies in the memory, and touches no byte of a chunk, in some state that the allocator stands for. The
-    /// caller names the state: what is promised is promised of the states in which this holds. An allocator without a
-    /// free block stands for the empty state too. So a caller that forgets its state can insert over a payload that it
-    /// had, and is promised nothing of that payload.
+    /// The range lies in the memory, and touches no byte of a chunk.
     pub fn insert_free_block_ptr(&mut self, range: Range) -> Option<NonZeroUsize>
-        requires { (s : State) × StandsFor FLLEN SLLEN self.old s × IsFresh (range_of self.old.memory) s range }
-        ensures step { (s : State) → StandsFor FLLEN SLLEN self.old s → IsFresh (range_of self.old.memory) s range
-            → (t : State) × Inserts FLLEN s range (option_map non_zero_usize_get result) t × StandsFor FLLEN SLLEN self.new t × KeepsSpare self.old.memory s self.new.memory t }
+        requires lies_in { LiesIn range self.old.memory.start (length self.old.memory.bytes) }
+        requires untouched { IsUntouched self.old.state.chunks range }
+        ensures step { Steps FLLEN SLLEN self.old self.new (Inserts FLLEN self.old.state range (reply result)) }
+        ensures untouched { (r : Range) → IsUntouched self.old.state.chunks r → AreApart range r → IsUntouched self.new.state.chunks r }
+        ensures aligns { align_at self.new.state ≡ align_at self.old.state }
+        ensures bytes { bytes_at self.new.state ≡ bytes_at self.old.state }
         ensures refused { IfNone result (self.new.memory.bytes ≡ self.old.memory.bytes) }
         ensures place { SamePlace self.old.memory self.new.memory }
         ensures touches { self.new.memory.touches ≤ self.old.memory.touches + 13 * length (cut (max_pool_size FLLEN) (aligned_part range)) }
         ensures copied { self.new.memory.copied ≡ self.old.memory.copied }
     {
-        insert(&mut self.memory, &mut self.table, range)
+        let taken = insert(&mut self.memory, &mut self.table, range);
+        self.state.insert(FLLEN, range.start, range.len);
+        taken
     }
 
     /// Hands a range of the memory in, as `insert_free_block_ptr` does, for a caller that doesn't ask how many bytes were
     /// taken.
     ///
-    /// The range lies in the memory, and touches no byte of a chunk, in some state that the allocator stands for.
+    /// The range lies in the memory, and touches no byte of a chunk.
     pub fn insert_free_block(&mut self, range: Range)
-        requires { (s : State) × StandsFor FLLEN SLLEN self.old s × IsFresh (range_of self.old.memory) s range }
-        ensures step { (s : State) → StandsFor FLLEN SLLEN self.old s → IsFresh (range_of self.old.memory) s range
-            → (reply : Option ℕ) × (t : State) × Inserts FLLEN s range reply t × StandsFor FLLEN SLLEN self.new t × KeepsSpare self.old.memory s self.new.memory t }
+        requires lies_in { LiesIn range self.old.memory.start (length self.old.memory.bytes) }
+        requires untouched { IsUntouched self.old.state.chunks range }
+        ensures step { Steps FLLEN SLLEN self.old self.new (λ t. (taken : Option ℕ) × Inserts FLLEN self.old.state range taken t) }
+        ensures untouched { (r : Range) → IsUntouched self.old.state.chunks r → AreApart range r → IsUntouched self.new.state.chunks r }
+        ensures aligns { align_at self.new.state ≡ align_at self.old.state }
+        ensures bytes { bytes_at self.new.state ≡ bytes_at self.old.state }
         ensures unchanged { cut (max_pool_size FLLEN) (aligned_part range) ≡ [] → self.new.memory.bytes ≡ self.old.memory.bytes }
         ensures place { SamePlace self.old.memory self.new.memory }
         ensures touches { self.new.memory.touches ≤ self.old.memory.touches + 13 * length (cut (max_pool_size FLLEN) (aligned_part range)) }
         ensures copied { self.new.memory.copied ≡ self.old.memory.copied }
     {
-        let _ = insert(&mut self.memory, &mut self.table, range);
+        let _ = self.insert_free_block_ptr(range);
     }
 
     /// Hands in a range of the memory that begins where a chunk ends. Where chunks have a greatest length, the range
@@ -132,35 +144,44 @@ impl<FLBitmap: Bitmap, SLBitmap: Bitmap, const FLLEN: usize, const SLLEN: usize>
     /// sentinel, become one free block, the newest of all. Answers how many bytes are taken; where that is 0, nothing
     /// changes.
     ///
-    /// The range lies in the memory, touches no byte of a chunk and begins where one ends, in some state that the
-    /// allocator stands for.
+    /// The range lies in the memory, touches no byte of a chunk and begins where one ends.
     pub fn append_free_block_ptr(&mut self, range: Range) -> usize
-        requires { (s : State) × StandsFor FLLEN SLLEN self.old s × IsNext (range_of self.old.memory) s range }
-        ensures step { (s : State) → StandsFor FLLEN SLLEN self.old s → IsNext (range_of self.old.memory) s range
-            → (t : State) × Appends FLLEN s range result t × StandsFor FLLEN SLLEN self.new t × KeepsSpare self.old.memory s self.new.memory t }
+        requires { IsNext (range_of self.old.memory) self.old.state range }
+        ensures step { Steps FLLEN SLLEN self.old self.new (Appends FLLEN self.old.state range result) }
+        ensures aligns { align_at self.new.state ≡ align_at self.old.state }
+        ensures bytes { bytes_at self.new.state ≡ bytes_at self.old.state }
         ensures unchanged { result ≡ 0 → self.new.memory.bytes ≡ self.old.memory.bytes }
         ensures place { SamePlace self.old.memory self.new.memory }
         ensures touches { self.new.memory.touches ≤ self.old.memory.touches + 34 + 13 * length (cut (max_pool_size FLLEN) (aligned_part range)) }
         ensures copied { self.new.memory.copied ≡ self.old.memory.copied }
     {
-        append(&mut self.memory, &mut self.table, range)
+        let taken = append(&mut self.memory, &mut self.table, range);
+        self.state.append(FLLEN, range.start, range.len);
+        taken
     }
 
     /// Allocates a payload for a layout: the front of the newest free block of the first class that reaches the size
     /// that is sought. Answers its address, a multiple of the alignment, or `None` exactly where no free block's class
     /// reaches, and then nothing changes.
     pub fn allocate(&mut self, layout: Layout) -> Option<Addr>
-        ensures step { (s : State) → StandsFor FLLEN SLLEN self.old s
-            → (t : State) × Allocates SLLEN s layout.size layout.align (option_map non_zero_usize_get result) t × StandsFor FLLEN SLLEN self.new t × KeepsSpare self.old.memory s self.new.memory t }
-        ensures placed { IfSome result (λ addr. (t : State) × StandsFor FLLEN SLLEN self.new t × IsLive t (non_zero_usize_get addr) layout.align) }
-        ensures sized { IfSome result (λ addr. (t : State) × StandsFor FLLEN SLLEN self.new t × IsPlaced t (non_zero_usize_get addr) layout.size layout.align) }
+        ensures step { Steps FLLEN SLLEN self.old self.new (Allocates SLLEN self.old.state layout.size layout.align (reply result)) }
+        ensures live { IfSome result (λ addr. align_at self.new.state (at addr) ≡ Some layout.align) }
+        ensures sized { IfSome result (λ addr. layout.size ≤ length (bytes_at self.new.state (at addr))) }
+        ensures few { IfSome result (λ addr. length (bytes_at self.new.state (at addr)) < layout.size + 32) }
+        ensures new { IfSome result (λ addr. align_at self.old.state (at addr) ≡ None) }
+        ensures aligns { IfSome result (λ addr. (a : ℕ) → a ≢ at addr → align_at self.new.state a ≡ align_at self.old.state a) }
+        ensures bytes { IfSome result (λ addr. (a : ℕ) → a ≢ at addr → bytes_at self.new.state a ≡ bytes_at self.old.state a) }
+        ensures chunks { self.new.state.chunks ≡ self.old.state.chunks }
+        ensures same { IfNone result (self.new.state ≡ self.old.state) }
         ensures refused { IfNone result (self.new.memory.bytes ≡ self.old.memory.bytes) }
         ensures place { SamePlace self.old.memory self.new.memory }
         ensures touches { self.new.memory.touches ≤ self.old.memory.touches + 27 }
         ensures copied { self.new.memory.copied ≡ self.old.memory.copied }
     {
         let (block, class) = first_fit(&mut self.memory, &self.table, request_size(layout))?;
-        NonZeroUsize::new(place(&mut self.memory, &mut self.table, block, class, layout))
+        let payload = place(&mut self.memory, &mut self.table, block, class, layout);
+        self.state.allocate(SLLEN, layout.size(), layout.align());
+        NonZeroUsize::new(payload)
     }
 
     /// Gives a payload back. Its block becomes free: joined with the free block before it and the one behind it, if there
@@ -168,15 +189,19 @@ impl<FLBitmap: Bitmap, SLBitmap: Bitmap, const FLLEN: usize, const SLLEN: usize>
     ///
     /// The address is live, with that alignment.
     pub fn deallocate(&mut self, addr: Addr, align: usize)
-        requires { (s : State) × StandsFor FLLEN SLLEN self.old s × IsLive s (non_zero_usize_get addr) align }
-        ensures step { (s : State) → StandsFor FLLEN SLLEN self.old s → IsLive s (non_zero_usize_get addr) align
-            → (t : State) × Deallocates s (non_zero_usize_get addr) t × StandsFor FLLEN SLLEN self.new t × KeepsSpare self.old.memory s self.new.memory t }
+        requires { align_at self.old.state (at addr) ≡ Some align }
+        ensures step { Steps FLLEN SLLEN self.old self.new (Deallocates self.old.state (at addr)) }
+        ensures chunks { self.new.state.chunks ≡ self.old.state.chunks }
+        ensures gone { align_at self.new.state (at addr) ≡ None }
+        ensures aligns { (a : ℕ) → a ≢ at addr → align_at self.new.state a ≡ align_at self.old.state a }
+        ensures bytes { (a : ℕ) → a ≢ at addr → bytes_at self.new.state a ≡ bytes_at self.old.state a }
         ensures place { SamePlace self.old.memory self.new.memory }
         ensures touches { self.new.memory.touches ≤ self.old.memory.touches + 32 }
         ensures copied { self.new.memory.copied ≡ self.old.memory.copied }
     {
         let block = used_block(&mut self.memory, addr.get(), align);
         deallocate_block(&mut self.memory, &mut self.table, block);
+        self.state.deallocate(addr.get());
     }
 
     /// Gives a payload back, as `deallocate` does, for a caller that doesn't know the payload's alignment. The state after it
@@ -184,15 +209,19 @@ impl<FLBitmap: Bitmap, SLBitmap: Bitmap, const FLLEN: usize, const SLLEN: usize>
     ///
     /// The address is live, with any alignment.
     pub fn deallocate_unknown_align(&mut self, addr: Addr)
-        requires { (s : State) × StandsFor FLLEN SLLEN self.old s × IsSomeLive s (non_zero_usize_get addr) }
-        ensures step { (s : State) → StandsFor FLLEN SLLEN self.old s → IsSomeLive s (non_zero_usize_get addr)
-            → (t : State) × Deallocates s (non_zero_usize_get addr) t × StandsFor FLLEN SLLEN self.new t × KeepsSpare self.old.memory s self.new.memory t }
+        requires { IsSome (align_at self.old.state (at addr)) }
+        ensures step { Steps FLLEN SLLEN self.old self.new (Deallocates self.old.state (at addr)) }
+        ensures chunks { self.new.state.chunks ≡ self.old.state.chunks }
+        ensures gone { align_at self.new.state (at addr) ≡ None }
+        ensures aligns { (a : ℕ) → a ≢ at addr → align_at self.new.state a ≡ align_at self.old.state a }
+        ensures bytes { (a : ℕ) → a ≢ at addr → bytes_at self.new.state a ≡ bytes_at self.old.state a }
         ensures place { SamePlace self.old.memory self.new.memory }
         ensures touches { self.new.memory.touches ≤ self.old.memory.touches + 33 }
         ensures copied { self.new.memory.copied ≡ self.old.memory.copied }
     {
         let block = load_block_of(&mut self.memory, addr.get());
         deallocate_block(&mut self.memory, &mut self.table, block);
+        self.state.deallocate(addr.get());
     }
 
     /// Gives a payload another size: where it stands, if its block's bytes and those of a free block behind it suffice;
@@ -202,20 +231,28 @@ impl<FLBitmap: Bitmap, SLBitmap: Bitmap, const FLLEN: usize, const SLLEN: usize>
     ///
     /// The address is live, with the layout's alignment.
     pub fn reallocate(&mut self, addr: Addr, layout: Layout) -> Option<Addr>
-        requires { (s : State) × StandsFor FLLEN SLLEN self.old s × IsLive s (non_zero_usize_get addr) layout.align }
-        ensures step { (s : State) → StandsFor FLLEN SLLEN self.old s → IsLive s (non_zero_usize_get addr) layout.align
-            → (t : State) × Reallocates SLLEN s (non_zero_usize_get addr) layout.size (option_map non_zero_usize_get result) t × StandsFor FLLEN SLLEN self.new t × KeepsSpare self.old.memory s self.new.memory t }
-        ensures placed { IfSome result (λ addr. (t : State) × StandsFor FLLEN SLLEN self.new t × IsLive t (non_zero_usize_get addr) layout.align) }
-        ensures sized { IfSome result (λ addr. (t : State) × StandsFor FLLEN SLLEN self.new t × IsPlaced t (non_zero_usize_get addr) layout.size layout.align) }
+        requires { align_at self.old.state (at addr) ≡ Some layout.align }
+        ensures step { Steps FLLEN SLLEN self.old self.new (Reallocates SLLEN self.old.state (at addr) layout.size (reply result)) }
+        ensures live { IfSome result (λ to. align_at self.new.state (at to) ≡ Some layout.align) }
+        ensures sized { IfSome result (λ to. layout.size ≤ length (bytes_at self.new.state (at to))) }
+        ensures few { IfSome result (λ to. length (bytes_at self.new.state (at to)) < layout.size + 32) }
+        ensures kept { IfSome result (λ to. Keeps (bytes_at self.old.state (at addr)) (bytes_at self.new.state (at to))) }
+        ensures new { IfSome result (λ to. at to ≢ at addr → align_at self.old.state (at to) ≡ None) }
+        ensures aligns { IfSome result (λ to. (a : ℕ) → a ≢ at addr → a ≢ at to → align_at self.new.state a ≡ align_at self.old.state a) }
+        ensures bytes { IfSome result (λ to. (a : ℕ) → a ≢ at addr → a ≢ at to → bytes_at self.new.state a ≡ bytes_at self.old.state a) }
+        ensures chunks { self.new.state.chunks ≡ self.old.state.chunks }
+        ensures same { IfNone result (self.new.state ≡ self.old.state) }
         ensures refused { IfNone result (self.new.memory.bytes ≡ self.old.memory.bytes) }
         ensures place { SamePlace self.old.memory self.new.memory }
         ensures touches { self.new.memory.touches ≤ self.old.memory.touches + 66 }
-        ensures copied { (s : State) (u : Used) → StandsFor FLLEN SLLEN self.old s → Holds s (non_zero_usize_get addr) u → u.align ≡ layout.align → self.new.memory.copied ≤ self.old.memory.copied + (usable u).len }
-        ensures stays { (s : State) (u : Used) (p : Plan) → StandsFor FLLEN SLLEN self.old s → Holds s (non_zero_usize_get addr) u → u.align ≡ layout.align → or_else (in_place s u layout.size) (into_next s u layout.size) ≡ Some p → self.new.memory.copied ≡ self.old.memory.copied }
+        ensures copied { self.new.memory.copied ≤ self.old.memory.copied + length (bytes_at self.old.state (at addr)) }
+        ensures stays { (u : Used) (p : Plan) → Holds self.old.state (at addr) u → or_else (in_place self.old.state u layout.size) (into_next self.old.state u layout.size) ≡ Some p
+            → self.new.memory.copied ≡ self.old.memory.copied }
     {
         let payload = addr.get();
         let block = used_block(&mut self.memory, payload, layout.align());
         let moved = reallocate_block(&mut self.memory, &mut self.table, block, payload, layout)?;
+        self.state.reallocate(SLLEN, payload, layout.size());
         NonZeroUsize::new(moved)
     }
 
@@ -224,8 +261,8 @@ impl<FLBitmap: Bitmap, SLBitmap: Bitmap, const FLLEN: usize, const SLLEN: usize>
     ///
     /// The address is live, with any alignment.
     pub fn allocation_usable_size(&self, addr: Addr) -> usize
-        requires { (s : State) × StandsFor FLLEN SLLEN self.now s × IsSomeLive s (non_zero_usize_get addr) }
-        ensures { (s : State) (u : Used) → StandsFor FLLEN SLLEN self.now s → Holds s (non_zero_usize_get addr) u → result ≡ (usable u).len }
+        requires { IsSome (align_at self.now.state (at addr)) }
+        ensures { result ≡ length (bytes_at self.now.state (at addr)) }
     {
         usable_bytes(&self.memory, addr.get()).len
     }
@@ -234,8 +271,8 @@ impl<FLBitmap: Bitmap, SLBitmap: Bitmap, const FLLEN: usize, const SLLEN: usize>
     ///
     /// The address is live, with any alignment.
     pub fn payload(&self, addr: Addr) -> &[u8]
-        requires { (s : State) × StandsFor FLLEN SLLEN self.now s × IsSomeLive s (non_zero_usize_get addr) }
-        ensures { (s : State) (u : Used) → StandsFor FLLEN SLLEN self.now s → Holds s (non_zero_usize_get addr) u → result.now ≡ u.bytes }
+        requires { IsSome (align_at self.now.state (at addr)) }
+        ensures { result.now ≡ bytes_at self.now.state (at addr) }
     {
         self.memory.slice(usable_bytes(&self.memory, addr.get()))
     }
@@ -245,14 +282,16 @@ impl<FLBitmap: Bitmap, SLBitmap: Bitmap, const FLLEN: usize, const SLLEN: usize>
     ///
     /// The address is live, with any alignment.
     pub fn payload_mut(&mut self, addr: Addr) -> &mut [u8]
-        requires { (s : State) × StandsFor FLLEN SLLEN self.old s × IsSomeLive s (non_zero_usize_get addr) }
-        ensures* writes_back { sem 𝓛 (lends_payload FLBitmap.row SLBitmap.row FLLEN.row SLLEN.row FLBitmap.BitPattern SLBitmap.BitPattern self.entry (non_zero_usize_get addr) result) }
-        ensures value { result.now ≡ bytes_in self.old.memory (record { start = non_zero_usize_get addr; len = length result.now }) }
-        ensures len { (s : State) (u : Used) → StandsFor FLLEN SLLEN self.old s → Holds s (non_zero_usize_get addr) u → length result.now ≡ (usable u).len }
-        ensures meaning { (s : State) (u : Used) → StandsFor FLLEN SLLEN self.old s → Holds s (non_zero_usize_get addr) u
-            → (result.now ≡ u.bytes) × ((w : List ℕ) → length w ≡ length result.now
-            → Leaves FLLEN SLLEN self.old s (non_zero_usize_get addr) w (written self.old (non_zero_usize_get addr) (length result.now) w)) }
-        ensures place { (w : List ℕ) → SamePlace self.old.memory (written self.old (non_zero_usize_get addr) (length result.now) w).memory }
+        requires { IsSome (align_at self.old.state (at addr)) }
+        ensures* writes_back { sem 𝓛 (lends_payload FLBitmap.row SLBitmap.row FLLEN.row SLLEN.row FLBitmap.BitPattern SLBitmap.BitPattern self.entry (at addr) result) }
+        ensures value { result.now ≡ bytes_at self.old.state (at addr) }
+        ensures meaning { (w : List ℕ) → length w ≡ length result.now
+            → Steps FLLEN SLLEN self.old (written self.old (at addr) (length result.now) w) (Fills self.old.state (at addr) w) }
+        ensures filled { (w : List ℕ) → length w ≡ length result.now → bytes_at (written self.old (at addr) (length result.now) w).state (at addr) ≡ w }
+        ensures bytes { (w : List ℕ) (a : ℕ) → a ≢ at addr → bytes_at (written self.old (at addr) (length result.now) w).state a ≡ bytes_at self.old.state a }
+        ensures aligns { (w : List ℕ) → align_at (written self.old (at addr) (length result.now) w).state ≡ align_at self.old.state }
+        ensures lengths { (w : List ℕ) → length (bytes_at (written self.old (at addr) (length result.now) w).state (at addr)) ≡ length result.now }
+        ensures rest { (w : List ℕ) → LeavesRest FLLEN SLLEN self.old (written self.old (at addr) (length result.now) w) }
     {
         let range = load_usable_bytes(&mut self.memory, addr.get());
         self.memory.slice_mut(range)
@@ -263,9 +302,13 @@ impl<FLBitmap: Bitmap, SLBitmap: Bitmap, const FLLEN: usize, const SLLEN: usize>
     ///
     /// Both addresses are live, with any alignment, and both payloads have `len` usable bytes.
     pub fn copy_payload(&mut self, from: Addr, to: Addr, len: usize)
-        requires { (s : State) × StandsFor FLLEN SLLEN self.old s × HasFront s (non_zero_usize_get from) len × HasFront s (non_zero_usize_get to) len }
-        ensures step { (s : State) (u v : Used) → StandsFor FLLEN SLLEN self.old s → Holds s (non_zero_usize_get from) u → Holds s (non_zero_usize_get to) v → len ≤ (usable u).len → len ≤ (usable v).len
-            → (t : State) × Fills s (non_zero_usize_get to) (with_front len u.bytes v.bytes) t × StandsFor FLLEN SLLEN self.new t × KeepsSpare self.old.memory s self.new.memory t }
+        requires live { IsSome (align_at self.old.state (at from)) × IsSome (align_at self.old.state (at to)) }
+        requires long { (len ≤ length (bytes_at self.old.state (at from))) × (len ≤ length (bytes_at self.old.state (at to))) }
+        ensures step { Steps FLLEN SLLEN self.old self.new (Fills self.old.state (at to) (with_front len (bytes_at self.old.state (at from)) (bytes_at self.old.state (at to)))) }
+        ensures filled { bytes_at self.new.state (at to) ≡ with_front len (bytes_at self.old.state (at from)) (bytes_at self.old.state (at to)) }
+        ensures bytes { (a : ℕ) → a ≢ at to → bytes_at self.new.state a ≡ bytes_at self.old.state a }
+        ensures aligns { align_at self.new.state ≡ align_at self.old.state }
+        ensures chunks { self.new.state.chunks ≡ self.old.state.chunks }
         ensures place { SamePlace self.old.memory self.new.memory }
         ensures touches { self.new.memory.touches ≡ self.old.memory.touches }
         ensures copied { self.new.memory.copied ≡ self.old.memory.copied + len }
@@ -283,11 +326,11 @@ impl<FLBitmap: Bitmap, SLBitmap: Bitmap, const FLLEN: usize, const SLLEN: usize>
     /// spare before and after it. Nothing else changes.
     ///
     /// The address is a multiple of 8, and the 8 bytes there lie in the memory and are spare: each lies in no chunk or in the last
-    /// 16 bytes of a sentinel, in some state that the allocator stands for. What is promised is promised of the states in which
-    /// this holds.
+    /// 16 bytes of a sentinel.
     pub fn set_spare_word(&mut self, addr: usize, word: u64)
-        requires { (s : State) × StandsFor FLLEN SLLEN self.old s × IsSpareWord self.old.memory s addr }
-        ensures step { (s : State) → StandsFor FLLEN SLLEN self.old s → IsSpareWord self.old.memory s addr → StandsFor FLLEN SLLEN self.new s }
+        requires { IsSpareWord self.old.memory self.old.state addr }
+        ensures state { self.new.state ≡ self.old.state }
+        ensures stands { Stands FLLEN SLLEN self.new }
         ensures bytes { self.new.memory.bytes ≡ with_word self.old.memory addr word }
         ensures place { SamePlace self.old.memory self.new.memory }
         ensures touches { self.new.memory.touches ≡ self.old.memory.touches + 1 }
@@ -299,11 +342,10 @@ impl<FLBitmap: Bitmap, SLBitmap: Bitmap, const FLLEN: usize, const SLLEN: usize>
     /// The blocks of a range, used and free, in address order, from its start rounded up to 32 to its end; the sentinels at
     /// the ends of chunks are left out.
     ///
-    /// From there to there the range is a row of whole adjacent chunks, or empty, in some state that the allocator stands
-    /// for.
+    /// From there to there the range is a row of whole adjacent chunks, or empty.
     pub fn iter_blocks(&self, range: Range) -> Blocks<'_>
-        requires { (s : State) × StandsFor FLLEN SLLEN self.now s × IsRow s (walked range) }
-        ensures blocks { (s : State) → StandsFor FLLEN SLLEN self.now s → IsRow s (walked range) → AreBlocks s (walked range) result }
+        requires { IsRow self.now.state (walked range) }
+        ensures blocks { AreBlocks self.now.state (walked range) result }
         ensures runs { GivesInOrder BlockInfo }
     {
         walk(&self.memory, range)
@@ -315,14 +357,14 @@ impl<FLBitmap: Bitmap, SLBitmap: Bitmap, const FLLEN: usize, const SLLEN: usize>
     /// The row is below `FLLEN`, and the place below `SLLEN`.
     pub fn first_free(&self, fl: usize, sl: usize) -> Option<Addr>
         requires { (fl < FLLEN) × (sl < SLLEN) }
-        ensures { (s : State) → StandsFor FLLEN SLLEN self.now s → option_map non_zero_usize_get result ≡ newest_of (of_class SLLEN fl sl s.free) }
+        ensures { reply result ≡ newest_of (of_class SLLEN fl sl self.now.state.free) }
     {
         NonZeroUsize::new(self.table.newest(fl, sl))
     }
 
     /// The first-level bitmap: a row's position has a one exactly where a block is free whose class is in the row.
     pub fn fl_bitmap(&self) -> FLBitmap
-        ensures { (s : State) (fl : ℕ) → StandsFor FLLEN SLLEN self.now s → bit (FLBitmap.pattern result) fl ≡ list_any (is_in_row SLLEN fl) s.free }
+        ensures { (fl : ℕ) → bit (FLBitmap.pattern result) fl ≡ list_any (is_in_row SLLEN fl) self.now.state.free }
     {
         self.table.fl_bitmap()
     }
@@ -332,15 +374,15 @@ impl<FLBitmap: Bitmap, SLBitmap: Bitmap, const FLLEN: usize, const SLLEN: usize>
     /// The row is below `FLLEN`.
     pub fn sl_bitmap(&self, fl: usize) -> SLBitmap
         requires { fl < FLLEN }
-        ensures { (s : State) (sl : ℕ) → StandsFor FLLEN SLLEN self.now s → bit (SLBitmap.pattern result) sl ≡ list_any (has_class SLLEN (class_at fl sl)) s.free }
+        ensures { (sl : ℕ) → bit (SLBitmap.pattern result) sl ≡ list_any (has_class SLLEN (class_at fl sl)) self.now.state.free }
     {
         self.table.sl_bitmap(fl)
     }
 
-    /// The memory, to read.
+    /// The memory, to read. Its words and the class table spell the state.
     pub fn memory_ref(&self) -> &Memory
         ensures memory { result.now ≡ self.now.memory }
-        ensures stands { (s : State) × StandsFor FLLEN SLLEN self.now s }
+        ensures stands { Stands FLLEN SLLEN self.now }
     {
         &self.memory
     }

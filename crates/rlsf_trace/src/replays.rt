@@ -4,7 +4,6 @@ ghost use Rattle.std.specs.Prelude.{◌≡◌, ◌≢◌, ◌⊎◌, IfOk, IfErr
 ghost use Rattle.std.specs.Io.KnownBytes.{IsAtEnd};
 ghost use Rattle.rlsf_base.specs.Range.{range_at};
 ghost use Rattle.rlsf_machine.specs.State.{empty};
-ghost use Rattle.rlsf_blocks.specs.StandsFor.{StandsFor};
 ghost use Rattle.rlsf_base.specs.Space.{range_of};
 ghost use Rattle.rlsf_text.specs.Faults.{out_of_memory};
 ghost use Rattle.rlsf_trace.specs.Replays.{rows_of, classes_of, IsRun, IsOutput};
@@ -34,7 +33,7 @@ fn answers_with<FLBitmap: Bitmap, SLBitmap: Bitmap, const FLLEN: usize, const SL
     mut tlsf: Tlsf<FLBitmap, SLBitmap, FLLEN, SLLEN>,
     ops: &[Op],
 ) -> Result<Vec<Answer>, ReplayFault>
-    requires { StandsFor FLLEN SLLEN tlsf empty }
+    requires { tlsf.state ≡ empty }
     ensures ok { IfOk result (λ answers. IsRun FLLEN SLLEN (range_of tlsf.memory) ops.now answers.items) }
     ensures err { IfErr result (λ f. f ≡ out_of_memory) }
 {

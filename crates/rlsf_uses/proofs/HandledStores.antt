@@ -1,5 +1,5 @@
 -- A store with a handle for each list of bytes.
-use Rattle.std.proofs.Common.{◌≡◌, ℕ, ◌+◌, List, [], ◌∷◌, ◌++◌, length, Option, None, Some, Result, Ok, Err, OnErr, IsSomeAnd, map, nat_eq, refl, sym, ap, subst, ◌∙◌}
+use Rattle.std.proofs.Common.{◌≡◌, ℕ, ◌+◌, List, [], ◌∷◌, ◌++◌, length, Option, None, Some, Result, Ok, Err, OnErr, IsSomeAnd, map, nat_eq, sym, ap, subst, ◌∙◌}
 use Rattle.std.proofs.Math.Path.{ap₂}
 use Rattle.std.proofs.lemmas.List.{length-map, map-append}
 use Rattle.std.proofs.lemmas.Simd.{map-map}
@@ -9,21 +9,21 @@ use Rattle.rlsf_base.specs.declared.memory.range.Range.{Range}
 use Rattle.rlsf_base.specs.Range.{range_at}
 use Rattle.rlsf_base.specs.Space.{SamePlace, range_of}
 use Rattle.rlsf_uses.specs.Handled.{HandleRows, IsHandled, handled, handled_by, lists_in, place_at, places_in}
-use Rattle.rlsf_uses.specs.Stored.{HasAmong, HasPlaces, HasSame, Place, StoreContents, bytes_at, lists_at}
+use Rattle.rlsf_uses.specs.Stored.{HasAmong, HasPlaces, HasSame, Place, StoreContents, bytes_at_place, lists_at}
 use Rattle.rlsf_uses.specs.declared.handles.Spot.{Spot}
 use Rattle.rlsf_uses.proofs.Entries.{IsFound, found, lookup-map_values, map_values-same, remove_entry-map_values, set_value-middle}
-use Rattle.rlsf_uses.proofs.Places.{length-bytes_at}
+use Rattle.rlsf_uses.proofs.Places.{length-bytes_at_place}
 
 -- ---- what callers see
 
 -- the bytes where a spot says
 abbrev here : StoreContents → ℕ → Spot → List ℕ
-here v align s = bytes_at v.heap.memory (place_at align s)
+here v align s = bytes_at_place v.heap.memory (place_at align s)
 
 -- where all have the same bytes, callers see the same
 lists_in-same : (v w : StoreContents) (align : ℕ) (rows : List (ℕ × Spot)) → lists_at w (places_in align rows) ≡ lists_at v (places_in align rows) → lists_in w align rows ≡ lists_in v align rows
 lists_in-same v w align rows same =
-    map_values-same (here w align) (here v align) rows (sym (map-map (bytes_at w.heap.memory) (place_at align) (values_of rows)) ∙ same ∙ map-map (bytes_at v.heap.memory) (place_at align) (values_of rows))
+    map_values-same (here w align) (here v align) rows (sym (map-map (bytes_at_place w.heap.memory) (place_at align) (values_of rows)) ∙ same ∙ map-map (bytes_at_place v.heap.memory) (place_at align) (values_of rows))
 
 -- as many lists as places
 pub length-lists_in : (v : StoreContents) (align : ℕ) (rows : List (ℕ × Spot)) → length (places_in align rows) ≡ length (lists_in v align rows)
@@ -69,9 +69,8 @@ pub record IsAt (v : StoreContents) (align : ℕ) (h : HandleRows) (n : ℕ) (s 
   pub before : List Place
   pub after : List Place
   pub has : HasPlaces v (before ++ place_at align s ∷ after)
-  pub len : length (bytes_at v.heap.memory (place_at align s)) ≡ s.len
-  pub bytes : lookup (nat_eq n) (lists_in v align h.rows) ≡ Some (bytes_at v.heap.memory (place_at align s))
-  pub same : (w : StoreContents) → SamePlace v.heap.memory w.heap.memory → HasSame v w (before ++ place_at align s ∷ after) → Shows v align (lists_in v align h.rows) h.next w h
+  pub len : length (bytes_at_place v.heap.memory (place_at align s)) ≡ s.len
+  pub bytes : lookup (nat_eq n) (lists_in v align h.rows) ≡ Some (bytes_at_place v.heap.memory (place_at align s))
   pub removed : (w : StoreContents) (g : HandleRows) → SamePlace v.heap.memory w.heap.memory → HasSame v w (before ++ after) → g.rows ≡ remove_entry (nat_eq n) h.rows → g.next ≡ h.next
       → Shows v align (remove_entry (nat_eq n) (lists_in v align h.rows)) h.next w g
   pub changed : (w : StoreContents) (g : HandleRows) → SamePlace v.heap.memory w.heap.memory → (now : Spot) (bytes : List ℕ) → HasAmong v w before after (place_at align now) bytes
@@ -96,9 +95,8 @@ module _ {v : StoreContents} {align : ℕ} (h : HandleRows) (kept : IsHandled v 
         before = before;
         after = after;
         has = has;
-        len = length-bytes_at before after (place_at align s) has;
+        len = length-bytes_at_place before after (place_at align s) has;
         bytes = lookup-map_values (here v align) test h.rows ∙ ap (option_map (here v align)) is;
-        same = λ w place left. same_items w h place (subst (HasSame v w) (sym whole) left) refl refl;
         removed = λ w g place left rows next.
             let now = subst (HasSame v w) (sym less) left in
             shows v {g = g} place rows next now.0 (lists_in-same v w align (remove_entry test h.rows) now.1 ∙ sym (remove_entry-map_values (here v align) test h.rows));

@@ -2,7 +2,7 @@
 pub mod Entries
 pub mod Fronts
 pub mod HandledStores
-pub mod Maps
+pub mod Kept
 pub mod Places
 pub mod Queues
 pub mod Stores

@@ -2,11 +2,10 @@
 use Rattle.std.proofs.Common.{◌≡◌, ℕ, List, [], ◌∷◌, ◌++◌, length, map, refl, sym, ◌∙◌, ap, subst, inr}
 use Rattle.std.proofs.Math.Path.{ap₂}
 use Rattle.std.proofs.lemmas.List.{append-nil, map-append}
-use Rattle.rlsf_machine.specs.State.{IsLive}
 use Rattle.rlsf_machine.proofs.Coverage.{IsIn-append_left, IsIn-append_right}
-use Rattle.rlsf_uses.specs.Stored.{HasAmong, HasPlaces, HasSame, IsStore, Place, Stored, StoreContents, bytes_at, lists_at, place, place_of, stored}
-use Rattle.rlsf_uses.proofs.Maps.{IsIn-middle}
-use Rattle.rlsf_uses.proofs.Stores.{IsLive-stored, bytes_at-kept, bytes_at-some, bytes_at-stored}
+use Rattle.rlsf_uses.specs.Stored.{HasAmong, HasPlaces, HasSame, IsStore, Place, Stored, StoreContents, bytes_at_place, lists_at, place, place_of, stored}
+use Rattle.rlsf_uses.proofs.Kept.{IsIn-middle}
+use Rattle.rlsf_uses.proofs.Stores.{bytes_at_place-kept, bytes_at_place-some, bytes_at_place-stored}
 
 abbrev pub bytes_of : Stored → List ℕ
 bytes_of k = k.bytes
@@ -15,7 +14,7 @@ bytes_of k = k.bytes
 pub HasSame-stored : {v w : StoreContents} (places : List Place) → HasPlaces v places → ((all : List Stored) → IsStore v all → IsStore w all) → HasSame v w places
 HasSame-stored {v} {w} places (all, is, at) keeps =
     let now = keeps all is in
-    ((all, now, at), ap (lists_at w) (sym at) ∙ bytes_at-stored w all now ∙ sym (bytes_at-stored v all is) ∙ ap (lists_at v) at)
+    ((all, now, at), ap (lists_at w) (sym at) ∙ bytes_at_place-stored w all now ∙ sym (bytes_at_place-stored v all is) ∙ ap (lists_at v) at)
 
 -- nothing is stored at no place
 pub IsStore-none : {v : StoreContents} → HasPlaces v [] → IsStore v []
@@ -52,18 +51,18 @@ module _ {v : StoreContents} {before after : List Place} {p : Place} (a : IsMidd
   all_here = a.front ++ a.here ∷ a.back
 
   -- the bytes there, and before and after it
-  pub here_bytes : a.here.bytes ≡ bytes_at v.heap.memory p
-  here_bytes = sym (bytes_at-kept v all_here a.is a.here (IsIn-middle a.here a.front a.back)) ∙ ap (bytes_at v.heap.memory) a.here_at
+  pub here_bytes : a.here.bytes ≡ bytes_at_place v.heap.memory p
+  here_bytes = sym (bytes_at_place-kept v all_here a.is a.here (IsIn-middle a.here a.front a.back)) ∙ ap (bytes_at_place v.heap.memory) a.here_at
 
   pub front_bytes : map bytes_of a.front ≡ lists_at v before
-  front_bytes = sym (bytes_at-some v all_here a.is a.front (λ k i. IsIn-append_left k a.front (a.here ∷ a.back) i)) ∙ ap (lists_at v) a.front_at
+  front_bytes = sym (bytes_at_place-some v all_here a.is a.front (λ k i. IsIn-append_left k a.front (a.here ∷ a.back) i)) ∙ ap (lists_at v) a.front_at
 
   pub back_bytes : map bytes_of a.back ≡ lists_at v after
-  back_bytes = sym (bytes_at-some v all_here a.is a.back (λ k i. IsIn-append_right k a.front (a.here ∷ a.back) (inr i))) ∙ ap (lists_at v) a.back_at
+  back_bytes = sym (bytes_at_place-some v all_here a.is a.back (λ k i. IsIn-append_right k a.front (a.here ∷ a.back) (inr i))) ∙ ap (lists_at v) a.back_at
 
 -- a place has as many bytes as it says
-pub length-bytes_at : {v : StoreContents} (before after : List Place) (p : Place) → HasPlaces v (before ++ p ∷ after) → length (bytes_at v.heap.memory p) ≡ p.len
-length-bytes_at before after p has = let a = among before after p has in ap length (sym (here_bytes a)) ∙ ap (λ q. q.len) a.here_at
+pub length-bytes_at_place : {v : StoreContents} (before after : List Place) (p : Place) → HasPlaces v (before ++ p ∷ after) → length (bytes_at_place v.heap.memory p) ≡ p.len
+length-bytes_at_place before after p has = let a = among before after p has in ap length (sym (here_bytes a)) ∙ ap (λ q. q.len) a.here_at
 
 -- ---- what a call leaves
 
@@ -82,10 +81,10 @@ HasAmong-stored {v} {w} {before} {after} front back j {p} is front_at back_at at
 pub HasAmong-added : {v w : StoreContents} (places : List Place) (addr align : ℕ) (bytes : List ℕ) (len : ℕ) → length bytes ≡ len → HasPlaces v places
     → ((before after : List Stored) → IsStore v (before ++ after) → IsStore w (before ++ stored addr align bytes ∷ after)) → HasAmong v w places [] (place addr align len) bytes
 HasAmong-added {v} places addr align bytes len long (all, is, at) stores =
-    HasAmong-stored all [] (stored addr align bytes) (stores all [] (subst (IsStore v) (sym (append-nil all)) is)) at refl (ap (place addr align) long) refl (sym (bytes_at-stored v all is) ∙ ap (lists_at v) at) refl
+    HasAmong-stored all [] (stored addr align bytes) (stores all [] (subst (IsStore v) (sym (append-nil all)) is)) at refl (ap (place addr align) long) refl (sym (bytes_at_place-stored v all is) ∙ ap (lists_at v) at) refl
 
 pub HasAmong-changed : {v w : StoreContents} (before after : List Place) (p q : Place) (bytes : List ℕ) → HasPlaces v (before ++ p ∷ after)
-    → ((front back : List Stored) (k : Stored) → IsStore v (front ++ k ∷ back) → place_of k ≡ p → k.bytes ≡ bytes_at v.heap.memory p → (j : Stored) × IsStore w (front ++ j ∷ back) × (place_of j ≡ q) × (j.bytes ≡ bytes))
+    → ((front back : List Stored) (k : Stored) → IsStore v (front ++ k ∷ back) → place_of k ≡ p → k.bytes ≡ bytes_at_place v.heap.memory p → (j : Stored) × IsStore w (front ++ j ∷ back) × (place_of j ≡ q) × (j.bytes ≡ bytes))
     → HasAmong v w before after q bytes
 HasAmong-changed before after p q bytes has changes =
     let a = among before after p has in
@@ -98,19 +97,9 @@ HasSame-removed {v} {w} before after p has addr align stores =
     let a = among before after p has in
     let is = stores a.front a.back a.here a.is (ap (λ q. q.addr) a.here_at ∙ addr) (ap (λ q. q.align) a.here_at ∙ align) in
     let at = map-append place_of a.front a.back ∙ ap₂ (λ f b. f ++ b) a.front_at a.back_at in
-    let are = map-append bytes_of a.front a.back ∙ ap₂ (λ f b. f ++ b) (front_bytes a) (back_bytes a) ∙ sym (map-append (bytes_at v.heap.memory) before after) in
-    ((a.front ++ a.back, is, at), ap (lists_at w) (sym at) ∙ bytes_at-stored w (a.front ++ a.back) is ∙ are)
+    let are = map-append bytes_of a.front a.back ∙ ap₂ (λ f b. f ++ b) (front_bytes a) (back_bytes a) ∙ sym (map-append (bytes_at_place v.heap.memory) before after) in
+    ((a.front ++ a.back, is, at), ap (lists_at w) (sym at) ∙ bytes_at_place-stored w (a.front ++ a.back) is ∙ are)
 
 -- what is left once a list was added and given back
 pub HasSame-given_back : {u v w : StoreContents} {p : Place} {bytes : List ℕ} (places : List Place) → HasAmong u v places [] p bytes → HasSame v w (places ++ []) → HasSame u w places
 HasSame-given_back {v = v} {w = w} places added left = let now = subst (HasSame v w) (append-nil places) left in (now.0, now.1 ∙ added.front)
-
--- what is kept where a payload is live
-pub HasSame-live : {v w : StoreContents} {addr align : ℕ} (before after : List Place) (p : Place) → HasPlaces v (before ++ p ∷ after) → p.addr ≡ addr → p.align ≡ align
-    → ((all : List Stored) (store : IsStore v all) → IsLive store.state addr align → IsStore w all) → HasSame v w (before ++ p ∷ after)
-HasSame-live {v} {w} before after p has addr align keeps =
-    let a = among before after p has in
-    let all = a.front ++ a.here ∷ a.back in
-    let now = keeps all a.is (IsLive-stored a.front a.back a.here a.is (ap (λ q. q.addr) a.here_at ∙ addr) (ap (λ q. q.align) a.here_at ∙ align)) in
-    let at = map-append place_of a.front (a.here ∷ a.back) ∙ ap₂ (λ f b. f ++ b) a.front_at (ap₂ (λ q b. q ∷ b) a.here_at a.back_at) in
-    ((all, now, at), ap (lists_at w) (sym at) ∙ bytes_at-stored w all now ∙ sym (bytes_at-stored v all a.is) ∙ ap (lists_at v) at)

@@ -1,11 +1,11 @@
 -- Handles: numbers that count up, each with a value.
 use Rattle.std.specs.Prelude.{ℕ, ◌<◌, List, map}
-use Rattle.std.specs.Int.NonZero.{non_zero_usize_get}
 use Rattle.std.specs.List.{AllByRecursion}
 use Rattle.std.specs.Map.{values_of}
+use Rattle.rlsf_base.specs.Addr.{at}
 use Rattle.rlsf_base.specs.declared.memory.range.Range.{Range}
 use Rattle.rlsf_base.specs.Space.{range_of}
-use Rattle.rlsf_uses.specs.Stored.{StoreContents, HasPlaces, Place, bytes_at}
+use Rattle.rlsf_uses.specs.Stored.{StoreContents, HasPlaces, Place, bytes_at_place}
 use Rattle.rlsf_uses.specs.declared.handles.Spot.{Spot}
 
 -- the handles with where their bytes are stored, in the order of the handles, and the number that the next one has
@@ -23,11 +23,11 @@ map_values f es = map (λ e. (e.0, f e.1)) es
 
 -- the place of a spot, at an alignment
 abbrev pub place_at : ℕ → Spot → Place
-place_at align s = record { addr = non_zero_usize_get s.addr; align = align; len = s.len }
+place_at align s = record { addr = at s.addr; align = align; len = s.len }
 
 -- the bytes of each handle, where the rows say
 abbrev pub lists_in : StoreContents → ℕ → List (ℕ × Spot) → List (ℕ × List ℕ)
-lists_in v align rows = map_values (λ s. bytes_at v.heap.memory (place_at align s)) rows
+lists_in v align rows = map_values (λ s. bytes_at_place v.heap.memory (place_at align s)) rows
 
 -- where the bytes of the handles are
 abbrev pub places_in : ℕ → List (ℕ × Spot) → List Place

@@ -1,10 +1,10 @@
 -- Bounded queues of messages.
 use Rattle.std.specs.Prelude.{ℕ, List, [], ◌∷◌, Option, Some, None, map}
-use Rattle.std.specs.Int.NonZero.{non_zero_usize_get}
+use Rattle.rlsf_base.specs.Addr.{at}
 use Rattle.rlsf_base.specs.declared.memory.range.Range.{Range}
 use Rattle.rlsf_base.specs.Space.{Space}
 use Rattle.rlsf_uses.specs.declared.messages.Entry.{Entry}
-use Rattle.rlsf_uses.specs.Stored.{Place, bytes_at}
+use Rattle.rlsf_uses.specs.Stored.{Place, bytes_at_place}
 
 -- a queue as its callers see it: the messages that are in it, the oldest first, how many it can hold, the addresses of its
 -- memory, and how often the words of that memory were touched
@@ -21,8 +21,8 @@ oldest (m ∷ _) = Some m
 
 -- where the message of an entry is stored
 abbrev pub place_of_entry : Entry → Place
-place_of_entry e = record { addr = non_zero_usize_get e.addr; align = 1; len = e.len }
+place_of_entry e = record { addr = at e.addr; align = 1; len = e.len }
 
 -- the messages of these entries, as they stand in a memory
 abbrev pub messages_in : Space → List Entry → List (List ℕ)
-messages_in m entries = map (bytes_at m) (map place_of_entry entries)
+messages_in m entries = map (bytes_at_place m) (map place_of_entry entries)

@@ -1,24 +1,24 @@
 -- Lists of bytes that an owner keeps in the payloads of one allocator.
-use Rattle.std.specs.Prelude.{◌≡◌, ◌≢◌, ℕ, ◌≤◌, List, [], ◌∷◌, ◌++◌, length, take, Option, Some, count_by, map, ⊤}
+use Rattle.std.specs.Prelude.{◌≡◌, ◌≢◌, ℕ, ◌≤◌, List, [], ◌∷◌, ◌++◌, length, take, Some, count_by, map, ⊤}
 use Rattle.rlsf_base.specs.declared.memory.range.Range.{Range}
 use Rattle.rlsf_base.specs.Range.{end_of, range_at}
 use Rattle.rlsf_base.specs.Sizes.{max_pool_size, pool_size_to_contain_allocation}
 use Rattle.rlsf_base.specs.Space.{Space, bytes_in, range_of}
 use Rattle.rlsf_blocks.specs.Blocks.{Block, walked}
-use Rattle.rlsf_blocks.specs.StandsFor.{Contents, StandsFor}
-use Rattle.rlsf_machine.specs.Callers.{Payload, payload_at}
+use Rattle.rlsf_machine.specs.Callers.{align_at, bytes_at}
 use Rattle.rlsf_machine.specs.ChunkRows.{IsRow}
 use Rattle.rlsf_machine.specs.Insert.{aligned_part, cut}
 use Rattle.rlsf_machine.specs.Lists.{IsIn}
 use Rattle.rlsf_machine.specs.State.{State}
+use Rattle.rlsf_tlsf.specs.Allocator.{Allocator, Stands}
 
 -- an allocator with its pool
 pub record StoreContents : Type 0 where
-  pub heap : Contents
+  pub heap : Allocator
   pub pool : Range
 
 -- the contents by their parts
-abbrev pub store_contents : Contents → Range → StoreContents
+abbrev pub store_contents : Allocator → Range → StoreContents
 store_contents h r = record { heap = h; pool = r }
 
 -- a list of bytes that is kept at an address, in the front of a payload with this alignment
@@ -31,21 +31,21 @@ pub record Stored : Type 0 where
 abbrev pub stored : ℕ → ℕ → List ℕ → Stored
 stored addr align bytes = record { addr = addr; align = align; bytes = bytes }
 
--- a payload keeps the bytes: it has the alignment, and begins with them
-pub record Keeps (k : Stored) (p : Payload) : Type 0 where
-  pub aligned : p.align ≡ k.align
-  pub front : take (length k.bytes) p.bytes ≡ k.bytes
+-- the payload at the address keeps the bytes: it has the alignment, and begins with them
+pub record Keeps (s : State) (k : Stored) : Type 0 where
+  pub live : align_at s k.addr ≡ Some k.align
+  pub front : take (length k.bytes) (bytes_at s k.addr) ≡ k.bytes
 
 -- no two are kept at one address
 abbrev pub AreApart : List Stored → Type 0
 AreApart [] = ⊤
 AreApart (k ∷ ks) = ((j : Stored) → IsIn j ks → j.addr ≢ k.addr) × AreApart ks
 
--- a map from addresses to payloads keeps these lists of bytes and nothing else
-pub record IsMapOf (payloads : ℕ → Option Payload) (all : List Stored) : Type 0 where
-  pub kept : (k : Stored) → IsIn k all → (p : Payload) × (payloads k.addr ≡ Some p) × Keeps k p
+-- the payloads of a state keep these lists of bytes and nothing else
+pub record KeepsOnly (s : State) (all : List Stored) : Type 0 where
+  pub kept : (k : Stored) → IsIn k all → Keeps s k
   pub apart : AreApart all
-  pub no_other : (a : ℕ) (p : Payload) → payloads a ≡ Some p → (k : Stored) × IsIn k all × (k.addr ≡ a)
+  pub no_other : (a align : ℕ) → align_at s a ≡ Some align → (k : Stored) × IsIn k all × (k.addr ≡ a)
 
 -- each chunk lies in the range
 abbrev pub HasChunksIn : State → Range → Type 0
@@ -53,12 +53,11 @@ HasChunksIn s r = (c : Range) → IsIn c s.chunks → (r.start ≤ c.start) × (
 
 -- the allocator keeps these lists of bytes and nothing else, and all of its memory is its pool
 pub record IsStore (v : StoreContents) (all : List Stored) : Type 0 where
-  pub state : State
-  pub stands : StandsFor 59 8 v.heap state
-  pub payloads : IsMapOf (payload_at state) all
-  pub chunks : state.chunks ≡ cut (max_pool_size 59) (aligned_part (range_of v.heap.memory))
-  pub row : IsRow state (walked v.pool)
-  pub whole : HasChunksIn state (walked v.pool)
+  pub stands : Stands 59 8 v.heap
+  pub payloads : KeepsOnly v.heap.state all
+  pub chunks : v.heap.state.chunks ≡ cut (max_pool_size 59) (aligned_part (range_of v.heap.memory))
+  pub row : IsRow v.heap.state (walked v.pool)
+  pub whole : HasChunksIn v.heap.state (walked v.pool)
 
 -- a pool of a memory has room for one payload of this size and alignment: its aligned part is as long as a pool for it
 abbrev pub FitsPool : Range → ℕ → ℕ → Type 0
@@ -75,8 +74,8 @@ abbrev pub place_of : Stored → Place
 place_of k = record { addr = k.addr; align = k.align; len = length k.bytes }
 
 -- the bytes that a memory has at a place
-abbrev pub bytes_at : Space → Place → List ℕ
-bytes_at m p = bytes_in m (range_at p.addr p.len)
+abbrev pub bytes_at_place : Space → Place → List ℕ
+bytes_at_place m p = bytes_in m (range_at p.addr p.len)
 
 -- the allocator keeps lists of bytes at these places, and nothing else
 abbrev pub HasPlaces : StoreContents → List Place → Type 0
@@ -88,7 +87,7 @@ place addr align len = record { addr = addr; align = align; len = len }
 
 -- the bytes that a store has at these places
 abbrev pub lists_at : StoreContents → List Place → List (List ℕ)
-lists_at v places = map (bytes_at v.heap.memory) places
+lists_at v places = map (bytes_at_place v.heap.memory) places
 
 -- w keeps lists of bytes at these places, and nothing else, and they are those that v has there
 abbrev pub HasSame : StoreContents → StoreContents → List Place → Type 0
@@ -102,7 +101,7 @@ KeepsAll v w = (places : List Place) → HasPlaces v places → HasSame v w plac
 pub record HasAmong (v w : StoreContents) (before after : List Place) (p : Place) (bytes : List ℕ) : Type 0 where
   pub places : HasPlaces w (before ++ p ∷ after)
   pub front : lists_at w before ≡ lists_at v before
-  pub here : bytes_at w.heap.memory p ≡ bytes
+  pub here : bytes_at_place w.heap.memory p ≡ bytes
   pub back : lists_at w after ≡ lists_at v after
 
 -- how many of the blocks are used

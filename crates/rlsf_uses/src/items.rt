@@ -1,9 +1,9 @@
 //! Lists of bytes by handle, each in a payload of one store: what the pool of objects and the strings share.
 
 ghost use Rattle.std.specs.Prelude.{◌≡◌, ◌+◌, ◌↔◌, [], ◌∷◌, ◌++◌, List, None, Some, IfOk, OnOk, OnErr, IsErr, IsErrOf, IsSomeAnd, length, nat_eq, replicate};
-ghost use Rattle.std.specs.Int.NonZero.{non_zero_usize_get};
 ghost use Rattle.std.specs.List.{splice};
 ghost use Rattle.std.specs.Map.{lookup, remove_entry, set_value};
+ghost use Rattle.rlsf_base.specs.Addr.{at};
 ghost use Rattle.rlsf_base.specs.Space.{SamePlace, range_of};
 ghost use Rattle.std.specs.Map.Iter.{GivesInOrder};
 ghost use Rattle.rlsf_blocks.specs.Blocks.{IsInOrder};
@@ -189,12 +189,12 @@ fn keep(
     spot: Spot,
     align: usize,
 ) -> Result<usize, AllocError>
-    requires { (before : List Place) × (p : Place) × HasPlaces store.old (before ++ p ∷ []) × (p.addr ≡ non_zero_usize_get spot.addr) × (p.align ≡ align) }
+    requires { (before : List Place) × (p : Place) × HasPlaces store.old (before ++ p ∷ []) × (p.addr ≡ at spot.addr) × (p.align ≡ align) }
     ensures kept { IfOk result (λ handle. (store.new ≡ store.old) × (handle ≡ handles.old.next)
         × (handles.new ≡ record { rows = handles.old.rows ++ (handle, spot) ∷ []; next = handle + 1 })) }
     ensures new { IfOk result (λ handle. lookup (nat_eq handle) handles.old.rows ≡ None) }
     ensures given_back { OnErr result ((before : List Place) (p : Place) → HasPlaces store.old (before ++ p ∷ [])
-        → p.addr ≡ non_zero_usize_get spot.addr → p.align ≡ align → HasSame store.old store.new (before ++ [])) }
+        → p.addr ≡ at spot.addr → p.align ≡ align → HasSame store.old store.new (before ++ [])) }
     ensures refused { OnErr result (handles.new ≡ handles.old) }
     ensures place { SamePlace store.old.heap.memory store.new.heap.memory }
 {

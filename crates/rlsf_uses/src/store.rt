@@ -1,13 +1,13 @@
 //! Lists of bytes, each in a payload of one allocator: what the libraries of this crate share.
 
-ghost use Rattle.std.specs.Prelude.{◌≡◌, ◌≤◌, ◌+◌, ◌∷◌, ◌++◌, ℕ, List, [], length, replicate, IfNone, IfSome, IsSome};
-ghost use Rattle.std.specs.Int.NonZero.{non_zero_usize_get};
+ghost use Rattle.std.specs.Prelude.{◌≡◌, ◌≤◌, ◌+◌, ◌∷◌, ◌++◌, List, [], length, replicate, IfNone, IfSome, IsSome};
 ghost use Rattle.std.specs.List.{splice};
 ghost use Rattle.std.specs.Map.Iter.{GivesInOrder};
+ghost use Rattle.rlsf_base.specs.Addr.{at};
 ghost use Rattle.rlsf_base.specs.Range.{range_at};
 ghost use Rattle.rlsf_base.specs.Space.{SamePlace, bytes_in, range_of};
 ghost use Rattle.rlsf_blocks.specs.Blocks.{IsInOrder};
-ghost use Rattle.rlsf_uses.specs.Stored.{FitsPool, HasAmong, HasPlaces, HasSame, KeepsAll, Place, bytes_at, place, used_count};
+ghost use Rattle.rlsf_uses.specs.Stored.{FitsPool, HasAmong, HasPlaces, HasSame, KeepsAll, Place, bytes_at_place, place, used_count};
 
 use rlsf::{Addr, BlockInfo, Blocks, Layout, Memory, Range, Tlsf};
 use std::marker::Model;
@@ -52,7 +52,7 @@ impl Store {
     /// Stores bytes in a payload of their own. Answers its address, or `None` without room, and then nothing changes.
     pub(crate) fn add(&mut self, bytes: &[u8]) -> Option<Addr>
         ensures stored { IfSome result (λ addr. (places : List Place) → HasPlaces self.old places
-            → HasAmong self.old self.new places [] (place (non_zero_usize_get addr) 1 (length bytes.now)) bytes.now) }
+            → HasAmong self.old self.new places [] (place (at addr) 1 (length bytes.now)) bytes.now) }
         ensures refused { IfNone result (KeepsAll self.old self.new) }
         ensures room { HasPlaces self.old [] → FitsPool (range_of self.old.heap.memory) (length bytes.now) 1 → IsSome result }
         ensures place { SamePlace self.old.heap.memory self.new.heap.memory }
@@ -70,7 +70,7 @@ impl Store {
     /// nothing changes.
     pub(crate) fn add_zeros(&mut self, layout: Layout) -> Option<Addr>
         ensures stored { IfSome result (λ addr. (places : List Place) → HasPlaces self.old places
-            → HasAmong self.old self.new places [] (place (non_zero_usize_get addr) layout.align layout.size) (replicate layout.size 0)) }
+            → HasAmong self.old self.new places [] (place (at addr) layout.align layout.size) (replicate layout.size 0)) }
         ensures refused { IfNone result (KeepsAll self.old self.new) }
         ensures room { HasPlaces self.old [] → FitsPool (range_of self.old.heap.memory) layout.size layout.align → IsSome result }
         ensures place { SamePlace self.old.heap.memory self.new.heap.memory }
@@ -83,8 +83,8 @@ impl Store {
 
     /// The bytes that are stored at an address, as many as are kept there.
     pub(crate) fn read(&self, addr: Addr, len: usize) -> &[u8]
-        requires { (before after : List Place) × (p : Place) × HasPlaces self.now (before ++ p ∷ after) × (p.addr ≡ non_zero_usize_get addr) × (p.len ≡ len) }
-        ensures bytes { result.now ≡ bytes_in self.now.heap.memory (range_at (non_zero_usize_get addr) len) }
+        requires { (before after : List Place) × (p : Place) × HasPlaces self.now (before ++ p ∷ after) × (p.addr ≡ at addr) × (p.len ≡ len) }
+        ensures bytes { result.now ≡ bytes_in self.now.heap.memory (range_at (at addr) len) }
         ensures len { length result.now ≡ len }
     {
         &self.heap.payload(addr)[..len]
@@ -92,9 +92,9 @@ impl Store {
 
     /// Writes bytes over those that are stored at an address, from an offset on.
     pub(crate) fn write(&mut self, addr: Addr, offset: usize, bytes: &[u8])
-        requires { (before after : List Place) × (p : Place) × HasPlaces self.old (before ++ p ∷ after) × (p.addr ≡ non_zero_usize_get addr) × (offset + length bytes.now ≤ p.len) }
-        ensures stored { (before after : List Place) (p : Place) → HasPlaces self.old (before ++ p ∷ after) → p.addr ≡ non_zero_usize_get addr → offset + length bytes.now ≤ p.len
-            → HasAmong self.old self.new before after p (splice (bytes_at self.old.heap.memory p) offset (offset + length bytes.now) bytes.now) }
+        requires { (before after : List Place) × (p : Place) × HasPlaces self.old (before ++ p ∷ after) × (p.addr ≡ at addr) × (offset + length bytes.now ≤ p.len) }
+        ensures stored { (before after : List Place) (p : Place) → HasPlaces self.old (before ++ p ∷ after) → p.addr ≡ at addr → offset + length bytes.now ≤ p.len
+            → HasAmong self.old self.new before after p (splice (bytes_at_place self.old.heap.memory p) offset (offset + length bytes.now) bytes.now) }
         ensures place { SamePlace self.old.heap.memory self.new.heap.memory }
         ensures touches { self.new.heap.memory.touches ≤ self.old.heap.memory.touches + 3 }
     {
@@ -104,11 +104,10 @@ impl Store {
     /// Stores more bytes behind the `len` bytes that are stored at an address, whose payload may move. Answers its address, or
     /// `None` without room, and then nothing changes.
     pub(crate) fn append(&mut self, addr: Addr, len: usize, more: &[u8]) -> Option<Addr>
-        requires { (before after : List Place) × (p : Place) × HasPlaces self.old (before ++ p ∷ after) × (p.addr ≡ non_zero_usize_get addr) × (p.align ≡ 1) × (p.len ≡ len) }
-        ensures stored { IfSome result (λ to. (before after : List Place) (p : Place) → HasPlaces self.old (before ++ p ∷ after) → p.addr ≡ non_zero_usize_get addr → p.align ≡ 1 → p.len ≡ len
-            → HasAmong self.old self.new before after (place (non_zero_usize_get to) 1 (len + length more.now)) (bytes_at self.old.heap.memory p ++ more.now)) }
-        ensures refused { IfNone result ((before after : List Place) (p : Place) → HasPlaces self.old (before ++ p ∷ after) → p.addr ≡ non_zero_usize_get addr → p.align ≡ 1 → p.len ≡ len
-            → HasSame self.old self.new (before ++ p ∷ after)) }
+        requires { (before after : List Place) × (p : Place) × HasPlaces self.old (before ++ p ∷ after) × (p.addr ≡ at addr) × (p.align ≡ 1) × (p.len ≡ len) }
+        ensures stored { IfSome result (λ to. (before after : List Place) (p : Place) → HasPlaces self.old (before ++ p ∷ after) → p.addr ≡ at addr → p.align ≡ 1 → p.len ≡ len
+            → HasAmong self.old self.new before after (place (at to) 1 (len + length more.now)) (bytes_at_place self.old.heap.memory p ++ more.now)) }
+        ensures refused { IfNone result (KeepsAll self.old self.new) }
         ensures place { SamePlace self.old.heap.memory self.new.heap.memory }
         ensures touches { self.new.heap.memory.touches ≤ self.old.heap.memory.touches + 69 }
     {
@@ -123,8 +122,8 @@ impl Store {
 
     /// Gives back what is stored at an address, with that alignment.
     pub(crate) fn remove(&mut self, addr: Addr, align: usize)
-        requires { (before after : List Place) × (p : Place) × HasPlaces self.old (before ++ p ∷ after) × (p.addr ≡ non_zero_usize_get addr) × (p.align ≡ align) }
-        ensures removed { (before after : List Place) (p : Place) → HasPlaces self.old (before ++ p ∷ after) → p.addr ≡ non_zero_usize_get addr → p.align ≡ align
+        requires { (before after : List Place) × (p : Place) × HasPlaces self.old (before ++ p ∷ after) × (p.addr ≡ at addr) × (p.align ≡ align) }
+        ensures removed { (before after : List Place) (p : Place) → HasPlaces self.old (before ++ p ∷ after) → p.addr ≡ at addr → p.align ≡ align
             → HasSame self.old self.new (before ++ after) }
         ensures place { SamePlace self.old.heap.memory self.new.heap.memory }
         ensures touches { self.new.heap.memory.touches ≤ self.old.heap.memory.touches + 32 }

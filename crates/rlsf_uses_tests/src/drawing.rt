@@ -3,8 +3,6 @@
 ghost use Rattle.std.specs.Prelude.{IfOk};
 ghost use Rattle.rlsf_base.specs.Range.{range_at};
 ghost use Rattle.rlsf_machine.specs.ChunkRows.{IsRow};
-ghost use Rattle.rlsf_machine.specs.State.{State};
-ghost use Rattle.rlsf_blocks.specs.StandsFor.{StandsFor};
 
 use rlsf::{Layout, Memory, MemoryError, Range, Tlsf};
 use rlsf_uses::picture;
@@ -15,7 +13,7 @@ type Small = Tlsf<u8, u8, 8, 8>;
 
 /// An allocator over 256 bytes from the address 4096 on, which are one chunk.
 fn one_chunk(alloc: Global) -> Result<Small, MemoryError>
-    ensures { IfOk result (λ tlsf. (s : State) × StandsFor 8 8 tlsf s × IsRow s (range_at 4096 256)) }
+    ensures { IfOk result (λ tlsf. IsRow tlsf.state (range_at 4096 256)) }
 {
     let memory = Memory::new(alloc, 4096, 256)?;
     let mut tlsf = Small::new(memory);
@@ -28,7 +26,7 @@ fn one_chunk(alloc: Global) -> Result<Small, MemoryError>
 
 /// That allocator with two payloads, of 1 byte and of 40.
 fn two_payloads(alloc: Global) -> Result<Small, Fail>
-    ensures { IfOk result (λ tlsf. (s : State) × StandsFor 8 8 tlsf s × IsRow s (range_at 4096 256)) }
+    ensures { IfOk result (λ tlsf. IsRow tlsf.state (range_at 4096 256)) }
 {
     let mut tlsf = one_chunk(alloc)?;
     let _ = tlsf.allocate(Layout::from_size_align(1, 1)?);
@@ -38,7 +36,7 @@ fn two_payloads(alloc: Global) -> Result<Small, Fail>
 
 /// The picture of the chunk.
 fn drawn(alloc: Global, tlsf: &Small, width: usize) -> Result<String, AllocError>
-    requires { (s : State) × StandsFor 8 8 tlsf.now s × IsRow s (range_at 4096 256) }
+    requires { IsRow tlsf.now.state (range_at 4096 256) }
 {
     let blocks = tlsf.iter_blocks(Range {
         start: 4096,

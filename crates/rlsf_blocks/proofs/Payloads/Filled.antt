@@ -87,5 +87,9 @@ module _ {fllen sllen : ℕ} {v : Contents} {s : State} (old : StandsFor fllen s
     ]
   ])
 
+  -- the state read from the memory is the one with the bytes that are there now
+  pub filled_in : Fills s addr (bytes_in n (usable u)) (read_from n s) × StandsFor fllen sllen (record v { memory = n }) (read_from n s) × KeepsSpare v.memory s n (read_from n s)
+  filled_in = (fills, all, spare)
+
   pub stands_filled : (t : State) × Fills s addr (bytes_in n (usable u)) t × StandsFor fllen sllen (record v { memory = n }) t × KeepsSpare v.memory s n t
   stands_filled = (read_from n s, fills, all, spare)

@@ -11,7 +11,7 @@ use Rattle.rlsf_machine.specs.WellFormed.{coverage, itself}
 use Rattle.rlsf_text.specs.declared.op.Answer.{Answer}
 use Rattle.rlsf_text.specs.declared.op.Op.{Op}
 use Rattle.rlsf_blocks.specs.Spare.{KeepsSpare}
-use Rattle.rlsf_blocks.specs.StandsFor.{Contents, StandsFor}
+use Rattle.rlsf_tlsf.specs.Allocator.{Allocator, IsInState}
 use Rattle.rlsf_runs.specs.declared.tables.Tables.{Tables}
 use Rattle.rlsf_runs.specs.Names.{AreNamed}
 use Rattle.rlsf_runs.specs.Runs.{Does, RunState}
@@ -31,8 +31,8 @@ abbrev pub EndsAt : List Range → ℕ → ℕ → Type 0
 EndsAt pools i addr = (i < length pools) × ((d : Range) → end_of (slice_index_or pools i d) ≡ addr)
 
 -- the allocator and the tables are where the run has come to
-pub record IsAt (fllen sllen : ℕ) (v : Contents) (tables : Tables) (s : RunState) : Type 0 where
-  pub stands : StandsFor fllen sllen v s.machine
+pub record IsAt (fllen sllen : ℕ) (v : Allocator) (tables : Tables) (s : RunState) : Type 0 where
+  pub stands : IsInState fllen sllen v s.machine
   pub named : AreNamed s.machine tables.names s.named
   pub pools : IsPermutation s.pools tables.pools.items
   pub in_order : IsInOrder tables.pools.items
@@ -41,5 +41,5 @@ pub record IsAt (fllen sllen : ℕ) (v : Contents) (tables : Tables) (s : RunSta
   pub rows : (p : Range) → IsIn p s.pools → IsRow s.machine p
 
 -- an op and its answer lead on from this state of the run to one where the allocator and the tables then are, and spare bytes stay
-abbrev pub LeadsOn : ℕ → ℕ → Contents → RunState → Op → Answer → Contents → Tables → Type 0
+abbrev pub LeadsOn : ℕ → ℕ → Allocator → RunState → Op → Answer → Allocator → Tables → Type 0
 LeadsOn fllen sllen v s op answer w new = (t : RunState) × Does fllen sllen (range_of v.memory) s op answer t × IsAt fllen sllen w new t × KeepsSpare v.memory s.machine w.memory t.machine

@@ -1,7 +1,11 @@
 use Rattle.std.proofs.Common.{rules, ◌≡◌, ◌+◌, length, drop, replicate, arith, sym, ◌∙◌, ap, subst}
 use Rattle.std.specs.Int.NonZero.{non_zero_usize_get}
-use Rattle.std.specs.Option.{option_map}
-use Rattle.rlsf_machine.specs.State.{empty}
+use Rattle.rlsf_base.specs.Addr.{reply}
+use Rattle.rlsf_base.specs.Space.{range_of}
+use Rattle.rlsf_machine.specs.Insert.{Inserts, IsFresh}
+use Rattle.rlsf_machine.proofs.Untouched.{parts_of-IsFresh}
+use Rattle.rlsf_tlsf.proofs.Arrivals.{opened}
+use Rattle.rlsf_tlsf.proofs.Standing.{in_state}
 use Rattle.rlsf_bench.proofs.FirstPool.{pool_is_fresh}
 use Rattle.rlsf_bench.specs.Runs.{IsBench, RunState}
 use Rattle.rlsf_bench.specs.Slots.{IsAt, LeadsOn}
@@ -10,13 +14,16 @@ use Rattle.rlsf_bench.proofs.steps.run.Goals as goal
 
 pub insert_free_block_ptr-requires : goal.insert_free_block_ptr-requires
 insert_free_block_ptr-requires g c =
-    (search rules, (empty, c.requires.new, pool_is_fresh c.args.tlsf.memory c.args.pool c.requires.pool))
+    let fresh = subst (λ s. IsFresh (range_of c.args.tlsf.memory) s c.args.pool) (sym c.requires.new) (pool_is_fresh c.args.tlsf.memory c.args.pool c.requires.pool) in
+    (search rules, parts_of-IsFresh (range_of c.args.tlsf.memory) c.args.tlsf.state c.args.pool fresh)
 
 pub loop-number-init : goal.loop-number-init
 loop-number-init g c =
-    let fresh = pool_is_fresh c.args.tlsf.memory c.args.pool c.requires.pool in
-    let (t, step, stands, _) = c.insert_free_block_ptr.ensures.step empty c.requires.new fresh in
-    IsUnderway-beginning (option_map non_zero_usize_get c.insert_free_block_ptr.result) t step stands (c.in_ok-live.ensures.ok ∙ ap (λ n. replicate n 0) c.get.ensures.value) c.new-tally.ensures c.new-draws.ensures
+    let taken = reply c.insert_free_block_ptr.result in
+    let after = c.insert_free_block_ptr.new.self in
+    let (step, stands, _) = opened g.row.FLLEN g.row.SLLEN c.args.tlsf after (Inserts g.row.FLLEN c.args.tlsf.state c.args.pool taken) c.insert_free_block_ptr.ensures.step in
+    let first = subst (λ s. Inserts g.row.FLLEN s c.args.pool taken after.state) c.requires.new step in
+    IsUnderway-beginning taken after.state first (in_state g.row.FLLEN g.row.SLLEN after stands) (c.in_ok-live.ensures.ok ∙ ap (λ n. replicate n 0) c.get.ensures.value) c.new-tally.ensures c.new-draws.ensures
 
 pub step-requires : goal.step-requires
 step-requires g c =

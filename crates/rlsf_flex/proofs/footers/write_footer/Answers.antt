@@ -1,4 +1,5 @@
-use Rattle.std.proofs.Common.{◌+◌, ap, refl}
+use Rattle.std.proofs.Common.{rules, ◌+◌, ap, refl, sym, subst}
+use Rattle.rlsf_blocks.specs.Spare.{IsSpareWord}
 use Rattle.rlsf_flex.proofs.FooterWords.{IsSpareWord-place, writes_footer}
 use Rattle.rlsf_flex.proofs.footers.write_footer.Goals as goal
 
@@ -6,13 +7,20 @@ pub returns-clause-footer : goal.returns-clause-footer
 returns-clause-footer g c =
     let one = c.set_spare_word.ensures in
     let two = c.set_spare_word-2.ensures in
-    let (s, v, start, len) = c.requires.spare in
+    let (start, len) = c.requires.spare in
     writes_footer c.args.tlsf.now.memory c.set_spare_word.new.self.memory c.set_spare_word-2.new.self.memory c.args.range c.footer_at-footer.result c.args.start c.args.len c.footer_at-footer.ensures start.0 len.0 c.ranges.start.fits c.ranges.len.fits
     one.place one.bytes two.place two.bytes
 
-pub returns-clause-step : goal.returns-clause-step
-returns-clause-step g c s v start len =
-    let one = c.set_spare_word.ensures in
-    let at = c.footer_at-footer.ensures in
+pub set_spare_word-requires : goal.set_spare_word-requires
+set_spare_word-requires g c =
     let old = c.args.tlsf.now.memory in
-    c.set_spare_word-2.ensures.step s (one.step s v (IsSpareWord-place old old s _ _ (refl, refl) at start)) (IsSpareWord-place old c.set_spare_word.new.self.memory s _ _ one.place (ap (λ a. a + 8) at) len)
+    (search rules, IsSpareWord-place old old c.args.tlsf.now.state _ _ (refl, refl) c.footer_at-footer.ensures c.requires.spare.0)
+
+pub set_spare_word-requires-2 : goal.set_spare_word-requires-2
+set_spare_word-requires-2 g c =
+    let one = c.set_spare_word.ensures in
+    let new = c.set_spare_word.new.self in (
+      search rules,
+      subst (λ s. IsSpareWord new.memory s (c.footer_at-footer.result + 8)) (sym one.state)
+          (IsSpareWord-place c.args.tlsf.now.memory new.memory c.args.tlsf.now.state _ _ one.place (ap (λ a. a + 8) c.footer_at-footer.ensures) c.requires.spare.1),
+    )

@@ -1,14 +1,19 @@
 use Rattle.std.proofs.Common.{rules, ◌≡◌, ◌+◌, [], arith, sym, ap, ◌∙◌, subst, refl, inl}
-use Rattle.rlsf_base.specs.Space.{IsWord, SamePlace, word_at}
-use Rattle.rlsf_blocks.specs.StandsFor.{Contents, StandsFor}
+use Rattle.rlsf_base.specs.Space.{IsWord, SamePlace, range_of, word_at}
+use Rattle.rlsf_tlsf.specs.Allocator.{Allocator, IsInState}
 use Rattle.rlsf_flex.specs.Footers.{first_len, first_start, footer_of, Footers}
 use Rattle.rlsf_flex.specs.StandsFor.{flex_contents, FlexStandsFor, kept_pool}
 use Rattle.rlsf_flex.specs.Steps.Growth.{outcome_of_growth, Took}
 use Rattle.rlsf_machine.specs.FlexState.{FlexState}
+use Rattle.rlsf_machine.specs.Growth.{behind}
+use Rattle.rlsf_machine.specs.Insert.{Appends, IsNext}
 use Rattle.rlsf_machine.specs.Lists.{IsIn}
 use Rattle.rlsf_machine.specs.Note.{grow}
 use Rattle.rlsf_machine.specs.Terms.{Terms, with_len}
 use Rattle.rlsf_machine.proofs.TakenPools.{pool_size_is}
+use Rattle.rlsf_tlsf.proofs.Standing.{of_state, stepped}
+use Rattle.rlsf_flex.proofs.Calls.{stays_in}
+use Rattle.rlsf_flex.proofs.Frames.{HasSpareFooter}
 use Rattle.rlsf_flex.proofs.Growths.{Grew, Grew-houses, Grew-longer, Grew-next, Grew-taken, Grew-took}
 use Rattle.rlsf_flex.proofs.Houses.{Houses-end, Houses-flex, Houses-spare, Took-refused}
 use Rattle.rlsf_flex.proofs.Kept.{IsKeptPool-known}
@@ -67,7 +72,7 @@ write_footer-requires g c =
     let now = with_len c.args.pool.range c.in_ok-grown.grown in
     let houses = Grew-houses c.requires.valid (grew g (goal.at.write_footer-requires g c).In_ok-grown s v) c.args.tlsf.now v.machine (refl, refl) in
     let footer = Houses-spare houses now (inl refl) in
-    (search rules, (Houses-end houses now (inl refl), (s.machine, v.machine, footer.0, footer.1)))
+    (search rules, (Houses-end houses now (inl refl), of_state v.machine (λ x. HasSpareFooter c.args.tlsf.now.memory x now) footer))
 
 pub overflow_add-pool : goal.overflow_add-pool
 overflow_add-pool g c =
@@ -85,7 +90,7 @@ overflow_sub-grown g c =
 -- the footer was moved, or there is none
 moved : (g : given.Over) (c : Joined-supports_dealloc g) (s : FlexState)
     → (h : Grew g.row.FLLEN g.row.SLLEN c.args.wanted g.S.FlexSource.terms g.S.FlexSource.owes (flex_contents c.args.tlsf.now c.args.kept.now c.args.source.now) s c.realloc_inplace_grow.new.self (kept_pool c.args.pool) c.args.len c.in_ok-grown.grown)
-    → StandsFor g.row.FLLEN g.row.SLLEN c.if-supports_dealloc.tlsf s.machine
+    → IsInState g.row.FLLEN g.row.SLLEN c.if-supports_dealloc.tlsf s.machine
     × IsFooted (g.S.FlexSource.terms c.args.source.now).dealloc c.args.tlsf.now.memory c.if-supports_dealloc.tlsf.memory (with_len c.args.pool.range c.in_ok-grown.grown) (first_start h.kept.rest) (first_len h.kept.rest)
 moved g c s h =
     let t = g.S.FlexSource.terms c.args.source.now in
@@ -93,12 +98,12 @@ moved g c s h =
     let now = with_len c.args.pool.range c.in_ok-grown.grown in
     let takes : c.supports_dealloc.result ≡ t.dealloc = subst (λ (e : Terms). c.supports_dealloc.result ≡ e.dealloc) (g.met.S.FlexSource.constant c.args.source.now c.realloc_inplace_grow.new.self (grow c.args.pool.range c.args.len c.realloc_inplace_grow.result) c.realloc_inplace_grow.ensures.leads) c.supports_dealloc.ensures in
     let footer = Houses-spare (Grew-houses c.requires.valid h a h.before.machine (refl, refl)) now (inl refl) in
-    let Done : Contents → Type 0 = λ d. StandsFor g.row.FLLEN g.row.SLLEN d s.machine × IsFooted t.dealloc a.memory d.memory now (first_start h.kept.rest) (first_len h.kept.rest) in
+    let Done : Allocator → Type 0 = λ d. IsInState g.row.FLLEN g.row.SLLEN d s.machine × IsFooted t.dealloc a.memory d.memory now (first_start h.kept.rest) (first_len h.kept.rest) in
     elim c.if-supports_dealloc.branch [
       | then-supports_dealloc w ↦
           let f = subst (Footers a.memory) h.kept.split (h.before.footers (sym takes ∙ w.if-supports_dealloc.true)) in
           subst Done (sym w.tlsf-is) (
-            w.write_footer.ensures.step s.machine h.before.machine footer.0 footer.1,
+            stays_in h.before.machine w.write_footer.new.tlsf w.write_footer.ensures.state w.write_footer.ensures.stands,
             IsFooted-written _ _ _ _ _ _ _ _ w.write_footer.ensures.footer
                 (subst (λ m. w.read_footer-start.result.0 ≡ word_at m (footer_of c.args.pool.range)) w.memory_ref.ensures.memory w.read_footer-start.ensures.0 ∙ f.0)
                 (subst (λ m. w.read_footer-start.result.1 ≡ word_at m (footer_of c.args.pool.range + 8)) w.memory_ref.ensures.memory w.read_footer-start.ensures.1 ∙ f.1),
@@ -111,7 +116,7 @@ append_free_block_ptr-taken-requires g c =
     let (s, v) = c.requires.stands in
     let h = grew g (goal.at.append_free_block_ptr-taken-requires g c).In_ok-grown s v in
     let (stands, footed) = moved g (goal.at.append_free_block_ptr-taken-requires g c).Joined-supports_dealloc s h in
-    (search rules, (s.machine, stands, Grew-next c.requires.valid h c.if-supports_dealloc.tlsf footed.place))
+    (search rules, of_state stands (λ x. IsNext (range_of c.if-supports_dealloc.tlsf.memory) x (behind (kept_pool c.args.pool) c.in_ok-grown.grown)) (Grew-next c.requires.valid h c.if-supports_dealloc.tlsf footed.place))
 
 pub overflow_add-kept : goal.overflow_add-kept
 overflow_add-kept g c =
@@ -119,7 +124,7 @@ overflow_add-kept g c =
     let h = grew g (goal.at.overflow_add-kept g c).In_ok-grown s v in
     let (stands, footed) = moved g (goal.at.overflow_add-kept g c).Joined-supports_dealloc s h in
     let d = c.if-supports_dealloc.tlsf in
-    let (t, step, after, spare) = c.append_free_block_ptr-taken.ensures.step s.machine stands (Grew-next c.requires.valid h d footed.place) in
+    let (t, step, after, spare) = stepped stands c.append_free_block_ptr-taken.new.self (λ x. Appends g.row.FLLEN x (behind (kept_pool c.args.pool) c.in_ok-grown.grown) c.append_free_block_ptr-taken.result) c.append_free_block_ptr-taken.ensures.step in
     let (taken, pool) = Grew-taken c.requires.valid h d t c.append_free_block_ptr-taken.result stands footed.place step in
     let ends = Houses-end (Grew-houses c.requires.valid h d stands footed.place) (with_len c.args.pool.range c.in_ok-grown.grown) (inl refl) in
     let longer = Grew-longer c.requires.valid h in
@@ -131,7 +136,7 @@ returns-clause-step g c s v =
     let (stands, footed) = moved g (goal.at.returns-clause-step g c).Joined-supports_dealloc s h in
     let d = c.if-supports_dealloc.tlsf in
     let same = g.met.S.FlexSource.constant c.args.source.now c.realloc_inplace_grow.new.self (grow c.args.pool.range c.args.len c.realloc_inplace_grow.result) c.realloc_inplace_grow.ensures.leads in
-    let (t, step, after, spare) = c.append_free_block_ptr-taken.ensures.step s.machine stands (Grew-next c.requires.valid h d footed.place) in
+    let (t, step, after, spare) = stepped stands c.append_free_block_ptr-taken.new.self (λ x. Appends g.row.FLLEN x (behind (kept_pool c.args.pool) c.in_ok-grown.grown) c.append_free_block_ptr-taken.result) c.append_free_block_ptr-taken.ensures.step in
     Grew-took c.requires.valid h d c.append_free_block_ptr-taken.new.self t c.append_free_block_ptr-taken.result same stands footed step after spare c.append_free_block_ptr-taken.ensures.place
 
 pub returns-clause-place : goal.returns-clause-place
@@ -139,13 +144,13 @@ returns-clause-place g c =
     let last = c.append_free_block_ptr-taken.ensures.place in
     elim c.if-supports_dealloc.branch [
       | then-supports_dealloc w ↦
-          let first = subst (λ (d : Contents). SamePlace c.args.tlsf.now.memory d.memory) (sym w.tlsf-is) w.write_footer.ensures.footer.place in
+          let first = subst (λ (d : Allocator). SamePlace c.args.tlsf.now.memory d.memory) (sym w.tlsf-is) w.write_footer.ensures.footer.place in
           (last.0 ∙ first.0, last.1 ∙ first.1)
-      | else-supports_dealloc w ↦ subst (λ (d : Contents). SamePlace d.memory c.append_free_block_ptr-taken.new.self.memory) w.tlsf-is last
+      | else-supports_dealloc w ↦ subst (λ (d : Allocator). SamePlace d.memory c.append_free_block_ptr-taken.new.self.memory) w.tlsf-is last
     ]
 
 pub returns-clause-copied : goal.returns-clause-copied
 returns-clause-copied g c = elim c.if-supports_dealloc.branch [
-  | then-supports_dealloc w ↦ c.append_free_block_ptr-taken.ensures.copied ∙ ap (λ (d : Contents). d.memory.copied) w.tlsf-is ∙ w.write_footer.ensures.copied
-  | else-supports_dealloc w ↦ c.append_free_block_ptr-taken.ensures.copied ∙ ap (λ (d : Contents). d.memory.copied) w.tlsf-is
+  | then-supports_dealloc w ↦ c.append_free_block_ptr-taken.ensures.copied ∙ ap (λ (d : Allocator). d.memory.copied) w.tlsf-is ∙ w.write_footer.ensures.copied
+  | else-supports_dealloc w ↦ c.append_free_block_ptr-taken.ensures.copied ∙ ap (λ (d : Allocator). d.memory.copied) w.tlsf-is
 ]

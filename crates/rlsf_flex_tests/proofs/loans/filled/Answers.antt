@@ -10,4 +10,4 @@ returns c =
     let (s, h, (u, holds, aligned)) = c.in_ok-addr.ensures.placed in
     let (is, leaves) = c.payload_mut.ensures.meaning s u h holds in
     let (m, step, stands, spare) = leaves c.fill.new.self c.fill.ensures.len in
-    (with_machine s m, stands, (filled_has_bytes 8 8 (range_of c.allocate.new.self.tlsf.memory) s.machine m addr c.args.layout.align c.fill.new.self h.machine.well_formed (u, holds, aligned) step).0)
+    (with_machine s m, stands, (filled_has_bytes 8 8 (range_of c.allocate.new.self.tlsf.memory) s.machine m addr c.args.layout.align c.fill.new.self h.machine.stands.well_formed (u, holds, aligned) step).0)

@@ -1,4 +1,7 @@
-use Rattle.std.proofs.Common.{sym, ◌∙◌}
+use Rattle.std.proofs.Common.{sym, ◌∙◌, rules}
+use Rattle.rlsf_machine.specs.Release.{Deallocates}
+use Rattle.rlsf_tlsf.proofs.Standing.{some_live_in, stepped}
+use Rattle.rlsf_runs.specs.Names.{address}
 use Rattle.rlsf_runs.proofs.NamedPayloads.{freed, not_freed, owned}
 use Rattle.rlsf_runs.proofs.payloads.free_unknown.Goals as goal
 
@@ -9,8 +12,7 @@ pub returns-clause-does : goal.returns-clause-does
 returns-clause-does g c = λ s at.
     let p = c.in-Some.payload in
     let there = sym c.take_name.ensures.value ∙ c.in-Some.is in
-    let (u, owns, holds, _) = owned at c.args.name p there in
-    let (t, step, stands, keeps) = c.deallocate_unknown_align.ensures.step s.machine at.stands (u, holds) in
+    let (t, step, stands, keeps) = stepped at.stands c.deallocate_unknown_align.new.self (λ x. Deallocates x (address p)) c.deallocate_unknown_align.ensures.step in
     freed at c.deallocate_unknown_align.ensures.place t stands keeps c.args.name p there step c.take_name.ensures.pools c.take_name.ensures.names
 
 pub returns-in_default-clause-room : goal.returns-in_default-clause-room
@@ -18,3 +20,9 @@ returns-in_default-clause-room g c = c.take_name.ensures.room
 
 pub returns-clause-room : goal.returns-clause-room
 returns-clause-room g c = c.take_name.ensures.room
+
+pub deallocate_unknown_align-requires : goal.deallocate_unknown_align-requires
+deallocate_unknown_align-requires g c =
+    let (s, at) = c.requires in
+    let (u, owns, holds, _) = owned at c.args.name c.in-Some.payload (sym c.take_name.ensures.value ∙ c.in-Some.is) in
+    (search rules, some_live_in at.stands (address c.in-Some.payload) (u, holds))

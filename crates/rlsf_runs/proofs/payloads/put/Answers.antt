@@ -4,6 +4,7 @@ use Rattle.rlsf_machine.specs.Run.{Fills}
 use Rattle.rlsf_text.specs.declared.op.Answer.TheVariants.{Refused}
 use Rattle.rlsf_text.specs.declared.op.Op.TheVariants.{Put}
 use Rattle.rlsf_text.specs.declared.op.TraceError.TheVariants.{BadOffset, UnknownName}
+use Rattle.rlsf_tlsf.proofs.Standing.{bytes_in, some_live_in, stepped}
 use Rattle.rlsf_runs.specs.Names.{address}
 use Rattle.rlsf_runs.specs.Runs.{with_machine}
 use Rattle.rlsf_runs.proofs.NamedPayloads.{IsAt-filled, LeadsOn-nothing, owned}
@@ -13,28 +14,28 @@ use Rattle.rlsf_runs.proofs.payloads.put.Goals as goal
 pub returns-then-offset-payload-clause-does : goal.returns-then-offset-payload-clause-does
 returns-then-offset-payload-clause-does g c = λ s at.
     let (u, owns, holds, long) = owned at c.args.name c.in-Some.payload (sym c.payload.ensures ∙ c.in-Some.is) in
-    let bytes = c.payload-2.ensures s.machine u at.stands holds in
+    let bytes = c.payload-2.ensures ∙ bytes_in at.stands (address c.in-Some.payload) u holds in
     LeadsOn-nothing at (Put c.args.name c.args.offset c.args.byte) (Refused BadOffset) ((u, owns, omega (arith, c.if-offset-payload.true, ap length bytes, long)), refl)
 
 pub bounds-payload_mut-offset : goal.bounds-payload_mut-offset
 bounds-payload_mut-offset g c =
     let (s, at) = c.requires in
     let (u, owns, holds, long) = owned at c.args.name c.in-Some.payload (sym c.payload.ensures ∙ c.in-Some.is) in
-    let bytes = c.payload-2.ensures s.machine u at.stands holds in
-    omega (arith, c.if-offset-payload.false, ap length bytes, long, c.payload_mut.ensures.len s.machine u at.stands holds)
+    let bytes = c.payload-2.ensures ∙ bytes_in at.stands (address c.in-Some.payload) u holds in
+    omega (arith, c.if-offset-payload.false, ap length bytes, long, ap length (c.payload_mut.ensures.value ∙ bytes_in at.stands (address c.in-Some.payload) u holds))
 
 pub returns-clause-does : goal.returns-clause-does
 returns-clause-does g c = λ s at.
     let p = c.in-Some.payload in
     let w = slice_set c.payload_mut.result.now c.args.offset c.args.byte in
     let (u, owns, holds, long) = owned at c.args.name p (sym c.payload.ensures ∙ c.in-Some.is) in
-    let bytes = c.payload-2.ensures s.machine u at.stands holds in
-    let (lent, leaves) = c.payload_mut.ensures.meaning s.machine u at.stands holds in
-    let (t, step, stands, keeps) = leaves w (length-set c.payload_mut.result.now c.args.offset c.args.byte) in
+    let bytes = c.payload-2.ensures ∙ bytes_in at.stands (address c.in-Some.payload) u holds in
+    let lent = c.payload_mut.ensures.value ∙ bytes_in at.stands (address p) u holds in
+    let (t, step, stands, keeps) = stepped at.stands _ (λ x. Fills x (address p) w) (c.payload_mut.ensures.meaning w (length-set c.payload_mut.result.now c.args.offset c.args.byte)) in
     let fills = subst (λ a. Fills s.machine a (slice_set u.bytes c.args.offset c.args.byte) t) (sym holds.1) (subst (λ l. Fills s.machine (address p) (slice_set l c.args.offset c.args.byte) t) lent step) in (
       with_machine t s,
       (u, owns, omega (arith, c.if-offset-payload.false, ap length bytes, long), t, fills, refl),
-      IsAt-filled at (c.payload_mut.ensures.place w) t stands (address p) w step,
+      IsAt-filled at (c.payload_mut.ensures.rest w).1 t stands (address p) w step,
       keeps,
     )
 
@@ -46,13 +47,13 @@ pub payload-requires-2 : goal.payload-requires-2
 payload-requires-2 g c =
     let (s, at) = c.requires in
     let (u, owns, holds, _) = owned at c.args.name c.in-Some.payload (sym c.payload.ensures ∙ c.in-Some.is) in
-    (search rules, (s.machine, at.stands, (u, holds)))
+    (search rules, some_live_in at.stands (address c.in-Some.payload) (u, holds))
 
 pub payload_mut-requires : goal.payload_mut-requires
 payload_mut-requires g c =
     let (s, at) = c.requires in
     let (u, owns, holds, _) = owned at c.args.name c.in-Some.payload (sym c.payload.ensures ∙ c.in-Some.is) in
-    (search rules, (s.machine, at.stands, (u, holds)))
+    (search rules, some_live_in at.stands (address c.in-Some.payload) (u, holds))
 
 pub returns-clause-place : goal.returns-clause-place
-returns-clause-place g c = c.payload_mut.ensures.place (slice_set c.payload_mut.result.now c.args.offset c.args.byte)
+returns-clause-place g c = (c.payload_mut.ensures.rest (slice_set c.payload_mut.result.now c.args.offset c.args.byte)).1

@@ -1,10 +1,11 @@
 use Rattle.std.proofs.Common.{◌≡◌, Some, None, refl, ap, sym, ◌∙◌, subst, rules}
 use Rattle.std.specs.Int.NonZero.{non_zero_usize_get}
-use Rattle.std.specs.Option.{option_map}
+use Rattle.rlsf_base.specs.Addr.{reply}
 use Rattle.rlsf_base.specs.Layout.{IsLayout}
 use Rattle.rlsf_machine.specs.Reallocate.{Reallocates}
 use Rattle.rlsf_machine.specs.State.{State, Used, IsLive}
 use Rattle.rlsf_blocks.specs.Spare.{KeepsSpare}
+use Rattle.rlsf_tlsf.proofs.Standing.{live_in, stepped}
 use Rattle.rlsf_runs.specs.Names.{address}
 use Rattle.rlsf_runs.specs.Runs.{Owns, RunState, with_name}
 use Rattle.rlsf_runs.specs.Steps.Tables.{IsAt}
@@ -21,12 +22,12 @@ returns-in-Some-placed-clause-does g c = λ s at.
     let there = sym c.payload.ensures ∙ c.in-Some.is in
     let live = at.named.live c.args.name p there in
     let to = non_zero_usize_get c.in-Some-placed.addr in
-    let (size, align) = c.in-Ok.ensures.layout in
-    let (t, moved, stands, keeps) = c.in-Some-placed.ensures.step s.machine at.stands (subst (IsLive s.machine (address p)) (sym align) live) in
+    let (size, _) = c.in-Ok.ensures.layout in
+    let (t, moved, stands, keeps) = stepped at.stands c.reallocate-placed.new.self (λ x. Reallocates g.row.SLLEN x (address p) c.in-Ok.layout.size (Some to)) c.in-Some-placed.ensures.step in
     let step = subst (λ n. Reallocates g.row.SLLEN s.machine (address p) n (Some to) t) size moved in
     let (u, owns, holds, its) = owned_live at.named c.args.name p there in
     let valid = subst (IsLayout c.args.size) (sym its) (c.in-Ok.ensures.succeeds.0 refl) in
-    let named = AreNamed-reallocated at.named g.row.FLLEN g.row.SLLEN _ t c.args.name c.args.size (address p) to _ at.stands.well_formed (owns.1 ∙ ap Some holds.1) live step refl c.add_name.ensures.names in (
+    let named = AreNamed-reallocated at.named g.row.FLLEN g.row.SLLEN _ t c.args.name c.args.size (address p) to _ at.stands.stands.well_formed (owns.1 ∙ ap Some holds.1) live step refl c.add_name.ensures.names in (
       _,
       (u, owns, valid, t, subst (λ a. Reallocates g.row.SLLEN s.machine a c.args.size (Some to) t) (sym holds.1) step, refl),
       IsAt-named at c.in-Some-placed.ensures.place t stands (reallocation_keeps_chunks g.row.SLLEN s.machine t (address p) c.args.size (Some to) step) c.add_name.ensures.pools named,
@@ -37,11 +38,10 @@ pub returns-in_default-placed-clause-does : goal.returns-in_default-placed-claus
 returns-in_default-placed-clause-does g c = λ s at.
     let p = c.in-Some.old in
     let there = sym c.payload.ensures ∙ c.in-Some.is in
-    let live = at.named.live c.args.name p there in
-    let (size, align) = c.in-Ok.ensures.layout in
-    let (t, moved, stands, keeps) = c.reallocate-placed.ensures.step s.machine at.stands (subst (IsLive s.machine (address p)) (sym align) live) in
-    let none : option_map non_zero_usize_get c.reallocate-placed.result ≡ None = ap (option_map non_zero_usize_get) c.in_default-placed.is in
-    let step = subst (λ o. Reallocates g.row.SLLEN s.machine (address p) c.args.size o t) none (subst (λ n. Reallocates g.row.SLLEN s.machine (address p) n (option_map non_zero_usize_get c.reallocate-placed.result) t) size moved) in
+    let (size, _) = c.in-Ok.ensures.layout in
+    let (t, moved, stands, keeps) = stepped at.stands c.reallocate-placed.new.self (λ x. Reallocates g.row.SLLEN x (address p) c.in-Ok.layout.size (reply c.reallocate-placed.result)) c.reallocate-placed.ensures.step in
+    let none : reply c.reallocate-placed.result ≡ None = ap reply c.in_default-placed.is in
+    let step = subst (λ o. Reallocates g.row.SLLEN s.machine (address p) c.args.size o t) none (subst (λ n. Reallocates g.row.SLLEN s.machine (address p) n (reply c.reallocate-placed.result) t) size moved) in
     let (u, owns, holds, its) = owned_live at.named c.args.name p there in
     let valid = subst (IsLayout c.args.size) (sym its) (c.in-Ok.ensures.succeeds.0 refl) in
     subst (λ o. (x : RunState) × ((v : Used) × Owns s c.args.name v × IsLayout c.args.size v.align × (machine : State) × Reallocates g.row.SLLEN s.machine v.payload c.args.size o machine
@@ -69,7 +69,7 @@ reallocate-placed-requires g c =
     let p = c.in-Some.old in
     let live = at.named.live c.args.name p (sym c.payload.ensures ∙ c.in-Some.is) in
     let (size, align) = c.in-Ok.ensures.layout in
-    (search rules, (s.machine, at.stands, subst (IsLive s.machine (address p)) (sym align) live))
+    (search rules, live_in at.stands (address p) c.in-Ok.layout.align (subst (IsLive s.machine (address p)) (sym align) live))
 
 pub add_name-requires : goal.add_name-requires
 add_name-requires g c = c.requires.room

@@ -1,9 +1,10 @@
 use Rattle.std.proofs.Common.{◌≡◌, Some, None, refl, ap, sym, ◌∙◌, subst}
 use Rattle.std.specs.Int.NonZero.{non_zero_usize_get}
-use Rattle.std.specs.Option.{option_map}
+use Rattle.rlsf_base.specs.Addr.{reply}
 use Rattle.rlsf_machine.specs.Allocate.{Allocates}
 use Rattle.rlsf_machine.specs.State.{State}
 use Rattle.rlsf_blocks.specs.Spare.{KeepsSpare}
+use Rattle.rlsf_tlsf.proofs.Standing.{stepped}
 use Rattle.rlsf_runs.specs.Runs.{RunState, with_name}
 use Rattle.rlsf_runs.specs.Steps.Tables.{IsAt}
 use Rattle.rlsf_runs.proofs.Named.{AreNamed-allocated, unnamed}
@@ -12,11 +13,11 @@ use Rattle.rlsf_runs.proofs.runs.alloc.Goals as goal
 
 pub returns-in-Some-clause-does : goal.returns-in-Some-clause-does
 returns-in-Some-clause-does g c = λ s at.
-    let (t, step, stands, keeps) = c.in-Some.ensures.step s.machine at.stands in
     let layout = c.args.layout in
     let addr = non_zero_usize_get c.in-Some.addr in
+    let (t, step, stands, keeps) = stepped at.stands c.allocate-placed.new.self (λ x. Allocates g.row.SLLEN x layout.size layout.align (Some addr)) c.in-Some.ensures.step in
     let free = unnamed at.named c.args.name (none_is _ (sym c.contains_key.ensures ∙ c.if-contains_key.false)) in
-    let named = AreNamed-allocated at.named g.row.FLLEN g.row.SLLEN _ t c.args.name layout.size layout.align addr _ stands.well_formed step refl c.align.ensures.value c.add_name.ensures.names in (
+    let named = AreNamed-allocated at.named g.row.FLLEN g.row.SLLEN _ t c.args.name layout.size layout.align addr _ stands.stands.well_formed step refl c.align.ensures.value c.add_name.ensures.names in (
       _,
       (free, t, step, refl),
       IsAt-named at c.in-Some.ensures.place t stands (allocation_keeps_chunks g.row.SLLEN s.machine t layout.size layout.align (Some addr) step) c.add_name.ensures.pools named,
@@ -25,10 +26,10 @@ returns-in-Some-clause-does g c = λ s at.
 
 pub returns-in_default-clause-does : goal.returns-in_default-clause-does
 returns-in_default-clause-does g c = λ s at.
-    let (t, step, stands, keeps) = c.allocate-placed.ensures.step s.machine at.stands in
     let layout = c.args.layout in
+    let (t, step, stands, keeps) = stepped at.stands c.allocate-placed.new.self (λ x. Allocates g.row.SLLEN x layout.size layout.align (reply c.allocate-placed.result)) c.allocate-placed.ensures.step in
     let free = unnamed at.named c.args.name (none_is _ (sym c.contains_key.ensures ∙ c.if-contains_key.false)) in
-    let none : option_map non_zero_usize_get c.allocate-placed.result ≡ None = ap (option_map non_zero_usize_get) c.in_default.is in
+    let none : reply c.allocate-placed.result ≡ None = ap reply c.in_default.is in
     let refused = subst (λ o. Allocates g.row.SLLEN s.machine layout.size layout.align o t) none step in
     subst (λ o. (x : RunState) × ((s.named c.args.name ≡ None) × (machine : State) × Allocates g.row.SLLEN s.machine c.args.layout.size c.args.layout.align o machine
     × (x ≡ record { machine = machine; named = with_name c.args.name o s.named; pools = s.pools }))

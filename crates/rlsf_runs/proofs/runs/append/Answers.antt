@@ -1,8 +1,10 @@
 use Rattle.std.proofs.Common.{rules, length, true≢false, arith, refl, sym, ◌∙◌, subst, ◌<◌, ◌^◌}
 use Rattle.rlsf_base.specs.Range.{LiesIn, end_of}
+use Rattle.rlsf_machine.specs.Insert.{Appends, IsNext}
 use Rattle.rlsf_text.specs.declared.op.Answer.TheVariants.{Refused}
 use Rattle.rlsf_text.specs.declared.op.Op.TheVariants.{Append}
 use Rattle.rlsf_text.specs.declared.op.TraceError.TheVariants.{BadRange}
+use Rattle.rlsf_tlsf.proofs.Standing.{of_state, stepped}
 use Rattle.rlsf_runs.proofs.AppendedChunks.{IsLonger-appended}
 use Rattle.rlsf_runs.proofs.NamedPayloads.{LeadsOn-nothing, room_left}
 use Rattle.rlsf_runs.proofs.RunStates.{IsAt-appended, IsNext-MayAppend, IsVacant-tables, MayAppend-none, MayAppend-tested, MayInsert-tested}
@@ -18,13 +20,13 @@ is_vacant-requires-clause-inside g c =
 pub ending_at-requires-clause-addressable : goal.ending_at-requires-clause-addressable
 ending_at-requires-clause-addressable g c =
     let (s, at) = c.requires in
-    λ p i. omega (arith, (at.inside p i).1, at.stands.well_formed.addressable)
+    λ p i. omega (arith, (at.inside p i).1, at.stands.stands.well_formed.addressable)
 
 pub append_free_block_ptr-taken-requires : goal.append_free_block_ptr-taken-requires
 append_free_block_ptr-taken-requires g c =
     let (s, at) = c.requires in
     let may = MayAppend-tested at c.args.range c.in-Some.place (MayInsert-tested at c.args.range c.memory_ref.ensures.memory (c.is_vacant.ensures.0 c.if-not-is_vacant.false)) c.in-Some.ensures.found in
-    (search rules, (s.machine, at.stands, IsNext-MayAppend at c.args.range may))
+    (search rules, of_state at.stands (λ x. IsNext (range_of c.args.tlsf.now.memory) x c.args.range) (IsNext-MayAppend at c.args.range may))
 
 pub lengthen_pool-requires : goal.lengthen_pool-requires
 lengthen_pool-requires g c =
@@ -33,9 +35,9 @@ lengthen_pool-requires g c =
     let (below, ends) = c.in-Some.ensures.found in
     let may = MayAppend-tested at r c.in-Some.place (MayInsert-tested at r c.memory_ref.ensures.memory (c.is_vacant.ensures.0 c.if-not-is_vacant.false)) c.in-Some.ensures.found in
     let next = IsNext-MayAppend at r may in
-    let (t, step, stands, _) = c.append_free_block_ptr-taken.ensures.step s.machine at.stands next in
-    let longer = IsLonger-appended at.stands.well_formed r next c.append_free_block_ptr-taken.result t step stands.well_formed in
-    (below, λ d. omega (arith, ends d, longer.within, may.vacant.lies_in.1, at.stands.well_formed.addressable))
+    let (t, step, stands, _) = stepped at.stands c.append_free_block_ptr-taken.new.self (λ x. Appends g.row.FLLEN x r c.append_free_block_ptr-taken.result) c.append_free_block_ptr-taken.ensures.step in
+    let longer = IsLonger-appended at.stands.stands.well_formed r next c.append_free_block_ptr-taken.result t step stands.stands.well_formed in
+    (below, λ d. omega (arith, ends d, longer.within, may.vacant.lies_in.1, at.stands.stands.well_formed.addressable))
 
 pub returns-then-not-is_vacant-clause-does : goal.returns-then-not-is_vacant-clause-does
 returns-then-not-is_vacant-clause-does g c = λ s at.
@@ -52,7 +54,7 @@ returns-clause-does g c = λ s at.
     let place = c.in-Some.place in
     let ends = c.in-Some.ensures.found in
     let may = MayAppend-tested at r place (MayInsert-tested at r c.memory_ref.ensures.memory (c.is_vacant.ensures.0 c.if-not-is_vacant.false)) ends in
-    let (t, step, stands, keeps) = c.append_free_block_ptr-taken.ensures.step s.machine at.stands (IsNext-MayAppend at r may) in
+    let (t, step, stands, keeps) = stepped at.stands c.append_free_block_ptr-taken.new.self (λ x. Appends g.row.FLLEN x r c.append_free_block_ptr-taken.result) c.append_free_block_ptr-taken.ensures.step in
     (_, (may, t, step, refl), IsAt-appended at c.append_free_block_ptr-taken.ensures.place t stands r c.append_free_block_ptr-taken.result place step may ends c.lengthen_pool.ensures.names (c.lengthen_pool.ensures.pools no_range), keeps)
 
 pub is_vacant-requires-clause-in_order : goal.is_vacant-requires-clause-in_order
@@ -63,7 +65,7 @@ is_vacant-requires-clause-in_order g c =
 pub is_vacant-requires-clause-addressable : goal.is_vacant-requires-clause-addressable
 is_vacant-requires-clause-addressable g c =
     let (s, at) = c.requires in
-    subst (λ m. end_of (range_of m) < 2 ^ 64) (sym c.memory_ref.ensures.memory) at.stands.well_formed.addressable
+    subst (λ m. end_of (range_of m) < 2 ^ 64) (sym c.memory_ref.ensures.memory) at.stands.stands.well_formed.addressable
 
 pub returns-then-not-is_vacant-clause-room : goal.returns-then-not-is_vacant-clause-room
 returns-then-not-is_vacant-clause-room g c = room_left c.args.tables.now

@@ -1,15 +1,17 @@
-use Rattle.std.proofs.Common.{rules, ◌≡◌, ◌+◌, length, None, true≢false, arith, refl, sym, ◌∙◌, ap, subst, ◌<◌, ◌^◌}
+use Rattle.std.proofs.Common.{rules, ◌≡◌, ◌+◌, length, Some, None, true≢false, arith, refl, sym, ◌∙◌, ap, subst, ◌<◌, ◌^◌}
 use Rattle.std.specs.Int.NonZero.{non_zero_usize_get}
-use Rattle.std.specs.Option.{option_map}
+use Rattle.rlsf_base.specs.Addr.{reply}
 use Rattle.rlsf_base.specs.Range.{LiesIn, end_of}
 use Rattle.rlsf_base.specs.Rounding.{round32}
 use Rattle.rlsf_base.specs.Space.{range_of}
-use Rattle.rlsf_machine.specs.Insert.{Inserts}
+use Rattle.rlsf_machine.specs.Insert.{Inserts, IsFresh}
 use Rattle.rlsf_machine.specs.State.{State, between}
+use Rattle.rlsf_machine.proofs.Untouched.{parts_of-IsFresh}
 use Rattle.rlsf_text.specs.declared.op.Answer.TheVariants.{Refused}
 use Rattle.rlsf_text.specs.declared.op.Op.TheVariants.{Insert}
 use Rattle.rlsf_text.specs.declared.op.TraceError.TheVariants.{BadRange}
 use Rattle.rlsf_blocks.specs.Spare.{KeepsSpare}
+use Rattle.rlsf_tlsf.proofs.Standing.{of_state, stepped}
 use Rattle.rlsf_runs.specs.Runs.{MayInsert, RunState, with_pool}
 use Rattle.rlsf_runs.specs.Steps.Tables.{IsAt}
 use Rattle.rlsf_runs.proofs.NewPools.{pool_bounds}
@@ -31,37 +33,38 @@ pub insert_free_block_ptr-taken-requires : goal.insert_free_block_ptr-taken-requ
 insert_free_block_ptr-taken-requires g c =
     let (s, at) = c.requires.state in
     let may = MayInsert-tested at c.args.range c.memory_ref.ensures.memory (c.is_vacant.ensures.0 c.if-not-is_vacant.false) in
-    (search rules, (s.machine, at.stands, IsFresh-MayInsert at c.args.range may))
+    let fresh = of_state at.stands (λ x. IsFresh (range_of c.args.tlsf.now.memory) x c.args.range) (IsFresh-MayInsert at c.args.range may) in
+    (search rules, parts_of-IsFresh (range_of c.args.tlsf.now.memory) c.args.tlsf.now.state c.args.range fresh)
 
 pub pool_of-requires : goal.pool_of-requires
 pool_of-requires g c =
     let (s, at) = c.requires.state in
     let may = MayInsert-tested at c.args.range c.memory_ref.ensures.memory (c.is_vacant.ensures.0 c.if-not-is_vacant.false) in
-    let (t, step, stands, _) = c.in-Some.ensures.step s.machine at.stands (IsFresh-MayInsert at c.args.range may) in
-    let bounds = pool_bounds g.row.FLLEN s.machine c.args.range (non_zero_usize_get c.in-Some.len) t step stands.well_formed in
-    (omega (arith, bounds, c.get.ensures.value), omega (arith, bounds, c.get.ensures.value, may.lies_in.1, at.stands.well_formed.addressable))
+    let (t, step, stands, _) = stepped at.stands c.insert_free_block_ptr-taken.new.self (λ x. Inserts g.row.FLLEN x c.args.range (Some (non_zero_usize_get c.in-Some.len))) c.in-Some.ensures.step in
+    let bounds = pool_bounds g.row.FLLEN s.machine c.args.range (non_zero_usize_get c.in-Some.len) t step stands.stands.well_formed in
+    (omega (arith, bounds, c.get.ensures.value), omega (arith, bounds, c.get.ensures.value, may.lies_in.1, at.stands.stands.well_formed.addressable))
 
 pub add_pool-requires : goal.add_pool-requires
 add_pool-requires g c =
     let (s, at) = c.requires.state in
     let may = MayInsert-tested at c.args.range c.memory_ref.ensures.memory (c.is_vacant.ensures.0 c.if-not-is_vacant.false) in
-    let (t, step, stands, _) = c.in-Some.ensures.step s.machine at.stands (IsFresh-MayInsert at c.args.range may) in
+    let (t, step, stands, _) = stepped at.stands c.insert_free_block_ptr-taken.new.self (λ x. Inserts g.row.FLLEN x c.args.range (Some (non_zero_usize_get c.in-Some.len))) c.in-Some.ensures.step in
     let pool = subst (λ n. c.pool_of.result ≡ between (round32 c.args.range.start) (c.args.range.start + n)) c.get.ensures.value c.pool_of.ensures in
-    let (some, apart) = new_pool at c.args.range c.pool_of.result (non_zero_usize_get c.in-Some.len) t may step stands.well_formed pool in
+    let (some, apart) = new_pool at c.args.range c.pool_of.result (non_zero_usize_get c.in-Some.len) t may step stands.stands.well_formed pool in
     record { room = c.requires.room; in_order = at.in_order; some = some; apart = apart }
 
 pub returns-in-Some-clause-does : goal.returns-in-Some-clause-does
 returns-in-Some-clause-does g c = λ s at.
     let may = MayInsert-tested at c.args.range c.memory_ref.ensures.memory (c.is_vacant.ensures.0 c.if-not-is_vacant.false) in
-    let (t, step, stands, keeps) = c.in-Some.ensures.step s.machine at.stands (IsFresh-MayInsert at c.args.range may) in
+    let (t, step, stands, keeps) = stepped at.stands c.insert_free_block_ptr-taken.new.self (λ x. Inserts g.row.FLLEN x c.args.range (Some (non_zero_usize_get c.in-Some.len))) c.in-Some.ensures.step in
     let pool = subst (λ n. c.pool_of.result ≡ between (round32 c.args.range.start) (c.args.range.start + n)) c.get.ensures.value c.pool_of.ensures in
     (_, (may, t, step, refl), IsAt-inserted at c.in-Some.ensures.place t stands c.args.range c.pool_of.result (non_zero_usize_get c.in-Some.len) step may.lies_in pool c.add_pool.ensures.names c.add_pool.ensures.pools c.add_pool.ensures.in_order, keeps)
 
 pub returns-in_default-clause-does : goal.returns-in_default-clause-does
 returns-in_default-clause-does g c = λ s at.
     let may = MayInsert-tested at c.args.range c.memory_ref.ensures.memory (c.is_vacant.ensures.0 c.if-not-is_vacant.false) in
-    let (t, step, stands, keeps) = c.insert_free_block_ptr-taken.ensures.step s.machine at.stands (IsFresh-MayInsert at c.args.range may) in
-    let none : option_map non_zero_usize_get c.insert_free_block_ptr-taken.result ≡ None = ap (option_map non_zero_usize_get) c.in_default.is in
+    let (t, step, stands, keeps) = stepped at.stands c.insert_free_block_ptr-taken.new.self (λ x. Inserts g.row.FLLEN x c.args.range (reply c.insert_free_block_ptr-taken.result)) c.insert_free_block_ptr-taken.ensures.step in
+    let none : reply c.insert_free_block_ptr-taken.result ≡ None = ap reply c.in_default.is in
     let refused = subst (λ o. Inserts g.row.FLLEN s.machine c.args.range o t) none step in
     subst (λ o. (x : RunState) × (MayInsert (range_of c.args.tlsf.now.memory) s.pools c.args.range × (machine : State) × Inserts g.row.FLLEN s.machine c.args.range o machine
     × (x ≡ record { machine = machine; named = s.named; pools = with_pool c.args.range o s.pools }))
@@ -76,7 +79,7 @@ is_vacant-requires-clause-in_order g c =
 pub is_vacant-requires-clause-addressable : goal.is_vacant-requires-clause-addressable
 is_vacant-requires-clause-addressable g c =
     let (s, at) = c.requires.state in
-    subst (λ m. end_of (range_of m) < 2 ^ 64) (sym c.memory_ref.ensures.memory) at.stands.well_formed.addressable
+    subst (λ m. end_of (range_of m) < 2 ^ 64) (sym c.memory_ref.ensures.memory) at.stands.stands.well_formed.addressable
 
 pub returns-then-not-is_vacant-clause-room : goal.returns-then-not-is_vacant-clause-room
 returns-then-not-is_vacant-clause-room g c = room_left c.args.tables.now

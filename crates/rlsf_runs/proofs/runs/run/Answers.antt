@@ -1,5 +1,7 @@
-use Rattle.std.proofs.Common.{◌++◌, [], ◌∷◌, arith, refl, sym, ◌∙◌, ap}
+use Rattle.std.proofs.Common.{◌++◌, [], ◌∷◌, arith, refl, sym, ◌∙◌, ap, subst}
 use Rattle.std.proofs.lemmas.List.{append_assoc, append-nil, get_or_default}
+use Rattle.rlsf_tlsf.specs.Allocator.{IsInState}
+use Rattle.rlsf_tlsf.proofs.Standing.{in_state}
 use Rattle.rlsf_runs.proofs.RunStates.{IsAt-beginning}
 use Rattle.rlsf_runs.proofs.Underway.{IsUnderway-beginning, IsUnderway-next, Runs-end}
 use Rattle.rlsf_runs.proofs.Outcomes.{when_ok}
@@ -8,7 +10,8 @@ use Rattle.rlsf_runs.proofs.runs.run.Goals as goal
 pub loop-op-init : goal.loop-op-init
 loop-op-init g c =
     let (no_names, no_pools) = c.in_ok-tables.ensures.empty in
-    let begun = IsUnderway-beginning {ops = c.args.ops.now} (IsAt-beginning c.requires no_names no_pools) refl c.in_ok-tables.ensures.room in
+    let stands = subst (IsInState g.row.FLLEN g.row.SLLEN c.args.tlsf.now) c.requires (in_state g.row.FLLEN g.row.SLLEN c.args.tlsf.now c.memory_ref.ensures.stands) in
+    let begun = IsUnderway-beginning {ops = c.args.ops.now} (IsAt-beginning stands no_names no_pools) refl c.in_ok-tables.ensures.room in
     (([], c.try_reserve.ensures.items ∙ sym (append-nil c.args.answers.now.items), begun), omega (arith, c.in_ok-try_reserve.ensures.ok))
 
 pub loop-op-preserved : goal.loop-op-preserved
@@ -23,4 +26,4 @@ loop-op-preserved g c =
 pub returns-clause-runs : goal.returns-clause-runs
 returns-clause-runs g c =
     let ((given, items, w), _) = c.loop-op.invariant in
-    (given, w.state, items, Runs-end w c.loop-op-test.false, w.at.stands, w.spare)
+    (given, w.state, items, Runs-end w c.loop-op-test.false, w.at.stands.state, w.spare)

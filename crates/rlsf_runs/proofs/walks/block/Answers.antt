@@ -2,9 +2,12 @@ use mathlib.Core.Path.{ap₂}
 use Rattle.std.proofs.Common.{length, Some, None, rules, true≢false, refl, sym, ◌∙◌, ap, subst}
 use Rattle.std.specs.Option.{option_map}
 use Rattle.rlsf_base.specs.Range.{LiesIn}
+use Rattle.rlsf_machine.specs.ChunkRows.{IsRow}
+use Rattle.rlsf_blocks.specs.Blocks.{AreBlocks, walked}
 use Rattle.rlsf_text.specs.declared.op.Answer.TheVariants.{Block as Told, Refused}
 use Rattle.rlsf_text.specs.declared.op.Op.TheVariants.{Block}
 use Rattle.rlsf_text.specs.declared.op.TraceError.TheVariants.{BadRange}
+use Rattle.rlsf_tlsf.proofs.Standing.{at_state, of_state}
 use Rattle.rlsf_runs.specs.Runs.{told_of}
 use Rattle.rlsf_runs.proofs.NamedPayloads.{LeadsOn-nothing}
 use Rattle.rlsf_runs.proofs.Walked.{IsRow-walked, MayWalk-tables, MayWalk-tested, nth-list}
@@ -24,14 +27,14 @@ pub iter_blocks-requires : goal.iter_blocks-requires
 iter_blocks-requires g c =
     let (s, at) = c.requires in
     let may = MayWalk-tested at c.args.range c.memory_ref.ensures.memory (c.may_walk.ensures.0 c.if-not-may_walk.false) in
-    (search rules, (s.machine, at.stands, IsRow-walked at c.args.range may))
+    (search rules, of_state at.stands (λ x. IsRow x (walked c.args.range)) (IsRow-walked at c.args.range may))
 
 pub returns-in-Some : goal.returns-in-Some
 returns-in-Some g c = λ s at.
     let r = c.args.range in
     let may = MayWalk-tested at r c.memory_ref.ensures.memory (c.may_walk.ensures.0 c.if-not-may_walk.false) in
     let bs = c.iter_blocks.result in
-    let are = c.iter_blocks.ensures.blocks s.machine at.stands (IsRow-walked at r may) in
+    let are = at_state at.stands (λ x. AreBlocks x (walked r) bs) c.iter_blocks.ensures.blocks in
     let is = nth-list c.args.index bs c.nth.new.self c.nth.result c.nth.ensures.ran in
     let pair = ap₂ (λ range used. (range, used)) c.as_ptr.ensures c.is_occupied.ensures in
     let told = ap Some pair ∙ ap (option_map told_of) (sym c.in-Some.is ∙ is) in
@@ -42,6 +45,6 @@ returns-in-None g c = λ s at.
     let r = c.args.range in
     let may = MayWalk-tested at r c.memory_ref.ensures.memory (c.may_walk.ensures.0 c.if-not-may_walk.false) in
     let bs = c.iter_blocks.result in
-    let are = c.iter_blocks.ensures.blocks s.machine at.stands (IsRow-walked at r may) in
+    let are = at_state at.stands (λ x. AreBlocks x (walked r) bs) c.iter_blocks.ensures.blocks in
     let is = nth-list c.args.index bs c.nth.new.self c.nth.result c.nth.ensures.ran in
     LeadsOn-nothing at (Block r c.args.index) (Told None) (may, bs, are, ap (option_map told_of) (sym c.in-None.is ∙ is), refl)

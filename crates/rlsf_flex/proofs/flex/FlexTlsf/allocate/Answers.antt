@@ -1,7 +1,7 @@
 use Rattle.std.proofs.Common.{rules, ◌≡◌, ◌≤◌, ◌+◌, ℕ, true, Some, None, IfNone, arith, refl, sym, ◌∙◌, ap, subst}
 use Rattle.std.specs.Int.NonZero.{non_zero_usize_get}
 use Rattle.std.specs.Option.{option_map}
-use Rattle.rlsf_blocks.specs.StandsFor.{Contents}
+use Rattle.rlsf_tlsf.specs.Allocator.{Allocator}
 use Rattle.rlsf_flex.specs.Outside.{KeepsOutside}
 use Rattle.rlsf_flex.specs.StandsFor.{FlexContents, flex_contents, FlexStandsFor, FlexSteps}
 use Rattle.rlsf_flex.specs.Steps.Growth.{Extended}
@@ -9,7 +9,7 @@ use Rattle.rlsf_machine.specs.Allocate.{Allocates}
 use Rattle.rlsf_machine.specs.FlexAllocate.{FlexAllocates}
 use Rattle.rlsf_machine.specs.FlexState.{FlexState}
 use Rattle.rlsf_machine.specs.State.{State}
-use Rattle.rlsf_flex.proofs.Allocations.{Allocated, allocated_in_more, allocated_in_room, allocated_live, allocated_stands, for_some, more_is_found, no_room, not_none, nothing_asked, nothing_more, refused_alone}
+use Rattle.rlsf_flex.proofs.Allocations.{Allocated, allocated, allocated_in_more, allocated_in_room, allocated_live, allocated_stands, for_some, more_is_found, no_room, not_none, nothing_asked, nothing_more, refused_alone}
 use Rattle.rlsf_flex.proofs.flex.FlexTlsf.allocate.Given as given
 use Rattle.rlsf_flex.proofs.flex.FlexTlsf.allocate.Goals as goal
 use Rattle.rlsf_flex.proofs.flex.FlexTlsf.allocate.Goals.{In_default, After-allocate-then-extend}
@@ -17,7 +17,7 @@ use Rattle.rlsf_flex.proofs.flex.FlexTlsf.allocate.Goals.{In_default, After-allo
 pub invariant_of-self : goal.invariant_of-self
 invariant_of-self g c =
     let (s, v) = c.self.invariant.stands in
-    let a = c.in-Some.ensures.step s.machine v.machine in
+    let a = allocated c.args.layout.size c.args.layout.align v.machine (Some (non_zero_usize_get c.in-Some.addr)) c.in-Some.ensures.step in
     let stands =
     allocated_stands c.args.layout.size c.args.layout.align c.in-Some.ensures.place v
     (Some (non_zero_usize_get c.in-Some.addr)) a in
@@ -31,13 +31,13 @@ returns-in-Some-clause-step g c =
     s (FlexAllocates g.row.FLLEN g.row.SLLEN (g.S.FlexSource.terms old.source) s c.args.layout.size c.args.layout.align (Some (non_zero_usize_get c.in-Some.addr))))
     c.self.view_is (λ s v.
     allocated_in_room c.args.layout.size c.args.layout.align c.in-Some.ensures.place v
-    (non_zero_usize_get c.in-Some.addr) (c.in-Some.ensures.step s.machine v.machine))
+    (non_zero_usize_get c.in-Some.addr) (allocated c.args.layout.size c.args.layout.align v.machine (Some (non_zero_usize_get c.in-Some.addr)) c.in-Some.ensures.step))
 
 pub returns-in-Some-clause-placed : goal.returns-in-Some-clause-placed
 returns-in-Some-clause-placed g c =
     let (s, v) = c.self.invariant.stands in
     allocated_live c.args.layout.size c.args.layout.align c.in-Some.ensures.place v
-    (non_zero_usize_get c.in-Some.addr) c.args.layout.valid.aligned (c.in-Some.ensures.step s.machine v.machine)
+    (non_zero_usize_get c.in-Some.addr) c.args.layout.valid.aligned (allocated c.args.layout.size c.args.layout.align v.machine (Some (non_zero_usize_get c.in-Some.addr)) c.in-Some.ensures.step)
 
 -- the first try found no room
 full : (g : given.Over) (c : In_default g) (s : FlexState)
@@ -48,7 +48,7 @@ full : (g : given.Over) (c : In_default g) (s : FlexState)
 full g c s v =
     let none : c.allocate.result ≡ None = search rules in
     no_room c.args.layout.size c.args.layout.align c.allocate.ensures.place v
-    (subst (λ o. Allocated g.row.FLLEN g.row.SLLEN c.args.layout.size c.args.layout.align c.self.inside.tlsf c.allocate.new.self s.machine (option_map non_zero_usize_get o)) none (c.allocate.ensures.step s.machine v.machine))
+    (subst (λ o. Allocated g.row.FLLEN g.row.SLLEN c.args.layout.size c.args.layout.align c.self.inside.tlsf c.allocate.new.self s.machine (option_map non_zero_usize_get o)) none (allocated c.args.layout.size c.args.layout.align v.machine (option_map non_zero_usize_get c.allocate.result) c.allocate.ensures.step))
 
 pub invariant_of-self-in_err-wanted : goal.invariant_of-self-in_err-wanted
 invariant_of-self-in_err-wanted g c =
@@ -80,7 +80,7 @@ more : (g : given.Over) (c : After-allocate-then-extend g) (s : FlexState)
     → (h : Extended g.row.FLLEN g.row.SLLEN g.S.FlexSource.terms g.S.FlexSource.owes g.S.FlexSource.leads (flex_contents c.allocate.new.self c.self.inside.kept c.self.inside.source)
     (flex_contents c.extend.new.tlsf c.extend.new.kept c.extend.new.source) s c.in_ok-wanted.wanted true)
     × Allocated g.row.FLLEN g.row.SLLEN c.args.layout.size c.args.layout.align c.extend.new.tlsf c.allocate-then-extend.new.self h.state.machine (option_map non_zero_usize_get c.allocate-then-extend.result)
-more g c s stands = let h = c.if-extend.ensures.step s stands in (h, c.allocate-then-extend.ensures.step h.state.machine h.stands.machine)
+more g c s stands = let h = c.if-extend.ensures.step s stands in (h, allocated c.args.layout.size c.args.layout.align h.stands.machine (option_map non_zero_usize_get c.allocate-then-extend.result) c.allocate-then-extend.ensures.step)
 
 -- which is the machine's step
 in_more : (g : given.Over) (c : After-allocate-then-extend g) (s : FlexState) → Allocates g.row.SLLEN s.machine c.args.layout.size c.args.layout.align None s.machine
@@ -162,7 +162,7 @@ pub returns-else-extend-clause-refused : goal.returns-else-extend-clause-refused
 returns-else-extend-clause-refused g c =
     let none : c.allocate.result ≡ None = search rules in
     let still : c.allocate.new.self.memory.bytes ≡ c.self.inside.tlsf.memory.bytes = subst (λ o. IfNone o (c.allocate.new.self.memory.bytes ≡ c.self.inside.tlsf.memory.bytes)) none c.allocate.ensures.refused in
-    ap (λ (t : Contents). t.memory.bytes) (c.if-extend.ensures.refused refl) ∙ still ∙ ap (λ (v : FlexContents g.row.S.Denot). v.tlsf.memory.bytes) c.self.view_is
+    ap (λ (t : Allocator). t.memory.bytes) (c.if-extend.ensures.refused refl) ∙ still ∙ ap (λ (v : FlexContents g.row.S.Denot). v.tlsf.memory.bytes) c.self.view_is
 
 pub returns-else-extend-clause-touches : goal.returns-else-extend-clause-touches
 returns-else-extend-clause-touches g c =

@@ -1,25 +1,30 @@
-use Rattle.std.proofs.Common.{ℕ, ◌≡◌, ◌<◌, List, Option, Some, arith, refl, sym, ◌∙◌, ap, subst}
-use Rattle.std.specs.Int.NonZero.{non_zero_usize_get}
-use Rattle.std.specs.Option.{option_map}
+use Rattle.std.proofs.Common.{ℕ, ◌≡◌, ◌≢◌, ◌≤◌, ◌+◌, ◌<◌, List, length, Option, Some, None, arith, refl, sym, ◌∙◌, ap, subst}
 use Rattle.rlsf_base.specs.declared.memory.range.Range.{Range}
+use Rattle.rlsf_base.specs.Addr.{reply}
 use Rattle.rlsf_base.specs.Sizes.{request_size}
-use Rattle.rlsf_base.specs.Space.{range_of, word_at}
+use Rattle.rlsf_base.specs.Space.{word_at}
 use Rattle.rlsf_machine.specs.Allocate.{Allocates, choice, Places}
-use Rattle.rlsf_machine.specs.State.{State, IsLive, IsPlaced}
-use Rattle.rlsf_machine.proofs.Changes.{Holds-unique}
+use Rattle.rlsf_machine.specs.Callers.{align_at, bytes_at}
+use Rattle.rlsf_machine.specs.State.{State}
+use Rattle.rlsf_machine.proofs.CallerWords.{SeesNew, new_seen}
 use Rattle.rlsf_machine.proofs.Choices.{choice-some}
+use Rattle.rlsf_machine.proofs.Chunks.{chunks-allocated}
+use Rattle.rlsf_machine.proofs.Payloads.{payload_of-after}
 use Rattle.rlsf_table.specs.Table.{IsClassAt}
 use Rattle.rlsf_table.proofs.FreeLists.Counted.{word_at-counted}
+use Rattle.rlsf_blocks.specs.Laws.{read_from}
 use Rattle.rlsf_blocks.specs.Spare.{KeepsSpare}
-use Rattle.rlsf_blocks.specs.StandsFor.{contents, Contents, StandsFor}
+use Rattle.rlsf_blocks.specs.StandsFor.{contents, StandsFor}
 use Rattle.rlsf_blocks.proofs.Machine.Counted.{KeepsSpare-counted, KeepsSpare-counted_first, StandsFor-counted}
 use Rattle.rlsf_blocks.proofs.Machine.FreeBlocks.{IsFreeTable-free}
-use Rattle.rlsf_machine.proofs.Live.{allocation_has_size, handed_out_is_new}
-use Rattle.rlsf_machine.proofs.Payloads.{payload_of-after}
 use Rattle.rlsf_blocks.proofs.Words.NonZeroNumbers.{number, on_none, on_some}
+use Rattle.rlsf_tlsf.specs.Allocator.{Allocator, allocator, Steps}
+use Rattle.rlsf_tlsf.specs.Steps.Moves.{allocated, bare}
+use Rattle.rlsf_tlsf.proofs.Arrivals.{IsAllocator-arrived, Stands-view, Steps-arrived, bare-kept, opened, read_from-stands, well_formed}
+use Rattle.rlsf_tlsf.proofs.Moved.{allocated-bare}
 use Rattle.rlsf_tlsf.proofs.tlsf.Tlsf.allocate.Given as given
 use Rattle.rlsf_tlsf.proofs.tlsf.Tlsf.allocate.Goals as goal
-use Rattle.rlsf_tlsf.proofs.tlsf.Tlsf.allocate.Goals.{After-first_fit, After-place}
+use Rattle.rlsf_tlsf.proofs.tlsf.Tlsf.allocate.Goals.{After-first_fit, After-place-payload, After-new}
 
 -- what is computed for the layout is what is sought
 sought : (sllen : ℕ) (free : List Range) {m n : ℕ} {o : Option Range} → m ≡ n → choice sllen m free ≡ o → choice sllen n free ≡ o
@@ -34,88 +39,120 @@ searched : (g : given.Over) (c : After-first_fit g) {s : State} → StandsFor g.
     → StandsFor g.row.FLLEN g.row.SLLEN (contents c.first_fit.new.memory c.self.inside.table) s
 searched g c v = StandsFor-counted c.self.inside.memory c.first_fit.new.memory c.first_fit.ensures.counts.start c.first_fit.ensures.counts.bytes v
 
+-- the allocator's state as the call begins
+abbrev state : (g : given.Over) (c : After-first_fit g) → State
+state g c = read_from c.self.inside.memory c.self.inside.state.state
+
 pub first_fit-requires : goal.first_fit-requires
 first_fit-requires g c =
-    let (s, v) = c.self.invariant.stands in
-    (omega arith, (c.self.invariant.valid, (c.request_size.ensures.size, (s.free, IsFreeTable-free v))))
+    let v = c.self.invariant.stands in
+    (omega arith, (c.self.invariant.valid, (c.request_size.ensures.size, (_, IsFreeTable-free v))))
 
 pub invariant_of-self : goal.invariant_of-self
 invariant_of-self g c =
-    let (s, v) = c.self.invariant.stands in
-    record { valid = c.self.invariant.valid; stands = (s, searched g (goal.at.invariant_of-self g c).After-first_fit v) }
+    IsAllocator-arrived (searched g (goal.at.invariant_of-self g c).After-first_fit c.self.invariant.stands) c.self.inside.state.state (sym (bare-kept c.self.invariant)) c.self.invariant.valid
 
 pub returns-in_err-block-clause-step : goal.returns-in_err-block-clause-step
 returns-in_err-block-clause-step g c =
-    subst (λ (old : Contents). (s : State) → StandsFor g.row.FLLEN g.row.SLLEN old s
-    → (t : State) × Allocates g.row.SLLEN s c.args.layout.size c.args.layout.align (option_map non_zero_usize_get c.from_residual.result) t
-    × StandsFor g.row.FLLEN g.row.SLLEN (contents c.first_fit.new.memory c.self.inside.table) t × KeepsSpare old.memory s c.first_fit.new.memory t)
-    c.self.view_is (λ s v.
+    let v = c.self.invariant.stands in
+    let at = (goal.at.returns-in_err-block-clause-step g c).After-first_fit in
+    let s = state g at in
+    let counts = c.first_fit.ensures.counts in
     let none = sought g.row.SLLEN s.free c.request_size.ensures.value (c.in_err-block.ensures.choice s.free (IsFreeTable-free v)) in
-    let counts = c.first_fit.ensures.counts in (
-      s,
-      subst (λ o. Allocates g.row.SLLEN s c.args.layout.size c.args.layout.align (option_map non_zero_usize_get o) s) (sym c.from_residual.ensures) (none, refl),
-      searched g (goal.at.returns-in_err-block-clause-step g c).After-first_fit v,
-      KeepsSpare-counted c.self.inside.memory c.first_fit.new.memory counts.start counts.bytes s s,
-    ))
+    Steps-arrived (searched g at v) c.self.inside.state.state (sym (bare-kept c.self.invariant)) c.args.self.now c.self.inside.memory c.self.inside.table c.self.inside.state.state c.self.view_is
+    (λ old. Allocates g.row.SLLEN old c.args.layout.size c.args.layout.align (reply c.from_residual.result))
+    (subst (λ o. Allocates g.row.SLLEN s c.args.layout.size c.args.layout.align (reply o) s) (sym c.from_residual.ensures) (none, refl))
+    (KeepsSpare-counted c.self.inside.memory c.first_fit.new.memory counts.start counts.bytes s s)
 
 -- the block that was found gives its front to a payload
-placing : (g : given.Over) (c : After-place g) (s : State) → StandsFor g.row.FLLEN g.row.SLLEN (contents c.self.inside.memory c.self.inside.table) s
-    → (t : State) × Places g.row.SLLEN s c.args.layout.size c.args.layout.align c.place.result t × StandsFor g.row.FLLEN g.row.SLLEN (contents c.place.new.memory c.place.new.table) t × KeepsSpare c.self.inside.memory s c.place.new.memory t
-placing g c s v =
+placing : (g : given.Over) (c : After-place-payload g)
+    → (t : State) × Places g.row.SLLEN (read_from c.self.inside.memory c.self.inside.state.state) c.args.layout.size c.args.layout.align c.place-payload.result t
+    × StandsFor g.row.FLLEN g.row.SLLEN (contents c.place-payload.new.memory c.place-payload.new.table) t
+    × KeepsSpare c.self.inside.memory (read_from c.self.inside.memory c.self.inside.state.state) c.place-payload.new.memory t
+placing g c =
+    let v = c.self.invariant.stands in
+    let s = read_from c.self.inside.memory c.self.inside.state.state in
     let counts = c.first_fit.ensures.counts in
     let (f, chosen, start, _) = c.in_ok-block.ensures.choice s.free (IsFreeTable-free v) in
     let stands = StandsFor-counted c.self.inside.memory c.first_fit.new.memory counts.start counts.bytes v in
-    let (t, places, now, spare) = c.place.ensures.step s f stands (sought g.row.SLLEN s.free c.request_size.ensures.value chosen) start in
-    (t, places, now, KeepsSpare-counted_first c.self.inside.memory c.first_fit.new.memory counts.start counts.bytes s t c.place.new.memory spare)
+    let (t, places, now, spare) = c.place-payload.ensures.step s f stands (sought g.row.SLLEN s.free c.request_size.ensures.value chosen) start in
+    (t, places, now, KeepsSpare-counted_first c.self.inside.memory c.first_fit.new.memory counts.start counts.bytes s t c.place-payload.new.memory spare)
 
-pub place-requires : goal.place-requires
-place-requires g c =
-    let (s, v) = c.self.invariant.stands in
+pub place-payload-requires : goal.place-payload-requires
+place-payload-requires g c =
+    let v = c.self.invariant.stands in
+    let s = read_from c.self.inside.memory c.self.inside.state.state in
     let (f, chosen, start, class) = c.in_ok-block.ensures.choice s.free (IsFreeTable-free v) in
     let counts = c.first_fit.ensures.counts in
     let own = (choice-some g.row.SLLEN c.request_size.result s.free f chosen).is_in in
     let size = word_at-counted c.self.inside.memory c.first_fit.new.memory counts.start counts.bytes c.in_ok-block.block ∙ ap (word_at c.self.inside.memory) (sym start) ∙ (IsFreeTable-free v).sizes f own in
     let at_class = subst (λ n. IsClassAt g.row.FLLEN g.row.SLLEN n c.in_ok-block.class.0 c.in_ok-block.class.1) (sym size) class in
     let picked : choice g.row.SLLEN (request_size c.args.layout.size c.args.layout.align) s.free ≡ Some f = sought g.row.SLLEN s.free c.request_size.ensures.value chosen in
-    (omega arith, (c.self.invariant.valid, (at_class, (s, f, searched g (goal.at.place-requires g c).After-first_fit v, picked, start))))
+    (omega arith, (c.self.invariant.valid, (at_class, (s, f, searched g (goal.at.place-payload-requires g c).After-first_fit v, picked, start))))
+
+-- what is kept of the state is the one that the payload leads to
+kept : (g : given.Over) (c : After-new g) (t : State) → Places g.row.SLLEN (read_from c.self.inside.memory c.self.inside.state.state) c.args.layout.size c.args.layout.align c.place-payload.result t
+    → c.allocate.new.self.state ≡ bare t
+kept g c t places =
+    c.allocate.ensures ∙ (λ i. allocated g.row.SLLEN (c.size.ensures.value i) (c.align.ensures.value i) (sym (bare-kept c.self.invariant) i))
+    ∙ allocated-bare g.row.SLLEN (read_from c.self.inside.memory c.self.inside.state.state) t c.args.layout.size c.args.layout.align c.place-payload.result places
 
 pub invariant_of-self-2 : goal.invariant_of-self-2
 invariant_of-self-2 g c =
-    let (s, v) = c.self.invariant.stands in
-    let (t, places, stands, spare) = placing g (goal.at.invariant_of-self-2 g c).After-place s v in
-    record { valid = c.self.invariant.valid; stands = (t, stands) }
+    let (t, places, stands, spare) = placing g (goal.at.invariant_of-self-2 g c).After-place-payload in
+    IsAllocator-arrived stands c.allocate.new.self.state (kept g c t places) c.self.invariant.valid
+
+abbrev after : (g : given.Over) (c : After-new g) → Allocator
+after g c = allocator c.place-payload.new.memory c.place-payload.new.table c.allocate.new.self.state
+
+done : (g : given.Over) (c : After-new g) → Steps g.row.FLLEN g.row.SLLEN c.args.self.now (after g c) (Allocates g.row.SLLEN c.args.self.now.state c.args.layout.size c.args.layout.align (Some c.place-payload.result))
+done g c =
+    let (t, places, stands, spare) = placing g (goal.at.returns-clause-step g c).After-place-payload in
+    Steps-arrived stands c.allocate.new.self.state (kept g c t places) c.args.self.now c.self.inside.memory c.self.inside.table c.self.inside.state.state c.self.view_is
+    (λ old. Allocates g.row.SLLEN old c.args.layout.size c.args.layout.align (Some c.place-payload.result)) places spare
+
+places_of : (g : given.Over) (c : After-new g) → Places g.row.SLLEN c.args.self.now.state c.args.layout.size c.args.layout.align c.place-payload.result (after g c).state
+places_of g c = (opened g.row.FLLEN g.row.SLLEN c.args.self.now (after g c) (Allocates g.row.SLLEN c.args.self.now.state c.args.layout.size c.args.layout.align (Some c.place-payload.result)) (done g c)).0
+
+answer : (g : given.Over) (c : After-new g) → reply c.new.result ≡ Some c.place-payload.result
+answer g c = (number c.new.result c.place-payload.result c.new.ensures).1 (positive (places_of g c))
 
 pub returns-clause-step : goal.returns-clause-step
 returns-clause-step g c =
-    subst (λ (old : Contents). (s : State) → StandsFor g.row.FLLEN g.row.SLLEN old s
-    → (t : State) × Allocates g.row.SLLEN s c.args.layout.size c.args.layout.align (option_map non_zero_usize_get c.new.result) t
-    × StandsFor g.row.FLLEN g.row.SLLEN (contents c.place.new.memory c.place.new.table) t × KeepsSpare old.memory s c.place.new.memory t)
-    c.self.view_is (λ s v.
-    let (t, places, stands, spare) = placing g (goal.at.returns-clause-step g c).After-place s v in
-    let answer = (number c.new.result c.place.result c.new.ensures).1 (positive places) in
-    (t, subst (λ o. Allocates g.row.SLLEN s c.args.layout.size c.args.layout.align o t) (sym answer) places, stands, spare))
+    subst (λ o. Steps g.row.FLLEN g.row.SLLEN c.args.self.now (after g c) (Allocates g.row.SLLEN c.args.self.now.state c.args.layout.size c.args.layout.align o)) (sym (answer g c)) (done g c)
 
-pub returns-clause-placed : goal.returns-clause-placed
-returns-clause-placed g c =
-    let (s, v) = c.self.invariant.stands in
-    let (t, places, stands, spare) = placing g (goal.at.returns-clause-placed g c).After-place s v in
-    let live = (handed_out_is_new g.row.FLLEN g.row.SLLEN (range_of c.self.inside.memory) s t c.args.layout.size c.args.layout.align c.place.result v.well_formed c.args.layout.valid.aligned places).1 in
-    on_some (λ addr. (t : State) × StandsFor g.row.FLLEN g.row.SLLEN (contents c.place.new.memory c.place.new.table) t × IsLive t addr c.args.layout.align)
-    c.new.result c.place.result c.new.ensures (t, stands, live)
+seen : (g : given.Over) (c : After-new g) → SeesNew c.args.self.now.state (after g c).state c.args.layout.size c.args.layout.align c.place-payload.result
+seen g c =
+    let stood = Stands-view c.self.inside.memory c.self.inside.table c.self.inside.state.state c.args.self.now c.self.view_is c.self.invariant.stands in
+    new_seen (well_formed c.args.self.now stood) (after g c).state c.args.layout.size c.args.layout.align c.place-payload.result c.args.layout.valid.aligned (places_of g c)
+
+pub returns-clause-live : goal.returns-clause-live
+returns-clause-live g c = on_some (λ addr. align_at (after g c).state addr ≡ Some c.args.layout.align) c.new.result c.place-payload.result c.new.ensures (seen g c).live
 
 pub returns-clause-sized : goal.returns-clause-sized
-returns-clause-sized g c =
-    let (s, v) = c.self.invariant.stands in
-    let (t, places, stands, spare) = placing g (goal.at.returns-clause-sized g c).After-place s v in
-    let layout = c.args.layout in
-    let (u, holds, is) = (handed_out_is_new g.row.FLLEN g.row.SLLEN (range_of c.self.inside.memory) s t layout.size layout.align c.place.result v.well_formed layout.valid.aligned places).1 in
-    let (x, too, enough, few) = allocation_has_size g.row.FLLEN g.row.SLLEN (range_of c.self.inside.memory) s t layout.size layout.align (Some c.place.result) v.well_formed layout.valid.aligned places in
-    on_some (λ addr. (t : State) × StandsFor g.row.FLLEN g.row.SLLEN (contents c.place.new.memory c.place.new.table) t × IsPlaced t addr layout.size layout.align)
-    c.new.result c.place.result c.new.ensures (t, stands, (x, too, ap (λ y. y.align) (Holds-unique stands.well_formed c.place.result x u too holds) ∙ is, enough))
+returns-clause-sized g c = on_some (λ addr. c.args.layout.size ≤ length (bytes_at (after g c).state addr)) c.new.result c.place-payload.result c.new.ensures (seen g c).sized
+
+pub returns-clause-few : goal.returns-clause-few
+returns-clause-few g c = on_some (λ addr. length (bytes_at (after g c).state addr) < c.args.layout.size + 32) c.new.result c.place-payload.result c.new.ensures (seen g c).few
+
+pub returns-clause-new : goal.returns-clause-new
+returns-clause-new g c = on_some (λ addr. align_at c.args.self.now.state addr ≡ None) c.new.result c.place-payload.result c.new.ensures (seen g c).new
+
+pub returns-clause-aligns : goal.returns-clause-aligns
+returns-clause-aligns g c = on_some (λ addr. (a : ℕ) → a ≢ addr → align_at (after g c).state a ≡ align_at c.args.self.now.state a) c.new.result c.place-payload.result c.new.ensures (seen g c).aligns
+
+pub returns-clause-bytes : goal.returns-clause-bytes
+returns-clause-bytes g c = on_some (λ addr. (a : ℕ) → a ≢ addr → bytes_at (after g c).state a ≡ bytes_at c.args.self.now.state a) c.new.result c.place-payload.result c.new.ensures (seen g c).bytes
+
+pub returns-clause-same : goal.returns-clause-same
+returns-clause-same g c =
+    let some = positive (places_of g c) in
+    on_none c.new.result c.place-payload.result c.new.ensures (λ zero. absurd (omega arith))
 
 pub returns-clause-refused : goal.returns-clause-refused
 returns-clause-refused g c =
-    let (s, v) = c.self.invariant.stands in
-    let (t, places, stands, spare) = placing g (goal.at.returns-clause-refused g c).After-place s v in
-    let some = positive places in
-    on_none c.new.result c.place.result c.new.ensures (λ zero. absurd (omega arith))
+    let some = positive (places_of g c) in
+    on_none c.new.result c.place-payload.result c.new.ensures (λ zero. absurd (omega arith))
+
+pub returns-clause-chunks : goal.returns-clause-chunks
+returns-clause-chunks g c = chunks-allocated g.row.SLLEN c.args.self.now.state (after g c).state c.args.layout.size c.args.layout.align (Some c.place-payload.result) (places_of g c)

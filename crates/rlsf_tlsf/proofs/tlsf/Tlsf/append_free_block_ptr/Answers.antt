@@ -1,25 +1,67 @@
-use Rattle.std.proofs.Common.{arith, sym, subst}
+use Rattle.std.proofs.Common.{◌≡◌, arith, refl, sym, ◌∙◌, ap, subst}
 use Rattle.rlsf_base.specs.Space.{range_of}
 use Rattle.rlsf_machine.specs.Insert.{Appends, IsNext}
+use Rattle.rlsf_machine.specs.Run.{append}
 use Rattle.rlsf_machine.specs.State.{State}
+use Rattle.rlsf_machine.proofs.CallerWords.{SeesSame, same_seen}
+use Rattle.rlsf_machine.proofs.Callers.{callers_see_map}
+use Rattle.rlsf_blocks.specs.Laws.{read_from}
 use Rattle.rlsf_blocks.specs.Spare.{KeepsSpare}
-use Rattle.rlsf_blocks.specs.StandsFor.{contents, Contents, StandsFor}
+use Rattle.rlsf_blocks.specs.StandsFor.{contents, StandsFor}
+use Rattle.rlsf_tlsf.specs.Allocator.{Allocator, allocator, Steps}
+use Rattle.rlsf_tlsf.specs.Steps.Moves.{appended_to, bare}
+use Rattle.rlsf_tlsf.proofs.Arrivals.{IsAllocator-arrived, Steps-arrived, bare-kept, opened, view_well_formed}
+use Rattle.rlsf_tlsf.proofs.Moved.{appended_to-bare}
+use Rattle.rlsf_tlsf.proofs.tlsf.Tlsf.append_free_block_ptr.Given as given
 use Rattle.rlsf_tlsf.proofs.tlsf.Tlsf.append_free_block_ptr.Goals as goal
+use Rattle.rlsf_tlsf.proofs.tlsf.Tlsf.append_free_block_ptr.Goals.{After-append-taken, After-append}
 
-pub append-requires : goal.append-requires
-append-requires g c =
-    let (s, v, next) = subst (λ (old : Contents). (s : State) × StandsFor g.row.FLLEN g.row.SLLEN old s × IsNext (range_of old.memory) s c.args.range) (sym c.self.view_is) c.requires in
-    (omega arith, (c.self.invariant.valid, (s, v, next)))
+pub append-taken-requires : goal.append-taken-requires
+append-taken-requires g c =
+    (omega arith, (c.self.invariant.valid, (_, c.self.invariant.stands, subst (λ (o : Allocator). IsNext (range_of o.memory) o.state c.args.range) (sym c.self.view_is) c.requires)))
+
+-- the range becomes chunks, or a chunk grows
+appending : (g : given.Over) (c : After-append-taken g)
+    → (t : State) × Appends g.row.FLLEN (read_from c.self.inside.memory c.self.inside.state.state) c.args.range c.append-taken.result t
+    × StandsFor g.row.FLLEN g.row.SLLEN (contents c.append-taken.new.memory c.append-taken.new.table) t
+    × KeepsSpare c.self.inside.memory (read_from c.self.inside.memory c.self.inside.state.state) c.append-taken.new.memory t
+appending g c =
+    c.append-taken.ensures.step (read_from c.self.inside.memory c.self.inside.state.state) c.self.invariant.stands
+    (subst (λ (o : Allocator). IsNext (range_of o.memory) o.state c.args.range) (sym c.self.view_is) c.requires)
+
+-- what is kept of the state is the one with the range
+kept : (g : given.Over) (c : After-append g) (t : State) → Appends g.row.FLLEN (read_from c.self.inside.memory c.self.inside.state.state) c.args.range c.append-taken.result t
+    → c.append.new.self.state ≡ bare t
+kept g c t step =
+    c.append.ensures ∙ ap (appended_to g.row.FLLEN c.args.range) (sym (bare-kept c.self.invariant))
+    ∙ appended_to-bare g.row.FLLEN (read_from c.self.inside.memory c.self.inside.state.state) t c.args.range c.append-taken.result step
 
 pub invariant_of-self : goal.invariant_of-self
 invariant_of-self g c =
-    let (s, v, next) = subst (λ (old : Contents). (s : State) × StandsFor g.row.FLLEN g.row.SLLEN old s × IsNext (range_of old.memory) s c.args.range) (sym c.self.view_is) c.requires in
-    let (t, step, stands, spare) = c.append.ensures.step s v next in
-    record { valid = c.self.invariant.valid; stands = (t, stands) }
+    let (t, step, stands, spare) = appending g (goal.at.invariant_of-self g c).After-append-taken in
+    IsAllocator-arrived stands c.append.new.self.state (kept g c t step) c.self.invariant.valid
+
+abbrev after : (g : given.Over) (c : After-append g) → Allocator
+after g c = allocator c.append-taken.new.memory c.append-taken.new.table c.append.new.self.state
+
+done : (g : given.Over) (c : After-append g) → Steps g.row.FLLEN g.row.SLLEN c.args.self.now (after g c) (Appends g.row.FLLEN c.args.self.now.state c.args.range c.append-taken.result)
+done g c =
+    let (t, step, stands, spare) = appending g (goal.at.returns-clause-step g c).After-append-taken in
+    Steps-arrived stands c.append.new.self.state (kept g c t step) c.args.self.now c.self.inside.memory c.self.inside.table c.self.inside.state.state c.self.view_is
+    (λ old. Appends g.row.FLLEN old c.args.range c.append-taken.result) step spare
 
 pub returns-clause-step : goal.returns-clause-step
-returns-clause-step g c =
-    subst (λ (old : Contents). (s : State) → StandsFor g.row.FLLEN g.row.SLLEN old s → IsNext (range_of old.memory) s c.args.range
-    → (t : State) × Appends g.row.FLLEN s c.args.range c.append.result t
-    × StandsFor g.row.FLLEN g.row.SLLEN (contents c.append.new.memory c.append.new.table) t × KeepsSpare old.memory s c.append.new.memory t)
-    c.self.view_is (λ s v next. c.append.ensures.step s v next)
+returns-clause-step g c = done g c
+
+seen : (g : given.Over) (c : After-append g) → SeesSame c.args.self.now.state (after g c).state
+seen g c =
+    same_seen c.args.self.now.state (after g c).state
+    (callers_see_map g.row.FLLEN g.row.SLLEN (range_of c.args.self.now.memory) c.args.self.now.state (after g c).state (append c.args.range c.append-taken.result)
+    (view_well_formed c.self.invariant c.args.self.now c.self.view_is) c.requires
+    (opened g.row.FLLEN g.row.SLLEN c.args.self.now (after g c) (Appends g.row.FLLEN c.args.self.now.state c.args.range c.append-taken.result) (done g c)).0)
+
+pub returns-clause-aligns : goal.returns-clause-aligns
+returns-clause-aligns g c = (seen g c).aligns
+
+pub returns-clause-bytes : goal.returns-clause-bytes
+returns-clause-bytes g c = (seen g c).bytes

@@ -1,52 +1,108 @@
-use Rattle.std.proofs.Common.{◌≡◌, ℕ, ◌≤◌, List, arith, sym, ◌∙◌, subst}
-use Rattle.std.specs.Int.NonZero.{non_zero_usize_get}
+use Rattle.std.proofs.Common.{◌≡◌, ℕ, ◌≤◌, List, length, arith, refl, sym, ◌∙◌, ap, subst}
+use Rattle.rlsf_base.specs.Addr.{at}
 use Rattle.rlsf_base.specs.Range.{range_at}
 use Rattle.rlsf_base.specs.Space.{Space, bytes_in, with_bytes}
+use Rattle.rlsf_machine.specs.Callers.{bytes_at}
 use Rattle.rlsf_machine.specs.Run.{Fills}
-use Rattle.rlsf_machine.specs.State.{State, Used, usable, with_front, HasFront, Holds}
+use Rattle.rlsf_machine.specs.State.{State, Used, usable, with_front, Holds}
+use Rattle.rlsf_machine.proofs.CallerWords.{SeesFilled, filled_seen}
+use Rattle.rlsf_machine.proofs.Chunks.{chunks-filled}
+use Rattle.rlsf_blocks.specs.Laws.{read_from}
 use Rattle.rlsf_blocks.specs.Spare.{KeepsSpare}
-use Rattle.rlsf_blocks.specs.StandsFor.{contents, Contents, StandsFor}
+use Rattle.rlsf_blocks.specs.StandsFor.{contents, StandsFor}
 use Rattle.rlsf_blocks.proofs.Payloads.Fronts.{LiesIn-front, stands_copied}
+use Rattle.rlsf_tlsf.specs.Allocator.{Allocator, allocator, Steps}
+use Rattle.rlsf_tlsf.specs.Steps.Moves.{bare}
+use Rattle.rlsf_tlsf.proofs.Arrivals.{IsAllocator-arrived, Steps-arrived, bare-filled, bare-kept, bytes_inside, long_inside, opened, some_inside, view_well_formed}
+use Rattle.rlsf_tlsf.proofs.tlsf.Tlsf.copy_payload.Given as given
 use Rattle.rlsf_tlsf.proofs.tlsf.Tlsf.copy_payload.Goals as goal
+use Rattle.rlsf_tlsf.proofs.tlsf.Tlsf.copy_payload.Goals.{After-copy_within}
 
 -- what was copied, by the addresses that the numbers are of
 copied : (m : Space) (bytes : List ℕ) {from from' to to' : ℕ} (len : ℕ) → from ≡ from' → to ≡ to' → bytes ≡ with_bytes m to (bytes_in m (range_at from len)) → bytes ≡ with_bytes m to' (bytes_in m (range_at from' len))
 copied m bytes len source target is = is ∙ λ i. with_bytes m (target i) (bytes_in m (range_at (source i) len))
 
+-- the allocator's state as the call begins
+abbrev state : (g : given.Over) (c : After-copy_within g) → State
+state g c = read_from c.self.inside.memory c.self.inside.state.state
+
 pub copy_within-requires-clause-from : goal.copy_within-requires-clause-from
 copy_within-requires-clause-from g c =
-    let len = c.args.len in
-    let (s, v, source, target) = subst (λ (old : Contents). (s : State) × StandsFor g.row.FLLEN g.row.SLLEN old s × HasFront s (non_zero_usize_get c.args.from) len × HasFront s (non_zero_usize_get c.args.to) len) (sym c.self.view_is) c.requires in
-    let first = LiesIn-front v len (non_zero_usize_get c.args.from) source.0 source.1 source.2 in
-    let second = LiesIn-front v len (non_zero_usize_get c.args.to) target.0 target.1 target.2 in
+    let v = c.args.self.now in
+    let (u, source) = some_inside c.self.invariant v c.self.view_is (at c.args.from) c.requires.live.0 in
+    let (w, target) = some_inside c.self.invariant v c.self.view_is (at c.args.to) c.requires.live.1 in
+    let first = LiesIn-front c.self.invariant.stands c.args.len (at c.args.from) u source (long_inside c.self.invariant v c.self.view_is (at c.args.from) c.args.len u source c.requires.long.0) in
+    let second = LiesIn-front c.self.invariant.stands c.args.len (at c.args.to) w target (long_inside c.self.invariant v c.self.view_is (at c.args.to) c.args.len w target c.requires.long.1) in
     (omega (arith, c.get.ensures.value, first, second), omega (arith, c.get.ensures.value, first, second))
 
 pub copy_within-requires-clause-to : goal.copy_within-requires-clause-to
 copy_within-requires-clause-to g c =
-    let len = c.args.len in
-    let (s, v, source, target) = subst (λ (old : Contents). (s : State) × StandsFor g.row.FLLEN g.row.SLLEN old s × HasFront s (non_zero_usize_get c.args.from) len × HasFront s (non_zero_usize_get c.args.to) len) (sym c.self.view_is) c.requires in
-    let first = LiesIn-front v len (non_zero_usize_get c.args.from) source.0 source.1 source.2 in
-    let second = LiesIn-front v len (non_zero_usize_get c.args.to) target.0 target.1 target.2 in
+    let v = c.args.self.now in
+    let (u, source) = some_inside c.self.invariant v c.self.view_is (at c.args.from) c.requires.live.0 in
+    let (w, target) = some_inside c.self.invariant v c.self.view_is (at c.args.to) c.requires.live.1 in
+    let first = LiesIn-front c.self.invariant.stands c.args.len (at c.args.from) u source (long_inside c.self.invariant v c.self.view_is (at c.args.from) c.args.len u source c.requires.long.0) in
+    let second = LiesIn-front c.self.invariant.stands c.args.len (at c.args.to) w target (long_inside c.self.invariant v c.self.view_is (at c.args.to) c.args.len w target c.requires.long.1) in
     (omega (arith, c.get-2.ensures.value, first, second), omega (arith, c.get-2.ensures.value, first, second))
+
+-- the front is copied
+copying : (g : given.Over) (c : After-copy_within g)
+    → (t : State) × Fills (state g c) (at c.args.to) (with_front c.args.len (bytes_at c.args.self.now.state (at c.args.from)) (bytes_at c.args.self.now.state (at c.args.to))) t
+    × StandsFor g.row.FLLEN g.row.SLLEN (contents c.copy_within.new.self c.self.inside.table) t
+    × KeepsSpare c.self.inside.memory (state g c) c.copy_within.new.self t
+copying g c =
+    let v = c.args.self.now in
+    let is = c.self.invariant in
+    let n = c.copy_within.new.self in
+    let len = c.args.len in
+    let (u, source) = some_inside is v c.self.view_is (at c.args.from) c.requires.live.0 in
+    let (w, target) = some_inside is v c.self.view_is (at c.args.to) c.requires.live.1 in
+    let bytes = copied c.self.inside.memory n.bytes len c.get.ensures.value c.get-2.ensures.value c.copy_within.ensures.bytes in
+    let step = stands_copied is.stands len (at c.args.from) (at c.args.to) u w source target (long_inside is v c.self.view_is (at c.args.from) len u source c.requires.long.0)
+    (long_inside is v c.self.view_is (at c.args.to) len w target c.requires.long.1) n c.copy_within.ensures.start bytes in
+    subst (λ (front : List ℕ). (t : State) × Fills (state g c) (at c.args.to) front t × StandsFor g.row.FLLEN g.row.SLLEN (contents n c.self.inside.table) t × KeepsSpare c.self.inside.memory (state g c) n t)
+    (λ i. with_front len (sym (bytes_inside is v c.self.view_is (at c.args.from) u source) i) (sym (bytes_inside is v c.self.view_is (at c.args.to) w target) i)) step
+
+-- what is kept of the state is kept of the state after
+kept : (g : given.Over) (c : After-copy_within g) (t : State) (front : List ℕ) → Fills (state g c) (at c.args.to) front t → c.self.inside.state.state ≡ bare t
+kept g c t front fills = sym (bare-kept c.self.invariant) ∙ sym (bare-filled (state g c) t (at c.args.to) front fills)
 
 pub invariant_of-self : goal.invariant_of-self
 invariant_of-self g c =
-    let len = c.args.len in
-    let from = non_zero_usize_get c.args.from in
-    let to = non_zero_usize_get c.args.to in
-    let (s, v, source, target) = subst (λ (old : Contents). (s : State) × StandsFor g.row.FLLEN g.row.SLLEN old s × HasFront s from len × HasFront s to len) (sym c.self.view_is) c.requires in
-    let n = c.copy_within.new.self in
-    let bytes = copied c.self.inside.memory n.bytes len c.get.ensures.value c.get-2.ensures.value c.copy_within.ensures.bytes in
-    let (t, _, stands, _) = stands_copied v len from to source.0 target.0 source.1 target.1 source.2 target.2 n c.copy_within.ensures.start bytes in
-    record { valid = c.self.invariant.valid; stands = (t, stands) }
+    let at_copy = (goal.at.invariant_of-self g c).After-copy_within in
+    let (t, fills, stands, spare) = copying g at_copy in
+    IsAllocator-arrived stands c.self.inside.state.state (kept g at_copy t _ fills) c.self.invariant.valid
+
+abbrev after : (g : given.Over) (c : After-copy_within g) → Allocator
+after g c = allocator c.copy_within.new.self c.self.inside.table c.self.inside.state.state
+
+abbrev front : (g : given.Over) (c : After-copy_within g) → List ℕ
+front g c = with_front c.args.len (bytes_at c.args.self.now.state (at c.args.from)) (bytes_at c.args.self.now.state (at c.args.to))
+
+done : (g : given.Over) (c : After-copy_within g) → Steps g.row.FLLEN g.row.SLLEN c.args.self.now (after g c) (Fills c.args.self.now.state (at c.args.to) (front g c))
+done g c =
+    let (t, fills, stands, spare) = copying g c in
+    Steps-arrived stands c.self.inside.state.state (kept g c t (front g c) fills) c.args.self.now c.self.inside.memory c.self.inside.table c.self.inside.state.state c.self.view_is
+    (λ old. Fills old (at c.args.to) (front g c)) fills spare
 
 pub returns-clause-step : goal.returns-clause-step
-returns-clause-step g c =
-    let len = c.args.len in
-    let from = non_zero_usize_get c.args.from in
-    let to = non_zero_usize_get c.args.to in
-    let n = c.copy_within.new.self in
-    let bytes = copied c.self.inside.memory n.bytes len c.get.ensures.value c.get-2.ensures.value c.copy_within.ensures.bytes in
-    subst (λ (old : Contents). (s : State) (u w : Used) → StandsFor g.row.FLLEN g.row.SLLEN old s → Holds s from u → Holds s to w → len ≤ (usable u).len → len ≤ (usable w).len
-    → (t : State) × Fills s to (with_front len u.bytes w.bytes) t × StandsFor g.row.FLLEN g.row.SLLEN (contents n c.self.inside.table) t × KeepsSpare old.memory s n t)
-    c.self.view_is (λ s u w v source target enough room. stands_copied v len from to u w source target enough room n c.copy_within.ensures.start bytes)
+returns-clause-step g c = done g (goal.at.returns-clause-step g c).After-copy_within
+
+seen : (g : given.Over) (c : After-copy_within g) → SeesFilled c.args.self.now.state (after g c).state (at c.args.to) (front g c)
+seen g c =
+    filled_seen (view_well_formed c.self.invariant c.args.self.now c.self.view_is) (after g c).state (at c.args.to) (front g c)
+    (opened g.row.FLLEN g.row.SLLEN c.args.self.now (after g c) (Fills c.args.self.now.state (at c.args.to) (front g c)) (done g c)).0
+
+pub returns-clause-filled : goal.returns-clause-filled
+returns-clause-filled g c = (seen g (goal.at.returns-clause-filled g c).After-copy_within).here
+
+pub returns-clause-aligns : goal.returns-clause-aligns
+returns-clause-aligns g c = λ i a. (seen g (goal.at.returns-clause-aligns g c).After-copy_within).aligns a i
+
+pub returns-clause-bytes : goal.returns-clause-bytes
+returns-clause-bytes g c = (seen g (goal.at.returns-clause-bytes g c).After-copy_within).bytes
+
+pub returns-clause-chunks : goal.returns-clause-chunks
+returns-clause-chunks g c =
+    let before = (goal.at.returns-clause-chunks g c).After-copy_within in
+    chunks-filled c.args.self.now.state (after g before).state (at c.args.to) (front g before)
+    (opened g.row.FLLEN g.row.SLLEN c.args.self.now (after g before) (Fills c.args.self.now.state (at c.args.to) (front g before)) (done g before)).0

@@ -1,40 +1,95 @@
-use Rattle.std.proofs.Common.{rules, refl, sym, ◌∙◌, subst}
-use Rattle.std.specs.Int.NonZero.{non_zero_usize_get}
+use Rattle.std.proofs.Common.{rules, ◌≡◌, refl, sym, ◌∙◌, ap, subst}
+use Rattle.rlsf_base.specs.Addr.{at}
 use Rattle.rlsf_machine.specs.Release.{Deallocates, released}
-use Rattle.rlsf_machine.specs.State.{State, IsLive}
-use Rattle.rlsf_blocks.specs.Spare.{KeepsSpare}
-use Rattle.rlsf_blocks.specs.StandsFor.{contents, Contents, StandsFor}
+use Rattle.rlsf_machine.specs.State.{State, Used, Holds, IsLive}
+use Rattle.rlsf_machine.proofs.CallerWords.{SeesGone, align_at-live, gone_seen}
+use Rattle.rlsf_machine.proofs.Chunks.{chunks-deallocated}
+use Rattle.rlsf_blocks.specs.Laws.{read_from}
+use Rattle.rlsf_blocks.specs.StandsFor.{contents, StandsFor}
 use Rattle.rlsf_blocks.proofs.Machine.Counted.{KeepsSpare-counted_first, StandsFor-counted}
+use Rattle.rlsf_tlsf.specs.Allocator.{Allocator, allocator, Steps}
+use Rattle.rlsf_tlsf.specs.Steps.Moves.{bare, deallocated}
+use Rattle.rlsf_tlsf.proofs.Arrivals.{IsAllocator-arrived, Steps-arrived, bare-kept, live_inside, opened, view_well_formed}
+use Rattle.rlsf_tlsf.proofs.Moved.{deallocated-bare}
+use Rattle.rlsf_tlsf.proofs.tlsf.Tlsf.deallocate.Given as given
 use Rattle.rlsf_tlsf.proofs.tlsf.Tlsf.deallocate.Goals as goal
+use Rattle.rlsf_tlsf.proofs.tlsf.Tlsf.deallocate.Goals.{After-used_block-block, After-deallocate_block, After-deallocate}
+
+-- the allocator's state as the call begins
+abbrev state : (g : given.Over) (c : After-used_block-block g) → State
+state g c = read_from c.self.inside.memory c.self.inside.state.state
+
+pub used_block-block-requires : goal.used_block-block-requires
+used_block-block-requires g c =
+    let live = live_inside c.self.invariant c.args.self.now c.self.view_is (at c.args.addr) c.args.align c.requires in
+    let s = read_from c.self.inside.memory c.self.inside.state.state in
+    (g.row.FLLEN, g.row.SLLEN, c.self.inside.table, s, c.self.invariant.stands, subst (λ p. IsLive s p c.args.align) (sym c.get.ensures.value) live)
+
+-- the block that was found is that of the payload
+found : (g : given.Over) (c : After-used_block-block g) → (u : Used) × Holds (state g c) (at c.args.addr) u × (u.block.start ≡ c.used_block-block.result)
+found g c =
+    let live = live_inside c.self.invariant c.args.self.now c.self.view_is (at c.args.addr) c.args.align c.requires in
+    let (u, (i, here), is, start) = c.used_block-block.ensures.block g.row.FLLEN g.row.SLLEN c.self.inside.table (state g c) c.self.invariant.stands (subst (λ p. IsLive (state g c) p c.args.align) (sym c.get.ensures.value) live) in
+    (u, (i, here ∙ c.get.ensures.value), start)
+
+-- the memory in which it was sought stands for the same state
+read : (g : given.Over) (c : After-used_block-block g) → StandsFor g.row.FLLEN g.row.SLLEN (contents c.used_block-block.new.memory c.self.inside.table) (state g c)
+read g c =
+    let counts = c.used_block-block.ensures.counts in
+    StandsFor-counted c.self.inside.memory c.used_block-block.new.memory counts.start counts.bytes c.self.invariant.stands
 
 pub deallocate_block-requires : goal.deallocate_block-requires
 deallocate_block-requires g c =
-    let (s, v, live) = subst (λ (old : Contents). (s : State) × StandsFor g.row.FLLEN g.row.SLLEN old s × IsLive s (non_zero_usize_get c.args.addr) c.args.align) (sym c.self.view_is) c.requires in
-    let (u, (i, at), is, start) = c.used_block-block.ensures.block g.row.FLLEN g.row.SLLEN c.self.inside.table s v (subst (λ p. IsLive s p c.args.align) (sym c.get.ensures.value) live) in
-    let counts = c.used_block-block.ensures.counts in
-    let read = StandsFor-counted c.self.inside.memory c.used_block-block.new.memory counts.start counts.bytes v in
-    (search rules, (c.self.invariant.valid, (s, u, read, i, start)))
+    let before = (goal.at.deallocate_block-requires g c).After-used_block-block in
+    let (u, holds, start) = found g before in
+    (search rules, (c.self.invariant.valid, (state g before, u, read g before, holds.0, start)))
+
+-- what is kept of the state is the one without the payload
+kept : (g : given.Over) (c : After-deallocate g) (u : Used) → Holds (read_from c.self.inside.memory c.self.inside.state.state) (at c.args.addr) u
+    → c.deallocate.new.self.state ≡ bare (released (read_from c.self.inside.memory c.self.inside.state.state) u)
+kept g c u holds =
+    let s = read_from c.self.inside.memory c.self.inside.state.state in
+    c.deallocate.ensures ∙ (λ i. deallocated ((c.get-2.ensures.value) i) (sym (bare-kept c.self.invariant) i))
+    ∙ deallocated-bare c.self.invariant.stands.well_formed (released s u) (at c.args.addr) (record { block = u; holds = holds; after = refl })
 
 pub invariant_of-self : goal.invariant_of-self
 invariant_of-self g c =
-    let (s, v, live) = subst (λ (old : Contents). (s : State) × StandsFor g.row.FLLEN g.row.SLLEN old s × IsLive s (non_zero_usize_get c.args.addr) c.args.align) (sym c.self.view_is) c.requires in
-    let (u, (i, at), is, start) = c.used_block-block.ensures.block g.row.FLLEN g.row.SLLEN c.self.inside.table s v (subst (λ p. IsLive s p c.args.align) (sym c.get.ensures.value) live) in
+    let before = (goal.at.invariant_of-self g c).After-used_block-block in
+    let (u, holds, start) = found g before in
+    IsAllocator-arrived (c.deallocate_block.ensures.step (state g before) u (read g before) holds.0 start).0 c.deallocate.new.self.state (kept g c u holds) c.self.invariant.valid
+
+abbrev after : (g : given.Over) (c : After-deallocate g) → Allocator
+after g c = allocator c.deallocate_block.new.memory c.deallocate_block.new.table c.deallocate.new.self.state
+
+done : (g : given.Over) (c : After-deallocate g) → Steps g.row.FLLEN g.row.SLLEN c.args.self.now (after g c) (Deallocates c.args.self.now.state (at c.args.addr))
+done g c =
+    let before = (goal.at.returns-clause-step g c).After-used_block-block in
     let counts = c.used_block-block.ensures.counts in
-    let read = StandsFor-counted c.self.inside.memory c.used_block-block.new.memory counts.start counts.bytes v in
-    record { valid = c.self.invariant.valid; stands = (released s u, (c.deallocate_block.ensures.step s u read i start).0) }
+    let s = state g before in
+    let (u, holds, start) = found g before in
+    let (stands, spare) = c.deallocate_block.ensures.step s u (read g before) holds.0 start in
+    Steps-arrived stands c.deallocate.new.self.state (kept g c u holds) c.args.self.now c.self.inside.memory c.self.inside.table c.self.inside.state.state c.self.view_is
+    (λ old. Deallocates old (at c.args.addr)) (record { block = u; holds = holds; after = refl })
+    (KeepsSpare-counted_first c.self.inside.memory c.used_block-block.new.memory counts.start counts.bytes s (released s u) c.deallocate_block.new.memory spare)
 
 pub returns-clause-step : goal.returns-clause-step
-returns-clause-step g c =
-    subst (λ (old : Contents). (s : State) → StandsFor g.row.FLLEN g.row.SLLEN old s → IsLive s (non_zero_usize_get c.args.addr) c.args.align
-    → (t : State) × Deallocates s (non_zero_usize_get c.args.addr) t
-    × StandsFor g.row.FLLEN g.row.SLLEN (contents c.deallocate_block.new.memory c.deallocate_block.new.table) t × KeepsSpare old.memory s c.deallocate_block.new.memory t)
-    c.self.view_is (λ s v live.
-    let (u, (i, at), is, start) = c.used_block-block.ensures.block g.row.FLLEN g.row.SLLEN c.self.inside.table s v (subst (λ p. IsLive s p c.args.align) (sym c.get.ensures.value) live) in
-    let counts = c.used_block-block.ensures.counts in
-    let read = StandsFor-counted c.self.inside.memory c.used_block-block.new.memory counts.start counts.bytes v in
-    let (stands, spare) = c.deallocate_block.ensures.step s u read i start in (
-      released s u,
-      record { block = u; holds = (i, at ∙ c.get.ensures.value); after = refl },
-      stands,
-      KeepsSpare-counted_first c.self.inside.memory c.used_block-block.new.memory counts.start counts.bytes s (released s u) c.deallocate_block.new.memory spare,
-    ))
+returns-clause-step g c = done g c
+
+seen : (g : given.Over) (c : After-deallocate g) → SeesGone c.args.self.now.state (after g c).state (at c.args.addr)
+seen g c =
+    let (u, holds, is) = align_at-live c.args.self.now.state (at c.args.addr) c.args.align c.requires in
+    gone_seen (view_well_formed c.self.invariant c.args.self.now c.self.view_is) (after g c).state (at c.args.addr) (u, holds)
+    (opened g.row.FLLEN g.row.SLLEN c.args.self.now (after g c) (Deallocates c.args.self.now.state (at c.args.addr)) (done g c)).0
+
+pub returns-clause-gone : goal.returns-clause-gone
+returns-clause-gone g c = (seen g c).gone
+
+pub returns-clause-aligns : goal.returns-clause-aligns
+returns-clause-aligns g c = (seen g c).aligns
+
+pub returns-clause-bytes : goal.returns-clause-bytes
+returns-clause-bytes g c = (seen g c).bytes
+
+pub returns-clause-chunks : goal.returns-clause-chunks
+returns-clause-chunks g c =
+    chunks-deallocated c.args.self.now.state (after g c).state (at c.args.addr) (opened g.row.FLLEN g.row.SLLEN c.args.self.now (after g c) (Deallocates c.args.self.now.state (at c.args.addr)) (done g c)).0

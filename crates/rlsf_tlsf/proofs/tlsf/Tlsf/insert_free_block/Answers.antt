@@ -1,29 +1,24 @@
-use Rattle.std.proofs.Common.{ℕ, Option, arith, sym, subst}
-use Rattle.std.specs.Int.NonZero.{non_zero_usize_get}
-use Rattle.std.specs.Option.{option_map}
-use Rattle.rlsf_base.specs.Space.{range_of}
-use Rattle.rlsf_machine.specs.Insert.{Inserts, IsFresh}
-use Rattle.rlsf_machine.specs.State.{State}
-use Rattle.rlsf_blocks.specs.Spare.{KeepsSpare}
-use Rattle.rlsf_blocks.specs.StandsFor.{contents, Contents, StandsFor}
+use Rattle.std.proofs.Common.{◌≡◌, Option, Some, None, IfNone, sym, ◌∙◌, ap}
+use Rattle.std.proofs.lemmas.Option.{none-some}
+use Rattle.std.specs.declared.num.NonZeroUsize.{NonZeroUsize}
+use Rattle.rlsf_base.specs.Addr.{at, reply}
+use Rattle.rlsf_machine.specs.Insert.{Inserts, bytes_taken}
+use Rattle.rlsf_tlsf.specs.Allocator.{Steps}
+use Rattle.rlsf_tlsf.proofs.Arrivals.{opened}
 use Rattle.rlsf_tlsf.proofs.tlsf.Tlsf.insert_free_block.Goals as goal
 
-pub insert-requires : goal.insert-requires
-insert-requires g c =
-    let (s, v, fresh) = subst (λ (old : Contents). (s : State) × StandsFor g.row.FLLEN g.row.SLLEN old s × IsFresh (range_of old.memory) s c.args.range) (sym c.self.view_is) c.requires in
-    (omega arith, (c.self.invariant.valid, (s, v, fresh)))
-
-pub invariant_of-self : goal.invariant_of-self
-invariant_of-self g c =
-    let (s, v, fresh) = subst (λ (old : Contents). (s : State) × StandsFor g.row.FLLEN g.row.SLLEN old s × IsFresh (range_of old.memory) s c.args.range) (sym c.self.view_is) c.requires in
-    let (t, step, stands, spare) = c.insert.ensures.step s v fresh in
-    record { valid = c.self.invariant.valid; stands = (t, stands) }
+-- what holds where nothing is answered
+where_none : (P : Type 0) (o : Option NonZeroUsize) → reply o ≡ None → IfNone o P → P
+where_none P None e holds = holds
+where_none P (Some x) e holds = absurd (none-some (at x) (sym e))
 
 pub returns-clause-step : goal.returns-clause-step
+unfolding Steps
 returns-clause-step g c =
-    subst (λ (old : Contents). (s : State) → StandsFor g.row.FLLEN g.row.SLLEN old s → IsFresh (range_of old.memory) s c.args.range
-    → (reply : Option ℕ) × (t : State) × Inserts g.row.FLLEN s c.args.range reply t
-    × StandsFor g.row.FLLEN g.row.SLLEN (contents c.insert.new.memory c.insert.new.table) t × KeepsSpare old.memory s c.insert.new.memory t)
-    c.self.view_is (λ s v fresh.
-    let (t, step, stands, spare) = c.insert.ensures.step s v fresh in
-    (option_map non_zero_usize_get c.insert.result, t, step, stands, spare))
+    let (step, stands, spare) = c.insert_free_block_ptr.ensures.step in
+    ((reply c.insert_free_block_ptr.result, step), stands, spare)
+
+pub returns-clause-unchanged : goal.returns-clause-unchanged
+returns-clause-unchanged g c = λ none.
+    let step = (opened g.row.FLLEN g.row.SLLEN c.args.self.now c.insert_free_block_ptr.new.self (Inserts g.row.FLLEN c.args.self.now.state c.args.range (reply c.insert_free_block_ptr.result)) c.insert_free_block_ptr.ensures.step).0 in
+    where_none _ c.insert_free_block_ptr.result (step.answer ∙ ap (bytes_taken c.args.range.start) none) c.insert_free_block_ptr.ensures.refused

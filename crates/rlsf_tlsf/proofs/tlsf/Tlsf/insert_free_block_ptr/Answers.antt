@@ -1,27 +1,77 @@
-use Rattle.std.proofs.Common.{arith, sym, subst}
-use Rattle.std.specs.Int.NonZero.{non_zero_usize_get}
-use Rattle.std.specs.Option.{option_map}
+use Rattle.std.proofs.Common.{◌≡◌, arith, refl, sym, ◌∙◌, ap, subst}
+use Rattle.rlsf_base.specs.Addr.{reply}
 use Rattle.rlsf_base.specs.Space.{range_of}
 use Rattle.rlsf_machine.specs.Insert.{Inserts, IsFresh}
+use Rattle.rlsf_machine.specs.Run.{insert}
 use Rattle.rlsf_machine.specs.State.{State}
+use Rattle.rlsf_machine.proofs.CallerWords.{SeesSame, same_seen}
+use Rattle.rlsf_machine.proofs.Callers.{callers_see_map}
+use Rattle.rlsf_machine.proofs.Untouched.{IsFresh-untouched, untouched_inserted}
+use Rattle.rlsf_blocks.specs.Laws.{read_from}
 use Rattle.rlsf_blocks.specs.Spare.{KeepsSpare}
-use Rattle.rlsf_blocks.specs.StandsFor.{contents, Contents, StandsFor}
+use Rattle.rlsf_blocks.specs.StandsFor.{contents, StandsFor}
+use Rattle.rlsf_tlsf.specs.Allocator.{Allocator, allocator, Steps}
+use Rattle.rlsf_tlsf.specs.Steps.Moves.{bare, inserted}
+use Rattle.rlsf_tlsf.proofs.Arrivals.{IsAllocator-arrived, Steps-arrived, bare-kept, opened, view_well_formed}
+use Rattle.rlsf_tlsf.proofs.Moved.{inserted-bare}
+use Rattle.rlsf_tlsf.proofs.tlsf.Tlsf.insert_free_block_ptr.Given as given
 use Rattle.rlsf_tlsf.proofs.tlsf.Tlsf.insert_free_block_ptr.Goals as goal
+use Rattle.rlsf_tlsf.proofs.tlsf.Tlsf.insert_free_block_ptr.Goals.{After-insert-taken, After-insert}
 
-pub insert-requires : goal.insert-requires
-insert-requires g c =
-    let (s, v, fresh) = subst (λ (old : Contents). (s : State) × StandsFor g.row.FLLEN g.row.SLLEN old s × IsFresh (range_of old.memory) s c.args.range) (sym c.self.view_is) c.requires in
-    (omega arith, (c.self.invariant.valid, (s, v, fresh)))
+pub insert-taken-requires : goal.insert-taken-requires
+insert-taken-requires g c =
+    let fresh = IsFresh-untouched (range_of c.args.self.now.memory) c.args.self.now.state c.args.range c.requires.lies_in c.requires.untouched in
+    (omega arith, (c.self.invariant.valid, (_, c.self.invariant.stands, subst (λ (o : Allocator). IsFresh (range_of o.memory) o.state c.args.range) (sym c.self.view_is) fresh)))
+
+-- the range becomes chunks
+inserting : (g : given.Over) (c : After-insert-taken g)
+    → (t : State) × Inserts g.row.FLLEN (read_from c.self.inside.memory c.self.inside.state.state) c.args.range (reply c.insert-taken.result) t
+    × StandsFor g.row.FLLEN g.row.SLLEN (contents c.insert-taken.new.memory c.insert-taken.new.table) t
+    × KeepsSpare c.self.inside.memory (read_from c.self.inside.memory c.self.inside.state.state) c.insert-taken.new.memory t
+inserting g c =
+    c.insert-taken.ensures.step (read_from c.self.inside.memory c.self.inside.state.state) c.self.invariant.stands
+    (subst (λ (o : Allocator). IsFresh (range_of o.memory) o.state c.args.range) (sym c.self.view_is)
+    (IsFresh-untouched (range_of c.args.self.now.memory) c.args.self.now.state c.args.range c.requires.lies_in c.requires.untouched))
+
+-- what is kept of the state is the one with the chunks
+kept : (g : given.Over) (c : After-insert g) (t : State) → Inserts g.row.FLLEN (read_from c.self.inside.memory c.self.inside.state.state) c.args.range (reply c.insert-taken.result) t
+    → c.insert.new.self.state ≡ bare t
+kept g c t step =
+    c.insert.ensures ∙ ap (inserted g.row.FLLEN c.args.range) (sym (bare-kept c.self.invariant))
+    ∙ inserted-bare g.row.FLLEN (read_from c.self.inside.memory c.self.inside.state.state) t c.args.range (reply c.insert-taken.result) step
 
 pub invariant_of-self : goal.invariant_of-self
 invariant_of-self g c =
-    let (s, v, fresh) = subst (λ (old : Contents). (s : State) × StandsFor g.row.FLLEN g.row.SLLEN old s × IsFresh (range_of old.memory) s c.args.range) (sym c.self.view_is) c.requires in
-    let (t, step, stands, spare) = c.insert.ensures.step s v fresh in
-    record { valid = c.self.invariant.valid; stands = (t, stands) }
+    let (t, step, stands, spare) = inserting g (goal.at.invariant_of-self g c).After-insert-taken in
+    IsAllocator-arrived stands c.insert.new.self.state (kept g c t step) c.self.invariant.valid
+
+abbrev after : (g : given.Over) (c : After-insert g) → Allocator
+after g c = allocator c.insert-taken.new.memory c.insert-taken.new.table c.insert.new.self.state
+
+done : (g : given.Over) (c : After-insert g) → Steps g.row.FLLEN g.row.SLLEN c.args.self.now (after g c) (Inserts g.row.FLLEN c.args.self.now.state c.args.range (reply c.insert-taken.result))
+done g c =
+    let (t, step, stands, spare) = inserting g (goal.at.returns-clause-step g c).After-insert-taken in
+    Steps-arrived stands c.insert.new.self.state (kept g c t step) c.args.self.now c.self.inside.memory c.self.inside.table c.self.inside.state.state c.self.view_is
+    (λ old. Inserts g.row.FLLEN old c.args.range (reply c.insert-taken.result)) step spare
 
 pub returns-clause-step : goal.returns-clause-step
-returns-clause-step g c =
-    subst (λ (old : Contents). (s : State) → StandsFor g.row.FLLEN g.row.SLLEN old s → IsFresh (range_of old.memory) s c.args.range
-    → (t : State) × Inserts g.row.FLLEN s c.args.range (option_map non_zero_usize_get c.insert.result) t
-    × StandsFor g.row.FLLEN g.row.SLLEN (contents c.insert.new.memory c.insert.new.table) t × KeepsSpare old.memory s c.insert.new.memory t)
-    c.self.view_is (λ s v fresh. c.insert.ensures.step s v fresh)
+returns-clause-step g c = done g c
+
+seen : (g : given.Over) (c : After-insert g) → SeesSame c.args.self.now.state (after g c).state
+seen g c =
+    same_seen c.args.self.now.state (after g c).state
+    (callers_see_map g.row.FLLEN g.row.SLLEN (range_of c.args.self.now.memory) c.args.self.now.state (after g c).state (insert c.args.range (reply c.insert-taken.result))
+    (view_well_formed c.self.invariant c.args.self.now c.self.view_is)
+    (IsFresh-untouched (range_of c.args.self.now.memory) c.args.self.now.state c.args.range c.requires.lies_in c.requires.untouched)
+    (opened g.row.FLLEN g.row.SLLEN c.args.self.now (after g c) (Inserts g.row.FLLEN c.args.self.now.state c.args.range (reply c.insert-taken.result)) (done g c)).0)
+
+pub returns-clause-aligns : goal.returns-clause-aligns
+returns-clause-aligns g c = (seen g c).aligns
+
+pub returns-clause-bytes : goal.returns-clause-bytes
+returns-clause-bytes g c = (seen g c).bytes
+
+pub returns-clause-untouched : goal.returns-clause-untouched
+returns-clause-untouched g c =
+    untouched_inserted g.row.FLLEN c.args.self.now.state (after g c).state c.args.range (reply c.insert-taken.result)
+    (opened g.row.FLLEN g.row.SLLEN c.args.self.now (after g c) (Inserts g.row.FLLEN c.args.self.now.state c.args.range (reply c.insert-taken.result)) (done g c)).0

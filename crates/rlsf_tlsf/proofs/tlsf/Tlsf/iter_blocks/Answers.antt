@@ -1,16 +1,17 @@
 use Rattle.std.proofs.Common.{sym, subst}
 use Rattle.rlsf_machine.specs.ChunkRows.{IsRow}
-use Rattle.rlsf_machine.specs.State.{State}
 use Rattle.rlsf_blocks.specs.Blocks.{AreBlocks, walked}
-use Rattle.rlsf_blocks.specs.StandsFor.{Contents, StandsFor}
+use Rattle.rlsf_blocks.specs.Laws.{read_from}
+use Rattle.rlsf_tlsf.specs.Allocator.{Allocator}
 use Rattle.rlsf_tlsf.proofs.tlsf.Tlsf.iter_blocks.Goals as goal
 
 pub walk-requires : goal.walk-requires
 walk-requires g c =
-    let (s, stands, row) = subst (λ (v : Contents). (s : State) × StandsFor g.row.FLLEN g.row.SLLEN v s × IsRow s (walked c.args.range)) (sym c.self.view_is) c.requires in
-    (g.row.FLLEN, g.row.SLLEN, c.self.inside.table, s, stands, row)
+    let row = subst (λ (o : Allocator). IsRow o.state (walked c.args.range)) (sym c.self.view_is) c.requires in
+    (g.row.FLLEN, g.row.SLLEN, c.self.inside.table, read_from c.self.inside.memory c.self.inside.state.state, c.self.invariant.stands, row)
 
 pub returns-clause-blocks : goal.returns-clause-blocks
 returns-clause-blocks g c =
-    subst (λ (v : Contents). (s : State) → StandsFor g.row.FLLEN g.row.SLLEN v s → IsRow s (walked c.args.range) → AreBlocks s (walked c.args.range) c.walk.result)
-    c.self.view_is (λ s stands row. c.walk.ensures.blocks g.row.FLLEN g.row.SLLEN c.self.inside.table s stands row)
+    let row = subst (λ (o : Allocator). IsRow o.state (walked c.args.range)) (sym c.self.view_is) c.requires in
+    subst (λ (o : Allocator). AreBlocks o.state (walked c.args.range) c.walk.result) c.self.view_is
+    (c.walk.ensures.blocks g.row.FLLEN g.row.SLLEN c.self.inside.table (read_from c.self.inside.memory c.self.inside.state.state) c.self.invariant.stands row)

@@ -1,157 +1,226 @@
-use Rattle.std.proofs.Common.{◌≡◌, ◌+◌, ◌<◌, ◌≤◌, ℕ, Some, arith, sym, ◌∙◌, ap, subst}
-use Rattle.std.specs.Int.NonZero.{non_zero_usize_get}
-use Rattle.std.specs.Option.{option_map}
-use Rattle.rlsf_base.specs.Space.{range_of}
-use Rattle.rlsf_machine.specs.Reallocate.{Plan, Reallocates, ReallocatesBy, in_place, into_next, or_else, plan}
-use Rattle.rlsf_machine.specs.State.{State, Used, usable, Holds, IsLive, IsPlaced}
+use Rattle.std.proofs.Common.{◌≡◌, ◌≢◌, ◌+◌, ◌<◌, ◌≤◌, ℕ, length, Some, None, arith, refl, sym, ◌∙◌, ap, subst}
+use Rattle.rlsf_base.specs.Addr.{at, reply}
+use Rattle.rlsf_machine.specs.Callers.{align_at, bytes_at}
+use Rattle.rlsf_machine.specs.Reallocate.{Keeps, Plan, Reallocates, ReallocatesBy, in_place, into_next, or_else, plan}
+use Rattle.rlsf_machine.specs.Run.{reallocate}
+use Rattle.rlsf_machine.specs.State.{State, Used, usable, Holds, IsLive}
+use Rattle.rlsf_machine.proofs.CallerWords.{SeesResized, align_at-live, resized_seen}
+use Rattle.rlsf_machine.proofs.Changes.{Holds-unique}
+use Rattle.rlsf_machine.proofs.Chunks.{chunks-reallocated}
+use Rattle.rlsf_machine.proofs.Determined.{refusal_changes_nothing}
+use Rattle.rlsf_machine.proofs.Payloads.{IsUsed-after_start}
+use Rattle.rlsf_blocks.specs.Laws.{read_from}
 use Rattle.rlsf_blocks.specs.Spare.{KeepsSpare}
 use Rattle.rlsf_blocks.specs.StandsFor.{contents, Contents, StandsFor}
-use Rattle.rlsf_resize.specs.Steps.Resize.{IsUsedAt}
-use Rattle.rlsf_machine.proofs.Changes.{Holds-unique}
-use Rattle.rlsf_machine.proofs.Live.{reallocated_is_live, reallocation_keeps_bytes}
-use Rattle.rlsf_machine.proofs.Payloads.{IsUsed-after_start}
 use Rattle.rlsf_blocks.proofs.Machine.Counted.{KeepsSpare-counted_first, StandsFor-counted}
 use Rattle.rlsf_blocks.proofs.Words.NonZeroNumbers.{number, on_none, on_some}
+use Rattle.rlsf_resize.specs.Steps.Resize.{IsUsedAt}
+use Rattle.rlsf_tlsf.specs.Allocator.{Allocator, allocator, Steps}
+use Rattle.rlsf_tlsf.specs.Steps.Moves.{bare, reallocated}
+use Rattle.rlsf_tlsf.proofs.Arrivals.{IsAllocator-arrived, Stands-view, Steps-arrived, arrived, bare-kept, bytes_inside, live_inside, opened, view_well_formed, well_formed}
+use Rattle.rlsf_tlsf.proofs.Moved.{reallocated-bare}
 use Rattle.rlsf_tlsf.proofs.tlsf.Tlsf.reallocate.Given as given
 use Rattle.rlsf_tlsf.proofs.tlsf.Tlsf.reallocate.Goals as goal
-use Rattle.rlsf_tlsf.proofs.tlsf.Tlsf.reallocate.Goals.{After-used_block-block}
+use Rattle.rlsf_tlsf.proofs.tlsf.Tlsf.reallocate.Goals.{After-from_residual, After-used_block-block, After-new}
 
--- no payload is at the address 0
-positive : {fllen sllen addr align : ℕ} {v : Contents} {t : State} → StandsFor fllen sllen v t → IsLive t addr align → 0 < addr
-positive v (u, (i, at), is) = omega (arith, at, IsUsed-after_start u (v.well_formed.used u i))
+-- the allocator's state as the call begins
+abbrev state : (g : given.Over) (c : After-used_block-block g) → State
+state g c = read_from c.self.inside.memory c.self.inside.state.state
 
--- the block that was found is the payload's, in each state that has it
-used_at : (g : given.Over) (c : After-used_block-block g) (s : State) (u : Used) → StandsFor g.row.FLLEN g.row.SLLEN (contents c.self.inside.memory c.self.inside.table) s
-    → Holds s (non_zero_usize_get c.args.addr) u → u.align ≡ c.args.layout.align → IsUsedAt s u c.used_block-block.result c.get-payload.result c.args.layout.align
-used_at g c s u v holds is =
-    let addr = non_zero_usize_get c.args.addr in
-    let (x, (i, at), same, start) = c.used_block-block.ensures.block g.row.FLLEN g.row.SLLEN c.self.inside.table s v (subst (λ p. IsLive s p c.align.result) (sym c.get-payload.ensures.value) (u, holds, is ∙ sym c.align.ensures.value)) in
-    let one : u ≡ x = Holds-unique v.well_formed addr u x holds (i, at ∙ c.get-payload.ensures.value) in
+-- the payload's block
+block : (g : given.Over) (c : After-used_block-block g) → (u : Used) × Holds (state g c) (at c.args.addr) u × (u.align ≡ c.args.layout.align)
+block g c = live_inside c.self.invariant c.args.self.now c.self.view_is (at c.args.addr) c.args.layout.align c.requires
+
+-- the block that was found is the payload's
+used_at : (g : given.Over) (c : After-used_block-block g) (u : Used) → Holds (state g c) (at c.args.addr) u → u.align ≡ c.args.layout.align
+    → IsUsedAt (state g c) u c.used_block-block.result c.get-payload.result c.args.layout.align
+used_at g c u holds is =
+    let addr = at c.args.addr in
+    let s = state g c in
+    let v = c.self.invariant.stands in
+    let (x, (i, here), same, start) = c.used_block-block.ensures.block g.row.FLLEN g.row.SLLEN c.self.inside.table s v (subst (λ p. IsLive s p c.align.result) (sym c.get-payload.ensures.value) (u, holds, is ∙ sym c.align.ensures.value)) in
+    let one : u ≡ x = Holds-unique v.well_formed addr u x holds (i, here ∙ c.get-payload.ensures.value) in
     record { is_used = holds.0; start = ap (λ y. y.block.start) one ∙ start; caller = holds.1 ∙ sym c.get-payload.ensures.value; alignment = is }
 
--- the memory in which it was sought stands for the same states
-read_in : (g : given.Over) (c : After-used_block-block g) {s : State} → StandsFor g.row.FLLEN g.row.SLLEN (contents c.self.inside.memory c.self.inside.table) s
-    → StandsFor g.row.FLLEN g.row.SLLEN (contents c.used_block-block.new.memory c.self.inside.table) s
-read_in g c v =
+-- the memory in which it was sought stands for the same state
+read_in : (g : given.Over) (c : After-used_block-block g) → StandsFor g.row.FLLEN g.row.SLLEN (contents c.used_block-block.new.memory c.self.inside.table) (state g c)
+read_in g c =
     let counts = c.used_block-block.ensures.counts in
-    StandsFor-counted c.self.inside.memory c.used_block-block.new.memory counts.start counts.bytes v
+    StandsFor-counted c.self.inside.memory c.used_block-block.new.memory counts.start counts.bytes c.self.invariant.stands
 
--- where the payload is then, it is live
-is_live : (g : given.Over) (c : After-used_block-block g) {s : State} (u : Used) → StandsFor g.row.FLLEN g.row.SLLEN (contents c.self.inside.memory c.self.inside.table) s → Holds s (non_zero_usize_get c.args.addr) u → u.align ≡ c.args.layout.align
-    → (to : ℕ) (t : State) → ReallocatesBy g.row.SLLEN s u c.args.layout.size (plan s u c.args.layout.size) (Some to) t → IsLive t to c.args.layout.align
-is_live g c {s} u v holds is to t step =
-    (reallocated_is_live g.row.FLLEN g.row.SLLEN (range_of c.self.inside.memory) s t (non_zero_usize_get c.args.addr) c.args.layout.size to c.args.layout.align v.well_formed (u, holds, is) (record { block = u; holds = holds; step = step })).0
-
--- with as many bytes as were asked for
-is_placed : (g : given.Over) (c : After-used_block-block g) {s : State} (u : Used) → StandsFor g.row.FLLEN g.row.SLLEN (contents c.self.inside.memory c.self.inside.table) s → Holds s (non_zero_usize_get c.args.addr) u → u.align ≡ c.args.layout.align
-    → (to : ℕ) (t : State) → ReallocatesBy g.row.SLLEN s u c.args.layout.size (plan s u c.args.layout.size) (Some to) t → IsPlaced t to c.args.layout.size c.args.layout.align
-is_placed g c {s} u v holds is to t step =
-    let (x, now, aligned, kept, enough, few) = reallocation_keeps_bytes g.row.FLLEN g.row.SLLEN (range_of c.self.inside.memory) s t (non_zero_usize_get c.args.addr) c.args.layout.size to u v.well_formed holds (record { block = u; holds = holds; step = step }) in
-    (x, now, aligned ∙ is, enough)
+pub used_block-block-requires : goal.used_block-block-requires
+used_block-block-requires g c =
+    let s = read_from c.self.inside.memory c.self.inside.state.state in
+    let live = live_inside c.self.invariant c.args.self.now c.self.view_is (at c.args.addr) c.args.layout.align c.requires in
+    (g.row.FLLEN, g.row.SLLEN, c.self.inside.table, s, c.self.invariant.stands, subst (λ a. IsLive s c.get-payload.result a) (sym c.align.ensures.value) (subst (λ p. IsLive s p c.args.layout.align) (sym c.get-payload.ensures.value) live))
 
 pub reallocate_block-requires : goal.reallocate_block-requires
 reallocate_block-requires g c =
-    let (s, v, (u, holds, is)) = subst (λ (old : Contents). (s : State) × StandsFor g.row.FLLEN g.row.SLLEN old s × IsLive s (non_zero_usize_get c.args.addr) c.args.layout.align) (sym c.self.view_is) c.requires in
-    let at = (goal.at.reallocate_block-requires g c).After-used_block-block in
-    (omega arith, (c.self.invariant.valid, (s, u, read_in g at v, used_at g at s u v holds is)))
+    let before = (goal.at.reallocate_block-requires g c).After-used_block-block in
+    let (u, holds, is) = block g before in
+    (omega arith, (c.self.invariant.valid, (state g before, u, read_in g before, used_at g before u holds is)))
+
+-- ---- the refusal
+
+-- where it is refused, the state stays
+module _ (g : given.Over) (c : After-from_residual g) where
+  abbrev before : After-used_block-block g
+  before = (goal.at.returns-in_err-moved-clause-step g c).After-used_block-block
+
+  staying : Reallocates g.row.SLLEN (state g before) (at c.args.addr) c.args.layout.size None (state g before)
+      × StandsFor g.row.FLLEN g.row.SLLEN (contents c.reallocate_block.new.memory c.reallocate_block.new.table) (state g before)
+      × KeepsSpare c.self.inside.memory (state g before) c.reallocate_block.new.memory (state g before)
+  staying =
+      let (u, holds, is) = block g before in
+      let s = state g before in
+      let counts = c.used_block-block.ensures.counts in
+      let (t, step, stands, spare) = c.in_err-moved.ensures.step s u (read_in g before) (used_at g before u holds is) in
+      let told : Reallocates g.row.SLLEN s (at c.args.addr) c.args.layout.size None t = record { block = u; holds = holds; step = step } in
+      let same : t ≡ s = refusal_changes_nothing g.row.FLLEN g.row.SLLEN s t (reallocate (at c.args.addr) c.args.layout.size None) told refl in
+      subst (λ (x : State). Reallocates g.row.SLLEN s (at c.args.addr) c.args.layout.size None x
+      × StandsFor g.row.FLLEN g.row.SLLEN (contents c.reallocate_block.new.memory c.reallocate_block.new.table) x × KeepsSpare c.self.inside.memory s c.reallocate_block.new.memory x) same
+      (told, stands, KeepsSpare-counted_first c.self.inside.memory c.used_block-block.new.memory counts.start counts.bytes s t c.reallocate_block.new.memory spare)
 
 pub invariant_of-self : goal.invariant_of-self
-invariant_of-self g c =
-    let (s, v, (u, holds, is)) = subst (λ (old : Contents). (s : State) × StandsFor g.row.FLLEN g.row.SLLEN old s × IsLive s (non_zero_usize_get c.args.addr) c.args.layout.align) (sym c.self.view_is) c.requires in
-    let at = (goal.at.invariant_of-self g c).After-used_block-block in
-    let (t, step, stands, spare) = c.in_err-moved.ensures.step s u (read_in g at v) (used_at g at s u v holds is) in
-    record { valid = c.self.invariant.valid; stands = (t, stands) }
-
-pub invariant_of-self-2 : goal.invariant_of-self-2
-invariant_of-self-2 g c =
-    let (s, v, (u, holds, is)) = subst (λ (old : Contents). (s : State) × StandsFor g.row.FLLEN g.row.SLLEN old s × IsLive s (non_zero_usize_get c.args.addr) c.args.layout.align) (sym c.self.view_is) c.requires in
-    let at = (goal.at.invariant_of-self-2 g c).After-used_block-block in
-    let (t, step, stands, spare) = c.in_ok-moved.ensures.step s u (read_in g at v) (used_at g at s u v holds is) in
-    record { valid = c.self.invariant.valid; stands = (t, stands) }
+invariant_of-self g c = IsAllocator-arrived (staying g c).1 c.self.inside.state.state (sym (bare-kept c.self.invariant)) c.self.invariant.valid
 
 pub returns-in_err-moved-clause-step : goal.returns-in_err-moved-clause-step
 returns-in_err-moved-clause-step g c =
-    subst (λ (old : Contents). (s : State) → StandsFor g.row.FLLEN g.row.SLLEN old s → IsLive s (non_zero_usize_get c.args.addr) c.args.layout.align
-    → (t : State) × Reallocates g.row.SLLEN s (non_zero_usize_get c.args.addr) c.args.layout.size (option_map non_zero_usize_get c.from_residual.result) t
-    × StandsFor g.row.FLLEN g.row.SLLEN (contents c.reallocate_block.new.memory c.reallocate_block.new.table) t × KeepsSpare old.memory s c.reallocate_block.new.memory t)
-    c.self.view_is (λ s v (u, holds, is).
-    let at = (goal.at.returns-in_err-moved-clause-step g c).After-used_block-block in
-    let counts = c.used_block-block.ensures.counts in
-    let (t, step, stands, spare) = c.in_err-moved.ensures.step s u (read_in g at v) (used_at g at s u v holds is) in (
-      t,
-      subst (λ o. Reallocates g.row.SLLEN s (non_zero_usize_get c.args.addr) c.args.layout.size (option_map non_zero_usize_get o) t) (sym c.from_residual.ensures) (record { block = u; holds = holds; step = step }),
-      stands,
-      KeepsSpare-counted_first c.self.inside.memory c.used_block-block.new.memory counts.start counts.bytes s t c.reallocate_block.new.memory spare,
-    ))
+    Steps-arrived (staying g c).1 c.self.inside.state.state (sym (bare-kept c.self.invariant)) c.args.self.now c.self.inside.memory c.self.inside.table c.self.inside.state.state c.self.view_is
+    (λ old. Reallocates g.row.SLLEN old (at c.args.addr) c.args.layout.size (reply c.from_residual.result))
+    (subst (λ o. Reallocates g.row.SLLEN (read_from c.self.inside.memory c.self.inside.state.state) (at c.args.addr) c.args.layout.size (reply o) (read_from c.self.inside.memory c.self.inside.state.state)) (sym c.from_residual.ensures) (staying g c).0)
+    (staying g c).2
+
+-- ---- the bytes that are copied
 
 pub returns-in_err-moved-clause-copied : goal.returns-in_err-moved-clause-copied
 returns-in_err-moved-clause-copied g c =
-    subst (λ (old : Contents). (s : State) (u : Used) → StandsFor g.row.FLLEN g.row.SLLEN old s → Holds s (non_zero_usize_get c.args.addr) u → u.align ≡ c.args.layout.align
-    → c.reallocate_block.new.memory.copied ≤ old.memory.copied + (usable u).len)
-    c.self.view_is (λ s u v holds is.
-    let at = (goal.at.returns-in_err-moved-clause-copied g c).After-used_block-block in
-    omega (arith, c.used_block-block.ensures.counts.copied, c.reallocate_block.ensures.copied s u (read_in g at v) (used_at g at s u v holds is)))
+    let before = (goal.at.returns-in_err-moved-clause-copied g c).After-used_block-block in
+    let (u, holds, is) = block g before in
+    let counted = ap (λ (o : Allocator). o.memory.copied) c.self.view_is in
+    let least = c.reallocate_block.ensures.copied (state g before) u (read_in g before) (used_at g before u holds is) in
+    let long = ap length (bytes_inside c.self.invariant c.args.self.now c.self.view_is (at c.args.addr) u holds) ∙ (c.self.invariant.stands.well_formed.used u holds.0).bytes in
+    omega (arith, c.used_block-block.ensures.counts.copied, least, long, counted)
 
 pub returns-clause-copied : goal.returns-clause-copied
 returns-clause-copied g c =
-    subst (λ (old : Contents). (s : State) (u : Used) → StandsFor g.row.FLLEN g.row.SLLEN old s → Holds s (non_zero_usize_get c.args.addr) u → u.align ≡ c.args.layout.align
-    → c.reallocate_block.new.memory.copied ≤ old.memory.copied + (usable u).len)
-    c.self.view_is (λ s u v holds is.
-    let at = (goal.at.returns-clause-copied g c).After-used_block-block in
-    omega (arith, c.used_block-block.ensures.counts.copied, c.reallocate_block.ensures.copied s u (read_in g at v) (used_at g at s u v holds is)))
+    let before = (goal.at.returns-clause-copied g c).After-used_block-block in
+    let (u, holds, is) = block g before in
+    let counted = ap (λ (o : Allocator). o.memory.copied) c.self.view_is in
+    let least = c.reallocate_block.ensures.copied (state g before) u (read_in g before) (used_at g before u holds is) in
+    let long = ap length (bytes_inside c.self.invariant c.args.self.now c.self.view_is (at c.args.addr) u holds) ∙ (c.self.invariant.stands.well_formed.used u holds.0).bytes in
+    omega (arith, c.used_block-block.ensures.counts.copied, least, long, counted)
+
+-- none, where the payload stays or takes from the block behind
+stays : (g : given.Over) (c : After-used_block-block g) (u : Used) (p : Plan) → Holds c.args.self.now.state (at c.args.addr) u
+    → or_else (in_place c.args.self.now.state u c.args.layout.size) (into_next c.args.self.now.state u c.args.layout.size) ≡ Some p
+    → (v : Used) × Holds (state g c) (at c.args.addr) v × (v.align ≡ c.args.layout.align) × (or_else (in_place (state g c) v c.args.layout.size) (into_next (state g c) v c.args.layout.size) ≡ Some p)
+stays g c u p held first =
+    let (v, holds, is) = block g c in
+    let inside : Holds (state g c) (at c.args.addr) u = subst (λ (o : Allocator). Holds o.state (at c.args.addr) u) (sym c.self.view_is) held in
+    let one : u ≡ v = Holds-unique c.self.invariant.stands.well_formed (at c.args.addr) u v inside holds in (
+      v,
+      holds,
+      is,
+      subst (λ (y : Used). or_else (in_place (state g c) y c.args.layout.size) (into_next (state g c) y c.args.layout.size) ≡ Some p) one
+          (subst (λ (o : Allocator). or_else (in_place o.state u c.args.layout.size) (into_next o.state u c.args.layout.size) ≡ Some p) (sym c.self.view_is) first),
+    )
 
 pub returns-in_err-moved-clause-stays : goal.returns-in_err-moved-clause-stays
-returns-in_err-moved-clause-stays g c =
-    subst (λ (old : Contents). (s : State) (u : Used) (p : Plan) → StandsFor g.row.FLLEN g.row.SLLEN old s → Holds s (non_zero_usize_get c.args.addr) u → u.align ≡ c.args.layout.align
-    → or_else (in_place s u c.args.layout.size) (into_next s u c.args.layout.size) ≡ Some p → c.reallocate_block.new.memory.copied ≡ old.memory.copied)
-    c.self.view_is (λ s u p v holds is first.
-    let at = (goal.at.returns-in_err-moved-clause-stays g c).After-used_block-block in
-    c.reallocate_block.ensures.stays s u p (read_in g at v) (used_at g at s u v holds is) first ∙ c.used_block-block.ensures.counts.copied)
+returns-in_err-moved-clause-stays g c = λ u p held first.
+    let before = (goal.at.returns-in_err-moved-clause-stays g c).After-used_block-block in
+    let (v, holds, is, planned) = stays g before u p held first in
+    c.reallocate_block.ensures.stays (state g before) v p (read_in g before) (used_at g before v holds is) planned ∙ c.used_block-block.ensures.counts.copied ∙ ap (λ (o : Allocator). o.memory.copied) c.self.view_is
 
 pub returns-clause-stays : goal.returns-clause-stays
-returns-clause-stays g c =
-    subst (λ (old : Contents). (s : State) (u : Used) (p : Plan) → StandsFor g.row.FLLEN g.row.SLLEN old s → Holds s (non_zero_usize_get c.args.addr) u → u.align ≡ c.args.layout.align
-    → or_else (in_place s u c.args.layout.size) (into_next s u c.args.layout.size) ≡ Some p → c.reallocate_block.new.memory.copied ≡ old.memory.copied)
-    c.self.view_is (λ s u p v holds is first.
-    let at = (goal.at.returns-clause-stays g c).After-used_block-block in
-    c.reallocate_block.ensures.stays s u p (read_in g at v) (used_at g at s u v holds is) first ∙ c.used_block-block.ensures.counts.copied)
+returns-clause-stays g c = λ u p held first.
+    let before = (goal.at.returns-clause-stays g c).After-used_block-block in
+    let (v, holds, is, planned) = stays g before u p held first in
+    c.reallocate_block.ensures.stays (state g before) v p (read_in g before) (used_at g before v holds is) planned ∙ c.used_block-block.ensures.counts.copied ∙ ap (λ (o : Allocator). o.memory.copied) c.self.view_is
+
+-- ---- the payload with another size
+
+module _ (g : given.Over) (c : After-new g) where
+  abbrev early : After-used_block-block g
+  early = (goal.at.returns-clause-step g c).After-used_block-block
+
+  moving : (t : State) × Reallocates g.row.SLLEN (state g early) (at c.args.addr) c.args.layout.size (Some c.in_ok-moved.moved) t
+      × StandsFor g.row.FLLEN g.row.SLLEN (contents c.reallocate_block.new.memory c.reallocate_block.new.table) t
+      × KeepsSpare c.self.inside.memory (state g early) c.reallocate_block.new.memory t
+  moving =
+      let (u, holds, is) = block g early in
+      let s = state g early in
+      let counts = c.used_block-block.ensures.counts in
+      let (t, step, stands, spare) = c.in_ok-moved.ensures.step s u (read_in g early) (used_at g early u holds is) in
+      (t, record { block = u; holds = holds; step = step }, stands, KeepsSpare-counted_first c.self.inside.memory c.used_block-block.new.memory counts.start counts.bytes s t c.reallocate_block.new.memory spare)
+
+  -- what is kept of the state is the one after
+  kept : (t : State) → Reallocates g.row.SLLEN (state g early) (at c.args.addr) c.args.layout.size (Some c.in_ok-moved.moved) t → c.reallocate.new.self.state ≡ bare t
+  kept t step =
+      c.reallocate.ensures ∙ (λ i. reallocated g.row.SLLEN (c.get-payload.ensures.value i) (c.size.ensures.value i) (sym (bare-kept c.self.invariant) i))
+      ∙ reallocated-bare c.self.invariant.stands.well_formed t (at c.args.addr) c.args.layout.size c.in_ok-moved.moved step
+
+  abbrev after : Allocator
+  after = allocator c.reallocate_block.new.memory c.reallocate_block.new.table c.reallocate.new.self.state
+
+  done : Steps g.row.FLLEN g.row.SLLEN c.args.self.now after (Reallocates g.row.SLLEN c.args.self.now.state (at c.args.addr) c.args.layout.size (Some c.in_ok-moved.moved))
+  done =
+      let (t, step, stands, spare) = moving in
+      Steps-arrived stands c.reallocate.new.self.state (kept t step) c.args.self.now c.self.inside.memory c.self.inside.table c.self.inside.state.state c.self.view_is
+      (λ old. Reallocates g.row.SLLEN old (at c.args.addr) c.args.layout.size (Some c.in_ok-moved.moved)) step spare
+
+  seen : SeesResized c.args.self.now.state after.state (at c.args.addr) c.args.layout.size c.args.layout.align c.in_ok-moved.moved
+  seen =
+      resized_seen (view_well_formed c.self.invariant c.args.self.now c.self.view_is) after.state (at c.args.addr) c.args.layout.size c.args.layout.align c.in_ok-moved.moved
+      (align_at-live c.args.self.now.state (at c.args.addr) c.args.layout.align c.requires)
+      (opened g.row.FLLEN g.row.SLLEN c.args.self.now after (Reallocates g.row.SLLEN c.args.self.now.state (at c.args.addr) c.args.layout.size (Some c.in_ok-moved.moved)) done).0
+
+  -- no payload is at the address 0
+  positive : 0 < c.in_ok-moved.moved
+  positive =
+      let (_, stood, _) = opened g.row.FLLEN g.row.SLLEN c.args.self.now after (Reallocates g.row.SLLEN c.args.self.now.state (at c.args.addr) c.args.layout.size (Some c.in_ok-moved.moved)) done in
+      let (u, (i, here), is) = align_at-live after.state c.in_ok-moved.moved c.args.layout.align seen.live in
+      omega (arith, here, IsUsed-after_start u ((well_formed after stood).used u i))
+
+pub invariant_of-self-2 : goal.invariant_of-self-2
+invariant_of-self-2 g c = let (t, step, stands, spare) = moving g c in IsAllocator-arrived stands c.reallocate.new.self.state (kept g c t step) c.self.invariant.valid
 
 pub returns-clause-step : goal.returns-clause-step
 returns-clause-step g c =
-    subst (λ (old : Contents). (s : State) → StandsFor g.row.FLLEN g.row.SLLEN old s → IsLive s (non_zero_usize_get c.args.addr) c.args.layout.align
-    → (t : State) × Reallocates g.row.SLLEN s (non_zero_usize_get c.args.addr) c.args.layout.size (option_map non_zero_usize_get c.new.result) t
-    × StandsFor g.row.FLLEN g.row.SLLEN (contents c.reallocate_block.new.memory c.reallocate_block.new.table) t × KeepsSpare old.memory s c.reallocate_block.new.memory t)
-    c.self.view_is (λ s v (u, holds, is).
-    let at = (goal.at.returns-clause-step g c).After-used_block-block in
-    let counts = c.used_block-block.ensures.counts in
-    let (t, step, stands, spare) = c.in_ok-moved.ensures.step s u (read_in g at v) (used_at g at s u v holds is) in
-    let answer = (number c.new.result c.in_ok-moved.moved c.new.ensures).1 (positive stands (is_live g at u v holds is c.in_ok-moved.moved t step)) in (
-      t,
-      subst (λ o. Reallocates g.row.SLLEN s (non_zero_usize_get c.args.addr) c.args.layout.size o t) (sym answer) (record { block = u; holds = holds; step = step }),
-      stands,
-      KeepsSpare-counted_first c.self.inside.memory c.used_block-block.new.memory counts.start counts.bytes s t c.reallocate_block.new.memory spare,
-    ))
+    subst (λ o. Steps g.row.FLLEN g.row.SLLEN c.args.self.now (after g c) (Reallocates g.row.SLLEN c.args.self.now.state (at c.args.addr) c.args.layout.size o))
+    (sym ((number c.new.result c.in_ok-moved.moved c.new.ensures).1 (positive g c))) (done g c)
 
-pub returns-clause-placed : goal.returns-clause-placed
-returns-clause-placed g c =
-    let (s, v, (u, holds, is)) = subst (λ (old : Contents). (s : State) × StandsFor g.row.FLLEN g.row.SLLEN old s × IsLive s (non_zero_usize_get c.args.addr) c.args.layout.align) (sym c.self.view_is) c.requires in
-    let at = (goal.at.returns-clause-placed g c).After-used_block-block in
-    let (t, step, stands, spare) = c.in_ok-moved.ensures.step s u (read_in g at v) (used_at g at s u v holds is) in
-    on_some (λ addr. (t : State) × StandsFor g.row.FLLEN g.row.SLLEN (contents c.reallocate_block.new.memory c.reallocate_block.new.table) t × IsLive t addr c.args.layout.align)
-    c.new.result c.in_ok-moved.moved c.new.ensures (t, stands, is_live g at u v holds is c.in_ok-moved.moved t step)
+pub returns-clause-live : goal.returns-clause-live
+returns-clause-live g c = on_some (λ to. align_at (after g c).state to ≡ Some c.args.layout.align) c.new.result c.in_ok-moved.moved c.new.ensures (seen g c).live
 
 pub returns-clause-sized : goal.returns-clause-sized
-returns-clause-sized g c =
-    let (s, v, (u, holds, is)) = subst (λ (old : Contents). (s : State) × StandsFor g.row.FLLEN g.row.SLLEN old s × IsLive s (non_zero_usize_get c.args.addr) c.args.layout.align) (sym c.self.view_is) c.requires in
-    let at = (goal.at.returns-clause-sized g c).After-used_block-block in
-    let (t, step, stands, spare) = c.in_ok-moved.ensures.step s u (read_in g at v) (used_at g at s u v holds is) in
-    on_some (λ addr. (t : State) × StandsFor g.row.FLLEN g.row.SLLEN (contents c.reallocate_block.new.memory c.reallocate_block.new.table) t × IsPlaced t addr c.args.layout.size c.args.layout.align)
-    c.new.result c.in_ok-moved.moved c.new.ensures (t, stands, is_placed g at u v holds is c.in_ok-moved.moved t step)
+returns-clause-sized g c = on_some (λ to. c.args.layout.size ≤ length (bytes_at (after g c).state to)) c.new.result c.in_ok-moved.moved c.new.ensures (seen g c).sized
+
+pub returns-clause-few : goal.returns-clause-few
+returns-clause-few g c = on_some (λ to. length (bytes_at (after g c).state to) < c.args.layout.size + 32) c.new.result c.in_ok-moved.moved c.new.ensures (seen g c).few
+
+pub returns-clause-kept : goal.returns-clause-kept
+returns-clause-kept g c = on_some (λ to. Keeps (bytes_at c.args.self.now.state (at c.args.addr)) (bytes_at (after g c).state to)) c.new.result c.in_ok-moved.moved c.new.ensures (seen g c).kept
+
+pub returns-clause-new : goal.returns-clause-new
+returns-clause-new g c =
+    on_some (λ to. to ≢ at c.args.addr → align_at c.args.self.now.state to ≡ None) c.new.result c.in_ok-moved.moved c.new.ensures (seen g c).new
+
+pub returns-clause-aligns : goal.returns-clause-aligns
+returns-clause-aligns g c =
+    on_some (λ to. (a : ℕ) → a ≢ at c.args.addr → a ≢ to → align_at (after g c).state a ≡ align_at c.args.self.now.state a) c.new.result c.in_ok-moved.moved c.new.ensures (seen g c).aligns
+
+pub returns-clause-bytes : goal.returns-clause-bytes
+returns-clause-bytes g c =
+    on_some (λ to. (a : ℕ) → a ≢ at c.args.addr → a ≢ to → bytes_at (after g c).state a ≡ bytes_at c.args.self.now.state a) c.new.result c.in_ok-moved.moved c.new.ensures (seen g c).bytes
+
+pub returns-clause-same : goal.returns-clause-same
+returns-clause-same g c = let some = positive g c in on_none c.new.result c.in_ok-moved.moved c.new.ensures (λ zero. absurd (omega arith))
 
 pub returns-clause-refused : goal.returns-clause-refused
-returns-clause-refused g c =
-    let (s, v, (u, holds, is)) = subst (λ (old : Contents). (s : State) × StandsFor g.row.FLLEN g.row.SLLEN old s × IsLive s (non_zero_usize_get c.args.addr) c.args.layout.align) (sym c.self.view_is) c.requires in
-    let at = (goal.at.returns-clause-refused g c).After-used_block-block in
-    let (t, step, stands, spare) = c.in_ok-moved.ensures.step s u (read_in g at v) (used_at g at s u v holds is) in
-    let some = positive stands (is_live g at u v holds is c.in_ok-moved.moved t step) in
-    on_none c.new.result c.in_ok-moved.moved c.new.ensures (λ zero. absurd (omega arith))
+returns-clause-refused g c = let some = positive g c in on_none c.new.result c.in_ok-moved.moved c.new.ensures (λ zero. absurd (omega arith))
+
+pub returns-clause-chunks : goal.returns-clause-chunks
+returns-clause-chunks g c =
+    chunks-reallocated g.row.SLLEN c.args.self.now.state (after g c).state (at c.args.addr) c.args.layout.size (Some c.in_ok-moved.moved)
+    (opened g.row.FLLEN g.row.SLLEN c.args.self.now (after g c) (Reallocates g.row.SLLEN c.args.self.now.state (at c.args.addr) c.args.layout.size (Some c.in_ok-moved.moved)) (done g c)).0

@@ -3,8 +3,8 @@ use Rattle.std.proofs.Math.Path.{ap₂}
 use Rattle.std.specs.Int.NonZero.{non_zero_usize_get}
 use Rattle.std.specs.Map.{set_value}
 use Rattle.rlsf_uses.specs.Handled.{lists_in, place_at}
-use Rattle.rlsf_uses.specs.Stored.{HasAmong, bytes_at, place}
-use Rattle.rlsf_uses.proofs.HandledStores.{IsAt, IsSomeAnd-is, Shows, absent, stored_at}
+use Rattle.rlsf_uses.specs.Stored.{HasAmong, bytes_at_place, place}
+use Rattle.rlsf_uses.proofs.HandledStores.{IsAt, IsSomeAnd-is, Shows, absent, same_items, stored_at}
 use Rattle.rlsf_uses.proofs.items.Items.append.Goals as goal
 
 pub returns-in_default-clause-unknown : goal.returns-in_default-clause-unknown
@@ -28,14 +28,11 @@ returns-in_default-append-clause-unknown c =
     rw (← c.self.view_is) ((λ e. cc), λ none. cc)
 
 pub invariant_of-self : goal.invariant_of-self
-invariant_of-self c =
-    let a = stored_at c.self.inside.handles c.self.invariant c.args.handle c.in-Some.spot (sym c.get.ensures ∙ c.in-Some.is) in
-    (a.same c.append.new.self c.append.ensures.place (c.in_default-append.ensures.refused a.before a.after _ a.has refl (ap (λ h. h.align) c.self.view_is ∙ c.requires) refl)).0
+invariant_of-self c = (c.in_default-append.ensures.refused _ c.self.invariant).0
 
 pub returns-in_default-append-clause-refused : goal.returns-in_default-append-clause-refused
 returns-in_default-append-clause-refused c =
-    let a = stored_at c.self.inside.handles c.self.invariant c.args.handle c.in-Some.spot (sym c.get.ensures ∙ c.in-Some.is) in
-    (a.same c.append.new.self c.append.ensures.place (c.in_default-append.ensures.refused a.before a.after _ a.has refl (ap (λ h. h.align) c.self.view_is ∙ c.requires) refl)).1 ∙ c.self.view_is
+    (same_items c.self.inside.handles c.self.invariant c.append.new.self c.self.inside.handles c.append.ensures.place (c.in_default-append.ensures.refused _ c.self.invariant) refl refl).1 ∙ c.self.view_is
 
 -- what is stored at the handle
 found : (c : goal.After-set) → IsAt c.self.inside.store c.self.inside.align c.self.inside.handles c.args.handle c.in-Some.spot
@@ -43,11 +40,11 @@ found c = stored_at c.self.inside.handles c.self.invariant c.args.handle c.in-So
 
 -- the handle with more bytes
 grown : (c : goal.After-set) → Shows c.self.inside.store c.self.inside.align
-    (set_value (nat_eq c.args.handle) (lists_in c.self.inside.store c.self.inside.align c.self.inside.handles.rows) (bytes_at c.self.inside.store.heap.memory (place_at c.self.inside.align c.in-Some.spot) ++ c.args.more.now)) c.self.inside.handles.next c.append.new.self c.set.new.self
+    (set_value (nat_eq c.args.handle) (lists_in c.self.inside.store c.self.inside.align c.self.inside.handles.rows) (bytes_at_place c.self.inside.store.heap.memory (place_at c.self.inside.align c.in-Some.spot) ++ c.args.more.now)) c.self.inside.handles.next c.append.new.self c.set.new.self
 grown c =
     let a = found c in
     let one = ap (λ h. h.align) c.self.view_is ∙ c.requires in
-    let bytes = bytes_at c.self.inside.store.heap.memory (place_at c.self.inside.align c.in-Some.spot) ++ c.args.more.now in
+    let bytes = bytes_at_place c.self.inside.store.heap.memory (place_at c.self.inside.align c.in-Some.spot) ++ c.args.more.now in
     let new = c.in-Some-append.ensures.stored a.before a.after _ a.has refl one refl in
     let long : c.in-Some.spot.len + length c.args.more.now ≡ c.in-Some-checked_add.len = omega (arith, c.in-Some-checked_add.ensures.1) in
     let there = ap₂ (place (non_zero_usize_get c.in-Some-append.addr)) (sym one) long in

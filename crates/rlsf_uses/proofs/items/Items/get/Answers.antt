@@ -2,7 +2,7 @@ use Rattle.std.proofs.Common.{ℕ, List, Some, nat_eq, refl, sym, ap, ◌∙◌}
 use Rattle.std.specs.Option.{option_map}
 use Rattle.rlsf_uses.specs.Handled.{place_at}
 use Rattle.rlsf_uses.specs.declared.handles.Spot.{Spot}
-use Rattle.rlsf_uses.specs.Stored.{bytes_at}
+use Rattle.rlsf_uses.specs.Stored.{bytes_at_place}
 use Rattle.rlsf_uses.proofs.Entries.{lookup-map_values}
 use Rattle.rlsf_uses.proofs.HandledStores.{absent, stored_at}
 use Rattle.rlsf_uses.proofs.items.Items.get.Goals as goal
@@ -17,5 +17,5 @@ read-requires c =
 
 pub returns-clause-known : goal.returns-clause-known
 returns-clause-known c =
-    let here : Spot → List ℕ = λ s. bytes_at c.self.inside.store.heap.memory (place_at c.self.inside.align s) in
+    let here : Spot → List ℕ = λ s. bytes_at_place c.self.inside.store.heap.memory (place_at c.self.inside.align s) in
     rw (← c.self.view_is) (lookup-map_values here (nat_eq c.args.handle) c.self.inside.handles.rows ∙ ap (option_map here) (sym c.get.ensures ∙ c.in-Some.is) ∙ ap Some (sym c.read.ensures.bytes))

@@ -5,7 +5,7 @@ use Rattle.std.specs.List.{splice}
 use Rattle.std.specs.Map.{set_value}
 use Rattle.rlsf_uses.specs.Handled.{lists_in, place_at}
 use Rattle.rlsf_uses.specs.Objects.{set_answer}
-use Rattle.rlsf_uses.specs.Stored.{bytes_at}
+use Rattle.rlsf_uses.specs.Stored.{bytes_at_place}
 use Rattle.rlsf_uses.specs.declared.objects.SetError.TheVariants.{OutOfRange}
 use Rattle.rlsf_uses.proofs.HandledStores.{IsAt, IsSomeAnd-is, Shows, absent, stored_at}
 use Rattle.rlsf_uses.proofs.items.Items.write.Goals as goal
@@ -25,7 +25,7 @@ returns-in_default-clause-answer c =
 pub returns-then-offset-spot-clause-answer : goal.returns-then-offset-spot-clause-answer
 returns-then-offset-spot-clause-answer c =
     let a = stored_at c.self.inside.handles c.self.invariant c.args.handle c.in-Some.spot (sym c.get.ensures ∙ c.in-Some.is) in
-    let past : length (bytes_at c.self.inside.store.heap.memory (place_at c.self.inside.align c.in-Some.spot)) < c.args.offset + length c.args.bytes.now = elim c.then-offset-spot.branch [
+    let past : length (bytes_at_place c.self.inside.store.heap.memory (place_at c.self.inside.align c.in-Some.spot)) < c.args.offset + length c.args.bytes.now = elim c.then-offset-spot.branch [
       | then-offset-spot-via-then-offset-spot w ↦ omega (arith, a.len)
       | then-offset-spot-via-else-offset-spot+then-bytes-spot w ↦ omega (arith, a.len)
     ] in
@@ -42,7 +42,7 @@ found c = stored_at c.self.inside.handles c.self.invariant c.args.handle c.in-So
 
 -- the handle with other bytes
 written : (c : goal.After-write) → Shows c.self.inside.store c.self.inside.align
-    (set_value (nat_eq c.args.handle) (lists_in c.self.inside.store c.self.inside.align c.self.inside.handles.rows) (splice (bytes_at c.self.inside.store.heap.memory (place_at c.self.inside.align c.in-Some.spot)) c.args.offset (c.args.offset + length c.args.bytes.now) c.args.bytes.now)) c.self.inside.handles.next
+    (set_value (nat_eq c.args.handle) (lists_in c.self.inside.store c.self.inside.align c.self.inside.handles.rows) (splice (bytes_at_place c.self.inside.store.heap.memory (place_at c.self.inside.align c.in-Some.spot)) c.args.offset (c.args.offset + length c.args.bytes.now) c.args.bytes.now)) c.self.inside.handles.next
     c.write.new.self c.self.inside.handles
 written c =
     let a = found c in

@@ -2,7 +2,7 @@ use Rattle.std.proofs.Common.{◌≡◌, ◌<◌, [], ◌++◌, length, drop, ma
 use Rattle.std.proofs.lemmas.List.{length-take}
 use Rattle.std.specs.Option.{IsSomeAnd}
 use Rattle.rlsf_uses.specs.Queue.{oldest, place_of_entry}
-use Rattle.rlsf_uses.specs.Stored.{HasPlaces, HasSame, bytes_at}
+use Rattle.rlsf_uses.specs.Stored.{HasPlaces, HasSame, bytes_at_place}
 use Rattle.rlsf_uses.proofs.Queues.{Oldest, oldest_stored}
 use Rattle.rlsf_uses.proofs.messages.Messages.pop.Goals as goal
 use Rattle.rlsf_uses.proofs.messages.Messages.pop.Goals.{After-remove, In-Some}
@@ -45,7 +45,7 @@ returns-clause-ok c =
     let rest = (left at.After-remove o).1 in
     let bytes = c.copy_from_slice.ensures.after ∙ c.read.ensures.bytes in
     rw (← c.self.view_is) (
-      bytes_at c.self.inside.store.heap.memory (place_of_entry c.in-Some.field-0.now),
+      bytes_at_place c.self.inside.store.heap.memory (place_of_entry c.in-Some.field-0.now),
       cc (o.messages, rest),
       sym o.len,
       ap (λ bs. bs ++ drop c.in-Some.field-0.now.len c.args.into.now) bytes,

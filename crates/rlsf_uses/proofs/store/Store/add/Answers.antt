@@ -1,31 +1,29 @@
-use Rattle.std.proofs.Common.{◌≡◌, [], List, None, Some, length, take, refl, sym, ◌∙◌, ap, subst, ◌+◌, ◌≤◌, lit<, arith}
+use Rattle.std.proofs.Common.{◌≡◌, [], List, Some, length, take, refl, sym, ◌∙◌, ap, subst, ◌+◌, ◌≤◌, lit<, arith}
 use Rattle.std.specs.Prelude.{IfNone, IsSome}
 use Rattle.std.specs.Int.NonZero.{non_zero_usize_get}
 use Rattle.rlsf_base.specs.Sizes.{pool_size_to_contain_allocation}
 use Rattle.rlsf_base.specs.Space.{range_of, SamePlace}
 use Rattle.rlsf_tlsf.specs.Lending.{written}
-use Rattle.rlsf_uses.specs.Stored.{FitsPool, HasAmong, HasPlaces, KeepsAll, Place, StoreContents, place, store_contents}
+use Rattle.rlsf_uses.specs.Stored.{FitsPool, HasAmong, HasPlaces, KeepsAll, Place, StoreContents, place, store_contents, stored}
 use Rattle.rlsf_uses.proofs.Fronts.{front-append}
 use Rattle.rlsf_uses.proofs.Places.{HasAmong-added, HasSame-stored, IsStore-none}
-use Rattle.rlsf_uses.proofs.Stores.{IsStore-added, IsStore-refused, empty_has_room}
+use Rattle.rlsf_uses.proofs.Stores.{IsStore-allocated, IsStore-filled, IsStore-refused, empty_has_room}
 use Rattle.rlsf_uses.proofs.store.Store.add.Goals as goal
 
 pub returns-in_err-addr-clause-refused : goal.returns-in_err-addr-clause-refused
 returns-in_err-addr-clause-refused c =
-    let layout = c.in-Ok.layout in
     subst (λ (old : StoreContents). IfNone c.from_residual.result (KeepsAll old (store_contents c.allocate.new.self c.self.inside.pool))) c.self.view_is
     (subst (λ o. IfNone o (KeepsAll (store_contents c.self.inside.heap c.self.inside.pool) (store_contents c.allocate.new.self c.self.inside.pool))) (sym c.from_residual.ensures)
-    (λ places has. HasSame-stored places has (λ all store. IsStore-refused layout.size layout.align layout.valid.aligned all store c.in_err-addr.ensures.step c.in_err-addr.ensures.place)))
+    (λ places has. HasSame-stored places has (λ all. IsStore-refused c.allocate.new.self _ all c.in_err-addr.ensures.step c.in_err-addr.ensures.same c.in_err-addr.ensures.place)))
 
 pub returns-in_err-addr-clause-room : goal.returns-in_err-addr-clause-room
 returns-in_err-addr-clause-room c =
     let layout = c.in-Ok.layout in
     subst (λ (old : StoreContents). HasPlaces old [] → FitsPool (range_of old.heap.memory) (length c.args.bytes.now) 1 → IsSome c.from_residual.result) c.self.view_is
     (λ has (e, told, long).
-    let store = IsStore-none has in
-    let (t, step, _, _) = c.in_err-addr.ensures.step store.state store.stands in
     let (size, align) = c.in-Ok.ensures.layout in
-    absurd (empty_has_room store layout.size layout.align (e, subst (λ n. pool_size_to_contain_allocation 59 8 n layout.align ≡ Some e) (sym size) (subst (λ n. pool_size_to_contain_allocation 59 8 (length c.args.bytes.now) n ≡ Some e) (sym align) told), long) t None step refl))
+    let fits : FitsPool (range_of c.self.inside.heap.memory) layout.size layout.align = (e, subst (λ n. pool_size_to_contain_allocation 59 8 n layout.align ≡ Some e) (sym size) (subst (λ n. pool_size_to_contain_allocation 59 8 (length c.args.bytes.now) n ≡ Some e) (sym align) told), long) in
+    absurd (empty_has_room c.allocate.new.self layout.size layout.align fits c.in_err-addr.ensures.step (IsStore-none has)))
 
 pub returns-clause-stored : goal.returns-clause-stored
 returns-clause-stored c =
@@ -37,27 +35,25 @@ returns-clause-stored c =
     let new = store_contents (written c.allocate.new.self addr (length lent) w) c.self.inside.pool in
     subst (λ (old : StoreContents). (places : List Place) → HasPlaces old places → HasAmong old new places [] (place addr 1 (length front)) front) c.self.view_is
     (λ places has. subst (λ n. HasAmong (store_contents c.self.inside.heap c.self.inside.pool) new places [] (place addr n (length front)) front) c.in-Ok.ensures.layout.1
-    (HasAmong-added places addr layout.align front (length front) refl has (λ before after store. IsStore-added layout.size layout.align addr layout.valid.aligned lent w before after store front c.in_ok-addr.ensures.step c.payload_mut.ensures.meaning c.write_at.ensures.len
-    (ap (take (length front)) c.write_at.ensures.bytes ∙ front-append [] lent front 0 refl refl) c.in_ok-addr.ensures.place (c.payload_mut.ensures.place w))))
+    (HasAmong-added places addr layout.align front (length front) refl has (λ before after store.
+    let allocated = IsStore-allocated c.allocate.new.self layout.size layout.align addr layout.valid.aligned before after c.in_ok-addr.ensures.step c.in_ok-addr.ensures.place store in
+    let writes : take (length front) w ≡ front = ap (take (length front)) c.write_at.ensures.bytes ∙ front-append [] lent front 0 refl refl in
+    IsStore-filled before after (stored addr layout.align []) refl allocated (written c.allocate.new.self addr (length lent) w) w front writes (c.payload_mut.ensures.meaning w c.write_at.ensures.len) (c.payload_mut.ensures.rest w).1)))
 
 pub payload_mut-requires : goal.payload_mut-requires
-payload_mut-requires c =
-    let (t, stands, (u, held, aligned, enough)) = c.in_ok-addr.ensures.sized in
-    (lit< tt, (t, stands, (u, held)))
+payload_mut-requires c = (lit< tt, subst IsSome (sym c.in_ok-addr.ensures.live) refl)
 
 pub returns-clause-place : goal.returns-clause-place
 returns-clause-place c =
     let first = c.in_ok-addr.ensures.place in
-    let then = c.payload_mut.ensures.place c.write_at.new.payload in
+    let then = (c.payload_mut.ensures.rest c.write_at.new.payload).1 in
     subst (λ (old : StoreContents). SamePlace old.heap.memory (written c.allocate.new.self (non_zero_usize_get c.in_ok-addr.addr) (length c.payload_mut.result.now) c.write_at.new.payload).memory) c.self.view_is
     (then.0 ∙ first.0, then.1 ∙ first.1)
 
 pub returns-clause-touches : goal.returns-clause-touches
 returns-clause-touches c =
     subst (λ (old : StoreContents). (written c.allocate.new.self (non_zero_usize_get c.in_ok-addr.addr) (length c.payload_mut.result.now) c.write_at.new.payload).memory.touches ≤ old.heap.memory.touches + 30) c.self.view_is
-    (omega (arith, c.in_ok-addr.ensures.touches))
+    (omega (arith, c.in_ok-addr.ensures.touches, (c.payload_mut.ensures.rest c.write_at.new.payload).3))
 
 pub write_at-requires : goal.write_at-requires
-write_at-requires c =
-    let (t, stands, (u, held, aligned, enough)) = c.in_ok-addr.ensures.sized in
-    omega (arith, c.payload_mut.ensures.len t u stands held, enough, c.in-Ok.ensures.layout.0)
+write_at-requires c = omega (arith, ap length c.payload_mut.ensures.value, c.in_ok-addr.ensures.sized, c.in-Ok.ensures.layout.0)

@@ -1,26 +1,25 @@
-use Rattle.std.proofs.Common.{◌≡◌, ◌≤◌, [], List, None, length, replicate, take, arith, refl, sym, ◌∙◌, ap, subst, ◌+◌, lit<}
+use Rattle.std.proofs.Common.{◌≡◌, ◌≤◌, ℕ, [], List, length, replicate, take, arith, refl, sym, ◌∙◌, ap, subst, ◌+◌, lit<}
 use Rattle.std.proofs.lemmas.List.{length-replicate, take-replicate}
 use Rattle.std.specs.Prelude.{IfNone, IsSome}
 use Rattle.std.specs.Int.NonZero.{non_zero_usize_get}
 use Rattle.rlsf_base.specs.Space.{range_of, SamePlace}
 use Rattle.rlsf_tlsf.specs.Lending.{written}
-use Rattle.rlsf_uses.specs.Stored.{FitsPool, HasAmong, HasPlaces, KeepsAll, Place, StoreContents, place, store_contents}
+use Rattle.rlsf_uses.specs.Stored.{FitsPool, HasAmong, HasPlaces, KeepsAll, Place, StoreContents, place, store_contents, stored}
 use Rattle.rlsf_uses.proofs.Places.{HasAmong-added, HasSame-stored, IsStore-none}
-use Rattle.rlsf_uses.proofs.Stores.{IsStore-added, IsStore-refused, empty_has_room}
+use Rattle.rlsf_uses.proofs.Stores.{IsStore-allocated, IsStore-filled, IsStore-refused, empty_has_room}
 use Rattle.rlsf_uses.proofs.store.Store.add_zeros.Goals as goal
 
 pub returns-in_err-addr-clause-refused : goal.returns-in_err-addr-clause-refused
 returns-in_err-addr-clause-refused c =
-    let layout = c.args.layout in
     subst (λ (old : StoreContents). IfNone c.from_residual.result (KeepsAll old (store_contents c.allocate.new.self c.self.inside.pool))) c.self.view_is
     (subst (λ o. IfNone o (KeepsAll (store_contents c.self.inside.heap c.self.inside.pool) (store_contents c.allocate.new.self c.self.inside.pool))) (sym c.from_residual.ensures)
-    (λ places has. HasSame-stored places has (λ all store. IsStore-refused layout.size layout.align layout.valid.aligned all store c.in_err-addr.ensures.step c.in_err-addr.ensures.place)))
+    (λ places has. HasSame-stored places has (λ all. IsStore-refused c.allocate.new.self _ all c.in_err-addr.ensures.step c.in_err-addr.ensures.same c.in_err-addr.ensures.place)))
 
 pub returns-in_err-addr-clause-room : goal.returns-in_err-addr-clause-room
 returns-in_err-addr-clause-room c =
     let layout = c.args.layout in
     subst (λ (old : StoreContents). HasPlaces old [] → FitsPool (range_of old.heap.memory) layout.size layout.align → IsSome c.from_residual.result) c.self.view_is
-    (λ has fits. let store = IsStore-none has in let (t, step, _, _) = c.in_err-addr.ensures.step store.state store.stands in absurd (empty_has_room store layout.size layout.align fits t None step refl))
+    (λ has fits. absurd (empty_has_room c.allocate.new.self layout.size layout.align fits c.in_err-addr.ensures.step (IsStore-none has)))
 
 pub returns-clause-stored : goal.returns-clause-stored
 returns-clause-stored c =
@@ -28,29 +27,27 @@ returns-clause-stored c =
     let addr = non_zero_usize_get c.in_ok-addr.addr in
     let lent = c.payload_mut.result.now in
     let w = c.fill.new.self in
-    let front = replicate layout.size 0 in
-    let (t, stands, (u, held, aligned, enough)) = c.in_ok-addr.ensures.sized in
-    let long = c.payload_mut.ensures.len t u stands held in
-    let room : layout.size ≤ length lent = omega (arith, long, enough) in
+    let front : List ℕ = replicate layout.size 0 in
+    let room : layout.size ≤ length lent = omega (arith, ap length c.payload_mut.ensures.value, c.in_ok-addr.ensures.sized) in
     let zeros : w ≡ replicate (length lent) 0 = c.fill.ensures.after (λ y same. same) in
     let begins : take (length front) w ≡ front = ap (λ n. take n w) (length-replicate layout.size 0) ∙ ap (take layout.size) zeros ∙ take-replicate layout.size (length lent) 0 room in
     subst (λ (old : StoreContents). (places : List Place) → HasPlaces old places → HasAmong old (store_contents (written c.allocate.new.self addr (length lent) w) c.self.inside.pool) places [] (place addr layout.align layout.size) front) c.self.view_is
     (λ places has. HasAmong-added places addr layout.align front layout.size (length-replicate layout.size 0) has
-    (λ before after store. IsStore-added layout.size layout.align addr layout.valid.aligned lent w before after store front c.in_ok-addr.ensures.step c.payload_mut.ensures.meaning c.fill.ensures.len begins c.in_ok-addr.ensures.place (c.payload_mut.ensures.place w)))
+    (λ before after store.
+    let allocated = IsStore-allocated c.allocate.new.self layout.size layout.align addr layout.valid.aligned before after c.in_ok-addr.ensures.step c.in_ok-addr.ensures.place store in
+    IsStore-filled before after (stored addr layout.align []) refl allocated (written c.allocate.new.self addr (length lent) w) w front begins (c.payload_mut.ensures.meaning w c.fill.ensures.len) (c.payload_mut.ensures.rest w).1))
 
 pub payload_mut-requires : goal.payload_mut-requires
-payload_mut-requires c =
-    let (t, stands, (u, held, aligned, enough)) = c.in_ok-addr.ensures.sized in
-    (lit< tt, (t, stands, (u, held)))
+payload_mut-requires c = (lit< tt, subst IsSome (sym c.in_ok-addr.ensures.live) refl)
 
 pub returns-clause-place : goal.returns-clause-place
 returns-clause-place c =
     let first = c.in_ok-addr.ensures.place in
-    let then = c.payload_mut.ensures.place c.fill.new.self in
+    let then = (c.payload_mut.ensures.rest c.fill.new.self).1 in
     subst (λ (old : StoreContents). SamePlace old.heap.memory (written c.allocate.new.self (non_zero_usize_get c.in_ok-addr.addr) (length c.payload_mut.result.now) c.fill.new.self).memory) c.self.view_is
     (then.0 ∙ first.0, then.1 ∙ first.1)
 
 pub returns-clause-touches : goal.returns-clause-touches
 returns-clause-touches c =
     subst (λ (old : StoreContents). (written c.allocate.new.self (non_zero_usize_get c.in_ok-addr.addr) (length c.payload_mut.result.now) c.fill.new.self).memory.touches ≤ old.heap.memory.touches + 30) c.self.view_is
-    (omega (arith, c.in_ok-addr.ensures.touches))
+    (omega (arith, c.in_ok-addr.ensures.touches, (c.payload_mut.ensures.rest c.fill.new.self).3))

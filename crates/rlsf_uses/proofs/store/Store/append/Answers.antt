@@ -1,32 +1,25 @@
-use Rattle.std.proofs.Common.{◌≡◌, ◌+◌, ◌≤◌, ◌∷◌, ◌++◌, ℕ, List, length, length-append, take, lit<, arith, refl, sym, ◌∙◌, ap, subst}
+use Rattle.std.proofs.Common.{◌≡◌, ◌+◌, ◌≤◌, ◌∷◌, ◌++◌, List, length, length-append, take, IsSome, Some, lit<, arith, refl, sym, ◌∙◌, ap, subst}
 use Rattle.std.specs.Prelude.{IfNone}
 use Rattle.std.specs.Int.NonZero.{non_zero_usize_get}
 use Rattle.rlsf_base.specs.Space.{SamePlace}
 use Rattle.rlsf_tlsf.specs.Lending.{written}
-use Rattle.rlsf_uses.specs.Stored.{HasAmong, HasPlaces, HasSame, Place, StoreContents, bytes_at, place, store_contents, stored}
+use Rattle.rlsf_uses.specs.Stored.{HasAmong, HasPlaces, KeepsAll, Place, StoreContents, bytes_at_place, place, store_contents, stored}
 use Rattle.rlsf_uses.proofs.Fronts.{front-append}
-use Rattle.rlsf_uses.proofs.Places.{HasAmong-changed, HasSame-live, among}
-use Rattle.rlsf_uses.proofs.Stores.{IsLive-stored, IsStore-not_resized, IsStore-resized, IsStore-written}
+use Rattle.rlsf_uses.proofs.Places.{HasAmong-changed, HasSame-stored, among}
+use Rattle.rlsf_uses.proofs.Stores.{IsStore-filled, IsStore-refused, IsStore-resized, front_stored, live_stored}
 use Rattle.rlsf_uses.proofs.store.Store.append.Goals as goal
 
 pub reallocate-requires : goal.reallocate-requires
 reallocate-requires c =
     let (before, after, p, has, at, aligned, long) = subst (λ (old : StoreContents). (before after : List Place) × (p : Place) × HasPlaces old (before ++ p ∷ after) × (p.addr ≡ non_zero_usize_get c.args.addr) × (p.align ≡ 1) × (p.len ≡ c.args.len)) (sym c.self.view_is) c.requires in
     let a = among before after p has in
-    (lit< tt, (a.is.state, a.is.stands, IsLive-stored a.front a.back a.here a.is (ap (λ q. q.addr) a.here_at ∙ at) (ap (λ q. q.align) a.here_at ∙ aligned ∙ sym c.in-Ok.ensures.layout.1)))
-
--- what is kept where a call is refused
-abbrev Stays : StoreContents → StoreContents → ℕ → ℕ → Type 0
-Stays v w addr len = (before after : List Place) (p : Place) → HasPlaces v (before ++ p ∷ after) → p.addr ≡ addr → p.align ≡ 1 → p.len ≡ len → HasSame v w (before ++ p ∷ after)
+    (lit< tt, live_stored a.front a.back a.here (ap (λ q. q.addr) a.here_at ∙ at) a.is ∙ ap Some (ap (λ q. q.align) a.here_at ∙ aligned ∙ sym c.in-Ok.ensures.layout.1))
 
 pub returns-in_err-to-clause-refused : goal.returns-in_err-to-clause-refused
 returns-in_err-to-clause-refused c =
-    let addr = non_zero_usize_get c.args.addr in
-    let new = store_contents c.reallocate.new.self c.self.inside.pool in
-    subst (λ (old : StoreContents). IfNone c.from_residual-in_err-to.result (Stays old new addr c.args.len)) c.self.view_is
-    (subst (λ o. IfNone o (Stays (store_contents c.self.inside.heap c.self.inside.pool) new addr c.args.len)) (sym c.from_residual-in_err-to.ensures)
-    (λ before after p has at aligned long. HasSame-live before after p has at (aligned ∙ sym c.in-Ok.ensures.layout.1)
-    (λ all store live. IsStore-not_resized c.in-Ok.layout.size all store live c.in_err-to.ensures.step c.in_err-to.ensures.place)))
+    subst (λ (old : StoreContents). IfNone c.from_residual-in_err-to.result (KeepsAll old (store_contents c.reallocate.new.self c.self.inside.pool))) c.self.view_is
+    (subst (λ o. IfNone o (KeepsAll (store_contents c.self.inside.heap c.self.inside.pool) (store_contents c.reallocate.new.self c.self.inside.pool))) (sym c.from_residual-in_err-to.ensures)
+    (λ places has. HasSame-stored places has (λ all. IsStore-refused c.reallocate.new.self _ all c.in_err-to.ensures.step c.in_err-to.ensures.same c.in_err-to.ensures.place)))
 
 pub returns-clause-stored : goal.returns-clause-stored
 returns-clause-stored c =
@@ -36,36 +29,34 @@ returns-clause-stored c =
     let lent = c.payload_mut.result.now in
     let w = c.write_at.new.payload in
     subst (λ (old : StoreContents). (before after : List Place) (p : Place) → HasPlaces old (before ++ p ∷ after) → p.addr ≡ non_zero_usize_get c.args.addr → p.align ≡ 1 → p.len ≡ c.args.len
-    → HasAmong old (store_contents (written c.reallocate.new.self to (length lent) w) c.self.inside.pool) before after (place to 1 (c.args.len + length more)) (bytes_at old.heap.memory p ++ more)) c.self.view_is
-    (λ before after p has at one p_len. HasAmong-changed before after p (place to 1 (c.args.len + length more)) (bytes_at c.self.inside.heap.memory p ++ more) has (λ front back k store there are.
+    → HasAmong old (store_contents (written c.reallocate.new.self to (length lent) w) c.self.inside.pool) before after (place to 1 (c.args.len + length more)) (bytes_at_place old.heap.memory p ++ more)) c.self.view_is
+    (λ before after p has at one p_len. HasAmong-changed before after p (place to 1 (c.args.len + length more)) (bytes_at_place c.self.inside.heap.memory p ++ more) has (λ front back k store there are.
     let aligned = ap (λ q. q.align) there ∙ one in
     let long : length k.bytes ≡ c.args.len = ap (λ q. q.len) there ∙ p_len in
     let room : length k.bytes ≤ layout.size = omega (arith, long, c.in-Ok.ensures.layout.0, c.in_ok-size.ensures) in
-    let resized = IsStore-resized layout.size front back k store (ap (λ q. q.addr) there ∙ at) (aligned ∙ sym c.in-Ok.ensures.layout.1) to room c.in_ok-to.ensures.step c.in_ok-to.ensures.place in
-    let begins : take (length k.bytes) lent ≡ k.bytes → take (length (k.bytes ++ more)) w ≡ k.bytes ++ more = λ front.
-    ap (take (length (k.bytes ++ more))) c.write_at.ensures.bytes ∙ front-append k.bytes lent more c.args.len long (ap (λ n. take n lent) (sym long) ∙ front) in
-    let stores = IsStore-written lent w front back (stored to k.align k.bytes) resized refl (k.bytes ++ more) c.payload_mut.ensures.meaning c.write_at.ensures.len begins (c.payload_mut.ensures.place w) in
+    let resized = IsStore-resized front back k (ap (λ q. q.addr) there ∙ at) store c.reallocate.new.self layout.size to room c.in_ok-to.ensures.step c.in_ok-to.ensures.place in
+    let moved = stored to k.align k.bytes in
+    let begins : take (length k.bytes) lent ≡ k.bytes = ap (take (length k.bytes)) c.payload_mut.ensures.value ∙ front_stored front back moved refl resized in
+    let writes : take (length (k.bytes ++ more)) w ≡ k.bytes ++ more =
+    ap (take (length (k.bytes ++ more))) c.write_at.ensures.bytes ∙ front-append k.bytes lent more c.args.len long (ap (λ n. take n lent) (sym long) ∙ begins) in
+    let stores = IsStore-filled front back moved refl resized (written c.reallocate.new.self to (length lent) w) w (k.bytes ++ more) writes (c.payload_mut.ensures.meaning w c.write_at.ensures.len) (c.payload_mut.ensures.rest w).1 in
     let new_len : length (k.bytes ++ more) ≡ c.args.len + length more = length-append k.bytes more ∙ ap (λ n. n + length more) long in
     (stored to k.align (k.bytes ++ more), stores, ap (λ n. place to n (length (k.bytes ++ more))) aligned ∙ ap (place to 1) new_len, ap (λ bs. bs ++ more) are)))
 
 pub payload_mut-requires : goal.payload_mut-requires
-payload_mut-requires c =
-    let (t, stands, (u, held, aligned, enough)) = c.in_ok-to.ensures.sized in
-    (lit< tt, (t, stands, (u, held)))
+payload_mut-requires c = (lit< tt, subst IsSome (sym c.in_ok-to.ensures.live) refl)
 
 pub returns-clause-place : goal.returns-clause-place
 returns-clause-place c =
     let first = c.in_ok-to.ensures.place in
-    let then = c.payload_mut.ensures.place c.write_at.new.payload in
+    let then = (c.payload_mut.ensures.rest c.write_at.new.payload).1 in
     subst (λ (old : StoreContents). SamePlace old.heap.memory (written c.reallocate.new.self (non_zero_usize_get c.in_ok-to.to) (length c.payload_mut.result.now) c.write_at.new.payload).memory) c.self.view_is
     (then.0 ∙ first.0, then.1 ∙ first.1)
 
 pub returns-clause-touches : goal.returns-clause-touches
 returns-clause-touches c =
     subst (λ (old : StoreContents). (written c.reallocate.new.self (non_zero_usize_get c.in_ok-to.to) (length c.payload_mut.result.now) c.write_at.new.payload).memory.touches ≤ old.heap.memory.touches + 69) c.self.view_is
-    (omega (arith, c.in_ok-to.ensures.touches))
+    (omega (arith, c.in_ok-to.ensures.touches, (c.payload_mut.ensures.rest c.write_at.new.payload).3))
 
 pub write_at-requires : goal.write_at-requires
-write_at-requires c =
-    let (t, stands, (u, held, aligned, enough)) = c.in_ok-to.ensures.sized in
-    omega (arith, c.payload_mut.ensures.len t u stands held, enough, c.in-Ok.ensures.layout.0, c.in_ok-size.ensures)
+write_at-requires c = omega (arith, ap length c.payload_mut.ensures.value, c.in_ok-to.ensures.sized, c.in-Ok.ensures.layout.0, c.in_ok-size.ensures)

@@ -7,14 +7,12 @@ use Rattle.rlsf_uses.proofs.store.Store.blocks.Goals as goal
 pub iter_blocks-requires : goal.iter_blocks-requires
 iter_blocks-requires c =
     let (places, (all, store, at)) = subst (λ (now : StoreContents). (places : List Place) × HasPlaces now places) (sym c.self.view_is) c.requires in
-    (lit< tt, (store.state, store.stands, store.row))
+    (lit< tt, store.row)
 
 pub returns-clause-used : goal.returns-clause-used
 returns-clause-used c =
     subst (λ (now : StoreContents). (places : List Place) → HasPlaces now places → used_count c.iter_blocks.result ≡ length places) c.self.view_is
-    (λ places (all, store, at). used_count-stored store c.iter_blocks.result (c.iter_blocks.ensures.blocks store.state store.stands store.row) ∙ sym (length-map all place_of) ∙ ap length at)
+    (λ places (all, store, at). used_count-stored store c.iter_blocks.result c.iter_blocks.ensures.blocks ∙ sym (length-map all place_of) ∙ ap length at)
 
 pub returns-clause-order : goal.returns-clause-order
-returns-clause-order c =
-    let (places, (all, store, at)) = subst (λ (now : StoreContents). (places : List Place) × HasPlaces now places) (sym c.self.view_is) c.requires in
-    (c.iter_blocks.ensures.blocks store.state store.stands store.row).in_order
+returns-clause-order c = c.iter_blocks.ensures.blocks.in_order

@@ -1,0 +1,15 @@
+-- The words that contracts over the allocator cite.
+pub use Rattle.rlsf_base.specs.Addr.{at, reply}
+pub use Rattle.rlsf_base.specs.Range.{AreApart, LiesIn, end_of, range_at}
+pub use Rattle.rlsf_base.specs.SizeClass.{IsValid}
+pub use Rattle.rlsf_base.specs.Space.{SamePlace, Space, range_of}
+pub use Rattle.rlsf_machine.specs.Allocate.{Allocates}
+pub use Rattle.rlsf_machine.specs.Callers.{align_at, bytes_at}
+pub use Rattle.rlsf_machine.specs.ChunkRows.{IsRow}
+pub use Rattle.rlsf_machine.specs.Insert.{Appends, Inserts, IsNext, IsUntouched}
+pub use Rattle.rlsf_machine.specs.Reallocate.{Keeps, Reallocates}
+pub use Rattle.rlsf_machine.specs.Release.{Deallocates}
+pub use Rattle.rlsf_machine.specs.Run.{Fills}
+pub use Rattle.rlsf_machine.specs.State.{State, Used, empty, Holds}
+pub use Rattle.rlsf_blocks.specs.Spare.{IsSpareWord, KeepsSpare}
+pub use Rattle.rlsf_tlsf.specs.Allocator.{Allocator, IsInState, Stands, Steps}

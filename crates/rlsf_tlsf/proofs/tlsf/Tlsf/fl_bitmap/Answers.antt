@@ -1,1 +1,0 @@
--- What the bitmaps' types promise of threads is promised of the class table's.

@@ -1,0 +1,41 @@
+-- The allocator as contracts see it, and the steps that its calls make.
+use Rattle.std.specs.Prelude.{◌≡◌, ℕ}
+use Rattle.rlsf_base.specs.SizeClass.{IsValid}
+use Rattle.rlsf_base.specs.Space.{Space}
+use Rattle.rlsf_machine.specs.State.{State}
+use Rattle.rlsf_table.specs.Table.{Table}
+use Rattle.rlsf_blocks.specs.Laws.{read_from}
+use Rattle.rlsf_blocks.specs.Spare.{KeepsSpare}
+use Rattle.rlsf_blocks.specs.StandsFor.{contents, StandsFor}
+use Rattle.rlsf_tlsf.specs.Steps.Moves.{bare}
+
+-- its memory, its class table, and the state of the list machine that it is in
+pub record Allocator : Type 0 where
+  pub memory : Space
+  pub table : Table
+  pub state : State
+
+-- the allocator by its fields: the bytes of payloads are those that stand in the memory
+abbrev pub allocator : Space → Table → State → Allocator
+allocator m t s = record { memory = m; table = t; state = read_from m s }
+
+-- the words in the memory and the class table spell the state, which is well-formed
+unfoldable pub Stands : ℕ → ℕ → Allocator → Type 0
+Stands fllen sllen v = StandsFor fllen sllen (contents v.memory v.table) v.state
+
+-- what is true of every allocator's fields: the parameters are valid, memory and table stand for the state, and what is kept of it
+-- has no bytes
+pub record IsAllocator (fl_bits sl_bits fllen sllen : ℕ) (m : Space) (t : Table) (s : State) : Type 0 where
+  pub valid : IsValid fl_bits sl_bits fllen sllen
+  pub stands : StandsFor fllen sllen (contents m t) (read_from m s)
+  pub is_bare : bare s ≡ s
+
+-- The machine's step leads to the state after. Memory and table stand for that state, and each byte that no block is made of, before
+-- and after, is as it was.
+unfoldable pub Steps : ℕ → ℕ → Allocator → Allocator → (State → Type 0) → Type 0
+Steps fllen sllen before after step = step after.state × Stands fllen sllen after × KeepsSpare before.memory before.state after.memory after.state
+
+-- the allocator is in the state, and its memory and its class table stand for it
+pub record IsInState (fllen sllen : ℕ) (v : Allocator) (s : State) : Type 0 where
+  pub state : v.state ≡ s
+  pub stands : StandsFor fllen sllen (contents v.memory v.table) s

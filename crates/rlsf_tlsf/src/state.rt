@@ -1,0 +1,72 @@
+//! The machine's state, as ghost data: it takes no bytes and no time.
+ghost use Rattle.std.specs.Prelude.{◌≡◌, ℕ};
+ghost use Rattle.std.specs.Borrow.{ftrue};
+ghost use Rattle.rlsf_base.specs.Range.{range_at};
+ghost use Rattle.rlsf_machine.specs.State.{State, empty};
+ghost use Rattle.rlsf_tlsf.specs.Steps.Moves.{allocated, appended_to, deallocated, inserted, reallocated};
+
+use std::marker::{Model, Send, Sync};
+
+/// The machine's state but for the bytes of payloads, which stand in the memory.
+#[derive(Drop)]
+pub(crate) struct GhostState {
+    pub(crate) ghost state: { State },
+}
+
+impl Model for GhostState {
+    ghost also_owns = { λ _. ftrue };
+}
+
+unsafe impl Send for GhostState {}
+
+unsafe impl Sync for GhostState {}
+
+impl GhostState {
+    /// The state to which nothing was handed.
+    pub(crate) fn new() -> GhostState
+        ensures { result.state ≡ empty }
+    {
+        GhostState {}
+    }
+
+    /// Moves on to a state that is told of the one before and three numbers.
+    fn advance(&mut self, x: usize, y: usize, z: usize)
+        ghost to: { ℕ → ℕ → ℕ → State → State }
+        ensures { self.new.state ≡ to x y z self.old.state }
+    {}
+
+    /// Moves on as an insert does.
+    pub(crate) fn insert(&mut self, fllen: usize, start: usize, len: usize)
+        ensures { self.new.state ≡ inserted fllen (range_at start len) self.old.state }
+    {
+        self.advance(fllen, start, len);
+    }
+
+    /// Moves on as an append does.
+    pub(crate) fn append(&mut self, fllen: usize, start: usize, len: usize)
+        ensures { self.new.state ≡ appended_to fllen (range_at start len) self.old.state }
+    {
+        self.advance(fllen, start, len);
+    }
+
+    /// Moves on as an allocation does that isn't refused.
+    pub(crate) fn allocate(&mut self, sllen: usize, size: usize, align: usize)
+        ensures { self.new.state ≡ allocated sllen size align self.old.state }
+    {
+        self.advance(sllen, size, align);
+    }
+
+    /// Moves on as a deallocation does.
+    pub(crate) fn deallocate(&mut self, addr: usize)
+        ensures { self.new.state ≡ deallocated addr self.old.state }
+    {
+        self.advance(addr, 0, 0);
+    }
+
+    /// Moves on as a reallocation does that isn't refused.
+    pub(crate) fn reallocate(&mut self, sllen: usize, addr: usize, size: usize)
+        ensures { self.new.state ≡ reallocated sllen addr size self.old.state }
+    {
+        self.advance(sllen, addr, size);
+    }
+}
