@@ -1,8 +1,13 @@
 -- Laws of size classes, of what is computed of sizes, and of pools that are made for one allocation. Each is of every
 -- allocator whose parameters are valid.
 use Rattle.std.specs.Prelude.{◌≡◌, ℕ, ◌-◌, ◌≤◌, Some, None, IsSome}
-use Rattle.rlsf_base.specs.SizeClass.{IsValid, IsValidClass, Reaches, class_of}
-use Rattle.rlsf_base.specs.Sizes.{IsSize, map_floor, map_ceil, map_ceil_and_unmap, max_pool_size, pool_size_to_contain_allocation, request_size}
+use Rattle.rlsf_base.specs.SizeClass.{SizeClass, IsFirstReaching, IsValid, IsValidClass, Reaches, class_of}
+use Rattle.rlsf_base.specs.Sizes.{IsSize, map_floor, map_ceil, map_ceil_and_unmap, max_pool_size, pool_size_to_contain_allocation, request_size, valid_indices}
+
+-- `map_ceil` gives the first of all classes that reach the size, by its indices, where that class is valid, and else nothing
+abbrev pub MappedIsFirstReaching : Type 0
+MappedIsFirstReaching = (fl_bits sl_bits fllen sllen size : ℕ) → IsValid fl_bits sl_bits fllen sllen → IsSize size
+    → (c : SizeClass) × IsFirstReaching sllen size c × (map_ceil fllen sllen size ≡ valid_indices fllen c)
 
 -- the least size of the first class that reaches a size is a size, and at least that
 abbrev pub UnmappedIsEnough : Type 0

@@ -7,7 +7,7 @@
 //! or panics within its condition, none asks the machine for memory, and the work of each is constant.
 
 ghost use Rattle.std.specs.Prelude.{◌≡◌, ◌%◌, ◌^◌, ◌<◌, ◌≤◌, ◌*◌, ◌-◌, IsTrue, IfSome, IfNone};
-ghost use Rattle.rlsf_base.specs.ClassLaws.{UnmappedIsEnough, UnmappedBeginsItsClass, UnreachedIsNotUnmapped, LongestBlockHasAClass, PoolIsOneChunk, PoolContainsItsAllocation};
+ghost use Rattle.rlsf_base.specs.ClassLaws.{MappedIsFirstReaching, UnmappedIsEnough, UnmappedBeginsItsClass, UnreachedIsNotUnmapped, LongestBlockHasAClass, PoolIsOneChunk, PoolContainsItsAllocation};
 ghost use Rattle.rlsf_base.specs.SizeClass.{SizeClass, IsValid, is_row_length, class_of, class_start, reaching_class};
 ghost use Rattle.rlsf_base.specs.Sizes as sizes;
 
@@ -102,11 +102,13 @@ pub fn pool_size_to_contain_allocation<
 
 /// Does nothing. Its contract states the laws of size classes, so that a check proves them.
 ///
-/// What `map_ceil_and_unmap` gives for a size is at least that, and is where the class of `map_ceil` begins; where
-/// `map_ceil` gives `None`, so does it. Where `max_pool_size` gives a length, the block 32 bytes shorter has a class and
-/// one of that length has none; no length that `pool_size_to_contain_allocation` gives is greater. A chunk of such a
-/// length has a block that reaches what is sought for the layout.
+/// What `map_ceil` gives for a size is the first class that reaches it: no class before it does. What
+/// `map_ceil_and_unmap` gives for a size is at least that, and is where the class of `map_ceil` begins; where `map_ceil`
+/// gives `None`, so does it. Where `max_pool_size` gives a length, the block 32 bytes shorter has a class and one of that
+/// length has none; no length that `pool_size_to_contain_allocation` gives is greater. A chunk of such a length has a
+/// block that reaches what is sought for the layout.
 pub fn laws()
+    ensures first { MappedIsFirstReaching }
     ensures enough { UnmappedIsEnough }
     ensures begins { UnmappedBeginsItsClass }
     ensures unreached { UnreachedIsNotUnmapped }

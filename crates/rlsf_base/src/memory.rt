@@ -14,40 +14,38 @@ mod layout;
 mod range;
 pub(crate) mod zeroed;
 
-use block::{Base, Bytes, Deed};
+use block::{Base, Bytes};
 use counters::Counters;
 pub use layout::{Layout, LayoutError};
 pub use range::{Addr, Range};
-use zeroed::{give_back, take_zeroed};
+use zeroed::{Supplier, take_zeroed};
 
-/// Why a `Memory` wasn't made.
+/// Why a `Memory` wasn't made. Each error has a number.
 #[derive(Clone, Copy, Debug, PartialEq, Eq)]
 pub enum MemoryError {
     /// The start is zero, which is no address.
-    ZeroStart,
+    ZeroStart = 1,
     /// The end lies past the greatest address.
-    TooLong,
+    TooLong = 2,
     /// The machine has no block of this length.
-    OutOfMemory,
+    OutOfMemory = 3,
 }
 
 /// The address space that allocators divide up: `len` bytes at the addresses from `start` on.
 ///
 /// It is one block of the machine, aligned so that each multiple of 8 is the address of an aligned word. It counts,
-/// for contracts alone, how often words were touched and how many bytes were copied.
+/// for contracts alone, how often words were touched and how many bytes were copied. It is as large as a `Vec<u8>`.
 pub struct Memory {
     base: Base,
     start: usize,
-    // The address at which the block begins: `start`, rounded down to a multiple of 8.
-    origin: usize,
     len: usize,
     bytes: Bytes,
-    deed: Deed<Global>,
     counters: Counters,
-    alloc: Global,
+    // Out of reach of every call here but `new`, which makes it, and `drop`, which uses it up.
+    supplier: Supplier,
 }
 
-const _: () = prove!(size_of::<Memory>() == size_of::<Vec<u8>>() + size_of::<usize>());
+const _: () = prove!(size_of::<Memory>() == size_of::<Vec<u8>>());
 
 impl Model for Memory {
     ghost use Rattle.rlsf_base.specs.Space.{Space};
@@ -58,7 +56,7 @@ impl Model for Memory {
 
     ghost view = { λ m. record { start = m.start; bytes = m.bytes.bytes; touches = m.counters.touches; copied = m.counters.copied } };
 
-    ghost invariant = { λ m. IsMemory m.base m.start m.origin m.len m.bytes m.deed m.alloc };
+    ghost invariant = { λ m. IsMemory m.base m.start m.len m.bytes m.supplier };
 }
 
 impl Drop for Memory {
@@ -68,14 +66,12 @@ impl Drop for Memory {
         let Memory {
             base,
             start,
-            origin: _,
             len,
             bytes,
-            deed,
             counters: _,
-            alloc,
+            supplier,
         } = self;
-        give_back(&alloc, base, start % 8, len, bytes, deed);
+        supplier.give_back(base, start % 8, len, bytes);
     }
 }
 
@@ -100,16 +96,14 @@ impl Memory {
         if usize::MAX - start < len {
             return Err(MemoryError::TooLong);
         }
-        match take_zeroed(&alloc, start % 8, len) {
-            Some((base, bytes, deed)) => Ok(Memory {
+        match take_zeroed(alloc, start % 8, len) {
+            Some((base, bytes, supplier)) => Ok(Memory {
                 base,
                 start,
-                origin: start - start % 8,
                 len,
                 bytes,
-                deed,
                 counters: Counters::new(),
-                alloc,
+                supplier,
             }),
             None => Err(MemoryError::OutOfMemory),
         }
@@ -136,7 +130,7 @@ impl Memory {
         requires { self.now.start ≤ addr }
         ensures { result ≡ self.now.start % 8 + (addr - self.now.start) }
     {
-        addr - self.origin
+        addr - (self.start - self.start % 8)
     }
 
     /// The bytes of `range`, which lies in the memory.

@@ -9,6 +9,7 @@ use rlsf_base::classes::{
 use rlsf_base::memory::Layout;
 use rlsf_int::BitPattern;
 use std::process::Abort;
+use std::test::Fail;
 
 /// What is computed of a size.
 type Row = (
@@ -92,6 +93,42 @@ fn other_rows(rt: HostRuntime) {
 }
 
 #[test]
+fn most_rows_of_most_classes(rt: HostRuntime) {
+    let last = usize::MAX - 31;
+    let rows = [
+        row::<u128, u128, 128, 128>(32),
+        row::<u128, u128, 128, 128>(96),
+        row::<u128, u128, 128, 128>(416),
+        row::<u128, u128, 128, 128>(544),
+        row::<u128, u128, 128, 128>(8160),
+        row::<u128, u128, 128, 128>(8192),
+        row::<u128, u128, 128, 128>(70016),
+        row::<u128, u128, 128, 128>(1048608),
+        row::<u128, u128, 128, 128>(9223372036854775808),
+        row::<u128, u128, 128, 128>(18374686479671623648),
+        row::<u128, u128, 128, 128>(18374686479671623680),
+        row::<u128, u128, 128, 128>(18374686479671623712),
+        row::<u128, u128, 128, 128>(last),
+    ];
+    let expected = [
+        start(0, 0, 32),
+        start(1, 64, 96),
+        start(3, 80, 416),
+        start(4, 8, 544),
+        start(7, 127, 8160),
+        start(8, 0, 8192),
+        (Some((11, 8)), Some((11, 9)), Some(70144)),
+        (Some((15, 0)), Some((15, 1)), Some(1056768)),
+        start(58, 0, 9223372036854775808),
+        (Some((58, 126)), Some((58, 127)), Some(18374686479671623680)),
+        start(58, 127, 18374686479671623680),
+        (Some((58, 127)), Some((59, 0)), None),
+        (Some((58, 127)), Some((59, 0)), None),
+    ];
+    are(&rt, &rows, &expected);
+}
+
+#[test]
 fn longest_chunks(rt: HostRuntime) {
     let ends = [
         max_pool_size::<u8, u8, 1, 8>(),
@@ -100,12 +137,14 @@ fn longest_chunks(rt: HostRuntime) {
         max_pool_size::<u64, u8, 58, 8>(),
         max_pool_size::<u64, u8, 59, 8>(),
         max_pool_size::<u64, u8, 60, 8>(),
+        max_pool_size::<u128, u128, 128, 128>(),
     ];
     let expected = [
         Some(64),
         Some(8192),
         Some(131072),
         Some(1 << 63),
+        None,
         None,
         None,
     ];
@@ -126,6 +165,28 @@ fn pools_for_one_allocation(rt: HostRuntime) {
         (request_size(one), pools),
         (32, [Some(64), Some(2080), None])
     );
+}
+
+#[test]
+fn pools_for_one_allocation_of_most_classes(rt: HostRuntime) -> Result<(), Fail> {
+    let half = 1 << 63;
+    let asked = [
+        (1, 1, 64),
+        (2000, 1, 2048),
+        (8000, 1, 8064),
+        (half - 1, 1, 9295429630892703776),
+        (half - 16, 16, 9223372036854775840),
+        (0, half, 9223372036854775840),
+    ];
+    for (size, align, len) in asked {
+        let layout = Layout::from_size_align(size, align)?;
+        assert_eq!(rt;
+            pool_size_to_contain_allocation::<u128, u128, 128, 128>(layout),
+            Some(len),
+            "{size} bytes at multiples of {align}"
+        );
+    }
+    Ok(())
 }
 
 /// Whether the class is one, and is that of a size which begins it.
@@ -219,6 +280,7 @@ fn laws(rt: HostRuntime) {
         all_laws_hold::<u64, u8, 61, 8>(),
         all_laws_hold::<u64, u8, 64, 8>(),
         all_laws_hold::<usize, usize, 64, 64>(),
+        all_laws_hold::<u128, u128, 128, 128>(),
     ];
     all(&rt, &answers);
 }

@@ -4,6 +4,7 @@ ghost use Rattle.rlsf_base.specs.Space.{IsWord};
 
 use rlsf_base::memory::{Memory, MemoryError, Range};
 use std::alloc::Global;
+use std::mem::size_of;
 use std::test::Fail;
 use std::thread;
 
@@ -141,6 +142,22 @@ fn refuses_in_order(rt: HostRuntime) {
             "{len} bytes from {start} on"
         );
     }
+}
+
+#[test]
+fn as_large_as_a_list_of_bytes(rt: HostRuntime) {
+    assert_eq!(rt; size_of::<Memory>(), size_of::<Vec<u8>>());
+    assert_eq!(rt; size_of::<Memory>(), 3 * size_of::<usize>());
+}
+
+#[test]
+fn errors_have_numbers(rt: HostRuntime) {
+    let numbers = [
+        MemoryError::ZeroStart as u8,
+        MemoryError::TooLong as u8,
+        MemoryError::OutOfMemory as u8,
+    ];
+    assert_eq!(rt; numbers, [1, 2, 3]);
 }
 
 /// The range without a byte at the greatest address.

@@ -7,7 +7,7 @@ use Rattle.std.proofs.lemmas.Nat.{pow_pos, pow-add}
 use Rattle.std.proofs.lemmas.Option.{none-some, same_Some}
 use Rattle.std.proofs.Math.Nat.{div-eq_of_eq-mul_left, le_of_mul-le-mul_right, lt_of_mul-lt-mul_right, mul-le-mul_right, mul-mod_left, pow-suc}
 use Rattle.std.proofs.Math.Pow.{pow_mono}
-use Rattle.rlsf_base.specs.ClassLaws.{UnmappedIsEnough, UnmappedBeginsItsClass, UnreachedIsNotUnmapped, LongestBlockHasAClass, PoolIsOneChunk, PoolContainsItsAllocation}
+use Rattle.rlsf_base.specs.ClassLaws.{MappedIsFirstReaching, UnmappedIsEnough, UnmappedBeginsItsClass, UnreachedIsNotUnmapped, LongestBlockHasAClass, PoolIsOneChunk, PoolContainsItsAllocation}
 use Rattle.rlsf_base.specs.PowerOfTwo.{floor_log2}
 use Rattle.rlsf_base.specs.SizeClass.{class_of, class_start, is_row_length, IsValidClass, least_size, next_class, reaching_class, Reaches}
 use Rattle.rlsf_base.specs.Sizes.{IsSize, map_ceil_and_unmap, request_size, valid_indices}
@@ -125,6 +125,10 @@ pub pool_fits : (fllen sllen size n : ℕ) → IsTrue (is_row_length sllen) → 
 pool_fits fllen sllen size n row is told = room fllen sllen size n row is (IsUnmapped-some fllen sllen size n row is (sym told))
 
 -- ---- the laws
+
+pub mapped_is_first_reaching : MappedIsFirstReaching
+mapped_is_first_reaching fl_bits sl_bits fllen sllen size valid is =
+    (reaching_class sllen size, IsFirstReaching-reaching_class sllen size (IsPower-row_length sllen valid.power_of_two).some is.0, refl)
 
 pub unmapped_is_enough : UnmappedIsEnough
 unmapped_is_enough fl_bits sl_bits fllen sllen size m valid is told =

@@ -1,9 +1,18 @@
-//! The block of a memory, zeroed when it is taken.
+//! The block of a memory, zeroed when it is taken, and the allocator of the system, to which it goes back.
 ghost use Rattle.std.specs.Prelude.{◌≡◌, ◌+◌, ◌-◌, ◌/◌, ◌^◌, ◌≤◌, [], length, replicate, IfSome, IsSome};
-ghost use Rattle.rlsf_base.specs.Steps.Block.{IsDeedOf, words_for};
+ghost use Rattle.rlsf_base.specs.Steps.Block.{IsSupplierOf, words_for};
 
 use super::block::{Base, Bytes, Deed, allocate, deallocate, forget, no_block};
 use std::alloc::Global;
+
+/// The allocator of the system that a block was taken from, and the right to give that block back. It takes no space.
+///
+/// No other module reaches the allocator in it: who has a supplier, or a reference to one, can't ask for memory, but only
+/// give the block back.
+pub(crate) struct Supplier {
+    deed: Deed<Global>,
+    alloc: Global,
+}
 
 /// The most bytes that a block can have, and be whole words.
 const MAX_LEN: usize = 0x7fff_ffff_ffff_fff8;
@@ -26,42 +35,35 @@ fn fill_zero(bytes: &mut Bytes, base: Base, skip: usize, len: usize)
 }
 
 /// Takes a block, and of it the `len` bytes from the byte `skip` on, all zero. No block is taken for no bytes.
-pub(crate) fn take_zeroed(
-    alloc: &Global,
-    skip: usize,
-    len: usize,
-) -> Option<(Base, Bytes, Deed<Global>)>
+pub(crate) fn take_zeroed(alloc: Global, skip: usize, len: usize) -> Option<(Base, Bytes, Supplier)>
     requires { skip ≤ 7 }
     ensures bytes { IfSome result (λ r. (r.0.ptr ≡ r.1.at) × (r.1.skip ≡ skip) × (r.1.bytes ≡ replicate len 0) × (r.1.left ≡ 0) × (skip + len ≤ 2 ^ 63 - 8)) }
-    ensures deed { IfSome result (λ r. IsDeedOf r.0 skip len r.2 alloc.now) }
+    ensures supplier { IfSome result (λ r. IsSupplierOf r.0 skip len r.2) }
     ensures empty { len ≡ 0 → IsSome result }
 {
     if len == 0 {
-        return Some(no_block(alloc, skip));
+        let (base, bytes, deed) = no_block(&alloc, skip);
+        return Some((base, bytes, Supplier { deed, alloc }));
     }
     if MAX_LEN - skip < len {
         return None;
     }
-    let (base, mut bytes, deed) = allocate(alloc, words(skip, len), skip, len)?;
+    let (base, mut bytes, deed) = allocate(&alloc, words(skip, len), skip, len)?;
     fill_zero(&mut bytes, base, skip, len);
-    Some((base, bytes, deed))
+    Some((base, bytes, Supplier { deed, alloc }))
 }
 
-/// Gives the block back, if there is one.
-pub(crate) fn give_back(
-    alloc: &Global,
-    base: Base,
-    skip: usize,
-    len: usize,
-    bytes: Bytes,
-    deed: Deed<Global>,
-)
-    requires bytes { (base.ptr ≡ bytes.at) × (bytes.skip ≡ skip) × (length bytes.bytes ≡ len) × (bytes.left ≡ 0) × (skip + len ≤ 2 ^ 63 - 8) }
-    requires deed { IsDeedOf base skip len deed alloc.now }
-{
-    if len == 0 {
-        forget(bytes, deed);
-    } else {
-        deallocate(alloc, base, words(skip, len), bytes, deed);
+impl Supplier {
+    /// Gives the block back, if there is one.
+    pub(crate) fn give_back(self, base: Base, skip: usize, len: usize, bytes: Bytes)
+        requires bytes { (base.ptr ≡ bytes.at) × (bytes.skip ≡ skip) × (length bytes.bytes ≡ len) × (bytes.left ≡ 0) × (skip + len ≤ 2 ^ 63 - 8) }
+        requires supplier { IsSupplierOf base skip len self }
+    {
+        let Supplier { deed, alloc } = self;
+        if len == 0 {
+            forget(bytes, deed);
+        } else {
+            deallocate(&alloc, base, words(skip, len), bytes, deed);
+        }
     }
 }
