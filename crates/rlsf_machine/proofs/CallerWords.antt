@@ -1,15 +1,15 @@
 -- The alignment and the bytes of the payload at an address.
-use Rattle.std.proofs.Common.{◌≡◌, ◌≢◌, ◌⊎◌, ℕ, eqb, ◌+◌, ◌<◌, ◌≤◌, List, length, Option, Some, None, IsSome, true≢false, refl, sym, ◌∙◌, ap, subst, inl, inr}
+use Rattle.std.proofs.Common.{◌≡◌, ◌≢◌, ℕ, eqb, ◌+◌, ◌<◌, ◌≤◌, List, length, Option, Some, None, IsSome, true≢false, refl, sym, ◌∙◌, ap, subst}
 use Rattle.std.proofs.lemmas.Bool.{eq-eqb, eqb-true}
 use Rattle.std.proofs.lemmas.Option.{none-some}
 use Rattle.std.specs.Option.{option_map}
 use Rattle.rlsf_base.specs.declared.memory.range.Range.{Range}
 use Rattle.rlsf_base.specs.PowerOfTwo.{IsPowerOfTwo}
-use Rattle.rlsf_machine.specs.Callers.{Changes, IsResized, IsSet, IsUnchanged, Payload, align_at, bytes_at, bytes_of, payload_at, payload_in}
+use Rattle.rlsf_machine.specs.Callers.{IsUnchanged, Payload, align_at, bytes_at, bytes_of, payload_at}
 use Rattle.rlsf_machine.specs.Reallocate.{Keeps, Reallocates}
 use Rattle.rlsf_machine.specs.Allocate.{Allocates}
 use Rattle.rlsf_machine.specs.Release.{Deallocates}
-use Rattle.rlsf_machine.specs.Run.{Event, Leads, MayCall, allocate, deallocate, fill, reallocate, Fills, IsSomeLive}
+use Rattle.rlsf_machine.specs.Run.{allocate, deallocate, fill, reallocate, Fills, IsSomeLive}
 use Rattle.rlsf_machine.specs.State.{State, Used, Holds, IsLive}
 use Rattle.rlsf_machine.specs.WellFormed.{IsWellFormed}
 use Rattle.rlsf_machine.proofs.Coverage.{by_test}

@@ -1,5 +1,6 @@
 -- A machine whose fresh bytes are all zero: what it answers, computed, and that it is a run.
-use Rattle.std.proofs.Common.{◌≡◌, ℕ, ◌-◌, ◌^◌, ◌<◌, ◌≤◌, Bool, true, false, ◌&&◌, ◌||◌, leb, eqb, List, [], ◌∷◌, ◌++◌, length, take, replicate, min, Option, Some, None, find, true≢false, arith, refl, sym, ◌∙◌, inl, inr, length-append, length-take}
+use Rattle.std.proofs.Common.{◌≡◌, ℕ, ◌-◌, ◌^◌, ◌<◌, ◌≤◌, Bool, true, ◌&&◌, ◌||◌, leb, eqb, List, [], ◌∷◌, ◌++◌, length, take, replicate, min, Option, Some, None, find, true≢false, arith, refl, sym, ◌∙◌, inl, inr, length-append, length-take}
+use Rattle.std.specs.Option.{is_some}
 use Rattle.std.proofs.lemmas.Bool.{and_parts, or_cases, leb-true, eqb-true}
 use Rattle.std.proofs.lemmas.List.{length-replicate, take-append-le, take-take}
 use Rattle.rlsf_base.specs.declared.memory.range.Range.{Range}
@@ -7,7 +8,7 @@ use Rattle.rlsf_base.specs.PowerOfTwo.{floor_log2}
 use Rattle.rlsf_base.specs.Range.{end_of}
 use Rattle.rlsf_base.specs.Sizes.{max_pool_size, request_size}
 use Rattle.rlsf_machine.specs.Allocate.{choice, placed, given, Allocates}
-use Rattle.rlsf_machine.specs.Insert.{cut, aligned_part, bytes_taken, with_chunks, appended, appended_bytes, IsFresh, IsNext}
+use Rattle.rlsf_machine.specs.Insert.{cut, aligned_part, bytes_taken, with_chunks, appended, appended_bytes, IsFresh, IsNext, IsVacant}
 use Rattle.rlsf_machine.specs.Join.{ends_at}
 use Rattle.rlsf_machine.specs.Lists.{IsIn}
 use Rattle.rlsf_machine.specs.Payload.{payload_of, block_for}
@@ -32,6 +33,21 @@ at addr u = eqb u.payload addr
 -- the old bytes, cut or filled up to a length
 abbrev pub refilled : ℕ → List ℕ → List ℕ
 refilled n old = take n (old ++ replicate n 0)
+
+-- a used block as an example shows it: its start, its length and the address of its payload
+pub record Block : Type 0 where
+  pub start : ℕ
+  pub len : ℕ
+  pub payload : ℕ
+
+-- the block with these numbers
+abbrev pub block : ℕ → ℕ → ℕ → Block
+block start len payload = record { start = start; len = len; payload = payload }
+
+-- used blocks as an example shows them
+abbrev pub seen : List Used → List Block
+seen [] = []
+seen (u ∷ us) = block u.block.start u.block.len u.payload ∷ seen us
 
 -- ---- what it answers, and the state after it
 
@@ -86,20 +102,18 @@ after fllen sllen s (reallocate_at addr size) = reallocate_after sllen s size (f
 
 -- ---- whether the caller may make the call
 
+-- whether a range touches none of the others
 abbrev pub is_apart : Range → List Range → Bool
 is_apart r [] = true
 is_apart r (c ∷ cs) = (leb (end_of r) c.start || leb (end_of c) r.start) && is_apart r cs
 
-abbrev pub is_fresh : Range → State → Range → Bool
-is_fresh memory s r = leb memory.start r.start && (leb (end_of r) (end_of memory) && is_apart r s.chunks)
-
-abbrev pub is_some : {A : Type 0} → Option A → Bool
-is_some None = false
-is_some (Some x) = true
+-- whether a range lies in the memory and touches none of the others
+abbrev pub is_vacant : Range → List Range → Range → Bool
+is_vacant memory taken r = leb memory.start r.start && (leb (end_of r) (end_of memory) && is_apart r taken)
 
 abbrev pub may_call : Range → State → Call → Bool
-may_call memory s (insert_range r) = is_fresh memory s r
-may_call memory s (append_range r) = is_fresh memory s r && is_some (find (ends_at r.start) s.chunks)
+may_call memory s (insert_range r) = is_vacant memory s.chunks r
+may_call memory s (append_range r) = is_vacant memory s.chunks r && is_some (find (ends_at r.start) s.chunks)
 may_call memory s (allocate_layout size align) = eqb align (2 ^ floor_log2 align)
 may_call memory s (deallocate_at addr) = is_some (find (at addr) s.used)
 may_call memory s (reallocate_at addr size) = is_some (find (at addr) s.used)
@@ -128,6 +142,7 @@ Keeps-refilled n old =
     let small : m ≤ n = omega arith in
     take-take m n (old ++ replicate n 0) small ∙ take-append-le m old (replicate n 0) (omega arith)
 
+-- what is_apart tests
 may_apart : (r : Range) (cs : List Range) → is_apart r cs ≡ true → (a : ℕ) → r.start ≤ a → a < end_of r → coverage itself cs a ≡ 0
 may_apart r [] e a low high = refl
 may_apart r (c ∷ cs) e a low high =
@@ -138,11 +153,12 @@ may_apart r (c ∷ cs) e a low high =
     ] in
     omega (arith, may_apart r cs rest a low high)
 
-IsFresh-from : (memory : Range) (s : State) (r : Range) → is_fresh memory s r ≡ true → IsFresh memory s r
-IsFresh-from memory s r e =
-    let (from, rest) = and_parts (leb memory.start r.start) (leb (end_of r) (end_of memory) && is_apart r s.chunks) e in
-    let (to, apart) = and_parts (leb (end_of r) (end_of memory)) (is_apart r s.chunks) rest in
-    record { lies_in = (leb-true memory.start r.start from, leb-true (end_of r) (end_of memory) to); apart = may_apart r s.chunks apart }
+-- what is_vacant tests
+pub IsVacant-from : (memory : Range) (taken : List Range) (r : Range) → is_vacant memory taken r ≡ true → IsVacant memory taken r
+IsVacant-from memory taken r e =
+    let (from, rest) = and_parts (leb memory.start r.start) (leb (end_of r) (end_of memory) && is_apart r taken) e in
+    let (to, apart) = and_parts (leb (end_of r) (end_of memory)) (is_apart r taken) rest in
+    record { lies_in = (leb-true memory.start r.start from, leb-true (end_of r) (end_of memory) to); apart = may_apart r taken apart }
 
 pub allocate_step : (sllen : ℕ) (s : State) (size align : ℕ) (old : List ℕ) (o : Option Range) → choice sllen (request_size size align) s.free ≡ o → Allocates sllen s size align (address align o) (allocate_after sllen s size align old o)
 allocate_step sllen s size align old None e = (e, refl)
@@ -181,10 +197,10 @@ module _ (fllen sllen : ℕ) (memory : Range) (s : State) where
   reallocate_step addr size (Some u) e some = record { block = u; holds = held addr u e; step = planned_step u (held addr u e).0 size (plan s u size) }
 
   step : (c : Call) → may_call memory s c ≡ true → MayCall memory s (answered fllen sllen s c) × Leads fllen sllen s (answered fllen sllen s c) (after fllen sllen s c)
-  step (insert_range r) may = (IsFresh-from memory s r may, record { answer = refl; after = refl })
+  step (insert_range r) may = (IsVacant-from memory s.chunks r may, record { answer = refl; after = refl })
   step (append_range r) may =
-      let (fresh, some) = and_parts (is_fresh memory s r) (is_some (find (ends_at r.start) s.chunks)) may in
-      (next r (IsFresh-from memory s r fresh) (find (ends_at r.start) s.chunks) refl some, record { answer = refl; after = refl })
+      let (fresh, some) = and_parts (is_vacant memory s.chunks r) (is_some (find (ends_at r.start) s.chunks)) may in
+      (next r (IsVacant-from memory s.chunks r fresh) (find (ends_at r.start) s.chunks) refl some, record { answer = refl; after = refl })
     where
       next : (r : Range) → IsFresh memory s r → (o : Option Range) → find (ends_at r.start) s.chunks ≡ o → is_some o ≡ true → IsNext memory s r
       next r fresh None e some = absurd (true≢false (sym some))

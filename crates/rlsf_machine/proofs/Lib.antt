@@ -1,6 +1,7 @@
 -- The laws of the list machine, proved.
 pub mod AddedChunks
 pub mod Allocations
+pub mod AppendedRanges
 pub mod Appends
 pub mod Between
 pub mod Callers
@@ -14,7 +15,18 @@ pub mod Cuts
 pub mod Determined
 pub mod Examples
 pub mod Fillings
+pub mod FlexCallers
+pub mod FlexExamples
+pub mod FlexGrowths
+pub mod FlexPayloads
+pub mod FlexReplies
+pub mod FlexRows
+pub mod FlexRuns
+pub mod FlexSimilar
+pub mod FlexSteps
+pub mod GivenAnswers
 pub mod Growths
+pub mod Housing
 pub mod Insertions
 pub mod Joins
 pub mod Live
@@ -23,6 +35,7 @@ pub mod Orders
 pub mod Payloads
 pub mod Plans
 pub mod Pools
+pub mod RangeLengths
 pub mod Reallocations
 pub mod Releases
 pub mod Replies

@@ -258,7 +258,7 @@ module _ (u : Used) (s t : State) (i : IsIn u s.used) where
   others_stay : (addr : ℕ) (v : Used) → Holds s addr v → (addr ≡ u.payload → ⊥) → IsIn u (others v.payload s.used)
   others_stay addr v holds apart = IsIn-others_from v.payload u s.used i (λ at. apart (sym holds.1 ∙ sym at))
 
-  reallocate_stays : (sllen addr size : ℕ) (v : Used) → Holds s addr v → (addr ≡ u.payload → ⊥) → (o : Option Plan) (reply : Option ℕ) → ReallocatesBy sllen s v size o reply t → IsIn u t.used
+  pub reallocate_stays : (sllen addr size : ℕ) (v : Used) → Holds s addr v → (addr ≡ u.payload → ⊥) → (o : Option Plan) (reply : Option ℕ) → ReallocatesBy sllen s v size o reply t → IsIn u t.used
   reallocate_stays sllen addr size v holds apart (Some p) None step = absurd step
   reallocate_stays sllen addr size v holds apart (Some p) (Some to) step = stays_at step.after (inr (others_stay addr v holds apart))
   reallocate_stays sllen addr size v holds apart None None step = stays_at step.1 i
@@ -296,7 +296,7 @@ module _ (u : Used) (s t : State) (i : IsIn u t.used) where
   allocate_from sllen size align (Some addr) new step = from_rest (placed step.range size align step.bytes) s.used (ap (λ x. x.used) step.after) (λ at. new (ap Some (step.answer ∙ at)))
 
 module _ (u : Used) (s t : State) (i : IsIn u t.used) where
-  reallocate_from : (sllen size : ℕ) (v : Used) (o : Option Plan) (reply : Option ℕ) → (reply ≡ Some u.payload → ⊥) → ReallocatesBy sllen s v size o reply t → IsIn u s.used
+  pub reallocate_from : (sllen size : ℕ) (v : Used) (o : Option Plan) (reply : Option ℕ) → (reply ≡ Some u.payload → ⊥) → ReallocatesBy sllen s v size o reply t → IsIn u s.used
   reallocate_from sllen size v (Some p) None new step = absurd step
   reallocate_from sllen size v (Some p) (Some to) new step =
       (IsIn-others v.payload u s.used (from_rest u s t i (moved v p step.bytes) (others v.payload s.used) (ap (λ x. x.used) step.after) (λ at. new (ap Some (step.answer ∙ at))))).0

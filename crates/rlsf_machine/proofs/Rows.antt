@@ -3,21 +3,8 @@ use Rattle.std.proofs.Common.{◌≡◌, ℕ, true, List, [], ◌∷◌, Some, N
 use Rattle.rlsf_base.specs.declared.memory.range.Range.{Range}
 use Rattle.rlsf_base.specs.Range.{range_at}
 use Rattle.rlsf_machine.specs.Run.{Event, insert, append, allocate, deallocate, reallocate, Runs}
-use Rattle.rlsf_machine.specs.State.{State, Used, empty}
-use Rattle.rlsf_machine.proofs.Examples.{Call, insert_range, append_range, allocate_layout, deallocate_at, reallocate_at, all_after, all_events, may_call_all, Runs-all}
-
--- a used block: its start, its length and the address of its payload
-record Block : Type 0 where
-  start : ℕ
-  len : ℕ
-  payload : ℕ
-
-abbrev block : ℕ → ℕ → ℕ → Block
-block start len payload = record { start = start; len = len; payload = payload }
-
-abbrev seen : List Used → List Block
-seen [] = []
-seen (u ∷ us) = block u.block.start u.block.len u.payload ∷ seen us
+use Rattle.rlsf_machine.specs.State.{State, empty}
+use Rattle.rlsf_machine.proofs.Examples.{Block, block, seen, Call, insert_range, append_range, allocate_layout, deallocate_at, reallocate_at, all_after, all_events, may_call_all, Runs-all}
 
 -- these calls with these replies lead from the empty machine to these used blocks, the newest first, and these
 -- free ranges

@@ -6,7 +6,7 @@ use Rattle.rlsf_base.specs.Sizes.{request_size}
 use Rattle.rlsf_machine.specs.Allocate.{choice, placed, given, Allocates}
 use Rattle.rlsf_machine.specs.Insert.{Inserts, Appends}
 use Rattle.rlsf_machine.specs.Join.{join}
-use Rattle.rlsf_machine.specs.Laws.{SimilarStatesAgree}
+use Rattle.rlsf_machine.specs.Laws.{FillIsSimilar, SimilarStatesAgree}
 use Rattle.rlsf_machine.specs.Lists.{IsIn}
 use Rattle.rlsf_machine.specs.Payload.{payload_of}
 use Rattle.rlsf_machine.specs.Reallocate.{Plan, plan, moved, ReallocatesBy, Reallocates}
@@ -36,7 +36,7 @@ AreSimilar-at : {s s' t t' : State} → s ≡ s' → t ≡ t' → AreSimilar s' 
 AreSimilar-at {s} {s'} {t} {t'} e f a = subst (λ x. AreSimilar x t) (sym e) (subst (λ y. AreSimilar s' y) (sym f) a)
 
 -- the used block at an address has the same shape in both states
-shape-held : {fllen sllen : ℕ} {memory : Range} {s s' : State} → IsWellFormed fllen sllen memory s' → AreSimilar s s'
+pub shape-held : {fllen sllen : ℕ} {memory : Range} {s s' : State} → IsWellFormed fllen sllen memory s' → AreSimilar s s'
     → (addr : ℕ) (u v : Used) → Holds s addr u → Holds s' addr v → shape_of u ≡ shape_of v
 shape-held {s = s} {s' = s'} w' r addr u v (i, at) held =
     let (x, j, is) = IsIn-map_from shape_of (shape_of u) s'.used ((r.used (shape_of u)).0 (IsIn-map shape_of u s.used i)) in
@@ -53,7 +53,7 @@ module _ {s s' : State} (r : AreSimilar s s') where
   similar_from {t} {t'} q e e' =
       record { chunks = q.chunks; used = subst (λ l. HasSameShapes l t'.used) (sym e) (subst (HasSameShapes s.used) (sym e') r.used); free = q.free }
 
-  allocate-similar : (sllen size align : ℕ) (m n : Option ℕ) (t t' : State) → Allocates sllen s size align m t → Allocates sllen s' size align n t'
+  pub allocate-similar : (sllen size align : ℕ) (m n : Option ℕ) (t t' : State) → Allocates sllen s size align m t → Allocates sllen s' size align n t'
       → (m ≡ n) × AreSimilar t t'
   allocate-similar sllen size align None None t t' a b = (refl, AreSimilar-at a.1 b.1 r)
   allocate-similar sllen size align None (Some y) t t' a b =
@@ -122,7 +122,7 @@ module _ {fllen sllen : ℕ} {memory : Range} {s s' : State} (w' : IsWellFormed 
       subst (λ x. HasSame (h ∷ map shape_of (others u.payload s.used)) (record { block = p.block; payload = p.payload; align = x.align } ∷ map shape_of (others x.payload s'.used))) same
       (HasSame-cons h (map shape_of (others u.payload s.used)) (map shape_of (others u.payload s'.used)) apart)
 
-  reallocate-similar : (size : ℕ) (o : Option Plan) (m n : Option ℕ) (t t' : State)
+  pub reallocate-similar : (size : ℕ) (o : Option Plan) (m n : Option ℕ) (t t' : State)
       → ReallocatesBy sllen s u size o m t → ReallocatesBy sllen s' v size o n t' → (m ≡ n) × AreSimilar t t'
   reallocate-similar size (Some p) None n t t' a b = absurd a
   reallocate-similar size (Some p) (Some x) None t t' a b = absurd b
@@ -169,3 +169,6 @@ similar_states_agree fllen sllen memory s s' t t' (reallocate addr size m) (real
 similar_states_agree fllen sllen memory s s' t t' (fill addr bytes) (fill addr' bytes') w w' r a b (same, same') =
     (ap₂ fill same same', AreSimilar-alike r (AreAlike-filled a) (AreAlike-filled b))
 similar_states_agree fllen sllen memory s s' t t' e e' w w' r a b same = absurd same
+
+pub fill_is_similar : FillIsSimilar
+fill_is_similar s t addr bytes step = AreSimilar-alike (record { chunks = λ c. (λ i. i, λ i. i); used = λ h. (λ i. i, λ i. i); free = refl }) (record { chunks = refl; used = refl; free = refl }) (AreAlike-filled step)

@@ -1,16 +1,18 @@
 -- A range that was handed in, whole but for some bytes at its ends, makes the awaited allocation succeed.
 use Rattle.std.proofs.Common.{◌≡◌, ℕ, zero, suc, ◌+◌, ◌-◌, ◌*◌, ◌/◌, ◌%◌, ◌<◌, ◌≤◌, List, Option, Some, None, find, true≢false, arith, refl, sym, ◌∙◌, ap, subst, inl, inr}
-use Rattle.std.proofs.lemmas.Bool.{eq-eqb, eqb-true}
+use Rattle.std.proofs.lemmas.Bool.{cases_lt, eq-eqb, eqb-true}
+use Rattle.std.proofs.lemmas.Option.{none-some, same_Some}
 use Rattle.rlsf_base.specs.declared.memory.range.Range.{Range}
 use Rattle.rlsf_base.specs.Range.{end_of, range_at}
 use Rattle.rlsf_base.specs.SizeClass.{class_of, IsValid}
 use Rattle.rlsf_base.specs.Sizes.{max_pool_size, pool_size_to_contain_allocation, request_size}
 use Rattle.rlsf_base.proofs.SizeClasses.Order.{IsAtMost-class_of, Reaches-IsAtMost}
 use Rattle.rlsf_base.proofs.SizeClasses.Reach.{division-lt}
+use Rattle.rlsf_base.proofs.SizeMaps.PoolSizes.{max_pool_size-some}
 use Rattle.rlsf_base.proofs.SizeMaps.Laws.{pool_contains_its_allocation, pool_is_one_chunk}
 use Rattle.rlsf_base.proofs.SizeMaps.RowLengths.{IsPower-row_length}
 use Rattle.rlsf_machine.specs.Allocate.{choice, Allocates}
-use Rattle.rlsf_machine.specs.Insert.{aligned_part, appended, appended_bytes, body, cut, end_of_last, extended, grown, grown_if, with_chunks, Appends, Inserts, IsNext}
+use Rattle.rlsf_machine.specs.Insert.{aligned_part, appended, appended_bytes, body, bytes_taken, cut, end_of_last, extended, grown, grown_if, with_chunks, Appends, Inserts, IsNext}
 use Rattle.rlsf_machine.specs.Join.{ends_at}
 use Rattle.rlsf_machine.specs.Lists.{IsIn}
 use Rattle.rlsf_machine.specs.PoolLength.{HasAlignedPart, HasPool, IsPoolSize}
@@ -20,6 +22,7 @@ use Rattle.rlsf_machine.proofs.AddedChunks.{AreCutFrom, AreCutFrom-cut, IsIn-wit
 use Rattle.rlsf_machine.proofs.Choices.{choice-none}
 use Rattle.rlsf_machine.proofs.Chunks.{IsIn-with_chunks}
 use Rattle.rlsf_machine.proofs.Coverage.{find-none, find-some, IsIn-without}
+use Rattle.rlsf_machine.proofs.Cuts.{chunks_are_cut_off_the_front, most_whole}
 use Rattle.rlsf_machine.proofs.Joins.{IsIn-join}
 use Rattle.rlsf_machine.proofs.Releases.{IsSound-free}
 
@@ -103,6 +106,30 @@ inserted_pool fllen sllen e s t r taken rows room whole short has step =
     let (is_taken, pool) = cut_pool e end s r part cs is are in
     (end - r.start, step.answer ∙ are.told r.start, subst (IsTaken s r (end - r.start)) (sym step.after) is_taken, subst (HasPool e) (sym step.after) pool)
 
+-- no chunk is cut off fewer than 64 bytes
+bytes_taken-long : (fllen start n : ℕ) (part : Range) → 0 < fllen → bytes_taken start (cut (max_pool_size fllen) part) ≡ Some n → 64 ≤ part.len
+bytes_taken-long fllen start n part rows told = elim (cases_lt part.len 64) [
+  | inl short ↦ absurd (none-some n (sym (ap (bytes_taken start) ((chunks_are_cut_off_the_front fllen part.start part.len rows).0 short)) ∙ told))
+  | inr long ↦ long
+]
+
+-- a greatest length has room for a block
+most_long : (fllen p : ℕ) → 0 < fllen → max_pool_size fllen ≡ Some p → 64 ≤ p
+most_long fllen p rows is = omega (arith, (max_pool_size-some fllen p is).1, (most_whole fllen rows).1)
+
+-- a range of which an insert takes something is taken
+pub inserted_taken : (fllen : ℕ) (s t : State) (r : Range) (n : ℕ) → 0 < fllen → Inserts fllen s r (Some n) t → (64 ≤ r.len) × IsTaken s r n t
+inserted_taken fllen s t r n rows step =
+    let part = aligned_part r in
+    let cs = cut (max_pool_size fllen) part in
+    let end = end_of_last part.start cs in
+    let long = bytes_taken-long fllen r.start n part rows (sym step.answer) in
+    let is : IsPartOf 64 r part = record { from = omega arith; to = omega (arith, long); nearly = omega (arith, long); long = long } in
+    let are = AreCutFrom-cut fllen 64 part rows (omega arith) (λ p most. most_long fllen p rows most) (omega arith) long in
+    let (is_taken, pool) = cut_pool 64 end s r part cs is are in
+    let same : end - r.start ≡ n = same_Some (end - r.start) n (sym (are.told r.start) ∙ sym step.answer) in
+    (omega (arith, long), subst (λ m. IsTaken s r m t) same (subst (IsTaken s r (end - r.start)) (sym step.after) is_taken))
+
 -- ---- a chunk goes on
 
 module _ {fllen sllen : ℕ} {memory : Range} {s : State} (w : IsWellFormed fllen sllen memory s) (e m : ℕ) (r : Range) (some : 0 < m) (m32 : m % 32 ≡ 0) (long : e ≤ m) (within : m ≤ r.len) (nearly : r.len < m + 64) where
@@ -159,3 +186,8 @@ appended_pool fllen sllen e memory s t r n w next room whole short long step =
         let pool = cut_pool e (end_of_last part.start (cut (max_pool_size fllen) part)) s r part (cut (max_pool_size fllen) part) fits are in
         subst (λ a. IsTaken s r (end_of_last a (cut (Some most) part) - r.start) (with_chunks (cut (Some most) part) s) × HasPool e (with_chunks (cut (Some most) part) s)) at
         (subst (λ o. IsTaken s r (end_of_last part.start (cut o part) - r.start) (with_chunks (cut o part) s) × HasPool e (with_chunks (cut o part) s)) is pool)
+
+-- 64 bytes or more that are appended are taken
+pub appended_taken : (fllen sllen : ℕ) (memory : Range) (s t : State) (r : Range) (n : ℕ) → IsWellFormed fllen sllen memory s → IsNext memory s r → 64 ≤ r.len → Appends fllen s r n t → IsTaken s r n t
+appended_taken fllen sllen memory s t r n w next long step =
+    (appended_pool fllen sllen 64 memory s t r n w next (omega arith) refl (λ p most. most_long fllen p w.rows most) long step).0

@@ -1,14 +1,14 @@
 -- Ranges that touch no byte of a chunk.
-use Rattle.std.proofs.Common.{◌≡◌, ℕ, ◌+◌, ◌<◌, ◌≤◌, ◌⊎◌, List, [], ◌∷◌, Option, arith, refl, sym, ◌∙◌, ap, subst, inl, inr}
+use Rattle.std.proofs.Common.{◌≡◌, ℕ, ◌+◌, List, [], ◌∷◌, Option, arith, refl, ◌∙◌, ap, inl, inr}
 use Rattle.std.proofs.lemmas.Bool.{cases_lt}
 use Rattle.rlsf_base.specs.declared.memory.range.Range.{Range}
 use Rattle.rlsf_base.proofs.Numbers.Roundings.{round32-le}
 use Rattle.rlsf_base.specs.Range.{AreApart, LiesIn, end_of}
 use Rattle.rlsf_base.specs.Sizes.{max_pool_size}
-use Rattle.rlsf_machine.specs.Insert.{Inserts, IsClear, IsFresh, IsUntouched, aligned_part, cut, with_chunk, with_chunks}
+use Rattle.rlsf_machine.specs.Insert.{Inserts, IsFresh, IsUntouched, aligned_part, cut, with_chunk, with_chunks}
 use Rattle.rlsf_machine.specs.State.{State, empty}
 use Rattle.rlsf_machine.specs.WellFormed.{covers, coverage, itself}
-use Rattle.rlsf_machine.proofs.Coverage.{covers-before, covers-behind, covers-inside, covers-some, where_is}
+use Rattle.rlsf_machine.proofs.Coverage.{covers-before, covers-behind, covers-inside}
 use Rattle.rlsf_machine.proofs.Cuts.{coverage-cut}
 use Rattle.rlsf_machine.proofs.Insertions.{IsWhole-aligned_part}
 

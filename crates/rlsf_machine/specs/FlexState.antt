@@ -1,5 +1,5 @@
 -- The state of the machine that asks a source for memory.
-use Rattle.std.specs.Prelude.{ℕ, List, [], Option, None}
+use Rattle.std.specs.Prelude.{◌≡◌, ℕ, List, [], Option, None}
 use Rattle.rlsf_base.specs.declared.memory.range.Range.{Range}
 use Rattle.rlsf_machine.specs.State as state
 
@@ -21,3 +21,10 @@ empty = record { machine = state.empty; pools = []; kept = None }
 -- with another state of the machine
 abbrev pub with_machine : FlexState → state.State → FlexState
 with_machine s m = record { machine = m; pools = s.pools; kept = s.kept }
+
+-- two states have the same ranges and the same kept pool, and the machine's own states are alike but for bytes and for the order of
+-- their chunks and of their used blocks
+pub record AreFlexSimilar (s t : FlexState) : Type 0 where
+  pub machine : state.AreSimilar s.machine t.machine
+  pub pools : s.pools ≡ t.pools
+  pub kept : s.kept ≡ t.kept

@@ -1,18 +1,25 @@
 -- What holds of the machine's states and steps.
-use Rattle.std.specs.Prelude.{◌≡◌, ◌≢◌, ◌↔◌, ◌⊎◌, ℕ, ◌+◌, ◌*◌, ◌%◌, ◌^◌, ◌<◌, ◌≤◌, List, [], ◌∷◌, ◌++◌, filter, length, Option, Some, None, IfSome, ◌==◌, min, ◌-◌}
+use Rattle.std.specs.Prelude.{◌≡◌, ◌≢◌, true, ◌↔◌, ◌⊎◌, ℕ, ◌+◌, ◌*◌, ◌%◌, ◌^◌, ◌<◌, ◌≤◌, List, [], ◌∷◌, ◌++◌, filter, length, Option, Some, None, IfSome, ◌==◌, min, ◌-◌}
 use Rattle.rlsf_base.specs.declared.memory.range.Range.{Range}
 use Rattle.rlsf_base.specs.PowerOfTwo.{IsPowerOfTwo}
-use Rattle.rlsf_base.specs.Range.{end_of, range_at}
+use Rattle.rlsf_base.specs.Range.{end_of, range_at, LiesIn}
 use Rattle.rlsf_base.specs.SizeClass.{class_of, IsAtMost, IsValid, Reaches}
 use Rattle.rlsf_base.specs.Sizes.{max_pool_size, pool_size_to_contain_allocation, request_size}
 use Rattle.rlsf_machine.specs.Allocate.{choice, has_class, Allocates}
+use Rattle.rlsf_machine.specs.Answers.{MayAnswerAll}
 use Rattle.rlsf_machine.specs.Callers.{Payload, payload_in, payload_at, Changes}
+use Rattle.rlsf_machine.specs.FlexRun.{AllComeTo, AreSameCalls, FlexEvent, FlexLeads, HandsIn, IsFlexRun, IsFlexStep, notes_in}
+use Rattle.rlsf_machine.specs.FlexState.{FlexState, AreFlexSimilar, empty as flex_empty}
+use Rattle.rlsf_machine.specs.FlexWellFormed.{IsFlexWellFormed}
+use Rattle.rlsf_machine.specs.Growth.{Extends, IsPossible, Outcome, Questions, is_more, notes_of}
 use Rattle.rlsf_machine.specs.Insert.{body, cut, Inserts}
 use Rattle.rlsf_machine.specs.Lists.{IsIn, without}
+use Rattle.rlsf_machine.specs.Note.{Note, AnswersAgree}
 use Rattle.rlsf_machine.specs.Reallocate.{Keeps, Reallocates}
 use Rattle.rlsf_machine.specs.Release.{Deallocates}
 use Rattle.rlsf_machine.specs.Run.{Event, insert, append, allocate, deallocate, reallocate, fill, Fills, Leads, MayCall, Names, Runs, IsSameCall, IsRefused}
 use Rattle.rlsf_machine.specs.State.{State, Used, empty, usable, Holds, HasBytes, IsLive, AreAlike, IsReordered, AreSimilar}
+use Rattle.rlsf_machine.specs.Terms.{Terms}
 use Rattle.rlsf_machine.specs.WellFormed.{covers, IsWellFormed}
 
 -- the machine to which nothing was handed is well-formed
@@ -234,3 +241,120 @@ abbrev pub IdleChunkHasRoom : Type 0
 IdleChunkHasRoom = (fl_bits sl_bits fllen sllen size align e : ℕ) (memory : Range) (s t : State) (c : Range) (reply : Option ℕ) → IsValid fl_bits sl_bits fllen sllen
     → IsWellFormed fllen sllen memory s → pool_size_to_contain_allocation fllen sllen size align ≡ Some e → s.used ≡ [] → IsIn c s.chunks → e ≤ c.len
     → Allocates sllen s size align reply t → reply ≢ None
+
+-- a fill leaves a similar state
+abbrev pub FillIsSimilar : Type 0
+FillIsSimilar = (s t : State) (addr : ℕ) (bytes : List ℕ) → Fills s addr bytes t → AreSimilar s t
+
+-- ---- over a source of memory
+
+-- over a source too, the machine is a map from addresses to payloads to its callers: whatever was asked, each step between
+-- well-formed states changes it as the call and its reply say
+abbrev pub FlexCallersSeeMap : Type 0
+FlexCallersSeeMap = (fllen sllen : ℕ) (terms : Terms) (before after : Range) (s u : FlexState) (e : Event) (notes : List Note) → IsWellFormed fllen sllen before s.machine
+    → IsWellFormed fllen sllen after u.machine → MayCall before s.machine e → FlexLeads fllen sllen terms s e notes u → Changes (payload_at s.machine) e (payload_at u.machine)
+
+-- the machine over a source to which nothing came yet is well-formed
+abbrev pub FlexEmptyIsWellFormed : Type 0
+FlexEmptyIsWellFormed = (fllen sllen : ℕ) (memory : Range) (t : Terms) → 0 < fllen → 0 < sllen → end_of memory < 2 ^ 64 → LiesIn t.space memory.start memory.len
+    → IsFlexWellFormed fllen sllen memory t flex_empty
+
+-- memory that comes for an allocation leaves a well-formed state, whatever of what it may answer the source answers
+abbrev pub GrowthKeepsWellFormed : Type 0
+GrowthKeepsWellFormed = (fl_bits sl_bits fllen sllen : ℕ) (memory : Range) (t : Terms) (s u : FlexState) (size align : ℕ) (outcome : Outcome) (notes : List Note) → IsValid fl_bits sl_bits fllen sllen
+    → IsFlexWellFormed fllen sllen memory t s → MayAnswerAll t s.pools notes → Extends fllen t s (pool_size_to_contain_allocation fllen sllen size align) outcome notes u
+    → IsFlexWellFormed fllen sllen memory t u
+
+-- memory that comes for an allocation has room for it, however much comes: it isn't refused then
+abbrev pub GrowthHasRoom : Type 0
+GrowthHasRoom = (fl_bits sl_bits fllen sllen : ℕ) (memory : Range) (t : Terms) (s u : FlexState) (size align : ℕ) (outcome : Outcome) (notes : List Note) (reply : Option ℕ) (m : State)
+    → IsValid fl_bits sl_bits fllen sllen → IsFlexWellFormed fllen sllen memory t s → MayAnswerAll t s.pools notes
+    → Extends fllen t s (pool_size_to_contain_allocation fllen sllen size align) outcome notes u → is_more outcome ≡ true → Allocates sllen u.machine size align reply m → reply ≢ None
+
+-- each step over a source keeps a state well-formed
+abbrev pub FlexStepsKeepWellFormed : Type 0
+FlexStepsKeepWellFormed = (fl_bits sl_bits fllen sllen : ℕ) (memory : Range) (t : Terms) (s u : FlexState) (e : Event) (notes : List Note) → IsValid fl_bits sl_bits fllen sllen
+    → IsFlexWellFormed fllen sllen memory t s → IsFlexStep fllen sllen memory t s e notes u → IsFlexWellFormed fllen sllen memory t u
+
+-- and so does each run of them
+abbrev pub FlexRunsKeepWellFormed : Type 0
+FlexRunsKeepWellFormed = (fl_bits sl_bits fllen sllen : ℕ) (memory : Range) (t : Terms) (s u : FlexState) (cs : List FlexEvent) → IsValid fl_bits sl_bits fllen sllen
+    → IsFlexWellFormed fllen sllen memory t s → IsFlexRun fllen sllen memory t s cs u → IsFlexWellFormed fllen sllen memory t u
+
+-- steps over a source are determined: from similar states the same call asks the same questions, has the same reply, and leads to
+-- similar states, where the source gives the same answers to the same questions
+abbrev pub FlexSimilarStatesAgree : Type 0
+FlexSimilarStatesAgree = (fl_bits sl_bits fllen sllen : ℕ) (memory : Range) (t : Terms) (s s' u u' : FlexState) (e e' : Event) (notes notes' : List Note) → IsValid fl_bits sl_bits fllen sllen
+    → IsFlexWellFormed fllen sllen memory t s → IsFlexWellFormed fllen sllen memory t s' → AreFlexSimilar s s' → MayAnswerAll t s.pools notes
+    → FlexLeads fllen sllen t s e notes u → FlexLeads fllen sllen t s' e' notes' u' → IsSameCall e e' → AnswersAgree notes notes' → (e ≡ e') × (notes ≡ notes') × AreFlexSimilar u u'
+
+-- and so are runs: the same calls with the same answers to the same questions have the same replies
+abbrev pub FlexSimilarRunsAgree : Type 0
+FlexSimilarRunsAgree = (fl_bits sl_bits fllen sllen : ℕ) (memory : Range) (t : Terms) (s s' u u' : FlexState) (cs cs' : List FlexEvent) → IsValid fl_bits sl_bits fllen sllen
+    → IsFlexWellFormed fllen sllen memory t s → IsFlexWellFormed fllen sllen memory t s' → AreFlexSimilar s s' → IsFlexRun fllen sllen memory t s cs u → IsFlexRun fllen sllen memory t s' cs' u'
+    → AreSameCalls cs cs' → AnswersAgree (notes_in cs) (notes_in cs') → (cs ≡ cs') × AreFlexSimilar u u'
+
+-- a run over a source is one of the machine alone, in which the memory that comes is handed in
+abbrev pub FlexRunsAreRuns : Type 0
+FlexRunsAreRuns = (fl_bits sl_bits fllen sllen : ℕ) (memory : Range) (t : Terms) (s u : FlexState) (cs : List FlexEvent) → IsValid fl_bits sl_bits fllen sllen
+    → IsFlexWellFormed fllen sllen memory t s → IsFlexRun fllen sllen memory t s cs u → (es : List Event) × AllComeTo cs es × Runs fllen sllen memory s.machine es u.machine
+
+-- each step over a source changes the callers' map as its call and its reply say
+abbrev pub FlexStepsChangeMap : Type 0
+FlexStepsChangeMap = (fl_bits sl_bits fllen sllen : ℕ) (memory : Range) (t : Terms) (s u : FlexState) (e : Event) (notes : List Note) → IsValid fl_bits sl_bits fllen sllen
+    → IsFlexWellFormed fllen sllen memory t s → IsFlexStep fllen sllen memory t s e notes u → Changes (payload_at s.machine) e (payload_at u.machine)
+
+-- where payloads lie: each at a multiple of its alignment in one used block, which stands once; the usable ranges of different
+-- ones have no byte in common, and each lies in one chunk
+pub record PayloadsAreApart (s : State) : Type 0 where
+  pub aligned : (addr align : ℕ) → IsLive s addr align → addr % align ≡ 0
+  pub one_block : (addr : ℕ) (u : Used) → Holds s addr u → filter (λ v. v.payload == addr) s.used ≡ u ∷ []
+  pub disjoint : (u v : Used) (a : ℕ) → IsIn u s.used → IsIn v s.used → u.payload ≢ v.payload → covers (usable u) a + covers (usable v) a ≤ 1
+  pub in_one_chunk : (u : Used) → IsIn u s.used → (c : Range) × IsIn c s.chunks × (c.start ≤ (usable u).start) × (end_of (usable u) ≤ end_of c)
+      × ((d : Range) (a : ℕ) → IsIn d s.chunks → covers (usable u) a ≡ 1 → covers d a ≡ 1 → d ≡ c)
+
+-- so they lie after each run over a source
+abbrev pub FlexPayloadsAreApart : Type 0
+FlexPayloadsAreApart = (fl_bits sl_bits fllen sllen : ℕ) (memory : Range) (t : Terms) (s u : FlexState) (cs : List FlexEvent) → IsValid fl_bits sl_bits fllen sllen
+    → IsFlexWellFormed fllen sllen memory t s → IsFlexRun fllen sllen memory t s cs u → PayloadsAreApart u.machine
+
+-- over a source too an allocation gives as many usable bytes as were asked for, and less than 32 more
+abbrev pub FlexAllocationHasSize : Type 0
+FlexAllocationHasSize = (fl_bits sl_bits fllen sllen : ℕ) (memory : Range) (t : Terms) (s u : FlexState) (size align : ℕ) (reply : Option ℕ) (notes : List Note) → IsValid fl_bits sl_bits fllen sllen
+    → IsFlexWellFormed fllen sllen memory t s → IsFlexStep fllen sllen memory t s (allocate size align reply) notes u → IfSome reply (HasSize u.machine size)
+
+-- and so does a reallocation
+abbrev pub FlexReallocationHasSize : Type 0
+FlexReallocationHasSize = (fl_bits sl_bits fllen sllen : ℕ) (memory : Range) (t : Terms) (s u : FlexState) (addr size : ℕ) (reply : Option ℕ) (notes : List Note) → IsValid fl_bits sl_bits fllen sllen
+    → IsFlexWellFormed fllen sllen memory t s → IsFlexStep fllen sllen memory t s (reallocate addr size reply) notes u → IfSome reply (HasSize u.machine size)
+
+-- a payload that gets another size over a source is one used block with its alignment and the bytes that both sizes have
+abbrev pub FlexReallocationKeepsBytes : Type 0
+FlexReallocationKeepsBytes = (fl_bits sl_bits fllen sllen : ℕ) (memory : Range) (t : Terms) (s u : FlexState) (addr size to : ℕ) (notes : List Note) (x : Used) → IsValid fl_bits sl_bits fllen sllen
+    → IsFlexWellFormed fllen sllen memory t s → IsFlexStep fllen sllen memory t s (reallocate addr size (Some to)) notes u → Holds s.machine addr x
+    → (v : Used) × Holds u.machine to v × (v.align ≡ x.align) × Keeps x.bytes v.bytes
+
+-- a step over a source that doesn't name a payload leaves its block with its bytes as it was
+abbrev pub FlexOtherPayloadsStay : Type 0
+FlexOtherPayloadsStay = (fllen sllen : ℕ) (t : Terms) (s u : FlexState) (e : Event) (notes : List Note) (x : Used) → FlexLeads fllen sllen t s e notes u
+    → IsIn x s.machine.used → (Names e x.payload → ⊥) → IsIn x u.machine.used
+
+-- a used block that a step over a source names neither in its call nor in its reply was there before, with the same bytes
+abbrev pub FlexUsedWasUsed : Type 0
+FlexUsedWasUsed = (fllen sllen : ℕ) (t : Terms) (s u : FlexState) (e : Event) (notes : List Note) (x : Used) → FlexLeads fllen sllen t s e notes u
+    → IsIn x u.machine.used → (Names e x.payload → ⊥) → (Gives e x.payload → ⊥) → IsIn x s.machine.used
+
+-- to whatever it is asked a source gives answers that it may give while these ranges are outstanding, and this comes of them
+abbrev pub MayRespond : Terms → List Range → (Questions → Outcome) → Type 0
+MayRespond t owed respond = (q : Questions) → IsPossible q (respond q) × MayAnswerAll t owed (notes_of q (respond q))
+
+-- nothing was asked, or something, to which the source gave its answers
+abbrev pub IsAnswered : (Questions → Outcome) → List Note → Type 0
+IsAnswered respond notes = (notes ≡ []) ⊎ ((q : Questions) × (notes ≡ notes_of q (respond q)))
+
+-- over a source too each call that its caller may make has a reply and a state after, whatever of what it may answer the source
+-- answers
+abbrev pub FlexEachCallAnswers : Type 0
+FlexEachCallAnswers = (fl_bits sl_bits fllen sllen : ℕ) (memory : Range) (t : Terms) (s : FlexState) (e : Event) (respond : Questions → Outcome) → IsValid fl_bits sl_bits fllen sllen
+    → IsFlexWellFormed fllen sllen memory t s → MayCall memory s.machine e → FillsWhole s.machine e → (HandsIn e → ⊥) → MayRespond t s.pools respond
+    → (e' : Event) × (notes : List Note) × (u : FlexState) × IsSameCall e e' × IsAnswered respond notes × IsFlexStep fllen sllen memory t s e' notes u

@@ -2,12 +2,15 @@
 -- It knows the chunks of memory that were handed to it, the blocks that are in use, and one list of the
 -- ranges that are free, the newest first. All arithmetic is that of whole numbers without bound.
 pub mod Allocate
+pub mod Answers
 pub mod Callers
 pub mod ChunkRows
 pub mod End
 pub mod FlexAllocate
 pub mod FlexReallocate
+pub mod FlexRun
 pub mod FlexState
+pub mod FlexWellFormed
 pub mod Growth
 pub mod Insert
 pub mod Join

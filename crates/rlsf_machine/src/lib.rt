@@ -3,11 +3,12 @@
 //! It knows the chunks of memory that were handed to it, the blocks that are in use, and one list of the ranges that
 //! are free, the newest first; nothing of how a program keeps them. Read `specs/` in this order: `Lists` (two words),
 //! `State`, `Payload`, `WellFormed`, `Join`, `Insert` (and append), `Allocate`, `Release`, `Reallocate`, `Run` (lists of
-//! calls), `Callers` (what these see of it), `Laws`; and for a machine that asks a source for memory `Terms` and `Note` (sources),
-//! `FlexState`, `Growth`, `FlexAllocate`, `FlexReallocate`, `End`. Each step is a relation between the state before, the call, the reply and the state after.
+//! calls), `Callers` (what these see of it), `Laws`; and for a machine that asks a source for memory `Terms`, `Note` and `Answers` (sources),
+//! `FlexState`, `Growth`, `FlexAllocate`, `FlexReallocate`, `FlexRun`, `FlexWellFormed`, `End`. Each step is a relation between the
+//! state before, the call, the reply and the state after.
 #![tactic(auto)]
 
-ghost use Rattle.rlsf_machine.specs.Laws.{EmptyIsWellFormed, StepsKeepWellFormed, RunsKeepWellFormed, StepsAreDetermined, OrderMeansNothing, RefusalChangesNothing, ChunksAreCutOffTheFront, LiveAddressesAreAligned, LiveAddressHasOneBlock, PayloadsAreDisjoint, PayloadLiesInOneChunk, AllocationHasSize, ReallocationHasSize, RoomIsFound, PoolHasRoom, AllocationAnswers, RefusedWithoutReach, ChoiceIsFirstOfLeast, IdleChunkIsOneRange, ChunksStay, OtherPayloadsStay, HandedOutIsNew, ReallocatedIsLive, LiveStays, ReleasedIsNotLive, FilledHasBytes, FillLeavesOthers, DeallocationLeavesOthers, InsertedChunksLieInRange, UsedWasUsed, SimilarStatesAgree, EachCallAnswers, ReallocationKeepsBytes, PayloadIsInBlock, CallersSeeMap, IdleChunkHasRoom};
+ghost use Rattle.rlsf_machine.specs.Laws.{EmptyIsWellFormed, StepsKeepWellFormed, RunsKeepWellFormed, StepsAreDetermined, OrderMeansNothing, RefusalChangesNothing, ChunksAreCutOffTheFront, LiveAddressesAreAligned, LiveAddressHasOneBlock, PayloadsAreDisjoint, PayloadLiesInOneChunk, AllocationHasSize, ReallocationHasSize, RoomIsFound, PoolHasRoom, AllocationAnswers, RefusedWithoutReach, ChoiceIsFirstOfLeast, IdleChunkIsOneRange, ChunksStay, OtherPayloadsStay, HandedOutIsNew, ReallocatedIsLive, LiveStays, ReleasedIsNotLive, FilledHasBytes, FillLeavesOthers, DeallocationLeavesOthers, InsertedChunksLieInRange, UsedWasUsed, SimilarStatesAgree, EachCallAnswers, ReallocationKeepsBytes, PayloadIsInBlock, CallersSeeMap, IdleChunkHasRoom, FillIsSimilar, FlexCallersSeeMap, FlexEmptyIsWellFormed, GrowthKeepsWellFormed, GrowthHasRoom, FlexStepsKeepWellFormed, FlexRunsKeepWellFormed, FlexRunsAreRuns, FlexStepsChangeMap, FlexPayloadsAreApart, FlexAllocationHasSize, FlexReallocationHasSize, FlexReallocationKeepsBytes, FlexOtherPayloadsStay, FlexUsedWasUsed, FlexSimilarStatesAgree, FlexSimilarRunsAgree, FlexEachCallAnswers};
 
 /// Does nothing. Its contract states the laws of the machine, so that a check proves them.
 ///
@@ -26,7 +27,16 @@ ghost use Rattle.rlsf_machine.specs.Laws.{EmptyIsWellFormed, StepsKeepWellFormed
 /// and of used blocks give the same reply to the same call, and stay so alike. Each call that its caller may make
 /// has a reply. A payload that gets another size keeps the bytes that both sizes have. To its callers the machine is a
 /// map from addresses to payloads, which each step changes as its call and its reply say. With nothing live, a chunk of
-/// the pool size that is computed for an allocation makes it succeed.
+/// the pool size that is computed for an allocation makes it succeed. A fill leaves a similar state.
+///
+/// Over a source of memory too the machine is such a map to its callers, between any two states that are well-formed. The
+/// beginning is, and as long as the source answers what it may, memory that comes, each step and each run over it keep a
+/// state well-formed, and so they change the map as the calls say; and memory that comes for an allocation has room for it.
+/// After each run payloads lie apart, each in one chunk at a multiple of its alignment; sizes, the bytes that both sizes have,
+/// and payloads that a step doesn't name are as without a source. A run over a source is one of the machine alone, in which
+/// the memory that comes is handed in. From similar states, where the source gives the same answers to the same questions, the
+/// same calls ask the same, have the same replies, and lead to similar states. Each call that its caller may make has a reply,
+/// whatever of what it may answer the source answers.
 pub fn laws()
     ensures empty { EmptyIsWellFormed }
     ensures steps { StepsKeepWellFormed }
@@ -64,4 +74,22 @@ pub fn laws()
     ensures in_block { PayloadIsInBlock }
     ensures callers { CallersSeeMap }
     ensures idle_room { IdleChunkHasRoom }
+    ensures fill_similar { FillIsSimilar }
+    ensures flex_callers { FlexCallersSeeMap }
+    ensures flex_empty { FlexEmptyIsWellFormed }
+    ensures flex_growth { GrowthKeepsWellFormed }
+    ensures flex_room { GrowthHasRoom }
+    ensures flex_steps { FlexStepsKeepWellFormed }
+    ensures flex_runs { FlexRunsKeepWellFormed }
+    ensures flex_as_runs { FlexRunsAreRuns }
+    ensures flex_map { FlexStepsChangeMap }
+    ensures flex_apart { FlexPayloadsAreApart }
+    ensures flex_allocated_size { FlexAllocationHasSize }
+    ensures flex_reallocated_size { FlexReallocationHasSize }
+    ensures flex_kept_bytes { FlexReallocationKeepsBytes }
+    ensures flex_others_stay { FlexOtherPayloadsStay }
+    ensures flex_was_used { FlexUsedWasUsed }
+    ensures flex_similar { FlexSimilarStatesAgree }
+    ensures flex_similar_runs { FlexSimilarRunsAgree }
+    ensures flex_each_call { FlexEachCallAnswers }
 {}

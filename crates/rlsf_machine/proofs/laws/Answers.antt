@@ -2,12 +2,19 @@ use Rattle.rlsf_machine.proofs.Callers.{payload_is_in_block, callers_see_map}
 use Rattle.rlsf_machine.proofs.Chunks.{chunks_stay, inserted_chunks_lie_in_range}
 use Rattle.rlsf_machine.proofs.Cuts.{chunks_are_cut_off_the_front}
 use Rattle.rlsf_machine.proofs.Determined.{steps_are_determined, refusal_changes_nothing}
+use Rattle.rlsf_machine.proofs.FlexCallers.{flex_callers_see_map}
+use Rattle.rlsf_machine.proofs.FlexGrowths.{growth_has_room, growth_keeps_well_formed}
+use Rattle.rlsf_machine.proofs.FlexPayloads.{flex_steps_change_map, flex_payloads_are_apart, flex_allocation_has_size, flex_reallocation_has_size, flex_reallocation_keeps_bytes, flex_other_payloads_stay, flex_used_was_used}
+use Rattle.rlsf_machine.proofs.FlexReplies.{flex_each_call_answers}
+use Rattle.rlsf_machine.proofs.FlexRuns.{flex_runs_are_runs}
+use Rattle.rlsf_machine.proofs.FlexSimilar.{flex_similar_states_agree, flex_similar_runs_agree}
+use Rattle.rlsf_machine.proofs.FlexSteps.{flex_empty_is_well_formed, flex_steps_keep_well_formed, flex_runs_keep_well_formed}
 use Rattle.rlsf_machine.proofs.Live.{live_addresses_are_aligned, live_address_has_one_block, payloads_are_disjoint, payload_lies_in_one_chunk, allocation_has_size, reallocation_has_size, reallocation_keeps_bytes, other_payloads_stay, used_was_used, handed_out_is_new, reallocated_is_live, live_stays, released_is_not_live, filled_has_bytes, fill_leaves_others, deallocation_leaves_others}
 use Rattle.rlsf_machine.proofs.Orders.{order_means_nothing}
 use Rattle.rlsf_machine.proofs.Pools.{pool_has_room, idle_chunk_has_room}
 use Rattle.rlsf_machine.proofs.Replies.{each_call_answers}
 use Rattle.rlsf_machine.proofs.Room.{room_is_found, allocation_answers, refused_without_reach, choice_is_first_of_least, idle_chunk_is_one_range}
-use Rattle.rlsf_machine.proofs.Similar.{similar_states_agree}
+use Rattle.rlsf_machine.proofs.Similar.{fill_is_similar, similar_states_agree}
 use Rattle.rlsf_machine.proofs.Steps.{empty_is_well_formed, steps_keep_well_formed, runs_keep_well_formed}
 use Rattle.rlsf_machine.proofs.laws.Goals as goal
 
@@ -49,4 +56,22 @@ returns c = record {
   in_block = payload_is_in_block;
   callers = callers_see_map;
   idle_room = idle_chunk_has_room;
+  fill_similar = fill_is_similar;
+  flex_callers = flex_callers_see_map;
+  flex_empty = flex_empty_is_well_formed;
+  flex_growth = growth_keeps_well_formed;
+  flex_room = growth_has_room;
+  flex_steps = flex_steps_keep_well_formed;
+  flex_runs = flex_runs_keep_well_formed;
+  flex_as_runs = flex_runs_are_runs;
+  flex_map = flex_steps_change_map;
+  flex_apart = flex_payloads_are_apart;
+  flex_allocated_size = flex_allocation_has_size;
+  flex_reallocated_size = flex_reallocation_has_size;
+  flex_kept_bytes = flex_reallocation_keeps_bytes;
+  flex_others_stay = flex_other_payloads_stay;
+  flex_was_used = flex_used_was_used;
+  flex_similar = flex_similar_states_agree;
+  flex_similar_runs = flex_similar_runs_agree;
+  flex_each_call = flex_each_call_answers;
 }
