@@ -1,11 +1,11 @@
 -- What holds of the words that stand inside the pools.
-use Rattle.std.specs.Prelude.{◌≡◌, ℕ, ◌<◌, ◌≤◌, ◌⊎◌, length, map}
+use Rattle.std.specs.Prelude.{◌≡◌, ℕ, ◌+◌, ◌-◌, ◌<◌, ◌≤◌, ◌⊎◌, ◌==◌, length, map, nat_lt, if◌then◌else◌}
 use Rattle.rlsf_base.specs.Range.{end_of}
-use Rattle.rlsf_base.specs.Space.{Space, byte_at, bytes_in}
+use Rattle.rlsf_base.specs.Space.{Space, byte_at, bytes_in, word_at}
 use Rattle.rlsf_machine.specs.Lists.{IsIn}
 use Rattle.rlsf_machine.specs.State.{State, Used, usable, with_bytes}
 use Rattle.rlsf_table.specs.Table.{Table}
-use Rattle.rlsf_blocks.specs.StandsFor.{contents, StandsFor}
+use Rattle.rlsf_blocks.specs.StandsFor.{Contents, contents, StandsFor}
 
 -- an address that no caller may use: outside the usable bytes of each live payload
 abbrev pub IsUnlent : State → ℕ → Type 0
@@ -29,3 +29,14 @@ read_from n s = record { chunks = s.chunks; used = map (with_bytes_of n) s.used;
 -- callers write there, it holds of the state with these bytes.
 abbrev pub WordsReadNoPayload : Type 0
 WordsReadNoPayload = (fllen sllen : ℕ) (m n : Space) (t : Table) (s : State) → StandsFor fllen sllen (contents m t) s → DiffersInPayloads m n s → StandsFor fllen sllen (contents n t) (read_from n s)
+
+-- where the block of the live payload at an address begins, by the word before the payload and one size word: 16 bytes before the
+-- payload, where that word is 0, or names a block that ends before the payload, with its size word's flag added; else where it names
+abbrev pub block_by_words : Space → ℕ → ℕ
+block_by_words m addr =
+    let named = word_at m (addr - 8) in
+    if named == 0 then addr - 16 else if nat_lt (named + word_at m named) addr then addr - 16 else named
+
+-- By these two words every live address gives its block, whatever alignment it was allocated with.
+abbrev pub WordsGiveBlock : Type 0
+WordsGiveBlock = (fllen sllen : ℕ) (v : Contents) (s : State) (u : Used) → StandsFor fllen sllen v s → IsIn u s.used → block_by_words v.memory u.payload ≡ u.block.start

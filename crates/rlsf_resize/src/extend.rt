@@ -1,6 +1,6 @@
 //! Appends: ranges that are handed in behind a chunk.
 
-ghost use Rattle.std.specs.Prelude.{◌≡◌, ◌+◌, ◌*◌, ◌≤◌, ℕ, length};
+ghost use Rattle.std.specs.Prelude.{◌≡◌, ◌+◌, ◌*◌, ◌≤◌, ℕ, is_some, length, if◌then◌else◌};
 ghost use Rattle.rlsf_base.specs.declared.memory.range.Range.{Range};
 ghost use Rattle.rlsf_base.specs.Range.{end_of};
 ghost use Rattle.rlsf_base.specs.SizeClass.{IsValid};
@@ -56,7 +56,7 @@ pub fn append<FLBitmap: Bitmap, SLBitmap: Bitmap, const FLLEN: usize, const SLLE
         → (t : State) × Appends FLLEN s range result t × StandsFor FLLEN SLLEN (contents memory.new table.new) t × KeepsSpare memory.old s memory.new t }
     ensures unchanged { result ≡ 0 → memory.new.bytes ≡ memory.old.bytes }
     ensures place { SamePlace memory.old memory.new }
-    ensures touches { memory.new.touches ≤ memory.old.touches + 34 + 13 * length (cut (max_pool_size FLLEN) (aligned_part range)) }
+    ensures touches { memory.new.touches ≤ memory.old.touches + (if is_some (max_pool_size FLLEN) then 13 * length (cut (max_pool_size FLLEN) (aligned_part range)) else 34) }
     ensures copied { memory.new.copied ≡ memory.old.copied }
 {
     if classes::max_pool_size::<FLBitmap, SLBitmap, FLLEN, SLLEN>().is_some() {

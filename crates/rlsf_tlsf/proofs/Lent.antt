@@ -1,14 +1,14 @@
 -- Bytes are left in a payload that was lent: nothing else changes, and the allocator stands for the state with these bytes.
-use Rattle.std.proofs.Common.{◌≡◌, ◌≢◌, ℕ, ◌+◌, List, length, refl, sym, ◌∙◌, ap, subst}
+use Rattle.std.proofs.Common.{◌≡◌, ◌≢◌, ℕ, List, length, refl, sym, ◌∙◌, ap, subst}
 use Rattle.rlsf_base.specs.declared.memory.range.Range.{Range}
 use Rattle.rlsf_base.specs.Lends.{lent_space}
 use Rattle.rlsf_base.specs.Range.{LiesIn}
-use Rattle.rlsf_base.specs.Space.{Space, bytes_in, SamePlace}
+use Rattle.rlsf_base.specs.Space.{Space, bytes_in}
 use Rattle.rlsf_base.proofs.Lending.Lent.{bytes_in-lent, bytes_in-lent_space, length-lent_space}
 use Rattle.rlsf_machine.specs.Callers.{align_at, bytes_at}
 use Rattle.rlsf_machine.specs.Run.{Fills}
 use Rattle.rlsf_machine.specs.State.{State, Used, usable, Holds}
-use Rattle.rlsf_machine.proofs.CallerWords.{SeesFilled, bytes_at-held, filled_seen}
+use Rattle.rlsf_machine.proofs.CallerWords.{filled_seen}
 use Rattle.rlsf_table.specs.Table.{Table}
 use Rattle.rlsf_blocks.specs.Laws.{read_from}
 use Rattle.rlsf_blocks.specs.Spare.{KeepsSpare}

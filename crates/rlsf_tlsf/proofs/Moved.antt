@@ -1,13 +1,13 @@
 -- A call's step leads, but for the bytes of payloads, where the function for the call leads.
-use Rattle.std.proofs.Common.{◌≡◌, ℕ, zero, suc, eqb, not, cond, filter, map, find, List, [], ◌∷◌, Option, Some, None, true≢false, refl, sym, ◌∙◌, ap, subst, inl, inr}
+use Rattle.std.proofs.Common.{◌≡◌, ℕ, zero, suc, eqb, not, cond, map, find, List, [], ◌∷◌, Option, Some, None, true≢false, refl, sym, ◌∙◌, ap, subst, inr}
 use Rattle.std.proofs.lemmas.Bool.{eq-eqb, eqb-true}
 use Rattle.rlsf_base.specs.declared.memory.range.Range.{Range}
-use Rattle.rlsf_base.specs.Sizes.{max_pool_size, request_size}
-use Rattle.rlsf_machine.specs.Allocate.{Allocates, Places, choice, given, placed}
+use Rattle.rlsf_base.specs.Sizes.{max_pool_size}
+use Rattle.rlsf_machine.specs.Allocate.{Places}
 use Rattle.rlsf_machine.specs.Insert.{Appends, Inserts, aligned_part, appended, cut, extended, grown_if, with_chunk, with_chunks}
 use Rattle.rlsf_machine.specs.Join.{ends_at}
 use Rattle.rlsf_machine.specs.Lists.{IsIn}
-use Rattle.rlsf_machine.specs.Reallocate.{MovesAway, Plan, Reallocates, ReallocatesBy, plan, replanned}
+use Rattle.rlsf_machine.specs.Reallocate.{Plan, Reallocates, ReallocatesBy, plan}
 use Rattle.rlsf_machine.specs.Release.{Deallocates, released}
 use Rattle.rlsf_machine.specs.State.{State, Used, Holds, others}
 use Rattle.rlsf_machine.specs.WellFormed.{IsWellFormed}

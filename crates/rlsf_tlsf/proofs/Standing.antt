@@ -7,7 +7,6 @@ use Rattle.rlsf_machine.specs.State.{State, Used, Holds, IsLive}
 use Rattle.rlsf_machine.specs.WellFormed.{IsWellFormed}
 use Rattle.rlsf_machine.proofs.CallerWords.{align_at-held, bytes_at-held}
 use Rattle.rlsf_blocks.specs.Spare.{KeepsSpare}
-use Rattle.rlsf_blocks.specs.StandsFor.{contents, StandsFor}
 use Rattle.rlsf_tlsf.specs.Allocator.{Allocator, IsInState, Stands, Steps}
 
 -- an allocator that stands is in its state

@@ -1,8 +1,8 @@
 //! The allocator over pools that its caller hands in: two-level segregated fit (Masmano and others, ECRTS 2004).
 #![tactic(auto)]
 
-ghost use Rattle.rlsf_machine.specs.Laws.{EmptyIsWellFormed, StepsKeepWellFormed, RunsKeepWellFormed, StepsAreDetermined, OrderMeansNothing, RefusalChangesNothing, ChunksAreCutOffTheFront, LiveAddressesAreAligned, LiveAddressHasOneBlock, PayloadsAreDisjoint, PayloadLiesInOneChunk, AllocationHasSize, ReallocationHasSize, RoomIsFound, PoolHasRoom, AllocationAnswers, RefusedWithoutReach, ChoiceIsFirstOfLeast, IdleChunkIsOneRange, ChunksStay, OtherPayloadsStay, HandedOutIsNew, ReallocatedIsLive, LiveStays, ReleasedIsNotLive, FilledHasBytes, FillLeavesOthers, DeallocationLeavesOthers, InsertedChunksLieInRange, UsedWasUsed, SimilarStatesAgree, EachCallAnswers, ReallocationKeepsBytes, PayloadIsInBlock, CallersSeeMap, IdleChunkHasRoom};
-ghost use Rattle.rlsf_blocks.specs.Laws.{WordsReadNoPayload};
+ghost use Rattle.rlsf_machine.specs.Laws.{EmptyIsWellFormed, StepsKeepWellFormed, RunsKeepWellFormed, StepsAreDetermined, OrderMeansNothing, RefusalChangesNothing, ChunksAreCutOffTheFront, LiveAddressesAreAligned, LiveAddressHasOneBlock, PayloadsAreDisjoint, PayloadLiesInOneChunk, AllocationHasSize, ReallocationHasSize, RoomIsFound, PoolHasRoom, AllocationAnswers, RefusedWithoutReach, ChoiceIsFirstOfLeast, IdleChunkIsOneRange, ChunksStay, OtherPayloadsStay, HandedOutIsNew, ReallocatedIsLive, LiveStays, ReleasedIsNotLive, FilledHasBytes, FillLeavesOthers, DeallocationLeavesOthers, InsertedChunksLieInRange, UsedWasUsed, SimilarStatesAgree, EachCallAnswers, ReallocationKeepsBytes, PayloadIsInBlock, CallersSeeMap, IdleChunkHasRoom, FillIsSimilar, FlexCallersSeeMap, FlexEmptyIsWellFormed, GrowthKeepsWellFormed, GrowthHasRoom, FlexStepsKeepWellFormed, FlexRunsKeepWellFormed, FlexRunsAreRuns, FlexStepsChangeMap, FlexPayloadsAreApart, FlexAllocationHasSize, FlexReallocationHasSize, FlexReallocationKeepsBytes, FlexOtherPayloadsStay, FlexUsedWasUsed, FlexSimilarStatesAgree, FlexSimilarRunsAgree, FlexEachCallAnswers};
+ghost use Rattle.rlsf_blocks.specs.Laws.{WordsGiveBlock, WordsReadNoPayload};
 
 mod state;
 mod tlsf;
@@ -25,10 +25,22 @@ pub use tlsf::Tlsf;
 /// makes lies in the range that was handed in. What a step names neither in its call nor in its reply, and is used
 /// after it, was used before with the same bytes. States that are alike but for bytes and for the order of chunks
 /// and of used blocks give the same reply to the same call, and stay so alike. Each call that its caller may make
-/// has a reply. A payload that gets another size keeps the bytes that both sizes have.
+/// has a reply. A payload that gets another size keeps the bytes that both sizes have. To its callers the machine is a
+/// map from addresses to payloads, which each step changes as its call and its reply say. With nothing live, a chunk of
+/// the pool size that is computed for an allocation makes it succeed. A fill leaves a similar state.
+///
+/// Over a source of memory too the machine is such a map to its callers, between any two states that are well-formed. The
+/// beginning is, and as long as the source answers what it may, memory that comes, each step and each run over it keep a
+/// state well-formed, and so they change the map as the calls say; and memory that comes for an allocation has room for it.
+/// After each run payloads lie apart, each in one chunk at a multiple of its alignment; sizes, the bytes that both sizes have,
+/// and payloads that a step doesn't name are as without a source. A run over a source is one of the machine alone, in which
+/// the memory that comes is handed in. From similar states, where the source gives the same answers to the same questions, the
+/// same calls ask the same, have the same replies, and lead to similar states. Each call that its caller may make has a reply,
+/// whatever of what it may answer the source answers.
 ///
 /// What is said of the words inside the pools and of the class table reads no usable byte of a live payload: a memory that
-/// differs in such bytes alone stands for the state with these bytes.
+/// differs in such bytes alone stands for the state with these bytes. By the word before a payload and one size word every
+/// live address gives its block, whatever its alignment.
 pub fn laws()
     ensures empty { EmptyIsWellFormed }
     ensures steps { StepsKeepWellFormed }
@@ -66,7 +78,26 @@ pub fn laws()
     ensures in_block { PayloadIsInBlock }
     ensures callers { CallersSeeMap }
     ensures idle_room { IdleChunkHasRoom }
+    ensures fill_similar { FillIsSimilar }
+    ensures flex_callers { FlexCallersSeeMap }
+    ensures flex_empty { FlexEmptyIsWellFormed }
+    ensures flex_growth { GrowthKeepsWellFormed }
+    ensures flex_room { GrowthHasRoom }
+    ensures flex_steps { FlexStepsKeepWellFormed }
+    ensures flex_runs { FlexRunsKeepWellFormed }
+    ensures flex_as_runs { FlexRunsAreRuns }
+    ensures flex_map { FlexStepsChangeMap }
+    ensures flex_apart { FlexPayloadsAreApart }
+    ensures flex_allocated_size { FlexAllocationHasSize }
+    ensures flex_reallocated_size { FlexReallocationHasSize }
+    ensures flex_kept_bytes { FlexReallocationKeepsBytes }
+    ensures flex_others_stay { FlexOtherPayloadsStay }
+    ensures flex_was_used { FlexUsedWasUsed }
+    ensures flex_similar { FlexSimilarStatesAgree }
+    ensures flex_similar_runs { FlexSimilarRunsAgree }
+    ensures flex_each_call { FlexEachCallAnswers }
     ensures words { WordsReadNoPayload }
+    ensures by_words { WordsGiveBlock }
 {
     rlsf_machine::laws();
 }

@@ -13,6 +13,8 @@ pub(crate) struct GhostState {
     pub(crate) ghost state: { State },
 }
 
+const _: () = prove!(size_of::<GhostState>() == 0);
+
 impl Model for GhostState {
     ghost also_owns = { λ _. ftrue };
 }

@@ -1,7 +1,7 @@
 //! The allocator over pools that its caller hands in.
 
 ghost use Rattle.std.specs.Borrow.{sem};
-ghost use Rattle.std.specs.Prelude.{◌≡◌, ◌≢◌, ◌≤◌, ◌<◌, ◌+◌, ◌*◌, ℕ, List, [], Option, Some, None, length, IfNone, IfSome, IsSome};
+ghost use Rattle.std.specs.Prelude.{◌≡◌, ◌≢◌, ◌≤◌, ◌<◌, ◌+◌, ◌*◌, ℕ, List, [], Option, Some, None, length, is_some, IfNone, IfSome, IsSome, if◌then◌else◌};
 ghost use Rattle.std.specs.List.{list_any};
 ghost use Rattle.std.specs.Map.Iter.{GivesInOrder};
 ghost use Rattle.rlsf_base.specs.Addr.{at, reply};
@@ -148,11 +148,12 @@ impl<FLBitmap: Bitmap, SLBitmap: Bitmap, const FLLEN: usize, const SLLEN: usize>
     pub fn append_free_block_ptr(&mut self, range: Range) -> usize
         requires { IsNext (range_of self.old.memory) self.old.state range }
         ensures step { Steps FLLEN SLLEN self.old self.new (Appends FLLEN self.old.state range result) }
+        ensures untouched { (r : Range) → IsUntouched self.old.state.chunks r → AreApart range r → IsUntouched self.new.state.chunks r }
         ensures aligns { align_at self.new.state ≡ align_at self.old.state }
         ensures bytes { bytes_at self.new.state ≡ bytes_at self.old.state }
         ensures unchanged { result ≡ 0 → self.new.memory.bytes ≡ self.old.memory.bytes }
         ensures place { SamePlace self.old.memory self.new.memory }
-        ensures touches { self.new.memory.touches ≤ self.old.memory.touches + 34 + 13 * length (cut (max_pool_size FLLEN) (aligned_part range)) }
+        ensures touches { self.new.memory.touches ≤ self.old.memory.touches + (if is_some (max_pool_size FLLEN) then 13 * length (cut (max_pool_size FLLEN) (aligned_part range)) else 34) }
         ensures copied { self.new.memory.copied ≡ self.old.memory.copied }
     {
         let taken = append(&mut self.memory, &mut self.table, range);

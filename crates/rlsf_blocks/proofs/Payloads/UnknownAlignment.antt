@@ -1,12 +1,14 @@
 -- What the word before a payload says of its block, whatever its alignment.
 use Rattle.std.proofs.Common.{◌≡◌, ◌≢◌, ℕ, ◌+◌, ◌-◌, ◌^◌, ◌<◌, ◌≤◌, length, arith, inl, inr, refl, sym, ◌∙◌, ap, subst}
-use Rattle.std.proofs.lemmas.Bool.{cases_lt}
+use Rattle.std.proofs.lemmas.Bool.{cases_lt, cond-false, cond-true, le-ltb, lt-ltb}
+use Rattle.std.proofs.lemmas.Bool.Decides.{eqb_tells}
 use Rattle.rlsf_base.specs.declared.memory.range.Range.{Range}
 use Rattle.rlsf_base.specs.Range.{end_of, LiesIn}
 use Rattle.rlsf_base.specs.Space.{Space, IsWord, word_at}
 use Rattle.rlsf_machine.specs.Lists.{IsIn}
 use Rattle.rlsf_machine.specs.State.{State, Used, usable, Holds}
 use Rattle.rlsf_machine.proofs.Payloads.{IsUsed-after_start}
+use Rattle.rlsf_blocks.specs.Laws.{WordsGiveBlock}
 use Rattle.rlsf_blocks.specs.StandsFor.{Contents, StandsFor}
 use Rattle.rlsf_blocks.proofs.Deallocate.Addresses.{IsWord-before, narrow_start, wide_start}
 use Rattle.rlsf_blocks.proofs.Machine.Neighbours.{before_used, free_before, none_before, used_before}
@@ -159,3 +161,18 @@ module _ {m : Space} {addr : ℕ} {u : Used} (is : IsPayloadOf m addr u) where
   -- they lie in the memory
   pub LiesIn-usable : LiesIn (usable u) m.start (length m.bytes)
   LiesIn-usable = (omega (arith, is.at, is.in_block, is.from_start), omega (arith, is.at, is.within, is.to_end))
+
+-- by the word before a payload and one size word its block is found
+pub words_give_block : WordsGiveBlock
+words_give_block fllen sllen v s u stands i =
+    let m = v.memory in
+    let addr = u.payload in
+    let named = word_at m (addr - 8) in
+    let is : IsPayloadOf m addr u = is_payload stands u i in
+    elim (eqb_tells named 0) [
+      | inl none ↦ cond-true _ (addr - 16) _ none.0 ∙ begins_first is named refl none.1
+      | inr some ↦ cond-false _ (addr - 16) _ some.0 ∙ elim (cases_lt (named + word_at m named) addr) [
+        | inl behind ↦ cond-true _ (addr - 16) named (lt-ltb _ addr behind) ∙ begins_behind is named refl (word_at m named) refl behind
+        | inr inside ↦ cond-false _ (addr - 16) named (le-ltb _ addr inside) ∙ begins_there is named refl (word_at m named) some.1 refl inside
+      ]
+    ]

@@ -1,5 +1,5 @@
 -- Where the machine's calls lead, but for the bytes of payloads.
-use Rattle.std.specs.Prelude.{ℕ, List, [], map, find, ◌==◌, Option, Some, None}
+use Rattle.std.specs.Prelude.{ℕ, [], map, find, ◌==◌, Option, Some, None}
 use Rattle.rlsf_base.specs.declared.memory.range.Range.{Range}
 use Rattle.rlsf_base.specs.Sizes.{max_pool_size, request_size}
 use Rattle.rlsf_machine.specs.Allocate.{choice, given, placed}

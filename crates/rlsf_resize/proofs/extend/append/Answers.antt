@@ -3,7 +3,7 @@ use Rattle.std.specs.Int.NonZero.{non_zero_usize_get}
 use Rattle.std.specs.Option.{option_map}
 use Rattle.rlsf_base.specs.Space.{range_of}
 use Rattle.rlsf_machine.specs.Insert.{grown}
-use Rattle.rlsf_resize.proofs.LongerChunks.Appended.{Appends-grown, Appends-inserted, found_chunk, no_most, or_zero, some_most}
+use Rattle.rlsf_resize.proofs.LongerChunks.Appended.{Appends-grown, Appends-inserted, found_chunk, no_most, or_zero, some_most, touches-cut, touches-grown}
 use Rattle.rlsf_resize.proofs.extend.append.Goals as goal
 
 pub returns-in-Some-clause-step : goal.returns-in-Some-clause-step
@@ -47,3 +47,24 @@ returns-clause-step g c = λ s v next.
     let (d, is, at) = found_chunk fllen s c.args.range unlimited (range_of c.args.memory.now) (omega (arith, c.if-len-eq0.false)) next in
     let (stands, spare) = c.extend_chunk.ensures.step s d v is at in
     (grown d len s, Appends-grown fllen s c.args.range unlimited len d refl is at, stands, spare)
+
+pub returns-in-Some-clause-touches : goal.returns-in-Some-clause-touches
+returns-in-Some-clause-touches g c =
+    let most = c.max_pool_size.ensures in
+    let is = c.is_some.ensures in
+    let true = c.if-is_some.true in
+    touches-cut g.row.FLLEN c.args.range c.args.memory.now.touches c.insert.new.memory.touches (cc) c.insert.ensures.touches
+
+pub returns-in-None-clause-touches : goal.returns-in-None-clause-touches
+returns-in-None-clause-touches g c =
+    let most = c.max_pool_size.ensures in
+    let is = c.is_some.ensures in
+    let true = c.if-is_some.true in
+    touches-cut g.row.FLLEN c.args.range c.args.memory.now.touches c.insert.new.memory.touches (cc) c.insert.ensures.touches
+
+pub returns-clause-touches : goal.returns-clause-touches
+returns-clause-touches g c =
+    let most = c.max_pool_size.ensures in
+    let some = c.is_some.ensures in
+    let false = c.if-is_some.false in
+    touches-grown g.row.FLLEN c.args.range c.args.memory.now.touches c.extend_chunk.new.memory.touches (cc) c.extend_chunk.ensures.touches

@@ -1,5 +1,5 @@
 -- Shows that `advance` moves the state on, which is ghost data that nothing in memory is tied to. Assumes `Logic`.
-use Rattle.std.proofs.Common.{◌+◌, List, [], ◌∷◌, refl, w64}
+use Rattle.std.proofs.Common.{List, [], ◌∷◌, refl, w64}
 use mir.Syntax.{named}
 use mir.Val.{Val, vunit}
 use base.Fml.{ftrue, flft}

@@ -20,7 +20,7 @@ use Rattle.rlsf_blocks.proofs.Machine.FreeBlocks.{IsFreeTable-free}
 use Rattle.rlsf_blocks.proofs.Words.NonZeroNumbers.{number, on_none, on_some}
 use Rattle.rlsf_tlsf.specs.Allocator.{Allocator, allocator, Steps}
 use Rattle.rlsf_tlsf.specs.Steps.Moves.{allocated, bare}
-use Rattle.rlsf_tlsf.proofs.Arrivals.{IsAllocator-arrived, Stands-view, Steps-arrived, bare-kept, opened, read_from-stands, well_formed}
+use Rattle.rlsf_tlsf.proofs.Arrivals.{IsAllocator-arrived, Stands-view, Steps-arrived, bare-kept, opened, well_formed}
 use Rattle.rlsf_tlsf.proofs.Moved.{allocated-bare}
 use Rattle.rlsf_tlsf.proofs.tlsf.Tlsf.allocate.Given as given
 use Rattle.rlsf_tlsf.proofs.tlsf.Tlsf.allocate.Goals as goal

@@ -1,8 +1,9 @@
-use Rattle.std.proofs.Common.{◌≡◌, arith, refl, sym, ◌∙◌, ap, subst}
+use Rattle.std.proofs.Common.{◌≡◌, arith, sym, ◌∙◌, ap, subst}
 use Rattle.rlsf_base.specs.Space.{range_of}
 use Rattle.rlsf_machine.specs.Insert.{Appends, IsNext}
 use Rattle.rlsf_machine.specs.Run.{append}
 use Rattle.rlsf_machine.specs.State.{State}
+use Rattle.rlsf_machine.proofs.AppendedRanges.{untouched_appended}
 use Rattle.rlsf_machine.proofs.CallerWords.{SeesSame, same_seen}
 use Rattle.rlsf_machine.proofs.Callers.{callers_see_map}
 use Rattle.rlsf_blocks.specs.Laws.{read_from}
@@ -65,3 +66,8 @@ returns-clause-aligns g c = (seen g c).aligns
 
 pub returns-clause-bytes : goal.returns-clause-bytes
 returns-clause-bytes g c = (seen g c).bytes
+
+pub returns-clause-untouched : goal.returns-clause-untouched
+returns-clause-untouched g c =
+    untouched_appended g.row.FLLEN c.args.self.now.state (after g c).state c.args.range c.append-taken.result
+    (opened g.row.FLLEN g.row.SLLEN c.args.self.now (after g c) (Appends g.row.FLLEN c.args.self.now.state c.args.range c.append-taken.result) (done g c)).0

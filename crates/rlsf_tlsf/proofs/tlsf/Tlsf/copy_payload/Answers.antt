@@ -1,10 +1,10 @@
-use Rattle.std.proofs.Common.{◌≡◌, ℕ, ◌≤◌, List, length, arith, refl, sym, ◌∙◌, ap, subst}
+use Rattle.std.proofs.Common.{◌≡◌, ℕ, List, arith, sym, ◌∙◌, subst}
 use Rattle.rlsf_base.specs.Addr.{at}
 use Rattle.rlsf_base.specs.Range.{range_at}
 use Rattle.rlsf_base.specs.Space.{Space, bytes_in, with_bytes}
 use Rattle.rlsf_machine.specs.Callers.{bytes_at}
 use Rattle.rlsf_machine.specs.Run.{Fills}
-use Rattle.rlsf_machine.specs.State.{State, Used, usable, with_front, Holds}
+use Rattle.rlsf_machine.specs.State.{State, with_front}
 use Rattle.rlsf_machine.proofs.CallerWords.{SeesFilled, filled_seen}
 use Rattle.rlsf_machine.proofs.Chunks.{chunks-filled}
 use Rattle.rlsf_blocks.specs.Laws.{read_from}

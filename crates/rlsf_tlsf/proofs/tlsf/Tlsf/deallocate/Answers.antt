@@ -1,4 +1,4 @@
-use Rattle.std.proofs.Common.{rules, ◌≡◌, refl, sym, ◌∙◌, ap, subst}
+use Rattle.std.proofs.Common.{rules, ◌≡◌, refl, sym, ◌∙◌, subst}
 use Rattle.rlsf_base.specs.Addr.{at}
 use Rattle.rlsf_machine.specs.Release.{Deallocates, released}
 use Rattle.rlsf_machine.specs.State.{State, Used, Holds, IsLive}
@@ -13,7 +13,7 @@ use Rattle.rlsf_tlsf.proofs.Arrivals.{IsAllocator-arrived, Steps-arrived, bare-k
 use Rattle.rlsf_tlsf.proofs.Moved.{deallocated-bare}
 use Rattle.rlsf_tlsf.proofs.tlsf.Tlsf.deallocate.Given as given
 use Rattle.rlsf_tlsf.proofs.tlsf.Tlsf.deallocate.Goals as goal
-use Rattle.rlsf_tlsf.proofs.tlsf.Tlsf.deallocate.Goals.{After-used_block-block, After-deallocate_block, After-deallocate}
+use Rattle.rlsf_tlsf.proofs.tlsf.Tlsf.deallocate.Goals.{After-used_block-block, After-deallocate}
 
 -- the allocator's state as the call begins
 abbrev state : (g : given.Over) (c : After-used_block-block g) → State

@@ -1,9 +1,9 @@
 use Rattle.std.proofs.Common.{◌≡◌, ◌≢◌, ◌+◌, ◌<◌, ◌≤◌, ℕ, length, Some, None, arith, refl, sym, ◌∙◌, ap, subst}
 use Rattle.rlsf_base.specs.Addr.{at, reply}
 use Rattle.rlsf_machine.specs.Callers.{align_at, bytes_at}
-use Rattle.rlsf_machine.specs.Reallocate.{Keeps, Plan, Reallocates, ReallocatesBy, in_place, into_next, or_else, plan}
+use Rattle.rlsf_machine.specs.Reallocate.{Keeps, Plan, Reallocates, in_place, into_next, or_else}
 use Rattle.rlsf_machine.specs.Run.{reallocate}
-use Rattle.rlsf_machine.specs.State.{State, Used, usable, Holds, IsLive}
+use Rattle.rlsf_machine.specs.State.{State, Used, Holds, IsLive}
 use Rattle.rlsf_machine.proofs.CallerWords.{SeesResized, align_at-live, resized_seen}
 use Rattle.rlsf_machine.proofs.Changes.{Holds-unique}
 use Rattle.rlsf_machine.proofs.Chunks.{chunks-reallocated}
@@ -11,13 +11,13 @@ use Rattle.rlsf_machine.proofs.Determined.{refusal_changes_nothing}
 use Rattle.rlsf_machine.proofs.Payloads.{IsUsed-after_start}
 use Rattle.rlsf_blocks.specs.Laws.{read_from}
 use Rattle.rlsf_blocks.specs.Spare.{KeepsSpare}
-use Rattle.rlsf_blocks.specs.StandsFor.{contents, Contents, StandsFor}
+use Rattle.rlsf_blocks.specs.StandsFor.{contents, StandsFor}
 use Rattle.rlsf_blocks.proofs.Machine.Counted.{KeepsSpare-counted_first, StandsFor-counted}
 use Rattle.rlsf_blocks.proofs.Words.NonZeroNumbers.{number, on_none, on_some}
 use Rattle.rlsf_resize.specs.Steps.Resize.{IsUsedAt}
 use Rattle.rlsf_tlsf.specs.Allocator.{Allocator, allocator, Steps}
 use Rattle.rlsf_tlsf.specs.Steps.Moves.{bare, reallocated}
-use Rattle.rlsf_tlsf.proofs.Arrivals.{IsAllocator-arrived, Stands-view, Steps-arrived, arrived, bare-kept, bytes_inside, live_inside, opened, view_well_formed, well_formed}
+use Rattle.rlsf_tlsf.proofs.Arrivals.{IsAllocator-arrived, Steps-arrived, bare-kept, bytes_inside, live_inside, opened, view_well_formed, well_formed}
 use Rattle.rlsf_tlsf.proofs.Moved.{reallocated-bare}
 use Rattle.rlsf_tlsf.proofs.tlsf.Tlsf.reallocate.Given as given
 use Rattle.rlsf_tlsf.proofs.tlsf.Tlsf.reallocate.Goals as goal
