@@ -1,17 +1,15 @@
 -- What an append leaves of the chunks.
-use Rattle.std.proofs.Common.{◌≡◌, ℕ, zero, suc, ◌+◌, ◌-◌, ◌*◌, ◌/◌, ◌≤◌, List, [], ◌∷◌, Option, Some, None, find, true≢false, arith, refl, sym, ◌∙◌, subst}
-use Rattle.std.proofs.lemmas.Bool.{eqb-true, eq-eqb}
+use Rattle.std.proofs.Common.{◌≡◌, ℕ, ◌+◌, ◌-◌, ◌*◌, ◌/◌, ◌≤◌, List, [], ◌∷◌, Option, Some, None, arith, refl, sym, subst}
 use Rattle.rlsf_base.specs.declared.memory.range.Range.{Range}
 use Rattle.rlsf_base.specs.Range.{end_of, range_at}
 use Rattle.rlsf_base.specs.Rounding.{round32}
 use Rattle.rlsf_base.proofs.Numbers.Roundings.{round32-same}
 use Rattle.rlsf_base.specs.Sizes.{max_pool_size}
-use Rattle.rlsf_machine.specs.Insert.{aligned_part, appended, appended_bytes, Appends, cut, end_of_last, extended, grown_if, IsNext, with_chunks}
-use Rattle.rlsf_machine.specs.Join.{ends_at}
+use Rattle.rlsf_machine.specs.Insert.{aligned_part, appended, appended_bytes, Appends, cut, end_of_last, extended, IsNext, with_chunks}
 use Rattle.rlsf_machine.specs.Lists.{IsIn}
 use Rattle.rlsf_machine.specs.State.{State}
 use Rattle.rlsf_machine.specs.WellFormed.{covers, coverage, itself, IsWellFormed}
-use Rattle.rlsf_machine.proofs.Coverage.{coverage-without, covers-split, find-none, find-some}
+use Rattle.rlsf_machine.proofs.AppendedRanges.{coverage-extended}
 use Rattle.rlsf_machine.proofs.Cuts.{coverage-cut, coverage-cut_last}
 use Rattle.rlsf_machine.proofs.Insertions.{IsWhole-aligned_part}
 use Rattle.rlsf_machine.proofs.Untouched.{coverage-with_chunks}
@@ -23,28 +21,8 @@ pub record IsLonger (s : State) (r : Range) (more : ℕ) (t : State) : Type 0 wh
   pub coverage : (a : ℕ) → coverage itself t.chunks a ≤ covers (range_at r.start more) a + coverage itself s.chunks a
 
 -- a chunk that ends where the range begins grows
-IsLonger-extended : (s : State) (r : Range) (n : ℕ) → n ≤ r.len → (c : Range) → IsIn c s.chunks → end_of c ≡ r.start → IsLonger s r n (extended r.start n s)
-IsLonger-extended s r zero fits c there ends = record {
-  within = omega arith;
-  coverage = λ a. omega arith;
-}
-IsLonger-extended s r (suc n) fits c there ends = go (find (ends_at r.start) s.chunks) refl
-  where
-    go : (o : Option Range) → find (ends_at r.start) s.chunks ≡ o → IsLonger s r (suc n) (grown_if o (suc n) s)
-    go None e = absurd (true≢false (sym (eq-eqb (end_of c) r.start ends) ∙ find-none (ends_at r.start) c s.chunks e there))
-    go (Some d) e =
-        let at : end_of d ≡ r.start = eqb-true (end_of d) r.start (find-some (ends_at r.start) d s.chunks e).1 in
-        let found : find (ends_at (end_of d)) s.chunks ≡ Some d = subst (λ a. find (ends_at a) s.chunks ≡ Some d) (sym at) e in
-        let longer = range_at d.start (d.len + suc n) in
-        let more = range_at r.start (suc n) in
-        record {
-          within = fits;
-          coverage = λ a. omega (
-            arith,
-            covers-split d.start (end_of d) (end_of longer) a (omega arith) (omega arith) longer d more refl refl refl refl (sym at) (omega (arith, at)),
-            coverage-without itself (ends_at (end_of d)) d s.chunks a found,
-          );
-        }
+IsLonger-extended : (s : State) (r : Range) (n : ℕ) → n ≤ r.len → IsLonger s r n (extended r.start n s)
+IsLonger-extended s r n fits = record { within = fits; coverage = coverage-extended r.start n s }
 
 -- chunks of their own follow the one that ends where the range begins
 IsLonger-with_chunks : (s : State) (r : Range) (cs : List Range) → round32 r.start ≡ r.start → ((d : Range) → IsIn d cs → 64 ≤ d.len) → ((a : ℕ) → coverage itself cs a ≤ covers (aligned_part r) a)
@@ -70,7 +48,7 @@ module _ {fllen sllen : ℕ} {memory : Range} {s : State} (w : IsWellFormed flle
       round32-same r.start (omega (arith, whole.start, whole.len, next.ends))
 
   IsLonger-by : {there : Range} (o : Option ℕ) → IsWellFormed fllen sllen there (appended o r s) → IsLonger s r (appended_bytes o r) (appended o r s)
-  IsLonger-by None new = IsLonger-extended s r (r.len / 32 * 32) (omega arith) next.chunk next.is_chunk next.ends
+  IsLonger-by None new = IsLonger-extended s r (r.len / 32 * 32) (omega arith)
   IsLonger-by (Some most) new =
       let cs = cut (Some most) (aligned_part r) in
       IsLonger-with_chunks s r cs begins_whole (λ d i. (new.chunks d (IsIn-with_chunks cs s d i)).has_room) (coverage-cut (aligned_part r) (IsWhole-aligned_part r) (Some most)) (coverage-cut_last (Some most) (aligned_part r))

@@ -1,4 +1,5 @@
 pub mod AppendedChunks
+pub mod Events
 pub mod Lengthened
 pub mod Named
 pub mod NamedPayloads

@@ -5,14 +5,16 @@ use Rattle.std.proofs.Math.ListN.{drop, drop_of_length-le}
 use Rattle.std.proofs.lemmas.List.{append_assoc, append-nil, at_drop_more}
 use Rattle.rlsf_base.specs.Range.{range_at}
 use Rattle.rlsf_base.specs.Space.{Space, byte_at, range_of, SamePlace}
-use Rattle.rlsf_machine.specs.State.{empty}
+use Rattle.rlsf_machine.specs.State.{State, empty}
 use Rattle.rlsf_blocks.specs.Spare.{KeepsSpare}
 use Rattle.rlsf_tlsf.specs.Allocator.{Allocator}
 use Rattle.rlsf_text.specs.declared.op.Answer.{Answer}
 use Rattle.rlsf_text.specs.declared.op.Op.{Op}
 use Rattle.rlsf_runs.specs.declared.tables.Tables.{Tables}
+use Rattle.rlsf_runs.specs.Events.{RunsByEvents}
 use Rattle.rlsf_runs.specs.Runs.{beginning, Does, Runs, RunState}
 use Rattle.rlsf_runs.specs.Steps.Tables.{HasRoom, IsAt, LeadsOn}
+use Rattle.rlsf_runs.proofs.Events.{made, Makes, one_more}
 use Rattle.rlsf_runs.proofs.SpareBytes.{KeepsSpare-op}
 
 -- the first ops were done, with one answer each, and there is room for the others
@@ -20,6 +22,7 @@ pub record IsUnderway (fllen sllen : ℕ) (m : Space) (ops : List Op) (v : Alloc
   pub state : RunState
   pub at : IsAt fllen sllen v tables state
   pub leads : (more : List Answer) (t : RunState) → Runs fllen sllen (range_of m) state (drop done ops) more t → Runs fllen sllen (range_of m) beginning ops (given ++ more) t
+  pub events : (more : List Answer) (t : State) → RunsByEvents fllen sllen (range_of m) state.machine (drop done ops) more t → RunsByEvents fllen sllen (range_of m) empty ops (given ++ more) t
   pub place : SamePlace m v.memory
   pub spare : KeepsSpare m empty v.memory state.machine
   pub room : HasRoom tables (length ops - done)
@@ -31,6 +34,7 @@ module _ {fllen sllen : ℕ} {m : Space} {ops : List Op} {v : Allocator} {tables
     state = beginning;
     at = at;
     leads = λ more t runs. runs;
+    events = λ more t runs. runs;
     place = (sym (ap (λ x. x.start) same), sym (ap (λ x. length x.bytes) same));
     spare = λ a from to was is. sym (ap (λ x. byte_at x a) same);
     room = subst (HasRoom tables) whole room;
@@ -47,13 +51,17 @@ module _ {fllen sllen : ℕ} {m : Space} {ops : List Op} {v : Allocator} {tables
   IsUnderway-next {done} {given} w op is below answer w2 new does room place =
       let (t, step, at, keeps) = does w.state w.at in
       let here = subst (λ r. Does fllen sllen r w.state op answer t) same step in
+      let makes = made w.at op answer t step in
       record {
         state = t;
         at = at;
         leads = λ more u runs. subst (λ l. Runs fllen sllen (range_of m) beginning ops l u) (sym (append_assoc given (answer ∷ []) more))
             (w.leads (answer ∷ more) u (subst (λ l. Runs fllen sllen (range_of m) w.state l (answer ∷ more) u) (sym left_ops) (t, here, runs)));
+        events = λ more u runs. subst (λ l. RunsByEvents fllen sllen (range_of m) empty ops l u) (sym (append_assoc given (answer ∷ []) more))
+            (w.events (answer ∷ more) u (subst (λ l. RunsByEvents fllen sllen (range_of m) w.state.machine l (answer ∷ more) u) (sym left_ops)
+            (one_more (subst (λ r. Makes fllen sllen r w.state.machine op answer t.machine) same makes) (drop (done + 1) ops) more u runs)));
         place = (place.0 ∙ w.place.0, place.1 ∙ w.place.1);
-        spare = KeepsSpare-op fllen sllen (range_of v.memory) m v.memory w2.memory empty w.state t op answer w.place step w.spare keeps;
+        spare = KeepsSpare-op fllen sllen (range_of v.memory) m v.memory w2.memory empty w.state.machine t.machine op answer w.place makes w.spare keeps;
         room = room (length ops - (done + 1)) (subst (HasRoom tables) left w.room);
       }
     where
@@ -70,3 +78,8 @@ module _ {fllen sllen : ℕ} {m : Space} {ops : List Op} {v : Allocator} {tables
   pub Runs-end : {done : ℕ} {given : List Answer} (w : IsUnderway fllen sllen m ops v tables done given) → length ops ≤ done → Runs fllen sllen (range_of m) beginning ops given w.state
   Runs-end {done} {given} w past = subst (λ l. Runs fllen sllen (range_of m) beginning ops l w.state) (append-nil given)
       (w.leads [] w.state (subst (λ l. Runs fllen sllen (range_of m) w.state l [] w.state) (sym (drop_of_length-le ops past)) refl))
+
+  -- and by the machine's calls
+  pub RunsByEvents-end : {done : ℕ} {given : List Answer} (w : IsUnderway fllen sllen m ops v tables done given) → length ops ≤ done → RunsByEvents fllen sllen (range_of m) empty ops given w.state.machine
+  RunsByEvents-end {done} {given} w past = subst (λ l. RunsByEvents fllen sllen (range_of m) empty ops l w.state.machine) (append-nil given)
+      (w.events [] w.state.machine (subst (λ l. RunsByEvents fllen sllen (range_of m) w.state.machine l [] w.state.machine) (sym (drop_of_length-le ops past)) ([], refl, refl)))

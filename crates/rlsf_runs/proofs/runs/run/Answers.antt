@@ -1,9 +1,12 @@
 use Rattle.std.proofs.Common.{◌++◌, [], ◌∷◌, arith, refl, sym, ◌∙◌, ap, subst}
 use Rattle.std.proofs.lemmas.List.{append_assoc, append-nil, get_or_default}
+use Rattle.rlsf_base.specs.Space.{range_of}
+use Rattle.rlsf_machine.specs.State.{empty}
+use Rattle.rlsf_runs.specs.Events.{RunsByEvents}
 use Rattle.rlsf_tlsf.specs.Allocator.{IsInState}
 use Rattle.rlsf_tlsf.proofs.Standing.{in_state}
 use Rattle.rlsf_runs.proofs.RunStates.{IsAt-beginning}
-use Rattle.rlsf_runs.proofs.Underway.{IsUnderway-beginning, IsUnderway-next, Runs-end}
+use Rattle.rlsf_runs.proofs.Underway.{IsUnderway-beginning, IsUnderway-next, Runs-end, RunsByEvents-end}
 use Rattle.rlsf_runs.proofs.Outcomes.{when_ok}
 use Rattle.rlsf_runs.proofs.runs.run.Goals as goal
 
@@ -27,3 +30,8 @@ pub returns-clause-runs : goal.returns-clause-runs
 returns-clause-runs g c =
     let ((given, items, w), _) = c.loop-op.invariant in
     (given, w.state, items, Runs-end w c.loop-op-test.false, w.at.stands.state, w.spare)
+
+pub returns-clause-events : goal.returns-clause-events
+returns-clause-events g c =
+    let ((given, items, w), _) = c.loop-op.invariant in
+    (given, items, subst (RunsByEvents g.row.FLLEN g.row.SLLEN (range_of c.args.tlsf.now.memory) empty c.args.ops.now given) (sym w.at.stands.state) (RunsByEvents-end w c.loop-op-test.false))
