@@ -13,3 +13,11 @@ pub use Rattle.rlsf_machine.specs.Run.{Fills}
 pub use Rattle.rlsf_machine.specs.State.{State, Used, empty, Holds}
 pub use Rattle.rlsf_blocks.specs.Spare.{IsSpareWord, KeepsSpare}
 pub use Rattle.rlsf_tlsf.specs.Allocator.{Allocator, IsInState, Stands, Steps}
+-- those that contracts over an allocator with a source cite
+pub use Rattle.rlsf_machine.specs.FlexAllocate.{FlexAllocates}
+pub use Rattle.rlsf_machine.specs.FlexReallocate.{FlexReallocates}
+pub use Rattle.rlsf_machine.specs.FlexState.{FlexState, KeptPool}
+pub use Rattle.rlsf_machine.specs.Note.{Note, LeadsBy}
+pub use Rattle.rlsf_machine.specs.Terms.{IsGiven, IsGrown, Terms}
+pub use Rattle.rlsf_flex.specs.Outside.{KeepsOutside}
+pub use Rattle.rlsf_flex.specs.StandsFor.{FlexContents, FlexStands, FlexSteps, StepsAlone}

@@ -1,41 +1,30 @@
 -- An allocation of the allocator over a source.
-use Rattle.std.proofs.Common.{◌≡◌, ℕ, Bool, true, false, true≢false, List, [], Option, Some, None, IfNone, IfSome, refl, sym, ◌∙◌, subst, inl, inr}
+use Rattle.std.proofs.Common.{◌≡◌, ℕ, Bool, true, false, true≢false, List, [], Option, Some, None, IfNone, IfSome, refl, sym, ◌∙◌, ap, subst, inl, inr}
 use Rattle.std.proofs.lemmas.Option.{none-some}
 use Rattle.rlsf_base.specs.declared.memory.range.Range.{Range}
-use Rattle.rlsf_base.specs.PowerOfTwo.{IsPowerOfTwo}
 use Rattle.rlsf_base.specs.SizeClass.{IsValid}
 use Rattle.rlsf_base.specs.Sizes.{pool_size_to_contain_allocation}
-use Rattle.rlsf_base.specs.Space.{range_of, SamePlace}
+use Rattle.rlsf_base.specs.Space.{SamePlace}
+use Rattle.rlsf_tlsf.specs.Allocator.{Allocator, Steps}
 use Rattle.rlsf_blocks.specs.Spare.{KeepsSpare}
-use Rattle.rlsf_tlsf.specs.Allocator.{Allocator, IsInState, Steps}
-use Rattle.rlsf_tlsf.proofs.Standing.{stepped}
 use Rattle.rlsf_flex.specs.Outside.{KeepsOutside}
-use Rattle.rlsf_flex.specs.StandsFor.{FlexContents, FlexStandsFor, FlexSteps}
+use Rattle.rlsf_flex.specs.SpareBytes.{KeepsSpareButFooter}
+use Rattle.rlsf_flex.specs.StandsFor.{FlexContents, FlexStandsFor, FlexSteps, allocator_of, with_allocator}
 use Rattle.rlsf_flex.specs.Steps.Growth.{Extended}
 use Rattle.rlsf_machine.specs.Allocate.{Allocates}
+use Rattle.rlsf_machine.specs.Answers.{MayAnswerAll}
 use Rattle.rlsf_machine.specs.FlexAllocate.{Asks, FlexAllocates}
 use Rattle.rlsf_machine.specs.FlexState.{FlexState, with_machine}
-use Rattle.rlsf_machine.specs.Growth.{Extends, Outcome, given, grown, is_more, refused}
-use Rattle.rlsf_machine.specs.Note.{Note}
-use Rattle.rlsf_machine.specs.State.{State, IsLive}
+use Rattle.rlsf_machine.specs.Growth.{Extends, Outcome, given, grown, is_more, refused, TakesIn}
+use Rattle.rlsf_machine.specs.Note.{Note, LeadsBy}
+use Rattle.rlsf_machine.specs.State.{State}
 use Rattle.rlsf_machine.specs.Terms.{Terms}
 use Rattle.rlsf_machine.proofs.Chunks.{chunks-allocated}
-use Rattle.rlsf_machine.proofs.Live.{handed_out_is_new}
 use Rattle.rlsf_machine.proofs.TakenPools.{pool_has_a_choice}
-use Rattle.rlsf_flex.proofs.Frames.{stands_stepped}
+use Rattle.rlsf_flex.proofs.Calls.{stands_alone}
 use Rattle.rlsf_flex.proofs.Outside.{KeepsOutside-stands, KeepsOutside-then}
-
--- what the allocator over pools does for an allocation
-abbrev pub Allocated : ℕ → ℕ → ℕ → ℕ → Allocator → Allocator → State → Option ℕ → Type 0
-Allocated fllen sllen size align old new s reply = (t : State) × Allocates sllen s size align reply t × IsInState fllen sllen new t × KeepsSpare old.memory s new.memory t
-
-pub allocated : {fllen sllen : ℕ} (size align : ℕ) {old new : Allocator} {s : State} → IsInState fllen sllen old s → (reply : Option ℕ) → Steps fllen sllen old new (Allocates sllen old.state size align reply)
-    → Allocated fllen sllen size align old new s reply
-allocated {sllen = sllen} size align {new = new} is reply did = stepped is new (λ s. Allocates sllen s size align reply) did
-
--- with other contents over the same source
-abbrev pub with_tlsf : {S : Type 0} → FlexContents S → Allocator → FlexContents S
-with_tlsf v t = record { tlsf = t; kept = v.kept; source = v.source }
+use Rattle.rlsf_flex.proofs.SpareBytes.{KeepsSpareButFooter-all, KeepsSpareButFooter-before, KeepsSpareButFooter-behind}
+use Rattle.rlsf_flex.proofs.Standing.{opened}
 
 -- what holds of the value wherever there is one
 pub for_some : {A : Type 0} {P : A → Type 0} (o : Option A) → ((x : A) → o ≡ Some x → P x) → IfSome o P
@@ -57,84 +46,117 @@ nothing_came refused is = refl
 nothing_came (grown len) is = absurd (true≢false (sym is))
 nothing_came (given r) is = absurd (true≢false (sym is))
 
+-- so the state stays
+pub extended_none : {S : Type 0} {fllen sllen : ℕ} {terms : S → Terms} {owes : S → List Range → Type 0} {leads : S → Note → S → Type 0} {w after : FlexContents S} {e : ℕ} {more : Bool} → Extended fllen sllen terms owes leads w after e more → more ≡ false
+    → after.state ≡ w.state
+extended_none {fllen = fllen} {terms = terms} {w = w} {after = after} h is = subst (λ o. TakesIn fllen (terms w.source) w.state o after.state) (nothing_came h.outcome (sym is ∙ h.came)) h.extends.after
+
+-- a layout was tried in the room that there is, and found none; nothing has changed
+pub record Tried {S : Type 0} (fllen sllen : ℕ) (terms : S → Terms) (owes : S → List Range → Type 0) (size align : ℕ) (v w : FlexContents S) : Type 0 where
+  pub full : Allocates sllen v.state.machine size align None v.state.machine
+  pub source : w.source ≡ v.source
+  pub same : w.state ≡ v.state
+  pub stands : FlexStandsFor fllen sllen terms owes w
+  pub still : KeepsOutside v.memory v.state.pools w.memory v.state.pools
+  pub spare : KeepsSpare v.memory v.state.machine w.memory v.state.machine
+
 module _ {S : Type 0} {fllen sllen : ℕ} {terms : S → Terms} {owes : S → List Range → Type 0} (size align : ℕ) where
   -- what a step of the machine over a source is, once its allocation was made
-  module _ {v : FlexContents S} {new : Allocator} {s : FlexState} (place : SamePlace v.tlsf.memory new.memory) (h : FlexStandsFor fllen sllen terms owes v s) where
-    pub allocated_stands : (reply : Option ℕ) (a : Allocated fllen sllen size align v.tlsf new s.machine reply) → FlexStandsFor fllen sllen terms owes (with_tlsf v new) (with_machine s a.0)
-    allocated_stands reply (t, all, stands, spare) = stands_stepped fllen sllen terms owes v new s t h stands (chunks-allocated sllen s.machine t size align reply all) spare place
+  module _ {v : FlexContents S} (new : Allocator) (place : SamePlace v.memory new.memory) (h : FlexStandsFor fllen sllen terms owes v) where
+    module _ (reply : Option ℕ) (did : Steps fllen sllen (allocator_of v) new (Allocates sllen v.state.machine size align reply)) where
+      pub allocated_stands : FlexStandsFor fllen sllen terms owes (with_allocator v new)
+      allocated_stands = stands_alone h new _ place (chunks-allocated sllen v.state.machine new.state size align reply (opened _ _ _ did).0) did
 
-    allocated_outside : (reply : Option ℕ) → Allocated fllen sllen size align v.tlsf new s.machine reply → KeepsOutside v.tlsf.memory s.pools new.memory s.pools
-    allocated_outside reply a = KeepsOutside-stands h (allocated_stands reply a) place a.3
+      pub allocated_outside : KeepsOutside v.memory v.state.pools new.memory v.state.pools
+      allocated_outside = KeepsOutside-stands h allocated_stands place (opened _ _ _ did).2
 
     -- there is room
-    pub allocated_in_room : {leads : S → Note → S → Type 0} (addr : ℕ) → Allocated fllen sllen size align v.tlsf new s.machine (Some addr)
-        → FlexSteps fllen sllen terms owes leads v (with_tlsf v new) s (FlexAllocates fllen sllen (terms v.source) s size align (Some addr))
-    allocated_in_room addr a = record {
-      notes = [];
-      state = with_machine s a.0;
-      is_step = inl (record { machine = a.0; allocates = a.1; none = refl; after = refl });
-      leads_by = refl;
-      outside = allocated_outside (Some addr) a;
-      stands = allocated_stands (Some addr) a;
-    }
-
-    -- what is handed out is live
-    pub allocated_live : (addr : ℕ) → IsPowerOfTwo align → Allocated fllen sllen size align v.tlsf new s.machine (Some addr)
-        → (t : FlexState) × FlexStandsFor fllen sllen terms owes (with_tlsf v new) t × IsLive t.machine addr align
-    allocated_live addr power a = (
-      with_machine s a.0,
-      allocated_stands (Some addr) a,
-      (handed_out_is_new fllen sllen (range_of v.tlsf.memory) s.machine a.0 size align addr h.machine.stands.well_formed power a.1).1,
+    pub allocated_in_room : (leads : S → Note → S → Type 0) (addr : ℕ) → Steps fllen sllen (allocator_of v) new (Allocates sllen v.state.machine size align (Some addr))
+        → FlexSteps fllen sllen terms owes leads v (with_allocator v new) (FlexAllocates fllen sllen (terms v.source) v.state size align (Some addr))
+    unfolding FlexSteps
+    allocated_in_room leads addr did = (
+      [],
+      inl (record { machine = new.state; allocates = (opened _ _ _ did).0; none = refl; after = refl }),
+      refl,
+      λ n i. absurd i,
+      allocated_outside (Some addr) did,
+      allocated_stands (Some addr) did,
+      KeepsSpareButFooter-all (terms v.source) v.memory new.memory v.state (with_machine v.state new.state) (opened _ _ _ did).2,
     )
 
-    -- there is no room, and nothing has changed yet
-    pub no_room : Allocated fllen sllen size align v.tlsf new s.machine None → Allocates sllen s.machine size align None s.machine × FlexStandsFor fllen sllen terms owes (with_tlsf v new) s × KeepsOutside v.tlsf.memory s.pools new.memory s.pools
-    no_room a = ((a.1.0, refl), subst (λ m. FlexStandsFor fllen sllen terms owes (with_tlsf v new) (with_machine s m)) a.1.1 (allocated_stands None a), allocated_outside None a)
+    -- there is no room
+    pub no_room : Steps fllen sllen (allocator_of v) new (Allocates sllen v.state.machine size align None) → Tried fllen sllen terms owes size align v (with_allocator v new)
+    no_room did =
+        let (none, same) = (opened _ _ _ did).0 in
+        record {
+          full = (none, refl);
+          source = refl;
+          same = ap (with_machine v.state) same;
+          stands = allocated_stands None did;
+          still = allocated_outside None did;
+          spare = subst (λ x. KeepsSpare v.memory v.state.machine new.memory x) same (opened _ _ _ did).2;
+        }
 
   -- there is no room, and the source is asked
-  module _ {leads : S → Note → S → Type 0} (v : FlexContents S) {new : Allocator} {s : FlexState} (full : Allocates sllen s.machine size align None s.machine) where
+  module _ {v w : FlexContents S} (tried : Tried fllen sllen terms owes size align v w) where
     -- no pool would do, so nothing is asked
-    pub nothing_asked : KeepsOutside v.tlsf.memory s.pools new.memory s.pools → pool_size_to_contain_allocation fllen sllen size align ≡ None → FlexStandsFor fllen sllen terms owes (with_tlsf v new) s
-        → FlexSteps fllen sllen terms owes leads v (with_tlsf v new) s (FlexAllocates fllen sllen (terms v.source) s size align None)
-    nothing_asked still none stands = record {
-      notes = [];
-      state = s;
-      is_step = record { full = full; extends = subst (λ w. Extends fllen (terms v.source) s w refused [] s) (sym none) (record { possible = tt; asked = refl; after = refl }) };
-      leads_by = refl;
-      outside = still;
-      stands = stands;
-    }
+    pub nothing_asked : (leads : S → Note → S → Type 0) → pool_size_to_contain_allocation fllen sllen size align ≡ None → FlexSteps fllen sllen terms owes leads v w (FlexAllocates fllen sllen (terms v.source) v.state size align None)
+    unfolding FlexSteps
+    nothing_asked leads none = (
+      [],
+      record { full = tried.full; extends = subst (λ o. Extends fllen (terms v.source) v.state o refused [] w.state) (sym none) (record { possible = tt; asked = refl; after = tried.same }) },
+      tried.source,
+      λ n i. absurd i,
+      subst (λ (s : FlexState). KeepsOutside v.memory v.state.pools w.memory s.pools) (sym tried.same) tried.still,
+      tried.stands,
+      subst (λ (s : FlexState). KeepsSpareButFooter (terms v.source) v.memory v.state w.memory s) (sym tried.same) (KeepsSpareButFooter-all (terms v.source) v.memory w.memory v.state v.state tried.spare),
+    )
 
-    module _ {e : ℕ} (wanted : pool_size_to_contain_allocation fllen sllen size align ≡ Some e) {after : FlexContents S} where
-      pub asks : {more : Bool} (h : Extended fllen sllen terms owes leads (with_tlsf v new) after s e more) → Asks fllen sllen (terms v.source) s size align h.outcome h.notes h.state
-      asks h = record { full = full; extends = subst (λ w. Extends fllen (terms v.source) s w h.outcome h.notes h.state) (sym wanted) h.extends }
-
-      -- nothing came
-      pub nothing_more : KeepsOutside v.tlsf.memory s.pools new.memory s.pools → Extended fllen sllen terms owes leads (with_tlsf v new) after s e false
-          → FlexSteps fllen sllen terms owes leads v after s (FlexAllocates fllen sllen (terms v.source) s size align None)
-      nothing_more still h = record {
-        notes = h.notes;
-        state = h.state;
-        is_step = subst (λ o. Asks fllen sllen (terms v.source) s size align o h.notes h.state) (nothing_came h.outcome h.came) (asks h);
-        leads_by = h.leads_by;
-        outside = KeepsOutside-then v.tlsf.memory new.memory after.tlsf.memory s.pools s.pools h.state.pools still h.outside;
-        stands = h.stands;
+    module _ {leads : S → Note → S → Type 0} {e : ℕ} (wanted : pool_size_to_contain_allocation fllen sllen size align ≡ Some e) {after : FlexContents S} {more : Bool} (h : Extended fllen sllen terms owes leads w after e more) where
+      -- what was asked is what the machine asks
+      pub asks : Asks fllen sllen (terms v.source) v.state size align h.outcome h.notes after.state
+      asks = record {
+        full = tried.full;
+        extends = subst (λ o. Extends fllen (terms v.source) v.state o h.outcome h.notes after.state) (sym wanted) (subst (λ (s : FlexState). Extends fllen (terms v.source) s (Some e) h.outcome h.notes after.state) tried.same
+            (subst (λ x. Extends fllen (terms x) w.state (Some e) h.outcome h.notes after.state) tried.source h.extends));
       }
 
-      module _ {fl_bits sl_bits : ℕ} (valid : IsValid fl_bits sl_bits fllen sllen) (h : Extended fllen sllen terms owes leads (with_tlsf v new) after s e true) where
-        -- what came has room
-        pub more_is_found : {t : State} → Allocates sllen h.state.machine size align None t → ⊥
-        more_is_found none = pool_has_a_choice fl_bits sl_bits fllen sllen size align e h.state.machine valid wanted (h.room (sym h.came)) none.0
+      pub asked_by : LeadsBy leads v.source h.notes after.source
+      asked_by = subst (λ x. LeadsBy leads x h.notes after.source) tried.source h.leads_by
 
-        pub allocated_in_more : {last : Allocator} → KeepsOutside v.tlsf.memory s.pools new.memory s.pools → SamePlace after.tlsf.memory last.memory → (reply : Option ℕ) → Allocated fllen sllen size align after.tlsf last h.state.machine reply
-            → FlexSteps fllen sllen terms owes leads v (with_tlsf after last) s (FlexAllocates fllen sllen (terms v.source) s size align reply)
-        allocated_in_more still place None a = absurd (more_is_found a.1)
-        allocated_in_more {last = last} still place (Some addr) a = record {
-          notes = h.notes;
-          state = with_machine h.state a.0;
-          is_step = inr (record { outcome = h.outcome; meanwhile = h.state; asks = asks h; more = sym h.came; machine = a.0; allocates = a.1; after = refl });
-          leads_by = h.leads_by;
-          outside = KeepsOutside-then v.tlsf.memory new.memory last.memory s.pools s.pools h.state.pools still
-              (KeepsOutside-then new.memory after.tlsf.memory last.memory s.pools h.state.pools h.state.pools h.outside (allocated_outside place h.stands (Some addr) a));
-          stands = allocated_stands place h.stands (Some addr) a;
-        }
+      pub asked_answers : MayAnswerAll (terms v.source) v.state.pools h.notes
+      asked_answers = subst (λ (s : FlexState). MayAnswerAll (terms v.source) s.pools h.notes) tried.same (subst (λ x. MayAnswerAll (terms x) w.state.pools h.notes) tried.source h.answers)
+
+      pub asked_outside : KeepsOutside v.memory v.state.pools after.memory after.state.pools
+      asked_outside = KeepsOutside-then v.memory w.memory after.memory v.state.pools v.state.pools after.state.pools tried.still (subst (λ (s : FlexState). KeepsOutside w.memory s.pools after.memory after.state.pools) tried.same h.outside)
+
+      pub asked_spare : KeepsSpareButFooter (terms v.source) v.memory v.state after.memory after.state
+      asked_spare = KeepsSpareButFooter-behind (terms v.source) v.memory w.memory after.memory v.state after.state tried.still.place tried.spare (subst (λ (s : FlexState). KeepsSpareButFooter (terms v.source) w.memory s after.memory after.state) tried.same
+          (subst (λ x. KeepsSpareButFooter (terms x) w.memory w.state after.memory after.state) tried.source h.spare))
+
+      -- nothing came
+      pub nothing_more : more ≡ false → FlexSteps fllen sllen terms owes leads v after (FlexAllocates fllen sllen (terms v.source) v.state size align None)
+      unfolding FlexSteps
+      nothing_more is = (h.notes, subst (λ o. Asks fllen sllen (terms v.source) v.state size align o h.notes after.state) (nothing_came h.outcome (sym is ∙ h.came)) asks, asked_by, asked_answers, asked_outside, h.stands, asked_spare)
+
+      module _ {fl_bits sl_bits : ℕ} (valid : IsValid fl_bits sl_bits fllen sllen) (is : more ≡ true) where
+        came : is_more h.outcome ≡ true
+        came = sym h.came ∙ is
+
+        -- what came has room
+        pub more_is_found : {t : State} → Allocates sllen after.state.machine size align None t → ⊥
+        more_is_found none = pool_has_a_choice fl_bits sl_bits fllen sllen size align e after.state.machine valid wanted (h.room came) none.0
+
+        pub allocated_in_more : (last : Allocator) → SamePlace after.memory last.memory → (reply : Option ℕ) → Steps fllen sllen (allocator_of after) last (Allocates sllen after.state.machine size align reply)
+            → FlexSteps fllen sllen terms owes leads v (with_allocator after last) (FlexAllocates fllen sllen (terms v.source) v.state size align reply)
+        unfolding FlexSteps
+        allocated_in_more last place None did = absurd (more_is_found (opened _ _ _ did).0)
+        allocated_in_more last place (Some addr) did = (
+          h.notes,
+          inr (record { outcome = h.outcome; meanwhile = after.state; asks = asks; more = came; machine = last.state; allocates = (opened _ _ _ did).0; after = refl }),
+          asked_by,
+          asked_answers,
+          KeepsOutside-then v.memory after.memory last.memory v.state.pools after.state.pools after.state.pools asked_outside (allocated_outside last place h.stands (Some addr) did),
+          allocated_stands last place h.stands (Some addr) did,
+          KeepsSpareButFooter-before (terms v.source) v.memory after.memory last.memory v.state after.state asked_outside.place asked_spare last.state (chunks-allocated sllen after.state.machine last.state size align (Some addr) (opened _ _ _ did).0) (opened _ _ _ did).2,
+        )

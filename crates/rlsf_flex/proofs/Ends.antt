@@ -9,9 +9,9 @@ use Rattle.rlsf_base.specs.Space.{Space, IsWord, range_of}
 use Rattle.rlsf_tlsf.specs.Allocator.{Allocator}
 use Rattle.rlsf_flex.specs.declared.pool.Pool.{Pool}
 use Rattle.rlsf_flex.specs.Footers.{AreSpelled, Footers, first, footer_of}
-use Rattle.rlsf_flex.specs.StandsFor.{FlexStandsFor, IsNewest, flex_contents, kept_of}
+use Rattle.rlsf_flex.specs.StandsFor.{FlexStandsFor, flex_contents, kept_of}
+use Rattle.rlsf_machine.specs.FlexWellFormed.{IsNewest}
 use Rattle.rlsf_machine.specs.End.{notes_at_end, owed_at_end}
-use Rattle.rlsf_machine.specs.FlexState.{FlexState}
 use Rattle.rlsf_machine.specs.Lists.{IsIn}
 use Rattle.rlsf_machine.specs.Note.{Note, LeadsBy, dealloc}
 use Rattle.rlsf_machine.specs.Terms.{Terms}
@@ -19,7 +19,7 @@ use Rattle.rlsf_machine.proofs.Notes.{LeadsBy-append}
 use Rattle.rlsf_flex.proofs.DisjointRanges.{length-disjoint}
 use Rattle.rlsf_flex.proofs.FooterWords.{before, before-first}
 use Rattle.rlsf_flex.proofs.Frames.{outstanding_in}
-use Rattle.rlsf_flex.proofs.Housing.{AreOutstanding-rest}
+use Rattle.rlsf_machine.proofs.Housing.{AreOutstanding-rest}
 
 -- ---- the ranges that are left
 
@@ -112,18 +112,18 @@ module _ {S : Type 0} {owes : S → List Range → Type 0} {leads : S → Note �
 
 -- ---- the end
 
--- where the source takes ranges back, those that an allocator stands for are spelled in its memory
-pub spelled : {S : Type 0} (fllen sllen : ℕ) (terms : S → Terms) (owes : S → List Range → Type 0) (x : S) (a : Allocator) (kept : Option Pool) (s : FlexState) (newest : Option Range) → FlexStandsFor fllen sllen terms owes (flex_contents a kept x) s
-    → (terms x).dealloc ≡ true → newest ≡ option_map (λ (p : Pool). p.range) kept → AreSpelled a.memory newest s.pools
-spelled fllen sllen terms owes x a kept s newest v has is_newest = record {
-  is_first = is_newest ∙ is_first kept (subst (λ k. IsNewest (terms x) k s.pools s.machine.chunks) v.kept v.newest);
+-- where the source takes ranges back, those that are outstanding are spelled in the allocator's memory
+pub spelled : {S : Type 0} {fllen sllen : ℕ} {terms : S → Terms} {owes : S → List Range → Type 0} {x : S} {a : Allocator} (kept : Option Pool) {ranges : List Range} (newest : Option Range) → FlexStandsFor fllen sllen terms owes (flex_contents a kept x ranges)
+    → (terms x).dealloc ≡ true → newest ≡ option_map (λ (p : Pool). p.range) kept → AreSpelled a.memory newest ranges
+spelled {S} {fllen} {sllen} {terms} {owes} {x} {a} kept {ranges} newest v has is_newest = record {
+  is_first = is_newest ∙ is_first kept v.well_formed.newest;
   footers = v.footers has;
-  placed = outstanding_in a.memory (terms x).space s.pools v.space v.pools;
-  nonzero = v.machine.stands.nonzero;
-  addressable = v.machine.stands.well_formed.addressable;
+  placed = outstanding_in a.memory (terms x).space ranges v.well_formed.space v.well_formed.pools;
+  nonzero = v.machine.nonzero;
+  addressable = v.machine.well_formed.addressable;
 }
   where
-    is_first : (k : Option Pool) → IsNewest (terms x) (kept_of k) s.pools s.machine.chunks → option_map (λ (p : Pool). p.range) k ≡ first s.pools
+    is_first : (k : Option Pool) → IsNewest (terms x) (kept_of k) ranges a.state.chunks → option_map (λ (p : Pool). p.range) k ≡ first ranges
     is_first None is = sym (ap first (is (ap (λ b. b || (terms x).grow) has)))
     is_first (Some k) is = sym (ap first is.split)
 

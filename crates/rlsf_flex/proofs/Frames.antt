@@ -1,63 +1,32 @@
 -- The footers are spare words, so what leaves chunks and spare bytes as they are leaves the footers.
-use Rattle.std.proofs.Common.{◌≡◌, ℕ, ◌+◌, ◌-◌, ◌%◌, ◌<◌, ◌≤◌, List, [], ◌∷◌, length, drop, slice_index, get_or-take, get_or-drop, arith, sym, ◌∙◌, ap, subst, inl, inr, w64}
+use Rattle.std.proofs.Common.{◌≡◌, ℕ, ◌+◌, ◌-◌, ◌^◌, ◌<◌, ◌≤◌, List, [], ◌∷◌, length, drop, slice_index, get_or-take, get_or-drop, arith, refl, sym, ◌∙◌, ap, subst, inl, inr, w64}
 use Rattle.std.specs.Int.{from_le_bytes}
 use Rattle.std.proofs.lemmas.Grind.{same_number_lists}
 use Rattle.rlsf_base.specs.declared.memory.range.Range.{Range}
 use Rattle.rlsf_base.specs.Range.{end_of, LiesIn}
 use Rattle.rlsf_base.specs.Space.{Space, byte_at, bytes_in, range_of, word_at, word_range, IsWord, SamePlace}
-use Rattle.rlsf_blocks.specs.InBand.{sentinel_of}
-use Rattle.rlsf_blocks.specs.Spare.{IsSpareWord, KeepsSpare}
-use Rattle.rlsf_tlsf.specs.Allocator.{Allocator, IsInState}
+use Rattle.rlsf_blocks.specs.Spare.{IsSpare, IsSpareWord, KeepsSpare}
+use Rattle.rlsf_blocks.specs.StandsFor.{contents, StandsFor}
+use Rattle.rlsf_tlsf.specs.Allocator.{Allocator}
 use Rattle.rlsf_blocks.proofs.Allocate.Placements.{length-bytes_in}
 use Rattle.rlsf_flex.specs.Footers.{footer_of, Footers}
-use Rattle.rlsf_flex.specs.Outstanding.{AreOutstanding}
-use Rattle.rlsf_flex.specs.StandsFor.{FlexContents, FlexStandsFor, IsHoused, IsNewest}
+use Rattle.rlsf_flex.specs.StandsFor.{FlexContents, FlexStandsFor, with_allocator}
 use Rattle.rlsf_machine.specs.FlexState.{FlexState, with_machine}
+use Rattle.rlsf_machine.specs.FlexWellFormed.{AreHoused, AreOutstanding, IsFlexWellFormed}
 use Rattle.rlsf_machine.specs.Lists.{IsIn}
 use Rattle.rlsf_machine.specs.State.{State}
 use Rattle.rlsf_machine.specs.Terms.{Terms}
-use Rattle.rlsf_machine.specs.WellFormed.{itself}
+use Rattle.rlsf_machine.specs.WellFormed.{itself, IsWellFormed}
 use Rattle.rlsf_machine.proofs.Coverage.{covers-inside, coverage-unique}
+use Rattle.rlsf_machine.proofs.FlexSteps.{with_machine_keeps}
 
 -- the two words of a range's footer are spare
 abbrev pub HasSpareFooter : Space → State → Range → Type 0
 HasSpareFooter m s p = IsSpareWord m s (footer_of p) × IsSpareWord m s (footer_of p + 8)
 
--- where ranges house all chunks, the footer of each is spare
-pub spare_footer : (fllen sllen : ℕ) (v : Allocator) (s : State) (pools : List Range) → IsInState fllen sllen v s → AreOutstanding (range_of v.memory) pools
-    → ((c : Range) → IsIn c s.chunks → IsHoused pools c) → (p : Range) → IsIn p pools → HasSpareFooter v.memory s p
-spare_footer fllen sllen v s pools stands placed housed p i =
-    (((aligned, lies), λ a low high. spare a low (omega (arith, high))), ((next, behind), λ a low high. spare a (omega (arith, low)) (omega (arith, high))))
-  where
-    long : 64 ≤ p.len
-    long = placed.long p i
-
-    inside : LiesIn p v.memory.start (length v.memory.bytes)
-    inside = placed.in_space p i
-
-    aligned : footer_of p % 8 ≡ 0
-    aligned = omega arith
-
-    next : (footer_of p + 8) % 8 ≡ 0
-    next = omega arith
-
-    lies : LiesIn (word_range (footer_of p)) v.memory.start (length v.memory.bytes)
-    lies = (omega (arith, long, inside), omega (arith, long, inside))
-
-    behind : LiesIn (word_range (footer_of p + 8)) v.memory.start (length v.memory.bytes)
-    behind = (omega (arith, long, inside), omega (arith, long, inside))
-
-    spare : (a : ℕ) → footer_of p ≤ a → a < footer_of p + 16 → (c : Range) → IsIn c s.chunks → c.start ≤ a → a < end_of c → sentinel_of c + 16 ≤ a
-    spare a low high c j from to =
-        let (q, k, begins, ends) = housed c j in
-        let room = long in
-        let same : q ≡ p = coverage-unique itself q p pools a (placed.disjoint a) k i (covers-inside q a (omega arith) (omega arith)) (covers-inside p a (omega arith) (omega arith)) in
-        let end : end_of q ≡ end_of p = ap end_of same in
-        let chunk = stands.stands.well_formed.chunks c j in
-        let start32 = chunk.whole.start in
-        let len32 = chunk.whole.len in
-        let some = chunk.has_room in
-        omega arith
+-- two memories at one place have one range
+pub range_of-same : (m n : Space) → SamePlace m n → range_of m ≡ range_of n
+range_of-same m n place i = record { start = sym place.0 i; len = sym place.1 i }
 
 -- ranges of a space that lies in a memory are ranges of the memory
 pub outstanding_in : (m : Space) (space : Range) (pools : List Range) → LiesIn space m.start (length m.bytes) → AreOutstanding space pools → AreOutstanding (range_of m) pools
@@ -66,6 +35,44 @@ outstanding_in m space pools lies placed = record {
   long = placed.long;
   disjoint = placed.disjoint;
 }
+
+-- where ranges house all chunks, the footer of each is spare, and ends below 2^64
+module _ {fllen sllen : ℕ} (m : Space) (s : State) (space : Range) (pools : List Range) (w : IsWellFormed fllen sllen (range_of m) s) (space_lies : LiesIn space m.start (length m.bytes)) (placed : AreOutstanding space pools) (housed : AreHoused pools s.chunks)
+    (p : Range) (i : IsIn p pools) where
+  long : 64 ≤ p.len
+  long = placed.long p i
+
+  inside : LiesIn p m.start (length m.bytes)
+  inside = (outstanding_in m space pools space_lies placed).in_space p i
+
+  apart : (a : ℕ) → footer_of p ≤ a → a < footer_of p + 16 → IsSpare s a
+  apart a low high c j from to =
+      let (q, k, begins, ends) = housed c j in
+      let room = long in
+      let same : q ≡ p = coverage-unique itself q p pools a (placed.disjoint a) k i (covers-inside q a (omega arith) (omega arith)) (covers-inside p a (omega arith) (omega arith)) in
+      let end : end_of q ≡ end_of p = ap end_of same in
+      let chunk = w.chunks c j in
+      let start32 = chunk.whole.start in
+      let len32 = chunk.whole.len in
+      let some = chunk.has_room in
+      omega arith
+
+  pub spare_footer : HasSpareFooter m s p
+  spare_footer = (
+    ((omega arith, (omega (arith, long, inside), omega (arith, long, inside))), λ a low high. apart a low (omega (arith, high))),
+    ((omega arith, (omega (arith, long, inside), omega (arith, long, inside))), λ a low high. apart a (omega (arith, low)) (omega (arith, high))),
+  )
+
+  pub footer_ends : (16 ≤ end_of p) × (end_of p < 2 ^ 64)
+  footer_ends = (omega (arith, long), omega (arith, inside, w.addressable))
+
+-- so is each of a well-formed state
+module _ {fllen sllen : ℕ} (m : Space) {t : Terms} {s : FlexState} (w : IsFlexWellFormed fllen sllen (range_of m) t s) (p : Range) (i : IsIn p s.pools) where
+  pub spare_here : HasSpareFooter m s.machine p
+  spare_here = spare_footer m s.machine t.space s.pools w.machine w.space w.pools w.housed p i
+
+  pub ends_here : (16 ≤ end_of p) × (end_of p < 2 ^ 64)
+  ends_here = footer_ends m s.machine t.space s.pools w.machine w.space w.pools w.housed p i
 
 -- a word is as it was where its bytes are
 pub word_at-bytes : (m n : Space) (a : ℕ) → SamePlace m n → IsWord m a → ((b : ℕ) → a ≤ b → b < a + 8 → byte_at n b ≡ byte_at m b) → word_at n a ≡ word_at m a
@@ -97,28 +104,15 @@ Footers-kept m n s t (p ∷ ps) keeps place spare (start, len, rest) =
     stays a was is = word_at-bytes m n a place was.0 (λ b low high. keeps b (omega (arith, was.0, low)) (omega (arith, was.0, high)) (was.1 b low high) (is.1 b low high))
 
 -- a step of the machine that leaves the chunks is one of the allocator over a source
-pub stands_stepped : {S : Type 0} (fllen sllen : ℕ) (terms : S → Terms) (owes : S → List Range → Type 0) (v : FlexContents S) (new : Allocator) (s : FlexState) (t : State)
-    → FlexStandsFor fllen sllen terms owes v s → IsInState fllen sllen new t → t.chunks ≡ s.machine.chunks → KeepsSpare v.tlsf.memory s.machine new.memory t → SamePlace v.tlsf.memory new.memory
-    → FlexStandsFor fllen sllen terms owes (record { tlsf = new; kept = v.kept; source = v.source }) (with_machine s t)
-stands_stepped fllen sllen terms owes v new s t h stands chunks keeps place = record {
+pub stands_stepped : {S : Type 0} {fllen sllen : ℕ} {terms : S → Terms} {owes : S → List Range → Type 0} {v : FlexContents S} (h : FlexStandsFor fllen sllen terms owes v) (new : Allocator)
+    → StandsFor fllen sllen (contents new.memory new.table) new.state → new.state.chunks ≡ v.state.machine.chunks → KeepsSpare v.memory v.state.machine new.memory new.state → SamePlace v.memory new.memory
+    → FlexStandsFor fllen sllen terms owes (with_allocator v new)
+stands_stepped {fllen = fllen} {sllen = sllen} {terms = terms} {v = v} h new stands chunks keeps place = record {
   machine = stands;
-  kept = h.kept;
+  well_formed = well_formed;
   owed = h.owed;
-  space = space;
-  pools = h.pools;
-  housed = housed;
-  newest = subst (λ cs. IsNewest (terms v.source) s.kept s.pools cs) (sym chunks) h.newest;
-  footers = λ back. Footers-kept v.tlsf.memory new.memory s.machine t s.pools keeps place spare (h.footers back);
+  footers = λ back. Footers-kept v.memory new.memory v.state.machine new.state v.state.pools keeps place (λ p i. (spare_here v.memory h.well_formed p i, spare_here new.memory well_formed p i)) (h.footers back);
 }
   where
-    space : LiesIn (terms v.source).space new.memory.start (length new.memory.bytes)
-    space = let lies = h.space in (omega (arith, place, lies), omega (arith, place, lies))
-
-    housed : (c : Range) → IsIn c t.chunks → IsHoused s.pools c
-    housed c i = h.housed c (subst (λ cs. IsIn c cs) chunks i)
-
-    spare : (p : Range) → IsIn p s.pools → HasSpareFooter v.tlsf.memory s.machine p × HasSpareFooter new.memory t p
-    spare p i = (
-      spare_footer fllen sllen v.tlsf s.machine s.pools h.machine (outstanding_in v.tlsf.memory (terms v.source).space s.pools h.space h.pools) h.housed p i,
-      spare_footer fllen sllen new t s.pools stands (outstanding_in new.memory (terms v.source).space s.pools space h.pools) housed p i,
-    )
+    well_formed : IsFlexWellFormed fllen sllen (range_of new.memory) (terms v.source) (with_machine v.state new.state)
+    well_formed = with_machine_keeps (subst (λ m. IsFlexWellFormed fllen sllen m (terms v.source) v.state) (range_of-same v.memory new.memory place) h.well_formed) new.state (with_machine v.state new.state) stands.well_formed chunks refl

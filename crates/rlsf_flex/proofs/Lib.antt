@@ -1,19 +1,22 @@
 pub mod Allocations
 pub mod Asks
 pub mod Calls
+mod Crossing
 pub mod DisjointRanges
 pub mod EmptyFlex
 pub mod Ends
 pub mod FooterWords
 pub mod Frames
 pub mod Growths
-pub mod Houses
-pub mod Housing
 pub mod Kept
 pub mod Loans
 pub mod Moves
 pub mod NewRanges
+pub mod Outcomes
 pub mod Outside
 pub mod RangeLengths
 pub mod Reallocations
 pub mod Rewritten
+pub mod SpareBytes
+pub mod Standing
+pub mod Unlent

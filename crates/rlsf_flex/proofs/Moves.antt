@@ -1,16 +1,19 @@
 -- A payload moves into a block that is allocated for it: its bytes are copied there, and its old block is given back.
-use Rattle.std.proofs.Common.{◌≡◌, ℕ, ◌≤◌, List, Some, length, min, take, drop, arith, inl, inr, refl, sym, ◌∙◌, ap, subst}
+use Rattle.std.proofs.Common.{◌≡◌, ℕ, ◌≤◌, List, Some, length, min, take, drop, arith, inl, refl, sym, ◌∙◌, ap, subst}
 use Rattle.std.proofs.lemmas.List.{length-append, take_all, take_at}
+use Rattle.rlsf_base.specs.declared.memory.range.Range.{Range}
 use Rattle.rlsf_base.specs.PowerOfTwo.{IsPowerOfTwo}
 use Rattle.rlsf_base.specs.Space.{range_of, SamePlace}
 use Rattle.rlsf_blocks.specs.Spare.{KeepsSpare}
 use Rattle.rlsf_tlsf.specs.Allocator.{Allocator, IsInState}
 use Rattle.rlsf_machine.specs.Allocate.{Allocates, given, placed, Places}
-use Rattle.rlsf_machine.specs.Lists.{IsIn}
+use Rattle.rlsf_machine.specs.Callers.{bytes_at}
 use Rattle.rlsf_machine.specs.Reallocate.{Keeps, MovesAway}
 use Rattle.rlsf_machine.specs.Release.{Deallocates}
 use Rattle.rlsf_machine.specs.Run.{Fills, allocate, deallocate, fill}
-use Rattle.rlsf_machine.specs.State.{State, Used, usable, with_front, Holds, HasFront, IsLive}
+use Rattle.rlsf_machine.specs.State.{State, Used, usable, with_front, Holds}
+use Rattle.rlsf_machine.specs.WellFormed.{IsWellFormed}
+use Rattle.rlsf_machine.proofs.CallerWords.{bytes_at-held}
 use Rattle.rlsf_machine.proofs.Changes.{Holds-unique}
 use Rattle.rlsf_machine.proofs.Live.{allocated_filled, allocation_has_size, other_payloads_stay}
 use Rattle.rlsf_blocks.proofs.Machine.SpareBytes.{KeepsSpare-trans}
@@ -23,6 +26,11 @@ Keeps-front n old new is short =
     let long : n ≤ length (with_front n old new) = omega (arith, length-append (take n old) (drop n new), front) in
     let least : min (length old) (length (with_front n old new)) ≡ n = omega (arith, is, long) in
     subst (λ k. take k (with_front n old new) ≡ take k old) (sym least) (take_at (take n old) (drop n new) n front)
+
+-- the bytes that were copied are those of the two payloads
+pub Fills-copied : {fllen sllen : ℕ} {memory : Range} {s t : State} → IsWellFormed fllen sllen memory s → (from to len : ℕ) (x y : Used) → Holds s from x → Holds s to y → Fills s to (with_front len (bytes_at s from) (bytes_at s to)) t
+    → Fills s to (with_front len x.bytes y.bytes) t
+Fills-copied {s = s} {t = t} w from to len x y source target = subst (λ (l : List ℕ). Fills s to l t) (λ i. with_front len (bytes_at-held w from x source i) (bytes_at-held w to y target i))
 
 module _ {fllen sllen : ℕ} {v w : Allocator} {s t : State} (stands : IsInState fllen sllen v s) (addr : ℕ) (u : Used) (holds : Holds s addr u) (size align to : ℕ) (is : u.align ≡ align) (short : (usable u).len ≤ size)
     (step : Places sllen s size align to t) (now : IsInState fllen sllen w t) where
@@ -47,10 +55,6 @@ module _ {fllen sllen : ℕ} {v w : Allocator} {s t : State} (stands : IsInState
       let same : x ≡ new = Holds-unique now.stands.well_formed to x new at Holds-new in
       omega (arith, short, subst (λ x. size ≤ (usable x).len) same enough)
 
-  -- both have the bytes of the old one
-  pub fronts : HasFront t addr (usable u).len × HasFront t to (usable u).len
-  fronts = ((u, Holds-old, omega arith), (new, Holds-new, long))
-
   -- a fill of the new block is an allocation with other bytes
   module _ (bytes : List ℕ) (r : State) (fills : Fills t to bytes r) where
     same : fills.block ≡ new
@@ -68,12 +72,6 @@ module _ {fllen sllen : ℕ} {v w : Allocator} {s t : State} (stands : IsInState
       length = fills.length ∙ ap (λ (x : Used). length x.bytes) same ∙ step.length;
       after = filled;
     }
-
-    pub Holds-filled : Holds r addr u
-    Holds-filled = (subst (λ x. IsIn u x.used) (sym filled) (inr holds.0), holds.1)
-
-    pub IsLive-filled : IsLive r addr align
-    IsLive-filled = (u, Holds-filled, is)
 
   -- then the old block was given back
   module _ (x y : Allocator) (r q : State) (fills : Fills t to (with_front (usable u).len u.bytes step.bytes) r) (gone : Deallocates r addr q) where

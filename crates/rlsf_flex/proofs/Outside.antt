@@ -4,12 +4,13 @@ use Rattle.rlsf_base.specs.declared.memory.range.Range.{Range}
 use Rattle.rlsf_base.specs.Space.{Space, SamePlace}
 use Rattle.rlsf_blocks.specs.Spare.{IsSpare, KeepsSpare}
 use Rattle.rlsf_flex.specs.Outside.{IsOutside, KeepsOutside}
-use Rattle.rlsf_flex.specs.StandsFor.{FlexContents, FlexStandsFor}
-use Rattle.rlsf_machine.specs.FlexState.{FlexState, with_machine}
+use Rattle.rlsf_flex.specs.StandsFor.{FlexContents, FlexStandsFor, with_allocator}
+use Rattle.rlsf_tlsf.specs.Allocator.{Allocator}
+use Rattle.rlsf_machine.specs.FlexWellFormed.{AreHoused}
 use Rattle.rlsf_machine.specs.Lists.{IsIn}
 use Rattle.rlsf_machine.specs.State.{State}
 use Rattle.rlsf_machine.specs.Terms.{Terms}
-use Rattle.rlsf_flex.proofs.Housing.{AreHoused, coverage-in}
+use Rattle.rlsf_machine.proofs.Housing.{coverage-in}
 use Rattle.rlsf_flex.proofs.Rewritten.{IsFooted}
 
 -- a byte outside of the ranges that house all chunks is spare
@@ -31,11 +32,11 @@ KeepsOutside-spare m n s t before after housed_before housed_after more place ke
 }
 
 -- so a step between states with the same ranges keeps them
-pub KeepsOutside-stands : {S : Type 0} {fllen sllen : ℕ} {terms : S → Terms} {owes : S → List Range → Type 0} {v w : FlexContents S} {s : FlexState} {m : State}
-    → FlexStandsFor fllen sllen terms owes v s → FlexStandsFor fllen sllen terms owes w (with_machine s m) → SamePlace v.tlsf.memory w.tlsf.memory → KeepsSpare v.tlsf.memory s.machine w.tlsf.memory m
-    → KeepsOutside v.tlsf.memory s.pools w.tlsf.memory s.pools
-KeepsOutside-stands {v = v} {w = w} {s = s} {m = m} before after place keeps =
-    KeepsOutside-spare v.tlsf.memory w.tlsf.memory s.machine m s.pools s.pools before.housed after.housed (λ a none. none) place keeps
+pub KeepsOutside-stands : {S : Type 0} {fllen sllen : ℕ} {terms : S → Terms} {owes : S → List Range → Type 0} {v : FlexContents S} {new : Allocator}
+    → FlexStandsFor fllen sllen terms owes v → FlexStandsFor fllen sllen terms owes (with_allocator v new) → SamePlace v.memory new.memory → KeepsSpare v.memory v.state.machine new.memory new.state
+    → KeepsOutside v.memory v.state.pools new.memory v.state.pools
+KeepsOutside-stands {v = v} {new = new} before after place keeps =
+    KeepsOutside-spare v.memory new.memory v.state.machine new.state v.state.pools v.state.pools before.well_formed.housed after.well_formed.housed (λ a none. none) place keeps
 
 -- one after the other
 pub KeepsOutside-then : (m n o : Space) (first second third : List Range) → KeepsOutside m first n second → KeepsOutside n second o third → KeepsOutside m first o third
@@ -51,5 +52,5 @@ pub KeepsOutside-footed : (takes_back : Bool) (m n : Space) (r : Range) (start l
 KeepsOutside-footed takes_back m n r start len before after i long more foot = record {
   place = foot.place;
   only_more = more;
-  bytes = λ a low high none. foot.bytes a low high (λ from to. absurd (omega (arith, coverage-in r after a i (omega arith) (omega arith), none)));
+  bytes = λ a low high none. foot.bytes a low high (λ takes from to. absurd (omega (arith, coverage-in r after a i (omega arith) (omega arith), none)));
 }

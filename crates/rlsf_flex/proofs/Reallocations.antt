@@ -1,15 +1,14 @@
 -- A reallocation of the allocator over a source.
-use Rattle.std.proofs.Common.{◌≡◌, ◌≢◌, ℕ, ◌<◌, true, List, [], Option, Some, None, refl, sym, ◌∙◌, ap, subst, inl, inr}
+use Rattle.std.proofs.Common.{◌≡◌, ◌≢◌, ℕ, ◌<◌, Bool, true, List, [], Option, Some, None, refl, sym, ◌∙◌, ap, subst, inl, inr}
 use Rattle.std.proofs.lemmas.Option.{none-some}
 use Rattle.rlsf_base.specs.declared.memory.range.Range.{Range}
 use Rattle.rlsf_base.specs.Sizes.{pool_size_to_contain_allocation}
-use Rattle.rlsf_base.specs.Space.{range_of, SamePlace}
+use Rattle.rlsf_base.specs.Space.{SamePlace}
+use Rattle.rlsf_tlsf.specs.Allocator.{Allocator, Steps}
 use Rattle.rlsf_blocks.specs.Spare.{KeepsSpare}
-use Rattle.rlsf_tlsf.specs.Allocator.{Allocator, IsInState, Steps}
-use Rattle.rlsf_tlsf.proofs.Standing.{stepped}
 use Rattle.rlsf_flex.specs.Outside.{KeepsOutside}
-use Rattle.rlsf_flex.specs.StandsFor.{FlexContents, FlexStandsFor, FlexSteps}
-use Rattle.rlsf_flex.specs.Steps.Growth.{Extended}
+use Rattle.rlsf_flex.specs.StandsFor.{FlexContents, FlexStandsFor, FlexSteps, allocator_of, with_allocator}
+use Rattle.rlsf_flex.specs.Steps.Growth.{Extended, MovesTo}
 use Rattle.rlsf_machine.specs.Allocate.{Allocates}
 use Rattle.rlsf_machine.specs.FlexAllocate.{Asks, FlexAllocates}
 use Rattle.rlsf_machine.specs.FlexReallocate.{FlexReallocates, IsStuck}
@@ -17,36 +16,37 @@ use Rattle.rlsf_machine.specs.FlexState.{FlexState, with_machine}
 use Rattle.rlsf_machine.specs.Growth.{refused}
 use Rattle.rlsf_machine.specs.Lists.{IsIn}
 use Rattle.rlsf_machine.specs.Note.{Note}
-use Rattle.rlsf_machine.specs.Reallocate.{MovesAway, Plan, Reallocates, ReallocatesBy, in_place, or_else, plan}
-use Rattle.rlsf_machine.specs.Run.{deallocate}
+use Rattle.rlsf_machine.specs.Reallocate.{MovesAway, Plan, Reallocates, ReallocatesBy, in_place, into_next, into_previous, or_else, plan}
 use Rattle.rlsf_machine.specs.State.{State, Used, usable, Holds, IsLive}
 use Rattle.rlsf_machine.specs.Terms.{Terms}
 use Rattle.rlsf_machine.specs.WellFormed.{IsWellFormed}
 use Rattle.rlsf_machine.proofs.Changes.{Holds-unique}
 use Rattle.rlsf_machine.proofs.Chunks.{chunks-allocated, chunks-deallocated, chunks-reallocated}
 use Rattle.rlsf_machine.proofs.Growths.{Holds-same, used-taken}
-use Rattle.rlsf_machine.proofs.Live.{handed_out_is_new, live_stays, reallocated_is_live}
+use Rattle.rlsf_machine.proofs.Live.{handed_out_is_new}
 use Rattle.rlsf_machine.proofs.Payloads.{usable-short}
-use Rattle.rlsf_flex.proofs.Allocations.{asks, refused_alone, with_tlsf}
+use Rattle.rlsf_flex.proofs.Allocations.{Tried, asked_answers, asked_by, asked_outside, asked_spare, asks, refused_alone}
+use Rattle.rlsf_flex.proofs.Calls.{stands_alone}
 use Rattle.rlsf_flex.proofs.Frames.{stands_stepped}
 use Rattle.rlsf_flex.proofs.Outside.{KeepsOutside-stands, KeepsOutside-then}
-
--- what the allocator over pools does for a reallocation
-abbrev pub Reallocated : ℕ → ℕ → ℕ → ℕ → Allocator → Allocator → State → Option ℕ → Type 0
-Reallocated fllen sllen addr size old new s reply = (t : State) × Reallocates sllen s addr size reply t × IsInState fllen sllen new t × KeepsSpare old.memory s new.memory t
-
-pub reallocated : {fllen sllen : ℕ} (addr size : ℕ) {old new : Allocator} {s : State} → IsInState fllen sllen old s → (reply : Option ℕ) → Steps fllen sllen old new (Reallocates sllen old.state addr size reply)
-    → Reallocated fllen sllen addr size old new s reply
-reallocated {sllen = sllen} addr size {new = new} is reply did = stepped is new (λ s. Reallocates sllen s addr size reply) did
-
--- a payload moved
-abbrev pub Moved : ℕ → ℕ → Used → ℕ → Allocator → Allocator → State → ℕ → Type 0
-Moved fllen sllen u size old new s to = (t : State) × MovesAway sllen s u size to t × IsInState fllen sllen new t × KeepsSpare old.memory s new.memory t
+use Rattle.rlsf_flex.proofs.SpareBytes.{KeepsSpareButFooter-all, KeepsSpareButFooter-before}
+use Rattle.rlsf_flex.proofs.Standing.{opened, stood}
 
 -- where a plan is none, the first of its cases can't be
 in_place-none : (o q : Option Plan) → or_else o q ≡ None → o ≡ None
 in_place-none None q none = refl
 in_place-none (Some p) q none = absurd (none-some p (sym none))
+
+-- nor can the first two
+first_two-none : (o q r : Option Plan) → or_else o (or_else q r) ≡ None → or_else o q ≡ None
+first_two-none None q r none = in_place-none q r none
+first_two-none (Some p) q r none = none
+
+-- a block that can't have the size neither stays where it is nor takes from the block behind
+pub stuck_moves : {fllen sllen : ℕ} {memory : Range} {s : State} → IsWellFormed fllen sllen memory s → (addr size : ℕ) (u v : Used) (p : Plan) → IsStuck s addr size v → Holds s addr u → or_else (in_place s u size) (into_next s u size) ≡ Some p → ⊥
+stuck_moves {s = s} w addr size u v p stuck holds some =
+    let here = subst (λ x. or_else (in_place s x size) (into_next s x size) ≡ Some p) (Holds-unique w addr u v holds stuck.holds) some in
+    none-some p (sym (first_two-none (in_place s v size) (into_next s v size) (into_previous s v size) stuck.no_plan) ∙ here)
 
 -- a block that can't have the size has fewer usable bytes
 pub stuck_short : {fllen sllen : ℕ} {memory : Range} {s : State} → IsWellFormed fllen sllen memory s → (addr size : ℕ) (u : Used) → IsStuck s addr size u → (usable u).len < size
@@ -70,107 +70,97 @@ moved_elsewhere : {fllen sllen : ℕ} {memory : Range} {s : State} → IsWellFor
 moved_elsewhere {fllen} {sllen} {memory} {s} w u i size to t moves same =
     (handed_out_is_new fllen sllen memory s moves.meanwhile size u.align to w (w.used u i).power moves.allocated).0 u.align (u, (i, sym same), refl)
 
--- a payload that moved is live where it is
-moved_is_live : {fllen sllen : ℕ} {memory : Range} {s : State} → IsWellFormed fllen sllen memory s → (u : Used) → IsIn u s.used → (size to : ℕ) (t : State) → MovesAway sllen s u size to t → IsLive t to u.align
-moved_is_live {fllen} {sllen} {memory} {s} w u i size to t moves =
-    let (fresh, live) = handed_out_is_new fllen sllen memory s moves.meanwhile size u.align to w (w.used u i).power moves.allocated in
-    live_stays fllen sllen moves.meanwhile t (deallocate u.payload) to u.align moves.released live (λ at. fresh u.align (u, (i, at), refl))
+-- where an allocation over a source is refused, the reallocation is
+pub refused_too : {S : Type 0} (fllen sllen : ℕ) (terms : S → Terms) (owes : S → List Range → Type 0) (leads : S → Note → S → Type 0) (v after : FlexContents S) (addr size align : ℕ) {u : Used} → IsStuck v.state.machine addr size u → u.align ≡ align
+    → FlexSteps fllen sllen terms owes leads v after (FlexAllocates fllen sllen (terms v.source) v.state size align None)
+    → FlexSteps fllen sllen terms owes leads v after (FlexReallocates fllen sllen (terms v.source) v.state addr size None)
+unfolding FlexSteps
+refused_too fllen sllen terms owes leads v after addr size align {u} stuck is (notes, step, leads_by, answers, outside, stands, spare) =
+    (notes, record { block = u; stuck = stuck; asks = subst (λ a. Asks fllen sllen (terms v.source) v.state size a refused notes after.state) (sym is) step }, leads_by, answers, outside, stands, spare)
 
 module _ {S : Type 0} {fllen sllen : ℕ} {terms : S → Terms} {owes : S → List Range → Type 0} (addr size align : ℕ) where
-  module _ {v : FlexContents S} {new : Allocator} {s : FlexState} (place : SamePlace v.tlsf.memory new.memory) (h : FlexStandsFor fllen sllen terms owes v s) where
-    pub reallocated_stands : (reply : Option ℕ) (a : Reallocated fllen sllen addr size v.tlsf new s.machine reply) → FlexStandsFor fllen sllen terms owes (with_tlsf v new) (with_machine s a.0)
-    reallocated_stands reply (t, all, stands, spare) = stands_stepped fllen sllen terms owes v new s t h stands (chunks-reallocated sllen s.machine t addr size reply all) spare place
+  module _ {v : FlexContents S} (new : Allocator) (place : SamePlace v.memory new.memory) (h : FlexStandsFor fllen sllen terms owes v) where
+    module _ (reply : Option ℕ) (did : Steps fllen sllen (allocator_of v) new (Reallocates sllen v.state.machine addr size reply)) where
+      pub reallocated_stands : FlexStandsFor fllen sllen terms owes (with_allocator v new)
+      reallocated_stands = stands_alone h new _ place (chunks-reallocated sllen v.state.machine new.state addr size reply (opened _ _ _ did).0) did
 
-    reallocated_outside : (reply : Option ℕ) → Reallocated fllen sllen addr size v.tlsf new s.machine reply → KeepsOutside v.tlsf.memory s.pools new.memory s.pools
-    reallocated_outside reply a = KeepsOutside-stands h (reallocated_stands reply a) place a.3
+      reallocated_outside : KeepsOutside v.memory v.state.pools new.memory v.state.pools
+      reallocated_outside = KeepsOutside-stands h reallocated_stands place (opened _ _ _ did).2
 
     -- there is room
-    pub reallocated_in_room : {leads : S → Note → S → Type 0} (to : ℕ) → Reallocated fllen sllen addr size v.tlsf new s.machine (Some to)
-        → FlexSteps fllen sllen terms owes leads v (with_tlsf v new) s (FlexReallocates fllen sllen (terms v.source) s addr size (Some to))
-    reallocated_in_room to a = record {
-      notes = [];
-      state = with_machine s a.0;
-      is_step = inl (record { machine = a.0; reallocates = a.1; none = refl; after = refl });
-      leads_by = refl;
-      outside = reallocated_outside (Some to) a;
-      stands = reallocated_stands (Some to) a;
-    }
-
-    -- where the payload is then, it is live
-    pub reallocated_live : (to : ℕ) → IsLive s.machine addr align → Reallocated fllen sllen addr size v.tlsf new s.machine (Some to)
-        → (t : FlexState) × FlexStandsFor fllen sllen terms owes (with_tlsf v new) t × IsLive t.machine to align
-    reallocated_live to live a = (
-      with_machine s a.0,
-      reallocated_stands (Some to) a,
-      (reallocated_is_live fllen sllen (range_of v.tlsf.memory) s.machine a.0 addr size to align h.machine.stands.well_formed live a.1).0,
+    pub reallocated_in_room : (leads : S → Note → S → Type 0) (to : ℕ) → Steps fllen sllen (allocator_of v) new (Reallocates sllen v.state.machine addr size (Some to))
+        → FlexSteps fllen sllen terms owes leads v (with_allocator v new) (FlexReallocates fllen sllen (terms v.source) v.state addr size (Some to))
+    unfolding FlexSteps
+    reallocated_in_room leads to did = (
+      [],
+      inl (record { machine = new.state; reallocates = (opened _ _ _ did).0; none = refl; after = refl }),
+      refl,
+      λ n i. absurd i,
+      reallocated_outside (Some to) did,
+      reallocated_stands (Some to) did,
+      KeepsSpareButFooter-all (terms v.source) v.memory new.memory v.state (with_machine v.state new.state) (opened _ _ _ did).2,
     )
 
     -- there is no room, and nothing has changed yet
-    pub no_room_to_move : IsLive s.machine addr align → Reallocated fllen sllen addr size v.tlsf new s.machine None
-        → (u : Used) × IsStuck s.machine addr size u × (u.align ≡ align) × Allocates sllen s.machine size align None s.machine × FlexStandsFor fllen sllen terms owes (with_tlsf v new) s
-        × KeepsOutside v.tlsf.memory s.pools new.memory s.pools
-    no_room_to_move (x, holds, is) a =
-        let u = a.1.block in
-        let (none, full) = refused_by sllen size s.machine a.0 u (plan s.machine u size) a.1.step in
-        let aligned : u.align ≡ align = ap (λ (y : Used). y.align) (Holds-unique h.machine.stands.well_formed addr u x a.1.holds holds) ∙ is in (
+    pub no_room_to_move : IsLive v.state.machine addr align → Steps fllen sllen (allocator_of v) new (Reallocates sllen v.state.machine addr size None)
+        → (u : Used) × IsStuck v.state.machine addr size u × (u.align ≡ align) × Tried fllen sllen terms owes size align v (with_allocator v new)
+    no_room_to_move (x, holds, is) did =
+        let step = (opened _ _ _ did).0 in
+        let u = step.block in
+        let (none, full) = refused_by sllen size v.state.machine new.state u (plan v.state.machine u size) step.step in
+        let aligned : u.align ≡ align = ap (λ (y : Used). y.align) (Holds-unique h.machine.well_formed addr u x step.holds holds) ∙ is in (
           u,
-          record { holds = a.1.holds; no_plan = none },
+          record { holds = step.holds; no_plan = none },
           aligned,
-          subst (λ k. Allocates sllen s.machine size k None s.machine) aligned (full.0, refl),
-          subst (λ m. FlexStandsFor fllen sllen terms owes (with_tlsf v new) (with_machine s m)) full.1 (reallocated_stands None a),
-          reallocated_outside None a,
+          record {
+            full = subst (λ k. Allocates sllen v.state.machine size k None v.state.machine) aligned (full.0, refl);
+            source = refl;
+            same = ap (with_machine v.state) full.1;
+            stands = reallocated_stands None did;
+            still = reallocated_outside None did;
+            spare = subst (λ x. KeepsSpare v.memory v.state.machine new.memory x) full.1 (opened _ _ _ did).2;
+          },
         )
 
   -- there is no room, and the source is asked
-  module _ {leads : S → Note → S → Type 0} (v : FlexContents S) {s : FlexState} {u : Used} (stuck : IsStuck s.machine addr size u) (is : u.align ≡ align) where
-    -- where an allocation is refused, the reallocation is
-    pub refused_too : {after : FlexContents S} → FlexSteps fllen sllen terms owes leads v after s (FlexAllocates fllen sllen (terms v.source) s size align None)
-        → FlexSteps fllen sllen terms owes leads v after s (FlexReallocates fllen sllen (terms v.source) s addr size None)
-    refused_too h = record {
-      notes = h.notes;
-      state = h.state;
-      is_step = record { block = u; stuck = stuck; asks = subst (λ a. Asks fllen sllen (terms v.source) s size a refused h.notes h.state) (sym is) h.is_step };
-      leads_by = h.leads_by;
-      outside = h.outside;
-      stands = h.stands;
-    }
-
-    module _ {new : Allocator} (full : Allocates sllen s.machine size align None s.machine) {e : ℕ} (wanted : pool_size_to_contain_allocation fllen sllen size align ≡ Some e) {after : FlexContents S}
-        (h : Extended fllen sllen terms owes leads (with_tlsf v new) after s e true) where
+  module _ (leads : S → Note → S → Type 0) (v : FlexContents S) {u : Used} (stuck : IsStuck v.state.machine addr size u) (is : u.align ≡ align) where
+    module _ {w : FlexContents S} (tried : Tried fllen sllen terms owes size align v w)
+        {e : ℕ} (wanted : pool_size_to_contain_allocation fllen sllen size align ≡ Some e) {after : FlexContents S} {more : Bool} (h : Extended fllen sllen terms owes leads w after e more) where
       -- what came left the block
-      pub Holds-came : Holds h.state.machine addr u
-      Holds-came = Holds-same s.machine h.state.machine addr u (used-taken fllen (terms v.source) s h.state h.outcome h.extends.after) stuck.holds
+      pub Holds-came : Holds after.state.machine addr u
+      Holds-came = Holds-same w.state.machine after.state.machine addr u (used-taken fllen (terms w.source) w.state after.state h.outcome h.extends.after) (subst (λ (s : FlexState). Holds s.machine addr u) (sym tried.same) stuck.holds)
 
-      module _ {last : Allocator} (place : SamePlace after.tlsf.memory last.memory) {to : ℕ} (a : Moved fllen sllen u size after.tlsf last h.state.machine to) where
-        pub moved_stands : FlexStandsFor fllen sllen terms owes (with_tlsf after last) (with_machine h.state a.0)
-        moved_stands =
-            let moves = a.1 in
-            let chunks : a.0.chunks ≡ h.state.machine.chunks = chunks-deallocated moves.meanwhile a.0 u.payload moves.released ∙ chunks-allocated sllen h.state.machine moves.meanwhile size u.align (Some to) moves.allocated in
-            stands_stepped fllen sllen terms owes after last h.state a.0 h.stands a.2 chunks a.3 place
+      module _ (last : Allocator) (came : more ≡ true) (place : SamePlace after.memory last.memory) {to : ℕ} (moved : MovesTo fllen sllen (allocator_of after) last addr size to) where
+        moves : MovesAway sllen after.state.machine u size to last.state
+        moves = subst (λ x. MovesAway sllen after.state.machine x size to last.state) (Holds-unique h.stands.machine.well_formed addr moved.block u moved.holds Holds-came) moved.moves
+
+        -- no chunk has changed
+        moved_chunks : last.state.chunks ≡ after.state.machine.chunks
+        moved_chunks = chunks-deallocated moves.meanwhile last.state u.payload moves.released ∙ chunks-allocated sllen after.state.machine moves.meanwhile size u.align (Some to) moves.allocated
+
+        pub moved_stands : FlexStandsFor fllen sllen terms owes (with_allocator after last)
+        moved_stands = stands_stepped h.stands last (stood moved.stands) moved_chunks moved.spare place
 
         -- the payload moved into what came
-        pub reallocated_in_more : KeepsOutside v.tlsf.memory s.pools new.memory s.pools → FlexSteps fllen sllen terms owes leads v (with_tlsf after last) s (FlexReallocates fllen sllen (terms v.source) s addr size (Some to))
-        reallocated_in_more still = record {
-          notes = h.notes;
-          state = with_machine h.state a.0;
-          is_step = inr (record {
+        pub reallocated_in_more : FlexSteps fllen sllen terms owes leads v (with_allocator after last) (FlexReallocates fllen sllen (terms v.source) v.state addr size (Some to))
+        unfolding FlexSteps
+        reallocated_in_more = (
+          h.notes,
+          inr (record {
             block = u;
             stuck = stuck;
             outcome = h.outcome;
-            meanwhile = h.state;
-            asks = subst (λ k. Asks fllen sllen (terms v.source) s size k h.outcome h.notes h.state) (sym is) (asks size align v full wanted h);
-            more = sym h.came;
-            machine = a.0;
-            moves = a.1;
-            elsewhere = λ same. moved_elsewhere h.stands.machine.stands.well_formed u Holds-came.0 size to a.0 a.1 (same ∙ sym Holds-came.1);
+            meanwhile = after.state;
+            asks = subst (λ k. Asks fllen sllen (terms v.source) v.state size k h.outcome h.notes after.state) (sym is) (asks size align tried wanted h);
+            more = sym h.came ∙ came;
+            machine = last.state;
+            moves = moves;
+            elsewhere = λ at. moved_elsewhere h.stands.machine.well_formed u Holds-came.0 size to last.state moves (at ∙ sym Holds-came.1);
             after = refl;
-          });
-          leads_by = h.leads_by;
-          outside = KeepsOutside-then v.tlsf.memory new.memory last.memory s.pools s.pools h.state.pools still
-              (KeepsOutside-then new.memory after.tlsf.memory last.memory s.pools h.state.pools h.state.pools h.outside
-              (KeepsOutside-stands h.stands moved_stands place a.3));
-          stands = moved_stands;
-        }
-
-        pub moved_live : (t : FlexState) × FlexStandsFor fllen sllen terms owes (with_tlsf after last) t × IsLive t.machine to align
-        moved_live = (with_machine h.state a.0, moved_stands, subst (IsLive a.0 to) is (moved_is_live h.stands.machine.stands.well_formed u Holds-came.0 size to a.0 a.1))
+          }),
+          asked_by size align tried wanted h,
+          asked_answers size align tried wanted h,
+          KeepsOutside-then v.memory after.memory last.memory v.state.pools after.state.pools after.state.pools (asked_outside size align tried wanted h) (KeepsOutside-stands h.stands moved_stands place moved.spare),
+          moved_stands,
+          KeepsSpareButFooter-before (terms v.source) v.memory after.memory last.memory v.state after.state (asked_outside size align tried wanted h).place (asked_spare size align tried wanted h) last.state moved_chunks moved.spare,
+        )

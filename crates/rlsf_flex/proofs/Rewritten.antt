@@ -8,7 +8,7 @@ use Rattle.rlsf_flex.specs.Footers.{footer_of, Footers, WritesFooter}
 use Rattle.rlsf_machine.specs.Insert.{IsClear}
 use Rattle.rlsf_machine.specs.Lists.{IsIn}
 use Rattle.rlsf_flex.proofs.Frames.{word_at-bytes}
-use Rattle.rlsf_flex.proofs.Housing.{coverage-in}
+use Rattle.rlsf_machine.proofs.Housing.{coverage-in}
 
 -- a range's footer reads as it did
 abbrev ReadsSame : Space → Space → Range → Type 0
@@ -40,14 +40,15 @@ Footers-written m n r start len ps w long apart placed = Footers-read m n ps rea
 
 -- ---- a footer, where one is written
 
--- where a source takes ranges back, the range's footer was written; no other byte was
+-- where a source takes ranges back, the range's footer was written; else none was, and no other byte
 pub record IsFooted (takes_back : Bool) (m n : Space) (r : Range) (start len : ℕ) : Type 0 where
   pub place : SamePlace m n
   pub written : takes_back ≡ true → WritesFooter m n r start len
-  pub bytes : (a : ℕ) → m.start ≤ a → a < m.start + length m.bytes → (footer_of r ≤ a → a < footer_of r + 16 → ⊥) → byte_at n a ≡ byte_at m a
+  pub bytes : (a : ℕ) → m.start ≤ a → a < m.start + length m.bytes → (takes_back ≡ true → footer_of r ≤ a → a < footer_of r + 16 → ⊥) → byte_at n a ≡ byte_at m a
 
-pub IsFooted-written : (takes_back : Bool) (m n : Space) (r : Range) (start len start' len' : ℕ) → WritesFooter m n r start' len' → start' ≡ start → len' ≡ len → IsFooted takes_back m n r start len
-IsFooted-written takes_back m n r start len start' len' w e f = record { place = w.place; written = λ takes. subst (λ l. WritesFooter m n r start l) f (subst (λ s. WritesFooter m n r s len') e w); bytes = w.bytes }
+pub IsFooted-written : (takes_back : Bool) (m n : Space) (r : Range) (start len start' len' : ℕ) → takes_back ≡ true → WritesFooter m n r start' len' → start' ≡ start → len' ≡ len → IsFooted takes_back m n r start len
+IsFooted-written takes_back m n r start len start' len' is w e f =
+    record { place = w.place; written = λ takes. subst (λ l. WritesFooter m n r start l) f (subst (λ s. WritesFooter m n r s len') e w); bytes = λ a low high apart. w.bytes a low high (apart is) }
 
 pub IsFooted-none : (takes_back : Bool) (m : Space) (r : Range) (start len : ℕ) → takes_back ≡ false → IsFooted takes_back m m r start len
 IsFooted-none takes_back m r start len none = record { place = (refl, refl); written = λ takes. absurd (false≢true (sym none ∙ takes)); bytes = λ a low high apart. refl }

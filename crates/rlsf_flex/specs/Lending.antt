@@ -1,15 +1,27 @@
 -- What the allocator over a source ends as, once a `&mut` to a payload's bytes has ended.
-use Rattle.std.specs.Prelude.{ℕ, List, length}
+use Rattle.std.specs.Prelude.{◌≡◌, ℕ, ◌+◌, List, length}
 use Rattle.std.specs.Borrow.{Fml, RattleType, MutBor, Array, Lends, u8}
-use Rattle.rlsf_flex.specs.StandsFor.{FlexContents}
+use Rattle.rlsf_base.specs.declared.memory.range.Range.{Range}
+use Rattle.rlsf_base.specs.Space.{SamePlace}
+use Rattle.rlsf_flex.specs.StandsFor.{FlexContents, FlexStands, allocator_of, with_allocator}
+use Rattle.rlsf_machine.specs.FlexState.{with_machine}
+use Rattle.rlsf_machine.specs.Terms.{Terms}
 use Rattle.rlsf_flex.specs.contracts.flex.FlexTlsf.{the_row}
 use Rattle.rlsf_flex.specs.declared.source.FlexSource as source
 use Rattle.rlsf_int.specs.declared.int.BitPattern as pattern
 use Rattle.rlsf_tlsf.specs.Lending as tlsf
 
--- the allocator, with w in the place of the len bytes from the address on
+-- the allocator, with w in the place of the len bytes from the address on, as one over pools leaves it
 abbrev pub written : {S : Type 0} → FlexContents S → ℕ → ℕ → List ℕ → FlexContents S
-written v addr len w = record v { tlsf = tlsf.written v.tlsf addr len w }
+written v addr len w = with_allocator v (tlsf.written (allocator_of v) addr len w)
+
+-- whatever was left there, chunks, ranges, the kept pool, the source and the memory's place stay, the parts stand for the state,
+-- three touches are counted and no copy
+abbrev pub LeavesRest : {S : Type 0} → ℕ → ℕ → (S → Terms) → (S → List Range → Type 0) → FlexContents S → FlexContents S → Type 0
+LeavesRest fllen sllen terms owes before after =
+    (after.state.machine.chunks ≡ before.state.machine.chunks) × (after.state ≡ with_machine before.state after.state.machine) × (after.source ≡ before.source)
+    × SamePlace before.memory after.memory × FlexStands fllen sllen terms owes after
+    × (after.memory.touches ≡ before.memory.touches + 3) × (after.memory.copied ≡ before.memory.copied)
 
 -- the allocator ends with what r leaves in the bytes from the address on, and else as it was
 abbrev pub lends_payload : (S FL SL FLLEN SLLEN : RattleType) → source.Ghosts S.Denot → pattern.Ghosts FL.Denot → pattern.Ghosts SL.Denot → MutBor (FlexContents S.Denot) → ℕ → MutBor (List ℕ) → Fml

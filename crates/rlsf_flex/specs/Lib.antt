@@ -1,6 +1,7 @@
 pub mod Footers
+pub mod Laws
 pub mod Lending
 pub mod Outside
-pub mod Outstanding
+pub mod SpareBytes
 pub mod StandsFor
 pub mod Steps

@@ -1,27 +1,39 @@
 -- What an allocator over a source stands for.
-use Rattle.std.specs.Prelude.{◌≡◌, ℕ, ◌+◌, ◌≤◌, ◌<◌, true, List, [], ◌∷◌, Option, Some, None, length}
+use Rattle.std.specs.Prelude.{◌≡◌, ℕ, true, List, Option}
 use Rattle.std.specs.Option.{option_map}
 use Rattle.rlsf_base.specs.declared.memory.range.Range.{Range}
-use Rattle.rlsf_base.specs.Range.{end_of, LiesIn}
 use Rattle.rlsf_base.specs.SizeClass.{IsValid}
-use Rattle.rlsf_tlsf.specs.Allocator.{Allocator, IsInState}
+use Rattle.rlsf_base.specs.Space.{Space, range_of}
+use Rattle.rlsf_table.specs.Table.{Table}
+use Rattle.rlsf_blocks.specs.Spare.{KeepsSpare}
+use Rattle.rlsf_blocks.specs.StandsFor.{contents, StandsFor}
+use Rattle.rlsf_tlsf.specs.Allocator.{Allocator}
 use Rattle.rlsf_flex.specs.declared.pool.Pool.{Pool}
 use Rattle.rlsf_flex.specs.Footers.{Footers}
 use Rattle.rlsf_flex.specs.Outside.{KeepsOutside}
-use Rattle.rlsf_flex.specs.Outstanding.{AreOutstanding}
-use Rattle.rlsf_machine.specs.FlexState.{FlexState, KeptPool}
-use Rattle.rlsf_machine.specs.Growth.{keeps}
-use Rattle.rlsf_machine.specs.Insert.{IsClear}
-use Rattle.rlsf_machine.specs.Lists.{IsIn}
+use Rattle.rlsf_flex.specs.SpareBytes.{KeepsSpareButFooter}
+use Rattle.rlsf_machine.specs.Answers.{MayAnswerAll}
+use Rattle.rlsf_machine.specs.FlexState.{FlexState, KeptPool, with_machine}
+use Rattle.rlsf_machine.specs.FlexWellFormed.{IsFlexWellFormed}
 use Rattle.rlsf_machine.specs.Note.{Note, LeadsBy}
-use Rattle.rlsf_machine.specs.State.{between}
+use Rattle.rlsf_machine.specs.State.{State}
 use Rattle.rlsf_machine.specs.Terms.{Terms}
 
--- the allocator as contracts see it: the one over pools, the kept pool and the source
+-- The allocator as contracts see it: its memory, its class table, its source, and the state that it is in: that of the list
+-- machine, the ranges that are outstanding at the source, and the kept pool.
 pub record FlexContents (S : Type 0) : Type 0 where
-  pub tlsf : Allocator
-  pub kept : Option KeptPool
+  pub memory : Space
+  pub table : Table
   pub source : S
+  pub state : FlexState
+
+-- the allocator over pools that it has
+abbrev pub allocator_of : {S : Type 0} → FlexContents S → Allocator
+allocator_of v = record { memory = v.memory; table = v.table; state = v.state.machine }
+
+-- with another allocator over pools
+abbrev pub with_allocator : {S : Type 0} → FlexContents S → Allocator → FlexContents S
+with_allocator v t = record { memory = t.memory; table = t.table; source = v.source; state = with_machine v.state t.state }
 
 -- a pool as contracts see it
 abbrev pub kept_pool : Pool → KeptPool
@@ -32,53 +44,39 @@ abbrev pub kept_of : Option Pool → Option KeptPool
 kept_of p = option_map kept_pool p
 
 -- the allocator by its parts
-abbrev pub flex_contents : {S : Type 0} → Allocator → Option Pool → S → FlexContents S
-flex_contents t k s = record { tlsf = t; kept = kept_of k; source = s }
+abbrev pub flex_contents : {S : Type 0} → Allocator → Option Pool → S → List Range → FlexContents S
+flex_contents t k source ranges = record { memory = t.memory; table = t.table; source = source; state = record { machine = t.state; pools = ranges; kept = kept_of k } }
 
--- the chunk lies in one of the ranges
-abbrev pub IsHoused : List Range → Range → Type 0
-IsHoused pools c = (p : Range) × IsIn p pools × (p.start ≤ c.start) × (end_of c ≤ end_of p)
+-- Memory and class table stand for the machine's state, which is well-formed with its ranges and its kept pool; the source owes
+-- these ranges, and where it takes ranges back, their footers spell them.
+pub record FlexStandsFor {S : Type 0} (fllen sllen : ℕ) (terms : S → Terms) (owes : S → List Range → Type 0) (v : FlexContents S) : Type 0 where
+  pub machine : StandsFor fllen sllen (contents v.memory v.table) v.state.machine
+  pub well_formed : IsFlexWellFormed fllen sllen (range_of v.memory) (terms v.source) v.state
+  pub owed : owes v.source v.state.pools
+  pub footers : (terms v.source).dealloc ≡ true → Footers v.memory v.state.pools
 
--- The kept pool is the newest range, up to the end of a chunk there. Fewer than 64 bytes are left behind it, and none of
--- these is in a chunk.
-pub record IsKeptPool (t : Terms) (k : KeptPool) (pools chunks : List Range) : Type 0 where
-  pub rest : List Range
-  pub split : pools ≡ k.range ∷ rest
-  pub keeping : keeps t ≡ true
-  pub within : k.len ≤ k.range.len
-  pub nearly : k.range.len < k.len + 64
-  pub last : (c : Range) × IsIn c chunks × (end_of c ≡ k.range.start + k.len)
-  pub unused : IsClear (between (k.range.start + k.len) (end_of k.range)) chunks
-
--- none is kept where there is none, or where the source can neither grow a range nor take one back
-abbrev pub IsNewest : Terms → Option KeptPool → List Range → List Range → Type 0
-IsNewest t None pools chunks = keeps t ≡ true → pools ≡ []
-IsNewest t (Some k) pools chunks = IsKeptPool t k pools chunks
-
--- The allocator over pools stands for the machine's state, the source owes the ranges, which lie in the memory and house all
--- chunks, and where it takes ranges back, their footers spell them.
-pub record FlexStandsFor {S : Type 0} (fllen sllen : ℕ) (terms : S → Terms) (owes : S → List Range → Type 0) (v : FlexContents S) (s : FlexState) : Type 0 where
-  pub machine : IsInState fllen sllen v.tlsf s.machine
-  pub kept : s.kept ≡ v.kept
-  pub owed : owes v.source s.pools
-  pub space : LiesIn (terms v.source).space v.tlsf.memory.start (length v.tlsf.memory.bytes)
-  pub pools : AreOutstanding (terms v.source).space s.pools
-  pub housed : (c : Range) → IsIn c s.machine.chunks → IsHoused s.pools c
-  pub newest : IsNewest (terms v.source) s.kept s.pools s.machine.chunks
-  pub footers : (terms v.source).dealloc ≡ true → Footers v.tlsf.memory s.pools
-
--- what is true of every allocator's fields: the parameters are valid, and some state stands
+-- what is true of every allocator's fields: the parameters are valid, and they stand for its state
 pub record IsFlexTlsf {S : Type 0} (fl_bits sl_bits fllen sllen : ℕ) (terms : S → Terms) (owes : S → List Range → Type 0) (v : FlexContents S) : Type 0 where
   pub valid : IsValid fl_bits sl_bits fllen sllen
-  pub stands : (s : FlexState) × FlexStandsFor fllen sllen terms owes v s
+  pub stands : FlexStandsFor fllen sllen terms owes v
 
--- A step of the machine that asks a source for memory, from a state that stands before: there are notes, with which the machine
--- steps to a state that stands after; they, one by one and no others, lead from the source's value before to the one after. Bytes
--- of the memory outside of the ranges stay.
-pub record FlexSteps {S : Type 0} (fllen sllen : ℕ) (terms : S → Terms) (owes : S → List Range → Type 0) (leads : S → Note → S → Type 0) (before after : FlexContents S) (s : FlexState) (step : List Note → FlexState → Type 0) : Type 0 where
-  pub notes : List Note
-  pub state : FlexState
-  pub is_step : step notes state
-  pub leads_by : LeadsBy leads before.source notes after.source
-  pub outside : KeepsOutside before.tlsf.memory s.pools after.tlsf.memory state.pools
-  pub stands : FlexStandsFor fllen sllen terms owes after state
+-- the allocator's parts stand for its state
+unfoldable pub FlexStands : {S : Type 0} → ℕ → ℕ → (S → Terms) → (S → List Range → Type 0) → FlexContents S → Type 0
+FlexStands fllen sllen terms owes v = FlexStandsFor fllen sllen terms owes v
+
+-- A step of the machine that asks the source nothing leads to the state after, with the same ranges and the same kept pool. Each
+-- byte that no block is made of, before and after, is as it was.
+unfoldable pub StepsAlone : {S : Type 0} → ℕ → ℕ → (S → Terms) → (S → List Range → Type 0) → FlexContents S → FlexContents S → (State → Type 0) → Type 0
+StepsAlone fllen sllen terms owes before after step =
+    step after.state.machine × (after.state ≡ with_machine before.state after.state.machine) × FlexStandsFor fllen sllen terms owes after
+    × KeepsSpare before.memory before.state.machine after.memory after.state.machine
+
+-- A step of the machine that may ask the source for memory leads to the state after, with notes that, one by one and no others, lead
+-- from the source's value before to the one after, and whose answers are such as a source may give. Bytes of the memory outside of
+-- the ranges stay, and in them those that no block is made of, but for the newest range's footer where memory came and the source
+-- takes ranges back.
+unfoldable pub FlexSteps : {S : Type 0} → ℕ → ℕ → (S → Terms) → (S → List Range → Type 0) → (S → Note → S → Type 0) → FlexContents S → FlexContents S → (List Note → FlexState → Type 0) → Type 0
+FlexSteps fllen sllen terms owes leads before after step =
+    (notes : List Note) × step notes after.state × LeadsBy leads before.source notes after.source × MayAnswerAll (terms before.source) before.state.pools notes
+    × KeepsOutside before.memory before.state.pools after.memory after.state.pools × FlexStandsFor fllen sllen terms owes after
+    × KeepsSpareButFooter (terms before.source) before.memory before.state after.memory after.state

@@ -1,28 +1,28 @@
 //! The allocator over a source.
 
 ghost use Rattle.std.specs.Borrow.{sem};
-ghost use Rattle.std.specs.Prelude.{◌≡◌, ◌≤◌, ◌+◌, ℕ, List, [], Option, Some, length, IfNone, IfSome};
-ghost use Rattle.std.specs.Int.NonZero.{non_zero_usize_get};
-ghost use Rattle.std.specs.Option.{option_map};
+ghost use Rattle.std.specs.Prelude.{◌≡◌, ◌≢◌, ◌≤◌, ◌<◌, ◌+◌, ℕ, List, [], Some, None, length, IfNone, IfSome, IsSome};
+ghost use Rattle.rlsf_base.specs.Addr.{at, reply};
 ghost use Rattle.rlsf_base.specs.Range.{LiesIn};
 ghost use Rattle.rlsf_base.specs.SizeClass.{IsValid};
-ghost use Rattle.rlsf_base.specs.Space.{bytes_in, SamePlace};
-ghost use Rattle.rlsf_blocks.specs.Spare.{KeepsSpare};
-ghost use Rattle.rlsf_flex.specs.StandsFor.{FlexStandsFor, FlexSteps};
-ghost use Rattle.rlsf_machine.specs.Allocate.{Allocates};
+ghost use Rattle.rlsf_base.specs.Sizes.{request_size};
+ghost use Rattle.rlsf_base.specs.Space.{SamePlace};
+ghost use Rattle.rlsf_machine.specs.Allocate.{choice};
+ghost use Rattle.rlsf_machine.specs.Callers.{align_at, bytes_at};
 ghost use Rattle.rlsf_machine.specs.End.{notes_at_end, owed_at_end};
 ghost use Rattle.rlsf_machine.specs.FlexAllocate.{FlexAllocates};
 ghost use Rattle.rlsf_machine.specs.FlexReallocate.{FlexReallocates};
-ghost use Rattle.rlsf_machine.specs.FlexState.{FlexState, empty, with_machine};
+ghost use Rattle.rlsf_machine.specs.FlexState.{empty};
 ghost use Rattle.rlsf_machine.specs.Note.{LeadsBy};
-ghost use Rattle.rlsf_machine.specs.Reallocate.{Reallocates};
+ghost use Rattle.rlsf_machine.specs.Reallocate.{Keeps, Plan, Reallocates, in_place, into_next, or_else};
 ghost use Rattle.rlsf_machine.specs.Release.{Deallocates};
-ghost use Rattle.rlsf_machine.specs.Run.{Fills, IsSomeLive};
-ghost use Rattle.rlsf_machine.specs.State.{State, Used, usable, with_front, HasFront, Holds, IsLive};
+ghost use Rattle.rlsf_machine.specs.Run.{Fills};
+ghost use Rattle.rlsf_machine.specs.State.{State, Used, with_front, Holds};
 
 use crate::end::{give_back, newest_range};
 use crate::growth::{extend, move_payload};
 use crate::pool::Pool;
+use crate::ranges::GhostRanges;
 use crate::source::{FlexSource, SourceChange};
 use rlsf_base::classes::pool_size_to_contain_allocation;
 use rlsf_base::memory::{Addr, Layout, Memory};
@@ -41,6 +41,7 @@ pub struct FlexTlsf<
     tlsf: Tlsf<FLBitmap, SLBitmap, FLLEN, SLLEN>,
     kept: Option<Pool>,
     source: S,
+    owed: GhostRanges,
 }
 
 impl<
@@ -54,9 +55,9 @@ impl<
 
     ghost Value = { FlexContents S };
 
-    ghost view = { λ f. flex_contents f.tlsf f.kept f.source };
+    ghost view = { λ f. flex_contents f.tlsf f.kept f.source f.owed.ranges };
 
-    ghost invariant = { λ f. IsFlexTlsf FLBitmap.width SLBitmap.width FLLEN SLLEN S.terms S.owes (flex_contents f.tlsf f.kept f.source) };
+    ghost invariant = { λ f. IsFlexTlsf FLBitmap.width SLBitmap.width FLLEN SLLEN S.terms S.owes (flex_contents f.tlsf f.kept f.source f.owed.ranges) };
 }
 
 impl<
@@ -66,7 +67,8 @@ impl<
     const FLLEN: usize,
     const SLLEN: usize,
 > FlexTlsf<S, FLBitmap, SLBitmap, FLLEN, SLLEN> {
-    ghost use Rattle.rlsf_flex.specs.Lending.{lends_payload, written};
+    ghost use Rattle.rlsf_flex.specs.Lending.{LeavesRest, lends_payload, written};
+    ghost use Rattle.rlsf_flex.specs.StandsFor.{FlexStands, FlexSteps, StepsAlone};
 
     /// An allocator over the memory and a source of its ranges. It asks for nothing yet.
     ///
@@ -76,29 +78,31 @@ impl<
         requires valid { IsValid FLBitmap.width SLBitmap.width FLLEN SLLEN }
         requires nothing_owed { S.owes source [] }
         requires space { LiesIn (S.terms source).space memory.start (length memory.bytes) }
-        ensures stands { FlexStandsFor FLLEN SLLEN S.terms S.owes result empty }
+        ensures state { result.state ≡ empty }
+        ensures stands { FlexStands FLLEN SLLEN S.terms S.owes result }
         ensures source { result.source ≡ source }
-        ensures memory { result.tlsf.memory ≡ memory }
+        ensures memory { result.memory ≡ memory }
     {
         FlexTlsf {
             tlsf: Tlsf::new(memory),
             kept: None,
             source,
+            owed: GhostRanges::new(),
         }
     }
 
     /// The source, to read.
     pub fn source_ref(&self) -> &S
         ensures source { result.now ≡ self.now.source }
-        ensures stands { (s : FlexState) × FlexStandsFor FLLEN SLLEN S.terms S.owes self.now s }
+        ensures stands { FlexStands FLLEN SLLEN S.terms S.owes self.now }
     {
         &self.source
     }
 
     /// The memory, to read.
     pub fn memory_ref(&self) -> &Memory
-        ensures memory { result.now ≡ self.now.tlsf.memory }
-        ensures stands { (s : FlexState) × FlexStandsFor FLLEN SLLEN S.terms S.owes self.now s }
+        ensures memory { result.now ≡ self.now.memory }
+        ensures stands { FlexStands FLLEN SLLEN S.terms S.owes self.now }
     {
         self.tlsf.memory_ref()
     }
@@ -107,9 +111,10 @@ impl<
     pub fn source_mut_unchecked<C: SourceChange<S>>(&mut self, change: C) -> C::Out
         ensures changes { C.changes change self.old.source result self.new.source }
         ensures terms { S.terms self.new.source ≡ S.terms self.old.source }
-        ensures kept { self.new.kept ≡ self.old.kept }
-        ensures tlsf { self.new.tlsf ≡ self.old.tlsf }
-        ensures step { (s : FlexState) → FlexStandsFor FLLEN SLLEN S.terms S.owes self.old s → FlexStandsFor FLLEN SLLEN S.terms S.owes self.new s }
+        ensures state { self.new.state ≡ self.old.state }
+        ensures memory { self.new.memory ≡ self.old.memory }
+        ensures table { self.new.table ≡ self.old.table }
+        ensures stands { FlexStands FLLEN SLLEN S.terms S.owes self.new }
     {
         change.change(&mut self.source)
     }
@@ -118,23 +123,36 @@ impl<
     /// once for growth of its newest range, if it can grow ranges, and once for a new range, if no growth came and it isn't one
     /// range that grows. The allocation that the memory was asked for succeeds in what came, whatever its length.
     ///
-    /// Bytes outside of the outstanding ranges stay. `None` exactly where there is no room and no memory came; nothing is asked
-    /// where no pool would do. Then the pools and all bytes are as they were, and only the source was asked.
+    /// Bytes outside of the outstanding ranges stay, and so do those that no block is made of, but for the newest range's footer
+    /// where memory came and the source takes ranges back. `None` exactly where there is no room and no memory came; nothing is
+    /// asked where no pool would do. Then the pools and all bytes are as they were, and only the source was asked.
     pub fn allocate(&mut self, layout: Layout) -> Option<Addr>
-        ensures step { (s : FlexState) → FlexStandsFor FLLEN SLLEN S.terms S.owes self.old s
-            → FlexSteps FLLEN SLLEN S.terms S.owes S.leads self.old self.new s (FlexAllocates FLLEN SLLEN (S.terms self.old.source) s layout.size layout.align (option_map non_zero_usize_get result)) }
-        ensures placed { IfSome result (λ addr. (t : FlexState) × FlexStandsFor FLLEN SLLEN S.terms S.owes self.new t × IsLive t.machine (non_zero_usize_get addr) layout.align) }
-        ensures refused { IfNone result (self.new.tlsf.memory.bytes ≡ self.old.tlsf.memory.bytes) }
-        ensures place { SamePlace self.old.tlsf.memory self.new.tlsf.memory }
-        ensures touches { (s : FlexState) (addr : ℕ) (m : State) → FlexStandsFor FLLEN SLLEN S.terms S.owes self.old s → Allocates SLLEN s.machine layout.size layout.align (Some addr) m
-            → self.new.tlsf.memory.touches ≤ self.old.tlsf.memory.touches + 27 }
-        ensures copied { self.new.tlsf.memory.copied ≡ self.old.tlsf.memory.copied }
+        ensures step { FlexSteps FLLEN SLLEN S.terms S.owes S.leads self.old self.new
+            (FlexAllocates FLLEN SLLEN (S.terms self.old.source) self.old.state layout.size layout.align (reply result)) }
+        ensures live { IfSome result (λ addr. align_at self.new.state.machine (at addr) ≡ Some layout.align) }
+        ensures sized { IfSome result (λ addr. layout.size ≤ length (bytes_at self.new.state.machine (at addr))) }
+        ensures few { IfSome result (λ addr. length (bytes_at self.new.state.machine (at addr)) < layout.size + 32) }
+        ensures new { IfSome result (λ addr. align_at self.old.state.machine (at addr) ≡ None) }
+        ensures aligns { IfSome result (λ addr. (a : ℕ) → a ≢ at addr → align_at self.new.state.machine a ≡ align_at self.old.state.machine a) }
+        ensures bytes { IfSome result (λ addr. (a : ℕ) → a ≢ at addr → bytes_at self.new.state.machine a ≡ bytes_at self.old.state.machine a) }
+        ensures same { IfNone result (self.new.state ≡ self.old.state) }
+        ensures refused { IfNone result (self.new.memory.bytes ≡ self.old.memory.bytes) }
+        ensures place { SamePlace self.old.memory self.new.memory }
+        ensures touches { IsSome (choice SLLEN (request_size layout.size layout.align) self.old.state.machine.free)
+            → self.new.memory.touches ≤ self.old.memory.touches + 27 }
+        ensures copied { self.new.memory.copied ≡ self.old.memory.copied }
     {
         if let Some(addr) = self.tlsf.allocate(layout) {
             return Some(addr);
         }
         let wanted = pool_size_to_contain_allocation::<FLBitmap, SLBitmap, FLLEN, SLLEN>(layout)?;
-        if extend(&mut self.tlsf, &mut self.kept, &mut self.source, wanted) {
+        if extend(
+            &mut self.tlsf,
+            &mut self.kept,
+            &mut self.source,
+            &mut self.owed,
+            wanted,
+        ) {
             self.tlsf.allocate(layout)
         } else {
             None
@@ -145,14 +163,16 @@ impl<
     ///
     /// The address is live, with that alignment.
     pub fn deallocate(&mut self, addr: Addr, align: usize)
-        requires { (s : FlexState) × FlexStandsFor FLLEN SLLEN S.terms S.owes self.old s × IsLive s.machine (non_zero_usize_get addr) align }
-        ensures step { (s : FlexState) → FlexStandsFor FLLEN SLLEN S.terms S.owes self.old s → IsLive s.machine (non_zero_usize_get addr) align
-            → (m : State) × Deallocates s.machine (non_zero_usize_get addr) m × FlexStandsFor FLLEN SLLEN S.terms S.owes self.new (with_machine s m)
-            × KeepsSpare self.old.tlsf.memory s.machine self.new.tlsf.memory m }
+        requires { align_at self.old.state.machine (at addr) ≡ Some align }
+        ensures step { StepsAlone FLLEN SLLEN S.terms S.owes self.old self.new (Deallocates self.old.state.machine (at addr)) }
+        ensures chunks { self.new.state.machine.chunks ≡ self.old.state.machine.chunks }
+        ensures gone { align_at self.new.state.machine (at addr) ≡ None }
+        ensures aligns { (a : ℕ) → a ≢ at addr → align_at self.new.state.machine a ≡ align_at self.old.state.machine a }
+        ensures bytes { (a : ℕ) → a ≢ at addr → bytes_at self.new.state.machine a ≡ bytes_at self.old.state.machine a }
         ensures source { self.new.source ≡ self.old.source }
-        ensures place { SamePlace self.old.tlsf.memory self.new.tlsf.memory }
-        ensures touches { self.new.tlsf.memory.touches ≤ self.old.tlsf.memory.touches + 32 }
-        ensures copied { self.new.tlsf.memory.copied ≡ self.old.tlsf.memory.copied }
+        ensures place { SamePlace self.old.memory self.new.memory }
+        ensures touches { self.new.memory.touches ≤ self.old.memory.touches + 32 }
+        ensures copied { self.new.memory.copied ≡ self.old.memory.copied }
     {
         self.tlsf.deallocate(addr, align);
     }
@@ -162,14 +182,16 @@ impl<
     ///
     /// The address is live, with any alignment.
     pub fn deallocate_unknown_align(&mut self, addr: Addr)
-        requires { (s : FlexState) × FlexStandsFor FLLEN SLLEN S.terms S.owes self.old s × IsSomeLive s.machine (non_zero_usize_get addr) }
-        ensures step { (s : FlexState) → FlexStandsFor FLLEN SLLEN S.terms S.owes self.old s → IsSomeLive s.machine (non_zero_usize_get addr)
-            → (m : State) × Deallocates s.machine (non_zero_usize_get addr) m × FlexStandsFor FLLEN SLLEN S.terms S.owes self.new (with_machine s m)
-            × KeepsSpare self.old.tlsf.memory s.machine self.new.tlsf.memory m }
+        requires { IsSome (align_at self.old.state.machine (at addr)) }
+        ensures step { StepsAlone FLLEN SLLEN S.terms S.owes self.old self.new (Deallocates self.old.state.machine (at addr)) }
+        ensures chunks { self.new.state.machine.chunks ≡ self.old.state.machine.chunks }
+        ensures gone { align_at self.new.state.machine (at addr) ≡ None }
+        ensures aligns { (a : ℕ) → a ≢ at addr → align_at self.new.state.machine a ≡ align_at self.old.state.machine a }
+        ensures bytes { (a : ℕ) → a ≢ at addr → bytes_at self.new.state.machine a ≡ bytes_at self.old.state.machine a }
         ensures source { self.new.source ≡ self.old.source }
-        ensures place { SamePlace self.old.tlsf.memory self.new.tlsf.memory }
-        ensures touches { self.new.tlsf.memory.touches ≤ self.old.tlsf.memory.touches + 33 }
-        ensures copied { self.new.tlsf.memory.copied ≡ self.old.tlsf.memory.copied }
+        ensures place { SamePlace self.old.memory self.new.memory }
+        ensures touches { self.new.memory.touches ≤ self.old.memory.touches + 33 }
+        ensures copied { self.new.memory.copied ≡ self.old.memory.copied }
     {
         self.tlsf.deallocate_unknown_align(addr);
     }
@@ -177,27 +199,44 @@ impl<
     /// Gives a payload another size, as `Tlsf::reallocate` does where there is room. Else the source is asked for more memory as
     /// in `allocate`, and the payload moves there, with all its bytes.
     ///
-    /// Bytes outside of the outstanding ranges stay. `None` exactly where there is no room and no memory came. Then the payload,
-    /// the pools and all bytes are as they were, and only the source was asked.
+    /// Bytes outside of the outstanding ranges stay, and so do those that no block is made of, but for the newest range's footer
+    /// where memory came and the source takes ranges back. `None` exactly where there is no room and no memory came. Then the
+    /// payload, the pools and all bytes are as they were, and only the source was asked.
     ///
     /// The address is live, with the layout's alignment.
     pub fn reallocate(&mut self, addr: Addr, layout: Layout) -> Option<Addr>
-        requires { (s : FlexState) × FlexStandsFor FLLEN SLLEN S.terms S.owes self.old s × IsLive s.machine (non_zero_usize_get addr) layout.align }
-        ensures step { (s : FlexState) → FlexStandsFor FLLEN SLLEN S.terms S.owes self.old s → IsLive s.machine (non_zero_usize_get addr) layout.align
-            → FlexSteps FLLEN SLLEN S.terms S.owes S.leads self.old self.new s (FlexReallocates FLLEN SLLEN (S.terms self.old.source) s (non_zero_usize_get addr) layout.size (option_map non_zero_usize_get result)) }
-        ensures placed { IfSome result (λ addr. (t : FlexState) × FlexStandsFor FLLEN SLLEN S.terms S.owes self.new t × IsLive t.machine (non_zero_usize_get addr) layout.align) }
-        ensures refused { IfNone result (self.new.tlsf.memory.bytes ≡ self.old.tlsf.memory.bytes) }
-        ensures place { SamePlace self.old.tlsf.memory self.new.tlsf.memory }
-        ensures touches { (s : FlexState) (to : ℕ) (m : State) → FlexStandsFor FLLEN SLLEN S.terms S.owes self.old s → IsLive s.machine (non_zero_usize_get addr) layout.align
-            → Reallocates SLLEN s.machine (non_zero_usize_get addr) layout.size (Some to) m → self.new.tlsf.memory.touches ≤ self.old.tlsf.memory.touches + 66 }
-        ensures copied { (s : FlexState) (u : Used) (to : ℕ) (m : State) → FlexStandsFor FLLEN SLLEN S.terms S.owes self.old s → Holds s.machine (non_zero_usize_get addr) u → u.align ≡ layout.align
-            → Reallocates SLLEN s.machine (non_zero_usize_get addr) layout.size (Some to) m → self.new.tlsf.memory.copied ≤ self.old.tlsf.memory.copied + (usable u).len }
+        requires { align_at self.old.state.machine (at addr) ≡ Some layout.align }
+        ensures step { FlexSteps FLLEN SLLEN S.terms S.owes S.leads self.old self.new
+            (FlexReallocates FLLEN SLLEN (S.terms self.old.source) self.old.state (at addr) layout.size (reply result)) }
+        ensures live { IfSome result (λ to. align_at self.new.state.machine (at to) ≡ Some layout.align) }
+        ensures sized { IfSome result (λ to. layout.size ≤ length (bytes_at self.new.state.machine (at to))) }
+        ensures few { IfSome result (λ to. length (bytes_at self.new.state.machine (at to)) < layout.size + 32) }
+        ensures kept { IfSome result (λ to. Keeps (bytes_at self.old.state.machine (at addr)) (bytes_at self.new.state.machine (at to))) }
+        ensures new { IfSome result (λ to. at to ≢ at addr → align_at self.old.state.machine (at to) ≡ None) }
+        ensures aligns { IfSome result (λ to. (a : ℕ) → a ≢ at addr → a ≢ at to → align_at self.new.state.machine a ≡ align_at self.old.state.machine a) }
+        ensures bytes { IfSome result (λ to. (a : ℕ) → a ≢ at addr → a ≢ at to → bytes_at self.new.state.machine a ≡ bytes_at self.old.state.machine a) }
+        ensures same { IfNone result (self.new.state ≡ self.old.state) }
+        ensures refused { IfNone result (self.new.memory.bytes ≡ self.old.memory.bytes) }
+        ensures place { SamePlace self.old.memory self.new.memory }
+        ensures touches { (to : ℕ) (m : State) → Reallocates SLLEN self.old.state.machine (at addr) layout.size (Some to) m
+            → self.new.memory.touches ≤ self.old.memory.touches + 66 }
+        ensures copied { (to : ℕ) (m : State) → Reallocates SLLEN self.old.state.machine (at addr) layout.size (Some to) m
+            → self.new.memory.copied ≤ self.old.memory.copied + length (bytes_at self.old.state.machine (at addr)) }
+        ensures stays { (u : Used) (p : Plan) → Holds self.old.state.machine (at addr) u
+            → or_else (in_place self.old.state.machine u layout.size) (into_next self.old.state.machine u layout.size) ≡ Some p
+            → self.new.memory.copied ≡ self.old.memory.copied }
     {
         if let Some(moved) = self.tlsf.reallocate(addr, layout) {
             return Some(moved);
         }
         let wanted = pool_size_to_contain_allocation::<FLBitmap, SLBitmap, FLLEN, SLLEN>(layout)?;
-        if extend(&mut self.tlsf, &mut self.kept, &mut self.source, wanted) {
+        if extend(
+            &mut self.tlsf,
+            &mut self.kept,
+            &mut self.source,
+            &mut self.owed,
+            wanted,
+        ) {
             move_payload(&mut self.tlsf, addr, layout)
         } else {
             None
@@ -209,8 +248,8 @@ impl<
     ///
     /// The address is live, with any alignment.
     pub fn allocation_usable_size(&self, addr: Addr) -> usize
-        requires { (s : FlexState) × FlexStandsFor FLLEN SLLEN S.terms S.owes self.now s × IsSomeLive s.machine (non_zero_usize_get addr) }
-        ensures { (s : FlexState) (u : Used) → FlexStandsFor FLLEN SLLEN S.terms S.owes self.now s → Holds s.machine (non_zero_usize_get addr) u → result ≡ (usable u).len }
+        requires { IsSome (align_at self.now.state.machine (at addr)) }
+        ensures { result ≡ length (bytes_at self.now.state.machine (at addr)) }
     {
         self.tlsf.allocation_usable_size(addr)
     }
@@ -219,8 +258,8 @@ impl<
     ///
     /// The address is live, with any alignment.
     pub fn payload(&self, addr: Addr) -> &[u8]
-        requires { (s : FlexState) × FlexStandsFor FLLEN SLLEN S.terms S.owes self.now s × IsSomeLive s.machine (non_zero_usize_get addr) }
-        ensures { (s : FlexState) (u : Used) → FlexStandsFor FLLEN SLLEN S.terms S.owes self.now s → Holds s.machine (non_zero_usize_get addr) u → result.now ≡ u.bytes }
+        requires { IsSome (align_at self.now.state.machine (at addr)) }
+        ensures { result.now ≡ bytes_at self.now.state.machine (at addr) }
     {
         self.tlsf.payload(addr)
     }
@@ -230,15 +269,16 @@ impl<
     ///
     /// The address is live, with any alignment.
     pub fn payload_mut(&mut self, addr: Addr) -> &mut [u8]
-        requires { (s : FlexState) × FlexStandsFor FLLEN SLLEN S.terms S.owes self.old s × IsSomeLive s.machine (non_zero_usize_get addr) }
-        ensures* writes_back { sem 𝓛 (lends_payload S.row FLBitmap.row SLBitmap.row FLLEN.row SLLEN.row S.FlexSource FLBitmap.BitPattern SLBitmap.BitPattern self.entry (non_zero_usize_get addr) result) }
-        ensures value { result.now ≡ bytes_in self.old.tlsf.memory (record { start = non_zero_usize_get addr; len = length result.now }) }
-        ensures len { (s : FlexState) (u : Used) → FlexStandsFor FLLEN SLLEN S.terms S.owes self.old s → Holds s.machine (non_zero_usize_get addr) u → length result.now ≡ (usable u).len }
-        ensures meaning { (s : FlexState) (u : Used) → FlexStandsFor FLLEN SLLEN S.terms S.owes self.old s → Holds s.machine (non_zero_usize_get addr) u
-            → (result.now ≡ u.bytes) × ((w : List ℕ) → length w ≡ length result.now
-            → (m : State) × Fills s.machine (non_zero_usize_get addr) w m × FlexStandsFor FLLEN SLLEN S.terms S.owes (written self.old (non_zero_usize_get addr) (length result.now) w) (with_machine s m)
-            × KeepsSpare self.old.tlsf.memory s.machine (written self.old (non_zero_usize_get addr) (length result.now) w).tlsf.memory m) }
-        ensures place { (w : List ℕ) → SamePlace self.old.tlsf.memory (written self.old (non_zero_usize_get addr) (length result.now) w).tlsf.memory }
+        requires { IsSome (align_at self.old.state.machine (at addr)) }
+        ensures* writes_back { sem 𝓛 (lends_payload S.row FLBitmap.row SLBitmap.row FLLEN.row SLLEN.row S.FlexSource FLBitmap.BitPattern SLBitmap.BitPattern self.entry (at addr) result) }
+        ensures value { result.now ≡ bytes_at self.old.state.machine (at addr) }
+        ensures meaning { (w : List ℕ) → length w ≡ length result.now
+            → StepsAlone FLLEN SLLEN S.terms S.owes self.old (written self.old (at addr) (length result.now) w) (Fills self.old.state.machine (at addr) w) }
+        ensures filled { (w : List ℕ) → length w ≡ length result.now → bytes_at (written self.old (at addr) (length result.now) w).state.machine (at addr) ≡ w }
+        ensures bytes { (w : List ℕ) (a : ℕ) → a ≢ at addr → bytes_at (written self.old (at addr) (length result.now) w).state.machine a ≡ bytes_at self.old.state.machine a }
+        ensures aligns { (w : List ℕ) → align_at (written self.old (at addr) (length result.now) w).state.machine ≡ align_at self.old.state.machine }
+        ensures lengths { (w : List ℕ) → length (bytes_at (written self.old (at addr) (length result.now) w).state.machine (at addr)) ≡ length result.now }
+        ensures rest { (w : List ℕ) → LeavesRest FLLEN SLLEN S.terms S.owes self.old (written self.old (at addr) (length result.now) w) }
     {
         self.tlsf.payload_mut(addr)
     }
@@ -248,14 +288,18 @@ impl<
     ///
     /// Both addresses are live, with any alignment, and both payloads have `len` usable bytes.
     pub fn copy_payload(&mut self, from: Addr, to: Addr, len: usize)
-        requires { (s : FlexState) × FlexStandsFor FLLEN SLLEN S.terms S.owes self.old s × HasFront s.machine (non_zero_usize_get from) len × HasFront s.machine (non_zero_usize_get to) len }
-        ensures step { (s : FlexState) (u v : Used) → FlexStandsFor FLLEN SLLEN S.terms S.owes self.old s → Holds s.machine (non_zero_usize_get from) u → Holds s.machine (non_zero_usize_get to) v → len ≤ (usable u).len → len ≤ (usable v).len
-            → (m : State) × Fills s.machine (non_zero_usize_get to) (with_front len u.bytes v.bytes) m × FlexStandsFor FLLEN SLLEN S.terms S.owes self.new (with_machine s m)
-            × KeepsSpare self.old.tlsf.memory s.machine self.new.tlsf.memory m }
+        requires live { IsSome (align_at self.old.state.machine (at from)) × IsSome (align_at self.old.state.machine (at to)) }
+        requires long { (len ≤ length (bytes_at self.old.state.machine (at from))) × (len ≤ length (bytes_at self.old.state.machine (at to))) }
+        ensures step { StepsAlone FLLEN SLLEN S.terms S.owes self.old self.new
+            (Fills self.old.state.machine (at to) (with_front len (bytes_at self.old.state.machine (at from)) (bytes_at self.old.state.machine (at to)))) }
+        ensures filled { bytes_at self.new.state.machine (at to) ≡ with_front len (bytes_at self.old.state.machine (at from)) (bytes_at self.old.state.machine (at to)) }
+        ensures bytes { (a : ℕ) → a ≢ at to → bytes_at self.new.state.machine a ≡ bytes_at self.old.state.machine a }
+        ensures aligns { align_at self.new.state.machine ≡ align_at self.old.state.machine }
+        ensures chunks { self.new.state.machine.chunks ≡ self.old.state.machine.chunks }
         ensures source { self.new.source ≡ self.old.source }
-        ensures place { SamePlace self.old.tlsf.memory self.new.tlsf.memory }
-        ensures touches { self.new.tlsf.memory.touches ≡ self.old.tlsf.memory.touches }
-        ensures copied { self.new.tlsf.memory.copied ≡ self.old.tlsf.memory.copied + len }
+        ensures place { SamePlace self.old.memory self.new.memory }
+        ensures touches { self.new.memory.touches ≡ self.old.memory.touches }
+        ensures copied { self.new.memory.copied ≡ self.old.memory.copied + len }
     {
         self.tlsf.copy_payload(from, to, len);
     }
@@ -263,14 +307,15 @@ impl<
     /// The end: the memory and the source, which gets each outstanding range back once, as it grew, the newest first, if it takes
     /// ranges back. Payloads may be live.
     pub fn into_parts(self) -> (Memory, S)
-        ensures memory { result.0 ≡ self.tlsf.memory }
-        ensures end { (s : FlexState) → FlexStandsFor FLLEN SLLEN S.terms S.owes self s
-            → LeadsBy S.leads self.source (notes_at_end (S.terms self.source) s.pools) result.1 × S.owes result.1 (owed_at_end (S.terms self.source) s.pools) }
+        ensures memory { result.0 ≡ self.memory }
+        ensures leads { LeadsBy S.leads self.source (notes_at_end (S.terms self.source) self.state.pools) result.1 }
+        ensures owes { S.owes result.1 (owed_at_end (S.terms self.source) self.state.pools) }
     {
         let FlexTlsf {
             tlsf,
             kept,
             mut source,
+            owed: _owed,
         } = self;
         let memory = tlsf.into_memory();
         if source.supports_dealloc() {

@@ -1,23 +1,22 @@
 //! Growth: a source is asked for more memory, and what comes is handed in.
 
-ghost use Rattle.std.specs.Prelude.{◌≡◌, ◌≤◌, ◌+◌, false, true, None, Some, IfNone, IfSome};
-ghost use Rattle.std.specs.Int.NonZero.{non_zero_usize_get};
+ghost use Rattle.std.specs.Prelude.{◌≡◌, ◌≢◌, ◌≤◌, ◌<◌, ◌+◌, ℕ, false, true, None, Some, IfNone, IfSome, length};
+ghost use Rattle.rlsf_base.specs.Addr.{at};
 ghost use Rattle.rlsf_base.specs.SizeClass.{IsValid};
 ghost use Rattle.rlsf_base.specs.Space.{SamePlace};
-ghost use Rattle.rlsf_blocks.specs.Spare.{KeepsSpare};
-ghost use Rattle.rlsf_tlsf.specs.Allocator.{IsInState};
+ghost use Rattle.rlsf_tlsf.specs.Allocator.{Stands};
 ghost use Rattle.rlsf_flex.specs.StandsFor.{FlexStandsFor, flex_contents, kept_pool};
-ghost use Rattle.rlsf_flex.specs.Steps.Growth.{AskedGrowth, AskedRange, Extended, Took, kept_len, kept_start, outcome_of_growth, outcome_of_range};
+ghost use Rattle.rlsf_flex.specs.Steps.Growth.{AskedGrowth, AskedRange, Extended, MovesTo, Took, kept_len, kept_start, outcome_of_growth, outcome_of_range};
 ghost use Rattle.rlsf_machine.specs.Allocate.{Allocates};
-ghost use Rattle.rlsf_machine.specs.FlexState.{FlexState};
+ghost use Rattle.rlsf_machine.specs.Callers.{align_at, bytes_at};
 ghost use Rattle.rlsf_machine.specs.Growth.{keeps, range_length};
 ghost use Rattle.rlsf_machine.specs.Note.{alloc, grow};
 ghost use Rattle.rlsf_machine.specs.PoolLength.{IsPoolSize};
-ghost use Rattle.rlsf_machine.specs.Reallocate.{MovesAway};
-ghost use Rattle.rlsf_machine.specs.State.{State, Used, usable, Holds};
+ghost use Rattle.rlsf_machine.specs.Reallocate.{Keeps};
 
 use crate::footers::{read_footer, write_footer};
 use crate::pool::Pool;
+use crate::ranges::GhostRanges;
 use crate::source::FlexSource;
 use rlsf_base::memory::{Addr, Layout, Range};
 use rlsf_int::Bitmap;
@@ -63,16 +62,19 @@ fn take_range<
     tlsf: &mut Tlsf<FLBitmap, SLBitmap, FLLEN, SLLEN>,
     kept: &mut Option<Pool>,
     source: &mut S,
+    owed: &mut GhostRanges,
     wanted: usize,
     len: usize,
 ) -> Option<Range>
     requires valid { IsValid FLBitmap.width SLBitmap.width FLLEN SLLEN }
     requires wanted { IsPoolSize FLLEN SLLEN wanted }
     requires len { range_length (S.terms source.old) wanted ≡ Some len }
-    requires stands { (s : FlexState) × FlexStandsFor FLLEN SLLEN S.terms S.owes (flex_contents tlsf.old kept.old source.old) s }
+    requires stands { FlexStandsFor FLLEN SLLEN S.terms S.owes (flex_contents tlsf.old kept.old source.old owed.old.ranges) }
     ensures leads { S.leads source.old (alloc len result) source.new }
-    ensures step { (s : FlexState) → FlexStandsFor FLLEN SLLEN S.terms S.owes (flex_contents tlsf.old kept.old source.old) s
-        → Took FLLEN SLLEN S.terms S.owes (flex_contents tlsf.old kept.old source.old) (flex_contents tlsf.new kept.new source.new) s wanted (outcome_of_range result) }
+    ensures step { Took FLLEN SLLEN S.terms S.owes (flex_contents tlsf.old kept.old source.old owed.old.ranges)
+        (flex_contents tlsf.new kept.new source.new owed.new.ranges) wanted (outcome_of_range result) }
+    ensures aligns { align_at tlsf.new.state ≡ align_at tlsf.old.state }
+    ensures bytes { bytes_at tlsf.new.state ≡ bytes_at tlsf.old.state }
     ensures refused { IfNone result (tlsf.new ≡ tlsf.old) }
     ensures place { SamePlace tlsf.old.memory tlsf.new.memory }
     ensures copied { tlsf.new.memory.copied ≡ tlsf.old.memory.copied }
@@ -81,11 +83,13 @@ fn take_range<
     let taken = tlsf
         .insert_free_block_ptr(range)
         .map_or(0, NonZeroUsize::get);
-    if source.supports_dealloc() {
+    let takes_back = source.supports_dealloc();
+    if takes_back {
         let (start, len) = words_of(*kept);
         write_footer(tlsf, range, start, len);
     }
     *kept = keeps_pool(source).then_some(Pool { range, len: taken });
+    owed.give(range);
     Some(range)
 }
 
@@ -100,6 +104,7 @@ fn grow_kept<
     tlsf: &mut Tlsf<FLBitmap, SLBitmap, FLLEN, SLLEN>,
     kept: &mut Option<Pool>,
     source: &mut S,
+    owed: &mut GhostRanges,
     pool: Pool,
     wanted: usize,
     len: usize,
@@ -109,10 +114,12 @@ fn grow_kept<
     requires valid { IsValid FLBitmap.width SLBitmap.width FLLEN SLLEN }
     requires wanted { IsPoolSize FLLEN SLLEN wanted }
     requires len { len ≡ pool.len + wanted }
-    requires stands { (s : FlexState) × FlexStandsFor FLLEN SLLEN S.terms S.owes (flex_contents tlsf.old kept.old source.old) s }
+    requires stands { FlexStandsFor FLLEN SLLEN S.terms S.owes (flex_contents tlsf.old kept.old source.old owed.old.ranges) }
     ensures leads { S.leads source.old (grow pool.range len result) source.new }
-    ensures step { (s : FlexState) → FlexStandsFor FLLEN SLLEN S.terms S.owes (flex_contents tlsf.old kept.old source.old) s
-        → Took FLLEN SLLEN S.terms S.owes (flex_contents tlsf.old kept.old source.old) (flex_contents tlsf.new kept.new source.new) s wanted (outcome_of_growth result) }
+    ensures step { Took FLLEN SLLEN S.terms S.owes (flex_contents tlsf.old kept.old source.old owed.old.ranges)
+        (flex_contents tlsf.new kept.new source.new owed.new.ranges) wanted (outcome_of_growth result) }
+    ensures aligns { align_at tlsf.new.state ≡ align_at tlsf.old.state }
+    ensures bytes { bytes_at tlsf.new.state ≡ bytes_at tlsf.old.state }
     ensures refused { IfNone result (tlsf.new ≡ tlsf.old) }
     ensures place { SamePlace tlsf.old.memory tlsf.new.memory }
     ensures copied { tlsf.new.memory.copied ≡ tlsf.old.memory.copied }
@@ -134,6 +141,7 @@ fn grow_kept<
         range,
         len: pool.len + taken,
     });
+    owed.grow(grown);
     Some(grown)
 }
 
@@ -148,19 +156,22 @@ fn ask_range<
     tlsf: &mut Tlsf<FLBitmap, SLBitmap, FLLEN, SLLEN>,
     kept: &mut Option<Pool>,
     source: &mut S,
+    owed: &mut GhostRanges,
     wanted: usize,
 ) -> bool
     requires valid { IsValid FLBitmap.width SLBitmap.width FLLEN SLLEN }
     requires wanted { IsPoolSize FLLEN SLLEN wanted }
-    requires stands { (s : FlexState) × FlexStandsFor FLLEN SLLEN S.terms S.owes (flex_contents tlsf.old kept.old source.old) s }
-    ensures step { (s : FlexState) → FlexStandsFor FLLEN SLLEN S.terms S.owes (flex_contents tlsf.old kept.old source.old) s
-        → AskedRange FLLEN SLLEN S.terms S.owes S.leads (flex_contents tlsf.old kept.old source.old) (flex_contents tlsf.new kept.new source.new) s wanted result }
+    requires stands { FlexStandsFor FLLEN SLLEN S.terms S.owes (flex_contents tlsf.old kept.old source.old owed.old.ranges) }
+    ensures step { AskedRange FLLEN SLLEN S.terms S.owes S.leads (flex_contents tlsf.old kept.old source.old owed.old.ranges)
+        (flex_contents tlsf.new kept.new source.new owed.new.ranges) wanted result }
+    ensures aligns { align_at tlsf.new.state ≡ align_at tlsf.old.state }
+    ensures bytes { bytes_at tlsf.new.state ≡ bytes_at tlsf.old.state }
     ensures refused { result ≡ false → tlsf.new ≡ tlsf.old }
     ensures place { SamePlace tlsf.old.memory tlsf.new.memory }
     ensures copied { tlsf.new.memory.copied ≡ tlsf.old.memory.copied }
 {
     match range_len(source, wanted) {
-        Some(len) => take_range(tlsf, kept, source, wanted, len).is_some(),
+        Some(len) => take_range(tlsf, kept, source, owed, wanted, len).is_some(),
         None => false,
     }
 }
@@ -176,6 +187,7 @@ fn ask_growth<
     tlsf: &mut Tlsf<FLBitmap, SLBitmap, FLLEN, SLLEN>,
     kept: &mut Option<Pool>,
     source: &mut S,
+    owed: &mut GhostRanges,
     pool: Pool,
     wanted: usize,
     len: usize,
@@ -184,15 +196,17 @@ fn ask_growth<
     requires valid { IsValid FLBitmap.width SLBitmap.width FLLEN SLLEN }
     requires wanted { IsPoolSize FLLEN SLLEN wanted }
     requires len { len ≡ pool.len + wanted }
-    requires stands { (s : FlexState) × FlexStandsFor FLLEN SLLEN S.terms S.owes (flex_contents tlsf.old kept.old source.old) s }
-    ensures step { (s : FlexState) → FlexStandsFor FLLEN SLLEN S.terms S.owes (flex_contents tlsf.old kept.old source.old) s
-        → AskedGrowth FLLEN SLLEN S.terms S.owes S.leads (flex_contents tlsf.old kept.old source.old) (flex_contents tlsf.new kept.new source.new) s (kept_pool pool) len wanted result }
+    requires stands { FlexStandsFor FLLEN SLLEN S.terms S.owes (flex_contents tlsf.old kept.old source.old owed.old.ranges) }
+    ensures step { AskedGrowth FLLEN SLLEN S.terms S.owes S.leads (flex_contents tlsf.old kept.old source.old owed.old.ranges)
+        (flex_contents tlsf.new kept.new source.new owed.new.ranges) (kept_pool pool) len wanted result }
+    ensures aligns { align_at tlsf.new.state ≡ align_at tlsf.old.state }
+    ensures bytes { bytes_at tlsf.new.state ≡ bytes_at tlsf.old.state }
     ensures refused { result ≡ false → tlsf.new ≡ tlsf.old }
     ensures place { SamePlace tlsf.old.memory tlsf.new.memory }
     ensures copied { tlsf.new.memory.copied ≡ tlsf.old.memory.copied }
 {
     source.supports_realloc_inplace_grow()
-        && grow_kept(tlsf, kept, source, pool, wanted, len).is_some()
+        && grow_kept(tlsf, kept, source, owed, pool, wanted, len).is_some()
 }
 
 /// Asks for `wanted` bytes more: for growth of the kept range first, and then, where the source isn't one range that grows,
@@ -207,29 +221,32 @@ pub(crate) fn extend<
     tlsf: &mut Tlsf<FLBitmap, SLBitmap, FLLEN, SLLEN>,
     kept: &mut Option<Pool>,
     source: &mut S,
+    owed: &mut GhostRanges,
     wanted: usize,
 ) -> bool
     requires valid { IsValid FLBitmap.width SLBitmap.width FLLEN SLLEN }
     requires wanted { IsPoolSize FLLEN SLLEN wanted }
-    requires stands { (s : FlexState) × FlexStandsFor FLLEN SLLEN S.terms S.owes (flex_contents tlsf.old kept.old source.old) s }
-    ensures step { (s : FlexState) → FlexStandsFor FLLEN SLLEN S.terms S.owes (flex_contents tlsf.old kept.old source.old) s
-        → Extended FLLEN SLLEN S.terms S.owes S.leads (flex_contents tlsf.old kept.old source.old) (flex_contents tlsf.new kept.new source.new) s wanted result }
+    requires stands { FlexStandsFor FLLEN SLLEN S.terms S.owes (flex_contents tlsf.old kept.old source.old owed.old.ranges) }
+    ensures step { Extended FLLEN SLLEN S.terms S.owes S.leads (flex_contents tlsf.old kept.old source.old owed.old.ranges)
+        (flex_contents tlsf.new kept.new source.new owed.new.ranges) wanted result }
+    ensures aligns { align_at tlsf.new.state ≡ align_at tlsf.old.state }
+    ensures bytes { bytes_at tlsf.new.state ≡ bytes_at tlsf.old.state }
     ensures refused { result ≡ false → tlsf.new ≡ tlsf.old }
     ensures place { SamePlace tlsf.old.memory tlsf.new.memory }
     ensures copied { tlsf.new.memory.copied ≡ tlsf.old.memory.copied }
 {
     let Some(pool) = *kept else {
-        return ask_range(tlsf, kept, source, wanted);
+        return ask_range(tlsf, kept, source, owed, wanted);
     };
     let Some(len) = pool.len.checked_add(wanted) else {
         return false;
     };
-    if ask_growth(tlsf, kept, source, pool, wanted, len) {
+    if ask_growth(tlsf, kept, source, owed, pool, wanted, len) {
         true
     } else if source.is_contiguous_growable() {
         false
     } else {
-        ask_range(tlsf, kept, source, wanted)
+        ask_range(tlsf, kept, source, owed, wanted)
     }
 }
 
@@ -240,10 +257,18 @@ pub(crate) fn move_payload<
     const FLLEN: usize,
     const SLLEN: usize,
 >(tlsf: &mut Tlsf<FLBitmap, SLBitmap, FLLEN, SLLEN>, addr: Addr, layout: Layout) -> Option<Addr>
-    requires { (s : State) × (u : Used) × IsInState FLLEN SLLEN tlsf.old s × Holds s (non_zero_usize_get addr) u × (u.align ≡ layout.align) × ((usable u).len ≤ layout.size) }
-    ensures refused { IfNone result ((s : State) → IsInState FLLEN SLLEN tlsf.old s → Allocates SLLEN s layout.size layout.align None s) }
-    ensures step { IfSome result (λ to. (s : State) (u : Used) → IsInState FLLEN SLLEN tlsf.old s → Holds s (non_zero_usize_get addr) u → u.align ≡ layout.align → (usable u).len ≤ layout.size
-        → (t : State) × MovesAway SLLEN s u layout.size (non_zero_usize_get to) t × IsInState FLLEN SLLEN tlsf.new t × KeepsSpare tlsf.old.memory s tlsf.new.memory t) }
+    requires stands { Stands FLLEN SLLEN tlsf.old }
+    requires live { align_at tlsf.old.state (at addr) ≡ Some layout.align }
+    requires short { length (bytes_at tlsf.old.state (at addr)) ≤ layout.size }
+    ensures refused { IfNone result (Allocates SLLEN tlsf.old.state layout.size layout.align None tlsf.old.state) }
+    ensures step { IfSome result (λ to. MovesTo FLLEN SLLEN tlsf.old tlsf.new (at addr) layout.size (at to)) }
+    ensures live { IfSome result (λ to. align_at tlsf.new.state (at to) ≡ Some layout.align) }
+    ensures sized { IfSome result (λ to. layout.size ≤ length (bytes_at tlsf.new.state (at to))) }
+    ensures few { IfSome result (λ to. length (bytes_at tlsf.new.state (at to)) < layout.size + 32) }
+    ensures kept { IfSome result (λ to. Keeps (bytes_at tlsf.old.state (at addr)) (bytes_at tlsf.new.state (at to))) }
+    ensures new { IfSome result (λ to. align_at tlsf.old.state (at to) ≡ None) }
+    ensures aligns { IfSome result (λ to. (a : ℕ) → a ≢ at addr → a ≢ at to → align_at tlsf.new.state a ≡ align_at tlsf.old.state a) }
+    ensures bytes { IfSome result (λ to. (a : ℕ) → a ≢ at addr → a ≢ at to → bytes_at tlsf.new.state a ≡ bytes_at tlsf.old.state a) }
     ensures place { SamePlace tlsf.old.memory tlsf.new.memory }
 {
     let to = tlsf.allocate(layout)?;

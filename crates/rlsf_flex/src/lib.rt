@@ -1,12 +1,25 @@
 //! The allocator that asks a source for memory when it has no room.
 #![tactic(auto)]
 
+ghost use Rattle.rlsf_flex.specs.Laws.{FlexStatesAreWellFormed, FlexWordsReadNoPayload};
+
 mod end;
 mod flex;
 mod footers;
 mod growth;
 mod pool;
+mod ranges;
 mod source;
 
 pub use flex::FlexTlsf;
 pub use source::{FlexSource, SourceChange};
+
+/// Does nothing. Its contract states the laws of the states that an allocator over a source stands for, so that a check proves them.
+///
+/// The state of every allocator is well-formed with its ranges and its kept pool, so what `laws` of `rlsf_tlsf` says of the machine
+/// over a source holds of it. What is said of the words inside the pools, of the class table and of the footers reads no usable byte
+/// of a live payload: a memory that differs in such bytes alone stands for the state with these bytes.
+pub fn laws<S: FlexSource>()
+    ensures well_formed { FlexStatesAreWellFormed S.terms S.owes }
+    ensures words { FlexWordsReadNoPayload S.terms S.owes }
+{}

@@ -1,7 +1,6 @@
 //! Replays of runs.
 
-ghost use Rattle.rlsf_flex.specs.StandsFor.{FlexStandsFor};
-ghost use Rattle.rlsf_listed.specs.Listed.{Listed, MayOwe};
+ghost use Rattle.std.specs.Prelude.{◌≡◌};
 ghost use Rattle.rlsf_machine.specs.FlexState.{empty};
 
 use crate::error::Failure;
@@ -61,7 +60,7 @@ fn output_with<FLBitmap: Bitmap, SLBitmap: Bitmap, const FLLEN: usize, const SLL
     mut flex: FlexTlsf<ListedSource, FLBitmap, SLBitmap, FLLEN, SLLEN>,
     ops: &[Op],
 ) -> Result<String, Failure>
-    requires { FlexStandsFor FLLEN SLLEN (λ (source : Listed). source.terms) MayOwe flex empty }
+    requires { flex.state ≡ empty }
 {
     let mut answers = Vec::new(alloc);
     run_flex(alloc, &mut flex, ops, &mut answers)?;

@@ -1,47 +1,113 @@
 -- The named payloads of a run over a source, and what an op that asks nothing leaves of them.
-use Rattle.std.proofs.Common.{◌≡◌, ℕ, nat_eq, Some, None, List, [], length, refl, sym, ◌∙◌, ap, subst}
+use Rattle.std.proofs.Common.{◌≡◌, ℕ, nat_eq, Some, None, Option, IsSome, List, [], length, refl, sym, ◌∙◌, ap, subst}
 use Rattle.std.specs.HashMap.{get}
 use Rattle.rlsf_base.specs.declared.memory.range.Range.{Range}
-use Rattle.rlsf_base.specs.Space.{range_of}
-use Rattle.rlsf_flex.specs.StandsFor.{FlexContents, FlexStandsFor}
-use Rattle.rlsf_flex.proofs.Outside.{KeepsOutside-refl}
-use Rattle.rlsf_flex_runs.specs.FlexRuns.{DoesFlex, FlexRunState, with_run, without_source}
-use Rattle.rlsf_flex_runs.specs.Steps.Names.{IsAt, LeadsOn}
+use Rattle.rlsf_base.specs.Space.{range_of, SamePlace}
+use Rattle.rlsf_blocks.specs.Spare.{KeepsSpare}
+use Rattle.rlsf_flex.specs.Outside.{IsOutside, KeepsOutside}
+use Rattle.rlsf_flex.specs.StandsFor.{FlexContents, FlexStandsFor, StepsAlone}
+use Rattle.rlsf_flex.proofs.Outside.{KeepsOutside-refl, KeepsOutside-spare}
+use Rattle.rlsf_flex.proofs.Standing.{inner_in}
+use Rattle.rlsf_flex_runs.specs.FlexRuns.{DoesFlex, with_run, without_source}
+use Rattle.rlsf_flex_runs.specs.Steps.Names.{IsAt, LeadsOn, named_in, run_of}
+use Rattle.rlsf_machine.specs.Callers.{align_at, bytes_at}
 use Rattle.rlsf_machine.specs.FlexState.{with_machine}
-use Rattle.rlsf_machine.specs.Note.{Note}
+use Rattle.rlsf_machine.specs.Note.{Note, LeadsBy}
 use Rattle.rlsf_machine.specs.Release.{Deallocates}
 use Rattle.rlsf_machine.specs.Run.{Fills}
 use Rattle.rlsf_machine.specs.State.{State, Used, Holds, usable}
 use Rattle.rlsf_machine.specs.Terms.{Terms}
 use Rattle.rlsf_runs.specs.declared.names.Payload.{Payload}
-use Rattle.rlsf_runs.specs.Names.{address, NameTable}
-use Rattle.rlsf_runs.specs.Runs.{Frees, Owns, RunState, with_machine as with_state}
-use Rattle.rlsf_runs.proofs.Named.{AreNamed-filled, AreNamed-freed, IsSetAt, owned_live}
+use Rattle.rlsf_runs.specs.Names.{address, AreNamed, NameTable}
+use Rattle.rlsf_runs.specs.Runs.{Frees, Owns, RunState, with_machine as with_state, without_name}
+use Rattle.rlsf_runs.proofs.Named.{AreNamed-filled, AreNamed-freed, AreNamed-untaken, IsSetAt, owned_live}
 use Rattle.rlsf_text.specs.declared.op.Answer.{Answer}
+use Rattle.rlsf_text.specs.declared.op.Answer.TheVariants.{Done}
 use Rattle.rlsf_text.specs.declared.op.Op.{Op}
+use Rattle.rlsf_tlsf.proofs.Standing.{bytes_in, live_in, some_live_in}
 
-module _ {S : Type 0} {fllen sllen : ℕ} {terms : S → Terms} {owes : S → List Range → Type 0} {v : FlexContents S} {table : NameTable} {s : FlexRunState} (at : IsAt fllen sllen terms owes v table s) where
+-- names whose payloads a table has are the table's
+pub named-in : {s : State} {table : NameTable} {named : ℕ → Option ℕ} → AreNamed s table named → named ≡ named_in table
+named-in are i name = sym (are.names name) i
+
+-- and so it has those payloads by its own names
+pub AreNamed-in : {s : State} {table : NameTable} {named : ℕ → Option ℕ} → AreNamed s table named → AreNamed s table (named_in table)
+AreNamed-in {s} {table} are = subst (AreNamed s table) (named-in are) are
+
+module _ {S : Type 0} {fllen sllen : ℕ} {terms : S → Terms} {owes : S → List Range → Type 0} where
+  -- a step that asks the source nothing keeps the bytes outside of the ranges
+  KeepsOutside-alone : {v w : FlexContents S} → FlexStandsFor fllen sllen terms owes v → FlexStandsFor fllen sllen terms owes w → w.state ≡ with_machine v.state w.state.machine → SamePlace v.memory w.memory
+      → KeepsSpare v.memory v.state.machine w.memory w.state.machine → KeepsOutside v.memory v.state.pools w.memory w.state.pools
+  KeepsOutside-alone {v} {w} before after same =
+      KeepsOutside-spare v.memory w.memory v.state.machine w.state.machine v.state.pools w.state.pools before.well_formed.housed after.well_formed.housed (λ a. subst (λ l. IsOutside l a) (ap (λ s. s.pools) same))
+
+  -- an op that leads to names whose payloads the new table has leads to the table's
+  pub LeadsOn-named : {leads : S → Note → S → Type 0} {v w : FlexContents S} {table new : NameTable} (op : Op) (answer : Answer) (notes : List Note) (named : ℕ → Option ℕ)
+      → DoesFlex fllen sllen (terms v.source) (run_of v table) op answer notes (record { flex = w.state; named = named }) → LeadsBy leads v.source notes w.source
+      → KeepsOutside v.memory v.state.pools w.memory w.state.pools → FlexStandsFor fllen sllen terms owes w → AreNamed w.state.machine new named
+      → LeadsOn fllen sllen terms owes leads v table op answer w new
+  LeadsOn-named {v = v} {w = w} {table = table} op answer notes named does leads_by outside stands are = record {
+    notes = notes;
+    does = subst (λ n. DoesFlex fllen sllen (terms v.source) (run_of v table) op answer notes (record { flex = w.state; named = n })) (named-in are) does;
+    leads_by = leads_by;
+    outside = outside;
+    at = record { stands = stands; are_named = AreNamed-in are };
+  }
+
+module _ {S : Type 0} {fllen sllen : ℕ} {terms : S → Terms} {owes : S → List Range → Type 0} {v : FlexContents S} {table : NameTable} (at : IsAt fllen sllen terms owes v table) where
   -- a payload of the table has a block, which its name owns, with as many bytes as are usable
-  pub owned : (name : ℕ) (p : Payload) → get nat_eq table name ≡ Some p → (u : Used) × Owns (without_source s) name u × Holds s.flex.machine (address p) u × (length u.bytes ≡ (usable u).len)
+  pub owned : (name : ℕ) (p : Payload) → get nat_eq table name ≡ Some p
+      → (u : Used) × Owns (without_source (run_of v table)) name u × Holds v.state.machine (address p) u × (bytes_at v.state.machine (address p) ≡ u.bytes) × (length u.bytes ≡ (usable u).len)
   owned name p is =
       let (u, owns, holds, _) = owned_live at.are_named name p is in
-      (u, owns, holds, (at.stands.machine.stands.well_formed.used u owns.0).bytes)
+      (u, owns, holds, bytes_in (inner_in at.stands) (address p) u holds, (at.stands.machine.well_formed.used u owns.0).bytes)
 
-  -- an op that changes nothing
-  pub LeadsOn-nothing : {leads : S → Note → S → Type 0} (op : Op) (answer : Answer) → DoesFlex fllen sllen (terms v.source) s op answer [] s → LeadsOn fllen sllen terms owes leads v s op answer v table
-  LeadsOn-nothing op answer does = record { notes = []; state = s; does = does; leads_by = refl; outside = KeepsOutside-refl v.tlsf.memory s.flex.pools; at = at }
+  -- it is live with its alignment
+  pub live : (name : ℕ) (p : Payload) → get nat_eq table name ≡ Some p → align_at v.state.machine (address p) ≡ Some p.align
+  live name p is = live_in (inner_in at.stands) (address p) p.align (at.are_named.live name p is)
 
-  -- the payload of a name was given back
-  pub freed : {w : FlexContents S} {new : NameTable} (m : State) → FlexStandsFor fllen sllen terms owes w (with_machine s.flex m) → (name : ℕ) (p : Payload) → get nat_eq table name ≡ Some p
-      → Deallocates s.flex.machine (address p) m → IsSetAt name None table new → (r : RunState) × Frees (without_source s) name r × IsAt fllen sllen terms owes w new (with_run s r)
-  freed m stands name p there step taken =
-      let (u, owns, holds, _) = owned name p there in (
-        _,
-        (u, owns, m, subst (λ a. Deallocates s.flex.machine a m) (sym holds.1) step, refl),
-        record { stands = stands; are_named = AreNamed-freed at.are_named m name (address p) (owns.1 ∙ ap Some holds.1) step taken },
-      )
+  -- and so with some
+  pub some_live : (name : ℕ) (p : Payload) → get nat_eq table name ≡ Some p → IsSome (align_at v.state.machine (address p))
+  some_live name p is = let (u, _, holds, _, _) = owned name p is in some_live_in (inner_in at.stands) (address p) (u, holds)
 
-  -- the bytes of a payload were written
-  pub filled : {w : FlexContents S} (m : State) → FlexStandsFor fllen sllen terms owes w (with_machine s.flex m) → (addr : ℕ) (bytes : List ℕ) → Fills s.flex.machine addr bytes m
-      → IsAt fllen sllen terms owes w table (with_run s (with_state m (without_source s)))
-  filled m stands addr bytes step = record { stands = stands; are_named = AreNamed-filled at.are_named fllen sllen (range_of v.tlsf.memory) m addr bytes at.stands.machine.stands.well_formed step }
+  module _ {leads : S → Note → S → Type 0} where
+    -- an op that changes nothing
+    pub LeadsOn-nothing : (op : Op) (answer : Answer) → DoesFlex fllen sllen (terms v.source) (run_of v table) op answer [] (run_of v table) → LeadsOn fllen sllen terms owes leads v table op answer v table
+    LeadsOn-nothing op answer does = record { notes = []; does = does; leads_by = refl; outside = KeepsOutside-refl v.memory v.state.pools; at = at }
+
+    -- an op that changes nothing, where a name that was free was made free
+    pub not_freed : {new : NameTable} (op : Op) (answer : Answer) (name : ℕ) → get nat_eq table name ≡ None → IsSetAt name None table new
+        → DoesFlex fllen sllen (terms v.source) (run_of v table) op answer [] (run_of v table) → LeadsOn fllen sllen terms owes leads v table op answer v new
+    not_freed op answer name none taken does =
+        LeadsOn-named op answer [] (named_in table) does refl (KeepsOutside-refl v.memory v.state.pools) at.stands (AreNamed-untaken at.are_named name none taken)
+
+    module _ {w : FlexContents S} (source : w.source ≡ v.source) (place : SamePlace v.memory w.memory) where
+      -- an op that leads by a step that asks the source nothing to names whose payloads the new table has
+      LeadsOn-alone : {new : NameTable} (step : State → Type 0) (op : Op) (answer : Answer) (named : ℕ → Option ℕ) → StepsAlone fllen sllen terms owes v w step
+          → (step w.state.machine → DoesFlex fllen sllen (terms v.source) (run_of v table) op answer [] (record { flex = with_machine v.state w.state.machine; named = named }) × AreNamed w.state.machine new named)
+          → LeadsOn fllen sllen terms owes leads v table op answer w new
+      unfolding StepsAlone
+      LeadsOn-alone step op answer named (is, same, stands, spare) leads_to =
+          let (does, are) = leads_to is in
+          LeadsOn-named op answer [] named (subst (λ f. DoesFlex fllen sllen (terms v.source) (run_of v table) op answer [] (record { flex = f; named = named })) (sym same) does) source
+          (KeepsOutside-alone at.stands stands same place spare) stands are
+
+      -- the payload of a name was given back
+      pub freed : {new : NameTable} (op : Op) (name : ℕ) (p : Payload) → get nat_eq table name ≡ Some p
+          → ((r : RunState) → Frees (without_source (run_of v table)) name r → DoesFlex fllen sllen (terms v.source) (run_of v table) op Done [] (with_run (run_of v table) r))
+          → StepsAlone fllen sllen terms owes v w (Deallocates v.state.machine (address p)) → IsSetAt name None table new → LeadsOn fllen sllen terms owes leads v table op Done w new
+      freed op name p there does alone taken =
+          let (u, owns, holds, _, _) = owned name p there in
+          LeadsOn-alone (Deallocates v.state.machine (address p)) op Done (without_name name (named_in table)) alone (λ step. (
+            does _ (u, owns, w.state.machine, subst (λ a. Deallocates v.state.machine a w.state.machine) (sym holds.1) step, refl),
+            AreNamed-freed at.are_named w.state.machine name (address p) (owns.1 ∙ ap Some holds.1) step taken,
+          ))
+
+      -- the bytes of a payload were written
+      pub filled : (op : Op) (addr : ℕ) (bytes : List ℕ)
+          → ((m : State) → Fills v.state.machine addr bytes m → DoesFlex fllen sllen (terms v.source) (run_of v table) op Done [] (with_run (run_of v table) (with_state m (without_source (run_of v table)))))
+          → StepsAlone fllen sllen terms owes v w (Fills v.state.machine addr bytes) → LeadsOn fllen sllen terms owes leads v table op Done w table
+      filled op addr bytes does alone = LeadsOn-alone (Fills v.state.machine addr bytes) op Done (named_in table) alone (λ step. (
+        does w.state.machine step,
+        AreNamed-filled at.are_named fllen sllen (range_of v.memory) w.state.machine addr bytes at.stands.machine.well_formed step,
+      ))

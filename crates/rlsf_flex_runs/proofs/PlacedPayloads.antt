@@ -3,14 +3,13 @@ use Rattle.std.proofs.Common.{◌≡◌, ℕ, nat_eq, Option, Some, None, Result
 use Rattle.std.specs.HashMap.{get}
 use Rattle.std.specs.declared.num.NonZeroUsize.{NonZeroUsize}
 use Rattle.std.specs.Int.NonZero.{non_zero_usize_get}
-use Rattle.std.specs.Option.{option_map}
+use Rattle.rlsf_base.specs.Addr.{reply}
 use Rattle.rlsf_base.specs.declared.memory.layout.Layout.{Layout}
 use Rattle.rlsf_base.specs.declared.memory.range.Range.{Range}
 use Rattle.rlsf_base.specs.Layout.{IsLayout}
 use Rattle.rlsf_base.specs.Space.{range_of}
 use Rattle.rlsf_flex.specs.StandsFor.{FlexContents, FlexSteps}
-use Rattle.rlsf_flex_runs.specs.FlexRuns.{FlexRunState}
-use Rattle.rlsf_flex_runs.specs.Steps.Names.{IsAt, LeadsOn}
+use Rattle.rlsf_flex_runs.specs.Steps.Names.{IsAt, LeadsOn, named_in}
 use Rattle.rlsf_machine.specs.Allocate.{Allocates}
 use Rattle.rlsf_machine.specs.FlexAllocate.{Asks, FlexAllocates}
 use Rattle.rlsf_machine.specs.FlexReallocate.{FlexReallocates}
@@ -26,9 +25,10 @@ use Rattle.rlsf_machine.proofs.Growths.{Holds-same, used-taken}
 use Rattle.rlsf_runs.specs.declared.names.Payload.{Payload}
 use Rattle.rlsf_runs.specs.Names.{address, AreNamed, NameTable}
 use Rattle.rlsf_runs.specs.Runs.{with_name}
-use Rattle.rlsf_runs.proofs.Named.{AreNamed-allocated, AreNamed-kept, AreNamed-moved, AreNamed-reallocated, IsSetAt, owned_live}
+use Rattle.rlsf_runs.proofs.Named.{AreNamed-allocated, AreNamed-kept, AreNamed-moved, AreNamed-reallocated, IsSetAt, owned_live, unnamed}
 use Rattle.rlsf_text.specs.declared.op.Answer.TheVariants.{Placed}
 use Rattle.rlsf_text.specs.declared.op.Op.TheVariants.{Alloc, Realloc}
+use Rattle.rlsf_flex_runs.proofs.NamedPayloads.{LeadsOn-named}
 
 -- what a call ensures where it went well
 pub of_ok : {X E P : Type 0} (r : Result X E) → IsOk r → OnOk r P → P
@@ -62,89 +62,48 @@ module _ {fllen sllen : ℕ} {terms : Terms} {s : FlexState} {table : NameTable}
       (subst (λ x. MovesAway sllen more.meanwhile.machine more.block size to x.machine) (sym more.after) more.moves)
       (λ is. more.elsewhere (is ∙ at)) p_addr (sym (ap (λ x. x.align) same ∙ aligned))
 
-module _ {S : Type 0} {fllen sllen : ℕ} {terms : S → Terms} {owes : S → List Range → Type 0} {leads : S → Note → S → Type 0} {v w : FlexContents S} {table : NameTable} {s : FlexRunState} (at : IsAt fllen sllen terms owes v table s) where
+module _ {S : Type 0} {fllen sllen : ℕ} {terms : S → Terms} {owes : S → List Range → Type 0} {leads : S → Note → S → Type 0} {v w : FlexContents S} {table : NameTable} (at : IsAt fllen sllen terms owes v table) where
   -- an allocation was made and named
-  pub allocated : {new : NameTable} (name : ℕ) (layout : Layout) (addr : NonZeroUsize) (p : Payload) → s.named name ≡ None → address p ≡ non_zero_usize_get addr → p.align ≡ layout.align
-      → FlexSteps fllen sllen terms owes leads v w s.flex (FlexAllocates fllen sllen (terms v.source) s.flex layout.size layout.align (Some (non_zero_usize_get addr))) → IsSetAt name (Some p) table new
-      → LeadsOn fllen sllen terms owes leads v s (Alloc name layout) (Placed (Some addr)) w new
-  allocated name layout addr p free p_addr p_align steps added = record {
-    notes = steps.notes;
-    state = record { flex = steps.state; named = with_name name (Some (non_zero_usize_get addr)) s.named };
-    does = (free, steps.state, steps.is_step, refl);
-    leads_by = steps.leads_by;
-    outside = steps.outside;
-    at = record {
-      stands = steps.stands;
-      are_named = AreNamed-flex_allocated at.are_named (range_of w.tlsf.memory) name layout.size layout.align (non_zero_usize_get addr) p steps.stands.machine.stands.well_formed steps.is_step p_addr p_align added;
-    };
-  }
+  pub allocated : {new : NameTable} (name : ℕ) (layout : Layout) (addr : NonZeroUsize) (p : Payload) → get nat_eq table name ≡ None → address p ≡ non_zero_usize_get addr → p.align ≡ layout.align
+      → FlexSteps fllen sllen terms owes leads v w (FlexAllocates fllen sllen (terms v.source) v.state layout.size layout.align (Some (non_zero_usize_get addr))) → IsSetAt name (Some p) table new
+      → LeadsOn fllen sllen terms owes leads v table (Alloc name layout) (Placed (Some addr)) w new
+  unfolding FlexSteps
+  allocated name layout addr p free p_addr p_align (notes, step, leads_by, answers, outside, stands, spare) added =
+      let to = non_zero_usize_get addr in
+      LeadsOn-named (Alloc name layout) (Placed (Some addr)) notes (with_name name (Some to) (named_in table)) (unnamed at.are_named name free, w.state, step, refl) leads_by outside stands
+      (AreNamed-flex_allocated at.are_named (range_of w.memory) name layout.size layout.align to p stands.machine.well_formed step p_addr p_align added)
 
   -- an allocation was refused
-  pub not_allocated : (name : ℕ) (layout : Layout) (addr : Option NonZeroUsize) → addr ≡ None → s.named name ≡ None
-      → FlexSteps fllen sllen terms owes leads v w s.flex (FlexAllocates fllen sllen (terms v.source) s.flex layout.size layout.align (option_map non_zero_usize_get addr))
-      → LeadsOn fllen sllen terms owes leads v s (Alloc name layout) (Placed addr) w table
+  pub not_allocated : (name : ℕ) (layout : Layout) (addr : Option NonZeroUsize) → addr ≡ None → get nat_eq table name ≡ None
+      → FlexSteps fllen sllen terms owes leads v w (FlexAllocates fllen sllen (terms v.source) v.state layout.size layout.align (reply addr))
+      → LeadsOn fllen sllen terms owes leads v table (Alloc name layout) (Placed addr) w table
+  unfolding FlexSteps
   not_allocated name layout (Some addr) some free steps = absurd (cc)
-  not_allocated name layout None none free steps = record {
-    notes = steps.notes;
-    state = record { flex = steps.state; named = s.named };
-    does = (free, steps.state, steps.is_step, refl);
-    leads_by = steps.leads_by;
-    outside = steps.outside;
-    at = record { stands = steps.stands; are_named = AreNamed-asked at.are_named steps.is_step };
-  }
-
-  -- a reallocation to an equal size
-  pub of_size : (addr : ℕ) (reply : Option ℕ) {n size : ℕ} → n ≡ size → FlexSteps fllen sllen terms owes leads v w s.flex (FlexReallocates fllen sllen (terms v.source) s.flex addr n reply)
-      → FlexSteps fllen sllen terms owes leads v w s.flex (FlexReallocates fllen sllen (terms v.source) s.flex addr size reply)
-  of_size addr reply same = subst (λ k. FlexSteps fllen sllen terms owes leads v w s.flex (FlexReallocates fllen sllen (terms v.source) s.flex addr k reply)) same
+  not_allocated name layout None none free (notes, step, leads_by, answers, outside, stands, spare) =
+      LeadsOn-named (Alloc name layout) (Placed None) notes (named_in table) (unnamed at.are_named name free, w.state, step, refl) leads_by outside stands (AreNamed-asked at.are_named step)
 
   -- the payload of a name has another size
-  pub reallocated : {new : NameTable} (name size : ℕ) (old p : Payload) (addr : NonZeroUsize) → get nat_eq table name ≡ Some old → IsLayout size old.align → address p ≡ non_zero_usize_get addr → p.align ≡ old.align
-      → FlexSteps fllen sllen terms owes leads v w s.flex (FlexReallocates fllen sllen (terms v.source) s.flex (address old) size (Some (non_zero_usize_get addr))) → IsSetAt name (Some p) table new
-      → LeadsOn fllen sllen terms owes leads v s (Realloc name size) (Placed (Some addr)) w new
-  reallocated name size old p addr there valid p_addr p_align steps added =
+  pub reallocated : {new : NameTable} {n : ℕ} (name size : ℕ) (old p : Payload) (addr : NonZeroUsize) → n ≡ size → get nat_eq table name ≡ Some old → IsLayout size old.align → address p ≡ non_zero_usize_get addr → p.align ≡ old.align
+      → FlexSteps fllen sllen terms owes leads v w (FlexReallocates fllen sllen (terms v.source) v.state (address old) n (Some (non_zero_usize_get addr))) → IsSetAt name (Some p) table new
+      → LeadsOn fllen sllen terms owes leads v table (Realloc name size) (Placed (Some addr)) w new
+  unfolding FlexSteps
+  reallocated name size old p addr same there valid p_addr p_align (notes, did, leads_by, answers, outside, stands, spare) added =
+      let to = non_zero_usize_get addr in
+      let step = subst (λ k. FlexReallocates fllen sllen (terms v.source) v.state (address old) k (Some to) notes w.state) same did in
       let (u, owns, holds, aligned) = owned_live at.are_named name old there in
-      let live = subst (IsLive s.flex.machine (address old)) (sym p_align) (at.are_named.live name old there) in
-      record {
-        notes = steps.notes;
-        state = record { flex = steps.state; named = with_name name (Some (non_zero_usize_get addr)) s.named };
-        does = (
-          u,
-          owns,
-          subst (IsLayout size) (sym aligned) valid,
-          steps.state,
-          subst (λ a. FlexReallocates fllen sllen (terms v.source) s.flex a size (Some (non_zero_usize_get addr)) steps.notes steps.state) (sym holds.1) steps.is_step,
-          refl,
-        );
-        leads_by = steps.leads_by;
-        outside = steps.outside;
-        at = record {
-          stands = steps.stands;
-          are_named = AreNamed-flex_reallocated at.are_named (range_of v.tlsf.memory) (range_of w.tlsf.memory) name size (address old) (non_zero_usize_get addr) p at.stands.machine.stands.well_formed steps.stands.machine.stands.well_formed
-              (owns.1 ∙ ap Some holds.1) live steps.is_step p_addr added;
-        };
-      }
+      let live = subst (IsLive v.state.machine (address old)) (sym p_align) (at.are_named.live name old there) in
+      let moved = subst (λ a. FlexReallocates fllen sllen (terms v.source) v.state a size (Some to) notes w.state) (sym holds.1) step in
+      LeadsOn-named (Realloc name size) (Placed (Some addr)) notes (with_name name (Some to) (named_in table)) (u, owns, subst (IsLayout size) (sym aligned) valid, w.state, moved, refl) leads_by outside stands
+      (AreNamed-flex_reallocated at.are_named (range_of v.memory) (range_of w.memory) name size (address old) to p at.stands.machine.well_formed stands.machine.well_formed (owns.1 ∙ ap Some holds.1) live step p_addr added)
 
   -- a reallocation was refused
-  pub not_reallocated : (name size : ℕ) (old : Payload) (addr : Option NonZeroUsize) → get nat_eq table name ≡ Some old → IsLayout size old.align → addr ≡ None
-      → FlexSteps fllen sllen terms owes leads v w s.flex (FlexReallocates fllen sllen (terms v.source) s.flex (address old) size (option_map non_zero_usize_get addr))
-      → LeadsOn fllen sllen terms owes leads v s (Realloc name size) (Placed addr) w table
-  not_reallocated name size old (Some addr) there valid some steps = absurd (cc)
-  not_reallocated name size old None there valid none steps =
+  pub not_reallocated : {n : ℕ} (name size : ℕ) (old : Payload) (addr : Option NonZeroUsize) → n ≡ size → get nat_eq table name ≡ Some old → IsLayout size old.align → addr ≡ None
+      → FlexSteps fllen sllen terms owes leads v w (FlexReallocates fllen sllen (terms v.source) v.state (address old) n (reply addr))
+      → LeadsOn fllen sllen terms owes leads v table (Realloc name size) (Placed addr) w table
+  unfolding FlexSteps
+  not_reallocated name size old (Some addr) same there valid some steps = absurd (cc)
+  not_reallocated name size old None same there valid none (notes, did, leads_by, answers, outside, stands, spare) =
+      let step = subst (λ k. FlexReallocates fllen sllen (terms v.source) v.state (address old) k None notes w.state) same did in
       let (u, owns, holds, aligned) = owned_live at.are_named name old there in
-      let refused = steps.is_step in
-      record {
-        notes = steps.notes;
-        state = record { flex = steps.state; named = s.named };
-        does = (
-          u,
-          owns,
-          subst (IsLayout size) (sym aligned) valid,
-          steps.state,
-          subst (λ a. FlexReallocates fllen sllen (terms v.source) s.flex a size None steps.notes steps.state) (sym holds.1) refused,
-          refl,
-        );
-        leads_by = steps.leads_by;
-        outside = steps.outside;
-        at = record { stands = steps.stands; are_named = AreNamed-asked at.are_named refused.asks };
-      }
+      let refused = subst (λ a. FlexReallocates fllen sllen (terms v.source) v.state a size None notes w.state) (sym holds.1) step in
+      LeadsOn-named (Realloc name size) (Placed None) notes (named_in table) (u, owns, subst (IsLayout size) (sym aligned) valid, w.state, refused, refl) leads_by outside stands (AreNamed-asked at.are_named step.asks)

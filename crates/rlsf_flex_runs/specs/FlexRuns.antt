@@ -1,7 +1,6 @@
 -- FlexRuns: what the ops of a trace do to the list machine that asks a source for memory, and what they answer.
 use Rattle.std.specs.Prelude.{◌≡◌, ℕ, ◌++◌, Bool, true, false, List, [], ◌∷◌, Option, None}
-use Rattle.std.specs.Int.NonZero.{non_zero_usize_get}
-use Rattle.std.specs.Option.{option_map}
+use Rattle.rlsf_base.specs.Addr.{reply}
 use Rattle.rlsf_base.specs.Layout.{IsLayout}
 use Rattle.rlsf_machine.specs.FlexAllocate.{FlexAllocates}
 use Rattle.rlsf_machine.specs.FlexReallocate.{FlexReallocates}
@@ -45,11 +44,11 @@ is_on_range op = false
 abbrev pub DoesFlex : ℕ → ℕ → Terms → FlexRunState → Op → Answer → List Note → FlexRunState → Type 0
 DoesFlex fllen sllen terms s op (Refused NotForFlex) notes t = (is_on_range op ≡ true) × (notes ≡ []) × (t ≡ s)
 DoesFlex fllen sllen terms s (Alloc name layout) (Placed addr) notes t =
-    (s.named name ≡ None) × (flex : FlexState) × FlexAllocates fllen sllen terms s.flex layout.size layout.align (option_map non_zero_usize_get addr) notes flex
-    × (t ≡ record { flex = flex; named = with_name name (option_map non_zero_usize_get addr) s.named })
+    (s.named name ≡ None) × (flex : FlexState) × FlexAllocates fllen sllen terms s.flex layout.size layout.align (reply addr) notes flex
+    × (t ≡ record { flex = flex; named = with_name name (reply addr) s.named })
 DoesFlex fllen sllen terms s (Realloc name size) (Placed addr) notes t =
-    (u : Used) × Owns (without_source s) name u × IsLayout size u.align × (flex : FlexState) × FlexReallocates fllen sllen terms s.flex u.payload size (option_map non_zero_usize_get addr) notes flex
-    × (t ≡ record { flex = flex; named = with_name name (option_map non_zero_usize_get addr) s.named })
+    (u : Used) × Owns (without_source s) name u × IsLayout size u.align × (flex : FlexState) × FlexReallocates fllen sllen terms s.flex u.payload size (reply addr) notes flex
+    × (t ≡ record { flex = flex; named = with_name name (reply addr) s.named })
 DoesFlex fllen sllen terms s op answer notes t =
     (is_on_range op ≡ false) × (r : RunState) × Does fllen sllen terms.space (without_source s) op answer r × (notes ≡ []) × (t ≡ with_run s r)
 

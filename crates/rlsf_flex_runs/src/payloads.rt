@@ -2,7 +2,6 @@
 
 ghost use Rattle.std.specs.Prelude.{ℕ, ◌≡◌, ◌+◌, ◌≤◌, nat_eq};
 ghost use Rattle.std.specs.HashMap.{get, spare};
-ghost use Rattle.rlsf_flex_runs.specs.FlexRuns.{FlexRunState};
 ghost use Rattle.rlsf_flex_runs.specs.Steps.Names.{IsAt, LeadsOn};
 ghost use Rattle.rlsf_text.specs.declared.op.Op.TheVariants.{Alloc, Free, FreeUnknown, Realloc, Fill, Put, Get, Usable};
 
@@ -33,9 +32,9 @@ pub(crate) fn alloc<
     name: usize,
     layout: Layout,
 ) -> Answer
-    requires state { (s : FlexRunState) × IsAt FLLEN SLLEN S.terms S.owes flex.old names.old s }
+    requires state { IsAt FLLEN SLLEN S.terms S.owes flex.old names.old }
     requires room { 1 ≤ spare names.old }
-    ensures does { (s : FlexRunState) → IsAt FLLEN SLLEN S.terms S.owes flex.old names.old s → LeadsOn FLLEN SLLEN S.terms S.owes S.leads flex.old s (Alloc name layout) result flex.new names.new }
+    ensures does { LeadsOn FLLEN SLLEN S.terms S.owes S.leads flex.old names.old (Alloc name layout) result flex.new names.new }
     ensures room { (ops : ℕ) → ops + 1 ≤ spare names.old → ops ≤ spare names.new }
 {
     if names.contains_key(&name) {
@@ -61,8 +60,8 @@ pub(crate) fn free<
     names: &mut HashMap<usize, Payload>,
     name: usize,
 ) -> Answer
-    requires { (s : FlexRunState) × IsAt FLLEN SLLEN S.terms S.owes flex.old names.old s }
-    ensures does { (s : FlexRunState) → IsAt FLLEN SLLEN S.terms S.owes flex.old names.old s → LeadsOn FLLEN SLLEN S.terms S.owes S.leads flex.old s (Free name) result flex.new names.new }
+    requires { IsAt FLLEN SLLEN S.terms S.owes flex.old names.old }
+    ensures does { LeadsOn FLLEN SLLEN S.terms S.owes S.leads flex.old names.old (Free name) result flex.new names.new }
     ensures room { (ops : ℕ) → ops + 1 ≤ spare names.old → ops ≤ spare names.new }
 {
     let Some(payload) = names.remove(&name) else {
@@ -84,8 +83,8 @@ pub(crate) fn free_unknown<
     names: &mut HashMap<usize, Payload>,
     name: usize,
 ) -> Answer
-    requires { (s : FlexRunState) × IsAt FLLEN SLLEN S.terms S.owes flex.old names.old s }
-    ensures does { (s : FlexRunState) → IsAt FLLEN SLLEN S.terms S.owes flex.old names.old s → LeadsOn FLLEN SLLEN S.terms S.owes S.leads flex.old s (FreeUnknown name) result flex.new names.new }
+    requires { IsAt FLLEN SLLEN S.terms S.owes flex.old names.old }
+    ensures does { LeadsOn FLLEN SLLEN S.terms S.owes S.leads flex.old names.old (FreeUnknown name) result flex.new names.new }
     ensures room { (ops : ℕ) → ops + 1 ≤ spare names.old → ops ≤ spare names.new }
 {
     let Some(payload) = names.remove(&name) else {
@@ -109,9 +108,9 @@ pub(crate) fn realloc<
     name: usize,
     size: usize,
 ) -> Answer
-    requires state { (s : FlexRunState) × IsAt FLLEN SLLEN S.terms S.owes flex.old names.old s }
+    requires state { IsAt FLLEN SLLEN S.terms S.owes flex.old names.old }
     requires room { 1 ≤ spare names.old }
-    ensures does { (s : FlexRunState) → IsAt FLLEN SLLEN S.terms S.owes flex.old names.old s → LeadsOn FLLEN SLLEN S.terms S.owes S.leads flex.old s (Realloc name size) result flex.new names.new }
+    ensures does { LeadsOn FLLEN SLLEN S.terms S.owes S.leads flex.old names.old (Realloc name size) result flex.new names.new }
     ensures room { (ops : ℕ) → ops + 1 ≤ spare names.old → ops ≤ spare names.new }
 {
     let Some(old) = payload_of(names, name) else {
@@ -141,8 +140,8 @@ pub(crate) fn fill<
     name: usize,
     byte: u8,
 ) -> Answer
-    requires { (s : FlexRunState) × IsAt FLLEN SLLEN S.terms S.owes flex.old names.now s }
-    ensures { (s : FlexRunState) → IsAt FLLEN SLLEN S.terms S.owes flex.old names.now s → LeadsOn FLLEN SLLEN S.terms S.owes S.leads flex.old s (Fill name byte) result flex.new names.now }
+    requires { IsAt FLLEN SLLEN S.terms S.owes flex.old names.now }
+    ensures { LeadsOn FLLEN SLLEN S.terms S.owes S.leads flex.old names.now (Fill name byte) result flex.new names.now }
 {
     let Some(payload) = payload_of(names, name) else {
         return Answer::Refused(TraceError::UnknownName);
@@ -165,8 +164,8 @@ pub(crate) fn put<
     offset: usize,
     byte: u8,
 ) -> Answer
-    requires { (s : FlexRunState) × IsAt FLLEN SLLEN S.terms S.owes flex.old names.now s }
-    ensures { (s : FlexRunState) → IsAt FLLEN SLLEN S.terms S.owes flex.old names.now s → LeadsOn FLLEN SLLEN S.terms S.owes S.leads flex.old s (Put name offset byte) result flex.new names.now }
+    requires { IsAt FLLEN SLLEN S.terms S.owes flex.old names.now }
+    ensures { LeadsOn FLLEN SLLEN S.terms S.owes S.leads flex.old names.now (Put name offset byte) result flex.new names.now }
 {
     let Some(payload) = payload_of(names, name) else {
         return Answer::Refused(TraceError::UnknownName);
@@ -191,8 +190,8 @@ pub(crate) fn get<
     name: usize,
     offset: usize,
 ) -> Answer
-    requires { (s : FlexRunState) × IsAt FLLEN SLLEN S.terms S.owes flex.now names.now s }
-    ensures { (s : FlexRunState) → IsAt FLLEN SLLEN S.terms S.owes flex.now names.now s → LeadsOn FLLEN SLLEN S.terms S.owes S.leads flex.now s (Get name offset) result flex.now names.now }
+    requires { IsAt FLLEN SLLEN S.terms S.owes flex.now names.now }
+    ensures { LeadsOn FLLEN SLLEN S.terms S.owes S.leads flex.now names.now (Get name offset) result flex.now names.now }
 {
     let Some(payload) = payload_of(names, name) else {
         return Answer::Refused(TraceError::UnknownName);
@@ -215,8 +214,8 @@ pub(crate) fn usable<
     names: &HashMap<usize, Payload>,
     name: usize,
 ) -> Answer
-    requires { (s : FlexRunState) × IsAt FLLEN SLLEN S.terms S.owes flex.now names.now s }
-    ensures { (s : FlexRunState) → IsAt FLLEN SLLEN S.terms S.owes flex.now names.now s → LeadsOn FLLEN SLLEN S.terms S.owes S.leads flex.now s (Usable name) result flex.now names.now }
+    requires { IsAt FLLEN SLLEN S.terms S.owes flex.now names.now }
+    ensures { LeadsOn FLLEN SLLEN S.terms S.owes S.leads flex.now names.now (Usable name) result flex.now names.now }
 {
     match payload_of(names, name) {
         Some(payload) => Answer::Usable(flex.allocation_usable_size(payload.addr)),

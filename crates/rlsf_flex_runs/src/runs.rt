@@ -4,7 +4,6 @@ ghost use Rattle.std.specs.Prelude.{◌≡◌, ℕ, ◌+◌, ◌≤◌, ◌++◌
 ghost use Rattle.std.specs.HashMap.{spare};
 ghost use Rattle.rlsf_base.specs.Space.{SamePlace};
 ghost use Rattle.rlsf_flex.specs.Outside.{KeepsOutside};
-ghost use Rattle.rlsf_flex.specs.StandsFor.{FlexStandsFor};
 ghost use Rattle.rlsf_flex_runs.specs.FlexRuns.{FlexRunState, beginning, RunsFlex};
 ghost use Rattle.rlsf_flex_runs.specs.Steps.Names.{IsAt, LeadsOn};
 ghost use Rattle.rlsf_machine.specs.FlexState.{empty};
@@ -25,9 +24,9 @@ fn step<S: FlexSource, FLBitmap: Bitmap, SLBitmap: Bitmap, const FLLEN: usize, c
     names: &mut HashMap<usize, Payload>,
     op: Op,
 ) -> Answer
-    requires state { (s : FlexRunState) × IsAt FLLEN SLLEN S.terms S.owes flex.old names.old s }
+    requires state { IsAt FLLEN SLLEN S.terms S.owes flex.old names.old }
     requires room { 1 ≤ spare names.old }
-    ensures does { (s : FlexRunState) → IsAt FLLEN SLLEN S.terms S.owes flex.old names.old s → LeadsOn FLLEN SLLEN S.terms S.owes S.leads flex.old s op result flex.new names.new }
+    ensures does { LeadsOn FLLEN SLLEN S.terms S.owes S.leads flex.old names.old op result flex.new names.new }
     ensures room { (ops : ℕ) → ops + 1 ≤ spare names.old → ops ≤ spare names.new }
 {
     match op {
@@ -63,13 +62,15 @@ pub fn run_flex<
     ops: &[Op],
     answers: &mut Vec<Answer>,
 ) -> Result<(), RunError>
-    requires { FlexStandsFor FLLEN SLLEN S.terms S.owes flex.old empty }
+    requires { flex.old.state ≡ empty }
     ensures runs { OnOk result ((given : List Answer) × (notes : List Note) × (t : FlexRunState) × (answers.new.items ≡ answers.old.items ++ given)
         × RunsFlex FLLEN SLLEN (S.terms flex.old.source) beginning ops.now given notes t × LeadsBy S.leads flex.old.source notes flex.new.source
-        × FlexStandsFor FLLEN SLLEN S.terms S.owes flex.new t.flex × KeepsOutside flex.old.tlsf.memory [] flex.new.tlsf.memory t.flex.pools) }
+        × (flex.new.state ≡ t.flex) × KeepsOutside flex.old.memory [] flex.new.memory t.flex.pools) }
     ensures refused { OnErr result ((answers.new.items ≡ answers.old.items) × (flex.new ≡ flex.old)) }
-    ensures place { SamePlace flex.old.tlsf.memory flex.new.tlsf.memory }
+    ensures place { SamePlace flex.old.memory flex.new.memory }
 {
+    // What `memory_ref` says of every allocator: its parts stand for its state.
+    let _ = flex.memory_ref();
     answers.try_reserve(ops.len())?;
     let mut names = HashMap::with_capacity(alloc, ops.len())?;
     for op in ops {

@@ -1,3 +1,2 @@
 pub mod Cursor
 pub mod HeapCursor
-pub mod Live

@@ -1,8 +1,8 @@
 //! Payloads that are written, grow into other memory and are read; and a change of the source.
 
-ghost use Rattle.std.specs.Prelude.{◌≡◌, IfSome};
-ghost use Rattle.std.specs.Int.NonZero.{non_zero_usize_get};
-ghost use Rattle.rlsf_flex_tests.specs.Live.{IsLiveIn};
+ghost use Rattle.std.specs.Prelude.{◌≡◌, ◌<◌, Some, IfSome, IsSome};
+ghost use Rattle.rlsf_base.specs.Addr.{at};
+ghost use Rattle.rlsf_machine.specs.Callers.{align_at};
 
 use crate::cursor::{Habits, Question, Questions};
 use crate::heaps::{Small, is_right, small};
@@ -46,26 +46,17 @@ const ALL: Range = Range {
 
 /// Allocates a payload and fills it.
 fn filled(flex: &mut Small, layout: Layout, byte: u8) -> Option<Addr>
-    ensures { IfSome result (λ addr. IsLiveIn flex.new (non_zero_usize_get addr) layout.align) }
+    ensures { IfSome result (λ addr. align_at flex.new.state.machine (at addr) ≡ Some layout.align) }
 {
     let addr = flex.allocate(layout)?;
     flex.payload_mut(addr).fill(byte);
     Some(addr)
 }
 
-/// Gives a payload another size.
-fn moved(flex: &mut Small, addr: Addr, layout: Layout) -> Option<Addr>
-    requires { IsLiveIn flex.old (non_zero_usize_get addr) layout.align }
-    ensures { IfSome result (λ to. IsLiveIn flex.new (non_zero_usize_get to) layout.align) }
-{
-    flex.reallocate(addr, layout)
-}
-
 /// Whether a payload has so many usable bytes, of which the first and the sixteenth are `byte`.
-fn reads(flex: &Small, addr: Addr, align: usize, usable: usize, byte: u8) -> bool
-    requires { IsLiveIn flex.now (non_zero_usize_get addr) align }
+fn reads(flex: &Small, addr: Addr, usable: usize, byte: u8) -> bool
+    requires { IsSome (align_at flex.now.state.machine (at addr)) }
 {
-    let _ = align;
     let bytes = flex.payload(addr);
     flex.allocation_usable_size(addr) == usable
         && bytes.len() > 15
@@ -73,12 +64,21 @@ fn reads(flex: &Small, addr: Addr, align: usize, usable: usize, byte: u8) -> boo
         && bytes[15] == byte
 }
 
-/// Gives a payload back.
-fn freed(flex: &mut Small, addr: Addr, align: usize)
-    requires { IsLiveIn flex.old (non_zero_usize_get addr) align }
+/// Allocates two payloads, the second of which may need more memory, fills both, reads the first byte of each, and gives both back.
+fn two(flex: &mut Small, first: Layout, second: Layout) -> Option<[u8; 2]>
+    requires { (0 < first.size) × (0 < second.size) }
 {
-    let _ = align;
-    flex.deallocate_unknown_align(addr);
+    let one = flex.allocate(first)?;
+    let Some(other) = flex.allocate(second) else {
+        flex.deallocate(one, first.align());
+        return None;
+    };
+    flex.payload_mut(one).fill(7);
+    flex.payload_mut(other).fill(9);
+    let reads = [flex.payload(one)[0], flex.payload(other)[0]];
+    flex.deallocate(other, second.align());
+    flex.deallocate(one, first.align());
+    Some(reads)
 }
 
 #[test]
@@ -90,12 +90,12 @@ fn a_payload_moves_into_growth(rt: HostRuntime) -> Result<(), Fail> {
     let mut addresses = [0, 0];
     let mut kept = [false, false];
     if let Some(addr) = filled(&mut flex, layout, 7) {
-        kept[0] = reads(&flex, addr, layout.align(), 16, 7);
+        kept[0] = reads(&flex, addr, 16, 7);
         addresses[0] = addr.get();
-        if let Some(to) = moved(&mut flex, addr, longer) {
-            kept[1] = reads(&flex, to, longer.align(), 528, 7);
+        if let Some(to) = flex.reallocate(addr, longer) {
+            kept[1] = reads(&flex, to, 528, 7);
             addresses[1] = to.get();
-            freed(&mut flex, to, longer.align());
+            flex.deallocate_unknown_align(to);
         }
     }
     assert_eq!(rt; (addresses, kept), ([4112, 4176], [true, true]));
@@ -109,13 +109,21 @@ fn a_payload_moves_into_growth(rt: HostRuntime) -> Result<(), Fail> {
     Ok(())
 }
 
-/// Copies nothing of a payload over itself.
-fn copied(flex: &mut Small, addr: Addr, align: usize)
-    requires { IsLiveIn flex.old (non_zero_usize_get addr) align }
-    ensures { flex.new.source ≡ flex.old.source }
-{
-    let _ = align;
-    flex.copy_payload(addr, addr, 0);
+#[test]
+fn two_payloads_with_a_growth_between(rt: HostRuntime) -> Result<(), Fail> {
+    let seen = Cell::new(Questions::new());
+    let first = Layout::from_size_align(16, 1)?;
+    let second = Layout::from_size_align(500, 8)?;
+    let mut flex = small(rt.alloc(), ALL, HABITS, &seen)?;
+    let read = two(&mut flex, first, second);
+    assert_eq!(rt; read, Some([7, 9]));
+    let asked = flex.source_ref().asked();
+    is_right(
+        &rt,
+        (None, asked),
+        &[Question::Alloc(64), Question::Grow(4096, 64, 672)],
+    );
+    Ok(())
 }
 
 #[test]
@@ -124,7 +132,7 @@ fn a_copy_asks_nothing(rt: HostRuntime) -> Result<(), Fail> {
     let layout = Layout::from_size_align(16, 1)?;
     let mut flex = small(rt.alloc(), ALL, HABITS, &seen)?;
     if let Some(addr) = filled(&mut flex, layout, 7) {
-        copied(&mut flex, addr, layout.align());
+        flex.copy_payload(addr, addr, 0);
     }
     let asked = flex.source_ref().asked();
     is_right(&rt, (None, asked), &[Question::Alloc(64)]);

@@ -6,7 +6,6 @@ mod output;
 mod replays;
 
 pub use replays::replay;
-pub use rlsf_flex_runs::run_flex;
 pub use rlsf_runs::{RunError, run};
 pub use rlsf_text::{
     Answer, Configuration, Fault, Op, ReplayFault, Trace, TraceError, status, text_of,

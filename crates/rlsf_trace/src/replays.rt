@@ -84,7 +84,8 @@ fn output_of(alloc: Global, input: &[u8]) -> Result<String, ReplayFault>
 ///
 /// In this order: `Read` of line 0 where the input can't be read; the first fault of the text, with its line;
 /// `OutOfMemory` of line 1 where the machine refuses the memory that the first line asks for; and `Write` of line 0
-/// where the output can't be written. `OutOfMemory` of line 0 comes where the machine refuses any other memory.
+/// where the output can't be written. `OutOfMemory` of line 0 comes where the machine refuses any other memory. No
+/// clause says that it comes only then, and with which of these two lines.
 ///
 /// Nothing is written with any fault but `Write`, and with that one a beginning of the output may be. The reader is at
 /// its end, unless the fault is `Read`, or `OutOfMemory` of line 0.

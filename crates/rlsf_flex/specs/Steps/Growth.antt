@@ -1,12 +1,18 @@
 -- What the parts of a growth leave.
-use Rattle.std.specs.Prelude.{◌≡◌, ℕ, Bool, true, List, Option, Some, None}
+use Rattle.std.specs.Prelude.{◌≡◌, ℕ, ◌+◌, Bool, true, List, Option, Some, None}
 use Rattle.rlsf_base.specs.declared.memory.range.Range.{Range}
+use Rattle.rlsf_blocks.specs.Spare.{KeepsSpare}
+use Rattle.rlsf_tlsf.specs.Allocator.{Allocator, Stands}
 use Rattle.rlsf_flex.specs.declared.pool.Pool.{Pool}
 use Rattle.rlsf_flex.specs.Outside.{KeepsOutside}
+use Rattle.rlsf_flex.specs.SpareBytes.{KeepsSpareButFooter}
 use Rattle.rlsf_flex.specs.StandsFor.{FlexContents, FlexStandsFor}
+use Rattle.rlsf_machine.specs.Answers.{MayAnswer, MayAnswerAll}
 use Rattle.rlsf_machine.specs.FlexState.{FlexState, KeptPool}
 use Rattle.rlsf_machine.specs.Growth.{Extends, Outcome, TakesIn, given, grown, growth_note, growth_question, is_more, range_length, range_note, refused}
-use Rattle.rlsf_machine.specs.Note.{Note, LeadsBy}
+use Rattle.rlsf_machine.specs.Note.{Note, LeadsBy, alloc, grow}
+use Rattle.rlsf_machine.specs.Reallocate.{MovesAway}
+use Rattle.rlsf_machine.specs.State.{Used, Holds}
 use Rattle.rlsf_machine.specs.Terms.{Terms}
 use Rattle.rlsf_machine.specs.PoolLength.{HasPool}
 
@@ -30,21 +36,28 @@ abbrev pub kept_len : Option Pool → ℕ
 kept_len None = 0
 kept_len (Some k) = k.range.len
 
--- what came was handed in, and where something came there is room for a pool of e bytes
-pub record Took {S : Type 0} (fllen sllen : ℕ) (terms : S → Terms) (owes : S → List Range → Type 0) (before after : FlexContents S) (s : FlexState) (e : ℕ) (outcome : Outcome) : Type 0 where
-  pub state : FlexState
-  pub takes : TakesIn fllen (terms before.source) s outcome state
-  pub outside : KeepsOutside before.tlsf.memory s.pools after.tlsf.memory state.pools
-  pub stands : FlexStandsFor fllen sllen terms owes after state
-  pub room : is_more outcome ≡ true → HasPool e state.machine
+-- what came for e bytes more is what a source may give
+abbrev pub MayCome : Terms → FlexState → ℕ → Outcome → Type 0
+MayCome t s e refused = Unit {0}
+MayCome t s e (given r) = (n : ℕ) → range_length t e ≡ Some n → MayAnswer t s.pools (alloc n (Some r))
+MayCome t s e (grown len) = (k : KeptPool) → s.kept ≡ Some k → MayAnswer t s.pools (grow k.range (k.len + e) (Some len))
 
-module _ {S : Type 0} (fllen sllen : ℕ) (terms : S → Terms) (owes : S → List Range → Type 0) (leads : S → Note → S → Type 0) (before after : FlexContents S) (s : FlexState) where
+-- what came was handed in, and where something came there is room for a pool of e bytes
+pub record Took {S : Type 0} (fllen sllen : ℕ) (terms : S → Terms) (owes : S → List Range → Type 0) (before after : FlexContents S) (e : ℕ) (outcome : Outcome) : Type 0 where
+  pub takes : TakesIn fllen (terms before.source) before.state outcome after.state
+  pub may : MayCome (terms before.source) before.state e outcome
+  pub outside : KeepsOutside before.memory before.state.pools after.memory after.state.pools
+  pub spare : KeepsSpareButFooter (terms before.source) before.memory before.state after.memory after.state
+  pub stands : FlexStandsFor fllen sllen terms owes after
+  pub room : is_more outcome ≡ true → HasPool e after.state.machine
+
+module _ {S : Type 0} (fllen sllen : ℕ) (terms : S → Terms) (owes : S → List Range → Type 0) (leads : S → Note → S → Type 0) (before after : FlexContents S) where
   -- a range was asked for, if there is a question, and what came was taken in
   pub record AskedRange (e : ℕ) (more : Bool) : Type 0 where
     pub answer : Option Range
     pub notes : LeadsBy leads before.source (range_note (range_length (terms before.source) e) answer) after.source
     pub asked : range_length (terms before.source) e ≡ None → answer ≡ None
-    pub took : Took fllen sllen terms owes before after s e (outcome_of_range answer)
+    pub took : Took fllen sllen terms owes before after e (outcome_of_range answer)
     pub came : more ≡ is_more (outcome_of_range answer)
 
   -- growth to n bytes was asked for, if there is a question, and what came was taken in
@@ -52,17 +65,26 @@ module _ {S : Type 0} (fllen sllen : ℕ) (terms : S → Terms) (owes : S → Li
     pub answer : Option ℕ
     pub notes : LeadsBy leads before.source (growth_note (growth_question (terms before.source) k n) answer) after.source
     pub asked : growth_question (terms before.source) k n ≡ None → answer ≡ None
-    pub took : Took fllen sllen terms owes before after s e (outcome_of_growth answer)
+    pub took : Took fllen sllen terms owes before after e (outcome_of_growth answer)
     pub came : more ≡ is_more (outcome_of_growth answer)
 
   -- the source was asked for e bytes more
   pub record Extended (e : ℕ) (more : Bool) : Type 0 where
     pub outcome : Outcome
     pub notes : List Note
-    pub state : FlexState
-    pub extends : Extends fllen (terms before.source) s (Some e) outcome notes state
+    pub extends : Extends fllen (terms before.source) before.state (Some e) outcome notes after.state
     pub leads_by : LeadsBy leads before.source notes after.source
-    pub outside : KeepsOutside before.tlsf.memory s.pools after.tlsf.memory state.pools
-    pub stands : FlexStandsFor fllen sllen terms owes after state
+    pub answers : MayAnswerAll (terms before.source) before.state.pools notes
+    pub outside : KeepsOutside before.memory before.state.pools after.memory after.state.pools
+    pub spare : KeepsSpareButFooter (terms before.source) before.memory before.state after.memory after.state
+    pub stands : FlexStandsFor fllen sllen terms owes after
     pub came : more ≡ is_more outcome
-    pub room : is_more outcome ≡ true → HasPool e state.machine
+    pub room : is_more outcome ≡ true → HasPool e after.state.machine
+
+-- the payload at an address moved to another, and memory and class table stand for the state that came of it
+pub record MovesTo (fllen sllen : ℕ) (before after : Allocator) (addr size to : ℕ) : Type 0 where
+  pub block : Used
+  pub holds : Holds before.state addr block
+  pub moves : MovesAway sllen before.state block size to after.state
+  pub stands : Stands fllen sllen after
+  pub spare : KeepsSpare before.memory before.state after.memory after.state

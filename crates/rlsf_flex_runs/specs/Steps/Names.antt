@@ -1,27 +1,36 @@
 -- Where a run over a source has come to, by its table of names.
-use Rattle.std.specs.Prelude.{ℕ, List}
+use Rattle.std.specs.Prelude.{ℕ, nat_eq, List, Option}
+use Rattle.std.specs.HashMap.{get}
+use Rattle.std.specs.Option.{option_map}
 use Rattle.rlsf_base.specs.declared.memory.range.Range.{Range}
 use Rattle.rlsf_flex.specs.Outside.{KeepsOutside}
 use Rattle.rlsf_flex.specs.StandsFor.{FlexContents, FlexStandsFor}
 use Rattle.rlsf_flex_runs.specs.FlexRuns.{DoesFlex, FlexRunState}
 use Rattle.rlsf_machine.specs.Note.{Note, LeadsBy}
 use Rattle.rlsf_machine.specs.Terms.{Terms}
-use Rattle.rlsf_runs.specs.Names.{AreNamed, NameTable}
+use Rattle.rlsf_runs.specs.Names.{address, AreNamed, NameTable}
 use Rattle.rlsf_text.specs.declared.op.Answer.{Answer}
 use Rattle.rlsf_text.specs.declared.op.Op.{Op}
 
--- the allocator and the table are where the run has come to
-pub record IsAt {S : Type 0} (fllen sllen : ℕ) (terms : S → Terms) (owes : S → List Range → Type 0) (v : FlexContents S) (table : NameTable) (s : FlexRunState) : Type 0 where
-  pub stands : FlexStandsFor fllen sllen terms owes v s.flex
-  pub are_named : AreNamed s.flex.machine table s.named
+-- the addresses of a table's payloads, by their names
+abbrev pub named_in : NameTable → ℕ → Option ℕ
+named_in table = λ name. option_map address (get nat_eq table name)
 
--- An op and its answer lead on from this state of the run: there are notes, with which the op leads to a state where the allocator and the
+-- what the run has come to: the allocator's state, and the names of the table
+abbrev pub run_of : {S : Type 0} → FlexContents S → NameTable → FlexRunState
+run_of v table = record { flex = v.state; named = named_in table }
+
+-- the allocator's parts stand for its state, and the table has its live payloads
+pub record IsAt {S : Type 0} (fllen sllen : ℕ) (terms : S → Terms) (owes : S → List Range → Type 0) (v : FlexContents S) (table : NameTable) : Type 0 where
+  pub stands : FlexStandsFor fllen sllen terms owes v
+  pub are_named : AreNamed v.state.machine table (named_in table)
+
+-- An op and its answer lead on from what the run has come to: there are notes, with which the op leads to what the allocator and the
 -- table then are; they, one by one and no others, lead from the source's value before to the one after. Bytes of the memory outside
 -- of the ranges stay.
-pub record LeadsOn {S : Type 0} (fllen sllen : ℕ) (terms : S → Terms) (owes : S → List Range → Type 0) (leads : S → Note → S → Type 0) (v : FlexContents S) (s : FlexRunState) (op : Op) (answer : Answer) (w : FlexContents S) (new : NameTable) : Type 0 where
+pub record LeadsOn {S : Type 0} (fllen sllen : ℕ) (terms : S → Terms) (owes : S → List Range → Type 0) (leads : S → Note → S → Type 0) (v : FlexContents S) (table : NameTable) (op : Op) (answer : Answer) (w : FlexContents S) (new : NameTable) : Type 0 where
   pub notes : List Note
-  pub state : FlexRunState
-  pub does : DoesFlex fllen sllen (terms v.source) s op answer notes state
+  pub does : DoesFlex fllen sllen (terms v.source) (run_of v table) op answer notes (run_of w new)
   pub leads_by : LeadsBy leads v.source notes w.source
-  pub outside : KeepsOutside v.tlsf.memory s.flex.pools w.tlsf.memory state.flex.pools
-  pub at : IsAt fllen sllen terms owes w new state
+  pub outside : KeepsOutside v.memory v.state.pools w.memory w.state.pools
+  pub at : IsAt fllen sllen terms owes w new

@@ -1,40 +1,42 @@
 use Rattle.std.proofs.Common.{rules, ◌≡◌, ◌+◌, arith, None, sym, ◌∙◌, ap}
 use Rattle.rlsf_flex.specs.StandsFor.{kept_of}
-use Rattle.rlsf_flex.proofs.Asks.{extended_first, extended_grown, extended_refused, extended_second, stands_still, sum_fits, terms_stay}
+use Rattle.rlsf_flex.proofs.Asks.{extended_first, extended_grown, extended_refused, extended_second, sum_fits, terms_stay}
 use Rattle.rlsf_flex.proofs.growth.extend.Goals as goal
 
 pub returns-in_default-clause-step : goal.returns-in_default-clause-step
-returns-in_default-clause-step g c s v =
+returns-in_default-clause-step g c =
     let none : c.args.kept.now ≡ None = search rules in
-    extended_first v (ap kept_of none) (c.ask_range.ensures.step s v)
+    extended_first (ap kept_of none) c.ask_range.ensures.step
 
 pub ask_range-requires-else-is_contiguous_growable : goal.ask_range-requires-else-is_contiguous_growable
-ask_range-requires-else-is_contiguous_growable g c =
-    let (s, v) = c.requires.stands in
-    let fits = sum_fits c.checked_add.result (c.in-Some.pool.len + c.args.wanted) c.in-Some-checked_add.len c.checked_add.ensures c.in-Some-checked_add.is in
-    (omega arith, (c.requires.valid, (c.requires.wanted, (s, stands_still v (ap kept_of c.in-Some.is) fits.0 (c.ask_growth.ensures.step s v) c.if-ask_growth.false))))
+ask_range-requires-else-is_contiguous_growable g c = (omega arith, (c.requires.valid, (c.requires.wanted, c.ask_growth.ensures.step.took.stands)))
 
 pub returns-then-ask_growth-clause-step : goal.returns-then-ask_growth-clause-step
-returns-then-ask_growth-clause-step g c s v =
+returns-then-ask_growth-clause-step g c =
     let fits = sum_fits c.checked_add.result (c.in-Some.pool.len + c.args.wanted) c.in-Some-checked_add.len c.checked_add.ensures c.in-Some-checked_add.is in
-    extended_grown v (ap kept_of c.in-Some.is) fits.0 (c.ask_growth.ensures.step s v) c.if-ask_growth.true
+    extended_grown (ap kept_of c.in-Some.is) fits.0 c.ask_growth.ensures.step c.if-ask_growth.true
 
 pub returns-then-is_contiguous_growable-clause-step : goal.returns-then-is_contiguous_growable-clause-step
-returns-then-is_contiguous_growable-clause-step g c s v =
+returns-then-is_contiguous_growable-clause-step g c =
     let fits = sum_fits c.checked_add.result (c.in-Some.pool.len + c.args.wanted) c.in-Some-checked_add.len c.checked_add.ensures c.in-Some-checked_add.is in
     let kept = ap kept_of c.in-Some.is in
-    let h = c.ask_growth.ensures.step s v in
-    let same = terms_stay v kept fits.0 h g.met.S.FlexSource.constant in
-    extended_refused v kept fits.0 h c.if-ask_growth.false (sym (ap (λ t. t.contiguous) same) ∙ sym c.is_contiguous_growable.ensures ∙ c.if-is_contiguous_growable.true)
+    let h = c.ask_growth.ensures.step in
+    let same = terms_stay kept fits.0 h g.met.S.FlexSource.constant in
+    extended_refused kept fits.0 h c.if-ask_growth.false (sym (ap (λ t. t.contiguous) same) ∙ sym c.is_contiguous_growable.ensures ∙ c.if-is_contiguous_growable.true)
 
 pub returns-else-is_contiguous_growable-clause-step : goal.returns-else-is_contiguous_growable-clause-step
-returns-else-is_contiguous_growable-clause-step g c s v =
+returns-else-is_contiguous_growable-clause-step g c =
     let fits = sum_fits c.checked_add.result (c.in-Some.pool.len + c.args.wanted) c.in-Some-checked_add.len c.checked_add.ensures c.in-Some-checked_add.is in
     let kept = ap kept_of c.in-Some.is in
-    let h = c.ask_growth.ensures.step s v in
-    let same = terms_stay v kept fits.0 h g.met.S.FlexSource.constant in
-    extended_second v kept fits.0 h c.if-ask_growth.false (sym (ap (λ t. t.contiguous) same) ∙ sym c.is_contiguous_growable.ensures ∙ c.if-is_contiguous_growable.false) same
-    c.ask_range-else-is_contiguous_growable.ensures.step
+    let h = c.ask_growth.ensures.step in
+    let same = terms_stay kept fits.0 h g.met.S.FlexSource.constant in
+    extended_second kept fits.0 h c.if-ask_growth.false (sym (ap (λ t. t.contiguous) same) ∙ sym c.is_contiguous_growable.ensures ∙ c.if-is_contiguous_growable.false) same c.ask_range-else-is_contiguous_growable.ensures.step
 
 pub returns-else-is_contiguous_growable-clause-refused : goal.returns-else-is_contiguous_growable-clause-refused
 returns-else-is_contiguous_growable-clause-refused g c none = c.ask_range-else-is_contiguous_growable.ensures.refused none ∙ c.ask_growth.ensures.refused c.if-ask_growth.false
+
+pub returns-else-is_contiguous_growable-clause-aligns : goal.returns-else-is_contiguous_growable-clause-aligns
+returns-else-is_contiguous_growable-clause-aligns g c = c.ask_range-else-is_contiguous_growable.ensures.aligns ∙ c.ask_growth.ensures.aligns
+
+pub returns-else-is_contiguous_growable-clause-bytes : goal.returns-else-is_contiguous_growable-clause-bytes
+returns-else-is_contiguous_growable-clause-bytes g c = c.ask_range-else-is_contiguous_growable.ensures.bytes ∙ c.ask_growth.ensures.bytes

@@ -2,10 +2,10 @@ use Rattle.std.proofs.Common.{rules, ◌≡◌, ◌+◌, [], arith, sym, ap, ◌
 use Rattle.rlsf_base.specs.Space.{IsWord, SamePlace, range_of, word_at}
 use Rattle.rlsf_tlsf.specs.Allocator.{Allocator, IsInState}
 use Rattle.rlsf_flex.specs.Footers.{first_len, first_start, footer_of, Footers}
-use Rattle.rlsf_flex.specs.StandsFor.{flex_contents, FlexStandsFor, kept_pool}
+use Rattle.rlsf_flex.specs.StandsFor.{flex_contents, kept_pool}
 use Rattle.rlsf_flex.specs.Steps.Growth.{outcome_of_growth, Took}
-use Rattle.rlsf_machine.specs.FlexState.{FlexState}
-use Rattle.rlsf_machine.specs.Growth.{behind}
+use Rattle.rlsf_machine.specs.Callers.{align_at, bytes_at}
+use Rattle.rlsf_machine.specs.Growth.{behind, longer}
 use Rattle.rlsf_machine.specs.Insert.{Appends, IsNext}
 use Rattle.rlsf_machine.specs.Lists.{IsIn}
 use Rattle.rlsf_machine.specs.Note.{grow}
@@ -13,131 +13,133 @@ use Rattle.rlsf_machine.specs.Terms.{Terms, with_len}
 use Rattle.rlsf_machine.proofs.TakenPools.{pool_size_is}
 use Rattle.rlsf_tlsf.proofs.Standing.{of_state, stepped}
 use Rattle.rlsf_flex.proofs.Calls.{stays_in}
-use Rattle.rlsf_flex.proofs.Frames.{HasSpareFooter}
-use Rattle.rlsf_flex.proofs.Growths.{Grew, Grew-houses, Grew-longer, Grew-next, Grew-taken, Grew-took}
-use Rattle.rlsf_flex.proofs.Houses.{Houses-end, Houses-flex, Houses-spare, Took-refused}
+use Rattle.rlsf_flex.proofs.Frames.{ends_here, spare_here}
+use Rattle.rlsf_flex.proofs.Growths.{Grew, Grew-footers, Grew-longer, Grew-next, Grew-taken, Grew-took}
+use Rattle.rlsf_flex.proofs.Outcomes.{Took-named, Took-refused}
 use Rattle.rlsf_flex.proofs.Kept.{IsKeptPool-known}
 use Rattle.rlsf_flex.proofs.Rewritten.{IsFooted, IsFooted-none, IsFooted-written}
+use Rattle.rlsf_flex.proofs.Standing.{inner_in}
 use Rattle.rlsf_flex.proofs.growth.grow_kept.Given as given
 use Rattle.rlsf_flex.proofs.growth.grow_kept.Goals as goal
 use Rattle.rlsf_flex.proofs.growth.grow_kept.Goals.{In_ok-grown, Joined-supports_dealloc, then-supports_dealloc, else-supports_dealloc}
 
 pub realloc_inplace_grow-requires-clause-outstanding : goal.realloc_inplace_grow-requires-clause-outstanding
 realloc_inplace_grow-requires-clause-outstanding g c =
-    let (s, v) = c.requires.stands in
-    let (was, kept) = IsKeptPool-known v c.requires.kept in
-    ([], kept.rest, subst (g.S.FlexSource.owes c.args.source.now) kept.split v.owed)
+    let (was, kept) = IsKeptPool-known c.requires.stands c.requires.kept in
+    ([], kept.rest, subst (g.S.FlexSource.owes c.args.source.now) kept.split c.requires.stands.owed)
 
 pub realloc_inplace_grow-requires-clause-longer : goal.realloc_inplace_grow-requires-clause-longer
 realloc_inplace_grow-requires-clause-longer g c =
-    let (s, v) = c.requires.stands in
-    let (was, kept) = IsKeptPool-known v c.requires.kept in
+    let (was, kept) = IsKeptPool-known c.requires.stands c.requires.kept in
     let (room, whole, short) = pool_size_is _ _ g.row.FLLEN g.row.SLLEN c.args.wanted c.requires.valid c.requires.wanted in
     omega (arith, kept.nearly, c.requires.len, room)
 
 pub returns-in_err-grown-clause-step : goal.returns-in_err-grown-clause-step
-returns-in_err-grown-clause-step g c s v =
+returns-in_err-grown-clause-step g c =
+    let v = c.requires.stands in
+    let before = flex_contents c.args.tlsf.now c.args.kept.now c.args.source.now c.args.owed.now.ranges in
     let (was, kept) = IsKeptPool-known v c.requires.kept in
     let same = g.met.S.FlexSource.constant c.args.source.now c.realloc_inplace_grow.new.self (grow c.args.pool.range c.args.len c.realloc_inplace_grow.result) c.realloc_inplace_grow.ensures.leads in
     let y = c.realloc_inplace_grow.new.self in
     let owed = subst (g.S.FlexSource.owes y) (sym kept.split) (c.in_err-grown.ensures.owes [] kept.rest (subst (g.S.FlexSource.owes c.args.source.now) kept.split v.owed)) in
-    subst (λ o. Took g.row.FLLEN g.row.SLLEN g.S.FlexSource.terms g.S.FlexSource.owes (flex_contents c.args.tlsf.now c.args.kept.now c.args.source.now)
-    (flex_contents c.args.tlsf.now c.args.kept.now y) s c.args.wanted (outcome_of_growth o)) (sym c.from_residual.ensures)
-    (Took-refused c.args.wanted (flex_contents c.args.tlsf.now c.args.kept.now c.args.source.now) y s v same owed)
+    subst (λ o. Took g.row.FLLEN g.row.SLLEN g.S.FlexSource.terms g.S.FlexSource.owes before (flex_contents c.args.tlsf.now c.args.kept.now y c.args.owed.now.ranges) c.args.wanted (outcome_of_growth o)) (sym c.from_residual.ensures)
+    (Took-refused before y v same owed c.args.wanted)
 
--- the growth that came, in a state
-grew : (g : given.Over) (c : In_ok-grown g) (s : FlexState) → FlexStandsFor g.row.FLLEN g.row.SLLEN g.S.FlexSource.terms g.S.FlexSource.owes (flex_contents c.args.tlsf.now c.args.kept.now c.args.source.now) s
-    → Grew g.row.FLLEN g.row.SLLEN c.args.wanted g.S.FlexSource.terms g.S.FlexSource.owes (flex_contents c.args.tlsf.now c.args.kept.now c.args.source.now) s c.realloc_inplace_grow.new.self (kept_pool c.args.pool) c.args.len c.in_ok-grown.grown
-grew g c s v =
+-- the growth that came
+grew : (g : given.Over) (c : In_ok-grown g)
+    → Grew g.row.FLLEN g.row.SLLEN c.args.wanted g.S.FlexSource.terms g.S.FlexSource.owes (flex_contents c.args.tlsf.now c.args.kept.now c.args.source.now c.args.owed.now.ranges) c.realloc_inplace_grow.new.self (kept_pool c.args.pool) c.args.len c.in_ok-grown.grown
+grew g c =
+    let v = c.requires.stands in
     let (was, kept) = IsKeptPool-known v c.requires.kept in
     let (is_grown, owed) = c.in_ok-grown.ensures.owes [] kept.rest (subst (g.S.FlexSource.owes c.args.source.now) kept.split v.owed) in
-    record { before = v; size = c.requires.wanted; was = was; kept = kept; is_asked = c.requires.len; is_grown = is_grown; owed = owed }
+    record {
+      before = v;
+      size = c.requires.wanted;
+      was = was;
+      kept = kept;
+      is_asked = c.requires.len;
+      is_grown = is_grown;
+      owed = owed;
+      anywhere = λ front behind split. (c.in_ok-grown.ensures.owes front behind (subst (g.S.FlexSource.owes c.args.source.now) split v.owed)).0;
+    }
 
 pub read_footer-start-requires-clause-range : goal.read_footer-start-requires-clause-range
 read_footer-start-requires-clause-range g c =
-    let (s, v) = c.requires.stands in
-    let is_grew = grew g (goal.at.read_footer-start-requires-clause-range g c).In_ok-grown s v in
-    Houses-end (Houses-flex v) c.args.pool.range (subst (IsIn c.args.pool.range) (sym is_grew.kept.split) (inl refl))
+    let is_grew = grew g (goal.at.read_footer-start-requires-clause-range g c).In_ok-grown in
+    ends_here c.args.tlsf.now.memory c.requires.stands.well_formed c.args.pool.range (subst (IsIn c.args.pool.range) (sym is_grew.kept.split) (inl refl))
 
 pub read_footer-start-requires-clause-words : goal.read_footer-start-requires-clause-words
 read_footer-start-requires-clause-words g c =
-    let (s, v) = c.requires.stands in
-    let is_grew = grew g (goal.at.read_footer-start-requires-clause-words g c).In_ok-grown s v in
-    let footer = Houses-spare (Houses-flex v) c.args.pool.range (subst (IsIn c.args.pool.range) (sym is_grew.kept.split) (inl refl)) in
+    let is_grew = grew g (goal.at.read_footer-start-requires-clause-words g c).In_ok-grown in
+    let footer = spare_here c.args.tlsf.now.memory c.requires.stands.well_formed c.args.pool.range (subst (IsIn c.args.pool.range) (sym is_grew.kept.split) (inl refl)) in
     subst (λ m. IsWord m (footer_of c.args.pool.range) × IsWord m (footer_of c.args.pool.range + 8)) (sym c.memory_ref.ensures.memory) (footer.0.0, footer.1.0)
 
 pub write_footer-requires : goal.write_footer-requires
 write_footer-requires g c =
-    let (s, v) = c.requires.stands in
     let now = with_len c.args.pool.range c.in_ok-grown.grown in
-    let houses = Grew-houses c.requires.valid (grew g (goal.at.write_footer-requires g c).In_ok-grown s v) c.args.tlsf.now v.machine (refl, refl) in
-    let footer = Houses-spare houses now (inl refl) in
-    (search rules, (Houses-end houses now (inl refl), of_state v.machine (λ x. HasSpareFooter c.args.tlsf.now.memory x now) footer))
+    let (ends, footer) = Grew-footers c.requires.valid (grew g (goal.at.write_footer-requires g c).In_ok-grown) c.args.tlsf.now.memory c.requires.stands.machine.well_formed (refl, refl) now (inl refl) in
+    (search rules, (ends, footer))
 
 pub overflow_add-pool : goal.overflow_add-pool
 overflow_add-pool g c =
-    let (s, v) = c.requires.stands in
-    let is_grew = grew g (goal.at.overflow_add-pool g c).In_ok-grown s v in
-    let ends = Houses-end (Houses-flex v) c.args.pool.range (subst (IsIn c.args.pool.range) (sym is_grew.kept.split) (inl refl)) in
+    let is_grew = grew g (goal.at.overflow_add-pool g c).In_ok-grown in
+    let ends = ends_here c.args.tlsf.now.memory c.requires.stands.well_formed c.args.pool.range (subst (IsIn c.args.pool.range) (sym is_grew.kept.split) (inl refl)) in
     omega (arith, ends.1, is_grew.kept.within)
 
 pub overflow_sub-grown : goal.overflow_sub-grown
 overflow_sub-grown g c =
-    let (s, v) = c.requires.stands in
-    let (enough, more, long, some) = Grew-longer c.requires.valid (grew g (goal.at.overflow_sub-grown g c).In_ok-grown s v) in
+    let (enough, more, long) = Grew-longer c.requires.valid (grew g (goal.at.overflow_sub-grown g c).In_ok-grown) in
     omega (arith, enough)
 
 -- the footer was moved, or there is none
-moved : (g : given.Over) (c : Joined-supports_dealloc g) (s : FlexState)
-    → (h : Grew g.row.FLLEN g.row.SLLEN c.args.wanted g.S.FlexSource.terms g.S.FlexSource.owes (flex_contents c.args.tlsf.now c.args.kept.now c.args.source.now) s c.realloc_inplace_grow.new.self (kept_pool c.args.pool) c.args.len c.in_ok-grown.grown)
-    → IsInState g.row.FLLEN g.row.SLLEN c.if-supports_dealloc.tlsf s.machine
+moved : (g : given.Over) (c : Joined-supports_dealloc g)
+    → (h : Grew g.row.FLLEN g.row.SLLEN c.args.wanted g.S.FlexSource.terms g.S.FlexSource.owes (flex_contents c.args.tlsf.now c.args.kept.now c.args.source.now c.args.owed.now.ranges) c.realloc_inplace_grow.new.self (kept_pool c.args.pool) c.args.len c.in_ok-grown.grown)
+    → IsInState g.row.FLLEN g.row.SLLEN c.if-supports_dealloc.tlsf c.args.tlsf.now.state
     × IsFooted (g.S.FlexSource.terms c.args.source.now).dealloc c.args.tlsf.now.memory c.if-supports_dealloc.tlsf.memory (with_len c.args.pool.range c.in_ok-grown.grown) (first_start h.kept.rest) (first_len h.kept.rest)
-moved g c s h =
+moved g c h =
     let t = g.S.FlexSource.terms c.args.source.now in
     let a = c.args.tlsf.now in
     let now = with_len c.args.pool.range c.in_ok-grown.grown in
     let takes : c.supports_dealloc.result ≡ t.dealloc = subst (λ (e : Terms). c.supports_dealloc.result ≡ e.dealloc) (g.met.S.FlexSource.constant c.args.source.now c.realloc_inplace_grow.new.self (grow c.args.pool.range c.args.len c.realloc_inplace_grow.result) c.realloc_inplace_grow.ensures.leads) c.supports_dealloc.ensures in
-    let footer = Houses-spare (Grew-houses c.requires.valid h a h.before.machine (refl, refl)) now (inl refl) in
-    let Done : Allocator → Type 0 = λ d. IsInState g.row.FLLEN g.row.SLLEN d s.machine × IsFooted t.dealloc a.memory d.memory now (first_start h.kept.rest) (first_len h.kept.rest) in
+    let Done : Allocator → Type 0 = λ d. IsInState g.row.FLLEN g.row.SLLEN d a.state × IsFooted t.dealloc a.memory d.memory now (first_start h.kept.rest) (first_len h.kept.rest) in
     elim c.if-supports_dealloc.branch [
       | then-supports_dealloc w ↦
           let f = subst (Footers a.memory) h.kept.split (h.before.footers (sym takes ∙ w.if-supports_dealloc.true)) in
           subst Done (sym w.tlsf-is) (
-            stays_in h.before.machine w.write_footer.new.tlsf w.write_footer.ensures.state w.write_footer.ensures.stands,
-            IsFooted-written _ _ _ _ _ _ _ _ w.write_footer.ensures.footer
+            stays_in (inner_in h.before) w.write_footer.new.tlsf w.write_footer.ensures.state w.write_footer.ensures.stands,
+            IsFooted-written _ _ _ _ _ _ _ _ (sym takes ∙ w.if-supports_dealloc.true) w.write_footer.ensures.footer
                 (subst (λ m. w.read_footer-start.result.0 ≡ word_at m (footer_of c.args.pool.range)) w.memory_ref.ensures.memory w.read_footer-start.ensures.0 ∙ f.0)
                 (subst (λ m. w.read_footer-start.result.1 ≡ word_at m (footer_of c.args.pool.range + 8)) w.memory_ref.ensures.memory w.read_footer-start.ensures.1 ∙ f.1),
           )
-      | else-supports_dealloc w ↦ subst Done (sym w.tlsf-is) (h.before.machine, IsFooted-none _ _ _ _ _ (sym takes ∙ w.if-supports_dealloc.false))
+      | else-supports_dealloc w ↦ subst Done (sym w.tlsf-is) (inner_in h.before, IsFooted-none _ _ _ _ _ (sym takes ∙ w.if-supports_dealloc.false))
     ]
 
 pub append_free_block_ptr-taken-requires : goal.append_free_block_ptr-taken-requires
 append_free_block_ptr-taken-requires g c =
-    let (s, v) = c.requires.stands in
-    let h = grew g (goal.at.append_free_block_ptr-taken-requires g c).In_ok-grown s v in
-    let (stands, footed) = moved g (goal.at.append_free_block_ptr-taken-requires g c).Joined-supports_dealloc s h in
-    (search rules, of_state stands (λ x. IsNext (range_of c.if-supports_dealloc.tlsf.memory) x (behind (kept_pool c.args.pool) c.in_ok-grown.grown)) (Grew-next c.requires.valid h c.if-supports_dealloc.tlsf footed.place))
+    let h = grew g (goal.at.append_free_block_ptr-taken-requires g c).In_ok-grown in
+    let (stands, footed) = moved g (goal.at.append_free_block_ptr-taken-requires g c).Joined-supports_dealloc h in
+    (search rules, of_state stands (λ x. IsNext (range_of c.if-supports_dealloc.tlsf.memory) x (behind (kept_pool c.args.pool) c.in_ok-grown.grown)) (Grew-next c.requires.valid h c.if-supports_dealloc.tlsf.memory footed.place))
 
 pub overflow_add-kept : goal.overflow_add-kept
 overflow_add-kept g c =
-    let (s, v) = c.requires.stands in
-    let h = grew g (goal.at.overflow_add-kept g c).In_ok-grown s v in
-    let (stands, footed) = moved g (goal.at.overflow_add-kept g c).Joined-supports_dealloc s h in
+    let h = grew g (goal.at.overflow_add-kept g c).In_ok-grown in
+    let (stands, footed) = moved g (goal.at.overflow_add-kept g c).Joined-supports_dealloc h in
     let d = c.if-supports_dealloc.tlsf in
     let (t, step, after, spare) = stepped stands c.append_free_block_ptr-taken.new.self (λ x. Appends g.row.FLLEN x (behind (kept_pool c.args.pool) c.in_ok-grown.grown) c.append_free_block_ptr-taken.result) c.append_free_block_ptr-taken.ensures.step in
-    let (taken, pool) = Grew-taken c.requires.valid h d t c.append_free_block_ptr-taken.result stands footed.place step in
-    let ends = Houses-end (Grew-houses c.requires.valid h d stands footed.place) (with_len c.args.pool.range c.in_ok-grown.grown) (inl refl) in
+    let (pool, taken) = Grew-taken c.requires.valid h t c.append_free_block_ptr-taken.result step in
+    let (ends, footer) = Grew-footers c.requires.valid h d.memory stands.stands.well_formed footed.place (with_len c.args.pool.range c.in_ok-grown.grown) (inl refl) in
     let longer = Grew-longer c.requires.valid h in
     omega (arith, taken.within, ends.1, longer.0)
 
 pub returns-clause-step : goal.returns-clause-step
-returns-clause-step g c s v =
-    let h = grew g (goal.at.returns-clause-step g c).In_ok-grown s v in
-    let (stands, footed) = moved g (goal.at.returns-clause-step g c).Joined-supports_dealloc s h in
+returns-clause-step g c =
+    let h = grew g (goal.at.returns-clause-step g c).In_ok-grown in
+    let (stands, footed) = moved g (goal.at.returns-clause-step g c).Joined-supports_dealloc h in
     let d = c.if-supports_dealloc.tlsf in
     let same = g.met.S.FlexSource.constant c.args.source.now c.realloc_inplace_grow.new.self (grow c.args.pool.range c.args.len c.realloc_inplace_grow.result) c.realloc_inplace_grow.ensures.leads in
     let (t, step, after, spare) = stepped stands c.append_free_block_ptr-taken.new.self (λ x. Appends g.row.FLLEN x (behind (kept_pool c.args.pool) c.in_ok-grown.grown) c.append_free_block_ptr-taken.result) c.append_free_block_ptr-taken.ensures.step in
-    Grew-took c.requires.valid h d c.append_free_block_ptr-taken.new.self t c.append_free_block_ptr-taken.result same stands footed step after spare c.append_free_block_ptr-taken.ensures.place
+    Took-named after.state (c.grow.ensures ∙ ap (longer c.in_ok-grown.grown) h.kept.split)
+    (Grew-took c.requires.valid h d c.append_free_block_ptr-taken.new.self t c.append_free_block_ptr-taken.result same stands footed step after spare c.append_free_block_ptr-taken.ensures.place)
 
 pub returns-clause-place : goal.returns-clause-place
 returns-clause-place g c =
@@ -153,4 +155,16 @@ pub returns-clause-copied : goal.returns-clause-copied
 returns-clause-copied g c = elim c.if-supports_dealloc.branch [
   | then-supports_dealloc w ↦ c.append_free_block_ptr-taken.ensures.copied ∙ ap (λ (d : Allocator). d.memory.copied) w.tlsf-is ∙ w.write_footer.ensures.copied
   | else-supports_dealloc w ↦ c.append_free_block_ptr-taken.ensures.copied ∙ ap (λ (d : Allocator). d.memory.copied) w.tlsf-is
+]
+
+pub returns-clause-aligns : goal.returns-clause-aligns
+returns-clause-aligns g c = elim c.if-supports_dealloc.branch [
+  | then-supports_dealloc w ↦ c.append_free_block_ptr-taken.ensures.aligns ∙ ap (λ (d : Allocator). align_at d.state) w.tlsf-is ∙ ap align_at w.write_footer.ensures.state
+  | else-supports_dealloc w ↦ c.append_free_block_ptr-taken.ensures.aligns ∙ ap (λ (d : Allocator). align_at d.state) w.tlsf-is
+]
+
+pub returns-clause-bytes : goal.returns-clause-bytes
+returns-clause-bytes g c = elim c.if-supports_dealloc.branch [
+  | then-supports_dealloc w ↦ c.append_free_block_ptr-taken.ensures.bytes ∙ ap (λ (d : Allocator). bytes_at d.state) w.tlsf-is ∙ ap bytes_at w.write_footer.ensures.state
+  | else-supports_dealloc w ↦ c.append_free_block_ptr-taken.ensures.bytes ∙ ap (λ (d : Allocator). bytes_at d.state) w.tlsf-is
 ]

@@ -1,6 +1,6 @@
-use Rattle.std.proofs.Common.{replicate, arith, [], refl, sym, ◌∙◌, ap, subst}
-use Rattle.rlsf_flex.proofs.Outside.{KeepsOutside-stands}
-use Rattle.rlsf_flex_runs.specs.FlexRuns.{with_run, without_source}
+use Rattle.std.proofs.Common.{length, replicate, arith, refl, sym, ◌∙◌, ap, subst}
+use Rattle.rlsf_flex_runs.specs.FlexRuns.{without_source}
+use Rattle.rlsf_flex_runs.specs.Steps.Names.{run_of}
 use Rattle.rlsf_machine.specs.Run.{Fills}
 use Rattle.rlsf_runs.specs.Names.{address}
 use Rattle.rlsf_runs.specs.Runs.{with_machine}
@@ -8,33 +8,29 @@ use Rattle.rlsf_runs.proofs.Named.{unnamed}
 use Rattle.rlsf_text.specs.declared.op.Answer.TheVariants.{Refused}
 use Rattle.rlsf_text.specs.declared.op.Op.TheVariants.{Fill}
 use Rattle.rlsf_text.specs.declared.op.TraceError.TheVariants.{UnknownName}
-use Rattle.rlsf_flex_runs.proofs.NamedPayloads.{filled, LeadsOn-nothing, owned}
+use Rattle.rlsf_flex_runs.proofs.NamedPayloads.{filled, LeadsOn-nothing, owned, some_live}
 use Rattle.rlsf_flex_runs.proofs.payloads.fill.Goals as goal
 
 pub returns-in_default : goal.returns-in_default
-returns-in_default g c = λ s at.
-    LeadsOn-nothing at (Fill c.args.name c.args.byte) (Refused UnknownName)
-    (refl, without_source s, (unnamed at.are_named c.args.name (sym c.payload_of.ensures ∙ c.in_default.is), refl), refl, refl)
+returns-in_default g c =
+    LeadsOn-nothing c.requires (Fill c.args.name c.args.byte) (Refused UnknownName)
+    (refl, without_source (run_of c.args.flex.now c.args.names.now), (unnamed c.requires.are_named c.args.name (sym c.payload_of.ensures ∙ c.in_default.is), refl), refl, refl)
 
 pub payload_mut-requires : goal.payload_mut-requires
-payload_mut-requires g c =
-    let (s, at) = c.requires in
-    let (u, _, holds, _) = owned at c.args.name c.in-Some.payload (sym c.payload_of.ensures ∙ c.in-Some.is) in
-    (omega arith, (s.flex, at.stands, (u, holds)))
+payload_mut-requires g c = (omega arith, some_live c.requires c.args.name c.in-Some.payload (sym c.payload_of.ensures ∙ c.in-Some.is))
 
 pub returns : goal.returns
-returns g c = λ s at.
+returns g c =
     let p = c.in-Some.payload in
     let w = c.fill.new.self in
-    let (u, owns, holds, _) = owned at c.args.name p (sym c.payload_of.ensures ∙ c.in-Some.is) in
-    let (m, step, stands, spare) = (c.payload_mut.ensures.meaning s.flex u at.stands holds).1 w c.fill.ensures.len in
-    let bytes = c.fill.ensures.after (λ y e. e) ∙ ap (λ n. replicate n c.args.byte) (c.payload_mut.ensures.len s.flex u at.stands holds) in
-    let fills = subst (λ l. Fills s.flex.machine u.payload l m) bytes (subst (λ a. Fills s.flex.machine a w m) (sym holds.1) step) in
-    record {
-      notes = [];
-      state = with_run s (with_machine m (without_source s));
-      does = (refl, with_machine m (without_source s), (u, owns, m, fills, refl), refl, refl);
-      leads_by = refl;
-      outside = KeepsOutside-stands at.stands stands (c.payload_mut.ensures.place w) spare;
-      at = filled at m stands (address p) w step;
-    }
+    let s = run_of c.args.flex.now c.args.names.now in
+    let (u, owns, holds, its, long) = owned c.requires c.args.name p (sym c.payload_of.ensures ∙ c.in-Some.is) in
+    let bytes = c.fill.ensures.after (λ y e. e) ∙ ap (λ n. replicate n c.args.byte) (ap length (c.payload_mut.ensures.value ∙ its) ∙ long) in
+    let rest = c.payload_mut.ensures.rest w in
+    filled c.requires rest.2 rest.3 (Fill c.args.name c.args.byte) (address p) w (λ m step. (
+      refl,
+      with_machine m (without_source s),
+      (u, owns, m, subst (λ l. Fills s.flex.machine u.payload l m) bytes (subst (λ a. Fills s.flex.machine a w m) (sym holds.1) step), refl),
+      refl,
+      refl,
+    )) (c.payload_mut.ensures.meaning w c.fill.ensures.len)

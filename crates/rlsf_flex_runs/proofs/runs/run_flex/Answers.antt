@@ -1,12 +1,13 @@
-use Rattle.std.proofs.Common.{◌++◌, [], ◌∷◌, arith, sym, ◌∙◌, ap}
+use Rattle.std.proofs.Common.{◌++◌, [], ◌∷◌, arith, refl, sym, ◌∙◌, ap}
 use Rattle.std.proofs.lemmas.List.{append_assoc, append-nil, get_or_default}
 use Rattle.rlsf_runs.proofs.Outcomes.{when_ok}
+use Rattle.rlsf_flex_runs.specs.Steps.Names.{run_of}
 use Rattle.rlsf_flex_runs.proofs.Underway.{IsUnderway-beginning, IsUnderway-next, RunsFlex-end}
 use Rattle.rlsf_flex_runs.proofs.runs.run_flex.Goals as goal
 
 pub loop-op-init : goal.loop-op-init
 loop-op-init g c =
-    let begun = IsUnderway-beginning {ops = c.args.ops.now} c.requires c.in_ok-names.ensures.empty c.in_ok-names.ensures.spare in
+    let begun = IsUnderway-beginning {ops = c.args.ops.now} c.memory_ref.ensures.stands c.requires c.in_ok-names.ensures.empty c.in_ok-names.ensures.spare in
     (([], c.try_reserve.ensures.items ∙ sym (append-nil c.args.answers.now.items), begun), omega (arith, c.in_ok-try_reserve.ensures.ok))
 
 pub loop-op-preserved : goal.loop-op-preserved
@@ -22,7 +23,4 @@ loop-op-preserved g c =
 pub returns-clause-runs : goal.returns-clause-runs
 returns-clause-runs g c =
     let ((given, items, u), _) = c.loop-op.invariant in
-    (given, u.notes, u.state, items, RunsFlex-end u c.loop-op-test.false, u.leads_by, u.at.stands, u.outside)
-
-pub returns-clause-place : goal.returns-clause-place
-returns-clause-place g c = let ((given, items, u), _) = c.loop-op.invariant in u.outside.place
+    (given, u.notes, run_of c.loop-op.flex c.loop-op.names, items, RunsFlex-end u c.loop-op-test.false, u.leads_by, refl, u.outside)

@@ -1,43 +1,39 @@
-use Rattle.std.proofs.Common.{arith, length, refl, sym, ◌∙◌, ap}
-use Rattle.std.specs.Int.NonZero.{non_zero_usize_get}
-use Rattle.rlsf_base.specs.Range.{range_at}
-use Rattle.rlsf_base.specs.Space.{bytes_in}
-use Rattle.rlsf_flex.specs.StandsFor.{flex_contents}
-use Rattle.rlsf_machine.specs.FlexState.{with_machine}
-use Rattle.rlsf_tlsf.proofs.Standing.{bytes_in as bytes_held, some_live_in}
-use Rattle.rlsf_flex.proofs.Calls.{filled, length-usable}
-use Rattle.rlsf_flex.proofs.Loans.{left, live_inside}
+use Rattle.std.proofs.Common.{length, refl, sym, ap, subst}
+use Rattle.rlsf_base.specs.Addr.{at}
+use Rattle.std.proofs.Common.{IsSome}
+use Rattle.rlsf_machine.specs.Callers.{align_at}
+use Rattle.rlsf_flex.specs.StandsFor.{FlexContents}
+use Rattle.rlsf_tlsf.specs.Lending.{written}
+use Rattle.rlsf_flex.proofs.Calls.{steps_alone}
+use Rattle.rlsf_flex.proofs.Loans.{left}
+use Rattle.rlsf_flex.proofs.Standing.{flex_stood_at}
 use Rattle.rlsf_flex.proofs.flex.FlexTlsf.payload_mut.Goals as goal
-
-pub payload_mut-requires : goal.payload_mut-requires
-payload_mut-requires g c =
-    let addr = non_zero_usize_get c.args.addr in
-    let fields = flex_contents c.self.inside.tlsf c.self.inside.kept c.self.inside.source in
-    let (s, u, h, holds) = live_inside g.row.FLLEN g.row.SLLEN g.S.FlexSource.terms g.S.FlexSource.owes addr fields c.args.self.now c.self.view_is c.requires in
-    (omega arith, some_live_in h.machine addr (u, holds))
 
 pub invariant_of-self-lent : goal.invariant_of-self-lent
 invariant_of-self-lent g c = λ w.
-    let addr = non_zero_usize_get c.args.addr in
-    let fields = flex_contents c.self.inside.tlsf c.self.inside.kept c.self.inside.source in
-    let (s, u, h, holds) = live_inside g.row.FLLEN g.row.SLLEN g.S.FlexSource.terms g.S.FlexSource.owes addr fields c.args.self.now c.self.view_is c.requires in
-    let (m, stands) = left h addr u holds (length c.payload_mut.result.now) (ap length c.payload_mut.ensures.value ∙ length-usable h.machine addr u holds) w (c.payload_mut.ensures.rest w).1 in
-    record { valid = c.self.invariant.valid; stands = (with_machine s m, stands) }
+    let addr = at c.args.addr in
+    let live = subst (λ (old : FlexContents g.row.S.Denot). IsSome (align_at old.state.machine addr)) (sym c.self.view_is) c.requires in
+    let stands = left c.self.invariant.stands addr w live (length c.payload_mut.result.now) (ap length c.payload_mut.ensures.value) (c.payload_mut.ensures.rest w).1 in
+    record { valid = c.self.invariant.valid; stands = stands }
 
 pub returns : goal.returns
 returns g c =
-    let addr = non_zero_usize_get c.args.addr in
-    let fields = flex_contents c.self.inside.tlsf c.self.inside.kept c.self.inside.source in
-    let (s, u, h, holds) = live_inside g.row.FLLEN g.row.SLLEN g.S.FlexSource.terms g.S.FlexSource.owes addr fields c.args.self.now c.self.view_is c.requires in
-    let here = c.payload_mut.ensures.value ∙ bytes_held h.machine addr u holds in
-    let len = ap length c.payload_mut.ensures.value ∙ length-usable h.machine addr u holds in
+    let addr = at c.args.addr in
+    let is = c.payload_mut.ensures in
+    let stands = c.self.invariant.stands in
+    let live = subst (λ (old : FlexContents g.row.S.Denot). IsSome (align_at old.state.machine addr)) (sym c.self.view_is) c.requires in
     rw (← c.self.view_is) (
       (refl, λ w. refl),
       record {
         writes_back = tt;
-        value = here ∙ sym (h.machine.stands.payloads.bytes u holds.0) ∙ (λ i. bytes_in c.self.inside.tlsf.memory (range_at (holds.1 i) (sym len i)));
-        len = λ s u h holds. ap length c.payload_mut.ensures.value ∙ length-usable h.machine addr u holds;
-        meaning = λ s u h holds. (c.payload_mut.ensures.value ∙ bytes_held h.machine addr u holds, λ w long. filled h (c.payload_mut.ensures.rest w).1 addr w (c.payload_mut.ensures.meaning w long));
-        place = λ w. (c.payload_mut.ensures.rest w).1;
+        value = is.value;
+        meaning = λ w long. steps_alone stands (written c.self.inside.tlsf addr (length c.payload_mut.result.now) w) _ (is.rest w).1 (is.rest w).0 (is.meaning w long);
+        filled = is.filled;
+        bytes = is.bytes;
+        aligns = is.aligns;
+        lengths = is.lengths;
+        rest = λ w.
+            let (chunks, place, stood, touches, copied) = is.rest w in
+            (chunks, refl, refl, place, flex_stood_at (left stands addr w live (length c.payload_mut.result.now) (ap length is.value) place), touches, copied);
       },
     )

@@ -1,0 +1,7 @@
+-- the ranges may move to another thread.
+use denote.Param.Send.{IsSend}
+use Rattle.rlsf_flex.proofs.Crossing.{GhostRanges-send}
+use Rattle.rlsf_flex.specs.contracts.ranges.GhostRanges.{the_row}
+
+pub send : IsSend the_row
+send = GhostRanges-send

@@ -1,0 +1,53 @@
+//! The ranges that are outstanding at the source, as ghost data: they take no bytes and no time.
+ghost use Rattle.std.specs.Prelude.{◌≡◌, ℕ, List, [], ◌∷◌};
+ghost use Rattle.std.specs.Borrow.{ftrue};
+ghost use Rattle.rlsf_base.specs.declared.memory.range.Range.{Range};
+ghost use Rattle.rlsf_machine.specs.Growth.{longer};
+
+use rlsf_base::memory::Range;
+use std::marker::{Model, Send, Sync};
+
+/// The ranges, the newest first.
+#[derive(Drop)]
+pub(crate) struct GhostRanges {
+    pub(crate) ghost ranges: { List Range },
+}
+
+const _: () = prove!(size_of::<GhostRanges>() == 0);
+
+impl Model for GhostRanges {
+    ghost also_owns = { λ _. ftrue };
+}
+
+unsafe impl Send for GhostRanges {}
+
+unsafe impl Sync for GhostRanges {}
+
+impl GhostRanges {
+    /// None is outstanding.
+    pub(crate) fn new() -> GhostRanges
+        ensures { result.ranges ≡ [] }
+    {
+        GhostRanges {}
+    }
+
+    /// Moves on to ranges that are told of those before and two numbers.
+    fn advance(&mut self, x: usize, y: usize)
+        ghost to: { ℕ → ℕ → List Range → List Range }
+        ensures { self.new.ranges ≡ to x y self.old.ranges }
+    {}
+
+    /// A range is outstanding that is newer than all others.
+    pub(crate) fn give(&mut self, range: Range)
+        ensures { self.new.ranges ≡ range ∷ self.old.ranges }
+    {
+        self.advance(range.start, range.len);
+    }
+
+    /// The newest range has grown to a length.
+    pub(crate) fn grow(&mut self, len: usize)
+        ensures { self.new.ranges ≡ longer len self.old.ranges }
+    {
+        self.advance(len, 0);
+    }
+}
