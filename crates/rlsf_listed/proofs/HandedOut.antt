@@ -11,6 +11,7 @@ use Rattle.rlsf_machine.specs.Terms.{IsGiven, IsGrown, with_len}
 use Rattle.rlsf_machine.specs.WellFormed.{covers, coverage, itself}
 use Rattle.rlsf_machine.proofs.Between.{IsIn-between, coverage-between}
 use Rattle.rlsf_machine.proofs.Coverage.{IsIn-append, IsIn-append_left, IsIn-append_right, inside, before, behind, covers-before, covers-behind, covers-split, coverage-append, where_is}
+use Rattle.rlsf_listed.specs.declared.listed.Question.{Question}
 use Rattle.rlsf_listed.specs.Listed.{HandsOut, Listed, MayOwe}
 
 -- one of two ranges ends where the other begins, or before
@@ -61,14 +62,18 @@ new_range s t r out owed may = subst (λ (u : Listed). MayOwe u (r ∷ owed)) (s
       | behind none high ↦ omega (arith, may.disjoint a)
     ]
 
+-- what a source remembers doesn't change what it may owe
+pub remembering : (t u : Listed) (asked : List Question) → u ≡ record t { asked = asked } → (owed : List Range) → MayOwe t owed → MayOwe u owed
+remembering t u asked same owed may = subst (λ (v : Listed). MayOwe v owed) (sym same) (record { in_space = may.in_space; taken = may.taken; disjoint = may.disjoint })
+
 -- what an answer to the question for a range leaves
-pub answered : (s t u : Listed) (min_size : ℕ) (answer : Option Range)
-    → MatchOption answer (t ≡ s) (λ r. HandsOut s r t × (min_size ≤ r.len) × IsPowerOfTwo s.terms.min_align × (r.start % s.terms.min_align ≡ 0)) → u ≡ t
+pub answered : (s t u : Listed) (asked : List Question) (min_size : ℕ) (answer : Option Range)
+    → MatchOption answer (t ≡ s) (λ r. HandsOut s r t × (min_size ≤ r.len) × IsPowerOfTwo s.terms.min_align × (r.start % s.terms.min_align ≡ 0)) → u ≡ record t { asked = asked }
     → (owed : List Range) → MayOwe s owed → MatchOption answer (MayOwe u owed) (λ r. IsGiven s.terms owed min_size r × MayOwe u (r ∷ owed))
-answered s t u min_size None as_before same owed may = subst (λ (v : Listed). MayOwe v owed) (sym (same ∙ as_before)) may
-answered s t u min_size (Some r) (out, long, power, aligned) same owed may = (
+answered s t u asked min_size None as_before same owed may = remembering t u asked same owed (subst (λ (v : Listed). MayOwe v owed) (sym as_before) may)
+answered s t u asked min_size (Some r) (out, long, power, aligned) same owed may = (
   record { lies_in = out.vacant.lies_in; apart = λ a low high. omega (arith, may.taken a, out.vacant.apart a low high); long = long; power = power; aligned = aligned },
-  subst (λ (v : Listed). MayOwe v (r ∷ owed)) (sym same) (new_range s t r out owed may),
+  remembering t u asked same (r ∷ owed) (new_range s t r out owed may),
 )
 
 -- the bytes behind a range that grows to a length
@@ -119,13 +124,13 @@ longer_range s t r min_new_len len longer long out xs ys may = (
     ]
 
 -- what an answer to the question for growth leaves
-pub answered_growth : (s t u : Listed) (r : Range) (min_new_len : ℕ) (answer : Option ℕ) → r.len ≤ min_new_len
-    → MatchOption answer (t ≡ s) (λ len. HandsOut s (behind_range r len) t × (min_new_len ≤ len)) → u ≡ t
+pub answered_growth : (s t u : Listed) (asked : List Question) (r : Range) (min_new_len : ℕ) (answer : Option ℕ) → r.len ≤ min_new_len
+    → MatchOption answer (t ≡ s) (λ len. HandsOut s (behind_range r len) t × (min_new_len ≤ len)) → u ≡ record t { asked = asked }
     → (xs ys : List Range) → MayOwe s (xs ++ r ∷ ys) → MatchOption answer (MayOwe u (xs ++ r ∷ ys)) (λ len. IsGrown s.terms (xs ++ ys) r min_new_len len × MayOwe u (xs ++ with_len r len ∷ ys))
-answered_growth s t u r min_new_len None longer as_before same xs ys may = subst (λ (v : Listed). MayOwe v (xs ++ r ∷ ys)) (sym (same ∙ as_before)) may
-answered_growth s t u r min_new_len (Some len) longer (out, long) same xs ys may =
+answered_growth s t u asked r min_new_len None longer as_before same xs ys may = remembering t u asked same (xs ++ r ∷ ys) (subst (λ (v : Listed). MayOwe v (xs ++ r ∷ ys)) (sym as_before) may)
+answered_growth s t u asked r min_new_len (Some len) longer (out, long) same xs ys may =
     let (grown, owes) = longer_range s t r min_new_len len longer long out xs ys may in
-    (grown, subst (λ (v : Listed). MayOwe v (xs ++ with_len r len ∷ ys)) (sym same) owes)
+    (grown, remembering t u asked same (xs ++ with_len r len ∷ ys) owes)
 
 -- a range goes back
 pub gone_range : (s : Listed) (r : Range) (xs ys : List Range) → MayOwe s (xs ++ r ∷ ys) → MayOwe s (xs ++ ys)

@@ -1,1 +1,3 @@
 pub mod HandedOut
+pub mod OneByte
+pub mod Remembered

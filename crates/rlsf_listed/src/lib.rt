@@ -2,6 +2,8 @@
 #![tactic(auto)]
 
 mod listed;
+#[cfg(test)]
+mod questions;
 mod ranges;
 
 pub use listed::{Capabilities, ListedSource, Question, SourceAnswer};

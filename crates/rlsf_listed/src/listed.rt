@@ -3,7 +3,7 @@
 ghost use Rattle.std.specs.Prelude.{◌≡◌, ◌≤◌, ◌-◌, ◌%◌, [], IfOk, MatchOption};
 ghost use Rattle.rlsf_base.specs.PowerOfTwo.{IsPowerOfTwo};
 ghost use Rattle.rlsf_base.specs.Range.{end_of, range_at};
-ghost use Rattle.rlsf_listed.specs.Listed.{HandsOut, KeepsTerms, MayOwe};
+ghost use Rattle.rlsf_listed.specs.Listed.{HandsOut, MayOwe, Remembers, remembered};
 
 use crate::ranges::hand_out;
 use rlsf_base::memory::Range;
@@ -64,14 +64,21 @@ pub struct ListedSource {
 }
 
 impl Model for ListedSource {
+    ghost use Rattle.std.specs.Prelude.{◌≤◌};
+    ghost use Rattle.std.specs.Vec.{vec_capacity};
     ghost use Rattle.rlsf_base.specs.PowerOfTwo.{IsPowerOfTwo};
     ghost use Rattle.rlsf_listed.specs.Listed.{Listed};
 
     ghost Value = { Listed };
 
-    ghost view = { λ s. record { terms = record { space = s.space; dealloc = s.capabilities.dealloc; grow = s.capabilities.grow; contiguous = s.capabilities.contiguous; min_align = s.capabilities.min_align }; taken = s.taken.items } };
+    ghost view = { λ s. record {
+      terms = record { space = s.space; dealloc = s.capabilities.dealloc; grow = s.capabilities.grow; contiguous = s.capabilities.contiguous; min_align = s.capabilities.min_align };
+      taken = s.taken.items;
+      room = s.room;
+      asked = s.asked.items;
+    } };
 
-    ghost invariant = { λ s. IsPowerOfTwo s.capabilities.min_align };
+    ghost invariant = { λ s. IsPowerOfTwo s.capabilities.min_align × (s.room ≤ vec_capacity s.asked) };
 }
 
 impl ListedSource {
@@ -88,6 +95,8 @@ impl ListedSource {
         requires power { IsPowerOfTwo capabilities.min_align }
         ensures terms { IfOk result (λ source. source.terms ≡ record { space = space; dealloc = capabilities.dealloc; grow = capabilities.grow; contiguous = capabilities.contiguous; min_align = capabilities.min_align }) }
         ensures owed { IfOk result (λ source. MayOwe source []) }
+        ensures room { IfOk result (λ source. source.room ≡ questions) }
+        ensures asked { IfOk result (λ source. source.asked ≡ []) }
     {
         let asked = Vec::with_capacity(alloc, questions)?;
         let taken = Vec::with_capacity(alloc, questions)?;
@@ -102,8 +111,10 @@ impl ListedSource {
         })
     }
 
-    /// What it was asked so far, in order.
-    pub fn asked(&self) -> &[Question] {
+    /// What it was asked so far, in order: all that there was room for.
+    pub fn asked(&self) -> &[Question]
+        ensures { result.now ≡ self.now.asked }
+    {
         &self.asked
     }
 
@@ -121,10 +132,10 @@ impl ListedSource {
 
     /// Remembers a question, if there is room for it.
     fn remember(&mut self, question: Question)
-        ensures { self.new ≡ self.old }
+        ensures { self.new ≡ record self.old { asked = remembered self.old.room self.old.asked question } }
     {
         if self.asked.len() < self.room {
-            let _ = self.asked.push(question);
+            self.asked.push_reserved(question);
         }
     }
 
@@ -175,7 +186,7 @@ impl FlexSource for ListedSource {
 
     ghost owes = { MayOwe };
 
-    ghost leads = { KeepsTerms };
+    ghost leads = { Remembers };
 
     fn alloc(&mut self, min_size: usize) -> Option<Range> {
         let given = self.given(min_size);
@@ -209,5 +220,5 @@ impl FlexSource for ListedSource {
         self.capabilities.min_align
     }
 
-    ghost constant = { λ x y n led. led };
+    ghost constant = { λ x y n led. led.terms };
 }
