@@ -35,12 +35,14 @@ pub fn replays(rt: &impl Abort, alloc: Global, cases: &[(&[u8], &str)]) -> Resul
     Ok(())
 }
 
-static TEXTS: [(&[u8], &str); 16] = [
+static TEXTS: [(&[u8], &str); 17] = [
     // A first run.
     (
         FIRST_RUN,
         "insert some 96\nalloc 1 at 4112\nalloc 2 at 4144\nalloc 3 none\nstatus 0",
     ),
+    // A first line alone.
+    (b"8x8 4096 96", "status 0"),
     // Memory that the machine lacks.
     (
         b"8x8 1 18446744073709551614\nalloc 1 0 1\n",

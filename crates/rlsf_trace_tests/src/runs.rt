@@ -17,7 +17,7 @@ use std::test::Fail;
 /// classes no chunk is too long for it.
 type Lines = (&'static str, &'static [(&'static str, &'static str)]);
 
-static RUNS: [Lines; 14] = [
+static RUNS: [Lines; 15] = [
     // One answer an op.
     (
         "8x8 4096 4096",
@@ -55,6 +55,22 @@ static RUNS: [Lines; 14] = [
             ("put 1 15 3", "put 1 done"),
             ("get 2 0", "get 2 2"),
             ("get 1 15", "get 1 3"),
+        ],
+    ),
+    // Bytes are written and read up to a payload's end, and a payload is given back once.
+    (
+        "8x8 4096 4096",
+        &[
+            ("insert 4096 96", "insert some 96"),
+            ("alloc 1 0 1", "alloc 1 at 4112"),
+            ("alloc 2 0 1", "alloc 2 at 4144"),
+            ("fill 1 255", "fill 1 done"),
+            ("put 2 15 7", "put 2 done"),
+            ("put 2 16 7", "refused 4 BadOffset"),
+            ("get 1 15", "get 1 255"),
+            ("get 2 15", "get 2 7"),
+            ("free 1", "free 1 done"),
+            ("free 1", "refused 1 UnknownName"),
         ],
     ),
     // Ranges lie in the memory and touch no pool.

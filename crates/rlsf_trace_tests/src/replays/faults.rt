@@ -3,7 +3,7 @@
 use super::replays;
 use std::test::Fail;
 
-static FAULTS: [(&[u8], &str); 37] = [
+static FAULTS: [(&[u8], &str); 47] = [
     // Of the first line.
     (b"", "line 1: FieldCount, status 1"),
     (b"\n", "line 1: FieldCount, status 1"),
@@ -27,12 +27,21 @@ static FAULTS: [(&[u8], &str); 37] = [
     (b"8x8 0 18446744073709551615", "line 1: ZeroStart, status 1"),
     (b"8x8 00000000000000000000 0", "line 1: ZeroStart, status 1"),
     (b"8x8 1 18446744073709551615", "line 1: TooLong, status 1"),
+    (b"9x9 0 0", "line 1: Config, status 1"),
+    (b"8x8  4096", "line 1: BadNumber, status 1"),
+    (
+        b"8x8 4096 18446744073709551616",
+        "line 1: BadNumber, status 1",
+    ),
+    (b"8x8 0 0", "line 1: ZeroStart, status 1"),
+    (b"8x8 18446744073709551615 1", "line 1: TooLong, status 1"),
     // Of other lines.
     (b"8x8 4096 96\n\n", "line 2: UnknownOp, status 1"),
     (b"8x8 4096 96\n insert 1 1\n", "line 2: UnknownOp, status 1"),
     (b"8x8 4096 96\nInsert 1 1\n", "line 2: UnknownOp, status 1"),
     (b"8x8 4096 96\ninsert\t1 1\n", "line 2: UnknownOp, status 1"),
     (b"8x8 4096 96\n\xff\n", "line 2: UnknownOp, status 1"),
+    (b"8x8 4096 96\n\xff", "line 2: UnknownOp, status 1"),
     (b"8x8 4096 96\r\ninsert", "line 1: BadNumber, status 1"),
     (b"8x8 4096 96\ninsert", "line 2: FieldCount, status 1"),
     (
@@ -43,7 +52,9 @@ static FAULTS: [(&[u8], &str); 37] = [
         b"8x8 4096 96\ninsert x 1 1\n",
         "line 2: FieldCount, status 1",
     ),
+    (b"8x8 4096 96\ninsert 4096", "line 2: FieldCount, status 1"),
     (b"8x8 4096 96\nalloc 1 1\n", "line 2: FieldCount, status 1"),
+    (b"8x8 4096 96\nalloc 1  0 1", "line 2: FieldCount, status 1"),
     (b"8x8 4096 96\ninsert  1\n", "line 2: BadNumber, status 1"),
     (
         b"8x8 4096 96\ninsert 1 1\r\n",
@@ -57,6 +68,8 @@ static FAULTS: [(&[u8], &str); 37] = [
         b"8x8 4096 96\nalloc 18446744073709551616 1 1",
         "line 2: BadNumber, status 1",
     ),
+    (b"8x8 4096 96\nalloc 1 0 1\r", "line 2: BadNumber, status 1"),
+    (b"8x8 4096 96\nfill 1 256", "line 2: BadNumber, status 1"),
     (
         b"8x8 4096 96\nalloc 1 9223372036854775808 1",
         "line 2: BadLayout, status 1",

@@ -239,3 +239,23 @@ fn writers_without_room(rt: HostRuntime) {
         leaves(&rt, rt.alloc(), streams, NOT_WRITTEN, &FIRST_OUTPUT[..room]);
     }
 }
+
+/// Texts of three lines, without a fault and with one in the last line.
+const THREE_LINES: [&[u8]; 2] = [
+    b"8x8 4096 96\ninsert 4096 96\nalloc 1 0 1\n",
+    b"8x8 4096 96\ninsert 4096 96\nalloc 1 0 3\n",
+];
+
+#[test]
+fn readers_that_fail(rt: HostRuntime) {
+    for lines in THREE_LINES {
+        for len in 0..=lines.len() {
+            let streams = Streams {
+                text: &lines[..len],
+                reader_fails: true,
+                ..STREAMS
+            };
+            leaves(&rt, rt.alloc(), streams, NOT_READ, b"");
+        }
+    }
+}
