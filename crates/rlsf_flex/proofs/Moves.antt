@@ -90,5 +90,5 @@ module _ {fllen sllen : ℕ} {v w : Allocator} {s t : State} (stands : IsInState
     pub KeepsSpare-copied : SamePlace v.memory w.memory → SamePlace w.memory x.memory → KeepsSpare v.memory s w.memory t → KeepsSpare w.memory t x.memory r → KeepsSpare x.memory r y.memory q
         → KeepsSpare v.memory s y.memory q
     KeepsSpare-copied first second one two three =
-        KeepsSpare-trans fllen sllen v.memory x.memory y.memory s r q (deallocate addr) (second.0 ∙ first.0, second.1 ∙ first.1) gone
-        (KeepsSpare-trans fllen sllen v.memory w.memory x.memory s t r (fill to (with_front (usable u).len u.bytes step.bytes)) first fills one two) three
+        KeepsSpare-trans fllen sllen v.memory x.memory y.memory s r q (deallocate addr) (λ bad. bad) (second.0 ∙ first.0, second.1 ∙ first.1) gone
+        (KeepsSpare-trans fllen sllen v.memory w.memory x.memory s t r (fill to (with_front (usable u).len u.bytes step.bytes)) (λ bad. bad) first fills one two) three

@@ -11,7 +11,7 @@ use Rattle.rlsf_machine.specs.Laws.{IsKept, ChunksStay, InsertedChunksLieInRange
 use Rattle.rlsf_machine.specs.Lists.{IsIn, without}
 use Rattle.rlsf_machine.specs.Reallocate.{Plan, plan, ReallocatesBy, Reallocates}
 use Rattle.rlsf_machine.specs.Release.{Deallocates}
-use Rattle.rlsf_machine.specs.Run.{insert, append, allocate, deallocate, reallocate, fill, Fills}
+use Rattle.rlsf_machine.specs.Run.{insert, append, allocate, deallocate, reallocate, fill, remove, Fills}
 use Rattle.rlsf_machine.specs.State.{State, Used}
 use Rattle.rlsf_machine.proofs.Coverage.{by_test, find-some}
 use Rattle.rlsf_machine.proofs.Cuts.{IsIn-cut_within}
@@ -70,12 +70,13 @@ module _ (c : Range) (s t : State) (i : IsIn c s.chunks) where
       stays _ (subst (λ x. IsIn c x.chunks) (sym step.allocated.after) i) step.released.after
 
 pub chunks_stay : ChunksStay
-chunks_stay fllen sllen s t (insert r reply) c step i = stays c s t i _ (IsIn-with_chunks_old c (cut (max_pool_size fllen) (aligned_part r)) s i) step.after
-chunks_stay fllen sllen s t (append r reply) c step i = subst (IsKept c) (sym step.after) (appended_kept c s t i (max_pool_size fllen) r)
-chunks_stay fllen sllen s t (allocate size align reply) c step i = allocate_kept c s t i sllen size align reply step
-chunks_stay fllen sllen s t (deallocate addr) c step i = stays c s t i _ i step.after
-chunks_stay fllen sllen s t (reallocate addr size reply) c step i = reallocate_kept c s t i sllen size step.block (plan s step.block size) reply step.step
-chunks_stay fllen sllen s t (fill addr bytes) c step i = stays c s t i _ i step.after
+chunks_stay fllen sllen s t (insert r reply) c lasts step i = stays c s t i _ (IsIn-with_chunks_old c (cut (max_pool_size fllen) (aligned_part r)) s i) step.after
+chunks_stay fllen sllen s t (append r reply) c lasts step i = subst (IsKept c) (sym step.after) (appended_kept c s t i (max_pool_size fllen) r)
+chunks_stay fllen sllen s t (allocate size align reply) c lasts step i = allocate_kept c s t i sllen size align reply step
+chunks_stay fllen sllen s t (deallocate addr) c lasts step i = stays c s t i _ i step.after
+chunks_stay fllen sllen s t (reallocate addr size reply) c lasts step i = reallocate_kept c s t i sllen size step.block (plan s step.block size) reply step.step
+chunks_stay fllen sllen s t (fill addr bytes) c lasts step i = stays c s t i _ i step.after
+chunks_stay fllen sllen s t (remove r) c lasts step i = absurd (lasts tt)
 
 -- ---- steps that change no chunk
 

@@ -1,5 +1,5 @@
 -- How many ranges of a list have an address.
-use Rattle.std.proofs.Common.{◌≡◌, ℕ, ◌+◌, ◌<◌, ◌≤◌, ◌⊎◌, Bool, true, false, cond, ◌&&◌, ltb, find, map, true≢false, List, [], ◌∷◌, ◌++◌, Some, None, arith, refl, sym, ◌∙◌, ap, subst, inl, inr}
+use Rattle.std.proofs.Common.{◌≡◌, ℕ, ◌+◌, ◌<◌, ◌≤◌, ◌⊎◌, Bool, true, false, cond, ◌&&◌, ltb, filter, find, map, true≢false, List, [], ◌∷◌, ◌++◌, Some, None, arith, refl, sym, ◌∙◌, ap, subst, inl, inr}
 use Rattle.std.proofs.lemmas.Bool.{cases_lt, le-leb, lt-leb, lt-ltb, le-ltb}
 use Rattle.rlsf_base.specs.declared.memory.range.Range.{Range}
 use Rattle.rlsf_base.specs.Range.{end_of}
@@ -147,6 +147,23 @@ without-none p (y ∷ xs) h = by_test (p y)
     (λ e. let bad : Some y ≡ None = sym (ap (λ b. cond b (Some y) (find p xs)) e) ∙ h in absurd (cc))
     (λ e. ap (λ b. cond b xs (y ∷ without p xs)) e ∙ ap (λ l. y ∷ l) (without-none p xs (sym (ap (λ b. cond b (Some y) (find p xs)) e) ∙ h)))
 
+-- an element that is left by a filter passes its test
+pub IsIn-filter : {A : Type 0} (p : A → Bool) (x : A) (xs : List A) → IsIn x (filter p xs) → IsIn x xs × (p x ≡ true)
+IsIn-filter p x [] i = absurd i
+IsIn-filter p x (y ∷ ys) i = by_test (p y)
+    (λ e. elim (subst (λ b. IsIn x (cond b (y ∷ filter p ys) (filter p ys))) e i) [
+      | inl same ↦ (inl same, ap p same ∙ e)
+      | inr j ↦ let rest = IsIn-filter p x ys j in (inr rest.0, rest.1)
+    ])
+    (λ e. let rest = IsIn-filter p x ys (subst (λ b. IsIn x (cond b (y ∷ filter p ys) (filter p ys))) e i) in (inr rest.0, rest.1))
+
+pub IsIn-filter_from : {A : Type 0} (p : A → Bool) (x : A) (xs : List A) → IsIn x xs → p x ≡ true → IsIn x (filter p xs)
+IsIn-filter_from p x [] i passes = i
+IsIn-filter_from p x (y ∷ ys) i passes = by_test (p y)
+    (λ e. subst (λ b. IsIn x (cond b (y ∷ filter p ys) (filter p ys))) (sym e) (elim i [ inl same ↦ inl same | inr j ↦ inr (IsIn-filter_from p x ys j passes) ]))
+    (λ e. subst (λ b. IsIn x (cond b (y ∷ filter p ys) (filter p ys))) (sym e)
+    (elim i [ inl same ↦ absurd (true≢false (sym passes ∙ ap p same ∙ e)) | inr j ↦ IsIn-filter_from p x ys j passes ]))
+
 -- an element that passes, behind elements that fail, is the one that is found and taken out
 pub find-at : {A : Type 0} (p : A → Bool) (front : List A) (x : A) (back : List A) → ((y : A) → IsIn y front → p y ≡ false) → p x ≡ true
     → (find p (front ++ x ∷ back) ≡ Some x) × (without p (front ++ x ∷ back) ≡ front ++ back)
@@ -179,6 +196,20 @@ module _ {A : Type 0} (range : A → Range) where
   coverage-IsIn x [] a h = absurd h
   coverage-IsIn x (y ∷ xs) a (inl e) = let same : covers (range x) a ≡ covers (range y) a = ap (λ z. covers (range z) a) e in omega arith
   coverage-IsIn x (y ∷ xs) a (inr h) = omega (arith, coverage-IsIn x xs a h)
+
+  -- an address that no element's range has
+  pub coverage-none : (xs : List A) (a : ℕ) → ((x : A) → IsIn x xs → covers (range x) a ≡ 0) → coverage range xs a ≡ 0
+  coverage-none [] a none = refl
+  coverage-none (x ∷ xs) a none = omega (arith, none x (inl refl), coverage-none xs a (λ y i. none y (inr i)))
+
+  -- without elements whose ranges don't have the address
+  pub coverage-filter : (p : A → Bool) (xs : List A) (a : ℕ) → ((x : A) → IsIn x xs → p x ≡ false → covers (range x) a ≡ 0) → coverage range (filter p xs) a ≡ coverage range xs a
+  coverage-filter p [] a none = refl
+  coverage-filter p (x ∷ xs) a none =
+      let rest = coverage-filter p xs a (λ y i. none y (inr i)) in
+      by_test (p x)
+      (λ e. let kept : coverage range (filter p (x ∷ xs)) a ≡ covers (range x) a + coverage range (filter p xs) a = ap (λ b. coverage range (cond b (x ∷ filter p xs) (filter p xs)) a) e in omega arith)
+      (λ e. let gone : coverage range (filter p (x ∷ xs)) a ≡ coverage range (filter p xs) a = ap (λ b. coverage range (cond b (x ∷ filter p xs) (filter p xs)) a) e in omega (arith, none x (inl refl) e))
 
   -- an address that some range has
   pub coverage-some : (xs : List A) (a : ℕ) → 1 ≤ coverage range xs a → (x : A) × IsIn x xs × ((range x).start ≤ a) × (a < end_of (range x))

@@ -7,7 +7,7 @@ use Rattle.rlsf_machine.specs.FlexState.{FlexState}
 use Rattle.rlsf_machine.specs.Laws.{FlexStepsChangeMap, FlexPayloadsAreApart, FlexAllocationHasSize, FlexReallocationHasSize, FlexReallocationKeepsBytes, FlexOtherPayloadsStay, FlexUsedWasUsed, HasSize}
 use Rattle.rlsf_machine.specs.Lists.{IsIn}
 use Rattle.rlsf_machine.specs.Reallocate.{Keeps}
-use Rattle.rlsf_machine.specs.Run.{insert, append, allocate, deallocate, reallocate, fill}
+use Rattle.rlsf_machine.specs.Run.{insert, append, allocate, deallocate, reallocate, fill, remove}
 use Rattle.rlsf_machine.specs.State.{State, usable}
 use Rattle.rlsf_machine.specs.WellFormed.{IsWellFormed}
 use Rattle.rlsf_machine.proofs.Callers.{payload_at-has, payload_at-held}
@@ -67,6 +67,7 @@ flex_reallocation_keeps_bytes fl_bits sl_bits fllen sllen memory t s u addr size
 pub flex_other_payloads_stay : FlexOtherPayloadsStay
 flex_other_payloads_stay fllen sllen t s u (insert r reply) notes x step i apart = absurd step
 flex_other_payloads_stay fllen sllen t s u (append r reply) notes x step i apart = absurd step
+flex_other_payloads_stay fllen sllen t s u (remove r) notes x step i apart = absurd step
 flex_other_payloads_stay fllen sllen t s u (allocate size align None) notes x step i apart = subst (λ (y : FlexState). IsIn x y.machine.used) (sym step.extends.after) i
 flex_other_payloads_stay fllen sllen t s u (allocate size align (Some addr)) notes x (inl room) i apart =
     subst (λ (y : FlexState). IsIn x y.machine.used) (sym room.after) (other_payloads_stay fllen sllen s.machine room.machine (allocate size align (Some addr)) x room.allocates i apart)
@@ -91,6 +92,7 @@ flex_other_payloads_stay fllen sllen t s u (fill addr bytes) notes x step i apar
 pub flex_used_was_used : FlexUsedWasUsed
 flex_used_was_used fllen sllen t s u (insert r reply) notes x step i other new = absurd step
 flex_used_was_used fllen sllen t s u (append r reply) notes x step i other new = absurd step
+flex_used_was_used fllen sllen t s u (remove r) notes x step i other new = absurd step
 flex_used_was_used fllen sllen t s u (allocate size align None) notes x step i other new = subst (λ (y : FlexState). IsIn x y.machine.used) step.extends.after i
 flex_used_was_used fllen sllen t s u (allocate size align (Some addr)) notes x (inl room) i other new =
     used_was_used fllen sllen s.machine room.machine (allocate size align (Some addr)) x room.allocates (subst (λ (y : FlexState). IsIn x y.machine.used) room.after i) other new

@@ -18,7 +18,7 @@ use Rattle.rlsf_machine.specs.Laws.{FlexEachCallAnswers, IsAnswered, MayRespond}
 use Rattle.rlsf_machine.specs.Note.{Note}
 use Rattle.rlsf_machine.specs.Reallocate.{Plan, ReallocatesBy, plan}
 use Rattle.rlsf_machine.specs.Release.{released}
-use Rattle.rlsf_machine.specs.Run.{Event, insert, append, allocate, deallocate, reallocate, fill, IsSameCall}
+use Rattle.rlsf_machine.specs.Run.{Event, insert, append, allocate, deallocate, reallocate, fill, remove, IsSameCall}
 use Rattle.rlsf_machine.specs.State.{State, Used, Holds, filled}
 use Rattle.rlsf_machine.specs.Terms.{Terms, with_len}
 use Rattle.rlsf_machine.proofs.Examples.{planned_after, planned_reply, planned_step}
@@ -185,10 +185,11 @@ module _ {fl_bits sl_bits fllen sllen : ℕ} {memory : Range} {t : Terms} {s : F
           (e', notes_of q (respond q), u, same, inr (q, refl), does)
 
 pub flex_each_call_answers : FlexEachCallAnswers
-flex_each_call_answers fl_bits sl_bits fllen sllen memory t s (insert r reply) respond valid w may whole calls responds = absurd (calls tt)
-flex_each_call_answers fl_bits sl_bits fllen sllen memory t s (append r reply) respond valid w may whole calls responds = absurd (calls tt)
-flex_each_call_answers fl_bits sl_bits fllen sllen memory t s (allocate size align reply) respond valid w may whole calls responds = allocate_answers respond valid w responds size align reply may
-flex_each_call_answers fl_bits sl_bits fllen sllen memory t s (deallocate addr) respond valid w (v, holds) whole calls responds =
+flex_each_call_answers fl_bits sl_bits fllen sllen memory t s (insert r reply) respond valid w may whole calls lasts responds = absurd (calls tt)
+flex_each_call_answers fl_bits sl_bits fllen sllen memory t s (append r reply) respond valid w may whole calls lasts responds = absurd (calls tt)
+flex_each_call_answers fl_bits sl_bits fllen sllen memory t s (remove r) respond valid w may whole calls lasts responds = absurd (lasts tt)
+flex_each_call_answers fl_bits sl_bits fllen sllen memory t s (allocate size align reply) respond valid w may whole calls lasts responds = allocate_answers respond valid w responds size align reply may
+flex_each_call_answers fl_bits sl_bits fllen sllen memory t s (deallocate addr) respond valid w (v, holds) whole calls lasts responds =
     let m = released s.machine v in (
       deallocate addr,
       [],
@@ -197,8 +198,8 @@ flex_each_call_answers fl_bits sl_bits fllen sllen memory t s (deallocate addr) 
       inl refl,
       record { may = (v, holds); answers = λ n i. absurd i; leads = record { machine = m; leads = record { block = v; holds = holds; after = refl }; none = refl; after = refl } },
     )
-flex_each_call_answers fl_bits sl_bits fllen sllen memory t s (reallocate addr size reply) respond valid w (v, holds) whole calls responds = reallocate_answers respond valid w responds addr size reply v holds
-flex_each_call_answers fl_bits sl_bits fllen sllen memory t s (fill addr bytes) respond valid w may (v, holds, length) calls responds =
+flex_each_call_answers fl_bits sl_bits fllen sllen memory t s (reallocate addr size reply) respond valid w (v, holds) whole calls lasts responds = reallocate_answers respond valid w responds addr size reply v holds
+flex_each_call_answers fl_bits sl_bits fllen sllen memory t s (fill addr bytes) respond valid w may (v, holds, length) calls lasts responds =
     let m = filled s.machine addr bytes in (
       fill addr bytes,
       [],

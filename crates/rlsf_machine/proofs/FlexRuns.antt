@@ -13,7 +13,7 @@ use Rattle.rlsf_machine.specs.Growth.{Outcome, is_more}
 use Rattle.rlsf_machine.specs.Laws.{FlexRunsAreRuns}
 use Rattle.rlsf_machine.specs.Note.{Note}
 use Rattle.rlsf_machine.specs.Release.{Deallocates}
-use Rattle.rlsf_machine.specs.Run.{Event, insert, append, allocate, deallocate, reallocate, fill, IsRefused, Leads, MayCall, Runs}
+use Rattle.rlsf_machine.specs.Run.{Event, insert, append, allocate, deallocate, reallocate, fill, remove, IsRefused, Leads, MayCall, Runs}
 use Rattle.rlsf_machine.specs.State.{State}
 use Rattle.rlsf_machine.specs.Terms.{Terms}
 use Rattle.rlsf_machine.proofs.FlexGrowths.{taken_handed_in}
@@ -78,6 +78,7 @@ step_done : (fl_bits sl_bits fllen sllen : ℕ) (memory : Range) (t : Terms) (s 
     → IsFlexStep fllen sllen memory t s e notes u → IsDone fllen sllen memory s.machine e u.machine
 step_done fl_bits sl_bits fllen sllen memory t s u (insert r reply) notes valid w step = absurd step.leads
 step_done fl_bits sl_bits fllen sllen memory t s u (append r reply) notes valid w step = absurd step.leads
+step_done fl_bits sl_bits fllen sllen memory t s u (remove r) notes valid w step = absurd step.leads
 step_done fl_bits sl_bits fllen sllen memory t s u (allocate size align reply) notes valid w step = allocated_done valid w u notes step.answers size align reply step.may step.leads
 step_done fl_bits sl_bits fllen sllen memory t s u (deallocate addr) notes valid w step =
     let d = step.leads in done_at s.machine (deallocate addr) (with_machine s d.machine) u d.after (done_itself s.machine (deallocate addr) d.machine step.may d.leads)

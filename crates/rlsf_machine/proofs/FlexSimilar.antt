@@ -18,7 +18,7 @@ use Rattle.rlsf_machine.specs.Laws.{FlexSimilarRunsAgree, FlexSimilarStatesAgree
 use Rattle.rlsf_machine.specs.Lists.{IsIn}
 use Rattle.rlsf_machine.specs.Note.{AnswersAgree, Note}
 use Rattle.rlsf_machine.specs.Reallocate.{Reallocates, ReallocatesBy}
-use Rattle.rlsf_machine.specs.Run.{insert, append, allocate, deallocate, reallocate, fill}
+use Rattle.rlsf_machine.specs.Run.{insert, append, allocate, deallocate, reallocate, fill, remove}
 use Rattle.rlsf_machine.specs.State.{AreSimilar, State, Used, shape_of}
 use Rattle.rlsf_machine.specs.Terms.{Terms, with_len}
 use Rattle.rlsf_machine.proofs.FlexSteps.{asked_keeps, flex_steps_keep_well_formed}
@@ -190,6 +190,7 @@ flex_similar_states_agree fl_bits sl_bits fllen sllen memory t s s' u u' (fill a
     (d.0, a.none ∙ sym b.none, with_machine-similar r a.machine b.machine u u' d.1 a.after b.after)
 flex_similar_states_agree fl_bits sl_bits fllen sllen memory t s s' u u' (insert q m) e' notes notes' valid w w' r answers a b same agree = absurd a
 flex_similar_states_agree fl_bits sl_bits fllen sllen memory t s s' u u' (append q m) e' notes notes' valid w w' r answers a b same agree = absurd a
+flex_similar_states_agree fl_bits sl_bits fllen sllen memory t s s' u u' (remove q) e' notes notes' valid w w' r answers a b same agree = absurd a
 flex_similar_states_agree fl_bits sl_bits fllen sllen memory t s s' u u' e e' notes notes' valid w w' r answers a b same agree = absurd same
 
 pub flex_similar_runs_agree : FlexSimilarRunsAgree

@@ -38,6 +38,7 @@ pub mod Pools
 pub mod RangeLengths
 pub mod Reallocations
 pub mod Releases
+pub mod Removals
 pub mod Replies
 pub mod Room
 pub mod Rows

@@ -11,12 +11,13 @@ use Rattle.rlsf_machine.specs.Laws.{OrderMeansNothing}
 use Rattle.rlsf_machine.specs.Lists.{IsIn, without}
 use Rattle.rlsf_machine.specs.Reallocate.{Plan, plan, moved, replanned, ReallocatesBy}
 use Rattle.rlsf_machine.specs.Release.{released, Deallocates}
-use Rattle.rlsf_machine.specs.Run.{insert, append, allocate, deallocate, reallocate, fill, Fills}
+use Rattle.rlsf_machine.specs.Remove.{lies_within, outside_of, removed}
+use Rattle.rlsf_machine.specs.Run.{insert, append, allocate, deallocate, reallocate, fill, remove, Fills}
 use Rattle.rlsf_machine.specs.State.{State, Used, IsReordered, others, filled_if, filled}
 use Rattle.rlsf_machine.specs.WellFormed.{covers, itself, IsWellFormed}
 use Rattle.rlsf_machine.proofs.Allocations.{Allocates-keeps}
 use Rattle.rlsf_machine.proofs.Chunks.{used-inserted, used-appended}
-use Rattle.rlsf_machine.proofs.Coverage.{by_test, covers-inside, coverage-IsIn, coverage-unique, coverage-without, find-some, find-none, IsIn-map, IsIn-map_from, IsIn-without, IsIn-without_other}
+use Rattle.rlsf_machine.proofs.Coverage.{by_test, covers-inside, coverage-IsIn, coverage-unique, coverage-without, find-some, find-none, IsIn-filter, IsIn-filter_from, IsIn-map, IsIn-map_from, IsIn-without, IsIn-without_other}
 
 -- ---- lists with the same elements
 
@@ -26,22 +27,6 @@ HasSame {A} xs ys = (x : A) → IsIn x xs ↔ IsIn x ys
 pub HasSame-cons : {A : Type 0} (x : A) (xs ys : List A) → HasSame xs ys → HasSame (x ∷ xs) (x ∷ ys)
 HasSame-cons x xs ys same y =
     ((λ h. elim h [ inl e ↦ inl e | inr i ↦ inr ((same y).0 i) ]), (λ h. elim h [ inl e ↦ inl e | inr i ↦ inr ((same y).1 i) ]))
-
-IsIn-filter : {A : Type 0} (p : A → Bool) (x : A) (xs : List A) → IsIn x (filter p xs) → IsIn x xs × (p x ≡ true)
-IsIn-filter p x [] i = absurd i
-IsIn-filter p x (y ∷ ys) i = by_test (p y)
-    (λ e. elim (subst (λ b. IsIn x (cond b (y ∷ filter p ys) (filter p ys))) e i) [
-      | inl same ↦ (inl same, ap p same ∙ e)
-      | inr j ↦ let rest = IsIn-filter p x ys j in (inr rest.0, rest.1)
-    ])
-    (λ e. let rest = IsIn-filter p x ys (subst (λ b. IsIn x (cond b (y ∷ filter p ys) (filter p ys))) e i) in (inr rest.0, rest.1))
-
-IsIn-filter_from : {A : Type 0} (p : A → Bool) (x : A) (xs : List A) → IsIn x xs → p x ≡ true → IsIn x (filter p xs)
-IsIn-filter_from p x [] i passes = i
-IsIn-filter_from p x (y ∷ ys) i passes = by_test (p y)
-    (λ e. subst (λ b. IsIn x (cond b (y ∷ filter p ys) (filter p ys))) (sym e) (elim i [ inl same ↦ inl same | inr j ↦ inr (IsIn-filter_from p x ys j passes) ]))
-    (λ e. subst (λ b. IsIn x (cond b (y ∷ filter p ys) (filter p ys))) (sym e)
-    (elim i [ inl same ↦ absurd (true≢false (sym passes ∙ ap p same ∙ e)) | inr j ↦ IsIn-filter_from p x ys j passes ]))
 
 pub HasSame-filter : {A : Type 0} (p : A → Bool) (xs ys : List A) → HasSame xs ys → HasSame (filter p xs) (filter p ys)
 HasSame-filter p xs ys same x = (
@@ -147,6 +132,13 @@ module _ {fllen sllen : ℕ} {memory : Range} {s s' : State} (w : IsWellFormed f
   pub HasSameRanges-appended : (q : Range) (m n : ℕ) (t t' : State) → Appends fllen s q m t → Appends fllen s' q n t' → HasSameRanges t t'
   HasSameRanges-appended q m n t t' a b = HasSameRanges-at a.after b.after (appended-same (max_pool_size fllen) q)
 
+-- from states with the same ranges, a removal leads to such states
+pub HasSameRanges-removed : (q : Range) (s s' : State) → HasSameRanges s s' → HasSameRanges (removed q s) (removed q s')
+HasSameRanges-removed q s s' r = record {
+  chunks = HasSame-filter (λ c. not (lies_within q c)) s.chunks s'.chunks r.chunks;
+  free = ap (outside_of q) r.free;
+}
+
 ranges_of : {s t : State} → IsReordered s t → HasSameRanges s t
 ranges_of r = record { chunks = r.chunks; free = r.free }
 
@@ -221,3 +213,7 @@ order_means_nothing fllen sllen memory s s' t (reallocate addr size o) w w' r st
     let (t', again, q) = reallocate-reordered w w' r u step.holds.0 size (plan s u size) o t step.step in
     (t', record { block = u; holds = ((r.used u).0 step.holds.0, step.holds.1); step = subst (λ p. ReallocatesBy sllen s' u size p o t') same again }, q)
 order_means_nothing fllen sllen memory s s' t (fill addr bytes) w w' r step = fill-reordered w w' r addr bytes t step
+order_means_nothing fllen sllen memory s s' t (remove q) w w' r step =
+    let t' = removed q s' in
+    let same = HasSameRanges-removed q s s' (ranges_of r) in
+    (t', refl, subst (λ x. IsReordered x t') (sym step) (reordered_from r same refl refl))

@@ -1,9 +1,10 @@
 -- A pool that is made for an allocation has room for it.
-use Rattle.std.proofs.Common.{None, arith, subst, inr}
+use Rattle.std.proofs.Common.{None, arith, ap, subst, inr}
 use Rattle.rlsf_base.specs.Range.{range_at}
 use Rattle.rlsf_machine.specs.Allocate.{Allocates}
 use Rattle.rlsf_machine.specs.Insert.{body}
 use Rattle.rlsf_machine.specs.Laws.{IdleChunkHasRoom, PoolHasRoom}
+use Rattle.rlsf_machine.specs.WellFormed.{coverage}
 use Rattle.rlsf_machine.proofs.Room.{idle_chunk_is_one_range}
 use Rattle.rlsf_machine.proofs.TakenPools.{inserted_pool, pool_has_a_choice, pool_is_found, pool_size_is}
 
@@ -16,6 +17,6 @@ pool_has_room fl_bits sl_bits fllen sllen size align e at s t u taken reply vali
 
 pub idle_chunk_has_room : IdleChunkHasRoom
 idle_chunk_has_room fl_bits sl_bits fllen sllen size align e memory s t c reply valid w told idle is_chunk long allocated none =
-    let is_free = (idle_chunk_is_one_range fllen sllen memory s c w idle is_chunk).0 in
+    let is_free = (idle_chunk_is_one_range fllen sllen memory s c w (λ a low high. ap (λ l. coverage (λ u. u.block) l a) idle) is_chunk).0 in
     pool_is_found fl_bits sl_bits fllen sllen size align e memory s t valid w told (record { range = body c; is_free = is_free; long = omega arith })
     (subst (λ r. Allocates sllen s size align r t) none allocated)

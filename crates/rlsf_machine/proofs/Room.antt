@@ -10,6 +10,7 @@ use Rattle.rlsf_machine.specs.Allocate.{choice, has_class, Allocates}
 use Rattle.rlsf_machine.specs.Insert.{body}
 use Rattle.rlsf_machine.specs.Laws.{RoomIsFound, AllocationAnswers, RefusedWithoutReach, ChoiceIsFirstOfLeast, IdleChunkIsOneRange}
 use Rattle.rlsf_machine.specs.Lists.{IsIn, without}
+use Rattle.rlsf_machine.specs.Remove.{IsIdle}
 use Rattle.rlsf_machine.specs.State.{State}
 use Rattle.rlsf_machine.specs.WellFormed.{covers, coverage, itself, last_bytes, IsWellFormed}
 use Rattle.rlsf_machine.proofs.Choices.{choice-some, choice-none, choice-from_none, has_class-from}
@@ -52,11 +53,11 @@ choice_is_first_of_least sllen size free f chosen =
 
 -- ---- an idle chunk
 
-module _ {fllen sllen : ℕ} {memory : Range} {s : State} (w : IsWellFormed fllen sllen memory s) (idle : s.used ≡ []) (c : Range) (h : IsIn c s.chunks) where
+module _ {fllen sllen : ℕ} {memory : Range} {s : State} (w : IsWellFormed fllen sllen memory s) (c : Range) (idle : IsIdle s c) (h : IsIn c s.chunks) where
   -- a free range has each address of the chunk but its last 32 bytes
   free_at : (a : ℕ) → c.start ≤ a → a < end_of c - 32 → (f : Range) × IsIn f s.free × (f.start ≤ a) × (a < end_of f)
   free_at a low high =
-      let none : coverage block_of s.used a ≡ 0 = ap (λ l. coverage block_of l a) idle in
+      let none = idle a low (omega arith) in
       let one : covers c a ≡ 1 = covers-inside c a low (omega arith) in
       let no_last : coverage last_bytes s.chunks a ≡ 0 = elim (cases_lt (coverage last_bytes s.chunks a) 1) [
         | inl zero ↦ omega arith
@@ -116,11 +117,11 @@ module _ {fllen sllen : ℕ} {memory : Range} {s : State} (w : IsWellFormed flle
 pub idle_chunk_is_one_range : IdleChunkIsOneRange
 idle_chunk_is_one_range fllen sllen memory s c w idle h =
     let room = (w.chunks c h).has_room in
-    let (f, i, low, high) = free_at w idle c h c.start (omega arith) (omega arith) in
-    let is : f ≡ body c = whole w idle c h f i low high in (
+    let (f, i, low, high) = free_at w c idle h c.start (omega arith) (omega arith) in
+    let is : f ≡ body c = whole w c idle h f i low high in (
       subst (λ x. IsIn x s.free) is i,
       λ g j begins.
-          let g_in = lies_in w idle c h g j begins in
+          let g_in = lies_in w c idle h g j begins in
           let g_some = (w.free g j).some in
           let f_in = subst (λ x. IsIn x s.free) is i in
           let one : covers (body c) g.start ≡ 1 = covers-inside (body c) g.start (omega (arith, g_in.0)) (omega (arith, g_in.1)) in

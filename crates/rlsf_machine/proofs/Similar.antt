@@ -11,7 +11,8 @@ use Rattle.rlsf_machine.specs.Lists.{IsIn}
 use Rattle.rlsf_machine.specs.Payload.{payload_of}
 use Rattle.rlsf_machine.specs.Reallocate.{Plan, plan, moved, ReallocatesBy, Reallocates}
 use Rattle.rlsf_machine.specs.Release.{Deallocates}
-use Rattle.rlsf_machine.specs.Run.{insert, append, allocate, deallocate, reallocate, fill}
+use Rattle.rlsf_machine.specs.Remove.{removed}
+use Rattle.rlsf_machine.specs.Run.{insert, append, allocate, deallocate, reallocate, fill, remove}
 use Rattle.rlsf_machine.specs.State.{State, Used, Shape, shape_of, Holds, AreAlike, AreSimilar, others}
 use Rattle.rlsf_machine.specs.WellFormed.{IsWellFormed}
 use Rattle.rlsf_machine.proofs.Allocations.{Allocates-keeps}
@@ -20,7 +21,7 @@ use Rattle.rlsf_machine.proofs.Chunks.{used-inserted, used-appended}
 use Rattle.rlsf_machine.proofs.Coverage.{IsIn-map, IsIn-map_from}
 use Rattle.rlsf_machine.proofs.Determined.{other_shapes, map-others}
 use Rattle.rlsf_machine.proofs.Fillings.{AreAlike-filled}
-use Rattle.rlsf_machine.proofs.Orders.{HasSame, HasSame-cons, HasSame-filter, HasSameRanges, HasSameRanges-inserted, HasSameRanges-appended}
+use Rattle.rlsf_machine.proofs.Orders.{HasSame, HasSame-cons, HasSame-filter, HasSameRanges, HasSameRanges-inserted, HasSameRanges-appended, HasSameRanges-removed}
 
 -- ---- used blocks with the same shapes
 
@@ -168,6 +169,8 @@ similar_states_agree fllen sllen memory s s' t t' (reallocate addr size m) (real
     (ap₂ (λ x y. reallocate x y m) same same' ∙ ap (reallocate addr' size') d.0, d.1)
 similar_states_agree fllen sllen memory s s' t t' (fill addr bytes) (fill addr' bytes') w w' r a b (same, same') =
     (ap₂ fill same same', AreSimilar-alike r (AreAlike-filled a) (AreAlike-filled b))
+similar_states_agree fllen sllen memory s s' t t' (remove q) (remove q') w w' r a b same =
+    (ap remove same, AreSimilar-at a (b ∙ ap (λ x. removed x s') (sym same)) (similar_from r (HasSameRanges-removed q s s' (ranges r)) refl refl))
 similar_states_agree fllen sllen memory s s' t t' e e' w w' r a b same = absurd same
 
 pub fill_is_similar : FillIsSimilar

@@ -3,7 +3,7 @@ use Rattle.std.proofs.Common.{ℕ, List, [], ◌∷◌, length, arith, refl, sym
 use Rattle.rlsf_base.specs.declared.memory.range.Range.{Range}
 use Rattle.rlsf_machine.specs.Laws.{EmptyIsWellFormed, StepsKeepWellFormed, RunsKeepWellFormed}
 use Rattle.rlsf_machine.specs.Lists.{IsIn}
-use Rattle.rlsf_machine.specs.Run.{insert, append, allocate, deallocate, reallocate, fill, Fills}
+use Rattle.rlsf_machine.specs.Run.{insert, append, allocate, deallocate, reallocate, fill, remove, Fills}
 use Rattle.rlsf_machine.specs.State.{State, Used, filled_at}
 use Rattle.rlsf_machine.specs.WellFormed.{IsUsed, IsWellFormed}
 use Rattle.rlsf_machine.proofs.Allocations.{Allocates-keeps}
@@ -13,6 +13,7 @@ use Rattle.rlsf_machine.proofs.Fillings.{coverage-filled, IsIn-filled_from}
 use Rattle.rlsf_machine.proofs.Insertions.{Inserts-keeps}
 use Rattle.rlsf_machine.proofs.Reallocations.{Reallocates-keeps}
 use Rattle.rlsf_machine.proofs.Releases.{Deallocates-keeps}
+use Rattle.rlsf_machine.proofs.Removals.{Removes-keeps}
 
 pub empty_is_well_formed : EmptyIsWellFormed
 empty_is_well_formed fllen sllen memory rows row_length addressable = record {
@@ -54,6 +55,7 @@ steps_keep_well_formed fllen sllen memory s t (allocate size align reply) w may 
 steps_keep_well_formed fllen sllen memory s t (deallocate addr) w may step = Deallocates-keeps w addr t step
 steps_keep_well_formed fllen sllen memory s t (reallocate addr size reply) w may step = Reallocates-keeps w addr size reply t step
 steps_keep_well_formed fllen sllen memory s t (fill addr bytes) w may step = Fills-keeps w addr bytes t step
+steps_keep_well_formed fllen sllen memory s t (remove r) w may step = Removes-keeps w r may t step
 
 pub runs_keep_well_formed : RunsKeepWellFormed
 runs_keep_well_formed fllen sllen memory s t [] w run = subst (IsWellFormed fllen sllen memory) (sym run) w

@@ -6,7 +6,7 @@ use Rattle.rlsf_machine.specs.FlexAllocate.{FlexAllocates}
 use Rattle.rlsf_machine.specs.FlexReallocate.{FlexReallocates}
 use Rattle.rlsf_machine.specs.FlexState.{FlexState, with_machine}
 use Rattle.rlsf_machine.specs.Note.{Note}
-use Rattle.rlsf_machine.specs.Run.{Event, insert, append, allocate, deallocate, reallocate, fill, IsRefused, IsSameCall, Leads, MayCall}
+use Rattle.rlsf_machine.specs.Run.{Event, insert, append, allocate, deallocate, reallocate, fill, remove, IsRefused, IsSameCall, Leads, MayCall}
 use Rattle.rlsf_machine.specs.State.{State}
 use Rattle.rlsf_machine.specs.Terms.{Terms}
 
@@ -18,7 +18,7 @@ pub record AsksNothing (fllen sllen : ℕ) (s : FlexState) (e : Event) (notes : 
   pub after : u ≡ with_machine s machine
 
 -- A call with its reply, and the questions to the source with their answers, leads from one state to another. Ranges are handed
--- in for an allocation or a reallocation alone, by the machine itself.
+-- in for an allocation or a reallocation alone, by the machine itself, and none is taken away alone.
 abbrev pub FlexLeads : ℕ → ℕ → Terms → FlexState → Event → List Note → FlexState → Type 0
 FlexLeads fllen sllen t s (insert r reply) notes u = ⊥
 FlexLeads fllen sllen t s (append r reply) notes u = ⊥
@@ -26,6 +26,7 @@ FlexLeads fllen sllen t s (allocate size align reply) notes u = FlexAllocates fl
 FlexLeads fllen sllen t s (deallocate addr) notes u = AsksNothing fllen sllen s (deallocate addr) notes u
 FlexLeads fllen sllen t s (reallocate addr size reply) notes u = FlexReallocates fllen sllen t s addr size reply notes u
 FlexLeads fllen sllen t s (fill addr bytes) notes u = AsksNothing fllen sllen s (fill addr bytes) notes u
+FlexLeads fllen sllen t s (remove r) notes u = ⊥
 
 -- a call that its caller may make, with answers that a source may give, leads from one state to another
 pub record IsFlexStep (fllen sllen : ℕ) (memory : Range) (t : Terms) (s : FlexState) (e : Event) (notes : List Note) (u : FlexState) : Type 0 where

@@ -12,12 +12,13 @@ use Rattle.rlsf_machine.specs.FlexRun.{AllComeTo, AreSameCalls, FlexEvent, FlexL
 use Rattle.rlsf_machine.specs.FlexState.{FlexState, AreFlexSimilar, empty as flex_empty}
 use Rattle.rlsf_machine.specs.FlexWellFormed.{IsFlexWellFormed}
 use Rattle.rlsf_machine.specs.Growth.{Extends, IsPossible, Outcome, Questions, is_more, notes_of}
-use Rattle.rlsf_machine.specs.Insert.{body, cut, Inserts}
+use Rattle.rlsf_machine.specs.Insert.{body, cut, Inserts, IsClear}
 use Rattle.rlsf_machine.specs.Lists.{IsIn, without}
 use Rattle.rlsf_machine.specs.Note.{Note, AnswersAgree}
 use Rattle.rlsf_machine.specs.Reallocate.{Keeps, Reallocates}
 use Rattle.rlsf_machine.specs.Release.{Deallocates}
-use Rattle.rlsf_machine.specs.Run.{Event, insert, append, allocate, deallocate, reallocate, fill, Fills, Leads, MayCall, Names, Runs, IsSameCall, IsRefused}
+use Rattle.rlsf_machine.specs.Remove.{IsIdle, IsRemovable, Removes}
+use Rattle.rlsf_machine.specs.Run.{Event, insert, append, allocate, deallocate, reallocate, fill, remove, Fills, Leads, MayCall, Names, Runs, IsRemoval, IsSameCall, IsRefused}
 use Rattle.rlsf_machine.specs.State.{State, Used, empty, usable, Holds, HasBytes, IsLive, AreAlike, IsReordered, AreSimilar}
 use Rattle.rlsf_machine.specs.Terms.{Terms}
 use Rattle.rlsf_machine.specs.WellFormed.{covers, IsWellFormed}
@@ -135,18 +136,29 @@ ChoiceIsFirstOfLeast = (sllen size : ℕ) (free : List Range) (f : Range) → ch
     → IsFirstOfClass sllen free f × Reaches sllen (class_of sllen f.len) size
     × ((g : Range) → IsIn g free → Reaches sllen (class_of sllen g.len) size → IsAtMost (class_of sllen f.len) (class_of sllen g.len))
 
--- with nothing live, each chunk holds exactly one free range, all of it but its last 32 bytes
+-- a chunk of which no used block has a byte holds exactly one free range, all of it but its last 32 bytes
 abbrev pub IdleChunkIsOneRange : Type 0
-IdleChunkIsOneRange = (fllen sllen : ℕ) (memory : Range) (s : State) (c : Range) → IsWellFormed fllen sllen memory s → s.used ≡ [] → IsIn c s.chunks
+IdleChunkIsOneRange = (fllen sllen : ℕ) (memory : Range) (s : State) (c : Range) → IsWellFormed fllen sllen memory s → IsIdle s c → IsIn c s.chunks
     → IsIn (body c) s.free × ((f : Range) → IsIn f s.free → covers c f.start ≡ 1 → f ≡ body c)
 
 -- among the chunks is this one, or a longer one that begins where it does
 abbrev pub IsKept : Range → State → Type 0
 IsKept c t = (d : Range) × IsIn d t.chunks × (d.start ≡ c.start) × ((d ≡ c) ⊎ (end_of c + 32 ≤ end_of d))
 
--- each step keeps the chunks, one of which may grow: so no byte of a chunk ever leaves them
+-- each step that takes no memory away keeps the chunks, one of which may grow: so no byte of a chunk leaves them
 abbrev pub ChunksStay : Type 0
-ChunksStay = (fllen sllen : ℕ) (s t : State) (e : Event) (c : Range) → Leads fllen sllen s e t → IsIn c s.chunks → IsKept c t
+ChunksStay = (fllen sllen : ℕ) (s t : State) (e : Event) (c : Range) → (IsRemoval e → ⊥) → Leads fllen sllen s e t → IsIn c s.chunks → IsKept c t
+
+-- of some ranges those in r are gone, with each byte that they had of it, and the others are left
+pub record LeavesOthers (r : Range) (before after : List Range) : Type 0 where
+  pub clear : IsClear r after
+  pub left : (x : Range) → IsIn x before → ((r.start ≤ x.start) × (end_of x ≤ end_of r)) ⊎ IsIn x after
+  pub were : (x : Range) → IsIn x after → IsIn x before
+
+-- a removal takes the chunks and the free ranges in its range away, and leaves all others and each used block with its bytes
+abbrev pub RemovalLeavesOthers : Type 0
+RemovalLeavesOthers = (fllen sllen : ℕ) (memory : Range) (s t : State) (r : Range) → IsWellFormed fllen sllen memory s → IsRemovable s r → Removes s r t
+    → LeavesOthers r s.chunks t.chunks × LeavesOthers r s.free t.free × (t.used ≡ s.used)
 
 -- a step that doesn't name a payload leaves its block with its bytes as it was
 abbrev pub OtherPayloadsStay : Type 0
@@ -198,6 +210,7 @@ Gives (allocate size align reply) addr = reply ≡ Some addr
 Gives (deallocate at) addr = ⊥
 Gives (reallocate at size reply) addr = reply ≡ Some addr
 Gives (fill at bytes) addr = ⊥
+Gives (remove r) addr = ⊥
 
 -- a used block that a step names neither in its call nor in its reply was there before, with the same bytes
 abbrev pub UsedWasUsed : Type 0
@@ -356,5 +369,5 @@ IsAnswered respond notes = (notes ≡ []) ⊎ ((q : Questions) × (notes ≡ not
 -- answers
 abbrev pub FlexEachCallAnswers : Type 0
 FlexEachCallAnswers = (fl_bits sl_bits fllen sllen : ℕ) (memory : Range) (t : Terms) (s : FlexState) (e : Event) (respond : Questions → Outcome) → IsValid fl_bits sl_bits fllen sllen
-    → IsFlexWellFormed fllen sllen memory t s → MayCall memory s.machine e → FillsWhole s.machine e → (HandsIn e → ⊥) → MayRespond t s.pools respond
+    → IsFlexWellFormed fllen sllen memory t s → MayCall memory s.machine e → FillsWhole s.machine e → (HandsIn e → ⊥) → (IsRemoval e → ⊥) → MayRespond t s.pools respond
     → (e' : Event) × (notes : List Note) × (u : FlexState) × IsSameCall e e' × IsAnswered respond notes × IsFlexStep fllen sllen memory t s e' notes u

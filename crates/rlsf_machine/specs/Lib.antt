@@ -21,6 +21,7 @@ pub mod Payload
 pub mod PoolLength
 pub mod Reallocate
 pub mod Release
+pub mod Remove
 pub mod Run
 pub mod State
 pub mod Terms

@@ -6,6 +6,7 @@ use Rattle.rlsf_machine.specs.Allocate.{Allocates}
 use Rattle.rlsf_machine.specs.Insert.{IsFresh, IsNext, Inserts, Appends}
 use Rattle.rlsf_machine.specs.Reallocate.{Reallocates}
 use Rattle.rlsf_machine.specs.Release.{Deallocates}
+use Rattle.rlsf_machine.specs.Remove.{IsRemovable, Removes}
 use Rattle.rlsf_machine.specs.State.{State, Used, Holds, filled}
 
 -- the caller of the payload at an address leaves these bytes in it, as many as it has
@@ -16,7 +17,7 @@ pub record Fills (s : State) (addr : ℕ) (bytes : List ℕ) (t : State) : Type 
   pub after : t ≡ filled s addr bytes
 
 -- a call with its reply: a range is handed in, or handed in behind a chunk; a layout, by its size and its
--- alignment, is allocated; a payload is deallocated, gets another size, or is written
+-- alignment, is allocated; a payload is deallocated, gets another size, or is written; a range is taken away
 pub data Event : Type 0 where
   insert : Range → Option ℕ → Event
   append : Range → ℕ → Event
@@ -24,6 +25,7 @@ pub data Event : Type 0 where
   deallocate : ℕ → Event
   reallocate : ℕ → ℕ → Option ℕ → Event
   fill : ℕ → List ℕ → Event
+  remove : Range → Event
 
 -- a call with its reply leads from one state to another
 abbrev pub Leads : ℕ → ℕ → State → Event → State → Type 0
@@ -33,6 +35,7 @@ Leads fllen sllen s (allocate size align reply) t = Allocates sllen s size align
 Leads fllen sllen s (deallocate addr) t = Deallocates s addr t
 Leads fllen sllen s (reallocate addr size reply) t = Reallocates sllen s addr size reply t
 Leads fllen sllen s (fill addr bytes) t = Fills s addr bytes t
+Leads fllen sllen s (remove r) t = Removes s r t
 
 -- some payload is live at the address
 abbrev pub IsSomeLive : State → ℕ → Type 0
@@ -46,6 +49,7 @@ MayCall memory s (allocate size align reply) = IsPowerOfTwo align
 MayCall memory s (deallocate addr) = IsSomeLive s addr
 MayCall memory s (reallocate addr size reply) = IsSomeLive s addr
 MayCall memory s (fill addr bytes) = IsSomeLive s addr
+MayCall memory s (remove r) = IsRemovable s r
 
 -- two calls are the same, whatever their replies
 abbrev pub IsSameCall : Event → Event → Type 0
@@ -55,6 +59,7 @@ IsSameCall (allocate size align m) (allocate size' align' n) = (size ≡ size') 
 IsSameCall (deallocate addr) (deallocate addr') = addr ≡ addr'
 IsSameCall (reallocate addr size m) (reallocate addr' size' n) = (addr ≡ addr') × (size ≡ size')
 IsSameCall (fill addr bytes) (fill addr' bytes') = (addr ≡ addr') × (bytes ≡ bytes')
+IsSameCall (remove r) (remove q) = r ≡ q
 IsSameCall e e' = ⊥
 
 -- the call refused: it had no room, or no chunk to make
@@ -65,6 +70,7 @@ IsRefused (allocate size align reply) = reply ≡ None
 IsRefused (deallocate addr) = ⊥
 IsRefused (reallocate addr size reply) = reply ≡ None
 IsRefused (fill addr bytes) = ⊥
+IsRefused (remove r) = ⊥
 
 -- the call names the payload at the address
 abbrev pub Names : Event → ℕ → Type 0
@@ -74,6 +80,12 @@ Names (allocate size align reply) addr = ⊥
 Names (deallocate at) addr = at ≡ addr
 Names (reallocate at size reply) addr = at ≡ addr
 Names (fill at bytes) addr = at ≡ addr
+Names (remove r) addr = ⊥
+
+-- the call takes memory away
+abbrev pub IsRemoval : Event → Type 0
+IsRemoval (remove r) = Unit {0}
+IsRemoval e = ⊥
 
 -- a list of calls with their replies, one after another, each of which its caller may make
 abbrev pub Runs : ℕ → ℕ → Range → State → List Event → State → Type 0

@@ -3,7 +3,7 @@ use Rattle.std.proofs.Common.{◌≡◌, ℕ, List, [], ◌∷◌, slice_set, re
 use Rattle.rlsf_base.specs.Addr.{reply}
 use Rattle.rlsf_base.specs.declared.memory.range.Range.{Range}
 use Rattle.rlsf_base.specs.Space.{range_of}
-use Rattle.rlsf_machine.specs.Run.{Event, insert, append, allocate, deallocate, reallocate, fill, Leads, MayCall, Runs}
+use Rattle.rlsf_machine.specs.Run.{Event, insert, append, allocate, deallocate, reallocate, fill, IsRemoval, Leads, MayCall, Runs}
 use Rattle.rlsf_machine.specs.State.{State, usable}
 use Rattle.rlsf_tlsf.specs.Allocator.{Allocator}
 use Rattle.rlsf_text.specs.declared.op.Answer.{Answer}
@@ -16,16 +16,17 @@ use Rattle.rlsf_runs.specs.Runs.{Does, RunState}
 use Rattle.rlsf_runs.specs.Steps.Tables.{IsAt}
 use Rattle.rlsf_runs.proofs.RunStates.{IsFresh-MayInsert, IsNext-MayAppend}
 
--- what an op with its answer makes of the machine's state: no call is made and it stays, or one call that may be made leads on
+-- what an op with its answer makes of the machine's state: no call is made and it stays, or one call that may be made, and takes
+-- no memory away, leads on
 pub data Makes (fllen sllen : ℕ) (memory : Range) (s : State) (op : Op) (answer : Answer) (t : State) : Type 0 where
   no_call : IsDoneBy op answer [] → t ≡ s → Makes fllen sllen memory s op answer t
-  one_call : (e : Event) → IsDoneBy op answer (e ∷ []) → MayCall memory s e → Leads fllen sllen s e t → Makes fllen sllen memory s op answer t
+  one_call : (e : Event) → IsDoneBy op answer (e ∷ []) → (IsRemoval e → ⊥) → MayCall memory s e → Leads fllen sllen s e t → Makes fllen sllen memory s op answer t
 
 -- one call leads to the machine's state of what the run has come to
-call_made : {fllen sllen : ℕ} {memory : Range} {s machine : State} {op : Op} {answer : Answer} {t u : RunState} (e : Event) → IsDoneBy op answer (e ∷ []) → MayCall memory s e → Leads fllen sllen s e machine
+call_made : {fllen sllen : ℕ} {memory : Range} {s machine : State} {op : Op} {answer : Answer} {t u : RunState} (e : Event) → IsDoneBy op answer (e ∷ []) → (IsRemoval e → ⊥) → MayCall memory s e → Leads fllen sllen s e machine
     → t ≡ u → u.machine ≡ machine → Makes fllen sllen memory s op answer t.machine
-call_made {fllen} {sllen} {memory} {s} {machine} {op} {answer} {t} {u} e is_done may leads is same =
-    subst (Makes fllen sllen memory s op answer) (sym (ap (λ (x : RunState). x.machine) is ∙ same)) (one_call e is_done may leads)
+call_made {fllen} {sllen} {memory} {s} {machine} {op} {answer} {t} {u} e is_done lasts may leads is same =
+    subst (Makes fllen sllen memory s op answer) (sym (ap (λ (x : RunState). x.machine) is ∙ same)) (one_call e is_done lasts may leads)
 
 -- no call leaves it
 not_called : {fllen sllen : ℕ} {memory : Range} {s t : RunState} {op : Op} {answer : Answer} → IsDoneBy op answer [] → t ≡ s → Makes fllen sllen memory s.machine op answer t.machine
@@ -35,7 +36,7 @@ not_called is_done is = no_call is_done (ap (λ (x : RunState). x.machine) is)
 pub one_more : {fllen sllen : ℕ} {memory : Range} {s t : State} {op : Op} {answer : Answer} → Makes fllen sllen memory s op answer t → (ops : List Op) (answers : List Answer) (u : State)
     → RunsByEvents fllen sllen memory t ops answers u → RunsByEvents fllen sllen memory s (op ∷ ops) (answer ∷ answers) u
 one_more {fllen} {sllen} {memory} (no_call is_done is) ops answers u (es, all, runs) = (es, ([], es, refl, is_done, all), subst (λ x. Runs fllen sllen memory x es u) is runs)
-one_more {t = t} (one_call e is_done may leads) ops answers u (es, all, runs) = (e ∷ es, (e ∷ [], es, refl, is_done, all), (t, may, leads, runs))
+one_more {t = t} (one_call e is_done lasts may leads) ops answers u (es, all, runs) = (e ∷ es, (e ∷ [], es, refl, is_done, all), (t, may, leads, runs))
 
 module _ {fllen sllen : ℕ} {v : Allocator} {tables : Tables} {s : RunState} (at : IsAt fllen sllen v tables s) where
   -- what is done by an op is done by the call that it makes
@@ -51,16 +52,16 @@ module _ {fllen sllen : ℕ} {v : Allocator} {tables : Tables} {s : RunState} (a
   made (Get name offset) (Refused error) t (_, is) = not_called refl is
   made (OpUsable name) (Refused error) t (_, is) = not_called refl is
   made (OpBlock r index) (Refused error) t (_, is) = not_called refl is
-  made (Insert r) (Inserted len) t (may, machine, step, is) = call_made (insert r (reply len)) refl (IsFresh-MayInsert at r may) step is refl
-  made (Append r) (Appended more) t (may, machine, step, is) = call_made (append r more) refl (IsNext-MayAppend at r may) step is refl
-  made (Alloc name layout) (Placed addr) t (_, machine, step, is) = call_made (allocate layout.size layout.align (reply addr)) refl layout.valid.aligned step is refl
-  made (Free name) Done t (u, owns, machine, step, is) = call_made (deallocate u.payload) (u.payload, refl) (u, (owns.0, refl)) step is refl
-  made (FreeUnknown name) Done t (u, owns, machine, step, is) = call_made (deallocate u.payload) (u.payload, refl) (u, (owns.0, refl)) step is refl
-  made (Realloc name size) (Placed addr) t (u, owns, _, machine, step, is) = call_made (reallocate u.payload size (reply addr)) (u.payload, refl) (u, (owns.0, refl)) step is refl
+  made (Insert r) (Inserted len) t (may, machine, step, is) = call_made (insert r (reply len)) refl (λ bad. bad) (IsFresh-MayInsert at r may) step is refl
+  made (Append r) (Appended more) t (may, machine, step, is) = call_made (append r more) refl (λ bad. bad) (IsNext-MayAppend at r may) step is refl
+  made (Alloc name layout) (Placed addr) t (_, machine, step, is) = call_made (allocate layout.size layout.align (reply addr)) refl (λ bad. bad) layout.valid.aligned step is refl
+  made (Free name) Done t (u, owns, machine, step, is) = call_made (deallocate u.payload) (u.payload, refl) (λ bad. bad) (u, (owns.0, refl)) step is refl
+  made (FreeUnknown name) Done t (u, owns, machine, step, is) = call_made (deallocate u.payload) (u.payload, refl) (λ bad. bad) (u, (owns.0, refl)) step is refl
+  made (Realloc name size) (Placed addr) t (u, owns, _, machine, step, is) = call_made (reallocate u.payload size (reply addr)) (u.payload, refl) (λ bad. bad) (u, (owns.0, refl)) step is refl
   made (Fill name byte) Done t (u, owns, machine, step, is) =
-      let bytes = replicate (usable u).len byte in call_made (fill u.payload bytes) (u.payload, bytes, refl) (u, (owns.0, refl)) step is refl
+      let bytes = replicate (usable u).len byte in call_made (fill u.payload bytes) (u.payload, bytes, refl) (λ bad. bad) (u, (owns.0, refl)) step is refl
   made (Put name offset byte) Done t (u, owns, _, machine, step, is) =
-      let bytes = slice_set u.bytes offset byte in call_made (fill u.payload bytes) (u.payload, bytes, refl) (u, (owns.0, refl)) step is refl
+      let bytes = slice_set u.bytes offset byte in call_made (fill u.payload bytes) (u.payload, bytes, refl) (λ bad. bad) (u, (owns.0, refl)) step is refl
   made (Get name offset) (Byte byte) t (_, _, _, _, is) = not_called refl is
   made (OpUsable name) (Usable bytes) t (_, _, _, is) = not_called refl is
   made (OpBlock r index) (Block block) t (_, _, _, _, is) = not_called refl is

@@ -12,7 +12,7 @@ use Rattle.rlsf_runs.proofs.Events.{Makes, no_call, one_call}
 -- an op makes no byte spare that wasn't
 IsSpare-before_op : (fllen sllen : ℕ) (memory : Range) (s t : State) (op : Op) (answer : Answer) (a : ℕ) → Makes fllen sllen memory s op answer t → IsSpare t a → IsSpare s a
 IsSpare-before_op fllen sllen memory s t op answer a (no_call _ is) spare = subst (λ x. IsSpare x a) is spare
-IsSpare-before_op fllen sllen memory s t op answer a (one_call e _ _ leads) spare = IsSpare-before fllen sllen s t e a leads spare
+IsSpare-before_op fllen sllen memory s t op answer a (one_call e _ lasts _ leads) spare = IsSpare-before fllen sllen s t e a lasts leads spare
 
 -- what is kept up to an op, and by it
 pub KeepsSpare-op : (fllen sllen : ℕ) (memory : Range) (m n o : Space) (s t u : State) (op : Op) (answer : Answer) → SamePlace m n → Makes fllen sllen memory t op answer u

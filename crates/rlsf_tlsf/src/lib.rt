@@ -1,7 +1,7 @@
 //! The allocator over pools that its caller hands in: two-level segregated fit (Masmano and others, ECRTS 2004).
 #![tactic(auto)]
 
-ghost use Rattle.rlsf_machine.specs.Laws.{EmptyIsWellFormed, StepsKeepWellFormed, RunsKeepWellFormed, StepsAreDetermined, OrderMeansNothing, RefusalChangesNothing, ChunksAreCutOffTheFront, LiveAddressesAreAligned, LiveAddressHasOneBlock, PayloadsAreDisjoint, PayloadLiesInOneChunk, AllocationHasSize, ReallocationHasSize, RoomIsFound, PoolHasRoom, AllocationAnswers, RefusedWithoutReach, ChoiceIsFirstOfLeast, IdleChunkIsOneRange, ChunksStay, OtherPayloadsStay, HandedOutIsNew, ReallocatedIsLive, LiveStays, ReleasedIsNotLive, FilledHasBytes, FillLeavesOthers, DeallocationLeavesOthers, InsertedChunksLieInRange, UsedWasUsed, SimilarStatesAgree, EachCallAnswers, ReallocationKeepsBytes, PayloadIsInBlock, CallersSeeMap, IdleChunkHasRoom, FillIsSimilar, FlexCallersSeeMap, FlexEmptyIsWellFormed, GrowthKeepsWellFormed, GrowthHasRoom, FlexStepsKeepWellFormed, FlexRunsKeepWellFormed, FlexRunsAreRuns, FlexStepsChangeMap, FlexPayloadsAreApart, FlexAllocationHasSize, FlexReallocationHasSize, FlexReallocationKeepsBytes, FlexOtherPayloadsStay, FlexUsedWasUsed, FlexSimilarStatesAgree, FlexSimilarRunsAgree, FlexEachCallAnswers};
+ghost use Rattle.rlsf_machine.specs.Laws.{EmptyIsWellFormed, StepsKeepWellFormed, RunsKeepWellFormed, StepsAreDetermined, OrderMeansNothing, RefusalChangesNothing, ChunksAreCutOffTheFront, LiveAddressesAreAligned, LiveAddressHasOneBlock, PayloadsAreDisjoint, PayloadLiesInOneChunk, AllocationHasSize, ReallocationHasSize, RoomIsFound, PoolHasRoom, AllocationAnswers, RefusedWithoutReach, ChoiceIsFirstOfLeast, IdleChunkIsOneRange, ChunksStay, RemovalLeavesOthers, OtherPayloadsStay, HandedOutIsNew, ReallocatedIsLive, LiveStays, ReleasedIsNotLive, FilledHasBytes, FillLeavesOthers, DeallocationLeavesOthers, InsertedChunksLieInRange, UsedWasUsed, SimilarStatesAgree, EachCallAnswers, ReallocationKeepsBytes, PayloadIsInBlock, CallersSeeMap, IdleChunkHasRoom, FillIsSimilar, FlexCallersSeeMap, FlexEmptyIsWellFormed, GrowthKeepsWellFormed, GrowthHasRoom, FlexStepsKeepWellFormed, FlexRunsKeepWellFormed, FlexRunsAreRuns, FlexStepsChangeMap, FlexPayloadsAreApart, FlexAllocationHasSize, FlexReallocationHasSize, FlexReallocationKeepsBytes, FlexOtherPayloadsStay, FlexUsedWasUsed, FlexSimilarStatesAgree, FlexSimilarRunsAgree, FlexEachCallAnswers};
 ghost use Rattle.rlsf_blocks.specs.Laws.{WordsGiveBlock, WordsReadNoPayload};
 
 mod state;
@@ -14,12 +14,12 @@ pub use tlsf::Tlsf;
 ///
 /// Each step keeps a state well-formed, and so does each run. A call and the state before it determine the
 /// reply and the state after it but for fresh bytes; the order of chunks and of used blocks means nothing; a
-/// refused call changes nothing. Chunks are cut off an aligned part's front, and stay or grow. A live address is
+/// refused call changes nothing. Chunks are cut off an aligned part's front, and stay or grow but for a removal. A live address is
 /// a multiple of its alignment and has one block; usable ranges of different payloads are disjoint, and each lies
 /// in one chunk. What was asked for is usable, and less than 32 bytes more. A free range that is longer by one
 /// SLLENth than what is sought makes an allocation succeed, which takes the first range of the least class that
 /// reaches and is refused only where none reaches; so does a pool of the length that is computed for the
-/// allocation, at a multiple of 32. With nothing live a chunk holds one free range. A step that doesn't name a
+/// allocation, at a multiple of 32. A chunk of which no block in use has a byte holds one free range. A step that doesn't name a
 /// payload leaves it as it was; what is handed out was not live and is live. A fill leaves its bytes in one
 /// payload, and a deallocation takes one away; neither changes another, or hands one out. A chunk that an insert
 /// makes lies in the range that was handed in. What a step names neither in its call nor in its reply, and is used
@@ -28,6 +28,7 @@ pub use tlsf::Tlsf;
 /// has a reply. A payload that gets another size keeps the bytes that both sizes have. To its callers the machine is a
 /// map from addresses to payloads, which each step changes as its call and its reply say. With nothing live, a chunk of
 /// the pool size that is computed for an allocation makes it succeed. A fill leaves a similar state.
+/// A removal takes the chunks and the free ranges in its range away, and nothing else.
 ///
 /// Over a source of memory too the machine is such a map to its callers, between any two states that are well-formed. The
 /// beginning is, and as long as the source answers what it may, memory that comes, each step and each run over it keep a
@@ -79,6 +80,7 @@ pub fn laws()
     ensures callers { CallersSeeMap }
     ensures idle_room { IdleChunkHasRoom }
     ensures fill_similar { FillIsSimilar }
+    ensures removal { RemovalLeavesOthers }
     ensures flex_callers { FlexCallersSeeMap }
     ensures flex_empty { FlexEmptyIsWellFormed }
     ensures flex_growth { GrowthKeepsWellFormed }

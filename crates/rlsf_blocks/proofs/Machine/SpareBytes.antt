@@ -1,30 +1,32 @@
 -- Bytes that are spare after some steps were spare before them, so what each step keeps, all of them keep.
-use Rattle.std.proofs.Common.{ℕ, ◌+◌, ◌<◌, ◌≤◌, List, [], ◌∷◌, arith, inl, inr, sym, ◌∙◌, subst}
+use Rattle.std.proofs.Common.{ℕ, ◌+◌, ◌<◌, ◌≤◌, List, [], ◌∷◌, arith, inl, inr, refl, sym, ◌∙◌, subst}
 use Rattle.rlsf_base.specs.declared.memory.range.Range.{Range}
 use Rattle.rlsf_base.specs.Range.{end_of}
 use Rattle.rlsf_base.specs.Space.{Space, SamePlace}
-use Rattle.rlsf_machine.specs.Run.{Event, Leads, Runs}
+use Rattle.rlsf_machine.specs.Lists.{IsIn}
+use Rattle.rlsf_machine.specs.Run.{Event, IsRemoval, Leads, Runs}
 use Rattle.rlsf_machine.specs.State.{State}
 use Rattle.rlsf_machine.proofs.Chunks.{chunks_stay}
 use Rattle.rlsf_blocks.specs.InBand.{sentinel_of}
 use Rattle.rlsf_blocks.specs.Spare.{IsSpare, KeepsSpare}
 
--- a step makes no byte spare that wasn't
-pub IsSpare-before : (fllen sllen : ℕ) (s t : State) (e : Event) (a : ℕ) → Leads fllen sllen s e t → IsSpare t a → IsSpare s a
-IsSpare-before fllen sllen s t e a step spare c i from to =
-    let (d, j, start, longer) = chunks_stay fllen sllen s t e c step i in
+-- a step that takes no memory away makes no byte spare that wasn't
+pub IsSpare-before : (fllen sllen : ℕ) (s t : State) (e : Event) (a : ℕ) → (IsRemoval e → ⊥) → Leads fllen sllen s e t → IsSpare t a → IsSpare s a
+IsSpare-before fllen sllen s t e a lasts step spare c i from to =
+    let (d, j, start, longer) = chunks_stay fllen sllen s t e c lasts step i in
     elim longer [
       | inl same ↦ subst (λ x. sentinel_of x + 16 ≤ a) same (spare d j (omega arith) (subst (λ x. a < end_of x) (sym same) to))
       | inr more ↦ absurd (omega (arith, spare d j (omega arith) (omega arith)))
     ]
 
 -- nor does a run of steps
-pub IsSpare-before_run : (fllen sllen : ℕ) (memory : Range) (s t : State) (es : List Event) (a : ℕ) → Runs fllen sllen memory s es t → IsSpare t a → IsSpare s a
-IsSpare-before_run fllen sllen memory s t [] a run spare = subst (λ x. IsSpare x a) run spare
-IsSpare-before_run fllen sllen memory s t (e ∷ es) a (u, may, step, rest) spare = IsSpare-before fllen sllen s u e a step (IsSpare-before_run fllen sllen memory u t es a rest spare)
+pub IsSpare-before_run : (fllen sllen : ℕ) (memory : Range) (s t : State) (es : List Event) (a : ℕ) → ((e : Event) → IsIn e es → IsRemoval e → ⊥) → Runs fllen sllen memory s es t → IsSpare t a → IsSpare s a
+IsSpare-before_run fllen sllen memory s t [] a lasts run spare = subst (λ x. IsSpare x a) run spare
+IsSpare-before_run fllen sllen memory s t (e ∷ es) a lasts (u, may, step, rest) spare =
+    IsSpare-before fllen sllen s u e a (lasts e (inl refl)) step (IsSpare-before_run fllen sllen memory u t es a (λ f i. lasts f (inr i)) rest spare)
 
 -- what is kept over what leads from s to t, and then over a step from t to u, is kept over both
-pub KeepsSpare-trans : (fllen sllen : ℕ) (m n o : Space) (s t u : State) (e : Event) → SamePlace m n → Leads fllen sllen t e u → KeepsSpare m s n t → KeepsSpare n t o u → KeepsSpare m s o u
-KeepsSpare-trans fllen sllen m n o s t u e place step first second a from to spare_s spare_u =
-    let spare_t = IsSpare-before fllen sllen t u e a step spare_u in
+pub KeepsSpare-trans : (fllen sllen : ℕ) (m n o : Space) (s t u : State) (e : Event) → (IsRemoval e → ⊥) → SamePlace m n → Leads fllen sllen t e u → KeepsSpare m s n t → KeepsSpare n t o u → KeepsSpare m s o u
+KeepsSpare-trans fllen sllen m n o s t u e lasts place step first second a from to spare_s spare_u =
+    let spare_t = IsSpare-before fllen sllen t u e a lasts step spare_u in
     second a (omega (arith, place.0)) (omega (arith, place.0, place.1)) spare_t spare_u ∙ first a from to spare_s spare_t
