@@ -4,39 +4,46 @@ use Rattle.std.specs.Bool.{then_some}
 use Rattle.std.proofs.lemmas.Bool.{false≢true}
 use Rattle.std.proofs.lemmas.Option.{same_Some}
 use Rattle.rlsf_base.specs.declared.memory.range.Range.{Range}
-use Rattle.rlsf_base.specs.Range.{end_of}
+use Rattle.rlsf_base.specs.Range.{end_of, range_at}
+use Rattle.rlsf_base.specs.Rounding.{round32}
+use Rattle.rlsf_base.proofs.Numbers.Roundings.{round32-le}
 use Rattle.rlsf_base.specs.SizeClass.{IsValid}
 use Rattle.rlsf_base.specs.Sizes.{pool_size_to_contain_allocation}
 use Rattle.rlsf_machine.specs.Allocate.{Allocates}
 use Rattle.rlsf_machine.specs.Answers.{MayAnswerAll}
+use Rattle.rlsf_machine.specs.ChunkRows.{IsRow}
 use Rattle.rlsf_machine.specs.FlexRun.{HandsIn}
 use Rattle.rlsf_machine.specs.FlexState.{FlexState, KeptPool}
-use Rattle.rlsf_machine.specs.FlexWellFormed.{AreHoused, AreOutstanding, IsFlexWellFormed, IsKeptPool, IsNewest}
+use Rattle.rlsf_machine.specs.FlexWellFormed.{AreHoused, AreOutstanding, ArePools, IsFlexWellFormed, IsKeptPool, IsNewest, IsPool}
 use Rattle.rlsf_machine.specs.Growth.{IsPossible, Outcome, behind, given, grown, is_more, keeps, longer, notes_of, questions, questions_for, refused, TakesIn}
 use Rattle.rlsf_machine.specs.Insert.{Appends, Inserts, IsClear, IsFresh, IsNext}
 use Rattle.rlsf_machine.specs.Laws.{GrowthHasRoom, GrowthKeepsWellFormed}
+use Rattle.rlsf_machine.specs.Lists.{IsIn}
 use Rattle.rlsf_machine.specs.PoolLength.{HasPool}
 use Rattle.rlsf_machine.specs.Run.{Event, insert, append, Leads, MayCall}
-use Rattle.rlsf_machine.specs.State.{State}
+use Rattle.rlsf_machine.specs.State.{State, between}
 use Rattle.rlsf_machine.specs.Terms.{IsGiven, IsGrown, Terms, with_len}
 use Rattle.rlsf_machine.specs.WellFormed.{IsWellFormed}
 use Rattle.rlsf_machine.proofs.Appends.{Appends-keeps}
-use Rattle.rlsf_machine.proofs.Coverage.{before, behind as past, inside, where_is}
+use Rattle.rlsf_machine.proofs.ChunkRows.{IsRow-appended, IsRow-kept_apart}
+use Rattle.rlsf_machine.proofs.Coverage.{before, behind as past, covers-inside, inside, where_is}
 use Rattle.rlsf_machine.proofs.GivenAnswers.{given_answer, grown_answer, more_wanted}
 use Rattle.rlsf_machine.proofs.Housing.{AreHoused-inserted, AreHoused-longer, AreOutstanding-more, AreOutstanding-rest, IsClear-housed, coverage-in, coverage-none}
 use Rattle.rlsf_machine.proofs.Insertions.{Inserts-keeps}
+use Rattle.rlsf_machine.proofs.RangePools.{IsPool-inserted, IsPool-inserted_other, IsPool-kept}
 use Rattle.rlsf_machine.proofs.RangeLengths.{HasAlignedPart-given, range_asked}
 use Rattle.rlsf_machine.proofs.TakenPools.{IsTaken, appended_pool, appended_taken, inserted_pool, inserted_taken, longer as wider, new, old, pool_has_a_choice, pool_size_is}
 
 -- a state by its parts
 IsFlexWellFormed-at : {fllen sllen : ℕ} {memory : Range} {t : Terms} {s : FlexState} → IsFlexWellFormed fllen sllen memory t s → (u : FlexState) (pools : List Range) (kept : Option KeptPool) → u.pools ≡ pools → u.kept ≡ kept
-    → IsWellFormed fllen sllen memory u.machine → AreOutstanding t.space pools → AreHoused pools u.machine.chunks → IsNewest t kept pools u.machine.chunks → IsFlexWellFormed fllen sllen memory t u
-IsFlexWellFormed-at {t = t} w u pools kept is_pools is_kept machine outstanding housed newest = record {
+    → IsWellFormed fllen sllen memory u.machine → AreOutstanding t.space pools → AreHoused pools u.machine.chunks → IsNewest t kept pools u.machine.chunks → ArePools u.machine pools → IsFlexWellFormed fllen sllen memory t u
+IsFlexWellFormed-at {t = t} w u pools kept is_pools is_kept machine outstanding housed newest pooled = record {
   machine = machine;
   space = w.space;
   pools = subst (AreOutstanding t.space) (sym is_pools) outstanding;
   housed = subst (λ ps. AreHoused ps u.machine.chunks) (sym is_pools) housed;
   newest = subst (λ ps. IsNewest t u.kept ps u.machine.chunks) (sym is_pools) (subst (λ k. IsNewest t k pools u.machine.chunks) (sym is_kept) newest);
+  pooled = subst (ArePools u.machine) (sym is_pools) pooled;
 }
 
 -- a range whose last bytes r were taken, n of them, is kept up to there
@@ -79,6 +86,10 @@ module _ {fllen sllen : ℕ} {memory : Range} {t : Terms} {s : FlexState} (w : I
       (AreOutstanding-more t.space r s.pools w.pools g.lies_in g.apart long)
       (AreHoused-inserted fllen s.machine u.machine r (Some len) s.pools w.housed step)
       (newest_by fresh taken (keeps t) refl)
+      (λ p. elim [
+        | inl same ↦ subst (λ (q : Range). (m : ℕ) × IsPool u.machine q m) (sym same) (len, IsPool-inserted fllen s.machine u.machine r len long fresh.apart (Inserts-keeps w.machine r fresh (Some len) u.machine step) taken step)
+        | inr i ↦ let (m, is) = w.pooled p i in (m, IsPool-inserted_other fllen s.machine u.machine r p m (Some len) s.pools i g.apart step is)
+      ])
     where
       newest_by : IsFresh memory s.machine r → IsTaken s.machine r len u.machine → (k : Bool) → keeps t ≡ k → IsNewest t (then_some k (record { range = r; len = len })) (r ∷ s.pools) u.machine.chunks
       newest_by fresh taken true keep = IsKeptPool-taken t r len s.pools s.machine u.machine r len keep (omega arith) refl refl fresh.apart taken
@@ -148,6 +159,65 @@ module _ {fllen sllen : ℕ} {memory : Range} {t : Terms} {s : FlexState} (w : I
               ]
         ]
 
+    -- the kept range's pool reaches as far as it is kept
+    pool_before : IsPool s.machine k.range k.len
+    pool_before = let (m, is) = w.pooled k.range (subst (IsIn k.range) (sym kept.split) (inl refl)) in subst (IsPool s.machine k.range) (IsPool-kept t k s.machine s.pools m (λ c i. (w.machine.chunks c i).has_room) kept is) is
+
+    kept_after : (u : State) (n : ℕ) → IsTaken s.machine (behind k len) n u → IsKeptPool t (record { range = with_len k.range len; len = k.len + n }) (with_len k.range len ∷ kept.rest) u.chunks
+    kept_after u n taken =
+        let (room, wide, long) = is_longer in
+        IsKeptPool-taken t (with_len k.range len) (k.len + n) kept.rest s.machine u (behind k len) n kept.keeping (omega arith) (omega arith) (omega arith) behind_clear taken
+
+    -- so does the longer range's
+    grown_pool : (u : State) (n : ℕ) → Appends fllen s.machine (behind k len) n u → IsTaken s.machine (behind k len) n u → IsPool u (with_len k.range len) (k.len + n)
+    grown_pool u n step taken =
+        let after = kept_after u n taken in
+        let some = pool_before.some in
+        let its_row = between (round32 k.range.start) (k.range.start + k.len) in
+        let same : its_row.len + n ≡ k.range.start + (k.len + n) - round32 k.range.start = omega arith in
+        record {
+          some = omega arith;
+          within = after.within;
+          nearly = after.nearly;
+          row = subst (λ m. IsRow u (range_at (round32 k.range.start) m)) same (IsRow-appended w.machine (behind k len) its_row (omega arith) (omega arith) pool_before.row n u step);
+          unused = after.unused;
+        }
+
+    -- the pools of the other ranges stay
+    other_pool : (u : State) (n : ℕ) (p : Range) (m : ℕ) → IsIn p kept.rest → Appends fllen s.machine (behind k len) n u → IsTaken s.machine (behind k len) n u → IsPool s.machine p m → IsPool u p m
+    other_pool u n p m i step taken is =
+        let (room, wide, long) = is_longer in
+        let some = is.some in
+        let within = is.within in
+        let begins = round32-le p.start in
+        let its_row = between (round32 p.start) (p.start + m) in
+        let near = kept.nearly in
+        let kept_within = kept.within in
+        let elsewhere : end_of its_row ≡ k.range.start + k.len → ⊥ = λ at.
+        let a = k.range.start + k.len - 1 in
+        omega (arith, old_pools.disjoint a, covers-inside k.range a (omega arith) (omega arith), coverage-in p kept.rest a i (omega arith) (omega arith)) in
+        record {
+          some = is.some;
+          within = is.within;
+          nearly = is.nearly;
+          row = IsRow-kept_apart s.machine (behind k len) its_row behind_clear elsewhere is.row fllen n u step;
+          unused = λ a low high. coverage-none u.chunks a (λ d j d_low d_high. elim (taken.origin d j) [
+            | old h ↦ omega (arith, coverage-in d s.machine.chunks a h d_low d_high, is.unused a low high)
+            | new starts ends ↦ omega (arith, coverage-in p kept.rest a i (omega arith) (omega arith), g.apart a (omega arith) (omega (arith, taken.within)))
+            | wider b h starts b_ends ends ↦
+                let (q, l, q_low, q_high) = housed_after u n taken d j in
+                elim l [
+                  | inl same ↦
+                      let q_start : q.start ≡ k.range.start = ap (λ x. x.start) {x = q} same in
+                      let q_end : end_of q ≡ k.range.start + len = ap end_of {x = q} same in
+                      omega (arith, coverage-in p kept.rest a i (omega arith) (omega arith), g.apart a (omega arith) (omega arith))
+                  | inr other ↦
+                      let e = end_of d - 1 in
+                      omega (arith, coverage-in q kept.rest e other (omega arith) (omega arith), g.apart e (omega (arith, taken.nearly)) (omega (arith, taken.within)))
+                ]
+          ]);
+        }
+
     -- a growth that came and was appended leaves a well-formed state
     pub grown_keeps : (n : ℕ) (u : FlexState) → Appends fllen s.machine (behind k len) n u.machine → u.pools ≡ longer len s.pools → u.kept ≡ Some (record { range = with_len k.range len; len = k.len + n })
         → IsFlexWellFormed fllen sllen memory t u
@@ -159,7 +229,11 @@ module _ {fllen sllen : ℕ} {memory : Range} {t : Terms} {s : FlexState} (w : I
         (Appends-keeps w.machine (behind k len) behind_next.fresh n u.machine step)
         (AreOutstanding-more t.space now kept.rest (AreOutstanding-rest t.space k.range kept.rest old_pools) g.lies_in g.apart (omega arith))
         (housed_after u.machine n taken)
-        (IsKeptPool-taken t now (k.len + n) kept.rest s.machine u.machine (behind k len) n kept.keeping (omega arith) (omega arith) (omega arith) behind_clear taken)
+        (kept_after u.machine n taken)
+        (λ p. elim [
+          | inl same ↦ subst (λ (q : Range). (m : ℕ) × IsPool u.machine q m) (sym same) (k.len + n, grown_pool u.machine n step taken)
+          | inr i ↦ let (m, is) = w.pooled p (subst (IsIn p) (sym kept.split) (inr i)) in (m, other_pool u.machine n p m i step taken is)
+        ])
 
   -- ---- what came
 

@@ -20,6 +20,7 @@ use Rattle.rlsf_machine.specs.WellFormed.{IsWellFormed}
 use Rattle.rlsf_machine.proofs.Allocations.{Allocates-keeps}
 use Rattle.rlsf_machine.proofs.Chunks.{chunks-allocated, chunks-deallocated, chunks-filled, chunks-reallocated}
 use Rattle.rlsf_machine.proofs.FlexGrowths.{growth_keeps_well_formed}
+use Rattle.rlsf_machine.proofs.RangePools.{IsPool-same}
 use Rattle.rlsf_machine.proofs.Reallocations.{Reallocates-keeps}
 use Rattle.rlsf_machine.proofs.Releases.{Deallocates-keeps}
 use Rattle.rlsf_machine.proofs.Steps.{Fills-keeps, empty_is_well_formed}
@@ -31,6 +32,7 @@ flex_empty_is_well_formed fllen sllen memory t rows row_length addressable space
   pools = record { in_space = λ p i. absurd i; long = λ p i. absurd i; disjoint = λ a. omega arith };
   housed = λ c i. absurd i;
   newest = λ keep. refl;
+  pooled = λ p i. absurd i;
 }
 
 module _ {fllen sllen : ℕ} {memory : Range} {t : Terms} {s : FlexState} (w : IsFlexWellFormed fllen sllen memory t s) where
@@ -42,6 +44,7 @@ module _ {fllen sllen : ℕ} {memory : Range} {t : Terms} {s : FlexState} (w : I
     pools = w.pools;
     housed = subst (AreHoused s.pools) (sym same) w.housed;
     newest = subst (IsNewest t s.kept s.pools) (sym same) w.newest;
+    pooled = λ p i. let (len, is) = w.pooled p i in (len, IsPool-same s.machine m p len same is);
   })
 
   allocated_keeps : (size align addr : ℕ) (m : State) (u : FlexState) → IsPowerOfTwo align → Allocates sllen s.machine size align (Some addr) m → u ≡ with_machine s m → IsFlexWellFormed fllen sllen memory t u

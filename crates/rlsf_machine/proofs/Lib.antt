@@ -36,6 +36,7 @@ pub mod Payloads
 pub mod Plans
 pub mod Pools
 pub mod RangeLengths
+pub mod RangePools
 pub mod Reallocations
 pub mod Releases
 pub mod Removals

@@ -2,11 +2,13 @@
 use Rattle.std.specs.Prelude.{◌≡◌, ℕ, ◌+◌, ◌≤◌, ◌<◌, true, List, [], ◌∷◌, Option, Some, None}
 use Rattle.rlsf_base.specs.declared.memory.range.Range.{Range}
 use Rattle.rlsf_base.specs.Range.{end_of, LiesIn}
+use Rattle.rlsf_base.specs.Rounding.{round32}
+use Rattle.rlsf_machine.specs.ChunkRows.{IsRow}
 use Rattle.rlsf_machine.specs.FlexState.{FlexState, KeptPool}
 use Rattle.rlsf_machine.specs.Growth.{keeps}
 use Rattle.rlsf_machine.specs.Insert.{IsClear}
 use Rattle.rlsf_machine.specs.Lists.{IsIn}
-use Rattle.rlsf_machine.specs.State.{between}
+use Rattle.rlsf_machine.specs.State.{State, between}
 use Rattle.rlsf_machine.specs.Terms.{Terms}
 use Rattle.rlsf_machine.specs.WellFormed.{coverage, itself, IsWellFormed}
 
@@ -35,16 +37,30 @@ pub record IsKeptPool (t : Terms) (k : KeptPool) (pools chunks : List Range) : T
   pub last : (c : Range) × IsIn c chunks × (end_of c ≡ k.range.start + k.len)
   pub unused : IsClear (between (k.range.start + k.len) (end_of k.range)) chunks
 
+-- A range has a pool of so many bytes: its chunks are a row from its start rounded up to 32 on, up to that many bytes behind the start.
+-- Fewer than 64 bytes are left behind them, and none of these is in a chunk.
+pub record IsPool (s : State) (range : Range) (len : ℕ) : Type 0 where
+  pub some : round32 range.start < range.start + len
+  pub within : len ≤ range.len
+  pub nearly : range.len < len + 64
+  pub row : IsRow s (between (round32 range.start) (range.start + len))
+  pub unused : IsClear (between (range.start + len) (end_of range)) s.chunks
+
+-- so has each of some ranges
+abbrev pub ArePools : State → List Range → Type 0
+ArePools s ranges = (p : Range) → IsIn p ranges → (len : ℕ) × IsPool s p len
+
 -- none is kept where there is none, or where the source can neither grow a range nor take one back
 abbrev pub IsNewest : Terms → Option KeptPool → List Range → List Range → Type 0
 IsNewest t None pools chunks = keeps t ≡ true → pools ≡ []
 IsNewest t (Some k) pools chunks = IsKeptPool t k pools chunks
 
 -- The machine's own state is well-formed. The source's space lies in the memory, the ranges are outstanding there and house all
--- chunks, and the kept pool is the newest range.
+-- chunks, each as a pool of its own, and the kept pool is the newest range.
 pub record IsFlexWellFormed (fllen sllen : ℕ) (memory : Range) (t : Terms) (s : FlexState) : Type 0 where
   pub machine : IsWellFormed fllen sllen memory s.machine
   pub space : LiesIn t.space memory.start memory.len
   pub pools : AreOutstanding t.space s.pools
   pub housed : AreHoused s.pools s.machine.chunks
   pub newest : IsNewest t s.kept s.pools s.machine.chunks
+  pub pooled : ArePools s.machine s.pools
