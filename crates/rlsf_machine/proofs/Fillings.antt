@@ -56,6 +56,12 @@ module _ (addr : ℕ) (bytes : List ℕ) where
       (λ e. ap (λ b. shape_of (cond b (with_bytes u bytes) u)) e)
       (λ e. ap (λ b. shape_of (cond b (with_bytes u bytes) u)) e)
 
+  -- a block had its range, its address and its alignment before
+  pub shape-filled_from : (v : Used) (used : List Used) → IsIn v (filled_at addr bytes used) → (u : Used) × IsIn u used × (shape_of v ≡ shape_of u)
+  shape-filled_from v used i =
+      let (u, j, is) = IsIn-map_from (filled_if addr bytes) v used i in
+      (u, j, ap shape_of is ∙ shape-filled_if u)
+
   pub shapes-filled : (used : List Used) → map shape_of (filled_at addr bytes used) ≡ map shape_of used
   shapes-filled [] = refl
   shapes-filled (u ∷ us) = λ k. shape-filled_if u k ∷ shapes-filled us k

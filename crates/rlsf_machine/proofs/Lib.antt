@@ -4,6 +4,7 @@ pub mod Allocations
 pub mod AppendedRanges
 pub mod Appends
 pub mod Between
+pub mod Budgets
 pub mod Callers
 pub mod CallerWords
 pub mod Changes
@@ -33,6 +34,7 @@ pub mod Live
 pub mod Notes
 pub mod Orders
 pub mod Payloads
+pub mod Parts
 pub mod Plans
 pub mod Pools
 pub mod RangeLengths
@@ -45,6 +47,8 @@ pub mod Room
 pub mod Rows
 pub mod Similar
 pub mod Steps
+pub mod Sums
 pub mod TakenPools
 pub mod Tiling
+pub mod Uniform
 pub mod Untouched

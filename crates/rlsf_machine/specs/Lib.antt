@@ -3,6 +3,7 @@
 -- ranges that are free, the newest first. All arithmetic is that of whole numbers without bound.
 pub mod Allocate
 pub mod Answers
+pub mod Budget
 pub mod Callers
 pub mod ChunkRows
 pub mod End
@@ -23,6 +24,8 @@ pub mod Reallocate
 pub mod Release
 pub mod Remove
 pub mod Run
+pub mod Sizing
 pub mod State
 pub mod Terms
+pub mod Uniform
 pub mod WellFormed

@@ -2,13 +2,15 @@
 //!
 //! It knows the chunks of memory that were handed to it, the blocks that are in use, and one list of the ranges that
 //! are free, the newest first; nothing of how a program keeps them. Read `specs/` in this order: `Lists` (two words),
-//! `State`, `Payload`, `WellFormed`, `Join`, `Insert` (and append), `Allocate`, `Release`, `Reallocate`, `Remove`, `Run` (lists of
-//! calls), `Callers` (what these see of it), `Laws`; and for a machine that asks a source for memory `Terms`, `Note` and `Answers` (sources),
-//! `FlexState`, `Growth`, `FlexAllocate`, `FlexReallocate`, `FlexRun`, `FlexWellFormed`, `End`. Each step is a relation between the
-//! state before, the call, the reply and the state after.
+//! `State`, `Payload`, `WellFormed`, `Join`, `Insert` (and append), `Allocate`, `Release`, `Reallocate`, `Remove`, `Run`
+//! (lists of calls), `Callers` (what these see of it), `Laws`, `Budget`, `Uniform` and `Sizing` (how much memory is enough); and for a
+//! machine that asks a source for memory `Terms`, `Note` and `Answers` (sources), `FlexState`, `Growth`, `FlexAllocate`,
+//! `FlexReallocate`, `FlexRun`, `FlexWellFormed`, `End`. Each step is a relation between the state before, the call, the reply
+//! and the state after.
 #![tactic(auto)]
 
 ghost use Rattle.rlsf_machine.specs.Laws.{EmptyIsWellFormed, StepsKeepWellFormed, RunsKeepWellFormed, StepsAreDetermined, OrderMeansNothing, RefusalChangesNothing, ChunksAreCutOffTheFront, LiveAddressesAreAligned, LiveAddressHasOneBlock, PayloadsAreDisjoint, PayloadLiesInOneChunk, AllocationHasSize, ReallocationHasSize, RoomIsFound, PoolHasRoom, AllocationAnswers, RefusedWithoutReach, ChoiceIsFirstOfLeast, IdleChunkIsOneRange, ChunksStay, RemovalLeavesOthers, OtherPayloadsStay, HandedOutIsNew, ReallocatedIsLive, LiveStays, ReleasedIsNotLive, FilledHasBytes, FillLeavesOthers, DeallocationLeavesOthers, InsertedChunksLieInRange, UsedWasUsed, SimilarStatesAgree, EachCallAnswers, ReallocationKeepsBytes, PayloadIsInBlock, CallersSeeMap, IdleChunkHasRoom, FillIsSimilar, FlexCallersSeeMap, FlexEmptyIsWellFormed, GrowthKeepsWellFormed, GrowthHasRoom, FlexStepsKeepWellFormed, FlexRunsKeepWellFormed, FlexRunsAreRuns, FlexStepsChangeMap, FlexPayloadsAreApart, FlexAllocationHasSize, FlexReallocationHasSize, FlexReallocationKeepsBytes, FlexOtherPayloadsStay, FlexUsedWasUsed, FlexSimilarStatesAgree, FlexSimilarRunsAgree, FlexEachCallAnswers};
+ghost use Rattle.rlsf_machine.specs.Sizing.{FewFree, BytesAddUp, BudgetIsEnough, ModestRunsAreNotDenied, LiveIsCounted, BoundedRunsAreNotDenied, UniformIsFull, AllocationKeepsUniform, DeallocationKeepsUniform, RunsKeepUniform, UniformRunsAnswer};
 
 /// Does nothing. Its contract states the laws of the machine, so that a check proves them.
 ///
@@ -38,6 +40,13 @@ ghost use Rattle.rlsf_machine.specs.Laws.{EmptyIsWellFormed, StepsKeepWellFormed
 /// the memory that comes is handed in. From similar states, where the source gives the same answers to the same questions, the
 /// same calls ask the same, have the same replies, and lead to similar states. Each call that its caller may make has a reply,
 /// whatever of what it may answer the source answers.
+///
+/// How much memory is enough is known before the first call. There are at most as many free ranges as used blocks and chunks
+/// together, and the free ranges, the used blocks and 32 bytes of each chunk add up to the chunks. So an allocation is not
+/// refused where the free bytes suffice for so few ranges; and in a run that begins with nothing live, with bounds on its
+/// sizes, its alignments and how many payloads live, nothing is refused where chunks, or fronts of them, have the budget for
+/// these bounds. Memory that comes meanwhile never hurts. In one chunk, blocks of one length at which a class begins stay in
+/// step: an allocation is refused exactly where as many payloads are live as the chunk has room for. Live payloads are counted.
 pub fn laws()
     ensures empty { EmptyIsWellFormed }
     ensures steps { StepsKeepWellFormed }
@@ -94,4 +103,15 @@ pub fn laws()
     ensures flex_similar { FlexSimilarStatesAgree }
     ensures flex_similar_runs { FlexSimilarRunsAgree }
     ensures flex_each_call { FlexEachCallAnswers }
+    ensures few_free { FewFree }
+    ensures bytes { BytesAddUp }
+    ensures budget { BudgetIsEnough }
+    ensures modest_runs { ModestRunsAreNotDenied }
+    ensures live { LiveIsCounted }
+    ensures bounded_runs { BoundedRunsAreNotDenied }
+    ensures uniform_full { UniformIsFull }
+    ensures uniform_allocation { AllocationKeepsUniform }
+    ensures uniform_release { DeallocationKeepsUniform }
+    ensures uniform_runs { RunsKeepUniform }
+    ensures uniform_answers { UniformRunsAnswer }
 {}

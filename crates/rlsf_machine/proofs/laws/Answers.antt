@@ -1,3 +1,4 @@
+use Rattle.rlsf_machine.proofs.Budgets.{modest_runs_are_not_denied, live_is_counted, bounded_runs_are_not_denied}
 use Rattle.rlsf_machine.proofs.Callers.{payload_is_in_block, callers_see_map}
 use Rattle.rlsf_machine.proofs.Chunks.{chunks_stay, inserted_chunks_lie_in_range}
 use Rattle.rlsf_machine.proofs.Cuts.{chunks_are_cut_off_the_front}
@@ -17,6 +18,8 @@ use Rattle.rlsf_machine.proofs.Replies.{each_call_answers}
 use Rattle.rlsf_machine.proofs.Room.{room_is_found, allocation_answers, refused_without_reach, choice_is_first_of_least, idle_chunk_is_one_range}
 use Rattle.rlsf_machine.proofs.Similar.{fill_is_similar, similar_states_agree}
 use Rattle.rlsf_machine.proofs.Steps.{empty_is_well_formed, steps_keep_well_formed, runs_keep_well_formed}
+use Rattle.rlsf_machine.proofs.Sums.{few_free, bytes_add_up, budget_is_enough}
+use Rattle.rlsf_machine.proofs.Uniform.{uniform_is_full, allocation_keeps_uniform, deallocation_keeps_uniform, runs_keep_uniform, uniform_runs_answer}
 use Rattle.rlsf_machine.proofs.laws.Goals as goal
 
 pub returns : goal.returns
@@ -76,4 +79,15 @@ returns c = record {
   flex_similar = flex_similar_states_agree;
   flex_similar_runs = flex_similar_runs_agree;
   flex_each_call = flex_each_call_answers;
+  few_free = few_free;
+  bytes = bytes_add_up;
+  budget = budget_is_enough;
+  modest_runs = modest_runs_are_not_denied;
+  live = live_is_counted;
+  bounded_runs = bounded_runs_are_not_denied;
+  uniform_full = uniform_is_full;
+  uniform_allocation = allocation_keeps_uniform;
+  uniform_release = deallocation_keeps_uniform;
+  uniform_runs = runs_keep_uniform;
+  uniform_answers = uniform_runs_answer;
 }

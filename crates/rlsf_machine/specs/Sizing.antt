@@ -1,0 +1,74 @@
+-- What holds of how much memory is enough: laws of runs, known before the first call.
+use Rattle.std.specs.Prelude.{◌≡◌, ◌≢◌, ◌↔◌, ℕ, ◌+◌, ◌*◌, ◌<◌, ◌≤◌, List, [], length, Option, None}
+use Rattle.rlsf_base.specs.declared.memory.range.Range.{Range}
+use Rattle.rlsf_base.specs.PowerOfTwo.{IsPowerOfTwo}
+use Rattle.rlsf_base.specs.SizeClass.{class_of, Reaches}
+use Rattle.rlsf_base.specs.Sizes.{request_size}
+use Rattle.rlsf_machine.specs.Allocate.{Allocates}
+use Rattle.rlsf_machine.specs.Budget.{total_len, used_bytes, AreFronts, AreAtMost, HasBudget, RunsModestly, IsDenied, AreWithin, live_after}
+use Rattle.rlsf_machine.specs.Lists.{IsIn}
+use Rattle.rlsf_machine.specs.Release.{Deallocates}
+use Rattle.rlsf_machine.specs.Run.{Event, Leads, MayCall, Runs}
+use Rattle.rlsf_machine.specs.State.{State}
+use Rattle.rlsf_machine.specs.Uniform.{IsUniform, AsksUniformly, blocks_in, AreDeniedOnlyAt}
+use Rattle.rlsf_machine.specs.WellFormed.{IsWellFormed}
+
+-- there are at most as many free ranges as used blocks and chunks together
+abbrev pub FewFree : Type 0
+FewFree = (fllen sllen : ℕ) (memory : Range) (s : State) → IsWellFormed fllen sllen memory s → length s.free ≤ length s.used + length s.chunks
+
+-- the free ranges, the used blocks and 32 bytes of each chunk are together as long as the chunks
+abbrev pub BytesAddUp : Type 0
+BytesAddUp = (fllen sllen : ℕ) (memory : Range) (s : State) → IsWellFormed fllen sllen memory s
+    → total_len s.free + used_bytes s.used + 32 * length s.chunks ≡ total_len s.chunks
+
+-- an allocation is not refused where the free bytes are so many that one of so few free ranges has room for it
+abbrev pub BudgetIsEnough : Type 0
+BudgetIsEnough = (fllen sllen : ℕ) (memory : Range) (s t : State) (size align : ℕ) (reply : Option ℕ) → IsWellFormed fllen sllen memory s → 0 < length s.chunks
+    → (length s.used + length s.chunks) * (request_size size align * (sllen + 1)) ≤ total_len s.free * sllen → Allocates sllen s size align reply t → reply ≢ None
+
+-- in a run whose calls keep to a budget that fronts of the chunks have, no allocation or reallocation is refused, whatever
+-- memory comes meanwhile
+abbrev pub ModestRunsAreNotDenied : Type 0
+ModestRunsAreNotDenied = (live most fllen sllen : ℕ) (memory : Range) (s t : State) (fronts : List Range) (es : List Event) → IsWellFormed fllen sllen memory s
+    → AreFronts s.chunks fronts → 0 < length fronts → AreAtMost most s.used → HasBudget live most sllen fronts
+    → RunsModestly live most fllen sllen memory s es t → (e : Event) → IsIn e es → IsDenied e → ⊥
+
+-- how many payloads are live after a step
+abbrev pub LiveIsCounted : Type 0
+LiveIsCounted = (fllen sllen : ℕ) (memory : Range) (s t : State) (e : Event) → IsWellFormed fllen sllen memory s → MayCall memory s e → Leads fllen sllen s e t
+    → length t.used ≡ live_after e (length s.used)
+
+-- from a state with nothing live, no allocation or reallocation is refused in a run whose sizes, alignments and live
+-- payloads stay within bounds for which fronts of the chunks have a budget, whatever memory comes meanwhile
+abbrev pub BoundedRunsAreNotDenied : Type 0
+BoundedRunsAreNotDenied = (live size align fllen sllen : ℕ) (memory : Range) (s t : State) (fronts : List Range) (es : List Event) → IsWellFormed fllen sllen memory s
+    → s.used ≡ [] → AreFronts s.chunks fronts → 0 < length fronts → HasBudget live (request_size size align) sllen fronts
+    → Runs fllen sllen memory s es t → AreWithin live size align 0 es → (e : Event) → IsIn e es → IsDenied e → ⊥
+
+-- where blocks of one length, at which a class begins, fill a chunk from its start, an allocation is refused exactly
+-- where the chunk is not long enough for one more
+abbrev pub UniformIsFull : Type 0
+UniformIsFull = (fllen sllen : ℕ) (memory : Range) (s t : State) (c : Range) (size align : ℕ) (reply : Option ℕ) → IsWellFormed fllen sllen memory s
+    → IsUniform (request_size size align) c s → Reaches sllen (class_of sllen (request_size size align)) (request_size size align) → Allocates sllen s size align reply t
+    → (reply ≡ None) ↔ (c.len < (length s.used + 1) * request_size size align + 32)
+
+-- such an allocation, at an alignment of 32 or less, leaves blocks of that length alone
+abbrev pub AllocationKeepsUniform : Type 0
+AllocationKeepsUniform = (fllen sllen : ℕ) (memory : Range) (s t : State) (c : Range) (size align : ℕ) (reply : Option ℕ) → IsWellFormed fllen sllen memory s
+    → IsPowerOfTwo align → align ≤ 32 → IsUniform (request_size size align) c s → Allocates sllen s size align reply t → IsUniform (request_size size align) c t
+
+-- and so does a deallocation
+abbrev pub DeallocationKeepsUniform : Type 0
+DeallocationKeepsUniform = (len : ℕ) (s t : State) (c : Range) (addr : ℕ) → IsUniform len c s → Deallocates s addr t → IsUniform len c t
+
+-- and so does a run of such calls
+abbrev pub RunsKeepUniform : Type 0
+RunsKeepUniform = (len fllen sllen : ℕ) (memory : Range) (s t : State) (c : Range) (es : List Event) → IsWellFormed fllen sllen memory s → IsUniform len c s
+    → Runs fllen sllen memory s es t → ((e : Event) → IsIn e es → AsksUniformly len e) → IsUniform len c t
+
+-- in which each allocation is refused exactly where as many payloads are live as the chunk has room for
+abbrev pub UniformRunsAnswer : Type 0
+UniformRunsAnswer = (len fllen sllen : ℕ) (memory : Range) (s t : State) (c : Range) (es : List Event) → IsWellFormed fllen sllen memory s → IsUniform len c s
+    → 0 < len → Reaches sllen (class_of sllen len) len → Runs fllen sllen memory s es t → ((e : Event) → IsIn e es → AsksUniformly len e)
+    → AreDeniedOnlyAt (blocks_in len c) (length s.used) es
