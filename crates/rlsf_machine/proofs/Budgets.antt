@@ -48,7 +48,7 @@ left_over free used bound chunks total k x sum few budget =
     omega arith
 
 -- within the budget an allocation is not refused
-not_denied : (live most : ℕ) {fllen sllen : ℕ} {memory : Range} {s : State} → IsWellFormed fllen sllen memory s → (fronts : List Range) → AreFronts s.chunks fronts → 0 < length fronts → AreAtMost most s.used
+pub not_denied : (live most : ℕ) {fllen sllen : ℕ} {memory : Range} {s : State} → IsWellFormed fllen sllen memory s → (fronts : List Range) → AreFronts s.chunks fronts → 0 < length fronts → AreAtMost most s.used
     → HasBudget live most sllen fronts → length s.used ≤ live → (size align : ℕ) → request_size size align ≤ most → (t : State) → Allocates sllen s size align None t → ⊥
 not_denied live most {fllen} {sllen} {memory} {s} w fronts are some small budget few size align fits t step =
     let have = have_chunks s.chunks w.disjoint fronts are.each are.disjoint in
@@ -72,7 +72,7 @@ not_denied live most {fllen} {sllen} {memory} {s} w fronts are some small budget
 -- ---- steps
 
 -- each step keeps the fronts of chunks
-AreFronts-kept : (fllen sllen : ℕ) (s : State) (fronts : List Range) → AreFronts s.chunks fronts → (t : State) (e : Event) → Leads fllen sllen s e t → AreFronts t.chunks fronts
+pub AreFronts-kept : (fllen sllen : ℕ) (s : State) (fronts : List Range) → AreFronts s.chunks fronts → (t : State) (e : Event) → Leads fllen sllen s e t → AreFronts t.chunks fronts
 AreFronts-kept fllen sllen s fronts are t e step = record {
   each = λ r i.
       let (c, j, start, long, some) = are.each r i in
@@ -117,7 +117,7 @@ module _ (most : ℕ) {fllen sllen : ℕ} {memory : Range} {s : State} (w : IsWe
   reallocate_modest u h size fits None e (Some addr) t step =
       deallocate_modest most step.meanwhile t u.payload (allocate_modest most w small size u.align (Some addr) step.meanwhile (w.used u h).power fits step.allocated) step.released
 
-  step_modest : (live : ℕ) (t : State) (e : Event) → MayCall memory s e → IsModest live most s e → Leads fllen sllen s e t → AreAtMost most t.used
+  pub step_modest : (live : ℕ) (t : State) (e : Event) → MayCall memory s e → IsModest live most s e → Leads fllen sllen s e t → AreAtMost most t.used
   step_modest live t (insert r reply) may modest step = subst (AreAtMost most) (sym (used-inserted fllen s t r reply step)) small
   step_modest live t (append r reply) may modest step = subst (AreAtMost most) (sym (used-appended fllen s t r reply step)) small
   step_modest live t (allocate size align reply) may modest step = allocate_modest most w small size align reply t may modest.1 step
@@ -189,7 +189,7 @@ live_is_counted fllen sllen memory s t (fill addr bytes) w may step = ap (λ x. 
 -- ---- alignments
 
 -- no used block has a greater alignment
-AreAligned : ℕ → List Used → Type 0
+pub AreAligned : ℕ → List Used → Type 0
 AreAligned most used = (u : Used) → IsIn u used → u.align ≤ most
 
 module _ (most : ℕ) where
@@ -215,7 +215,7 @@ module _ (most : ℕ) where
       let (u, j, same) = shape-filled_from addr bytes v used i in
       subst (λ n. n ≤ most) (sym (ap (λ h. h.align) same)) (small u j)
 
-  aligned_none : (used : List Used) → used ≡ [] → AreAligned most used
+  pub aligned_none : (used : List Used) → used ≡ [] → AreAligned most used
   unfolding AreAligned
   aligned_none used is u i = absurd (subst (IsIn u) is i)
 
@@ -230,7 +230,7 @@ module _ (most : ℕ) where
   reallocate_aligned sllen size u None (Some addr) s t fits small step =
       aligned_by step.released.after (aligned_others step.released.block.payload step.meanwhile.used (allocate_aligned sllen size u.align (Some addr) s step.meanwhile fits small step.allocated))
 
-  step_aligned : (live size n fllen sllen : ℕ) (s t : State) (e : Event) → AsksWithin live size most n e → AreAligned most s.used → Leads fllen sllen s e t → AreAligned most t.used
+  pub step_aligned : (live size n fllen sllen : ℕ) (s t : State) (e : Event) → AsksWithin live size most n e → AreAligned most s.used → Leads fllen sllen s e t → AreAligned most t.used
   step_aligned live size n fllen sllen s t (insert r reply) within small step = subst (AreAligned most) (sym (used-inserted fllen s t r reply step)) small
   step_aligned live size n fllen sllen s t (append r reply) within small step = subst (AreAligned most) (sym (used-appended fllen s t r reply step)) small
   step_aligned live size n fllen sllen s t (allocate z align reply) (few, short, fits) small step = allocate_aligned sllen z align reply s t fits small step
@@ -245,7 +245,7 @@ module _ (most : ℕ) where
 request_size-mono : (size align most_size most_align : ℕ) → size ≤ most_size → align ≤ most_align → request_size size align ≤ request_size most_size most_align
 request_size-mono size align most_size most_align short fits = round32-mono (size + (align - 16) + 16) (most_size + (most_align - 16) + 16) (omega arith)
 
-modest_by : (live size align n : ℕ) (s : State) (e : Event) → length s.used ≡ n → AreAligned align s.used → AsksWithin live size align n e → IsModest live (request_size size align) s e
+pub modest_by : (live size align n : ℕ) (s : State) (e : Event) → length s.used ≡ n → AreAligned align s.used → AsksWithin live size align n e → IsModest live (request_size size align) s e
 modest_by live size align n s (insert r reply) count small within = tt
 modest_by live size align n s (append r reply) count small within = tt
 modest_by live size align n s (allocate z a reply) count small (few, short, fits) = (omega arith, request_size-mono z a size align short fits)

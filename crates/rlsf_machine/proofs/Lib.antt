@@ -16,6 +16,7 @@ pub mod Cuts
 pub mod Determined
 pub mod Examples
 pub mod Fillings
+pub mod FlexBudgets
 pub mod FlexCallers
 pub mod FlexExamples
 pub mod FlexGrowths

@@ -49,6 +49,11 @@ abbrev pub notes_in : List FlexEvent → List Note
 notes_in [] = []
 notes_in (c ∷ cs) = c.notes ++ notes_in cs
 
+-- the calls with their replies, in order
+abbrev pub events_in : List FlexEvent → List Event
+events_in [] = []
+events_in (c ∷ cs) = c.event ∷ events_in cs
+
 -- the calls are the same, one by one, whatever their replies and what was asked
 abbrev pub AreSameCalls : List FlexEvent → List FlexEvent → Type 0
 AreSameCalls [] [] = Unit {0}

@@ -6,10 +6,13 @@ use Rattle.rlsf_base.specs.SizeClass.{class_of, Reaches}
 use Rattle.rlsf_base.specs.Sizes.{request_size}
 use Rattle.rlsf_machine.specs.Allocate.{Allocates}
 use Rattle.rlsf_machine.specs.Budget.{total_len, used_bytes, AreFronts, AreAtMost, HasBudget, RunsModestly, IsDenied, AreWithin, live_after}
+use Rattle.rlsf_machine.specs.FlexRun.{FlexEvent, IsFlexRun, events_in, notes_in}
+use Rattle.rlsf_machine.specs.FlexState.{FlexState}
 use Rattle.rlsf_machine.specs.Lists.{IsIn}
 use Rattle.rlsf_machine.specs.Release.{Deallocates}
 use Rattle.rlsf_machine.specs.Run.{Event, Leads, MayCall, Runs}
 use Rattle.rlsf_machine.specs.State.{State}
+use Rattle.rlsf_machine.specs.Terms.{Terms}
 use Rattle.rlsf_machine.specs.Uniform.{IsUniform, AsksUniformly, blocks_in, AreDeniedOnlyAt}
 use Rattle.rlsf_machine.specs.WellFormed.{IsWellFormed}
 
@@ -72,3 +75,12 @@ abbrev pub UniformRunsAnswer : Type 0
 UniformRunsAnswer = (len fllen sllen : ℕ) (memory : Range) (s t : State) (c : Range) (es : List Event) → IsWellFormed fllen sllen memory s → IsUniform len c s
     → 0 < len → Reaches sllen (class_of sllen len) len → Runs fllen sllen memory s es t → ((e : Event) → IsIn e es → AsksUniformly len e)
     → AreDeniedOnlyAt (blocks_in len c) (length s.used) es
+
+-- ---- over a source of memory
+
+-- within such bounds a source is never asked: a run over it is a run of the machine alone by the same calls with the same
+-- replies, none of which refuses bytes
+abbrev pub FlexNeverAsked : Type 0
+FlexNeverAsked = (live size align fllen sllen : ℕ) (memory : Range) (t : Terms) (s u : FlexState) (fronts : List Range) (cs : List FlexEvent) → IsWellFormed fllen sllen memory s.machine
+    → s.machine.used ≡ [] → AreFronts s.machine.chunks fronts → 0 < length fronts → HasBudget live (request_size size align) sllen fronts → IsFlexRun fllen sllen memory t s cs u
+    → AreWithin live size align 0 (events_in cs) → (notes_in cs ≡ []) × Runs fllen sllen memory s.machine (events_in cs) u.machine × ((e : Event) → IsIn e (events_in cs) → IsDenied e → ⊥)

@@ -3,6 +3,7 @@ use Rattle.rlsf_machine.proofs.Callers.{payload_is_in_block, callers_see_map}
 use Rattle.rlsf_machine.proofs.Chunks.{chunks_stay, inserted_chunks_lie_in_range}
 use Rattle.rlsf_machine.proofs.Cuts.{chunks_are_cut_off_the_front}
 use Rattle.rlsf_machine.proofs.Determined.{steps_are_determined, refusal_changes_nothing}
+use Rattle.rlsf_machine.proofs.FlexBudgets.{flex_never_asked}
 use Rattle.rlsf_machine.proofs.FlexCallers.{flex_callers_see_map}
 use Rattle.rlsf_machine.proofs.FlexGrowths.{growth_has_room, growth_keeps_well_formed}
 use Rattle.rlsf_machine.proofs.FlexPayloads.{flex_steps_change_map, flex_payloads_are_apart, flex_allocation_has_size, flex_reallocation_has_size, flex_reallocation_keeps_bytes, flex_other_payloads_stay, flex_used_was_used}
@@ -90,4 +91,5 @@ returns c = record {
   uniform_release = deallocation_keeps_uniform;
   uniform_runs = runs_keep_uniform;
   uniform_answers = uniform_runs_answer;
+  flex_never_asked = flex_never_asked;
 }
