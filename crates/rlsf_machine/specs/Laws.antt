@@ -1,5 +1,5 @@
 -- What holds of the machine's states and steps.
-use Rattle.std.specs.Prelude.{◌≡◌, ◌≢◌, true, ◌↔◌, ◌⊎◌, ℕ, ◌+◌, ◌*◌, ◌%◌, ◌^◌, ◌<◌, ◌≤◌, List, [], ◌∷◌, ◌++◌, filter, length, Option, Some, None, IfSome, ◌==◌, min, ◌-◌}
+use Rattle.std.specs.Prelude.{◌≡◌, ◌≢◌, true, ◌↔◌, ◌⊎◌, ℕ, ◌+◌, ◌*◌, ◌%◌, ◌^◌, ◌<◌, ◌≤◌, List, [], ◌∷◌, ◌++◌, filter, length, Option, Some, None, IfNone, IfSome, ◌==◌, min, ◌-◌}
 use Rattle.rlsf_base.specs.declared.memory.range.Range.{Range}
 use Rattle.rlsf_base.specs.PowerOfTwo.{IsPowerOfTwo}
 use Rattle.rlsf_base.specs.Range.{end_of, range_at, LiesIn}
@@ -15,6 +15,7 @@ use Rattle.rlsf_machine.specs.Growth.{Extends, IsPossible, Outcome, Questions, i
 use Rattle.rlsf_machine.specs.Insert.{body, cut, Inserts, IsClear}
 use Rattle.rlsf_machine.specs.Lists.{IsIn, without}
 use Rattle.rlsf_machine.specs.Note.{Note, AnswersAgree}
+use Rattle.rlsf_machine.specs.NoMove.{ReallocatesWithoutMove}
 use Rattle.rlsf_machine.specs.Reallocate.{Keeps, Reallocates}
 use Rattle.rlsf_machine.specs.Release.{Deallocates}
 use Rattle.rlsf_machine.specs.Remove.{IsIdle, IsRemovable, Removes}
@@ -258,6 +259,12 @@ IdleChunkHasRoom = (fl_bits sl_bits fllen sllen size align e : ℕ) (memory : Ra
 -- a fill leaves a similar state
 abbrev pub FillIsSimilar : Type 0
 FillIsSimilar = (s t : State) (addr : ℕ) (bytes : List ℕ) → Fills s addr bytes t → AreSimilar s t
+
+-- a reallocation without a move leads where a reallocation does, and its payload stays at its address; or it is refused, and
+-- nothing changes
+abbrev pub UnmovedIsReallocated : Type 0
+UnmovedIsReallocated = (sllen : ℕ) (s t : State) (addr size : ℕ) (reply : Option ℕ) → ReallocatesWithoutMove s addr size reply t
+    → IfSome reply (λ to. (to ≡ addr) × Reallocates sllen s addr size (Some to) t) × IfNone reply (t ≡ s)
 
 -- ---- over a source of memory
 

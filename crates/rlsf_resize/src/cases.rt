@@ -11,7 +11,7 @@ ghost use Rattle.rlsf_resize.specs.Steps.Resize.{IsUsedAt};
 
 use crate::elsewhere::move_elsewhere;
 use crate::previous::move_into_previous;
-use crate::resize::resize;
+use crate::resize::resize_block;
 use rlsf_base::memory::{Layout, Memory};
 use rlsf_int::Bitmap;
 use rlsf_table::ClassTable;
@@ -39,7 +39,7 @@ pub fn reallocate_block<FLBitmap: Bitmap, SLBitmap: Bitmap, const FLLEN: usize, 
     ensures stays { (s : State) (u : Used) (p : Plan) → StandsFor FLLEN SLLEN (contents memory.old table.old) s → IsUsedAt s u block payload layout.align
         → or_else (in_place s u layout.size) (into_next s u layout.size) ≡ Some p → memory.new.copied ≡ memory.old.copied }
 {
-    if resize(memory, table, block, payload, layout) {
+    if resize_block(memory, table, block, payload, layout) {
         return Some(payload);
     }
     if let Some(moved) = move_into_previous(memory, table, block, payload, layout) {

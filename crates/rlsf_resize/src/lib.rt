@@ -9,3 +9,4 @@ mod resize;
 
 pub use cases::reallocate_block;
 pub use extend::append;
+pub use resize::resize_block;

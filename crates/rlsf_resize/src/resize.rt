@@ -59,7 +59,7 @@ pub(crate) fn occupy<FLBitmap: Bitmap, SLBitmap: Bitmap, const FLLEN: usize, con
 /// Gives the used block at `block` another size where it stands, if its own bytes and those of a free block behind it
 /// suffice, and answers whether they do. What is left of them becomes a free block; if nothing is left over and nothing
 /// more is taken, nothing changes.
-pub(crate) fn resize<FLBitmap: Bitmap, SLBitmap: Bitmap, const FLLEN: usize, const SLLEN: usize>(
+pub fn resize_block<FLBitmap: Bitmap, SLBitmap: Bitmap, const FLLEN: usize, const SLLEN: usize>(
     memory: &mut Memory,
     table: &mut ClassTable<FLBitmap, SLBitmap, FLLEN, SLLEN>,
     block: usize,

@@ -1,7 +1,7 @@
 //! The allocator over pools that its caller hands in: two-level segregated fit (Masmano and others, ECRTS 2004).
 #![tactic(auto)]
 
-ghost use Rattle.rlsf_machine.specs.Laws.{EmptyIsWellFormed, StepsKeepWellFormed, RunsKeepWellFormed, StepsAreDetermined, OrderMeansNothing, RefusalChangesNothing, ChunksAreCutOffTheFront, LiveAddressesAreAligned, LiveAddressHasOneBlock, PayloadsAreDisjoint, PayloadLiesInOneChunk, AllocationHasSize, ReallocationHasSize, RoomIsFound, PoolHasRoom, AllocationAnswers, RefusedWithoutReach, ChoiceIsFirstOfLeast, IdleChunkIsOneRange, ChunksStay, RemovalLeavesOthers, OtherPayloadsStay, HandedOutIsNew, ReallocatedIsLive, LiveStays, ReleasedIsNotLive, FilledHasBytes, FillLeavesOthers, DeallocationLeavesOthers, InsertedChunksLieInRange, UsedWasUsed, SimilarStatesAgree, EachCallAnswers, ReallocationKeepsBytes, PayloadIsInBlock, CallersSeeMap, IdleChunkHasRoom, FillIsSimilar, FlexCallersSeeMap, FlexEmptyIsWellFormed, GrowthKeepsWellFormed, GrowthHasRoom, FlexStepsKeepWellFormed, FlexRunsKeepWellFormed, FlexRunsAreRuns, FlexStepsChangeMap, FlexPayloadsAreApart, FlexAllocationHasSize, FlexReallocationHasSize, FlexReallocationKeepsBytes, FlexOtherPayloadsStay, FlexUsedWasUsed, FlexSimilarStatesAgree, FlexSimilarRunsAgree, FlexEachCallAnswers};
+ghost use Rattle.rlsf_machine.specs.Laws.{EmptyIsWellFormed, StepsKeepWellFormed, RunsKeepWellFormed, StepsAreDetermined, OrderMeansNothing, RefusalChangesNothing, ChunksAreCutOffTheFront, LiveAddressesAreAligned, LiveAddressHasOneBlock, PayloadsAreDisjoint, PayloadLiesInOneChunk, AllocationHasSize, ReallocationHasSize, RoomIsFound, PoolHasRoom, AllocationAnswers, RefusedWithoutReach, ChoiceIsFirstOfLeast, IdleChunkIsOneRange, ChunksStay, RemovalLeavesOthers, OtherPayloadsStay, HandedOutIsNew, ReallocatedIsLive, LiveStays, ReleasedIsNotLive, FilledHasBytes, FillLeavesOthers, DeallocationLeavesOthers, InsertedChunksLieInRange, UsedWasUsed, SimilarStatesAgree, EachCallAnswers, ReallocationKeepsBytes, PayloadIsInBlock, CallersSeeMap, IdleChunkHasRoom, FillIsSimilar, FlexCallersSeeMap, FlexEmptyIsWellFormed, GrowthKeepsWellFormed, GrowthHasRoom, FlexStepsKeepWellFormed, FlexRunsKeepWellFormed, FlexRunsAreRuns, FlexStepsChangeMap, FlexPayloadsAreApart, FlexAllocationHasSize, FlexReallocationHasSize, FlexReallocationKeepsBytes, FlexOtherPayloadsStay, FlexUsedWasUsed, FlexSimilarStatesAgree, FlexSimilarRunsAgree, FlexEachCallAnswers, UnmovedIsReallocated};
 ghost use Rattle.rlsf_blocks.specs.Laws.{WordsGiveBlock, WordsReadNoPayload};
 
 mod state;
@@ -27,8 +27,9 @@ pub use tlsf::Tlsf;
 /// and of used blocks give the same reply to the same call, and stay so alike. Each call that its caller may make
 /// has a reply. A payload that gets another size keeps the bytes that both sizes have. To its callers the machine is a
 /// map from addresses to payloads, which each step changes as its call and its reply say. With nothing live, a chunk of
-/// the pool size that is computed for an allocation makes it succeed. A fill leaves a similar state.
+/// the pool size that is computed for an allocation makes it succeed. A fill leaves a similar state. What gets
 /// A removal takes the chunks and the free ranges in its range away, and nothing else.
+/// another size without a move leads where a reallocation does, and stays at its address; or it is refused, and nothing changes.
 ///
 /// Over a source of memory too the machine is such a map to its callers, between any two states that are well-formed. The
 /// beginning is, and as long as the source answers what it may, memory that comes, each step and each run over it keep a
@@ -81,6 +82,7 @@ pub fn laws()
     ensures idle_room { IdleChunkHasRoom }
     ensures fill_similar { FillIsSimilar }
     ensures removal { RemovalLeavesOthers }
+    ensures without_move { UnmovedIsReallocated }
     ensures flex_callers { FlexCallersSeeMap }
     ensures flex_empty { FlexEmptyIsWellFormed }
     ensures flex_growth { GrowthKeepsWellFormed }

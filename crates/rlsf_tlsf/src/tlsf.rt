@@ -15,6 +15,7 @@ ghost use Rattle.rlsf_machine.specs.Allocate.{Allocates, has_class};
 ghost use Rattle.rlsf_machine.specs.Callers.{align_at, bytes_at};
 ghost use Rattle.rlsf_machine.specs.ChunkRows.{IsRow};
 ghost use Rattle.rlsf_machine.specs.Insert.{Appends, Inserts, IsNext, IsUntouched, aligned_part, cut};
+ghost use Rattle.rlsf_machine.specs.NoMove.{ReallocatesWithoutMove};
 ghost use Rattle.rlsf_machine.specs.Reallocate.{Keeps, Plan, Reallocates, in_place, into_next, or_else};
 ghost use Rattle.rlsf_machine.specs.Release.{Deallocates};
 ghost use Rattle.rlsf_machine.specs.Run.{Fills};
@@ -31,7 +32,7 @@ use rlsf_blocks::{
     usable_bytes, used_block, walk,
 };
 use rlsf_int::{BitPattern, Bitmap};
-use rlsf_resize::{append, reallocate_block};
+use rlsf_resize::{append, reallocate_block, resize_block};
 use rlsf_table::{ClassTable, first_fit};
 use std::marker::Model;
 use std::num::NonZeroUsize;
@@ -255,6 +256,37 @@ impl<FLBitmap: Bitmap, SLBitmap: Bitmap, const FLLEN: usize, const SLLEN: usize>
         let moved = reallocate_block(&mut self.memory, &mut self.table, block, payload, layout)?;
         self.state.reallocate(SLLEN, payload, layout.size());
         NonZeroUsize::new(moved)
+    }
+
+    /// Gives a payload another size where it stands, if its block's bytes and those of a free block behind it suffice, and
+    /// answers its address. As many of its first bytes as both sizes have are kept, and none is copied. `None` exactly where
+    /// they don't suffice, and then nothing changes.
+    ///
+    /// The address is live, with the layout's alignment.
+    pub fn reallocate_no_move(&mut self, addr: Addr, layout: Layout) -> Option<Addr>
+        requires { align_at self.old.state (at addr) ≡ Some layout.align }
+        ensures step { Steps FLLEN SLLEN self.old self.new (ReallocatesWithoutMove self.old.state (at addr) layout.size (reply result)) }
+        ensures there { IfSome result (λ to. at to ≡ at addr) }
+        ensures live { align_at self.new.state (at addr) ≡ Some layout.align }
+        ensures sized { IfSome result (λ to. layout.size ≤ length (bytes_at self.new.state (at addr))) }
+        ensures few { IfSome result (λ to. length (bytes_at self.new.state (at addr)) < layout.size + 32) }
+        ensures kept { IfSome result (λ to. Keeps (bytes_at self.old.state (at addr)) (bytes_at self.new.state (at addr))) }
+        ensures aligns { align_at self.new.state ≡ align_at self.old.state }
+        ensures bytes { (a : ℕ) → a ≢ at addr → bytes_at self.new.state a ≡ bytes_at self.old.state a }
+        ensures chunks { self.new.state.chunks ≡ self.old.state.chunks }
+        ensures same { IfNone result (self.new.state ≡ self.old.state) }
+        ensures refused { IfNone result (self.new.memory.bytes ≡ self.old.memory.bytes) }
+        ensures place { SamePlace self.old.memory self.new.memory }
+        ensures touches { self.new.memory.touches ≤ self.old.memory.touches + 25 }
+        ensures copied { self.new.memory.copied ≡ self.old.memory.copied }
+    {
+        let payload = addr.get();
+        let block = used_block(&mut self.memory, payload, layout.align());
+        if !resize_block(&mut self.memory, &mut self.table, block, payload, layout) {
+            return None;
+        }
+        self.state.reallocate(SLLEN, payload, layout.size());
+        Some(addr)
     }
 
     /// How many bytes the caller of the payload at `addr` may use: those from there to its block's end. They are as many as

@@ -12,6 +12,7 @@ use Rattle.rlsf_machine.proofs.FlexRuns.{flex_runs_are_runs}
 use Rattle.rlsf_machine.proofs.FlexSimilar.{flex_similar_states_agree, flex_similar_runs_agree}
 use Rattle.rlsf_machine.proofs.FlexSteps.{flex_empty_is_well_formed, flex_steps_keep_well_formed, flex_runs_keep_well_formed}
 use Rattle.rlsf_machine.proofs.Live.{live_addresses_are_aligned, live_address_has_one_block, payloads_are_disjoint, payload_lies_in_one_chunk, allocation_has_size, reallocation_has_size, reallocation_keeps_bytes, other_payloads_stay, used_was_used, handed_out_is_new, reallocated_is_live, live_stays, released_is_not_live, filled_has_bytes, fill_leaves_others, deallocation_leaves_others}
+use Rattle.rlsf_machine.proofs.NoMove.{unmoved_is_reallocated}
 use Rattle.rlsf_machine.proofs.Orders.{order_means_nothing}
 use Rattle.rlsf_machine.proofs.Pools.{pool_has_room, idle_chunk_has_room}
 use Rattle.rlsf_machine.proofs.Removals.{removal_leaves_others}
@@ -63,6 +64,7 @@ returns c = record {
   idle_room = idle_chunk_has_room;
   fill_similar = fill_is_similar;
   removal = removal_leaves_others;
+  without_move = unmoved_is_reallocated;
   flex_callers = flex_callers_see_map;
   flex_empty = flex_empty_is_well_formed;
   flex_growth = growth_keeps_well_formed;

@@ -12,9 +12,9 @@ use Rattle.rlsf_resize.proofs.Reallocate.Computations.{end_is, IsMarked-loaded_e
 use Rattle.rlsf_resize.proofs.Reallocate.NextPlans.{kept_whole, no_plan, or_else-kept, or_else-stretched, stretched}
 use Rattle.rlsf_resize.proofs.Reallocate.Resized.{IsCarriedOut-kept, IsCarriedOut-stretched}
 use Rattle.rlsf_resize.proofs.Reallocate.Spans.{IsInnerRoom-span, reach, reach-le, span_in_memory, span_len, span_of, staying}
-use Rattle.rlsf_resize.proofs.resize.resize.Given as given
-use Rattle.rlsf_resize.proofs.resize.resize.Goals as goal
-use Rattle.rlsf_resize.proofs.resize.resize.Goals.{After-next_multiple_of-taken, After-free_length, After-take_if_free-next}
+use Rattle.rlsf_resize.proofs.resize.resize_block.Given as given
+use Rattle.rlsf_resize.proofs.resize.resize_block.Goals as goal
+use Rattle.rlsf_resize.proofs.resize.resize_block.Goals.{After-next_multiple_of-taken, After-free_length, After-take_if_free-next}
 
 pub load-requires : goal.load-requires
 load-requires g c = let (s, u, v, at) = c.requires.used in IsWord-size v u at

@@ -1,0 +1,170 @@
+use Rattle.std.proofs.Common.{◌≡◌, ℕ, eqb, Some, None, arith, refl, sym, ◌∙◌, ap, subst}
+use Rattle.std.proofs.lemmas.Bool.{eqb-true, eqb-false}
+use Rattle.rlsf_base.specs.Addr.{at}
+use Rattle.rlsf_machine.specs.Callers.{align_at}
+use Rattle.rlsf_machine.specs.NoMove.{ReallocatesUnmovedBy, ReallocatesWithoutMove}
+use Rattle.rlsf_machine.specs.Reallocate.{Reallocates, Replans}
+use Rattle.rlsf_machine.specs.State.{State, Used, Holds, IsLive}
+use Rattle.rlsf_machine.proofs.CallerWords.{SeesResized, align_at-live, resized_seen}
+use Rattle.rlsf_machine.proofs.Changes.{Holds-unique}
+use Rattle.rlsf_machine.proofs.Coverage.{by_test}
+use Rattle.rlsf_machine.proofs.NoMove.{unmoved_is_reallocated}
+use Rattle.rlsf_blocks.specs.Laws.{read_from}
+use Rattle.rlsf_blocks.specs.Spare.{KeepsSpare}
+use Rattle.rlsf_blocks.specs.StandsFor.{contents, StandsFor}
+use Rattle.rlsf_blocks.proofs.Machine.Counted.{KeepsSpare-counted, KeepsSpare-counted_first, StandsFor-counted}
+use Rattle.rlsf_resize.specs.Steps.Resize.{IsUsedAt}
+use Rattle.rlsf_resize.proofs.Reallocate.FirstPlan.{StandsFor-unchanged}
+use Rattle.rlsf_tlsf.specs.Allocator.{Allocator, allocator, Steps}
+use Rattle.rlsf_tlsf.specs.Steps.Moves.{bare, reallocated}
+use Rattle.rlsf_tlsf.proofs.Arrivals.{IsAllocator-arrived, Steps-arrived, arrived, bare-kept, live_inside, opened, view_well_formed}
+use Rattle.rlsf_tlsf.proofs.Moved.{reallocated-bare}
+use Rattle.rlsf_tlsf.proofs.tlsf.Tlsf.reallocate_no_move.Given as given
+use Rattle.rlsf_tlsf.proofs.tlsf.Tlsf.reallocate_no_move.Goals as goal
+use Rattle.rlsf_tlsf.proofs.tlsf.Tlsf.reallocate_no_move.Goals.{After-used_block-block, After-reallocate, Then-not-resize_block}
+
+-- the allocator's state as the call begins
+abbrev state : (g : given.Over) (c : After-used_block-block g) → State
+state g c = read_from c.self.inside.memory c.self.inside.state.state
+
+-- the payload's block
+block : (g : given.Over) (c : After-used_block-block g) → (u : Used) × Holds (state g c) (at c.args.addr) u × (u.align ≡ c.args.layout.align)
+block g c = live_inside c.self.invariant c.args.self.now c.self.view_is (at c.args.addr) c.args.layout.align c.requires
+
+-- the block that was found is the payload's
+used_at : (g : given.Over) (c : After-used_block-block g) (u : Used) → Holds (state g c) (at c.args.addr) u → u.align ≡ c.args.layout.align
+    → IsUsedAt (state g c) u c.used_block-block.result c.get-payload.result c.args.layout.align
+used_at g c u holds is =
+    let addr = at c.args.addr in
+    let s = state g c in
+    let v = c.self.invariant.stands in
+    let (x, (i, here), same, start) = c.used_block-block.ensures.block g.row.FLLEN g.row.SLLEN c.self.inside.table s v (subst (λ p. IsLive s p c.align.result) (sym c.get-payload.ensures.value) (u, holds, is ∙ sym c.align.ensures.value)) in
+    let one : u ≡ x = Holds-unique v.well_formed addr u x holds (i, here ∙ c.get-payload.ensures.value) in
+    record { is_used = holds.0; start = ap (λ y. y.block.start) one ∙ start; caller = holds.1 ∙ sym c.get-payload.ensures.value; alignment = is }
+
+-- the memory in which it was sought stands for the same state
+read_in : (g : given.Over) (c : After-used_block-block g) → StandsFor g.row.FLLEN g.row.SLLEN (contents c.used_block-block.new.memory c.self.inside.table) (state g c)
+read_in g c =
+    let counts = c.used_block-block.ensures.counts in
+    StandsFor-counted c.self.inside.memory c.used_block-block.new.memory counts.start counts.bytes c.self.invariant.stands
+
+pub used_block-block-requires : goal.used_block-block-requires
+used_block-block-requires g c =
+    let s = read_from c.self.inside.memory c.self.inside.state.state in
+    let live = live_inside c.self.invariant c.args.self.now c.self.view_is (at c.args.addr) c.args.layout.align c.requires in
+    (g.row.FLLEN, g.row.SLLEN, c.self.inside.table, s, c.self.invariant.stands, subst (λ a. IsLive s c.get-payload.result a) (sym c.align.ensures.value) (subst (λ p. IsLive s p c.args.layout.align) (sym c.get-payload.ensures.value) live))
+
+pub resize_block-requires : goal.resize_block-requires
+resize_block-requires g c =
+    let before = (goal.at.resize_block-requires g c).After-used_block-block in
+    let (u, holds, is) = block g before in
+    (omega arith, (c.self.invariant.valid, (state g before, u, read_in g before, used_at g before u holds is)))
+
+-- ---- the refusal
+
+-- where the bytes don't suffice, the state stays
+module _ (g : given.Over) (c : Then-not-resize_block g) where
+  abbrev before : After-used_block-block g
+  before = (goal.at.returns-then-not-resize_block-clause-step g c).After-used_block-block
+
+  stands : StandsFor g.row.FLLEN g.row.SLLEN (contents c.resize_block.new.memory c.resize_block.new.table) (state g before)
+  stands = StandsFor-unchanged c.used_block-block.new.memory c.resize_block.new.memory c.self.inside.table c.resize_block.new.table (state g before) 2 (c.resize_block.ensures.unchanged c.if-not-resize_block.true) (read_in g before)
+
+  keeps : KeepsSpare c.self.inside.memory (state g before) c.resize_block.new.memory (state g before)
+  keeps =
+      let counts = c.used_block-block.ensures.counts in
+      let more = (c.resize_block.ensures.unchanged c.if-not-resize_block.true).0 in
+      KeepsSpare-counted c.self.inside.memory c.resize_block.new.memory (more.start ∙ counts.start) (more.bytes ∙ counts.bytes) (state g before) (state g before)
+
+  refused : ReallocatesWithoutMove (state g before) (at c.args.addr) c.args.layout.size None (state g before)
+  refused =
+      let (u, holds, is) = block g before in
+      let none = c.resize_block.ensures.refused (state g before) u (read_in g before) (used_at g before u holds is) c.if-not-resize_block.true in
+      record { block = u; holds = holds; step = subst (λ o. ReallocatesUnmovedBy (state g before) u o None (state g before)) (sym none) refl }
+
+pub invariant_of-self : goal.invariant_of-self
+invariant_of-self g c = IsAllocator-arrived (stands g c) c.self.inside.state.state (sym (bare-kept c.self.invariant)) c.self.invariant.valid
+
+pub returns-then-not-resize_block-clause-step : goal.returns-then-not-resize_block-clause-step
+returns-then-not-resize_block-clause-step g c =
+    Steps-arrived (stands g c) c.self.inside.state.state (sym (bare-kept c.self.invariant)) c.args.self.now c.self.inside.memory c.self.inside.table c.self.inside.state.state c.self.view_is
+    (λ old. ReallocatesWithoutMove old (at c.args.addr) c.args.layout.size None) (refused g c) (keeps g c)
+
+pub returns-then-not-resize_block-clause-aligns : goal.returns-then-not-resize_block-clause-aligns
+returns-then-not-resize_block-clause-aligns g c =
+    ap align_at (arrived (stands g c) c.self.inside.state.state (sym (bare-kept c.self.invariant)) ∙ ap (λ (o : Allocator). o.state) c.self.view_is)
+
+-- ---- the payload with another size
+
+module _ (g : given.Over) (c : After-reallocate g) where
+  abbrev early : After-used_block-block g
+  early = (goal.at.returns-clause-step g c).After-used_block-block
+
+  resized : (t : State) × ReallocatesWithoutMove (state g early) (at c.args.addr) c.args.layout.size (Some (at c.args.addr)) t
+      × StandsFor g.row.FLLEN g.row.SLLEN (contents c.resize_block.new.memory c.resize_block.new.table) t
+      × KeepsSpare c.self.inside.memory (state g early) c.resize_block.new.memory t
+  resized =
+      let (u, holds, is) = block g early in
+      let s = state g early in
+      let counts = c.used_block-block.ensures.counts in
+      let (p, first, there, carried) = c.resize_block.ensures.done s u (read_in g early) (used_at g early u holds is) c.if-not-resize_block.false in
+      let (t, replans, stands, spare) = carried in
+      let by = subst (λ a. Replans s u p a t) (there ∙ c.get-payload.ensures.value) replans in
+      let told : ReallocatesWithoutMove s (at c.args.addr) c.args.layout.size (Some (at c.args.addr)) t =
+      record { block = u; holds = holds; step = subst (λ o. ReallocatesUnmovedBy s u o (Some (at c.args.addr)) t) (sym first) by } in
+      (t, told, stands, KeepsSpare-counted_first c.self.inside.memory c.used_block-block.new.memory counts.start counts.bytes s t c.resize_block.new.memory spare)
+
+  -- what is kept of the state is the one after
+  kept : (t : State) → ReallocatesWithoutMove (state g early) (at c.args.addr) c.args.layout.size (Some (at c.args.addr)) t → c.reallocate.new.self.state ≡ bare t
+  kept t step =
+      c.reallocate.ensures ∙ (λ i. reallocated g.row.SLLEN (c.get-payload.ensures.value i) (c.size.ensures.value i) (sym (bare-kept c.self.invariant) i))
+      ∙ reallocated-bare c.self.invariant.stands.well_formed t (at c.args.addr) c.args.layout.size (at c.args.addr) (unmoved_is_reallocated g.row.SLLEN (state g early) t (at c.args.addr) c.args.layout.size (Some (at c.args.addr)) step).0.1
+
+  abbrev after : Allocator
+  after = allocator c.resize_block.new.memory c.resize_block.new.table c.reallocate.new.self.state
+
+  done : Steps g.row.FLLEN g.row.SLLEN c.args.self.now after (ReallocatesWithoutMove c.args.self.now.state (at c.args.addr) c.args.layout.size (Some (at c.args.addr)))
+  done =
+      let (t, step, stands, spare) = resized in
+      Steps-arrived stands c.reallocate.new.self.state (kept t step) c.args.self.now c.self.inside.memory c.self.inside.table c.self.inside.state.state c.self.view_is
+      (λ old. ReallocatesWithoutMove old (at c.args.addr) c.args.layout.size (Some (at c.args.addr))) step spare
+
+  reached : Reallocates g.row.SLLEN c.args.self.now.state (at c.args.addr) c.args.layout.size (Some (at c.args.addr)) after.state
+  reached =
+      let step = (opened g.row.FLLEN g.row.SLLEN c.args.self.now after (ReallocatesWithoutMove c.args.self.now.state (at c.args.addr) c.args.layout.size (Some (at c.args.addr))) done).0 in
+      (unmoved_is_reallocated g.row.SLLEN c.args.self.now.state after.state (at c.args.addr) c.args.layout.size (Some (at c.args.addr)) step).0.1
+
+  seen : SeesResized c.args.self.now.state after.state (at c.args.addr) c.args.layout.size c.args.layout.align (at c.args.addr)
+  seen =
+      resized_seen (view_well_formed c.self.invariant c.args.self.now c.self.view_is) after.state (at c.args.addr) c.args.layout.size c.args.layout.align (at c.args.addr)
+      (align_at-live c.args.self.now.state (at c.args.addr) c.args.layout.align c.requires) reached
+
+  -- no alignment has changed
+  aligned : (a : ℕ) → align_at after.state a ≡ align_at c.args.self.now.state a
+  aligned a = by_test (eqb a (at c.args.addr))
+      (λ e. let here = eqb-true a (at c.args.addr) e in ap (align_at after.state) here ∙ seen.live ∙ sym c.requires ∙ ap (align_at c.args.self.now.state) (sym here))
+      (λ e. let apart = eqb-false a (at c.args.addr) e in seen.aligns a apart apart)
+
+pub invariant_of-self-2 : goal.invariant_of-self-2
+invariant_of-self-2 g c = let (t, step, stands, spare) = resized g c in IsAllocator-arrived stands c.reallocate.new.self.state (kept g c t step) c.self.invariant.valid
+
+pub returns-clause-step : goal.returns-clause-step
+returns-clause-step g c = done g c
+
+pub returns-clause-live : goal.returns-clause-live
+returns-clause-live g c = (seen g c).live
+
+pub returns-clause-sized : goal.returns-clause-sized
+returns-clause-sized g c = (seen g c).sized
+
+pub returns-clause-few : goal.returns-clause-few
+returns-clause-few g c = (seen g c).few
+
+pub returns-clause-kept : goal.returns-clause-kept
+returns-clause-kept g c = (seen g c).kept
+
+pub returns-clause-aligns : goal.returns-clause-aligns
+returns-clause-aligns g c = λ i a. aligned g c a i
+
+pub returns-clause-bytes : goal.returns-clause-bytes
+returns-clause-bytes g c = λ a apart. (seen g c).bytes a apart apart
