@@ -2,6 +2,7 @@
 pub mod Join
 pub mod LiveBlock
 pub mod Pool
+pub mod Removal
 pub mod Rest
 pub mod Touched
 pub mod Walk

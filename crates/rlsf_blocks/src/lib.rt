@@ -6,12 +6,14 @@ mod free;
 mod payload;
 mod placement;
 mod pool;
+mod removal;
 mod walks;
 
 pub use free::{deallocate_block, take_if_free, take_previous, used_block};
 pub use payload::{load_block_of, load_usable_bytes, usable_bytes};
 pub use placement::{leave_rest, place};
 pub use pool::{SENTINEL, insert};
+pub use removal::remove_chunks;
 pub use walks::{BlockInfo, Blocks, walk};
 
 /// The unit of sizes and addresses of blocks, in bytes.

@@ -4,8 +4,10 @@ ghost use Rattle.std.specs.Prelude.{◌≡◌, ◌+◌, ◌≤◌, ◌↔◌, �
 ghost use Rattle.std.specs.Iterator.{at_most};
 ghost use Rattle.std.specs.Map.Iter.{TakesFirst, GivesInOrder};
 ghost use Rattle.rlsf_base.specs.Rounding.{round32};
+ghost use Rattle.rlsf_base.specs.Space.{Space};
 ghost use Rattle.rlsf_blocks.specs.Blocks.{AreBlocks, walked};
 ghost use Rattle.rlsf_blocks.specs.StandsFor.{contents, StandsFor};
+ghost use Rattle.rlsf_blocks.specs.Steps.Walk.{IsSpan};
 ghost use Rattle.rlsf_machine.specs.ChunkRows.{IsRow};
 ghost use Rattle.rlsf_machine.specs.State.{State};
 ghost use Rattle.rlsf_table.specs.Table.{Table};
@@ -100,6 +102,20 @@ impl<'a> Model for Blocks<'a> {
     ghost invariant = { λ b. IsUnderway b.memory.now b.start b.end };
 }
 
+/// Where a walk over a range begins and ends: at its start rounded up to 32 and at its end, or at one address, if nothing lies
+/// between these.
+pub(crate) fn span(range: Range) -> (usize, usize)
+    ensures { (fllen sllen : ℕ) (m : Space) (t : Table) (s : State) → StandsFor fllen sllen (contents m t) s → IsRow s (walked range) → IsSpan (walked range) result.0 result.1 }
+{
+    // A range past the last address is empty once its start is rounded.
+    let end = range.start.saturating_add(range.len);
+    let start = match range.start.checked_next_multiple_of(GRANULARITY) {
+        Some(start) if start < end => start,
+        _ => end,
+    };
+    (start, end)
+}
+
 /// The blocks of a range, from its start rounded up to 32 to its end, but for the sentinels, in address order.
 ///
 /// From there to there it is a row of whole adjacent chunks, or empty, in some state for which the memory and a class
@@ -109,12 +125,7 @@ pub fn walk(memory: &Memory, range: Range) -> Blocks<'_>
     ensures blocks { (fllen sllen : ℕ) (t : Table) (s : State) → StandsFor fllen sllen (contents memory.now t) s → IsRow s (walked range) → AreBlocks s (walked range) result }
     ensures runs { GivesInOrder BlockInfo }
 {
-    // A range past the last address is empty once its start is rounded.
-    let end = range.start.saturating_add(range.len);
-    let start = match range.start.checked_next_multiple_of(GRANULARITY) {
-        Some(start) if start < end => start,
-        _ => end,
-    };
+    let (start, end) = span(range);
     Blocks { memory, start, end }
 }
 

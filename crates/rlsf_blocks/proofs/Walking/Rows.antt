@@ -10,16 +10,10 @@ use Rattle.rlsf_machine.specs.State.{State}
 use Rattle.rlsf_table.specs.Table.{Table}
 use Rattle.rlsf_blocks.specs.Blocks.{AreBlocks, walked}
 use Rattle.rlsf_blocks.specs.StandsFor.{contents, StandsFor}
-use Rattle.rlsf_blocks.specs.Steps.Walk.{Begins, IsAtBlock, blocks_between}
+use Rattle.rlsf_blocks.specs.Steps.Walk.{Begins, IsAtBlock, IsSpan, blocks_between}
 use Rattle.rlsf_blocks.proofs.Walking.Begins.{begins_at_chunk}
 use Rattle.rlsf_blocks.proofs.Walking.Blocks.{block-some}
 use Rattle.rlsf_blocks.proofs.Walking.Listed.{AreFrom-between}
-
--- where a walk over the range begins and ends: where the range does, if it has a byte
-pub record IsSpan (r : Range) (start end : ℕ) : Type 0 where
-  pub within : start ≤ end
-  pub some : 0 < r.len → (start ≡ r.start) × (end ≡ end_of r)
-  pub none : r.len ≡ 0 → start ≡ end
 
 module _ {fllen sllen : ℕ} {m : Space} {t : Table} {s : State} (v : StandsFor fllen sllen (contents m t) s) where
   IsAtBlock-row : (r : Range) → IsRow s r → IsAtBlock s r.start (end_of r)

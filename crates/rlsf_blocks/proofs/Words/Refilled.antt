@@ -101,19 +101,24 @@ module _ {fllen sllen : ℕ} {m n : Space} {table changed : Table} {s : State} (
   payload_pad u (old_used i apart) wide = used_pad w hole whole.start some (end_of hole + 8) second (omega arith) (omega arith) is.rewrites u i apart wide ∙ old.payloads.pad u i wide
   payload_pad u (new_used size previous bytes pad) wide = pad wide
 
-  pub StandsFor-refilled : IsWellFormed fllen sllen (range_of n) (record { chunks = s.chunks; used = used; free = free }) → StandsFor fllen sllen (contents n changed) (record { chunks = s.chunks; used = used; free = free })
-  StandsFor-refilled well_formed = record {
+  -- the value stands for the state with some of the chunks
+  pub StandsFor-refilled_in : (chunks : List Range) → ((d : Range) → IsIn d chunks → IsIn d s.chunks)
+      → IsWellFormed fllen sllen (range_of n) (record { chunks = chunks; used = used; free = free }) → StandsFor fllen sllen (contents n changed) (record { chunks = chunks; used = used; free = free })
+  StandsFor-refilled_in chunks still well_formed = record {
     nonzero = omega (arith, old.nonzero, is.rewrites.start);
     well_formed = well_formed;
     sizes = record {
       used = λ u i. size_used u (is.used_still u i);
       free = λ f i. size_free f (is.free_still f i);
-      sentinel = λ d i. chunk_sentinel w hole whole.start some (end_of hole + 8) second (omega arith) (omega arith) is.rewrites d i (last_apart d i) ∙ old.sizes.sentinel d i;
+      sentinel = λ d i. chunk_sentinel w hole whole.start some (end_of hole + 8) second (omega arith) (omega arith) is.rewrites d (still d i) (last_apart d (still d i)) ∙ old.sizes.sentinel d (still d i);
     };
-    previous = record { used = λ u i. previous_used u (is.used_still u i); free = λ f i. previous_free f (is.free_still f i); first = previous_first };
+    previous = record { used = λ u i. previous_used u (is.used_still u i); free = λ f i. previous_free f (is.free_still f i); first = λ d i. previous_first d (still d i) };
     payloads = record { bytes = λ u i. payload_bytes u (is.used_still u i); pad = λ u i. payload_pad u (is.used_still u i) };
     table = is.table;
   }
+
+  pub StandsFor-refilled : IsWellFormed fllen sllen (range_of n) (record { chunks = s.chunks; used = used; free = free }) → StandsFor fllen sllen (contents n changed) (record { chunks = s.chunks; used = used; free = free })
+  StandsFor-refilled well_formed = StandsFor-refilled_in s.chunks (λ d i. i) well_formed
 
   -- and no spare byte has changed
   pub KeepsSpare-refilled : KeepsSpare m s n (record { chunks = s.chunks; used = used; free = free })

@@ -39,3 +39,9 @@ pub record IsAtBlock (s : State) (start end : ℕ) : Type 0 where
 -- a walk that is underway in a memory which stands for some state
 abbrev pub IsUnderway : Space → ℕ → ℕ → Type 0
 IsUnderway m start end = (fllen : ℕ) × (sllen : ℕ) × (t : Table) × (s : State) × StandsFor fllen sllen (contents m t) s × IsAtBlock s start end
+
+-- where a walk over the range begins and ends: where the range does, if it has a byte
+pub record IsSpan (r : Range) (start end : ℕ) : Type 0 where
+  pub within : start ≤ end
+  pub some : 0 < r.len → (start ≡ r.start) × (end ≡ end_of r)
+  pub none : r.len ≡ 0 → start ≡ end
