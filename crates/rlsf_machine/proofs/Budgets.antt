@@ -17,7 +17,7 @@ use Rattle.rlsf_machine.specs.Insert.{with_chunk}
 use Rattle.rlsf_machine.specs.Lists.{IsIn}
 use Rattle.rlsf_machine.specs.Reallocate.{Plan, plan, moved, ReallocatesBy}
 use Rattle.rlsf_machine.specs.Release.{Deallocates}
-use Rattle.rlsf_machine.specs.Run.{Event, insert, append, allocate, deallocate, reallocate, fill, Leads, MayCall, Runs}
+use Rattle.rlsf_machine.specs.Run.{Event, insert, append, allocate, deallocate, reallocate, fill, remove, IsRemoval, Leads, MayCall, Runs}
 use Rattle.rlsf_machine.specs.Sizing.{ModestRunsAreNotDenied, LiveIsCounted, BoundedRunsAreNotDenied}
 use Rattle.rlsf_machine.specs.State.{empty, State, Used, Holds, others, filled_if, filled_at}
 use Rattle.rlsf_machine.specs.WellFormed.{IsWellFormed}
@@ -71,12 +71,22 @@ not_denied live most {fllen} {sllen} {memory} {s} w fronts are some small budget
 
 -- ---- steps
 
--- each step keeps the fronts of chunks
-pub AreFronts-kept : (fllen sllen : ℕ) (s : State) (fronts : List Range) → AreFronts s.chunks fronts → (t : State) (e : Event) → Leads fllen sllen s e t → AreFronts t.chunks fronts
-AreFronts-kept fllen sllen s fronts are t e step = record {
+-- a call within a budget takes no memory away
+pub IsModest-stays : (live most : ℕ) (s : State) (e : Event) → IsModest live most s e → IsRemoval e → ⊥
+IsModest-stays live most s (insert r reply) modest removal = removal
+IsModest-stays live most s (append r reply) modest removal = removal
+IsModest-stays live most s (allocate size align reply) modest removal = removal
+IsModest-stays live most s (deallocate addr) modest removal = removal
+IsModest-stays live most s (reallocate addr size reply) modest removal = removal
+IsModest-stays live most s (fill addr bytes) modest removal = removal
+IsModest-stays live most s (remove r) modest removal = modest
+
+-- each step that takes no memory away keeps the fronts of chunks
+pub AreFronts-kept : (fllen sllen : ℕ) (s : State) (fronts : List Range) → AreFronts s.chunks fronts → (t : State) (e : Event) → (IsRemoval e → ⊥) → Leads fllen sllen s e t → AreFronts t.chunks fronts
+AreFronts-kept fllen sllen s fronts are t e left step = record {
   each = λ r i.
       let (c, j, start, long, some) = are.each r i in
-      let (d, k, at, grew) = chunks_stay fllen sllen s t e c step j in
+      let (d, k, at, grew) = chunks_stay fllen sllen s t e c left step j in
       (d, k, at ∙ start, elim grew [ inl same ↦ (let len : d.len ≡ c.len = ap (λ x. x.len) same in omega arith) | inr more ↦ omega arith ], some);
   disjoint = are.disjoint;
 }
@@ -125,6 +135,7 @@ module _ (most : ℕ) {fllen sllen : ℕ} {memory : Range} {s : State} (w : IsWe
   step_modest live t (reallocate addr size reply) may modest step =
       reallocate_modest step.block step.holds.0 size (modest.1 step.block step.holds) (plan s step.block size) refl reply t step.step
   step_modest live t (fill addr bytes) may modest step = still step.after (filled_modest most s.used addr bytes small)
+  step_modest live t (remove r) may modest step = absurd modest
 
   -- and the call is not refused
   step_not_denied : (live : ℕ) (fronts : List Range) (t : State) (e : Event) → AreFronts s.chunks fronts → 0 < length fronts → HasBudget live most sllen fronts → IsModest live most s e → Leads fllen sllen s e t → IsDenied e → ⊥
@@ -141,6 +152,7 @@ module _ (most : ℕ) {fllen sllen : ℕ} {memory : Range} {s : State} (w : IsWe
       none_left (Some p) impossible = impossible
       none_left None allocated = not_denied live most w fronts are some small budget modest.0 size step.block.align (modest.1 step.block step.holds) t allocated
   step_not_denied live fronts t (fill addr bytes) are some budget modest step denied = absurd denied
+  step_not_denied live fronts t (remove r) are some budget modest step denied = absurd denied
 
 -- ---- runs
 
@@ -150,7 +162,7 @@ modest_runs_are_not_denied live most fllen sllen memory s t fronts (d ∷ es) w 
   | inl same ↦ step_not_denied most w small live fronts u d are some budget modest step (subst IsDenied same denied)
   | inr j ↦
       modest_runs_are_not_denied live most fllen sllen memory u t fronts es (steps_keep_well_formed fllen sllen memory s u d w may step)
-      (AreFronts-kept fllen sllen s fronts are u d step) some (step_modest most w small live u d may modest step) budget rest e j denied
+      (AreFronts-kept fllen sllen s fronts are u d (IsModest-stays live most s d modest) step) some (step_modest most w small live u d may modest step) budget rest e j denied
 ]
 
 -- ---- how many payloads are live
@@ -185,6 +197,7 @@ live_is_counted fllen sllen memory s t (allocate size align (Some addr)) w may s
 live_is_counted fllen sllen memory s t (deallocate addr) w may step = omega (arith, length-deallocated w addr t step)
 live_is_counted fllen sllen memory s t (reallocate addr size reply) w may step = length-reallocated w step.block step.holds.0 size (plan s step.block size) reply t step.step
 live_is_counted fllen sllen memory s t (fill addr bytes) w may step = ap (λ x. length x.used) step.after ∙ length-map s.used (filled_if addr bytes)
+live_is_counted fllen sllen memory s t (remove r) w may step = ap (λ (x : State). length x.used) step
 
 -- ---- alignments
 
@@ -239,6 +252,7 @@ module _ (most : ℕ) where
       reallocate_aligned sllen z step.block (plan s step.block z) reply s t (aligned_at step.block s.used small step.holds.0) small step.step
   step_aligned live size n fllen sllen s t (fill addr bytes) within small step =
       aligned_by step.after (aligned_filled addr bytes s.used small)
+  step_aligned live size n fllen sllen s t (remove r) within small step = absurd within
 
 -- ---- runs, by their calls alone
 
@@ -253,6 +267,7 @@ modest_by live size align n s (deallocate addr) count small within = tt
 modest_by live size align n s (reallocate addr z reply) count small (few, short) =
     (omega arith, λ u holds. request_size-mono z u.align size align short (aligned_at align u s.used small holds.0))
 modest_by live size align n s (fill addr bytes) count small within = tt
+modest_by live size align n s (remove r) count small within = absurd within
 
 runs_modestly : (live size align n fllen sllen : ℕ) (memory : Range) (s t : State) (es : List Event) → IsWellFormed fllen sllen memory s → length s.used ≡ n → AreAligned align s.used
     → Runs fllen sllen memory s es t → AreWithin live size align n es → RunsModestly live (request_size size align) fllen sllen memory s es t

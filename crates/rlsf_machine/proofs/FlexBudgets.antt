@@ -9,12 +9,12 @@ use Rattle.rlsf_machine.specs.FlexReallocate.{FlexReallocates, IsStuck}
 use Rattle.rlsf_machine.specs.FlexRun.{AsksNothing, FlexEvent, FlexLeads, IsFlexRun, events_in, notes_in}
 use Rattle.rlsf_machine.specs.FlexState.{FlexState}
 use Rattle.rlsf_machine.specs.Note.{Note}
-use Rattle.rlsf_machine.specs.Run.{Event, insert, append, allocate, deallocate, reallocate, fill, Leads, Runs}
+use Rattle.rlsf_machine.specs.Run.{Event, insert, append, allocate, deallocate, reallocate, fill, remove, Leads, Runs}
 use Rattle.rlsf_machine.specs.Sizing.{FlexNeverAsked}
 use Rattle.rlsf_machine.specs.State.{State, Used}
 use Rattle.rlsf_machine.specs.Terms.{Terms}
 use Rattle.rlsf_machine.specs.WellFormed.{IsWellFormed}
-use Rattle.rlsf_machine.proofs.Budgets.{AreAligned, AreFronts-kept, aligned_none, bounded_runs_are_not_denied, live_is_counted, modest_by, not_denied, step_aligned, step_modest}
+use Rattle.rlsf_machine.proofs.Budgets.{AreAligned, AreFronts-kept, IsModest-stays, aligned_none, bounded_runs_are_not_denied, live_is_counted, modest_by, not_denied, step_aligned, step_modest}
 use Rattle.rlsf_machine.proofs.Steps.{steps_keep_well_formed}
 
 -- ---- one call
@@ -43,6 +43,7 @@ module _ (live most : ℕ) {fllen sllen : ℕ} {memory : Range} (t : Terms) (s :
   asks_nothing (deallocate addr) notes u modest step = step
   asks_nothing (reallocate addr size reply) notes u modest step = reallocates_in_room addr size reply notes u modest step
   asks_nothing (fill addr bytes) notes u modest step = step
+  asks_nothing (remove r) notes u modest step = absurd step
 
 -- ---- runs
 
@@ -60,7 +61,7 @@ never_asked_from live size align n fllen sllen memory t s u fronts (c ∷ cs) w 
     let later = never_asked_from live size align (live_after e n) fllen sllen memory t m u fronts cs (steps_keep_well_formed fllen sllen memory s.machine m.machine e w step.may leads)
     (live_is_counted fllen sllen memory s.machine m.machine e w step.may leads ∙ ap (live_after e) count)
     (step_aligned align live size n fllen sllen s.machine m.machine e asks low leads) (step_modest most w small live m.machine e step.may modest leads)
-    (AreFronts-kept fllen sllen s.machine fronts are m.machine e leads) some budget rest within in
+    (AreFronts-kept fllen sllen s.machine fronts are m.machine e (IsModest-stays live most s.machine e modest) leads) some budget rest within in
     (ap (λ l. l ++ notes_in cs) nothing.none ∙ later.0, (m.machine, step.may, leads, later.1))
 
 pub flex_never_asked : FlexNeverAsked

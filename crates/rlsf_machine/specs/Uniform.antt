@@ -4,7 +4,7 @@ use Rattle.rlsf_base.specs.declared.memory.range.Range.{Range}
 use Rattle.rlsf_base.specs.Sizes.{request_size}
 use Rattle.rlsf_machine.specs.Budget.{live_after}
 use Rattle.rlsf_machine.specs.Lists.{IsIn}
-use Rattle.rlsf_machine.specs.Run.{Event, insert, append, allocate, deallocate, reallocate, fill}
+use Rattle.rlsf_machine.specs.Run.{Event, insert, append, allocate, deallocate, reallocate, fill, remove}
 use Rattle.rlsf_machine.specs.State.{State, Used}
 
 -- an address lies a whole number of lengths behind another one
@@ -26,6 +26,7 @@ AsksUniformly len (allocate size align reply) = (request_size size align ≡ len
 AsksUniformly len (deallocate addr) = Unit {0}
 AsksUniformly len (reallocate addr size reply) = ⊥
 AsksUniformly len (fill addr bytes) = Unit {0}
+AsksUniformly len (remove r) = ⊥
 
 -- how many blocks of a length a chunk has room for
 abbrev pub blocks_in : ℕ → Range → ℕ
@@ -39,6 +40,7 @@ IsDeniedOnlyAt most n (allocate size align reply) = (reply ≡ None) ↔ (n ≡ 
 IsDeniedOnlyAt most n (deallocate addr) = Unit {0}
 IsDeniedOnlyAt most n (reallocate addr size reply) = Unit {0}
 IsDeniedOnlyAt most n (fill addr bytes) = Unit {0}
+IsDeniedOnlyAt most n (remove r) = Unit {0}
 
 -- and so is each allocation of a list of calls, where n payloads are live before the first one
 abbrev pub AreDeniedOnlyAt : ℕ → ℕ → List Event → Type 0
