@@ -14,6 +14,7 @@ ghost use Rattle.rlsf_machine.specs.FlexAllocate.{FlexAllocates};
 ghost use Rattle.rlsf_machine.specs.FlexReallocate.{FlexReallocates};
 ghost use Rattle.rlsf_machine.specs.FlexState.{empty};
 ghost use Rattle.rlsf_machine.specs.Note.{LeadsBy};
+ghost use Rattle.rlsf_machine.specs.NoMove.{ReallocatesWithoutMove};
 ghost use Rattle.rlsf_machine.specs.Reallocate.{Keeps, Plan, Reallocates, in_place, into_next, or_else};
 ghost use Rattle.rlsf_machine.specs.Release.{Deallocates};
 ghost use Rattle.rlsf_machine.specs.Run.{Fills};
@@ -241,6 +242,31 @@ impl<
         } else {
             None
         }
+    }
+
+    /// Gives a payload another size where it stands, as `Tlsf::reallocate_no_move` does. The source is asked nothing. `None`
+    /// exactly where the bytes there don't suffice, and then nothing changes.
+    ///
+    /// The address is live, with the layout's alignment.
+    pub fn reallocate_no_move(&mut self, addr: Addr, layout: Layout) -> Option<Addr>
+        requires { align_at self.old.state.machine (at addr) ≡ Some layout.align }
+        ensures step { StepsAlone FLLEN SLLEN S.terms S.owes self.old self.new (ReallocatesWithoutMove self.old.state.machine (at addr) layout.size (reply result)) }
+        ensures there { IfSome result (λ to. at to ≡ at addr) }
+        ensures live { align_at self.new.state.machine (at addr) ≡ Some layout.align }
+        ensures sized { IfSome result (λ to. layout.size ≤ length (bytes_at self.new.state.machine (at addr))) }
+        ensures few { IfSome result (λ to. length (bytes_at self.new.state.machine (at addr)) < layout.size + 32) }
+        ensures kept { IfSome result (λ to. Keeps (bytes_at self.old.state.machine (at addr)) (bytes_at self.new.state.machine (at addr))) }
+        ensures aligns { align_at self.new.state.machine ≡ align_at self.old.state.machine }
+        ensures bytes { (a : ℕ) → a ≢ at addr → bytes_at self.new.state.machine a ≡ bytes_at self.old.state.machine a }
+        ensures chunks { self.new.state.machine.chunks ≡ self.old.state.machine.chunks }
+        ensures same { IfNone result (self.new.state ≡ self.old.state) }
+        ensures refused { IfNone result (self.new.memory.bytes ≡ self.old.memory.bytes) }
+        ensures source { self.new.source ≡ self.old.source }
+        ensures place { SamePlace self.old.memory self.new.memory }
+        ensures touches { self.new.memory.touches ≤ self.old.memory.touches + 25 }
+        ensures copied { self.new.memory.copied ≡ self.old.memory.copied }
+    {
+        self.tlsf.reallocate_no_move(addr, layout)
     }
 
     /// How many bytes the caller of the payload at `addr` may use: those from there to its block's end. They are as many as
