@@ -7,6 +7,7 @@ pub use Rattle.rlsf_machine.specs.Allocate.{Allocates}
 pub use Rattle.rlsf_machine.specs.Callers.{align_at, bytes_at}
 pub use Rattle.rlsf_machine.specs.ChunkRows.{IsRow}
 pub use Rattle.rlsf_machine.specs.Insert.{Appends, Inserts, IsNext, IsUntouched}
+pub use Rattle.rlsf_machine.specs.NoMove.{ReallocatesWithoutMove}
 pub use Rattle.rlsf_machine.specs.Reallocate.{Keeps, Reallocates}
 pub use Rattle.rlsf_machine.specs.Release.{Deallocates}
 pub use Rattle.rlsf_machine.specs.Run.{Fills}

@@ -1,3 +1,4 @@
+pub mod FlexEvents
 pub mod NamedPayloads
 pub mod PlacedPayloads
 pub mod Underway

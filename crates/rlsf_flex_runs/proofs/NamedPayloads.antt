@@ -1,5 +1,5 @@
 -- The named payloads of a run over a source, and what an op that asks nothing leaves of them.
-use Rattle.std.proofs.Common.{◌≡◌, ℕ, nat_eq, Some, None, Option, IsSome, List, [], length, refl, sym, ◌∙◌, ap, subst}
+use Rattle.std.proofs.Common.{◌≡◌, ℕ, nat_eq, Some, None, Option, IsSome, List, [], ◌∷◌, length, refl, sym, ◌∙◌, ap, subst}
 use Rattle.std.specs.HashMap.{get}
 use Rattle.rlsf_base.specs.declared.memory.range.Range.{Range}
 use Rattle.rlsf_base.specs.Space.{range_of, SamePlace}
@@ -9,15 +9,17 @@ use Rattle.rlsf_flex.specs.StandsFor.{FlexContents, FlexStandsFor, StepsAlone}
 use Rattle.rlsf_flex.proofs.Outside.{KeepsOutside-refl, KeepsOutside-spare}
 use Rattle.rlsf_flex.proofs.Standing.{inner_in}
 use Rattle.rlsf_flex_runs.specs.FlexRuns.{DoesFlex, with_run, without_source}
-use Rattle.rlsf_flex_runs.specs.Steps.Names.{IsAt, LeadsOn, named_in, run_of}
+use Rattle.rlsf_flex_runs.specs.Steps.Names.{IsAt, LeadsOn, MakesFlex, named_in, no_call, run_of}
+use Rattle.rlsf_flex_runs.proofs.FlexEvents.{made-deallocate, made-fill}
 use Rattle.rlsf_machine.specs.Callers.{align_at, bytes_at}
 use Rattle.rlsf_machine.specs.FlexState.{with_machine}
 use Rattle.rlsf_machine.specs.Note.{Note, LeadsBy}
 use Rattle.rlsf_machine.specs.Release.{Deallocates}
-use Rattle.rlsf_machine.specs.Run.{Fills}
+use Rattle.rlsf_machine.specs.Run.{deallocate, fill, Fills}
 use Rattle.rlsf_machine.specs.State.{State, Used, Holds, usable}
 use Rattle.rlsf_machine.specs.Terms.{Terms}
 use Rattle.rlsf_runs.specs.declared.names.Payload.{Payload}
+use Rattle.rlsf_runs.specs.Events.{IsDoneBy}
 use Rattle.rlsf_runs.specs.Names.{address, AreNamed, NameTable}
 use Rattle.rlsf_runs.specs.Runs.{Frees, Owns, RunState, with_machine as with_state, without_name}
 use Rattle.rlsf_runs.proofs.Named.{AreNamed-filled, AreNamed-freed, AreNamed-untaken, IsSetAt, owned_live}
@@ -43,12 +45,14 @@ module _ {S : Type 0} {fllen sllen : ℕ} {terms : S → Terms} {owes : S → Li
 
   -- an op that leads to names whose payloads the new table has leads to the table's
   pub LeadsOn-named : {leads : S → Note → S → Type 0} {v w : FlexContents S} {table new : NameTable} (op : Op) (answer : Answer) (notes : List Note) (named : ℕ → Option ℕ)
-      → DoesFlex fllen sllen (terms v.source) (run_of v table) op answer notes (record { flex = w.state; named = named }) → LeadsBy leads v.source notes w.source
+      → DoesFlex fllen sllen (terms v.source) (run_of v table) op answer notes (record { flex = w.state; named = named })
+      → MakesFlex fllen sllen (range_of v.memory) (terms v.source) v.state op answer notes w.state → LeadsBy leads v.source notes w.source
       → KeepsOutside v.memory v.state.pools w.memory w.state.pools → FlexStandsFor fllen sllen terms owes w → AreNamed w.state.machine new named
       → LeadsOn fllen sllen terms owes leads v table op answer w new
-  LeadsOn-named {v = v} {w = w} {table = table} op answer notes named does leads_by outside stands are = record {
+  LeadsOn-named {v = v} {w = w} {table = table} op answer notes named does makes leads_by outside stands are = record {
     notes = notes;
     does = subst (λ n. DoesFlex fllen sllen (terms v.source) (run_of v table) op answer notes (record { flex = w.state; named = n })) (named-in are) does;
+    makes = makes;
     leads_by = leads_by;
     outside = outside;
     at = record { stands = stands; are_named = AreNamed-in are };
@@ -72,42 +76,45 @@ module _ {S : Type 0} {fllen sllen : ℕ} {terms : S → Terms} {owes : S → Li
 
   module _ {leads : S → Note → S → Type 0} where
     -- an op that changes nothing
-    pub LeadsOn-nothing : (op : Op) (answer : Answer) → DoesFlex fllen sllen (terms v.source) (run_of v table) op answer [] (run_of v table) → LeadsOn fllen sllen terms owes leads v table op answer v table
-    LeadsOn-nothing op answer does = record { notes = []; does = does; leads_by = refl; outside = KeepsOutside-refl v.memory v.state.pools; at = at }
+    pub LeadsOn-nothing : (op : Op) (answer : Answer) → IsDoneBy op answer [] → DoesFlex fllen sllen (terms v.source) (run_of v table) op answer [] (run_of v table) → LeadsOn fllen sllen terms owes leads v table op answer v table
+    LeadsOn-nothing op answer is_done does = record { notes = []; does = does; makes = no_call is_done refl refl; leads_by = refl; outside = KeepsOutside-refl v.memory v.state.pools; at = at }
 
     -- an op that changes nothing, where a name that was free was made free
-    pub not_freed : {new : NameTable} (op : Op) (answer : Answer) (name : ℕ) → get nat_eq table name ≡ None → IsSetAt name None table new
+    pub not_freed : {new : NameTable} (op : Op) (answer : Answer) (name : ℕ) → get nat_eq table name ≡ None → IsSetAt name None table new → IsDoneBy op answer []
         → DoesFlex fllen sllen (terms v.source) (run_of v table) op answer [] (run_of v table) → LeadsOn fllen sllen terms owes leads v table op answer v new
-    not_freed op answer name none taken does =
-        LeadsOn-named op answer [] (named_in table) does refl (KeepsOutside-refl v.memory v.state.pools) at.stands (AreNamed-untaken at.are_named name none taken)
+    not_freed op answer name none taken is_done does =
+        LeadsOn-named op answer [] (named_in table) does (no_call is_done refl refl) refl (KeepsOutside-refl v.memory v.state.pools) at.stands (AreNamed-untaken at.are_named name none taken)
 
     module _ {w : FlexContents S} (source : w.source ≡ v.source) (place : SamePlace v.memory w.memory) where
       -- an op that leads by a step that asks the source nothing to names whose payloads the new table has
       LeadsOn-alone : {new : NameTable} (step : State → Type 0) (op : Op) (answer : Answer) (named : ℕ → Option ℕ) → StepsAlone fllen sllen terms owes v w step
-          → (step w.state.machine → DoesFlex fllen sllen (terms v.source) (run_of v table) op answer [] (record { flex = with_machine v.state w.state.machine; named = named }) × AreNamed w.state.machine new named)
+          → (step w.state.machine → w.state ≡ with_machine v.state w.state.machine → DoesFlex fllen sllen (terms v.source) (run_of v table) op answer [] (record { flex = with_machine v.state w.state.machine; named = named })
+          × MakesFlex fllen sllen (range_of v.memory) (terms v.source) v.state op answer [] w.state × AreNamed w.state.machine new named)
           → LeadsOn fllen sllen terms owes leads v table op answer w new
       unfolding StepsAlone
       LeadsOn-alone step op answer named (is, same, stands, spare) leads_to =
-          let (does, are) = leads_to is in
-          LeadsOn-named op answer [] named (subst (λ f. DoesFlex fllen sllen (terms v.source) (run_of v table) op answer [] (record { flex = f; named = named })) (sym same) does) source
+          let (does, makes, are) = leads_to is same in
+          LeadsOn-named op answer [] named (subst (λ f. DoesFlex fllen sllen (terms v.source) (run_of v table) op answer [] (record { flex = f; named = named })) (sym same) does) makes source
           (KeepsOutside-alone at.stands stands same place spare) stands are
 
       -- the payload of a name was given back
-      pub freed : {new : NameTable} (op : Op) (name : ℕ) (p : Payload) → get nat_eq table name ≡ Some p
+      pub freed : {new : NameTable} (op : Op) (name : ℕ) (p : Payload) → get nat_eq table name ≡ Some p → IsDoneBy op Done (deallocate (address p) ∷ [])
           → ((r : RunState) → Frees (without_source (run_of v table)) name r → DoesFlex fllen sllen (terms v.source) (run_of v table) op Done [] (with_run (run_of v table) r))
           → StepsAlone fllen sllen terms owes v w (Deallocates v.state.machine (address p)) → IsSetAt name None table new → LeadsOn fllen sllen terms owes leads v table op Done w new
-      freed op name p there does alone taken =
+      freed op name p there is_done does alone taken =
           let (u, owns, holds, _, _) = owned name p there in
-          LeadsOn-alone (Deallocates v.state.machine (address p)) op Done (without_name name (named_in table)) alone (λ step. (
+          LeadsOn-alone (Deallocates v.state.machine (address p)) op Done (without_name name (named_in table)) alone (λ step same. (
             does _ (u, owns, w.state.machine, subst (λ a. Deallocates v.state.machine a w.state.machine) (sym holds.1) step, refl),
+            made-deallocate (address p) is_done step same,
             AreNamed-freed at.are_named w.state.machine name (address p) (owns.1 ∙ ap Some holds.1) step taken,
           ))
 
       -- the bytes of a payload were written
-      pub filled : (op : Op) (addr : ℕ) (bytes : List ℕ)
+      pub filled : (op : Op) (addr : ℕ) (bytes : List ℕ) → IsDoneBy op Done (fill addr bytes ∷ [])
           → ((m : State) → Fills v.state.machine addr bytes m → DoesFlex fllen sllen (terms v.source) (run_of v table) op Done [] (with_run (run_of v table) (with_state m (without_source (run_of v table)))))
           → StepsAlone fllen sllen terms owes v w (Fills v.state.machine addr bytes) → LeadsOn fllen sllen terms owes leads v table op Done w table
-      filled op addr bytes does alone = LeadsOn-alone (Fills v.state.machine addr bytes) op Done (named_in table) alone (λ step. (
+      filled op addr bytes is_done does alone = LeadsOn-alone (Fills v.state.machine addr bytes) op Done (named_in table) alone (λ step same. (
         does w.state.machine step,
+        made-fill addr bytes is_done step same,
         AreNamed-filled at.are_named fllen sllen (range_of v.memory) w.state.machine addr bytes at.stands.machine.well_formed step,
       ))

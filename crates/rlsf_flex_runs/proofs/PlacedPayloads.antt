@@ -9,7 +9,7 @@ use Rattle.rlsf_base.specs.declared.memory.range.Range.{Range}
 use Rattle.rlsf_base.specs.Layout.{IsLayout}
 use Rattle.rlsf_base.specs.Space.{range_of}
 use Rattle.rlsf_flex.specs.StandsFor.{FlexContents, FlexSteps}
-use Rattle.rlsf_flex_runs.specs.Steps.Names.{IsAt, LeadsOn, named_in}
+use Rattle.rlsf_flex_runs.specs.Steps.Names.{IsAt, LeadsOn, named_in, one_call}
 use Rattle.rlsf_machine.specs.Allocate.{Allocates}
 use Rattle.rlsf_machine.specs.FlexAllocate.{Asks, FlexAllocates}
 use Rattle.rlsf_machine.specs.FlexReallocate.{FlexReallocates}
@@ -17,6 +17,7 @@ use Rattle.rlsf_machine.specs.FlexState.{FlexState}
 use Rattle.rlsf_machine.specs.Growth.{Outcome}
 use Rattle.rlsf_machine.specs.Note.{Note}
 use Rattle.rlsf_machine.specs.Reallocate.{MovesAway, Reallocates}
+use Rattle.rlsf_machine.specs.Run.{allocate, reallocate}
 use Rattle.rlsf_machine.specs.State.{IsLive}
 use Rattle.rlsf_machine.specs.Terms.{Terms}
 use Rattle.rlsf_machine.specs.WellFormed.{IsWellFormed}
@@ -70,7 +71,8 @@ module _ {S : Type 0} {fllen sllen : ℕ} {terms : S → Terms} {owes : S → Li
   unfolding FlexSteps
   allocated name layout addr p free p_addr p_align (notes, step, leads_by, answers, outside, stands, spare) added =
       let to = non_zero_usize_get addr in
-      LeadsOn-named (Alloc name layout) (Placed (Some addr)) notes (with_name name (Some to) (named_in table)) (unnamed at.are_named name free, w.state, step, refl) leads_by outside stands
+      LeadsOn-named (Alloc name layout) (Placed (Some addr)) notes (with_name name (Some to) (named_in table)) (unnamed at.are_named name free, w.state, step, refl)
+      (one_call (allocate layout.size layout.align (Some to)) refl (record { may = layout.valid.aligned; answers = answers; leads = step })) leads_by outside stands
       (AreNamed-flex_allocated at.are_named (range_of w.memory) name layout.size layout.align to p stands.machine.well_formed step p_addr p_align added)
 
   -- an allocation was refused
@@ -80,7 +82,8 @@ module _ {S : Type 0} {fllen sllen : ℕ} {terms : S → Terms} {owes : S → Li
   unfolding FlexSteps
   not_allocated name layout (Some addr) some free steps = absurd (cc)
   not_allocated name layout None none free (notes, step, leads_by, answers, outside, stands, spare) =
-      LeadsOn-named (Alloc name layout) (Placed None) notes (named_in table) (unnamed at.are_named name free, w.state, step, refl) leads_by outside stands (AreNamed-asked at.are_named step)
+      LeadsOn-named (Alloc name layout) (Placed None) notes (named_in table) (unnamed at.are_named name free, w.state, step, refl)
+      (one_call (allocate layout.size layout.align None) refl (record { may = layout.valid.aligned; answers = answers; leads = step })) leads_by outside stands (AreNamed-asked at.are_named step)
 
   -- the payload of a name has another size
   pub reallocated : {new : NameTable} {n : ℕ} (name size : ℕ) (old p : Payload) (addr : NonZeroUsize) → n ≡ size → get nat_eq table name ≡ Some old → IsLayout size old.align → address p ≡ non_zero_usize_get addr → p.align ≡ old.align
@@ -93,7 +96,8 @@ module _ {S : Type 0} {fllen sllen : ℕ} {terms : S → Terms} {owes : S → Li
       let (u, owns, holds, aligned) = owned_live at.are_named name old there in
       let live = subst (IsLive v.state.machine (address old)) (sym p_align) (at.are_named.live name old there) in
       let moved = subst (λ a. FlexReallocates fllen sllen (terms v.source) v.state a size (Some to) notes w.state) (sym holds.1) step in
-      LeadsOn-named (Realloc name size) (Placed (Some addr)) notes (with_name name (Some to) (named_in table)) (u, owns, subst (IsLayout size) (sym aligned) valid, w.state, moved, refl) leads_by outside stands
+      LeadsOn-named (Realloc name size) (Placed (Some addr)) notes (with_name name (Some to) (named_in table)) (u, owns, subst (IsLayout size) (sym aligned) valid, w.state, moved, refl)
+      (one_call (reallocate (address old) size (Some to)) (address old, refl) (record { may = (u, holds); answers = answers; leads = step })) leads_by outside stands
       (AreNamed-flex_reallocated at.are_named (range_of v.memory) (range_of w.memory) name size (address old) to p at.stands.machine.well_formed stands.machine.well_formed (owns.1 ∙ ap Some holds.1) live step p_addr added)
 
   -- a reallocation was refused
@@ -106,4 +110,5 @@ module _ {S : Type 0} {fllen sllen : ℕ} {terms : S → Terms} {owes : S → Li
       let step = subst (λ k. FlexReallocates fllen sllen (terms v.source) v.state (address old) k None notes w.state) same did in
       let (u, owns, holds, aligned) = owned_live at.are_named name old there in
       let refused = subst (λ a. FlexReallocates fllen sllen (terms v.source) v.state a size None notes w.state) (sym holds.1) step in
-      LeadsOn-named (Realloc name size) (Placed None) notes (named_in table) (u, owns, subst (IsLayout size) (sym aligned) valid, w.state, refused, refl) leads_by outside stands (AreNamed-asked at.are_named step.asks)
+      LeadsOn-named (Realloc name size) (Placed None) notes (named_in table) (u, owns, subst (IsLayout size) (sym aligned) valid, w.state, refused, refl)
+      (one_call (reallocate (address old) size None) (address old, refl) (record { may = (u, holds); answers = answers; leads = step })) leads_by outside stands (AreNamed-asked at.are_named step.asks)

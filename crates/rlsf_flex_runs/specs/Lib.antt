@@ -1,2 +1,3 @@
+pub mod FlexEvents
 pub mod FlexRuns
 pub mod Steps

@@ -13,7 +13,7 @@ use Rattle.rlsf_flex_runs.proofs.payloads.fill.Goals as goal
 
 pub returns-in_default : goal.returns-in_default
 returns-in_default g c =
-    LeadsOn-nothing c.requires (Fill c.args.name c.args.byte) (Refused UnknownName)
+    LeadsOn-nothing c.requires (Fill c.args.name c.args.byte) (Refused UnknownName) refl
     (refl, without_source (run_of c.args.flex.now c.args.names.now), (unnamed c.requires.are_named c.args.name (sym c.payload_of.ensures ∙ c.in_default.is), refl), refl, refl)
 
 pub payload_mut-requires : goal.payload_mut-requires
@@ -27,7 +27,7 @@ returns g c =
     let (u, owns, holds, its, long) = owned c.requires c.args.name p (sym c.payload_of.ensures ∙ c.in-Some.is) in
     let bytes = c.fill.ensures.after (λ y e. e) ∙ ap (λ n. replicate n c.args.byte) (ap length (c.payload_mut.ensures.value ∙ its) ∙ long) in
     let rest = c.payload_mut.ensures.rest w in
-    filled c.requires rest.2 rest.3 (Fill c.args.name c.args.byte) (address p) w (λ m step. (
+    filled c.requires rest.2 rest.3 (Fill c.args.name c.args.byte) (address p) w (address p, w, refl) (λ m step. (
       refl,
       with_machine m (without_source s),
       (u, owns, m, subst (λ l. Fills s.flex.machine u.payload l m) bytes (subst (λ a. Fills s.flex.machine a w m) (sym holds.1) step), refl),

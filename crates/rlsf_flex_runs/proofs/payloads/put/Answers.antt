@@ -14,7 +14,7 @@ use Rattle.rlsf_flex_runs.proofs.payloads.put.Goals as goal
 
 pub returns-in_default : goal.returns-in_default
 returns-in_default g c =
-    LeadsOn-nothing c.requires (Put c.args.name c.args.offset c.args.byte) (Refused UnknownName)
+    LeadsOn-nothing c.requires (Put c.args.name c.args.offset c.args.byte) (Refused UnknownName) refl
     (refl, without_source (run_of c.args.flex.now c.args.names.now), (unnamed c.requires.are_named c.args.name (sym c.payload_of.ensures ∙ c.in_default.is), refl), refl, refl)
 
 pub payload-requires : goal.payload-requires
@@ -23,7 +23,7 @@ payload-requires g c = (omega arith, some_live c.requires c.args.name c.in-Some.
 pub returns-then-offset-payload : goal.returns-then-offset-payload
 returns-then-offset-payload g c =
     let (u, owns, holds, its, long) = owned c.requires c.args.name c.in-Some.payload (sym c.payload_of.ensures ∙ c.in-Some.is) in
-    LeadsOn-nothing c.requires (Put c.args.name c.args.offset c.args.byte) (Refused BadOffset)
+    LeadsOn-nothing c.requires (Put c.args.name c.args.offset c.args.byte) (Refused BadOffset) refl
     (refl, without_source (run_of c.args.flex.now c.args.names.now), ((u, owns, omega (arith, c.if-offset-payload.true, ap length (c.payload.ensures ∙ its), long)), refl), refl, refl)
 
 pub payload_mut-requires : goal.payload_mut-requires
@@ -37,7 +37,7 @@ returns g c =
     let (u, owns, holds, its, long) = owned c.requires c.args.name p (sym c.payload_of.ensures ∙ c.in-Some.is) in
     let lent = c.payload_mut.ensures.value ∙ its in
     let rest = c.payload_mut.ensures.rest w in
-    filled c.requires rest.2 rest.3 (Put c.args.name c.args.offset c.args.byte) (address p) w (λ m step.
+    filled c.requires rest.2 rest.3 (Put c.args.name c.args.offset c.args.byte) (address p) w (address p, w, refl) (λ m step.
     let fills = subst (λ a. Fills s.flex.machine a (slice_set u.bytes c.args.offset c.args.byte) m) (sym holds.1) (subst (λ l. Fills s.flex.machine (address p) (slice_set l c.args.offset c.args.byte) m) lent step) in (
       refl,
       with_machine m (without_source s),

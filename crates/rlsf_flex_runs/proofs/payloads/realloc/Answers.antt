@@ -13,14 +13,14 @@ use Rattle.rlsf_flex_runs.proofs.payloads.realloc.Goals as goal
 pub returns-in_default-clause-does : goal.returns-in_default-clause-does
 returns-in_default-clause-does g c =
     let at = c.requires.state in
-    LeadsOn-nothing at (Realloc c.args.name c.args.size) (Refused UnknownName)
+    LeadsOn-nothing at (Realloc c.args.name c.args.size) (Refused UnknownName) refl
     (refl, without_source (run_of c.args.flex.now c.args.names.now), (unnamed at.are_named c.args.name (sym c.payload_of.ensures ∙ c.in_default.is), refl), refl, refl)
 
 pub returns-in_default-from_size_align-clause-does : goal.returns-in_default-from_size_align-clause-does
 returns-in_default-from_size_align-clause-does g c =
     let at = c.requires.state in
     let (u, owns, _, aligned) = owned_live at.are_named c.args.name c.in-Some.old (sym c.payload_of.ensures ∙ c.in-Some.is) in
-    LeadsOn-nothing at (Realloc c.args.name c.args.size) (Refused BadLayout)
+    LeadsOn-nothing at (Realloc c.args.name c.args.size) (Refused BadLayout) refl
     (refl, without_source (run_of c.args.flex.now c.args.names.now), ((u, owns, λ valid. true≢false (sym (c.in_default-from_size_align.ensures.succeeds.1 (subst (IsLayout c.args.size) aligned valid)))), refl), refl, refl)
 
 pub reallocate-placed-requires : goal.reallocate-placed-requires

@@ -14,10 +14,10 @@ allocation_usable_size-requires g c = (omega arith, some_live c.requires c.args.
 pub returns-in-Some : goal.returns-in-Some
 returns-in-Some g c =
     let (u, owns, holds, its, long) = owned c.requires c.args.name c.in-Some.payload (sym c.payload_of.ensures ∙ c.in-Some.is) in
-    LeadsOn-nothing c.requires (Usable c.args.name) (Told c.allocation_usable_size.result)
+    LeadsOn-nothing c.requires (Usable c.args.name) (Told c.allocation_usable_size.result) refl
     (refl, without_source (run_of c.args.flex.now c.args.names.now), (u, owns, c.allocation_usable_size.ensures ∙ ap length its ∙ long, refl), refl, refl)
 
 pub returns-in-None : goal.returns-in-None
 returns-in-None g c =
-    LeadsOn-nothing c.requires (Usable c.args.name) (Refused UnknownName)
+    LeadsOn-nothing c.requires (Usable c.args.name) (Refused UnknownName) refl
     (refl, without_source (run_of c.args.flex.now c.args.names.now), (unnamed c.requires.are_named c.args.name (sym c.payload_of.ensures ∙ c.in-None.is), refl), refl, refl)

@@ -2,7 +2,7 @@ use Rattle.std.proofs.Common.{◌++◌, [], ◌∷◌, arith, refl, sym, ◌∙�
 use Rattle.std.proofs.lemmas.List.{append_assoc, append-nil, get_or_default}
 use Rattle.rlsf_runs.proofs.Outcomes.{when_ok}
 use Rattle.rlsf_flex_runs.specs.Steps.Names.{run_of}
-use Rattle.rlsf_flex_runs.proofs.Underway.{IsUnderway-beginning, IsUnderway-next, RunsFlex-end}
+use Rattle.rlsf_flex_runs.proofs.Underway.{IsUnderway-beginning, IsUnderway-next, RunsFlex-end, RunsFlexByEvents-end}
 use Rattle.rlsf_flex_runs.proofs.runs.run_flex.Goals as goal
 
 pub loop-op-init : goal.loop-op-init
@@ -23,4 +23,4 @@ loop-op-preserved g c =
 pub returns-clause-runs : goal.returns-clause-runs
 returns-clause-runs g c =
     let ((given, items, u), _) = c.loop-op.invariant in
-    (given, u.notes, run_of c.loop-op.flex c.loop-op.names, items, RunsFlex-end u c.loop-op-test.false, u.leads_by, refl, u.outside)
+    (given, u.notes, run_of c.loop-op.flex c.loop-op.names, items, RunsFlex-end u c.loop-op-test.false, u.leads_by, refl, u.outside, RunsFlexByEvents-end u c.loop-op-test.false)
