@@ -1,6 +1,7 @@
 -- A walk from block to block.
 pub mod Begins
 pub mod Blocks
+pub mod ChunkEnds
 pub mod Listed
 pub mod Nexts
 pub mod Places

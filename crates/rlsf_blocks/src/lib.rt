@@ -14,7 +14,7 @@ pub use payload::{load_block_of, load_usable_bytes, usable_bytes};
 pub use placement::{leave_rest, place};
 pub use pool::{SENTINEL, insert};
 pub use removal::remove_chunks;
-pub use walks::{BlockInfo, Blocks, walk};
+pub use walks::{BlockInfo, Blocks, chunk_end, walk};
 
 /// The unit of sizes and addresses of blocks, in bytes.
 pub const GRANULARITY: usize = 32;

@@ -3,12 +3,15 @@
 ghost use Rattle.std.specs.Prelude.{◌≡◌, ◌+◌, ◌≤◌, ◌↔◌, ℕ, length};
 ghost use Rattle.std.specs.Iterator.{at_most};
 ghost use Rattle.std.specs.Map.Iter.{TakesFirst, GivesInOrder};
+ghost use Rattle.rlsf_base.specs.declared.memory.range.Range.{Range};
+ghost use Rattle.rlsf_base.specs.Range.{end_of};
 ghost use Rattle.rlsf_base.specs.Rounding.{round32};
 ghost use Rattle.rlsf_base.specs.Space.{Space};
 ghost use Rattle.rlsf_blocks.specs.Blocks.{AreBlocks, walked};
 ghost use Rattle.rlsf_blocks.specs.StandsFor.{contents, StandsFor};
 ghost use Rattle.rlsf_blocks.specs.Steps.Walk.{IsSpan};
 ghost use Rattle.rlsf_machine.specs.ChunkRows.{IsRow};
+ghost use Rattle.rlsf_machine.specs.Lists.{IsIn};
 ghost use Rattle.rlsf_machine.specs.State.{State};
 ghost use Rattle.rlsf_table.specs.Table.{Table};
 
@@ -127,6 +130,20 @@ pub fn walk(memory: &Memory, range: Range) -> Blocks<'_>
 {
     let (start, end) = span(range);
     Blocks { memory, start, end }
+}
+
+/// Where the chunk ends that begins at `start`: a walk over its blocks comes to its sentinel.
+pub fn chunk_end(memory: &Memory, start: usize) -> usize
+    requires { (fllen : ℕ) × (sllen : ℕ) × (t : Table) × (s : State) × (c : Range) × StandsFor fllen sllen (contents memory.now t) s × IsIn c s.chunks × (c.start ≡ start) }
+    ensures { (fllen sllen : ℕ) (t : Table) (s : State) (c : Range) → StandsFor fllen sllen (contents memory.now t) s → IsIn c s.chunks → c.start ≡ start → result ≡ end_of c }
+{
+    let mut block = start;
+    let mut word = memory.word(block);
+    while word != SENTINEL {
+        block += (word / GRANULARITY as u64 * GRANULARITY as u64) as usize;
+        word = memory.word(block);
+    }
+    block + GRANULARITY
 }
 
 impl<'a> Iterator for Blocks<'a> {

@@ -1,0 +1,63 @@
+-- A walk over the blocks of one chunk, up to its sentinel.
+use Rattle.std.proofs.Common.{◌≡◌, ◌≢◌, ℕ, ◌+◌, ◌*◌, ◌/◌, ◌%◌, ◌<◌, ◌≤◌, arith, sym, ◌∙◌, ap, subst}
+use Rattle.rlsf_base.specs.declared.memory.range.Range.{Range}
+use Rattle.rlsf_base.specs.Range.{end_of}
+use Rattle.rlsf_base.specs.Space.{Space, IsWord, word_at}
+use Rattle.rlsf_machine.specs.Lists.{IsIn}
+use Rattle.rlsf_machine.specs.State.{State}
+use Rattle.rlsf_table.specs.Table.{Table}
+use Rattle.rlsf_blocks.specs.Blocks.{Block}
+use Rattle.rlsf_blocks.specs.StandsFor.{contents, StandsFor}
+use Rattle.rlsf_blocks.specs.Steps.Walk.{Begins, block_at}
+use Rattle.rlsf_blocks.proofs.Walking.Begins.{BehindBlock, block_behind, end_behind, begins_at_chunk, behind_block, lies_in_same_chunk}
+use Rattle.rlsf_blocks.proofs.Walking.Blocks.{IsWhole-block, block-some}
+use Rattle.rlsf_blocks.proofs.Walking.Sizes.{block_at-block, block_word}
+
+-- the walk stands at a block of the chunk, or at its sentinel
+pub record IsInChunk (s : State) (c : Range) (a : ℕ) : Type 0 where
+  pub at : BehindBlock s a (end_of c)
+  pub whole : a % 32 ≡ 0
+  pub from : c.start ≤ a
+  pub to : a + 32 ≤ end_of c
+
+module _ {fllen sllen : ℕ} {m : Space} {t : Table} {s : State} (v : StandsFor fllen sllen (contents m t) s) (c : Range) (i : IsIn c s.chunks) where
+  -- it begins at the chunk's first block
+  pub IsInChunk-start : (start : ℕ) → c.start ≡ start → IsInChunk s c start
+  IsInChunk-start start at =
+      let chunk = v.well_formed.chunks c i in
+      subst (IsInChunk s c) at (record { at = block_behind (begins_at_chunk v.well_formed c i); whole = chunk.whole.start; from = omega arith; to = omega (arith, chunk.has_room) })
+
+  module _ {a : ℕ} (is : IsInChunk s c a) where
+    -- a word stands there
+    pub IsWord-chunk : IsWord m a
+    IsWord-chunk = let placed = (v.well_formed.chunks c i).lies_in in (omega (arith, is.whole), (omega (arith, is.from, placed.0), omega (arith, is.to, placed.1)))
+
+    -- which is that of the chunk's sentinel, where the walk is at the chunk's end
+    pub end_there : {word : ℕ} → word ≡ word_at m a → word ≡ 35 → a + 32 ≡ end_of c
+    end_there {word} read sentinel = elim is.at [
+      | block_behind (b, j, begins) ↦ absurd (block_word v b j (ap (word_at m) begins ∙ sym read ∙ sentinel))
+      | end_behind d j begins ends ↦ ends
+    ]
+
+    -- a block begins there, where the word is another
+    begins_there : {word : ℕ} → word ≡ word_at m a → word ≢ 35 → Begins s a
+    begins_there {word} read other = elim is.at [
+      | block_behind begins ↦ begins
+      | end_behind d j begins ends ↦ absurd (other (read ∙ ap (word_at m) (sym begins) ∙ v.sizes.sentinel d j))
+    ]
+
+    -- and the walk goes on behind it
+    pub IsInChunk-next : {word : ℕ} → word ≡ word_at m a → word ≢ 35 → IsInChunk s c (a + word / 32 * 32) × (a < a + word / 32 * 32)
+    IsInChunk-next {word} read other =
+        let (b, j, begins) = begins_there read other in
+        let w = v.well_formed in
+        let some = block-some w b j in
+        let whole = IsWhole-block w b j in
+        let len : word / 32 * 32 ≡ b.range.len = ap (λ n. n / 32 * 32) (read ∙ ap (word_at m) (sym begins)) ∙ ap (λ (x : Block). x.range.len) (block_at-block v b j) in
+        let end : end_of b.range ≡ a + word / 32 * 32 = omega (arith, begins, len) in
+        let inside = lies_in_same_chunk w b j c i b.range.start (record { from = omega arith; to = omega arith }) (record { from = omega (arith, begins, is.from); to = omega (arith, begins, is.to) }) in
+        let behind = behind_block w b j c i (record { from = inside.0; to = omega (arith, inside.1) }) in
+        (
+          record { at = subst (λ x. BehindBlock s x (end_of c)) end behind; whole = omega (arith, end, whole.start, whole.len); from = omega (arith, is.from); to = omega (arith, end, inside.1) },
+          omega (arith, len, some),
+        )
