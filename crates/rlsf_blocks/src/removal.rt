@@ -13,9 +13,9 @@ ghost use Rattle.rlsf_blocks.specs.Spare.{KeepsSpare};
 ghost use Rattle.rlsf_blocks.specs.StandsFor.{contents, StandsFor};
 ghost use Rattle.rlsf_blocks.specs.Steps.Removal.{IsIdleChunk};
 
+use crate::GRANULARITY;
 use crate::free::take_if_free;
 use crate::walks::span;
-use crate::GRANULARITY;
 use rlsf_base::memory::{Memory, Range};
 use rlsf_int::Bitmap;
 use rlsf_table::ClassTable;

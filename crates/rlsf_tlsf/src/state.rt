@@ -2,7 +2,9 @@
 ghost use Rattle.std.specs.Prelude.{◌≡◌, ℕ};
 ghost use Rattle.std.specs.Borrow.{ftrue};
 ghost use Rattle.rlsf_base.specs.Range.{range_at};
+ghost use Rattle.rlsf_machine.specs.Remove.{removed};
 ghost use Rattle.rlsf_machine.specs.State.{State, empty};
+ghost use Rattle.rlsf_blocks.specs.Blocks.{walked};
 ghost use Rattle.rlsf_tlsf.specs.Steps.Moves.{allocated, appended_to, deallocated, inserted, reallocated};
 
 use std::marker::{Model, Send, Sync};
@@ -70,5 +72,12 @@ impl GhostState {
         ensures { self.new.state ≡ reallocated sllen addr size self.old.state }
     {
         self.advance(sllen, addr, size);
+    }
+
+    /// Moves on as a removal does of the chunks of a range.
+    pub(crate) fn remove(&mut self, start: usize, len: usize)
+        ensures { self.new.state ≡ removed (walked (range_at start len)) self.old.state }
+    {
+        self.advance(start, len, 0);
     }
 }

@@ -6,7 +6,7 @@ ghost use Rattle.std.specs.List.{list_any};
 ghost use Rattle.std.specs.Map.Iter.{GivesInOrder};
 ghost use Rattle.rlsf_base.specs.Addr.{at, reply};
 ghost use Rattle.rlsf_base.specs.declared.memory.range.Range.{Range};
-ghost use Rattle.rlsf_base.specs.Range.{AreApart, LiesIn};
+ghost use Rattle.rlsf_base.specs.Range.{AreApart, LiesIn, end_of};
 ghost use Rattle.rlsf_base.specs.SizeClass.{IsValid};
 ghost use Rattle.rlsf_base.specs.Sizes.{max_pool_size};
 ghost use Rattle.rlsf_base.specs.Space.{range_of, with_word, SamePlace};
@@ -15,9 +15,11 @@ ghost use Rattle.rlsf_machine.specs.Allocate.{Allocates, has_class};
 ghost use Rattle.rlsf_machine.specs.Callers.{align_at, bytes_at};
 ghost use Rattle.rlsf_machine.specs.ChunkRows.{IsRow};
 ghost use Rattle.rlsf_machine.specs.Insert.{Appends, Inserts, IsNext, IsUntouched, aligned_part, cut};
+ghost use Rattle.rlsf_machine.specs.Lists.{IsIn};
 ghost use Rattle.rlsf_machine.specs.NoMove.{ReallocatesWithoutMove};
 ghost use Rattle.rlsf_machine.specs.Reallocate.{Keeps, Plan, Reallocates, in_place, into_next, or_else};
 ghost use Rattle.rlsf_machine.specs.Release.{Deallocates};
+ghost use Rattle.rlsf_machine.specs.Remove.{IsIdle, Removes};
 ghost use Rattle.rlsf_machine.specs.Run.{Fills};
 ghost use Rattle.rlsf_machine.specs.State.{State, Used, empty, with_front, Holds};
 ghost use Rattle.rlsf_table.specs.Table.{class_at, is_in_row, newest_of, of_class};
@@ -28,8 +30,8 @@ use crate::state::GhostState;
 use rlsf_base::classes::request_size;
 use rlsf_base::memory::{Addr, Layout, Memory, Range};
 use rlsf_blocks::{
-    BlockInfo, Blocks, deallocate_block, insert, load_block_of, load_usable_bytes, place,
-    usable_bytes, used_block, walk,
+    BlockInfo, Blocks, chunk_end, deallocate_block, insert, load_block_of, load_usable_bytes,
+    place, remove_chunks, usable_bytes, used_block, walk,
 };
 use rlsf_int::{BitPattern, Bitmap};
 use rlsf_resize::{append, reallocate_block, resize_block};
@@ -160,6 +162,36 @@ impl<FLBitmap: Bitmap, SLBitmap: Bitmap, const FLLEN: usize, const SLLEN: usize>
         let taken = append(&mut self.memory, &mut self.table, range);
         self.state.append(FLLEN, range.start, range.len);
         taken
+    }
+
+    /// Takes a range out that was handed in: its chunks, from its start rounded up to 32 to its end, and the free blocks there.
+    /// The order of the other free blocks stays, and so does each used one. No byte of the range is the allocator's any more.
+    ///
+    /// From there to there the range is a row of whole adjacent chunks, or empty, and no block there is used.
+    pub fn remove_pool(&mut self, range: Range)
+        requires row { IsRow self.old.state (walked range) }
+        requires idle { IsIdle self.old.state (walked range) }
+        ensures step { Steps FLLEN SLLEN self.old self.new (Removes self.old.state (walked range)) }
+        ensures untouched { (r : Range) → IsUntouched self.old.state.chunks r → IsUntouched self.new.state.chunks r }
+        ensures gone { IsUntouched self.new.state.chunks (walked range) }
+        ensures aligns { align_at self.new.state ≡ align_at self.old.state }
+        ensures bytes { bytes_at self.new.state ≡ bytes_at self.old.state }
+        ensures place { SamePlace self.old.memory self.new.memory }
+        ensures touches { self.new.memory.touches + 9 * length self.new.state.chunks ≤ self.old.memory.touches + 9 * length self.old.state.chunks }
+        ensures copied { self.new.memory.copied ≡ self.old.memory.copied }
+    {
+        remove_chunks(&mut self.memory, &mut self.table, range);
+        self.state.remove(range.start, range.len);
+    }
+
+    /// Where the chunk ends that begins at `addr`: the address behind its sentinel. The walk over the chunk's blocks isn't counted.
+    ///
+    /// A chunk begins there.
+    pub fn chunk_end(&self, addr: usize) -> usize
+        requires { (c : Range) × IsIn c self.now.state.chunks × (c.start ≡ addr) }
+        ensures { (c : Range) → IsIn c self.now.state.chunks → c.start ≡ addr → result ≡ end_of c }
+    {
+        chunk_end(&self.memory, addr)
     }
 
     /// Allocates a payload for a layout: the front of the newest free block of the first class that reaches the size

@@ -137,9 +137,9 @@ module _ {fllen sllen : ℕ} {m0 : Space} {t0 : Table} {s : State} (v : StandsFo
           let order : start ≤ end = omega (arith, at, past) in
           let same = all_chunk end at in
           let chunks = outside_of-twice (between q.start start) (between start end) (between q.start end) s.chunks
-              (λ x i. lies_within-split q.start start end x is.from order (omega (arith, (v.well_formed.chunks x i).has_room)) (is.edge more x i)) in
+          (λ x i. lies_within-split q.start start end x is.from order (omega (arith, (v.well_formed.chunks x i).has_room)) (is.edge more x i)) in
           let free = outside_of-twice (between q.start start) (between start end) (between q.start end) s.free
-              (λ x i. lies_within-split q.start start end x is.from order (v.well_formed.free x i).some (one_side x i)) in
+          (λ x i. lies_within-split q.start start end x is.from order (v.well_formed.free x i).some (one_side x i)) in
           ap (λ c. removed c (removed (between q.start start) s)) (sym same) ∙ ap₂ (λ x y. record { chunks = x; used = s.used; free = y }) chunks free
 
       -- it was taken out

@@ -56,8 +56,7 @@ module _ {fllen sllen : ℕ} {m : Space} {t : Table} {s : State} (v : StandsFor 
         let len : word / 32 * 32 ≡ b.range.len = ap (λ n. n / 32 * 32) (read ∙ ap (word_at m) (sym begins)) ∙ ap (λ (x : Block). x.range.len) (block_at-block v b j) in
         let end : end_of b.range ≡ a + word / 32 * 32 = omega (arith, begins, len) in
         let inside = lies_in_same_chunk w b j c i b.range.start (record { from = omega arith; to = omega arith }) (record { from = omega (arith, begins, is.from); to = omega (arith, begins, is.to) }) in
-        let behind = behind_block w b j c i (record { from = inside.0; to = omega (arith, inside.1) }) in
-        (
+        let behind = behind_block w b j c i (record { from = inside.0; to = omega (arith, inside.1) }) in (
           record { at = subst (λ x. BehindBlock s x (end_of c)) end behind; whole = omega (arith, end, whole.start, whole.len); from = omega (arith, is.from); to = omega (arith, end, inside.1) },
           omega (arith, len, some),
         )

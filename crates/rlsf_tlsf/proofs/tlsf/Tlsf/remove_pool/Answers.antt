@@ -1,0 +1,81 @@
+use Rattle.std.proofs.Common.{◌≡◌, arith, refl, sym, ◌∙◌, ap, subst, rules}
+use Rattle.rlsf_base.specs.Space.{range_of}
+use Rattle.rlsf_machine.specs.ChunkRows.{IsRow}
+use Rattle.rlsf_machine.specs.Remove.{IsIdle, Removes, removed}
+use Rattle.rlsf_machine.specs.Run.{remove}
+use Rattle.rlsf_machine.specs.State.{State}
+use Rattle.rlsf_machine.proofs.CallerWords.{SeesSame, same_seen}
+use Rattle.rlsf_machine.proofs.Callers.{callers_see_map}
+use Rattle.rlsf_blocks.specs.Blocks.{walked}
+use Rattle.rlsf_blocks.specs.Laws.{read_from}
+use Rattle.rlsf_blocks.specs.Spare.{KeepsSpare}
+use Rattle.rlsf_blocks.specs.StandsFor.{contents, StandsFor}
+use Rattle.rlsf_tlsf.specs.Allocator.{Allocator, allocator, Steps}
+use Rattle.rlsf_tlsf.specs.Steps.Moves.{bare}
+use Rattle.rlsf_tlsf.proofs.Arrivals.{IsAllocator-arrived, Steps-arrived, bare-kept, opened, view_well_formed}
+use Rattle.rlsf_tlsf.proofs.Removed.{IsRemovable-row, untouched_gone, untouched_removed}
+use Rattle.rlsf_tlsf.proofs.tlsf.Tlsf.remove_pool.Given as given
+use Rattle.rlsf_tlsf.proofs.tlsf.Tlsf.remove_pool.Goals as goal
+use Rattle.rlsf_tlsf.proofs.tlsf.Tlsf.remove_pool.Goals.{After-remove_chunks, After-remove}
+
+pub remove_chunks-requires : goal.remove_chunks-requires
+remove_chunks-requires g c =
+    let row = subst (λ (o : Allocator). IsRow o.state (walked c.args.range)) (sym c.self.view_is) c.requires.row in
+    let idle = subst (λ (o : Allocator). IsIdle o.state (walked c.args.range)) (sym c.self.view_is) c.requires.idle in
+    (omega arith, (c.self.invariant.valid, (_, c.self.invariant.stands, row, idle)))
+
+-- the chunks are taken out
+removing : (g : given.Over) (c : After-remove_chunks g)
+    → StandsFor g.row.FLLEN g.row.SLLEN (contents c.remove_chunks.new.memory c.remove_chunks.new.table) (removed (walked c.args.range) (read_from c.self.inside.memory c.self.inside.state.state))
+    × KeepsSpare c.self.inside.memory (read_from c.self.inside.memory c.self.inside.state.state) c.remove_chunks.new.memory (read_from c.self.inside.memory c.self.inside.state.state)
+removing g c =
+    let row = subst (λ (o : Allocator). IsRow o.state (walked c.args.range)) (sym c.self.view_is) c.requires.row in
+    let idle = subst (λ (o : Allocator). IsIdle o.state (walked c.args.range)) (sym c.self.view_is) c.requires.idle in
+    c.remove_chunks.ensures.step (read_from c.self.inside.memory c.self.inside.state.state) c.self.invariant.stands row idle
+
+-- what is kept of the state is the one without them
+kept : (g : given.Over) (c : After-remove g) → c.remove.new.self.state ≡ bare (removed (walked c.args.range) (read_from c.self.inside.memory c.self.inside.state.state))
+kept g c = c.remove.ensures ∙ ap (removed (walked c.args.range)) (sym (bare-kept c.self.invariant))
+
+pub invariant_of-self : goal.invariant_of-self
+invariant_of-self g c =
+    let (stands, spare) = removing g (goal.at.invariant_of-self g c).After-remove_chunks in
+    IsAllocator-arrived stands c.remove.new.self.state (kept g c) c.self.invariant.valid
+
+abbrev after : (g : given.Over) (c : After-remove g) → Allocator
+after g c = allocator c.remove_chunks.new.memory c.remove_chunks.new.table c.remove.new.self.state
+
+done : (g : given.Over) (c : After-remove g) → Steps g.row.FLLEN g.row.SLLEN c.args.self.now (after g c) (Removes c.args.self.now.state (walked c.args.range))
+done g c =
+    let (stands, spare) = removing g (goal.at.returns-clause-step g c).After-remove_chunks in
+    Steps-arrived stands c.remove.new.self.state (kept g c) c.args.self.now c.self.inside.memory c.self.inside.table c.self.inside.state.state c.self.view_is
+    (λ old. Removes old (walked c.args.range)) refl (λ a from to here there. spare a from to here here)
+
+pub returns-clause-step : goal.returns-clause-step
+returns-clause-step g c = done g c
+
+stepped : (g : given.Over) (c : After-remove g) → Removes c.args.self.now.state (walked c.args.range) (after g c).state
+stepped g c = (opened g.row.FLLEN g.row.SLLEN c.args.self.now (after g c) (Removes c.args.self.now.state (walked c.args.range)) (done g c)).0
+
+seen : (g : given.Over) (c : After-remove g) → SeesSame c.args.self.now.state (after g c).state
+seen g c =
+    let w = view_well_formed c.self.invariant c.args.self.now c.self.view_is in
+    same_seen c.args.self.now.state (after g c).state
+    (callers_see_map g.row.FLLEN g.row.SLLEN (range_of c.args.self.now.memory) c.args.self.now.state (after g c).state (remove (walked c.args.range)) w
+    (IsRemovable-row w (walked c.args.range) c.requires.row c.requires.idle) (stepped g c))
+
+pub returns-clause-aligns : goal.returns-clause-aligns
+returns-clause-aligns g c = (seen g c).aligns
+
+pub returns-clause-bytes : goal.returns-clause-bytes
+returns-clause-bytes g c = (seen g c).bytes
+
+pub returns-clause-untouched : goal.returns-clause-untouched
+returns-clause-untouched g c =
+    let w = view_well_formed c.self.invariant c.args.self.now c.self.view_is in
+    untouched_removed w (walked c.args.range) c.requires.row c.requires.idle (after g c).state (stepped g c)
+
+pub returns-clause-gone : goal.returns-clause-gone
+returns-clause-gone g c =
+    let w = view_well_formed c.self.invariant c.args.self.now c.self.view_is in
+    untouched_gone w (walked c.args.range) c.requires.row c.requires.idle (after g c).state (stepped g c)
