@@ -77,10 +77,11 @@ class Run:
         used, addr = self.used(name), self.names[name]
         if op in ("free", "ufree"):
             self.flex.deallocate(self.names.pop(name))
-        elif op == "realloc":
+        elif op in ("realloc", "nrealloc"):
             if not list_machine.layout_ok(ns[0], used.align):
                 return "refused 5 BadLayout"
-            return self.placed(op, name, self.flex.reallocate(addr, ns[0]))
+            reallocate = self.flex.reallocate if op == "realloc" else self.flex.m.reallocate_in_place
+            return self.placed(op, name, reallocate(addr, ns[0]))
         elif op == "usable":
             return f"usable {name} {self.flex.m.usable(addr)}"
         elif op == "fill":

@@ -81,8 +81,8 @@ def random_size(rng, config):
 def random_call(rng, run):
     """One call, mostly of a live payload; bytes that nobody set are not read."""
     name = rng.choice([*run.names]) if run.names and rng.random() < 0.96 else rng.randint(1, 12)
-    op = rng.choices(("alloc", "realloc", "free", "ufree", "usable", "fill", "put", "get", "insert", "append", "block"),
-                     (40, 22, 12, 7, 4, 16, 6, 24, 0.4, 0.4, 0.4))[0]
+    op = rng.choices(("alloc", "realloc", "nrealloc", "free", "ufree", "usable", "fill", "put", "get", "insert", "append", "block"),
+                     (40, 18, 8, 12, 7, 4, 16, 6, 24, 0.4, 0.4, 0.4))[0]
     if not run.names and rng.random() < 0.9:
         op = "alloc"
     if op == "alloc":
@@ -92,7 +92,7 @@ def random_call(rng, run):
             align = min(align, 16)
         size = min(random_size(rng, run.config), 2**63 - align)
         return run.do(op, fresh if rng.random() < 0.97 else name, size, align)
-    if op == "realloc":
+    if op in ("realloc", "nrealloc"):
         return run.do(op, name, random_size(rng, run.config))
     if op in ("free", "ufree", "usable"):
         return run.do(op, name)

@@ -28,6 +28,29 @@ fn kept(tlsf: &mut Small, layout: Layout, wanted: Layout, byte: u8, offset: usiz
     Some(read)
 }
 
+/// Allocates a payload, fills it with a byte, gives it another size where it stands, and reads it at an offset that both sizes
+/// have. Answers what was read, if the size could be given.
+fn kept_there(
+    tlsf: &mut Small,
+    layout: Layout,
+    wanted: Layout,
+    byte: u8,
+    offset: usize,
+) -> Option<u8>
+    requires { (wanted.align ≡ layout.align) × (offset < layout.size) × (offset < wanted.size) }
+    ensures { IfSome result (λ read. read ≡ byte) }
+{
+    let addr = tlsf.allocate(layout)?;
+    tlsf.payload_mut(addr).fill(byte);
+    if tlsf.reallocate_no_move(addr, wanted).is_none() {
+        tlsf.deallocate(addr, layout.align());
+        return None;
+    }
+    let read = tlsf.payload(addr)[offset];
+    tlsf.deallocate(addr, wanted.align());
+    Some(read)
+}
+
 /// Leaves bytes in a payload, as far as there is room. Answers how many it has.
 fn leave_bytes(payload: &mut [u8]) -> usize
     ensures { length payload.new ≡ length payload.old }
@@ -370,5 +393,19 @@ fn kept_reads_back(rt: HostRuntime) -> Result<(), Fail> {
     let grown = kept(&mut tlsf, layout, wanted, 7, 39);
     let shrunk = kept(&mut tlsf, wanted, layout, 8, 39);
     are(&rt, &numbers(grown, shrunk), &[7, 8]);
+    Ok(())
+}
+
+#[test]
+fn kept_there_reads_back(rt: HostRuntime) -> Result<(), Fail> {
+    let layout = Layout::from_size_align(40, 1)?;
+    let wanted = Layout::from_size_align(100, 1)?;
+    let longest = Layout::from_size_align(300, 1)?;
+    let mut tlsf = with_pool(rt.alloc(), 256)?;
+    let grown = kept_there(&mut tlsf, layout, wanted, 7, 39);
+    let shrunk = kept_there(&mut tlsf, wanted, layout, 8, 39);
+    are(&rt, &numbers(grown, shrunk), &[7, 8]);
+    let refused = kept_there(&mut tlsf, layout, longest, 9, 39);
+    assert_eq!(rt; refused, None);
     Ok(())
 }

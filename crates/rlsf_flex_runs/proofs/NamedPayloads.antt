@@ -1,7 +1,10 @@
 -- The named payloads of a run over a source, and what an op that asks nothing leaves of them.
 use Rattle.std.proofs.Common.{◌≡◌, ℕ, nat_eq, Some, None, Option, IsSome, List, [], ◌∷◌, length, refl, sym, ◌∙◌, ap, subst}
+use Rattle.std.specs.declared.num.NonZeroUsize.{NonZeroUsize}
 use Rattle.std.specs.HashMap.{get}
+use Rattle.rlsf_base.specs.Addr.{reply}
 use Rattle.rlsf_base.specs.declared.memory.range.Range.{Range}
+use Rattle.rlsf_base.specs.Layout.{IsLayout}
 use Rattle.rlsf_base.specs.Space.{range_of, SamePlace}
 use Rattle.rlsf_blocks.specs.Spare.{KeepsSpare}
 use Rattle.rlsf_flex.specs.Outside.{IsOutside, KeepsOutside}
@@ -13,19 +16,22 @@ use Rattle.rlsf_flex_runs.specs.Steps.Names.{IsAt, LeadsOn, MakesFlex, named_in,
 use Rattle.rlsf_flex_runs.proofs.FlexEvents.{made-deallocate, made-fill}
 use Rattle.rlsf_machine.specs.Callers.{align_at, bytes_at}
 use Rattle.rlsf_machine.specs.FlexState.{with_machine}
+use Rattle.rlsf_machine.specs.NoMove.{ReallocatesWithoutMove}
 use Rattle.rlsf_machine.specs.Note.{Note, LeadsBy}
 use Rattle.rlsf_machine.specs.Release.{Deallocates}
 use Rattle.rlsf_machine.specs.Run.{deallocate, fill, Fills}
 use Rattle.rlsf_machine.specs.State.{State, Used, Holds, usable}
 use Rattle.rlsf_machine.specs.Terms.{Terms}
+use Rattle.rlsf_machine.proofs.CallerWords.{align_at-live}
 use Rattle.rlsf_runs.specs.declared.names.Payload.{Payload}
 use Rattle.rlsf_runs.specs.Events.{IsDoneBy}
 use Rattle.rlsf_runs.specs.Names.{address, AreNamed, NameTable}
 use Rattle.rlsf_runs.specs.Runs.{Frees, Owns, RunState, with_machine as with_state, without_name}
-use Rattle.rlsf_runs.proofs.Named.{AreNamed-filled, AreNamed-freed, AreNamed-untaken, IsSetAt, owned_live}
+use Rattle.rlsf_runs.proofs.Named.{AreNamed-filled, AreNamed-freed, AreNamed-kept, AreNamed-untaken, IsSetAt, owned_live}
 use Rattle.rlsf_text.specs.declared.op.Answer.{Answer}
-use Rattle.rlsf_text.specs.declared.op.Answer.TheVariants.{Done}
+use Rattle.rlsf_text.specs.declared.op.Answer.TheVariants.{Done, Placed}
 use Rattle.rlsf_text.specs.declared.op.Op.{Op}
+use Rattle.rlsf_text.specs.declared.op.Op.TheVariants.{ReallocNoMove}
 use Rattle.rlsf_tlsf.proofs.Standing.{bytes_in, live_in, some_live_in}
 
 -- names whose payloads a table has are the table's
@@ -107,6 +113,25 @@ module _ {S : Type 0} {fllen sllen : ℕ} {terms : S → Terms} {owes : S → Li
             does _ (u, owns, w.state.machine, subst (λ a. Deallocates v.state.machine a w.state.machine) (sym holds.1) step, refl),
             made-deallocate (address p) is_done step same,
             AreNamed-freed at.are_named w.state.machine name (address p) (owns.1 ∙ ap Some holds.1) step taken,
+          ))
+
+      -- a payload of a name may have another size, and no alignment has changed
+      pub unmoved : (name size : ℕ) (p : Payload) (addr : Option NonZeroUsize) → get nat_eq table name ≡ Some p → IsLayout size p.align
+          → StepsAlone fllen sllen terms owes v w (ReallocatesWithoutMove v.state.machine (address p) size (reply addr)) → align_at w.state.machine ≡ align_at v.state.machine
+          → LeadsOn fllen sllen terms owes leads v table (ReallocNoMove name size) (Placed addr) w table
+      unmoved name size p addr there valid alone aligns =
+          let said = reply addr in
+          let (u, owns, holds, its) = owned_live at.are_named name p there in
+          LeadsOn-alone (ReallocatesWithoutMove v.state.machine (address p) size said) (ReallocNoMove name size) (Placed addr) (named_in table) alone (λ step. (
+            (
+              refl,
+              with_state w.state.machine (without_source (run_of v table)),
+              (u, owns, subst (IsLayout size) (sym its) valid, w.state.machine, subst (λ a. ReallocatesWithoutMove v.state.machine a size said w.state.machine) (sym holds.1) step, refl),
+              refl,
+              refl,
+            ),
+            AreNamed-kept at.are_named w.state.machine
+                (λ a align live. align_at-live w.state.machine a align (ap (λ f. f a) aligns ∙ live_in (inner_in at.stands) a align live)),
           ))
 
       -- the bytes of a payload were written

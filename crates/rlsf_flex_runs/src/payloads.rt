@@ -3,7 +3,7 @@
 ghost use Rattle.std.specs.Prelude.{ℕ, ◌≡◌, ◌+◌, ◌≤◌, nat_eq};
 ghost use Rattle.std.specs.HashMap.{get, spare};
 ghost use Rattle.rlsf_flex_runs.specs.Steps.Names.{IsAt, LeadsOn};
-ghost use Rattle.rlsf_text.specs.declared.op.Op.TheVariants.{Alloc, Free, FreeUnknown, Realloc, Fill, Put, Get, Usable};
+ghost use Rattle.rlsf_text.specs.declared.op.Op.TheVariants.{Alloc, Free, FreeUnknown, Realloc, ReallocNoMove, Fill, Put, Get, Usable};
 
 use rlsf_base::memory::Layout;
 use rlsf_flex::{FlexSource, FlexTlsf};
@@ -125,6 +125,32 @@ pub(crate) fn realloc<
         let _ = names.insert(name, Payload { addr, align });
     }
     Answer::Placed(placed)
+}
+
+/// Gives the payload of a name another size where it stands, unless no live one has it or no layout has that size with its
+/// alignment. Where the bytes there don't suffice, it stays as it is. The name keeps its payload in each case.
+pub(crate) fn realloc_no_move<
+    S: FlexSource,
+    FLBitmap: Bitmap,
+    SLBitmap: Bitmap,
+    const FLLEN: usize,
+    const SLLEN: usize,
+>(
+    flex: &mut FlexTlsf<S, FLBitmap, SLBitmap, FLLEN, SLLEN>,
+    names: &HashMap<usize, Payload>,
+    name: usize,
+    size: usize,
+) -> Answer
+    requires { IsAt FLLEN SLLEN S.terms S.owes flex.old names.now }
+    ensures { LeadsOn FLLEN SLLEN S.terms S.owes S.leads flex.old names.now (ReallocNoMove name size) result flex.new names.now }
+{
+    let Some(payload) = payload_of(names, name) else {
+        return Answer::Refused(TraceError::UnknownName);
+    };
+    let Ok(layout) = Layout::from_size_align(size, payload.align) else {
+        return Answer::Refused(TraceError::BadLayout);
+    };
+    Answer::Placed(flex.reallocate_no_move(payload.addr, layout))
 }
 
 /// Sets every usable byte of the payload of a name, unless no live one has it.

@@ -11,7 +11,9 @@ ghost use Rattle.rlsf_machine.specs.FlexState.{empty};
 ghost use Rattle.rlsf_machine.specs.Note.{Note, LeadsBy};
 ghost use Rattle.rlsf_text.specs.declared.op.Answer.{Answer};
 
-use crate::payloads::{alloc, fill, free, free_unknown, get, put, realloc, usable};
+use crate::payloads::{
+    alloc, fill, free, free_unknown, get, put, realloc, realloc_no_move, usable,
+};
 use rlsf_flex::{FlexSource, FlexTlsf};
 use rlsf_int::Bitmap;
 use rlsf_runs::{Payload, RunError};
@@ -36,6 +38,7 @@ fn step<S: FlexSource, FLBitmap: Bitmap, SLBitmap: Bitmap, const FLLEN: usize, c
         Op::Free(name) => free(flex, names, name),
         Op::FreeUnknown(name) => free_unknown(flex, names, name),
         Op::Realloc(name, size) => realloc(flex, names, name, size),
+        Op::ReallocNoMove(name, size) => realloc_no_move(flex, names, name, size),
         Op::Fill(name, byte) => fill(flex, names, name, byte),
         Op::Put(name, offset, byte) => put(flex, names, name, offset, byte),
         Op::Get(name, offset) => get(flex, names, name, offset),

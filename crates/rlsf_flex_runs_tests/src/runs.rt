@@ -141,6 +141,9 @@ fn each_op(rt: HostRuntime) -> Result<(), Fail> {
         (Op::Usable(1), Answer::Usable(48)),
         (Op::Get(1, 3), Answer::Byte(9)),
         (Op::Get(1, 15), Answer::Byte(7)),
+        (Op::ReallocNoMove(1, 60), placed(4112)),
+        (Op::Usable(1), Answer::Usable(80)),
+        (Op::Get(1, 3), Answer::Byte(9)),
         (Op::Free(1), Answer::Done),
         (alloc_op(1, 16, 1)?, placed(4112)),
         (Op::FreeUnknown(1), Answer::Done),
@@ -182,6 +185,7 @@ fn unknown_names(rt: HostRuntime) -> Result<(), Fail> {
         (Op::Free(2), UNKNOWN),
         (Op::FreeUnknown(2), UNKNOWN),
         (Op::Realloc(2, 8), UNKNOWN),
+        (Op::ReallocNoMove(2, 8), UNKNOWN),
         (Op::Fill(2, 1), UNKNOWN),
         (Op::Put(2, 0, 1), UNKNOWN),
         (Op::Get(2, 0), UNKNOWN),
@@ -238,9 +242,27 @@ fn sizes_that_no_layout_has(rt: HostRuntime) -> Result<(), Fail> {
         (Op::Fill(1, 7), Answer::Done),
         (Op::Realloc(1, 9223372036854775808), LAYOUT),
         (Op::Realloc(1, 9223372036854775793), LAYOUT),
+        (Op::ReallocNoMove(1, 9223372036854775793), LAYOUT),
         (Op::Usable(1), Answer::Usable(16)),
         (Op::Get(1, 15), Answer::Byte(7)),
         (alloc_op(2, 1, 1)?, placed(4144)),
+    ];
+    answers(&rt, rt.alloc(), 96, &steps)
+}
+
+#[test]
+fn a_payload_that_may_not_move(rt: HostRuntime) -> Result<(), Fail> {
+    let steps = [
+        (alloc_op(1, 1, 1)?, placed(4112)),
+        (alloc_op(2, 16, 1)?, placed(4144)),
+        (Op::Fill(2, 7), Answer::Done),
+        (Op::Free(1), Answer::Done),
+        // The free block before its own would suffice.
+        (Op::ReallocNoMove(2, 40), NOWHERE),
+        (Op::Usable(2), Answer::Usable(16)),
+        (Op::Get(2, 15), Answer::Byte(7)),
+        (Op::ReallocNoMove(2, 3), placed(4144)),
+        (Op::Realloc(2, 40), placed(4112)),
     ];
     answers(&rt, rt.alloc(), 96, &steps)
 }

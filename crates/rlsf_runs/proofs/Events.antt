@@ -1,15 +1,17 @@
 -- An op of a run makes one call of the machine, or none.
-use Rattle.std.proofs.Common.{◌≡◌, ℕ, List, [], ◌∷◌, slice_set, replicate, refl, sym, ◌∙◌, ap, subst}
+use Rattle.std.proofs.Common.{◌≡◌, ℕ, List, [], ◌∷◌, Some, None, slice_set, replicate, refl, sym, ◌∙◌, ap, subst}
+use Rattle.std.specs.Int.NonZero.{non_zero_usize_get}
 use Rattle.rlsf_base.specs.Addr.{reply}
 use Rattle.rlsf_base.specs.declared.memory.range.Range.{Range}
 use Rattle.rlsf_base.specs.Space.{range_of}
 use Rattle.rlsf_machine.specs.Run.{Event, insert, append, allocate, deallocate, reallocate, fill, IsRemoval, Leads, MayCall, Runs}
 use Rattle.rlsf_machine.specs.State.{State, usable}
+use Rattle.rlsf_machine.proofs.NoMove.{unmoved_is_reallocated}
 use Rattle.rlsf_tlsf.specs.Allocator.{Allocator}
 use Rattle.rlsf_text.specs.declared.op.Answer.{Answer}
 use Rattle.rlsf_text.specs.declared.op.Answer.TheVariants.{Inserted, Appended, Placed, Done, Byte, Usable, Block, Refused}
 use Rattle.rlsf_text.specs.declared.op.Op.{Op}
-use Rattle.rlsf_text.specs.declared.op.Op.TheVariants.{Insert, Append, Alloc, Free, FreeUnknown, Realloc, Fill, Put, Get, Usable as OpUsable, Block as OpBlock}
+use Rattle.rlsf_text.specs.declared.op.Op.TheVariants.{Insert, Append, Alloc, Free, FreeUnknown, Realloc, ReallocNoMove, Fill, Put, Get, Usable as OpUsable, Block as OpBlock}
 use Rattle.rlsf_runs.specs.declared.tables.Tables.{Tables}
 use Rattle.rlsf_runs.specs.Events.{IsDoneBy, RunsByEvents}
 use Rattle.rlsf_runs.specs.Runs.{Does, RunState}
@@ -47,6 +49,7 @@ module _ {fllen sllen : ℕ} {v : Allocator} {tables : Tables} {s : RunState} (a
   made (Free name) (Refused error) t (_, is) = not_called refl is
   made (FreeUnknown name) (Refused error) t (_, is) = not_called refl is
   made (Realloc name size) (Refused error) t (_, is) = not_called refl is
+  made (ReallocNoMove name size) (Refused error) t (_, is) = not_called refl is
   made (Fill name byte) (Refused error) t (_, is) = not_called refl is
   made (Put name offset byte) (Refused error) t (_, is) = not_called refl is
   made (Get name offset) (Refused error) t (_, is) = not_called refl is
@@ -58,6 +61,11 @@ module _ {fllen sllen : ℕ} {v : Allocator} {tables : Tables} {s : RunState} (a
   made (Free name) Done t (u, owns, machine, step, is) = call_made (deallocate u.payload) (u.payload, refl) (λ bad. bad) (u, (owns.0, refl)) step is refl
   made (FreeUnknown name) Done t (u, owns, machine, step, is) = call_made (deallocate u.payload) (u.payload, refl) (λ bad. bad) (u, (owns.0, refl)) step is refl
   made (Realloc name size) (Placed addr) t (u, owns, _, machine, step, is) = call_made (reallocate u.payload size (reply addr)) (u.payload, refl) (λ bad. bad) (u, (owns.0, refl)) step is refl
+  made (ReallocNoMove name size) (Placed None) t (u, owns, _, machine, step, is) =
+      no_call (u.payload, refl) (ap (λ (x : RunState). x.machine) is ∙ (unmoved_is_reallocated sllen s.machine machine u.payload size None step).1)
+  made (ReallocNoMove name size) (Placed (Some addr)) t (u, owns, _, machine, step, is) =
+      let to = non_zero_usize_get addr in
+      call_made (reallocate u.payload size (Some to)) (u.payload, refl) (λ bad. bad) (u, (owns.0, refl)) (unmoved_is_reallocated sllen s.machine machine u.payload size (Some to) step).0.1 is refl
   made (Fill name byte) Done t (u, owns, machine, step, is) =
       let bytes = replicate (usable u).len byte in call_made (fill u.payload bytes) (u.payload, bytes, refl) (λ bad. bad) (u, (owns.0, refl)) step is refl
   made (Put name offset byte) Done t (u, owns, _, machine, step, is) =
@@ -101,6 +109,12 @@ module _ {fllen sllen : ℕ} {v : Allocator} {tables : Tables} {s : RunState} (a
   made (Realloc name size) (Byte read) t step = absurd step
   made (Realloc name size) (Usable bytes) t step = absurd step
   made (Realloc name size) (Block block) t step = absurd step
+  made (ReallocNoMove name size) (Inserted len) t step = absurd step
+  made (ReallocNoMove name size) (Appended more) t step = absurd step
+  made (ReallocNoMove name size) Done t step = absurd step
+  made (ReallocNoMove name size) (Byte read) t step = absurd step
+  made (ReallocNoMove name size) (Usable bytes) t step = absurd step
+  made (ReallocNoMove name size) (Block block) t step = absurd step
   made (Fill name byte) (Inserted len) t step = absurd step
   made (Fill name byte) (Appended more) t step = absurd step
   made (Fill name byte) (Placed addr) t step = absurd step

@@ -10,13 +10,16 @@ use Rattle.rlsf_machine.specs.Allocate.{Allocates}
 use Rattle.rlsf_machine.specs.Lists.{IsIn}
 use Rattle.rlsf_machine.specs.Reallocate.{Plan, plan, Reallocates, ReallocatesBy}
 use Rattle.rlsf_machine.specs.Release.{Deallocates}
-use Rattle.rlsf_machine.specs.State.{State, Used, Holds, usable}
+use Rattle.rlsf_machine.specs.State.{State, Used, Holds, IsLive, usable}
 use Rattle.rlsf_machine.specs.WellFormed.{coverage, itself}
+use Rattle.rlsf_machine.specs.Callers.{align_at}
+use Rattle.rlsf_machine.proofs.CallerWords.{align_at-live}
 use Rattle.rlsf_machine.proofs.ChunkRows.{IsRow-same}
 use Rattle.rlsf_machine.proofs.Live.{deallocation_leaves_others, fill_leaves_others}
 use Rattle.rlsf_machine.specs.Run.{Fills}
 use Rattle.rlsf_blocks.specs.Spare.{KeepsSpare}
 use Rattle.rlsf_tlsf.specs.Allocator.{Allocator, IsInState}
+use Rattle.rlsf_tlsf.proofs.Standing.{live_in}
 use Rattle.rlsf_text.specs.declared.op.Answer.{Answer}
 use Rattle.rlsf_text.specs.declared.op.Op.{Op}
 use Rattle.rlsf_runs.specs.declared.names.Payload.{Payload}
@@ -24,7 +27,7 @@ use Rattle.rlsf_runs.specs.declared.tables.Tables.{Tables}
 use Rattle.rlsf_runs.specs.Names.{address, AreNamed}
 use Rattle.rlsf_runs.specs.Runs.{Does, Frees, Owns, RunState, with_machine}
 use Rattle.rlsf_runs.specs.Steps.Tables.{HasRoom, IsAt, IsInOrder, LeadsOn}
-use Rattle.rlsf_runs.proofs.Named.{AreNamed-filled, AreNamed-freed, AreNamed-untaken, IsSetAt, owned_live, unnamed}
+use Rattle.rlsf_runs.proofs.Named.{AreNamed-filled, AreNamed-freed, AreNamed-kept, AreNamed-untaken, IsSetAt, owned_live, unnamed}
 
 -- what a test for a payload didn't find
 pub none_is : {A : Type 0} (o : Option A) → is_some o ≡ false → o ≡ None
@@ -65,6 +68,12 @@ module _ {fllen sllen : ℕ} {v : Allocator} {tables : Tables} {s : RunState} (a
   -- after a fill
   pub IsAt-filled : {w : Allocator} → SamePlace v.memory w.memory → (t : State) → IsInState fllen sllen w t → (addr : ℕ) (bytes : List ℕ) → Fills s.machine addr bytes t → IsAt fllen sllen w tables (with_machine t s)
   IsAt-filled place t stands addr bytes step = IsAt-named place t stands (fill_leaves_others s.machine t addr bytes step).0 refl (AreNamed-filled at.named fllen sllen (range_of v.memory) t addr bytes at.stands.stands.well_formed step)
+
+  -- after a step that leaves the chunks and every alignment
+  pub IsAt-aligned : {w : Allocator} → SamePlace v.memory w.memory → (t : State) → IsInState fllen sllen w t → w.state.chunks ≡ v.state.chunks → align_at w.state ≡ align_at v.state → IsAt fllen sllen w tables (with_machine t s)
+  IsAt-aligned {w} place t stands chunks aligns =
+      IsAt-named place t stands (ap (λ x. x.chunks) (sym stands.state) ∙ chunks ∙ ap (λ x. x.chunks) at.stands.state) refl
+      (AreNamed-kept at.named t (λ addr align live. subst (λ x. IsLive x addr align) stands.state (align_at-live w.state addr align (ap (λ f. f addr) aligns ∙ live_in at.stands addr align live))))
 
   -- after a step that changed nothing
   pub IsAt-unmoved : {w : Allocator} → SamePlace v.memory w.memory → (t : State) → IsInState fllen sllen w t → t ≡ s.machine → IsAt fllen sllen w tables (record { machine = t; named = s.named; pools = s.pools })

@@ -1,16 +1,21 @@
 -- The calls of the list machine by which the ops of a run are done.
-use Rattle.std.specs.Prelude.{◌≡◌, ℕ, List, [], ◌∷◌, ◌++◌}
+use Rattle.std.specs.Prelude.{◌≡◌, ℕ, List, [], ◌∷◌, ◌++◌, Option, Some, None}
 use Rattle.rlsf_base.specs.Addr.{reply}
 use Rattle.rlsf_base.specs.declared.memory.range.Range.{Range}
 use Rattle.rlsf_machine.specs.Run.{Event, insert, append, allocate, deallocate, reallocate, fill, Runs}
 use Rattle.rlsf_machine.specs.State.{State}
 use Rattle.rlsf_text.specs.declared.op.Op.{Op}
-use Rattle.rlsf_text.specs.declared.op.Op.TheVariants.{Insert, Append, Alloc, Free, FreeUnknown, Realloc, Fill, Put}
+use Rattle.rlsf_text.specs.declared.op.Op.TheVariants.{Insert, Append, Alloc, Free, FreeUnknown, Realloc, ReallocNoMove, Fill, Put}
 use Rattle.rlsf_text.specs.declared.op.Answer.{Answer}
 use Rattle.rlsf_text.specs.declared.op.Answer.TheVariants.{Inserted, Appended, Placed, Done}
 
--- The calls of the machine by which an op with its answer is done: one, or none if it is refused or reads. An op that sets one byte or
--- all is a fill.
+-- a reallocation that moved nothing is one that the machine replies to with where the payload is; one that found no room is none
+abbrev pub unmoved_calls : ℕ → ℕ → Option ℕ → List Event
+unmoved_calls old size None = []
+unmoved_calls old size (Some addr) = reallocate old size (Some addr) ∷ []
+
+-- The calls of the machine by which an op with its answer is done: one, or none if it is refused or reads, or may not move and finds
+-- no room. An op that sets one byte or all is a fill.
 abbrev pub IsDoneBy : Op → Answer → List Event → Type 0
 IsDoneBy (Insert r) (Inserted len) es = es ≡ insert r (reply len) ∷ []
 IsDoneBy (Append r) (Appended more) es = es ≡ append r more ∷ []
@@ -18,6 +23,7 @@ IsDoneBy (Alloc name layout) (Placed addr) es = es ≡ allocate layout.size layo
 IsDoneBy (Free name) Done es = (addr : ℕ) × (es ≡ deallocate addr ∷ [])
 IsDoneBy (FreeUnknown name) Done es = (addr : ℕ) × (es ≡ deallocate addr ∷ [])
 IsDoneBy (Realloc name size) (Placed addr) es = (old : ℕ) × (es ≡ reallocate old size (reply addr) ∷ [])
+IsDoneBy (ReallocNoMove name size) (Placed addr) es = (old : ℕ) × (es ≡ unmoved_calls old size (reply addr))
 IsDoneBy (Fill name byte) Done es = (addr : ℕ) × (bytes : List ℕ) × (es ≡ fill addr bytes ∷ [])
 IsDoneBy (Put name offset byte) Done es = (addr : ℕ) × (bytes : List ℕ) × (es ≡ fill addr bytes ∷ [])
 IsDoneBy op answer es = es ≡ []

@@ -11,12 +11,13 @@ use Rattle.rlsf_blocks.specs.Blocks.{AreBlocks, Block as BlockOf, walked}
 use Rattle.rlsf_machine.specs.Allocate.{Allocates}
 use Rattle.rlsf_machine.specs.Insert.{Appends, Inserts, IsVacant}
 use Rattle.rlsf_machine.specs.Lists.{IsIn}
+use Rattle.rlsf_machine.specs.NoMove.{ReallocatesWithoutMove}
 use Rattle.rlsf_machine.specs.Reallocate.{Reallocates}
 use Rattle.rlsf_machine.specs.Release.{Deallocates}
 use Rattle.rlsf_machine.specs.Run.{Fills}
 use Rattle.rlsf_machine.specs.State.{State, Used, between, empty, usable}
 use Rattle.rlsf_text.specs.declared.op.Op.{Op}
-use Rattle.rlsf_text.specs.declared.op.Op.TheVariants.{Insert, Append, Alloc, Free, FreeUnknown, Realloc, Fill, Put, Get, Usable as OpUsable, Block as OpBlock}
+use Rattle.rlsf_text.specs.declared.op.Op.TheVariants.{Insert, Append, Alloc, Free, FreeUnknown, Realloc, ReallocNoMove, Fill, Put, Get, Usable as OpUsable, Block as OpBlock}
 use Rattle.rlsf_text.specs.declared.op.Answer.{Answer}
 use Rattle.rlsf_text.specs.declared.op.Answer.TheVariants.{Inserted, Appended, Placed, Done, Byte, Usable, Block, Refused}
 use Rattle.rlsf_text.specs.declared.op.TraceError.{TraceError}
@@ -100,6 +101,8 @@ IsRefused memory s (Free name) UnknownName = s.named name ≡ None
 IsRefused memory s (FreeUnknown name) UnknownName = s.named name ≡ None
 IsRefused memory s (Realloc name size) UnknownName = s.named name ≡ None
 IsRefused memory s (Realloc name size) BadLayout = (u : Used) × Owns s name u × (IsLayout size u.align → ⊥)
+IsRefused memory s (ReallocNoMove name size) UnknownName = s.named name ≡ None
+IsRefused memory s (ReallocNoMove name size) BadLayout = (u : Used) × Owns s name u × (IsLayout size u.align → ⊥)
 IsRefused memory s (Fill name byte) UnknownName = s.named name ≡ None
 IsRefused memory s (Put name offset byte) UnknownName = s.named name ≡ None
 IsRefused memory s (Put name offset byte) BadOffset = (u : Used) × Owns s name u × ((usable u).len ≤ offset)
@@ -126,6 +129,8 @@ Does fllen sllen memory s (FreeUnknown name) Done t = Frees s name t
 Does fllen sllen memory s (Realloc name size) (Placed addr) t =
     (u : Used) × Owns s name u × IsLayout size u.align × (machine : State) × Reallocates sllen s.machine u.payload size (reply addr) machine
     × (t ≡ record { machine = machine; named = with_name name (reply addr) s.named; pools = s.pools })
+Does fllen sllen memory s (ReallocNoMove name size) (Placed addr) t =
+    (u : Used) × Owns s name u × IsLayout size u.align × (machine : State) × ReallocatesWithoutMove s.machine u.payload size (reply addr) machine × (t ≡ with_machine machine s)
 Does fllen sllen memory s (Fill name byte) Done t =
     (u : Used) × Owns s name u × (machine : State) × Fills s.machine u.payload (replicate (usable u).len byte) machine × (t ≡ with_machine machine s)
 Does fllen sllen memory s (Put name offset byte) Done t =

@@ -2,7 +2,7 @@
 
 ghost use Rattle.std.specs.Prelude.{ℕ, ◌+◌};
 ghost use Rattle.rlsf_base.specs.Space.{SamePlace};
-ghost use Rattle.rlsf_text.specs.declared.op.Op.TheVariants.{Free, FreeUnknown, Realloc, Fill, Put, Get, Usable};
+ghost use Rattle.rlsf_text.specs.declared.op.Op.TheVariants.{Free, FreeUnknown, Realloc, ReallocNoMove, Fill, Put, Get, Usable};
 ghost use Rattle.rlsf_runs.specs.Runs.{RunState};
 ghost use Rattle.rlsf_runs.specs.Steps.Tables.{HasRoom, IsAt, LeadsOn};
 
@@ -76,6 +76,32 @@ pub(crate) fn realloc<FLBitmap: Bitmap, SLBitmap: Bitmap, const FLLEN: usize, co
         tables.add_name(name, Payload { addr, align });
     }
     Answer::Placed(placed)
+}
+
+/// Gives the payload of a name another size where it stands, unless no live one has it or no layout has that size with its
+/// alignment. Where the bytes there don't suffice, it stays as it is. The name keeps its payload in each case.
+pub(crate) fn realloc_no_move<
+    FLBitmap: Bitmap,
+    SLBitmap: Bitmap,
+    const FLLEN: usize,
+    const SLLEN: usize,
+>(
+    tlsf: &mut Tlsf<FLBitmap, SLBitmap, FLLEN, SLLEN>,
+    tables: &Tables,
+    name: usize,
+    size: usize,
+) -> Answer
+    requires { (s : RunState) × IsAt FLLEN SLLEN tlsf.old tables.now s }
+    ensures does { (s : RunState) → IsAt FLLEN SLLEN tlsf.old tables.now s → LeadsOn FLLEN SLLEN tlsf.old s (ReallocNoMove name size) result tlsf.new tables.now }
+    ensures place { SamePlace tlsf.old.memory tlsf.new.memory }
+{
+    let Some(payload) = tables.payload(name) else {
+        return Answer::Refused(TraceError::UnknownName);
+    };
+    let Ok(layout) = Layout::from_size_align(size, payload.align) else {
+        return Answer::Refused(TraceError::BadLayout);
+    };
+    Answer::Placed(tlsf.reallocate_no_move(payload.addr, layout))
 }
 
 /// Sets every usable byte of the payload of a name, unless no live one has it.

@@ -16,7 +16,7 @@ ghost use Rattle.rlsf_runs.specs.Runs.{RunState, beginning, Runs};
 ghost use Rattle.rlsf_runs.specs.Steps.Tables.{HasRoom, IsAt, IsInOrder, LeadsOn};
 
 use crate::names::Payload;
-use crate::payloads::{fill, free, free_unknown, get, put, realloc, usable};
+use crate::payloads::{fill, free, free_unknown, get, put, realloc, realloc_no_move, usable};
 use crate::tables::{Tables, ending_at, touches_any};
 use crate::walks::block;
 use rlsf_base::memory::{Layout, Memory, Range};
@@ -79,6 +79,7 @@ fn step<FLBitmap: Bitmap, SLBitmap: Bitmap, const FLLEN: usize, const SLLEN: usi
         Op::Free(name) => free(tlsf, tables, name),
         Op::FreeUnknown(name) => free_unknown(tlsf, tables, name),
         Op::Realloc(name, size) => realloc(tlsf, tables, name, size),
+        Op::ReallocNoMove(name, size) => realloc_no_move(tlsf, tables, name, size),
         Op::Fill(name, byte) => fill(tlsf, tables, name, byte),
         Op::Put(name, offset, byte) => put(tlsf, tables, name, offset, byte),
         Op::Get(name, offset) => get(tlsf, tables, name, offset),

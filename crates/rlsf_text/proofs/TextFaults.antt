@@ -9,7 +9,7 @@ use Rattle.rlsf_text.specs.declared.parse.Trace.{Trace}
 use Rattle.rlsf_text.specs.Faults.{out_of_memory, IsOfText, IsOfLine}
 use Rattle.rlsf_text.specs.Lines.{lines, first_line}
 use Rattle.rlsf_text.specs.Numbers.{number_of, byte_of}
-use Rattle.rlsf_text.specs.Reading.{layout_of, insert_in, append_in, alloc_in, free_in, free_unknown_in, realloc_in, fill_in, put_in, get_in, usable_in, block_in, command_in, header_in, commands_in, trace_in, trace_text}
+use Rattle.rlsf_text.specs.Reading.{layout_of, insert_in, append_in, alloc_in, free_in, free_unknown_in, realloc_in, realloc_no_move_in, fill_in, put_in, get_in, usable_in, block_in, command_in, header_in, commands_in, trace_in, trace_text}
 use Rattle.rlsf_text.specs.FallibleSteps.{◌>>=◌, or_fault, at_line, all_or_fault, GivesOrRefused}
 use Rattle.rlsf_text.specs.Words.{words, exactly_one, exactly_two, exactly_three}
 use Rattle.rlsf_text.proofs.Commands.{commands_from}
@@ -81,6 +81,10 @@ realloc_in-faults : (fields : List (List ℕ)) → IfErr (realloc_in fields) IsO
 unfolding realloc_in
 realloc_in-faults fields = search (step, exactly_two-faults, number_of-faults)
 
+realloc_no_move_in-faults : (fields : List (List ℕ)) → IfErr (realloc_no_move_in fields) IsOfText
+unfolding realloc_no_move_in
+realloc_no_move_in-faults fields = search (step, exactly_two-faults, number_of-faults)
+
 fill_in-faults : (fields : List (List ℕ)) → IfErr (fill_in fields) IsOfText
 unfolding fill_in
 fill_in-faults fields = search (step, exactly_two-faults, number_of-faults, byte_of-faults)
@@ -104,7 +108,7 @@ block_in-faults fields = search (step, exactly_three-faults, number_of-faults) d
 command_in-faults : (line : List (List ℕ)) → IfErr (command_in line) IsOfText
 unfolding command_in
 command_in-faults [] = tt
-command_in-faults (name ∷ fields) = search (choice, insert_in-faults, append_in-faults, alloc_in-faults, free_in-faults, free_unknown_in-faults, realloc_in-faults, fill_in-faults, put_in-faults, get_in-faults, usable_in-faults, block_in-faults) depth 14
+command_in-faults (name ∷ fields) = search (choice, insert_in-faults, append_in-faults, alloc_in-faults, free_in-faults, free_unknown_in-faults, realloc_in-faults, realloc_no_move_in-faults, fill_in-faults, put_in-faults, get_in-faults, usable_in-faults, block_in-faults) depth 15
 
 header_in-faults : (fields : List (List ℕ)) → IfErr (header_in fields) IsOfText
 unfolding header_in

@@ -1,7 +1,7 @@
 -- Commands: what the lines of a trace ask for.
 use Rattle.std.specs.Prelude.{ℕ}
 use Rattle.rlsf_text.specs.declared.op.Op.{Op}
-use Rattle.rlsf_text.specs.declared.op.Op.TheVariants.{Insert, Append, Alloc, Free, FreeUnknown, Realloc, Fill, Put, Get, Usable, Block}
+use Rattle.rlsf_text.specs.declared.op.Op.TheVariants.{Insert, Append, Alloc, Free, FreeUnknown, Realloc, ReallocNoMove, Fill, Put, Get, Usable, Block}
 
 -- a command, with its numbers as they stand on the line
 pub data Command : Type 0 where
@@ -11,6 +11,7 @@ pub data Command : Type 0 where
   free : (name : ℕ) → Command
   free_unknown : (name : ℕ) → Command
   realloc : (name size : ℕ) → Command
+  realloc_no_move : (name size : ℕ) → Command
   fill : (name byte : ℕ) → Command
   put : (name offset byte : ℕ) → Command
   get : (name offset : ℕ) → Command
@@ -25,6 +26,7 @@ command_of (Alloc name layout) = alloc name layout.size layout.align
 command_of (Free name) = free name
 command_of (FreeUnknown name) = free_unknown name
 command_of (Realloc name size) = realloc name size
+command_of (ReallocNoMove name size) = realloc_no_move name size
 command_of (Fill name byte) = fill name byte
 command_of (Put name offset byte) = put name offset byte
 command_of (Get name offset) = get name offset

@@ -6,7 +6,7 @@ use Rattle.std.specs.List.{flat_map, zip}
 use Rattle.std.specs.declared.num.NonZeroUsize.{NonZeroUsize}
 use Rattle.rlsf_base.specs.declared.memory.range.Range.{Range}
 use Rattle.rlsf_text.specs.declared.op.Op.{Op}
-use Rattle.rlsf_text.specs.declared.op.Op.TheVariants.{Insert, Append, Alloc, Free, FreeUnknown, Realloc, Fill, Put, Get, Usable as OpUsable, Block as OpBlock}
+use Rattle.rlsf_text.specs.declared.op.Op.TheVariants.{Insert, Append, Alloc, Free, FreeUnknown, Realloc, ReallocNoMove, Fill, Put, Get, Usable as OpUsable, Block as OpBlock}
 use Rattle.rlsf_text.specs.declared.op.Answer.{Answer}
 use Rattle.rlsf_text.specs.declared.op.Answer.TheVariants.{Inserted, Appended, Placed, Done, Byte, Usable, Block, Refused}
 use Rattle.rlsf_text.specs.declared.op.TraceError.{TraceError}
@@ -38,6 +38,7 @@ op_text (Alloc name layout) = codes "alloc " ++ decimal name
 op_text (Free name) = codes "free " ++ decimal name
 op_text (FreeUnknown name) = codes "ufree " ++ decimal name
 op_text (Realloc name size) = codes "realloc " ++ decimal name
+op_text (ReallocNoMove name size) = codes "nrealloc " ++ decimal name
 op_text (Fill name byte) = codes "fill " ++ decimal name
 op_text (Put name offset byte) = codes "put " ++ decimal name
 op_text (Get name offset) = codes "get " ++ decimal name

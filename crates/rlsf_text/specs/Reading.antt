@@ -8,7 +8,7 @@ use Rattle.rlsf_text.specs.declared.fault.Fault.{Fault}
 use Rattle.rlsf_text.specs.declared.fault.Fault.TheVariants.{Config, UnknownOp, ZeroStart, TooLong, BadLayout}
 use Rattle.rlsf_text.specs.declared.fault.ReplayFault.{ReplayFault}
 use Rattle.rlsf_text.specs.declared.parse.Trace.{Trace}
-use Rattle.rlsf_text.specs.Commands.{Command, insert, append, alloc, free, free_unknown, realloc, fill, put, get, usable, block, command_of}
+use Rattle.rlsf_text.specs.Commands.{Command, insert, append, alloc, free, free_unknown, realloc, realloc_no_move, fill, put, get, usable, block, command_of}
 use Rattle.rlsf_text.specs.Configurations.{configuration_named}
 use Rattle.rlsf_text.specs.FallibleSteps.{◌>>=◌, or_fault, at_line, all_or_fault}
 use Rattle.rlsf_text.specs.Lines.{lines, first_line}
@@ -71,6 +71,14 @@ realloc_in fields = do
   size ← number_of both.1
   Ok (realloc name size)
 
+-- `nrealloc NAME SIZE`
+unfoldable pub realloc_no_move_in : List (List ℕ) → Result Command Fault
+realloc_no_move_in fields = do
+  both ← exactly_two fields
+  name ← number_of both.0
+  size ← number_of both.1
+  Ok (realloc_no_move name size)
+
 -- `fill NAME BYTE`
 unfoldable pub fill_in : List (List ℕ) → Result Command Fault
 fill_in fields = do
@@ -122,12 +130,13 @@ command_in (name ∷ fields) =
     else (if bytes_eq name (codes "free") then free_in fields
     else (if bytes_eq name (codes "ufree") then free_unknown_in fields
     else (if bytes_eq name (codes "realloc") then realloc_in fields
+    else (if bytes_eq name (codes "nrealloc") then realloc_no_move_in fields
     else (if bytes_eq name (codes "fill") then fill_in fields
     else (if bytes_eq name (codes "put") then put_in fields
     else (if bytes_eq name (codes "get") then get_in fields
     else (if bytes_eq name (codes "usable") then usable_in fields
     else (if bytes_eq name (codes "block") then block_in fields
-    else Err UnknownOp))))))))))
+    else Err UnknownOp)))))))))))
 
 -- `CONFIG START LEN`
 unfoldable pub header_in : List (List ℕ) → Result (Configuration × ℕ × ℕ) Fault

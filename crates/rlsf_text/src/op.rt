@@ -17,6 +17,8 @@ pub enum Op {
     FreeUnknown(usize),
     /// Gives the payload of this name another size, with the alignment that it was allocated with.
     Realloc(usize, usize),
+    /// Gives the payload of this name another size where it stands, with the alignment that it was allocated with.
+    ReallocNoMove(usize, usize),
     /// Sets every usable byte of the payload to the byte.
     Fill(usize, u8),
     /// Sets the byte at an offset of the payload.

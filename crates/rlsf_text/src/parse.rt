@@ -35,8 +35,8 @@ impl Trace {
     /// twenty decimal digits with a value of at most `2^64 - 1`.
     ///
     /// The first line is `CONFIG START LEN`. The others are `insert START LEN`, `append START LEN`,
-    /// `alloc NAME SIZE ALIGN`, `free NAME`, `ufree NAME`, `realloc NAME SIZE`, `fill NAME BYTE`,
-    /// `put NAME OFFSET BYTE`, `get NAME OFFSET`, `usable NAME` or `block START LEN INDEX`, where a BYTE is
+    /// `alloc NAME SIZE ALIGN`, `free NAME`, `ufree NAME`, `realloc NAME SIZE`, `nrealloc NAME SIZE`,
+    /// `fill NAME BYTE`, `put NAME OFFSET BYTE`, `get NAME OFFSET`, `usable NAME` or `block START LEN INDEX`, where a BYTE is
     /// a number of at most 255. The first line that isn't so is a fault, with its number. The first line is
     /// tested for `FieldCount`, `Config`, `BadNumber`, `ZeroStart` and `TooLong`, in this order, and any
     /// other for `UnknownOp`, `FieldCount`, `BadNumber` and `BadLayout`.

@@ -70,6 +70,7 @@ fn print_op(text: &mut String, op: Op) -> Result<(), AllocError>
         Op::Free(name) => write!(text, "free {name}"),
         Op::FreeUnknown(name) => write!(text, "ufree {name}"),
         Op::Realloc(name, _) => write!(text, "realloc {name}"),
+        Op::ReallocNoMove(name, _) => write!(text, "nrealloc {name}"),
         Op::Fill(name, _) => write!(text, "fill {name}"),
         Op::Put(name, _, _) => write!(text, "put {name}"),
         Op::Get(name, _) => write!(text, "get {name}"),

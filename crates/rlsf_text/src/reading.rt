@@ -3,7 +3,7 @@ ghost use Rattle.rlsf_text.specs.FallibleSteps.{Gives, GivesOrRefused};
 ghost use Rattle.rlsf_text.specs.Commands.{command_of};
 ghost use Rattle.rlsf_text.specs.Lines.{lines_left};
 ghost use Rattle.rlsf_text.specs.Words.{words, words_left};
-ghost use Rattle.rlsf_text.specs.Reading.{insert_in, append_in, layout_of, alloc_in, free_in, free_unknown_in, realloc_in, fill_in, put_in, get_in, usable_in, block_in, command_in, header_in, commands_in};
+ghost use Rattle.rlsf_text.specs.Reading.{insert_in, append_in, layout_of, alloc_in, free_in, free_unknown_in, realloc_in, realloc_no_move_in, fill_in, put_in, get_in, usable_in, block_in, command_in, header_in, commands_in};
 
 use crate::configuration::Configuration;
 use crate::fault::{Fault, ReplayFault};
@@ -75,6 +75,8 @@ fn read_op(line: &[u8]) -> Result<Op, Fault>
         read_free_unknown(fields)
     } else if is_same(name, b"realloc") {
         read_realloc(fields)
+    } else if is_same(name, b"nrealloc") {
+        read_realloc_no_move(fields)
     } else if is_same(name, b"fill") {
         read_fill(fields)
     } else if is_same(name, b"put") {
@@ -158,6 +160,16 @@ fn read_realloc(fields: Words) -> Result<Op, Fault>
     let name = number(name)?;
     let size = number(size)?;
     Ok(Op::Realloc(name, size))
+}
+
+#[tactic(auto, unfolding(crate::specs::Reading::realloc_no_move_in))]
+fn read_realloc_no_move(fields: Words) -> Result<Op, Fault>
+    ensures { Gives command_of result (realloc_no_move_in (words_left fields.entry)) }
+{
+    let (name, size) = fields.exactly_two()?;
+    let name = number(name)?;
+    let size = number(size)?;
+    Ok(Op::ReallocNoMove(name, size))
 }
 
 #[tactic(auto, unfolding(crate::specs::Reading::fill_in))]

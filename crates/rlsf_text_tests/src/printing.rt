@@ -122,6 +122,8 @@ fn pools_and_payloads_grow(rt: HostRuntime) -> Result<(), Fail> {
         Op::Realloc(9, 0),
         Op::Realloc(1, 18446744073709551615),
         Op::Append(range),
+        Op::ReallocNoMove(1, 48),
+        Op::ReallocNoMove(2, 49),
     ];
     let answers = [
         Answer::Appended(256),
@@ -132,13 +134,15 @@ fn pools_and_payloads_grow(rt: HostRuntime) -> Result<(), Fail> {
         Answer::Refused(TraceError::UnknownName),
         Answer::Refused(TraceError::BadLayout),
         Answer::Refused(TraceError::NotForFlex),
+        Answer::Placed(NonZeroUsize::new(4112)),
+        Answer::Placed(None),
     ];
     prints(
         &rt,
         rt.alloc(),
         &ops,
         &answers,
-        "append 256\nappend 0\nrefused 3 BadRange\nrealloc 1 at 4112\nrealloc 18446744073709551615 none\nrefused 1 UnknownName\nrefused 5 BadLayout\nrefused 6 NotForFlex\n",
+        "append 256\nappend 0\nrefused 3 BadRange\nrealloc 1 at 4112\nrealloc 18446744073709551615 none\nrefused 1 UnknownName\nrefused 5 BadLayout\nrefused 6 NotForFlex\nnrealloc 1 at 4112\nnrealloc 2 none\n",
     )
 }
 

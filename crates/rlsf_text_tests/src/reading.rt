@@ -78,7 +78,8 @@ fn ops_on_payloads(rt: HostRuntime) -> Result<(), Fail> {
 #[test]
 fn pools_and_payloads_grow(rt: HostRuntime) -> Result<(), Fail> {
     // A size with which the text knows no layout is none of its faults.
-    let text = b"59x8 4096 512\nappend 4352 256\nrealloc 1 0\nrealloc 2 18446744073709551615";
+    let text =
+        b"59x8 4096 512\nappend 4352 256\nrealloc 1 0\nrealloc 2 18446744073709551615\nnrealloc 1 48";
     let range = Range {
         start: 4352,
         len: 256,
@@ -87,6 +88,7 @@ fn pools_and_payloads_grow(rt: HostRuntime) -> Result<(), Fail> {
         Op::Append(range),
         Op::Realloc(1, 0),
         Op::Realloc(2, usize::MAX),
+        Op::ReallocNoMove(1, 48),
     ];
     reads(&rt, rt.alloc(), text, &ops)?;
     Ok(())
@@ -131,6 +133,8 @@ fn too_few_or_many_words(rt: HostRuntime) -> Result<(), Fail> {
         b"1x1 1 0\nappend 1 2 3",
         b"1x1 1 0\nrealloc x",
         b"1x1 1 0\nrealloc 1 2 1",
+        b"1x1 1 0\nnrealloc 1",
+        b"1x1 1 0\nnrealloc 1 2 3",
         b"1x1 1 0\nufree 1 x",
         b"1x1 1 0\nusable",
         b"1x1 1 0\nblock x 2",
@@ -161,6 +165,8 @@ fn words_that_are_no_numbers(rt: HostRuntime) -> Result<(), Fail> {
         b"1x1 1 0\nappend 1 18446744073709551616",
         b"1x1 1 0\nrealloc x 1",
         b"1x1 1 0\nrealloc 1 x",
+        b"1x1 1 0\nnrealloc x 1",
+        b"1x1 1 0\nnrealloc 1 x",
         b"1x1 1 0\nufree x",
         b"1x1 1 0\nusable ",
         b"1x1 1 0\nblock x 1 1",

@@ -202,6 +202,9 @@ static RUNS: [Lines; 15] = [
             ("alloc 2 0 1", "alloc 2 at 4144"),
             // An unknown name is told first.
             ("realloc 9 18446744073709551615", "refused 1 UnknownName"),
+            ("nrealloc 1 9223372036854775808", "refused 5 BadLayout"),
+            ("nrealloc 1 9223372036854775807", "nrealloc 1 none"),
+            ("nrealloc 9 18446744073709551615", "refused 1 UnknownName"),
         ],
     ),
     // Blocks, and their usable bytes.

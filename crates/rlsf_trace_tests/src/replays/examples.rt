@@ -3,7 +3,7 @@
 use super::replays;
 use std::test::Fail;
 
-static EXAMPLES: [(&[u8], &str); 22] = [
+static EXAMPLES: [(&[u8], &str); 24] = [
     // What is given back is joined with its neighbours.
     (
         b"8x8 4096 4096\ninsert 4096 96\nalloc 1 0 1\nalloc 2 0 1\nalloc 3 0 1\nfree 1\nfree 2\nblock 4096 96 0\nblock 4096 96 1\n",
@@ -68,6 +68,16 @@ static EXAMPLES: [(&[u8], &str); 22] = [
     (
         b"8x8 4096 4096\ninsert 4096 256\nalloc 1 0 1\nalloc 2 40 1\nalloc 3 100 1\nfill 2 7\nfree 1\nrealloc 2 70\nusable 2\nget 2 0\nget 2 47\nblock 4096 256 0\nblock 4096 256 1\nblock 4096 256 2\n",
         "insert some 256\nalloc 1 at 4112\nalloc 2 at 4144\nalloc 3 at 4208\nfill 2 done\nfree 1 done\nrealloc 2 at 4112\nusable 2 80\nget 2 7\nget 2 7\nblock 4096 96 used\nblock 4192 128 used\nblock none\nstatus 0",
+    ),
+    // A payload that may not move takes from the free block behind it alone.
+    (
+        b"8x8 4096 4096\ninsert 4096 256\nalloc 1 17 1\nalloc 2 0 1\nnrealloc 1 100\nnrealloc 2 140\nblock 4096 256 1\nblock 4096 256 2\nnrealloc 1 0\nblock 4096 256 1\nnrealloc 1 48\nusable 1\n",
+        "insert some 256\nalloc 1 at 4112\nalloc 2 at 4176\nnrealloc 1 none\nnrealloc 2 at 4176\nblock 4160 160 used\nblock none\nnrealloc 1 at 4112\nblock 4128 32 free\nnrealloc 1 at 4112\nusable 1 48\nstatus 0",
+    ),
+    // It doesn't move into the free block before its own, and then nothing changes.
+    (
+        b"8x8 4096 4096\ninsert 4096 256\nalloc 1 0 1\nalloc 2 40 1\nalloc 3 100 1\nfill 2 7\nfree 1\nnrealloc 2 70\nusable 2\nget 2 0\nget 2 47\nblock 4096 256 0\nblock 4096 256 1\nblock 4096 256 2\n",
+        "insert some 256\nalloc 1 at 4112\nalloc 2 at 4144\nalloc 3 at 4208\nfill 2 done\nfree 1 done\nnrealloc 2 none\nusable 2 48\nget 2 7\nget 2 7\nblock 4096 32 free\nblock 4128 64 used\nblock 4192 128 used\nstatus 0",
     ),
     // A refused reallocation changes nothing.
     (

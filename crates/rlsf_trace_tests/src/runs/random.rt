@@ -214,7 +214,7 @@ fn free_ops(draw: Draw, last: usize) -> [Op; 5] {
     ]
 }
 
-/// Allocates or reallocates a payload, and reads the first and the last byte that were asked for: of a payload that moves, of
+/// Allocates or reallocates a payload, some without a move, and reads the first and the last byte that were asked for: of a payload that moves, of
 /// both its sizes.
 fn size_ops(draw: Draw, old_last: usize) -> Option<[Op; 5]> {
     let name = draw.name;
@@ -228,8 +228,13 @@ fn size_ops(draw: Draw, old_last: usize) -> Option<[Op; 5]> {
             Op::Get(name, last),
         ]);
     }
+    let op = if draw.byte % 4 == 0 {
+        Op::ReallocNoMove(name, draw.size)
+    } else {
+        Op::Realloc(name, draw.size)
+    };
     Some([
-        Op::Realloc(name, draw.size),
+        op,
         Op::Usable(name),
         Op::Get(name, 0),
         Op::Get(name, old_last.min(last)),
@@ -286,6 +291,7 @@ fn name_of(op: Op) -> Option<usize> {
         | Op::Free(name)
         | Op::FreeUnknown(name)
         | Op::Realloc(name, _)
+        | Op::ReallocNoMove(name, _)
         | Op::Fill(name, _)
         | Op::Put(name, _, _)
         | Op::Get(name, _)
@@ -331,6 +337,16 @@ fn follow_live(payload: Payload, op: Op, answer: Answer) -> (bool, Option<Payloa
                 next.filled = payload.filled.min(size);
             }
             true
+        }
+        Op::ReallocNoMove(_, size) => {
+            let Answer::Placed(placed) = answer else {
+                return (false, None);
+            };
+            if placed.is_some() {
+                next.usable = size;
+                next.filled = payload.filled.min(size);
+            }
+            placed.is_none_or(|addr| addr.get() == payload.addr)
         }
         Op::Fill(_, value) => {
             next.value = value;

@@ -70,6 +70,17 @@ returns-in-Realloc-clause-room g c = c.realloc.ensures.room
 pub returns-in-Realloc-clause-place : goal.returns-in-Realloc-clause-place
 returns-in-Realloc-clause-place g c = c.realloc.ensures.place
 
+pub returns-in-ReallocNoMove-clause-does : goal.returns-in-ReallocNoMove-clause-does
+returns-in-ReallocNoMove-clause-does g c =
+    subst (λ op. (s : RunState) → IsAt g.row.FLLEN g.row.SLLEN c.args.tlsf.now c.args.tables.now s → LeadsOn g.row.FLLEN g.row.SLLEN c.args.tlsf.now s op c.realloc_no_move.result c.realloc_no_move.new.tlsf c.args.tables.now)
+    (sym c.in-ReallocNoMove.is) c.realloc_no_move.ensures.does
+
+pub returns-in-ReallocNoMove-clause-room : goal.returns-in-ReallocNoMove-clause-room
+returns-in-ReallocNoMove-clause-room g c = room_left c.args.tables.now
+
+pub returns-in-ReallocNoMove-clause-place : goal.returns-in-ReallocNoMove-clause-place
+returns-in-ReallocNoMove-clause-place g c = c.realloc_no_move.ensures.place
+
 pub returns-in-Fill-clause-does : goal.returns-in-Fill-clause-does
 returns-in-Fill-clause-does g c =
     subst (λ op. (s : RunState) → IsAt g.row.FLLEN g.row.SLLEN c.args.tlsf.now c.args.tables.now s → LeadsOn g.row.FLLEN g.row.SLLEN c.args.tlsf.now s op c.fill.result c.fill.new.tlsf c.args.tables.now)
