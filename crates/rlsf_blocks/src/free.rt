@@ -43,6 +43,7 @@ pub fn take_if_free<FLBitmap: Bitmap, SLBitmap: Bitmap, const FLLEN: usize, cons
     requires marked { (free : List Range) × IsFreeTable FLLEN SLLEN memory.old table.old free × IsMarked memory.old free block }
     ensures step { (free : List Range) → IsFreeTable FLLEN SLLEN memory.old table.old free → IsMarked memory.old free block → IsOut FLLEN SLLEN memory.old memory.new table.new free block result }
     ensures touches { memory.new.touches ≤ memory.old.touches + 9 }
+    ensures grow { memory.old.touches ≤ memory.new.touches }
     ensures copied { memory.new.copied ≡ memory.old.copied }
 {
     let size = memory.load(block);
@@ -67,6 +68,7 @@ pub fn take_previous<FLBitmap: Bitmap, SLBitmap: Bitmap, const FLLEN: usize, con
     ensures step { (s : State) (u : Used) → StandsFor FLLEN SLLEN (contents memory.old table.old) s → IsIn u s.used → u.block.start ≡ block
         → IsPreviousOut FLLEN SLLEN memory.old memory.new table.new s.free block result }
     ensures touches { memory.new.touches ≤ memory.old.touches + 10 }
+    ensures grow { memory.old.touches ≤ memory.new.touches }
     ensures copied { memory.new.copied ≡ memory.old.copied }
 {
     let previous = memory.load(block + 8) as usize;
@@ -88,6 +90,7 @@ fn put<FLBitmap: Bitmap, SLBitmap: Bitmap, const FLLEN: usize, const SLLEN: usiz
     requires room { (free : List Range) × (r : Range) × (r.start ≡ block) × (r.len ≡ len) × IsInnerRoom FLLEN SLLEN memory.old table.old free r }
     ensures step { (free : List Range) (r : Range) → r.start ≡ block → r.len ≡ len → IsInnerRoom FLLEN SLLEN memory.old table.old free r → IsPut FLLEN SLLEN memory.old memory.new table.new free r }
     ensures touches { memory.new.touches ≤ memory.old.touches + 11 }
+    ensures grow { memory.old.touches ≤ memory.new.touches }
     ensures copied { memory.new.copied ≡ memory.old.copied }
 {
     memory.set_word(block, len as u64);
@@ -109,6 +112,7 @@ pub fn deallocate_block<FLBitmap: Bitmap, SLBitmap: Bitmap, const FLLEN: usize, 
         → StandsFor FLLEN SLLEN (contents memory.new table.new) (released s u) × KeepsSpare memory.old s memory.new (released s u) }
     ensures place { SamePlace memory.old memory.new }
     ensures touches { memory.new.touches ≤ memory.old.touches + 31 }
+    ensures grow { memory.old.touches ≤ memory.new.touches }
     ensures copied { memory.new.copied ≡ memory.old.copied }
 {
     let end = block + (memory.load(block) as usize - 1);

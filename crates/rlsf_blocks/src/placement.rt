@@ -32,6 +32,7 @@ pub fn leave_rest<FLBitmap: Bitmap, SLBitmap: Bitmap, const FLLEN: usize, const 
     ensures step { (free : List Range) (r : Range) → r.start ≡ block + taken → r.len + taken ≡ len → IsInnerRoom FLLEN SLLEN memory.old table.old free r
         → IsLeft FLLEN SLLEN memory.old memory.new table.new free block r }
     ensures touches { memory.new.touches ≤ memory.old.touches + 12 }
+    ensures grow { memory.old.touches ≤ memory.new.touches }
     ensures copied { memory.new.copied ≡ memory.old.copied }
 {
     let rest = block + taken;
@@ -58,6 +59,7 @@ fn take_out<FLBitmap: Bitmap, SLBitmap: Bitmap, const FLLEN: usize, const SLLEN:
     ensures step { (s : State) (f : Range) → StandsFor FLLEN SLLEN (contents memory.old table.old) s → IsTaken SLLEN s f block len taken
         → IsOpened FLLEN SLLEN memory.old memory.new table.new s f (range_at block taken) }
     ensures touches { memory.new.touches ≤ memory.old.touches + 20 }
+    ensures grow { memory.old.touches ≤ memory.new.touches }
     ensures copied { memory.new.copied ≡ memory.old.copied }
 {
     unlink_at(memory, table, block, class);
@@ -84,6 +86,7 @@ pub fn place<FLBitmap: Bitmap, SLBitmap: Bitmap, const FLLEN: usize, const SLLEN
         → (t : State) × Places SLLEN s layout.size layout.align result t × StandsFor FLLEN SLLEN (contents memory.new table.new) t × KeepsSpare memory.old s memory.new t }
     ensures place { SamePlace memory.old memory.new }
     ensures touches { memory.new.touches ≤ memory.old.touches + 23 }
+    ensures grow { memory.old.touches ≤ memory.new.touches }
     ensures copied { memory.new.copied ≡ memory.old.copied }
 {
     let len = memory.load(block) as usize;

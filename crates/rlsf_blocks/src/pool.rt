@@ -33,6 +33,7 @@ pub fn add_chunk<FLBitmap: Bitmap, SLBitmap: Bitmap, const FLLEN: usize, const S
     requires fresh { (s : State) × StandsFor FLLEN SLLEN (contents memory.old table.old) s × IsNewChunk FLLEN SLLEN memory.old s chunk }
     ensures step { (s : State) → StandsFor FLLEN SLLEN (contents memory.old table.old) s → IsNewChunk FLLEN SLLEN memory.old s chunk → IsAdded FLLEN SLLEN memory.old memory.new table.new s.free chunk }
     ensures touches { memory.new.touches ≤ memory.old.touches + 13 }
+    ensures grow { memory.old.touches ≤ memory.new.touches }
     ensures copied { memory.new.copied ≡ memory.old.copied }
 {
     let block = chunk.start;
@@ -76,6 +77,7 @@ pub fn insert<FLBitmap: Bitmap, SLBitmap: Bitmap, const FLLEN: usize, const SLLE
     ensures refused { IfNone result (memory.new.bytes ≡ memory.old.bytes) }
     ensures place { SamePlace memory.old memory.new }
     ensures touches { memory.new.touches ≤ memory.old.touches + 13 * length (cut (max_pool_size FLLEN) (aligned_part range)) }
+    ensures grow { memory.old.touches ≤ memory.new.touches }
     ensures copied { memory.new.copied ≡ memory.old.copied }
 {
     let end = range.start + range.len;

@@ -141,6 +141,7 @@ impl<
         ensures place { SamePlace self.old.memory self.new.memory }
         ensures touches { IsSome (choice SLLEN (request_size layout.size layout.align) self.old.state.machine.free)
             → self.new.memory.touches ≤ self.old.memory.touches + 27 }
+        ensures grow { self.old.memory.touches ≤ self.new.memory.touches }
         ensures copied { self.new.memory.copied ≡ self.old.memory.copied }
     {
         if let Some(addr) = self.tlsf.allocate(layout) {
@@ -173,6 +174,7 @@ impl<
         ensures source { self.new.source ≡ self.old.source }
         ensures place { SamePlace self.old.memory self.new.memory }
         ensures touches { self.new.memory.touches ≤ self.old.memory.touches + 32 }
+        ensures grow { self.old.memory.touches ≤ self.new.memory.touches }
         ensures copied { self.new.memory.copied ≡ self.old.memory.copied }
     {
         self.tlsf.deallocate(addr, align);
@@ -192,6 +194,7 @@ impl<
         ensures source { self.new.source ≡ self.old.source }
         ensures place { SamePlace self.old.memory self.new.memory }
         ensures touches { self.new.memory.touches ≤ self.old.memory.touches + 33 }
+        ensures grow { self.old.memory.touches ≤ self.new.memory.touches }
         ensures copied { self.new.memory.copied ≡ self.old.memory.copied }
     {
         self.tlsf.deallocate_unknown_align(addr);
@@ -221,8 +224,10 @@ impl<
         ensures place { SamePlace self.old.memory self.new.memory }
         ensures touches { (to : ℕ) (m : State) → Reallocates SLLEN self.old.state.machine (at addr) layout.size (Some to) m
             → self.new.memory.touches ≤ self.old.memory.touches + 66 }
+        ensures grow { self.old.memory.touches ≤ self.new.memory.touches }
         ensures copied { (to : ℕ) (m : State) → Reallocates SLLEN self.old.state.machine (at addr) layout.size (Some to) m
             → self.new.memory.copied ≤ self.old.memory.copied + length (bytes_at self.old.state.machine (at addr)) }
+        ensures grow_copied { self.old.memory.copied ≤ self.new.memory.copied }
         ensures stays { (u : Used) (p : Plan) → Holds self.old.state.machine (at addr) u
             → or_else (in_place self.old.state.machine u layout.size) (into_next self.old.state.machine u layout.size) ≡ Some p
             → self.new.memory.copied ≡ self.old.memory.copied }

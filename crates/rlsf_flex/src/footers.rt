@@ -46,6 +46,7 @@ pub(crate) fn write_footer<
     ensures footer { WritesFooter tlsf.old.memory tlsf.new.memory range start len }
     ensures state { tlsf.new.state ≡ tlsf.old.state }
     ensures stands { Stands FLLEN SLLEN tlsf.new }
+    ensures grow { tlsf.old.memory.touches ≤ tlsf.new.memory.touches }
     ensures copied { tlsf.new.memory.copied ≡ tlsf.old.memory.copied }
 {
     let footer = footer_at(range);

@@ -77,6 +77,7 @@ fn take_range<
     ensures bytes { bytes_at tlsf.new.state ≡ bytes_at tlsf.old.state }
     ensures refused { IfNone result (tlsf.new ≡ tlsf.old) }
     ensures place { SamePlace tlsf.old.memory tlsf.new.memory }
+    ensures grow { tlsf.old.memory.touches ≤ tlsf.new.memory.touches }
     ensures copied { tlsf.new.memory.copied ≡ tlsf.old.memory.copied }
 {
     let range = source.alloc(len)?;
@@ -122,6 +123,7 @@ fn grow_kept<
     ensures bytes { bytes_at tlsf.new.state ≡ bytes_at tlsf.old.state }
     ensures refused { IfNone result (tlsf.new ≡ tlsf.old) }
     ensures place { SamePlace tlsf.old.memory tlsf.new.memory }
+    ensures grow { tlsf.old.memory.touches ≤ tlsf.new.memory.touches }
     ensures copied { tlsf.new.memory.copied ≡ tlsf.old.memory.copied }
 {
     let grown = source.realloc_inplace_grow(pool.range, len)?;
@@ -168,6 +170,7 @@ fn ask_range<
     ensures bytes { bytes_at tlsf.new.state ≡ bytes_at tlsf.old.state }
     ensures refused { result ≡ false → tlsf.new ≡ tlsf.old }
     ensures place { SamePlace tlsf.old.memory tlsf.new.memory }
+    ensures grow { tlsf.old.memory.touches ≤ tlsf.new.memory.touches }
     ensures copied { tlsf.new.memory.copied ≡ tlsf.old.memory.copied }
 {
     match range_len(source, wanted) {
@@ -203,6 +206,7 @@ fn ask_growth<
     ensures bytes { bytes_at tlsf.new.state ≡ bytes_at tlsf.old.state }
     ensures refused { result ≡ false → tlsf.new ≡ tlsf.old }
     ensures place { SamePlace tlsf.old.memory tlsf.new.memory }
+    ensures grow { tlsf.old.memory.touches ≤ tlsf.new.memory.touches }
     ensures copied { tlsf.new.memory.copied ≡ tlsf.old.memory.copied }
 {
     source.supports_realloc_inplace_grow()
@@ -233,6 +237,7 @@ pub(crate) fn extend<
     ensures bytes { bytes_at tlsf.new.state ≡ bytes_at tlsf.old.state }
     ensures refused { result ≡ false → tlsf.new ≡ tlsf.old }
     ensures place { SamePlace tlsf.old.memory tlsf.new.memory }
+    ensures grow { tlsf.old.memory.touches ≤ tlsf.new.memory.touches }
     ensures copied { tlsf.new.memory.copied ≡ tlsf.old.memory.copied }
 {
     let Some(pool) = *kept else {
@@ -270,6 +275,8 @@ pub(crate) fn move_payload<
     ensures aligns { IfSome result (λ to. (a : ℕ) → a ≢ at addr → a ≢ at to → align_at tlsf.new.state a ≡ align_at tlsf.old.state a) }
     ensures bytes { IfSome result (λ to. (a : ℕ) → a ≢ at addr → a ≢ at to → bytes_at tlsf.new.state a ≡ bytes_at tlsf.old.state a) }
     ensures place { SamePlace tlsf.old.memory tlsf.new.memory }
+    ensures grow { tlsf.old.memory.touches ≤ tlsf.new.memory.touches }
+    ensures grow_copied { tlsf.old.memory.copied ≤ tlsf.new.memory.copied }
 {
     let to = tlsf.allocate(layout)?;
     let len = tlsf.allocation_usable_size(addr);

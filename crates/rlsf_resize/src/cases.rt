@@ -35,7 +35,9 @@ pub fn reallocate_block<FLBitmap: Bitmap, SLBitmap: Bitmap, const FLLEN: usize, 
     ensures refused { IfNone result (memory.new.bytes ≡ memory.old.bytes) }
     ensures place { SamePlace memory.old memory.new }
     ensures touches { memory.new.touches ≤ memory.old.touches + 65 }
+    ensures grow { memory.old.touches ≤ memory.new.touches }
     ensures copied { (s : State) (u : Used) → StandsFor FLLEN SLLEN (contents memory.old table.old) s → IsUsedAt s u block payload layout.align → memory.new.copied ≤ memory.old.copied + (usable u).len }
+    ensures grow_copied { memory.old.copied ≤ memory.new.copied }
     ensures stays { (s : State) (u : Used) (p : Plan) → StandsFor FLLEN SLLEN (contents memory.old table.old) s → IsUsedAt s u block payload layout.align
         → or_else (in_place s u layout.size) (into_next s u layout.size) ≡ Some p → memory.new.copied ≡ memory.old.copied }
 {

@@ -42,7 +42,9 @@ pub(crate) fn move_elsewhere<
     ensures unchanged { IfNone result (Counts memory.old memory.new 5 × (table.new ≡ table.old)) }
     ensures place { SamePlace memory.old memory.new }
     ensures touches { memory.new.touches ≤ memory.old.touches + 59 }
+    ensures grow { memory.old.touches ≤ memory.new.touches }
     ensures copied { (s : State) (u : Used) → StandsFor FLLEN SLLEN (contents memory.old table.old) s → IsUsedAt s u block payload layout.align → memory.new.copied ≤ memory.old.copied + (usable u).len }
+    ensures grow_copied { memory.old.copied ≤ memory.new.copied }
 {
     let end = block + (memory.load(block) as usize - 1);
     let (free, class) = first_fit(memory, table, request_size(layout))?;

@@ -32,6 +32,7 @@ fn extend_chunk<FLBitmap: Bitmap, SLBitmap: Bitmap, const FLLEN: usize, const SL
         → StandsFor FLLEN SLLEN (contents memory.new table.new) (grown c len s) × KeepsSpare memory.old s memory.new (grown c len s) }
     ensures place { SamePlace memory.old memory.new }
     ensures touches { memory.new.touches ≤ memory.old.touches + 34 }
+    ensures grow { memory.old.touches ≤ memory.new.touches }
     ensures copied { memory.new.copied ≡ memory.old.copied }
 {
     // The word that names the block before the old sentinel stays: it names the one before the new block.
@@ -57,6 +58,7 @@ pub fn append<FLBitmap: Bitmap, SLBitmap: Bitmap, const FLLEN: usize, const SLLE
     ensures unchanged { result ≡ 0 → memory.new.bytes ≡ memory.old.bytes }
     ensures place { SamePlace memory.old memory.new }
     ensures touches { memory.new.touches ≤ memory.old.touches + (if is_some (max_pool_size FLLEN) then 13 * length (cut (max_pool_size FLLEN) (aligned_part range)) else 34) }
+    ensures grow { memory.old.touches ≤ memory.new.touches }
     ensures copied { memory.new.copied ≡ memory.old.copied }
 {
     if classes::max_pool_size::<FLBitmap, SLBitmap, FLLEN, SLLEN>().is_some() {

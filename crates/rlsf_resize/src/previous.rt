@@ -87,7 +87,9 @@ pub(crate) fn move_into_previous<
     ensures unchanged { IfNone result (Counts memory.old memory.new 4 × (table.new ≡ table.old)) }
     ensures place { SamePlace memory.old memory.new }
     ensures touches { memory.new.touches ≤ memory.old.touches + 37 }
+    ensures grow { memory.old.touches ≤ memory.new.touches }
     ensures copied { (s : State) (u : Used) → StandsFor FLLEN SLLEN (contents memory.old table.old) s → IsUsedAt s u block payload layout.align → memory.new.copied ≤ memory.old.copied + (usable u).len }
+    ensures grow_copied { memory.old.copied ≤ memory.new.copied }
 {
     let end = block + (memory.load(block) as usize - 1);
     let (moved, taken) = place_before(memory, block, end, layout)?;

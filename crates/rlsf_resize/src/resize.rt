@@ -46,6 +46,7 @@ pub(crate) fn occupy<FLBitmap: Bitmap, SLBitmap: Bitmap, const FLLEN: usize, con
     ensures step { (free : List Range) (span : Range) → span.start ≡ block → span.len ≡ total → IsInnerRoom FLLEN SLLEN memory.old table.old free span
         → IsOccupied FLLEN SLLEN memory.old memory.new table.new free span (range_at block taken) }
     ensures touches { memory.new.touches ≤ memory.old.touches + 13 }
+    ensures grow { memory.old.touches ≤ memory.new.touches }
     ensures copied { memory.new.copied ≡ memory.old.copied }
 {
     memory.set_word(block, taken as u64 + 1);
@@ -76,6 +77,7 @@ pub fn resize_block<FLBitmap: Bitmap, SLBitmap: Bitmap, const FLLEN: usize, cons
     ensures unchanged { result ≡ false → Counts memory.old memory.new 2 × (table.new ≡ table.old) }
     ensures place { SamePlace memory.old memory.new }
     ensures touches { memory.new.touches ≤ memory.old.touches + 24 }
+    ensures grow { memory.old.touches ≤ memory.new.touches }
     ensures copied { memory.new.copied ≡ memory.old.copied }
 {
     let len = memory.load(block) as usize - 1;

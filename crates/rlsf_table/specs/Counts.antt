@@ -2,9 +2,10 @@
 use Rattle.std.specs.Prelude.{◌≡◌, ℕ, ◌+◌, ◌≤◌}
 use Rattle.rlsf_base.specs.Space.{Space}
 
--- no byte changed, and no more than so many touches were counted
+-- no byte changed, and no more than so many touches were counted, which are never taken back
 pub record Counts (m n : Space) (most : ℕ) : Type 0 where
   pub start : n.start ≡ m.start
   pub bytes : n.bytes ≡ m.bytes
   pub touches : n.touches ≤ m.touches + most
+  pub grow : m.touches ≤ n.touches
   pub copied : n.copied ≡ m.copied

@@ -21,6 +21,7 @@ fn link_front(memory: &mut Memory, newest: usize, block: usize)
     ensures step { (r : Range) (free : List Range) → r.start ≡ block → IsFreeList memory.old newest free → IsPlaced memory.old r → ((a : ℕ) → coverage itself (r ∷ free) a ≤ 1)
         → Links memory.new 0 (r ∷ free) block × Rewrites memory.old memory.new (IsLink (r ∷ free)) }
     ensures touches { memory.new.touches ≤ memory.old.touches + 3 }
+    ensures grow { memory.old.touches ≤ memory.new.touches }
     ensures copied { memory.new.copied ≡ memory.old.copied }
 {
     memory.set_word(block + 16, newest as u64);
@@ -37,6 +38,7 @@ fn unlink_between(memory: &mut Memory, block: usize) -> Option<usize>
     ensures step { (newest : ℕ) (r : Range) (before after : List Range) → r.start ≡ block → IsFreeList memory.old newest (before ++ r ∷ after)
         → Links memory.new 0 (before ++ after) (unwrap_or result newest) × Rewrites memory.old memory.new (IsLink (before ++ r ∷ after)) }
     ensures touches { memory.new.touches ≤ memory.old.touches + unlinking_touches result }
+    ensures grow { memory.old.touches ≤ memory.new.touches }
     ensures copied { memory.new.copied ≡ memory.old.copied }
 {
     let next = memory.load(block + 16) as usize;
@@ -68,6 +70,7 @@ pub fn link<FLBitmap: Bitmap, SLBitmap: Bitmap, const FLLEN: usize, const SLLEN:
     ensures step { (r : Range) (free : List Range) → r.start ≡ block → r.len ≡ len → IsRoom FLLEN SLLEN memory.old table.old free r
         → HasTable FLLEN SLLEN memory.new table.new (r ∷ free) × Rewrites memory.old memory.new (IsLink (r ∷ free)) }
     ensures touches { memory.new.touches ≤ memory.old.touches + 9 }
+    ensures grow { memory.old.touches ≤ memory.new.touches }
     ensures copied { memory.new.copied ≡ memory.old.copied }
 {
     let Some((fl, sl)) = map_floor::<FLBitmap, SLBitmap, FLLEN, SLLEN>(len) else {
@@ -94,6 +97,7 @@ pub fn unlink<FLBitmap: Bitmap, SLBitmap: Bitmap, const FLLEN: usize, const SLLE
     ensures step { (r : Range) (before after : List Range) → r.start ≡ block → r.len ≡ len → IsFreeTable FLLEN SLLEN memory.old table.old (before ++ r ∷ after)
         → HasTable FLLEN SLLEN memory.new table.new (before ++ after) × Rewrites memory.old memory.new (IsLink (before ++ r ∷ after)) }
     ensures touches { memory.new.touches ≤ memory.old.touches + 8 }
+    ensures grow { memory.old.touches ≤ memory.new.touches }
     ensures copied { memory.new.copied ≡ memory.old.copied }
 {
     let newest = unlink_between(memory, block);
@@ -121,6 +125,7 @@ pub fn unlink_at<FLBitmap: Bitmap, SLBitmap: Bitmap, const FLLEN: usize, const S
     ensures step { (r : Range) (before after : List Range) → r.start ≡ block → IsClassAt FLLEN SLLEN r.len class.0 class.1 → IsFreeTable FLLEN SLLEN memory.old table.old (before ++ r ∷ after)
         → HasTable FLLEN SLLEN memory.new table.new (before ++ after) × Rewrites memory.old memory.new (IsLink (before ++ r ∷ after)) }
     ensures touches { memory.new.touches ≤ memory.old.touches + 8 }
+    ensures grow { memory.old.touches ≤ memory.new.touches }
     ensures copied { memory.new.copied ≡ memory.old.copied }
 {
     let newest = unlink_between(memory, block);

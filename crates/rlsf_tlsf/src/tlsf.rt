@@ -115,6 +115,7 @@ impl<FLBitmap: Bitmap, SLBitmap: Bitmap, const FLLEN: usize, const SLLEN: usize>
         ensures refused { IfNone result (self.new.memory.bytes ≡ self.old.memory.bytes) }
         ensures place { SamePlace self.old.memory self.new.memory }
         ensures touches { self.new.memory.touches ≤ self.old.memory.touches + 13 * length (cut (max_pool_size FLLEN) (aligned_part range)) }
+        ensures grow { self.old.memory.touches ≤ self.new.memory.touches }
         ensures copied { self.new.memory.copied ≡ self.old.memory.copied }
     {
         let taken = insert(&mut self.memory, &mut self.table, range);
@@ -136,6 +137,7 @@ impl<FLBitmap: Bitmap, SLBitmap: Bitmap, const FLLEN: usize, const SLLEN: usize>
         ensures unchanged { cut (max_pool_size FLLEN) (aligned_part range) ≡ [] → self.new.memory.bytes ≡ self.old.memory.bytes }
         ensures place { SamePlace self.old.memory self.new.memory }
         ensures touches { self.new.memory.touches ≤ self.old.memory.touches + 13 * length (cut (max_pool_size FLLEN) (aligned_part range)) }
+        ensures grow { self.old.memory.touches ≤ self.new.memory.touches }
         ensures copied { self.new.memory.copied ≡ self.old.memory.copied }
     {
         let _ = self.insert_free_block_ptr(range);
@@ -157,6 +159,7 @@ impl<FLBitmap: Bitmap, SLBitmap: Bitmap, const FLLEN: usize, const SLLEN: usize>
         ensures unchanged { result ≡ 0 → self.new.memory.bytes ≡ self.old.memory.bytes }
         ensures place { SamePlace self.old.memory self.new.memory }
         ensures touches { self.new.memory.touches ≤ self.old.memory.touches + (if is_some (max_pool_size FLLEN) then 13 * length (cut (max_pool_size FLLEN) (aligned_part range)) else 34) }
+        ensures grow { self.old.memory.touches ≤ self.new.memory.touches }
         ensures copied { self.new.memory.copied ≡ self.old.memory.copied }
     {
         let taken = append(&mut self.memory, &mut self.table, range);
@@ -210,6 +213,7 @@ impl<FLBitmap: Bitmap, SLBitmap: Bitmap, const FLLEN: usize, const SLLEN: usize>
         ensures refused { IfNone result (self.new.memory.bytes ≡ self.old.memory.bytes) }
         ensures place { SamePlace self.old.memory self.new.memory }
         ensures touches { self.new.memory.touches ≤ self.old.memory.touches + 27 }
+        ensures grow { self.old.memory.touches ≤ self.new.memory.touches }
         ensures copied { self.new.memory.copied ≡ self.old.memory.copied }
     {
         let (block, class) = first_fit(&mut self.memory, &self.table, request_size(layout))?;
@@ -231,6 +235,7 @@ impl<FLBitmap: Bitmap, SLBitmap: Bitmap, const FLLEN: usize, const SLLEN: usize>
         ensures bytes { (a : ℕ) → a ≢ at addr → bytes_at self.new.state a ≡ bytes_at self.old.state a }
         ensures place { SamePlace self.old.memory self.new.memory }
         ensures touches { self.new.memory.touches ≤ self.old.memory.touches + 32 }
+        ensures grow { self.old.memory.touches ≤ self.new.memory.touches }
         ensures copied { self.new.memory.copied ≡ self.old.memory.copied }
     {
         let block = used_block(&mut self.memory, addr.get(), align);
@@ -251,6 +256,7 @@ impl<FLBitmap: Bitmap, SLBitmap: Bitmap, const FLLEN: usize, const SLLEN: usize>
         ensures bytes { (a : ℕ) → a ≢ at addr → bytes_at self.new.state a ≡ bytes_at self.old.state a }
         ensures place { SamePlace self.old.memory self.new.memory }
         ensures touches { self.new.memory.touches ≤ self.old.memory.touches + 33 }
+        ensures grow { self.old.memory.touches ≤ self.new.memory.touches }
         ensures copied { self.new.memory.copied ≡ self.old.memory.copied }
     {
         let block = load_block_of(&mut self.memory, addr.get());
@@ -279,7 +285,9 @@ impl<FLBitmap: Bitmap, SLBitmap: Bitmap, const FLLEN: usize, const SLLEN: usize>
         ensures refused { IfNone result (self.new.memory.bytes ≡ self.old.memory.bytes) }
         ensures place { SamePlace self.old.memory self.new.memory }
         ensures touches { self.new.memory.touches ≤ self.old.memory.touches + 66 }
+        ensures grow { self.old.memory.touches ≤ self.new.memory.touches }
         ensures copied { self.new.memory.copied ≤ self.old.memory.copied + length (bytes_at self.old.state (at addr)) }
+        ensures grow_copied { self.old.memory.copied ≤ self.new.memory.copied }
         ensures stays { (u : Used) (p : Plan) → Holds self.old.state (at addr) u → or_else (in_place self.old.state u layout.size) (into_next self.old.state u layout.size) ≡ Some p
             → self.new.memory.copied ≡ self.old.memory.copied }
     {

@@ -85,6 +85,7 @@ pub record IsFilled (fllen sllen : ℕ) (m0 : Space) (s : State) (r : Range) (m 
   pub place : range_of m ≡ range_of m0
   pub untouched : start ≡ (aligned_part r).start → m.bytes ≡ m0.bytes
   pub touches : m.touches + 13 * length (cut (max_pool_size fllen) (range_at start left)) ≤ m0.touches + 13 * length (cut (max_pool_size fllen) (aligned_part r))
+  pub grow : m0.touches ≤ m.touches
   pub copied : m.copied ≡ m0.copied
   pub from : (aligned_part r).start ≤ start
   pub to : start + left ≤ end_of r
@@ -103,6 +104,7 @@ module _ {fllen sllen : ℕ} {m0 : Space} {table0 : Table} {s : State} (v : Stan
         place = refl;
         untouched = λ at. refl;
         touches = (let count = ap length same in omega arith);
+        grow = omega arith;
         copied = refl;
         from = omega arith;
         to = omega arith;
@@ -132,9 +134,9 @@ module _ {fllen sllen : ℕ} {m0 : Space} {table0 : Table} {s : State} (v : Stan
           block = IsFree-body c chunk;
         }
 
-    pub IsFilled-next : (n : Space) (changed : Table) → IsAdded fllen sllen m n changed filled.now.free (range_at start (first_length (max_pool_size fllen) left)) → n.touches ≤ m.touches + 13 → n.copied ≡ m.copied
+    pub IsFilled-next : (n : Space) (changed : Table) → IsAdded fllen sllen m n changed filled.now.free (range_at start (first_length (max_pool_size fllen) left)) → n.touches ≤ m.touches + 13 → m.touches ≤ n.touches → n.copied ≡ m.copied
         → IsFilled fllen sllen m0 s r n changed (start + first_length (max_pool_size fllen) left) (left - first_length (max_pool_size fllen) left)
-    IsFilled-next n changed added touches copied =
+    IsFilled-next n changed added touches grow copied =
         let c = range_at start (first_length (max_pool_size fllen) left) in
         let rest = cut (max_pool_size fllen) (range_at (start + first_length (max_pool_size fllen) left) (left - first_length (max_pool_size fllen) left)) in
         let chunk = new.chunk c (inl refl) in
@@ -155,6 +157,7 @@ module _ {fllen sllen : ℕ} {m0 : Space} {table0 : Table} {s : State} (v : Stan
           place = place ∙ filled.place;
           untouched = λ at. absurd (omega (arith, filled.from, chunk.has_room));
           touches = (let count : length (cut (max_pool_size fllen) (range_at start left)) ≡ suc (length rest) = ap length more in omega (arith, filled.touches));
+          grow = omega (arith, grow, filled.grow);
           copied = copied ∙ filled.copied;
           from = omega (arith, filled.from);
           to = omega (arith, filled.to, shorter);

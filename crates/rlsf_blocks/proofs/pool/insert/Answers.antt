@@ -54,7 +54,7 @@ loop-left-preserved g c = λ s v fresh.
     let made = c.add_chunk.ensures.step filled.now filled.stands (subst (λ n. IsNewChunk g.row.FLLEN g.row.SLLEN c.loop-left.memory filled.now (range_at c.loop-left.start n)) (sym same) new) in
     let added = subst (λ n. IsAdded g.row.FLLEN g.row.SLLEN c.loop-left.memory c.add_chunk.new.memory c.add_chunk.new.table filled.now.free (range_at c.loop-left.start n)) same made in
     subst (λ n. IsFilled g.row.FLLEN g.row.SLLEN c.args.memory.now s c.args.range c.add_chunk.new.memory c.add_chunk.new.table (c.loop-left.start + n) (c.loop-left.left - n)) (sym same)
-    (IsFilled-next v c.args.range fresh filled (omega arith) c.add_chunk.new.memory c.add_chunk.new.table added c.add_chunk.ensures.touches c.add_chunk.ensures.copied)
+    (IsFilled-next v c.args.range fresh filled (omega arith) c.add_chunk.new.memory c.add_chunk.new.table added c.add_chunk.ensures.touches c.add_chunk.ensures.grow c.add_chunk.ensures.copied)
 
 pub overflow_sub-taken : goal.overflow_sub-taken
 overflow_sub-taken g c =
@@ -96,6 +96,11 @@ returns-clause-touches g c =
     let (s, v, fresh) = c.requires.fresh in
     let filled = c.loop-left.invariant s v fresh in
     omega (arith, filled.touches)
+
+pub returns-clause-grow : goal.returns-clause-grow
+returns-clause-grow g c =
+    let (s, v, fresh) = c.requires.fresh in
+    (c.loop-left.invariant s v fresh).grow
 
 pub returns-clause-copied : goal.returns-clause-copied
 returns-clause-copied g c =

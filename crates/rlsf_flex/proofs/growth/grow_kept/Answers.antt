@@ -151,6 +151,12 @@ returns-clause-place g c =
       | else-supports_dealloc w ↦ subst (λ (d : Allocator). SamePlace d.memory c.append_free_block_ptr-taken.new.self.memory) w.tlsf-is last
     ]
 
+pub returns-clause-grow : goal.returns-clause-grow
+returns-clause-grow g c = elim c.if-supports_dealloc.branch [
+  | then-supports_dealloc w ↦ let same = ap (λ (d : Allocator). d.memory.touches) w.tlsf-is in omega (arith, same, w.write_footer.ensures.grow, c.append_free_block_ptr-taken.ensures.grow)
+  | else-supports_dealloc w ↦ let same = ap (λ (d : Allocator). d.memory.touches) w.tlsf-is in omega (arith, same, c.append_free_block_ptr-taken.ensures.grow)
+]
+
 pub returns-clause-copied : goal.returns-clause-copied
 returns-clause-copied g c = elim c.if-supports_dealloc.branch [
   | then-supports_dealloc w ↦ c.append_free_block_ptr-taken.ensures.copied ∙ ap (λ (d : Allocator). d.memory.copied) w.tlsf-is ∙ w.write_footer.ensures.copied

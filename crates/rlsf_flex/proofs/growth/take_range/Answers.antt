@@ -104,6 +104,12 @@ returns-clause-place g c =
       | else-takes_back w ↦ subst (λ (d : Allocator). SamePlace c.args.tlsf.now.memory d.memory) (sym w.tlsf-is) first
     ]
 
+pub returns-clause-grow : goal.returns-clause-grow
+returns-clause-grow g c = elim c.if-takes_back.branch [
+  | then-takes_back w ↦ let same = ap (λ (d : Allocator). d.memory.touches) w.tlsf-is in omega (arith, same, w.write_footer.ensures.grow, c.insert_free_block_ptr.ensures.grow)
+  | else-takes_back w ↦ let same = ap (λ (d : Allocator). d.memory.touches) w.tlsf-is in omega (arith, same, c.insert_free_block_ptr.ensures.grow)
+]
+
 pub returns-clause-copied : goal.returns-clause-copied
 returns-clause-copied g c = elim c.if-takes_back.branch [
   | then-takes_back w ↦ ap (λ (d : Allocator). d.memory.copied) w.tlsf-is ∙ w.write_footer.ensures.copied ∙ c.insert_free_block_ptr.ensures.copied

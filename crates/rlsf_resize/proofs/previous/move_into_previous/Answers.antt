@@ -70,7 +70,7 @@ returns-in_err-moved-clause-unchanged g c =
     let load = c.load.ensures in
     let counts = c.place_before.ensures.counts in
     none_none c.from_residual.result (
-      record { start = counts.start ∙ load.start; bytes = counts.bytes ∙ load.bytes; touches = omega (arith, counts.touches, load.touches); copied = counts.copied ∙ load.copied },
+      record { start = counts.start ∙ load.start; bytes = counts.bytes ∙ load.bytes; touches = omega (arith, counts.touches, load.touches); grow = omega (arith, counts.grow, load.touches); copied = counts.copied ∙ load.copied },
       refl,
     )
 
@@ -81,6 +81,12 @@ returns-in_err-moved-clause-place g c =
 
 pub returns-in_err-moved-clause-touches : goal.returns-in_err-moved-clause-touches
 returns-in_err-moved-clause-touches g c = omega (arith, c.place_before.ensures.counts.touches, c.load.ensures.touches)
+
+pub returns-in_err-moved-clause-grow : goal.returns-in_err-moved-clause-grow
+returns-in_err-moved-clause-grow g c = omega (arith, c.place_before.ensures.counts.grow, c.load.ensures.touches)
+
+pub returns-in_err-moved-clause-grow_copied : goal.returns-in_err-moved-clause-grow_copied
+returns-in_err-moved-clause-grow_copied g c = omega (arith, c.place_before.ensures.counts.copied, c.load.ensures.copied)
 
 pub returns-in_err-moved-clause-copied : goal.returns-in_err-moved-clause-copied
 returns-in_err-moved-clause-copied g c = λ s u v used. omega (arith, c.place_before.ensures.counts.copied, c.load.ensures.copied)
@@ -218,6 +224,18 @@ returns-then-wide-clause-touches g c =
     let taken_out : c.take_if_free-next.new.memory.touches ≤ c.args.memory.now.touches + 23 = omega (arith, c.load.ensures.touches, before, c.take_previous-start.ensures.touches, c.take_if_free-next.ensures.touches) in
     omega (arith, taken_out, c.copy_within.ensures.touches, c.occupy.ensures.touches, c.set_word.ensures.touches)
 
+pub returns-then-wide-clause-grow : goal.returns-then-wide-clause-grow
+returns-then-wide-clause-grow g c =
+    let before = c.place_before.ensures.counts.grow in
+    let taken_out : c.args.memory.now.touches ≤ c.take_if_free-next.new.memory.touches = omega (arith, c.load.ensures.touches, before, c.take_previous-start.ensures.grow, c.take_if_free-next.ensures.grow) in
+    omega (arith, taken_out, c.copy_within.ensures.touches, c.occupy.ensures.grow, c.set_word.ensures.touches)
+
+pub returns-then-wide-clause-grow_copied : goal.returns-then-wide-clause-grow_copied
+returns-then-wide-clause-grow_copied g c =
+    let before = c.place_before.ensures.counts.copied in
+    let taken_out : c.take_if_free-next.new.memory.copied ≡ c.args.memory.now.copied = omega (arith, c.load.ensures.copied, before, c.take_previous-start.ensures.copied, c.take_if_free-next.ensures.copied) in
+    omega (arith, taken_out, c.copy_within.ensures.copied, c.occupy.ensures.copied, c.set_word.ensures.copied)
+
 pub returns-then-wide-clause-copied : goal.returns-then-wide-clause-copied
 returns-then-wide-clause-copied g c = λ s u v used.
     let at = goal.at.returns-then-wide-clause-copied g c in
@@ -253,6 +271,18 @@ returns-else-wide-clause-touches g c =
     let before = c.place_before.ensures.counts.touches in
     let taken_out : c.take_if_free-next.new.memory.touches ≤ c.args.memory.now.touches + 23 = omega (arith, c.load.ensures.touches, before, c.take_previous-start.ensures.touches, c.take_if_free-next.ensures.touches) in
     omega (arith, taken_out, c.copy_within.ensures.touches, c.occupy.ensures.touches)
+
+pub returns-else-wide-clause-grow : goal.returns-else-wide-clause-grow
+returns-else-wide-clause-grow g c =
+    let before = c.place_before.ensures.counts.grow in
+    let taken_out : c.args.memory.now.touches ≤ c.take_if_free-next.new.memory.touches = omega (arith, c.load.ensures.touches, before, c.take_previous-start.ensures.grow, c.take_if_free-next.ensures.grow) in
+    omega (arith, taken_out, c.copy_within.ensures.touches, c.occupy.ensures.grow)
+
+pub returns-else-wide-clause-grow_copied : goal.returns-else-wide-clause-grow_copied
+returns-else-wide-clause-grow_copied g c =
+    let before = c.place_before.ensures.counts.copied in
+    let taken_out : c.take_if_free-next.new.memory.copied ≡ c.args.memory.now.copied = omega (arith, c.load.ensures.copied, before, c.take_previous-start.ensures.copied, c.take_if_free-next.ensures.copied) in
+    omega (arith, taken_out, c.copy_within.ensures.copied, c.occupy.ensures.copied)
 
 pub returns-else-wide-clause-copied : goal.returns-else-wide-clause-copied
 returns-else-wide-clause-copied g c = λ s u v used.
