@@ -1,4 +1,5 @@
 -- What the functions of sizes compute.
+pub mod ChunkLengths
 pub mod Laws
 pub mod Masks
 pub mod PoolSizes

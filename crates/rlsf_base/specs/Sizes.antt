@@ -1,6 +1,7 @@
 -- What the allocator computes of sizes and layouts: indices of classes, pool sizes and requests.
-use Rattle.std.specs.Prelude.{◌≡◌, ℕ, ◌+◌, ◌-◌, ◌%◌, ◌^◌, ◌<◌, Option, Some, None, nat_lt, if◌then◌else◌}
-use Rattle.std.specs.Option.{option_map}
+use Rattle.std.specs.Prelude.{◌≡◌, ℕ, ◌+◌, ◌-◌, ◌*◌, ◌%◌, ◌^◌, ◌<◌, Option, Some, None, nat_le, nat_lt, if◌then◌else◌}
+use Rattle.std.specs.Int.{div_ceil}
+use Rattle.std.specs.Option.{option_and_then, option_map}
 use Rattle.rlsf_base.specs.Rounding.{round32}
 use Rattle.rlsf_base.specs.SizeClass.{SizeClass, class_of, reaching_class, least_size}
 
@@ -41,3 +42,28 @@ request_size size align = round32 (size + (align - 16) + 16)
 -- the length of the least chunk whose block has a class that reaches what is sought for a layout: its sentinel takes 32 bytes
 abbrev pub pool_size_to_contain_allocation : ℕ → ℕ → ℕ → ℕ → Option ℕ
 pool_size_to_contain_allocation fllen sllen size align = option_map (λ n. n + 32) (map_ceil_and_unmap fllen sllen (request_size size align))
+
+-- a chunk's length, if it is a word and no longer than the longest chunk
+abbrev pub chunk_length : ℕ → ℕ → Option ℕ
+chunk_length fllen len = if nat_lt len (2 ^ 64) then (if nat_le len (2 ^ (5 + fllen)) then Some len else None) else None
+
+-- the length of a chunk that has, beside `count` blocks in use, one more that are free, each longer by one SLLENth: its
+-- sentinel takes 32 bytes
+abbrev pub payloads_length : ℕ → ℕ → ℕ → ℕ
+payloads_length sllen count size = count * size + (count + 1) * size + round32 (div_ceil ((count + 1) * size) sllen) + 32
+
+-- the length of a chunk that never refuses a payload up to a layout while `count` or fewer live, reallocations among them
+abbrev pub pool_size_for_payloads : ℕ → ℕ → ℕ → ℕ → ℕ → Option ℕ
+pool_size_for_payloads fllen sllen count size align = chunk_length fllen (payloads_length sllen count (request_size size align))
+
+-- the block of an object: the least one from a class's start on that has room for so many bytes behind 16
+abbrev pub object_length : ℕ → ℕ → ℕ → Option ℕ
+object_length fllen sllen size = map_ceil_and_unmap fllen sllen (round32 (size + 16))
+
+-- the length of a chunk that has room for `count` such blocks and its sentinel, and the size of each payload
+abbrev pub objects_in : ℕ → ℕ → ℕ → Option (ℕ × ℕ)
+objects_in fllen count len = option_map (λ n. (n, len - 16)) (chunk_length fllen (count * len + 32))
+
+-- so for objects of a size
+abbrev pub pool_size_for_objects : ℕ → ℕ → ℕ → ℕ → Option (ℕ × ℕ)
+pool_size_for_objects fllen sllen count size = option_and_then (objects_in fllen count) (object_length fllen sllen size)

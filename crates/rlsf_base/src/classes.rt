@@ -100,6 +100,47 @@ pub fn pool_size_to_contain_allocation<
     Some(least + 32)
 }
 
+/// The length of a chunk that never refuses a payload of up to the layout's size and alignment, as long as at most `count`
+/// payloads live in it before each allocation and each reallocation: whatever their sizes, and in whatever order they come
+/// and go. It is about twice the bytes in use. Memory of that length becomes such a chunk where it begins at a multiple of
+/// 32. `None` exactly where the length passes a `usize` or the longest chunk.
+pub fn pool_size_for_payloads<
+    FLBitmap: BitPattern,
+    SLBitmap: BitPattern,
+    const FLLEN: usize,
+    const SLLEN: usize,
+>(count: usize, layout: Layout) -> Option<usize>
+    requires parameters { IsValid FLBitmap.width SLBitmap.width FLLEN SLLEN }
+    ensures { result ≡ sizes.pool_size_for_payloads FLLEN SLLEN count layout.size layout.align }
+{
+    let size = request_size(layout);
+    let used = count.checked_mul(size)?;
+    let free = used.checked_add(size)?;
+    let slack = free.div_ceil(SLLEN).next_multiple_of(32);
+    let len = used.checked_add(free)?.checked_add(slack)?.checked_add(32)?;
+    within_longest::<FLBitmap, SLBitmap, FLLEN, SLLEN>(len)
+}
+
+/// The length of a chunk that has room for exactly `count` payloads of `size` bytes, and the size to ask for: where all ask
+/// for that size, at an alignment of 16 or less, the chunk refuses exactly where `count` payloads live, so no byte is lost
+/// to fragmentation. The size is that of the least block which has room for `size` bytes and begins a class. `None` exactly
+/// where no class has such a block, or the length passes a `usize` or the longest chunk.
+pub fn pool_size_for_objects<
+    FLBitmap: BitPattern,
+    SLBitmap: BitPattern,
+    const FLLEN: usize,
+    const SLLEN: usize,
+>(count: usize, size: usize) -> Option<(usize, usize)>
+    requires parameters { IsValid FLBitmap.width SLBitmap.width FLLEN SLLEN }
+    ensures { result ≡ sizes.pool_size_for_objects FLLEN SLLEN count size }
+{
+    let sought = (size.checked_add(47)? - 31).next_multiple_of(32);
+    let block = map_ceil_and_unmap::<FLBitmap, SLBitmap, FLLEN, SLLEN>(sought)?;
+    let len = count.checked_mul(block)?.checked_add(32)?;
+    let pool = within_longest::<FLBitmap, SLBitmap, FLLEN, SLLEN>(len)?;
+    Some((pool, block - 16))
+}
+
 /// Does nothing. Its contract states the laws of size classes, so that a check proves them.
 ///
 /// What `map_ceil` gives for a size is the first class that reaches it: no class before it does. What
@@ -116,6 +157,22 @@ pub fn laws()
     ensures one_chunk { PoolIsOneChunk }
     ensures contained { PoolContainsItsAllocation }
 {}
+
+// A chunk's length, if it is no longer than the longest one.
+fn within_longest<
+    FLBitmap: BitPattern,
+    SLBitmap: BitPattern,
+    const FLLEN: usize,
+    const SLLEN: usize,
+>(len: usize) -> Option<usize>
+    requires parameters { IsValid FLBitmap.width SLBitmap.width FLLEN SLLEN }
+    ensures { result ≡ sizes.chunk_length FLLEN len }
+{
+    match max_pool_size::<FLBitmap, SLBitmap, FLLEN, SLLEN>() {
+        Some(most) => { if len <= most { Some(len) } else { None } }
+        None => Some(len),
+    }
+}
 
 // A class, if its row is one of the allocator's.
 fn within_rows<const FLLEN: usize>(class: (usize, usize)) -> Option<(usize, usize)>

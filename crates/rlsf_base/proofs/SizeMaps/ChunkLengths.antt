@@ -1,0 +1,104 @@
+-- Lengths of chunks that are computed for many payloads.
+use Rattle.std.proofs.Common.{◌≡◌, ℕ, ◌+◌, ◌-◌, ◌*◌, ◌/◌, ◌%◌, ◌^◌, ◌<◌, ◌≤◌, Option, Some, None, IsTrue, arith, cond, leb, ltb, inl, inr, refl, sym, ◌∙◌, ap}
+use Rattle.std.specs.Int.{div_ceil}
+use Rattle.std.specs.Option.{option_and_then, option_map}
+use Rattle.std.proofs.lemmas.Bool.{cases_lt, cond-true, cond-false, le-leb, lt-ltb, lt-leb, le-ltb}
+use Rattle.std.proofs.lemmas.Option.{none-some, same_Some}
+use Rattle.std.proofs.lemmas.Grind.{div_ceil_times}
+use Rattle.std.proofs.Math.Nat.{mul-le-mul_right, mul-mod_left}
+use Rattle.rlsf_base.specs.Rounding.{round32}
+use Rattle.rlsf_base.specs.SizeClass.{class_of, class_start, is_row_length, reaching_class, Reaches}
+use Rattle.rlsf_base.specs.Sizes.{IsSize, chunk_length, object_length, objects_in, pool_size_for_objects}
+use Rattle.rlsf_base.proofs.Numbers.Roundings.{round32-le, round32-least, round32-multiple}
+use Rattle.rlsf_base.proofs.SizeClasses.Order.{IsFirstReaching-reaching_class}
+use Rattle.rlsf_base.proofs.SizeMaps.Laws.{IsUnmapped-some}
+use Rattle.rlsf_base.proofs.SizeMaps.RowLengths.{IsPower-row_length}
+use Rattle.rlsf_base.proofs.SizeMaps.Starts.{class_of-start}
+use Rattle.rlsf_base.proofs.SizeMaps.Unmapped.{unmapped-past}
+
+pub chunk_length-some : (fllen len : ℕ) → len < 2 ^ 64 → len ≤ 2 ^ (5 + fllen) → Some len ≡ chunk_length fllen len
+chunk_length-some fllen len word short =
+    sym (cond-true _ (cond (leb len (2 ^ (5 + fllen))) (Some len) None) None (lt-ltb len (2 ^ 64) word) ∙ cond-true _ (Some len) None (le-leb len (2 ^ (5 + fllen)) short))
+
+div_ceil-le : (n d : ℕ) → 0 < d → div_ceil n d ≤ n
+div_ceil-le n d some = elim (cases_lt n (div_ceil n d)) [
+  | inl more ↦
+      let above : (n + 1) * d ≤ div_ceil n d * d = mul-le-mul_right d (omega arith) in
+      let least : 1 * n ≤ d * n = mul-le-mul_right n (omega arith) in
+      absurd (omega (arith, (div_ceil_times n d some).1))
+  | inr fits ↦ fits
+]
+
+-- what is left over for a SLLENth is no longer than the multiple of 32 that it is taken of
+pub slack-le : (size times d : ℕ) → 0 < d → size % 32 ≡ 0 → round32 (div_ceil (times * size) d) ≤ times * size
+slack-le size times d some whole =
+    let blocks : size ≡ size / 32 * 32 = omega arith in
+    let product : times * size ≡ times * (size / 32 * 32) = ap (λ n. times * n) blocks in
+    let parts : times * size ≡ times * (size / 32) * 32 = omega arith in
+    round32-least (div_ceil (times * size) d) (times * size) (ap (λ n. n % 32) parts ∙ mul-mod_left (times * (size / 32)) 32) (div_ceil-le (times * size) d some)
+
+pub IsSize-object : (size : ℕ) → IsSize (round32 (size + 16))
+IsSize-object size = (omega (arith, round32-le (size + 16)), round32-multiple (size + 16))
+
+-- no block has room for so many bytes
+pub object_length-past : (fllen sllen size : ℕ) → IsTrue (is_row_length sllen) → 2 ^ 64 ≤ size + 47 → None ≡ object_length fllen sllen size
+object_length-past fllen sllen size row past =
+    let n = round32 (size + 16) in
+    let some = (IsPower-row_length sllen row).some in
+    let is = IsSize-object size in
+    let long : 2 ^ 64 ≤ n = omega (arith, round32-le (size + 16), is.1) in
+    let more : 2 ^ 64 * sllen ≤ n * sllen = mul-le-mul_right sllen long in
+    unmapped-past fllen sllen n some is.0 (omega (arith, more, (IsFirstReaching-reaching_class sllen n some is.0).reached))
+
+-- a block has room for the bytes and for 16 before them
+pub object_length-enough : (fllen sllen size len : ℕ) → IsTrue (is_row_length sllen) → object_length fllen sllen size ≡ Some len → size + 16 ≤ len
+object_length-enough fllen sllen size len row told =
+    omega (arith, round32-le (size + 16), (IsUnmapped-some fllen sllen (round32 (size + 16)) len row (IsSize-object size) told).start.enough)
+
+-- ---- what a length that was computed says
+
+pub chunk_length-is : (fllen n len : ℕ) → chunk_length fllen n ≡ Some len → n ≡ len
+chunk_length-is fllen n len told = elim (cases_lt n (2 ^ 64)) [
+  | inl word ↦ elim (cases_lt (2 ^ (5 + fllen)) n) [
+    | inl long ↦ absurd (none-some len (sym (cond-true _ (cond (leb n (2 ^ (5 + fllen))) (Some n) None) None (lt-ltb n (2 ^ 64) word) ∙ cond-false _ (Some n) None (lt-leb n (2 ^ (5 + fllen)) long)) ∙ told))
+    | inr short ↦ same_Some n len (chunk_length-some fllen n word short ∙ told)
+  ]
+  | inr past ↦ absurd (none-some len (sym (cond-false _ (cond (leb n (2 ^ (5 + fllen))) (Some n) None) None (le-ltb n (2 ^ 64) past)) ∙ told))
+]
+
+-- a pool for objects has room for so many blocks, each of which begins a class
+pub record IsObjectPool (sllen count size len asked : ℕ) : Type 0 where
+  pub block : ℕ
+  pub whole : IsSize block
+  pub begins : Reaches sllen (class_of sllen block) block
+  pub enough : size + 16 ≤ block
+  pub length : len ≡ count * block + 32
+  pub asks : asked ≡ block - 16
+
+module _ (fllen sllen count size len asked : ℕ) (row : IsTrue (is_row_length sllen)) where
+  object_pool : (block : ℕ) → object_length fllen sllen size ≡ Some block → (o : Option ℕ) → chunk_length fllen (count * block + 32) ≡ o → option_map {U = ℕ × ℕ} (λ n. (n, block - 16)) o ≡ Some (len, asked) → IsObjectPool sllen count size len asked
+  object_pool block object None e told = absurd (none-some (len, asked) told)
+  object_pool block object (Some n) e told =
+      let n0 = round32 (size + 16) in
+      let is = IsUnmapped-some fllen sllen n0 block row (IsSize-object size) object in
+      let some = (IsPower-row_length sllen row).some in
+      let any = (IsSize-object size).0 in
+      let own : class_of sllen block ≡ reaching_class sllen n0 = class_of-start sllen block (reaching_class sllen n0) some (IsFirstReaching-reaching_class sllen n0 some any).in_row is.start.begins in
+      let start : block * sllen ≡ class_start sllen (class_of sllen block) = is.start.begins ∙ ap (class_start sllen) (sym own) in
+      let enough = object_length-enough fllen sllen size block row object in
+      let pair : (n, block - 16) ≡ (len, asked) = same_Some (n, block - 16) (len, asked) told in
+      record {
+        block = block;
+        whole = (omega arith, is.start.multiple);
+        begins = omega arith;
+        enough = enough;
+        length = sym (ap (λ p. p.0) pair) ∙ sym (chunk_length-is fllen (count * block + 32) n e);
+        asks = sym (ap (λ p. p.1) pair);
+      }
+
+  object_pool_from : (o : Option ℕ) → object_length fllen sllen size ≡ o → option_and_then (objects_in fllen count) o ≡ Some (len, asked) → IsObjectPool sllen count size len asked
+  object_pool_from None e told = absurd (none-some (len, asked) told)
+  object_pool_from (Some block) e told = object_pool block e (chunk_length fllen (count * block + 32)) refl told
+
+  pub IsObjectPool-some : pool_size_for_objects fllen sllen count size ≡ Some (len, asked) → IsObjectPool sllen count size len asked
+  IsObjectPool-some told = object_pool_from (object_length fllen sllen size) refl told
