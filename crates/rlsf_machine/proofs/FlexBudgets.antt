@@ -5,13 +5,12 @@ use Rattle.rlsf_base.specs.Sizes.{request_size}
 use Rattle.rlsf_machine.specs.Allocate.{Allocates}
 use Rattle.rlsf_machine.specs.Budget.{AreAtMost, AreFronts, AreWithin, HasBudget, IsModest, live_after}
 use Rattle.rlsf_machine.specs.FlexAllocate.{FlexAllocates}
-use Rattle.rlsf_machine.specs.FlexReallocate.{FlexReallocates, IsStuck}
+use Rattle.rlsf_machine.specs.FlexReallocate.{FlexReallocates}
 use Rattle.rlsf_machine.specs.FlexRun.{AsksNothing, FlexEvent, FlexLeads, IsFlexRun, events_in, notes_in}
 use Rattle.rlsf_machine.specs.FlexState.{FlexState}
 use Rattle.rlsf_machine.specs.Note.{Note}
 use Rattle.rlsf_machine.specs.Run.{Event, insert, append, allocate, deallocate, reallocate, fill, remove, Leads, Runs}
 use Rattle.rlsf_machine.specs.Sizing.{FlexNeverAsked}
-use Rattle.rlsf_machine.specs.State.{State, Used}
 use Rattle.rlsf_machine.specs.Terms.{Terms}
 use Rattle.rlsf_machine.specs.WellFormed.{IsWellFormed}
 use Rattle.rlsf_machine.proofs.Budgets.{AreAligned, AreFronts-kept, IsModest-stays, aligned_none, bounded_runs_are_not_denied, live_is_counted, modest_by, not_denied, step_aligned, step_modest}

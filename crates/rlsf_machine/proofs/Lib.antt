@@ -38,6 +38,7 @@ pub mod Orders
 pub mod Payloads
 pub mod Parts
 pub mod Plans
+pub mod PoolLengths
 pub mod Pools
 pub mod RangeLengths
 pub mod RangePools

@@ -1,13 +1,12 @@
 -- A part of a state: some of its chunks, with the blocks in them.
-use Rattle.std.proofs.Common.{◌≡◌, ℕ, suc, ◌+◌, ◌-◌, ◌<◌, ◌≤◌, ◌⊎◌, Bool, true, false, cond, filter, ltb, List, [], ◌∷◌, length, arith, refl, sym, ap, subst, inl, inr}
-use Rattle.std.specs.Prelude.{sum_by}
+use Rattle.std.proofs.Common.{◌≡◌, ℕ, suc, ◌+◌, ◌<◌, ◌≤◌, ◌⊎◌, Bool, cond, filter, ltb, List, [], ◌∷◌, length, arith, refl, sym, ap, subst, inl, inr}
 use Rattle.std.proofs.lemmas.Bool.{cases_lt, lt-ltb, le-ltb}
 use Rattle.std.proofs.lemmas.List.Sums.{sum_by-cons}
 use Rattle.rlsf_base.specs.declared.memory.range.Range.{Range}
 use Rattle.rlsf_base.specs.Range.{end_of}
-use Rattle.rlsf_machine.specs.Budget.{AreFronts, IsFront, total_len}
+use Rattle.rlsf_machine.specs.Budget.{IsFront, total_len}
 use Rattle.rlsf_machine.specs.Lists.{IsIn}
-use Rattle.rlsf_machine.specs.State.{State, Used}
+use Rattle.rlsf_machine.specs.State.{State}
 use Rattle.rlsf_machine.specs.WellFormed.{covers, coverage, itself, last_bytes, IsWellFormed}
 use Rattle.rlsf_machine.proofs.Changes.{IsApart-within}
 use Rattle.rlsf_machine.proofs.Coverage.{by_test, inside, before, behind, where_is, covers-inside, coverage-IsIn, coverage-some, coverage-unique}

@@ -14,7 +14,7 @@ use Rattle.rlsf_base.proofs.Numbers.PowersOfTwo.{floor_log2-mono, IsPowerOfTwo-p
 use Rattle.rlsf_base.proofs.Numbers.Roundings.{round32-le}
 use Rattle.rlsf_base.proofs.SizeClasses.Order.{Reaches-IsAtMost, IsAtMost-class_of}
 use Rattle.rlsf_base.proofs.SizeClasses.Reach.{division-lt, Reaches-class_of}
-use Rattle.rlsf_machine.specs.Budget.{total_len, live_after}
+use Rattle.rlsf_machine.specs.Budget.{total_len}
 use Rattle.rlsf_machine.specs.Allocate.{has_class, rest_behind, placed, Allocates}
 use Rattle.rlsf_machine.specs.Insert.{with_chunk}
 use Rattle.rlsf_machine.specs.Join.{ends_at, starts_at, start_or}

@@ -1,9 +1,9 @@
 -- What holds of how much memory is enough: laws of runs, known before the first call.
-use Rattle.std.specs.Prelude.{◌≡◌, ◌≢◌, ◌↔◌, ℕ, ◌+◌, ◌*◌, ◌<◌, ◌≤◌, List, [], length, Option, None}
+use Rattle.std.specs.Prelude.{◌≡◌, ◌≢◌, ◌↔◌, ℕ, ◌+◌, ◌*◌, ◌<◌, ◌≤◌, List, [], ◌∷◌, length, Option, Some, None}
 use Rattle.rlsf_base.specs.declared.memory.range.Range.{Range}
 use Rattle.rlsf_base.specs.PowerOfTwo.{IsPowerOfTwo}
-use Rattle.rlsf_base.specs.SizeClass.{class_of, Reaches}
-use Rattle.rlsf_base.specs.Sizes.{request_size}
+use Rattle.rlsf_base.specs.SizeClass.{class_of, IsValid, Reaches}
+use Rattle.rlsf_base.specs.Sizes.{pool_size_for_objects, pool_size_for_payloads, request_size}
 use Rattle.rlsf_machine.specs.Allocate.{Allocates}
 use Rattle.rlsf_machine.specs.Budget.{total_len, used_bytes, AreFronts, AreAtMost, HasBudget, RunsModestly, IsDenied, AreWithin, live_after}
 use Rattle.rlsf_machine.specs.FlexRun.{FlexEvent, IsFlexRun, events_in, notes_in}
@@ -13,7 +13,7 @@ use Rattle.rlsf_machine.specs.Release.{Deallocates}
 use Rattle.rlsf_machine.specs.Run.{Event, Leads, MayCall, Runs}
 use Rattle.rlsf_machine.specs.State.{State}
 use Rattle.rlsf_machine.specs.Terms.{Terms}
-use Rattle.rlsf_machine.specs.Uniform.{IsUniform, AsksUniformly, blocks_in, AreDeniedOnlyAt}
+use Rattle.rlsf_machine.specs.Uniform.{IsUniform, AsksUniformly, AsksForObject, blocks_in, AreDeniedOnlyAt}
 use Rattle.rlsf_machine.specs.WellFormed.{IsWellFormed}
 
 -- there are at most as many free ranges as used blocks and chunks together
@@ -75,6 +75,21 @@ abbrev pub UniformRunsAnswer : Type 0
 UniformRunsAnswer = (len fllen sllen : ℕ) (memory : Range) (s t : State) (c : Range) (es : List Event) → IsWellFormed fllen sllen memory s → IsUniform len c s
     → 0 < len → Reaches sllen (class_of sllen len) len → Runs fllen sllen memory s es t → ((e : Event) → IsIn e es → AsksUniformly len e)
     → AreDeniedOnlyAt (blocks_in len c) (length s.used) es
+
+-- ---- lengths of pools
+
+-- with nothing live, a chunk of the length that is computed for so many payloads up to a layout refuses none of them
+abbrev pub PayloadPoolIsEnough : Type 0
+PayloadPoolIsEnough = (fllen sllen count size align len : ℕ) (memory : Range) (s t : State) (c : Range) (es : List Event) → IsWellFormed fllen sllen memory s
+    → pool_size_for_payloads fllen sllen count size align ≡ Some len → s.used ≡ [] → IsIn c s.chunks → len ≤ c.len
+    → Runs fllen sllen memory s es t → AreWithin count size align 0 es → (e : Event) → IsIn e es → IsDenied e → ⊥
+
+-- with nothing live, a chunk of the length that is computed for so many objects of a size, alone, has room for exactly as
+-- many, where all ask for the size that is computed: and that is as great as theirs, or greater
+abbrev pub ObjectPoolIsExact : Type 0
+ObjectPoolIsExact = (fl_bits sl_bits fllen sllen count size len asked : ℕ) (memory : Range) (s t : State) (c : Range) (es : List Event) → IsValid fl_bits sl_bits fllen sllen
+    → IsWellFormed fllen sllen memory s → pool_size_for_objects fllen sllen count size ≡ Some (len, asked) → s.used ≡ [] → s.chunks ≡ c ∷ [] → c.len ≡ len
+    → Runs fllen sllen memory s es t → ((e : Event) → IsIn e es → AsksForObject asked e) → (size ≤ asked) × AreDeniedOnlyAt count 0 es
 
 -- ---- over a source of memory
 

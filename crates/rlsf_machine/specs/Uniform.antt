@@ -28,6 +28,15 @@ AsksUniformly len (reallocate addr size reply) = ⊥
 AsksUniformly len (fill addr bytes) = Unit {0}
 AsksUniformly len (remove r) = ⊥
 
+-- the call asks for a payload of that size at an alignment of 16 or less, or gives one back, or writes one
+abbrev pub AsksForObject : ℕ → Event → Type 0
+AsksForObject asked (insert r reply) = ⊥
+AsksForObject asked (append r reply) = ⊥
+AsksForObject asked (allocate size align reply) = (size ≡ asked) × (align ≤ 16)
+AsksForObject asked (deallocate addr) = Unit {0}
+AsksForObject asked (reallocate addr size reply) = ⊥
+AsksForObject asked (fill addr bytes) = Unit {0}
+
 -- how many blocks of a length a chunk has room for
 abbrev pub blocks_in : ℕ → Range → ℕ
 blocks_in len c = (c.len - 32) / len

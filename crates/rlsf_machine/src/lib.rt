@@ -10,7 +10,7 @@
 #![tactic(auto)]
 
 ghost use Rattle.rlsf_machine.specs.Laws.{EmptyIsWellFormed, StepsKeepWellFormed, RunsKeepWellFormed, StepsAreDetermined, OrderMeansNothing, RefusalChangesNothing, ChunksAreCutOffTheFront, LiveAddressesAreAligned, LiveAddressHasOneBlock, PayloadsAreDisjoint, PayloadLiesInOneChunk, AllocationHasSize, ReallocationHasSize, RoomIsFound, PoolHasRoom, AllocationAnswers, RefusedWithoutReach, ChoiceIsFirstOfLeast, IdleChunkIsOneRange, ChunksStay, RemovalLeavesOthers, OtherPayloadsStay, HandedOutIsNew, ReallocatedIsLive, LiveStays, ReleasedIsNotLive, FilledHasBytes, FillLeavesOthers, DeallocationLeavesOthers, InsertedChunksLieInRange, UsedWasUsed, SimilarStatesAgree, EachCallAnswers, ReallocationKeepsBytes, PayloadIsInBlock, CallersSeeMap, IdleChunkHasRoom, FillIsSimilar, FlexCallersSeeMap, FlexEmptyIsWellFormed, GrowthKeepsWellFormed, GrowthHasRoom, FlexStepsKeepWellFormed, FlexRunsKeepWellFormed, FlexRunsAreRuns, FlexStepsChangeMap, FlexPayloadsAreApart, FlexAllocationHasSize, FlexReallocationHasSize, FlexReallocationKeepsBytes, FlexOtherPayloadsStay, FlexUsedWasUsed, FlexSimilarStatesAgree, FlexSimilarRunsAgree, FlexEachCallAnswers, UnmovedIsReallocated};
-ghost use Rattle.rlsf_machine.specs.Sizing.{FewFree, BytesAddUp, BudgetIsEnough, ModestRunsAreNotDenied, LiveIsCounted, BoundedRunsAreNotDenied, UniformIsFull, AllocationKeepsUniform, DeallocationKeepsUniform, RunsKeepUniform, UniformRunsAnswer, FlexNeverAsked};
+ghost use Rattle.rlsf_machine.specs.Sizing.{FewFree, BytesAddUp, BudgetIsEnough, ModestRunsAreNotDenied, LiveIsCounted, BoundedRunsAreNotDenied, UniformIsFull, AllocationKeepsUniform, DeallocationKeepsUniform, RunsKeepUniform, UniformRunsAnswer, FlexNeverAsked, PayloadPoolIsEnough, ObjectPoolIsExact};
 
 /// Does nothing. Its contract states the laws of the machine, so that a check proves them.
 ///
@@ -48,7 +48,8 @@ ghost use Rattle.rlsf_machine.specs.Sizing.{FewFree, BytesAddUp, BudgetIsEnough,
 /// sizes, its alignments and how many payloads live, nothing is refused where chunks, or fronts of them, have the budget for
 /// these bounds. Memory that comes meanwhile never hurts. In one chunk, blocks of one length at which a class begins stay in
 /// step: an allocation is refused exactly where as many payloads are live as the chunk has room for. Live payloads are counted.
-/// Within such bounds a source is never asked.
+/// The lengths that are computed for so many payloads and for so many objects are enough, and exact. Within such bounds a source
+/// is never asked.
 pub fn laws()
     ensures empty { EmptyIsWellFormed }
     ensures steps { StepsKeepWellFormed }
@@ -117,5 +118,7 @@ pub fn laws()
     ensures uniform_release { DeallocationKeepsUniform }
     ensures uniform_runs { RunsKeepUniform }
     ensures uniform_answers { UniformRunsAnswer }
+    ensures payload_pool { PayloadPoolIsEnough }
+    ensures object_pool { ObjectPoolIsExact }
     ensures flex_never_asked { FlexNeverAsked }
 {}

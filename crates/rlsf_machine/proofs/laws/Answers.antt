@@ -14,6 +14,7 @@ use Rattle.rlsf_machine.proofs.FlexSteps.{flex_empty_is_well_formed, flex_steps_
 use Rattle.rlsf_machine.proofs.Live.{live_addresses_are_aligned, live_address_has_one_block, payloads_are_disjoint, payload_lies_in_one_chunk, allocation_has_size, reallocation_has_size, reallocation_keeps_bytes, other_payloads_stay, used_was_used, handed_out_is_new, reallocated_is_live, live_stays, released_is_not_live, filled_has_bytes, fill_leaves_others, deallocation_leaves_others}
 use Rattle.rlsf_machine.proofs.NoMove.{unmoved_is_reallocated}
 use Rattle.rlsf_machine.proofs.Orders.{order_means_nothing}
+use Rattle.rlsf_machine.proofs.PoolLengths.{payload_pool_is_enough, object_pool_is_exact}
 use Rattle.rlsf_machine.proofs.Pools.{pool_has_room, idle_chunk_has_room}
 use Rattle.rlsf_machine.proofs.Removals.{removal_leaves_others}
 use Rattle.rlsf_machine.proofs.Replies.{each_call_answers}
@@ -93,5 +94,7 @@ returns c = record {
   uniform_release = deallocation_keeps_uniform;
   uniform_runs = runs_keep_uniform;
   uniform_answers = uniform_runs_answer;
+  payload_pool = payload_pool_is_enough;
+  object_pool = object_pool_is_exact;
   flex_never_asked = flex_never_asked;
 }
