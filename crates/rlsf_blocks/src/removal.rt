@@ -33,6 +33,7 @@ fn remove_chunk<FLBitmap: Bitmap, SLBitmap: Bitmap, const FLLEN: usize, const SL
         → StandsFor FLLEN SLLEN (contents memory.new table.new) (removed c s) × KeepsSpare memory.old s memory.new s × (end_of c ≡ result) }
     ensures place { SamePlace memory.old memory.new }
     ensures touches { memory.new.touches ≤ memory.old.touches + 9 }
+    ensures grow { memory.old.touches ≤ memory.new.touches }
     ensures copied { memory.new.copied ≡ memory.old.copied }
 {
     let free = take_if_free(memory, table, start);
@@ -57,6 +58,7 @@ pub fn remove_chunks<FLBitmap: Bitmap, SLBitmap: Bitmap, const FLLEN: usize, con
     ensures place { SamePlace memory.old memory.new }
     ensures touches { (s : State) → StandsFor FLLEN SLLEN (contents memory.old table.old) s → IsRow s (walked range) → IsIdle s (walked range)
         → memory.new.touches + 9 * length (removed (walked range) s).chunks ≤ memory.old.touches + 9 * length s.chunks }
+    ensures grow { memory.old.touches ≤ memory.new.touches }
     ensures copied { memory.new.copied ≡ memory.old.copied }
 {
     let (mut start, end) = span(range);

@@ -269,6 +269,7 @@ impl<
         ensures source { self.new.source ≡ self.old.source }
         ensures place { SamePlace self.old.memory self.new.memory }
         ensures touches { self.new.memory.touches ≤ self.old.memory.touches + 25 }
+        ensures grow { self.old.memory.touches ≤ self.new.memory.touches }
         ensures copied { self.new.memory.copied ≡ self.old.memory.copied }
     {
         self.tlsf.reallocate_no_move(addr, layout)

@@ -16,7 +16,7 @@ use Rattle.rlsf_machine.specs.Insert.{with_chunk}
 use Rattle.rlsf_machine.specs.Lists.{IsIn}
 use Rattle.rlsf_machine.specs.Reallocate.{Plan, plan, moved, ReallocatesBy}
 use Rattle.rlsf_machine.specs.Release.{Deallocates}
-use Rattle.rlsf_machine.specs.Run.{Event, insert, append, allocate, deallocate, reallocate, fill, remove, IsRemoval, Leads, MayCall, Runs}
+use Rattle.rlsf_machine.specs.Run.{Event, insert, append, allocate, deallocate, reallocate, fill, remove, trim, IsRemoval, Leads, MayCall, Runs}
 use Rattle.rlsf_machine.specs.Sizing.{ModestRunsAreNotDenied, LiveIsCounted, BoundedRunsAreNotDenied}
 use Rattle.rlsf_machine.specs.State.{empty, State, Used, Holds, others, filled_if, filled_at}
 use Rattle.rlsf_machine.specs.WellFormed.{IsWellFormed}
@@ -79,6 +79,7 @@ IsModest-stays live most s (deallocate addr) modest removal = removal
 IsModest-stays live most s (reallocate addr size reply) modest removal = removal
 IsModest-stays live most s (fill addr bytes) modest removal = removal
 IsModest-stays live most s (remove r) modest removal = modest
+IsModest-stays live most s (trim n) modest removal = modest
 
 -- each step that takes no memory away keeps the fronts of chunks
 pub AreFronts-kept : (fllen sllen : ℕ) (s : State) (fronts : List Range) → AreFronts s.chunks fronts → (t : State) (e : Event) → (IsRemoval e → ⊥) → Leads fllen sllen s e t → AreFronts t.chunks fronts
@@ -135,6 +136,7 @@ module _ (most : ℕ) {fllen sllen : ℕ} {memory : Range} {s : State} (w : IsWe
       reallocate_modest step.block step.holds.0 size (modest.1 step.block step.holds) (plan s step.block size) refl reply t step.step
   step_modest live t (fill addr bytes) may modest step = still step.after (filled_modest most s.used addr bytes small)
   step_modest live t (remove r) may modest step = absurd modest
+  step_modest live t (trim n) may modest step = absurd modest
 
   -- and the call is not refused
   step_not_denied : (live : ℕ) (fronts : List Range) (t : State) (e : Event) → AreFronts s.chunks fronts → 0 < length fronts → HasBudget live most sllen fronts → IsModest live most s e → Leads fllen sllen s e t → IsDenied e → ⊥
@@ -152,6 +154,7 @@ module _ (most : ℕ) {fllen sllen : ℕ} {memory : Range} {s : State} (w : IsWe
       none_left None allocated = not_denied live most w fronts are some small budget modest.0 size step.block.align (modest.1 step.block step.holds) t allocated
   step_not_denied live fronts t (fill addr bytes) are some budget modest step denied = absurd denied
   step_not_denied live fronts t (remove r) are some budget modest step denied = absurd denied
+  step_not_denied live fronts t (trim n) are some budget modest step denied = absurd denied
 
 -- ---- runs
 
@@ -197,6 +200,7 @@ live_is_counted fllen sllen memory s t (deallocate addr) w may step = omega (ari
 live_is_counted fllen sllen memory s t (reallocate addr size reply) w may step = length-reallocated w step.block step.holds.0 size (plan s step.block size) reply t step.step
 live_is_counted fllen sllen memory s t (fill addr bytes) w may step = ap (λ x. length x.used) step.after ∙ length-map s.used (filled_if addr bytes)
 live_is_counted fllen sllen memory s t (remove r) w may step = ap (λ (x : State). length x.used) step
+live_is_counted fllen sllen memory s t (trim n) w may step = absurd step
 
 -- ---- alignments
 
@@ -252,6 +256,7 @@ module _ (most : ℕ) where
   step_aligned live size n fllen sllen s t (fill addr bytes) within small step =
       aligned_by step.after (aligned_filled addr bytes s.used small)
   step_aligned live size n fllen sllen s t (remove r) within small step = absurd within
+  step_aligned live size n fllen sllen s t (trim k) within small step = absurd within
 
 -- ---- runs, by their calls alone
 
@@ -267,6 +272,7 @@ modest_by live size align n s (reallocate addr z reply) count small (few, short)
     (omega arith, λ u holds. request_size-mono z u.align size align short (aligned_at align u s.used small holds.0))
 modest_by live size align n s (fill addr bytes) count small within = tt
 modest_by live size align n s (remove r) count small within = absurd within
+modest_by live size align n s (trim k) count small within = absurd within
 
 runs_modestly : (live size align n fllen sllen : ℕ) (memory : Range) (s t : State) (es : List Event) → IsWellFormed fllen sllen memory s → length s.used ≡ n → AreAligned align s.used
     → Runs fllen sllen memory s es t → AreWithin live size align n es → RunsModestly live (request_size size align) fllen sllen memory s es t

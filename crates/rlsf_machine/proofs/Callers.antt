@@ -8,7 +8,7 @@ use Rattle.rlsf_machine.specs.Callers.{Payload, payload_in, payload_at, IsUnchan
 use Rattle.rlsf_machine.specs.Laws.{CallersSeeMap, Gives, PayloadIsInBlock}
 use Rattle.rlsf_machine.specs.Lists.{IsIn}
 use Rattle.rlsf_machine.specs.Reallocate.{Plan, plan, moved, ReallocatesBy}
-use Rattle.rlsf_machine.specs.Run.{Event, insert, append, allocate, deallocate, reallocate, fill, remove, Leads, MayCall, Names}
+use Rattle.rlsf_machine.specs.Run.{Event, insert, append, allocate, deallocate, reallocate, fill, remove, trim, Leads, MayCall, Names}
 use Rattle.rlsf_machine.specs.State.{State, Used, Holds, others, with_bytes}
 use Rattle.rlsf_machine.specs.WellFormed.{IsWellFormed}
 use Rattle.rlsf_machine.proofs.Changes.{Holds-unique, IsIn-others}
@@ -140,3 +140,4 @@ callers_see_map fllen sllen memory s t (fill addr bytes) w may step =
       changed w t (fill addr bytes) may step addr (Some (payload_in v)) (payload_at-held wt addr v (filled_holds step)) (λ a apart names. apart (sym names)) (λ a apart bad. bad),
     )
 callers_see_map fllen sllen memory s t (remove r) w may step = λ a. payload_at-unnamed w t (remove r) may step a (λ bad. bad) (λ bad. bad)
+callers_see_map fllen sllen memory s t (trim count) w may step = absurd step

@@ -11,7 +11,7 @@ use Rattle.rlsf_machine.specs.Laws.{IsKept, ChunksStay, InsertedChunksLieInRange
 use Rattle.rlsf_machine.specs.Lists.{IsIn, without}
 use Rattle.rlsf_machine.specs.Reallocate.{Plan, plan, ReallocatesBy, Reallocates}
 use Rattle.rlsf_machine.specs.Release.{Deallocates}
-use Rattle.rlsf_machine.specs.Run.{insert, append, allocate, deallocate, reallocate, fill, remove, Fills}
+use Rattle.rlsf_machine.specs.Run.{insert, append, allocate, deallocate, reallocate, fill, remove, trim, Fills}
 use Rattle.rlsf_machine.specs.State.{State, Used}
 use Rattle.rlsf_machine.proofs.Coverage.{by_test, find-some}
 use Rattle.rlsf_machine.proofs.Cuts.{IsIn-cut_within}
@@ -77,6 +77,7 @@ chunks_stay fllen sllen s t (deallocate addr) c lasts step i = stays c s t i _ i
 chunks_stay fllen sllen s t (reallocate addr size reply) c lasts step i = reallocate_kept c s t i sllen size step.block (plan s step.block size) reply step.step
 chunks_stay fllen sllen s t (fill addr bytes) c lasts step i = stays c s t i _ i step.after
 chunks_stay fllen sllen s t (remove r) c lasts step i = absurd (lasts tt)
+chunks_stay fllen sllen s t (trim count) c lasts step i = absurd step
 
 -- ---- steps that change no chunk
 

@@ -12,7 +12,7 @@ use Rattle.rlsf_machine.specs.Payload.{payload_of}
 use Rattle.rlsf_machine.specs.Reallocate.{Plan, plan, ReallocatesBy, Reallocates}
 use Rattle.rlsf_machine.specs.Release.{released, Deallocates}
 use Rattle.rlsf_machine.specs.Remove.{removed}
-use Rattle.rlsf_machine.specs.Run.{insert, append, allocate, deallocate, reallocate, fill, remove, Fills}
+use Rattle.rlsf_machine.specs.Run.{insert, append, allocate, deallocate, reallocate, fill, remove, trim, Fills}
 use Rattle.rlsf_machine.specs.State.{State, Used, Shape, shape_of, AreAlike, others}
 use Rattle.rlsf_machine.specs.WellFormed.{IsWellFormed}
 use Rattle.rlsf_machine.proofs.Allocations.{Allocates-keeps}
@@ -98,6 +98,7 @@ steps_are_determined fllen sllen memory s t t' (fill addr bytes) (fill addr' byt
     let b' = subst (λ x. Fills s x bytes t') (sym same) (subst (λ y. Fills s addr' y t') (sym same') b) in
     (ap₂ fill same same', alike (a.after ∙ sym b'.after))
 steps_are_determined fllen sllen memory s t t' (remove r) (remove q) w a b same = (ap remove same, alike (a ∙ ap (λ x. removed x s) same ∙ sym b))
+steps_are_determined fllen sllen memory s t t' (trim m) e' w a b same = absurd a
 steps_are_determined fllen sllen memory s t t' e e' w a b same = absurd same
 
 -- ---- refusals
@@ -119,3 +120,4 @@ refusal_changes_nothing fllen sllen s t (reallocate addr size reply) step is = r
     refused (Some p) a = absurd a
 refusal_changes_nothing fllen sllen s t (fill addr bytes) step is = absurd is
 refusal_changes_nothing fllen sllen s t (remove r) step is = absurd is
+refusal_changes_nothing fllen sllen s t (trim count) step is = absurd step

@@ -6,10 +6,11 @@ use Rattle.rlsf_machine.specs.Allocate.{Allocates}
 use Rattle.rlsf_machine.specs.Budget.{AreAtMost, AreFronts, AreWithin, HasBudget, IsModest, live_after}
 use Rattle.rlsf_machine.specs.FlexAllocate.{FlexAllocates}
 use Rattle.rlsf_machine.specs.FlexReallocate.{FlexReallocates}
-use Rattle.rlsf_machine.specs.FlexRun.{AsksNothing, FlexEvent, FlexLeads, IsFlexRun, events_in, notes_in}
+use Rattle.rlsf_machine.specs.FlexRun.{FlexMayCall, AsksNothing, FlexEvent, FlexLeads, IsFlexRun, events_in, notes_in}
 use Rattle.rlsf_machine.specs.FlexState.{FlexState}
 use Rattle.rlsf_machine.specs.Note.{Note}
-use Rattle.rlsf_machine.specs.Run.{Event, insert, append, allocate, deallocate, reallocate, fill, remove, Leads, Runs}
+use Rattle.rlsf_machine.specs.State.{State}
+use Rattle.rlsf_machine.specs.Run.{Event, insert, append, allocate, deallocate, reallocate, fill, remove, trim, Leads, MayCall, Runs}
 use Rattle.rlsf_machine.specs.Sizing.{FlexNeverAsked}
 use Rattle.rlsf_machine.specs.Terms.{Terms}
 use Rattle.rlsf_machine.specs.WellFormed.{IsWellFormed}
@@ -43,8 +44,20 @@ module _ (live most : ℕ) {fllen sllen : ℕ} {memory : Range} (t : Terms) (s :
   asks_nothing (reallocate addr size reply) notes u modest step = reallocates_in_room addr size reply notes u modest step
   asks_nothing (fill addr bytes) notes u modest step = step
   asks_nothing (remove r) notes u modest step = absurd step
+  asks_nothing (trim n) notes u modest step = absurd modest
 
 -- ---- runs
+
+-- what its caller owes at a call within a budget is what it owes of the machine alone
+may_modest : (live most : ℕ) (memory : Range) (s : State) (e : Event) → IsModest live most s e → FlexMayCall memory s e → MayCall memory s e
+may_modest live most memory s (insert r reply) modest may = may
+may_modest live most memory s (append r reply) modest may = may
+may_modest live most memory s (allocate size align reply) modest may = may
+may_modest live most memory s (deallocate addr) modest may = may
+may_modest live most memory s (reallocate addr size reply) modest may = may
+may_modest live most memory s (fill addr bytes) modest may = may
+may_modest live most memory s (remove r) modest may = may
+may_modest live most memory s (trim n) modest may = absurd modest
 
 never_asked_from : (live size align n fllen sllen : ℕ) (memory : Range) (t : Terms) (s u : FlexState) (fronts : List Range) (cs : List FlexEvent) → IsWellFormed fllen sllen memory s.machine
     → length s.machine.used ≡ n → AreAligned align s.machine.used → AreAtMost (request_size size align) s.machine.used → AreFronts s.machine.chunks fronts → 0 < length fronts
@@ -55,13 +68,14 @@ never_asked_from live size align n fllen sllen memory t s u fronts (c ∷ cs) w 
     let most = request_size size align in
     let e = c.event in
     let modest = modest_by live size align n s.machine e count low asks in
+    let may = may_modest live most memory s.machine e modest step.may in
     let nothing = asks_nothing live most t s w fronts are some small budget e c.notes m modest step.leads in
     let leads : Leads fllen sllen s.machine e m.machine = subst (λ (x : FlexState). Leads fllen sllen s.machine e x.machine) (sym nothing.after) nothing.leads in
-    let later = never_asked_from live size align (live_after e n) fllen sllen memory t m u fronts cs (steps_keep_well_formed fllen sllen memory s.machine m.machine e w step.may leads)
-    (live_is_counted fllen sllen memory s.machine m.machine e w step.may leads ∙ ap (live_after e) count)
-    (step_aligned align live size n fllen sllen s.machine m.machine e asks low leads) (step_modest most w small live m.machine e step.may modest leads)
+    let later = never_asked_from live size align (live_after e n) fllen sllen memory t m u fronts cs (steps_keep_well_formed fllen sllen memory s.machine m.machine e w may leads)
+    (live_is_counted fllen sllen memory s.machine m.machine e w may leads ∙ ap (live_after e) count)
+    (step_aligned align live size n fllen sllen s.machine m.machine e asks low leads) (step_modest most w small live m.machine e may modest leads)
     (AreFronts-kept fllen sllen s.machine fronts are m.machine e (IsModest-stays live most s.machine e modest) leads) some budget rest within in
-    (ap (λ l. l ++ notes_in cs) nothing.none ∙ later.0, (m.machine, step.may, leads, later.1))
+    (ap (λ l. l ++ notes_in cs) nothing.none ∙ later.0, (m.machine, may, leads, later.1))
 
 pub flex_never_asked : FlexNeverAsked
 flex_never_asked live size align fllen sllen memory t s u fronts cs w idle are some budget run within =

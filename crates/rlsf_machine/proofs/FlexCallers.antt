@@ -11,7 +11,7 @@ use Rattle.rlsf_machine.specs.Laws.{FlexCallersSeeMap}
 use Rattle.rlsf_machine.specs.Lists.{IsIn}
 use Rattle.rlsf_machine.specs.Payload.{payload_of}
 use Rattle.rlsf_machine.specs.Reallocate.{Keeps, MovesAway, Reallocates}
-use Rattle.rlsf_machine.specs.Run.{insert, append, allocate, deallocate, reallocate, fill, remove, Leads}
+use Rattle.rlsf_machine.specs.Run.{insert, append, allocate, deallocate, reallocate, fill, remove, trim, Leads}
 use Rattle.rlsf_machine.specs.State.{State, Used, Holds, others}
 use Rattle.rlsf_machine.specs.WellFormed.{coverage, IsWellFormed}
 use Rattle.rlsf_machine.proofs.Callers.{callers_see_map, payload_at-held, payload_at-none}
@@ -19,6 +19,7 @@ use Rattle.rlsf_machine.proofs.Changes.{Holds-unique, IsIn-others, IsIn-others_f
 use Rattle.rlsf_machine.proofs.Coverage.{by_test, covers-inside, coverage-IsIn}
 use Rattle.rlsf_machine.proofs.Growths.{used-taken}
 use Rattle.rlsf_machine.proofs.Payloads.{IsUsed-after_start, payload_of-after, block_length-le, block_length-lt}
+use Rattle.rlsf_machine.proofs.Trims.{used-trimmed}
 use Rattle.rlsf_machine.proofs.Tiling.{block_of, tiling_of, used-le}
 
 -- behind the first used block of a well-formed state none has its address
@@ -137,6 +138,7 @@ pub flex_callers_see_map : FlexCallersSeeMap
 flex_callers_see_map fllen sllen terms before after s u (insert r reply) notes w w' may step = absurd step
 flex_callers_see_map fllen sllen terms before after s u (append r reply) notes w w' may step = absurd step
 flex_callers_see_map fllen sllen terms before after s u (remove r) notes w w' may step = absurd step
+flex_callers_see_map fllen sllen terms before after s u (trim count) notes w w' may step = payload_at-same s.machine u.machine (used-trimmed terms s u count notes step)
 flex_callers_see_map fllen sllen terms before after s u (allocate size align None) notes w w' may step = λ a. ap (λ (x : FlexState). payload_at x.machine a) step.extends.after
 flex_callers_see_map fllen sllen terms before after s u (allocate size align (Some addr)) notes w w' may (inl room) =
     placed_changes w' s.machine size align addr (subst (λ (x : FlexState). Places sllen s.machine size align addr x.machine) (sym room.after) room.allocates)

@@ -211,7 +211,7 @@ IsAnswer-from t owed (grow r n (Some len)) e = IsGrown-from t (drop 1 owed) r n 
 IsAnswer-from t owed (dealloc r) e = tt
 
 -- what are_answers tests
-AreAnswers-from : (t : Terms) (owed : List Range) (notes : List Note) → are_answers t owed notes ≡ true → AreAnswers t owed notes
+pub AreAnswers-from : (t : Terms) (owed : List Range) (notes : List Note) → are_answers t owed notes ≡ true → AreAnswers t owed notes
 AreAnswers-from t owed [] e = tt
 AreAnswers-from t owed (n ∷ ns) e =
     let (first, others) = and_parts (is_answer t owed n) (are_answers t owed ns) e in
@@ -266,7 +266,7 @@ module _ (fllen sllen : ℕ) (t : Terms) (s : FlexState) where
         allocates_in_more (given r) (notes_of (asked fllen sllen t s size align) (given r)) (with_outcome fllen t s (given r)) refl asks p e served
 
     -- an allocation, in room or not
-    FlexAllocates-so : (outcome : Outcome) (o p : Option Range) → room sllen s size align ≡ o → room sllen (meanwhile fllen t s outcome o) size align ≡ p
+    pub FlexAllocates-so : (outcome : Outcome) (o p : Option Range) → room sllen s size align ≡ o → room sllen (meanwhile fllen t s outcome o) size align ≡ p
         → may_come fllen (asked fllen sllen t s size align) s outcome o p ≡ true
         → FlexAllocates fllen sllen t s size align (address align p) (notes_for (asked fllen sllen t s size align) outcome o) (placed_in sllen (meanwhile fllen t s outcome o) size align p)
     FlexAllocates-so outcome (Some f) None some e may = absurd (is_some_of (room sllen s size align) f some e)

@@ -7,13 +7,14 @@ use Rattle.rlsf_machine.specs.FlexState.{FlexState}
 use Rattle.rlsf_machine.specs.Laws.{FlexStepsChangeMap, FlexPayloadsAreApart, FlexAllocationHasSize, FlexReallocationHasSize, FlexReallocationKeepsBytes, FlexOtherPayloadsStay, FlexUsedWasUsed, HasSize}
 use Rattle.rlsf_machine.specs.Lists.{IsIn}
 use Rattle.rlsf_machine.specs.Reallocate.{Keeps}
-use Rattle.rlsf_machine.specs.Run.{insert, append, allocate, deallocate, reallocate, fill, remove}
+use Rattle.rlsf_machine.specs.Run.{insert, append, allocate, deallocate, reallocate, fill, remove, trim}
 use Rattle.rlsf_machine.specs.State.{State, usable}
 use Rattle.rlsf_machine.specs.WellFormed.{IsWellFormed}
 use Rattle.rlsf_machine.proofs.Callers.{payload_at-has, payload_at-held}
 use Rattle.rlsf_machine.proofs.FlexCallers.{flex_callers_see_map}
 use Rattle.rlsf_machine.proofs.FlexSteps.{flex_steps_keep_well_formed, flex_runs_keep_well_formed}
 use Rattle.rlsf_machine.proofs.Growths.{Holds-same, used-taken}
+use Rattle.rlsf_machine.proofs.Trims.{used-trimmed}
 use Rattle.rlsf_machine.proofs.Live.{live_addresses_are_aligned, live_address_has_one_block, payloads_are_disjoint, payload_lies_in_one_chunk, other_payloads_stay, reallocate_from, reallocate_stays, used_was_used}
 
 pub flex_steps_change_map : FlexStepsChangeMap
@@ -68,6 +69,7 @@ pub flex_other_payloads_stay : FlexOtherPayloadsStay
 flex_other_payloads_stay fllen sllen t s u (insert r reply) notes x step i apart = absurd step
 flex_other_payloads_stay fllen sllen t s u (append r reply) notes x step i apart = absurd step
 flex_other_payloads_stay fllen sllen t s u (remove r) notes x step i apart = absurd step
+flex_other_payloads_stay fllen sllen t s u (trim count) notes x step i apart = subst (IsIn x) (sym (used-trimmed t s u count notes step)) i
 flex_other_payloads_stay fllen sllen t s u (allocate size align None) notes x step i apart = subst (λ (y : FlexState). IsIn x y.machine.used) (sym step.extends.after) i
 flex_other_payloads_stay fllen sllen t s u (allocate size align (Some addr)) notes x (inl room) i apart =
     subst (λ (y : FlexState). IsIn x y.machine.used) (sym room.after) (other_payloads_stay fllen sllen s.machine room.machine (allocate size align (Some addr)) x room.allocates i apart)
@@ -93,6 +95,7 @@ pub flex_used_was_used : FlexUsedWasUsed
 flex_used_was_used fllen sllen t s u (insert r reply) notes x step i other new = absurd step
 flex_used_was_used fllen sllen t s u (append r reply) notes x step i other new = absurd step
 flex_used_was_used fllen sllen t s u (remove r) notes x step i other new = absurd step
+flex_used_was_used fllen sllen t s u (trim count) notes x step i other new = subst (IsIn x) (used-trimmed t s u count notes step) i
 flex_used_was_used fllen sllen t s u (allocate size align None) notes x step i other new = subst (λ (y : FlexState). IsIn x y.machine.used) step.extends.after i
 flex_used_was_used fllen sllen t s u (allocate size align (Some addr)) notes x (inl room) i other new =
     used_was_used fllen sllen s.machine room.machine (allocate size align (Some addr)) x room.allocates (subst (λ (y : FlexState). IsIn x y.machine.used) room.after i) other new

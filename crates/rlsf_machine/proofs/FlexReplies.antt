@@ -1,12 +1,12 @@
 -- Each call over a source that its caller may make has a reply and a state after.
-use Rattle.std.proofs.Common.{◌≡◌, ◌≢◌, ℕ, ◌+◌, true, true≢false, List, [], ◌∷◌, Option, Some, None, refl, sym, ◌∙◌, ap, subst, inl, inr}
+use Rattle.std.proofs.Common.{◌≡◌, ◌≢◌, ℕ, ◌+◌, true, true≢false, map, List, [], ◌∷◌, Option, Some, None, refl, sym, ◌∙◌, ap, subst, inl, inr}
 use Rattle.std.specs.Bool.{then_some}
 use Rattle.rlsf_base.specs.declared.memory.range.Range.{Range}
 use Rattle.rlsf_base.specs.PowerOfTwo.{IsPowerOfTwo}
 use Rattle.rlsf_base.specs.SizeClass.{IsValid}
 use Rattle.rlsf_base.specs.Sizes.{max_pool_size, pool_size_to_contain_allocation}
 use Rattle.rlsf_machine.specs.Allocate.{Allocates}
-use Rattle.rlsf_machine.specs.Answers.{MayAnswerAll}
+use Rattle.rlsf_machine.specs.Answers.{MayAnswer, MayAnswerAll}
 use Rattle.rlsf_machine.specs.FlexAllocate.{Asks}
 use Rattle.rlsf_machine.specs.FlexRun.{IsFlexStep}
 use Rattle.rlsf_machine.specs.FlexState.{FlexState, KeptPool, with_machine}
@@ -15,12 +15,13 @@ use Rattle.rlsf_machine.specs.Growth.{IsPossible, Outcome, Questions, TakesIn, b
 use Rattle.rlsf_machine.specs.Insert.{Inserts, aligned_part, appended, appended_bytes, bytes_taken, cut, with_chunks}
 use Rattle.rlsf_machine.specs.Lists.{IsIn}
 use Rattle.rlsf_machine.specs.Laws.{FlexEachCallAnswers, IsAnswered, MayRespond}
-use Rattle.rlsf_machine.specs.Note.{Note}
+use Rattle.rlsf_machine.specs.Note.{Note, dealloc}
 use Rattle.rlsf_machine.specs.Reallocate.{Plan, ReallocatesBy, plan}
 use Rattle.rlsf_machine.specs.Release.{released}
-use Rattle.rlsf_machine.specs.Run.{Event, insert, append, allocate, deallocate, reallocate, fill, remove, IsSameCall}
+use Rattle.rlsf_machine.specs.Run.{Event, insert, append, allocate, deallocate, reallocate, fill, remove, trim, IsSameCall}
 use Rattle.rlsf_machine.specs.State.{State, Used, Holds, filled}
 use Rattle.rlsf_machine.specs.Terms.{Terms, with_len}
+use Rattle.rlsf_machine.proofs.Coverage.{IsIn-map_from}
 use Rattle.rlsf_machine.proofs.Examples.{planned_after, planned_reply, planned_step}
 use Rattle.rlsf_machine.proofs.FlexGrowths.{growth_has_room}
 use Rattle.rlsf_machine.proofs.FlexSteps.{asked_keeps}
@@ -29,6 +30,7 @@ use Rattle.rlsf_machine.proofs.Growths.{used-taken}
 use Rattle.rlsf_machine.proofs.Live.{new_address}
 use Rattle.rlsf_machine.proofs.RangeLengths.{HasAlignedPart-given, range_asked}
 use Rattle.rlsf_machine.proofs.Room.{allocation_answers}
+use Rattle.rlsf_machine.proofs.Trims.{trim_answers}
 use Rattle.rlsf_machine.proofs.TakenPools.{inserted_pool, pool_size_is}
 
 module _ {fl_bits sl_bits fllen sllen : ℕ} {memory : Range} {t : Terms} {s : FlexState} (valid : IsValid fl_bits sl_bits fllen sllen) (w : IsFlexWellFormed fllen sllen memory t s) where
@@ -159,7 +161,7 @@ module _ {fl_bits sl_bits fllen sllen : ℕ} {memory : Range} {t : Terms} {s : F
       go (None, x, step) =
           let (q, m, asks, answers) = asked_exists valid w size align respond may (step.0, refl) in
           let (e', u, same, is) = allocated_asked valid w (notes_of q (respond q)) answers size align reply (respond q) m power asks in
-          (e', notes_of q (respond q), u, same, inr (q, refl), is)
+          (e', notes_of q (respond q), u, same, inr (inl (q, refl)), is)
 
   reallocate_answers : (addr size : ℕ) (reply : Option ℕ) (v : Used) → Holds s.machine addr v → Answers fllen sllen memory t s respond (reallocate addr size reply)
   reallocate_answers addr size reply v holds = go (plan s.machine v size) refl (planned_reply sllen s.machine v size (plan s.machine v size)) (planned_after sllen s.machine v size (plan s.machine v size))
@@ -182,12 +184,19 @@ module _ {fl_bits sl_bits fllen sllen : ℕ} {memory : Range} {t : Terms} {s : F
       go None is None x step =
           let (q, m, asks, answers) = asked_exists valid w size v.align respond may (step.0, refl) in
           let (e', u, same, does) = moved_asked valid w (notes_of q (respond q)) answers addr size reply v holds is (respond q) m asks in
-          (e', notes_of q (respond q), u, same, inr (q, refl), does)
+          (e', notes_of q (respond q), u, same, inr (inl (q, refl)), does)
+
+-- a source may answer what gives ranges back
+answers_back : (t : Terms) (owed : List Range) (gone : List Range) (m : Note) → IsIn m (map dealloc gone) → MayAnswer t owed m
+answers_back t owed gone m i = let (r, j, is) = IsIn-map_from dealloc m gone i in subst (MayAnswer t owed) (sym is) tt
 
 pub flex_each_call_answers : FlexEachCallAnswers
 flex_each_call_answers fl_bits sl_bits fllen sllen memory t s (insert r reply) respond valid w may whole calls lasts responds = absurd (calls tt)
 flex_each_call_answers fl_bits sl_bits fllen sllen memory t s (append r reply) respond valid w may whole calls lasts responds = absurd (calls tt)
 flex_each_call_answers fl_bits sl_bits fllen sllen memory t s (remove r) respond valid w may whole calls lasts responds = absurd (lasts tt)
+flex_each_call_answers fl_bits sl_bits fllen sllen memory t s (trim count) respond valid w may whole calls lasts responds =
+    let (n, gone, u, step) = trim_answers w in
+    (trim n, map dealloc gone, u, tt, inr (inr (gone, refl)), record { may = tt; answers = λ m i. answers_back t s.pools gone m i; leads = step })
 flex_each_call_answers fl_bits sl_bits fllen sllen memory t s (allocate size align reply) respond valid w may whole calls lasts responds = allocate_answers respond valid w responds size align reply may
 flex_each_call_answers fl_bits sl_bits fllen sllen memory t s (deallocate addr) respond valid w (v, holds) whole calls lasts responds =
     let m = released s.machine v in (

@@ -16,7 +16,7 @@ abbrev allocation : ℕ → ℕ → Option ℕ → List Note → Allocation
 allocation size align reply notes = record { size = size; align = align; reply = reply; notes = notes }
 
 -- an allocation of so many bytes at any address, for which so much comes if there is no room
-abbrev attempt : ℕ → Outcome → Attempt
+abbrev pub attempt : ℕ → Outcome → Attempt
 attempt size outcome = record { size = size; align = 1; outcome = outcome }
 
 -- these allocations with these replies, questions and answers lead from the empty machine to these used blocks, the newest first,
@@ -37,7 +37,7 @@ gives_over fllen sllen t attempts may =
     record { after = all_after fllen sllen t empty attempts; run = RunsOver-all fllen sllen t empty attempts may; used_is = refl; free_is = refl; pools_are = refl; end_is = refl }
 
 -- a source of one range that grows, at an odd start
-abbrev one_growing_range : Terms
+abbrev pub one_growing_range : Terms
 one_growing_range = record { space = range_at 4097 4096; dealloc = false; grow = true; contiguous = true; min_align = 1 }
 
 -- what is asked leaves room for the start to be rounded; the bytes of a growth become a chunk of their own
@@ -59,7 +59,7 @@ growth_joins_the_chunk : GivesOver 59 8 one_growing_range
 growth_joins_the_chunk = gives_over 59 8 one_growing_range (attempt 1 (given (range_at 4097 96)) ∷ attempt 1 (grown 159) ∷ []) refl
 
 -- a source that takes its ranges back and gives multiples of 1024 bytes at such addresses
-abbrev pages : Terms
+abbrev pub pages : Terms
 pages = record { space = range_at 4096 4096; dealloc = true; grow = false; contiguous = false; min_align = 1024 }
 
 -- it isn't asked for growth, and the ranges go back, the newest first
@@ -72,7 +72,7 @@ ranges_go_back : GivesOver 8 8 pages
 ranges_go_back = gives_over 8 8 pages (attempt 1 (given (range_at 4096 1024)) ∷ attempt 2000 (given (range_at 5120 3072)) ∷ []) refl
 
 -- a source that grows its ranges and takes them back
-abbrev growing_and_taking_back : Terms
+abbrev pub growing_and_taking_back : Terms
 growing_and_taking_back = record { space = range_at 4097 4096; dealloc = true; grow = true; contiguous = false; min_align = 1 }
 
 -- a range goes back once, as long as it grew

@@ -1,5 +1,5 @@
 -- A run over a source is one of the machine alone.
-use Rattle.std.proofs.Common.{◌≡◌, ℕ, true, List, [], ◌∷◌, ◌++◌, Option, Some, None, refl, sym, ap, subst, inl, inr}
+use Rattle.std.proofs.Common.{◌≡◌, ℕ, true, map, List, [], ◌∷◌, ◌++◌, Option, Some, None, refl, sym, ◌∙◌, ap, subst, inl, inr}
 use Rattle.rlsf_base.specs.declared.memory.range.Range.{Range}
 use Rattle.rlsf_base.specs.PowerOfTwo.{IsPowerOfTwo}
 use Rattle.rlsf_base.specs.SizeClass.{IsValid}
@@ -13,10 +13,12 @@ use Rattle.rlsf_machine.specs.Growth.{Outcome, is_more}
 use Rattle.rlsf_machine.specs.Laws.{FlexRunsAreRuns}
 use Rattle.rlsf_machine.specs.Note.{Note}
 use Rattle.rlsf_machine.specs.Release.{Deallocates}
-use Rattle.rlsf_machine.specs.Run.{Event, insert, append, allocate, deallocate, reallocate, fill, remove, IsRefused, Leads, MayCall, Runs}
+use Rattle.rlsf_machine.specs.Run.{Event, insert, append, allocate, deallocate, reallocate, fill, remove, trim, Leads, MayCall, Runs}
 use Rattle.rlsf_machine.specs.State.{State}
 use Rattle.rlsf_machine.specs.Terms.{Terms}
+use Rattle.rlsf_machine.specs.Trim.{Trims}
 use Rattle.rlsf_machine.proofs.FlexGrowths.{taken_handed_in}
+use Rattle.rlsf_machine.proofs.Trims.{AreRemovals, IsOver, IsOver-flex, Runs-all_removed}
 use Rattle.rlsf_machine.proofs.FlexSteps.{flex_steps_keep_well_formed}
 
 -- where a run leads, another goes on
@@ -33,11 +35,11 @@ module _ {fllen sllen : ℕ} {memory : Range} where
   done_at s e m u after = subst (λ (x : FlexState). IsDone fllen sllen memory s e x.machine) (sym after)
 
   -- the call itself is made
-  done_itself : (s : State) (e : Event) (m : State) → MayCall memory s e → Leads fllen sllen s e m → IsDone fllen sllen memory s e m
-  done_itself s e m may step = (e ∷ [], refl, (m, may, step, refl))
+  done_itself : (s : State) (e : Event) (m : State) → ComesTo e (e ∷ []) → MayCall memory s e → Leads fllen sllen s e m → IsDone fllen sllen memory s e m
+  done_itself s e m comes may step = (e ∷ [], comes, (m, may, step, refl))
 
   -- no call is made for one that is refused
-  done_refused : (s m : State) (e : Event) → IsRefused e → m ≡ s → IsDone fllen sllen memory s e m
+  done_refused : (s m : State) (e : Event) → ComesTo e [] → m ≡ s → IsDone fllen sllen memory s e m
   done_refused s m e refuses same = ([], refuses, same)
 
 module _ {fl_bits sl_bits fllen sllen : ℕ} {memory : Range} {t : Terms} {s : FlexState} (valid : IsValid fl_bits sl_bits fllen sllen) (w : IsFlexWellFormed fllen sllen memory t s) (u : FlexState) (notes : List Note) (answers : MayAnswerAll t s.pools notes) where
@@ -50,7 +52,7 @@ module _ {fl_bits sl_bits fllen sllen : ℕ} {memory : Range} {t : Terms} {s : F
   allocated_done : (size align : ℕ) (reply : Option ℕ) → IsPowerOfTwo align → FlexAllocates fllen sllen t s size align reply notes u → IsDone fllen sllen memory s.machine (allocate size align reply) u.machine
   allocated_done size align None power asks = done_refused s.machine u.machine (allocate size align None) refl (ap (λ (x : FlexState). x.machine) asks.extends.after)
   allocated_done size align (Some addr) power (inl room) =
-      done_at s.machine (allocate size align (Some addr)) (with_machine s room.machine) u room.after (done_itself s.machine (allocate size align (Some addr)) room.machine power room.allocates)
+      done_at s.machine (allocate size align (Some addr)) (with_machine s room.machine) u room.after (done_itself s.machine (allocate size align (Some addr)) room.machine refl power room.allocates)
   allocated_done size align (Some addr) power (inr more) =
       let m = more.meanwhile in
       let e = allocate size align (Some addr) in
@@ -61,7 +63,7 @@ module _ {fl_bits sl_bits fllen sllen : ℕ} {memory : Range} {t : Terms} {s : F
   reallocated_done addr size None refuses = done_refused s.machine u.machine (reallocate addr size None) refl (ap (λ (x : FlexState). x.machine) refuses.asks.extends.after)
   reallocated_done addr size (Some to) (inl room) =
       let step = room.reallocates in
-      done_at s.machine (reallocate addr size (Some to)) (with_machine s room.machine) u room.after (done_itself s.machine (reallocate addr size (Some to)) room.machine (step.block, step.holds) step)
+      done_at s.machine (reallocate addr size (Some to)) (with_machine s room.machine) u room.after (done_itself s.machine (reallocate addr size (Some to)) room.machine refl (step.block, step.holds) step)
   reallocated_done addr size (Some to) (inr more) =
       let m = more.meanwhile in
       let v = more.block in
@@ -73,18 +75,31 @@ module _ {fl_bits sl_bits fllen sllen : ℕ} {memory : Range} {t : Terms} {s : F
         (m.machine, may, step, (more.moves.meanwhile, (w.machine.used v more.stuck.holds.0).power, more.moves.allocated, (more.machine, (gone.block, gone.holds), gone, refl))),
       )
 
+-- a trim is done by removals
+trimmed_done : {fllen sllen : ℕ} {memory : Range} {t : Terms} {s : FlexState} (w : IsFlexWellFormed fllen sllen memory t s) (u : FlexState) (notes : List Note) (count : ℕ) → Trims t s count notes u
+    → IsDone fllen sllen memory s.machine (trim count) u.machine
+trimmed_done w u notes count (inr (_, none, _, same)) = ([], (sym none, λ e i. absurd i), ap (λ (x : FlexState). x.machine) same)
+trimmed_done {fllen} {sllen} {memory} {t} {s} w u notes count (inl (takes, g)) =
+    let (long, all) = AreRemovals g.gone in (
+      map remove g.gone,
+      (long ∙ sym g.counted, all),
+      subst (Runs fllen sllen memory s.machine (map remove g.gone)) (sym g.machine)
+          (Runs-all_removed g.gone g.left s.machine (subst (IsOver fllen sllen memory t.space s.machine) g.split (IsOver-flex w)) g.idle),
+    )
+
 -- a step over a source is a run of the calls that it comes to
 step_done : (fl_bits sl_bits fllen sllen : ℕ) (memory : Range) (t : Terms) (s u : FlexState) (e : Event) (notes : List Note) → IsValid fl_bits sl_bits fllen sllen → IsFlexWellFormed fllen sllen memory t s
     → IsFlexStep fllen sllen memory t s e notes u → IsDone fllen sllen memory s.machine e u.machine
 step_done fl_bits sl_bits fllen sllen memory t s u (insert r reply) notes valid w step = absurd step.leads
 step_done fl_bits sl_bits fllen sllen memory t s u (append r reply) notes valid w step = absurd step.leads
 step_done fl_bits sl_bits fllen sllen memory t s u (remove r) notes valid w step = absurd step.leads
+step_done fl_bits sl_bits fllen sllen memory t s u (trim count) notes valid w step = trimmed_done w u notes count step.leads
 step_done fl_bits sl_bits fllen sllen memory t s u (allocate size align reply) notes valid w step = allocated_done valid w u notes step.answers size align reply step.may step.leads
 step_done fl_bits sl_bits fllen sllen memory t s u (deallocate addr) notes valid w step =
-    let d = step.leads in done_at s.machine (deallocate addr) (with_machine s d.machine) u d.after (done_itself s.machine (deallocate addr) d.machine step.may d.leads)
+    let d = step.leads in done_at s.machine (deallocate addr) (with_machine s d.machine) u d.after (done_itself s.machine (deallocate addr) d.machine refl step.may d.leads)
 step_done fl_bits sl_bits fllen sllen memory t s u (reallocate addr size reply) notes valid w step = reallocated_done valid w u notes step.answers addr size reply step.leads
 step_done fl_bits sl_bits fllen sllen memory t s u (fill addr bytes) notes valid w step =
-    let d = step.leads in done_at s.machine (fill addr bytes) (with_machine s d.machine) u d.after (done_itself s.machine (fill addr bytes) d.machine step.may d.leads)
+    let d = step.leads in done_at s.machine (fill addr bytes) (with_machine s d.machine) u d.after (done_itself s.machine (fill addr bytes) d.machine refl step.may d.leads)
 
 pub flex_runs_are_runs : FlexRunsAreRuns
 flex_runs_are_runs fl_bits sl_bits fllen sllen memory t s u [] valid w run = ([], refl, ap (λ (x : FlexState). x.machine) run)

@@ -18,12 +18,13 @@ use Rattle.rlsf_machine.specs.Laws.{FlexSimilarRunsAgree, FlexSimilarStatesAgree
 use Rattle.rlsf_machine.specs.Lists.{IsIn}
 use Rattle.rlsf_machine.specs.Note.{AnswersAgree, Note}
 use Rattle.rlsf_machine.specs.Reallocate.{Reallocates, ReallocatesBy}
-use Rattle.rlsf_machine.specs.Run.{insert, append, allocate, deallocate, reallocate, fill, remove}
+use Rattle.rlsf_machine.specs.Run.{insert, append, allocate, deallocate, reallocate, fill, remove, trim}
 use Rattle.rlsf_machine.specs.State.{AreSimilar, State, Used, shape_of}
 use Rattle.rlsf_machine.specs.Terms.{Terms, with_len}
 use Rattle.rlsf_machine.proofs.FlexSteps.{asked_keeps, flex_steps_keep_well_formed}
 use Rattle.rlsf_machine.proofs.Notes.{AnswersAgree-behind, AnswersAgree-front}
 use Rattle.rlsf_machine.proofs.Growths.{used-taken}
+use Rattle.rlsf_machine.proofs.TrimmedSimilar.{trims-similar}
 use Rattle.rlsf_machine.proofs.Similar.{allocate-similar, reallocate-similar, shape-held, similar_states_agree}
 
 -- the same questions come to the same, where the answers are the same
@@ -191,6 +192,9 @@ flex_similar_states_agree fl_bits sl_bits fllen sllen memory t s s' u u' (fill a
 flex_similar_states_agree fl_bits sl_bits fllen sllen memory t s s' u u' (insert q m) e' notes notes' valid w w' r answers a b same agree = absurd a
 flex_similar_states_agree fl_bits sl_bits fllen sllen memory t s s' u u' (append q m) e' notes notes' valid w w' r answers a b same agree = absurd a
 flex_similar_states_agree fl_bits sl_bits fllen sllen memory t s s' u u' (remove q) e' notes notes' valid w w' r answers a b same agree = absurd a
+flex_similar_states_agree fl_bits sl_bits fllen sllen memory t s s' u u' (trim m) (trim n) notes notes' valid w w' r answers a b same agree =
+    let d = trims-similar t s s' u u' m n notes notes' r a b in
+    (ap trim d.0, d.1, d.2)
 flex_similar_states_agree fl_bits sl_bits fllen sllen memory t s s' u u' e e' notes notes' valid w w' r answers a b same agree = absurd same
 
 pub flex_similar_runs_agree : FlexSimilarRunsAgree

@@ -13,7 +13,7 @@ use Rattle.rlsf_machine.specs.Growth.{Outcome, refused}
 use Rattle.rlsf_machine.specs.Laws.{FlexEmptyIsWellFormed, FlexStepsKeepWellFormed, FlexRunsKeepWellFormed}
 use Rattle.rlsf_machine.specs.Note.{Note}
 use Rattle.rlsf_machine.specs.Reallocate.{MovesAway}
-use Rattle.rlsf_machine.specs.Run.{insert, append, allocate, deallocate, reallocate, fill, remove}
+use Rattle.rlsf_machine.specs.Run.{insert, append, allocate, deallocate, reallocate, fill, remove, trim}
 use Rattle.rlsf_machine.specs.State.{State, Used}
 use Rattle.rlsf_machine.specs.Terms.{Terms}
 use Rattle.rlsf_machine.specs.WellFormed.{IsWellFormed}
@@ -23,6 +23,7 @@ use Rattle.rlsf_machine.proofs.FlexGrowths.{growth_keeps_well_formed}
 use Rattle.rlsf_machine.proofs.RangePools.{IsPool-same}
 use Rattle.rlsf_machine.proofs.Reallocations.{Reallocates-keeps}
 use Rattle.rlsf_machine.proofs.Releases.{Deallocates-keeps}
+use Rattle.rlsf_machine.proofs.Trims.{Trims-keeps}
 use Rattle.rlsf_machine.proofs.Steps.{Fills-keeps, empty_is_well_formed}
 
 pub flex_empty_is_well_formed : FlexEmptyIsWellFormed
@@ -83,6 +84,7 @@ flex_steps_keep_well_formed fl_bits sl_bits fllen sllen memory t s u (deallocate
     let d = step.leads in with_machine_keeps w d.machine u (Deallocates-keeps w.machine addr d.machine d.leads) (chunks-deallocated s.machine d.machine addr d.leads) d.after
 flex_steps_keep_well_formed fl_bits sl_bits fllen sllen memory t s u (reallocate addr size reply) notes valid w step = flex_reallocated_keeps valid w u notes step.answers addr size reply step.leads
 flex_steps_keep_well_formed fl_bits sl_bits fllen sllen memory t s u (remove r) notes valid w step = absurd step.leads
+flex_steps_keep_well_formed fl_bits sl_bits fllen sllen memory t s u (trim count) notes valid w step = Trims-keeps w count notes u step.leads
 flex_steps_keep_well_formed fl_bits sl_bits fllen sllen memory t s u (fill addr bytes) notes valid w step =
     let d = step.leads in with_machine_keeps w d.machine u (Fills-keeps w.machine addr bytes d.machine d.leads) (chunks-filled s.machine d.machine addr bytes d.leads) d.after
 

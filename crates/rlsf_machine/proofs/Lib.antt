@@ -35,6 +35,7 @@ pub mod Live
 pub mod NoMove
 pub mod Notes
 pub mod Orders
+pub mod Owed
 pub mod Payloads
 pub mod Parts
 pub mod Plans
@@ -54,4 +55,8 @@ pub mod Sums
 pub mod TakenPools
 pub mod Tiling
 pub mod Uniform
+pub mod TrimExamples
+pub mod TrimmedSimilar
+pub mod TrimRows
+pub mod Trims
 pub mod Untouched

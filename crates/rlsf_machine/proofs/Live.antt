@@ -9,7 +9,7 @@ use Rattle.rlsf_machine.specs.Allocate.{placed, given, Places, Allocates}
 use Rattle.rlsf_machine.specs.Laws.{LiveAddressesAreAligned, LiveAddressHasOneBlock, PayloadsAreDisjoint, PayloadLiesInOneChunk, HasSize, AllocationHasSize, ReallocationHasSize, ReallocationKeepsBytes, OtherPayloadsStay, UsedWasUsed, HandedOutIsNew, ReallocatedIsLive, LiveStays, ReleasedIsNotLive, FilledHasBytes, FillLeavesOthers, DeallocationLeavesOthers}
 use Rattle.rlsf_machine.specs.Lists.{IsIn}
 use Rattle.rlsf_machine.specs.Reallocate.{Keeps, Plan, plan, moved, ReallocatesBy, Reallocates}
-use Rattle.rlsf_machine.specs.Run.{insert, append, allocate, deallocate, reallocate, fill, remove, Fills, Names}
+use Rattle.rlsf_machine.specs.Run.{insert, append, allocate, deallocate, reallocate, fill, remove, trim, Fills, Names}
 use Rattle.rlsf_machine.specs.State.{State, Used, Holds, IsLive, usable, others, filled, with_bytes}
 use Rattle.rlsf_machine.specs.WellFormed.{covers, coverage, itself, IsUsed, IsWellFormed}
 use Rattle.rlsf_machine.proofs.Allocations.{placed-fits, IsUsed-placed}
@@ -275,6 +275,7 @@ other_payloads_stay fllen sllen s t (deallocate addr) u step i apart = stays_at 
 other_payloads_stay fllen sllen s t (reallocate addr size reply) u step i apart = reallocate_stays u s t i sllen addr size step.block step.holds apart (plan s step.block size) reply step.step
 other_payloads_stay fllen sllen s t (fill addr bytes) u step i apart = stays_at u s t i step.after (IsIn-filled_other addr bytes u s.used i (λ at. apart (sym at)))
 other_payloads_stay fllen sllen s t (remove r) u step i apart = stays_at u s t i step i
+other_payloads_stay fllen sllen s t (trim count) u step i apart = absurd step
 
 pub live_stays : LiveStays
 live_stays fllen sllen s t e addr align step (u, (i, at), is) apart = (u, (other_payloads_stay fllen sllen s t e u step i (λ names. apart (subst (Names e) at names)), at), is)
@@ -315,6 +316,7 @@ used_was_used fllen sllen s t (reallocate addr size reply) u step i other new = 
 used_was_used fllen sllen s t (fill addr bytes) u step i other new =
     IsIn-filled_other_from addr bytes u s.used (subst (λ x. IsIn u x.used) step.after i) (λ at. other (sym at))
 used_was_used fllen sllen s t (remove r) u step i other new = subst (λ x. IsIn u x.used) step i
+used_was_used fllen sllen s t (trim count) u step i other new = absurd step
 
 -- ---- what a fill and a deallocation leave
 

@@ -12,7 +12,7 @@ use Rattle.rlsf_machine.specs.Lists.{IsIn, without}
 use Rattle.rlsf_machine.specs.Reallocate.{Plan, plan, moved, replanned, ReallocatesBy}
 use Rattle.rlsf_machine.specs.Release.{released, Deallocates}
 use Rattle.rlsf_machine.specs.Remove.{lies_within, outside_of, removed}
-use Rattle.rlsf_machine.specs.Run.{insert, append, allocate, deallocate, reallocate, fill, remove, Fills}
+use Rattle.rlsf_machine.specs.Run.{insert, append, allocate, deallocate, reallocate, fill, remove, trim, Fills}
 use Rattle.rlsf_machine.specs.State.{State, Used, IsReordered, others, filled_if, filled}
 use Rattle.rlsf_machine.specs.WellFormed.{covers, itself, IsWellFormed}
 use Rattle.rlsf_machine.proofs.Allocations.{Allocates-keeps}
@@ -217,3 +217,4 @@ order_means_nothing fllen sllen memory s s' t (remove q) w w' r step =
     let t' = removed q s' in
     let same = HasSameRanges-removed q s s' (ranges_of r) in
     (t', refl, subst (λ x. IsReordered x t') (sym step) (reordered_from r same refl refl))
+order_means_nothing fllen sllen memory s s' t (trim count) w w' r step = absurd step

@@ -13,11 +13,11 @@ use Rattle.rlsf_base.proofs.SizeMaps.ChunkLengths.{IsObjectPool-some, chunk_leng
 use Rattle.rlsf_machine.specs.Budget.{HasBudget, total_len}
 use Rattle.rlsf_machine.specs.Insert.{body}
 use Rattle.rlsf_machine.specs.Lists.{IsIn}
-use Rattle.rlsf_machine.specs.Run.{Event, insert, append, allocate, deallocate, reallocate, fill}
+use Rattle.rlsf_machine.specs.Run.{Event, insert, append, allocate, deallocate, reallocate, fill, remove, trim}
 use Rattle.rlsf_machine.specs.Sizing.{PayloadPoolIsEnough, ObjectPoolIsExact}
 use Rattle.rlsf_machine.specs.State.{State}
 use Rattle.rlsf_machine.specs.Uniform.{AreDeniedOnlyAt, AsksForObject, AsksUniformly, IsUniform, blocks_in}
-use Rattle.rlsf_machine.specs.WellFormed.{IsWellFormed}
+use Rattle.rlsf_machine.specs.WellFormed.{coverage, IsWellFormed}
 use Rattle.rlsf_machine.proofs.Budgets.{AreFronts-one, bounded_runs_are_not_denied}
 use Rattle.rlsf_machine.proofs.Coverage.{covers-inside}
 use Rattle.rlsf_machine.proofs.Room.{idle_chunk_is_one_range}
@@ -61,7 +61,7 @@ IsUniform-idle {fllen} {sllen} {memory} {s} w c len idle alone = record {
       let to = home.to in
       let some = (w.free f i).some in
       let d = home.chunk in
-      let is : f ≡ body d = (idle_chunk_is_one_range fllen sllen memory s d w idle home.is_chunk).1 f i (covers-inside d f.start (omega arith) (omega arith)) in
+      let is : f ≡ body d = (idle_chunk_is_one_range fllen sllen memory s d w (λ a low high. ap (λ l. coverage (λ u. u.block) l a) idle) home.is_chunk).1 f i (covers-inside d f.start (omega arith) (omega arith)) in
       elim (subst (IsIn d) alone home.is_chunk) [
         | inl same ↦ (0, ap (λ r. r.start) is ∙ ap (λ r. r.start) same ∙ omega arith)
         | inr none ↦ absurd none
@@ -81,6 +81,8 @@ asks_uniformly block asked whole some is (allocate size align reply) (same, smal
 asks_uniformly block asked whole some is (deallocate addr) asks = tt
 asks_uniformly block asked whole some is (reallocate addr size reply) asks = absurd asks
 asks_uniformly block asked whole some is (fill addr bytes) asks = tt
+asks_uniformly block asked whole some is (remove r) asks = absurd asks
+asks_uniformly block asked whole some is (trim n) asks = absurd asks
 
 blocks_in-pool : (count block : ℕ) (c : Range) → 0 < block → c.len ≡ count * block + 32 → blocks_in block c ≡ count
 blocks_in-pool count block c some is =

@@ -1,5 +1,5 @@
 -- The pools of ranges over the steps.
-use Rattle.std.proofs.Common.{◌≡◌, ℕ, ◌+◌, ◌-◌, ◌<◌, ◌≤◌, List, Option, Some, false, true≢false, arith, refl, sym, ◌∙◌, ap, subst, inl, inr}
+use Rattle.std.proofs.Common.{◌≡◌, ℕ, ◌+◌, ◌-◌, ◌<◌, ◌≤◌, List, Option, Some, arith, sym, subst, inl, inr}
 use Rattle.std.proofs.lemmas.Bool.{cases_lt}
 use Rattle.rlsf_base.specs.declared.memory.range.Range.{Range}
 use Rattle.rlsf_base.specs.Range.{end_of}
@@ -11,7 +11,7 @@ use Rattle.rlsf_machine.specs.Insert.{Inserts, IsClear}
 use Rattle.rlsf_machine.specs.Lists.{IsIn}
 use Rattle.rlsf_machine.specs.State.{State, between}
 use Rattle.rlsf_machine.specs.Terms.{Terms}
-use Rattle.rlsf_machine.specs.WellFormed.{coverage, itself, IsWellFormed}
+use Rattle.rlsf_machine.specs.WellFormed.{IsWellFormed}
 use Rattle.rlsf_machine.proofs.ChunkRows.{IsRow-inserted, IsRow-kept, IsRow-same}
 use Rattle.rlsf_machine.proofs.Chunks.{inserted_chunks_lie_in_range}
 use Rattle.rlsf_machine.proofs.Housing.{coverage-in, coverage-none}

@@ -1,15 +1,15 @@
 -- What a removal leaves.
-use Rattle.std.proofs.Common.{◌≡◌, ◌⊎◌, ℕ, ◌+◌, ◌≤◌, ◌<◌, Bool, true, false, not, ◌&&◌, leb, List, true≢false, arith, refl, sym, ◌∙◌, ap, subst, inl, inr}
+use Rattle.std.proofs.Common.{◌≡◌, ◌⊎◌, ℕ, ◌+◌, ◌≤◌, ◌<◌, true, false, not, ◌&&◌, leb, List, true≢false, arith, refl, sym, ◌∙◌, ap, subst, inl, inr}
 use Rattle.std.proofs.lemmas.Bool.{cases_lt, le-leb, lt-leb}
 use Rattle.rlsf_base.specs.declared.memory.range.Range.{Range}
 use Rattle.rlsf_base.specs.Range.{end_of}
 use Rattle.rlsf_machine.specs.Laws.{LeavesOthers, RemovalLeavesOthers}
 use Rattle.rlsf_machine.specs.Lists.{IsIn}
-use Rattle.rlsf_machine.specs.Remove.{lies_within, outside_of, removed, IsIdle, IsRemovable, IsWithinOrOff, Removes}
+use Rattle.rlsf_machine.specs.Remove.{lies_within, outside_of, IsRemovable, Removes}
 use Rattle.rlsf_machine.specs.State.{State}
 use Rattle.rlsf_machine.specs.WellFormed.{covers, coverage, itself, last_bytes, IsWellFormed}
 use Rattle.rlsf_machine.proofs.Changes.{IsApart-within}
-use Rattle.rlsf_machine.proofs.Coverage.{by_test, inside, before, behind, where_is, covers-inside, covers-some, coverage-filter, coverage-IsIn, coverage-none, IsIn-filter, IsIn-filter_from}
+use Rattle.rlsf_machine.proofs.Coverage.{by_test, inside, before, behind, where_is, covers-inside, coverage-filter, coverage-none, IsIn-filter, IsIn-filter_from}
 use Rattle.rlsf_machine.proofs.Tiling.{block_of, lies_in_chunk, tiling_of, IsPart-free, IsWellFormed-from}
 
 -- ---- what lies in a range

@@ -6,7 +6,7 @@ use Rattle.rlsf_machine.specs.Laws.{EachCallAnswers}
 use Rattle.rlsf_machine.specs.Reallocate.{plan}
 use Rattle.rlsf_machine.specs.Release.{released}
 use Rattle.rlsf_machine.specs.Remove.{removed}
-use Rattle.rlsf_machine.specs.Run.{insert, append, allocate, deallocate, reallocate, fill, remove}
+use Rattle.rlsf_machine.specs.Run.{insert, append, allocate, deallocate, reallocate, fill, remove, trim}
 use Rattle.rlsf_machine.specs.State.{filled}
 use Rattle.rlsf_machine.proofs.Examples.{planned_reply, planned_after, planned_step}
 use Rattle.rlsf_machine.proofs.Room.{allocation_answers}
@@ -36,3 +36,4 @@ each_call_answers fllen sllen memory s (fill addr bytes) may (u, holds, length) 
   record { block = u; holds = holds; length = length; after = refl },
 )
 each_call_answers fllen sllen memory s (remove r) may whole = (remove r, removed r s, refl, refl)
+each_call_answers fllen sllen memory s (trim count) may whole = absurd may

@@ -16,7 +16,7 @@ use Rattle.rlsf_machine.specs.WellFormed.{covers, coverage, itself, last_bytes, 
 use Rattle.rlsf_machine.proofs.Choices.{choice-some, choice-none, choice-from_none, has_class-from}
 use Rattle.rlsf_machine.proofs.Coverage.{by_test, covers-inside, coverage-IsIn, coverage-some, coverage-unique}
 use Rattle.rlsf_machine.proofs.Examples.{address, allocate_after, allocate_step}
-use Rattle.rlsf_machine.proofs.Tiling.{block_of, tiling_of, free-le, lies_in_chunk, IsPart-free}
+use Rattle.rlsf_machine.proofs.Tiling.{tiling_of, free-le, lies_in_chunk, IsPart-free}
 
 pub room_is_found : RoomIsFound
 room_is_found fllen sllen memory s t size align reply f w i slack step is =

@@ -12,7 +12,7 @@ use Rattle.rlsf_machine.specs.Payload.{payload_of}
 use Rattle.rlsf_machine.specs.Reallocate.{Plan, plan, moved, ReallocatesBy, Reallocates}
 use Rattle.rlsf_machine.specs.Release.{Deallocates}
 use Rattle.rlsf_machine.specs.Remove.{removed}
-use Rattle.rlsf_machine.specs.Run.{insert, append, allocate, deallocate, reallocate, fill, remove}
+use Rattle.rlsf_machine.specs.Run.{insert, append, allocate, deallocate, reallocate, fill, remove, trim}
 use Rattle.rlsf_machine.specs.State.{State, Used, Shape, shape_of, Holds, AreAlike, AreSimilar, others}
 use Rattle.rlsf_machine.specs.WellFormed.{IsWellFormed}
 use Rattle.rlsf_machine.proofs.Allocations.{Allocates-keeps}
@@ -171,6 +171,7 @@ similar_states_agree fllen sllen memory s s' t t' (fill addr bytes) (fill addr' 
     (ap₂ fill same same', AreSimilar-alike r (AreAlike-filled a) (AreAlike-filled b))
 similar_states_agree fllen sllen memory s s' t t' (remove q) (remove q') w w' r a b same =
     (ap remove same, AreSimilar-at a (b ∙ ap (λ x. removed x s') (sym same)) (similar_from r (HasSameRanges-removed q s s' (ranges r)) refl refl))
+similar_states_agree fllen sllen memory s s' t t' (trim m) e' w w' r a b same = absurd a
 similar_states_agree fllen sllen memory s s' t t' e e' w w' r a b same = absurd same
 
 pub fill_is_similar : FillIsSimilar

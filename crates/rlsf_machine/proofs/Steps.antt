@@ -3,7 +3,7 @@ use Rattle.std.proofs.Common.{ℕ, List, [], ◌∷◌, length, arith, refl, sym
 use Rattle.rlsf_base.specs.declared.memory.range.Range.{Range}
 use Rattle.rlsf_machine.specs.Laws.{EmptyIsWellFormed, StepsKeepWellFormed, RunsKeepWellFormed}
 use Rattle.rlsf_machine.specs.Lists.{IsIn}
-use Rattle.rlsf_machine.specs.Run.{insert, append, allocate, deallocate, reallocate, fill, remove, Fills}
+use Rattle.rlsf_machine.specs.Run.{insert, append, allocate, deallocate, reallocate, fill, remove, trim, Fills}
 use Rattle.rlsf_machine.specs.State.{State, Used, filled_at}
 use Rattle.rlsf_machine.specs.WellFormed.{IsUsed, IsWellFormed}
 use Rattle.rlsf_machine.proofs.Allocations.{Allocates-keeps}
@@ -56,6 +56,7 @@ steps_keep_well_formed fllen sllen memory s t (deallocate addr) w may step = Dea
 steps_keep_well_formed fllen sllen memory s t (reallocate addr size reply) w may step = Reallocates-keeps w addr size reply t step
 steps_keep_well_formed fllen sllen memory s t (fill addr bytes) w may step = Fills-keeps w addr bytes t step
 steps_keep_well_formed fllen sllen memory s t (remove r) w may step = Removes-keeps w r may t step
+steps_keep_well_formed fllen sllen memory s t (trim count) w may step = absurd step
 
 pub runs_keep_well_formed : RunsKeepWellFormed
 runs_keep_well_formed fllen sllen memory s t [] w run = subst (IsWellFormed fllen sllen memory) (sym run) w

@@ -20,7 +20,7 @@ use Rattle.rlsf_machine.specs.Insert.{with_chunk}
 use Rattle.rlsf_machine.specs.Join.{ends_at, starts_at, start_or}
 use Rattle.rlsf_machine.specs.Lists.{IsIn, without}
 use Rattle.rlsf_machine.specs.Payload.{payload_of, block_length}
-use Rattle.rlsf_machine.specs.Run.{Event, insert, append, allocate, deallocate, reallocate, fill, remove, Leads, MayCall, Runs}
+use Rattle.rlsf_machine.specs.Run.{Event, insert, append, allocate, deallocate, reallocate, fill, remove, trim, Leads, MayCall, Runs}
 use Rattle.rlsf_machine.specs.Sizing.{UniformIsFull, AllocationKeepsUniform, DeallocationKeepsUniform, RunsKeepUniform, UniformRunsAnswer}
 use Rattle.rlsf_machine.specs.State.{empty, State, Used}
 use Rattle.rlsf_machine.specs.Uniform.{IsTimes, IsUniform, AsksUniformly, blocks_in, IsDeniedOnlyAt, AreDeniedOnlyAt}
@@ -202,6 +202,7 @@ step_uniform len fllen sllen memory s t c (fill addr bytes) w is may asks step =
       free = is.free;
     })
 step_uniform len fllen sllen memory s t c (remove r) w is may asks step = absurd asks
+step_uniform len fllen sllen memory s t c (trim n) w is may asks step = absurd asks
 
 pub runs_keep_uniform : RunsKeepUniform
 runs_keep_uniform len fllen sllen memory s t c [] w is run asks = subst (IsUniform len c) (sym run) is
@@ -240,6 +241,7 @@ event_answers len s t c (deallocate addr) w is begins asks step = tt
 event_answers len s t c (reallocate addr size reply) w is begins asks step = tt
 event_answers len s t c (fill addr bytes) w is begins asks step = tt
 event_answers len s t c (remove r) w is begins asks step = absurd asks
+event_answers len s t c (trim n) w is begins asks step = absurd asks
 
 pub uniform_runs_answer : UniformRunsAnswer
 uniform_runs_answer len fllen sllen memory s t c [] w is some begins run asks = tt

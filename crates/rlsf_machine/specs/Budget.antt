@@ -3,7 +3,7 @@ use Rattle.std.specs.Prelude.{◌≡◌, ℕ, ◌+◌, ◌*◌, ◌<◌, ◌≤�
 use Rattle.rlsf_base.specs.declared.memory.range.Range.{Range}
 use Rattle.rlsf_base.specs.Sizes.{request_size}
 use Rattle.rlsf_machine.specs.Lists.{IsIn}
-use Rattle.rlsf_machine.specs.Run.{Event, insert, append, allocate, deallocate, reallocate, fill, remove, Leads, MayCall}
+use Rattle.rlsf_machine.specs.Run.{Event, insert, append, allocate, deallocate, reallocate, fill, remove, trim, Leads, MayCall}
 use Rattle.rlsf_machine.specs.State.{State, Used, Holds}
 use Rattle.rlsf_machine.specs.WellFormed.{coverage, itself}
 
@@ -44,6 +44,7 @@ IsModest live most s (deallocate addr) = Unit {0}
 IsModest live most s (reallocate addr size reply) = (length s.used ≤ live) × ((u : Used) → Holds s addr u → request_size size u.align ≤ most)
 IsModest live most s (fill addr bytes) = Unit {0}
 IsModest live most s (remove r) = ⊥
+IsModest live most s (trim n) = ⊥
 
 -- a list of such calls with their replies, one after another, each of which its caller may make
 abbrev pub RunsModestly : ℕ → ℕ → ℕ → ℕ → Range → State → List Event → State → Type 0
@@ -60,6 +61,7 @@ IsDenied (deallocate addr) = ⊥
 IsDenied (reallocate addr size reply) = reply ≡ None
 IsDenied (fill addr bytes) = ⊥
 IsDenied (remove r) = ⊥
+IsDenied (trim n) = ⊥
 
 -- how many payloads are live after a call, where n are before it
 abbrev pub live_after : Event → ℕ → ℕ
@@ -71,6 +73,7 @@ live_after (deallocate addr) n = n - 1
 live_after (reallocate addr size reply) n = n
 live_after (fill addr bytes) n = n
 live_after (remove r) n = n
+live_after (trim k) n = n
 
 -- where the call asks for bytes, n is `live` or less, and neither the size nor the alignment is greater; and it takes no memory
 -- away
@@ -82,6 +85,7 @@ AsksWithin live most_size most_align n (deallocate addr) = Unit {0}
 AsksWithin live most_size most_align n (reallocate addr size reply) = (n ≤ live) × (size ≤ most_size)
 AsksWithin live most_size most_align n (fill addr bytes) = Unit {0}
 AsksWithin live most_size most_align n (remove r) = ⊥
+AsksWithin live most_size most_align n (trim k) = ⊥
 
 -- and so does each call of a list, where n payloads are live before the first one
 abbrev pub AreWithin : ℕ → ℕ → ℕ → ℕ → List Event → Type 0

@@ -2,7 +2,7 @@
 use Rattle.std.specs.Prelude.{◌≡◌, ◌≢◌, ℕ, ◌+◌, ◌<◌, ◌≤◌, ◌==◌, List, [], length, Option, Some, None, find}
 use Rattle.std.specs.Option.{option_map}
 use Rattle.rlsf_machine.specs.Reallocate.{Keeps}
-use Rattle.rlsf_machine.specs.Run.{Event, insert, append, allocate, deallocate, reallocate, fill, remove}
+use Rattle.rlsf_machine.specs.Run.{Event, insert, append, allocate, deallocate, reallocate, fill, remove, trim}
 use Rattle.rlsf_machine.specs.State.{State, Used}
 
 -- a payload: the alignment that was asked for, and its bytes, all that its caller may use
@@ -70,3 +70,4 @@ Changes before (reallocate addr size None) after = IsUnchanged before after
 Changes before (reallocate addr size (Some to)) after = IsResized before addr size to after
 Changes before (fill addr bytes) after = (p : Payload) × (before addr ≡ Some p) × (length bytes ≡ length p.bytes) × IsSet before addr (Some (record { align = p.align; bytes = bytes })) after
 Changes before (remove r) after = IsUnchanged before after
+Changes before (trim count) after = IsUnchanged before after

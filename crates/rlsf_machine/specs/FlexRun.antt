@@ -1,14 +1,16 @@
 -- Calls to the machine that asks a source for memory, with their replies and notes, and where they lead.
-use Rattle.std.specs.Prelude.{◌≡◌, ℕ, List, [], ◌∷◌, ◌++◌, Some}
+use Rattle.std.specs.Prelude.{◌≡◌, ℕ, List, [], ◌∷◌, ◌++◌, length, Some}
 use Rattle.rlsf_base.specs.declared.memory.range.Range.{Range}
 use Rattle.rlsf_machine.specs.Answers.{MayAnswerAll}
 use Rattle.rlsf_machine.specs.FlexAllocate.{FlexAllocates}
 use Rattle.rlsf_machine.specs.FlexReallocate.{FlexReallocates}
 use Rattle.rlsf_machine.specs.FlexState.{FlexState, with_machine}
+use Rattle.rlsf_machine.specs.Lists.{IsIn}
 use Rattle.rlsf_machine.specs.Note.{Note}
-use Rattle.rlsf_machine.specs.Run.{Event, insert, append, allocate, deallocate, reallocate, fill, remove, IsRefused, IsSameCall, Leads, MayCall}
+use Rattle.rlsf_machine.specs.Run.{Event, insert, append, allocate, deallocate, reallocate, fill, remove, trim, IsRefused, IsRemoval, IsSameCall, Leads, MayCall}
 use Rattle.rlsf_machine.specs.State.{State}
 use Rattle.rlsf_machine.specs.Terms.{Terms}
+use Rattle.rlsf_machine.specs.Trim.{Trims}
 
 -- a call that asks the source nothing
 pub record AsksNothing (fllen sllen : ℕ) (s : FlexState) (e : Event) (notes : List Note) (u : FlexState) : Type 0 where
@@ -18,7 +20,7 @@ pub record AsksNothing (fllen sllen : ℕ) (s : FlexState) (e : Event) (notes : 
   pub after : u ≡ with_machine s machine
 
 -- A call with its reply, and the questions to the source with their answers, leads from one state to another. Ranges are handed
--- in for an allocation or a reallocation alone, by the machine itself, and none is taken away alone.
+-- in for an allocation or a reallocation alone, by the machine itself, and taken away by a trim alone.
 abbrev pub FlexLeads : ℕ → ℕ → Terms → FlexState → Event → List Note → FlexState → Type 0
 FlexLeads fllen sllen t s (insert r reply) notes u = ⊥
 FlexLeads fllen sllen t s (append r reply) notes u = ⊥
@@ -27,10 +29,16 @@ FlexLeads fllen sllen t s (deallocate addr) notes u = AsksNothing fllen sllen s 
 FlexLeads fllen sllen t s (reallocate addr size reply) notes u = FlexReallocates fllen sllen t s addr size reply notes u
 FlexLeads fllen sllen t s (fill addr bytes) notes u = AsksNothing fllen sllen s (fill addr bytes) notes u
 FlexLeads fllen sllen t s (remove r) notes u = ⊥
+FlexLeads fllen sllen t s (trim count) notes u = Trims t s count notes u
+
+-- what the caller of a call over a source owes: nothing at a trim
+abbrev pub FlexMayCall : Range → State → Event → Type 0
+FlexMayCall memory s (trim count) = Unit {0}
+FlexMayCall memory s e = MayCall memory s e
 
 -- a call that its caller may make, with answers that a source may give, leads from one state to another
 pub record IsFlexStep (fllen sllen : ℕ) (memory : Range) (t : Terms) (s : FlexState) (e : Event) (notes : List Note) (u : FlexState) : Type 0 where
-  pub may : MayCall memory s.machine e
+  pub may : FlexMayCall memory s.machine e
   pub answers : MayAnswerAll t s.pools notes
   pub leads : FlexLeads fllen sllen t s e notes u
 
@@ -69,8 +77,9 @@ HandsIn e = ⊥
 
 -- The calls of the machine alone that a call over a source comes to. There are none if it is refused. Else it is the call
 -- itself; or memory is handed in, and then the call is made; or memory is handed in, a payload is allocated there for one that
--- moves, and the old one is given back.
+-- moves, and the old one is given back. A trim is one removal for each range that goes back.
 abbrev pub ComesTo : Event → List Event → Type 0
+ComesTo (trim count) es = (length es ≡ count) × ((e : Event) → IsIn e es → IsRemoval e)
 ComesTo e [] = IsRefused e
 ComesTo e (c ∷ []) = c ≡ e
 ComesTo e (h ∷ c ∷ []) = HandsIn h × (c ≡ e)

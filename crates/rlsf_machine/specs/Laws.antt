@@ -1,5 +1,5 @@
 -- What holds of the machine's states and steps.
-use Rattle.std.specs.Prelude.{◌≡◌, ◌≢◌, true, ◌↔◌, ◌⊎◌, ℕ, ◌+◌, ◌*◌, ◌%◌, ◌^◌, ◌<◌, ◌≤◌, List, [], ◌∷◌, ◌++◌, filter, length, Option, Some, None, IfNone, IfSome, ◌==◌, min, ◌-◌}
+use Rattle.std.specs.Prelude.{◌≡◌, ◌≢◌, true, ◌↔◌, ◌⊎◌, ℕ, ◌+◌, ◌*◌, ◌%◌, ◌^◌, ◌<◌, ◌≤◌, List, [], ◌∷◌, ◌++◌, filter, length, Option, Some, None, IfNone, IfSome, ◌==◌, min, ◌-◌, map}
 use Rattle.rlsf_base.specs.declared.memory.range.Range.{Range}
 use Rattle.rlsf_base.specs.PowerOfTwo.{IsPowerOfTwo}
 use Rattle.rlsf_base.specs.Range.{end_of, range_at, LiesIn}
@@ -8,18 +8,20 @@ use Rattle.rlsf_base.specs.Sizes.{max_pool_size, pool_size_to_contain_allocation
 use Rattle.rlsf_machine.specs.Allocate.{choice, has_class, Allocates}
 use Rattle.rlsf_machine.specs.Answers.{MayAnswerAll}
 use Rattle.rlsf_machine.specs.Callers.{Payload, payload_in, payload_at, Changes}
-use Rattle.rlsf_machine.specs.FlexRun.{AllComeTo, AreSameCalls, FlexEvent, FlexLeads, HandsIn, IsFlexRun, IsFlexStep, notes_in}
+use Rattle.rlsf_machine.specs.End.{notes_at_end, owed_at_end}
+use Rattle.rlsf_machine.specs.FlexRun.{AllComeTo, AreSameCalls, FlexEvent, FlexLeads, FlexMayCall, HandsIn, IsFlexRun, IsFlexStep, notes_in}
 use Rattle.rlsf_machine.specs.FlexState.{FlexState, AreFlexSimilar, empty as flex_empty}
 use Rattle.rlsf_machine.specs.FlexWellFormed.{IsFlexWellFormed}
 use Rattle.rlsf_machine.specs.Growth.{Extends, IsPossible, Outcome, Questions, is_more, notes_of}
 use Rattle.rlsf_machine.specs.Insert.{body, cut, Inserts, IsClear}
 use Rattle.rlsf_machine.specs.Lists.{IsIn, without}
-use Rattle.rlsf_machine.specs.Note.{Note, AnswersAgree}
+use Rattle.rlsf_machine.specs.Note.{Note, AnswersAgree, dealloc}
 use Rattle.rlsf_machine.specs.NoMove.{ReallocatesWithoutMove}
+use Rattle.rlsf_machine.specs.Owed.{OwesAfterAll}
 use Rattle.rlsf_machine.specs.Reallocate.{Keeps, Reallocates}
 use Rattle.rlsf_machine.specs.Release.{Deallocates}
 use Rattle.rlsf_machine.specs.Remove.{IsIdle, IsRemovable, Removes}
-use Rattle.rlsf_machine.specs.Run.{Event, insert, append, allocate, deallocate, reallocate, fill, remove, Fills, Leads, MayCall, Names, Runs, IsRemoval, IsSameCall, IsRefused}
+use Rattle.rlsf_machine.specs.Run.{Event, insert, append, allocate, deallocate, reallocate, fill, remove, trim, Fills, Leads, MayCall, Names, Runs, IsRemoval, IsSameCall, IsRefused}
 use Rattle.rlsf_machine.specs.State.{State, Used, empty, usable, Holds, HasBytes, IsLive, AreAlike, IsReordered, AreSimilar}
 use Rattle.rlsf_machine.specs.Terms.{Terms}
 use Rattle.rlsf_machine.specs.WellFormed.{covers, IsWellFormed}
@@ -212,6 +214,7 @@ Gives (deallocate at) addr = ⊥
 Gives (reallocate at size reply) addr = reply ≡ Some addr
 Gives (fill at bytes) addr = ⊥
 Gives (remove r) addr = ⊥
+Gives (trim count) addr = ⊥
 
 -- a used block that a step names neither in its call nor in its reply was there before, with the same bytes
 abbrev pub UsedWasUsed : Type 0
@@ -272,7 +275,7 @@ UnmovedIsReallocated = (sllen : ℕ) (s t : State) (addr size : ℕ) (reply : Op
 -- well-formed states changes it as the call and its reply say
 abbrev pub FlexCallersSeeMap : Type 0
 FlexCallersSeeMap = (fllen sllen : ℕ) (terms : Terms) (before after : Range) (s u : FlexState) (e : Event) (notes : List Note) → IsWellFormed fllen sllen before s.machine
-    → IsWellFormed fllen sllen after u.machine → MayCall before s.machine e → FlexLeads fllen sllen terms s e notes u → Changes (payload_at s.machine) e (payload_at u.machine)
+    → IsWellFormed fllen sllen after u.machine → FlexMayCall before s.machine e → FlexLeads fllen sllen terms s e notes u → Changes (payload_at s.machine) e (payload_at u.machine)
 
 -- the machine over a source to which nothing came yet is well-formed
 abbrev pub FlexEmptyIsWellFormed : Type 0
@@ -368,13 +371,20 @@ FlexUsedWasUsed = (fllen sllen : ℕ) (t : Terms) (s u : FlexState) (e : Event) 
 abbrev pub MayRespond : Terms → List Range → (Questions → Outcome) → Type 0
 MayRespond t owed respond = (q : Questions) → IsPossible q (respond q) × MayAnswerAll t owed (notes_of q (respond q))
 
--- nothing was asked, or something, to which the source gave its answers
+-- nothing was asked, or something, to which the source gave its answers, or ranges went back
 abbrev pub IsAnswered : (Questions → Outcome) → List Note → Type 0
-IsAnswered respond notes = (notes ≡ []) ⊎ ((q : Questions) × (notes ≡ notes_of q (respond q)))
+IsAnswered respond notes = (notes ≡ []) ⊎ ((q : Questions) × (notes ≡ notes_of q (respond q))) ⊎ ((gone : List Range) × (notes ≡ map dealloc gone))
 
 -- over a source too each call that its caller may make has a reply and a state after, whatever of what it may answer the source
 -- answers
 abbrev pub FlexEachCallAnswers : Type 0
 FlexEachCallAnswers = (fl_bits sl_bits fllen sllen : ℕ) (memory : Range) (t : Terms) (s : FlexState) (e : Event) (respond : Questions → Outcome) → IsValid fl_bits sl_bits fllen sllen
-    → IsFlexWellFormed fllen sllen memory t s → MayCall memory s.machine e → FillsWhole s.machine e → (HandsIn e → ⊥) → (IsRemoval e → ⊥) → MayRespond t s.pools respond
+    → IsFlexWellFormed fllen sllen memory t s → FlexMayCall memory s.machine e → FillsWhole s.machine e → (HandsIn e → ⊥) → (IsRemoval e → ⊥) → MayRespond t s.pools respond
     → (e' : Event) × (notes : List Note) × (u : FlexState) × IsSameCall e e' × IsAnswered respond notes × IsFlexStep fllen sllen memory t s e' notes u
+
+-- the ranges that are outstanding after a run are those that its answers leave outstanding; and so it is at the end: where the source
+-- takes ranges back, each range that came goes back once, by a trim or at the end, and none is outstanding then
+abbrev pub EachGoesBack : Type 0
+EachGoesBack = (fl_bits sl_bits fllen sllen : ℕ) (memory : Range) (t : Terms) (s u : FlexState) (cs : List FlexEvent) → IsValid fl_bits sl_bits fllen sllen
+    → IsFlexWellFormed fllen sllen memory t s → IsFlexRun fllen sllen memory t s cs u
+    → OwesAfterAll s.pools (notes_in cs) u.pools × OwesAfterAll s.pools (notes_in cs ++ notes_at_end t u.pools) (owed_at_end t u.pools)

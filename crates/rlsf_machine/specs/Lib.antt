@@ -19,6 +19,7 @@ pub mod Laws
 pub mod Lists
 pub mod NoMove
 pub mod Note
+pub mod Owed
 pub mod Payload
 pub mod PoolLength
 pub mod Reallocate
@@ -29,4 +30,5 @@ pub mod Sizing
 pub mod State
 pub mod Terms
 pub mod Uniform
+pub mod Trim
 pub mod WellFormed

@@ -17,7 +17,8 @@ pub record Fills (s : State) (addr : ℕ) (bytes : List ℕ) (t : State) : Type 
   pub after : t ≡ filled s addr bytes
 
 -- a call with its reply: a range is handed in, or handed in behind a chunk; a layout, by its size and its
--- alignment, is allocated; a payload is deallocated, gets another size, or is written; a range is taken away
+-- alignment, is allocated; a payload is deallocated, gets another size, or is written; a range is taken away; over a source, so many
+-- ranges go back
 pub data Event : Type 0 where
   insert : Range → Option ℕ → Event
   append : Range → ℕ → Event
@@ -26,8 +27,9 @@ pub data Event : Type 0 where
   reallocate : ℕ → ℕ → Option ℕ → Event
   fill : ℕ → List ℕ → Event
   remove : Range → Event
+  trim : ℕ → Event
 
--- a call with its reply leads from one state to another
+-- a call with its reply leads from one state to another; without a source there is no trim
 abbrev pub Leads : ℕ → ℕ → State → Event → State → Type 0
 Leads fllen sllen s (insert r reply) t = Inserts fllen s r reply t
 Leads fllen sllen s (append r reply) t = Appends fllen s r reply t
@@ -36,6 +38,7 @@ Leads fllen sllen s (deallocate addr) t = Deallocates s addr t
 Leads fllen sllen s (reallocate addr size reply) t = Reallocates sllen s addr size reply t
 Leads fllen sllen s (fill addr bytes) t = Fills s addr bytes t
 Leads fllen sllen s (remove r) t = Removes s r t
+Leads fllen sllen s (trim count) t = ⊥
 
 -- some payload is live at the address
 abbrev pub IsSomeLive : State → ℕ → Type 0
@@ -50,6 +53,7 @@ MayCall memory s (deallocate addr) = IsSomeLive s addr
 MayCall memory s (reallocate addr size reply) = IsSomeLive s addr
 MayCall memory s (fill addr bytes) = IsSomeLive s addr
 MayCall memory s (remove r) = IsRemovable s r
+MayCall memory s (trim count) = ⊥
 
 -- two calls are the same, whatever their replies
 abbrev pub IsSameCall : Event → Event → Type 0
@@ -60,6 +64,7 @@ IsSameCall (deallocate addr) (deallocate addr') = addr ≡ addr'
 IsSameCall (reallocate addr size m) (reallocate addr' size' n) = (addr ≡ addr') × (size ≡ size')
 IsSameCall (fill addr bytes) (fill addr' bytes') = (addr ≡ addr') × (bytes ≡ bytes')
 IsSameCall (remove r) (remove q) = r ≡ q
+IsSameCall (trim m) (trim n) = Unit {0}
 IsSameCall e e' = ⊥
 
 -- the call refused: it had no room, or no chunk to make
@@ -71,6 +76,7 @@ IsRefused (deallocate addr) = ⊥
 IsRefused (reallocate addr size reply) = reply ≡ None
 IsRefused (fill addr bytes) = ⊥
 IsRefused (remove r) = ⊥
+IsRefused (trim count) = ⊥
 
 -- the call names the payload at the address
 abbrev pub Names : Event → ℕ → Type 0
@@ -81,6 +87,7 @@ Names (deallocate at) addr = at ≡ addr
 Names (reallocate at size reply) addr = at ≡ addr
 Names (fill at bytes) addr = at ≡ addr
 Names (remove r) addr = ⊥
+Names (trim count) addr = ⊥
 
 -- the call takes memory away
 abbrev pub IsRemoval : Event → Type 0

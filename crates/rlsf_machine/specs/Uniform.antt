@@ -4,7 +4,7 @@ use Rattle.rlsf_base.specs.declared.memory.range.Range.{Range}
 use Rattle.rlsf_base.specs.Sizes.{request_size}
 use Rattle.rlsf_machine.specs.Budget.{live_after}
 use Rattle.rlsf_machine.specs.Lists.{IsIn}
-use Rattle.rlsf_machine.specs.Run.{Event, insert, append, allocate, deallocate, reallocate, fill, remove}
+use Rattle.rlsf_machine.specs.Run.{Event, insert, append, allocate, deallocate, reallocate, fill, remove, trim}
 use Rattle.rlsf_machine.specs.State.{State, Used}
 
 -- an address lies a whole number of lengths behind another one
@@ -27,6 +27,7 @@ AsksUniformly len (deallocate addr) = Unit {0}
 AsksUniformly len (reallocate addr size reply) = ⊥
 AsksUniformly len (fill addr bytes) = Unit {0}
 AsksUniformly len (remove r) = ⊥
+AsksUniformly len (trim n) = ⊥
 
 -- the call asks for a payload of that size at an alignment of 16 or less, or gives one back, or writes one
 abbrev pub AsksForObject : ℕ → Event → Type 0
@@ -36,6 +37,8 @@ AsksForObject asked (allocate size align reply) = (size ≡ asked) × (align ≤
 AsksForObject asked (deallocate addr) = Unit {0}
 AsksForObject asked (reallocate addr size reply) = ⊥
 AsksForObject asked (fill addr bytes) = Unit {0}
+AsksForObject asked (remove r) = ⊥
+AsksForObject asked (trim n) = ⊥
 
 -- how many blocks of a length a chunk has room for
 abbrev pub blocks_in : ℕ → Range → ℕ
@@ -50,6 +53,7 @@ IsDeniedOnlyAt most n (deallocate addr) = Unit {0}
 IsDeniedOnlyAt most n (reallocate addr size reply) = Unit {0}
 IsDeniedOnlyAt most n (fill addr bytes) = Unit {0}
 IsDeniedOnlyAt most n (remove r) = Unit {0}
+IsDeniedOnlyAt most n (trim k) = Unit {0}
 
 -- and so is each allocation of a list of calls, where n payloads are live before the first one
 abbrev pub AreDeniedOnlyAt : ℕ → ℕ → List Event → Type 0

@@ -5,11 +5,11 @@
 //! `State`, `Payload`, `WellFormed`, `Join`, `Insert` (and append), `Allocate`, `Release`, `Reallocate`, `NoMove`, `Remove`, `Run`
 //! (lists of calls), `Callers` (what these see of it), `Laws`, `Budget`, `Uniform` and `Sizing` (how much memory is enough); and for a
 //! machine that asks a source for memory `Terms`, `Note` and `Answers` (sources), `FlexState`, `Growth`, `FlexAllocate`,
-//! `FlexReallocate`, `FlexRun`, `FlexWellFormed`, `End`. Each step is a relation between the state before, the call, the reply
+//! `FlexReallocate`, `Trim`, `FlexRun`, `FlexWellFormed`, `End`, `Owed`. Each step is a relation between the state before, the call, the reply
 //! and the state after.
 #![tactic(auto)]
 
-ghost use Rattle.rlsf_machine.specs.Laws.{EmptyIsWellFormed, StepsKeepWellFormed, RunsKeepWellFormed, StepsAreDetermined, OrderMeansNothing, RefusalChangesNothing, ChunksAreCutOffTheFront, LiveAddressesAreAligned, LiveAddressHasOneBlock, PayloadsAreDisjoint, PayloadLiesInOneChunk, AllocationHasSize, ReallocationHasSize, RoomIsFound, PoolHasRoom, AllocationAnswers, RefusedWithoutReach, ChoiceIsFirstOfLeast, IdleChunkIsOneRange, ChunksStay, RemovalLeavesOthers, OtherPayloadsStay, HandedOutIsNew, ReallocatedIsLive, LiveStays, ReleasedIsNotLive, FilledHasBytes, FillLeavesOthers, DeallocationLeavesOthers, InsertedChunksLieInRange, UsedWasUsed, SimilarStatesAgree, EachCallAnswers, ReallocationKeepsBytes, PayloadIsInBlock, CallersSeeMap, IdleChunkHasRoom, FillIsSimilar, FlexCallersSeeMap, FlexEmptyIsWellFormed, GrowthKeepsWellFormed, GrowthHasRoom, FlexStepsKeepWellFormed, FlexRunsKeepWellFormed, FlexRunsAreRuns, FlexStepsChangeMap, FlexPayloadsAreApart, FlexAllocationHasSize, FlexReallocationHasSize, FlexReallocationKeepsBytes, FlexOtherPayloadsStay, FlexUsedWasUsed, FlexSimilarStatesAgree, FlexSimilarRunsAgree, FlexEachCallAnswers, UnmovedIsReallocated};
+ghost use Rattle.rlsf_machine.specs.Laws.{EmptyIsWellFormed, StepsKeepWellFormed, RunsKeepWellFormed, StepsAreDetermined, OrderMeansNothing, RefusalChangesNothing, ChunksAreCutOffTheFront, LiveAddressesAreAligned, LiveAddressHasOneBlock, PayloadsAreDisjoint, PayloadLiesInOneChunk, AllocationHasSize, ReallocationHasSize, RoomIsFound, PoolHasRoom, AllocationAnswers, RefusedWithoutReach, ChoiceIsFirstOfLeast, IdleChunkIsOneRange, ChunksStay, RemovalLeavesOthers, OtherPayloadsStay, HandedOutIsNew, ReallocatedIsLive, LiveStays, ReleasedIsNotLive, FilledHasBytes, FillLeavesOthers, DeallocationLeavesOthers, InsertedChunksLieInRange, UsedWasUsed, SimilarStatesAgree, EachCallAnswers, ReallocationKeepsBytes, PayloadIsInBlock, CallersSeeMap, IdleChunkHasRoom, FillIsSimilar, FlexCallersSeeMap, FlexEmptyIsWellFormed, GrowthKeepsWellFormed, GrowthHasRoom, FlexStepsKeepWellFormed, FlexRunsKeepWellFormed, FlexRunsAreRuns, FlexStepsChangeMap, FlexPayloadsAreApart, FlexAllocationHasSize, FlexReallocationHasSize, FlexReallocationKeepsBytes, FlexOtherPayloadsStay, FlexUsedWasUsed, FlexSimilarStatesAgree, FlexSimilarRunsAgree, FlexEachCallAnswers, UnmovedIsReallocated, EachGoesBack};
 ghost use Rattle.rlsf_machine.specs.Sizing.{FewFree, BytesAddUp, BudgetIsEnough, ModestRunsAreNotDenied, LiveIsCounted, BoundedRunsAreNotDenied, UniformIsFull, AllocationKeepsUniform, DeallocationKeepsUniform, RunsKeepUniform, UniformRunsAnswer, FlexNeverAsked, PayloadPoolIsEnough, ObjectPoolIsExact};
 
 /// Does nothing. Its contract states the laws of the machine, so that a check proves them.
@@ -40,7 +40,8 @@ ghost use Rattle.rlsf_machine.specs.Sizing.{FewFree, BytesAddUp, BudgetIsEnough,
 /// and payloads that a step doesn't name are as without a source. A run over a source is one of the machine alone, in which
 /// the memory that comes is handed in. From similar states, where the source gives the same answers to the same questions, the
 /// same calls ask the same, have the same replies, and lead to similar states. Each call that its caller may make has a reply,
-/// whatever of what it may answer the source answers.
+/// whatever of what it may answer the source answers. A trim gives the newest ranges back that hold no block in use; with trims too
+/// what is outstanding is what came and did not go back, so that each range goes back once, by a trim or at the end.
 ///
 /// How much memory is enough is known before the first call. There are at most as many free ranges as used blocks and chunks
 /// together, and the free ranges, the used blocks and 32 bytes of each chunk add up to the chunks. So an allocation is not
@@ -121,4 +122,5 @@ pub fn laws()
     ensures payload_pool { PayloadPoolIsEnough }
     ensures object_pool { ObjectPoolIsExact }
     ensures flex_never_asked { FlexNeverAsked }
+    ensures each_goes_back { EachGoesBack }
 {}

@@ -181,6 +181,7 @@ impl<FLBitmap: Bitmap, SLBitmap: Bitmap, const FLLEN: usize, const SLLEN: usize>
         ensures bytes { bytes_at self.new.state ≡ bytes_at self.old.state }
         ensures place { SamePlace self.old.memory self.new.memory }
         ensures touches { self.new.memory.touches + 9 * length self.new.state.chunks ≤ self.old.memory.touches + 9 * length self.old.state.chunks }
+        ensures grow { self.old.memory.touches ≤ self.new.memory.touches }
         ensures copied { self.new.memory.copied ≡ self.old.memory.copied }
     {
         remove_chunks(&mut self.memory, &mut self.table, range);
@@ -318,6 +319,7 @@ impl<FLBitmap: Bitmap, SLBitmap: Bitmap, const FLLEN: usize, const SLLEN: usize>
         ensures refused { IfNone result (self.new.memory.bytes ≡ self.old.memory.bytes) }
         ensures place { SamePlace self.old.memory self.new.memory }
         ensures touches { self.new.memory.touches ≤ self.old.memory.touches + 25 }
+        ensures grow { self.old.memory.touches ≤ self.new.memory.touches }
         ensures copied { self.new.memory.copied ≡ self.old.memory.copied }
     {
         let payload = addr.get();

@@ -28,6 +28,7 @@ pub record IsRemovedTo (fllen sllen : ℕ) (m0 : Space) (s : State) (q : Range) 
   pub edge : start < end_of q → (c : Range) → IsIn c s.chunks → c.start < start → end_of c ≤ start
   pub place : SamePlace m0 m
   pub touches : m.touches + 9 * length (outside_of (between q.start start) s.chunks) ≤ m0.touches + 9 * length s.chunks
+  pub grow : m0.touches ≤ m.touches
   pub copied : m.copied ≡ m0.copied
 
 module _ {fllen sllen : ℕ} {m0 : Space} {t0 : Table} {s : State} (v : StandsFor fllen sllen (contents m0 t0) s) where
@@ -84,6 +85,7 @@ module _ {fllen sllen : ℕ} {m0 : Space} {t0 : Table} {s : State} (v : StandsFo
           ];
           place = (refl, refl);
           touches = omega (arith, ap (λ (x : State). length x.chunks) same);
+          grow = omega arith;
           copied = refl;
         }
 
@@ -145,8 +147,8 @@ module _ {fllen sllen : ℕ} {m0 : Space} {t0 : Table} {s : State} (v : StandsFo
       -- it was taken out
       pub IsRemovedTo-next : {n : Space} {other : Table} {end : ℕ}
           → StandsFor fllen sllen (contents n other) (removed chunk (removed (between q.start start) s)) × KeepsSpare m (removed (between q.start start) s) n (removed (between q.start start) s) × (end_of chunk ≡ end)
-          → SamePlace m n → n.touches ≤ m.touches + 9 → n.copied ≡ m.copied → IsRemovedTo fllen sllen m0 s q n other end
-      IsRemovedTo-next {n} {other} {end} (stands, spare, at) place touches copied =
+          → SamePlace m n → n.touches ≤ m.touches + 9 → m.touches ≤ n.touches → n.copied ≡ m.copied → IsRemovedTo fllen sllen m0 s q n other end
+      IsRemovedTo-next {n} {other} {end} (stands, spare, at) place touches grow copied =
           let next = removed-next end at in
           record {
             from = omega (arith, is.from, at, past);
@@ -170,6 +172,7 @@ module _ {fllen sllen : ℕ} {m0 : Space} {t0 : Table} {s : State} (v : StandsFo
               ap (λ (x : State). length x.chunks) next,
               length-outside_of_one chunk chunk (outside_of (between q.start start) s.chunks) still_there (lies_within-le chunk chunk (omega arith) (omega arith)),
             );
+            grow = omega (arith, is.grow, grow);
             copied = copied ∙ is.copied;
           }
 

@@ -15,6 +15,7 @@ use Rattle.rlsf_machine.proofs.Live.{live_addresses_are_aligned, live_address_ha
 use Rattle.rlsf_machine.proofs.NoMove.{unmoved_is_reallocated}
 use Rattle.rlsf_machine.proofs.Orders.{order_means_nothing}
 use Rattle.rlsf_machine.proofs.PoolLengths.{payload_pool_is_enough, object_pool_is_exact}
+use Rattle.rlsf_machine.proofs.Owed.{each_goes_back}
 use Rattle.rlsf_machine.proofs.Pools.{pool_has_room, idle_chunk_has_room}
 use Rattle.rlsf_machine.proofs.Removals.{removal_leaves_others}
 use Rattle.rlsf_machine.proofs.Replies.{each_call_answers}
@@ -97,4 +98,5 @@ returns c = record {
   payload_pool = payload_pool_is_enough;
   object_pool = object_pool_is_exact;
   flex_never_asked = flex_never_asked;
+  each_goes_back = each_goes_back;
 }

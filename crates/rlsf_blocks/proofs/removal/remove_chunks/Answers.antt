@@ -43,7 +43,7 @@ loop-start-preserved g c = λ s v row idle.
     let q = between c.span-start.result.0 c.span-start.result.1 in
     let more : c.loop-start.start < end_of q = omega (arith, c.loop-start-test.true, span.within) in
     let step = c.remove_chunk-start.ensures.step (removed (between q.start c.loop-start.start) s) (chunk v q rowed idles is more) is.stands (IsIdleChunk-next v q rowed idles is more) in
-    (span, IsRemovedTo-next v q rowed idles is more step c.remove_chunk-start.ensures.place c.remove_chunk-start.ensures.touches c.remove_chunk-start.ensures.copied)
+    (span, IsRemovedTo-next v q rowed idles is more step c.remove_chunk-start.ensures.place c.remove_chunk-start.ensures.touches c.remove_chunk-start.ensures.grow c.remove_chunk-start.ensures.copied)
 
 pub returns-clause-step : goal.returns-clause-step
 returns-clause-step g c = λ s v row idle.
@@ -69,3 +69,8 @@ pub returns-clause-copied : goal.returns-clause-copied
 returns-clause-copied g c =
     let (s, v, row, idle) = c.requires.idle in
     (c.loop-start.invariant s v row idle).1.copied
+
+pub returns-clause-grow : goal.returns-clause-grow
+returns-clause-grow g c =
+    let (s, v, row, idle) = c.requires.idle in
+    (c.loop-start.invariant s v row idle).1.grow
