@@ -10,8 +10,10 @@ pub use Rattle.rlsf_machine.specs.Insert.{Appends, Inserts, IsNext, IsUntouched}
 pub use Rattle.rlsf_machine.specs.NoMove.{ReallocatesWithoutMove}
 pub use Rattle.rlsf_machine.specs.Reallocate.{Keeps, Reallocates}
 pub use Rattle.rlsf_machine.specs.Release.{Deallocates}
+pub use Rattle.rlsf_machine.specs.Remove.{IsIdle, Removes}
 pub use Rattle.rlsf_machine.specs.Run.{Fills}
 pub use Rattle.rlsf_machine.specs.State.{State, Used, empty, Holds}
+pub use Rattle.rlsf_blocks.specs.Blocks.{walked}
 pub use Rattle.rlsf_blocks.specs.Spare.{IsSpareWord, KeepsSpare}
 pub use Rattle.rlsf_tlsf.specs.Allocator.{Allocator, IsInState, Stands, Steps}
 -- those that contracts over an allocator with a source cite

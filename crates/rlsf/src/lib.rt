@@ -11,7 +11,8 @@ pub use rlsf_tlsf::{BlockInfo, Blocks, GRANULARITY, Tlsf, laws};
 /// The size classes, and what is computed of them.
 pub mod classes {
     pub use rlsf_base::classes::{
-        map_ceil, map_ceil_and_unmap, map_floor, max_pool_size, pool_size_to_contain_allocation,
+        map_ceil, map_ceil_and_unmap, map_floor, max_pool_size, pool_size_for_objects,
+        pool_size_for_payloads, pool_size_to_contain_allocation,
     };
 }
 

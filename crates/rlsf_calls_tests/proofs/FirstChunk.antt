@@ -5,6 +5,7 @@ use Rattle.rlsf_base.specs.declared.memory.range.Range.{Range}
 use Rattle.rlsf_base.specs.Range.{end_of, LiesIn, range_at}
 use Rattle.rlsf_base.specs.Sizes.{max_pool_size}
 use Rattle.rlsf_base.proofs.Numbers.Roundings.{round32-le}
+use Rattle.rlsf_machine.specs.ChunkRows.{IsRow}
 use Rattle.rlsf_machine.specs.Insert.{aligned_part, appended, cut, extended, with_chunks, Appends, Inserts, IsNext}
 use Rattle.rlsf_machine.specs.Lists.{IsIn}
 use Rattle.rlsf_machine.specs.State.{State, empty}
@@ -12,6 +13,7 @@ use Rattle.rlsf_machine.specs.WellFormed.{coverage, itself}
 use Rattle.rlsf_tlsf.specs.Allocator.{Allocator, Steps}
 use Rattle.rlsf_tlsf.proofs.Arrivals.{opened}
 use Rattle.rlsf_machine.proofs.Coverage.{covers-behind}
+use Rattle.rlsf_machine.proofs.Chunks.{used-inserted}
 use Rattle.rlsf_machine.proofs.Cuts.{chunks_are_cut_off_the_front, max_pool-cases}
 
 -- a whole range that is one chunk, inserted first
@@ -47,3 +49,13 @@ Appends-few fllen s r reply t rows few step =
       | inl some ↦ step.after ∙ ap (λ o. appended o r s) some ∙ ap (λ o. with_chunks (cut o part) s) (sym some) ∙ ap (λ cs. with_chunks cs s) none_left
       | inr (none, large) ↦ step.after ∙ ap (λ o. appended o r s) none ∙ ap (λ n. extended r.start n s) none_more
     ]
+
+-- an allocator that was in the empty state has no payload once a range was inserted
+pub used-first : (fllen sllen : ℕ) (before after : Allocator) (r : Range) → before.state ≡ empty → Steps fllen sllen before after (λ t. (taken : Option ℕ) × Inserts fllen before.state r taken t) → after.state.used ≡ []
+used-first fllen sllen before after r new step =
+    let (taken, inserts) = (opened fllen sllen before after (λ t. (taken : Option ℕ) × Inserts fllen before.state r taken t) step).0 in
+    used-inserted fllen before.state after.state r taken inserts ∙ ap (λ (s : State). s.used) new
+
+-- the one chunk is a row
+pub IsRow-one : (s : State) (c : Range) → s.chunks ≡ c ∷ [] → IsRow s c
+IsRow-one s c one a from to = (c, subst (λ cs. IsIn c cs) (sym one) (inl refl), omega arith, from, to, omega arith)

@@ -17,6 +17,8 @@ mod pools;
 #[cfg(test)]
 mod reallocations;
 #[cfg(test)]
+mod removals;
+#[cfg(test)]
 mod tables;
 #[cfg(test)]
 mod walks;

@@ -1,14 +1,16 @@
 -- An op of a run over a source makes one call of the machine, or none.
-use Rattle.std.proofs.Common.{◌≡◌, ℕ, List, [], ◌∷◌, ◌++◌, refl, sym, ◌∙◌, ap, subst}
+use Rattle.std.proofs.Common.{◌≡◌, ℕ, List, [], ◌∷◌, ◌++◌, Option, Some, None, inl, refl, sym, ◌∙◌, ap, subst}
 use Rattle.rlsf_base.specs.declared.memory.range.Range.{Range}
 use Rattle.rlsf_machine.specs.FlexRun.{AsksNothing, FlexLeads, IsFlexRun, IsFlexStep}
 use Rattle.rlsf_machine.specs.FlexState.{FlexState, with_machine}
+use Rattle.rlsf_machine.specs.NoMove.{ReallocatesWithoutMove}
 use Rattle.rlsf_machine.specs.Note.{Note}
-use Rattle.rlsf_machine.specs.Run.{Event, deallocate, fill, Fills}
+use Rattle.rlsf_machine.specs.Run.{Event, deallocate, reallocate, fill, Fills}
 use Rattle.rlsf_machine.specs.Release.{Deallocates}
 use Rattle.rlsf_machine.specs.State.{State}
 use Rattle.rlsf_machine.specs.Terms.{Terms}
-use Rattle.rlsf_runs.specs.Events.{IsDoneBy}
+use Rattle.rlsf_machine.proofs.NoMove.{unmoved_is_reallocated}
+use Rattle.rlsf_runs.specs.Events.{IsDoneBy, unmoved_calls}
 use Rattle.rlsf_text.specs.declared.op.Answer.{Answer}
 use Rattle.rlsf_text.specs.declared.op.Op.{Op}
 use Rattle.rlsf_flex_runs.specs.FlexEvents.{events_of, RunsFlexByEvents}
@@ -37,4 +39,14 @@ module _ {fllen sllen : ℕ} {memory : Range} {terms : Terms} {s u : FlexState} 
     may = (step.block, step.holds);
     answers = λ n i. absurd i;
     leads = record { machine = u.machine; leads = step; none = refl; after = same };
+  })
+
+  -- a payload gets another size without a move, or the call is refused
+  pub made-unmoved : (addr size : ℕ) (reply : Option ℕ) → IsDoneBy op answer (unmoved_calls addr size reply) → ReallocatesWithoutMove s.machine addr size reply u.machine → u ≡ with_machine s u.machine
+      → MakesFlex fllen sllen memory terms s op answer [] u
+  made-unmoved addr size None is_done step same = no_call is_done refl (same ∙ ap (with_machine s) (unmoved_is_reallocated sllen s.machine u.machine addr size None step).1)
+  made-unmoved addr size (Some to) is_done step same = one_call (reallocate addr size (Some to)) is_done (record {
+    may = (step.block, step.holds);
+    answers = λ n i. absurd i;
+    leads = inl (record { machine = u.machine; reallocates = (unmoved_is_reallocated sllen s.machine u.machine addr size (Some to) step).0.1; none = refl; after = same });
   })

@@ -13,7 +13,7 @@ use Rattle.rlsf_flex.proofs.Outside.{KeepsOutside-refl, KeepsOutside-spare}
 use Rattle.rlsf_flex.proofs.Standing.{inner_in}
 use Rattle.rlsf_flex_runs.specs.FlexRuns.{DoesFlex, with_run, without_source}
 use Rattle.rlsf_flex_runs.specs.Steps.Names.{IsAt, LeadsOn, MakesFlex, named_in, no_call, run_of}
-use Rattle.rlsf_flex_runs.proofs.FlexEvents.{made-deallocate, made-fill}
+use Rattle.rlsf_flex_runs.proofs.FlexEvents.{made-deallocate, made-fill, made-unmoved}
 use Rattle.rlsf_machine.specs.Callers.{align_at, bytes_at}
 use Rattle.rlsf_machine.specs.FlexState.{with_machine}
 use Rattle.rlsf_machine.specs.NoMove.{ReallocatesWithoutMove}
@@ -122,7 +122,7 @@ module _ {S : Type 0} {fllen sllen : ℕ} {terms : S → Terms} {owes : S → Li
       unmoved name size p addr there valid alone aligns =
           let said = reply addr in
           let (u, owns, holds, its) = owned_live at.are_named name p there in
-          LeadsOn-alone (ReallocatesWithoutMove v.state.machine (address p) size said) (ReallocNoMove name size) (Placed addr) (named_in table) alone (λ step. (
+          LeadsOn-alone (ReallocatesWithoutMove v.state.machine (address p) size said) (ReallocNoMove name size) (Placed addr) (named_in table) alone (λ step same. (
             (
               refl,
               with_state w.state.machine (without_source (run_of v table)),
@@ -130,6 +130,7 @@ module _ {S : Type 0} {fllen sllen : ℕ} {terms : S → Terms} {owes : S → Li
               refl,
               refl,
             ),
+            made-unmoved (address p) size said (address p, refl) step same,
             AreNamed-kept at.are_named w.state.machine
                 (λ a align live. align_at-live w.state.machine a align (ap (λ f. f a) aligns ∙ live_in (inner_in at.stands) a align live)),
           ))

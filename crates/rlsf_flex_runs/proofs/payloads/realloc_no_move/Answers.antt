@@ -15,13 +15,13 @@ use Rattle.rlsf_flex_runs.proofs.payloads.realloc_no_move.Goals as goal
 
 pub returns-in_default : goal.returns-in_default
 returns-in_default g c =
-    LeadsOn-nothing c.requires (ReallocNoMove c.args.name c.args.size) (Refused UnknownName)
+    LeadsOn-nothing c.requires (ReallocNoMove c.args.name c.args.size) (Refused UnknownName) refl
     (refl, without_source (run_of c.args.flex.now c.args.names.now), (unnamed c.requires.are_named c.args.name (sym c.payload_of.ensures ∙ c.in_default.is), refl), refl, refl)
 
 pub returns-in_default-from_size_align : goal.returns-in_default-from_size_align
 returns-in_default-from_size_align g c =
     let (u, owns, _, aligned) = owned_live c.requires.are_named c.args.name c.in-Some.payload (sym c.payload_of.ensures ∙ c.in-Some.is) in
-    LeadsOn-nothing c.requires (ReallocNoMove c.args.name c.args.size) (Refused BadLayout)
+    LeadsOn-nothing c.requires (ReallocNoMove c.args.name c.args.size) (Refused BadLayout) refl
     (refl, without_source (run_of c.args.flex.now c.args.names.now), ((u, owns, λ valid. true≢false (sym (c.in_default-from_size_align.ensures.succeeds.1 (subst (IsLayout c.args.size) aligned valid)))), refl), refl, refl)
 
 pub reallocate_no_move-requires : goal.reallocate_no_move-requires
