@@ -67,7 +67,9 @@ class Run:
         self.flex.m.check()
         return self.answers[-1]
 
-    def answer(self, op, name, *ns):
+    def answer(self, op, name=None, *ns):
+        if op == "trim":
+            return f"trim {self.flex.trim()}"
         if op in ("insert", "append", "block"):
             return "refused 6 NotForFlex"
         if op == "alloc":

@@ -109,13 +109,25 @@ def random_call(rng, run):
     return run.do(op, name, rng.choice((known[0], known[-1], rng.choice(known))) if known else len(data))
 
 
+def random_trim(rng, run, calls):
+    """A trim, mostly behind the deallocations of what lies in some of the newest ranges."""
+    newest = run.flex.pools[:rng.choice((0, 1, 1, 2, 9))]
+    there = [name for name, at in run.names.items() if any(s <= at < s + l for s, l in newest)]
+    for name in there[:calls - 1]:
+        run.do(rng.choice(("free", "ufree")), name)
+    return run.do("trim")
+
+
 def random_run(rng, index):
     """All eight kinds of source in 8 runs, with each alignment in 40, and with each configuration in 200."""
     capabilities = [word for i, word in enumerate(CAPABILITIES) if index >> i & 1]
     source = RandomSource(rng, capabilities, MIN_ALIGNS[index % 5])
     run = Run(CONFIGS[(index // 5 + index // 40) % 5], source)
-    for _ in range(CALLS):
-        random_call(rng, run)
+    while len(run.lines) < CALLS:
+        if rng.random() < 0.06:
+            random_trim(rng, run, CALLS - len(run.lines))
+        else:
+            random_call(rng, run)
     while source.answers and rng.random() < 0.5 and source.answers[-1] == "answer none":
         source.answers.pop()
     return run

@@ -22,5 +22,5 @@ pub use Rattle.rlsf_machine.specs.FlexReallocate.{FlexReallocates}
 pub use Rattle.rlsf_machine.specs.FlexState.{FlexState, KeptPool}
 pub use Rattle.rlsf_machine.specs.Note.{Note, LeadsBy}
 pub use Rattle.rlsf_machine.specs.Terms.{IsGiven, IsGrown, Terms}
-pub use Rattle.rlsf_flex.specs.Outside.{KeepsOutside}
+pub use Rattle.rlsf_flex.specs.Outside.{IsOutside, KeepsOutside, NothingGoesBack, ever_owed}
 pub use Rattle.rlsf_flex.specs.StandsFor.{FlexContents, FlexStands, FlexSteps, StepsAlone}

@@ -4,10 +4,11 @@ use Rattle.std.proofs.lemmas.Option.{none-some}
 use Rattle.rlsf_base.specs.declared.memory.range.Range.{Range}
 use Rattle.rlsf_base.specs.SizeClass.{IsValid}
 use Rattle.rlsf_base.specs.Sizes.{pool_size_to_contain_allocation}
-use Rattle.rlsf_base.specs.Space.{SamePlace}
+use Rattle.rlsf_base.specs.Space.{SamePlace, Space}
 use Rattle.rlsf_tlsf.specs.Allocator.{Allocator, Steps}
 use Rattle.rlsf_blocks.specs.Spare.{KeepsSpare}
 use Rattle.rlsf_flex.specs.Outside.{KeepsOutside}
+use Rattle.rlsf_flex.specs.Steps.Outside.{KeepsOutsideNow}
 use Rattle.rlsf_flex.specs.SpareBytes.{KeepsSpareButFooter}
 use Rattle.rlsf_flex.specs.StandsFor.{FlexContents, FlexStandsFor, FlexSteps, allocator_of, with_allocator}
 use Rattle.rlsf_flex.specs.Steps.Growth.{Extended}
@@ -15,6 +16,7 @@ use Rattle.rlsf_machine.specs.Allocate.{Allocates}
 use Rattle.rlsf_machine.specs.Answers.{MayAnswerAll}
 use Rattle.rlsf_machine.specs.FlexAllocate.{Asks, FlexAllocates}
 use Rattle.rlsf_machine.specs.FlexState.{FlexState, with_machine}
+use Rattle.rlsf_machine.specs.FlexWellFormed.{IsNewest}
 use Rattle.rlsf_machine.specs.Growth.{Extends, Outcome, given, grown, is_more, refused, TakesIn}
 use Rattle.rlsf_machine.specs.Note.{Note, LeadsBy}
 use Rattle.rlsf_machine.specs.State.{State}
@@ -22,7 +24,8 @@ use Rattle.rlsf_machine.specs.Terms.{Terms}
 use Rattle.rlsf_machine.proofs.Chunks.{chunks-allocated}
 use Rattle.rlsf_machine.proofs.TakenPools.{pool_has_a_choice}
 use Rattle.rlsf_flex.proofs.Calls.{stands_alone}
-use Rattle.rlsf_flex.proofs.Outside.{KeepsOutside-stands, KeepsOutside-then}
+use Rattle.rlsf_flex.proofs.Outside.{KeepsOutside-alone, KeepsOutside-asked}
+use Rattle.rlsf_flex.proofs.OutsideNow.{KeepsOutsideNow-stands, KeepsOutsideNow-then}
 use Rattle.rlsf_flex.proofs.SpareBytes.{KeepsSpareButFooter-all, KeepsSpareButFooter-before, KeepsSpareButFooter-behind}
 use Rattle.rlsf_flex.proofs.Standing.{opened}
 
@@ -30,6 +33,10 @@ use Rattle.rlsf_flex.proofs.Standing.{opened}
 pub for_some : {A : Type 0} {P : A → Type 0} (o : Option A) → ((x : A) → o ≡ Some x → P x) → IfSome o P
 for_some None holds = tt
 for_some (Some x) holds = holds x refl
+
+-- of what isn't there, anything holds
+pub vacuous : {A : Type 0} (P : A → Type 0) (o : Option A) → o ≡ None → IfSome o P
+vacuous P o none = for_some o (λ x some. absurd (none-some x (sym none ∙ some)))
 
 -- what there is a value of isn't none
 pub not_none : {A : Type 0} (P : Type 0) (o : Option A) → (o ≡ None → ⊥) → IfNone o P
@@ -57,7 +64,7 @@ pub record Tried {S : Type 0} (fllen sllen : ℕ) (terms : S → Terms) (owes : 
   pub source : w.source ≡ v.source
   pub same : w.state ≡ v.state
   pub stands : FlexStandsFor fllen sllen terms owes w
-  pub still : KeepsOutside v.memory v.state.pools w.memory v.state.pools
+  pub still : KeepsOutsideNow v.memory v.state.pools w.memory v.state.pools
   pub spare : KeepsSpare v.memory v.state.machine w.memory v.state.machine
 
 module _ {S : Type 0} {fllen sllen : ℕ} {terms : S → Terms} {owes : S → List Range → Type 0} (size align : ℕ) where
@@ -67,8 +74,8 @@ module _ {S : Type 0} {fllen sllen : ℕ} {terms : S → Terms} {owes : S → Li
       pub allocated_stands : FlexStandsFor fllen sllen terms owes (with_allocator v new)
       allocated_stands = stands_alone h new _ place (chunks-allocated sllen v.state.machine new.state size align reply (opened _ _ _ did).0) did
 
-      pub allocated_outside : KeepsOutside v.memory v.state.pools new.memory v.state.pools
-      allocated_outside = KeepsOutside-stands h allocated_stands place (opened _ _ _ did).2
+      pub allocated_outside : KeepsOutsideNow v.memory v.state.pools new.memory v.state.pools
+      allocated_outside = KeepsOutsideNow-stands h allocated_stands place (opened _ _ _ did).2
 
     -- there is room
     pub allocated_in_room : (leads : S → Note → S → Type 0) (addr : ℕ) → Steps fllen sllen (allocator_of v) new (Allocates sllen v.state.machine size align (Some addr))
@@ -79,7 +86,7 @@ module _ {S : Type 0} {fllen sllen : ℕ} {terms : S → Terms} {owes : S → Li
       inl (record { machine = new.state; allocates = (opened _ _ _ did).0; none = refl; after = refl }),
       refl,
       λ n i. absurd i,
-      allocated_outside (Some addr) did,
+      KeepsOutside-alone v.memory new.memory v.state.pools (allocated_outside (Some addr) did),
       allocated_stands (Some addr) did,
       KeepsSpareButFooter-all (terms v.source) v.memory new.memory v.state (with_machine v.state new.state) (opened _ _ _ did).2,
     )
@@ -107,19 +114,19 @@ module _ {S : Type 0} {fllen sllen : ℕ} {terms : S → Terms} {owes : S → Li
       record { full = tried.full; extends = subst (λ o. Extends fllen (terms v.source) v.state o refused [] w.state) (sym none) (record { possible = tt; asked = refl; after = tried.same }) },
       tried.source,
       λ n i. absurd i,
-      subst (λ (s : FlexState). KeepsOutside v.memory v.state.pools w.memory s.pools) (sym tried.same) tried.still,
+      subst (λ (s : FlexState). KeepsOutside v.memory v.state.pools [] w.memory s.pools) (sym tried.same) (KeepsOutside-alone v.memory w.memory v.state.pools tried.still),
       tried.stands,
       subst (λ (s : FlexState). KeepsSpareButFooter (terms v.source) v.memory v.state w.memory s) (sym tried.same) (KeepsSpareButFooter-all (terms v.source) v.memory w.memory v.state v.state tried.spare),
     )
 
     module _ {leads : S → Note → S → Type 0} {e : ℕ} (wanted : pool_size_to_contain_allocation fllen sllen size align ≡ Some e) {after : FlexContents S} {more : Bool} (h : Extended fllen sllen terms owes leads w after e more) where
+      asked_extends : Extends fllen (terms v.source) v.state (Some e) h.outcome h.notes after.state
+      asked_extends = subst (λ (s : FlexState). Extends fllen (terms v.source) s (Some e) h.outcome h.notes after.state) tried.same
+          (subst (λ x. Extends fllen (terms x) w.state (Some e) h.outcome h.notes after.state) tried.source h.extends)
+
       -- what was asked is what the machine asks
       pub asks : Asks fllen sllen (terms v.source) v.state size align h.outcome h.notes after.state
-      asks = record {
-        full = tried.full;
-        extends = subst (λ o. Extends fllen (terms v.source) v.state o h.outcome h.notes after.state) (sym wanted) (subst (λ (s : FlexState). Extends fllen (terms v.source) s (Some e) h.outcome h.notes after.state) tried.same
-            (subst (λ x. Extends fllen (terms x) w.state (Some e) h.outcome h.notes after.state) tried.source h.extends));
-      }
+      asks = record { full = tried.full; extends = subst (λ o. Extends fllen (terms v.source) v.state o h.outcome h.notes after.state) (sym wanted) asked_extends }
 
       pub asked_by : LeadsBy leads v.source h.notes after.source
       asked_by = subst (λ x. LeadsBy leads x h.notes after.source) tried.source h.leads_by
@@ -127,8 +134,13 @@ module _ {S : Type 0} {fllen sllen : ℕ} {terms : S → Terms} {owes : S → Li
       pub asked_answers : MayAnswerAll (terms v.source) v.state.pools h.notes
       asked_answers = subst (λ (s : FlexState). MayAnswerAll (terms v.source) s.pools h.notes) tried.same (subst (λ x. MayAnswerAll (terms x) w.state.pools h.notes) tried.source h.answers)
 
-      pub asked_outside : KeepsOutside v.memory v.state.pools after.memory after.state.pools
-      asked_outside = KeepsOutside-then v.memory w.memory after.memory v.state.pools v.state.pools after.state.pools tried.still (subst (λ (s : FlexState). KeepsOutside w.memory s.pools after.memory after.state.pools) tried.same h.outside)
+      pub asked_outside : KeepsOutsideNow v.memory v.state.pools after.memory after.state.pools
+      asked_outside = KeepsOutsideNow-then v.memory w.memory after.memory v.state.pools v.state.pools after.state.pools tried.still (subst (λ (s : FlexState). KeepsOutsideNow w.memory s.pools after.memory after.state.pools) tried.same h.outside)
+
+      -- what keeps the bytes outside of the ranges keeps those outside of all that were outstanding
+      pub asked_noted : (n : Space) → KeepsOutsideNow v.memory v.state.pools n after.state.pools → KeepsOutside v.memory v.state.pools h.notes n after.state.pools
+      asked_noted n = KeepsOutside-asked fllen (terms v.source) v.state after.state e (subst (λ (s : FlexState). IsNewest (terms v.source) s.kept s.pools s.machine.chunks) tried.same (subst (λ x. IsNewest (terms x) w.state.kept w.state.pools w.state.machine.chunks) tried.source tried.stands.well_formed.newest))
+          v.memory n asked_extends
 
       pub asked_spare : KeepsSpareButFooter (terms v.source) v.memory v.state after.memory after.state
       asked_spare = KeepsSpareButFooter-behind (terms v.source) v.memory w.memory after.memory v.state after.state tried.still.place tried.spare (subst (λ (s : FlexState). KeepsSpareButFooter (terms v.source) w.memory s after.memory after.state) tried.same
@@ -137,7 +149,7 @@ module _ {S : Type 0} {fllen sllen : ℕ} {terms : S → Terms} {owes : S → Li
       -- nothing came
       pub nothing_more : more ≡ false → FlexSteps fllen sllen terms owes leads v after (FlexAllocates fllen sllen (terms v.source) v.state size align None)
       unfolding FlexSteps
-      nothing_more is = (h.notes, subst (λ o. Asks fllen sllen (terms v.source) v.state size align o h.notes after.state) (nothing_came h.outcome (sym is ∙ h.came)) asks, asked_by, asked_answers, asked_outside, h.stands, asked_spare)
+      nothing_more is = (h.notes, subst (λ o. Asks fllen sllen (terms v.source) v.state size align o h.notes after.state) (nothing_came h.outcome (sym is ∙ h.came)) asks, asked_by, asked_answers, asked_noted after.memory asked_outside, h.stands, asked_spare)
 
       module _ {fl_bits sl_bits : ℕ} (valid : IsValid fl_bits sl_bits fllen sllen) (is : more ≡ true) where
         came : is_more h.outcome ≡ true
@@ -156,7 +168,7 @@ module _ {S : Type 0} {fllen sllen : ℕ} {terms : S → Terms} {owes : S → Li
           inr (record { outcome = h.outcome; meanwhile = after.state; asks = asks; more = came; machine = last.state; allocates = (opened _ _ _ did).0; after = refl }),
           asked_by,
           asked_answers,
-          KeepsOutside-then v.memory after.memory last.memory v.state.pools after.state.pools after.state.pools asked_outside (allocated_outside last place h.stands (Some addr) did),
+          asked_noted last.memory (KeepsOutsideNow-then v.memory after.memory last.memory v.state.pools after.state.pools after.state.pools asked_outside (allocated_outside last place h.stands (Some addr) did)),
           allocated_stands last place h.stands (Some addr) did,
           KeepsSpareButFooter-before (terms v.source) v.memory after.memory last.memory v.state after.state asked_outside.place asked_spare last.state (chunks-allocated sllen after.state.machine last.state size align (Some addr) (opened _ _ _ did).0) (opened _ _ _ did).2,
         )

@@ -16,7 +16,7 @@ use Rattle.rlsf_machine.specs.Terms.{Terms}
 use Rattle.rlsf_machine.proofs.Coverage.{IsIn-append}
 use Rattle.rlsf_machine.proofs.Notes.{LeadsBy-append, terms-led}
 use Rattle.rlsf_machine.proofs.RangeLengths.{if_fits-some}
-use Rattle.rlsf_flex.proofs.Outside.{KeepsOutside-then}
+use Rattle.rlsf_flex.proofs.OutsideNow.{KeepsOutsideNow-then}
 use Rattle.rlsf_flex.proofs.SpareBytes.{KeepsSpare-room, KeepsSpareButFooter-behind}
 
 -- what is asked where the pool is kept
@@ -182,7 +182,7 @@ module _ {S : Type 0} {fllen sllen : ℕ} {terms : S → Terms} {owes : S → Li
           leads_by = LeadsBy-append leads before.source after.source last.source _ _ (refused_notes no_more) notes;
           answers = MayAnswerAll-append t before.state.pools (growth_note (growth_question t k n) None) (range_note (range_length t e) r.answer) (growth_note-answers t before.state.pools k n None tt)
               (range_note-answers t before.state e (range_length t e) refl r.answer may);
-          outside = KeepsOutside-then before.memory after.memory last.memory before.state.pools after.state.pools last.state.pools h.took.outside r.took.outside;
+          outside = KeepsOutsideNow-then before.memory after.memory last.memory before.state.pools after.state.pools last.state.pools h.took.outside r.took.outside;
           spare = KeepsSpareButFooter-behind t before.memory after.memory last.memory before.state last.state h.took.outside.place still spare;
           stands = r.took.stands;
           came = r.came;

@@ -8,7 +8,8 @@ use Rattle.rlsf_base.specs.Space.{Space, range_of, SamePlace}
 use Rattle.rlsf_blocks.specs.Spare.{KeepsSpare}
 use Rattle.rlsf_tlsf.specs.Allocator.{Allocator, IsInState}
 use Rattle.rlsf_flex.specs.Footers.{first_len, first_start, Footers}
-use Rattle.rlsf_flex.specs.Outside.{IsOutside, KeepsOutside}
+use Rattle.rlsf_flex.specs.Outside.{IsOutside}
+use Rattle.rlsf_flex.specs.Steps.Outside.{KeepsOutsideNow}
 use Rattle.rlsf_flex.specs.StandsFor.{FlexContents, FlexStandsFor}
 use Rattle.rlsf_flex.specs.Steps.Growth.{Took}
 use Rattle.rlsf_machine.specs.Answers.{MayAnswer}
@@ -27,7 +28,7 @@ use Rattle.rlsf_machine.proofs.Housing.{AreOutstanding-more, AreOutstanding-rest
 use Rattle.rlsf_machine.proofs.TakenPools.{appended_pool, IsTaken, pool_size_is}
 use Rattle.rlsf_flex.proofs.Frames.{Footers-kept, HasSpareFooter, footer_ends, outstanding_in, range_of-same, spare_footer, spare_here}
 use Rattle.rlsf_flex.proofs.Outcomes.{FlexStandsFor-answered}
-use Rattle.rlsf_flex.proofs.Outside.{KeepsOutside-footed, KeepsOutside-spare, KeepsOutside-then}
+use Rattle.rlsf_flex.proofs.OutsideNow.{KeepsOutsideNow-footed, KeepsOutsideNow-spare, KeepsOutsideNow-then}
 use Rattle.rlsf_flex.proofs.Rewritten.{Footers-written, IsFooted}
 use Rattle.rlsf_flex.proofs.Standing.{contents_at}
 
@@ -122,13 +123,13 @@ module _ {S : Type 0} {fl_bits sl_bits fllen sllen e : ℕ} (valid : IsValid fl_
             | inr i ↦ λ low high. omega (arith, coverage-in p (with_len k.range len ∷ c.kept.rest) a (inr i) low high, none)
           ])
 
-      outside : AreHoused (with_len k.range len ∷ c.kept.rest) t.chunks → KeepsOutside v.memory v.state.pools b.memory (with_len k.range len ∷ c.kept.rest)
+      outside : AreHoused (with_len k.range len ∷ c.kept.rest) t.chunks → KeepsOutsideNow v.memory v.state.pools b.memory (with_len k.range len ∷ c.kept.rest)
       outside housed =
           let (enough, grew, long) = Grew-longer in
           let now = with_len k.range len in
-          KeepsOutside-then v.memory d.memory b.memory v.state.pools (now ∷ c.kept.rest) (now ∷ c.kept.rest)
-          (KeepsOutside-footed (terms v.source).dealloc v.memory d.memory now (first_start c.kept.rest) (first_len c.kept.rest) v.state.pools (now ∷ c.kept.rest) (inl refl) (omega arith) only_more foot)
-          (KeepsOutside-spare d.memory b.memory v.state.machine t (now ∷ c.kept.rest) (now ∷ c.kept.rest) (housed_before c.before.well_formed c.was asked len c.kept c.is_grown more) housed (λ a none. none) place spare)
+          KeepsOutsideNow-then v.memory d.memory b.memory v.state.pools (now ∷ c.kept.rest) (now ∷ c.kept.rest)
+          (KeepsOutsideNow-footed (terms v.source).dealloc v.memory d.memory now (first_start c.kept.rest) (first_len c.kept.rest) v.state.pools (now ∷ c.kept.rest) (inl refl) (omega arith) only_more foot)
+          (KeepsOutsideNow-spare d.memory b.memory v.state.machine t (now ∷ c.kept.rest) (now ∷ c.kept.rest) (housed_before c.before.well_formed c.was asked len c.kept c.is_grown more) housed (λ a none. none) place spare)
 
       footers : (terms v.source).dealloc ≡ true → Footers d.memory (with_len k.range len ∷ c.kept.rest)
       footers takes =

@@ -12,11 +12,15 @@ pub mod Kept
 pub mod Loans
 pub mod Moves
 pub mod NewRanges
+pub mod NewestRange
 pub mod Outcomes
 pub mod Outside
+pub mod OutsideNow
 pub mod RangeLengths
+pub mod RangeRows
 pub mod Reallocations
 pub mod Rewritten
 pub mod SpareBytes
 pub mod Standing
+pub mod TrimmedRanges
 pub mod Unlent

@@ -10,7 +10,7 @@ use Rattle.rlsf_blocks.specs.Spare.{KeepsSpare}
 use Rattle.rlsf_tlsf.specs.Allocator.{Allocator, IsInState}
 use Rattle.rlsf_flex.specs.declared.pool.Pool.{Pool}
 use Rattle.rlsf_flex.specs.Footers.{Footers}
-use Rattle.rlsf_flex.specs.Outside.{KeepsOutside}
+use Rattle.rlsf_flex.specs.Steps.Outside.{KeepsOutsideNow}
 use Rattle.rlsf_flex.specs.StandsFor.{FlexContents, FlexStandsFor, kept_of}
 use Rattle.rlsf_flex.specs.Steps.Growth.{kept_len, kept_start, Took}
 use Rattle.rlsf_machine.specs.FlexState.{KeptPool}
@@ -27,7 +27,7 @@ use Rattle.rlsf_machine.proofs.TakenPools.{inserted_pool, IsTaken, pool_size_is}
 use Rattle.rlsf_flex.proofs.Frames.{Footers-kept, HasSpareFooter, ends_here, outstanding_in, range_of-same, spare_here}
 use Rattle.rlsf_flex.proofs.Kept.{keeps-dealloc, words-first}
 use Rattle.rlsf_flex.proofs.Outcomes.{FlexStandsFor-answered}
-use Rattle.rlsf_flex.proofs.Outside.{KeepsOutside-footed, KeepsOutside-spare, KeepsOutside-then}
+use Rattle.rlsf_flex.proofs.OutsideNow.{KeepsOutsideNow-footed, KeepsOutsideNow-spare, KeepsOutsideNow-then}
 use Rattle.rlsf_flex.proofs.Rewritten.{Footers-written, IsFooted}
 use Rattle.rlsf_flex.proofs.Standing.{contents_at}
 
@@ -83,10 +83,10 @@ module _ {S : Type 0} {fl_bits sl_bits fllen sllen e : ℕ} (valid : IsValid fl_
         room = λ more. pool;
       }
     where
-      outside : IsFlexWellFormed fllen sllen (range_of b.memory) (terms v.source) (record { machine = t; pools = r ∷ v.state.pools; kept = later }) → KeepsOutside v.memory v.state.pools d.memory (r ∷ v.state.pools)
-      outside middle = KeepsOutside-then v.memory b.memory d.memory v.state.pools (r ∷ v.state.pools) (r ∷ v.state.pools)
-          (KeepsOutside-spare v.memory b.memory v.state.machine t v.state.pools (r ∷ v.state.pools) c.before.well_formed.housed middle.housed (λ a none. omega (arith, none)) place spare)
-          (KeepsOutside-footed (terms v.source).dealloc b.memory d.memory r (kept_start kept) (kept_len kept) (r ∷ v.state.pools) (r ∷ v.state.pools) (inl refl) (middle.pools.long r (inl refl)) (λ a none. none) foot)
+      outside : IsFlexWellFormed fllen sllen (range_of b.memory) (terms v.source) (record { machine = t; pools = r ∷ v.state.pools; kept = later }) → KeepsOutsideNow v.memory v.state.pools d.memory (r ∷ v.state.pools)
+      outside middle = KeepsOutsideNow-then v.memory b.memory d.memory v.state.pools (r ∷ v.state.pools) (r ∷ v.state.pools)
+          (KeepsOutsideNow-spare v.memory b.memory v.state.machine t v.state.pools (r ∷ v.state.pools) c.before.well_formed.housed middle.housed (λ a none. omega (arith, none)) place spare)
+          (KeepsOutsideNow-footed (terms v.source).dealloc b.memory d.memory r (kept_start kept) (kept_len kept) (r ∷ v.state.pools) (r ∷ v.state.pools) (inl refl) (middle.pools.long r (inl refl)) (λ a none. none) foot)
 
       footers : IsFlexWellFormed fllen sllen (range_of b.memory) (terms v.source) (record { machine = t; pools = r ∷ v.state.pools; kept = later }) → (terms v.source).dealloc ≡ true → Footers d.memory (r ∷ v.state.pools)
       footers middle takes =

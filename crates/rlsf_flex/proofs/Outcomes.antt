@@ -13,7 +13,7 @@ use Rattle.rlsf_machine.specs.FlexWellFormed.{IsFlexWellFormed}
 use Rattle.rlsf_machine.specs.Growth.{Outcome, refused}
 use Rattle.rlsf_machine.specs.State.{State}
 use Rattle.rlsf_machine.specs.Terms.{Terms}
-use Rattle.rlsf_flex.proofs.Outside.{KeepsOutside-refl}
+use Rattle.rlsf_flex.proofs.OutsideNow.{KeepsOutsideNow-refl}
 use Rattle.rlsf_flex.proofs.Standing.{contents_at}
 
 module _ {S : Type 0} {fllen sllen : ℕ} {terms : S → Terms} {owes : S → List Range → Type 0} where
@@ -34,7 +34,7 @@ module _ {S : Type 0} {fllen sllen : ℕ} {terms : S → Terms} {owes : S → Li
 
     -- nothing came
     pub Took-refused : (e : ℕ) → Took fllen sllen terms owes v (contents_at (allocator_of v) y v.state) e refused
-    Took-refused e = record { takes = refl; may = tt; outside = KeepsOutside-refl v.memory v.state.pools; spare = λ a low high one two none. refl; stands = FlexStandsFor-refused; room = λ more. absurd (false≢true more) }
+    Took-refused e = record { takes = refl; may = tt; outside = KeepsOutsideNow-refl v.memory v.state.pools; spare = λ a low high one two none. refl; stands = FlexStandsFor-refused; room = λ more. absurd (false≢true more) }
 
   -- the state after, by its parts' names
   pub Took-named : {v : FlexContents S} {d : Allocator} {y : S} {t : State} {pools ranges : List Range} {kept : Option KeptPool} {e : ℕ} {o : Outcome} → d.state ≡ t → ranges ≡ pools

@@ -6,7 +6,7 @@ use Rattle.rlsf_base.specs.Sizes.{pool_size_to_contain_allocation}
 use Rattle.rlsf_base.specs.Space.{SamePlace}
 use Rattle.rlsf_tlsf.specs.Allocator.{Allocator, Steps}
 use Rattle.rlsf_blocks.specs.Spare.{KeepsSpare}
-use Rattle.rlsf_flex.specs.Outside.{KeepsOutside}
+use Rattle.rlsf_flex.specs.Steps.Outside.{KeepsOutsideNow}
 use Rattle.rlsf_flex.specs.StandsFor.{FlexContents, FlexStandsFor, FlexSteps, allocator_of, with_allocator}
 use Rattle.rlsf_flex.specs.Steps.Growth.{Extended, MovesTo}
 use Rattle.rlsf_machine.specs.Allocate.{Allocates}
@@ -25,10 +25,11 @@ use Rattle.rlsf_machine.proofs.Chunks.{chunks-allocated, chunks-deallocated, chu
 use Rattle.rlsf_machine.proofs.Growths.{Holds-same, used-taken}
 use Rattle.rlsf_machine.proofs.Live.{handed_out_is_new}
 use Rattle.rlsf_machine.proofs.Payloads.{usable-short}
-use Rattle.rlsf_flex.proofs.Allocations.{Tried, asked_answers, asked_by, asked_outside, asked_spare, asks, refused_alone}
+use Rattle.rlsf_flex.proofs.Allocations.{Tried, asked_answers, asked_by, asked_noted, asked_outside, asked_spare, asks, refused_alone}
 use Rattle.rlsf_flex.proofs.Calls.{stands_alone}
 use Rattle.rlsf_flex.proofs.Frames.{stands_stepped}
-use Rattle.rlsf_flex.proofs.Outside.{KeepsOutside-stands, KeepsOutside-then}
+use Rattle.rlsf_flex.proofs.Outside.{KeepsOutside-alone}
+use Rattle.rlsf_flex.proofs.OutsideNow.{KeepsOutsideNow-stands, KeepsOutsideNow-then}
 use Rattle.rlsf_flex.proofs.SpareBytes.{KeepsSpareButFooter-all, KeepsSpareButFooter-before}
 use Rattle.rlsf_flex.proofs.Standing.{opened, stood}
 
@@ -84,8 +85,8 @@ module _ {S : Type 0} {fllen sllen : ℕ} {terms : S → Terms} {owes : S → Li
       pub reallocated_stands : FlexStandsFor fllen sllen terms owes (with_allocator v new)
       reallocated_stands = stands_alone h new _ place (chunks-reallocated sllen v.state.machine new.state addr size reply (opened _ _ _ did).0) did
 
-      reallocated_outside : KeepsOutside v.memory v.state.pools new.memory v.state.pools
-      reallocated_outside = KeepsOutside-stands h reallocated_stands place (opened _ _ _ did).2
+      reallocated_outside : KeepsOutsideNow v.memory v.state.pools new.memory v.state.pools
+      reallocated_outside = KeepsOutsideNow-stands h reallocated_stands place (opened _ _ _ did).2
 
     -- there is room
     pub reallocated_in_room : (leads : S → Note → S → Type 0) (to : ℕ) → Steps fllen sllen (allocator_of v) new (Reallocates sllen v.state.machine addr size (Some to))
@@ -96,7 +97,7 @@ module _ {S : Type 0} {fllen sllen : ℕ} {terms : S → Terms} {owes : S → Li
       inl (record { machine = new.state; reallocates = (opened _ _ _ did).0; none = refl; after = refl }),
       refl,
       λ n i. absurd i,
-      reallocated_outside (Some to) did,
+      KeepsOutside-alone v.memory new.memory v.state.pools (reallocated_outside (Some to) did),
       reallocated_stands (Some to) did,
       KeepsSpareButFooter-all (terms v.source) v.memory new.memory v.state (with_machine v.state new.state) (opened _ _ _ did).2,
     )
@@ -160,7 +161,8 @@ module _ {S : Type 0} {fllen sllen : ℕ} {terms : S → Terms} {owes : S → Li
           }),
           asked_by size align tried wanted h,
           asked_answers size align tried wanted h,
-          KeepsOutside-then v.memory after.memory last.memory v.state.pools after.state.pools after.state.pools (asked_outside size align tried wanted h) (KeepsOutside-stands h.stands moved_stands place moved.spare),
+          asked_noted size align tried wanted h last.memory
+              (KeepsOutsideNow-then v.memory after.memory last.memory v.state.pools after.state.pools after.state.pools (asked_outside size align tried wanted h) (KeepsOutsideNow-stands h.stands moved_stands place moved.spare)),
           moved_stands,
           KeepsSpareButFooter-before (terms v.source) v.memory after.memory last.memory v.state after.state (asked_outside size align tried wanted h).place (asked_spare size align tried wanted h) last.state moved_chunks moved.spare,
         )

@@ -49,7 +49,7 @@ alone_opened v w step did = did
 
 -- what a step of an allocator over a source says
 pub flex_opened : {S : Type 0} {fllen sllen : ℕ} {terms : S → Terms} {owes : S → List Range → Type 0} {leads : S → Note → S → Type 0} (v w : FlexContents S) (step : List Note → FlexState → Type 0) → FlexSteps fllen sllen terms owes leads v w step
-    → (notes : List Note) × step notes w.state × LeadsBy leads v.source notes w.source × KeepsOutside v.memory v.state.pools w.memory w.state.pools × FlexStandsFor fllen sllen terms owes w
+    → (notes : List Note) × step notes w.state × LeadsBy leads v.source notes w.source × KeepsOutside v.memory v.state.pools notes w.memory w.state.pools × FlexStandsFor fllen sllen terms owes w
 unfolding FlexSteps
 flex_opened v w step (notes, is, leads_by, answers, outside, stands, spare) = (notes, is, leads_by, outside, stands)
 

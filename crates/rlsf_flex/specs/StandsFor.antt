@@ -73,10 +73,10 @@ StepsAlone fllen sllen terms owes before after step =
 
 -- A step of the machine that may ask the source for memory leads to the state after, with notes that, one by one and no others, lead
 -- from the source's value before to the one after, and whose answers are such as a source may give. Bytes of the memory outside of
--- the ranges stay, and in them those that no block is made of, but for the newest range's footer where memory came and the source
--- takes ranges back.
+-- the ranges that ever were outstanding stay, and in them those that no block is made of, but for the newest range's footer where
+-- memory came and the source takes ranges back.
 unfoldable pub FlexSteps : {S : Type 0} → ℕ → ℕ → (S → Terms) → (S → List Range → Type 0) → (S → Note → S → Type 0) → FlexContents S → FlexContents S → (List Note → FlexState → Type 0) → Type 0
 FlexSteps fllen sllen terms owes leads before after step =
     (notes : List Note) × step notes after.state × LeadsBy leads before.source notes after.source × MayAnswerAll (terms before.source) before.state.pools notes
-    × KeepsOutside before.memory before.state.pools after.memory after.state.pools × FlexStandsFor fllen sllen terms owes after
+    × KeepsOutside before.memory before.state.pools notes after.memory after.state.pools × FlexStandsFor fllen sllen terms owes after
     × KeepsSpareButFooter (terms before.source) before.memory before.state after.memory after.state

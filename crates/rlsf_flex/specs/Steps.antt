@@ -1,2 +1,4 @@
 -- What private functions' contracts cite.
 pub mod Growth
+pub mod Outside
+pub mod Trim

@@ -22,7 +22,7 @@ pub(crate) fn newest_range(kept: Option<Pool>) -> Option<Range>
 }
 
 /// The range before the one with this footer, if there is one.
-fn range_before(memory: &Memory, range: Range) -> Option<Range>
+pub(crate) fn range_before(memory: &Memory, range: Range) -> Option<Range>
     requires range { (16 ≤ end_of range) × (end_of range < 2 ^ 64) }
     requires words { IsWord memory.now (footer_of range) × IsWord memory.now (footer_of range + 8) }
     ensures { (rest : List Range) → Footers memory.now (range ∷ rest) → ((p : Range) → IsIn p rest → 0 < p.start) → result ≡ first rest }

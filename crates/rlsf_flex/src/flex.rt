@@ -1,12 +1,13 @@
 //! The allocator over a source.
 
 ghost use Rattle.std.specs.Borrow.{sem};
-ghost use Rattle.std.specs.Prelude.{◌≡◌, ◌≢◌, ◌≤◌, ◌<◌, ◌+◌, ℕ, List, [], Some, None, length, IfNone, IfSome, IsSome};
+ghost use Rattle.std.specs.Prelude.{◌≡◌, ◌≢◌, ◌≤◌, ◌<◌, ◌+◌, ◌*◌, ℕ, List, [], Some, None, length, IfNone, IfSome, IsSome};
 ghost use Rattle.rlsf_base.specs.Addr.{at, reply};
 ghost use Rattle.rlsf_base.specs.Range.{LiesIn};
 ghost use Rattle.rlsf_base.specs.SizeClass.{IsValid};
 ghost use Rattle.rlsf_base.specs.Sizes.{request_size};
 ghost use Rattle.rlsf_base.specs.Space.{SamePlace};
+ghost use Rattle.rlsf_blocks.specs.Spare.{KeepsSpare};
 ghost use Rattle.rlsf_machine.specs.Allocate.{choice};
 ghost use Rattle.rlsf_machine.specs.Callers.{align_at, bytes_at};
 ghost use Rattle.rlsf_machine.specs.End.{notes_at_end, owed_at_end};
@@ -19,12 +20,14 @@ ghost use Rattle.rlsf_machine.specs.Reallocate.{Keeps, Plan, Reallocates, in_pla
 ghost use Rattle.rlsf_machine.specs.Release.{Deallocates};
 ghost use Rattle.rlsf_machine.specs.Run.{Fills};
 ghost use Rattle.rlsf_machine.specs.State.{State, Used, with_front, Holds};
+ghost use Rattle.rlsf_machine.specs.Trim.{Trims};
 
 use crate::end::{give_back, newest_range};
 use crate::growth::{extend, move_payload};
 use crate::pool::Pool;
 use crate::ranges::GhostRanges;
 use crate::source::{FlexSource, SourceChange};
+use crate::trim::give_idle_back;
 use rlsf_base::classes::pool_size_to_contain_allocation;
 use rlsf_base::memory::{Addr, Layout, Memory};
 use rlsf_int::Bitmap;
@@ -334,6 +337,36 @@ impl<
         ensures copied { self.new.memory.copied ≡ self.old.memory.copied + len }
     {
         self.tlsf.copy_payload(from, to, len);
+    }
+
+    /// Gives the newest ranges back to the source, as far as they hold no used block, and answers how many: each once, with its
+    /// chunks and free blocks, the newest first. The newest of those that are left is the one that grows. Payloads stay, and so does
+    /// every byte that no block is made of before and after.
+    ///
+    /// 0 exactly where the source takes nothing back, the newest range holds a used block, or none is outstanding. Then nothing
+    /// changes. How long the walk over the blocks takes isn't bounded: it isn't counted, and the touches are 9 for each chunk that
+    /// goes.
+    pub fn trim(&mut self) -> usize
+        ensures step { FlexSteps FLLEN SLLEN S.terms S.owes S.leads self.old self.new (Trims (S.terms self.old.source) self.old.state result) }
+        ensures spare { KeepsSpare self.old.memory self.old.state.machine self.new.memory self.new.state.machine }
+        ensures aligns { align_at self.new.state.machine ≡ align_at self.old.state.machine }
+        ensures bytes { bytes_at self.new.state.machine ≡ bytes_at self.old.state.machine }
+        ensures same { result ≡ 0 → self.new ≡ self.old }
+        ensures place { SamePlace self.old.memory self.new.memory }
+        ensures touches { self.new.memory.touches + 9 * length self.new.state.machine.chunks ≤ self.old.memory.touches + 9 * length self.old.state.machine.chunks }
+        ensures grow { self.old.memory.touches ≤ self.new.memory.touches }
+        ensures copied { self.new.memory.copied ≡ self.old.memory.copied }
+    {
+        if self.source.supports_dealloc() {
+            give_idle_back(
+                &mut self.tlsf,
+                &mut self.kept,
+                &mut self.source,
+                &mut self.owed,
+            )
+        } else {
+            0
+        }
     }
 
     /// The end: the memory and the source, which gets each outstanding range back once, as it grew, the newest first, if it takes

@@ -10,6 +10,7 @@ mod growth;
 mod pool;
 mod ranges;
 mod source;
+mod trim;
 
 pub use flex::FlexTlsf;
 pub use source::{FlexSource, SourceChange};

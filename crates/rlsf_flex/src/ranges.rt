@@ -2,6 +2,7 @@
 ghost use Rattle.std.specs.Prelude.{◌≡◌, ℕ, List, [], ◌∷◌};
 ghost use Rattle.std.specs.Borrow.{ftrue};
 ghost use Rattle.rlsf_base.specs.declared.memory.range.Range.{Range};
+ghost use Rattle.rlsf_flex.specs.Steps.Trim.{older};
 ghost use Rattle.rlsf_machine.specs.Growth.{longer};
 
 use rlsf_base::memory::Range;
@@ -42,6 +43,13 @@ impl GhostRanges {
         ensures { self.new.ranges ≡ range ∷ self.old.ranges }
     {
         self.advance(range.start, range.len);
+    }
+
+    /// The newest range is outstanding no more.
+    pub(crate) fn drop_newest(&mut self)
+        ensures { self.new.ranges ≡ older self.old.ranges }
+    {
+        self.advance(0, 0);
     }
 
     /// The newest range has grown to a length.

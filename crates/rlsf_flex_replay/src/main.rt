@@ -5,10 +5,11 @@
 //! `contiguous`, with `+` between them, or `-` for none. MIN_ALIGN is a power of two, of which the starts of its ranges are
 //! multiples. Then come the source's answers to its questions, each a line `answer START LEN`, which gives a range,
 //! `answer LEN`, which grows one, or `answer none`; and then the text of a trace, whose memory is the source's space. An answer
-//! that the source may not give counts as none, and so does each one past the last.
+//! that the source may not give counts as none, and so does each one past the last. Behind the trace's first line there may be lines
+//! `trim`, which are no lines of the trace, and don't count where a fault names the line that has it.
 //!
-//! For a run there is a line `run NUMBER`, counted from 1, then a line for each op, as in the replay of a trace, and then a line
-//! for each question: `asked 96 got 4097 96` for a range, `asked 4097 96 to grow to 159 got 159` for growth, each with
+//! For a run there is a line `run NUMBER`, counted from 1, then a line for each op, as in the replay of a trace, and `trim COUNT` for
+//! a trim with how many ranges went back, and then a line for each question: `asked 96 got 4097 96` for a range, `asked 4097 96 to grow to 159 got 159` for growth, each with
 //! `got none` where it was refused, and `given back 4097 159` for a range that goes back.
 //!
 //! A text that isn't so ends the program with status 1.

@@ -6,15 +6,16 @@ ghost use Rattle.rlsf_base.specs.PowerOfTwo.{IsPowerOfTwo};
 use crate::error::Failure;
 use rlsf_base::memory::{Layout, Range};
 use rlsf_listed::{Capabilities, SourceAnswer};
-use rlsf_text::Trace;
-use std::alloc::Global;
+use rlsf_text::{Op, Trace};
+use std::alloc::{AllocError, Global};
 
-/// A run: what its source can do, what it answers, and the trace.
+/// A run: what its source can do, what it answers, the trace, and its ops with the trims among them.
 #[derive(Drop)]
 pub(crate) struct Run {
     pub(crate) capabilities: Capabilities,
     pub(crate) answers: Vec<SourceAnswer>,
     pub(crate) trace: Trace,
+    pub(crate) ops: Vec<Op>,
 }
 
 /// Reads a run from its text, which follows the word `run` and a space.
@@ -31,12 +32,48 @@ pub(crate) fn read_run(alloc: Global, text: &str) -> Result<Run, Failure>
         answers.push(read_answer(line)?)?;
         rest = after;
     }
-    let trace = Trace::parse(alloc, rest.as_bytes())?;
+    let lines = rest.strip_suffix('\n').unwrap_or(rest);
+    let text = without_trims(alloc, lines)?;
+    let trace = Trace::parse(alloc, text.as_bytes())?;
+    let ops = with_trims(alloc, lines, &trace.ops)?;
     Ok(Run {
         capabilities,
         answers,
         trace,
+        ops,
     })
+}
+
+/// The line that asks for a trim, which the text of traces hasn't.
+const TRIM: &str = "trim";
+
+/// The text of a trace: the lines that ask for no trim, each with LF at its end.
+fn without_trims(alloc: Global, lines: &str) -> Result<String, AllocError> {
+    let mut text = String::new(alloc);
+    for line in lines.split('\n') {
+        if line != TRIM {
+            text.push_str(line)?;
+            text.push('\n')?;
+        }
+    }
+    Ok(text)
+}
+
+/// The ops of the lines after the first: a trim where one asks for it, and else the next op of the trace.
+fn with_trims(alloc: Global, lines: &str, ops: &[Op]) -> Result<Vec<Op>, AllocError> {
+    let mut all = Vec::new(alloc);
+    let mut others = ops.iter().copied();
+    for line in lines.split('\n').skip(1) {
+        let op = if line == TRIM {
+            Some(Op::Trim)
+        } else {
+            others.next()
+        };
+        if let Some(op) = op {
+            all.push(op)?;
+        }
+    }
+    Ok(all)
 }
 
 /// The words of the first line, if it is an answer, and what follows it.

@@ -20,17 +20,18 @@ pub(crate) fn output_of(alloc: Global, text: &str) -> Result<String, Failure> {
         capabilities,
         answers,
         trace,
+        ops,
     } = read_run(alloc, text)?;
     let space = Range {
         start: trace.start,
         len: trace.len,
     };
-    // An op asks two questions at most, and at the end each range goes back.
-    let questions = trace.ops.len().saturating_mul(3);
+    // An op asks two questions at most, and each range goes back once, by a trim or at the end.
+    let questions = ops.len().saturating_mul(3);
     let source = ListedSource::new(alloc, space, capabilities, answers, questions)?;
     let memory = Memory::new(alloc, trace.start, trace.len)?;
     let configuration = trace.configuration;
-    let ops = &trace.ops;
+    let ops = &ops;
     match configuration {
         Configuration::EightByEight => {
             output_with(alloc, FlexTlsf::<_, u8, u8, 8, 8>::new(memory, source), ops)

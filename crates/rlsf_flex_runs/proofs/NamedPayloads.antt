@@ -1,5 +1,6 @@
 -- The named payloads of a run over a source, and what an op that asks nothing leaves of them.
-use Rattle.std.proofs.Common.{◌≡◌, ℕ, nat_eq, Some, None, Option, IsSome, List, [], ◌∷◌, length, refl, sym, ◌∙◌, ap, subst}
+use Rattle.std.proofs.Common.{◌≡◌, ℕ, nat_eq, Some, None, Option, IsSome, List, [], ◌∷◌, length, refl, sym, ◌∙◌, ap, subst, inl, inr}
+use Rattle.std.specs.Prelude.{◌⊎◌}
 use Rattle.std.specs.declared.num.NonZeroUsize.{NonZeroUsize}
 use Rattle.std.specs.HashMap.{get}
 use Rattle.rlsf_base.specs.Addr.{reply}
@@ -7,7 +8,7 @@ use Rattle.rlsf_base.specs.declared.memory.range.Range.{Range}
 use Rattle.rlsf_base.specs.Layout.{IsLayout}
 use Rattle.rlsf_base.specs.Space.{range_of, SamePlace}
 use Rattle.rlsf_blocks.specs.Spare.{KeepsSpare}
-use Rattle.rlsf_flex.specs.Outside.{IsOutside, KeepsOutside}
+use Rattle.rlsf_flex.specs.Outside.{KeepsOutside}
 use Rattle.rlsf_flex.specs.StandsFor.{FlexContents, FlexStandsFor, StepsAlone}
 use Rattle.rlsf_flex.proofs.Outside.{KeepsOutside-refl, KeepsOutside-spare}
 use Rattle.rlsf_flex.proofs.Standing.{inner_in}
@@ -16,6 +17,7 @@ use Rattle.rlsf_flex_runs.specs.Steps.Names.{IsAt, LeadsOn, MakesFlex, named_in,
 use Rattle.rlsf_flex_runs.proofs.FlexEvents.{made-deallocate, made-fill, made-unmoved}
 use Rattle.rlsf_machine.specs.Callers.{align_at, bytes_at}
 use Rattle.rlsf_machine.specs.FlexState.{with_machine}
+use Rattle.rlsf_machine.specs.FlexWellFormed.{AreHoused}
 use Rattle.rlsf_machine.specs.NoMove.{ReallocatesWithoutMove}
 use Rattle.rlsf_machine.specs.Note.{Note, LeadsBy}
 use Rattle.rlsf_machine.specs.Release.{Deallocates}
@@ -29,9 +31,10 @@ use Rattle.rlsf_runs.specs.Names.{address, AreNamed, NameTable}
 use Rattle.rlsf_runs.specs.Runs.{Frees, Owns, RunState, with_machine as with_state, without_name}
 use Rattle.rlsf_runs.proofs.Named.{AreNamed-filled, AreNamed-freed, AreNamed-kept, AreNamed-untaken, IsSetAt, owned_live}
 use Rattle.rlsf_text.specs.declared.op.Answer.{Answer}
-use Rattle.rlsf_text.specs.declared.op.Answer.TheVariants.{Done, Placed}
+use Rattle.rlsf_text.specs.declared.op.Answer.TheVariants.{Done, Placed, Refused}
 use Rattle.rlsf_text.specs.declared.op.Op.{Op}
-use Rattle.rlsf_text.specs.declared.op.Op.TheVariants.{ReallocNoMove}
+use Rattle.rlsf_text.specs.declared.op.Op.TheVariants.{Insert, Append, ReallocNoMove, Block as OpBlock}
+use Rattle.rlsf_text.specs.declared.op.TraceError.TheVariants.{NotForFlex}
 use Rattle.rlsf_tlsf.proofs.Standing.{bytes_in, live_in, some_live_in}
 
 -- names whose payloads a table has are the table's
@@ -45,15 +48,17 @@ AreNamed-in {s} {table} are = subst (AreNamed s table) (named-in are) are
 module _ {S : Type 0} {fllen sllen : ℕ} {terms : S → Terms} {owes : S → List Range → Type 0} where
   -- a step that asks the source nothing keeps the bytes outside of the ranges
   KeepsOutside-alone : {v w : FlexContents S} → FlexStandsFor fllen sllen terms owes v → FlexStandsFor fllen sllen terms owes w → w.state ≡ with_machine v.state w.state.machine → SamePlace v.memory w.memory
-      → KeepsSpare v.memory v.state.machine w.memory w.state.machine → KeepsOutside v.memory v.state.pools w.memory w.state.pools
-  KeepsOutside-alone {v} {w} before after same =
-      KeepsOutside-spare v.memory w.memory v.state.machine w.state.machine v.state.pools w.state.pools before.well_formed.housed after.well_formed.housed (λ a. subst (λ l. IsOutside l a) (ap (λ s. s.pools) same))
+      → KeepsSpare v.memory v.state.machine w.memory w.state.machine → KeepsOutside v.memory v.state.pools [] w.memory w.state.pools
+  KeepsOutside-alone {v} {w} before after same place keeps =
+      let pools = ap (λ s. s.pools) same in
+      subst (KeepsOutside v.memory v.state.pools [] w.memory) (sym pools)
+      (KeepsOutside-spare v.memory w.memory v.state.machine w.state.machine v.state.pools before.well_formed.housed (subst (λ l. AreHoused l w.state.machine.chunks) pools after.well_formed.housed) place keeps)
 
   -- an op that leads to names whose payloads the new table has leads to the table's
   pub LeadsOn-named : {leads : S → Note → S → Type 0} {v w : FlexContents S} {table new : NameTable} (op : Op) (answer : Answer) (notes : List Note) (named : ℕ → Option ℕ)
       → DoesFlex fllen sllen (terms v.source) (run_of v table) op answer notes (record { flex = w.state; named = named })
       → MakesFlex fllen sllen (range_of v.memory) (terms v.source) v.state op answer notes w.state → LeadsBy leads v.source notes w.source
-      → KeepsOutside v.memory v.state.pools w.memory w.state.pools → FlexStandsFor fllen sllen terms owes w → AreNamed w.state.machine new named
+      → KeepsOutside v.memory v.state.pools notes w.memory w.state.pools → FlexStandsFor fllen sllen terms owes w → AreNamed w.state.machine new named
       → LeadsOn fllen sllen terms owes leads v table op answer w new
   LeadsOn-named {v = v} {w = w} {table = table} op answer notes named does makes leads_by outside stands are = record {
     notes = notes;
@@ -84,6 +89,14 @@ module _ {S : Type 0} {fllen sllen : ℕ} {terms : S → Terms} {owes : S → Li
     -- an op that changes nothing
     pub LeadsOn-nothing : (op : Op) (answer : Answer) → IsDoneBy op answer [] → DoesFlex fllen sllen (terms v.source) (run_of v table) op answer [] (run_of v table) → LeadsOn fllen sllen terms owes leads v table op answer v table
     LeadsOn-nothing op answer is_done does = record { notes = []; does = does; makes = no_call is_done refl refl; leads_by = refl; outside = KeepsOutside-refl v.memory v.state.pools; at = at }
+
+    -- an op on a range is refused
+    pub not_on_ranges : (op : Op) → ((r : Range) × (op ≡ Insert r)) ⊎ (((r : Range) × (op ≡ Append r)) ⊎ ((r : Range) × (index : ℕ) × (op ≡ OpBlock r index)))
+        → LeadsOn fllen sllen terms owes leads v table op (Refused NotForFlex) v table
+    not_on_ranges op (inl (r, is)) = subst (λ o. LeadsOn fllen sllen terms owes leads v table o (Refused NotForFlex) v table) (sym is) (LeadsOn-nothing (Insert r) (Refused NotForFlex) refl (refl, refl, refl))
+    not_on_ranges op (inr (inl (r, is))) = subst (λ o. LeadsOn fllen sllen terms owes leads v table o (Refused NotForFlex) v table) (sym is) (LeadsOn-nothing (Append r) (Refused NotForFlex) refl (refl, refl, refl))
+    not_on_ranges op (inr (inr (r, index, is))) =
+        subst (λ o. LeadsOn fllen sllen terms owes leads v table o (Refused NotForFlex) v table) (sym is) (LeadsOn-nothing (OpBlock r index) (Refused NotForFlex) refl (refl, refl, refl))
 
     -- an op that changes nothing, where a name that was free was made free
     pub not_freed : {new : NameTable} (op : Op) (answer : Answer) (name : ℕ) → get nat_eq table name ≡ None → IsSetAt name None table new → IsDoneBy op answer []

@@ -1,4 +1,4 @@
--- What an allocation and a reallocation that may ask a source leave of the named payloads.
+-- What an allocation and a reallocation that may ask a source, and a trim, leave of the named payloads.
 use Rattle.std.proofs.Common.{◌≡◌, ℕ, nat_eq, Option, Some, None, Result, Ok, Err, IsOk, OnOk, true≢false, List, refl, sym, ◌∙◌, ap, subst, inl, inr}
 use Rattle.std.specs.HashMap.{get}
 use Rattle.std.specs.declared.num.NonZeroUsize.{NonZeroUsize}
@@ -17,18 +17,20 @@ use Rattle.rlsf_machine.specs.FlexState.{FlexState}
 use Rattle.rlsf_machine.specs.Growth.{Outcome}
 use Rattle.rlsf_machine.specs.Note.{Note}
 use Rattle.rlsf_machine.specs.Reallocate.{MovesAway, Reallocates}
-use Rattle.rlsf_machine.specs.Run.{allocate, reallocate}
+use Rattle.rlsf_machine.specs.Run.{allocate, reallocate, trim}
 use Rattle.rlsf_machine.specs.State.{IsLive}
 use Rattle.rlsf_machine.specs.Terms.{Terms}
+use Rattle.rlsf_machine.specs.Trim.{Trims}
 use Rattle.rlsf_machine.specs.WellFormed.{IsWellFormed}
 use Rattle.rlsf_machine.proofs.Changes.{Holds-unique}
 use Rattle.rlsf_machine.proofs.Growths.{Holds-same, used-taken}
+use Rattle.rlsf_machine.proofs.Trims.{used-trimmed}
 use Rattle.rlsf_runs.specs.declared.names.Payload.{Payload}
 use Rattle.rlsf_runs.specs.Names.{address, AreNamed, NameTable}
 use Rattle.rlsf_runs.specs.Runs.{with_name}
 use Rattle.rlsf_runs.proofs.Named.{AreNamed-allocated, AreNamed-kept, AreNamed-moved, AreNamed-reallocated, IsSetAt, owned_live, unnamed}
-use Rattle.rlsf_text.specs.declared.op.Answer.TheVariants.{Placed}
-use Rattle.rlsf_text.specs.declared.op.Op.TheVariants.{Alloc, Realloc}
+use Rattle.rlsf_text.specs.declared.op.Answer.TheVariants.{Placed, Trimmed}
+use Rattle.rlsf_text.specs.declared.op.Op.TheVariants.{Alloc, Realloc, Trim}
 use Rattle.rlsf_flex_runs.proofs.NamedPayloads.{LeadsOn-named}
 
 -- what a call ensures where it went well
@@ -112,3 +114,11 @@ module _ {S : Type 0} {fllen sllen : ℕ} {terms : S → Terms} {owes : S → Li
       let refused = subst (λ a. FlexReallocates fllen sllen (terms v.source) v.state a size None notes w.state) (sym holds.1) step in
       LeadsOn-named (Realloc name size) (Placed None) notes (named_in table) (u, owns, subst (IsLayout size) (sym aligned) valid, w.state, refused, refl)
       (one_call (reallocate (address old) size None) (address old, refl) (record { may = (u, holds); answers = answers; leads = step })) leads_by outside stands (AreNamed-asked at.are_named step.asks)
+
+  -- ranges may have gone back, and no payload with them
+  pub trimmed : (count : ℕ) → FlexSteps fllen sllen terms owes leads v w (Trims (terms v.source) v.state count) → LeadsOn fllen sllen terms owes leads v table Trim (Trimmed count) w table
+  unfolding FlexSteps
+  trimmed count (notes, step, leads_by, answers, outside, stands, spare) =
+      LeadsOn-named Trim (Trimmed count) notes (named_in table) (w.state, step, refl)
+      (one_call (trim count) refl (record { may = tt; answers = answers; leads = step })) leads_by outside stands
+      (AreNamed-kept at.are_named w.state.machine (λ addr align (block, holds, is). (block, Holds-same v.state.machine w.state.machine addr block (used-trimmed (terms v.source) v.state w.state count notes step) holds, is)))

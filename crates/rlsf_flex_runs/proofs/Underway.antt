@@ -35,7 +35,7 @@ pub record IsUnderway {S : Type 0} (fllen sllen : ℕ) (terms : S → Terms) (ow
       → RunsFlexByEvents fllen sllen (range_of first.memory) (terms first.source) empty ops (given ++ more) (notes ++ others) t
   pub leads_by : LeadsBy leads first.source notes v.source
   pub same_terms : terms v.source ≡ terms first.source
-  pub outside : KeepsOutside first.memory [] v.memory v.state.pools
+  pub outside : KeepsOutside first.memory [] notes v.memory v.state.pools
   pub room : length ops - done ≤ spare table
 
 module _ {S : Type 0} {fllen sllen : ℕ} {terms : S → Terms} {owes : S → List Range → Type 0} {leads : S → Note → S → Type 0} {first : FlexContents S} {ops : List Op} where
@@ -50,7 +50,7 @@ module _ {S : Type 0} {fllen sllen : ℕ} {terms : S → Terms} {owes : S → Li
     by_events = λ more others t run. subst (λ s. RunsFlexByEvents fllen sllen (range_of first.memory) (terms first.source) s ops more others t) new run;
     leads_by = refl;
     same_terms = refl;
-    outside = subst (λ pools. KeepsOutside first.memory [] first.memory pools) (sym (ap (λ s. s.pools) new)) (KeepsOutside-refl first.memory []);
+    outside = subst (λ pools. KeepsOutside first.memory [] [] first.memory pools) (sym (ap (λ s. s.pools) new)) (KeepsOutside-refl first.memory []);
     room = omega (arith, room);
   }
     where
@@ -78,7 +78,7 @@ module _ {S : Type 0} {fllen sllen : ℕ} {terms : S → Terms} {owes : S → Li
             (subst (λ l. RunsFlexByEvents fllen sllen (range_of first.memory) (terms first.source) v.state l (answer ∷ more) (on.notes ++ others) t) (sym left_ops) (one_more makes (drop (done + 1) ops) more others t run))));
         leads_by = LeadsBy-append leads first.source v.source w.source u.notes on.notes u.leads_by on.leads_by;
         same_terms = terms-led terms leads constant v.source w.source on.notes on.leads_by ∙ u.same_terms;
-        outside = KeepsOutside-then first.memory v.memory w.memory [] v.state.pools w.state.pools u.outside on.outside;
+        outside = KeepsOutside-then first.memory v.memory w.memory [] v.state.pools w.state.pools u.notes on.notes u.outside on.outside;
         room = room (length ops - (done + 1)) (omega (arith, below, u.room));
       }
     where

@@ -8,12 +8,13 @@ use Rattle.rlsf_machine.specs.FlexState.{FlexState, empty, with_machine}
 use Rattle.rlsf_machine.specs.Note.{Note}
 use Rattle.rlsf_machine.specs.State.{Used}
 use Rattle.rlsf_machine.specs.Terms.{Terms}
+use Rattle.rlsf_machine.specs.Trim.{Trims}
 use Rattle.rlsf_runs.specs.Runs.{Does, Owns, RunState, with_name}
 use Rattle.rlsf_text.specs.declared.op.Op.{Op}
-use Rattle.rlsf_text.specs.declared.op.Op.TheVariants.{Insert, Append, Alloc, Realloc, Block as OpBlock}
+use Rattle.rlsf_text.specs.declared.op.Op.TheVariants.{Insert, Append, Alloc, Realloc, Block as OpBlock, Trim}
 use Rattle.rlsf_text.specs.declared.op.Answer.{Answer}
-use Rattle.rlsf_text.specs.declared.op.Answer.TheVariants.{Placed, Refused}
-use Rattle.rlsf_text.specs.declared.op.TraceError.TheVariants.{NotForFlex}
+use Rattle.rlsf_text.specs.declared.op.Answer.TheVariants.{Placed, Trimmed, Refused}
+use Rattle.rlsf_text.specs.declared.op.TraceError.TheVariants.{NotForFlex, NotForTlsf}
 
 -- what a run over a source has come to: the state of the machine that asks the source, and the address of each live payload by its name
 pub record FlexRunState : Type 0 where
@@ -39,16 +40,20 @@ is_on_range (Append r) = true
 is_on_range (OpBlock r index) = true
 is_on_range op = false
 
--- An op, its answer, and what the source was asked for it with what it answered. An op on a range is refused; an allocation and a
--- reallocation are those of the machine that asks a source; every other op is what it is without a source, and asks nothing.
+-- An op, its answer, and what the source was asked for it with what it answered. An op on a range is refused; an allocation, a
+-- reallocation and a trim are those of the machine that asks a source, and no trim is refused; every other op is what it is without
+-- a source, and asks nothing.
 abbrev pub DoesFlex : ℕ → ℕ → Terms → FlexRunState → Op → Answer → List Note → FlexRunState → Type 0
 DoesFlex fllen sllen terms s op (Refused NotForFlex) notes t = (is_on_range op ≡ true) × (notes ≡ []) × (t ≡ s)
+DoesFlex fllen sllen terms s op (Refused NotForTlsf) notes t = ⊥
 DoesFlex fllen sllen terms s (Alloc name layout) (Placed addr) notes t =
     (s.named name ≡ None) × (flex : FlexState) × FlexAllocates fllen sllen terms s.flex layout.size layout.align (reply addr) notes flex
     × (t ≡ record { flex = flex; named = with_name name (reply addr) s.named })
 DoesFlex fllen sllen terms s (Realloc name size) (Placed addr) notes t =
     (u : Used) × Owns (without_source s) name u × IsLayout size u.align × (flex : FlexState) × FlexReallocates fllen sllen terms s.flex u.payload size (reply addr) notes flex
     × (t ≡ record { flex = flex; named = with_name name (reply addr) s.named })
+DoesFlex fllen sllen terms s Trim (Trimmed count) notes t =
+    (flex : FlexState) × Trims terms s.flex count notes flex × (t ≡ record { flex = flex; named = s.named })
 DoesFlex fllen sllen terms s op answer notes t =
     (is_on_range op ≡ false) × (r : RunState) × Does fllen sllen terms.space (without_source s) op answer r × (notes ≡ []) × (t ≡ with_run s r)
 

@@ -43,6 +43,7 @@ fn step<S: FlexSource, FLBitmap: Bitmap, SLBitmap: Bitmap, const FLLEN: usize, c
         Op::Put(name, offset, byte) => put(flex, names, name, offset, byte),
         Op::Get(name, offset) => get(flex, names, name, offset),
         Op::Usable(name) => usable(flex, names, name),
+        Op::Trim => Answer::Trimmed(flex.trim()),
     }
 }
 
@@ -69,7 +70,7 @@ pub fn run_flex<
     requires { flex.old.state ≡ empty }
     ensures runs { OnOk result ((given : List Answer) × (notes : List Note) × (t : FlexRunState) × (answers.new.items ≡ answers.old.items ++ given)
         × RunsFlex FLLEN SLLEN (S.terms flex.old.source) beginning ops.now given notes t × LeadsBy S.leads flex.old.source notes flex.new.source
-        × (flex.new.state ≡ t.flex) × KeepsOutside flex.old.memory [] flex.new.memory t.flex.pools
+        × (flex.new.state ≡ t.flex) × KeepsOutside flex.old.memory [] notes flex.new.memory t.flex.pools
         × RunsFlexByEvents FLLEN SLLEN (range_of flex.old.memory) (S.terms flex.old.source) empty ops.now given notes flex.new.state) }
     ensures refused { OnErr result ((answers.new.items ≡ answers.old.items) × (flex.new ≡ flex.old)) }
     ensures place { SamePlace flex.old.memory flex.new.memory }

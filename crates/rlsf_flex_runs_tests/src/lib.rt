@@ -11,3 +11,5 @@ mod refusals;
 mod runs;
 #[cfg(test)]
 mod sources;
+#[cfg(test)]
+mod trims;

@@ -16,7 +16,7 @@ use std::test::Fail;
 
 /// An allocator that hands out its space from a cursor on, and remembers what it was asked.
 #[derive(Drop)]
-struct CursorAlloc {
+pub struct CursorAlloc {
     space: Range,
     at: usize,
     asked: Questions,
@@ -35,7 +35,7 @@ impl Model for CursorAlloc {
 
 impl CursorAlloc {
     /// An allocator of the space.
-    fn new(space: Range) -> CursorAlloc
+    pub fn new(space: Range) -> CursorAlloc
         requires { end_of space < 2 ^ 64 }
         ensures value { result ≡ heap_cursor space space.start }
         ensures owed { OwesAllocations result [] }
@@ -48,7 +48,7 @@ impl CursorAlloc {
     }
 
     /// What it was asked so far: the first eight questions.
-    fn asked(&self) -> [Question; 8] {
+    pub fn asked(&self) -> [Question; 8] {
         self.asked.asked()
     }
 

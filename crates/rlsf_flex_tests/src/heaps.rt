@@ -22,6 +22,8 @@ pub enum Step {
     Allocate(usize, usize),
     /// The same, and gives the payload back.
     GiveBack(usize, usize),
+    /// Trims: how many ranges went.
+    Trim(usize),
     /// Reads the footer at an address.
     Footer(usize, (u64, u64)),
 }
@@ -104,7 +106,7 @@ fn given_back(flex: &mut Small, size: usize) -> Result<usize, LayoutError> {
 }
 
 /// The two words of a footer, where the memory has them.
-fn footer(memory: &Memory, addr: usize) -> Option<(u64, u64)> {
+pub fn footer(memory: &Memory, addr: usize) -> Option<(u64, u64)> {
     let offset = addr.checked_sub(memory.start())?;
     if addr % 8 == 0 && offset < memory.len() && memory.len() - offset >= 16 {
         Some((memory.word(addr), memory.word(addr + 8)))
@@ -119,6 +121,7 @@ pub fn first_wrong(flex: &mut Small, steps: &[Step]) -> Result<Option<usize>, La
         let is_right = match *step {
             Step::Allocate(size, addr) => allocated(flex, size)? == addr,
             Step::GiveBack(size, addr) => given_back(flex, size)? == addr,
+            Step::Trim(count) => flex.trim() == count,
             Step::Footer(addr, words) => footer(flex.memory_ref(), addr) == Some(words),
         };
         if !is_right {

@@ -15,3 +15,5 @@ mod heap_source;
 mod heaps;
 #[cfg(test)]
 mod loans;
+#[cfg(test)]
+mod trims;

@@ -2,12 +2,12 @@
 use Rattle.std.specs.Prelude.{◌≡◌, ℕ, List, [], ◌∷◌, ◌++◌, Option, Some, None}
 use Rattle.rlsf_base.specs.Addr.{reply}
 use Rattle.rlsf_base.specs.declared.memory.range.Range.{Range}
-use Rattle.rlsf_machine.specs.Run.{Event, insert, append, allocate, deallocate, reallocate, fill, Runs}
+use Rattle.rlsf_machine.specs.Run.{Event, insert, append, allocate, deallocate, reallocate, fill, trim, Runs}
 use Rattle.rlsf_machine.specs.State.{State}
 use Rattle.rlsf_text.specs.declared.op.Op.{Op}
-use Rattle.rlsf_text.specs.declared.op.Op.TheVariants.{Insert, Append, Alloc, Free, FreeUnknown, Realloc, ReallocNoMove, Fill, Put}
+use Rattle.rlsf_text.specs.declared.op.Op.TheVariants.{Insert, Append, Alloc, Free, FreeUnknown, Realloc, ReallocNoMove, Fill, Put, Trim}
 use Rattle.rlsf_text.specs.declared.op.Answer.{Answer}
-use Rattle.rlsf_text.specs.declared.op.Answer.TheVariants.{Inserted, Appended, Placed, Done}
+use Rattle.rlsf_text.specs.declared.op.Answer.TheVariants.{Inserted, Appended, Placed, Done, Trimmed}
 
 -- a reallocation that moved nothing is one that the machine replies to with where the payload is; one that found no room is none
 abbrev pub unmoved_calls : ℕ → ℕ → Option ℕ → List Event
@@ -15,7 +15,7 @@ unmoved_calls old size None = []
 unmoved_calls old size (Some addr) = reallocate old size (Some addr) ∷ []
 
 -- The calls of the machine by which an op with its answer is done: one, or none if it is refused or reads, or may not move and finds
--- no room. An op that sets one byte or all is a fill.
+-- no room. An op that sets one byte or all is a fill. A trim that isn't refused is one over a source.
 abbrev pub IsDoneBy : Op → Answer → List Event → Type 0
 IsDoneBy (Insert r) (Inserted len) es = es ≡ insert r (reply len) ∷ []
 IsDoneBy (Append r) (Appended more) es = es ≡ append r more ∷ []
@@ -26,6 +26,7 @@ IsDoneBy (Realloc name size) (Placed addr) es = (old : ℕ) × (es ≡ reallocat
 IsDoneBy (ReallocNoMove name size) (Placed addr) es = (old : ℕ) × (es ≡ unmoved_calls old size (reply addr))
 IsDoneBy (Fill name byte) Done es = (addr : ℕ) × (bytes : List ℕ) × (es ≡ fill addr bytes ∷ [])
 IsDoneBy (Put name offset byte) Done es = (addr : ℕ) × (bytes : List ℕ) × (es ≡ fill addr bytes ∷ [])
+IsDoneBy Trim (Trimmed count) es = es ≡ trim count ∷ []
 IsDoneBy op answer es = es ≡ []
 
 -- so for ops, one after another, each with one answer

@@ -17,11 +17,11 @@ use Rattle.rlsf_machine.specs.Release.{Deallocates}
 use Rattle.rlsf_machine.specs.Run.{Fills}
 use Rattle.rlsf_machine.specs.State.{State, Used, between, empty, usable}
 use Rattle.rlsf_text.specs.declared.op.Op.{Op}
-use Rattle.rlsf_text.specs.declared.op.Op.TheVariants.{Insert, Append, Alloc, Free, FreeUnknown, Realloc, ReallocNoMove, Fill, Put, Get, Usable as OpUsable, Block as OpBlock}
+use Rattle.rlsf_text.specs.declared.op.Op.TheVariants.{Insert, Append, Alloc, Free, FreeUnknown, Realloc, ReallocNoMove, Fill, Put, Get, Usable as OpUsable, Block as OpBlock, Trim}
 use Rattle.rlsf_text.specs.declared.op.Answer.{Answer}
 use Rattle.rlsf_text.specs.declared.op.Answer.TheVariants.{Inserted, Appended, Placed, Done, Byte, Usable, Block, Refused}
 use Rattle.rlsf_text.specs.declared.op.TraceError.{TraceError}
-use Rattle.rlsf_text.specs.declared.op.TraceError.TheVariants.{UnknownName, NameTaken, BadRange, BadOffset, BadLayout}
+use Rattle.rlsf_text.specs.declared.op.TraceError.TheVariants.{UnknownName, NameTaken, BadRange, BadOffset, BadLayout, NotForTlsf}
 
 -- what a run has come to: the machine's state, the address of each live payload by its name, and the pools
 pub record RunState : Type 0 where
@@ -92,7 +92,7 @@ Frees s name t =
 abbrev pub told_of : BlockOf → Range × Bool
 told_of b = (b.range, b.is_occupied)
 
--- why an op is refused
+-- why an op is refused; a trim always is, since there is no source that takes ranges back
 abbrev pub IsRefused : Range → RunState → Op → TraceError → Type 0
 IsRefused memory s (Insert r) BadRange = MayInsert memory s.pools r → ⊥
 IsRefused memory s (Append r) BadRange = MayAppend memory s.pools r → ⊥
@@ -110,6 +110,7 @@ IsRefused memory s (Get name offset) UnknownName = s.named name ≡ None
 IsRefused memory s (Get name offset) BadOffset = (u : Used) × Owns s name u × ((usable u).len ≤ offset)
 IsRefused memory s (OpUsable name) UnknownName = s.named name ≡ None
 IsRefused memory s (OpBlock r index) BadRange = MayWalk memory s.pools r → ⊥
+IsRefused memory s Trim NotForTlsf = Unit {0}
 IsRefused memory s op error = ⊥
 
 -- an op and its answer: a step of the machine, or a refusal, which comes exactly where it has to and changes nothing

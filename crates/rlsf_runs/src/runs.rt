@@ -85,6 +85,7 @@ fn step<FLBitmap: Bitmap, SLBitmap: Bitmap, const FLLEN: usize, const SLLEN: usi
         Op::Get(name, offset) => get(tlsf, tables, name, offset),
         Op::Usable(name) => usable(tlsf, tables, name),
         Op::Block(range, index) => block(tlsf, tables, range, index),
+        Op::Trim => Answer::Refused(TraceError::NotForTlsf),
     }
 }
 
@@ -172,6 +173,7 @@ fn alloc<FLBitmap: Bitmap, SLBitmap: Bitmap, const FLLEN: usize, const SLLEN: us
 }
 
 /// Does the ops, one after another, with an allocator that has no chunk yet. One answer an op follows those already there.
+/// `Trim` is refused as `NotForTlsf`.
 ///
 /// The memory stays in place, and at `Ok` each of its bytes that no block is made of at the end is as it was.
 ///

@@ -1,9 +1,9 @@
 -- Commands: what the lines of a trace ask for.
 use Rattle.std.specs.Prelude.{ℕ}
 use Rattle.rlsf_text.specs.declared.op.Op.{Op}
-use Rattle.rlsf_text.specs.declared.op.Op.TheVariants.{Insert, Append, Alloc, Free, FreeUnknown, Realloc, ReallocNoMove, Fill, Put, Get, Usable, Block}
+use Rattle.rlsf_text.specs.declared.op.Op.TheVariants.{Insert, Append, Alloc, Free, FreeUnknown, Realloc, ReallocNoMove, Fill, Put, Get, Usable, Block, Trim}
 
--- a command, with its numbers as they stand on the line
+-- a command, with its numbers as they stand on the line; no line asks for a trim
 pub data Command : Type 0 where
   insert : (start len : ℕ) → Command
   append : (start len : ℕ) → Command
@@ -17,6 +17,7 @@ pub data Command : Type 0 where
   get : (name offset : ℕ) → Command
   usable : (name : ℕ) → Command
   block : (start len index : ℕ) → Command
+  trim : Command
 
 -- the command that asks for an op
 abbrev pub command_of : Op → Command
@@ -32,3 +33,4 @@ command_of (Put name offset byte) = put name offset byte
 command_of (Get name offset) = get name offset
 command_of (Usable name) = usable name
 command_of (Block range index) = block range.start range.len index
+command_of Trim = trim

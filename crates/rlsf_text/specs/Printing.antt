@@ -6,11 +6,11 @@ use Rattle.std.specs.List.{flat_map, zip}
 use Rattle.std.specs.declared.num.NonZeroUsize.{NonZeroUsize}
 use Rattle.rlsf_base.specs.declared.memory.range.Range.{Range}
 use Rattle.rlsf_text.specs.declared.op.Op.{Op}
-use Rattle.rlsf_text.specs.declared.op.Op.TheVariants.{Insert, Append, Alloc, Free, FreeUnknown, Realloc, ReallocNoMove, Fill, Put, Get, Usable as OpUsable, Block as OpBlock}
+use Rattle.rlsf_text.specs.declared.op.Op.TheVariants.{Insert, Append, Alloc, Free, FreeUnknown, Realloc, ReallocNoMove, Fill, Put, Get, Usable as OpUsable, Block as OpBlock, Trim}
 use Rattle.rlsf_text.specs.declared.op.Answer.{Answer}
-use Rattle.rlsf_text.specs.declared.op.Answer.TheVariants.{Inserted, Appended, Placed, Done, Byte, Usable, Block, Refused}
+use Rattle.rlsf_text.specs.declared.op.Answer.TheVariants.{Inserted, Appended, Placed, Done, Byte, Usable, Block, Trimmed, Refused}
 use Rattle.rlsf_text.specs.declared.op.TraceError.{TraceError}
-use Rattle.rlsf_text.specs.declared.op.TraceError.TheVariants.{UnknownName, NameTaken, BadRange, BadOffset, BadLayout, NotForFlex}
+use Rattle.rlsf_text.specs.declared.op.TraceError.TheVariants.{UnknownName, NameTaken, BadRange, BadOffset, BadLayout, NotForFlex, NotForTlsf}
 
 -- the number of an error
 abbrev pub error_number : TraceError → ℕ
@@ -20,6 +20,7 @@ error_number BadRange = 3
 error_number BadOffset = 4
 error_number BadLayout = 5
 error_number NotForFlex = 6
+error_number NotForTlsf = 7
 
 -- the word for an error
 abbrev pub error_word : TraceError → List ℕ
@@ -29,6 +30,7 @@ error_word BadRange = codes "BadRange"
 error_word BadOffset = codes "BadOffset"
 error_word BadLayout = codes "BadLayout"
 error_word NotForFlex = codes "NotForFlex"
+error_word NotForTlsf = codes "NotForTlsf"
 
 -- how the line of an op begins: its command, and the name of its payload if it has one
 abbrev pub op_text : Op → List ℕ
@@ -44,6 +46,7 @@ op_text (Put name offset byte) = codes "put " ++ decimal name
 op_text (Get name offset) = codes "get " ++ decimal name
 op_text (OpUsable name) = codes "usable " ++ decimal name
 op_text (OpBlock range index) = codes "block"
+op_text Trim = codes "trim"
 
 -- how the line of an inserted range goes on: the length of its pool, if it was long enough for one
 abbrev pub inserted_text : Option NonZeroUsize → List ℕ
@@ -69,6 +72,7 @@ line_text op Done = op_text op ++ codes " done"
 line_text op (Byte byte) = op_text op ++ codes " " ++ decimal byte
 line_text op (Usable bytes) = op_text op ++ codes " " ++ decimal bytes
 line_text op (Block block) = op_text op ++ block_text block
+line_text op (Trimmed count) = op_text op ++ codes " " ++ decimal count
 line_text op (Refused error) = codes "refused " ++ decimal (error_number error) ++ codes " " ++ error_word error
 
 -- the line of each op that has an answer, in their order, each with LF at its end

@@ -29,6 +29,8 @@ pub enum Op {
     Usable(usize),
     /// Asks for the block at an index, from 0, of the pool that is the range.
     Block(Range, usize),
+    /// Gives the newest ranges back to the source, as far as they hold no payload. The text of traces has no line for it.
+    Trim,
 }
 
 /// What an op of a trace answers.
@@ -48,6 +50,8 @@ pub enum Answer {
     Usable(usize),
     /// The block's range with its header, and whether it is used; none past the last one.
     Block(Option<(Range, bool)>),
+    /// How many ranges went back to the source.
+    Trimmed(usize),
     /// The op was refused before any call of the allocator, and changed nothing.
     Refused(TraceError),
 }
@@ -68,6 +72,8 @@ pub enum TraceError {
     BadLayout = 5,
     /// A range is inserted, appended or walked in a run over a source: there the source's ranges are the pools.
     NotForFlex = 6,
+    /// A trim in a run without a source: nobody takes ranges back.
+    NotForTlsf = 7,
 }
 
 impl TraceError {
@@ -97,6 +103,7 @@ impl fmt::Display for TraceError {
             TraceError::BadOffset => f.write_str("BadOffset"),
             TraceError::BadLayout => f.write_str("BadLayout"),
             TraceError::NotForFlex => f.write_str("NotForFlex"),
+            TraceError::NotForTlsf => f.write_str("NotForTlsf"),
         }
     }
 }

@@ -53,6 +53,10 @@ fn print_line(text: &mut String, op: Op, answer: Answer) -> Result<(), AllocErro
             print_op(text, op)?;
             print_block(text, block)
         }
+        Answer::Trimmed(count) => {
+            print_op(text, op)?;
+            write!(text, " {count}")
+        }
         Answer::Refused(error) => {
             let number = error.number();
             write!(text, "refused {number} {error}")
@@ -76,6 +80,7 @@ fn print_op(text: &mut String, op: Op) -> Result<(), AllocError>
         Op::Get(name, _) => write!(text, "get {name}"),
         Op::Usable(name) => write!(text, "usable {name}"),
         Op::Block(_, _) => write!(text, "block"),
+        Op::Trim => write!(text, "trim"),
     }
 }
 

@@ -71,9 +71,10 @@ fn refusals(rt: HostRuntime) -> Result<(), Fail> {
             TraceError::BadRange.number(),
             TraceError::BadOffset.number(),
             TraceError::BadLayout.number(),
-            TraceError::NotForFlex.number()
+            TraceError::NotForFlex.number(),
+            TraceError::NotForTlsf.number()
         ),
-        (1, 2, 3, 4, 5, 6)
+        (1, 2, 3, 4, 5, 6, 7)
     );
     Ok(())
 }
@@ -124,6 +125,8 @@ fn pools_and_payloads_grow(rt: HostRuntime) -> Result<(), Fail> {
         Op::Append(range),
         Op::ReallocNoMove(1, 48),
         Op::ReallocNoMove(2, 49),
+        Op::Trim,
+        Op::Trim,
     ];
     let answers = [
         Answer::Appended(256),
@@ -136,13 +139,15 @@ fn pools_and_payloads_grow(rt: HostRuntime) -> Result<(), Fail> {
         Answer::Refused(TraceError::NotForFlex),
         Answer::Placed(NonZeroUsize::new(4112)),
         Answer::Placed(None),
+        Answer::Trimmed(2),
+        Answer::Refused(TraceError::NotForTlsf),
     ];
     prints(
         &rt,
         rt.alloc(),
         &ops,
         &answers,
-        "append 256\nappend 0\nrefused 3 BadRange\nrealloc 1 at 4112\nrealloc 18446744073709551615 none\nrefused 1 UnknownName\nrefused 5 BadLayout\nrefused 6 NotForFlex\nnrealloc 1 at 4112\nnrealloc 2 none\n",
+        "append 256\nappend 0\nrefused 3 BadRange\nrealloc 1 at 4112\nrealloc 18446744073709551615 none\nrefused 1 UnknownName\nrefused 5 BadLayout\nrefused 6 NotForFlex\nnrealloc 1 at 4112\nnrealloc 2 none\ntrim 2\nrefused 7 NotForTlsf\n",
     )
 }
 

@@ -4,9 +4,9 @@ mod random;
 mod refusals;
 
 use crate::replays::replays;
-use rlsf_base::memory::{Layout, Memory};
+use rlsf_base::memory::{Layout, Memory, Range};
 use rlsf_runs::{RunError, run};
-use rlsf_text::{Answer, Op};
+use rlsf_text::{Answer, Op, TraceError};
 use rlsf_tlsf::Tlsf;
 use std::alloc::Global;
 use std::num::NonZeroUsize;
@@ -283,6 +283,36 @@ fn answers_follow_those_already_there(rt: HostRuntime) -> Result<(), Fail> {
     assert_eq!(rt;
         answers.as_slice(),
         [Answer::Placed(NonZeroUsize::new(1)), Answer::Placed(None)].as_slice()
+    );
+    Ok(())
+}
+
+#[test]
+fn trims_are_refused(rt: HostRuntime) -> Result<(), Fail> {
+    let memory = Memory::new(rt.alloc(), 4096, 4096)?;
+    let mut tlsf = Tlsf::<u8, u8, 8, 8>::new(memory);
+    let pool = Range {
+        start: 4096,
+        len: 96,
+    };
+    let ops = [
+        Op::Trim,
+        Op::Insert(pool),
+        Op::Trim,
+        Op::Alloc(1, Layout::from_size_align(1, 1)?),
+    ];
+    let mut answers = Vec::new(rt.alloc());
+    run(rt.alloc(), &mut tlsf, &ops, &mut answers)?;
+    // What is idle stays a pool.
+    assert_eq!(rt;
+        answers.as_slice(),
+        [
+            Answer::Refused(TraceError::NotForTlsf),
+            Answer::Inserted(NonZeroUsize::new(96)),
+            Answer::Refused(TraceError::NotForTlsf),
+            Answer::Placed(NonZeroUsize::new(4112)),
+        ]
+        .as_slice()
     );
     Ok(())
 }

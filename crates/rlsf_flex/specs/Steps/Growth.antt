@@ -4,7 +4,7 @@ use Rattle.rlsf_base.specs.declared.memory.range.Range.{Range}
 use Rattle.rlsf_blocks.specs.Spare.{KeepsSpare}
 use Rattle.rlsf_tlsf.specs.Allocator.{Allocator, Stands}
 use Rattle.rlsf_flex.specs.declared.pool.Pool.{Pool}
-use Rattle.rlsf_flex.specs.Outside.{KeepsOutside}
+use Rattle.rlsf_flex.specs.Steps.Outside.{KeepsOutsideNow}
 use Rattle.rlsf_flex.specs.SpareBytes.{KeepsSpareButFooter}
 use Rattle.rlsf_flex.specs.StandsFor.{FlexContents, FlexStandsFor}
 use Rattle.rlsf_machine.specs.Answers.{MayAnswer, MayAnswerAll}
@@ -46,7 +46,7 @@ MayCome t s e (grown len) = (k : KeptPool) → s.kept ≡ Some k → MayAnswer t
 pub record Took {S : Type 0} (fllen sllen : ℕ) (terms : S → Terms) (owes : S → List Range → Type 0) (before after : FlexContents S) (e : ℕ) (outcome : Outcome) : Type 0 where
   pub takes : TakesIn fllen (terms before.source) before.state outcome after.state
   pub may : MayCome (terms before.source) before.state e outcome
-  pub outside : KeepsOutside before.memory before.state.pools after.memory after.state.pools
+  pub outside : KeepsOutsideNow before.memory before.state.pools after.memory after.state.pools
   pub spare : KeepsSpareButFooter (terms before.source) before.memory before.state after.memory after.state
   pub stands : FlexStandsFor fllen sllen terms owes after
   pub room : is_more outcome ≡ true → HasPool e after.state.machine
@@ -75,7 +75,7 @@ module _ {S : Type 0} (fllen sllen : ℕ) (terms : S → Terms) (owes : S → Li
     pub extends : Extends fllen (terms before.source) before.state (Some e) outcome notes after.state
     pub leads_by : LeadsBy leads before.source notes after.source
     pub answers : MayAnswerAll (terms before.source) before.state.pools notes
-    pub outside : KeepsOutside before.memory before.state.pools after.memory after.state.pools
+    pub outside : KeepsOutsideNow before.memory before.state.pools after.memory after.state.pools
     pub spare : KeepsSpareButFooter (terms before.source) before.memory before.state after.memory after.state
     pub stands : FlexStandsFor fllen sllen terms owes after
     pub came : more ≡ is_more outcome

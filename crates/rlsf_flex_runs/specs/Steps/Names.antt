@@ -38,11 +38,11 @@ pub data MakesFlex (fllen sllen : ℕ) (memory : Range) (terms : Terms) (s : Fle
 
 -- An op and its answer lead on from what the run has come to: there are notes, with which the op leads to what the allocator and the
 -- table then are, by a call of the machine or none; they, one by one and no others, lead from the source's value before to the one after. Bytes of the memory outside
--- of the ranges stay.
+-- of the ranges that ever were outstanding stay.
 pub record LeadsOn {S : Type 0} (fllen sllen : ℕ) (terms : S → Terms) (owes : S → List Range → Type 0) (leads : S → Note → S → Type 0) (v : FlexContents S) (table : NameTable) (op : Op) (answer : Answer) (w : FlexContents S) (new : NameTable) : Type 0 where
   pub notes : List Note
   pub does : DoesFlex fllen sllen (terms v.source) (run_of v table) op answer notes (run_of w new)
   pub makes : MakesFlex fllen sllen (range_of v.memory) (terms v.source) v.state op answer notes w.state
   pub leads_by : LeadsBy leads v.source notes w.source
-  pub outside : KeepsOutside v.memory v.state.pools w.memory w.state.pools
+  pub outside : KeepsOutside v.memory v.state.pools notes w.memory w.state.pools
   pub at : IsAt fllen sllen terms owes w new

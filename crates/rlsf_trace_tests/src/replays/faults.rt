@@ -3,7 +3,7 @@
 use super::replays;
 use std::test::Fail;
 
-static FAULTS: [(&[u8], &str); 47] = [
+static FAULTS: [(&[u8], &str); 48] = [
     // Of the first line.
     (b"", "line 1: FieldCount, status 1"),
     (b"\n", "line 1: FieldCount, status 1"),
@@ -40,6 +40,8 @@ static FAULTS: [(&[u8], &str); 47] = [
     (b"8x8 4096 96\n insert 1 1\n", "line 2: UnknownOp, status 1"),
     (b"8x8 4096 96\nInsert 1 1\n", "line 2: UnknownOp, status 1"),
     (b"8x8 4096 96\ninsert\t1 1\n", "line 2: UnknownOp, status 1"),
+    // The text has no line for a trim.
+    (b"8x8 4096 96\ntrim\n", "line 2: UnknownOp, status 1"),
     (b"8x8 4096 96\n\xff\n", "line 2: UnknownOp, status 1"),
     (b"8x8 4096 96\n\xff", "line 2: UnknownOp, status 1"),
     (b"8x8 4096 96\r\ninsert", "line 1: BadNumber, status 1"),

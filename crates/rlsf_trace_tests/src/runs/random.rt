@@ -296,7 +296,7 @@ fn name_of(op: Op) -> Option<usize> {
         | Op::Put(name, _, _)
         | Op::Get(name, _)
         | Op::Usable(name) => Some(name),
-        Op::Insert(_) | Op::Append(_) | Op::Block(_, _) => None,
+        Op::Insert(_) | Op::Append(_) | Op::Block(_, _) | Op::Trim => None,
     }
 }
 

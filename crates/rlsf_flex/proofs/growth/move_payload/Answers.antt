@@ -1,4 +1,4 @@
-use Rattle.std.proofs.Common.{◌≤◌, None, IfNone, length, refl, sym, ◌∙◌, ap, subst}
+use Rattle.std.proofs.Common.{◌≤◌, None, IfNone, arith, length, refl, sym, ◌∙◌, ap, subst}
 use Rattle.rlsf_base.specs.Addr.{at}
 use Rattle.rlsf_machine.specs.Allocate.{Allocates}
 use Rattle.rlsf_machine.specs.Run.{Fills}
@@ -45,3 +45,25 @@ returns-clause-step g c =
       stands = stood_at last;
       spare = KeepsSpare-copied v addr u holds size align to is short step now c.copy_payload.new.self c.deallocate.new.self r c.deallocate.new.self.state filled gone c.in_ok-to.ensures.place c.copy_payload.ensures.place spare spare_copied spare_last;
     }
+
+pub returns-in_err-to-clause-place : goal.returns-in_err-to-clause-place
+returns-in_err-to-clause-place g c = c.allocate.ensures.place
+
+pub returns-in_err-to-clause-grow : goal.returns-in_err-to-clause-grow
+returns-in_err-to-clause-grow g c = c.allocate.ensures.grow
+
+pub returns-in_err-to-clause-grow_copied : goal.returns-in_err-to-clause-grow_copied
+returns-in_err-to-clause-grow_copied g c = omega (arith, c.allocate.ensures.copied)
+
+pub returns-clause-place : goal.returns-clause-place
+returns-clause-place g c =
+    let first = c.allocate.ensures.place in
+    let second = c.copy_payload.ensures.place in
+    let third = c.deallocate.ensures.place in
+    (third.0 ∙ second.0 ∙ first.0, third.1 ∙ second.1 ∙ first.1)
+
+pub returns-clause-grow : goal.returns-clause-grow
+returns-clause-grow g c = omega (arith, c.allocate.ensures.grow, c.copy_payload.ensures.touches, c.deallocate.ensures.grow)
+
+pub returns-clause-grow_copied : goal.returns-clause-grow_copied
+returns-clause-grow_copied g c = omega (arith, c.allocate.ensures.copied, c.copy_payload.ensures.copied, c.deallocate.ensures.copied)

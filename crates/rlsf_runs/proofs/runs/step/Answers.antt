@@ -1,7 +1,10 @@
 use Rattle.std.proofs.Common.{refl, sym, subst}
 use Rattle.rlsf_runs.specs.Runs.{RunState}
 use Rattle.rlsf_runs.specs.Steps.Tables.{IsAt, LeadsOn}
-use Rattle.rlsf_runs.proofs.NamedPayloads.{room_left}
+use Rattle.rlsf_text.specs.declared.op.Answer.TheVariants.{Refused}
+use Rattle.rlsf_text.specs.declared.op.Op.TheVariants.{Trim}
+use Rattle.rlsf_text.specs.declared.op.TraceError.TheVariants.{NotForTlsf}
+use Rattle.rlsf_runs.proofs.NamedPayloads.{LeadsOn-nothing, room_left}
 use Rattle.rlsf_runs.proofs.runs.step.Goals as goal
 
 pub returns-in-Insert-clause-does : goal.returns-in-Insert-clause-does
@@ -135,3 +138,13 @@ returns-in-Block-clause-room g c = room_left c.args.tables.now
 
 pub returns-in-Block-clause-place : goal.returns-in-Block-clause-place
 returns-in-Block-clause-place g c = (refl, refl)
+
+pub returns-in-Trim-clause-does : goal.returns-in-Trim-clause-does
+returns-in-Trim-clause-does g c = λ s at.
+    subst (λ op. LeadsOn g.row.FLLEN g.row.SLLEN c.args.tlsf.now s op (Refused NotForTlsf) c.args.tlsf.now c.args.tables.now) (sym c.in-Trim.is) (LeadsOn-nothing at Trim (Refused NotForTlsf) (tt, refl))
+
+pub returns-in-Trim-clause-room : goal.returns-in-Trim-clause-room
+returns-in-Trim-clause-room g c = room_left c.args.tables.now
+
+pub returns-in-Trim-clause-place : goal.returns-in-Trim-clause-place
+returns-in-Trim-clause-place g c = (refl, refl)

@@ -1,12 +1,13 @@
-use Rattle.std.proofs.Common.{rules, ◌≡◌, ◌≢◌, ℕ, List, true, true≢false, Option, Some, None, IsSome, IfSome, arith, refl, sym, ◌∙◌, ap, subst}
+use Rattle.std.proofs.Common.{rules, ◌≡◌, ◌≢◌, ◌≤◌, ◌+◌, ℕ, List, true≢false, Option, Some, None, IsSome, IfSome, arith, refl, sym, ◌∙◌, ap, subst}
 use Rattle.rlsf_base.specs.Addr.{at, reply}
 use Rattle.rlsf_base.specs.Sizes.{request_size}
+use Rattle.rlsf_base.specs.Space.{SamePlace}
 use Rattle.rlsf_flex.specs.StandsFor.{FlexContents, flex_contents, FlexSteps}
 use Rattle.rlsf_machine.specs.Allocate.{Allocates, choice}
 use Rattle.rlsf_machine.specs.Callers.{align_at, bytes_at}
 use Rattle.rlsf_machine.specs.FlexAllocate.{FlexAllocates}
 use Rattle.rlsf_tlsf.specs.Allocator.{Steps}
-use Rattle.rlsf_flex.proofs.Allocations.{Tried, allocated_in_more, allocated_in_room, allocated_stands, extended_none, more_is_found, no_room, not_none, nothing_asked, nothing_more}
+use Rattle.rlsf_flex.proofs.Allocations.{Tried, allocated_in_more, allocated_in_room, allocated_stands, extended_none, more_is_found, no_room, not_none, nothing_asked, nothing_more, vacuous}
 use Rattle.rlsf_flex.proofs.Standing.{flex_opened, opened}
 use Rattle.rlsf_flex.proofs.flex.FlexTlsf.allocate.Given as given
 use Rattle.rlsf_flex.proofs.flex.FlexTlsf.allocate.Goals as goal
@@ -149,3 +150,98 @@ returns-else-extend-clause-same g c =
     let is = tried g (goal.at.returns-else-extend-clause-same g c).In_default in
     let h = c.if-extend.ensures.step in
     extended_none h refl ∙ is.same ∙ ap (λ (v : FlexContents g.row.S.Denot). v.state) c.self.view_is
+
+pub returns-in-Some-clause-live : goal.returns-in-Some-clause-live
+returns-in-Some-clause-live g c = c.in-Some.ensures.live
+
+pub returns-in-Some-clause-sized : goal.returns-in-Some-clause-sized
+returns-in-Some-clause-sized g c = c.in-Some.ensures.sized
+
+pub returns-in-Some-clause-few : goal.returns-in-Some-clause-few
+returns-in-Some-clause-few g c = c.in-Some.ensures.few
+
+pub returns-in-Some-clause-new : goal.returns-in-Some-clause-new
+returns-in-Some-clause-new g c = subst (λ (old : FlexContents g.row.S.Denot). align_at old.state.machine (at c.in-Some.addr) ≡ None) c.self.view_is c.in-Some.ensures.new
+
+pub returns-in-Some-clause-bytes : goal.returns-in-Some-clause-bytes
+returns-in-Some-clause-bytes g c = λ a off. c.in-Some.ensures.bytes a off ∙ (λ i. bytes_at (c.self.view_is i).state.machine a)
+
+pub returns-in-Some-clause-place : goal.returns-in-Some-clause-place
+returns-in-Some-clause-place g c = subst (λ (old : FlexContents g.row.S.Denot). SamePlace old.memory c.allocate.new.self.memory) c.self.view_is c.allocate.ensures.place
+
+pub returns-in-Some-clause-touches : goal.returns-in-Some-clause-touches
+returns-in-Some-clause-touches g c = λ some. subst (λ (old : FlexContents g.row.S.Denot). c.allocate.new.self.memory.touches ≤ old.memory.touches + 27) c.self.view_is c.allocate.ensures.touches
+
+pub returns-in-Some-clause-grow : goal.returns-in-Some-clause-grow
+returns-in-Some-clause-grow g c = subst (λ (old : FlexContents g.row.S.Denot). old.memory.touches ≤ c.allocate.new.self.memory.touches) c.self.view_is c.allocate.ensures.grow
+
+pub returns-in-Some-clause-copied : goal.returns-in-Some-clause-copied
+returns-in-Some-clause-copied g c = c.allocate.ensures.copied ∙ ap (λ (old : FlexContents g.row.S.Denot). old.memory.copied) c.self.view_is
+
+pub returns-in_err-wanted-clause-live : goal.returns-in_err-wanted-clause-live
+returns-in_err-wanted-clause-live g c = vacuous _ c.from_residual.result c.from_residual.ensures
+
+pub returns-in_err-wanted-clause-sized : goal.returns-in_err-wanted-clause-sized
+returns-in_err-wanted-clause-sized g c = vacuous _ c.from_residual.result c.from_residual.ensures
+
+pub returns-in_err-wanted-clause-few : goal.returns-in_err-wanted-clause-few
+returns-in_err-wanted-clause-few g c = vacuous _ c.from_residual.result c.from_residual.ensures
+
+pub returns-in_err-wanted-clause-new : goal.returns-in_err-wanted-clause-new
+returns-in_err-wanted-clause-new g c = vacuous _ c.from_residual.result c.from_residual.ensures
+
+pub returns-in_err-wanted-clause-aligns : goal.returns-in_err-wanted-clause-aligns
+returns-in_err-wanted-clause-aligns g c = vacuous _ c.from_residual.result c.from_residual.ensures
+
+pub returns-in_err-wanted-clause-bytes : goal.returns-in_err-wanted-clause-bytes
+returns-in_err-wanted-clause-bytes g c = vacuous _ c.from_residual.result c.from_residual.ensures
+
+pub returns-in_err-wanted-clause-place : goal.returns-in_err-wanted-clause-place
+returns-in_err-wanted-clause-place g c = subst (λ (old : FlexContents g.row.S.Denot). SamePlace old.memory c.allocate.new.self.memory) c.self.view_is c.allocate.ensures.place
+
+pub returns-in_err-wanted-clause-touches : goal.returns-in_err-wanted-clause-touches
+returns-in_err-wanted-clause-touches g c = λ some. subst (λ (old : FlexContents g.row.S.Denot). c.allocate.new.self.memory.touches ≤ old.memory.touches + 27) c.self.view_is c.allocate.ensures.touches
+
+pub returns-in_err-wanted-clause-grow : goal.returns-in_err-wanted-clause-grow
+returns-in_err-wanted-clause-grow g c = subst (λ (old : FlexContents g.row.S.Denot). old.memory.touches ≤ c.allocate.new.self.memory.touches) c.self.view_is c.allocate.ensures.grow
+
+pub returns-in_err-wanted-clause-copied : goal.returns-in_err-wanted-clause-copied
+returns-in_err-wanted-clause-copied g c = c.allocate.ensures.copied ∙ ap (λ (old : FlexContents g.row.S.Denot). old.memory.copied) c.self.view_is
+
+pub returns-then-extend-clause-live : goal.returns-then-extend-clause-live
+returns-then-extend-clause-live g c = c.allocate-then-extend.ensures.live
+
+pub returns-then-extend-clause-sized : goal.returns-then-extend-clause-sized
+returns-then-extend-clause-sized g c = c.allocate-then-extend.ensures.sized
+
+pub returns-then-extend-clause-few : goal.returns-then-extend-clause-few
+returns-then-extend-clause-few g c = c.allocate-then-extend.ensures.few
+
+pub returns-then-extend-clause-place : goal.returns-then-extend-clause-place
+returns-then-extend-clause-place g c =
+    let first = c.allocate.ensures.place in
+    let second = c.extend.ensures.place in
+    let third = c.allocate-then-extend.ensures.place in
+    subst (λ (old : FlexContents g.row.S.Denot). SamePlace old.memory c.allocate-then-extend.new.self.memory) c.self.view_is (third.0 ∙ second.0 ∙ first.0, third.1 ∙ second.1 ∙ first.1)
+
+pub returns-then-extend-clause-grow : goal.returns-then-extend-clause-grow
+returns-then-extend-clause-grow g c =
+    let first : c.args.self.now.memory.touches ≤ c.allocate.new.self.memory.touches = subst (λ (old : FlexContents g.row.S.Denot). old.memory.touches ≤ c.allocate.new.self.memory.touches) c.self.view_is c.allocate.ensures.grow in
+    omega (arith, first, c.extend.ensures.grow, c.allocate-then-extend.ensures.grow)
+
+pub returns-then-extend-clause-copied : goal.returns-then-extend-clause-copied
+returns-then-extend-clause-copied g c = c.allocate-then-extend.ensures.copied ∙ c.extend.ensures.copied ∙ c.allocate.ensures.copied ∙ ap (λ (old : FlexContents g.row.S.Denot). old.memory.copied) c.self.view_is
+
+pub returns-else-extend-clause-place : goal.returns-else-extend-clause-place
+returns-else-extend-clause-place g c =
+    let first = c.allocate.ensures.place in
+    let second = c.extend.ensures.place in
+    subst (λ (old : FlexContents g.row.S.Denot). SamePlace old.memory c.extend.new.tlsf.memory) c.self.view_is (second.0 ∙ first.0, second.1 ∙ first.1)
+
+pub returns-else-extend-clause-grow : goal.returns-else-extend-clause-grow
+returns-else-extend-clause-grow g c =
+    let first : c.args.self.now.memory.touches ≤ c.allocate.new.self.memory.touches = subst (λ (old : FlexContents g.row.S.Denot). old.memory.touches ≤ c.allocate.new.self.memory.touches) c.self.view_is c.allocate.ensures.grow in
+    omega (arith, first, c.extend.ensures.grow)
+
+pub returns-else-extend-clause-copied : goal.returns-else-extend-clause-copied
+returns-else-extend-clause-copied g c = c.extend.ensures.copied ∙ c.allocate.ensures.copied ∙ ap (λ (old : FlexContents g.row.S.Denot). old.memory.copied) c.self.view_is

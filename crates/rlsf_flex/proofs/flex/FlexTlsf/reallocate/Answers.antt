@@ -1,6 +1,7 @@
 use Rattle.std.specs.declared.num.NonZeroUsize.{NonZeroUsize}
-use Rattle.std.proofs.Common.{rules, ◌≡◌, ◌≢◌, ℕ, List, Option, Some, None, IfNone, IfSome, length, arith, refl, sym, ◌∙◌, ap, subst}
+use Rattle.std.proofs.Common.{rules, ◌≡◌, ◌≢◌, ◌≤◌, ◌+◌, ℕ, List, Option, Some, None, IfNone, IfSome, length, arith, refl, sym, ◌∙◌, ap, subst}
 use Rattle.rlsf_base.specs.Addr.{at, reply}
+use Rattle.rlsf_base.specs.Space.{SamePlace}
 use Rattle.rlsf_flex.specs.StandsFor.{FlexContents, flex_contents, FlexSteps}
 use Rattle.rlsf_flex.specs.Steps.Growth.{MovesTo}
 use Rattle.rlsf_machine.specs.Allocate.{Allocates}
@@ -10,7 +11,7 @@ use Rattle.rlsf_machine.specs.Reallocate.{Keeps, Plan, Reallocates, in_place, in
 use Rattle.rlsf_machine.specs.State.{State, Used, usable, Holds}
 use Rattle.rlsf_machine.proofs.CallerWords.{align_at-live, bytes_at-held}
 use Rattle.rlsf_tlsf.specs.Allocator.{Steps}
-use Rattle.rlsf_flex.proofs.Allocations.{Tried, extended_none, for_some, more_is_found, not_none, nothing_asked, nothing_more}
+use Rattle.rlsf_flex.proofs.Allocations.{Tried, extended_none, for_some, more_is_found, not_none, nothing_asked, nothing_more, vacuous}
 use Rattle.rlsf_flex.proofs.Reallocations.{no_room_to_move, reallocated_in_more, reallocated_in_room, reallocated_stands, refused_move_alone, refused_too, stuck_moves, stuck_short}
 use Rattle.rlsf_flex.proofs.Standing.{flex_opened, stood_at}
 use Rattle.rlsf_flex.proofs.flex.FlexTlsf.reallocate.Given as given
@@ -226,3 +227,114 @@ returns-else-extend-clause-same g c =
 
 pub returns-else-extend-clause-touches : goal.returns-else-extend-clause-touches
 returns-else-extend-clause-touches g c = λ to m some. absurd (refused_in g (goal.at.returns-else-extend-clause-touches g c).In_default to m some)
+
+pub returns-in-Some-clause-live : goal.returns-in-Some-clause-live
+returns-in-Some-clause-live g c = c.in-Some.ensures.live
+
+pub returns-in-Some-clause-sized : goal.returns-in-Some-clause-sized
+returns-in-Some-clause-sized g c = c.in-Some.ensures.sized
+
+pub returns-in-Some-clause-few : goal.returns-in-Some-clause-few
+returns-in-Some-clause-few g c = c.in-Some.ensures.few
+
+pub returns-in-Some-clause-kept : goal.returns-in-Some-clause-kept
+returns-in-Some-clause-kept g c = subst (λ (old : FlexContents g.row.S.Denot). Keeps (bytes_at old.state.machine (at c.args.addr)) (bytes_at c.reallocate.new.self.state (at c.in-Some.moved))) c.self.view_is c.in-Some.ensures.kept
+
+pub returns-in-Some-clause-new : goal.returns-in-Some-clause-new
+returns-in-Some-clause-new g c = λ off. subst (λ (old : FlexContents g.row.S.Denot). align_at old.state.machine (at c.in-Some.moved) ≡ None) c.self.view_is (c.in-Some.ensures.new off)
+
+pub returns-in-Some-clause-place : goal.returns-in-Some-clause-place
+returns-in-Some-clause-place g c = subst (λ (old : FlexContents g.row.S.Denot). SamePlace old.memory c.reallocate.new.self.memory) c.self.view_is c.reallocate.ensures.place
+
+pub returns-in-Some-clause-touches : goal.returns-in-Some-clause-touches
+returns-in-Some-clause-touches g c = λ to m some. subst (λ (old : FlexContents g.row.S.Denot). c.reallocate.new.self.memory.touches ≤ old.memory.touches + 66) c.self.view_is c.reallocate.ensures.touches
+
+pub returns-in-Some-clause-grow : goal.returns-in-Some-clause-grow
+returns-in-Some-clause-grow g c = subst (λ (old : FlexContents g.row.S.Denot). old.memory.touches ≤ c.reallocate.new.self.memory.touches) c.self.view_is c.reallocate.ensures.grow
+
+pub returns-in-Some-clause-copied : goal.returns-in-Some-clause-copied
+returns-in-Some-clause-copied g c = λ to m some. subst (λ (old : FlexContents g.row.S.Denot). c.reallocate.new.self.memory.copied ≤ old.memory.copied + length (bytes_at old.state.machine (at c.args.addr))) c.self.view_is c.reallocate.ensures.copied
+
+pub returns-in-Some-clause-grow_copied : goal.returns-in-Some-clause-grow_copied
+returns-in-Some-clause-grow_copied g c = subst (λ (old : FlexContents g.row.S.Denot). old.memory.copied ≤ c.reallocate.new.self.memory.copied) c.self.view_is c.reallocate.ensures.grow_copied
+
+pub returns-in_err-wanted-clause-live : goal.returns-in_err-wanted-clause-live
+returns-in_err-wanted-clause-live g c = vacuous _ c.from_residual.result c.from_residual.ensures
+
+pub returns-in_err-wanted-clause-sized : goal.returns-in_err-wanted-clause-sized
+returns-in_err-wanted-clause-sized g c = vacuous _ c.from_residual.result c.from_residual.ensures
+
+pub returns-in_err-wanted-clause-few : goal.returns-in_err-wanted-clause-few
+returns-in_err-wanted-clause-few g c = vacuous _ c.from_residual.result c.from_residual.ensures
+
+pub returns-in_err-wanted-clause-kept : goal.returns-in_err-wanted-clause-kept
+returns-in_err-wanted-clause-kept g c = vacuous _ c.from_residual.result c.from_residual.ensures
+
+pub returns-in_err-wanted-clause-new : goal.returns-in_err-wanted-clause-new
+returns-in_err-wanted-clause-new g c = vacuous _ c.from_residual.result c.from_residual.ensures
+
+pub returns-in_err-wanted-clause-aligns : goal.returns-in_err-wanted-clause-aligns
+returns-in_err-wanted-clause-aligns g c = vacuous _ c.from_residual.result c.from_residual.ensures
+
+pub returns-in_err-wanted-clause-bytes : goal.returns-in_err-wanted-clause-bytes
+returns-in_err-wanted-clause-bytes g c = vacuous _ c.from_residual.result c.from_residual.ensures
+
+pub returns-in_err-wanted-clause-place : goal.returns-in_err-wanted-clause-place
+returns-in_err-wanted-clause-place g c = subst (λ (old : FlexContents g.row.S.Denot). SamePlace old.memory c.reallocate.new.self.memory) c.self.view_is c.reallocate.ensures.place
+
+pub returns-in_err-wanted-clause-touches : goal.returns-in_err-wanted-clause-touches
+returns-in_err-wanted-clause-touches g c = λ to m some. subst (λ (old : FlexContents g.row.S.Denot). c.reallocate.new.self.memory.touches ≤ old.memory.touches + 66) c.self.view_is c.reallocate.ensures.touches
+
+pub returns-in_err-wanted-clause-grow : goal.returns-in_err-wanted-clause-grow
+returns-in_err-wanted-clause-grow g c = subst (λ (old : FlexContents g.row.S.Denot). old.memory.touches ≤ c.reallocate.new.self.memory.touches) c.self.view_is c.reallocate.ensures.grow
+
+pub returns-in_err-wanted-clause-copied : goal.returns-in_err-wanted-clause-copied
+returns-in_err-wanted-clause-copied g c = λ to m some. subst (λ (old : FlexContents g.row.S.Denot). c.reallocate.new.self.memory.copied ≤ old.memory.copied + length (bytes_at old.state.machine (at c.args.addr))) c.self.view_is c.reallocate.ensures.copied
+
+pub returns-in_err-wanted-clause-grow_copied : goal.returns-in_err-wanted-clause-grow_copied
+returns-in_err-wanted-clause-grow_copied g c = subst (λ (old : FlexContents g.row.S.Denot). old.memory.copied ≤ c.reallocate.new.self.memory.copied) c.self.view_is c.reallocate.ensures.grow_copied
+
+pub returns-then-extend-clause-live : goal.returns-then-extend-clause-live
+returns-then-extend-clause-live g c = c.move_payload.ensures.live
+
+pub returns-then-extend-clause-sized : goal.returns-then-extend-clause-sized
+returns-then-extend-clause-sized g c = c.move_payload.ensures.sized
+
+pub returns-then-extend-clause-few : goal.returns-then-extend-clause-few
+returns-then-extend-clause-few g c = c.move_payload.ensures.few
+
+pub returns-then-extend-clause-place : goal.returns-then-extend-clause-place
+returns-then-extend-clause-place g c =
+    let first = c.reallocate.ensures.place in
+    let second = c.extend.ensures.place in
+    let third = c.move_payload.ensures.place in
+    subst (λ (old : FlexContents g.row.S.Denot). SamePlace old.memory c.move_payload.new.tlsf.memory) c.self.view_is (third.0 ∙ second.0 ∙ first.0, third.1 ∙ second.1 ∙ first.1)
+
+pub returns-then-extend-clause-grow : goal.returns-then-extend-clause-grow
+returns-then-extend-clause-grow g c =
+    let first : c.args.self.now.memory.touches ≤ c.reallocate.new.self.memory.touches = subst (λ (old : FlexContents g.row.S.Denot). old.memory.touches ≤ c.reallocate.new.self.memory.touches) c.self.view_is c.reallocate.ensures.grow in
+    omega (arith, first, c.extend.ensures.grow, c.move_payload.ensures.grow)
+
+pub returns-then-extend-clause-grow_copied : goal.returns-then-extend-clause-grow_copied
+returns-then-extend-clause-grow_copied g c =
+    let first : c.args.self.now.memory.copied ≤ c.reallocate.new.self.memory.copied = subst (λ (old : FlexContents g.row.S.Denot). old.memory.copied ≤ c.reallocate.new.self.memory.copied) c.self.view_is c.reallocate.ensures.grow_copied in
+    omega (arith, first, c.extend.ensures.copied, c.move_payload.ensures.grow_copied)
+
+pub returns-else-extend-clause-place : goal.returns-else-extend-clause-place
+returns-else-extend-clause-place g c =
+    let first = c.reallocate.ensures.place in
+    let second = c.extend.ensures.place in
+    subst (λ (old : FlexContents g.row.S.Denot). SamePlace old.memory c.extend.new.tlsf.memory) c.self.view_is (second.0 ∙ first.0, second.1 ∙ first.1)
+
+pub returns-else-extend-clause-grow : goal.returns-else-extend-clause-grow
+returns-else-extend-clause-grow g c =
+    let first : c.args.self.now.memory.touches ≤ c.reallocate.new.self.memory.touches = subst (λ (old : FlexContents g.row.S.Denot). old.memory.touches ≤ c.reallocate.new.self.memory.touches) c.self.view_is c.reallocate.ensures.grow in
+    omega (arith, first, c.extend.ensures.grow)
+
+pub returns-else-extend-clause-grow_copied : goal.returns-else-extend-clause-grow_copied
+returns-else-extend-clause-grow_copied g c =
+    let first : c.args.self.now.memory.copied ≤ c.reallocate.new.self.memory.copied = subst (λ (old : FlexContents g.row.S.Denot). old.memory.copied ≤ c.reallocate.new.self.memory.copied) c.self.view_is c.reallocate.ensures.grow_copied in
+    omega (arith, first, c.extend.ensures.copied)
+
+pub returns-else-extend-clause-copied : goal.returns-else-extend-clause-copied
+returns-else-extend-clause-copied g c = λ to m some. absurd (refused_in g (goal.at.returns-else-extend-clause-copied g c).In_default to m some)

@@ -1,0 +1,29 @@
+use Rattle.std.proofs.Common.{sym, ◌∙◌, subst}
+use Rattle.rlsf_blocks.specs.Spare.{KeepsSpare}
+use Rattle.rlsf_flex.specs.StandsFor.{FlexContents, FlexSteps, flex_contents}
+use Rattle.rlsf_machine.specs.Trim.{Trims}
+use Rattle.rlsf_flex.proofs.TrimmedRanges.{not_trimmed, trimmed}
+use Rattle.rlsf_flex.proofs.flex.FlexTlsf.trim.Goals as goal
+
+pub returns-then-supports_dealloc-clause-step : goal.returns-then-supports_dealloc-clause-step
+returns-then-supports_dealloc-clause-step g c =
+    let now = flex_contents c.self.inside.tlsf c.self.inside.kept c.self.inside.source c.self.inside.owed.ranges in
+    let new = flex_contents c.give_idle_back.new.tlsf c.give_idle_back.new.kept c.give_idle_back.new.source c.give_idle_back.new.owed.ranges in
+    let takes = sym c.supports_dealloc.ensures ∙ c.if-supports_dealloc.true in
+    subst (λ (old : FlexContents g.row.S.Denot). FlexSteps g.row.FLLEN g.row.SLLEN g.S.FlexSource.terms g.S.FlexSource.owes g.S.FlexSource.leads old new (Trims (g.S.FlexSource.terms old.source) old.state c.give_idle_back.result)) c.self.view_is
+    (trimmed g.S.FlexSource.leads now new c.give_idle_back.result c.give_idle_back.ensures.gone g.met.S.FlexSource.constant c.self.invariant.stands takes c.give_idle_back.ensures.held)
+
+pub returns-then-supports_dealloc-clause-spare : goal.returns-then-supports_dealloc-clause-spare
+returns-then-supports_dealloc-clause-spare g c =
+    let new = c.give_idle_back.new.tlsf in
+    subst (λ (old : FlexContents g.row.S.Denot). KeepsSpare old.memory old.state.machine new.memory new.state) c.self.view_is c.give_idle_back.ensures.gone.spare
+
+pub returns-then-supports_dealloc-clause-same : goal.returns-then-supports_dealloc-clause-same
+returns-then-supports_dealloc-clause-same g c = λ none. c.give_idle_back.ensures.same none ∙ c.self.view_is
+
+pub returns-else-supports_dealloc-clause-step : goal.returns-else-supports_dealloc-clause-step
+returns-else-supports_dealloc-clause-step g c =
+    let now = flex_contents c.self.inside.tlsf c.self.inside.kept c.self.inside.source c.self.inside.owed.ranges in
+    let lacks = sym c.supports_dealloc.ensures ∙ c.if-supports_dealloc.false in
+    subst (λ (old : FlexContents g.row.S.Denot). FlexSteps g.row.FLLEN g.row.SLLEN g.S.FlexSource.terms g.S.FlexSource.owes g.S.FlexSource.leads old old (Trims (g.S.FlexSource.terms old.source) old.state 0)) c.self.view_is
+    (not_trimmed g.S.FlexSource.leads now c.self.invariant.stands lacks)

@@ -1,0 +1,45 @@
+use Rattle.std.proofs.Common.{◌+◌, arith, refl, ◌∙◌, ap}
+use Rattle.rlsf_machine.specs.Note.{dealloc}
+use Rattle.rlsf_machine.specs.Terms.{Terms}
+use Rattle.rlsf_flex.specs.StandsFor.{flex_contents}
+use Rattle.rlsf_flex.proofs.TrimmedRanges.{GaveBack-few, GaveBack-next, GaveBack-none}
+use Rattle.rlsf_flex.proofs.trim.give_idle_back.Goals as goal
+
+pub loop-count-init : goal.loop-count-init
+loop-count-init g c = record {
+  gone = GaveBack-none g.S.FlexSource.leads (flex_contents c.args.tlsf.now c.args.kept.now c.args.source.now c.args.owed.now.ranges) c.requires.stands;
+  supported = c.requires.supported;
+  same = λ none. refl;
+  aligns = refl;
+  bytes = refl;
+  touches = omega arith;
+  grow = omega arith;
+  copied = refl;
+}
+
+pub overflow_add-count : goal.overflow_add-count
+overflow_add-count g c =
+    let begin = flex_contents c.args.tlsf.now c.args.kept.now c.args.source.now c.args.owed.now.ranges in
+    let meanwhile = flex_contents c.loop-count.tlsf c.loop-count.kept c.loop-count.source c.loop-count.owed.ranges in
+    let now = flex_contents c.give_newest_back.new.tlsf c.give_newest_back.new.kept c.give_newest_back.new.source c.give_newest_back.new.owed.ranges in
+    let more = GaveBack-next g.S.FlexSource.leads begin meanwhile now c.loop-count.count c.loop-count.invariant.gone (c.loop-count-test.ensures.gone refl) in
+    record { fits = omega (arith, GaveBack-few g.S.FlexSource.leads begin now (c.loop-count.count + 1) more c.requires.stands) }
+
+pub loop-count-preserved : goal.loop-count-preserved
+loop-count-preserved g c =
+    let begin = flex_contents c.args.tlsf.now c.args.kept.now c.args.source.now c.args.owed.now.ranges in
+    let meanwhile = flex_contents c.loop-count.tlsf c.loop-count.kept c.loop-count.source c.loop-count.owed.ranges in
+    let now = flex_contents c.give_newest_back.new.tlsf c.give_newest_back.new.kept c.give_newest_back.new.source c.give_newest_back.new.owed.ranges in
+    let h = c.loop-count.invariant in
+    let step = c.loop-count-test.ensures in
+    let one = step.gone refl in
+    record {
+      gone = GaveBack-next g.S.FlexSource.leads begin meanwhile now c.loop-count.count h.gone one;
+      supported = ap (λ (t : Terms). t.dealloc) (g.met.S.FlexSource.constant c.loop-count.source c.give_newest_back.new.source (dealloc one.newest) one.led) ∙ h.supported;
+      same = λ none. absurd (omega (arith, none));
+      aligns = step.aligns ∙ h.aligns;
+      bytes = step.bytes ∙ h.bytes;
+      touches = omega (arith, step.touches, h.touches);
+      grow = omega (arith, step.grow, h.grow);
+      copied = step.copied ∙ h.copied;
+    }

@@ -1,0 +1,58 @@
+use Rattle.std.proofs.Common.{rules, ◌≡◌, ◌+◌, ℕ, Some, None, [], ◌∷◌, IfSome, MatchOption, sym, subst}
+use Rattle.rlsf_base.specs.Space.{IsWord}
+use Rattle.rlsf_flex.specs.Footers.{Footers, first, footer_of}
+use Rattle.rlsf_flex.specs.Steps.Trim.{HasRoom}
+use Rattle.rlsf_machine.specs.FlexWellFormed.{IsPool}
+use Rattle.rlsf_flex.proofs.NewestRange.{gave_newest, newest_ends, newest_first, newest_footers, newest_pool, newest_words, next_pool, others, others_start}
+use Rattle.rlsf_flex.proofs.Standing.{opened, stood_at}
+use Rattle.rlsf_flex.proofs.trim.give_newest_back.Given as given
+use Rattle.rlsf_flex.proofs.trim.give_newest_back.Goals as goal
+use Rattle.rlsf_flex.proofs.trim.give_newest_back.Goals.{After-drop_newest}
+
+pub is_idle-requires : goal.is_idle-requires
+is_idle-requires g c = (search rules, (stood_at c.requires.stands.machine, (newest_pool c.requires.stands c.in-Some.is).row))
+
+pub range_before-before-requires-clause-range : goal.range_before-before-requires-clause-range
+range_before-before-requires-clause-range g c = newest_ends c.requires.stands c.in-Some.is
+
+pub range_before-before-requires-clause-words : goal.range_before-before-requires-clause-words
+range_before-before-requires-clause-words g c =
+    let at = footer_of c.in-Some.pool.range in
+    subst (λ m. IsWord m at × IsWord m (at + 8)) (sym c.memory_ref.ensures.memory) (newest_words c.requires.stands c.in-Some.is)
+
+pub remove_pool-requires : goal.remove_pool-requires
+remove_pool-requires g c = (search rules, ((newest_pool c.requires.stands c.in-Some.is).row, c.is_idle.ensures.0 c.if-not-is_idle.false))
+
+pub dealloc-requires-clause-outstanding : goal.dealloc-requires-clause-outstanding
+dealloc-requires-clause-outstanding g c =
+    let v = c.requires.stands in
+    ([], others v c.in-Some.is, subst (g.S.FlexSource.owes c.args.source.now) (newest_first v c.in-Some.is) v.owed)
+
+-- the range before it
+before_is : (g : given.Over) (c : After-drop_newest g) → c.range_before-before.result ≡ first (others c.requires.stands c.in-Some.is)
+before_is g c =
+    let v = c.requires.stands in
+    let rest = others v c.in-Some.is in
+    c.range_before-before.ensures rest (subst (λ m. Footers m (c.in-Some.pool.range ∷ rest)) (sym c.memory_ref.ensures.memory) (newest_footers v c.in-Some.is c.requires.supported)) (others_start v c.in-Some.is)
+
+pub pool_of-requires : goal.pool_of-requires
+pool_of-requires g c =
+    let (step, stands, spare) = opened _ _ _ c.remove_pool.ensures.step in
+    let idle = c.is_idle.ensures.0 c.if-not-is_idle.false in
+    let b = c.remove_pool.new.self in (
+      search rules,
+      (
+        stood_at stands,
+        subst (λ o. IfSome o (λ r. HasRoom r × ((len : ℕ) × IsPool b.state r len))) (sym (before_is g (goal.at.pool_of-requires g c).After-drop_newest)) (next_pool c.requires.stands c.in-Some.is idle b step),
+      ),
+    )
+
+pub returns-clause-gone : goal.returns-clause-gone
+returns-clause-gone g c = λ went.
+    let v = c.requires.stands in
+    let is = c.in-Some.is in
+    let (step, stands, spare) = opened _ _ _ c.remove_pool.ensures.step in
+    let b = c.remove_pool.new.self in
+    let told = subst (λ o. MatchOption o (c.pool_of.result ≡ None) (λ r. (len : ℕ) → IsPool b.state r len → c.pool_of.result ≡ Some (record { range = r; len = len }))) (before_is g (goal.at.returns-clause-gone g c).After-drop_newest) c.pool_of.ensures in
+    gave_newest v is (c.is_idle.ensures.0 c.if-not-is_idle.false) b step stands spare c.remove_pool.ensures.place c.requires.supported c.pool_of.result told g.S.FlexSource.leads c.dealloc.new.self c.drop_newest.new.self.ranges
+    c.dealloc.ensures.leads (g.met.S.FlexSource.constant _ _ _ c.dealloc.ensures.leads) (c.dealloc.ensures.owes [] (others v is) (subst (g.S.FlexSource.owes c.args.source.now) (newest_first v is) v.owed)) c.drop_newest.ensures

@@ -1,0 +1,11 @@
+use Rattle.std.proofs.Common.{◌≡◌, ℕ, Option, Some, None, MatchOption, sym, ap, subst}
+use Rattle.rlsf_base.specs.declared.memory.range.Range.{Range}
+use Rattle.rlsf_machine.specs.FlexWellFormed.{IsPool}
+use Rattle.rlsf_flex.specs.declared.pool.Pool.{Pool}
+use Rattle.rlsf_flex.proofs.trim.pool_of.Goals as goal
+
+pub returns-in-Some : goal.returns-in-Some
+returns-in-Some g c =
+    let pool : ℕ → Option Pool = λ len. Some (record { range = c.in-Some.range; len = len }) in
+    subst (λ (o : Option Range). MatchOption o (pool c.pool_len.result ≡ None) (λ r. (len : ℕ) → IsPool c.args.tlsf.now.state r len → pool c.pool_len.result ≡ Some (record { range = r; len = len }))) (sym c.in-Some.is)
+    (λ len is. ap pool (c.pool_len.ensures len is))

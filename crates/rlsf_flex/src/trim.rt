@@ -1,0 +1,154 @@
+//! Trim: the newest ranges, as far as they hold no used block, go back to their source.
+
+ghost use Rattle.std.specs.Prelude.{◌≡◌, ◌↔◌, ◌≤◌, ◌<◌, ◌+◌, ◌*◌, ◌^◌, ℕ, List, Some, None, true, false, length, MatchOption, IfSome};
+ghost use Rattle.rlsf_base.specs.Range.{end_of};
+ghost use Rattle.rlsf_base.specs.SizeClass.{IsValid};
+ghost use Rattle.rlsf_base.specs.Space.{SamePlace};
+ghost use Rattle.rlsf_blocks.specs.Blocks.{walked};
+ghost use Rattle.rlsf_flex.specs.StandsFor.{FlexStandsFor, flex_contents};
+ghost use Rattle.rlsf_flex.specs.Steps.Trim.{GaveBack, GaveNewest, HasRoom};
+ghost use Rattle.rlsf_machine.specs.Callers.{align_at, bytes_at};
+ghost use Rattle.rlsf_machine.specs.ChunkRows.{IsRow};
+ghost use Rattle.rlsf_machine.specs.FlexWellFormed.{IsPool};
+ghost use Rattle.rlsf_machine.specs.Remove.{IsIdle};
+ghost use Rattle.rlsf_machine.specs.Trim.{IsNewestHeld};
+ghost use Rattle.rlsf_tlsf.specs.Allocator.{Stands};
+
+use crate::end::range_before;
+use crate::pool::Pool;
+use crate::ranges::GhostRanges;
+use crate::source::FlexSource;
+use rlsf_base::memory::Range;
+use rlsf_int::Bitmap;
+use rlsf_tlsf::Tlsf;
+
+/// Whether no block of a row of chunks is used.
+fn is_idle<FLBitmap: Bitmap, SLBitmap: Bitmap, const FLLEN: usize, const SLLEN: usize>(
+    tlsf: &Tlsf<FLBitmap, SLBitmap, FLLEN, SLLEN>,
+    row: Range,
+) -> bool
+    requires stands { Stands FLLEN SLLEN tlsf.now }
+    requires row { IsRow tlsf.now.state (walked row) }
+    ensures { (result ≡ true) ↔ IsIdle tlsf.now.state (walked row) }
+{
+    let mut blocks = tlsf.iter_blocks(row);
+    while let Some(block) = blocks.next() {
+        if block.is_occupied() {
+            return false;
+        }
+    }
+    true
+}
+
+/// How many bytes there are from a range's start to the end of its last chunk: its chunks are walked while there is room for
+/// one.
+fn pool_len<FLBitmap: Bitmap, SLBitmap: Bitmap, const FLLEN: usize, const SLLEN: usize>(
+    tlsf: &Tlsf<FLBitmap, SLBitmap, FLLEN, SLLEN>,
+    range: Range,
+) -> usize
+    requires stands { Stands FLLEN SLLEN tlsf.now }
+    requires room { HasRoom range }
+    requires pool { (len : ℕ) × IsPool tlsf.now.state range len }
+    ensures { (len : ℕ) → IsPool tlsf.now.state range len → result ≡ len }
+{
+    let mut end = (range.start + 31) / 32 * 32;
+    while range.start + range.len - end >= 64 {
+        end = tlsf.chunk_end(end);
+    }
+    end - range.start
+}
+
+/// The pool that a range has, if there is a range.
+fn pool_of<FLBitmap: Bitmap, SLBitmap: Bitmap, const FLLEN: usize, const SLLEN: usize>(
+    tlsf: &Tlsf<FLBitmap, SLBitmap, FLLEN, SLLEN>,
+    range: Option<Range>,
+) -> Option<Pool>
+    requires stands { Stands FLLEN SLLEN tlsf.now }
+    requires pool { IfSome range (λ r. HasRoom r × ((len : ℕ) × IsPool tlsf.now.state r len)) }
+    ensures { MatchOption range (result ≡ None) (λ r. (len : ℕ) → IsPool tlsf.now.state r len → result ≡ Some (record { range = r; len = len })) }
+{
+    match range {
+        Some(range) => Some(Pool {
+            range,
+            len: pool_len(tlsf, range),
+        }),
+        None => None,
+    }
+}
+
+/// Gives the newest range back, if there is one and it holds no used block. The range before it is the newest then. Answers
+/// whether one went.
+fn give_newest_back<
+    S: FlexSource,
+    FLBitmap: Bitmap,
+    SLBitmap: Bitmap,
+    const FLLEN: usize,
+    const SLLEN: usize,
+>(
+    tlsf: &mut Tlsf<FLBitmap, SLBitmap, FLLEN, SLLEN>,
+    kept: &mut Option<Pool>,
+    source: &mut S,
+    owed: &mut GhostRanges,
+) -> bool
+    requires supported { (S.terms source.old).dealloc ≡ true }
+    requires stands { FlexStandsFor FLLEN SLLEN S.terms S.owes (flex_contents tlsf.old kept.old source.old owed.old.ranges) }
+    ensures gone { result ≡ true → GaveNewest FLLEN SLLEN S.terms S.owes S.leads (flex_contents tlsf.old kept.old source.old owed.old.ranges)
+        (flex_contents tlsf.new kept.new source.new owed.new.ranges) }
+    ensures held { result ≡ false → IsNewestHeld tlsf.old.state owed.old.ranges }
+    ensures same { result ≡ false → flex_contents tlsf.new kept.new source.new owed.new.ranges ≡ flex_contents tlsf.old kept.old source.old owed.old.ranges }
+    ensures aligns { align_at tlsf.new.state ≡ align_at tlsf.old.state }
+    ensures bytes { bytes_at tlsf.new.state ≡ bytes_at tlsf.old.state }
+    ensures touches { tlsf.new.memory.touches + 9 * length tlsf.new.state.chunks ≤ tlsf.old.memory.touches + 9 * length tlsf.old.state.chunks }
+    ensures grow { tlsf.old.memory.touches ≤ tlsf.new.memory.touches }
+    ensures copied { tlsf.new.memory.copied ≡ tlsf.old.memory.copied }
+{
+    let Some(pool) = *kept else {
+        return false;
+    };
+    let row = Range {
+        start: pool.range.start,
+        len: pool.len,
+    };
+    if !is_idle(tlsf, row) {
+        return false;
+    }
+    // The footer goes with its range.
+    let before = range_before(tlsf.memory_ref(), pool.range);
+    tlsf.remove_pool(row);
+    source.dealloc(pool.range);
+    owed.drop_newest();
+    *kept = pool_of(tlsf, before);
+    true
+}
+
+/// Gives the newest ranges back, as far as they hold no used block, and answers how many went.
+pub(crate) fn give_idle_back<
+    S: FlexSource,
+    FLBitmap: Bitmap,
+    SLBitmap: Bitmap,
+    const FLLEN: usize,
+    const SLLEN: usize,
+>(
+    tlsf: &mut Tlsf<FLBitmap, SLBitmap, FLLEN, SLLEN>,
+    kept: &mut Option<Pool>,
+    source: &mut S,
+    owed: &mut GhostRanges,
+) -> usize
+    requires supported { (S.terms source.old).dealloc ≡ true }
+    requires stands { FlexStandsFor FLLEN SLLEN S.terms S.owes (flex_contents tlsf.old kept.old source.old owed.old.ranges) }
+    ensures gone { GaveBack FLLEN SLLEN S.terms S.owes S.leads (flex_contents tlsf.old kept.old source.old owed.old.ranges)
+        (flex_contents tlsf.new kept.new source.new owed.new.ranges) result }
+    ensures held { IsNewestHeld tlsf.new.state owed.new.ranges }
+    ensures same { result ≡ 0 → flex_contents tlsf.new kept.new source.new owed.new.ranges ≡ flex_contents tlsf.old kept.old source.old owed.old.ranges }
+    ensures aligns { align_at tlsf.new.state ≡ align_at tlsf.old.state }
+    ensures bytes { bytes_at tlsf.new.state ≡ bytes_at tlsf.old.state }
+    ensures touches { tlsf.new.memory.touches + 9 * length tlsf.new.state.chunks ≤ tlsf.old.memory.touches + 9 * length tlsf.old.state.chunks }
+    ensures grow { tlsf.old.memory.touches ≤ tlsf.new.memory.touches }
+    ensures copied { tlsf.new.memory.copied ≡ tlsf.old.memory.copied }
+{
+    let mut count = 0;
+    while give_newest_back(tlsf, kept, source, owed) {
+        count += 1;
+    }
+    count
+}

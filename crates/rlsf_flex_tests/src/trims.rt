@@ -1,0 +1,282 @@
+//! Trims: what goes back to a source while payloads live, what comes after it, and what is left for the end.
+
+use crate::cursor::{Habits, Question, Questions};
+use crate::heap_source::CursorAlloc;
+use crate::heaps::{Case, Step, are_right, footer, is_right, number, small};
+use rlsf_base::memory::{Layout, Memory, Range};
+use rlsf_flex::{FlexSource, FlexTlsf};
+use rlsf_heap::GlobalAllocAsFlexSource;
+use rlsf_listed::{Capabilities, ListedSource, Question as Asked, SourceAnswer};
+use std::cell::Cell;
+use std::test::Fail;
+
+/// All addresses of the memory.
+const ALL: Range = Range {
+    start: 4096,
+    len: 4096,
+};
+
+/// A source that neither grows ranges nor takes them back.
+const NEITHER: Habits = Habits {
+    dealloc: false,
+    grow: false,
+    contiguous: false,
+    min_align: 32,
+    extra: 0,
+    refuses: false,
+};
+
+/// Trims with nothing outstanding. Allocates for one byte, allocates for 100 and gives them back, trims twice, and allocates for 100
+/// again.
+const USED: Case = Case {
+    space: ALL,
+    habits: NEITHER,
+    steps: &[
+        Step::Trim(0),
+        Step::Allocate(1, 4112),
+        Step::GiveBack(100, 4176),
+        Step::Trim(0),
+        Step::Trim(0),
+        Step::Allocate(100, 4176),
+    ],
+    asked: &[Question::Alloc(64), Question::Alloc(160)],
+    left: None,
+};
+
+static CASES: [Case; 8] = [
+    // What takes nothing back keeps all.
+    USED,
+    Case {
+        habits: Habits {
+            contiguous: true,
+            ..NEITHER
+        },
+        ..USED
+    },
+    Case {
+        habits: Habits {
+            grow: true,
+            ..NEITHER
+        },
+        asked: &[Question::Alloc(64), Question::Grow(4096, 64, 224)],
+        ..USED
+    },
+    Case {
+        habits: Habits {
+            grow: true,
+            contiguous: true,
+            ..NEITHER
+        },
+        asked: &[Question::Alloc(64), Question::Grow(4096, 64, 224)],
+        ..USED
+    },
+    // The second range goes back, and another is asked for.
+    Case {
+        habits: Habits {
+            dealloc: true,
+            ..NEITHER
+        },
+        steps: &[
+            Step::Trim(0),
+            Step::Allocate(1, 4112),
+            Step::GiveBack(100, 4176),
+            Step::Trim(1),
+            Step::Trim(0),
+            Step::Allocate(100, 4336),
+            Step::Footer(4464, (4096, 64)),
+        ],
+        asked: &[
+            Question::Alloc(64),
+            Question::Alloc(160),
+            Question::Dealloc(4160, 160),
+            Question::Alloc(160),
+            Question::Dealloc(4320, 160),
+            Question::Dealloc(4096, 64),
+        ],
+        ..USED
+    },
+    // The only range holds a payload.
+    Case {
+        habits: Habits {
+            dealloc: true,
+            contiguous: true,
+            ..NEITHER
+        },
+        steps: &[
+            Step::Allocate(1, 4112),
+            Step::GiveBack(100, 0),
+            Step::Trim(0),
+            Step::Allocate(100, 0),
+        ],
+        asked: &[Question::Alloc(64), Question::Dealloc(4096, 64)],
+        ..USED
+    },
+    // What a range grew by doesn't go back alone.
+    Case {
+        habits: Habits {
+            dealloc: true,
+            grow: true,
+            ..NEITHER
+        },
+        asked: &[
+            Question::Alloc(64),
+            Question::Grow(4096, 64, 224),
+            Question::Dealloc(4096, 224),
+        ],
+        ..USED
+    },
+    Case {
+        habits: Habits {
+            dealloc: true,
+            grow: true,
+            contiguous: true,
+            ..NEITHER
+        },
+        asked: &[
+            Question::Alloc(64),
+            Question::Grow(4096, 64, 224),
+            Question::Dealloc(4096, 224),
+        ],
+        ..USED
+    },
+];
+
+/// The shape of these tests over any source.
+type Shaped<S> = FlexTlsf<S, u8, u8, 8, 8>;
+
+/// Allocates two payloads and trims, gives the newer one back and trims, gives the older one back and trims. Answers the addresses,
+/// and how many ranges went each time.
+fn shrinks<S: FlexSource>(
+    flex: &mut Shaped<S>,
+    first: Layout,
+    second: Layout,
+) -> Option<([usize; 2], [usize; 3])> {
+    let older = flex.allocate(first)?;
+    let Some(newer) = flex.allocate(second) else {
+        flex.deallocate(older, first.align());
+        return None;
+    };
+    let held = flex.trim();
+    flex.deallocate(newer, second.align());
+    let one_left = flex.trim();
+    flex.deallocate(older, first.align());
+    let none_left = flex.trim();
+    Some(([older.get(), newer.get()], [held, one_left, none_left]))
+}
+
+/// Allocates three payloads, gives the third back, trims and allocates again. Answers the addresses, and behind them how many ranges
+/// went.
+fn grows_again<S: FlexSource>(flex: &mut Shaped<S>, layout: Layout) -> ([usize; 4], usize) {
+    let first = number(flex.allocate(layout));
+    let second = number(flex.allocate(layout));
+    let third = flex.allocate(layout);
+    if let Some(addr) = third {
+        flex.deallocate(addr, layout.align());
+    }
+    let went = flex.trim();
+    let fourth = number(flex.allocate(layout));
+    ([first, second, number(third), fourth], went)
+}
+
+#[test]
+fn trims_with_each_capability(rt: HostRuntime) -> Result<(), Fail> {
+    are_right(&rt, rt.alloc(), &CASES)
+}
+
+#[test]
+fn two_ranges_go_back_one_after_the_other(rt: HostRuntime) -> Result<(), Fail> {
+    let memory = Memory::new(rt.alloc(), 4096, 4096)?;
+    let source = GlobalAllocAsFlexSource::<_, 1024>(CursorAlloc::new(ALL));
+    let mut flex = FlexTlsf::<_, u8, u8, 8, 8>::new(memory, source);
+    let first = Layout::from_size_align(1, 1)?;
+    let second = Layout::from_size_align(2000, 1)?;
+    let went = shrinks(&mut flex, first, second);
+    let (_, source) = flex.into_parts();
+    let asked = [
+        Question::AllocLayout(1024, 1024),
+        Question::AllocLayout(3072, 1024),
+        Question::DeallocLayout(5120, 3072, 1024),
+        Question::DeallocLayout(4096, 1024, 1024),
+    ];
+    assert_eq!(rt; went, Some(([4112, 5136], [0, 1, 1])));
+    is_right(&rt, (None, source.0.asked()), &asked);
+    Ok(())
+}
+
+#[test]
+fn a_range_that_grew_goes_back_once(rt: HostRuntime) -> Result<(), Fail> {
+    let seen = Cell::new(Questions::new());
+    let space = Range {
+        start: 4097,
+        len: 4095,
+    };
+    let habits = Habits {
+        dealloc: true,
+        grow: true,
+        min_align: 1,
+        ..NEITHER
+    };
+    let mut flex = small(rt.alloc(), space, habits, &seen)?;
+    let layout = Layout::from_size_align(1, 1)?;
+    let went = shrinks(&mut flex, layout, layout);
+    let (_, source) = flex.into_parts();
+    let asked = [
+        Question::Alloc(96),
+        Question::Grow(4097, 96, 159),
+        Question::Dealloc(4097, 159),
+    ];
+    assert_eq!(rt; went, Some(([4144, 4208], [0, 0, 1])));
+    is_right(&rt, (None, source.asked()), &asked);
+    Ok(())
+}
+
+#[test]
+fn the_range_before_grows_after_a_trim(rt: HostRuntime) -> Result<(), Fail> {
+    let space = Range {
+        start: 4096,
+        len: 8192,
+    };
+    let capabilities = Capabilities {
+        dealloc: true,
+        grow: true,
+        contiguous: false,
+        min_align: 32,
+    };
+    let first = Range {
+        start: 4096,
+        len: 101,
+    };
+    let second = Range {
+        start: 8192,
+        len: 101,
+    };
+    let answers = [
+        SourceAnswer::Range(first),
+        SourceAnswer::None,
+        SourceAnswer::Range(second),
+        SourceAnswer::Len(160),
+    ]
+    .to_vec(rt.alloc())?;
+    let memory = Memory::new(rt.alloc(), 4096, 8192)?;
+    let source = ListedSource::new(rt.alloc(), space, capabilities, answers, 8)?;
+    let mut flex = FlexTlsf::<_, u8, u8, 8, 8>::new(memory, source);
+    let allocated = grows_again(&mut flex, Layout::from_size_align(1, 1)?);
+    assert_eq!(rt; allocated, ([4112, 4144, 8208, 4208], 1));
+    let (memory, source) = flex.into_parts();
+    // The footer moved there from 4176.
+    assert_eq!(rt; footer(&memory, 4240), Some((0, 0)));
+    let grown = Range {
+        start: 4096,
+        len: 160,
+    };
+    let asked = [
+        Asked::Alloc(64, Some(first)),
+        Asked::Grow(first, 160, None),
+        Asked::Alloc(64, Some(second)),
+        Asked::Dealloc(second),
+        Asked::Grow(first, 160, Some(160)),
+        Asked::Dealloc(grown),
+    ];
+    assert_eq!(rt; source.asked(), asked.as_slice());
+    Ok(())
+}
