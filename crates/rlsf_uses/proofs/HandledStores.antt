@@ -1,5 +1,5 @@
 -- A store with a handle for each list of bytes.
-use Rattle.std.proofs.Common.{◌≡◌, ℕ, ◌+◌, List, [], ◌∷◌, ◌++◌, length, Option, None, Some, Result, Ok, Err, OnErr, IsSomeAnd, map, nat_eq, sym, ap, subst, ◌∙◌}
+use Rattle.std.proofs.Common.{◌≡◌, ℕ, ◌+◌, ◌≤◌, List, [], ◌∷◌, ◌++◌, length, Option, None, Some, Result, Ok, Err, OnErr, IsSomeAnd, map, nat_eq, arith, refl, sym, ap, subst, ◌∙◌}
 use Rattle.std.proofs.Math.Path.{ap₂}
 use Rattle.std.proofs.lemmas.List.{length-map, map-append}
 use Rattle.std.proofs.lemmas.Simd.{map-map}
@@ -8,11 +8,14 @@ use Rattle.std.specs.Option.{option_map}
 use Rattle.rlsf_base.specs.declared.memory.range.Range.{Range}
 use Rattle.rlsf_base.specs.Range.{range_at}
 use Rattle.rlsf_base.specs.Space.{SamePlace, range_of}
+use Rattle.std.specs.List.{AllByRecursion}
+use Rattle.rlsf_uses.specs.Budgets.{HasBudgetFor, HasBudgetOf}
 use Rattle.rlsf_uses.specs.Handled.{HandleRows, IsHandled, handled, handled_by, lists_in, place_at, places_in}
 use Rattle.rlsf_uses.specs.Stored.{HasAmong, HasPlaces, HasSame, Place, StoreContents, bytes_at_place, lists_at}
 use Rattle.rlsf_uses.specs.declared.handles.Spot.{Spot}
 use Rattle.rlsf_uses.proofs.Entries.{IsFound, found, lookup-map_values, map_values-same, remove_entry-map_values, set_value-middle}
 use Rattle.rlsf_uses.proofs.Places.{length-bytes_at_place}
+use Rattle.rlsf_uses.proofs.Rooms.{HasBudgetFor-lists}
 
 -- ---- what callers see
 
@@ -34,6 +37,20 @@ pub none_stored : (v : StoreContents) (align : ℕ) (rows : List (ℕ × Spot)) 
 none_stored v align [] kept none = kept
 none_stored v align (e ∷ es) kept none = cc
 
+-- a budget of lists is one of their store
+short_lists : (v : StoreContents) (align size : ℕ) (rows : List (ℕ × Spot)) → AllByRecursion (λ (e : ℕ × List ℕ). length e.1 ≤ size) (lists_in v align rows)
+    → AllByRecursion (λ (b : List ℕ). length b ≤ size) (lists_at v (places_in align rows))
+short_lists v align size [] short = tt
+short_lists v align size (e ∷ es) (first, rest) = (first, short_lists v align size es rest)
+
+one_alignment : (align : ℕ) (rows : List (ℕ × Spot)) → AllByRecursion (λ (p : Place). p.align ≡ align) (places_in align rows)
+one_alignment align [] = tt
+one_alignment align (e ∷ es) = (refl, one_alignment align es)
+
+pub HasBudgetFor-handled : (v : StoreContents) (align : ℕ) (h : HandleRows) (live size : ℕ) → IsHandled v align h.rows → HasBudgetOf (handled_by v align h) live size → HasBudgetFor v (places_in align h.rows) live size align
+HasBudgetFor-handled v align h live size kept budget =
+    HasBudgetFor-lists kept (omega (arith, budget.few, length-lists_in v align h.rows)) budget.layout (short_lists v align size h.rows budget.small) (one_alignment align h.rows) budget.bytes
+
 -- no spot, no bytes
 pub absent : (v : StoreContents) (align : ℕ) (rows : List (ℕ × Spot)) (n : ℕ) → lookup (nat_eq n) rows ≡ None → lookup (nat_eq n) (lists_in v align rows) ≡ None
 absent v align rows n none = lookup-map_values (here v align) (nat_eq n) rows ∙ ap (option_map (here v align)) none
@@ -44,13 +61,13 @@ places_in-append align before after = ap (map (place_at align)) (map-append (λ 
 
 -- a store that keeps other lists under other rows, at the same place, and what callers see of it
 abbrev pub Shows : StoreContents → ℕ → List (ℕ × List ℕ) → ℕ → StoreContents → HandleRows → Type 0
-Shows v align lists next w g = IsHandled w align g.rows × (handled_by w align g ≡ handled lists next align (range_of v.heap.memory))
+Shows v align lists next w g = IsHandled w align g.rows × (handled_by w align g ≡ handled lists next align (range_of v.heap.memory) w.heap.state)
 
 shows : (v : StoreContents) {w : StoreContents} {align : ℕ} {g : HandleRows} {rows : List (ℕ × Spot)} {lists : List (ℕ × List ℕ)} {next : ℕ} → SamePlace v.heap.memory w.heap.memory → g.rows ≡ rows → g.next ≡ next
     → IsHandled w align rows → lists_in w align rows ≡ lists → Shows v align lists next w g
 shows v {w} {align} {g} {rows} {lists} {next} place same count kept are = (
   subst (IsHandled w align) (sym same) kept,
-  ap₂ (λ (l : List (ℕ × List ℕ)) (m : Range). handled l g.next align m) (ap (lists_in w align) same ∙ are) (ap₂ range_at place.0 place.1) ∙ ap (λ n. handled lists n align (range_of v.heap.memory)) count,
+  ap₂ (λ (l : List (ℕ × List ℕ)) (m : Range). handled l g.next align m w.heap.state) (ap (lists_in w align) same ∙ are) (ap₂ range_at place.0 place.1) ∙ ap (λ n. handled lists n align (range_of v.heap.memory) w.heap.state) count,
 )
 
 -- one row among others whose bytes are as they were

@@ -1,5 +1,5 @@
 -- What is kept in the payloads of a state.
-use Rattle.std.proofs.Common.{◌≡◌, ◌≢◌, ◌⊎◌, ℕ, List, [], ◌∷◌, ◌++◌, length, take, None, refl, sym, ◌∙◌, ap, subst, inl, inr}
+use Rattle.std.proofs.Common.{◌≡◌, ◌≢◌, ◌⊎◌, ℕ, ◌+◌, ◌<◌, List, [], ◌∷◌, ◌++◌, length, take, None, arith, refl, sym, ◌∙◌, ap, subst, inl, inr}
 use Rattle.std.proofs.lemmas.Bool.{cases_eq}
 use Rattle.std.proofs.lemmas.Option.{none-some}
 use Rattle.rlsf_machine.specs.Callers.{align_at, bytes_at}
@@ -50,17 +50,18 @@ AreApart-less k (x ∷ before) after apart =
 
 -- what a payload keeps that stays as it is
 Keeps-same : {s t : State} (k : Stored) → align_at t k.addr ≡ align_at s k.addr → bytes_at t k.addr ≡ bytes_at s k.addr → Keeps s k → Keeps t k
-Keeps-same k align bytes is = record { live = align ∙ is.live; front = ap (take (length k.bytes)) bytes ∙ is.front }
+Keeps-same k align bytes is = record { live = align ∙ is.live; front = ap (take (length k.bytes)) bytes ∙ is.front; few = omega (arith, ap length bytes, is.few) }
 
 module _ {s t : State} (before after : List Stored) where
-  -- of a new payload, no bytes yet
-  pub KeepsOnly-new : {size : ℕ} (addr align : ℕ) → SeesNew s t size align addr → KeepsOnly s (before ++ after) → KeepsOnly t (before ++ stored addr align [] ∷ after)
-  KeepsOnly-new addr align new is =
-      let k = stored addr align [] in
+  -- of a new payload, its front
+  pub KeepsOnly-new : {size : ℕ} (addr align : ℕ) (front : List ℕ) → take (length front) (bytes_at t addr) ≡ front → length (bytes_at t addr) < length front + 32 → SeesNew s t size align addr
+      → KeepsOnly s (before ++ after) → KeepsOnly t (before ++ stored addr align front ∷ after)
+  KeepsOnly-new addr align front begins few new is =
+      let k = stored addr align front in
       let alone : IsAlone k (before ++ after) = λ j i same. none-some j.align (sym new.new ∙ ap (align_at s) (sym same) ∙ (is.kept j i).live) in
       record {
         kept = λ j i. elim (IsIn-less j k before after i) [
-          | inl same ↦ subst (Keeps t) (sym same) (record { live = new.live; front = refl })
+          | inl same ↦ subst (Keeps t) (sym same) (record { live = new.live; front = begins; few = few })
           | inr old ↦ Keeps-same j (new.aligns j.addr (alone j old)) (new.bytes j.addr (alone j old)) (is.kept j old)
         ];
         apart = AreApart-more k before after is.apart alone;

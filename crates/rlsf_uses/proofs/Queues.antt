@@ -1,12 +1,17 @@
 -- A queue's messages, as its entries and its store have them.
-use Rattle.std.proofs.Common.{◌≡◌, ℕ, List, [], ◌∷◌, ◌++◌, length, map, drop, slice_index_or, ◌<◌, arith, sym, ◌∙◌, ap, subst}
+use Rattle.std.proofs.Common.{◌≡◌, ℕ, ◌-◌, ◌<◌, ◌≤◌, List, [], ◌∷◌, ◌++◌, length, map, drop, slice_index_or, Option, None, Some, IfSome, IsSomeAnd, arith, inl, inr, refl, sym, ◌∙◌, ap, subst}
 use Rattle.std.proofs.Math.Path.{ap₂}
+use Rattle.std.proofs.lemmas.Bool.{cases_lt}
 use Rattle.std.proofs.lemmas.List.{length-map, map-append}
-use Rattle.rlsf_base.specs.Space.{Space}
+use Rattle.std.specs.List.{AllByRecursion}
+use Rattle.rlsf_base.specs.declared.memory.range.Range.{Range}
+use Rattle.rlsf_base.specs.Space.{Space, range_of}
+use Rattle.rlsf_uses.specs.Budgets.{HasBudgetFor}
 use Rattle.rlsf_uses.specs.declared.messages.Entry.{Entry}
-use Rattle.rlsf_uses.specs.Queue.{messages_in, place_of_entry}
-use Rattle.rlsf_uses.specs.Stored.{HasAmong, HasPlaces, StoreContents, bytes_at_place, lists_at}
+use Rattle.rlsf_uses.specs.Queue.{KeepsLongest, messages_in, place_of_entry}
+use Rattle.rlsf_uses.specs.Stored.{HasAmong, HasPlaces, Place, StoreContents, bytes_at_place, lists_at}
 use Rattle.rlsf_uses.proofs.Places.{length-bytes_at_place}
+use Rattle.rlsf_uses.proofs.Rooms.{bytes_for-fits}
 
 -- there are as many messages as entries
 pub length-messages : (m : Space) (entries : List Entry) → length (messages_in m entries) ≡ length entries
@@ -37,3 +42,53 @@ oldest_stored v [] e has some first = absurd (omega arith)
 oldest_stored v (x ∷ xs) e has some first =
     let places = subst (λ y. HasPlaces v (place_of_entry y ∷ map place_of_entry xs)) (sym first) has in
     record { places = places; messages = ap (λ y. messages_in v.heap.memory (y ∷ xs)) (sym first); len = length-bytes_at_place [] (map place_of_entry xs) (place_of_entry e) places }
+
+-- ---- a longest length
+
+AllByRecursion-more : (P : Entry → Type 0) (es : List Entry) (e : Entry) → P e → AllByRecursion P es → AllByRecursion P (es ++ e ∷ [])
+AllByRecursion-more P [] e last all = (last, tt)
+AllByRecursion-more P (x ∷ xs) e last (first, rest) = (first, AllByRecursion-more P xs e last rest)
+
+-- one more entry that isn't longer
+pub KeepsLongest-more : (longest : Option ℕ) (memory : Range) (capacity : ℕ) (es : List Entry) (e : Entry) → (IsSomeAnd longest (λ n. n < e.len) → ⊥) → KeepsLongest longest memory capacity es
+    → KeepsLongest longest memory capacity (es ++ e ∷ [])
+KeepsLongest-more None memory capacity es e short keeps = tt
+KeepsLongest-more (Some n) memory capacity es e short (all, fits) =
+    let within : e.len ≤ n = elim (cases_lt n e.len) [ inl longer ↦ absurd (short longer) | inr fine ↦ fine ] in
+    (AllByRecursion-more (λ x. x.len ≤ n) es e within all, fits)
+
+-- and one less
+pub KeepsLongest-less : (longest : Option ℕ) (memory : Range) (capacity : ℕ) (es : List Entry) → KeepsLongest longest memory capacity es → KeepsLongest longest memory capacity (drop 1 es)
+KeepsLongest-less None memory capacity es keeps = tt
+KeepsLongest-less (Some n) memory capacity [] keeps = keeps
+KeepsLongest-less (Some n) memory capacity (e ∷ es) ((first, rest), fits) = (rest, fits)
+
+small_entries : (n : ℕ) (es : List Entry) → AllByRecursion (λ e. e.len ≤ n) es → AllByRecursion (λ (p : Place). (p.len ≤ n) × (p.align ≡ 1)) (map place_of_entry es)
+small_entries n [] all = tt
+small_entries n (e ∷ es) (first, rest) = ((first, refl), small_entries n es rest)
+
+-- a queue that isn't full has the budget for a message that isn't too long
+pub budget_for_message : (longest : Option ℕ) (v : StoreContents) (es : List Entry) (capacity len : ℕ) → HasPlaces v (map place_of_entry es) → KeepsLongest longest (range_of v.heap.memory) capacity es → length es < capacity
+    → IsSomeAnd longest (λ n. len ≤ n) → (n : ℕ) × HasBudgetFor v (map place_of_entry es) (capacity - 1) n 1 × (len ≤ n)
+budget_for_message None v es capacity len has keeps few short = absurd short
+budget_for_message (Some n) v es capacity len has (all, fits) few short = (
+  n,
+  record {
+    has = has;
+    few = omega (arith, few, length-map es place_of_entry);
+    layout = fits.0;
+    small = small_entries n es all;
+    bytes = bytes_for-fits (range_of v.heap.memory) (capacity - 1) n 1 fits;
+  },
+  short,
+)
+
+-- a length isn't both
+pub not_both : (longest : Option ℕ) (len : ℕ) → IsSomeAnd longest (λ n. n < len) → IfSome longest (λ n. len ≤ n) → ⊥
+not_both None len longer short = longer
+not_both (Some n) len longer short = omega arith
+
+-- the same of equal parts
+pub KeepsLongest-same : (longest : Option ℕ) {m n : Range} {c d : ℕ} {es fs : List Entry} → m ≡ n → c ≡ d → es ≡ fs → KeepsLongest longest m c es → KeepsLongest longest n d fs
+KeepsLongest-same longest {m} {n} {c} {d} {es} {fs} memory capacity entries keeps =
+    subst (λ r. KeepsLongest longest r d fs) memory (subst (λ k. KeepsLongest longest m k fs) capacity (subst (KeepsLongest longest m c) entries keeps))

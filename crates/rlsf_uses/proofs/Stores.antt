@@ -1,8 +1,8 @@
 -- What a store keeps, over the allocator's steps.
 use mathlib.Core.Path.{ap₂}
-use Rattle.std.proofs.Common.{◌≡◌, ◌≢◌, ℕ, ◌-◌, ◌<◌, ◌≤◌, cond, lit<, List, [], ◌∷◌, ◌++◌, length, map, take, drop, Option, Some, None, IsSome, arith, refl, sym, ◌∙◌, ap, subst, inl, inr}
+use Rattle.std.proofs.Common.{◌≡◌, ◌≢◌, ℕ, ◌+◌, ◌-◌, ◌<◌, ◌≤◌, cond, lit<, List, [], ◌∷◌, ◌++◌, length, map, take, drop, Option, Some, None, IsSome, arith, refl, sym, ◌∙◌, ap, subst, inl, inr}
 use Rattle.std.proofs.lemmas.Bool.{cases_lt, le-leb, lt-leb}
-use Rattle.std.proofs.lemmas.List.{take-take}
+use Rattle.std.proofs.lemmas.List.{length-take-le, take-take}
 use Rattle.std.specs.Option.{unwrap_or}
 use Rattle.rlsf_base.specs.PowerOfTwo.{IsPowerOfTwo}
 use Rattle.rlsf_base.specs.Range.{end_of, range_at}
@@ -22,7 +22,7 @@ use Rattle.rlsf_machine.specs.Reallocate.{Reallocates}
 use Rattle.rlsf_machine.specs.Release.{Deallocates}
 use Rattle.rlsf_machine.specs.Run.{Fills, reallocate}
 use Rattle.rlsf_machine.specs.State.{State, Used, Holds, empty, usable}
-use Rattle.rlsf_machine.proofs.CallerWords.{SeesGone, align_at-held, align_at-live, align_at-none, align_at-some, bytes_at-held, filled_seen, gone_seen, new_seen, resized_seen}
+use Rattle.rlsf_machine.proofs.CallerWords.{SeesGone, SeesResized, align_at-held, align_at-live, align_at-none, align_at-some, bytes_at-held, filled_seen, gone_seen, new_seen, resized_seen}
 use Rattle.rlsf_machine.proofs.Callers.{callers_see_map}
 use Rattle.rlsf_machine.proofs.ChunkRows.{IsRow-inserted, IsRow-same}
 use Rattle.rlsf_machine.proofs.Chunks.{chunks-allocated, chunks-deallocated, chunks-filled, chunks-reallocated, used-inserted}
@@ -54,14 +54,24 @@ pub IsStore-refused : {v : StoreContents} (w : Allocator) (step : State → Type
 IsStore-refused {v} w step all steps same place store =
     IsStore-after store w all (opened 59 8 v.heap w step steps).1 place (ap (λ s. s.chunks) same) (subst (λ s. KeepsOnly s all) (sym same) store.payloads)
 
--- an allocated payload keeps no bytes yet
+-- the bytes that were asked for, of the payload at an address
+abbrev pub asked_at : Allocator → ℕ → ℕ → List ℕ
+asked_at w addr size = take size (bytes_at w.state addr)
+
+-- they are as many as were asked for
+pub length-asked_at : (w : Allocator) (addr size : ℕ) → size ≤ length (bytes_at w.state addr) → length (asked_at w addr size) ≡ size
+length-asked_at w addr size sized = length-take-le size (bytes_at w.state addr) sized
+
+-- an allocated payload keeps what it has, as many bytes as were asked for
 pub IsStore-allocated : {v : StoreContents} (w : Allocator) (size align addr : ℕ) → IsPowerOfTwo align → (before after : List Stored) → Steps 59 8 v.heap w (Allocates 8 v.heap.state size align (Some addr))
-    → SamePlace v.heap.memory w.memory → IsStore v (before ++ after) → IsStore (store_contents w v.pool) (before ++ stored addr align [] ∷ after)
+    → SamePlace v.heap.memory w.memory → IsStore v (before ++ after) → IsStore (store_contents w v.pool) (before ++ stored addr align (asked_at w addr size) ∷ after)
 IsStore-allocated {v} w size align addr power before after steps place store =
     let s = v.heap.state in
     let (step, stands, _) = opened 59 8 v.heap w (Allocates 8 s size align (Some addr)) steps in
     let new = new_seen (well_formed v.heap store.stands) w.state size align addr power step in
-    IsStore-after store w (before ++ stored addr align [] ∷ after) stands place (chunks-allocated 8 s w.state size align (Some addr) step) (KeepsOnly-new before after addr align new store.payloads)
+    let long = length-asked_at w addr size new.sized in
+    IsStore-after store w (before ++ stored addr align (asked_at w addr size) ∷ after) stands place (chunks-allocated 8 s w.state size align (Some addr) step)
+    (KeepsOnly-new before after addr align (asked_at w addr size) (ap (λ n. take n (bytes_at w.state addr)) long) (omega (arith, new.few, long)) new store.payloads)
 
 -- what is kept among other lists of bytes, in the payload at an address
 module _ {v : StoreContents} {addr : ℕ} (before after : List Stored) (k : Stored) (at : k.addr ≡ addr) (store : IsStore v (before ++ k ∷ after)) where
@@ -75,31 +85,47 @@ module _ {v : StoreContents} {addr : ℕ} (before after : List Stored) (k : Stor
   pub front_stored : take (length k.bytes) (bytes_at v.heap.state addr) ≡ k.bytes
   front_stored = ap (λ a. take (length k.bytes) (bytes_at v.heap.state a)) (sym at) ∙ kept_there.front
 
+  pub few_stored : length (bytes_at v.heap.state addr) < length k.bytes + 32
+  few_stored = omega (arith, kept_there.few, ap (λ a. length (bytes_at v.heap.state a)) at)
+
   -- its payload is filled with other bytes
-  pub IsStore-filled : (w : Allocator) (bytes front : List ℕ) → take (length front) bytes ≡ front → Steps 59 8 v.heap w (Fills v.heap.state addr bytes) → SamePlace v.heap.memory w.memory
+  pub IsStore-filled : (w : Allocator) (bytes front : List ℕ) → take (length front) bytes ≡ front → length bytes < length front + 32 → Steps 59 8 v.heap w (Fills v.heap.state addr bytes) → SamePlace v.heap.memory w.memory
       → IsStore (store_contents w v.pool) (before ++ stored k.addr k.align front ∷ after)
-  IsStore-filled w bytes front begins steps place =
+  IsStore-filled w bytes front begins few steps place =
       let s = v.heap.state in
       let j = stored k.addr k.align front in
       let (step, stands, _) = opened 59 8 v.heap w (Fills s addr bytes) steps in
       let filled = filled_seen (well_formed v.heap store.stands) w.state addr bytes step in
-      let keeps : Keeps w.state j = record { live = filled.aligns k.addr ∙ kept_there.live; front = ap (take (length front)) (ap (bytes_at w.state) at ∙ filled.here) ∙ begins } in
+      let here = ap (bytes_at w.state) at ∙ filled.here in
+      let keeps : Keeps w.state j = record { live = filled.aligns k.addr ∙ kept_there.live; front = ap (take (length front)) here ∙ begins; few = omega (arith, ap length here, few) } in
       IsStore-after store w (before ++ j ∷ after) stands place (chunks-filled s w.state addr bytes step)
       (KeepsOnly-changed before after k j keeps (λ off. absurd (off refl)) (λ off. absurd (off refl)) (λ a _ _. filled.aligns a) (λ a off _. filled.bytes a (λ e. off (e ∙ sym at))) store.payloads)
 
-  -- its payload gets another size, in which it has room
-  pub IsStore-resized : (w : Allocator) (size to : ℕ) → length k.bytes ≤ size → Steps 59 8 v.heap w (Reallocates 8 v.heap.state addr size (Some to)) → SamePlace v.heap.memory w.memory
-      → IsStore (store_contents w v.pool) (before ++ stored to k.align k.bytes ∷ after)
-  IsStore-resized w size to room steps place =
+  -- its payload gets another size
+  resized_stored : (w : Allocator) (size to : ℕ) → Steps 59 8 v.heap w (Reallocates 8 v.heap.state addr size (Some to)) → SeesResized v.heap.state w.state addr size k.align to
+  resized_stored w size to steps =
       let s = v.heap.state in
-      let j = stored to k.align k.bytes in
+      resized_seen (well_formed v.heap store.stands) w.state addr size k.align to (align_at-live s addr k.align live_stored) (opened 59 8 v.heap w (Reallocates 8 s addr size (Some to)) steps).0
+
+  -- in which it has room
+  pub front-resized : (w : Allocator) (size to : ℕ) → length k.bytes ≤ size → Steps 59 8 v.heap w (Reallocates 8 v.heap.state addr size (Some to)) → take (length k.bytes) (bytes_at w.state to) ≡ k.bytes
+  front-resized w size to room steps =
+      let moved = resized_stored w size to steps in
+      front-kept k.bytes (bytes_at v.heap.state addr) (bytes_at w.state to) front_stored (omega (arith, moved.sized, room)) moved.kept
+
+  pub IsStore-resized : (w : Allocator) (size to : ℕ) → Steps 59 8 v.heap w (Reallocates 8 v.heap.state addr size (Some to)) → SamePlace v.heap.memory w.memory
+      → IsStore (store_contents w v.pool) (before ++ stored to k.align (asked_at w to size) ∷ after)
+  IsStore-resized w size to steps place =
+      let s = v.heap.state in
+      let j = stored to k.align (asked_at w to size) in
       let (step, stands, _) = opened 59 8 v.heap w (Reallocates 8 s addr size (Some to)) steps in
       let formed = well_formed v.heap store.stands in
       let live = align_at-live s addr k.align live_stored in
-      let moved = resized_seen formed w.state addr size k.align to live step in
+      let moved = resized_stored w size to steps in
+      let long = length-asked_at w to size moved.sized in
       let left = (callers_see_map 59 8 (range_of v.heap.memory) s w.state (reallocate addr size (Some to)) formed (live.0, live.1) step).left in
       let off : (a : ℕ) → a ≢ k.addr → a ≢ addr = λ a apart e. apart (e ∙ sym at) in
-      let keeps : Keeps w.state j = record { live = moved.live; front = front-kept k.bytes (bytes_at s addr) (bytes_at w.state to) front_stored (omega (arith, moved.sized, room)) moved.kept } in
+      let keeps : Keeps w.state j = record { live = moved.live; front = ap (λ n. take n (bytes_at w.state to)) long; few = omega (arith, moved.few, long) } in
       IsStore-after store w (before ++ j ∷ after) stands place (chunks-reallocated 8 s w.state addr size (Some to) step)
       (KeepsOnly-changed before after k j keeps (λ apart. moved.new (off to apart)) (λ apart. ap (align_at w.state) at ∙ align_at-none w.state addr (left (off to apart)))
       (λ a apart other. moved.aligns a (off a apart) other) (λ a apart other. moved.bytes a (off a apart) other) store.payloads)

@@ -22,12 +22,12 @@ use Rattle.rlsf_uses.proofs.Stores.{block_of}
 
 module _ {A B : Type 0} (R : A → B → Type 0) where
   -- no two elements have the same one
-  abbrev NoTwo : List A → Type 0
+  abbrev pub NoTwo : List A → Type 0
   NoTwo [] = ⊤
   NoTwo (x ∷ xs) = ((z : A) (y : B) → IsIn z xs → R x y → R z y → ⊥) × NoTwo xs
 
   -- if each has one, the other list is as long, or longer
-  length-le_from_own : (xs : List A) (ys : List B) → ((x : A) → IsIn x xs → (y : B) × IsIn y ys × R x y) → NoTwo xs → length xs ≤ length ys
+  pub length-le_from_own : (xs : List A) (ys : List B) → ((x : A) → IsIn x xs → (y : B) × IsIn y ys × R x y) → NoTwo xs → length xs ≤ length ys
   length-le_from_own [] ys each apart = omega arith
   length-le_from_own (x ∷ xs) ys each (first, rest) =
       let (y, i, r) = each x (inl refl) in

@@ -5,6 +5,7 @@ use Rattle.std.specs.Map.{values_of}
 use Rattle.rlsf_base.specs.Addr.{at}
 use Rattle.rlsf_base.specs.declared.memory.range.Range.{Range}
 use Rattle.rlsf_base.specs.Space.{range_of}
+use Rattle.rlsf_machine.specs.State.{State}
 use Rattle.rlsf_uses.specs.Stored.{StoreContents, HasPlaces, Place, bytes_at_place}
 use Rattle.rlsf_uses.specs.declared.handles.Spot.{Spot}
 
@@ -37,18 +38,19 @@ places_in align rows = map (place_at align) (values_of rows)
 abbrev pub IsHandled : StoreContents → ℕ → List (ℕ × Spot) → Type 0
 IsHandled v align rows = HasPlaces v (places_in align rows)
 
--- lists of bytes by their handles, in the order of the handles; the number that the next handle has; and the alignment and the
--- memory of their payloads
+-- lists of bytes by their handles, in the order of the handles; the number that the next handle has; the alignment and the
+-- memory of their payloads; and the state of their allocator
 pub record Handled : Type 0 where
   pub lists : List (ℕ × List ℕ)
   pub next : ℕ
   pub align : ℕ
   pub memory : Range
+  pub state : State
 
 -- the same by its parts
-abbrev pub handled : List (ℕ × List ℕ) → ℕ → ℕ → Range → Handled
-handled lists next align memory = record { lists = lists; next = next; align = align; memory = memory }
+abbrev pub handled : List (ℕ × List ℕ) → ℕ → ℕ → Range → State → Handled
+handled lists next align memory state = record { lists = lists; next = next; align = align; memory = memory; state = state }
 
 -- a store with handles, as callers see it
 abbrev pub handled_by : StoreContents → ℕ → HandleRows → Handled
-handled_by v align h = handled (lists_in v align h.rows) h.next align (range_of v.heap.memory)
+handled_by v align h = handled (lists_in v align h.rows) h.next align (range_of v.heap.memory) v.heap.state

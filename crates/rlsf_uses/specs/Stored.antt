@@ -1,5 +1,5 @@
 -- Lists of bytes that an owner keeps in the payloads of one allocator.
-use Rattle.std.specs.Prelude.{◌≡◌, ◌≢◌, ℕ, ◌≤◌, List, [], ◌∷◌, ◌++◌, length, take, Some, count_by, map, ⊤}
+use Rattle.std.specs.Prelude.{◌≡◌, ◌≢◌, ℕ, ◌+◌, ◌<◌, ◌≤◌, List, [], ◌∷◌, ◌++◌, length, take, Some, count_by, map, ⊤}
 use Rattle.rlsf_base.specs.declared.memory.range.Range.{Range}
 use Rattle.rlsf_base.specs.Range.{end_of, range_at}
 use Rattle.rlsf_base.specs.Sizes.{max_pool_size, pool_size_to_contain_allocation}
@@ -31,10 +31,11 @@ pub record Stored : Type 0 where
 abbrev pub stored : ℕ → ℕ → List ℕ → Stored
 stored addr align bytes = record { addr = addr; align = align; bytes = bytes }
 
--- the payload at the address keeps the bytes: it has the alignment, and begins with them
+-- the payload at the address keeps the bytes: it has the alignment, begins with them, and has less than 32 bytes more
 pub record Keeps (s : State) (k : Stored) : Type 0 where
   pub live : align_at s k.addr ≡ Some k.align
   pub front : take (length k.bytes) (bytes_at s k.addr) ≡ k.bytes
+  pub few : length (bytes_at s k.addr) < length k.bytes + 32
 
 -- no two are kept at one address
 abbrev pub AreApart : List Stored → Type 0

@@ -1,6 +1,6 @@
 //! Lists of bytes by handle, each in a payload of one store: what the pool of objects and the strings share.
 
-ghost use Rattle.std.specs.Prelude.{◌≡◌, ◌+◌, ◌↔◌, [], ◌∷◌, ◌++◌, List, None, Some, IfOk, OnOk, OnErr, IsErr, IsErrOf, IsSomeAnd, length, nat_eq, replicate};
+ghost use Rattle.std.specs.Prelude.{◌≡◌, ◌≤◌, ◌+◌, ◌↔◌, ℕ, [], ◌∷◌, ◌++◌, List, None, Some, IfOk, OnOk, OnErr, IsErr, IsErrOf, IsSomeAnd, length, nat_eq, replicate};
 ghost use Rattle.std.specs.List.{splice};
 ghost use Rattle.std.specs.Map.{lookup, remove_entry, set_value};
 ghost use Rattle.rlsf_base.specs.Addr.{at};
@@ -8,6 +8,12 @@ ghost use Rattle.rlsf_base.specs.Space.{SamePlace, range_of};
 ghost use Rattle.std.specs.Map.Iter.{GivesInOrder};
 ghost use Rattle.rlsf_blocks.specs.Blocks.{IsInOrder};
 ghost use Rattle.rlsf_uses.specs.Objects.{set_answer};
+ghost use Rattle.rlsf_uses.specs.Budgets.{HasBudgetOf};
+ghost use Rattle.rlsf_base.specs.Sizes.{request_size};
+ghost use Rattle.rlsf_base.specs.declared.memory.range.Range as declared_range;
+ghost use Rattle.rlsf_machine.specs.Insert.{aligned_part};
+ghost use Rattle.rlsf_machine.specs.Uniform.{IsUniform};
+ghost use Rattle.rlsf_uses.specs.Tiles.{HasTileFor, KeepsUniform};
 ghost use Rattle.rlsf_uses.specs.Stored.{FitsPool, HasPlaces, HasSame, Place, used_count};
 ghost use Rattle.rlsf_uses.specs.declared.objects.TakeError.TheVariants.{NoRoom};
 ghost use Rattle.rlsf_uses.specs.declared.strings.StringError.TheVariants as string_error;
@@ -45,6 +51,7 @@ impl Items {
         ensures next { result.next ≡ 0 }
         ensures align { result.align ≡ align }
         ensures memory { result.memory ≡ range_of memory }
+        ensures uniform { (len : ℕ) → 64 ≤ (aligned_part (range_of memory)).len → IsUniform len (aligned_part (range_of memory)) result.state }
     {
         Items {
             store: Store::new(memory),
@@ -65,11 +72,12 @@ impl Items {
     pub(crate) fn add(&mut self, bytes: &[u8]) -> Result<usize, StringError>
         requires { self.old.align ≡ 1 }
         ensures added { IfOk result (λ handle. (handle ≡ self.old.next)
-            × (self.new ≡ record self.old { lists = self.old.lists ++ (handle, bytes.now) ∷ []; next = handle + 1 })) }
+            × (self.new ≡ record self.old { lists = self.old.lists ++ (handle, bytes.now) ∷ []; next = handle + 1; state = self.new.state })) }
         ensures new { IfOk result (λ handle. lookup (nat_eq handle) self.old.lists ≡ None) }
         ensures known { IsErrOf result string_error.UnknownHandle → ⊥ }
         ensures room { self.old.lists ≡ [] → FitsPool self.old.memory (length bytes.now) 1 → IsErrOf result string_error.NoRoom → ⊥ }
-        ensures refused { OnErr result (self.new ≡ self.old) }
+        ensures enough { (live size : ℕ) → HasBudgetOf self.old live size → length bytes.now ≤ size → IsErrOf result string_error.NoRoom → ⊥ }
+        ensures refused { OnErr result (self.new ≡ record self.old { state = self.new.state }) }
     {
         let Some(addr) = self.store.add(bytes) else {
             return Err(StringError::NoRoom);
@@ -87,10 +95,13 @@ impl Items {
     pub(crate) fn add_zeros(&mut self, layout: Layout) -> Result<usize, TakeError>
         requires { self.old.align ≡ layout.align }
         ensures added { IfOk result (λ handle. (handle ≡ self.old.next)
-            × (self.new ≡ record self.old { lists = self.old.lists ++ (handle, replicate layout.size 0) ∷ []; next = handle + 1 })) }
+            × (self.new ≡ record self.old { lists = self.old.lists ++ (handle, replicate layout.size 0) ∷ []; next = handle + 1; state = self.new.state })) }
         ensures new { IfOk result (λ handle. lookup (nat_eq handle) self.old.lists ≡ None) }
         ensures room { self.old.lists ≡ [] → FitsPool self.old.memory layout.size layout.align → IsErrOf result NoRoom → ⊥ }
-        ensures refused { OnErr result (self.new ≡ self.old) }
+        ensures enough { (live size : ℕ) → HasBudgetOf self.old live size → layout.size ≤ size → IsErrOf result NoRoom → ⊥ }
+        ensures tiled { (c : declared_range.Range) → HasTileFor self.old.state c layout.size layout.align (length self.old.lists) → IsErrOf result NoRoom → ⊥ }
+        ensures uniform { layout.align ≤ 32 → KeepsUniform self.old.state self.new.state (request_size layout.size layout.align) }
+        ensures refused { OnErr result (self.new ≡ record self.old { state = self.new.state }) }
     {
         let Some(addr) = self.store.add_zeros(layout) else {
             return Err(TakeError::NoRoom);
@@ -124,7 +135,8 @@ impl Items {
     ) -> Result<(), SetError>
         ensures answer { result ≡ set_answer (lookup (nat_eq handle) self.old.lists) (offset + length bytes.now) }
         ensures written { OnOk result (IsSomeAnd (lookup (nat_eq handle) self.old.lists) (λ old.
-            self.new ≡ record self.old { lists = set_value (nat_eq handle) self.old.lists (splice old offset (offset + length bytes.now) bytes.now) })) }
+            self.new ≡ record self.old { lists = set_value (nat_eq handle) self.old.lists (splice old offset (offset + length bytes.now) bytes.now); state = self.new.state })) }
+        ensures uniform { (len : ℕ) → KeepsUniform self.old.state self.new.state len }
         ensures refused { OnErr result (self.new ≡ self.old) }
     {
         let Some(spot) = self.handles.get(handle) else {
@@ -141,9 +153,11 @@ impl Items {
     pub(crate) fn append(&mut self, handle: usize, more: &[u8]) -> Result<(), StringError>
         requires { self.old.align ≡ 1 }
         ensures appended { OnOk result (IsSomeAnd (lookup (nat_eq handle) self.old.lists) (λ old.
-            self.new ≡ record self.old { lists = set_value (nat_eq handle) self.old.lists (old ++ more.now) })) }
+            self.new ≡ record self.old { lists = set_value (nat_eq handle) self.old.lists (old ++ more.now); state = self.new.state })) }
         ensures unknown { IsErrOf result string_error.UnknownHandle ↔ (lookup (nat_eq handle) self.old.lists ≡ None) }
-        ensures refused { OnErr result (self.new ≡ self.old) }
+        ensures enough { (live size : ℕ) → HasBudgetOf self.old live size → IsSomeAnd (lookup (nat_eq handle) self.old.lists) (λ old. length old + length more.now ≤ size)
+            → IsErrOf result string_error.NoRoom → ⊥ }
+        ensures refused { OnErr result (self.new ≡ record self.old { state = self.new.state }) }
     {
         let Some(spot) = self.handles.get(handle) else {
             return Err(StringError::UnknownHandle);
@@ -160,9 +174,10 @@ impl Items {
 
     /// Takes a handle out, and gives back its payload. Refused where the handle isn't there, and then nothing changes.
     pub(crate) fn remove(&mut self, handle: usize) -> Result<(), UnknownHandle>
-        ensures removed { OnOk result ((self.new ≡ record self.old { lists = remove_entry (nat_eq handle) self.old.lists })
+        ensures removed { OnOk result ((self.new ≡ record self.old { lists = remove_entry (nat_eq handle) self.old.lists; state = self.new.state })
             × (lookup (nat_eq handle) self.new.lists ≡ None)) }
         ensures unknown { IsErr result ↔ (lookup (nat_eq handle) self.old.lists ≡ None) }
+        ensures uniform { (len : ℕ) → KeepsUniform self.old.state self.new.state len }
         ensures refused { OnErr result (self.new ≡ self.old) }
     {
         let Some(spot) = self.handles.remove(handle) else {
@@ -196,6 +211,7 @@ fn keep(
     ensures given_back { OnErr result ((before : List Place) (p : Place) → HasPlaces store.old (before ++ p ∷ [])
         → p.addr ≡ at spot.addr → p.align ≡ align → HasSame store.old store.new (before ++ [])) }
     ensures refused { OnErr result (handles.new ≡ handles.old) }
+    ensures uniform { (len : ℕ) → KeepsUniform store.old.heap.state store.new.heap.state len }
     ensures place { SamePlace store.old.heap.memory store.new.heap.memory }
 {
     let added = handles.add(spot);

@@ -13,7 +13,7 @@ mod store;
 mod strings;
 
 pub use drawing::picture;
-pub use messages::{Messages, PopError, PushError};
+pub use messages::{LongestError, Messages, PopError, PushError};
 pub use objects::{Objects, SetError, TakeError, UnknownHandle};
 pub use store::Heap;
 pub use strings::{StringError, Strings};

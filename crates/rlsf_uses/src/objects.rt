@@ -1,24 +1,28 @@
 //! A pool of objects of one size and alignment, which are handed out and taken back by handle.
 
-ghost use Rattle.std.specs.Prelude.{◌≡◌, ◌+◌, ◌↔◌, [], ◌∷◌, ◌++◌, None, Some, IfOk, OnOk, OnErr, IsErr, IsErrOf, IsSomeAnd, length, nat_eq, replicate};
+ghost use Rattle.std.specs.Prelude.{◌≡◌, ◌≤◌, ◌+◌, ◌↔◌, [], ◌∷◌, ◌++◌, None, Some, IfOk, OnOk, OnErr, IsErr, IsErrOf, IsSomeAnd, length, nat_eq, replicate};
 ghost use Rattle.std.specs.List.{splice};
 ghost use Rattle.std.specs.Map.{lookup, remove_entry, set_value};
+ghost use Rattle.rlsf_base.specs.Sizes as sizes;
 ghost use Rattle.rlsf_base.specs.Space.{range_of};
 ghost use Rattle.std.specs.Map.Iter.{GivesInOrder};
 ghost use Rattle.rlsf_blocks.specs.Blocks.{IsInOrder};
+ghost use Rattle.rlsf_machine.specs.Insert.{aligned_part};
 ghost use Rattle.rlsf_uses.specs.Objects.{set_answer};
+ghost use Rattle.rlsf_uses.specs.Objects as objects;
 ghost use Rattle.rlsf_uses.specs.Stored.{FitsPool, used_count};
 ghost use Rattle.rlsf_uses.specs.declared.objects.TakeError.TheVariants.{NoRoom, OutOfMemory};
 
 use crate::items::Items;
-use rlsf::{BlockInfo, Blocks, Layout, Memory};
+use crate::store::pool_len;
+use rlsf::{BlockInfo, Blocks, Layout, Memory, classes};
 use std::alloc::{AllocError, Global};
 use std::marker::Model;
 
 /// Why no object was handed out.
 #[derive(Clone, Copy, Debug, PartialEq, Eq)]
 pub enum TakeError {
-    /// The pool's memory has no room for another object.
+    /// As many objects are out as the pool may have.
     NoRoom,
     /// No memory was left for the table of handles, or every number was a handle already.
     OutOfMemory,
@@ -52,48 +56,70 @@ pub enum SetError {
 pub struct Objects {
     items: Items,
     layout: Layout,
+    // How many may be out at once. Below that, the pool has room.
+    capacity: usize,
 }
 
 impl Model for Objects {
-    ghost use Rattle.std.specs.Prelude.{◌≡◌};
-    ghost use Rattle.rlsf_uses.specs.Objects.{Pool, HaveSize};
+    ghost use Rattle.rlsf_uses.specs.Capacities.{IsPool};
+    ghost use Rattle.rlsf_uses.specs.Objects.{Pool};
 
     ghost Value = { Pool };
 
-    ghost view = { λ o. record { objects = o.items.lists; next = o.items.next; size = o.layout.size; align = o.layout.align; memory = o.items.memory } };
+    ghost view = { λ o. record { objects = o.items.lists; next = o.items.next; size = o.layout.size; align = o.layout.align; memory = o.items.memory; capacity = o.capacity } };
 
-    ghost invariant = { λ o. (o.items.align ≡ o.layout.align) × HaveSize o.layout.size o.items.lists };
+    ghost invariant = { λ o. IsPool o.items o.layout.size o.layout.align o.capacity };
 }
 
 impl Objects {
-    /// A pool of which no object is out yet. Its memory is all that objects are taken from.
+    /// A pool of which no object is out yet. Its memory is all that objects are taken from, and its length says how many may be
+    /// out at once.
+    ///
+    /// In a memory of the length that `classes::pool_size_for_objects` computes, from a multiple of 32 on, as many of the size
+    /// that it says may be out as were asked for, at an alignment of 16 or less. Where the block of an object doesn't begin a
+    /// size class, or the alignment is above 32, about half as many may be out.
     pub fn new(alloc: Global, memory: Memory, layout: Layout) -> Objects
-        ensures { result ≡ record { objects = []; next = 0; size = layout.size; align = layout.align; memory = range_of memory } }
+        ensures pool { result ≡ record { objects = []; next = 0; size = layout.size; align = layout.align; memory = range_of memory; capacity = result.capacity } }
+        ensures capacity { result.capacity ≡ objects.capacity_of (aligned_part (range_of memory)).len layout.size layout.align }
     {
+        let capacity = capacity_of(pool_len(&memory), layout);
         Objects {
             items: Items::new(alloc, memory, layout.align),
             layout,
+            capacity,
         }
+    }
+
+    /// How many objects may be out at once.
+    pub fn capacity(&self) -> usize
+        ensures { result ≡ self.now.capacity }
+    {
+        self.capacity
     }
 
     /// How many objects are out.
     pub fn len(&self) -> usize
-        ensures { result ≡ length self.now.objects }
+        ensures value { result ≡ length self.now.objects }
+        ensures most { result ≤ self.now.capacity }
     {
         self.items.len()
     }
 
     /// Hands out an object of zeros, under a new handle.
     ///
-    /// Refused without room for it, or without memory for its handle, and then nothing changes. A pool of which no object is out, and
-    /// whose memory fits one, has room.
+    /// Refused with `NoRoom` exactly where as many are out as the capacity, and else with `OutOfMemory` without memory for its
+    /// handle, and then nothing changes. A pool of which no object is out, and whose memory fits one, has room.
     pub fn take(&mut self) -> Result<usize, TakeError>
         ensures taken { IfOk result (λ handle. (handle ≡ self.old.next)
             × (self.new ≡ record self.old { objects = self.old.objects ++ (handle, replicate self.old.size 0) ∷ []; next = handle + 1 })) }
         ensures new { IfOk result (λ handle. lookup (nat_eq handle) self.old.objects ≡ None) }
+        ensures full { IsErrOf result NoRoom ↔ (length self.old.objects ≡ self.old.capacity) }
         ensures room { self.old.objects ≡ [] → FitsPool self.old.memory self.old.size self.old.align → IsErrOf result NoRoom → ⊥ }
         ensures refused { OnErr result (self.new ≡ self.old) }
     {
+        if self.items.len() == self.capacity {
+            return Err(TakeError::NoRoom);
+        }
         self.items.add_zeros(self.layout)
     }
 
@@ -139,4 +165,29 @@ impl Objects {
     {
         self.items.blocks()
     }
+}
+
+/// How many objects of a layout a pool of so many bytes is sure to hold.
+fn capacity_of(len: usize, layout: Layout) -> usize
+    ensures { result ≡ objects.capacity_of len layout.size layout.align }
+{
+    let Some(least) = classes::pool_size_to_contain_allocation::<u64, u64, 59, 8>(layout) else {
+        return 0;
+    };
+    if len < least {
+        return 0;
+    }
+    let block = request_size(layout);
+    if layout.align <= 32 && least == block + 32 {
+        (len - 32) / block
+    } else {
+        (((len - 32) / block + 1) * 8 / 17).max(1)
+    }
+}
+
+/// How long a block is sought for a layout: its payload begins 16 bytes into it, or up to `align - 16` bytes later.
+fn request_size(layout: Layout) -> usize
+    ensures { result ≡ sizes.request_size layout.size layout.align }
+{
+    (layout.size() + layout.align().max(16)).next_multiple_of(32)
 }

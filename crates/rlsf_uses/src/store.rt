@@ -1,12 +1,18 @@
 //! Lists of bytes, each in a payload of one allocator: what the libraries of this crate share.
 
-ghost use Rattle.std.specs.Prelude.{◌≡◌, ◌≤◌, ◌+◌, ◌∷◌, ◌++◌, List, [], length, replicate, IfNone, IfSome, IsSome};
+ghost use Rattle.std.specs.Prelude.{◌≡◌, ◌≤◌, ◌+◌, ◌∷◌, ◌++◌, ℕ, List, [], length, replicate, IfNone, IfSome, IsSome};
 ghost use Rattle.std.specs.List.{splice};
 ghost use Rattle.std.specs.Map.Iter.{GivesInOrder};
 ghost use Rattle.rlsf_base.specs.Addr.{at};
 ghost use Rattle.rlsf_base.specs.Range.{range_at};
 ghost use Rattle.rlsf_base.specs.Space.{SamePlace, bytes_in, range_of};
 ghost use Rattle.rlsf_blocks.specs.Blocks.{IsInOrder};
+ghost use Rattle.rlsf_machine.specs.Insert.{aligned_part};
+ghost use Rattle.rlsf_uses.specs.Budgets.{HasBudgetFor};
+ghost use Rattle.rlsf_base.specs.Sizes.{request_size};
+ghost use Rattle.rlsf_base.specs.declared.memory.range.Range as declared_range;
+ghost use Rattle.rlsf_machine.specs.Uniform.{IsUniform};
+ghost use Rattle.rlsf_uses.specs.Tiles.{HasTileFor, KeepsUniform};
 ghost use Rattle.rlsf_uses.specs.Stored.{FitsPool, HasAmong, HasPlaces, HasSame, KeepsAll, Place, bytes_at_place, place, used_count};
 
 use rlsf::{Addr, BlockInfo, Blocks, Layout, Memory, Range, Tlsf};
@@ -36,6 +42,7 @@ impl Store {
     pub(crate) fn new(memory: Memory) -> Store
         ensures empty { HasPlaces result [] }
         ensures place { SamePlace memory result.heap.memory }
+        ensures uniform { (len : ℕ) → 64 ≤ (aligned_part (range_of memory)).len → IsUniform len (aligned_part (range_of memory)) result.heap.state }
         ensures touches { result.heap.memory.touches ≤ memory.touches + 13 }
     {
         let start = memory.start();
@@ -55,6 +62,7 @@ impl Store {
             → HasAmong self.old self.new places [] (place (at addr) 1 (length bytes.now)) bytes.now) }
         ensures refused { IfNone result (KeepsAll self.old self.new) }
         ensures room { HasPlaces self.old [] → FitsPool (range_of self.old.heap.memory) (length bytes.now) 1 → IsSome result }
+        ensures enough { (places : List Place) (live size : ℕ) → HasBudgetFor self.old places live size 1 → length bytes.now ≤ size → IsSome result }
         ensures place { SamePlace self.old.heap.memory self.new.heap.memory }
         ensures touches { self.new.heap.memory.touches ≤ self.old.heap.memory.touches + 30 }
     {
@@ -73,6 +81,10 @@ impl Store {
             → HasAmong self.old self.new places [] (place (at addr) layout.align layout.size) (replicate layout.size 0)) }
         ensures refused { IfNone result (KeepsAll self.old self.new) }
         ensures room { HasPlaces self.old [] → FitsPool (range_of self.old.heap.memory) layout.size layout.align → IsSome result }
+        ensures enough { (places : List Place) (live size : ℕ) → HasBudgetFor self.old places live size layout.align → layout.size ≤ size → IsSome result }
+        ensures tiled { (places : List Place) (c : declared_range.Range) → HasPlaces self.old places → HasTileFor self.old.heap.state c layout.size layout.align (length places) → IsSome result }
+        ensures uniform { (places : List Place) → HasPlaces self.old places → layout.align ≤ 32
+            → KeepsUniform self.old.heap.state self.new.heap.state (request_size layout.size layout.align) }
         ensures place { SamePlace self.old.heap.memory self.new.heap.memory }
         ensures touches { self.new.heap.memory.touches ≤ self.old.heap.memory.touches + 30 }
     {
@@ -95,6 +107,7 @@ impl Store {
         requires { (before after : List Place) × (p : Place) × HasPlaces self.old (before ++ p ∷ after) × (p.addr ≡ at addr) × (offset + length bytes.now ≤ p.len) }
         ensures stored { (before after : List Place) (p : Place) → HasPlaces self.old (before ++ p ∷ after) → p.addr ≡ at addr → offset + length bytes.now ≤ p.len
             → HasAmong self.old self.new before after p (splice (bytes_at_place self.old.heap.memory p) offset (offset + length bytes.now) bytes.now) }
+        ensures uniform { (places : List Place) (len : ℕ) → HasPlaces self.old places → KeepsUniform self.old.heap.state self.new.heap.state len }
         ensures place { SamePlace self.old.heap.memory self.new.heap.memory }
         ensures touches { self.new.heap.memory.touches ≤ self.old.heap.memory.touches + 3 }
     {
@@ -108,6 +121,7 @@ impl Store {
         ensures stored { IfSome result (λ to. (before after : List Place) (p : Place) → HasPlaces self.old (before ++ p ∷ after) → p.addr ≡ at addr → p.align ≡ 1 → p.len ≡ len
             → HasAmong self.old self.new before after (place (at to) 1 (len + length more.now)) (bytes_at_place self.old.heap.memory p ++ more.now)) }
         ensures refused { IfNone result (KeepsAll self.old self.new) }
+        ensures enough { (places : List Place) (live size : ℕ) → HasBudgetFor self.old places live size 1 → len + length more.now ≤ size → IsSome result }
         ensures place { SamePlace self.old.heap.memory self.new.heap.memory }
         ensures touches { self.new.heap.memory.touches ≤ self.old.heap.memory.touches + 69 }
     {
@@ -125,6 +139,7 @@ impl Store {
         requires { (before after : List Place) × (p : Place) × HasPlaces self.old (before ++ p ∷ after) × (p.addr ≡ at addr) × (p.align ≡ align) }
         ensures removed { (before after : List Place) (p : Place) → HasPlaces self.old (before ++ p ∷ after) → p.addr ≡ at addr → p.align ≡ align
             → HasSame self.old self.new (before ++ after) }
+        ensures uniform { (len : ℕ) → KeepsUniform self.old.heap.state self.new.heap.state len }
         ensures place { SamePlace self.old.heap.memory self.new.heap.memory }
         ensures touches { self.new.heap.memory.touches ≤ self.old.heap.memory.touches + 32 }
     {
@@ -149,4 +164,12 @@ fn write_at(payload: &mut [u8], offset: usize, bytes: &[u8])
     ensures len { length payload.new ≡ length payload.old }
 {
     payload[offset..offset + bytes.len()].copy_from_slice(bytes);
+}
+
+/// How long the pool of a memory is: its part from one multiple of 32 to another.
+pub(crate) fn pool_len(memory: &Memory) -> usize
+    ensures { result ≡ (aligned_part (range_of memory.now)).len }
+{
+    let skipped = (32 - memory.start() % 32) % 32;
+    memory.len().saturating_sub(skipped) / 32 * 32
 }

@@ -1,10 +1,11 @@
 //! An interpreter's strings: handles to lists of bytes that grow.
 
-ghost use Rattle.std.specs.Prelude.{◌≡◌, ◌+◌, ◌↔◌, [], ◌∷◌, ◌++◌, None, Some, IfOk, OnOk, OnErr, IsErr, IsErrOf, IsSomeAnd, length, nat_eq};
+ghost use Rattle.std.specs.Prelude.{◌≡◌, ◌≤◌, ◌+◌, ◌↔◌, ℕ, [], ◌∷◌, ◌++◌, None, Some, IfOk, OnOk, OnErr, IsErr, IsErrOf, IsSomeAnd, length, nat_eq};
 ghost use Rattle.std.specs.Map.{lookup, remove_entry, set_value};
 ghost use Rattle.rlsf_base.specs.Space.{range_of};
 ghost use Rattle.std.specs.Map.Iter.{GivesInOrder};
 ghost use Rattle.rlsf_blocks.specs.Blocks.{IsInOrder};
+ghost use Rattle.rlsf_uses.specs.Budgets.{AreFewStrings};
 ghost use Rattle.rlsf_uses.specs.Stored.{FitsPool, used_count};
 ghost use Rattle.rlsf_uses.specs.Strings.{joined_of};
 ghost use Rattle.rlsf_uses.specs.declared.strings.StringError.TheVariants as string_error;
@@ -90,6 +91,7 @@ impl Strings {
         ensures new { IfOk result (λ handle. lookup (nat_eq handle) self.old.strings ≡ None) }
         ensures known { IsErrOf result string_error.UnknownHandle → ⊥ }
         ensures room { self.old.strings ≡ [] → FitsPool self.old.memory 0 1 → IsErrOf result string_error.NoRoom → ⊥ }
+        ensures enough { (count longest : ℕ) → AreFewStrings self.old count longest → IsErrOf result string_error.NoRoom → ⊥ }
         ensures refused { OnErr result (self.new ≡ self.old) }
     {
         self.items.add(&[])
@@ -102,6 +104,8 @@ impl Strings {
         ensures appended { OnOk result (IsSomeAnd (lookup (nat_eq handle) self.old.strings) (λ old.
             self.new ≡ record self.old { strings = set_value (nat_eq handle) self.old.strings (old ++ more.now) })) }
         ensures unknown { IsErrOf result string_error.UnknownHandle ↔ (lookup (nat_eq handle) self.old.strings ≡ None) }
+        ensures enough { (count longest : ℕ) → AreFewStrings self.old count longest → IsSomeAnd (lookup (nat_eq handle) self.old.strings) (λ old. length old + length more.now ≤ longest)
+            → IsErrOf result string_error.NoRoom → ⊥ }
         ensures refused { OnErr result (self.new ≡ self.old) }
     {
         self.items.append(handle, more)
@@ -116,6 +120,8 @@ impl Strings {
             self.new ≡ record self.old { strings = self.old.strings ++ (handle, bytes) ∷ []; next = handle + 1 })) }
         ensures new { IfOk result (λ handle. lookup (nat_eq handle) self.old.strings ≡ None) }
         ensures unknown { IsErrOf result string_error.UnknownHandle ↔ (joined_of left right self.old.strings ≡ None) }
+        ensures enough { (count longest : ℕ) → AreFewStrings self.old count longest → IsSomeAnd (joined_of left right self.old.strings) (λ bytes. length bytes ≤ longest)
+            → IsErrOf result string_error.NoRoom → ⊥ }
         ensures refused { OnErr result (self.new ≡ self.old) }
     {
         let bytes = self.joined(left, right)?;
@@ -126,6 +132,7 @@ impl Strings {
     fn joined(&self, left: usize, right: usize) -> Result<Vec<u8>, StringError>
         ensures bytes { IfOk result (λ v. joined_of left right self.now.strings ≡ Some v.items) }
         ensures unknown { IsErrOf result string_error.UnknownHandle ↔ (joined_of left right self.now.strings ≡ None) }
+        ensures room { IsErrOf result string_error.NoRoom → ⊥ }
     {
         let left = self.bytes(left)?;
         let right = self.bytes(right)?;

@@ -192,6 +192,8 @@ impl Pair {
                 self.no_room = self.no_room.wrapping_add(1);
                 Ok(!is_full && !self.expected.is_empty())
             }
+            // This queue takes messages of any length.
+            Err(PushError::TooLong) => Ok(false),
         }
     }
 

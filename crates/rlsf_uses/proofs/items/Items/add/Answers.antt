@@ -2,8 +2,9 @@ use Rattle.std.proofs.Common.{◌+◌, ◌∷◌, ◌++◌, [], length, refl, sy
 use Rattle.std.proofs.lemmas.Bool.{false≢true}
 use Rattle.std.specs.Int.NonZero.{non_zero_usize_get}
 use Rattle.rlsf_uses.specs.Handled.{lists_in, places_in}
+use Rattle.rlsf_uses.specs.Budgets.{HasBudgetFor, HasBudgetOf}
 use Rattle.rlsf_uses.specs.Stored.{FitsPool, HasAmong, place}
-use Rattle.rlsf_uses.proofs.HandledStores.{OnErr-always, Shows, absent, none_stored, one_more, same_items}
+use Rattle.rlsf_uses.proofs.HandledStores.{HasBudgetFor-handled, OnErr-always, Shows, absent, none_stored, one_more, same_items}
 use Rattle.rlsf_uses.proofs.Places.{HasSame-given_back}
 use Rattle.rlsf_uses.proofs.items.Items.add.Goals as goal
 
@@ -12,10 +13,17 @@ returns-in_default-clause-room c = λ none fits _.
     let empty = none_stored c.self.inside.store c.self.inside.align c.self.inside.handles.rows c.self.invariant (ap (λ h. h.lists) c.self.view_is ∙ none) in
     absurd (false≢true (c.in_default.ensures.room empty (subst (λ h. FitsPool h.memory (length c.args.bytes.now) 1) (sym c.self.view_is) fits)))
 
+pub returns-in_default-clause-enough : goal.returns-in_default-clause-enough
+returns-in_default-clause-enough c = λ live size budget short _.
+    let i = c.self.inside in
+    let here = HasBudgetFor-handled i.store i.align i.handles live size c.self.invariant (subst (λ h. HasBudgetOf h live size) (sym c.self.view_is) budget) in
+    let one = ap (λ h. h.align) c.self.view_is ∙ c.requires in
+    absurd (false≢true (c.in_default.ensures.enough _ live size (subst (λ n. HasBudgetFor i.store (places_in i.align i.handles.rows) live size n) one here) short))
+
 pub returns-in_default-clause-refused : goal.returns-in_default-clause-refused
 returns-in_default-clause-refused c =
     let kept = same_items c.self.inside.handles c.self.invariant c.add.new.self c.self.inside.handles c.add.ensures.place (c.in_default.ensures.refused _ c.self.invariant) refl refl in
-    kept.1 ∙ c.self.view_is
+    rw (← c.self.view_is) kept.1
 
 pub invariant_of-self : goal.invariant_of-self
 invariant_of-self c = (c.in_default.ensures.refused _ c.self.invariant).0
@@ -35,7 +43,7 @@ pub invariant_of-self-in_err-handle : goal.invariant_of-self-in_err-handle
 invariant_of-self-in_err-handle c = (kept c).0
 
 pub returns-in_err-handle-clause-refused : goal.returns-in_err-handle-clause-refused
-returns-in_err-handle-clause-refused c = OnErr-always c.from_residual.result ((kept c).1 ∙ c.self.view_is)
+returns-in_err-handle-clause-refused c = rw (← c.self.view_is) (OnErr-always c.from_residual.result (kept c).1)
 
 -- the store with one more
 more : (c : goal.In_ok-handle) → Shows c.self.inside.store c.self.inside.align (lists_in c.self.inside.store c.self.inside.align c.self.inside.handles.rows ++ (c.in_ok-handle.handle, c.args.bytes.now) ∷ []) (c.in_ok-handle.handle + 1) c.keep.new.store c.keep.new.handles

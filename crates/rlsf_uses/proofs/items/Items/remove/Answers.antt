@@ -14,7 +14,7 @@ returns-in_default-clause-unknown c =
     rw (← c.self.view_is) ((λ _. none), λ _. refl)
 
 pub returns-in_default-clause-refused : goal.returns-in_default-clause-refused
-returns-in_default-clause-refused c = ap (λ h. handled (lists_in c.self.inside.store c.self.inside.align h.rows) h.next c.self.inside.align (range_of c.self.inside.store.heap.memory)) c.in_default.ensures.absent ∙ c.self.view_is
+returns-in_default-clause-refused c = ap (λ h. handled (lists_in c.self.inside.store c.self.inside.align h.rows) h.next c.self.inside.align (range_of c.self.inside.store.heap.memory) c.self.inside.store.heap.state) c.in_default.ensures.absent ∙ c.self.view_is
 
 pub remove-requires-2 : goal.remove-requires-2
 remove-requires-2 c =
@@ -39,3 +39,6 @@ pub returns-clause-unknown : goal.returns-clause-unknown
 returns-clause-unknown c =
     let there = (stored_at c.self.inside.handles c.self.invariant c.args.handle c.in-Some.spot (sym c.remove.ensures.spot ∙ c.in-Some.is)).bytes in
     rw (← c.self.view_is) ((λ e. cc), λ none. cc)
+
+pub returns-clause-uniform : goal.returns-clause-uniform
+returns-clause-uniform c = rw (← c.self.view_is) (λ len. c.remove-2.ensures.uniform len)

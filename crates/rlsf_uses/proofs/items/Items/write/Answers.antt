@@ -59,3 +59,6 @@ returns-clause-answer c =
 
 pub returns-clause-written : goal.returns-clause-written
 returns-clause-written c = rw (← c.self.view_is) (IsSomeAnd-is _ _ _ (found c).bytes (written c).1)
+
+pub returns-clause-uniform : goal.returns-clause-uniform
+returns-clause-uniform c = rw (← c.self.view_is) (λ len. c.write.ensures.uniform _ len c.self.invariant)

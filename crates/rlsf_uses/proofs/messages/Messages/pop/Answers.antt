@@ -1,9 +1,13 @@
 use Rattle.std.proofs.Common.{◌≡◌, ◌<◌, [], ◌++◌, length, drop, map, arith, refl, ◌∙◌, ap, sym, subst}
 use Rattle.std.proofs.lemmas.List.{length-take}
+use Rattle.std.proofs.Math.Path.{ap₂}
 use Rattle.std.specs.Option.{IsSomeAnd}
+use Rattle.std.specs.VecDeque.{deque_capacity}
+use Rattle.rlsf_base.specs.Range.{range_at}
+use Rattle.rlsf_base.specs.Space.{range_of}
 use Rattle.rlsf_uses.specs.Queue.{oldest, place_of_entry}
 use Rattle.rlsf_uses.specs.Stored.{HasPlaces, HasSame, bytes_at_place}
-use Rattle.rlsf_uses.proofs.Queues.{Oldest, oldest_stored}
+use Rattle.rlsf_uses.proofs.Queues.{KeepsLongest-less, KeepsLongest-same, Oldest, oldest_stored}
 use Rattle.rlsf_uses.proofs.messages.Messages.pop.Goals as goal
 use Rattle.rlsf_uses.proofs.messages.Messages.pop.Goals.{After-remove, In-Some}
 
@@ -12,7 +16,7 @@ found : (c : In-Some) → Oldest c.self.inside.store c.self.inside.entries.items
 found c =
     let entries = c.self.inside.entries in
     let here = c.in-Some.ensures in
-    oldest_stored c.self.inside.store entries.items c.in-Some.field-0.now c.self.invariant (omega (arith, entries.ok.0, here.variant.0 refl)) here.lookup
+    oldest_stored c.self.inside.store entries.items c.in-Some.field-0.now c.self.invariant.0 (omega (arith, entries.ok.0, here.variant.0 refl)) here.lookup
 
 pub returns-then-into-entry-clause-short : goal.returns-then-into-entry-clause-short
 returns-then-into-entry-clause-short c =
@@ -36,7 +40,11 @@ pub invariant_of-self : goal.invariant_of-self
 invariant_of-self c =
     let at = goal.at.invariant_of-self c in
     let rest : drop 1 c.self.inside.entries.items ≡ c.pop_front.new.self.items = cc in
-    subst (λ es. HasPlaces c.remove.new.self (map place_of_entry es)) rest (left at.After-remove (found at.In-Some)).0
+    let place : range_of c.self.inside.store.heap.memory ≡ range_of c.remove.new.self.heap.memory = ap₂ range_at (sym c.remove.ensures.place.0) (sym c.remove.ensures.place.1) in
+    let holds : deque_capacity c.self.inside.entries ≡ deque_capacity c.pop_front.new.self = omega arith in (
+      subst (λ es. HasPlaces c.remove.new.self (map place_of_entry es)) rest (left at.After-remove (found at.In-Some)).0,
+      KeepsLongest-same c.self.inside.longest place holds rest (KeepsLongest-less c.self.inside.longest (range_of c.self.inside.store.heap.memory) (deque_capacity c.self.inside.entries) c.self.inside.entries.items c.self.invariant.1),
+    )
 
 pub returns-clause-ok : goal.returns-clause-ok
 returns-clause-ok c =

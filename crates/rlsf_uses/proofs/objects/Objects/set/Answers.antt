@@ -4,9 +4,12 @@ use Rattle.std.specs.List.{splice}
 use Rattle.std.specs.Map.{lookup, set_value}
 use Rattle.rlsf_base.proofs.Words.Splices.{length-splice}
 use Rattle.rlsf_uses.specs.Handled.{Handled}
-use Rattle.rlsf_uses.specs.Objects.{HaveSize, set_answer}
+use Rattle.rlsf_uses.specs.Capacities.{IsPool}
+use Rattle.rlsf_uses.specs.Objects.{set_answer}
+use Rattle.rlsf_uses.specs.Tiles.{KeepsUniform}
 use Rattle.rlsf_uses.specs.declared.objects.SetError.{SetError}
-use Rattle.rlsf_uses.proofs.Entries.{AllByRecursion-lookup, AllByRecursion-set_value}
+use Rattle.rlsf_uses.proofs.Capacities.{IsPool-set}
+use Rattle.rlsf_uses.proofs.Entries.{AllByRecursion-lookup}
 use Rattle.rlsf_uses.proofs.objects.Objects.set.Goals as goal
 
 some_of : {A : Type 0} (o : Option A) (P : A → Type 0) → IsSomeAnd o P → (x : A) × (o ≡ Some x) × P x
@@ -16,21 +19,21 @@ some_of (Some x) P p = (x, refl, p)
 within : (old : List ℕ) (end : ℕ) → Ok tt ≡ set_answer (Some old) end → end ≤ length old
 within old end answer = grind (arith, nat_tests)
 
-keep_size : (r : Result Unit SetError) (o n : Handled) (size handle offset align : ℕ) (bytes : List ℕ) → (o.align ≡ align) × HaveSize size o.lists
+kept : (r : Result Unit SetError) (o n : Handled) (size align capacity handle offset : ℕ) (bytes : List ℕ) → IsPool o size align capacity
     → r ≡ set_answer (lookup (nat_eq handle) o.lists) (offset + length bytes)
-    → OnOk r (IsSomeAnd (lookup (nat_eq handle) o.lists) (λ old. n ≡ record o { lists = set_value (nat_eq handle) o.lists (splice old offset (offset + length bytes) bytes) }))
-    → OnErr r (n ≡ o) → (n.align ≡ align) × HaveSize size n.lists
-keep_size (Ok tt) o n size handle offset align bytes sized answer written refused =
+    → OnOk r (IsSomeAnd (lookup (nat_eq handle) o.lists) (λ old. n ≡ record o { lists = set_value (nat_eq handle) o.lists (splice old offset (offset + length bytes) bytes); state = n.state }))
+    → OnErr r (n ≡ o) → ((len : ℕ) → KeepsUniform o.state n.state len) → IsPool n size align capacity
+kept (Ok tt) o n size align capacity handle offset bytes pool answer written refused keeps =
     let (old, there, new) = some_of (lookup (nat_eq handle) o.lists) _ written in
     let room = within old (offset + length bytes) (answer ∙ ap (λ l. set_answer l (offset + length bytes)) there) in
-    let same = length-splice old bytes offset (length bytes) room refl ∙ AllByRecursion-lookup (λ x. length x ≡ size) _ _ old sized.1 there in
-    subst (λ h. (h.align ≡ align) × HaveSize size h.lists) (sym new) (sized.0, AllByRecursion-set_value (λ e. length e.1 ≡ size) _ _ _ (λ _ _ _. same) sized.1)
-keep_size (Err e) o n size handle offset align bytes sized answer written refused = subst (λ h. (h.align ≡ align) × HaveSize size h.lists) (sym refused) sized
+    let same = length-splice old bytes offset (length bytes) room refl ∙ AllByRecursion-lookup (λ x. length x ≡ size) _ _ old pool.sized there in
+    IsPool-set o n size align capacity handle (splice old offset (offset + length bytes) bytes) same pool new keeps
+kept (Err e) o n size align capacity handle offset bytes pool answer written refused keeps = subst (λ h. IsPool h size align capacity) (sym refused) pool
 
 pub invariant_of-self : goal.invariant_of-self
 invariant_of-self c =
     let i = c.self.inside in
-    keep_size c.write.result i.items c.write.new.self i.layout.size _ _ i.layout.align _ c.self.invariant c.write.ensures.answer c.write.ensures.written c.write.ensures.refused
+    kept c.write.result i.items c.write.new.self i.layout.size i.layout.align i.capacity _ _ _ c.self.invariant c.write.ensures.answer c.write.ensures.written c.write.ensures.refused c.write.ensures.uniform
 
 pub returns-clause-answer : goal.returns-clause-answer
 returns-clause-answer c = search rules

@@ -1,13 +1,15 @@
-use Rattle.std.proofs.Common.{◌≡◌, [], List, Some, length, take, refl, sym, ◌∙◌, ap, subst, ◌+◌, ◌≤◌, lit<, arith}
+use Rattle.std.proofs.Common.{◌≡◌, ℕ, [], List, Some, length, take, refl, sym, ◌∙◌, ap, subst, ◌+◌, ◌<◌, ◌≤◌, lit<, arith}
 use Rattle.std.specs.Prelude.{IfNone, IsSome}
 use Rattle.std.specs.Int.NonZero.{non_zero_usize_get}
 use Rattle.rlsf_base.specs.Sizes.{pool_size_to_contain_allocation}
 use Rattle.rlsf_base.specs.Space.{range_of, SamePlace}
 use Rattle.rlsf_tlsf.specs.Lending.{written}
+use Rattle.rlsf_uses.specs.Budgets.{HasBudgetFor}
 use Rattle.rlsf_uses.specs.Stored.{FitsPool, HasAmong, HasPlaces, KeepsAll, Place, StoreContents, place, store_contents, stored}
 use Rattle.rlsf_uses.proofs.Fronts.{front-append}
 use Rattle.rlsf_uses.proofs.Places.{HasAmong-added, HasSame-stored, IsStore-none}
-use Rattle.rlsf_uses.proofs.Stores.{IsStore-allocated, IsStore-filled, IsStore-refused, empty_has_room}
+use Rattle.rlsf_uses.proofs.Rooms.{budget_has_room}
+use Rattle.rlsf_uses.proofs.Stores.{IsStore-allocated, IsStore-filled, IsStore-refused, asked_at, empty_has_room}
 use Rattle.rlsf_uses.proofs.store.Store.add.Goals as goal
 
 pub returns-in_err-addr-clause-refused : goal.returns-in_err-addr-clause-refused
@@ -25,6 +27,15 @@ returns-in_err-addr-clause-room c =
     let fits : FitsPool (range_of c.self.inside.heap.memory) layout.size layout.align = (e, subst (λ n. pool_size_to_contain_allocation 59 8 n layout.align ≡ Some e) (sym size) (subst (λ n. pool_size_to_contain_allocation 59 8 (length c.args.bytes.now) n ≡ Some e) (sym align) told), long) in
     absurd (empty_has_room c.allocate.new.self layout.size layout.align fits c.in_err-addr.ensures.step (IsStore-none has)))
 
+pub returns-in_err-addr-clause-enough : goal.returns-in_err-addr-clause-enough
+returns-in_err-addr-clause-enough c =
+    let layout = c.in-Ok.layout in
+    let (long, aligned) = c.in-Ok.ensures.layout in
+    subst (λ (old : StoreContents). (places : List Place) (live size : ℕ) → HasBudgetFor old places live size 1 → length c.args.bytes.now ≤ size → IsSome c.from_residual.result) c.self.view_is
+    (λ places live size budget short.
+    let same = subst (λ n. HasBudgetFor (store_contents c.self.inside.heap c.self.inside.pool) places live size n) (sym aligned) budget in
+    absurd (budget_has_room same c.allocate.new.self layout.size (omega (arith, short, long)) c.in_err-addr.ensures.step))
+
 pub returns-clause-stored : goal.returns-clause-stored
 returns-clause-stored c =
     let layout = c.in-Ok.layout in
@@ -38,7 +49,8 @@ returns-clause-stored c =
     (HasAmong-added places addr layout.align front (length front) refl has (λ before after store.
     let allocated = IsStore-allocated c.allocate.new.self layout.size layout.align addr layout.valid.aligned before after c.in_ok-addr.ensures.step c.in_ok-addr.ensures.place store in
     let writes : take (length front) w ≡ front = ap (take (length front)) c.write_at.ensures.bytes ∙ front-append [] lent front 0 refl refl in
-    IsStore-filled before after (stored addr layout.align []) refl allocated (written c.allocate.new.self addr (length lent) w) w front writes (c.payload_mut.ensures.meaning w c.write_at.ensures.len) (c.payload_mut.ensures.rest w).1)))
+    let few : length w < length front + 32 = omega (arith, c.write_at.ensures.len, ap length c.payload_mut.ensures.value, c.in_ok-addr.ensures.few, c.in-Ok.ensures.layout.0) in
+    IsStore-filled before after (stored addr layout.align (asked_at c.allocate.new.self addr layout.size)) refl allocated (written c.allocate.new.self addr (length lent) w) w front writes few (c.payload_mut.ensures.meaning w c.write_at.ensures.len) (c.payload_mut.ensures.rest w).1)))
 
 pub payload_mut-requires : goal.payload_mut-requires
 payload_mut-requires c = (lit< tt, subst IsSome (sym c.in_ok-addr.ensures.live) refl)

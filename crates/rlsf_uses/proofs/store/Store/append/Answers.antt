@@ -1,12 +1,14 @@
-use Rattle.std.proofs.Common.{◌≡◌, ◌+◌, ◌≤◌, ◌∷◌, ◌++◌, List, length, length-append, take, IsSome, Some, lit<, arith, refl, sym, ◌∙◌, ap, subst}
+use Rattle.std.proofs.Common.{◌≡◌, ◌+◌, ◌<◌, ◌≤◌, ◌∷◌, ◌++◌, ℕ, List, length, length-append, take, IsSome, Some, lit<, arith, refl, sym, ◌∙◌, ap, subst}
 use Rattle.std.specs.Prelude.{IfNone}
 use Rattle.std.specs.Int.NonZero.{non_zero_usize_get}
 use Rattle.rlsf_base.specs.Space.{SamePlace}
 use Rattle.rlsf_tlsf.specs.Lending.{written}
+use Rattle.rlsf_uses.specs.Budgets.{HasBudgetFor}
 use Rattle.rlsf_uses.specs.Stored.{HasAmong, HasPlaces, KeepsAll, Place, StoreContents, bytes_at_place, place, store_contents, stored}
 use Rattle.rlsf_uses.proofs.Fronts.{front-append}
 use Rattle.rlsf_uses.proofs.Places.{HasAmong-changed, HasSame-stored, among}
-use Rattle.rlsf_uses.proofs.Stores.{IsStore-filled, IsStore-refused, IsStore-resized, front_stored, live_stored}
+use Rattle.rlsf_uses.proofs.Rooms.{budget_has_room_again}
+use Rattle.rlsf_uses.proofs.Stores.{IsStore-filled, IsStore-refused, IsStore-resized, asked_at, front-resized, live_stored}
 use Rattle.rlsf_uses.proofs.store.Store.append.Goals as goal
 
 pub reallocate-requires : goal.reallocate-requires
@@ -21,6 +23,15 @@ returns-in_err-to-clause-refused c =
     (subst (λ o. IfNone o (KeepsAll (store_contents c.self.inside.heap c.self.inside.pool) (store_contents c.reallocate.new.self c.self.inside.pool))) (sym c.from_residual-in_err-to.ensures)
     (λ places has. HasSame-stored places has (λ all. IsStore-refused c.reallocate.new.self _ all c.in_err-to.ensures.step c.in_err-to.ensures.same c.in_err-to.ensures.place)))
 
+pub returns-in_err-to-clause-enough : goal.returns-in_err-to-clause-enough
+returns-in_err-to-clause-enough c =
+    let (before, after, p, has, at, aligned, long) = subst (λ (old : StoreContents). (before after : List Place) × (p : Place) × HasPlaces old (before ++ p ∷ after) × (p.addr ≡ non_zero_usize_get c.args.addr) × (p.align ≡ 1) × (p.len ≡ c.args.len)) (sym c.self.view_is) c.requires in
+    let a = among before after p has in
+    let live_here = live_stored a.front a.back a.here (ap (λ q. q.addr) a.here_at ∙ at) a.is ∙ ap Some (ap (λ q. q.align) a.here_at ∙ aligned) in
+    let size_is : c.in-Ok.layout.size ≡ c.args.len + length c.args.more.now = omega (arith, c.in-Ok.ensures.layout.0, c.in_ok-size.ensures) in
+    subst (λ (old : StoreContents). (places : List Place) (live size : ℕ) → HasBudgetFor old places live size 1 → c.args.len + length c.args.more.now ≤ size → IsSome c.from_residual-in_err-to.result) c.self.view_is
+    (λ places live size budget short. absurd (budget_has_room_again budget c.reallocate.new.self (non_zero_usize_get c.args.addr) c.in-Ok.layout.size live_here (omega (arith, short, size_is)) c.in_err-to.ensures.step))
+
 pub returns-clause-stored : goal.returns-clause-stored
 returns-clause-stored c =
     let layout = c.in-Ok.layout in
@@ -34,13 +45,17 @@ returns-clause-stored c =
     let aligned = ap (λ q. q.align) there ∙ one in
     let long : length k.bytes ≡ c.args.len = ap (λ q. q.len) there ∙ p_len in
     let room : length k.bytes ≤ layout.size = omega (arith, long, c.in-Ok.ensures.layout.0, c.in_ok-size.ensures) in
-    let resized = IsStore-resized front back k (ap (λ q. q.addr) there ∙ at) store c.reallocate.new.self layout.size to room c.in_ok-to.ensures.step c.in_ok-to.ensures.place in
-    let moved = stored to k.align k.bytes in
-    let begins : take (length k.bytes) lent ≡ k.bytes = ap (take (length k.bytes)) c.payload_mut.ensures.value ∙ front_stored front back moved refl resized in
+    let k_at = ap (λ q. q.addr) there ∙ at in
+    let resized = IsStore-resized front back k k_at store c.reallocate.new.self layout.size to c.in_ok-to.ensures.step c.in_ok-to.ensures.place in
+    let moved = stored to k.align (asked_at c.reallocate.new.self to layout.size) in
+    let begins : take (length k.bytes) lent ≡ k.bytes =
+    ap (take (length k.bytes)) c.payload_mut.ensures.value ∙ front-resized front back k k_at store c.reallocate.new.self layout.size to room c.in_ok-to.ensures.step in
     let writes : take (length (k.bytes ++ more)) w ≡ k.bytes ++ more =
     ap (take (length (k.bytes ++ more))) c.write_at.ensures.bytes ∙ front-append k.bytes lent more c.args.len long (ap (λ n. take n lent) (sym long) ∙ begins) in
-    let stores = IsStore-filled front back moved refl resized (written c.reallocate.new.self to (length lent) w) w (k.bytes ++ more) writes (c.payload_mut.ensures.meaning w c.write_at.ensures.len) (c.payload_mut.ensures.rest w).1 in
     let new_len : length (k.bytes ++ more) ≡ c.args.len + length more = length-append k.bytes more ∙ ap (λ n. n + length more) long in
+    let few : length w < length (k.bytes ++ more) + 32 =
+    omega (arith, c.write_at.ensures.len, ap length c.payload_mut.ensures.value, c.in_ok-to.ensures.few, c.in-Ok.ensures.layout.0, c.in_ok-size.ensures, new_len) in
+    let stores = IsStore-filled front back moved refl resized (written c.reallocate.new.self to (length lent) w) w (k.bytes ++ more) writes few (c.payload_mut.ensures.meaning w c.write_at.ensures.len) (c.payload_mut.ensures.rest w).1 in
     (stored to k.align (k.bytes ++ more), stores, ap (λ n. place to n (length (k.bytes ++ more))) aligned ∙ ap (place to 1) new_len, ap (λ bs. bs ++ more) are)))
 
 pub payload_mut-requires : goal.payload_mut-requires

@@ -6,9 +6,22 @@ use Rattle.std.specs.declared.num.NonZeroUsize.{NonZeroUsize}
 use Rattle.rlsf_base.specs.Addr.{reply}
 use Rattle.rlsf_base.specs.Range.{range_at}
 use Rattle.rlsf_base.specs.Space.{range_of}
+use Rattle.rlsf_machine.specs.Insert.{aligned_part}
+use Rattle.rlsf_machine.specs.Uniform.{IsUniform}
 use Rattle.rlsf_uses.specs.Stored.{HasPlaces, store_contents}
+use Rattle.rlsf_uses.proofs.Tilings.{IsUniform-new}
 use Rattle.rlsf_uses.proofs.Stores.{IsStore-new}
 use Rattle.rlsf_uses.proofs.store.Store.new.Goals as goal
+
+pub returns-clause-uniform : goal.returns-clause-uniform
+returns-clause-uniform c = λ len enough.
+    let start = c.start-start.result in
+    let r = range_at start c.len-len.result in
+    let taken = c.insert_free_block_ptr-taken.result in
+    let made : c.new-heap.result.memory ≡ c.args.memory = c.new-heap.ensures.memory in
+    let there : r ≡ range_of c.args.memory = ap₂ range_at c.start-start.ensures.value c.len-len.ensures.value in
+    subst (λ q. IsUniform len (aligned_part q) c.insert_free_block_ptr-taken.new.self.state) there
+    (IsUniform-new c.new-heap.result c.insert_free_block_ptr-taken.new.self r (reply taken) len c.new-heap.ensures.state c.insert_free_block_ptr-taken.ensures.step (subst (λ q. 64 ≤ (aligned_part q).len) (sym there) enough))
 
 pub returns-clause-empty : goal.returns-clause-empty
 returns-clause-empty c =

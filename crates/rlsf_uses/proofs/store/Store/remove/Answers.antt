@@ -1,7 +1,9 @@
-use Rattle.std.proofs.Common.{◌≡◌, ◌∷◌, ◌++◌, List, Some, lit<, ap, sym, subst, ◌∙◌}
+use Rattle.std.proofs.Common.{◌≡◌, ◌∷◌, ◌++◌, ℕ, List, Some, lit<, ap, sym, subst, ◌∙◌}
 use Rattle.std.specs.Int.NonZero.{non_zero_usize_get}
 use Rattle.rlsf_uses.specs.Stored.{HasPlaces, HasSame, Place, StoreContents, store_contents}
 use Rattle.rlsf_uses.proofs.Places.{HasSame-removed, among}
+use Rattle.rlsf_uses.specs.Tiles.{KeepsUniform}
+use Rattle.rlsf_uses.proofs.Tilings.{KeepsUniform-released}
 use Rattle.rlsf_uses.proofs.Stores.{IsStore-removed, live_stored}
 use Rattle.rlsf_uses.proofs.store.Store.remove.Goals as goal
 
@@ -16,3 +18,8 @@ returns-clause-removed c =
     subst (λ (old : StoreContents). (before after : List Place) (p : Place) → HasPlaces old (before ++ p ∷ after) → p.addr ≡ non_zero_usize_get c.args.addr → p.align ≡ c.args.align
     → HasSame old (store_contents c.deallocate.new.self c.self.inside.pool) (before ++ after)) c.self.view_is
     (λ before after p has at aligned. HasSame-removed before after p has at aligned (λ front back k store at _. IsStore-removed front back k at store c.deallocate.new.self c.deallocate.ensures.step c.deallocate.ensures.place))
+
+pub returns-clause-uniform : goal.returns-clause-uniform
+returns-clause-uniform c =
+    subst (λ (old : StoreContents). (len : ℕ) → KeepsUniform old.heap.state c.deallocate.new.self.state len) c.self.view_is
+    (λ len d is. KeepsUniform-released c.self.inside.heap c.deallocate.new.self (non_zero_usize_get c.args.addr) len c.deallocate.ensures.step d is)

@@ -1,4 +1,4 @@
-use Rattle.std.proofs.Common.{◌≡◌, ◌+◌, ◌≤◌, ◌∷◌, ◌++◌, ℕ, List, length, take, IsSome, lit<, arith, refl, sym, ◌∙◌, ap, subst}
+use Rattle.std.proofs.Common.{◌≡◌, ◌+◌, ◌<◌, ◌≤◌, ◌∷◌, ◌++◌, ℕ, List, length, take, IsSome, lit<, arith, refl, sym, ◌∙◌, ap, subst}
 use Rattle.std.specs.Int.NonZero.{non_zero_usize_get}
 use Rattle.std.specs.List.{splice}
 use Rattle.rlsf_base.proofs.Words.Splices.{length-splice}
@@ -6,7 +6,9 @@ use Rattle.rlsf_tlsf.specs.Lending.{written}
 use Rattle.rlsf_uses.specs.Stored.{HasAmong, HasPlaces, Place, StoreContents, bytes_at_place, place, store_contents, stored}
 use Rattle.rlsf_uses.proofs.Fronts.{front-le, front-splice}
 use Rattle.rlsf_uses.proofs.Places.{HasAmong-changed, among}
-use Rattle.rlsf_uses.proofs.Stores.{IsStore-filled, front_stored, live_stored}
+use Rattle.rlsf_uses.specs.Tiles.{KeepsUniform}
+use Rattle.rlsf_uses.proofs.Tilings.{KeepsUniform-filled}
+use Rattle.rlsf_uses.proofs.Stores.{IsStore-filled, few_stored, front_stored, live_stored}
 use Rattle.rlsf_uses.proofs.store.Store.write.Goals as goal
 
 -- so many bytes are kept there, or more
@@ -26,6 +28,15 @@ write_at-requires c =
     let begins = front_stored a.front a.back a.here (ap (λ q. q.addr) a.here_at ∙ at) a.is in
     omega (arith, room, front-le a.here.bytes _ begins, ap length c.payload_mut.ensures.value, ap (λ q. q.len) a.here_at)
 
+pub returns-clause-uniform : goal.returns-clause-uniform
+returns-clause-uniform c =
+    let h = c.self.inside.heap in
+    let addr = non_zero_usize_get c.args.addr in
+    let w = c.write_at.new.payload in
+    let last = written h addr (length c.payload_mut.result.now) w in
+    subst (λ (old : StoreContents). (places : List Place) (len : ℕ) → HasPlaces old places → KeepsUniform old.heap.state last.state len) c.self.view_is
+    (λ places len (all, store, at) d is. KeepsUniform-filled h store.stands last addr len w (c.payload_mut.ensures.meaning w c.write_at.ensures.len) d is)
+
 pub returns-clause-stored : goal.returns-clause-stored
 returns-clause-stored c =
     let addr = non_zero_usize_get c.args.addr in
@@ -43,5 +54,7 @@ returns-clause-stored c =
     let k_at = ap (λ q. q.addr) there ∙ at in
     let begins : take (length k.bytes) lent ≡ k.bytes = ap (take (length k.bytes)) c.payload_mut.ensures.value ∙ front_stored front back k k_at store in
     let writes : take (length now) w ≡ now = ap (take (length now)) c.write_at.ensures.bytes ∙ front-splice k.bytes lent bytes offset begins within in
-    let stores = IsStore-filled front back k k_at store (written c.self.inside.heap addr (length lent) w) w now writes (c.payload_mut.ensures.meaning w c.write_at.ensures.len) (c.payload_mut.ensures.rest w).1 in
+    let few : length w < length now + 32 =
+    omega (arith, c.write_at.ensures.len, ap length c.payload_mut.ensures.value, few_stored front back k k_at store, length-splice k.bytes bytes offset (length bytes) within refl) in
+    let stores = IsStore-filled front back k k_at store (written c.self.inside.heap addr (length lent) w) w now writes few (c.payload_mut.ensures.meaning w c.write_at.ensures.len) (c.payload_mut.ensures.rest w).1 in
     (stored k.addr k.align now, stores, same, ap (λ bs. splice bs offset end bytes) are)))
