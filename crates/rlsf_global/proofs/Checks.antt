@@ -1,0 +1,49 @@
+-- What tests tell of steps.
+use Rattle.std.proofs.Common.{◌≡◌, ℕ, nat_eq, Bool, true, false, true≢false, MatchBool, length, take, drop, List, Some, Ok, Err, refl, sym}
+use Rattle.std.proofs.lemmas.Bool.{and_parts, eqb-true}
+use Rattle.rlsf_base.specs.declared.memory.layout.Layout.{Layout}
+use Rattle.rlsf_machine.specs.Callers.{bytes_at}
+use Rattle.rlsf_placement.specs.declared.error.GlobalError.TheVariants.{OutOfRange, WrongLayout}
+use Rattle.rlsf_placement.specs.Heap.{Heap}
+use Rattle.rlsf_placement.specs.Rows.{Row}
+use Rattle.rlsf_placement.specs.Steps.{DeallocatesAsAt, Done, ReadsAt, Releases, WritesAt, WritesIn, fits, is_same}
+
+-- two answers are the same
+abbrev Is : Done → Done → Type 0
+Is a b = a ≡ b
+
+pub when_true : (A B : Type 0) (b : Bool) → true ≡ b → A → MatchBool b A B
+when_true A B true e x = x
+when_true A B false e x = absurd (true≢false e)
+
+pub when_false : (A B : Type 0) (b : Bool) → false ≡ b → B → MatchBool b A B
+when_false A B false e x = x
+when_false A B true e x = absurd (true≢false (sym e))
+
+-- layouts that are the same have one alignment
+pub same_align : (a b : Layout) → true ≡ is_same a b → a.align ≡ b.align
+same_align a b e = eqb-true a.align b.align (and_parts (nat_eq a.size b.size) (nat_eq a.align b.align) (sym e)).1
+
+module _ (h : Heap) (addr : ℕ) (layout : Layout) (row : Row) where
+  pub deallocates_in : (g : Heap) → true ≡ is_same row.1 layout → Releases h addr g → DeallocatesAsAt h addr layout (Some row) (Ok tt) g
+  deallocates_in g e gone = when_true (Is (Ok tt) (Ok tt) × Releases h addr g) (Is (Ok tt) (Err WrongLayout) × (g ≡ h)) (is_same row.1 layout) e (refl, gone)
+
+  pub deallocates_out : false ≡ is_same row.1 layout → DeallocatesAsAt h addr layout (Some row) (Err WrongLayout) h
+  deallocates_out e = when_false (Is (Err WrongLayout) (Ok tt) × Releases h addr h) (Is (Err WrongLayout) (Err WrongLayout) × (h ≡ h)) (is_same row.1 layout) e (refl, refl)
+
+module _ (h : Heap) (addr offset : ℕ) (lent : List ℕ) (row : Row) where
+  pub reads_in : (left : List ℕ) → true ≡ fits h addr offset (length lent) → left ≡ take (length lent) (drop offset (bytes_at h.flex.machine addr)) → ReadsAt h addr offset lent (Some row) (Ok tt) left
+  reads_in left e same =
+      when_true (Is (Ok tt) (Ok tt) × (left ≡ take (length lent) (drop offset (bytes_at h.flex.machine addr)))) (Is (Ok tt) (Err OutOfRange) × (left ≡ lent)) (fits h addr offset (length lent)) e (refl, same)
+
+  pub reads_out : false ≡ fits h addr offset (length lent) → ReadsAt h addr offset lent (Some row) (Err OutOfRange) lent
+  reads_out e =
+      when_false (Is (Err OutOfRange) (Ok tt) × (lent ≡ take (length lent) (drop offset (bytes_at h.flex.machine addr)))) (Is (Err OutOfRange) (Err OutOfRange) × (lent ≡ lent)) (fits h addr offset (length lent)) e
+      (refl, refl)
+
+module _ (h : Heap) (addr offset : ℕ) (bytes : List ℕ) (row : Row) where
+  pub writes_in : (g : Heap) → true ≡ fits h addr offset (length bytes) → WritesIn h addr offset bytes g → WritesAt h addr offset bytes (Some row) (Ok tt) g
+  writes_in g e step = when_true (Is (Ok tt) (Ok tt) × WritesIn h addr offset bytes g) (Is (Ok tt) (Err OutOfRange) × (g ≡ h)) (fits h addr offset (length bytes)) e (refl, step)
+
+  pub writes_out : false ≡ fits h addr offset (length bytes) → WritesAt h addr offset bytes (Some row) (Err OutOfRange) h
+  writes_out e = when_false (Is (Err OutOfRange) (Ok tt) × WritesIn h addr offset bytes h) (Is (Err OutOfRange) (Err OutOfRange) × (h ≡ h)) (fits h addr offset (length bytes)) e (refl, refl)

@@ -1,0 +1,130 @@
+-- How a heap goes on from step to step.
+use Rattle.std.proofs.Common.{◌≡◌, ◌≢◌, ℕ, ◌++◌, arith, slice_index_or, length, List, [], ◌∷◌, Option, Some, None, IsSome, Ok, Err, refl, sym, ◌∙◌, ap, subst}
+use Rattle.std.specs.declared.num.NonZeroUsize.{NonZeroUsize}
+use Rattle.rlsf_base.specs.Addr.{at}
+use Rattle.rlsf_base.specs.declared.memory.layout.Layout.{Layout}
+use Rattle.rlsf_base.specs.declared.memory.range.Range.{Range}
+use Rattle.rlsf_flex.specs.StandsFor.{FlexContents, FlexSteps, StepsAlone}
+use Rattle.rlsf_flex.proofs.Standing.{alone_opened, flex_opened}
+use Rattle.rlsf_global.specs.Locked.{IsLocked, LockedContents, LockedStands, heap_of, locked_contents}
+use Rattle.rlsf_global.specs.Pages.{MayOwe}
+use Rattle.rlsf_global.specs.Steps.Table.{IsFound}
+use Rattle.rlsf_global.proofs.Maps.{IsServed, Lists-filled, Lists-put, Lists-without, agrees-none}
+use Rattle.rlsf_global.proofs.Rows.{absent-row_at, put-sorted, without-sorted}
+use Rattle.rlsf_machine.specs.Callers.{align_at, bytes_at}
+use Rattle.rlsf_machine.specs.FlexAllocate.{FlexAllocates}
+use Rattle.rlsf_machine.specs.FlexState.{FlexState, with_machine}
+use Rattle.rlsf_machine.specs.Growth.{growth_note, range_note}
+use Rattle.rlsf_machine.specs.Note.{LeadsBy}
+use Rattle.rlsf_machine.specs.Release.{Deallocates}
+use Rattle.rlsf_machine.specs.Run.{Fills}
+use Rattle.rlsf_placement.specs.declared.error.GlobalError.TheVariants.{NoRoom}
+use Rattle.rlsf_placement.specs.Cursor.{PageCursor, PageLeads, terms_of}
+use Rattle.rlsf_placement.specs.Heap.{Agrees, Lists, with_state}
+use Rattle.rlsf_placement.specs.Rows.{Row, put, row_at, without}
+use Rattle.rlsf_placement.specs.Steps.{HeapAllocates, Releases}
+
+-- questions that were refused leave the cursor
+pub refused_notes : (x y : PageCursor) (g : Option (Range × ℕ)) (r : Option ℕ) → LeadsBy PageLeads x (growth_note g None ++ range_note r None) y → y ≡ x
+refused_notes x y None None led = led
+refused_notes x y None (Some n) (z, led, last) = last ∙ led.1
+refused_notes x y (Some (q, n)) None (z, led, last) = last ∙ led.1
+refused_notes x y (Some (q, n)) (Some m) (z, led, (w, more, last)) = last ∙ more.1 ∙ led.1
+
+-- a row that was found
+pub some_row : (rows : List Row) (addr i : ℕ) → IsFound rows addr i → (r : Row) × (row_at addr rows ≡ Some r)
+some_row [] addr i found = absurd (omega (arith, found.in_range))
+some_row (x ∷ rows) addr i found = (slice_index_or (x ∷ rows) i x, found.row x)
+
+-- what is true of the value stands
+pub locked_stands : (v : LockedContents) → IsLocked v → LockedStands v
+unfolding LockedStands
+locked_stands v is = is
+
+module _ (f : FlexContents PageCursor) (rows : List Row) (v : IsLocked (locked_contents f rows)) where
+  -- an address with a row is live, and its payload serves the row's layout
+  pub live_row : (addr : ℕ) (r : Row) → row_at addr rows ≡ Some r → align_at f.state.machine addr ≡ Some r.1.align
+  live_row addr r there = (subst (λ o. Agrees o (align_at f.state.machine addr) (bytes_at f.state.machine addr)) there (v.lists addr)).0
+
+  pub live_here : (addr i : ℕ) → IsFound rows addr i → IsSome (align_at f.state.machine addr)
+  live_here addr i found = let (r, there) = some_row rows addr i found in subst IsSome (sym (live_row addr r there)) refl
+
+  -- an address where no payload is has no row
+  pub no_row : (addr : ℕ) → align_at f.state.machine addr ≡ None → row_at addr rows ≡ None
+  no_row addr none = agrees-none (row_at addr rows) (bytes_at f.state.machine addr) (subst (λ o. Agrees (row_at addr rows) o (bytes_at f.state.machine addr)) none (v.lists addr))
+
+  -- the allocator gave room
+  module _ (f' : FlexContents PageCursor) (layout : Layout) (addr : NonZeroUsize)
+      (steps : FlexSteps 64 64 terms_of MayOwe PageLeads f f' (FlexAllocates 64 64 (terms_of f.source) f.state layout.size layout.align (Some (at addr)))) (rows' : List Row) (there : rows' ≡ put (addr, layout) rows) where
+    pub allocated : HeapAllocates (heap_of f rows) layout (Ok addr) (heap_of f' rows')
+    allocated = let (notes, step, led, outside, stands) = flex_opened f f' (FlexAllocates 64 64 (terms_of f.source) f.state layout.size layout.align (Some (at addr))) steps in ((notes, step, led), there)
+
+    pub allocated_locked : align_at f.state.machine (at addr) ≡ None → IsServed f'.state.machine (at addr) layout → ((a : ℕ) → a ≢ at addr → align_at f'.state.machine a ≡ align_at f.state.machine a)
+        → ((a : ℕ) → a ≢ at addr → bytes_at f'.state.machine a ≡ bytes_at f.state.machine a) → IsLocked (locked_contents f' rows')
+    allocated_locked new is aligns bytes =
+        let (notes, step, led, outside, stands) = flex_opened f f' (FlexAllocates 64 64 (terms_of f.source) f.state layout.size layout.align (Some (at addr))) steps in
+        subst (λ l. IsLocked (locked_contents f' l)) (sym there) (record {
+          flex = stands;
+          sorted = put-sorted (addr, layout) rows v.sorted (absent-row_at (at addr) rows (no_row (at addr) new));
+          lists = Lists-put rows f.state.machine f'.state.machine v.lists (addr, layout) is aligns bytes;
+        })
+
+  -- it had none, and no memory came
+  module _ (f' : FlexContents PageCursor) (layout : Layout)
+      (steps : FlexSteps 64 64 terms_of MayOwe PageLeads f f' (FlexAllocates 64 64 (terms_of f.source) f.state layout.size layout.align None)) (same : f'.state ≡ f.state) where
+    pub cursor_stays : f'.source ≡ f.source
+    cursor_stays =
+        let (notes, step, led, outside, stands) = flex_opened f f' (FlexAllocates 64 64 (terms_of f.source) f.state layout.size layout.align None) steps in
+        refused_notes f.source f'.source _ _ (subst (λ ns. LeadsBy PageLeads f.source ns f'.source) step.extends.asked led)
+
+    pub heap_stays : heap_of f' rows ≡ heap_of f rows
+    heap_stays = ap (λ (s : FlexState). record { flex = s; source = f'.source; asked = rows }) same ∙ ap (λ (x : PageCursor). record { flex = f.state; source = x; asked = rows }) cursor_stays
+
+    pub not_allocated : HeapAllocates (heap_of f rows) layout (Err NoRoom) (heap_of f' rows)
+    not_allocated =
+        let (notes, step, led, outside, stands) = flex_opened f f' (FlexAllocates 64 64 (terms_of f.source) f.state layout.size layout.align None) steps in
+        let here = subst (λ (x : FlexState). FlexAllocates 64 64 (terms_of f.source) f.state layout.size layout.align None notes x) same step in
+        ((notes, here, subst (λ (y : PageCursor). LeadsBy PageLeads f.source notes y) cursor_stays led), heap_stays)
+
+    pub stays_locked : IsLocked (locked_contents f' rows)
+    stays_locked =
+        let (notes, step, led, outside, stands) = flex_opened f f' (FlexAllocates 64 64 (terms_of f.source) f.state layout.size layout.align None) steps in
+        record { flex = stands; sorted = v.sorted; lists = subst (λ (s : FlexState). Lists rows s.machine) (sym same) v.lists }
+
+  -- a payload was given back
+  module _ (f' : FlexContents PageCursor) (addr : ℕ) (steps : StepsAlone 64 64 terms_of MayOwe f f' (Deallocates f.state.machine addr)) (stays : f'.source ≡ f.source) (rows' : List Row) (there : rows' ≡ without addr rows) where
+    pub released : Releases (heap_of f rows) addr (heap_of f' rows')
+    released =
+        let (step, after, stands, spare) = alone_opened f f' (Deallocates f.state.machine addr) steps in (
+          f'.state.machine,
+          step,
+          ap (λ (s : FlexState). record { flex = s; source = f'.source; asked = rows' }) after
+              ∙ ap (λ (x : PageCursor). record { flex = with_machine f.state f'.state.machine; source = x; asked = rows' }) stays
+              ∙ ap (λ l. record { flex = with_machine f.state f'.state.machine; source = f.source; asked = l }) there,
+        )
+
+    pub released_locked : align_at f'.state.machine addr ≡ None → ((a : ℕ) → a ≢ addr → align_at f'.state.machine a ≡ align_at f.state.machine a)
+        → ((a : ℕ) → a ≢ addr → bytes_at f'.state.machine a ≡ bytes_at f.state.machine a) → IsLocked (locked_contents f' rows')
+    released_locked gone aligns bytes =
+        let (step, after, stands, spare) = alone_opened f f' (Deallocates f.state.machine addr) steps in
+        subst (λ l. IsLocked (locked_contents f' l)) (sym there) (record {
+          flex = stands;
+          sorted = without-sorted addr rows v.sorted;
+          lists = Lists-without rows f.state.machine f'.state.machine v.lists addr gone aligns bytes;
+        })
+
+  -- a payload was written
+  module _ (f' : FlexContents PageCursor) (addr : ℕ) (bytes : List ℕ) (steps : StepsAlone 64 64 terms_of MayOwe f f' (Fills f.state.machine addr bytes)) (stays : f'.source ≡ f.source) where
+    pub filled : Fills f.state.machine addr bytes f'.state.machine × (heap_of f' rows ≡ with_state (heap_of f rows) f'.state.machine rows)
+    filled =
+        let (step, after, stands, spare) = alone_opened f f' (Fills f.state.machine addr bytes) steps in (
+          step,
+          ap (λ (s : FlexState). record { flex = s; source = f'.source; asked = rows }) after
+              ∙ ap (λ (x : PageCursor). record { flex = with_machine f.state f'.state.machine; source = x; asked = rows }) stays,
+        )
+
+    pub filled_locked : align_at f'.state.machine ≡ align_at f.state.machine → length (bytes_at f'.state.machine addr) ≡ length (bytes_at f.state.machine addr)
+        → ((a : ℕ) → a ≢ addr → bytes_at f'.state.machine a ≡ bytes_at f.state.machine a) → IsLocked (locked_contents f' rows)
+    filled_locked aligns len others =
+        let (step, after, stands, spare) = alone_opened f f' (Fills f.state.machine addr bytes) steps in
+        record { flex = stands; sorted = v.sorted; lists = Lists-filled rows f.state.machine f'.state.machine v.lists addr aligns len others }

@@ -1,0 +1,32 @@
+use Rattle.std.proofs.Common.{Some, Ok, Err, ap, ◌∙◌, subst, sym}
+use Rattle.rlsf_base.specs.Addr.{at}
+use Rattle.rlsf_global.specs.Locked.{heap_of}
+use Rattle.rlsf_global.proofs.Checks.{deallocates_in, deallocates_out}
+use Rattle.rlsf_global.proofs.Placements.{released, released_locked}
+use Rattle.rlsf_global.proofs.Results.{not-false, not-true}
+use Rattle.rlsf_placement.specs.declared.error.GlobalError.TheVariants.{WrongLayout}
+use Rattle.rlsf_placement.specs.Steps.{DeallocatesAsAt}
+use Rattle.rlsf_global.proofs.locked.Locked.dealloc.Goals as goal
+
+pub returns-then-ne-clause-step : goal.returns-then-ne-clause-step
+returns-then-ne-clause-step g c = rw (← c.self.view_is) (
+    let h = heap_of c.self.inside.flex c.self.inside.rows.items in
+    let found = rw c.deref.ensures.value at c.in-Ok.ensures.found in
+    let row = found.row c.index.result.now ∙ ap Some (sym c.index.ensures) in
+    subst (λ o. DeallocatesAsAt h (at c.args.addr) c.args.layout o (Err WrongLayout) h) (sym row) (deallocates_out h (at c.args.addr) c.args.layout c.index.result.now (not-true _ c.if-ne.ensures)))
+
+pub invariant_of-self : goal.invariant_of-self
+invariant_of-self g c =
+    let found = rw c.deref.ensures.value at c.in-Ok.ensures.found in
+    released_locked c.self.inside.flex c.self.inside.rows.items c.self.invariant c.deallocate.new.self (at c.args.addr) c.deallocate.ensures.step c.deallocate.ensures.source _
+    (c.remove-row.ensures.items ∙ found.taken_out) c.deallocate.ensures.gone c.deallocate.ensures.aligns c.deallocate.ensures.bytes
+
+pub returns-clause-step : goal.returns-clause-step
+returns-clause-step g c = rw (← c.self.view_is) (
+    let h = heap_of c.self.inside.flex c.self.inside.rows.items in
+    let after = heap_of c.deallocate.new.self c.remove-row.new.self.items in
+    let found = rw c.deref.ensures.value at c.in-Ok.ensures.found in
+    let row = found.row c.index.result.now ∙ ap Some (sym c.index.ensures) in
+    let gone = released c.self.inside.flex c.self.inside.rows.items c.self.invariant c.deallocate.new.self (at c.args.addr) c.deallocate.ensures.step c.deallocate.ensures.source _
+    (c.remove-row.ensures.items ∙ found.taken_out) in
+    subst (λ o. DeallocatesAsAt h (at c.args.addr) c.args.layout o (Ok tt) after) (sym row) (deallocates_in h (at c.args.addr) c.args.layout c.index.result.now after (not-false _ c.if-ne.ensures) gone))

@@ -1,0 +1,75 @@
+use Rattle.std.proofs.Common.{◌≡◌, Some, None, Ok, Err, lit<, ap, ◌∙◌, subst, sym}
+use Rattle.rlsf_base.specs.Addr.{at}
+use Rattle.rlsf_global.specs.Locked.{heap_of}
+use Rattle.rlsf_global.proofs.Checks.{same_align}
+use Rattle.rlsf_global.proofs.Placements.{live_row}
+use Rattle.rlsf_global.proofs.Resizes.{none_left, not_resized, not_resized_locked, resized, resized_locked, resizes_in, resizes_out}
+use Rattle.rlsf_global.proofs.Results.{not-false, not-true}
+use Rattle.rlsf_global.proofs.Rows.{without-sorted}
+use Rattle.rlsf_placement.specs.declared.error.GlobalError.TheVariants.{NoRoom, WrongLayout}
+use Rattle.rlsf_placement.specs.Moves.{ReallocatesThereAt}
+use Rattle.rlsf_placement.specs.Rows.{IsSorted, row_at}
+use Rattle.rlsf_global.proofs.locked.Locked.reallocate_no_move.Goals as goal
+
+pub returns-then-ne-clause-step : goal.returns-then-ne-clause-step
+returns-then-ne-clause-step g c = rw (← c.self.view_is) (
+    let h = heap_of c.self.inside.flex c.self.inside.rows.items in
+    let found = rw c.deref.ensures.value at c.in-Ok.ensures.found in
+    let row = found.row c.index.result.now ∙ ap Some (sym c.index.ensures) in
+    subst (λ o. ReallocatesThereAt h (at c.args.addr) c.args.layout c.args.new_size o (Err WrongLayout) h) (sym row)
+    (resizes_out h (at c.args.addr) c.args.layout c.args.new_size c.index.result.now (not-true _ c.if-ne.ensures)))
+
+pub reallocate_no_move-requires : goal.reallocate_no_move-requires
+reallocate_no_move-requires g c =
+    let found = rw c.deref.ensures.value at c.in-Ok.ensures.found in
+    let row = found.row c.index.result.now ∙ ap Some (sym c.index.ensures) in
+    let aligned = same_align c.index.result.now.1 c.args.layout (not-false _ c.if-ne.ensures) ∙ sym (c.from_size_align_unchecked-wanted.ensures.1 ∙ c.align.ensures.value) in
+    (lit< tt, live_row c.self.inside.flex c.self.inside.rows.items c.self.invariant (at c.args.addr) c.index.result.now row ∙ ap Some aligned)
+
+pub invariant_of-self : goal.invariant_of-self
+invariant_of-self g c =
+    let did = c.in_default-reallocate_no_move.ensures in
+    not_resized_locked c.self.inside.flex c.self.inside.rows.items c.self.invariant c.reallocate_no_move.new.self (at c.args.addr) c.from_size_align_unchecked-wanted.result did.source did.step did.same
+
+pub returns-in_default-reallocate_no_move-clause-step : goal.returns-in_default-reallocate_no_move-clause-step
+returns-in_default-reallocate_no_move-clause-step g c = rw (← c.self.view_is) (
+    let h = heap_of c.self.inside.flex c.self.inside.rows.items in
+    let after = heap_of c.reallocate_no_move.new.self c.self.inside.rows.items in
+    let did = c.in_default-reallocate_no_move.ensures in
+    let found = rw c.deref.ensures.value at c.in-Ok.ensures.found in
+    let row = found.row c.index.result.now ∙ ap Some (sym c.index.ensures) in
+    let wanted = c.from_size_align_unchecked-wanted in
+    let step = not_resized c.self.inside.flex c.self.inside.rows.items c.self.invariant c.reallocate_no_move.new.self (at c.args.addr) wanted.result did.source did.step did.same in
+    subst (λ o. ReallocatesThereAt h (at c.args.addr) c.args.layout c.args.new_size o (Err NoRoom) after) (sym row)
+    (resizes_in h (at c.args.addr) c.args.layout c.args.new_size c.index.result.now wanted.result (Err NoRoom) after (not-false _ c.if-ne.ensures) wanted.ensures.0 (wanted.ensures.1 ∙ c.align.ensures.value) step))
+
+pub place-requires-clause-sorted : goal.place-requires-clause-sorted
+place-requires-clause-sorted g c =
+    let found = rw c.deref.ensures.value at c.in-Ok.ensures.found in
+    subst IsSorted (sym (c.remove.ensures.items ∙ found.taken_out)) (without-sorted (at c.args.addr) c.self.inside.rows.items c.self.invariant.sorted)
+
+pub place-requires-clause-fresh : goal.place-requires-clause-fresh
+place-requires-clause-fresh g c =
+    let found = rw c.deref.ensures.value at c.in-Ok.ensures.found in
+    subst (λ l. row_at (at c.in-Some.to) l ≡ None) (sym (c.remove.ensures.items ∙ found.taken_out)) (none_left (at c.args.addr) (at c.in-Some.to) c.self.inside.rows.items c.in-Some.ensures.there)
+
+pub invariant_of-self-2 : goal.invariant_of-self-2
+invariant_of-self-2 g c =
+    let did = c.in-Some.ensures in
+    let found = rw c.deref.ensures.value at c.in-Ok.ensures.found in
+    let rows = rw (c.remove.ensures.items, found.taken_out) at c.place.ensures in
+    resized_locked c.self.inside.flex c.self.inside.rows.items c.self.invariant c.reallocate_no_move.new.self (at c.args.addr) c.from_size_align_unchecked-wanted.result did.source c.in-Some.to did.there did.step _ rows
+    (record { live = did.live; sized = did.sized; few = did.few }) did.aligns did.bytes
+
+pub returns-clause-step : goal.returns-clause-step
+returns-clause-step g c = rw (← c.self.view_is) (
+    let h = heap_of c.self.inside.flex c.self.inside.rows.items in
+    let after = heap_of c.reallocate_no_move.new.self c.place.new.rows.items in
+    let did = c.in-Some.ensures in
+    let found = rw c.deref.ensures.value at c.in-Ok.ensures.found in
+    let row = found.row c.index.result.now ∙ ap Some (sym c.index.ensures) in
+    let rows = rw (c.remove.ensures.items, found.taken_out) at c.place.ensures in
+    let wanted = c.from_size_align_unchecked-wanted in
+    let step = resized c.self.inside.flex c.self.inside.rows.items c.self.invariant c.reallocate_no_move.new.self (at c.args.addr) wanted.result did.source c.in-Some.to did.there did.step _ rows in
+    subst (λ o. ReallocatesThereAt h (at c.args.addr) c.args.layout c.args.new_size o (Ok c.in-Some.to) after) (sym row)
+    (resizes_in h (at c.args.addr) c.args.layout c.args.new_size c.index.result.now wanted.result (Ok c.in-Some.to) after (not-false _ c.if-ne.ensures) wanted.ensures.0 (wanted.ensures.1 ∙ c.align.ensures.value) step))

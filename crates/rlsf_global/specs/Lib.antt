@@ -1,0 +1,4 @@
+pub mod Constant
+pub mod Locked
+pub mod Pages
+pub mod Steps

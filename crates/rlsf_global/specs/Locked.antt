@@ -1,0 +1,39 @@
+-- The value under the lock as contracts see it.
+use Rattle.std.specs.Prelude.{List}
+use Rattle.rlsf_base.specs.Space.{Space}
+use Rattle.rlsf_flex.specs.StandsFor.{FlexContents, FlexStandsFor}
+use Rattle.rlsf_global.specs.Pages.{MayOwe}
+use Rattle.rlsf_placement.specs.Cursor.{PageCursor, terms_of}
+use Rattle.rlsf_placement.specs.Heap.{Heap, Lists}
+use Rattle.rlsf_placement.specs.Rows.{IsSorted, Row}
+use Rattle.rlsf_table.specs.Table.{Table}
+
+-- its memory, its class table, and the heap that it is in: the machine's state with what the source handed out, the source's cursor,
+-- and the rows of the live table
+pub record LockedContents : Type 0 where
+  pub memory : Space
+  pub table : Table
+  pub heap : Heap
+
+-- the heap of an allocator over pages, and of rows
+abbrev pub heap_of : FlexContents PageCursor → List Row → Heap
+heap_of f rows = record { flex = f.state; source = f.source; asked = rows }
+
+-- the contents by their parts
+abbrev pub locked_contents : FlexContents PageCursor → List Row → LockedContents
+locked_contents f rows = record { memory = f.memory; table = f.table; heap = heap_of f rows }
+
+-- the allocator over pages
+abbrev pub flex_of : LockedContents → FlexContents PageCursor
+flex_of v = record { memory = v.memory; table = v.table; source = v.heap.source; state = v.heap.flex }
+
+-- what is true of every such value: memory, class table and source stand for the heap's state, which is well-formed, and the rows
+-- list exactly the live payloads, in the order of their addresses
+pub record IsLocked (v : LockedContents) : Type 0 where
+  pub flex : FlexStandsFor 64 64 terms_of MayOwe (flex_of v)
+  pub sorted : IsSorted v.heap.asked
+  pub lists : Lists v.heap.asked v.heap.flex.machine
+
+-- the same, for contracts
+unfoldable pub LockedStands : LockedContents → Type 0
+LockedStands v = IsLocked v

@@ -1,0 +1,21 @@
+-- The page source: where its cursor stands, and what may be outstanding.
+use Rattle.std.specs.Prelude.{◌≡◌, ℕ, ◌%◌, ◌^◌, ◌≤◌, ◌<◌, ◌⊎◌, List}
+use Rattle.rlsf_base.specs.declared.memory.range.Range.{Range}
+use Rattle.rlsf_base.specs.Range.{end_of}
+use Rattle.rlsf_machine.specs.Lists.{IsIn}
+use Rattle.rlsf_machine.specs.WellFormed.{coverage, itself}
+use Rattle.rlsf_placement.specs.Cursor.{PageCursor}
+
+-- the cursor stands in the space, at its end or at a multiple of 32, and addresses fit in a word
+pub record IsPageCursor (c : PageCursor) : Type 0 where
+  pub after_start : c.space.start ≤ c.at
+  pub before_end : c.at ≤ end_of c.space
+  pub aligned : (c.at ≡ end_of c.space) ⊎ (c.at % 32 ≡ 0)
+  pub addressable : end_of c.space < 2 ^ 64
+
+-- the ranges lie in the space before the cursor, begin at multiples of 32, and don't overlap
+pub record MayOwe (c : PageCursor) (owed : List Range) : Type 0 where
+  pub start : (r : Range) → IsIn r owed → c.space.start ≤ r.start
+  pub end : (r : Range) → IsIn r owed → end_of r ≤ c.at
+  pub aligned : (r : Range) → IsIn r owed → r.start % 32 ≡ 0
+  pub disjoint : (a : ℕ) → coverage itself owed a ≤ 1

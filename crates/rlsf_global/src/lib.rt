@@ -1,0 +1,12 @@
+//! The allocator behind one lock.
+#![tactic(auto)]
+
+mod locked;
+mod options;
+mod pages;
+mod table;
+
+pub use locked::Locked;
+pub use options::{GlobalTlsfOptions, SmallGlobalTlsfOptions};
+pub use pages::Source;
+pub use rlsf_placement::GlobalError;

@@ -1,0 +1,217 @@
+//! The value under the lock: an allocator over pages, and the table of its live addresses.
+
+ghost use Rattle.std.specs.Prelude.{◌≡◌, ◌≢◌, ℕ, ◌+◌, ◌≤◌, length, nat_le, IfOk, OnErr};
+ghost use Rattle.std.specs.List.{splice};
+ghost use Rattle.rlsf_base.specs.Addr.{at};
+ghost use Rattle.rlsf_base.specs.Layout.{IsLayout};
+ghost use Rattle.rlsf_base.specs.Space.{range_of};
+ghost use Rattle.rlsf_placement.specs.Heap.{beginning};
+ghost use Rattle.rlsf_placement.specs.Moves.{HeapReallocatesThere};
+ghost use Rattle.rlsf_placement.specs.Steps.{HeapAllocates, HeapDeallocates, HeapDeallocatesAs, HeapReads, HeapUsable, HeapWrites};
+
+use crate::options::GlobalTlsfOptions;
+use crate::pages::Source;
+use crate::table::{place, search};
+use rlsf_base::memory::{Addr, Layout, Memory, Range};
+use rlsf_flex::FlexTlsf;
+use rlsf_placement::GlobalError;
+use std::alloc::Global;
+use std::marker::Model;
+
+/// The value under the lock: an allocator over the page source, and the table of its live addresses with the layout that was last
+/// asked for each. Its type keeps that the table lists exactly the live payloads, in the order of their addresses.
+#[derive(Drop)]
+pub struct Locked<Options: GlobalTlsfOptions> {
+    flex: FlexTlsf<Source<Options>, usize, usize, 64, 64>,
+    rows: Vec<(Addr, Layout)>,
+}
+
+impl<Options: GlobalTlsfOptions> Model for Locked<Options> {
+    ghost use Rattle.rlsf_global.specs.Locked.{IsLocked, LockedContents, locked_contents};
+
+    ghost Value = { LockedContents };
+
+    ghost view = { λ l. locked_contents l.flex l.rows.items };
+
+    ghost invariant = { λ l. IsLocked (locked_contents l.flex l.rows.items) };
+}
+
+impl<Options: GlobalTlsfOptions> Locked<Options> {
+    ghost use Rattle.rlsf_global.specs.Locked.{LockedStands};
+
+    /// An allocator whose source's space is the whole memory. Nothing is live.
+    pub fn new(alloc: Global, memory: Memory) -> Self
+        ensures heap { result.heap ≡ beginning (range_of memory) Options.COALESCE_POOLS }
+        ensures memory { result.memory ≡ memory }
+        ensures stands { LockedStands result }
+    {
+        let space = Range {
+            start: memory.start(),
+            len: memory.len(),
+        };
+        Locked {
+            flex: FlexTlsf::new(memory, Source::new(space)),
+            rows: Vec::new(alloc),
+        }
+    }
+
+    /// The memory, to read.
+    pub fn memory_ref(&self) -> &Memory
+        ensures memory { result.now ≡ self.now.memory }
+        ensures stands { LockedStands self.now }
+    {
+        self.flex.memory_ref()
+    }
+
+    /// Allocates a payload for a layout.
+    ///
+    /// `TableMemory` where the system refused room for a row, and then nothing else was tried; else `NoRoom` exactly where there
+    /// is no room and no memory came. Then nothing changes.
+    pub fn allocate(&mut self, layout: Layout) -> Result<Addr, GlobalError>
+        ensures step { HeapAllocates self.old.heap layout result self.new.heap }
+        ensures refused { OnErr result (self.new.memory.bytes ≡ self.old.memory.bytes) }
+    {
+        if self.rows.try_reserve(1).is_err() {
+            return Err(GlobalError::TableMemory);
+        }
+        let Some(addr) = self.flex.allocate(layout) else {
+            return Err(GlobalError::NoRoom);
+        };
+        place(&mut self.rows, (addr, layout));
+        Ok(addr)
+    }
+
+    /// Gives a payload back. `UnknownAddress` exactly where the address isn't live, and then nothing changes.
+    ///
+    /// An address that was given back and handed out again is live, so a call with it can't be refused.
+    pub fn deallocate(&mut self, addr: Addr) -> Result<(), GlobalError>
+        ensures step { HeapDeallocates self.old.heap (at addr) result self.new.heap }
+        ensures refused { OnErr result (self.new.memory ≡ self.old.memory) }
+    {
+        let Ok(at) = search(&self.rows, addr) else {
+            return Err(GlobalError::UnknownAddress);
+        };
+        let gone = self.rows.remove(at);
+        self.flex.deallocate(addr, gone.1.align());
+        Ok(())
+    }
+
+    /// Gives a payload back whose layout is the one that was last asked. `UnknownAddress` exactly where the address isn't live,
+    /// else `WrongLayout` exactly where the layout is another. Then nothing changes.
+    ///
+    /// An address that was given back and handed out again with the same layout is live, so a call with it can't be refused.
+    pub fn dealloc(&mut self, addr: Addr, layout: Layout) -> Result<(), GlobalError>
+        ensures step { HeapDeallocatesAs self.old.heap (at addr) layout result self.new.heap }
+        ensures refused { OnErr result (self.new.memory ≡ self.old.memory) }
+    {
+        let Ok(at) = search(&self.rows, addr) else {
+            return Err(GlobalError::UnknownAddress);
+        };
+        if self.rows[at].1 != layout {
+            return Err(GlobalError::WrongLayout);
+        }
+        let row = self.rows.remove(at);
+        self.flex.deallocate(addr, row.1.align());
+        Ok(())
+    }
+
+    /// Gives a payload whose layout is the one that was last asked another size where it stands, with the same alignment. The bytes
+    /// that both sizes have stay. `UnknownAddress` exactly where the address isn't live, else `WrongLayout` exactly where the layout is
+    /// another, else `NoRoom` exactly where the bytes there don't suffice. Then nothing changes.
+    ///
+    /// The new size is one of a layout with that alignment.
+    pub fn reallocate_no_move(
+        &mut self,
+        addr: Addr,
+        layout: Layout,
+        new_size: usize,
+    ) -> Result<Addr, GlobalError>
+        requires { IsLayout new_size layout.align }
+        ensures step { HeapReallocatesThere self.old.heap (at addr) layout new_size result self.new.heap }
+        ensures refused { OnErr result (self.new.memory.bytes ≡ self.old.memory.bytes) }
+    {
+        let Ok(at) = search(&self.rows, addr) else {
+            return Err(GlobalError::UnknownAddress);
+        };
+        if self.rows[at].1 != layout {
+            return Err(GlobalError::WrongLayout);
+        }
+        let wanted = Layout::from_size_align_unchecked(new_size, layout.align());
+        let Some(to) = self.flex.reallocate_no_move(addr, wanted) else {
+            return Err(GlobalError::NoRoom);
+        };
+        let _ = self.rows.remove(at);
+        place(&mut self.rows, (to, wanted));
+        Ok(to)
+    }
+
+    /// How many bytes the caller of a payload may use: those that were asked for, and less than 32 more. `UnknownAddress` exactly
+    /// where the address isn't live.
+    pub fn allocation_usable_size(&self, addr: Addr) -> Result<usize, GlobalError>
+        ensures { HeapUsable self.now.heap (at addr) result }
+    {
+        let Ok(_) = search(&self.rows, addr) else {
+            return Err(GlobalError::UnknownAddress);
+        };
+        Ok(self.flex.allocation_usable_size(addr))
+    }
+
+    /// Reads the bytes of a payload from an offset on, as many as `bytes` has. `UnknownAddress` exactly where the address isn't
+    /// live, else `OutOfRange` exactly where the bytes go past the usable ones. Then `bytes` stays.
+    pub fn read_payload(
+        &self,
+        addr: Addr,
+        offset: usize,
+        bytes: &mut [u8],
+    ) -> Result<(), GlobalError>
+        ensures { HeapReads self.now.heap (at addr) offset bytes.old result bytes.new }
+    {
+        let Ok(_) = search(&self.rows, addr) else {
+            return Err(GlobalError::UnknownAddress);
+        };
+        let payload = self.flex.payload(addr);
+        if !fits(offset, bytes.len(), payload.len()) {
+            return Err(GlobalError::OutOfRange);
+        }
+        bytes.copy_from_slice(&payload[offset..offset + bytes.len()]);
+        Ok(())
+    }
+
+    /// Writes bytes over those of a payload from an offset on. Its other bytes stay, and so does all else. `UnknownAddress`
+    /// exactly where the address isn't live, else `OutOfRange` exactly where the bytes go past the usable ones. Then nothing
+    /// changes.
+    pub fn write_payload(
+        &mut self,
+        addr: Addr,
+        offset: usize,
+        bytes: &[u8],
+    ) -> Result<(), GlobalError>
+        ensures step { HeapWrites self.old.heap (at addr) offset bytes.now result self.new.heap }
+        ensures refused { OnErr result (self.new.memory ≡ self.old.memory) }
+    {
+        let Ok(_) = search(&self.rows, addr) else {
+            return Err(GlobalError::UnknownAddress);
+        };
+        if !fits(offset, bytes.len(), self.flex.allocation_usable_size(addr)) {
+            return Err(GlobalError::OutOfRange);
+        }
+        write_at(self.flex.payload_mut(addr), offset, bytes);
+        Ok(())
+    }
+}
+
+/// Whether `len` bytes from an offset on are among the first `usable`.
+fn fits(offset: usize, len: usize, usable: usize) -> bool
+    ensures { result ≡ nat_le (offset + len) usable }
+{
+    offset <= usable && len <= usable - offset
+}
+
+/// Writes bytes over those of a payload, from an offset on.
+fn write_at(payload: &mut [u8], offset: usize, bytes: &[u8])
+    requires { offset + length bytes.now ≤ length payload.old }
+    ensures bytes { payload.new ≡ splice payload.old offset (offset + length bytes.now) bytes.now }
+    ensures len { length payload.new ≡ length payload.old }
+{
+    payload[offset..offset + bytes.len()].copy_from_slice(bytes);
+}

@@ -1,0 +1,33 @@
+//! The table of live addresses: rows sorted by address.
+
+ghost use Rattle.std.specs.Prelude.{◌≡◌, ◌<◌, IfOk, IfErr, None};
+ghost use Rattle.std.specs.Vec.{vec_len, vec_capacity};
+ghost use Rattle.rlsf_base.specs.Addr.{at};
+ghost use Rattle.rlsf_global.specs.Steps.Table.{IsFound, IsPlaceFor};
+ghost use Rattle.rlsf_placement.specs.Rows.{key, put, row_at, IsSorted};
+
+use rlsf_base::memory::{Addr, Layout};
+
+/// Where the row of the address is, or where it would go.
+pub(crate) fn search(rows: &[(Addr, Layout)], addr: Addr) -> Result<usize, usize>
+    requires { IsSorted rows.now }
+    ensures found { IfOk result (IsFound rows.now (at addr)) }
+    ensures absent { IfErr result (IsPlaceFor rows.now (at addr)) }
+{
+    rows.binary_search_by_key(&addr.get(), |row| row.0.get())
+}
+
+/// Puts a row in its place. There is room for it.
+pub(crate) fn place(rows: &mut Vec<(Addr, Layout)>, row: (Addr, Layout))
+    requires sorted { IsSorted rows.old.items }
+    requires room { vec_len rows.old < vec_capacity rows.old }
+    requires fresh { row_at (key row) rows.old.items ≡ None }
+    ensures { rows.new.items ≡ put row rows.old.items }
+{
+    match search(rows, row.0) {
+        Ok(_) => {}
+        Err(at) => {
+            let _inserted = rows.insert(at, row);
+        }
+    }
+}

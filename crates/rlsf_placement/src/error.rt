@@ -1,0 +1,19 @@
+//! Refusals.
+
+/// Why a call of the allocator behind the lock was refused. Each error has a number. Where more than one holds, a call answers
+/// `JournalMemory` first, then `UnknownAddress`, `WrongLayout`, `OutOfRange`, `TableMemory` and `NoRoom`.
+#[derive(Clone, Copy, Debug, PartialEq, Eq)]
+pub enum GlobalError {
+    /// There is no room, and no memory came.
+    NoRoom = 1,
+    /// The address isn't live.
+    UnknownAddress = 2,
+    /// The layout isn't the one that was last asked for the address.
+    WrongLayout = 3,
+    /// The system refused room for one more row of the table of live addresses.
+    TableMemory = 4,
+    /// The bytes go past the usable ones.
+    OutOfRange = 5,
+    /// The system refused room for the journal, a receipt or the passes.
+    JournalMemory = 6,
+}
