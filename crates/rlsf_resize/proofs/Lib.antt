@@ -1,2 +1,4 @@
+pub mod Counting
 pub mod LongerChunks
 pub mod Reallocate
+pub mod Refused

@@ -1,4 +1,4 @@
-use Rattle.std.proofs.Common.{◌≡◌, ◌+◌, ◌-◌, Option, Some, None, MatchOption, arith, refl, sym, ◌∙◌, ap, subst, inr, length}
+use Rattle.std.proofs.Common.{◌≡◌, ◌+◌, ◌-◌, Option, Some, None, MatchOption, arith, refl, sym, ◌∙◌, ap, subst, inr, length, ℕ, ◌≤◌}
 use mathlib.Core.Path.{ap₂}
 use Rattle.rlsf_base.specs.declared.memory.range.Range.{Range}
 use Rattle.rlsf_base.specs.Range.{range_at, LiesIn}
@@ -19,6 +19,9 @@ use Rattle.rlsf_blocks.proofs.Machine.Counted.{KeepsSpare-counted_first, StandsF
 use Rattle.rlsf_blocks.proofs.Machine.FreeBlocks.{IsFreeTable-free}
 use Rattle.rlsf_resize.proofs.Reallocate.Elsewhere.{both, copied_stands, KeepsSpare-copied, LiesIn-new, LiesIn-old, MovesAway-copied}
 use Rattle.rlsf_blocks.proofs.Words.Apart.{used_in_memory}
+use Rattle.rlsf_table.specs.Counts.{Counts}
+use Rattle.rlsf_resize.proofs.Counting.{Counts-counted_first, Counts-loaded, SamePlace-counted, SamePlace-counted_first, copied-more, grow-counted_first, grow_copied-counted_first, grow_copied-same, touches-counted, touches-counted_first}
+use Rattle.rlsf_resize.proofs.Refused.{none_none}
 use Rattle.rlsf_resize.proofs.elsewhere.move_elsewhere.Given as given
 use Rattle.rlsf_resize.proofs.elsewhere.move_elsewhere.Goals as goal
 use Rattle.rlsf_resize.proofs.elsewhere.move_elsewhere.Goals.{After-first_fit, After-place-moved}
@@ -130,3 +133,83 @@ returns-clause-step g c = λ s u v is short.
     let placed = c.place-moved.ensures.place in
     let place : SamePlace c.args.memory.now c.place-moved.new.memory = (placed.0 ∙ counts.start ∙ c.load.ensures.start, placed.1 ∙ ap length counts.bytes ∙ ap length c.load.ensures.bytes) in
     (released meanwhile u, MovesAway-copied w u i size short places now copied, stands, KeepsSpare-copied w u i size short places now copied c.args.memory.now c.deallocate_block.new.memory place spare last)
+
+-- ---- what the search counts, with the word that is read before it
+
+sought : (g : given.Over) (c : After-first_fit g) → Counts c.args.memory.now c.first_fit.new.memory 5
+sought g c = Counts-counted_first c.args.memory.now c.load.new.self c.first_fit.new.memory 1 4 (Counts-loaded c.args.memory.now c.load.new.self c.load.ensures.start c.load.ensures.bytes c.load.ensures.touches c.load.ensures.copied) c.first_fit.ensures.counts
+
+pub returns-in_err-free-clause-unchanged : goal.returns-in_err-free-clause-unchanged
+returns-in_err-free-clause-unchanged g c =
+    let counts = sought g (goal.at.returns-in_err-free-clause-unchanged g c).After-first_fit in
+    none_none {P = Counts c.args.memory.now c.first_fit.new.memory 5 × (c.args.table.now ≡ c.args.table.now)} c.from_residual.result (counts, refl)
+
+pub returns-in_err-free-clause-place : goal.returns-in_err-free-clause-place
+returns-in_err-free-clause-place g c =
+    let counts = sought g (goal.at.returns-in_err-free-clause-place g c).After-first_fit in
+    SamePlace-counted c.args.memory.now c.first_fit.new.memory 5 counts
+
+pub returns-in_err-free-clause-touches : goal.returns-in_err-free-clause-touches
+returns-in_err-free-clause-touches g c =
+    let counts = sought g (goal.at.returns-in_err-free-clause-touches g c).After-first_fit in
+    touches-counted c.args.memory.now c.first_fit.new.memory 5 counts 54
+
+pub returns-in_err-free-clause-grow : goal.returns-in_err-free-clause-grow
+returns-in_err-free-clause-grow g c =
+    let counts = sought g (goal.at.returns-in_err-free-clause-grow g c).After-first_fit in
+    counts.grow
+
+pub returns-in_err-free-clause-copied : goal.returns-in_err-free-clause-copied
+returns-in_err-free-clause-copied g c = λ s u v is. copied-more c.args.memory.now c.first_fit.new.memory _ (sought g (goal.at.returns-in_err-free-clause-copied g c).After-first_fit).copied
+
+pub returns-in_err-free-clause-grow_copied : goal.returns-in_err-free-clause-grow_copied
+returns-in_err-free-clause-grow_copied g c =
+    let counts = sought g (goal.at.returns-in_err-free-clause-grow_copied g c).After-first_fit in
+    grow_copied-same c.args.memory.now c.first_fit.new.memory counts.copied
+
+-- ---- what is counted where it moves
+
+-- ---- counts of a placed payload, a copy and a release
+
+touches_moved : (f d y z : ℕ) → d ≤ f + 23 → y ≡ d → z ≤ y + 31 → z ≤ f + 54
+touches_moved f d y z placed copied released = omega arith
+
+grow_moved : (f d y z : ℕ) → f ≤ d → y ≡ d → y ≤ z → f ≤ z
+grow_moved f d y z placed copied released = omega arith
+
+copied_moved : (f d y z n : ℕ) → d ≡ f → y ≡ d + n → z ≡ y → (z ≡ f + n) × (f ≤ z)
+copied_moved f d y z n placed copied released = (omega arith, omega arith)
+
+copied_long : (m f z n k : ℕ) → f ≡ m → z ≡ f + n → n ≡ k → z ≤ m + k
+copied_long m f z n k searched moved long = omega arith
+
+pub returns-clause-unchanged : goal.returns-clause-unchanged
+returns-clause-unchanged g c = tt
+
+pub returns-clause-place : goal.returns-clause-place
+returns-clause-place g c =
+    let counts = sought g (goal.at.returns-clause-place g c).After-first_fit in
+    SamePlace-counted_first c.args.memory.now c.first_fit.new.memory 5 counts c.deallocate_block.new.memory (c.deallocate_block.ensures.place.0 ∙ c.copy_within.ensures.start ∙ c.place-moved.ensures.place.0, c.deallocate_block.ensures.place.1 ∙ c.copy_within.ensures.len ∙ c.place-moved.ensures.place.1)
+
+pub returns-clause-touches : goal.returns-clause-touches
+returns-clause-touches g c =
+    let counts = sought g (goal.at.returns-clause-touches g c).After-first_fit in
+    touches-counted_first c.args.memory.now c.first_fit.new.memory 5 counts c.deallocate_block.new.memory 54 (touches_moved c.first_fit.new.memory.touches c.place-moved.new.memory.touches c.copy_within.new.self.touches c.deallocate_block.new.memory.touches c.place-moved.ensures.touches c.copy_within.ensures.touches c.deallocate_block.ensures.touches)
+
+pub returns-clause-grow : goal.returns-clause-grow
+returns-clause-grow g c =
+    let counts = sought g (goal.at.returns-clause-grow g c).After-first_fit in
+    grow-counted_first c.args.memory.now c.first_fit.new.memory 5 counts c.deallocate_block.new.memory (grow_moved c.first_fit.new.memory.touches c.place-moved.new.memory.touches c.copy_within.new.self.touches c.deallocate_block.new.memory.touches c.place-moved.ensures.grow c.copy_within.ensures.touches c.deallocate_block.ensures.grow)
+
+pub returns-clause-grow_copied : goal.returns-clause-grow_copied
+returns-clause-grow_copied g c =
+    let counts = sought g (goal.at.returns-clause-grow_copied g c).After-first_fit in
+    grow_copied-counted_first c.args.memory.now c.first_fit.new.memory 5 counts c.deallocate_block.new.memory (copied_moved c.first_fit.new.memory.copied c.place-moved.new.memory.copied c.copy_within.new.self.copied c.deallocate_block.new.memory.copied _ c.place-moved.ensures.copied c.copy_within.ensures.copied c.deallocate_block.ensures.copied).1
+
+pub returns-clause-copied : goal.returns-clause-copied
+returns-clause-copied g c = λ s u v is.
+    let at = goal.at.returns-clause-copied g c in
+    let counts = sought g at.After-first_fit in
+    let moved = (copied_moved c.first_fit.new.memory.copied c.place-moved.new.memory.copied c.copy_within.new.self.copied c.deallocate_block.new.memory.copied _ c.place-moved.ensures.copied c.copy_within.ensures.copied c.deallocate_block.ensures.copied).0 in
+    let long = ap (λ (r : Range). r.len) (old_payload g at.After-place-moved u v is) in
+    copied_long c.args.memory.now.copied c.first_fit.new.memory.copied c.deallocate_block.new.memory.copied _ (usable u).len counts.copied moved long

@@ -1,9 +1,9 @@
-use Rattle.std.proofs.Common.{◌≡◌, ◌+◌, ◌-◌, ◌≤◌, Option, Some, None, IfNone, IfSome, length, rules, arith, refl, ◌∙◌, ap}
+use Rattle.std.proofs.Common.{◌≡◌, ◌+◌, ◌-◌, ◌≤◌, None, length, rules, arith, refl, ◌∙◌, ap, ℕ, sym}
 use Rattle.rlsf_base.specs.Range.{end_of}
 use Rattle.rlsf_machine.specs.Join.{ends_at}
 use Rattle.rlsf_machine.specs.Lists.{without}
-use Rattle.rlsf_machine.specs.Reallocate.{in_place}
-use Rattle.rlsf_machine.specs.State.{State, Used}
+use Rattle.rlsf_machine.specs.Reallocate.{in_place, into_previous}
+use Rattle.rlsf_machine.specs.State.{State, Used, between, usable}
 use Rattle.rlsf_blocks.specs.StandsFor.{contents, StandsFor}
 use Rattle.rlsf_blocks.specs.Steps.Join.{union, untouched}
 use Rattle.rlsf_resize.specs.Steps.Resize.{IsUsedAt}
@@ -14,18 +14,14 @@ use Rattle.rlsf_table.proofs.Words.Writes.{Writes-none, Writes-some}
 use Rattle.rlsf_resize.proofs.Reallocate.Computed.{AreOut, IsBlock-from, IsWord-pad, LiesIn-moved, LiesIn-payload, moved_to, part, payload_within, room, SamePlace-occupied, sixteen-le, start-fits, total_is, total-fits, union_begins}
 use Rattle.rlsf_blocks.proofs.Words.Apart.{used_in_memory}
 use Rattle.rlsf_table.proofs.Words.Writing.{wrote}
+use Rattle.rlsf_resize.proofs.Refused.{none_none, none_some}
+use mathlib.Core.Path.{ap₂}
+use Rattle.rlsf_base.specs.declared.memory.range.Range.{Range}
+use Rattle.rlsf_table.specs.Counts.{Counts}
+use Rattle.rlsf_resize.proofs.Counting.{Counts-counted_first, Counts-loaded, SamePlace-counted, copied-more, grow-counted_first, grow_copied-same, touches-counted, touches-counted_first, touches-more}
 use Rattle.rlsf_resize.proofs.previous.move_into_previous.Given as given
 use Rattle.rlsf_resize.proofs.previous.move_into_previous.Goals as goal
-use Rattle.rlsf_resize.proofs.previous.move_into_previous.Goals.{After-load, After-take_if_free-next, In_ok-moved}
-
--- what holds of an answer that there isn't
-none_some : {A : Type 0} (P : A → Type 0) (o : Option A) → o ≡ None → IfSome o P
-none_some P None e = tt
-none_some P (Some x) e = absurd (cc)
-
-none_none : {A P : Type 0} (o : Option A) → P → IfNone o P
-none_none None p = p
-none_none (Some x) p = tt
+use Rattle.rlsf_resize.proofs.previous.move_into_previous.Goals.{After-load, After-take_if_free-next, In_ok-moved, After-place_before}
 
 pub load-requires : goal.load-requires
 load-requires g c =
@@ -54,6 +50,35 @@ place_before-requires g c =
     let at = goal.at.place_before-requires g c in
     (g.row.FLLEN, g.row.SLLEN, c.args.table.now, s, u, loaded g at.After-load v, IsBlock-from used (ends g at.After-load v used))
 
+-- ---- what is counted
+
+sought : (g : given.Over) (c : After-place_before g) → Counts c.args.memory.now c.place_before.new.memory 4
+sought g c = Counts-counted_first c.args.memory.now c.load.new.self c.place_before.new.memory 1 3 (Counts-loaded c.args.memory.now c.load.new.self c.load.ensures.start c.load.ensures.bytes c.load.ensures.touches c.load.ensures.copied) c.place_before.ensures.counts
+
+touches_taken : (q a b y o : ℕ) → a ≤ q + 10 → b ≤ a + 9 → y ≡ b → o ≤ y + 13 → o ≤ q + 32
+touches_taken q a b y o previous next copied occupied = omega arith
+
+grow_taken : (q a b y o : ℕ) → q ≤ a → a ≤ b → y ≡ b → y ≤ o → q ≤ o
+grow_taken q a b y o previous next copied occupied = omega arith
+
+touches_padded : (q o w : ℕ) → o ≤ q + 32 → w ≡ o + 1 → w ≤ q + 33
+touches_padded q o w taken padded = omega arith
+
+grow_padded : (q o w : ℕ) → q ≤ o → w ≡ o + 1 → q ≤ w
+grow_padded q o w taken padded = omega arith
+
+copied_moved : (q a b y o n : ℕ) → a ≡ q → b ≡ a → y ≡ b + n → o ≡ y → o ≡ q + n
+copied_moved q a b y o n previous next copied occupied = omega arith
+
+copied_padded : (q o w n : ℕ) → o ≡ q + n → w ≡ o → w ≡ q + n
+copied_padded q o w n copied padded = omega arith
+
+copied_taken : (m q o n : ℕ) → q ≡ m → o ≡ q + n → m ≤ o
+copied_taken m q o n before copied = omega arith
+
+copied_long : (m q o n k : ℕ) → q ≡ m → o ≡ q + n → n ≡ k → o ≤ m + k
+copied_long m q o n k before copied long = omega arith
+
 -- ---- the payload fits nowhere before it
 
 pub returns-in_err-moved-clause-moved : goal.returns-in_err-moved-clause-moved
@@ -63,33 +88,35 @@ pub returns-in_err-moved-clause-refused : goal.returns-in_err-moved-clause-refus
 returns-in_err-moved-clause-refused g c = λ s u v used short.
     let at = goal.at.returns-in_err-moved-clause-refused g c in
     let is = IsBlock-from used (ends g at.After-load v used) in
-    none_none c.from_residual.result (c.in_err-moved.ensures.place g.row.FLLEN g.row.SLLEN c.args.table.now s u (loaded g at.After-load v) is)
+    none_none {P = into_previous s u c.args.layout.size ≡ None} c.from_residual.result (c.in_err-moved.ensures.place g.row.FLLEN g.row.SLLEN c.args.table.now s u (loaded g at.After-load v) is)
 
 pub returns-in_err-moved-clause-unchanged : goal.returns-in_err-moved-clause-unchanged
 returns-in_err-moved-clause-unchanged g c =
-    let load = c.load.ensures in
-    let counts = c.place_before.ensures.counts in
-    none_none c.from_residual.result (
-      record { start = counts.start ∙ load.start; bytes = counts.bytes ∙ load.bytes; touches = omega (arith, counts.touches, load.touches); grow = omega (arith, counts.grow, load.touches); copied = counts.copied ∙ load.copied },
-      refl,
-    )
+    let counts = sought g (goal.at.returns-in_err-moved-clause-unchanged g c).After-place_before in
+    none_none {P = Counts c.args.memory.now c.place_before.new.memory 4 × (c.args.table.now ≡ c.args.table.now)} c.from_residual.result (counts, refl)
 
 pub returns-in_err-moved-clause-place : goal.returns-in_err-moved-clause-place
 returns-in_err-moved-clause-place g c =
-    let counts = c.place_before.ensures.counts in
-    (counts.start ∙ c.load.ensures.start, ap length (counts.bytes ∙ c.load.ensures.bytes))
+    let counts = sought g (goal.at.returns-in_err-moved-clause-place g c).After-place_before in
+    SamePlace-counted c.args.memory.now c.place_before.new.memory 4 counts
 
 pub returns-in_err-moved-clause-touches : goal.returns-in_err-moved-clause-touches
-returns-in_err-moved-clause-touches g c = omega (arith, c.place_before.ensures.counts.touches, c.load.ensures.touches)
+returns-in_err-moved-clause-touches g c =
+    let counts = sought g (goal.at.returns-in_err-moved-clause-touches g c).After-place_before in
+    touches-counted c.args.memory.now c.place_before.new.memory 4 counts 33
 
 pub returns-in_err-moved-clause-grow : goal.returns-in_err-moved-clause-grow
-returns-in_err-moved-clause-grow g c = omega (arith, c.place_before.ensures.counts.grow, c.load.ensures.touches)
+returns-in_err-moved-clause-grow g c =
+    let counts = sought g (goal.at.returns-in_err-moved-clause-grow g c).After-place_before in
+    counts.grow
 
 pub returns-in_err-moved-clause-grow_copied : goal.returns-in_err-moved-clause-grow_copied
-returns-in_err-moved-clause-grow_copied g c = omega (arith, c.place_before.ensures.counts.copied, c.load.ensures.copied)
+returns-in_err-moved-clause-grow_copied g c =
+    let counts = sought g (goal.at.returns-in_err-moved-clause-grow_copied g c).After-place_before in
+    grow_copied-same c.args.memory.now c.place_before.new.memory counts.copied
 
 pub returns-in_err-moved-clause-copied : goal.returns-in_err-moved-clause-copied
-returns-in_err-moved-clause-copied g c = λ s u v used. omega (arith, c.place_before.ensures.counts.copied, c.load.ensures.copied)
+returns-in_err-moved-clause-copied g c = λ s u v used. copied-more c.args.memory.now c.place_before.new.memory _ (sought g (goal.at.returns-in_err-moved-clause-copied g c).After-place_before).copied
 
 -- ---- it fits, and the free blocks before it and behind it are taken out
 
@@ -216,32 +243,28 @@ returns-then-wide-clause-place g c =
     let are = outs g at.After-take_if_free-next v used short in
     let same = SamePlace-occupied are c.copy_within.ensures.start c.copy_within.ensures.bytes c.occupy.ensures.step in
     let counts = c.place_before.ensures.counts in
-    (omega (arith, same.0, counts.start, c.load.ensures.start, c.set_word.ensures.start), omega (arith, same.1, ap length counts.bytes, ap length c.load.ensures.bytes, c.set_word.ensures.len))
+    (c.set_word.ensures.start ∙ same.0 ∙ counts.start ∙ c.load.ensures.start, c.set_word.ensures.len ∙ same.1 ∙ ap length (counts.bytes ∙ c.load.ensures.bytes))
 
 pub returns-then-wide-clause-touches : goal.returns-then-wide-clause-touches
 returns-then-wide-clause-touches g c =
-    let before = c.place_before.ensures.counts.touches in
-    let taken_out : c.take_if_free-next.new.memory.touches ≤ c.args.memory.now.touches + 23 = omega (arith, c.load.ensures.touches, before, c.take_previous-start.ensures.touches, c.take_if_free-next.ensures.touches) in
-    omega (arith, taken_out, c.copy_within.ensures.touches, c.occupy.ensures.touches, c.set_word.ensures.touches)
+    let counts = sought g (goal.at.returns-then-wide-clause-touches g c).After-place_before in
+    touches-counted_first c.args.memory.now c.place_before.new.memory 4 counts c.set_word.new.self 33 (touches_padded c.place_before.new.memory.touches c.occupy.new.memory.touches c.set_word.new.self.touches (touches_taken c.place_before.new.memory.touches c.take_previous-start.new.memory.touches c.take_if_free-next.new.memory.touches c.copy_within.new.self.touches c.occupy.new.memory.touches c.take_previous-start.ensures.touches c.take_if_free-next.ensures.touches c.copy_within.ensures.touches c.occupy.ensures.touches) c.set_word.ensures.touches)
 
 pub returns-then-wide-clause-grow : goal.returns-then-wide-clause-grow
 returns-then-wide-clause-grow g c =
-    let before = c.place_before.ensures.counts.grow in
-    let taken_out : c.args.memory.now.touches ≤ c.take_if_free-next.new.memory.touches = omega (arith, c.load.ensures.touches, before, c.take_previous-start.ensures.grow, c.take_if_free-next.ensures.grow) in
-    omega (arith, taken_out, c.copy_within.ensures.touches, c.occupy.ensures.grow, c.set_word.ensures.touches)
+    let counts = sought g (goal.at.returns-then-wide-clause-grow g c).After-place_before in
+    grow-counted_first c.args.memory.now c.place_before.new.memory 4 counts c.set_word.new.self (grow_padded c.place_before.new.memory.touches c.occupy.new.memory.touches c.set_word.new.self.touches (grow_taken c.place_before.new.memory.touches c.take_previous-start.new.memory.touches c.take_if_free-next.new.memory.touches c.copy_within.new.self.touches c.occupy.new.memory.touches c.take_previous-start.ensures.grow c.take_if_free-next.ensures.grow c.copy_within.ensures.touches c.occupy.ensures.grow) c.set_word.ensures.touches)
 
 pub returns-then-wide-clause-grow_copied : goal.returns-then-wide-clause-grow_copied
 returns-then-wide-clause-grow_copied g c =
-    let before = c.place_before.ensures.counts.copied in
-    let taken_out : c.take_if_free-next.new.memory.copied ≡ c.args.memory.now.copied = omega (arith, c.load.ensures.copied, before, c.take_previous-start.ensures.copied, c.take_if_free-next.ensures.copied) in
-    omega (arith, taken_out, c.copy_within.ensures.copied, c.occupy.ensures.copied, c.set_word.ensures.copied)
+    let counts = sought g (goal.at.returns-then-wide-clause-grow_copied g c).After-place_before in
+    copied_taken c.args.memory.now.copied c.place_before.new.memory.copied c.set_word.new.self.copied (c.args.block + (c.load.result - 1) - c.args.payload) counts.copied (copied_padded c.place_before.new.memory.copied c.occupy.new.memory.copied c.set_word.new.self.copied (c.args.block + (c.load.result - 1) - c.args.payload) (copied_moved c.place_before.new.memory.copied c.take_previous-start.new.memory.copied c.take_if_free-next.new.memory.copied c.copy_within.new.self.copied c.occupy.new.memory.copied (c.args.block + (c.load.result - 1) - c.args.payload) c.take_previous-start.ensures.copied c.take_if_free-next.ensures.copied c.copy_within.ensures.copied c.occupy.ensures.copied) c.set_word.ensures.copied)
 
 pub returns-then-wide-clause-copied : goal.returns-then-wide-clause-copied
 returns-then-wide-clause-copied g c = λ s u v used.
     let at = goal.at.returns-then-wide-clause-copied g c in
-    let before = c.place_before.ensures.counts.copied in
-    let taken_out : c.take_if_free-next.new.memory.copied ≡ c.args.memory.now.copied = omega (arith, c.load.ensures.copied, before, c.take_previous-start.ensures.copied, c.take_if_free-next.ensures.copied) in
-    omega (arith, ends g at.After-load v used, used.caller, taken_out, c.copy_within.ensures.copied, c.occupy.ensures.copied, c.set_word.ensures.copied)
+    let long = ap (λ (r : Range). r.len) (ap₂ (λ from to. between from to) (sym used.caller) (sym (ends g at.After-load v used))) in
+    copied_long c.args.memory.now.copied c.place_before.new.memory.copied c.set_word.new.self.copied (c.args.block + (c.load.result - 1) - c.args.payload) (usable u).len (sought g at.After-place_before).copied (copied_padded c.place_before.new.memory.copied c.occupy.new.memory.copied c.set_word.new.self.copied (c.args.block + (c.load.result - 1) - c.args.payload) (copied_moved c.place_before.new.memory.copied c.take_previous-start.new.memory.copied c.take_if_free-next.new.memory.copied c.copy_within.new.self.copied c.occupy.new.memory.copied (c.args.block + (c.load.result - 1) - c.args.payload) c.take_previous-start.ensures.copied c.take_if_free-next.ensures.copied c.copy_within.ensures.copied c.occupy.ensures.copied) c.set_word.ensures.copied) long
 
 pub returns-else-wide-clause-moved : goal.returns-else-wide-clause-moved
 returns-else-wide-clause-moved g c = λ s u v used short.
@@ -264,29 +287,25 @@ returns-else-wide-clause-place g c =
     let are = outs g at.After-take_if_free-next v used short in
     let same = SamePlace-occupied are c.copy_within.ensures.start c.copy_within.ensures.bytes c.occupy.ensures.step in
     let counts = c.place_before.ensures.counts in
-    (omega (arith, same.0, counts.start, c.load.ensures.start), omega (arith, same.1, ap length counts.bytes, ap length c.load.ensures.bytes))
+    (same.0 ∙ counts.start ∙ c.load.ensures.start, same.1 ∙ ap length (counts.bytes ∙ c.load.ensures.bytes))
 
 pub returns-else-wide-clause-touches : goal.returns-else-wide-clause-touches
 returns-else-wide-clause-touches g c =
-    let before = c.place_before.ensures.counts.touches in
-    let taken_out : c.take_if_free-next.new.memory.touches ≤ c.args.memory.now.touches + 23 = omega (arith, c.load.ensures.touches, before, c.take_previous-start.ensures.touches, c.take_if_free-next.ensures.touches) in
-    omega (arith, taken_out, c.copy_within.ensures.touches, c.occupy.ensures.touches)
+    let counts = sought g (goal.at.returns-else-wide-clause-touches g c).After-place_before in
+    touches-counted_first c.args.memory.now c.place_before.new.memory 4 counts c.occupy.new.memory 33 (touches-more c.place_before.new.memory c.occupy.new.memory 32 1 (touches_taken c.place_before.new.memory.touches c.take_previous-start.new.memory.touches c.take_if_free-next.new.memory.touches c.copy_within.new.self.touches c.occupy.new.memory.touches c.take_previous-start.ensures.touches c.take_if_free-next.ensures.touches c.copy_within.ensures.touches c.occupy.ensures.touches))
 
 pub returns-else-wide-clause-grow : goal.returns-else-wide-clause-grow
 returns-else-wide-clause-grow g c =
-    let before = c.place_before.ensures.counts.grow in
-    let taken_out : c.args.memory.now.touches ≤ c.take_if_free-next.new.memory.touches = omega (arith, c.load.ensures.touches, before, c.take_previous-start.ensures.grow, c.take_if_free-next.ensures.grow) in
-    omega (arith, taken_out, c.copy_within.ensures.touches, c.occupy.ensures.grow)
+    let counts = sought g (goal.at.returns-else-wide-clause-grow g c).After-place_before in
+    grow-counted_first c.args.memory.now c.place_before.new.memory 4 counts c.occupy.new.memory (grow_taken c.place_before.new.memory.touches c.take_previous-start.new.memory.touches c.take_if_free-next.new.memory.touches c.copy_within.new.self.touches c.occupy.new.memory.touches c.take_previous-start.ensures.grow c.take_if_free-next.ensures.grow c.copy_within.ensures.touches c.occupy.ensures.grow)
 
 pub returns-else-wide-clause-grow_copied : goal.returns-else-wide-clause-grow_copied
 returns-else-wide-clause-grow_copied g c =
-    let before = c.place_before.ensures.counts.copied in
-    let taken_out : c.take_if_free-next.new.memory.copied ≡ c.args.memory.now.copied = omega (arith, c.load.ensures.copied, before, c.take_previous-start.ensures.copied, c.take_if_free-next.ensures.copied) in
-    omega (arith, taken_out, c.copy_within.ensures.copied, c.occupy.ensures.copied)
+    let counts = sought g (goal.at.returns-else-wide-clause-grow_copied g c).After-place_before in
+    copied_taken c.args.memory.now.copied c.place_before.new.memory.copied c.occupy.new.memory.copied (c.args.block + (c.load.result - 1) - c.args.payload) counts.copied (copied_moved c.place_before.new.memory.copied c.take_previous-start.new.memory.copied c.take_if_free-next.new.memory.copied c.copy_within.new.self.copied c.occupy.new.memory.copied (c.args.block + (c.load.result - 1) - c.args.payload) c.take_previous-start.ensures.copied c.take_if_free-next.ensures.copied c.copy_within.ensures.copied c.occupy.ensures.copied)
 
 pub returns-else-wide-clause-copied : goal.returns-else-wide-clause-copied
 returns-else-wide-clause-copied g c = λ s u v used.
     let at = goal.at.returns-else-wide-clause-copied g c in
-    let before = c.place_before.ensures.counts.copied in
-    let taken_out : c.take_if_free-next.new.memory.copied ≡ c.args.memory.now.copied = omega (arith, c.load.ensures.copied, before, c.take_previous-start.ensures.copied, c.take_if_free-next.ensures.copied) in
-    omega (arith, ends g at.After-load v used, used.caller, taken_out, c.copy_within.ensures.copied, c.occupy.ensures.copied)
+    let long = ap (λ (r : Range). r.len) (ap₂ (λ from to. between from to) (sym used.caller) (sym (ends g at.After-load v used))) in
+    copied_long c.args.memory.now.copied c.place_before.new.memory.copied c.occupy.new.memory.copied (c.args.block + (c.load.result - 1) - c.args.payload) (usable u).len (sought g at.After-place_before).copied (copied_moved c.place_before.new.memory.copied c.take_previous-start.new.memory.copied c.take_if_free-next.new.memory.copied c.copy_within.new.self.copied c.occupy.new.memory.copied (c.args.block + (c.load.result - 1) - c.args.payload) c.take_previous-start.ensures.copied c.take_if_free-next.ensures.copied c.copy_within.ensures.copied c.occupy.ensures.copied) long

@@ -1,4 +1,4 @@
-use Rattle.std.proofs.Common.{◌≡◌, ◌≢◌, ◌+◌, ◌-◌, ◌%◌, ◌<◌, ◌≤◌, arith, rules, sym, ◌∙◌, subst}
+use Rattle.std.proofs.Common.{◌≡◌, ◌≢◌, ◌+◌, ◌-◌, ◌%◌, ◌<◌, ◌≤◌, arith, rules, sym, ◌∙◌, subst, ℕ, refl, true≢false}
 use mathlib.Core.Path.{ap₂}
 use Rattle.rlsf_base.specs.Range.{end_of, range_at}
 use Rattle.rlsf_machine.specs.Reallocate.{resized}
@@ -12,6 +12,8 @@ use Rattle.rlsf_resize.proofs.Reallocate.Computations.{end_is, IsMarked-loaded_e
 use Rattle.rlsf_resize.proofs.Reallocate.NextPlans.{kept_whole, no_plan, or_else-kept, or_else-stretched, stretched}
 use Rattle.rlsf_resize.proofs.Reallocate.Resized.{IsCarriedOut-kept, IsCarriedOut-stretched}
 use Rattle.rlsf_resize.proofs.Reallocate.Spans.{IsInnerRoom-span, reach, reach-le, span_in_memory, span_len, span_of, staying}
+use Rattle.rlsf_table.specs.Counts.{Counts}
+use Rattle.rlsf_resize.proofs.Counting.{Counts-counted_first, Counts-loaded, SamePlace-counted, grow-counted_first, touches-counted, touches-counted_first}
 use Rattle.rlsf_resize.proofs.resize.resize_block.Given as given
 use Rattle.rlsf_resize.proofs.resize.resize_block.Goals as goal
 use Rattle.rlsf_resize.proofs.resize.resize_block.Goals.{After-next_multiple_of-taken, After-free_length, After-take_if_free-next}
@@ -136,3 +138,82 @@ returns-clause-place g c =
     let start = at.start in
     let words = c.occupy.ensures.step (staying s u) (span_of s u) at.start (omega (arith, span_len v u at.is_used gone)) (IsInnerRoom-span v u at.is_used gone) in
     (words.rewrites.start ∙ gone.rewrites.start, words.rewrites.length ∙ gone.rewrites.length)
+
+-- ---- what is counted
+
+pub returns-then-taken-len-clause-refused : goal.returns-then-taken-len-clause-refused
+returns-then-taken-len-clause-refused g c = λ s u v at no. absurd (true≢false no)
+
+pub returns-then-taken-len-clause-unchanged : goal.returns-then-taken-len-clause-unchanged
+returns-then-taken-len-clause-unchanged g c = λ no. absurd (true≢false no)
+
+pub returns-then-taken-len-clause-place : goal.returns-then-taken-len-clause-place
+returns-then-taken-len-clause-place g c = SamePlace-counted c.args.memory.now c.load.new.self 1 (Counts-loaded c.args.memory.now c.load.new.self c.load.ensures.start c.load.ensures.bytes c.load.ensures.touches c.load.ensures.copied)
+
+pub returns-then-taken-len-clause-touches : goal.returns-then-taken-len-clause-touches
+returns-then-taken-len-clause-touches g c = touches-counted c.args.memory.now c.load.new.self 1 (Counts-loaded c.args.memory.now c.load.new.self c.load.ensures.start c.load.ensures.bytes c.load.ensures.touches c.load.ensures.copied) 23
+
+pub returns-then-taken-len-clause-grow : goal.returns-then-taken-len-clause-grow
+returns-then-taken-len-clause-grow g c = (Counts-loaded c.args.memory.now c.load.new.self c.load.ensures.start c.load.ensures.bytes c.load.ensures.touches c.load.ensures.copied).grow
+
+pub returns-then-taken-len-clause-copied : goal.returns-then-taken-len-clause-copied
+returns-then-taken-len-clause-copied g c = c.load.ensures.copied
+
+-- two words were read
+read : (g : given.Over) (c : After-free_length g) → Counts c.args.memory.now c.free_length.new.memory 2
+read g c = Counts-counted_first c.args.memory.now c.load.new.self c.free_length.new.memory 1 1 (Counts-loaded c.args.memory.now c.load.new.self c.load.ensures.start c.load.ensures.bytes c.load.ensures.touches c.load.ensures.copied) c.free_length.ensures.counts
+
+pub returns-then-taken-len-2-clause-done : goal.returns-then-taken-len-2-clause-done
+returns-then-taken-len-2-clause-done g c = λ s u v at yes. absurd (true≢false (sym yes))
+
+pub returns-then-taken-len-2-clause-unchanged : goal.returns-then-taken-len-2-clause-unchanged
+returns-then-taken-len-2-clause-unchanged g c =
+    let counts = read g (goal.at.returns-then-taken-len-2-clause-unchanged g c).After-free_length in
+    λ no. (counts, refl)
+
+pub returns-then-taken-len-2-clause-place : goal.returns-then-taken-len-2-clause-place
+returns-then-taken-len-2-clause-place g c =
+    let counts = read g (goal.at.returns-then-taken-len-2-clause-place g c).After-free_length in
+    SamePlace-counted c.args.memory.now c.free_length.new.memory 2 counts
+
+pub returns-then-taken-len-2-clause-touches : goal.returns-then-taken-len-2-clause-touches
+returns-then-taken-len-2-clause-touches g c =
+    let counts = read g (goal.at.returns-then-taken-len-2-clause-touches g c).After-free_length in
+    touches-counted c.args.memory.now c.free_length.new.memory 2 counts 22
+
+pub returns-then-taken-len-2-clause-grow : goal.returns-then-taken-len-2-clause-grow
+returns-then-taken-len-2-clause-grow g c =
+    let counts = read g (goal.at.returns-then-taken-len-2-clause-grow g c).After-free_length in
+    counts.grow
+
+pub returns-then-taken-len-2-clause-copied : goal.returns-then-taken-len-2-clause-copied
+returns-then-taken-len-2-clause-copied g c =
+    let counts = read g (goal.at.returns-then-taken-len-2-clause-copied g c).After-free_length in
+    counts.copied
+
+pub returns-clause-refused : goal.returns-clause-refused
+returns-clause-refused g c = λ s u v at no. absurd (true≢false no)
+
+pub returns-clause-unchanged : goal.returns-clause-unchanged
+returns-clause-unchanged g c = λ no. absurd (true≢false no)
+
+touches_resized : (r k o : ℕ) → k ≤ r + 9 → o ≤ k + 13 → o ≤ r + 22
+touches_resized r k o taken occupied = omega arith
+
+grow_resized : (r k o : ℕ) → r ≤ k → k ≤ o → r ≤ o
+grow_resized r k o taken occupied = omega arith
+
+pub returns-clause-touches : goal.returns-clause-touches
+returns-clause-touches g c =
+    let counts = read g (goal.at.returns-clause-touches g c).After-free_length in
+    touches-counted_first c.args.memory.now c.free_length.new.memory 2 counts c.occupy.new.memory 22 (touches_resized c.free_length.new.memory.touches c.take_if_free-next.new.memory.touches c.occupy.new.memory.touches c.take_if_free-next.ensures.touches c.occupy.ensures.touches)
+
+pub returns-clause-grow : goal.returns-clause-grow
+returns-clause-grow g c =
+    let counts = read g (goal.at.returns-clause-grow g c).After-free_length in
+    grow-counted_first c.args.memory.now c.free_length.new.memory 2 counts c.occupy.new.memory (grow_resized c.free_length.new.memory.touches c.take_if_free-next.new.memory.touches c.occupy.new.memory.touches c.take_if_free-next.ensures.grow c.occupy.ensures.grow)
+
+pub returns-clause-copied : goal.returns-clause-copied
+returns-clause-copied g c =
+    let counts = read g (goal.at.returns-clause-copied g c).After-free_length in
+    c.occupy.ensures.copied ∙ c.take_if_free-next.ensures.copied ∙ counts.copied

@@ -2,7 +2,7 @@ use Rattle.std.proofs.Common.{ℕ, ◌≡◌, ◌≢◌, ◌≤◌, ◌+◌, ◌
 use Rattle.rlsf_base.specs.declared.memory.range.Range.{Range}
 use Rattle.rlsf_base.specs.Addr.{reply}
 use Rattle.rlsf_base.specs.Sizes.{request_size}
-use Rattle.rlsf_base.specs.Space.{word_at}
+use Rattle.rlsf_base.specs.Space.{word_at, SamePlace}
 use Rattle.rlsf_machine.specs.Allocate.{Allocates, choice, Places}
 use Rattle.rlsf_machine.specs.Callers.{align_at, bytes_at}
 use Rattle.rlsf_machine.specs.State.{State}
@@ -20,8 +20,10 @@ use Rattle.rlsf_blocks.proofs.Machine.FreeBlocks.{IsFreeTable-free}
 use Rattle.rlsf_blocks.proofs.Words.NonZeroNumbers.{number, on_none, on_some}
 use Rattle.rlsf_tlsf.specs.Allocator.{Allocator, allocator, Steps}
 use Rattle.rlsf_tlsf.specs.Steps.Moves.{allocated, bare}
-use Rattle.rlsf_tlsf.proofs.Arrivals.{IsAllocator-arrived, Stands-view, Steps-arrived, bare-kept, opened, well_formed}
+use Rattle.rlsf_tlsf.proofs.Arrivals.{IsAllocator-arrived, Stands-view, Steps-arrived, bare-kept, opened, well_formed, arrived}
 use Rattle.rlsf_tlsf.proofs.Moved.{allocated-bare}
+use Rattle.rlsf_resize.proofs.Counting.{SamePlace-counted, touches-counted, SamePlace-counted_first, copied-counted_first, grow-counted_first, touches-counted_first}
+use Rattle.rlsf_resize.proofs.Refused.{none_none, none_some}
 use Rattle.rlsf_tlsf.proofs.tlsf.Tlsf.allocate.Given as given
 use Rattle.rlsf_tlsf.proofs.tlsf.Tlsf.allocate.Goals as goal
 use Rattle.rlsf_tlsf.proofs.tlsf.Tlsf.allocate.Goals.{After-first_fit, After-place-payload, After-new}
@@ -156,3 +158,60 @@ returns-clause-refused g c =
 
 pub returns-clause-chunks : goal.returns-clause-chunks
 returns-clause-chunks g c = chunks-allocated g.row.SLLEN c.args.self.now.state (after g c).state c.args.layout.size c.args.layout.align (Some c.place-payload.result) (places_of g c)
+
+-- ---- what stays where it is refused
+
+pub returns-in_err-block-clause-live : goal.returns-in_err-block-clause-live
+returns-in_err-block-clause-live g c = none_some _ c.from_residual.result c.from_residual.ensures
+
+pub returns-in_err-block-clause-sized : goal.returns-in_err-block-clause-sized
+returns-in_err-block-clause-sized g c = none_some _ c.from_residual.result c.from_residual.ensures
+
+pub returns-in_err-block-clause-few : goal.returns-in_err-block-clause-few
+returns-in_err-block-clause-few g c = none_some _ c.from_residual.result c.from_residual.ensures
+
+pub returns-in_err-block-clause-new : goal.returns-in_err-block-clause-new
+returns-in_err-block-clause-new g c = none_some _ c.from_residual.result c.from_residual.ensures
+
+pub returns-in_err-block-clause-aligns : goal.returns-in_err-block-clause-aligns
+returns-in_err-block-clause-aligns g c = none_some _ c.from_residual.result c.from_residual.ensures
+
+pub returns-in_err-block-clause-bytes : goal.returns-in_err-block-clause-bytes
+returns-in_err-block-clause-bytes g c = none_some _ c.from_residual.result c.from_residual.ensures
+
+pub returns-in_err-block-clause-chunks : goal.returns-in_err-block-clause-chunks
+returns-in_err-block-clause-chunks g c = ap (λ (o : Allocator). o.state.chunks) c.self.view_is
+
+pub returns-in_err-block-clause-same : goal.returns-in_err-block-clause-same
+returns-in_err-block-clause-same g c =
+    let v = searched g (goal.at.returns-in_err-block-clause-same g c).After-first_fit c.self.invariant.stands in
+    none_none c.from_residual.result (arrived v c.self.inside.state.state (sym (bare-kept c.self.invariant)) ∙ ap (λ (o : Allocator). o.state) c.self.view_is)
+
+pub returns-in_err-block-clause-refused : goal.returns-in_err-block-clause-refused
+returns-in_err-block-clause-refused g c = none_none c.from_residual.result (c.first_fit.ensures.counts.bytes ∙ ap (λ (o : Allocator). o.memory.bytes) c.self.view_is)
+
+pub returns-in_err-block-clause-place : goal.returns-in_err-block-clause-place
+returns-in_err-block-clause-place g c = subst (λ (o : Allocator). SamePlace o.memory c.first_fit.new.memory) c.self.view_is (SamePlace-counted c.self.inside.memory c.first_fit.new.memory 4 c.first_fit.ensures.counts)
+
+pub returns-in_err-block-clause-touches : goal.returns-in_err-block-clause-touches
+returns-in_err-block-clause-touches g c = subst (λ (o : Allocator). c.first_fit.new.memory.touches ≤ o.memory.touches + 27) c.self.view_is (touches-counted c.self.inside.memory c.first_fit.new.memory 4 c.first_fit.ensures.counts 23)
+
+pub returns-in_err-block-clause-grow : goal.returns-in_err-block-clause-grow
+returns-in_err-block-clause-grow g c = subst (λ (o : Allocator). o.memory.touches ≤ c.first_fit.new.memory.touches) c.self.view_is c.first_fit.ensures.counts.grow
+
+pub returns-in_err-block-clause-copied : goal.returns-in_err-block-clause-copied
+returns-in_err-block-clause-copied g c = c.first_fit.ensures.counts.copied ∙ ap (λ (o : Allocator). o.memory.copied) c.self.view_is
+
+-- ---- the counts of a payload that was placed
+
+pub returns-clause-place : goal.returns-clause-place
+returns-clause-place g c = subst (λ (o : Allocator). SamePlace o.memory c.place-payload.new.memory) c.self.view_is (SamePlace-counted_first c.self.inside.memory c.first_fit.new.memory 4 c.first_fit.ensures.counts c.place-payload.new.memory c.place-payload.ensures.place)
+
+pub returns-clause-touches : goal.returns-clause-touches
+returns-clause-touches g c = subst (λ (o : Allocator). c.place-payload.new.memory.touches ≤ o.memory.touches + 27) c.self.view_is (touches-counted_first c.self.inside.memory c.first_fit.new.memory 4 c.first_fit.ensures.counts c.place-payload.new.memory 23 c.place-payload.ensures.touches)
+
+pub returns-clause-grow : goal.returns-clause-grow
+returns-clause-grow g c = subst (λ (o : Allocator). o.memory.touches ≤ c.place-payload.new.memory.touches) c.self.view_is (grow-counted_first c.self.inside.memory c.first_fit.new.memory 4 c.first_fit.ensures.counts c.place-payload.new.memory c.place-payload.ensures.grow)
+
+pub returns-clause-copied : goal.returns-clause-copied
+returns-clause-copied g c = copied-counted_first c.self.inside.memory c.first_fit.new.memory 4 c.first_fit.ensures.counts c.place-payload.new.memory c.place-payload.ensures.copied ∙ ap (λ (o : Allocator). o.memory.copied) c.self.view_is

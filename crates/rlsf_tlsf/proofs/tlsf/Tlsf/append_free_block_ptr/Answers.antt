@@ -1,6 +1,6 @@
-use Rattle.std.proofs.Common.{◌≡◌, arith, sym, ◌∙◌, ap, subst}
-use Rattle.rlsf_base.specs.Space.{range_of}
-use Rattle.rlsf_machine.specs.Insert.{Appends, IsNext}
+use Rattle.std.proofs.Common.{◌≡◌, arith, sym, ◌∙◌, ap, subst, ◌≤◌, ◌+◌, ◌*◌, length, is_some, if◌then◌else◌}
+use Rattle.rlsf_base.specs.Space.{range_of, SamePlace}
+use Rattle.rlsf_machine.specs.Insert.{Appends, IsNext, aligned_part, cut}
 use Rattle.rlsf_machine.specs.Run.{append}
 use Rattle.rlsf_machine.specs.State.{State}
 use Rattle.rlsf_machine.proofs.AppendedRanges.{untouched_appended}
@@ -13,6 +13,7 @@ use Rattle.rlsf_tlsf.specs.Allocator.{Allocator, allocator, Steps}
 use Rattle.rlsf_tlsf.specs.Steps.Moves.{appended_to, bare}
 use Rattle.rlsf_tlsf.proofs.Arrivals.{IsAllocator-arrived, Steps-arrived, bare-kept, opened, view_well_formed}
 use Rattle.rlsf_tlsf.proofs.Moved.{appended_to-bare}
+use Rattle.rlsf_base.specs.Sizes.{max_pool_size}
 use Rattle.rlsf_tlsf.proofs.tlsf.Tlsf.append_free_block_ptr.Given as given
 use Rattle.rlsf_tlsf.proofs.tlsf.Tlsf.append_free_block_ptr.Goals as goal
 use Rattle.rlsf_tlsf.proofs.tlsf.Tlsf.append_free_block_ptr.Goals.{After-append-taken, After-append}
@@ -71,3 +72,18 @@ pub returns-clause-untouched : goal.returns-clause-untouched
 returns-clause-untouched g c =
     untouched_appended g.row.FLLEN c.args.self.now.state (after g c).state c.args.range c.append-taken.result
     (opened g.row.FLLEN g.row.SLLEN c.args.self.now (after g c) (Appends g.row.FLLEN c.args.self.now.state c.args.range c.append-taken.result) (done g c)).0
+
+pub returns-clause-unchanged : goal.returns-clause-unchanged
+returns-clause-unchanged g c = λ zero. c.append-taken.ensures.unchanged zero ∙ ap (λ (o : Allocator). o.memory.bytes) c.self.view_is
+
+pub returns-clause-place : goal.returns-clause-place
+returns-clause-place g c = subst (λ (o : Allocator). SamePlace o.memory c.append-taken.new.memory) c.self.view_is c.append-taken.ensures.place
+
+pub returns-clause-touches : goal.returns-clause-touches
+returns-clause-touches g c = subst (λ (o : Allocator). c.append-taken.new.memory.touches ≤ o.memory.touches + (if is_some (max_pool_size g.row.FLLEN) then 13 * length (cut (max_pool_size g.row.FLLEN) (aligned_part c.args.range)) else 34)) c.self.view_is c.append-taken.ensures.touches
+
+pub returns-clause-grow : goal.returns-clause-grow
+returns-clause-grow g c = subst (λ (o : Allocator). o.memory.touches ≤ c.append-taken.new.memory.touches) c.self.view_is c.append-taken.ensures.grow
+
+pub returns-clause-copied : goal.returns-clause-copied
+returns-clause-copied g c = c.append-taken.ensures.copied ∙ ap (λ (o : Allocator). o.memory.copied) c.self.view_is

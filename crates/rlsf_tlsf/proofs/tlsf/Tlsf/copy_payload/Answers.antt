@@ -1,7 +1,7 @@
-use Rattle.std.proofs.Common.{◌≡◌, ℕ, List, arith, sym, ◌∙◌, subst}
+use Rattle.std.proofs.Common.{◌≡◌, ℕ, List, arith, sym, ◌∙◌, subst, ◌+◌, ap}
 use Rattle.rlsf_base.specs.Addr.{at}
 use Rattle.rlsf_base.specs.Range.{range_at}
-use Rattle.rlsf_base.specs.Space.{Space, bytes_in, with_bytes}
+use Rattle.rlsf_base.specs.Space.{Space, bytes_in, with_bytes, SamePlace}
 use Rattle.rlsf_machine.specs.Callers.{bytes_at}
 use Rattle.rlsf_machine.specs.Run.{Fills}
 use Rattle.rlsf_machine.specs.State.{State, with_front}
@@ -106,3 +106,12 @@ returns-clause-chunks g c =
     let before = (goal.at.returns-clause-chunks g c).After-copy_within in
     chunks-filled c.args.self.now.state (after g before).state (at c.args.to) (front g before)
     (opened g.row.FLLEN g.row.SLLEN c.args.self.now (after g before) (Fills c.args.self.now.state (at c.args.to) (front g before)) (done g before)).0
+
+pub returns-clause-place : goal.returns-clause-place
+returns-clause-place g c = subst (λ (o : Allocator). SamePlace o.memory c.copy_within.new.self) c.self.view_is (c.copy_within.ensures.start, c.copy_within.ensures.len)
+
+pub returns-clause-touches : goal.returns-clause-touches
+returns-clause-touches g c = c.copy_within.ensures.touches ∙ ap (λ (o : Allocator). o.memory.touches) c.self.view_is
+
+pub returns-clause-copied : goal.returns-clause-copied
+returns-clause-copied g c = c.copy_within.ensures.copied ∙ ap (λ (o : Allocator). o.memory.copied + c.args.len) c.self.view_is

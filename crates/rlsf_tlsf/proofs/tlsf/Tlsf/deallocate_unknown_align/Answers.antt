@@ -1,4 +1,4 @@
-use Rattle.std.proofs.Common.{rules, ◌≡◌, refl, sym, ◌∙◌}
+use Rattle.std.proofs.Common.{rules, ◌≡◌, refl, sym, ◌∙◌, ◌≤◌, ◌+◌, ap, subst}
 use Rattle.rlsf_base.specs.Addr.{at}
 use Rattle.rlsf_machine.specs.Release.{Deallocates, released}
 use Rattle.rlsf_machine.specs.State.{State, Used, Holds}
@@ -11,6 +11,8 @@ use Rattle.rlsf_tlsf.specs.Allocator.{Allocator, allocator, Steps}
 use Rattle.rlsf_tlsf.specs.Steps.Moves.{bare, deallocated}
 use Rattle.rlsf_tlsf.proofs.Arrivals.{IsAllocator-arrived, Steps-arrived, bare-kept, opened, some_inside, view_well_formed}
 use Rattle.rlsf_tlsf.proofs.Moved.{deallocated-bare}
+use Rattle.rlsf_base.specs.Space.{SamePlace}
+use Rattle.rlsf_resize.proofs.Counting.{Counts-touched, SamePlace-counted_first, copied-counted_first, grow-counted_first, touches-counted_first}
 use Rattle.rlsf_tlsf.proofs.tlsf.Tlsf.deallocate_unknown_align.Given as given
 use Rattle.rlsf_tlsf.proofs.tlsf.Tlsf.deallocate_unknown_align.Goals as goal
 use Rattle.rlsf_tlsf.proofs.tlsf.Tlsf.deallocate_unknown_align.Goals.{After-load_block_of-block, After-deallocate}
@@ -89,3 +91,15 @@ returns-clause-bytes g c = (seen g c).bytes
 pub returns-clause-chunks : goal.returns-clause-chunks
 returns-clause-chunks g c =
     chunks-deallocated c.args.self.now.state (after g c).state (at c.args.addr) (opened g.row.FLLEN g.row.SLLEN c.args.self.now (after g c) (Deallocates c.args.self.now.state (at c.args.addr)) (done g c)).0
+
+pub returns-clause-place : goal.returns-clause-place
+returns-clause-place g c = subst (λ (o : Allocator). SamePlace o.memory c.deallocate_block.new.memory) c.self.view_is (SamePlace-counted_first c.self.inside.memory c.load_block_of-block.new.memory 2 (Counts-touched c.self.inside.memory c.load_block_of-block.new.memory 2 c.load_block_of-block.ensures.memory) c.deallocate_block.new.memory c.deallocate_block.ensures.place)
+
+pub returns-clause-touches : goal.returns-clause-touches
+returns-clause-touches g c = subst (λ (o : Allocator). c.deallocate_block.new.memory.touches ≤ o.memory.touches + 33) c.self.view_is (touches-counted_first c.self.inside.memory c.load_block_of-block.new.memory 2 (Counts-touched c.self.inside.memory c.load_block_of-block.new.memory 2 c.load_block_of-block.ensures.memory) c.deallocate_block.new.memory 31 c.deallocate_block.ensures.touches)
+
+pub returns-clause-grow : goal.returns-clause-grow
+returns-clause-grow g c = subst (λ (o : Allocator). o.memory.touches ≤ c.deallocate_block.new.memory.touches) c.self.view_is (grow-counted_first c.self.inside.memory c.load_block_of-block.new.memory 2 (Counts-touched c.self.inside.memory c.load_block_of-block.new.memory 2 c.load_block_of-block.ensures.memory) c.deallocate_block.new.memory c.deallocate_block.ensures.grow)
+
+pub returns-clause-copied : goal.returns-clause-copied
+returns-clause-copied g c = copied-counted_first c.self.inside.memory c.load_block_of-block.new.memory 2 (Counts-touched c.self.inside.memory c.load_block_of-block.new.memory 2 c.load_block_of-block.ensures.memory) c.deallocate_block.new.memory c.deallocate_block.ensures.copied ∙ ap (λ (o : Allocator). o.memory.copied) c.self.view_is

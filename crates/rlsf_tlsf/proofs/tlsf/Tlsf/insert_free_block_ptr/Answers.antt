@@ -1,7 +1,7 @@
-use Rattle.std.proofs.Common.{◌≡◌, arith, sym, ◌∙◌, ap, subst}
+use Rattle.std.proofs.Common.{◌≡◌, arith, sym, ◌∙◌, ap, subst, ◌≤◌, ◌+◌, ◌*◌, IfNone, length}
 use Rattle.rlsf_base.specs.Addr.{reply}
-use Rattle.rlsf_base.specs.Space.{range_of}
-use Rattle.rlsf_machine.specs.Insert.{Inserts, IsFresh}
+use Rattle.rlsf_base.specs.Space.{range_of, SamePlace}
+use Rattle.rlsf_machine.specs.Insert.{Inserts, IsFresh, aligned_part, cut}
 use Rattle.rlsf_machine.specs.Run.{insert}
 use Rattle.rlsf_machine.specs.State.{State}
 use Rattle.rlsf_machine.proofs.CallerWords.{SeesSame, same_seen}
@@ -14,6 +14,7 @@ use Rattle.rlsf_tlsf.specs.Allocator.{Allocator, allocator, Steps}
 use Rattle.rlsf_tlsf.specs.Steps.Moves.{bare, inserted}
 use Rattle.rlsf_tlsf.proofs.Arrivals.{IsAllocator-arrived, Steps-arrived, bare-kept, opened, view_well_formed}
 use Rattle.rlsf_tlsf.proofs.Moved.{inserted-bare}
+use Rattle.rlsf_base.specs.Sizes.{max_pool_size}
 use Rattle.rlsf_tlsf.proofs.tlsf.Tlsf.insert_free_block_ptr.Given as given
 use Rattle.rlsf_tlsf.proofs.tlsf.Tlsf.insert_free_block_ptr.Goals as goal
 use Rattle.rlsf_tlsf.proofs.tlsf.Tlsf.insert_free_block_ptr.Goals.{After-insert-taken, After-insert}
@@ -75,3 +76,18 @@ pub returns-clause-untouched : goal.returns-clause-untouched
 returns-clause-untouched g c =
     untouched_inserted g.row.FLLEN c.args.self.now.state (after g c).state c.args.range (reply c.insert-taken.result)
     (opened g.row.FLLEN g.row.SLLEN c.args.self.now (after g c) (Inserts g.row.FLLEN c.args.self.now.state c.args.range (reply c.insert-taken.result)) (done g c)).0
+
+pub returns-clause-refused : goal.returns-clause-refused
+returns-clause-refused g c = subst (λ (o : Allocator). IfNone c.insert-taken.result (c.insert-taken.new.memory.bytes ≡ o.memory.bytes)) c.self.view_is c.insert-taken.ensures.refused
+
+pub returns-clause-place : goal.returns-clause-place
+returns-clause-place g c = subst (λ (o : Allocator). SamePlace o.memory c.insert-taken.new.memory) c.self.view_is c.insert-taken.ensures.place
+
+pub returns-clause-touches : goal.returns-clause-touches
+returns-clause-touches g c = subst (λ (o : Allocator). c.insert-taken.new.memory.touches ≤ o.memory.touches + 13 * length (cut (max_pool_size g.row.FLLEN) (aligned_part c.args.range))) c.self.view_is c.insert-taken.ensures.touches
+
+pub returns-clause-grow : goal.returns-clause-grow
+returns-clause-grow g c = subst (λ (o : Allocator). o.memory.touches ≤ c.insert-taken.new.memory.touches) c.self.view_is c.insert-taken.ensures.grow
+
+pub returns-clause-copied : goal.returns-clause-copied
+returns-clause-copied g c = c.insert-taken.ensures.copied ∙ ap (λ (o : Allocator). o.memory.copied) c.self.view_is

@@ -17,8 +17,11 @@ use Rattle.rlsf_blocks.proofs.Words.NonZeroNumbers.{number, on_none, on_some}
 use Rattle.rlsf_resize.specs.Steps.Resize.{IsUsedAt}
 use Rattle.rlsf_tlsf.specs.Allocator.{Allocator, allocator, Steps}
 use Rattle.rlsf_tlsf.specs.Steps.Moves.{bare, reallocated}
-use Rattle.rlsf_tlsf.proofs.Arrivals.{IsAllocator-arrived, Steps-arrived, bare-kept, bytes_inside, live_inside, opened, view_well_formed, well_formed}
+use Rattle.rlsf_tlsf.proofs.Arrivals.{IsAllocator-arrived, Steps-arrived, bare-kept, bytes_inside, live_inside, opened, view_well_formed, well_formed, arrived}
 use Rattle.rlsf_tlsf.proofs.Moved.{reallocated-bare}
+use Rattle.rlsf_base.specs.Space.{SamePlace}
+use Rattle.rlsf_resize.proofs.Counting.{SamePlace-counted_first, grow-counted_first, grow_copied-counted_first, touches-counted_first}
+use Rattle.rlsf_resize.proofs.Refused.{none_none, none_some}
 use Rattle.rlsf_tlsf.proofs.tlsf.Tlsf.reallocate.Given as given
 use Rattle.rlsf_tlsf.proofs.tlsf.Tlsf.reallocate.Goals as goal
 use Rattle.rlsf_tlsf.proofs.tlsf.Tlsf.reallocate.Goals.{After-from_residual, After-used_block-block, After-new}
@@ -224,3 +227,61 @@ pub returns-clause-chunks : goal.returns-clause-chunks
 returns-clause-chunks g c =
     chunks-reallocated g.row.SLLEN c.args.self.now.state (after g c).state (at c.args.addr) c.args.layout.size (Some c.in_ok-moved.moved)
     (opened g.row.FLLEN g.row.SLLEN c.args.self.now (after g c) (Reallocates g.row.SLLEN c.args.self.now.state (at c.args.addr) c.args.layout.size (Some c.in_ok-moved.moved)) (done g c)).0
+
+-- ---- what stays where it is refused
+
+pub returns-in_err-moved-clause-live : goal.returns-in_err-moved-clause-live
+returns-in_err-moved-clause-live g c = none_some _ c.from_residual.result c.from_residual.ensures
+
+pub returns-in_err-moved-clause-sized : goal.returns-in_err-moved-clause-sized
+returns-in_err-moved-clause-sized g c = none_some _ c.from_residual.result c.from_residual.ensures
+
+pub returns-in_err-moved-clause-few : goal.returns-in_err-moved-clause-few
+returns-in_err-moved-clause-few g c = none_some _ c.from_residual.result c.from_residual.ensures
+
+pub returns-in_err-moved-clause-kept : goal.returns-in_err-moved-clause-kept
+returns-in_err-moved-clause-kept g c = none_some _ c.from_residual.result c.from_residual.ensures
+
+pub returns-in_err-moved-clause-new : goal.returns-in_err-moved-clause-new
+returns-in_err-moved-clause-new g c = none_some _ c.from_residual.result c.from_residual.ensures
+
+pub returns-in_err-moved-clause-aligns : goal.returns-in_err-moved-clause-aligns
+returns-in_err-moved-clause-aligns g c = none_some _ c.from_residual.result c.from_residual.ensures
+
+pub returns-in_err-moved-clause-bytes : goal.returns-in_err-moved-clause-bytes
+returns-in_err-moved-clause-bytes g c = none_some _ c.from_residual.result c.from_residual.ensures
+
+pub returns-in_err-moved-clause-chunks : goal.returns-in_err-moved-clause-chunks
+returns-in_err-moved-clause-chunks g c = ap (λ (o : Allocator). o.state.chunks) c.self.view_is
+
+pub returns-in_err-moved-clause-same : goal.returns-in_err-moved-clause-same
+returns-in_err-moved-clause-same g c = none_none c.from_residual.result (arrived (staying g c).1 c.self.inside.state.state (sym (bare-kept c.self.invariant)) ∙ ap (λ (o : Allocator). o.state) c.self.view_is)
+
+pub returns-in_err-moved-clause-refused : goal.returns-in_err-moved-clause-refused
+returns-in_err-moved-clause-refused g c = none_none c.from_residual.result (c.in_err-moved.ensures.refused ∙ c.used_block-block.ensures.counts.bytes ∙ ap (λ (o : Allocator). o.memory.bytes) c.self.view_is)
+
+pub returns-in_err-moved-clause-place : goal.returns-in_err-moved-clause-place
+returns-in_err-moved-clause-place g c = subst (λ (o : Allocator). SamePlace o.memory c.reallocate_block.new.memory) c.self.view_is (SamePlace-counted_first c.self.inside.memory c.used_block-block.new.memory 1 c.used_block-block.ensures.counts c.reallocate_block.new.memory c.reallocate_block.ensures.place)
+
+pub returns-in_err-moved-clause-touches : goal.returns-in_err-moved-clause-touches
+returns-in_err-moved-clause-touches g c = subst (λ (o : Allocator). c.reallocate_block.new.memory.touches ≤ o.memory.touches + 66) c.self.view_is (touches-counted_first c.self.inside.memory c.used_block-block.new.memory 1 c.used_block-block.ensures.counts c.reallocate_block.new.memory 65 c.reallocate_block.ensures.touches)
+
+pub returns-in_err-moved-clause-grow : goal.returns-in_err-moved-clause-grow
+returns-in_err-moved-clause-grow g c = subst (λ (o : Allocator). o.memory.touches ≤ c.reallocate_block.new.memory.touches) c.self.view_is (grow-counted_first c.self.inside.memory c.used_block-block.new.memory 1 c.used_block-block.ensures.counts c.reallocate_block.new.memory c.reallocate_block.ensures.grow)
+
+pub returns-in_err-moved-clause-grow_copied : goal.returns-in_err-moved-clause-grow_copied
+returns-in_err-moved-clause-grow_copied g c = subst (λ (o : Allocator). o.memory.copied ≤ c.reallocate_block.new.memory.copied) c.self.view_is (grow_copied-counted_first c.self.inside.memory c.used_block-block.new.memory 1 c.used_block-block.ensures.counts c.reallocate_block.new.memory c.reallocate_block.ensures.grow_copied)
+
+-- ---- the counts of a payload with another size
+
+pub returns-clause-place : goal.returns-clause-place
+returns-clause-place g c = subst (λ (o : Allocator). SamePlace o.memory c.reallocate_block.new.memory) c.self.view_is (SamePlace-counted_first c.self.inside.memory c.used_block-block.new.memory 1 c.used_block-block.ensures.counts c.reallocate_block.new.memory c.reallocate_block.ensures.place)
+
+pub returns-clause-touches : goal.returns-clause-touches
+returns-clause-touches g c = subst (λ (o : Allocator). c.reallocate_block.new.memory.touches ≤ o.memory.touches + 66) c.self.view_is (touches-counted_first c.self.inside.memory c.used_block-block.new.memory 1 c.used_block-block.ensures.counts c.reallocate_block.new.memory 65 c.reallocate_block.ensures.touches)
+
+pub returns-clause-grow : goal.returns-clause-grow
+returns-clause-grow g c = subst (λ (o : Allocator). o.memory.touches ≤ c.reallocate_block.new.memory.touches) c.self.view_is (grow-counted_first c.self.inside.memory c.used_block-block.new.memory 1 c.used_block-block.ensures.counts c.reallocate_block.new.memory c.reallocate_block.ensures.grow)
+
+pub returns-clause-grow_copied : goal.returns-clause-grow_copied
+returns-clause-grow_copied g c = subst (λ (o : Allocator). o.memory.copied ≤ c.reallocate_block.new.memory.copied) c.self.view_is (grow_copied-counted_first c.self.inside.memory c.used_block-block.new.memory 1 c.used_block-block.ensures.counts c.reallocate_block.new.memory c.reallocate_block.ensures.grow_copied)

@@ -1,7 +1,7 @@
-use Rattle.std.proofs.Common.{◌≡◌, ℕ, eqb, Some, None, arith, refl, sym, ◌∙◌, ap, subst}
+use Rattle.std.proofs.Common.{◌≡◌, ℕ, eqb, Some, None, arith, refl, sym, ◌∙◌, ap, subst, ◌≤◌, ◌+◌}
 use Rattle.std.proofs.lemmas.Bool.{eqb-true, eqb-false}
 use Rattle.rlsf_base.specs.Addr.{at}
-use Rattle.rlsf_machine.specs.Callers.{align_at}
+use Rattle.rlsf_machine.specs.Callers.{align_at, bytes_at}
 use Rattle.rlsf_machine.specs.NoMove.{ReallocatesUnmovedBy, ReallocatesWithoutMove}
 use Rattle.rlsf_machine.specs.Reallocate.{Reallocates, Replans}
 use Rattle.rlsf_machine.specs.State.{State, Used, Holds, IsLive}
@@ -19,6 +19,9 @@ use Rattle.rlsf_tlsf.specs.Allocator.{Allocator, allocator, Steps}
 use Rattle.rlsf_tlsf.specs.Steps.Moves.{bare, reallocated}
 use Rattle.rlsf_tlsf.proofs.Arrivals.{IsAllocator-arrived, Steps-arrived, arrived, bare-kept, live_inside, opened, view_well_formed}
 use Rattle.rlsf_tlsf.proofs.Moved.{reallocated-bare}
+use Rattle.rlsf_base.specs.Space.{SamePlace}
+use Rattle.rlsf_machine.proofs.Chunks.{chunks-reallocated}
+use Rattle.rlsf_resize.proofs.Counting.{SamePlace-counted_first, copied-counted_first, grow-counted_first, touches-counted_first}
 use Rattle.rlsf_tlsf.proofs.tlsf.Tlsf.reallocate_no_move.Given as given
 use Rattle.rlsf_tlsf.proofs.tlsf.Tlsf.reallocate_no_move.Goals as goal
 use Rattle.rlsf_tlsf.proofs.tlsf.Tlsf.reallocate_no_move.Goals.{After-used_block-block, After-reallocate, Then-not-resize_block}
@@ -168,3 +171,73 @@ returns-clause-aligns g c = λ i a. aligned g c a i
 
 pub returns-clause-bytes : goal.returns-clause-bytes
 returns-clause-bytes g c = λ a apart. (seen g c).bytes a apart apart
+
+-- ---- what stays where it is refused
+
+pub returns-then-not-resize_block-clause-there : goal.returns-then-not-resize_block-clause-there
+returns-then-not-resize_block-clause-there g c = tt
+
+pub returns-then-not-resize_block-clause-sized : goal.returns-then-not-resize_block-clause-sized
+returns-then-not-resize_block-clause-sized g c = tt
+
+pub returns-then-not-resize_block-clause-few : goal.returns-then-not-resize_block-clause-few
+returns-then-not-resize_block-clause-few g c = tt
+
+pub returns-then-not-resize_block-clause-kept : goal.returns-then-not-resize_block-clause-kept
+returns-then-not-resize_block-clause-kept g c = tt
+
+same : (g : given.Over) (c : Then-not-resize_block g) → read_from c.resize_block.new.memory c.self.inside.state.state ≡ c.args.self.now.state
+same g c = arrived (stands g c) c.self.inside.state.state (sym (bare-kept c.self.invariant)) ∙ ap (λ (o : Allocator). o.state) c.self.view_is
+
+pub returns-then-not-resize_block-clause-live : goal.returns-then-not-resize_block-clause-live
+returns-then-not-resize_block-clause-live g c = ap (λ s. align_at s (at c.args.addr)) (same g c) ∙ c.requires
+
+pub returns-then-not-resize_block-clause-bytes : goal.returns-then-not-resize_block-clause-bytes
+returns-then-not-resize_block-clause-bytes g c = λ a apart. ap (λ s. bytes_at s a) (same g c)
+
+pub returns-then-not-resize_block-clause-chunks : goal.returns-then-not-resize_block-clause-chunks
+returns-then-not-resize_block-clause-chunks g c = ap (λ (o : Allocator). o.state.chunks) c.self.view_is
+
+pub returns-then-not-resize_block-clause-same : goal.returns-then-not-resize_block-clause-same
+returns-then-not-resize_block-clause-same g c = same g c
+
+pub returns-then-not-resize_block-clause-refused : goal.returns-then-not-resize_block-clause-refused
+returns-then-not-resize_block-clause-refused g c = (c.resize_block.ensures.unchanged c.if-not-resize_block.true).0.bytes ∙ c.used_block-block.ensures.counts.bytes ∙ ap (λ (o : Allocator). o.memory.bytes) c.self.view_is
+
+pub returns-then-not-resize_block-clause-place : goal.returns-then-not-resize_block-clause-place
+returns-then-not-resize_block-clause-place g c = subst (λ (o : Allocator). SamePlace o.memory c.resize_block.new.memory) c.self.view_is (SamePlace-counted_first c.self.inside.memory c.used_block-block.new.memory 1 c.used_block-block.ensures.counts c.resize_block.new.memory c.resize_block.ensures.place)
+
+pub returns-then-not-resize_block-clause-touches : goal.returns-then-not-resize_block-clause-touches
+returns-then-not-resize_block-clause-touches g c = subst (λ (o : Allocator). c.resize_block.new.memory.touches ≤ o.memory.touches + 25) c.self.view_is (touches-counted_first c.self.inside.memory c.used_block-block.new.memory 1 c.used_block-block.ensures.counts c.resize_block.new.memory 24 c.resize_block.ensures.touches)
+
+pub returns-then-not-resize_block-clause-grow : goal.returns-then-not-resize_block-clause-grow
+returns-then-not-resize_block-clause-grow g c = subst (λ (o : Allocator). o.memory.touches ≤ c.resize_block.new.memory.touches) c.self.view_is (grow-counted_first c.self.inside.memory c.used_block-block.new.memory 1 c.used_block-block.ensures.counts c.resize_block.new.memory c.resize_block.ensures.grow)
+
+pub returns-then-not-resize_block-clause-copied : goal.returns-then-not-resize_block-clause-copied
+returns-then-not-resize_block-clause-copied g c = copied-counted_first c.self.inside.memory c.used_block-block.new.memory 1 c.used_block-block.ensures.counts c.resize_block.new.memory c.resize_block.ensures.copied ∙ ap (λ (o : Allocator). o.memory.copied) c.self.view_is
+
+-- ---- the counts of a payload with another size
+
+pub returns-clause-there : goal.returns-clause-there
+returns-clause-there g c = refl
+
+pub returns-clause-chunks : goal.returns-clause-chunks
+returns-clause-chunks g c = chunks-reallocated g.row.SLLEN c.args.self.now.state (after g c).state (at c.args.addr) c.args.layout.size (Some (at c.args.addr)) (reached g c)
+
+pub returns-clause-same : goal.returns-clause-same
+returns-clause-same g c = tt
+
+pub returns-clause-refused : goal.returns-clause-refused
+returns-clause-refused g c = tt
+
+pub returns-clause-place : goal.returns-clause-place
+returns-clause-place g c = subst (λ (o : Allocator). SamePlace o.memory c.resize_block.new.memory) c.self.view_is (SamePlace-counted_first c.self.inside.memory c.used_block-block.new.memory 1 c.used_block-block.ensures.counts c.resize_block.new.memory c.resize_block.ensures.place)
+
+pub returns-clause-touches : goal.returns-clause-touches
+returns-clause-touches g c = subst (λ (o : Allocator). c.resize_block.new.memory.touches ≤ o.memory.touches + 25) c.self.view_is (touches-counted_first c.self.inside.memory c.used_block-block.new.memory 1 c.used_block-block.ensures.counts c.resize_block.new.memory 24 c.resize_block.ensures.touches)
+
+pub returns-clause-grow : goal.returns-clause-grow
+returns-clause-grow g c = subst (λ (o : Allocator). o.memory.touches ≤ c.resize_block.new.memory.touches) c.self.view_is (grow-counted_first c.self.inside.memory c.used_block-block.new.memory 1 c.used_block-block.ensures.counts c.resize_block.new.memory c.resize_block.ensures.grow)
+
+pub returns-clause-copied : goal.returns-clause-copied
+returns-clause-copied g c = copied-counted_first c.self.inside.memory c.used_block-block.new.memory 1 c.used_block-block.ensures.counts c.resize_block.new.memory c.resize_block.ensures.copied ∙ ap (λ (o : Allocator). o.memory.copied) c.self.view_is

@@ -1,9 +1,8 @@
-use Rattle.std.proofs.Common.{◌≡◌, arith, refl, sym, ◌∙◌, ap, subst, rules}
-use Rattle.rlsf_base.specs.Space.{range_of}
+use Rattle.std.proofs.Common.{◌≡◌, arith, refl, sym, ◌∙◌, ap, subst, ◌≤◌}
+use Rattle.rlsf_base.specs.Space.{range_of, SamePlace}
 use Rattle.rlsf_machine.specs.ChunkRows.{IsRow}
 use Rattle.rlsf_machine.specs.Remove.{IsIdle, Removes, removed}
 use Rattle.rlsf_machine.specs.Run.{remove}
-use Rattle.rlsf_machine.specs.State.{State}
 use Rattle.rlsf_machine.proofs.CallerWords.{SeesSame, same_seen}
 use Rattle.rlsf_machine.proofs.Callers.{callers_see_map}
 use Rattle.rlsf_blocks.specs.Blocks.{walked}
@@ -79,3 +78,12 @@ pub returns-clause-gone : goal.returns-clause-gone
 returns-clause-gone g c =
     let w = view_well_formed c.self.invariant c.args.self.now c.self.view_is in
     untouched_gone w (walked c.args.range) c.requires.row c.requires.idle (after g c).state (stepped g c)
+
+pub returns-clause-place : goal.returns-clause-place
+returns-clause-place g c = subst (λ (o : Allocator). SamePlace o.memory c.remove_chunks.new.memory) c.self.view_is c.remove_chunks.ensures.place
+
+pub returns-clause-grow : goal.returns-clause-grow
+returns-clause-grow g c = subst (λ (o : Allocator). o.memory.touches ≤ c.remove_chunks.new.memory.touches) c.self.view_is c.remove_chunks.ensures.grow
+
+pub returns-clause-copied : goal.returns-clause-copied
+returns-clause-copied g c = c.remove_chunks.ensures.copied ∙ ap (λ (o : Allocator). o.memory.copied) c.self.view_is

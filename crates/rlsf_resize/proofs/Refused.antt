@@ -1,0 +1,14 @@
+-- What holds of an answer that there isn't.
+use Rattle.std.proofs.Common.{◌≡◌, Option, Some, None, IfNone, IfSome}
+
+pub none_some : {A : Type 0} (P : A → Type 0) (o : Option A) → o ≡ None → IfSome o P
+none_some P None e = tt
+none_some P (Some x) e = absurd (cc)
+
+pub none_none : {A P : Type 0} (o : Option A) → P → IfNone o P
+none_none None p = p
+none_none (Some x) p = tt
+
+pub none_more : {A P Q : Type 0} (o : Option A) → (P → Q) → IfNone o P → IfNone o Q
+none_more None f p = f p
+none_more (Some x) f p = tt
