@@ -24,6 +24,10 @@ when_false A B true e x = absurd (true≢false (sym e))
 pub same_align : (a b : Layout) → true ≡ is_same a b → a.align ≡ b.align
 same_align a b e = eqb-true a.align b.align (and_parts (nat_eq a.size b.size) (nat_eq a.align b.align) (sym e)).1
 
+-- and one size
+pub same_size : (a b : Layout) → true ≡ is_same a b → a.size ≡ b.size
+same_size a b e = eqb-true a.size b.size (and_parts (nat_eq a.size b.size) (nat_eq a.align b.align) (sym e)).0
+
 module _ (h : Heap) (addr : ℕ) (layout : Layout) (row : Row) where
   pub deallocates_in : (g : Heap) → true ≡ is_same row.1 layout → Releases h addr g → DeallocatesAsAt h addr layout (Some row) (Ok tt) g
   deallocates_in g e gone = when_true (Is (Ok tt) (Ok tt) × Releases h addr g) (Is (Ok tt) (Err WrongLayout) × (g ≡ h)) (is_same row.1 layout) e (refl, gone)

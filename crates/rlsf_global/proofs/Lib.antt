@@ -1,6 +1,8 @@
 pub mod Checks
 pub mod Cursors
+pub mod Layouts
 pub mod Maps
+pub mod MovedPayloads
 pub mod Placements
 pub mod Resizes
 pub mod Results

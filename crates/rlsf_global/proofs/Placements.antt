@@ -1,5 +1,5 @@
 -- How a heap goes on from step to step.
-use Rattle.std.proofs.Common.{◌≡◌, ◌≢◌, ℕ, ◌++◌, arith, slice_index_or, length, List, [], ◌∷◌, Option, Some, None, IsSome, Ok, Err, refl, sym, ◌∙◌, ap, subst}
+use Rattle.std.proofs.Common.{◌≡◌, ◌≢◌, ℕ, ◌++◌, ◌≤◌, arith, slice_index_or, length, List, [], ◌∷◌, Option, Some, None, IsSome, Ok, Err, refl, sym, ◌∙◌, ap, subst}
 use Rattle.std.specs.declared.num.NonZeroUsize.{NonZeroUsize}
 use Rattle.rlsf_base.specs.Addr.{at}
 use Rattle.rlsf_base.specs.declared.memory.layout.Layout.{Layout}
@@ -45,6 +45,9 @@ module _ (f : FlexContents PageCursor) (rows : List Row) (v : IsLocked (locked_c
   -- an address with a row is live, and its payload serves the row's layout
   pub live_row : (addr : ℕ) (r : Row) → row_at addr rows ≡ Some r → align_at f.state.machine addr ≡ Some r.1.align
   live_row addr r there = (subst (λ o. Agrees o (align_at f.state.machine addr) (bytes_at f.state.machine addr)) there (v.lists addr)).0
+
+  pub row_sized : (addr : ℕ) (r : Row) → row_at addr rows ≡ Some r → r.1.size ≤ length (bytes_at f.state.machine addr)
+  row_sized addr r there = (subst (λ o. Agrees o (align_at f.state.machine addr) (bytes_at f.state.machine addr)) there (v.lists addr)).1
 
   pub live_here : (addr i : ℕ) → IsFound rows addr i → IsSome (align_at f.state.machine addr)
   live_here addr i found = let (r, there) = some_row rows addr i found in subst IsSome (sym (live_row addr r there)) refl

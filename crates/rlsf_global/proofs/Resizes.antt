@@ -21,7 +21,7 @@ use Rattle.rlsf_placement.specs.Rows.{Row, put, row_at, without}
 use Rattle.rlsf_placement.specs.Steps.{Placed, is_same}
 
 -- two answers are the same
-abbrev IsPlaced : Placed → Placed → Type 0
+abbrev pub IsPlaced : Placed → Placed → Type 0
 IsPlaced a b = a ≡ b
 
 module _ (h : Heap) (addr : ℕ) (layout : Layout) (n : ℕ) (row : Row) where

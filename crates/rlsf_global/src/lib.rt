@@ -2,6 +2,7 @@
 #![tactic(auto)]
 
 mod locked;
+mod moves;
 mod options;
 mod pages;
 mod table;

@@ -1,14 +1,15 @@
 //! The value under the lock: an allocator over pages, and the table of its live addresses.
 
-ghost use Rattle.std.specs.Prelude.{◌≡◌, ◌≢◌, ℕ, ◌+◌, ◌≤◌, length, nat_le, IfOk, OnErr};
+ghost use Rattle.std.specs.Prelude.{◌≡◌, ◌≢◌, ℕ, ◌+◌, ◌≤◌, length, nat_le, IfOk, None, OnErr, OnOk, Some};
 ghost use Rattle.std.specs.List.{splice};
 ghost use Rattle.rlsf_base.specs.Addr.{at};
 ghost use Rattle.rlsf_base.specs.Layout.{IsLayout};
 ghost use Rattle.rlsf_base.specs.Space.{range_of};
-ghost use Rattle.rlsf_placement.specs.Heap.{beginning};
-ghost use Rattle.rlsf_placement.specs.Moves.{HeapReallocatesThere};
+ghost use Rattle.rlsf_placement.specs.Heap.{HasLayout, beginning, content_at, layout_at};
+ghost use Rattle.rlsf_placement.specs.Moves.{HeapReallocates, HeapReallocatesAs, HeapReallocatesThere};
 ghost use Rattle.rlsf_placement.specs.Steps.{HeapAllocates, HeapDeallocates, HeapDeallocatesAs, HeapReads, HeapUsable, HeapWrites};
 
+use crate::moves::{PagedTlsf, move_away, resize};
 use crate::options::GlobalTlsfOptions;
 use crate::pages::Source;
 use crate::table::{place, search};
@@ -22,7 +23,7 @@ use std::marker::Model;
 /// asked for each. Its type keeps that the table lists exactly the live payloads, in the order of their addresses.
 #[derive(Drop)]
 pub struct Locked<Options: GlobalTlsfOptions> {
-    flex: FlexTlsf<Source<Options>, usize, usize, 64, 64>,
+    flex: PagedTlsf<Options>,
     rows: Vec<(Addr, Layout)>,
 }
 
@@ -70,6 +71,12 @@ impl<Options: GlobalTlsfOptions> Locked<Options> {
     pub fn allocate(&mut self, layout: Layout) -> Result<Addr, GlobalError>
         ensures step { HeapAllocates self.old.heap layout result self.new.heap }
         ensures refused { OnErr result (self.new.memory.bytes ≡ self.old.memory.bytes) }
+        ensures live { IfOk result (λ addr. layout_at self.new.heap (at addr) ≡ Some layout) }
+        ensures sized { IfOk result (λ addr. layout.size ≤ length (content_at self.new.heap (at addr))) }
+        ensures new { IfOk result (λ addr. layout_at self.old.heap (at addr) ≡ None) }
+        ensures layouts { IfOk result (λ addr. (a : ℕ) → a ≢ at addr → layout_at self.new.heap a ≡ layout_at self.old.heap a) }
+        ensures contents { IfOk result (λ addr. (a : ℕ) → a ≢ at addr → content_at self.new.heap a ≡ content_at self.old.heap a) }
+        ensures same { OnErr result (self.new.heap ≡ self.old.heap) }
     {
         if self.rows.try_reserve(1).is_err() {
             return Err(GlobalError::TableMemory);
@@ -87,6 +94,10 @@ impl<Options: GlobalTlsfOptions> Locked<Options> {
     pub fn deallocate(&mut self, addr: Addr) -> Result<(), GlobalError>
         ensures step { HeapDeallocates self.old.heap (at addr) result self.new.heap }
         ensures refused { OnErr result (self.new.memory ≡ self.old.memory) }
+        ensures gone { OnOk result (layout_at self.new.heap (at addr) ≡ None) }
+        ensures layouts { OnOk result ((a : ℕ) → a ≢ at addr → layout_at self.new.heap a ≡ layout_at self.old.heap a) }
+        ensures contents { OnOk result ((a : ℕ) → a ≢ at addr → content_at self.new.heap a ≡ content_at self.old.heap a) }
+        ensures same { OnErr result (self.new.heap ≡ self.old.heap) }
     {
         let Ok(at) = search(&self.rows, addr) else {
             return Err(GlobalError::UnknownAddress);
@@ -103,6 +114,10 @@ impl<Options: GlobalTlsfOptions> Locked<Options> {
     pub fn dealloc(&mut self, addr: Addr, layout: Layout) -> Result<(), GlobalError>
         ensures step { HeapDeallocatesAs self.old.heap (at addr) layout result self.new.heap }
         ensures refused { OnErr result (self.new.memory ≡ self.old.memory) }
+        ensures gone { OnOk result (layout_at self.new.heap (at addr) ≡ None) }
+        ensures layouts { OnOk result ((a : ℕ) → a ≢ at addr → layout_at self.new.heap a ≡ layout_at self.old.heap a) }
+        ensures contents { OnOk result ((a : ℕ) → a ≢ at addr → content_at self.new.heap a ≡ content_at self.old.heap a) }
+        ensures same { OnErr result (self.new.heap ≡ self.old.heap) }
     {
         let Ok(at) = search(&self.rows, addr) else {
             return Err(GlobalError::UnknownAddress);
@@ -113,6 +128,71 @@ impl<Options: GlobalTlsfOptions> Locked<Options> {
         let row = self.rows.remove(at);
         self.flex.deallocate(addr, row.1.align());
         Ok(())
+    }
+
+    /// Gives a payload whose layout is the one that was last asked another size, with the same alignment. With `ENABLE_REALLOCATION`
+    /// it is the allocator's reallocation, which leaves the payload where it stands if that can be; without, the payload moves into one
+    /// that is allocated while the old one stands. The bytes that both sizes have are kept.
+    ///
+    /// `UnknownAddress` exactly where the address isn't live, else `WrongLayout` exactly where the layout is another, else `NoRoom`
+    /// exactly where there is no room and no memory came. Then nothing changes. The table needs no room.
+    ///
+    /// The new size is one of a layout with that alignment.
+    pub fn realloc(
+        &mut self,
+        addr: Addr,
+        layout: Layout,
+        new_size: usize,
+    ) -> Result<Addr, GlobalError>
+        requires { IsLayout new_size layout.align }
+        ensures step { HeapReallocatesAs Options.ENABLE_REALLOCATION self.old.heap (at addr) layout new_size result self.new.heap }
+        ensures refused { OnErr result (self.new.memory.bytes ≡ self.old.memory.bytes) }
+        ensures live { IfOk result (λ to. HasLayout self.new.heap (at to) new_size layout.align) }
+        ensures new { IfOk result (λ to. at to ≢ at addr → layout_at self.old.heap (at to) ≡ None) }
+        ensures left { IfOk result (λ to. at to ≢ at addr → layout_at self.new.heap (at addr) ≡ None) }
+        ensures layouts { IfOk result (λ to. (a : ℕ) → a ≢ at addr → a ≢ at to → layout_at self.new.heap a ≡ layout_at self.old.heap a) }
+        ensures contents { IfOk result (λ to. (a : ℕ) → a ≢ at addr → a ≢ at to → content_at self.new.heap a ≡ content_at self.old.heap a) }
+        ensures same { OnErr result (self.new.heap ≡ self.old.heap) }
+    {
+        let Ok(at) = search(&self.rows, addr) else {
+            return Err(GlobalError::UnknownAddress);
+        };
+        if self.rows[at].1 != layout {
+            return Err(GlobalError::WrongLayout);
+        }
+        let wanted = Layout::from_size_align_unchecked(new_size, layout.align());
+        let Some(moved) = resize(&mut self.flex, addr, layout, wanted) else {
+            return Err(GlobalError::NoRoom);
+        };
+        let _ = self.rows.remove(at);
+        place(&mut self.rows, (moved, wanted));
+        Ok(moved)
+    }
+
+    /// Moves a payload into one that is allocated for another layout while the old one stands, with as many of its first bytes as
+    /// both have. The alignment may be another. `UnknownAddress` exactly where the address isn't live, else `NoRoom` exactly where
+    /// there is no room and no memory came. Then nothing changes. The table needs no room.
+    pub fn reallocate(&mut self, addr: Addr, layout: Layout) -> Result<Addr, GlobalError>
+        ensures step { HeapReallocates self.old.heap (at addr) layout result self.new.heap }
+        ensures refused { OnErr result (self.new.memory.bytes ≡ self.old.memory.bytes) }
+        ensures live { IfOk result (λ to. layout_at self.new.heap (at to) ≡ Some layout) }
+        ensures new { IfOk result (λ to. at to ≢ at addr → layout_at self.old.heap (at to) ≡ None) }
+        ensures left { IfOk result (λ to. at to ≢ at addr → layout_at self.new.heap (at addr) ≡ None) }
+        ensures layouts { IfOk result (λ to. (a : ℕ) → a ≢ at addr → a ≢ at to → layout_at self.new.heap a ≡ layout_at self.old.heap a) }
+        ensures contents { IfOk result (λ to. (a : ℕ) → a ≢ at addr → a ≢ at to → content_at self.new.heap a ≡ content_at self.old.heap a) }
+        ensures same { OnErr result (self.new.heap ≡ self.old.heap) }
+    {
+        let Ok(at) = search(&self.rows, addr) else {
+            return Err(GlobalError::UnknownAddress);
+        };
+        let align = self.rows[at].1.align();
+        let keep = layout.size().min(self.flex.allocation_usable_size(addr));
+        let Some(to) = move_away(&mut self.flex, addr, align, keep, layout) else {
+            return Err(GlobalError::NoRoom);
+        };
+        let _ = self.rows.remove(at);
+        place(&mut self.rows, (to, layout));
+        Ok(to)
     }
 
     /// Gives a payload whose layout is the one that was last asked another size where it stands, with the same alignment. The bytes
@@ -129,6 +209,11 @@ impl<Options: GlobalTlsfOptions> Locked<Options> {
         requires { IsLayout new_size layout.align }
         ensures step { HeapReallocatesThere self.old.heap (at addr) layout new_size result self.new.heap }
         ensures refused { OnErr result (self.new.memory.bytes ≡ self.old.memory.bytes) }
+        ensures there { IfOk result (λ to. at to ≡ at addr) }
+        ensures live { IfOk result (λ to. HasLayout self.new.heap (at addr) new_size layout.align) }
+        ensures layouts { IfOk result (λ to. (a : ℕ) → a ≢ at addr → layout_at self.new.heap a ≡ layout_at self.old.heap a) }
+        ensures contents { IfOk result (λ to. (a : ℕ) → a ≢ at addr → content_at self.new.heap a ≡ content_at self.old.heap a) }
+        ensures same { OnErr result (self.new.heap ≡ self.old.heap) }
     {
         let Ok(at) = search(&self.rows, addr) else {
             return Err(GlobalError::UnknownAddress);
@@ -188,6 +273,11 @@ impl<Options: GlobalTlsfOptions> Locked<Options> {
     ) -> Result<(), GlobalError>
         ensures step { HeapWrites self.old.heap (at addr) offset bytes.now result self.new.heap }
         ensures refused { OnErr result (self.new.memory ≡ self.old.memory) }
+        ensures written { OnOk result (content_at self.new.heap (at addr)
+            ≡ splice (content_at self.old.heap (at addr)) offset (offset + length bytes.now) bytes.now) }
+        ensures layouts { layout_at self.new.heap ≡ layout_at self.old.heap }
+        ensures contents { OnOk result ((a : ℕ) → a ≢ at addr → content_at self.new.heap a ≡ content_at self.old.heap a) }
+        ensures same { OnErr result (self.new.heap ≡ self.old.heap) }
     {
         let Ok(_) = search(&self.rows, addr) else {
             return Err(GlobalError::UnknownAddress);

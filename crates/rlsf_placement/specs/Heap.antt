@@ -39,6 +39,10 @@ layout_of r = r.1
 unfoldable pub layout_at : Heap → ℕ → Option Layout
 layout_at h addr = option_map layout_of (row_at addr h.asked)
 
+-- a payload of a layout with this size and this alignment is at the address
+abbrev pub HasLayout : Heap → ℕ → ℕ → ℕ → Type 0
+HasLayout h addr size align = (l : Layout) × (layout_at h addr ≡ Some l) × (l.size ≡ size) × (l.align ≡ align)
+
 -- the bytes of the payload at an address, or none where no payload is
 unfoldable pub content_at : Heap → ℕ → List ℕ
 content_at h addr = bytes_at h.flex.machine addr

@@ -1,3 +1,4 @@
+use Rattle.rlsf_global.proofs.Layouts.{content_at-bytes, layout_at-without_here, layout_at-without_other}
 use Rattle.std.proofs.Common.{Some, Ok, Err, ap, ◌∙◌, subst, sym}
 use Rattle.rlsf_base.specs.Addr.{at}
 use Rattle.rlsf_global.specs.Locked.{heap_of}
@@ -30,3 +31,23 @@ returns-clause-step g c = rw (← c.self.view_is) (
     let gone = released c.self.inside.flex c.self.inside.rows.items c.self.invariant c.deallocate.new.self (at c.args.addr) c.deallocate.ensures.step c.deallocate.ensures.source _
     (c.remove-row.ensures.items ∙ found.taken_out) in
     subst (λ o. DeallocatesAsAt h (at c.args.addr) c.args.layout o (Ok tt) after) (sym row) (deallocates_in h (at c.args.addr) c.args.layout c.index.result.now after (not-false _ c.if-ne.ensures) gone))
+
+pub returns-clause-gone : goal.returns-clause-gone
+returns-clause-gone g c =
+    let found = rw c.deref.ensures.value at c.in-Ok.ensures.found in
+    let before = heap_of c.self.inside.flex c.self.inside.rows.items in
+    let after = heap_of c.deallocate.new.self c.remove-row.new.self.items in
+    layout_at-without_here before after (at c.args.addr) (c.remove-row.ensures.items ∙ found.taken_out)
+
+pub returns-clause-layouts : goal.returns-clause-layouts
+returns-clause-layouts g c = rw (← c.self.view_is) (
+    let found = rw c.deref.ensures.value at c.in-Ok.ensures.found in
+    let before = heap_of c.self.inside.flex c.self.inside.rows.items in
+    let after = heap_of c.deallocate.new.self c.remove-row.new.self.items in
+    layout_at-without_other before after (at c.args.addr) (c.remove-row.ensures.items ∙ found.taken_out))
+
+pub returns-clause-contents : goal.returns-clause-contents
+returns-clause-contents g c = rw (← c.self.view_is) (
+    let before = heap_of c.self.inside.flex c.self.inside.rows.items in
+    let after = heap_of c.deallocate.new.self c.remove-row.new.self.items in
+    λ a off. content_at-bytes before after a a (c.deallocate.ensures.bytes a off))

@@ -1,3 +1,4 @@
+use Rattle.rlsf_global.proofs.Layouts.{content_at-bytes, layout_at-without_here, layout_at-without_other}
 use Rattle.std.proofs.Common.{Ok, refl, ◌∙◌, subst, sym}
 use Rattle.rlsf_base.specs.Addr.{at}
 use Rattle.rlsf_global.specs.Locked.{heap_of}
@@ -18,3 +19,23 @@ returns-clause-step g c = rw (← c.self.view_is) (
     let gone = released c.self.inside.flex c.self.inside.rows.items c.self.invariant c.deallocate.new.self (at c.args.addr) c.deallocate.ensures.step c.deallocate.ensures.source _
     (c.remove-gone.ensures.items ∙ found.taken_out) in
     subst (λ o. DeallocatesAt (heap_of c.self.inside.flex c.self.inside.rows.items) (at c.args.addr) o (Ok tt) (heap_of c.deallocate.new.self c.remove-gone.new.self.items)) (sym there) (refl, gone))
+
+pub returns-clause-gone : goal.returns-clause-gone
+returns-clause-gone g c =
+    let found = rw c.deref.ensures.value at c.in-Ok.ensures.found in
+    let before = heap_of c.self.inside.flex c.self.inside.rows.items in
+    let after = heap_of c.deallocate.new.self c.remove-gone.new.self.items in
+    layout_at-without_here before after (at c.args.addr) (c.remove-gone.ensures.items ∙ found.taken_out)
+
+pub returns-clause-layouts : goal.returns-clause-layouts
+returns-clause-layouts g c = rw (← c.self.view_is) (
+    let found = rw c.deref.ensures.value at c.in-Ok.ensures.found in
+    let before = heap_of c.self.inside.flex c.self.inside.rows.items in
+    let after = heap_of c.deallocate.new.self c.remove-gone.new.self.items in
+    layout_at-without_other before after (at c.args.addr) (c.remove-gone.ensures.items ∙ found.taken_out))
+
+pub returns-clause-contents : goal.returns-clause-contents
+returns-clause-contents g c = rw (← c.self.view_is) (
+    let before = heap_of c.self.inside.flex c.self.inside.rows.items in
+    let after = heap_of c.deallocate.new.self c.remove-gone.new.self.items in
+    λ a off. content_at-bytes before after a a (c.deallocate.ensures.bytes a off))

@@ -1,3 +1,7 @@
+use Rattle.std.proofs.Common.{◌≡◌}
+use Rattle.rlsf_placement.specs.Heap.{layout_at}
+use Rattle.rlsf_global.proofs.MovedPayloads.{same_heap}
+use Rattle.rlsf_global.proofs.Layouts.{content_at-bytes, layout_at-moved_other, layout_at-put_here}
 use Rattle.std.proofs.Common.{◌≡◌, Some, None, Ok, Err, lit<, ap, ◌∙◌, subst, sym}
 use Rattle.rlsf_base.specs.Addr.{at}
 use Rattle.rlsf_global.specs.Locked.{heap_of}
@@ -73,3 +77,32 @@ returns-clause-step g c = rw (← c.self.view_is) (
     let step = resized c.self.inside.flex c.self.inside.rows.items c.self.invariant c.reallocate_no_move.new.self (at c.args.addr) wanted.result did.source c.in-Some.to did.there did.step _ rows in
     subst (λ o. ReallocatesThereAt h (at c.args.addr) c.args.layout c.args.new_size o (Ok c.in-Some.to) after) (sym row)
     (resizes_in h (at c.args.addr) c.args.layout c.args.new_size c.index.result.now wanted.result (Ok c.in-Some.to) after (not-false _ c.if-ne.ensures) wanted.ensures.0 (wanted.ensures.1 ∙ c.align.ensures.value) step))
+
+pub returns-clause-live : goal.returns-clause-live
+returns-clause-live g c =
+    let found = rw c.deref.ensures.value at c.in-Ok.ensures.found in
+    let rows = rw (c.remove.ensures.items, found.taken_out) at c.place.ensures in
+    let wanted = c.from_size_align_unchecked-wanted in
+    let before = heap_of c.self.inside.flex c.self.inside.rows.items in
+    let after = heap_of c.reallocate_no_move.new.self c.place.new.rows.items in
+    let here = layout_at-put_here before after (c.in-Some.to, wanted.result) _ rows in
+    (wanted.result, subst (λ a. layout_at after a ≡ Some wanted.result) c.in-Some.ensures.there here, wanted.ensures.0, wanted.ensures.1 ∙ c.align.ensures.value)
+
+pub returns-clause-layouts : goal.returns-clause-layouts
+returns-clause-layouts g c = rw (← c.self.view_is) (
+    let found = rw c.deref.ensures.value at c.in-Ok.ensures.found in
+    let rows = rw (c.remove.ensures.items, found.taken_out) at c.place.ensures in
+    let before = heap_of c.self.inside.flex c.self.inside.rows.items in
+    let after = heap_of c.reallocate_no_move.new.self c.place.new.rows.items in
+    λ a off. layout_at-moved_other before after (at c.args.addr) (c.in-Some.to, c.from_size_align_unchecked-wanted.result) rows a off (λ same. off (same ∙ c.in-Some.ensures.there)))
+
+pub returns-clause-contents : goal.returns-clause-contents
+returns-clause-contents g c = rw (← c.self.view_is) (
+    let before = heap_of c.self.inside.flex c.self.inside.rows.items in
+    let after = heap_of c.reallocate_no_move.new.self c.place.new.rows.items in
+    λ a off. content_at-bytes before after a a (c.in-Some.ensures.bytes a off))
+
+pub returns-in_default-reallocate_no_move-clause-same : goal.returns-in_default-reallocate_no_move-clause-same
+returns-in_default-reallocate_no_move-clause-same g c = rw (← c.self.view_is) (
+    let did = c.in_default-reallocate_no_move.ensures in
+    same_heap c.self.inside.flex c.reallocate_no_move.new.self c.self.inside.rows.items did.same did.source)

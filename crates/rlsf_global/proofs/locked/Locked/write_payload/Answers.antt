@@ -1,3 +1,4 @@
+use Rattle.rlsf_global.proofs.Layouts.{content_at-bytes, content_at-is, layout_at-row}
 use Rattle.std.proofs.Common.{◌+◌, nat_le, length, Ok, Err, lit<, refl, ap, ◌∙◌, subst, sym}
 use Rattle.std.specs.List.{splice}
 use Rattle.rlsf_base.specs.Addr.{at}
@@ -45,3 +46,27 @@ returns-clause-step g c = rw (← c.self.view_is) (
     let spliced = subst (λ l. Fills h.flex.machine addr l after.state.machine) (c.write_at.ensures.bytes ∙ ap (λ l. splice l offset (offset + length bytes) bytes) did.value) fills in
     subst (λ o. WritesAt h addr offset bytes o (Ok tt) (heap_of after c.self.inside.rows.items)) (sym there)
     (writes_in h addr offset bytes row (heap_of after c.self.inside.rows.items) (c.if-not-fits.ensures ∙ ap (nat_le (offset + length bytes)) c.allocation_usable_size.ensures) (after.state.machine, spliced, leads)))
+
+pub returns-clause-written : goal.returns-clause-written
+returns-clause-written g c = rw (← c.self.view_is) (
+    let addr = at c.args.addr in
+    let bytes = c.args.bytes.now in
+    let w = c.write_at.new.payload in
+    let did = c.payload_mut.ensures in
+    let before = heap_of c.self.inside.flex c.self.inside.rows.items in
+    let after = heap_of (written c.self.inside.flex addr (length c.payload_mut.result.now) w) c.self.inside.rows.items in
+    content_at-is after addr ∙ did.filled w c.write_at.ensures.len ∙ c.write_at.ensures.bytes
+    ∙ ap (λ l. splice l c.args.offset (c.args.offset + length bytes) bytes) (did.value ∙ sym (content_at-is before addr)))
+
+pub returns-clause-layouts : goal.returns-clause-layouts
+returns-clause-layouts g c = rw (← c.self.view_is) (
+    let before = heap_of c.self.inside.flex c.self.inside.rows.items in
+    let after = heap_of (written c.self.inside.flex (at c.args.addr) (length c.payload_mut.result.now) c.write_at.new.payload) c.self.inside.rows.items in
+    λ i a. layout_at-row before after a a refl i)
+
+pub returns-clause-contents : goal.returns-clause-contents
+returns-clause-contents g c = rw (← c.self.view_is) (
+    let w = c.write_at.new.payload in
+    let before = heap_of c.self.inside.flex c.self.inside.rows.items in
+    let after = heap_of (written c.self.inside.flex (at c.args.addr) (length c.payload_mut.result.now) w) c.self.inside.rows.items in
+    λ a off. content_at-bytes before after a a (c.payload_mut.ensures.bytes w a off))

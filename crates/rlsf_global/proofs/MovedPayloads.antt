@@ -1,0 +1,181 @@
+-- A payload moves into another one, or gets another size as the allocator does.
+use Rattle.std.proofs.Common.{◌≡◌, ◌≢◌, ℕ, arith, length, Bool, true, false, List, Some, None, Ok, Err, refl, sym, ◌∙◌, ap, subst, inl, inr}
+use Rattle.std.proofs.lemmas.Bool.{cases_eq}
+use Rattle.std.proofs.lemmas.Option.{none-some}
+use Rattle.std.specs.declared.num.NonZeroUsize.{NonZeroUsize}
+use Rattle.rlsf_base.specs.Addr.{at}
+use Rattle.rlsf_base.specs.Space.{range_of}
+use Rattle.rlsf_base.specs.declared.memory.layout.Layout.{Layout}
+use Rattle.rlsf_flex.specs.StandsFor.{FlexContents, FlexStandsFor, FlexSteps, StepsAlone}
+use Rattle.rlsf_flex.proofs.Standing.{alone_opened, flex_opened}
+use Rattle.rlsf_global.specs.Locked.{IsLocked, heap_of, locked_contents}
+use Rattle.rlsf_global.specs.Pages.{MayOwe}
+use Rattle.rlsf_global.specs.Steps.Moves.{IsMoved, StaysRefused}
+use Rattle.rlsf_global.proofs.Checks.{when_false, when_true}
+use Rattle.rlsf_global.proofs.Maps.{IsServed, Lists-moved, row_at-without_other}
+use Rattle.rlsf_global.proofs.Placements.{no_row, refused_notes}
+use Rattle.rlsf_global.proofs.Resizes.{IsPlaced, none_left}
+use Rattle.rlsf_global.proofs.Rows.{absent-row_at, put-sorted, without-sorted}
+use Rattle.rlsf_machine.specs.Callers.{IsResized, align_at, bytes_at, payload_at}
+use Rattle.rlsf_machine.specs.FlexAllocate.{FlexAllocates}
+use Rattle.rlsf_machine.specs.FlexReallocate.{FlexReallocates}
+use Rattle.rlsf_machine.specs.FlexState.{FlexState, with_machine}
+use Rattle.rlsf_machine.specs.Note.{LeadsBy}
+use Rattle.rlsf_machine.specs.Release.{Deallocates}
+use Rattle.rlsf_machine.specs.Run.{Fills, IsSomeLive, reallocate}
+use Rattle.rlsf_machine.specs.State.{with_front}
+use Rattle.rlsf_machine.proofs.CallerWords.{SeesFilled, align_at-none, filled_seen}
+use Rattle.rlsf_machine.proofs.FlexCallers.{flex_callers_see_map}
+use Rattle.rlsf_placement.specs.declared.error.GlobalError.TheVariants.{NoRoom, WrongLayout}
+use Rattle.rlsf_placement.specs.Cursor.{PageCursor, PageLeads, terms_of}
+use Rattle.rlsf_placement.specs.Heap.{Heap, Lists}
+use Rattle.rlsf_placement.specs.Moves.{MovesAway, ReallocatesAsAt, ReallocatesTo, ResizesTo, Wanted}
+use Rattle.rlsf_placement.specs.Rows.{Row, put, row_at, without}
+use Rattle.rlsf_placement.specs.Steps.{Placed, is_same}
+
+-- ---- the row decides
+
+module _ (enabled : Bool) (h : Heap) (addr : ℕ) (layout : Layout) (n : ℕ) (row : Row) where
+  pub reallocates_in : (wanted : Layout) (result : Placed) (g : Heap) → true ≡ is_same row.1 layout → wanted.size ≡ n → wanted.align ≡ layout.align → ReallocatesTo enabled h addr layout wanted result g
+      → ReallocatesAsAt enabled h addr layout n (Some row) result g
+  reallocates_in wanted result g e size align step =
+      when_true (Wanted n layout.align (λ wanted. ReallocatesTo enabled h addr layout wanted result g)) ((result ≡ Err WrongLayout) × (g ≡ h)) (is_same row.1 layout) e
+      (record { layout = wanted; size = size; align = align; made = step })
+
+  pub reallocates_out : false ≡ is_same row.1 layout → ReallocatesAsAt enabled h addr layout n (Some row) (Err WrongLayout) h
+  reallocates_out e = when_false (Wanted n layout.align (λ wanted. ReallocatesTo enabled h addr layout wanted (Err WrongLayout) h)) (IsPlaced (Err WrongLayout) (Err WrongLayout) × (h ≡ h)) (is_same row.1 layout) e (refl, refl)
+
+-- ---- the table after a move
+
+module _ (f : FlexContents PageCursor) (rows : List Row) (v : IsLocked (locked_contents f rows)) (f' : FlexContents PageCursor) where
+  module _ (addr : ℕ) (wanted : Layout) (to : NonZeroUsize) (is : IsMoved f f' addr wanted (at to)) where
+    -- once the old row is gone, none has the new address
+    pub moved_row : row_at (at to) (without addr rows) ≡ None
+    moved_row = elim (cases_eq (at to) addr) [
+      | inl same ↦ none_left addr (at to) rows same
+      | inr other ↦ row_at-without_other addr rows (at to) other ∙ no_row f rows v (at to) (is.new other)
+    ]
+
+    pub moved_locked : (rows' : List Row) → rows' ≡ put (to, wanted) (without addr rows) → IsLocked (locked_contents f' rows')
+    moved_locked rows' now = subst (λ l. IsLocked (locked_contents f' l)) (sym now) (record {
+      flex = is.stands;
+      sorted = put-sorted (to, wanted) (without addr rows) (without-sorted addr rows v.sorted) (absent-row_at (at to) (without addr rows) moved_row);
+      lists = Lists-moved rows f.state.machine f'.state.machine v.lists addr (to, wanted) (record { live = is.live; sized = is.sized; few = is.few }) is.left is.aligns is.bytes;
+    })
+
+  pub refused_locked : StaysRefused f f' → IsLocked (locked_contents f' rows)
+  refused_locked is = record { flex = is.stands; sorted = v.sorted; lists = subst (λ (s : FlexState). Lists rows s.machine) (sym is.state) v.lists }
+
+-- ---- nothing came of it
+
+-- heaps that have the same state and the same cursor are the same
+pub same_heap : (f f' : FlexContents PageCursor) (rows : List Row) → f'.state ≡ f.state → f'.source ≡ f.source → heap_of f' rows ≡ heap_of f rows
+same_heap f f' rows same stays =
+    ap (λ (s : FlexState). record { flex = s; source = f'.source; asked = rows }) same ∙ ap (λ (x : PageCursor). record { flex = f.state; source = x; asked = rows }) stays
+
+module _ (f f' : FlexContents PageCursor) (same : f'.state ≡ f.state) (kept : f'.memory.bytes ≡ f.memory.bytes) where
+  pub not_allocated_stays : (size align : ℕ) → FlexSteps 64 64 terms_of MayOwe PageLeads f f' (FlexAllocates 64 64 (terms_of f.source) f.state size align None) → StaysRefused f f'
+  not_allocated_stays size align steps =
+      let (notes, step, led, outside, stands) = flex_opened f f' (FlexAllocates 64 64 (terms_of f.source) f.state size align None) steps in
+      record { stands = stands; state = same; source = refused_notes f.source f'.source _ _ (subst (λ ns. LeadsBy PageLeads f.source ns f'.source) step.extends.asked led); bytes = kept }
+
+  pub not_moved : (addr keep : ℕ) (wanted : Layout) → FlexSteps 64 64 terms_of MayOwe PageLeads f f' (FlexAllocates 64 64 (terms_of f.source) f.state wanted.size wanted.align None) → (rows : List Row)
+      → MovesAway (heap_of f rows) addr keep wanted (Err NoRoom) (heap_of f' rows)
+  not_moved addr keep wanted steps rows =
+      let (notes, step, led, outside, stands) = flex_opened f f' (FlexAllocates 64 64 (terms_of f.source) f.state wanted.size wanted.align None) steps in
+      let stays = refused_notes f.source f'.source _ _ (subst (λ ns. LeadsBy PageLeads f.source ns f'.source) step.extends.asked led) in
+      let here = subst (λ (x : FlexState). FlexAllocates 64 64 (terms_of f.source) f.state wanted.size wanted.align None notes x) same step in
+      ((notes, here, subst (λ (y : PageCursor). LeadsBy PageLeads f.source notes y) stays led), same_heap f f' rows same stays)
+
+  pub not_reallocated_stays : (addr size : ℕ) → FlexSteps 64 64 terms_of MayOwe PageLeads f f' (FlexReallocates 64 64 (terms_of f.source) f.state addr size None) → StaysRefused f f'
+  not_reallocated_stays addr size steps =
+      let (notes, step, led, outside, stands) = flex_opened f f' (FlexReallocates 64 64 (terms_of f.source) f.state addr size None) steps in
+      record { stands = stands; state = same; source = refused_notes f.source f'.source _ _ (subst (λ ns. LeadsBy PageLeads f.source ns f'.source) step.asks.extends.asked led); bytes = kept }
+
+  pub not_reallocated : (addr : ℕ) (wanted : Layout) → FlexSteps 64 64 terms_of MayOwe PageLeads f f' (FlexReallocates 64 64 (terms_of f.source) f.state addr wanted.size None) → (rows : List Row)
+      → ResizesTo (heap_of f rows) addr wanted (Err NoRoom) (heap_of f' rows)
+  not_reallocated addr wanted steps rows =
+      let (notes, step, led, outside, stands) = flex_opened f f' (FlexReallocates 64 64 (terms_of f.source) f.state addr wanted.size None) steps in
+      let stays = refused_notes f.source f'.source _ _ (subst (λ ns. LeadsBy PageLeads f.source ns f'.source) step.asks.extends.asked led) in
+      let here = subst (λ (x : FlexState). FlexReallocates 64 64 (terms_of f.source) f.state addr wanted.size None notes x) same step in
+      ((notes, here, subst (λ (y : PageCursor). LeadsBy PageLeads f.source notes y) stays led), same_heap f f' rows same stays)
+
+-- ---- the allocator's own reallocation
+
+module _ (f f' : FlexContents PageCursor) (addr : ℕ) (wanted : Layout) (to : NonZeroUsize)
+    (steps : FlexSteps 64 64 terms_of MayOwe PageLeads f f' (FlexReallocates 64 64 (terms_of f.source) f.state addr wanted.size (Some (at to)))) where
+  pub reallocated : (rows : List Row) → ResizesTo (heap_of f rows) addr wanted (Ok to) (heap_of f' (put (to, wanted) (without addr rows)))
+  reallocated rows =
+      let (notes, step, led, outside, stands) = flex_opened f f' (FlexReallocates 64 64 (terms_of f.source) f.state addr wanted.size (Some (at to))) steps in
+      ((notes, step, led), refl)
+
+  pub reallocated_stands : FlexStandsFor 64 64 terms_of MayOwe f'
+  reallocated_stands =
+      let (notes, step, led, outside, stands) = flex_opened f f' (FlexReallocates 64 64 (terms_of f.source) f.state addr wanted.size (Some (at to))) steps in
+      stands
+
+  -- where it moved, no payload is at the old address
+  pub reallocated_left : FlexStandsFor 64 64 terms_of MayOwe f → IsSomeLive f.state.machine addr → at to ≢ addr → align_at f'.state.machine addr ≡ None
+  reallocated_left stood live apart =
+      let (notes, step, led, outside, stands) = flex_opened f f' (FlexReallocates 64 64 (terms_of f.source) f.state addr wanted.size (Some (at to))) steps in
+      let is : IsResized (payload_at f.state.machine) addr wanted.size (at to) (payload_at f'.state.machine) =
+      flex_callers_see_map 64 64 (terms_of f.source) (range_of f.memory) (range_of f'.memory) f.state f'.state (reallocate addr wanted.size (Some (at to))) notes stood.well_formed.machine stands.well_formed.machine live step in
+      align_at-none f'.state.machine addr (is.left apart)
+
+-- ---- a payload that moves into another
+
+module _ (f m k e : FlexContents PageCursor) (addr keep : ℕ) (wanted : Layout) (to : NonZeroUsize)
+    (takes : FlexSteps 64 64 terms_of MayOwe PageLeads f m (FlexAllocates 64 64 (terms_of f.source) f.state wanted.size wanted.align (Some (at to))))
+    (copies : StepsAlone 64 64 terms_of MayOwe m k (Fills m.state.machine (at to) (with_front keep (bytes_at m.state.machine addr) (bytes_at m.state.machine (at to)))))
+    (frees : StepsAlone 64 64 terms_of MayOwe k e (Deallocates k.state.machine addr)) where
+  pub moved_away : k.source ≡ m.source → e.source ≡ k.source → (rows : List Row) → MovesAway (heap_of f rows) addr keep wanted (Ok to) (heap_of e (put (to, wanted) (without addr rows)))
+  moved_away copy_stays free_stays rows =
+      let (notes, step, led, outside, stands) = flex_opened f m (FlexAllocates 64 64 (terms_of f.source) f.state wanted.size wanted.align (Some (at to))) takes in
+      let (fills, copied, stands2, spare2) = alone_opened m k (Fills m.state.machine (at to) (with_front keep (bytes_at m.state.machine addr) (bytes_at m.state.machine (at to)))) copies in
+      let (gone, freed, stands3, spare3) = alone_opened k e (Deallocates k.state.machine addr) frees in (
+        record {
+          meanwhile = m.state;
+          takes = (notes, step, subst (λ (y : PageCursor). LeadsBy PageLeads f.source notes y) (sym (free_stays ∙ copy_stays)) led);
+          copied = k.state.machine;
+          copies = fills;
+          freed = e.state.machine;
+          frees = gone;
+          after = freed ∙ ap (λ (s : FlexState). with_machine s e.state.machine) copied;
+        },
+        refl,
+      )
+
+  -- the copy changes no length
+  copied_length : (a : ℕ) → length (bytes_at k.state.machine a) ≡ length (bytes_at m.state.machine a)
+  copied_length a =
+      let bytes = with_front keep (bytes_at m.state.machine addr) (bytes_at m.state.machine (at to)) in
+      let (notes, step, led, outside, stands) = flex_opened f m (FlexAllocates 64 64 (terms_of f.source) f.state wanted.size wanted.align (Some (at to))) takes in
+      let (fills, copied, stands2, spare2) = alone_opened m k (Fills m.state.machine (at to) bytes) copies in
+      let seen : SeesFilled m.state.machine k.state.machine (at to) bytes = filled_seen stands.well_formed.machine k.state.machine (at to) bytes fills in
+      seen.lengths a
+
+  freed_stands : FlexStandsFor 64 64 terms_of MayOwe e
+  freed_stands = let (gone, freed, stands3, spare3) = alone_opened k e (Deallocates k.state.machine addr) frees in stands3
+
+  module _ (align : ℕ) (live : align_at f.state.machine addr ≡ Some align) (new : align_at f.state.machine (at to) ≡ None) where
+    pub to_other : at to ≢ addr
+    to_other same = none-some align (sym new ∙ ap (align_at f.state.machine) same ∙ live)
+
+    pub moved_away_seen : IsServed m.state.machine (at to) wanted
+        → ((a : ℕ) → a ≢ at to → align_at m.state.machine a ≡ align_at f.state.machine a) → ((a : ℕ) → a ≢ at to → bytes_at m.state.machine a ≡ bytes_at f.state.machine a)
+        → align_at k.state.machine ≡ align_at m.state.machine → ((a : ℕ) → a ≢ at to → bytes_at k.state.machine a ≡ bytes_at m.state.machine a)
+        → align_at e.state.machine addr ≡ None
+        → ((a : ℕ) → a ≢ addr → align_at e.state.machine a ≡ align_at k.state.machine a) → ((a : ℕ) → a ≢ addr → bytes_at e.state.machine a ≡ bytes_at k.state.machine a)
+        → IsMoved f e addr wanted (at to)
+    moved_away_seen is aligns bytes copy_aligns copy_bytes gone free_aligns free_bytes =
+        let long : length (bytes_at e.state.machine (at to)) ≡ length (bytes_at m.state.machine (at to)) = ap length (free_bytes (at to) to_other) ∙ copied_length (at to) in
+        record {
+          stands = freed_stands;
+          live = free_aligns (at to) to_other ∙ ap (λ g. g (at to)) copy_aligns ∙ is.live;
+          sized = omega (arith, is.sized, long);
+          few = omega (arith, is.few, long);
+          new = λ apart. new;
+          left = λ apart. gone;
+          aligns = λ a off off_to. free_aligns a off ∙ ap (λ g. g a) copy_aligns ∙ aligns a off_to;
+          bytes = λ a off off_to. free_bytes a off ∙ copy_bytes a off_to ∙ bytes a off_to;
+        }

@@ -1,0 +1,114 @@
+use Rattle.rlsf_global.proofs.Layouts.{content_at-bytes, layout_at-moved_left, layout_at-moved_other, layout_at-none, layout_at-put_here}
+use Rattle.std.proofs.Common.{◌≡◌, ◌≤◌, length, Some, None, Ok, Err, lit<, ap, ◌∙◌, subst, sym}
+use Rattle.rlsf_base.specs.Addr.{at}
+use Rattle.rlsf_global.specs.Locked.{heap_of}
+use Rattle.rlsf_global.proofs.Checks.{same_align, same_size}
+use Rattle.rlsf_global.proofs.MovedPayloads.{moved_locked, moved_row, same_heap, reallocates_in, reallocates_out}
+use Rattle.rlsf_global.proofs.Placements.{live_row, no_row, row_sized}
+use Rattle.rlsf_global.proofs.Results.{not-false, not-true}
+use Rattle.rlsf_global.proofs.Rows.{without-sorted}
+use Rattle.rlsf_machine.specs.Callers.{bytes_at}
+use Rattle.rlsf_placement.specs.declared.error.GlobalError.TheVariants.{NoRoom, WrongLayout}
+use Rattle.rlsf_placement.specs.Moves.{ReallocatesAsAt, ReallocatesTo}
+use Rattle.rlsf_placement.specs.Rows.{IsSorted, row_at}
+use Rattle.rlsf_global.proofs.locked.Locked.realloc.Goals as goal
+
+pub returns-then-ne-clause-step : goal.returns-then-ne-clause-step
+returns-then-ne-clause-step g c = rw (← c.self.view_is) (
+    let h = heap_of c.self.inside.flex c.self.inside.rows.items in
+    let found = rw c.deref.ensures.value at c.in-Ok.ensures.found in
+    let row = found.row c.index.result.now ∙ ap Some (sym c.index.ensures) in
+    let enabled = g.Options.GlobalTlsfOptions.ENABLE_REALLOCATION in
+    subst (λ o. ReallocatesAsAt enabled h (at c.args.addr) c.args.layout c.args.new_size o (Err WrongLayout) h) (sym row)
+    (reallocates_out enabled h (at c.args.addr) c.args.layout c.args.new_size c.index.result.now (not-true _ c.if-ne.ensures)))
+
+pub resize-requires : goal.resize-requires
+resize-requires g c =
+    let found = rw c.deref.ensures.value at c.in-Ok.ensures.found in
+    let row = found.row c.index.result.now ∙ ap Some (sym c.index.ensures) in
+    let same = not-false _ c.if-ne.ensures in
+    let live = live_row c.self.inside.flex c.self.inside.rows.items c.self.invariant (at c.args.addr) c.index.result.now row ∙ ap Some (same_align c.index.result.now.1 c.args.layout same) in
+    let sized = subst (λ n. n ≤ length (bytes_at c.self.inside.flex.state.machine (at c.args.addr))) (same_size c.index.result.now.1 c.args.layout same) (row_sized c.self.inside.flex c.self.inside.rows.items c.self.invariant (at c.args.addr) c.index.result.now row) in
+    (lit< tt, (live, (sized, (c.from_size_align_unchecked-wanted.ensures.1 ∙ c.align.ensures.value, c.self.invariant.flex))))
+
+pub returns-in_default-resize-clause-step : goal.returns-in_default-resize-clause-step
+returns-in_default-resize-clause-step g c = rw (← c.self.view_is) (
+    let h = heap_of c.self.inside.flex c.self.inside.rows.items in
+    let after = heap_of c.resize.new.flex c.self.inside.rows.items in
+    let found = rw c.deref.ensures.value at c.in-Ok.ensures.found in
+    let row = found.row c.index.result.now ∙ ap Some (sym c.index.ensures) in
+    let wanted = c.from_size_align_unchecked-wanted in
+    let enabled = g.Options.GlobalTlsfOptions.ENABLE_REALLOCATION in
+    subst (λ o. ReallocatesAsAt enabled h (at c.args.addr) c.args.layout c.args.new_size o (Err NoRoom) after) (sym row)
+    (reallocates_in enabled h (at c.args.addr) c.args.layout c.args.new_size c.index.result.now wanted.result (Err NoRoom) after (not-false _ c.if-ne.ensures) wanted.ensures.0 (wanted.ensures.1 ∙ c.align.ensures.value)
+    (c.in_default-resize.ensures.none c.self.inside.rows.items)))
+
+pub place-requires-clause-sorted : goal.place-requires-clause-sorted
+place-requires-clause-sorted g c =
+    let found = rw c.deref.ensures.value at c.in-Ok.ensures.found in
+    subst IsSorted (sym (c.remove.ensures.items ∙ found.taken_out)) (without-sorted (at c.args.addr) c.self.inside.rows.items c.self.invariant.sorted)
+
+pub place-requires-clause-fresh : goal.place-requires-clause-fresh
+place-requires-clause-fresh g c =
+    let found = rw c.deref.ensures.value at c.in-Ok.ensures.found in
+    subst (λ l. row_at (at c.in-Some.moved) l ≡ None) (sym (c.remove.ensures.items ∙ found.taken_out))
+    (moved_row c.self.inside.flex c.self.inside.rows.items c.self.invariant c.resize.new.flex (at c.args.addr) c.from_size_align_unchecked-wanted.result c.in-Some.moved c.in-Some.ensures.moved)
+
+pub invariant_of-self-2 : goal.invariant_of-self-2
+invariant_of-self-2 g c =
+    let found = rw c.deref.ensures.value at c.in-Ok.ensures.found in
+    let rows = rw (c.remove.ensures.items, found.taken_out) at c.place.ensures in
+    moved_locked c.self.inside.flex c.self.inside.rows.items c.self.invariant c.resize.new.flex (at c.args.addr) c.from_size_align_unchecked-wanted.result c.in-Some.moved c.in-Some.ensures.moved _ rows
+
+pub returns-clause-step : goal.returns-clause-step
+returns-clause-step g c = rw (← c.self.view_is) (
+    let h = heap_of c.self.inside.flex c.self.inside.rows.items in
+    let after = heap_of c.resize.new.flex c.place.new.rows.items in
+    let found = rw c.deref.ensures.value at c.in-Ok.ensures.found in
+    let row = found.row c.index.result.now ∙ ap Some (sym c.index.ensures) in
+    let rows = rw (c.remove.ensures.items, found.taken_out) at c.place.ensures in
+    let wanted = c.from_size_align_unchecked-wanted in
+    let enabled = g.Options.GlobalTlsfOptions.ENABLE_REALLOCATION in
+    let step = subst (λ l. ReallocatesTo enabled h (at c.args.addr) c.args.layout wanted.result (Ok c.in-Some.moved) (heap_of c.resize.new.flex l)) (sym rows) (c.in-Some.ensures.step c.self.inside.rows.items) in
+    subst (λ o. ReallocatesAsAt enabled h (at c.args.addr) c.args.layout c.args.new_size o (Ok c.in-Some.moved) after) (sym row)
+    (reallocates_in enabled h (at c.args.addr) c.args.layout c.args.new_size c.index.result.now wanted.result (Ok c.in-Some.moved) after (not-false _ c.if-ne.ensures) wanted.ensures.0 (wanted.ensures.1 ∙ c.align.ensures.value) step))
+
+pub returns-clause-live : goal.returns-clause-live
+returns-clause-live g c =
+    let found = rw c.deref.ensures.value at c.in-Ok.ensures.found in
+    let rows = rw (c.remove.ensures.items, found.taken_out) at c.place.ensures in
+    let before = heap_of c.self.inside.flex c.self.inside.rows.items in
+    let after = heap_of c.resize.new.flex c.place.new.rows.items in
+    (c.from_size_align_unchecked-wanted.result, layout_at-put_here before after (c.in-Some.moved, c.from_size_align_unchecked-wanted.result) _ rows, c.from_size_align_unchecked-wanted.ensures.0, c.from_size_align_unchecked-wanted.ensures.1 ∙ c.align.ensures.value)
+
+pub returns-clause-new : goal.returns-clause-new
+returns-clause-new g c = rw (← c.self.view_is) (
+    let before = heap_of c.self.inside.flex c.self.inside.rows.items in
+    λ off. layout_at-none before (at c.in-Some.moved) (no_row c.self.inside.flex c.self.inside.rows.items c.self.invariant (at c.in-Some.moved) (c.in-Some.ensures.moved.new off)))
+
+pub returns-clause-left : goal.returns-clause-left
+returns-clause-left g c =
+    let found = rw c.deref.ensures.value at c.in-Ok.ensures.found in
+    let rows = rw (c.remove.ensures.items, found.taken_out) at c.place.ensures in
+    let before = heap_of c.self.inside.flex c.self.inside.rows.items in
+    let after = heap_of c.resize.new.flex c.place.new.rows.items in
+    λ off. layout_at-moved_left before after (at c.args.addr) (c.in-Some.moved, c.from_size_align_unchecked-wanted.result) rows off
+
+pub returns-clause-layouts : goal.returns-clause-layouts
+returns-clause-layouts g c = rw (← c.self.view_is) (
+    let found = rw c.deref.ensures.value at c.in-Ok.ensures.found in
+    let rows = rw (c.remove.ensures.items, found.taken_out) at c.place.ensures in
+    let before = heap_of c.self.inside.flex c.self.inside.rows.items in
+    let after = heap_of c.resize.new.flex c.place.new.rows.items in
+    layout_at-moved_other before after (at c.args.addr) (c.in-Some.moved, c.from_size_align_unchecked-wanted.result) rows)
+
+pub returns-clause-contents : goal.returns-clause-contents
+returns-clause-contents g c = rw (← c.self.view_is) (
+    let before = heap_of c.self.inside.flex c.self.inside.rows.items in
+    let after = heap_of c.resize.new.flex c.place.new.rows.items in
+    λ a off off_to. content_at-bytes before after a a (c.in-Some.ensures.moved.bytes a off off_to))
+
+pub returns-in_default-resize-clause-same : goal.returns-in_default-resize-clause-same
+returns-in_default-resize-clause-same g c = rw (← c.self.view_is) (
+    let stays = c.in_default-resize.ensures.refused in
+    same_heap c.self.inside.flex c.resize.new.flex c.self.inside.rows.items stays.state stays.source)

@@ -1,0 +1,100 @@
+use Rattle.rlsf_global.proofs.Layouts.{content_at-bytes, layout_at-moved_left, layout_at-moved_other, layout_at-none, layout_at-put_here}
+use Rattle.std.proofs.Common.{◌≡◌, arith, min, Some, None, Ok, Err, lit<, ap, ◌∙◌, subst, sym}
+use Rattle.rlsf_base.specs.Addr.{at}
+use Rattle.rlsf_global.specs.Locked.{heap_of}
+use Rattle.rlsf_global.proofs.MovedPayloads.{moved_locked, moved_row, same_heap}
+use Rattle.rlsf_global.proofs.Placements.{live_here, live_row, no_row}
+use Rattle.rlsf_global.proofs.Rows.{without-sorted}
+use Rattle.rlsf_placement.specs.declared.error.GlobalError.TheVariants.{NoRoom}
+use Rattle.rlsf_placement.specs.Moves.{MovesAway, ReallocatesAt}
+use Rattle.rlsf_placement.specs.Rows.{IsSorted, row_at}
+use Rattle.rlsf_global.proofs.locked.Locked.reallocate.Goals as goal
+
+pub allocation_usable_size-requires : goal.allocation_usable_size-requires
+allocation_usable_size-requires g c = (lit< tt, live_here c.self.inside.flex c.self.inside.rows.items c.self.invariant (at c.args.addr) _ (rw c.deref.ensures.value at c.in-Ok.ensures.found))
+
+pub move_away-requires : goal.move_away-requires
+move_away-requires g c =
+    let found = rw c.deref.ensures.value at c.in-Ok.ensures.found in
+    let row = found.row c.index.result.now ∙ ap Some (sym c.index.ensures) in
+    let live = live_row c.self.inside.flex c.self.inside.rows.items c.self.invariant (at c.args.addr) c.index.result.now row ∙ ap Some (sym c.align-align.ensures.value) in
+    (lit< tt, (live, (omega (arith, c.min-keep.ensures, c.allocation_usable_size.ensures), omega (arith, c.min-keep.ensures, c.size.ensures.value))))
+
+pub returns-in_default-move_away-clause-step : goal.returns-in_default-move_away-clause-step
+returns-in_default-move_away-clause-step g c = rw (← c.self.view_is) (
+    let h = heap_of c.self.inside.flex c.self.inside.rows.items in
+    let after = heap_of c.move_away.new.flex c.self.inside.rows.items in
+    let found = rw c.deref.ensures.value at c.in-Ok.ensures.found in
+    let row = found.row c.index.result.now ∙ ap Some (sym c.index.ensures) in
+    let keep = c.min-keep.ensures ∙ ap (λ n. min n c.allocation_usable_size.result) c.size.ensures.value ∙ ap (min c.args.layout.size) c.allocation_usable_size.ensures in
+    subst (λ o. ReallocatesAt h (at c.args.addr) c.args.layout o (Err NoRoom) after) (sym row)
+    (subst (λ n. MovesAway h (at c.args.addr) n c.args.layout (Err NoRoom) after) keep (c.in_default-move_away.ensures.none c.self.inside.rows.items)))
+
+pub place-requires-clause-sorted : goal.place-requires-clause-sorted
+place-requires-clause-sorted g c =
+    let found = rw c.deref.ensures.value at c.in-Ok.ensures.found in
+    subst IsSorted (sym (c.remove.ensures.items ∙ found.taken_out)) (without-sorted (at c.args.addr) c.self.inside.rows.items c.self.invariant.sorted)
+
+pub place-requires-clause-fresh : goal.place-requires-clause-fresh
+place-requires-clause-fresh g c =
+    let found = rw c.deref.ensures.value at c.in-Ok.ensures.found in
+    subst (λ l. row_at (at c.in-Some.to) l ≡ None) (sym (c.remove.ensures.items ∙ found.taken_out))
+    (moved_row c.self.inside.flex c.self.inside.rows.items c.self.invariant c.move_away.new.flex (at c.args.addr) c.args.layout c.in-Some.to c.in-Some.ensures.moved)
+
+pub invariant_of-self-2 : goal.invariant_of-self-2
+invariant_of-self-2 g c =
+    let found = rw c.deref.ensures.value at c.in-Ok.ensures.found in
+    let rows = rw (c.remove.ensures.items, found.taken_out) at c.place.ensures in
+    moved_locked c.self.inside.flex c.self.inside.rows.items c.self.invariant c.move_away.new.flex (at c.args.addr) c.args.layout c.in-Some.to c.in-Some.ensures.moved _ rows
+
+pub returns-clause-step : goal.returns-clause-step
+returns-clause-step g c = rw (← c.self.view_is) (
+    let h = heap_of c.self.inside.flex c.self.inside.rows.items in
+    let after = heap_of c.move_away.new.flex c.place.new.rows.items in
+    let found = rw c.deref.ensures.value at c.in-Ok.ensures.found in
+    let row = found.row c.index.result.now ∙ ap Some (sym c.index.ensures) in
+    let rows = rw (c.remove.ensures.items, found.taken_out) at c.place.ensures in
+    let keep = c.min-keep.ensures ∙ ap (λ n. min n c.allocation_usable_size.result) c.size.ensures.value ∙ ap (min c.args.layout.size) c.allocation_usable_size.ensures in
+    let step = subst (λ l. MovesAway h (at c.args.addr) c.min-keep.result c.args.layout (Ok c.in-Some.to) (heap_of c.move_away.new.flex l)) (sym rows) (c.in-Some.ensures.step c.self.inside.rows.items) in
+    subst (λ o. ReallocatesAt h (at c.args.addr) c.args.layout o (Ok c.in-Some.to) after) (sym row)
+    (subst (λ n. MovesAway h (at c.args.addr) n c.args.layout (Ok c.in-Some.to) after) keep step))
+
+pub returns-clause-live : goal.returns-clause-live
+returns-clause-live g c =
+    let found = rw c.deref.ensures.value at c.in-Ok.ensures.found in
+    let rows = rw (c.remove.ensures.items, found.taken_out) at c.place.ensures in
+    let before = heap_of c.self.inside.flex c.self.inside.rows.items in
+    let after = heap_of c.move_away.new.flex c.place.new.rows.items in
+    layout_at-put_here before after (c.in-Some.to, c.args.layout) _ rows
+
+pub returns-clause-new : goal.returns-clause-new
+returns-clause-new g c = rw (← c.self.view_is) (
+    let before = heap_of c.self.inside.flex c.self.inside.rows.items in
+    λ off. layout_at-none before (at c.in-Some.to) (no_row c.self.inside.flex c.self.inside.rows.items c.self.invariant (at c.in-Some.to) (c.in-Some.ensures.moved.new off)))
+
+pub returns-clause-left : goal.returns-clause-left
+returns-clause-left g c =
+    let found = rw c.deref.ensures.value at c.in-Ok.ensures.found in
+    let rows = rw (c.remove.ensures.items, found.taken_out) at c.place.ensures in
+    let before = heap_of c.self.inside.flex c.self.inside.rows.items in
+    let after = heap_of c.move_away.new.flex c.place.new.rows.items in
+    λ off. layout_at-moved_left before after (at c.args.addr) (c.in-Some.to, c.args.layout) rows off
+
+pub returns-clause-layouts : goal.returns-clause-layouts
+returns-clause-layouts g c = rw (← c.self.view_is) (
+    let found = rw c.deref.ensures.value at c.in-Ok.ensures.found in
+    let rows = rw (c.remove.ensures.items, found.taken_out) at c.place.ensures in
+    let before = heap_of c.self.inside.flex c.self.inside.rows.items in
+    let after = heap_of c.move_away.new.flex c.place.new.rows.items in
+    layout_at-moved_other before after (at c.args.addr) (c.in-Some.to, c.args.layout) rows)
+
+pub returns-clause-contents : goal.returns-clause-contents
+returns-clause-contents g c = rw (← c.self.view_is) (
+    let before = heap_of c.self.inside.flex c.self.inside.rows.items in
+    let after = heap_of c.move_away.new.flex c.place.new.rows.items in
+    λ a off off_to. content_at-bytes before after a a (c.in-Some.ensures.moved.bytes a off off_to))
+
+pub returns-in_default-move_away-clause-same : goal.returns-in_default-move_away-clause-same
+returns-in_default-move_away-clause-same g c = rw (← c.self.view_is) (
+    let stays = c.in_default-move_away.ensures.refused in
+    same_heap c.self.inside.flex c.move_away.new.flex c.self.inside.rows.items stays.state stays.source)

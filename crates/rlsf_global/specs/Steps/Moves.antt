@@ -1,0 +1,25 @@
+-- A payload that gets another size, as callers see it.
+use Rattle.std.specs.Prelude.{◌≡◌, ◌≢◌, ℕ, ◌+◌, ◌≤◌, ◌<◌, length, Some, None}
+use Rattle.rlsf_base.specs.declared.memory.layout.Layout.{Layout}
+use Rattle.rlsf_flex.specs.StandsFor.{FlexContents, FlexStandsFor}
+use Rattle.rlsf_global.specs.Pages.{MayOwe}
+use Rattle.rlsf_machine.specs.Callers.{align_at, bytes_at}
+use Rattle.rlsf_placement.specs.Cursor.{PageCursor, terms_of}
+
+-- the payload at an address is now at another, or at its own, and serves a layout there; all others stay
+pub record IsMoved (before after : FlexContents PageCursor) (addr : ℕ) (wanted : Layout) (to : ℕ) : Type 0 where
+  pub stands : FlexStandsFor 64 64 terms_of MayOwe after
+  pub live : align_at after.state.machine to ≡ Some wanted.align
+  pub sized : wanted.size ≤ length (bytes_at after.state.machine to)
+  pub few : length (bytes_at after.state.machine to) < wanted.size + 32
+  pub new : to ≢ addr → align_at before.state.machine to ≡ None
+  pub left : to ≢ addr → align_at after.state.machine addr ≡ None
+  pub aligns : (a : ℕ) → a ≢ addr → a ≢ to → align_at after.state.machine a ≡ align_at before.state.machine a
+  pub bytes : (a : ℕ) → a ≢ addr → a ≢ to → bytes_at after.state.machine a ≡ bytes_at before.state.machine a
+
+-- nothing changed
+pub record StaysRefused (before after : FlexContents PageCursor) : Type 0 where
+  pub stands : FlexStandsFor 64 64 terms_of MayOwe after
+  pub state : after.state ≡ before.state
+  pub source : after.source ≡ before.source
+  pub bytes : after.memory.bytes ≡ before.memory.bytes

@@ -1,0 +1,71 @@
+//! Payloads that get another size, where they stand or elsewhere.
+
+ghost use Rattle.std.specs.Prelude.{◌≡◌, ◌≤◌, List, Ok, Err, Some, IfNone, IfSome, length};
+ghost use Rattle.rlsf_base.specs.Addr.{at};
+ghost use Rattle.rlsf_flex.specs.StandsFor.{FlexStandsFor};
+ghost use Rattle.rlsf_global.specs.Locked.{heap_of};
+ghost use Rattle.rlsf_global.specs.Pages.{MayOwe};
+ghost use Rattle.rlsf_global.specs.Steps.Moves.{IsMoved, StaysRefused};
+ghost use Rattle.rlsf_machine.specs.Callers.{align_at, bytes_at};
+ghost use Rattle.rlsf_placement.specs.declared.error.GlobalError.TheVariants.{NoRoom};
+ghost use Rattle.rlsf_placement.specs.Cursor.{terms_of};
+ghost use Rattle.rlsf_placement.specs.Moves.{MovesAway, ReallocatesTo};
+ghost use Rattle.rlsf_placement.specs.Rows.{Row, put, without};
+
+use crate::options::GlobalTlsfOptions;
+use crate::pages::Source;
+use rlsf_base::memory::{Addr, Layout};
+use rlsf_flex::FlexTlsf;
+
+/// The allocator over the page source.
+pub(crate) type PagedTlsf<Options> = FlexTlsf<Source<Options>, usize, usize, 64, 64>;
+
+/// Moves a payload into one that is allocated for a layout while the old one stands, with its first `keep` bytes, and gives the old
+/// one back.
+pub(crate) fn move_away<Options: GlobalTlsfOptions>(
+    flex: &mut PagedTlsf<Options>,
+    addr: Addr,
+    align: usize,
+    keep: usize,
+    wanted: Layout,
+) -> Option<Addr>
+    requires live { align_at flex.old.state.machine (at addr) ≡ Some align }
+    requires old { keep ≤ length (bytes_at flex.old.state.machine (at addr)) }
+    requires new { keep ≤ wanted.size }
+    ensures step { IfSome result (λ to. (rows : List Row) → MovesAway (heap_of flex.old rows) (at addr) keep wanted (Ok to)
+        (heap_of flex.new (put (to, wanted) (without (at addr) rows)))) }
+    ensures moved { IfSome result (λ to. IsMoved flex.old flex.new (at addr) wanted (at to)) }
+    ensures none { IfNone result ((rows : List Row) → MovesAway (heap_of flex.old rows) (at addr) keep wanted (Err NoRoom) (heap_of flex.new rows)) }
+    ensures refused { IfNone result (StaysRefused flex.old flex.new) }
+{
+    let to = flex.allocate(wanted)?;
+    flex.copy_payload(addr, to, keep);
+    flex.deallocate(addr, align);
+    Some(to)
+}
+
+/// Gives a payload of a layout another size: as the allocator does, or, where that isn't enabled, in another payload.
+pub(crate) fn resize<Options: GlobalTlsfOptions>(
+    flex: &mut PagedTlsf<Options>,
+    addr: Addr,
+    layout: Layout,
+    wanted: Layout,
+) -> Option<Addr>
+    requires live { align_at flex.old.state.machine (at addr) ≡ Some layout.align }
+    requires sized { layout.size ≤ length (bytes_at flex.old.state.machine (at addr)) }
+    requires aligned { wanted.align ≡ layout.align }
+    requires stands { FlexStandsFor 64 64 terms_of MayOwe flex.old }
+    ensures step { IfSome result (λ to. (rows : List Row) → ReallocatesTo Options.ENABLE_REALLOCATION (heap_of flex.old rows) (at addr) layout wanted (Ok to)
+        (heap_of flex.new (put (to, wanted) (without (at addr) rows)))) }
+    ensures moved { IfSome result (λ to. IsMoved flex.old flex.new (at addr) wanted (at to)) }
+    ensures none { IfNone result ((rows : List Row) → ReallocatesTo Options.ENABLE_REALLOCATION (heap_of flex.old rows) (at addr) layout wanted (Err NoRoom)
+        (heap_of flex.new rows)) }
+    ensures refused { IfNone result (StaysRefused flex.old flex.new) }
+{
+    if Options::ENABLE_REALLOCATION {
+        flex.reallocate(addr, wanted)
+    } else {
+        let keep = layout.size().min(wanted.size());
+        move_away(flex, addr, layout.align(), keep, wanted)
+    }
+}
