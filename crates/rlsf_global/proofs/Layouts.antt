@@ -2,7 +2,7 @@
 use Rattle.std.proofs.Common.{◌≡◌, ◌≢◌, ℕ, List, Some, None, ◌∙◌, ap, sym}
 use Rattle.std.specs.Option.{option_map}
 use Rattle.rlsf_machine.specs.Callers.{bytes_at}
-use Rattle.rlsf_global.proofs.Maps.{row_at-put_here, row_at-put_other, row_at-without_here, row_at-without_other}
+use Rattle.rlsf_placement.proofs.Maps.{row_at-put_here, row_at-put_other, row_at-without_here, row_at-without_other}
 use Rattle.rlsf_placement.specs.Heap.{Heap, content_at, layout_at, layout_of}
 use Rattle.rlsf_placement.specs.Rows.{Row, key, put, row_at, without}
 

@@ -1,7 +1,6 @@
 pub mod Checks
-pub mod Cursors
+pub mod Heaps
 pub mod Layouts
-pub mod Maps
 pub mod MovedPayloads
 pub mod Placements
 pub mod Resizes

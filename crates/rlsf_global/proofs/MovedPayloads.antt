@@ -9,13 +9,14 @@ use Rattle.rlsf_base.specs.declared.memory.layout.Layout.{Layout}
 use Rattle.rlsf_flex.specs.StandsFor.{FlexContents, FlexStandsFor, FlexSteps, StepsAlone}
 use Rattle.rlsf_flex.proofs.Standing.{alone_opened, flex_opened}
 use Rattle.rlsf_global.specs.Locked.{IsLocked, heap_of, locked_contents}
-use Rattle.rlsf_global.specs.Pages.{MayOwe}
+use Rattle.rlsf_placement.specs.Pages.{MayOwe}
 use Rattle.rlsf_global.specs.Steps.Moves.{IsMoved, StaysRefused}
 use Rattle.rlsf_global.proofs.Checks.{when_false, when_true}
-use Rattle.rlsf_global.proofs.Maps.{IsServed, Lists-moved, row_at-without_other}
-use Rattle.rlsf_global.proofs.Placements.{no_row, refused_notes}
+use Rattle.rlsf_placement.proofs.Maps.{IsServed, Lists-moved, row_at-without_other}
+use Rattle.rlsf_global.proofs.Placements.{no_row}
+use Rattle.rlsf_placement.proofs.PageAnswers.{refused_notes}
 use Rattle.rlsf_global.proofs.Resizes.{IsPlaced, none_left}
-use Rattle.rlsf_global.proofs.Rows.{absent-row_at, put-sorted, without-sorted}
+use Rattle.rlsf_placement.proofs.Rows.{absent-row_at, put-sorted, without-sorted}
 use Rattle.rlsf_machine.specs.Callers.{IsResized, align_at, bytes_at, payload_at}
 use Rattle.rlsf_machine.specs.FlexAllocate.{FlexAllocates}
 use Rattle.rlsf_machine.specs.FlexReallocate.{FlexReallocates}

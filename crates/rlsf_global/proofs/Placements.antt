@@ -1,20 +1,19 @@
 -- How a heap goes on from step to step.
-use Rattle.std.proofs.Common.{◌≡◌, ◌≢◌, ℕ, ◌++◌, ◌≤◌, arith, slice_index_or, length, List, [], ◌∷◌, Option, Some, None, IsSome, Ok, Err, refl, sym, ◌∙◌, ap, subst}
+use Rattle.std.proofs.Common.{◌≡◌, ◌≢◌, ℕ, ◌≤◌, arith, slice_index_or, length, List, [], ◌∷◌, Some, None, IsSome, Ok, Err, refl, sym, ◌∙◌, ap, subst}
 use Rattle.std.specs.declared.num.NonZeroUsize.{NonZeroUsize}
 use Rattle.rlsf_base.specs.Addr.{at}
 use Rattle.rlsf_base.specs.declared.memory.layout.Layout.{Layout}
-use Rattle.rlsf_base.specs.declared.memory.range.Range.{Range}
 use Rattle.rlsf_flex.specs.StandsFor.{FlexContents, FlexSteps, StepsAlone}
 use Rattle.rlsf_flex.proofs.Standing.{alone_opened, flex_opened}
 use Rattle.rlsf_global.specs.Locked.{IsLocked, LockedContents, LockedStands, heap_of, locked_contents}
-use Rattle.rlsf_global.specs.Pages.{MayOwe}
+use Rattle.rlsf_placement.specs.Pages.{MayOwe}
 use Rattle.rlsf_global.specs.Steps.Table.{IsFound}
-use Rattle.rlsf_global.proofs.Maps.{IsServed, Lists-filled, Lists-put, Lists-without, agrees-none}
-use Rattle.rlsf_global.proofs.Rows.{absent-row_at, put-sorted, without-sorted}
+use Rattle.rlsf_placement.proofs.PageAnswers.{refused_notes}
+use Rattle.rlsf_placement.proofs.Maps.{IsServed, Lists-filled, Lists-put, Lists-without, agrees-none}
+use Rattle.rlsf_placement.proofs.Rows.{absent-row_at, put-sorted, without-sorted}
 use Rattle.rlsf_machine.specs.Callers.{align_at, bytes_at}
 use Rattle.rlsf_machine.specs.FlexAllocate.{FlexAllocates}
 use Rattle.rlsf_machine.specs.FlexState.{FlexState, with_machine}
-use Rattle.rlsf_machine.specs.Growth.{growth_note, range_note}
 use Rattle.rlsf_machine.specs.Note.{LeadsBy}
 use Rattle.rlsf_machine.specs.Release.{Deallocates}
 use Rattle.rlsf_machine.specs.Run.{Fills}
@@ -23,13 +22,6 @@ use Rattle.rlsf_placement.specs.Cursor.{PageCursor, PageLeads, terms_of}
 use Rattle.rlsf_placement.specs.Heap.{Agrees, Lists, with_state}
 use Rattle.rlsf_placement.specs.Rows.{Row, put, row_at, without}
 use Rattle.rlsf_placement.specs.Steps.{HeapAllocates, Releases}
-
--- questions that were refused leave the cursor
-pub refused_notes : (x y : PageCursor) (g : Option (Range × ℕ)) (r : Option ℕ) → LeadsBy PageLeads x (growth_note g None ++ range_note r None) y → y ≡ x
-refused_notes x y None None led = led
-refused_notes x y None (Some n) (z, led, last) = last ∙ led.1
-refused_notes x y (Some (q, n)) None (z, led, last) = last ∙ led.1
-refused_notes x y (Some (q, n)) (Some m) (z, led, (w, more, last)) = last ∙ more.1 ∙ led.1
 
 -- a row that was found
 pub some_row : (rows : List Row) (addr i : ℕ) → IsFound rows addr i → (r : Row) × (row_at addr rows ≡ Some r)

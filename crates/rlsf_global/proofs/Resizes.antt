@@ -6,10 +6,10 @@ use Rattle.rlsf_base.specs.declared.memory.layout.Layout.{Layout}
 use Rattle.rlsf_flex.specs.StandsFor.{FlexContents, StepsAlone}
 use Rattle.rlsf_flex.proofs.Standing.{alone_opened}
 use Rattle.rlsf_global.specs.Locked.{IsLocked, heap_of, locked_contents}
-use Rattle.rlsf_global.specs.Pages.{MayOwe}
+use Rattle.rlsf_placement.specs.Pages.{MayOwe}
 use Rattle.rlsf_global.proofs.Checks.{when_false, when_true}
-use Rattle.rlsf_global.proofs.Maps.{IsServed, Lists-moved, row_at-without_here}
-use Rattle.rlsf_global.proofs.Rows.{absent-row_at, put-sorted, without-sorted}
+use Rattle.rlsf_placement.proofs.Maps.{IsServed, Lists-moved, row_at-without_here}
+use Rattle.rlsf_placement.proofs.Rows.{absent-row_at, put-sorted, without-sorted}
 use Rattle.rlsf_machine.specs.Callers.{align_at, bytes_at}
 use Rattle.rlsf_machine.specs.FlexState.{FlexState, with_machine}
 use Rattle.rlsf_machine.specs.NoMove.{ReallocatesWithoutMove}

@@ -4,9 +4,9 @@ use Rattle.std.specs.List.{insert, remove}
 use Rattle.std.specs.List.Sorted.{IsSearchInRange, IsBinarySearchResult, IsNonDecreasingBy}
 use Rattle.std.specs.Ordering.{nat_cmp, ordering_index}
 use Rattle.std.proofs.lemmas.Bool.{lt-ltb}
-use Rattle.std.proofs.lemmas.Bool.Decides.{nat_tests, eqb_tells, leb_tells}
+use Rattle.std.proofs.lemmas.Bool.Decides.{nat_tests, eqb_tells}
 use Rattle.std.proofs.lemmas.Cmp.{ranked}
-use Rattle.rlsf_global.proofs.Results.{clash, clash'}
+use Rattle.rlsf_global.proofs.Results.{clash}
 use Rattle.rlsf_machine.specs.Lists.{IsIn}
 use Rattle.rlsf_global.specs.Steps.Table.{IsAt, IsGapFor, IsFound, IsPlaceFor}
 use Rattle.rlsf_placement.specs.Rows.{Row, key, IsSorted, row_at, put, without}
@@ -75,18 +75,6 @@ remove-without a (r ∷ rows) (suc at) s h =
     let rest = remove-without a rows at s.1 (record { in_range = omega (arith, h.in_range); here = λ d. h.here d }) in
     grind (arith, nat_tests)
 
--- what is in the rows with one more
-pub IsIn-put : (x row : Row) (rows : List Row) → IsIn x (put row rows) → (x ≡ row) ⊎ IsIn x rows
-IsIn-put x row [] h = h
-IsIn-put x row (r ∷ rows) h = by (IsIn-put x row rows) (nat_lt (key r) (key row)) (key r == key row) h
-  where
-    by : (IsIn x (put row rows) → (x ≡ row) ⊎ IsIn x rows) → (lt eq : Bool) → IsIn x (if lt then r ∷ put row rows else if eq then row ∷ rows else row ∷ r ∷ rows) → (x ≡ row) ⊎ IsIn x (r ∷ rows)
-    by rest true eq (inl e) = inr (inl e)
-    by rest true eq (inr i) = elim (rest i) [ inl e ↦ inl e | inr j ↦ inr (inr j) ]
-    by rest false true (inl e) = inl e
-    by rest false true (inr i) = inr (inr i)
-    by rest false false h = h
-
 pub IsIn-put-new : (row : Row) (rows : List Row) → IsIn row (put row rows)
 IsIn-put-new row [] = inl refl
 IsIn-put-new row (r ∷ rows) = by (IsIn-put-new row rows) (nat_lt (key r) (key row)) (key r == key row)
@@ -108,16 +96,6 @@ IsIn-put-old x row (r ∷ rows) h n = by (λ i. IsIn-put-old x row rows i n) (na
     by rest false true (inr (off, _)) (inl e) = clash off
     by rest false false t i = inr i
 
-pub IsIn-without : (x : Row) (a : ℕ) (rows : List Row) → IsIn x (without a rows) → IsIn x rows × (key x ≢ a)
-IsIn-without x a [] h = absurd h
-IsIn-without x a (r ∷ rows) h = by (IsIn-without x a rows) (key r == a) (eqb_tells (key r) a) h
-  where
-    by : (IsIn x (without a rows) → IsIn x rows × (key x ≢ a)) → (eq : Bool) → ((eq ≡ true) × (key r ≡ a)) ⊎ ((eq ≡ false) × (key r ≢ a)) → IsIn x (if not eq then r ∷ without a rows else without a rows) → IsIn x (r ∷ rows) × (key x ≢ a)
-    by rest true t h = let j = rest h in (inr j.0, j.1)
-    by rest false (inl (off, _)) h = clash' off
-    by rest false (inr (_, differs)) (inl e) = (inl e, λ same. differs (sym (ap key e) ∙ same))
-    by rest false (inr _) (inr i) = let j = rest i in (inr j.0, j.1)
-
 pub IsIn-without-other : (x : Row) (a : ℕ) (rows : List Row) → IsIn x rows → key x ≢ a → IsIn x (without a rows)
 IsIn-without-other x a [] h n = absurd h
 IsIn-without-other x a (r ∷ rows) h n = by (λ i. IsIn-without-other x a rows i n) (key r == a) (eqb_tells (key r) a) h
@@ -128,32 +106,6 @@ IsIn-without-other x a (r ∷ rows) h n = by (λ i. IsIn-without-other x a rows 
     by rest true t (inr i) = rest i
     by rest true (inl (_, same)) (inl e) = absurd (n (ap key e ∙ same))
     by rest true (inr (off, _)) (inl e) = clash off
-
--- a new address keeps the order
-pub put-sorted : (row : Row) (rows : List Row) → IsSorted rows → ((r : Row) → IsIn r rows → key r ≢ key row) → IsSorted (put row rows)
-put-sorted row [] s n = (λ x h. absurd h, tt)
-put-sorted row (r ∷ rows) s n = by (put-sorted row rows s.1 (λ x i. n x (inr i))) (nat_lt (key r) (key row)) (key r == key row) (leb_tells (suc (key r)) (key row)) (eqb_tells (key r) (key row))
-  where
-    by : IsSorted (put row rows) → (lt eq : Bool) → ((lt ≡ true) × (suc (key r) ≤ key row)) ⊎ ((lt ≡ false) × (key row < suc (key r))) → ((eq ≡ true) × (key r ≡ key row)) ⊎ ((eq ≡ false) × (key r ≢ key row))
-        → IsSorted (if lt then r ∷ put row rows else if eq then row ∷ rows else row ∷ r ∷ rows)
-    by rest true eq (inl (_, below)) t = (λ x i. elim (IsIn-put x row rows i) [ inl e ↦ subst (λ y. key r < key y) (sym e) (omega (arith, below)) | inr j ↦ s.0 x j ], rest)
-    by rest true eq (inr (off, _)) t = clash off
-    by rest false eq (inl (off, _)) t = clash' off
-    by rest false true t (inl (_, same)) = absurd (n r (inl refl) same)
-    by rest false true t (inr (off, _)) = clash off
-    by rest false false (inr (_, le)) (inl (off, _)) = clash' off
-    by rest false false (inr (_, le)) (inr (_, differs)) =
-        let below : key row < key r = grind (arith, n r (inl refl)) in
-        (λ x. elim [ inl e ↦ subst (λ y. key row < key y) (sym e) below | inr i ↦ omega (arith, below, s.0 x i) ], s)
-
--- and so does one row less
-pub without-sorted : (a : ℕ) (rows : List Row) → IsSorted rows → IsSorted (without a rows)
-without-sorted a [] s = tt
-without-sorted a (r ∷ rows) s = by (without-sorted a rows s.1) (key r == a)
-  where
-    by : IsSorted (without a rows) → (eq : Bool) → IsSorted (if not eq then r ∷ without a rows else without a rows)
-    by rest true = rest
-    by rest false = (λ x i. s.0 x (IsIn-without x a rows i).0, rest)
 
 -- the row that a search finds
 pub row_at-here : (a : ℕ) (rows : List Row) (at : ℕ) (d : Row) → IsSorted rows → IsAt rows a at → row_at a rows ≡ Some (get_or rows at d)
@@ -206,16 +158,6 @@ row_at-in addr (x ∷ rows) r e = by (row_at-in addr rows r) (key x == addr) (eq
     by rest true (inl (_, here)) e = let same : x ≡ r = grind (arith, e) in (inl (sym same), sym (ap key same) ∙ here)
     by rest true (inr (off, _)) e = clash off
     by rest false t e = let j = rest e in (inr j.0, j.1)
-
-pub absent-row_at : (addr : ℕ) (rows : List Row) → row_at addr rows ≡ None → (r : Row) → IsIn r rows → key r ≢ addr
-absent-row_at addr [] e r i = absurd i
-absent-row_at addr (x ∷ rows) e r i = by (absent-row_at addr rows) (key x == addr) (eqb_tells (key x) addr) e i
-  where
-    by : (row_at addr rows ≡ None → (r : Row) → IsIn r rows → key r ≢ addr) → (eq : Bool) → ((eq ≡ true) × (key x ≡ addr)) ⊎ ((eq ≡ false) × (key x ≢ addr)) → (if eq then Some x else row_at addr rows) ≡ None → IsIn r (x ∷ rows) → key r ≢ addr
-    by rest true t e i = grind (arith, e)
-    by rest false (inl (off, _)) e i = clash' off
-    by rest false (inr (_, differs)) e (inl same) = λ here. differs (sym (ap key same) ∙ here)
-    by rest false (inr _) e (inr i) = rest e r i
 
 -- an address has one row
 pub one_row : (rows : List Row) → IsSorted rows → (r s : Row) → IsIn r rows → IsIn s rows → key r ≡ key s → r ≡ s

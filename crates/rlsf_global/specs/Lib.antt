@@ -1,4 +1,2 @@
-pub mod Constant
 pub mod Locked
-pub mod Pages
 pub mod Steps

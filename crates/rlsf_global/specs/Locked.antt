@@ -2,7 +2,7 @@
 use Rattle.std.specs.Prelude.{List}
 use Rattle.rlsf_base.specs.Space.{Space}
 use Rattle.rlsf_flex.specs.StandsFor.{FlexContents, FlexStandsFor}
-use Rattle.rlsf_global.specs.Pages.{MayOwe}
+use Rattle.rlsf_placement.specs.Pages.{MayOwe}
 use Rattle.rlsf_placement.specs.Cursor.{PageCursor, terms_of}
 use Rattle.rlsf_placement.specs.Heap.{Heap, Lists}
 use Rattle.rlsf_placement.specs.Rows.{IsSorted, Row}

@@ -4,7 +4,7 @@ ghost use Rattle.std.specs.Prelude.{◌≡◌, ◌≤◌, List, Ok, Err, Some, I
 ghost use Rattle.rlsf_base.specs.Addr.{at};
 ghost use Rattle.rlsf_flex.specs.StandsFor.{FlexStandsFor};
 ghost use Rattle.rlsf_global.specs.Locked.{heap_of};
-ghost use Rattle.rlsf_global.specs.Pages.{MayOwe};
+ghost use Rattle.rlsf_placement.specs.Pages.{MayOwe};
 ghost use Rattle.rlsf_global.specs.Steps.Moves.{IsMoved, StaysRefused};
 ghost use Rattle.rlsf_machine.specs.Callers.{align_at, bytes_at};
 ghost use Rattle.rlsf_placement.specs.declared.error.GlobalError.TheVariants.{NoRoom};

@@ -3,8 +3,8 @@
 ghost use Rattle.std.specs.Prelude.{◌≡◌, ◌<◌, ◌≤◌, ◌+◌, ◌^◌, ◌++◌, ◌∷◌, List, [], MatchOption};
 ghost use Rattle.rlsf_base.specs.declared.memory.range.Range.{Range};
 ghost use Rattle.rlsf_base.specs.Range.{end_of};
-ghost use Rattle.rlsf_global.specs.Constant.{constant_pages};
-ghost use Rattle.rlsf_global.specs.Pages.{MayOwe};
+ghost use Rattle.rlsf_placement.specs.Constant.{constant_pages};
+ghost use Rattle.rlsf_placement.specs.Pages.{MayOwe};
 ghost use Rattle.rlsf_machine.specs.Note.{dealloc};
 ghost use Rattle.rlsf_placement.specs.Cursor.{PageLeads, first_page, page_cursor, pages, terms_of};
 
@@ -26,7 +26,7 @@ pub struct Source<Options: GlobalTlsfOptions> {
 }
 
 impl<Options: GlobalTlsfOptions> Model for Source<Options> {
-    ghost use Rattle.rlsf_global.specs.Pages.{IsPageCursor};
+    ghost use Rattle.rlsf_placement.specs.Pages.{IsPageCursor};
     ghost use Rattle.rlsf_placement.specs.Cursor.{PageCursor, page_cursor};
 
     ghost Value = { PageCursor };

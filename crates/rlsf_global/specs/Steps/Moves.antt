@@ -2,7 +2,7 @@
 use Rattle.std.specs.Prelude.{◌≡◌, ◌≢◌, ℕ, ◌+◌, ◌≤◌, ◌<◌, length, Some, None}
 use Rattle.rlsf_base.specs.declared.memory.layout.Layout.{Layout}
 use Rattle.rlsf_flex.specs.StandsFor.{FlexContents, FlexStandsFor}
-use Rattle.rlsf_global.specs.Pages.{MayOwe}
+use Rattle.rlsf_placement.specs.Pages.{MayOwe}
 use Rattle.rlsf_machine.specs.Callers.{align_at, bytes_at}
 use Rattle.rlsf_placement.specs.Cursor.{PageCursor, terms_of}
 

@@ -3,7 +3,7 @@ use Rattle.std.specs.declared.num.NonZeroUsize.{NonZeroUsize}
 use Rattle.rlsf_base.specs.Addr.{at, reply}
 use Rattle.rlsf_flex.specs.StandsFor.{FlexSteps}
 use Rattle.rlsf_global.specs.Locked.{heap_of}
-use Rattle.rlsf_global.specs.Pages.{MayOwe}
+use Rattle.rlsf_placement.specs.Pages.{MayOwe}
 use Rattle.rlsf_global.proofs.MovedPayloads.{not_reallocated, not_reallocated_stays, reallocated, reallocated_left, reallocated_stands}
 use Rattle.rlsf_global.proofs.Results.{for_none, for_some, none_of, some_of}
 use Rattle.rlsf_machine.specs.Callers.{align_at, bytes_at}

@@ -6,7 +6,7 @@ use Rattle.rlsf_global.proofs.Checks.{same_align, same_size}
 use Rattle.rlsf_global.proofs.MovedPayloads.{moved_locked, moved_row, same_heap, reallocates_in, reallocates_out}
 use Rattle.rlsf_global.proofs.Placements.{live_row, no_row, row_sized}
 use Rattle.rlsf_global.proofs.Results.{not-false, not-true}
-use Rattle.rlsf_global.proofs.Rows.{without-sorted}
+use Rattle.rlsf_placement.proofs.Rows.{without-sorted}
 use Rattle.rlsf_machine.specs.Callers.{bytes_at}
 use Rattle.rlsf_placement.specs.declared.error.GlobalError.TheVariants.{NoRoom, WrongLayout}
 use Rattle.rlsf_placement.specs.Moves.{ReallocatesAsAt, ReallocatesTo}

@@ -4,7 +4,7 @@ use Rattle.rlsf_base.specs.Addr.{at}
 use Rattle.rlsf_global.specs.Locked.{heap_of}
 use Rattle.rlsf_global.proofs.MovedPayloads.{moved_locked, moved_row, same_heap}
 use Rattle.rlsf_global.proofs.Placements.{live_here, live_row, no_row}
-use Rattle.rlsf_global.proofs.Rows.{without-sorted}
+use Rattle.rlsf_placement.proofs.Rows.{without-sorted}
 use Rattle.rlsf_placement.specs.declared.error.GlobalError.TheVariants.{NoRoom}
 use Rattle.rlsf_placement.specs.Moves.{MovesAway, ReallocatesAt}
 use Rattle.rlsf_placement.specs.Rows.{IsSorted, row_at}

@@ -9,7 +9,7 @@ use Rattle.rlsf_global.proofs.Checks.{same_align}
 use Rattle.rlsf_global.proofs.Placements.{live_row}
 use Rattle.rlsf_global.proofs.Resizes.{none_left, not_resized, not_resized_locked, resized, resized_locked, resizes_in, resizes_out}
 use Rattle.rlsf_global.proofs.Results.{not-false, not-true}
-use Rattle.rlsf_global.proofs.Rows.{without-sorted}
+use Rattle.rlsf_placement.proofs.Rows.{without-sorted}
 use Rattle.rlsf_placement.specs.declared.error.GlobalError.TheVariants.{NoRoom, WrongLayout}
 use Rattle.rlsf_placement.specs.Moves.{ReallocatesThereAt}
 use Rattle.rlsf_placement.specs.Rows.{IsSorted, row_at}

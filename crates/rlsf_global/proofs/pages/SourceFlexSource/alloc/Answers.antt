@@ -1,9 +1,9 @@
 use Rattle.std.proofs.Common.{◌≡◌, ℕ, List, ◌∷◌, ◌+◌, ◌-◌, ◌≤◌, Some, arith, refl, sym, subst, ap}
 use Rattle.rlsf_base.specs.declared.memory.range.Range.{Range}
 use Rattle.rlsf_base.specs.Range.{end_of, range_at}
-use Rattle.rlsf_global.specs.Pages.{IsPageCursor, MayOwe}
+use Rattle.rlsf_placement.specs.Pages.{IsPageCursor, MayOwe}
 use Rattle.rlsf_placement.specs.Cursor.{PageCursor, PageLeads, moved, page_cursor, pages, terms_of}
-use Rattle.rlsf_global.proofs.Cursors.{IsPageCursor-given, given_range}
+use Rattle.rlsf_placement.proofs.Cursors.{IsPageCursor-given, given_range}
 use Rattle.rlsf_machine.specs.Note.{alloc}
 use Rattle.rlsf_machine.specs.Terms.{IsGiven}
 use Rattle.rlsf_global.proofs.pages.SourceFlexSource.alloc.Goals as goal

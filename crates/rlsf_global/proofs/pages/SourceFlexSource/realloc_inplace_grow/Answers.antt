@@ -1,9 +1,9 @@
 use Rattle.std.proofs.Common.{◌≡◌, ℕ, List, ◌∷◌, ◌++◌, ◌+◌, ◌-◌, ◌≤◌, Some, arith, refl, sym, subst, ap}
 use Rattle.rlsf_base.specs.declared.memory.range.Range.{Range}
 use Rattle.rlsf_base.specs.Range.{end_of}
-use Rattle.rlsf_global.specs.Pages.{IsPageCursor, MayOwe}
+use Rattle.rlsf_placement.specs.Pages.{IsPageCursor, MayOwe}
 use Rattle.rlsf_placement.specs.Cursor.{PageCursor, PageLeads, moved, page_cursor, pages, terms_of}
-use Rattle.rlsf_global.proofs.Cursors.{IsPageCursor-grown, grown_range, owed_ends}
+use Rattle.rlsf_placement.proofs.Cursors.{IsPageCursor-grown, grown_range, owed_ends}
 use Rattle.rlsf_machine.specs.Note.{grow}
 use Rattle.rlsf_machine.specs.Terms.{IsGrown, with_len}
 use Rattle.rlsf_global.proofs.pages.SourceFlexSource.realloc_inplace_grow.Goals as goal

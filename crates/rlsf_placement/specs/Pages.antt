@@ -13,8 +13,9 @@ pub record IsPageCursor (c : PageCursor) : Type 0 where
   pub aligned : (c.at ≡ end_of c.space) ⊎ (c.at % 32 ≡ 0)
   pub addressable : end_of c.space < 2 ^ 64
 
--- the ranges lie in the space before the cursor, begin at multiples of 32, and don't overlap
+-- the cursor is such, and the ranges lie in the space before it, begin at multiples of 32, and don't overlap
 pub record MayOwe (c : PageCursor) (owed : List Range) : Type 0 where
+  pub cursor : IsPageCursor c
   pub start : (r : Range) → IsIn r owed → c.space.start ≤ r.start
   pub end : (r : Range) → IsIn r owed → end_of r ≤ c.at
   pub aligned : (r : Range) → IsIn r owed → r.start % 32 ≡ 0

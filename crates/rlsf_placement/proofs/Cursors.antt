@@ -11,7 +11,7 @@ use Rattle.rlsf_machine.specs.WellFormed.{coverage, itself}
 use Rattle.rlsf_machine.proofs.Between.{IsIn-between, coverage-between}
 use Rattle.rlsf_machine.proofs.Coverage.{IsIn-append, IsIn-append_left, IsIn-append_right, inside, before, behind, covers-behind, where_is}
 use Rattle.rlsf_base.proofs.Numbers.Roundings.{next_multiple_of-le, next_multiple_of-multiple}
-use Rattle.rlsf_global.specs.Pages.{IsPageCursor, MayOwe}
+use Rattle.rlsf_placement.specs.Pages.{IsPageCursor, MayOwe}
 use Rattle.rlsf_placement.specs.Cursor.{PageCursor, first_page, moved, page_cursor, pages, terms_of}
 
 -- whole pages are no fewer bytes, and a multiple of 32 of them
@@ -35,12 +35,18 @@ pub first_cursor : (space : Range) (grows : Bool) → end_of space < 18446744073
 first_cursor space grows addressable = record { after_start = omega arith; before_end = omega arith; aligned = elim (cases_lt (end_of space) (round32 space.start)) [ inl past ↦ inl (omega (arith, past)) | inr within ↦ inr (omega (arith, within, next_multiple_of-multiple space.start 32 (omega arith))) ]; addressable = omega (arith, addressable) }
 
 module _ (c : PageCursor) (is : IsPageCursor c) where
+  -- the cursor stays one
+  pub IsPageCursor-given : (min_size len : ℕ) → 0 < min_size → len ≡ pages min_size → c.at + len ≤ end_of c.space → IsPageCursor (moved c (c.at + len))
+  IsPageCursor-given min_size len some whole fits =
+      let begins = aligned_below c is (omega (arith, whole, some, pages-le min_size, fits)) in
+      record { after_start = omega (arith, is.after_start); before_end = fits; aligned = inr (omega (arith, begins, whole, pages-whole min_size)); addressable = is.addressable }
+
   -- pages are given at the cursor, which moves to their end
   pub given_range : (min_size len : ℕ) → 0 < min_size → len ≡ pages min_size → c.at + len ≤ end_of c.space → (owed : List Range) → MayOwe c owed
       → IsGiven (terms_of c) owed min_size (range_at c.at len) × MayOwe (moved c (c.at + len)) (range_at c.at len ∷ owed)
   given_range min_size len some whole fits owed may = (
     record { lies_in = (is.after_start, fits); apart = λ a low high. above a low; long = omega (arith, whole, pages-le min_size); power = refl; aligned = begins },
-    record { start = starts; end = ends; aligned = alignments; disjoint = disjoint },
+    record { cursor = IsPageCursor-given min_size len some whole fits; start = starts; end = ends; aligned = alignments; disjoint = disjoint },
   )
     where
       r : Range
@@ -72,16 +78,16 @@ module _ (c : PageCursor) (is : IsPageCursor c) where
       ]
 
   -- the cursor stays one
-  pub IsPageCursor-given : (min_size len : ℕ) → 0 < min_size → len ≡ pages min_size → c.at + len ≤ end_of c.space → IsPageCursor (moved c (c.at + len))
-  IsPageCursor-given min_size len some whole fits =
-      let begins = aligned_below c is (omega (arith, whole, some, pages-le min_size, fits)) in
-      record { after_start = omega (arith, is.after_start); before_end = fits; aligned = inr (omega (arith, begins, whole, pages-whole min_size)); addressable = is.addressable }
+  pub IsPageCursor-grown : (r : Range) (min_new_len len : ℕ) → len ≡ pages min_new_len → r.start + len ≤ end_of c.space → (xs ys : List Range) → MayOwe c (xs ++ r ∷ ys) → IsPageCursor (moved c (r.start + len))
+  IsPageCursor-grown r min_new_len len whole fits xs ys may =
+      let here = IsIn-append_right r xs (r ∷ ys) (inl refl) in
+      record { after_start = omega (arith, may.start r here); before_end = fits; aligned = inr (omega (arith, may.aligned r here, whole, pages-whole min_new_len)); addressable = is.addressable }
 
   -- the range that ends at the cursor grows, and the cursor moves to its end
   pub grown_range : (r : Range) (min_new_len len : ℕ) → end_of r ≡ c.at → len ≡ pages min_new_len → r.len ≤ min_new_len → r.start + len ≤ end_of c.space → (xs ys : List Range) → MayOwe c (xs ++ r ∷ ys)
       → IsGrown (terms_of c) (xs ++ ys) r min_new_len len × MayOwe (moved c (r.start + len)) (xs ++ with_len r len ∷ ys)
   grown_range r min_new_len len last whole longer fits xs ys may =
-      (record { lies_in = (may.start r here, fits); apart = apart; long = long }, record { start = starts; end = ends; aligned = alignments; disjoint = disjoint })
+      (record { lies_in = (may.start r here, fits); apart = apart; long = long }, record { cursor = IsPageCursor-grown r min_new_len len whole fits xs ys may; start = starts; end = ends; aligned = alignments; disjoint = disjoint })
     where
       long : min_new_len ≤ len
       long = omega (arith, whole, pages-le min_new_len)
@@ -120,15 +126,10 @@ module _ (c : PageCursor) (is : IsPageCursor c) where
         | behind none high ↦ omega (arith, coverage-between (with_len r len) xs ys a, coverage-between r xs ys a, may.disjoint a)
       ]
 
-  -- the cursor stays one
-  pub IsPageCursor-grown : (r : Range) (min_new_len len : ℕ) → len ≡ pages min_new_len → r.start + len ≤ end_of c.space → (xs ys : List Range) → MayOwe c (xs ++ r ∷ ys) → IsPageCursor (moved c (r.start + len))
-  IsPageCursor-grown r min_new_len len whole fits xs ys may =
-      let here = IsIn-append_right r xs (r ∷ ys) (inl refl) in
-      record { after_start = omega (arith, may.start r here); before_end = fits; aligned = inr (omega (arith, may.aligned r here, whole, pages-whole min_new_len)); addressable = is.addressable }
-
 -- a range goes back
 pub gone_range : (c : PageCursor) (r : Range) (xs ys : List Range) → MayOwe c (xs ++ r ∷ ys) → MayOwe c (xs ++ ys)
 gone_range c r xs ys may = record {
+  cursor = may.cursor;
   start = λ q i. may.start q (IsIn-between q r xs ys i);
   end = λ q i. may.end q (IsIn-between q r xs ys i);
   aligned = λ q i. may.aligned q (IsIn-between q r xs ys i);

@@ -1,0 +1,14 @@
+pub mod Cursors
+pub mod FlexGoing
+pub mod Going
+pub mod Histories
+pub mod Isolated
+pub mod Journals
+pub mod Left
+pub mod Maps
+pub mod Replayed
+pub mod Rows
+pub mod Sames
+pub mod Similars
+pub mod Moved
+pub mod PageAnswers
