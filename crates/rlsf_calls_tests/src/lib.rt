@@ -1,5 +1,5 @@
 //! Tests of `rlsf` by calls: what becomes of pools, as addresses, words and walks tell it, and what payloads hold, when they are
-//! lent, copied or get another size. This crate has no other code, so that `rlsf` and the crates below it are proved once.
+//! lent, copied or get another size; and how long pools have to be. This crate has no other code, so that `rlsf` and the crates below it are proved once.
 #![tactic(auto)]
 
 #[cfg(test)]
@@ -18,6 +18,8 @@ mod pools;
 mod reallocations;
 #[cfg(test)]
 mod removals;
+#[cfg(test)]
+mod sizes;
 #[cfg(test)]
 mod tables;
 #[cfg(test)]

@@ -1,0 +1,64 @@
+//! Prints how long pools have to be, for so many payloads of a size, at three of the allocator's shapes: one that never refuses
+//! payloads up to the size, and one that holds exactly so many of the size.
+#![tactic(auto)]
+
+ghost use Rattle.rlsf_base.specs.SizeClass.{IsValid};
+
+mod error;
+mod rows;
+
+use error::SizesError;
+use rlsf_base::memory::Layout;
+use rlsf_int::BitPattern;
+use rows::row_for;
+use std::process::ExitCode;
+
+/// How many payloads, and how many bytes each has.
+const CASES: [(usize, usize); 9] = [
+    (10, 16),
+    (10, 100),
+    (10, 700),
+    (100, 16),
+    (100, 100),
+    (100, 700),
+    (1000, 16),
+    (1000, 100),
+    (1000, 700),
+];
+
+fn main(rt: HostRuntime) -> ExitCode {
+    match tables(&rt) {
+        Ok(()) => ExitCode::SUCCESS,
+        Err(error) => {
+            // Where standard error fails too, only the status tells of the error.
+            let _ = eprintln!(rt; "{error}");
+            ExitCode::FAILURE
+        }
+    }
+}
+
+/// Prints the tables of the three shapes.
+fn tables(rt: &impl Print) -> Result<(), SizesError> {
+    println!(rt; "                        any sizes                   one size")?;
+    println!(rt; " count   size        pool   share   asked       pool   share")?;
+    println!(rt; "\n12 rows of 16 classes, chunks of up to 131072 bytes")?;
+    table::<u16, u16, 12, 16>(rt)?;
+    println!(rt; "\n59 rows of 8 classes, chunks of any length")?;
+    table::<u64, u64, 59, 8>(rt)?;
+    println!(rt; "\n64 rows of 64 classes, chunks of any length")?;
+    table::<u64, u64, 64, 64>(rt)
+}
+
+/// Prints the rows of a shape.
+fn table<FLBitmap: BitPattern, SLBitmap: BitPattern, const FLLEN: usize, const SLLEN: usize>(
+    rt: &impl Print,
+) -> Result<(), SizesError>
+    requires { IsValid FLBitmap.width SLBitmap.width FLLEN SLLEN }
+{
+    for (count, size) in CASES {
+        let layout = Layout::from_size_align(size, 16)?;
+        let row = row_for::<FLBitmap, SLBitmap, FLLEN, SLLEN>(count, layout);
+        println!(rt; "{row}")?;
+    }
+    Ok(())
+}
