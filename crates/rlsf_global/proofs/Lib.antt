@@ -3,6 +3,7 @@ pub mod Heaps
 pub mod Layouts
 pub mod MovedPayloads
 pub mod Placements
+pub mod Refusals
 pub mod Resizes
 pub mod Results
 pub mod Rows

@@ -1,2 +1,3 @@
 pub mod Locked
+pub mod Refusals
 pub mod Steps

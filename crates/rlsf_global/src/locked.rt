@@ -1,12 +1,17 @@
 //! The value under the lock: an allocator over pages, and the table of its live addresses.
 
-ghost use Rattle.std.specs.Prelude.{◌≡◌, ◌≢◌, ℕ, ◌+◌, ◌≤◌, length, nat_le, IfOk, None, OnErr, OnOk, Some};
+ghost use Rattle.std.specs.Prelude.{◌≡◌, ◌≢◌, ℕ, ◌+◌, ◌≤◌, length, nat_le, IfOk, IsSome, None, OnErr, OnOk, Some, false, true};
 ghost use Rattle.std.specs.List.{splice};
 ghost use Rattle.rlsf_base.specs.Addr.{at};
 ghost use Rattle.rlsf_base.specs.Layout.{IsLayout};
 ghost use Rattle.rlsf_base.specs.Space.{range_of};
+ghost use Rattle.rlsf_base.specs.Sizes.{request_size};
+ghost use Rattle.rlsf_machine.specs.Allocate.{choice};
+ghost use Rattle.rlsf_machine.specs.Reallocate.{Reallocates};
+ghost use Rattle.rlsf_machine.specs.State.{State};
 ghost use Rattle.rlsf_placement.specs.Heap.{HasLayout, beginning, content_at, layout_at};
 ghost use Rattle.rlsf_placement.specs.Moves.{HeapReallocates, HeapReallocatesAs, HeapReallocatesThere};
+ghost use Rattle.rlsf_placement.specs.Rows.{IsSorted};
 ghost use Rattle.rlsf_placement.specs.Steps.{HeapAllocates, HeapDeallocates, HeapDeallocatesAs, HeapReads, HeapUsable, HeapWrites};
 
 use crate::moves::{PagedTlsf, move_away, resize};
@@ -77,6 +82,8 @@ impl<Options: GlobalTlsfOptions> Locked<Options> {
         ensures layouts { IfOk result (λ addr. (a : ℕ) → a ≢ at addr → layout_at self.new.heap a ≡ layout_at self.old.heap a) }
         ensures contents { IfOk result (λ addr. (a : ℕ) → a ≢ at addr → content_at self.new.heap a ≡ content_at self.old.heap a) }
         ensures same { OnErr result (self.new.heap ≡ self.old.heap) }
+        ensures touches { IsSome (choice 64 (request_size layout.size layout.align) self.old.heap.flex.machine.free)
+            → self.new.memory.touches ≤ self.old.memory.touches + 27 }
     {
         if self.rows.try_reserve(1).is_err() {
             return Err(GlobalError::TableMemory);
@@ -98,6 +105,7 @@ impl<Options: GlobalTlsfOptions> Locked<Options> {
         ensures layouts { OnOk result ((a : ℕ) → a ≢ at addr → layout_at self.new.heap a ≡ layout_at self.old.heap a) }
         ensures contents { OnOk result ((a : ℕ) → a ≢ at addr → content_at self.new.heap a ≡ content_at self.old.heap a) }
         ensures same { OnErr result (self.new.heap ≡ self.old.heap) }
+        ensures touches { self.new.memory.touches ≤ self.old.memory.touches + 32 }
     {
         let Ok(at) = search(&self.rows, addr) else {
             return Err(GlobalError::UnknownAddress);
@@ -118,6 +126,7 @@ impl<Options: GlobalTlsfOptions> Locked<Options> {
         ensures layouts { OnOk result ((a : ℕ) → a ≢ at addr → layout_at self.new.heap a ≡ layout_at self.old.heap a) }
         ensures contents { OnOk result ((a : ℕ) → a ≢ at addr → content_at self.new.heap a ≡ content_at self.old.heap a) }
         ensures same { OnErr result (self.new.heap ≡ self.old.heap) }
+        ensures touches { self.new.memory.touches ≤ self.old.memory.touches + 32 }
     {
         let Ok(at) = search(&self.rows, addr) else {
             return Err(GlobalError::UnknownAddress);
@@ -153,6 +162,10 @@ impl<Options: GlobalTlsfOptions> Locked<Options> {
         ensures layouts { IfOk result (λ to. (a : ℕ) → a ≢ at addr → a ≢ at to → layout_at self.new.heap a ≡ layout_at self.old.heap a) }
         ensures contents { IfOk result (λ to. (a : ℕ) → a ≢ at addr → a ≢ at to → content_at self.new.heap a ≡ content_at self.old.heap a) }
         ensures same { OnErr result (self.new.heap ≡ self.old.heap) }
+        ensures touches { Options.ENABLE_REALLOCATION ≡ true → (to : ℕ) (m : State)
+            → Reallocates 64 self.old.heap.flex.machine (at addr) new_size (Some to) m → self.new.memory.touches ≤ self.old.memory.touches + 66 }
+        ensures touches_elsewhere { Options.ENABLE_REALLOCATION ≡ false → IsSome (choice 64 (request_size new_size layout.align) self.old.heap.flex.machine.free)
+            → self.new.memory.touches ≤ self.old.memory.touches + 59 }
     {
         let Ok(at) = search(&self.rows, addr) else {
             return Err(GlobalError::UnknownAddress);
@@ -181,6 +194,8 @@ impl<Options: GlobalTlsfOptions> Locked<Options> {
         ensures layouts { IfOk result (λ to. (a : ℕ) → a ≢ at addr → a ≢ at to → layout_at self.new.heap a ≡ layout_at self.old.heap a) }
         ensures contents { IfOk result (λ to. (a : ℕ) → a ≢ at addr → a ≢ at to → content_at self.new.heap a ≡ content_at self.old.heap a) }
         ensures same { OnErr result (self.new.heap ≡ self.old.heap) }
+        ensures touches { IsSome (choice 64 (request_size layout.size layout.align) self.old.heap.flex.machine.free)
+            → self.new.memory.touches ≤ self.old.memory.touches + 59 }
     {
         let Ok(at) = search(&self.rows, addr) else {
             return Err(GlobalError::UnknownAddress);
@@ -214,6 +229,7 @@ impl<Options: GlobalTlsfOptions> Locked<Options> {
         ensures layouts { IfOk result (λ to. (a : ℕ) → a ≢ at addr → layout_at self.new.heap a ≡ layout_at self.old.heap a) }
         ensures contents { IfOk result (λ to. (a : ℕ) → a ≢ at addr → content_at self.new.heap a ≡ content_at self.old.heap a) }
         ensures same { OnErr result (self.new.heap ≡ self.old.heap) }
+        ensures touches { self.new.memory.touches ≤ self.old.memory.touches + 25 }
     {
         let Ok(at) = search(&self.rows, addr) else {
             return Err(GlobalError::UnknownAddress);
@@ -278,6 +294,7 @@ impl<Options: GlobalTlsfOptions> Locked<Options> {
         ensures layouts { layout_at self.new.heap ≡ layout_at self.old.heap }
         ensures contents { OnOk result ((a : ℕ) → a ≢ at addr → content_at self.new.heap a ≡ content_at self.old.heap a) }
         ensures same { OnErr result (self.new.heap ≡ self.old.heap) }
+        ensures touches { self.new.memory.touches ≤ self.old.memory.touches + 3 }
     {
         let Ok(_) = search(&self.rows, addr) else {
             return Err(GlobalError::UnknownAddress);
@@ -287,6 +304,17 @@ impl<Options: GlobalTlsfOptions> Locked<Options> {
         }
         write_at(self.flex.payload_mut(addr), offset, bytes);
         Ok(())
+    }
+}
+
+impl<Options: GlobalTlsfOptions> Locked<Options> {
+    /// The live addresses with the layouts that were last asked, in the order of the addresses. The memory is dropped.
+    pub fn into_rows(self) -> Vec<(Addr, Layout)>
+        ensures rows { result.items ≡ self.heap.asked }
+        ensures sorted { IsSorted result.items }
+    {
+        let Locked { flex: _, rows } = self;
+        rows
     }
 }
 

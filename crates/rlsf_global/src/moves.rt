@@ -1,12 +1,16 @@
 //! Payloads that get another size, where they stand or elsewhere.
 
-ghost use Rattle.std.specs.Prelude.{◌≡◌, ◌≤◌, List, Ok, Err, Some, IfNone, IfSome, length};
+ghost use Rattle.std.specs.Prelude.{◌≡◌, ◌≤◌, ◌+◌, ℕ, List, Ok, Err, Some, IfNone, IfSome, IsSome, false, length, true};
 ghost use Rattle.rlsf_base.specs.Addr.{at};
+ghost use Rattle.rlsf_base.specs.Sizes.{request_size};
 ghost use Rattle.rlsf_flex.specs.StandsFor.{FlexStandsFor};
 ghost use Rattle.rlsf_global.specs.Locked.{heap_of};
 ghost use Rattle.rlsf_placement.specs.Pages.{MayOwe};
 ghost use Rattle.rlsf_global.specs.Steps.Moves.{IsMoved, StaysRefused};
+ghost use Rattle.rlsf_machine.specs.Allocate.{choice};
 ghost use Rattle.rlsf_machine.specs.Callers.{align_at, bytes_at};
+ghost use Rattle.rlsf_machine.specs.Reallocate.{Reallocates};
+ghost use Rattle.rlsf_machine.specs.State.{State};
 ghost use Rattle.rlsf_placement.specs.declared.error.GlobalError.TheVariants.{NoRoom};
 ghost use Rattle.rlsf_placement.specs.Cursor.{terms_of};
 ghost use Rattle.rlsf_placement.specs.Moves.{MovesAway, ReallocatesTo};
@@ -37,6 +41,8 @@ pub(crate) fn move_away<Options: GlobalTlsfOptions>(
     ensures moved { IfSome result (λ to. IsMoved flex.old flex.new (at addr) wanted (at to)) }
     ensures none { IfNone result ((rows : List Row) → MovesAway (heap_of flex.old rows) (at addr) keep wanted (Err NoRoom) (heap_of flex.new rows)) }
     ensures refused { IfNone result (StaysRefused flex.old flex.new) }
+    ensures touches { IsSome (choice 64 (request_size wanted.size wanted.align) flex.old.state.machine.free)
+        → flex.new.memory.touches ≤ flex.old.memory.touches + 59 }
 {
     let to = flex.allocate(wanted)?;
     flex.copy_payload(addr, to, keep);
@@ -61,6 +67,10 @@ pub(crate) fn resize<Options: GlobalTlsfOptions>(
     ensures none { IfNone result ((rows : List Row) → ReallocatesTo Options.ENABLE_REALLOCATION (heap_of flex.old rows) (at addr) layout wanted (Err NoRoom)
         (heap_of flex.new rows)) }
     ensures refused { IfNone result (StaysRefused flex.old flex.new) }
+    ensures touches { Options.ENABLE_REALLOCATION ≡ true → (to : ℕ) (m : State)
+        → Reallocates 64 flex.old.state.machine (at addr) wanted.size (Some to) m → flex.new.memory.touches ≤ flex.old.memory.touches + 66 }
+    ensures touches_elsewhere { Options.ENABLE_REALLOCATION ≡ false → IsSome (choice 64 (request_size wanted.size wanted.align) flex.old.state.machine.free)
+        → flex.new.memory.touches ≤ flex.old.memory.touches + 59 }
 {
     if Options::ENABLE_REALLOCATION {
         flex.reallocate(addr, wanted)

@@ -1,3 +1,4 @@
+use Rattle.std.proofs.Common.{arith}
 use Rattle.rlsf_base.specs.Addr.{at}
 use Rattle.rlsf_global.proofs.MovedPayloads.{moved_away, moved_away_seen, not_allocated_stays, not_moved}
 use Rattle.rlsf_global.proofs.Results.{for_none}
@@ -25,3 +26,13 @@ returns-clause-moved g c =
     let third = c.deallocate.ensures in
     moved_away_seen c.args.flex.now c.allocate.new.self c.copy_payload.new.self c.deallocate.new.self (at c.args.addr) c.args.keep c.args.wanted c.in_ok-to.to first.step second.step third.step
     c.args.align c.requires.live first.new (record { live = first.live; sized = first.sized; few = first.few }) first.aligns first.bytes second.aligns second.bytes third.gone third.aligns third.bytes
+
+pub returns-in_err-to-clause-touches : goal.returns-in_err-to-clause-touches
+returns-in_err-to-clause-touches g c = λ some.
+    let first = c.in_err-to.ensures.touches some in
+    omega (arith, first)
+
+pub returns-clause-touches : goal.returns-clause-touches
+returns-clause-touches g c = λ some.
+    let first = c.in_ok-to.ensures.touches some in
+    omega (arith, first, c.copy_payload.ensures.touches, c.deallocate.ensures.touches)

@@ -1,4 +1,4 @@
-use Rattle.std.proofs.Common.{◌≡◌, ◌≢◌, ◌≤◌, ◌<◌, ◌+◌, ℕ, length, Ok, Err, Some, None, IsSome, Option, refl, subst, sym}
+use Rattle.std.proofs.Common.{true≢false, ◌∙◌, ◌≡◌, ◌≢◌, ◌≤◌, ◌<◌, ◌+◌, ℕ, length, Ok, Err, Some, None, IsSome, Option, refl, subst, sym}
 use Rattle.std.specs.declared.num.NonZeroUsize.{NonZeroUsize}
 use Rattle.rlsf_base.specs.Addr.{at, reply}
 use Rattle.rlsf_flex.specs.StandsFor.{FlexSteps}
@@ -60,3 +60,15 @@ pub returns-else-ENABLE_REALLOCATION-clause-none : goal.returns-else-ENABLE_REAL
 returns-else-ENABLE_REALLOCATION-clause-none g c = for_none c.move_away.result (λ none rows. subst
     (λ enabled. ReallocatesTo enabled (heap_of c.args.flex.now rows) (at c.args.addr) c.args.layout c.args.wanted (Err NoRoom) (heap_of c.move_away.new.flex rows))
     c.if-ENABLE_REALLOCATION.ensures (none_of c.move_away.result none c.move_away.ensures.none rows))
+
+pub returns-then-ENABLE_REALLOCATION-clause-touches : goal.returns-then-ENABLE_REALLOCATION-clause-touches
+returns-then-ENABLE_REALLOCATION-clause-touches g c = λ on to m does. c.reallocate.ensures.touches to m does
+
+pub returns-then-ENABLE_REALLOCATION-clause-touches_elsewhere : goal.returns-then-ENABLE_REALLOCATION-clause-touches_elsewhere
+returns-then-ENABLE_REALLOCATION-clause-touches_elsewhere g c = λ off some. absurd (true≢false (c.if-ENABLE_REALLOCATION.ensures ∙ off))
+
+pub returns-else-ENABLE_REALLOCATION-clause-touches : goal.returns-else-ENABLE_REALLOCATION-clause-touches
+returns-else-ENABLE_REALLOCATION-clause-touches g c = λ on to m does. absurd (true≢false (sym on ∙ sym c.if-ENABLE_REALLOCATION.ensures))
+
+pub returns-else-ENABLE_REALLOCATION-clause-touches_elsewhere : goal.returns-else-ENABLE_REALLOCATION-clause-touches_elsewhere
+returns-else-ENABLE_REALLOCATION-clause-touches_elsewhere g c = λ off some. c.move_away.ensures.touches some

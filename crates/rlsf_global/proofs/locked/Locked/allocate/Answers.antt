@@ -55,3 +55,9 @@ returns-clause-contents g c = rw (← c.self.view_is) (
     let before = heap_of c.self.inside.flex c.self.inside.rows.items in
     let after = heap_of c.allocate.new.self c.place.new.rows.items in
     λ a off. content_at-bytes before after a a (c.in-Some.ensures.bytes a off))
+
+pub returns-in_default-clause-touches : goal.returns-in_default-clause-touches
+returns-in_default-clause-touches g c = rw (← c.self.view_is) c.in_default.ensures.touches
+
+pub returns-clause-touches : goal.returns-clause-touches
+returns-clause-touches g c = rw (← c.self.view_is) c.in-Some.ensures.touches

@@ -51,3 +51,6 @@ returns-clause-contents g c = rw (← c.self.view_is) (
     let before = heap_of c.self.inside.flex c.self.inside.rows.items in
     let after = heap_of c.deallocate.new.self c.remove-row.new.self.items in
     λ a off. content_at-bytes before after a a (c.deallocate.ensures.bytes a off))
+
+pub returns-clause-touches : goal.returns-clause-touches
+returns-clause-touches g c = rw (← c.self.view_is) c.deallocate.ensures.touches

@@ -1,5 +1,8 @@
+use Rattle.rlsf_base.specs.Sizes.{request_size}
+use Rattle.rlsf_machine.specs.Allocate.{choice}
+use Rattle.rlsf_machine.specs.Reallocate.{Reallocates}
+use Rattle.std.proofs.Common.{IsSome, ◌≡◌, ◌≤◌, length, Some, None, Ok, Err, lit<, ap, ◌∙◌, subst, sym}
 use Rattle.rlsf_global.proofs.Layouts.{content_at-bytes, layout_at-moved_left, layout_at-moved_other, layout_at-none, layout_at-put_here}
-use Rattle.std.proofs.Common.{◌≡◌, ◌≤◌, length, Some, None, Ok, Err, lit<, ap, ◌∙◌, subst, sym}
 use Rattle.rlsf_base.specs.Addr.{at}
 use Rattle.rlsf_global.specs.Locked.{heap_of}
 use Rattle.rlsf_global.proofs.Checks.{same_align, same_size}
@@ -112,3 +115,29 @@ pub returns-in_default-resize-clause-same : goal.returns-in_default-resize-claus
 returns-in_default-resize-clause-same g c = rw (← c.self.view_is) (
     let stays = c.in_default-resize.ensures.refused in
     same_heap c.self.inside.flex c.resize.new.flex c.self.inside.rows.items stays.state stays.source)
+
+pub returns-in_default-resize-clause-touches : goal.returns-in_default-resize-clause-touches
+returns-in_default-resize-clause-touches g c = rw (← c.self.view_is) (
+    let wanted = c.from_size_align_unchecked-wanted in
+    λ on to m does. c.resize.ensures.touches on to m
+    (subst (λ n. Reallocates 64 c.self.inside.flex.state.machine (at c.args.addr) n (Some to) m) (sym wanted.ensures.0) does))
+
+pub returns-in_default-resize-clause-touches_elsewhere : goal.returns-in_default-resize-clause-touches_elsewhere
+returns-in_default-resize-clause-touches_elsewhere g c = rw (← c.self.view_is) (
+    let wanted = c.from_size_align_unchecked-wanted in
+    let free = c.self.inside.flex.state.machine.free in
+    let same = ap (λ n. request_size n c.args.layout.align) (sym wanted.ensures.0) ∙ ap (request_size wanted.result.size) (sym (wanted.ensures.1 ∙ c.align.ensures.value)) in
+    λ off some. c.resize.ensures.touches_elsewhere off (subst (λ n. IsSome (choice 64 n free)) same some))
+
+pub returns-clause-touches : goal.returns-clause-touches
+returns-clause-touches g c = rw (← c.self.view_is) (
+    let wanted = c.from_size_align_unchecked-wanted in
+    λ on to m does. c.resize.ensures.touches on to m
+    (subst (λ n. Reallocates 64 c.self.inside.flex.state.machine (at c.args.addr) n (Some to) m) (sym wanted.ensures.0) does))
+
+pub returns-clause-touches_elsewhere : goal.returns-clause-touches_elsewhere
+returns-clause-touches_elsewhere g c = rw (← c.self.view_is) (
+    let wanted = c.from_size_align_unchecked-wanted in
+    let free = c.self.inside.flex.state.machine.free in
+    let same = ap (λ n. request_size n c.args.layout.align) (sym wanted.ensures.0) ∙ ap (request_size wanted.result.size) (sym (wanted.ensures.1 ∙ c.align.ensures.value)) in
+    λ off some. c.resize.ensures.touches_elsewhere off (subst (λ n. IsSome (choice 64 n free)) same some))

@@ -98,3 +98,9 @@ pub returns-in_default-move_away-clause-same : goal.returns-in_default-move_away
 returns-in_default-move_away-clause-same g c = rw (← c.self.view_is) (
     let stays = c.in_default-move_away.ensures.refused in
     same_heap c.self.inside.flex c.move_away.new.flex c.self.inside.rows.items stays.state stays.source)
+
+pub returns-in_default-move_away-clause-touches : goal.returns-in_default-move_away-clause-touches
+returns-in_default-move_away-clause-touches g c = rw (← c.self.view_is) c.move_away.ensures.touches
+
+pub returns-clause-touches : goal.returns-clause-touches
+returns-clause-touches g c = rw (← c.self.view_is) c.move_away.ensures.touches

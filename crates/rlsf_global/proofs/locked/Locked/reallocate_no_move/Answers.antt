@@ -1,8 +1,7 @@
-use Rattle.std.proofs.Common.{◌≡◌}
+use Rattle.std.proofs.Common.{◌≡◌, Some, None, Ok, Err, lit<, ap, ◌∙◌, subst, sym}
 use Rattle.rlsf_placement.specs.Heap.{layout_at}
 use Rattle.rlsf_global.proofs.MovedPayloads.{same_heap}
 use Rattle.rlsf_global.proofs.Layouts.{content_at-bytes, layout_at-moved_other, layout_at-put_here}
-use Rattle.std.proofs.Common.{◌≡◌, Some, None, Ok, Err, lit<, ap, ◌∙◌, subst, sym}
 use Rattle.rlsf_base.specs.Addr.{at}
 use Rattle.rlsf_global.specs.Locked.{heap_of}
 use Rattle.rlsf_global.proofs.Checks.{same_align}
@@ -106,3 +105,9 @@ pub returns-in_default-reallocate_no_move-clause-same : goal.returns-in_default-
 returns-in_default-reallocate_no_move-clause-same g c = rw (← c.self.view_is) (
     let did = c.in_default-reallocate_no_move.ensures in
     same_heap c.self.inside.flex c.reallocate_no_move.new.self c.self.inside.rows.items did.same did.source)
+
+pub returns-in_default-reallocate_no_move-clause-touches : goal.returns-in_default-reallocate_no_move-clause-touches
+returns-in_default-reallocate_no_move-clause-touches g c = rw (← c.self.view_is) c.reallocate_no_move.ensures.touches
+
+pub returns-clause-touches : goal.returns-clause-touches
+returns-clause-touches g c = rw (← c.self.view_is) c.reallocate_no_move.ensures.touches

@@ -1,5 +1,5 @@
 use Rattle.rlsf_global.proofs.Layouts.{content_at-bytes, content_at-is, layout_at-row}
-use Rattle.std.proofs.Common.{◌+◌, nat_le, length, Ok, Err, lit<, refl, ap, ◌∙◌, subst, sym}
+use Rattle.std.proofs.Common.{arith, ◌+◌, nat_le, length, Ok, Err, lit<, refl, ap, ◌∙◌, subst, sym}
 use Rattle.std.specs.List.{splice}
 use Rattle.rlsf_base.specs.Addr.{at}
 use Rattle.rlsf_flex.specs.Lending.{written}
@@ -70,3 +70,8 @@ returns-clause-contents g c = rw (← c.self.view_is) (
     let before = heap_of c.self.inside.flex c.self.inside.rows.items in
     let after = heap_of (written c.self.inside.flex (at c.args.addr) (length c.payload_mut.result.now) w) c.self.inside.rows.items in
     λ a off. content_at-bytes before after a a (c.payload_mut.ensures.bytes w a off))
+
+pub returns-clause-touches : goal.returns-clause-touches
+returns-clause-touches g c = rw (← c.self.view_is) (
+    let (chunks, after, source, place, stands, touches, copied) = c.payload_mut.ensures.rest c.write_at.new.payload in
+    omega (arith, touches))
