@@ -8,6 +8,8 @@
 #[cfg(test)]
 mod drawing;
 #[cfg(test)]
+mod longest;
+#[cfg(test)]
 mod objects;
 #[cfg(test)]
 mod queues;

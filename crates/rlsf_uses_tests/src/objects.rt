@@ -149,3 +149,50 @@ fn objects(rt: HostRuntime) -> Result<(), Fail> {
     }
     Ok(())
 }
+
+/// The start and the length of a memory, the size and the alignment of the objects in it, and how many may be out at once.
+static CAPACITIES: [(usize, usize, usize, usize, usize); 14] = [
+    (4096, 63, 16, 8, 0),
+    (4096, 64, 16, 8, 1),
+    (4096, 255, 16, 8, 6),
+    (4096, 256, 16, 8, 7),
+    // The pool begins at the next multiple of 32.
+    (4097, 286, 16, 8, 6),
+    (4097, 287, 16, 8, 7),
+    // At multiples of 32 an object of 40 bytes takes 96.
+    (4096, 288, 40, 32, 2),
+    // Of 752 bytes, with 16 more, 100 fill a pool up to its end.
+    (4096, 76831, 752, 16, 99),
+    (4096, 76832, 752, 16, 100),
+    // One of 700 bytes takes 736, and is sought where 768 are free. Of 10 times 736 bytes and once more, 8 parts of 17 serve.
+    (4096, 799, 700, 1, 0),
+    (4096, 800, 700, 1, 1),
+    (4096, 7392, 700, 1, 5),
+    // At multiples of 64 one of 64 bytes takes up to 128, of which the same holds.
+    (4096, 160, 64, 64, 1),
+    (4096, 1312, 64, 64, 5),
+];
+
+/// How many objects a pool hands out until it refuses one for want of room, and at most 200.
+fn taken(pool: &mut Objects) -> usize {
+    for count in 0..200 {
+        if pool.take() == Err(TakeError::NoRoom) {
+            return count;
+        }
+    }
+    200
+}
+
+#[test]
+fn capacities(rt: HostRuntime) -> Result<(), Fail> {
+    for (start, len, size, align, capacity) in CAPACITIES {
+        let memory = Memory::new(rt.alloc(), start, len)?;
+        let mut pool = Objects::new(rt.alloc(), memory, Layout::from_size_align(size, align)?);
+        assert_eq!(rt;
+            (pool.capacity(), taken(&mut pool)),
+            (capacity, capacity),
+            "{size} bytes at multiples of {align} in {len}"
+        );
+    }
+    Ok(())
+}

@@ -14,7 +14,7 @@ fn empty(alloc: Global, len: usize, capacity: usize) -> Result<Messages, Fail> {
 
 /// What a queue is asked, and what it must answer.
 #[derive(Clone, Copy)]
-enum Step {
+pub(crate) enum Step {
     /// A push of these bytes.
     Push(&'static [u8], Result<(), PushError>),
     /// A pop into so many bytes, and the message.
@@ -65,20 +65,14 @@ fn is_right(queue: &mut Messages, step: Step) -> bool {
     }
 }
 
-/// The index of the first step that a queue over so many bytes answers otherwise.
-fn first_wrong(
-    alloc: Global,
-    len: usize,
-    capacity: usize,
-    steps: &[Step],
-) -> Result<Option<usize>, Fail> {
-    let mut queue = empty(alloc, len, capacity)?;
+/// The index of the first step that a queue answers otherwise.
+pub(crate) fn first_wrong(queue: &mut Messages, steps: &[Step]) -> Option<usize> {
     for (index, step) in steps.iter().enumerate() {
-        if !is_right(&mut queue, *step) {
-            return Ok(Some(index));
+        if !is_right(queue, *step) {
+            return Some(index);
         }
     }
-    Ok(None)
+    None
 }
 
 const FULL_QUEUE: &[Step] = &[
@@ -140,13 +134,14 @@ static SCRIPTS: [(usize, usize, &[Step]); 5] = [
 #[test]
 fn queues(rt: HostRuntime) -> Result<(), Fail> {
     for (len, capacity, steps) in SCRIPTS {
-        assert_eq!(rt; first_wrong(rt.alloc(), len, capacity, steps)?, None);
+        let mut queue = empty(rt.alloc(), len, capacity)?;
+        assert_eq!(rt; first_wrong(&mut queue, steps), None);
     }
     Ok(())
 }
 
 /// The next word of Knuth's linear generator for 64 bits, of which the high bytes serve best.
-fn next(word: u64) -> u64 {
+pub(crate) fn next(word: u64) -> u64 {
     word.wrapping_mul(6364136223846793005)
         .wrapping_add(1442695040888963407)
 }
@@ -165,16 +160,28 @@ fn message_of(alloc: Global, word: u64, len: usize) -> Result<Vec<u8>, AllocErro
 
 /// A queue, the messages that must be in it, and how often each refusal came.
 #[derive(Drop)]
-struct Pair {
+pub(crate) struct Pair {
     queue: Messages,
     expected: VecDeque<Vec<u8>>,
-    full: u32,
-    no_room: u32,
-    too_short: u32,
-    empty: u32,
+    pub(crate) full: u32,
+    pub(crate) no_room: u32,
+    pub(crate) too_short: u32,
+    pub(crate) empty: u32,
 }
 
 impl Pair {
+    /// A queue without a message.
+    pub(crate) fn new(alloc: Global, queue: Messages) -> Pair {
+        Pair {
+            queue,
+            expected: VecDeque::new(alloc),
+            full: 0,
+            no_room: 0,
+            too_short: 0,
+            empty: 0,
+        }
+    }
+
     /// Pushes a message to both, and tells whether the answer is right: `Full` exactly if there are as many as the queue can
     /// hold, and `NoRoom` only while it has a message.
     fn push(&mut self, message: Vec<u8>) -> Result<bool, Fail> {
@@ -192,7 +199,7 @@ impl Pair {
                 self.no_room = self.no_room.wrapping_add(1);
                 Ok(!is_full && !self.expected.is_empty())
             }
-            // This queue takes messages of any length.
+            // The queues here take messages of all lengths that are drawn.
             Err(PushError::TooLong) => Ok(false),
         }
     }
@@ -249,23 +256,27 @@ fn random_step(
     Ok(pair.pop(&mut into[..len], rest))
 }
 
-#[test]
-fn many_steps_beside_a_deque(rt: HostRuntime) -> Result<(), Fail> {
-    let mut pair = Pair {
-        queue: empty(rt.alloc(), 8192, 24)?,
-        expected: VecDeque::new(rt.alloc()),
-        full: 0,
-        no_room: 0,
-        too_short: 0,
-        empty: 0,
-    };
+/// Does so many random steps, and answers the index of the first one that comes out otherwise.
+pub(crate) fn wrong_random_step(
+    alloc: Global,
+    pair: &mut Pair,
+    steps: u32,
+) -> Result<Option<u32>, Fail> {
     let mut into = [0; 1024];
     let mut word = 0x9e3779b97f4a7c15;
-    for index in 0..10_000 {
+    for index in 0..steps {
         word = next(word);
-        let is_right = random_step(rt.alloc(), &mut pair, &mut into, word)?;
-        assert!(rt; is_right && pair.is_same_len(), "at {index}");
+        if !random_step(alloc, pair, &mut into, word)? || !pair.is_same_len() {
+            return Ok(Some(index));
+        }
     }
+    Ok(None)
+}
+
+#[test]
+fn many_steps_beside_a_deque(rt: HostRuntime) -> Result<(), Fail> {
+    let mut pair = Pair::new(rt.alloc(), empty(rt.alloc(), 8192, 24)?);
+    assert_eq!(rt; wrong_random_step(rt.alloc(), &mut pair, 10_000)?, None);
     let fewest = pair
         .full
         .min(pair.no_room)

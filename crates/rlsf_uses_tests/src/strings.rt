@@ -3,6 +3,7 @@
 //! A memory from the address 4096 on loses 32 bytes to the word behind its last block, and a string of up to 16 bytes takes 32 of
 //! the others.
 
+use crate::queues::next;
 use rlsf::Memory;
 use rlsf_uses::{StringError, Strings, UnknownHandle};
 use std::alloc::Global;
@@ -129,5 +130,64 @@ fn strings(rt: HostRuntime) -> Result<(), Fail> {
     for (len, steps) in SCRIPTS {
         assert_eq!(rt; first_wrong(rt.alloc(), len, steps)?, None);
     }
+    Ok(())
+}
+
+/// The most strings in the random run, and the most bytes that one of them has.
+const MOST: usize = 8;
+
+const LONGEST: usize = 200;
+
+/// The handles of strings, and their lengths.
+type Known = [Option<(usize, usize)>; MOST];
+
+/// Makes a string, of two times the bytes of another one if that has few enough. Answers its handle and its length.
+fn made(strings: &mut Strings, other: Option<(usize, usize)>) -> Option<(usize, usize)> {
+    match other {
+        Some((handle, len)) if len <= LONGEST / 2 => {
+            let joined = strings.concat(handle, handle).ok()?;
+            Some((joined, 2 * len))
+        }
+        _ => Some((strings.create().ok()?, 0)),
+    }
+}
+
+/// One step that a word chooses: a string is made if there is none in its place, and else grows, or is dropped where it would grow
+/// past the longest. Tells whether it was granted.
+fn random_step(strings: &mut Strings, known: &mut Known, word: u64) -> bool {
+    let [place, other, len, ..] = word.to_be_bytes();
+    let place = place as usize % MOST;
+    let more = &[7; 64][..len as usize % 64];
+    match known[place] {
+        None => {
+            known[place] = made(strings, known[other as usize % MOST]);
+            known[place].is_some()
+        }
+        Some((handle, len)) if len <= LONGEST - more.len() => {
+            known[place] = Some((handle, len + more.len()));
+            strings.append(handle, more).is_ok()
+        }
+        Some((handle, _)) => {
+            known[place] = None;
+            strings.drop_string(handle).is_ok()
+        }
+    }
+}
+
+#[test]
+fn many_steps_within_a_budget(rt: HostRuntime) -> Result<(), Fail> {
+    // A string of 200 bytes is sought with 224. With eight of them live before each call, that wants 32 bytes, 8 times and 9 times
+    // 224, and an eighth of the latter, rounded up to 256.
+    let memory = Memory::new(rt.alloc(), 4096, 4096)?;
+    let mut strings = Strings::new(rt.alloc(), memory);
+    let mut known = [None; MOST];
+    let mut most = 0;
+    let mut word = 0x9e3779b97f4a7c15;
+    for index in 0..10_000 {
+        word = next(word);
+        assert!(rt; random_step(&mut strings, &mut known, word), "at {index}");
+        most = strings.len().max(most);
+    }
+    assert_eq!(rt; most, MOST);
     Ok(())
 }

@@ -1,0 +1,55 @@
+//! Runs scripts with the allocator behind the lock, to compare it with what a model says: reads them from standard input, and writes
+//! the reply of each call to standard output, one a line.
+//!
+//! A script begins with a line `KIND START LEN`: KIND is `coalescing` or `small`, and START and LEN are the memory's. Each other line is
+//! a call. What a line has from ` = ` on is left out.
+//!
+//! | Line | Makes the call |
+//! |---|---|
+//! | `alloc SIZE ALIGN`, `callocate SIZE ALIGN` | `allocate` |
+//! | `dealloc ADDR SIZE ALIGN`, `cdeallocate ADDR` | `dealloc`, `deallocate` |
+//! | `realloc ADDR SIZE ALIGN NEW`, `creallocate ADDR SIZE ALIGN` | `realloc`, `reallocate` |
+//! | `norealloc ADDR SIZE ALIGN NEW` | `reallocate_no_move` |
+//! | `usable ADDR` | `allocation_usable_size` |
+//! | `write ADDR OFFSET LEN BYTE` | `write_payload` of LEN bytes, from BYTE on, each one more than the one before it, modulo 256 |
+//! | `read ADDR OFFSET LEN` | `read_payload` |
+//!
+//! A reply is `at ADDR`, `done`, `size N`, `bytes B,B,..` or the name of the error. A text that isn't so ends the program with status 1.
+//!
+//! The script `random_scripts.py` makes random scripts and compares the replies with the model's.
+#![tactic(auto)]
+
+mod call;
+mod error;
+mod reply;
+mod script;
+
+use error::{Failure, ReplayError};
+use script::output_of;
+use std::io;
+use std::process::ExitCode;
+
+fn main(rt: HostRuntime) -> ExitCode {
+    match replay(&rt) {
+        Ok(()) => ExitCode::SUCCESS,
+        Err(error) => {
+            // Where standard error fails too, only the status tells of the error.
+            let _ = eprintln!(rt; "{error}");
+            ExitCode::FAILURE
+        }
+    }
+}
+
+/// Runs all scripts, and then prints the replies.
+fn replay(rt: &(impl Input + Print + AllocGlobal)) -> Result<(), ReplayError> {
+    let input = io::read_to_string(rt.alloc(), rt.reader()).map_err(|error| on_line(
+        0,
+        error.into(),
+    ))?;
+    let output = output_of(rt.alloc(), &input)?;
+    print!(rt; "{output}").map_err(|error| on_line(0, error.into()))
+}
+
+fn on_line(line: usize, failure: Failure) -> ReplayError {
+    ReplayError { line, failure }
+}

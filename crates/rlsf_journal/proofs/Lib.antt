@@ -1,0 +1,4 @@
+pub mod Closings
+mod Equal
+mod ReceiptsOf
+mod Replays

@@ -1,0 +1,5 @@
+pub mod Close
+pub mod Entries
+pub mod Laws
+pub mod Passes
+pub mod Replay

@@ -1,0 +1,37 @@
+//! What one caller was told.
+
+ghost use Rattle.std.specs.Prelude.{◌≡◌};
+
+use crate::entry::Receipt;
+use std::marker::Model;
+
+/// A caller's number, and a receipt of each of its calls. It can't be copied, so no two callers go by one number.
+#[derive(Drop)]
+pub struct Pass {
+    pub(crate) caller: usize,
+    pub(crate) receipts: Vec<Receipt>,
+}
+
+impl Model for Pass {
+    ghost use Rattle.rlsf_journal.specs.Passes.{PassContents};
+
+    ghost Value = { PassContents };
+
+    ghost view = { λ p. record { caller = p.caller; receipts = p.receipts.items } };
+}
+
+impl Pass {
+    /// The caller's number.
+    pub fn caller(&self) -> usize
+        ensures { result ≡ self.now.caller }
+    {
+        self.caller
+    }
+
+    /// A receipt of each call that was answered, in the order of the calls. None was made where the system refused memory.
+    pub fn receipts(&self) -> &[Receipt]
+        ensures { result.now ≡ self.now.receipts }
+    {
+        &self.receipts
+    }
+}
