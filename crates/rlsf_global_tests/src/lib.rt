@@ -2,6 +2,14 @@
 #![tactic(auto)]
 
 #[cfg(test)]
+mod blocks;
+#[cfg(test)]
 mod locked;
 #[cfg(test)]
+mod originals;
+#[cfg(test)]
 mod pages;
+#[cfg(test)]
+mod shared;
+#[cfg(test)]
+mod threads;

@@ -1,0 +1,78 @@
+//! The blocks that calls leave, by their words in the memory.
+
+use rlsf_base::memory::{Layout, Memory};
+use rlsf_global::Locked;
+use std::num::NonZeroUsize;
+use std::test::Fail;
+
+/// The word at an address, if the memory has it.
+fn word_at(memory: &Memory, addr: usize) -> Option<u64> {
+    let offset = addr.checked_sub(memory.start())?;
+    if addr % 8 == 0 && offset <= memory.len() && memory.len() - offset >= 8 {
+        Some(memory.word(addr))
+    } else {
+        None
+    }
+}
+
+/// The address of the first word that isn't the one beside it.
+fn first_wrong(memory: &Memory, words: &[(usize, u64)]) -> Option<usize> {
+    for (addr, word) in words {
+        if word_at(memory, *addr) != Some(*word) {
+            return Some(*addr);
+        }
+    }
+    None
+}
+
+/// A used block of 32 bytes, one of 70016, a free one of 126528 and the chunk's end.
+static GROWN: [(usize, u64); 10] = [
+    (65536, 33),
+    (65544, 0),
+    (65568, 70017),
+    (65576, 65536),
+    (135584, 126528),
+    (135592, 65568),
+    (135600, 0),
+    (135608, 0),
+    (262112, 35),
+    (262120, 135584),
+];
+
+#[test]
+fn a_chunk_that_grew(rt: HostRuntime) -> Result<(), Fail> {
+    let memory = Memory::new(rt.alloc(), 65536, 196608)?;
+    let mut locked = Locked::<()>::new(rt.alloc(), memory);
+    let _ = locked.allocate(Layout::from_size_align(1, 1)?);
+    let _ = locked.allocate(Layout::from_size_align(70000, 1)?);
+    assert_eq!(rt; first_wrong(locked.memory_ref(), &GROWN), None);
+    Ok(())
+}
+
+/// A free block of 64 bytes, a used one of 96 with the word before its payload, a free one of 65344 and the chunk's end.
+static MOVED: [(usize, u64); 13] = [
+    (65536, 64),
+    (65544, 0),
+    (65552, 0),
+    (65560, 0),
+    (65600, 97),
+    (65608, 65536),
+    (65656, 65600),
+    (65696, 65344),
+    (65704, 65600),
+    (65712, 0),
+    (65720, 0),
+    (131040, 35),
+    (131048, 65696),
+];
+
+#[test]
+fn a_payload_that_moved(rt: HostRuntime) -> Result<(), Fail> {
+    let memory = Memory::new(rt.alloc(), 65536, 131072)?;
+    let mut locked = Locked::<()>::new(rt.alloc(), memory);
+    let _ = locked.allocate(Layout::from_size_align(40, 8)?);
+    let addr = NonZeroUsize::new(65552).expect(&rt, "an address");
+    let _ = locked.reallocate(addr, Layout::from_size_align(10, 64)?);
+    assert_eq!(rt; first_wrong(locked.memory_ref(), &MOVED), None);
+    Ok(())
+}

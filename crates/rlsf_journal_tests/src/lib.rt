@@ -1,0 +1,9 @@
+//! Tests of `rlsf_journal`. This crate has no other code.
+#![tactic(auto)]
+
+#[cfg(test)]
+mod calls;
+#[cfg(test)]
+mod refusals;
+#[cfg(test)]
+mod threads;
