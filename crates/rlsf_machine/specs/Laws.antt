@@ -388,3 +388,66 @@ abbrev pub EachGoesBack : Type 0
 EachGoesBack = (fl_bits sl_bits fllen sllen : ℕ) (memory : Range) (t : Terms) (s u : FlexState) (cs : List FlexEvent) → IsValid fl_bits sl_bits fllen sllen
     → IsFlexWellFormed fllen sllen memory t s → IsFlexRun fllen sllen memory t s cs u
     → OwesAfterAll s.pools (notes_in cs) u.pools × OwesAfterAll s.pools (notes_in cs ++ notes_at_end t u.pools) (owed_at_end t u.pools)
+
+-- the laws of states and steps, by name
+pub record StepLaws : Type 0 where
+  pub empty : EmptyIsWellFormed
+  pub steps : StepsKeepWellFormed
+  pub runs : RunsKeepWellFormed
+  pub determined : StepsAreDetermined
+  pub order : OrderMeansNothing
+  pub refusals : RefusalChangesNothing
+  pub cut : ChunksAreCutOffTheFront
+  pub aligned : LiveAddressesAreAligned
+  pub one_block : LiveAddressHasOneBlock
+  pub disjoint : PayloadsAreDisjoint
+  pub in_one_chunk : PayloadLiesInOneChunk
+  pub allocated_size : AllocationHasSize
+  pub reallocated_size : ReallocationHasSize
+  pub room : RoomIsFound
+  pub pool_has_room : PoolHasRoom
+  pub answers : AllocationAnswers
+  pub refused : RefusedWithoutReach
+  pub chosen : ChoiceIsFirstOfLeast
+  pub idle : IdleChunkIsOneRange
+  pub chunks_stay : ChunksStay
+  pub others_stay : OtherPayloadsStay
+  pub handed_out : HandedOutIsNew
+  pub moved : ReallocatedIsLive
+  pub live_stays : LiveStays
+  pub released : ReleasedIsNotLive
+  pub filled : FilledHasBytes
+  pub fill_leaves : FillLeavesOthers
+  pub release_leaves : DeallocationLeavesOthers
+  pub inserted_range : InsertedChunksLieInRange
+  pub was_used : UsedWasUsed
+  pub similar : SimilarStatesAgree
+  pub each_call : EachCallAnswers
+  pub kept_bytes : ReallocationKeepsBytes
+  pub in_block : PayloadIsInBlock
+  pub callers : CallersSeeMap
+  pub idle_room : IdleChunkHasRoom
+  pub fill_similar : FillIsSimilar
+  pub removal : RemovalLeavesOthers
+  pub without_move : UnmovedIsReallocated
+
+-- the laws of the machine that asks a source for memory, by name
+pub record SourceLaws : Type 0 where
+  pub flex_callers : FlexCallersSeeMap
+  pub flex_empty : FlexEmptyIsWellFormed
+  pub flex_growth : GrowthKeepsWellFormed
+  pub flex_room : GrowthHasRoom
+  pub flex_steps : FlexStepsKeepWellFormed
+  pub flex_runs : FlexRunsKeepWellFormed
+  pub flex_as_runs : FlexRunsAreRuns
+  pub flex_map : FlexStepsChangeMap
+  pub flex_apart : FlexPayloadsAreApart
+  pub flex_allocated_size : FlexAllocationHasSize
+  pub flex_reallocated_size : FlexReallocationHasSize
+  pub flex_kept_bytes : FlexReallocationKeepsBytes
+  pub flex_others_stay : FlexOtherPayloadsStay
+  pub flex_was_used : FlexUsedWasUsed
+  pub flex_similar : FlexSimilarStatesAgree
+  pub flex_similar_runs : FlexSimilarRunsAgree
+  pub flex_each_call : FlexEachCallAnswers
+  pub each_goes_back : EachGoesBack

@@ -99,3 +99,20 @@ abbrev pub FlexNeverAsked : Type 0
 FlexNeverAsked = (live size align fllen sllen : ℕ) (memory : Range) (t : Terms) (s u : FlexState) (fronts : List Range) (cs : List FlexEvent) → IsWellFormed fllen sllen memory s.machine
     → s.machine.used ≡ [] → AreFronts s.machine.chunks fronts → 0 < length fronts → HasBudget live (request_size size align) sllen fronts → IsFlexRun fllen sllen memory t s cs u
     → AreWithin live size align 0 (events_in cs) → (notes_in cs ≡ []) × Runs fllen sllen memory s.machine (events_in cs) u.machine × ((e : Event) → IsIn e (events_in cs) → IsDenied e → ⊥)
+
+-- the laws of how much memory is enough, by name
+pub record SizingLaws : Type 0 where
+  pub few_free : FewFree
+  pub bytes : BytesAddUp
+  pub budget : BudgetIsEnough
+  pub modest_runs : ModestRunsAreNotDenied
+  pub live : LiveIsCounted
+  pub bounded_runs : BoundedRunsAreNotDenied
+  pub uniform_full : UniformIsFull
+  pub uniform_allocation : AllocationKeepsUniform
+  pub uniform_release : DeallocationKeepsUniform
+  pub uniform_runs : RunsKeepUniform
+  pub uniform_answers : UniformRunsAnswer
+  pub payload_pool : PayloadPoolIsEnough
+  pub object_pool : ObjectPoolIsExact
+  pub flex_never_asked : FlexNeverAsked

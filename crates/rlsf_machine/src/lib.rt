@@ -9,14 +9,15 @@
 //! and the state after.
 #![tactic(auto)]
 
-ghost use Rattle.rlsf_machine.specs.Laws.{EmptyIsWellFormed, StepsKeepWellFormed, RunsKeepWellFormed, StepsAreDetermined, OrderMeansNothing, RefusalChangesNothing, ChunksAreCutOffTheFront, LiveAddressesAreAligned, LiveAddressHasOneBlock, PayloadsAreDisjoint, PayloadLiesInOneChunk, AllocationHasSize, ReallocationHasSize, RoomIsFound, PoolHasRoom, AllocationAnswers, RefusedWithoutReach, ChoiceIsFirstOfLeast, IdleChunkIsOneRange, ChunksStay, RemovalLeavesOthers, OtherPayloadsStay, HandedOutIsNew, ReallocatedIsLive, LiveStays, ReleasedIsNotLive, FilledHasBytes, FillLeavesOthers, DeallocationLeavesOthers, InsertedChunksLieInRange, UsedWasUsed, SimilarStatesAgree, EachCallAnswers, ReallocationKeepsBytes, PayloadIsInBlock, CallersSeeMap, IdleChunkHasRoom, FillIsSimilar, FlexCallersSeeMap, FlexEmptyIsWellFormed, GrowthKeepsWellFormed, GrowthHasRoom, FlexStepsKeepWellFormed, FlexRunsKeepWellFormed, FlexRunsAreRuns, FlexStepsChangeMap, FlexPayloadsAreApart, FlexAllocationHasSize, FlexReallocationHasSize, FlexReallocationKeepsBytes, FlexOtherPayloadsStay, FlexUsedWasUsed, FlexSimilarStatesAgree, FlexSimilarRunsAgree, FlexEachCallAnswers, UnmovedIsReallocated, EachGoesBack};
-ghost use Rattle.rlsf_machine.specs.Sizing.{FewFree, BytesAddUp, BudgetIsEnough, ModestRunsAreNotDenied, LiveIsCounted, BoundedRunsAreNotDenied, UniformIsFull, AllocationKeepsUniform, DeallocationKeepsUniform, RunsKeepUniform, UniformRunsAnswer, FlexNeverAsked, PayloadPoolIsEnough, ObjectPoolIsExact};
+ghost use Rattle.rlsf_machine.specs.Laws.{SourceLaws, StepLaws};
+ghost use Rattle.rlsf_machine.specs.Sizing.{SizingLaws};
 
 /// Does nothing. Its contract states the laws of the machine, so that a check proves them.
 ///
-/// Each step keeps a state well-formed, and so does each run. A call and the state before it determine the
+/// `steps`: each step keeps a state well-formed, and so does each run. A call and the state before it determine the
 /// reply and the state after it but for fresh bytes; the order of chunks and of used blocks means nothing; a
-/// refused call changes nothing. Chunks are cut off an aligned part's front, and stay or grow but for a removal. A live address is
+/// refused call changes nothing. Chunks are cut off an aligned part's front, and stay or grow but for a removal, which takes
+/// the chunks and the free ranges in its range away, and nothing else. A live address is
 /// a multiple of its alignment and has one block; usable ranges of different payloads are disjoint, and each lies
 /// in one chunk. What was asked for is usable, and less than 32 bytes more. A free range that is longer by one
 /// SLLENth than what is sought makes an allocation succeed, which takes the first range of the least class that
@@ -30,10 +31,9 @@ ghost use Rattle.rlsf_machine.specs.Sizing.{FewFree, BytesAddUp, BudgetIsEnough,
 /// has a reply. A payload that gets another size keeps the bytes that both sizes have. To its callers the machine is a
 /// map from addresses to payloads, which each step changes as its call and its reply say. With nothing live, a chunk of
 /// the pool size that is computed for an allocation makes it succeed. A fill leaves a similar state. What gets
-/// A removal takes the chunks and the free ranges in its range away, and nothing else.
 /// another size without a move leads where a reallocation does, and stays at its address; or it is refused, and nothing changes.
 ///
-/// Over a source of memory too the machine is such a map to its callers, between any two states that are well-formed. The
+/// `sources`: over a source of memory too the machine is such a map to its callers, between any two states that are well-formed. The
 /// beginning is, and as long as the source answers what it may, memory that comes, each step and each run over it keep a
 /// state well-formed, and so they change the map as the calls say; and memory that comes for an allocation has room for it.
 /// After each run payloads lie apart, each in one chunk at a multiple of its alignment; sizes, the bytes that both sizes have,
@@ -43,7 +43,7 @@ ghost use Rattle.rlsf_machine.specs.Sizing.{FewFree, BytesAddUp, BudgetIsEnough,
 /// whatever of what it may answer the source answers. A trim gives the newest ranges back that hold no block in use; with trims too
 /// what is outstanding is what came and did not go back, so that each range goes back once, by a trim or at the end.
 ///
-/// How much memory is enough is known before the first call. There are at most as many free ranges as used blocks and chunks
+/// `sizing`: how much memory is enough is known before the first call. There are at most as many free ranges as used blocks and chunks
 /// together, and the free ranges, the used blocks and 32 bytes of each chunk add up to the chunks. So an allocation is not
 /// refused where the free bytes suffice for so few ranges; and in a run that begins with nothing live, with bounds on its
 /// sizes, its alignments and how many payloads live, nothing is refused where chunks, or fronts of them, have the budget for
@@ -52,75 +52,7 @@ ghost use Rattle.rlsf_machine.specs.Sizing.{FewFree, BytesAddUp, BudgetIsEnough,
 /// The lengths that are computed for so many payloads and for so many objects are enough, and exact. Within such bounds a source
 /// is never asked.
 pub fn laws()
-    ensures empty { EmptyIsWellFormed }
-    ensures steps { StepsKeepWellFormed }
-    ensures runs { RunsKeepWellFormed }
-    ensures determined { StepsAreDetermined }
-    ensures order { OrderMeansNothing }
-    ensures refusals { RefusalChangesNothing }
-    ensures cut { ChunksAreCutOffTheFront }
-    ensures aligned { LiveAddressesAreAligned }
-    ensures one_block { LiveAddressHasOneBlock }
-    ensures disjoint { PayloadsAreDisjoint }
-    ensures in_one_chunk { PayloadLiesInOneChunk }
-    ensures allocated_size { AllocationHasSize }
-    ensures reallocated_size { ReallocationHasSize }
-    ensures room { RoomIsFound }
-    ensures pool_has_room { PoolHasRoom }
-    ensures answers { AllocationAnswers }
-    ensures refused { RefusedWithoutReach }
-    ensures chosen { ChoiceIsFirstOfLeast }
-    ensures idle { IdleChunkIsOneRange }
-    ensures chunks_stay { ChunksStay }
-    ensures others_stay { OtherPayloadsStay }
-    ensures handed_out { HandedOutIsNew }
-    ensures moved { ReallocatedIsLive }
-    ensures live_stays { LiveStays }
-    ensures released { ReleasedIsNotLive }
-    ensures filled { FilledHasBytes }
-    ensures fill_leaves { FillLeavesOthers }
-    ensures release_leaves { DeallocationLeavesOthers }
-    ensures inserted_range { InsertedChunksLieInRange }
-    ensures was_used { UsedWasUsed }
-    ensures similar { SimilarStatesAgree }
-    ensures each_call { EachCallAnswers }
-    ensures kept_bytes { ReallocationKeepsBytes }
-    ensures in_block { PayloadIsInBlock }
-    ensures callers { CallersSeeMap }
-    ensures idle_room { IdleChunkHasRoom }
-    ensures fill_similar { FillIsSimilar }
-    ensures removal { RemovalLeavesOthers }
-    ensures without_move { UnmovedIsReallocated }
-    ensures flex_callers { FlexCallersSeeMap }
-    ensures flex_empty { FlexEmptyIsWellFormed }
-    ensures flex_growth { GrowthKeepsWellFormed }
-    ensures flex_room { GrowthHasRoom }
-    ensures flex_steps { FlexStepsKeepWellFormed }
-    ensures flex_runs { FlexRunsKeepWellFormed }
-    ensures flex_as_runs { FlexRunsAreRuns }
-    ensures flex_map { FlexStepsChangeMap }
-    ensures flex_apart { FlexPayloadsAreApart }
-    ensures flex_allocated_size { FlexAllocationHasSize }
-    ensures flex_reallocated_size { FlexReallocationHasSize }
-    ensures flex_kept_bytes { FlexReallocationKeepsBytes }
-    ensures flex_others_stay { FlexOtherPayloadsStay }
-    ensures flex_was_used { FlexUsedWasUsed }
-    ensures flex_similar { FlexSimilarStatesAgree }
-    ensures flex_similar_runs { FlexSimilarRunsAgree }
-    ensures flex_each_call { FlexEachCallAnswers }
-    ensures few_free { FewFree }
-    ensures bytes { BytesAddUp }
-    ensures budget { BudgetIsEnough }
-    ensures modest_runs { ModestRunsAreNotDenied }
-    ensures live { LiveIsCounted }
-    ensures bounded_runs { BoundedRunsAreNotDenied }
-    ensures uniform_full { UniformIsFull }
-    ensures uniform_allocation { AllocationKeepsUniform }
-    ensures uniform_release { DeallocationKeepsUniform }
-    ensures uniform_runs { RunsKeepUniform }
-    ensures uniform_answers { UniformRunsAnswer }
-    ensures payload_pool { PayloadPoolIsEnough }
-    ensures object_pool { ObjectPoolIsExact }
-    ensures flex_never_asked { FlexNeverAsked }
-    ensures each_goes_back { EachGoesBack }
+    ensures steps { StepLaws }
+    ensures sources { SourceLaws }
+    ensures sizing { SizingLaws }
 {}

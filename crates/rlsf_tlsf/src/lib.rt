@@ -1,7 +1,8 @@
 //! The allocator over pools that its caller hands in: two-level segregated fit (Masmano and others, ECRTS 2004).
 #![tactic(auto)]
 
-ghost use Rattle.rlsf_machine.specs.Laws.{EmptyIsWellFormed, StepsKeepWellFormed, RunsKeepWellFormed, StepsAreDetermined, OrderMeansNothing, RefusalChangesNothing, ChunksAreCutOffTheFront, LiveAddressesAreAligned, LiveAddressHasOneBlock, PayloadsAreDisjoint, PayloadLiesInOneChunk, AllocationHasSize, ReallocationHasSize, RoomIsFound, PoolHasRoom, AllocationAnswers, RefusedWithoutReach, ChoiceIsFirstOfLeast, IdleChunkIsOneRange, ChunksStay, RemovalLeavesOthers, OtherPayloadsStay, HandedOutIsNew, ReallocatedIsLive, LiveStays, ReleasedIsNotLive, FilledHasBytes, FillLeavesOthers, DeallocationLeavesOthers, InsertedChunksLieInRange, UsedWasUsed, SimilarStatesAgree, EachCallAnswers, ReallocationKeepsBytes, PayloadIsInBlock, CallersSeeMap, IdleChunkHasRoom, FillIsSimilar, FlexCallersSeeMap, FlexEmptyIsWellFormed, GrowthKeepsWellFormed, GrowthHasRoom, FlexStepsKeepWellFormed, FlexRunsKeepWellFormed, FlexRunsAreRuns, FlexStepsChangeMap, FlexPayloadsAreApart, FlexAllocationHasSize, FlexReallocationHasSize, FlexReallocationKeepsBytes, FlexOtherPayloadsStay, FlexUsedWasUsed, FlexSimilarStatesAgree, FlexSimilarRunsAgree, FlexEachCallAnswers, UnmovedIsReallocated, EachGoesBack};
+ghost use Rattle.rlsf_machine.specs.Laws.{SourceLaws, StepLaws};
+ghost use Rattle.rlsf_machine.specs.Sizing.{SizingLaws};
 ghost use Rattle.rlsf_blocks.specs.Laws.{WordsGiveBlock, WordsReadNoPayload};
 
 mod state;
@@ -12,96 +13,15 @@ pub use tlsf::Tlsf;
 
 /// Does nothing. Its contract states the laws of the states that an allocator stands for, so that a check proves them.
 ///
-/// Each step keeps a state well-formed, and so does each run. A call and the state before it determine the
-/// reply and the state after it but for fresh bytes; the order of chunks and of used blocks means nothing; a
-/// refused call changes nothing. Chunks are cut off an aligned part's front, and stay or grow but for a removal. A live address is
-/// a multiple of its alignment and has one block; usable ranges of different payloads are disjoint, and each lies
-/// in one chunk. What was asked for is usable, and less than 32 bytes more. A free range that is longer by one
-/// SLLENth than what is sought makes an allocation succeed, which takes the first range of the least class that
-/// reaches and is refused only where none reaches; so does a pool of the length that is computed for the
-/// allocation, at a multiple of 32. A chunk of which no block in use has a byte holds one free range. A step that doesn't name a
-/// payload leaves it as it was; what is handed out was not live and is live. A fill leaves its bytes in one
-/// payload, and a deallocation takes one away; neither changes another, or hands one out. A chunk that an insert
-/// makes lies in the range that was handed in. What a step names neither in its call nor in its reply, and is used
-/// after it, was used before with the same bytes. States that are alike but for bytes and for the order of chunks
-/// and of used blocks give the same reply to the same call, and stay so alike. Each call that its caller may make
-/// has a reply. A payload that gets another size keeps the bytes that both sizes have. To its callers the machine is a
-/// map from addresses to payloads, which each step changes as its call and its reply say. With nothing live, a chunk of
-/// the pool size that is computed for an allocation makes it succeed. A fill leaves a similar state. What gets
-/// A removal takes the chunks and the free ranges in its range away, and nothing else.
-/// another size without a move leads where a reallocation does, and stays at its address; or it is refused, and nothing changes.
-///
-/// Over a source of memory too the machine is such a map to its callers, between any two states that are well-formed. The
-/// beginning is, and as long as the source answers what it may, memory that comes, each step and each run over it keep a
-/// state well-formed, and so they change the map as the calls say; and memory that comes for an allocation has room for it.
-/// After each run payloads lie apart, each in one chunk at a multiple of its alignment; sizes, the bytes that both sizes have,
-/// and payloads that a step doesn't name are as without a source. A run over a source is one of the machine alone, in which
-/// the memory that comes is handed in. From similar states, where the source gives the same answers to the same questions, the
-/// same calls ask the same, have the same replies, and lead to similar states. Each call that its caller may make has a reply,
-/// whatever of what it may answer the source answers. A trim gives the newest ranges back that hold no block in use; with trims too
-/// what is outstanding is what came and did not go back, so that each range goes back once, by a trim or at the end.
+/// `steps`, `sources` and `sizing` are the laws of the machine, said in words on `rlsf_machine::laws`.
 ///
 /// What is said of the words inside the pools and of the class table reads no usable byte of a live payload: a memory that
-/// differs in such bytes alone stands for the state with these bytes. By the word before a payload and one size word every
-/// live address gives its block, whatever its alignment.
+/// differs in such bytes alone stands for the state with these bytes (`words`). By the word before a payload and one size word
+/// every live address gives its block, whatever its alignment (`by_words`).
 pub fn laws()
-    ensures empty { EmptyIsWellFormed }
-    ensures steps { StepsKeepWellFormed }
-    ensures runs { RunsKeepWellFormed }
-    ensures determined { StepsAreDetermined }
-    ensures order { OrderMeansNothing }
-    ensures refusals { RefusalChangesNothing }
-    ensures cut { ChunksAreCutOffTheFront }
-    ensures aligned { LiveAddressesAreAligned }
-    ensures one_block { LiveAddressHasOneBlock }
-    ensures disjoint { PayloadsAreDisjoint }
-    ensures in_one_chunk { PayloadLiesInOneChunk }
-    ensures allocated_size { AllocationHasSize }
-    ensures reallocated_size { ReallocationHasSize }
-    ensures room { RoomIsFound }
-    ensures pool_has_room { PoolHasRoom }
-    ensures answers { AllocationAnswers }
-    ensures refused { RefusedWithoutReach }
-    ensures chosen { ChoiceIsFirstOfLeast }
-    ensures idle { IdleChunkIsOneRange }
-    ensures chunks_stay { ChunksStay }
-    ensures others_stay { OtherPayloadsStay }
-    ensures handed_out { HandedOutIsNew }
-    ensures moved { ReallocatedIsLive }
-    ensures live_stays { LiveStays }
-    ensures released { ReleasedIsNotLive }
-    ensures filled { FilledHasBytes }
-    ensures fill_leaves { FillLeavesOthers }
-    ensures release_leaves { DeallocationLeavesOthers }
-    ensures inserted_range { InsertedChunksLieInRange }
-    ensures was_used { UsedWasUsed }
-    ensures similar { SimilarStatesAgree }
-    ensures each_call { EachCallAnswers }
-    ensures kept_bytes { ReallocationKeepsBytes }
-    ensures in_block { PayloadIsInBlock }
-    ensures callers { CallersSeeMap }
-    ensures idle_room { IdleChunkHasRoom }
-    ensures fill_similar { FillIsSimilar }
-    ensures removal { RemovalLeavesOthers }
-    ensures without_move { UnmovedIsReallocated }
-    ensures flex_callers { FlexCallersSeeMap }
-    ensures flex_empty { FlexEmptyIsWellFormed }
-    ensures flex_growth { GrowthKeepsWellFormed }
-    ensures flex_room { GrowthHasRoom }
-    ensures flex_steps { FlexStepsKeepWellFormed }
-    ensures flex_runs { FlexRunsKeepWellFormed }
-    ensures flex_as_runs { FlexRunsAreRuns }
-    ensures flex_map { FlexStepsChangeMap }
-    ensures flex_apart { FlexPayloadsAreApart }
-    ensures flex_allocated_size { FlexAllocationHasSize }
-    ensures flex_reallocated_size { FlexReallocationHasSize }
-    ensures flex_kept_bytes { FlexReallocationKeepsBytes }
-    ensures flex_others_stay { FlexOtherPayloadsStay }
-    ensures flex_was_used { FlexUsedWasUsed }
-    ensures flex_similar { FlexSimilarStatesAgree }
-    ensures flex_similar_runs { FlexSimilarRunsAgree }
-    ensures flex_each_call { FlexEachCallAnswers }
-    ensures each_goes_back { EachGoesBack }
+    ensures steps { StepLaws }
+    ensures sources { SourceLaws }
+    ensures sizing { SizingLaws }
     ensures words { WordsReadNoPayload }
     ensures by_words { WordsGiveBlock }
 {

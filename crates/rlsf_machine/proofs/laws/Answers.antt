@@ -26,8 +26,8 @@ use Rattle.rlsf_machine.proofs.Sums.{few_free, bytes_add_up, budget_is_enough}
 use Rattle.rlsf_machine.proofs.Uniform.{uniform_is_full, allocation_keeps_uniform, deallocation_keeps_uniform, runs_keep_uniform, uniform_runs_answer}
 use Rattle.rlsf_machine.proofs.laws.Goals as goal
 
-pub returns : goal.returns
-returns c = record {
+pub returns-clause-steps : goal.returns-clause-steps
+returns-clause-steps c = record {
   empty = empty_is_well_formed;
   steps = steps_keep_well_formed;
   runs = runs_keep_well_formed;
@@ -67,6 +67,10 @@ returns c = record {
   fill_similar = fill_is_similar;
   removal = removal_leaves_others;
   without_move = unmoved_is_reallocated;
+}
+
+pub returns-clause-sources : goal.returns-clause-sources
+returns-clause-sources c = record {
   flex_callers = flex_callers_see_map;
   flex_empty = flex_empty_is_well_formed;
   flex_growth = growth_keeps_well_formed;
@@ -84,6 +88,11 @@ returns c = record {
   flex_similar = flex_similar_states_agree;
   flex_similar_runs = flex_similar_runs_agree;
   flex_each_call = flex_each_call_answers;
+  each_goes_back = each_goes_back;
+}
+
+pub returns-clause-sizing : goal.returns-clause-sizing
+returns-clause-sizing c = record {
   few_free = few_free;
   bytes = bytes_add_up;
   budget = budget_is_enough;
@@ -98,5 +107,4 @@ returns c = record {
   payload_pool = payload_pool_is_enough;
   object_pool = object_pool_is_exact;
   flex_never_asked = flex_never_asked;
-  each_goes_back = each_goes_back;
 }
