@@ -12,6 +12,7 @@ ghost use Rattle.rlsf_base.specs.SizeClass.{SizeClass, IsValid, is_row_length, c
 ghost use Rattle.rlsf_base.specs.Sizes as sizes;
 
 use crate::memory::Layout;
+use crate::rounding::next_multiple_of_32;
 use rlsf_int::BitPattern;
 
 /// The class of a block of `size` bytes. `None` exactly where it lies past the last row.
@@ -82,7 +83,7 @@ pub fn request_size(layout: Layout) -> usize
     ensures value { result ≡ sizes.request_size layout.size layout.align }
     ensures size { sizes.IsSize result }
 {
-    (layout.size() + layout.align().saturating_sub(16) + 16).next_multiple_of(32)
+    next_multiple_of_32(layout.size() + layout.align().saturating_sub(16) + 16)
 }
 
 /// The least length of a chunk whose block has a class that reaches what is sought for a layout. `None` exactly where
@@ -195,7 +196,7 @@ fn class_of<const SLLEN: usize>(size: usize) -> (usize, usize)
 }
 
 // The first class that reaches a size: what stands below the leading ones counts them up. At 2 * SLLEN the next row
-// begins.
+// begins, at its first place. There is no branch here, since nothing foretells which way it would go.
 fn reaching_class<const SLLEN: usize>(size: usize) -> (usize, usize)
     requires parameters { IsTrue (is_row_length SLLEN) }
     requires size { 32 ≤ size }
@@ -203,11 +204,7 @@ fn reaching_class<const SLLEN: usize>(size: usize) -> (usize, usize)
 {
     let row = size.ilog2();
     let parts = (((size << (63 - row)) - 1) >> (63 - SLLEN.trailing_zeros())) + 1;
-    if parts < 2 * SLLEN {
-        (row as usize - 5, parts - SLLEN)
-    } else {
-        (row as usize - 4, 0)
-    }
+    (row as usize + parts / SLLEN - 6, parts % SLLEN)
 }
 
 // A size rounded up to where the first class that reaches it begins. `None` where that is past a `usize`.

@@ -15,6 +15,7 @@ ghost use Rattle.rlsf_blocks.specs.StandsFor.{contents, StandsFor};
 
 use crate::{GRANULARITY, HEADER};
 use rlsf_base::memory::{Layout, Memory};
+use rlsf_base::rounding::next_multiple_of_32;
 use rlsf_int::Bitmap;
 use rlsf_table::{ClassTable, link, unlink_at};
 
@@ -90,8 +91,8 @@ pub fn place<FLBitmap: Bitmap, SLBitmap: Bitmap, const FLLEN: usize, const SLLEN
     ensures copied { memory.new.copied ≡ memory.old.copied }
 {
     let len = memory.load(block) as usize;
-    let payload = (block + HEADER).next_multiple_of(layout.align());
-    let taken = (payload - block + layout.size()).next_multiple_of(GRANULARITY);
+    let payload = layout.align_up(block + HEADER);
+    let taken = next_multiple_of_32(payload - block + layout.size());
     take_out(memory, table, block, len, class, taken);
     memory.set_word(block, taken as u64 + 1);
     let wide = layout.align() >= GRANULARITY;

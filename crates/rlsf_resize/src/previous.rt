@@ -15,6 +15,7 @@ ghost use Rattle.rlsf_table.specs.Table.{Table};
 
 use crate::resize::{free_length, occupy};
 use rlsf_base::memory::{Layout, Memory, Range};
+use rlsf_base::rounding::next_multiple_of_32;
 use rlsf_blocks::{GRANULARITY, HEADER, take_if_free, take_previous};
 use rlsf_int::Bitmap;
 use rlsf_table::ClassTable;
@@ -51,8 +52,8 @@ fn place_before(
     if start == block {
         return None;
     }
-    let payload = (start + HEADER).next_multiple_of(layout.align());
-    let taken = (payload - start + layout.size()).next_multiple_of(GRANULARITY);
+    let payload = layout.align_up(start + HEADER);
+    let taken = next_multiple_of_32(payload - start + layout.size());
     let room = end - start + free_length(memory, end);
     if taken > room {
         return None;

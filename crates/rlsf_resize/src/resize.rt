@@ -17,7 +17,8 @@ ghost use Rattle.rlsf_blocks.specs.Steps.Rest.{IsInnerRoom};
 ghost use Rattle.rlsf_table.specs.Table.{Table};
 
 use rlsf_base::memory::{Layout, Memory};
-use rlsf_blocks::{GRANULARITY, leave_rest, take_if_free};
+use rlsf_base::rounding::next_multiple_of_32;
+use rlsf_blocks::{leave_rest, take_if_free};
 use rlsf_int::Bitmap;
 use rlsf_table::ClassTable;
 
@@ -81,7 +82,7 @@ pub fn resize_block<FLBitmap: Bitmap, SLBitmap: Bitmap, const FLLEN: usize, cons
     ensures copied { memory.new.copied ≡ memory.old.copied }
 {
     let len = memory.load(block) as usize - 1;
-    let taken = (payload - block + layout.size()).next_multiple_of(GRANULARITY);
+    let taken = next_multiple_of_32(payload - block + layout.size());
     if taken == len {
         return true;
     }

@@ -39,6 +39,18 @@ next_multiple_of-least x y times some above =
       | inr at_most ↦ let order : n / y * y ≤ times * y = mul-le-mul_right y at_most in omega arith
     ]
 
+-- the multiple that is as great, and less than a whole one more, is that
+pub next_multiple_of-unique : (x y times : ℕ) → 0 < y → x ≤ times * y → times * y < x + y → next_multiple_of x y ≡ times * y
+next_multiple_of-unique x y times some above below =
+    let n = next_multiple_of x y in
+    let whole : n / y * y ≡ n = omega (arith, div-add-mod' n y, next_multiple_of-multiple x y some) in
+    elim (cases_lt (n / y) times) [
+      | inl more ↦
+          let apart : (n / y + 1) * y ≤ times * y = mul-le-mul_right y (omega arith) in
+          absurd (omega (arith, next_multiple_of-le x y))
+      | inr at_most ↦ let order : times * y ≤ n / y * y = mul-le-mul_right y at_most in omega (arith, next_multiple_of-least x y times some above)
+    ]
+
 -- a multiple is its own rounding
 pub next_multiple_of-same : (times y : ℕ) → 0 < y → next_multiple_of (times * y) y ≡ times * y
 next_multiple_of-same times y some =

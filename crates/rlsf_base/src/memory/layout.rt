@@ -1,6 +1,8 @@
-ghost use Rattle.std.specs.Prelude.{◌≡◌, ◌%◌, ◌+◌, ◌<◌, ◌≤◌, ◌↔◌, IsOk, IfOk, IsTrue};
+ghost use Rattle.std.specs.Prelude.{◌≡◌, ◌%◌, ◌^◌, ◌+◌, ◌<◌, ◌≤◌, ◌↔◌, IsOk, IfOk, IsTrue};
 ghost use Rattle.std.specs.Int.{next_multiple_of};
 ghost use Rattle.rlsf_base.specs.Layout.{IsLayout};
+
+use crate::rounding::next_aligned;
 
 /// What a caller asks memory for: a size in bytes, and the alignment of its address.
 ///
@@ -65,9 +67,17 @@ impl Layout {
         ensures align { result.align ≡ self.now.align }
     {
         Layout {
-            size: self.size.next_multiple_of(self.align),
+            size: self.align_up(self.size),
             align: self.align,
         }
+    }
+
+    /// The least multiple of the alignment that is at least `n`. It fits in a `usize`.
+    pub fn align_up(&self, n: usize) -> usize
+        requires fits { next_multiple_of n self.now.align < 2 ^ 64 }
+        ensures value { result ≡ next_multiple_of n self.now.align }
+    {
+        next_aligned(n, self.align)
     }
 }
 

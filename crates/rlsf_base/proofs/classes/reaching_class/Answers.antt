@@ -1,8 +1,9 @@
-use Rattle.std.proofs.Common.{◌≡◌, ℕ, ◌+◌, ◌-◌, ◌*◌, ◌/◌, ◌%◌, ◌^◌, ◌<◌, ◌≤◌, IsTrue, arith, sym, ap, ◌∙◌, w64}
+use mathlib.Core.Path.{ap₂}
+use Rattle.std.proofs.Common.{inl, inr, refl, ◌≡◌, ℕ, ◌+◌, ◌-◌, ◌*◌, ◌/◌, ◌%◌, ◌^◌, ◌<◌, ◌≤◌, IsTrue, arith, sym, ap, ◌∙◌, w64}
 use Rattle.std.specs.Int.{trailing_zeros}
-use Rattle.std.proofs.lemmas.Bool.{cond-true, cond-false, lt-ltb, le-ltb}
-use Rattle.std.proofs.lemmas.Nat.{pow_pos}
-use Rattle.std.proofs.Math.Nat.{le_of_mul-le-mul_right, mul-le-mul_right, pow-suc}
+use Rattle.std.proofs.lemmas.Bool.{cases_lt, cond-true, cond-false, lt-ltb, le-ltb}
+use Rattle.std.proofs.lemmas.Nat.{div_below, le-div, pow_pos}
+use Rattle.std.proofs.Math.Nat.{div-eq_of_lt-le, le_of_mul-le-mul_right, lt_of_mul-lt-mul_right, mod-eq-sub-div-mul, mul-le-mul_right, pow-suc}
 use Rattle.rlsf_base.specs.SizeClass.{is_row_length, reaching_class}
 use Rattle.rlsf_base.specs.Sizes.{indices}
 use Rattle.rlsf_base.proofs.Numbers.PowersOfTwo.{pow-between}
@@ -27,17 +28,39 @@ module _ (sllen size k : ℕ) (row : IsTrue (is_row_length sllen)) (low : 2 ^ k 
   above : sllen ≤ t
   above = let least : 2 ^ k * sllen ≤ size * sllen = mul-le-mul_right sllen low in le_of_mul-le-mul_right {k = 2 ^ k} (omega (arith, rounded.reached)) (pow_pos k)
 
-  within : t < 2 * sllen → (k - 5, t - sllen) ≡ indices (reaching_class sllen size)
-  within less =
-      let is = IsPower-row_length sllen row in
-      ap indices (sym (reaching_class-at sllen size k is.some low high t rounded ∙ cond-true _ (in_row k (t - sllen)) (in_row (k + 1) 0) (lt-ltb t (2 * sllen) less)))
+  most : t ≤ 2 * sllen
+  most =
+      let next : (size + 1) * sllen ≤ 2 * 2 ^ k * sllen = mul-le-mul_right sllen (omega arith) in
+      let below : t < 2 * sllen + 1 = lt_of_mul-lt-mul_right (2 ^ k) {m = t} {n = 2 * sllen + 1} (omega (arith, rounded.tight, pow_pos k)) in
+      omega arith
 
-  carried : 2 * sllen ≤ t → 5 ≤ k → (k - 4, 0) ≡ indices (reaching_class sllen size)
-  carried end first =
+  quotient : (1 ≤ t / sllen) × (t / sllen ≤ 2)
+  quotient =
+      let some = (IsPower-row_length sllen row).some in
+      let least = le-div 1 t sllen some (omega (arith, above)) in
+      let less : t / sllen < 3 = div_below t sllen 3 some (omega (arith, most, some)) in
+      (least, omega arith)
+
+  -- the quotient says whether the next row begins, and the rest is the place
+  reached : (k + t / sllen - 6, t % sllen) ≡ indices (reaching_class sllen size)
+  reached =
       let is = IsPower-row_length sllen row in
-      let next : k - 4 ≡ k + 1 - 5 = omega arith in
-      ap (λ n. (n, 0)) next
-      ∙ ap indices (sym (reaching_class-at sllen size k is.some low high t rounded ∙ cond-false _ (in_row k (t - sllen)) (in_row (k + 1) 0) (le-ltb t (2 * sllen) end)))
+      ap₂ (λ q r. (k + q - 6, r)) refl (mod-eq-sub-div-mul t sllen) ∙ elim (cases_lt t (2 * sllen)) [
+        | inl less ↦
+            let once : t / sllen ≡ 1 = div-eq_of_lt-le sllen {m = t} (omega (arith, above)) (omega arith) in
+            let at : t - 1 * sllen ≡ t - sllen = omega arith in
+            let same_row : k + 1 - 6 ≡ k - 5 = omega arith in
+            ap (λ q. (k + q - 6, t - q * sllen)) once
+            ∙ ap₂ (λ i j. (i, j)) same_row at
+            ∙ ap indices (sym (reaching_class-at sllen size k is.some low high t rounded ∙ cond-true _ (in_row k (t - sllen)) (in_row (k + 1) 0) (lt-ltb t (2 * sllen) less)))
+        | inr end ↦
+            let twice : t / sllen ≡ 2 = div-eq_of_lt-le sllen {m = t} (omega arith) (omega (arith, most, is.some)) in
+            let none : t - 2 * sllen ≡ 0 = omega (arith, most) in
+            let next : k + 2 - 6 ≡ k + 1 - 5 = omega arith in
+            ap (λ q. (k + q - 6, t - q * sllen)) twice
+            ∙ ap₂ (λ i j. (i, j)) next none
+            ∙ ap indices (sym (reaching_class-at sllen size k is.some low high t rounded ∙ cond-false _ (in_row k (t - sllen)) (in_row (k + 1) 0) (le-ltb t (2 * sllen) end)))
+      ]
 
 pub overflow_sub-parts-2 : goal.overflow_sub-parts-2
 overflow_sub-parts-2 g c =
@@ -45,22 +68,17 @@ overflow_sub-parts-2 g c =
     let row = c.ilog2-row.ensures in
     top_positive g.row.SLLEN _ c.args.size c.ilog2-row.result is.power is.few row.power_le row.next_power_gt (omega arith)
 
+pub overflow_add-result : goal.overflow_add-result
+overflow_add-result g c =
+    let row = c.ilog2-row.ensures in
+    record { fits = omega (arith, row.bound, (quotient g.row.SLLEN c.args.size c.ilog2-row.result c.requires.parameters row.power_le row.next_power_gt row.bound).1) }
+
 pub overflow_sub-result : goal.overflow_sub-result
-overflow_sub-result g c = later c.args.size c.ilog2-row.result c.requires.size c.ilog2-row.ensures.next_power_gt
-
-pub overflow_sub-result-then-parts : goal.overflow_sub-result-then-parts
-overflow_sub-result-then-parts g c = let row = c.ilog2-row.ensures in above g.row.SLLEN c.args.size c.ilog2-row.result c.requires.parameters row.power_le row.next_power_gt row.bound
-
-pub overflow_sub-result-else-parts : goal.overflow_sub-result-else-parts
-overflow_sub-result-else-parts g c = omega (arith, later c.args.size c.ilog2-row.result c.requires.size c.ilog2-row.ensures.next_power_gt)
-
-pub returns-then-parts : goal.returns-then-parts
-returns-then-parts g c =
+overflow_sub-result g c =
     let row = c.ilog2-row.ensures in
-    within g.row.SLLEN c.args.size c.ilog2-row.result c.requires.parameters row.power_le row.next_power_gt row.bound c.if-parts.true
+    omega (arith, later c.args.size c.ilog2-row.result c.requires.size row.next_power_gt, (quotient g.row.SLLEN c.args.size c.ilog2-row.result c.requires.parameters row.power_le row.next_power_gt row.bound).0)
 
-pub returns-else-parts : goal.returns-else-parts
-returns-else-parts g c =
+pub returns : goal.returns
+returns g c =
     let row = c.ilog2-row.ensures in
-    carried g.row.SLLEN c.args.size c.ilog2-row.result c.requires.parameters row.power_le row.next_power_gt row.bound (omega arith)
-    (later c.args.size c.ilog2-row.result c.requires.size row.next_power_gt)
+    reached g.row.SLLEN c.args.size c.ilog2-row.result c.requires.parameters row.power_le row.next_power_gt row.bound

@@ -1,5 +1,4 @@
-use Rattle.std.proofs.Common.{◌<◌, ◌^◌, ◌+◌, arith, sym, subst}
-use Rattle.std.specs.Int.{next_multiple_of}
+use Rattle.std.proofs.Common.{◌<◌, ◌^◌, ◌+◌, arith, refl}
 use Rattle.rlsf_blocks.proofs.Machine.Counted.{StandsFor-counted}
 use Rattle.rlsf_blocks.proofs.Machine.FreeBlocks.{IsFreeTable-free}
 use Rattle.rlsf_resize.proofs.Reallocate.Neighbours.{IsMarked-end}
@@ -16,12 +15,11 @@ overflow_add-start c =
     let begins = c.start_before-start.ensures.start fllen sllen t s u v is.is_used is.start in
     record { fits = omega (arith, previous-le v.well_formed u is begins, block-le v.well_formed u is begins, end-in_memory v.well_formed u is begins, v.well_formed.addressable) }
 
-pub next_multiple_of-payload-requires-clause-fits : goal.next_multiple_of-payload-requires-clause-fits
-next_multiple_of-payload-requires-clause-fits c =
+pub align_up-payload-requires : goal.align_up-payload-requires
+align_up-payload-requires c =
     let (fllen, sllen, t, s, u, v, is) = c.requires in
     let begins = c.start_before-start.ensures.start fllen sllen t s u v is.is_used is.start in
-    let below : next_multiple_of (c.start_before-start.result + 16) c.args.layout.align < 2 ^ 64 = omega (arith, payload-le v.well_formed u is begins, end-in_memory v.well_formed u is begins, v.well_formed.addressable) in
-    subst (λ a. next_multiple_of (c.start_before-start.result + 16) a < 2 ^ 64) (sym c.align.ensures.value) below
+    record { fits = omega (arith, payload-le v.well_formed u is begins, end-in_memory v.well_formed u is begins, v.well_formed.addressable) }
 
 pub overflow_sub-room : goal.overflow_sub-room
 overflow_sub-room c =
@@ -52,7 +50,7 @@ returns-then-taken-room-clause-place c = λ fllen sllen t s u v is.
     let v0 = StandsFor-counted c.args.memory.now c.start_before-start.new.memory counts.start counts.bytes v in
     let long = c.free_length.ensures.length fllen sllen t s.free (IsFreeTable-free v0) (IsMarked-end v0 u is.is_used c.args.end is.end_is) in
     into_previous-refused v.well_formed u is begins c.if-start-block.false c.free_length.result long
-    c.align.ensures.value c.size.ensures.value c.next_multiple_of-payload.ensures.value c.next_multiple_of-taken.ensures.value c.if-taken-room.true
+    refl c.size.ensures.value c.align_up-payload.ensures.value c.next_multiple_of_32-taken.ensures.value c.if-taken-room.true
 
 pub returns-clause-place : goal.returns-clause-place
 returns-clause-place c = λ fllen sllen t s u v is.
@@ -61,4 +59,4 @@ returns-clause-place c = λ fllen sllen t s u v is.
     let v0 = StandsFor-counted c.args.memory.now c.start_before-start.new.memory counts.start counts.bytes v in
     let long = c.free_length.ensures.length fllen sllen t s.free (IsFreeTable-free v0) (IsMarked-end v0 u is.is_used c.args.end is.end_is) in
     FitsBefore-computed v.well_formed u is begins c.if-start-block.false c.free_length.result long
-    c.align.ensures.value c.size.ensures.value c.next_multiple_of-payload.ensures.value c.next_multiple_of-taken.ensures.value (omega (arith, c.if-taken-room.false))
+    refl c.size.ensures.value c.align_up-payload.ensures.value c.next_multiple_of_32-taken.ensures.value (omega (arith, c.if-taken-room.false))

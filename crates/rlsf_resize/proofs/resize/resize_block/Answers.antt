@@ -16,20 +16,20 @@ use Rattle.rlsf_table.specs.Counts.{Counts}
 use Rattle.rlsf_resize.proofs.Counting.{Counts-counted_first, Counts-loaded, SamePlace-counted, grow-counted_first, touches-counted, touches-counted_first}
 use Rattle.rlsf_resize.proofs.resize.resize_block.Given as given
 use Rattle.rlsf_resize.proofs.resize.resize_block.Goals as goal
-use Rattle.rlsf_resize.proofs.resize.resize_block.Goals.{After-next_multiple_of-taken, After-free_length, After-take_if_free-next}
+use Rattle.rlsf_resize.proofs.resize.resize_block.Goals.{After-next_multiple_of_32-taken, After-free_length, After-take_if_free-next}
 
 pub load-requires : goal.load-requires
 load-requires g c = let (s, u, v, at) = c.requires.used in IsWord-size v u at
 
 -- the length that the block gets
-taken_is : (g : given.Over) (c : After-next_multiple_of-taken g) {s : State} (v : StandsFor g.row.FLLEN g.row.SLLEN (contents c.args.memory.now c.args.table.now) s) (u : Used)
-    → IsUsedAt s u c.args.block c.args.payload c.args.layout.align → c.next_multiple_of-taken.result ≡ (resized u c.args.layout.size).len
-taken_is g c v u at = taken_computed v u at c.args.layout.size c.size.ensures.value c.next_multiple_of-taken.ensures.value
+taken_is : (g : given.Over) (c : After-next_multiple_of_32-taken g) {s : State} (v : StandsFor g.row.FLLEN g.row.SLLEN (contents c.args.memory.now c.args.table.now) s) (u : Used)
+    → IsUsedAt s u c.args.block c.args.payload c.args.layout.align → c.next_multiple_of_32-taken.result ≡ (resized u c.args.layout.size).len
+taken_is g c v u at = taken_computed v u at c.args.layout.size c.size.ensures.value c.next_multiple_of_32-taken.ensures.value
 
 pub returns-then-taken-len-clause-done : goal.returns-then-taken-len-clause-done
 returns-then-taken-len-clause-done g c = λ s u v at yes.
     let size = c.args.layout.size in
-    let taken = taken_is g (goal.at.returns-then-taken-len-clause-done g c).After-next_multiple_of-taken v u at in
+    let taken = taken_is g (goal.at.returns-then-taken-len-clause-done g c).After-next_multiple_of_32-taken v u at in
     let same : end_of (resized u size) ≡ end_of u.block = omega (arith, taken, at.start, end_is v u at c.load.ensures.word, c.if-taken-len.true) in
     (kept_whole s u size, or_else-kept s u size v.well_formed at.is_used same, at.caller, IsCarriedOut-kept v u at.is_used size c.load.ensures.start c.load.ensures.bytes same)
 
@@ -60,7 +60,7 @@ pub returns-then-taken-len-2-clause-refused : goal.returns-then-taken-len-2-clau
 returns-then-taken-len-2-clause-refused g c = λ s u v at no.
     let size = c.args.layout.size in
     let here = goal.at.returns-then-taken-len-2-clause-refused g c in
-    let taken = taken_is g here.After-next_multiple_of-taken v u at in
+    let taken = taken_is g here.After-next_multiple_of_32-taken v u at in
     let ends = reached g here.After-free_length v u at in
     let end = end_is v u at c.load.ensures.word in
     let start = at.start in
@@ -103,15 +103,15 @@ occupy-requires g c =
     let here = goal.at.occupy-requires g c in
     let size = c.args.layout.size in
     let gone = out g here.After-take_if_free-next v u at in
-    let taken = taken_is g here.After-next_multiple_of-taken v u at in
+    let taken = taken_is g here.After-next_multiple_of_32-taken v u at in
     let ends = reached g here.After-free_length v u at in
     let end = end_is v u at c.load.ensures.word in
     let parts = IsTaken-len v u at size in
     let start = at.start in
     let long : (span_of s u).len ≡ c.load.result - 1 + c.take_if_free-next.result = omega (arith, span_len v u at.is_used gone) in
     let inner = IsInnerRoom-span v u at.is_used gone in
-    let whole : c.next_multiple_of-taken.result % 32 ≡ 0 = omega (arith, parts.0) in
-    let some : 0 < c.next_multiple_of-taken.result = omega (arith, parts.1) in
+    let whole : c.next_multiple_of_32-taken.result % 32 ≡ 0 = omega (arith, parts.0) in
+    let some : 0 < c.next_multiple_of_32-taken.result = omega (arith, parts.1) in
     (search rules, (c.requires.parameters, ((staying s u, span_of s u, at.start, long, inner), (whole, some, omega (arith, gone.end, c.if-taken-len-2.false)))))
 
 pub returns-clause-done : goal.returns-clause-done
@@ -119,12 +119,12 @@ returns-clause-done g c = λ s u v at yes.
     let here = goal.at.returns-clause-done g c in
     let size = c.args.layout.size in
     let gone = out g here.After-take_if_free-next v u at in
-    let taken = taken_is g here.After-next_multiple_of-taken v u at in
+    let taken = taken_is g here.After-next_multiple_of_32-taken v u at in
     let ends = reached g here.After-free_length v u at in
     let end = end_is v u at c.load.ensures.word in
     let start = at.start in
     let words = c.occupy.ensures.step (staying s u) (span_of s u) at.start (omega (arith, span_len v u at.is_used gone)) (IsInnerRoom-span v u at.is_used gone) in
-    let front : range_at c.args.block c.next_multiple_of-taken.result ≡ resized u size = ap₂ (λ b l. range_at b l) (sym at.start) taken in
+    let front : range_at c.args.block c.next_multiple_of_32-taken.result ≡ resized u size = ap₂ (λ b l. range_at b l) (sym at.start) taken in
     let occupied = subst (λ q. IsOccupied g.row.FLLEN g.row.SLLEN c.take_if_free-next.new.memory c.occupy.new.memory c.occupy.new.table (staying s u) (span_of s u) q) front words in
     let fits : end_of (resized u size) ≤ reach s u = omega (arith, c.if-taken-len-2.false) in
     let other : end_of (resized u size) ≢ end_of u.block = omega (arith, c.if-taken-len.false) in
