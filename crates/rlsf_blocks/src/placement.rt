@@ -17,7 +17,7 @@ use crate::{GRANULARITY, HEADER};
 use rlsf_base::memory::{Layout, Memory};
 use rlsf_base::rounding::next_multiple_of_32;
 use rlsf_int::Bitmap;
-use rlsf_table::{ClassTable, link, unlink_at};
+use rlsf_table::{ClassTable, link, unlink_newest};
 
 /// Makes a free block of what is left behind the first `taken` of the `len` bytes at `block`.
 #[inline(always)]
@@ -63,7 +63,7 @@ fn take_out<FLBitmap: Bitmap, SLBitmap: Bitmap, const FLLEN: usize, const SLLEN:
     ensures grow { memory.old.touches ≤ memory.new.touches }
     ensures copied { memory.new.copied ≡ memory.old.copied }
 {
-    unlink_at(memory, table, block, class);
+    unlink_newest(memory, table, block, class);
     let longer = taken < len;
     if longer {
         leave_rest(memory, table, block, len, taken);

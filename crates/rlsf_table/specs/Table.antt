@@ -34,6 +34,11 @@ pub record IsClassAt (fllen sllen size fl sl : ℕ) : Type 0 where
 abbrev pub of_class : ℕ → ℕ → ℕ → List Range → List Range
 of_class sllen fl sl free = filter (has_class sllen (class_at fl sl)) free
 
+-- a range has the class at two indices of a table, and none of those before it has
+pub record IsNewestAt (fllen sllen : ℕ) (r : Range) (before : List Range) (fl sl : ℕ) : Type 0 where
+  pub at : IsClassAt fllen sllen r.len fl sl
+  pub first : of_class sllen fl sl before ≡ []
+
 -- where the newest of some free ranges begins, if there is one
 abbrev pub newest_of : List Range → Option ℕ
 newest_of [] = None

@@ -11,5 +11,5 @@ mod list;
 mod table;
 
 pub use fit::first_fit;
-pub use list::{link, unlink, unlink_at};
+pub use list::{link, unlink, unlink_newest};
 pub use table::ClassTable;

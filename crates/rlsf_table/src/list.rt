@@ -6,14 +6,23 @@ ghost use Rattle.rlsf_base.specs.SizeClass.{IsValid};
 ghost use Rattle.rlsf_machine.specs.Lists.{IsIn};
 ghost use Rattle.rlsf_machine.specs.WellFormed.{coverage, itself};
 ghost use Rattle.rlsf_table.specs.FreeList.{Links, IsLink, IsPlaced, Rewrites};
-ghost use Rattle.rlsf_table.specs.Steps.ClassList.{unlinking_touches, IsFreeList};
+ghost use Rattle.rlsf_table.specs.Steps.ClassList.{unlinking_touches, IsFirstOrOwn, IsFreeList};
 ghost use Rattle.rlsf_table.specs.FreeTable.{IsFreeTable, IsRoom};
-ghost use Rattle.rlsf_table.specs.Table.{HasTable, IsClassAt};
+ghost use Rattle.rlsf_table.specs.Table.{HasTable, IsNewestAt};
 
 use crate::table::ClassTable;
 use rlsf_base::classes::map_floor;
 use rlsf_base::memory::Memory;
 use rlsf_int::Bitmap;
+
+/// Where the link to the block before lies that is written when the list from `first` on gets another front: in its first
+/// block, or where it has none, in the block at `block`, which isn't in it. So the word is written in either case: whether
+/// there is a block can't be foretold, and a wrong guess costs the machine more than a word.
+fn first_or_own(first: usize, block: usize) -> usize
+    ensures { IsFirstOrOwn first block result }
+{
+    if first != 0 { first } else { block }
+}
 
 /// Links the block at `block` in front of the blocks from `newest` on.
 fn link_front(memory: &mut Memory, newest: usize, block: usize)
@@ -25,10 +34,23 @@ fn link_front(memory: &mut Memory, newest: usize, block: usize)
     ensures copied { memory.new.copied ≡ memory.old.copied }
 {
     memory.set_word(block + 16, newest as u64);
+    memory.set_word(first_or_own(newest, block) + 24, block as u64);
     memory.set_word(block + 24, 0);
-    if newest != 0 {
-        memory.set_word(newest + 24, block as u64);
-    }
+}
+
+/// Takes the block at `block`, the first of its list, out of it. Answers the next one, which is the first then, or 0. The link to
+/// the block before isn't read: there is none.
+fn unlink_front(memory: &mut Memory, block: usize) -> usize
+    requires { (r : Range) × (after : List Range) × (newest : ℕ) × (r.start ≡ block) × IsFreeList memory.old newest (r ∷ after) }
+    ensures step { (newest : ℕ) (r : Range) (after : List Range) → r.start ≡ block → IsFreeList memory.old newest (r ∷ after)
+        → Links memory.new 0 after result × Rewrites memory.old memory.new (IsLink (r ∷ after)) }
+    ensures touches { memory.new.touches ≤ memory.old.touches + 2 }
+    ensures grow { memory.old.touches ≤ memory.new.touches }
+    ensures copied { memory.new.copied ≡ memory.old.copied }
+{
+    let next = memory.load(block + 16) as usize;
+    memory.set_word(first_or_own(next, block) + 24, 0);
+    next
 }
 
 /// Takes the block at `block` out from between the two that its links name. If none is before it, answers the one
@@ -109,27 +131,25 @@ pub fn unlink<FLBitmap: Bitmap, SLBitmap: Bitmap, const FLLEN: usize, const SLLE
     }
 }
 
-/// Takes the block at the address `block` out of the list of its class, whose two indices are known: a row of the table and a place
-/// in it. Writes what `unlink` does, and at most 8 touches as there, but computes no class of a length.
+/// Takes the newest block of a class, at the address `block`, out of its list. The two indices of the class are known: a row of
+/// the table and a place in it. Writes links of free blocks and the table alone. At most 8 touches.
 ///
-/// Table and memory are those of some free blocks, of valid classes, with their size words, none of which overlap, the block is
-/// one of them, and the indices are those of the class of its length.
-pub fn unlink_at<FLBitmap: Bitmap, SLBitmap: Bitmap, const FLLEN: usize, const SLLEN: usize>(
+/// Table and memory are those of some free blocks, of valid classes, with their size words, none of which overlap; the block is
+/// one of them, has that class, and none before it has.
+pub fn unlink_newest<FLBitmap: Bitmap, SLBitmap: Bitmap, const FLLEN: usize, const SLLEN: usize>(
     memory: &mut Memory,
     table: &mut ClassTable<FLBitmap, SLBitmap, FLLEN, SLLEN>,
     block: usize,
     class: (usize, usize),
 )
     requires parameters { IsValid FLBitmap.width SLBitmap.width FLLEN SLLEN }
-    requires listed { (r : Range) × (free : List Range) × (r.start ≡ block) × IsClassAt FLLEN SLLEN r.len class.0 class.1 × IsIn r free × IsFreeTable FLLEN SLLEN memory.old table.old free }
-    ensures step { (r : Range) (before after : List Range) → r.start ≡ block → IsClassAt FLLEN SLLEN r.len class.0 class.1 → IsFreeTable FLLEN SLLEN memory.old table.old (before ++ r ∷ after)
+    requires newest { (r : Range) × (before after : List Range) × (r.start ≡ block) × IsNewestAt FLLEN SLLEN r before class.0 class.1 × IsFreeTable FLLEN SLLEN memory.old table.old (before ++ r ∷ after) }
+    ensures step { (r : Range) (before after : List Range) → r.start ≡ block → IsNewestAt FLLEN SLLEN r before class.0 class.1 → IsFreeTable FLLEN SLLEN memory.old table.old (before ++ r ∷ after)
         → HasTable FLLEN SLLEN memory.new table.new (before ++ after) × Rewrites memory.old memory.new (IsLink (before ++ r ∷ after)) }
     ensures touches { memory.new.touches ≤ memory.old.touches + 8 }
     ensures grow { memory.old.touches ≤ memory.new.touches }
     ensures copied { memory.new.copied ≡ memory.old.copied }
 {
-    let newest = unlink_between(memory, block);
-    if let Some(next) = newest {
-        table.take(memory, class.0, class.1, next);
-    }
+    let next = unlink_front(memory, block);
+    table.take(memory, class.0, class.1, next);
 }

@@ -1,5 +1,5 @@
 -- A free block is taken out of the list, and what is left of it behind its front is put in.
-use Rattle.std.proofs.Common.{◌≡◌, ℕ, ◌+◌, ◌-◌, ◌%◌, ◌<◌, ◌≤◌, ◌⊎◌, List, [], ◌∷◌, ◌++◌, cond, arith, inl, inr, sym, ◌∙◌, ap, subst}
+use Rattle.std.proofs.Common.{◌≡◌, ℕ, ◌+◌, ◌-◌, ◌%◌, ◌<◌, ◌≤◌, ◌⊎◌, List, [], ◌∷◌, ◌++◌, cond, filter, arith, inl, inr, sym, ◌∙◌, ap, subst}
 use Rattle.std.proofs.lemmas.Bool.{le-ltb, lt-ltb}
 use Rattle.rlsf_base.specs.declared.memory.range.Range.{Range}
 use Rattle.rlsf_base.specs.Range.{end_of, range_at}
@@ -7,7 +7,7 @@ use Rattle.rlsf_base.specs.SizeClass.{class_of}
 use Rattle.rlsf_base.specs.Space.{Space, word_at}
 use Rattle.rlsf_table.specs.FreeList.{IsLink, Rewrites}
 use Rattle.rlsf_table.specs.FreeTable.{IsFreeTable}
-use Rattle.rlsf_table.specs.Table.{Table, HasTable}
+use Rattle.rlsf_table.specs.Table.{IsClassAt, IsNewestAt, Table, HasTable}
 use Rattle.rlsf_table.proofs.Tables.FreeTables.{IsFreeTable-removal}
 use Rattle.rlsf_table.proofs.FreeLists.Chains.{find-split}
 use Rattle.rlsf_table.proofs.Words.Writes.{Rewrites-trans, Rewrites-weaken}
@@ -37,7 +37,7 @@ module _ {fllen sllen : ℕ} {m : Space} {table : Table} {s : State} {f : Range}
   is_free = (find-some (has_class sllen (class_of sllen f.len)) f s.free take.found).0
 
   -- the list without the block
-  parts : (ahead : List Range) × (later : List Range) × (s.free ≡ ahead ++ (f ∷ later)) × (without (has_class sllen (class_of sllen f.len)) s.free ≡ ahead ++ later)
+  parts : (ahead : List Range) × (later : List Range) × (s.free ≡ ahead ++ (f ∷ later)) × (without (has_class sllen (class_of sllen f.len)) s.free ≡ ahead ++ later) × (filter (has_class sllen (class_of sllen f.len)) ahead ≡ [])
   parts = find-split (has_class sllen (class_of sllen f.len)) f s.free take.found
 
   pub ahead : List Range
@@ -49,6 +49,11 @@ module _ {fllen sllen : ℕ} {m : Space} {table : Table} {s : State} {f : Range}
   pub split_list : IsFreeTable fllen sllen m table (ahead ++ (f ∷ later))
   unfolding ahead later
   split_list = subst (IsFreeTable fllen sllen m table) parts.2 (IsFreeTable-free v)
+
+  -- the block is the newest of its class
+  pub is_newest : {fl sl : ℕ} → IsClassAt fllen sllen f.len fl sl → IsNewestAt fllen sllen f ahead fl sl
+  unfolding ahead later
+  is_newest {fl} {sl} at = record { at = at; first = subst (λ c. filter (has_class sllen c) parts.0 ≡ []) at.class parts.4 }
 
   abbrev pub rest : Range
   rest = between (end_of (range_at block taken)) (end_of f)

@@ -32,7 +32,7 @@ outside_of-twice r q p (x ∷ xs) both =
 pub outside_of-found : (r f : Range) (test : Range → Bool) (xs : List Range) → find test xs ≡ Some f → lies_within r f ≡ true
     → ((before after : List Range) → xs ≡ before ++ (f ∷ after) → (x : Range) → IsIn x (before ++ after) → lies_within r x ≡ false) → outside_of r xs ≡ without test xs
 outside_of-found r f test xs found lies others =
-    let (before, after, parts, left) = find-split test f xs found in
+    let (before, after, parts, left, ahead) = find-split test f xs found in
     let outside = others before after parts in
     ap (outside_of r) parts
     ∙ filter-append (λ x. not (lies_within r x)) before (f ∷ after)

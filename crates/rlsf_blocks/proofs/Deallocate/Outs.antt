@@ -28,7 +28,7 @@ module _ {fllen sllen : ℕ} {m : Space} {t : Table} {block : ℕ} {free : List 
   IsOut-unlinked {n} {u} {len} is even unlinked =
       let (f, i, at, long) = block_there is even in
       let found = find-start free f block list.apart (λ g j. let p = list.placed g j in omega (arith, p.room)) i at in
-      let (before, after, parts, left) = find-split (starts_at block) f free found in
+      let (before, after, parts, left, others) = find-split (starts_at block) f free found in
       let whole = subst (IsFreeTable fllen sllen m t) parts list in
       let (table, rewrites) = unlinked f before after at long whole in
       record {

@@ -1,5 +1,5 @@
 -- What the links of a list of blocks say of each of them, and which words they rest on.
-use Rattle.std.proofs.Common.{◌≡◌, ◌≢◌, ℕ, ◌+◌, ◌%◌, ◌<◌, ◌≤◌, ◌⊎◌, Bool, cond, find, List, [], ◌∷◌, ◌++◌, Some, arith, inl, inr, refl, sym, ◌∙◌, ap, subst}
+use Rattle.std.proofs.Common.{◌≡◌, ◌≢◌, ℕ, ◌+◌, ◌%◌, ◌<◌, ◌≤◌, ◌⊎◌, Bool, cond, filter, find, List, [], ◌∷◌, ◌++◌, Some, arith, inl, inr, refl, sym, ◌∙◌, ap, subst}
 use Rattle.rlsf_base.specs.declared.memory.range.Range.{Range}
 use Rattle.rlsf_base.specs.Space.{Space, word_at}
 use Rattle.rlsf_table.specs.FreeList.{IsPlaced, Rewrites, Links}
@@ -87,14 +87,14 @@ IsIn-removal before r after f i = elim (IsIn-append f before after i) [
   | inr j ↦ IsIn-append_right f before (r ∷ after) (inr j)
 ]
 
--- the range that was found is taken out where it stands
-pub find-split : {A : Type 0} (p : A → Bool) (x : A) (xs : List A) → find p xs ≡ Some x → (before : List A) × (after : List A) × (xs ≡ before ++ (x ∷ after)) × (without p xs ≡ before ++ after)
+-- the range that was found is taken out where it stands, and none before it passes the test
+pub find-split : {A : Type 0} (p : A → Bool) (x : A) (xs : List A) → find p xs ≡ Some x → (before : List A) × (after : List A) × (xs ≡ before ++ (x ∷ after)) × (without p xs ≡ before ++ after) × (filter p before ≡ [])
 find-split p x [] h = absurd (cc)
 find-split p x (y ∷ ys) h = by_test (p y)
     (λ e. let same : Some y ≡ Some x = sym (ap (λ b. cond b (Some y) (find p ys)) e) ∙ h in let is : y ≡ x = cc in
-    ([], ys, ap (λ z. z ∷ ys) is, ap (λ b. cond b ys (y ∷ without p ys)) e))
+    ([], ys, ap (λ z. z ∷ ys) is, ap (λ b. cond b ys (y ∷ without p ys)) e, refl))
     (λ e. let rest = find-split p x ys (sym (ap (λ b. cond b (Some y) (find p ys)) e) ∙ h) in
-    (y ∷ rest.0, rest.1, ap (λ l. y ∷ l) rest.2, ap (λ b. cond b ys (y ∷ without p ys)) e ∙ ap (λ l. y ∷ l) rest.3))
+    (y ∷ rest.0, rest.1, ap (λ l. y ∷ l) rest.2, ap (λ b. cond b ys (y ∷ without p ys)) e ∙ ap (λ l. y ∷ l) rest.3, ap (λ b. cond b (y ∷ filter p rest.0) (filter p rest.0)) e ∙ rest.4))
 
 -- the blocks behind one are linked from it on
 pub Links-behind : (m : Space) (p : ℕ) (before : List Range) (r : Range) (after : List Range) (head : ℕ) → Links m p (before ++ (r ∷ after)) head

@@ -1,36 +1,45 @@
--- A block put in front of the list.
+-- A block put in front of the list, and the block in front taken out.
 use Rattle.std.proofs.Common.{◌≡◌, ◌≢◌, ℕ, ◌+◌, ◌%◌, ◌^◌, ◌<◌, ◌≤◌, List, [], ◌∷◌, arith, inl, inr, refl, sym, ◌∙◌, ap, subst}
+use Rattle.std.proofs.lemmas.Bool.{cases_eq}
 use Rattle.rlsf_base.specs.declared.memory.range.Range.{Range}
 use Rattle.rlsf_base.specs.Space.{Space, word_at, with_word}
-use Rattle.rlsf_table.specs.Steps.ClassList.{IsFreeList}
+use Rattle.rlsf_table.specs.Steps.ClassList.{IsFirstOrOwn, IsFreeList}
 use Rattle.rlsf_table.specs.FreeList.{IsLink, IsPlaced, Rewrites, Links}
 use Rattle.rlsf_machine.specs.Lists.{IsIn}
 use Rattle.rlsf_machine.specs.WellFormed.{coverage, itself}
 use Rattle.rlsf_table.proofs.Words.Writes.{IsWord-at, Rewrites-trans, Rewrites-weaken, Writes, Writes-some}
 use Rattle.rlsf_table.proofs.FreeLists.Chains.{first_of, head-whole, Links-hung, starts_differ}
 
--- the three writes that put the block at `block` in front of the list that begins with `newest`
-pub record Fronts (m n : Space) (newest block : ℕ) : Type 0 where
+-- where the link lies that names the block before a list's first one, or before the block itself, is a multiple of 32
+pub own-whole : {first block at : ℕ} → IsFirstOrOwn first block at → first % 32 ≡ 0 → block % 32 ≡ 0 → at % 32 ≡ 0
+own-whole {first} is first_whole block_whole = elim (cases_eq first 0) [
+  | inl none ↦ omega (arith, is.none none)
+  | inr some ↦ omega (arith, is.some some)
+]
+
+-- the three writes that put the block at `block` in front of the list that begins with `newest`: the link at `at` is that of
+-- its first block, or the block's own, which is written again
+pub record Fronts (m n : Space) (newest block at : ℕ) : Type 0 where
   pub one : Space
   pub two : Space
+  pub own : IsFirstOrOwn newest block at
   pub next : Writes m one (Unit {0}) (block + 16) newest
-  pub previous : Writes one two (Unit {0}) (block + 24) 0
-  pub back : Writes two n (newest ≢ 0) (newest + 24) block
-
--- the first two of these, which write words of the block
-pub Writes-front : (m one two : Space) {newest block : ℕ} {r : Range} → r.start ≡ block → IsPlaced m r → newest < 2 ^ 64
-    → one.start ≡ m.start → one.bytes ≡ with_word m (block + 16) newest → two.start ≡ one.start → two.bytes ≡ with_word one (block + 24) 0
-    → Writes m one (Unit {0}) (block + 16) newest × Writes one two (Unit {0}) (block + 24) 0
-Writes-front m one two {newest} {block} place placed fits one_start one_bytes two_start two_bytes =
-    let next : Writes m one (Unit {0}) (block + 16) newest = Writes-some (Unit {0}) tt (IsWord-at 16 (omega arith) refl place placed m refl refl) fits one_start one_bytes in
-    (next, Writes-some (Unit {0}) tt (IsWord-at 24 (omega arith) refl place placed one next.rewrites.start next.rewrites.length) (omega arith) two_start two_bytes)
+  pub back : Writes one two (Unit {0}) (at + 24) block
+  pub previous : Writes two n (Unit {0}) (block + 24) 0
 
 -- the newest block is placed
 pub newest_placed : {m : Space} {newest : ℕ} {free : List Range} → IsFreeList m newest free → newest ≢ 0 → (f : Range) × (f.start ≡ newest) × IsPlaced m f
 newest_placed {m} {newest} {free} list some = let first = first_of m 0 free newest list.links some in (first.0, sym first.2, list.placed first.0 first.1)
 
-module _ (m n : Space) (newest block : ℕ) (r : Range) (free : List Range) (place : r.start ≡ block) (list : IsFreeList m newest free) (placed : IsPlaced m r)
-    (apart : (a : ℕ) → coverage itself (r ∷ free) a ≤ 1) (fronts : Fronts m n newest block) where
+-- so is the one whose link is written
+pub own_placed : {m : Space} {newest block at : ℕ} {r : Range} {free : List Range} → IsFreeList m newest free → r.start ≡ block → IsPlaced m r → IsFirstOrOwn newest block at → (f : Range) × (f.start ≡ at) × IsPlaced m f
+own_placed {newest = newest} {r = r} list place placed own = elim (cases_eq newest 0) [
+  | inl none ↦ (r, place ∙ sym (own.none none), placed)
+  | inr some ↦ let first = newest_placed list some in (first.0, first.1 ∙ sym (own.some some), first.2)
+]
+
+module _ (m n : Space) (newest block at : ℕ) (r : Range) (free : List Range) (place : r.start ≡ block) (list : IsFreeList m newest free) (placed : IsPlaced m r)
+    (apart : (a : ℕ) → coverage itself (r ∷ free) a ≤ 1) (fronts : Fronts m n newest block at) where
   -- the newest block till now is another one
   newest-other : newest ≢ 0 → newest ≢ block
   newest-other some same =
@@ -43,27 +52,40 @@ module _ (m n : Space) (newest block : ℕ) (r : Range) (free : List Range) (pla
   block-whole : (block % 32 ≡ 0) × (m.start ≤ block)
   block-whole = (omega (arith, place, placed.whole), omega (arith, place, placed.lies_in))
 
+  at-whole : at % 32 ≡ 0
+  at-whole = own-whole fronts.own newest-whole block-whole.0
+
   -- a word that isn't written
   word_at-front : (a : ℕ) → a % 8 ≡ 0 → m.start ≤ a → a ≢ block + 16 → a ≢ block + 24 → (newest ≢ 0 → a ≢ newest + 24) → word_at n a ≡ word_at m a
   word_at-front a whole inside x y z =
       let one = fronts.next.rewrites in
-      let two = fronts.previous.rewrites in
-      fronts.back.rewrites.words a whole (omega (arith, one.start, two.start)) (λ h. z h.0 h.1)
-      ∙ two.words a whole (omega (arith, one.start)) (λ h. y h.1) ∙ one.words a whole inside (λ h. x h.1)
+      let two = fronts.back.rewrites in
+      let other : a ≢ at + 24 = λ e. elim (cases_eq newest 0) [
+        | inl none ↦ y (e ∙ ap (λ b. b + 24) (fronts.own.none none))
+        | inr some ↦ z some (e ∙ ap (λ b. b + 24) (fronts.own.some some))
+      ] in
+      fronts.previous.rewrites.words a whole (omega (arith, one.start, two.start)) (λ h. y h.1)
+      ∙ two.words a whole (omega (arith, one.start)) (λ h. other h.1) ∙ one.words a whole inside (λ h. x h.1)
 
   word_at-front_next : word_at n (block + 16) ≡ newest
   word_at-front_next =
       let one = fronts.next.rewrites in
-      let two = fronts.previous.rewrites in
-      fronts.back.rewrites.words (block + 16) (omega (arith, block-whole)) (omega (arith, one.start, two.start, block-whole)) (λ h. omega (arith, h.1, block-whole, newest-whole))
-      ∙ two.words (block + 16) (omega (arith, block-whole)) (omega (arith, one.start, block-whole)) (λ h. omega (arith, h.1)) ∙ fronts.next.reads tt
+      let two = fronts.back.rewrites in
+      fronts.previous.rewrites.words (block + 16) (omega (arith, block-whole)) (omega (arith, one.start, two.start, block-whole)) (λ h. omega (arith, h.1))
+      ∙ two.words (block + 16) (omega (arith, block-whole)) (omega (arith, one.start, block-whole)) (λ h. omega (arith, h.1, block-whole, at-whole)) ∙ fronts.next.reads tt
 
   word_at-front_previous : word_at n (block + 24) ≡ 0
-  word_at-front_previous =
+  word_at-front_previous = fronts.previous.reads tt
+
+  -- the newest block till now names the block
+  word_at-front_back : newest ≢ 0 → word_at n (newest + 24) ≡ block
+  word_at-front_back some =
       let one = fronts.next.rewrites in
-      let two = fronts.previous.rewrites in
-      fronts.back.rewrites.words (block + 24) (omega (arith, block-whole)) (omega (arith, one.start, two.start, block-whole)) (λ h. newest-other h.0 (omega (arith, h.1)))
-      ∙ fronts.previous.reads tt
+      let two = fronts.back.rewrites in
+      let first = newest_placed list some in
+      let inside : m.start ≤ newest = omega (arith, first.1, first.2.lies_in) in
+      fronts.previous.rewrites.words (newest + 24) (omega (arith, newest-whole)) (omega (arith, one.start, two.start, inside)) (λ h. newest-other some (omega (arith, h.1)))
+      ∙ ap (λ b. word_at fronts.two (b + 24)) (sym (fronts.own.some some)) ∙ fronts.back.reads tt
 
   apart-behind : (a : ℕ) → coverage itself free a ≤ 1
   apart-behind a = omega (arith, apart a)
@@ -82,18 +104,68 @@ module _ (m n : Space) (newest block : ℕ) (r : Range) (free : List Range) (pla
       let here = list.placed f i in
       word_at-front (f.start + 24) (omega (arith, here.whole)) (omega (arith, here.lies_in)) (λ e. omega (arith, e, here.whole, block-whole))
       (λ e. starts-behind f i (omega (arith, e))) (λ s e. other (omega (arith, e))) in
-      let hung = Links-hung m n 0 block free newest list.placed apart-behind fronts.back.reads nexts others list.links in
+      let hung = Links-hung m n 0 block free newest list.placed apart-behind word_at-front_back nexts others list.links in
       let linked : Links n block free (word_at n (block + 16)) = subst (λ w. Links n block free w) (sym word_at-front_next) hung in
       (sym place, ap (λ a. word_at n (a + 24)) place ∙ word_at-front_previous, subst (λ a. Links n a free (word_at n (a + 16))) (sym place) linked)
 
   -- and nothing but links was written
   pub Rewrites-front : Rewrites m n (IsLink (r ∷ free))
   Rewrites-front =
-      let first : newest ≢ 0 → (f : Range) × IsIn f free × (newest ≡ f.start) = λ some. first_of m 0 free newest list.links some in
+      let own : IsLink (r ∷ free) (at + 24) = elim (cases_eq newest 0) [
+        | inl none ↦ (r, inl refl, inr (ap (λ b. b + 24) (fronts.own.none none ∙ sym place)))
+        | inr some ↦ let first = first_of m 0 free newest list.links some in (first.0, inr first.1, inr (ap (λ b. b + 24) (fronts.own.some some ∙ first.2)))
+      ] in
       Rewrites-weaken
       (λ a h. elim h [
         | inl (inl e) ↦ (r, inl refl, inl (e.1 ∙ ap (λ b. b + 16) (sym place)))
-        | inl (inr e) ↦ (r, inl refl, inr (e.1 ∙ ap (λ b. b + 24) (sym place)))
-        | inr e ↦ ((first e.0).0, inr (first e.0).1, inr (e.1 ∙ ap (λ b. b + 24) (first e.0).2))
+        | inl (inr e) ↦ subst (IsLink (r ∷ free)) (sym e.1) own
+        | inr e ↦ (r, inl refl, inr (e.1 ∙ ap (λ b. b + 24) (sym place)))
       ])
-      (Rewrites-trans (Rewrites-trans fronts.next.rewrites fronts.previous.rewrites) fronts.back.rewrites)
+      (Rewrites-trans (Rewrites-trans fronts.next.rewrites fronts.back.rewrites) fronts.previous.rewrites)
+
+-- ---- the first block taken out
+
+-- the one write that does it: the link of the next block, or where there is none, the block's own
+module _ (m n : Space) (newest next at : ℕ) (r : Range) (after : List Range) (list : IsFreeList m newest (r ∷ after)) (is_next : next ≡ word_at m (r.start + 16))
+    (own : IsFirstOrOwn next r.start at) where
+  behind : Links m r.start after next
+  behind = subst (λ w. Links m r.start after w) (sym is_next) list.links.2
+
+  placed-behind : (f : Range) → IsIn f after → IsPlaced m f
+  placed-behind f i = list.placed f (inr i)
+
+  -- where it is written
+  pub rest_placed : (f : Range) × (f.start ≡ at) × IsPlaced m f
+  rest_placed = elim (cases_eq next 0) [
+    | inl none ↦ (r, sym (own.none none), list.placed r (inl refl))
+    | inr some ↦ let first = first_of m r.start after next behind some in (first.0, sym (own.some some ∙ first.2), placed-behind first.0 first.1)
+  ]
+
+  module _ (cut : Writes m n (Unit {0}) (at + 24) 0) where
+    cut-whole : at % 32 ≡ 0
+    cut-whole = omega (arith, rest_placed.1, rest_placed.2.whole)
+
+    -- what is left is the list
+    pub Links-rest : Links n 0 after next
+    Links-rest =
+        let differs : (f : Range) → IsIn f after → f.start ≢ r.start = λ f i same.
+        starts_differ (r ∷ []) after r f list.apart (inl refl) i (omega (arith, (list.placed r (inl refl)).room)) (omega (arith, (placed-behind f i).room)) (sym same) in
+        let nexts : (f : Range) → IsIn f after → word_at n (f.start + 16) ≡ word_at m (f.start + 16) = λ f i.
+        let here = placed-behind f i in
+        cut.rewrites.words (f.start + 16) (omega (arith, here.whole)) (omega (arith, here.lies_in)) (λ h. omega (arith, h.1, here.whole, cut-whole)) in
+        let others : (f : Range) → IsIn f after → f.start ≢ next → word_at n (f.start + 24) ≡ word_at m (f.start + 24) = λ f i other.
+        let here = placed-behind f i in
+        cut.rewrites.words (f.start + 24) (omega (arith, here.whole)) (omega (arith, here.lies_in)) (λ h. elim (cases_eq next 0) [
+          | inl none ↦ differs f i (omega (arith, h.1, own.none none))
+          | inr some ↦ other (omega (arith, h.1, own.some some))
+        ]) in
+        Links-hung m n r.start 0 after next placed-behind (λ a. omega (arith, list.apart a)) (λ some. ap (λ b. word_at n (b + 24)) (sym (own.some some)) ∙ cut.reads tt) nexts others behind
+
+    -- and nothing but links was written
+    pub Rewrites-rest : Rewrites m n (IsLink (r ∷ after))
+    Rewrites-rest =
+        let link : IsLink (r ∷ after) (at + 24) = elim (cases_eq next 0) [
+          | inl none ↦ (r, inl refl, inr (ap (λ b. b + 24) (own.none none)))
+          | inr some ↦ let first = first_of m r.start after next behind some in (first.0, inr first.1, inr (ap (λ b. b + 24) (own.some some ∙ first.2)))
+        ] in
+        Rewrites-weaken (λ a h. subst (IsLink (r ∷ after)) (sym h.1) link) cut.rewrites

@@ -1,5 +1,5 @@
 -- The list of one class, as the functions that write its links have it.
-use Rattle.std.specs.Prelude.{◌≡◌, ℕ, ◌+◌, ◌^◌, ◌<◌, ◌≤◌, ◌==◌, List, length, Option, None, Some, if◌then◌else◌}
+use Rattle.std.specs.Prelude.{◌≡◌, ◌≢◌, ℕ, ◌+◌, ◌^◌, ◌<◌, ◌≤◌, ◌==◌, List, length, Option, None, Some, if◌then◌else◌}
 use Rattle.rlsf_base.specs.declared.memory.range.Range.{Range}
 use Rattle.rlsf_base.specs.Space.{Space, word_at}
 use Rattle.rlsf_machine.specs.Lists.{IsIn}
@@ -18,3 +18,8 @@ pub record IsFreeList (m : Space) (head : ℕ) (free : List Range) : Type 0 wher
 abbrev pub unlinking_touches : Option ℕ → ℕ
 unlinking_touches None = 4
 unlinking_touches (Some next) = if next == 0 then 2 else 3
+
+-- the block at `first`, or where there is none, that at `block`
+pub record IsFirstOrOwn (first block at : ℕ) : Type 0 where
+  pub some : first ≢ 0 → at ≡ first
+  pub none : first ≡ 0 → at ≡ block

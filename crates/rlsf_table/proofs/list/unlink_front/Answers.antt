@@ -1,0 +1,51 @@
+-- The one write takes the first block out.
+use Rattle.std.proofs.Common.{◌≡◌, ℕ, ◌+◌, List, ◌∷◌, ◌∙◌, length, ap, arith, inl, refl, subst, sym}
+use Rattle.rlsf_base.specs.Space.{Space, word_at}
+use Rattle.rlsf_base.specs.declared.memory.range.Range.{Range}
+use Rattle.rlsf_table.specs.FreeList.{IsPlaced}
+use Rattle.rlsf_table.specs.Steps.ClassList.{IsFirstOrOwn, IsFreeList}
+use Rattle.rlsf_table.proofs.FreeLists.Counted.{IsFreeList-counted, Rewrites-counted_first, word_at-counted}
+use Rattle.rlsf_table.proofs.FreeLists.Front.{Links-rest, rest_placed, Rewrites-rest}
+use Rattle.rlsf_table.proofs.Words.Writes.{fits_at, IsWord-at, Writes, Writes-some}
+use Rattle.rlsf_table.proofs.list.unlink_front.Goals as goal
+
+pub overflow_add-block : goal.overflow_add-block
+overflow_add-block c = record { fits = fits_at 16 (omega arith) refl c.requires.3 (c.requires.4.placed c.requires.0 (inl refl)) c.requires.4.addressable }
+
+pub load-next-requires : goal.load-next-requires
+load-next-requires c = IsWord-at 16 (omega arith) refl c.requires.3 (c.requires.4.placed c.requires.0 (inl refl)) c.args.memory.now refl refl
+
+-- the block whose link is written is placed
+there : {m : Space} {newest next block at : ℕ} (r : Range) (after : List Range) → r.start ≡ block → IsFreeList m newest (r ∷ after) → next ≡ word_at m (block + 16) → IsFirstOrOwn next block at
+    → (f : Range) × (f.start ≡ at) × IsPlaced m f
+there {m} {newest} {next} {at = at} r after place list is own =
+    rest_placed m m newest next at r after list (is ∙ ap (λ a. word_at m (a + 16)) (sym place)) (subst (λ b. IsFirstOrOwn next b at) (sym place) own)
+
+pub overflow_add-first_or_own : goal.overflow_add-first_or_own
+overflow_add-first_or_own c =
+    let found = there c.requires.0 c.requires.1 c.requires.3 c.requires.4 c.load-next.ensures.word c.first_or_own.ensures in
+    record { fits = fits_at 24 (omega arith) refl found.1 found.2 c.requires.4.addressable }
+
+pub set_word-requires : goal.set_word-requires
+set_word-requires c =
+    let found = there c.requires.0 c.requires.1 c.requires.3 c.requires.4 c.load-next.ensures.word c.first_or_own.ensures in
+    IsWord-at 24 (omega arith) refl found.1 found.2 c.load-next.new.self c.load-next.ensures.start (ap length c.load-next.ensures.bytes)
+
+pub returns-clause-step : goal.returns-clause-step
+returns-clause-step c newest r after place listed =
+    let m = c.args.memory.now in
+    let one = c.load-next.new.self in
+    let n = c.set_word.new.self in
+    let next = c.load-next.result in
+    let at = c.first_or_own.result in
+    let start = c.load-next.ensures.start in
+    let bytes = c.load-next.ensures.bytes in
+    let list = IsFreeList-counted m one start bytes listed in
+    let is_next : next ≡ word_at one (r.start + 16) = c.load-next.ensures.word ∙ sym (word_at-counted m one start bytes (c.args.block + 16)) ∙ ap (λ a. word_at one (a + 16)) (sym place) in
+    let own : IsFirstOrOwn next r.start at = subst (λ b. IsFirstOrOwn next b at) (sym place) c.first_or_own.ensures in
+    let found = rest_placed one n newest next at r after list is_next own in
+    let word = IsWord-at 24 (omega arith) refl found.1 found.2 one refl refl in
+    let cut : Writes one n (Unit {0}) (at + 24) 0 = Writes-some (Unit {0}) tt word (omega arith) c.set_word.ensures.start c.set_word.ensures.bytes in (
+      Links-rest one n newest next at r after list is_next own cut,
+      Rewrites-counted_first m one start bytes (Rewrites-rest one n newest next at r after list is_next own cut),
+    )
