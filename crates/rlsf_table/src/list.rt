@@ -11,7 +11,7 @@ ghost use Rattle.rlsf_table.specs.FreeTable.{IsFreeTable, IsRoom};
 ghost use Rattle.rlsf_table.specs.Table.{HasTable, IsNewestAt};
 
 use crate::table::ClassTable;
-use rlsf_base::classes::map_floor;
+use rlsf_base::classes::class_of_block;
 use rlsf_base::memory::Memory;
 use rlsf_int::Bitmap;
 
@@ -95,9 +95,7 @@ pub fn link<FLBitmap: Bitmap, SLBitmap: Bitmap, const FLLEN: usize, const SLLEN:
     ensures grow { memory.old.touches ≤ memory.new.touches }
     ensures copied { memory.new.copied ≡ memory.old.copied }
 {
-    let Some((fl, sl)) = map_floor::<FLBitmap, SLBitmap, FLLEN, SLLEN>(len) else {
-        unreachable!()
-    };
+    let (fl, sl) = class_of_block::<FLBitmap, SLBitmap, FLLEN, SLLEN>(len);
     let newest = table.head(memory, fl, sl);
     link_front(memory, newest, block);
     table.put(memory, fl, sl, block);
@@ -124,9 +122,7 @@ pub fn unlink<FLBitmap: Bitmap, SLBitmap: Bitmap, const FLLEN: usize, const SLLE
 {
     let newest = unlink_between(memory, block);
     if let Some(next) = newest {
-        let Some((fl, sl)) = map_floor::<FLBitmap, SLBitmap, FLLEN, SLLEN>(len) else {
-            unreachable!()
-        };
+        let (fl, sl) = class_of_block::<FLBitmap, SLBitmap, FLLEN, SLLEN>(len);
         table.take(memory, fl, sl, next);
     }
 }
