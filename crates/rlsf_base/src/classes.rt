@@ -199,7 +199,7 @@ fn within_rows<const FLLEN: usize>(class: (usize, usize)) -> Option<(usize, usiz
 }
 
 // The position of the highest one of a size. The one that is set at the lowest position changes nothing there, and tells the
-// compiler that it counts no number without ones, for which the machine would need more steps.
+// compiler that it counts no number without ones, for which the processor would need more steps.
 fn highest_one(size: usize) -> u32
     requires { 0 < size }
     ensures power_le { 2 ^ result ≤ size }

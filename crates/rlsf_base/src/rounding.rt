@@ -1,5 +1,5 @@
 //! Rounding up to a multiple of a power of two. Neither function divides: an alignment that isn't a constant would make the
-//! machine do so.
+//! processor do so.
 
 ghost use Rattle.std.specs.Prelude.{◌≡◌, ◌^◌, ◌<◌};
 ghost use Rattle.std.specs.Int.{next_multiple_of};

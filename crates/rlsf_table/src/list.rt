@@ -17,7 +17,7 @@ use rlsf_int::Bitmap;
 
 /// Where the link to the block before lies that is written when the list from `first` on gets another front: in its first
 /// block, or where it has none, in the block at `block`, which isn't in it. So the word is written in either case: whether
-/// there is a block can't be foretold, and a wrong guess costs the machine more than a word.
+/// there is a block can't be foretold, and a wrong guess costs the processor more than a word.
 fn first_or_own(first: usize, block: usize) -> usize
     ensures { IsFirstOrOwn first block result }
 {
