@@ -4,7 +4,7 @@
 //! Each function but `request_size` is generic in an allocator's parameters. They are valid: there are from 1 to
 //! `FLBitmap`'s bits rows, each of a power of two of classes that is at most `SLBitmap`'s bits. A size is a nonzero
 //! multiple of 32, in bytes. A class is named by its row, counted from 0, and its place in the row. No function refuses
-//! or panics within its condition, none asks the machine for memory, and the work of each is constant.
+//! or panics within its condition, none asks the system for memory, and the work of each is constant.
 
 ghost use Rattle.std.specs.Prelude.{◌≡◌, ◌%◌, ◌^◌, ◌<◌, ◌≤◌, ◌*◌, ◌-◌, IsTrue, Some, IfSome, IfNone};
 ghost use Rattle.rlsf_base.specs.ClassLaws.{MappedIsFirstReaching, UnmappedIsEnough, UnmappedBeginsItsClass, UnreachedIsNotUnmapped, LongestBlockHasAClass, PoolIsOneChunk, PoolContainsItsAllocation};

@@ -27,13 +27,13 @@ pub enum MemoryError {
     ZeroStart = 1,
     /// The end lies past the greatest address.
     TooLong = 2,
-    /// The machine has no block of this length.
+    /// The system has no block of this length.
     OutOfMemory = 3,
 }
 
 /// The address space that allocators divide up: `len` bytes at the addresses from `start` on.
 ///
-/// It is one block of the machine, aligned so that each multiple of 8 is the address of an aligned word. It counts,
+/// It is one block of the system, aligned so that each multiple of 8 is the address of an aligned word. It counts,
 /// for contracts alone, how often words were touched and how many bytes were copied. It is as large as a `Vec<u8>`.
 pub struct Memory {
     base: Base,
@@ -60,7 +60,7 @@ impl Model for Memory {
 }
 
 impl Drop for Memory {
-    // Once in a memory's life: apart from its other calls, this lets the compiler keep where the block is in registers there.
+    // Out of line, since it runs once in a memory's life: so the compiler keeps the block's base in a register in the other calls.
     #[inline(never)]
     fn drop(self) {
         let Memory {
@@ -81,7 +81,7 @@ impl Memory {
     /// Makes a memory of `len` zero bytes from the address `start` on.
     ///
     /// Refused with `ZeroStart` if `start` is zero, else with `TooLong` if `start + len` passes the greatest address,
-    /// else with `OutOfMemory` if the machine has no such block. A memory of no bytes asks the machine for nothing.
+    /// else with `OutOfMemory` if the system has no such block. A memory of no bytes asks the system for nothing.
     pub fn new(alloc: Global, start: usize, len: usize) -> Result<Memory, MemoryError>
         ensures zero_start { IsErrOf result MemoryError.ZeroStart ↔ (start ≡ 0) }
         ensures too_long { IsErrOf result MemoryError.TooLong ↔ ((1 ≤ start) × (2 ^ 64 ≤ start + len)) }

@@ -127,7 +127,7 @@ const REFUSED: [(usize, usize, Option<MemoryError>); 8] = [
     (1, MAX, Some(MemoryError::TooLong)),
     (2, MAX - 1, Some(MemoryError::TooLong)),
     (MAX, 0, None),
-    // No machine has such a block.
+    // No system has such a block.
     (1, MAX - 1, Some(MemoryError::OutOfMemory)),
     (4096, 1 << 63, Some(MemoryError::OutOfMemory)),
     (4096, 1 << 62, Some(MemoryError::OutOfMemory)),

@@ -30,7 +30,7 @@ const POOL: Range = Range {
     len: 1 << 25,
 };
 
-/// The addresses of the memory. The machine gives a block of this length 16 bytes past the begin of a page: with 48
+/// The addresses of the memory. The system gives a block of this length 16 bytes past the begin of a page: with 48
 /// bytes more before the pool no block's links lie across two of its cache lines, as they don't in the original.
 const MEMORY: Range = Range {
     start: 4096 - 48,

@@ -63,7 +63,7 @@ fn chunk_length<FLBitmap: Bitmap, SLBitmap: Bitmap, const FLLEN: usize, const SL
 
 /// Makes chunks of a range, from its first multiple of 32 on and while 64 bytes or more are left. Answers the bytes from
 /// the range's start up to the last chunk's end, or `None` without a chunk.
-// Pools are rare: apart from the calls that are not, this lets the compiler keep where the memory is in registers there.
+// Out of line, since pools are rare: so the compiler keeps the memory's base in a register in the frequent calls.
 #[inline(never)]
 pub fn insert<FLBitmap: Bitmap, SLBitmap: Bitmap, const FLLEN: usize, const SLLEN: usize>(
     memory: &mut Memory,

@@ -44,7 +44,7 @@ fn remove_chunk<FLBitmap: Bitmap, SLBitmap: Bitmap, const FLLEN: usize, const SL
 /// there leave their lists.
 ///
 /// From there to there the range is a row of whole adjacent chunks, or empty.
-// Pools are rare: apart from the calls that are not, this lets the compiler keep where the memory is in registers there.
+// Out of line, since pools are rare: so the compiler keeps the memory's base in a register in the frequent calls.
 #[inline(never)]
 pub fn remove_chunks<FLBitmap: Bitmap, SLBitmap: Bitmap, const FLLEN: usize, const SLLEN: usize>(
     memory: &mut Memory,

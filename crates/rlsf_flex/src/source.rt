@@ -19,7 +19,7 @@ pub trait FlexSource {
 
     ghost leads: { Self → Note → Self → Type 0 };
 
-    /// A new range of `min_size` bytes or more, which touches no outstanding one and starts at a multiple of `min_align`. It is
+    /// A new range of `min_size` bytes or more, which overlaps no outstanding one and starts at a multiple of `min_align`. It is
     /// outstanding then.
     ///
     /// `min_size` is a multiple of 32 and not 0.
@@ -29,7 +29,7 @@ pub trait FlexSource {
         ensures owes { (owed : List Range) → owes self.old owed
             → MatchOption result (owes self.new owed) (λ r. IsGiven (terms self.old) owed min_size r × owes self.new (r ∷ owed)) };
 
-    /// The new length of a range that grows where it is, `min_new_len` bytes or more: its new bytes touch no other outstanding
+    /// The new length of a range that grows where it is, `min_new_len` bytes or more: its new bytes overlap no other outstanding
     /// range.
     ///
     /// The source can grow ranges, the range is outstanding, and `min_new_len` isn't below its length.

@@ -154,7 +154,7 @@ struct Left {
     source: ListedSource,
 }
 
-/// What ops leave; nothing where the machine refuses memory.
+/// What ops leave; nothing where the system refuses memory.
 fn left_by<FLBitmap: Bitmap, SLBitmap: Bitmap, const FLLEN: usize, const SLLEN: usize>(
     alloc: Global,
     source: Source,
@@ -216,7 +216,7 @@ fn is_right(script: &Script, questions: &[Question], left: &Left) -> bool {
     script.is_answered_by(&left.answers) && left.source.asked() == questions
 }
 
-/// Whether the run with a number goes as it has to; nothing where the machine refuses memory.
+/// Whether the run with a number goes as it has to; nothing where the system refuses memory.
 fn goes_so<FLBitmap: Bitmap, SLBitmap: Bitmap, const FLLEN: usize, const SLLEN: usize>(
     alloc: Global,
     choice: usize,
@@ -235,7 +235,7 @@ fn goes_so<FLBitmap: Bitmap, SLBitmap: Bitmap, const FLLEN: usize, const SLLEN: 
     Some(is_right(&script, &questions, &left))
 }
 
-/// The number of the first run that goes otherwise, or for which the machine refuses memory.
+/// The number of the first run that goes otherwise, or for which the system refuses memory.
 fn first_wrong<FLBitmap: Bitmap, SLBitmap: Bitmap, const FLLEN: usize, const SLLEN: usize>(
     alloc: Global,
     choice: usize,

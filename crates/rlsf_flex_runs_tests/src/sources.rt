@@ -32,7 +32,7 @@ pub fn parts(
 }
 
 /// A memory of the space's bytes, and a source of all of it with these answers, which remembers so many questions; nothing where
-/// the machine refuses memory.
+/// the system refuses memory.
 pub fn parts_of(
     alloc: Global,
     space: Range,

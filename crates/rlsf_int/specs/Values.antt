@@ -4,7 +4,7 @@ use denote.RattleType.{RattleType}
 use denote.Laws.{Is}
 use mir.Val.{Val}
 
--- x is a value that the type R has: the machine has words for it. A law's number is any number, and a `u8` is one below 256
+-- x is a value that the type R has: the system has words for it. A law's number is any number, and a `u8` is one below 256
 abbrev pub IsValue : (R : RattleType) → R.Denot → Type 0
 IsValue R x = (vs : List Val) × Is R x vs
 

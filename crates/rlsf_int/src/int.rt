@@ -12,7 +12,7 @@ use std::{fmt, ops};
 /// What a value means: the set of the positions of its ones in two's complement. The lowest
 /// position is 0.
 ///
-/// It has no code. It is apart from `BinInteger` for the structs that hold a bitmap, whose proofs
+/// It has no code. It is a trait beside `BinInteger` for the structs that hold a bitmap, whose proofs
 /// carry every parent of the trait that bounds them.
 pub trait BitPattern: Copy + Sealed {
     // How many positions there are.
@@ -30,7 +30,7 @@ pub trait BitPattern: Copy + Sealed {
 
 /// What the allocator asks of its bitmaps, in the words of sets of positions.
 ///
-/// `BinInteger` has all of it under the original's names. It is apart from that for the functions that are generic over
+/// `BinInteger` has all of it under the original's names. It is a trait of its own for the functions that are generic over
 /// bitmaps, whose proofs carry every parent of the trait that bounds them.
 pub trait Bitmap: BitPattern {
     /// The value without a one.

@@ -82,7 +82,7 @@ impl Model for ListedSource {
 }
 
 impl ListedSource {
-    /// A source of the space with these answers, or an error where the machine refused memory.
+    /// A source of the space with these answers, or an error where the system refused memory.
     ///
     /// Room for so many questions and ranges is reserved here; a question past that is answered with none, and not remembered.
     pub fn new(

@@ -1,4 +1,4 @@
--- Ranges that touch no byte of a chunk.
+-- Ranges that overlap no chunk.
 use Rattle.std.proofs.Common.{◌≡◌, ℕ, ◌+◌, List, [], ◌∷◌, Option, arith, refl, ◌∙◌, ap, inl, inr}
 use Rattle.std.proofs.lemmas.Bool.{cases_lt}
 use Rattle.rlsf_base.specs.declared.memory.range.Range.{Range}
@@ -17,12 +17,12 @@ pub untouched_empty : (r : Range) → IsUntouched empty.chunks r
 unfolding IsUntouched
 untouched_empty r a from to = refl
 
--- a range in the memory that touches no chunk may be handed in
+-- a range in the memory that overlaps no chunk may be handed in
 pub IsFresh-untouched : (memory : Range) (s : State) (r : Range) → LiesIn r memory.start memory.len → IsUntouched s.chunks r → IsFresh memory s r
 unfolding IsUntouched
 IsFresh-untouched memory s r lies clear = record { lies_in = lies; apart = clear }
 
--- and one that may be handed in lies in the memory and touches no chunk
+-- and one that may be handed in lies in the memory and overlaps no chunk
 pub parts_of-IsFresh : (memory : Range) (s : State) (r : Range) → IsFresh memory s r → LiesIn r memory.start memory.len × IsUntouched s.chunks r
 unfolding IsUntouched
 parts_of-IsFresh memory s r fresh = (fresh.lies_in, fresh.apart)

@@ -53,20 +53,20 @@ abbrev pub bytes_taken : ℕ → List Range → Option ℕ
 bytes_taken start [] = None
 bytes_taken start (c ∷ cs) = Some (end_of_last (end_of c) cs - start)
 
--- the range touches no byte of some other ranges
+-- the range overlaps none of some other ranges
 abbrev pub IsClear : Range → List Range → Type 0
 IsClear r others = (a : ℕ) → r.start ≤ a → a < end_of r → coverage itself others a ≡ 0
 
--- the range touches no byte of some chunks
+-- the range overlaps none of some chunks
 unfoldable pub IsUntouched : List Range → Range → Type 0
 IsUntouched chunks r = IsClear r chunks
 
--- the range lies in the memory and touches no byte of some ranges there
+-- the range lies in the memory and overlaps none of some ranges there
 pub record IsVacant (memory : Range) (taken : List Range) (r : Range) : Type 0 where
   pub lies_in : LiesIn r memory.start memory.len
   pub apart : IsClear r taken
 
--- the range may be handed in: it lies in the memory and touches no byte of a chunk
+-- the range may be handed in: it lies in the memory and overlaps no chunk
 abbrev pub IsFresh : Range → State → Range → Type 0
 IsFresh memory s r = IsVacant memory s.chunks r
 

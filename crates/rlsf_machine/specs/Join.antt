@@ -1,4 +1,4 @@
--- A range becomes free: it is joined to the free ranges that it touches.
+-- A range becomes free: it is joined to the free ranges that adjoin it.
 use Rattle.std.specs.Prelude.{ℕ, Bool, List, ◌∷◌, ◌==◌, Option, Some, None, find}
 use Rattle.rlsf_base.specs.declared.memory.range.Range.{Range}
 use Rattle.rlsf_base.specs.Range.{end_of}

@@ -58,7 +58,7 @@ IsApart free = (f g : Range) → IsIn f free → IsIn g free → end_of f ≢ g.
 
 -- There are size classes, and every address of the memory is below 2 ^ 64. The chunks lie in the memory and don't
 -- overlap. In each of them the used ranges, the free ranges and its last 32 bytes tile it: each address of a chunk
--- is in exactly one of these, and no other address is in any. No two free ranges touch.
+-- is in exactly one of these, and no other address is in any. No two free ranges adjoin.
 pub record IsWellFormed (fllen sllen : ℕ) (memory : Range) (s : State) : Type 0 where
   pub rows : 0 < fllen
   pub row_length : 0 < sllen

@@ -36,7 +36,7 @@ ghost use Rattle.rlsf_machine.specs.Sizing.{SizingLaws};
 /// `sources`: over a source of memory too the machine is such a map to its callers, between any two states that are well-formed. The
 /// beginning is, and as long as the source answers what it may, memory that comes, each step and each run over it keep a
 /// state well-formed, and so they change the map as the calls say; and memory that comes for an allocation has room for it.
-/// After each run payloads lie apart, each in one chunk at a multiple of its alignment; sizes, the bytes that both sizes have,
+/// After each run payloads are disjoint, each in one chunk at a multiple of its alignment; sizes, the bytes that both sizes have,
 /// and payloads that a step doesn't name are as without a source. A run over a source is one of the machine alone, in which
 /// the memory that comes is handed in. From similar states, where the source gives the same answers to the same questions, the
 /// same calls ask the same, have the same replies, and lead to similar states. Each call that its caller may make has a reply,

@@ -19,7 +19,7 @@ use rlsf_table::ClassTable;
 /// Gives the payload at `payload`, in the used block at `block`, the layout's size: where it stands, else in the free
 /// block before it, else elsewhere. Answers its address, or `None` exactly where the allocation is refused, and then
 /// nothing changes.
-// It has four cases: apart from the calls that are short, it lets the compiler keep where the memory is in registers there.
+// Out of line, since it is long: so the compiler keeps the memory's base in a register in the short calls.
 #[inline(never)]
 pub fn reallocate_block<FLBitmap: Bitmap, SLBitmap: Bitmap, const FLLEN: usize, const SLLEN: usize>(
     memory: &mut Memory,

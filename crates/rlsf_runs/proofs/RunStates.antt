@@ -63,7 +63,7 @@ module _ {fllen sllen : ℕ} {v : Allocator} {tables : Tables} {s : RunState} (a
   pub MayAppend-none : (r : Range) → ((p : Range) → IsIn p tables.pools.items → end_of p ≢ r.start) → MayAppend (range_of v.memory) s.pools r → ⊥
   MayAppend-none r none may = none may.pool (IsIn-permutation may.pool s.pools tables.pools.items at.pools may.is_pool) may.ends
 
-  -- a range that may be inserted touches no pool of the table
+  -- a range that may be inserted overlaps no pool of the table
   pub IsClear-tables : (r : Range) → MayInsert (range_of v.memory) s.pools r → IsClear r tables.pools.items
   IsClear-tables r may a low high = coverage-tables a ∙ may.apart a low high
 
@@ -77,7 +77,7 @@ module _ {fllen sllen : ℕ} {v : Allocator} {tables : Tables} {s : RunState} (a
       let to = ap end_of is in
       (omega (arith, bounds, from, to), λ a above below. IsClear-tables r may a (omega (arith, low, from)) (omega (arith, bounds, to)))
 
-  -- what may be inserted touches no chunk
+  -- what may be inserted overlaps no chunk
   pub IsFresh-MayInsert : (r : Range) → MayInsert (range_of v.memory) s.pools r → IsFresh (range_of v.memory) s.machine r
   IsFresh-MayInsert r may = record { lies_in = may.lies_in; apart = λ a low high. omega (arith, at.covered a, may.apart a low high) }
 

@@ -33,7 +33,7 @@ pub record RunState : Type 0 where
 abbrev pub beginning : RunState
 beginning = record { machine = empty; named = λ name. None; pools = [] }
 
--- the range lies in the memory, and touches no byte of a pool
+-- the range lies in the memory, and overlaps no pool
 abbrev pub MayInsert : Range → List Range → Range → Type 0
 MayInsert memory pools r = IsVacant memory pools r
 

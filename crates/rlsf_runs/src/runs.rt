@@ -29,7 +29,7 @@ use std::collections::VecDeque;
 /// Why a run did nothing.
 #[derive(Clone, Copy, Debug, PartialEq, Eq)]
 pub enum RunError {
-    /// The machine refused memory for the answers or for the run's own tables.
+    /// The system refused memory for the answers or for the run's own tables.
     OutOfMemory = 1,
 }
 
@@ -50,7 +50,7 @@ pub(crate) fn lies_in(memory: &Memory, range: Range) -> bool
     range.start >= start && range.len <= len && range.start - start <= len - range.len
 }
 
-// Whether the range lies in the memory, and touches no byte of a pool.
+// Whether the range lies in the memory, and overlaps no pool.
 fn is_vacant(memory: &Memory, pools: &VecDeque<Range>, range: Range) -> bool
     requires in_order { IsInOrder pools.now.items }
     requires inside { (p : Range) → IsIn p pools.now.items → LiesIn p memory.now.start (length memory.now.bytes) }
@@ -89,7 +89,7 @@ fn step<FLBitmap: Bitmap, SLBitmap: Bitmap, const FLLEN: usize, const SLLEN: usi
     }
 }
 
-/// Inserts a range, unless it doesn't lie in the memory or touches a pool.
+/// Inserts a range, unless it doesn't lie in the memory or overlaps a pool.
 fn insert<FLBitmap: Bitmap, SLBitmap: Bitmap, const FLLEN: usize, const SLLEN: usize>(
     tlsf: &mut Tlsf<FLBitmap, SLBitmap, FLLEN, SLLEN>,
     tables: &mut Tables,
@@ -123,7 +123,7 @@ fn pool_of(range: Range, len: usize) -> Range
     }
 }
 
-/// Appends a range, unless it doesn't lie in the memory, touches a pool, or begins where none ends.
+/// Appends a range, unless it doesn't lie in the memory, overlaps a pool, or begins where none ends.
 fn append<FLBitmap: Bitmap, SLBitmap: Bitmap, const FLLEN: usize, const SLLEN: usize>(
     tlsf: &mut Tlsf<FLBitmap, SLBitmap, FLLEN, SLLEN>,
     tables: &mut Tables,
@@ -177,7 +177,7 @@ fn alloc<FLBitmap: Bitmap, SLBitmap: Bitmap, const FLLEN: usize, const SLLEN: us
 ///
 /// The memory stays in place, and at `Ok` each of its bytes that no block is made of at the end is as it was.
 ///
-/// `OutOfMemory` comes only where the machine refused memory for the answers or for the run's own tables. Then no op
+/// `OutOfMemory` comes only where the system refused memory for the answers or for the run's own tables. Then no op
 /// was done, and the answers are as before.
 pub fn run<FLBitmap: Bitmap, SLBitmap: Bitmap, const FLLEN: usize, const SLLEN: usize>(
     alloc: Global,

@@ -25,7 +25,7 @@ pub(crate) struct Tables {
 }
 
 impl Tables {
-    /// Empty tables with room for so many ops, or an error where the machine refused memory.
+    /// Empty tables with room for so many ops, or an error where the system refused memory.
     pub(crate) fn with_room(alloc: Global, ops: usize) -> Result<Tables, AllocError>
         ensures empty { IfOk result (λ tables. IsEmpty tables.names × (tables.pools.items ≡ [])) }
         ensures room { IfOk result (λ tables. HasRoom tables ops) }
@@ -35,7 +35,7 @@ impl Tables {
         Ok(Tables { names, pools })
     }
 
-    /// Adds a pool. There is room for it, it isn't empty, and it touches no other.
+    /// Adds a pool. There is room for it, it isn't empty, and it overlaps no other.
     pub(crate) fn add_pool(&mut self, pool: Range)
         requires room { HasRoom self.old 1 }
         requires in_order { IsInOrder self.old.pools.items }
@@ -106,7 +106,7 @@ fn begun_before(pools: &VecDeque<Range>, addr: usize) -> usize
     pools.partition_point(|pool| pool.start < addr)
 }
 
-/// Whether a range touches a byte of one of the pools: if it does, it touches the last one that begins before its end.
+/// Whether a range overlaps one of the pools: if it does, it overlaps the last one that begins before its end.
 pub(crate) fn touches_any(pools: &VecDeque<Range>, range: Range) -> bool
     requires in_order { IsInOrder pools.now.items }
     requires addressable { (end_of range < 2 ^ 64) × ((p : Range) → IsIn p pools.now.items → end_of p < 2 ^ 64) }

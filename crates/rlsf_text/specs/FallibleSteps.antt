@@ -31,7 +31,7 @@ abbrev pub Gives : {X Y E : Type 0} → (X → Y) → Result X E → Result Y E 
 Gives view (Ok x) read = read ≡ Ok (view x)
 Gives view (Err f) read = read ≡ Err f
 
--- the same, unless the machine refused memory
+-- the same, unless the system refused memory
 abbrev pub GivesOrRefused : {X Y : Type 0} → (X → Y) → Result X ReplayFault → Result Y ReplayFault → Type 0
 GivesOrRefused view (Ok x) read = read ≡ Ok (view x)
 GivesOrRefused view (Err f) read = (read ≡ Err f) ⊎ (f ≡ out_of_memory)

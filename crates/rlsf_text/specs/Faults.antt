@@ -22,11 +22,11 @@ fault_word Write = codes "Write"
 abbrev pub fault_text : ReplayFault → List ℕ
 fault_text f = codes "line " ++ decimal f.line ++ codes ": " ++ fault_word f.fault
 
--- the machine refused memory, and no line is to blame
+-- the system refused memory, and no line is to blame
 abbrev pub out_of_memory : ReplayFault
 out_of_memory = record { line = 0; fault = OutOfMemory }
 
--- a fault of a text, and not of the machine or a stream
+-- a fault of a text, and not of the system or a stream
 abbrev pub IsOfText : Fault → Type 0
 IsOfText OutOfMemory = ⊥
 IsOfText Read = ⊥

@@ -23,7 +23,7 @@ pub enum Fault {
     TooLong,
     /// No layout has the size and the alignment of an allocation.
     BadLayout,
-    /// The machine refused memory.
+    /// The system refused memory.
     OutOfMemory,
     /// The input could not be read.
     Read,

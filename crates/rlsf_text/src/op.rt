@@ -63,7 +63,7 @@ pub enum TraceError {
     UnknownName = 1,
     /// The name of a new payload is that of a live one.
     NameTaken = 2,
-    /// The range doesn't lie in the memory, or touches a byte of a pool; or it is to be appended, and no pool ends where it
+    /// The range doesn't lie in the memory, or overlaps a pool; or it is to be appended, and no pool ends where it
     /// begins; or its blocks are asked for, and its start rounded up to 32 and its end aren't those of one pool.
     BadRange = 3,
     /// The offset isn't below the usable size of the payload.

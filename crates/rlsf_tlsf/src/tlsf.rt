@@ -104,7 +104,7 @@ impl<FLBitmap: Bitmap, SLBitmap: Bitmap, const FLLEN: usize, const SLLEN: usize>
     /// 64 bytes. Answers the bytes from the range's start up to the last chunk's end, or `None` without a chunk, and
     /// then nothing changes.
     ///
-    /// The range lies in the memory, and touches no byte of a chunk.
+    /// The range lies in the memory, and overlaps no chunk.
     pub fn insert_free_block_ptr(&mut self, range: Range) -> Option<NonZeroUsize>
         requires lies_in { LiesIn range self.old.memory.start (length self.old.memory.bytes) }
         requires untouched { IsUntouched self.old.state.chunks range }
@@ -126,7 +126,7 @@ impl<FLBitmap: Bitmap, SLBitmap: Bitmap, const FLLEN: usize, const SLLEN: usize>
     /// Hands a range of the memory in, as `insert_free_block_ptr` does, for a caller that doesn't ask how many bytes were
     /// taken.
     ///
-    /// The range lies in the memory, and touches no byte of a chunk.
+    /// The range lies in the memory, and overlaps no chunk.
     pub fn insert_free_block(&mut self, range: Range)
         requires lies_in { LiesIn range self.old.memory.start (length self.old.memory.bytes) }
         requires untouched { IsUntouched self.old.state.chunks range }
@@ -149,7 +149,7 @@ impl<FLBitmap: Bitmap, SLBitmap: Bitmap, const FLLEN: usize, const SLLEN: usize>
     /// sentinel, become one free block, the newest of all. Answers how many bytes are taken; where that is 0, nothing
     /// changes.
     ///
-    /// The range lies in the memory, touches no byte of a chunk and begins where one ends.
+    /// The range lies in the memory, overlaps no chunk and begins where one ends.
     pub fn append_free_block_ptr(&mut self, range: Range) -> usize
         requires { IsNext (range_of self.old.memory) self.old.state range }
         ensures step { Steps FLLEN SLLEN self.old self.new (Appends FLLEN self.old.state range result) }
@@ -426,10 +426,10 @@ impl<FLBitmap: Bitmap, SLBitmap: Bitmap, const FLLEN: usize, const SLLEN: usize>
         walk(&self.memory, range)
     }
 
-    /// The address of the newest free block of a class, by its row and its place in the row; `None` exactly if none is
+    /// The address of the newest free block of a class, by its row and its index in the row; `None` exactly if none is
     /// free. It is the one that an allocation takes which takes one of the class.
     ///
-    /// The row is below `FLLEN`, and the place below `SLLEN`.
+    /// The row is below `FLLEN`, and the index below `SLLEN`.
     pub fn first_free(&self, fl: usize, sl: usize) -> Option<Addr>
         requires { (fl < FLLEN) × (sl < SLLEN) }
         ensures { reply result ≡ newest_of (of_class SLLEN fl sl self.now.state.free) }

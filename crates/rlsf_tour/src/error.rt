@@ -8,11 +8,11 @@ use std::{fmt, io};
 /// Why the tour ended early.
 #[derive(Debug, Drop)]
 pub(crate) enum TourError {
-    /// No memory has such addresses, or the machine refused it.
+    /// No memory has such addresses, or the system refused it.
     Memory(MemoryError),
     /// No layout has such a size and such an alignment.
     Layout,
-    /// The machine refused memory.
+    /// The system refused memory.
     OutOfMemory,
     /// The output could not be written.
     Io(io::Error),

@@ -54,7 +54,7 @@ IsReplay input old new = (output : List ℕ) × IsOutput input output × Appends
 abbrev pub IsCutReplay : List ℕ → Option (List ℕ) → Option (List ℕ) → Type 0
 IsCutReplay input old new = (output : List ℕ) × IsOutput input output × AppendsBeginning old new output
 
--- the machine refused the memory that the first line asks for
+-- the system refused the memory that the first line asks for
 abbrev pub no_memory : ReplayFault
 no_memory = record { line = 1; fault = OutOfMemory }
 

@@ -19,7 +19,7 @@ use rlsf_tlsf::Tlsf;
 use std::alloc::Global;
 use std::io::{Read, Write};
 
-// The memory of a trace, whose start and length are no fault. Where the machine refuses it, the first line is to blame.
+// The memory of a trace, whose start and length are no fault. Where the system refuses it, the first line is to blame.
 fn memory_of(alloc: Global, trace: &Trace) -> Result<Memory, ReplayFault>
     ensures ok { IfOk result (λ memory. range_of memory ≡ range_at trace.now.start trace.now.len) }
     ensures err { IfErr result (λ f. f ≡ no_memory) }
@@ -83,8 +83,8 @@ fn output_of(alloc: Global, input: &[u8]) -> Result<String, ReplayFault>
 /// line of each op and its answer. The first fault ends it.
 ///
 /// In this order: `Read` of line 0 where the input can't be read; the first fault of the text, with its line;
-/// `OutOfMemory` of line 1 where the machine refuses the memory that the first line asks for; and `Write` of line 0
-/// where the output can't be written. `OutOfMemory` of line 0 comes where the machine refuses any other memory. No
+/// `OutOfMemory` of line 1 where the system refuses the memory that the first line asks for; and `Write` of line 0
+/// where the output can't be written. `OutOfMemory` of line 0 comes where the system refuses any other memory. No
 /// clause says that it comes only then, and with which of these two lines.
 ///
 /// Nothing is written with any fault but `Write`, and with that one a beginning of the output may be. The reader is at

@@ -73,7 +73,7 @@ static RUNS: [Lines; 15] = [
             ("free 1", "refused 1 UnknownName"),
         ],
     ),
-    // Ranges lie in the memory and touch no pool.
+    // Ranges lie in the memory and overlap no pool.
     (
         "8x8 4096 4096",
         &[

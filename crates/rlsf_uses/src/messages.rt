@@ -87,7 +87,7 @@ impl Model for Messages {
 }
 
 impl Messages {
-    /// An empty queue for at most `capacity` messages, over a memory that is its allocator's pool. Refused if the machine has
+    /// An empty queue for at most `capacity` messages, over a memory that is its allocator's pool. Refused if the system has
     /// no room for the table of the messages; one that holds none asks for no room.
     pub fn new(alloc: Global, memory: Memory, capacity: usize) -> Result<Messages, AllocError>
         ensures none { capacity ≡ 0 → IsOk result }
@@ -111,7 +111,7 @@ impl Messages {
     ///
     /// Refused with `MemoryTooShort` exactly where the memory's part from one multiple of 32 to another is shorter than what
     /// `classes::pool_size_for_payloads` says for `capacity - 1` payloads of that length, and else with `OutOfMemory` if the
-    /// machine has no room for the table of the messages.
+    /// system has no room for the table of the messages.
     pub fn with_longest(
         alloc: Global,
         memory: Memory,

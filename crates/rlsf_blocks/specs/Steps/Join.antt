@@ -40,10 +40,10 @@ pub record IsPut (fllen sllen : ℕ) (m n : Space) (t : Table) (free : List Rang
   pub behind : word_at n (end_of r + 8) ≡ r.start
   pub table : HasTable fllen sllen n t (r ∷ free)
 
--- the union of a range with the free ranges that it touches
+-- the union of a range with the free ranges that adjoin it
 abbrev pub union : Range → List Range → Range
 union r free = between (start_or r.start (find (ends_at r.start) free)) (end_or (end_of r) (find (starts_at (end_of r)) (without (ends_at r.start) free)))
 
--- the free ranges that it doesn't touch
+-- the free ranges that don't adjoin it
 abbrev pub untouched : Range → List Range → List Range
 untouched r free = without (starts_at (end_of r)) (without (ends_at r.start) free)

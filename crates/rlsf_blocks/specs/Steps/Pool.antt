@@ -11,7 +11,7 @@ use Rattle.rlsf_machine.specs.Insert.{body, IsClear}
 use Rattle.rlsf_machine.specs.State.{State}
 use Rattle.rlsf_machine.specs.WellFormed.{IsFree, IsWhole}
 
--- a range can become a chunk: it has room for a sentinel and a block of a valid class, lies in the memory, and touches no chunk
+-- a range can become a chunk: it has room for a sentinel and a block of a valid class, lies in the memory, and overlaps no chunk
 pub record IsNewChunk (fllen sllen : ℕ) (m : Space) (s : State) (c : Range) : Type 0 where
   pub whole : IsWhole c
   pub room : 64 ≤ c.len

@@ -428,7 +428,7 @@ type Shape<'a, FLBitmap, SLBitmap, const FLLEN: usize, const SLLEN: usize> = Opt
     &'a Tlsf<FLBitmap, SLBitmap, FLLEN, SLLEN>,
 >;
 
-/// The index of the first wrong answer to a list's ops; nothing where the machine refused memory.
+/// The index of the first wrong answer to a list's ops; nothing where the system refused memory.
 fn wrong_of<FLBitmap: Bitmap, SLBitmap: Bitmap, const FLLEN: usize, const SLLEN: usize>(
     alloc: Global,
     list: &[u32; 40],
@@ -445,7 +445,7 @@ fn wrong_of<FLBitmap: Bitmap, SLBitmap: Bitmap, const FLLEN: usize, const SLLEN:
     Some(first_wrong(&plan, answers.as_slice()))
 }
 
-/// The index of the first list with a wrong answer to its ops, and the index of that answer: past all where the machine refused
+/// The index of the first list with a wrong answer to its ops, and the index of that answer: past all where the system refused
 /// memory.
 fn wrong<FLBitmap: Bitmap, SLBitmap: Bitmap, const FLLEN: usize, const SLLEN: usize>(
     alloc: Global,

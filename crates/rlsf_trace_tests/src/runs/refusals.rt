@@ -1,4 +1,4 @@
-//! What a run leaves where the machine refuses memory. `.ci/refused_allocations` refuses the allocations of these tests in
+//! What a run leaves where the system refuses memory. `.ci/refused_allocations` refuses the allocations of these tests in
 //! turn; where none is refused both tests pass.
 
 use rlsf_base::memory::{Layout, Memory, Range};
@@ -8,7 +8,7 @@ use rlsf_tlsf::Tlsf;
 use std::alloc::Global;
 use std::test::Fail;
 
-/// What an insert and an allocation do to a new allocator and to answers that hold one; nothing where the machine refused
+/// What an insert and an allocation do to a new allocator and to answers that hold one; nothing where the system refused
 /// these two.
 fn run_after_one(alloc: Global) -> Option<(Result<(), RunError>, Vec<Answer>, Tlsf<u8, u8, 8, 8>)> {
     let mut tlsf = Tlsf::<u8, u8, 8, 8>::new(Memory::new(alloc, 4096, 96).ok()?);
