@@ -1,10 +1,10 @@
 #!/usr/bin/env python3
 """Runs of the allocator over sources, and what the model of it says of them.
 
-usage: random_runs.py MODEL RUNS SEED          writes stdin and stdout beside this file
-       random_runs.py MODEL RUNS SEED --try    compares the program with the model, and writes neither
+usage: random_runs.py RUNS SEED          writes stdin and stdout beside this file
+       random_runs.py RUNS SEED --try    compares the program with the model, and writes neither
 
-MODEL is the folder of the model. There are RUNS random runs of 60 calls, and behind them those of the original's tests of this
+The model is tools/model/flex_machine.py. There are RUNS random runs of 60 calls, and behind them those of the original's tests of this
 allocator (`original_runs`). The answers of a source are chosen while the model runs, and are then a fixed list for the program.
 """
 import pathlib
@@ -13,14 +13,14 @@ import subprocess
 import sys
 import tempfile
 
-if len(sys.argv) < 4:
+if len(sys.argv) < 3:
     sys.exit(__doc__)
 sys.dont_write_bytecode = True
-sys.path.insert(0, sys.argv[1])
+HERE = pathlib.Path(__file__).resolve().parent
+sys.path.insert(0, str(HERE.parents[1] / "tools/model"))
 from machine_runs import CAPABILITIES, START, Run, Source, up  # noqa: E402
 from original_runs import original_runs  # noqa: E402
 
-HERE = pathlib.Path(__file__).resolve().parent
 CALLS, PER_FILE = 60, 25
 MIN_ALIGNS = (1, 8, 32, 64, 1024)
 CONFIGS = ("8x8", "12x16", "59x8", "1x1", "8x1")
@@ -156,4 +156,4 @@ def main(count, seed, *options):
 
 
 if __name__ == "__main__":
-    sys.exit(main(*sys.argv[2:]))
+    sys.exit(main(*sys.argv[1:]))

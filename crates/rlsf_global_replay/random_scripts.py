@@ -1,10 +1,10 @@
 #!/usr/bin/env python3
 """Random scripts for the allocator behind the lock, and what the model of it says of them.
 
-usage: random_scripts.py MODEL                          writes stdin and stdout beside this file: a sample of each kind
-       random_scripts.py MODEL SCRIPTS CALLS SEED       compares the program with the model on so many scripts of each kind
+usage: random_scripts.py                          writes stdin and stdout beside this file: a sample of each kind
+       random_scripts.py SCRIPTS CALLS SEED       compares the program with the model on so many scripts of each kind
 
-MODEL is the folder of the model, which has global_machine.py. A byte that no call gave is open: the model prints `?` for it, which any
+The model is tools/model/global_machine.py. A byte that no call gave is open: the model prints `?` for it, which any
 byte matches. In the sample there are no reads of such bytes.
 """
 import pathlib
@@ -15,6 +15,7 @@ import tempfile
 from concurrent.futures import ThreadPoolExecutor
 
 HERE = pathlib.Path(__file__).resolve().parent
+MODEL = HERE.parents[1] / "tools/model"
 KINDS = ("coalescing", "small")
 SAMPLE = 200
 # Where the memories begin, and how long they are: some are refused soon, some never.
@@ -25,7 +26,7 @@ def generate(seed, calls, kind, memory):
     """The lines of a script, each call with its reply."""
     start, length = memory
     words = ["python3", "-B", "global_machine.py", "gen", *map(str, (seed, calls, kind, start, length))]
-    return subprocess.run(words, cwd=sys.argv[1], check=True, capture_output=True, text=True).stdout.splitlines()
+    return subprocess.run(words, cwd=MODEL, check=True, capture_output=True, text=True).stdout.splitlines()
 
 
 def replies(lines):
@@ -80,8 +81,8 @@ def compare(scripts, calls, seed):
 
 
 if __name__ == "__main__":
-    if len(sys.argv) == 2:
+    if len(sys.argv) == 1:
         sys.exit(sample())
-    if len(sys.argv) == 5:
-        sys.exit(compare(*map(int, sys.argv[2:])))
+    if len(sys.argv) == 4:
+        sys.exit(compare(*map(int, sys.argv[1:])))
     sys.exit(__doc__)

@@ -1,12 +1,14 @@
 #!/usr/bin/env python3
-"""Replays the text of a closed journal, from standard input, with the machine behind the lock in Python, whose folder is given, over
+"""Replays the text of a closed journal, from standard input, with the machine behind the lock in Python (tools/model), over
 a memory with the start and the length that are given: each reply has to be equal, and what is live at the end.
 
-usage: replayed_journal.py MODEL START LEN < JOURNAL"""
+usage: replayed_journal.py START LEN < JOURNAL"""
+import pathlib
 import re
 import sys
 
-sys.path.insert(0, sys.argv[1])
+sys.dont_write_bytecode = True
+sys.path.insert(0, str(pathlib.Path(__file__).resolve().parents[2] / "tools/model"))
 from global_machine import GlobalMachine
 
 REPLIES = {"NoRoom": "no room", "UnknownAddress": "unknown address", "done": "freed"}
@@ -22,7 +24,7 @@ def made(machine, call):
 
 
 def main():
-    machine = GlobalMachine(int(sys.argv[2]), int(sys.argv[3]))
+    machine = GlobalMachine(int(sys.argv[1]), int(sys.argv[2]))
     entries, differences, live = 0, 0, []
     for line in sys.stdin.read().splitlines():
         if line.startswith("live "):

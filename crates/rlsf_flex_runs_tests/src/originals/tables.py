@@ -2,14 +2,15 @@
 """Prints originals/lists.rt, originals/system.rt, originals/contiguous.rt or originals/shapes.rt but for their heads, before `rt fmt`: what the list machine over a source answers and asks in the original's tests, over its two sources and in its
 thirty configurations.
 
-usage: tables.py FOLDER lists|system|contiguous|shapes      the folder has flex_machine.py
+usage: tables.py lists|system|contiguous|shapes
 """
 import pathlib
 import random
 import sys
 
 sys.dont_write_bytecode = True
-sys.path[:0] = [sys.argv[1], str(pathlib.Path(__file__).resolve().parents[3] / "rlsf_flex_replay")]
+ROOT = pathlib.Path(__file__).resolve().parents[4]
+sys.path[:0] = [str(ROOT / "tools/model"), str(ROOT / "crates/rlsf_flex_replay")]
 from machine_runs import Run, START
 from original_runs import AADAADARAAADR, MINIMAL, OFFSET, ContiguousSource, Original, SystemSource, fixed_run
 
@@ -127,9 +128,9 @@ def show_shapes():
     print("];")
 
 
-if sys.argv[2] == "lists":
+if sys.argv[1] == "lists":
     show_lists()
-elif sys.argv[2] == "shapes":
+elif sys.argv[1] == "shapes":
     show_shapes()
 else:
-    show_outcomes(sys.argv[2])
+    show_outcomes(sys.argv[1])

@@ -2,12 +2,14 @@
 """Prints refusals/tables.rt or refusals/short_tables.rt but for their heads, before `rt fmt`: what the list machine over a source answers and asks, for a list of answers as it is and
 with each of them replaced by None in turn.
 
-usage: tables.py FOLDER tables|short_tables      the folder has flex_machine.py
+usage: tables.py tables|short_tables
 """
 import copy
+import pathlib
 import sys
 
-sys.path.insert(0, sys.argv[1])
+sys.dont_write_bytecode = True
+sys.path.insert(0, str(pathlib.Path(__file__).resolve().parents[4] / "tools/model"))
 from flex_machine import FlexMachine
 
 SPACE = (4096, 16384)
@@ -153,5 +155,5 @@ def show(name, terms, answers, calls):
 
 
 for name, (file, terms, answers, calls) in LISTS.items():
-    if file == sys.argv[2]:
+    if file == sys.argv[1]:
         show(name, terms, answers, calls)

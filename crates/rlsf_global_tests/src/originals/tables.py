@@ -2,13 +2,14 @@
 """Prints originals/lists.rt or originals/tables.rt but for their heads, before `rt fmt`: the lists of bytes, and what the machine behind
 the lock, in Python, answers to the calls that they mean. Both kinds answer the same, since all payloads lie in one page.
 
-usage: tables.py FOLDER lists|tables      the folder has global_machine.py
+usage: tables.py lists|tables
 """
+import pathlib
 import random
 import sys
 
 sys.dont_write_bytecode = True
-sys.path.insert(0, sys.argv[1])
+sys.path.insert(0, str(pathlib.Path(__file__).resolve().parents[4] / "tools/model"))
 from global_machine import GlobalMachine
 
 START, LENGTH = 65536, 262144
@@ -64,7 +65,7 @@ def show(name, kind, numbers):
 
 
 for n in LISTS:
-    if sys.argv[2] == "lists":
+    if sys.argv[1] == "lists":
         show(f"LIST_{n}", "u8", [*random.Random(n).randbytes(400)])
     else:
         assert placed(n, True) == placed(n, False)
