@@ -23,7 +23,7 @@ use Rattle.rlsf_machine.proofs.Trims.{used-trimmed}
 use Rattle.rlsf_machine.proofs.Tiling.{block_of, tiling_of, used-le}
 
 -- behind the first used block of a well-formed state none has its address
-first_alone : {fllen sllen : ℕ} {memory : Range} {t : State} → IsWellFormed fllen sllen memory t → (v u : Used) (rest : List Used) → t.used ≡ v ∷ rest → IsIn u rest → u.payload ≢ v.payload
+pub first_alone : {fllen sllen : ℕ} {memory : Range} {t : State} → IsWellFormed fllen sllen memory t → (v u : Used) (rest : List Used) → t.used ≡ v ∷ rest → IsIn u rest → u.payload ≢ v.payload
 first_alone {t = t} whole v u rest is i at =
     let iv = whole.used v (subst (IsIn v) (sym is) (inl refl)) in
     let iu = whole.used u (subst (IsIn u) (sym is) (inr i)) in

@@ -1,5 +1,5 @@
 -- The live payloads of a run by their names, and what a step of the machine leaves of them.
-use Rattle.std.proofs.Common.{◌≡◌, ◌≢◌, ◌⊎◌, ℕ, ◌-◌, ◌≤◌, nat_eq, cond, Bool, true, false, not, Option, Some, None, List, [], ◌∷◌, inl, inr, refl, sym, ◌∙◌, ap, subst, arith}
+use Rattle.std.proofs.Common.{◌≡◌, ◌≢◌, ◌⊎◌, ℕ, nat_eq, cond, Bool, true, false, not, Option, Some, None, List, [], ◌∷◌, inl, inr, refl, sym, ◌∙◌, ap, subst}
 use Rattle.std.proofs.lemmas.Bool.{cases_eq, ne_eqb}
 use Rattle.std.proofs.lemmas.Bool.Decides.{eqb_tells}
 use Rattle.std.specs.HashMap.{get}
@@ -12,12 +12,10 @@ use Rattle.rlsf_machine.specs.Reallocate.{MovesAway, Reallocates}
 use Rattle.rlsf_machine.specs.Release.{Deallocates}
 use Rattle.rlsf_machine.specs.Run.{allocate, deallocate, fill, Fills, reallocate}
 use Rattle.rlsf_machine.specs.State.{State, Used, Holds, IsLive, others}
-use Rattle.rlsf_machine.specs.WellFormed.{coverage, IsWellFormed}
+use Rattle.rlsf_machine.specs.WellFormed.{IsWellFormed}
 use Rattle.rlsf_machine.proofs.Changes.{IsIn-others_from}
-use Rattle.rlsf_machine.proofs.Coverage.{covers-inside, coverage-IsIn}
+use Rattle.rlsf_machine.proofs.FlexCallers.{first_alone}
 use Rattle.rlsf_machine.proofs.Live.{filled_has_bytes, live_stays, reallocated_is_live}
-use Rattle.rlsf_machine.proofs.Payloads.{IsUsed-after_start}
-use Rattle.rlsf_machine.proofs.Tiling.{block_of, tiling_of, used-le}
 use Rattle.rlsf_runs.specs.declared.names.Payload.{Payload}
 use Rattle.rlsf_runs.specs.Names.{address, AreNamed, NameTable}
 use Rattle.rlsf_runs.specs.Runs.{with_name, without_name}
@@ -44,19 +42,6 @@ IsLive-filled fllen sllen memory s t at bytes addr align whole step live = elim 
   | inl same ↦ subst (λ a. IsLive t a align) same ((filled_has_bytes fllen sllen memory s t at align bytes whole (subst (λ a. IsLive s a align) (sym same) live) step).0)
   | inr other ↦ live_stays fllen sllen s t (fill at bytes) addr align step live other
 ]
-
--- behind the first used block of a well-formed state none has its address
-first_alone : {fllen sllen : ℕ} {memory : Range} {t : State} → IsWellFormed fllen sllen memory t → (v u : Used) (rest : List Used) → t.used ≡ v ∷ rest → IsIn u rest → u.payload ≢ v.payload
-first_alone {t = t} whole v u rest is i at =
-    let iv = whole.used v (subst (IsIn v) (sym is) (inl refl)) in
-    let iu = whole.used u (subst (IsIn u) (sym is) (inr i)) in
-    let a = v.payload - 1 in
-    let v_start = IsUsed-after_start v iv in
-    let u_start = IsUsed-after_start u iu in
-    let mine = covers-inside v.block a (omega (arith, v_start)) (omega (arith, v_start, iv.within)) in
-    let its = covers-inside u.block a (omega (arith, at, u_start)) (omega (arith, at, u_start, iu.within)) in
-    let once = subst (λ used. coverage block_of used a ≤ 1) is (used-le t (tiling_of whole) a) in
-    omega (arith, mine, its, once, coverage-IsIn block_of u rest a i)
 
 -- an empty table
 pub AreNamed-empty : (s : State) {table : NameTable} → table.entries ≡ [] → AreNamed s table (λ name. None)
