@@ -1,6 +1,8 @@
 pub mod Checks
 pub mod Heaps
+pub mod Kept
 pub mod Layouts
+pub mod Lives
 pub mod MovedPayloads
 pub mod Placements
 pub mod Refusals

@@ -1,11 +1,11 @@
 -- By what a step of the heap can be refused.
-use Rattle.std.proofs.Common.{◌≡◌, ℕ, ◌⊎◌, inl, inr, Bool, true, false, List, [], ◌∷◌, Option, Some, None, Result, Ok, Err, MatchBool, length, OnErr, refl, subst, sym}
+use Rattle.std.proofs.Common.{◌≡◌, ℕ, inl, inr, Bool, true, false, List, [], ◌∷◌, Option, Some, None, Result, Ok, Err, MatchBool, length, OnErr, refl, subst, sym}
 use Rattle.rlsf_base.specs.declared.memory.layout.Layout.{Layout}
 use Rattle.rlsf_global.specs.Refusals.{RefusesOnlyBy}
 use Rattle.rlsf_placement.specs.declared.error.GlobalError.{GlobalError}
 use Rattle.rlsf_placement.specs.declared.error.GlobalError.TheVariants.{JournalMemory, NoRoom, OutOfRange, TableMemory, UnknownAddress, WrongLayout}
 use Rattle.rlsf_placement.specs.Heap.{Heap}
-use Rattle.rlsf_placement.specs.Moves.{MovesAway, ReallocatesAsAt, ReallocatesAt, ReallocatesThereAt, ReallocatesTo, ResizesThere, ResizesTo, Wanted}
+use Rattle.rlsf_placement.specs.Moves.{MovesAway, ReallocatesAsAt, ReallocatesAt, ReallocatesThereAt, ReallocatesTo, ResizesThere, ResizesTo}
 use Rattle.rlsf_placement.specs.Rows.{Row}
 use Rattle.rlsf_placement.specs.Steps.{DeallocatesAsAt, DeallocatesAt, Done, HeapAllocates, Placed, ReadsAt, UsableAt, WritesAt, is_same, fits}
 

@@ -34,6 +34,10 @@ module _ (h : Heap) (addr : ℕ) (layout : Layout) (n : ℕ) (row : Row) where
   pub resizes_out : false ≡ is_same row.1 layout → ReallocatesThereAt h addr layout n (Some row) (Err WrongLayout) h
   resizes_out e = when_false (Wanted n layout.align (λ wanted. ResizesThere h addr wanted (Err WrongLayout) h)) (IsPlaced (Err WrongLayout) (Err WrongLayout) × (h ≡ h)) (is_same row.1 layout) e (refl, refl)
 
+-- the row that was written stands at the address
+pub row_there : (rows after : List Row) (addr : ℕ) (to : NonZeroUsize) (wanted : Layout) → at to ≡ addr → after ≡ put (to, wanted) (without (at to) rows) → after ≡ put (to, wanted) (without addr rows)
+row_there rows after addr to wanted there now = now ∙ ap (λ a. put (to, wanted) (without a rows)) there
+
 -- no row has the address any more
 pub none_left : (addr to : ℕ) (rows : List Row) → to ≡ addr → row_at to (without addr rows) ≡ None
 none_left addr to rows there = subst (λ a. row_at a (without addr rows) ≡ None) (sym there) (row_at-without_here addr rows)

@@ -1,5 +1,5 @@
 -- What a search finds among sorted rows, and what an edit at that place does.
-use Rattle.std.proofs.Common.{◌≡◌, ◌≢◌, ◌⊎◌, ℕ, zero, suc, ◌<◌, ◌≤◌, List, [], ◌∷◌, length, Some, None, Result, Ok, Err, IfOk, IfErr, Bool, true, false, not, nat_lt, ◌==◌, refl, sym, ap, subst, arith, inl, inr, ◌∙◌, if◌then◌else◌, get_or}
+use Rattle.std.proofs.Common.{◌≡◌, ◌≢◌, ◌⊎◌, ℕ, zero, suc, ◌<◌, ◌≤◌, List, [], ◌∷◌, length, Some, None, Result, Ok, Err, IfOk, IfErr, Bool, true, false, not, nat_lt, ◌==◌, refl, sym, ap, subst, arith, inl, inr, ◌∙◌, if◌then◌else◌, get_or, set}
 use Rattle.std.specs.List.{insert, remove}
 use Rattle.std.specs.List.Sorted.{IsSearchInRange, IsBinarySearchResult, IsNonDecreasingBy}
 use Rattle.std.specs.Ordering.{nat_cmp, ordering_index}
@@ -75,6 +75,28 @@ remove-without a (r ∷ rows) (suc at) s h =
     let rest = remove-without a rows at s.1 (record { in_range = omega (arith, h.in_range); here = λ d. h.here d }) in
     grind (arith, nat_tests)
 
+-- a row that is smaller than all others goes in front
+put-first : (row : Row) (rows : List Row) → ((r : Row) → IsIn r rows → key row < key r) → put row rows ≡ row ∷ rows
+put-first row [] h = refl
+put-first row (r ∷ rows) h =
+    let below = h r (inl refl) in
+    grind (arith, nat_tests)
+
+-- a write at the place of an address replaces its row
+set-put : (row : Row) (rows : List Row) (at : ℕ) → IsSorted rows → IsAt rows (key row) at → set rows at row ≡ put row (without (key row) rows)
+set-put row [] at s h = absurd (omega (arith, h.in_range))
+set-put row (r ∷ rows) zero s h =
+    let here = h.here r in
+    let above : (x : Row) → IsIn x rows → key row < key x = λ x i. omega (arith, s.0 x i, here) in
+    let rest = without-absent (key row) rows above in
+    let first = put-first row rows above in
+    grind (arith, nat_tests)
+set-put row (r ∷ rows) (suc at) s h =
+    let below = s.0 (get_or rows at r) (IsIn-at rows at r (omega (arith, h.in_range))) in
+    let there = h.here r in
+    let rest = set-put row rows at s.1 (record { in_range = omega (arith, h.in_range); here = λ d. h.here d }) in
+    grind (arith, nat_tests)
+
 pub IsIn-put-new : (row : Row) (rows : List Row) → IsIn row (put row rows)
 IsIn-put-new row [] = inl refl
 IsIn-put-new row (r ∷ rows) = by (IsIn-put-new row rows) (nat_lt (key r) (key row)) (key r == key row)
@@ -136,7 +158,12 @@ row_at-absent a (r ∷ rows) n =
 
 -- what a search found, in the words of callers
 pub found : (rows : List Row) (addr at : ℕ) → IsSorted rows → IsAt rows addr at → IsFound rows addr at
-found rows addr at s h = record { in_range = h.in_range; row = λ d. row_at-here addr rows at d s h; taken_out = remove-without addr rows at s h }
+found rows addr at s h = record {
+  in_range = h.in_range;
+  row = λ d. row_at-here addr rows at d s h;
+  taken_out = remove-without addr rows at s h;
+  replaced = λ row same. subst (λ a. set rows at row ≡ put row (without a rows)) same (set-put row rows at s (subst (λ a. IsAt rows a at) (sym same) h));
+}
 
 pub place_for : (rows : List Row) (addr at : ℕ) → IsGapFor rows addr at → IsPlaceFor rows addr at
 place_for rows addr at g = record {

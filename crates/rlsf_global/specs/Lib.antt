@@ -1,3 +1,4 @@
+pub mod Kept
 pub mod Locked
 pub mod Refusals
 pub mod Steps

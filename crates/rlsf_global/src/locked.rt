@@ -1,15 +1,18 @@
 //! The value under the lock: an allocator over pages, and the table of its live addresses.
 
-ghost use Rattle.std.specs.Prelude.{◌≡◌, ◌≢◌, ℕ, ◌+◌, ◌≤◌, length, nat_le, IfOk, IsSome, None, OnErr, OnOk, Some, false, true};
+ghost use Rattle.std.specs.Prelude.{◌≡◌, ◌≢◌, ◌↔◌, ℕ, ◌+◌, ◌≤◌, length, min, nat_le, IfOk, IsErrOf, IsSome, None, OnErr, OnOk, Some, drop, false, take, true};
 ghost use Rattle.std.specs.List.{splice};
 ghost use Rattle.rlsf_base.specs.Addr.{at};
 ghost use Rattle.rlsf_base.specs.Layout.{IsLayout};
 ghost use Rattle.rlsf_base.specs.Space.{range_of};
 ghost use Rattle.rlsf_base.specs.Sizes.{request_size};
+ghost use Rattle.rlsf_global.specs.Kept.{KeepsFirst};
 ghost use Rattle.rlsf_machine.specs.Allocate.{choice};
 ghost use Rattle.rlsf_machine.specs.Reallocate.{Reallocates};
 ghost use Rattle.rlsf_machine.specs.State.{State};
+ghost use Rattle.rlsf_placement.specs.declared.error.GlobalError.TheVariants.{UnknownAddress};
 ghost use Rattle.rlsf_placement.specs.Heap.{HasLayout, beginning, content_at, layout_at};
+ghost use Rattle.rlsf_placement.specs.Left.{in_both};
 ghost use Rattle.rlsf_placement.specs.Moves.{HeapReallocates, HeapReallocatesAs, HeapReallocatesThere};
 ghost use Rattle.rlsf_placement.specs.Rows.{IsSorted};
 ghost use Rattle.rlsf_placement.specs.Steps.{HeapAllocates, HeapDeallocates, HeapDeallocatesAs, HeapReads, HeapUsable, HeapWrites};
@@ -17,7 +20,7 @@ ghost use Rattle.rlsf_placement.specs.Steps.{HeapAllocates, HeapDeallocates, Hea
 use crate::moves::{PagedTlsf, move_away, resize};
 use crate::options::GlobalTlsfOptions;
 use crate::pages::Source;
-use crate::table::{place, search};
+use crate::table::{place, replace, search};
 use rlsf_base::memory::{Addr, Layout, Memory, Range};
 use rlsf_flex::FlexTlsf;
 use rlsf_placement::GlobalError;
@@ -101,16 +104,17 @@ impl<Options: GlobalTlsfOptions> Locked<Options> {
     pub fn deallocate(&mut self, addr: Addr) -> Result<(), GlobalError>
         ensures step { HeapDeallocates self.old.heap (at addr) result self.new.heap }
         ensures refused { OnErr result (self.new.memory ≡ self.old.memory) }
+        ensures unknown { IsErrOf result UnknownAddress ↔ (layout_at self.old.heap (at addr) ≡ None) }
         ensures gone { OnOk result (layout_at self.new.heap (at addr) ≡ None) }
         ensures layouts { OnOk result ((a : ℕ) → a ≢ at addr → layout_at self.new.heap a ≡ layout_at self.old.heap a) }
         ensures contents { OnOk result ((a : ℕ) → a ≢ at addr → content_at self.new.heap a ≡ content_at self.old.heap a) }
         ensures same { OnErr result (self.new.heap ≡ self.old.heap) }
         ensures touches { self.new.memory.touches ≤ self.old.memory.touches + 32 }
     {
-        let Ok(at) = search(&self.rows, addr) else {
+        let Ok(found) = search(&self.rows, addr) else {
             return Err(GlobalError::UnknownAddress);
         };
-        let gone = self.rows.remove(at);
+        let gone = self.rows.remove(found);
         self.flex.deallocate(addr, gone.1.align());
         Ok(())
     }
@@ -122,19 +126,20 @@ impl<Options: GlobalTlsfOptions> Locked<Options> {
     pub fn dealloc(&mut self, addr: Addr, layout: Layout) -> Result<(), GlobalError>
         ensures step { HeapDeallocatesAs self.old.heap (at addr) layout result self.new.heap }
         ensures refused { OnErr result (self.new.memory ≡ self.old.memory) }
+        ensures unknown { IsErrOf result UnknownAddress ↔ (layout_at self.old.heap (at addr) ≡ None) }
         ensures gone { OnOk result (layout_at self.new.heap (at addr) ≡ None) }
         ensures layouts { OnOk result ((a : ℕ) → a ≢ at addr → layout_at self.new.heap a ≡ layout_at self.old.heap a) }
         ensures contents { OnOk result ((a : ℕ) → a ≢ at addr → content_at self.new.heap a ≡ content_at self.old.heap a) }
         ensures same { OnErr result (self.new.heap ≡ self.old.heap) }
         ensures touches { self.new.memory.touches ≤ self.old.memory.touches + 32 }
     {
-        let Ok(at) = search(&self.rows, addr) else {
+        let Ok(index) = search(&self.rows, addr) else {
             return Err(GlobalError::UnknownAddress);
         };
-        if self.rows[at].1 != layout {
+        if self.rows[index].1 != layout {
             return Err(GlobalError::WrongLayout);
         }
-        let row = self.rows.remove(at);
+        let row = self.rows.remove(index);
         self.flex.deallocate(addr, row.1.align());
         Ok(())
     }
@@ -156,9 +161,13 @@ impl<Options: GlobalTlsfOptions> Locked<Options> {
         requires { IsLayout new_size layout.align }
         ensures step { HeapReallocatesAs Options.ENABLE_REALLOCATION self.old.heap (at addr) layout new_size result self.new.heap }
         ensures refused { OnErr result (self.new.memory.bytes ≡ self.old.memory.bytes) }
+        ensures unknown { IsErrOf result UnknownAddress ↔ (layout_at self.old.heap (at addr) ≡ None) }
         ensures live { IfOk result (λ to. HasLayout self.new.heap (at to) new_size layout.align) }
         ensures new { IfOk result (λ to. at to ≢ at addr → layout_at self.old.heap (at to) ≡ None) }
         ensures left { IfOk result (λ to. at to ≢ at addr → layout_at self.new.heap (at addr) ≡ None) }
+        ensures kept { IfOk result (λ to. KeepsFirst (min layout.size new_size) self.old.heap (at addr) self.new.heap (at to)) }
+        ensures kept_usable { Options.ENABLE_REALLOCATION ≡ true
+            → IfOk result (λ to. KeepsFirst (in_both self.old.heap self.new.heap (at addr) (at to)) self.old.heap (at addr) self.new.heap (at to)) }
         ensures layouts { IfOk result (λ to. (a : ℕ) → a ≢ at addr → a ≢ at to → layout_at self.new.heap a ≡ layout_at self.old.heap a) }
         ensures contents { IfOk result (λ to. (a : ℕ) → a ≢ at addr → a ≢ at to → content_at self.new.heap a ≡ content_at self.old.heap a) }
         ensures same { OnErr result (self.new.heap ≡ self.old.heap) }
@@ -188,9 +197,11 @@ impl<Options: GlobalTlsfOptions> Locked<Options> {
     pub fn reallocate(&mut self, addr: Addr, layout: Layout) -> Result<Addr, GlobalError>
         ensures step { HeapReallocates self.old.heap (at addr) layout result self.new.heap }
         ensures refused { OnErr result (self.new.memory.bytes ≡ self.old.memory.bytes) }
+        ensures unknown { IsErrOf result UnknownAddress ↔ (layout_at self.old.heap (at addr) ≡ None) }
         ensures live { IfOk result (λ to. layout_at self.new.heap (at to) ≡ Some layout) }
         ensures new { IfOk result (λ to. at to ≢ at addr → layout_at self.old.heap (at to) ≡ None) }
         ensures left { IfOk result (λ to. at to ≢ at addr → layout_at self.new.heap (at addr) ≡ None) }
+        ensures kept { IfOk result (λ to. KeepsFirst (min layout.size (length (content_at self.old.heap (at addr)))) self.old.heap (at addr) self.new.heap (at to)) }
         ensures layouts { IfOk result (λ to. (a : ℕ) → a ≢ at addr → a ≢ at to → layout_at self.new.heap a ≡ layout_at self.old.heap a) }
         ensures contents { IfOk result (λ to. (a : ℕ) → a ≢ at addr → a ≢ at to → content_at self.new.heap a ≡ content_at self.old.heap a) }
         ensures same { OnErr result (self.new.heap ≡ self.old.heap) }
@@ -224,8 +235,10 @@ impl<Options: GlobalTlsfOptions> Locked<Options> {
         requires { IsLayout new_size layout.align }
         ensures step { HeapReallocatesThere self.old.heap (at addr) layout new_size result self.new.heap }
         ensures refused { OnErr result (self.new.memory.bytes ≡ self.old.memory.bytes) }
+        ensures unknown { IsErrOf result UnknownAddress ↔ (layout_at self.old.heap (at addr) ≡ None) }
         ensures there { IfOk result (λ to. at to ≡ at addr) }
         ensures live { IfOk result (λ to. HasLayout self.new.heap (at addr) new_size layout.align) }
+        ensures kept { IfOk result (λ to. KeepsFirst (in_both self.old.heap self.new.heap (at addr) (at to)) self.old.heap (at addr) self.new.heap (at to)) }
         ensures layouts { IfOk result (λ to. (a : ℕ) → a ≢ at addr → layout_at self.new.heap a ≡ layout_at self.old.heap a) }
         ensures contents { IfOk result (λ to. (a : ℕ) → a ≢ at addr → content_at self.new.heap a ≡ content_at self.old.heap a) }
         ensures same { OnErr result (self.new.heap ≡ self.old.heap) }
@@ -241,15 +254,16 @@ impl<Options: GlobalTlsfOptions> Locked<Options> {
         let Some(to) = self.flex.reallocate_no_move(addr, wanted) else {
             return Err(GlobalError::NoRoom);
         };
-        let _ = self.rows.remove(at);
-        place(&mut self.rows, (to, wanted));
+        replace(&mut self.rows, at, (to, wanted));
         Ok(to)
     }
 
     /// How many bytes the caller of a payload may use: those that were asked for, and less than 32 more. `UnknownAddress` exactly
     /// where the address isn't live.
     pub fn allocation_usable_size(&self, addr: Addr) -> Result<usize, GlobalError>
-        ensures { HeapUsable self.now.heap (at addr) result }
+        ensures step { HeapUsable self.now.heap (at addr) result }
+        ensures unknown { IsErrOf result UnknownAddress ↔ (layout_at self.now.heap (at addr) ≡ None) }
+        ensures len { IfOk result (λ n. n ≡ length (content_at self.now.heap (at addr))) }
     {
         let Ok(_) = search(&self.rows, addr) else {
             return Err(GlobalError::UnknownAddress);
@@ -265,7 +279,10 @@ impl<Options: GlobalTlsfOptions> Locked<Options> {
         offset: usize,
         bytes: &mut [u8],
     ) -> Result<(), GlobalError>
-        ensures { HeapReads self.now.heap (at addr) offset bytes.old result bytes.new }
+        ensures step { HeapReads self.now.heap (at addr) offset bytes.old result bytes.new }
+        ensures unknown { IsErrOf result UnknownAddress ↔ (layout_at self.now.heap (at addr) ≡ None) }
+        ensures told { OnOk result (bytes.new ≡ take (length bytes.old) (drop offset (content_at self.now.heap (at addr)))) }
+        ensures refused { OnErr result (bytes.new ≡ bytes.old) }
     {
         let Ok(_) = search(&self.rows, addr) else {
             return Err(GlobalError::UnknownAddress);
@@ -289,6 +306,7 @@ impl<Options: GlobalTlsfOptions> Locked<Options> {
     ) -> Result<(), GlobalError>
         ensures step { HeapWrites self.old.heap (at addr) offset bytes.now result self.new.heap }
         ensures refused { OnErr result (self.new.memory ≡ self.old.memory) }
+        ensures unknown { IsErrOf result UnknownAddress ↔ (layout_at self.old.heap (at addr) ≡ None) }
         ensures written { OnOk result (content_at self.new.heap (at addr)
             ≡ splice (content_at self.old.heap (at addr)) offset (offset + length bytes.now) bytes.now) }
         ensures layouts { layout_at self.new.heap ≡ layout_at self.old.heap }

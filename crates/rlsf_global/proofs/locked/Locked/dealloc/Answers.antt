@@ -1,8 +1,9 @@
 use Rattle.rlsf_global.proofs.Layouts.{content_at-bytes, layout_at-without_here, layout_at-without_other}
-use Rattle.std.proofs.Common.{Some, Ok, Err, ap, ◌∙◌, subst, sym}
+use Rattle.std.proofs.Common.{Some, Ok, Err, ap, ◌∙◌, subst, sym, refl}
 use Rattle.rlsf_base.specs.Addr.{at}
 use Rattle.rlsf_global.specs.Locked.{heap_of}
 use Rattle.rlsf_global.proofs.Checks.{deallocates_in, deallocates_out}
+use Rattle.rlsf_global.proofs.Lives.{known, unknown}
 use Rattle.rlsf_global.proofs.Placements.{released, released_locked}
 use Rattle.rlsf_global.proofs.Results.{not-false, not-true}
 use Rattle.rlsf_placement.specs.declared.error.GlobalError.TheVariants.{WrongLayout}
@@ -54,3 +55,12 @@ returns-clause-contents g c = rw (← c.self.view_is) (
 
 pub returns-clause-touches : goal.returns-clause-touches
 returns-clause-touches g c = rw (← c.self.view_is) c.deallocate.ensures.touches
+
+pub returns-in_default-clause-unknown : goal.returns-in_default-clause-unknown
+returns-in_default-clause-unknown g c = rw (← c.self.view_is) (unknown c.self.inside.flex c.self.inside.rows.items (at c.args.addr) _ (rw c.deref.ensures.value at c.in_default.ensures.absent))
+
+pub returns-then-ne-clause-unknown : goal.returns-then-ne-clause-unknown
+returns-then-ne-clause-unknown g c = rw (← c.self.view_is) (known c.self.inside.flex c.self.inside.rows.items (at c.args.addr) _ (rw c.deref.ensures.value at c.in-Ok.ensures.found) (Err WrongLayout) refl)
+
+pub returns-clause-unknown : goal.returns-clause-unknown
+returns-clause-unknown g c = rw (← c.self.view_is) (known c.self.inside.flex c.self.inside.rows.items (at c.args.addr) _ (rw c.deref.ensures.value at c.in-Ok.ensures.found) (Ok tt) refl)

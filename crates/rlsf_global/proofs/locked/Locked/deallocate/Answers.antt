@@ -2,6 +2,7 @@ use Rattle.rlsf_global.proofs.Layouts.{content_at-bytes, layout_at-without_here,
 use Rattle.std.proofs.Common.{Ok, refl, ◌∙◌, subst, sym}
 use Rattle.rlsf_base.specs.Addr.{at}
 use Rattle.rlsf_global.specs.Locked.{heap_of}
+use Rattle.rlsf_global.proofs.Lives.{known, unknown}
 use Rattle.rlsf_global.proofs.Placements.{released, released_locked, some_row}
 use Rattle.rlsf_placement.specs.Steps.{DeallocatesAt}
 use Rattle.rlsf_global.proofs.locked.Locked.deallocate.Goals as goal
@@ -42,3 +43,9 @@ returns-clause-contents g c = rw (← c.self.view_is) (
 
 pub returns-clause-touches : goal.returns-clause-touches
 returns-clause-touches g c = rw (← c.self.view_is) c.deallocate.ensures.touches
+
+pub returns-in_default-clause-unknown : goal.returns-in_default-clause-unknown
+returns-in_default-clause-unknown g c = rw (← c.self.view_is) (unknown c.self.inside.flex c.self.inside.rows.items (at c.args.addr) _ (rw c.deref.ensures.value at c.in_default.ensures.absent))
+
+pub returns-clause-unknown : goal.returns-clause-unknown
+returns-clause-unknown g c = rw (← c.self.view_is) (known c.self.inside.flex c.self.inside.rows.items (at c.args.addr) _ (rw c.deref.ensures.value at c.in-Ok.ensures.found) (Ok tt) refl)

@@ -1,12 +1,14 @@
 use Rattle.rlsf_base.specs.Sizes.{request_size}
 use Rattle.rlsf_machine.specs.Allocate.{choice}
 use Rattle.rlsf_machine.specs.Reallocate.{Reallocates}
-use Rattle.std.proofs.Common.{IsSome, ◌≡◌, ◌≤◌, length, Some, None, Ok, Err, lit<, ap, ◌∙◌, subst, sym}
+use Rattle.std.proofs.Common.{IsSome, ◌≡◌, ◌≤◌, length, Some, None, Ok, Err, lit<, ap, ◌∙◌, subst, sym, refl}
 use Rattle.rlsf_global.proofs.Layouts.{content_at-bytes, layout_at-moved_left, layout_at-moved_other, layout_at-none, layout_at-put_here}
 use Rattle.rlsf_base.specs.Addr.{at}
-use Rattle.rlsf_global.specs.Locked.{heap_of}
+use Rattle.rlsf_global.specs.Locked.{heap_of, locked_contents}
 use Rattle.rlsf_global.proofs.Checks.{same_align, same_size}
 use Rattle.rlsf_global.proofs.MovedPayloads.{moved_locked, moved_row, same_heap, reallocates_in, reallocates_out}
+use Rattle.rlsf_global.proofs.Kept.{kept_asked, kept_usable}
+use Rattle.rlsf_global.proofs.Lives.{known, unknown}
 use Rattle.rlsf_global.proofs.Placements.{live_row, no_row, row_sized}
 use Rattle.rlsf_global.proofs.Results.{not-false, not-true}
 use Rattle.rlsf_placement.proofs.Rows.{without-sorted}
@@ -141,3 +143,29 @@ returns-clause-touches_elsewhere g c = rw (← c.self.view_is) (
     let free = c.self.inside.flex.state.machine.free in
     let same = ap (λ n. request_size n c.args.layout.align) (sym wanted.ensures.0) ∙ ap (request_size wanted.result.size) (sym (wanted.ensures.1 ∙ c.align.ensures.value)) in
     λ off some. c.resize.ensures.touches_elsewhere off (subst (λ n. IsSome (choice 64 n free)) same some))
+
+pub returns-in_default-clause-unknown : goal.returns-in_default-clause-unknown
+returns-in_default-clause-unknown g c = rw (← c.self.view_is) (unknown c.self.inside.flex c.self.inside.rows.items (at c.args.addr) _ (rw c.deref.ensures.value at c.in_default.ensures.absent))
+
+pub returns-then-ne-clause-unknown : goal.returns-then-ne-clause-unknown
+returns-then-ne-clause-unknown g c = rw (← c.self.view_is) (known c.self.inside.flex c.self.inside.rows.items (at c.args.addr) _ (rw c.deref.ensures.value at c.in-Ok.ensures.found) (Err WrongLayout) refl)
+
+pub returns-in_default-resize-clause-unknown : goal.returns-in_default-resize-clause-unknown
+returns-in_default-resize-clause-unknown g c = rw (← c.self.view_is) (known c.self.inside.flex c.self.inside.rows.items (at c.args.addr) _ (rw c.deref.ensures.value at c.in-Ok.ensures.found) (Err NoRoom) refl)
+
+pub returns-clause-unknown : goal.returns-clause-unknown
+returns-clause-unknown g c = rw (← c.self.view_is) (known c.self.inside.flex c.self.inside.rows.items (at c.args.addr) _ (rw c.deref.ensures.value at c.in-Ok.ensures.found) (Ok c.in-Some.moved) refl)
+
+pub returns-clause-kept : goal.returns-clause-kept
+returns-clause-kept g c = rw (← c.self.view_is) (
+    let found = rw c.deref.ensures.value at c.in-Ok.ensures.found in
+    let row = found.row c.index.result.now ∙ ap Some (sym c.index.ensures) in
+    let sized = subst (λ n. n ≤ length (bytes_at c.self.inside.flex.state.machine (at c.args.addr))) (same_size c.index.result.now.1 c.args.layout (not-false _ c.if-ne.ensures))
+    (row_sized c.self.inside.flex c.self.inside.rows.items c.self.invariant (at c.args.addr) c.index.result.now row) in
+    kept_asked (locked_contents c.self.inside.flex c.self.inside.rows.items) c.self.invariant _ c.in-Some.moved (at c.args.addr) c.args.layout c.args.new_size g.Options.GlobalTlsfOptions.ENABLE_REALLOCATION
+    (rw (← c.self.view_is) at (returns-clause-step g c)) sized)
+
+pub returns-clause-kept_usable : goal.returns-clause-kept_usable
+returns-clause-kept_usable g c = rw (← c.self.view_is) (λ on.
+    kept_usable (locked_contents c.self.inside.flex c.self.inside.rows.items) c.self.invariant _ c.in-Some.moved (at c.args.addr) c.args.layout c.args.new_size g.Options.GlobalTlsfOptions.ENABLE_REALLOCATION
+    (rw (← c.self.view_is) at (returns-clause-step g c)) on)

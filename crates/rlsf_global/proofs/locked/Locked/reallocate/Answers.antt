@@ -1,8 +1,10 @@
 use Rattle.rlsf_global.proofs.Layouts.{content_at-bytes, layout_at-moved_left, layout_at-moved_other, layout_at-none, layout_at-put_here}
-use Rattle.std.proofs.Common.{◌≡◌, arith, min, Some, None, Ok, Err, lit<, ap, ◌∙◌, subst, sym}
+use Rattle.std.proofs.Common.{◌≡◌, arith, min, Some, None, Ok, Err, lit<, ap, ◌∙◌, subst, sym, refl}
 use Rattle.rlsf_base.specs.Addr.{at}
-use Rattle.rlsf_global.specs.Locked.{heap_of}
+use Rattle.rlsf_global.specs.Locked.{heap_of, locked_contents}
 use Rattle.rlsf_global.proofs.MovedPayloads.{moved_locked, moved_row, same_heap}
+use Rattle.rlsf_global.proofs.Kept.{kept_elsewhere}
+use Rattle.rlsf_global.proofs.Lives.{known, unknown}
 use Rattle.rlsf_global.proofs.Placements.{live_here, live_row, no_row}
 use Rattle.rlsf_placement.proofs.Rows.{without-sorted}
 use Rattle.rlsf_placement.specs.declared.error.GlobalError.TheVariants.{NoRoom}
@@ -104,3 +106,16 @@ returns-in_default-move_away-clause-touches g c = rw (← c.self.view_is) c.move
 
 pub returns-clause-touches : goal.returns-clause-touches
 returns-clause-touches g c = rw (← c.self.view_is) c.move_away.ensures.touches
+
+pub returns-in_default-clause-unknown : goal.returns-in_default-clause-unknown
+returns-in_default-clause-unknown g c = rw (← c.self.view_is) (unknown c.self.inside.flex c.self.inside.rows.items (at c.args.addr) _ (rw c.deref.ensures.value at c.in_default.ensures.absent))
+
+pub returns-in_default-move_away-clause-unknown : goal.returns-in_default-move_away-clause-unknown
+returns-in_default-move_away-clause-unknown g c = rw (← c.self.view_is) (known c.self.inside.flex c.self.inside.rows.items (at c.args.addr) _ (rw c.deref.ensures.value at c.in-Ok.ensures.found) (Err NoRoom) refl)
+
+pub returns-clause-unknown : goal.returns-clause-unknown
+returns-clause-unknown g c = rw (← c.self.view_is) (known c.self.inside.flex c.self.inside.rows.items (at c.args.addr) _ (rw c.deref.ensures.value at c.in-Ok.ensures.found) (Ok c.in-Some.to) refl)
+
+pub returns-clause-kept : goal.returns-clause-kept
+returns-clause-kept g c = rw (← c.self.view_is) (
+    kept_elsewhere (locked_contents c.self.inside.flex c.self.inside.rows.items) c.self.invariant _ c.in-Some.to (at c.args.addr) c.args.layout (rw (← c.self.view_is) at (returns-clause-step g c)))

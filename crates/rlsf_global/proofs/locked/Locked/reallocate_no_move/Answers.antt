@@ -1,17 +1,18 @@
-use Rattle.std.proofs.Common.{◌≡◌, Some, None, Ok, Err, lit<, ap, ◌∙◌, subst, sym}
+use Rattle.std.proofs.Common.{◌≡◌, Some, Ok, Err, lit<, ap, ◌∙◌, subst, sym, refl}
 use Rattle.rlsf_placement.specs.Heap.{layout_at}
 use Rattle.rlsf_global.proofs.MovedPayloads.{same_heap}
 use Rattle.rlsf_global.proofs.Layouts.{content_at-bytes, layout_at-moved_other, layout_at-put_here}
 use Rattle.rlsf_base.specs.Addr.{at}
-use Rattle.rlsf_global.specs.Locked.{heap_of}
+use Rattle.rlsf_global.specs.Locked.{heap_of, locked_contents}
 use Rattle.rlsf_global.proofs.Checks.{same_align}
+use Rattle.rlsf_global.proofs.Kept.{kept_there}
+use Rattle.rlsf_global.proofs.Lives.{known, unknown}
 use Rattle.rlsf_global.proofs.Placements.{live_row}
-use Rattle.rlsf_global.proofs.Resizes.{none_left, not_resized, not_resized_locked, resized, resized_locked, resizes_in, resizes_out}
+use Rattle.rlsf_global.proofs.Resizes.{not_resized, not_resized_locked, resized, resized_locked, resizes_in, resizes_out, row_there}
 use Rattle.rlsf_global.proofs.Results.{not-false, not-true}
-use Rattle.rlsf_placement.proofs.Rows.{without-sorted}
 use Rattle.rlsf_placement.specs.declared.error.GlobalError.TheVariants.{NoRoom, WrongLayout}
 use Rattle.rlsf_placement.specs.Moves.{ReallocatesThereAt}
-use Rattle.rlsf_placement.specs.Rows.{IsSorted, row_at}
+use Rattle.rlsf_global.specs.Steps.Table.{IsFound}
 use Rattle.rlsf_global.proofs.locked.Locked.reallocate_no_move.Goals as goal
 
 pub returns-then-ne-clause-step : goal.returns-then-ne-clause-step
@@ -46,32 +47,24 @@ returns-in_default-reallocate_no_move-clause-step g c = rw (← c.self.view_is) 
     subst (λ o. ReallocatesThereAt h (at c.args.addr) c.args.layout c.args.new_size o (Err NoRoom) after) (sym row)
     (resizes_in h (at c.args.addr) c.args.layout c.args.new_size c.index.result.now wanted.result (Err NoRoom) after (not-false _ c.if-ne.ensures) wanted.ensures.0 (wanted.ensures.1 ∙ c.align.ensures.value) step))
 
-pub place-requires-clause-sorted : goal.place-requires-clause-sorted
-place-requires-clause-sorted g c =
-    let found = rw c.deref.ensures.value at c.in-Ok.ensures.found in
-    subst IsSorted (sym (c.remove.ensures.items ∙ found.taken_out)) (without-sorted (at c.args.addr) c.self.inside.rows.items c.self.invariant.sorted)
-
-pub place-requires-clause-fresh : goal.place-requires-clause-fresh
-place-requires-clause-fresh g c =
-    let found = rw c.deref.ensures.value at c.in-Ok.ensures.found in
-    subst (λ l. row_at (at c.in-Some.to) l ≡ None) (sym (c.remove.ensures.items ∙ found.taken_out)) (none_left (at c.args.addr) (at c.in-Some.to) c.self.inside.rows.items c.in-Some.ensures.there)
+pub replace-requires : goal.replace-requires
+replace-requires g c = subst (λ a. IsFound c.self.inside.rows.items a c.in-Ok.at) (sym c.in-Some.ensures.there) (rw c.deref.ensures.value at c.in-Ok.ensures.found)
 
 pub invariant_of-self-2 : goal.invariant_of-self-2
 invariant_of-self-2 g c =
     let did = c.in-Some.ensures in
-    let found = rw c.deref.ensures.value at c.in-Ok.ensures.found in
-    let rows = rw (c.remove.ensures.items, found.taken_out) at c.place.ensures in
+    let rows = row_there _ _ _ c.in-Some.to _ c.in-Some.ensures.there c.replace.ensures in
     resized_locked c.self.inside.flex c.self.inside.rows.items c.self.invariant c.reallocate_no_move.new.self (at c.args.addr) c.from_size_align_unchecked-wanted.result did.source c.in-Some.to did.there did.step _ rows
     (record { live = did.live; sized = did.sized; few = did.few }) did.aligns did.bytes
 
 pub returns-clause-step : goal.returns-clause-step
 returns-clause-step g c = rw (← c.self.view_is) (
     let h = heap_of c.self.inside.flex c.self.inside.rows.items in
-    let after = heap_of c.reallocate_no_move.new.self c.place.new.rows.items in
+    let after = heap_of c.reallocate_no_move.new.self c.replace.new.rows.items in
     let did = c.in-Some.ensures in
     let found = rw c.deref.ensures.value at c.in-Ok.ensures.found in
     let row = found.row c.index.result.now ∙ ap Some (sym c.index.ensures) in
-    let rows = rw (c.remove.ensures.items, found.taken_out) at c.place.ensures in
+    let rows = row_there _ _ _ c.in-Some.to _ c.in-Some.ensures.there c.replace.ensures in
     let wanted = c.from_size_align_unchecked-wanted in
     let step = resized c.self.inside.flex c.self.inside.rows.items c.self.invariant c.reallocate_no_move.new.self (at c.args.addr) wanted.result did.source c.in-Some.to did.there did.step _ rows in
     subst (λ o. ReallocatesThereAt h (at c.args.addr) c.args.layout c.args.new_size o (Ok c.in-Some.to) after) (sym row)
@@ -79,26 +72,24 @@ returns-clause-step g c = rw (← c.self.view_is) (
 
 pub returns-clause-live : goal.returns-clause-live
 returns-clause-live g c =
-    let found = rw c.deref.ensures.value at c.in-Ok.ensures.found in
-    let rows = rw (c.remove.ensures.items, found.taken_out) at c.place.ensures in
+    let rows = row_there _ _ _ c.in-Some.to _ c.in-Some.ensures.there c.replace.ensures in
     let wanted = c.from_size_align_unchecked-wanted in
     let before = heap_of c.self.inside.flex c.self.inside.rows.items in
-    let after = heap_of c.reallocate_no_move.new.self c.place.new.rows.items in
+    let after = heap_of c.reallocate_no_move.new.self c.replace.new.rows.items in
     let here = layout_at-put_here before after (c.in-Some.to, wanted.result) _ rows in
     (wanted.result, subst (λ a. layout_at after a ≡ Some wanted.result) c.in-Some.ensures.there here, wanted.ensures.0, wanted.ensures.1 ∙ c.align.ensures.value)
 
 pub returns-clause-layouts : goal.returns-clause-layouts
 returns-clause-layouts g c = rw (← c.self.view_is) (
-    let found = rw c.deref.ensures.value at c.in-Ok.ensures.found in
-    let rows = rw (c.remove.ensures.items, found.taken_out) at c.place.ensures in
+    let rows = row_there _ _ _ c.in-Some.to _ c.in-Some.ensures.there c.replace.ensures in
     let before = heap_of c.self.inside.flex c.self.inside.rows.items in
-    let after = heap_of c.reallocate_no_move.new.self c.place.new.rows.items in
+    let after = heap_of c.reallocate_no_move.new.self c.replace.new.rows.items in
     λ a off. layout_at-moved_other before after (at c.args.addr) (c.in-Some.to, c.from_size_align_unchecked-wanted.result) rows a off (λ same. off (same ∙ c.in-Some.ensures.there)))
 
 pub returns-clause-contents : goal.returns-clause-contents
 returns-clause-contents g c = rw (← c.self.view_is) (
     let before = heap_of c.self.inside.flex c.self.inside.rows.items in
-    let after = heap_of c.reallocate_no_move.new.self c.place.new.rows.items in
+    let after = heap_of c.reallocate_no_move.new.self c.replace.new.rows.items in
     λ a off. content_at-bytes before after a a (c.in-Some.ensures.bytes a off))
 
 pub returns-in_default-reallocate_no_move-clause-same : goal.returns-in_default-reallocate_no_move-clause-same
@@ -111,3 +102,19 @@ returns-in_default-reallocate_no_move-clause-touches g c = rw (← c.self.view_i
 
 pub returns-clause-touches : goal.returns-clause-touches
 returns-clause-touches g c = rw (← c.self.view_is) c.reallocate_no_move.ensures.touches
+
+pub returns-in_default-clause-unknown : goal.returns-in_default-clause-unknown
+returns-in_default-clause-unknown g c = rw (← c.self.view_is) (unknown c.self.inside.flex c.self.inside.rows.items (at c.args.addr) _ (rw c.deref.ensures.value at c.in_default.ensures.absent))
+
+pub returns-then-ne-clause-unknown : goal.returns-then-ne-clause-unknown
+returns-then-ne-clause-unknown g c = rw (← c.self.view_is) (known c.self.inside.flex c.self.inside.rows.items (at c.args.addr) _ (rw c.deref.ensures.value at c.in-Ok.ensures.found) (Err WrongLayout) refl)
+
+pub returns-in_default-reallocate_no_move-clause-unknown : goal.returns-in_default-reallocate_no_move-clause-unknown
+returns-in_default-reallocate_no_move-clause-unknown g c = rw (← c.self.view_is) (known c.self.inside.flex c.self.inside.rows.items (at c.args.addr) _ (rw c.deref.ensures.value at c.in-Ok.ensures.found) (Err NoRoom) refl)
+
+pub returns-clause-unknown : goal.returns-clause-unknown
+returns-clause-unknown g c = rw (← c.self.view_is) (known c.self.inside.flex c.self.inside.rows.items (at c.args.addr) _ (rw c.deref.ensures.value at c.in-Ok.ensures.found) (Ok c.in-Some.to) refl)
+
+pub returns-clause-kept : goal.returns-clause-kept
+returns-clause-kept g c = rw (← c.self.view_is) (
+    kept_there (locked_contents c.self.inside.flex c.self.inside.rows.items) c.self.invariant _ c.in-Some.to (at c.args.addr) c.args.layout c.args.new_size (rw (← c.self.view_is) at (returns-clause-step g c)))
