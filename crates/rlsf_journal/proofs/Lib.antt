@@ -1,4 +1,5 @@
 pub mod Closings
+mod Determined
 mod Equal
 mod ReceiptsOf
 mod Replays

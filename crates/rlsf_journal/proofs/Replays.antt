@@ -1,42 +1,31 @@
 -- A journal with one more entry, and a placement that is written to.
-use Rattle.std.proofs.Common.{◌≡◌, ◌⊎◌, inl, inr, ℕ, Bool, true, false, List, [], ◌∷◌, ◌++◌, Option, Some, None, Ok, Err, MatchBool, refl, ◌∙◌, ap, sym, subst, append-nil}
+use Rattle.std.proofs.Common.{◌≡◌, ℕ, Bool, true, false, List, [], ◌∷◌, ◌++◌, map, length, Option, Some, None, Ok, Err, MatchBool, refl, ◌∙◌, ap, sym, subst, arith, append-nil}
+use Rattle.std.proofs.lemmas.List.{map_push}
+use Rattle.std.proofs.lemmas.List.Elements.{All-push}
 use Rattle.rlsf_base.specs.Addr.{at}
 use Rattle.rlsf_base.specs.declared.memory.layout.Layout.{Layout}
+use Rattle.rlsf_base.specs.declared.memory.range.Range.{Range}
 use Rattle.rlsf_journal.specs.declared.entry.Call.{Call}
 use Rattle.rlsf_journal.specs.declared.entry.Call.TheVariants.{Allocate, Deallocate, Reallocate}
 use Rattle.rlsf_journal.specs.declared.entry.Entry.{Entry}
 use Rattle.rlsf_journal.specs.declared.entry.Reply.{Reply}
 use Rattle.rlsf_journal.specs.declared.entry.Reply.TheVariants.{Placed, Freed, NoRoom, UnknownAddress, TableMemory, JournalMemory}
-use Rattle.rlsf_journal.specs.Entries.{entries_of}
-use Rattle.rlsf_journal.specs.Replay.{IsAnswered, IsReplay, Leads, Replays, beginning_of}
-use Rattle.rlsf_machine.proofs.Similar.{fill_is_similar}
+use Rattle.rlsf_journal.specs.Entries.{IsReplyTo, entries_of}
+use Rattle.rlsf_journal.specs.Replay.{IsAnswered, IsReplay, Leads, beginning_of, step_by, step_of}
 use Rattle.rlsf_machine.specs.FlexState.{FlexState}
 use Rattle.rlsf_machine.specs.Note.{LeadsBy, Note, alloc, dealloc, grow}
-use Rattle.rlsf_machine.specs.State.{AreSimilar, State}
+use Rattle.rlsf_placement.proofs.Journals.{replay_begins, replay_goes_on}
 use Rattle.rlsf_placement.specs.declared.error.GlobalError.TheVariants as error
 use Rattle.rlsf_placement.specs.Cursor.{PageCursor, PageLeads}
-use Rattle.rlsf_placement.specs.Heap.{Heap, HaveSamePlacement, beginning}
+use Rattle.rlsf_placement.specs.Heap.{Heap, beginning}
+use Rattle.rlsf_placement.specs.History.{IsHistory, LeadsTo, Step, write}
 use Rattle.rlsf_placement.specs.Moves.{MovesAway, ReallocatesAt}
+use Rattle.rlsf_placement.specs.Replays as placement
+use Rattle.rlsf_placement.specs.Replays.{journal_of}
 use Rattle.rlsf_placement.specs.Rows.{Row, row_at}
-use Rattle.rlsf_placement.specs.Steps.{DeallocatesAt, Done, Placed as Answer, Takes, WritesAt, fits}
+use Rattle.rlsf_placement.specs.Steps.{DeallocatesAt, Done, HeapWrites, Placed as Answer, Takes, WritesAt, fits}
 
-AreSimilar-refl : (s : State) → AreSimilar s s
-AreSimilar-refl s = record { chunks = λ c. (λ i. i, λ i. i); used = λ u. (λ i. i, λ i. i); free = refl }
-
-AreSimilar-trans : {s t u : State} → AreSimilar s t → AreSimilar t u → AreSimilar s u
-AreSimilar-trans e f = record {
-  chunks = λ c. ((λ i. (f.chunks c).0 ((e.chunks c).0 i)), (λ i. (e.chunks c).1 ((f.chunks c).1 i)));
-  used = λ u. ((λ i. (f.used u).0 ((e.used u).0 i)), (λ i. (e.used u).1 ((f.used u).1 i)));
-  free = e.free ∙ f.free;
-}
-
-pub HaveSamePlacement-refl : (h : Heap) → HaveSamePlacement h h
-HaveSamePlacement-refl h = record { machine = AreSimilar-refl h.flex.machine; pools = refl; kept = refl; source = refl; asked = refl }
-
-HaveSamePlacement-trans : {h g k : Heap} → HaveSamePlacement h g → HaveSamePlacement g k → HaveSamePlacement h k
-HaveSamePlacement-trans e f = record { machine = AreSimilar-trans e.machine f.machine; pools = e.pools ∙ f.pools; kept = e.kept ∙ f.kept; source = e.source ∙ f.source; asked = e.asked ∙ f.asked }
-
--- a step or a write leaves the placement that there was at first
+-- ---- a step leaves the space
 
 -- nothing was placed in the cursor's space
 abbrev start : PageCursor → Heap
@@ -73,39 +62,64 @@ reallocates-start : (h g : Heap) (addr : ℕ) (wanted : Layout) (o : Option Row)
 reallocates-start h g addr wanted None result (refused, same) = ap beginning_of same
 reallocates-start h g addr wanted (Some row) result moved = moves-start h g addr _ wanted result moved
 
-step-start : (h g : Heap) (call : Call) (reply : Reply) → Leads h call reply g → beginning_of g ≡ beginning_of h
-step-start h g (Allocate layout) (Placed addr) (takes, rows) = takes-start h layout.size layout.align (Some (at addr)) g.flex g.source takes
-step-start h g (Allocate layout) NoRoom (takes, same) = ap beginning_of same
-step-start h g (Allocate layout) Freed step = absurd step
-step-start h g (Allocate layout) UnknownAddress step = absurd step
-step-start h g (Allocate layout) TableMemory step = absurd step
-step-start h g (Allocate layout) JournalMemory step = absurd step
-step-start h g (Deallocate addr) Freed step = deallocates-start h g (at addr) (row_at (at addr) h.asked) _ step
-step-start h g (Deallocate addr) UnknownAddress step = deallocates-start h g (at addr) (row_at (at addr) h.asked) _ step
-step-start h g (Deallocate addr) (Placed to) step = absurd step
-step-start h g (Deallocate addr) NoRoom step = absurd step
-step-start h g (Deallocate addr) TableMemory step = absurd step
-step-start h g (Deallocate addr) JournalMemory step = absurd step
-step-start h g (Reallocate addr layout) (Placed to) step = reallocates-start h g (at addr) layout (row_at (at addr) h.asked) _ step
-step-start h g (Reallocate addr layout) NoRoom step = reallocates-start h g (at addr) layout (row_at (at addr) h.asked) _ step
-step-start h g (Reallocate addr layout) UnknownAddress step = reallocates-start h g (at addr) layout (row_at (at addr) h.asked) _ step
-step-start h g (Reallocate addr layout) Freed step = absurd step
-step-start h g (Reallocate addr layout) TableMemory step = absurd step
-step-start h g (Reallocate addr layout) JournalMemory step = absurd step
+-- with an answer to a test
+either : {A B X : Type 0} (b : Bool) → MatchBool b A B → (A → X) → (B → X) → X
+either true m f k = f m
+either false m f k = k m
 
--- what a journal replays to
+writes-start : (h g : Heap) (addr offset : ℕ) (bytes : List ℕ) (o : Option Row) (result : Done) → WritesAt h addr offset bytes o result g → beginning_of g ≡ beginning_of h
+writes-start h g addr offset bytes None result step = ap beginning_of step.1
+writes-start h g addr offset bytes (Some row) result step = either (fits h addr offset (length bytes)) step
+    (λ did. ap beginning_of did.1.2)
+    (λ refused. ap beginning_of refused.1)
 
-Replays-same : (s : Heap) (es : List Entry) (h g : Heap) → Replays s es h → HaveSamePlacement h g → Replays s es g
-Replays-same s [] h g run same = HaveSamePlacement-trans run same
-Replays-same s (e ∷ es) h g (from, to, at_from, step, rest) same = (from, to, at_from, step, Replays-same to es h g rest same)
+-- an entry's step: the reply is one of the call's, a journal has it, and it leaves the space
+record IsEntered (h : Heap) (call : Call) (reply : Reply) (g : Heap) : Type 0 where
+  fits : IsReplyTo call reply
+  leads : LeadsTo h (step_by call reply) g
+  kept : journal_of (step_by call reply ∷ []) ≡ step_by call reply ∷ []
+  start : beginning_of g ≡ beginning_of h
 
-Replays-snoc : (s : Heap) (es : List Entry) (e : Entry) (h g : Heap) → Replays s es h → Leads h e.call e.reply g → Replays s (es ++ e ∷ []) g
-Replays-snoc s [] e h g run step = (h, g, run, step, HaveSamePlacement-refl g)
-Replays-snoc s (x ∷ es) e h g (from, to, at_from, first, rest) step = (from, to, at_from, first, Replays-snoc to es e h g rest step)
+enters : (h g : Heap) (call : Call) (reply : Reply) → Leads h call reply g → IsEntered h call reply g
+enters h g (Allocate layout) (Placed addr) step = record { fits = tt; leads = step; kept = refl; start = takes-start h layout.size layout.align (Some (at addr)) g.flex g.source step.0 }
+enters h g (Allocate layout) NoRoom step = record { fits = tt; leads = step; kept = refl; start = ap beginning_of step.1 }
+enters h g (Allocate layout) Freed step = absurd step
+enters h g (Allocate layout) UnknownAddress step = absurd step
+enters h g (Allocate layout) TableMemory step = absurd step
+enters h g (Allocate layout) JournalMemory step = absurd step
+enters h g (Deallocate addr) Freed step = record { fits = tt; leads = step; kept = refl; start = deallocates-start h g (at addr) (row_at (at addr) h.asked) _ step }
+enters h g (Deallocate addr) UnknownAddress step = record { fits = tt; leads = step; kept = refl; start = deallocates-start h g (at addr) (row_at (at addr) h.asked) _ step }
+enters h g (Deallocate addr) (Placed to) step = absurd step
+enters h g (Deallocate addr) NoRoom step = absurd step
+enters h g (Deallocate addr) TableMemory step = absurd step
+enters h g (Deallocate addr) JournalMemory step = absurd step
+enters h g (Reallocate addr layout) (Placed to) step = record { fits = tt; leads = step; kept = refl; start = reallocates-start h g (at addr) layout (row_at (at addr) h.asked) _ step }
+enters h g (Reallocate addr layout) NoRoom step = record { fits = tt; leads = step; kept = refl; start = reallocates-start h g (at addr) layout (row_at (at addr) h.asked) _ step }
+enters h g (Reallocate addr layout) UnknownAddress step = record { fits = tt; leads = step; kept = refl; start = reallocates-start h g (at addr) layout (row_at (at addr) h.asked) _ step }
+enters h g (Reallocate addr layout) Freed step = absurd step
+enters h g (Reallocate addr layout) TableMemory step = absurd step
+enters h g (Reallocate addr layout) JournalMemory step = absurd step
+
+-- ---- what a journal replays to
+
+-- nothing
+pub begun : (space : Range) (grows : Bool) → IsReplay [] (beginning space grows)
+begun space grows = record { fits = λ k d short. absurd (omega (arith, short)); replayed = replay_begins space grows }
+
+-- what steps lead to, with one step more
+goes_on : (h g : Heap) (journal : List Step) (s : Step) → beginning_of g ≡ beginning_of h → placement.IsReplay h.source.space h.source.grows journal h → LeadsTo h s g
+    → placement.IsReplay g.source.space g.source.grows (journal ++ journal_of (s ∷ [])) g
+goes_on h g journal s same run step =
+    subst (λ (b : Heap). (steps : List Step) × IsHistory b steps g × (journal_of steps ≡ journal ++ journal_of (s ∷ []))) (sym same) (replay_goes_on h.source.space h.source.grows journal h g s run step)
 
 -- with an entry of a step
 entered : (es : List Entry) (e : Entry) (h g : Heap) → IsReplay es h → Leads h e.call e.reply g → IsReplay (es ++ e ∷ []) g
-entered es e h g run step = subst (λ (s : Heap). Replays s (es ++ e ∷ []) g) (sym (step-start h g e.call e.reply step)) (Replays-snoc (beginning_of h) es e h g run step)
+entered es e h g run step =
+    let is = enters h g e.call e.reply step in
+    record {
+      fits = All-push (λ (e : Entry). IsReplyTo e.call e.reply) es e run.fits is.fits;
+      replayed = subst (λ l. placement.IsReplay g.source.space g.source.grows l g) (ap (λ l. map step_of es ++ l) is.kept ∙ sym (map_push step_of es e)) (goes_on h g (map step_of es) (step_of e) is.start run.replayed is.leads);
+    }
 
 -- without one
 unentered : (es : List Entry) (h g : Heap) → IsReplay es h → g ≡ h → IsReplay (es ++ []) g
@@ -120,19 +134,10 @@ recorded es caller call UnknownAddress h g run step = entered es (record { calle
 recorded es caller call TableMemory h g run step = unentered es h g run step
 recorded es caller call JournalMemory h g run step = unentered es h g run step
 
--- one of two facts holds
-either : (b : Bool) (P Q : Type 0) → MatchBool b P Q → P ⊎ Q
-either true P Q h = inl h
-either false P Q h = inr h
-
--- a write leaves the placement
-pub written : (h g : Heap) (addr offset : ℕ) (bytes : List ℕ) (o : Option Row) (result : Done) → WritesAt h addr offset bytes o result g → HaveSamePlacement h g
-written h g addr offset bytes None result (refused, same) = subst (HaveSamePlacement h) (sym same) (HaveSamePlacement-refl h)
-written h g addr offset bytes (Some row) result step = elim (either (fits h addr offset _) _ _ step) [
-  | inl (done, (m, fills, after)) ↦ subst (HaveSamePlacement h) (sym after) (record { machine = fill_is_similar h.flex.machine m addr _ fills; pools = refl; kept = refl; source = refl; asked = refl })
-  | inr (refused, same) ↦ subst (HaveSamePlacement h) (sym same) (HaveSamePlacement-refl h)
-]
-
--- so a journal replays to a heap that was written to
-pub replay-same : (es : List Entry) (h g : Heap) → IsReplay es h → HaveSamePlacement h g → IsReplay es g
-replay-same es h g run same = subst (λ (s : Heap). Replays s es g) (ap start same.source) (Replays-same (beginning_of h) es h g run same)
+-- a write has no entry
+pub written : (es : List Entry) (h g : Heap) (addr offset : ℕ) (bytes : List ℕ) (result : Done) → IsReplay es h → HeapWrites h addr offset bytes result g → IsReplay es g
+written es h g addr offset bytes result run step = record {
+  fits = run.fits;
+  replayed = subst (λ l. placement.IsReplay g.source.space g.source.grows l g) (append-nil (map step_of es))
+      (goes_on h g (map step_of es) (write addr offset bytes result) (writes-start h g addr offset bytes (row_at addr h.asked) result step) run.replayed step);
+}

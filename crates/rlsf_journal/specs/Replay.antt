@@ -1,5 +1,5 @@
 -- The heap that a journal replays to.
-use Rattle.std.specs.Prelude.{◌≡◌, List, [], ◌∷◌, Ok, Err}
+use Rattle.std.specs.Prelude.{◌≡◌, List, map, All, Ok, Err}
 use Rattle.rlsf_base.specs.Addr.{at}
 use Rattle.rlsf_global.specs.Locked.{LockedContents}
 use Rattle.rlsf_journal.specs.declared.entry.Call.{Call}
@@ -8,8 +8,12 @@ use Rattle.rlsf_journal.specs.declared.entry.Entry.{Entry}
 use Rattle.rlsf_journal.specs.declared.entry.Reply.{Reply}
 use Rattle.rlsf_journal.specs.declared.entry.Reply.TheVariants.{Placed, Freed, NoRoom, UnknownAddress, TableMemory, JournalMemory}
 use Rattle.rlsf_placement.specs.declared.error.GlobalError.TheVariants as error
-use Rattle.rlsf_placement.specs.Heap.{Heap, HaveSamePlacement, beginning}
+use Rattle.rlsf_journal.specs.Entries.{IsReplyTo}
+use Rattle.rlsf_journal.specs.Passes.{done_by, placed_by}
+use Rattle.rlsf_placement.specs.Heap.{Heap, beginning}
+use Rattle.rlsf_placement.specs.History.{Step, allocate, deallocate, reallocate}
 use Rattle.rlsf_placement.specs.Moves.{HeapReallocates}
+use Rattle.rlsf_placement.specs.Replays as placement
 use Rattle.rlsf_placement.specs.Steps.{HeapAllocates, HeapDeallocates}
 
 -- a call with its reply is a step of the machine, from one heap to another
@@ -29,19 +33,25 @@ IsAnswered h call TableMemory g = g ≡ h
 IsAnswered h call JournalMemory g = g ≡ h
 IsAnswered h call reply g = Leads h call reply g
 
--- the steps of a journal, one after another. Between them writes may change the bytes of payloads, so each step leads from some heap
--- with the placement that there is to some heap with the next one
-abbrev pub Replays : Heap → List Entry → Heap → Type 0
-Replays h [] g = HaveSamePlacement h g
-Replays h (e ∷ es) g = (from to : Heap) × HaveSamePlacement h from × Leads from e.call e.reply to × Replays to es g
+-- the step that a call with its reply is, in the machine's history
+abbrev pub step_by : Call → Reply → Step
+step_by (Allocate layout) reply = allocate layout (placed_by reply)
+step_by (Deallocate addr) reply = deallocate (at addr) (done_by reply)
+step_by (Reallocate addr layout) reply = reallocate (at addr) layout (placed_by reply)
+
+-- and the step that an entry is
+abbrev pub step_of : Entry → Step
+step_of e = step_by e.call e.reply
 
 -- nothing was placed in the heap's space yet
 abbrev pub beginning_of : Heap → Heap
 beginning_of h = beginning h.source.space h.source.grows
 
--- the journal leads from nothing placed to the heap's placement
-abbrev pub IsReplay : List Entry → Heap → Type 0
-IsReplay journal h = Replays (beginning_of h) journal h
+-- Each reply is one of its call's, and the entries' steps replay to the heap: with reads and writes among them, which have no entry, they
+-- lead there from nothing placed, one after another.
+pub record IsReplay (journal : List Entry) (h : Heap) : Type 0 where
+  pub fits : All (λ e. IsReplyTo e.call e.reply) journal
+  pub replayed : placement.IsReplay h.source.space h.source.grows (map step_of journal) h
 
 -- a book as contracts see it: the value with the heap, and the entries
 pub record BookContents : Type 0 where

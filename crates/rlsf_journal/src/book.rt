@@ -40,6 +40,7 @@ impl Model for Book {
 
 impl Book {
     /// An allocator whose source's space is the whole memory, with an empty journal. Nothing is live.
+    #[tactic(auto, using(crate::proofs::Replays::begun))]
     pub fn new(alloc: Global, memory: Memory) -> Book
         ensures heap { result.locked.heap ≡ beginning (range_of memory) true }
         ensures memory { result.locked.memory ≡ memory }

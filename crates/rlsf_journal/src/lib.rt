@@ -4,10 +4,10 @@
 //! caller has a `Pass`, which collects a receipt of each of its calls. `close` takes the passes back, and gives the journal out where
 //! they agree with it: then it is one history that explains every answer.
 //!
-//! Read `specs/` in this order: `Entries`, `Replay`, `Passes`, `Close`, `Laws`.
+//! Read `specs/` in this order: `Entries`, `Passes`, `Replay`, `Close`, `Laws`.
 #![tactic(auto)]
 
-ghost use Rattle.rlsf_journal.specs.Laws.{ReceiptsAreEntries};
+ghost use Rattle.rlsf_journal.specs.Laws.{CallsDetermineReplies, ReceiptsAreEntries, ReplayDetermines};
 
 mod book;
 mod checks;
@@ -24,8 +24,13 @@ pub use entry::{Call, Entry, Receipt, Reply};
 pub use journaled::Journaled;
 pub use pass::Pass;
 
-/// Does nothing. Its contract is the law that a receipt names its entry: the entry at the receipt's number is the caller's, with that
-/// call and that reply.
+/// Does nothing. Its contract states the laws of journals, so that a check proves them.
+///
+/// A receipt names its entry: the entry at the receipt's number is the caller's, with that call and that reply. The calls of a journal,
+/// in their order, determine their replies and the placement at the end, whatever was read and written meanwhile: so who has the
+/// calls of a closed journal can compute its replies, and what is live.
 pub fn laws()
     ensures receipts { ReceiptsAreEntries }
+    ensures replies { CallsDetermineReplies }
+    ensures one_placement { ReplayDetermines }
 {}
