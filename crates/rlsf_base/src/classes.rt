@@ -6,9 +6,9 @@
 //! multiple of 32, in bytes. A class is named by its row, counted from 0, and its place in the row. No function refuses
 //! or panics within its condition, none asks the system for memory, and the work of each is constant.
 
-ghost use Rattle.std.specs.Prelude.{◌≡◌, ◌%◌, ◌^◌, ◌<◌, ◌≤◌, ◌*◌, ◌-◌, IsTrue, Some, IfSome, IfNone};
+ghost use Rattle.std.specs.Prelude.{◌≡◌, ◌%◌, ◌^◌, ◌<◌, ◌≤◌, ◌*◌, ◌-◌, IsTrue, IfSome, IfNone};
 ghost use Rattle.rlsf_base.specs.ClassLaws.{MappedIsFirstReaching, UnmappedIsEnough, UnmappedBeginsItsClass, UnreachedIsNotUnmapped, LongestBlockHasAClass, PoolIsOneChunk, PoolContainsItsAllocation};
-ghost use Rattle.rlsf_base.specs.SizeClass.{SizeClass, IsValid, IsValidClass, is_row_length, class_of, class_start, reaching_class};
+ghost use Rattle.rlsf_base.specs.SizeClass.{SizeClass, IsValid, is_row_length, class_of, class_start, reaching_class};
 ghost use Rattle.rlsf_base.specs.Sizes as sizes;
 
 use crate::memory::Layout;
@@ -27,21 +27,6 @@ pub fn map_floor<
     ensures { result ≡ sizes.map_floor FLLEN SLLEN size }
 {
     within_rows::<FLLEN>(class_of::<SLLEN>(size))
-}
-
-/// The class of a block of `size` bytes that has one, as `map_floor` gives it.
-pub fn class_of_block<
-    FLBitmap: BitPattern,
-    SLBitmap: BitPattern,
-    const FLLEN: usize,
-    const SLLEN: usize,
->(size: usize) -> (usize, usize)
-    requires parameters { IsValid FLBitmap.width SLBitmap.width FLLEN SLLEN }
-    requires size { sizes.IsSize size }
-    requires valid { IsValidClass FLLEN (class_of SLLEN size) }
-    ensures { Some result ≡ sizes.map_floor FLLEN SLLEN size }
-{
-    class_of::<SLLEN>(size)
 }
 
 /// The first class that reaches `size`: each of its blocks is at least that long. `None` exactly where it lies past the
@@ -198,17 +183,6 @@ fn within_rows<const FLLEN: usize>(class: (usize, usize)) -> Option<(usize, usiz
     if class.0 < FLLEN { Some(class) } else { None }
 }
 
-// The position of the highest one of a size. The one that is set at the lowest position changes nothing there, and tells the
-// compiler that it counts no number without ones, for which the processor would need more steps.
-fn highest_one(size: usize) -> u32
-    requires { 0 < size }
-    ensures power_le { 2 ^ result ≤ size }
-    ensures next_power_gt { size < 2 * 2 ^ result }
-    ensures bound { result < 64 }
-{
-    63 - (size | 1).leading_zeros()
-}
-
 // The class of a size. The exponent of its row, 5 in the first one, is the position of its highest one. With that at
 // position 63, the leading positions, one more than a place has, are the number SLLEN + place.
 fn class_of<const SLLEN: usize>(size: usize) -> (usize, usize)
@@ -216,7 +190,7 @@ fn class_of<const SLLEN: usize>(size: usize) -> (usize, usize)
     requires size { 32 ≤ size }
     ensures { result ≡ sizes.indices (class_of SLLEN size) }
 {
-    let row = highest_one(size);
+    let row = size.ilog2();
     let parts = (size << (63 - row)) >> (63 - SLLEN.trailing_zeros());
     (row as usize - 5, parts - SLLEN)
 }
@@ -228,7 +202,7 @@ fn reaching_class<const SLLEN: usize>(size: usize) -> (usize, usize)
     requires size { 32 ≤ size }
     ensures { result ≡ sizes.indices (reaching_class SLLEN size) }
 {
-    let row = highest_one(size);
+    let row = size.ilog2();
     let parts = (((size << (63 - row)) - 1) >> (63 - SLLEN.trailing_zeros())) + 1;
     (row as usize + parts / SLLEN - 6, parts % SLLEN)
 }

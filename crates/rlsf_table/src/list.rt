@@ -11,7 +11,7 @@ ghost use Rattle.rlsf_table.specs.FreeTable.{IsFreeTable, IsRoom};
 ghost use Rattle.rlsf_table.specs.Table.{HasTable, IsNewestAt};
 
 use crate::table::ClassTable;
-use rlsf_base::classes::class_of_block;
+use rlsf_base::classes::map_floor;
 use rlsf_base::memory::Memory;
 use rlsf_int::Bitmap;
 
@@ -95,7 +95,9 @@ pub fn link<FLBitmap: Bitmap, SLBitmap: Bitmap, const FLLEN: usize, const SLLEN:
     ensures grow { memory.old.touches ≤ memory.new.touches }
     ensures copied { memory.new.copied ≡ memory.old.copied }
 {
-    let (fl, sl) = class_of_block::<FLBitmap, SLBitmap, FLLEN, SLLEN>(len);
+    let Some((fl, sl)) = map_floor::<FLBitmap, SLBitmap, FLLEN, SLLEN>(len) else {
+        unreachable!()
+    };
     let newest = table.head(memory, fl, sl);
     link_front(memory, newest, block);
     table.put(memory, fl, sl, block);
@@ -122,7 +124,9 @@ pub fn unlink<FLBitmap: Bitmap, SLBitmap: Bitmap, const FLLEN: usize, const SLLE
 {
     let newest = unlink_between(memory, block);
     if let Some(next) = newest {
-        let (fl, sl) = class_of_block::<FLBitmap, SLBitmap, FLLEN, SLLEN>(len);
+        let Some((fl, sl)) = map_floor::<FLBitmap, SLBitmap, FLLEN, SLLEN>(len) else {
+            unreachable!()
+        };
         table.take(memory, fl, sl, next);
     }
 }

@@ -1,12 +1,11 @@
 -- The laws of logarithms and powers of two.
-use Rattle.std.proofs.Common.{◌≡◌, ℕ, zero, suc, ◌+◌, ◌-◌, ◌*◌, ◌/◌, ◌^◌, ◌<◌, ◌≤◌, ◌↔◌, IsTrue, arith, bit_or, eq-eqb, inl, inr, sym, ◌∙◌, ap, subst, w64}
-use Rattle.std.proofs.lemmas.Nat.{leading_top, le_or_r, or_lt, or_shr, ones_cat, ones_le_self, pow_below, pow_pos, zero_from_ones}
+use Rattle.std.proofs.Common.{◌≡◌, ℕ, zero, suc, ◌+◌, ◌-◌, ◌*◌, ◌/◌, ◌^◌, ◌<◌, ◌≤◌, ◌↔◌, IsTrue, arith, eq-eqb, inl, inr, sym, ◌∙◌, ap}
+use Rattle.std.proofs.lemmas.Nat.{ones_cat, ones_le_self, pow_below, pow_pos, zero_from_ones}
 use Rattle.std.proofs.lemmas.Bool.{cases_lt, eqb-true}
 use Rattle.std.proofs.Math.Nat.{pow-suc}
 use Rattle.std.proofs.Math.Pow.{pow_mono}
-use Rattle.std.specs.Int.{is_power_of_two, leading_zeros}
-use Rattle.std.specs.Int.Bits.{or_zero_r}
-use Rattle.std.specs.Int.Count.{count_leading_zeros, ones-ones}
+use Rattle.std.specs.Int.{is_power_of_two}
+use Rattle.std.specs.Int.Count.{ones-ones}
 use Rattle.std.specs.Int.RustNames.{count_ones}
 use Rattle.rlsf_base.specs.PowerOfTwo.{halvings, floor_log2, IsPowerOfTwo}
 
@@ -88,34 +87,3 @@ count_ones-one (suc n) =
 pub is_power_of_two-iff : (n : ℕ) → IsTrue (is_power_of_two n) ↔ IsPowerOfTwo n
 is_power_of_two-iff n =
     ((λ one. (count_ones-one n).0 (eqb-true _ _ one)), (λ power. eq-eqb _ _ ((count_ones-one n).1 power)))
-
--- ---- the position of the highest one
-
--- k is the position of the highest one of n, of 64 positions
-pub record IsHighestOne (n k : ℕ) : Type 0 where
-  pub low : 2 ^ k ≤ n
-  pub high : n < 2 * 2 ^ k
-  pub within : k < 64
-
--- setting the lowest one leaves the half
-half-odd : (n : ℕ) → bit_or n 1 / 2 ≡ n / 2
-half-odd n = or_shr n 1 1 ∙ or_zero_r (n / 2)
-
-highest-odd : (n j : ℕ) → 0 < n → 2 ^ j ≤ bit_or n 1 → bit_or n 1 < 2 ^ suc j → (2 ^ j ≤ n) × (n < 2 * 2 ^ j)
-highest-odd n zero some low high = (omega arith, omega (arith, half-odd n))
-highest-odd n (suc i) some low high = (omega (arith, half-odd n, pow-suc 2 i), omega (arith, half-odd n, pow-suc 2 i, pow-suc 2 (suc i)))
-
-module _ (n : ℕ) (some : 0 < n) (word : n < 2 ^ 64) where
-  top : (j : ℕ) × (count_leading_zeros 64 (bit_or n 1) + suc j ≡ 64) × (2 ^ j ≤ bit_or n 1) × (bit_or n 1 < 2 ^ suc j)
-  top = leading_top 64 (bit_or n 1) (omega (arith, le_or_r n 1)) (or_lt 64 n 1 word (omega arith))
-
-  -- it is found in n with the lowest one set
-  pub IsHighestOne-few : leading_zeros w64 (bit_or n 1) ≤ 63
-  IsHighestOne-few = omega (arith, top.1)
-
-  pub IsHighestOne-odd : IsHighestOne n (63 - leading_zeros w64 (bit_or n 1))
-  IsHighestOne-odd =
-      let (j, sum, low, high) = top in
-      let at : j ≡ 63 - leading_zeros w64 (bit_or n 1) = omega (arith, sum) in
-      let is = highest-odd n j some low high in
-      subst (IsHighestOne n) at (record { low = is.0; high = is.1; within = omega (arith, sum) })

@@ -65,20 +65,20 @@ module _ (sllen size k : ℕ) (row : IsTrue (is_row_length sllen)) (low : 2 ^ k 
 pub overflow_sub-parts-2 : goal.overflow_sub-parts-2
 overflow_sub-parts-2 g c =
     let is = IsPower-row_length g.row.SLLEN c.requires.parameters in
-    let row = c.highest_one-row.ensures in
-    top_positive g.row.SLLEN _ c.args.size c.highest_one-row.result is.power is.few row.power_le row.next_power_gt (omega arith)
+    let row = c.ilog2-row.ensures in
+    top_positive g.row.SLLEN _ c.args.size c.ilog2-row.result is.power is.few row.power_le row.next_power_gt (omega arith)
 
 pub overflow_add-result : goal.overflow_add-result
 overflow_add-result g c =
-    let row = c.highest_one-row.ensures in
-    record { fits = omega (arith, row.bound, (quotient g.row.SLLEN c.args.size c.highest_one-row.result c.requires.parameters row.power_le row.next_power_gt row.bound).1) }
+    let row = c.ilog2-row.ensures in
+    record { fits = omega (arith, row.bound, (quotient g.row.SLLEN c.args.size c.ilog2-row.result c.requires.parameters row.power_le row.next_power_gt row.bound).1) }
 
 pub overflow_sub-result : goal.overflow_sub-result
 overflow_sub-result g c =
-    let row = c.highest_one-row.ensures in
-    omega (arith, later c.args.size c.highest_one-row.result c.requires.size row.next_power_gt, (quotient g.row.SLLEN c.args.size c.highest_one-row.result c.requires.parameters row.power_le row.next_power_gt row.bound).0)
+    let row = c.ilog2-row.ensures in
+    omega (arith, later c.args.size c.ilog2-row.result c.requires.size row.next_power_gt, (quotient g.row.SLLEN c.args.size c.ilog2-row.result c.requires.parameters row.power_le row.next_power_gt row.bound).0)
 
 pub returns : goal.returns
 returns g c =
-    let row = c.highest_one-row.ensures in
-    reached g.row.SLLEN c.args.size c.highest_one-row.result c.requires.parameters row.power_le row.next_power_gt row.bound
+    let row = c.ilog2-row.ensures in
+    reached g.row.SLLEN c.args.size c.ilog2-row.result c.requires.parameters row.power_le row.next_power_gt row.bound

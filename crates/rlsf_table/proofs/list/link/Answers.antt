@@ -9,15 +9,15 @@ use Rattle.rlsf_table.proofs.list.link.Goals as goal
 pub head-newest-requires : goal.head-newest-requires
 head-newest-requires g c =
     let (r, free, place, len, room) = c.requires.room in
-    let at = IsClassAt-told c.requires.parameters room.block c.args.len c.class_of_block-fl.result.0 c.class_of_block-fl.result.1 len c.class_of_block-fl.ensures in
+    let at = IsClassAt-told c.requires.parameters room.block c.args.len c.in-Some.fl c.in-Some.sl len c.in-Some.ensures in
     (search rules, (at.row, at.place))
 
 pub link_front-requires : goal.link_front-requires
 link_front-requires g c =
-    let fl = c.class_of_block-fl.result.0 in
-    let sl = c.class_of_block-fl.result.1 in
+    let fl = c.in-Some.fl in
+    let sl = c.in-Some.sl in
     let (r, free, place, len, room) = c.requires.room in
-    let at = IsClassAt-told c.requires.parameters room.block c.args.len fl sl len c.class_of_block-fl.ensures in
+    let at = IsClassAt-told c.requires.parameters room.block c.args.len fl sl len c.in-Some.ensures in
     let counts = c.head-newest.ensures.counts in
     let kept = IsRoom-counted c.args.memory.now c.head-newest.new.memory counts.start counts.bytes room in
     let list = IsFreeList-of_class_from kept.list fl sl at.row at.place c.head-newest.result c.head-newest.ensures.value in
@@ -26,7 +26,7 @@ link_front-requires g c =
 pub put-requires : goal.put-requires
 put-requires g c =
     let (r, free, place, len, room) = c.requires.room in
-    let at = IsClassAt-told c.requires.parameters room.block c.args.len c.class_of_block-fl.result.0 c.class_of_block-fl.result.1 len c.class_of_block-fl.ensures in
+    let at = IsClassAt-told c.requires.parameters room.block c.args.len c.in-Some.fl c.in-Some.sl len c.in-Some.ensures in
     (search rules, (c.requires.parameters, (at.row, at.place)))
 
 pub returns-clause-step : goal.returns-clause-step
@@ -34,9 +34,9 @@ returns-clause-step g c r free place len room =
     let m = c.args.memory.now in
     let n = c.head-newest.new.memory in
     let o = c.link_front.new.memory in
-    let fl = c.class_of_block-fl.result.0 in
-    let sl = c.class_of_block-fl.result.1 in
-    let at = IsClassAt-told c.requires.parameters room.block c.args.len fl sl len c.class_of_block-fl.ensures in
+    let fl = c.in-Some.fl in
+    let sl = c.in-Some.sl in
+    let at = IsClassAt-told c.requires.parameters room.block c.args.len fl sl len c.in-Some.ensures in
     let read = c.head-newest.ensures.counts in
     let kept = IsRoom-counted m n read.start read.bytes room in
     let list = IsFreeList-of_class_from kept.list fl sl at.row at.place c.head-newest.result c.head-newest.ensures.value in
