@@ -1,0 +1,3 @@
+mod Pools
+mod Standing
+mod Validity

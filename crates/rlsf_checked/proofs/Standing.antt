@@ -1,0 +1,154 @@
+-- What is true of a checked allocator's fields over the steps.
+use Rattle.std.proofs.Common.{◌≡◌, ◌≢◌, ℕ, zero, suc, ◌+◌, ◌-◌, ◌*◌, ◌/◌, ◌%◌, ◌^◌, ◌<◌, ◌≤◌, Option, None, Some, arith, refl, sym, ◌∙◌, ap, subst, inl, inr}
+use Rattle.std.proofs.lemmas.Bool.{cases_eq, cases_lt}
+use Rattle.std.proofs.lemmas.Nat.{pow_pos, pow-add}
+use Rattle.std.proofs.Math.Nat.{div-add-mod', mod-eq_of_lt}
+use Rattle.std.specs.Int.{next_multiple_of}
+use Rattle.rlsf_base.specs.declared.memory.range.Range.{Range}
+use Rattle.rlsf_base.specs.PowerOfTwo.{IsPowerOfTwo, floor_log2}
+use Rattle.rlsf_base.specs.Range.{end_of}
+use Rattle.rlsf_base.specs.Space.{SamePlace, range_of}
+use Rattle.rlsf_base.proofs.Numbers.PowersOfTwo.{pow-between}
+use Rattle.rlsf_base.proofs.Numbers.Roundings.{next_multiple_of-multiple}
+use Rattle.rlsf_blocks.specs.Blocks.{walked}
+use Rattle.rlsf_machine.specs.Callers.{align_at}
+use Rattle.rlsf_machine.specs.Lists.{IsIn}
+use Rattle.rlsf_machine.specs.Payload.{payload_of}
+use Rattle.rlsf_machine.specs.State.{State, usable}
+use Rattle.rlsf_machine.proofs.CallerWords.{align_at-live}
+use Rattle.rlsf_machine.proofs.ChunkRows.{IsRow-same}
+use Rattle.rlsf_machine.proofs.Live.{payload_lies_in_one_chunk}
+use Rattle.rlsf_machine.proofs.Payloads.{IsUsed-after_start, IsUsed-aligned}
+use Rattle.rlsf_tlsf.specs.Allocator.{Allocator, Stands, Steps}
+use Rattle.rlsf_checked.specs.declared.marks.Marks.{Marks}
+use Rattle.rlsf_checked.specs.Steps.Marks.{HasMark, mark_at, mark_of}
+use Rattle.rlsf_checked.specs.Steps.Standing.{IsChecked}
+
+-- the allocator after a step stands
+pub stands_after : (fllen sllen : ℕ) (v w : Allocator) (step : State → Type 0) → Steps fllen sllen v w step → Stands fllen sllen w
+unfolding Steps
+stands_after fllen sllen v w step did = did.1
+
+-- and the machine made the step
+pub step_of : (fllen sllen : ℕ) (v w : Allocator) (step : State → Type 0) → Steps fllen sllen v w step → step w.state
+unfolding Steps
+step_of fllen sllen v w step did = did.0
+
+-- ---- where payloads live
+
+-- an address whose payload has an alignment is a multiple of 16 in the memory, and the alignment has one of 64 logarithms
+pub record IsPlace (v : Allocator) (addr align : ℕ) : Type 0 where
+  pub even : addr % 16 ≡ 0
+  pub low : v.memory.start ≤ addr
+  pub high : addr ≤ end_of (range_of v.memory)
+  pub power : IsPowerOfTwo align
+  pub short : floor_log2 align < 64
+
+-- the payload of a block lies at a multiple of 16
+even_payload : (k b : ℕ) → b % 32 ≡ 0 → payload_of b (2 ^ k) % 16 ≡ 0
+even_payload zero b whole = omega arith
+even_payload (suc zero) b whole = omega arith
+even_payload (suc (suc zero)) b whole = omega arith
+even_payload (suc (suc (suc zero))) b whole = omega arith
+even_payload (suc (suc (suc (suc k)))) b whole =
+    let n = 2 ^ (4 + k) in
+    let exponent : suc (suc (suc (suc k))) ≡ 4 + k = omega arith in
+    let p = next_multiple_of (b + 16) n in
+    let times : n ≡ 16 * 2 ^ k = pow-add 2 4 k in
+    let some : 0 < n = pow_pos (4 + k) in
+    let product : p / n * n ≡ p / n * (16 * 2 ^ k) = ap (λ m. p / n * m) times in
+    let multiple : p ≡ 16 * (p / n * 2 ^ k) = omega (arith, div-add-mod' p n, next_multiple_of-multiple (b + 16) n some) in
+    subst (λ e. payload_of b (2 ^ e) % 16 ≡ 0) (sym exponent) (omega (arith, multiple))
+
+-- a multiple of a number that isn't 0 is at least that number
+divisor-le : (n m : ℕ) → 0 < n → n % m ≡ 0 → m ≤ n
+divisor-le n zero some whole = omega arith
+divisor-le n (suc m) some whole = elim (cases_lt n (suc m)) [
+  | inl short ↦ absurd (omega (arith, mod-eq_of_lt short))
+  | inr enough ↦ enough
+]
+
+pub live_place : (fllen sllen : ℕ) (v : Allocator) → Stands fllen sllen v → (addr align : ℕ) → align_at v.state addr ≡ Some align → IsPlace v addr align
+unfolding Stands
+live_place fllen sllen v stands addr align is =
+    let w = stands.well_formed in
+    let (u, held, aligned) = align_at-live v.state addr align is in
+    let used = w.used u held.0 in
+    let (c, i, from, to, _) = payload_lies_in_one_chunk fllen sllen (range_of v.memory) v.state u w held.0 in
+    let chunk = w.chunks c i in
+    let (low, high) = chunk.lies_in in
+    let at : u.payload ≡ addr = held.1 in
+    let behind : u.block.start + 16 ≤ u.payload = IsUsed-after_start u used in
+    let within = used.within in
+    let below : addr ≤ end_of (range_of v.memory) = omega arith in
+    let few : u.align ≤ u.payload = divisor-le u.payload u.align (omega arith) (IsUsed-aligned u used) in
+    let power : IsPowerOfTwo align = subst IsPowerOfTwo aligned used.power in
+    let small : 2 ^ floor_log2 align < 2 ^ 64 = omega (arith, power, few, aligned, w.addressable, below, at) in
+    let k = floor_log2 u.align in
+    let rounded : u.payload ≡ payload_of u.block.start (2 ^ k) = used.placed ∙ ap (payload_of u.block.start) used.power in
+    record {
+      even = omega (arith, at, rounded, even_payload k u.block.start used.whole.start);
+      low = omega (arith, low, from, at);
+      high = below;
+      power = power;
+      short = log-lt (floor_log2 align) small;
+    }
+  where
+    log-lt : (k : ℕ) → 2 ^ k < 2 ^ 64 → k < 64
+    log-lt k small = let most = pow-between (2 ^ 64 - 1) k 63 (omega arith) (omega arith) in omega arith
+
+-- ---- marks
+
+module _ {fllen sllen : ℕ} {v : Allocator} {m : Marks} {pool : Range} (is : IsChecked fllen sllen v m pool) where
+  -- no payload lives where there is no mark
+  pub unmarked : (addr : ℕ) → mark_at m addr ≡ 0 → align_at v.state addr ≡ None
+  unmarked addr none = go (align_at v.state addr) (sym (is.marked addr) ∙ none)
+    where
+      go : (o : Option ℕ) → mark_of o ≡ 0 → o ≡ None
+      go None e = refl
+      go (Some align) e = absurd (omega (arith, e))
+
+  -- and a mark tells the alignment of one
+  pub marked_as : (addr : ℕ) → (mark_at m addr ≡ 0 → ⊥) → (align_at v.state addr ≡ Some (2 ^ (mark_at m addr - 1))) × (1 ≤ mark_at m addr) × (mark_at m addr ≤ 64)
+  marked_as addr some = go (align_at v.state addr) refl
+    where
+      go : (o : Option ℕ) → align_at v.state addr ≡ o → (align_at v.state addr ≡ Some (2 ^ (mark_at m addr - 1))) × (1 ≤ mark_at m addr) × (mark_at m addr ≤ 64)
+      go None e = absurd (some (is.marked addr ∙ ap mark_of e))
+      go (Some align) e =
+          let place = live_place fllen sllen v is.stands addr align e in
+          let mark : mark_at m addr ≡ suc (floor_log2 align) = is.marked addr ∙ ap mark_of e in
+          let less : mark_at m addr - 1 ≡ floor_log2 align = omega (arith, mark) in
+          let power : align ≡ 2 ^ (mark_at m addr - 1) = place.power ∙ ap (λ k. 2 ^ k) (sym less) in
+          (e ∙ ap Some power, omega (arith, mark), omega (arith, mark, place.short))
+
+  -- a live address has a mark
+  pub has_mark : (w : Allocator) → Stands fllen sllen w → SamePlace v.memory w.memory → (addr align : ℕ) → align_at w.state addr ≡ Some align → HasMark m addr
+  has_mark w stands place addr align live =
+      let there = live_place fllen sllen w stands addr align live in
+      is.covers addr there.even (omega (arith, there.low, place.0)) (omega (arith, there.high, place.0, place.1))
+
+  -- a step that keeps place and chunks, with the marks of the payloads after it
+  pub kept : (w : Allocator) (n : Marks) → Stands fllen sllen w → SamePlace v.memory w.memory → w.state.chunks ≡ v.state.chunks → ((a : ℕ) → HasMark m a → HasMark n a)
+      → ((a : ℕ) → mark_at n a ≡ mark_of (align_at w.state a)) → IsChecked fllen sllen w n pool
+  kept w n stands place chunks places marked = record {
+    stands = stands;
+    marked = marked;
+    covers = λ a even low high. places a (is.covers a even (omega (arith, place.0, low)) (omega (arith, place.0, place.1, high)));
+    low = omega (arith, is.low, place.0);
+    high = omega (arith, is.high, place.0, place.1);
+    below = λ c i. is.below c (subst (IsIn c) chunks i);
+    row = IsRow-same v.state w.state (walked pool) chunks is.row;
+  }
+
+  -- one mark was set, as the payload at its address tells, and no other payload changed its alignment
+  pub marked_at : (w : Allocator) (n : Marks) (addr : ℕ) → Stands fllen sllen w → SamePlace v.memory w.memory → w.state.chunks ≡ v.state.chunks → ((a : ℕ) → HasMark m a → HasMark n a)
+      → mark_at n addr ≡ mark_of (align_at w.state addr) → ((a : ℕ) → a ≢ addr → mark_at n a ≡ mark_at m a) → ((a : ℕ) → a ≢ addr → align_at w.state a ≡ align_at v.state a)
+      → IsChecked fllen sllen w n pool
+  marked_at w n addr stands place chunks places here marks aligns = kept w n stands place chunks places (λ a. elim (cases_eq a addr) [
+    | inl same ↦ ap (mark_at n) same ∙ here ∙ ap (λ x. mark_of (align_at w.state x)) (sym same)
+    | inr apart ↦ marks a apart ∙ is.marked a ∙ ap mark_of (sym (aligns a apart))
+  ])
+
+  -- no mark was set, and no payload changed its alignment
+  pub unchanged : (w : Allocator) → Stands fllen sllen w → SamePlace v.memory w.memory → w.state.chunks ≡ v.state.chunks → align_at w.state ≡ align_at v.state → IsChecked fllen sllen w m pool
+  unchanged w stands place chunks aligns = kept w m stands place chunks (λ a has. has) (λ a. is.marked a ∙ ap (λ f. mark_of (f a)) (sym aligns))

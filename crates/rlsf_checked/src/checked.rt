@@ -1,0 +1,272 @@
+//! The allocator with a mark for each address at which a payload may live.
+
+ghost use Rattle.std.specs.Prelude.{◌≡◌, ◌≢◌, ◌≤◌, ◌<◌, ◌+◌, ◌*◌, ℕ, length, drop, take, nat_le, IfErr, IfOk, IsErrOf, None, OnErr, OnOk, Some, ◌↔◌};
+ghost use Rattle.std.specs.List.{splice};
+ghost use Rattle.rlsf_base.specs.Addr.{at};
+ghost use Rattle.rlsf_base.specs.Range.{range_at};
+ghost use Rattle.rlsf_base.specs.SizeClass.{IsValid};
+ghost use Rattle.rlsf_base.specs.Sizes.{max_pool_size};
+ghost use Rattle.rlsf_base.specs.Space.{range_of, SamePlace};
+ghost use Rattle.rlsf_machine.specs.Allocate.{Allocates};
+ghost use Rattle.rlsf_machine.specs.Callers.{align_at, bytes_at};
+ghost use Rattle.rlsf_machine.specs.Insert.{Inserts, aligned_part, cut};
+ghost use Rattle.rlsf_machine.specs.Release.{Deallocates};
+ghost use Rattle.rlsf_machine.specs.Run.{Fills};
+ghost use Rattle.rlsf_machine.specs.State.{empty};
+ghost use Rattle.rlsf_tlsf.specs.Allocator.{Steps, Stands};
+ghost use Rattle.rlsf_checked.specs.Answers.{fits, if_fits, if_live, insert_answer, is_within, placed, taken};
+ghost use Rattle.rlsf_checked.specs.declared.error.CheckedError.TheVariants.{InvalidClasses, NoRoom, OutOfMemory, UnknownAddress};
+
+use crate::classes::are_valid;
+use crate::error::CheckedError;
+use crate::marks::{Marks, align_of, mark_of};
+use rlsf_base::memory::{Addr, Layout, Memory, Range};
+use rlsf_int::{BitPattern, Bitmap};
+use rlsf_tlsf::Tlsf;
+use std::alloc::Global;
+use std::marker::Model;
+
+/// An allocator whose calls have no condition: each tests what its caller may not do, and refuses it.
+///
+/// A byte for each 16 addresses of the memory tells whether a payload lives there, and with which alignment. Each call reads one of
+/// them and writes two at most. After `new` nothing is asked of the system.
+#[derive(Drop)]
+pub struct CheckedTlsf<
+    FLBitmap: BitPattern,
+    SLBitmap: BitPattern,
+    const FLLEN: usize,
+    const SLLEN: usize,
+> {
+    heap: Tlsf<FLBitmap, SLBitmap, FLLEN, SLLEN>,
+    marks: Marks,
+    // What was handed in last, up to the end of its last chunk.
+    pool: Range,
+}
+
+impl<FLBitmap: BitPattern, SLBitmap: BitPattern, const FLLEN: usize, const SLLEN: usize> Model
+    for CheckedTlsf<FLBitmap, SLBitmap, FLLEN, SLLEN> {
+    ghost use Rattle.rlsf_checked.specs.Checked.{Checked, checked};
+    ghost use Rattle.rlsf_checked.specs.Steps.Standing.{IsChecked};
+
+    ghost Value = { Checked };
+
+    ghost view = { λ t. checked t.heap t.pool };
+
+    ghost invariant = { λ t. IsChecked FLLEN SLLEN t.heap t.marks t.pool };
+}
+
+impl<FLBitmap: Bitmap, SLBitmap: Bitmap, const FLLEN: usize, const SLLEN: usize> CheckedTlsf<
+    FLBitmap,
+    SLBitmap,
+    FLLEN,
+    SLLEN,
+> {
+    /// An allocator over the memory, without a pool, and with the marks of the memory, for which the system is asked: a byte for each
+    /// 16 addresses.
+    ///
+    /// `InvalidClasses` exactly where the parameters aren't valid: there are from 1 to `FLBitmap`'s bits rows, of a power of two of
+    /// classes that is at most `SLBitmap`'s bits. Else `OutOfMemory` where the system refuses. Then the memory is dropped.
+    pub fn new(alloc: Global, memory: Memory) -> Result<Self, CheckedError>
+        ensures invalid { IsErrOf result InvalidClasses ↔ (IsValid FLBitmap.width SLBitmap.width FLLEN SLLEN → ⊥) }
+        ensures refused { IfErr result (λ e. e ≢ InvalidClasses → e ≡ OutOfMemory) }
+        ensures state { IfOk result (λ t. t.heap.state ≡ empty) }
+        ensures memory { IfOk result (λ t. t.heap.memory ≡ memory) }
+        ensures pool { IfOk result (λ t. t.pool ≡ range_at memory.start 0) }
+        ensures stands { IfOk result (λ t. Stands FLLEN SLLEN t.heap) }
+    {
+        if !are_valid::<FLBitmap, SLBitmap, FLLEN, SLLEN>() {
+            return Err(CheckedError::InvalidClasses);
+        }
+        let Some(marks) = Marks::new(alloc, &memory) else {
+            return Err(CheckedError::OutOfMemory);
+        };
+        let pool = Range {
+            start: memory.start(),
+            len: 0,
+        };
+        Ok(CheckedTlsf {
+            heap: Tlsf::new(memory),
+            marks,
+            pool,
+        })
+    }
+
+    /// The memory, to read.
+    pub fn memory_ref(&self) -> &Memory
+        ensures memory { result.now ≡ self.now.heap.memory }
+        ensures stands { Stands FLLEN SLLEN self.now.heap }
+    {
+        self.heap.memory_ref()
+    }
+
+    /// The alignment of the payload at an address, or `None` where none lives.
+    fn alignment(&self, addr: Addr) -> Option<usize>
+        ensures { result ≡ align_at self.now.heap.state (at addr) }
+    {
+        let mark = self.marks.get(addr.get());
+        if mark == 0 {
+            return None;
+        }
+        Some(align_of(mark))
+    }
+
+    /// Hands a range of the memory in. Its aligned part becomes chunks, which are free; no chunk is made of fewer than 64 bytes.
+    /// Answers the bytes from the range's start up to the last chunk's end.
+    ///
+    /// `OutsideMemory` exactly where the range doesn't lie in the memory, else `NotBehind` exactly where it begins before the end of what
+    /// was handed in last, else `TooShort` exactly where no chunk is made of it. Then nothing changes.
+    pub fn insert(&mut self, range: Range) -> Result<usize, CheckedError>
+        ensures answer { result ≡ insert_answer FLLEN self.old range }
+        ensures step { OnOk result (Steps FLLEN SLLEN self.old.heap self.new.heap (Inserts FLLEN self.old.heap.state range (taken result))) }
+        ensures pool { IfOk result (λ n. self.new.pool ≡ range_at range.start n) }
+        ensures same { OnErr result ((self.new.heap.state ≡ self.old.heap.state) × (self.new.pool ≡ self.old.pool)) }
+        ensures refused { OnErr result (self.new.heap.memory.bytes ≡ self.old.heap.memory.bytes) }
+        ensures aligns { align_at self.new.heap.state ≡ align_at self.old.heap.state }
+        ensures bytes { bytes_at self.new.heap.state ≡ bytes_at self.old.heap.state }
+        ensures place { SamePlace self.old.heap.memory self.new.heap.memory }
+        ensures touches { self.new.heap.memory.touches ≤ self.old.heap.memory.touches + 13 * length (cut (max_pool_size FLLEN) (aligned_part range)) }
+        ensures copied { self.new.heap.memory.copied ≡ self.old.heap.memory.copied }
+    {
+        if !lies_in(self.heap.memory_ref(), range) {
+            return Err(CheckedError::OutsideMemory);
+        }
+        if range.start < self.pool.start + self.pool.len {
+            return Err(CheckedError::NotBehind);
+        }
+        let Some(taken) = self.heap.insert_free_block_ptr(range) else {
+            return Err(CheckedError::TooShort);
+        };
+        self.pool = Range {
+            start: range.start,
+            len: taken.get(),
+        };
+        Ok(taken.get())
+    }
+
+    /// Allocates a payload for a layout. Answers its address, a multiple of the alignment. `NoRoom` exactly where no free block's class
+    /// reaches the size that is sought. Then nothing changes.
+    pub fn allocate(&mut self, layout: Layout) -> Result<Addr, CheckedError>
+        ensures refused { IfErr result (λ e. e ≡ NoRoom) }
+        ensures step { Steps FLLEN SLLEN self.old.heap self.new.heap (Allocates SLLEN self.old.heap.state layout.size layout.align (placed result)) }
+        ensures live { IfOk result (λ addr. align_at self.new.heap.state (at addr) ≡ Some layout.align) }
+        ensures sized { IfOk result (λ addr. layout.size ≤ length (bytes_at self.new.heap.state (at addr))) }
+        ensures few { IfOk result (λ addr. length (bytes_at self.new.heap.state (at addr)) < layout.size + 32) }
+        ensures new { IfOk result (λ addr. align_at self.old.heap.state (at addr) ≡ None) }
+        ensures aligns { IfOk result (λ addr. (a : ℕ) → a ≢ at addr → align_at self.new.heap.state a ≡ align_at self.old.heap.state a) }
+        ensures bytes { IfOk result (λ addr. (a : ℕ) → a ≢ at addr → bytes_at self.new.heap.state a ≡ bytes_at self.old.heap.state a) }
+        ensures same { OnErr result (self.new.heap.state ≡ self.old.heap.state) }
+        ensures same_bytes { OnErr result (self.new.heap.memory.bytes ≡ self.old.heap.memory.bytes) }
+        ensures pool { self.new.pool ≡ self.old.pool }
+        ensures place { SamePlace self.old.heap.memory self.new.heap.memory }
+        ensures touches { self.new.heap.memory.touches ≤ self.old.heap.memory.touches + 27 }
+        ensures copied { self.new.heap.memory.copied ≡ self.old.heap.memory.copied }
+    {
+        let Some(addr) = self.heap.allocate(layout) else {
+            return Err(CheckedError::NoRoom);
+        };
+        self.marks.set(addr.get(), mark_of(layout.align()));
+        Ok(addr)
+    }
+
+    /// Gives a payload back. `UnknownAddress` exactly where none lives at the address. Then nothing changes.
+    ///
+    /// An address that was given back and handed out again is live, so a call with it can't be refused.
+    pub fn deallocate(&mut self, addr: Addr) -> Result<(), CheckedError>
+        ensures answer { result ≡ if_live (align_at self.old.heap.state (at addr)) tt }
+        ensures step { OnOk result (Steps FLLEN SLLEN self.old.heap self.new.heap (Deallocates self.old.heap.state (at addr))) }
+        ensures gone { align_at self.new.heap.state (at addr) ≡ None }
+        ensures aligns { (a : ℕ) → a ≢ at addr → align_at self.new.heap.state a ≡ align_at self.old.heap.state a }
+        ensures bytes { (a : ℕ) → a ≢ at addr → bytes_at self.new.heap.state a ≡ bytes_at self.old.heap.state a }
+        ensures same { OnErr result (self.new ≡ self.old) }
+        ensures pool { self.new.pool ≡ self.old.pool }
+        ensures place { SamePlace self.old.heap.memory self.new.heap.memory }
+        ensures touches { self.new.heap.memory.touches ≤ self.old.heap.memory.touches + 32 }
+        ensures copied { self.new.heap.memory.copied ≡ self.old.heap.memory.copied }
+    {
+        let Some(align) = self.alignment(addr) else {
+            return Err(CheckedError::UnknownAddress);
+        };
+        self.heap.deallocate(addr, align);
+        self.marks.set(addr.get(), 0);
+        Ok(())
+    }
+
+    /// How many bytes the caller of a payload may use: those that were asked for, and less than 32 more. `UnknownAddress` exactly where
+    /// none lives at the address.
+    pub fn usable_size(&self, addr: Addr) -> Result<usize, CheckedError>
+        ensures { result ≡ if_live (align_at self.now.heap.state (at addr)) (length (bytes_at self.now.heap.state (at addr))) }
+    {
+        let Some(_) = self.alignment(addr) else {
+            return Err(CheckedError::UnknownAddress);
+        };
+        Ok(self.heap.allocation_usable_size(addr))
+    }
+
+    /// Reads the bytes of a payload from an offset on, as many as `bytes` has. `UnknownAddress` exactly where none lives at the address,
+    /// else `OutOfRange` exactly where the bytes go past the usable ones. Then `bytes` stays.
+    pub fn read(&self, addr: Addr, offset: usize, bytes: &mut [u8]) -> Result<(), CheckedError>
+        ensures answer { result ≡ if_fits (align_at self.now.heap.state (at addr)) (fits offset (length bytes.old) (bytes_at self.now.heap.state (at addr))) }
+        ensures read { OnOk result (bytes.new ≡ take (length bytes.old) (drop offset (bytes_at self.now.heap.state (at addr)))) }
+        ensures refused { OnErr result (bytes.new ≡ bytes.old) }
+    {
+        let Some(_) = self.alignment(addr) else {
+            return Err(CheckedError::UnknownAddress);
+        };
+        let payload = self.heap.payload(addr);
+        if !reaches(offset, bytes.len(), payload.len()) {
+            return Err(CheckedError::OutOfRange);
+        }
+        bytes.copy_from_slice(&payload[offset..offset + bytes.len()]);
+        Ok(())
+    }
+
+    /// Writes bytes over those of a payload from an offset on. Its other bytes stay, and so does all else. `UnknownAddress` exactly
+    /// where none lives at the address, else `OutOfRange` exactly where the bytes go past the usable ones. Then nothing changes.
+    pub fn write(&mut self, addr: Addr, offset: usize, bytes: &[u8]) -> Result<(), CheckedError>
+        ensures answer { result ≡ if_fits (align_at self.old.heap.state (at addr)) (fits offset (length bytes.now) (bytes_at self.old.heap.state (at addr))) }
+        ensures step { OnOk result (Steps FLLEN SLLEN self.old.heap self.new.heap (Fills self.old.heap.state (at addr)
+            (splice (bytes_at self.old.heap.state (at addr)) offset (offset + length bytes.now) bytes.now))) }
+        ensures written { OnOk result (bytes_at self.new.heap.state (at addr)
+            ≡ splice (bytes_at self.old.heap.state (at addr)) offset (offset + length bytes.now) bytes.now) }
+        ensures aligns { align_at self.new.heap.state ≡ align_at self.old.heap.state }
+        ensures bytes { (a : ℕ) → a ≢ at addr → bytes_at self.new.heap.state a ≡ bytes_at self.old.heap.state a }
+        ensures same { OnErr result (self.new ≡ self.old) }
+        ensures pool { self.new.pool ≡ self.old.pool }
+        ensures place { SamePlace self.old.heap.memory self.new.heap.memory }
+        ensures touches { self.new.heap.memory.touches ≤ self.old.heap.memory.touches + 3 }
+        ensures copied { self.new.heap.memory.copied ≡ self.old.heap.memory.copied }
+    {
+        let Some(_) = self.alignment(addr) else {
+            return Err(CheckedError::UnknownAddress);
+        };
+        if !reaches(offset, bytes.len(), self.heap.allocation_usable_size(addr)) {
+            return Err(CheckedError::OutOfRange);
+        }
+        write_at(self.heap.payload_mut(addr), offset, bytes);
+        Ok(())
+    }
+}
+
+/// Whether a range lies in a memory.
+fn lies_in(memory: &Memory, range: Range) -> bool
+    ensures { result ≡ is_within (range_of memory.now) range }
+{
+    let end = memory.start() + memory.len();
+    memory.start() <= range.start && range.start <= end && range.len <= end - range.start
+}
+
+/// Whether `len` bytes from an offset on are among the first `usable`.
+fn reaches(offset: usize, len: usize, usable: usize) -> bool
+    ensures { result ≡ nat_le (offset + len) usable }
+{
+    offset <= usable && len <= usable - offset
+}
+
+/// Writes bytes over those of a payload, from an offset on.
+fn write_at(payload: &mut [u8], offset: usize, bytes: &[u8])
+    requires { offset + length bytes.now ≤ length payload.old }
+    ensures bytes { payload.new ≡ splice payload.old offset (offset + length bytes.now) bytes.now }
+    ensures len { length payload.new ≡ length payload.old }
+{
+    payload[offset..offset + bytes.len()].copy_from_slice(bytes);
+}

@@ -1,0 +1,10 @@
+//! An allocator that refuses what its caller may not do, in place of conditions on its calls.
+#![tactic(auto)]
+
+mod checked;
+mod classes;
+mod error;
+mod marks;
+
+pub use checked::CheckedTlsf;
+pub use error::CheckedError;
