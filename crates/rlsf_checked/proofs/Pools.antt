@@ -1,27 +1,32 @@
 -- What is true of a checked allocator's fields once a range was handed in.
-use Rattle.std.proofs.Common.{◌≡◌, ℕ, ◌+◌, ◌-◌, ◌%◌, ◌^◌, ◌<◌, ◌≤◌, Bool, true, cond, nat_le, nat_lt, List, [], ◌∷◌, length, Option, None, Some, Ok, Err, arith, refl, sym, ◌∙◌, ap, subst, inl, inr}
-use Rattle.std.proofs.lemmas.Bool.{and_parts, cases_lt, le-ltb, leb-true}
+use Rattle.std.proofs.Common.{◌≡◌, ℕ, zero, suc, ◌*◌, ◌/◌, find, ◌+◌, ◌-◌, ◌%◌, ◌^◌, ◌<◌, ◌≤◌, Bool, true, cond, nat_le, nat_lt, List, [], ◌∷◌, length, Option, None, Some, Ok, Err, arith, refl, sym, ◌∙◌, ap, subst, inl, inr}
+use Rattle.std.proofs.lemmas.Bool.{and_parts, cases_lt, eqb-true, le-ltb, leb-true, ltb-true}
 use Rattle.std.proofs.lemmas.Option.{none-some}
+use Rattle.std.specs.Prelude.{◌==◌}
 use Rattle.rlsf_base.specs.declared.memory.range.Range.{Range}
 use Rattle.rlsf_base.specs.Range.{LiesIn, end_of, range_at}
+use Rattle.rlsf_base.specs.Rounding.{round32}
 use Rattle.rlsf_base.specs.Sizes.{max_pool_size}
 use Rattle.rlsf_base.specs.Space.{SamePlace, range_of}
 use Rattle.rlsf_base.proofs.Numbers.Roundings.{round32-le}
 use Rattle.rlsf_blocks.specs.Blocks.{walked}
 use Rattle.rlsf_machine.specs.Callers.{align_at}
-use Rattle.rlsf_machine.specs.Insert.{Inserts, IsUntouched, aligned_part, bytes_taken, cut, end_of_last, with_chunks}
+use Rattle.rlsf_machine.specs.ChunkRows.{IsRow}
+use Rattle.rlsf_machine.specs.Insert.{Appends, Inserts, IsNext, IsUntouched, aligned_part, appended, appended_bytes, bytes_taken, cut, end_of_last, extended, grown_if, with_chunks}
+use Rattle.rlsf_machine.specs.Join.{ends_at}
 use Rattle.rlsf_machine.specs.Lists.{IsIn}
 use Rattle.rlsf_machine.specs.State.{State, empty}
 use Rattle.rlsf_machine.specs.WellFormed.{coverage, itself}
 use Rattle.rlsf_machine.proofs.CallerWords.{align_at-none}
-use Rattle.rlsf_machine.proofs.ChunkRows.{IsRow-inserted}
+use Rattle.rlsf_machine.proofs.ChunkRows.{IsRow-appended, IsRow-inserted}
 use Rattle.rlsf_machine.proofs.Chunks.{IsIn-with_chunks}
-use Rattle.rlsf_machine.proofs.Coverage.{coverage-IsIn, coverage-some, covers-inside, covers-some}
+use Rattle.rlsf_machine.proofs.Coverage.{IsIn-without, coverage-IsIn, coverage-some, covers-inside, covers-some, find-some}
 use Rattle.rlsf_machine.proofs.Cuts.{IsIn-cut_within, coverage-cut_last}
+use Rattle.rlsf_machine.proofs.Untouched.{IsFresh-untouched}
 use Rattle.rlsf_tlsf.specs.Allocator.{Allocator, Stands}
-use Rattle.rlsf_checked.specs.Answers.{if_taken, insert_answer, is_within}
+use Rattle.rlsf_checked.specs.Answers.{append_answer, if_appended, if_taken, insert_answer, is_next, is_within}
 use Rattle.rlsf_checked.specs.Checked.{Checked}
-use Rattle.rlsf_checked.specs.declared.error.CheckedError.TheVariants.{NotBehind, OutsideMemory}
+use Rattle.rlsf_checked.specs.declared.error.CheckedError.TheVariants.{NotBehind, NotNext, OutsideMemory}
 use Rattle.rlsf_checked.specs.declared.marks.Marks.{Marks}
 use Rattle.rlsf_checked.specs.Steps.Marks.{HasMark, mark_at, mark_of}
 use Rattle.rlsf_checked.specs.Steps.Standing.{IsChecked}
@@ -49,17 +54,17 @@ end_of_some : (c : Range) (cs : List Range) → (d : Range) × IsIn d (c ∷ cs)
 end_of_some c [] = (c, inl refl, refl)
 end_of_some c (d ∷ ds) = let (x, i, ends) = end_of_some d ds in (x, inr i, ends)
 
--- so that no more is taken than the range has
-taken-le : (fllen : ℕ) (r : Range) (n : ℕ) → bytes_taken r.start (cut (max_pool_size fllen) (aligned_part r)) ≡ Some n → n ≤ r.len
-taken-le fllen r n e = go (cut (max_pool_size fllen) (aligned_part r)) refl e
+-- so that no more is taken than the range has, and more than is skipped
+taken-within : (fllen : ℕ) (r : Range) (n : ℕ) → bytes_taken r.start (cut (max_pool_size fllen) (aligned_part r)) ≡ Some n → (n ≤ r.len) × (round32 r.start < r.start + n)
+taken-within fllen r n e = go (cut (max_pool_size fllen) (aligned_part r)) refl e
   where
-    go : (cs : List Range) → cut (max_pool_size fllen) (aligned_part r) ≡ cs → bytes_taken r.start cs ≡ Some n → n ≤ r.len
+    go : (cs : List Range) → cut (max_pool_size fllen) (aligned_part r) ≡ cs → bytes_taken r.start cs ≡ Some n → (n ≤ r.len) × (round32 r.start < r.start + n)
     go [] same told = absurd (none-some n told)
     go (d ∷ ds) same told =
         let (c, i, ends) = end_of_some d ds in
         let (from, to, within, some) = end_of-cut fllen (aligned_part r) c (subst (IsIn c) (sym same) i) in
         let taken : end_of_last (end_of d) ds - r.start ≡ n = cc in
-        omega (arith, round32-le r.start, from, within, some, ends)
+        (omega (arith, round32-le r.start, from, within, some, ends), omega (arith, taken, round32-le r.start, from, within, some, ends))
 
 module _ {fllen sllen : ℕ} {v : Allocator} {m : Marks} {pool : Range} (is : IsChecked fllen sllen v m pool) (r : Range) (behind : end_of pool ≤ r.start) where
   -- no chunk has a byte behind what was handed in last
@@ -78,8 +83,9 @@ module _ {fllen sllen : ℕ} {v : Allocator} {m : Marks} {pool : Range} (is : Is
       marked = λ a. is.marked a ∙ ap (λ f. mark_of (f a)) (sym aligns);
       covers = λ a even low high. is.covers a even (omega (arith, place.0, low)) (omega (arith, place.0, place.1, high));
       low = omega (arith, lies_in.0, place.0);
-      high = omega (arith, lies_in.1, place.0, place.1, taken-le fllen r n (sym step.answer));
+      high = omega (arith, lies_in.1, place.0, place.1, (taken-within fllen r n (sym step.answer)).0);
       below = below;
+      room = λ more. (taken-within fllen r n (sym step.answer)).1;
       row = IsRow-inserted fllen v.state w.state r n step;
     }
       where
@@ -103,6 +109,7 @@ made heap m stands none zeros covers = record {
   low = omega arith;
   high = omega arith;
   below = λ c i. absurd (subst (λ (s : State). IsIn c s.chunks) none i);
+  room = λ more. absurd (omega (arith, more));
   row = λ a low high. absurd (omega (arith, round32-le heap.memory.start));
 }
 
@@ -131,3 +138,128 @@ pub behind_answer : (fllen : ℕ) (v : Checked) (r : Range) → true ≡ is_with
 behind_answer fllen v r within behind =
     let told = if_taken (bytes_taken r.start (cut (max_pool_size fllen) (aligned_part r))) in
     ap (λ t. cond t (cond (nat_lt r.start (end_of v.pool)) (Err NotBehind) told) (Err OutsideMemory)) (sym within) ∙ ap (λ t. cond t (Err NotBehind) told) (le-ltb r.start (end_of v.pool) behind)
+
+-- ---- a range behind what was handed in last
+
+-- what was handed in last ends with a chunk
+pub last_chunk : {fllen sllen : ℕ} {v : Allocator} {m : Marks} {pool : Range} → IsChecked fllen sllen v m pool → 0 < pool.len → (c : Range) × IsIn c v.state.chunks × (end_of c ≡ end_of pool)
+last_chunk {pool = pool} is some =
+    let room = is.room some in
+    let (c, i, from, low, high, to) = is.row (end_of pool - 1) (omega (arith, room)) (omega (arith, room)) in
+    (c, i, omega (arith, room, high, to))
+
+-- the chunks of a range that begins where a chunk ends don't end behind what is appended of it
+appended-below : (fllen : ℕ) (s : State) (r : Range) → r.start % 32 ≡ 0 → (n : ℕ) → n ≡ appended_bytes (max_pool_size fllen) r → ((c : Range) → IsIn c s.chunks → end_of c ≤ r.start)
+    → (c : Range) → IsIn c (appended (max_pool_size fllen) r s).chunks → end_of c ≤ r.start + n
+appended-below fllen s r whole n told below = go (max_pool_size fllen) refl told
+  where
+    grown-below : (k : ℕ) (o : Option Range) → find (ends_at r.start) s.chunks ≡ o → (c : Range) → IsIn c (grown_if o k s).chunks → end_of c ≤ r.start + k
+    grown-below k None found c i = omega (arith, below c i)
+    grown-below k (Some d) found c (inl same) =
+        let ends : end_of d ≡ r.start = eqb-true (end_of d) r.start (find-some (ends_at r.start) d s.chunks found).1 in
+        let long : end_of c ≡ d.start + (d.len + k) = ap end_of same in
+        omega (arith, ends, long)
+    grown-below k (Some d) found c (inr j) = omega (arith, below c (IsIn-without (ends_at (end_of d)) c s.chunks j))
+
+    extended-below : (k : ℕ) → (c : Range) → IsIn c (extended r.start k s).chunks → end_of c ≤ r.start + k
+    extended-below zero c i = omega (arith, below c i)
+    extended-below (suc k) c i = grown-below (suc k) (find (ends_at r.start) s.chunks) refl c i
+
+    go : (o : Option ℕ) → max_pool_size fllen ≡ o → n ≡ appended_bytes o r → (c : Range) → IsIn c (appended o r s).chunks → end_of c ≤ r.start + n
+    go None same e c i = omega (arith, extended-below (r.len / 32 * 32) c i, e)
+    go (Some most) same e c i =
+        let cs = cut (Some most) (aligned_part r) in
+        let at : (aligned_part r).start ≡ r.start = omega (arith, whole) in
+        elim (IsIn-with_chunks c cs s i) [
+          | inl made ↦
+              let (from, to, within, some) = end_of-cut fllen (aligned_part r) c (subst (λ o. IsIn c (cut o (aligned_part r))) (sym same) made) in
+              let last : end_of_last (aligned_part r).start (cut (max_pool_size fllen) (aligned_part r)) ≡ end_of_last r.start cs =
+              ap (λ o. end_of_last (aligned_part r).start (cut o (aligned_part r))) same ∙ ap (λ a. end_of_last a cs) at in
+              omega (arith, to, last, e)
+          | inr old ↦ omega (arith, below c old)
+        ]
+
+-- no more is taken than the range has, and where nothing is, nothing changes
+appended-le : (fllen : ℕ) (s : State) (r : Range) → (appended_bytes (max_pool_size fllen) r ≤ r.len) × ((t : State) → Appends fllen s r 0 t → t ≡ s)
+appended-le fllen s r = go (max_pool_size fllen) refl
+  where
+    cut-le : (most : ℕ) → max_pool_size fllen ≡ Some most → (cs : List Range) → cut (Some most) (aligned_part r) ≡ cs
+        → (end_of_last r.start cs - r.start ≤ r.len) × (0 ≡ end_of_last r.start cs - r.start → (t : State) → t ≡ with_chunks cs s → t ≡ s)
+    cut-le most same [] is = (omega arith, λ none t e. e)
+    cut-le most same (d ∷ ds) is =
+        let (c, i, ends) = end_of_some d ds in
+        let made = subst (λ o. IsIn c (cut o (aligned_part r))) (sym same) (subst (IsIn c) (sym is) i) in
+        let (from, to, within, some) = end_of-cut fllen (aligned_part r) c made in
+        (omega (arith, round32-le r.start, from, within, some, ends), λ none t e. absurd (omega (arith, none, ends, from, some, round32-le r.start)))
+
+    go : (o : Option ℕ) → max_pool_size fllen ≡ o → (appended_bytes o r ≤ r.len) × ((t : State) → Appends fllen s r 0 t → t ≡ s)
+    go None same = (
+      omega arith,
+      λ t step.
+          let none : 0 ≡ r.len / 32 * 32 = step.answer ∙ ap (λ o. appended_bytes o r) same in
+          step.after ∙ ap (λ o. appended o r s) same ∙ ap (λ n. extended r.start n s) (sym none),
+    )
+    go (Some most) same =
+        let (few, stays) = cut-le most same (cut (Some most) (aligned_part r)) refl in
+        (few, λ t step. stays (step.answer ∙ ap (λ o. appended_bytes o r) same) t (step.after ∙ ap (λ o. appended o r s) same))
+
+-- where nothing is taken, nothing changes
+pub none_appended : (fllen : ℕ) (s t : State) (r : Range) → Appends fllen s r 0 t → t ≡ s
+none_appended fllen s t r step = (appended-le fllen s r).1 t step
+
+module _ {fllen sllen : ℕ} {v : Allocator} {m : Marks} {pool : Range} (is : IsChecked fllen sllen v m pool) (r : Range) (some : 0 < pool.len) (next : r.start ≡ end_of pool) (lies_in : LiesIn r v.memory.start (length v.memory.bytes)) where
+  pub next_range : IsNext (range_of v.memory) v.state r
+  next_range =
+      let (c, i, ends) = last_chunk is some in
+      record { fresh = IsFresh-untouched (range_of v.memory) v.state r lies_in (untouched is r (omega (arith, next))); chunk = c; is_chunk = i; ends = ends ∙ sym next }
+
+  whole_start : r.start % 32 ≡ 0
+  unfolding Stands
+  whole_start =
+      let (c, i, ends) = last_chunk is some in
+      let whole = (is.stands.well_formed.chunks c i).whole in
+      omega (arith, whole.start, whole.len, ends, next)
+
+  longer_row : (w : Allocator) (n : ℕ) → Appends fllen v.state r n w.state → IsRow w.state (walked (range_at pool.start (pool.len + n)))
+  unfolding Stands
+  longer_row w n step =
+      let room = is.room some in
+      let p = walked pool in
+      let ends : end_of p ≡ r.start = omega (arith, room, next) in
+      let long : p.len + n ≡ pool.start + (pool.len + n) - p.start = omega (arith, room) in
+      subst (λ l. IsRow w.state (range_at p.start l)) long (IsRow-appended is.stands.well_formed r p ends (omega (arith, room)) is.row n w.state step)
+
+  -- what was handed in last is longer by what was taken
+  pub handed_on : (w : Allocator) → Stands fllen sllen w → SamePlace v.memory w.memory → align_at w.state ≡ align_at v.state → (n : ℕ) → Appends fllen v.state r n w.state
+      → IsChecked fllen sllen w m (range_at pool.start (pool.len + n))
+  handed_on w stands place aligns n step = record {
+    stands = stands;
+    marked = λ a. is.marked a ∙ ap (λ f. mark_of (f a)) (sym aligns);
+    covers = λ a even low high. is.covers a even (omega (arith, place.0, low)) (omega (arith, place.0, place.1, high));
+    low = omega (arith, is.low, place.0);
+    high = omega (arith, lies_in.1, place.0, place.1, next, step.answer, (appended-le fllen v.state r).0);
+    below = λ c i. omega (
+      arith,
+      next,
+      appended-below fllen v.state r whole_start n step.answer (λ d j. omega (arith, is.below d j, next)) c (subst (λ (s : State). IsIn c s.chunks) step.after i),
+    );
+    room = λ more. omega (arith, is.room some);
+    row = longer_row w n step;
+  }
+
+-- what is answered of a range in the memory that begins where what was handed in last ends
+pub next_answer : (fllen : ℕ) (v : Checked) (r : Range) → true ≡ is_within (range_of v.heap.memory) r → true ≡ is_next v.pool r.start → append_answer fllen v r ≡ if_appended (appended_bytes (max_pool_size fllen) r)
+next_answer fllen v r within next =
+    let told = if_appended (appended_bytes (max_pool_size fllen) r) in
+    ap (λ t. cond t (cond (is_next v.pool r.start) told (Err NotNext)) (Err OutsideMemory)) (sym within) ∙ ap (λ t. cond t told (Err NotNext)) (sym next)
+
+-- a range that is found to be next begins where a chunk ends
+pub next_is : (pool r : Range) → true ≡ is_next pool r.start → (0 < pool.len) × (r.start ≡ end_of pool)
+next_is pool r e =
+    let (some, ends) = and_parts (nat_lt 0 pool.len) (r.start == end_of pool) (sym e) in
+    (ltb-true 0 pool.len some, eqb-true r.start (end_of pool) ends)
+
+-- what is taken is told
+pub some_appended : (n : ℕ) → (n ≡ 0 → ⊥) → if_appended n ≡ Ok n
+some_appended zero some = absurd (some refl)
+some_appended (suc n) some = refl

@@ -1,25 +1,31 @@
 -- What is true of a checked allocator's fields over the steps.
-use Rattle.std.proofs.Common.{◌≡◌, ◌≢◌, ℕ, zero, suc, ◌+◌, ◌-◌, ◌*◌, ◌/◌, ◌%◌, ◌^◌, ◌<◌, ◌≤◌, Option, None, Some, arith, refl, sym, ◌∙◌, ap, subst, inl, inr}
-use Rattle.std.proofs.lemmas.Bool.{cases_eq, cases_lt}
+use Rattle.std.proofs.Common.{◌≡◌, ◌≢◌, ℕ, zero, suc, ◌+◌, ◌-◌, ◌*◌, ◌/◌, ◌%◌, ◌^◌, ◌<◌, ◌≤◌, cond, Option, None, Some, arith, refl, sym, ◌∙◌, ap, subst, inl, inr}
+use Rattle.std.proofs.lemmas.Bool.{cases_eq, cases_lt, le-leb}
 use Rattle.std.proofs.lemmas.Nat.{pow_pos, pow-add}
 use Rattle.std.proofs.Math.Nat.{div-add-mod', mod-eq_of_lt}
 use Rattle.std.specs.Int.{next_multiple_of}
+use Rattle.rlsf_base.specs.declared.memory.layout.Layout.{Layout}
 use Rattle.rlsf_base.specs.declared.memory.range.Range.{Range}
 use Rattle.rlsf_base.specs.PowerOfTwo.{IsPowerOfTwo, floor_log2}
 use Rattle.rlsf_base.specs.Range.{end_of}
 use Rattle.rlsf_base.specs.Space.{SamePlace, range_of}
-use Rattle.rlsf_base.proofs.Numbers.PowersOfTwo.{pow-between}
+use Rattle.rlsf_base.proofs.Numbers.PowersOfTwo.{IsPowerOfTwo-pow, pow-between}
 use Rattle.rlsf_base.proofs.Numbers.Roundings.{next_multiple_of-multiple}
 use Rattle.rlsf_blocks.specs.Blocks.{walked}
 use Rattle.rlsf_machine.specs.Callers.{align_at}
 use Rattle.rlsf_machine.specs.Lists.{IsIn}
 use Rattle.rlsf_machine.specs.Payload.{payload_of}
+use Rattle.rlsf_machine.specs.Reallocate.{Reallocates}
+use Rattle.rlsf_machine.specs.Run.{reallocate}
 use Rattle.rlsf_machine.specs.State.{State, usable}
-use Rattle.rlsf_machine.proofs.CallerWords.{align_at-live}
+use Rattle.rlsf_machine.proofs.CallerWords.{align_at-live, align_at-none}
+use Rattle.rlsf_machine.proofs.Callers.{callers_see_map}
 use Rattle.rlsf_machine.proofs.ChunkRows.{IsRow-same}
 use Rattle.rlsf_machine.proofs.Live.{payload_lies_in_one_chunk}
 use Rattle.rlsf_machine.proofs.Payloads.{IsUsed-after_start, IsUsed-aligned}
 use Rattle.rlsf_tlsf.specs.Allocator.{Allocator, Stands, Steps}
+use Rattle.rlsf_checked.specs.Answers.{size_refusal}
+use Rattle.rlsf_checked.specs.declared.error.CheckedError.TheVariants.{NoLayout}
 use Rattle.rlsf_checked.specs.declared.marks.Marks.{Marks}
 use Rattle.rlsf_checked.specs.Steps.Marks.{HasMark, mark_at, mark_of}
 use Rattle.rlsf_checked.specs.Steps.Standing.{IsChecked}
@@ -109,17 +115,17 @@ module _ {fllen sllen : ℕ} {v : Allocator} {m : Marks} {pool : Range} (is : Is
       go (Some align) e = absurd (omega (arith, e))
 
   -- and a mark tells the alignment of one
-  pub marked_as : (addr : ℕ) → (mark_at m addr ≡ 0 → ⊥) → (align_at v.state addr ≡ Some (2 ^ (mark_at m addr - 1))) × (1 ≤ mark_at m addr) × (mark_at m addr ≤ 64)
+  pub marked_as : (addr : ℕ) → (mark_at m addr ≡ 0 → ⊥) → (align_at v.state addr ≡ Some (2 ^ (mark_at m addr - 1))) × (1 ≤ mark_at m addr) × (mark_at m addr ≤ 64) × IsPowerOfTwo (2 ^ (mark_at m addr - 1))
   marked_as addr some = go (align_at v.state addr) refl
     where
-      go : (o : Option ℕ) → align_at v.state addr ≡ o → (align_at v.state addr ≡ Some (2 ^ (mark_at m addr - 1))) × (1 ≤ mark_at m addr) × (mark_at m addr ≤ 64)
+      go : (o : Option ℕ) → align_at v.state addr ≡ o → (align_at v.state addr ≡ Some (2 ^ (mark_at m addr - 1))) × (1 ≤ mark_at m addr) × (mark_at m addr ≤ 64) × IsPowerOfTwo (2 ^ (mark_at m addr - 1))
       go None e = absurd (some (is.marked addr ∙ ap mark_of e))
       go (Some align) e =
           let place = live_place fllen sllen v is.stands addr align e in
           let mark : mark_at m addr ≡ suc (floor_log2 align) = is.marked addr ∙ ap mark_of e in
           let less : mark_at m addr - 1 ≡ floor_log2 align = omega (arith, mark) in
           let power : align ≡ 2 ^ (mark_at m addr - 1) = place.power ∙ ap (λ k. 2 ^ k) (sym less) in
-          (e ∙ ap Some power, omega (arith, mark), omega (arith, mark, place.short))
+          (e ∙ ap Some power, omega (arith, mark), omega (arith, mark, place.short), IsPowerOfTwo-pow (mark_at m addr - 1))
 
   -- a live address has a mark
   pub has_mark : (w : Allocator) → Stands fllen sllen w → SamePlace v.memory w.memory → (addr align : ℕ) → align_at w.state addr ≡ Some align → HasMark m addr
@@ -137,6 +143,7 @@ module _ {fllen sllen : ℕ} {v : Allocator} {m : Marks} {pool : Range} (is : Is
     low = omega (arith, is.low, place.0);
     high = omega (arith, is.high, place.0, place.1);
     below = λ c i. is.below c (subst (IsIn c) chunks i);
+    room = is.room;
     row = IsRow-same v.state w.state (walked pool) chunks is.row;
   }
 
@@ -152,3 +159,29 @@ module _ {fllen sllen : ℕ} {v : Allocator} {m : Marks} {pool : Range} (is : Is
   -- no mark was set, and no payload changed its alignment
   pub unchanged : (w : Allocator) → Stands fllen sllen w → SamePlace v.memory w.memory → w.state.chunks ≡ v.state.chunks → align_at w.state ≡ align_at v.state → IsChecked fllen sllen w m pool
   unchanged w stands place chunks aligns = kept w m stands place chunks (λ a has. has) (λ a. is.marked a ∙ ap (λ f. mark_of (f a)) (sym aligns))
+
+  -- a payload got another size: no mark is left where it was, and then its mark was set where it is
+  pub marked_moved : (w : Allocator) (left n : Marks) (addr to align : ℕ) → Stands fllen sllen w → SamePlace v.memory w.memory → w.state.chunks ≡ v.state.chunks
+      → ((a : ℕ) → HasMark m a → HasMark n a) → ((a : ℕ) → a ≢ addr → mark_at left a ≡ mark_at m a) → mark_at left addr ≡ 0
+      → ((a : ℕ) → a ≢ to → mark_at n a ≡ mark_at left a) → mark_at n to ≡ suc (floor_log2 align) → align_at w.state to ≡ Some align → (to ≢ addr → align_at w.state addr ≡ None)
+      → ((a : ℕ) → a ≢ addr → a ≢ to → align_at w.state a ≡ align_at v.state a) → IsChecked fllen sllen w n pool
+  marked_moved w left n addr to align stands place chunks places others cleared new set live gone aligns = kept w n stands place chunks places (λ a. elim (cases_eq a to) [
+    | inl there ↦ ap (mark_at n) there ∙ set ∙ sym (ap mark_of (ap (align_at w.state) there ∙ live))
+    | inr apart ↦ elim (cases_eq a addr) [
+      | inl here ↦ new a apart ∙ ap (mark_at left) here ∙ cleared ∙ sym (ap mark_of (ap (align_at w.state) here ∙ gone (λ same. apart (here ∙ sym same))))
+      | inr other ↦ new a apart ∙ others a other ∙ is.marked a ∙ ap mark_of (sym (aligns a other apart))
+    ]
+  ])
+
+-- a payload that moved is not at its old address
+pub left_behind : (fllen sllen : ℕ) (v : Allocator) → Stands fllen sllen v → (t : State) (addr align size to : ℕ) → align_at v.state addr ≡ Some align → Reallocates sllen v.state addr size (Some to) t
+    → to ≢ addr → align_at t addr ≡ None
+unfolding Stands
+left_behind fllen sllen v stands t addr align size to is step apart =
+    let (u, held, aligned) = align_at-live v.state addr align is in
+    let resized = callers_see_map fllen sllen (range_of v.memory) v.state t (reallocate addr size (Some to)) stands.well_formed (u, held) step in
+    align_at-none t addr (resized.left apart)
+
+-- with a layout's size and alignment, none is refused
+pub size_fits : (layout : Layout) (size align : ℕ) → layout.size ≡ size → layout.align ≡ align → size_refusal (Some align) size ≡ None
+size_fits layout size align long aligned = ap (λ t. cond t None (Some NoLayout)) (le-leb (size + align) (2 ^ 63) (omega (arith, layout.valid.fits, long, aligned)))

@@ -1,14 +1,14 @@
 -- What the calls answer, and when each error comes.
-use Rattle.std.specs.Prelude.{◌≡◌, ℕ, ◌+◌, Bool, ◌&&◌, List, length, nat_le, nat_lt, Option, Some, None, Result, Ok, Err, if◌then◌else◌}
+use Rattle.std.specs.Prelude.{◌≡◌, ◌==◌, ℕ, zero, suc, ◌+◌, ◌^◌, Bool, ◌&&◌, List, length, nat_le, nat_lt, Option, Some, None, Result, Ok, Err, IfErr, if◌then◌else◌}
 use Rattle.std.specs.declared.num.NonZeroUsize.{NonZeroUsize}
 use Rattle.rlsf_base.specs.declared.memory.range.Range.{Range}
 use Rattle.rlsf_base.specs.Addr.{at}
 use Rattle.rlsf_base.specs.Range.{end_of}
 use Rattle.rlsf_base.specs.Sizes.{max_pool_size}
 use Rattle.rlsf_base.specs.Space.{range_of}
-use Rattle.rlsf_machine.specs.Insert.{aligned_part, bytes_taken, cut}
+use Rattle.rlsf_machine.specs.Insert.{aligned_part, appended_bytes, bytes_taken, cut}
 use Rattle.rlsf_checked.specs.declared.error.CheckedError.{CheckedError}
-use Rattle.rlsf_checked.specs.declared.error.CheckedError.TheVariants.{NotBehind, OutOfRange, OutsideMemory, TooShort, UnknownAddress}
+use Rattle.rlsf_checked.specs.declared.error.CheckedError.TheVariants.{NoLayout, NoRoom, NotBehind, NotNext, OutOfRange, OutsideMemory, TooShort, UnknownAddress}
 use Rattle.rlsf_checked.specs.Checked.{Checked}
 
 -- an address where no payload has an alignment is refused
@@ -24,6 +24,16 @@ if_fits (Some align) fits = if fits then Ok tt else Err OutOfRange
 -- so many bytes from an offset on are among those of a payload
 abbrev pub fits : ℕ → ℕ → List ℕ → Bool
 fits offset len bytes = nat_le (offset + len) (length bytes)
+
+-- an address where no payload has an alignment is refused; and so is, at a live one, a size with which no layout has the alignment
+abbrev pub size_refusal : Option ℕ → ℕ → Option CheckedError
+size_refusal None size = Some UnknownAddress
+size_refusal (Some align) size = if nat_le (size + align) (2 ^ 63) then None else Some NoLayout
+
+-- the refusal that is told is the answer; where none is told, only room may lack
+abbrev pub IsRefusedBy : {A : Type 0} → Option CheckedError → Result A CheckedError → Type 0
+IsRefusedBy (Some e) result = result ≡ Err e
+IsRefusedBy None result = IfErr result (λ e. e ≡ NoRoom)
 
 -- the address that is answered, if there is one
 abbrev pub placed : Result NonZeroUsize CheckedError → Option ℕ
@@ -49,4 +59,20 @@ if_taken (Some n) = Ok n
 abbrev pub insert_answer : ℕ → Checked → Range → Result ℕ CheckedError
 insert_answer fllen v r =
     if is_within (range_of v.heap.memory) r then (if nat_lt r.start (end_of v.pool) then Err NotBehind else if_taken (bytes_taken r.start (cut (max_pool_size fllen) (aligned_part r))))
+    else Err OutsideMemory
+
+-- a range that isn't empty ends at the address
+abbrev pub is_next : Range → ℕ → Bool
+is_next pool addr = nat_lt 0 pool.len && (addr == end_of pool)
+
+-- what is taken of a range that is appended, of which no byte may be
+abbrev pub if_appended : ℕ → Result ℕ CheckedError
+if_appended zero = Err TooShort
+if_appended (suc n) = Ok (suc n)
+
+-- a range outside of the memory is refused, and one that doesn't begin at the end of what was handed in last, and one of which no byte is
+-- taken; of another it is told how many bytes are
+abbrev pub append_answer : ℕ → Checked → Range → Result ℕ CheckedError
+append_answer fllen v r =
+    if is_within (range_of v.heap.memory) r then (if is_next v.pool r.start then if_appended (appended_bytes (max_pool_size fllen) r) else Err NotNext)
     else Err OutsideMemory

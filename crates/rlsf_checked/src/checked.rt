@@ -1,26 +1,32 @@
 //! The allocator with a mark for each address at which a payload may live.
 
-ghost use Rattle.std.specs.Prelude.{◌≡◌, ◌≢◌, ◌≤◌, ◌<◌, ◌+◌, ◌*◌, ℕ, length, drop, take, nat_le, IfErr, IfOk, IsErrOf, None, OnErr, OnOk, Some, ◌↔◌};
+ghost use Rattle.std.specs.Prelude.{◌≡◌, ◌≢◌, ◌≤◌, ◌<◌, ◌+◌, ◌*◌, ◌^◌, ℕ, length, drop, take, nat_le, is_some, if◌then◌else◌, IfErr, IfOk, IfSome, IsErrOf, IsOk, IsSome, None, OnErr, OnOk, Some, ◌↔◌};
 ghost use Rattle.std.specs.List.{splice};
+ghost use Rattle.std.specs.Map.Iter.{GivesInOrder};
 ghost use Rattle.rlsf_base.specs.Addr.{at};
+ghost use Rattle.rlsf_base.specs.PowerOfTwo.{IsPowerOfTwo};
 ghost use Rattle.rlsf_base.specs.Range.{range_at};
 ghost use Rattle.rlsf_base.specs.SizeClass.{IsValid};
 ghost use Rattle.rlsf_base.specs.Sizes.{max_pool_size};
 ghost use Rattle.rlsf_base.specs.Space.{range_of, SamePlace};
 ghost use Rattle.rlsf_machine.specs.Allocate.{Allocates};
 ghost use Rattle.rlsf_machine.specs.Callers.{align_at, bytes_at};
-ghost use Rattle.rlsf_machine.specs.Insert.{Inserts, aligned_part, cut};
+ghost use Rattle.rlsf_machine.specs.Insert.{Appends, Inserts, aligned_part, cut};
+ghost use Rattle.rlsf_machine.specs.NoMove.{ReallocatesWithoutMove};
+ghost use Rattle.rlsf_machine.specs.Reallocate.{Keeps, Reallocates};
 ghost use Rattle.rlsf_machine.specs.Release.{Deallocates};
 ghost use Rattle.rlsf_machine.specs.Run.{Fills};
 ghost use Rattle.rlsf_machine.specs.State.{empty};
+ghost use Rattle.rlsf_blocks.specs.Blocks.{AreBlocks, walked};
 ghost use Rattle.rlsf_tlsf.specs.Allocator.{Steps, Stands};
-ghost use Rattle.rlsf_checked.specs.Answers.{fits, if_fits, if_live, insert_answer, is_within, placed, taken};
+ghost use Rattle.rlsf_checked.specs.Answers.{IsRefusedBy, append_answer, fits, if_fits, if_live, insert_answer, is_next, is_within, placed, size_refusal, taken};
 ghost use Rattle.rlsf_checked.specs.declared.error.CheckedError.TheVariants.{InvalidClasses, NoRoom, OutOfMemory, UnknownAddress};
 
 use crate::classes::are_valid;
 use crate::error::CheckedError;
 use crate::marks::{Marks, align_of, mark_of};
 use rlsf_base::memory::{Addr, Layout, Memory, Range};
+use rlsf_blocks::{BlockInfo, Blocks};
 use rlsf_int::{BitPattern, Bitmap};
 use rlsf_tlsf::Tlsf;
 use std::alloc::Global;
@@ -101,7 +107,8 @@ impl<FLBitmap: Bitmap, SLBitmap: Bitmap, const FLLEN: usize, const SLLEN: usize>
 
     /// The alignment of the payload at an address, or `None` where none lives.
     fn alignment(&self, addr: Addr) -> Option<usize>
-        ensures { result ≡ align_at self.now.heap.state (at addr) }
+        ensures value { result ≡ align_at self.now.heap.state (at addr) }
+        ensures power { IfSome result (λ align. IsPowerOfTwo align) }
     {
         let mark = self.marks.get(addr.get());
         if mark == 0 {
@@ -141,6 +148,43 @@ impl<FLBitmap: Bitmap, SLBitmap: Bitmap, const FLLEN: usize, const SLLEN: usize>
             len: taken.get(),
         };
         Ok(taken.get())
+    }
+
+    /// Hands in a range of the memory that begins where what was handed in last ends, which it makes longer. Where chunks have a
+    /// greatest length, the range becomes chunks of its own; else the last chunk grows by the range's length rounded down to a multiple
+    /// of 32. Answers how many bytes are taken.
+    ///
+    /// `OutsideMemory` exactly where the range doesn't lie in the memory, else `NotNext` exactly where it doesn't begin at the end of what
+    /// was handed in last, or nothing was, else `TooShort` exactly where no byte of it is taken. Then nothing changes.
+    pub fn append(&mut self, range: Range) -> Result<usize, CheckedError>
+        ensures answer { result ≡ append_answer FLLEN self.old range }
+        ensures step { IfOk result (λ n. Steps FLLEN SLLEN self.old.heap self.new.heap (Appends FLLEN self.old.heap.state range n)) }
+        ensures pool { IfOk result (λ n. self.new.pool ≡ range_at self.old.pool.start (self.old.pool.len + n)) }
+        ensures same { OnErr result ((self.new.heap.state ≡ self.old.heap.state) × (self.new.pool ≡ self.old.pool)) }
+        ensures refused { OnErr result (self.new.heap.memory.bytes ≡ self.old.heap.memory.bytes) }
+        ensures aligns { align_at self.new.heap.state ≡ align_at self.old.heap.state }
+        ensures bytes { bytes_at self.new.heap.state ≡ bytes_at self.old.heap.state }
+        ensures place { SamePlace self.old.heap.memory self.new.heap.memory }
+        ensures touches { self.new.heap.memory.touches ≤ self.old.heap.memory.touches
+            + (if is_some (max_pool_size FLLEN) then 13 * length (cut (max_pool_size FLLEN) (aligned_part range)) else 34) }
+        ensures copied { self.new.heap.memory.copied ≡ self.old.heap.memory.copied }
+    {
+        if !lies_in(self.heap.memory_ref(), range) {
+            return Err(CheckedError::OutsideMemory);
+        }
+        let pool = self.pool;
+        if !is_next(pool.start, pool.len, range.start) {
+            return Err(CheckedError::NotNext);
+        }
+        let taken = self.heap.append_free_block_ptr(range);
+        if taken == 0 {
+            return Err(CheckedError::TooShort);
+        }
+        self.pool = Range {
+            start: pool.start,
+            len: pool.len + taken,
+        };
+        Ok(taken)
     }
 
     /// Allocates a payload for a layout. Answers its address, a multiple of the alignment. `NoRoom` exactly where no free block's class
@@ -191,6 +235,80 @@ impl<FLBitmap: Bitmap, SLBitmap: Bitmap, const FLLEN: usize, const SLLEN: usize>
         Ok(())
     }
 
+    /// Gives a payload another size, with the alignment that it has. It stays where it stands if its block and a free one behind it
+    /// suffice; else it moves into the free block before it, if that suffices with these; else into one that is allocated while the
+    /// old one stands. Answers its address. As many of its first bytes as both sizes have are kept.
+    ///
+    /// `UnknownAddress` exactly where none lives at the address, else `NoLayout` exactly where the size and the alignment together are
+    /// above 2^63, else `NoRoom` exactly where the machine refuses. Then nothing changes.
+    pub fn reallocate(&mut self, addr: Addr, size: usize) -> Result<Addr, CheckedError>
+        ensures answer { IsRefusedBy (size_refusal (align_at self.old.heap.state (at addr)) size) result }
+        ensures step { size_refusal (align_at self.old.heap.state (at addr)) size ≡ None
+            → Steps FLLEN SLLEN self.old.heap self.new.heap (Reallocates SLLEN self.old.heap.state (at addr) size (placed result)) }
+        ensures live { IfOk result (λ to. align_at self.new.heap.state (at to) ≡ align_at self.old.heap.state (at addr)) }
+        ensures sized { IfOk result (λ to. size ≤ length (bytes_at self.new.heap.state (at to))) }
+        ensures few { IfOk result (λ to. length (bytes_at self.new.heap.state (at to)) < size + 32) }
+        ensures kept { IfOk result (λ to. Keeps (bytes_at self.old.heap.state (at addr)) (bytes_at self.new.heap.state (at to))) }
+        ensures new { IfOk result (λ to. at to ≢ at addr → align_at self.old.heap.state (at to) ≡ None) }
+        ensures left { IfOk result (λ to. at to ≢ at addr → align_at self.new.heap.state (at addr) ≡ None) }
+        ensures aligns { IfOk result (λ to. (a : ℕ) → a ≢ at addr → a ≢ at to → align_at self.new.heap.state a ≡ align_at self.old.heap.state a) }
+        ensures bytes { IfOk result (λ to. (a : ℕ) → a ≢ at addr → a ≢ at to → bytes_at self.new.heap.state a ≡ bytes_at self.old.heap.state a) }
+        ensures same { OnErr result (self.new.heap.state ≡ self.old.heap.state) }
+        ensures refused { OnErr result (self.new.heap.memory.bytes ≡ self.old.heap.memory.bytes) }
+        ensures pool { self.new.pool ≡ self.old.pool }
+        ensures place { SamePlace self.old.heap.memory self.new.heap.memory }
+        ensures touches { self.new.heap.memory.touches ≤ self.old.heap.memory.touches + 66 }
+        ensures copied { self.new.heap.memory.copied ≤ self.old.heap.memory.copied + length (bytes_at self.old.heap.state (at addr)) }
+    {
+        let Some(align) = self.alignment(addr) else {
+            return Err(CheckedError::UnknownAddress);
+        };
+        let Ok(layout) = Layout::from_size_align(size, align) else {
+            return Err(CheckedError::NoLayout);
+        };
+        let Some(moved) = self.heap.reallocate(addr, layout) else {
+            return Err(CheckedError::NoRoom);
+        };
+        let (left, mark) = (addr.get(), mark_of(align));
+        self.marks.set(left, 0);
+        self.marks.set(moved.get(), mark);
+        Ok(moved)
+    }
+
+    /// Gives a payload another size where it stands, with the alignment that it has. Answers its address. As many of its first bytes
+    /// as both sizes have are kept, and none is copied.
+    ///
+    /// `UnknownAddress` exactly where none lives at the address, else `NoLayout` exactly where the size and the alignment together are
+    /// above 2^63, else `NoRoom` exactly where its block and a free one behind it don't suffice. Then nothing changes.
+    pub fn reallocate_no_move(&mut self, addr: Addr, size: usize) -> Result<Addr, CheckedError>
+        ensures answer { IsRefusedBy (size_refusal (align_at self.old.heap.state (at addr)) size) result }
+        ensures step { size_refusal (align_at self.old.heap.state (at addr)) size ≡ None
+            → Steps FLLEN SLLEN self.old.heap self.new.heap (ReallocatesWithoutMove self.old.heap.state (at addr) size (placed result)) }
+        ensures there { IfOk result (λ to. at to ≡ at addr) }
+        ensures sized { IfOk result (λ to. size ≤ length (bytes_at self.new.heap.state (at addr))) }
+        ensures few { IfOk result (λ to. length (bytes_at self.new.heap.state (at addr)) < size + 32) }
+        ensures kept { IfOk result (λ to. Keeps (bytes_at self.old.heap.state (at addr)) (bytes_at self.new.heap.state (at addr))) }
+        ensures aligns { align_at self.new.heap.state ≡ align_at self.old.heap.state }
+        ensures bytes { (a : ℕ) → a ≢ at addr → bytes_at self.new.heap.state a ≡ bytes_at self.old.heap.state a }
+        ensures same { OnErr result (self.new.heap.state ≡ self.old.heap.state) }
+        ensures refused { OnErr result (self.new.heap.memory.bytes ≡ self.old.heap.memory.bytes) }
+        ensures pool { self.new.pool ≡ self.old.pool }
+        ensures place { SamePlace self.old.heap.memory self.new.heap.memory }
+        ensures touches { self.new.heap.memory.touches ≤ self.old.heap.memory.touches + 25 }
+        ensures copied { self.new.heap.memory.copied ≡ self.old.heap.memory.copied }
+    {
+        let Some(align) = self.alignment(addr) else {
+            return Err(CheckedError::UnknownAddress);
+        };
+        let Ok(layout) = Layout::from_size_align(size, align) else {
+            return Err(CheckedError::NoLayout);
+        };
+        let Some(to) = self.heap.reallocate_no_move(addr, layout) else {
+            return Err(CheckedError::NoRoom);
+        };
+        Ok(to)
+    }
+
     /// How many bytes the caller of a payload may use: those that were asked for, and less than 32 more. `UnknownAddress` exactly where
     /// none lives at the address.
     pub fn usable_size(&self, addr: Addr) -> Result<usize, CheckedError>
@@ -200,6 +318,26 @@ impl<FLBitmap: Bitmap, SLBitmap: Bitmap, const FLLEN: usize, const SLLEN: usize>
             return Err(CheckedError::UnknownAddress);
         };
         Ok(self.heap.allocation_usable_size(addr))
+    }
+
+    /// The bytes of a payload, all that its caller may use. `UnknownAddress` exactly where none lives at the address.
+    pub fn payload(&self, addr: Addr) -> Result<&[u8], CheckedError>
+        ensures when { IsOk result ↔ IsSome (align_at self.now.heap.state (at addr)) }
+        ensures refused { IfErr result (λ e. e ≡ UnknownAddress) }
+        ensures value { IfOk result (λ bytes. bytes.now ≡ bytes_at self.now.heap.state (at addr)) }
+    {
+        let Some(_) = self.alignment(addr) else {
+            return Err(CheckedError::UnknownAddress);
+        };
+        Ok(self.heap.payload(addr))
+    }
+
+    /// The blocks of what was handed in last, used and free, in address order; the sentinels at the ends of chunks are left out.
+    pub fn blocks(&self) -> Blocks<'_>
+        ensures blocks { AreBlocks self.now.heap.state (walked self.now.pool) result }
+        ensures runs { GivesInOrder BlockInfo }
+    {
+        self.heap.iter_blocks(self.pool)
     }
 
     /// Reads the bytes of a payload from an offset on, as many as `bytes` has. `UnknownAddress` exactly where none lives at the address,
@@ -253,6 +391,14 @@ fn lies_in(memory: &Memory, range: Range) -> bool
 {
     let end = memory.start() + memory.len();
     memory.start() <= range.start && range.start <= end && range.len <= end - range.start
+}
+
+/// Whether an address is the end of a range that isn't empty.
+fn is_next(start: usize, len: usize, addr: usize) -> bool
+    requires { start + len < 2 ^ 64 }
+    ensures { result ≡ is_next (range_at start len) addr }
+{
+    0 < len && addr == start + len
 }
 
 /// Whether `len` bytes from an offset on are among the first `usable`.

@@ -15,8 +15,12 @@ pub enum CheckedError {
     OutsideMemory = 5,
     /// The range begins before the end of what was handed in last.
     NotBehind = 6,
+    /// The range doesn't begin at the end of what was handed in last.
+    NotNext = 7,
     /// No chunk can be made of the range.
-    TooShort = 7,
+    TooShort = 8,
+    /// No layout has the size, with the alignment of the payload.
+    NoLayout = 9,
     /// There is no room.
-    NoRoom = 8,
+    NoRoom = 10,
 }

@@ -28,3 +28,6 @@ returns-clause-touches g c = rw (← c.self.view_is) (omega (arith, (c.payload_m
 
 pub returns-clause-copied : goal.returns-clause-copied
 returns-clause-copied g c = rw (← c.self.view_is) (c.payload_mut.ensures.rest c.write_at.new.payload).4
+
+pub returns-clause-bytes : goal.returns-clause-bytes
+returns-clause-bytes g c = rw (← c.self.view_is) (c.payload_mut.ensures.bytes c.write_at.new.payload)

@@ -1,0 +1,11 @@
+//! Tests of `rlsf_checked`. This crate has no other code.
+#![tactic(auto)]
+
+#[cfg(test)]
+mod calls;
+#[cfg(test)]
+mod pools;
+#[cfg(test)]
+mod random;
+#[cfg(test)]
+mod refusals;
