@@ -60,8 +60,8 @@ fn is_vacant(memory: &Memory, pools: &VecDeque<Range>, range: Range) -> bool
     lies_in(memory, range) && !touches_any(pools, range)
 }
 
-/// Does one op, and answers it.
-fn step<FLBitmap: Bitmap, SLBitmap: Bitmap, const FLLEN: usize, const SLLEN: usize>(
+/// Does one op, and answers it. The tables have room for it.
+pub fn step<FLBitmap: Bitmap, SLBitmap: Bitmap, const FLLEN: usize, const SLLEN: usize>(
     tlsf: &mut Tlsf<FLBitmap, SLBitmap, FLLEN, SLLEN>,
     tables: &mut Tables,
     op: Op,

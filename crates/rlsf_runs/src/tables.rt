@@ -18,15 +18,17 @@ use std::collections::{HashMap, VecDeque};
 
 /// What a run remembers: where each live payload is, by its name, and the pools.
 #[derive(Drop)]
-pub(crate) struct Tables {
-    pub(crate) names: HashMap<usize, Payload>,
-    // In the order of their addresses. An insert moves the fewer of those before it and behind it.
-    pub(crate) pools: VecDeque<Range>,
+pub struct Tables {
+    /// The live payloads.
+    pub names: HashMap<usize, Payload>,
+    /// The pools, in the order of their addresses.
+    // An insert moves the fewer of those before it and behind it.
+    pub pools: VecDeque<Range>,
 }
 
 impl Tables {
     /// Empty tables with room for so many ops, or an error where the system refused memory.
-    pub(crate) fn with_room(alloc: Global, ops: usize) -> Result<Tables, AllocError>
+    pub fn with_room(alloc: Global, ops: usize) -> Result<Tables, AllocError>
         ensures empty { IfOk result (λ tables. IsEmpty tables.names × (tables.pools.items ≡ [])) }
         ensures room { IfOk result (λ tables. HasRoom tables ops) }
     {
@@ -82,7 +84,7 @@ impl Tables {
     }
 
     /// The live payload that has the name, if one does.
-    pub(crate) fn payload(&self, name: usize) -> Option<Payload>
+    pub fn payload(&self, name: usize) -> Option<Payload>
         ensures { result ≡ get nat_eq self.now.names name }
     {
         self.names.get(&name).copied()

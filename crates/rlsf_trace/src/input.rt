@@ -5,10 +5,10 @@ use rlsf_text::Fault;
 use std::alloc::Global;
 use std::io::{ErrorKind, Read};
 
-/// Reads all that is left of the input.
+/// Reads all that is left of the input. `Read` where that fails, and `OutOfMemory` where the machine refuses memory for it.
 ///
 /// A read that a signal interrupts is tried again.
-pub(crate) fn read_input<R: Read>(alloc: Global, reader: &mut R) -> Result<Vec<u8>, Fault>
+pub fn read_input<R: Read>(alloc: Global, reader: &mut R) -> Result<Vec<u8>, Fault>
     ensures bytes { IfOk result (λ input. IfSome (R.remaining reader.old) (λ bytes. input.items ≡ bytes)) }
     ensures end { OnOk result (IsAtEnd (R.remaining reader.new)) }
     ensures fault { IfErr result (λ fault. (fault ≡ Fault.Read) ⊎ (fault ≡ Fault.OutOfMemory)) }

@@ -5,6 +5,8 @@ mod input;
 mod output;
 mod replays;
 
+pub use input::read_input;
+pub use output::write_text;
 pub use replays::replay;
 pub use rlsf_runs::{RunError, run};
 pub use rlsf_text::{

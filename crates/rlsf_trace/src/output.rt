@@ -5,10 +5,10 @@ ghost use Rattle.rlsf_trace.specs.Output.{AppendsBeginning};
 use rlsf_text::Fault;
 use std::io::{ErrorKind, Write};
 
-/// Writes a text. Where that fails, a beginning of it may have been written.
+/// Writes a text. Where that fails, with `Write`, a beginning of it may have been written.
 ///
 /// A write that takes no byte has failed, and one that a signal interrupts is tried again.
-pub(crate) fn write_text<W: Write>(writer: &mut W, text: &[u8]) -> Result<(), Fault>
+pub fn write_text<W: Write>(writer: &mut W, text: &[u8]) -> Result<(), Fault>
     ensures whole { OnOk result (Appends (W.contents writer.old) (W.contents writer.new) text.now) }
     ensures beginning { AppendsBeginning (W.contents writer.old) (W.contents writer.new) text.now }
     ensures fault { IfErr result (λ fault. fault ≡ Fault.Write) }

@@ -1,0 +1,5 @@
+mod Ops
+mod Passing
+mod Steps
+mod Walks
+mod Weights
