@@ -1,0 +1,143 @@
+//! Payloads as boxes: from the call that placed one to the call that ended, moved or resized it.
+
+use crate::window::Window;
+use rlsf_text::{Answer, Op};
+use rlsf_watched::{Moment, Watched};
+use std::alloc::{AllocError, AllocFailed, Global};
+use std::collections::BTreeMap;
+
+/// How many boxes are drawn at most.
+const MOST_BOXES: usize = 2000;
+
+/// A payload while it stands in one place with one size.
+#[derive(Clone, Copy)]
+pub(crate) struct PayloadBox {
+    /// Its name.
+    pub(crate) name: usize,
+    /// Its address.
+    pub(crate) addr: usize,
+    /// Its usable bytes.
+    pub(crate) len: usize,
+    /// The index of the call that placed it.
+    pub(crate) since: usize,
+    /// The index of the call that ended it, or that behind the last one.
+    pub(crate) until: usize,
+}
+
+/// The boxes of a window.
+#[derive(Drop)]
+pub(crate) struct Boxes {
+    /// Those that are drawn.
+    pub(crate) boxes: Vec<PayloadBox>,
+    /// How many more there are.
+    pub(crate) left_out: u128,
+    // The live payloads by their names, without an end.
+    live: BTreeMap<usize, PayloadBox>,
+}
+
+/// The boxes of a window.
+pub(crate) fn boxes_of(
+    alloc: Global,
+    ops: &[Op],
+    watched: &Watched,
+    window: Window,
+) -> Result<Boxes, AllocError> {
+    let mut boxes = Boxes {
+        boxes: Vec::new(alloc),
+        left_out: 0,
+        live: BTreeMap::new(alloc),
+    };
+    let mut before = 0;
+    let told = watched.answers.iter().zip(&watched.moments);
+    for (index, (op, (answer, moment))) in ops.iter().zip(told).enumerate().take(window.end) {
+        boxes.pass(index, *op, *answer, before, *moment, window)?;
+        before = moment.usable;
+    }
+    boxes.end_all(window)?;
+    Ok(boxes)
+}
+
+impl Boxes {
+    // Takes a call into account, by how many bytes were usable before it and what the allocator holds after it.
+    fn pass(
+        &mut self,
+        index: usize,
+        op: Op,
+        answer: Answer,
+        before: u128,
+        moment: Moment,
+        window: Window,
+    ) -> Result<(), AllocError> {
+        let Some(name) = changed_name(op, answer) else {
+            return Ok(());
+        };
+        let old = self.live.remove(&name);
+        let old_len = match old {
+            Some(payload) => payload.len as u128,
+            None => 0,
+        };
+        if let Some(payload) = old {
+            self.end(payload, index, window)?;
+        }
+        if let Answer::Placed(Some(addr)) = answer {
+            let len = (moment.usable.saturating_add(old_len)).saturating_sub(before);
+            let payload = PayloadBox {
+                name,
+                addr: addr.get(),
+                len: usize::try_from(len).unwrap_or(usize::MAX),
+                since: index,
+                until: index,
+            };
+            self.live.insert(name, payload).map_err(|_| AllocError)?;
+        }
+        Ok(())
+    }
+
+    // Ends a payload, and draws it if the window has a part of it.
+    fn end(&mut self, payload: PayloadBox, until: usize, window: Window) -> Result<(), AllocError> {
+        if until <= window.first {
+            return Ok(());
+        }
+        if self.boxes.len() >= MOST_BOXES {
+            self.left_out = self.left_out.saturating_add(1);
+            return Ok(());
+        }
+        let PayloadBox {
+            name,
+            addr,
+            len,
+            since,
+            ..
+        } = payload;
+        let payload = PayloadBox {
+            name,
+            addr,
+            len,
+            since,
+            until,
+        };
+        self.boxes.push(payload).map_err(|_| AllocError)
+    }
+
+    // Ends the payloads that are live behind the window.
+    fn end_all(&mut self, window: Window) -> Result<(), AllocError> {
+        for _ in 0..self.live.len() {
+            if let Some((_, payload)) = self.live.pop_first() {
+                self.end(payload, window.end, window)?;
+            }
+        }
+        Ok(())
+    }
+}
+
+// The name of the payload that a call placed, ended, moved or resized.
+fn changed_name(op: Op, answer: Answer) -> Option<usize> {
+    match (op, answer) {
+        (
+            Op::Alloc(name, _) | Op::Realloc(name, _) | Op::ReallocNoMove(name, _),
+            Answer::Placed(Some(_)),
+        ) => Some(name),
+        (Op::Free(name) | Op::FreeUnknown(name), Answer::Done) => Some(name),
+        _ => None,
+    }
+}

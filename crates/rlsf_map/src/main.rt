@@ -1,0 +1,45 @@
+//! Draws a trace of allocator calls: reads it from standard input, and writes one SVG to standard output. Calls go from left to
+//! right, addresses from top to bottom. `rlsf_map FIRST LAST` draws the calls of these lines of the trace.
+#![tactic(auto)]
+
+mod boxes;
+mod colour;
+mod draw;
+mod legend;
+mod map;
+mod pools;
+mod scale;
+mod window;
+
+use map::map;
+use rlsf_trace::status;
+use std::env;
+use std::process::ExitCode;
+use std::rt::Env;
+use window::Lines;
+
+fn main(rt: HostRuntime) -> ExitCode {
+    let Some(lines) = asked_lines(&rt) else {
+        let _ = eprintln!(rt; "usage: rlsf_map [FIRST LAST] < TRACE");
+        return ExitCode::from(2);
+    };
+    let outcome = map(rt.alloc(), &mut rt.stdin(), &mut rt.stdout(), lines);
+    if let Err(fault) = &outcome {
+        // Where standard error fails too, only the status tells of the fault.
+        let _ = eprintln!(rt; "{fault}");
+    }
+    ExitCode::from(status(&outcome))
+}
+
+/// The lines that the command line asks for, if it is one that the program knows.
+fn asked_lines(rt: &(impl Env + AllocGlobal)) -> Option<Lines> {
+    let words: Vec<String> = env::args(rt).ok()?.collect(rt.alloc()).ok()?;
+    match words.as_slice() {
+        [] | [_] => Some(Lines::ALL),
+        [_, first, last] => Some(Lines {
+            first: first.parse().ok()?,
+            last: last.parse().ok()?,
+        }),
+        _ => None,
+    }
+}

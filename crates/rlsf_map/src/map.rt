@@ -1,0 +1,52 @@
+//! Maps: a trace is read, run and drawn.
+
+ghost use Rattle.std.specs.Prelude.{◌≡◌, ◌≢◌, ◌⊎◌, IfErr, IfSome, OnOk};
+ghost use Rattle.std.specs.Io.KnownBytes.{IsAtEnd};
+ghost use Rattle.rlsf_text.specs.Faults.{out_of_memory};
+ghost use Rattle.rlsf_trace.specs.Replays.{not_read, IsOutputFault, IsReplayFault, IsTrace};
+
+use crate::boxes::boxes_of;
+use crate::draw::drawing;
+use crate::legend::legend_of;
+use crate::pools::pools_of;
+use crate::window::{Lines, Window};
+use rlsf_text::{Fault, ReplayFault, Trace};
+use rlsf_trace::{read_input, write_text};
+use rlsf_watched::watch_trace;
+use std::alloc::Global;
+use std::io::{Read, Write};
+
+/// Reads a trace, all that is left of the reader, runs it on a new allocator, and writes a drawing of the calls of some lines.
+///
+/// The faults are those of `rlsf_trace::replay`, in its order. Nothing is written with any fault but `Write`, and with that one a
+/// beginning of the drawing may be.
+pub(crate) fn map<R: Read, W: Write>(
+    alloc: Global,
+    reader: &mut R,
+    writer: &mut W,
+    lines: Lines,
+) -> Result<(), ReplayFault>
+    ensures end { OnOk result (IsAtEnd (R.remaining reader.new)) }
+    ensures fault { IfErr result (λ f. IfSome (R.remaining reader.old) (λ input. IsReplayFault input f)) }
+    ensures read { IfErr result (λ f. (f ≡ not_read) ⊎ ((f ≡ out_of_memory) ⊎ IsAtEnd (R.remaining reader.new))) }
+    ensures silent { IfErr result (λ f. f.fault ≢ Fault.Write → W.contents writer.new ≡ W.contents writer.old) }
+{
+    let input = read_input(alloc, reader).map_err(|fault| fault.at_line(0))?;
+    let text = text_for(alloc, &input, lines)?;
+    write_text(writer, text.as_bytes()).map_err(|fault| fault.at_line(0))
+}
+
+// The drawing of an input, the whole of it.
+fn text_for(alloc: Global, input: &[u8], lines: Lines) -> Result<String, ReplayFault>
+    ensures ok { OnOk result (IsTrace input.now) }
+    ensures fault { IfErr result (λ f. IsOutputFault input.now f) }
+    ensures not_write { IfErr result (λ f. f.fault ≢ Fault.Write) }
+{
+    let trace = Trace::parse(alloc, input)?;
+    let watched = watch_trace(alloc, &trace)?;
+    let window = Window::new(lines, trace.ops.len());
+    let pools = pools_of(alloc, &trace.ops, &watched.answers)?;
+    let boxes = boxes_of(alloc, &trace.ops, &watched, window)?;
+    let legend = legend_of(trace.configuration, &watched, window, boxes.left_out);
+    Ok(drawing(alloc, window, &pools, &boxes.boxes, &watched, &legend)?)
+}

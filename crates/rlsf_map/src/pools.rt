@@ -1,0 +1,47 @@
+//! Which memory the allocator has.
+
+use rlsf_text::{Answer, Op};
+use std::alloc::{AllocError, Global};
+
+/// A range that was handed in.
+#[derive(Clone, Copy)]
+pub(crate) struct Pool {
+    /// Its first address.
+    pub(crate) start: usize,
+    /// How many bytes of it were taken.
+    pub(crate) len: usize,
+    /// The index of the call that handed it in.
+    pub(crate) since: usize,
+}
+
+impl Pool {
+    /// The address behind it.
+    pub(crate) fn end(self) -> u128 {
+        self.start as u128 + self.len as u128
+    }
+}
+
+/// The ranges that were handed in, those that were appended among them.
+pub(crate) fn pools_of(
+    alloc: Global,
+    ops: &[Op],
+    answers: &[Answer],
+) -> Result<Vec<Pool>, AllocError> {
+    ops.iter()
+        .zip(answers)
+        .enumerate()
+        .filter_map(|(since, (op, answer))| match (*op, *answer) {
+            (Op::Insert(range), Answer::Inserted(Some(len))) => Some(Pool {
+                start: range.start,
+                len: len.get(),
+                since,
+            }),
+            (Op::Append(range), Answer::Appended(len)) if len > 0 => Some(Pool {
+                start: range.start,
+                len,
+                since,
+            }),
+            _ => None,
+        })
+        .collect(alloc)
+}

@@ -1,0 +1,41 @@
+//! Prints what a trace of allocator calls comes to: reads it from standard input, and writes a table to standard output, or with
+//! `--csv` a line for each call.
+#![tactic(auto)]
+
+mod advice;
+mod counts;
+mod csv;
+mod kinds;
+mod report;
+mod sizes;
+mod summary;
+mod table;
+
+use report::{Form, report};
+use rlsf_trace::status;
+use std::env;
+use std::process::ExitCode;
+use std::rt::Env;
+
+fn main(rt: HostRuntime) -> ExitCode {
+    let Some(form) = asked_form(&rt) else {
+        let _ = eprintln!(rt; "usage: rlsf_report [--csv] < TRACE");
+        return ExitCode::from(2);
+    };
+    let outcome = report(rt.alloc(), &mut rt.stdin(), &mut rt.stdout(), form);
+    if let Err(fault) = &outcome {
+        // Where standard error fails too, only the status tells of the fault.
+        let _ = eprintln!(rt; "{fault}");
+    }
+    ExitCode::from(status(&outcome))
+}
+
+/// What the command line asks for, if it is one that the program knows.
+fn asked_form(rt: &(impl Env + AllocGlobal)) -> Option<Form> {
+    let words: Vec<String> = env::args(rt).ok()?.collect(rt.alloc()).ok()?;
+    match words.as_slice() {
+        [] | [_] => Some(Form::Table),
+        [_, word] if word.as_str() == "--csv" => Some(Form::Csv),
+        _ => None,
+    }
+}

@@ -1,0 +1,67 @@
+//! Reports: a trace is read, run and told of.
+
+ghost use Rattle.std.specs.Prelude.{◌≡◌, ◌≢◌, ◌⊎◌, IfErr, IfSome, OnOk};
+ghost use Rattle.std.specs.Io.KnownBytes.{IsAtEnd};
+ghost use Rattle.rlsf_text.specs.Faults.{out_of_memory};
+ghost use Rattle.rlsf_trace.specs.Replays.{not_read, IsOutputFault, IsReplayFault, IsTrace};
+
+use crate::advice::advice_of;
+use crate::counts::counts_of;
+use crate::csv::csv_of;
+use crate::sizes::asked_bytes;
+use crate::summary::summary_of;
+use crate::table::table_of;
+use rlsf_text::{Fault, ReplayFault, Trace};
+use rlsf_trace::{read_input, write_text};
+use rlsf_watched::watch_trace;
+use std::alloc::Global;
+use std::io::{Read, Write};
+
+/// How a trace is told of.
+#[derive(Clone, Copy)]
+pub(crate) enum Form {
+    /// A table of numbers.
+    Table,
+    /// A line for each call.
+    Csv,
+}
+
+/// Reads a trace, all that is left of the reader, runs it on a new allocator, and writes what it comes to.
+///
+/// The faults are those of `rlsf_trace::replay`, in its order. Nothing is written with any fault but `Write`, and with that one a
+/// beginning of the text may be.
+pub(crate) fn report<R: Read, W: Write>(
+    alloc: Global,
+    reader: &mut R,
+    writer: &mut W,
+    form: Form,
+) -> Result<(), ReplayFault>
+    ensures end { OnOk result (IsAtEnd (R.remaining reader.new)) }
+    ensures fault { IfErr result (λ f. IfSome (R.remaining reader.old) (λ input. IsReplayFault input f)) }
+    ensures read { IfErr result (λ f. (f ≡ not_read) ⊎ ((f ≡ out_of_memory) ⊎ IsAtEnd (R.remaining reader.new))) }
+    ensures silent { IfErr result (λ f. f.fault ≢ Fault.Write → W.contents writer.new ≡ W.contents writer.old) }
+{
+    let input = read_input(alloc, reader).map_err(|fault| fault.at_line(0))?;
+    let text = text_for(alloc, &input, form)?;
+    write_text(writer, text.as_bytes()).map_err(|fault| fault.at_line(0))
+}
+
+// What is told of an input, the whole of it.
+fn text_for(alloc: Global, input: &[u8], form: Form) -> Result<String, ReplayFault>
+    ensures ok { OnOk result (IsTrace input.now) }
+    ensures fault { IfErr result (λ f. IsOutputFault input.now f) }
+    ensures not_write { IfErr result (λ f. f.fault ≢ Fault.Write) }
+{
+    let trace = Trace::parse(alloc, input)?;
+    let watched = watch_trace(alloc, &trace)?;
+    match form {
+        Form::Csv => Ok(csv_of(alloc, &trace.ops, &watched)?),
+        Form::Table => {
+            let counts = counts_of(alloc, &trace.ops, &watched.answers)?;
+            let summary = summary_of(&watched);
+            let asked = asked_bytes(alloc, &trace.ops, &watched.answers)?;
+            let advice = advice_of(alloc, &trace, &watched)?;
+            Ok(table_of(alloc, &counts, summary, asked, advice)?)
+        }
+    }
+}
