@@ -1,92 +1,213 @@
-//! Each call with ample memory. Payloads lie at the first multiple of their alignment that leaves 16 bytes before it, and blocks are as
-//! short as multiples of 32 allow.
+//! Scripts of calls, each with what it answers. Payloads lie at the first multiple of their alignment that leaves 16 bytes before it, and
+//! blocks are as short as multiples of 32 allow.
 
-use super::pools::{START, Small, at, with_pool};
+use super::pools::{START, Small, at, number};
 use rlsf_base::memory::{Layout, Memory, Range};
 use rlsf_checked::{CheckedError, CheckedTlsf};
+use std::process::Abort;
 use std::test::Fail;
 
-#[test]
-fn payloads_are_written_and_read(rt: HostRuntime) -> Result<(), Fail> {
-    let mut pool = with_pool(rt.alloc(), 1024, 1024)?;
-    let first = pool.allocate(Layout::from_size_align(100, 32)?)?;
-    assert_eq!(rt; first.get(), 4128);
-    assert_eq!(rt; pool.usable_size(first), Ok(128));
-    assert_eq!(rt; pool.write(first, 125, &[1, 2, 3]), Ok(()));
+/// A call, and what it answers.
+#[derive(Clone, Copy)]
+enum Step {
+    Insert(usize, usize, Result<usize, CheckedError>),
+    Append(usize, usize, Result<usize, CheckedError>),
+    Allocate(usize, usize, Result<usize, CheckedError>),
+    Deallocate(usize, Result<(), CheckedError>),
+    Reallocate(usize, usize, Result<usize, CheckedError>),
+    ReallocateThere(usize, usize, Result<usize, CheckedError>),
+    Usable(usize, Result<usize, CheckedError>),
+    Payload(usize, Result<usize, CheckedError>),
+    Write(usize, usize, &'static [u8], Result<(), CheckedError>),
+    Read(usize, usize, Result<[u8; 4], CheckedError>),
+    Block(usize, usize, usize, bool),
+}
+
+/// How many bytes a payload has.
+fn len_of(pool: &Small, rt: &impl Abort, addr: usize) -> Result<usize, CheckedError> {
+    Ok(pool.payload(at(rt, addr))?.len())
+}
+
+/// Four bytes of a payload from an offset on.
+fn read_four(
+    pool: &Small,
+    rt: &impl Abort,
+    addr: usize,
+    offset: usize,
+) -> Result<[u8; 4], CheckedError> {
     let mut bytes = [9; 4];
-    assert_eq!(rt; pool.read(first, 124, &mut bytes), Ok(()));
-    assert_eq!(rt; bytes, [0, 1, 2, 3]);
-    assert_eq!(rt; pool.payload(first)?.len(), 128);
-    assert_eq!(rt; pool.memory_ref().len(), 1024);
-    assert_eq!(rt; pool.deallocate(first), Ok(()));
-    Ok(())
+    pool.read(at(rt, addr), offset, &mut bytes)?;
+    Ok(bytes)
 }
 
-#[test]
-fn payloads_get_another_size(rt: HostRuntime) -> Result<(), Fail> {
-    let mut pool = with_pool(rt.alloc(), 1024, 1024)?;
-    let first = pool.allocate(Layout::from_size_align(100, 32)?)?;
-    let second = pool.allocate(Layout::from_size_align(10, 1)?)?;
-    assert_eq!(rt; second.get(), 4272);
-    assert_eq!(rt; pool.write(first, 5, &[1, 2, 3]), Ok(()));
-    assert_eq!(rt; pool.reallocate_no_move(first, 128), Ok(first));
-    assert_eq!(rt;
-        pool.reallocate_no_move(first, 129),
-        Err(CheckedError::NoRoom)
-    );
-    let moved = pool.reallocate(first, 200)?;
-    assert_eq!(rt; moved.get(), 4320);
-    assert_eq!(rt; pool.usable_size(moved), Ok(224));
-    assert_eq!(rt; pool.usable_size(first), Err(CheckedError::UnknownAddress));
-    let mut bytes = [9; 4];
-    assert_eq!(rt; pool.read(moved, 4, &mut bytes), Ok(()));
-    assert_eq!(rt; bytes, [0, 1, 2, 3]);
-    Ok(())
+/// Whether the block of this place in the walk is this one.
+fn has_block(pool: &Small, place: usize, start: usize, size: usize, is_used: bool) -> bool {
+    match pool.blocks().nth(place) {
+        Some(block) => block.as_ptr().start == start
+            && block.size() == size
+            && block.is_occupied() == is_used,
+        None => false,
+    }
 }
 
-#[test]
-fn blocks_are_those_of_what_was_handed_in(rt: HostRuntime) -> Result<(), Fail> {
-    let mut pool = with_pool(rt.alloc(), 1024, 1024)?;
-    assert_eq!(rt;
-        pool.allocate(Layout::from_size_align(100, 32)?),
-        Ok(at(&rt, 4128))
-    );
-    let mut blocks = pool.blocks();
-    assert_eq!(rt;
-        blocks
-            .next()
-            .map(|b| (b.as_ptr().start, b.size(), b.is_occupied())),
-        Some((4096, 160, true))
-    );
-    assert_eq!(rt;
-        blocks
-            .next()
-            .map(|b| (b.as_ptr().start, b.size(), b.is_occupied())),
-        Some((4256, 832, false))
-    );
-    assert_eq!(rt; blocks.next().map(|b| b.size()), None);
-    Ok(())
+/// The layout of a size and an alignment, which the scripts know to be right.
+fn layout(rt: &impl Abort, size: usize, align: usize) -> Layout {
+    Layout::from_size_align(size, align).expect(rt, "a layout")
 }
 
-#[test]
-fn ranges_are_handed_in_behind_each_other(rt: HostRuntime) -> Result<(), Fail> {
-    let memory = Memory::new(rt.alloc(), START, 1024)?;
-    let mut pool = Small::new(rt.alloc(), memory)?;
-    let range = |start: usize, len: usize| Range { start, len };
-    assert_eq!(rt;
-        pool.insert(range(4000, 200)),
-        Err(CheckedError::OutsideMemory)
-    );
-    assert_eq!(rt;
-        pool.insert(range(4096, 1025)),
-        Err(CheckedError::OutsideMemory)
-    );
-    assert_eq!(rt; pool.insert(range(4096, 63)), Err(CheckedError::TooShort));
+/// Whether a call on a payload answers what it should.
+fn answers_as(pool: &mut Small, rt: &impl Abort, step: &Step) -> bool {
+    match step {
+        Step::Insert(start, len, wanted) => pool.insert(Range {
+            start: *start,
+            len: *len,
+        }) == *wanted,
+        Step::Append(start, len, wanted) => pool.append(Range {
+            start: *start,
+            len: *len,
+        }) == *wanted,
+        Step::Allocate(size, align, wanted) => number(pool.allocate(layout(rt, *size, *align)))
+            == *wanted,
+        Step::Deallocate(addr, wanted) => pool.deallocate(at(rt, *addr)) == *wanted,
+        Step::Reallocate(addr, size, wanted) => number(pool.reallocate(at(rt, *addr), *size))
+            == *wanted,
+        Step::ReallocateThere(addr, size, wanted) => number(pool.reallocate_no_move(
+            at(rt, *addr),
+            *size,
+        )) == *wanted,
+        Step::Usable(addr, wanted) => pool.usable_size(at(rt, *addr)) == *wanted,
+        Step::Payload(addr, wanted) => len_of(pool, rt, *addr) == *wanted,
+        Step::Write(addr, offset, bytes, wanted) => pool.write(at(rt, *addr), *offset, bytes)
+            == *wanted,
+        Step::Read(addr, offset, wanted) => read_four(pool, rt, *addr, *offset) == *wanted,
+        Step::Block(place, start, size, is_used) => has_block(
+            pool, *place, *start, *size, *is_used,
+        ),
+    }
+}
+
+const SIZES: &[Step] = &[
+    Step::Insert(4096, 1024, Ok(1024)),
+    Step::Allocate(100, 32, Ok(4128)),
+    Step::Usable(4128, Ok(128)),
+    Step::Payload(4128, Ok(128)),
+    Step::Allocate(10, 1, Ok(4272)),
+    Step::Write(4128, 5, &[1, 2, 3], Ok(())),
+    Step::ReallocateThere(4128, 128, Ok(4128)),
+    Step::ReallocateThere(4128, 129, Err(CheckedError::NoRoom)),
+    Step::Reallocate(4128, 200, Ok(4320)),
+    Step::Usable(4320, Ok(224)),
+    Step::Usable(4128, Err(CheckedError::UnknownAddress)),
+    Step::Read(4320, 4, Ok([0, 1, 2, 3])),
+    Step::Block(0, 4096, 160, false),
+    Step::Block(1, 4256, 32, true),
+    Step::Block(2, 4288, 256, true),
+    Step::Block(3, 4544, 544, false),
+    Step::Deallocate(4320, Ok(())),
+    Step::Deallocate(4272, Ok(())),
+    Step::Block(0, 4096, 992, false),
+];
+
+const RANGES: &[Step] = &[
+    Step::Append(4096, 128, Err(CheckedError::NotNext)),
+    Step::Insert(4000, 200, Err(CheckedError::OutsideMemory)),
+    Step::Insert(4096, 1025, Err(CheckedError::OutsideMemory)),
+    Step::Insert(4096, 63, Err(CheckedError::TooShort)),
     // From 4128 on, 96 bytes of the range can be taken, after 28 that are skipped.
-    assert_eq!(rt; pool.insert(range(4100, 127)), Ok(124));
-    assert_eq!(rt; pool.insert(range(4223, 200)), Err(CheckedError::NotBehind));
-    assert_eq!(rt; pool.insert(range(4224, 64)), Ok(64));
-    assert_eq!(rt; pool.insert(range(5120, 0)), Err(CheckedError::TooShort));
+    Step::Insert(4100, 127, Ok(124)),
+    Step::Insert(4223, 200, Err(CheckedError::NotBehind)),
+    Step::Insert(4224, 64, Ok(64)),
+    Step::Append(4288, 833, Err(CheckedError::OutsideMemory)),
+    Step::Append(4320, 128, Err(CheckedError::NotNext)),
+    Step::Append(4288, 63, Err(CheckedError::TooShort)),
+    // With 12 rows chunks have a greatest length, so the range is a chunk of its own.
+    Step::Append(4288, 140, Ok(128)),
+    Step::Block(0, 4224, 32, false),
+    Step::Block(1, 4288, 96, false),
+    Step::Insert(5120, 0, Err(CheckedError::TooShort)),
+];
+
+const REFUSALS: &[Step] = &[
+    Step::Insert(4096, 1024, Ok(1024)),
+    Step::Allocate(100, 1, Ok(4112)),
+    Step::Allocate(960, 1, Err(CheckedError::NoRoom)),
+    Step::Reallocate(4112, 18446744073709551615, Err(CheckedError::NoLayout)),
+    Step::Reallocate(4112, 9223372036854775808, Err(CheckedError::NoLayout)),
+    Step::Reallocate(4112, 9223372036854775807, Err(CheckedError::NoRoom)),
+    Step::ReallocateThere(4112, 9223372036854775808, Err(CheckedError::NoLayout)),
+    Step::ReallocateThere(4112, 1000, Err(CheckedError::NoRoom)),
+    Step::Write(4112, 112, &[1], Err(CheckedError::OutOfRange)),
+    Step::Write(
+        4112,
+        18446744073709551615,
+        &[1],
+        Err(CheckedError::OutOfRange),
+    ),
+    Step::Write(4112, 112, &[], Ok(())),
+    Step::Read(4112, 109, Err(CheckedError::OutOfRange)),
+    Step::Read(4112, 108, Ok([0, 0, 0, 0])),
+    Step::Deallocate(4112, Ok(())),
+    Step::Deallocate(4112, Err(CheckedError::UnknownAddress)),
+];
+
+#[test]
+fn scripts(rt: HostRuntime) -> Result<(), Fail> {
+    for script in [SIZES, RANGES, REFUSALS] {
+        let mut pool = Small::new(rt.alloc(), Memory::new(rt.alloc(), START, 1024)?)?;
+        for (place, step) in script.iter().enumerate() {
+            if !answers_as(&mut pool, &rt, step) {
+                return Err(Fail::new(place));
+            }
+        }
+    }
+    Ok(())
+}
+
+/// Whether all that a payload's address is asked for is refused.
+fn is_strange(pool: &mut Small, rt: &impl Abort, addr: usize) -> bool {
+    let strange = CheckedError::UnknownAddress;
+    let steps = [
+        Step::Usable(addr, Err(strange)),
+        Step::Payload(addr, Err(strange)),
+        Step::Read(addr, 0, Err(strange)),
+        Step::Write(addr, 0, &[1], Err(strange)),
+        Step::Reallocate(addr, 18446744073709551615, Err(strange)),
+        Step::ReallocateThere(addr, 18446744073709551615, Err(strange)),
+        Step::Deallocate(addr, Err(strange)),
+    ];
+    steps.iter().all(|step| answers_as(pool, rt, step))
+}
+
+/// Addresses at which no payload lies: before, in and behind the memory, and in the payload that lies at 4112.
+static STRANGE: [usize; 14] = [
+    1,
+    16,
+    4095,
+    4096,
+    4097,
+    4104,
+    4111,
+    4113,
+    4120,
+    4128,
+    5104,
+    5120,
+    5136,
+    18446744073709551615,
+];
+
+#[test]
+fn strange_addresses_are_refused(rt: HostRuntime) -> Result<(), Fail> {
+    let mut pool = Small::new(rt.alloc(), Memory::new(rt.alloc(), START, 1024)?)?;
+    let all = [
+        Step::Insert(4096, 1024, Ok(1024)),
+        Step::Allocate(100, 1, Ok(4112)),
+    ];
+    assert!(rt; all.iter().all(|step| answers_as(&mut pool, &rt, step)));
+    for addr in STRANGE {
+        assert!(rt; is_strange(&mut pool, &rt, addr));
+    }
+    assert_eq!(rt; pool.usable_size(at(&rt, 4112)), Ok(112));
     Ok(())
 }
 
@@ -114,152 +235,31 @@ fn classes_are_tested(rt: HostRuntime) -> Result<(), Fail> {
     Ok(())
 }
 
-/// Addresses at which no payload lies: before, in and behind the memory, and in the payload that lies at 4112.
-static STRANGE: [usize; 14] = [
-    1,
-    16,
-    4095,
-    4096,
-    4097,
-    4104,
-    4111,
-    4113,
-    4120,
-    4128,
-    5104,
-    5120,
-    5136,
-    usize::MAX,
-];
-
-#[test]
-fn strange_addresses_are_refused(rt: HostRuntime) -> Result<(), Fail> {
-    let mut pool = with_pool(rt.alloc(), 1024, 1024)?;
-    assert_eq!(rt;
-        pool.allocate(Layout::from_size_align(100, 1)?),
-        Ok(at(&rt, 4112))
-    );
-    for number in STRANGE {
-        let addr = at(&rt, number);
-        let mut byte = [0];
-        assert_eq!(rt; pool.usable_size(addr), Err(CheckedError::UnknownAddress));
-        assert_eq!(rt;
-            pool.read(addr, 0, &mut byte),
-            Err(CheckedError::UnknownAddress)
-        );
-        assert_eq!(rt;
-            pool.write(addr, 0, &[1]),
-            Err(CheckedError::UnknownAddress)
-        );
-        assert_eq!(rt;
-            pool.payload(addr).err(),
-            Some(CheckedError::UnknownAddress)
-        );
-        assert_eq!(rt;
-            pool.reallocate(addr, usize::MAX),
-            Err(CheckedError::UnknownAddress)
-        );
-        assert_eq!(rt;
-            pool.reallocate_no_move(addr, usize::MAX),
-            Err(CheckedError::UnknownAddress)
-        );
-        assert_eq!(rt; pool.deallocate(addr), Err(CheckedError::UnknownAddress));
-    }
-    assert_eq!(rt; pool.usable_size(at(&rt, 4112)), Ok(112));
-    Ok(())
-}
-
-#[test]
-fn refusals_come_in_order(rt: HostRuntime) -> Result<(), Fail> {
-    let mut pool = with_pool(rt.alloc(), 1024, 1024)?;
-    let addr = pool.allocate(Layout::from_size_align(100, 1)?)?;
-    assert_eq!(rt;
-        pool.allocate(Layout::from_size_align(960, 1)?),
-        Err(CheckedError::NoRoom)
-    );
-    assert_eq!(rt;
-        pool.reallocate(addr, usize::MAX),
-        Err(CheckedError::NoLayout)
-    );
-    assert_eq!(rt;
-        pool.reallocate(addr, 9223372036854775808),
-        Err(CheckedError::NoLayout)
-    );
-    assert_eq!(rt;
-        pool.reallocate(addr, 9223372036854775807),
-        Err(CheckedError::NoRoom)
-    );
-    assert_eq!(rt;
-        pool.reallocate_no_move(addr, usize::MAX),
-        Err(CheckedError::NoLayout)
-    );
-    assert_eq!(rt;
-        pool.reallocate_no_move(addr, 1000),
-        Err(CheckedError::NoRoom)
-    );
-    assert_eq!(rt; pool.write(addr, 112, &[1]), Err(CheckedError::OutOfRange));
-    assert_eq!(rt;
-        pool.write(addr, usize::MAX, &[1]),
-        Err(CheckedError::OutOfRange)
-    );
-    assert_eq!(rt; pool.write(addr, 112, &[]), Ok(()));
-    let mut bytes = [7, 7];
-    assert_eq!(rt;
-        pool.read(addr, 111, &mut bytes),
-        Err(CheckedError::OutOfRange)
-    );
-    assert_eq!(rt; bytes, [7, 7]);
-    assert_eq!(rt; pool.deallocate(addr), Ok(()));
-    assert_eq!(rt; pool.deallocate(addr), Err(CheckedError::UnknownAddress));
-    Ok(())
-}
-
-#[test]
-fn ranges_are_appended(rt: HostRuntime) -> Result<(), Fail> {
-    let mut pool = with_pool(rt.alloc(), 1024, 256)?;
-    let range = |start: usize, len: usize| Range { start, len };
-    assert_eq!(rt;
-        pool.append(range(4352, 769)),
-        Err(CheckedError::OutsideMemory)
-    );
-    assert_eq!(rt; pool.append(range(4384, 128)), Err(CheckedError::NotNext));
-    assert_eq!(rt; pool.append(range(4352, 63)), Err(CheckedError::TooShort));
-    // With 12 rows chunks have a greatest length, so the range is a chunk of its own.
-    assert_eq!(rt; pool.append(range(4352, 140)), Ok(128));
-    assert_eq!(rt; pool.append(range(4480, 64)), Ok(64));
-    let mut blocks = pool.blocks();
-    assert_eq!(rt;
-        blocks.next().map(|b| (b.as_ptr().start, b.size())),
-        Some((4096, 224))
-    );
-    assert_eq!(rt;
-        blocks.next().map(|b| (b.as_ptr().start, b.size())),
-        Some((4352, 96))
-    );
-    assert_eq!(rt;
-        blocks.next().map(|b| (b.as_ptr().start, b.size())),
-        Some((4480, 32))
-    );
-    assert_eq!(rt; blocks.next().map(|b| b.size()), None);
-    Ok(())
-}
-
 #[test]
 fn the_last_chunk_grows(rt: HostRuntime) -> Result<(), Fail> {
-    let mut pool = CheckedTlsf::<u64, u64, 59, 8>::new(
-        rt.alloc(),
-        Memory::new(rt.alloc(), START, 1024)?,
-    )?;
-    let range = |start: usize, len: usize| Range { start, len };
-    assert_eq!(rt; pool.append(range(4096, 128)), Err(CheckedError::NotNext));
-    assert_eq!(rt; pool.insert(range(4096, 128)), Ok(128));
-    assert_eq!(rt; pool.append(range(4224, 31)), Err(CheckedError::TooShort));
-    assert_eq!(rt; pool.append(range(4224, 70)), Ok(64));
-    let mut blocks = pool.blocks();
+    let memory = Memory::new(rt.alloc(), START, 1024)?;
+    let mut pool = CheckedTlsf::<u64, u64, 59, 8>::new(rt.alloc(), memory)?;
     assert_eq!(rt;
-        blocks.next().map(|b| (b.as_ptr().start, b.size())),
-        Some((4096, 160))
+        pool.insert(Range {
+            start: 4096,
+            len: 128
+        }),
+        Ok(128)
     );
-    assert_eq!(rt; blocks.next().map(|b| b.size()), None);
+    assert_eq!(rt;
+        pool.append(Range {
+            start: 4224,
+            len: 31
+        }),
+        Err(CheckedError::TooShort)
+    );
+    assert_eq!(rt;
+        pool.append(Range {
+            start: 4224,
+            len: 70
+        }),
+        Ok(64)
+    );
+    assert_eq!(rt; pool.blocks().next().map(|block| block.size()), Some(160));
     Ok(())
 }

@@ -1,7 +1,7 @@
 //! What the tests share.
 
 use rlsf_base::memory::{Addr, Memory, Range};
-use rlsf_checked::CheckedTlsf;
+use rlsf_checked::{CheckedError, CheckedTlsf};
 use std::alloc::Global;
 use std::num::NonZeroUsize;
 use std::process::Abort;
@@ -27,4 +27,9 @@ pub(crate) fn with_pool(alloc: Global, len: usize, first: usize) -> Result<Small
 /// The address of a number that isn't 0.
 pub(crate) fn at(rt: &impl Abort, number: usize) -> Addr {
     NonZeroUsize::new(number).expect(rt, "an address")
+}
+
+/// The number of an address that is answered.
+pub(crate) fn number(answer: Result<Addr, CheckedError>) -> Result<usize, CheckedError> {
+    answer.map(NonZeroUsize::get)
 }
