@@ -6,7 +6,9 @@ use Rattle.rlsf_base.specs.Addr.{at}
 use Rattle.rlsf_base.specs.Range.{end_of}
 use Rattle.rlsf_base.specs.Sizes.{max_pool_size}
 use Rattle.rlsf_base.specs.Space.{range_of}
+use Rattle.rlsf_machine.specs.Callers.{align_at}
 use Rattle.rlsf_machine.specs.Insert.{aligned_part, appended_bytes, bytes_taken, cut}
+use Rattle.rlsf_machine.specs.State.{State}
 use Rattle.rlsf_checked.specs.declared.error.CheckedError.{CheckedError}
 use Rattle.rlsf_checked.specs.declared.error.CheckedError.TheVariants.{NoLayout, NoRoom, NotBehind, NotNext, OutOfRange, OutsideMemory, TooShort, UnknownAddress}
 use Rattle.rlsf_checked.specs.Checked.{Checked}
@@ -29,6 +31,10 @@ fits offset len bytes = nat_le (offset + len) (length bytes)
 abbrev pub size_refusal : Option ℕ → ℕ → Option CheckedError
 size_refusal None size = Some UnknownAddress
 size_refusal (Some align) size = if nat_le (size + align) (2 ^ 63) then None else Some NoLayout
+
+-- so of the payload at an address
+abbrev pub refusal_at : State → ℕ → ℕ → Option CheckedError
+refusal_at s addr size = size_refusal (align_at s addr) size
 
 -- the refusal that is told is the answer; where none is told, only room may lack
 abbrev pub IsRefusedBy : {A : Type 0} → Option CheckedError → Result A CheckedError → Type 0

@@ -10,7 +10,7 @@ ghost use Rattle.rlsf_base.specs.SizeClass.{IsValid};
 ghost use Rattle.rlsf_base.specs.Sizes.{max_pool_size};
 ghost use Rattle.rlsf_base.specs.Space.{range_of, SamePlace};
 ghost use Rattle.rlsf_machine.specs.Allocate.{Allocates};
-ghost use Rattle.rlsf_machine.specs.Callers.{align_at, bytes_at};
+ghost use Rattle.rlsf_machine.specs.Callers.{align_at, bytes_at, written_over};
 ghost use Rattle.rlsf_machine.specs.Insert.{Appends, Inserts, aligned_part, cut};
 ghost use Rattle.rlsf_machine.specs.NoMove.{ReallocatesWithoutMove};
 ghost use Rattle.rlsf_machine.specs.Reallocate.{Keeps, Reallocates};
@@ -19,7 +19,7 @@ ghost use Rattle.rlsf_machine.specs.Run.{Fills};
 ghost use Rattle.rlsf_machine.specs.State.{empty};
 ghost use Rattle.rlsf_blocks.specs.Blocks.{AreBlocks, walked};
 ghost use Rattle.rlsf_tlsf.specs.Allocator.{Steps, Stands};
-ghost use Rattle.rlsf_checked.specs.Answers.{IsRefusedBy, append_answer, fits, if_fits, if_live, insert_answer, is_next, is_within, placed, size_refusal, taken};
+ghost use Rattle.rlsf_checked.specs.Answers.{IsRefusedBy, append_answer, fits, if_fits, if_live, insert_answer, is_next, is_within, placed, refusal_at, taken};
 ghost use Rattle.rlsf_checked.specs.declared.error.CheckedError.TheVariants.{InvalidClasses, NoRoom, OutOfMemory, UnknownAddress};
 
 use crate::classes::are_valid;
@@ -242,8 +242,8 @@ impl<FLBitmap: Bitmap, SLBitmap: Bitmap, const FLLEN: usize, const SLLEN: usize>
     /// `UnknownAddress` exactly where none lives at the address, else `NoLayout` exactly where the size and the alignment together are
     /// above 2^63, else `NoRoom` exactly where the machine refuses. Then nothing changes.
     pub fn reallocate(&mut self, addr: Addr, size: usize) -> Result<Addr, CheckedError>
-        ensures answer { IsRefusedBy (size_refusal (align_at self.old.heap.state (at addr)) size) result }
-        ensures step { size_refusal (align_at self.old.heap.state (at addr)) size ≡ None
+        ensures answer { IsRefusedBy (refusal_at self.old.heap.state (at addr) size) result }
+        ensures step { refusal_at self.old.heap.state (at addr) size ≡ None
             → Steps FLLEN SLLEN self.old.heap self.new.heap (Reallocates SLLEN self.old.heap.state (at addr) size (placed result)) }
         ensures live { IfOk result (λ to. align_at self.new.heap.state (at to) ≡ align_at self.old.heap.state (at addr)) }
         ensures sized { IfOk result (λ to. size ≤ length (bytes_at self.new.heap.state (at to))) }
@@ -281,8 +281,8 @@ impl<FLBitmap: Bitmap, SLBitmap: Bitmap, const FLLEN: usize, const SLLEN: usize>
     /// `UnknownAddress` exactly where none lives at the address, else `NoLayout` exactly where the size and the alignment together are
     /// above 2^63, else `NoRoom` exactly where its block and a free one behind it don't suffice. Then nothing changes.
     pub fn reallocate_no_move(&mut self, addr: Addr, size: usize) -> Result<Addr, CheckedError>
-        ensures answer { IsRefusedBy (size_refusal (align_at self.old.heap.state (at addr)) size) result }
-        ensures step { size_refusal (align_at self.old.heap.state (at addr)) size ≡ None
+        ensures answer { IsRefusedBy (refusal_at self.old.heap.state (at addr) size) result }
+        ensures step { refusal_at self.old.heap.state (at addr) size ≡ None
             → Steps FLLEN SLLEN self.old.heap self.new.heap (ReallocatesWithoutMove self.old.heap.state (at addr) size (placed result)) }
         ensures there { IfOk result (λ to. at to ≡ at addr) }
         ensures sized { IfOk result (λ to. size ≤ length (bytes_at self.new.heap.state (at addr))) }
@@ -363,9 +363,8 @@ impl<FLBitmap: Bitmap, SLBitmap: Bitmap, const FLLEN: usize, const SLLEN: usize>
     pub fn write(&mut self, addr: Addr, offset: usize, bytes: &[u8]) -> Result<(), CheckedError>
         ensures answer { result ≡ if_fits (align_at self.old.heap.state (at addr)) (fits offset (length bytes.now) (bytes_at self.old.heap.state (at addr))) }
         ensures step { OnOk result (Steps FLLEN SLLEN self.old.heap self.new.heap (Fills self.old.heap.state (at addr)
-            (splice (bytes_at self.old.heap.state (at addr)) offset (offset + length bytes.now) bytes.now))) }
-        ensures written { OnOk result (bytes_at self.new.heap.state (at addr)
-            ≡ splice (bytes_at self.old.heap.state (at addr)) offset (offset + length bytes.now) bytes.now) }
+            (written_over self.old.heap.state (at addr) offset bytes.now))) }
+        ensures written { OnOk result (bytes_at self.new.heap.state (at addr) ≡ written_over self.old.heap.state (at addr) offset bytes.now) }
         ensures aligns { align_at self.new.heap.state ≡ align_at self.old.heap.state }
         ensures bytes { (a : ℕ) → a ≢ at addr → bytes_at self.new.heap.state a ≡ bytes_at self.old.heap.state a }
         ensures same { OnErr result (self.new ≡ self.old) }

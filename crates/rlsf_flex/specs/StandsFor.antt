@@ -16,6 +16,7 @@ use Rattle.rlsf_machine.specs.Answers.{MayAnswerAll}
 use Rattle.rlsf_machine.specs.FlexState.{FlexState, KeptPool, with_machine}
 use Rattle.rlsf_machine.specs.FlexWellFormed.{IsFlexWellFormed}
 use Rattle.rlsf_machine.specs.Note.{Note, LeadsBy}
+use Rattle.rlsf_machine.specs.Run.{Fills}
 use Rattle.rlsf_machine.specs.State.{State}
 use Rattle.rlsf_machine.specs.Terms.{Terms}
 
@@ -70,6 +71,10 @@ unfoldable pub StepsAlone : {S : Type 0} → ℕ → ℕ → (S → Terms) → (
 StepsAlone fllen sllen terms owes before after step =
     step after.state.machine × (after.state ≡ with_machine before.state after.state.machine) × FlexStandsFor fllen sllen terms owes after
     × KeepsSpare before.memory before.state.machine after.memory after.state.machine
+
+-- such a step writes the bytes of the payload at an address
+abbrev pub FillsAlone : {S : Type 0} → ℕ → ℕ → (S → Terms) → (S → List Range → Type 0) → FlexContents S → FlexContents S → ℕ → List ℕ → Type 0
+FillsAlone fllen sllen terms owes before after addr bytes = StepsAlone fllen sllen terms owes before after (Fills before.state.machine addr bytes)
 
 -- A step of the machine that may ask the source for memory leads to the state after, with notes that, one by one and no others, lead
 -- from the source's value before to the one after, and whose answers are such as a source may give. Bytes of the memory outside of

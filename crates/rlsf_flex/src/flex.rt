@@ -5,21 +5,19 @@ ghost use Rattle.std.specs.Prelude.{◌≡◌, ◌≢◌, ◌≤◌, ◌<◌, �
 ghost use Rattle.rlsf_base.specs.Addr.{at, reply};
 ghost use Rattle.rlsf_base.specs.Range.{LiesIn};
 ghost use Rattle.rlsf_base.specs.SizeClass.{IsValid};
-ghost use Rattle.rlsf_base.specs.Sizes.{request_size};
 ghost use Rattle.rlsf_base.specs.Space.{SamePlace};
 ghost use Rattle.rlsf_blocks.specs.Spare.{KeepsSpare};
-ghost use Rattle.rlsf_machine.specs.Allocate.{choice};
-ghost use Rattle.rlsf_machine.specs.Callers.{align_at, bytes_at};
+ghost use Rattle.rlsf_machine.specs.Allocate.{HasRoomFor};
+ghost use Rattle.rlsf_machine.specs.Callers.{align_at, bytes_at, copied_over};
 ghost use Rattle.rlsf_machine.specs.End.{notes_at_end, owed_at_end};
 ghost use Rattle.rlsf_machine.specs.FlexAllocate.{FlexAllocates};
 ghost use Rattle.rlsf_machine.specs.FlexReallocate.{FlexReallocates};
 ghost use Rattle.rlsf_machine.specs.FlexState.{empty};
 ghost use Rattle.rlsf_machine.specs.Note.{LeadsBy};
 ghost use Rattle.rlsf_machine.specs.NoMove.{ReallocatesWithoutMove};
-ghost use Rattle.rlsf_machine.specs.Reallocate.{Keeps, Plan, Reallocates, in_place, into_next, or_else};
+ghost use Rattle.rlsf_machine.specs.Reallocate.{HasRoomToResize, HasRoomToStay, Keeps};
 ghost use Rattle.rlsf_machine.specs.Release.{Deallocates};
 ghost use Rattle.rlsf_machine.specs.Run.{Fills};
-ghost use Rattle.rlsf_machine.specs.State.{State, Used, with_front, Holds};
 ghost use Rattle.rlsf_machine.specs.Trim.{Trims};
 
 use crate::end::{give_back, newest_range};
@@ -142,8 +140,7 @@ impl<
         ensures same { IfNone result (self.new.state ≡ self.old.state) }
         ensures refused { IfNone result (self.new.memory.bytes ≡ self.old.memory.bytes) }
         ensures place { SamePlace self.old.memory self.new.memory }
-        ensures touches { IsSome (choice SLLEN (request_size layout.size layout.align) self.old.state.machine.free)
-            → self.new.memory.touches ≤ self.old.memory.touches + 27 }
+        ensures touches { HasRoomFor SLLEN self.old.state.machine layout.size layout.align → self.new.memory.touches ≤ self.old.memory.touches + 27 }
         ensures grow { self.old.memory.touches ≤ self.new.memory.touches }
         ensures copied { self.new.memory.copied ≡ self.old.memory.copied }
     {
@@ -225,15 +222,13 @@ impl<
         ensures same { IfNone result (self.new.state ≡ self.old.state) }
         ensures refused { IfNone result (self.new.memory.bytes ≡ self.old.memory.bytes) }
         ensures place { SamePlace self.old.memory self.new.memory }
-        ensures touches { (to : ℕ) (m : State) → Reallocates SLLEN self.old.state.machine (at addr) layout.size (Some to) m
+        ensures touches { HasRoomToResize SLLEN self.old.state.machine (at addr) layout.size
             → self.new.memory.touches ≤ self.old.memory.touches + 66 }
         ensures grow { self.old.memory.touches ≤ self.new.memory.touches }
-        ensures copied { (to : ℕ) (m : State) → Reallocates SLLEN self.old.state.machine (at addr) layout.size (Some to) m
+        ensures copied { HasRoomToResize SLLEN self.old.state.machine (at addr) layout.size
             → self.new.memory.copied ≤ self.old.memory.copied + length (bytes_at self.old.state.machine (at addr)) }
         ensures grow_copied { self.old.memory.copied ≤ self.new.memory.copied }
-        ensures stays { (u : Used) (p : Plan) → Holds self.old.state.machine (at addr) u
-            → or_else (in_place self.old.state.machine u layout.size) (into_next self.old.state.machine u layout.size) ≡ Some p
-            → self.new.memory.copied ≡ self.old.memory.copied }
+        ensures stays { HasRoomToStay self.old.state.machine (at addr) layout.size → self.new.memory.copied ≡ self.old.memory.copied }
     {
         if let Some(moved) = self.tlsf.reallocate(addr, layout) {
             return Some(moved);
@@ -308,7 +303,7 @@ impl<
         ensures* writes_back { sem 𝓛 (lends_payload S.row FLBitmap.row SLBitmap.row FLLEN.row SLLEN.row S.FlexSource FLBitmap.BitPattern SLBitmap.BitPattern self.entry (at addr) result) }
         ensures value { result.now ≡ bytes_at self.old.state.machine (at addr) }
         ensures meaning { (w : List ℕ) → length w ≡ length result.now
-            → StepsAlone FLLEN SLLEN S.terms S.owes self.old (written self.old (at addr) (length result.now) w) (Fills self.old.state.machine (at addr) w) }
+            → FillsAlone FLLEN SLLEN S.terms S.owes self.old (written self.old (at addr) (length result.now) w) (at addr) w }
         ensures filled { (w : List ℕ) → length w ≡ length result.now → bytes_at (written self.old (at addr) (length result.now) w).state.machine (at addr) ≡ w }
         ensures bytes { (w : List ℕ) (a : ℕ) → a ≢ at addr → bytes_at (written self.old (at addr) (length result.now) w).state.machine a ≡ bytes_at self.old.state.machine a }
         ensures aligns { (w : List ℕ) → align_at (written self.old (at addr) (length result.now) w).state.machine ≡ align_at self.old.state.machine }
@@ -325,9 +320,8 @@ impl<
     pub fn copy_payload(&mut self, from: Addr, to: Addr, len: usize)
         requires live { IsSome (align_at self.old.state.machine (at from)) × IsSome (align_at self.old.state.machine (at to)) }
         requires long { (len ≤ length (bytes_at self.old.state.machine (at from))) × (len ≤ length (bytes_at self.old.state.machine (at to))) }
-        ensures step { StepsAlone FLLEN SLLEN S.terms S.owes self.old self.new
-            (Fills self.old.state.machine (at to) (with_front len (bytes_at self.old.state.machine (at from)) (bytes_at self.old.state.machine (at to)))) }
-        ensures filled { bytes_at self.new.state.machine (at to) ≡ with_front len (bytes_at self.old.state.machine (at from)) (bytes_at self.old.state.machine (at to)) }
+        ensures step { FillsAlone FLLEN SLLEN S.terms S.owes self.old self.new (at to) (copied_over self.old.state.machine (at from) (at to) len) }
+        ensures filled { bytes_at self.new.state.machine (at to) ≡ copied_over self.old.state.machine (at from) (at to) len }
         ensures bytes { (a : ℕ) → a ≢ at to → bytes_at self.new.state.machine a ≡ bytes_at self.old.state.machine a }
         ensures aligns { align_at self.new.state.machine ≡ align_at self.old.state.machine }
         ensures chunks { self.new.state.machine.chunks ≡ self.old.state.machine.chunks }

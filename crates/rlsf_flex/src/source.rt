@@ -3,7 +3,7 @@
 ghost use Rattle.std.specs.Prelude.{◌≡◌, ◌≤◌, ◌<◌, ◌%◌, ◌++◌, ◌∷◌, List, true, MatchOption};
 ghost use Rattle.rlsf_base.specs.declared.memory.range.Range.{Range};
 ghost use Rattle.rlsf_machine.specs.Note.{Note, alloc, dealloc, grow};
-ghost use Rattle.rlsf_machine.specs.Terms.{IsGiven, IsGrown, Terms, with_len};
+ghost use Rattle.rlsf_machine.specs.Terms.{IsGiven, OwesGrown, Terms};
 
 use rlsf_base::memory::Range;
 
@@ -39,7 +39,7 @@ pub trait FlexSource {
         requires longer { range.len ≤ min_new_len }
         ensures leads { leads self.old (grow range min_new_len result) self.new }
         ensures owes { (before after : List Range) → owes self.old (before ++ range ∷ after)
-            → MatchOption result (owes self.new (before ++ range ∷ after)) (λ len. IsGrown (terms self.old) (before ++ after) range min_new_len len × owes self.new (before ++ with_len range len ∷ after)) };
+            → OwesGrown (terms self.old) (owes self.new) before range after min_new_len result };
 
     /// Takes a range back, which is outstanding no more.
     ///

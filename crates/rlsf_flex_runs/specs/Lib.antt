@@ -1,3 +1,4 @@
 pub mod FlexEvents
 pub mod FlexRuns
 pub mod Steps
+pub mod Whole

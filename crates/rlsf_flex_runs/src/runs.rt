@@ -3,12 +3,9 @@
 ghost use Rattle.std.specs.Prelude.{◌≡◌, ℕ, ◌+◌, ◌≤◌, ◌++◌, List, [], OnOk, OnErr};
 ghost use Rattle.std.specs.HashMap.{spare};
 ghost use Rattle.rlsf_base.specs.Space.{range_of, SamePlace};
-ghost use Rattle.rlsf_flex.specs.Outside.{KeepsOutside};
-ghost use Rattle.rlsf_flex_runs.specs.FlexEvents.{RunsFlexByEvents};
-ghost use Rattle.rlsf_flex_runs.specs.FlexRuns.{FlexRunState, beginning, RunsFlex};
 ghost use Rattle.rlsf_flex_runs.specs.Steps.Names.{IsAt, LeadsOn};
+ghost use Rattle.rlsf_flex_runs.specs.Whole.{RunsFlexTo};
 ghost use Rattle.rlsf_machine.specs.FlexState.{empty};
-ghost use Rattle.rlsf_machine.specs.Note.{Note, LeadsBy};
 ghost use Rattle.rlsf_text.specs.declared.op.Answer.{Answer};
 
 use crate::payloads::{
@@ -68,10 +65,8 @@ pub fn run_flex<
     answers: &mut Vec<Answer>,
 ) -> Result<(), RunError>
     requires { flex.old.state ≡ empty }
-    ensures runs { OnOk result ((given : List Answer) × (notes : List Note) × (t : FlexRunState) × (answers.new.items ≡ answers.old.items ++ given)
-        × RunsFlex FLLEN SLLEN (S.terms flex.old.source) beginning ops.now given notes t × LeadsBy S.leads flex.old.source notes flex.new.source
-        × (flex.new.state ≡ t.flex) × KeepsOutside flex.old.memory [] notes flex.new.memory t.flex.pools
-        × RunsFlexByEvents FLLEN SLLEN (range_of flex.old.memory) (S.terms flex.old.source) empty ops.now given notes flex.new.state) }
+    ensures runs { OnOk result ((given : List Answer) × (answers.new.items ≡ answers.old.items ++ given)
+        × RunsFlexTo FLLEN SLLEN S.terms S.leads flex.old ops.now given flex.new) }
     ensures refused { OnErr result ((answers.new.items ≡ answers.old.items) × (flex.new ≡ flex.old)) }
     ensures place { SamePlace flex.old.memory flex.new.memory }
 {

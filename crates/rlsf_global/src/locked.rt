@@ -5,11 +5,9 @@ ghost use Rattle.std.specs.List.{splice};
 ghost use Rattle.rlsf_base.specs.Addr.{at};
 ghost use Rattle.rlsf_base.specs.Layout.{IsLayout};
 ghost use Rattle.rlsf_base.specs.Space.{range_of};
-ghost use Rattle.rlsf_base.specs.Sizes.{request_size};
 ghost use Rattle.rlsf_global.specs.Kept.{KeepsFirst};
-ghost use Rattle.rlsf_machine.specs.Allocate.{choice};
-ghost use Rattle.rlsf_machine.specs.Reallocate.{Reallocates};
-ghost use Rattle.rlsf_machine.specs.State.{State};
+ghost use Rattle.rlsf_machine.specs.Allocate.{HasRoomFor};
+ghost use Rattle.rlsf_machine.specs.Reallocate.{HasRoomToResize};
 ghost use Rattle.rlsf_placement.specs.declared.error.GlobalError.TheVariants.{UnknownAddress};
 ghost use Rattle.rlsf_placement.specs.Heap.{HasLayout, beginning, content_at, layout_at};
 ghost use Rattle.rlsf_placement.specs.Left.{in_both};
@@ -85,8 +83,7 @@ impl<Options: GlobalTlsfOptions> Locked<Options> {
         ensures layouts { IfOk result (λ addr. (a : ℕ) → a ≢ at addr → layout_at self.new.heap a ≡ layout_at self.old.heap a) }
         ensures contents { IfOk result (λ addr. (a : ℕ) → a ≢ at addr → content_at self.new.heap a ≡ content_at self.old.heap a) }
         ensures same { OnErr result (self.new.heap ≡ self.old.heap) }
-        ensures touches { IsSome (choice 64 (request_size layout.size layout.align) self.old.heap.flex.machine.free)
-            → self.new.memory.touches ≤ self.old.memory.touches + 27 }
+        ensures touches { HasRoomFor 64 self.old.heap.flex.machine layout.size layout.align → self.new.memory.touches ≤ self.old.memory.touches + 27 }
     {
         if self.rows.try_reserve(1).is_err() {
             return Err(GlobalError::TableMemory);
@@ -171,9 +168,9 @@ impl<Options: GlobalTlsfOptions> Locked<Options> {
         ensures layouts { IfOk result (λ to. (a : ℕ) → a ≢ at addr → a ≢ at to → layout_at self.new.heap a ≡ layout_at self.old.heap a) }
         ensures contents { IfOk result (λ to. (a : ℕ) → a ≢ at addr → a ≢ at to → content_at self.new.heap a ≡ content_at self.old.heap a) }
         ensures same { OnErr result (self.new.heap ≡ self.old.heap) }
-        ensures touches { Options.ENABLE_REALLOCATION ≡ true → (to : ℕ) (m : State)
-            → Reallocates 64 self.old.heap.flex.machine (at addr) new_size (Some to) m → self.new.memory.touches ≤ self.old.memory.touches + 66 }
-        ensures touches_elsewhere { Options.ENABLE_REALLOCATION ≡ false → IsSome (choice 64 (request_size new_size layout.align) self.old.heap.flex.machine.free)
+        ensures touches { Options.ENABLE_REALLOCATION ≡ true → HasRoomToResize 64 self.old.heap.flex.machine (at addr) new_size
+            → self.new.memory.touches ≤ self.old.memory.touches + 66 }
+        ensures touches_elsewhere { Options.ENABLE_REALLOCATION ≡ false → HasRoomFor 64 self.old.heap.flex.machine new_size layout.align
             → self.new.memory.touches ≤ self.old.memory.touches + 59 }
     {
         let Ok(at) = search(&self.rows, addr) else {
@@ -205,8 +202,7 @@ impl<Options: GlobalTlsfOptions> Locked<Options> {
         ensures layouts { IfOk result (λ to. (a : ℕ) → a ≢ at addr → a ≢ at to → layout_at self.new.heap a ≡ layout_at self.old.heap a) }
         ensures contents { IfOk result (λ to. (a : ℕ) → a ≢ at addr → a ≢ at to → content_at self.new.heap a ≡ content_at self.old.heap a) }
         ensures same { OnErr result (self.new.heap ≡ self.old.heap) }
-        ensures touches { IsSome (choice 64 (request_size layout.size layout.align) self.old.heap.flex.machine.free)
-            → self.new.memory.touches ≤ self.old.memory.touches + 59 }
+        ensures touches { HasRoomFor 64 self.old.heap.flex.machine layout.size layout.align → self.new.memory.touches ≤ self.old.memory.touches + 59 }
     {
         let Ok(at) = search(&self.rows, addr) else {
             return Err(GlobalError::UnknownAddress);

@@ -41,8 +41,7 @@ pub(crate) fn move_away<Options: GlobalTlsfOptions>(
     ensures moved { IfSome result (λ to. IsMoved flex.old flex.new (at addr) wanted (at to)) }
     ensures none { IfNone result ((rows : List Row) → MovesAway (heap_of flex.old rows) (at addr) keep wanted (Err NoRoom) (heap_of flex.new rows)) }
     ensures refused { IfNone result (StaysRefused flex.old flex.new) }
-    ensures touches { IsSome (choice 64 (request_size wanted.size wanted.align) flex.old.state.machine.free)
-        → flex.new.memory.touches ≤ flex.old.memory.touches + 59 }
+    ensures touches { HasRoomFor 64 flex.old.state.machine wanted.size wanted.align → flex.new.memory.touches ≤ flex.old.memory.touches + 59 }
 {
     let to = flex.allocate(wanted)?;
     flex.copy_payload(addr, to, keep);
@@ -67,9 +66,9 @@ pub(crate) fn resize<Options: GlobalTlsfOptions>(
     ensures none { IfNone result ((rows : List Row) → ReallocatesTo Options.ENABLE_REALLOCATION (heap_of flex.old rows) (at addr) layout wanted (Err NoRoom)
         (heap_of flex.new rows)) }
     ensures refused { IfNone result (StaysRefused flex.old flex.new) }
-    ensures touches { Options.ENABLE_REALLOCATION ≡ true → (to : ℕ) (m : State)
-        → Reallocates 64 flex.old.state.machine (at addr) wanted.size (Some to) m → flex.new.memory.touches ≤ flex.old.memory.touches + 66 }
-    ensures touches_elsewhere { Options.ENABLE_REALLOCATION ≡ false → IsSome (choice 64 (request_size wanted.size wanted.align) flex.old.state.machine.free)
+    ensures touches { Options.ENABLE_REALLOCATION ≡ true → HasRoomToResize 64 flex.old.state.machine (at addr) wanted.size
+        → flex.new.memory.touches ≤ flex.old.memory.touches + 66 }
+    ensures touches_elsewhere { Options.ENABLE_REALLOCATION ≡ false → HasRoomFor 64 flex.old.state.machine wanted.size wanted.align
         → flex.new.memory.touches ≤ flex.old.memory.touches + 59 }
 {
     if Options::ENABLE_REALLOCATION {

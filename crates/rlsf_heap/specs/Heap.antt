@@ -1,7 +1,9 @@
 -- Allocators of single allocations, and one as a source of memory.
-use Rattle.std.specs.Prelude.{◌≡◌, ℕ, ◌%◌, ◌<◌, ◌⊎◌, true, false, List, map, Option, Some, None}
+use Rattle.std.specs.Prelude.{◌≡◌, ℕ, ◌%◌, ◌<◌, ◌⊎◌, true, false, List, map, Option, Some, None, MatchOption}
+use Rattle.std.specs.declared.num.NonZeroUsize.{NonZeroUsize}
 use Rattle.std.specs.Int.{next_multiple_of}
 use Rattle.rlsf_base.specs.declared.memory.range.Range.{Range}
+use Rattle.rlsf_base.specs.Addr.{at}
 use Rattle.rlsf_base.specs.Layout.{IsLayout}
 use Rattle.rlsf_base.specs.Range.{range_at}
 use Rattle.rlsf_machine.specs.Insert.{IsVacant}
@@ -33,6 +35,11 @@ pub data HeapNote : Type 0 where
 pub record IsAllocated (space : Range) (owed : List Allocation) (a : Allocation) : Type 0 where
   pub aligned : a.addr % a.align ≡ 0
   pub vacant : IsVacant space (map bytes_of owed) (bytes_of a)
+
+-- what is owed after a question for an allocation: the same where none came; else also the one that came, which may be answered
+abbrev pub OwesAllocated : Range → (List Allocation → Type 0) → List Allocation → ℕ → ℕ → Option NonZeroUsize → Type 0
+OwesAllocated space owes owed size align reply =
+    MatchOption reply (owes owed) (λ addr. let a = allocation_at (at addr) size align in IsAllocated space owed a × owes (a ∷ owed))
 
 -- ---- as a source, which asks with one alignment and whole multiples of it
 

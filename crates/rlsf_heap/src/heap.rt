@@ -1,13 +1,13 @@
 //! Allocators of single allocations, and one as a source of memory.
 
-ghost use Rattle.std.specs.Prelude.{◌≡◌, ◌≤◌, ◌∷◌, ◌++◌, List, max, MatchOption};
+ghost use Rattle.std.specs.Prelude.{◌≡◌, ◌≤◌, ◌∷◌, ◌++◌, List, max};
 ghost use Rattle.std.specs.Int.NonZero.{non_zero_usize_get};
 ghost use Rattle.std.specs.Option.{option_map};
 ghost use Rattle.rlsf_base.specs.declared.memory.range.Range.{Range};
 ghost use Rattle.rlsf_heap.specs.Constant.{heap_terms-constant};
-ghost use Rattle.rlsf_heap.specs.Heap.{Allocation, allocation_at, HeapNote, allocate, deallocate, IsAllocated, heap_terms, HeapOwes, HeapLeads};
+ghost use Rattle.rlsf_heap.specs.Heap.{Allocation, allocation_at, HeapNote, allocate, deallocate, OwesAllocated, heap_terms, HeapOwes, HeapLeads};
 ghost use Rattle.rlsf_machine.specs.Note.{grow};
-ghost use Rattle.rlsf_machine.specs.Terms.{IsGrown, with_len};
+ghost use Rattle.rlsf_machine.specs.Terms.{OwesGrown};
 
 use rlsf_base::memory::{Addr, Layout, Range};
 use rlsf_flex::FlexSource;
@@ -30,7 +30,7 @@ pub trait GlobalAlloc {
     fn alloc(&mut self, layout: Layout) -> Option<Addr>
         ensures leads { leads self.old (allocate layout.size layout.align (option_map non_zero_usize_get result)) self.new }
         ensures owes { (owed : List Allocation) → owes self.old owed
-            → MatchOption result (owes self.new owed) (λ addr. let a = allocation_at (non_zero_usize_get addr) layout.size layout.align in IsAllocated (space self.old) owed a × owes self.new (a ∷ owed)) };
+            → OwesAllocated (space self.old) (owes self.new) owed layout.size layout.align result };
 
     /// Takes an allocation back, which is owed no more.
     ///
@@ -83,7 +83,7 @@ impl<T: GlobalAlloc, const ALIGN: usize> FlexSource for GlobalAllocAsFlexSource<
         requires { range.len ≤ min_new_len }
         ensures leads { HeapLeads T.leads (max ALIGN 32) self.old.0 (grow range min_new_len result) self.new.0 }
         ensures owes { (before after : List Range) → HeapOwes T.owes (max ALIGN 32) self.old.0 (before ++ range ∷ after)
-            → MatchOption result (HeapOwes T.owes (max ALIGN 32) self.new.0 (before ++ range ∷ after)) (λ len. IsGrown (heap_terms (T.space self.old.0) (max ALIGN 32)) (before ++ after) range min_new_len len × HeapOwes T.owes (max ALIGN 32) self.new.0 (before ++ with_len range len ∷ after)) }
+            → OwesGrown (heap_terms (T.space self.old.0) (max ALIGN 32)) (HeapOwes T.owes (max ALIGN 32) self.new.0) before range after min_new_len result }
     {
         let _ = (range, min_new_len);
         None

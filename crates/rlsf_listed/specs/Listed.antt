@@ -2,6 +2,7 @@
 use Rattle.std.specs.Prelude.{◌≡◌, ℕ, ◌≤◌, List, [], ◌∷◌, ◌++◌, length, nat_lt, if◌then◌else◌}
 use Rattle.rlsf_base.specs.declared.memory.range.Range.{Range}
 use Rattle.rlsf_base.specs.Range.{LiesIn}
+use Rattle.rlsf_listed.specs.declared.listed.Capabilities.{Capabilities}
 use Rattle.rlsf_listed.specs.declared.listed.Question.{Question}
 use Rattle.rlsf_listed.specs.declared.listed.Question.TheVariants.{Alloc, Grow, Dealloc}
 use Rattle.rlsf_machine.specs.Insert.{IsVacant}
@@ -9,6 +10,10 @@ use Rattle.rlsf_machine.specs.Lists.{IsIn}
 use Rattle.rlsf_machine.specs.Note.{Note, alloc, grow, dealloc}
 use Rattle.rlsf_machine.specs.Terms.{Terms}
 use Rattle.rlsf_machine.specs.WellFormed.{coverage, itself}
+
+-- the terms of a source in a space, by what it can do
+abbrev pub terms_in : Range → Capabilities → Terms
+terms_in space c = record { space = space; dealloc = c.dealloc; grow = c.grow; contiguous = c.contiguous; min_align = c.min_align }
 
 -- what the source keeps to; all that it handed out: new ranges, and the new bytes of ranges that grew; how many questions it has
 -- room for; and the questions with their answers that it remembers, in order

@@ -3,7 +3,7 @@
 ghost use Rattle.std.specs.Prelude.{◌≡◌, ◌≤◌, ◌-◌, ◌%◌, [], IfOk, MatchOption};
 ghost use Rattle.rlsf_base.specs.PowerOfTwo.{IsPowerOfTwo};
 ghost use Rattle.rlsf_base.specs.Range.{end_of, range_at};
-ghost use Rattle.rlsf_listed.specs.Listed.{HandsOut, MayOwe, Remembers, remembered};
+ghost use Rattle.rlsf_listed.specs.Listed.{HandsOut, MayOwe, Remembers, remembered, terms_in};
 
 use crate::ranges::hand_out;
 use rlsf_base::memory::Range;
@@ -67,12 +67,12 @@ impl Model for ListedSource {
     ghost use Rattle.std.specs.Prelude.{◌≤◌};
     ghost use Rattle.std.specs.Vec.{vec_capacity};
     ghost use Rattle.rlsf_base.specs.PowerOfTwo.{IsPowerOfTwo};
-    ghost use Rattle.rlsf_listed.specs.Listed.{Listed};
+    ghost use Rattle.rlsf_listed.specs.Listed.{Listed, terms_in};
 
     ghost Value = { Listed };
 
     ghost view = { λ s. record {
-      terms = record { space = s.space; dealloc = s.capabilities.dealloc; grow = s.capabilities.grow; contiguous = s.capabilities.contiguous; min_align = s.capabilities.min_align };
+      terms = terms_in s.space s.capabilities;
       taken = s.taken.items;
       room = s.room;
       asked = s.asked.items;
@@ -93,7 +93,7 @@ impl ListedSource {
         questions: usize,
     ) -> Result<ListedSource, AllocError>
         requires power { IsPowerOfTwo capabilities.min_align }
-        ensures terms { IfOk result (λ source. source.terms ≡ record { space = space; dealloc = capabilities.dealloc; grow = capabilities.grow; contiguous = capabilities.contiguous; min_align = capabilities.min_align }) }
+        ensures terms { IfOk result (λ source. source.terms ≡ terms_in space capabilities) }
         ensures owed { IfOk result (λ source. MayOwe source []) }
         ensures room { IfOk result (λ source. source.room ≡ questions) }
         ensures asked { IfOk result (λ source. source.asked ≡ []) }

@@ -1,5 +1,5 @@
 -- A free range gives its front to a new used block.
-use Rattle.std.specs.Prelude.{◌≡◌, ℕ, ◌-◌, Bool, ◌&&◌, ◌||◌, List, [], ◌∷◌, ◌++◌, length, Option, Some, None, find, option_and_then, nat_le, nat_lt, ◌==◌, if◌then◌else◌}
+use Rattle.std.specs.Prelude.{◌≡◌, ℕ, ◌-◌, Bool, ◌&&◌, ◌||◌, List, [], ◌∷◌, ◌++◌, length, Option, Some, None, IsSome, find, option_and_then, nat_le, nat_lt, ◌==◌, if◌then◌else◌}
 use Rattle.rlsf_base.specs.declared.memory.range.Range.{Range}
 use Rattle.rlsf_base.specs.Range.{end_of}
 use Rattle.rlsf_base.specs.SizeClass.{SizeClass, class_of, reaches}
@@ -32,6 +32,10 @@ least_reaching sllen size (f ∷ fs) =
 -- the first range of the list that has that class
 abbrev pub choice : ℕ → ℕ → List Range → Option Range
 choice sllen size free = option_and_then (λ c. find (has_class sllen c) free) (least_reaching sllen size free)
+
+-- some free range is chosen for a layout
+abbrev pub HasRoomFor : ℕ → State → ℕ → ℕ → Type 0
+HasRoomFor sllen s size align = IsSome (choice sllen (request_size size align) s.free)
 
 -- what a block that begins a span leaves of it: one range, or none if it takes all
 abbrev pub rest_behind : Range → ℕ → List Range

@@ -1,9 +1,10 @@
 -- What callers see of the machine: a map from addresses to payloads, and nothing of chunks, blocks or free ranges.
 use Rattle.std.specs.Prelude.{◌≡◌, ◌≢◌, ℕ, ◌+◌, ◌<◌, ◌≤◌, ◌==◌, List, [], length, Option, Some, None, find}
+use Rattle.std.specs.List.{splice}
 use Rattle.std.specs.Option.{option_map}
 use Rattle.rlsf_machine.specs.Reallocate.{Keeps}
 use Rattle.rlsf_machine.specs.Run.{Event, insert, append, allocate, deallocate, reallocate, fill, remove, trim}
-use Rattle.rlsf_machine.specs.State.{State, Used}
+use Rattle.rlsf_machine.specs.State.{State, Used, with_front}
 
 -- a payload: the alignment that was asked for, and its bytes, all that its caller may use
 pub record Payload : Type 0 where
@@ -30,6 +31,14 @@ bytes_of (Some p) = p.bytes
 -- the bytes of the payload at an address, or none where no payload is
 unfoldable pub bytes_at : State → ℕ → List ℕ
 bytes_at s addr = bytes_of (payload_at s addr)
+
+-- the bytes of the payload at `to` once the first `len` of the one at `from` are copied over its first
+abbrev pub copied_over : State → ℕ → ℕ → ℕ → List ℕ
+copied_over s from to len = with_front len (bytes_at s from) (bytes_at s to)
+
+-- the bytes of the payload at an address once others are written over them from an offset on
+abbrev pub written_over : State → ℕ → ℕ → List ℕ → List ℕ
+written_over s addr offset bytes = splice (bytes_at s addr) offset (offset + length bytes) bytes
 
 -- a payload that serves a layout: it has the alignment, the bytes that were asked for, and less than 32 more
 pub record Serves (size align : ℕ) (p : Payload) : Type 0 where

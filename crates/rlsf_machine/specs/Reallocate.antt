@@ -109,3 +109,11 @@ pub record Reallocates (sllen : ℕ) (s : State) (addr size : ℕ) (reply : Opti
   pub block : Used
   pub holds : Holds s addr block
   pub step : ReallocatesBy sllen s block size (plan s block size) reply t
+
+-- the payload at the address can have the size where it stands: in its own block, or with the free range behind it
+abbrev pub HasRoomToStay : State → ℕ → ℕ → Type 0
+HasRoomToStay s addr size = (u : Used) × (p : Plan) × Holds s addr u × (or_else (in_place s u size) (into_next s u size) ≡ Some p)
+
+-- the payload at the address can have the size, here or elsewhere
+abbrev pub HasRoomToResize : ℕ → State → ℕ → ℕ → Type 0
+HasRoomToResize sllen s addr size = (to : ℕ) × (t : State) × Reallocates sllen s addr size (Some to) t

@@ -1,5 +1,5 @@
 -- What a source of memory keeps to.
-use Rattle.std.specs.Prelude.{◌≡◌, ℕ, ◌%◌, ◌≤◌, Bool, List}
+use Rattle.std.specs.Prelude.{◌≡◌, ℕ, ◌%◌, ◌≤◌, Bool, List, ◌∷◌, ◌++◌, Option, MatchOption}
 use Rattle.rlsf_base.specs.declared.memory.range.Range.{Range}
 use Rattle.rlsf_base.specs.PowerOfTwo.{IsPowerOfTwo}
 use Rattle.rlsf_base.specs.Range.{range_at, LiesIn}
@@ -31,3 +31,9 @@ pub record IsGrown (t : Terms) (others : List Range) (r : Range) (min_new_len le
   pub lies_in : LiesIn (with_len r len) t.space.start t.space.len
   pub apart : IsClear (with_len r len) others
   pub long : min_new_len ≤ len
+
+-- what is owed after a question for growth: the same ranges where none came; else the range with the length that came, which may
+-- be answered under these terms
+abbrev pub OwesGrown : Terms → (List Range → Type 0) → List Range → Range → List Range → ℕ → Option ℕ → Type 0
+OwesGrown terms owes before range after min_len reply =
+    MatchOption reply (owes (before ++ range ∷ after)) (λ len. IsGrown terms (before ++ after) range min_len len × owes (before ++ with_len range len ∷ after))

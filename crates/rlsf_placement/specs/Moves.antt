@@ -2,14 +2,14 @@
 use Rattle.std.specs.Prelude.{◌≡◌, ℕ, Bool, true, false, List, length, min, Option, Some, None, Ok, Err, MatchBool}
 use Rattle.rlsf_base.specs.declared.memory.layout.Layout.{Layout}
 use Rattle.rlsf_base.specs.Addr.{at}
-use Rattle.rlsf_machine.specs.Callers.{bytes_at}
+use Rattle.rlsf_machine.specs.Callers.{copied_over}
 use Rattle.rlsf_machine.specs.FlexReallocate.{FlexReallocates}
 use Rattle.rlsf_machine.specs.FlexState.{FlexState, with_machine}
 use Rattle.rlsf_machine.specs.NoMove.{ReallocatesWithoutMove}
 use Rattle.rlsf_machine.specs.Note.{LeadsBy, Note}
 use Rattle.rlsf_machine.specs.Release.{Deallocates}
 use Rattle.rlsf_machine.specs.Run.{Fills}
-use Rattle.rlsf_machine.specs.State.{State, with_front}
+use Rattle.rlsf_machine.specs.State.{State}
 use Rattle.rlsf_placement.specs.declared.error.GlobalError.TheVariants.{NoRoom, UnknownAddress, WrongLayout}
 use Rattle.rlsf_placement.specs.Cursor.{PageCursor, PageLeads, terms_of}
 use Rattle.rlsf_placement.specs.Heap.{Heap, with_state}
@@ -21,7 +21,7 @@ pub record Replaces (h : Heap) (addr keep size align to : ℕ) (flex : FlexState
   pub meanwhile : FlexState
   pub takes : Takes h size align (Some to) meanwhile source
   pub copied : State
-  pub copies : Fills meanwhile.machine to (with_front keep (bytes_at meanwhile.machine addr) (bytes_at meanwhile.machine to)) copied
+  pub copies : Fills meanwhile.machine to (copied_over meanwhile.machine addr to keep) copied
   pub freed : State
   pub frees : Deallocates copied addr freed
   pub after : flex ≡ with_machine meanwhile freed

@@ -12,7 +12,8 @@ ghost use Rattle.rlsf_text.specs.declared.op.Answer.{Answer};
 ghost use Rattle.rlsf_runs.specs.declared.runs.RunError.TheVariants.{OutOfMemory};
 ghost use Rattle.rlsf_text.specs.declared.op.Op.TheVariants.{Insert, Append, Alloc};
 ghost use Rattle.rlsf_runs.specs.Events.{RunsByEvents};
-ghost use Rattle.rlsf_runs.specs.Runs.{RunState, beginning, Runs};
+ghost use Rattle.rlsf_runs.specs.Runs.{RunState};
+ghost use Rattle.rlsf_runs.specs.Whole.{RunsTo};
 ghost use Rattle.rlsf_runs.specs.Steps.Tables.{HasRoom, IsAt, IsInOrder, LeadsOn};
 
 use crate::names::Payload;
@@ -186,9 +187,8 @@ pub fn run<FLBitmap: Bitmap, SLBitmap: Bitmap, const FLLEN: usize, const SLLEN: 
     answers: &mut Vec<Answer>,
 ) -> Result<(), RunError>
     requires { tlsf.old.state ≡ empty }
-    ensures runs { OnOk result ((given : List Answer) × (t : RunState) × (answers.new.items ≡ answers.old.items ++ given)
-        × Runs FLLEN SLLEN (range_of tlsf.old.memory) beginning ops.now given t × (tlsf.new.state ≡ t.machine)
-        × KeepsSpare tlsf.old.memory empty tlsf.new.memory t.machine) }
+    ensures runs { OnOk result ((given : List Answer) × (answers.new.items ≡ answers.old.items ++ given)
+        × RunsTo FLLEN SLLEN tlsf.old ops.now given tlsf.new) }
     ensures events { OnOk result ((given : List Answer) × (answers.new.items ≡ answers.old.items ++ given)
         × RunsByEvents FLLEN SLLEN (range_of tlsf.old.memory) empty ops.now given tlsf.new.state) }
     ensures refused { OnErr result ((answers.new.items ≡ answers.old.items) × (tlsf.new ≡ tlsf.old)) }

@@ -12,16 +12,16 @@ ghost use Rattle.rlsf_base.specs.Sizes.{max_pool_size};
 ghost use Rattle.rlsf_base.specs.Space.{range_of, with_word, SamePlace};
 ghost use Rattle.rlsf_int.specs.Bits.{bit};
 ghost use Rattle.rlsf_machine.specs.Allocate.{Allocates, has_class};
-ghost use Rattle.rlsf_machine.specs.Callers.{align_at, bytes_at};
+ghost use Rattle.rlsf_machine.specs.Callers.{align_at, bytes_at, copied_over};
 ghost use Rattle.rlsf_machine.specs.ChunkRows.{IsRow};
 ghost use Rattle.rlsf_machine.specs.Insert.{Appends, Inserts, IsNext, IsUntouched, aligned_part, cut};
 ghost use Rattle.rlsf_machine.specs.Lists.{IsIn};
 ghost use Rattle.rlsf_machine.specs.NoMove.{ReallocatesWithoutMove};
-ghost use Rattle.rlsf_machine.specs.Reallocate.{Keeps, Plan, Reallocates, in_place, into_next, or_else};
+ghost use Rattle.rlsf_machine.specs.Reallocate.{HasRoomToStay, Keeps, Reallocates};
 ghost use Rattle.rlsf_machine.specs.Release.{Deallocates};
 ghost use Rattle.rlsf_machine.specs.Remove.{IsIdle, Removes};
 ghost use Rattle.rlsf_machine.specs.Run.{Fills};
-ghost use Rattle.rlsf_machine.specs.State.{State, Used, empty, with_front, Holds};
+ghost use Rattle.rlsf_machine.specs.State.{empty};
 ghost use Rattle.rlsf_table.specs.Table.{class_at, is_in_row, newest_of, of_class};
 ghost use Rattle.rlsf_blocks.specs.Blocks.{AreBlocks, walked};
 ghost use Rattle.rlsf_blocks.specs.Spare.{IsSpareWord, KeepsSpare};
@@ -289,8 +289,7 @@ impl<FLBitmap: Bitmap, SLBitmap: Bitmap, const FLLEN: usize, const SLLEN: usize>
         ensures grow { self.old.memory.touches ≤ self.new.memory.touches }
         ensures copied { self.new.memory.copied ≤ self.old.memory.copied + length (bytes_at self.old.state (at addr)) }
         ensures grow_copied { self.old.memory.copied ≤ self.new.memory.copied }
-        ensures stays { (u : Used) (p : Plan) → Holds self.old.state (at addr) u → or_else (in_place self.old.state u layout.size) (into_next self.old.state u layout.size) ≡ Some p
-            → self.new.memory.copied ≡ self.old.memory.copied }
+        ensures stays { HasRoomToStay self.old.state (at addr) layout.size → self.new.memory.copied ≡ self.old.memory.copied }
     {
         let payload = addr.get();
         let block = used_block(&mut self.memory, payload, layout.align());
@@ -379,8 +378,8 @@ impl<FLBitmap: Bitmap, SLBitmap: Bitmap, const FLLEN: usize, const SLLEN: usize>
     pub fn copy_payload(&mut self, from: Addr, to: Addr, len: usize)
         requires live { IsSome (align_at self.old.state (at from)) × IsSome (align_at self.old.state (at to)) }
         requires long { (len ≤ length (bytes_at self.old.state (at from))) × (len ≤ length (bytes_at self.old.state (at to))) }
-        ensures step { Steps FLLEN SLLEN self.old self.new (Fills self.old.state (at to) (with_front len (bytes_at self.old.state (at from)) (bytes_at self.old.state (at to)))) }
-        ensures filled { bytes_at self.new.state (at to) ≡ with_front len (bytes_at self.old.state (at from)) (bytes_at self.old.state (at to)) }
+        ensures step { Steps FLLEN SLLEN self.old self.new (Fills self.old.state (at to) (copied_over self.old.state (at from) (at to) len)) }
+        ensures filled { bytes_at self.new.state (at to) ≡ copied_over self.old.state (at from) (at to) len }
         ensures bytes { (a : ℕ) → a ≢ at to → bytes_at self.new.state a ≡ bytes_at self.old.state a }
         ensures aligns { align_at self.new.state ≡ align_at self.old.state }
         ensures chunks { self.new.state.chunks ≡ self.old.state.chunks }

@@ -1,6 +1,7 @@
 -- A pool of objects of one size and alignment.
-use Rattle.std.specs.Prelude.{◌≡◌, ℕ, ◌+◌, ◌-◌, ◌*◌, ◌/◌, ◌&&◌, List, length, max, Option, Some, None, Result, Ok, Err, if◌then◌else◌, nat_eq, nat_le, nat_lt}
-use Rattle.std.specs.List.{AllByRecursion}
+use Rattle.std.specs.Prelude.{◌≡◌, ℕ, ◌+◌, ◌-◌, ◌*◌, ◌/◌, ◌&&◌, List, length, max, Option, Some, None, IsSomeAnd, Result, Ok, Err, if◌then◌else◌, nat_eq, nat_le, nat_lt}
+use Rattle.std.specs.List.{AllByRecursion, splice}
+use Rattle.std.specs.Map.{lookup, set_value}
 use Rattle.rlsf_base.specs.declared.memory.range.Range.{Range}
 use Rattle.rlsf_base.specs.Sizes.{pool_size_to_contain_allocation, request_size}
 use Rattle.rlsf_uses.specs.declared.objects.SetError.{SetError}
@@ -15,6 +16,11 @@ pub record Pool : Type 0 where
   pub align : ℕ
   pub memory : Range
   pub capacity : ℕ
+
+-- bytes are written over those of an object that is out, from an offset on
+abbrev pub Writes : Pool → ℕ → ℕ → List ℕ → Pool → Type 0
+Writes p handle offset bytes q = IsSomeAnd (lookup (nat_eq handle) p.objects) (λ old.
+    q ≡ record p { objects = set_value (nat_eq handle) p.objects (splice old offset (offset + length bytes) bytes) })
 
 -- each object has this size
 abbrev pub HaveSize : ℕ → List (ℕ × List ℕ) → Type 0

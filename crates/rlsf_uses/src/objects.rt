@@ -8,7 +8,7 @@ ghost use Rattle.rlsf_base.specs.Space.{range_of};
 ghost use Rattle.std.specs.Map.Iter.{GivesInOrder};
 ghost use Rattle.rlsf_blocks.specs.Blocks.{IsInOrder};
 ghost use Rattle.rlsf_machine.specs.Insert.{aligned_part};
-ghost use Rattle.rlsf_uses.specs.Objects.{set_answer};
+ghost use Rattle.rlsf_uses.specs.Objects.{Writes, set_answer};
 ghost use Rattle.rlsf_uses.specs.Objects as objects;
 ghost use Rattle.rlsf_uses.specs.Stored.{FitsPool, used_count};
 ghost use Rattle.rlsf_uses.specs.declared.objects.TakeError.TheVariants.{NoRoom, OutOfMemory};
@@ -150,8 +150,7 @@ impl Objects {
     /// changes.
     pub fn set(&mut self, handle: usize, offset: usize, bytes: &[u8]) -> Result<(), SetError>
         ensures answer { result ≡ set_answer (lookup (nat_eq handle) self.old.objects) (offset + length bytes.now) }
-        ensures written { OnOk result (IsSomeAnd (lookup (nat_eq handle) self.old.objects) (λ old.
-            self.new ≡ record self.old { objects = set_value (nat_eq handle) self.old.objects (splice old offset (offset + length bytes.now) bytes.now) })) }
+        ensures written { OnOk result (Writes self.old handle offset bytes.now self.new) }
         ensures refused { OnErr result (self.new ≡ self.old) }
     {
         self.items.write(handle, offset, bytes)

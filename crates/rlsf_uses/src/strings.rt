@@ -7,7 +7,7 @@ ghost use Rattle.std.specs.Map.Iter.{GivesInOrder};
 ghost use Rattle.rlsf_blocks.specs.Blocks.{IsInOrder};
 ghost use Rattle.rlsf_uses.specs.Budgets.{AreFewStrings};
 ghost use Rattle.rlsf_uses.specs.Stored.{FitsPool, used_count};
-ghost use Rattle.rlsf_uses.specs.Strings.{joined_of};
+ghost use Rattle.rlsf_uses.specs.Strings.{IsShort, IsShortWith, joined_of, with_string};
 ghost use Rattle.rlsf_uses.specs.declared.strings.StringError.TheVariants as string_error;
 
 use crate::items::Items;
@@ -87,7 +87,7 @@ impl Strings {
     /// fits one, there is room.
     pub fn create(&mut self) -> Result<usize, StringError>
         ensures made { IfOk result (λ handle. (handle ≡ self.old.next)
-            × (self.new ≡ record self.old { strings = self.old.strings ++ (handle, []) ∷ []; next = handle + 1 })) }
+            × (self.new ≡ with_string self.old handle [])) }
         ensures new { IfOk result (λ handle. lookup (nat_eq handle) self.old.strings ≡ None) }
         ensures known { IsErrOf result string_error.UnknownHandle → ⊥ }
         ensures room { self.old.strings ≡ [] → FitsPool self.old.memory 0 1 → IsErrOf result string_error.NoRoom → ⊥ }
@@ -104,7 +104,7 @@ impl Strings {
         ensures appended { OnOk result (IsSomeAnd (lookup (nat_eq handle) self.old.strings) (λ old.
             self.new ≡ record self.old { strings = set_value (nat_eq handle) self.old.strings (old ++ more.now) })) }
         ensures unknown { IsErrOf result string_error.UnknownHandle ↔ (lookup (nat_eq handle) self.old.strings ≡ None) }
-        ensures enough { (count longest : ℕ) → AreFewStrings self.old count longest → IsSomeAnd (lookup (nat_eq handle) self.old.strings) (λ old. length old + length more.now ≤ longest)
+        ensures enough { (count longest : ℕ) → AreFewStrings self.old count longest → IsShortWith self.old handle (length more.now) longest
             → IsErrOf result string_error.NoRoom → ⊥ }
         ensures refused { OnErr result (self.new ≡ self.old) }
     {
@@ -116,11 +116,10 @@ impl Strings {
     /// Refused with `UnknownHandle` exactly where one of the two isn't there, and without room or memory, and then nothing changes.
     pub fn concat(&mut self, left: usize, right: usize) -> Result<usize, StringError>
         ensures joined { IfOk result (λ handle. (handle ≡ self.old.next)
-            × IsSomeAnd (joined_of left right self.old.strings) (λ bytes.
-            self.new ≡ record self.old { strings = self.old.strings ++ (handle, bytes) ∷ []; next = handle + 1 })) }
+            × IsSomeAnd (joined_of left right self.old.strings) (λ bytes. self.new ≡ with_string self.old handle bytes)) }
         ensures new { IfOk result (λ handle. lookup (nat_eq handle) self.old.strings ≡ None) }
         ensures unknown { IsErrOf result string_error.UnknownHandle ↔ (joined_of left right self.old.strings ≡ None) }
-        ensures enough { (count longest : ℕ) → AreFewStrings self.old count longest → IsSomeAnd (joined_of left right self.old.strings) (λ bytes. length bytes ≤ longest)
+        ensures enough { (count longest : ℕ) → AreFewStrings self.old count longest → IsShort (joined_of left right self.old.strings) longest
             → IsErrOf result string_error.NoRoom → ⊥ }
         ensures refused { OnErr result (self.new ≡ self.old) }
     {

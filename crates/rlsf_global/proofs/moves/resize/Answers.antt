@@ -62,13 +62,13 @@ returns-else-ENABLE_REALLOCATION-clause-none g c = for_none c.move_away.result (
     c.if-ENABLE_REALLOCATION.ensures (none_of c.move_away.result none c.move_away.ensures.none rows))
 
 pub returns-then-ENABLE_REALLOCATION-clause-touches : goal.returns-then-ENABLE_REALLOCATION-clause-touches
-returns-then-ENABLE_REALLOCATION-clause-touches g c = λ on to m does. c.reallocate.ensures.touches to m does
+returns-then-ENABLE_REALLOCATION-clause-touches g c = λ on room. c.reallocate.ensures.touches room
 
 pub returns-then-ENABLE_REALLOCATION-clause-touches_elsewhere : goal.returns-then-ENABLE_REALLOCATION-clause-touches_elsewhere
 returns-then-ENABLE_REALLOCATION-clause-touches_elsewhere g c = λ off some. absurd (true≢false (c.if-ENABLE_REALLOCATION.ensures ∙ off))
 
 pub returns-else-ENABLE_REALLOCATION-clause-touches : goal.returns-else-ENABLE_REALLOCATION-clause-touches
-returns-else-ENABLE_REALLOCATION-clause-touches g c = λ on to m does. absurd (true≢false (sym on ∙ sym c.if-ENABLE_REALLOCATION.ensures))
+returns-else-ENABLE_REALLOCATION-clause-touches g c = λ on room. absurd (true≢false (sym on ∙ sym c.if-ENABLE_REALLOCATION.ensures))
 
 pub returns-else-ENABLE_REALLOCATION-clause-touches_elsewhere : goal.returns-else-ENABLE_REALLOCATION-clause-touches_elsewhere
 returns-else-ENABLE_REALLOCATION-clause-touches_elsewhere g c = λ off some. c.move_away.ensures.touches some

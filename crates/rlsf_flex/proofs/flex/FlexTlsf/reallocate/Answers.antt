@@ -7,7 +7,7 @@ use Rattle.rlsf_flex.specs.Steps.Growth.{MovesTo}
 use Rattle.rlsf_machine.specs.Allocate.{Allocates}
 use Rattle.rlsf_machine.specs.Callers.{align_at, bytes_at}
 use Rattle.rlsf_machine.specs.FlexReallocate.{FlexReallocates, IsStuck}
-use Rattle.rlsf_machine.specs.Reallocate.{Keeps, Plan, Reallocates, in_place, into_next, or_else}
+use Rattle.rlsf_machine.specs.Reallocate.{HasRoomToResize, HasRoomToStay, Keeps, Reallocates, in_place, into_next, or_else}
 use Rattle.rlsf_machine.specs.State.{State, Used, usable, Holds}
 use Rattle.rlsf_machine.proofs.CallerWords.{align_at-live, bytes_at-held}
 use Rattle.rlsf_tlsf.specs.Allocator.{Steps}
@@ -175,41 +175,39 @@ returns-then-extend-clause-refused g c =
     not_none _ c.move_payload.result (found g here.After-move_payload first)
 
 -- there was no room, so the machine's reallocation in it is refused
-refused_in : (g : given.Over) (c : In_default g) (to : ℕ) (m : State) → Reallocates g.row.SLLEN c.args.self.now.state.machine (at c.args.addr) c.args.layout.size (Some to) m → ⊥
-refused_in g c to m some =
+refused_in : (g : given.Over) (c : In_default g) → HasRoomToResize g.row.SLLEN c.args.self.now.state.machine (at c.args.addr) c.args.layout.size → ⊥
+refused_in g c (to, m, some) =
     let (u, stuck, is, first) = tried g c in
     refused_move_alone c.self.invariant.stands.machine.well_formed (at c.args.addr) c.args.layout.size c.args.layout.align to u m stuck is first.full
     (subst (λ (old : FlexContents g.row.S.Denot). Reallocates g.row.SLLEN old.state.machine (at c.args.addr) c.args.layout.size (Some to) m) (sym c.self.view_is) some)
 
 -- nor would it stay, or take from the block behind
-moves_in : (g : given.Over) (c : In_default g) (u : Used) (p : Plan) → Holds c.args.self.now.state.machine (at c.args.addr) u
-    → or_else (in_place c.args.self.now.state.machine u c.args.layout.size) (into_next c.args.self.now.state.machine u c.args.layout.size) ≡ Some p → ⊥
-moves_in g c u p holds some =
+moves_in : (g : given.Over) (c : In_default g) → HasRoomToStay c.args.self.now.state.machine (at c.args.addr) c.args.layout.size → ⊥
+moves_in g c (u, p, holds, some) =
     let (v, stuck, is, first) = tried g c in
     stuck_moves c.self.invariant.stands.machine.well_formed (at c.args.addr) c.args.layout.size u v p stuck
     (subst (λ (old : FlexContents g.row.S.Denot). Holds old.state.machine (at c.args.addr) u) (sym c.self.view_is) holds)
     (subst (λ (old : FlexContents g.row.S.Denot). or_else (in_place old.state.machine u c.args.layout.size) (into_next old.state.machine u c.args.layout.size) ≡ Some p) (sym c.self.view_is) some)
 
 pub returns-in-Some-clause-stays : goal.returns-in-Some-clause-stays
-returns-in-Some-clause-stays g c = λ u p holds some.
-    c.reallocate.ensures.stays u p (subst (λ (old : FlexContents g.row.S.Denot). Holds old.state.machine (at c.args.addr) u) (sym c.self.view_is) holds)
-    (subst (λ (old : FlexContents g.row.S.Denot). or_else (in_place old.state.machine u c.args.layout.size) (into_next old.state.machine u c.args.layout.size) ≡ Some p) (sym c.self.view_is) some)
+returns-in-Some-clause-stays g c = λ room.
+    c.reallocate.ensures.stays (subst (λ (old : FlexContents g.row.S.Denot). HasRoomToStay old.state.machine (at c.args.addr) c.args.layout.size) (sym c.self.view_is) room)
     ∙ ap (λ (old : FlexContents g.row.S.Denot). old.memory.copied) c.self.view_is
 
 pub returns-in_err-wanted-clause-stays : goal.returns-in_err-wanted-clause-stays
-returns-in_err-wanted-clause-stays g c = λ u p holds some. absurd (moves_in g (goal.at.returns-in_err-wanted-clause-stays g c).In_default u p holds some)
+returns-in_err-wanted-clause-stays g c = λ room. absurd (moves_in g (goal.at.returns-in_err-wanted-clause-stays g c).In_default room)
 
 pub returns-then-extend-clause-stays : goal.returns-then-extend-clause-stays
-returns-then-extend-clause-stays g c = λ u p holds some. absurd (moves_in g (goal.at.returns-then-extend-clause-stays g c).In_default u p holds some)
+returns-then-extend-clause-stays g c = λ room. absurd (moves_in g (goal.at.returns-then-extend-clause-stays g c).In_default room)
 
 pub returns-else-extend-clause-stays : goal.returns-else-extend-clause-stays
-returns-else-extend-clause-stays g c = λ u p holds some. absurd (moves_in g (goal.at.returns-else-extend-clause-stays g c).In_default u p holds some)
+returns-else-extend-clause-stays g c = λ room. absurd (moves_in g (goal.at.returns-else-extend-clause-stays g c).In_default room)
 
 pub returns-then-extend-clause-touches : goal.returns-then-extend-clause-touches
-returns-then-extend-clause-touches g c = λ to m some. absurd (refused_in g (goal.at.returns-then-extend-clause-touches g c).In_default to m some)
+returns-then-extend-clause-touches g c = λ room. absurd (refused_in g (goal.at.returns-then-extend-clause-touches g c).In_default room)
 
 pub returns-then-extend-clause-copied : goal.returns-then-extend-clause-copied
-returns-then-extend-clause-copied g c = λ to m some. absurd (refused_in g (goal.at.returns-then-extend-clause-copied g c).In_default to m some)
+returns-then-extend-clause-copied g c = λ room. absurd (refused_in g (goal.at.returns-then-extend-clause-copied g c).In_default room)
 
 pub returns-else-extend-clause-step : goal.returns-else-extend-clause-step
 returns-else-extend-clause-step g c =
@@ -226,7 +224,7 @@ returns-else-extend-clause-same g c =
     extended_none c.if-extend.ensures.step refl ∙ first.same ∙ ap (λ (v : FlexContents g.row.S.Denot). v.state) c.self.view_is
 
 pub returns-else-extend-clause-touches : goal.returns-else-extend-clause-touches
-returns-else-extend-clause-touches g c = λ to m some. absurd (refused_in g (goal.at.returns-else-extend-clause-touches g c).In_default to m some)
+returns-else-extend-clause-touches g c = λ room. absurd (refused_in g (goal.at.returns-else-extend-clause-touches g c).In_default room)
 
 pub returns-in-Some-clause-live : goal.returns-in-Some-clause-live
 returns-in-Some-clause-live g c = c.in-Some.ensures.live
@@ -247,13 +245,13 @@ pub returns-in-Some-clause-place : goal.returns-in-Some-clause-place
 returns-in-Some-clause-place g c = subst (λ (old : FlexContents g.row.S.Denot). SamePlace old.memory c.reallocate.new.self.memory) c.self.view_is c.reallocate.ensures.place
 
 pub returns-in-Some-clause-touches : goal.returns-in-Some-clause-touches
-returns-in-Some-clause-touches g c = λ to m some. subst (λ (old : FlexContents g.row.S.Denot). c.reallocate.new.self.memory.touches ≤ old.memory.touches + 66) c.self.view_is c.reallocate.ensures.touches
+returns-in-Some-clause-touches g c = λ room. subst (λ (old : FlexContents g.row.S.Denot). c.reallocate.new.self.memory.touches ≤ old.memory.touches + 66) c.self.view_is c.reallocate.ensures.touches
 
 pub returns-in-Some-clause-grow : goal.returns-in-Some-clause-grow
 returns-in-Some-clause-grow g c = subst (λ (old : FlexContents g.row.S.Denot). old.memory.touches ≤ c.reallocate.new.self.memory.touches) c.self.view_is c.reallocate.ensures.grow
 
 pub returns-in-Some-clause-copied : goal.returns-in-Some-clause-copied
-returns-in-Some-clause-copied g c = λ to m some. subst (λ (old : FlexContents g.row.S.Denot). c.reallocate.new.self.memory.copied ≤ old.memory.copied + length (bytes_at old.state.machine (at c.args.addr))) c.self.view_is c.reallocate.ensures.copied
+returns-in-Some-clause-copied g c = λ room. subst (λ (old : FlexContents g.row.S.Denot). c.reallocate.new.self.memory.copied ≤ old.memory.copied + length (bytes_at old.state.machine (at c.args.addr))) c.self.view_is c.reallocate.ensures.copied
 
 pub returns-in-Some-clause-grow_copied : goal.returns-in-Some-clause-grow_copied
 returns-in-Some-clause-grow_copied g c = subst (λ (old : FlexContents g.row.S.Denot). old.memory.copied ≤ c.reallocate.new.self.memory.copied) c.self.view_is c.reallocate.ensures.grow_copied
@@ -283,13 +281,13 @@ pub returns-in_err-wanted-clause-place : goal.returns-in_err-wanted-clause-place
 returns-in_err-wanted-clause-place g c = subst (λ (old : FlexContents g.row.S.Denot). SamePlace old.memory c.reallocate.new.self.memory) c.self.view_is c.reallocate.ensures.place
 
 pub returns-in_err-wanted-clause-touches : goal.returns-in_err-wanted-clause-touches
-returns-in_err-wanted-clause-touches g c = λ to m some. subst (λ (old : FlexContents g.row.S.Denot). c.reallocate.new.self.memory.touches ≤ old.memory.touches + 66) c.self.view_is c.reallocate.ensures.touches
+returns-in_err-wanted-clause-touches g c = λ room. subst (λ (old : FlexContents g.row.S.Denot). c.reallocate.new.self.memory.touches ≤ old.memory.touches + 66) c.self.view_is c.reallocate.ensures.touches
 
 pub returns-in_err-wanted-clause-grow : goal.returns-in_err-wanted-clause-grow
 returns-in_err-wanted-clause-grow g c = subst (λ (old : FlexContents g.row.S.Denot). old.memory.touches ≤ c.reallocate.new.self.memory.touches) c.self.view_is c.reallocate.ensures.grow
 
 pub returns-in_err-wanted-clause-copied : goal.returns-in_err-wanted-clause-copied
-returns-in_err-wanted-clause-copied g c = λ to m some. subst (λ (old : FlexContents g.row.S.Denot). c.reallocate.new.self.memory.copied ≤ old.memory.copied + length (bytes_at old.state.machine (at c.args.addr))) c.self.view_is c.reallocate.ensures.copied
+returns-in_err-wanted-clause-copied g c = λ room. subst (λ (old : FlexContents g.row.S.Denot). c.reallocate.new.self.memory.copied ≤ old.memory.copied + length (bytes_at old.state.machine (at c.args.addr))) c.self.view_is c.reallocate.ensures.copied
 
 pub returns-in_err-wanted-clause-grow_copied : goal.returns-in_err-wanted-clause-grow_copied
 returns-in_err-wanted-clause-grow_copied g c = subst (λ (old : FlexContents g.row.S.Denot). old.memory.copied ≤ c.reallocate.new.self.memory.copied) c.self.view_is c.reallocate.ensures.grow_copied
@@ -337,4 +335,4 @@ returns-else-extend-clause-grow_copied g c =
     omega (arith, first, c.extend.ensures.copied)
 
 pub returns-else-extend-clause-copied : goal.returns-else-extend-clause-copied
-returns-else-extend-clause-copied g c = λ to m some. absurd (refused_in g (goal.at.returns-else-extend-clause-copied g c).In_default to m some)
+returns-else-extend-clause-copied g c = λ room. absurd (refused_in g (goal.at.returns-else-extend-clause-copied g c).In_default room)

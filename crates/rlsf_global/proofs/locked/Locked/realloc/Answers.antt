@@ -1,6 +1,6 @@
 use Rattle.rlsf_base.specs.Sizes.{request_size}
 use Rattle.rlsf_machine.specs.Allocate.{choice}
-use Rattle.rlsf_machine.specs.Reallocate.{Reallocates}
+use Rattle.rlsf_machine.specs.Reallocate.{HasRoomToResize}
 use Rattle.std.proofs.Common.{IsSome, ◌≡◌, ◌≤◌, length, Some, None, Ok, Err, lit<, ap, ◌∙◌, subst, sym, refl}
 use Rattle.rlsf_global.proofs.Layouts.{content_at-bytes, layout_at-moved_left, layout_at-moved_other, layout_at-none, layout_at-put_here}
 use Rattle.rlsf_base.specs.Addr.{at}
@@ -121,8 +121,7 @@ returns-in_default-resize-clause-same g c = rw (← c.self.view_is) (
 pub returns-in_default-resize-clause-touches : goal.returns-in_default-resize-clause-touches
 returns-in_default-resize-clause-touches g c = rw (← c.self.view_is) (
     let wanted = c.from_size_align_unchecked-wanted in
-    λ on to m does. c.resize.ensures.touches on to m
-    (subst (λ n. Reallocates 64 c.self.inside.flex.state.machine (at c.args.addr) n (Some to) m) (sym wanted.ensures.0) does))
+    λ on room. c.resize.ensures.touches on (subst (HasRoomToResize 64 c.self.inside.flex.state.machine (at c.args.addr)) (sym wanted.ensures.0) room))
 
 pub returns-in_default-resize-clause-touches_elsewhere : goal.returns-in_default-resize-clause-touches_elsewhere
 returns-in_default-resize-clause-touches_elsewhere g c = rw (← c.self.view_is) (
@@ -134,8 +133,7 @@ returns-in_default-resize-clause-touches_elsewhere g c = rw (← c.self.view_is)
 pub returns-clause-touches : goal.returns-clause-touches
 returns-clause-touches g c = rw (← c.self.view_is) (
     let wanted = c.from_size_align_unchecked-wanted in
-    λ on to m does. c.resize.ensures.touches on to m
-    (subst (λ n. Reallocates 64 c.self.inside.flex.state.machine (at c.args.addr) n (Some to) m) (sym wanted.ensures.0) does))
+    λ on room. c.resize.ensures.touches on (subst (HasRoomToResize 64 c.self.inside.flex.state.machine (at c.args.addr)) (sym wanted.ensures.0) room))
 
 pub returns-clause-touches_elsewhere : goal.returns-clause-touches_elsewhere
 returns-clause-touches_elsewhere g c = rw (← c.self.view_is) (
