@@ -1,8 +1,8 @@
 -- What an op on a named payload leaves of the run's tables.
-use Rattle.std.proofs.Common.{◌≡◌, ℕ, ◌+◌, ◌≤◌, nat_eq, false, true≢false, Option, Some, None, List, length, refl, sym, ◌∙◌, ap, subst, arith}
+use Rattle.std.proofs.Common.{◌≡◌, ℕ, ◌+◌, ◌≤◌, nat_eq, true, false, true≢false, Option, Some, None, IsSome, List, length, refl, sym, ◌∙◌, ap, subst, arith}
 use Rattle.std.specs.HashMap.{get}
 use Rattle.std.specs.Prelude.{IsPermutation}
-use Rattle.std.specs.Option.{is_some}
+use Rattle.std.specs.Option.{is_some, option_map}
 use Rattle.rlsf_base.specs.declared.memory.range.Range.{Range}
 use Rattle.rlsf_base.specs.Range.{LiesIn}
 use Rattle.rlsf_base.specs.Space.{range_of, SamePlace}
@@ -33,6 +33,11 @@ use Rattle.rlsf_runs.proofs.Named.{AreNamed-filled, AreNamed-freed, AreNamed-kep
 pub none_is : {A : Type 0} (o : Option A) → is_some o ≡ false → o ≡ None
 none_is None e = refl
 none_is (Some x) e = absurd (true≢false e)
+
+-- what it found is some payload, whatever is read of it
+pub some_is : {A B : Type 0} (f : A → B) (o : Option A) → is_some o ≡ true → IsSome (option_map f o)
+some_is f None e = absurd (true≢false (sym e))
+some_is f (Some x) e = (f x, refl)
 
 -- tables with room for one op more have it for the others
 pub room_left : (tables : Tables) (ops : ℕ) → HasRoom tables (ops + 1) → HasRoom tables ops

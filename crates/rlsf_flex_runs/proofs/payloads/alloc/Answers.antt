@@ -1,7 +1,21 @@
-use Rattle.std.proofs.Common.{refl, sym, ◌∙◌}
-use Rattle.rlsf_runs.proofs.NamedPayloads.{none_is}
+use Rattle.std.proofs.Common.{IsSome, refl, sym, ◌∙◌, subst}
+use Rattle.rlsf_flex_runs.specs.FlexRuns.{without_source}
+use Rattle.rlsf_flex_runs.specs.Steps.Names.{run_of}
+use Rattle.rlsf_runs.specs.Names.{address}
+use Rattle.rlsf_runs.proofs.NamedPayloads.{none_is, some_is}
+use Rattle.rlsf_text.specs.declared.op.Answer.TheVariants.{Refused}
+use Rattle.rlsf_text.specs.declared.op.Op.TheVariants.{Alloc}
+use Rattle.rlsf_text.specs.declared.op.TraceError.TheVariants.{NameTaken}
+use Rattle.rlsf_flex_runs.proofs.NamedPayloads.{LeadsOn-nothing}
 use Rattle.rlsf_flex_runs.proofs.PlacedPayloads.{allocated, not_allocated, of_ok}
 use Rattle.rlsf_flex_runs.proofs.payloads.alloc.Goals as goal
+
+pub returns-then-contains_key-clause-does : goal.returns-then-contains_key-clause-does
+returns-then-contains_key-clause-does g c =
+    let at = c.requires.state in
+    let taken = subst IsSome (at.are_named.names c.args.name) (some_is address _ (sym c.contains_key.ensures ∙ c.if-contains_key.true)) in
+    LeadsOn-nothing at (Alloc c.args.name c.args.layout) (Refused NameTaken) refl
+    (refl, without_source (run_of c.args.flex.now c.args.names.now), (taken, refl), refl, refl)
 
 pub returns-in-Some-clause-does : goal.returns-in-Some-clause-does
 returns-in-Some-clause-does g c =
