@@ -21,7 +21,7 @@ impl fmt::Display for BenchError {
             BenchError::Usage => f.write_str(
                 "usage: rlsf_bench 12x16|59x8|64x64 SLOTS STEPS free|realloc, with SLOTS from 1 on",
             ),
-            BenchError::OutOfMemory => f.write_str("the machine refused memory"),
+            BenchError::OutOfMemory => f.write_str("the system refused memory"),
             BenchError::Io(error) => write!(f, "{error}"),
         }
     }

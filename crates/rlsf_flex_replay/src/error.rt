@@ -37,7 +37,7 @@ impl fmt::Display for Failure {
             Failure::Head => f.write_str("no line `run CAPABILITIES MIN_ALIGN`"),
             Failure::Answer => f.write_str("a bad answer"),
             Failure::Trace(fault) => write!(f, "trace: {fault}"),
-            Failure::OutOfMemory => f.write_str("the machine refused memory"),
+            Failure::OutOfMemory => f.write_str("the system refused memory"),
             Failure::Io(error) => write!(f, "{error}"),
         }
     }

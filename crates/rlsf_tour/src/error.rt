@@ -23,7 +23,7 @@ impl fmt::Display for TourError {
         match self {
             TourError::Memory(error) => write!(f, "no memory: {error:?}"),
             TourError::Layout => f.write_str("no such layout"),
-            TourError::OutOfMemory => f.write_str("the machine refused memory"),
+            TourError::OutOfMemory => f.write_str("the system refused memory"),
             TourError::Io(error) => write!(f, "{error}"),
         }
     }
