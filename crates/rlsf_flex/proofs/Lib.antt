@@ -9,6 +9,7 @@ pub mod FooterWords
 pub mod Frames
 pub mod Growths
 pub mod Kept
+pub mod KeptPayloads
 pub mod Loans
 pub mod Moves
 pub mod NewRanges

@@ -6,7 +6,7 @@ ghost use Rattle.rlsf_base.specs.SizeClass.{IsValid};
 ghost use Rattle.rlsf_base.specs.Space.{SamePlace};
 ghost use Rattle.rlsf_tlsf.specs.Allocator.{Stands};
 ghost use Rattle.rlsf_flex.specs.StandsFor.{FlexStandsFor, flex_contents, kept_pool};
-ghost use Rattle.rlsf_flex.specs.Steps.Growth.{AskedGrowth, AskedRange, Extended, MovesTo, Took, kept_len, kept_start, outcome_of_growth, outcome_of_range};
+ghost use Rattle.rlsf_flex.specs.Steps.Growth.{AskedGrowth, AskedRange, Extended, KeepsPayloads, MovesTo, Took, kept_len, kept_start, outcome_of_growth, outcome_of_range};
 ghost use Rattle.rlsf_machine.specs.Allocate.{Allocates};
 ghost use Rattle.rlsf_machine.specs.Callers.{align_at, bytes_at};
 ghost use Rattle.rlsf_machine.specs.Growth.{keeps, range_length};
@@ -73,12 +73,8 @@ fn take_range<
     ensures leads { S.leads source.old (alloc len result) source.new }
     ensures step { Took FLLEN SLLEN S.terms S.owes (flex_contents tlsf.old kept.old source.old owed.old.ranges)
         (flex_contents tlsf.new kept.new source.new owed.new.ranges) wanted (outcome_of_range result) }
-    ensures aligns { align_at tlsf.new.state ≡ align_at tlsf.old.state }
-    ensures bytes { bytes_at tlsf.new.state ≡ bytes_at tlsf.old.state }
+    ensures payloads { KeepsPayloads tlsf.old tlsf.new }
     ensures refused { IfNone result (tlsf.new ≡ tlsf.old) }
-    ensures place { SamePlace tlsf.old.memory tlsf.new.memory }
-    ensures grow { tlsf.old.memory.touches ≤ tlsf.new.memory.touches }
-    ensures copied { tlsf.new.memory.copied ≡ tlsf.old.memory.copied }
 {
     let range = source.alloc(len)?;
     let taken = tlsf
@@ -119,12 +115,8 @@ fn grow_kept<
     ensures leads { S.leads source.old (grow pool.range len result) source.new }
     ensures step { Took FLLEN SLLEN S.terms S.owes (flex_contents tlsf.old kept.old source.old owed.old.ranges)
         (flex_contents tlsf.new kept.new source.new owed.new.ranges) wanted (outcome_of_growth result) }
-    ensures aligns { align_at tlsf.new.state ≡ align_at tlsf.old.state }
-    ensures bytes { bytes_at tlsf.new.state ≡ bytes_at tlsf.old.state }
+    ensures payloads { KeepsPayloads tlsf.old tlsf.new }
     ensures refused { IfNone result (tlsf.new ≡ tlsf.old) }
-    ensures place { SamePlace tlsf.old.memory tlsf.new.memory }
-    ensures grow { tlsf.old.memory.touches ≤ tlsf.new.memory.touches }
-    ensures copied { tlsf.new.memory.copied ≡ tlsf.old.memory.copied }
 {
     let grown = source.realloc_inplace_grow(pool.range, len)?;
     let range = Range {
@@ -166,12 +158,8 @@ fn ask_range<
     requires stands { FlexStandsFor FLLEN SLLEN S.terms S.owes (flex_contents tlsf.old kept.old source.old owed.old.ranges) }
     ensures step { AskedRange FLLEN SLLEN S.terms S.owes S.leads (flex_contents tlsf.old kept.old source.old owed.old.ranges)
         (flex_contents tlsf.new kept.new source.new owed.new.ranges) wanted result }
-    ensures aligns { align_at tlsf.new.state ≡ align_at tlsf.old.state }
-    ensures bytes { bytes_at tlsf.new.state ≡ bytes_at tlsf.old.state }
+    ensures payloads { KeepsPayloads tlsf.old tlsf.new }
     ensures refused { result ≡ false → tlsf.new ≡ tlsf.old }
-    ensures place { SamePlace tlsf.old.memory tlsf.new.memory }
-    ensures grow { tlsf.old.memory.touches ≤ tlsf.new.memory.touches }
-    ensures copied { tlsf.new.memory.copied ≡ tlsf.old.memory.copied }
 {
     match range_len(source, wanted) {
         Some(len) => take_range(tlsf, kept, source, owed, wanted, len).is_some(),
@@ -202,12 +190,8 @@ fn ask_growth<
     requires stands { FlexStandsFor FLLEN SLLEN S.terms S.owes (flex_contents tlsf.old kept.old source.old owed.old.ranges) }
     ensures step { AskedGrowth FLLEN SLLEN S.terms S.owes S.leads (flex_contents tlsf.old kept.old source.old owed.old.ranges)
         (flex_contents tlsf.new kept.new source.new owed.new.ranges) (kept_pool pool) len wanted result }
-    ensures aligns { align_at tlsf.new.state ≡ align_at tlsf.old.state }
-    ensures bytes { bytes_at tlsf.new.state ≡ bytes_at tlsf.old.state }
+    ensures payloads { KeepsPayloads tlsf.old tlsf.new }
     ensures refused { result ≡ false → tlsf.new ≡ tlsf.old }
-    ensures place { SamePlace tlsf.old.memory tlsf.new.memory }
-    ensures grow { tlsf.old.memory.touches ≤ tlsf.new.memory.touches }
-    ensures copied { tlsf.new.memory.copied ≡ tlsf.old.memory.copied }
 {
     source.supports_realloc_inplace_grow()
         && grow_kept(tlsf, kept, source, owed, pool, wanted, len).is_some()
@@ -233,12 +217,8 @@ pub(crate) fn extend<
     requires stands { FlexStandsFor FLLEN SLLEN S.terms S.owes (flex_contents tlsf.old kept.old source.old owed.old.ranges) }
     ensures step { Extended FLLEN SLLEN S.terms S.owes S.leads (flex_contents tlsf.old kept.old source.old owed.old.ranges)
         (flex_contents tlsf.new kept.new source.new owed.new.ranges) wanted result }
-    ensures aligns { align_at tlsf.new.state ≡ align_at tlsf.old.state }
-    ensures bytes { bytes_at tlsf.new.state ≡ bytes_at tlsf.old.state }
+    ensures payloads { KeepsPayloads tlsf.old tlsf.new }
     ensures refused { result ≡ false → tlsf.new ≡ tlsf.old }
-    ensures place { SamePlace tlsf.old.memory tlsf.new.memory }
-    ensures grow { tlsf.old.memory.touches ≤ tlsf.new.memory.touches }
-    ensures copied { tlsf.new.memory.copied ≡ tlsf.old.memory.copied }
 {
     let Some(pool) = *kept else {
         return ask_range(tlsf, kept, source, owed, wanted);

@@ -2,7 +2,7 @@
 use Rattle.std.specs.Prelude.{◌≡◌, ℕ, Bool, true, false, List, length, min, Option, Some, None, Ok, Err, MatchBool}
 use Rattle.rlsf_base.specs.declared.memory.layout.Layout.{Layout}
 use Rattle.rlsf_base.specs.Addr.{at}
-use Rattle.rlsf_machine.specs.Callers.{copied_over}
+use Rattle.rlsf_machine.specs.Callers.{bytes_at, copied_over}
 use Rattle.rlsf_machine.specs.FlexReallocate.{FlexReallocates}
 use Rattle.rlsf_machine.specs.FlexState.{FlexState, with_machine}
 use Rattle.rlsf_machine.specs.NoMove.{ReallocatesWithoutMove}

@@ -1,6 +1,7 @@
 -- What the parts of a growth leave.
-use Rattle.std.specs.Prelude.{◌≡◌, ℕ, ◌+◌, Bool, true, List, Option, Some, None}
+use Rattle.std.specs.Prelude.{◌≡◌, ℕ, ◌+◌, ◌≤◌, Bool, true, List, Option, Some, None}
 use Rattle.rlsf_base.specs.declared.memory.range.Range.{Range}
+use Rattle.rlsf_base.specs.Space.{SamePlace}
 use Rattle.rlsf_blocks.specs.Spare.{KeepsSpare}
 use Rattle.rlsf_tlsf.specs.Allocator.{Allocator, Stands}
 use Rattle.rlsf_flex.specs.declared.pool.Pool.{Pool}
@@ -8,6 +9,7 @@ use Rattle.rlsf_flex.specs.Steps.Outside.{KeepsOutsideNow}
 use Rattle.rlsf_flex.specs.SpareBytes.{KeepsSpareButFooter}
 use Rattle.rlsf_flex.specs.StandsFor.{FlexContents, FlexStandsFor}
 use Rattle.rlsf_machine.specs.Answers.{MayAnswer, MayAnswerAll}
+use Rattle.rlsf_machine.specs.Callers.{align_at, bytes_at}
 use Rattle.rlsf_machine.specs.FlexState.{FlexState, KeptPool}
 use Rattle.rlsf_machine.specs.Growth.{Extends, Outcome, TakesIn, given, grown, growth_note, growth_question, is_more, range_length, range_note, refused}
 use Rattle.rlsf_machine.specs.Note.{Note, LeadsBy, alloc, grow}
@@ -41,6 +43,14 @@ abbrev pub MayCome : Terms → FlexState → ℕ → Outcome → Type 0
 MayCome t s e refused = Unit {0}
 MayCome t s e (given r) = (n : ℕ) → range_length t e ≡ Some n → MayAnswer t s.pools (alloc n (Some r))
 MayCome t s e (grown len) = (k : KeptPool) → s.kept ≡ Some k → MayAnswer t s.pools (grow k.range (k.len + e) (Some len))
+
+-- growth leaves every payload, the place of the memory and the count of copied bytes as they were; touches only grow
+pub record KeepsPayloads (before after : Allocator) : Type 0 where
+  pub aligns : align_at after.state ≡ align_at before.state
+  pub bytes : bytes_at after.state ≡ bytes_at before.state
+  pub place : SamePlace before.memory after.memory
+  pub grow : before.memory.touches ≤ after.memory.touches
+  pub copied : after.memory.copied ≡ before.memory.copied
 
 -- what came was handed in, and where something came there is room for a pool of e bytes
 pub record Took {S : Type 0} (fllen sllen : ℕ) (terms : S → Terms) (owes : S → List Range → Type 0) (before after : FlexContents S) (e : ℕ) (outcome : Outcome) : Type 0 where

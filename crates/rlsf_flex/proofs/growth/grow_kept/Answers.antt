@@ -1,10 +1,9 @@
 use Rattle.std.proofs.Common.{rules, ◌≡◌, ◌+◌, [], arith, sym, ap, ◌∙◌, subst, refl, inl}
-use Rattle.rlsf_base.specs.Space.{IsWord, SamePlace, range_of, word_at}
+use Rattle.rlsf_base.specs.Space.{IsWord, range_of, word_at}
 use Rattle.rlsf_tlsf.specs.Allocator.{Allocator, IsInState}
 use Rattle.rlsf_flex.specs.Footers.{first_len, first_start, footer_of, Footers}
 use Rattle.rlsf_flex.specs.StandsFor.{flex_contents, kept_pool}
-use Rattle.rlsf_flex.specs.Steps.Growth.{outcome_of_growth, Took}
-use Rattle.rlsf_machine.specs.Callers.{align_at, bytes_at}
+use Rattle.rlsf_flex.specs.Steps.Growth.{KeepsPayloads, outcome_of_growth, Took}
 use Rattle.rlsf_machine.specs.Growth.{behind, longer}
 use Rattle.rlsf_machine.specs.Insert.{Appends, IsNext}
 use Rattle.rlsf_machine.specs.Lists.{IsIn}
@@ -17,6 +16,7 @@ use Rattle.rlsf_flex.proofs.Frames.{ends_here, spare_here}
 use Rattle.rlsf_flex.proofs.Growths.{Grew, Grew-footers, Grew-longer, Grew-next, Grew-taken, Grew-took}
 use Rattle.rlsf_flex.proofs.Outcomes.{Took-named, Took-refused}
 use Rattle.rlsf_flex.proofs.Kept.{IsKeptPool-known}
+use Rattle.rlsf_flex.proofs.KeptPayloads.{KeepsPayloads-refl, KeepsPayloads-same, KeepsPayloads-trans}
 use Rattle.rlsf_flex.proofs.Rewritten.{IsFooted, IsFooted-none, IsFooted-written}
 use Rattle.rlsf_flex.proofs.Standing.{inner_in}
 use Rattle.rlsf_flex.proofs.growth.grow_kept.Given as given
@@ -141,36 +141,17 @@ returns-clause-step g c =
     Took-named after.state (c.grow.ensures ∙ ap (longer c.in_ok-grown.grown) h.kept.split)
     (Grew-took c.requires.valid h d c.append_free_block_ptr-taken.new.self t c.append_free_block_ptr-taken.result same stands footed step after spare c.append_free_block_ptr-taken.ensures.place)
 
-pub returns-clause-place : goal.returns-clause-place
-returns-clause-place g c =
-    let last = c.append_free_block_ptr-taken.ensures.place in
+pub returns-in_err-grown-clause-payloads : goal.returns-in_err-grown-clause-payloads
+returns-in_err-grown-clause-payloads g c = KeepsPayloads-refl c.args.tlsf.now
+
+pub returns-clause-payloads : goal.returns-clause-payloads
+returns-clause-payloads g c =
+    let did = c.append_free_block_ptr-taken.ensures in
+    let taken : KeepsPayloads c.if-supports_dealloc.tlsf c.append_free_block_ptr-taken.new.self = record { aligns = did.aligns; bytes = did.bytes; place = did.place; grow = did.grow; copied = did.copied } in
     elim c.if-supports_dealloc.branch [
       | then-supports_dealloc w ↦
-          let first = subst (λ (d : Allocator). SamePlace c.args.tlsf.now.memory d.memory) (sym w.tlsf-is) w.write_footer.ensures.footer.place in
-          (last.0 ∙ first.0, last.1 ∙ first.1)
-      | else-supports_dealloc w ↦ subst (λ (d : Allocator). SamePlace d.memory c.append_free_block_ptr-taken.new.self.memory) w.tlsf-is last
+          let wrote = w.write_footer.ensures in
+          let footed = KeepsPayloads-same c.args.tlsf.now w.write_footer.new.tlsf wrote.state wrote.footer.place wrote.grow wrote.copied in
+          KeepsPayloads-trans _ _ _ (subst (KeepsPayloads c.args.tlsf.now) (sym w.tlsf-is) footed) taken
+      | else-supports_dealloc w ↦ subst (λ (d : Allocator). KeepsPayloads d c.append_free_block_ptr-taken.new.self) w.tlsf-is taken
     ]
-
-pub returns-clause-grow : goal.returns-clause-grow
-returns-clause-grow g c = elim c.if-supports_dealloc.branch [
-  | then-supports_dealloc w ↦ let same = ap (λ (d : Allocator). d.memory.touches) w.tlsf-is in omega (arith, same, w.write_footer.ensures.grow, c.append_free_block_ptr-taken.ensures.grow)
-  | else-supports_dealloc w ↦ let same = ap (λ (d : Allocator). d.memory.touches) w.tlsf-is in omega (arith, same, c.append_free_block_ptr-taken.ensures.grow)
-]
-
-pub returns-clause-copied : goal.returns-clause-copied
-returns-clause-copied g c = elim c.if-supports_dealloc.branch [
-  | then-supports_dealloc w ↦ c.append_free_block_ptr-taken.ensures.copied ∙ ap (λ (d : Allocator). d.memory.copied) w.tlsf-is ∙ w.write_footer.ensures.copied
-  | else-supports_dealloc w ↦ c.append_free_block_ptr-taken.ensures.copied ∙ ap (λ (d : Allocator). d.memory.copied) w.tlsf-is
-]
-
-pub returns-clause-aligns : goal.returns-clause-aligns
-returns-clause-aligns g c = elim c.if-supports_dealloc.branch [
-  | then-supports_dealloc w ↦ c.append_free_block_ptr-taken.ensures.aligns ∙ ap (λ (d : Allocator). align_at d.state) w.tlsf-is ∙ ap align_at w.write_footer.ensures.state
-  | else-supports_dealloc w ↦ c.append_free_block_ptr-taken.ensures.aligns ∙ ap (λ (d : Allocator). align_at d.state) w.tlsf-is
-]
-
-pub returns-clause-bytes : goal.returns-clause-bytes
-returns-clause-bytes g c = elim c.if-supports_dealloc.branch [
-  | then-supports_dealloc w ↦ c.append_free_block_ptr-taken.ensures.bytes ∙ ap (λ (d : Allocator). bytes_at d.state) w.tlsf-is ∙ ap bytes_at w.write_footer.ensures.state
-  | else-supports_dealloc w ↦ c.append_free_block_ptr-taken.ensures.bytes ∙ ap (λ (d : Allocator). bytes_at d.state) w.tlsf-is
-]

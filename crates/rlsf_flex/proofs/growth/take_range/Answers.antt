@@ -4,12 +4,11 @@ use Rattle.std.specs.Int.NonZero.{non_zero_usize_get}
 use Rattle.std.specs.Option.{MatchOption, option_map}
 use Rattle.rlsf_base.specs.Addr.{reply}
 use Rattle.std.specs.declared.num.NonZeroUsize.{NonZeroUsize}
-use Rattle.rlsf_base.specs.Space.{range_of, SamePlace}
+use Rattle.rlsf_base.specs.Space.{range_of}
 use Rattle.rlsf_blocks.specs.Spare.{KeepsSpare}
 use Rattle.rlsf_tlsf.specs.Allocator.{Allocator, IsInState}
 use Rattle.rlsf_flex.specs.StandsFor.{flex_contents, kept_of, kept_pool}
-use Rattle.rlsf_flex.specs.Steps.Growth.{kept_len, kept_start, outcome_of_range, Took}
-use Rattle.rlsf_machine.specs.Callers.{align_at, bytes_at}
+use Rattle.rlsf_flex.specs.Steps.Growth.{kept_len, kept_start, KeepsPayloads, outcome_of_range, Took}
 use Rattle.rlsf_machine.specs.Growth.{keeps}
 use Rattle.rlsf_machine.specs.Insert.{Inserts}
 use Rattle.rlsf_machine.proofs.Untouched.{parts_of-IsFresh}
@@ -21,6 +20,7 @@ use Rattle.rlsf_flex.proofs.Calls.{stays_in}
 use Rattle.rlsf_flex.proofs.NewRanges.{Came, Came-footer, Came-took}
 use Rattle.rlsf_flex.proofs.Outcomes.{Took-named, Took-refused}
 use Rattle.rlsf_flex.proofs.Kept.{kept_of-then_some}
+use Rattle.rlsf_flex.proofs.KeptPayloads.{KeepsPayloads-refl, KeepsPayloads-same, KeepsPayloads-trans}
 use Rattle.rlsf_flex.proofs.RangeLengths.{range_length-whole}
 use Rattle.rlsf_flex.proofs.Rewritten.{IsFooted, IsFooted-none, IsFooted-written}
 use Rattle.rlsf_flex.proofs.Standing.{opened}
@@ -94,36 +94,17 @@ returns-clause-step g c =
     ∙ ap (λ k. then_some k (kept_pool (record { range = r; len = c.map_or-taken.result }))) (c.keeps_pool.ensures ∙ ap keeps same)
     ∙ ap (λ m. then_some (keeps t) (record { range = r; len = m })) (taken_is c.insert_free_block_ptr.result c.map_or-taken.result n c.map_or-taken.ensures is)))
 
-pub returns-clause-place : goal.returns-clause-place
-returns-clause-place g c =
-    let first = c.insert_free_block_ptr.ensures.place in
+pub returns-in_err-range-clause-payloads : goal.returns-in_err-range-clause-payloads
+returns-in_err-range-clause-payloads g c = KeepsPayloads-refl c.args.tlsf.now
+
+pub returns-clause-payloads : goal.returns-clause-payloads
+returns-clause-payloads g c =
+    let did = c.insert_free_block_ptr.ensures in
+    let taken : KeepsPayloads c.args.tlsf.now c.insert_free_block_ptr.new.self = record { aligns = did.aligns; bytes = did.bytes; place = did.place; grow = did.grow; copied = did.copied } in
     elim c.if-takes_back.branch [
       | then-takes_back w ↦
-          let second = w.write_footer.ensures.footer.place in
-          subst (λ (d : Allocator). SamePlace c.args.tlsf.now.memory d.memory) (sym w.tlsf-is) (second.0 ∙ first.0, second.1 ∙ first.1)
-      | else-takes_back w ↦ subst (λ (d : Allocator). SamePlace c.args.tlsf.now.memory d.memory) (sym w.tlsf-is) first
+          let wrote = w.write_footer.ensures in
+          let footed = KeepsPayloads-same c.insert_free_block_ptr.new.self w.write_footer.new.tlsf wrote.state wrote.footer.place wrote.grow wrote.copied in
+          subst (KeepsPayloads c.args.tlsf.now) (sym w.tlsf-is) (KeepsPayloads-trans _ _ _ taken footed)
+      | else-takes_back w ↦ subst (KeepsPayloads c.args.tlsf.now) (sym w.tlsf-is) taken
     ]
-
-pub returns-clause-grow : goal.returns-clause-grow
-returns-clause-grow g c = elim c.if-takes_back.branch [
-  | then-takes_back w ↦ let same = ap (λ (d : Allocator). d.memory.touches) w.tlsf-is in omega (arith, same, w.write_footer.ensures.grow, c.insert_free_block_ptr.ensures.grow)
-  | else-takes_back w ↦ let same = ap (λ (d : Allocator). d.memory.touches) w.tlsf-is in omega (arith, same, c.insert_free_block_ptr.ensures.grow)
-]
-
-pub returns-clause-copied : goal.returns-clause-copied
-returns-clause-copied g c = elim c.if-takes_back.branch [
-  | then-takes_back w ↦ ap (λ (d : Allocator). d.memory.copied) w.tlsf-is ∙ w.write_footer.ensures.copied ∙ c.insert_free_block_ptr.ensures.copied
-  | else-takes_back w ↦ ap (λ (d : Allocator). d.memory.copied) w.tlsf-is ∙ c.insert_free_block_ptr.ensures.copied
-]
-
-pub returns-clause-aligns : goal.returns-clause-aligns
-returns-clause-aligns g c = elim c.if-takes_back.branch [
-  | then-takes_back w ↦ ap (λ (d : Allocator). align_at d.state) w.tlsf-is ∙ ap align_at w.write_footer.ensures.state ∙ c.insert_free_block_ptr.ensures.aligns
-  | else-takes_back w ↦ ap (λ (d : Allocator). align_at d.state) w.tlsf-is ∙ c.insert_free_block_ptr.ensures.aligns
-]
-
-pub returns-clause-bytes : goal.returns-clause-bytes
-returns-clause-bytes g c = elim c.if-takes_back.branch [
-  | then-takes_back w ↦ ap (λ (d : Allocator). bytes_at d.state) w.tlsf-is ∙ ap bytes_at w.write_footer.ensures.state ∙ c.insert_free_block_ptr.ensures.bytes
-  | else-takes_back w ↦ ap (λ (d : Allocator). bytes_at d.state) w.tlsf-is ∙ c.insert_free_block_ptr.ensures.bytes
-]

@@ -89,12 +89,12 @@ returns-then-extend-clause-step g c =
 aligns_before : (g : given.Over) (c : After-allocate-then-extend g) → HasTried g c → align_at c.extend.new.tlsf.state ≡ align_at c.args.self.now.state.machine
 aligns_before g c tried =
     let same : c.allocate.new.self.state ≡ c.self.inside.tlsf.state = ap (λ s. s.machine) tried.same in
-    c.extend.ensures.aligns ∙ ap align_at same ∙ ap (λ (v : FlexContents g.row.S.Denot). align_at v.state.machine) c.self.view_is
+    c.extend.ensures.payloads.aligns ∙ ap align_at same ∙ ap (λ (v : FlexContents g.row.S.Denot). align_at v.state.machine) c.self.view_is
 
 bytes_before : (g : given.Over) (c : After-allocate-then-extend g) → HasTried g c → bytes_at c.extend.new.tlsf.state ≡ bytes_at c.args.self.now.state.machine
 bytes_before g c tried =
     let same : c.allocate.new.self.state ≡ c.self.inside.tlsf.state = ap (λ s. s.machine) tried.same in
-    c.extend.ensures.bytes ∙ ap bytes_at same ∙ ap (λ (v : FlexContents g.row.S.Denot). bytes_at v.state.machine) c.self.view_is
+    c.extend.ensures.payloads.bytes ∙ ap bytes_at same ∙ ap (λ (v : FlexContents g.row.S.Denot). bytes_at v.state.machine) c.self.view_is
 
 pub returns-then-extend-clause-new : goal.returns-then-extend-clause-new
 returns-then-extend-clause-new g c =
@@ -220,28 +220,28 @@ returns-then-extend-clause-few g c = c.allocate-then-extend.ensures.few
 pub returns-then-extend-clause-place : goal.returns-then-extend-clause-place
 returns-then-extend-clause-place g c =
     let first = c.allocate.ensures.place in
-    let second = c.extend.ensures.place in
+    let second = c.extend.ensures.payloads.place in
     let third = c.allocate-then-extend.ensures.place in
     subst (λ (old : FlexContents g.row.S.Denot). SamePlace old.memory c.allocate-then-extend.new.self.memory) c.self.view_is (third.0 ∙ second.0 ∙ first.0, third.1 ∙ second.1 ∙ first.1)
 
 pub returns-then-extend-clause-grow : goal.returns-then-extend-clause-grow
 returns-then-extend-clause-grow g c =
     let first : c.args.self.now.memory.touches ≤ c.allocate.new.self.memory.touches = subst (λ (old : FlexContents g.row.S.Denot). old.memory.touches ≤ c.allocate.new.self.memory.touches) c.self.view_is c.allocate.ensures.grow in
-    omega (arith, first, c.extend.ensures.grow, c.allocate-then-extend.ensures.grow)
+    omega (arith, first, c.extend.ensures.payloads.grow, c.allocate-then-extend.ensures.grow)
 
 pub returns-then-extend-clause-copied : goal.returns-then-extend-clause-copied
-returns-then-extend-clause-copied g c = c.allocate-then-extend.ensures.copied ∙ c.extend.ensures.copied ∙ c.allocate.ensures.copied ∙ ap (λ (old : FlexContents g.row.S.Denot). old.memory.copied) c.self.view_is
+returns-then-extend-clause-copied g c = c.allocate-then-extend.ensures.copied ∙ c.extend.ensures.payloads.copied ∙ c.allocate.ensures.copied ∙ ap (λ (old : FlexContents g.row.S.Denot). old.memory.copied) c.self.view_is
 
 pub returns-else-extend-clause-place : goal.returns-else-extend-clause-place
 returns-else-extend-clause-place g c =
     let first = c.allocate.ensures.place in
-    let second = c.extend.ensures.place in
+    let second = c.extend.ensures.payloads.place in
     subst (λ (old : FlexContents g.row.S.Denot). SamePlace old.memory c.extend.new.tlsf.memory) c.self.view_is (second.0 ∙ first.0, second.1 ∙ first.1)
 
 pub returns-else-extend-clause-grow : goal.returns-else-extend-clause-grow
 returns-else-extend-clause-grow g c =
     let first : c.args.self.now.memory.touches ≤ c.allocate.new.self.memory.touches = subst (λ (old : FlexContents g.row.S.Denot). old.memory.touches ≤ c.allocate.new.self.memory.touches) c.self.view_is c.allocate.ensures.grow in
-    omega (arith, first, c.extend.ensures.grow)
+    omega (arith, first, c.extend.ensures.payloads.grow)
 
 pub returns-else-extend-clause-copied : goal.returns-else-extend-clause-copied
-returns-else-extend-clause-copied g c = c.extend.ensures.copied ∙ c.allocate.ensures.copied ∙ ap (λ (old : FlexContents g.row.S.Denot). old.memory.copied) c.self.view_is
+returns-else-extend-clause-copied g c = c.extend.ensures.payloads.copied ∙ c.allocate.ensures.copied ∙ ap (λ (old : FlexContents g.row.S.Denot). old.memory.copied) c.self.view_is

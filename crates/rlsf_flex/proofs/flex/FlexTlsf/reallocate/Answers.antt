@@ -81,12 +81,12 @@ HasTried g c = (u : Used) × IsStuck c.self.inside.tlsf.state (at c.args.addr) c
 aligns_before : (g : given.Over) (c : After-extend g) → HasTried g c → align_at c.extend.new.tlsf.state ≡ align_at c.args.self.now.state.machine
 aligns_before g c (u, stuck, is, first) =
     let same : c.reallocate.new.self.state ≡ c.self.inside.tlsf.state = ap (λ s. s.machine) first.same in
-    c.extend.ensures.aligns ∙ ap align_at same ∙ ap (λ (v : FlexContents g.row.S.Denot). align_at v.state.machine) c.self.view_is
+    c.extend.ensures.payloads.aligns ∙ ap align_at same ∙ ap (λ (v : FlexContents g.row.S.Denot). align_at v.state.machine) c.self.view_is
 
 bytes_before : (g : given.Over) (c : After-extend g) → HasTried g c → bytes_at c.extend.new.tlsf.state ≡ bytes_at c.args.self.now.state.machine
 bytes_before g c (u, stuck, is, first) =
     let same : c.reallocate.new.self.state ≡ c.self.inside.tlsf.state = ap (λ s. s.machine) first.same in
-    c.extend.ensures.bytes ∙ ap bytes_at same ∙ ap (λ (v : FlexContents g.row.S.Denot). bytes_at v.state.machine) c.self.view_is
+    c.extend.ensures.payloads.bytes ∙ ap bytes_at same ∙ ap (λ (v : FlexContents g.row.S.Denot). bytes_at v.state.machine) c.self.view_is
 
 pub move_payload-requires : goal.move_payload-requires
 move_payload-requires g c =
@@ -304,35 +304,35 @@ returns-then-extend-clause-few g c = c.move_payload.ensures.few
 pub returns-then-extend-clause-place : goal.returns-then-extend-clause-place
 returns-then-extend-clause-place g c =
     let first = c.reallocate.ensures.place in
-    let second = c.extend.ensures.place in
+    let second = c.extend.ensures.payloads.place in
     let third = c.move_payload.ensures.place in
     subst (λ (old : FlexContents g.row.S.Denot). SamePlace old.memory c.move_payload.new.tlsf.memory) c.self.view_is (third.0 ∙ second.0 ∙ first.0, third.1 ∙ second.1 ∙ first.1)
 
 pub returns-then-extend-clause-grow : goal.returns-then-extend-clause-grow
 returns-then-extend-clause-grow g c =
     let first : c.args.self.now.memory.touches ≤ c.reallocate.new.self.memory.touches = subst (λ (old : FlexContents g.row.S.Denot). old.memory.touches ≤ c.reallocate.new.self.memory.touches) c.self.view_is c.reallocate.ensures.grow in
-    omega (arith, first, c.extend.ensures.grow, c.move_payload.ensures.grow)
+    omega (arith, first, c.extend.ensures.payloads.grow, c.move_payload.ensures.grow)
 
 pub returns-then-extend-clause-grow_copied : goal.returns-then-extend-clause-grow_copied
 returns-then-extend-clause-grow_copied g c =
     let first : c.args.self.now.memory.copied ≤ c.reallocate.new.self.memory.copied = subst (λ (old : FlexContents g.row.S.Denot). old.memory.copied ≤ c.reallocate.new.self.memory.copied) c.self.view_is c.reallocate.ensures.grow_copied in
-    omega (arith, first, c.extend.ensures.copied, c.move_payload.ensures.grow_copied)
+    omega (arith, first, c.extend.ensures.payloads.copied, c.move_payload.ensures.grow_copied)
 
 pub returns-else-extend-clause-place : goal.returns-else-extend-clause-place
 returns-else-extend-clause-place g c =
     let first = c.reallocate.ensures.place in
-    let second = c.extend.ensures.place in
+    let second = c.extend.ensures.payloads.place in
     subst (λ (old : FlexContents g.row.S.Denot). SamePlace old.memory c.extend.new.tlsf.memory) c.self.view_is (second.0 ∙ first.0, second.1 ∙ first.1)
 
 pub returns-else-extend-clause-grow : goal.returns-else-extend-clause-grow
 returns-else-extend-clause-grow g c =
     let first : c.args.self.now.memory.touches ≤ c.reallocate.new.self.memory.touches = subst (λ (old : FlexContents g.row.S.Denot). old.memory.touches ≤ c.reallocate.new.self.memory.touches) c.self.view_is c.reallocate.ensures.grow in
-    omega (arith, first, c.extend.ensures.grow)
+    omega (arith, first, c.extend.ensures.payloads.grow)
 
 pub returns-else-extend-clause-grow_copied : goal.returns-else-extend-clause-grow_copied
 returns-else-extend-clause-grow_copied g c =
     let first : c.args.self.now.memory.copied ≤ c.reallocate.new.self.memory.copied = subst (λ (old : FlexContents g.row.S.Denot). old.memory.copied ≤ c.reallocate.new.self.memory.copied) c.self.view_is c.reallocate.ensures.grow_copied in
-    omega (arith, first, c.extend.ensures.copied)
+    omega (arith, first, c.extend.ensures.payloads.copied)
 
 pub returns-else-extend-clause-copied : goal.returns-else-extend-clause-copied
 returns-else-extend-clause-copied g c = λ room. absurd (refused_in g (goal.at.returns-else-extend-clause-copied g c).In_default room)
