@@ -4,6 +4,8 @@
 #[cfg(test)]
 mod calls;
 #[cfg(test)]
+mod kept;
+#[cfg(test)]
 mod pools;
 #[cfg(test)]
 mod random;
