@@ -7,5 +7,3 @@ mod calls;
 mod pools;
 #[cfg(test)]
 mod random;
-#[cfg(test)]
-mod refusals;
