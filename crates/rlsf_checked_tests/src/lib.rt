@@ -9,5 +9,3 @@ mod kept;
 mod pools;
 #[cfg(test)]
 mod random;
-#[cfg(test)]
-mod refusals;

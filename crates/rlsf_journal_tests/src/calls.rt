@@ -17,7 +17,7 @@ fn number(answer: Result<Addr, GlobalError>) -> usize {
 }
 
 /// Makes a call: the address, or 0 for a deallocation, or the number of the error.
-pub(crate) fn answer(rt: &impl Wait, journaled: &Journaled, pass: &mut Pass, call: Call) -> usize {
+fn answer(rt: &impl Wait, journaled: &Journaled, pass: &mut Pass, call: Call) -> usize {
     if pass.caller() >= journaled.callers() {
         return usize::MAX;
     }
@@ -168,5 +168,13 @@ fn a_payload_moves(rt: HostRuntime) -> Result<(), Fail> {
          2 caller 0: reallocate 65552 to 40 align 16: unknown address\n\
          live 65584: 40 align 16\n"
     );
+    Ok(())
+}
+
+#[test]
+fn too_many_callers(rt: HostRuntime) -> Result<(), Fail> {
+    let memory = Memory::new(rt.alloc(), 65536, 65536)?;
+    let refused = Journaled::new(rt.alloc(), memory, usize::MAX).err();
+    assert_eq!(rt; refused, Some(GlobalError::JournalMemory));
     Ok(())
 }

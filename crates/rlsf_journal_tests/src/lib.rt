@@ -4,6 +4,4 @@
 #[cfg(test)]
 mod calls;
 #[cfg(test)]
-mod refusals;
-#[cfg(test)]
 mod threads;

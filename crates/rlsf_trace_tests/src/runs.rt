@@ -1,7 +1,6 @@
 //! Runs: what their ops answer. Most are traces, whose texts have one op a line; the others are calls of `run`.
 
 mod random;
-mod refusals;
 
 use crate::replays::replays;
 use rlsf_base::memory::{Layout, Memory, Range};
