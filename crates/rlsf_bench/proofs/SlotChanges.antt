@@ -16,8 +16,8 @@ use Rattle.rlsf_machine.proofs.Determined.{refusal_changes_nothing}
 use Rattle.rlsf_machine.proofs.Live.{handed_out_is_new, live_stays, reallocated_is_live}
 use Rattle.rlsf_tlsf.specs.Allocator.{Allocator, IsInState}
 use Rattle.rlsf_bench.specs.declared.tally.Tally.{Tally}
-use Rattle.rlsf_bench.specs.Runs.{Changes, Does, RunState, beginning, counted, nothing, size_of, slot_of, with_slot}
-use Rattle.rlsf_bench.specs.Slots.{IsAt, LeadsOn, held}
+use Rattle.rlsf_bench.specs.Runs.{ChangesSlot, DoesStep, BenchState, beginning, counted, nothing, size_of, slot_of, with_slot}
+use Rattle.rlsf_bench.specs.Slots.{AreSlotsAt, LeadsSlotsOn, held}
 
 -- an address in changed slots is in the one that was changed, or was in another before
 with_slot-cases : (slot : ℕ) (held : Option ℕ) (slots : ℕ → Option ℕ) (other addr : ℕ) → with_slot slot held slots other ≡ Some addr
@@ -27,7 +27,7 @@ with_slot-cases slot held slots other addr is = elim (eqb_tells slot other) [
   | inr (is_false, differ) ↦ inr (differ, sym (ap (λ b. cond b held (slots other)) is_false) ∙ is)
 ]
 
-module _ {fllen sllen : ℕ} {v : Allocator} {table : List ℕ} {counts : Tally} {s : RunState} (at : IsAt fllen sllen v table counts s) (slot : ℕ) (below : slot < length table) where
+module _ {fllen sllen : ℕ} {v : Allocator} {table : List ℕ} {counts : Tally} {s : BenchState} (at : AreSlotsAt fllen sllen v table counts s) (slot : ℕ) (below : slot < length table) where
   -- what the slots hold once one is changed
   slots-set : (number other : ℕ) → held (slice_index_or (slice_set table slot number) other 0) ≡ with_slot slot (held number) s.slots other
   slots-set number other = elim (eqb_tells slot other) [
@@ -41,9 +41,9 @@ module _ {fllen sllen : ℕ} {v : Allocator} {table : List ℕ} {counts : Tally}
 
   module _ {w : Allocator} (t : State) (stands : IsInState fllen sllen w t) where
     -- after the deallocation of the slot's payload
-    pub IsAt-freed : (addr : ℕ) → s.slots slot ≡ Some addr → Deallocates s.machine addr t
-        → IsAt fllen sllen w (slice_set table slot 0) counts (record { machine = t; slots = with_slot slot None s.slots; tally = s.tally })
-    IsAt-freed addr its step = record {
+    pub AreSlotsAt-freed : (addr : ℕ) → s.slots slot ≡ Some addr → Deallocates s.machine addr t
+        → AreSlotsAt fllen sllen w (slice_set table slot 0) counts (record { machine = t; slots = with_slot slot None s.slots; tally = s.tally })
+    AreSlotsAt-freed addr its step = record {
       stands = stands;
       slots = slots-set 0;
       live = λ other a is. let (differ, there) = kept other a is in
@@ -56,10 +56,10 @@ module _ {fllen sllen : ℕ} {v : Allocator} {table : List ℕ} {counts : Tally}
         kept other a is = elim (with_slot-cases slot None s.slots other a is) [ inl (_, none) ↦ absurd (cc) | inr was ↦ was ]
 
     -- after an allocation into it
-    pub IsAt-answered : (reply : Option ℕ) (number size : ℕ) → held number ≡ reply → IsPowerOfTwo 1 → Allocates sllen s.machine size 1 reply t
+    pub AreSlotsAt-answered : (reply : Option ℕ) (number size : ℕ) → held number ≡ reply → IsPowerOfTwo 1 → Allocates sllen s.machine size 1 reply t
         → (now : Tally) → now ≡ counted reply counts
-        → IsAt fllen sllen w (slice_set table slot number) now (record { machine = t; slots = with_slot slot reply s.slots; tally = counted reply s.tally })
-    IsAt-answered reply number size kept power step now counts_are = record {
+        → AreSlotsAt fllen sllen w (slice_set table slot number) now (record { machine = t; slots = with_slot slot reply s.slots; tally = counted reply s.tally })
+    AreSlotsAt-answered reply number size kept power step now counts_are = record {
       stands = stands;
       slots = λ other. slots-set number other ∙ ap (λ o. with_slot slot o s.slots other) kept;
       live = λ other a is. elim (cases other a is) [
@@ -86,10 +86,10 @@ module _ {fllen sllen : ℕ} {v : Allocator} {table : List ℕ} {counts : Tally}
         handed a new = handed_out_is_new fllen sllen (range_of v.memory) s.machine t size 1 a at.stands.stands.well_formed power (subst (λ r. Allocates sllen s.machine size 1 r t) new step)
 
     -- after a reallocation of the slot's payload
-    pub IsAt-reallocated : (addr : ℕ) → s.slots slot ≡ Some addr → (reply : Option ℕ) (number size : ℕ) → held number ≡ Some (unwrap_or reply addr) → Reallocates sllen s.machine addr size reply t
+    pub AreSlotsAt-reallocated : (addr : ℕ) → s.slots slot ≡ Some addr → (reply : Option ℕ) (number size : ℕ) → held number ≡ Some (unwrap_or reply addr) → Reallocates sllen s.machine addr size reply t
         → (now : Tally) → now ≡ counted reply counts
-        → IsAt fllen sllen w (slice_set table slot number) now (record { machine = t; slots = with_slot slot (Some (unwrap_or reply addr)) s.slots; tally = counted reply s.tally })
-    IsAt-reallocated addr its reply number size kept step now counts_are = record {
+        → AreSlotsAt fllen sllen w (slice_set table slot number) now (record { machine = t; slots = with_slot slot (Some (unwrap_or reply addr)) s.slots; tally = counted reply s.tally })
+    AreSlotsAt-reallocated addr its reply number size kept step now counts_are = record {
       stands = stands;
       slots = λ other. slots-set number other ∙ ap (λ o. with_slot slot o s.slots other) kept;
       live = λ other a is. elim (cases other a is) [
@@ -129,50 +129,50 @@ module _ {fllen sllen : ℕ} {v : Allocator} {table : List ℕ} {counts : Tally}
             at.one_slot slot other a (its ∙ ap Some (sym same ∙ moved)) there
 
     -- a step on the slot, by what it holds
-    does_on : (reallocates : Bool) (draw : ℕ) → slot ≡ slot_of (length table) draw → (o : Option ℕ) → held (slice_index_or table slot 0) ≡ o → (after : RunState) → Changes sllen reallocates slot (size_of draw) s o after
-        → Does sllen (length table) reallocates draw s after
+    does_on : (reallocates : Bool) (draw : ℕ) → slot ≡ slot_of (length table) draw → (o : Option ℕ) → held (slice_index_or table slot 0) ≡ o → (after : BenchState) → ChangesSlot sllen reallocates slot (size_of draw) s o after
+        → DoesStep sllen (length table) reallocates draw s after
     does_on reallocates draw named o holds after step =
-        subst (λ n. Changes sllen reallocates n (size_of draw) s (s.slots n) after) named (subst (λ p. Changes sllen reallocates slot (size_of draw) s p after) (sym holds ∙ at.slots slot) step)
+        subst (λ n. ChangesSlot sllen reallocates n (size_of draw) s (s.slots n) after) named (subst (λ p. ChangesSlot sllen reallocates slot (size_of draw) s p after) (sym holds ∙ at.slots slot) step)
 
     -- a step that frees the slot's payload
-    pub LeadsOn-freed : (reallocates : Bool) → reallocates ≡ false → (draw : ℕ) → slot ≡ slot_of (length table) draw → (addr : ℕ) → held (slice_index_or table slot 0) ≡ Some addr → Deallocates s.machine addr t
-        → LeadsOn fllen sllen (length table) reallocates draw s w (slice_set table slot 0) counts
-    LeadsOn-freed reallocates frees draw named addr there step =
-        (after, does_on reallocates draw named (Some addr) there after (subst (λ r. Changes sllen r slot (size_of draw) s (Some addr) after) (sym frees) (t, step, refl)), IsAt-freed addr (sym (at.slots slot) ∙ there) step)
+    pub LeadsSlotsOn-freed : (reallocates : Bool) → reallocates ≡ false → (draw : ℕ) → slot ≡ slot_of (length table) draw → (addr : ℕ) → held (slice_index_or table slot 0) ≡ Some addr → Deallocates s.machine addr t
+        → LeadsSlotsOn fllen sllen (length table) reallocates draw s w (slice_set table slot 0) counts
+    LeadsSlotsOn-freed reallocates frees draw named addr there step =
+        (after, does_on reallocates draw named (Some addr) there after (subst (λ r. ChangesSlot sllen r slot (size_of draw) s (Some addr) after) (sym frees) (t, step, refl)), AreSlotsAt-freed addr (sym (at.slots slot) ∙ there) step)
       where
-        after : RunState
+        after : BenchState
         after = record { machine = t; slots = with_slot slot None s.slots; tally = s.tally }
 
     -- a step that reallocates it
-    pub LeadsOn-reallocated : (reallocates : Bool) → reallocates ≡ true → (draw : ℕ) → slot ≡ slot_of (length table) draw → (addr : ℕ) → held (slice_index_or table slot 0) ≡ Some addr → (reply : Option ℕ) (number size : ℕ)
+    pub LeadsSlotsOn-reallocated : (reallocates : Bool) → reallocates ≡ true → (draw : ℕ) → slot ≡ slot_of (length table) draw → (addr : ℕ) → held (slice_index_or table slot 0) ≡ Some addr → (reply : Option ℕ) (number size : ℕ)
         → held number ≡ Some (unwrap_or reply addr) → size ≡ size_of draw → Reallocates sllen s.machine addr size reply t → (now : Tally) → now ≡ counted reply counts
-        → LeadsOn fllen sllen (length table) reallocates draw s w (slice_set table slot number) now
-    LeadsOn-reallocated reallocates does draw named addr there reply number size kept size_is step now counts_are = (
+        → LeadsSlotsOn fllen sllen (length table) reallocates draw s w (slice_set table slot number) now
+    LeadsSlotsOn-reallocated reallocates does draw named addr there reply number size kept size_is step now counts_are = (
       after,
-      does_on reallocates draw named (Some addr) there after (subst (λ r. Changes sllen r slot (size_of draw) s (Some addr) after) (sym does) (reply, t, asked, refl)),
-      IsAt-reallocated addr (sym (at.slots slot) ∙ there) reply number (size_of draw) kept asked now counts_are,
+      does_on reallocates draw named (Some addr) there after (subst (λ r. ChangesSlot sllen r slot (size_of draw) s (Some addr) after) (sym does) (reply, t, asked, refl)),
+      AreSlotsAt-reallocated addr (sym (at.slots slot) ∙ there) reply number (size_of draw) kept asked now counts_are,
     )
       where
         asked : Reallocates sllen s.machine addr (size_of draw) reply t
         asked = subst (λ n. Reallocates sllen s.machine addr n reply t) size_is step
 
-        after : RunState
+        after : BenchState
         after = record { machine = t; slots = with_slot slot (Some (unwrap_or reply addr)) s.slots; tally = counted reply s.tally }
 
     -- a step that allocates into it
-    pub LeadsOn-answered : (reallocates : Bool) (draw : ℕ) → slot ≡ slot_of (length table) draw → held (slice_index_or table slot 0) ≡ None → (reply : Option ℕ) (number size align : ℕ) → held number ≡ reply → size ≡ size_of draw → align ≡ 1
+    pub LeadsSlotsOn-answered : (reallocates : Bool) (draw : ℕ) → slot ≡ slot_of (length table) draw → held (slice_index_or table slot 0) ≡ None → (reply : Option ℕ) (number size align : ℕ) → held number ≡ reply → size ≡ size_of draw → align ≡ 1
         → Allocates sllen s.machine size align reply t → (now : Tally) → now ≡ counted reply counts
-        → LeadsOn fllen sllen (length table) reallocates draw s w (slice_set table slot number) now
-    LeadsOn-answered reallocates draw named empty reply number size align kept size_is align_is step now counts_are = (
+        → LeadsSlotsOn fllen sllen (length table) reallocates draw s w (slice_set table slot number) now
+    LeadsSlotsOn-answered reallocates draw named empty reply number size align kept size_is align_is step now counts_are = (
       after,
       does_on reallocates draw named None empty after (reply, t, asked, refl),
-      IsAt-answered reply number (size_of draw) kept refl asked now counts_are,
+      AreSlotsAt-answered reply number (size_of draw) kept refl asked now counts_are,
     )
       where
         asked : Allocates sllen s.machine (size_of draw) 1 reply t
         asked = subst (λ a. Allocates sllen s.machine (size_of draw) a reply t) align_is (subst (λ n. Allocates sllen s.machine n align reply t) size_is step)
 
-        after : RunState
+        after : BenchState
         after = record { machine = t; slots = with_slot slot reply s.slots; tally = counted reply s.tally }
 
 -- what a slot holds, by the address that its number is
@@ -196,9 +196,9 @@ replicate_same x n i = elim (leb_tells n i) [
 ]
 
 -- with empty slots, a run is at its beginning
-pub IsAt-beginning : {fllen sllen : ℕ} {v : Allocator} {table : List ℕ} {counts : Tally} (s : State) (n : ℕ) → IsInState fllen sllen v s → table ≡ replicate n 0 → counts ≡ nothing
-    → IsAt fllen sllen v table counts (beginning s)
-IsAt-beginning {table = table} s n stands empty none = record {
+pub AreSlotsAt-beginning : {fllen sllen : ℕ} {v : Allocator} {table : List ℕ} {counts : Tally} (s : State) (n : ℕ) → IsInState fllen sllen v s → table ≡ replicate n 0 → counts ≡ nothing
+    → AreSlotsAt fllen sllen v table counts (beginning s)
+AreSlotsAt-beginning {table = table} s n stands empty none = record {
   stands = stands;
   slots = λ slot. ap (λ t. held (slice_index_or t slot 0)) empty ∙ ap held (replicate_same 0 n slot);
   live = λ slot addr is. absurd (no_address addr is);

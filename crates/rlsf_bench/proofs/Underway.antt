@@ -9,9 +9,9 @@ use Rattle.rlsf_tlsf.specs.Allocator.{Allocator, IsInState}
 use Rattle.rlsf_bench.specs.declared.arguments.Mode.{Mode}
 use Rattle.rlsf_bench.specs.declared.tally.Tally.{Tally}
 use Rattle.rlsf_bench.specs.Draws.{drawn, next_state, seed, state_after}
-use Rattle.rlsf_bench.specs.Runs.{Does, IsBench, RunState, Runs, beginning, nothing, reallocates_at}
-use Rattle.rlsf_bench.specs.Slots.{IsAt, LeadsOn}
-use Rattle.rlsf_bench.proofs.SlotChanges.{IsAt-beginning}
+use Rattle.rlsf_bench.specs.Runs.{DoesStep, IsBench, BenchState, RunsSteps, beginning, nothing, reallocates_at}
+use Rattle.rlsf_bench.specs.Slots.{AreSlotsAt, LeadsSlotsOn}
+use Rattle.rlsf_bench.proofs.SlotChanges.{AreSlotsAt-beginning}
 
 -- as many elements as a list has, of it and another, are those that it has
 pub take_all : {A : Type 0} (xs ys : List A) (n : ℕ) → length xs ≡ n → take n (xs ++ ys) ≡ xs
@@ -32,9 +32,9 @@ pub record IsUnderway (fllen sllen : ℕ) (pool : Range) (size : ℕ) (mode : Mo
   pub taken : Option ℕ
   pub machine : State
   pub inserted : Inserts fllen empty pool taken machine
-  pub state : RunState
-  pub ran : Runs sllen size mode done (beginning machine) state
-  pub at : IsAt fllen sllen v table counts state
+  pub state : BenchState
+  pub ran : RunsSteps sllen size mode done (beginning machine) state
+  pub at : AreSlotsAt fllen sllen v table counts state
   pub slots : length table ≡ size
   pub generator : draws ≡ state_after done
   pub refused : counts.refused ≤ done
@@ -49,7 +49,7 @@ module _ {fllen sllen : ℕ} {pool : Range} {size : ℕ} {mode : Mode} {v : Allo
     inserted = inserted;
     state = beginning s;
     ran = refl;
-    at = IsAt-beginning s size stands none nothing_yet;
+    at = AreSlotsAt-beginning s size stands none nothing_yet;
     slots = ap length none ∙ length-replicate size 0;
     generator = seeded ∙ sym state_after-none;
     refused = omega (arith, ap (λ t. t.refused) nothing_yet);
@@ -57,22 +57,22 @@ module _ {fllen sllen : ℕ} {pool : Range} {size : ℕ} {mode : Mode} {v : Allo
 
   -- one step more
   pub IsUnderway-next : {done : ℕ} (w : IsUnderway fllen sllen pool size mode v table counts draws done) (reallocates : Bool) → reallocates ≡ reallocates_at mode done → (draw now : ℕ) → now ≡ next_state draws → draw ≡ now * 0x2545f4914f6cdd1d % 2 ^ 64
-      → (u : Allocator) (new : List ℕ) (more : Tally) → ((s : RunState) → IsAt fllen sllen v table counts s → LeadsOn fllen sllen (length table) reallocates draw s u new more)
+      → (u : Allocator) (new : List ℕ) (more : Tally) → ((s : BenchState) → AreSlotsAt fllen sllen v table counts s → LeadsSlotsOn fllen sllen (length table) reallocates draw s u new more)
       → length new ≡ length table → more.refused ≤ counts.refused + 1 → IsUnderway fllen sllen pool size mode u new more now (done + 1)
   IsUnderway-next {done} w reallocates turn draw now after number u new more does long refused =
       let (t, step, at) = does w.state w.at in
       let drawing = after ∙ ap next_state w.generator in
       let same = number ∙ ap (λ x. x * 0x2545f4914f6cdd1d % 2 ^ 64) drawing in
-      let turned : Does sllen (length table) (reallocates_at mode done) draw w.state t = subst (λ r. Does sllen (length table) r draw w.state t) turn step in
-      let here : Does sllen size (reallocates_at mode done) (drawn done) w.state t =
-      subst (λ n. Does sllen n (reallocates_at mode done) (drawn done) w.state t) w.slots (subst (λ d. Does sllen (length table) (reallocates_at mode done) d w.state t) same turned) in
+      let turned : DoesStep sllen (length table) (reallocates_at mode done) draw w.state t = subst (λ r. DoesStep sllen (length table) r draw w.state t) turn step in
+      let here : DoesStep sllen size (reallocates_at mode done) (drawn done) w.state t =
+      subst (λ n. DoesStep sllen n (reallocates_at mode done) (drawn done) w.state t) w.slots (subst (λ d. DoesStep sllen (length table) (reallocates_at mode done) d w.state t) same turned) in
       let last : suc done ≡ done + 1 = omega arith in
       record {
         taken = w.taken;
         machine = w.machine;
         inserted = w.inserted;
         state = t;
-        ran = subst (λ n. Runs sllen size mode n (beginning w.machine) t) last (w.state, w.ran, here);
+        ran = subst (λ n. RunsSteps sllen size mode n (beginning w.machine) t) last (w.state, w.ran, here);
         at = at;
         slots = long ∙ w.slots;
         generator = drawing ∙ state_after-next done;

@@ -1,4 +1,4 @@
--- Runs of the benchmark: what steps do to the list machine, and what is counted.
+-- RunsSteps of the benchmark: what steps do to the list machine, and what is counted.
 use Rattle.std.specs.Prelude.{◌≡◌, ℕ, zero, suc, ◌+◌, ◌*◌, ◌/◌, ◌%◌, ◌^◌, nat_eq, ◌==◌, Bool, true, false, if◌then◌else◌, Option, Some, None}
 use Rattle.std.specs.Option.{unwrap_or}
 use Rattle.rlsf_base.specs.declared.memory.range.Range.{Range}
@@ -32,7 +32,7 @@ reallocates_at Free step = false
 reallocates_at Realloc step = step % 8 == 0
 
 -- what a run has come to: the machine's state, the address of each slot's payload, and what was counted
-pub record RunState : Type 0 where
+pub record BenchState : Type 0 where
   pub machine : State
   pub slots : ℕ → Option ℕ
   pub tally : Tally
@@ -42,7 +42,7 @@ abbrev pub nothing : Tally
 nothing = record { refused = 0; checksum = 0 }
 
 -- from this state of the machine on, with empty slots
-abbrev pub beginning : State → RunState
+abbrev pub beginning : State → BenchState
 beginning machine = record { machine = machine; slots = λ slot. None; tally = nothing }
 
 -- the slots with what one of them holds now
@@ -64,30 +64,30 @@ size_of draw = draw % 512
 
 -- where the slot holds no payload, one of this size is allocated into it; else the one that it holds is freed, or, in a step that
 -- reallocates, gets this size, and stays where it was if that is refused
-abbrev pub Changes : ℕ → Bool → ℕ → ℕ → RunState → Option ℕ → RunState → Type 0
-Changes sllen reallocates slot size s None t =
+abbrev pub ChangesSlot : ℕ → Bool → ℕ → ℕ → BenchState → Option ℕ → BenchState → Type 0
+ChangesSlot sllen reallocates slot size s None t =
     (reply : Option ℕ) × (machine : State) × Allocates sllen s.machine size 1 reply machine
     × (t ≡ record { machine = machine; slots = with_slot slot reply s.slots; tally = counted reply s.tally })
-Changes sllen false slot size s (Some addr) t =
+ChangesSlot sllen false slot size s (Some addr) t =
     (machine : State) × Deallocates s.machine addr machine × (t ≡ record { machine = machine; slots = with_slot slot None s.slots; tally = s.tally })
-Changes sllen true slot size s (Some addr) t =
+ChangesSlot sllen true slot size s (Some addr) t =
     (reply : Option ℕ) × (machine : State) × Reallocates sllen s.machine addr size reply machine
     × (t ≡ record { machine = machine; slots = with_slot slot (Some (unwrap_or reply addr)) s.slots; tally = counted reply s.tally })
 
 -- one step by a number, which may be one that reallocates
-abbrev pub Does : ℕ → ℕ → Bool → ℕ → RunState → RunState → Type 0
-Does sllen slots reallocates draw s t = Changes sllen reallocates (slot_of slots draw) (size_of draw) s (s.slots (slot_of slots draw)) t
+abbrev pub DoesStep : ℕ → ℕ → Bool → ℕ → BenchState → BenchState → Type 0
+DoesStep sllen slots reallocates draw s t = ChangesSlot sllen reallocates (slot_of slots draw) (size_of draw) s (s.slots (slot_of slots draw)) t
 
 -- so many steps in a mode, by the numbers in the order that they are drawn in
-abbrev pub Runs : ℕ → ℕ → Mode → ℕ → RunState → RunState → Type 0
-Runs sllen slots mode zero s t = t ≡ s
-Runs sllen slots mode (suc n) s t = (u : RunState) × Runs sllen slots mode n s u × Does sllen slots (reallocates_at mode n) (drawn n) u t
+abbrev pub RunsSteps : ℕ → ℕ → Mode → ℕ → BenchState → BenchState → Type 0
+RunsSteps sllen slots mode zero s t = t ≡ s
+RunsSteps sllen slots mode (suc n) s t = (u : BenchState) × RunsSteps sllen slots mode n s u × DoesStep sllen slots (reallocates_at mode n) (drawn n) u t
 
 -- this is counted in a run of so many steps in a mode, from the state that a pool leads to
 pub record IsBench (fllen sllen : ℕ) (pool : Range) (slots steps : ℕ) (mode : Mode) (tally : Tally) : Type 0 where
   pub taken : Option ℕ
   pub machine : State
   pub inserted : Inserts fllen empty pool taken machine
-  pub last : RunState
-  pub ran : Runs sllen slots mode steps (beginning machine) last
+  pub last : BenchState
+  pub ran : RunsSteps sllen slots mode steps (beginning machine) last
   pub counts : tally ≡ last.tally

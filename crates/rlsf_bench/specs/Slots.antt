@@ -3,7 +3,7 @@ use Rattle.std.specs.Prelude.{◌≡◌, ℕ, zero, suc, Bool, List, Option, Som
 use Rattle.rlsf_machine.specs.State.{IsLive}
 use Rattle.rlsf_tlsf.specs.Allocator.{Allocator, IsInState}
 use Rattle.rlsf_bench.specs.declared.tally.Tally.{Tally}
-use Rattle.rlsf_bench.specs.Runs.{RunState, Does}
+use Rattle.rlsf_bench.specs.Runs.{BenchState, DoesStep}
 
 -- the payload that a slot of this number holds, by its address: 0 stands for none
 abbrev pub held : ℕ → Option ℕ
@@ -12,7 +12,7 @@ held (suc before) = Some (suc before)
 
 -- the allocator and the slots are where a run has come to, and this is counted: the payload that a slot holds is live,
 -- and no other slot holds it
-pub record IsAt (fllen sllen : ℕ) (v : Allocator) (table : List ℕ) (counts : Tally) (s : RunState) : Type 0 where
+pub record AreSlotsAt (fllen sllen : ℕ) (v : Allocator) (table : List ℕ) (counts : Tally) (s : BenchState) : Type 0 where
   pub stands : IsInState fllen sllen v s.machine
   pub slots : (slot : ℕ) → held (slice_index_or table slot 0) ≡ s.slots slot
   pub live : (slot addr : ℕ) → s.slots slot ≡ Some addr → IsLive s.machine addr 1
@@ -20,5 +20,5 @@ pub record IsAt (fllen sllen : ℕ) (v : Allocator) (table : List ℕ) (counts :
   pub tally : counts ≡ s.tally
 
 -- a step by a number, which may be one that reallocates, leads on from this state of the run to one where the allocator and the slots then are
-abbrev pub LeadsOn : ℕ → ℕ → ℕ → Bool → ℕ → RunState → Allocator → List ℕ → Tally → Type 0
-LeadsOn fllen sllen slots reallocates draw s w table counts = (t : RunState) × Does sllen slots reallocates draw s t × IsAt fllen sllen w table counts t
+abbrev pub LeadsSlotsOn : ℕ → ℕ → ℕ → Bool → ℕ → BenchState → Allocator → List ℕ → Tally → Type 0
+LeadsSlotsOn fllen sllen slots reallocates draw s w table counts = (t : BenchState) × DoesStep sllen slots reallocates draw s t × AreSlotsAt fllen sllen w table counts t

@@ -5,8 +5,8 @@ ghost use Rattle.std.specs.Int.NonZero.{non_zero_usize_get};
 ghost use Rattle.rlsf_base.specs.Addr.{reply};
 ghost use Rattle.rlsf_base.specs.Range.{LiesIn};
 ghost use Rattle.rlsf_machine.specs.State.{empty};
-ghost use Rattle.rlsf_bench.specs.Runs.{slot_of, size_of, RunState, IsBench};
-ghost use Rattle.rlsf_bench.specs.Slots.{IsAt, LeadsOn, held};
+ghost use Rattle.rlsf_bench.specs.Runs.{slot_of, size_of, BenchState, IsBench};
+ghost use Rattle.rlsf_bench.specs.Slots.{AreSlotsAt, LeadsSlotsOn, held};
 
 use crate::arguments::Mode;
 use crate::error::BenchError;
@@ -69,9 +69,9 @@ fn step<FLBitmap: Bitmap, SLBitmap: Bitmap, const FLLEN: usize, const SLLEN: usi
     draw: u64,
 )
     requires some { 0 < length slots.old }
-    requires state { (s : RunState) × IsAt FLLEN SLLEN tlsf.old slots.old tally.old s }
+    requires state { (s : BenchState) × AreSlotsAt FLLEN SLLEN tlsf.old slots.old tally.old s }
     requires refused { tally.old.refused + 1 < 2 ^ 64 }
-    ensures does { (s : RunState) → IsAt FLLEN SLLEN tlsf.old slots.old tally.old s → LeadsOn FLLEN SLLEN (length slots.old) reallocates draw s tlsf.new slots.new tally.new }
+    ensures does { (s : BenchState) → AreSlotsAt FLLEN SLLEN tlsf.old slots.old tally.old s → LeadsSlotsOn FLLEN SLLEN (length slots.old) reallocates draw s tlsf.new slots.new tally.new }
     ensures refused { tally.new.refused ≤ tally.old.refused + 1 }
 {
     let slot = slot_of(slots.len(), draw);

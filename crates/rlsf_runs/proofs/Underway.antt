@@ -12,7 +12,7 @@ use Rattle.rlsf_text.specs.declared.op.Answer.{Answer}
 use Rattle.rlsf_text.specs.declared.op.Op.{Op}
 use Rattle.rlsf_runs.specs.declared.tables.Tables.{Tables}
 use Rattle.rlsf_runs.specs.Events.{RunsByEvents}
-use Rattle.rlsf_runs.specs.Runs.{beginning, Does, Runs, RunState}
+use Rattle.rlsf_runs.specs.Runs.{beginning, Does, RunsOps, RunState}
 use Rattle.rlsf_runs.specs.Steps.Tables.{HasRoom, IsAt, LeadsOn}
 use Rattle.rlsf_runs.proofs.Events.{made, Makes, one_more}
 use Rattle.rlsf_runs.proofs.SpareBytes.{KeepsSpare-op}
@@ -21,7 +21,7 @@ use Rattle.rlsf_runs.proofs.SpareBytes.{KeepsSpare-op}
 pub record IsUnderway (fllen sllen : ℕ) (m : Space) (ops : List Op) (v : Allocator) (tables : Tables) (done : ℕ) (given : List Answer) : Type 0 where
   pub state : RunState
   pub at : IsAt fllen sllen v tables state
-  pub leads : (more : List Answer) (t : RunState) → Runs fllen sllen (range_of m) state (drop done ops) more t → Runs fllen sllen (range_of m) beginning ops (given ++ more) t
+  pub leads : (more : List Answer) (t : RunState) → RunsOps fllen sllen (range_of m) state (drop done ops) more t → RunsOps fllen sllen (range_of m) beginning ops (given ++ more) t
   pub events : (more : List Answer) (t : State) → RunsByEvents fllen sllen (range_of m) state.machine (drop done ops) more t → RunsByEvents fllen sllen (range_of m) empty ops (given ++ more) t
   pub place : SamePlace m v.memory
   pub spare : KeepsSpare m empty v.memory state.machine
@@ -55,8 +55,8 @@ module _ {fllen sllen : ℕ} {m : Space} {ops : List Op} {v : Allocator} {tables
       record {
         state = t;
         at = at;
-        leads = λ more u runs. subst (λ l. Runs fllen sllen (range_of m) beginning ops l u) (sym (append_assoc given (answer ∷ []) more))
-            (w.leads (answer ∷ more) u (subst (λ l. Runs fllen sllen (range_of m) w.state l (answer ∷ more) u) (sym left_ops) (t, here, runs)));
+        leads = λ more u runs. subst (λ l. RunsOps fllen sllen (range_of m) beginning ops l u) (sym (append_assoc given (answer ∷ []) more))
+            (w.leads (answer ∷ more) u (subst (λ l. RunsOps fllen sllen (range_of m) w.state l (answer ∷ more) u) (sym left_ops) (t, here, runs)));
         events = λ more u runs. subst (λ l. RunsByEvents fllen sllen (range_of m) empty ops l u) (sym (append_assoc given (answer ∷ []) more))
             (w.events (answer ∷ more) u (subst (λ l. RunsByEvents fllen sllen (range_of m) w.state.machine l (answer ∷ more) u) (sym left_ops)
             (one_more (subst (λ r. Makes fllen sllen r w.state.machine op answer t.machine) same makes) (drop (done + 1) ops) more u runs)));
@@ -75,9 +75,9 @@ module _ {fllen sllen : ℕ} {m : Space} {ops : List Op} {v : Allocator} {tables
       left = omega arith
 
   -- at the end
-  pub Runs-end : {done : ℕ} {given : List Answer} (w : IsUnderway fllen sllen m ops v tables done given) → length ops ≤ done → Runs fllen sllen (range_of m) beginning ops given w.state
-  Runs-end {done} {given} w past = subst (λ l. Runs fllen sllen (range_of m) beginning ops l w.state) (append-nil given)
-      (w.leads [] w.state (subst (λ l. Runs fllen sllen (range_of m) w.state l [] w.state) (sym (drop_of_length-le ops past)) refl))
+  pub RunsOps-end : {done : ℕ} {given : List Answer} (w : IsUnderway fllen sllen m ops v tables done given) → length ops ≤ done → RunsOps fllen sllen (range_of m) beginning ops given w.state
+  RunsOps-end {done} {given} w past = subst (λ l. RunsOps fllen sllen (range_of m) beginning ops l w.state) (append-nil given)
+      (w.leads [] w.state (subst (λ l. RunsOps fllen sllen (range_of m) w.state l [] w.state) (sym (drop_of_length-le ops past)) refl))
 
   -- and by the machine's calls
   pub RunsByEvents-end : {done : ℕ} {given : List Answer} (w : IsUnderway fllen sllen m ops v tables done given) → length ops ≤ done → RunsByEvents fllen sllen (range_of m) empty ops given w.state.machine

@@ -1,4 +1,4 @@
--- Runs: what the ops of a trace do to the list machine, and what they answer.
+-- RunsOps: what the ops of a trace do to the list machine, and what they answer.
 use Rattle.std.specs.Prelude.{◌≡◌, ℕ, ◌+◌, ◌<◌, ◌≤◌, ◌==◌, nat_eq, if◌then◌else◌, Bool, List, [], ◌∷◌, map, Option, Some, None, IsSome, replicate, slice_index, slice_set}
 use Rattle.std.specs.List.{slice_get}
 use Rattle.std.specs.Option.{option_map}
@@ -93,29 +93,29 @@ abbrev pub told_of : BlockOf → Range × Bool
 told_of b = (b.range, b.is_occupied)
 
 -- why an op is refused; a trim always is, since there is no source that takes ranges back
-abbrev pub IsRefused : Range → RunState → Op → TraceError → Type 0
-IsRefused memory s (Insert r) BadRange = MayInsert memory s.pools r → ⊥
-IsRefused memory s (Append r) BadRange = MayAppend memory s.pools r → ⊥
-IsRefused memory s (Alloc name layout) NameTaken = IsSome (s.named name)
-IsRefused memory s (Free name) UnknownName = s.named name ≡ None
-IsRefused memory s (FreeUnknown name) UnknownName = s.named name ≡ None
-IsRefused memory s (Realloc name size) UnknownName = s.named name ≡ None
-IsRefused memory s (Realloc name size) BadLayout = (u : Used) × Owns s name u × (IsLayout size u.align → ⊥)
-IsRefused memory s (ReallocNoMove name size) UnknownName = s.named name ≡ None
-IsRefused memory s (ReallocNoMove name size) BadLayout = (u : Used) × Owns s name u × (IsLayout size u.align → ⊥)
-IsRefused memory s (Fill name byte) UnknownName = s.named name ≡ None
-IsRefused memory s (Put name offset byte) UnknownName = s.named name ≡ None
-IsRefused memory s (Put name offset byte) BadOffset = (u : Used) × Owns s name u × ((usable u).len ≤ offset)
-IsRefused memory s (Get name offset) UnknownName = s.named name ≡ None
-IsRefused memory s (Get name offset) BadOffset = (u : Used) × Owns s name u × ((usable u).len ≤ offset)
-IsRefused memory s (OpUsable name) UnknownName = s.named name ≡ None
-IsRefused memory s (OpBlock r index) BadRange = MayWalk memory s.pools r → ⊥
-IsRefused memory s Trim NotForTlsf = Unit {0}
-IsRefused memory s op error = ⊥
+abbrev pub IsOpRefused : Range → RunState → Op → TraceError → Type 0
+IsOpRefused memory s (Insert r) BadRange = MayInsert memory s.pools r → ⊥
+IsOpRefused memory s (Append r) BadRange = MayAppend memory s.pools r → ⊥
+IsOpRefused memory s (Alloc name layout) NameTaken = IsSome (s.named name)
+IsOpRefused memory s (Free name) UnknownName = s.named name ≡ None
+IsOpRefused memory s (FreeUnknown name) UnknownName = s.named name ≡ None
+IsOpRefused memory s (Realloc name size) UnknownName = s.named name ≡ None
+IsOpRefused memory s (Realloc name size) BadLayout = (u : Used) × Owns s name u × (IsLayout size u.align → ⊥)
+IsOpRefused memory s (ReallocNoMove name size) UnknownName = s.named name ≡ None
+IsOpRefused memory s (ReallocNoMove name size) BadLayout = (u : Used) × Owns s name u × (IsLayout size u.align → ⊥)
+IsOpRefused memory s (Fill name byte) UnknownName = s.named name ≡ None
+IsOpRefused memory s (Put name offset byte) UnknownName = s.named name ≡ None
+IsOpRefused memory s (Put name offset byte) BadOffset = (u : Used) × Owns s name u × ((usable u).len ≤ offset)
+IsOpRefused memory s (Get name offset) UnknownName = s.named name ≡ None
+IsOpRefused memory s (Get name offset) BadOffset = (u : Used) × Owns s name u × ((usable u).len ≤ offset)
+IsOpRefused memory s (OpUsable name) UnknownName = s.named name ≡ None
+IsOpRefused memory s (OpBlock r index) BadRange = MayWalk memory s.pools r → ⊥
+IsOpRefused memory s Trim NotForTlsf = Unit {0}
+IsOpRefused memory s op error = ⊥
 
 -- an op and its answer: a step of the machine, or a refusal, which comes exactly where it has to and changes nothing
 abbrev pub Does : ℕ → ℕ → Range → RunState → Op → Answer → RunState → Type 0
-Does fllen sllen memory s op (Refused error) t = IsRefused memory s op error × (t ≡ s)
+Does fllen sllen memory s op (Refused error) t = IsOpRefused memory s op error × (t ≡ s)
 Does fllen sllen memory s (Insert r) (Inserted len) t =
     MayInsert memory s.pools r × (machine : State) × Inserts fllen s.machine r (reply len) machine
     × (t ≡ record { machine = machine; named = s.named; pools = with_pool r (reply len) s.pools })
@@ -144,8 +144,8 @@ Does fllen sllen memory s (OpBlock r index) (Block block) t =
 Does fllen sllen memory s op answer t = ⊥
 
 -- ops, one after another, each with one answer
-abbrev pub Runs : ℕ → ℕ → Range → RunState → List Op → List Answer → RunState → Type 0
-Runs fllen sllen memory s [] [] t = t ≡ s
-Runs fllen sllen memory s [] (answer ∷ answers) t = ⊥
-Runs fllen sllen memory s (op ∷ ops) [] t = ⊥
-Runs fllen sllen memory s (op ∷ ops) (answer ∷ answers) t = (u : RunState) × Does fllen sllen memory s op answer u × Runs fllen sllen memory u ops answers t
+abbrev pub RunsOps : ℕ → ℕ → Range → RunState → List Op → List Answer → RunState → Type 0
+RunsOps fllen sllen memory s [] [] t = t ≡ s
+RunsOps fllen sllen memory s [] (answer ∷ answers) t = ⊥
+RunsOps fllen sllen memory s (op ∷ ops) [] t = ⊥
+RunsOps fllen sllen memory s (op ∷ ops) (answer ∷ answers) t = (u : RunState) × Does fllen sllen memory s op answer u × RunsOps fllen sllen memory u ops answers t

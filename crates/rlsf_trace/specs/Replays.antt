@@ -14,7 +14,7 @@ use Rattle.rlsf_text.specs.Faults.{out_of_memory}
 use Rattle.rlsf_trace.specs.Output.{AppendsBeginning}
 use Rattle.rlsf_text.specs.Printing.{text_of}
 use Rattle.rlsf_text.specs.Reading.{TraceText, trace_in}
-use Rattle.rlsf_runs.specs.Runs.{RunState, beginning, Runs}
+use Rattle.rlsf_runs.specs.Runs.{RunState, beginning, RunsOps}
 
 -- how many rows of size classes a configuration has
 abbrev pub rows_of : Configuration → ℕ
@@ -34,7 +34,7 @@ classes_of EightByOne = 1
 
 -- the ops, done from the beginning by an allocator with these parameters over this memory, are answered so
 abbrev pub IsRun : ℕ → ℕ → Range → List Op → List Answer → Type 0
-IsRun fllen sllen memory ops answers = (last : RunState) × Runs fllen sllen memory beginning ops answers last
+IsRun fllen sllen memory ops answers = (last : RunState) × RunsOps fllen sllen memory beginning ops answers last
 
 -- the output is what is printed for a run of the input's ops, with the configuration and the memory that it names
 pub record IsOutput (input output : List ℕ) : Type 0 where

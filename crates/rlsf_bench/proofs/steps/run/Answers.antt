@@ -7,8 +7,8 @@ use Rattle.rlsf_machine.proofs.Untouched.{parts_of-IsFresh}
 use Rattle.rlsf_tlsf.proofs.Arrivals.{opened}
 use Rattle.rlsf_tlsf.proofs.Standing.{in_state}
 use Rattle.rlsf_bench.proofs.FirstPool.{pool_is_fresh}
-use Rattle.rlsf_bench.specs.Runs.{IsBench, RunState}
-use Rattle.rlsf_bench.specs.Slots.{IsAt, LeadsOn}
+use Rattle.rlsf_bench.specs.Runs.{IsBench, BenchState}
+use Rattle.rlsf_bench.specs.Slots.{AreSlotsAt, LeadsSlotsOn}
 use Rattle.rlsf_bench.proofs.Underway.{IsUnderway, IsUnderway-beginning, IsUnderway-next, IsBench-end, take_all}
 use Rattle.rlsf_bench.proofs.steps.run.Goals as goal
 
@@ -33,7 +33,7 @@ step-requires g c =
       (
         omega (arith, ap length items, w.slots, c.get.ensures.value, c.get.ensures.nonzero),
         (
-          (w.state, subst (λ t. IsAt g.row.FLLEN g.row.SLLEN c.loop-number.tlsf t c.loop-number.tally w.state) (sym items) w.at),
+          (w.state, subst (λ t. AreSlotsAt g.row.FLLEN g.row.SLLEN c.loop-number.tlsf t c.loop-number.tally w.state) (sym items) w.at),
           omega (arith, w.refused, c.loop-number-test.true, c.ranges.steps.fits),
         ),
       ),
@@ -42,7 +42,7 @@ step-requires g c =
 pub loop-number-preserved : goal.loop-number-preserved
 loop-number-preserved g c =
     let items = c.deref_mut.ensures.value in
-    let does = subst (λ t. (s : RunState) → IsAt g.row.FLLEN g.row.SLLEN c.loop-number.tlsf t c.loop-number.tally s → LeadsOn g.row.FLLEN g.row.SLLEN (length t) c.reallocates_at.result c.next.result s c.step.new.tlsf c.step.new.slots c.step.new.tally) items c.step.ensures.does in
+    let does = subst (λ t. (s : BenchState) → AreSlotsAt g.row.FLLEN g.row.SLLEN c.loop-number.tlsf t c.loop-number.tally s → LeadsSlotsOn g.row.FLLEN g.row.SLLEN (length t) c.reallocates_at.result c.next.result s c.step.new.tlsf c.step.new.slots c.step.new.tally) items c.step.ensures.does in
     let long : length c.step.new.slots ≡ length c.loop-number.live.items = omega (arith, c.step.auto.slots, ap length items) in
     let whole : length c.step.new.slots ≡ c.loop-number.live.len = omega (arith, c.step.auto.slots, c.deref_mut.ensures.len) in
     let next = IsUnderway-next c.loop-number.invariant c.reallocates_at.result c.reallocates_at.ensures c.next.result c.next.new.self.state c.next.ensures.state c.next.ensures.number c.step.new.tlsf c.step.new.slots c.step.new.tally does long c.step.ensures.refused in

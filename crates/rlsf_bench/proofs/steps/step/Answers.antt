@@ -9,7 +9,7 @@ use Rattle.rlsf_machine.specs.Release.{Deallocates}
 use Rattle.rlsf_machine.specs.State.{IsLive}
 use Rattle.rlsf_tlsf.proofs.Standing.{live_in, stepped}
 use Rattle.rlsf_bench.specs.Slots.{held}
-use Rattle.rlsf_bench.proofs.SlotChanges.{LeadsOn-freed, LeadsOn-reallocated, LeadsOn-answered, held-address, held-moved}
+use Rattle.rlsf_bench.proofs.SlotChanges.{LeadsSlotsOn-freed, LeadsSlotsOn-reallocated, LeadsSlotsOn-answered, held-address, held-moved}
 use Rattle.rlsf_bench.proofs.steps.step.Goals as goal
 
 pub reallocate-moved-requires : goal.reallocate-moved-requires
@@ -36,7 +36,7 @@ returns-then-reallocates-clause-does g c = λ s at.
     let size = c.layout_of.result.size in
     let (t, step, stands, _) = stepped at.stands c.reallocate-moved.new.self (λ o n. Reallocates g.row.SLLEN o addr size moved n) c.reallocate-moved.ensures.step in
     let kept = held-moved c.get.result c.unwrap_or.result c.reallocate-moved.result c.in-Some.addr c.get.ensures.value c.unwrap_or.ensures in
-    LeadsOn-reallocated at slot c.slot_of-slot.ensures.bound t stands c.args.reallocates c.if-reallocates.true c.args.draw c.slot_of-slot.ensures.value addr there
+    LeadsSlotsOn-reallocated at slot c.slot_of-slot.ensures.bound t stands c.args.reallocates c.if-reallocates.true c.args.draw c.slot_of-slot.ensures.value addr there
     moved c.get.result size kept c.layout_of.ensures.0 step c.count.new.self c.count.ensures.counts
 
 pub returns-else-reallocates-clause-does : goal.returns-else-reallocates-clause-does
@@ -45,7 +45,7 @@ returns-else-reallocates-clause-does g c = λ s at.
     let addr = non_zero_usize_get c.in-Some.addr in
     let there = ap held (get_or_default c.args.slots.now slot 0 _ c.slot_of-slot.ensures.bound) ∙ held-address _ c.new.result c.new.ensures ∙ ap (option_map non_zero_usize_get) c.in-Some.is in
     let (t, step, stands, _) = stepped at.stands c.deallocate.new.self (λ o n. Deallocates o addr n) c.deallocate.ensures.step in
-    LeadsOn-freed at slot c.slot_of-slot.ensures.bound t stands c.args.reallocates c.if-reallocates.false c.args.draw c.slot_of-slot.ensures.value addr there step
+    LeadsSlotsOn-freed at slot c.slot_of-slot.ensures.bound t stands c.args.reallocates c.if-reallocates.false c.args.draw c.slot_of-slot.ensures.value addr there step
 
 pub returns-in_default-clause-does : goal.returns-in_default-clause-does
 returns-in_default-clause-does g c = λ s at.
@@ -53,5 +53,5 @@ returns-in_default-clause-does g c = λ s at.
     let placed = reply c.allocate-placed.result in
     let (t, step, stands, _) = stepped at.stands c.allocate-placed.new.self (λ o n. Allocates g.row.SLLEN o layout.size layout.align placed n) c.allocate-placed.ensures.step in
     let empty = ap held (get_or_default c.args.slots.now c.slot_of-slot.result 0 _ c.slot_of-slot.ensures.bound) ∙ held-address _ c.new.result c.new.ensures ∙ ap (option_map non_zero_usize_get) c.in_default.is in
-    LeadsOn-answered at c.slot_of-slot.result c.slot_of-slot.ensures.bound t stands c.args.reallocates c.args.draw c.slot_of-slot.ensures.value empty placed c.slot_with.result layout.size layout.align
+    LeadsSlotsOn-answered at c.slot_of-slot.result c.slot_of-slot.ensures.bound t stands c.args.reallocates c.args.draw c.slot_of-slot.ensures.value empty placed c.slot_with.result layout.size layout.align
     c.slot_with.ensures c.layout_of-in_default.ensures.0 c.layout_of-in_default.ensures.1 step c.count-in_default.new.self c.count-in_default.ensures.counts

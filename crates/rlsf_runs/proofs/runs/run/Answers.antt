@@ -6,7 +6,7 @@ use Rattle.rlsf_runs.specs.Events.{RunsByEvents}
 use Rattle.rlsf_tlsf.specs.Allocator.{IsInState}
 use Rattle.rlsf_tlsf.proofs.Standing.{in_state}
 use Rattle.rlsf_runs.proofs.RunStates.{IsAt-beginning}
-use Rattle.rlsf_runs.proofs.Underway.{IsUnderway-beginning, IsUnderway-next, Runs-end, RunsByEvents-end}
+use Rattle.rlsf_runs.proofs.Underway.{IsUnderway-beginning, IsUnderway-next, RunsOps-end, RunsByEvents-end}
 use Rattle.rlsf_runs.proofs.Outcomes.{when_ok}
 use Rattle.rlsf_runs.proofs.runs.run.Goals as goal
 
@@ -29,7 +29,7 @@ loop-op-preserved g c =
 pub returns-clause-runs : goal.returns-clause-runs
 returns-clause-runs g c =
     let ((given, items, w), _) = c.loop-op.invariant in
-    (given, items, w.state, Runs-end w c.loop-op-test.false, w.at.stands.state, w.spare)
+    (given, items, w.state, RunsOps-end w c.loop-op-test.false, w.at.stands.state, w.spare)
 
 pub returns-clause-events : goal.returns-clause-events
 returns-clause-events g c =
