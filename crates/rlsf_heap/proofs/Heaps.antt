@@ -10,12 +10,12 @@ use Rattle.rlsf_machine.specs.Lists.{IsIn}
 use Rattle.rlsf_machine.specs.Terms.{IsGiven}
 use Rattle.rlsf_machine.proofs.Between.{IsIn-between}
 use Rattle.rlsf_machine.proofs.Coverage.{IsIn-append_right}
-use Rattle.rlsf_heap.specs.Heap.{Allocation, allocation_at, allocation_of, bytes_of, HeapOwes, heap_terms, IsAllocated}
+use Rattle.rlsf_heap.specs.Heap.{Allocation, allocation_at, allocation_of, bytes_of_allocation, HeapOwes, heap_terms, IsAllocated}
 
 -- the bytes of the ranges' allocations are the ranges
-bytes_of-allocations : (align : ℕ) (rs : List Range) → map bytes_of (map (allocation_of align) rs) ≡ rs
-bytes_of-allocations align [] = refl
-bytes_of-allocations align (r ∷ rs) = ap (λ qs. r ∷ qs) (bytes_of-allocations align rs)
+bytes_of_allocation-allocations : (align : ℕ) (rs : List Range) → map bytes_of_allocation (map (allocation_of align) rs) ≡ rs
+bytes_of_allocation-allocations align [] = refl
+bytes_of_allocation-allocations align (r ∷ rs) = ap (λ qs. r ∷ qs) (bytes_of_allocation-allocations align rs)
 
 -- allocations with equal numbers are equal
 pub Allocation-equal : {align : ℕ} {r : Range} (a : Allocation) → a.addr ≡ r.start → a.size ≡ r.len → a.align ≡ align → a ≡ allocation_of align r
@@ -47,7 +47,7 @@ module _ {T : Type 0} (owes : T → List Allocation → Type 0) (align : ℕ) wh
   HeapOwes-more x y space size r owed len layout some (is, owed_then) h = (
     record {
       lies_in = is.vacant.lies_in;
-      apart = subst (IsClear r) (bytes_of-allocations align owed) is.vacant.apart;
+      apart = subst (IsClear r) (bytes_of_allocation-allocations align owed) is.vacant.apart;
       long = omega (arith, len, next_multiple_of-le size align);
       power = layout.aligned;
       aligned = is.aligned;

@@ -22,8 +22,8 @@ abbrev pub allocation_at : ℕ → ℕ → ℕ → Allocation
 allocation_at addr size align = record { addr = addr; size = size; align = align }
 
 -- the allocation's bytes
-abbrev pub bytes_of : Allocation → Range
-bytes_of a = range_at a.addr a.size
+abbrev pub bytes_of_allocation : Allocation → Range
+bytes_of_allocation a = range_at a.addr a.size
 
 -- a question to an allocator with its answer: a size and an alignment are asked for; an allocation is given back
 pub data HeapNote : Type 0 where
@@ -34,7 +34,7 @@ pub data HeapNote : Type 0 where
 -- the space and are no others' bytes
 pub record IsAllocated (space : Range) (owed : List Allocation) (a : Allocation) : Type 0 where
   pub aligned : a.addr % a.align ≡ 0
-  pub vacant : IsVacant space (map bytes_of owed) (bytes_of a)
+  pub vacant : IsVacant space (map bytes_of_allocation owed) (bytes_of_allocation a)
 
 -- what is owed after a question for an allocation: the same where none came; else also the one that came, which may be answered
 abbrev pub OwesAllocated : Range → (List Allocation → Type 0) → List Allocation → ℕ → ℕ → Option NonZeroUsize → Type 0

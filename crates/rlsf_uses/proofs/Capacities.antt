@@ -19,7 +19,7 @@ use Rattle.rlsf_base.specs.declared.memory.range.Range.{Range}
 use Rattle.rlsf_machine.specs.Insert.{aligned_part}
 use Rattle.rlsf_machine.specs.Uniform.{IsUniform}
 use Rattle.rlsf_uses.specs.Budgets.{HasBudgetOf, HasBytesFor}
-use Rattle.rlsf_uses.specs.Capacities.{IsPool, IsSpread, IsTiled}
+use Rattle.rlsf_uses.specs.Capacities.{IsObjectPool, IsSpread, IsTiled}
 use Rattle.rlsf_uses.specs.Handled.{Handled}
 use Rattle.rlsf_uses.specs.Objects.{HaveSize, capacity_from, capacity_of, capacity_with}
 use Rattle.rlsf_uses.specs.Stored.{FitsPool}
@@ -29,9 +29,9 @@ use Rattle.rlsf_uses.proofs.Entries.{AllByRecursion-remove_entry, AllByRecursion
 -- ---- a pool after a call
 
 -- other objects of the size, no more than the capacity, in the same memory
-pub IsPool-after : (o n : Handled) (size align capacity : ℕ) → IsPool o size align capacity → n.align ≡ o.align → n.memory ≡ o.memory → HaveSize size n.lists → length n.lists ≤ capacity
-    → (align ≤ 32 → KeepsUniform o.state n.state (request_size size align)) → IsPool n size align capacity
-IsPool-after o n size align capacity pool same_align same_memory sized within keeps = record {
+pub IsObjectPool-after : (o n : Handled) (size align capacity : ℕ) → IsObjectPool o size align capacity → n.align ≡ o.align → n.memory ≡ o.memory → HaveSize size n.lists → length n.lists ≤ capacity
+    → (align ≤ 32 → KeepsUniform o.state n.state (request_size size align)) → IsObjectPool n size align capacity
+IsObjectPool-after o n size align capacity pool same_align same_memory sized within keeps = record {
   aligned = same_align ∙ pool.aligned;
   sized = sized;
   within = within;
@@ -52,16 +52,16 @@ HaveSize-more size [] n sized = (length-replicate {A = ℕ} size 0, tt)
 HaveSize-more size (e ∷ es) n (first, rest) = (first, HaveSize-more size es n rest)
 
 -- one more object is out, or none, and then there was no memory for its handle
-pub IsPool-taken : {E : Type 0} (r : Result ℕ E) (o n : Handled) (size align capacity : ℕ) → IsPool o size align capacity → length o.lists < capacity
+pub IsObjectPool-taken : {E : Type 0} (r : Result ℕ E) (o n : Handled) (size align capacity : ℕ) → IsObjectPool o size align capacity → length o.lists < capacity
     → IfOk r (λ handle. (handle ≡ o.next) × (n ≡ record o { lists = o.lists ++ (handle, replicate size 0) ∷ []; next = handle + 1; state = n.state })) → OnErr r (n ≡ record o { state = n.state })
-    → (align ≤ 32 → KeepsUniform o.state n.state (request_size size align)) → IsPool n size align capacity
-IsPool-taken (Ok handle) o n size align capacity pool few (_, taken) refused keeps =
+    → (align ≤ 32 → KeepsUniform o.state n.state (request_size size align)) → IsObjectPool n size align capacity
+IsObjectPool-taken (Ok handle) o n size align capacity pool few (_, taken) refused keeps =
     let lists : n.lists ≡ o.lists ++ (handle, replicate size 0) ∷ [] = ap (λ h. h.lists) taken in
     let more : length n.lists ≡ length o.lists + 1 = ap length lists ∙ length-append o.lists ((handle, replicate size 0) ∷ []) in
-    IsPool-after o n size align capacity pool (ap (λ h. h.align) taken) (ap (λ h. h.memory) taken) (subst (HaveSize size) (sym lists) (HaveSize-more size o.lists handle pool.sized)) (omega (arith, more, few)) keeps
-IsPool-taken (Err e) o n size align capacity pool few taken refused keeps =
+    IsObjectPool-after o n size align capacity pool (ap (λ h. h.align) taken) (ap (λ h. h.memory) taken) (subst (HaveSize size) (sym lists) (HaveSize-more size o.lists handle pool.sized)) (omega (arith, more, few)) keeps
+IsObjectPool-taken (Err e) o n size align capacity pool few taken refused keeps =
     let lists : n.lists ≡ o.lists = ap (λ h. h.lists) refused in
-    IsPool-after o n size align capacity pool (ap (λ h. h.align) refused) (ap (λ h. h.memory) refused) (subst (HaveSize size) (sym lists) pool.sized) (omega (arith, few, ap length lists)) keeps
+    IsObjectPool-after o n size align capacity pool (ap (λ h. h.align) refused) (ap (λ h. h.memory) refused) (subst (HaveSize size) (sym lists) pool.sized) (omega (arith, few, ap length lists)) keeps
 
 length-remove_entry : {A : Type 0} (test : ℕ → Bool) (es : List (ℕ × A)) → length (remove_entry test es) ≤ length es
 length-remove_entry test [] = omega arith
@@ -78,20 +78,20 @@ length-set_value test (e ∷ es) x = elim (cases_Bool (test e.0)) [
 ]
 
 -- one is given back, or its handle is unknown
-pub IsPool-given_back : {T E : Type 0} (r : Result T E) (o n : Handled) (size align capacity handle : ℕ) (P : Type 0) → IsPool o size align capacity
-    → OnOk r ((n ≡ record o { lists = remove_entry (nat_eq handle) o.lists; state = n.state }) × P) → OnErr r (n ≡ o) → ((len : ℕ) → KeepsUniform o.state n.state len) → IsPool n size align capacity
-IsPool-given_back (Ok x) o n size align capacity handle P pool (gone, _) refused keeps =
+pub IsObjectPool-given_back : {T E : Type 0} (r : Result T E) (o n : Handled) (size align capacity handle : ℕ) (P : Type 0) → IsObjectPool o size align capacity
+    → OnOk r ((n ≡ record o { lists = remove_entry (nat_eq handle) o.lists; state = n.state }) × P) → OnErr r (n ≡ o) → ((len : ℕ) → KeepsUniform o.state n.state len) → IsObjectPool n size align capacity
+IsObjectPool-given_back (Ok x) o n size align capacity handle P pool (gone, _) refused keeps =
     let lists : n.lists ≡ remove_entry (nat_eq handle) o.lists = ap (λ h. h.lists) gone in
-    IsPool-after o n size align capacity pool (ap (λ h. h.align) gone) (ap (λ h. h.memory) gone) (subst (HaveSize size) (sym lists) (AllByRecursion-remove_entry (λ e. length e.1 ≡ size) _ _ pool.sized))
+    IsObjectPool-after o n size align capacity pool (ap (λ h. h.align) gone) (ap (λ h. h.memory) gone) (subst (HaveSize size) (sym lists) (AllByRecursion-remove_entry (λ e. length e.1 ≡ size) _ _ pool.sized))
     (omega (arith, ap length lists, length-remove_entry (nat_eq handle) o.lists, pool.within)) (λ _. keeps (request_size size align))
-IsPool-given_back (Err e) o n size align capacity handle P pool removed refused keeps = subst (λ h. IsPool h size align capacity) (sym refused) pool
+IsObjectPool-given_back (Err e) o n size align capacity handle P pool removed refused keeps = subst (λ h. IsObjectPool h size align capacity) (sym refused) pool
 
 -- one has other bytes
-pub IsPool-set : (o n : Handled) (size align capacity handle : ℕ) (bytes : List ℕ) → length bytes ≡ size → IsPool o size align capacity → n ≡ record o { lists = set_value (nat_eq handle) o.lists bytes; state = n.state }
-    → ((len : ℕ) → KeepsUniform o.state n.state len) → IsPool n size align capacity
-IsPool-set o n size align capacity handle bytes long pool set keeps =
+pub IsObjectPool-set : (o n : Handled) (size align capacity handle : ℕ) (bytes : List ℕ) → length bytes ≡ size → IsObjectPool o size align capacity → n ≡ record o { lists = set_value (nat_eq handle) o.lists bytes; state = n.state }
+    → ((len : ℕ) → KeepsUniform o.state n.state len) → IsObjectPool n size align capacity
+IsObjectPool-set o n size align capacity handle bytes long pool set keeps =
     let lists : n.lists ≡ set_value (nat_eq handle) o.lists bytes = ap (λ h. h.lists) set in
-    IsPool-after o n size align capacity pool (ap (λ h. h.align) set) (ap (λ h. h.memory) set)
+    IsObjectPool-after o n size align capacity pool (ap (λ h. h.align) set) (ap (λ h. h.memory) set)
     (subst (HaveSize size) (sym lists) (AllByRecursion-set_value (λ e. length e.1 ≡ size) _ _ _ (λ _ _ _. long) pool.sized))
     (omega (arith, ap length lists, length-set_value (nat_eq handle) o.lists bytes, pool.within)) (λ _. keeps (request_size size align))
 
@@ -102,7 +102,7 @@ at_most size [] sized = tt
 at_most size (e ∷ es) (first, rest) = (omega (arith, first), at_most size es rest)
 
 -- a pool of which fewer are out than its capacity refuses nothing for want of room
-pub pool_has_room : (h : Handled) (size align capacity : ℕ) (Refused : Type 0) → IsPool h size align capacity → length h.lists < capacity → (h.lists ≡ [] → FitsPool h.memory size align → Refused → ⊥)
+pub pool_has_room : (h : Handled) (size align capacity : ℕ) (Refused : Type 0) → IsObjectPool h size align capacity → length h.lists < capacity → (h.lists ≡ [] → FitsPool h.memory size align → Refused → ⊥)
     → ((live n : ℕ) → HasBudgetOf h live n → size ≤ n → Refused → ⊥) → ((d : Range) → HasTileFor h.state d size align (length h.lists) → Refused → ⊥) → Refused → ⊥
 pool_has_room h size align capacity Refused pool few empty enough tiled refused = elim pool.room [
   | inl spread ↦ go spread h.lists refl
@@ -135,10 +135,10 @@ module _ (h : Handled) (size align : ℕ) (layout : IsLayout size align) (aligne
   some : 32 ≤ block
   some = omega (arith, round32-multiple (size + (align - 16) + 16), round32-le (size + (align - 16) + 16))
 
-  made : (capacity : ℕ) → (FitsPool h.memory size align → 1 ≤ capacity) → IsSpread h.memory size align capacity ⊎ IsTiled h size align capacity → IsPool h size align capacity
+  made : (capacity : ℕ) → (FitsPool h.memory size align → 1 ≤ capacity) → IsSpread h.memory size align capacity ⊎ IsTiled h size align capacity → IsObjectPool h size align capacity
   made capacity fits room = record { aligned = aligned; sized = subst (HaveSize size) (sym none) tt; within = omega (arith, ap length none); fits = fits; room = room }
 
-  made_of_none : (FitsPool h.memory size align → ⊥) → IsPool h size align 0
+  made_of_none : (FitsPool h.memory size align → ⊥) → IsObjectPool h size align 0
   made_of_none not = made 0 (λ fits. absurd (not fits)) (inl (record { layout = layout; one = λ bad. absurd (omega arith); more = λ n bad. absurd (omega arith) }))
 
   module _ (least : ℕ) (told : pool_size_to_contain_allocation 59 8 size align ≡ Some least) (long : least ≤ len) where
@@ -154,7 +154,7 @@ module _ (h : Handled) (size align : ℕ) (layout : IsLayout size align) (aligne
     contained : (64 ≤ least) × Reaches 8 (class_of 8 (least - 32)) block
     contained = let is = pool_contains_its_allocation 64 64 59 8 size align least valid told in (is.0, is.3)
 
-    spread : IsPool h size align (max 1 ((blocks + 1) * 8 / 17))
+    spread : IsObjectPool h size align (max 1 ((blocks + 1) * 8 / 17))
     spread = made (max 1 ((blocks + 1) * 8 / 17)) (λ _. omega arith) (inl (record {
       layout = layout;
       one = λ _. (least, told, long);
@@ -165,7 +165,7 @@ module _ (h : Handled) (size align : ℕ) (layout : IsLayout size align) (aligne
           omega (arith, all, times, blocks-fit, some, long, contained.0);
     }))
 
-    tiled : align ≤ 32 → least ≡ block + 32 → IsPool h size align blocks
+    tiled : align ≤ 32 → least ≡ block + 32 → IsObjectPool h size align blocks
     tiled small is = made blocks (λ _. le-div 1 (len - 32) block (omega (arith, some)) (omega (arith, is, long))) (inr (record {
       small = small;
       begins = subst (λ n. Reaches 8 (class_of 8 n) block) (omega (arith, is)) contained.1;
@@ -173,23 +173,23 @@ module _ (h : Handled) (size align : ℕ) (layout : IsLayout size align) (aligne
       uniform = λ _. fresh block (omega (arith, is, long, some));
     }))
 
-    of_test : (b : Bool) → (nat_le align 32 && nat_eq least (block + 32)) ≡ b → IsPool h size align (cond b blocks (max 1 ((blocks + 1) * 8 / 17)))
+    of_test : (b : Bool) → (nat_le align 32 && nat_eq least (block + 32)) ≡ b → IsObjectPool h size align (cond b blocks (max 1 ((blocks + 1) * 8 / 17)))
     of_test true e = tiled (grind (arith, nat_tests)) (grind (arith, nat_tests))
     of_test false e = spread
 
-    of_length : (b : Bool) → nat_lt len least ≡ b → IsPool h size align (cond b 0 (cond (nat_le align 32 && nat_eq least (block + 32)) blocks (max 1 ((blocks + 1) * 8 / 17))))
+    of_length : (b : Bool) → nat_lt len least ≡ b → IsObjectPool h size align (cond b 0 (cond (nat_le align 32 && nat_eq least (block + 32)) blocks (max 1 ((blocks + 1) * 8 / 17))))
     of_length true e = absurd (grind (arith, nat_tests))
     of_length false e = of_test (nat_le align 32 && nat_eq least (block + 32)) refl
 
-  of_pool : (o : Option ℕ) → pool_size_to_contain_allocation 59 8 size align ≡ o → IsPool h size align (capacity_with len align block o)
+  of_pool : (o : Option ℕ) → pool_size_to_contain_allocation 59 8 size align ≡ o → IsObjectPool h size align (capacity_with len align block o)
   of_pool None e = made_of_none (λ (least, told, long). none-some least (sym e ∙ told))
   of_pool (Some least) e = elim (cases_lt len least) [
     | inl short ↦
-        subst (λ b. IsPool h size align (cond b 0 (cond (nat_le align 32 && nat_eq least (block + 32)) ((len - 32) / block) (max 1 (((len - 32) / block + 1) * 8 / 17))))) (sym (lt-ltb len least short))
+        subst (λ b. IsObjectPool h size align (cond b 0 (cond (nat_le align 32 && nat_eq least (block + 32)) ((len - 32) / block) (max 1 (((len - 32) / block + 1) * 8 / 17))))) (sym (lt-ltb len least short))
         (made_of_none (λ (other, told, long). let same : least ≡ other = same_Some least other (sym e ∙ told) in omega (arith, short, long, same)))
     | inr long ↦ of_length least e long (nat_lt len least) refl
   ]
 
   -- of the capacity that is computed
-  pub IsPool-new : IsPool h size align (capacity_of len size align)
-  IsPool-new = of_pool (pool_size_to_contain_allocation 59 8 size align) refl
+  pub IsObjectPool-new : IsObjectPool h size align (capacity_of len size align)
+  IsObjectPool-new = of_pool (pool_size_to_contain_allocation 59 8 size align) refl

@@ -6,7 +6,7 @@ use Rattle.rlsf_machine.specs.Callers.{align_at, bytes_at}
 use Rattle.rlsf_machine.specs.Lists.{IsIn}
 use Rattle.rlsf_machine.specs.State.{State}
 use Rattle.rlsf_machine.proofs.CallerWords.{SeesGone, SeesNew}
-use Rattle.rlsf_uses.specs.Stored.{AreApart, Keeps, KeepsOnly, Stored, stored}
+use Rattle.rlsf_uses.specs.Stored.{ArePlacesApart, KeepsPlaces, KeepsOnly, Stored, stored}
 
 -- ---- lists with one more element
 
@@ -28,20 +28,20 @@ IsIn-less x k (y ∷ before) after (inr i) = elim (IsIn-less x k before after i)
 abbrev IsAlone : Stored → List Stored → Type 0
 IsAlone k others = (j : Stored) → IsIn j others → j.addr ≢ k.addr
 
-AreApart-more : (k : Stored) (before after : List Stored) → AreApart (before ++ after) → IsAlone k (before ++ after) → AreApart (before ++ k ∷ after)
-AreApart-more k [] after apart alone = (alone, apart)
-AreApart-more k (x ∷ before) after apart alone = (
+ArePlacesApart-more : (k : Stored) (before after : List Stored) → ArePlacesApart (before ++ after) → IsAlone k (before ++ after) → ArePlacesApart (before ++ k ∷ after)
+ArePlacesApart-more k [] after apart alone = (alone, apart)
+ArePlacesApart-more k (x ∷ before) after apart alone = (
   λ j i. elim (IsIn-less j k before after i) [
     | inl same ↦ λ at. alone x (inl refl) (sym at ∙ ap (λ y. y.addr) same)
     | inr other ↦ apart.0 j other
   ],
-  AreApart-more k before after apart.1 (λ j i. alone j (inr i)),
+  ArePlacesApart-more k before after apart.1 (λ j i. alone j (inr i)),
 )
 
-AreApart-less : (k : Stored) (before after : List Stored) → AreApart (before ++ k ∷ after) → AreApart (before ++ after) × IsAlone k (before ++ after)
-AreApart-less k [] after apart = (apart.1, apart.0)
-AreApart-less k (x ∷ before) after apart =
-    let (rest, alone) = AreApart-less k before after apart.1 in (
+ArePlacesApart-less : (k : Stored) (before after : List Stored) → ArePlacesApart (before ++ k ∷ after) → ArePlacesApart (before ++ after) × IsAlone k (before ++ after)
+ArePlacesApart-less k [] after apart = (apart.1, apart.0)
+ArePlacesApart-less k (x ∷ before) after apart =
+    let (rest, alone) = ArePlacesApart-less k before after apart.1 in (
       ((λ j i. apart.0 j (IsIn-more j k before after i)), rest),
       λ j. elim [ inl same ↦ λ at. apart.0 k (IsIn-middle k before after) (sym at ∙ ap (λ y. y.addr) same) | inr i ↦ alone j i ],
     )
@@ -49,8 +49,8 @@ AreApart-less k (x ∷ before) after apart =
 -- ---- payloads that are new, are gone, or change
 
 -- what a payload keeps that stays as it is
-Keeps-same : {s t : State} (k : Stored) → align_at t k.addr ≡ align_at s k.addr → bytes_at t k.addr ≡ bytes_at s k.addr → Keeps s k → Keeps t k
-Keeps-same k align bytes is = record { live = align ∙ is.live; front = ap (take (length k.bytes)) bytes ∙ is.front; few = omega (arith, ap length bytes, is.few) }
+KeepsPlaces-same : {s t : State} (k : Stored) → align_at t k.addr ≡ align_at s k.addr → bytes_at t k.addr ≡ bytes_at s k.addr → KeepsPlaces s k → KeepsPlaces t k
+KeepsPlaces-same k align bytes is = record { live = align ∙ is.live; front = ap (take (length k.bytes)) bytes ∙ is.front; few = omega (arith, ap length bytes, is.few) }
 
 module _ {s t : State} (before after : List Stored) where
   -- of a new payload, its front
@@ -61,10 +61,10 @@ module _ {s t : State} (before after : List Stored) where
       let alone : IsAlone k (before ++ after) = λ j i same. none-some j.align (sym new.new ∙ ap (align_at s) (sym same) ∙ (is.kept j i).live) in
       record {
         kept = λ j i. elim (IsIn-less j k before after i) [
-          | inl same ↦ subst (Keeps t) (sym same) (record { live = new.live; front = begins; few = few })
-          | inr old ↦ Keeps-same j (new.aligns j.addr (alone j old)) (new.bytes j.addr (alone j old)) (is.kept j old)
+          | inl same ↦ subst (KeepsPlaces t) (sym same) (record { live = new.live; front = begins; few = few })
+          | inr old ↦ KeepsPlaces-same j (new.aligns j.addr (alone j old)) (new.bytes j.addr (alone j old)) (is.kept j old)
         ];
-        apart = AreApart-more k before after is.apart alone;
+        apart = ArePlacesApart-more k before after is.apart alone;
         no_other = λ a align there. elim (cases_eq a addr) [
           | inl same ↦ (k, IsIn-middle k before after, sym same)
           | inr other ↦ let (j, i, at) = is.no_other a align (sym (new.aligns a other) ∙ there) in (j, IsIn-more j k before after i, at)
@@ -73,9 +73,9 @@ module _ {s t : State} (before after : List Stored) where
 
   pub KeepsOnly-gone : (k : Stored) → SeesGone s t k.addr → KeepsOnly s (before ++ k ∷ after) → KeepsOnly t (before ++ after)
   KeepsOnly-gone k gone is =
-      let (apart, alone) = AreApart-less k before after is.apart in
+      let (apart, alone) = ArePlacesApart-less k before after is.apart in
       record {
-        kept = λ j i. Keeps-same j (gone.aligns j.addr (alone j i)) (gone.bytes j.addr (alone j i)) (is.kept j (IsIn-more j k before after i));
+        kept = λ j i. KeepsPlaces-same j (gone.aligns j.addr (alone j i)) (gone.bytes j.addr (alone j i)) (is.kept j (IsIn-more j k before after i));
         apart = apart;
         no_other = λ a align there. elim (cases_eq a k.addr) [
           | inl same ↦ absurd (none-some align (sym gone.gone ∙ ap (align_at t) (sym same) ∙ there))
@@ -86,19 +86,19 @@ module _ {s t : State} (before after : List Stored) where
       }
 
   -- the payload of k keeps j now, or another one at another address does, and k's is gone
-  pub KeepsOnly-changed : (k j : Stored) → Keeps t j → (j.addr ≢ k.addr → align_at s j.addr ≡ None) → (j.addr ≢ k.addr → align_at t k.addr ≡ None)
+  pub KeepsOnly-changed : (k j : Stored) → KeepsPlaces t j → (j.addr ≢ k.addr → align_at s j.addr ≡ None) → (j.addr ≢ k.addr → align_at t k.addr ≡ None)
       → ((a : ℕ) → a ≢ k.addr → a ≢ j.addr → align_at t a ≡ align_at s a) → ((a : ℕ) → a ≢ k.addr → a ≢ j.addr → bytes_at t a ≡ bytes_at s a)
       → KeepsOnly s (before ++ k ∷ after) → KeepsOnly t (before ++ j ∷ after)
   KeepsOnly-changed k j keeps new gone aligns bytes is =
-      let (apart, off) = AreApart-less k before after is.apart in
-      let was : (x : Stored) → IsIn x (before ++ after) → Keeps s x = λ x i. is.kept x (IsIn-more x k before after i) in
+      let (apart, off) = ArePlacesApart-less k before after is.apart in
+      let was : (x : Stored) → IsIn x (before ++ after) → KeepsPlaces s x = λ x i. is.kept x (IsIn-more x k before after i) in
       let alone : IsAlone j (before ++ after) = λ x i same. none-some x.align (sym (new (λ e. off x i (same ∙ e))) ∙ ap (align_at s) (sym same) ∙ (was x i).live) in
       record {
         kept = λ x i. elim (IsIn-less x j before after i) [
-          | inl same ↦ subst (Keeps t) (sym same) keeps
-          | inr old ↦ Keeps-same x (aligns x.addr (off x old) (alone x old)) (bytes x.addr (off x old) (alone x old)) (was x old)
+          | inl same ↦ subst (KeepsPlaces t) (sym same) keeps
+          | inr old ↦ KeepsPlaces-same x (aligns x.addr (off x old) (alone x old)) (bytes x.addr (off x old) (alone x old)) (was x old)
         ];
-        apart = AreApart-more j before after apart alone;
+        apart = ArePlacesApart-more j before after apart alone;
         no_other = λ a align there. elim (cases_eq a j.addr) [
           | inl same ↦ (j, IsIn-middle j before after, sym same)
           | inr other ↦ elim (cases_eq a k.addr) [

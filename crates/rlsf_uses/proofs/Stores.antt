@@ -31,7 +31,7 @@ use Rattle.rlsf_blocks.specs.Blocks.{walked}
 use Rattle.rlsf_tlsf.specs.Allocator.{Allocator, Stands, Steps}
 use Rattle.rlsf_tlsf.proofs.Arrivals.{opened, well_formed}
 use Rattle.rlsf_tlsf.proofs.Standing.{in_state}
-use Rattle.rlsf_uses.specs.Stored.{FitsPool, IsStore, Keeps, KeepsOnly, Stored, StoreContents, bytes_at_place, place_of, store_contents, stored}
+use Rattle.rlsf_uses.specs.Stored.{FitsPool, IsStore, KeepsPlaces, KeepsOnly, Stored, StoreContents, bytes_at_place, place_of, store_contents, stored}
 use Rattle.rlsf_uses.proofs.Fronts.{front-kept, front-le}
 use Rattle.rlsf_uses.proofs.Kept.{IsIn-middle, KeepsOnly-changed, KeepsOnly-gone, KeepsOnly-new}
 
@@ -75,7 +75,7 @@ IsStore-allocated {v} w size align addr power before after steps place store =
 
 -- what is kept among other lists of bytes, in the payload at an address
 module _ {v : StoreContents} {addr : ℕ} (before after : List Stored) (k : Stored) (at : k.addr ≡ addr) (store : IsStore v (before ++ k ∷ after)) where
-  kept_there : Keeps v.heap.state k
+  kept_there : KeepsPlaces v.heap.state k
   kept_there = store.payloads.kept k (IsIn-middle k before after)
 
   -- its payload is live, and begins with it
@@ -97,7 +97,7 @@ module _ {v : StoreContents} {addr : ℕ} (before after : List Stored) (k : Stor
       let (step, stands, _) = opened 59 8 v.heap w (Fills s addr bytes) steps in
       let filled = filled_seen (well_formed v.heap store.stands) w.state addr bytes step in
       let here = ap (bytes_at w.state) at ∙ filled.here in
-      let keeps : Keeps w.state j = record { live = filled.aligns k.addr ∙ kept_there.live; front = ap (take (length front)) here ∙ begins; few = omega (arith, ap length here, few) } in
+      let keeps : KeepsPlaces w.state j = record { live = filled.aligns k.addr ∙ kept_there.live; front = ap (take (length front)) here ∙ begins; few = omega (arith, ap length here, few) } in
       IsStore-after store w (before ++ j ∷ after) stands place (chunks-filled s w.state addr bytes step)
       (KeepsOnly-changed before after k j keeps (λ off. absurd (off refl)) (λ off. absurd (off refl)) (λ a _ _. filled.aligns a) (λ a off _. filled.bytes a (λ e. off (e ∙ sym at))) store.payloads)
 
@@ -125,7 +125,7 @@ module _ {v : StoreContents} {addr : ℕ} (before after : List Stored) (k : Stor
       let long = length-asked_at w to size moved.sized in
       let left = (callers_see_map 59 8 (range_of v.heap.memory) s w.state (reallocate addr size (Some to)) formed (live.0, live.1) step).left in
       let off : (a : ℕ) → a ≢ k.addr → a ≢ addr = λ a apart e. apart (e ∙ sym at) in
-      let keeps : Keeps w.state j = record { live = moved.live; front = ap (λ n. take n (bytes_at w.state to)) long; few = omega (arith, moved.few, long) } in
+      let keeps : KeepsPlaces w.state j = record { live = moved.live; front = ap (λ n. take n (bytes_at w.state to)) long; few = omega (arith, moved.few, long) } in
       IsStore-after store w (before ++ j ∷ after) stands place (chunks-reallocated 8 s w.state addr size (Some to) step)
       (KeepsOnly-changed before after k j keeps (λ apart. moved.new (off to apart)) (λ apart. ap (align_at w.state) at ∙ align_at-none w.state addr (left (off to apart)))
       (λ a apart other. moved.aligns a (off a apart) other) (λ a apart other. moved.bytes a (off a apart) other) store.payloads)

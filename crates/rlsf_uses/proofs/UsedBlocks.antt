@@ -14,7 +14,7 @@ use Rattle.rlsf_machine.proofs.CallerWords.{align_at-held}
 use Rattle.rlsf_machine.proofs.Changes.{Holds-unique}
 use Rattle.rlsf_table.proofs.FreeLists.Chains.{IsIn-split}
 use Rattle.rlsf_tlsf.proofs.Arrivals.{well_formed}
-use Rattle.rlsf_uses.specs.Stored.{AreApart, IsStore, Stored, StoreContents, used_count}
+use Rattle.rlsf_uses.specs.Stored.{ArePlacesApart, IsStore, Stored, StoreContents, used_count}
 use Rattle.rlsf_uses.proofs.Kept.{IsIn-less}
 use Rattle.rlsf_uses.proofs.Stores.{block_of}
 
@@ -89,7 +89,7 @@ module _ {v : StoreContents} {all : List Stored} (store : IsStore v all) where
         | inr not ↦ subst left (sym not) others
       ]
 
-  NoTwo-stored : (ks : List Stored) → AreApart ks → NoTwo (λ k b. IsBlockOf v.heap.state b k × (0 < b.range.len)) ks
+  NoTwo-stored : (ks : List Stored) → ArePlacesApart ks → NoTwo (λ k b. IsBlockOf v.heap.state b k × (0 < b.range.len)) ks
   NoTwo-stored [] apart = tt
   NoTwo-stored (k ∷ ks) (first, rest) = (λ j b i p q. first j i (same_addr b j k p.1 q.0 p.0), NoTwo-stored ks rest)
 

@@ -25,7 +25,7 @@ pub record IsTiled (h : Handled) (size align capacity : ℕ) : Type 0 where
   pub uniform : 1 ≤ capacity → IsUniform (request_size size align) (aligned_part h.memory) h.state
 
 -- objects of one layout, no more than the capacity, for which there is room
-pub record IsPool (h : Handled) (size align capacity : ℕ) : Type 0 where
+pub record IsObjectPool (h : Handled) (size align capacity : ℕ) : Type 0 where
   pub aligned : h.align ≡ align
   pub sized : HaveSize size h.lists
   pub within : length h.lists ≤ capacity

@@ -32,20 +32,20 @@ abbrev pub stored : ℕ → ℕ → List ℕ → Stored
 stored addr align bytes = record { addr = addr; align = align; bytes = bytes }
 
 -- the payload at the address keeps the bytes: it has the alignment, begins with them, and has less than 32 bytes more
-pub record Keeps (s : State) (k : Stored) : Type 0 where
+pub record KeepsPlaces (s : State) (k : Stored) : Type 0 where
   pub live : align_at s k.addr ≡ Some k.align
   pub front : take (length k.bytes) (bytes_at s k.addr) ≡ k.bytes
   pub few : length (bytes_at s k.addr) < length k.bytes + 32
 
 -- no two are kept at one address
-abbrev pub AreApart : List Stored → Type 0
-AreApart [] = ⊤
-AreApart (k ∷ ks) = ((j : Stored) → IsIn j ks → j.addr ≢ k.addr) × AreApart ks
+abbrev pub ArePlacesApart : List Stored → Type 0
+ArePlacesApart [] = ⊤
+ArePlacesApart (k ∷ ks) = ((j : Stored) → IsIn j ks → j.addr ≢ k.addr) × ArePlacesApart ks
 
 -- the payloads of a state keep these lists of bytes and nothing else
 pub record KeepsOnly (s : State) (all : List Stored) : Type 0 where
-  pub kept : (k : Stored) → IsIn k all → Keeps s k
-  pub apart : AreApart all
+  pub kept : (k : Stored) → IsIn k all → KeepsPlaces s k
+  pub apart : ArePlacesApart all
   pub no_other : (a align : ℕ) → align_at s a ≡ Some align → (k : Stored) × IsIn k all × (k.addr ≡ a)
 
 -- each chunk lies in the range

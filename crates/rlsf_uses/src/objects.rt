@@ -61,14 +61,14 @@ pub struct Objects {
 }
 
 impl Model for Objects {
-    ghost use Rattle.rlsf_uses.specs.Capacities.{IsPool};
+    ghost use Rattle.rlsf_uses.specs.Capacities.{IsObjectPool};
     ghost use Rattle.rlsf_uses.specs.Objects.{Pool};
 
     ghost Value = { Pool };
 
     ghost view = { λ o. record { objects = o.items.lists; next = o.items.next; size = o.layout.size; align = o.layout.align; memory = o.items.memory; capacity = o.capacity } };
 
-    ghost invariant = { λ o. IsPool o.items o.layout.size o.layout.align o.capacity };
+    ghost invariant = { λ o. IsObjectPool o.items o.layout.size o.layout.align o.capacity };
 }
 
 impl Objects {

@@ -1,11 +1,11 @@
 use Rattle.std.proofs.Common.{rules}
-use Rattle.rlsf_uses.proofs.Capacities.{IsPool-given_back}
+use Rattle.rlsf_uses.proofs.Capacities.{IsObjectPool-given_back}
 use Rattle.rlsf_uses.proofs.objects.Objects.give_back.Goals as goal
 
 pub invariant_of-self : goal.invariant_of-self
 invariant_of-self c =
     let i = c.self.inside in
-    IsPool-given_back c.remove.result i.items c.remove.new.self i.layout.size i.layout.align i.capacity _ _ c.self.invariant c.remove.ensures.removed c.remove.ensures.refused c.remove.ensures.uniform
+    IsObjectPool-given_back c.remove.result i.items c.remove.new.self i.layout.size i.layout.align i.capacity _ _ c.self.invariant c.remove.ensures.removed c.remove.ensures.refused c.remove.ensures.uniform
 
 pub returns-clause-given_back : goal.returns-clause-given_back
 returns-clause-given_back c = search rules

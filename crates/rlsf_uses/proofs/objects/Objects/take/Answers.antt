@@ -1,13 +1,13 @@
 use Rattle.std.proofs.Common.{◌≡◌, ◌<◌, length, IsErrOf, arith, ap, ◌∙◌, sym}
 use Rattle.rlsf_uses.specs.declared.objects.TakeError.TheVariants.{NoRoom}
-use Rattle.rlsf_uses.proofs.Capacities.{IsPool-taken, pool_has_room}
+use Rattle.rlsf_uses.proofs.Capacities.{IsObjectPool-taken, pool_has_room}
 use Rattle.rlsf_uses.proofs.objects.Objects.take.Goals as goal
 
 pub invariant_of-self : goal.invariant_of-self
 invariant_of-self c =
     let i = c.self.inside in
     let few : length i.items.lists < i.capacity = omega (arith, c.self.invariant.within) in
-    IsPool-taken c.add_zeros.result i.items c.add_zeros.new.self i.layout.size i.layout.align i.capacity c.self.invariant few c.add_zeros.ensures.added c.add_zeros.ensures.refused c.add_zeros.ensures.uniform
+    IsObjectPool-taken c.add_zeros.result i.items c.add_zeros.new.self i.layout.size i.layout.align i.capacity c.self.invariant few c.add_zeros.ensures.added c.add_zeros.ensures.refused c.add_zeros.ensures.uniform
 
 pub returns-clause-full : goal.returns-clause-full
 returns-clause-full c =
