@@ -11,7 +11,7 @@ refilled old i len w = splice old i (i + len) (refill len (drop i old) w)
 
 -- a memory, with w in the place of its len bytes from the address at on
 abbrev pub lent_space : Space → ℕ → ℕ → List ℕ → Space
-lent_space m at len w = record { start = m.start; bytes = refilled m.bytes (at - m.start) len w; touches = m.touches; copied = m.copied }
+lent_space m at len w = record { start = m.start; bytes = refilled m.bytes (at - m.start) len w; touches = m.touches; copied = m.copied; view = m.view }
 
 -- the memory ends with what r leaves in its len bytes from the address at on, and else as it was
 abbrev pub LendsBytes : MutBor Space → ℕ → ℕ → MutBor (List ℕ) → Fml

@@ -3,14 +3,16 @@ use Rattle.std.specs.Prelude.{◌≡◌, ℕ, ◌+◌, ◌-◌, ◌%◌, List, l
 use Rattle.std.specs.Int.{w64, from_le_bytes, to_le_bytes}
 use Rattle.std.specs.List.{splice}
 use Rattle.rlsf_base.specs.declared.memory.range.Range.{Range}
+use Rattle.rlsf_base.specs.declared.memory.view.View.{View}
 use Rattle.rlsf_base.specs.Range.{LiesIn, range_at}
 
--- where it begins, its bytes, and two counts of the work done in it
+-- where it begins, its bytes, two counts of the work done in it, and the view of it
 pub record Space : Type 0 where
   pub start : ℕ
   pub bytes : List ℕ
   pub touches : ℕ
   pub copied : ℕ
+  pub view : View
 
 -- the addresses of a memory
 abbrev pub range_of : Space → Range

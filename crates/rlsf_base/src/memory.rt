@@ -12,12 +12,14 @@ pub(crate) mod block;
 pub(crate) mod counters;
 mod layout;
 mod range;
+mod view;
 pub(crate) mod zeroed;
 
 use block::{Base, Bytes};
 use counters::Counters;
 pub use layout::{Layout, LayoutError};
 pub use range::{Addr, Range};
+pub use view::View;
 use zeroed::{Supplier, take_zeroed};
 
 /// Why a `Memory` wasn't made. Each error has a number.
@@ -37,7 +39,8 @@ pub enum MemoryError {
 /// for contracts alone, how often words were touched and how many bytes were copied. It is as large as a `Vec<u8>`.
 pub struct Memory {
     base: Base,
-    start: usize,
+    // The address of the first byte, negated: so a view's shift is a sum to LLVM, which adds it to the base but once.
+    negated: usize,
     len: usize,
     bytes: Bytes,
     counters: Counters,
@@ -52,11 +55,11 @@ impl Model for Memory {
 
     ghost Value = { Space };
 
-    ghost use Rattle.rlsf_base.specs.Steps.Block.{IsMemory};
+    ghost use Rattle.rlsf_base.specs.Steps.Block.{IsMemory, start_of, view_of};
 
-    ghost view = { λ m. record { start = m.start; bytes = m.bytes.bytes; touches = m.counters.touches; copied = m.counters.copied } };
+    ghost view = { λ m. record { start = start_of m.negated; bytes = m.bytes.bytes; touches = m.counters.touches; copied = m.counters.copied; view = view_of m.base (start_of m.negated) } };
 
-    ghost invariant = { λ m. IsMemory m.base m.start m.len m.bytes m.supplier };
+    ghost invariant = { λ m. IsMemory m.base (start_of m.negated) m.len m.bytes m.supplier };
 }
 
 impl Drop for Memory {
@@ -65,13 +68,13 @@ impl Drop for Memory {
     fn drop(self) {
         let Memory {
             base,
-            start,
+            negated,
             len,
             bytes,
             counters: _,
             supplier,
         } = self;
-        supplier.give_back(base, start % 8, len, bytes);
+        supplier.give_back(base, negated.wrapping_neg() % 8, len, bytes);
     }
 }
 
@@ -99,7 +102,7 @@ impl Memory {
         match take_zeroed(alloc, start % 8, len) {
             Some((base, bytes, supplier)) => Ok(Memory {
                 base,
-                start,
+                negated: start.wrapping_neg(),
                 len,
                 bytes,
                 counters: Counters::new(),
@@ -114,7 +117,7 @@ impl Memory {
         ensures value { result ≡ self.now.start }
         ensures bounds { (0 < self.now.start) × (self.now.start + length self.now.bytes < 2 ^ 64) }
     {
-        self.start
+        self.negated.wrapping_neg()
     }
 
     /// The number of bytes.
@@ -125,12 +128,11 @@ impl Memory {
         self.len
     }
 
-    // The place in the block of the byte at `addr`.
-    fn place(&self, addr: usize) -> usize
-        requires { self.now.start ≤ addr }
-        ensures { result ≡ self.now.start % 8 + (addr - self.now.start) }
+    /// A view of the memory. It stays one, whatever is written there.
+    pub fn view(&self) -> View
+        ensures { result ≡ self.now.view }
     {
-        addr - (self.start - self.start % 8)
+        View::new(self.base, self.negated)
     }
 
     /// The bytes of `range`, which lies in the memory.
@@ -138,8 +140,17 @@ impl Memory {
         requires { LiesIn range self.now.start (length self.now.bytes) }
         ensures { result.now ≡ bytes_in self.now range }
     {
+        self.slice_at(self.view(), range)
+    }
+
+    // The same, by a view.
+    fn slice_at(&self, view: View, range: Range) -> &[u8]
+        requires place { LiesIn range self.now.start (length self.now.bytes) }
+        requires view { view ≡ self.now.view }
+        ensures { result.now ≡ bytes_in self.now range }
+    {
         self.bytes
-            .slice(self.base, self.place(range.start), range.len)
+            .slice(view.base, view.place(range.start), range.len)
     }
 
     /// The bytes of `range`, which lies in the memory, to write to. What is left there stays; nothing else changes.
@@ -148,8 +159,19 @@ impl Memory {
         ensures* writes_back { sem 𝓛 (LendsBytes self.entry range.start range.len result) }
         ensures value { result.now ≡ bytes_in self.old range }
     {
-        let (base, place) = (self.base, self.place(range.start));
-        self.bytes.slice_mut(base, place, range.len)
+        let view = self.view();
+        self.slice_mut_at(view, range)
+    }
+
+    // The same, by a view.
+    fn slice_mut_at(&mut self, view: View, range: Range) -> &mut [u8]
+        requires place { LiesIn range self.old.start (length self.old.bytes) }
+        requires view { view ≡ self.old.view }
+        ensures* writes_back { sem 𝓛 (LendsBytes self.entry range.start range.len result) }
+        ensures value { result.now ≡ bytes_in self.old range }
+    {
+        self.bytes
+            .slice_mut(view.base, view.place(range.start), range.len)
     }
 
     /// The word at `addr`, a multiple of 8 whose 8 bytes lie in the memory: these bytes, least first.
@@ -157,7 +179,16 @@ impl Memory {
         requires { IsWord self.now addr }
         ensures { result ≡ word_at self.now addr }
     {
-        let b = self.slice(word_range(addr));
+        self.word_at(self.view(), addr)
+    }
+
+    // The same, by a view.
+    fn word_at(&self, view: View, addr: usize) -> u64
+        requires place { IsWord self.now addr }
+        requires view { view ≡ self.now.view }
+        ensures { result ≡ word_at self.now addr }
+    {
+        let b = self.slice_at(view, word_range(addr));
         u64::from_le_bytes([b[0], b[1], b[2], b[3], b[4], b[5], b[6], b[7]])
     }
 
@@ -169,8 +200,24 @@ impl Memory {
         ensures bytes { self.new.bytes ≡ self.old.bytes }
         ensures touches { self.new.touches ≡ self.old.touches + 1 }
         ensures copied { self.new.copied ≡ self.old.copied }
+        ensures view { self.new.view ≡ self.old.view }
     {
-        let word = self.word(addr);
+        let view = self.view();
+        self.load_at(view, addr)
+    }
+
+    /// The same, by a view of the memory.
+    pub fn load_at(&mut self, view: View, addr: usize) -> u64
+        requires place { IsWord self.old addr }
+        requires view { view ≡ self.old.view }
+        ensures word { result ≡ word_at self.old addr }
+        ensures start { self.new.start ≡ self.old.start }
+        ensures bytes { self.new.bytes ≡ self.old.bytes }
+        ensures touches { self.new.touches ≡ self.old.touches + 1 }
+        ensures copied { self.new.copied ≡ self.old.copied }
+        ensures view { self.new.view ≡ self.old.view }
+    {
+        let word = self.word_at(view, addr);
         self.touch();
         word
     }
@@ -184,8 +231,24 @@ impl Memory {
         ensures len { length self.new.bytes ≡ length self.old.bytes }
         ensures touches { self.new.touches ≡ self.old.touches + 1 }
         ensures copied { self.new.copied ≡ self.old.copied }
+        ensures view { self.new.view ≡ self.old.view }
     {
-        let b = self.slice_mut(word_range(addr));
+        let view = self.view();
+        self.set_word_at(view, addr, word);
+    }
+
+    /// The same, by a view of the memory.
+    pub fn set_word_at(&mut self, view: View, addr: usize, word: u64)
+        requires place { IsWord self.old addr }
+        requires view { view ≡ self.old.view }
+        ensures start { self.new.start ≡ self.old.start }
+        ensures bytes { self.new.bytes ≡ with_word self.old addr word }
+        ensures len { length self.new.bytes ≡ length self.old.bytes }
+        ensures touches { self.new.touches ≡ self.old.touches + 1 }
+        ensures copied { self.new.copied ≡ self.old.copied }
+        ensures view { self.new.view ≡ self.old.view }
+    {
+        let b = self.slice_mut_at(view, word_range(addr));
         if let Some(chunk) = b.first_chunk_mut::<8>() {
             *chunk = word.to_le_bytes();
         }
@@ -198,6 +261,7 @@ impl Memory {
         ensures bytes { self.new.bytes ≡ self.old.bytes }
         ensures touches { self.new.touches ≡ self.old.touches + 1 }
         ensures copied { self.new.copied ≡ self.old.copied }
+        ensures view { self.new.view ≡ self.old.view }
     {
         self.counters.count_touch();
     }
@@ -212,10 +276,12 @@ impl Memory {
         ensures len { length self.new.bytes ≡ length self.old.bytes }
         ensures touches { self.new.touches ≡ self.old.touches }
         ensures copied { self.new.copied ≡ self.old.copied + range.len }
+        ensures view { self.new.view ≡ self.old.view }
     {
-        let (base, first, from) = (self.base, self.start % 8, range.start - self.start);
+        let start = self.start();
+        let (base, first, from) = (self.base, start % 8, range.start - start);
         let bytes = self.bytes.slice_mut(base, first, self.len);
-        bytes.copy_within(from..from + range.len, to - self.start);
+        bytes.copy_within(from..from + range.len, to - start);
         self.counters.count_copy(range.len);
     }
 }

@@ -16,39 +16,43 @@ ghost use Rattle.rlsf_blocks.specs.Steps.Join.{IsMarked, IsOut, IsPreviousOut, I
 ghost use Rattle.rlsf_blocks.specs.Steps.Rest.{IsInnerRoom};
 
 use crate::GRANULARITY;
-use rlsf_base::memory::Memory;
+use rlsf_base::memory::{Memory, View};
 use rlsf_int::Bitmap;
 use rlsf_table::{ClassTable, link, unlink};
 
 /// The used block whose payload at `payload` was allocated with that alignment.
-pub fn used_block(memory: &mut Memory, payload: usize, align: usize) -> usize
-    requires { (fllen : ℕ) × (sllen : ℕ) × (t : Table) × (s : State) × StandsFor fllen sllen (contents memory.old t) s × IsLive s payload align }
+pub fn used_block(memory: &mut Memory, view: View, payload: usize, align: usize) -> usize
+    requires live { (fllen : ℕ) × (sllen : ℕ) × (t : Table) × (s : State) × StandsFor fllen sllen (contents memory.old t) s × IsLive s payload align }
+    requires view { view ≡ memory.old.view }
     ensures block { (fllen sllen : ℕ) (t : Table) (s : State) → StandsFor fllen sllen (contents memory.old t) s → IsLive s payload align → (u : Used) × Holds s payload u × (u.align ≡ align) × (u.block.start ≡ result) }
     ensures counts { Counts memory.old memory.new 1 }
 {
     if align < GRANULARITY {
         payload - 16
     } else {
-        memory.load(payload - 8) as usize
+        memory.load_at(view, payload - 8) as usize
     }
 }
 
 /// Takes the block at `block` out of its list, if it is free. Answers the bytes of the block that was taken out, or 0.
 pub fn take_if_free<FLBitmap: Bitmap, SLBitmap: Bitmap, const FLLEN: usize, const SLLEN: usize>(
     memory: &mut Memory,
+    view: View,
     table: &mut ClassTable<FLBitmap, SLBitmap, FLLEN, SLLEN>,
     block: usize,
 ) -> usize
     requires parameters { IsValid FLBitmap.width SLBitmap.width FLLEN SLLEN }
     requires marked { (free : List Range) × IsFreeTable FLLEN SLLEN memory.old table.old free × IsMarked memory.old free block }
+    requires view { view ≡ memory.old.view }
     ensures step { (free : List Range) → IsFreeTable FLLEN SLLEN memory.old table.old free → IsMarked memory.old free block → IsOut FLLEN SLLEN memory.old memory.new table.new free block result }
     ensures touches { memory.new.touches ≤ memory.old.touches + 9 }
     ensures grow { memory.old.touches ≤ memory.new.touches }
     ensures copied { memory.new.copied ≡ memory.old.copied }
+    ensures view { memory.new.view ≡ memory.old.view }
 {
-    let size = memory.load(block);
+    let size = memory.load_at(view, block);
     if size % 2 == 0 {
-        unlink(memory, table, block, size as usize);
+        unlink(memory, view, table, block, size as usize);
         size as usize
     } else {
         0
@@ -60,42 +64,48 @@ pub fn take_if_free<FLBitmap: Bitmap, SLBitmap: Bitmap, const FLLEN: usize, cons
 #[inline(always)]
 pub fn take_previous<FLBitmap: Bitmap, SLBitmap: Bitmap, const FLLEN: usize, const SLLEN: usize>(
     memory: &mut Memory,
+    view: View,
     table: &mut ClassTable<FLBitmap, SLBitmap, FLLEN, SLLEN>,
     block: usize,
 ) -> usize
     requires parameters { IsValid FLBitmap.width SLBitmap.width FLLEN SLLEN }
     requires used { (s : State) × (u : Used) × StandsFor FLLEN SLLEN (contents memory.old table.old) s × IsIn u s.used × (u.block.start ≡ block) }
+    requires view { view ≡ memory.old.view }
     ensures step { (s : State) (u : Used) → StandsFor FLLEN SLLEN (contents memory.old table.old) s → IsIn u s.used → u.block.start ≡ block
         → IsPreviousOut FLLEN SLLEN memory.old memory.new table.new s.free block result }
     ensures touches { memory.new.touches ≤ memory.old.touches + 10 }
     ensures grow { memory.old.touches ≤ memory.new.touches }
     ensures copied { memory.new.copied ≡ memory.old.copied }
+    ensures view { memory.new.view ≡ memory.old.view }
 {
-    let previous = memory.load(block + 8) as usize;
+    let previous = memory.load_at(view, block + 8) as usize;
     if previous == 0 {
         block
     } else {
-        block - take_if_free(memory, table, previous)
+        block - take_if_free(memory, view, table, previous)
     }
 }
 
 /// Makes a free block of the `len` bytes at `block`. The word that names the block before it stays.
 fn put<FLBitmap: Bitmap, SLBitmap: Bitmap, const FLLEN: usize, const SLLEN: usize>(
     memory: &mut Memory,
+    view: View,
     table: &mut ClassTable<FLBitmap, SLBitmap, FLLEN, SLLEN>,
     block: usize,
     len: usize,
 )
     requires parameters { IsValid FLBitmap.width SLBitmap.width FLLEN SLLEN }
     requires room { (free : List Range) × (r : Range) × (r.start ≡ block) × (r.len ≡ len) × IsInnerRoom FLLEN SLLEN memory.old table.old free r }
+    requires view { view ≡ memory.old.view }
     ensures step { (free : List Range) (r : Range) → r.start ≡ block → r.len ≡ len → IsInnerRoom FLLEN SLLEN memory.old table.old free r → IsPut FLLEN SLLEN memory.old memory.new table.new free r }
     ensures touches { memory.new.touches ≤ memory.old.touches + 11 }
     ensures grow { memory.old.touches ≤ memory.new.touches }
     ensures copied { memory.new.copied ≡ memory.old.copied }
+    ensures view { memory.new.view ≡ memory.old.view }
 {
-    memory.set_word(block, len as u64);
-    memory.set_word(block + len + 8, block as u64);
-    link(memory, table, block, len);
+    memory.set_word_at(view, block, len as u64);
+    memory.set_word_at(view, block + len + 8, block as u64);
+    link(memory, view, table, block, len);
 }
 
 /// Makes the used block at `block` free: joined with a free block before it and a free block behind it, it becomes the
@@ -103,20 +113,23 @@ fn put<FLBitmap: Bitmap, SLBitmap: Bitmap, const FLLEN: usize, const SLLEN: usiz
 #[inline(always)]
 pub fn deallocate_block<FLBitmap: Bitmap, SLBitmap: Bitmap, const FLLEN: usize, const SLLEN: usize>(
     memory: &mut Memory,
+    view: View,
     table: &mut ClassTable<FLBitmap, SLBitmap, FLLEN, SLLEN>,
     block: usize,
 )
     requires parameters { IsValid FLBitmap.width SLBitmap.width FLLEN SLLEN }
     requires used { (s : State) × (u : Used) × StandsFor FLLEN SLLEN (contents memory.old table.old) s × IsIn u s.used × (u.block.start ≡ block) }
+    requires view { view ≡ memory.old.view }
     ensures step { (s : State) (u : Used) → StandsFor FLLEN SLLEN (contents memory.old table.old) s → IsIn u s.used → u.block.start ≡ block
         → StandsFor FLLEN SLLEN (contents memory.new table.new) (released s u) × KeepsSpare memory.old s memory.new (released s u) }
     ensures place { SamePlace memory.old memory.new }
     ensures touches { memory.new.touches ≤ memory.old.touches + 31 }
     ensures grow { memory.old.touches ≤ memory.new.touches }
     ensures copied { memory.new.copied ≡ memory.old.copied }
+    ensures view { memory.new.view ≡ memory.old.view }
 {
-    let end = block + (memory.load(block) as usize - 1);
-    let start = take_previous(memory, table, block);
-    let next = take_if_free(memory, table, end);
-    put(memory, table, start, end - start + next);
+    let end = block + (memory.load_at(view, block) as usize - 1);
+    let start = take_previous(memory, view, table, block);
+    let next = take_if_free(memory, view, table, end);
+    put(memory, view, table, start, end - start + next);
 }

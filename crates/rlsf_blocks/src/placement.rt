@@ -14,7 +14,7 @@ ghost use Rattle.rlsf_blocks.specs.Steps.Rest.{IsInnerRoom, IsLeft, IsOpened, Is
 ghost use Rattle.rlsf_blocks.specs.StandsFor.{contents, StandsFor};
 
 use crate::{GRANULARITY, HEADER};
-use rlsf_base::memory::{Layout, Memory};
+use rlsf_base::memory::{Layout, Memory, View};
 use rlsf_base::rounding::next_multiple_of_32;
 use rlsf_int::Bitmap;
 use rlsf_table::{ClassTable, link, unlink_newest};
@@ -23,6 +23,7 @@ use rlsf_table::{ClassTable, link, unlink_newest};
 #[inline(always)]
 pub fn leave_rest<FLBitmap: Bitmap, SLBitmap: Bitmap, const FLLEN: usize, const SLLEN: usize>(
     memory: &mut Memory,
+    view: View,
     table: &mut ClassTable<FLBitmap, SLBitmap, FLLEN, SLLEN>,
     block: usize,
     len: usize,
@@ -30,17 +31,19 @@ pub fn leave_rest<FLBitmap: Bitmap, SLBitmap: Bitmap, const FLLEN: usize, const 
 )
     requires parameters { IsValid FLBitmap.width SLBitmap.width FLLEN SLLEN }
     requires room { (free : List Range) × (r : Range) × (r.start ≡ block + taken) × (r.len + taken ≡ len) × IsInnerRoom FLLEN SLLEN memory.old table.old free r }
+    requires view { view ≡ memory.old.view }
     ensures step { (free : List Range) (r : Range) → r.start ≡ block + taken → r.len + taken ≡ len → IsInnerRoom FLLEN SLLEN memory.old table.old free r
         → IsLeft FLLEN SLLEN memory.old memory.new table.new free block r }
     ensures touches { memory.new.touches ≤ memory.old.touches + 12 }
     ensures grow { memory.old.touches ≤ memory.new.touches }
     ensures copied { memory.new.copied ≡ memory.old.copied }
+    ensures view { memory.new.view ≡ memory.old.view }
 {
     let rest = block + taken;
-    memory.set_word(rest, (len - taken) as u64);
-    memory.set_word(rest + 8, block as u64);
-    memory.set_word(block + len + 8, rest as u64);
-    link(memory, table, rest, len - taken);
+    memory.set_word_at(view, rest, (len - taken) as u64);
+    memory.set_word_at(view, rest + 8, block as u64);
+    memory.set_word_at(view, block + len + 8, rest as u64);
+    link(memory, view, table, rest, len - taken);
 }
 
 /// Takes the free block of `len` bytes at `block` out of the list of its class, whose indices these are, for a block of
@@ -48,6 +51,7 @@ pub fn leave_rest<FLBitmap: Bitmap, SLBitmap: Bitmap, const FLLEN: usize, const 
 #[inline(always)]
 fn take_out<FLBitmap: Bitmap, SLBitmap: Bitmap, const FLLEN: usize, const SLLEN: usize>(
     memory: &mut Memory,
+    view: View,
     table: &mut ClassTable<FLBitmap, SLBitmap, FLLEN, SLLEN>,
     block: usize,
     len: usize,
@@ -57,16 +61,18 @@ fn take_out<FLBitmap: Bitmap, SLBitmap: Bitmap, const FLLEN: usize, const SLLEN:
     requires parameters { IsValid FLBitmap.width SLBitmap.width FLLEN SLLEN }
     requires class { IsClassAt FLLEN SLLEN len class.0 class.1 }
     requires taken { (s : State) × (f : Range) × StandsFor FLLEN SLLEN (contents memory.old table.old) s × IsTaken SLLEN s f block len taken }
+    requires view { view ≡ memory.old.view }
     ensures step { (s : State) (f : Range) → StandsFor FLLEN SLLEN (contents memory.old table.old) s → IsTaken SLLEN s f block len taken
         → IsOpened FLLEN SLLEN memory.old memory.new table.new s f (range_at block taken) }
     ensures touches { memory.new.touches ≤ memory.old.touches + 20 }
     ensures grow { memory.old.touches ≤ memory.new.touches }
     ensures copied { memory.new.copied ≡ memory.old.copied }
+    ensures view { memory.new.view ≡ memory.old.view }
 {
-    unlink_newest(memory, table, block, class);
+    unlink_newest(memory, view, table, block, class);
     let longer = taken < len;
     if longer {
-        leave_rest(memory, table, block, len, taken);
+        leave_rest(memory, view, table, block, len, taken);
     }
 }
 
@@ -75,6 +81,7 @@ fn take_out<FLBitmap: Bitmap, SLBitmap: Bitmap, const FLLEN: usize, const SLLEN:
 #[inline(always)]
 pub fn place<FLBitmap: Bitmap, SLBitmap: Bitmap, const FLLEN: usize, const SLLEN: usize>(
     memory: &mut Memory,
+    view: View,
     table: &mut ClassTable<FLBitmap, SLBitmap, FLLEN, SLLEN>,
     block: usize,
     class: (usize, usize),
@@ -83,21 +90,23 @@ pub fn place<FLBitmap: Bitmap, SLBitmap: Bitmap, const FLLEN: usize, const SLLEN
     requires parameters { IsValid FLBitmap.width SLBitmap.width FLLEN SLLEN }
     requires class { IsClassAt FLLEN SLLEN (word_at memory.old block) class.0 class.1 }
     requires chosen { (s : State) × (f : Range) × StandsFor FLLEN SLLEN (contents memory.old table.old) s × (choice SLLEN (request_size layout.size layout.align) s.free ≡ Some f) × (f.start ≡ block) }
+    requires view { view ≡ memory.old.view }
     ensures step { (s : State) (f : Range) → StandsFor FLLEN SLLEN (contents memory.old table.old) s → choice SLLEN (request_size layout.size layout.align) s.free ≡ Some f → f.start ≡ block
         → (t : State) × Places SLLEN s layout.size layout.align result t × StandsFor FLLEN SLLEN (contents memory.new table.new) t × KeepsSpare memory.old s memory.new t }
     ensures place { SamePlace memory.old memory.new }
     ensures touches { memory.new.touches ≤ memory.old.touches + 23 }
     ensures grow { memory.old.touches ≤ memory.new.touches }
     ensures copied { memory.new.copied ≡ memory.old.copied }
+    ensures view { memory.new.view ≡ memory.old.view }
 {
-    let len = memory.load(block) as usize;
+    let len = memory.load_at(view, block) as usize;
     let payload = layout.align_up(block + HEADER);
     let taken = next_multiple_of_32(payload - block + layout.size());
-    take_out(memory, table, block, len, class, taken);
-    memory.set_word(block, taken as u64 + 1);
+    take_out(memory, view, table, block, len, class, taken);
+    memory.set_word_at(view, block, taken as u64 + 1);
     let wide = layout.align() >= GRANULARITY;
     if wide {
-        memory.set_word(payload - 8, block as u64);
+        memory.set_word_at(view, payload - 8, block as u64);
     }
     payload
 }

@@ -43,7 +43,8 @@ pub fn add_chunk<FLBitmap: Bitmap, SLBitmap: Bitmap, const FLLEN: usize, const S
     memory.set_word(block + 8, 0);
     memory.set_word(sentinel, SENTINEL);
     memory.set_word(sentinel + 8, block as u64);
-    link(memory, table, block, len);
+    let view = memory.view();
+    link(memory, view, table, block, len);
 }
 
 // The length of the chunk that begins what is left of a range.

@@ -36,7 +36,8 @@ fn remove_chunk<FLBitmap: Bitmap, SLBitmap: Bitmap, const FLLEN: usize, const SL
     ensures grow { memory.old.touches ≤ memory.new.touches }
     ensures copied { memory.new.copied ≡ memory.old.copied }
 {
-    let free = take_if_free(memory, table, start);
+    let view = memory.view();
+    let free = take_if_free(memory, view, table, start);
     start + free + GRANULARITY
 }
 

@@ -12,7 +12,7 @@ ghost use Rattle.rlsf_resize.specs.Steps.Resize.{IsUsedAt};
 use crate::elsewhere::move_elsewhere;
 use crate::previous::move_into_previous;
 use crate::resize::resize_block;
-use rlsf_base::memory::{Layout, Memory};
+use rlsf_base::memory::{Layout, Memory, View};
 use rlsf_int::Bitmap;
 use rlsf_table::ClassTable;
 
@@ -23,6 +23,7 @@ use rlsf_table::ClassTable;
 #[inline(never)]
 pub fn reallocate_block<FLBitmap: Bitmap, SLBitmap: Bitmap, const FLLEN: usize, const SLLEN: usize>(
     memory: &mut Memory,
+    view: View,
     table: &mut ClassTable<FLBitmap, SLBitmap, FLLEN, SLLEN>,
     block: usize,
     payload: usize,
@@ -30,6 +31,7 @@ pub fn reallocate_block<FLBitmap: Bitmap, SLBitmap: Bitmap, const FLLEN: usize, 
 ) -> Option<usize>
     requires parameters { IsValid FLBitmap.width SLBitmap.width FLLEN SLLEN }
     requires used { (s : State) × (u : Used) × StandsFor FLLEN SLLEN (contents memory.old table.old) s × IsUsedAt s u block payload layout.align }
+    requires view { view ≡ memory.old.view }
     ensures step { (s : State) (u : Used) → StandsFor FLLEN SLLEN (contents memory.old table.old) s → IsUsedAt s u block payload layout.align
         → (t : State) × ReallocatesBy SLLEN s u layout.size (plan s u layout.size) result t × StandsFor FLLEN SLLEN (contents memory.new table.new) t × KeepsSpare memory.old s memory.new t }
     ensures refused { IfNone result (memory.new.bytes ≡ memory.old.bytes) }
@@ -41,11 +43,11 @@ pub fn reallocate_block<FLBitmap: Bitmap, SLBitmap: Bitmap, const FLLEN: usize, 
     ensures stays { (s : State) (u : Used) (p : Plan) → StandsFor FLLEN SLLEN (contents memory.old table.old) s → IsUsedAt s u block payload layout.align
         → or_else (in_place s u layout.size) (into_next s u layout.size) ≡ Some p → memory.new.copied ≡ memory.old.copied }
 {
-    if resize_block(memory, table, block, payload, layout) {
+    if resize_block(memory, view, table, block, payload, layout) {
         return Some(payload);
     }
-    if let Some(moved) = move_into_previous(memory, table, block, payload, layout) {
+    if let Some(moved) = move_into_previous(memory, view, table, block, payload, layout) {
         return Some(moved);
     }
-    move_elsewhere(memory, table, block, payload, layout)
+    move_elsewhere(memory, view, table, block, payload, layout)
 }

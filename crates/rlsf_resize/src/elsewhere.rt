@@ -12,7 +12,7 @@ ghost use Rattle.rlsf_table.specs.Counts.{Counts};
 ghost use Rattle.rlsf_resize.specs.Steps.Resize.{IsUsedAt};
 
 use rlsf_base::classes::request_size;
-use rlsf_base::memory::{Layout, Memory, Range};
+use rlsf_base::memory::{Layout, Memory, Range, View};
 use rlsf_blocks::{deallocate_block, place};
 use rlsf_int::Bitmap;
 use rlsf_table::{ClassTable, first_fit};
@@ -29,6 +29,7 @@ pub(crate) fn move_elsewhere<
     const SLLEN: usize,
 >(
     memory: &mut Memory,
+    view: View,
     table: &mut ClassTable<FLBitmap, SLBitmap, FLLEN, SLLEN>,
     block: usize,
     payload: usize,
@@ -36,6 +37,7 @@ pub(crate) fn move_elsewhere<
 ) -> Option<usize>
     requires parameters { IsValid FLBitmap.width SLBitmap.width FLLEN SLLEN }
     requires used { (s : State) × (u : Used) × StandsFor FLLEN SLLEN (contents memory.old table.old) s × IsUsedAt s u block payload layout.align × (in_place s u layout.size ≡ None) }
+    requires view { view ≡ memory.old.view }
     ensures step { (s : State) (u : Used) → StandsFor FLLEN SLLEN (contents memory.old table.old) s → IsUsedAt s u block payload layout.align → in_place s u layout.size ≡ None
         → MatchOption result (Allocates SLLEN s layout.size u.align None s) (λ addr. (t : State) × MovesAway SLLEN s u layout.size addr t
         × StandsFor FLLEN SLLEN (contents memory.new table.new) t × KeepsSpare memory.old s memory.new t) }
@@ -46,9 +48,9 @@ pub(crate) fn move_elsewhere<
     ensures copied { (s : State) (u : Used) → StandsFor FLLEN SLLEN (contents memory.old table.old) s → IsUsedAt s u block payload layout.align → memory.new.copied ≤ memory.old.copied + (usable u).len }
     ensures grow_copied { memory.old.copied ≤ memory.new.copied }
 {
-    let end = block + (memory.load(block) as usize - 1);
+    let end = block + (memory.load_at(view, block) as usize - 1);
     let (free, class) = first_fit(memory, table, request_size(layout))?;
-    let moved = place(memory, table, free, class, layout);
+    let moved = place(memory, view, table, free, class, layout);
     memory.copy_within(
         Range {
             start: payload,
@@ -56,6 +58,6 @@ pub(crate) fn move_elsewhere<
         },
         moved,
     );
-    deallocate_block(memory, table, block);
+    deallocate_block(memory, view, table, block);
     Some(moved)
 }

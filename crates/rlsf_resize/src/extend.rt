@@ -41,7 +41,8 @@ fn extend_chunk<FLBitmap: Bitmap, SLBitmap: Bitmap, const FLLEN: usize, const SL
     memory.set_word(block, len as u64 + 1);
     memory.set_word(sentinel, SENTINEL);
     memory.set_word(sentinel + 8, block as u64);
-    deallocate_block(memory, table, block);
+    let view = memory.view();
+    deallocate_block(memory, view, table, block);
 }
 
 /// Hands in a range that begins where a chunk ends. Where chunks have a greatest length, the range becomes chunks of its

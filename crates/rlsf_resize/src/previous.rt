@@ -14,23 +14,24 @@ ghost use Rattle.rlsf_resize.specs.Steps.Resize.{IsCarriedOut, IsUsedAt};
 ghost use Rattle.rlsf_table.specs.Table.{Table};
 
 use crate::resize::{free_length, occupy};
-use rlsf_base::memory::{Layout, Memory, Range};
+use rlsf_base::memory::{Layout, Memory, Range, View};
 use rlsf_base::rounding::next_multiple_of_32;
 use rlsf_blocks::{GRANULARITY, HEADER, take_if_free, take_previous};
 use rlsf_int::Bitmap;
 use rlsf_table::ClassTable;
 
 /// Where the free block before the used one at `block` begins, or `block` where none is before it.
-fn start_before(memory: &mut Memory, block: usize) -> usize
-    requires { (fllen : ℕ) × (sllen : ℕ) × (t : Table) × (s : State) × (u : Used) × StandsFor fllen sllen (contents memory.old t) s × IsIn u s.used × (u.block.start ≡ block) }
+fn start_before(memory: &mut Memory, view: View, block: usize) -> usize
+    requires used { (fllen : ℕ) × (sllen : ℕ) × (t : Table) × (s : State) × (u : Used) × StandsFor fllen sllen (contents memory.old t) s × IsIn u s.used × (u.block.start ≡ block) }
+    requires view { view ≡ memory.old.view }
     ensures start { (fllen sllen : ℕ) (t : Table) (s : State) (u : Used) → StandsFor fllen sllen (contents memory.old t) s → IsIn u s.used → u.block.start ≡ block → result ≡ start_or block (find (ends_at block) s.free) }
     ensures counts { Counts memory.old memory.new 2 }
 {
-    let previous = memory.load(block + 8) as usize;
+    let previous = memory.load_at(view, block + 8) as usize;
     if previous == 0 {
         block
     } else {
-        block - free_length(memory, previous)
+        block - free_length(memory, view, previous)
     }
 }
 
@@ -39,22 +40,24 @@ fn start_before(memory: &mut Memory, block: usize) -> usize
 /// of a free block behind it don't suffice.
 fn place_before(
     memory: &mut Memory,
+    view: View,
     block: usize,
     end: usize,
     layout: Layout,
 ) -> Option<(usize, usize)>
-    requires { (fllen : ℕ) × (sllen : ℕ) × (t : Table) × (s : State) × (u : Used) × StandsFor fllen sllen (contents memory.old t) s × IsBlock s u block end layout.align }
+    requires used { (fllen : ℕ) × (sllen : ℕ) × (t : Table) × (s : State) × (u : Used) × StandsFor fllen sllen (contents memory.old t) s × IsBlock s u block end layout.align }
+    requires view { view ≡ memory.old.view }
     ensures place { (fllen sllen : ℕ) (t : Table) (s : State) (u : Used) → StandsFor fllen sllen (contents memory.old t) s → IsBlock s u block end layout.align
         → MatchOption result (into_previous s u layout.size ≡ None) (λ place. FitsBefore s u layout.size place.0 place.1) }
     ensures counts { Counts memory.old memory.new 3 }
 {
-    let start = start_before(memory, block);
+    let start = start_before(memory, view, block);
     if start == block {
         return None;
     }
     let payload = layout.align_up(start + HEADER);
     let taken = next_multiple_of_32(payload - start + layout.size());
-    let room = end - start + free_length(memory, end);
+    let room = end - start + free_length(memory, view, end);
     if taken > room {
         return None;
     }
@@ -73,6 +76,7 @@ pub(crate) fn move_into_previous<
     const SLLEN: usize,
 >(
     memory: &mut Memory,
+    view: View,
     table: &mut ClassTable<FLBitmap, SLBitmap, FLLEN, SLLEN>,
     block: usize,
     payload: usize,
@@ -80,6 +84,7 @@ pub(crate) fn move_into_previous<
 ) -> Option<usize>
     requires parameters { IsValid FLBitmap.width SLBitmap.width FLLEN SLLEN }
     requires used { (s : State) × (u : Used) × StandsFor FLLEN SLLEN (contents memory.old table.old) s × IsUsedAt s u block payload layout.align × (in_place s u layout.size ≡ None) }
+    requires view { view ≡ memory.old.view }
     ensures moved { (s : State) (u : Used) → StandsFor FLLEN SLLEN (contents memory.old table.old) s → IsUsedAt s u block payload layout.align → in_place s u layout.size ≡ None
         → IfSome result (λ addr. (p : Plan) × (into_previous s u layout.size ≡ Some p) × (p.payload ≡ addr)
         × IsCarriedOut FLLEN SLLEN (contents memory.old table.old) (contents memory.new table.new) s u p) }
@@ -92,10 +97,10 @@ pub(crate) fn move_into_previous<
     ensures copied { (s : State) (u : Used) → StandsFor FLLEN SLLEN (contents memory.old table.old) s → IsUsedAt s u block payload layout.align → memory.new.copied ≤ memory.old.copied + (usable u).len }
     ensures grow_copied { memory.old.copied ≤ memory.new.copied }
 {
-    let end = block + (memory.load(block) as usize - 1);
-    let (moved, taken) = place_before(memory, block, end, layout)?;
-    let start = take_previous(memory, table, block);
-    let next = take_if_free(memory, table, end);
+    let end = block + (memory.load_at(view, block) as usize - 1);
+    let (moved, taken) = place_before(memory, view, block, end, layout)?;
+    let start = take_previous(memory, view, table, block);
+    let next = take_if_free(memory, view, table, end);
     // Before any header is written: the bytes may lie where one will stand.
     memory.copy_within(
         Range {
@@ -104,10 +109,10 @@ pub(crate) fn move_into_previous<
         },
         moved,
     );
-    occupy(memory, table, start, end - start + next, taken);
+    occupy(memory, view, table, start, end - start + next, taken);
     let wide = layout.align() >= GRANULARITY;
     if wide {
-        memory.set_word(moved - 8, start as u64);
+        memory.set_word_at(view, moved - 8, start as u64);
     }
     Some(moved)
 }

@@ -16,19 +16,20 @@ ghost use Rattle.rlsf_resize.specs.Steps.Resize.{IsCarriedOut, IsOccupied, IsUse
 ghost use Rattle.rlsf_blocks.specs.Steps.Rest.{IsInnerRoom};
 ghost use Rattle.rlsf_table.specs.Table.{Table};
 
-use rlsf_base::memory::{Layout, Memory};
+use rlsf_base::memory::{Layout, Memory, View};
 use rlsf_base::rounding::next_multiple_of_32;
 use rlsf_blocks::{leave_rest, take_if_free};
 use rlsf_int::Bitmap;
 use rlsf_table::ClassTable;
 
 /// The bytes of the free block at `block`, or 0 where no free block begins.
-pub(crate) fn free_length(memory: &mut Memory, block: usize) -> usize
-    requires { (fllen : ℕ) × (sllen : ℕ) × (t : Table) × (free : List Range) × IsFreeTable fllen sllen memory.old t free × IsMarked memory.old free block }
+pub(crate) fn free_length(memory: &mut Memory, view: View, block: usize) -> usize
+    requires marked { (fllen : ℕ) × (sllen : ℕ) × (t : Table) × (free : List Range) × IsFreeTable fllen sllen memory.old t free × IsMarked memory.old free block }
+    requires view { view ≡ memory.old.view }
     ensures length { (fllen sllen : ℕ) (t : Table) (free : List Range) → IsFreeTable fllen sllen memory.old t free → IsMarked memory.old free block → block + result ≡ end_or block (find (starts_at block) free) }
     ensures counts { Counts memory.old memory.new 1 }
 {
-    let size = memory.load(block);
+    let size = memory.load_at(view, block);
     if size % 2 == 0 { size as usize } else { 0 }
 }
 
@@ -36,6 +37,7 @@ pub(crate) fn free_length(memory: &mut Memory, block: usize) -> usize
 /// block. The word that names the block before it stays, and so do the bytes of the used block behind its first 16.
 pub(crate) fn occupy<FLBitmap: Bitmap, SLBitmap: Bitmap, const FLLEN: usize, const SLLEN: usize>(
     memory: &mut Memory,
+    view: View,
     table: &mut ClassTable<FLBitmap, SLBitmap, FLLEN, SLLEN>,
     block: usize,
     total: usize,
@@ -44,17 +46,19 @@ pub(crate) fn occupy<FLBitmap: Bitmap, SLBitmap: Bitmap, const FLLEN: usize, con
     requires parameters { IsValid FLBitmap.width SLBitmap.width FLLEN SLLEN }
     requires room { (free : List Range) × (span : Range) × (span.start ≡ block) × (span.len ≡ total) × IsInnerRoom FLLEN SLLEN memory.old table.old free span }
     requires part { (taken % 32 ≡ 0) × (0 < taken) × (taken ≤ total) }
+    requires view { view ≡ memory.old.view }
     ensures step { (free : List Range) (span : Range) → span.start ≡ block → span.len ≡ total → IsInnerRoom FLLEN SLLEN memory.old table.old free span
         → IsOccupied FLLEN SLLEN memory.old memory.new table.new free span (range_at block taken) }
     ensures touches { memory.new.touches ≤ memory.old.touches + 13 }
     ensures grow { memory.old.touches ≤ memory.new.touches }
     ensures copied { memory.new.copied ≡ memory.old.copied }
+    ensures view { memory.new.view ≡ memory.old.view }
 {
-    memory.set_word(block, taken as u64 + 1);
+    memory.set_word_at(view, block, taken as u64 + 1);
     if taken < total {
-        leave_rest(memory, table, block, total, taken);
+        leave_rest(memory, view, table, block, total, taken);
     } else {
-        memory.set_word(block + total + 8, block as u64);
+        memory.set_word_at(view, block + total + 8, block as u64);
     }
 }
 
@@ -63,6 +67,7 @@ pub(crate) fn occupy<FLBitmap: Bitmap, SLBitmap: Bitmap, const FLLEN: usize, con
 /// more is taken, nothing changes.
 pub fn resize_block<FLBitmap: Bitmap, SLBitmap: Bitmap, const FLLEN: usize, const SLLEN: usize>(
     memory: &mut Memory,
+    view: View,
     table: &mut ClassTable<FLBitmap, SLBitmap, FLLEN, SLLEN>,
     block: usize,
     payload: usize,
@@ -70,6 +75,7 @@ pub fn resize_block<FLBitmap: Bitmap, SLBitmap: Bitmap, const FLLEN: usize, cons
 ) -> bool
     requires parameters { IsValid FLBitmap.width SLBitmap.width FLLEN SLLEN }
     requires used { (s : State) × (u : Used) × StandsFor FLLEN SLLEN (contents memory.old table.old) s × IsUsedAt s u block payload layout.align }
+    requires view { view ≡ memory.old.view }
     ensures done { (s : State) (u : Used) → StandsFor FLLEN SLLEN (contents memory.old table.old) s → IsUsedAt s u block payload layout.align → result ≡ true
         → (p : Plan) × (or_else (in_place s u layout.size) (into_next s u layout.size) ≡ Some p) × (p.payload ≡ payload)
         × IsCarriedOut FLLEN SLLEN (contents memory.old table.old) (contents memory.new table.new) s u p }
@@ -81,16 +87,16 @@ pub fn resize_block<FLBitmap: Bitmap, SLBitmap: Bitmap, const FLLEN: usize, cons
     ensures grow { memory.old.touches ≤ memory.new.touches }
     ensures copied { memory.new.copied ≡ memory.old.copied }
 {
-    let len = memory.load(block) as usize - 1;
+    let len = memory.load_at(view, block) as usize - 1;
     let taken = next_multiple_of_32(payload - block + layout.size());
     if taken == len {
         return true;
     }
     let end = block + len;
-    if taken > len + free_length(memory, end) {
+    if taken > len + free_length(memory, view, end) {
         return false;
     }
-    let next = take_if_free(memory, table, end);
-    occupy(memory, table, block, len + next, taken);
+    let next = take_if_free(memory, view, table, end);
+    occupy(memory, view, table, block, len + next, taken);
     true
 }

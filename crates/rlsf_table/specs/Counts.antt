@@ -9,3 +9,4 @@ pub record Counts (m n : Space) (most : ℕ) : Type 0 where
   pub touches : n.touches ≤ m.touches + most
   pub grow : m.touches ≤ n.touches
   pub copied : n.copied ≡ m.copied
+  pub view : n.view ≡ m.view

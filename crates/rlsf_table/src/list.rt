@@ -12,7 +12,7 @@ ghost use Rattle.rlsf_table.specs.Table.{HasTable, IsNewestAt};
 
 use crate::table::ClassTable;
 use rlsf_base::classes::map_floor;
-use rlsf_base::memory::Memory;
+use rlsf_base::memory::{Memory, View};
 use rlsf_int::Bitmap;
 
 /// Where the link to the block before lies that is written when the list from `first` on gets another front: in its first
@@ -25,53 +25,59 @@ fn first_or_own(first: usize, block: usize) -> usize
 }
 
 /// Links the block at `block` in front of the blocks from `newest` on.
-fn link_front(memory: &mut Memory, newest: usize, block: usize)
-    requires { (r : Range) × (free : List Range) × (r.start ≡ block) × IsFreeList memory.old newest free × IsPlaced memory.old r × ((a : ℕ) → coverage itself (r ∷ free) a ≤ 1) }
+fn link_front(memory: &mut Memory, view: View, newest: usize, block: usize)
+    requires place { (r : Range) × (free : List Range) × (r.start ≡ block) × IsFreeList memory.old newest free × IsPlaced memory.old r × ((a : ℕ) → coverage itself (r ∷ free) a ≤ 1) }
+    requires view { view ≡ memory.old.view }
     ensures step { (r : Range) (free : List Range) → r.start ≡ block → IsFreeList memory.old newest free → IsPlaced memory.old r → ((a : ℕ) → coverage itself (r ∷ free) a ≤ 1)
         → Links memory.new 0 (r ∷ free) block × Rewrites memory.old memory.new (IsLink (r ∷ free)) }
     ensures touches { memory.new.touches ≤ memory.old.touches + 3 }
     ensures grow { memory.old.touches ≤ memory.new.touches }
     ensures copied { memory.new.copied ≡ memory.old.copied }
+    ensures view { memory.new.view ≡ memory.old.view }
 {
-    memory.set_word(block + 16, newest as u64);
-    memory.set_word(first_or_own(newest, block) + 24, block as u64);
-    memory.set_word(block + 24, 0);
+    memory.set_word_at(view, block + 16, newest as u64);
+    memory.set_word_at(view, first_or_own(newest, block) + 24, block as u64);
+    memory.set_word_at(view, block + 24, 0);
 }
 
 /// Takes the block at `block`, the first of its list, out of it. Answers the next one, which is the first then, or 0. The link to
 /// the block before isn't read: there is none.
-fn unlink_front(memory: &mut Memory, block: usize) -> usize
-    requires { (r : Range) × (after : List Range) × (newest : ℕ) × (r.start ≡ block) × IsFreeList memory.old newest (r ∷ after) }
+fn unlink_front(memory: &mut Memory, view: View, block: usize) -> usize
+    requires front { (r : Range) × (after : List Range) × (newest : ℕ) × (r.start ≡ block) × IsFreeList memory.old newest (r ∷ after) }
+    requires view { view ≡ memory.old.view }
     ensures step { (newest : ℕ) (r : Range) (after : List Range) → r.start ≡ block → IsFreeList memory.old newest (r ∷ after)
         → Links memory.new 0 after result × Rewrites memory.old memory.new (IsLink (r ∷ after)) }
     ensures touches { memory.new.touches ≤ memory.old.touches + 2 }
     ensures grow { memory.old.touches ≤ memory.new.touches }
     ensures copied { memory.new.copied ≡ memory.old.copied }
+    ensures view { memory.new.view ≡ memory.old.view }
 {
-    let next = memory.load(block + 16) as usize;
-    memory.set_word(first_or_own(next, block) + 24, 0);
+    let next = memory.load_at(view, block + 16) as usize;
+    memory.set_word_at(view, first_or_own(next, block) + 24, 0);
     next
 }
 
 /// Takes the block at `block` out from between the two that its links name. If none is before it, answers the one
 /// behind it, which is the newest then, or 0.
-fn unlink_between(memory: &mut Memory, block: usize) -> Option<usize>
-    requires { (r : Range) × (free : List Range) × (newest : ℕ) × (r.start ≡ block) × IsIn r free × IsFreeList memory.old newest free }
+fn unlink_between(memory: &mut Memory, view: View, block: usize) -> Option<usize>
+    requires listed { (r : Range) × (free : List Range) × (newest : ℕ) × (r.start ≡ block) × IsIn r free × IsFreeList memory.old newest free }
+    requires view { view ≡ memory.old.view }
     ensures step { (newest : ℕ) (r : Range) (before after : List Range) → r.start ≡ block → IsFreeList memory.old newest (before ++ r ∷ after)
         → Links memory.new 0 (before ++ after) (unwrap_or result newest) × Rewrites memory.old memory.new (IsLink (before ++ r ∷ after)) }
     ensures touches { memory.new.touches ≤ memory.old.touches + unlinking_touches result }
     ensures grow { memory.old.touches ≤ memory.new.touches }
     ensures copied { memory.new.copied ≡ memory.old.copied }
+    ensures view { memory.new.view ≡ memory.old.view }
 {
-    let next = memory.load(block + 16) as usize;
-    let previous = memory.load(block + 24) as usize;
+    let next = memory.load_at(view, block + 16) as usize;
+    let previous = memory.load_at(view, block + 24) as usize;
     if next != 0 {
-        memory.set_word(next + 24, previous as u64);
+        memory.set_word_at(view, next + 24, previous as u64);
     }
     if previous == 0 {
         Some(next)
     } else {
-        memory.set_word(previous + 16, next as u64);
+        memory.set_word_at(view, previous + 16, next as u64);
         None
     }
 }
@@ -83,23 +89,26 @@ fn unlink_between(memory: &mut Memory, block: usize) -> Option<usize>
 /// block can be one beside them.
 pub fn link<FLBitmap: Bitmap, SLBitmap: Bitmap, const FLLEN: usize, const SLLEN: usize>(
     memory: &mut Memory,
+    view: View,
     table: &mut ClassTable<FLBitmap, SLBitmap, FLLEN, SLLEN>,
     block: usize,
     len: usize,
 )
     requires parameters { IsValid FLBitmap.width SLBitmap.width FLLEN SLLEN }
     requires room { (r : Range) × (free : List Range) × (r.start ≡ block) × (r.len ≡ len) × IsRoom FLLEN SLLEN memory.old table.old free r }
+    requires view { view ≡ memory.old.view }
     ensures step { (r : Range) (free : List Range) → r.start ≡ block → r.len ≡ len → IsRoom FLLEN SLLEN memory.old table.old free r
         → HasTable FLLEN SLLEN memory.new table.new (r ∷ free) × Rewrites memory.old memory.new (IsLink (r ∷ free)) }
     ensures touches { memory.new.touches ≤ memory.old.touches + 9 }
     ensures grow { memory.old.touches ≤ memory.new.touches }
     ensures copied { memory.new.copied ≡ memory.old.copied }
+    ensures view { memory.new.view ≡ memory.old.view }
 {
     let Some((fl, sl)) = map_floor::<FLBitmap, SLBitmap, FLLEN, SLLEN>(len) else {
         unreachable!()
     };
     let newest = table.head(memory, fl, sl);
-    link_front(memory, newest, block);
+    link_front(memory, view, newest, block);
     table.put(memory, fl, sl, block);
 }
 
@@ -110,19 +119,22 @@ pub fn link<FLBitmap: Bitmap, SLBitmap: Bitmap, const FLLEN: usize, const SLLEN:
 /// block is one of them.
 pub fn unlink<FLBitmap: Bitmap, SLBitmap: Bitmap, const FLLEN: usize, const SLLEN: usize>(
     memory: &mut Memory,
+    view: View,
     table: &mut ClassTable<FLBitmap, SLBitmap, FLLEN, SLLEN>,
     block: usize,
     len: usize,
 )
     requires parameters { IsValid FLBitmap.width SLBitmap.width FLLEN SLLEN }
     requires listed { (r : Range) × (free : List Range) × (r.start ≡ block) × (r.len ≡ len) × IsIn r free × IsFreeTable FLLEN SLLEN memory.old table.old free }
+    requires view { view ≡ memory.old.view }
     ensures step { (r : Range) (before after : List Range) → r.start ≡ block → r.len ≡ len → IsFreeTable FLLEN SLLEN memory.old table.old (before ++ r ∷ after)
         → HasTable FLLEN SLLEN memory.new table.new (before ++ after) × Rewrites memory.old memory.new (IsLink (before ++ r ∷ after)) }
     ensures touches { memory.new.touches ≤ memory.old.touches + 8 }
     ensures grow { memory.old.touches ≤ memory.new.touches }
     ensures copied { memory.new.copied ≡ memory.old.copied }
+    ensures view { memory.new.view ≡ memory.old.view }
 {
-    let newest = unlink_between(memory, block);
+    let newest = unlink_between(memory, view, block);
     if let Some(next) = newest {
         let Some((fl, sl)) = map_floor::<FLBitmap, SLBitmap, FLLEN, SLLEN>(len) else {
             unreachable!()
@@ -138,18 +150,21 @@ pub fn unlink<FLBitmap: Bitmap, SLBitmap: Bitmap, const FLLEN: usize, const SLLE
 /// one of them, has that class, and none before it has.
 pub fn unlink_newest<FLBitmap: Bitmap, SLBitmap: Bitmap, const FLLEN: usize, const SLLEN: usize>(
     memory: &mut Memory,
+    view: View,
     table: &mut ClassTable<FLBitmap, SLBitmap, FLLEN, SLLEN>,
     block: usize,
     class: (usize, usize),
 )
     requires parameters { IsValid FLBitmap.width SLBitmap.width FLLEN SLLEN }
     requires newest { (r : Range) × (before after : List Range) × (r.start ≡ block) × IsNewestAt FLLEN SLLEN r before class.0 class.1 × IsFreeTable FLLEN SLLEN memory.old table.old (before ++ r ∷ after) }
+    requires view { view ≡ memory.old.view }
     ensures step { (r : Range) (before after : List Range) → r.start ≡ block → IsNewestAt FLLEN SLLEN r before class.0 class.1 → IsFreeTable FLLEN SLLEN memory.old table.old (before ++ r ∷ after)
         → HasTable FLLEN SLLEN memory.new table.new (before ++ after) × Rewrites memory.old memory.new (IsLink (before ++ r ∷ after)) }
     ensures touches { memory.new.touches ≤ memory.old.touches + 8 }
     ensures grow { memory.old.touches ≤ memory.new.touches }
     ensures copied { memory.new.copied ≡ memory.old.copied }
+    ensures view { memory.new.view ≡ memory.old.view }
 {
-    let next = unlink_front(memory, block);
+    let next = unlink_front(memory, view, block);
     table.take(memory, class.0, class.1, next);
 }

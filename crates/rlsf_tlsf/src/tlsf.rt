@@ -218,7 +218,15 @@ impl<FLBitmap: Bitmap, SLBitmap: Bitmap, const FLLEN: usize, const SLLEN: usize>
         ensures copied { self.new.memory.copied ≡ self.old.memory.copied }
     {
         let (block, class) = first_fit(&mut self.memory, &self.table, request_size(layout))?;
-        let payload = place(&mut self.memory, &mut self.table, block, class, layout);
+        let view = self.memory.view();
+        let payload = place(
+            &mut self.memory,
+            view,
+            &mut self.table,
+            block,
+            class,
+            layout,
+        );
         self.state.allocate(SLLEN, layout.size(), layout.align());
         NonZeroUsize::new(payload)
     }
@@ -239,8 +247,9 @@ impl<FLBitmap: Bitmap, SLBitmap: Bitmap, const FLLEN: usize, const SLLEN: usize>
         ensures grow { self.old.memory.touches ≤ self.new.memory.touches }
         ensures copied { self.new.memory.copied ≡ self.old.memory.copied }
     {
-        let block = used_block(&mut self.memory, addr.get(), align);
-        deallocate_block(&mut self.memory, &mut self.table, block);
+        let view = self.memory.view();
+        let block = used_block(&mut self.memory, view, addr.get(), align);
+        deallocate_block(&mut self.memory, view, &mut self.table, block);
         self.state.deallocate(addr.get());
     }
 
@@ -261,7 +270,8 @@ impl<FLBitmap: Bitmap, SLBitmap: Bitmap, const FLLEN: usize, const SLLEN: usize>
         ensures copied { self.new.memory.copied ≡ self.old.memory.copied }
     {
         let block = load_block_of(&mut self.memory, addr.get());
-        deallocate_block(&mut self.memory, &mut self.table, block);
+        let view = self.memory.view();
+        deallocate_block(&mut self.memory, view, &mut self.table, block);
         self.state.deallocate(addr.get());
     }
 
@@ -292,8 +302,16 @@ impl<FLBitmap: Bitmap, SLBitmap: Bitmap, const FLLEN: usize, const SLLEN: usize>
         ensures stays { HasRoomToStay self.old.state (at addr) layout.size → self.new.memory.copied ≡ self.old.memory.copied }
     {
         let payload = addr.get();
-        let block = used_block(&mut self.memory, payload, layout.align());
-        let moved = reallocate_block(&mut self.memory, &mut self.table, block, payload, layout)?;
+        let view = self.memory.view();
+        let block = used_block(&mut self.memory, view, payload, layout.align());
+        let moved = reallocate_block(
+            &mut self.memory,
+            view,
+            &mut self.table,
+            block,
+            payload,
+            layout,
+        )?;
         self.state.reallocate(SLLEN, payload, layout.size());
         NonZeroUsize::new(moved)
     }
@@ -322,8 +340,16 @@ impl<FLBitmap: Bitmap, SLBitmap: Bitmap, const FLLEN: usize, const SLLEN: usize>
         ensures copied { self.new.memory.copied ≡ self.old.memory.copied }
     {
         let payload = addr.get();
-        let block = used_block(&mut self.memory, payload, layout.align());
-        if !resize_block(&mut self.memory, &mut self.table, block, payload, layout) {
+        let view = self.memory.view();
+        let block = used_block(&mut self.memory, view, payload, layout.align());
+        if !resize_block(
+            &mut self.memory,
+            view,
+            &mut self.table,
+            block,
+            payload,
+            layout,
+        ) {
             return None;
         }
         self.state.reallocate(SLLEN, payload, layout.size());

@@ -2,6 +2,7 @@
 use Rattle.std.specs.Prelude.{◌≡◌, ℕ, ◌+◌, ◌-◌, ◌/◌, ◌%◌, ◌^◌, ◌<◌, ◌≤◌, length}
 use denote.RawPtr.{null_ptr}
 use Rattle.rlsf_base.specs.declared.memory.block.Base.{Base}
+use Rattle.rlsf_base.specs.declared.memory.view.View.{View}
 use Rattle.rlsf_base.specs.declared.memory.block.Bytes.{Bytes}
 use Rattle.rlsf_base.specs.declared.memory.zeroed.Supplier.{Supplier}
 
@@ -13,6 +14,17 @@ words_for skip len = (skip + len + 7) / 8
 pub record IsSupplierOf (base : Base) (skip len : ℕ) (supplier : Supplier) : Type 0 where
   pub none : len ≡ 0 → supplier.deed.at ≡ null_ptr
   pub block : 0 < len → (supplier.deed.at ≡ base.ptr) × (supplier.deed.words ≡ words_for skip len) × (supplier.deed.skip ≡ skip) × (supplier.deed.len ≡ len) × (supplier.deed.alloc ≡ supplier.alloc)
+
+-- the address of the first byte, which a memory keeps negated
+abbrev pub start_of : ℕ → ℕ
+start_of negated = 2 ^ 64 - negated
+
+-- what is added to an address, with what passes a word cut off, to get its place in the block: the first byte has the place start % 8
+abbrev pub shift_of : ℕ → ℕ
+shift_of start = (2 ^ 64 - (start - start % 8)) % 2 ^ 64
+
+abbrev pub view_of : Base → ℕ → View
+view_of base start = record { base = base; shift = shift_of start }
 
 -- the parts of a memory of len bytes from the address start on: its block begins start % 8 bytes before the byte of start
 pub record IsMemory (base : Base) (start len : ℕ) (bytes : Bytes) (supplier : Supplier) : Type 0 where

@@ -5,10 +5,10 @@ use Rattle.rlsf_blocks.proofs.free.put.Goals as goal
 pub link-requires : goal.link-requires
 link-requires g c =
     let (free, r, start, len, room) = c.requires.room in
-    let writes = ArePut-from {m1 = c.set_word.new.self} {m2 = c.set_word-2.new.self} c.args.block c.args.len r room start len (c.set_word.ensures.start, c.set_word.ensures.bytes) (c.set_word-2.ensures.start, c.set_word-2.ensures.bytes) in
-    (search rules, (c.requires.parameters, (r, free, start, len, room_written r room writes)))
+    let writes = ArePut-from {m1 = c.set_word_at.new.self} {m2 = c.set_word_at-2.new.self} c.args.block c.args.len r room start len (c.set_word_at.ensures.start, c.set_word_at.ensures.bytes) (c.set_word_at-2.ensures.start, c.set_word_at-2.ensures.bytes) in
+    (search rules, (c.requires.parameters, ((r, free, start, len, room_written r room writes), search rules)))
 
 pub returns-clause-step : goal.returns-clause-step
 returns-clause-step g c = λ free r start len room.
-    let writes = ArePut-from {m1 = c.set_word.new.self} {m2 = c.set_word-2.new.self} c.args.block c.args.len r room start len (c.set_word.ensures.start, c.set_word.ensures.bytes) (c.set_word-2.ensures.start, c.set_word-2.ensures.bytes) in
+    let writes = ArePut-from {m1 = c.set_word_at.new.self} {m2 = c.set_word_at-2.new.self} c.args.block c.args.len r room start len (c.set_word_at.ensures.start, c.set_word_at.ensures.bytes) (c.set_word_at-2.ensures.start, c.set_word_at-2.ensures.bytes) in
     IsPut-written r room writes (c.link.ensures.step r free start len (room_written r room writes))

@@ -11,8 +11,8 @@ overflow_add-block g c =
     let (s, u, v, i, at) = c.requires.used in
     record { fits = omega (arith, at, used_in_memory v.well_formed u i, v.well_formed.addressable) }
 
-pub load-previous-requires : goal.load-previous-requires
-load-previous-requires g c =
+pub load_at-previous-requires-clause-place : goal.load_at-previous-requires-clause-place
+load_at-previous-requires-clause-place g c =
     let (s, u, v, i, at) = c.requires.used in
     let place = used_in_memory v.well_formed u i in
     (omega (arith, at, (v.well_formed.used u i).whole.start), (omega (arith, at, place.0), omega (arith, at, place.1)))
@@ -21,33 +21,33 @@ pub take_if_free-requires : goal.take_if_free-requires
 take_if_free-requires g c =
     let (s, u, v, i, at) = c.requires.used in
     let m = c.args.memory.now in
-    let n = c.load-previous.new.self in
-    let start = c.load-previous.ensures.start in
-    let bytes = c.load-previous.ensures.bytes in
-    let marked = IsMarked-loaded m n start bytes (IsMarked-previous v u i at c.load-previous.ensures.word c.if-previous-eq0.false) in
-    (search rules, (c.requires.parameters, (s.free, IsFreeTable-counted m n start bytes (IsFreeTable-free v), marked)))
+    let n = c.load_at-previous.new.self in
+    let start = c.load_at-previous.ensures.start in
+    let bytes = c.load_at-previous.ensures.bytes in
+    let marked = IsMarked-loaded m n start bytes (IsMarked-previous v u i at c.load_at-previous.ensures.word c.if-previous-eq0.false) in
+    (search rules, (c.requires.parameters, ((s.free, IsFreeTable-counted m n start bytes (IsFreeTable-free v), marked), search rules)))
 
 pub overflow_sub-result : goal.overflow_sub-result
 overflow_sub-result g c =
     let (s, u, v, i, at) = c.requires.used in
     let m = c.args.memory.now in
-    let n = c.load-previous.new.self in
-    let start = c.load-previous.ensures.start in
-    let bytes = c.load-previous.ensures.bytes in
-    let marked = IsMarked-loaded m n start bytes (IsMarked-previous v u i at c.load-previous.ensures.word c.if-previous-eq0.false) in
+    let n = c.load_at-previous.new.self in
+    let start = c.load_at-previous.ensures.start in
+    let bytes = c.load_at-previous.ensures.bytes in
+    let marked = IsMarked-loaded m n start bytes (IsMarked-previous v u i at c.load_at-previous.ensures.word c.if-previous-eq0.false) in
     let out = IsOut-loaded m n start bytes (c.take_if_free.ensures.step s.free (IsFreeTable-counted m n start bytes (IsFreeTable-free v)) marked) in
-    (previous_out v u i at c.load-previous.ensures.word c.if-previous-eq0.false out).0
+    (previous_out v u i at c.load_at-previous.ensures.word c.if-previous-eq0.false out).0
 
 pub returns-then-previous-eq0-clause-step : goal.returns-then-previous-eq0-clause-step
 returns-then-previous-eq0-clause-step g c = λ s u v i at.
-    IsPreviousOut-none v u i at c.load-previous.ensures.word c.load-previous.new.self c.load-previous.ensures.start c.load-previous.ensures.bytes c.if-previous-eq0.true
+    IsPreviousOut-none v u i at c.load_at-previous.ensures.word c.load_at-previous.new.self c.load_at-previous.ensures.start c.load_at-previous.ensures.bytes c.if-previous-eq0.true
 
 pub returns-else-previous-eq0-clause-step : goal.returns-else-previous-eq0-clause-step
 returns-else-previous-eq0-clause-step g c = λ s u v i at.
     let m = c.args.memory.now in
-    let n = c.load-previous.new.self in
-    let start = c.load-previous.ensures.start in
-    let bytes = c.load-previous.ensures.bytes in
-    let marked = IsMarked-loaded m n start bytes (IsMarked-previous v u i at c.load-previous.ensures.word c.if-previous-eq0.false) in
+    let n = c.load_at-previous.new.self in
+    let start = c.load_at-previous.ensures.start in
+    let bytes = c.load_at-previous.ensures.bytes in
+    let marked = IsMarked-loaded m n start bytes (IsMarked-previous v u i at c.load_at-previous.ensures.word c.if-previous-eq0.false) in
     let out = IsOut-loaded m n start bytes (c.take_if_free.ensures.step s.free (IsFreeTable-counted m n start bytes (IsFreeTable-free v)) marked) in
-    (previous_out v u i at c.load-previous.ensures.word c.if-previous-eq0.false out).1
+    (previous_out v u i at c.load_at-previous.ensures.word c.if-previous-eq0.false out).1

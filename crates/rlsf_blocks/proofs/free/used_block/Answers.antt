@@ -5,17 +5,17 @@ use Rattle.rlsf_blocks.proofs.free.used_block.Goals as goal
 
 pub overflow_sub-result : goal.overflow_sub-result
 overflow_sub-result c =
-    let (fllen, sllen, t, s, v, (u, (i, at), is)) = c.requires in
+    let (fllen, sllen, t, s, v, (u, (i, at), is)) = c.requires.live in
     omega (arith, at, IsUsed-after_start u (v.well_formed.used u i))
 
 pub overflow_sub-payload : goal.overflow_sub-payload
 overflow_sub-payload c =
-    let (fllen, sllen, t, s, v, (u, (i, at), is)) = c.requires in
+    let (fllen, sllen, t, s, v, (u, (i, at), is)) = c.requires.live in
     omega (arith, at, IsUsed-after_start u (v.well_formed.used u i))
 
-pub load-requires : goal.load-requires
-load-requires c =
-    let (fllen, sllen, t, s, v, (u, (i, at), is)) = c.requires in
+pub load_at-requires-clause-place : goal.load_at-requires-clause-place
+load_at-requires-clause-place c =
+    let (fllen, sllen, t, s, v, (u, (i, at), is)) = c.requires.live in
     IsWord-before v u i at is c.if-align-lt-GRANULARITY.false
 
 pub returns-then-align-lt-GRANULARITY-clause-block : goal.returns-then-align-lt-GRANULARITY-clause-block
@@ -24,4 +24,4 @@ returns-then-align-lt-GRANULARITY-clause-block c = λ fllen sllen t s v (u, (i, 
 
 pub returns-else-align-lt-GRANULARITY-clause-block : goal.returns-else-align-lt-GRANULARITY-clause-block
 returns-else-align-lt-GRANULARITY-clause-block c = λ fllen sllen t s v (u, (i, at), is).
-    (u, (i, at), is, sym (c.load.ensures.word ∙ wide_start v u i at is c.if-align-lt-GRANULARITY.false))
+    (u, (i, at), is, sym (c.load_at.ensures.word ∙ wide_start v u i at is c.if-align-lt-GRANULARITY.false))

@@ -1,30 +1,30 @@
-use Rattle.std.proofs.Common.{◌≡◌, ◌+◌, ◌-◌, List, arith}
+use Rattle.std.proofs.Common.{◌≡◌, ◌+◌, ◌-◌, List, arith, rules}
 use Rattle.rlsf_base.specs.declared.memory.range.Range.{Range}
 use Rattle.rlsf_table.proofs.Words.Writing.{wrote}
 use Rattle.rlsf_blocks.specs.Steps.Rest.{IsInnerRoom}
 use Rattle.rlsf_blocks.proofs.Allocate.Rests.{AreLeft, AreLeft-from, IsLeft-written, IsRoom-written}
 use Rattle.rlsf_blocks.proofs.placement.leave_rest.Given as given
 use Rattle.rlsf_blocks.proofs.placement.leave_rest.Goals as goal
-use Rattle.rlsf_blocks.proofs.placement.leave_rest.Goals.{After-set_word-3}
+use Rattle.rlsf_blocks.proofs.placement.leave_rest.Goals.{After-set_word_at-3}
 
 -- the three words of the rest are written
-written : (g : given.Over) (c : After-set_word-3 g) {free : List Range} (r : Range) → IsInnerRoom g.row.FLLEN g.row.SLLEN c.args.memory.now c.args.table.now free r → r.start ≡ c.args.block + c.args.taken → r.len + c.args.taken ≡ c.args.len
-    → AreLeft c.args.memory.now c.set_word.new.self c.set_word-2.new.self c.set_word-3.new.self c.args.block r
+written : (g : given.Over) (c : After-set_word_at-3 g) {free : List Range} (r : Range) → IsInnerRoom g.row.FLLEN g.row.SLLEN c.args.memory.now c.args.table.now free r → r.start ≡ c.args.block + c.args.taken → r.len + c.args.taken ≡ c.args.len
+    → AreLeft c.args.memory.now c.set_word_at.new.self c.set_word_at-2.new.self c.set_word_at-3.new.self c.args.block r
 written g c r room start len =
     let block = c.args.block in
     let rest = c.args.block + c.args.taken in
-    let one = wrote c.args.memory.now c.set_word.new.self rest (c.args.len - c.args.taken) c.set_word.ensures.bytes (omega arith) (omega arith) in
-    let two = wrote c.set_word.new.self c.set_word-2.new.self (rest + 8) block c.set_word-2.ensures.bytes (omega arith) (omega arith) in
-    let three = wrote c.set_word-2.new.self c.set_word-3.new.self (block + c.args.len + 8) rest c.set_word-3.ensures.bytes (omega arith) (omega arith) in
-    AreLeft-from block c.args.len c.args.taken r room start len (omega arith) (c.set_word.ensures.start, one) (c.set_word-2.ensures.start, two) (c.set_word-3.ensures.start, three)
+    let one = wrote c.args.memory.now c.set_word_at.new.self rest (c.args.len - c.args.taken) c.set_word_at.ensures.bytes (omega arith) (omega arith) in
+    let two = wrote c.set_word_at.new.self c.set_word_at-2.new.self (rest + 8) block c.set_word_at-2.ensures.bytes (omega arith) (omega arith) in
+    let three = wrote c.set_word_at-2.new.self c.set_word_at-3.new.self (block + c.args.len + 8) rest c.set_word_at-3.ensures.bytes (omega arith) (omega arith) in
+    AreLeft-from block c.args.len c.args.taken r room start len (omega arith) (c.set_word_at.ensures.start, one) (c.set_word_at-2.ensures.start, two) (c.set_word_at-3.ensures.start, three)
 
 pub link-requires : goal.link-requires
 link-requires g c =
     let (free, r, start, len, room) = c.requires.room in
-    let writes = written g (goal.at.link-requires g c).After-set_word-3 r room start len in
-    (omega arith, (c.requires.parameters, (r, free, start, omega (arith, len), IsRoom-written r room writes)))
+    let writes = written g (goal.at.link-requires g c).After-set_word_at-3 r room start len in
+    (search rules, (c.requires.parameters, ((r, free, start, omega (arith, len), IsRoom-written r room writes), search rules)))
 
 pub returns-clause-step : goal.returns-clause-step
 returns-clause-step g c = λ free r start len room.
-    let writes = written g (goal.at.returns-clause-step g c).After-set_word-3 r room start len in
+    let writes = written g (goal.at.returns-clause-step g c).After-set_word_at-3 r room start len in
     IsLeft-written r room writes (c.link.ensures.step r free start (omega (arith, len)) (IsRoom-written r room writes))

@@ -1,4 +1,4 @@
-use Rattle.std.proofs.Common.{◌≡◌, ◌+◌, ◌-◌, ◌^◌, ◌<◌, ◌≤◌, length, Some, arith, refl, sym, ◌∙◌, ap, subst}
+use Rattle.std.proofs.Common.{◌≡◌, ◌+◌, ◌-◌, ◌^◌, ◌<◌, ◌≤◌, length, Some, arith, refl, sym, ◌∙◌, ap, rules, subst}
 use Rattle.std.specs.Int.{next_multiple_of}
 use Rattle.rlsf_base.specs.declared.memory.range.Range.{Range}
 use Rattle.rlsf_base.specs.Sizes.{request_size}
@@ -15,10 +15,10 @@ use Rattle.rlsf_blocks.proofs.Allocate.Placements.{AreComputed, AreComputed-from
 use Rattle.rlsf_machine.proofs.Allocations.{placed-fits}
 use Rattle.rlsf_blocks.proofs.placement.place.Given as given
 use Rattle.rlsf_blocks.proofs.placement.place.Goals as goal
-use Rattle.rlsf_blocks.proofs.placement.place.Goals.{After-load-len, After-next_multiple_of_32-taken, After-set_word}
+use Rattle.rlsf_blocks.proofs.placement.place.Goals.{After-load_at-len, After-next_multiple_of_32-taken, After-set_word_at}
 
-pub load-len-requires : goal.load-len-requires
-load-len-requires g c =
+pub load_at-len-requires-clause-place : goal.load_at-len-requires-clause-place
+load_at-len-requires-clause-place g c =
     let (s, f, v, chosen, start) = c.requires.chosen in
     let layout = c.args.layout in
     let place = free_in_memory v.well_formed f (is_free v f layout.size layout.align layout.valid.aligned chosen) in
@@ -42,80 +42,80 @@ align_up-payload-requires g c =
     record { fits = subst (λ b. next_multiple_of (b + 16) layout.align < 2 ^ 64) start below }
 
 -- the memory whose word was read stands for the same states
-loaded : (g : given.Over) (c : After-load-len g) {s : State} → StandsFor g.row.FLLEN g.row.SLLEN (contents c.args.memory.now c.args.table.now) s
-    → StandsFor g.row.FLLEN g.row.SLLEN (contents c.load-len.new.self c.args.table.now) s
-loaded g c v = StandsFor-counted c.args.memory.now c.load-len.new.self c.load-len.ensures.start c.load-len.ensures.bytes v
+loaded : (g : given.Over) (c : After-load_at-len g) {s : State} → StandsFor g.row.FLLEN g.row.SLLEN (contents c.args.memory.now c.args.table.now) s
+    → StandsFor g.row.FLLEN g.row.SLLEN (contents c.load_at-len.new.self c.args.table.now) s
+loaded g c v = StandsFor-counted c.args.memory.now c.load_at-len.new.self c.load_at-len.ensures.start c.load_at-len.ensures.bytes v
 
 -- for each state and the choice in it, what is computed is as the definitions have it
-computed : (g : given.Over) (c : After-next_multiple_of_32-taken g) {s : State} (v : StandsFor g.row.FLLEN g.row.SLLEN (contents c.load-len.new.self c.args.table.now) s) (f : Range)
+computed : (g : given.Over) (c : After-next_multiple_of_32-taken g) {s : State} (v : StandsFor g.row.FLLEN g.row.SLLEN (contents c.load_at-len.new.self c.args.table.now) s) (f : Range)
     (chosen : choice g.row.SLLEN (request_size c.args.layout.size c.args.layout.align) s.free ≡ Some f) → f.start ≡ c.args.block
-    → AreComputed v f c.args.layout.size c.args.layout.align c.args.layout.valid.aligned chosen c.args.block c.load-len.result c.align_up-payload.result c.next_multiple_of_32-taken.result
+    → AreComputed v f c.args.layout.size c.args.layout.align c.args.layout.valid.aligned chosen c.args.block c.load_at-len.result c.align_up-payload.result c.next_multiple_of_32-taken.result
 computed g c v f chosen start =
-    let word = c.load-len.ensures.word ∙ sym (word_at-counted c.args.memory.now c.load-len.new.self c.load-len.ensures.start c.load-len.ensures.bytes c.args.block) in
+    let word = c.load_at-len.ensures.word ∙ sym (word_at-counted c.args.memory.now c.load_at-len.new.self c.load_at-len.ensures.start c.load_at-len.ensures.bytes c.args.block) in
     AreComputed-from v f c.args.layout.size c.args.layout.align c.args.layout.valid.aligned chosen _ _ _ _ _ _ start word refl c.align_up-payload.ensures.value c.size.ensures.value c.next_multiple_of_32-taken.ensures.value
 
 -- and once the block is taken out, its size word is written
-sized : (g : given.Over) (c : After-set_word g) {s : State} {v : StandsFor g.row.FLLEN g.row.SLLEN (contents c.load-len.new.self c.args.table.now) s} {f : Range}
+sized : (g : given.Over) (c : After-set_word_at g) {s : State} {v : StandsFor g.row.FLLEN g.row.SLLEN (contents c.load_at-len.new.self c.args.table.now) s} {f : Range}
     {chosen : choice g.row.SLLEN (request_size c.args.layout.size c.args.layout.align) s.free ≡ Some f}
-    (are : AreComputed v f c.args.layout.size c.args.layout.align c.args.layout.valid.aligned chosen c.args.block c.load-len.result c.align_up-payload.result c.next_multiple_of_32-taken.result)
-    → IsSized are c.take_out.new.memory c.set_word.new.self c.take_out.new.table
+    (are : AreComputed v f c.args.layout.size c.args.layout.align c.args.layout.valid.aligned chosen c.args.block c.load_at-len.result c.align_up-payload.result c.next_multiple_of_32-taken.result)
+    → IsSized are c.take_out.new.memory c.set_word_at.new.self c.take_out.new.table
 sized g c {s} {v} {f} are =
-    IsSized-from are (c.take_out.ensures.step s f v (IsTaken-computed are)) c.set_word.ensures.start (wrote c.take_out.new.memory c.set_word.new.self c.args.block (c.next_multiple_of_32-taken.result + 1) c.set_word.ensures.bytes (omega arith) (omega arith)) (omega arith)
+    IsSized-from are (c.take_out.ensures.step s f v (IsTaken-computed are)) c.set_word_at.ensures.start (wrote c.take_out.new.memory c.set_word_at.new.self c.args.block (c.next_multiple_of_32-taken.result + 1) c.set_word_at.ensures.bytes (omega arith) (omega arith)) (omega arith)
 
 pub take_out-requires : goal.take_out-requires
 take_out-requires g c =
     let (s, f, v, chosen, start) = c.requires.chosen in
     let at = goal.at.take_out-requires g c in
-    let stands = loaded g at.After-load-len v in
-    let class = subst (λ n. IsClassAt g.row.FLLEN g.row.SLLEN n c.args.class.0 c.args.class.1) (sym c.load-len.ensures.word) c.requires.class in
-    (omega arith, (c.requires.parameters, (class, (s, f, stands, IsTaken-computed (computed g at.After-next_multiple_of_32-taken stands f chosen start)))))
+    let stands = loaded g at.After-load_at-len v in
+    let class = subst (λ n. IsClassAt g.row.FLLEN g.row.SLLEN n c.args.class.0 c.args.class.1) (sym c.load_at-len.ensures.word) c.requires.class in
+    (search rules, (c.requires.parameters, (class, ((s, f, stands, IsTaken-computed (computed g at.After-next_multiple_of_32-taken stands f chosen start)), search rules))))
 
-pub set_word-requires : goal.set_word-requires
-set_word-requires g c =
+pub set_word_at-requires-clause-place : goal.set_word_at-requires-clause-place
+set_word_at-requires-clause-place g c =
     let (s, f, v, chosen, start) = c.requires.chosen in
-    let at = goal.at.set_word-requires g c in
-    let stands = loaded g at.After-load-len v in
+    let at = goal.at.set_word_at-requires-clause-place g c in
+    let stands = loaded g at.After-load_at-len v in
     let are = computed g at.After-next_multiple_of_32-taken stands f chosen start in
     let opened = c.take_out.ensures.step s f stands (IsTaken-computed are) in
     IsWord-block are c.take_out.new.memory opened.rewrites.start opened.rewrites.length
 
-pub set_word-requires-then-wide : goal.set_word-requires-then-wide
-set_word-requires-then-wide g c =
+pub set_word_at-requires-then-wide-clause-place : goal.set_word_at-requires-then-wide-clause-place
+set_word_at-requires-then-wide-clause-place g c =
     let (s, f, v, chosen, start) = c.requires.chosen in
-    let at = goal.at.set_word-requires-then-wide g c in
-    let are = computed g at.After-next_multiple_of_32-taken (loaded g at.After-load-len v) f chosen start in
-    IsWord-pad are (sized g at.After-set_word are) (omega arith)
+    let at = goal.at.set_word_at-requires-then-wide-clause-place g c in
+    let are = computed g at.After-next_multiple_of_32-taken (loaded g at.After-load_at-len v) f chosen start in
+    IsWord-pad are (sized g at.After-set_word_at are) (omega arith)
 
 pub returns-then-wide-clause-step : goal.returns-then-wide-clause-step
 returns-then-wide-clause-step g c = λ s f v chosen start.
     let at = goal.at.returns-then-wide-clause-step g c in
-    let are = computed g at.After-next_multiple_of_32-taken (loaded g at.After-load-len v) f chosen start in
-    let is = sized g at.After-set_word are in
+    let are = computed g at.After-next_multiple_of_32-taken (loaded g at.After-load_at-len v) f chosen start in
+    let is = sized g at.After-set_word_at are in
     let wide : 32 ≤ c.args.layout.align = omega arith in
     let (t, places, stands, spare) =
-    Places-sized are is (Writes-some (32 ≤ c.args.layout.align) wide (IsWord-pad are is wide) (omega arith) c.set_word-then-wide.ensures.start (wrote c.set_word.new.self c.set_word-then-wide.new.self (c.align_up-payload.result - 8) c.args.block c.set_word-then-wide.ensures.bytes (omega arith) (omega arith))) in
-    (t, places, stands, KeepsSpare-counted_first c.args.memory.now c.load-len.new.self c.load-len.ensures.start c.load-len.ensures.bytes s t c.set_word-then-wide.new.self spare)
+    Places-sized are is (Writes-some (32 ≤ c.args.layout.align) wide (IsWord-pad are is wide) (omega arith) c.set_word_at-then-wide.ensures.start (wrote c.set_word_at.new.self c.set_word_at-then-wide.new.self (c.align_up-payload.result - 8) c.args.block c.set_word_at-then-wide.ensures.bytes (omega arith) (omega arith))) in
+    (t, places, stands, KeepsSpare-counted_first c.args.memory.now c.load_at-len.new.self c.load_at-len.ensures.start c.load_at-len.ensures.bytes s t c.set_word_at-then-wide.new.self spare)
 
 pub returns-else-wide-clause-step : goal.returns-else-wide-clause-step
 returns-else-wide-clause-step g c = λ s f v chosen start.
     let at = goal.at.returns-else-wide-clause-step g c in
-    let are = computed g at.After-next_multiple_of_32-taken (loaded g at.After-load-len v) f chosen start in
+    let are = computed g at.After-next_multiple_of_32-taken (loaded g at.After-load_at-len v) f chosen start in
     let narrow : ¬ (32 ≤ c.args.layout.align) = λ wide. omega arith in
-    let (t, places, stands, spare) = Places-sized are (sized g at.After-set_word are) (Writes-none c.set_word.new.self c.set_word.new.self (32 ≤ c.args.layout.align) (c.align_up-payload.result - 8) c.args.block refl narrow) in
-    (t, places, stands, KeepsSpare-counted_first c.args.memory.now c.load-len.new.self c.load-len.ensures.start c.load-len.ensures.bytes s t c.set_word.new.self spare)
+    let (t, places, stands, spare) = Places-sized are (sized g at.After-set_word_at are) (Writes-none c.set_word_at.new.self c.set_word_at.new.self (32 ≤ c.args.layout.align) (c.align_up-payload.result - 8) c.args.block refl narrow) in
+    (t, places, stands, KeepsSpare-counted_first c.args.memory.now c.load_at-len.new.self c.load_at-len.ensures.start c.load_at-len.ensures.bytes s t c.set_word_at.new.self spare)
 
 pub returns-then-wide-clause-place : goal.returns-then-wide-clause-place
 returns-then-wide-clause-place g c =
     let (s, f, v, chosen, start) = c.requires.chosen in
     let at = goal.at.returns-then-wide-clause-place g c in
-    let are = computed g at.After-next_multiple_of_32-taken (loaded g at.After-load-len v) f chosen start in
-    let same = SamePlace-sized are (sized g at.After-set_word are) in
-    (omega arith, omega (arith, ap length c.load-len.ensures.bytes))
+    let are = computed g at.After-next_multiple_of_32-taken (loaded g at.After-load_at-len v) f chosen start in
+    let same = SamePlace-sized are (sized g at.After-set_word_at are) in
+    (omega arith, omega (arith, ap length c.load_at-len.ensures.bytes))
 
 pub returns-else-wide-clause-place : goal.returns-else-wide-clause-place
 returns-else-wide-clause-place g c =
     let (s, f, v, chosen, start) = c.requires.chosen in
     let at = goal.at.returns-else-wide-clause-place g c in
-    let are = computed g at.After-next_multiple_of_32-taken (loaded g at.After-load-len v) f chosen start in
-    let same = SamePlace-sized are (sized g at.After-set_word are) in
-    (omega arith, omega (arith, ap length c.load-len.ensures.bytes))
+    let are = computed g at.After-next_multiple_of_32-taken (loaded g at.After-load_at-len v) f chosen start in
+    let same = SamePlace-sized are (sized g at.After-set_word_at are) in
+    (omega arith, omega (arith, ap length c.load_at-len.ensures.bytes))

@@ -1,4 +1,4 @@
-use Rattle.std.proofs.Common.{ℕ, ◌<◌, ◌++◌, arith, refl, sym, subst}
+use Rattle.std.proofs.Common.{ℕ, ◌<◌, ◌++◌, arith, refl, rules, sym, subst}
 use Rattle.rlsf_base.specs.declared.memory.range.Range.{Range}
 use Rattle.rlsf_machine.specs.State.{State}
 use Rattle.rlsf_table.specs.Table.{IsClassAt}
@@ -13,13 +13,13 @@ at_class {fllen} {sllen} {fl = fl} {sl = sl} at take = subst (λ n. IsClassAt fl
 pub unlink_newest-requires : goal.unlink_newest-requires
 unlink_newest-requires g c =
     let (s, f, v, take) = c.requires.taken in
-    (omega arith, (c.requires.parameters, (f, ahead v take, later v take, take.start, is_newest v take (at_class c.requires.class take), split_list v take)))
+    (search rules, (c.requires.parameters, ((f, ahead v take, later v take, take.start, is_newest v take (at_class c.requires.class take), split_list v take), search rules)))
 
 pub leave_rest-requires : goal.leave_rest-requires
 leave_rest-requires g c =
     let (s, f, v, take) = c.requires.taken in
     let unlinked = c.unlink_newest.ensures.step f (ahead v take) (later v take) take.start (is_newest v take (at_class c.requires.class take)) (split_list v take) in
-    (omega arith, (c.requires.parameters, (ahead v take ++ later v take, rest v take, refl, omega (arith, take.start, take.length, take.fits), IsInnerRoom-rest v take unlinked (omega (arith, take.fits)))))
+    (search rules, (c.requires.parameters, ((ahead v take ++ later v take, rest v take, refl, omega (arith, take.start, take.length, take.fits), IsInnerRoom-rest v take unlinked (omega (arith, take.fits))), search rules)))
 
 pub returns-then-longer-clause-step : goal.returns-then-longer-clause-step
 returns-then-longer-clause-step g c = λ s f v take.

@@ -1,4 +1,4 @@
-use Rattle.std.proofs.Common.{◌+◌, ◌-◌, arith, refl}
+use Rattle.std.proofs.Common.{◌+◌, ◌-◌, arith, refl, rules}
 use Rattle.rlsf_machine.specs.Insert.{body}
 use Rattle.rlsf_machine.specs.State.{State}
 use Rattle.rlsf_table.proofs.Words.Writing.{wrote}
@@ -26,7 +26,7 @@ link-requires g c =
     let (s, v, new) = c.requires.fresh in
     let chunk = c.args.chunk in
     let writes = written g (goal.at.link-requires g c).After-set_word-4 v new in
-    (omega arith, (c.requires.parameters, (body chunk, s.free, refl, refl, IsRoom-body v chunk new writes)))
+    (search rules, (c.requires.parameters, ((body chunk, s.free, refl, refl, IsRoom-body v chunk new writes), search rules)))
 
 pub returns-clause-step : goal.returns-clause-step
 returns-clause-step g c = λ s v new.

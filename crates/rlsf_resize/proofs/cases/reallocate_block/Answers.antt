@@ -1,4 +1,4 @@
-use Rattle.std.proofs.Common.{Some, arith, ◌∙◌, sym}
+use Rattle.std.proofs.Common.{Some, arith, ◌∙◌, sym, rules}
 use Rattle.rlsf_resize.proofs.Reallocate.FirstPlan.{in_place-none, IsReallocated-counted_first, IsReallocated-elsewhere, IsReallocated-planned, plan-moves, plan-stays, StandsFor-unchanged}
 use Rattle.std.proofs.lemmas.Option.{none-some}
 use Rattle.rlsf_resize.proofs.Counting.{SamePlace-counted_first, copied-more, grow-counted_first, grow_copied-counted_first, grow_copied-same, touches-counted_first, touches-more}
@@ -17,7 +17,7 @@ move_into_previous-requires g c =
     let v1 = StandsFor-unchanged c.args.memory.now c.resize_block.new.memory c.args.table.now c.resize_block.new.table s 2 same v in
     let first = c.resize_block.ensures.refused s u v is c.if-resize_block.false in
     let none = in_place-none s u c.args.layout.size first in
-    (omega arith, (c.requires.parameters, (s, u, v1, is, none)))
+    (search rules, (c.requires.parameters, ((s, u, v1, is, none), search rules)))
 
 pub returns-in-Some-clause-step : goal.returns-in-Some-clause-step
 returns-in-Some-clause-step g c = λ s u v is.
@@ -46,7 +46,7 @@ move_elsewhere-requires g c =
     let none = in_place-none s u c.args.layout.size first in
     let same_still = c.in_default.ensures.unchanged in
     let v2 = StandsFor-unchanged c.resize_block.new.memory c.move_into_previous.new.memory c.resize_block.new.table c.move_into_previous.new.table s 4 same_still v1 in
-    (omega arith, (c.requires.parameters, (s, u, v2, is, none)))
+    (search rules, (c.requires.parameters, ((s, u, v2, is, none), search rules)))
 
 pub returns-clause-step : goal.returns-clause-step
 returns-clause-step g c = λ s u v is.

@@ -1,4 +1,4 @@
-use Rattle.std.proofs.Common.{◌≡◌, ◌+◌, ◌-◌, Option, Some, None, MatchOption, arith, refl, sym, ◌∙◌, ap, subst, inr, length, ℕ, ◌≤◌}
+use Rattle.std.proofs.Common.{◌≡◌, ◌+◌, ◌-◌, Option, Some, None, MatchOption, arith, refl, sym, ◌∙◌, ap, subst, inr, length, ℕ, ◌≤◌, rules}
 use mathlib.Core.Path.{ap₂}
 use Rattle.rlsf_base.specs.declared.memory.range.Range.{Range}
 use Rattle.rlsf_base.specs.Range.{range_at, LiesIn}
@@ -36,35 +36,35 @@ searched : (g : given.Over) (c : After-first_fit g) {s : State} → StandsFor g.
     → StandsFor g.row.FLLEN g.row.SLLEN (contents c.first_fit.new.memory c.args.table.now) s
 searched g c v =
     let counts = c.first_fit.ensures.counts in
-    StandsFor-counted c.load.new.self c.first_fit.new.memory counts.start counts.bytes (StandsFor-counted c.args.memory.now c.load.new.self c.load.ensures.start c.load.ensures.bytes v)
+    StandsFor-counted c.load_at.new.self c.first_fit.new.memory counts.start counts.bytes (StandsFor-counted c.args.memory.now c.load_at.new.self c.load_at.ensures.start c.load_at.ensures.bytes v)
 
 -- the block that was found is the choice for the layout
-found : (g : given.Over) (c : After-first_fit g) {s : State} → StandsFor g.row.FLLEN g.row.SLLEN (contents c.args.memory.now c.args.table.now) s → IsFreeTable g.row.FLLEN g.row.SLLEN c.load.new.self c.args.table.now s.free
-found g c v = IsFreeTable-counted c.args.memory.now c.load.new.self c.load.ensures.start c.load.ensures.bytes (IsFreeTable-free v)
+found : (g : given.Over) (c : After-first_fit g) {s : State} → StandsFor g.row.FLLEN g.row.SLLEN (contents c.args.memory.now c.args.table.now) s → IsFreeTable g.row.FLLEN g.row.SLLEN c.load_at.new.self c.args.table.now s.free
+found g c v = IsFreeTable-counted c.args.memory.now c.load_at.new.self c.load_at.ensures.start c.load_at.ensures.bytes (IsFreeTable-free v)
 
 -- it gives its front to a payload
 placing : (g : given.Over) (c : After-place-moved g) (s : State) (u : Used) → StandsFor g.row.FLLEN g.row.SLLEN (contents c.args.memory.now c.args.table.now) s → IsUsedAt s u c.args.block c.args.payload c.args.layout.align
     → (t : State) × Places g.row.SLLEN s c.args.layout.size u.align c.place-moved.result t × StandsFor g.row.FLLEN g.row.SLLEN (contents c.place-moved.new.memory c.place-moved.new.table) t × KeepsSpare c.args.memory.now s c.place-moved.new.memory t
 placing g c s u v is =
     let counts = c.first_fit.ensures.counts in
-    let before = c.load.ensures in
-    let (f, chosen, start, _) = c.in_ok-free.ensures.choice s.free (IsFreeTable-counted c.args.memory.now c.load.new.self before.start before.bytes (IsFreeTable-free v)) in
+    let before = c.load_at.ensures in
+    let (f, chosen, start, _) = c.in_ok-free.ensures.choice s.free (IsFreeTable-counted c.args.memory.now c.load_at.new.self before.start before.bytes (IsFreeTable-free v)) in
     let picked : choice g.row.SLLEN (request_size c.args.layout.size c.args.layout.align) s.free ≡ Some f = subst (λ n. choice g.row.SLLEN n s.free ≡ Some f) c.request_size.ensures.value chosen in
-    let (t, places, now, spare) = c.place-moved.ensures.step s f (StandsFor-counted c.load.new.self c.first_fit.new.memory counts.start counts.bytes (StandsFor-counted c.args.memory.now c.load.new.self before.start before.bytes v)) picked start in (
+    let (t, places, now, spare) = c.place-moved.ensures.step s f (StandsFor-counted c.load_at.new.self c.first_fit.new.memory counts.start counts.bytes (StandsFor-counted c.args.memory.now c.load_at.new.self before.start before.bytes v)) picked start in (
       t,
       subst (λ a. Places g.row.SLLEN s c.args.layout.size a c.place-moved.result t) (sym is.alignment) places,
       now,
-      KeepsSpare-counted_first c.args.memory.now c.load.new.self before.start before.bytes s t c.place-moved.new.memory
-          (KeepsSpare-counted_first c.load.new.self c.first_fit.new.memory counts.start counts.bytes s t c.place-moved.new.memory spare),
+      KeepsSpare-counted_first c.args.memory.now c.load_at.new.self before.start before.bytes s t c.place-moved.new.memory
+          (KeepsSpare-counted_first c.load_at.new.self c.first_fit.new.memory counts.start counts.bytes s t c.place-moved.new.memory spare),
     )
 
 -- what is copied is the old payload
 old_payload : (g : given.Over) (c : After-place-moved g) {s : State} (u : Used) → StandsFor g.row.FLLEN g.row.SLLEN (contents c.args.memory.now c.args.table.now) s → IsUsedAt s u c.args.block c.args.payload c.args.layout.align
-    → range_at c.args.payload (c.args.block + (c.load.result - 1) - c.args.payload) ≡ usable u
-old_payload g c u v is = ap₂ (λ from to. between from to) (sym is.caller) (sym (end_computed v u is.is_used is.start c.load.ensures.word))
+    → range_at c.args.payload (c.args.block + (c.load_at.result - 1) - c.args.payload) ≡ usable u
+old_payload g c u v is = ap₂ (λ from to. between from to) (sym is.caller) (sym (end_computed v u is.is_used is.start c.load_at.ensures.word))
 
-pub load-requires : goal.load-requires
-load-requires g c =
+pub load_at-requires-clause-place : goal.load_at-requires-clause-place
+load_at-requires-clause-place g c =
     let (s, u, v, is, short) = c.requires.used in
     let place = used_in_memory v.well_formed u is.is_used in
     (omega (arith, is.start, (v.well_formed.used u is.is_used).whole.start), (omega (arith, is.start, place.0), omega (arith, is.start, place.1)))
@@ -72,7 +72,7 @@ load-requires g c =
 pub first_fit-requires : goal.first_fit-requires
 first_fit-requires g c =
     let (s, u, v, is, short) = c.requires.used in
-    (omega arith, (c.requires.parameters, (c.request_size.ensures.size, (s.free, IsFreeTable-counted c.args.memory.now c.load.new.self c.load.ensures.start c.load.ensures.bytes (IsFreeTable-free v)))))
+    (omega arith, (c.requires.parameters, (c.request_size.ensures.size, (s.free, IsFreeTable-counted c.args.memory.now c.load_at.new.self c.load_at.ensures.start c.load_at.ensures.bytes (IsFreeTable-free v)))))
 
 pub returns-in_err-free-clause-step : goal.returns-in_err-free-clause-step
 returns-in_err-free-clause-step g c = λ s u v is short.
@@ -90,10 +90,10 @@ place-moved-requires g c =
     let (f, chosen, start, class) = c.in_ok-free.ensures.choice s.free list in
     let counts = c.first_fit.ensures.counts in
     let own = (choice-some g.row.SLLEN c.request_size.result s.free f chosen).is_in in
-    let size = word_at-counted c.load.new.self c.first_fit.new.memory counts.start counts.bytes c.in_ok-free.free ∙ ap (word_at c.load.new.self) (sym start) ∙ list.sizes f own in
+    let size = word_at-counted c.load_at.new.self c.first_fit.new.memory counts.start counts.bytes c.in_ok-free.free ∙ ap (word_at c.load_at.new.self) (sym start) ∙ list.sizes f own in
     let at_class = subst (λ n. IsClassAt g.row.FLLEN g.row.SLLEN n c.in_ok-free.class.0 c.in_ok-free.class.1) (sym size) class in
     let picked : choice g.row.SLLEN (request_size c.args.layout.size c.args.layout.align) s.free ≡ Some f = subst (λ n. choice g.row.SLLEN n s.free ≡ Some f) c.request_size.ensures.value chosen in
-    (omega arith, (c.requires.parameters, (at_class, (s, f, searched g at v, picked, start))))
+    (search rules, (c.requires.parameters, (at_class, ((s, f, searched g at v, picked, start), search rules))))
 
 pub copy_within-requires-clause-from : goal.copy_within-requires-clause-from
 copy_within-requires-clause-from g c =
@@ -117,7 +117,7 @@ deallocate_block-requires g c =
     let at = (goal.at.deallocate_block-requires g c).After-place-moved in
     let (t, places, now, spare) = placing g at s u v is in
     let (bytes, copied) = copied_stands v.well_formed u is.is_used c.args.layout.size short places now (old_payload g at u v is) c.copy_within.new.self c.copy_within.ensures.start c.copy_within.ensures.bytes in
-    (omega arith, (c.requires.parameters, (both v.well_formed u is.is_used c.args.layout.size short places now bytes, u, copied.stands, inr is.is_used, is.start)))
+    (search rules, (c.requires.parameters, ((both v.well_formed u is.is_used c.args.layout.size short places now bytes, u, copied.stands, inr is.is_used, is.start), search rules)))
 
 pub returns-clause-step : goal.returns-clause-step
 returns-clause-step g c = λ s u v is short.
@@ -131,13 +131,13 @@ returns-clause-step g c = λ s u v is short.
     let (stands, last) = c.deallocate_block.ensures.step meanwhile u copied.stands (inr i) is.start in
     let counts = c.first_fit.ensures.counts in
     let placed = c.place-moved.ensures.place in
-    let place : SamePlace c.args.memory.now c.place-moved.new.memory = (placed.0 ∙ counts.start ∙ c.load.ensures.start, placed.1 ∙ ap length counts.bytes ∙ ap length c.load.ensures.bytes) in
+    let place : SamePlace c.args.memory.now c.place-moved.new.memory = (placed.0 ∙ counts.start ∙ c.load_at.ensures.start, placed.1 ∙ ap length counts.bytes ∙ ap length c.load_at.ensures.bytes) in
     (released meanwhile u, MovesAway-copied w u i size short places now copied, stands, KeepsSpare-copied w u i size short places now copied c.args.memory.now c.deallocate_block.new.memory place spare last)
 
 -- ---- what the search counts, with the word that is read before it
 
 sought : (g : given.Over) (c : After-first_fit g) → Counts c.args.memory.now c.first_fit.new.memory 5
-sought g c = Counts-counted_first c.args.memory.now c.load.new.self c.first_fit.new.memory 1 4 (Counts-loaded c.args.memory.now c.load.new.self c.load.ensures.start c.load.ensures.bytes c.load.ensures.touches c.load.ensures.copied) c.first_fit.ensures.counts
+sought g c = Counts-counted_first c.args.memory.now c.load_at.new.self c.first_fit.new.memory 1 4 (Counts-loaded c.args.memory.now c.load_at.new.self c.load_at.ensures.start c.load_at.ensures.bytes c.load_at.ensures.touches c.load_at.ensures.copied c.load_at.ensures.view) c.first_fit.ensures.counts
 
 pub returns-in_err-free-clause-unchanged : goal.returns-in_err-free-clause-unchanged
 returns-in_err-free-clause-unchanged g c =

@@ -21,39 +21,39 @@ use Rattle.rlsf_table.specs.Counts.{Counts}
 use Rattle.rlsf_resize.proofs.Counting.{Counts-counted_first, Counts-loaded, SamePlace-counted, copied-more, grow-counted_first, grow_copied-same, touches-counted, touches-counted_first, touches-more}
 use Rattle.rlsf_resize.proofs.previous.move_into_previous.Given as given
 use Rattle.rlsf_resize.proofs.previous.move_into_previous.Goals as goal
-use Rattle.rlsf_resize.proofs.previous.move_into_previous.Goals.{After-load, After-take_if_free-next, In_ok-moved, After-place_before}
+use Rattle.rlsf_resize.proofs.previous.move_into_previous.Goals.{After-load_at, After-take_if_free-next, In_ok-moved, After-place_before}
 
-pub load-requires : goal.load-requires
-load-requires g c =
+pub load_at-requires-clause-place : goal.load_at-requires-clause-place
+load_at-requires-clause-place g c =
     let (s, u, v, used, short) = c.requires.used in
     let place = used_in_memory v.well_formed u used.is_used in
     (omega (arith, used.start, (v.well_formed.used u used.is_used).whole.start), (omega (arith, used.start, place.0), omega (arith, used.start, place.1)))
 
 -- where a used block ends, by the word that was read, and the state that stands in the memory then
-ends : (g : given.Over) (c : After-load g) {s : State} {u : Used} → StandsFor g.row.FLLEN g.row.SLLEN (contents c.args.memory.now c.args.table.now) s
-    → IsUsedAt s u c.args.block c.args.payload c.args.layout.align → end_of u.block ≡ c.args.block + (c.load.result - 1)
-ends g c {u = u} v used = end_computed v u used.is_used used.start c.load.ensures.word
+ends : (g : given.Over) (c : After-load_at g) {s : State} {u : Used} → StandsFor g.row.FLLEN g.row.SLLEN (contents c.args.memory.now c.args.table.now) s
+    → IsUsedAt s u c.args.block c.args.payload c.args.layout.align → end_of u.block ≡ c.args.block + (c.load_at.result - 1)
+ends g c {u = u} v used = end_computed v u used.is_used used.start c.load_at.ensures.word
 
-loaded : (g : given.Over) (c : After-load g) {s : State} → StandsFor g.row.FLLEN g.row.SLLEN (contents c.args.memory.now c.args.table.now) s
-    → StandsFor g.row.FLLEN g.row.SLLEN (contents c.load.new.self c.args.table.now) s
-loaded g c v = StandsFor-counted c.args.memory.now c.load.new.self c.load.ensures.start c.load.ensures.bytes v
+loaded : (g : given.Over) (c : After-load_at g) {s : State} → StandsFor g.row.FLLEN g.row.SLLEN (contents c.args.memory.now c.args.table.now) s
+    → StandsFor g.row.FLLEN g.row.SLLEN (contents c.load_at.new.self c.args.table.now) s
+loaded g c v = StandsFor-counted c.args.memory.now c.load_at.new.self c.load_at.ensures.start c.load_at.ensures.bytes v
 
 pub overflow_add-end : goal.overflow_add-end
 overflow_add-end g c =
     let (s, u, v, used, short) = c.requires.used in
     let at = goal.at.overflow_add-end g c in
-    record { fits = omega (arith, ends g at.After-load v used, used_in_memory v.well_formed u used.is_used, v.well_formed.addressable) }
+    record { fits = omega (arith, ends g at.After-load_at v used, used_in_memory v.well_formed u used.is_used, v.well_formed.addressable) }
 
-pub place_before-requires : goal.place_before-requires
-place_before-requires g c =
+pub place_before-requires-clause-used : goal.place_before-requires-clause-used
+place_before-requires-clause-used g c =
     let (s, u, v, used, short) = c.requires.used in
-    let at = goal.at.place_before-requires g c in
-    (g.row.FLLEN, g.row.SLLEN, c.args.table.now, s, u, loaded g at.After-load v, IsBlock-from used (ends g at.After-load v used))
+    let at = goal.at.place_before-requires-clause-used g c in
+    (g.row.FLLEN, g.row.SLLEN, c.args.table.now, s, u, loaded g at.After-load_at v, IsBlock-from used (ends g at.After-load_at v used))
 
 -- ---- what is counted
 
 sought : (g : given.Over) (c : After-place_before g) → Counts c.args.memory.now c.place_before.new.memory 4
-sought g c = Counts-counted_first c.args.memory.now c.load.new.self c.place_before.new.memory 1 3 (Counts-loaded c.args.memory.now c.load.new.self c.load.ensures.start c.load.ensures.bytes c.load.ensures.touches c.load.ensures.copied) c.place_before.ensures.counts
+sought g c = Counts-counted_first c.args.memory.now c.load_at.new.self c.place_before.new.memory 1 3 (Counts-loaded c.args.memory.now c.load_at.new.self c.load_at.ensures.start c.load_at.ensures.bytes c.load_at.ensures.touches c.load_at.ensures.copied c.load_at.ensures.view) c.place_before.ensures.counts
 
 touches_taken : (q a b y o : ℕ) → a ≤ q + 10 → b ≤ a + 9 → y ≡ b → o ≤ y + 13 → o ≤ q + 32
 touches_taken q a b y o previous next copied occupied = omega arith
@@ -87,8 +87,8 @@ returns-in_err-moved-clause-moved g c = λ s u v used short. none_some _ c.from_
 pub returns-in_err-moved-clause-refused : goal.returns-in_err-moved-clause-refused
 returns-in_err-moved-clause-refused g c = λ s u v used short.
     let at = goal.at.returns-in_err-moved-clause-refused g c in
-    let is = IsBlock-from used (ends g at.After-load v used) in
-    none_none {P = into_previous s u c.args.layout.size ≡ None} c.from_residual.result (c.in_err-moved.ensures.place g.row.FLLEN g.row.SLLEN c.args.table.now s u (loaded g at.After-load v) is)
+    let is = IsBlock-from used (ends g at.After-load_at v used) in
+    none_none {P = into_previous s u c.args.layout.size ≡ None} c.from_residual.result (c.in_err-moved.ensures.place g.row.FLLEN g.row.SLLEN c.args.table.now s u (loaded g at.After-load_at v) is)
 
 pub returns-in_err-moved-clause-unchanged : goal.returns-in_err-moved-clause-unchanged
 returns-in_err-moved-clause-unchanged g c =
@@ -124,13 +124,13 @@ stood : (g : given.Over) (c : In_ok-moved g) {s : State} → StandsFor g.row.FLL
     → StandsFor g.row.FLLEN g.row.SLLEN (contents c.place_before.new.memory c.args.table.now) s
 stood g c v =
     let counts = c.place_before.ensures.counts in
-    StandsFor-counted c.load.new.self c.place_before.new.memory counts.start counts.bytes (StandsFor-counted c.args.memory.now c.load.new.self c.load.ensures.start c.load.ensures.bytes v)
+    StandsFor-counted c.load_at.new.self c.place_before.new.memory counts.start counts.bytes (StandsFor-counted c.args.memory.now c.load_at.new.self c.load_at.ensures.start c.load_at.ensures.bytes v)
 
 pub take_previous-start-requires : goal.take_previous-start-requires
 take_previous-start-requires g c =
     let (s, u, v, used, short) = c.requires.used in
     let at = goal.at.take_previous-start-requires g c in
-    (search rules, (c.requires.parameters, (s, u, stood g at.In_ok-moved v, used.is_used, used.start)))
+    (search rules, (c.requires.parameters, ((s, u, stood g at.In_ok-moved v, used.is_used, used.start), search rules)))
 
 pub take_if_free-next-requires : goal.take_if_free-next-requires
 take_if_free-next-requires g c =
@@ -138,17 +138,17 @@ take_if_free-next-requires g c =
     let at = goal.at.take_if_free-next-requires g c in
     let v0 = stood g at.In_ok-moved v in
     let out = c.take_previous-start.ensures.step s u v0 used.is_used used.start in
-    (search rules, (c.requires.parameters, (without (ends_at c.args.block) s.free, out.list, IsMarked-behind v0 u used.is_used used.start out _ (ends g at.After-load v used))))
+    (search rules, (c.requires.parameters, ((without (ends_at c.args.block) s.free, out.list, IsMarked-behind v0 u used.is_used used.start out _ (ends g at.After-load_at v used)), search rules)))
 
 outs : (g : given.Over) (c : After-take_if_free-next g) {s : State} {u : Used} → StandsFor g.row.FLLEN g.row.SLLEN (contents c.args.memory.now c.args.table.now) s
     → IsUsedAt s u c.args.block c.args.payload c.args.layout.align → in_place s u c.args.layout.size ≡ None
-    → AreOut g.row.FLLEN g.row.SLLEN c.place_before.new.memory c.args.table.now s u c.args.block (c.args.block + (c.load.result - 1)) c.args.payload c.args.layout.align c.args.layout.size
+    → AreOut g.row.FLLEN g.row.SLLEN c.place_before.new.memory c.args.table.now s u c.args.block (c.args.block + (c.load_at.result - 1)) c.args.payload c.args.layout.align c.args.layout.size
     c.in_ok-moved.moved c.in_ok-moved.taken c.take_previous-start.new.memory c.take_if_free-next.new.memory c.take_previous-start.new.table c.take_if_free-next.new.table c.take_previous-start.result c.take_if_free-next.result
 outs g c {s} {u} v used short =
-    let read = StandsFor-counted c.args.memory.now c.load.new.self c.load.ensures.start c.load.ensures.bytes v in
+    let read = StandsFor-counted c.args.memory.now c.load_at.new.self c.load_at.ensures.start c.load_at.ensures.bytes v in
     let counts = c.place_before.ensures.counts in
-    let v0 = StandsFor-counted c.load.new.self c.place_before.new.memory counts.start counts.bytes read in
-    let end = end_computed v u used.is_used used.start c.load.ensures.word in
+    let v0 = StandsFor-counted c.load_at.new.self c.place_before.new.memory counts.start counts.bytes read in
+    let end = end_computed v u used.is_used used.start c.load_at.ensures.word in
     let out = c.take_previous-start.ensures.step s u v0 used.is_used used.start in
     record {
       stands = v0;
@@ -205,7 +205,7 @@ occupy-requires g c =
     let at = goal.at.occupy-requires g c in
     let are = outs g at.After-take_if_free-next v used short in
     let inner = room are c.copy_within.ensures.start c.copy_within.ensures.bytes in
-    (search rules, (c.requires.parameters, ((untouched u.block s.free, union u.block s.free, union_begins are, (total_is are).1, inner), part are)))
+    (search rules, (c.requires.parameters, ((untouched u.block s.free, union u.block s.free, union_begins are, (total_is are).1, inner), (part are, search rules))))
 
 pub overflow_sub-moved : goal.overflow_sub-moved
 overflow_sub-moved g c =
@@ -214,10 +214,10 @@ overflow_sub-moved g c =
     let are = outs g at.After-take_if_free-next v used short in
     omega (arith, sixteen-le are)
 
-pub set_word-requires : goal.set_word-requires
-set_word-requires g c =
+pub set_word_at-requires-clause-place : goal.set_word_at-requires-clause-place
+set_word_at-requires-clause-place g c =
     let (s, u, v, used, short) = c.requires.used in
-    let at = goal.at.set_word-requires g c in
+    let at = goal.at.set_word_at-requires-clause-place g c in
     let are = outs g at.After-take_if_free-next v used short in
     IsWord-pad are c.copy_within.ensures.start c.copy_within.ensures.bytes c.occupy.ensures.step (omega (arith, c.align-wide.ensures.value, c.if-wide.true))
 
@@ -226,12 +226,12 @@ returns-then-wide-clause-moved g c = λ s u v used short.
     let at = goal.at.returns-then-wide-clause-moved g c in
     let are = outs g at.After-take_if_free-next v used short in
     let wide : 32 ≤ c.args.layout.align = omega (arith, c.align-wide.ensures.value, c.if-wide.true) in
-    let written = wrote c.occupy.new.memory c.set_word.new.self (c.in_ok-moved.moved - 8) c.take_previous-start.result c.set_word.ensures.bytes (omega arith) (omega arith) in
-    let padded = Writes-some (32 ≤ c.args.layout.align) wide (IsWord-pad are c.copy_within.ensures.start c.copy_within.ensures.bytes c.occupy.ensures.step wide) (start-fits are) c.set_word.ensures.start written in
+    let written = wrote c.occupy.new.memory c.set_word_at.new.self (c.in_ok-moved.moved - 8) c.take_previous-start.result c.set_word_at.ensures.bytes (omega arith) (omega arith) in
+    let padded = Writes-some (32 ≤ c.args.layout.align) wide (IsWord-pad are c.copy_within.ensures.start c.copy_within.ensures.bytes c.occupy.ensures.step wide) (start-fits are) c.set_word_at.ensures.start written in
     let (p, is, to, (t, replans, stands, spare)) = moved_to are c.copy_within.ensures.start c.copy_within.ensures.bytes c.occupy.ensures.step padded in
     let counts = c.place_before.ensures.counts in
-    let later = KeepsSpare-counted_first c.load.new.self c.place_before.new.memory counts.start counts.bytes s t c.set_word.new.self spare in
-    (p, is, to, (t, replans, stands, KeepsSpare-counted_first c.args.memory.now c.load.new.self c.load.ensures.start c.load.ensures.bytes s t c.set_word.new.self later))
+    let later = KeepsSpare-counted_first c.load_at.new.self c.place_before.new.memory counts.start counts.bytes s t c.set_word_at.new.self spare in
+    (p, is, to, (t, replans, stands, KeepsSpare-counted_first c.args.memory.now c.load_at.new.self c.load_at.ensures.start c.load_at.ensures.bytes s t c.set_word_at.new.self later))
 
 pub returns-then-wide-clause-refused : goal.returns-then-wide-clause-refused
 returns-then-wide-clause-refused g c = λ s u v used short. tt
@@ -243,28 +243,28 @@ returns-then-wide-clause-place g c =
     let are = outs g at.After-take_if_free-next v used short in
     let same = SamePlace-occupied are c.copy_within.ensures.start c.copy_within.ensures.bytes c.occupy.ensures.step in
     let counts = c.place_before.ensures.counts in
-    (c.set_word.ensures.start ∙ same.0 ∙ counts.start ∙ c.load.ensures.start, c.set_word.ensures.len ∙ same.1 ∙ ap length (counts.bytes ∙ c.load.ensures.bytes))
+    (c.set_word_at.ensures.start ∙ same.0 ∙ counts.start ∙ c.load_at.ensures.start, c.set_word_at.ensures.len ∙ same.1 ∙ ap length (counts.bytes ∙ c.load_at.ensures.bytes))
 
 pub returns-then-wide-clause-touches : goal.returns-then-wide-clause-touches
 returns-then-wide-clause-touches g c =
     let counts = sought g (goal.at.returns-then-wide-clause-touches g c).After-place_before in
-    touches-counted_first c.args.memory.now c.place_before.new.memory 4 counts c.set_word.new.self 33 (touches_padded c.place_before.new.memory.touches c.occupy.new.memory.touches c.set_word.new.self.touches (touches_taken c.place_before.new.memory.touches c.take_previous-start.new.memory.touches c.take_if_free-next.new.memory.touches c.copy_within.new.self.touches c.occupy.new.memory.touches c.take_previous-start.ensures.touches c.take_if_free-next.ensures.touches c.copy_within.ensures.touches c.occupy.ensures.touches) c.set_word.ensures.touches)
+    touches-counted_first c.args.memory.now c.place_before.new.memory 4 counts c.set_word_at.new.self 33 (touches_padded c.place_before.new.memory.touches c.occupy.new.memory.touches c.set_word_at.new.self.touches (touches_taken c.place_before.new.memory.touches c.take_previous-start.new.memory.touches c.take_if_free-next.new.memory.touches c.copy_within.new.self.touches c.occupy.new.memory.touches c.take_previous-start.ensures.touches c.take_if_free-next.ensures.touches c.copy_within.ensures.touches c.occupy.ensures.touches) c.set_word_at.ensures.touches)
 
 pub returns-then-wide-clause-grow : goal.returns-then-wide-clause-grow
 returns-then-wide-clause-grow g c =
     let counts = sought g (goal.at.returns-then-wide-clause-grow g c).After-place_before in
-    grow-counted_first c.args.memory.now c.place_before.new.memory 4 counts c.set_word.new.self (grow_padded c.place_before.new.memory.touches c.occupy.new.memory.touches c.set_word.new.self.touches (grow_taken c.place_before.new.memory.touches c.take_previous-start.new.memory.touches c.take_if_free-next.new.memory.touches c.copy_within.new.self.touches c.occupy.new.memory.touches c.take_previous-start.ensures.grow c.take_if_free-next.ensures.grow c.copy_within.ensures.touches c.occupy.ensures.grow) c.set_word.ensures.touches)
+    grow-counted_first c.args.memory.now c.place_before.new.memory 4 counts c.set_word_at.new.self (grow_padded c.place_before.new.memory.touches c.occupy.new.memory.touches c.set_word_at.new.self.touches (grow_taken c.place_before.new.memory.touches c.take_previous-start.new.memory.touches c.take_if_free-next.new.memory.touches c.copy_within.new.self.touches c.occupy.new.memory.touches c.take_previous-start.ensures.grow c.take_if_free-next.ensures.grow c.copy_within.ensures.touches c.occupy.ensures.grow) c.set_word_at.ensures.touches)
 
 pub returns-then-wide-clause-grow_copied : goal.returns-then-wide-clause-grow_copied
 returns-then-wide-clause-grow_copied g c =
     let counts = sought g (goal.at.returns-then-wide-clause-grow_copied g c).After-place_before in
-    copied_taken c.args.memory.now.copied c.place_before.new.memory.copied c.set_word.new.self.copied (c.args.block + (c.load.result - 1) - c.args.payload) counts.copied (copied_padded c.place_before.new.memory.copied c.occupy.new.memory.copied c.set_word.new.self.copied (c.args.block + (c.load.result - 1) - c.args.payload) (copied_moved c.place_before.new.memory.copied c.take_previous-start.new.memory.copied c.take_if_free-next.new.memory.copied c.copy_within.new.self.copied c.occupy.new.memory.copied (c.args.block + (c.load.result - 1) - c.args.payload) c.take_previous-start.ensures.copied c.take_if_free-next.ensures.copied c.copy_within.ensures.copied c.occupy.ensures.copied) c.set_word.ensures.copied)
+    copied_taken c.args.memory.now.copied c.place_before.new.memory.copied c.set_word_at.new.self.copied (c.args.block + (c.load_at.result - 1) - c.args.payload) counts.copied (copied_padded c.place_before.new.memory.copied c.occupy.new.memory.copied c.set_word_at.new.self.copied (c.args.block + (c.load_at.result - 1) - c.args.payload) (copied_moved c.place_before.new.memory.copied c.take_previous-start.new.memory.copied c.take_if_free-next.new.memory.copied c.copy_within.new.self.copied c.occupy.new.memory.copied (c.args.block + (c.load_at.result - 1) - c.args.payload) c.take_previous-start.ensures.copied c.take_if_free-next.ensures.copied c.copy_within.ensures.copied c.occupy.ensures.copied) c.set_word_at.ensures.copied)
 
 pub returns-then-wide-clause-copied : goal.returns-then-wide-clause-copied
 returns-then-wide-clause-copied g c = λ s u v used.
     let at = goal.at.returns-then-wide-clause-copied g c in
-    let long = ap (λ (r : Range). r.len) (ap₂ (λ from to. between from to) (sym used.caller) (sym (ends g at.After-load v used))) in
-    copied_long c.args.memory.now.copied c.place_before.new.memory.copied c.set_word.new.self.copied (c.args.block + (c.load.result - 1) - c.args.payload) (usable u).len (sought g at.After-place_before).copied (copied_padded c.place_before.new.memory.copied c.occupy.new.memory.copied c.set_word.new.self.copied (c.args.block + (c.load.result - 1) - c.args.payload) (copied_moved c.place_before.new.memory.copied c.take_previous-start.new.memory.copied c.take_if_free-next.new.memory.copied c.copy_within.new.self.copied c.occupy.new.memory.copied (c.args.block + (c.load.result - 1) - c.args.payload) c.take_previous-start.ensures.copied c.take_if_free-next.ensures.copied c.copy_within.ensures.copied c.occupy.ensures.copied) c.set_word.ensures.copied) long
+    let long = ap (λ (r : Range). r.len) (ap₂ (λ from to. between from to) (sym used.caller) (sym (ends g at.After-load_at v used))) in
+    copied_long c.args.memory.now.copied c.place_before.new.memory.copied c.set_word_at.new.self.copied (c.args.block + (c.load_at.result - 1) - c.args.payload) (usable u).len (sought g at.After-place_before).copied (copied_padded c.place_before.new.memory.copied c.occupy.new.memory.copied c.set_word_at.new.self.copied (c.args.block + (c.load_at.result - 1) - c.args.payload) (copied_moved c.place_before.new.memory.copied c.take_previous-start.new.memory.copied c.take_if_free-next.new.memory.copied c.copy_within.new.self.copied c.occupy.new.memory.copied (c.args.block + (c.load_at.result - 1) - c.args.payload) c.take_previous-start.ensures.copied c.take_if_free-next.ensures.copied c.copy_within.ensures.copied c.occupy.ensures.copied) c.set_word_at.ensures.copied) long
 
 pub returns-else-wide-clause-moved : goal.returns-else-wide-clause-moved
 returns-else-wide-clause-moved g c = λ s u v used short.
@@ -274,8 +274,8 @@ returns-else-wide-clause-moved g c = λ s u v used short.
     let padded = Writes-none c.occupy.new.memory c.occupy.new.memory (32 ≤ c.args.layout.align) (c.in_ok-moved.moved - 8) c.take_previous-start.result refl narrow in
     let (p, is, to, (t, replans, stands, spare)) = moved_to are c.copy_within.ensures.start c.copy_within.ensures.bytes c.occupy.ensures.step padded in
     let counts = c.place_before.ensures.counts in
-    let later = KeepsSpare-counted_first c.load.new.self c.place_before.new.memory counts.start counts.bytes s t c.occupy.new.memory spare in
-    (p, is, to, (t, replans, stands, KeepsSpare-counted_first c.args.memory.now c.load.new.self c.load.ensures.start c.load.ensures.bytes s t c.occupy.new.memory later))
+    let later = KeepsSpare-counted_first c.load_at.new.self c.place_before.new.memory counts.start counts.bytes s t c.occupy.new.memory spare in
+    (p, is, to, (t, replans, stands, KeepsSpare-counted_first c.args.memory.now c.load_at.new.self c.load_at.ensures.start c.load_at.ensures.bytes s t c.occupy.new.memory later))
 
 pub returns-else-wide-clause-refused : goal.returns-else-wide-clause-refused
 returns-else-wide-clause-refused g c = λ s u v used short. tt
@@ -287,7 +287,7 @@ returns-else-wide-clause-place g c =
     let are = outs g at.After-take_if_free-next v used short in
     let same = SamePlace-occupied are c.copy_within.ensures.start c.copy_within.ensures.bytes c.occupy.ensures.step in
     let counts = c.place_before.ensures.counts in
-    (same.0 ∙ counts.start ∙ c.load.ensures.start, same.1 ∙ ap length (counts.bytes ∙ c.load.ensures.bytes))
+    (same.0 ∙ counts.start ∙ c.load_at.ensures.start, same.1 ∙ ap length (counts.bytes ∙ c.load_at.ensures.bytes))
 
 pub returns-else-wide-clause-touches : goal.returns-else-wide-clause-touches
 returns-else-wide-clause-touches g c =
@@ -302,10 +302,10 @@ returns-else-wide-clause-grow g c =
 pub returns-else-wide-clause-grow_copied : goal.returns-else-wide-clause-grow_copied
 returns-else-wide-clause-grow_copied g c =
     let counts = sought g (goal.at.returns-else-wide-clause-grow_copied g c).After-place_before in
-    copied_taken c.args.memory.now.copied c.place_before.new.memory.copied c.occupy.new.memory.copied (c.args.block + (c.load.result - 1) - c.args.payload) counts.copied (copied_moved c.place_before.new.memory.copied c.take_previous-start.new.memory.copied c.take_if_free-next.new.memory.copied c.copy_within.new.self.copied c.occupy.new.memory.copied (c.args.block + (c.load.result - 1) - c.args.payload) c.take_previous-start.ensures.copied c.take_if_free-next.ensures.copied c.copy_within.ensures.copied c.occupy.ensures.copied)
+    copied_taken c.args.memory.now.copied c.place_before.new.memory.copied c.occupy.new.memory.copied (c.args.block + (c.load_at.result - 1) - c.args.payload) counts.copied (copied_moved c.place_before.new.memory.copied c.take_previous-start.new.memory.copied c.take_if_free-next.new.memory.copied c.copy_within.new.self.copied c.occupy.new.memory.copied (c.args.block + (c.load_at.result - 1) - c.args.payload) c.take_previous-start.ensures.copied c.take_if_free-next.ensures.copied c.copy_within.ensures.copied c.occupy.ensures.copied)
 
 pub returns-else-wide-clause-copied : goal.returns-else-wide-clause-copied
 returns-else-wide-clause-copied g c = λ s u v used.
     let at = goal.at.returns-else-wide-clause-copied g c in
-    let long = ap (λ (r : Range). r.len) (ap₂ (λ from to. between from to) (sym used.caller) (sym (ends g at.After-load v used))) in
-    copied_long c.args.memory.now.copied c.place_before.new.memory.copied c.occupy.new.memory.copied (c.args.block + (c.load.result - 1) - c.args.payload) (usable u).len (sought g at.After-place_before).copied (copied_moved c.place_before.new.memory.copied c.take_previous-start.new.memory.copied c.take_if_free-next.new.memory.copied c.copy_within.new.self.copied c.occupy.new.memory.copied (c.args.block + (c.load.result - 1) - c.args.payload) c.take_previous-start.ensures.copied c.take_if_free-next.ensures.copied c.copy_within.ensures.copied c.occupy.ensures.copied) long
+    let long = ap (λ (r : Range). r.len) (ap₂ (λ from to. between from to) (sym used.caller) (sym (ends g at.After-load_at v used))) in
+    copied_long c.args.memory.now.copied c.place_before.new.memory.copied c.occupy.new.memory.copied (c.args.block + (c.load_at.result - 1) - c.args.payload) (usable u).len (sought g at.After-place_before).copied (copied_moved c.place_before.new.memory.copied c.take_previous-start.new.memory.copied c.take_if_free-next.new.memory.copied c.copy_within.new.self.copied c.occupy.new.memory.copied (c.args.block + (c.load_at.result - 1) - c.args.payload) c.take_previous-start.ensures.copied c.take_if_free-next.ensures.copied c.copy_within.ensures.copied c.occupy.ensures.copied) long

@@ -11,32 +11,32 @@ returns-then-start-block-clause-place c = λ fllen sllen t s u v is.
 
 pub overflow_add-start : goal.overflow_add-start
 overflow_add-start c =
-    let (fllen, sllen, t, s, u, v, is) = c.requires in
+    let (fllen, sllen, t, s, u, v, is) = c.requires.used in
     let begins = c.start_before-start.ensures.start fllen sllen t s u v is.is_used is.start in
     record { fits = omega (arith, previous-le v.well_formed u is begins, block-le v.well_formed u is begins, end-in_memory v.well_formed u is begins, v.well_formed.addressable) }
 
 pub align_up-payload-requires : goal.align_up-payload-requires
 align_up-payload-requires c =
-    let (fllen, sllen, t, s, u, v, is) = c.requires in
+    let (fllen, sllen, t, s, u, v, is) = c.requires.used in
     let begins = c.start_before-start.ensures.start fllen sllen t s u v is.is_used is.start in
     record { fits = omega (arith, payload-le v.well_formed u is begins, end-in_memory v.well_formed u is begins, v.well_formed.addressable) }
 
 pub overflow_sub-room : goal.overflow_sub-room
 overflow_sub-room c =
-    let (fllen, sllen, t, s, u, v, is) = c.requires in
+    let (fllen, sllen, t, s, u, v, is) = c.requires.used in
     let begins = c.start_before-start.ensures.start fllen sllen t s u v is.is_used is.start in
     omega (arith, previous-le v.well_formed u is begins, block-le v.well_formed u is begins)
 
-pub free_length-requires : goal.free_length-requires
-free_length-requires c =
-    let (fllen, sllen, t, s, u, v, is) = c.requires in
+pub free_length-requires-clause-marked : goal.free_length-requires-clause-marked
+free_length-requires-clause-marked c =
+    let (fllen, sllen, t, s, u, v, is) = c.requires.used in
     let counts = c.start_before-start.ensures.counts in
     let v0 = StandsFor-counted c.args.memory.now c.start_before-start.new.memory counts.start counts.bytes v in
     (fllen, sllen, t, s.free, IsFreeTable-free v0, IsMarked-end v0 u is.is_used c.args.end is.end_is)
 
 pub overflow_add-room : goal.overflow_add-room
 overflow_add-room c =
-    let (fllen, sllen, t, s, u, v, is) = c.requires in
+    let (fllen, sllen, t, s, u, v, is) = c.requires.used in
     let begins = c.start_before-start.ensures.start fllen sllen t s u v is.is_used is.start in
     let counts = c.start_before-start.ensures.counts in
     let v0 = StandsFor-counted c.args.memory.now c.start_before-start.new.memory counts.start counts.bytes v in

@@ -18,8 +18,8 @@ use Rattle.rlsf_resize.proofs.resize.resize_block.Given as given
 use Rattle.rlsf_resize.proofs.resize.resize_block.Goals as goal
 use Rattle.rlsf_resize.proofs.resize.resize_block.Goals.{After-next_multiple_of_32-taken, After-free_length, After-take_if_free-next}
 
-pub load-requires : goal.load-requires
-load-requires g c = let (s, u, v, at) = c.requires.used in IsWord-size v u at
+pub load_at-requires-clause-place : goal.load_at-requires-clause-place
+load_at-requires-clause-place g c = let (s, u, v, at) = c.requires.used in IsWord-size v u at
 
 -- the length that the block gets
 taken_is : (g : given.Over) (c : After-next_multiple_of_32-taken g) {s : State} (v : StandsFor g.row.FLLEN g.row.SLLEN (contents c.args.memory.now c.args.table.now) s) (u : Used)
@@ -30,31 +30,31 @@ pub returns-then-taken-len-clause-done : goal.returns-then-taken-len-clause-done
 returns-then-taken-len-clause-done g c = λ s u v at yes.
     let size = c.args.layout.size in
     let taken = taken_is g (goal.at.returns-then-taken-len-clause-done g c).After-next_multiple_of_32-taken v u at in
-    let same : end_of (resized u size) ≡ end_of u.block = omega (arith, taken, at.start, end_is v u at c.load.ensures.word, c.if-taken-len.true) in
-    (kept_whole s u size, or_else-kept s u size v.well_formed at.is_used same, at.caller, IsCarriedOut-kept v u at.is_used size c.load.ensures.start c.load.ensures.bytes same)
+    let same : end_of (resized u size) ≡ end_of u.block = omega (arith, taken, at.start, end_is v u at c.load_at.ensures.word, c.if-taken-len.true) in
+    (kept_whole s u size, or_else-kept s u size v.well_formed at.is_used same, at.caller, IsCarriedOut-kept v u at.is_used size c.load_at.ensures.start c.load_at.ensures.bytes same)
 
-pub free_length-requires : goal.free_length-requires
-free_length-requires g c =
+pub free_length-requires-clause-marked : goal.free_length-requires-clause-marked
+free_length-requires-clause-marked g c =
     let (s, u, v, at) = c.requires.used in
-    let start = c.load.ensures.start in
-    let bytes = c.load.ensures.bytes in
-    (g.row.FLLEN, g.row.SLLEN, c.args.table.now, s.free, IsFreeTable-counted c.args.memory.now c.load.new.self start bytes (IsFreeTable-free v), IsMarked-loaded_end v u at c.load.ensures.word start bytes)
+    let start = c.load_at.ensures.start in
+    let bytes = c.load_at.ensures.bytes in
+    (g.row.FLLEN, g.row.SLLEN, c.args.table.now, s.free, IsFreeTable-counted c.args.memory.now c.load_at.new.self start bytes (IsFreeTable-free v), IsMarked-loaded_end v u at c.load_at.ensures.word start bytes)
 
 -- where a free block behind it ends, or the block itself
 reached : (g : given.Over) (c : After-free_length g) {s : State} (v : StandsFor g.row.FLLEN g.row.SLLEN (contents c.args.memory.now c.args.table.now) s) (u : Used)
     → IsUsedAt s u c.args.block c.args.payload c.args.layout.align → end_of u.block + c.free_length.result ≡ reach s u
 reached g c {s} v u at =
-    let start = c.load.ensures.start in
-    let bytes = c.load.ensures.bytes in
-    let list = IsFreeTable-counted c.args.memory.now c.load.new.self start bytes (IsFreeTable-free v) in
-    reach_is v u at c.load.ensures.word c.free_length.result
-    (c.free_length.ensures.length g.row.FLLEN g.row.SLLEN c.args.table.now s.free list (IsMarked-loaded_end v u at c.load.ensures.word start bytes))
+    let start = c.load_at.ensures.start in
+    let bytes = c.load_at.ensures.bytes in
+    let list = IsFreeTable-counted c.args.memory.now c.load_at.new.self start bytes (IsFreeTable-free v) in
+    reach_is v u at c.load_at.ensures.word c.free_length.result
+    (c.free_length.ensures.length g.row.FLLEN g.row.SLLEN c.args.table.now s.free list (IsMarked-loaded_end v u at c.load_at.ensures.word start bytes))
 
 pub overflow_add-len : goal.overflow_add-len
 overflow_add-len g c =
     let (s, u, v, at) = c.requires.used in
     let ends = reached g (goal.at.overflow_add-len g c).After-free_length v u at in
-    record { fits = omega (arith, ends, end_is v u at c.load.ensures.word, span_in_memory v u at.is_used, v.well_formed.addressable) }
+    record { fits = omega (arith, ends, end_is v u at c.load_at.ensures.word, span_in_memory v u at.is_used, v.well_formed.addressable) }
 
 pub returns-then-taken-len-2-clause-refused : goal.returns-then-taken-len-2-clause-refused
 returns-then-taken-len-2-clause-refused g c = λ s u v at no.
@@ -62,23 +62,23 @@ returns-then-taken-len-2-clause-refused g c = λ s u v at no.
     let here = goal.at.returns-then-taken-len-2-clause-refused g c in
     let taken = taken_is g here.After-next_multiple_of_32-taken v u at in
     let ends = reached g here.After-free_length v u at in
-    let end = end_is v u at c.load.ensures.word in
+    let end = end_is v u at c.load_at.ensures.word in
     let start = at.start in
     no_plan s u size (omega (arith, c.if-taken-len-2.true)) (omega (arith, c.if-taken-len-2.true))
 
 -- the free block behind it, once two words were read
 marked : (g : given.Over) (c : After-free_length g) {s : State} (v : StandsFor g.row.FLLEN g.row.SLLEN (contents c.args.memory.now c.args.table.now) s) (u : Used)
-    → IsUsedAt s u c.args.block c.args.payload c.args.layout.align → IsMarked c.free_length.new.memory s.free (c.args.block + (c.load.result - 1))
+    → IsUsedAt s u c.args.block c.args.payload c.args.layout.align → IsMarked c.free_length.new.memory s.free (c.args.block + (c.load_at.result - 1))
 marked g c v u at =
     let counts = c.free_length.ensures.counts in
-    IsMarked-loaded_end v u at c.load.ensures.word (counts.start ∙ c.load.ensures.start) (counts.bytes ∙ c.load.ensures.bytes)
+    IsMarked-loaded_end v u at c.load_at.ensures.word (counts.start ∙ c.load_at.ensures.start) (counts.bytes ∙ c.load_at.ensures.bytes)
 
 pub take_if_free-next-requires : goal.take_if_free-next-requires
 take_if_free-next-requires g c =
     let (s, u, v, at) = c.requires.used in
     let counts = c.free_length.ensures.counts in
-    let list = IsFreeTable-counted c.args.memory.now c.free_length.new.memory (counts.start ∙ c.load.ensures.start) (counts.bytes ∙ c.load.ensures.bytes) (IsFreeTable-free v) in
-    (search rules, (c.requires.parameters, (s.free, list, marked g (goal.at.take_if_free-next-requires g c).After-free_length v u at)))
+    let list = IsFreeTable-counted c.args.memory.now c.free_length.new.memory (counts.start ∙ c.load_at.ensures.start) (counts.bytes ∙ c.load_at.ensures.bytes) (IsFreeTable-free v) in
+    (search rules, (c.requires.parameters, ((s.free, list, marked g (goal.at.take_if_free-next-requires g c).After-free_length v u at), search rules)))
 
 -- and once it was taken out
 out : (g : given.Over) (c : After-take_if_free-next g) {s : State} (v : StandsFor g.row.FLLEN g.row.SLLEN (contents c.args.memory.now c.args.table.now) s) (u : Used)
@@ -86,16 +86,16 @@ out : (g : given.Over) (c : After-take_if_free-next g) {s : State} (v : StandsFo
     → IsOut g.row.FLLEN g.row.SLLEN c.args.memory.now c.take_if_free-next.new.memory c.take_if_free-next.new.table s.free (end_of u.block) c.take_if_free-next.result
 out g c {s} v u at =
     let counts = c.free_length.ensures.counts in
-    let start = counts.start ∙ c.load.ensures.start in
-    let bytes = counts.bytes ∙ c.load.ensures.bytes in
+    let start = counts.start ∙ c.load_at.ensures.start in
+    let bytes = counts.bytes ∙ c.load_at.ensures.bytes in
     let list = IsFreeTable-counted c.args.memory.now c.free_length.new.memory start bytes (IsFreeTable-free v) in
-    IsOut-end v u at c.load.ensures.word start bytes (c.take_if_free-next.ensures.step s.free list (IsMarked-loaded_end v u at c.load.ensures.word start bytes))
+    IsOut-end v u at c.load_at.ensures.word start bytes (c.take_if_free-next.ensures.step s.free list (IsMarked-loaded_end v u at c.load_at.ensures.word start bytes))
 
 pub overflow_add-len-2 : goal.overflow_add-len-2
 overflow_add-len-2 g c =
     let (s, u, v, at) = c.requires.used in
     let gone = out g (goal.at.overflow_add-len-2 g c).After-take_if_free-next v u at in
-    record { fits = omega (arith, gone.end, end_is v u at c.load.ensures.word, span_in_memory v u at.is_used, v.well_formed.addressable) }
+    record { fits = omega (arith, gone.end, end_is v u at c.load_at.ensures.word, span_in_memory v u at.is_used, v.well_formed.addressable) }
 
 pub occupy-requires : goal.occupy-requires
 occupy-requires g c =
@@ -105,14 +105,14 @@ occupy-requires g c =
     let gone = out g here.After-take_if_free-next v u at in
     let taken = taken_is g here.After-next_multiple_of_32-taken v u at in
     let ends = reached g here.After-free_length v u at in
-    let end = end_is v u at c.load.ensures.word in
+    let end = end_is v u at c.load_at.ensures.word in
     let parts = IsTaken-len v u at size in
     let start = at.start in
-    let long : (span_of s u).len ≡ c.load.result - 1 + c.take_if_free-next.result = omega (arith, span_len v u at.is_used gone) in
+    let long : (span_of s u).len ≡ c.load_at.result - 1 + c.take_if_free-next.result = omega (arith, span_len v u at.is_used gone) in
     let inner = IsInnerRoom-span v u at.is_used gone in
     let whole : c.next_multiple_of_32-taken.result % 32 ≡ 0 = omega (arith, parts.0) in
     let some : 0 < c.next_multiple_of_32-taken.result = omega (arith, parts.1) in
-    (search rules, (c.requires.parameters, ((staying s u, span_of s u, at.start, long, inner), (whole, some, omega (arith, gone.end, c.if-taken-len-2.false)))))
+    (search rules, (c.requires.parameters, ((staying s u, span_of s u, at.start, long, inner), ((whole, some, omega (arith, gone.end, c.if-taken-len-2.false)), search rules))))
 
 pub returns-clause-done : goal.returns-clause-done
 returns-clause-done g c = λ s u v at yes.
@@ -121,7 +121,7 @@ returns-clause-done g c = λ s u v at yes.
     let gone = out g here.After-take_if_free-next v u at in
     let taken = taken_is g here.After-next_multiple_of_32-taken v u at in
     let ends = reached g here.After-free_length v u at in
-    let end = end_is v u at c.load.ensures.word in
+    let end = end_is v u at c.load_at.ensures.word in
     let start = at.start in
     let words = c.occupy.ensures.step (staying s u) (span_of s u) at.start (omega (arith, span_len v u at.is_used gone)) (IsInnerRoom-span v u at.is_used gone) in
     let front : range_at c.args.block c.next_multiple_of_32-taken.result ≡ resized u size = ap₂ (λ b l. range_at b l) (sym at.start) taken in
@@ -134,7 +134,7 @@ pub returns-clause-place : goal.returns-clause-place
 returns-clause-place g c =
     let (s, u, v, at) = c.requires.used in
     let gone = out g (goal.at.returns-clause-place g c).After-take_if_free-next v u at in
-    let end = end_is v u at c.load.ensures.word in
+    let end = end_is v u at c.load_at.ensures.word in
     let start = at.start in
     let words = c.occupy.ensures.step (staying s u) (span_of s u) at.start (omega (arith, span_len v u at.is_used gone)) (IsInnerRoom-span v u at.is_used gone) in
     (words.rewrites.start ∙ gone.rewrites.start, words.rewrites.length ∙ gone.rewrites.length)
@@ -148,20 +148,20 @@ pub returns-then-taken-len-clause-unchanged : goal.returns-then-taken-len-clause
 returns-then-taken-len-clause-unchanged g c = λ no. absurd (true≢false no)
 
 pub returns-then-taken-len-clause-place : goal.returns-then-taken-len-clause-place
-returns-then-taken-len-clause-place g c = SamePlace-counted c.args.memory.now c.load.new.self 1 (Counts-loaded c.args.memory.now c.load.new.self c.load.ensures.start c.load.ensures.bytes c.load.ensures.touches c.load.ensures.copied)
+returns-then-taken-len-clause-place g c = SamePlace-counted c.args.memory.now c.load_at.new.self 1 (Counts-loaded c.args.memory.now c.load_at.new.self c.load_at.ensures.start c.load_at.ensures.bytes c.load_at.ensures.touches c.load_at.ensures.copied c.load_at.ensures.view)
 
 pub returns-then-taken-len-clause-touches : goal.returns-then-taken-len-clause-touches
-returns-then-taken-len-clause-touches g c = touches-counted c.args.memory.now c.load.new.self 1 (Counts-loaded c.args.memory.now c.load.new.self c.load.ensures.start c.load.ensures.bytes c.load.ensures.touches c.load.ensures.copied) 23
+returns-then-taken-len-clause-touches g c = touches-counted c.args.memory.now c.load_at.new.self 1 (Counts-loaded c.args.memory.now c.load_at.new.self c.load_at.ensures.start c.load_at.ensures.bytes c.load_at.ensures.touches c.load_at.ensures.copied c.load_at.ensures.view) 23
 
 pub returns-then-taken-len-clause-grow : goal.returns-then-taken-len-clause-grow
-returns-then-taken-len-clause-grow g c = (Counts-loaded c.args.memory.now c.load.new.self c.load.ensures.start c.load.ensures.bytes c.load.ensures.touches c.load.ensures.copied).grow
+returns-then-taken-len-clause-grow g c = (Counts-loaded c.args.memory.now c.load_at.new.self c.load_at.ensures.start c.load_at.ensures.bytes c.load_at.ensures.touches c.load_at.ensures.copied c.load_at.ensures.view).grow
 
 pub returns-then-taken-len-clause-copied : goal.returns-then-taken-len-clause-copied
-returns-then-taken-len-clause-copied g c = c.load.ensures.copied
+returns-then-taken-len-clause-copied g c = c.load_at.ensures.copied
 
 -- two words were read
 read : (g : given.Over) (c : After-free_length g) → Counts c.args.memory.now c.free_length.new.memory 2
-read g c = Counts-counted_first c.args.memory.now c.load.new.self c.free_length.new.memory 1 1 (Counts-loaded c.args.memory.now c.load.new.self c.load.ensures.start c.load.ensures.bytes c.load.ensures.touches c.load.ensures.copied) c.free_length.ensures.counts
+read g c = Counts-counted_first c.args.memory.now c.load_at.new.self c.free_length.new.memory 1 1 (Counts-loaded c.args.memory.now c.load_at.new.self c.load_at.ensures.start c.load_at.ensures.bytes c.load_at.ensures.touches c.load_at.ensures.copied c.load_at.ensures.view) c.free_length.ensures.counts
 
 pub returns-then-taken-len-2-clause-done : goal.returns-then-taken-len-2-clause-done
 returns-then-taken-len-2-clause-done g c = λ s u v at yes. absurd (true≢false (sym yes))

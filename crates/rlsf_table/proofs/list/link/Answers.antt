@@ -12,8 +12,8 @@ head-newest-requires g c =
     let at = IsClassAt-told c.requires.parameters room.block c.args.len c.in-Some.fl c.in-Some.sl len c.in-Some.ensures in
     (search rules, (at.row, at.place))
 
-pub link_front-requires : goal.link_front-requires
-link_front-requires g c =
+pub link_front-requires-clause-place : goal.link_front-requires-clause-place
+link_front-requires-clause-place g c =
     let fl = c.in-Some.fl in
     let sl = c.in-Some.sl in
     let (r, free, place, len, room) = c.requires.room in

@@ -10,8 +10,8 @@ use Rattle.rlsf_table.proofs.FreeLists.Counted.{HasTable-counted, Rewrites-count
 use Rattle.rlsf_table.proofs.FreeLists.Indices.{IsClassAt-told, indices_of, IsSize-free}
 use Rattle.rlsf_table.proofs.list.unlink.Goals as goal
 
-pub unlink_between-newest-requires : goal.unlink_between-newest-requires
-unlink_between-newest-requires g c =
+pub unlink_between-newest-requires-clause-listed : goal.unlink_between-newest-requires-clause-listed
+unlink_between-newest-requires-clause-listed g c =
     let sllen = g.row.SLLEN in
     let (r, free, place, len, i, list) = c.requires.listed in
     let (fl, sl, at) = indices_of c.requires.parameters (list.blocks r i) in

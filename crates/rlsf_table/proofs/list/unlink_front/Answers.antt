@@ -10,10 +10,10 @@ use Rattle.rlsf_table.proofs.Words.Writes.{fits_at, IsWord-at, Writes, Writes-so
 use Rattle.rlsf_table.proofs.list.unlink_front.Goals as goal
 
 pub overflow_add-block : goal.overflow_add-block
-overflow_add-block c = record { fits = fits_at 16 (omega arith) refl c.requires.3 (c.requires.4.placed c.requires.0 (inl refl)) c.requires.4.addressable }
+overflow_add-block c = record { fits = fits_at 16 (omega arith) refl c.requires.front.3 (c.requires.front.4.placed c.requires.front.0 (inl refl)) c.requires.front.4.addressable }
 
-pub load-next-requires : goal.load-next-requires
-load-next-requires c = IsWord-at 16 (omega arith) refl c.requires.3 (c.requires.4.placed c.requires.0 (inl refl)) c.args.memory.now refl refl
+pub load_at-next-requires-clause-place : goal.load_at-next-requires-clause-place
+load_at-next-requires-clause-place c = IsWord-at 16 (omega arith) refl c.requires.front.3 (c.requires.front.4.placed c.requires.front.0 (inl refl)) c.args.memory.now refl refl
 
 -- the block whose link is written is placed
 there : {m : Space} {newest next block at : ℕ} (r : Range) (after : List Range) → r.start ≡ block → IsFreeList m newest (r ∷ after) → next ≡ word_at m (block + 16) → IsFirstOrOwn next block at
@@ -23,29 +23,29 @@ there {m} {newest} {next} {at = at} r after place list is own =
 
 pub overflow_add-first_or_own : goal.overflow_add-first_or_own
 overflow_add-first_or_own c =
-    let found = there c.requires.0 c.requires.1 c.requires.3 c.requires.4 c.load-next.ensures.word c.first_or_own.ensures in
-    record { fits = fits_at 24 (omega arith) refl found.1 found.2 c.requires.4.addressable }
+    let found = there c.requires.front.0 c.requires.front.1 c.requires.front.3 c.requires.front.4 c.load_at-next.ensures.word c.first_or_own.ensures in
+    record { fits = fits_at 24 (omega arith) refl found.1 found.2 c.requires.front.4.addressable }
 
-pub set_word-requires : goal.set_word-requires
-set_word-requires c =
-    let found = there c.requires.0 c.requires.1 c.requires.3 c.requires.4 c.load-next.ensures.word c.first_or_own.ensures in
-    IsWord-at 24 (omega arith) refl found.1 found.2 c.load-next.new.self c.load-next.ensures.start (ap length c.load-next.ensures.bytes)
+pub set_word_at-requires-clause-place : goal.set_word_at-requires-clause-place
+set_word_at-requires-clause-place c =
+    let found = there c.requires.front.0 c.requires.front.1 c.requires.front.3 c.requires.front.4 c.load_at-next.ensures.word c.first_or_own.ensures in
+    IsWord-at 24 (omega arith) refl found.1 found.2 c.load_at-next.new.self c.load_at-next.ensures.start (ap length c.load_at-next.ensures.bytes)
 
 pub returns-clause-step : goal.returns-clause-step
 returns-clause-step c newest r after place listed =
     let m = c.args.memory.now in
-    let one = c.load-next.new.self in
-    let n = c.set_word.new.self in
-    let next = c.load-next.result in
+    let one = c.load_at-next.new.self in
+    let n = c.set_word_at.new.self in
+    let next = c.load_at-next.result in
     let at = c.first_or_own.result in
-    let start = c.load-next.ensures.start in
-    let bytes = c.load-next.ensures.bytes in
+    let start = c.load_at-next.ensures.start in
+    let bytes = c.load_at-next.ensures.bytes in
     let list = IsFreeList-counted m one start bytes listed in
-    let is_next : next ≡ word_at one (r.start + 16) = c.load-next.ensures.word ∙ sym (word_at-counted m one start bytes (c.args.block + 16)) ∙ ap (λ a. word_at one (a + 16)) (sym place) in
+    let is_next : next ≡ word_at one (r.start + 16) = c.load_at-next.ensures.word ∙ sym (word_at-counted m one start bytes (c.args.block + 16)) ∙ ap (λ a. word_at one (a + 16)) (sym place) in
     let own : IsFirstOrOwn next r.start at = subst (λ b. IsFirstOrOwn next b at) (sym place) c.first_or_own.ensures in
     let found = rest_placed one n newest next at r after list is_next own in
     let word = IsWord-at 24 (omega arith) refl found.1 found.2 one refl refl in
-    let cut : Writes one n (Unit {0}) (at + 24) 0 = Writes-some (Unit {0}) tt word (omega arith) c.set_word.ensures.start c.set_word.ensures.bytes in (
+    let cut : Writes one n (Unit {0}) (at + 24) 0 = Writes-some (Unit {0}) tt word (omega arith) c.set_word_at.ensures.start c.set_word_at.ensures.bytes in (
       Links-rest one n newest next at r after list is_next own cut,
       Rewrites-counted_first m one start bytes (Rewrites-rest one n newest next at r after list is_next own cut),
     )

@@ -16,8 +16,8 @@ list_from : {fllen sllen : ℕ} {m : Space} {t : Table} (r : Range) (before afte
 list_from {fllen} {sllen} {m} {t} r before after {fl} {sl} newest list =
     subst (λ l. IsFreeList m (head_at t fl sl) (l ++ (r ∷ of_class sllen fl sl after))) newest.first (IsFreeList-amid before r after fl sl list newest.at)
 
-pub unlink_front-next-requires : goal.unlink_front-next-requires
-unlink_front-next-requires g c =
+pub unlink_front-next-requires-clause-front : goal.unlink_front-next-requires-clause-front
+unlink_front-next-requires-clause-front g c =
     let (r, before, after, place, newest, list) = c.requires.newest in
     (r, of_class g.row.SLLEN c.args.class.0 c.args.class.1 after, head_at c.args.table.now c.args.class.0 c.args.class.1, place, list_from r before after newest list)
 

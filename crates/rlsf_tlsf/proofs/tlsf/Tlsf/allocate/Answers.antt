@@ -1,4 +1,4 @@
-use Rattle.std.proofs.Common.{ℕ, ◌≡◌, ◌≢◌, ◌≤◌, ◌+◌, ◌<◌, List, length, Option, Some, None, arith, refl, sym, ◌∙◌, ap, subst}
+use Rattle.std.proofs.Common.{ℕ, ◌≡◌, ◌≢◌, ◌≤◌, ◌+◌, ◌<◌, List, length, Option, Some, None, arith, refl, sym, ◌∙◌, ap, subst, rules}
 use Rattle.rlsf_base.specs.declared.memory.range.Range.{Range}
 use Rattle.rlsf_base.specs.Addr.{reply}
 use Rattle.rlsf_base.specs.Sizes.{request_size}
@@ -90,7 +90,7 @@ place-payload-requires g c =
     let size = word_at-counted c.self.inside.memory c.first_fit.new.memory counts.start counts.bytes c.in_ok-block.block ∙ ap (word_at c.self.inside.memory) (sym start) ∙ (IsFreeTable-free v).sizes f own in
     let at_class = subst (λ n. IsClassAt g.row.FLLEN g.row.SLLEN n c.in_ok-block.class.0 c.in_ok-block.class.1) (sym size) class in
     let picked : choice g.row.SLLEN (request_size c.args.layout.size c.args.layout.align) s.free ≡ Some f = sought g.row.SLLEN s.free c.request_size.ensures.value chosen in
-    (omega arith, (c.self.invariant.valid, (at_class, (s, f, searched g (goal.at.place-payload-requires g c).After-first_fit v, picked, start))))
+    (search rules, (c.self.invariant.valid, (at_class, ((s, f, searched g (goal.at.place-payload-requires g c).After-first_fit v, picked, start), search rules))))
 
 -- what is kept of the state is the one that the payload leads to
 kept : (g : given.Over) (c : After-new g) (t : State) → Places g.row.SLLEN (read_from c.self.inside.memory c.self.inside.state.state) c.args.layout.size c.args.layout.align c.place-payload.result t

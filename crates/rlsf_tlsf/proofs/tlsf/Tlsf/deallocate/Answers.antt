@@ -21,8 +21,8 @@ use Rattle.rlsf_tlsf.proofs.tlsf.Tlsf.deallocate.Goals.{After-used_block-block, 
 abbrev state : (g : given.Over) (c : After-used_block-block g) → State
 state g c = read_from c.self.inside.memory c.self.inside.state.state
 
-pub used_block-block-requires : goal.used_block-block-requires
-used_block-block-requires g c =
+pub used_block-block-requires-clause-live : goal.used_block-block-requires-clause-live
+used_block-block-requires-clause-live g c =
     let live = live_inside c.self.invariant c.args.self.now c.self.view_is (at c.args.addr) c.args.align c.requires in
     let s = read_from c.self.inside.memory c.self.inside.state.state in
     (g.row.FLLEN, g.row.SLLEN, c.self.inside.table, s, c.self.invariant.stands, subst (λ p. IsLive s p c.args.align) (sym c.get.ensures.value) live)
@@ -44,7 +44,7 @@ pub deallocate_block-requires : goal.deallocate_block-requires
 deallocate_block-requires g c =
     let before = (goal.at.deallocate_block-requires g c).After-used_block-block in
     let (u, holds, start) = found g before in
-    (search rules, (c.self.invariant.valid, (state g before, u, read g before, holds.0, start)))
+    (search rules, (c.self.invariant.valid, ((state g before, u, read g before, holds.0, start), search rules)))
 
 -- what is kept of the state is the one without the payload
 kept : (g : given.Over) (c : After-deallocate g) (u : Used) → Holds (read_from c.self.inside.memory c.self.inside.state.state) (at c.args.addr) u

@@ -1,4 +1,4 @@
-use Rattle.std.proofs.Common.{◌≡◌, ◌≢◌, ◌+◌, ◌<◌, ◌≤◌, ℕ, length, Some, None, arith, refl, sym, ◌∙◌, ap, subst}
+use Rattle.std.proofs.Common.{◌≡◌, ◌≢◌, ◌+◌, ◌<◌, ◌≤◌, ℕ, length, Some, None, arith, refl, sym, ◌∙◌, ap, subst, rules}
 use Rattle.rlsf_base.specs.Addr.{at, reply}
 use Rattle.rlsf_machine.specs.Callers.{align_at, bytes_at}
 use Rattle.rlsf_machine.specs.Reallocate.{Keeps, Plan, Reallocates, in_place, into_next, or_else}
@@ -51,8 +51,8 @@ read_in g c =
     let counts = c.used_block-block.ensures.counts in
     StandsFor-counted c.self.inside.memory c.used_block-block.new.memory counts.start counts.bytes c.self.invariant.stands
 
-pub used_block-block-requires : goal.used_block-block-requires
-used_block-block-requires g c =
+pub used_block-block-requires-clause-live : goal.used_block-block-requires-clause-live
+used_block-block-requires-clause-live g c =
     let s = read_from c.self.inside.memory c.self.inside.state.state in
     let live = live_inside c.self.invariant c.args.self.now c.self.view_is (at c.args.addr) c.args.layout.align c.requires in
     (g.row.FLLEN, g.row.SLLEN, c.self.inside.table, s, c.self.invariant.stands, subst (λ a. IsLive s c.get-payload.result a) (sym c.align.ensures.value) (subst (λ p. IsLive s p c.args.layout.align) (sym c.get-payload.ensures.value) live))
@@ -61,7 +61,7 @@ pub reallocate_block-requires : goal.reallocate_block-requires
 reallocate_block-requires g c =
     let before = (goal.at.reallocate_block-requires g c).After-used_block-block in
     let (u, holds, is) = block g before in
-    (omega arith, (c.self.invariant.valid, (state g before, u, read_in g before, used_at g before u holds is)))
+    (search rules, (c.self.invariant.valid, ((state g before, u, read_in g before, used_at g before u holds is), search rules)))
 
 -- ---- the refusal
 
