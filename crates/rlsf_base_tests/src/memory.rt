@@ -5,8 +5,9 @@ ghost use Rattle.rlsf_base.specs.Space.{IsWord};
 use rlsf_base::memory::{Memory, MemoryError, Range};
 use std::alloc::Global;
 use std::mem::size_of;
+use std::rt::Files;
 use std::test::Fail;
-use std::thread;
+use std::{fs, thread};
 
 const MAX: usize = usize::MAX;
 
@@ -275,15 +276,24 @@ fn steps(rt: HostRuntime) -> Result<(), Fail> {
     Ok(())
 }
 
-// They are 6400 MiB together, so a process that may have 2 GiB passes only if each one is given back.
+/// How many bytes of addresses the process has, by the pages that the system tells.
+fn mapped(rt: &(impl Files + AllocGlobal)) -> Result<usize, Fail> {
+    let sizes = fs::read_to_string(rt, "/proc/self/statm")?;
+    let pages = sizes.split(' ').next().unwrap_or("");
+    Ok(pages.parse::<usize>()?.saturating_mul(4096))
+}
+
+// They are 6400 MiB together, so a process that stays below 2 GiB more than before has given them back.
 #[test]
 fn dropped_memories_are_given_back(rt: HostRuntime) -> Result<(), Fail> {
     let steps = [Step::SetWord(4096, 1), Step::Word(4096, 1)];
+    let before = mapped(&rt)?;
     for _ in 0..200 {
         assert_eq!(rt;
             made(rt.alloc(), 4096, 1 << 25, &steps)?,
             (4096, 1 << 25, None)
         );
+        assert!(rt; mapped(&rt)?.saturating_sub(before) < 1 << 31);
     }
     Ok(())
 }
