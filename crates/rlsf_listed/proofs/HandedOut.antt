@@ -18,7 +18,7 @@ use Rattle.rlsf_listed.specs.Listed.{HandsOut, Listed, MayOwe}
 abbrev pub AreApart : Range → Range → Type 0
 AreApart one other = (end_of one ≤ other.start) ⊎ (end_of other ≤ one.start)
 
--- a range that is apart from each of a list touches none of them
+-- a range that is apart from each of a list overlaps none of them
 clear_from_each : (r : Range) (xs : List Range) → AllWithin (AreApart r) xs 0 (length xs) → IsClear r xs
 clear_from_each r [] each a low high = refl
 clear_from_each r (x ∷ xs) each a low high =

@@ -29,7 +29,7 @@ pub record MayOwe (s : Listed) (owed : List Range) : Type 0 where
   pub taken : (a : ℕ) → coverage itself owed a ≤ coverage itself s.taken a
   pub disjoint : (a : ℕ) → coverage itself owed a ≤ 1
 
--- a range is handed out that lies in the space and touches nothing that was before
+-- a range is handed out that lies in the space and overlaps nothing that was handed out before
 pub record HandsOut (s : Listed) (r : Range) (t : Listed) : Type 0 where
   pub vacant : IsVacant s.terms.space s.taken r
   pub after : t ≡ record s { taken = s.taken ++ r ∷ [] }

@@ -48,9 +48,9 @@ pub struct Capabilities {
 
 /// A source that answers from a list, in order: each question for a range or for growth takes the next answer.
 ///
-/// An answer that a source may not give is answered as none: one of the other kind, a range that doesn't lie in the space, touches
+/// An answer that a source may not give is answered as none: one of the other kind, a range that doesn't lie in the space, overlaps
 /// what was handed out, is shorter than asked or doesn't start at a multiple of `min_align`, a length that is shorter than asked
-/// or whose new bytes don't lie in the space or touch what was handed out. So is each question past the list's end. What was
+/// or whose new bytes don't lie in the space or overlap what was handed out. So is each question past the list's end. What was
 /// taken back counts as handed out still, and isn't given again.
 #[derive(Drop)]
 pub struct ListedSource {

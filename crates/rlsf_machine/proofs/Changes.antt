@@ -11,7 +11,7 @@ use Rattle.rlsf_machine.proofs.Coverage.{by_test, covers-inside, covers-split, c
 use Rattle.rlsf_machine.proofs.Payloads.{IsUsed-after_start}
 use Rattle.rlsf_machine.proofs.Tiling.{block_of, blocks, tiling_of, used-le, IsWellFormed-from}
 
--- other blocks, at the same addresses, none too short or askew, no two free ones touching
+-- other blocks, at the same addresses, none too short or askew, no two free ones adjoining
 pub reblocked : {fllen sllen : ℕ} {memory : Range} {s : State} → IsWellFormed fllen sllen memory s → (used : List Used) (free : List Range)
     → ((u : Used) → IsIn u used → IsUsed u) → ((f : Range) → IsIn f free → IsWhole f × (0 < f.len))
     → ((a : ℕ) → coverage block_of used a + coverage itself free a ≡ blocks s a) → IsApart free
@@ -123,7 +123,7 @@ coverage-rest_behind block end span a within same_start same_end =
           omega arith
     ]
 
--- the rest that a block leaves in front of free ranges that the span doesn't touch
+-- the rest that a block leaves in front of free ranges that the span doesn't adjoin
 pub IsApart-rest_behind : (block : Range) (end : ℕ) (rest : List Range) → 0 < block.len → IsApart rest → ((g : Range) → IsIn g rest → 0 < g.len) → ((g : Range) → IsIn g rest → end ≢ g.start)
     → ((a : ℕ) → block.start ≤ a → a < end → coverage itself rest a ≡ 0) → IsApart (rest_behind block end ++ rest)
 IsApart-rest_behind block end rest some base full starts clear f g hf hg touch =

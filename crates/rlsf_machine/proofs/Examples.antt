@@ -102,12 +102,12 @@ after fllen sllen s (reallocate_at addr size) = reallocate_after sllen s size (f
 
 -- ---- whether the caller may make the call
 
--- whether a range touches none of the others
+-- whether a range overlaps none of the others
 abbrev pub is_apart : Range → List Range → Bool
 is_apart r [] = true
 is_apart r (c ∷ cs) = (leb (end_of r) c.start || leb (end_of c) r.start) && is_apart r cs
 
--- whether a range lies in the memory and touches none of the others
+-- whether a range lies in the memory and overlaps none of the others
 abbrev pub is_vacant : Range → List Range → Range → Bool
 is_vacant memory taken r = leb memory.start r.start && (leb (end_of r) (end_of memory) && is_apart r taken)
 

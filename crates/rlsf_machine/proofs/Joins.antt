@@ -9,7 +9,7 @@ use Rattle.rlsf_machine.specs.State.{between}
 use Rattle.rlsf_machine.specs.WellFormed.{covers, coverage, itself, IsWhole, IsApart}
 use Rattle.rlsf_machine.proofs.Coverage.{covers-empty, covers-split, coverage-without, find-some, find-none, without-none, IsIn-without}
 
--- ranges that aren't empty, begin and end at multiples of 32, and don't touch
+-- ranges that aren't empty, begin and end at multiples of 32, and don't adjoin
 pub record IsSound (free : List Range) : Type 0 where
   pub whole : (f : Range) → IsIn f free → IsWhole f × (0 < f.len)
   pub apart : IsApart free

@@ -71,7 +71,7 @@ module _ {fllen sllen : ℕ} {memory : Range} {s : State} (w : IsWellFormed flle
         few = omega arith;
       }
 
-  -- what is free once a block takes the front of a span, which the other free ranges don't touch on its right
+  -- what is free once a block takes the front of a span, which no other free range adjoins on its right
   span_sound : (block : Range) (end : ℕ) (rest : List Range) → IsWhole block → 0 < block.len → end_of block ≤ end → end % 32 ≡ 0 → IsSound rest
       → ((g : Range) → IsIn g rest → end ≢ g.start) → ((a : ℕ) → block.start ≤ a → a < end → coverage itself rest a ≡ 0) → IsSound (rest_behind block end ++ rest)
   span_sound block end rest whole some fits end32 sound starts clear = record {

@@ -13,7 +13,7 @@ use Rattle.rlsf_machine.proofs.Coverage.{covers-inside, covers-split, coverage-I
 use Rattle.rlsf_runs.specs.Runs.{lengthened, lengthened_at}
 use Rattle.rlsf_runs.specs.Steps.Tables.{EndsAt, IsInOrder}
 use Rattle.rlsf_runs.proofs.SamePools.{IsIn-each}
-use Rattle.rlsf_runs.proofs.Touching.{IsIn-at, no_range, nth_range}
+use Rattle.rlsf_runs.proofs.Overlapping.{IsIn-at, no_range, nth_range}
 
 -- a pool that ends at the address is longer, and any other is as it was
 pub is_lengthened : (addr more : ℕ) (p : Range) → ((end_of p ≡ addr) × (lengthened_at addr more p ≡ lengthened more p)) ⊎ ((end_of p ≢ addr) × (lengthened_at addr more p ≡ p))

@@ -9,6 +9,6 @@ pub mod PoolOrder
 pub mod RunStates
 pub mod SamePools
 pub mod SpareBytes
-pub mod Touching
+pub mod Overlapping
 pub mod Underway
 pub mod Walked

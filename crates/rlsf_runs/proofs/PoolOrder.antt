@@ -11,7 +11,7 @@ use Rattle.rlsf_machine.specs.Lists.{IsIn}
 use Rattle.rlsf_machine.specs.WellFormed.{coverage, itself}
 use Rattle.rlsf_machine.proofs.Coverage.{inside, before, behind, by_test, where_is, covers-before, covers-behind, covers-inside, coverage-IsIn}
 use Rattle.rlsf_runs.specs.Steps.Tables.{IsInOrder}
-use Rattle.rlsf_runs.proofs.Touching.{coverage-apart, IsApart, IsIn-at, no_range, nth_range}
+use Rattle.rlsf_runs.proofs.Overlapping.{coverage-apart, IsApart, IsIn-at, no_range, nth_range}
 
 -- an element of a list after an insert
 data AtInsert (xs : List Range) (i : ℕ) (y : Range) (k : ℕ) (d : Range) : Type 0 where
@@ -44,7 +44,7 @@ module _ {xs : List Range} (o : IsInOrder xs) where
         subst (λ k. (slice_index_or xs i d).start ≤ (slice_index_or xs k d).start) same (omega arith)
   ]
 
-  -- a range touches none if it doesn't touch the last one that begins before its end
+  -- a range overlaps none if it doesn't overlap the last one that begins before its end
   pub coverage-last : (r : Range) (i : ℕ) → i ≤ length xs → IsPartitionPoint (λ p. p.start < end_of r) (λ p. end_of r ≤ p.start) xs i
       → ((j : ℕ) → i ≡ j + 1 → IsApart r (nth_range xs j)) → IsClear r xs
   coverage-last r i fits point last a low high = coverage-apart r xs each a low high
@@ -69,19 +69,19 @@ module _ {xs : List Range} (o : IsInOrder xs) where
       ]
 
   -- so that one is asked
-  pub touches_last : (r : Range) (i : ℕ) → i ≤ length xs → IsPartitionPoint (λ p. p.start < end_of r) (λ p. end_of r ≤ p.start) xs i → 0 < i → (p : Range) → p ≡ nth_range xs (i - 1) → (touches : Bool)
-      → (IsTrue touches ↔ ((a : ℕ) × ((r.start ≤ a) × (a < end_of r)) × ((p.start ≤ a) × (a < end_of p))))
-      → IsTrue touches ↔ ((a : ℕ) × ((r.start ≤ a) × (a < end_of r)) × (0 < coverage itself xs a))
-  touches_last r i fits point some p is touches (if_so, if_not) = (
+  pub overlaps_last : (r : Range) (i : ℕ) → i ≤ length xs → IsPartitionPoint (λ p. p.start < end_of r) (λ p. end_of r ≤ p.start) xs i → 0 < i → (p : Range) → p ≡ nth_range xs (i - 1) → (overlaps : Bool)
+      → (IsTrue overlaps ↔ ((a : ℕ) × ((r.start ≤ a) × (a < end_of r)) × ((p.start ≤ a) × (a < end_of p))))
+      → IsTrue overlaps ↔ ((a : ℕ) × ((r.start ≤ a) × (a < end_of r)) × (0 < coverage itself xs a))
+  overlaps_last r i fits point some p is overlaps (if_so, if_not) = (
     λ yes. (let (a, in_range, (low, high)) = if_so yes in (a, in_range, omega (arith, covers-inside p a low high, coverage-IsIn itself p xs a there))),
-    λ (a, in_range, covered). by_test touches (λ yes. yes) (λ is_false. absurd (omega (arith, covered, coverage-last r i fits point (untouched is_false) a in_range.0 in_range.1))),
+    λ (a, in_range, covered). by_test overlaps (λ yes. yes) (λ is_false. absurd (omega (arith, covered, coverage-last r i fits point (separate is_false) a in_range.0 in_range.1))),
   )
     where
       there : IsIn p xs
       there = subst (λ q. IsIn q xs) (sym is) (IsIn-at xs (i - 1) no_range (omega arith))
 
-      untouched : touches ≡ false → (j : ℕ) → i ≡ j + 1 → IsApart r (nth_range xs j)
-      untouched is_false j next = subst (λ k. IsApart r (nth_range xs k)) (omega arith) (subst (IsApart r) is (λ a low high. elim (where_is p a) [
+      separate : overlaps ≡ false → (j : ℕ) → i ≡ j + 1 → IsApart r (nth_range xs j)
+      separate is_false j next = subst (λ k. IsApart r (nth_range xs k)) (omega arith) (subst (IsApart r) is (λ a low high. elim (where_is p a) [
         | inside _ from to ↦ absurd (true≢false (sym (if_not (a, (low, high), (from, to))) ∙ is_false))
         | before none _ ↦ none
         | behind none _ ↦ none
@@ -89,7 +89,7 @@ module _ {xs : List Range} (o : IsInOrder xs) where
 
   module _ (pool : Range) (i : ℕ) (fits : i ≤ length xs) (point : IsPartitionPoint (λ p. p.start < pool.start) (λ p. pool.start ≤ p.start) xs i) (some : pool.start < end_of pool)
       (apart : IsClear pool xs) where
-    -- those that begin before a range which touches none end before it
+    -- those that begin before a range which overlaps none end before it
     ends_before : (k : ℕ) (d : Range) → k < i → end_of (slice_index_or xs k d) ≤ pool.start
     ends_before k d lower =
         let p = slice_index_or xs k d in

@@ -24,7 +24,7 @@ use Rattle.rlsf_runs.proofs.Named.{AreNamed-empty, AreNamed-kept, AreNamed-same}
 use Rattle.rlsf_runs.proofs.NewPools.{coverage-with_pool, pool_bounds}
 use Rattle.rlsf_runs.proofs.AppendedChunks.{IsLonger, IsLonger-appended}
 use Rattle.rlsf_runs.proofs.Lengthened.{coverage-lengthened, is_lengthened, IsIn-lengthened, IsInOrder-lengthened, lengthened-each}
-use Rattle.rlsf_runs.proofs.Touching.{IsIn-at, no_range, nth_range}
+use Rattle.rlsf_runs.proofs.Overlapping.{IsIn-at, no_range, nth_range}
 use Rattle.rlsf_runs.proofs.SamePools.{coverage-permutation, IsIn-each, IsIn-permutation}
 
 -- a chunk ends where a row does that isn't empty

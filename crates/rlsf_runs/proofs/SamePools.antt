@@ -6,7 +6,7 @@ use Rattle.std.proofs.lemmas.List.Sums.{sum_by-cons}
 use Rattle.rlsf_base.specs.declared.memory.range.Range.{Range}
 use Rattle.rlsf_machine.specs.Lists.{IsIn}
 use Rattle.rlsf_machine.specs.WellFormed.{covers, coverage, itself}
-use Rattle.rlsf_runs.proofs.Touching.{IsIn-at, no_range}
+use Rattle.rlsf_runs.proofs.Overlapping.{IsIn-at, no_range}
 
 -- what holds of each place of a list holds of each of its elements
 pub IsIn-each : (P : Range → Type 0) (p : Range) (xs : List Range) → ((k : ℕ) (d : Range) → k < length xs → P (slice_index_or xs k d)) → IsIn p xs → P p

@@ -18,7 +18,7 @@ ghost use Rattle.rlsf_runs.specs.Steps.Tables.{HasRoom, IsAt, IsInOrder, LeadsOn
 
 use crate::names::Payload;
 use crate::payloads::{fill, free, free_unknown, get, put, realloc, realloc_no_move, usable};
-use crate::tables::{Tables, ending_at, touches_any};
+use crate::tables::{Tables, ending_at, overlaps_any};
 use crate::walks::block;
 use rlsf_base::memory::{Layout, Memory, Range};
 use rlsf_int::Bitmap;
@@ -58,7 +58,7 @@ fn is_vacant(memory: &Memory, pools: &VecDeque<Range>, range: Range) -> bool
     requires addressable { end_of (range_of memory.now) < 2 ^ 64 }
     ensures { IsTrue result ↔ IsVacant (range_of memory.now) pools.now.items range }
 {
-    lies_in(memory, range) && !touches_any(pools, range)
+    lies_in(memory, range) && !overlaps_any(pools, range)
 }
 
 /// Does one op, and answers it. The tables have room for it.

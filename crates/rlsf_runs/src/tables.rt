@@ -92,7 +92,7 @@ impl Tables {
 }
 
 /// Whether two ranges have an address in common.
-fn touch(one: Range, other: Range) -> bool
+fn overlap(one: Range, other: Range) -> bool
     requires { (end_of one < 2 ^ 64) × (end_of other < 2 ^ 64) }
     ensures { IsTrue result ↔ ((a : ℕ) × ((one.start ≤ a) × (a < end_of one)) × ((other.start ≤ a) × (a < end_of other))) }
 {
@@ -109,13 +109,13 @@ fn begun_before(pools: &VecDeque<Range>, addr: usize) -> usize
 }
 
 /// Whether a range overlaps one of the pools: if it does, it overlaps the last one that begins before its end.
-pub(crate) fn touches_any(pools: &VecDeque<Range>, range: Range) -> bool
+pub(crate) fn overlaps_any(pools: &VecDeque<Range>, range: Range) -> bool
     requires in_order { IsInOrder pools.now.items }
     requires addressable { (end_of range < 2 ^ 64) × ((p : Range) → IsIn p pools.now.items → end_of p < 2 ^ 64) }
     ensures { IsTrue result ↔ ((a : ℕ) × ((range.start ≤ a) × (a < end_of range)) × (0 < coverage itself pools.now.items a)) }
 {
     let begun = begun_before(pools, range.start + range.len);
-    begun > 0 && touch(range, pools[begun - 1])
+    begun > 0 && overlap(range, pools[begun - 1])
 }
 
 /// The place of the pool that ends at an address, if one does: that is the last one that begins before the address.

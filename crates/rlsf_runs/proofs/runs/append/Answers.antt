@@ -8,7 +8,7 @@ use Rattle.rlsf_tlsf.proofs.Standing.{of_state, stepped}
 use Rattle.rlsf_runs.proofs.AppendedChunks.{IsLonger-appended}
 use Rattle.rlsf_runs.proofs.NamedPayloads.{LeadsOn-nothing, room_left}
 use Rattle.rlsf_runs.proofs.RunStates.{IsAt-appended, IsNext-MayAppend, IsVacant-tables, MayAppend-none, MayAppend-tested, MayInsert-tested}
-use Rattle.rlsf_runs.proofs.Touching.{no_range}
+use Rattle.rlsf_runs.proofs.Overlapping.{no_range}
 use Rattle.rlsf_base.specs.Space.{range_of}
 use Rattle.rlsf_runs.proofs.runs.append.Goals as goal
 

@@ -3,7 +3,7 @@ use Rattle.std.proofs.lemmas.Bool.{eq-eqb, eqb-true}
 use Rattle.std.proofs.lemmas.List.{get_or_default}
 use Rattle.rlsf_base.specs.Range.{end_of}
 use Rattle.rlsf_runs.proofs.Lengthened.{same_end}
-use Rattle.rlsf_runs.proofs.Touching.{IsIn-at, no_range, nth_range}
+use Rattle.rlsf_runs.proofs.Overlapping.{IsIn-at, no_range, nth_range}
 use Rattle.rlsf_runs.proofs.tables.is_pool.Goals as goal
 
 pub returns-in_default : goal.returns-in_default

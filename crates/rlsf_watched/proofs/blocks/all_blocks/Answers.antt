@@ -9,7 +9,7 @@ use Rattle.rlsf_blocks.specs.Blocks.{AreBlocks, Block, walked}
 use Rattle.rlsf_machine.specs.ChunkRows.{IsRow}
 use Rattle.rlsf_machine.specs.Lists.{IsIn}
 use Rattle.rlsf_tlsf.proofs.Standing.{at_state, of_state}
-use Rattle.rlsf_runs.proofs.Touching.{IsIn-at}
+use Rattle.rlsf_runs.proofs.Overlapping.{IsIn-at}
 use Rattle.rlsf_watched.proofs.Walks.{AreBlocks-all, AreGathered, AreGathered-more, pool_walked, pools_before, walked_bounds}
 use Rattle.rlsf_watched.proofs.blocks.all_blocks.Goals as goal
 
