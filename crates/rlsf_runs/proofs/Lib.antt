@@ -5,10 +5,10 @@ pub mod Named
 pub mod NamedPayloads
 pub mod NewPools
 pub mod Outcomes
+pub mod Overlapping
 pub mod PoolOrder
 pub mod RunStates
 pub mod SamePools
 pub mod SpareBytes
-pub mod Overlapping
 pub mod Underway
 pub mod Walked
