@@ -65,8 +65,8 @@ static int is_layout(size_t size, size_t align) {
 }
 
 static void set_size(payload *p, size_t usable) {
-    p->bytes = realloc(p->bytes, usable);
-    p->known = realloc(p->known, usable);
+    p->bytes = realloc(p->bytes, usable + 1);
+    p->known = realloc(p->known, usable + 1);
     if (!p->bytes || !p->known) abort();
     if (usable > p->usable) memset(p->known + p->usable, 0, usable - p->usable);
     p->usable = usable;
@@ -83,7 +83,7 @@ static void is_well(rlsf_pool *pool, size_t place, size_t size) {
         want(i == place || live[i].addr + live[i].usable <= p->addr || p->addr + p->usable <= live[i].addr, "payloads overlap", p->addr);
 }
 static void has_bytes(rlsf_pool *pool, payload *p) {
-    unsigned char *got = malloc(p->usable);
+    unsigned char *got = malloc(p->usable + 1);
     if (!got) abort();
     want(rlsf_read(pool, p->addr, 0, got, p->usable) == RLSF_OK, "read of a payload", p->addr);
     for (size_t i = 0; i < p->usable; i++) want(!p->known[i] || got[i] == p->bytes[i], "another byte", p->addr + i);
