@@ -1,0 +1,5 @@
+pub mod Answers
+pub mod Calls
+pub mod Handle
+pub mod Seen
+pub mod Walks

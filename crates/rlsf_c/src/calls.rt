@@ -1,0 +1,146 @@
+//! The calls of a checked allocator, over numbers.
+
+ghost use Rattle.std.specs.Prelude.{◌≡◌, length};
+ghost use Rattle.rlsf_base.specs.Addr.{at};
+ghost use Rattle.rlsf_checked.specs.Answers.{append_answer, insert_answer};
+ghost use Rattle.rlsf_c.specs.Calls.{Allocates, Appends, Frees, Inserts, Reads, Resizes, ResizesThere, Tells, Writes};
+ghost use Rattle.rlsf_c.specs.Seen.{nothing, seen_in};
+
+use crate::answers::{Answer, number, refused, to_answer, to_code, to_place};
+use rlsf_base::memory::{Addr, Layout, Range};
+use rlsf_checked::{CheckedError, CheckedTlsf};
+use rlsf_int::Bitmap;
+
+/// Hands a range in.
+pub(crate) fn insert<F: Bitmap, S: Bitmap, const FLLEN: usize, const SLLEN: usize>(
+    heap: &mut CheckedTlsf<F, S, FLLEN, SLLEN>,
+    range: Range,
+) -> Answer
+    ensures { Inserts (insert_answer FLLEN heap.old range) (seen_in SLLEN heap.old) range.start result (seen_in SLLEN heap.new) }
+{
+    to_answer(heap.insert(range))
+}
+
+/// Makes what was handed in last longer.
+pub(crate) fn append<F: Bitmap, S: Bitmap, const FLLEN: usize, const SLLEN: usize>(
+    heap: &mut CheckedTlsf<F, S, FLLEN, SLLEN>,
+    range: Range,
+) -> Answer
+    ensures { Appends (append_answer FLLEN heap.old range) (seen_in SLLEN heap.old) result (seen_in SLLEN heap.new) }
+{
+    to_answer(heap.append(range))
+}
+
+/// Allocates a payload.
+pub(crate) fn allocate<F: Bitmap, S: Bitmap, const FLLEN: usize, const SLLEN: usize>(
+    heap: &mut CheckedTlsf<F, S, FLLEN, SLLEN>,
+    size: usize,
+    align: usize,
+) -> Answer
+    ensures { Allocates (seen_in SLLEN heap.old) size align result (seen_in SLLEN heap.new) }
+{
+    match Layout::from_size_align(size, align) {
+        Ok(layout) => to_place(heap.allocate(layout)),
+        Err(_) => refused(CheckedError::NoLayout),
+    }
+}
+
+/// What an allocation is answered where there is no allocator.
+pub(crate) fn allocate_nothing(size: usize, align: usize) -> Answer
+    ensures { Allocates nothing size align result nothing }
+{
+    match Layout::from_size_align(size, align) {
+        Ok(_) => refused(CheckedError::NoRoom),
+        Err(_) => refused(CheckedError::NoLayout),
+    }
+}
+
+/// Gives a payload back.
+pub(crate) fn free<F: Bitmap, S: Bitmap, const FLLEN: usize, const SLLEN: usize>(
+    heap: &mut CheckedTlsf<F, S, FLLEN, SLLEN>,
+    addr: usize,
+) -> usize
+    ensures { Frees (seen_in SLLEN heap.old) addr result (seen_in SLLEN heap.new) }
+{
+    heap.memory_ref();
+    match Addr::new(addr) {
+        Some(addr) => to_code(heap.deallocate(addr)),
+        None => number(CheckedError::UnknownAddress),
+    }
+}
+
+/// Gives a payload another size.
+pub(crate) fn realloc<F: Bitmap, S: Bitmap, const FLLEN: usize, const SLLEN: usize>(
+    heap: &mut CheckedTlsf<F, S, FLLEN, SLLEN>,
+    addr: usize,
+    size: usize,
+) -> Answer
+    ensures { Resizes (seen_in SLLEN heap.old) addr size result (seen_in SLLEN heap.new) }
+{
+    heap.memory_ref();
+    match Addr::new(addr) {
+        Some(addr) => to_place(heap.reallocate(addr, size)),
+        None => refused(CheckedError::UnknownAddress),
+    }
+}
+
+/// Gives a payload another size where it stands.
+pub(crate) fn realloc_no_move<F: Bitmap, S: Bitmap, const FLLEN: usize, const SLLEN: usize>(
+    heap: &mut CheckedTlsf<F, S, FLLEN, SLLEN>,
+    addr: usize,
+    size: usize,
+) -> Answer
+    ensures { ResizesThere (seen_in SLLEN heap.old) addr size result (seen_in SLLEN heap.new) }
+{
+    heap.memory_ref();
+    match Addr::new(addr) {
+        Some(addr) => to_place(heap.reallocate_no_move(addr, size)),
+        None => refused(CheckedError::UnknownAddress),
+    }
+}
+
+/// How many bytes of a payload its caller may use.
+pub(crate) fn usable<F: Bitmap, S: Bitmap, const FLLEN: usize, const SLLEN: usize>(
+    heap: &CheckedTlsf<F, S, FLLEN, SLLEN>,
+    addr: usize,
+) -> Answer
+    ensures { Tells (seen_in SLLEN heap.now) addr result }
+{
+    heap.memory_ref();
+    match Addr::new(addr) {
+        Some(addr) => to_answer(heap.usable_size(addr)),
+        None => refused(CheckedError::UnknownAddress),
+    }
+}
+
+/// Reads bytes of a payload.
+pub(crate) fn read<F: Bitmap, S: Bitmap, const FLLEN: usize, const SLLEN: usize>(
+    heap: &CheckedTlsf<F, S, FLLEN, SLLEN>,
+    addr: usize,
+    offset: usize,
+    into: &mut [u8],
+) -> usize
+    ensures { Reads (seen_in SLLEN heap.now) addr offset into.old result into.new }
+{
+    heap.memory_ref();
+    match Addr::new(addr) {
+        Some(addr) => to_code(heap.read(addr, offset, into)),
+        None => number(CheckedError::UnknownAddress),
+    }
+}
+
+/// Writes bytes of a payload.
+pub(crate) fn write<F: Bitmap, S: Bitmap, const FLLEN: usize, const SLLEN: usize>(
+    heap: &mut CheckedTlsf<F, S, FLLEN, SLLEN>,
+    addr: usize,
+    offset: usize,
+    bytes: &[u8],
+) -> usize
+    ensures { Writes (seen_in SLLEN heap.old) addr offset bytes.now result (seen_in SLLEN heap.new) }
+{
+    heap.memory_ref();
+    match Addr::new(addr) {
+        Some(addr) => to_code(heap.write(addr, offset, bytes)),
+        None => number(CheckedError::UnknownAddress),
+    }
+}

@@ -1,0 +1,212 @@
+//! A pool of one of two kinds.
+
+ghost use Rattle.std.specs.Prelude.{◌≡◌};
+ghost use Rattle.rlsf_base.specs.Range.{range_at};
+ghost use Rattle.rlsf_c.specs.Calls.{Allocates, Appends, Frees, Inserts, Reads, Resizes, ResizesThere, Tells, Writes};
+ghost use Rattle.rlsf_c.specs.Seen.{IsMade, append_result, init_refusal, insert_result, seen, status_of};
+ghost use Rattle.rlsf_c.specs.Walks.{IsNext, IsSummary};
+
+use crate::answers::{Answer, BlockAnswer, Statistics, number, refused};
+use crate::{calls, walks};
+use rlsf_base::memory::{Memory, Range};
+use rlsf_checked::{CheckedError, CheckedTlsf};
+use std::alloc::Global;
+
+/// A checked allocator of one of two kinds, or the number of the error why there is none.
+#[derive(Drop)]
+pub enum Pool {
+    /// No allocator. All calls find a memory without an address.
+    Refused(usize),
+    /// 12 rows of 16 classes.
+    Small(CheckedTlsf<u16, u16, 12, 16>),
+    /// 64 rows of 64 classes.
+    Large(CheckedTlsf<u64, u64, 64, 64>),
+}
+
+/// Why no pool can be made, as the number of an error.
+fn refusal(kind: usize, start: usize, len: usize) -> Option<usize>
+    ensures { result ≡ init_refusal kind start len }
+{
+    if kind != 1 && kind != 2 {
+        return Some(11);
+    }
+    if start == 0 {
+        return Some(12);
+    }
+    if len > usize::MAX - start {
+        return Some(13);
+    }
+    None
+}
+
+impl Pool {
+    /// A pool of a kind over a memory with these addresses, of which none was handed in yet.
+    pub fn new(alloc: Global, kind: usize, start: usize, len: usize) -> Pool
+        ensures { IsMade kind start len result }
+    {
+        if let Some(error) = refusal(kind, start, len) {
+            return Pool::Refused(error);
+        }
+        let Ok(memory) = Memory::new(alloc, start, len) else {
+            return Pool::Refused(2);
+        };
+        if kind == 1 {
+            match CheckedTlsf::new(alloc, memory) {
+                Ok(heap) => Pool::Small(heap),
+                Err(_) => Pool::Refused(2),
+            }
+        } else {
+            match CheckedTlsf::new(alloc, memory) {
+                Ok(heap) => Pool::Large(heap),
+                Err(_) => Pool::Refused(2),
+            }
+        }
+    }
+
+    /// 0, or why there is no allocator.
+    pub fn status(&mut self) -> usize
+        ensures { (result ≡ status_of self.old) × (self.new ≡ self.old) }
+    {
+        match self {
+            Pool::Refused(error) => *error,
+            Pool::Small(_) | Pool::Large(_) => 0,
+        }
+    }
+
+    /// How many addresses the memory has.
+    pub fn len(&mut self) -> usize
+        ensures { (result ≡ (seen self.old).memory.len) × (self.new ≡ self.old) }
+    {
+        match self {
+            Pool::Refused(_) => 0,
+            Pool::Small(heap) => heap.memory_ref().len(),
+            Pool::Large(heap) => heap.memory_ref().len(),
+        }
+    }
+
+    /// Hands a range in.
+    pub fn insert(&mut self, start: usize, len: usize) -> Answer
+        ensures { Inserts (insert_result self.old (range_at start len)) (seen self.old) start result (seen self.new) }
+    {
+        match self {
+            Pool::Refused(_) => refused(CheckedError::OutsideMemory),
+            Pool::Small(heap) => calls::insert(heap, Range { start, len }),
+            Pool::Large(heap) => calls::insert(heap, Range { start, len }),
+        }
+    }
+
+    /// Makes what was handed in last longer.
+    pub fn append(&mut self, start: usize, len: usize) -> Answer
+        ensures { Appends (append_result self.old (range_at start len)) (seen self.old) result (seen self.new) }
+    {
+        match self {
+            Pool::Refused(_) => refused(CheckedError::OutsideMemory),
+            Pool::Small(heap) => calls::append(heap, Range { start, len }),
+            Pool::Large(heap) => calls::append(heap, Range { start, len }),
+        }
+    }
+
+    /// Allocates a payload.
+    pub fn allocate(&mut self, size: usize, align: usize) -> Answer
+        ensures { Allocates (seen self.old) size align result (seen self.new) }
+    {
+        match self {
+            Pool::Refused(_) => calls::allocate_nothing(size, align),
+            Pool::Small(heap) => calls::allocate(heap, size, align),
+            Pool::Large(heap) => calls::allocate(heap, size, align),
+        }
+    }
+
+    /// Gives a payload back.
+    pub fn free(&mut self, addr: usize) -> usize
+        ensures { Frees (seen self.old) addr result (seen self.new) }
+    {
+        match self {
+            Pool::Refused(_) => number(CheckedError::UnknownAddress),
+            Pool::Small(heap) => calls::free(heap, addr),
+            Pool::Large(heap) => calls::free(heap, addr),
+        }
+    }
+
+    /// Gives a payload another size.
+    pub fn realloc(&mut self, addr: usize, size: usize) -> Answer
+        ensures { Resizes (seen self.old) addr size result (seen self.new) }
+    {
+        match self {
+            Pool::Refused(_) => refused(CheckedError::UnknownAddress),
+            Pool::Small(heap) => calls::realloc(heap, addr, size),
+            Pool::Large(heap) => calls::realloc(heap, addr, size),
+        }
+    }
+
+    /// Gives a payload another size where it stands.
+    pub fn realloc_no_move(&mut self, addr: usize, size: usize) -> Answer
+        ensures { ResizesThere (seen self.old) addr size result (seen self.new) }
+    {
+        match self {
+            Pool::Refused(_) => refused(CheckedError::UnknownAddress),
+            Pool::Small(heap) => calls::realloc_no_move(heap, addr, size),
+            Pool::Large(heap) => calls::realloc_no_move(heap, addr, size),
+        }
+    }
+
+    /// How many bytes of a payload its caller may use.
+    pub fn usable(&mut self, addr: usize) -> Answer
+        ensures { Tells (seen self.old) addr result × (self.new ≡ self.old) }
+    {
+        match self {
+            Pool::Refused(_) => refused(CheckedError::UnknownAddress),
+            Pool::Small(heap) => calls::usable(heap, addr),
+            Pool::Large(heap) => calls::usable(heap, addr),
+        }
+    }
+
+    /// Reads bytes of a payload.
+    pub fn read(&mut self, addr: usize, offset: usize, into: &mut [u8]) -> usize
+        ensures { Reads (seen self.old) addr offset into.old result into.new × (self.new ≡ self.old) }
+    {
+        match self {
+            Pool::Refused(_) => number(CheckedError::UnknownAddress),
+            Pool::Small(heap) => calls::read(heap, addr, offset, into),
+            Pool::Large(heap) => calls::read(heap, addr, offset, into),
+        }
+    }
+
+    /// Writes bytes of a payload.
+    pub fn write(&mut self, addr: usize, offset: usize, bytes: &[u8]) -> usize
+        ensures { Writes (seen self.old) addr offset bytes.now result (seen self.new) }
+    {
+        match self {
+            Pool::Refused(_) => number(CheckedError::UnknownAddress),
+            Pool::Small(heap) => calls::write(heap, addr, offset, bytes),
+            Pool::Large(heap) => calls::write(heap, addr, offset, bytes),
+        }
+    }
+
+    /// What the blocks of what was handed in last come to.
+    pub fn stats(&mut self) -> Statistics
+        ensures { IsSummary (seen self.old) result × (self.new ≡ self.old) }
+    {
+        match self {
+            Pool::Refused(_) => walks::NOTHING,
+            Pool::Small(heap) => walks::summary(heap.blocks()),
+            Pool::Large(heap) => walks::summary(heap.blocks()),
+        }
+    }
+
+    /// The first block of what was handed in last that begins at an address or behind it.
+    pub fn walk(&mut self, from: usize) -> BlockAnswer
+        ensures { IsNext (seen self.old) from result × (self.new ≡ self.old) }
+    {
+        match self {
+            Pool::Refused(_) => walks::NO_BLOCK,
+            Pool::Small(heap) => walks::next_block(heap.blocks(), from),
+            Pool::Large(heap) => walks::next_block(heap.blocks(), from),
+        }
+    }
+}
+
+/// Drops a pool.
+pub fn finish(pool: Pool) {
+    let _ = pool;
+}

@@ -1,0 +1,79 @@
+//! What is told of blocks.
+
+ghost use Rattle.std.specs.Prelude.{◌≡◌, ◌+◌, ◌≤◌};
+ghost use Rattle.rlsf_blocks.specs.Blocks.{IsInOrder};
+ghost use Rattle.rlsf_c.specs.Walks.{IsSummaryOf, block_of, counted, first_from};
+
+use crate::answers::{BlockAnswer, Statistics};
+use rlsf_blocks::{BlockInfo, Blocks};
+
+/// What no blocks come to.
+pub(crate) const NOTHING: Statistics = Statistics {
+    payloads: 0,
+    used: 0,
+    free: 0,
+    longest: 0,
+};
+
+/// The answer where there is no block.
+pub(crate) const NO_BLOCK: BlockAnswer = BlockAnswer {
+    error: 14,
+    start: 0,
+    len: 0,
+    used: 0,
+};
+
+/// What blocks come to with one block more, which lies behind as many bytes.
+fn counted(sum: Statistics, block: BlockInfo) -> Statistics
+    requires behind { sum.used + sum.free ≤ block.range.start }
+    requires few { sum.payloads ≤ sum.used }
+    ensures value { result ≡ counted sum block }
+    ensures few { result.payloads ≤ result.used }
+{
+    let len = block.size();
+    if block.is_occupied() {
+        Statistics {
+            payloads: sum.payloads + 1,
+            used: sum.used + len,
+            ..sum
+        }
+    } else {
+        Statistics {
+            free: sum.free + len,
+            longest: sum.longest.max(len),
+            ..sum
+        }
+    }
+}
+
+/// What blocks come to.
+pub(crate) fn summary(blocks: Blocks<'_>) -> Statistics
+    requires { IsInOrder blocks }
+    ensures { IsSummaryOf blocks.entry result }
+{
+    let mut blocks = blocks;
+    let mut sum = NOTHING;
+    while let Some(block) = blocks.next() {
+        sum = counted(sum, block);
+    }
+    sum
+}
+
+/// The first block that begins at an address or behind it.
+pub(crate) fn next_block(blocks: Blocks<'_>, from: usize) -> BlockAnswer
+    ensures { result ≡ block_of (first_from from blocks.entry) }
+{
+    let mut blocks = blocks;
+    while let Some(block) = blocks.next() {
+        let range = block.as_ptr();
+        if range.start >= from {
+            return BlockAnswer {
+                error: 0,
+                start: range.start,
+                len: range.len,
+                used: block.is_occupied() as usize,
+            };
+        }
+    }
+    NO_BLOCK
+}
