@@ -37,7 +37,7 @@ none_is (Some x) e = absurd (true≢false e)
 -- what it found is some payload, whatever is read of it
 pub some_is : {A B : Type 0} (f : A → B) (o : Option A) → is_some o ≡ true → IsSome (option_map f o)
 some_is f None e = absurd (true≢false (sym e))
-some_is f (Some x) e = (f x, refl)
+some_is f (Some x) e = refl
 
 -- tables with room for one op more have it for the others
 pub room_left : (tables : Tables) (ops : ℕ) → HasRoom tables (ops + 1) → HasRoom tables ops

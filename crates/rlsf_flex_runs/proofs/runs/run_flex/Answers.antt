@@ -23,4 +23,4 @@ loop-op-preserved g c =
 pub returns-clause-runs : goal.returns-clause-runs
 returns-clause-runs g c =
     let ((given, items, u), _) = c.loop-op.invariant in
-    (given, items, u.notes, run_of c.loop-op.flex c.loop-op.names, RunsFlex-end u c.loop-op-test.false, u.leads_by, refl, u.outside, RunsFlexByEvents-end u c.loop-op-test.false)
+    (given, items, (u.notes, run_of c.loop-op.flex c.loop-op.names, RunsFlex-end u c.loop-op-test.false, u.leads_by, refl, u.outside, RunsFlexByEvents-end u c.loop-op-test.false))

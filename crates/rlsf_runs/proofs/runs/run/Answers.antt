@@ -29,7 +29,7 @@ loop-op-preserved g c =
 pub returns-clause-runs : goal.returns-clause-runs
 returns-clause-runs g c =
     let ((given, items, w), _) = c.loop-op.invariant in
-    (given, items, w.state, RunsOps-end w c.loop-op-test.false, w.at.stands.state, w.spare)
+    (given, items, (w.state, RunsOps-end w c.loop-op-test.false, w.at.stands.state, w.spare))
 
 pub returns-clause-events : goal.returns-clause-events
 returns-clause-events g c =
