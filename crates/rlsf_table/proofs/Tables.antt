@@ -7,5 +7,6 @@ pub mod FreeTables
 pub mod Heads
 pub mod Linking
 pub mod RowLengths
+pub mod Rows
 pub mod Search
 pub mod Tests

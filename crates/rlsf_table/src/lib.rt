@@ -8,6 +8,7 @@
 
 mod fit;
 mod list;
+mod rows;
 mod table;
 
 pub use fit::first_fit;

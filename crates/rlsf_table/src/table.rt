@@ -1,18 +1,18 @@
 //! The class table: bitmaps of two levels, and the newest free block of each class.
 
-ghost use Rattle.std.specs.Prelude.{◌≡◌, ℕ, ◌^◌, ◌<◌, ◌≤◌, false, List, [], ◌∷◌, ◌++◌, ◌==◌, if◌then◌else◌, slice_index};
+ghost use Rattle.std.specs.Prelude.{◌≡◌, ℕ, ◌<◌, ◌≤◌, false, List, [], ◌∷◌, ◌++◌, ◌==◌, if◌then◌else◌, slice_index};
 ghost use Rattle.rlsf_base.specs.declared.memory.range.Range.{Range};
 ghost use Rattle.rlsf_base.specs.SizeClass.{IsValid, class_of};
 ghost use Rattle.rlsf_base.specs.Space.{Space};
-ghost use Rattle.rlsf_int.specs.Bits.{bit, IsFirstOne};
+ghost use Rattle.rlsf_int.specs.Bits.{bit};
 ghost use Rattle.rlsf_machine.specs.Lists.{IsIn};
 ghost use Rattle.rlsf_machine.specs.WellFormed.{IsFree};
 ghost use Rattle.rlsf_table.specs.Counts.{Counts};
-ghost use Rattle.rlsf_table.specs.Steps.Places.{scanned_places};
 ghost use Rattle.rlsf_table.specs.Table.{IsHeadOf, IsHeadSet, IsLeastFrom, class_at, head_at, HasBits, HasTable};
 
+use crate::rows::Rows;
 use rlsf_base::memory::Memory;
-use rlsf_int::{BinInteger, BitPattern, Bitmap};
+use rlsf_int::{BitPattern, Bitmap};
 use std::marker::{Model, PhantomData};
 
 /// Which classes have free blocks, and where the list of each begins.
@@ -31,7 +31,7 @@ pub struct ClassTable<
     // The rows that have a free block.
     fl_bitmap: FLBitmap,
     // The classes of each row that have one.
-    sl_bitmaps: [u128; FLLEN],
+    rows: Rows<FLLEN, SLLEN>,
     // The newest free block of each class, or 0.
     heads: [[usize; SLLEN]; FLLEN],
     marker: PhantomData<SLBitmap>,
@@ -40,10 +40,11 @@ pub struct ClassTable<
 impl<FLBitmap: BitPattern, SLBitmap: BitPattern, const FLLEN: usize, const SLLEN: usize> Model
     for ClassTable<FLBitmap, SLBitmap, FLLEN, SLLEN> {
     ghost use Rattle.rlsf_table.specs.Table.{Table, HasPlaces};
+    ghost use Rattle.rlsf_table.specs.Steps.Places.{row_words};
 
     ghost Value = { Table };
 
-    ghost view = { λ t. record { first_level = FLBitmap.pattern t.fl_bitmap; second_level = t.sl_bitmaps; heads = t.heads } };
+    ghost view = { λ t. record { first_level = FLBitmap.pattern t.fl_bitmap; second_level = row_words FLLEN SLLEN t.rows.low t.rows.high; heads = t.heads } };
 
     // Each row has a head for each class.
     ghost invariant = { λ t. HasPlaces FLLEN SLLEN t.heads };
@@ -61,7 +62,7 @@ impl<FLBitmap: Bitmap, SLBitmap: Bitmap, const FLLEN: usize, const SLLEN: usize>
     {
         ClassTable {
             fl_bitmap: FLBitmap::empty(),
-            sl_bitmaps: [0; FLLEN],
+            rows: Rows::new(),
             heads: [[0; SLLEN]; FLLEN],
             marker: PhantomData,
         }
@@ -96,9 +97,9 @@ impl<FLBitmap: Bitmap, SLBitmap: Bitmap, const FLLEN: usize, const SLLEN: usize>
         ensures past { (sl : ℕ) → SLLEN ≤ sl → bit (SLBitmap.pattern result) sl ≡ false }
     {
         let mut places = SLBitmap::empty();
-        for place in 0..SLLEN as u32 {
-            if self.sl_bitmaps[fl].get_bit(place) {
-                places.insert(place);
+        for place in 0..SLLEN {
+            if self.rows.has(fl, place) {
+                places.insert(place as u32);
             }
         }
         places
@@ -130,7 +131,7 @@ impl<FLBitmap: Bitmap, SLBitmap: Bitmap, const FLLEN: usize, const SLLEN: usize>
         self.heads[fl][sl] = block;
         memory.touch();
         memory.touch();
-        self.sl_bitmaps[fl] |= one_at::<SLLEN>(sl);
+        self.rows.insert(fl, sl);
         memory.touch();
         memory.touch();
         self.fl_bitmap.insert(fl as u32);
@@ -153,9 +154,9 @@ impl<FLBitmap: Bitmap, SLBitmap: Bitmap, const FLLEN: usize, const SLLEN: usize>
         if next == 0 {
             memory.touch();
             memory.touch();
-            self.sl_bitmaps[fl] &= !one_at::<SLLEN>(sl);
+            self.rows.remove(fl, sl);
             memory.touch();
-            if self.sl_bitmaps[fl] == 0 {
+            if self.rows.is_empty(fl) {
                 memory.touch();
                 memory.touch();
                 self.fl_bitmap.remove(fl as u32);
@@ -174,9 +175,8 @@ impl<FLBitmap: Bitmap, SLBitmap: Bitmap, const FLLEN: usize, const SLLEN: usize>
         ensures counts { Counts memory.old memory.new 3 }
     {
         memory.touch();
-        let place = first_place::<SLLEN>(self.sl_bitmaps[fl], sl as u32);
-        if place < scanned_places::<SLLEN>() {
-            return Some((fl, place as usize));
+        if let Some(place) = self.rows.first_from(fl, sl) {
+            return Some((fl, place));
         }
         memory.touch();
         let row = self.fl_bitmap.first_from(fl as u32 + 1) as usize;
@@ -184,41 +184,6 @@ impl<FLBitmap: Bitmap, SLBitmap: Bitmap, const FLLEN: usize, const SLLEN: usize>
             return None;
         }
         memory.touch();
-        let place = first_place::<SLLEN>(self.sl_bitmaps[row], 0);
-        Some((row, place as usize))
-    }
-}
-
-// A row's word has 128 places. Where a row has 64 classes or fewer, the functions below work on its low half alone, which
-// takes the machine fewer steps.
-
-/// The word that has a one at a place of a row, and no other.
-fn one_at<const SLLEN: usize>(place: usize) -> u128
-    requires { (place < SLLEN) × (SLLEN ≤ 128) }
-    ensures { result ≡ 2 ^ place }
-{
-    if SLLEN <= 64 {
-        (1u64 << place) as u128
-    } else {
-        1 << place
-    }
-}
-
-/// How many places of a row are scanned.
-fn scanned_places<const SLLEN: usize>() -> u32
-    ensures { result ≡ scanned_places SLLEN }
-{
-    if SLLEN <= 64 { u64::BITS } else { u128::BITS }
-}
-
-/// The least scanned place from `start` on that has a one, or the number of scanned places where there is none.
-fn first_place<const SLLEN: usize>(places: u128, start: u32) -> u32
-    ensures { IsFirstOne (scanned_places SLLEN) places start result }
-{
-    if SLLEN <= 64 {
-        let low = (places & u64::MAX as u128) as u64;
-        low.bit_scan_forward(start)
-    } else {
-        places.bit_scan_forward(start)
+        Some((row, self.rows.first(row)))
     }
 }

@@ -1,13 +1,13 @@
 -- A block put in front of the list, and the block in front taken out.
-use Rattle.std.proofs.Common.{◌≡◌, ◌≢◌, ℕ, ◌+◌, ◌%◌, ◌^◌, ◌<◌, ◌≤◌, List, [], ◌∷◌, arith, inl, inr, refl, sym, ◌∙◌, ap, subst}
+use Rattle.std.proofs.Common.{◌≡◌, ◌≢◌, ℕ, ◌+◌, ◌%◌, ◌≤◌, List, [], ◌∷◌, arith, inl, inr, refl, sym, ◌∙◌, ap, subst}
 use Rattle.std.proofs.lemmas.Bool.{cases_eq}
 use Rattle.rlsf_base.specs.declared.memory.range.Range.{Range}
-use Rattle.rlsf_base.specs.Space.{Space, word_at, with_word}
+use Rattle.rlsf_base.specs.Space.{Space, word_at}
 use Rattle.rlsf_table.specs.Steps.ClassList.{IsFirstOrOwn, IsFreeList}
 use Rattle.rlsf_table.specs.FreeList.{IsLink, IsPlaced, Rewrites, Links}
 use Rattle.rlsf_machine.specs.Lists.{IsIn}
 use Rattle.rlsf_machine.specs.WellFormed.{coverage, itself}
-use Rattle.rlsf_table.proofs.Words.Writes.{IsWord-at, Rewrites-trans, Rewrites-weaken, Writes, Writes-some}
+use Rattle.rlsf_table.proofs.Words.Writes.{Rewrites-trans, Rewrites-weaken, Writes}
 use Rattle.rlsf_table.proofs.FreeLists.Chains.{first_of, head-whole, Links-hung, starts_differ}
 
 -- where the link lies that names the block before a list's first one, or before the block itself, is a multiple of 32

@@ -1,15 +1,12 @@
 -- The bits of the class table, where a range is put in front of the free ones, or taken out from among them.
-use Rattle.std.proofs.Common.{◌≡◌, ◌≢◌, ℕ, ◌+◌, ◌-◌, ◌^◌, ◌<◌, bit_and, bit_or, ◌==◌, nat_lt, Bool, true, false, ◌&&◌, ◌||◌, not, true≢false, List, ◌∷◌, ◌++◌, length, slice_index, arith, refl, sym, ◌∙◌, ap, subst, inl, inr}
+use Rattle.std.proofs.Common.{◌≡◌, ◌≢◌, ℕ, ◌+◌, ◌<◌, ◌==◌, nat_lt, Bool, true, false, ◌&&◌, ◌||◌, not, true≢false, List, ◌∷◌, ◌++◌, length, slice_index, arith, refl, sym, ◌∙◌, ap, subst, inl, inr}
 use Rattle.std.specs.List.{list_any}
 use Rattle.std.proofs.Math.Bool.{or_comm, and-true}
 use Rattle.std.proofs.lemmas.Bool.{cases_eq, eq-eqb, lt-ltb, ne_eqb, and_from, and_left, and_right}
 use Rattle.rlsf_base.specs.declared.memory.range.Range.{Range}
 use Rattle.rlsf_base.specs.SizeClass.{SizeClass, class_of}
 use Rattle.rlsf_int.specs.Bits.{bit, bit-zero}
-use Rattle.rlsf_int.proofs.Bits.{bit-or, bit-pow, same_from_ones}
-use Rattle.rlsf_int.proofs.Unsigned.{bit-clear}
-use Rattle.std.specs.Int.{w128}
-use Rattle.std.proofs.lemmas.Nat.{one_shl}
+use Rattle.rlsf_int.proofs.Bits.{same_from_ones}
 use Rattle.rlsf_machine.specs.Allocate.{has_class}
 use Rattle.rlsf_machine.proofs.Choices.{has_class-from, has_class-true}
 use Rattle.rlsf_machine.specs.Lists.{IsIn}
@@ -30,13 +27,6 @@ bit-cleared b x i width within is = is ∙ ap (λ y. x && not (i == i && y)) (lt
 -- and each other is as it was
 pub bit-kept : (b x : Bool) (i j width : ℕ) → j ≢ i → b ≡ (x && not (j == i && nat_lt i width)) → b ≡ x
 bit-kept b x i j width apart is = is ∙ ap (λ y. x && not (y && nat_lt i width)) (ne_eqb j i apart) ∙ and-true x
-
--- the same of a word and the word that has one one
-pub bit-with_one : (n one i j : ℕ) → one ≡ 2 ^ i → bit (bit_or n one) j ≡ (bit n j || j == i)
-bit-with_one n one i j is = bit-or n one j ∙ ap (λ b. bit n j || b) (ap (λ m. bit m j) is ∙ bit-pow i j)
-
-pub bit-without_one : (n one i j : ℕ) → n < 2 ^ 128 → i < 128 → one ≡ 2 ^ i → bit (bit_and n (2 ^ 128 - 1 - one)) j ≡ (bit n j && not (j == i && nat_lt i 128))
-bit-without_one n one i j fits within is = ap (λ m. bit (bit_and n (2 ^ 128 - 1 - m)) j) (is ∙ sym (one_shl i 128 within)) ∙ bit-clear w128 n i fits within j
 
 -- ---- a range of a class
 
@@ -93,7 +83,7 @@ pub record IsClassSet (fllen : ℕ) (t u : Table) (fl sl : ℕ) : Type 0 where
   pub rows : length u.second_level ≡ fllen
   pub first : (i : ℕ) → bit u.first_level i ≡ (bit t.first_level i || i == fl)
   pub second : (k : ℕ) → bit (slice_index u.second_level fl) k ≡ (bit (slice_index t.second_level fl) k || k == sl)
-  pub others : (i : ℕ) → i ≢ fl → slice_index u.second_level i ≡ slice_index t.second_level i
+  pub others : (i : ℕ) → i < fllen → i ≢ fl → slice_index u.second_level i ≡ slice_index t.second_level i
 
 -- the table u of a range and the others
 module _ (fllen sllen fl sl : ℕ) (t u : Table) (r : Range) (free : List Range) (class : class_of sllen r.len ≡ class_at fl sl) (set : IsClassSet fllen t u fl sl) (bits : HasBits fllen sllen t free) where
@@ -123,7 +113,7 @@ module _ (fllen sllen fl sl : ℕ) (t u : Table) (r : Range) (free : List Range)
     second = λ i k within. elim (cases_eq i fl) [
       | inl same ↦ subst (λ j. bit (slice_index u.second_level j) k ≡ list_any (has_class sllen (class_at j k)) (r ∷ free)) (sym same) (put_own k (subst (λ j. j < fllen) same within))
       | inr apart ↦
-          ap (λ n. bit n k) (set.others i apart) ∙ bits.second i k within
+          ap (λ n. bit n k) (set.others i within apart) ∙ bits.second i k within
           ∙ sym (ap (λ b. b || list_any (has_class sllen (class_at i k)) free) (has_class-other_row sllen fl sl r class i k apart))
     ];
   }
@@ -135,7 +125,7 @@ pub record IsClassCleared (fllen : ℕ) (t u : Table) (fl sl : ℕ) : Type 0 whe
   pub rows : length u.second_level ≡ fllen
   pub first : (i : ℕ) → i ≢ fl → bit u.first_level i ≡ bit t.first_level i
   pub places : (k : ℕ) → k ≢ sl → bit (slice_index u.second_level fl) k ≡ bit (slice_index t.second_level fl) k
-  pub others : (i : ℕ) → i ≢ fl → slice_index u.second_level i ≡ slice_index t.second_level i
+  pub others : (i : ℕ) → i < fllen → i ≢ fl → slice_index u.second_level i ≡ slice_index t.second_level i
 
 -- the table u of the others than r, if it is right of r's row and class
 module _ (fllen sllen fl sl : ℕ) (t u : Table) (r : Range) (before after : List Range) (class : class_of sllen r.len ≡ class_at fl sl) (bits : HasBits fllen sllen t (before ++ r ∷ after)) (within : fl < fllen)
@@ -157,7 +147,7 @@ module _ (fllen sllen fl sl : ℕ) (t u : Table) (r : Range) (before after : Lis
         | inl here ↦ subst (λ j. bit (slice_index u.second_level fl) j ≡ list_any (has_class sllen (class_at fl j)) (before ++ after)) (sym here) place
         | inr apart ↦ taken_place k apart
       ])
-      | inr apart ↦ ap (λ n. bit n k) (cleared.others i apart) ∙ bits.second i k in_rows ∙ list_any-less_one (has_class sllen (class_at i k)) before r after (has_class-other_row sllen fl sl r class i k apart)
+      | inr apart ↦ ap (λ n. bit n k) (cleared.others i in_rows apart) ∙ bits.second i k in_rows ∙ list_any-less_one (has_class sllen (class_at i k)) before r after (has_class-other_row sllen fl sl r class i k apart)
     ];
   }
 

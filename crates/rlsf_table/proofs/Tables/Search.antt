@@ -1,14 +1,12 @@
 -- The search for the first class that has free ranges, from a class on, by the bits of the class table.
-use Rattle.std.proofs.Common.{◌≡◌, ℕ, ◌+◌, ◌-◌, ◌^◌, ◌<◌, ◌≤◌, true, ◌&&◌, nat_le, bit_and, true≢false, List, Some, None, slice_index, arith, refl, sym, ◌∙◌, ap, inl, inr}
-use Rattle.std.proofs.Math.Bool.{and-true}
-use Rattle.std.proofs.lemmas.Bool.{cases_eq, cases_lt, cond-true, cond-false, eq-eqb, eqb-true, le-leb, lt-leb, lt-ltb}
+use Rattle.std.proofs.Common.{◌≡◌, ℕ, ◌+◌, ◌-◌, ◌^◌, ◌<◌, ◌≤◌, true, nat_le, true≢false, List, Some, None, slice_index, arith, refl, sym, ◌∙◌, ap, inl, inr}
+use Rattle.std.proofs.lemmas.Bool.{cases_eq, cases_lt, cond-true, cond-false, eq-eqb, eqb-true, le-leb, lt-leb}
 use Rattle.rlsf_base.specs.declared.memory.range.Range.{Range}
 use Rattle.rlsf_base.specs.PowerOfTwo.{floor_log2}
 use Rattle.rlsf_base.specs.SizeClass.{class_of, IsAtMost}
 use Rattle.rlsf_base.proofs.Numbers.PowersOfTwo.{floor_log2-lt, pow-between}
 use Rattle.rlsf_base.proofs.SizeClasses.Reach.{division-lt}
 use Rattle.rlsf_int.specs.Bits.{bit, IsFirstOne}
-use Rattle.rlsf_int.proofs.Bits.{bit-and, bit-low_ones}
 use Rattle.rlsf_machine.specs.Allocate.{has_class}
 use Rattle.rlsf_machine.specs.Lists.{IsIn}
 use Rattle.rlsf_machine.specs.WellFormed.{IsFree}
@@ -132,14 +130,3 @@ scanned_places-whole_row sllen within = elim (cases_lt 64 sllen) [
   | inl many ↦ omega (arith, scanned_places-many sllen many)
   | inr few ↦ omega (arith, scanned_places-few sllen few)
 ]
-
--- a scan of the lowest 64 places is one of the word
-pub IsFirstOne-low : (n start place : ℕ) → IsFirstOne 64 (bit_and n 18446744073709551615) start place → IsFirstOne 64 n start place
-IsFirstOne-low n start place scan = record {
-  none_before = λ i from before. sym (kept i (omega (arith, scan.within))) ∙ scan.none_before i from before;
-  within = scan.within;
-  found = λ below. let one = scan.found below in (one.0, sym (kept place below) ∙ one.1);
-}
-  where
-    kept : (i : ℕ) → i < 64 → bit (bit_and n 18446744073709551615) i ≡ bit n i
-    kept i low = bit-and n 18446744073709551615 i ∙ ap (λ b. bit n i && b) (bit-low_ones 64 i ∙ lt-ltb i 64 low) ∙ and-true (bit n i)

@@ -1,6 +1,5 @@
 -- The block whose link is written has room for it; and the three writes put the block in front.
-use Rattle.std.proofs.Common.{◌≡◌, ◌+◌, ◌∙◌, arith, refl}
-use Rattle.rlsf_base.specs.declared.memory.range.Range.{Range}
+use Rattle.std.proofs.Common.{◌+◌, ◌∙◌, arith, refl}
 use Rattle.rlsf_table.proofs.FreeLists.Front.{Fronts, Links-front, own_placed, Rewrites-front}
 use Rattle.rlsf_table.proofs.Words.Writes.{fits_at, IsWord-at, Writes, Writes-some}
 use Rattle.rlsf_table.proofs.Words.Writing.{wrote}

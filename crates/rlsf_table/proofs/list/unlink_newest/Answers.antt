@@ -1,5 +1,5 @@
 -- The block is taken out of the list of its class, and the class's head is set to the next one.
-use Rattle.std.proofs.Common.{◌≡◌, ℕ, [], ◌∷◌, ◌++◌, List, rules, subst, sym}
+use Rattle.std.proofs.Common.{ℕ, ◌∷◌, ◌++◌, List, rules, subst, sym}
 use Rattle.rlsf_base.specs.declared.memory.range.Range.{Range}
 use Rattle.rlsf_table.specs.FreeList.{IsLink, Links, Rewrites}
 use Rattle.rlsf_table.specs.FreeTable.{IsFreeTable}

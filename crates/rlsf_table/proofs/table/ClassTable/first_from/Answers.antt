@@ -2,24 +2,28 @@
 use Rattle.std.proofs.Common.{arith, sym, subst}
 use Rattle.rlsf_table.specs.Table.{HasBits}
 use Rattle.rlsf_table.proofs.Tables.RowLengths.{row_length-bounds}
+use Rattle.rlsf_table.proofs.Tables.Rows.{IsFirstOne-row}
 use Rattle.rlsf_table.proofs.Tables.Search.{IsLeastFrom-own_row, IsLeastFrom-none, IsLeastFrom-row_behind, scanned_places-whole_row}
 use Rattle.rlsf_table.proofs.table.ClassTable.first_from.Goals as goal
 
-pub returns-then-place-scanned_places-clause-first : goal.returns-then-place-scanned_places-clause-first
-returns-then-place-scanned_places-clause-first g c free bits blocks =
+pub returns-in-Some-clause-first : goal.returns-in-Some-clause-first
+returns-in-Some-clause-first g c free bits blocks =
     let some = row_length-bounds g.row.SLLEN c.requires.parameters.power_of_two in
     let inside = subst (λ t. HasBits g.row.FLLEN g.row.SLLEN t free) (sym c.self.view_is) bits in
-    IsLeastFrom-own_row some.0 inside blocks c.requires.class.0 c.first_place-place.ensures (omega (arith, c.scanned_places.ensures, c.if-place-scanned_places.true))
+    let scan = IsFirstOne-row g.row.FLLEN g.row.SLLEN _ _ c.args.fl c.requires.class.0 c.in-Some.ensures.1 in
+    IsLeastFrom-own_row some.0 inside blocks c.requires.class.0 scan c.in-Some.ensures.0
 
 pub returns-then-row-clause-first : goal.returns-then-row-clause-first
 returns-then-row-clause-first g c free bits blocks =
     let some = row_length-bounds g.row.SLLEN c.requires.parameters.power_of_two in
     let inside = subst (λ t. HasBits g.row.FLLEN g.row.SLLEN t free) (sym c.self.view_is) bits in
-    IsLeastFrom-none some.0 inside blocks c.requires.class.0 c.first_place-place.ensures (scanned_places-whole_row g.row.SLLEN some.1) (omega (arith, c.scanned_places.ensures, c.if-place-scanned_places.false)) c.first_from-row.ensures c.if-row.true
+    let scan = IsFirstOne-row g.row.FLLEN g.row.SLLEN _ _ c.args.fl c.requires.class.0 c.in_default.ensures in
+    IsLeastFrom-none some.0 inside blocks c.requires.class.0 scan (scanned_places-whole_row g.row.SLLEN some.1) (omega arith) c.first_from-row.ensures c.if-row.true
 
 pub returns-clause-first : goal.returns-clause-first
 returns-clause-first g c free bits blocks =
     let some = row_length-bounds g.row.SLLEN c.requires.parameters.power_of_two in
     let inside = subst (λ t. HasBits g.row.FLLEN g.row.SLLEN t free) (sym c.self.view_is) bits in
-    IsLeastFrom-row_behind some.0 inside blocks c.requires.class.0 c.first_place-place.ensures (scanned_places-whole_row g.row.SLLEN some.1) (omega (arith, c.scanned_places.ensures, c.if-place-scanned_places.false)) c.first_from-row.ensures
-    c.if-row.false c.requires.parameters.rows_fit c.first_place-place-2.ensures
+    let scan = IsFirstOne-row g.row.FLLEN g.row.SLLEN _ _ c.args.fl c.requires.class.0 c.in_default.ensures in
+    let behind = IsFirstOne-row g.row.FLLEN g.row.SLLEN _ _ c.first_from-row.result c.if-row.false c.first.ensures in
+    IsLeastFrom-row_behind some.0 inside blocks c.requires.class.0 scan (scanned_places-whole_row g.row.SLLEN some.1) (omega arith) c.first_from-row.ensures c.if-row.false c.requires.parameters.rows_fit behind

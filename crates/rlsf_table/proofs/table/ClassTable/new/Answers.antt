@@ -2,6 +2,7 @@
 use Rattle.std.proofs.Common.{refl, ◌∙◌, ap}
 use Rattle.rlsf_int.specs.Bits.{bit, bit-zero}
 use Rattle.rlsf_table.proofs.Tables.Empty.{HasPlaces-empty, HasTable-empty}
+use Rattle.rlsf_table.proofs.Tables.Rows.{row_words-at, row_words-length}
 use Rattle.rlsf_table.proofs.table.ClassTable.new.Goals as goal
 
 pub invariant_of-result : goal.invariant_of-result
@@ -9,4 +10,4 @@ invariant_of-result g c = HasPlaces-empty g.row.FLLEN g.row.SLLEN
 
 pub returns : goal.returns
 returns g c m =
-    HasTable-empty _ (λ i. ap (λ n. bit n i) c.empty.ensures ∙ bit-zero i) refl refl m
+    HasTable-empty _ (λ i. ap (λ n. bit n i) c.empty.ensures ∙ bit-zero i) (row_words-length g.row.FLLEN g.row.SLLEN _ _) (λ i within. row_words-at g.row.FLLEN g.row.SLLEN _ _ i within ∙ c.new.ensures i within) refl m

@@ -1,0 +1,134 @@
+//! The second level of a class table: which places of its rows have a one.
+
+ghost use Rattle.std.specs.Prelude.{◌≡◌, ◌≢◌, ℕ, ◌<◌, ◌≤◌, ◌↔◌, ◌||◌, ◌==◌, false, IsTrue, slice_index};
+ghost use Rattle.rlsf_int.specs.Bits.{bit, IsFirstOne};
+ghost use Rattle.rlsf_table.specs.Steps.Places.{joined, row_word, scanned_places, IsFirstFrom};
+
+use rlsf_int::BinInteger;
+
+/// Which places of each row have a one. A row of 64 places or fewer is one word, and its scan one of that word; a row of 128 is
+/// two words.
+///
+/// A row is below `FLLEN`, and a place below `SLLEN`, which is at most 128.
+#[derive(Drop)]
+pub(crate) struct Rows<const FLLEN: usize, const SLLEN: usize> {
+    // The first 64 places of each row.
+    low: [u64; FLLEN],
+    // The places behind them. Where rows have none, it is neither read nor written.
+    high: [u64; FLLEN],
+}
+
+impl<const FLLEN: usize, const SLLEN: usize> Rows<FLLEN, SLLEN> {
+    /// Rows without a one.
+    pub(crate) fn new() -> Self
+        ensures { (fl : ℕ) → fl < FLLEN → row_word SLLEN result.low result.high fl ≡ 0 }
+    {
+        Rows {
+            low: [0; FLLEN],
+            high: [0; FLLEN],
+        }
+    }
+
+    /// Whether a place has a one.
+    pub(crate) fn has(&self, fl: usize, place: usize) -> bool
+        requires { (fl < FLLEN) × (place < SLLEN) × (SLLEN ≤ 128) }
+        ensures { result ≡ bit (row_word SLLEN self.now.low self.now.high fl) place }
+    {
+        if SLLEN <= 64 {
+            self.low[fl].get_bit(place as u32)
+        } else {
+            self.both(fl).get_bit(place as u32)
+        }
+    }
+
+    /// Puts a one at a place.
+    pub(crate) fn insert(&mut self, fl: usize, place: usize)
+        requires { (fl < FLLEN) × (place < SLLEN) × (SLLEN ≤ 128) }
+        ensures own { (k : ℕ) → bit (row_word SLLEN self.new.low self.new.high fl) k ≡ (bit (row_word SLLEN self.old.low self.old.high fl) k || k == place) }
+        ensures others { (i : ℕ) → i ≢ fl → row_word SLLEN self.new.low self.new.high i ≡ row_word SLLEN self.old.low self.old.high i }
+    {
+        if SLLEN <= 64 {
+            self.low[fl] |= 1 << place;
+        } else {
+            self.set_both(fl, self.both(fl) | 1 << place);
+        }
+    }
+
+    /// Takes the one at a place away, if there is one.
+    pub(crate) fn remove(&mut self, fl: usize, place: usize)
+        requires { (fl < FLLEN) × (place < SLLEN) × (SLLEN ≤ 128) }
+        ensures gone { bit (row_word SLLEN self.new.low self.new.high fl) place ≡ false }
+        ensures own { (k : ℕ) → k ≢ place → bit (row_word SLLEN self.new.low self.new.high fl) k ≡ bit (row_word SLLEN self.old.low self.old.high fl) k }
+        ensures others { (i : ℕ) → i ≢ fl → row_word SLLEN self.new.low self.new.high i ≡ row_word SLLEN self.old.low self.old.high i }
+    {
+        if SLLEN <= 64 {
+            self.low[fl] &= !(1 << place);
+        } else {
+            self.set_both(fl, self.both(fl) & !(1 << place));
+        }
+    }
+
+    /// Whether a row has no one.
+    pub(crate) fn is_empty(&self, fl: usize) -> bool
+        requires { fl < FLLEN }
+        ensures { IsTrue result ↔ (row_word SLLEN self.now.low self.now.high fl ≡ 0) }
+    {
+        if SLLEN <= 64 {
+            self.low[fl] == 0
+        } else {
+            self.both(fl) == 0
+        }
+    }
+
+    /// The least place of a row from `start` on that has a one, if one has.
+    pub(crate) fn first_from(&self, fl: usize, start: usize) -> Option<usize>
+        requires { (fl < FLLEN) × (start < SLLEN) × (SLLEN ≤ 128) }
+        ensures { IsFirstFrom SLLEN (row_word SLLEN self.now.low self.now.high fl) start result }
+    {
+        if SLLEN <= 64 {
+            let places = self.low[fl] & (u64::MAX << start);
+            if places != 0 {
+                Some(places.trailing_zeros() as usize)
+            } else {
+                None
+            }
+        } else {
+            let place = self.both(fl).bit_scan_forward(start as u32);
+            if place < 128 {
+                Some(place as usize)
+            } else {
+                None
+            }
+        }
+    }
+
+    /// The least place of a row that has a one, or the number of scanned places where none has.
+    pub(crate) fn first(&self, fl: usize) -> usize
+        requires { fl < FLLEN }
+        ensures { IsFirstOne (scanned_places SLLEN) (row_word SLLEN self.now.low self.now.high fl) 0 result }
+    {
+        if SLLEN <= 64 {
+            self.low[fl].trailing_zeros() as usize
+        } else {
+            self.both(fl).trailing_zeros() as usize
+        }
+    }
+
+    // The two words of a row as one.
+    fn both(&self, fl: usize) -> u128
+        requires { fl < FLLEN }
+        ensures { result ≡ joined (slice_index self.now.low fl) (slice_index self.now.high fl) }
+    {
+        self.low[fl] as u128 + ((self.high[fl] as u128) << 64)
+    }
+
+    // Sets the two words of a row.
+    fn set_both(&mut self, fl: usize, places: u128)
+        requires { fl < FLLEN }
+        ensures own { joined (slice_index self.new.low fl) (slice_index self.new.high fl) ≡ places }
+        ensures others { (i : ℕ) → i ≢ fl → (slice_index self.new.low i ≡ slice_index self.old.low i) × (slice_index self.new.high i ≡ slice_index self.old.high i) }
+    {
+        self.low[fl] = (places % (1 << 64)) as u64;
+        self.high[fl] = (places >> 64) as u64;
+    }
+}
