@@ -3,7 +3,7 @@
  *
  * What a caller owes, in each call; nothing tests it:
  *   - The handle is the one that rlsf_init was given, rlsf_destroy wasn't called on it since, and nothing else wrote to it.
- *   - One call on a handle runs at a time. The thread that made a pool calls it.
+ *   - One call on a handle runs at a time. Another thread may go on with it, once a lock, or that thread's start or end, orders the two.
  *   - `bytes` and `into` aren't null, not even where len is 0. They are len bytes, below 2^63, that may be read, or read and written,
  *     and no part of a pool or of its handle. No other call writes to them meanwhile.
  *   - malloc, realloc and free are those of one allocator, aligned as C wants it. No call comes from a signal handler, nor from a

@@ -39,8 +39,10 @@ fn value(answer: Answer) -> Result<usize> { done(answer.error).map(|()| answer.v
 
 pub enum Kind { Small = 1, Large = 2 }
 
-/// A pool. It isn't `Send`: the thread that made it calls it.
+/// A pool. It may go to another thread, and each call borrows it alone.
 pub struct Pool { at: NonNull<u8>, layout: Layout }
+// SAFETY: crates/rlsf_c proves it of what lies at the handle.
+unsafe impl Send for Pool {}
 
 impl Pool {
     pub fn new(kind: Kind, start: usize, len: usize) -> Result<Pool> {
@@ -88,7 +90,7 @@ fn main() -> Result<()> {
         used += block.used;
     }
     assert_eq!(used, 1);
-    pool.free(addr)?;
+    let mut pool = std::thread::spawn(move || pool.free(addr).map(|()| pool)).join().unwrap()?;
     assert_eq!(pool.free(addr), Err(Error(3)));
     assert_eq!(pool.read(addr, 0, &mut []), Err(Error(3)));
     assert_eq!(pool.allocate(1, 3), Err(Error(9)));
