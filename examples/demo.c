@@ -154,6 +154,22 @@ static void blocks(size_t kind) {
     free(p);
 }
 
+/* The memory begins as zeros: of the first payload the allocator has had 16 bytes at most, the links of the block that was free. */
+static void zeros(size_t kind) {
+    static unsigned char bytes[3000];
+    size_t others = 0;
+    rlsf_pool *p = room();
+    WANT(rlsf_init(p, kind, 4096, 65536), RLSF_OK);
+    WANT(rlsf_insert(p, 4096, 65536).error, RLSF_OK);
+    rlsf_answer first = rlsf_allocate(p, sizeof bytes, 1);
+    memset(bytes, 7, sizeof bytes);
+    WANT(rlsf_read(p, first.value, 0, bytes, sizeof bytes), RLSF_OK);
+    for (size_t i = 16; i < sizeof bytes; i++) others += bytes[i] != 0;
+    WANT(others, 0);
+    rlsf_destroy(p);
+    free(p);
+}
+
 int main(void) {
     numbers();
     no_pool(0, 4096, 4096, RLSF_NO_KIND);
@@ -166,6 +182,8 @@ int main(void) {
     two_blocks(RLSF_LARGE);
     blocks(RLSF_SMALL);
     blocks(RLSF_LARGE);
+    zeros(RLSF_SMALL);
+    zeros(RLSF_LARGE);
     if (failures) return 1;
     puts("demo: all calls answered as the header says");
     return 0;

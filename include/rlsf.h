@@ -73,7 +73,7 @@ size_t rlsf_size(void);
  *
  * RLSF_NO_KIND, RLSF_ZERO_START, RLSF_TOO_LONG, each exactly where it says, or RLSF_OUT_OF_MEMORY. Then all calls find a pool without an
  * address, and rlsf_destroy is owed none the less. (tested) It asks malloc for len + len / 16 bytes and a few, and no other call asks it
- * for any. The memory has zeros. */
+ * for any. The memory begins as zeros. */
 size_t rlsf_init(rlsf_pool *pool, size_t kind, size_t start, size_t len);
 
 /* Ends a pool. The handle is room again. (tested) The memory goes back. */
