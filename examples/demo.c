@@ -69,8 +69,8 @@ static void no_pool(size_t kind, size_t start, size_t len, size_t error) {
     free(p);
 }
 
-/* Ranges, payloads in a chunk of two blocks, and their bytes. */
-static void two_blocks(size_t kind) {
+/* A chunk with room for two payloads; ranges that aren't taken. */
+static rlsf_pool *two_blocks(size_t kind) {
     rlsf_pool *p = room();
     WANT(rlsf_init(p, kind, 4096, 4096), RLSF_OK);
     WANT(rlsf_len(p), 4096);
@@ -82,6 +82,12 @@ static void two_blocks(size_t kind) {
     ANSWER(rlsf_insert(p, 4096, 96), RLSF_NOT_BEHIND, 0);    /* twice */
     ANSWER(rlsf_append(p, 4224, 96), RLSF_NOT_NEXT, 0);
     ANSWER(rlsf_append(p, 4192, 31), RLSF_TOO_SHORT, 0);
+    return p;
+}
+
+/* Payloads in the two blocks. */
+static void payloads(size_t kind) {
+    rlsf_pool *p = two_blocks(kind);
     ANSWER(rlsf_allocate(p, 0, 3), RLSF_NO_LAYOUT, 0);
     ANSWER(rlsf_allocate(p, (size_t)1 << 63, 1), RLSF_NO_LAYOUT, 0);
     ANSWER(rlsf_allocate(p, 0, 1), RLSF_OK, 4112);
@@ -95,7 +101,16 @@ static void two_blocks(size_t kind) {
     WANT(rlsf_free(p, 4112), RLSF_OK);
     WANT(rlsf_free(p, 4112), RLSF_UNKNOWN_ADDRESS);          /* twice */
     ANSWER(rlsf_allocate(p, 0, 1), RLSF_OK, 4112);
+    rlsf_destroy(p);
+    free(p);
+}
+
+/* The bytes of one of them, and its size. */
+static void bytes(size_t kind) {
+    rlsf_pool *p = two_blocks(kind);
     unsigned char in[16] = "fifteen bytes..", out[16] = {0};
+    ANSWER(rlsf_allocate(p, 0, 1), RLSF_OK, 4112);
+    ANSWER(rlsf_allocate(p, 0, 1), RLSF_OK, 4144);
     WANT(rlsf_write(p, 4112, 0, in, 16), RLSF_OK);
     WANT(rlsf_read(p, 4112, 0, out, 16), RLSF_OK);
     WANT(memcmp(in, out, 16), 0);
@@ -154,6 +169,22 @@ static void blocks(size_t kind) {
     free(p);
 }
 
+/* The memory begins as zeros: of the first payload the allocator has had 16 bytes at most, the links of the block that was free. */
+static void zeros(size_t kind) {
+    static unsigned char bytes[3000];
+    size_t others = 0;
+    rlsf_pool *p = room();
+    WANT(rlsf_init(p, kind, 4096, 65536), RLSF_OK);
+    WANT(rlsf_insert(p, 4096, 65536).error, RLSF_OK);
+    rlsf_answer first = rlsf_allocate(p, sizeof bytes, 1);
+    memset(bytes, 7, sizeof bytes);
+    WANT(rlsf_read(p, first.value, 0, bytes, sizeof bytes), RLSF_OK);
+    for (size_t i = 16; i < sizeof bytes; i++) others += bytes[i] != 0;
+    WANT(others, 0);
+    rlsf_destroy(p);
+    free(p);
+}
+
 int main(void) {
     numbers();
     no_pool(0, 4096, 4096, RLSF_NO_KIND);
@@ -162,10 +193,14 @@ int main(void) {
     no_pool(RLSF_LARGE, 0, (size_t)-1, RLSF_ZERO_START);
     no_pool(RLSF_SMALL, 4096, (size_t)-4096, RLSF_TOO_LONG);
     no_pool(RLSF_LARGE, 4096, (size_t)1 << 62, RLSF_OUT_OF_MEMORY);
-    two_blocks(RLSF_SMALL);
-    two_blocks(RLSF_LARGE);
+    payloads(RLSF_SMALL);
+    payloads(RLSF_LARGE);
+    bytes(RLSF_SMALL);
+    bytes(RLSF_LARGE);
     blocks(RLSF_SMALL);
     blocks(RLSF_LARGE);
+    zeros(RLSF_SMALL);
+    zeros(RLSF_LARGE);
     if (failures) return 1;
     puts("demo: all calls answered as the header says");
     return 0;

@@ -3,7 +3,7 @@
  *
  * What a caller owes, in each call; nothing tests it:
  *   - The handle is the one that rlsf_init was given, rlsf_destroy wasn't called on it since, and nothing else wrote to it.
- *   - One call on a handle runs at a time. The thread that made a pool calls it.
+ *   - One call on a handle runs at a time. Another thread may go on with it, once a lock, or that thread's start or end, orders the two.
  *   - `bytes` and `into` aren't null, not even where len is 0. They are len bytes, below 2^63, that may be read, or read and written,
  *     and no part of a pool or of its handle. No other call writes to them meanwhile.
  *   - malloc, realloc and free are those of one allocator, aligned as C wants it. No call comes from a signal handler, nor from a
@@ -73,7 +73,7 @@ size_t rlsf_size(void);
  *
  * RLSF_NO_KIND, RLSF_ZERO_START, RLSF_TOO_LONG, each exactly where it says, or RLSF_OUT_OF_MEMORY. Then all calls find a pool without an
  * address, and rlsf_destroy is owed none the less. (tested) It asks malloc for len + len / 16 bytes and a few, and no other call asks it
- * for any. The memory has zeros. */
+ * for any. The memory begins as zeros. */
 size_t rlsf_init(rlsf_pool *pool, size_t kind, size_t start, size_t len);
 
 /* Ends a pool. The handle is room again. (tested) The memory goes back. */

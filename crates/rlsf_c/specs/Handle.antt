@@ -1,7 +1,10 @@
 -- The pool behind a handle.
 use Rattle.std.specs.Borrow.{Fml, full_share}
 use Rattle.std.specs.Ptr.{Ptr, lies_at, room_at}
+use Rattle.std.specs.Prelude.{ℕ}
 use base.Fml.{fex}
+use prog.Memory.{size}
+use denote.Param.{layout}
 use Rattle.rlsf_c.specs.Seen.{PoolValue}
 use Rattle.rlsf_c.specs.contracts.pool.Pool.{the_row}
 
@@ -20,3 +23,7 @@ HoldsSome p P = fex (SomePool P) (λ x. lies_at the_row full_share p x.0)
 -- there is room for a pool at the handle
 abbrev pub HasRoom : Ptr → Fml
 HasRoom p = room_at the_row p
+
+-- how many bytes that room has
+abbrev pub room_size : ℕ
+room_size = size (layout the_row)

@@ -5,7 +5,7 @@ ghost use Rattle.std.specs.Borrow.{sem};
 ghost use Rattle.std.specs.Prelude.{◌≡◌};
 ghost use Rattle.rlsf_base.specs.Range.{range_at};
 ghost use Rattle.rlsf_c.specs.Calls.{Allocates, Appends, Frees, Inserts, Reads, Resizes, ResizesThere, Tells, Writes};
-ghost use Rattle.rlsf_c.specs.Handle.{HasRoom, Holds, HoldsSome};
+ghost use Rattle.rlsf_c.specs.Handle.{HasRoom, Holds, HoldsSome, room_size};
 ghost use Rattle.rlsf_c.specs.Seen.{IsMade, PoolValue, append_result, insert_result, seen, status_of};
 ghost use Rattle.rlsf_c.specs.Walks.{IsNext, IsSummary};
 
@@ -21,7 +21,9 @@ use std::mem::size_of;
 
 /// How many bytes a pool takes at its handle.
 #[unsafe(no_mangle)]
-pub extern "C" fn rlsf_size() -> usize {
+pub extern "C" fn rlsf_size() -> usize
+    ensures { result ≡ room_size }
+{
     size_of::<Pool>()
 }
 

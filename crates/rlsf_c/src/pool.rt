@@ -206,6 +206,19 @@ impl Pool {
     }
 }
 
+/// A pool as it is: by the bound, all that it owns may go to another thread between two calls.
+pub fn handed_over(pool: Pool) -> Pool
+    ensures { result ≡ pool }
+{
+    crosses(pool)
+}
+
+fn crosses<T: Send>(value: T) -> T
+    ensures { result ≡ value }
+{
+    value
+}
+
 /// Drops a pool.
 pub fn finish(pool: Pool) {
     let _ = pool;
