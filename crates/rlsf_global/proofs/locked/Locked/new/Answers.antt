@@ -1,4 +1,4 @@
-use Rattle.std.proofs.Common.{subst, sym}
+use Rattle.std.proofs.Common.{rules, subst, sym}
 use Rattle.rlsf_flex.proofs.Standing.{flex_stood}
 use Rattle.rlsf_global.specs.Locked.{IsLocked, locked_contents}
 use Rattle.rlsf_placement.proofs.Maps.{Lists-none}
@@ -12,3 +12,6 @@ invariant_of-result g c = subst (λ l. IsLocked (locked_contents c.new-2.result 
 pub returns-clause-stands : goal.returns-clause-stands
 returns-clause-stands g c = locked_stands _ (subst (λ l. IsLocked (locked_contents c.new-2.result l)) (sym c.new-3.ensures.items)
     (record { flex = flex_stood c.new-2.result c.new-2.ensures.stands; sorted = tt; lists = Lists-none c.new-2.result.state c.new-2.ensures.state }))
+
+pub returns-clause-heap : goal.returns-clause-heap
+returns-clause-heap g c = search rules

@@ -1,0 +1,5 @@
+use Rattle.std.proofs.Common.{rules}
+use Rattle.rlsf_global.proofs.pages.SourceFlexSource.supports_realloc_inplace_grow.Goals as goal
+
+pub returns : goal.returns
+returns g c = search rules
