@@ -1,22 +1,22 @@
 -- The questions of a growth, one after another.
-use Rattle.std.proofs.Common.{◌≡◌, ℕ, ◌+◌, ◌^◌, ◌<◌, Bool, true, false, true≢false, cond, List, ◌++◌, append-nil, Option, Some, None, refl, sym, ◌∙◌, ap, subst, inl, inr}
+use Rattle.std.proofs.Common.{◌≡◌, ℕ, ◌+◌, ◌^◌, ◌<◌, Bool, true, false, true≢false, cond, List, [], ◌++◌, append-nil, Option, Some, None, refl, sym, ◌∙◌, ap, subst, inl, inr}
 use Rattle.std.specs.Option.{is_some, SomeIff}
-use Rattle.std.proofs.lemmas.Bool.{false≢true, lt-ltb}
+use Rattle.std.proofs.lemmas.Bool.{cases_lt, false≢true, le-ltb, lt-ltb}
 use Rattle.std.proofs.lemmas.Option.{none-some, same_Some}
 use Rattle.rlsf_base.specs.declared.memory.range.Range.{Range}
 use Rattle.rlsf_blocks.specs.Spare.{KeepsSpare}
 use Rattle.rlsf_flex.specs.SpareBytes.{KeepsSpareButFooter}
-use Rattle.rlsf_flex.specs.StandsFor.{FlexContents}
+use Rattle.rlsf_flex.specs.StandsFor.{FlexContents, FlexStandsFor}
 use Rattle.rlsf_flex.specs.Steps.Growth.{AskedGrowth, AskedRange, Extended, MayCome, outcome_of_growth, outcome_of_range}
 use Rattle.rlsf_machine.specs.Answers.{MayAnswer, MayAnswerAll}
 use Rattle.rlsf_machine.specs.FlexState.{FlexState, KeptPool}
-use Rattle.rlsf_machine.specs.Growth.{IsPossible, Questions, grown, growth_note, growth_question, if_fits, is_more, notes_of, questions, questions_for, questions_kept, range_length, range_note, refused, TakesIn}
+use Rattle.rlsf_machine.specs.Growth.{IsPossible, Questions, grown, growth_note, growth_question, if_fits, is_more, notes_of, nothing, questions, questions_for, questions_kept, range_length, range_note, refused, TakesIn}
 use Rattle.rlsf_machine.specs.Note.{Note, LeadsBy, grow}
 use Rattle.rlsf_machine.specs.Terms.{Terms}
 use Rattle.rlsf_machine.proofs.Coverage.{IsIn-append}
 use Rattle.rlsf_machine.proofs.Notes.{LeadsBy-append, terms-led}
 use Rattle.rlsf_machine.proofs.RangeLengths.{if_fits-some}
-use Rattle.rlsf_flex.proofs.OutsideNow.{KeepsOutsideNow-then}
+use Rattle.rlsf_flex.proofs.OutsideNow.{KeepsOutsideNow-refl, KeepsOutsideNow-then}
 use Rattle.rlsf_flex.proofs.SpareBytes.{KeepsSpare-room, KeepsSpareButFooter-behind}
 
 -- what is asked where the pool is kept
@@ -68,6 +68,33 @@ sum_fits None n len is some = absurd (none-some len some)
 sum_fits (Some m) n len (below, same) some =
     let is : m ≡ len = same_Some m len some in
     (ap (λ b. cond b (Some n) None) (lt-ltb n (2 ^ 64) below) ∙ ap Some (sym same ∙ is), sym is ∙ same)
+
+-- and one that doesn't
+pub sum_past : (o : Option ℕ) (n : ℕ) → SomeIff o (n < 2 ^ 64) n → o ≡ None → if_fits n ≡ None
+sum_past None n past none = elim (cases_lt n (2 ^ 64)) [
+  | inl below ↦ absurd (past below)
+  | inr above ↦ ap (λ b. cond b (Some n) None) (le-ltb n (2 ^ 64) above)
+]
+sum_past (Some m) n h none = absurd (none-some m (sym none))
+
+-- the pool that is kept would be too long, so nothing is asked
+pub extended_past : {S : Type 0} {fllen sllen : ℕ} {terms : S → Terms} {owes : S → List Range → Type 0} {leads : S → Note → S → Type 0} {before : FlexContents S} {e : ℕ} {k : KeptPool}
+    → before.state.kept ≡ Some k → if_fits (k.len + e) ≡ None → FlexStandsFor fllen sllen terms owes before → Extended fllen sllen terms owes leads before before e false
+extended_past {terms = terms} {before = before} {e = e} {k = k} is_kept past stands =
+    let t = terms before.source in
+    let q : questions t before.state.kept (Some e) ≡ nothing = ap (λ o. questions_for t o e) is_kept ∙ ap (λ o. questions_kept t k e o) past in
+    record {
+      outcome = refused;
+      notes = [];
+      extends = record { possible = tt; asked = ap (λ q. notes_of q refused) (sym q); after = refl };
+      leads_by = refl;
+      answers = λ x i. absurd i;
+      outside = KeepsOutsideNow-refl before.memory before.state.pools;
+      spare = λ a low high one two none. refl;
+      stands = stands;
+      came = refl;
+      room = λ t. absurd (false≢true t);
+    }
 
 module _ {S : Type 0} {fllen sllen : ℕ} {terms : S → Terms} {owes : S → List Range → Type 0} {leads : S → Note → S → Type 0} {before after : FlexContents S} {e : ℕ} where
   -- no pool is kept

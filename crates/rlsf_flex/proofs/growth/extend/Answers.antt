@@ -1,6 +1,6 @@
 use Rattle.std.proofs.Common.{rules, ◌≡◌, ◌+◌, arith, None, true≢false, refl, sym, ◌∙◌, ap}
 use Rattle.rlsf_flex.specs.StandsFor.{kept_of}
-use Rattle.rlsf_flex.proofs.Asks.{extended_first, extended_grown, extended_refused, extended_second, sum_fits, terms_stay}
+use Rattle.rlsf_flex.proofs.Asks.{extended_first, extended_grown, extended_past, extended_refused, extended_second, sum_fits, sum_past, terms_stay}
 use Rattle.rlsf_flex.proofs.KeptPayloads.{KeepsPayloads-refl, KeepsPayloads-trans}
 use Rattle.rlsf_flex.proofs.growth.extend.Goals as goal
 
@@ -8,6 +8,10 @@ pub returns-in_default-clause-step : goal.returns-in_default-clause-step
 returns-in_default-clause-step g c =
     let none : c.args.kept.now ≡ None = search rules in
     extended_first (ap kept_of none) c.ask_range.ensures.step
+
+pub returns-in_default-checked_add-clause-step : goal.returns-in_default-checked_add-clause-step
+returns-in_default-checked_add-clause-step g c =
+    extended_past (ap kept_of c.in-Some.is) (sum_past c.checked_add.result (c.in-Some.pool.len + c.args.wanted) c.checked_add.ensures c.in_default-checked_add.is) c.requires.stands
 
 pub ask_range-requires-else-is_contiguous_growable : goal.ask_range-requires-else-is_contiguous_growable
 ask_range-requires-else-is_contiguous_growable g c = (omega arith, (c.requires.valid, (c.requires.wanted, c.ask_growth.ensures.step.took.stands)))
