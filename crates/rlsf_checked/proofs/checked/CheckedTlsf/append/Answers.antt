@@ -89,3 +89,6 @@ returns-clause-answer g c = rw (← c.self.view_is) (
     let did = c.append_free_block_ptr-taken.ensures in
     let step : Appends g.row.FLLEN c.self.inside.heap.state c.args.range n heap.state = step_of _ _ _ _ _ did.step in
     sym (next_answer g.row.FLLEN (checked c.self.inside.heap c.self.inside.pool) c.args.range within is ∙ ap if_appended (sym step.answer) ∙ some_appended n c.if-taken-eq0.false))
+
+pub returns-clause-pool : goal.returns-clause-pool
+returns-clause-pool g c = rw (← c.self.view_is) refl
