@@ -144,6 +144,7 @@ impl Memory {
     }
 
     // The same, by a view.
+    #[inline(always)]
     fn slice_at(&self, view: View, range: Range) -> &[u8]
         requires place { LiesIn range self.now.start (length self.now.bytes) }
         requires view { view ≡ self.now.view }
@@ -164,6 +165,7 @@ impl Memory {
     }
 
     // The same, by a view.
+    #[inline(always)]
     fn slice_mut_at(&mut self, view: View, range: Range) -> &mut [u8]
         requires place { LiesIn range self.old.start (length self.old.bytes) }
         requires view { view ≡ self.old.view }
@@ -183,6 +185,7 @@ impl Memory {
     }
 
     // The same, by a view.
+    #[inline(always)]
     fn word_at(&self, view: View, addr: usize) -> u64
         requires place { IsWord self.now addr }
         requires view { view ≡ self.now.view }
@@ -207,6 +210,7 @@ impl Memory {
     }
 
     /// The same, by a view of the memory.
+    #[inline(always)]
     pub fn load_at(&mut self, view: View, addr: usize) -> u64
         requires place { IsWord self.old addr }
         requires view { view ≡ self.old.view }
@@ -238,6 +242,7 @@ impl Memory {
     }
 
     /// The same, by a view of the memory.
+    #[inline(always)]
     pub fn set_word_at(&mut self, view: View, addr: usize, word: u64)
         requires place { IsWord self.old addr }
         requires view { view ≡ self.old.view }

@@ -21,6 +21,7 @@ use rlsf_int::Bitmap;
 use rlsf_table::{ClassTable, link, unlink};
 
 /// The used block whose payload at `payload` was allocated with that alignment.
+#[inline(always)]
 pub fn used_block(memory: &mut Memory, view: View, payload: usize, align: usize) -> usize
     requires live { (fllen : ℕ) × (sllen : ℕ) × (t : Table) × (s : State) × StandsFor fllen sllen (contents memory.old t) s × IsLive s payload align }
     requires view { view ≡ memory.old.view }
@@ -35,6 +36,7 @@ pub fn used_block(memory: &mut Memory, view: View, payload: usize, align: usize)
 }
 
 /// Takes the block at `block` out of its list, if it is free. Answers the bytes of the block that was taken out, or 0.
+#[inline(always)]
 pub fn take_if_free<FLBitmap: Bitmap, SLBitmap: Bitmap, const FLLEN: usize, const SLLEN: usize>(
     memory: &mut Memory,
     view: View,
@@ -87,6 +89,7 @@ pub fn take_previous<FLBitmap: Bitmap, SLBitmap: Bitmap, const FLLEN: usize, con
 }
 
 /// Makes a free block of the `len` bytes at `block`. The word that names the block before it stays.
+#[inline(always)]
 fn put<FLBitmap: Bitmap, SLBitmap: Bitmap, const FLLEN: usize, const SLLEN: usize>(
     memory: &mut Memory,
     view: View,

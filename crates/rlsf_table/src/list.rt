@@ -25,6 +25,7 @@ fn first_or_own(first: usize, block: usize) -> usize
 }
 
 /// Links the block at `block` in front of the blocks from `newest` on.
+#[inline(always)]
 fn link_front(memory: &mut Memory, view: View, newest: usize, block: usize)
     requires place { (r : Range) × (free : List Range) × (r.start ≡ block) × IsFreeList memory.old newest free × IsPlaced memory.old r × ((a : ℕ) → coverage itself (r ∷ free) a ≤ 1) }
     requires view { view ≡ memory.old.view }
@@ -42,6 +43,7 @@ fn link_front(memory: &mut Memory, view: View, newest: usize, block: usize)
 
 /// Takes the block at `block`, the first of its list, out of it. Answers the next one, which is the first then, or 0. The link to
 /// the block before isn't read: there is none.
+#[inline(always)]
 fn unlink_front(memory: &mut Memory, view: View, block: usize) -> usize
     requires front { (r : Range) × (after : List Range) × (newest : ℕ) × (r.start ≡ block) × IsFreeList memory.old newest (r ∷ after) }
     requires view { view ≡ memory.old.view }
@@ -59,6 +61,7 @@ fn unlink_front(memory: &mut Memory, view: View, block: usize) -> usize
 
 /// Takes the block at `block` out from between the two that its links name. If none is before it, answers the one
 /// behind it, which is the newest then, or 0.
+#[inline(always)]
 fn unlink_between(memory: &mut Memory, view: View, block: usize) -> Option<usize>
     requires listed { (r : Range) × (free : List Range) × (newest : ℕ) × (r.start ≡ block) × IsIn r free × IsFreeList memory.old newest free }
     requires view { view ≡ memory.old.view }
@@ -87,6 +90,7 @@ fn unlink_between(memory: &mut Memory, view: View, block: usize) -> Option<usize
 ///
 /// Table and memory are those of some free blocks, of valid classes, with their size words, none of which overlap, and the
 /// block can be one beside them.
+#[inline(always)]
 pub fn link<FLBitmap: Bitmap, SLBitmap: Bitmap, const FLLEN: usize, const SLLEN: usize>(
     memory: &mut Memory,
     view: View,
@@ -117,6 +121,7 @@ pub fn link<FLBitmap: Bitmap, SLBitmap: Bitmap, const FLLEN: usize, const SLLEN:
 ///
 /// Table and memory are those of some free blocks, of valid classes, with their size words, none of which overlap, and the
 /// block is one of them.
+#[inline(always)]
 pub fn unlink<FLBitmap: Bitmap, SLBitmap: Bitmap, const FLLEN: usize, const SLLEN: usize>(
     memory: &mut Memory,
     view: View,
@@ -148,6 +153,7 @@ pub fn unlink<FLBitmap: Bitmap, SLBitmap: Bitmap, const FLLEN: usize, const SLLE
 ///
 /// Table and memory are those of some free blocks, of valid classes, with their size words, none of which overlap; the block is
 /// one of them, has that class, and none before it has.
+#[inline(always)]
 pub fn unlink_newest<FLBitmap: Bitmap, SLBitmap: Bitmap, const FLLEN: usize, const SLLEN: usize>(
     memory: &mut Memory,
     view: View,

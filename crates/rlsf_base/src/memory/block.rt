@@ -129,6 +129,7 @@ impl Bytes {
     }
 
     /// The `len` bytes from the place `place` of the block on.
+    #[inline(always)]
     pub(crate) fn slice(&self, base: Base, place: usize, len: usize) -> &[u8]
         requires { (base.ptr ≡ self.now.at) × (self.now.skip ≤ place) × (place + len ≤ self.now.skip + length self.now.bytes) }
         ensures { result.now ≡ take len (drop (place - self.now.skip) self.now.bytes) }
@@ -137,6 +138,7 @@ impl Bytes {
     }
 
     /// The same, to write to.
+    #[inline(always)]
     pub(crate) fn slice_mut(&mut self, base: Base, place: usize, len: usize) -> &mut [u8]
         requires { (base.ptr ≡ self.old.at) × (self.old.skip ≤ place) × (place + len ≤ self.old.skip + length self.old.bytes) }
         ensures* writes_back { sem 𝓛 (lends_part self.entry (place - self.old.skip) len result) }

@@ -24,6 +24,7 @@ impl View {
     }
 
     /// The place in the block of the byte at `addr`.
+    #[inline(always)]
     pub(crate) fn place(self, addr: usize) -> usize
         ensures { result ≡ (self.shift + addr) % 2 ^ 64 }
     {
