@@ -1,3 +1,4 @@
 pub mod Answers
 pub mod Checked
+pub mod Lending
 pub mod Steps
