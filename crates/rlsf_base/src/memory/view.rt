@@ -19,7 +19,7 @@ impl View {
     {
         View {
             base,
-            shift: negated.wrapping_add(negated.wrapping_neg() % 8),
+            shift: negated.wrapping_add(7) / 8 * 8,
         }
     }
 
