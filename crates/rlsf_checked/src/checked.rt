@@ -32,7 +32,7 @@ use rlsf_tlsf::Tlsf;
 use std::alloc::Global;
 use std::marker::Model;
 
-/// An allocator whose calls have no condition: each tests what its caller may not do, and refuses it.
+/// An allocator whose calls test what a caller may not do, and refuse it. `payload_mut` alone has a condition, which `holding` tests.
 ///
 /// A byte for each 16 addresses of the memory tells whether a payload lives there, and with which alignment. Each call reads one of
 /// them and writes two at most. After `new` nothing is asked of the system.
@@ -430,7 +430,7 @@ impl<FLBitmap: Bitmap, SLBitmap: Bitmap, const FLLEN: usize, const SLLEN: usize>
     /// The bytes of a payload, all that its caller may use, to write to. What is left there is what the payload holds; nothing else
     /// changes.
     ///
-    /// The address is live: `holding` tells. No other call has a condition.
+    /// The address is live: `holding` tells.
     pub fn payload_mut(&mut self, addr: Addr) -> &mut [u8]
         requires { IsSome (align_at self.old.heap.state (at addr)) }
         ensures* writes_back { sem 𝓛 (lends_payload FLBitmap.row SLBitmap.row FLLEN.row SLLEN.row FLBitmap.BitPattern SLBitmap.BitPattern self.entry (at addr) result) }
