@@ -4,6 +4,8 @@
 #[cfg(test)]
 mod calls;
 #[cfg(test)]
+mod loans;
+#[cfg(test)]
 mod pools;
 #[cfg(test)]
 mod random;
