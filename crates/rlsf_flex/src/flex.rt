@@ -70,7 +70,7 @@ impl<
     const SLLEN: usize,
 > FlexTlsf<S, FLBitmap, SLBitmap, FLLEN, SLLEN> {
     ghost use Rattle.rlsf_flex.specs.Lending.{LeavesRest, lends_payload, written};
-    ghost use Rattle.rlsf_flex.specs.StandsFor.{FlexStands, FlexSteps, StepsAlone};
+    ghost use Rattle.rlsf_flex.specs.StandsFor.{FillsAlone, FlexStands, FlexSteps, StepsAlone};
 
     /// An allocator over the memory and a source of its ranges. It asks for nothing yet.
     ///

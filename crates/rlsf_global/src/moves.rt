@@ -2,15 +2,13 @@
 
 ghost use Rattle.std.specs.Prelude.{◌≡◌, ◌≤◌, ◌+◌, ℕ, List, Ok, Err, Some, IfNone, IfSome, IsSome, false, length, true};
 ghost use Rattle.rlsf_base.specs.Addr.{at};
-ghost use Rattle.rlsf_base.specs.Sizes.{request_size};
 ghost use Rattle.rlsf_flex.specs.StandsFor.{FlexStandsFor};
 ghost use Rattle.rlsf_global.specs.Locked.{heap_of};
 ghost use Rattle.rlsf_placement.specs.Pages.{MayOwe};
 ghost use Rattle.rlsf_global.specs.Steps.Moves.{IsMoved, StaysRefused};
-ghost use Rattle.rlsf_machine.specs.Allocate.{choice};
+ghost use Rattle.rlsf_machine.specs.Allocate.{HasRoomFor};
 ghost use Rattle.rlsf_machine.specs.Callers.{align_at, bytes_at};
-ghost use Rattle.rlsf_machine.specs.Reallocate.{Reallocates};
-ghost use Rattle.rlsf_machine.specs.State.{State};
+ghost use Rattle.rlsf_machine.specs.Reallocate.{HasRoomToResize};
 ghost use Rattle.rlsf_placement.specs.declared.error.GlobalError.TheVariants.{NoRoom};
 ghost use Rattle.rlsf_placement.specs.Cursor.{terms_of};
 ghost use Rattle.rlsf_placement.specs.Moves.{MovesAway, ReallocatesTo};

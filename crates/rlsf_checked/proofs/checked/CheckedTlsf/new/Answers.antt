@@ -1,4 +1,4 @@
-use Rattle.std.proofs.Common.{◌≡◌, ◌≤◌, ◌%◌, Ok, Err, Result, ℕ, sym, ◌∙◌, ap, subst}
+use Rattle.std.proofs.Common.{arith, ◌≡◌, ◌≤◌, ◌%◌, Ok, Err, Result, ℕ, sym, ◌∙◌, ap, subst}
 use Rattle.rlsf_base.specs.Range.{end_of, range_at}
 use Rattle.rlsf_base.specs.Space.{Space, range_of}
 use Rattle.rlsf_checked.specs.Steps.Marks.{HasMark}
@@ -19,3 +19,6 @@ returns-clause-invalid g c = ((λ bad. absurd (no_error bad)), (λ none. absurd 
   where
     no_error : {A E : Type 0} {x : A} {e : E} → Ok x ≡ Err e → ⊥
     no_error bad = cc
+
+pub new-requires-2 : goal.new-requires-2
+new-requires-2 g c = (omega arith, c.are_valid.ensures.0 c.if-not-are_valid.false)
