@@ -1,4 +1,3 @@
 pub mod Answers
 pub mod Checked
-pub mod Lending
 pub mod Steps

@@ -32,7 +32,7 @@ use rlsf_tlsf::Tlsf;
 use std::alloc::Global;
 use std::marker::Model;
 
-/// An allocator whose calls test what a caller may not do, and refuse it. `payload_mut` alone has a condition, which `holding` tests.
+/// An allocator whose calls have no condition: each tests what its caller may not do, and refuses it.
 ///
 /// A byte for each 16 addresses of the memory tells whether a payload lives there, and with which alignment. Each call reads one of
 /// them and writes two at most. After `new` nothing is asked of the system.
@@ -47,19 +47,6 @@ pub struct CheckedTlsf<
     marks: Marks,
     // What was handed in last, up to the end of its last chunk.
     pool: Range,
-}
-
-/// A checked allocator that is held, since a payload lives where its holder asked.
-#[derive(Drop)]
-pub struct Holding<
-    'a,
-    FLBitmap: BitPattern,
-    SLBitmap: BitPattern,
-    const FLLEN: usize,
-    const SLLEN: usize,
-> {
-    /// The allocator.
-    pub allocator: &'a mut CheckedTlsf<FLBitmap, SLBitmap, FLLEN, SLLEN>,
 }
 
 impl<FLBitmap: BitPattern, SLBitmap: BitPattern, const FLLEN: usize, const SLLEN: usize> Model
@@ -394,57 +381,6 @@ impl<FLBitmap: Bitmap, SLBitmap: Bitmap, const FLLEN: usize, const SLLEN: usize>
         }
         write_at(self.heap.payload_mut(addr), offset, bytes);
         Ok(())
-    }
-}
-
-impl<FLBitmap: Bitmap, SLBitmap: Bitmap, const FLLEN: usize, const SLLEN: usize> CheckedTlsf<
-    FLBitmap,
-    SLBitmap,
-    FLLEN,
-    SLLEN,
-> {
-    ghost use Rattle.std.specs.Borrow.{sem};
-    ghost use Rattle.std.specs.Prelude.{List};
-    ghost use Rattle.rlsf_tlsf.specs.Lending.{LeavesRest};
-    ghost use Rattle.rlsf_checked.specs.Lending.{rests_if_refused, lends_payload, written};
-
-    /// The allocator, held where a payload lives at the address, so that `payload_mut` may lend its bytes. `UnknownAddress` exactly
-    /// where none does. Then nothing changes.
-    pub fn holding(
-        &mut self,
-        addr: Addr,
-    ) -> Result<Holding<'_, FLBitmap, SLBitmap, FLLEN, SLLEN>, CheckedError>
-        ensures* writes_back { sem 𝓛 (rests_if_refused FLBitmap.row SLBitmap.row FLLEN.row SLLEN.row FLBitmap.BitPattern SLBitmap.BitPattern self.entry result) }
-        ensures when { IsOk result ↔ IsSome (align_at self.old.heap.state (at addr)) }
-        ensures refused { IfErr result (λ e. e ≡ UnknownAddress) }
-        ensures same { IfOk result (λ held. held.allocator.now ≡ self.old) }
-        ensures same_reference { IfOk result (λ held. held.allocator.ghost_name ≡ self.entry.ghost_name) }
-        ensures live { IfOk result (λ held. IsSome (align_at held.allocator.now.heap.state (at addr))) }
-    {
-        if self.alignment(addr).is_none() {
-            return Err(CheckedError::UnknownAddress);
-        }
-        Ok(Holding { allocator: self })
-    }
-
-    /// The bytes of a payload, all that its caller may use, to write to. What is left there is what the payload holds; nothing else
-    /// changes.
-    ///
-    /// The address is live: `holding` tells.
-    pub fn payload_mut(&mut self, addr: Addr) -> &mut [u8]
-        requires { IsSome (align_at self.old.heap.state (at addr)) }
-        ensures* writes_back { sem 𝓛 (lends_payload FLBitmap.row SLBitmap.row FLLEN.row SLLEN.row FLBitmap.BitPattern SLBitmap.BitPattern self.entry (at addr) result) }
-        ensures value { result.now ≡ bytes_at self.old.heap.state (at addr) }
-        ensures meaning { (w : List ℕ) → length w ≡ length result.now
-            → Steps FLLEN SLLEN self.old.heap (written self.old (at addr) (length result.now) w).heap (Fills self.old.heap.state (at addr) w) }
-        ensures filled { (w : List ℕ) → length w ≡ length result.now → bytes_at (written self.old (at addr) (length result.now) w).heap.state (at addr) ≡ w }
-        ensures bytes { (w : List ℕ) (a : ℕ) → a ≢ at addr → bytes_at (written self.old (at addr) (length result.now) w).heap.state a ≡ bytes_at self.old.heap.state a }
-        ensures aligns { (w : List ℕ) → align_at (written self.old (at addr) (length result.now) w).heap.state ≡ align_at self.old.heap.state }
-        ensures lengths { (w : List ℕ) → length (bytes_at (written self.old (at addr) (length result.now) w).heap.state (at addr)) ≡ length result.now }
-        ensures pool { (w : List ℕ) → (written self.old (at addr) (length result.now) w).pool ≡ self.old.pool }
-        ensures rest { (w : List ℕ) → LeavesRest FLLEN SLLEN self.old.heap (written self.old (at addr) (length result.now) w).heap }
-    {
-        self.heap.payload_mut(addr)
     }
 }
 

@@ -6,5 +6,5 @@ mod classes;
 mod error;
 mod marks;
 
-pub use checked::{CheckedTlsf, Holding};
+pub use checked::CheckedTlsf;
 pub use error::CheckedError;

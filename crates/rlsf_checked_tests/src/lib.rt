@@ -6,8 +6,6 @@ mod calls;
 #[cfg(test)]
 mod kept;
 #[cfg(test)]
-mod loans;
-#[cfg(test)]
 mod pools;
 #[cfg(test)]
 mod random;
