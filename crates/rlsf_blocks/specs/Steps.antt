@@ -4,5 +4,6 @@ pub mod LiveBlock
 pub mod Pool
 pub mod Removal
 pub mod Rest
+pub mod Standing
 pub mod Touched
 pub mod Walk

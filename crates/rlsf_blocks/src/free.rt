@@ -6,14 +6,15 @@ ghost use Rattle.rlsf_base.specs.SizeClass.{IsValid};
 ghost use Rattle.rlsf_base.specs.Space.{SamePlace};
 ghost use Rattle.rlsf_machine.specs.Lists.{IsIn};
 ghost use Rattle.rlsf_machine.specs.Release.{released};
-ghost use Rattle.rlsf_machine.specs.State.{State, Used, Holds, IsLive};
+ghost use Rattle.rlsf_machine.specs.State.{State, Used, IsLive};
 ghost use Rattle.rlsf_table.specs.Counts.{Counts};
 ghost use Rattle.rlsf_table.specs.FreeTable.{IsFreeTable};
 ghost use Rattle.rlsf_table.specs.Table.{Table};
-ghost use Rattle.rlsf_blocks.specs.Spare.{KeepsSpare};
 ghost use Rattle.rlsf_blocks.specs.StandsFor.{contents, StandsFor};
 ghost use Rattle.rlsf_blocks.specs.Steps.Join.{IsMarked, IsOut, IsPreviousOut, IsPut};
+ghost use Rattle.rlsf_blocks.specs.Steps.LiveBlock.{IsBlockOf};
 ghost use Rattle.rlsf_blocks.specs.Steps.Rest.{IsInnerRoom};
+ghost use Rattle.rlsf_blocks.specs.Steps.Standing.{AtEachUsed, StandsAfter};
 
 use crate::GRANULARITY;
 use rlsf_base::memory::{Memory, View};
@@ -25,7 +26,7 @@ use rlsf_table::{ClassTable, link, unlink};
 pub fn used_block(memory: &mut Memory, view: View, payload: usize, align: usize) -> usize
     requires live { (fllen : ℕ) × (sllen : ℕ) × (t : Table) × (s : State) × StandsFor fllen sllen (contents memory.old t) s × IsLive s payload align }
     requires view { view ≡ memory.old.view }
-    ensures block { (fllen sllen : ℕ) (t : Table) (s : State) → StandsFor fllen sllen (contents memory.old t) s → IsLive s payload align → (u : Used) × Holds s payload u × (u.align ≡ align) × (u.block.start ≡ result) }
+    ensures block { (fllen sllen : ℕ) (t : Table) (s : State) → StandsFor fllen sllen (contents memory.old t) s → IsLive s payload align → IsBlockOf s payload align result }
     ensures counts { Counts memory.old memory.new 1 }
 {
     if align < GRANULARITY {
@@ -73,8 +74,7 @@ pub fn take_previous<FLBitmap: Bitmap, SLBitmap: Bitmap, const FLLEN: usize, con
     requires parameters { IsValid FLBitmap.width SLBitmap.width FLLEN SLLEN }
     requires used { (s : State) × (u : Used) × StandsFor FLLEN SLLEN (contents memory.old table.old) s × IsIn u s.used × (u.block.start ≡ block) }
     requires view { view ≡ memory.old.view }
-    ensures step { (s : State) (u : Used) → StandsFor FLLEN SLLEN (contents memory.old table.old) s → IsIn u s.used → u.block.start ≡ block
-        → IsPreviousOut FLLEN SLLEN memory.old memory.new table.new s.free block result }
+    ensures step { AtEachUsed FLLEN SLLEN memory.old table.old block (λ s u. IsPreviousOut FLLEN SLLEN memory.old memory.new table.new s.free block result) }
     ensures touches { memory.new.touches ≤ memory.old.touches + 10 }
     ensures grow { memory.old.touches ≤ memory.new.touches }
     ensures copied { memory.new.copied ≡ memory.old.copied }
@@ -123,8 +123,7 @@ pub fn deallocate_block<FLBitmap: Bitmap, SLBitmap: Bitmap, const FLLEN: usize, 
     requires parameters { IsValid FLBitmap.width SLBitmap.width FLLEN SLLEN }
     requires used { (s : State) × (u : Used) × StandsFor FLLEN SLLEN (contents memory.old table.old) s × IsIn u s.used × (u.block.start ≡ block) }
     requires view { view ≡ memory.old.view }
-    ensures step { (s : State) (u : Used) → StandsFor FLLEN SLLEN (contents memory.old table.old) s → IsIn u s.used → u.block.start ≡ block
-        → StandsFor FLLEN SLLEN (contents memory.new table.new) (released s u) × KeepsSpare memory.old s memory.new (released s u) }
+    ensures step { AtEachUsed FLLEN SLLEN memory.old table.old block (λ s u. StandsAfter FLLEN SLLEN memory.old memory.new table.new s (released s u)) }
     ensures place { SamePlace memory.old memory.new }
     ensures touches { memory.new.touches ≤ memory.old.touches + 31 }
     ensures grow { memory.old.touches ≤ memory.new.touches }

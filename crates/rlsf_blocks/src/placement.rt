@@ -8,9 +8,9 @@ ghost use Rattle.rlsf_base.specs.Sizes.{request_size};
 ghost use Rattle.rlsf_base.specs.Space.{SamePlace, word_at};
 ghost use Rattle.rlsf_machine.specs.Allocate.{choice, Places};
 ghost use Rattle.rlsf_machine.specs.State.{State};
-ghost use Rattle.rlsf_blocks.specs.Spare.{KeepsSpare};
 ghost use Rattle.rlsf_table.specs.Table.{IsClassAt};
-ghost use Rattle.rlsf_blocks.specs.Steps.Rest.{IsInnerRoom, IsLeft, IsOpened, IsTaken};
+ghost use Rattle.rlsf_blocks.specs.Steps.Rest.{AtEachChosen, AtEachRest, AtEachTaken, IsInnerRoom, IsLeft, IsOpened, IsTaken};
+ghost use Rattle.rlsf_blocks.specs.Steps.Standing.{StepsTo};
 ghost use Rattle.rlsf_blocks.specs.StandsFor.{contents, StandsFor};
 
 use crate::{GRANULARITY, HEADER};
@@ -32,8 +32,7 @@ pub fn leave_rest<FLBitmap: Bitmap, SLBitmap: Bitmap, const FLLEN: usize, const 
     requires parameters { IsValid FLBitmap.width SLBitmap.width FLLEN SLLEN }
     requires room { (free : List Range) × (r : Range) × (r.start ≡ block + taken) × (r.len + taken ≡ len) × IsInnerRoom FLLEN SLLEN memory.old table.old free r }
     requires view { view ≡ memory.old.view }
-    ensures step { (free : List Range) (r : Range) → r.start ≡ block + taken → r.len + taken ≡ len → IsInnerRoom FLLEN SLLEN memory.old table.old free r
-        → IsLeft FLLEN SLLEN memory.old memory.new table.new free block r }
+    ensures step { AtEachRest FLLEN SLLEN memory.old table.old block len taken (λ free r. IsLeft FLLEN SLLEN memory.old memory.new table.new free block r) }
     ensures touches { memory.new.touches ≤ memory.old.touches + 12 }
     ensures grow { memory.old.touches ≤ memory.new.touches }
     ensures copied { memory.new.copied ≡ memory.old.copied }
@@ -62,8 +61,7 @@ fn take_out<FLBitmap: Bitmap, SLBitmap: Bitmap, const FLLEN: usize, const SLLEN:
     requires class { IsClassAt FLLEN SLLEN len class.0 class.1 }
     requires taken { (s : State) × (f : Range) × StandsFor FLLEN SLLEN (contents memory.old table.old) s × IsTaken SLLEN s f block len taken }
     requires view { view ≡ memory.old.view }
-    ensures step { (s : State) (f : Range) → StandsFor FLLEN SLLEN (contents memory.old table.old) s → IsTaken SLLEN s f block len taken
-        → IsOpened FLLEN SLLEN memory.old memory.new table.new s f (range_at block taken) }
+    ensures step { AtEachTaken FLLEN SLLEN memory.old table.old block len taken (λ s f. IsOpened FLLEN SLLEN memory.old memory.new table.new s f (range_at block taken)) }
     ensures touches { memory.new.touches ≤ memory.old.touches + 20 }
     ensures grow { memory.old.touches ≤ memory.new.touches }
     ensures copied { memory.new.copied ≡ memory.old.copied }
@@ -91,8 +89,7 @@ pub fn place<FLBitmap: Bitmap, SLBitmap: Bitmap, const FLLEN: usize, const SLLEN
     requires class { IsClassAt FLLEN SLLEN (word_at memory.old block) class.0 class.1 }
     requires chosen { (s : State) × (f : Range) × StandsFor FLLEN SLLEN (contents memory.old table.old) s × (choice SLLEN (request_size layout.size layout.align) s.free ≡ Some f) × (f.start ≡ block) }
     requires view { view ≡ memory.old.view }
-    ensures step { (s : State) (f : Range) → StandsFor FLLEN SLLEN (contents memory.old table.old) s → choice SLLEN (request_size layout.size layout.align) s.free ≡ Some f → f.start ≡ block
-        → (t : State) × Places SLLEN s layout.size layout.align result t × StandsFor FLLEN SLLEN (contents memory.new table.new) t × KeepsSpare memory.old s memory.new t }
+    ensures step { AtEachChosen FLLEN SLLEN memory.old table.old layout block (λ s f. StepsTo FLLEN SLLEN memory.old memory.new table.new s (Places SLLEN s layout.size layout.align result)) }
     ensures place { SamePlace memory.old memory.new }
     ensures touches { memory.new.touches ≤ memory.old.touches + 23 }
     ensures grow { memory.old.touches ≤ memory.new.touches }

@@ -1,8 +1,7 @@
 //! Pools: ranges of the memory that are made into chunks.
 
 ghost use Rattle.std.specs.Prelude.{◌≡◌, ◌+◌, ◌*◌, ◌≤◌, ℕ, IfNone, length};
-ghost use Rattle.std.specs.Int.NonZero.{non_zero_usize_get};
-ghost use Rattle.std.specs.Option.{option_map};
+ghost use Rattle.rlsf_base.specs.Addr.{reply};
 ghost use Rattle.rlsf_base.specs.SizeClass.{IsValid};
 ghost use Rattle.rlsf_base.specs.Sizes.{max_pool_size};
 ghost use Rattle.rlsf_base.specs.Space.{range_of, SamePlace};
@@ -10,7 +9,7 @@ ghost use Rattle.rlsf_machine.specs.Insert.{Inserts, IsFresh, aligned_part, cut}
 ghost use Rattle.rlsf_machine.specs.Laws.{first_length};
 ghost use Rattle.rlsf_machine.specs.State.{State};
 ghost use Rattle.rlsf_blocks.specs.Steps.Pool.{IsAdded, IsNewChunk};
-ghost use Rattle.rlsf_blocks.specs.Spare.{KeepsSpare};
+ghost use Rattle.rlsf_blocks.specs.Steps.Standing.{InEach, StepsTo};
 ghost use Rattle.rlsf_blocks.specs.StandsFor.{contents, StandsFor};
 
 use crate::GRANULARITY;
@@ -73,8 +72,7 @@ pub fn insert<FLBitmap: Bitmap, SLBitmap: Bitmap, const FLLEN: usize, const SLLE
 ) -> Option<NonZeroUsize>
     requires parameters { IsValid FLBitmap.width SLBitmap.width FLLEN SLLEN }
     requires fresh { (s : State) × StandsFor FLLEN SLLEN (contents memory.old table.old) s × IsFresh (range_of memory.old) s range }
-    ensures step { (s : State) → StandsFor FLLEN SLLEN (contents memory.old table.old) s → IsFresh (range_of memory.old) s range
-        → (t : State) × Inserts FLLEN s range (option_map non_zero_usize_get result) t × StandsFor FLLEN SLLEN (contents memory.new table.new) t × KeepsSpare memory.old s memory.new t }
+    ensures step { InEach FLLEN SLLEN memory.old table.old (λ s. IsFresh (range_of memory.old) s range → StepsTo FLLEN SLLEN memory.old memory.new table.new s (Inserts FLLEN s range (reply result))) }
     ensures refused { IfNone result (memory.new.bytes ≡ memory.old.bytes) }
     ensures place { SamePlace memory.old memory.new }
     ensures touches { memory.new.touches ≤ memory.old.touches + 13 * length (cut (max_pool_size FLLEN) (aligned_part range)) }

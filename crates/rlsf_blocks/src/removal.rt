@@ -1,17 +1,16 @@
 //! Removals: chunks of which no block is in use are taken out.
 
-ghost use Rattle.std.specs.Prelude.{◌≡◌, ◌+◌, ◌*◌, ◌≤◌, ℕ, length};
+ghost use Rattle.std.specs.Prelude.{◌≡◌, ◌+◌, ◌≤◌};
 ghost use Rattle.rlsf_base.specs.declared.memory.range.Range.{Range};
-ghost use Rattle.rlsf_base.specs.Range.{end_of};
 ghost use Rattle.rlsf_base.specs.SizeClass.{IsValid};
 ghost use Rattle.rlsf_base.specs.Space.{SamePlace};
 ghost use Rattle.rlsf_machine.specs.ChunkRows.{IsRow};
-ghost use Rattle.rlsf_machine.specs.Remove.{IsIdle, removed};
+ghost use Rattle.rlsf_machine.specs.Remove.{IsIdle};
 ghost use Rattle.rlsf_machine.specs.State.{State};
 ghost use Rattle.rlsf_blocks.specs.Blocks.{walked};
-ghost use Rattle.rlsf_blocks.specs.Spare.{KeepsSpare};
 ghost use Rattle.rlsf_blocks.specs.StandsFor.{contents, StandsFor};
-ghost use Rattle.rlsf_blocks.specs.Steps.Removal.{IsIdleChunk};
+ghost use Rattle.rlsf_blocks.specs.Steps.Removal.{AreRemoved, CountsRemoved, IsIdleChunk, IsRemoved};
+ghost use Rattle.rlsf_blocks.specs.Steps.Standing.{InEach};
 
 use crate::GRANULARITY;
 use crate::free::take_if_free;
@@ -29,8 +28,7 @@ fn remove_chunk<FLBitmap: Bitmap, SLBitmap: Bitmap, const FLLEN: usize, const SL
 ) -> usize
     requires parameters { IsValid FLBitmap.width SLBitmap.width FLLEN SLLEN }
     requires idle { (s : State) × (c : Range) × StandsFor FLLEN SLLEN (contents memory.old table.old) s × IsIdleChunk s c start }
-    ensures step { (s : State) (c : Range) → StandsFor FLLEN SLLEN (contents memory.old table.old) s → IsIdleChunk s c start
-        → StandsFor FLLEN SLLEN (contents memory.new table.new) (removed c s) × KeepsSpare memory.old s memory.new s × (end_of c ≡ result) }
+    ensures step { (s : State) (c : Range) → StandsFor FLLEN SLLEN (contents memory.old table.old) s → IsIdleChunk s c start → IsRemoved FLLEN SLLEN memory.old memory.new table.new s c result }
     ensures place { SamePlace memory.old memory.new }
     ensures touches { memory.new.touches ≤ memory.old.touches + 9 }
     ensures grow { memory.old.touches ≤ memory.new.touches }
@@ -54,11 +52,9 @@ pub fn remove_chunks<FLBitmap: Bitmap, SLBitmap: Bitmap, const FLLEN: usize, con
 )
     requires parameters { IsValid FLBitmap.width SLBitmap.width FLLEN SLLEN }
     requires idle { (s : State) × StandsFor FLLEN SLLEN (contents memory.old table.old) s × IsRow s (walked range) × IsIdle s (walked range) }
-    ensures step { (s : State) → StandsFor FLLEN SLLEN (contents memory.old table.old) s → IsRow s (walked range) → IsIdle s (walked range)
-        → StandsFor FLLEN SLLEN (contents memory.new table.new) (removed (walked range) s) × KeepsSpare memory.old s memory.new s }
+    ensures step { InEach FLLEN SLLEN memory.old table.old (λ s. IsRow s (walked range) → IsIdle s (walked range) → AreRemoved FLLEN SLLEN memory.old memory.new table.new s (walked range)) }
     ensures place { SamePlace memory.old memory.new }
-    ensures touches { (s : State) → StandsFor FLLEN SLLEN (contents memory.old table.old) s → IsRow s (walked range) → IsIdle s (walked range)
-        → memory.new.touches + 9 * length (removed (walked range) s).chunks ≤ memory.old.touches + 9 * length s.chunks }
+    ensures touches { InEach FLLEN SLLEN memory.old table.old (λ s. IsRow s (walked range) → IsIdle s (walked range) → CountsRemoved memory.old memory.new s (walked range)) }
     ensures grow { memory.old.touches ≤ memory.new.touches }
     ensures copied { memory.new.copied ≡ memory.old.copied }
 {

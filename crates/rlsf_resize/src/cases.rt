@@ -1,13 +1,13 @@
 //! A used block gets another size, where it stands if that can be.
 
-ghost use Rattle.std.specs.Prelude.{◌≡◌, ◌+◌, ◌≤◌, ℕ, Some, IfNone};
+ghost use Rattle.std.specs.Prelude.{◌≡◌, ◌+◌, ◌≤◌, Some, IfNone};
 ghost use Rattle.rlsf_base.specs.SizeClass.{IsValid};
 ghost use Rattle.rlsf_base.specs.Space.{SamePlace};
-ghost use Rattle.rlsf_machine.specs.Reallocate.{Plan, ReallocatesBy, in_place, into_next, or_else, plan};
+ghost use Rattle.rlsf_machine.specs.NoMove.{unmoved_plan};
+ghost use Rattle.rlsf_machine.specs.Reallocate.{Plan};
 ghost use Rattle.rlsf_machine.specs.State.{State, Used, usable};
-ghost use Rattle.rlsf_blocks.specs.Spare.{KeepsSpare};
 ghost use Rattle.rlsf_blocks.specs.StandsFor.{contents, StandsFor};
-ghost use Rattle.rlsf_resize.specs.Steps.Resize.{IsUsedAt};
+ghost use Rattle.rlsf_resize.specs.Steps.Resize.{AtEachPayload, IsReallocated, IsUsedAt};
 
 use crate::elsewhere::move_elsewhere;
 use crate::previous::move_into_previous;
@@ -32,16 +32,14 @@ pub fn reallocate_block<FLBitmap: Bitmap, SLBitmap: Bitmap, const FLLEN: usize, 
     requires parameters { IsValid FLBitmap.width SLBitmap.width FLLEN SLLEN }
     requires used { (s : State) × (u : Used) × StandsFor FLLEN SLLEN (contents memory.old table.old) s × IsUsedAt s u block payload layout.align }
     requires view { view ≡ memory.old.view }
-    ensures step { (s : State) (u : Used) → StandsFor FLLEN SLLEN (contents memory.old table.old) s → IsUsedAt s u block payload layout.align
-        → (t : State) × ReallocatesBy SLLEN s u layout.size (plan s u layout.size) result t × StandsFor FLLEN SLLEN (contents memory.new table.new) t × KeepsSpare memory.old s memory.new t }
+    ensures step { AtEachPayload FLLEN SLLEN memory.old table.old block payload layout (λ s u. IsReallocated FLLEN SLLEN memory.old memory.new table.new s u layout.size result) }
     ensures refused { IfNone result (memory.new.bytes ≡ memory.old.bytes) }
     ensures place { SamePlace memory.old memory.new }
     ensures touches { memory.new.touches ≤ memory.old.touches + 65 }
     ensures grow { memory.old.touches ≤ memory.new.touches }
-    ensures copied { (s : State) (u : Used) → StandsFor FLLEN SLLEN (contents memory.old table.old) s → IsUsedAt s u block payload layout.align → memory.new.copied ≤ memory.old.copied + (usable u).len }
+    ensures copied { AtEachPayload FLLEN SLLEN memory.old table.old block payload layout (λ s u. memory.new.copied ≤ memory.old.copied + (usable u).len) }
     ensures grow_copied { memory.old.copied ≤ memory.new.copied }
-    ensures stays { (s : State) (u : Used) (p : Plan) → StandsFor FLLEN SLLEN (contents memory.old table.old) s → IsUsedAt s u block payload layout.align
-        → or_else (in_place s u layout.size) (into_next s u layout.size) ≡ Some p → memory.new.copied ≡ memory.old.copied }
+    ensures stays { AtEachPayload FLLEN SLLEN memory.old table.old block payload layout (λ s u. (p : Plan) → unmoved_plan s u layout.size ≡ Some p → memory.new.copied ≡ memory.old.copied) }
 {
     if resize_block(memory, view, table, block, payload, layout) {
         return Some(payload);

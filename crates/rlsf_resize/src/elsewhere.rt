@@ -1,15 +1,13 @@
 //! A payload moves into a block that is allocated for it.
 
-ghost use Rattle.std.specs.Prelude.{◌≡◌, ◌+◌, ◌≤◌, ℕ, None, MatchOption, IfNone};
+ghost use Rattle.std.specs.Prelude.{◌≡◌, ◌+◌, ◌≤◌, None, IfNone};
 ghost use Rattle.rlsf_base.specs.SizeClass.{IsValid};
 ghost use Rattle.rlsf_base.specs.Space.{SamePlace};
-ghost use Rattle.rlsf_machine.specs.Allocate.{Allocates};
-ghost use Rattle.rlsf_machine.specs.Reallocate.{in_place, MovesAway};
+ghost use Rattle.rlsf_machine.specs.Reallocate.{in_place};
 ghost use Rattle.rlsf_machine.specs.State.{State, Used, usable};
-ghost use Rattle.rlsf_blocks.specs.Spare.{KeepsSpare};
 ghost use Rattle.rlsf_blocks.specs.StandsFor.{contents, StandsFor};
 ghost use Rattle.rlsf_table.specs.Counts.{Counts};
-ghost use Rattle.rlsf_resize.specs.Steps.Resize.{IsUsedAt};
+ghost use Rattle.rlsf_resize.specs.Steps.Resize.{AtEachPayload, AtEachShort, IsElsewhere, IsUsedAt};
 
 use rlsf_base::classes::request_size;
 use rlsf_base::memory::{Layout, Memory, Range, View};
@@ -38,14 +36,12 @@ pub(crate) fn move_elsewhere<
     requires parameters { IsValid FLBitmap.width SLBitmap.width FLLEN SLLEN }
     requires used { (s : State) × (u : Used) × StandsFor FLLEN SLLEN (contents memory.old table.old) s × IsUsedAt s u block payload layout.align × (in_place s u layout.size ≡ None) }
     requires view { view ≡ memory.old.view }
-    ensures step { (s : State) (u : Used) → StandsFor FLLEN SLLEN (contents memory.old table.old) s → IsUsedAt s u block payload layout.align → in_place s u layout.size ≡ None
-        → MatchOption result (Allocates SLLEN s layout.size u.align None s) (λ addr. (t : State) × MovesAway SLLEN s u layout.size addr t
-        × StandsFor FLLEN SLLEN (contents memory.new table.new) t × KeepsSpare memory.old s memory.new t) }
+    ensures step { AtEachShort FLLEN SLLEN memory.old table.old block payload layout (λ s u. IsElsewhere FLLEN SLLEN memory.old memory.new table.new s u layout.size result) }
     ensures unchanged { IfNone result (Counts memory.old memory.new 5 × (table.new ≡ table.old)) }
     ensures place { SamePlace memory.old memory.new }
     ensures touches { memory.new.touches ≤ memory.old.touches + 59 }
     ensures grow { memory.old.touches ≤ memory.new.touches }
-    ensures copied { (s : State) (u : Used) → StandsFor FLLEN SLLEN (contents memory.old table.old) s → IsUsedAt s u block payload layout.align → memory.new.copied ≤ memory.old.copied + (usable u).len }
+    ensures copied { AtEachPayload FLLEN SLLEN memory.old table.old block payload layout (λ s u. memory.new.copied ≤ memory.old.copied + (usable u).len) }
     ensures grow_copied { memory.old.copied ≤ memory.new.copied }
 {
     let end = block + (memory.load_at(view, block) as usize - 1);

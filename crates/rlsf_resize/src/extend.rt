@@ -8,9 +8,9 @@ ghost use Rattle.rlsf_base.specs.Sizes.{max_pool_size};
 ghost use Rattle.rlsf_base.specs.Space.{range_of, SamePlace};
 ghost use Rattle.rlsf_machine.specs.Insert.{Appends, IsNext, aligned_part, cut, grown};
 ghost use Rattle.rlsf_machine.specs.State.{State};
-ghost use Rattle.rlsf_blocks.specs.Spare.{KeepsSpare};
 ghost use Rattle.rlsf_blocks.specs.StandsFor.{contents, StandsFor};
-ghost use Rattle.rlsf_resize.specs.Steps.Extension.{IsExtensible};
+ghost use Rattle.rlsf_blocks.specs.Steps.Standing.{InEach, StandsAfter, StepsTo};
+ghost use Rattle.rlsf_resize.specs.Steps.Extension.{AtEachExtensible, IsExtensible};
 
 use rlsf_base::classes;
 use rlsf_base::memory::{Memory, Range};
@@ -28,8 +28,7 @@ fn extend_chunk<FLBitmap: Bitmap, SLBitmap: Bitmap, const FLLEN: usize, const SL
 )
     requires parameters { IsValid FLBitmap.width SLBitmap.width FLLEN SLLEN }
     requires extensible { (s : State) × (c : Range) × StandsFor FLLEN SLLEN (contents memory.old table.old) s × IsExtensible FLLEN (range_of memory.old) s c len × (end_of c ≡ end) }
-    ensures step { (s : State) (c : Range) → StandsFor FLLEN SLLEN (contents memory.old table.old) s → IsExtensible FLLEN (range_of memory.old) s c len → end_of c ≡ end
-        → StandsFor FLLEN SLLEN (contents memory.new table.new) (grown c len s) × KeepsSpare memory.old s memory.new (grown c len s) }
+    ensures step { AtEachExtensible FLLEN SLLEN memory.old table.old end len (λ s c. StandsAfter FLLEN SLLEN memory.old memory.new table.new s (grown c len s)) }
     ensures place { SamePlace memory.old memory.new }
     ensures touches { memory.new.touches ≤ memory.old.touches + 34 }
     ensures grow { memory.old.touches ≤ memory.new.touches }
@@ -54,8 +53,7 @@ pub fn append<FLBitmap: Bitmap, SLBitmap: Bitmap, const FLLEN: usize, const SLLE
 ) -> usize
     requires parameters { IsValid FLBitmap.width SLBitmap.width FLLEN SLLEN }
     requires next { (s : State) × StandsFor FLLEN SLLEN (contents memory.old table.old) s × IsNext (range_of memory.old) s range }
-    ensures step { (s : State) → StandsFor FLLEN SLLEN (contents memory.old table.old) s → IsNext (range_of memory.old) s range
-        → (t : State) × Appends FLLEN s range result t × StandsFor FLLEN SLLEN (contents memory.new table.new) t × KeepsSpare memory.old s memory.new t }
+    ensures step { InEach FLLEN SLLEN memory.old table.old (λ s. IsNext (range_of memory.old) s range → StepsTo FLLEN SLLEN memory.old memory.new table.new s (Appends FLLEN s range result)) }
     ensures unchanged { result ≡ 0 → memory.new.bytes ≡ memory.old.bytes }
     ensures place { SamePlace memory.old memory.new }
     ensures touches { memory.new.touches ≤ memory.old.touches + (if is_some (max_pool_size FLLEN) then 13 * length (cut (max_pool_size FLLEN) (aligned_part range)) else 34) }

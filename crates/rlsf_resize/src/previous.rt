@@ -1,16 +1,17 @@
 //! A payload moves into the free block before its own.
 
-ghost use Rattle.std.specs.Prelude.{◌≡◌, ◌+◌, ◌≤◌, ℕ, Some, None, find, IfNone, IfSome, MatchOption};
+ghost use Rattle.std.specs.Prelude.{◌≡◌, ◌+◌, ◌≤◌, ℕ, None, find, IfNone, IfSome};
 ghost use Rattle.rlsf_base.specs.SizeClass.{IsValid};
 ghost use Rattle.rlsf_base.specs.Space.{SamePlace};
 ghost use Rattle.rlsf_machine.specs.Join.{ends_at, start_or};
 ghost use Rattle.rlsf_machine.specs.Lists.{IsIn};
-ghost use Rattle.rlsf_machine.specs.Reallocate.{Plan, in_place, into_previous};
+ghost use Rattle.rlsf_machine.specs.Reallocate.{in_place, into_previous};
 ghost use Rattle.rlsf_machine.specs.State.{State, Used, usable};
 ghost use Rattle.rlsf_blocks.specs.StandsFor.{contents, StandsFor};
+ghost use Rattle.rlsf_blocks.specs.Steps.Standing.{AtEachUsed};
 ghost use Rattle.rlsf_table.specs.Counts.{Counts};
-ghost use Rattle.rlsf_resize.specs.Steps.Previous.{FitsBefore, IsBlock};
-ghost use Rattle.rlsf_resize.specs.Steps.Resize.{IsCarriedOut, IsUsedAt};
+ghost use Rattle.rlsf_resize.specs.Steps.Previous.{IsBlock, IsPlaceBefore};
+ghost use Rattle.rlsf_resize.specs.Steps.Resize.{AtEachPayload, AtEachShort, IsPlanned, IsUsedAt};
 ghost use Rattle.rlsf_table.specs.Table.{Table};
 
 use crate::resize::{free_length, occupy};
@@ -24,7 +25,7 @@ use rlsf_table::ClassTable;
 fn start_before(memory: &mut Memory, view: View, block: usize) -> usize
     requires used { (fllen : ℕ) × (sllen : ℕ) × (t : Table) × (s : State) × (u : Used) × StandsFor fllen sllen (contents memory.old t) s × IsIn u s.used × (u.block.start ≡ block) }
     requires view { view ≡ memory.old.view }
-    ensures start { (fllen sllen : ℕ) (t : Table) (s : State) (u : Used) → StandsFor fllen sllen (contents memory.old t) s → IsIn u s.used → u.block.start ≡ block → result ≡ start_or block (find (ends_at block) s.free) }
+    ensures start { (fllen sllen : ℕ) (t : Table) → AtEachUsed fllen sllen memory.old t block (λ s u. result ≡ start_or block (find (ends_at block) s.free)) }
     ensures counts { Counts memory.old memory.new 2 }
 {
     let previous = memory.load_at(view, block + 8) as usize;
@@ -47,8 +48,7 @@ fn place_before(
 ) -> Option<(usize, usize)>
     requires used { (fllen : ℕ) × (sllen : ℕ) × (t : Table) × (s : State) × (u : Used) × StandsFor fllen sllen (contents memory.old t) s × IsBlock s u block end layout.align }
     requires view { view ≡ memory.old.view }
-    ensures place { (fllen sllen : ℕ) (t : Table) (s : State) (u : Used) → StandsFor fllen sllen (contents memory.old t) s → IsBlock s u block end layout.align
-        → MatchOption result (into_previous s u layout.size ≡ None) (λ place. FitsBefore s u layout.size place.0 place.1) }
+    ensures place { (fllen sllen : ℕ) (t : Table) (s : State) (u : Used) → StandsFor fllen sllen (contents memory.old t) s → IsBlock s u block end layout.align → IsPlaceBefore s u layout.size result }
     ensures counts { Counts memory.old memory.new 3 }
 {
     let start = start_before(memory, view, block);
@@ -85,16 +85,14 @@ pub(crate) fn move_into_previous<
     requires parameters { IsValid FLBitmap.width SLBitmap.width FLLEN SLLEN }
     requires used { (s : State) × (u : Used) × StandsFor FLLEN SLLEN (contents memory.old table.old) s × IsUsedAt s u block payload layout.align × (in_place s u layout.size ≡ None) }
     requires view { view ≡ memory.old.view }
-    ensures moved { (s : State) (u : Used) → StandsFor FLLEN SLLEN (contents memory.old table.old) s → IsUsedAt s u block payload layout.align → in_place s u layout.size ≡ None
-        → IfSome result (λ addr. (p : Plan) × (into_previous s u layout.size ≡ Some p) × (p.payload ≡ addr)
-        × IsCarriedOut FLLEN SLLEN (contents memory.old table.old) (contents memory.new table.new) s u p) }
-    ensures refused { (s : State) (u : Used) → StandsFor FLLEN SLLEN (contents memory.old table.old) s → IsUsedAt s u block payload layout.align → in_place s u layout.size ≡ None
-        → IfNone result (into_previous s u layout.size ≡ None) }
+    ensures moved { AtEachShort FLLEN SLLEN memory.old table.old block payload layout
+        (λ s u. IfSome result (IsPlanned FLLEN SLLEN memory.old memory.new table.new s u (into_previous s u layout.size))) }
+    ensures refused { AtEachShort FLLEN SLLEN memory.old table.old block payload layout (λ s u. IfNone result (into_previous s u layout.size ≡ None)) }
     ensures unchanged { IfNone result (Counts memory.old memory.new 4 × (table.new ≡ table.old)) }
     ensures place { SamePlace memory.old memory.new }
     ensures touches { memory.new.touches ≤ memory.old.touches + 37 }
     ensures grow { memory.old.touches ≤ memory.new.touches }
-    ensures copied { (s : State) (u : Used) → StandsFor FLLEN SLLEN (contents memory.old table.old) s → IsUsedAt s u block payload layout.align → memory.new.copied ≤ memory.old.copied + (usable u).len }
+    ensures copied { AtEachPayload FLLEN SLLEN memory.old table.old block payload layout (λ s u. memory.new.copied ≤ memory.old.copied + (usable u).len) }
     ensures grow_copied { memory.old.copied ≤ memory.new.copied }
 {
     let end = block + (memory.load_at(view, block) as usize - 1);

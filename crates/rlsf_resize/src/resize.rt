@@ -1,19 +1,18 @@
 //! A used block gets another size where it stands.
 
-ghost use Rattle.std.specs.Prelude.{◌≡◌, ◌+◌, ◌%◌, ◌≤◌, ◌<◌, ℕ, List, Some, None, find, true, false};
+ghost use Rattle.std.specs.Prelude.{◌≡◌, ◌+◌, ◌%◌, ◌≤◌, ◌<◌, ℕ, List, None, true, false};
 ghost use Rattle.rlsf_base.specs.declared.memory.range.Range.{Range};
 ghost use Rattle.rlsf_base.specs.Range.{range_at};
 ghost use Rattle.rlsf_base.specs.SizeClass.{IsValid};
 ghost use Rattle.rlsf_base.specs.Space.{SamePlace};
-ghost use Rattle.rlsf_machine.specs.Join.{end_or, starts_at};
-ghost use Rattle.rlsf_machine.specs.Reallocate.{Plan, in_place, into_next, or_else};
+ghost use Rattle.rlsf_machine.specs.NoMove.{unmoved_plan};
 ghost use Rattle.rlsf_machine.specs.State.{State, Used};
 ghost use Rattle.rlsf_blocks.specs.StandsFor.{contents, StandsFor};
 ghost use Rattle.rlsf_table.specs.Counts.{Counts};
 ghost use Rattle.rlsf_table.specs.FreeTable.{IsFreeTable};
 ghost use Rattle.rlsf_blocks.specs.Steps.Join.{IsMarked};
-ghost use Rattle.rlsf_resize.specs.Steps.Resize.{IsCarriedOut, IsOccupied, IsUsedAt};
-ghost use Rattle.rlsf_blocks.specs.Steps.Rest.{IsInnerRoom};
+ghost use Rattle.rlsf_resize.specs.Steps.Resize.{AtEachPayload, IsFreeLength, IsOccupied, IsResized, IsUsedAt};
+ghost use Rattle.rlsf_blocks.specs.Steps.Rest.{AtEachInnerRoom, IsInnerRoom};
 ghost use Rattle.rlsf_table.specs.Table.{Table};
 
 use rlsf_base::memory::{Layout, Memory, View};
@@ -26,7 +25,7 @@ use rlsf_table::ClassTable;
 pub(crate) fn free_length(memory: &mut Memory, view: View, block: usize) -> usize
     requires marked { (fllen : ℕ) × (sllen : ℕ) × (t : Table) × (free : List Range) × IsFreeTable fllen sllen memory.old t free × IsMarked memory.old free block }
     requires view { view ≡ memory.old.view }
-    ensures length { (fllen sllen : ℕ) (t : Table) (free : List Range) → IsFreeTable fllen sllen memory.old t free → IsMarked memory.old free block → block + result ≡ end_or block (find (starts_at block) free) }
+    ensures length { (fllen sllen : ℕ) (t : Table) (free : List Range) → IsFreeTable fllen sllen memory.old t free → IsMarked memory.old free block → IsFreeLength free block result }
     ensures counts { Counts memory.old memory.new 1 }
 {
     let size = memory.load_at(view, block);
@@ -47,8 +46,7 @@ pub(crate) fn occupy<FLBitmap: Bitmap, SLBitmap: Bitmap, const FLLEN: usize, con
     requires room { (free : List Range) × (span : Range) × (span.start ≡ block) × (span.len ≡ total) × IsInnerRoom FLLEN SLLEN memory.old table.old free span }
     requires part { (taken % 32 ≡ 0) × (0 < taken) × (taken ≤ total) }
     requires view { view ≡ memory.old.view }
-    ensures step { (free : List Range) (span : Range) → span.start ≡ block → span.len ≡ total → IsInnerRoom FLLEN SLLEN memory.old table.old free span
-        → IsOccupied FLLEN SLLEN memory.old memory.new table.new free span (range_at block taken) }
+    ensures step { AtEachInnerRoom FLLEN SLLEN memory.old table.old block total (λ free span. IsOccupied FLLEN SLLEN memory.old memory.new table.new free span (range_at block taken)) }
     ensures touches { memory.new.touches ≤ memory.old.touches + 13 }
     ensures grow { memory.old.touches ≤ memory.new.touches }
     ensures copied { memory.new.copied ≡ memory.old.copied }
@@ -76,11 +74,9 @@ pub fn resize_block<FLBitmap: Bitmap, SLBitmap: Bitmap, const FLLEN: usize, cons
     requires parameters { IsValid FLBitmap.width SLBitmap.width FLLEN SLLEN }
     requires used { (s : State) × (u : Used) × StandsFor FLLEN SLLEN (contents memory.old table.old) s × IsUsedAt s u block payload layout.align }
     requires view { view ≡ memory.old.view }
-    ensures done { (s : State) (u : Used) → StandsFor FLLEN SLLEN (contents memory.old table.old) s → IsUsedAt s u block payload layout.align → result ≡ true
-        → (p : Plan) × (or_else (in_place s u layout.size) (into_next s u layout.size) ≡ Some p) × (p.payload ≡ payload)
-        × IsCarriedOut FLLEN SLLEN (contents memory.old table.old) (contents memory.new table.new) s u p }
-    ensures refused { (s : State) (u : Used) → StandsFor FLLEN SLLEN (contents memory.old table.old) s → IsUsedAt s u block payload layout.align → result ≡ false
-        → or_else (in_place s u layout.size) (into_next s u layout.size) ≡ None }
+    ensures done { AtEachPayload FLLEN SLLEN memory.old table.old block payload layout
+        (λ s u. result ≡ true → IsResized FLLEN SLLEN memory.old memory.new table.new s u layout.size payload) }
+    ensures refused { AtEachPayload FLLEN SLLEN memory.old table.old block payload layout (λ s u. result ≡ false → unmoved_plan s u layout.size ≡ None) }
     ensures unchanged { result ≡ false → Counts memory.old memory.new 2 × (table.new ≡ table.old) }
     ensures place { SamePlace memory.old memory.new }
     ensures touches { memory.new.touches ≤ memory.old.touches + 24 }

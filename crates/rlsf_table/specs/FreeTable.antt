@@ -1,11 +1,13 @@
 -- The free blocks by classes, as their words and the class table have them.
-use Rattle.std.specs.Prelude.{◌≡◌, ℕ, ◌+◌, ◌^◌, ◌<◌, ◌≤◌, List, ◌∷◌, length}
+use Rattle.std.specs.Prelude.{◌≡◌, ℕ, ◌+◌, ◌^◌, ◌<◌, ◌≤◌, List, ◌∷◌, ◌++◌, length, Option, None, Some, MatchOption}
 use Rattle.rlsf_base.specs.declared.memory.range.Range.{Range}
+use Rattle.rlsf_base.specs.SizeClass.{class_of}
 use Rattle.rlsf_base.specs.Space.{Space, word_at}
+use Rattle.rlsf_machine.specs.Allocate.{choice}
 use Rattle.rlsf_machine.specs.Lists.{IsIn}
 use Rattle.rlsf_machine.specs.WellFormed.{coverage, itself, IsFree}
-use Rattle.rlsf_table.specs.FreeList.{IsPlaced}
-use Rattle.rlsf_table.specs.Table.{Table, HasTable}
+use Rattle.rlsf_table.specs.FreeList.{IsLink, IsPlaced, Rewrites}
+use Rattle.rlsf_table.specs.Table.{Table, HasBits, HasTable, IsClassAt, IsHeadOf, IsNewestAt, class_at}
 
 -- the free blocks are those of a list, none of which overlap, each of a valid class and with its size word; and addresses fit in a word
 pub record IsFreeTable (fllen sllen : ℕ) (m : Space) (t : Table) (free : List Range) : Type 0 where
@@ -22,3 +24,34 @@ pub record IsRoom (fllen sllen : ℕ) (m : Space) (t : Table) (free : List Range
   pub block : IsFree fllen sllen r
   pub placed : IsPlaced m r
   pub apart : (a : ℕ) → coverage itself (r ∷ free) a ≤ 1
+
+-- this is true of each list of free blocks beside which so many bytes at the address can become one, and of these bytes
+abbrev pub AtEachRoom : ℕ → ℕ → Space → Table → ℕ → ℕ → (Range → List Range → Type 0) → Type 0
+AtEachRoom fllen sllen m t block len P = (r : Range) (free : List Range) → r.start ≡ block → r.len ≡ len → IsRoom fllen sllen m t free r → P r free
+
+-- this is true of each list of free blocks that has one of so many bytes at the address: of that block, those before it and those behind it
+abbrev pub AtEachListed : ℕ → ℕ → Space → Table → ℕ → ℕ → (Range → List Range → List Range → Type 0) → Type 0
+AtEachListed fllen sllen m t block len P = (r : Range) (before after : List Range) → r.start ≡ block → r.len ≡ len → IsFreeTable fllen sllen m t (before ++ (r ∷ after)) → P r before after
+
+-- the same where the block at the address is the newest of the class at two indices
+abbrev pub AtEachNewest : ℕ → ℕ → Space → Table → ℕ → ℕ → ℕ → (Range → List Range → List Range → Type 0) → Type 0
+AtEachNewest fllen sllen m t block fl sl P = (r : Range) (before after : List Range) → r.start ≡ block → IsNewestAt fllen sllen r before fl sl → IsFreeTable fllen sllen m t (before ++ (r ∷ after)) → P r before after
+
+-- the block is the newest free one, and no words were written but links of free blocks
+abbrev pub IsLinked : ℕ → ℕ → Space → Space → Table → Range → List Range → Type 0
+IsLinked fllen sllen m n t r free = HasTable fllen sllen n t (r ∷ free) × Rewrites m n (IsLink (r ∷ free))
+
+-- the block is no free one any more, and no words were written but links of blocks that were free
+abbrev pub IsUnlinked : ℕ → ℕ → Space → Space → Table → Range → List Range → List Range → Type 0
+IsUnlinked fllen sllen m n t r before after = HasTable fllen sllen n t (before ++ after) × Rewrites m n (IsLink (before ++ (r ∷ after)))
+
+-- a list's bits were those of the table t: those of the table u are the bits of the list without a range of the class at two indices,
+-- where the class's head is set
+abbrev pub HasBitsWithout : ℕ → ℕ → Table → Table → ℕ → ℕ → ℕ → Type 0
+HasBitsWithout fllen sllen t u fl sl head = (r : Range) (before after : List Range) → class_of sllen r.len ≡ class_at fl sl → IsHeadOf sllen fl sl head (before ++ after)
+    → HasBits fllen sllen t (before ++ (r ∷ after)) → HasBits fllen sllen u (before ++ after)
+
+-- what a search for a size answers: where the choice begins, with the two indices of its class, or nothing if there is no choice
+abbrev pub IsFirstFit : ℕ → ℕ → ℕ → List Range → Option (ℕ × (ℕ × ℕ)) → Type 0
+IsFirstFit fllen sllen size free answer = MatchOption answer (choice sllen size free ≡ None)
+    (λ found. (f : Range) × (choice sllen size free ≡ Some f) × (f.start ≡ found.0) × IsClassAt fllen sllen f.len found.1.0 found.1.1)

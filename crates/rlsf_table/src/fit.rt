@@ -1,13 +1,11 @@
 //! The search for a free block of the first class that reaches a size.
 
-ghost use Rattle.std.specs.Prelude.{◌≡◌, ℕ, List, MatchOption, Some, None};
+ghost use Rattle.std.specs.Prelude.{List};
 ghost use Rattle.rlsf_base.specs.declared.memory.range.Range.{Range};
 ghost use Rattle.rlsf_base.specs.SizeClass.{IsValid};
 ghost use Rattle.rlsf_base.specs.Sizes.{IsSize};
-ghost use Rattle.rlsf_machine.specs.Allocate.{choice};
 ghost use Rattle.rlsf_table.specs.Counts.{Counts};
-ghost use Rattle.rlsf_table.specs.FreeTable.{IsFreeTable};
-ghost use Rattle.rlsf_table.specs.Table.{IsClassAt};
+ghost use Rattle.rlsf_table.specs.FreeTable.{IsFirstFit, IsFreeTable};
 
 use crate::table::ClassTable;
 use rlsf_base::classes::map_ceil;
@@ -26,7 +24,7 @@ pub fn first_fit<FLBitmap: Bitmap, SLBitmap: Bitmap, const FLLEN: usize, const S
     requires parameters { IsValid FLBitmap.width SLBitmap.width FLLEN SLLEN }
     requires size { IsSize size }
     requires list { (free : List Range) × IsFreeTable FLLEN SLLEN memory.old table.now free }
-    ensures choice { (free : List Range) → IsFreeTable FLLEN SLLEN memory.old table.now free → MatchOption result (choice SLLEN size free ≡ None) (λ found. (f : Range) × (choice SLLEN size free ≡ Some f) × (f.start ≡ found.0) × IsClassAt FLLEN SLLEN f.len found.1.0 found.1.1) }
+    ensures choice { (free : List Range) → IsFreeTable FLLEN SLLEN memory.old table.now free → IsFirstFit FLLEN SLLEN size free result }
     ensures counts { Counts memory.old memory.new 4 }
 {
     let (fl, sl) = map_ceil::<FLBitmap, SLBitmap, FLLEN, SLLEN>(size)?;

@@ -5,10 +5,10 @@ ghost use Rattle.rlsf_base.specs.declared.memory.range.Range.{Range};
 ghost use Rattle.rlsf_base.specs.SizeClass.{IsValid};
 ghost use Rattle.rlsf_machine.specs.Lists.{IsIn};
 ghost use Rattle.rlsf_machine.specs.WellFormed.{coverage, itself};
-ghost use Rattle.rlsf_table.specs.FreeList.{Links, IsLink, IsPlaced, Rewrites};
-ghost use Rattle.rlsf_table.specs.Steps.ClassList.{unlinking_touches, IsFirstOrOwn, IsFreeList};
-ghost use Rattle.rlsf_table.specs.FreeTable.{IsFreeTable, IsRoom};
-ghost use Rattle.rlsf_table.specs.Table.{HasTable, IsNewestAt};
+ghost use Rattle.rlsf_table.specs.FreeList.{IsPlaced};
+ghost use Rattle.rlsf_table.specs.Steps.ClassList.{unlinking_touches, AtEachFront, AtEachPlace, IsFirstOrOwn, IsFreeList, IsRelinked};
+ghost use Rattle.rlsf_table.specs.FreeTable.{AtEachListed, AtEachNewest, AtEachRoom, IsFreeTable, IsLinked, IsRoom, IsUnlinked};
+ghost use Rattle.rlsf_table.specs.Table.{IsNewestAt};
 
 use crate::table::ClassTable;
 use rlsf_base::classes::map_floor;
@@ -29,8 +29,7 @@ fn first_or_own(first: usize, block: usize) -> usize
 fn link_front(memory: &mut Memory, view: View, newest: usize, block: usize)
     requires place { (r : Range) × (free : List Range) × (r.start ≡ block) × IsFreeList memory.old newest free × IsPlaced memory.old r × ((a : ℕ) → coverage itself (r ∷ free) a ≤ 1) }
     requires view { view ≡ memory.old.view }
-    ensures step { (r : Range) (free : List Range) → r.start ≡ block → IsFreeList memory.old newest free → IsPlaced memory.old r → ((a : ℕ) → coverage itself (r ∷ free) a ≤ 1)
-        → Links memory.new 0 (r ∷ free) block × Rewrites memory.old memory.new (IsLink (r ∷ free)) }
+    ensures step { AtEachFront memory.old newest block (λ r free. IsRelinked memory.old memory.new (r ∷ free) (r ∷ free) block) }
     ensures touches { memory.new.touches ≤ memory.old.touches + 3 }
     ensures grow { memory.old.touches ≤ memory.new.touches }
     ensures copied { memory.new.copied ≡ memory.old.copied }
@@ -47,8 +46,7 @@ fn link_front(memory: &mut Memory, view: View, newest: usize, block: usize)
 fn unlink_front(memory: &mut Memory, view: View, block: usize) -> usize
     requires front { (r : Range) × (after : List Range) × (newest : ℕ) × (r.start ≡ block) × IsFreeList memory.old newest (r ∷ after) }
     requires view { view ≡ memory.old.view }
-    ensures step { (newest : ℕ) (r : Range) (after : List Range) → r.start ≡ block → IsFreeList memory.old newest (r ∷ after)
-        → Links memory.new 0 after result × Rewrites memory.old memory.new (IsLink (r ∷ after)) }
+    ensures step { (newest : ℕ) (r : Range) (after : List Range) → r.start ≡ block → IsFreeList memory.old newest (r ∷ after) → IsRelinked memory.old memory.new (r ∷ after) after result }
     ensures touches { memory.new.touches ≤ memory.old.touches + 2 }
     ensures grow { memory.old.touches ≤ memory.new.touches }
     ensures copied { memory.new.copied ≡ memory.old.copied }
@@ -65,8 +63,7 @@ fn unlink_front(memory: &mut Memory, view: View, block: usize) -> usize
 fn unlink_between(memory: &mut Memory, view: View, block: usize) -> Option<usize>
     requires listed { (r : Range) × (free : List Range) × (newest : ℕ) × (r.start ≡ block) × IsIn r free × IsFreeList memory.old newest free }
     requires view { view ≡ memory.old.view }
-    ensures step { (newest : ℕ) (r : Range) (before after : List Range) → r.start ≡ block → IsFreeList memory.old newest (before ++ r ∷ after)
-        → Links memory.new 0 (before ++ after) (unwrap_or result newest) × Rewrites memory.old memory.new (IsLink (before ++ r ∷ after)) }
+    ensures step { AtEachPlace memory.old block (λ newest r before after. IsRelinked memory.old memory.new (before ++ r ∷ after) (before ++ after) (unwrap_or result newest)) }
     ensures touches { memory.new.touches ≤ memory.old.touches + unlinking_touches result }
     ensures grow { memory.old.touches ≤ memory.new.touches }
     ensures copied { memory.new.copied ≡ memory.old.copied }
@@ -101,8 +98,7 @@ pub fn link<FLBitmap: Bitmap, SLBitmap: Bitmap, const FLLEN: usize, const SLLEN:
     requires parameters { IsValid FLBitmap.width SLBitmap.width FLLEN SLLEN }
     requires room { (r : Range) × (free : List Range) × (r.start ≡ block) × (r.len ≡ len) × IsRoom FLLEN SLLEN memory.old table.old free r }
     requires view { view ≡ memory.old.view }
-    ensures step { (r : Range) (free : List Range) → r.start ≡ block → r.len ≡ len → IsRoom FLLEN SLLEN memory.old table.old free r
-        → HasTable FLLEN SLLEN memory.new table.new (r ∷ free) × Rewrites memory.old memory.new (IsLink (r ∷ free)) }
+    ensures step { AtEachRoom FLLEN SLLEN memory.old table.old block len (IsLinked FLLEN SLLEN memory.old memory.new table.new) }
     ensures touches { memory.new.touches ≤ memory.old.touches + 9 }
     ensures grow { memory.old.touches ≤ memory.new.touches }
     ensures copied { memory.new.copied ≡ memory.old.copied }
@@ -132,8 +128,7 @@ pub fn unlink<FLBitmap: Bitmap, SLBitmap: Bitmap, const FLLEN: usize, const SLLE
     requires parameters { IsValid FLBitmap.width SLBitmap.width FLLEN SLLEN }
     requires listed { (r : Range) × (free : List Range) × (r.start ≡ block) × (r.len ≡ len) × IsIn r free × IsFreeTable FLLEN SLLEN memory.old table.old free }
     requires view { view ≡ memory.old.view }
-    ensures step { (r : Range) (before after : List Range) → r.start ≡ block → r.len ≡ len → IsFreeTable FLLEN SLLEN memory.old table.old (before ++ r ∷ after)
-        → HasTable FLLEN SLLEN memory.new table.new (before ++ after) × Rewrites memory.old memory.new (IsLink (before ++ r ∷ after)) }
+    ensures step { AtEachListed FLLEN SLLEN memory.old table.old block len (IsUnlinked FLLEN SLLEN memory.old memory.new table.new) }
     ensures touches { memory.new.touches ≤ memory.old.touches + 8 }
     ensures grow { memory.old.touches ≤ memory.new.touches }
     ensures copied { memory.new.copied ≡ memory.old.copied }
@@ -164,8 +159,7 @@ pub fn unlink_newest<FLBitmap: Bitmap, SLBitmap: Bitmap, const FLLEN: usize, con
     requires parameters { IsValid FLBitmap.width SLBitmap.width FLLEN SLLEN }
     requires newest { (r : Range) × (before after : List Range) × (r.start ≡ block) × IsNewestAt FLLEN SLLEN r before class.0 class.1 × IsFreeTable FLLEN SLLEN memory.old table.old (before ++ r ∷ after) }
     requires view { view ≡ memory.old.view }
-    ensures step { (r : Range) (before after : List Range) → r.start ≡ block → IsNewestAt FLLEN SLLEN r before class.0 class.1 → IsFreeTable FLLEN SLLEN memory.old table.old (before ++ r ∷ after)
-        → HasTable FLLEN SLLEN memory.new table.new (before ++ after) × Rewrites memory.old memory.new (IsLink (before ++ r ∷ after)) }
+    ensures step { AtEachNewest FLLEN SLLEN memory.old table.old block class.0 class.1 (IsUnlinked FLLEN SLLEN memory.old memory.new table.new) }
     ensures touches { memory.new.touches ≤ memory.old.touches + 8 }
     ensures grow { memory.old.touches ≤ memory.new.touches }
     ensures copied { memory.new.copied ≡ memory.old.copied }

@@ -1,6 +1,6 @@
 //! The class table: bitmaps of two levels, and the newest free block of each class.
 
-ghost use Rattle.std.specs.Prelude.{◌≡◌, ℕ, ◌<◌, ◌≤◌, false, List, [], ◌∷◌, ◌++◌, ◌==◌, if◌then◌else◌, slice_index};
+ghost use Rattle.std.specs.Prelude.{◌≡◌, ℕ, ◌<◌, ◌≤◌, false, List, [], ◌∷◌, ◌==◌, if◌then◌else◌, slice_index};
 ghost use Rattle.rlsf_base.specs.declared.memory.range.Range.{Range};
 ghost use Rattle.rlsf_base.specs.SizeClass.{IsValid, class_of};
 ghost use Rattle.rlsf_base.specs.Space.{Space};
@@ -8,7 +8,8 @@ ghost use Rattle.rlsf_int.specs.Bits.{bit};
 ghost use Rattle.rlsf_machine.specs.Lists.{IsIn};
 ghost use Rattle.rlsf_machine.specs.WellFormed.{IsFree};
 ghost use Rattle.rlsf_table.specs.Counts.{Counts};
-ghost use Rattle.rlsf_table.specs.Table.{IsHeadOf, IsHeadSet, IsLeastFrom, class_at, head_at, HasBits, HasTable};
+ghost use Rattle.rlsf_table.specs.FreeTable.{HasBitsWithout};
+ghost use Rattle.rlsf_table.specs.Table.{IsHeadSet, IsLeastFrom, class_at, head_at, HasBits, HasTable};
 
 use crate::rows::Rows;
 use rlsf_base::memory::Memory;
@@ -145,8 +146,7 @@ impl<FLBitmap: Bitmap, SLBitmap: Bitmap, const FLLEN: usize, const SLLEN: usize>
         requires parameters { IsValid FLBitmap.width SLBitmap.width FLLEN SLLEN }
         requires class { (fl < FLLEN) × (sl < SLLEN) }
         ensures heads { IsHeadSet FLLEN SLLEN self.old self.new fl sl next }
-        ensures bits { (r : Range) (before after : List Range) → class_of SLLEN r.len ≡ class_at fl sl
-            → IsHeadOf SLLEN fl sl next (before ++ after) → HasBits FLLEN SLLEN self.old (before ++ r ∷ after) → HasBits FLLEN SLLEN self.new (before ++ after) }
+        ensures bits { HasBitsWithout FLLEN SLLEN self.old self.new fl sl next }
         ensures counts { Counts memory.old memory.new (if next == 0 then 6 else 1) }
     {
         memory.touch();

@@ -12,3 +12,7 @@ IsLiveIn m addr = (fllen : ℕ) × (sllen : ℕ) × (v : Contents) × (s : State
 -- in each state that stands in the memory, this is true of the used block whose caller has the address
 abbrev pub AtEachBlock : Space → ℕ → (Used → Type 0) → Type 0
 AtEachBlock m addr P = (fllen sllen : ℕ) (v : Contents) (s : State) (u : Used) → v.memory ≡ m → StandsFor fllen sllen v s → Holds s addr u → P u
+
+-- the used block whose caller has the address, with that alignment, begins at `block`
+abbrev pub IsBlockOf : State → ℕ → ℕ → ℕ → Type 0
+IsBlockOf s addr align block = (u : Used) × Holds s addr u × (u.align ≡ align) × (u.block.start ≡ block)

@@ -1,14 +1,17 @@
 -- What is left of a free block whose front is taken.
 use Rattle.std.specs.Prelude.{◌≡◌, ℕ, ◌+◌, ◌%◌, ◌<◌, ◌≤◌, List, ◌∷◌, ◌++◌, length, Some, find}
+use Rattle.rlsf_base.specs.declared.memory.layout.Layout.{Layout}
 use Rattle.rlsf_base.specs.declared.memory.range.Range.{Range}
 use Rattle.rlsf_base.specs.Range.{end_of}
 use Rattle.rlsf_base.specs.SizeClass.{class_of}
+use Rattle.rlsf_base.specs.Sizes.{request_size}
 use Rattle.rlsf_base.specs.Space.{Space, word_at}
 use Rattle.rlsf_table.specs.FreeList.{Rewrites}
 use Rattle.rlsf_table.specs.FreeTable.{IsRoom}
 use Rattle.rlsf_table.specs.Table.{Table, HasTable}
+use Rattle.rlsf_blocks.specs.StandsFor.{contents, StandsFor}
 use Rattle.rlsf_blocks.specs.Steps.Touched.{Touched}
-use Rattle.rlsf_machine.specs.Allocate.{has_class, rest_behind}
+use Rattle.rlsf_machine.specs.Allocate.{choice, has_class, rest_behind}
 use Rattle.rlsf_machine.specs.Lists.{IsIn, without}
 use Rattle.rlsf_machine.specs.State.{State}
 
@@ -16,6 +19,14 @@ use Rattle.rlsf_machine.specs.State.{State}
 pub record IsInnerRoom (fllen sllen : ℕ) (m : Space) (t : Table) (free : List Range) (r : Range) : Type 0 where
   pub room : IsRoom fllen sllen m t free r
   pub not_last : end_of r + 16 ≤ m.start + length m.bytes
+
+-- this is true of each list of free blocks beside which so many bytes at the address can become one, and of these bytes
+abbrev pub AtEachInnerRoom : ℕ → ℕ → Space → Table → ℕ → ℕ → (List Range → Range → Type 0) → Type 0
+AtEachInnerRoom fllen sllen m t block len P = (free : List Range) (r : Range) → r.start ≡ block → r.len ≡ len → IsInnerRoom fllen sllen m t free r → P free r
+
+-- this is true of each list of free blocks beside which what is behind the first `taken` of the `len` bytes at the address can become one
+abbrev pub AtEachRest : ℕ → ℕ → Space → Table → ℕ → ℕ → ℕ → (List Range → Range → Type 0) → Type 0
+AtEachRest fllen sllen m t block len taken P = (free : List Range) (r : Range) → r.start ≡ block + taken → r.len + taken ≡ len → IsInnerRoom fllen sllen m t free r → P free r
 
 -- the words of a new free block behind the block at `block`, put in front of its class
 pub record IsLeft (fllen sllen : ℕ) (m n : Space) (t : Table) (free : List Range) (block : ℕ) (r : Range) : Type 0 where
@@ -33,6 +44,15 @@ pub record IsTaken (sllen : ℕ) (s : State) (f : Range) (block len taken : ℕ)
   pub whole : taken % 32 ≡ 0
   pub some : 0 < taken
   pub fits : taken ≤ len
+
+-- this is true of each such range, in each state that memory and table stand for
+abbrev pub AtEachTaken : ℕ → ℕ → Space → Table → ℕ → ℕ → ℕ → (State → Range → Type 0) → Type 0
+AtEachTaken fllen sllen m t block len taken P = (s : State) (f : Range) → StandsFor fllen sllen (contents m t) s → IsTaken sllen s f block len taken → P s f
+
+-- this is true of the free range at the address, if it is chosen for the layout, in each state that memory and table stand for
+abbrev pub AtEachChosen : ℕ → ℕ → Space → Table → Layout → ℕ → (State → Range → Type 0) → Type 0
+AtEachChosen fllen sllen m t layout block P = (s : State) (f : Range) → StandsFor fllen sllen (contents m t) s
+    → choice sllen (request_size layout.size layout.align) s.free ≡ Some f → f.start ≡ block → P s f
 
 -- the words once the free range f isn't in the list any more, and what is left of it behind its front is
 pub record IsOpened (fllen sllen : ℕ) (m n : Space) (t : Table) (s : State) (f front : Range) : Type 0 where

@@ -7,7 +7,7 @@ use Rattle.rlsf_machine.specs.State.{State, Used}
 use Rattle.rlsf_blocks.specs.Spare.{KeepsSpare}
 use Rattle.rlsf_blocks.specs.StandsFor.{contents, StandsFor}
 use Rattle.rlsf_table.specs.Counts.{Counts}
-use Rattle.rlsf_resize.specs.Steps.Resize.{IsCarriedOut}
+use Rattle.rlsf_resize.specs.Steps.Resize.{IsCarriedOut, IsReallocated}
 use Rattle.rlsf_table.specs.Table.{Table}
 use Rattle.rlsf_blocks.proofs.Machine.Counted.{KeepsSpare-counted, KeepsSpare-counted_first, StandsFor-counted}
 
@@ -38,10 +38,6 @@ module _ (s : State) (u : Used) (size : ℕ) where
   in_place-none = or_else-none_first (in_place s u size) (into_next s u size)
 
 -- ---- the step that was made
-
--- a reallocation of the used block, which answers a reply, leads to a state that stands
-abbrev pub IsReallocated : ℕ → ℕ → Space → Space → Table → State → Used → ℕ → Option ℕ → Type 0
-IsReallocated fllen sllen m n changed s u size reply = (t : State) × ReallocatesBy sllen s u size (plan s u size) reply t × StandsFor fllen sllen (contents n changed) t × KeepsSpare m s n t
 
 module _ {fllen sllen : ℕ} (m n : Space) (table changed : Table) (s : State) where
   -- what was refused changed nothing

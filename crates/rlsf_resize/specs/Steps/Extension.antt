@@ -3,6 +3,9 @@ use Rattle.std.specs.Prelude.{◌≡◌, ℕ, ◌+◌, ◌-◌, ◌%◌, ◌<◌
 use Rattle.rlsf_base.specs.declared.memory.range.Range.{Range}
 use Rattle.rlsf_base.specs.Range.{end_of, range_at}
 use Rattle.rlsf_base.specs.Sizes.{max_pool_size}
+use Rattle.rlsf_base.specs.Space.{Space, range_of}
+use Rattle.rlsf_table.specs.Table.{Table}
+use Rattle.rlsf_blocks.specs.StandsFor.{contents, StandsFor}
 use Rattle.rlsf_machine.specs.Insert.{IsFresh}
 use Rattle.rlsf_machine.specs.Join.{ends_at}
 use Rattle.rlsf_machine.specs.Lists.{without}
@@ -15,6 +18,10 @@ pub record IsExtensible (fllen : ℕ) (memory : Range) (s : State) (c : Range) (
   pub some : 0 < n
   pub whole : n % 32 ≡ 0
   pub fresh : IsFresh memory s (range_at (end_of c) n)
+
+-- this is true of the chunk that ends at the address and can grow by so many bytes, in each state that memory and table stand for
+abbrev pub AtEachExtensible : ℕ → ℕ → Space → Table → ℕ → ℕ → (State → Range → Type 0) → Type 0
+AtEachExtensible fllen sllen m t end n P = (s : State) (c : Range) → StandsFor fllen sllen (contents m t) s → IsExtensible fllen (range_of m) s c n → end_of c ≡ end → P s c
 
 -- the used block of n bytes from a chunk's last 32 bytes on
 abbrev pub more_block : Range → ℕ → List ℕ → Used

@@ -1,10 +1,11 @@
 -- A used block can begin where the free block before it does.
-use Rattle.std.specs.Prelude.{◌≡◌, ℕ, ◌+◌, ◌≤◌, Some, find}
+use Rattle.std.specs.Prelude.{◌≡◌, ℕ, ◌+◌, ◌≤◌, Option, None, Some, MatchOption, find}
 use Rattle.rlsf_base.specs.declared.memory.range.Range.{Range}
 use Rattle.rlsf_base.specs.Range.{end_of}
 use Rattle.rlsf_machine.specs.Join.{ends_at, starts_at, end_or}
 use Rattle.rlsf_machine.specs.Lists.{IsIn, without}
 use Rattle.rlsf_machine.specs.Payload.{block_length, payload_of}
+use Rattle.rlsf_machine.specs.Reallocate.{into_previous}
 use Rattle.rlsf_machine.specs.State.{State, Used}
 
 -- a used block of the state goes from `block` to `end`, and its payload has that alignment
@@ -22,3 +23,7 @@ pub record FitsBefore (s : State) (u : Used) (size payload taken : ℕ) : Type 0
   pub placed : payload ≡ payload_of previous.start u.align
   pub long : taken ≡ block_length previous.start payload size
   pub fits : previous.start + taken ≤ end_or (end_of u.block) (find (starts_at (end_of u.block)) (without (ends_at u.block.start) s.free))
+
+-- where the payload would lie then, and how many bytes its block would take, if they suffice
+abbrev pub IsPlaceBefore : State → Used → ℕ → Option (ℕ × ℕ) → Type 0
+IsPlaceBefore s u size answer = MatchOption answer (into_previous s u size ≡ None) (λ place. FitsBefore s u size place.0 place.1)

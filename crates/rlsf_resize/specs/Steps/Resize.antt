@@ -1,14 +1,18 @@
 -- A used block gets another size, where it stands or at another place.
-use Rattle.std.specs.Prelude.{◌≡◌, ℕ, ◌+◌, ◌≤◌, List, ◌++◌}
+use Rattle.std.specs.Prelude.{◌≡◌, ℕ, ◌+◌, ◌≤◌, List, ◌++◌, Option, None, Some, MatchOption, find}
+use Rattle.rlsf_base.specs.declared.memory.layout.Layout.{Layout}
 use Rattle.rlsf_base.specs.declared.memory.range.Range.{Range}
 use Rattle.rlsf_base.specs.Range.{end_of}
 use Rattle.rlsf_base.specs.Space.{Space, bytes_in, word_at}
-use Rattle.rlsf_machine.specs.Allocate.{rest_behind}
+use Rattle.rlsf_machine.specs.Allocate.{Allocates, rest_behind}
+use Rattle.rlsf_machine.specs.Join.{end_or, starts_at}
 use Rattle.rlsf_machine.specs.Lists.{IsIn}
-use Rattle.rlsf_machine.specs.Reallocate.{Plan, Replans}
+use Rattle.rlsf_machine.specs.NoMove.{unmoved_plan}
+use Rattle.rlsf_machine.specs.Reallocate.{MovesAway, Plan, ReallocatesBy, Replans, in_place, plan}
 use Rattle.rlsf_machine.specs.State.{State, Used}
 use Rattle.rlsf_blocks.specs.Spare.{KeepsSpare}
-use Rattle.rlsf_blocks.specs.StandsFor.{Contents, StandsFor}
+use Rattle.rlsf_blocks.specs.StandsFor.{Contents, contents, StandsFor}
+use Rattle.rlsf_blocks.specs.Steps.Standing.{StepsTo}
 use Rattle.rlsf_table.specs.FreeList.{Rewrites}
 use Rattle.rlsf_blocks.specs.Steps.Touched.{Touched}
 use Rattle.rlsf_table.specs.Table.{Table, HasTable}
@@ -19,6 +23,19 @@ pub record IsUsedAt (s : State) (u : Used) (block payload align : ℕ) : Type 0 
   pub start : u.block.start ≡ block
   pub caller : u.payload ≡ payload
   pub alignment : u.align ≡ align
+
+-- this is true of the used block at `block` whose caller has `payload`, by the layout's alignment, in each state that memory and table stand for
+abbrev pub AtEachPayload : ℕ → ℕ → Space → Table → ℕ → ℕ → Layout → (State → Used → Type 0) → Type 0
+AtEachPayload fllen sllen m t block payload layout P = (s : State) (u : Used) → StandsFor fllen sllen (contents m t) s → IsUsedAt s u block payload layout.align → P s u
+
+-- the same where that block is too short for the layout
+abbrev pub AtEachShort : ℕ → ℕ → Space → Table → ℕ → ℕ → Layout → (State → Used → Type 0) → Type 0
+AtEachShort fllen sllen m t block payload layout P = (s : State) (u : Used) → StandsFor fllen sllen (contents m t) s
+    → IsUsedAt s u block payload layout.align → in_place s u layout.size ≡ None → P s u
+
+-- the bytes of the free range at the address, or 0 if none begins there
+abbrev pub IsFreeLength : List Range → ℕ → ℕ → Type 0
+IsFreeLength free block len = block + len ≡ end_or block (find (starts_at block) free)
 
 -- the words once a used block took the front of a span that was no block's, and a rest of it became the newest free block.
 -- Behind the first 16 bytes of the front no byte has changed, and the word that names the block before it stays
@@ -34,3 +51,19 @@ pub record IsOccupied (fllen sllen : ℕ) (m n : Space) (t : Table) (free : List
 -- a plan for the used block was carried out: a state stands that it leads to, and spare bytes are as they were
 abbrev pub IsCarriedOut : ℕ → ℕ → Contents → Contents → State → Used → Plan → Type 0
 IsCarriedOut fllen sllen v w s u p = (t : State) × Replans s u p p.payload t × StandsFor fllen sllen w t × KeepsSpare v.memory s w.memory t
+
+-- there is a plan, by which the payload lies at the address, and it was carried out
+abbrev pub IsPlanned : ℕ → ℕ → Space → Space → Table → State → Used → Option Plan → ℕ → Type 0
+IsPlanned fllen sllen m n t s u first addr = (p : Plan) × (first ≡ Some p) × (p.payload ≡ addr) × StepsTo fllen sllen m n t s (Replans s u p p.payload)
+
+-- the payload at the address has the size where it stands
+abbrev pub IsResized : ℕ → ℕ → Space → Space → Table → State → Used → ℕ → ℕ → Type 0
+IsResized fllen sllen m n t s u size addr = IsPlanned fllen sllen m n t s u (unmoved_plan s u size) addr
+
+-- a reallocation of the used block, which answers a reply, leads to a state that stands
+abbrev pub IsReallocated : ℕ → ℕ → Space → Space → Table → State → Used → ℕ → Option ℕ → Type 0
+IsReallocated fllen sllen m n t s u size reply = StepsTo fllen sllen m n t s (ReallocatesBy sllen s u size (plan s u size) reply)
+
+-- the payload lies in a block that was allocated for it, and its old block is given back; or the allocation is refused
+abbrev pub IsElsewhere : ℕ → ℕ → Space → Space → Table → State → Used → ℕ → Option ℕ → Type 0
+IsElsewhere fllen sllen m n t s u size reply = MatchOption reply (Allocates sllen s size u.align None s) (λ addr. StepsTo fllen sllen m n t s (MovesAway sllen s u size addr))

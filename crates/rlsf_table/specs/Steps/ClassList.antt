@@ -1,10 +1,10 @@
 -- The list of one class, as the functions that write its links have it.
-use Rattle.std.specs.Prelude.{◌≡◌, ◌≢◌, ℕ, ◌+◌, ◌^◌, ◌<◌, ◌≤◌, ◌==◌, List, length, Option, None, Some, if◌then◌else◌}
+use Rattle.std.specs.Prelude.{◌≡◌, ◌≢◌, ℕ, ◌+◌, ◌^◌, ◌<◌, ◌≤◌, ◌==◌, List, ◌∷◌, ◌++◌, length, Option, None, Some, if◌then◌else◌}
 use Rattle.rlsf_base.specs.declared.memory.range.Range.{Range}
 use Rattle.rlsf_base.specs.Space.{Space, word_at}
 use Rattle.rlsf_machine.specs.Lists.{IsIn}
 use Rattle.rlsf_machine.specs.WellFormed.{coverage, itself}
-use Rattle.rlsf_table.specs.FreeList.{Links, IsPlaced}
+use Rattle.rlsf_table.specs.FreeList.{Links, IsLink, IsPlaced, Rewrites}
 
 -- the free blocks from `head` on are those of a list, none of which overlap, each with its size word; and addresses fit in a word
 pub record IsFreeList (m : Space) (head : ℕ) (free : List Range) : Type 0 where
@@ -13,6 +13,18 @@ pub record IsFreeList (m : Space) (head : ℕ) (free : List Range) : Type 0 wher
   pub apart : (a : ℕ) → coverage itself free a ≤ 1
   pub sizes : (f : Range) → IsIn f free → word_at m f.start ≡ f.len
   pub addressable : m.start + length m.bytes < 2 ^ 64
+
+-- this is true of each list of the blocks from `head` on, and of a range at the address which can be a block beside them
+abbrev pub AtEachFront : Space → ℕ → ℕ → (Range → List Range → Type 0) → Type 0
+AtEachFront m head block P = (r : Range) (free : List Range) → r.start ≡ block → IsFreeList m head free → IsPlaced m r → ((a : ℕ) → coverage itself (r ∷ free) a ≤ 1) → P r free
+
+-- this is true of each list that has a block at the address: of where it begins, that block, those before it and those behind it
+abbrev pub AtEachPlace : Space → ℕ → (ℕ → Range → List Range → List Range → Type 0) → Type 0
+AtEachPlace m block P = (head : ℕ) (r : Range) (before after : List Range) → r.start ≡ block → IsFreeList m head (before ++ (r ∷ after)) → P head r before after
+
+-- the blocks from `head` on are those of a list, linked in its order, and no words were written but links of the blocks `written`
+abbrev pub IsRelinked : Space → Space → List Range → List Range → ℕ → Type 0
+IsRelinked m n written free head = Links n 0 free head × Rewrites m n (IsLink written)
 
 -- how many touches take a block out from between two others; out from before one that is the newest then; or out of a list of one
 abbrev pub unlinking_touches : Option ℕ → ℕ

@@ -93,7 +93,7 @@ pub returns-then-resize_block-clause-grow_copied : goal.returns-then-resize_bloc
 returns-then-resize_block-clause-grow_copied g c = grow_copied-same c.args.memory.now c.resize_block.new.memory c.resize_block.ensures.copied
 
 pub returns-then-resize_block-clause-stays : goal.returns-then-resize_block-clause-stays
-returns-then-resize_block-clause-stays g c = λ s u p v is first. c.resize_block.ensures.copied
+returns-then-resize_block-clause-stays g c = λ s u v is p first. c.resize_block.ensures.copied
 
 -- ---- in the free block before it
 
@@ -113,7 +113,7 @@ pub returns-in-Some-clause-grow_copied : goal.returns-in-Some-clause-grow_copied
 returns-in-Some-clause-grow_copied g c = grow_copied-counted_first c.args.memory.now c.resize_block.new.memory 2 (c.resize_block.ensures.unchanged c.if-resize_block.false).0 c.move_into_previous.new.memory c.move_into_previous.ensures.grow_copied
 
 pub returns-in-Some-clause-stays : goal.returns-in-Some-clause-stays
-returns-in-Some-clause-stays g c = λ s u p v is first. absurd (none-some p (sym (c.resize_block.ensures.refused s u v is c.if-resize_block.false) ∙ first))
+returns-in-Some-clause-stays g c = λ s u v is p first. absurd (none-some p (sym (c.resize_block.ensures.refused s u v is c.if-resize_block.false) ∙ first))
 
 -- ---- elsewhere
 
@@ -133,4 +133,4 @@ pub returns-clause-grow_copied : goal.returns-clause-grow_copied
 returns-clause-grow_copied g c = grow_copied-counted_first c.args.memory.now c.resize_block.new.memory 2 (c.resize_block.ensures.unchanged c.if-resize_block.false).0 c.move_elsewhere.new.memory (grow_copied-counted_first c.resize_block.new.memory c.move_into_previous.new.memory 4 c.in_default.ensures.unchanged.0 c.move_elsewhere.new.memory c.move_elsewhere.ensures.grow_copied)
 
 pub returns-clause-stays : goal.returns-clause-stays
-returns-clause-stays g c = λ s u p v is first. absurd (none-some p (sym (c.resize_block.ensures.refused s u v is c.if-resize_block.false) ∙ first))
+returns-clause-stays g c = λ s u v is p first. absurd (none-some p (sym (c.resize_block.ensures.refused s u v is c.if-resize_block.false) ∙ first))

@@ -134,14 +134,14 @@ returns-in_err-moved-clause-stays g c = λ room.
     let (u, p, held, first) = room in
     let before = (goal.at.returns-in_err-moved-clause-stays g c).After-used_block-block in
     let (v, holds, is, planned) = stays g before u p held first in
-    c.reallocate_block.ensures.stays (state g before) v p (read_in g before) (used_at g before v holds is) planned ∙ c.used_block-block.ensures.counts.copied ∙ ap (λ (o : Allocator). o.memory.copied) c.self.view_is
+    c.reallocate_block.ensures.stays (state g before) v (read_in g before) (used_at g before v holds is) p planned ∙ c.used_block-block.ensures.counts.copied ∙ ap (λ (o : Allocator). o.memory.copied) c.self.view_is
 
 pub returns-clause-stays : goal.returns-clause-stays
 returns-clause-stays g c = λ room.
     let (u, p, held, first) = room in
     let before = (goal.at.returns-clause-stays g c).After-used_block-block in
     let (v, holds, is, planned) = stays g before u p held first in
-    c.reallocate_block.ensures.stays (state g before) v p (read_in g before) (used_at g before v holds is) planned ∙ c.used_block-block.ensures.counts.copied ∙ ap (λ (o : Allocator). o.memory.copied) c.self.view_is
+    c.reallocate_block.ensures.stays (state g before) v (read_in g before) (used_at g before v holds is) p planned ∙ c.used_block-block.ensures.counts.copied ∙ ap (λ (o : Allocator). o.memory.copied) c.self.view_is
 
 -- ---- the payload with another size
 
