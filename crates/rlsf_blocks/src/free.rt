@@ -11,7 +11,7 @@ ghost use Rattle.rlsf_table.specs.Counts.{Counts};
 ghost use Rattle.rlsf_table.specs.FreeTable.{IsFreeTable};
 ghost use Rattle.rlsf_table.specs.Table.{Table};
 ghost use Rattle.rlsf_blocks.specs.StandsFor.{contents, StandsFor};
-ghost use Rattle.rlsf_blocks.specs.Steps.Join.{IsMarked, IsOut, IsPreviousOut, IsPut};
+ghost use Rattle.rlsf_blocks.specs.Steps.Join.{IsMarked, IsNextOut, IsPreviousOut, IsNewFreeBlock};
 ghost use Rattle.rlsf_blocks.specs.Steps.LiveBlock.{IsBlockOf};
 ghost use Rattle.rlsf_blocks.specs.Steps.Rest.{IsInnerRoom};
 ghost use Rattle.rlsf_blocks.specs.Steps.Standing.{AtEachUsed, StandsAfter};
@@ -47,7 +47,7 @@ pub fn take_if_free<FLBitmap: Bitmap, SLBitmap: Bitmap, const FLLEN: usize, cons
     requires parameters { IsValid FLBitmap.width SLBitmap.width FLLEN SLLEN }
     requires marked { (free : List Range) × IsFreeTable FLLEN SLLEN memory.old table.old free × IsMarked memory.old free block }
     requires view { view ≡ memory.old.view }
-    ensures step { (free : List Range) → IsFreeTable FLLEN SLLEN memory.old table.old free → IsMarked memory.old free block → IsOut FLLEN SLLEN memory.old memory.new table.new free block result }
+    ensures step { (free : List Range) → IsFreeTable FLLEN SLLEN memory.old table.old free → IsMarked memory.old free block → IsNextOut FLLEN SLLEN memory.old memory.new table.new free block result }
     ensures touches { memory.new.touches ≤ memory.old.touches + 9 }
     ensures grow { memory.old.touches ≤ memory.new.touches }
     ensures copied { memory.new.copied ≡ memory.old.copied }
@@ -100,7 +100,7 @@ fn put<FLBitmap: Bitmap, SLBitmap: Bitmap, const FLLEN: usize, const SLLEN: usiz
     requires parameters { IsValid FLBitmap.width SLBitmap.width FLLEN SLLEN }
     requires room { (free : List Range) × (r : Range) × (r.start ≡ block) × (r.len ≡ len) × IsInnerRoom FLLEN SLLEN memory.old table.old free r }
     requires view { view ≡ memory.old.view }
-    ensures step { (free : List Range) (r : Range) → r.start ≡ block → r.len ≡ len → IsInnerRoom FLLEN SLLEN memory.old table.old free r → IsPut FLLEN SLLEN memory.old memory.new table.new free r }
+    ensures step { (free : List Range) (r : Range) → r.start ≡ block → r.len ≡ len → IsInnerRoom FLLEN SLLEN memory.old table.old free r → IsNewFreeBlock FLLEN SLLEN memory.old memory.new table.new free r }
     ensures touches { memory.new.touches ≤ memory.old.touches + 11 }
     ensures grow { memory.old.touches ≤ memory.new.touches }
     ensures copied { memory.new.copied ≡ memory.old.copied }

@@ -9,7 +9,7 @@ ghost use Rattle.rlsf_base.specs.Space.{SamePlace, word_at};
 ghost use Rattle.rlsf_machine.specs.Allocate.{choice, Places};
 ghost use Rattle.rlsf_machine.specs.State.{State};
 ghost use Rattle.rlsf_table.specs.Table.{IsClassAt};
-ghost use Rattle.rlsf_blocks.specs.Steps.Rest.{AtEachChosen, AtEachRest, AtEachTaken, IsInnerRoom, IsLeft, IsOpened, IsTaken};
+ghost use Rattle.rlsf_blocks.specs.Steps.Rest.{AtEachChosen, AtEachRest, AtEachTaken, IsInnerRoom, IsFreeBlockBehind, IsOpened, IsTaken};
 ghost use Rattle.rlsf_blocks.specs.Steps.Standing.{StepsTo};
 ghost use Rattle.rlsf_blocks.specs.StandsFor.{contents, StandsFor};
 
@@ -32,7 +32,7 @@ pub fn leave_rest<FLBitmap: Bitmap, SLBitmap: Bitmap, const FLLEN: usize, const 
     requires parameters { IsValid FLBitmap.width SLBitmap.width FLLEN SLLEN }
     requires room { (free : List Range) × (r : Range) × (r.start ≡ block + taken) × (r.len + taken ≡ len) × IsInnerRoom FLLEN SLLEN memory.old table.old free r }
     requires view { view ≡ memory.old.view }
-    ensures step { AtEachRest FLLEN SLLEN memory.old table.old block len taken (λ free r. IsLeft FLLEN SLLEN memory.old memory.new table.new free block r) }
+    ensures step { AtEachRest FLLEN SLLEN memory.old table.old block len taken (λ free r. IsFreeBlockBehind FLLEN SLLEN memory.old memory.new table.new free block r) }
     ensures touches { memory.new.touches ≤ memory.old.touches + 12 }
     ensures grow { memory.old.touches ≤ memory.new.touches }
     ensures copied { memory.new.copied ≡ memory.old.copied }

@@ -10,7 +10,7 @@ ghost use Rattle.rlsf_machine.specs.State.{State, Used, usable};
 ghost use Rattle.rlsf_blocks.specs.StandsFor.{contents, StandsFor};
 ghost use Rattle.rlsf_blocks.specs.Steps.Standing.{AtEachUsed};
 ghost use Rattle.rlsf_table.specs.Counts.{Counts};
-ghost use Rattle.rlsf_resize.specs.Steps.Previous.{IsBlock, IsPlaceBefore};
+ghost use Rattle.rlsf_resize.specs.Steps.Previous.{IsUsedBlock, IsPlaceBefore};
 ghost use Rattle.rlsf_resize.specs.Steps.Resize.{AtEachPayload, AtEachShort, IsPlanned, IsUsedAt};
 ghost use Rattle.rlsf_table.specs.Table.{Table};
 
@@ -46,9 +46,9 @@ fn place_before(
     end: usize,
     layout: Layout,
 ) -> Option<(usize, usize)>
-    requires used { (fllen : ℕ) × (sllen : ℕ) × (t : Table) × (s : State) × (u : Used) × StandsFor fllen sllen (contents memory.old t) s × IsBlock s u block end layout.align }
+    requires used { (fllen : ℕ) × (sllen : ℕ) × (t : Table) × (s : State) × (u : Used) × StandsFor fllen sllen (contents memory.old t) s × IsUsedBlock s u block end layout.align }
     requires view { view ≡ memory.old.view }
-    ensures place { (fllen sllen : ℕ) (t : Table) (s : State) (u : Used) → StandsFor fllen sllen (contents memory.old t) s → IsBlock s u block end layout.align → IsPlaceBefore s u layout.size result }
+    ensures place { (fllen sllen : ℕ) (t : Table) (s : State) (u : Used) → StandsFor fllen sllen (contents memory.old t) s → IsUsedBlock s u block end layout.align → IsPlaceBefore s u layout.size result }
     ensures counts { Counts memory.old memory.new 3 }
 {
     let start = start_before(memory, view, block);

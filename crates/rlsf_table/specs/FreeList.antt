@@ -12,7 +12,7 @@ Links m previous [] head = head ≡ 0
 Links m previous (f ∷ fs) head = (head ≡ f.start) × (word_at m (f.start + 24) ≡ previous) × Links m f.start fs (word_at m (f.start + 16))
 
 -- a range that can be a block: not at the address 0, at a multiple of 32, 32 bytes or more, and inside the memory
-pub record IsPlaced (m : Space) (f : Range) : Type 0 where
+pub record CanBeBlock (m : Space) (f : Range) : Type 0 where
   pub some : 0 < f.start
   pub whole : f.start % 32 ≡ 0
   pub room : 32 ≤ f.len

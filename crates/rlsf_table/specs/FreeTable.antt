@@ -6,14 +6,14 @@ use Rattle.rlsf_base.specs.Space.{Space, word_at}
 use Rattle.rlsf_machine.specs.Allocate.{choice}
 use Rattle.rlsf_machine.specs.Lists.{IsIn}
 use Rattle.rlsf_machine.specs.WellFormed.{coverage, itself, IsFree}
-use Rattle.rlsf_table.specs.FreeList.{IsLink, IsPlaced, Rewrites}
+use Rattle.rlsf_table.specs.FreeList.{IsLink, CanBeBlock, Rewrites}
 use Rattle.rlsf_table.specs.Table.{Table, HasBits, HasTable, IsClassAt, IsHeadOf, IsNewestAt, class_at}
 
 -- the free blocks are those of a list, none of which overlap, each of a valid class and with its size word; and addresses fit in a word
 pub record IsFreeTable (fllen sllen : ℕ) (m : Space) (t : Table) (free : List Range) : Type 0 where
   pub table : HasTable fllen sllen m t free
   pub blocks : (f : Range) → IsIn f free → IsFree fllen sllen f
-  pub placed : (f : Range) → IsIn f free → IsPlaced m f
+  pub placed : (f : Range) → IsIn f free → CanBeBlock m f
   pub apart : (a : ℕ) → coverage itself free a ≤ 1
   pub sizes : (f : Range) → IsIn f free → word_at m f.start ≡ f.len
   pub addressable : m.start + length m.bytes < 2 ^ 64
@@ -22,7 +22,7 @@ pub record IsFreeTable (fllen sllen : ℕ) (m : Space) (t : Table) (free : List 
 pub record IsRoom (fllen sllen : ℕ) (m : Space) (t : Table) (free : List Range) (r : Range) : Type 0 where
   pub list : IsFreeTable fllen sllen m t free
   pub block : IsFree fllen sllen r
-  pub placed : IsPlaced m r
+  pub placed : CanBeBlock m r
   pub apart : (a : ℕ) → coverage itself (r ∷ free) a ≤ 1
 
 -- this is true of each list of free blocks beside which so many bytes at the address can become one, and of these bytes

@@ -5,7 +5,7 @@ ghost use Rattle.rlsf_base.specs.declared.memory.range.Range.{Range};
 ghost use Rattle.rlsf_base.specs.SizeClass.{IsValid};
 ghost use Rattle.rlsf_machine.specs.Lists.{IsIn};
 ghost use Rattle.rlsf_machine.specs.WellFormed.{coverage, itself};
-ghost use Rattle.rlsf_table.specs.FreeList.{IsPlaced};
+ghost use Rattle.rlsf_table.specs.FreeList.{CanBeBlock};
 ghost use Rattle.rlsf_table.specs.Steps.ClassList.{unlinking_touches, AtEachFront, AtEachPlace, IsFirstOrOwn, IsFreeList, IsRelinked};
 ghost use Rattle.rlsf_table.specs.FreeTable.{AtEachListed, AtEachNewest, AtEachRoom, IsFreeTable, IsLinked, IsRoom, IsUnlinked};
 ghost use Rattle.rlsf_table.specs.Table.{IsNewestAt};
@@ -27,7 +27,7 @@ fn first_or_own(first: usize, block: usize) -> usize
 /// Links the block at `block` in front of the blocks from `newest` on.
 #[inline(always)]
 fn link_front(memory: &mut Memory, view: View, newest: usize, block: usize)
-    requires place { (r : Range) × (free : List Range) × (r.start ≡ block) × IsFreeList memory.old newest free × IsPlaced memory.old r × ((a : ℕ) → coverage itself (r ∷ free) a ≤ 1) }
+    requires place { (r : Range) × (free : List Range) × (r.start ≡ block) × IsFreeList memory.old newest free × CanBeBlock memory.old r × ((a : ℕ) → coverage itself (r ∷ free) a ≤ 1) }
     requires view { view ≡ memory.old.view }
     ensures step { AtEachFront memory.old newest block (λ r free. IsRelinked memory.old memory.new (r ∷ free) (r ∷ free) block) }
     ensures touches { memory.new.touches ≤ memory.old.touches + 3 }

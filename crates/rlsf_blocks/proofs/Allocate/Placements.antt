@@ -9,10 +9,10 @@ use Rattle.rlsf_base.specs.Range.{end_of, LiesIn, range_at}
 use Rattle.rlsf_base.specs.SizeClass.{class_of}
 use Rattle.rlsf_base.specs.Sizes.{request_size}
 use Rattle.rlsf_base.specs.Space.{Space, bytes_in, range_of, IsWord, SamePlace, with_word, word_at}
-use Rattle.rlsf_table.specs.FreeList.{IsPlaced, Rewrites}
+use Rattle.rlsf_table.specs.FreeList.{CanBeBlock, Rewrites}
 use Rattle.rlsf_table.specs.Table.{Table}
 use Rattle.rlsf_table.proofs.Tables.FreeTables.{HasTable-Rewrites}
-use Rattle.rlsf_table.proofs.Words.Writes.{IsPlaced-Rewrites, Rewrites-trans, Rewrites-weaken, Writes}
+use Rattle.rlsf_table.proofs.Words.Writes.{CanBeBlock-Rewrites, Rewrites-trans, Rewrites-weaken, Writes}
 use Rattle.rlsf_table.proofs.Words.Writing.{IsWrite, write, rewrites_of, reads_of}
 use Rattle.rlsf_blocks.specs.Steps.Touched.{Touched, in_hole}
 use Rattle.rlsf_blocks.specs.InBand.{sentinel_of}
@@ -27,7 +27,7 @@ use Rattle.rlsf_blocks.specs.StandsFor.{contents, StandsFor}
 use Rattle.rlsf_blocks.proofs.Words.Apart.{Has, free_in_memory, home_of_free}
 use Rattle.rlsf_blocks.proofs.Allocate.UsedBlocks.{IsCarved, StandsFor-carved}
 use Rattle.rlsf_blocks.proofs.Words.Frames.{wide_whole}
-use Rattle.rlsf_blocks.proofs.Machine.FreeBlocks.{IsPlaced-free}
+use Rattle.rlsf_blocks.proofs.Machine.FreeBlocks.{CanBeBlock-free}
 use Rattle.rlsf_machine.proofs.Allocations.{IsWellFormed-given, placed-fits}
 use Rattle.rlsf_machine.proofs.Changes.{IsIn-rest_behind}
 use Rattle.rlsf_machine.proofs.Choices.{choice-some}
@@ -154,13 +154,13 @@ module _ {fllen sllen : ℕ} {m : Space} {table : Table} {s : State} (v : Stands
           | inr j ↦ inr j
         ]
 
-        linked : (g : Range) → IsIn g (rest_behind (range_at f.start (block_length f.start (payload_of f.start align) size)) (end_of f) ++ without (has_class sllen (class_of sllen f.len)) s.free) → IsPlaced n1 g
+        linked : (g : Range) → IsIn g (rest_behind (range_at f.start (block_length f.start (payload_of f.start align) size)) (end_of f) ++ without (has_class sllen (class_of sllen f.len)) s.free) → CanBeBlock n1 g
         linked g i = elim (sorted g i) [
-          | inl (same, short) ↦ subst (IsPlaced n1) (sym same) (rest_placed short)
-          | inr j ↦ IsPlaced-Rewrites opened.rewrites (IsPlaced-free v g (IsIn-without (has_class sllen (class_of sllen f.len)) g s.free j))
+          | inl (same, short) ↦ subst (CanBeBlock n1) (sym same) (rest_placed short)
+          | inr j ↦ CanBeBlock-Rewrites opened.rewrites (CanBeBlock-free v g (IsIn-without (has_class sllen (class_of sllen f.len)) g s.free j))
         ]
           where
-            rest_placed : f.start + block_length f.start (payload_of f.start align) size < end_of f → IsPlaced n1 (between (f.start + block_length f.start (payload_of f.start align) size) (end_of f))
+            rest_placed : f.start + block_length f.start (payload_of f.start align) size < end_of f → CanBeBlock n1 (between (f.start + block_length f.start (payload_of f.start align) size) (end_of f))
             rest_placed short =
                 let fit = fitting in
                 let place = free_in_memory v.well_formed f is_free in

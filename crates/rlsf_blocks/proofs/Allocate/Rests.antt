@@ -7,12 +7,12 @@ use Rattle.rlsf_table.specs.FreeList.{IsLink, Rewrites}
 use Rattle.rlsf_table.specs.FreeTable.{IsRoom}
 use Rattle.rlsf_table.specs.Table.{Table, HasTable}
 use Rattle.rlsf_table.proofs.Tables.FreeTables.{IsFreeTable-Rewrites}
-use Rattle.rlsf_table.proofs.Words.Writes.{before_links, Rewrites-trans, Rewrites-weaken, Rewrites-word, IsPlaced-Rewrites}
+use Rattle.rlsf_table.proofs.Words.Writes.{before_links, Rewrites-trans, Rewrites-weaken, Rewrites-word, CanBeBlock-Rewrites}
 use Rattle.rlsf_table.proofs.Words.Writing.{IsWrite, write, rewrites_of, reads_of}
 use Rattle.rlsf_blocks.specs.Steps.Touched.{Touched, at_link, in_hole, at_other}
 use Rattle.rlsf_machine.specs.Lists.{IsIn}
 use Rattle.rlsf_machine.specs.WellFormed.{itself}
-use Rattle.rlsf_blocks.specs.Steps.Rest.{IsInnerRoom, IsLeft}
+use Rattle.rlsf_blocks.specs.Steps.Rest.{IsInnerRoom, IsFreeBlockBehind}
 use Rattle.rlsf_machine.proofs.Coverage.{covers-inside, coverage-IsIn}
 
 -- the memories m1 to m3 after the three writes
@@ -52,7 +52,7 @@ module _ {fllen sllen : ℕ} {m m1 m2 m3 : Space} {table : Table} {block : ℕ} 
   room = inner.room
 
   pub IsRoom-written : IsRoom fllen sllen m3 table free r
-  IsRoom-written = record { list = IsFreeTable-Rewrites written other room.list; block = room.block; placed = IsPlaced-Rewrites written room.placed; apart = room.apart }
+  IsRoom-written = record { list = IsFreeTable-Rewrites written other room.list; block = room.block; placed = CanBeBlock-Rewrites written room.placed; apart = room.apart }
     where
       other : (f : Range) → IsIn f free → ¬ ((f.start ≡ r.start) ⊎ ((f.start ≡ r.start + 8) ⊎ (f.start ≡ end_of r + 8)))
           × ¬ ((f.start + 16 ≡ r.start) ⊎ ((f.start + 16 ≡ r.start + 8) ⊎ (f.start + 16 ≡ end_of r + 8)))
@@ -77,8 +77,8 @@ module _ {fllen sllen : ℕ} {m m1 m2 m3 : Space} {table : Table} {block : ℕ} 
         start f (inl is) = omega (arith, room.placed.whole, ap (λ q. q.start) is)
         start f (inr i) = (room.list.placed f i).whole
 
-    pub IsLeft-written : IsLeft fllen sllen m n changed free block r
-    IsLeft-written =
+    pub IsFreeBlockBehind-written : IsFreeBlockBehind fllen sllen m n changed free block r
+    IsFreeBlockBehind-written =
         let whole = room.block.whole in
         let long = room.placed.room in
         let inside = room.placed.lies_in in

@@ -16,7 +16,7 @@ use Rattle.rlsf_machine.specs.Allocate.{has_class, rest_behind}
 use Rattle.rlsf_machine.specs.Lists.{IsIn, without}
 use Rattle.rlsf_machine.specs.State.{State, between}
 use Rattle.rlsf_machine.specs.WellFormed.{covers, itself}
-use Rattle.rlsf_blocks.specs.Steps.Rest.{IsInnerRoom, IsLeft, IsOpened, IsTaken}
+use Rattle.rlsf_blocks.specs.Steps.Rest.{IsInnerRoom, IsFreeBlockBehind, IsOpened, IsTaken}
 use Rattle.rlsf_blocks.specs.StandsFor.{contents, StandsFor}
 use Rattle.rlsf_blocks.proofs.Words.Apart.{free_in_memory}
 use Rattle.rlsf_blocks.proofs.Machine.FreeBlocks.{IsFreeTable-free}
@@ -124,7 +124,7 @@ module _ {fllen sllen : ℕ} {m : Space} {table : Table} {s : State} {f : Range}
         }
 
     -- a rest is left
-    pub IsOpened-rest : {n : Space} {changed : Table} → taken < len → IsLeft fllen sllen m1 n changed (ahead ++ later) block rest → IsOpened fllen sllen m n changed s f (range_at block taken)
+    pub IsOpened-rest : {n : Space} {changed : Table} → taken < len → IsFreeBlockBehind fllen sllen m1 n changed (ahead ++ later) block rest → IsOpened fllen sllen m n changed s f (range_at block taken)
     unfolding ahead later
     IsOpened-rest {n} {changed} short left =
         let is = v.well_formed.free f is_free in

@@ -2,12 +2,12 @@
 use Rattle.std.proofs.Common.{◌≡◌, ℕ, ◌+◌, ◌-◌, ◌%◌, ◌^◌, ◌<◌, ◌≤◌, ◌⊎◌, ◌∷◌, length, arith, inl, inr, ◌∙◌, ap, subst}
 use Rattle.rlsf_base.specs.declared.memory.range.Range.{Range}
 use Rattle.rlsf_base.specs.Space.{Space, word_at, with_word}
-use Rattle.rlsf_table.specs.FreeList.{IsLink, IsPlaced, Rewrites}
+use Rattle.rlsf_table.specs.FreeList.{IsLink, CanBeBlock, Rewrites}
 use Rattle.rlsf_table.specs.FreeTable.{IsFreeTable, IsRoom}
 use Rattle.rlsf_table.specs.Table.{Table, HasTable}
 use Rattle.rlsf_table.proofs.Tables.FreeTables.{HasTable-Rewrites}
 use Rattle.rlsf_table.proofs.Words.Writing.{IsWrite, write, rewrites_of, reads_of}
-use Rattle.rlsf_table.proofs.Words.Writes.{before_links, Rewrites-word, Rewrites-trans, Rewrites-weaken, IsPlaced-Rewrites}
+use Rattle.rlsf_table.proofs.Words.Writes.{before_links, Rewrites-word, Rewrites-trans, Rewrites-weaken, CanBeBlock-Rewrites}
 use Rattle.rlsf_blocks.specs.Steps.Touched.{Touched, at_link, in_hole}
 use Rattle.rlsf_blocks.specs.InBand.{sentinel_of}
 use Rattle.rlsf_machine.specs.Insert.{body}
@@ -80,7 +80,7 @@ module _ {fllen sllen : ℕ} {m m1 m2 m3 m4 : Space} {table : Table} {s : State}
       record {
         table = HasTable-Rewrites sized list.placed (λ f i. (third f i, fourth f i)) list.table;
         blocks = list.blocks;
-        placed = λ f i. IsPlaced-Rewrites sized (list.placed f i);
+        placed = λ f i. CanBeBlock-Rewrites sized (list.placed f i);
         apart = list.apart;
         sizes = λ f i. free_size v.well_formed (opened c) new.whole.start (omega (arith, new.room)) (c.start + 8) (omega (arith, new.whole.start)) (omega arith) (omega (arith, new.room)) rewrites f i (unmet f i) ∙ list.sizes f i;
         addressable = omega (arith, list.addressable, sized.start, sized.length);
@@ -97,7 +97,7 @@ module _ {fllen sllen : ℕ} {m m1 m2 m3 m4 : Space} {table : Table} {s : State}
       unmet : (f : Range) → IsIn f s.free → (a : ℕ) → Has f a → Has (opened c) a → ⊥
       unmet f i a hf hc = omega (arith, new.fresh a hc.from (omega (arith, hc.to)), v.well_formed.tiled a, coverage-IsIn itself f s.free a i, covers-inside f a hf.from hf.to)
 
-  placed_body : IsPlaced m4 (body c)
+  placed_body : CanBeBlock m4 (body c)
   placed_body = record { some = new.some; whole = new.whole.start; room = omega (arith, new.room); lies_in = (omega (arith, new.lies_in, sized.start), omega (arith, new.lies_in, new.room, sized.start, sized.length)) }
 
   apart_body : (a : ℕ) → coverage itself (body c ∷ s.free) a ≤ 1

@@ -12,7 +12,7 @@ use Rattle.rlsf_table.proofs.FreeLists.Found.{find-start}
 use Rattle.rlsf_table.proofs.Words.Writes.{Rewrites-weaken}
 use Rattle.rlsf_blocks.specs.Spare.{KeepsSpare}
 use Rattle.rlsf_blocks.specs.StandsFor.{contents, StandsFor}
-use Rattle.rlsf_blocks.specs.Steps.Join.{Begins, IsMarked, IsOut}
+use Rattle.rlsf_blocks.specs.Steps.Join.{FreeBlockBegins, IsMarked, IsNextOut}
 use Rattle.rlsf_blocks.specs.Steps.Touched.{Touched, at_link}
 use Rattle.rlsf_machine.specs.Insert.{body}
 use Rattle.rlsf_machine.specs.Join.{starts_at, end_or}
@@ -82,7 +82,7 @@ module _ {fllen sllen : ℕ} {m : Space} {t : Table} {s : State} (v : StandsFor 
       (idle_chunk_is_one_range fllen sllen (range_of m) s c w idle i).1 f j (covers-inside c f.start (omega (arith, ends.0)) (omega (arith, ends.1)))
 
   -- its free block was taken off its list
-  module _ {n : Space} {x : Table} {start len : ℕ} (at : c.start ≡ start) (out : IsOut fllen sllen m n x s.free start len) where
+  module _ {n : Space} {x : Table} {start len : ℕ} (at : c.start ≡ start) (out : IsNextOut fllen sllen m n x s.free start len) where
     found : find (starts_at start) s.free ≡ Some (body c)
     found = find-start s.free (body c) start (free-le s (tiling_of w)) (λ g j. (w.free g j).some) is_free at
 

@@ -4,7 +4,7 @@ use Rattle.rlsf_base.specs.declared.memory.range.Range.{Range}
 use Rattle.rlsf_base.specs.Space.{Space, IsWord, word_at}
 use Rattle.rlsf_table.specs.Table.{Table}
 use Rattle.rlsf_table.proofs.FreeLists.Counted.{Rewrites-counted_first, word_at-counted}
-use Rattle.rlsf_blocks.specs.Steps.Join.{IsMarked, IsOut}
+use Rattle.rlsf_blocks.specs.Steps.Join.{IsMarked, IsNextOut}
 
 module _ (m n : Space) (start : n.start ≡ m.start) (bytes : n.bytes ≡ m.bytes) where
   pub IsWord-loaded : {a : ℕ} → IsWord m a → IsWord n a
@@ -20,8 +20,8 @@ module _ (m n : Space) (start : n.start ≡ m.start) (bytes : n.bytes ≡ m.byte
       record { word = IsWord-loaded marked.word; mark = (λ even. marked.mark.0 (sym same ∙ even), λ begins. same ∙ marked.mark.1 begins) }
 
   -- a block was taken out after that
-  pub IsOut-loaded : {fllen sllen : ℕ} {o : Space} {t : Table} {free : List Range} {a len : ℕ} → IsOut fllen sllen n o t free a len → IsOut fllen sllen m o t free a len
-  IsOut-loaded out = record { rewrites = Rewrites-counted_first m n start bytes out.rewrites; list = out.list; end = out.end }
+  pub IsNextOut-loaded : {fllen sllen : ℕ} {o : Space} {t : Table} {free : List Range} {a len : ℕ} → IsNextOut fllen sllen n o t free a len → IsNextOut fllen sllen m o t free a len
+  IsNextOut-loaded out = record { rewrites = Rewrites-counted_first m n start bytes out.rewrites; list = out.list; end = out.end }
 
 -- the same words stand in a memory with more touches
 pub word_at-touched : (m n : Space) (more : ℕ) → n ≡ record m { touches = m.touches + more } → (a : ℕ) → word_at n a ≡ word_at m a

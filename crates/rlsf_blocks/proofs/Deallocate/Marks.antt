@@ -11,7 +11,7 @@ use Rattle.rlsf_table.proofs.FreeLists.Found.{find-one, find-no, find-start, fin
 use Rattle.rlsf_table.proofs.FreeLists.Counted.{IsFreeTable-counted, Rewrites-counted}
 use Rattle.rlsf_blocks.specs.InBand.{sentinel_of}
 use Rattle.rlsf_blocks.specs.StandsFor.{contents, StandsFor}
-use Rattle.rlsf_blocks.specs.Steps.Join.{Begins, IsMarked, IsOut, IsPreviousOut}
+use Rattle.rlsf_blocks.specs.Steps.Join.{FreeBlockBegins, IsMarked, IsNextOut, IsPreviousOut}
 use Rattle.rlsf_machine.specs.Join.{ends_at, starts_at, start_or, end_or}
 use Rattle.rlsf_machine.specs.Lists.{IsIn, without}
 use Rattle.rlsf_machine.specs.State.{State, Used}
@@ -32,14 +32,14 @@ module _ {fllen sllen : ℕ} {m : Space} {t : Table} {s : State} (v : StandsFor 
   pub used_odd : (x : Used) → IsIn x s.used → word_at m x.block.start % 2 ≡ 1
   used_odd x i = omega (arith, v.sizes.used x i, (v.well_formed.used x i).whole.len)
 
-  pub used_begins : (x : Used) → IsIn x s.used → (a : ℕ) → x.block.start ≡ a → Begins s.free a → ⊥
+  pub used_begins : (x : Used) → IsIn x s.used → (a : ℕ) → x.block.start ≡ a → FreeBlockBegins s.free a → ⊥
   used_begins x i a at (f, j, same) =
       let some = IsUsed-some x (v.well_formed.used x i) in
       let more = (v.well_formed.free f j).some in
       used_free v.well_formed x f a i j (record { from = omega arith; to = omega arith }) (record { from = omega arith; to = omega arith })
 
   -- where a chunk's last bytes begin, none begins either
-  pub last_begins : (c : Range) → IsIn c s.chunks → (a : ℕ) → sentinel_of c ≡ a → Begins s.free a → ⊥
+  pub last_begins : (c : Range) → IsIn c s.chunks → (a : ℕ) → sentinel_of c ≡ a → FreeBlockBegins s.free a → ⊥
   last_begins c i a at (f, j, same) =
       let more = (v.well_formed.free f j).some in
       let room = (v.well_formed.chunks c i).has_room in
@@ -129,10 +129,10 @@ module _ {fllen sllen : ℕ} {m : Space} {t : Table} {s : State} (v : StandsFor 
         go (names_none none e) = absurd (some none)
 
     -- and was taken out, if it is free
-    pub previous_out : {n : Space} {x : Table} {len : ℕ} → previous ≢ 0 → IsOut fllen sllen m n x s.free previous len → (len ≤ b) × IsPreviousOut fllen sllen m n x s.free b (b - len)
+    pub previous_out : {n : Space} {x : Table} {len : ℕ} → previous ≢ 0 → IsNextOut fllen sllen m n x s.free previous len → (len ≤ b) × IsPreviousOut fllen sllen m n x s.free b (b - len)
     previous_out {n} {x} {len} some out = go named
       where
-        missing : (Begins s.free previous → ⊥) → find (ends_at b) s.free ≡ None → (len ≤ b) × IsPreviousOut fllen sllen m n x s.free b (b - len)
+        missing : (FreeBlockBegins s.free previous → ⊥) → find (ends_at b) s.free ≡ None → (len ≤ b) × IsPreviousOut fllen sllen m n x s.free b (b - len)
         missing none e =
             let no_start = find-no_start s.free previous (λ f j same. none (f, j, same)) in
             let left : without (starts_at previous) s.free ≡ without (ends_at b) s.free = without-none (starts_at previous) s.free no_start ∙ sym (without-none (ends_at b) s.free e) in
@@ -172,7 +172,7 @@ module _ {fllen sllen : ℕ} {m : Space} {t : Table} {s : State} (v : StandsFor 
         no_link (g, j, inr at_link) = omega (arith, (v.well_formed.free g j).whole.start)
 
     -- what begins in the list without the block before began in the whole list
-    still : (a : ℕ) → Begins (without (ends_at b) s.free) a → Begins s.free a
+    still : (a : ℕ) → FreeBlockBegins (without (ends_at b) s.free) a → FreeBlockBegins s.free a
     still a (f, j, same) = (f, IsIn-without (ends_at b) f s.free j, same)
 
     -- the block behind it is marked
@@ -186,10 +186,10 @@ module _ {fllen sllen : ℕ} {m : Space} {t : Table} {s : State} (v : StandsFor 
           mark = go (kept e whole (omega (arith, end, place.0))) (subst (Behind s) end (behind_used v.well_formed u i));
         }
       where
-        odd : word_at n e % 2 ≡ 1 → (Begins s.free e → ⊥) → (word_at n e % 2 ≡ 0) ↔ Begins (without (ends_at b) s.free) e
+        odd : word_at n e % 2 ≡ 1 → (FreeBlockBegins s.free e → ⊥) → (word_at n e % 2 ≡ 0) ↔ FreeBlockBegins (without (ends_at b) s.free) e
         odd is_odd none = (λ even. absurd (omega (arith, even, is_odd)), λ begins. absurd (none (still e begins)))
 
-        go : word_at n e ≡ word_at m e → Behind s e → (word_at n e % 2 ≡ 0) ↔ Begins (without (ends_at b) s.free) e
+        go : word_at n e ≡ word_at m e → Behind s e → (word_at n e % 2 ≡ 0) ↔ FreeBlockBegins (without (ends_at b) s.free) e
         go same (free_behind f j begin) =
             let more = (v.well_formed.free f j).some in
             let other : eqb (end_of f) b ≡ false = ne_eqb (end_of f) b (λ same_end. omega arith) in

@@ -9,7 +9,7 @@ use Rattle.rlsf_table.proofs.FreeLists.Chains.{find-split}
 use Rattle.rlsf_table.proofs.FreeLists.Counted.{IsFreeTable-counted, Rewrites-counted}
 use Rattle.rlsf_table.proofs.FreeLists.Found.{find-start, find-no_start}
 use Rattle.rlsf_table.proofs.Tables.FreeTables.{IsFreeTable-removal}
-use Rattle.rlsf_blocks.specs.Steps.Join.{IsMarked, IsOut}
+use Rattle.rlsf_blocks.specs.Steps.Join.{IsMarked, IsNextOut}
 use Rattle.rlsf_machine.specs.Join.{starts_at, end_or}
 use Rattle.rlsf_machine.specs.Lists.{IsIn}
 use Rattle.rlsf_machine.proofs.Coverage.{without-none}
@@ -22,10 +22,10 @@ module _ {fllen sllen : ℕ} {m : Space} {t : Table} {block : ℕ} {free : List 
       (f, i, at, sym (list.sizes f i) ∙ ap (word_at m) at ∙ sym is)
 
   -- it was unlinked
-  pub IsOut-unlinked : {n : Space} {u : Table} {len : ℕ} → len ≡ word_at m block → len % 2 ≡ 0
+  pub IsNextOut-unlinked : {n : Space} {u : Table} {len : ℕ} → len ≡ word_at m block → len % 2 ≡ 0
       → ((r : Range) (before after : List Range) → r.start ≡ block → r.len ≡ len → IsFreeTable fllen sllen m t (before ++ (r ∷ after)) → HasTable fllen sllen n u (before ++ after) × Rewrites m n (IsLink (before ++ (r ∷ after))))
-      → IsOut fllen sllen m n u free block len
-  IsOut-unlinked {n} {u} {len} is even unlinked =
+      → IsNextOut fllen sllen m n u free block len
+  IsNextOut-unlinked {n} {u} {len} is even unlinked =
       let (f, i, at, long) = block_there is even in
       let found = find-start free f block list.apart (λ g j. let p = list.placed g j in omega (arith, p.room)) i at in
       let (before, after, parts, left, others) = find-split (starts_at block) f free found in
@@ -38,8 +38,8 @@ module _ {fllen sllen : ℕ} {m : Space} {t : Table} {block : ℕ} {free : List 
       }
 
   -- no free block begins there
-  pub IsOut-none : (n : Space) → n.start ≡ m.start → n.bytes ≡ m.bytes → {size : ℕ} → size ≡ word_at m block → size % 2 ≡ 1 → IsOut fllen sllen m n t free block 0
-  IsOut-none n start bytes {size} is odd =
+  pub IsNextOut-none : (n : Space) → n.start ≡ m.start → n.bytes ≡ m.bytes → {size : ℕ} → size ≡ word_at m block → size % 2 ≡ 1 → IsNextOut fllen sllen m n t free block 0
+  IsNextOut-none n start bytes {size} is odd =
       let none = find-no_start free block (λ f i at. omega (arith, ap (λ w. w % 2) is, marked.mark.1 (f, i, at))) in
       record {
         rewrites = Rewrites-counted m n start bytes (IsLink free);

@@ -7,10 +7,10 @@ use Rattle.rlsf_table.specs.FreeList.{IsLink, Rewrites}
 use Rattle.rlsf_table.specs.FreeTable.{IsFreeTable, IsRoom}
 use Rattle.rlsf_table.specs.Table.{Table, HasTable}
 use Rattle.rlsf_table.proofs.Tables.FreeTables.{IsFreeTable-Rewrites}
-use Rattle.rlsf_table.proofs.Words.Writes.{Rewrites-trans, Rewrites-weaken, Rewrites-word, IsPlaced-Rewrites}
+use Rattle.rlsf_table.proofs.Words.Writes.{Rewrites-trans, Rewrites-weaken, Rewrites-word, CanBeBlock-Rewrites}
 use Rattle.rlsf_table.proofs.Words.Writing.{IsWrite, write, rewrites_of, reads_of}
 use Rattle.rlsf_blocks.specs.Steps.Touched.{Touched, at_link, in_hole, at_other}
-use Rattle.rlsf_blocks.specs.Steps.Join.{IsPut}
+use Rattle.rlsf_blocks.specs.Steps.Join.{IsNewFreeBlock}
 use Rattle.rlsf_blocks.specs.Steps.Rest.{IsInnerRoom}
 use Rattle.rlsf_machine.specs.Lists.{IsIn}
 use Rattle.rlsf_machine.specs.WellFormed.{itself}
@@ -56,7 +56,7 @@ module _ {fllen sllen : ℕ} {m m1 m2 : Space} {t : Table} {free : List Range} (
           )
 
   pub room_written : IsRoom fllen sllen m2 t free r
-  room_written = record { list = list_written; block = inner.room.block; placed = IsPlaced-Rewrites written inner.room.placed; apart = inner.room.apart }
+  room_written = record { list = list_written; block = inner.room.block; placed = CanBeBlock-Rewrites written inner.room.placed; apart = inner.room.apart }
 
   -- and once the block is linked, it is there
   module _ {n : Space} {x : Table} (linked : HasTable fllen sllen n x (r ∷ free) × Rewrites m2 n (IsLink (r ∷ free))) where
@@ -72,8 +72,8 @@ module _ {fllen sllen : ℕ} {m m1 m2 : Space} {t : Table} {free : List Range} (
         no_link (f, i, inl at) = omega (arith, start_of f i)
         no_link (f, i, inr at) = omega (arith, start_of f i)
 
-    pub IsPut-written : IsPut fllen sllen m n x free r
-    IsPut-written =
+    pub IsNewFreeBlock-written : IsNewFreeBlock fllen sllen m n x free r
+    IsNewFreeBlock-written =
         let whole = inner.room.block.whole in
         let long = inner.room.placed.room in
         let inside = inner.room.placed.lies_in in

@@ -10,7 +10,7 @@ use Rattle.rlsf_table.proofs.Words.Writes.{Rewrites-trans, Rewrites-weaken}
 use Rattle.rlsf_blocks.specs.Spare.{KeepsSpare}
 use Rattle.rlsf_blocks.specs.StandsFor.{contents, StandsFor}
 use Rattle.rlsf_blocks.specs.Steps.Touched.{Touched, at_link, in_hole, at_other}
-use Rattle.rlsf_blocks.specs.Steps.Join.{IsOut, IsPreviousOut, IsPut, union, untouched}
+use Rattle.rlsf_blocks.specs.Steps.Join.{IsNextOut, IsPreviousOut, IsNewFreeBlock, union, untouched}
 use Rattle.rlsf_blocks.specs.Steps.Rest.{IsInnerRoom}
 use Rattle.rlsf_machine.specs.Join.{ends_at, starts_at, join}
 use Rattle.rlsf_machine.specs.Lists.{IsIn, without}
@@ -44,14 +44,14 @@ module _ {fllen sllen : ℕ} {m : Space} {t : Table} {s : State} (v : StandsFor 
   pub before_at : {m1 : Space} {x : Table} {block start : ℕ} → u.block.start ≡ block → IsPreviousOut fllen sllen m m1 x s.free block start → IsPreviousOut fllen sllen m m1 x s.free u.block.start start
   before_at {m1} {x} {block} {start} at out = subst (λ b. IsPreviousOut fllen sllen m m1 x s.free b start) (sym at) out
 
-  pub behind_at : {m1 m2 : Space} {x : Table} {block end next : ℕ} → u.block.start ≡ block → end_of u.block ≡ end → IsOut fllen sllen m1 m2 x (without (ends_at block) s.free) end next
-      → IsOut fllen sllen m1 m2 x (without (ends_at u.block.start) s.free) (end_of u.block) next
+  pub behind_at : {m1 m2 : Space} {x : Table} {block end next : ℕ} → u.block.start ≡ block → end_of u.block ≡ end → IsNextOut fllen sllen m1 m2 x (without (ends_at block) s.free) end next
+      → IsNextOut fllen sllen m1 m2 x (without (ends_at u.block.start) s.free) (end_of u.block) next
   behind_at {m1} {m2} {x} {block} {end} {next} at is out =
-      subst (λ b. IsOut fllen sllen m1 m2 x (without (ends_at b) s.free) (end_of u.block) next) (sym at) (subst (λ e. IsOut fllen sllen m1 m2 x (without (ends_at block) s.free) e next) (sym is) out)
+      subst (λ b. IsNextOut fllen sllen m1 m2 x (without (ends_at b) s.free) (end_of u.block) next) (sym at) (subst (λ e. IsNextOut fllen sllen m1 m2 x (without (ends_at block) s.free) e next) (sym is) out)
 
   -- the free blocks before it and behind it were taken out
   module _ {m1 m2 : Space} {t1 t2 : Table} {start next : ℕ} (before : IsPreviousOut fllen sllen m m1 t1 s.free u.block.start start)
-      (behind : IsOut fllen sllen m1 m2 t2 (without (ends_at u.block.start) s.free) (end_of u.block) next) where
+      (behind : IsNextOut fllen sllen m1 m2 t2 (without (ends_at u.block.start) s.free) (end_of u.block) next) where
     pub union_start : (union u.block s.free).start ≡ start
     union_start = sym before.begins
 
@@ -93,7 +93,7 @@ module _ {fllen sllen : ℕ} {m : Space} {t : Table} {s : State} (v : StandsFor 
         }
 
     -- and their union with it was put in front
-    module _ {n : Space} {x : Table} (put : IsPut fllen sllen m2 n x (untouched u.block s.free) (union u.block s.free)) where
+    module _ {n : Space} {x : Table} (put : IsNewFreeBlock fllen sllen m2 n x (untouched u.block s.free) (union u.block s.free)) where
       was_free : (f : Range) → IsIn f (untouched u.block s.free) → IsIn f s.free
       was_free f j = IsIn-without (ends_at u.block.start) f s.free (IsIn-without (starts_at (end_of u.block)) f (without (ends_at u.block.start) s.free) j)
 

@@ -5,15 +5,15 @@ use Rattle.rlsf_base.specs.Space.{Space}
 use Rattle.rlsf_machine.specs.Lists.{IsIn}
 use Rattle.rlsf_machine.specs.State.{State}
 use Rattle.rlsf_machine.proofs.Tiling.{free-le, tiling_of}
-use Rattle.rlsf_table.specs.FreeList.{IsPlaced}
+use Rattle.rlsf_table.specs.FreeList.{CanBeBlock}
 use Rattle.rlsf_table.specs.FreeTable.{IsFreeTable}
 use Rattle.rlsf_table.specs.Table.{Table}
 use Rattle.rlsf_blocks.specs.StandsFor.{contents, StandsFor}
 use Rattle.rlsf_blocks.proofs.Words.Apart.{free_in_memory}
 
 module _ {fllen sllen : ℕ} {m : Space} {t : Table} {s : State} (v : StandsFor fllen sllen (contents m t) s) where
-  pub IsPlaced-free : (f : Range) → IsIn f s.free → IsPlaced m f
-  IsPlaced-free f i =
+  pub CanBeBlock-free : (f : Range) → IsIn f s.free → CanBeBlock m f
+  CanBeBlock-free f i =
       let is = v.well_formed.free f i in
       let place = free_in_memory v.well_formed f i in
       record { some = omega (arith, v.nonzero, place.0); whole = is.whole.start; room = omega (arith, is.some, is.whole.len); lies_in = (place.0, omega (arith, place.1)) }
@@ -22,7 +22,7 @@ module _ {fllen sllen : ℕ} {m : Space} {t : Table} {s : State} (v : StandsFor 
   IsFreeTable-free = record {
     table = v.table;
     blocks = v.well_formed.free;
-    placed = IsPlaced-free;
+    placed = CanBeBlock-free;
     apart = free-le s (tiling_of v.well_formed);
     sizes = v.sizes.free;
     addressable = v.well_formed.addressable;

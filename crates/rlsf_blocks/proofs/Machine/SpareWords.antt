@@ -17,7 +17,7 @@ use Rattle.rlsf_blocks.specs.Spare.{IsSpareWord}
 use Rattle.rlsf_blocks.specs.StandsFor.{contents, StandsFor}
 use Rattle.rlsf_table.specs.Table.{Table}
 use Rattle.rlsf_blocks.proofs.Deallocate.Addresses.{IsWord-before}
-use Rattle.rlsf_blocks.proofs.Machine.FreeBlocks.{IsPlaced-free}
+use Rattle.rlsf_blocks.proofs.Machine.FreeBlocks.{CanBeBlock-free}
 use Rattle.rlsf_blocks.proofs.Words.Apart.{home_of_free, home_of_used, used_in_memory}
 
 module _ {fllen sllen : ℕ} {m : Space} {t : Table} {s : State} (old : StandsFor fllen sllen (contents m t) s) (addr word : ℕ) (is : IsSpareWord m s addr)
@@ -91,5 +91,5 @@ module _ {fllen sllen : ℕ} {m : Space} {t : Table} {s : State} (old : StandsFo
           first = λ c i. (let chunk = w.chunks c i in word_in_chunk c i (c.start + 8) (omega (arith, chunk.whole.start)) (omega arith) (omega (arith, chunk.has_room))) ∙ old.previous.first c i;
         };
         payloads = record { bytes = λ u i. payload u i ∙ old.payloads.bytes u i; pad = λ u i wide. pad u i wide ∙ old.payloads.pad u i wide };
-        table = HasTable-Rewrites rewrites (IsPlaced-free old) links old.table;
+        table = HasTable-Rewrites rewrites (CanBeBlock-free old) links old.table;
       }

@@ -5,7 +5,7 @@ use Rattle.rlsf_base.specs.declared.memory.range.Range.{Range}
 use Rattle.rlsf_base.specs.Range.{end_of}
 use Rattle.rlsf_blocks.specs.Blocks.{Block, HasBlock}
 use Rattle.rlsf_blocks.specs.InBand.{sentinel_of}
-use Rattle.rlsf_blocks.specs.Steps.Walk.{Begins}
+use Rattle.rlsf_blocks.specs.Steps.Walk.{BlockBegins}
 use Rattle.rlsf_machine.specs.Lists.{IsIn}
 use Rattle.rlsf_machine.specs.State.{State}
 use Rattle.rlsf_machine.specs.WellFormed.{IsWellFormed}
@@ -15,7 +15,7 @@ use Rattle.rlsf_blocks.proofs.Words.Apart.{Has, chunk_chunk}
 
 -- behind a block that ends at an address, in a chunk that ends at another: a block, or the chunk's last 32 bytes
 pub data BehindBlock (s : State) (a end : ℕ) : Type 0 where
-  block_behind : Begins s a → BehindBlock s a end
+  block_behind : BlockBegins s a → BehindBlock s a end
   end_behind : (c : Range) → IsIn c s.chunks → sentinel_of c ≡ a → a + 32 ≡ end → BehindBlock s a end
 
 module _ {fllen sllen : ℕ} {memory : Range} {s : State} (w : IsWellFormed fllen sllen memory s) where
@@ -27,7 +27,7 @@ module _ {fllen sllen : ℕ} {memory : Range} {s : State} (w : IsWellFormed flle
       (omega (arith, home.from, ap (λ r. r.start) same), omega (arith, home.to, ap (λ r. end_of r) same))
 
   -- a block begins where a chunk begins
-  pub begins_at_chunk : (c : Range) → IsIn c s.chunks → Begins s c.start
+  pub begins_at_chunk : (c : Range) → IsIn c s.chunks → BlockBegins s c.start
   begins_at_chunk c i =
       let room = (w.chunks c i).has_room in
       let first : Has c c.start = record { from = omega arith; to = omega arith } in

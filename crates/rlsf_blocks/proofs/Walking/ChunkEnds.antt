@@ -8,7 +8,7 @@ use Rattle.rlsf_machine.specs.State.{State}
 use Rattle.rlsf_table.specs.Table.{Table}
 use Rattle.rlsf_blocks.specs.Blocks.{Block}
 use Rattle.rlsf_blocks.specs.StandsFor.{contents, StandsFor}
-use Rattle.rlsf_blocks.specs.Steps.Walk.{Begins, block_at}
+use Rattle.rlsf_blocks.specs.Steps.Walk.{BlockBegins, block_at}
 use Rattle.rlsf_blocks.proofs.Walking.Begins.{BehindBlock, block_behind, end_behind, begins_at_chunk, behind_block, lies_in_same_chunk}
 use Rattle.rlsf_blocks.proofs.Walking.Blocks.{IsWhole-block, block-some}
 use Rattle.rlsf_blocks.proofs.Walking.Sizes.{block_at-block, block_word}
@@ -40,7 +40,7 @@ module _ {fllen sllen : ℕ} {m : Space} {t : Table} {s : State} (v : StandsFor 
     ]
 
     -- a block begins there, where the word is another
-    begins_there : {word : ℕ} → word ≡ word_at m a → word ≢ 35 → Begins s a
+    begins_there : {word : ℕ} → word ≡ word_at m a → word ≢ 35 → BlockBegins s a
     begins_there {word} read other = elim is.at [
       | block_behind begins ↦ begins
       | end_behind d j begins ends ↦ absurd (other (read ∙ ap (word_at m) (sym begins) ∙ v.sizes.sentinel d j))

@@ -10,7 +10,7 @@ use Rattle.rlsf_machine.specs.State.{State}
 use Rattle.rlsf_table.specs.Table.{Table}
 use Rattle.rlsf_blocks.specs.Blocks.{AreBlocks, walked}
 use Rattle.rlsf_blocks.specs.StandsFor.{contents, StandsFor}
-use Rattle.rlsf_blocks.specs.Steps.Walk.{Begins, IsAtBlock, IsSpan, blocks_between}
+use Rattle.rlsf_blocks.specs.Steps.Walk.{BlockBegins, IsAtBlock, IsSpan, blocks_between}
 use Rattle.rlsf_blocks.proofs.Walking.Begins.{begins_at_chunk}
 use Rattle.rlsf_blocks.proofs.Walking.Blocks.{block-some}
 use Rattle.rlsf_blocks.proofs.Walking.Listed.{AreFrom-between}
@@ -21,7 +21,7 @@ module _ {fllen sllen : ℕ} {m : Space} {t : Table} {s : State} (v : StandsFor 
     within = omega arith;
     begins = λ lt.
         let (c, i, from, at, to, up_to) = row r.start (omega arith) lt in
-        subst (Begins s) (omega (arith, from, at)) (begins_at_chunk v.well_formed c i);
+        subst (BlockBegins s) (omega (arith, from, at)) (begins_at_chunk v.well_formed c i);
     chunks = λ a from to.
         let (c, i, inside, at, before, up_to) = row a from to in
         (c, i, at, before, up_to);

@@ -10,7 +10,7 @@ use Rattle.rlsf_table.specs.Table.{Table}
 use Rattle.rlsf_blocks.specs.Blocks.{Block, HasBlock, used, free}
 use Rattle.rlsf_blocks.specs.InBand.{sentinel_of}
 use Rattle.rlsf_blocks.specs.StandsFor.{contents, StandsFor}
-use Rattle.rlsf_blocks.specs.Steps.Walk.{Begins, block_at, next_start}
+use Rattle.rlsf_blocks.specs.Steps.Walk.{BlockBegins, block_at, next_start}
 use Rattle.rlsf_blocks.proofs.Walking.Blocks.{Block-same}
 
 -- a range by its start and its length
@@ -39,7 +39,7 @@ module _ {fllen sllen : ℕ} {m : Space} {t : Table} {s : State} (v : StandsFor 
   block_word b (free i o) sentinel = omega (arith, sentinel, v.sizes.free b.range i, (v.well_formed.free b.range i).whole.len)
 
   -- where a block begins, the next block begins there
-  pub next_start-block : (a : ℕ) → Begins s a → next_start m a ≡ a
+  pub next_start-block : (a : ℕ) → BlockBegins s a → next_start m a ≡ a
   next_start-block a (b, i, at) =
       ap (λ t. cond t (a + 32) a) (ne_eqb (word_at m a) 35 (λ sentinel. block_word b i (ap (word_at m) at ∙ sentinel)))
 

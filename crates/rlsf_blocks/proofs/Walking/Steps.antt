@@ -7,7 +7,7 @@ use Rattle.rlsf_machine.specs.State.{State}
 use Rattle.rlsf_table.specs.Table.{Table}
 use Rattle.rlsf_blocks.specs.Blocks.{Block, HasBlock}
 use Rattle.rlsf_blocks.specs.StandsFor.{contents, StandsFor}
-use Rattle.rlsf_blocks.specs.Steps.Walk.{Begins, IsAtBlock, block_at, next_start}
+use Rattle.rlsf_blocks.specs.Steps.Walk.{BlockBegins, IsAtBlock, block_at, next_start}
 use Rattle.rlsf_blocks.proofs.Walking.Begins.{begins_at_chunk, begins_behind_chunk, behind_block, block_behind, end_behind, lies_in_same_chunk}
 use Rattle.rlsf_blocks.proofs.Walking.Blocks.{block-some, block_last}
 use Rattle.rlsf_blocks.proofs.Walking.Sizes.{block_at-block, next_start-block, next_start-sentinel}
@@ -27,14 +27,14 @@ pub record IsStep (m : Space) (s : State) (start end next : ℕ) : Type 0 where
 
 module _ {fllen sllen : ℕ} {m : Space} {t : Table} {s : State} (v : StandsFor fllen sllen (contents m t) s) where
   -- from a later address on, where a block begins, a walk goes on to the same end
-  later : (start next end : ℕ) → IsAtBlock s start end → start ≤ next → next ≤ end → (next < end → Begins s next) → IsAtBlock s next end
+  later : (start next end : ℕ) → IsAtBlock s start end → start ≤ next → next ≤ end → (next < end → BlockBegins s next) → IsAtBlock s next end
   later start next end is after within begins = record {
     within = within;
     begins = begins;
     chunks = λ a from to. is.chunks a (omega (arith, from)) to;
   }
 
-  step_from : (start end : ℕ) → IsAtBlock s start end → (lt : start < end) → Begins s start → IsStep m s start end (next_start m (end_of (block_at m start).range))
+  step_from : (start end : ℕ) → IsAtBlock s start end → (lt : start < end) → BlockBegins s start → IsStep m s start end (next_start m (end_of (block_at m start).range))
   step_from start end is lt (b, i, begins) =
       let w = v.well_formed in
       let some = block-some w b i in
@@ -70,7 +70,7 @@ module _ {fllen sllen : ℕ} {m : Space} {t : Table} {s : State} (v : StandsFor 
           rest = later start (end_of b.range + 32) end is (omega (arith, begins)) (omega (arith, inside.1, up_to)) (λ more.
               let (e, l, e_from, e_to, e_up_to) = is.chunks (end_of b.range + 32) (omega (arith, begins)) more in
               let first = begins_behind_chunk w c e j l (record { from = omega (arith, ends, e_from); to = omega (arith, ends, e_to) }) in
-              subst (Begins s) (omega (arith, first, ends)) (begins_at_chunk w e l));
+              subst (BlockBegins s) (omega (arith, first, ends)) (begins_at_chunk w e l));
         })
       ])
 

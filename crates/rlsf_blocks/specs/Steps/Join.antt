@@ -12,16 +12,16 @@ use Rattle.rlsf_machine.specs.Lists.{IsIn, without}
 use Rattle.rlsf_machine.specs.State.{between}
 
 -- a free block begins at the address
-abbrev pub Begins : List Range → ℕ → Type 0
-Begins free a = (f : Range) × IsIn f free × (f.start ≡ a)
+abbrev pub FreeBlockBegins : List Range → ℕ → Type 0
+FreeBlockBegins free a = (f : Range) × IsIn f free × (f.start ≡ a)
 
 -- the word at the address is even exactly if a free block begins there
 pub record IsMarked (m : Space) (free : List Range) (a : ℕ) : Type 0 where
   pub word : IsWord m a
-  pub mark : (word_at m a % 2 ≡ 0) ↔ Begins free a
+  pub mark : (word_at m a % 2 ≡ 0) ↔ FreeBlockBegins free a
 
 -- the table without the block that begins at an address, if there is one, and its length, or 0
-pub record IsOut (fllen sllen : ℕ) (m n : Space) (t : Table) (free : List Range) (a len : ℕ) : Type 0 where
+pub record IsNextOut (fllen sllen : ℕ) (m n : Space) (t : Table) (free : List Range) (a len : ℕ) : Type 0 where
   pub rewrites : Rewrites m n (IsLink free)
   pub list : IsFreeTable fllen sllen n t (without (starts_at a) free)
   pub end : a + len ≡ end_or a (find (starts_at a) free)
@@ -33,7 +33,7 @@ pub record IsPreviousOut (fllen sllen : ℕ) (m n : Space) (t : Table) (free : L
   pub begins : start ≡ start_or a (find (ends_at a) free)
 
 -- the words of a new free block, put in front of its class; the word that names the block before it stays
-pub record IsPut (fllen sllen : ℕ) (m n : Space) (t : Table) (free : List Range) (r : Range) : Type 0 where
+pub record IsNewFreeBlock (fllen sllen : ℕ) (m n : Space) (t : Table) (free : List Range) (r : Range) : Type 0 where
   pub rewrites : Rewrites m n (Touched free r (end_of r + 8))
   pub size : word_at n r.start ≡ r.len
   pub first : word_at n (r.start + 8) ≡ word_at m (r.start + 8)

@@ -29,7 +29,7 @@ abbrev pub AtEachRest : ℕ → ℕ → Space → Table → ℕ → ℕ → ℕ 
 AtEachRest fllen sllen m t block len taken P = (free : List Range) (r : Range) → r.start ≡ block + taken → r.len + taken ≡ len → IsInnerRoom fllen sllen m t free r → P free r
 
 -- the words of a new free block behind the block at `block`, put in front of its class
-pub record IsLeft (fllen sllen : ℕ) (m n : Space) (t : Table) (free : List Range) (block : ℕ) (r : Range) : Type 0 where
+pub record IsFreeBlockBehind (fllen sllen : ℕ) (m n : Space) (t : Table) (free : List Range) (block : ℕ) (r : Range) : Type 0 where
   pub rewrites : Rewrites m n (Touched free r (end_of r + 8))
   pub size : word_at n r.start ≡ r.len
   pub previous : word_at n (r.start + 8) ≡ block

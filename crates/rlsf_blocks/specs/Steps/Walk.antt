@@ -27,13 +27,13 @@ abbrev pub blocks_between : Space → ℕ → ℕ → List Block
 blocks_between m start end = blocks_within m (end - start) start end
 
 -- a used or a free block of the state begins at the address
-abbrev pub Begins : State → ℕ → Type 0
-Begins s a = (b : Block) × HasBlock s b × (b.range.start ≡ a)
+abbrev pub BlockBegins : State → ℕ → Type 0
+BlockBegins s a = (b : Block) × HasBlock s b × (b.range.start ≡ a)
 
 -- where a walk stands: at its end, or at a block, from which each address up to the end is in a chunk that ends there or before
 pub record IsAtBlock (s : State) (start end : ℕ) : Type 0 where
   pub within : start ≤ end
-  pub begins : start < end → Begins s start
+  pub begins : start < end → BlockBegins s start
   pub chunks : (a : ℕ) → start ≤ a → a < end → (c : Range) × IsIn c s.chunks × (c.start ≤ a) × (a < end_of c) × (end_of c ≤ end)
 
 -- a walk that is underway in a memory which stands for some state

@@ -22,7 +22,7 @@ use Rattle.rlsf_table.specs.Table.{Table}
 use Rattle.rlsf_blocks.proofs.Allocate.Placements.{length-bytes_in}
 use Rattle.rlsf_resize.proofs.LongerChunks.Lengthened.{is_chunk, IsWellFormed-lengthened, released-lengthened}
 use Rattle.rlsf_table.proofs.Tables.FreeTables.{HasTable-Rewrites}
-use Rattle.rlsf_blocks.proofs.Machine.FreeBlocks.{IsPlaced-free}
+use Rattle.rlsf_blocks.proofs.Machine.FreeBlocks.{CanBeBlock-free}
 use Rattle.rlsf_table.proofs.Words.Writes.{Rewrites-trans, Rewrites-weaken, Rewrites-word}
 use Rattle.rlsf_blocks.proofs.Chunks.Pools.{KeepsSpare-Touched}
 use Rattle.rlsf_blocks.proofs.Words.Apart.{Has, chunk_chunk, home_of_free, home_of_used, free_last, used_last}
@@ -207,7 +207,7 @@ module _ {fllen sllen : ℕ} {m : Space} {table : Table} {s : State} (v : Stands
       sizes = record { used = sizes_used; free = sizes_free; sentinel = sizes_sentinel };
       previous = record { used = previous_used; free = λ f i. free_way_back f i ∙ v.previous.free f i; first = previous_first };
       payloads = record { bytes = payload_bytes; pad = payload_pad };
-      table = HasTable-Rewrites written (IsPlaced-free v) (λ f i. (no_link f i 16 refl (omega arith), no_link f i 24 refl (omega arith))) v.table;
+      table = HasTable-Rewrites written (CanBeBlock-free v) (λ f i. (no_link f i 16 refl (omega arith), no_link f i 24 refl (omega arith))) v.table;
     }
       where
         no_link : (f : Range) → IsIn f s.free → (i : ℕ) → i % 32 ≡ i → 16 ≤ i → (((f.start + i ≡ sentinel_of c) ⊎ (f.start + i ≡ sentinel_of c + len)) ⊎ (f.start + i ≡ sentinel_of c + len + 8)) → ⊥

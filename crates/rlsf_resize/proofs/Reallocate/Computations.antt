@@ -9,10 +9,10 @@ use Rattle.rlsf_machine.specs.Reallocate.{resized}
 use Rattle.rlsf_machine.specs.State.{State, Used}
 use Rattle.rlsf_machine.proofs.Payloads.{block_length-le, block_length-whole, IsUsed-after_start}
 use Rattle.rlsf_blocks.specs.StandsFor.{contents, StandsFor}
-use Rattle.rlsf_blocks.specs.Steps.Join.{IsMarked, IsOut}
+use Rattle.rlsf_blocks.specs.Steps.Join.{IsMarked, IsNextOut}
 use Rattle.rlsf_resize.specs.Steps.Resize.{IsUsedAt}
 use Rattle.rlsf_table.specs.Table.{Table}
-use Rattle.rlsf_blocks.proofs.Deallocate.Loaded.{IsMarked-loaded, IsOut-loaded}
+use Rattle.rlsf_blocks.proofs.Deallocate.Loaded.{IsMarked-loaded, IsNextOut-loaded}
 use Rattle.rlsf_blocks.proofs.Deallocate.Releases.{end_computed}
 use Rattle.rlsf_resize.proofs.Reallocate.Neighbours.{IsMarked-end}
 use Rattle.rlsf_resize.proofs.Reallocate.Spans.{reach}
@@ -45,8 +45,8 @@ module _ {fllen sllen : ℕ} {m : Space} {t : Table} {s : State} (v : StandsFor 
       pub IsMarked-loaded_end : IsMarked n s.free (block + (word - 1))
       IsMarked-loaded_end = IsMarked-loaded m n start bytes (IsMarked-end v u at.is_used (block + (word - 1)) end_is)
 
-      pub IsOut-end : {o : Space} {x : Table} {next : ℕ} → IsOut fllen sllen n o x s.free (block + (word - 1)) next → IsOut fllen sllen m o x s.free (end_of u.block) next
-      IsOut-end {o} {x} {next} out = IsOut-loaded m n start bytes (subst (λ e. IsOut fllen sllen n o x s.free e next) (sym end_is) out)
+      pub IsNextOut-end : {o : Space} {x : Table} {next : ℕ} → IsNextOut fllen sllen n o x s.free (block + (word - 1)) next → IsNextOut fllen sllen m o x s.free (end_of u.block) next
+      IsNextOut-end {o} {x} {next} out = IsNextOut-loaded m n start bytes (subst (λ e. IsNextOut fllen sllen n o x s.free e next) (sym end_is) out)
 
     pub reach_is : (next : ℕ) → block + (word - 1) + next ≡ end_or (block + (word - 1)) (find (starts_at (block + (word - 1))) s.free) → end_of u.block + next ≡ reach s u
     reach_is next ends = subst (λ e. e + next ≡ end_or e (find (starts_at e) s.free)) (sym end_is) ends

@@ -10,8 +10,8 @@ use Rattle.rlsf_machine.specs.Payload.{block_length, payload_of}
 use Rattle.rlsf_machine.specs.Reallocate.{Plan, in_place, into_previous}
 use Rattle.rlsf_machine.specs.State.{State, Used, usable}
 use Rattle.rlsf_blocks.specs.StandsFor.{contents, StandsFor}
-use Rattle.rlsf_blocks.specs.Steps.Join.{IsOut, IsPreviousOut, union, untouched}
-use Rattle.rlsf_resize.specs.Steps.Previous.{FitsBefore, IsBlock}
+use Rattle.rlsf_blocks.specs.Steps.Join.{IsNextOut, IsPreviousOut, union, untouched}
+use Rattle.rlsf_resize.specs.Steps.Previous.{FitsBefore, IsUsedBlock}
 use Rattle.rlsf_resize.specs.Steps.Resize.{IsCarriedOut, IsOccupied, IsUsedAt}
 use Rattle.rlsf_blocks.specs.Steps.Rest.{IsInnerRoom}
 use Rattle.rlsf_table.specs.Table.{Table}
@@ -22,8 +22,8 @@ use Rattle.rlsf_resize.proofs.Reallocate.Moves.{IsSpan, span, payload_placed, Is
 use Rattle.rlsf_resize.proofs.Reallocate.Previous.{into_previous-fits, planned, reach}
 
 -- the used block by its start and its end
-pub IsBlock-from : {s : State} {u : Used} {block end payload align : ℕ} → IsUsedAt s u block payload align → end_of u.block ≡ end → IsBlock s u block end align
-IsBlock-from is end = record { is_used = is.is_used; start = is.start; end_is = end; alignment = is.alignment }
+pub IsUsedBlock-from : {s : State} {u : Used} {block end payload align : ℕ} → IsUsedAt s u block payload align → end_of u.block ≡ end → IsUsedBlock s u block end align
+IsUsedBlock-from is end = record { is_used = is.is_used; start = is.start; end_is = end; alignment = is.alignment }
 
 -- the payload of the used block from `block` to `end` fits before it, and its free neighbours are taken out
 pub record AreOut (fllen sllen : ℕ) (m : Space) (t : Table) (s : State) (u : Used) (block end payload align size to taken : ℕ) (m1 m2 : Space) (t1 t2 : Table) (start next : ℕ) : Type 0 where
@@ -33,7 +33,7 @@ pub record AreOut (fllen sllen : ℕ) (m : Space) (t : Table) (s : State) (u : U
   pub short : in_place s u size ≡ None
   pub plan : FitsBefore s u size to taken
   pub out : IsPreviousOut fllen sllen m m1 t1 s.free block start
-  pub more : IsOut fllen sllen m1 m2 t2 (without (ends_at block) s.free) end next
+  pub more : IsNextOut fllen sllen m1 m2 t2 (without (ends_at block) s.free) end next
 
 module _ {fllen sllen : ℕ} {m : Space} {t : Table} {s : State} {u : Used} {block end payload align size to taken : ℕ} {m1 m2 : Space} {t1 t2 : Table} {start next : ℕ}
     (are : AreOut fllen sllen m t s u block end payload align size to taken m1 m2 t1 t2 start next) where
@@ -64,7 +64,7 @@ module _ {fllen sllen : ℕ} {m : Space} {t : Table} {s : State} {u : Used} {blo
   before : IsPreviousOut fllen sllen m m1 t1 s.free u.block.start start
   before = before_at v u i are.used.start are.out
 
-  behind : IsOut fllen sllen m1 m2 t2 (without (ends_at u.block.start) s.free) (end_of u.block) next
+  behind : IsNextOut fllen sllen m1 m2 t2 (without (ends_at u.block.start) s.free) (end_of u.block) next
   behind = behind_at v u i are.used.start are.is_end are.more
 
   begins : start ≡ are.plan.previous.start

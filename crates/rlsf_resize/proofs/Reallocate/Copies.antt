@@ -12,7 +12,7 @@ use Rattle.rlsf_table.specs.FreeList.{Rewrites}
 use Rattle.rlsf_blocks.specs.Steps.Rest.{IsInnerRoom}
 use Rattle.rlsf_table.specs.Table.{Table}
 use Rattle.rlsf_table.proofs.Tables.FreeTables.{IsFreeTable-Rewrites}
-use Rattle.rlsf_table.proofs.Words.Writes.{IsPlaced-Rewrites}
+use Rattle.rlsf_table.proofs.Words.Writes.{CanBeBlock-Rewrites}
 
 -- the word at the address lies in the hole
 abbrev pub IsInside : Range → ℕ → Type 0
@@ -69,7 +69,7 @@ module _ {fllen sllen : ℕ} {m : Space} {t : Table} {free : List Range} (hole :
         room = record {
           list = IsFreeTable-Rewrites rewrites other inner.room.list;
           block = inner.room.block;
-          placed = IsPlaced-Rewrites rewrites inner.room.placed;
+          placed = CanBeBlock-Rewrites rewrites inner.room.placed;
           apart = inner.room.apart;
         };
         not_last = omega (arith, inner.not_last, rewrites.start, rewrites.length);

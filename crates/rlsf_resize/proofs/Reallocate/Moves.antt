@@ -24,9 +24,9 @@ use Rattle.rlsf_machine.proofs.Plans.{IsSoundPlan, IsSound-into_previous, IsWell
 use Rattle.rlsf_machine.proofs.Releases.{IsSound-free, IsWellFormed-released}
 use Rattle.rlsf_machine.proofs.Tiling.{free-le, tiling_of}
 use Rattle.rlsf_blocks.specs.StandsFor.{contents, StandsFor}
-use Rattle.rlsf_table.specs.FreeList.{IsLink, IsPlaced, Rewrites}
+use Rattle.rlsf_table.specs.FreeList.{IsLink, CanBeBlock, Rewrites}
 use Rattle.rlsf_blocks.specs.Steps.Touched.{Touched, at_link, in_hole, at_other}
-use Rattle.rlsf_blocks.specs.Steps.Join.{IsOut, IsPreviousOut, union, untouched}
+use Rattle.rlsf_blocks.specs.Steps.Join.{IsNextOut, IsPreviousOut, union, untouched}
 use Rattle.rlsf_resize.specs.Steps.Resize.{IsCarriedOut, IsOccupied}
 use Rattle.rlsf_table.specs.Table.{Table, HasTable}
 use Rattle.rlsf_blocks.proofs.Allocate.Placements.{length-bytes_in}
@@ -86,7 +86,7 @@ module _ {fllen sllen : ℕ} {m : Space} {t : Table} {s : State} (v : StandsFor 
 
   -- the free blocks before it and behind it were taken out
   module _ {m1 m2 : Space} {t1 t2 : Table} {start next : ℕ} (before : IsPreviousOut fllen sllen m m1 t1 s.free u.block.start start)
-      (behind : IsOut fllen sllen m1 m2 t2 (without (ends_at u.block.start) s.free) (end_of u.block) next) where
+      (behind : IsNextOut fllen sllen m1 m2 t2 (without (ends_at u.block.start) s.free) (end_of u.block) next) where
     -- the payload lies in the memory, with its bytes
     pub payload_placed : LiesIn (usable u) m2.start (length m2.bytes)
     payload_placed =
@@ -238,7 +238,7 @@ module _ {fllen sllen : ℕ} {m : Space} {t : Table} {s : State} (v : StandsFor 
       table : HasTable fllen sllen n t4 (planned s u size f).free
       table = HasTable-Rewrites padded.rewrites placed other (subst (λ e. HasTable fllen sllen m4 t4 (rest_behind (planned s u size f).block e ++ untouched u.block s.free)) span.end occupied.table)
         where
-          placed : (g : Range) → IsIn g (planned s u size f).free → IsPlaced m4 g
+          placed : (g : Range) → IsIn g (planned s u size f).free → CanBeBlock m4 g
           placed g k =
               let is = t_well_formed.free g k in
               let place = free_in_memory t_well_formed g k in

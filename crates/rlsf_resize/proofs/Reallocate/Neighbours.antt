@@ -5,7 +5,7 @@ use Rattle.rlsf_base.specs.declared.memory.range.Range.{Range}
 use Rattle.rlsf_base.specs.Range.{end_of}
 use Rattle.rlsf_base.specs.Space.{Space, word_at}
 use Rattle.rlsf_blocks.specs.StandsFor.{contents, StandsFor}
-use Rattle.rlsf_blocks.specs.Steps.Join.{Begins, IsMarked}
+use Rattle.rlsf_blocks.specs.Steps.Join.{FreeBlockBegins, IsMarked}
 use Rattle.rlsf_table.specs.Table.{Table}
 use Rattle.rlsf_machine.specs.Join.{ends_at, starts_at, start_or, end_or}
 use Rattle.rlsf_machine.specs.Lists.{IsIn, without}
@@ -70,7 +70,7 @@ module _ {fllen sllen : ℕ} {m : Space} {t : Table} {s : State} (v : StandsFor 
       → (len ≤ b) × (b - len ≡ start_or b (find (ends_at b) s.free))
   start_or-length {b} {previous} {len} at is some end = go (named v u i at is)
     where
-      missing : (Begins s.free previous → ⊥) → find (ends_at b) s.free ≡ None → (len ≤ b) × (b - len ≡ start_or b (find (ends_at b) s.free))
+      missing : (FreeBlockBegins s.free previous → ⊥) → find (ends_at b) s.free ≡ None → (len ≤ b) × (b - len ≡ start_or b (find (ends_at b) s.free))
       missing none e =
           let no_start = find-no_start s.free previous (λ f j same. none (f, j, same)) in
           let long : previous + len ≡ previous = end ∙ ap (end_or previous) no_start in
@@ -94,10 +94,10 @@ module _ {fllen sllen : ℕ} {m : Space} {t : Table} {s : State} (v : StandsFor 
         mark = go (subst (Behind s) end (behind_used v.well_formed u i));
       }
     where
-      odd : word_at m e % 2 ≡ 1 → (Begins s.free e → ⊥) → (word_at m e % 2 ≡ 0) ↔ Begins s.free e
+      odd : word_at m e % 2 ≡ 1 → (FreeBlockBegins s.free e → ⊥) → (word_at m e % 2 ≡ 0) ↔ FreeBlockBegins s.free e
       odd is_odd none = (λ even. absurd (omega (arith, even, is_odd)), λ begins. absurd (none begins))
 
-      go : Behind s e → (word_at m e % 2 ≡ 0) ↔ Begins s.free e
+      go : Behind s e → (word_at m e % 2 ≡ 0) ↔ FreeBlockBegins s.free e
       go (free_behind f j begin) = (λ _. (f, j, begin), λ _. ap (λ a. word_at m a % 2) (sym begin) ∙ free_even v f j)
       go (used_behind x j begin) = odd (ap (λ a. word_at m a % 2) (sym begin) ∙ used_odd v x j) (used_begins v x j e begin)
       go (last_behind c j begin) = odd (ap (λ w. w % 2) (ap (word_at m) (sym begin) ∙ v.sizes.sentinel c j)) (last_begins v c j e begin)

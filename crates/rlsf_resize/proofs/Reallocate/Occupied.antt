@@ -15,7 +15,7 @@ use Rattle.rlsf_table.specs.FreeList.{IsLink}
 use Rattle.rlsf_blocks.specs.Steps.Touched.{Touched, at_link, in_hole, at_other}
 use Rattle.rlsf_table.specs.FreeTable.{IsFreeTable}
 use Rattle.rlsf_resize.specs.Steps.Resize.{IsOccupied}
-use Rattle.rlsf_blocks.specs.Steps.Rest.{IsInnerRoom, IsLeft}
+use Rattle.rlsf_blocks.specs.Steps.Rest.{IsInnerRoom, IsFreeBlockBehind}
 use Rattle.rlsf_table.specs.Table.{Table, HasTable}
 use Rattle.rlsf_blocks.proofs.Allocate.TakenOut.{covers-part}
 use Rattle.rlsf_table.proofs.Tables.FreeTables.{IsFreeTable-Rewrites}
@@ -99,7 +99,7 @@ module _ {fllen sllen : ℕ} {m : Space} {table : Table} {free : List Range} {bl
           not_last = omega (arith, moved.start, moved.length, inner.not_last);
         }
 
-    pub IsOccupied-rest : {n : Space} {changed : Table} → taken < total → IsLeft fllen sllen m1 n changed free block (rest_of block taken span)
+    pub IsOccupied-rest : {n : Space} {changed : Table} → taken < total → IsFreeBlockBehind fllen sllen m1 n changed free block (rest_of block taken span)
         → IsOccupied fllen sllen m n changed free span (range_at block taken)
     IsOccupied-rest {n} {changed} short left =
         let is = inner.room.block in

@@ -17,7 +17,7 @@ use Rattle.rlsf_machine.specs.Reallocate.{Plan, into_previous, into_previous_at}
 use Rattle.rlsf_machine.specs.State.{State, Used}
 use Rattle.rlsf_machine.specs.WellFormed.{IsWellFormed}
 use Rattle.rlsf_blocks.specs.Steps.Join.{untouched}
-use Rattle.rlsf_resize.specs.Steps.Previous.{FitsBefore, IsBlock}
+use Rattle.rlsf_resize.specs.Steps.Previous.{FitsBefore, IsUsedBlock}
 use Rattle.rlsf_resize.proofs.Reallocate.Neighbours.{find-ends_at-none, find-ends_at-some, find-starts_at-without, start_or-le, end_or-in_memory}
 use Rattle.rlsf_blocks.proofs.Words.Apart.{used_in_memory}
 use Rattle.rlsf_machine.proofs.Payloads.{IsUsed-some, payload_of-after}
@@ -54,7 +54,7 @@ module _ (s : State) (u : Used) (size : ℕ) where
   into_previous-too_long f found more = ap (into_previous_at s u size) found ∙ ap (λ b. cond b (Some (planned s u size f)) None) (lt-leb (end_of (planned s u size f).block) (reach s u) more)
 
 -- what the lengths of the blocks say, from where the free block before the used one begins, or the used one
-module _ {fllen sllen : ℕ} {memory : Range} {s : State} (w : IsWellFormed fllen sllen memory s) (u : Used) {block end align start : ℕ} (is : IsBlock s u block end align)
+module _ {fllen sllen : ℕ} {memory : Range} {s : State} (w : IsWellFormed fllen sllen memory s) (u : Used) {block end align start : ℕ} (is : IsUsedBlock s u block end align)
     (begins : start ≡ start_or block (find (ends_at block) s.free)) where
   at_start : start ≡ start_or u.block.start (find (ends_at u.block.start) s.free)
   at_start = subst (λ b. start ≡ start_or b (find (ends_at b) s.free)) (sym is.start) begins

@@ -18,7 +18,7 @@ use Rattle.rlsf_machine.proofs.Plans.{IsSoundPlan, IsWellFormed-replanned}
 use Rattle.rlsf_blocks.specs.StandsFor.{contents, StandsFor}
 use Rattle.rlsf_table.specs.FreeList.{IsLink}
 use Rattle.rlsf_blocks.specs.Steps.Touched.{Touched, at_link, in_hole, at_other}
-use Rattle.rlsf_blocks.specs.Steps.Join.{IsOut}
+use Rattle.rlsf_blocks.specs.Steps.Join.{IsNextOut}
 use Rattle.rlsf_resize.specs.Steps.Resize.{IsCarriedOut, IsOccupied}
 use Rattle.rlsf_table.specs.Table.{Table, HasTable}
 use Rattle.rlsf_blocks.proofs.Allocate.Placements.{length-bytes_in}
@@ -85,7 +85,7 @@ module _ {fllen sllen : ℕ} {m : Space} {t : Table} {s : State} (v : StandsFor 
 
   -- ---- it has another length
 
-  module _ (fits : end_of (resized u size) ≤ reach s u) {m1 n : Space} {t1 x : Table} {next : ℕ} (out : IsOut fllen sllen m m1 t1 s.free (end_of u.block) next)
+  module _ (fits : end_of (resized u size) ≤ reach s u) {m1 n : Space} {t1 x : Table} {next : ℕ} (out : IsNextOut fllen sllen m m1 t1 s.free (end_of u.block) next)
       (occupied : IsOccupied fllen sllen m1 n x (staying s u) (span_of s u) (resized u size)) where
     sound : IsSoundPlan s u size (stretched s u size)
     sound = IsSound-stretched s u size v.well_formed i fits

@@ -14,7 +14,7 @@ use Rattle.rlsf_machine.proofs.Payloads.{IsUsed-some}
 use Rattle.rlsf_machine.proofs.Releases.{IsSound-free}
 use Rattle.rlsf_machine.proofs.Tiling.{block_of, blocks, blocks-le, tiling_of, IsValidClass-le, LiesInChunk, lies_in_chunk}
 use Rattle.rlsf_blocks.specs.StandsFor.{contents, StandsFor}
-use Rattle.rlsf_blocks.specs.Steps.Join.{IsOut}
+use Rattle.rlsf_blocks.specs.Steps.Join.{IsNextOut}
 use Rattle.rlsf_blocks.specs.Steps.Rest.{IsInnerRoom}
 use Rattle.rlsf_table.specs.Table.{Table}
 use Rattle.rlsf_blocks.proofs.Words.Apart.{Has}
@@ -90,7 +90,7 @@ module _ {fllen sllen : ℕ} {m : Space} {t : Table} {s : State} (v : StandsFor 
 
   -- ---- the block behind it was taken out
 
-  module _ {m1 : Space} {t1 : Table} {next : ℕ} (out : IsOut fllen sllen m m1 t1 s.free (end_of u.block) next) where
+  module _ {m1 : Space} {t1 : Table} {next : ℕ} (out : IsNextOut fllen sllen m m1 t1 s.free (end_of u.block) next) where
     pub span_len : (span_of s u).len ≡ u.block.len + next
     span_len = omega (arith, out.end)
 

@@ -9,7 +9,7 @@ use Rattle.rlsf_machine.specs.Reallocate.{into_previous}
 use Rattle.rlsf_machine.specs.State.{State, Used}
 
 -- a used block of the state goes from `block` to `end`, and its payload has that alignment
-pub record IsBlock (s : State) (u : Used) (block end align : ℕ) : Type 0 where
+pub record IsUsedBlock (s : State) (u : Used) (block end align : ℕ) : Type 0 where
   pub is_used : IsIn u s.used
   pub start : u.block.start ≡ block
   pub end_is : end_of u.block ≡ end

@@ -2,7 +2,7 @@
 use Rattle.std.proofs.Common.{◌≡◌, ◌≢◌, ℕ, ◌+◌, ◌%◌, ◌<◌, ◌≤◌, ◌⊎◌, Bool, cond, filter, find, List, [], ◌∷◌, ◌++◌, Some, arith, inl, inr, refl, sym, ◌∙◌, ap, subst}
 use Rattle.rlsf_base.specs.declared.memory.range.Range.{Range}
 use Rattle.rlsf_base.specs.Space.{Space, word_at}
-use Rattle.rlsf_table.specs.FreeList.{IsPlaced, Rewrites, Links}
+use Rattle.rlsf_table.specs.FreeList.{CanBeBlock, Rewrites, Links}
 use Rattle.rlsf_machine.specs.Lists.{IsIn, without}
 use Rattle.rlsf_machine.specs.WellFormed.{coverage, covers, itself}
 use Rattle.rlsf_machine.proofs.Coverage.{by_test, covers-inside, coverage-append, coverage-IsIn, coverage-unique, IsIn-append, IsIn-append_left, IsIn-append_right}
@@ -43,7 +43,7 @@ Links-same m n p (f ∷ fs) head same links =
     (links.0, here.1 ∙ links.1, subst (λ w. Links n f.start fs w) (sym here.0) later)
 
 -- words that are no links of a list were written
-pub Links-Rewrites : {m n : Space} {at : ℕ → Type 0} (p : ℕ) (free : List Range) (head : ℕ) → Rewrites m n at → ((f : Range) → IsIn f free → IsPlaced m f)
+pub Links-Rewrites : {m n : Space} {at : ℕ → Type 0} (p : ℕ) (free : List Range) (head : ℕ) → Rewrites m n at → ((f : Range) → IsIn f free → CanBeBlock m f)
     → ((f : Range) → IsIn f free → ¬ at (f.start + 16) × ¬ at (f.start + 24)) → Links m p free head → Links n p free head
 Links-Rewrites {m} {n} p free head h placed other links =
     Links-same m n p free head (λ f i.
@@ -53,7 +53,7 @@ Links-Rewrites {m} {n} p free head h placed other links =
     )) links
 
 -- a list is hung behind another block: the word that names the block before its first one is another one
-pub Links-hung : (m n : Space) (p q : ℕ) (free : List Range) (head : ℕ) → ((f : Range) → IsIn f free → IsPlaced m f) → ((a : ℕ) → coverage itself free a ≤ 1)
+pub Links-hung : (m n : Space) (p q : ℕ) (free : List Range) (head : ℕ) → ((f : Range) → IsIn f free → CanBeBlock m f) → ((a : ℕ) → coverage itself free a ≤ 1)
     → (head ≢ 0 → word_at n (head + 24) ≡ q)
     → ((f : Range) → IsIn f free → word_at n (f.start + 16) ≡ word_at m (f.start + 16))
     → ((f : Range) → IsIn f free → f.start ≢ head → word_at n (f.start + 24) ≡ word_at m (f.start + 24))
@@ -68,7 +68,7 @@ Links-hung m n p q (f ∷ fs) head placed apart first nexts others links =
     (links.0, ap (λ a. word_at n (a + 24)) (sym links.0) ∙ first some, subst (λ w. Links n f.start fs w) (sym (nexts f (inl refl))) later)
 
 -- where a list of blocks begins, or 0, is a multiple of 32
-pub head-whole : (m : Space) (p : ℕ) (free : List Range) (head : ℕ) → ((f : Range) → IsIn f free → IsPlaced m f) → Links m p free head → head % 32 ≡ 0
+pub head-whole : (m : Space) (p : ℕ) (free : List Range) (head : ℕ) → ((f : Range) → IsIn f free → CanBeBlock m f) → Links m p free head → head % 32 ≡ 0
 head-whole m p [] head placed links = omega (arith, links)
 head-whole m p (f ∷ fs) head placed links = ap (λ a. a % 32) links.0 ∙ (placed f (inl refl)).whole
 

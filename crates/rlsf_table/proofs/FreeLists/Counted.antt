@@ -5,7 +5,7 @@ use Rattle.std.specs.Int.{w64, from_le_bytes}
 use Rattle.rlsf_base.specs.declared.memory.range.Range.{Range}
 use Rattle.rlsf_base.specs.Range.{range_at}
 use Rattle.rlsf_base.specs.Space.{Space, byte_at, bytes_in, range_of, word_at}
-use Rattle.rlsf_table.specs.FreeList.{Links, IsPlaced, Rewrites}
+use Rattle.rlsf_table.specs.FreeList.{Links, CanBeBlock, Rewrites}
 use Rattle.rlsf_table.specs.Steps.ClassList.{IsFreeList}
 use Rattle.rlsf_table.specs.FreeTable.{IsFreeTable, IsRoom}
 use Rattle.rlsf_table.specs.Table.{Table, head_at, of_class, HasTable}
@@ -53,8 +53,8 @@ module _ (m n : Space) (start : n.start ≡ m.start) (bytes : n.bytes ≡ m.byte
 
   -- ---- the free blocks
 
-  pub IsPlaced-counted : {f : Range} → IsPlaced m f → IsPlaced n f
-  IsPlaced-counted p = record { some = p.some; whole = p.whole; room = p.room; lies_in = (omega (arith, start, p.lies_in), omega (arith, start, length-counted, p.lies_in)) }
+  pub CanBeBlock-counted : {f : Range} → CanBeBlock m f → CanBeBlock n f
+  CanBeBlock-counted p = record { some = p.some; whole = p.whole; room = p.room; lies_in = (omega (arith, start, p.lies_in), omega (arith, start, length-counted, p.lies_in)) }
 
   pub Links-counted : (previous : ℕ) (free : List Range) (head : ℕ) → Links m previous free head → Links n previous free head
   Links-counted previous free head links = Links-same m n previous free head (λ f i. (word_at-counted (f.start + 16), word_at-counted (f.start + 24))) links
@@ -62,7 +62,7 @@ module _ (m n : Space) (start : n.start ≡ m.start) (bytes : n.bytes ≡ m.byte
   pub IsFreeList-counted : {head : ℕ} {free : List Range} → IsFreeList m head free → IsFreeList n head free
   IsFreeList-counted {head} {free} h = record {
     links = Links-counted 0 free head h.links;
-    placed = λ f i. IsPlaced-counted (h.placed f i);
+    placed = λ f i. CanBeBlock-counted (h.placed f i);
     apart = h.apart;
     sizes = λ f i. word_at-counted f.start ∙ h.sizes f i;
     addressable = omega (arith, start, length-counted, h.addressable);
@@ -82,11 +82,11 @@ module _ (m n : Space) (start : n.start ≡ m.start) (bytes : n.bytes ≡ m.byte
   IsFreeTable-counted h = record {
     table = HasTable-counted h.table;
     blocks = h.blocks;
-    placed = λ f i. IsPlaced-counted (h.placed f i);
+    placed = λ f i. CanBeBlock-counted (h.placed f i);
     apart = h.apart;
     sizes = λ f i. word_at-counted f.start ∙ h.sizes f i;
     addressable = omega (arith, start, length-counted, h.addressable);
   }
 
   pub IsRoom-counted : {fllen sllen : ℕ} {t : Table} {free : List Range} {r : Range} → IsRoom fllen sllen m t free r → IsRoom fllen sllen n t free r
-  IsRoom-counted h = record { list = IsFreeTable-counted h.list; block = h.block; placed = IsPlaced-counted h.placed; apart = h.apart }
+  IsRoom-counted h = record { list = IsFreeTable-counted h.list; block = h.block; placed = CanBeBlock-counted h.placed; apart = h.apart }

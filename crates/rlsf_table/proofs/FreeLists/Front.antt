@@ -4,7 +4,7 @@ use Rattle.std.proofs.lemmas.Bool.{cases_eq}
 use Rattle.rlsf_base.specs.declared.memory.range.Range.{Range}
 use Rattle.rlsf_base.specs.Space.{Space, word_at}
 use Rattle.rlsf_table.specs.Steps.ClassList.{IsFirstOrOwn, IsFreeList}
-use Rattle.rlsf_table.specs.FreeList.{IsLink, IsPlaced, Rewrites, Links}
+use Rattle.rlsf_table.specs.FreeList.{IsLink, CanBeBlock, Rewrites, Links}
 use Rattle.rlsf_machine.specs.Lists.{IsIn}
 use Rattle.rlsf_machine.specs.WellFormed.{coverage, itself}
 use Rattle.rlsf_table.proofs.Words.Writes.{Rewrites-trans, Rewrites-weaken, Writes}
@@ -28,17 +28,17 @@ pub record Fronts (m n : Space) (newest block at : ℕ) : Type 0 where
   pub previous : Writes two n (Unit {0}) (block + 24) 0
 
 -- the newest block is placed
-pub newest_placed : {m : Space} {newest : ℕ} {free : List Range} → IsFreeList m newest free → newest ≢ 0 → (f : Range) × (f.start ≡ newest) × IsPlaced m f
+pub newest_placed : {m : Space} {newest : ℕ} {free : List Range} → IsFreeList m newest free → newest ≢ 0 → (f : Range) × (f.start ≡ newest) × CanBeBlock m f
 newest_placed {m} {newest} {free} list some = let first = first_of m 0 free newest list.links some in (first.0, sym first.2, list.placed first.0 first.1)
 
 -- so is the one whose link is written
-pub own_placed : {m : Space} {newest block at : ℕ} {r : Range} {free : List Range} → IsFreeList m newest free → r.start ≡ block → IsPlaced m r → IsFirstOrOwn newest block at → (f : Range) × (f.start ≡ at) × IsPlaced m f
+pub own_placed : {m : Space} {newest block at : ℕ} {r : Range} {free : List Range} → IsFreeList m newest free → r.start ≡ block → CanBeBlock m r → IsFirstOrOwn newest block at → (f : Range) × (f.start ≡ at) × CanBeBlock m f
 own_placed {newest = newest} {r = r} list place placed own = elim (cases_eq newest 0) [
   | inl none ↦ (r, place ∙ sym (own.none none), placed)
   | inr some ↦ let first = newest_placed list some in (first.0, first.1 ∙ sym (own.some some), first.2)
 ]
 
-module _ (m n : Space) (newest block at : ℕ) (r : Range) (free : List Range) (place : r.start ≡ block) (list : IsFreeList m newest free) (placed : IsPlaced m r)
+module _ (m n : Space) (newest block at : ℕ) (r : Range) (free : List Range) (place : r.start ≡ block) (list : IsFreeList m newest free) (placed : CanBeBlock m r)
     (apart : (a : ℕ) → coverage itself (r ∷ free) a ≤ 1) (fronts : Fronts m n newest block at) where
   -- the newest block till now is another one
   newest-other : newest ≢ 0 → newest ≢ block
@@ -131,11 +131,11 @@ module _ (m n : Space) (newest next at : ℕ) (r : Range) (after : List Range) (
   behind : Links m r.start after next
   behind = subst (λ w. Links m r.start after w) (sym is_next) list.links.2
 
-  placed-behind : (f : Range) → IsIn f after → IsPlaced m f
+  placed-behind : (f : Range) → IsIn f after → CanBeBlock m f
   placed-behind f i = list.placed f (inr i)
 
   -- where it is written
-  pub rest_placed : (f : Range) × (f.start ≡ at) × IsPlaced m f
+  pub rest_placed : (f : Range) × (f.start ≡ at) × CanBeBlock m f
   rest_placed = elim (cases_eq next 0) [
     | inl none ↦ (r, sym (own.none none), list.placed r (inl refl))
     | inr some ↦ let first = first_of m r.start after next behind some in (first.0, sym (own.some some ∙ first.2), placed-behind first.0 first.1)

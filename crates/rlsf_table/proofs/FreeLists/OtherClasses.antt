@@ -7,7 +7,7 @@ use Rattle.rlsf_base.specs.Space.{Space}
 use Rattle.rlsf_machine.specs.Lists.{IsIn}
 use Rattle.rlsf_machine.specs.WellFormed.{coverage, itself}
 use Rattle.rlsf_machine.proofs.Choices.{has_class-true}
-use Rattle.rlsf_table.specs.FreeList.{Links, IsLink, IsPlaced, Rewrites}
+use Rattle.rlsf_table.specs.FreeList.{Links, IsLink, CanBeBlock, Rewrites}
 use Rattle.rlsf_table.specs.Table.{class_at, of_class}
 use Rattle.rlsf_table.proofs.FreeLists.Chains.{Links-Rewrites, starts_apart}
 use Rattle.rlsf_table.proofs.FreeLists.Classes.{IsIn-of_class}
@@ -26,7 +26,7 @@ each_class P fl sl here other i j = elim (cases_eq i fl) [
 ]
 
 -- `all` are placed blocks that don't overlap, of which those in `written` have the class at fl and sl
-module _ {m n : Space} (sllen fl sl : ℕ) (all written : List Range) (placed : (f : Range) → IsIn f all → IsPlaced m f) (apart : (a : ℕ) → coverage itself all a ≤ 1)
+module _ {m n : Space} (sllen fl sl : ℕ) (all written : List Range) (placed : (f : Range) → IsIn f all → CanBeBlock m f) (apart : (a : ℕ) → coverage itself all a ≤ 1)
     (among : (f : Range) → IsIn f written → IsIn f all × (class_of sllen f.len ≡ class_at fl sl)) (rewrites : Rewrites m n (IsLink written)) where
   -- a block of another class has no link of theirs
   no_link : (i j : ℕ) → ¬ ((i ≡ fl) × (j ≡ sl)) → (f : Range) → IsIn f all → class_of sllen f.len ≡ class_at i j → ¬ IsLink written (f.start + 16) × ¬ IsLink written (f.start + 24)

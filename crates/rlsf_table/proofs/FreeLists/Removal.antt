@@ -3,7 +3,7 @@ use Rattle.std.proofs.Common.{◌≡◌, ◌≢◌, ℕ, ◌+◌, ◌%◌, ◌^�
 use Rattle.rlsf_base.specs.declared.memory.range.Range.{Range}
 use Rattle.rlsf_base.specs.Space.{Space, word_at, with_word}
 use Rattle.rlsf_table.specs.Steps.ClassList.{IsFreeList}
-use Rattle.rlsf_table.specs.FreeList.{IsLink, IsPlaced, Rewrites, Links}
+use Rattle.rlsf_table.specs.FreeList.{IsLink, CanBeBlock, Rewrites, Links}
 use Rattle.rlsf_machine.specs.Lists.{IsIn}
 use Rattle.rlsf_machine.specs.WellFormed.{coverage, itself}
 use Rattle.rlsf_machine.proofs.Coverage.{coverage-append, IsIn-append_left, IsIn-append_right}
@@ -72,7 +72,7 @@ module _ (m n : Space) (newest block next previous : ℕ) (r : Range) (before af
   in_after : (f : Range) → IsIn f after → IsIn f (before ++ (r ∷ after))
   in_after f i = IsIn-append_right f before (r ∷ after) (inr i)
 
-  placed-after : (f : Range) → IsIn f after → IsPlaced m f
+  placed-after : (f : Range) → IsIn f after → CanBeBlock m f
   placed-after f i = list.placed f (in_after f i)
 
   apart-parts : (a : ℕ) → (coverage itself before a ≤ 1) × (coverage itself after a ≤ 1)
@@ -155,7 +155,7 @@ module _ (m n : Space) (newest block next previous : ℕ) (r : Range) (before af
 
 -- the blocks that a block of the list names are placed: the next one, and the one before it
 module _ {m : Space} {newest block : ℕ} {free : List Range} (r : Range) (place : r.start ≡ block) (i : IsIn r free) (list : IsFreeList m newest free) where
-  pub next_placed : {next : ℕ} → next ≡ word_at m (block + 16) → next ≢ 0 → (f : Range) × (f.start ≡ next) × IsPlaced m f
+  pub next_placed : {next : ℕ} → next ≡ word_at m (block + 16) → next ≢ 0 → (f : Range) × (f.start ≡ next) × CanBeBlock m f
   next_placed {next} is some =
       let parts = IsIn-split r free i in
       let links : Links m 0 (parts.0 ++ (r ∷ parts.1)) newest = subst (λ l. Links m 0 l newest) parts.2 list.links in
@@ -164,7 +164,7 @@ module _ {m : Space} {newest block : ℕ} {free : List Range} (r : Range) (place
       let found = first_of m r.start parts.1 next behind some in
       (found.0, sym found.2, list.placed found.0 (subst (λ l. IsIn found.0 l) (sym parts.2) (IsIn-append_right found.0 parts.0 (r ∷ parts.1) (inr found.1))))
 
-  pub previous_placed : {previous : ℕ} → previous ≡ word_at m (block + 24) → previous ≢ 0 → (f : Range) × (f.start ≡ previous) × IsPlaced m f
+  pub previous_placed : {previous : ℕ} → previous ≡ word_at m (block + 24) → previous ≢ 0 → (f : Range) × (f.start ≡ previous) × CanBeBlock m f
   previous_placed {previous} is some =
       let parts = IsIn-split r free i in
       let links : Links m 0 (parts.0 ++ (r ∷ parts.1)) newest = subst (λ l. Links m 0 l newest) parts.2 list.links in

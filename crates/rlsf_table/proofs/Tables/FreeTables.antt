@@ -5,23 +5,23 @@ use Rattle.rlsf_base.specs.Space.{Space, word_at}
 use Rattle.rlsf_machine.specs.Lists.{IsIn}
 use Rattle.rlsf_machine.specs.WellFormed.{coverage, itself, IsFree}
 use Rattle.rlsf_machine.proofs.Coverage.{coverage-append}
-use Rattle.rlsf_table.specs.FreeList.{IsLink, IsPlaced, Rewrites}
+use Rattle.rlsf_table.specs.FreeList.{IsLink, CanBeBlock, Rewrites}
 use Rattle.rlsf_table.specs.FreeTable.{IsFreeTable, IsRoom}
 use Rattle.rlsf_table.specs.Table.{Table, head_at, of_class, HasTable}
 use Rattle.rlsf_table.proofs.FreeLists.Chains.{IsIn-removal, Links-Rewrites}
 use Rattle.rlsf_table.proofs.FreeLists.Classes.{IsIn-of_class}
-use Rattle.rlsf_table.proofs.Words.Writes.{before_links, IsPlaced-Rewrites}
+use Rattle.rlsf_table.proofs.Words.Writes.{before_links, CanBeBlock-Rewrites}
 
 -- ---- links were written
 
 -- blocks among these that a table has are the free blocks
-IsFreeTable-IsLink : {fllen sllen : ℕ} {m n : Space} {u : Table} (links free : List Range) → ((f : Range) → IsIn f links → IsPlaced m f) → Rewrites m n (IsLink links)
+IsFreeTable-IsLink : {fllen sllen : ℕ} {m n : Space} {u : Table} (links free : List Range) → ((f : Range) → IsIn f links → CanBeBlock m f) → Rewrites m n (IsLink links)
     → ((f : Range) → IsIn f free → IsIn f links) → ((f : Range) → IsIn f free → IsFree fllen sllen f) → ((a : ℕ) → coverage itself free a ≤ 1)
     → ((f : Range) → IsIn f free → word_at m f.start ≡ f.len) → m.start + length m.bytes < 2 ^ 64 → HasTable fllen sllen n u free → IsFreeTable fllen sllen n u free
 IsFreeTable-IsLink links free placed rewrites among blocks apart sizes addressable table = record {
   table = table;
   blocks = blocks;
-  placed = λ f i. IsPlaced-Rewrites rewrites (placed f (among f i));
+  placed = λ f i. CanBeBlock-Rewrites rewrites (placed f (among f i));
   apart = apart;
   sizes = λ f i. (let here = placed f (among f i) in before_links links (λ g j. (placed g j).whole) rewrites f.start (inl here.whole) (omega (arith, here.lies_in))) ∙ sizes f i;
   addressable = omega (arith, rewrites.start, rewrites.length, addressable);
@@ -35,7 +35,7 @@ front {P} r free here later f i = elim i [ inl e ↦ subst P (sym e) here | inr 
 pub IsFreeTable-front : {fllen sllen : ℕ} {m n : Space} {t u : Table} (r : Range) (free : List Range) → IsRoom fllen sllen m t free r → word_at m r.start ≡ r.len
     → HasTable fllen sllen n u (r ∷ free) → Rewrites m n (IsLink (r ∷ free)) → IsFreeTable fllen sllen n u (r ∷ free)
 IsFreeTable-front {fllen} {sllen} {m} r free room size table rewrites =
-    IsFreeTable-IsLink (r ∷ free) (r ∷ free) (front {P = IsPlaced m} r free room.placed room.list.placed) rewrites (λ f i. i)
+    IsFreeTable-IsLink (r ∷ free) (r ∷ free) (front {P = CanBeBlock m} r free room.placed room.list.placed) rewrites (λ f i. i)
     (front {P = IsFree fllen sllen} r free room.block room.list.blocks) room.apart
     (front {P = λ f. word_at m f.start ≡ f.len} r free size room.list.sizes) room.list.addressable table
 
@@ -51,7 +51,7 @@ IsFreeTable-removal before r after list table rewrites =
 -- ---- other words were written
 
 -- the table where none of the links was written
-pub HasTable-Rewrites : {fllen sllen : ℕ} {m n : Space} {t : Table} {at : ℕ → Type 0} {free : List Range} → Rewrites m n at → ((f : Range) → IsIn f free → IsPlaced m f)
+pub HasTable-Rewrites : {fllen sllen : ℕ} {m n : Space} {t : Table} {at : ℕ → Type 0} {free : List Range} → Rewrites m n at → ((f : Range) → IsIn f free → CanBeBlock m f)
     → ((f : Range) → IsIn f free → ¬ at (f.start + 16) × ¬ at (f.start + 24)) → HasTable fllen sllen m t free → HasTable fllen sllen n t free
 HasTable-Rewrites {fllen} {sllen} {m} {n} {t} {at} {free} rewrites placed other table = record {
   bits = table.bits;
@@ -70,7 +70,7 @@ pub IsFreeTable-Rewrites : {fllen sllen : ℕ} {m n : Space} {t : Table} {at : �
 IsFreeTable-Rewrites rewrites other list = record {
   table = HasTable-Rewrites rewrites list.placed (λ f i. ((other f i).1, (other f i).2)) list.table;
   blocks = list.blocks;
-  placed = λ f i. IsPlaced-Rewrites rewrites (list.placed f i);
+  placed = λ f i. CanBeBlock-Rewrites rewrites (list.placed f i);
   apart = list.apart;
   sizes = λ f i. (let here = list.placed f i in rewrites.words f.start (omega (arith, here.whole)) (omega (arith, here.lies_in)) (other f i).0) ∙ list.sizes f i;
   addressable = omega (arith, rewrites.start, rewrites.length, list.addressable);

@@ -9,7 +9,7 @@ use Rattle.rlsf_machine.specs.Lists.{IsIn}
 use Rattle.rlsf_machine.specs.WellFormed.{coverage, itself}
 use Rattle.rlsf_machine.proofs.Choices.{has_class-from, has_class-true}
 use Rattle.rlsf_machine.proofs.Coverage.{IsIn-append_right}
-use Rattle.rlsf_table.specs.FreeList.{Links, IsLink, IsPlaced, Rewrites}
+use Rattle.rlsf_table.specs.FreeList.{Links, IsLink, CanBeBlock, Rewrites}
 use Rattle.rlsf_table.specs.Steps.ClassList.{IsFreeList}
 use Rattle.rlsf_table.specs.FreeTable.{IsFreeTable, IsRoom}
 use Rattle.rlsf_table.specs.Table.{IsClassAt, IsHeadOf, IsHeadSet, Table, class_at, head_at, of_class, HasBits, HasTable}
@@ -55,8 +55,8 @@ module _ {fllen sllen : ℕ} {m : Space} {t : Table} {r : Range} {free : List Ra
     | inr j ↦ let is = IsIn-of_class sllen fl sl f free j in (inr is.0, has_class-true sllen (class_at fl sl) f is.1)
   ]
 
-  placed-front : (f : Range) → IsIn f (r ∷ free) → IsPlaced m f
-  placed-front f i = elim i [ inl e ↦ subst (λ x. IsPlaced m x) (sym e) room.placed | inr j ↦ room.list.placed f j ]
+  placed-front : (f : Range) → IsIn f (r ∷ free) → CanBeBlock m f
+  placed-front f i = elim i [ inl e ↦ subst (λ x. CanBeBlock m x) (sym e) room.placed | inr j ↦ room.list.placed f j ]
 
   -- the links of the class are links of free blocks
   pub Rewrites-front_class : {n : Space} → Rewrites m n (IsLink (r ∷ of_class sllen fl sl free)) → Rewrites m n (IsLink (r ∷ free))

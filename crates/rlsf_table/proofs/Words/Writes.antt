@@ -3,7 +3,7 @@ use Rattle.std.proofs.Common.{◌≡◌, ℕ, ◌+◌, ◌%◌, ◌^◌, ◌<◌
 use Rattle.rlsf_base.specs.declared.memory.range.Range.{Range}
 use Rattle.rlsf_base.specs.Space.{Space, IsWord, word_at, with_word}
 use Rattle.rlsf_base.proofs.Words.Written.{bytes_in-with_word, length-with_word, word_at-other, word_at-same}
-use Rattle.rlsf_table.specs.FreeList.{IsLink, IsPlaced, Rewrites}
+use Rattle.rlsf_table.specs.FreeList.{IsLink, CanBeBlock, Rewrites}
 use Rattle.rlsf_machine.specs.Lists.{IsIn}
 
 pub Rewrites-refl : (m : Space) (at : ℕ → Type 0) → Rewrites m m at
@@ -73,11 +73,11 @@ Writes-none m n some addr word same none =
 
 -- ---- placed blocks
 
-pub IsPlaced-Rewrites : {m n : Space} {at : ℕ → Type 0} {f : Range} → Rewrites m n at → IsPlaced m f → IsPlaced n f
-IsPlaced-Rewrites h p = record { some = p.some; whole = p.whole; room = p.room; lies_in = (omega (arith, h.start, p.lies_in), omega (arith, h.start, h.length, p.lies_in)) }
+pub CanBeBlock-Rewrites : {m n : Space} {at : ℕ → Type 0} {f : Range} → Rewrites m n at → CanBeBlock m f → CanBeBlock n f
+CanBeBlock-Rewrites h p = record { some = p.some; whole = p.whole; room = p.room; lies_in = (omega (arith, h.start, p.lies_in), omega (arith, h.start, h.length, p.lies_in)) }
 
 -- the word at `block + i` of the block at `block`, in the memory or in another one of the same place and length; its address fits in a word
-module _ {m : Space} {f : Range} {block : ℕ} (i : ℕ) (within : i + 8 ≤ 32) (whole : i % 8 ≡ 0) (place : f.start ≡ block) (p : IsPlaced m f) where
+module _ {m : Space} {f : Range} {block : ℕ} (i : ℕ) (within : i + 8 ≤ 32) (whole : i % 8 ≡ 0) (place : f.start ≡ block) (p : CanBeBlock m f) where
   pub IsWord-at : (n : Space) → n.start ≡ m.start → length n.bytes ≡ length m.bytes → IsWord n (block + i)
   IsWord-at n start same = (omega (arith, p.whole), (omega (arith, p.lies_in), omega (arith, p.lies_in, p.room)))
 

@@ -4,19 +4,19 @@ use Rattle.rlsf_base.specs.declared.memory.range.Range.{Range}
 use Rattle.rlsf_base.specs.Space.{Space, word_at}
 use Rattle.rlsf_machine.specs.Lists.{IsIn}
 use Rattle.rlsf_machine.specs.WellFormed.{coverage, itself}
-use Rattle.rlsf_table.specs.FreeList.{Links, IsLink, IsPlaced, Rewrites}
+use Rattle.rlsf_table.specs.FreeList.{Links, IsLink, CanBeBlock, Rewrites}
 
 -- the free blocks from `head` on are those of a list, none of which overlap, each with its size word; and addresses fit in a word
 pub record IsFreeList (m : Space) (head : ℕ) (free : List Range) : Type 0 where
   pub links : Links m 0 free head
-  pub placed : (f : Range) → IsIn f free → IsPlaced m f
+  pub placed : (f : Range) → IsIn f free → CanBeBlock m f
   pub apart : (a : ℕ) → coverage itself free a ≤ 1
   pub sizes : (f : Range) → IsIn f free → word_at m f.start ≡ f.len
   pub addressable : m.start + length m.bytes < 2 ^ 64
 
 -- this is true of each list of the blocks from `head` on, and of a range at the address which can be a block beside them
 abbrev pub AtEachFront : Space → ℕ → ℕ → (Range → List Range → Type 0) → Type 0
-AtEachFront m head block P = (r : Range) (free : List Range) → r.start ≡ block → IsFreeList m head free → IsPlaced m r → ((a : ℕ) → coverage itself (r ∷ free) a ≤ 1) → P r free
+AtEachFront m head block P = (r : Range) (free : List Range) → r.start ≡ block → IsFreeList m head free → CanBeBlock m r → ((a : ℕ) → coverage itself (r ∷ free) a ≤ 1) → P r free
 
 -- this is true of each list that has a block at the address: of where it begins, that block, those before it and those behind it
 abbrev pub AtEachPlace : Space → ℕ → (ℕ → Range → List Range → List Range → Type 0) → Type 0

@@ -1,7 +1,7 @@
 use Rattle.std.proofs.Common.{arith, rules}
 use Rattle.rlsf_table.proofs.FreeLists.Counted.{IsFreeTable-counted}
-use Rattle.rlsf_blocks.proofs.Deallocate.Loaded.{IsMarked-loaded, IsOut-loaded, word_at-loaded}
-use Rattle.rlsf_blocks.proofs.Deallocate.Outs.{block_there, IsOut-none, IsOut-unlinked}
+use Rattle.rlsf_blocks.proofs.Deallocate.Loaded.{IsMarked-loaded, IsNextOut-loaded, word_at-loaded}
+use Rattle.rlsf_blocks.proofs.Deallocate.Outs.{block_there, IsNextOut-none, IsNextOut-unlinked}
 use Rattle.rlsf_blocks.proofs.free.take_if_free.Goals as goal
 
 pub unlink-requires : goal.unlink-requires
@@ -18,8 +18,8 @@ returns-then-size-eq0-clause-step g c = λ free list marked.
     let start = c.load_at-size.ensures.start in
     let bytes = c.load_at-size.ensures.bytes in
     let size = word_at-loaded m n start bytes c.args.block c.load_at-size.result c.load_at-size.ensures.word in
-    IsOut-loaded m n start bytes (IsOut-unlinked (IsFreeTable-counted m n start bytes list) (IsMarked-loaded m n start bytes marked) size c.if-size-eq0.true c.unlink.ensures.step)
+    IsNextOut-loaded m n start bytes (IsNextOut-unlinked (IsFreeTable-counted m n start bytes list) (IsMarked-loaded m n start bytes marked) size c.if-size-eq0.true c.unlink.ensures.step)
 
 pub returns-else-size-eq0-clause-step : goal.returns-else-size-eq0-clause-step
 returns-else-size-eq0-clause-step g c = λ free list marked.
-    IsOut-none list marked c.load_at-size.new.self c.load_at-size.ensures.start c.load_at-size.ensures.bytes c.load_at-size.ensures.word (omega (arith, c.if-size-eq0.false))
+    IsNextOut-none list marked c.load_at-size.new.self c.load_at-size.ensures.start c.load_at-size.ensures.bytes c.load_at-size.ensures.word (omega (arith, c.if-size-eq0.false))

@@ -1,6 +1,6 @@
 use Rattle.std.proofs.Common.{arith, rules}
 use Rattle.rlsf_table.proofs.FreeLists.Counted.{IsFreeTable-counted}
-use Rattle.rlsf_blocks.proofs.Deallocate.Loaded.{IsMarked-loaded, IsOut-loaded}
+use Rattle.rlsf_blocks.proofs.Deallocate.Loaded.{IsMarked-loaded, IsNextOut-loaded}
 use Rattle.rlsf_blocks.proofs.Deallocate.Marks.{IsMarked-previous, IsPreviousOut-none, previous_out}
 use Rattle.rlsf_blocks.proofs.Machine.FreeBlocks.{IsFreeTable-free}
 use Rattle.rlsf_blocks.proofs.Words.Apart.{used_in_memory}
@@ -35,7 +35,7 @@ overflow_sub-result g c =
     let start = c.load_at-previous.ensures.start in
     let bytes = c.load_at-previous.ensures.bytes in
     let marked = IsMarked-loaded m n start bytes (IsMarked-previous v u i at c.load_at-previous.ensures.word c.if-previous-eq0.false) in
-    let out = IsOut-loaded m n start bytes (c.take_if_free.ensures.step s.free (IsFreeTable-counted m n start bytes (IsFreeTable-free v)) marked) in
+    let out = IsNextOut-loaded m n start bytes (c.take_if_free.ensures.step s.free (IsFreeTable-counted m n start bytes (IsFreeTable-free v)) marked) in
     (previous_out v u i at c.load_at-previous.ensures.word c.if-previous-eq0.false out).0
 
 pub returns-then-previous-eq0-clause-step : goal.returns-then-previous-eq0-clause-step
@@ -49,5 +49,5 @@ returns-else-previous-eq0-clause-step g c = λ s u v i at.
     let start = c.load_at-previous.ensures.start in
     let bytes = c.load_at-previous.ensures.bytes in
     let marked = IsMarked-loaded m n start bytes (IsMarked-previous v u i at c.load_at-previous.ensures.word c.if-previous-eq0.false) in
-    let out = IsOut-loaded m n start bytes (c.take_if_free.ensures.step s.free (IsFreeTable-counted m n start bytes (IsFreeTable-free v)) marked) in
+    let out = IsNextOut-loaded m n start bytes (c.take_if_free.ensures.step s.free (IsFreeTable-counted m n start bytes (IsFreeTable-free v)) marked) in
     (previous_out v u i at c.load_at-previous.ensures.word c.if-previous-eq0.false out).1

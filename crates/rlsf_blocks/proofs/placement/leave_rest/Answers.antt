@@ -2,7 +2,7 @@ use Rattle.std.proofs.Common.{◌≡◌, ◌+◌, ◌-◌, List, arith, rules}
 use Rattle.rlsf_base.specs.declared.memory.range.Range.{Range}
 use Rattle.rlsf_table.proofs.Words.Writing.{wrote}
 use Rattle.rlsf_blocks.specs.Steps.Rest.{IsInnerRoom}
-use Rattle.rlsf_blocks.proofs.Allocate.Rests.{AreLeft, AreLeft-from, IsLeft-written, IsRoom-written}
+use Rattle.rlsf_blocks.proofs.Allocate.Rests.{AreLeft, AreLeft-from, IsFreeBlockBehind-written, IsRoom-written}
 use Rattle.rlsf_blocks.proofs.placement.leave_rest.Given as given
 use Rattle.rlsf_blocks.proofs.placement.leave_rest.Goals as goal
 use Rattle.rlsf_blocks.proofs.placement.leave_rest.Goals.{After-set_word_at-3}
@@ -27,4 +27,4 @@ link-requires g c =
 pub returns-clause-step : goal.returns-clause-step
 returns-clause-step g c = λ free r start len room.
     let writes = written g (goal.at.returns-clause-step g c).After-set_word_at-3 r room start len in
-    IsLeft-written r room writes (c.link.ensures.step r free start (omega (arith, len)) (IsRoom-written r room writes))
+    IsFreeBlockBehind-written r room writes (c.link.ensures.step r free start (omega (arith, len)) (IsRoom-written r room writes))

@@ -11,7 +11,7 @@ use Rattle.rlsf_blocks.proofs.Deallocate.Marks.{IsMarked-behind}
 use Rattle.rlsf_blocks.proofs.Deallocate.Releases.{end_computed}
 use Rattle.rlsf_blocks.proofs.Machine.Counted.{KeepsSpare-counted_first, StandsFor-counted}
 use Rattle.rlsf_table.proofs.Words.Writes.{Writes-none, Writes-some}
-use Rattle.rlsf_resize.proofs.Reallocate.Computed.{AreOut, IsBlock-from, IsWord-pad, LiesIn-moved, LiesIn-payload, moved_to, part, payload_within, room, SamePlace-occupied, sixteen-le, start-fits, total_is, total-fits, union_begins}
+use Rattle.rlsf_resize.proofs.Reallocate.Computed.{AreOut, IsUsedBlock-from, IsWord-pad, LiesIn-moved, LiesIn-payload, moved_to, part, payload_within, room, SamePlace-occupied, sixteen-le, start-fits, total_is, total-fits, union_begins}
 use Rattle.rlsf_blocks.proofs.Words.Apart.{used_in_memory}
 use Rattle.rlsf_table.proofs.Words.Writing.{wrote}
 use Rattle.rlsf_resize.proofs.Refused.{none_none, none_some}
@@ -48,7 +48,7 @@ pub place_before-requires-clause-used : goal.place_before-requires-clause-used
 place_before-requires-clause-used g c =
     let (s, u, v, used, short) = c.requires.used in
     let at = goal.at.place_before-requires-clause-used g c in
-    (g.row.FLLEN, g.row.SLLEN, c.args.table.now, s, u, loaded g at.After-load_at v, IsBlock-from used (ends g at.After-load_at v used))
+    (g.row.FLLEN, g.row.SLLEN, c.args.table.now, s, u, loaded g at.After-load_at v, IsUsedBlock-from used (ends g at.After-load_at v used))
 
 -- ---- what is counted
 
@@ -87,7 +87,7 @@ returns-in_err-moved-clause-moved g c = λ s u v used short. none_some _ c.from_
 pub returns-in_err-moved-clause-refused : goal.returns-in_err-moved-clause-refused
 returns-in_err-moved-clause-refused g c = λ s u v used short.
     let at = goal.at.returns-in_err-moved-clause-refused g c in
-    let is = IsBlock-from used (ends g at.After-load_at v used) in
+    let is = IsUsedBlock-from used (ends g at.After-load_at v used) in
     none_none {P = into_previous s u c.args.layout.size ≡ None} c.from_residual.result (c.in_err-moved.ensures.place g.row.FLLEN g.row.SLLEN c.args.table.now s u (loaded g at.After-load_at v) is)
 
 pub returns-in_err-moved-clause-unchanged : goal.returns-in_err-moved-clause-unchanged
@@ -155,7 +155,7 @@ outs g c {s} {u} v used short =
       used = used;
       is_end = end;
       short = short;
-      plan = c.in_ok-moved.ensures.place g.row.FLLEN g.row.SLLEN c.args.table.now s u read (IsBlock-from used end);
+      plan = c.in_ok-moved.ensures.place g.row.FLLEN g.row.SLLEN c.args.table.now s u read (IsUsedBlock-from used end);
       out = out;
       more = c.take_if_free-next.ensures.step (without (ends_at c.args.block) s.free) out.list (IsMarked-behind v0 u used.is_used used.start out _ end);
     }

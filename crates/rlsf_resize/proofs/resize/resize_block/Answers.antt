@@ -4,11 +4,11 @@ use Rattle.rlsf_base.specs.Range.{end_of, range_at}
 use Rattle.rlsf_machine.specs.Reallocate.{resized}
 use Rattle.rlsf_machine.specs.State.{State, Used}
 use Rattle.rlsf_blocks.specs.StandsFor.{contents, StandsFor}
-use Rattle.rlsf_blocks.specs.Steps.Join.{IsMarked, IsOut}
+use Rattle.rlsf_blocks.specs.Steps.Join.{IsMarked, IsNextOut}
 use Rattle.rlsf_resize.specs.Steps.Resize.{IsOccupied, IsUsedAt}
 use Rattle.rlsf_table.proofs.FreeLists.Counted.{IsFreeTable-counted}
 use Rattle.rlsf_blocks.proofs.Machine.FreeBlocks.{IsFreeTable-free}
-use Rattle.rlsf_resize.proofs.Reallocate.Computations.{end_is, IsMarked-loaded_end, IsOut-end, IsTaken-len, IsWord-size, reach_is, taken_computed}
+use Rattle.rlsf_resize.proofs.Reallocate.Computations.{end_is, IsMarked-loaded_end, IsNextOut-end, IsTaken-len, IsWord-size, reach_is, taken_computed}
 use Rattle.rlsf_resize.proofs.Reallocate.NextPlans.{kept_whole, no_plan, or_else-kept, or_else-stretched, stretched}
 use Rattle.rlsf_resize.proofs.Reallocate.Resized.{IsCarriedOut-kept, IsCarriedOut-stretched}
 use Rattle.rlsf_resize.proofs.Reallocate.Spans.{IsInnerRoom-span, reach, reach-le, span_in_memory, span_len, span_of, staying}
@@ -83,13 +83,13 @@ take_if_free-next-requires g c =
 -- and once it was taken out
 out : (g : given.Over) (c : After-take_if_free-next g) {s : State} (v : StandsFor g.row.FLLEN g.row.SLLEN (contents c.args.memory.now c.args.table.now) s) (u : Used)
     → IsUsedAt s u c.args.block c.args.payload c.args.layout.align
-    → IsOut g.row.FLLEN g.row.SLLEN c.args.memory.now c.take_if_free-next.new.memory c.take_if_free-next.new.table s.free (end_of u.block) c.take_if_free-next.result
+    → IsNextOut g.row.FLLEN g.row.SLLEN c.args.memory.now c.take_if_free-next.new.memory c.take_if_free-next.new.table s.free (end_of u.block) c.take_if_free-next.result
 out g c {s} v u at =
     let counts = c.free_length.ensures.counts in
     let start = counts.start ∙ c.load_at.ensures.start in
     let bytes = counts.bytes ∙ c.load_at.ensures.bytes in
     let list = IsFreeTable-counted c.args.memory.now c.free_length.new.memory start bytes (IsFreeTable-free v) in
-    IsOut-end v u at c.load_at.ensures.word start bytes (c.take_if_free-next.ensures.step s.free list (IsMarked-loaded_end v u at c.load_at.ensures.word start bytes))
+    IsNextOut-end v u at c.load_at.ensures.word start bytes (c.take_if_free-next.ensures.step s.free list (IsMarked-loaded_end v u at c.load_at.ensures.word start bytes))
 
 pub overflow_add-len-2 : goal.overflow_add-len-2
 overflow_add-len-2 g c =

@@ -2,7 +2,7 @@
 use Rattle.std.proofs.Common.{◌≡◌, ℕ, ◌+◌, List, ◌∷◌, ◌∙◌, length, ap, arith, inl, refl, subst, sym}
 use Rattle.rlsf_base.specs.Space.{Space, word_at}
 use Rattle.rlsf_base.specs.declared.memory.range.Range.{Range}
-use Rattle.rlsf_table.specs.FreeList.{IsPlaced}
+use Rattle.rlsf_table.specs.FreeList.{CanBeBlock}
 use Rattle.rlsf_table.specs.Steps.ClassList.{IsFirstOrOwn, IsFreeList}
 use Rattle.rlsf_table.proofs.FreeLists.Counted.{IsFreeList-counted, Rewrites-counted_first, word_at-counted}
 use Rattle.rlsf_table.proofs.FreeLists.Front.{Links-rest, rest_placed, Rewrites-rest}
@@ -17,7 +17,7 @@ load_at-next-requires-clause-place c = IsWord-at 16 (omega arith) refl c.require
 
 -- the block whose link is written is placed
 there : {m : Space} {newest next block at : ℕ} (r : Range) (after : List Range) → r.start ≡ block → IsFreeList m newest (r ∷ after) → next ≡ word_at m (block + 16) → IsFirstOrOwn next block at
-    → (f : Range) × (f.start ≡ at) × IsPlaced m f
+    → (f : Range) × (f.start ≡ at) × CanBeBlock m f
 there {m} {newest} {next} {at = at} r after place list is own =
     rest_placed m m newest next at r after list (is ∙ ap (λ a. word_at m (a + 16)) (sym place)) (subst (λ b. IsFirstOrOwn next b at) (sym place) own)
 
