@@ -5,7 +5,7 @@ ghost use Rattle.rlsf_base.specs.Addr.{at};
 ghost use Rattle.rlsf_flex.specs.StandsFor.{FlexStandsFor};
 ghost use Rattle.rlsf_global.specs.Locked.{heap_of};
 ghost use Rattle.rlsf_placement.specs.Pages.{MayOwe};
-ghost use Rattle.rlsf_global.specs.Steps.Moves.{IsMoved, StaysRefused};
+ghost use Rattle.rlsf_global.specs.Steps.Moves.{IsMoved, ResizesTo, StaysRefused};
 ghost use Rattle.rlsf_machine.specs.Allocate.{HasRoomFor};
 ghost use Rattle.rlsf_machine.specs.Callers.{align_at, bytes_at};
 ghost use Rattle.rlsf_machine.specs.Reallocate.{HasRoomToResize};
@@ -58,8 +58,7 @@ pub(crate) fn resize<Options: GlobalTlsfOptions>(
     requires sized { layout.size ≤ length (bytes_at flex.old.state.machine (at addr)) }
     requires aligned { wanted.align ≡ layout.align }
     requires stands { FlexStandsFor 64 64 terms_of MayOwe flex.old }
-    ensures step { IfSome result (λ to. (rows : List Row) → ReallocatesTo Options.ENABLE_REALLOCATION (heap_of flex.old rows) (at addr) layout wanted (Ok to)
-        (heap_of flex.new (put (to, wanted) (without (at addr) rows)))) }
+    ensures step { IfSome result (λ to. ResizesTo Options.ENABLE_REALLOCATION flex.old flex.new (at addr) layout wanted to) }
     ensures moved { IfSome result (λ to. IsMoved flex.old flex.new (at addr) wanted (at to)) }
     ensures none { IfNone result ((rows : List Row) → ReallocatesTo Options.ENABLE_REALLOCATION (heap_of flex.old rows) (at addr) layout wanted (Err NoRoom)
         (heap_of flex.new rows)) }

@@ -1,7 +1,7 @@
 -- Handles: numbers that count up, each with a value.
-use Rattle.std.specs.Prelude.{ℕ, ◌<◌, List, map}
+use Rattle.std.specs.Prelude.{ℕ, ◌+◌, ◌<◌, ◌≤◌, List, [], ◌∷◌, ◌++◌, length, map, IsSomeAnd, nat_eq}
 use Rattle.std.specs.List.{AllByRecursion}
-use Rattle.std.specs.Map.{values_of}
+use Rattle.std.specs.Map.{lookup, set_value, values_of}
 use Rattle.rlsf_base.specs.Addr.{at}
 use Rattle.rlsf_base.specs.declared.memory.range.Range.{Range}
 use Rattle.rlsf_base.specs.Space.{range_of}
@@ -50,6 +50,18 @@ pub record Handled : Type 0 where
 -- the same by its parts
 abbrev pub handled : List (ℕ × List ℕ) → ℕ → ℕ → Range → State → Handled
 handled lists next align memory state = record { lists = lists; next = next; align = align; memory = memory; state = state }
+
+-- with one more list of bytes, under a new handle, and another state of the allocator
+abbrev pub with_list : Handled → ℕ → List ℕ → State → Handled
+with_list h handle bytes state = record h { lists = h.lists ++ (handle, bytes) ∷ []; next = handle + 1; state = state }
+
+-- with other bytes under a handle, and another state of the allocator
+abbrev pub with_bytes_of : Handled → ℕ → List ℕ → State → Handled
+with_bytes_of h handle bytes state = record h { lists = set_value (nat_eq handle) h.lists bytes; state = state }
+
+-- with so many more bytes the list of a handle is no longer than a size
+abbrev pub IsShortWithMore : Handled → ℕ → ℕ → ℕ → Type 0
+IsShortWithMore h handle more size = IsSomeAnd (lookup (nat_eq handle) h.lists) (λ old. length old + more ≤ size)
 
 -- a store with handles, as callers see it
 abbrev pub handled_by : StoreContents → ℕ → HandleRows → Handled

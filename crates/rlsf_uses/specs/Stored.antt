@@ -1,5 +1,6 @@
 -- Lists of bytes that an owner keeps in the payloads of one allocator.
 use Rattle.std.specs.Prelude.{◌≡◌, ◌≢◌, ℕ, ◌+◌, ◌<◌, ◌≤◌, List, [], ◌∷◌, ◌++◌, length, take, Some, count_by, map, ⊤}
+use Rattle.std.specs.List.{splice}
 use Rattle.rlsf_base.specs.declared.memory.range.Range.{Range}
 use Rattle.rlsf_base.specs.Range.{end_of, range_at}
 use Rattle.rlsf_base.specs.Sizes.{max_pool_size, pool_size_to_contain_allocation}
@@ -104,6 +105,16 @@ pub record HasAmong (v w : StoreContents) (before after : List Place) (p : Place
   pub front : lists_at w before ≡ lists_at v before
   pub here : bytes_at_place w.heap.memory p ≡ bytes
   pub back : lists_at w after ≡ lists_at v after
+
+-- bytes were written over those that are kept at an address, from an offset on
+abbrev pub WritesOver : StoreContents → StoreContents → ℕ → ℕ → List ℕ → Type 0
+WritesOver v w addr offset bytes = (before after : List Place) (p : Place) → HasPlaces v (before ++ p ∷ after) → p.addr ≡ addr → offset + length bytes ≤ p.len
+    → HasAmong v w before after p (splice (bytes_at_place v.heap.memory p) offset (offset + length bytes) bytes)
+
+-- more bytes are kept behind the `len` ones at an address, and all of them at the address `to`
+abbrev pub AppendsAt : StoreContents → StoreContents → ℕ → ℕ → List ℕ → ℕ → Type 0
+AppendsAt v w addr len more to = (before after : List Place) (p : Place) → HasPlaces v (before ++ p ∷ after) → p.addr ≡ addr → p.align ≡ 1 → p.len ≡ len
+    → HasAmong v w before after (place to 1 (len + length more)) (bytes_at_place v.heap.memory p ++ more)
 
 -- how many of the blocks are used
 abbrev pub used_count : List Block → ℕ

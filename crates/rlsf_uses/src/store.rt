@@ -13,7 +13,7 @@ ghost use Rattle.rlsf_base.specs.Sizes.{request_size};
 ghost use Rattle.rlsf_base.specs.declared.memory.range.Range as declared_range;
 ghost use Rattle.rlsf_machine.specs.Uniform.{IsUniform};
 ghost use Rattle.rlsf_uses.specs.Tiles.{HasTileFor, KeepsUniform};
-ghost use Rattle.rlsf_uses.specs.Stored.{FitsPool, HasAmong, HasPlaces, HasSame, KeepsAll, Place, bytes_at_place, place, used_count};
+ghost use Rattle.rlsf_uses.specs.Stored.{AppendsAt, FitsPool, HasAmong, HasPlaces, HasSame, KeepsAll, Place, WritesOver, place, used_count};
 
 use rlsf::{Addr, BlockInfo, Blocks, Layout, Memory, Range, Tlsf};
 use std::marker::Model;
@@ -105,8 +105,7 @@ impl Store {
     /// Writes bytes over those that are stored at an address, from an offset on.
     pub(crate) fn write(&mut self, addr: Addr, offset: usize, bytes: &[u8])
         requires { (before after : List Place) × (p : Place) × HasPlaces self.old (before ++ p ∷ after) × (p.addr ≡ at addr) × (offset + length bytes.now ≤ p.len) }
-        ensures stored { (before after : List Place) (p : Place) → HasPlaces self.old (before ++ p ∷ after) → p.addr ≡ at addr → offset + length bytes.now ≤ p.len
-            → HasAmong self.old self.new before after p (splice (bytes_at_place self.old.heap.memory p) offset (offset + length bytes.now) bytes.now) }
+        ensures stored { WritesOver self.old self.new (at addr) offset bytes.now }
         ensures uniform { (places : List Place) (len : ℕ) → HasPlaces self.old places → KeepsUniform self.old.heap.state self.new.heap.state len }
         ensures place { SamePlace self.old.heap.memory self.new.heap.memory }
         ensures touches { self.new.heap.memory.touches ≤ self.old.heap.memory.touches + 3 }
@@ -118,8 +117,7 @@ impl Store {
     /// `None` without room, and then nothing changes.
     pub(crate) fn append(&mut self, addr: Addr, len: usize, more: &[u8]) -> Option<Addr>
         requires { (before after : List Place) × (p : Place) × HasPlaces self.old (before ++ p ∷ after) × (p.addr ≡ at addr) × (p.align ≡ 1) × (p.len ≡ len) }
-        ensures stored { IfSome result (λ to. (before after : List Place) (p : Place) → HasPlaces self.old (before ++ p ∷ after) → p.addr ≡ at addr → p.align ≡ 1 → p.len ≡ len
-            → HasAmong self.old self.new before after (place (at to) 1 (len + length more.now)) (bytes_at_place self.old.heap.memory p ++ more.now)) }
+        ensures stored { IfSome result (λ to. AppendsAt self.old self.new (at addr) len more.now (at to)) }
         ensures refused { IfNone result (KeepsAll self.old self.new) }
         ensures enough { (places : List Place) (live size : ℕ) → HasBudgetFor self.old places live size 1 → len + length more.now ≤ size → IsSome result }
         ensures place { SamePlace self.old.heap.memory self.new.heap.memory }
