@@ -5,9 +5,10 @@ use Rattle.rlsf_base.specs.Space.{SamePlace}
 use Rattle.rlsf_blocks.specs.Spare.{KeepsSpare}
 use Rattle.rlsf_tlsf.specs.Allocator.{Allocator, Stands}
 use Rattle.rlsf_flex.specs.declared.pool.Pool.{Pool}
+use Rattle.rlsf_flex.specs.declared.ranges.GhostRanges.{GhostRanges}
 use Rattle.rlsf_flex.specs.Steps.Outside.{KeepsOutsideNow}
 use Rattle.rlsf_flex.specs.SpareBytes.{KeepsSpareButFooter}
-use Rattle.rlsf_flex.specs.StandsFor.{FlexContents, FlexStandsFor}
+use Rattle.rlsf_flex.specs.StandsFor.{FlexContents, FlexStandsFor, flex_contents}
 use Rattle.rlsf_machine.specs.Answers.{MayAnswer, MayAnswerAll}
 use Rattle.rlsf_machine.specs.Callers.{align_at, bytes_at}
 use Rattle.rlsf_machine.specs.FlexState.{FlexState, KeptPool}
@@ -17,6 +18,10 @@ use Rattle.rlsf_machine.specs.Reallocate.{MovesAway}
 use Rattle.rlsf_machine.specs.State.{Used, Holds}
 use Rattle.rlsf_machine.specs.Terms.{Terms}
 use Rattle.rlsf_machine.specs.PoolLength.{HasPool}
+
+-- the allocator over a source, by its parts
+abbrev pub flex_over : {S : Type 0} → Allocator → Option Pool → S → GhostRanges → FlexContents S
+flex_over t k source owed = flex_contents t k source owed.ranges
 
 -- what a range that was asked for came to
 abbrev pub outcome_of_range : Option Range → Outcome
@@ -63,20 +68,16 @@ pub record Took {S : Type 0} (fllen sllen : ℕ) (terms : S → Terms) (owes : S
 
 module _ {S : Type 0} (fllen sllen : ℕ) (terms : S → Terms) (owes : S → List Range → Type 0) (leads : S → Note → S → Type 0) (before after : FlexContents S) where
   -- a range was asked for, if there is a question, and what came was taken in
-  pub record AskedRange (e : ℕ) (more : Bool) : Type 0 where
-    pub answer : Option Range
+  pub record AskedRange (e : ℕ) (answer : Option Range) : Type 0 where
     pub notes : LeadsBy leads before.source (range_note (range_length (terms before.source) e) answer) after.source
     pub asked : range_length (terms before.source) e ≡ None → answer ≡ None
     pub took : Took fllen sllen terms owes before after e (outcome_of_range answer)
-    pub came : more ≡ is_more (outcome_of_range answer)
 
   -- growth to n bytes was asked for, if there is a question, and what came was taken in
-  pub record AskedGrowth (k : KeptPool) (n e : ℕ) (more : Bool) : Type 0 where
-    pub answer : Option ℕ
+  pub record AskedGrowth (k : KeptPool) (n e : ℕ) (answer : Option ℕ) : Type 0 where
     pub notes : LeadsBy leads before.source (growth_note (growth_question (terms before.source) k n) answer) after.source
     pub asked : growth_question (terms before.source) k n ≡ None → answer ≡ None
     pub took : Took fllen sllen terms owes before after e (outcome_of_growth answer)
-    pub came : more ≡ is_more (outcome_of_growth answer)
 
   -- the source was asked for e bytes more
   pub record Extended (e : ℕ) (more : Bool) : Type 0 where
