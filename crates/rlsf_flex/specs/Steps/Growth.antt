@@ -5,10 +5,9 @@ use Rattle.rlsf_base.specs.Space.{SamePlace}
 use Rattle.rlsf_blocks.specs.Spare.{KeepsSpare}
 use Rattle.rlsf_tlsf.specs.Allocator.{Allocator, Stands}
 use Rattle.rlsf_flex.specs.declared.pool.Pool.{Pool}
-use Rattle.rlsf_flex.specs.declared.ranges.GhostRanges.{GhostRanges}
 use Rattle.rlsf_flex.specs.Steps.Outside.{KeepsOutsideNow}
 use Rattle.rlsf_flex.specs.SpareBytes.{KeepsSpareButFooter}
-use Rattle.rlsf_flex.specs.StandsFor.{FlexContents, FlexStandsFor, flex_contents}
+use Rattle.rlsf_flex.specs.StandsFor.{FlexContents, FlexStandsFor}
 use Rattle.rlsf_machine.specs.Answers.{MayAnswer, MayAnswerAll}
 use Rattle.rlsf_machine.specs.Callers.{align_at, bytes_at}
 use Rattle.rlsf_machine.specs.FlexState.{FlexState, KeptPool}
@@ -18,10 +17,6 @@ use Rattle.rlsf_machine.specs.Reallocate.{MovesAway}
 use Rattle.rlsf_machine.specs.State.{Used, Holds}
 use Rattle.rlsf_machine.specs.Terms.{Terms}
 use Rattle.rlsf_machine.specs.PoolLength.{HasPool}
-
--- the allocator over a source, by its parts
-abbrev pub flex_over : {S : Type 0} → Allocator → Option Pool → S → GhostRanges → FlexContents S
-flex_over t k source owed = flex_contents t k source owed.ranges
 
 -- what a range that was asked for came to
 abbrev pub outcome_of_range : Option Range → Outcome

@@ -3,7 +3,8 @@ use Rattle.rlsf_base.specs.Space.{IsWord, range_of, word_at}
 use Rattle.rlsf_tlsf.specs.Allocator.{Allocator, IsInState}
 use Rattle.rlsf_flex.specs.Footers.{first_len, first_start, footer_of, Footers}
 use Rattle.rlsf_flex.specs.StandsFor.{kept_pool}
-use Rattle.rlsf_flex.specs.Steps.Growth.{AskedGrowth, flex_over, KeepsPayloads}
+use Rattle.rlsf_flex.specs.Steps.Growth.{AskedGrowth, KeepsPayloads}
+use Rattle.rlsf_flex.specs.Steps.Parts.{flex_over}
 use Rattle.rlsf_machine.specs.Growth.{behind, longer}
 use Rattle.rlsf_machine.specs.Insert.{Appends, IsNext}
 use Rattle.rlsf_machine.specs.Lists.{IsIn}

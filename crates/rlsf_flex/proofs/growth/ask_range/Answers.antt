@@ -8,7 +8,8 @@ use Rattle.rlsf_base.specs.Space.{range_of}
 use Rattle.rlsf_blocks.specs.Spare.{KeepsSpare}
 use Rattle.rlsf_tlsf.specs.Allocator.{Allocator, IsInState}
 use Rattle.rlsf_flex.specs.StandsFor.{kept_of, kept_pool}
-use Rattle.rlsf_flex.specs.Steps.Growth.{AskedRange, flex_over, kept_len, kept_start, KeepsPayloads}
+use Rattle.rlsf_flex.specs.Steps.Growth.{AskedRange, kept_len, kept_start, KeepsPayloads}
+use Rattle.rlsf_flex.specs.Steps.Parts.{flex_over}
 use Rattle.rlsf_machine.specs.Growth.{keeps}
 use Rattle.rlsf_machine.specs.Insert.{Inserts}
 use Rattle.rlsf_machine.proofs.Untouched.{parts_of-IsFresh}
