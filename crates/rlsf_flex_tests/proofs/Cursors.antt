@@ -14,8 +14,8 @@ pub positive : (n : ℕ) → IsPowerOfTwo n → 0 < n
 positive = IsPowerOfTwo-positive
 
 -- the source with its cursor at another address
-abbrev pub moved : Cursor → ℕ → Cursor
-moved c at = record { terms = c.terms; at = at }
+abbrev pub moved_to : Cursor → ℕ → Cursor
+moved_to c at = record { terms = c.terms; at = at }
 
 -- what may be outstanding lies in the space before the cursor, and doesn't overlap
 lie_apart : (c : Cursor) {owed : List Range} → MayOwe c owed → LieApart c.terms.space.start c.at owed
@@ -27,23 +27,23 @@ may_owe c h = record { start = h.low; end = h.high; disjoint = h.disjoint }
 
 -- a range is given that begins at the cursor or behind it, which moves to its end
 pub given_range : (c : Cursor) (min_size start len : ℕ) → IsCursor c → c.at ≤ start → start % c.terms.min_align ≡ 0 → min_size ≤ len → start + len ≤ end_of c.terms.space → (owed : List Range) → MayOwe c owed
-    → IsGiven c.terms owed min_size (range_at start len) × MayOwe (moved c (start + len)) (range_at start len ∷ owed)
+    → IsGiven c.terms owed min_size (range_at start len) × MayOwe (moved_to c (start + len)) (range_at start len ∷ owed)
 given_range c min_size start len is behind_cursor aligned long fits owed may =
     let lie = lie_apart c may in
     (
       record { lies_in = (omega (arith, is.after_start), fits); apart = λ a low high. LieApart-above lie a (omega (arith, low, behind_cursor)); long = long; power = is.power; aligned = aligned },
-      may_owe (moved c (start + len)) (LieApart-more (range_at start len) lie is.after_start behind_cursor),
+      may_owe (moved_to c (start + len)) (LieApart-more (range_at start len) lie is.after_start behind_cursor),
     )
 
 -- the range that ends at the cursor grows, and the cursor moves to its end
 pub grown_range : (c : Cursor) (r : Range) (min_new_len len : ℕ) → IsCursor c → end_of r ≡ c.at → min_new_len ≤ len → r.len ≤ min_new_len → r.start + len ≤ end_of c.terms.space → (xs ys : List Range) → MayOwe c (xs ++ r ∷ ys)
-    → IsGrown c.terms (xs ++ ys) r min_new_len len × MayOwe (moved c (r.start + len)) (xs ++ with_len r len ∷ ys)
+    → IsGrown c.terms (xs ++ ys) r min_new_len len × MayOwe (moved_to c (r.start + len)) (xs ++ with_len r len ∷ ys)
 grown_range c r min_new_len len is last long longer fits xs ys may =
     let lie = lie_apart c may in
     let more : r.len ≤ len = omega (arith, longer, long) in
     (
       record { lies_in = (may.start r (IsIn-append_right r xs (r ∷ ys) (inl refl)), fits); apart = IsClear-grown r len xs ys last more lie; long = long },
-      may_owe (moved c (r.start + len)) (LieApart-grown r len xs ys last more lie),
+      may_owe (moved_to c (r.start + len)) (LieApart-grown r len xs ys last more lie),
     )
 
 -- a range goes back

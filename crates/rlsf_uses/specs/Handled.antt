@@ -6,7 +6,7 @@ use Rattle.rlsf_base.specs.Addr.{at}
 use Rattle.rlsf_base.specs.declared.memory.range.Range.{Range}
 use Rattle.rlsf_base.specs.Space.{range_of}
 use Rattle.rlsf_machine.specs.State.{State}
-use Rattle.rlsf_uses.specs.Stored.{StoreContents, HasPlaces, Place, bytes_at_place}
+use Rattle.rlsf_uses.specs.Stored.{StoreContents, KeepsAt, Place, bytes_at_place}
 use Rattle.rlsf_uses.specs.declared.handles.Spot.{Spot}
 
 -- the handles with where their bytes are stored, in the order of the handles, and the number that the next one has
@@ -36,7 +36,7 @@ places_in align rows = map (place_at align) (values_of rows)
 
 -- the store keeps a list of bytes for each handle, where the rows say, and nothing else
 abbrev pub IsHandled : StoreContents → ℕ → List (ℕ × Spot) → Type 0
-IsHandled v align rows = HasPlaces v (places_in align rows)
+IsHandled v align rows = KeepsAt v (places_in align rows)
 
 -- lists of bytes by their handles, in the order of the handles; the number that the next handle has; the alignment and the
 -- memory of their payloads; and the state of their allocator

@@ -15,7 +15,7 @@ ghost use Rattle.rlsf_base.specs.declared.memory.range.Range as declared_range;
 ghost use Rattle.rlsf_machine.specs.Insert.{aligned_part};
 ghost use Rattle.rlsf_machine.specs.Uniform.{IsUniform};
 ghost use Rattle.rlsf_uses.specs.Tiles.{HasTileFor, KeepsUniform};
-ghost use Rattle.rlsf_uses.specs.Stored.{FitsPool, HasPlaces, HasSame, Place, used_count};
+ghost use Rattle.rlsf_uses.specs.Stored.{FitsPool, KeepsAt, HasSame, Place, used_count};
 ghost use Rattle.rlsf_uses.specs.declared.objects.TakeError.TheVariants.{NoRoom};
 ghost use Rattle.rlsf_uses.specs.declared.strings.StringError.TheVariants as string_error;
 
@@ -204,11 +204,11 @@ fn keep(
     spot: Spot,
     align: usize,
 ) -> Result<usize, AllocError>
-    requires { (before : List Place) × (p : Place) × HasPlaces store.old (before ++ p ∷ []) × (p.addr ≡ at spot.addr) × (p.align ≡ align) }
+    requires { (before : List Place) × (p : Place) × KeepsAt store.old (before ++ p ∷ []) × (p.addr ≡ at spot.addr) × (p.align ≡ align) }
     ensures kept { IfOk result (λ handle. (store.new ≡ store.old) × (handle ≡ handles.old.next)
         × (handles.new ≡ record { rows = handles.old.rows ++ (handle, spot) ∷ []; next = handle + 1 })) }
     ensures new { IfOk result (λ handle. lookup (nat_eq handle) handles.old.rows ≡ None) }
-    ensures given_back { OnErr result ((before : List Place) (p : Place) → HasPlaces store.old (before ++ p ∷ [])
+    ensures given_back { OnErr result ((before : List Place) (p : Place) → KeepsAt store.old (before ++ p ∷ [])
         → p.addr ≡ at spot.addr → p.align ≡ align → HasSame store.old store.new (before ++ [])) }
     ensures refused { OnErr result (handles.new ≡ handles.old) }
     ensures uniform { (len : ℕ) → KeepsUniform store.old.heap.state store.new.heap.state len }
