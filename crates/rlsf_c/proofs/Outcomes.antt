@@ -16,11 +16,11 @@ use Rattle.rlsf_machine.specs.NoMove.{ReallocatesWithoutMove}
 use Rattle.rlsf_machine.specs.Reallocate.{Keeps, Reallocates}
 use Rattle.rlsf_machine.specs.State.{State, empty}
 use Rattle.rlsf_tlsf.specs.Allocator.{Allocator, Steps}
-use Rattle.rlsf_checked.specs.Answers.{IsRefusedBy, append_answer, fits, if_in_range, if_live, insert_answer, answered_addr as placed_by, size_refusal}
+use Rattle.rlsf_checked.specs.Answers.{IsRefusedBy, append_answer, fits, if_in_range, if_live, insert_answer, addr_in as placed_by, size_refusal}
 use Rattle.rlsf_checked.specs.Checked.{Checked}
 use Rattle.rlsf_checked.specs.declared.error.CheckedError.{CheckedError}
 use Rattle.rlsf_checked.specs.declared.error.CheckedError.TheVariants.{InvalidClasses, OutOfMemory, UnknownAddress, OutOfRange, OutsideMemory, NotBehind, NotNext, TooShort, NoLayout, NoRoom}
-use Rattle.rlsf_c.specs.Answers.{answer_of, code_of, number_of, place_of, answered_addr, refused_by}
+use Rattle.rlsf_c.specs.Answers.{answer_of, code_of, number_of, place_of, addr_in, refused_by}
 use Rattle.rlsf_c.specs.Calls.{Allocates, Appends, Frees, Inserts, IsKeptBut, IsResized, IsToldBy, Reads, Resizes, ResizesThere, Tells, Writes, reach}
 use Rattle.rlsf_c.specs.Seen.{Seen, nothing, seen_in}
 
@@ -40,22 +40,22 @@ number_of-some NoLayout e = omega (arith, e)
 number_of-some NoRoom e = omega (arith, e)
 
 -- an error places nothing
-pub answered_addr-refused : (e : CheckedError) → answered_addr (refused_by e) ≡ None
-answered_addr-refused InvalidClasses = refl
-answered_addr-refused OutOfMemory = refl
-answered_addr-refused UnknownAddress = refl
-answered_addr-refused OutOfRange = refl
-answered_addr-refused OutsideMemory = refl
-answered_addr-refused NotBehind = refl
-answered_addr-refused NotNext = refl
-answered_addr-refused TooShort = refl
-answered_addr-refused NoLayout = refl
-answered_addr-refused NoRoom = refl
+pub addr_in-refused : (e : CheckedError) → addr_in (refused_by e) ≡ None
+addr_in-refused InvalidClasses = refl
+addr_in-refused OutOfMemory = refl
+addr_in-refused UnknownAddress = refl
+addr_in-refused OutOfRange = refl
+addr_in-refused OutsideMemory = refl
+addr_in-refused NotBehind = refl
+addr_in-refused NotNext = refl
+addr_in-refused TooShort = refl
+addr_in-refused NoLayout = refl
+addr_in-refused NoRoom = refl
 
 -- what is placed is what the answer says
-pub answered_addr-same : (r : Result NonZeroUsize CheckedError) → placed_by r ≡ answered_addr (place_of r)
-answered_addr-same (Ok addr) = refl
-answered_addr-same (Err e) = sym (answered_addr-refused e)
+pub addr_in-same : (r : Result NonZeroUsize CheckedError) → placed_by r ≡ addr_in (place_of r)
+addr_in-same (Ok addr) = refl
+addr_in-same (Err e) = sym (addr_in-refused e)
 
 -- ---- what is seen
 
@@ -223,7 +223,7 @@ module _ (sllen : ℕ) (old new : Checked) (addr size : ℕ) (pool : new.pool �
       → OnErr r (new.heap.state ≡ old.heap.state) → Resizes (seen_in sllen old) addr size (place_of r) (seen_in sllen new)
   resized r refused step live sized few kept fresh left aligns bytes same = record {
     told = told_by (size_refusal (align_at old.heap.state addr) size) r refused;
-    step = λ none. subst (λ o. Reallocates sllen old.heap.state addr size o new.heap.state) (answered_addr-same r) (step none);
+    step = λ none. subst (λ o. Reallocates sllen old.heap.state addr size o new.heap.state) (addr_in-same r) (step none);
     resized = moved r live sized few kept fresh left aligns bytes;
     same = same_placed r same;
   }
@@ -257,7 +257,7 @@ module _ (sllen : ℕ) (old new : Checked) (addr size : ℕ) (pool : new.pool �
       → OnErr r (new.heap.state ≡ old.heap.state) → ResizesThere (seen_in sllen old) addr size (place_of r) (seen_in sllen new)
   resized_there r refused step there sized few kept aligns bytes same = record {
     told = told_by (size_refusal (align_at old.heap.state addr) size) r refused;
-    step = λ none. subst (λ o. ReallocatesWithoutMove old.heap.state addr size o new.heap.state) (answered_addr-same r) (step none);
+    step = λ none. subst (λ o. ReallocatesWithoutMove old.heap.state addr size o new.heap.state) (addr_in-same r) (step none);
     there = stays r there;
     resized = stayed r sized few kept;
     same = same_placed r same;

@@ -42,9 +42,9 @@ IsRefusedBy (Some e) result = result ≡ Err e
 IsRefusedBy None result = IfErr result (λ e. e ≡ NoRoom)
 
 -- the address that is answered, if there is one
-abbrev pub answered_addr : Result NonZeroUsize CheckedError → Option ℕ
-answered_addr (Ok addr) = Some (at addr)
-answered_addr (Err e) = None
+abbrev pub addr_in : Result NonZeroUsize CheckedError → Option ℕ
+addr_in (Ok addr) = Some (at addr)
+addr_in (Err e) = None
 
 -- the number that is answered, if there is one
 abbrev pub taken : Result ℕ CheckedError → Option ℕ

@@ -106,10 +106,14 @@ pub record HasAmong (v w : StoreContents) (before after : List Place) (p : Place
   pub here : bytes_at_place w.heap.memory p ≡ bytes
   pub back : lists_at w after ≡ lists_at v after
 
+-- bytes with others written over them, from an offset on
+abbrev pub with_bytes_over : List ℕ → ℕ → List ℕ → List ℕ
+with_bytes_over old offset bytes = splice old offset (offset + length bytes) bytes
+
 -- bytes were written over those that are kept at an address, from an offset on
 abbrev pub WritesOver : StoreContents → StoreContents → ℕ → ℕ → List ℕ → Type 0
 WritesOver v w addr offset bytes = (before after : List Place) (p : Place) → KeepsAt v (before ++ p ∷ after) → p.addr ≡ addr → offset + length bytes ≤ p.len
-    → HasAmong v w before after p (splice (bytes_at_place v.heap.memory p) offset (offset + length bytes) bytes)
+    → HasAmong v w before after p (with_bytes_over (bytes_at_place v.heap.memory p) offset bytes)
 
 -- more bytes are kept behind the `len` ones at an address, and all of them at the address `to`
 abbrev pub AppendsAt : StoreContents → StoreContents → ℕ → ℕ → List ℕ → ℕ → Type 0

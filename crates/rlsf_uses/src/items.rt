@@ -1,7 +1,6 @@
 //! Lists of bytes by handle, each in a payload of one store: what the pool of objects and the strings share.
 
 ghost use Rattle.std.specs.Prelude.{◌≡◌, ◌≤◌, ◌+◌, ◌↔◌, ℕ, [], ◌∷◌, ◌++◌, List, None, Some, IfOk, OnOk, OnErr, IsErr, IsErrOf, IsSomeAnd, length, nat_eq, replicate};
-ghost use Rattle.std.specs.List.{splice};
 ghost use Rattle.std.specs.Map.{lookup, remove_entry};
 ghost use Rattle.rlsf_base.specs.Addr.{at};
 ghost use Rattle.rlsf_base.specs.Space.{SamePlace, range_of};
@@ -15,7 +14,7 @@ ghost use Rattle.rlsf_base.specs.declared.memory.range.Range as declared_range;
 ghost use Rattle.rlsf_machine.specs.Insert.{aligned_part};
 ghost use Rattle.rlsf_machine.specs.Uniform.{IsUniform};
 ghost use Rattle.rlsf_uses.specs.Tiles.{HasTileFor, KeepsUniform};
-ghost use Rattle.rlsf_uses.specs.Stored.{FitsPool, KeepsAt, HasSame, Place, used_count};
+ghost use Rattle.rlsf_uses.specs.Stored.{FitsPool, KeepsAt, HasSame, Place, used_count, with_bytes_over};
 ghost use Rattle.rlsf_uses.specs.declared.objects.TakeError.TheVariants.{NoRoom};
 ghost use Rattle.rlsf_uses.specs.declared.strings.StringError.TheVariants as string_error;
 
@@ -136,7 +135,7 @@ impl Items {
     ) -> Result<(), SetError>
         ensures answer { result ≡ set_answer (lookup (nat_eq handle) self.old.lists) (offset + length bytes.now) }
         ensures written { OnOk result (IsSomeAnd (lookup (nat_eq handle) self.old.lists) (λ old.
-            self.new ≡ with_bytes_of self.old handle (splice old offset (offset + length bytes.now) bytes.now) self.new.state)) }
+            self.new ≡ with_bytes_of self.old handle (with_bytes_over old offset bytes.now) self.new.state)) }
         ensures uniform { (len : ℕ) → KeepsUniform self.old.state self.new.state len }
         ensures refused { OnErr result (self.new ≡ self.old) }
     {
