@@ -16,7 +16,7 @@ use Rattle.rlsf_machine.specs.NoMove.{ReallocatesWithoutMove}
 use Rattle.rlsf_machine.specs.Reallocate.{Keeps, Reallocates}
 use Rattle.rlsf_machine.specs.State.{State, empty}
 use Rattle.rlsf_tlsf.specs.Allocator.{Allocator, Steps}
-use Rattle.rlsf_checked.specs.Answers.{IsRefusedBy, append_answer, fits, if_in_range, if_live, insert_answer, addr_in as placed_by, size_refusal}
+use Rattle.rlsf_checked.specs.Answers.{IsRefusedBy, append_answer, fits, if_in_range, if_live, insert_answer, addr_in as addr_in_result, size_refusal}
 use Rattle.rlsf_checked.specs.Checked.{Checked}
 use Rattle.rlsf_checked.specs.declared.error.CheckedError.{CheckedError}
 use Rattle.rlsf_checked.specs.declared.error.CheckedError.TheVariants.{InvalidClasses, OutOfMemory, UnknownAddress, OutOfRange, OutsideMemory, NotBehind, NotNext, TooShort, NoLayout, NoRoom}
@@ -53,7 +53,7 @@ addr_in-refused NoLayout = refl
 addr_in-refused NoRoom = refl
 
 -- what is placed is what the answer says
-pub addr_in-same : (r : Result NonZeroUsize CheckedError) → placed_by r ≡ addr_in (place_of r)
+pub addr_in-same : (r : Result NonZeroUsize CheckedError) → addr_in_result r ≡ addr_in (place_of r)
 addr_in-same (Ok addr) = refl
 addr_in-same (Err e) = sym (addr_in-refused e)
 
@@ -143,7 +143,7 @@ none_appended = record {
 -- ---- payloads that are new
 
 module _ (sllen : ℕ) (old new : Checked) (size align : ℕ) (layout : IsLayout size align) (pool : new.pool ≡ old.pool) (place : SamePlace old.heap.memory new.heap.memory) where
-  pub allocated : (r : Result NonZeroUsize CheckedError) → IfErr r (λ e. e ≡ NoRoom) → machine.Allocates sllen old.heap.state size align (placed_by r) new.heap.state
+  pub allocated : (r : Result NonZeroUsize CheckedError) → IfErr r (λ e. e ≡ NoRoom) → machine.Allocates sllen old.heap.state size align (addr_in_result r) new.heap.state
       → IfOk r (λ addr. align_at new.heap.state (at addr) ≡ Some align) → IfOk r (λ addr. size ≤ length (bytes_at new.heap.state (at addr)))
       → IfOk r (λ addr. length (bytes_at new.heap.state (at addr)) < size + 32) → IfOk r (λ addr. align_at old.heap.state (at addr) ≡ None)
       → IfOk r (λ addr. (a : ℕ) → a ≢ at addr → align_at new.heap.state a ≡ align_at old.heap.state a)
@@ -214,7 +214,7 @@ module _ (sllen : ℕ) (old new : Checked) (addr size : ℕ) (pool : new.pool �
   same_placed (Err e) same some = same_seen sllen old new same pool place
 
   pub resized : (r : Result NonZeroUsize CheckedError) → IsRefusedBy (size_refusal (align_at old.heap.state addr) size) r
-      → (size_refusal (align_at old.heap.state addr) size ≡ None → Reallocates sllen old.heap.state addr size (placed_by r) new.heap.state)
+      → (size_refusal (align_at old.heap.state addr) size ≡ None → Reallocates sllen old.heap.state addr size (addr_in_result r) new.heap.state)
       → IfOk r (λ to. align_at new.heap.state (at to) ≡ align_at old.heap.state addr) → IfOk r (λ to. size ≤ length (bytes_at new.heap.state (at to)))
       → IfOk r (λ to. length (bytes_at new.heap.state (at to)) < size + 32) → IfOk r (λ to. Keeps (bytes_at old.heap.state addr) (bytes_at new.heap.state (at to)))
       → IfOk r (λ to. at to ≢ addr → align_at old.heap.state (at to) ≡ None) → IfOk r (λ to. at to ≢ addr → align_at new.heap.state addr ≡ None)
@@ -250,7 +250,7 @@ module _ (sllen : ℕ) (old new : Checked) (addr size : ℕ) (pool : new.pool �
       moved (Err d) live sized few kept fresh left aligns bytes e = absurd (number_of-some d e)
 
   pub resized_there : (r : Result NonZeroUsize CheckedError) → IsRefusedBy (size_refusal (align_at old.heap.state addr) size) r
-      → (size_refusal (align_at old.heap.state addr) size ≡ None → ReallocatesWithoutMove old.heap.state addr size (placed_by r) new.heap.state)
+      → (size_refusal (align_at old.heap.state addr) size ≡ None → ReallocatesWithoutMove old.heap.state addr size (addr_in_result r) new.heap.state)
       → IfOk r (λ to. at to ≡ addr) → IfOk r (λ to. size ≤ length (bytes_at new.heap.state addr)) → IfOk r (λ to. length (bytes_at new.heap.state addr) < size + 32)
       → IfOk r (λ to. Keeps (bytes_at old.heap.state addr) (bytes_at new.heap.state addr)) → align_at new.heap.state ≡ align_at old.heap.state
       → ((a : ℕ) → a ≢ addr → bytes_at new.heap.state a ≡ bytes_at old.heap.state a)
