@@ -7,7 +7,7 @@ use Rattle.rlsf_base.specs.declared.memory.range.Range.{Range}
 use Rattle.rlsf_blocks.specs.Spare.{KeepsSpare}
 use Rattle.rlsf_flex.specs.SpareBytes.{KeepsSpareButFooter}
 use Rattle.rlsf_flex.specs.StandsFor.{FlexContents, FlexStandsFor}
-use Rattle.rlsf_flex.specs.Steps.Growth.{AskedGrowth, AskedRange, Extended, MayCome, outcome_of_growth, outcome_of_range}
+use Rattle.rlsf_flex.specs.Steps.Growth.{AskedGrowth, AskedRange, Extended, MayCome, Took, outcome_of_growth, outcome_of_range}
 use Rattle.rlsf_machine.specs.Answers.{MayAnswer, MayAnswerAll}
 use Rattle.rlsf_machine.specs.FlexState.{FlexState, KeptPool}
 use Rattle.rlsf_machine.specs.Growth.{IsPossible, Questions, grown, growth_note, growth_question, if_fits, is_more, notes_of, nothing, questions, questions_for, questions_kept, range_length, range_note, refused, TakesIn}
@@ -16,7 +16,6 @@ use Rattle.rlsf_machine.specs.Terms.{Terms}
 use Rattle.rlsf_machine.proofs.Coverage.{IsIn-append}
 use Rattle.rlsf_machine.proofs.Notes.{LeadsBy-append, terms-led}
 use Rattle.rlsf_machine.proofs.RangeLengths.{if_fits-some}
-use Rattle.rlsf_flex.proofs.Outcomes.{Took-refused}
 use Rattle.rlsf_flex.proofs.OutsideNow.{KeepsOutsideNow-refl, KeepsOutsideNow-then}
 use Rattle.rlsf_flex.proofs.SpareBytes.{KeepsSpare-room, KeepsSpareButFooter-behind}
 
@@ -117,11 +116,11 @@ extended_past {terms = terms} {before = before} {e = e} {k = k} is_kept past sta
 
 module _ {S : Type 0} {fllen sllen : ℕ} {terms : S → Terms} {owes : S → List Range → Type 0} {leads : S → Note → S → Type 0} {e : ℕ} where
   -- no range was asked for
-  pub AskedRange-none : {v : FlexContents S} → range_length (terms v.source) e ≡ None → FlexStandsFor fllen sllen terms owes v → AskedRange fllen sllen terms owes leads v v e None
-  AskedRange-none {v} none stands = record {
-    notes = subst (λ q. LeadsBy leads v.source (range_note q None) v.source) (sym none) refl;
+  pub AskedRange-none : {v w : FlexContents S} → range_length (terms v.source) e ≡ None → w.source ≡ v.source → Took fllen sllen terms owes v w e refused → AskedRange fllen sllen terms owes leads v w e None
+  AskedRange-none {v} {w} none same took = record {
+    notes = subst (λ q. LeadsBy leads v.source (range_note q None) w.source) (sym none) same;
     asked = λ _. refl;
-    took = Took-refused v v.source stands refl stands.owed e;
+    took = took;
   }
 
   -- one was asked for
@@ -135,11 +134,11 @@ module _ {S : Type 0} {fllen sllen : ℕ} {terms : S → Terms} {owes : S → Li
 
   module _ (k : KeptPool) (n : ℕ) where
     -- no growth was asked for
-    pub AskedGrowth-none : {v : FlexContents S} → (terms v.source).grow ≡ false → FlexStandsFor fllen sllen terms owes v → AskedGrowth fllen sllen terms owes leads v v k n e None
-    AskedGrowth-none {v} fixed stands = record {
-      notes = subst (λ (b : Bool). LeadsBy leads v.source (growth_note (cond b (Some (k.range, n)) None) None) v.source) (sym fixed) refl;
+    pub AskedGrowth-none : {v w : FlexContents S} → (terms v.source).grow ≡ false → w.source ≡ v.source → Took fllen sllen terms owes v w e refused → AskedGrowth fllen sllen terms owes leads v w k n e None
+    AskedGrowth-none {v} {w} fixed same took = record {
+      notes = subst (λ (b : Bool). LeadsBy leads v.source (growth_note (cond b (Some (k.range, n)) None) None) w.source) (sym fixed) same;
       asked = λ _. refl;
-      took = Took-refused v v.source stands refl stands.owed e;
+      took = took;
     }
 
     -- growth was asked for

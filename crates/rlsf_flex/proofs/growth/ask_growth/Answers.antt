@@ -38,7 +38,9 @@ realloc_inplace_grow-requires-clause-longer g c =
 
 pub returns-then-not-supports_realloc_inplace_grow-clause-step : goal.returns-then-not-supports_realloc_inplace_grow-clause-step
 returns-then-not-supports_realloc_inplace_grow-clause-step g c =
-    AskedGrowth-none (kept_pool c.args.pool) c.args.len (sym c.supports_realloc_inplace_grow.ensures ∙ c.if-not-supports_realloc_inplace_grow.true) c.requires.stands
+    let before = flex_over c.args.tlsf.now c.args.kept.now c.args.source.now c.args.owed.now in
+    AskedGrowth-none (kept_pool c.args.pool) c.args.len (sym c.supports_realloc_inplace_grow.ensures ∙ c.if-not-supports_realloc_inplace_grow.true) refl
+    (Took-refused before c.args.source.now c.requires.stands refl c.requires.stands.owed c.args.wanted)
 
 pub returns-in_err-grown-clause-step : goal.returns-in_err-grown-clause-step
 returns-in_err-grown-clause-step g c =
