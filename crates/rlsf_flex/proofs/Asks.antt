@@ -77,8 +77,8 @@ if_none None p none = p
 if_none (Some x) p none = absurd (true≢false none)
 
 -- a question leads by one note
-one_note : {S : Type 0} {leads : S → Note → S → Type 0} {x y : S} {n : Note} → leads x n y → LeadsBy leads x (n ∷ []) y
-one_note {y = y} led = (y, led, refl)
+one_note : {S : Type 0} (leads : S → Note → S → Type 0) (x y : S) (n : Note) → leads x n y → LeadsBy leads x (n ∷ []) y
+one_note leads x y n led = (y, led, refl)
 
 -- a sum that fits, as checked_add gives it
 pub sum_fits : (o : Option ℕ) (n len : ℕ) → SomeIff o (n < 2 ^ 64) n → o ≡ Some len → (if_fits n ≡ Some len) × (len ≡ n)
@@ -127,7 +127,7 @@ module _ {S : Type 0} {fllen sllen : ℕ} {terms : S → Terms} {owes : S → Li
   pub AskedRange-asked : {v w : FlexContents S} {n : ℕ} {answer : Option Range} → range_length (terms v.source) e ≡ Some n → leads v.source (alloc n answer) w.source → Took fllen sllen terms owes v w e (outcome_of_range answer)
       → AskedRange fllen sllen terms owes leads v w e answer
   AskedRange-asked {v} {w} {n} {answer} is led took = record {
-    notes = subst (λ q. LeadsBy leads v.source (range_note q answer) w.source) (sym is) (one_note led);
+    notes = subst (λ q. LeadsBy leads v.source (range_note q answer) w.source) (sym is) (one_note leads v.source w.source (alloc n answer) led);
     asked = λ none. absurd (none-some n (sym none ∙ is));
     took = took;
   }
@@ -147,7 +147,7 @@ module _ {S : Type 0} {fllen sllen : ℕ} {terms : S → Terms} {owes : S → Li
     AskedGrowth-asked {v} {w} {answer} grows led took =
         let is : growth_question (terms v.source) k n ≡ Some (k.range, n) = ap (λ (b : Bool). cond b (Some (k.range, n)) None) grows in
         record {
-          notes = subst (λ q. LeadsBy leads v.source (growth_note q answer) w.source) (sym is) (one_note led);
+          notes = subst (λ q. LeadsBy leads v.source (growth_note q answer) w.source) (sym is) (one_note leads v.source w.source (grow k.range n answer) led);
           asked = λ none. absurd (none-some (k.range, n) (sym none ∙ is));
           took = took;
         }

@@ -39,7 +39,7 @@ alloc-requires g c =
 pub returns-in_err-len-clause-step : goal.returns-in_err-len-clause-step
 returns-in_err-len-clause-step g c =
     let before = flex_over c.args.tlsf.now c.args.kept.now c.args.source.now c.args.owed.now in
-    subst (AskedRange g.row.FLLEN g.row.SLLEN g.S.FlexSource.terms g.S.FlexSource.owes g.S.FlexSource.leads before before c.args.wanted) (sym c.from_residual-in_err-len.ensures)
+    subst (AskedRange g.row.FLLEN g.row.SLLEN g.S.FlexSource.terms g.S.FlexSource.owes g.S.FlexSource.leads before before c.args.wanted) (sym c.from_residual.ensures)
     (AskedRange-none (sym c.in_err-len.ensures) refl (Took-refused before c.args.source.now c.requires.stands refl c.requires.stands.owed c.args.wanted))
 
 pub returns-in_err-range-clause-step : goal.returns-in_err-range-clause-step

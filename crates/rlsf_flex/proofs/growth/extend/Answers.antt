@@ -19,7 +19,7 @@ ask_range-requires-else-is_contiguous_growable g c = (omega arith, (c.requires.v
 pub returns-then-is_some-clause-step : goal.returns-then-is_some-clause-step
 returns-then-is_some-clause-step g c =
     let fits = sum_fits c.checked_add.result (c.in-Some.pool.len + c.args.wanted) c.in-Some-checked_add.len c.checked_add.ensures c.in-Some-checked_add.is in
-    extended_grown (ap kept_of c.in-Some.is) fits.0 c.ask_growth.ensures.step (sym c.is_some.ensures ∙ c.if-is_some.true)
+    extended_grown (ap kept_of c.in-Some.is) fits.0 c.ask_growth.ensures.step (sym c.is_some-2.ensures ∙ c.if-is_some.true)
 
 pub returns-then-is_contiguous_growable-clause-step : goal.returns-then-is_contiguous_growable-clause-step
 returns-then-is_contiguous_growable-clause-step g c =
@@ -27,7 +27,7 @@ returns-then-is_contiguous_growable-clause-step g c =
     let kept = ap kept_of c.in-Some.is in
     let h = c.ask_growth.ensures.step in
     let same = terms_stay kept fits.0 h g.met.S.FlexSource.constant in
-    extended_refused kept fits.0 h (sym c.is_some.ensures ∙ c.if-is_some.false) (sym (ap (λ t. t.contiguous) same) ∙ sym c.is_contiguous_growable.ensures ∙ c.if-is_contiguous_growable.true)
+    extended_refused kept fits.0 h (sym c.is_some-2.ensures ∙ c.if-is_some.false) (sym (ap (λ t. t.contiguous) same) ∙ sym c.is_contiguous_growable.ensures ∙ c.if-is_contiguous_growable.true)
 
 pub returns-else-is_contiguous_growable-clause-step : goal.returns-else-is_contiguous_growable-clause-step
 returns-else-is_contiguous_growable-clause-step g c =
@@ -35,11 +35,11 @@ returns-else-is_contiguous_growable-clause-step g c =
     let kept = ap kept_of c.in-Some.is in
     let h = c.ask_growth.ensures.step in
     let same = terms_stay kept fits.0 h g.met.S.FlexSource.constant in
-    extended_second kept fits.0 h (sym c.is_some.ensures ∙ c.if-is_some.false) (sym (ap (λ t. t.contiguous) same) ∙ sym c.is_contiguous_growable.ensures ∙ c.if-is_contiguous_growable.false) same c.is_some-else-is_contiguous_growable.ensures c.ask_range-else-is_contiguous_growable.ensures.step
+    extended_second kept fits.0 h (sym c.is_some-2.ensures ∙ c.if-is_some.false) (sym (ap (λ t. t.contiguous) same) ∙ sym c.is_contiguous_growable.ensures ∙ c.if-is_contiguous_growable.false) same c.is_some-else-is_contiguous_growable.ensures c.ask_range-else-is_contiguous_growable.ensures.step
 
 pub returns-else-is_contiguous_growable-clause-refused : goal.returns-else-is_contiguous_growable-clause-refused
 returns-else-is_contiguous_growable-clause-refused g c none =
-    if_none c.ask_range-else-is_contiguous_growable.result c.ask_range-else-is_contiguous_growable.ensures.refused (sym c.is_some-else-is_contiguous_growable.ensures ∙ none) ∙ if_none c.ask_growth.result c.ask_growth.ensures.refused (sym c.is_some.ensures ∙ c.if-is_some.false)
+    if_none c.ask_range-else-is_contiguous_growable.result c.ask_range-else-is_contiguous_growable.ensures.refused (sym c.is_some-else-is_contiguous_growable.ensures ∙ none) ∙ if_none c.ask_growth.result c.ask_growth.ensures.refused (sym c.is_some-2.ensures ∙ c.if-is_some.false)
 
 pub returns-in_default-clause-refused : goal.returns-in_default-clause-refused
 returns-in_default-clause-refused g c none = if_none c.ask_range.result c.ask_range.ensures.refused (sym c.is_some.ensures ∙ none)
@@ -51,7 +51,7 @@ pub returns-then-is_some-clause-refused : goal.returns-then-is_some-clause-refus
 returns-then-is_some-clause-refused g c = λ none. absurd (true≢false none)
 
 pub returns-then-is_contiguous_growable-clause-refused : goal.returns-then-is_contiguous_growable-clause-refused
-returns-then-is_contiguous_growable-clause-refused g c = λ none. if_none c.ask_growth.result c.ask_growth.ensures.refused (sym c.is_some.ensures ∙ c.if-is_some.false)
+returns-then-is_contiguous_growable-clause-refused g c = λ none. if_none c.ask_growth.result c.ask_growth.ensures.refused (sym c.is_some-2.ensures ∙ c.if-is_some.false)
 
 pub returns-in_default-clause-payloads : goal.returns-in_default-clause-payloads
 returns-in_default-clause-payloads g c = c.ask_range.ensures.payloads
