@@ -29,8 +29,7 @@ may_owe c h = record { start = h.low; end = h.high; disjoint = h.disjoint }
 pub given_range : (c : Cursor) (min_size start len : ℕ) → IsCursor c → c.at ≤ start → start % c.terms.min_align ≡ 0 → min_size ≤ len → start + len ≤ end_of c.terms.space → (owed : List Range) → MayOwe c owed
     → IsGiven c.terms owed min_size (range_at start len) × MayOwe (moved_to c (start + len)) (range_at start len ∷ owed)
 given_range c min_size start len is behind_cursor aligned long fits owed may =
-    let lie = lie_apart c may in
-    (
+    let lie = lie_apart c may in (
       record { lies_in = (omega (arith, is.after_start), fits); apart = λ a low high. LieApart-above lie a (omega (arith, low, behind_cursor)); long = long; power = is.power; aligned = aligned },
       may_owe (moved_to c (start + len)) (LieApart-more (range_at start len) lie is.after_start behind_cursor),
     )
@@ -40,8 +39,7 @@ pub grown_range : (c : Cursor) (r : Range) (min_new_len len : ℕ) → IsCursor 
     → IsGrown c.terms (xs ++ ys) r min_new_len len × MayOwe (moved_to c (r.start + len)) (xs ++ with_len r len ∷ ys)
 grown_range c r min_new_len len is last long longer fits xs ys may =
     let lie = lie_apart c may in
-    let more : r.len ≤ len = omega (arith, longer, long) in
-    (
+    let more : r.len ≤ len = omega (arith, longer, long) in (
       record { lies_in = (may.start r (IsIn-append_right r xs (r ∷ ys) (inl refl)), fits); apart = IsClear-grown r len xs ys last more lie; long = long },
       may_owe (moved_to c (r.start + len)) (LieApart-grown r len xs ys last more lie),
     )

@@ -44,8 +44,7 @@ module _ (c : PageCursor) (is : IsPageCursor c) where
       → IsGiven (terms_of c) owed min_size (range_at c.at len) × MayOwe (moved_to c (c.at + len)) (range_at c.at len ∷ owed)
   given_range min_size len some whole fits owed may =
       let begins = aligned_below c is (omega (arith, whole, some, pages-le min_size, fits)) in
-      let more : LieApart c.space.start (c.at + len) (range_at c.at len ∷ owed) = LieApart-more (range_at c.at len) (lie_apart c may) is.after_start (omega arith) in
-      (
+      let more : LieApart c.space.start (c.at + len) (range_at c.at len ∷ owed) = LieApart-more (range_at c.at len) (lie_apart c may) is.after_start (omega arith) in (
         record { lies_in = (is.after_start, fits); apart = λ a low high. LieApart-above (lie_apart c may) a low; long = omega (arith, whole, pages-le min_size); power = refl; aligned = begins },
         record { cursor = IsPageCursor-given min_size len some whole fits; start = more.low; end = more.high; aligned = alignments begins; disjoint = more.disjoint },
       )
@@ -65,8 +64,7 @@ module _ (c : PageCursor) (is : IsPageCursor c) where
       → IsGrown (terms_of c) (xs ++ ys) r min_new_len len × MayOwe (moved_to c (r.start + len)) (xs ++ with_len r len ∷ ys)
   grown_range r min_new_len len last whole longer fits xs ys may =
       let long : min_new_len ≤ len = omega (arith, whole, pages-le min_new_len) in
-      let now = LieApart-grown r len xs ys last (omega (arith, longer, long)) (lie_apart c may) in
-      (
+      let now = LieApart-grown r len xs ys last (omega (arith, longer, long)) (lie_apart c may) in (
         record { lies_in = (may.start r here, fits); apart = IsClear-grown r len xs ys last (omega (arith, longer, long)) (lie_apart c may); long = long },
         record { cursor = IsPageCursor-grown r min_new_len len whole fits xs ys may; start = now.low; end = now.high; aligned = alignments; disjoint = now.disjoint },
       )
