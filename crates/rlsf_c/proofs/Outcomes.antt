@@ -16,11 +16,11 @@ use Rattle.rlsf_machine.specs.NoMove.{ReallocatesWithoutMove}
 use Rattle.rlsf_machine.specs.Reallocate.{Keeps, Reallocates}
 use Rattle.rlsf_machine.specs.State.{State, empty}
 use Rattle.rlsf_tlsf.specs.Allocator.{Allocator, Steps}
-use Rattle.rlsf_checked.specs.Answers.{IsRefusedBy, append_answer, fits, if_fits, if_live, insert_answer, placed as placed_by, size_refusal}
+use Rattle.rlsf_checked.specs.Answers.{IsRefusedBy, append_answer, fits, if_in_range, if_live, insert_answer, addr_in as addr_in_result, size_refusal}
 use Rattle.rlsf_checked.specs.Checked.{Checked}
 use Rattle.rlsf_checked.specs.declared.error.CheckedError.{CheckedError}
 use Rattle.rlsf_checked.specs.declared.error.CheckedError.TheVariants.{InvalidClasses, OutOfMemory, UnknownAddress, OutOfRange, OutsideMemory, NotBehind, NotNext, TooShort, NoLayout, NoRoom}
-use Rattle.rlsf_c.specs.Answers.{answer_of, code_of, number_of, place_of, placed, refused_by}
+use Rattle.rlsf_c.specs.Answers.{answer_of, code_of, number_of, place_of, addr_in, refused_by}
 use Rattle.rlsf_c.specs.Calls.{Allocates, Appends, Frees, Inserts, IsKeptBut, IsResized, IsToldBy, Reads, Resizes, ResizesThere, Tells, Writes, reach}
 use Rattle.rlsf_c.specs.Seen.{Seen, nothing, seen_in}
 
@@ -40,22 +40,22 @@ number_of-some NoLayout e = omega (arith, e)
 number_of-some NoRoom e = omega (arith, e)
 
 -- an error places nothing
-pub placed-refused : (e : CheckedError) → placed (refused_by e) ≡ None
-placed-refused InvalidClasses = refl
-placed-refused OutOfMemory = refl
-placed-refused UnknownAddress = refl
-placed-refused OutOfRange = refl
-placed-refused OutsideMemory = refl
-placed-refused NotBehind = refl
-placed-refused NotNext = refl
-placed-refused TooShort = refl
-placed-refused NoLayout = refl
-placed-refused NoRoom = refl
+pub addr_in-refused : (e : CheckedError) → addr_in (refused_by e) ≡ None
+addr_in-refused InvalidClasses = refl
+addr_in-refused OutOfMemory = refl
+addr_in-refused UnknownAddress = refl
+addr_in-refused OutOfRange = refl
+addr_in-refused OutsideMemory = refl
+addr_in-refused NotBehind = refl
+addr_in-refused NotNext = refl
+addr_in-refused TooShort = refl
+addr_in-refused NoLayout = refl
+addr_in-refused NoRoom = refl
 
 -- what is placed is what the answer says
-pub placed-same : (r : Result NonZeroUsize CheckedError) → placed_by r ≡ placed (place_of r)
-placed-same (Ok addr) = refl
-placed-same (Err e) = sym (placed-refused e)
+pub addr_in-same : (r : Result NonZeroUsize CheckedError) → addr_in_result r ≡ addr_in (place_of r)
+addr_in-same (Ok addr) = refl
+addr_in-same (Err e) = sym (addr_in-refused e)
 
 -- ---- what is seen
 
@@ -143,7 +143,7 @@ none_appended = record {
 -- ---- payloads that are new
 
 module _ (sllen : ℕ) (old new : Checked) (size align : ℕ) (layout : IsLayout size align) (pool : new.pool ≡ old.pool) (place : SamePlace old.heap.memory new.heap.memory) where
-  pub allocated : (r : Result NonZeroUsize CheckedError) → IfErr r (λ e. e ≡ NoRoom) → machine.Allocates sllen old.heap.state size align (placed_by r) new.heap.state
+  pub allocated : (r : Result NonZeroUsize CheckedError) → IfErr r (λ e. e ≡ NoRoom) → machine.Allocates sllen old.heap.state size align (addr_in_result r) new.heap.state
       → IfOk r (λ addr. align_at new.heap.state (at addr) ≡ Some align) → IfOk r (λ addr. size ≤ length (bytes_at new.heap.state (at addr)))
       → IfOk r (λ addr. length (bytes_at new.heap.state (at addr)) < size + 32) → IfOk r (λ addr. align_at old.heap.state (at addr) ≡ None)
       → IfOk r (λ addr. (a : ℕ) → a ≢ at addr → align_at new.heap.state a ≡ align_at old.heap.state a)
@@ -214,7 +214,7 @@ module _ (sllen : ℕ) (old new : Checked) (addr size : ℕ) (pool : new.pool �
   same_placed (Err e) same some = same_seen sllen old new same pool place
 
   pub resized : (r : Result NonZeroUsize CheckedError) → IsRefusedBy (size_refusal (align_at old.heap.state addr) size) r
-      → (size_refusal (align_at old.heap.state addr) size ≡ None → Reallocates sllen old.heap.state addr size (placed_by r) new.heap.state)
+      → (size_refusal (align_at old.heap.state addr) size ≡ None → Reallocates sllen old.heap.state addr size (addr_in_result r) new.heap.state)
       → IfOk r (λ to. align_at new.heap.state (at to) ≡ align_at old.heap.state addr) → IfOk r (λ to. size ≤ length (bytes_at new.heap.state (at to)))
       → IfOk r (λ to. length (bytes_at new.heap.state (at to)) < size + 32) → IfOk r (λ to. Keeps (bytes_at old.heap.state addr) (bytes_at new.heap.state (at to)))
       → IfOk r (λ to. at to ≢ addr → align_at old.heap.state (at to) ≡ None) → IfOk r (λ to. at to ≢ addr → align_at new.heap.state addr ≡ None)
@@ -223,7 +223,7 @@ module _ (sllen : ℕ) (old new : Checked) (addr size : ℕ) (pool : new.pool �
       → OnErr r (new.heap.state ≡ old.heap.state) → Resizes (seen_in sllen old) addr size (place_of r) (seen_in sllen new)
   resized r refused step live sized few kept fresh left aligns bytes same = record {
     told = told_by (size_refusal (align_at old.heap.state addr) size) r refused;
-    step = λ none. subst (λ o. Reallocates sllen old.heap.state addr size o new.heap.state) (placed-same r) (step none);
+    step = λ none. subst (λ o. Reallocates sllen old.heap.state addr size o new.heap.state) (addr_in-same r) (step none);
     resized = moved r live sized few kept fresh left aligns bytes;
     same = same_placed r same;
   }
@@ -250,14 +250,14 @@ module _ (sllen : ℕ) (old new : Checked) (addr size : ℕ) (pool : new.pool �
       moved (Err d) live sized few kept fresh left aligns bytes e = absurd (number_of-some d e)
 
   pub resized_there : (r : Result NonZeroUsize CheckedError) → IsRefusedBy (size_refusal (align_at old.heap.state addr) size) r
-      → (size_refusal (align_at old.heap.state addr) size ≡ None → ReallocatesWithoutMove old.heap.state addr size (placed_by r) new.heap.state)
+      → (size_refusal (align_at old.heap.state addr) size ≡ None → ReallocatesWithoutMove old.heap.state addr size (addr_in_result r) new.heap.state)
       → IfOk r (λ to. at to ≡ addr) → IfOk r (λ to. size ≤ length (bytes_at new.heap.state addr)) → IfOk r (λ to. length (bytes_at new.heap.state addr) < size + 32)
       → IfOk r (λ to. Keeps (bytes_at old.heap.state addr) (bytes_at new.heap.state addr)) → align_at new.heap.state ≡ align_at old.heap.state
       → ((a : ℕ) → a ≢ addr → bytes_at new.heap.state a ≡ bytes_at old.heap.state a)
       → OnErr r (new.heap.state ≡ old.heap.state) → ResizesThere (seen_in sllen old) addr size (place_of r) (seen_in sllen new)
   resized_there r refused step there sized few kept aligns bytes same = record {
     told = told_by (size_refusal (align_at old.heap.state addr) size) r refused;
-    step = λ none. subst (λ o. ReallocatesWithoutMove old.heap.state addr size o new.heap.state) (placed-same r) (step none);
+    step = λ none. subst (λ o. ReallocatesWithoutMove old.heap.state addr size o new.heap.state) (addr_in-same r) (step none);
     there = stays r there;
     resized = stayed r sized few kept;
     same = same_placed r same;
@@ -313,7 +313,7 @@ pub none_told : (v : Seen) (addr : ℕ) → align_at v.state addr ≡ None → T
 none_told v addr none = sym (ap (λ o. answer_of (if_live o (length (bytes_at v.state addr)))) none)
 
 unreached : (v : Seen) (addr offset len : ℕ) → align_at v.state addr ≡ None → 3 ≡ reach v addr offset len
-unreached v addr offset len none = sym (ap (λ o. code_of (if_fits o (fits offset len (bytes_at v.state addr)))) none)
+unreached v addr offset len none = sym (ap (λ o. code_of (if_in_range o (fits offset len (bytes_at v.state addr)))) none)
 
 pub none_read : (v : Seen) (addr offset : ℕ) (was : List ℕ) → align_at v.state addr ≡ None → Reads v addr offset was 3 was
 none_read v addr offset was none = record { told = unreached v addr offset (length was) none; read = λ e. absurd (number_of-some UnknownAddress e); same = λ some. refl }
@@ -337,7 +337,7 @@ on_refused A (Ok x) did some = absurd (some refl)
 on_refused A (Err d) did some = did
 
 pub written : (sllen : ℕ) (old new : Checked) (addr offset : ℕ) (bytes : List ℕ) (r : Result (Unit {0}) CheckedError)
-    → r ≡ if_fits (align_at old.heap.state addr) (fits offset (length bytes) (bytes_at old.heap.state addr))
+    → r ≡ if_in_range (align_at old.heap.state addr) (fits offset (length bytes) (bytes_at old.heap.state addr))
     → OnOk r (bytes_at new.heap.state addr ≡ splice (bytes_at old.heap.state addr) offset (offset + length bytes) bytes)
     → align_at new.heap.state ≡ align_at old.heap.state → ((a : ℕ) → a ≢ addr → bytes_at new.heap.state a ≡ bytes_at old.heap.state a)
     → OnErr r (new ≡ old) → new.pool ≡ old.pool → SamePlace old.heap.memory new.heap.memory → Writes (seen_in sllen old) addr offset bytes (code_of r) (seen_in sllen new)
@@ -350,7 +350,7 @@ written sllen old new addr offset bytes r told did aligns others same pool place
 }
 
 pub read_as : (v : Seen) (addr offset : ℕ) (was now : List ℕ) (r : Result (Unit {0}) CheckedError)
-    → r ≡ if_fits (align_at v.state addr) (fits offset (length was) (bytes_at v.state addr)) → OnOk r (now ≡ take (length was) (drop offset (bytes_at v.state addr)))
+    → r ≡ if_in_range (align_at v.state addr) (fits offset (length was) (bytes_at v.state addr)) → OnOk r (now ≡ take (length was) (drop offset (bytes_at v.state addr)))
     → OnErr r (now ≡ was) → Reads v addr offset was (code_of r) now
 read_as v addr offset was now r told did same = record {
   told = ap code_of told;

@@ -44,5 +44,5 @@ value_if zero value = Some value
 value_if (suc e) value = None
 
 -- the value that is answered, if there is one
-abbrev pub placed : Answer → Option ℕ
-placed a = value_if a.error a.value
+abbrev pub addr_in : Answer → Option ℕ
+addr_in a = value_if a.error a.value

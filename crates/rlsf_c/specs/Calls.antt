@@ -7,10 +7,10 @@ use Rattle.rlsf_machine.specs.Allocate as machine
 use Rattle.rlsf_machine.specs.Callers.{align_at, bytes_at}
 use Rattle.rlsf_machine.specs.NoMove.{ReallocatesWithoutMove}
 use Rattle.rlsf_machine.specs.Reallocate.{Keeps, Reallocates}
-use Rattle.rlsf_checked.specs.Answers.{fits, if_fits, if_live, size_refusal}
+use Rattle.rlsf_checked.specs.Answers.{fits, if_in_range, if_live, size_refusal}
 use Rattle.rlsf_checked.specs.declared.error.CheckedError.{CheckedError}
 use Rattle.rlsf_c.specs.declared.answers.Answer.{Answer}
-use Rattle.rlsf_c.specs.Answers.{answer_of, code_of, number_of, placed}
+use Rattle.rlsf_c.specs.Answers.{answer_of, code_of, number_of, addr_in}
 use Rattle.rlsf_c.specs.Seen.{Seen}
 
 -- all payloads stay, with their alignments and their bytes
@@ -54,7 +54,7 @@ pub record IsNew (size align addr : ℕ) (before after : Seen) : Type 0 where
 pub record Allocates (before : Seen) (size align : ℕ) (answer : Answer) (after : Seen) : Type 0 where
   pub no_layout : (answer.error ≡ 9) ↔ (IsLayout size align → ⊥)
   pub errors : (answer.error ≡ 0) ⊎ ((answer.error ≡ 9) ⊎ (answer.error ≡ 10))
-  pub step : IsLayout size align → machine.Allocates before.classes before.state size align (placed answer) after.state
+  pub step : IsLayout size align → machine.Allocates before.classes before.state size align (addr_in answer) after.state
   pub new : answer.error ≡ 0 → IsNew size align answer.value before after
   pub same : answer.error ≢ 0 → after ≡ before
 
@@ -87,14 +87,14 @@ IsToldBy None error = (error ≡ 0) ⊎ (error ≡ 10)
 -- a payload gets another size, or why it doesn't
 pub record Resizes (before : Seen) (addr size : ℕ) (answer : Answer) (after : Seen) : Type 0 where
   pub told : IsToldBy (size_refusal (align_at before.state addr) size) answer.error
-  pub step : size_refusal (align_at before.state addr) size ≡ None → Reallocates before.classes before.state addr size (placed answer) after.state
+  pub step : size_refusal (align_at before.state addr) size ≡ None → Reallocates before.classes before.state addr size (addr_in answer) after.state
   pub resized : answer.error ≡ 0 → IsResized addr size answer.value before after
   pub same : answer.error ≢ 0 → after ≡ before
 
 -- a payload gets another size where it stands, or why it doesn't
 pub record ResizesThere (before : Seen) (addr size : ℕ) (answer : Answer) (after : Seen) : Type 0 where
   pub told : IsToldBy (size_refusal (align_at before.state addr) size) answer.error
-  pub step : size_refusal (align_at before.state addr) size ≡ None → ReallocatesWithoutMove before.state addr size (placed answer) after.state
+  pub step : size_refusal (align_at before.state addr) size ≡ None → ReallocatesWithoutMove before.state addr size (addr_in answer) after.state
   pub there : answer.error ≡ 0 → answer.value ≡ addr
   pub resized : answer.error ≡ 0 → IsResized addr size addr before after
   pub same : answer.error ≢ 0 → after ≡ before
@@ -105,7 +105,7 @@ Tells before addr answer = answer ≡ answer_of (if_live (align_at before.state 
 
 -- 0, or why so many bytes from an offset on aren't those of a payload
 abbrev pub reach : Seen → ℕ → ℕ → ℕ → ℕ
-reach before addr offset len = code_of (if_fits (align_at before.state addr) (fits offset len (bytes_at before.state addr)))
+reach before addr offset len = code_of (if_in_range (align_at before.state addr) (fits offset len (bytes_at before.state addr)))
 
 -- bytes are read, if there are so many
 pub record Reads (before : Seen) (addr offset : ℕ) (was : List ℕ) (answer : ℕ) (now : List ℕ) : Type 0 where

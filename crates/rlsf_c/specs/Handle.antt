@@ -21,8 +21,8 @@ abbrev pub HoldsSome : Ptr → (PoolValue → Type 0) → Fml
 HoldsSome p P = fex (SomePool P) (λ x. lies_at the_row full_share p x.0)
 
 -- there is room for a pool at the handle
-abbrev pub HasRoom : Ptr → Fml
-HasRoom p = room_at the_row p
+abbrev pub HasRoomForPool : Ptr → Fml
+HasRoomForPool p = room_at the_row p
 
 -- how many bytes that room has
 abbrev pub room_size : ℕ

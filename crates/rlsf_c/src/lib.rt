@@ -5,7 +5,7 @@ ghost use Rattle.std.specs.Borrow.{sem};
 ghost use Rattle.std.specs.Prelude.{◌≡◌};
 ghost use Rattle.rlsf_base.specs.Range.{range_at};
 ghost use Rattle.rlsf_c.specs.Calls.{Allocates, Appends, Frees, Inserts, Reads, Resizes, ResizesThere, Tells, Writes};
-ghost use Rattle.rlsf_c.specs.Handle.{HasRoom, Holds, HoldsSome, room_size};
+ghost use Rattle.rlsf_c.specs.Handle.{HasRoomForPool, Holds, HoldsSome, room_size};
 ghost use Rattle.rlsf_c.specs.Seen.{IsMade, PoolValue, append_result, insert_result, seen, status_of};
 ghost use Rattle.rlsf_c.specs.Walks.{IsNext, IsSummary};
 
@@ -36,7 +36,7 @@ pub unsafe extern "C" fn rlsf_init(
     start: usize,
     len: usize,
 ) -> usize
-    requires* { sem 𝓛 (HasRoom pool) }
+    requires* { sem 𝓛 (HasRoomForPool pool) }
     ensures* { sem 𝓛 (HoldsSome pool (λ after. IsMade kind start len after × (result ≡ status_of after))) }
 {
     std::ptr::write(pool as *mut Pool, Pool::new(alloc, kind, start, len));
@@ -48,7 +48,7 @@ pub unsafe extern "C" fn rlsf_init(
 pub unsafe extern "C" fn rlsf_destroy(pool: *mut u8)
     ghost before: { PoolValue }
     requires* { sem 𝓛 (Holds pool before) }
-    ensures* { sem 𝓛 (HasRoom pool) }
+    ensures* { sem 𝓛 (HasRoomForPool pool) }
 {
     finish(std::ptr::read(pool as *const Pool));
 }

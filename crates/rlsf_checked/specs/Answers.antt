@@ -19,9 +19,9 @@ if_live None x = Err UnknownAddress
 if_live (Some align) x = Ok x
 
 -- and so, at a live one, is what doesn't fit
-abbrev pub if_fits : Option ℕ → Bool → Result (Unit {0}) CheckedError
-if_fits None fits = Err UnknownAddress
-if_fits (Some align) fits = if fits then Ok tt else Err OutOfRange
+abbrev pub if_in_range : Option ℕ → Bool → Result (Unit {0}) CheckedError
+if_in_range None fits = Err UnknownAddress
+if_in_range (Some align) fits = if fits then Ok tt else Err OutOfRange
 
 -- so many bytes from an offset on are among those of a payload
 abbrev pub fits : ℕ → ℕ → List ℕ → Bool
@@ -42,9 +42,9 @@ IsRefusedBy (Some e) result = result ≡ Err e
 IsRefusedBy None result = IfErr result (λ e. e ≡ NoRoom)
 
 -- the address that is answered, if there is one
-abbrev pub placed : Result NonZeroUsize CheckedError → Option ℕ
-placed (Ok addr) = Some (at addr)
-placed (Err e) = None
+abbrev pub addr_in : Result NonZeroUsize CheckedError → Option ℕ
+addr_in (Ok addr) = Some (at addr)
+addr_in (Err e) = None
 
 -- the number that is answered, if there is one
 abbrev pub taken : Result ℕ CheckedError → Option ℕ

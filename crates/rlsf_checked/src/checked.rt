@@ -19,7 +19,7 @@ ghost use Rattle.rlsf_machine.specs.Run.{Fills};
 ghost use Rattle.rlsf_machine.specs.State.{empty};
 ghost use Rattle.rlsf_blocks.specs.Blocks.{AreBlocks, walked};
 ghost use Rattle.rlsf_tlsf.specs.Allocator.{Steps, Stands};
-ghost use Rattle.rlsf_checked.specs.Answers.{IsRefusedBy, append_answer, fits, if_fits, if_live, insert_answer, is_next, is_within, placed, refusal_at, taken};
+ghost use Rattle.rlsf_checked.specs.Answers.{IsRefusedBy, append_answer, fits, if_in_range, if_live, insert_answer, is_next, is_within, addr_in, refusal_at, taken};
 ghost use Rattle.rlsf_checked.specs.declared.error.CheckedError.TheVariants.{InvalidClasses, NoRoom, OutOfMemory, UnknownAddress};
 
 use crate::classes::are_valid;
@@ -191,7 +191,7 @@ impl<FLBitmap: Bitmap, SLBitmap: Bitmap, const FLLEN: usize, const SLLEN: usize>
     /// reaches the size that is sought. Then nothing changes.
     pub fn allocate(&mut self, layout: Layout) -> Result<Addr, CheckedError>
         ensures refused { IfErr result (λ e. e ≡ NoRoom) }
-        ensures step { Steps FLLEN SLLEN self.old.heap self.new.heap (Allocates SLLEN self.old.heap.state layout.size layout.align (placed result)) }
+        ensures step { Steps FLLEN SLLEN self.old.heap self.new.heap (Allocates SLLEN self.old.heap.state layout.size layout.align (addr_in result)) }
         ensures live { IfOk result (λ addr. align_at self.new.heap.state (at addr) ≡ Some layout.align) }
         ensures sized { IfOk result (λ addr. layout.size ≤ length (bytes_at self.new.heap.state (at addr))) }
         ensures few { IfOk result (λ addr. length (bytes_at self.new.heap.state (at addr)) < layout.size + 32) }
@@ -244,7 +244,7 @@ impl<FLBitmap: Bitmap, SLBitmap: Bitmap, const FLLEN: usize, const SLLEN: usize>
     pub fn reallocate(&mut self, addr: Addr, size: usize) -> Result<Addr, CheckedError>
         ensures answer { IsRefusedBy (refusal_at self.old.heap.state (at addr) size) result }
         ensures step { refusal_at self.old.heap.state (at addr) size ≡ None
-            → Steps FLLEN SLLEN self.old.heap self.new.heap (Reallocates SLLEN self.old.heap.state (at addr) size (placed result)) }
+            → Steps FLLEN SLLEN self.old.heap self.new.heap (Reallocates SLLEN self.old.heap.state (at addr) size (addr_in result)) }
         ensures live { IfOk result (λ to. align_at self.new.heap.state (at to) ≡ align_at self.old.heap.state (at addr)) }
         ensures sized { IfOk result (λ to. size ≤ length (bytes_at self.new.heap.state (at to))) }
         ensures few { IfOk result (λ to. length (bytes_at self.new.heap.state (at to)) < size + 32) }
@@ -283,7 +283,7 @@ impl<FLBitmap: Bitmap, SLBitmap: Bitmap, const FLLEN: usize, const SLLEN: usize>
     pub fn reallocate_no_move(&mut self, addr: Addr, size: usize) -> Result<Addr, CheckedError>
         ensures answer { IsRefusedBy (refusal_at self.old.heap.state (at addr) size) result }
         ensures step { refusal_at self.old.heap.state (at addr) size ≡ None
-            → Steps FLLEN SLLEN self.old.heap self.new.heap (ReallocatesWithoutMove self.old.heap.state (at addr) size (placed result)) }
+            → Steps FLLEN SLLEN self.old.heap self.new.heap (ReallocatesWithoutMove self.old.heap.state (at addr) size (addr_in result)) }
         ensures there { IfOk result (λ to. at to ≡ at addr) }
         ensures sized { IfOk result (λ to. size ≤ length (bytes_at self.new.heap.state (at addr))) }
         ensures few { IfOk result (λ to. length (bytes_at self.new.heap.state (at addr)) < size + 32) }
@@ -343,7 +343,7 @@ impl<FLBitmap: Bitmap, SLBitmap: Bitmap, const FLLEN: usize, const SLLEN: usize>
     /// Reads the bytes of a payload from an offset on, as many as `bytes` has. `UnknownAddress` exactly where none lives at the address,
     /// else `OutOfRange` exactly where the bytes go past the usable ones. Then `bytes` stays.
     pub fn read(&self, addr: Addr, offset: usize, bytes: &mut [u8]) -> Result<(), CheckedError>
-        ensures answer { result ≡ if_fits (align_at self.now.heap.state (at addr)) (fits offset (length bytes.old) (bytes_at self.now.heap.state (at addr))) }
+        ensures answer { result ≡ if_in_range (align_at self.now.heap.state (at addr)) (fits offset (length bytes.old) (bytes_at self.now.heap.state (at addr))) }
         ensures read { OnOk result (bytes.new ≡ take (length bytes.old) (drop offset (bytes_at self.now.heap.state (at addr)))) }
         ensures refused { OnErr result (bytes.new ≡ bytes.old) }
     {
@@ -361,7 +361,7 @@ impl<FLBitmap: Bitmap, SLBitmap: Bitmap, const FLLEN: usize, const SLLEN: usize>
     /// Writes bytes over those of a payload from an offset on. Its other bytes stay, and so does all else. `UnknownAddress` exactly
     /// where none lives at the address, else `OutOfRange` exactly where the bytes go past the usable ones. Then nothing changes.
     pub fn write(&mut self, addr: Addr, offset: usize, bytes: &[u8]) -> Result<(), CheckedError>
-        ensures answer { result ≡ if_fits (align_at self.old.heap.state (at addr)) (fits offset (length bytes.now) (bytes_at self.old.heap.state (at addr))) }
+        ensures answer { result ≡ if_in_range (align_at self.old.heap.state (at addr)) (fits offset (length bytes.now) (bytes_at self.old.heap.state (at addr))) }
         ensures step { OnOk result (Steps FLLEN SLLEN self.old.heap self.new.heap (Fills self.old.heap.state (at addr)
             (written_over self.old.heap.state (at addr) offset bytes.now))) }
         ensures written { OnOk result (bytes_at self.new.heap.state (at addr) ≡ written_over self.old.heap.state (at addr) offset bytes.now) }

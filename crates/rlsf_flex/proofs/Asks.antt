@@ -1,5 +1,5 @@
 -- The questions of a growth, one after another.
-use Rattle.std.proofs.Common.{◌≡◌, ℕ, ◌+◌, ◌^◌, ◌<◌, Bool, true, false, true≢false, cond, List, [], ◌++◌, append-nil, Option, Some, None, refl, sym, ◌∙◌, ap, subst, inl, inr}
+use Rattle.std.proofs.Common.{◌≡◌, ℕ, ◌+◌, ◌^◌, ◌<◌, Bool, true, false, true≢false, cond, List, [], ◌++◌, append-nil, ◌∷◌, Option, Some, None, IfNone, refl, sym, ◌∙◌, ap, subst, inl, inr}
 use Rattle.std.specs.Option.{is_some, SomeIff}
 use Rattle.std.proofs.lemmas.Bool.{cases_lt, false≢true, le-ltb, lt-ltb}
 use Rattle.std.proofs.lemmas.Option.{none-some, same_Some}
@@ -7,11 +7,11 @@ use Rattle.rlsf_base.specs.declared.memory.range.Range.{Range}
 use Rattle.rlsf_blocks.specs.Spare.{KeepsSpare}
 use Rattle.rlsf_flex.specs.SpareBytes.{KeepsSpareButFooter}
 use Rattle.rlsf_flex.specs.StandsFor.{FlexContents, FlexStandsFor}
-use Rattle.rlsf_flex.specs.Steps.Growth.{AskedGrowth, AskedRange, Extended, MayCome, outcome_of_growth, outcome_of_range}
+use Rattle.rlsf_flex.specs.Steps.Growth.{AskedGrowth, AskedRange, Extended, MayCome, Took, outcome_of_growth, outcome_of_range}
 use Rattle.rlsf_machine.specs.Answers.{MayAnswer, MayAnswerAll}
 use Rattle.rlsf_machine.specs.FlexState.{FlexState, KeptPool}
 use Rattle.rlsf_machine.specs.Growth.{IsPossible, Questions, grown, growth_note, growth_question, if_fits, is_more, notes_of, nothing, questions, questions_for, questions_kept, range_length, range_note, refused, TakesIn}
-use Rattle.rlsf_machine.specs.Note.{Note, LeadsBy, grow}
+use Rattle.rlsf_machine.specs.Note.{Note, LeadsBy, alloc, grow}
 use Rattle.rlsf_machine.specs.Terms.{Terms}
 use Rattle.rlsf_machine.proofs.Coverage.{IsIn-append}
 use Rattle.rlsf_machine.proofs.Notes.{LeadsBy-append, terms-led}
@@ -62,6 +62,24 @@ range_note-answers t s e (Some n) is (Some r) may x i = elim i [ inl same ↦ su
 MayAnswerAll-append : (t : Terms) (owed : List Range) (ms ns : List Note) → MayAnswerAll t owed ms → MayAnswerAll t owed ns → MayAnswerAll t owed (ms ++ ns)
 MayAnswerAll-append t owed ms ns first second x i = elim (IsIn-append x ms ns i) [ inl left ↦ first x left | inr right ↦ second x right ]
 
+-- memory came exactly where there is an answer
+came_range : (o : Option Range) → is_some o ≡ is_more (outcome_of_range o)
+came_range None = refl
+came_range (Some r) = refl
+
+came_growth : (o : Option ℕ) → is_some o ≡ is_more (outcome_of_growth o)
+came_growth None = refl
+came_growth (Some len) = refl
+
+-- what is true without an answer
+pub if_none : {A P : Type 0} (o : Option A) → IfNone o P → is_some o ≡ false → P
+if_none None p none = p
+if_none (Some x) p none = absurd (true≢false none)
+
+-- a question leads by one note
+one_note : {S : Type 0} (leads : S → Note → S → Type 0) (x y : S) (n : Note) → leads x n y → LeadsBy leads x (n ∷ []) y
+one_note leads x y n led = (y, led, refl)
+
 -- a sum that fits, as checked_add gives it
 pub sum_fits : (o : Option ℕ) (n len : ℕ) → SomeIff o (n < 2 ^ 64) n → o ≡ Some len → (if_fits n ≡ Some len) × (len ≡ n)
 sum_fits None n len is some = absurd (none-some len some)
@@ -96,57 +114,95 @@ extended_past {terms = terms} {before = before} {e = e} {k = k} is_kept past sta
       room = λ t. absurd (false≢true t);
     }
 
+module _ {S : Type 0} {fllen sllen : ℕ} {terms : S → Terms} {owes : S → List Range → Type 0} {leads : S → Note → S → Type 0} {e : ℕ} where
+  -- no range was asked for
+  pub AskedRange-none : {v w : FlexContents S} → range_length (terms v.source) e ≡ None → w.source ≡ v.source → Took fllen sllen terms owes v w e refused → AskedRange fllen sllen terms owes leads v w e None
+  AskedRange-none {v} {w} none same took = record {
+    notes = subst (λ q. LeadsBy leads v.source (range_note q None) w.source) (sym none) same;
+    asked = λ _. refl;
+    took = took;
+  }
+
+  -- one was asked for
+  pub AskedRange-asked : {v w : FlexContents S} {n : ℕ} {answer : Option Range} → range_length (terms v.source) e ≡ Some n → leads v.source (alloc n answer) w.source → Took fllen sllen terms owes v w e (outcome_of_range answer)
+      → AskedRange fllen sllen terms owes leads v w e answer
+  AskedRange-asked {v} {w} {n} {answer} is led took = record {
+    notes = subst (λ q. LeadsBy leads v.source (range_note q answer) w.source) (sym is) (one_note leads v.source w.source (alloc n answer) led);
+    asked = λ none. absurd (none-some n (sym none ∙ is));
+    took = took;
+  }
+
+  module _ (k : KeptPool) (n : ℕ) where
+    -- no growth was asked for
+    pub AskedGrowth-none : {v w : FlexContents S} → (terms v.source).grow ≡ false → w.source ≡ v.source → Took fllen sllen terms owes v w e refused → AskedGrowth fllen sllen terms owes leads v w k n e None
+    AskedGrowth-none {v} {w} fixed same took = record {
+      notes = subst (λ (b : Bool). LeadsBy leads v.source (growth_note (cond b (Some (k.range, n)) None) None) w.source) (sym fixed) same;
+      asked = λ _. refl;
+      took = took;
+    }
+
+    -- growth was asked for
+    pub AskedGrowth-asked : {v w : FlexContents S} {answer : Option ℕ} → (terms v.source).grow ≡ true → leads v.source (grow k.range n answer) w.source → Took fllen sllen terms owes v w e (outcome_of_growth answer)
+        → AskedGrowth fllen sllen terms owes leads v w k n e answer
+    AskedGrowth-asked {v} {w} {answer} grows led took =
+        let is : growth_question (terms v.source) k n ≡ Some (k.range, n) = ap (λ (b : Bool). cond b (Some (k.range, n)) None) grows in
+        record {
+          notes = subst (λ q. LeadsBy leads v.source (growth_note q answer) w.source) (sym is) (one_note leads v.source w.source (grow k.range n answer) led);
+          asked = λ none. absurd (none-some (k.range, n) (sym none ∙ is));
+          took = took;
+        }
+
 module _ {S : Type 0} {fllen sllen : ℕ} {terms : S → Terms} {owes : S → List Range → Type 0} {leads : S → Note → S → Type 0} {before after : FlexContents S} {e : ℕ} where
   -- no pool is kept
-  pub extended_first : {more : Bool} → before.state.kept ≡ None → AskedRange fllen sllen terms owes leads before after e more → Extended fllen sllen terms owes leads before after e more
-  extended_first none h =
+  pub extended_first : {answer : Option Range} {more : Bool} → before.state.kept ≡ None → more ≡ is_some answer → AskedRange fllen sllen terms owes leads before after e answer → Extended fllen sllen terms owes leads before after e more
+  extended_first {answer} none told h =
       let t = terms before.source in
       let q = questions-first t before.state.kept e none in
       record {
-        outcome = outcome_of_range h.answer;
-        notes = range_note (range_length t e) h.answer;
+        outcome = outcome_of_range answer;
+        notes = range_note (range_length t e) answer;
         extends = record {
-          possible = subst (λ q. IsPossible q (outcome_of_range h.answer)) (sym q) (range_possible None (range_length t e) h.answer h.asked);
-          asked = range_notes None (range_length t e) h.answer ∙ ap (λ q. notes_of q (outcome_of_range h.answer)) (sym q);
+          possible = subst (λ q. IsPossible q (outcome_of_range answer)) (sym q) (range_possible None (range_length t e) answer h.asked);
+          asked = range_notes None (range_length t e) answer ∙ ap (λ q. notes_of q (outcome_of_range answer)) (sym q);
           after = h.took.takes;
         };
         leads_by = h.notes;
-        answers = range_note-answers t before.state e (range_length t e) refl h.answer h.took.may;
+        answers = range_note-answers t before.state e (range_length t e) refl answer h.took.may;
         outside = h.took.outside;
         spare = h.took.spare;
         stands = h.took.stands;
-        came = h.came;
+        came = told ∙ came_range answer;
         room = h.took.room;
       }
 
-  module _ {k : KeptPool} {n : ℕ} (is_kept : before.state.kept ≡ Some k) (fits : if_fits (k.len + e) ≡ Some n) {more : Bool} (h : AskedGrowth fllen sllen terms owes leads before after k n e more) where
+  module _ {k : KeptPool} {n : ℕ} (is_kept : before.state.kept ≡ Some k) (fits : if_fits (k.len + e) ≡ Some n) {answer : Option ℕ} (h : AskedGrowth fllen sllen terms owes leads before after k n e answer) where
     asks : questions (terms before.source) before.state.kept (Some e) ≡ record { growth = growth_question (terms before.source) k n; range = cond (terms before.source).contiguous None (range_length (terms before.source) e) }
     asks = questions-kept (terms before.source) before.state.kept k e n is_kept fits
 
     -- the question leaves the terms
     pub terms_stay : ((x y : S) (n : Note) → leads x n y → terms y ≡ terms x) → terms after.source ≡ terms before.source
-    terms_stay constant = terms-led terms leads constant before.source after.source (growth_note (growth_question (terms before.source) k n) h.answer) h.notes
+    terms_stay constant = terms-led terms leads constant before.source after.source (growth_note (growth_question (terms before.source) k n) answer) h.notes
 
-    no_answer : more ≡ false → h.answer ≡ None
-    no_answer no_more = go h.answer (sym h.came ∙ no_more)
+    no_answer : is_some answer ≡ false → answer ≡ None
+    no_answer no_more = go answer no_more
       where
-        go : (o : Option ℕ) → is_more (outcome_of_growth o) ≡ false → o ≡ None
+        go : (o : Option ℕ) → is_some o ≡ false → o ≡ None
         go None is = refl
         go (Some l) is = absurd (true≢false is)
 
-    refused_notes : more ≡ false → LeadsBy leads before.source (growth_note (growth_question (terms before.source) k n) None) after.source
+    refused_notes : is_some answer ≡ false → LeadsBy leads before.source (growth_note (growth_question (terms before.source) k n) None) after.source
     refused_notes no_more = subst (λ o. LeadsBy leads before.source (growth_note (growth_question (terms before.source) k n) o) after.source) (no_answer no_more) h.notes
 
     -- nothing came, so the state stands still
-    stands_still : more ≡ false → after.state ≡ before.state
+    stands_still : is_some answer ≡ false → after.state ≡ before.state
     stands_still no_more = subst (λ o. TakesIn fllen (terms before.source) before.state (outcome_of_growth o) after.state) (no_answer no_more) h.took.takes
 
     -- growth came
-    pub extended_grown : more ≡ true → Extended fllen sllen terms owes leads before after e true
-    extended_grown is_true = go h.answer refl
+    pub extended_grown : is_some answer ≡ true → Extended fllen sllen terms owes leads before after e true
+    extended_grown is_true = go answer refl
       where
-        go : (o : Option ℕ) → h.answer ≡ o → Extended fllen sllen terms owes leads before after e true
-        go None is = absurd (false≢true (sym (ap (λ o. is_more (outcome_of_growth o)) is) ∙ sym h.came ∙ is_true))
+        go : (o : Option ℕ) → answer ≡ o → Extended fllen sllen terms owes leads before after e true
+        go None is = absurd (false≢true (sym (ap is_some is) ∙ is_true))
         go (Some l) is = record {
           outcome = grown l;
           notes = growth_note (growth_question (terms before.source) k n) (Some l);
@@ -162,11 +218,11 @@ module _ {S : Type 0} {fllen sllen : ℕ} {terms : S → Terms} {owes : S → Li
           spare = h.took.spare;
           stands = h.took.stands;
           came = refl;
-          room = λ t. h.took.room (sym h.came ∙ is_true);
+          room = λ t. h.took.room (sym (came_growth answer) ∙ is_true);
         }
 
     -- growth was refused, and the source is one range that grows
-    pub extended_refused : more ≡ false → (terms before.source).contiguous ≡ true → Extended fllen sllen terms owes leads before after e false
+    pub extended_refused : is_some answer ≡ false → (terms before.source).contiguous ≡ true → Extended fllen sllen terms owes leads before after e false
     extended_refused no_more one_range =
         let q : questions (terms before.source) before.state.kept (Some e) ≡ record { growth = growth_question (terms before.source) k n; range = None } =
         asks ∙ ap (λ (c : Bool). let q : Questions = record { growth = growth_question (terms before.source) k n; range = cond c None (range_length (terms before.source) e) } in q) one_range in
@@ -184,34 +240,34 @@ module _ {S : Type 0} {fllen sllen : ℕ} {terms : S → Terms} {owes : S → Li
         }
 
     -- growth was refused, and a range was asked for
-    pub extended_second : {last : FlexContents S} {again : Bool} → more ≡ false → (terms before.source).contiguous ≡ false → terms after.source ≡ terms before.source
-        → AskedRange fllen sllen terms owes leads after last e again → Extended fllen sllen terms owes leads before last e again
-    extended_second {last} no_more many same r =
+    pub extended_second : {last : FlexContents S} {second : Option Range} {again : Bool} → is_some answer ≡ false → (terms before.source).contiguous ≡ false → terms after.source ≡ terms before.source
+        → again ≡ is_some second → AskedRange fllen sllen terms owes leads after last e second → Extended fllen sllen terms owes leads before last e again
+    extended_second {last} {second} no_more many same told r =
         let t = terms before.source in
         let q : questions t before.state.kept (Some e) ≡ record { growth = growth_question t k n; range = range_length t e } =
         asks ∙ ap (λ (c : Bool). let q : Questions = record { growth = growth_question t k n; range = cond c None (range_length t e) } in q) many in
-        let notes : LeadsBy leads after.source (range_note (range_length t e) r.answer) last.source = subst (λ t. LeadsBy leads after.source (range_note (range_length t e) r.answer) last.source) same r.notes in
-        let asked : range_length t e ≡ None → r.answer ≡ None = subst (λ t. range_length t e ≡ None → r.answer ≡ None) same r.asked in
+        let notes : LeadsBy leads after.source (range_note (range_length t e) second) last.source = subst (λ t. LeadsBy leads after.source (range_note (range_length t e) second) last.source) same r.notes in
+        let asked : range_length t e ≡ None → second ≡ None = subst (λ t. range_length t e ≡ None → second ≡ None) same r.asked in
         let still : KeepsSpare before.memory before.state.machine after.memory before.state.machine =
         KeepsSpare-room t before.memory after.memory before.state before.state refl (subst (λ s. KeepsSpareButFooter t before.memory before.state after.memory s) (stands_still no_more) h.took.spare) in
         let spare : KeepsSpareButFooter t after.memory before.state last.memory last.state =
         subst (λ t. KeepsSpareButFooter t after.memory before.state last.memory last.state) same (subst (λ s. KeepsSpareButFooter (terms after.source) after.memory s last.memory last.state) (stands_still no_more) r.took.spare) in
-        let may : MayCome t before.state e (outcome_of_range r.answer) =
-        subst (λ t. MayCome t before.state e (outcome_of_range r.answer)) same (subst (λ s. MayCome (terms after.source) s e (outcome_of_range r.answer)) (stands_still no_more) r.took.may) in
+        let may : MayCome t before.state e (outcome_of_range second) =
+        subst (λ t. MayCome t before.state e (outcome_of_range second)) same (subst (λ s. MayCome (terms after.source) s e (outcome_of_range second)) (stands_still no_more) r.took.may) in
         record {
-          outcome = outcome_of_range r.answer;
-          notes = growth_note (growth_question t k n) None ++ range_note (range_length t e) r.answer;
+          outcome = outcome_of_range second;
+          notes = growth_note (growth_question t k n) None ++ range_note (range_length t e) second;
           extends = record {
-            possible = subst (λ q. IsPossible q (outcome_of_range r.answer)) (sym q) (range_possible (growth_question t k n) (range_length t e) r.answer asked);
-            asked = range_notes (growth_question t k n) (range_length t e) r.answer ∙ ap (λ q. notes_of q (outcome_of_range r.answer)) (sym q);
-            after = subst (λ t. TakesIn fllen t before.state (outcome_of_range r.answer) last.state) same (subst (λ s. TakesIn fllen (terms after.source) s (outcome_of_range r.answer) last.state) (stands_still no_more) r.took.takes);
+            possible = subst (λ q. IsPossible q (outcome_of_range second)) (sym q) (range_possible (growth_question t k n) (range_length t e) second asked);
+            asked = range_notes (growth_question t k n) (range_length t e) second ∙ ap (λ q. notes_of q (outcome_of_range second)) (sym q);
+            after = subst (λ t. TakesIn fllen t before.state (outcome_of_range second) last.state) same (subst (λ s. TakesIn fllen (terms after.source) s (outcome_of_range second) last.state) (stands_still no_more) r.took.takes);
           };
           leads_by = LeadsBy-append leads before.source after.source last.source _ _ (refused_notes no_more) notes;
-          answers = MayAnswerAll-append t before.state.pools (growth_note (growth_question t k n) None) (range_note (range_length t e) r.answer) (growth_note-answers t before.state.pools k n None tt)
-              (range_note-answers t before.state e (range_length t e) refl r.answer may);
+          answers = MayAnswerAll-append t before.state.pools (growth_note (growth_question t k n) None) (range_note (range_length t e) second) (growth_note-answers t before.state.pools k n None tt)
+              (range_note-answers t before.state e (range_length t e) refl second may);
           outside = KeepsOutsideNow-then before.memory after.memory last.memory before.state.pools after.state.pools last.state.pools h.took.outside r.took.outside;
           spare = KeepsSpareButFooter-behind t before.memory after.memory last.memory before.state last.state h.took.outside.place still spare;
           stands = r.took.stands;
-          came = r.came;
+          came = told ∙ came_range second;
           room = r.took.room;
         }

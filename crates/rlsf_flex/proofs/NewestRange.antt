@@ -10,7 +10,7 @@ use Rattle.rlsf_tlsf.specs.Allocator.{Allocator}
 use Rattle.rlsf_flex.specs.declared.pool.Pool.{Pool}
 use Rattle.rlsf_flex.specs.Footers.{Footers, first, footer_of}
 use Rattle.rlsf_flex.specs.StandsFor.{FlexStandsFor, flex_contents, kept_of, kept_pool}
-use Rattle.rlsf_flex.specs.Steps.Trim.{GaveNewest, HasRoom, older}
+use Rattle.rlsf_flex.specs.Steps.Trim.{GaveNewest, HasRoomForChunk, older}
 use Rattle.rlsf_machine.specs.FlexState.{FlexState}
 use Rattle.rlsf_machine.specs.FlexWellFormed.{IsFlexWellFormed, IsKeptPool, IsNewest, IsPool}
 use Rattle.rlsf_machine.specs.Lists.{IsIn}
@@ -30,7 +30,7 @@ use Rattle.rlsf_flex.proofs.RangeRows.{idle_range, idle_row, removed-row, row_of
 
 -- the newest of ranges that have pools has one
 first_pool : {fllen sllen : ℕ} {memory space : Range} (s : State) (rest : List Range) → LiesIn space memory.start memory.len → end_of memory < 2 ^ 64 → IsOver fllen sllen memory space s rest
-    → IfSome (first rest) (λ r. HasRoom r × ((len : ℕ) × IsPool s r len))
+    → IfSome (first rest) (λ r. HasRoomForChunk r × ((len : ℕ) × IsPool s r len))
 first_pool s [] lies short over = tt
 first_pool s (r ∷ rest) lies short over =
     let long = over.outstanding.long r (inl refl) in
@@ -108,7 +108,7 @@ module _ {S : Type 0} {fllen sllen : ℕ} {terms : S → Terms} {owes : S → Li
         (λ p. elim [ inl same ↦ subst (IsIdle a.state) (sym same) (newest_idle idle) | inr none ↦ absurd none ]))
 
     -- the one that is the newest then has a pool
-    pub next_pool : IfSome (first others) (λ r. HasRoom r × ((len : ℕ) × IsPool b.state r len))
+    pub next_pool : IfSome (first others) (λ r. HasRoomForChunk r × ((len : ℕ) × IsPool b.state r len))
     next_pool = first_pool b.state others v.well_formed.space v.machine.well_formed.addressable over
 
     module _ (stands : StandsFor fllen sllen (contents b.memory b.table) b.state) (spare : KeepsSpare a.memory a.state b.memory b.state) (place : SamePlace a.memory b.memory) (takes : (terms x).dealloc ≡ true)

@@ -1,4 +1,5 @@
 -- What private functions' contracts cite.
 pub mod Growth
 pub mod Outside
+pub mod Parts
 pub mod Trim

@@ -1,16 +1,16 @@
 //! Growth: a source is asked for more memory, and what comes is handed in.
 
-ghost use Rattle.std.specs.Prelude.{◌≡◌, ◌≢◌, ◌≤◌, ◌<◌, ◌+◌, ℕ, false, true, None, Some, IfNone, IfSome, length};
+ghost use Rattle.std.specs.Prelude.{◌≡◌, ◌≢◌, ◌≤◌, ◌<◌, ◌+◌, ℕ, false, None, Some, IfNone, IfSome, length};
 ghost use Rattle.rlsf_base.specs.Addr.{at};
 ghost use Rattle.rlsf_base.specs.SizeClass.{IsValid};
 ghost use Rattle.rlsf_base.specs.Space.{SamePlace};
 ghost use Rattle.rlsf_tlsf.specs.Allocator.{Stands};
-ghost use Rattle.rlsf_flex.specs.StandsFor.{FlexStandsFor, flex_contents, kept_pool};
-ghost use Rattle.rlsf_flex.specs.Steps.Growth.{AskedGrowth, AskedRange, Extended, KeepsPayloads, MovesTo, Took, kept_len, kept_start, outcome_of_growth, outcome_of_range};
+ghost use Rattle.rlsf_flex.specs.StandsFor.{FlexStandsFor, kept_pool};
+ghost use Rattle.rlsf_flex.specs.Steps.Growth.{AskedGrowth, AskedRange, Extended, KeepsPayloads, MovesTo, kept_len, kept_start};
+ghost use Rattle.rlsf_flex.specs.Steps.Parts.{flex_over};
 ghost use Rattle.rlsf_machine.specs.Allocate.{Allocates};
 ghost use Rattle.rlsf_machine.specs.Callers.{align_at, bytes_at};
 ghost use Rattle.rlsf_machine.specs.Growth.{keeps, range_length};
-ghost use Rattle.rlsf_machine.specs.Note.{alloc, grow};
 ghost use Rattle.rlsf_machine.specs.PoolLength.{IsPoolSize};
 ghost use Rattle.rlsf_machine.specs.Reallocate.{Keeps};
 
@@ -51,8 +51,9 @@ fn range_len<S: FlexSource>(source: &S, wanted: usize) -> Option<usize>
     }
 }
 
-/// Asks for a range of `len` bytes, and hands it in.
-fn take_range<
+/// Asks for a range in which `wanted` bytes from a multiple of 32 on are sure to lie, if there is a length for one, and hands it
+/// in.
+fn ask_range<
     S: FlexSource,
     FLBitmap: Bitmap,
     SLBitmap: Bitmap,
@@ -64,18 +65,16 @@ fn take_range<
     source: &mut S,
     owed: &mut GhostRanges,
     wanted: usize,
-    len: usize,
 ) -> Option<Range>
     requires valid { IsValid FLBitmap.width SLBitmap.width FLLEN SLLEN }
     requires wanted { IsPoolSize FLLEN SLLEN wanted }
-    requires len { range_length (S.terms source.old) wanted ≡ Some len }
-    requires stands { FlexStandsFor FLLEN SLLEN S.terms S.owes (flex_contents tlsf.old kept.old source.old owed.old.ranges) }
-    ensures leads { S.leads source.old (alloc len result) source.new }
-    ensures step { Took FLLEN SLLEN S.terms S.owes (flex_contents tlsf.old kept.old source.old owed.old.ranges)
-        (flex_contents tlsf.new kept.new source.new owed.new.ranges) wanted (outcome_of_range result) }
+    requires stands { FlexStandsFor FLLEN SLLEN S.terms S.owes (flex_over tlsf.old kept.old source.old owed.old) }
+    ensures step { AskedRange FLLEN SLLEN S.terms S.owes S.leads (flex_over tlsf.old kept.old source.old owed.old)
+        (flex_over tlsf.new kept.new source.new owed.new) wanted result }
     ensures payloads { KeepsPayloads tlsf.old tlsf.new }
     ensures refused { IfNone result (tlsf.new ≡ tlsf.old) }
 {
+    let len = range_len(source, wanted)?;
     let range = source.alloc(len)?;
     let taken = tlsf
         .insert_free_block_ptr(range)
@@ -90,8 +89,9 @@ fn take_range<
     Some(range)
 }
 
-/// Asks for growth of the kept range to `len` bytes, and hands the new ones in. The footer moves before they are.
-fn grow_kept<
+/// Asks for growth of the kept range to `len` bytes, if the source can grow it, and hands the new ones in. The footer moves before
+/// they are.
+fn ask_growth<
     S: FlexSource,
     FLBitmap: Bitmap,
     SLBitmap: Bitmap,
@@ -107,17 +107,18 @@ fn grow_kept<
     len: usize,
 ) -> Option<usize>
     requires kept { kept.old ≡ Some pool }
-    requires supported { (S.terms source.old).grow ≡ true }
     requires valid { IsValid FLBitmap.width SLBitmap.width FLLEN SLLEN }
     requires wanted { IsPoolSize FLLEN SLLEN wanted }
     requires len { len ≡ pool.len + wanted }
-    requires stands { FlexStandsFor FLLEN SLLEN S.terms S.owes (flex_contents tlsf.old kept.old source.old owed.old.ranges) }
-    ensures leads { S.leads source.old (grow pool.range len result) source.new }
-    ensures step { Took FLLEN SLLEN S.terms S.owes (flex_contents tlsf.old kept.old source.old owed.old.ranges)
-        (flex_contents tlsf.new kept.new source.new owed.new.ranges) wanted (outcome_of_growth result) }
+    requires stands { FlexStandsFor FLLEN SLLEN S.terms S.owes (flex_over tlsf.old kept.old source.old owed.old) }
+    ensures step { AskedGrowth FLLEN SLLEN S.terms S.owes S.leads (flex_over tlsf.old kept.old source.old owed.old)
+        (flex_over tlsf.new kept.new source.new owed.new) (kept_pool pool) len wanted result }
     ensures payloads { KeepsPayloads tlsf.old tlsf.new }
     ensures refused { IfNone result (tlsf.new ≡ tlsf.old) }
 {
+    if !source.supports_realloc_inplace_grow() {
+        return None;
+    }
     let grown = source.realloc_inplace_grow(pool.range, len)?;
     let range = Range {
         start: pool.range.start,
@@ -139,64 +140,6 @@ fn grow_kept<
     Some(grown)
 }
 
-/// Asks for a range, if there is a length for it, and hands it in. Answers whether one came.
-fn ask_range<
-    S: FlexSource,
-    FLBitmap: Bitmap,
-    SLBitmap: Bitmap,
-    const FLLEN: usize,
-    const SLLEN: usize,
->(
-    tlsf: &mut Tlsf<FLBitmap, SLBitmap, FLLEN, SLLEN>,
-    kept: &mut Option<Pool>,
-    source: &mut S,
-    owed: &mut GhostRanges,
-    wanted: usize,
-) -> bool
-    requires valid { IsValid FLBitmap.width SLBitmap.width FLLEN SLLEN }
-    requires wanted { IsPoolSize FLLEN SLLEN wanted }
-    requires stands { FlexStandsFor FLLEN SLLEN S.terms S.owes (flex_contents tlsf.old kept.old source.old owed.old.ranges) }
-    ensures step { AskedRange FLLEN SLLEN S.terms S.owes S.leads (flex_contents tlsf.old kept.old source.old owed.old.ranges)
-        (flex_contents tlsf.new kept.new source.new owed.new.ranges) wanted result }
-    ensures payloads { KeepsPayloads tlsf.old tlsf.new }
-    ensures refused { result ≡ false → tlsf.new ≡ tlsf.old }
-{
-    match range_len(source, wanted) {
-        Some(len) => take_range(tlsf, kept, source, owed, wanted, len).is_some(),
-        None => false,
-    }
-}
-
-/// Asks for growth of the kept range, if the source can grow it, and hands the new bytes in. Answers whether some came.
-fn ask_growth<
-    S: FlexSource,
-    FLBitmap: Bitmap,
-    SLBitmap: Bitmap,
-    const FLLEN: usize,
-    const SLLEN: usize,
->(
-    tlsf: &mut Tlsf<FLBitmap, SLBitmap, FLLEN, SLLEN>,
-    kept: &mut Option<Pool>,
-    source: &mut S,
-    owed: &mut GhostRanges,
-    pool: Pool,
-    wanted: usize,
-    len: usize,
-) -> bool
-    requires kept { kept.old ≡ Some pool }
-    requires valid { IsValid FLBitmap.width SLBitmap.width FLLEN SLLEN }
-    requires wanted { IsPoolSize FLLEN SLLEN wanted }
-    requires len { len ≡ pool.len + wanted }
-    requires stands { FlexStandsFor FLLEN SLLEN S.terms S.owes (flex_contents tlsf.old kept.old source.old owed.old.ranges) }
-    ensures step { AskedGrowth FLLEN SLLEN S.terms S.owes S.leads (flex_contents tlsf.old kept.old source.old owed.old.ranges)
-        (flex_contents tlsf.new kept.new source.new owed.new.ranges) (kept_pool pool) len wanted result }
-    ensures payloads { KeepsPayloads tlsf.old tlsf.new }
-    ensures refused { result ≡ false → tlsf.new ≡ tlsf.old }
-{
-    source.supports_realloc_inplace_grow()
-        && grow_kept(tlsf, kept, source, owed, pool, wanted, len).is_some()
-}
-
 /// Asks for `wanted` bytes more: for growth of the kept range first, and then, where the source isn't one range that grows,
 /// for a new one. Answers whether some came.
 pub(crate) fn extend<
@@ -214,24 +157,24 @@ pub(crate) fn extend<
 ) -> bool
     requires valid { IsValid FLBitmap.width SLBitmap.width FLLEN SLLEN }
     requires wanted { IsPoolSize FLLEN SLLEN wanted }
-    requires stands { FlexStandsFor FLLEN SLLEN S.terms S.owes (flex_contents tlsf.old kept.old source.old owed.old.ranges) }
-    ensures step { Extended FLLEN SLLEN S.terms S.owes S.leads (flex_contents tlsf.old kept.old source.old owed.old.ranges)
-        (flex_contents tlsf.new kept.new source.new owed.new.ranges) wanted result }
+    requires stands { FlexStandsFor FLLEN SLLEN S.terms S.owes (flex_over tlsf.old kept.old source.old owed.old) }
+    ensures step { Extended FLLEN SLLEN S.terms S.owes S.leads (flex_over tlsf.old kept.old source.old owed.old)
+        (flex_over tlsf.new kept.new source.new owed.new) wanted result }
     ensures payloads { KeepsPayloads tlsf.old tlsf.new }
     ensures refused { result ≡ false → tlsf.new ≡ tlsf.old }
 {
     let Some(pool) = *kept else {
-        return ask_range(tlsf, kept, source, owed, wanted);
+        return ask_range(tlsf, kept, source, owed, wanted).is_some();
     };
     let Some(len) = pool.len.checked_add(wanted) else {
         return false;
     };
-    if ask_growth(tlsf, kept, source, owed, pool, wanted, len) {
+    if ask_growth(tlsf, kept, source, owed, pool, wanted, len).is_some() {
         true
     } else if source.is_contiguous_growable() {
         false
     } else {
-        ask_range(tlsf, kept, source, owed, wanted)
+        ask_range(tlsf, kept, source, owed, wanted).is_some()
     }
 }
 

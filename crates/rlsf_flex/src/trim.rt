@@ -5,8 +5,9 @@ ghost use Rattle.rlsf_base.specs.Range.{end_of};
 ghost use Rattle.rlsf_base.specs.SizeClass.{IsValid};
 ghost use Rattle.rlsf_base.specs.Space.{SamePlace};
 ghost use Rattle.rlsf_blocks.specs.Blocks.{walked};
-ghost use Rattle.rlsf_flex.specs.StandsFor.{FlexStandsFor, flex_contents};
-ghost use Rattle.rlsf_flex.specs.Steps.Trim.{GaveBack, GaveNewest, HasRoom};
+ghost use Rattle.rlsf_flex.specs.StandsFor.{FlexStandsFor};
+ghost use Rattle.rlsf_flex.specs.Steps.Parts.{flex_over};
+ghost use Rattle.rlsf_flex.specs.Steps.Trim.{GaveBack, GaveNewest, HasRoomForChunk};
 ghost use Rattle.rlsf_machine.specs.Callers.{align_at, bytes_at};
 ghost use Rattle.rlsf_machine.specs.ChunkRows.{IsRow};
 ghost use Rattle.rlsf_machine.specs.FlexWellFormed.{IsPool};
@@ -47,7 +48,7 @@ fn pool_len<FLBitmap: Bitmap, SLBitmap: Bitmap, const FLLEN: usize, const SLLEN:
     range: Range,
 ) -> usize
     requires stands { Stands FLLEN SLLEN tlsf.now }
-    requires room { HasRoom range }
+    requires room { HasRoomForChunk range }
     requires pool { (len : ℕ) × IsPool tlsf.now.state range len }
     ensures { (len : ℕ) → IsPool tlsf.now.state range len → result ≡ len }
 {
@@ -64,7 +65,7 @@ fn pool_of<FLBitmap: Bitmap, SLBitmap: Bitmap, const FLLEN: usize, const SLLEN: 
     range: Option<Range>,
 ) -> Option<Pool>
     requires stands { Stands FLLEN SLLEN tlsf.now }
-    requires pool { IfSome range (λ r. HasRoom r × ((len : ℕ) × IsPool tlsf.now.state r len)) }
+    requires pool { IfSome range (λ r. HasRoomForChunk r × ((len : ℕ) × IsPool tlsf.now.state r len)) }
     ensures { MatchOption range (result ≡ None) (λ r. (len : ℕ) → IsPool tlsf.now.state r len → result ≡ Some (record { range = r; len = len })) }
 {
     match range {
@@ -91,11 +92,11 @@ fn give_newest_back<
     owed: &mut GhostRanges,
 ) -> bool
     requires supported { (S.terms source.old).dealloc ≡ true }
-    requires stands { FlexStandsFor FLLEN SLLEN S.terms S.owes (flex_contents tlsf.old kept.old source.old owed.old.ranges) }
-    ensures gone { result ≡ true → GaveNewest FLLEN SLLEN S.terms S.owes S.leads (flex_contents tlsf.old kept.old source.old owed.old.ranges)
-        (flex_contents tlsf.new kept.new source.new owed.new.ranges) }
+    requires stands { FlexStandsFor FLLEN SLLEN S.terms S.owes (flex_over tlsf.old kept.old source.old owed.old) }
+    ensures gone { result ≡ true → GaveNewest FLLEN SLLEN S.terms S.owes S.leads (flex_over tlsf.old kept.old source.old owed.old)
+        (flex_over tlsf.new kept.new source.new owed.new) }
     ensures held { result ≡ false → IsNewestHeld tlsf.old.state owed.old.ranges }
-    ensures same { result ≡ false → flex_contents tlsf.new kept.new source.new owed.new.ranges ≡ flex_contents tlsf.old kept.old source.old owed.old.ranges }
+    ensures same { result ≡ false → flex_over tlsf.new kept.new source.new owed.new ≡ flex_over tlsf.old kept.old source.old owed.old }
     ensures aligns { align_at tlsf.new.state ≡ align_at tlsf.old.state }
     ensures bytes { bytes_at tlsf.new.state ≡ bytes_at tlsf.old.state }
     ensures touches { tlsf.new.memory.touches + 9 * length tlsf.new.state.chunks ≤ tlsf.old.memory.touches + 9 * length tlsf.old.state.chunks }
@@ -135,11 +136,11 @@ pub(crate) fn give_idle_back<
     owed: &mut GhostRanges,
 ) -> usize
     requires supported { (S.terms source.old).dealloc ≡ true }
-    requires stands { FlexStandsFor FLLEN SLLEN S.terms S.owes (flex_contents tlsf.old kept.old source.old owed.old.ranges) }
-    ensures gone { GaveBack FLLEN SLLEN S.terms S.owes S.leads (flex_contents tlsf.old kept.old source.old owed.old.ranges)
-        (flex_contents tlsf.new kept.new source.new owed.new.ranges) result }
+    requires stands { FlexStandsFor FLLEN SLLEN S.terms S.owes (flex_over tlsf.old kept.old source.old owed.old) }
+    ensures gone { GaveBack FLLEN SLLEN S.terms S.owes S.leads (flex_over tlsf.old kept.old source.old owed.old)
+        (flex_over tlsf.new kept.new source.new owed.new) result }
     ensures held { IsNewestHeld tlsf.new.state owed.new.ranges }
-    ensures same { result ≡ 0 → flex_contents tlsf.new kept.new source.new owed.new.ranges ≡ flex_contents tlsf.old kept.old source.old owed.old.ranges }
+    ensures same { result ≡ 0 → flex_over tlsf.new kept.new source.new owed.new ≡ flex_over tlsf.old kept.old source.old owed.old }
     ensures aligns { align_at tlsf.new.state ≡ align_at tlsf.old.state }
     ensures bytes { bytes_at tlsf.new.state ≡ bytes_at tlsf.old.state }
     ensures touches { tlsf.new.memory.touches + 9 * length tlsf.new.state.chunks ≤ tlsf.old.memory.touches + 9 * length tlsf.old.state.chunks }

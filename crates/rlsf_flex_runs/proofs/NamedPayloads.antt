@@ -138,7 +138,7 @@ module _ {S : Type 0} {fllen sllen : ℕ} {terms : S → Terms} {owes : S → Li
           LeadsOn-alone (ReallocatesWithoutMove v.state.machine (address p) size said) (ReallocNoMove name size) (Placed addr) (named_in table) alone (λ step same. (
             (
               refl,
-              with_state w.state.machine (without_source (run_of v table)),
+              with_state (without_source (run_of v table)) w.state.machine,
               (u, owns, subst (IsLayout size) (sym its) valid, w.state.machine, subst (λ a. ReallocatesWithoutMove v.state.machine a size said w.state.machine) (sym holds.1) step, refl),
               refl,
               refl,
@@ -150,7 +150,7 @@ module _ {S : Type 0} {fllen sllen : ℕ} {terms : S → Terms} {owes : S → Li
 
       -- the bytes of a payload were written
       pub filled : (op : Op) (addr : ℕ) (bytes : List ℕ) → IsDoneBy op Done (fill addr bytes ∷ [])
-          → ((m : State) → Fills v.state.machine addr bytes m → DoesFlex fllen sllen (terms v.source) (run_of v table) op Done [] (with_run (run_of v table) (with_state m (without_source (run_of v table)))))
+          → ((m : State) → Fills v.state.machine addr bytes m → DoesFlex fllen sllen (terms v.source) (run_of v table) op Done [] (with_run (run_of v table) (with_state (without_source (run_of v table)) m)))
           → StepsAlone fllen sllen terms owes v w (Fills v.state.machine addr bytes) → LeadsOn fllen sllen terms owes leads v table op Done w table
       filled op addr bytes is_done does alone = LeadsOn-alone (Fills v.state.machine addr bytes) op Done (named_in table) alone (λ step same. (
         does w.state.machine step,

@@ -3,21 +3,21 @@ use Rattle.std.proofs.Common.{◌≡◌, ◌≢◌, ℕ, List, Some, None, ◌�
 use Rattle.std.specs.Option.{option_map}
 use Rattle.rlsf_machine.specs.Callers.{bytes_at}
 use Rattle.rlsf_placement.proofs.Maps.{row_at-put_here, row_at-put_other, row_at-without_here, row_at-without_other}
-use Rattle.rlsf_placement.specs.Heap.{Heap, content_at, layout_at, layout_of}
-use Rattle.rlsf_placement.specs.Rows.{Row, key, put, row_at, without}
+use Rattle.rlsf_placement.specs.Heap.{Heap, content_at, layout_at, row_layout}
+use Rattle.rlsf_placement.specs.Rows.{Row, key, put, row_at, without_row}
 
 -- the layout of an address is that of its row
 pub layout_at-row : (h g : Heap) (a b : ℕ) → row_at a g.asked ≡ row_at b h.asked → layout_at g a ≡ layout_at h b
 unfolding layout_at
-layout_at-row h g a b same = ap (option_map layout_of) same
+layout_at-row h g a b same = ap (option_map row_layout) same
 
 pub layout_at-some : (h : Heap) (a : ℕ) (r : Row) → row_at a h.asked ≡ Some r → layout_at h a ≡ Some r.1
 unfolding layout_at
-layout_at-some h a r there = ap (option_map layout_of) there
+layout_at-some h a r there = ap (option_map row_layout) there
 
 pub layout_at-none : (h : Heap) (a : ℕ) → row_at a h.asked ≡ None → layout_at h a ≡ None
 unfolding layout_at
-layout_at-none h a none = ap (option_map layout_of) none
+layout_at-none h a none = ap (option_map row_layout) none
 
 -- the bytes at an address are those of the machine's payload
 pub content_at-bytes : (h g : Heap) (a b : ℕ) → bytes_at g.flex.machine a ≡ bytes_at h.flex.machine b → content_at g a ≡ content_at h b
@@ -37,18 +37,18 @@ module _ (h g : Heap) where
   layout_at-put_other row now a other = layout_at-row h g a a (ap (row_at a) now ∙ row_at-put_other row h.asked a other)
 
   -- a row less
-  pub layout_at-without_here : (addr : ℕ) → g.asked ≡ without addr h.asked → layout_at g addr ≡ None
+  pub layout_at-without_here : (addr : ℕ) → g.asked ≡ without_row addr h.asked → layout_at g addr ≡ None
   layout_at-without_here addr now = layout_at-none g addr (ap (row_at addr) now ∙ row_at-without_here addr h.asked)
 
-  pub layout_at-without_other : (addr : ℕ) → g.asked ≡ without addr h.asked → (a : ℕ) → a ≢ addr → layout_at g a ≡ layout_at h a
+  pub layout_at-without_other : (addr : ℕ) → g.asked ≡ without_row addr h.asked → (a : ℕ) → a ≢ addr → layout_at g a ≡ layout_at h a
   layout_at-without_other addr now a other = layout_at-row h g a a (ap (row_at a) now ∙ row_at-without_other addr h.asked a other)
 
   -- a row in the place of another
-  pub layout_at-moved_other : (addr : ℕ) (row : Row) → g.asked ≡ put row (without addr h.asked) → (a : ℕ) → a ≢ addr → a ≢ key row → layout_at g a ≡ layout_at h a
+  pub layout_at-moved_other : (addr : ℕ) (row : Row) → g.asked ≡ put row (without_row addr h.asked) → (a : ℕ) → a ≢ addr → a ≢ key row → layout_at g a ≡ layout_at h a
   layout_at-moved_other addr row now a other new =
-      layout_at-row h g a a (ap (row_at a) now ∙ row_at-put_other row (without addr h.asked) a new ∙ row_at-without_other addr h.asked a other)
+      layout_at-row h g a a (ap (row_at a) now ∙ row_at-put_other row (without_row addr h.asked) a new ∙ row_at-without_other addr h.asked a other)
 
   -- where it went to another address, none is at the old one
-  pub layout_at-moved_left : (addr : ℕ) (row : Row) → g.asked ≡ put row (without addr h.asked) → key row ≢ addr → layout_at g addr ≡ None
+  pub layout_at-moved_left : (addr : ℕ) (row : Row) → g.asked ≡ put row (without_row addr h.asked) → key row ≢ addr → layout_at g addr ≡ None
   layout_at-moved_left addr row now apart =
-      layout_at-none g addr (ap (row_at addr) now ∙ row_at-put_other row (without addr h.asked) addr (λ same. apart (sym same)) ∙ row_at-without_here addr h.asked)
+      layout_at-none g addr (ap (row_at addr) now ∙ row_at-put_other row (without_row addr h.asked) addr (λ same. apart (sym same)) ∙ row_at-without_here addr h.asked)

@@ -10,13 +10,13 @@ use Rattle.rlsf_flex.specs.StandsFor.{FlexContents, FlexStandsFor, FlexSteps, St
 use Rattle.rlsf_flex.proofs.Standing.{alone_opened, flex_opened}
 use Rattle.rlsf_global.specs.Locked.{IsLocked, heap_of, locked_contents}
 use Rattle.rlsf_placement.specs.Pages.{MayOwe}
-use Rattle.rlsf_global.specs.Steps.Moves.{IsMoved, StaysRefused}
+use Rattle.rlsf_global.specs.Steps.Moves.{IsGivenLayout, StaysRefused}
 use Rattle.rlsf_global.proofs.Checks.{when_false, when_true}
 use Rattle.rlsf_placement.proofs.Maps.{IsServed, Lists-moved, row_at-without_other}
 use Rattle.rlsf_global.proofs.Placements.{no_row}
 use Rattle.rlsf_placement.proofs.PageAnswers.{refused_notes}
 use Rattle.rlsf_global.proofs.Resizes.{IsPlaced, none_left}
-use Rattle.rlsf_placement.proofs.Rows.{absent-row_at, put-sorted, without-sorted}
+use Rattle.rlsf_placement.proofs.Rows.{absent-row_at, put-sorted, without_row-sorted}
 use Rattle.rlsf_machine.specs.Callers.{IsResized, align_at, bytes_at, payload_at}
 use Rattle.rlsf_machine.specs.FlexAllocate.{FlexAllocates}
 use Rattle.rlsf_machine.specs.FlexReallocate.{FlexReallocates}
@@ -31,7 +31,7 @@ use Rattle.rlsf_placement.specs.declared.error.GlobalError.TheVariants.{NoRoom, 
 use Rattle.rlsf_placement.specs.Cursor.{PageCursor, PageLeads, terms_of}
 use Rattle.rlsf_placement.specs.Heap.{Heap, Lists}
 use Rattle.rlsf_placement.specs.Moves.{MovesAway, ReallocatesAsAt, ReallocatesTo, ResizesTo, Wanted}
-use Rattle.rlsf_placement.specs.Rows.{Row, put, row_at, without}
+use Rattle.rlsf_placement.specs.Rows.{Row, put, row_at, without_row}
 use Rattle.rlsf_placement.specs.Steps.{Placed, is_same}
 
 -- ---- the row decides
@@ -49,18 +49,18 @@ module _ (enabled : Bool) (h : Heap) (addr : ℕ) (layout : Layout) (n : ℕ) (r
 -- ---- the table after a move
 
 module _ (f : FlexContents PageCursor) (rows : List Row) (v : IsLocked (locked_contents f rows)) (f' : FlexContents PageCursor) where
-  module _ (addr : ℕ) (wanted : Layout) (to : NonZeroUsize) (is : IsMoved f f' addr wanted (at to)) where
+  module _ (addr : ℕ) (wanted : Layout) (to : NonZeroUsize) (is : IsGivenLayout f f' addr wanted (at to)) where
     -- once the old row is gone, none has the new address
-    pub moved_row : row_at (at to) (without addr rows) ≡ None
+    pub moved_row : row_at (at to) (without_row addr rows) ≡ None
     moved_row = elim (cases_eq (at to) addr) [
       | inl same ↦ none_left addr (at to) rows same
       | inr other ↦ row_at-without_other addr rows (at to) other ∙ no_row f rows v (at to) (is.new other)
     ]
 
-    pub moved_locked : (rows' : List Row) → rows' ≡ put (to, wanted) (without addr rows) → IsLocked (locked_contents f' rows')
+    pub moved_locked : (rows' : List Row) → rows' ≡ put (to, wanted) (without_row addr rows) → IsLocked (locked_contents f' rows')
     moved_locked rows' now = subst (λ l. IsLocked (locked_contents f' l)) (sym now) (record {
       flex = is.stands;
-      sorted = put-sorted (to, wanted) (without addr rows) (without-sorted addr rows v.sorted) (absent-row_at (at to) (without addr rows) moved_row);
+      sorted = put-sorted (to, wanted) (without_row addr rows) (without_row-sorted addr rows v.sorted) (absent-row_at (at to) (without_row addr rows) moved_row);
       lists = Lists-moved rows f.state.machine f'.state.machine v.lists addr (to, wanted) (record { live = is.live; sized = is.sized; few = is.few }) is.left is.aligns is.bytes;
     })
 
@@ -105,7 +105,7 @@ module _ (f f' : FlexContents PageCursor) (same : f'.state ≡ f.state) (kept : 
 
 module _ (f f' : FlexContents PageCursor) (addr : ℕ) (wanted : Layout) (to : NonZeroUsize)
     (steps : FlexSteps 64 64 terms_of MayOwe PageLeads f f' (FlexReallocates 64 64 (terms_of f.source) f.state addr wanted.size (Some (at to)))) where
-  pub reallocated : (rows : List Row) → ResizesTo (heap_of f rows) addr wanted (Ok to) (heap_of f' (put (to, wanted) (without addr rows)))
+  pub reallocated : (rows : List Row) → ResizesTo (heap_of f rows) addr wanted (Ok to) (heap_of f' (put (to, wanted) (without_row addr rows)))
   reallocated rows =
       let (notes, step, led, outside, stands) = flex_opened f f' (FlexReallocates 64 64 (terms_of f.source) f.state addr wanted.size (Some (at to))) steps in
       ((notes, step, led), refl)
@@ -129,7 +129,7 @@ module _ (f m k e : FlexContents PageCursor) (addr keep : ℕ) (wanted : Layout)
     (takes : FlexSteps 64 64 terms_of MayOwe PageLeads f m (FlexAllocates 64 64 (terms_of f.source) f.state wanted.size wanted.align (Some (at to))))
     (copies : StepsAlone 64 64 terms_of MayOwe m k (Fills m.state.machine (at to) (with_front keep (bytes_at m.state.machine addr) (bytes_at m.state.machine (at to)))))
     (frees : StepsAlone 64 64 terms_of MayOwe k e (Deallocates k.state.machine addr)) where
-  pub moved_away : k.source ≡ m.source → e.source ≡ k.source → (rows : List Row) → MovesAway (heap_of f rows) addr keep wanted (Ok to) (heap_of e (put (to, wanted) (without addr rows)))
+  pub moved_away : k.source ≡ m.source → e.source ≡ k.source → (rows : List Row) → MovesAway (heap_of f rows) addr keep wanted (Ok to) (heap_of e (put (to, wanted) (without_row addr rows)))
   moved_away copy_stays free_stays rows =
       let (notes, step, led, outside, stands) = flex_opened f m (FlexAllocates 64 64 (terms_of f.source) f.state wanted.size wanted.align (Some (at to))) takes in
       let (fills, copied, stands2, spare2) = alone_opened m k (Fills m.state.machine (at to) (with_front keep (bytes_at m.state.machine addr) (bytes_at m.state.machine (at to)))) copies in
@@ -167,7 +167,7 @@ module _ (f m k e : FlexContents PageCursor) (addr keep : ℕ) (wanted : Layout)
         → align_at k.state.machine ≡ align_at m.state.machine → ((a : ℕ) → a ≢ at to → bytes_at k.state.machine a ≡ bytes_at m.state.machine a)
         → align_at e.state.machine addr ≡ None
         → ((a : ℕ) → a ≢ addr → align_at e.state.machine a ≡ align_at k.state.machine a) → ((a : ℕ) → a ≢ addr → bytes_at e.state.machine a ≡ bytes_at k.state.machine a)
-        → IsMoved f e addr wanted (at to)
+        → IsGivenLayout f e addr wanted (at to)
     moved_away_seen is aligns bytes copy_aligns copy_bytes gone free_aligns free_bytes =
         let long : length (bytes_at e.state.machine (at to)) ≡ length (bytes_at m.state.machine (at to)) = ap length (free_bytes (at to) to_other) ∙ copied_length (at to) in
         record {

@@ -9,8 +9,8 @@ use Rattle.rlsf_global.specs.Locked.{IsLocked, LockedContents, LockedStands, hea
 use Rattle.rlsf_placement.specs.Pages.{MayOwe}
 use Rattle.rlsf_global.specs.Steps.Table.{IsFound}
 use Rattle.rlsf_placement.proofs.PageAnswers.{refused_notes}
-use Rattle.rlsf_placement.proofs.Maps.{IsServed, Lists-filled, Lists-put, Lists-without, agrees-none}
-use Rattle.rlsf_placement.proofs.Rows.{absent-row_at, put-sorted, without-sorted}
+use Rattle.rlsf_placement.proofs.Maps.{IsServed, Lists-filled, Lists-put, Lists-without_row, agrees-none}
+use Rattle.rlsf_placement.proofs.Rows.{absent-row_at, put-sorted, without_row-sorted}
 use Rattle.rlsf_machine.specs.Callers.{align_at, bytes_at}
 use Rattle.rlsf_machine.specs.FlexAllocate.{FlexAllocates}
 use Rattle.rlsf_machine.specs.FlexState.{FlexState, with_machine}
@@ -20,7 +20,7 @@ use Rattle.rlsf_machine.specs.Run.{Fills}
 use Rattle.rlsf_placement.specs.declared.error.GlobalError.TheVariants.{NoRoom}
 use Rattle.rlsf_placement.specs.Cursor.{PageCursor, PageLeads, terms_of}
 use Rattle.rlsf_placement.specs.Heap.{Agrees, Lists, with_state}
-use Rattle.rlsf_placement.specs.Rows.{Row, put, row_at, without}
+use Rattle.rlsf_placement.specs.Rows.{Row, put, row_at, without_row}
 use Rattle.rlsf_placement.specs.Steps.{HeapAllocates, Releases}
 
 -- a row that was found
@@ -87,7 +87,7 @@ module _ (f : FlexContents PageCursor) (rows : List Row) (v : IsLocked (locked_c
         record { flex = stands; sorted = v.sorted; lists = subst (λ (s : FlexState). Lists rows s.machine) (sym same) v.lists }
 
   -- a payload was given back
-  module _ (f' : FlexContents PageCursor) (addr : ℕ) (steps : StepsAlone 64 64 terms_of MayOwe f f' (Deallocates f.state.machine addr)) (stays : f'.source ≡ f.source) (rows' : List Row) (there : rows' ≡ without addr rows) where
+  module _ (f' : FlexContents PageCursor) (addr : ℕ) (steps : StepsAlone 64 64 terms_of MayOwe f f' (Deallocates f.state.machine addr)) (stays : f'.source ≡ f.source) (rows' : List Row) (there : rows' ≡ without_row addr rows) where
     pub released : Releases (heap_of f rows) addr (heap_of f' rows')
     released =
         let (step, after, stands, spare) = alone_opened f f' (Deallocates f.state.machine addr) steps in (
@@ -104,8 +104,8 @@ module _ (f : FlexContents PageCursor) (rows : List Row) (v : IsLocked (locked_c
         let (step, after, stands, spare) = alone_opened f f' (Deallocates f.state.machine addr) steps in
         subst (λ l. IsLocked (locked_contents f' l)) (sym there) (record {
           flex = stands;
-          sorted = without-sorted addr rows v.sorted;
-          lists = Lists-without rows f.state.machine f'.state.machine v.lists addr gone aligns bytes;
+          sorted = without_row-sorted addr rows v.sorted;
+          lists = Lists-without_row rows f.state.machine f'.state.machine v.lists addr gone aligns bytes;
         })
 
   -- a payload was written

@@ -9,7 +9,7 @@ use Rattle.rlsf_global.specs.Locked.{IsLocked, heap_of, locked_contents}
 use Rattle.rlsf_placement.specs.Pages.{MayOwe}
 use Rattle.rlsf_global.proofs.Checks.{when_false, when_true}
 use Rattle.rlsf_placement.proofs.Maps.{IsServed, Lists-moved, row_at-without_here}
-use Rattle.rlsf_placement.proofs.Rows.{absent-row_at, put-sorted, without-sorted}
+use Rattle.rlsf_placement.proofs.Rows.{absent-row_at, put-sorted, without_row-sorted}
 use Rattle.rlsf_machine.specs.Callers.{align_at, bytes_at}
 use Rattle.rlsf_machine.specs.FlexState.{FlexState, with_machine}
 use Rattle.rlsf_machine.specs.NoMove.{ReallocatesWithoutMove}
@@ -17,7 +17,7 @@ use Rattle.rlsf_placement.specs.declared.error.GlobalError.TheVariants.{NoRoom, 
 use Rattle.rlsf_placement.specs.Cursor.{PageCursor, terms_of}
 use Rattle.rlsf_placement.specs.Heap.{Heap, Lists}
 use Rattle.rlsf_placement.specs.Moves.{ReallocatesThereAt, ResizesThere, Wanted}
-use Rattle.rlsf_placement.specs.Rows.{Row, put, row_at, without}
+use Rattle.rlsf_placement.specs.Rows.{Row, put, row_at, without_row}
 use Rattle.rlsf_placement.specs.Steps.{Placed, is_same}
 
 -- two answers are the same
@@ -35,16 +35,16 @@ module _ (h : Heap) (addr : ℕ) (layout : Layout) (n : ℕ) (row : Row) where
   resizes_out e = when_false (Wanted n layout.align (λ wanted. ResizesThere h addr wanted (Err WrongLayout) h)) (IsPlaced (Err WrongLayout) (Err WrongLayout) × (h ≡ h)) (is_same row.1 layout) e (refl, refl)
 
 -- the row that was written stands at the address
-pub row_there : (rows after : List Row) (addr : ℕ) (to : NonZeroUsize) (wanted : Layout) → at to ≡ addr → after ≡ put (to, wanted) (without (at to) rows) → after ≡ put (to, wanted) (without addr rows)
-row_there rows after addr to wanted there now = now ∙ ap (λ a. put (to, wanted) (without a rows)) there
+pub row_there : (rows after : List Row) (addr : ℕ) (to : NonZeroUsize) (wanted : Layout) → at to ≡ addr → after ≡ put (to, wanted) (without_row (at to) rows) → after ≡ put (to, wanted) (without_row addr rows)
+row_there rows after addr to wanted there now = now ∙ ap (λ a. put (to, wanted) (without_row a rows)) there
 
 -- no row has the address any more
-pub none_left : (addr to : ℕ) (rows : List Row) → to ≡ addr → row_at to (without addr rows) ≡ None
-none_left addr to rows there = subst (λ a. row_at a (without addr rows) ≡ None) (sym there) (row_at-without_here addr rows)
+pub none_left : (addr to : ℕ) (rows : List Row) → to ≡ addr → row_at to (without_row addr rows) ≡ None
+none_left addr to rows there = subst (λ a. row_at a (without_row addr rows) ≡ None) (sym there) (row_at-without_here addr rows)
 
 module _ (f : FlexContents PageCursor) (rows : List Row) (v : IsLocked (locked_contents f rows)) (f' : FlexContents PageCursor) (addr : ℕ) (wanted : Layout) (stays : f'.source ≡ f.source) where
   module _ (to : NonZeroUsize) (there : at to ≡ addr) (steps : StepsAlone 64 64 terms_of MayOwe f f' (ReallocatesWithoutMove f.state.machine addr wanted.size (Some (at to))))
-      (rows' : List Row) (now : rows' ≡ put (to, wanted) (without addr rows)) where
+      (rows' : List Row) (now : rows' ≡ put (to, wanted) (without_row addr rows)) where
     pub resized : ResizesThere (heap_of f rows) addr wanted (Ok to) (heap_of f' rows')
     resized =
         let (step, after, stands, spare) = alone_opened f f' (ReallocatesWithoutMove f.state.machine addr wanted.size (Some (at to))) steps in (
@@ -61,7 +61,7 @@ module _ (f : FlexContents PageCursor) (rows : List Row) (v : IsLocked (locked_c
         let (step, after, stands, spare) = alone_opened f f' (ReallocatesWithoutMove f.state.machine addr wanted.size (Some (at to))) steps in
         subst (λ l. IsLocked (locked_contents f' l)) (sym now) (record {
           flex = stands;
-          sorted = put-sorted (to, wanted) (without addr rows) (without-sorted addr rows v.sorted) (absent-row_at (at to) (without addr rows) (none_left addr (at to) rows there));
+          sorted = put-sorted (to, wanted) (without_row addr rows) (without_row-sorted addr rows v.sorted) (absent-row_at (at to) (without_row addr rows) (none_left addr (at to) rows there));
           lists = Lists-moved rows f.state.machine f'.state.machine v.lists addr (to, wanted) (subst (λ a. IsServed f'.state.machine a wanted) (sym there) is) (λ differs. absurd (differs there))
               (λ a x y. ap (λ g. g a) aligns) (λ a x y. others a x);
         })

@@ -8,8 +8,8 @@ use Rattle.std.proofs.lemmas.Bool.Decides.{nat_tests, eqb_tells}
 use Rattle.std.proofs.lemmas.Cmp.{ranked}
 use Rattle.rlsf_global.proofs.Results.{clash}
 use Rattle.rlsf_machine.specs.Lists.{IsIn}
-use Rattle.rlsf_global.specs.Steps.Table.{IsAt, IsGapFor, IsFound, IsPlaceFor}
-use Rattle.rlsf_placement.specs.Rows.{Row, key, IsSorted, row_at, put, without}
+use Rattle.rlsf_global.specs.Steps.Table.{IsRowOf, IsGapFor, IsFound, IsPlaceFor}
+use Rattle.rlsf_placement.specs.Rows.{Row, key, IsSorted, row_at, put, without_row}
 
 -- an element by its place is in the list
 pub IsIn-at : (rows : List Row) (i : ℕ) (d : Row) → i < length rows → IsIn (get_or rows i d) rows
@@ -30,7 +30,7 @@ module _ (l : List Row) (sorted : IsSorted l) (k : ℕ) where
       let keys_rise : key (get_or l i d) ≤ key (get_or l j d) = grind (arith, rises l sorted i j d, λ (same : i ≡ j). ap (λ n. key (get_or l n d)) same) in
       grind (arith, nat_tests)
 
-  pub searched : (r : Result ℕ ℕ) → IsSearchInRange r (length l) → IsBinarySearchResult (λ r. nat_cmp (key r) k) l r → record { found : IfOk r (IsAt l k); absent : IfErr r (IsGapFor l k) }
+  pub searched : (r : Result ℕ ℕ) → IsSearchInRange r (length l) → IsBinarySearchResult (λ r. nat_cmp (key r) k) l r → record { found : IfOk r (IsRowOf l k); absent : IfErr r (IsGapFor l k) }
   searched (Ok at) in_range equal = record { found = record { in_range = in_range; here = λ d. ranked _ k _ (sym (equal d)) }; absent = tt }
   searched (Err at) in_range parted = record {
     found = tt;
@@ -55,24 +55,24 @@ insert-put row (r ∷ rows) (suc at) g =
     rw test (ap (λ l. r ∷ l) rest)
 
 -- without an address that isn't there, the rows are as they were
-pub without-absent : (a : ℕ) (rows : List Row) → ((r : Row) → IsIn r rows → a < key r) → without a rows ≡ rows
-without-absent a [] h = refl
-without-absent a (r ∷ rows) h =
+pub without_row-absent : (a : ℕ) (rows : List Row) → ((r : Row) → IsIn r rows → a < key r) → without_row a rows ≡ rows
+without_row-absent a [] h = refl
+without_row-absent a (r ∷ rows) h =
     let above = h r (inl refl) in
-    let rest = without-absent a rows (λ s i. h s (inr i)) in
+    let rest = without_row-absent a rows (λ s i. h s (inr i)) in
     grind (arith, nat_tests)
 
 -- a remove takes the row of its address out
-pub remove-without : (a : ℕ) (rows : List Row) (at : ℕ) → IsSorted rows → IsAt rows a at → remove rows at ≡ without a rows
-remove-without a [] at s h = absurd (omega (arith, h.in_range))
-remove-without a (r ∷ rows) zero s h =
+pub remove-without_row : (a : ℕ) (rows : List Row) (at : ℕ) → IsSorted rows → IsRowOf rows a at → remove rows at ≡ without_row a rows
+remove-without_row a [] at s h = absurd (omega (arith, h.in_range))
+remove-without_row a (r ∷ rows) zero s h =
     let here = h.here r in
-    let rest = without-absent a rows (λ x i. omega (arith, s.0 x i, here)) in
+    let rest = without_row-absent a rows (λ x i. omega (arith, s.0 x i, here)) in
     grind (arith, nat_tests)
-remove-without a (r ∷ rows) (suc at) s h =
+remove-without_row a (r ∷ rows) (suc at) s h =
     let below = s.0 (get_or rows at r) (IsIn-at rows at r (omega (arith, h.in_range))) in
     let there = h.here r in
-    let rest = remove-without a rows at s.1 (record { in_range = omega (arith, h.in_range); here = λ d. h.here d }) in
+    let rest = remove-without_row a rows at s.1 (record { in_range = omega (arith, h.in_range); here = λ d. h.here d }) in
     grind (arith, nat_tests)
 
 -- a row that is smaller than all others goes in front
@@ -83,12 +83,12 @@ put-first row (r ∷ rows) h =
     grind (arith, nat_tests)
 
 -- a write at the place of an address replaces its row
-set-put : (row : Row) (rows : List Row) (at : ℕ) → IsSorted rows → IsAt rows (key row) at → set rows at row ≡ put row (without (key row) rows)
+set-put : (row : Row) (rows : List Row) (at : ℕ) → IsSorted rows → IsRowOf rows (key row) at → set rows at row ≡ put row (without_row (key row) rows)
 set-put row [] at s h = absurd (omega (arith, h.in_range))
 set-put row (r ∷ rows) zero s h =
     let here = h.here r in
     let above : (x : Row) → IsIn x rows → key row < key x = λ x i. omega (arith, s.0 x i, here) in
-    let rest = without-absent (key row) rows above in
+    let rest = without_row-absent (key row) rows above in
     let first = put-first row rows above in
     grind (arith, nat_tests)
 set-put row (r ∷ rows) (suc at) s h =
@@ -118,11 +118,11 @@ IsIn-put-old x row (r ∷ rows) h n = by (λ i. IsIn-put-old x row rows i n) (na
     by rest false true (inr (off, _)) (inl e) = clash off
     by rest false false t i = inr i
 
-pub IsIn-without-other : (x : Row) (a : ℕ) (rows : List Row) → IsIn x rows → key x ≢ a → IsIn x (without a rows)
-IsIn-without-other x a [] h n = absurd h
-IsIn-without-other x a (r ∷ rows) h n = by (λ i. IsIn-without-other x a rows i n) (key r == a) (eqb_tells (key r) a) h
+pub IsIn-without_row-other : (x : Row) (a : ℕ) (rows : List Row) → IsIn x rows → key x ≢ a → IsIn x (without_row a rows)
+IsIn-without_row-other x a [] h n = absurd h
+IsIn-without_row-other x a (r ∷ rows) h n = by (λ i. IsIn-without_row-other x a rows i n) (key r == a) (eqb_tells (key r) a) h
   where
-    by : (IsIn x rows → IsIn x (without a rows)) → (eq : Bool) → ((eq ≡ true) × (key r ≡ a)) ⊎ ((eq ≡ false) × (key r ≢ a)) → IsIn x (r ∷ rows) → IsIn x (if not eq then r ∷ without a rows else without a rows)
+    by : (IsIn x rows → IsIn x (without_row a rows)) → (eq : Bool) → ((eq ≡ true) × (key r ≡ a)) ⊎ ((eq ≡ false) × (key r ≢ a)) → IsIn x (r ∷ rows) → IsIn x (if not eq then r ∷ without_row a rows else without_row a rows)
     by rest false t (inl e) = inl e
     by rest false t (inr i) = inr (rest i)
     by rest true t (inr i) = rest i
@@ -130,7 +130,7 @@ IsIn-without-other x a (r ∷ rows) h n = by (λ i. IsIn-without-other x a rows 
     by rest true (inr (off, _)) (inl e) = clash off
 
 -- the row that a search finds
-pub row_at-here : (a : ℕ) (rows : List Row) (at : ℕ) (d : Row) → IsSorted rows → IsAt rows a at → row_at a rows ≡ Some (get_or rows at d)
+pub row_at-here : (a : ℕ) (rows : List Row) (at : ℕ) (d : Row) → IsSorted rows → IsRowOf rows a at → row_at a rows ≡ Some (get_or rows at d)
 row_at-here a [] at d s h = absurd (omega (arith, h.in_range))
 row_at-here a (r ∷ rows) zero d s h = let here = h.here r in grind (arith, nat_tests)
 row_at-here a (r ∷ rows) (suc at) d s h =
@@ -157,12 +157,12 @@ row_at-absent a (r ∷ rows) n =
     grind (arith, nat_tests)
 
 -- what a search found, in the words of callers
-pub found : (rows : List Row) (addr at : ℕ) → IsSorted rows → IsAt rows addr at → IsFound rows addr at
+pub found : (rows : List Row) (addr at : ℕ) → IsSorted rows → IsRowOf rows addr at → IsFound rows addr at
 found rows addr at s h = record {
   in_range = h.in_range;
   row = λ d. row_at-here addr rows at d s h;
-  taken_out = remove-without addr rows at s h;
-  replaced = λ row same. subst (λ a. set rows at row ≡ put row (without a rows)) same (set-put row rows at s (subst (λ a. IsAt rows a at) (sym same) h));
+  taken_out = remove-without_row addr rows at s h;
+  replaced = λ row same. subst (λ a. set rows at row ≡ put row (without_row a rows)) same (set-put row rows at s (subst (λ a. IsRowOf rows a at) (sym same) h));
 }
 
 pub place_for : (rows : List Row) (addr at : ℕ) → IsGapFor rows addr at → IsPlaceFor rows addr at

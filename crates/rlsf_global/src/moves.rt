@@ -5,14 +5,14 @@ ghost use Rattle.rlsf_base.specs.Addr.{at};
 ghost use Rattle.rlsf_flex.specs.StandsFor.{FlexStandsFor};
 ghost use Rattle.rlsf_global.specs.Locked.{heap_of};
 ghost use Rattle.rlsf_placement.specs.Pages.{MayOwe};
-ghost use Rattle.rlsf_global.specs.Steps.Moves.{IsMoved, StaysRefused};
+ghost use Rattle.rlsf_global.specs.Steps.Moves.{IsGivenLayout, ResizesTo, StaysRefused};
 ghost use Rattle.rlsf_machine.specs.Allocate.{HasRoomFor};
 ghost use Rattle.rlsf_machine.specs.Callers.{align_at, bytes_at};
 ghost use Rattle.rlsf_machine.specs.Reallocate.{HasRoomToResize};
 ghost use Rattle.rlsf_placement.specs.declared.error.GlobalError.TheVariants.{NoRoom};
 ghost use Rattle.rlsf_placement.specs.Cursor.{terms_of};
 ghost use Rattle.rlsf_placement.specs.Moves.{MovesAway, ReallocatesTo};
-ghost use Rattle.rlsf_placement.specs.Rows.{Row, put, without};
+ghost use Rattle.rlsf_placement.specs.Rows.{Row, put, without_row};
 
 use crate::options::GlobalTlsfOptions;
 use crate::pages::Source;
@@ -35,8 +35,8 @@ pub(crate) fn move_away<Options: GlobalTlsfOptions>(
     requires old { keep ≤ length (bytes_at flex.old.state.machine (at addr)) }
     requires new { keep ≤ wanted.size }
     ensures step { IfSome result (λ to. (rows : List Row) → MovesAway (heap_of flex.old rows) (at addr) keep wanted (Ok to)
-        (heap_of flex.new (put (to, wanted) (without (at addr) rows)))) }
-    ensures moved { IfSome result (λ to. IsMoved flex.old flex.new (at addr) wanted (at to)) }
+        (heap_of flex.new (put (to, wanted) (without_row (at addr) rows)))) }
+    ensures moved { IfSome result (λ to. IsGivenLayout flex.old flex.new (at addr) wanted (at to)) }
     ensures none { IfNone result ((rows : List Row) → MovesAway (heap_of flex.old rows) (at addr) keep wanted (Err NoRoom) (heap_of flex.new rows)) }
     ensures refused { IfNone result (StaysRefused flex.old flex.new) }
     ensures touches { HasRoomFor 64 flex.old.state.machine wanted.size wanted.align → flex.new.memory.touches ≤ flex.old.memory.touches + 59 }
@@ -58,9 +58,8 @@ pub(crate) fn resize<Options: GlobalTlsfOptions>(
     requires sized { layout.size ≤ length (bytes_at flex.old.state.machine (at addr)) }
     requires aligned { wanted.align ≡ layout.align }
     requires stands { FlexStandsFor 64 64 terms_of MayOwe flex.old }
-    ensures step { IfSome result (λ to. (rows : List Row) → ReallocatesTo Options.ENABLE_REALLOCATION (heap_of flex.old rows) (at addr) layout wanted (Ok to)
-        (heap_of flex.new (put (to, wanted) (without (at addr) rows)))) }
-    ensures moved { IfSome result (λ to. IsMoved flex.old flex.new (at addr) wanted (at to)) }
+    ensures step { IfSome result (λ to. ResizesTo Options.ENABLE_REALLOCATION flex.old flex.new (at addr) layout wanted to) }
+    ensures moved { IfSome result (λ to. IsGivenLayout flex.old flex.new (at addr) wanted (at to)) }
     ensures none { IfNone result ((rows : List Row) → ReallocatesTo Options.ENABLE_REALLOCATION (heap_of flex.old rows) (at addr) layout wanted (Err NoRoom)
         (heap_of flex.new rows)) }
     ensures refused { IfNone result (StaysRefused flex.old flex.new) }

@@ -4,7 +4,7 @@ ghost use Rattle.std.specs.Prelude.{◌≡◌, ◌<◌, IfOk, IfErr, None};
 ghost use Rattle.std.specs.Vec.{vec_len, vec_capacity};
 ghost use Rattle.rlsf_base.specs.Addr.{at};
 ghost use Rattle.rlsf_global.specs.Steps.Table.{IsFound, IsPlaceFor};
-ghost use Rattle.rlsf_placement.specs.Rows.{key, put, row_at, without, IsSorted};
+ghost use Rattle.rlsf_placement.specs.Rows.{key, put, row_at, without_row, IsSorted};
 
 use rlsf_base::memory::{Addr, Layout};
 
@@ -35,7 +35,7 @@ pub(crate) fn place(rows: &mut Vec<(Addr, Layout)>, row: (Addr, Layout))
 /// Puts a row in the place of the one that the address has.
 pub(crate) fn replace(rows: &mut Vec<(Addr, Layout)>, at: usize, row: (Addr, Layout))
     requires { IsFound rows.old.items (key row) at }
-    ensures { rows.new.items ≡ put row (without (key row) rows.old.items) }
+    ensures { rows.new.items ≡ put row (without_row (key row) rows.old.items) }
 {
     rows[at] = row;
 }

@@ -1,5 +1,5 @@
 -- Allocators of single allocations, and one as a source of memory.
-use Rattle.std.specs.Prelude.{◌≡◌, ℕ, ◌%◌, ◌<◌, ◌⊎◌, true, false, List, ◌∷◌, map, Option, Some, None, MatchOption}
+use Rattle.std.specs.Prelude.{◌≡◌, ℕ, ◌%◌, ◌<◌, ◌⊎◌, true, false, List, ◌∷◌, ◌++◌, map, Option, Some, None, MatchOption}
 use Rattle.std.specs.declared.num.NonZeroUsize.{NonZeroUsize}
 use Rattle.std.specs.Int.{next_multiple_of}
 use Rattle.rlsf_base.specs.declared.memory.range.Range.{Range}
@@ -9,7 +9,7 @@ use Rattle.rlsf_base.specs.Range.{range_at}
 use Rattle.rlsf_machine.specs.Insert.{IsVacant}
 use Rattle.rlsf_machine.specs.Lists.{IsIn}
 use Rattle.rlsf_machine.specs.Note.{Note, alloc, dealloc, grow}
-use Rattle.rlsf_machine.specs.Terms.{Terms}
+use Rattle.rlsf_machine.specs.Terms.{OwesGrown, Terms}
 
 -- an address with the layout that it was answered for
 pub record Allocation : Type 0 where
@@ -63,3 +63,8 @@ HeapLeads leads align x (alloc size None) y = ((¬ IsLayout size align) × (y �
 HeapLeads leads align x (alloc size (Some r)) y = IsLayout size align × (r.len ≡ next_multiple_of size align) × leads x (allocate (next_multiple_of size align) align (Some r.start)) y
 HeapLeads leads align x (grow r len answer) y = (answer ≡ None) × (y ≡ x)
 HeapLeads leads align x (dealloc r) y = leads x (deallocate (allocation_of align r)) y
+
+-- what is owed after a question for growth, whichever ranges are outstanding beside the range
+abbrev pub HeapOwesGrown : {T : Type 0} → (T → List Allocation → Type 0) → (T → Range) → ℕ → T → Range → ℕ → Option ℕ → T → Type 0
+HeapOwesGrown owes space align x range len answer y =
+    (before after : List Range) → HeapOwes owes align x (before ++ range ∷ after) → OwesGrown (heap_terms (space x) align) (HeapOwes owes align y) before range after len answer

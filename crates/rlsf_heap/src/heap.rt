@@ -5,9 +5,8 @@ ghost use Rattle.std.specs.Int.NonZero.{non_zero_usize_get};
 ghost use Rattle.std.specs.Option.{option_map};
 ghost use Rattle.rlsf_base.specs.declared.memory.range.Range.{Range};
 ghost use Rattle.rlsf_heap.specs.Constant.{heap_terms-constant};
-ghost use Rattle.rlsf_heap.specs.Heap.{Allocation, allocation_at, HeapNote, allocate, deallocate, OwesAllocated, heap_terms, HeapOwes, HeapLeads};
+ghost use Rattle.rlsf_heap.specs.Heap.{Allocation, allocation_at, HeapNote, allocate, deallocate, OwesAllocated, heap_terms, HeapOwes, HeapOwesGrown, HeapLeads};
 ghost use Rattle.rlsf_machine.specs.Note.{grow};
-ghost use Rattle.rlsf_machine.specs.Terms.{OwesGrown};
 
 use rlsf_base::memory::{Addr, Layout, Range};
 use rlsf_flex::FlexSource;
@@ -82,8 +81,7 @@ impl<T: GlobalAlloc, const ALIGN: usize> FlexSource for GlobalAllocAsFlexSource<
     fn realloc_inplace_grow(&mut self, range: Range, min_new_len: usize) -> Option<usize>
         requires { range.len ≤ min_new_len }
         ensures leads { HeapLeads T.leads (max ALIGN 32) self.old.0 (grow range min_new_len result) self.new.0 }
-        ensures owes { (before after : List Range) → HeapOwes T.owes (max ALIGN 32) self.old.0 (before ++ range ∷ after)
-            → OwesGrown (heap_terms (T.space self.old.0) (max ALIGN 32)) (HeapOwes T.owes (max ALIGN 32) self.new.0) before range after min_new_len result }
+        ensures owes { HeapOwesGrown T.owes T.space (max ALIGN 32) self.old.0 range min_new_len result self.new.0 }
     {
         let _ = (range, min_new_len);
         None

@@ -11,7 +11,7 @@ use Rattle.rlsf_journal.specs.declared.entry.Entry.{Entry}
 use Rattle.rlsf_journal.specs.declared.entry.Reply.{Reply}
 use Rattle.rlsf_journal.specs.declared.entry.Reply.TheVariants.{Placed, Freed, NoRoom, UnknownAddress, TableMemory, JournalMemory}
 use Rattle.rlsf_journal.specs.Entries.{IsReplyTo, entries_of}
-use Rattle.rlsf_journal.specs.Replay.{IsAnswered, IsReplay, Leads, beginning_of, step_by, step_of}
+use Rattle.rlsf_journal.specs.Replay.{LeadsOrRefused, IsReplay, Leads, beginning_of, step_by, step_of}
 use Rattle.rlsf_machine.specs.FlexState.{FlexState}
 use Rattle.rlsf_machine.specs.Note.{LeadsBy, Note, alloc, dealloc, grow}
 use Rattle.rlsf_placement.proofs.Journals.{replay_begins, replay_goes_on}
@@ -126,7 +126,7 @@ unentered : (es : List Entry) (h g : Heap) → IsReplay es h → g ≡ h → IsR
 unentered es h g run same = subst (λ l. IsReplay l g) (sym (append-nil es)) (subst (IsReplay es) (sym same) run)
 
 -- whatever a call is answered, the journal with its entries replays to the heap after it
-pub recorded : (es : List Entry) (caller : ℕ) (call : Call) (reply : Reply) (h g : Heap) → IsReplay es h → IsAnswered h call reply g → IsReplay (es ++ entries_of caller call reply) g
+pub recorded : (es : List Entry) (caller : ℕ) (call : Call) (reply : Reply) (h g : Heap) → IsReplay es h → LeadsOrRefused h call reply g → IsReplay (es ++ entries_of caller call reply) g
 recorded es caller call (Placed to) h g run step = entered es (record { caller = caller; call = call; reply = Placed to }) h g run step
 recorded es caller call Freed h g run step = entered es (record { caller = caller; call = call; reply = Freed }) h g run step
 recorded es caller call NoRoom h g run step = entered es (record { caller = caller; call = call; reply = NoRoom }) h g run step

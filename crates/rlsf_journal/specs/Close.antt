@@ -23,8 +23,8 @@ abbrev pub LacksOne : ℕ → List PassContents → Type 0
 LacksOne callers passes = (is_strange callers passes ≡ false) × ((c : ℕ) × (c < callers) × (has_pass c passes ≡ false))
 
 -- no pass is strange, and each number below the bound has one
-abbrev pub IsWhole : ℕ → List PassContents → Type 0
-IsWhole callers passes = (is_strange callers passes ≡ false) × HasEach callers passes
+abbrev pub AreComplete : ℕ → List PassContents → Type 0
+AreComplete callers passes = (is_strange callers passes ≡ false) × HasEach callers passes
 
 -- each pass has exactly the receipts of its caller's entries, in their order, and each entry's caller is below the bound
 pub record Agree (callers : ℕ) (passes : List PassContents) (journal : List Entry) : Type 0 where

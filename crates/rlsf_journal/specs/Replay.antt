@@ -28,10 +28,10 @@ Leads h (Reallocate addr layout) UnknownAddress g = HeapReallocates h (at addr) 
 Leads h call reply g = ⊥
 
 -- a call is answered by a step, or for want of memory, and then nothing changes
-abbrev pub IsAnswered : Heap → Call → Reply → Heap → Type 0
-IsAnswered h call TableMemory g = g ≡ h
-IsAnswered h call JournalMemory g = g ≡ h
-IsAnswered h call reply g = Leads h call reply g
+abbrev pub LeadsOrRefused : Heap → Call → Reply → Heap → Type 0
+LeadsOrRefused h call TableMemory g = g ≡ h
+LeadsOrRefused h call JournalMemory g = g ≡ h
+LeadsOrRefused h call reply g = Leads h call reply g
 
 -- the step that a call with its reply is, in the machine's history
 abbrev pub step_by : Call → Reply → Step

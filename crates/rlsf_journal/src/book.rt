@@ -3,11 +3,11 @@
 ghost use Rattle.std.specs.Prelude.{◌≡◌, ◌≢◌, ◌↔◌, ◌++◌, [], length, IfOk, IsErrOf, OnErr, true};
 ghost use Rattle.rlsf_base.specs.Addr.{at};
 ghost use Rattle.rlsf_base.specs.Space.{range_of};
-ghost use Rattle.rlsf_journal.specs.Close.{is_strange, IsWhole, LacksOne, Agree};
+ghost use Rattle.rlsf_journal.specs.Close.{is_strange, AreComplete, LacksOne, Agree};
 ghost use Rattle.rlsf_journal.specs.declared.close.CloseError.TheVariants.{MissingPass, StrangePass, Mismatch};
 ghost use Rattle.rlsf_journal.specs.declared.entry.Reply.TheVariants.{JournalMemory};
 ghost use Rattle.rlsf_journal.specs.Entries.{IfRefused, IsReplyTo, entries_of};
-ghost use Rattle.rlsf_journal.specs.Replay.{IsAnswered, IsReplay};
+ghost use Rattle.rlsf_journal.specs.Replay.{LeadsOrRefused, IsReplay};
 ghost use Rattle.rlsf_placement.specs.Heap.{beginning};
 ghost use Rattle.rlsf_placement.specs.Rows.{IsSorted};
 ghost use Rattle.rlsf_placement.specs.Steps.{HeapReads, HeapWrites};
@@ -65,7 +65,7 @@ impl Book {
     /// room for a row of an allocation. Then nothing changes, and no entry is made. Else `UnknownAddress` exactly where the address
     /// isn't live, and `NoRoom` exactly where there is no room and no memory came. Then nothing changes but for the entry.
     pub fn step(&mut self, caller: usize, call: Call) -> Reply
-        ensures step { IsAnswered self.old.locked.heap call result self.new.locked.heap }
+        ensures step { LeadsOrRefused self.old.locked.heap call result self.new.locked.heap }
         ensures entry { self.new.journal ≡ self.old.journal ++ entries_of caller call result }
         ensures fits { IsReplyTo call result }
         ensures refused { IfRefused result (self.new.locked.memory.bytes ≡ self.old.locked.memory.bytes) }
@@ -123,8 +123,8 @@ impl Book {
     pub fn close(self, callers: usize, passes: Vec<Pass>) -> Result<Closed, CloseError>
         ensures strange { IsErrOf result StrangePass ↔ (is_strange callers passes.items ≡ true) }
         ensures missing { IsErrOf result MissingPass ↔ LacksOne callers passes.items }
-        ensures mismatch { IsErrOf result Mismatch ↔ (IsWhole callers passes.items × (Agree callers passes.items self.journal → ⊥)) }
-        ensures agreed { IfOk result (λ c. IsWhole callers passes.items × Agree callers passes.items self.journal) }
+        ensures mismatch { IsErrOf result Mismatch ↔ (AreComplete callers passes.items × (Agree callers passes.items self.journal → ⊥)) }
+        ensures agreed { IfOk result (λ c. AreComplete callers passes.items × Agree callers passes.items self.journal) }
         ensures journal { IfOk result (λ c. (c.journal.items ≡ self.journal) × IsReplay self.journal self.locked.heap) }
         ensures live { IfOk result (λ c. (c.live.items ≡ self.locked.heap.asked) × IsSorted c.live.items) }
     {
@@ -148,7 +148,7 @@ impl Book {
 
 /// The step of a call.
 fn answer(locked: &mut Locked<()>, call: Call) -> Reply
-    ensures step { IsAnswered locked.old.heap call result locked.new.heap }
+    ensures step { LeadsOrRefused locked.old.heap call result locked.new.heap }
     ensures not_journal { result ≢ JournalMemory }
     ensures fits { IsReplyTo call result }
     ensures refused { IfRefused result (locked.new.memory.bytes ≡ locked.old.memory.bytes) }

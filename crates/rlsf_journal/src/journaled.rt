@@ -2,7 +2,7 @@
 
 ghost use Rattle.std.specs.Prelude.{◌≡◌, ◌++◌, ◌<◌, ◌↔◌, ℕ, MatchResult, IfSome, IfOk, IsErrOf, true};
 ghost use Rattle.rlsf_base.specs.Addr.{at};
-ghost use Rattle.rlsf_journal.specs.Close.{is_strange, IsWhole, LacksOne, Agree};
+ghost use Rattle.rlsf_journal.specs.Close.{is_strange, AreComplete, LacksOne, Agree};
 ghost use Rattle.rlsf_journal.specs.declared.close.CloseError.TheVariants.{MissingPass, StrangePass, Mismatch};
 ghost use Rattle.rlsf_journal.specs.declared.entry.Call.TheVariants.{Allocate, Deallocate, Reallocate};
 ghost use Rattle.rlsf_journal.specs.Entries.{IsReplyTo, receipts_for};
@@ -140,8 +140,8 @@ impl Journaled {
     pub fn close(self, passes: Vec<Pass>) -> Result<Closed, CloseError>
         ensures strange { IsErrOf result StrangePass ↔ (is_strange self.callers passes.items ≡ true) }
         ensures missing { IsErrOf result MissingPass ↔ LacksOne self.callers passes.items }
-        ensures mismatch { IsErrOf result Mismatch → IsWhole self.callers passes.items }
-        ensures agreed { IfOk result (λ c. IsWhole self.callers passes.items × Agree self.callers passes.items c.journal.items) }
+        ensures mismatch { IsErrOf result Mismatch → AreComplete self.callers passes.items }
+        ensures agreed { IfOk result (λ c. AreComplete self.callers passes.items × Agree self.callers passes.items c.journal.items) }
         ensures history { IfOk result (λ c. (h : Heap) × IsReplay c.journal.items h × (c.live.items ≡ h.asked) × IsSorted c.live.items) }
     {
         let Journaled { book, callers } = self;

@@ -19,12 +19,12 @@ use Rattle.rlsf_placement.specs.Cursor.{PageCursor, terms_of}
 use Rattle.rlsf_placement.specs.Heap.{Agrees, Heap, Lists}
 use Rattle.rlsf_placement.specs.Moves.{Replaces}
 use Rattle.rlsf_placement.specs.Pages.{IsPageCursor, MayOwe}
-use Rattle.rlsf_placement.specs.Rows.{IsSorted, Row, put, row_at, without}
+use Rattle.rlsf_placement.specs.Rows.{IsSorted, Row, put, row_at, without_row}
 use Rattle.rlsf_placement.specs.Standing.{IsHeap}
 use Rattle.rlsf_placement.specs.Steps.{Releases, Takes, WritesIn}
 use Rattle.rlsf_placement.proofs.FlexGoing.{FlexGoes, flex_goes}
-use Rattle.rlsf_placement.proofs.Maps.{IsServed, Lists-filled, Lists-moved, Lists-put, Lists-without, agrees-none, row_at-put_other, row_at-without_here, row_at-without_other}
-use Rattle.rlsf_placement.proofs.Rows.{absent-row_at, put-sorted, without-sorted}
+use Rattle.rlsf_placement.proofs.Maps.{IsServed, Lists-filled, Lists-moved, Lists-put, Lists-without_row, agrees-none, row_at-put_other, row_at-without_here, row_at-without_other}
+use Rattle.rlsf_placement.proofs.Rows.{absent-row_at, put-sorted, without_row-sorted}
 
 -- the payload at the address and its row are as they were
 pub record Stays (a : ℕ) (h g : Heap) : Type 0 where
@@ -149,8 +149,8 @@ module _ {memory : Range} (h : Heap) (w : IsHeap memory h) where
         heap = record {
           flex = is.flex;
           owed = is.owed;
-          sorted = without-sorted addr h.asked w.sorted;
-          lists = Lists-without h.asked h.flex.machine m w.lists addr (align_at-none m addr set.here)
+          sorted = without_row-sorted addr h.asked w.sorted;
+          lists = Lists-without_row h.asked h.flex.machine m w.lists addr (align_at-none m addr set.here)
               (λ a off. align_at-map h.flex.machine m a a (set.others a off)) (λ a off. bytes_at-map h.flex.machine m a a (set.others a off));
         };
         others = λ a off.
@@ -172,20 +172,20 @@ module _ {memory : Range} (h : Heap) (w : IsHeap memory h) where
         others = λ a off. record { payload = set.others a (λ same. off (sym same)); row = refl };
       })
 
-  module _ (addr : ℕ) (row : Row) (there : row_at addr h.asked ≡ Some row) (g : Heap) (to : NonZeroUsize) (wanted : Layout) (asked : g.asked ≡ put (to, wanted) (without addr h.asked)) where
+  module _ (addr : ℕ) (row : Row) (there : row_at addr h.asked ≡ Some row) (g : Heap) (to : NonZeroUsize) (wanted : Layout) (asked : g.asked ≡ put (to, wanted) (without_row addr h.asked)) where
     -- another row than the old one and the new one stays
     row_stays : (a : ℕ) → a ≢ addr → a ≢ at to → row_at a g.asked ≡ row_at a h.asked
-    row_stays a off off_to = ap (row_at a) asked ∙ row_at-put_other (to, wanted) (without addr h.asked) a off_to ∙ row_at-without_other addr h.asked a off
+    row_stays a off off_to = ap (row_at a) asked ∙ row_at-put_other (to, wanted) (without_row addr h.asked) a off_to ∙ row_at-without_other addr h.asked a off
 
     -- the rows stay in their order, where nothing lived at another address
-    sorted_after : (at to ≢ addr → payload_at h.flex.machine (at to) ≡ None) → IsSorted (put (to, wanted) (without addr h.asked))
-    sorted_after new = put-sorted (to, wanted) (without addr h.asked) (without-sorted addr h.asked w.sorted) (absent-row_at (at to) (without addr h.asked) (elim (cases_eq (at to) addr) [
-      | inl same ↦ subst (λ a. row_at a (without addr h.asked) ≡ None) (sym same) (row_at-without_here addr h.asked)
+    sorted_after : (at to ≢ addr → payload_at h.flex.machine (at to) ≡ None) → IsSorted (put (to, wanted) (without_row addr h.asked))
+    sorted_after new = put-sorted (to, wanted) (without_row addr h.asked) (without_row-sorted addr h.asked w.sorted) (absent-row_at (at to) (without_row addr h.asked) (elim (cases_eq (at to) addr) [
+      | inl same ↦ subst (λ a. row_at a (without_row addr h.asked) ≡ None) (sym same) (row_at-without_here addr h.asked)
       | inr off ↦ row_at-without_other addr h.asked (at to) off ∙ no_row h (at to) w.lists (new off)
     ]))
 
     -- a payload is at another address or of another size
-    moved : (is : IsHeap memory (record { flex = g.flex; source = g.source; asked = put (to, wanted) (without addr h.asked) })) → ((a : ℕ) → a ≢ addr → a ≢ at to → payload_at g.flex.machine a ≡ payload_at h.flex.machine a)
+    moved : (is : IsHeap memory (record { flex = g.flex; source = g.source; asked = put (to, wanted) (without_row addr h.asked) })) → ((a : ℕ) → a ≢ addr → a ≢ at to → payload_at g.flex.machine a ≡ payload_at h.flex.machine a)
         → Goes memory h g (λ a. (addr ≡ a) ⊎ (at to ≡ a))
     moved is others = record {
       heap = record { flex = is.flex; owed = is.owed; sorted = subst IsSorted (sym asked) is.sorted; lists = subst (λ l. Lists l g.flex.machine) (sym asked) is.lists };

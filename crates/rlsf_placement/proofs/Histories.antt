@@ -12,11 +12,11 @@ use Rattle.rlsf_machine.specs.FlexState.{with_machine}
 use Rattle.rlsf_machine.proofs.CallerWords.{align_at-some, bytes_at-map}
 use Rattle.rlsf_machine.proofs.NoMove.{unmoved_is_reallocated}
 use Rattle.rlsf_placement.specs.declared.error.GlobalError.TheVariants.{NoRoom, OutOfRange, TableMemory, WrongLayout}
-use Rattle.rlsf_placement.specs.Heap.{Heap, content_at, layout_at, layout_of, with_state}
+use Rattle.rlsf_placement.specs.Heap.{Heap, content_at, layout_at, row_layout, with_state}
 use Rattle.rlsf_placement.specs.History.{Gives, LeadsTo, Names, Step, allocate, deallocate, deallocate_as, reallocate, reallocate_as, reallocate_there, read, usable, write}
 use Rattle.rlsf_placement.specs.Isolation.{HistoriesKeepHeap, IsSameAt, StepsKeepHeap, UnnamedStays, UnnamedStaysThroughout}
 use Rattle.rlsf_placement.specs.Moves.{MovesAway, ReallocatesAsAt, ReallocatesAt, ReallocatesThereAt, ReallocatesTo, ResizesThere, ResizesTo, Wanted}
-use Rattle.rlsf_placement.specs.Rows.{Row, put, row_at, without}
+use Rattle.rlsf_placement.specs.Rows.{Row, put, row_at, without_row}
 use Rattle.rlsf_placement.specs.Standing.{IsHeap}
 use Rattle.rlsf_placement.specs.Steps.{DeallocatesAsAt, DeallocatesAt, Done, Placed, Releases, WritesAt, WritesIn, fits, is_same}
 use Rattle.rlsf_placement.proofs.FlexGoing.{flex_goes}
@@ -80,7 +80,7 @@ module _ {memory : Range} (h : Heap) (w : IsHeap memory h) (g : Heap) where
         let room : ReallocatesInRoom 64 h.flex addr wanted.size (at to) [] u =
         record { machine = m; reallocates = (unmoved_is_reallocated 64 h.flex.machine m addr wanted.size (Some (at to)) did).0.1; none = refl; after = refl } in
         subst (λ (x : Heap). Goes memory h x (λ a. (addr ≡ a) ⊎ Gives (Ok to) a)) (sym after)
-        (resized h w addr row there (with_state h m (put (to, wanted) (without addr h.asked))) to wanted refl [] aligned
+        (resized h w addr row there (with_state h m (put (to, wanted) (without_row addr h.asked))) to wanted refl [] aligned
         (flex_goes h.source h.source w.owed.cursor h.flex w.flex w.owed u [] refl (machine_reallocates addr wanted.size (Some (at to))) tt live (inl room)))
     unmoved_goes aligned (Err NoRoom) step = stays_all h w (λ a. (addr ≡ a) ⊎ Gives (Err NoRoom) a) g step.1
     unmoved_goes aligned (Err e) step = absurd step
@@ -132,7 +132,7 @@ histories_keep_heap memory h g (s ∷ steps) w (m, step, rest) = histories_keep_
 -- what callers see of a payload that stays
 same_at : (a : ℕ) (h g : Heap) → Stays a h g → IsSameAt a h g
 unfolding content_at layout_at
-same_at a h g stays = record { content = bytes_at-map h.flex.machine g.flex.machine a a stays.payload; layout = ap (option_map layout_of) stays.row }
+same_at a h g stays = record { content = bytes_at-map h.flex.machine g.flex.machine a a stays.payload; layout = ap (option_map row_layout) stays.row }
 
 pub same_at-refl : (a : ℕ) (h g : Heap) → g ≡ h → IsSameAt a h g
 same_at-refl a h g same = record { content = ap (λ (x : Heap). content_at x a) same; layout = ap (λ (x : Heap). layout_at x a) same }

@@ -15,7 +15,7 @@ use Rattle.rlsf_machine.proofs.CallerWords.{align_at-live, filled_seen}
 use Rattle.rlsf_machine.proofs.Callers.{payload_at-has}
 use Rattle.rlsf_machine.proofs.Coverage.{covers-inside}
 use Rattle.rlsf_machine.proofs.Live.{live_addresses_are_aligned, payloads_are_disjoint}
-use Rattle.rlsf_placement.specs.Heap.{Agrees, Heap, Lists, content_at, layout_at, layout_of}
+use Rattle.rlsf_placement.specs.Heap.{Agrees, Heap, Lists, content_at, layout_at, row_layout}
 use Rattle.rlsf_placement.specs.Left.{AllocationLeaves, DeallocationLeaves, HasByte, PayloadsAreApart, PayloadsServe, ReadTells, WriteLeaves}
 use Rattle.rlsf_placement.specs.Rows.{Row, put, row_at}
 use Rattle.rlsf_placement.specs.Steps.{DeallocatesAt, DeallocatesAsAt, Done, ReadsAt, Releases, WritesAt, WritesIn, fits, is_same}
@@ -32,7 +32,7 @@ listed_row : (h : Heap) (a : ℕ) (layout : Layout) → layout_at h a ≡ Some l
 unfolding layout_at
 listed_row h a layout is = go (row_at a h.asked) refl is
   where
-    go : (o : Option Row) → row_at a h.asked ≡ o → option_map layout_of o ≡ Some layout → (row : Row) × (row_at a h.asked ≡ Some row) × (row.1 ≡ layout)
+    go : (o : Option Row) → row_at a h.asked ≡ o → option_map row_layout o ≡ Some layout → (row : Row) × (row_at a h.asked ≡ Some row) × (row.1 ≡ layout)
     go None there told = absurd (none-some layout told)
     go (Some row) there told = (row, there, same_Some row.1 layout told)
 
@@ -76,12 +76,12 @@ payloads_are_apart memory h a b x w has has' = elim (cases_eq a b) [
 -- where no payload is, no layout is listed
 pub no_layout : (h : Heap) (a : ℕ) → Lists h.asked h.flex.machine → payload_at h.flex.machine a ≡ None → layout_at h a ≡ None
 unfolding layout_at
-no_layout h a lists none = ap (option_map layout_of) (no_row h a lists none)
+no_layout h a lists none = ap (option_map row_layout) (no_row h a lists none)
 
 -- the layout of a row that was put
 pub put_layout : (g : Heap) (to : NonZeroUsize) (wanted : Layout) (rows : List Row) → g.asked ≡ put (to, wanted) rows → layout_at g (at to) ≡ Some wanted
 unfolding layout_at
-put_layout g to wanted rows asked = ap (option_map layout_of) (ap (row_at (at to)) asked ∙ row_at-put_here (to, wanted) rows)
+put_layout g to wanted rows asked = ap (option_map row_layout) (ap (row_at (at to)) asked ∙ row_at-put_here (to, wanted) rows)
 
 pub allocation_leaves : AllocationLeaves
 allocation_leaves memory h g layout addr w ((notes, step, led), asked) =
@@ -90,7 +90,7 @@ allocation_leaves memory h g layout addr w ((notes, step, led), asked) =
 
 released_leaves : (h g : Heap) (addr : ℕ) → Releases h addr g → layout_at g addr ≡ None
 unfolding layout_at
-released_leaves h g addr (m, step, after) = ap (λ (x : Heap). option_map layout_of (row_at addr x.asked)) after ∙ ap (option_map layout_of) (row_at-without_here addr h.asked)
+released_leaves h g addr (m, step, after) = ap (λ (x : Heap). option_map row_layout (row_at addr x.asked)) after ∙ ap (option_map row_layout) (row_at-without_here addr h.asked)
 
 -- two answers are the same
 abbrev AreSame : Done → Done → Type 0
@@ -120,17 +120,17 @@ write_leaves memory h g addr offset bytes w step = go (row_at addr h.asked) step
     now : List ℕ
     now = splice (bytes_at h.flex.machine addr) offset (offset + length bytes) bytes
 
-    wrote : WritesIn h addr offset bytes g → (bytes_at g.flex.machine addr ≡ now) × (option_map layout_of (row_at addr g.asked) ≡ option_map layout_of (row_at addr h.asked))
+    wrote : WritesIn h addr offset bytes g → (bytes_at g.flex.machine addr ≡ now) × (option_map row_layout (row_at addr g.asked) ≡ option_map row_layout (row_at addr h.asked))
     wrote (m, fills, after) = (
       ap (λ (x : Heap). bytes_at x.flex.machine addr) after ∙ (filled_seen w.flex.machine m addr now fills).here,
-      ap (λ (x : Heap). option_map layout_of (row_at addr x.asked)) after,
+      ap (λ (x : Heap). option_map row_layout (row_at addr x.asked)) after,
     )
 
-    go : (o : Option Row) → WritesAt h addr offset bytes o (Ok tt) g → (bytes_at g.flex.machine addr ≡ now) × (option_map layout_of (row_at addr g.asked) ≡ option_map layout_of (row_at addr h.asked))
+    go : (o : Option Row) → WritesAt h addr offset bytes o (Ok tt) g → (bytes_at g.flex.machine addr ≡ now) × (option_map row_layout (row_at addr g.asked) ≡ option_map row_layout (row_at addr h.asked))
     go None step = refused_not tt _ step.0
     go (Some row) step =
         either (AreSame (Ok tt) (Ok tt) × WritesIn h addr offset bytes g) (AreSame (Ok tt) (Err OutOfRange) × (g ≡ h))
-        ((bytes_at g.flex.machine addr ≡ now) × (option_map layout_of (row_at addr g.asked) ≡ option_map layout_of (row_at addr h.asked))) (fits h addr offset (length bytes))
+        ((bytes_at g.flex.machine addr ≡ now) × (option_map row_layout (row_at addr g.asked) ≡ option_map row_layout (row_at addr h.asked))) (fits h addr offset (length bytes))
         (λ e did. wrote did.1) (λ e did. refused_not tt OutOfRange did.0) step
 
 pub read_tells : ReadTells

@@ -1,3 +1,4 @@
+pub mod Apart
 pub mod Cursors
 pub mod FlexGoing
 pub mod Going

@@ -8,7 +8,7 @@ use Rattle.rlsf_machine.specs.Callers.{align_at, bytes_at}
 use Rattle.rlsf_machine.specs.FlexState.{FlexState, empty}
 use Rattle.rlsf_machine.specs.State.{State}
 use Rattle.rlsf_placement.specs.Heap.{Agrees, Lists}
-use Rattle.rlsf_placement.specs.Rows.{Row, key, put, row_at, without}
+use Rattle.rlsf_placement.specs.Rows.{Row, key, put, row_at, without_row}
 
 -- ---- the row at an address
 
@@ -20,11 +20,11 @@ pub row_at-put_other : (row : Row) (rows : List Row) (a : ℕ) → a ≢ key row
 row_at-put_other row [] a other = grind (arith, nat_tests)
 row_at-put_other row (r ∷ rows) a other = let rest = row_at-put_other row rows a other in grind (arith, nat_tests)
 
-pub row_at-without_here : (a : ℕ) (rows : List Row) → row_at a (without a rows) ≡ None
+pub row_at-without_here : (a : ℕ) (rows : List Row) → row_at a (without_row a rows) ≡ None
 row_at-without_here a [] = refl
 row_at-without_here a (r ∷ rows) = let rest = row_at-without_here a rows in grind (arith, nat_tests)
 
-pub row_at-without_other : (addr : ℕ) (rows : List Row) (a : ℕ) → a ≢ addr → row_at a (without addr rows) ≡ row_at a rows
+pub row_at-without_other : (addr : ℕ) (rows : List Row) (a : ℕ) → a ≢ addr → row_at a (without_row addr rows) ≡ row_at a rows
 row_at-without_other addr [] a other = refl
 row_at-without_other addr (r ∷ rows) a other = let rest = row_at-without_other addr rows a other in grind (arith, nat_tests)
 
@@ -63,9 +63,9 @@ module _ (rows : List Row) (m n : State) (lists : Lists rows m) where
   ]
 
   -- a payload less, and a row less
-  pub Lists-without : (addr : ℕ) → align_at n addr ≡ None → ((a : ℕ) → a ≢ addr → align_at n a ≡ align_at m a) → ((a : ℕ) → a ≢ addr → bytes_at n a ≡ bytes_at m a) → Lists (without addr rows) n
-  Lists-without addr gone aligns bytes a = elim (cases_eq a addr) [
-    | inl same ↦ subst (λ b. Agrees (row_at b (without addr rows)) (align_at n b) (bytes_at n b)) (sym same) (Agrees-at (row_at-without_here addr rows) refl refl gone)
+  pub Lists-without_row : (addr : ℕ) → align_at n addr ≡ None → ((a : ℕ) → a ≢ addr → align_at n a ≡ align_at m a) → ((a : ℕ) → a ≢ addr → bytes_at n a ≡ bytes_at m a) → Lists (without_row addr rows) n
+  Lists-without_row addr gone aligns bytes a = elim (cases_eq a addr) [
+    | inl same ↦ subst (λ b. Agrees (row_at b (without_row addr rows)) (align_at n b) (bytes_at n b)) (sym same) (Agrees-at (row_at-without_here addr rows) refl refl gone)
     | inr other ↦ Agrees-at (row_at-without_other addr rows a other) (aligns a other) (bytes a other) (lists a)
   ]
 
@@ -79,11 +79,11 @@ module _ (rows : List Row) (m n : State) (lists : Lists rows m) where
 
   -- a payload with another size, where it was or elsewhere
   pub Lists-moved : (addr : ℕ) (row : Row) → IsServed n (key row) row.1 → (key row ≢ addr → align_at n addr ≡ None) → ((a : ℕ) → a ≢ addr → a ≢ key row → align_at n a ≡ align_at m a)
-      → ((a : ℕ) → a ≢ addr → a ≢ key row → bytes_at n a ≡ bytes_at m a) → Lists (put row (without addr rows)) n
+      → ((a : ℕ) → a ≢ addr → a ≢ key row → bytes_at n a ≡ bytes_at m a) → Lists (put row (without_row addr rows)) n
   Lists-moved addr row is left aligns bytes a = elim (cases_eq a (key row)) [
-    | inl same ↦ subst (λ b. Agrees (row_at b (put row (without addr rows))) (align_at n b) (bytes_at n b)) (sym same) (Agrees-at (row_at-put_here row (without addr rows)) refl refl (is.live, is.sized, is.few))
-    | inr other ↦ Agrees-at (row_at-put_other row (without addr rows) a other) refl refl (elim (cases_eq a addr) [
-      | inl gone ↦ subst (λ b. Agrees (row_at b (without addr rows)) (align_at n b) (bytes_at n b)) (sym gone)
+    | inl same ↦ subst (λ b. Agrees (row_at b (put row (without_row addr rows))) (align_at n b) (bytes_at n b)) (sym same) (Agrees-at (row_at-put_here row (without_row addr rows)) refl refl (is.live, is.sized, is.few))
+    | inr other ↦ Agrees-at (row_at-put_other row (without_row addr rows) a other) refl refl (elim (cases_eq a addr) [
+      | inl gone ↦ subst (λ b. Agrees (row_at b (without_row addr rows)) (align_at n b) (bytes_at n b)) (sym gone)
           (Agrees-at (row_at-without_here addr rows) refl refl (left (λ same. other (gone ∙ sym same))))
       | inr apart ↦ Agrees-at (row_at-without_other addr rows a apart) (aligns a apart other) (bytes a apart other) (lists a)
     ])

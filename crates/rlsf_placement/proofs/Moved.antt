@@ -16,10 +16,10 @@ use Rattle.rlsf_machine.specs.Run.{IsSomeLive, reallocate as machine_reallocates
 use Rattle.rlsf_machine.specs.State.{with_front}
 use Rattle.rlsf_machine.proofs.CallerWords.{align_at-some, bytes_at-told}
 use Rattle.rlsf_machine.proofs.NoMove.{unmoved_is_reallocated}
-use Rattle.rlsf_placement.specs.Heap.{Agrees, Heap, Lists, content_at, layout_at, layout_of, with_state}
+use Rattle.rlsf_placement.specs.Heap.{Agrees, Heap, Lists, content_at, layout_at, row_layout, with_state}
 use Rattle.rlsf_placement.specs.Left.{IsMoved, IsMovedTo, ReallocationAsLeaves, ReallocationLeaves, ReallocationThereLeaves, in_both}
 use Rattle.rlsf_placement.specs.Moves.{ReallocatesAsAt, ReallocatesAt, ReallocatesThereAt, ReallocatesTo, Replaces, ResizesThere, Wanted}
-use Rattle.rlsf_placement.specs.Rows.{Row, put, row_at, without}
+use Rattle.rlsf_placement.specs.Rows.{Row, put, row_at, without_row}
 use Rattle.rlsf_placement.specs.Standing.{IsHeap}
 use Rattle.rlsf_placement.specs.Steps.{Placed, is_same}
 use Rattle.rlsf_placement.specs.declared.error.GlobalError.TheVariants.{WrongLayout}
@@ -34,10 +34,10 @@ take-with_front : (n : ℕ) (new old : List ℕ) → n ≤ length new → take n
 take-with_front n new old short = take_at (take n new) (drop n old) n (length-take-le n new short)
 
 -- where a payload moved from, no layout is listed
-left_layout : (g : Heap) (addr : ℕ) (to : NonZeroUsize) (wanted : Layout) (rows : List Row) → g.asked ≡ put (to, wanted) (without addr rows) → at to ≢ addr → layout_at g addr ≡ None
+left_layout : (g : Heap) (addr : ℕ) (to : NonZeroUsize) (wanted : Layout) (rows : List Row) → g.asked ≡ put (to, wanted) (without_row addr rows) → at to ≢ addr → layout_at g addr ≡ None
 unfolding layout_at
 left_layout g addr to wanted rows asked off =
-    ap (option_map layout_of) (ap (row_at addr) asked ∙ row_at-put_other (to, wanted) (without addr rows) addr (λ same. off (sym same)) ∙ row_at-without_here addr rows)
+    ap (option_map row_layout) (ap (row_at addr) asked ∙ row_at-put_other (to, wanted) (without_row addr rows) addr (λ same. off (sym same)) ∙ row_at-without_here addr rows)
 
 -- the row's size is usable
 row_size : (h : Heap) (addr : ℕ) (row : Row) → Lists h.asked h.flex.machine → row_at addr h.asked ≡ Some row → row.1.size ≤ length (bytes_at h.flex.machine addr)
@@ -51,7 +51,7 @@ module _ {memory : Range} (h : Heap) (w : IsHeap memory h) (addr : ℕ) (row : R
   lives = align_at-some h.flex.machine addr (subst IsSome (sym (live_row h addr row w.lists there)) refl)
 
   -- by the machine
-  resized_moved : (g : Heap) → g.asked ≡ put (to, wanted) (without addr h.asked) → (notes : List Note) → FlexGoes memory h.source h.flex (machine_reallocates addr wanted.size (Some (at to))) notes g.source g.flex
+  resized_moved : (g : Heap) → g.asked ≡ put (to, wanted) (without_row addr h.asked) → (notes : List Note) → FlexGoes memory h.source h.flex (machine_reallocates addr wanted.size (Some (at to))) notes g.source g.flex
       → IsMoved h g addr (at to) (in_both h g addr (at to)) wanted
   unfolding content_at
   resized_moved g asked notes is =
@@ -59,14 +59,14 @@ module _ {memory : Range} (h : Heap) (w : IsHeap memory h) (addr : ℕ) (row : R
       let was : bytes_at h.flex.machine addr ≡ r.old.bytes = bytes_at-told h.flex.machine addr r.old r.was in
       let now : bytes_at g.flex.machine (at to) ≡ r.now.bytes = bytes_at-told g.flex.machine (at to) r.now r.here in
       record {
-        layout = put_layout g to wanted (without addr h.asked) asked;
+        layout = put_layout g to wanted (without_row addr h.asked) asked;
         bytes = subst (λ l. Keeps l (bytes_at g.flex.machine (at to))) (sym was) (subst (Keeps r.old.bytes) (sym now) r.kept);
         new = λ off. no_layout h (at to) w.lists (r.new off);
         gone = left_layout g addr to wanted h.asked asked;
       }
 
   -- into a payload that was allocated while the old one stood
-  replaced_moved : (g : Heap) → g.asked ≡ put (to, wanted) (without addr h.asked) → (keep : ℕ) → keep ≤ length (bytes_at h.flex.machine addr) → Replaces h addr keep wanted.size wanted.align (at to) g.flex g.source
+  replaced_moved : (g : Heap) → g.asked ≡ put (to, wanted) (without_row addr h.asked) → (keep : ℕ) → keep ≤ length (bytes_at h.flex.machine addr) → Replaces h addr keep wanted.size wanted.align (at to) g.flex g.source
       → (at to ≢ addr) × IsMoved h g addr (at to) keep wanted
   unfolding content_at
   replaced_moved g asked keep short step =
@@ -74,7 +74,7 @@ module _ {memory : Range} (h : Heap) (w : IsHeap memory h) (addr : ℕ) (row : R
       let now : bytes_at g.flex.machine (at to) ≡ with_front keep (bytes_at h.flex.machine addr) is.rest = bytes_at-told g.flex.machine (at to) is.now is.here ∙ is.bytes in (
         is.apart,
         record {
-          layout = put_layout g to wanted (without addr h.asked) asked;
+          layout = put_layout g to wanted (without_row addr h.asked) asked;
           bytes = ap (take keep) now ∙ take-with_front keep (bytes_at h.flex.machine addr) is.rest short;
           new = λ off. no_layout h (at to) w.lists is.new;
           gone = left_layout g addr to wanted h.asked asked;
@@ -87,7 +87,7 @@ module _ {memory : Range} (h : Heap) (w : IsHeap memory h) (addr : ℕ) (row : R
       let u = with_machine h.flex m in
       let (same, step) = (unmoved_is_reallocated 64 h.flex.machine m addr wanted.size (Some (at to)) did).0 in
       let room : ReallocatesInRoom 64 h.flex addr wanted.size (at to) [] u = record { machine = m; reallocates = step; none = refl; after = refl } in
-      let x = with_state h m (put (to, wanted) (without addr h.asked)) in (
+      let x = with_state h m (put (to, wanted) (without_row addr h.asked)) in (
         same,
         subst (λ (y : Heap). IsMoved h y addr (at to) (in_both h y addr (at to)) wanted) (sym after)
             (resized_moved x refl [] (flex_goes h.source h.source w.owed.cursor h.flex w.flex w.owed u [] refl (machine_reallocates addr wanted.size (Some (at to))) tt lives (inl room))),

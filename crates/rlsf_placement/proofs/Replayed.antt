@@ -24,7 +24,7 @@ use Rattle.rlsf_placement.specs.Heap.{HaveSamePlacement, Heap}
 use Rattle.rlsf_placement.specs.History.{allocate, deallocate, deallocate_as, reallocate, reallocate_as, reallocate_there, read, usable, write}
 use Rattle.rlsf_placement.specs.Moves.{MovesAway, ReallocatesAsAt, ReallocatesAt, ReallocatesThereAt, ReallocatesTo, Replaces, Resizes, ResizesThere, ResizesTo, Wanted}
 use Rattle.rlsf_placement.specs.Replays.{LacksMemory, PlacementDetermines}
-use Rattle.rlsf_placement.specs.Rows.{Row, put, row_at, without}
+use Rattle.rlsf_placement.specs.Rows.{Row, put, row_at, without_row}
 use Rattle.rlsf_placement.specs.Standing.{IsHeap}
 use Rattle.rlsf_placement.specs.Steps.{DeallocatesAsAt, DeallocatesAt, Done, HeapAllocates, Placed, ReadsAt, Releases, Takes, UsableAt, WritesAt, WritesIn, fits, is_same}
 use Rattle.rlsf_placement.proofs.FlexGoing.{flex_goes}
@@ -123,7 +123,7 @@ module _ {memory : Range} (h h' : Heap) (w : IsHeap memory h) (w' : IsHeap memor
     releases : (addr : ℕ) → Releases h addr g → Releases h' addr g' → HaveSamePlacement g g'
     releases addr (m, step, after) (m', step', after') =
         let near = (similar_states_agree 64 64 memory h.flex.machine h'.flex.machine m m' (machine_deallocates addr) (machine_deallocates addr) w.flex.machine w'.flex.machine r.machine step step' refl).1 in
-        same_placement-at g g' after after' (record { machine = near; pools = r.pools; kept = r.kept; source = r.source; asked = ap (without addr) r.asked })
+        same_placement-at g g' after after' (record { machine = near; pools = r.pools; kept = r.kept; source = r.source; asked = ap (without_row addr) r.asked })
 
     deallocates : (addr : ℕ) (o : Option Row) (m n : Done) → DeallocatesAt h addr o m g → DeallocatesAt h' addr o n g' → (m ≡ n) × HaveSamePlacement g g'
     deallocates addr None m n s t = (s.0 ∙ sym t.0, stay s.1 t.1)
@@ -141,7 +141,7 @@ module _ {memory : Range} (h h' : Heap) (w : IsHeap memory h) (w' : IsHeap memor
     moves_away addr keep keep' wanted (Ok a) (Ok b) s t =
         let (reply, near, now) = replaced addr keep keep' wanted.size wanted.align (at a) (at b) wanted.valid.aligned g.flex g'.flex g.source g'.source s.0 t.0 in
         let same = same_address a b reply in
-        (ap Ok same, joined near now (s.1 ∙ ap₂ (λ c l. put (c, wanted) (without addr l)) same r.asked ∙ sym t.1))
+        (ap Ok same, joined near now (s.1 ∙ ap₂ (λ c l. put (c, wanted) (without_row addr l)) same r.asked ∙ sym t.1))
     moves_away addr keep keep' wanted (Ok a) (Err NoRoom) s t =
         absurd (none-some (at a) (sym (took wanted.size wanted.align wanted.valid.aligned (Some (at a)) None s.0.meanwhile h'.flex g.source h'.source s.0.takes t.0).0))
     moves_away addr keep keep' wanted (Err NoRoom) (Ok b) s t =
@@ -155,7 +155,7 @@ module _ {memory : Range} (h h' : Heap) (w : IsHeap memory h) (w' : IsHeap memor
     resizes_to addr wanted lives (Ok a) (Ok b) s t =
         let (reply, near, now) = resized addr wanted.size lives (Some (at a)) (Some (at b)) g.flex g'.flex g.source g'.source s.0 t.0 in
         let same = same_address a b (same_Some (at a) (at b) reply) in
-        (ap Ok same, joined near now (s.1 ∙ ap₂ (λ c l. put (c, wanted) (without addr l)) same r.asked ∙ sym t.1))
+        (ap Ok same, joined near now (s.1 ∙ ap₂ (λ c l. put (c, wanted) (without_row addr l)) same r.asked ∙ sym t.1))
     resizes_to addr wanted lives (Ok a) (Err NoRoom) s t = absurd (none-some (at a) (sym (resized addr wanted.size lives (Some (at a)) None g.flex h'.flex g.source h'.source s.0 t.0).0))
     resizes_to addr wanted lives (Err NoRoom) (Ok b) s t = absurd (none-some (at b) (resized addr wanted.size lives None (Some (at b)) h.flex g'.flex h.source g'.source s.0 t.0).0)
     resizes_to addr wanted lives (Err NoRoom) (Err NoRoom) s t = (refl, stay s.1 t.1)
@@ -167,7 +167,7 @@ module _ {memory : Range} (h h' : Heap) (w : IsHeap memory h) (w' : IsHeap memor
     resizes_there addr wanted (Ok a) (Ok b) (i, step, after) (j, step', after') =
         let (reply, near) = unmoved-similar w.flex.machine w'.flex.machine r.machine addr wanted.size (Some (at a)) (Some (at b)) i j step step' in
         let same = same_address a b (same_Some (at a) (at b) reply) in
-        (ap Ok same, same_placement-at g g' after after' (record { machine = near; pools = r.pools; kept = r.kept; source = r.source; asked = ap₂ (λ c l. put (c, wanted) (without addr l)) same r.asked }))
+        (ap Ok same, same_placement-at g g' after after' (record { machine = near; pools = r.pools; kept = r.kept; source = r.source; asked = ap₂ (λ c l. put (c, wanted) (without_row addr l)) same r.asked }))
     resizes_there addr wanted (Ok a) (Err NoRoom) (i, step, after) t =
         absurd (none-some (at a) (sym (unmoved-similar w.flex.machine w'.flex.machine r.machine addr wanted.size (Some (at a)) None i h'.flex.machine step t.0).0))
     resizes_there addr wanted (Err NoRoom) (Ok b) s (j, step', after') =

@@ -2,7 +2,7 @@
 use Rattle.std.proofs.Common.{◌≡◌, ◌≢◌, ◌⊎◌, ℕ, suc, ◌<◌, ◌≤◌, List, [], ◌∷◌, Some, None, Bool, true, false, true≢false, not, nat_lt, ◌==◌, refl, sym, ap, subst, arith, inl, inr, ◌∙◌, if◌then◌else◌}
 use Rattle.std.proofs.lemmas.Bool.Decides.{eqb_tells, leb_tells}
 use Rattle.rlsf_machine.specs.Lists.{IsIn}
-use Rattle.rlsf_placement.specs.Rows.{Row, key, IsSorted, row_at, put, without}
+use Rattle.rlsf_placement.specs.Rows.{Row, key, IsSorted, row_at, put, without_row}
 
 -- a test isn't both
 clash : {X : Type 0} → true ≡ false → X
@@ -23,11 +23,11 @@ IsIn-put x row (r ∷ rows) h = by (IsIn-put x row rows) (nat_lt (key r) (key ro
     by rest false true (inr i) = inr (inr i)
     by rest false false h = h
 
-pub IsIn-without : (x : Row) (a : ℕ) (rows : List Row) → IsIn x (without a rows) → IsIn x rows × (key x ≢ a)
-IsIn-without x a [] h = absurd h
-IsIn-without x a (r ∷ rows) h = by (IsIn-without x a rows) (key r == a) (eqb_tells (key r) a) h
+pub IsIn-without_row : (x : Row) (a : ℕ) (rows : List Row) → IsIn x (without_row a rows) → IsIn x rows × (key x ≢ a)
+IsIn-without_row x a [] h = absurd h
+IsIn-without_row x a (r ∷ rows) h = by (IsIn-without_row x a rows) (key r == a) (eqb_tells (key r) a) h
   where
-    by : (IsIn x (without a rows) → IsIn x rows × (key x ≢ a)) → (eq : Bool) → ((eq ≡ true) × (key r ≡ a)) ⊎ ((eq ≡ false) × (key r ≢ a)) → IsIn x (if not eq then r ∷ without a rows else without a rows) → IsIn x (r ∷ rows) × (key x ≢ a)
+    by : (IsIn x (without_row a rows) → IsIn x rows × (key x ≢ a)) → (eq : Bool) → ((eq ≡ true) × (key r ≡ a)) ⊎ ((eq ≡ false) × (key r ≢ a)) → IsIn x (if not eq then r ∷ without_row a rows else without_row a rows) → IsIn x (r ∷ rows) × (key x ≢ a)
     by rest true t h = let j = rest h in (inr j.0, j.1)
     by rest false (inl (off, _)) h = clash' off
     by rest false (inr (_, differs)) (inl e) = (inl e, λ same. differs (sym (ap key e) ∙ same))
@@ -51,13 +51,13 @@ put-sorted row (r ∷ rows) s n = by (put-sorted row rows s.1 (λ x i. n x (inr 
         (λ x. elim [ inl e ↦ subst (λ y. key row < key y) (sym e) below | inr i ↦ omega (arith, below, s.0 x i) ], s)
 
 -- and so does one row less
-pub without-sorted : (a : ℕ) (rows : List Row) → IsSorted rows → IsSorted (without a rows)
-without-sorted a [] s = tt
-without-sorted a (r ∷ rows) s = by (without-sorted a rows s.1) (key r == a)
+pub without_row-sorted : (a : ℕ) (rows : List Row) → IsSorted rows → IsSorted (without_row a rows)
+without_row-sorted a [] s = tt
+without_row-sorted a (r ∷ rows) s = by (without_row-sorted a rows s.1) (key r == a)
   where
-    by : IsSorted (without a rows) → (eq : Bool) → IsSorted (if not eq then r ∷ without a rows else without a rows)
+    by : IsSorted (without_row a rows) → (eq : Bool) → IsSorted (if not eq then r ∷ without_row a rows else without_row a rows)
     by rest true = rest
-    by rest false = (λ x i. s.0 x (IsIn-without x a rows i).0, rest)
+    by rest false = (λ x i. s.0 x (IsIn-without_row x a rows i).0, rest)
 
 -- an address without a row
 pub absent-row_at : (addr : ℕ) (rows : List Row) → row_at addr rows ≡ None → (r : Row) → IsIn r rows → key r ≢ addr

@@ -32,12 +32,12 @@ pub record HaveSamePlacement (h g : Heap) : Type 0 where
   pub asked : h.asked ≡ g.asked
 
 -- the layout of a row
-abbrev pub layout_of : Row → Layout
-layout_of r = r.1
+abbrev pub row_layout : Row → Layout
+row_layout r = r.1
 
 -- the layout that was last asked for the payload at an address, or none where no payload is
 unfoldable pub layout_at : Heap → ℕ → Option Layout
-layout_at h addr = option_map layout_of (row_at addr h.asked)
+layout_at h addr = option_map row_layout (row_at addr h.asked)
 
 -- a payload of a layout with this size and this alignment is at the address
 abbrev pub HasLayout : Heap → ℕ → ℕ → ℕ → Type 0

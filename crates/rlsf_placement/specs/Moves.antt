@@ -13,7 +13,7 @@ use Rattle.rlsf_machine.specs.State.{State}
 use Rattle.rlsf_placement.specs.declared.error.GlobalError.TheVariants.{NoRoom, UnknownAddress, WrongLayout}
 use Rattle.rlsf_placement.specs.Cursor.{PageCursor, PageLeads, terms_of}
 use Rattle.rlsf_placement.specs.Heap.{Heap, with_state}
-use Rattle.rlsf_placement.specs.Rows.{Row, put, row_at, without}
+use Rattle.rlsf_placement.specs.Rows.{Row, put, row_at, without_row}
 use Rattle.rlsf_placement.specs.Steps.{Placed, Takes, is_same}
 
 -- a payload is allocated while an old one stands, gets its first bytes, and the old one is given back
@@ -33,21 +33,21 @@ Resizes h addr size reply flex source = (notes : List Note) × FlexReallocates 6
 -- the payload moves into another, with a row for it in the place of the old one's; where there is no room and no memory came, nothing
 -- changes
 abbrev pub MovesAway : Heap → ℕ → ℕ → Layout → Placed → Heap → Type 0
-MovesAway h addr keep wanted (Ok to) g = Replaces h addr keep wanted.size wanted.align (at to) g.flex g.source × (g.asked ≡ put (to, wanted) (without addr h.asked))
+MovesAway h addr keep wanted (Ok to) g = Replaces h addr keep wanted.size wanted.align (at to) g.flex g.source × (g.asked ≡ put (to, wanted) (without_row addr h.asked))
 MovesAway h addr keep wanted (Err NoRoom) g = Takes h wanted.size wanted.align None h.flex h.source × (g ≡ h)
 MovesAway h addr keep wanted (Err e) g = ⊥
 
 -- the payload gets another size by the machine, with a row for it in the place of the old one's; where there is no room and no memory
 -- came, nothing changes
 abbrev pub ResizesTo : Heap → ℕ → Layout → Placed → Heap → Type 0
-ResizesTo h addr wanted (Ok to) g = Resizes h addr wanted.size (Some (at to)) g.flex g.source × (g.asked ≡ put (to, wanted) (without addr h.asked))
+ResizesTo h addr wanted (Ok to) g = Resizes h addr wanted.size (Some (at to)) g.flex g.source × (g.asked ≡ put (to, wanted) (without_row addr h.asked))
 ResizesTo h addr wanted (Err NoRoom) g = Resizes h addr wanted.size None h.flex h.source × (g ≡ h)
 ResizesTo h addr wanted (Err e) g = ⊥
 
 -- the payload gets another size where it stands, and its row another layout; where the bytes there don't suffice, nothing changes
 abbrev pub ResizesThere : Heap → ℕ → Layout → Placed → Heap → Type 0
 ResizesThere h addr wanted (Ok to) g =
-    (m : State) × ReallocatesWithoutMove h.flex.machine addr wanted.size (Some (at to)) m × (g ≡ with_state h m (put (to, wanted) (without addr h.asked)))
+    (m : State) × ReallocatesWithoutMove h.flex.machine addr wanted.size (Some (at to)) m × (g ≡ with_state h m (put (to, wanted) (without_row addr h.asked)))
 ResizesThere h addr wanted (Err NoRoom) g = ReallocatesWithoutMove h.flex.machine addr wanted.size None h.flex.machine × (g ≡ h)
 ResizesThere h addr wanted (Err e) g = ⊥
 

@@ -28,5 +28,5 @@ put row [] = row ∷ []
 put row (r ∷ rows) = if nat_lt (key r) (key row) then r ∷ put row rows else if key r == key row then row ∷ rows else row ∷ r ∷ rows
 
 -- the rows but for that of an address
-abbrev pub without : ℕ → List Row → List Row
-without addr rows = filter (λ r. not (key r == addr)) rows
+abbrev pub without_row : ℕ → List Row → List Row
+without_row addr rows = filter (λ r. not (key r == addr)) rows

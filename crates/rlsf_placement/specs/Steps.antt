@@ -15,7 +15,7 @@ use Rattle.rlsf_placement.specs.declared.error.GlobalError.{GlobalError}
 use Rattle.rlsf_placement.specs.declared.error.GlobalError.TheVariants.{NoRoom, UnknownAddress, WrongLayout, TableMemory, OutOfRange}
 use Rattle.rlsf_placement.specs.Cursor.{PageCursor, PageLeads, terms_of}
 use Rattle.rlsf_placement.specs.Heap.{Heap, with_state}
-use Rattle.rlsf_placement.specs.Rows.{Row, put, row_at, without}
+use Rattle.rlsf_placement.specs.Rows.{Row, put, row_at, without_row}
 
 -- what a call answers that gives no address
 abbrev pub Done : Type 0
@@ -39,7 +39,7 @@ HeapAllocates h layout (Err e) g = ⊥
 
 -- the payload at the address is given back, and so is its row
 abbrev pub Releases : Heap → ℕ → Heap → Type 0
-Releases h addr g = (m : State) × Deallocates h.flex.machine addr m × (g ≡ with_state h m (without addr h.asked))
+Releases h addr g = (m : State) × Deallocates h.flex.machine addr m × (g ≡ with_state h m (without_row addr h.asked))
 
 -- the row of the address decides: none, and the address is refused
 abbrev pub DeallocatesAt : Heap → ℕ → Option Row → Done → Heap → Type 0

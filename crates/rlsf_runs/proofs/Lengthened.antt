@@ -10,47 +10,47 @@ use Rattle.rlsf_machine.specs.Insert.{IsClear}
 use Rattle.rlsf_machine.specs.Lists.{IsIn}
 use Rattle.rlsf_machine.specs.WellFormed.{covers, coverage, itself}
 use Rattle.rlsf_machine.proofs.Coverage.{covers-inside, covers-split, coverage-IsIn}
-use Rattle.rlsf_runs.specs.Runs.{lengthened, lengthened_at}
+use Rattle.rlsf_runs.specs.Runs.{longer_pool, longer_pool_at}
 use Rattle.rlsf_runs.specs.Steps.Tables.{EndsAt, IsInOrder}
 use Rattle.rlsf_runs.proofs.SamePools.{IsIn-each}
 use Rattle.rlsf_runs.proofs.Overlapping.{IsIn-at, no_range, nth_range}
 
 -- a pool that ends at the address is longer, and any other is as it was
-pub is_lengthened : (addr more : ℕ) (p : Range) → ((end_of p ≡ addr) × (lengthened_at addr more p ≡ lengthened more p)) ⊎ ((end_of p ≢ addr) × (lengthened_at addr more p ≡ p))
+pub is_lengthened : (addr more : ℕ) (p : Range) → ((end_of p ≡ addr) × (longer_pool_at addr more p ≡ longer_pool more p)) ⊎ ((end_of p ≢ addr) × (longer_pool_at addr more p ≡ p))
 is_lengthened addr more p = elim (eqb_tells (end_of p) addr) [
-  | inl (is_true, same) ↦ inl (same, ap (λ b. cond b (lengthened more p) p) is_true)
-  | inr (is_false, differ) ↦ inr (differ, ap (λ b. cond b (lengthened more p) p) is_false)
+  | inl (is_true, same) ↦ inl (same, ap (λ b. cond b (longer_pool more p) p) is_true)
+  | inr (is_false, differ) ↦ inr (differ, ap (λ b. cond b (longer_pool more p) p) is_false)
 ]
 
 -- each pool of the new list is one of the old ones, lengthened if it ends there
-pub IsIn-lengthened : (addr more : ℕ) (p : Range) (xs : List Range) → IsIn p (map (lengthened_at addr more) xs) → (q : Range) × IsIn q xs × (p ≡ lengthened_at addr more q)
-IsIn-lengthened addr more p [] there = absurd there
-IsIn-lengthened addr more p (x ∷ xs) (inl is) = (x, inl refl, is)
-IsIn-lengthened addr more p (x ∷ xs) (inr there) = let (q, i, is) = IsIn-lengthened addr more p xs there in (q, inr i, is)
+pub IsIn-longer_pool : (addr more : ℕ) (p : Range) (xs : List Range) → IsIn p (map (longer_pool_at addr more) xs) → (q : Range) × IsIn q xs × (p ≡ longer_pool_at addr more q)
+IsIn-longer_pool addr more p [] there = absurd there
+IsIn-longer_pool addr more p (x ∷ xs) (inl is) = (x, inl refl, is)
+IsIn-longer_pool addr more p (x ∷ xs) (inr there) = let (q, i, is) = IsIn-longer_pool addr more p xs there in (q, inr i, is)
 
 -- a pool that gets longer has its old addresses, and those that it takes
-covers-lengthened : (addr more : ℕ) (p : Range) (a : ℕ) → end_of p ≡ addr → covers (lengthened more p) a ≡ covers p a + covers (range_at addr more) a
-covers-lengthened addr more p a ends =
-    covers-split p.start addr (addr + more) a (omega (arith, ends)) (omega arith) (lengthened more p) p (range_at addr more) refl (omega (arith, ends)) refl ends refl refl
+covers-longer_pool : (addr more : ℕ) (p : Range) (a : ℕ) → end_of p ≡ addr → covers (longer_pool more p) a ≡ covers p a + covers (range_at addr more) a
+covers-longer_pool addr more p a ends =
+    covers-split p.start addr (addr + more) a (omega (arith, ends)) (omega arith) (longer_pool more p) p (range_at addr more) refl (omega (arith, ends)) refl ends refl refl
 
-covers-lengthened_at : (addr more : ℕ) (p : Range) (a : ℕ) → covers p a ≤ covers (lengthened_at addr more p) a
-covers-lengthened_at addr more p a = elim (is_lengthened addr more p) [
-  | inl (ends, is) ↦ omega (arith, ap (λ q. covers q a) is, covers-lengthened addr more p a ends)
+covers-longer_pool_at : (addr more : ℕ) (p : Range) (a : ℕ) → covers p a ≤ covers (longer_pool_at addr more p) a
+covers-longer_pool_at addr more p a = elim (is_lengthened addr more p) [
+  | inl (ends, is) ↦ omega (arith, ap (λ q. covers q a) is, covers-longer_pool addr more p a ends)
   | inr (_, is) ↦ omega (arith, ap (λ q. covers q a) is)
 ]
 
-coverage-lengthened-le : (addr more : ℕ) (xs : List Range) (a : ℕ) → coverage itself xs a ≤ coverage itself (map (lengthened_at addr more) xs) a
-coverage-lengthened-le addr more [] a = omega arith
-coverage-lengthened-le addr more (x ∷ xs) a = omega (arith, covers-lengthened_at addr more x a, coverage-lengthened-le addr more xs a)
+coverage-longer_pool-le : (addr more : ℕ) (xs : List Range) (a : ℕ) → coverage itself xs a ≤ coverage itself (map (longer_pool_at addr more) xs) a
+coverage-longer_pool-le addr more [] a = omega arith
+coverage-longer_pool-le addr more (x ∷ xs) a = omega (arith, covers-longer_pool_at addr more x a, coverage-longer_pool-le addr more xs a)
 
 -- and so has a list of pools one of which gets longer
-pub coverage-lengthened : (addr more : ℕ) (p : Range) (xs : List Range) (a : ℕ) → IsIn p xs → end_of p ≡ addr → covers (range_at addr more) a + coverage itself xs a ≤ coverage itself (map (lengthened_at addr more) xs) a
-coverage-lengthened addr more p [] a there ends = absurd there
-coverage-lengthened addr more p (x ∷ xs) a (inl is) ends = elim (is_lengthened addr more x) [
-  | inl (same, longer) ↦ omega (arith, ap (λ q. covers q a) longer, covers-lengthened addr more x a same, coverage-lengthened-le addr more xs a)
+pub coverage-longer_pool : (addr more : ℕ) (p : Range) (xs : List Range) (a : ℕ) → IsIn p xs → end_of p ≡ addr → covers (range_at addr more) a + coverage itself xs a ≤ coverage itself (map (longer_pool_at addr more) xs) a
+coverage-longer_pool addr more p [] a there ends = absurd there
+coverage-longer_pool addr more p (x ∷ xs) a (inl is) ends = elim (is_lengthened addr more x) [
+  | inl (same, longer) ↦ omega (arith, ap (λ q. covers q a) longer, covers-longer_pool addr more x a same, coverage-longer_pool-le addr more xs a)
   | inr (differ, _) ↦ absurd (differ (sym (ap end_of is) ∙ ends))
 ]
-coverage-lengthened addr more p (x ∷ xs) a (inr there) ends = omega (arith, covers-lengthened_at addr more x a, coverage-lengthened addr more p xs a there ends)
+coverage-longer_pool addr more p (x ∷ xs) a (inr there) ends = omega (arith, covers-longer_pool_at addr more x a, coverage-longer_pool addr more p xs a there ends)
 
 module _ {xs : List Range} (o : IsInOrder xs) where
   -- one pool alone ends where it does
@@ -71,14 +71,14 @@ module _ {xs : List Range} (o : IsInOrder xs) where
   ]) there
 
   -- and to lengthen it is to lengthen each that ends there
-  pub lengthened-each : (i addr more : ℕ) → EndsAt xs i addr → slice_set xs i (lengthened more (nth_range xs i)) ≡ map (lengthened_at addr more) xs
-  lengthened-each i addr more (below, ends) = ext_get_or no_range (slice_set xs i new) (map f xs) (length-set xs i new ∙ sym (length-map xs f)) each
+  pub longer_pool-each : (i addr more : ℕ) → EndsAt xs i addr → slice_set xs i (longer_pool more (nth_range xs i)) ≡ map (longer_pool_at addr more) xs
+  longer_pool-each i addr more (below, ends) = ext_get_or no_range (slice_set xs i new) (map f xs) (length-set xs i new ∙ sym (length-map xs f)) each
     where
       f : Range → Range
-      f = lengthened_at addr more
+      f = longer_pool_at addr more
 
       new : Range
-      new = lengthened more (nth_range xs i)
+      new = longer_pool more (nth_range xs i)
 
       its_own : slice_index_or (map f xs) i no_range ≡ new
       its_own = get_or-map f xs i no_range no_range below ∙ elim (is_lengthened addr more (nth_range xs i)) [
@@ -86,7 +86,7 @@ module _ {xs : List Range} (o : IsInOrder xs) where
         | inr (differ, _) ↦ absurd (differ (ends no_range))
       ]
 
-      left : (k : ℕ) → k < length xs → k ≢ i → lengthened_at addr more (nth_range xs k) ≡ nth_range xs k
+      left : (k : ℕ) → k < length xs → k ≢ i → longer_pool_at addr more (nth_range xs k) ≡ nth_range xs k
       left k within other = elim (is_lengthened addr more (nth_range xs k)) [
         | inl (same, _) ↦ absurd (one_end i k addr (below, ends) within other same)
         | inr (_, is) ↦ is
@@ -113,7 +113,7 @@ module _ {xs : List Range} (o : IsInOrder xs) where
   ]) there
 
   module _ (r : Range) (clear : IsClear r xs) (addr more : ℕ) (begins : r.start ≡ addr) (fits : more ≤ r.len) where
-    some_each : (k : ℕ) → k < length xs → (lengthened_at addr more (nth_range xs k)).start < end_of (lengthened_at addr more (nth_range xs k))
+    some_each : (k : ℕ) → k < length xs → (longer_pool_at addr more (nth_range xs k)).start < end_of (longer_pool_at addr more (nth_range xs k))
     some_each k below = elim (is_lengthened addr more (nth_range xs k)) [
       | inl (_, is) ↦ subst (λ p. p.start < end_of p) (sym is) (omega (arith, o.some k no_range below))
       | inr (_, is) ↦ subst (λ p. p.start < end_of p) (sym is) (o.some k no_range below)
@@ -133,10 +133,10 @@ module _ {xs : List Range} (o : IsInOrder xs) where
           ))
         ]
 
-    start_stays : (p : Range) → (lengthened_at addr more p).start ≡ p.start
+    start_stays : (p : Range) → (longer_pool_at addr more p).start ≡ p.start
     start_stays p = elim (is_lengthened addr more p) [ inl (_, is) ↦ ap (λ q. q.start) is | inr (_, is) ↦ ap (λ q. q.start) is ]
 
-    apart_two : (j k : ℕ) → j < k → k < length xs → end_of (lengthened_at addr more (nth_range xs j)) ≤ (lengthened_at addr more (nth_range xs k)).start
+    apart_two : (j k : ℕ) → j < k → k < length xs → end_of (longer_pool_at addr more (nth_range xs j)) ≤ (longer_pool_at addr more (nth_range xs k)).start
     apart_two j k lower below =
         let order = o.apart j k no_range lower below in
         elim (is_lengthened addr more (nth_range xs j)) [
@@ -145,9 +145,9 @@ module _ {xs : List Range} (o : IsInOrder xs) where
         ]
 
     -- one that takes bytes which no other has stays among them in order
-    pub IsInOrder-lengthened : IsInOrder (map (lengthened_at addr more) xs)
-    IsInOrder-lengthened =
-        let f = lengthened_at addr more in
+    pub IsInOrder-longer_pool : IsInOrder (map (longer_pool_at addr more) xs)
+    IsInOrder-longer_pool =
+        let f = longer_pool_at addr more in
         record {
           some = λ k d below. let there : k < length xs = omega (arith, length-map xs f) in subst (λ p. p.start < end_of p) (sym (get_or-map f xs k no_range d there)) (some_each k there);
           apart = λ j k d lower below.

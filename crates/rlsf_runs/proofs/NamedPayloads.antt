@@ -71,11 +71,11 @@ module _ {fllen sllen : ℕ} {v : Allocator} {tables : Tables} {s : RunState} (a
       moved p (from, to) = (omega (arith, from, place.0), omega (arith, to, place))
 
   -- after a fill
-  pub IsAt-filled : {w : Allocator} → SamePlace v.memory w.memory → (t : State) → IsInState fllen sllen w t → (addr : ℕ) (bytes : List ℕ) → Fills s.machine addr bytes t → IsAt fllen sllen w tables (with_machine t s)
+  pub IsAt-filled : {w : Allocator} → SamePlace v.memory w.memory → (t : State) → IsInState fllen sllen w t → (addr : ℕ) (bytes : List ℕ) → Fills s.machine addr bytes t → IsAt fllen sllen w tables (with_machine s t)
   IsAt-filled place t stands addr bytes step = IsAt-named place t stands (fill_leaves_others s.machine t addr bytes step).0 refl (AreNamed-filled at.named fllen sllen (range_of v.memory) t addr bytes at.stands.stands.well_formed step)
 
   -- after a step that leaves the chunks and every alignment
-  pub IsAt-aligned : {w : Allocator} → SamePlace v.memory w.memory → (t : State) → IsInState fllen sllen w t → w.state.chunks ≡ v.state.chunks → align_at w.state ≡ align_at v.state → IsAt fllen sllen w tables (with_machine t s)
+  pub IsAt-aligned : {w : Allocator} → SamePlace v.memory w.memory → (t : State) → IsInState fllen sllen w t → w.state.chunks ≡ v.state.chunks → align_at w.state ≡ align_at v.state → IsAt fllen sllen w tables (with_machine s t)
   IsAt-aligned {w} place t stands chunks aligns =
       IsAt-named place t stands (ap (λ x. x.chunks) (sym stands.state) ∙ chunks ∙ ap (λ x. x.chunks) at.stands.state) refl
       (AreNamed-kept at.named t (λ addr align live. subst (λ x. IsLive x addr align) stands.state (align_at-live w.state addr align (ap (λ f. f addr) aligns ∙ live_in at.stands addr align live))))

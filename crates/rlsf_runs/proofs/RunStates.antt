@@ -18,12 +18,12 @@ use Rattle.rlsf_machine.specs.Run.{append, insert}
 use Rattle.rlsf_machine.proofs.ChunkRows.{IsRow-appended, IsRow-inserted, IsRow-kept, IsRow-kept_apart}
 use Rattle.rlsf_machine.proofs.Live.{live_stays}
 use Rattle.rlsf_runs.specs.declared.tables.Tables.{Tables}
-use Rattle.rlsf_runs.specs.Runs.{RunState, beginning, lengthened, lengthened_at, MayAppend, MayInsert, with_pool}
+use Rattle.rlsf_runs.specs.Runs.{RunState, beginning, longer_pool, longer_pool_at, MayAppend, MayInsert, with_pool}
 use Rattle.rlsf_runs.specs.Steps.Tables.{EndsAt, IsAt, IsInOrder}
 use Rattle.rlsf_runs.proofs.Named.{AreNamed-empty, AreNamed-kept, AreNamed-same}
 use Rattle.rlsf_runs.proofs.NewPools.{coverage-with_pool, pool_bounds}
 use Rattle.rlsf_runs.proofs.AppendedChunks.{IsLonger, IsLonger-appended}
-use Rattle.rlsf_runs.proofs.Lengthened.{coverage-lengthened, is_lengthened, IsIn-lengthened, IsInOrder-lengthened, lengthened-each}
+use Rattle.rlsf_runs.proofs.Lengthened.{coverage-longer_pool, is_lengthened, IsIn-longer_pool, IsInOrder-longer_pool, longer_pool-each}
 use Rattle.rlsf_runs.proofs.Overlapping.{IsIn-at, no_range, nth_range}
 use Rattle.rlsf_runs.proofs.SamePools.{coverage-permutation, IsIn-each, IsIn-permutation}
 
@@ -131,30 +131,30 @@ module _ {fllen sllen : ℕ} {v : Allocator} {tables : Tables} {s : RunState} (a
 
     -- after an append
     pub IsAt-appended : {new : Tables} (r : Range) (more i : ℕ) → Appends fllen s.machine r more t → MayAppend (range_of v.memory) s.pools r → EndsAt tables.pools.items i r.start
-        → new.names ≡ tables.names → new.pools.items ≡ slice_set tables.pools.items i (lengthened more (nth_range tables.pools.items i))
-        → IsAt fllen sllen w new (record { machine = t; named = s.named; pools = map (lengthened_at r.start more) s.pools })
+        → new.names ≡ tables.names → new.pools.items ≡ slice_set tables.pools.items i (longer_pool more (nth_range tables.pools.items i))
+        → IsAt fllen sllen w new (record { machine = t; named = s.named; pools = map (longer_pool_at r.start more) s.pools })
     IsAt-appended {new} r more i step may ends names set = record {
       stands = stands;
       named = AreNamed-kept (AreNamed-same at.named (λ name. ap (λ table. get nat_eq table name) names)) t (λ addr align live. live_stays fllen sllen s.machine t (append r more) addr align step live (λ never. never));
       pools = subst (IsPermutation (map f s.pools)) (sym is) (IsPermutation-map f s.pools tables.pools.items at.pools);
-      in_order = subst IsInOrder (sym is) (IsInOrder-lengthened at.in_order r (IsClear-tables r may.vacant) r.start more refl longer.within);
+      in_order = subst IsInOrder (sym is) (IsInOrder-longer_pool at.in_order r (IsClear-tables r may.vacant) r.start more refl longer.within);
       inside = λ p there. inside p (subst (IsIn p) is there);
-      covered = λ a. omega (arith, longer.coverage a, at.covered a, coverage-lengthened r.start more may.pool s.pools a may.is_pool may.ends);
+      covered = λ a. omega (arith, longer.coverage a, at.covered a, coverage-longer_pool r.start more may.pool s.pools a may.is_pool may.ends);
       rows = rows;
     }
       where
         f : Range → Range
-        f = lengthened_at r.start more
+        f = longer_pool_at r.start more
 
         is : new.pools.items ≡ map f tables.pools.items
-        is = set ∙ lengthened-each at.in_order i r.start more ends
+        is = set ∙ longer_pool-each at.in_order i r.start more ends
 
         longer : IsLonger s.machine r more t
         longer = IsLonger-appended at.stands.stands.well_formed r (IsNext-MayAppend r may) more t step stands.stands.well_formed
 
         inside : (p : Range) → IsIn p (map f tables.pools.items) → LiesIn p w.memory.start (length w.memory.bytes)
         inside p there =
-            let (q, old, is_q) = IsIn-lengthened r.start more p tables.pools.items there in
+            let (q, old, is_q) = IsIn-longer_pool r.start more p tables.pools.items there in
             let (from, to) = at.inside q old in
             let (_, end) = may.vacant.lies_in in
             let within = longer.within in
@@ -165,7 +165,7 @@ module _ {fllen sllen : ℕ} {v : Allocator} {tables : Tables} {s : RunState} (a
 
         rows : (p : Range) → IsIn p (map f s.pools) → IsRow t p
         rows p there =
-            let (q, old, is_q) = IsIn-lengthened r.start more p s.pools there in
+            let (q, old, is_q) = IsIn-longer_pool r.start more p s.pools there in
             elim (is_lengthened r.start more q) [
               | inl (same, new_q) ↦ subst (IsRow t) (sym (is_q ∙ new_q)) (IsRow-appended at.stands.stands.well_formed r q same (some_pool q old) (at.rows q old) more t step)
               | inr (differ, new_q) ↦ subst (IsRow t) (sym (is_q ∙ new_q)) (IsRow-kept_apart s.machine r q (IsFresh-MayInsert r may.vacant).apart differ (at.rows q old) fllen more t step)

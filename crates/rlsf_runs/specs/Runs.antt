@@ -58,12 +58,12 @@ pub record MayWalk (memory : Range) (pools : List Range) (r : Range) : Type 0 wh
   pub ends : end_of pool ≡ end_of r
 
 -- a pool with so many bytes more
-abbrev pub lengthened : ℕ → Range → Range
-lengthened more pool = range_at pool.start (pool.len + more)
+abbrev pub longer_pool : ℕ → Range → Range
+longer_pool more pool = range_at pool.start (pool.len + more)
 
 -- a pool that ends at an address with so many bytes more, and any other as it is
-abbrev pub lengthened_at : ℕ → ℕ → Range → Range
-lengthened_at addr more pool = if end_of pool == addr then lengthened more pool else pool
+abbrev pub longer_pool_at : ℕ → ℕ → Range → Range
+longer_pool_at addr more pool = if end_of pool == addr then longer_pool more pool else pool
 
 -- the names with that of a payload that was placed; another that had the name doesn't have it any more
 abbrev pub with_name : ℕ → Option ℕ → (ℕ → Option ℕ) → ℕ → Option ℕ
@@ -78,9 +78,9 @@ without_name name named = λ other. if nat_eq name other then None else named ot
 abbrev pub Owns : RunState → ℕ → Used → Type 0
 Owns s name u = IsIn u s.machine.used × (s.named name ≡ Some u.payload)
 
--- another state of the machine, with the same names and pools
-abbrev pub with_machine : State → RunState → RunState
-with_machine machine s = record { machine = machine; named = s.named; pools = s.pools }
+-- with another state of the machine
+abbrev pub with_machine : RunState → State → RunState
+with_machine s machine = record { machine = machine; named = s.named; pools = s.pools }
 
 -- the payload that has a name is given back, and the name is free
 abbrev pub Frees : RunState → ℕ → RunState → Type 0
@@ -121,7 +121,7 @@ Does fllen sllen memory s (Insert r) (Inserted len) t =
     × (t ≡ record { machine = machine; named = s.named; pools = with_pool r (reply len) s.pools })
 Does fllen sllen memory s (Append r) (Appended more) t =
     MayAppend memory s.pools r × (machine : State) × Appends fllen s.machine r more machine
-    × (t ≡ record { machine = machine; named = s.named; pools = map (lengthened_at r.start more) s.pools })
+    × (t ≡ record { machine = machine; named = s.named; pools = map (longer_pool_at r.start more) s.pools })
 Does fllen sllen memory s (Alloc name layout) (Placed addr) t =
     (s.named name ≡ None) × (machine : State) × Allocates sllen s.machine layout.size layout.align (reply addr) machine
     × (t ≡ record { machine = machine; named = with_name name (reply addr) s.named; pools = s.pools })
@@ -131,11 +131,11 @@ Does fllen sllen memory s (Realloc name size) (Placed addr) t =
     (u : Used) × Owns s name u × IsLayout size u.align × (machine : State) × Reallocates sllen s.machine u.payload size (reply addr) machine
     × (t ≡ record { machine = machine; named = with_name name (reply addr) s.named; pools = s.pools })
 Does fllen sllen memory s (ReallocNoMove name size) (Placed addr) t =
-    (u : Used) × Owns s name u × IsLayout size u.align × (machine : State) × ReallocatesWithoutMove s.machine u.payload size (reply addr) machine × (t ≡ with_machine machine s)
+    (u : Used) × Owns s name u × IsLayout size u.align × (machine : State) × ReallocatesWithoutMove s.machine u.payload size (reply addr) machine × (t ≡ with_machine s machine)
 Does fllen sllen memory s (Fill name byte) Done t =
-    (u : Used) × Owns s name u × (machine : State) × Fills s.machine u.payload (replicate (usable u).len byte) machine × (t ≡ with_machine machine s)
+    (u : Used) × Owns s name u × (machine : State) × Fills s.machine u.payload (replicate (usable u).len byte) machine × (t ≡ with_machine s machine)
 Does fllen sllen memory s (Put name offset byte) Done t =
-    (u : Used) × Owns s name u × (offset < (usable u).len) × (machine : State) × Fills s.machine u.payload (slice_set u.bytes offset byte) machine × (t ≡ with_machine machine s)
+    (u : Used) × Owns s name u × (offset < (usable u).len) × (machine : State) × Fills s.machine u.payload (slice_set u.bytes offset byte) machine × (t ≡ with_machine s machine)
 Does fllen sllen memory s (Get name offset) (Byte byte) t =
     (u : Used) × Owns s name u × (offset < (usable u).len) × (byte ≡ slice_index u.bytes offset) × (t ≡ s)
 Does fllen sllen memory s (OpUsable name) (Usable bytes) t = (u : Used) × Owns s name u × (bytes ≡ (usable u).len) × (t ≡ s)

@@ -7,7 +7,7 @@ ghost use Rattle.rlsf_base.specs.Rounding.{round32};
 ghost use Rattle.rlsf_machine.specs.Insert.{IsClear};
 ghost use Rattle.rlsf_machine.specs.Lists.{IsIn};
 ghost use Rattle.rlsf_machine.specs.WellFormed.{coverage, itself};
-ghost use Rattle.rlsf_runs.specs.Runs.{lengthened};
+ghost use Rattle.rlsf_runs.specs.Runs.{longer_pool};
 ghost use Rattle.rlsf_runs.specs.Steps.Tables.{EndsAt, HasRoom, IsInOrder};
 
 use crate::names::Payload;
@@ -55,7 +55,7 @@ impl Tables {
     /// Lengthens the pool at a place by so many bytes.
     pub(crate) fn lengthen_pool(&mut self, place: usize, more: usize)
         requires { (place < length self.old.pools.items) × ((d : Range) → end_of (slice_index_or self.old.pools.items place d) + more < 2 ^ 64) }
-        ensures pools { (d : Range) → self.new.pools.items ≡ slice_set self.old.pools.items place (lengthened more (slice_index_or self.old.pools.items place d)) }
+        ensures pools { (d : Range) → self.new.pools.items ≡ slice_set self.old.pools.items place (longer_pool more (slice_index_or self.old.pools.items place d)) }
         ensures names { self.new.names ≡ self.old.names }
         ensures room { (ops : ℕ) → HasRoom self.old (ops + 1) → HasRoom self.new ops }
     {

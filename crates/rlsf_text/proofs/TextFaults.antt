@@ -10,7 +10,7 @@ use Rattle.rlsf_text.specs.Faults.{out_of_memory, IsOfText, IsOfLine}
 use Rattle.rlsf_text.specs.Lines.{lines, first_line}
 use Rattle.rlsf_text.specs.Numbers.{number_of, byte_of}
 use Rattle.rlsf_text.specs.Reading.{layout_of, insert_in, append_in, alloc_in, free_in, free_unknown_in, realloc_in, realloc_no_move_in, fill_in, put_in, get_in, usable_in, block_in, command_in, header_in, commands_in, trace_in, trace_text}
-use Rattle.rlsf_text.specs.FallibleSteps.{◌>>=◌, or_fault, at_line, all_or_fault, GivesOrRefused}
+use Rattle.rlsf_text.specs.FallibleSteps.{◌>>=◌, or_fault, at_line, all_or_fault, ReadsAsOrRefused}
 use Rattle.rlsf_text.specs.Words.{words, exactly_one, exactly_two, exactly_three}
 use Rattle.rlsf_text.proofs.Commands.{commands_from}
 
@@ -142,7 +142,7 @@ trace_in-fault : (text : List ℕ) (f : ReplayFault) → trace_in text ≡ Err f
 trace_in-fault text f e = IfErr-at_err IsOfLine e (trace_in-faults text)
 
 -- what reading gives, or a refusal
-pub fault_of_line : (text : List ℕ) (r : Result Trace ReplayFault) → GivesOrRefused trace_text r (trace_in text) → IfErr r (λ f. IsOfLine f ⊎ (f ≡ out_of_memory))
+pub fault_of_line : (text : List ℕ) (r : Result Trace ReplayFault) → ReadsAsOrRefused trace_text r (trace_in text) → IfErr r (λ f. IsOfLine f ⊎ (f ≡ out_of_memory))
 fault_of_line text (Ok t) read = tt
 fault_of_line text (Err f) (inl read) = inl (trace_in-fault text f read)
 fault_of_line text (Err f) (inr refused) = inr refused

@@ -27,11 +27,11 @@ all_or_fault ((Ok x) ∷ others) = all_or_fault others >>= λ xs. Ok (x ∷ xs)
 all_or_fault ((Err f) ∷ others) = Err f
 
 -- what a function returned, seen by view, is what reading gives
-abbrev pub Gives : {X Y E : Type 0} → (X → Y) → Result X E → Result Y E → Type 0
-Gives view (Ok x) read = read ≡ Ok (view x)
-Gives view (Err f) read = read ≡ Err f
+abbrev pub ReadsAs : {X Y E : Type 0} → (X → Y) → Result X E → Result Y E → Type 0
+ReadsAs view (Ok x) read = read ≡ Ok (view x)
+ReadsAs view (Err f) read = read ≡ Err f
 
 -- the same, unless the system refused memory
-abbrev pub GivesOrRefused : {X Y : Type 0} → (X → Y) → Result X ReplayFault → Result Y ReplayFault → Type 0
-GivesOrRefused view (Ok x) read = read ≡ Ok (view x)
-GivesOrRefused view (Err f) read = (read ≡ Err f) ⊎ (f ≡ out_of_memory)
+abbrev pub ReadsAsOrRefused : {X Y : Type 0} → (X → Y) → Result X ReplayFault → Result Y ReplayFault → Type 0
+ReadsAsOrRefused view (Ok x) read = read ≡ Ok (view x)
+ReadsAsOrRefused view (Err f) read = (read ≡ Err f) ⊎ (f ≡ out_of_memory)

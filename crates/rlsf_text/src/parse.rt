@@ -25,7 +25,7 @@ pub struct Trace {
 impl Trace {
     ghost use Rattle.std.specs.Prelude.{◌≡◌, ◌⊎◌, IfErr};
     ghost use Rattle.rlsf_text.specs.Faults.{out_of_memory, IsOfLine};
-    ghost use Rattle.rlsf_text.specs.FallibleSteps.{GivesOrRefused};
+    ghost use Rattle.rlsf_text.specs.FallibleSteps.{ReadsAsOrRefused};
     ghost use Rattle.rlsf_text.specs.Reading.{trace_in, trace_text};
 
     /// Reads a trace from its text, the whole of it.
@@ -44,7 +44,7 @@ impl Trace {
     /// `OutOfMemory`, of no line, comes only where the system refused memory for the ops.
     #[tactic(auto, using(crate::proofs::TextFaults::fault_of_line))]
     pub fn parse(alloc: Global, text: &[u8]) -> Result<Trace, ReplayFault>
-        ensures read { GivesOrRefused trace_text result (trace_in text.now) }
+        ensures read { ReadsAsOrRefused trace_text result (trace_in text.now) }
         ensures fault { IfErr result (λ f. IsOfLine f ⊎ (f ≡ out_of_memory)) }
     {
         Trace::read(alloc, text)
@@ -53,7 +53,7 @@ impl Trace {
     // What the text gives. That each fault of it is of a line follows.
     #[tactic(auto, using(crate::proofs::LineParts::lines_counted), unfolding(crate::specs::Reading::trace_in))]
     fn read(alloc: Global, text: &[u8]) -> Result<Trace, ReplayFault>
-        ensures { GivesOrRefused trace_text result (trace_in text.now) }
+        ensures { ReadsAsOrRefused trace_text result (trace_in text.now) }
     {
         let mut lines = Lines::new(text);
         let first = lines.next().unwrap_or(&[]);

@@ -1,5 +1,5 @@
 ghost use Rattle.std.specs.Prelude.{◌≡◌, ◌+◌, ◌^◌, ◌<◌, map, length, IfOk};
-ghost use Rattle.rlsf_text.specs.FallibleSteps.{Gives, GivesOrRefused};
+ghost use Rattle.rlsf_text.specs.FallibleSteps.{ReadsAs, ReadsAsOrRefused};
 ghost use Rattle.rlsf_text.specs.Commands.{command_of};
 ghost use Rattle.rlsf_text.specs.Lines.{lines_left};
 ghost use Rattle.rlsf_text.specs.Words.{words, words_left};
@@ -17,7 +17,7 @@ use std::alloc::Global;
 /// The first line: a configuration, and the start and the length of the memory.
 #[tactic(auto, unfolding(crate::specs::Reading::header_in))]
 pub(crate) fn read_header(line: &[u8]) -> Result<(Configuration, usize, usize), Fault>
-    ensures read { Gives (λ h. h) result (header_in (words line.now)) }
+    ensures read { ReadsAs (λ h. h) result (header_in (words line.now)) }
     ensures starts { IfOk result (λ h. 0 < h.1) }
     ensures fits { IfOk result (λ h. h.1 + h.2 < 2 ^ 64) }
 {
@@ -40,7 +40,7 @@ pub(crate) fn read_header(line: &[u8]) -> Result<(Configuration, usize, usize), 
 #[tactic(auto, using(crate::proofs::Commands::commands_behind_all))]
 pub(crate) fn read_ops(alloc: Global, lines: Lines) -> Result<Vec<Op>, ReplayFault>
     requires { 1 + length (lines_left lines) < 2 ^ 64 }
-    ensures { GivesOrRefused (λ ops. map command_of ops.items) result
+    ensures { ReadsAsOrRefused (λ ops. map command_of ops.items) result
         (commands_in (lines_left lines.entry)) }
 {
     let mut ops = Vec::new(alloc);
@@ -57,7 +57,7 @@ pub(crate) fn read_ops(alloc: Global, lines: Lines) -> Result<Vec<Op>, ReplayFau
 
 #[tactic(auto, unfolding(crate::specs::Reading::command_in))]
 fn read_op(line: &[u8]) -> Result<Op, Fault>
-    ensures { Gives command_of result (command_in (words line.now)) }
+    ensures { ReadsAs command_of result (command_in (words line.now)) }
 {
     let mut fields = Words::new(line);
     let Some(name) = fields.next() else {
@@ -94,7 +94,7 @@ fn read_op(line: &[u8]) -> Result<Op, Fault>
 
 #[tactic(auto, unfolding(crate::specs::Reading::insert_in))]
 fn read_insert(fields: Words) -> Result<Op, Fault>
-    ensures { Gives command_of result (insert_in (words_left fields.entry)) }
+    ensures { ReadsAs command_of result (insert_in (words_left fields.entry)) }
 {
     let (start, len) = fields.exactly_two()?;
     let start = number(start)?;
@@ -104,7 +104,7 @@ fn read_insert(fields: Words) -> Result<Op, Fault>
 
 #[tactic(auto, unfolding(crate::specs::Reading::append_in))]
 fn read_append(fields: Words) -> Result<Op, Fault>
-    ensures { Gives command_of result (append_in (words_left fields.entry)) }
+    ensures { ReadsAs command_of result (append_in (words_left fields.entry)) }
 {
     let (start, len) = fields.exactly_two()?;
     let start = number(start)?;
@@ -114,7 +114,7 @@ fn read_append(fields: Words) -> Result<Op, Fault>
 
 #[tactic(auto, unfolding(crate::specs::Reading::alloc_in))]
 fn read_alloc(fields: Words) -> Result<Op, Fault>
-    ensures { Gives command_of result (alloc_in (words_left fields.entry)) }
+    ensures { ReadsAs command_of result (alloc_in (words_left fields.entry)) }
 {
     let (name, size, align) = fields.exactly_three()?;
     let name = number(name)?;
@@ -126,7 +126,7 @@ fn read_alloc(fields: Words) -> Result<Op, Fault>
 
 #[tactic(auto, using(crate::proofs::LayoutTests::layout_tests), unfolding(crate::specs::Reading::layout_of))]
 fn layout_of(size: usize, align: usize) -> Result<Layout, Fault>
-    ensures { Gives (λ layout. (layout.size, layout.align)) result (layout_of size align) }
+    ensures { ReadsAs (λ layout. (layout.size, layout.align)) result (layout_of size align) }
 {
     match Layout::from_size_align(size, align) {
         Ok(layout) => Ok(layout),
@@ -136,7 +136,7 @@ fn layout_of(size: usize, align: usize) -> Result<Layout, Fault>
 
 #[tactic(auto, unfolding(crate::specs::Reading::free_in))]
 fn read_free(fields: Words) -> Result<Op, Fault>
-    ensures { Gives command_of result (free_in (words_left fields.entry)) }
+    ensures { ReadsAs command_of result (free_in (words_left fields.entry)) }
 {
     let name = fields.exactly_one()?;
     let name = number(name)?;
@@ -145,7 +145,7 @@ fn read_free(fields: Words) -> Result<Op, Fault>
 
 #[tactic(auto, unfolding(crate::specs::Reading::free_unknown_in))]
 fn read_free_unknown(fields: Words) -> Result<Op, Fault>
-    ensures { Gives command_of result (free_unknown_in (words_left fields.entry)) }
+    ensures { ReadsAs command_of result (free_unknown_in (words_left fields.entry)) }
 {
     let name = fields.exactly_one()?;
     let name = number(name)?;
@@ -154,7 +154,7 @@ fn read_free_unknown(fields: Words) -> Result<Op, Fault>
 
 #[tactic(auto, unfolding(crate::specs::Reading::realloc_in))]
 fn read_realloc(fields: Words) -> Result<Op, Fault>
-    ensures { Gives command_of result (realloc_in (words_left fields.entry)) }
+    ensures { ReadsAs command_of result (realloc_in (words_left fields.entry)) }
 {
     let (name, size) = fields.exactly_two()?;
     let name = number(name)?;
@@ -164,7 +164,7 @@ fn read_realloc(fields: Words) -> Result<Op, Fault>
 
 #[tactic(auto, unfolding(crate::specs::Reading::realloc_no_move_in))]
 fn read_realloc_no_move(fields: Words) -> Result<Op, Fault>
-    ensures { Gives command_of result (realloc_no_move_in (words_left fields.entry)) }
+    ensures { ReadsAs command_of result (realloc_no_move_in (words_left fields.entry)) }
 {
     let (name, size) = fields.exactly_two()?;
     let name = number(name)?;
@@ -174,7 +174,7 @@ fn read_realloc_no_move(fields: Words) -> Result<Op, Fault>
 
 #[tactic(auto, unfolding(crate::specs::Reading::fill_in))]
 fn read_fill(fields: Words) -> Result<Op, Fault>
-    ensures { Gives command_of result (fill_in (words_left fields.entry)) }
+    ensures { ReadsAs command_of result (fill_in (words_left fields.entry)) }
 {
     let (name, value) = fields.exactly_two()?;
     let name = number(name)?;
@@ -184,7 +184,7 @@ fn read_fill(fields: Words) -> Result<Op, Fault>
 
 #[tactic(auto, unfolding(crate::specs::Reading::put_in))]
 fn read_put(fields: Words) -> Result<Op, Fault>
-    ensures { Gives command_of result (put_in (words_left fields.entry)) }
+    ensures { ReadsAs command_of result (put_in (words_left fields.entry)) }
 {
     let (name, offset, value) = fields.exactly_three()?;
     let name = number(name)?;
@@ -195,7 +195,7 @@ fn read_put(fields: Words) -> Result<Op, Fault>
 
 #[tactic(auto, unfolding(crate::specs::Reading::get_in))]
 fn read_get(fields: Words) -> Result<Op, Fault>
-    ensures { Gives command_of result (get_in (words_left fields.entry)) }
+    ensures { ReadsAs command_of result (get_in (words_left fields.entry)) }
 {
     let (name, offset) = fields.exactly_two()?;
     let name = number(name)?;
@@ -205,7 +205,7 @@ fn read_get(fields: Words) -> Result<Op, Fault>
 
 #[tactic(auto, unfolding(crate::specs::Reading::usable_in))]
 fn read_usable(fields: Words) -> Result<Op, Fault>
-    ensures { Gives command_of result (usable_in (words_left fields.entry)) }
+    ensures { ReadsAs command_of result (usable_in (words_left fields.entry)) }
 {
     let name = fields.exactly_one()?;
     let name = number(name)?;
@@ -214,7 +214,7 @@ fn read_usable(fields: Words) -> Result<Op, Fault>
 
 #[tactic(auto, unfolding(crate::specs::Reading::block_in))]
 fn read_block(fields: Words) -> Result<Op, Fault>
-    ensures { Gives command_of result (block_in (words_left fields.entry)) }
+    ensures { ReadsAs command_of result (block_in (words_left fields.entry)) }
 {
     let (start, len, index) = fields.exactly_three()?;
     let start = number(start)?;

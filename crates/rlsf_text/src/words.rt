@@ -13,7 +13,7 @@ pub(crate) struct Words<'a> {
 
 impl<'a> Words<'a> {
     ghost use Rattle.std.specs.Prelude.{◌≡◌, [], ◌∷◌, MatchOption};
-    ghost use Rattle.rlsf_text.specs.FallibleSteps.{Gives};
+    ghost use Rattle.rlsf_text.specs.FallibleSteps.{ReadsAs};
     ghost use Rattle.rlsf_text.specs.Words.{words, words_left, exactly_one, exactly_two, exactly_three};
 
     /// The words of `line`.
@@ -41,7 +41,7 @@ impl<'a> Words<'a> {
 
     /// The one word that is left. More or none are a fault.
     pub(crate) fn exactly_one(mut self) -> Result<&'a [u8], Fault>
-        ensures { Gives (λ word. word.now) result (exactly_one (words_left self.entry)) }
+        ensures { ReadsAs (λ word. word.now) result (exactly_one (words_left self.entry)) }
     {
         match (self.next(), self.next()) {
             (Some(word), None) => Ok(word),
@@ -51,7 +51,7 @@ impl<'a> Words<'a> {
 
     /// The two words that are left. More or fewer are a fault.
     pub(crate) fn exactly_two(mut self) -> Result<(&'a [u8], &'a [u8]), Fault>
-        ensures { Gives (λ both. (both.0.now, both.1.now)) result
+        ensures { ReadsAs (λ both. (both.0.now, both.1.now)) result
             (exactly_two (words_left self.entry)) }
     {
         let Some(first) = self.next() else {
@@ -63,7 +63,7 @@ impl<'a> Words<'a> {
 
     /// The three words that are left. More or fewer are a fault.
     pub(crate) fn exactly_three(mut self) -> Result<(&'a [u8], &'a [u8], &'a [u8]), Fault>
-        ensures { Gives (λ all. (all.0.now, all.1.now, all.2.now)) result
+        ensures { ReadsAs (λ all. (all.0.now, all.1.now, all.2.now)) result
             (exactly_three (words_left self.entry)) }
     {
         let Some(first) = self.next() else {

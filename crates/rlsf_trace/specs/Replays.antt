@@ -47,12 +47,12 @@ pub record IsOutput (input output : List ℕ) : Type 0 where
   pub printed : output ≡ text_of ops answers
 
 -- such an output is appended
-abbrev pub IsReplay : List ℕ → Option (List ℕ) → Option (List ℕ) → Type 0
-IsReplay input old new = (output : List ℕ) × IsOutput input output × Appends old new output
+abbrev pub AppendsReplay : List ℕ → Option (List ℕ) → Option (List ℕ) → Type 0
+AppendsReplay input old new = (output : List ℕ) × IsOutput input output × Appends old new output
 
 -- a beginning of such an output is appended
-abbrev pub IsCutReplay : List ℕ → Option (List ℕ) → Option (List ℕ) → Type 0
-IsCutReplay input old new = (output : List ℕ) × IsOutput input output × AppendsBeginning old new output
+abbrev pub AppendsCutReplay : List ℕ → Option (List ℕ) → Option (List ℕ) → Type 0
+AppendsCutReplay input old new = (output : List ℕ) × IsOutput input output × AppendsBeginning old new output
 
 -- the system refused the memory that the first line asks for
 abbrev pub no_memory : ReplayFault

@@ -7,7 +7,7 @@ ghost use Rattle.rlsf_machine.specs.State.{empty};
 ghost use Rattle.rlsf_base.specs.Space.{range_of};
 ghost use Rattle.rlsf_text.specs.Faults.{out_of_memory};
 ghost use Rattle.rlsf_trace.specs.Replays.{rows_of, classes_of, IsRun, IsOutput};
-ghost use Rattle.rlsf_trace.specs.Replays.{IsReplay, IsCutReplay, no_memory, not_read, IsOutputFault, IsReplayFault};
+ghost use Rattle.rlsf_trace.specs.Replays.{AppendsReplay, AppendsCutReplay, no_memory, not_read, IsOutputFault, IsReplayFault};
 
 use crate::input::read_input;
 use crate::output::write_text;
@@ -95,13 +95,13 @@ pub fn replay<R: Read, W: Write>(
     writer: &mut W,
 ) -> Result<(), ReplayFault>
     ensures ok { OnOk result (IfSome (R.remaining reader.old) (λ input.
-        IsReplay input (W.contents writer.old) (W.contents writer.new))) }
+        AppendsReplay input (W.contents writer.old) (W.contents writer.new))) }
     ensures end { OnOk result (IsAtEnd (R.remaining reader.new)) }
     ensures fault { IfErr result (λ f. IfSome (R.remaining reader.old) (λ input. IsReplayFault input f)) }
     ensures read { IfErr result (λ f. (f ≡ not_read) ⊎ ((f ≡ out_of_memory) ⊎ IsAtEnd (R.remaining reader.new))) }
     ensures silent { IfErr result (λ f. f.fault ≢ Fault.Write → W.contents writer.new ≡ W.contents writer.old) }
     ensures beginning { IfErr result (λ f. f.fault ≡ Fault.Write → IfSome (R.remaining reader.old) (λ input.
-        IsCutReplay input (W.contents writer.old) (W.contents writer.new))) }
+        AppendsCutReplay input (W.contents writer.old) (W.contents writer.new))) }
 {
     let input = read_input(alloc, reader).map_err(|fault| fault.at_line(0))?;
     let text = output_of(alloc, &input)?;

@@ -11,7 +11,7 @@ use Rattle.rlsf_base.specs.Space.{SamePlace, range_of}
 use Rattle.std.specs.List.{AllByRecursion}
 use Rattle.rlsf_uses.specs.Budgets.{HasBudgetFor, HasBudgetOf}
 use Rattle.rlsf_uses.specs.Handled.{HandleRows, IsHandled, handled, handled_by, lists_in, place_at, places_in}
-use Rattle.rlsf_uses.specs.Stored.{HasAmong, HasPlaces, HasSame, Place, StoreContents, bytes_at_place, lists_at}
+use Rattle.rlsf_uses.specs.Stored.{HasAmong, KeepsAt, HasSame, Place, StoreContents, bytes_at_place, lists_at}
 use Rattle.rlsf_uses.specs.declared.handles.Spot.{Spot}
 use Rattle.rlsf_uses.proofs.Entries.{IsFound, found, lookup-map_values, map_values-same, remove_entry-map_values, set_value-middle}
 use Rattle.rlsf_uses.proofs.Places.{length-bytes_at_place}
@@ -33,7 +33,7 @@ pub length-lists_in : (v : StoreContents) (align : ℕ) (rows : List (ℕ × Spo
 length-lists_in v align rows = length-map (values_of rows) (place_at align) ∙ length-map rows (λ e. e.1) ∙ sym (length-map rows (λ e. (e.0, here v align e.1)))
 
 -- no lists, nothing stored
-pub none_stored : (v : StoreContents) (align : ℕ) (rows : List (ℕ × Spot)) → IsHandled v align rows → lists_in v align rows ≡ [] → HasPlaces v []
+pub none_stored : (v : StoreContents) (align : ℕ) (rows : List (ℕ × Spot)) → IsHandled v align rows → lists_in v align rows ≡ [] → KeepsAt v []
 none_stored v align [] kept none = kept
 none_stored v align (e ∷ es) kept none = cc
 
@@ -75,7 +75,7 @@ shows_among : (v : StoreContents) {w : StoreContents} {align : ℕ} {g : HandleR
     → g.rows ≡ before ++ (n, s) ∷ after → g.next ≡ next → HasAmong v w (places_in align before) (places_in align after) (place_at align s) bytes
     → Shows v align (lists_in v align before ++ (n, bytes) ∷ lists_in v align after) next w g
 shows_among v {w} {align} {g} before after n s {bytes} place rows next m =
-    shows v {g = g} place rows next (subst (HasPlaces w) (sym (places_in-append align before ((n, s) ∷ after))) m.places)
+    shows v {g = g} place rows next (subst (KeepsAt w) (sym (places_in-append align before ((n, s) ∷ after))) m.places)
     (map-append (λ e. (e.0, here w align e.1)) before ((n, s) ∷ after)
     ∙ ap₂ (λ l r. l ++ r) (lists_in-same v w align before m.front) (ap₂ (λ x r. (n, x) ∷ r) m.here (lists_in-same v w align after m.back)))
 
@@ -85,7 +85,7 @@ shows_among v {w} {align} {g} before after n s {bytes} place rows next m =
 pub record IsAt (v : StoreContents) (align : ℕ) (h : HandleRows) (n : ℕ) (s : Spot) : Type 0 where
   pub before : List Place
   pub after : List Place
-  pub has : HasPlaces v (before ++ place_at align s ∷ after)
+  pub has : KeepsAt v (before ++ place_at align s ∷ after)
   pub len : length (bytes_at_place v.heap.memory (place_at align s)) ≡ s.len
   pub bytes : lookup (nat_eq n) (lists_in v align h.rows) ≡ Some (bytes_at_place v.heap.memory (place_at align s))
   pub removed : (w : StoreContents) (g : HandleRows) → SamePlace v.heap.memory w.heap.memory → HasSame v w (before ++ after) → g.rows ≡ remove_entry (nat_eq n) h.rows → g.next ≡ h.next
@@ -107,7 +107,7 @@ module _ {v : StoreContents} {align : ℕ} (h : HandleRows) (kept : IsHandled v 
       let after = places_in align f.after in
       let whole : places_in align h.rows ≡ before ++ place_at align s ∷ after = ap (places_in align) f.whole ∙ places_in-append align f.before ((f.key, s) ∷ f.after) in
       let less : places_in align (remove_entry test h.rows) ≡ before ++ after = ap (places_in align) f.less ∙ places_in-append align f.before f.after in
-      let has = subst (HasPlaces v) whole kept in
+      let has = subst (KeepsAt v) whole kept in
       record {
         before = before;
         after = after;

@@ -3,7 +3,7 @@ use Rattle.std.proofs.Common.{◌≡◌, ℕ, List, [], ◌∷◌, ◌++◌, len
 use Rattle.std.proofs.Math.Path.{ap₂}
 use Rattle.std.proofs.lemmas.List.{append-nil, map-append}
 use Rattle.rlsf_machine.proofs.Coverage.{IsIn-append_left, IsIn-append_right}
-use Rattle.rlsf_uses.specs.Stored.{HasAmong, HasPlaces, HasSame, IsStore, Place, Stored, StoreContents, bytes_at_place, lists_at, place, place_of, stored}
+use Rattle.rlsf_uses.specs.Stored.{HasAmong, KeepsAt, HasSame, IsStore, Place, Stored, StoreContents, bytes_at_place, lists_at, place, place_of, stored}
 use Rattle.rlsf_uses.proofs.Kept.{IsIn-middle}
 use Rattle.rlsf_uses.proofs.Stores.{bytes_at_place-kept, bytes_at_place-some, bytes_at_place-stored}
 
@@ -11,13 +11,13 @@ abbrev pub bytes_of : Stored → List ℕ
 bytes_of k = k.bytes
 
 -- a store that keeps the same has the same bytes at its places
-pub HasSame-stored : {v w : StoreContents} (places : List Place) → HasPlaces v places → ((all : List Stored) → IsStore v all → IsStore w all) → HasSame v w places
+pub HasSame-stored : {v w : StoreContents} (places : List Place) → KeepsAt v places → ((all : List Stored) → IsStore v all → IsStore w all) → HasSame v w places
 HasSame-stored {v} {w} places (all, is, at) keeps =
     let now = keeps all is in
     ((all, now, at), ap (lists_at w) (sym at) ∙ bytes_at_place-stored w all now ∙ sym (bytes_at_place-stored v all is) ∙ ap (lists_at v) at)
 
 -- nothing is stored at no place
-pub IsStore-none : {v : StoreContents} → HasPlaces v [] → IsStore v []
+pub IsStore-none : {v : StoreContents} → KeepsAt v [] → IsStore v []
 IsStore-none ([], is, at) = is
 IsStore-none (k ∷ ks, is, at) = cc
 
@@ -41,7 +41,7 @@ parts (q ∷ qs) p after (k ∷ ks) at =
     let (front, here, back, whole, front_at, here_at, back_at) = parts qs p after ks (cc) in
     (k ∷ front, here, back, ap (λ l. k ∷ l) whole, ap₂ (λ x l. x ∷ l) first front_at, here_at, back_at)
 
-pub among : {v : StoreContents} (before after : List Place) (p : Place) → HasPlaces v (before ++ p ∷ after) → IsMiddle v before after p
+pub among : {v : StoreContents} (before after : List Place) (p : Place) → KeepsAt v (before ++ p ∷ after) → IsMiddle v before after p
 among {v} before after p (all, is, at) =
     let (front, here, back, whole, front_at, here_at, back_at) = parts before p after all at in
     record { front = front; back = back; here = here; is = subst (IsStore v) whole is; front_at = front_at; here_at = here_at; back_at = back_at }
@@ -61,7 +61,7 @@ module _ {v : StoreContents} {before after : List Place} {p : Place} (a : IsMidd
   back_bytes = sym (bytes_at_place-some v all_here a.is a.back (λ k i. IsIn-append_right k a.front (a.here ∷ a.back) (inr i))) ∙ ap (lists_at v) a.back_at
 
 -- a place has as many bytes as it says
-pub length-bytes_at_place : {v : StoreContents} (before after : List Place) (p : Place) → HasPlaces v (before ++ p ∷ after) → length (bytes_at_place v.heap.memory p) ≡ p.len
+pub length-bytes_at_place : {v : StoreContents} (before after : List Place) (p : Place) → KeepsAt v (before ++ p ∷ after) → length (bytes_at_place v.heap.memory p) ≡ p.len
 length-bytes_at_place before after p has = let a = among before after p has in ap length (sym (here_bytes a)) ∙ ap (λ q. q.len) a.here_at
 
 -- ---- what a call leaves
@@ -78,12 +78,12 @@ HasAmong-stored {v} {w} {before} {after} front back j {p} is front_at back_at at
       back = sym (back_bytes m) ∙ back_are;
     }
 
-pub HasAmong-added : {v w : StoreContents} (places : List Place) (addr align : ℕ) (bytes : List ℕ) (len : ℕ) → length bytes ≡ len → HasPlaces v places
+pub HasAmong-added : {v w : StoreContents} (places : List Place) (addr align : ℕ) (bytes : List ℕ) (len : ℕ) → length bytes ≡ len → KeepsAt v places
     → ((before after : List Stored) → IsStore v (before ++ after) → IsStore w (before ++ stored addr align bytes ∷ after)) → HasAmong v w places [] (place addr align len) bytes
 HasAmong-added {v} places addr align bytes len long (all, is, at) stores =
     HasAmong-stored all [] (stored addr align bytes) (stores all [] (subst (IsStore v) (sym (append-nil all)) is)) at refl (ap (place addr align) long) refl (sym (bytes_at_place-stored v all is) ∙ ap (lists_at v) at) refl
 
-pub HasAmong-changed : {v w : StoreContents} (before after : List Place) (p q : Place) (bytes : List ℕ) → HasPlaces v (before ++ p ∷ after)
+pub HasAmong-changed : {v w : StoreContents} (before after : List Place) (p q : Place) (bytes : List ℕ) → KeepsAt v (before ++ p ∷ after)
     → ((front back : List Stored) (k : Stored) → IsStore v (front ++ k ∷ back) → place_of k ≡ p → k.bytes ≡ bytes_at_place v.heap.memory p → (j : Stored) × IsStore w (front ++ j ∷ back) × (place_of j ≡ q) × (j.bytes ≡ bytes))
     → HasAmong v w before after q bytes
 HasAmong-changed before after p q bytes has changes =
@@ -91,7 +91,7 @@ HasAmong-changed before after p q bytes has changes =
     let (j, is, at, are) = changes a.front a.back a.here a.is a.here_at (here_bytes a) in
     HasAmong-stored a.front a.back j is a.front_at a.back_at at are (front_bytes a) (back_bytes a)
 
-pub HasSame-removed : {v w : StoreContents} {addr align : ℕ} (before after : List Place) (p : Place) → HasPlaces v (before ++ p ∷ after) → p.addr ≡ addr → p.align ≡ align
+pub HasSame-removed : {v w : StoreContents} {addr align : ℕ} (before after : List Place) (p : Place) → KeepsAt v (before ++ p ∷ after) → p.addr ≡ addr → p.align ≡ align
     → ((front back : List Stored) (k : Stored) → IsStore v (front ++ k ∷ back) → k.addr ≡ addr → k.align ≡ align → IsStore w (front ++ back)) → HasSame v w (before ++ after)
 HasSame-removed {v} {w} before after p has addr align stores =
     let a = among before after p has in

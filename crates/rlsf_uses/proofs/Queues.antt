@@ -9,7 +9,7 @@ use Rattle.rlsf_base.specs.Space.{Space, range_of}
 use Rattle.rlsf_uses.specs.Budgets.{HasBudgetFor}
 use Rattle.rlsf_uses.specs.declared.messages.Entry.{Entry}
 use Rattle.rlsf_uses.specs.Queue.{KeepsLongest, messages_in, place_of_entry}
-use Rattle.rlsf_uses.specs.Stored.{HasAmong, HasPlaces, Place, StoreContents, bytes_at_place, lists_at}
+use Rattle.rlsf_uses.specs.Stored.{HasAmong, KeepsAt, Place, StoreContents, bytes_at_place, lists_at}
 use Rattle.rlsf_uses.proofs.Places.{length-bytes_at_place}
 use Rattle.rlsf_uses.proofs.Rooms.{bytes_for-fits}
 
@@ -18,29 +18,29 @@ pub length-messages : (m : Space) (entries : List Entry) → length (messages_in
 length-messages m entries = length-map (map place_of_entry entries) (bytes_at_place m) ∙ length-map entries place_of_entry
 
 -- without a message nothing is stored
-pub nothing_stored : (v : StoreContents) (entries : List Entry) → HasPlaces v (map place_of_entry entries) → messages_in v.heap.memory entries ≡ [] → HasPlaces v []
+pub nothing_stored : (v : StoreContents) (entries : List Entry) → KeepsAt v (map place_of_entry entries) → messages_in v.heap.memory entries ≡ [] → KeepsAt v []
 nothing_stored v [] has none = has
 nothing_stored v (e ∷ es) has none = cc
 
 -- one more message is stored, at one more entry
 pub pushed : (v w : StoreContents) (entries : List Entry) (e : Entry) (bytes : List ℕ) → HasAmong v w (map place_of_entry entries) [] (place_of_entry e) bytes
-    → HasPlaces w (map place_of_entry (entries ++ e ∷ [])) × (messages_in w.heap.memory (entries ++ e ∷ []) ≡ messages_in v.heap.memory entries ++ bytes ∷ [])
+    → KeepsAt w (map place_of_entry (entries ++ e ∷ [])) × (messages_in w.heap.memory (entries ++ e ∷ []) ≡ messages_in v.heap.memory entries ++ bytes ∷ [])
 pushed v w entries e bytes added =
     let places = map-append place_of_entry entries (e ∷ []) in (
-      subst (HasPlaces w) (sym places) added.places,
+      subst (KeepsAt w) (sym places) added.places,
       ap (lists_at w) places ∙ map-append (bytes_at_place w.heap.memory) (map place_of_entry entries) (place_of_entry e ∷ []) ∙ ap₂ (λ l b. l ++ b ∷ []) added.front added.here,
     )
 
 -- what is stored at a first entry is the oldest message
 pub record Oldest (v : StoreContents) (entries : List Entry) (e : Entry) : Type 0 where
-  pub places : HasPlaces v (place_of_entry e ∷ map place_of_entry (drop 1 entries))
+  pub places : KeepsAt v (place_of_entry e ∷ map place_of_entry (drop 1 entries))
   pub messages : messages_in v.heap.memory entries ≡ bytes_at_place v.heap.memory (place_of_entry e) ∷ messages_in v.heap.memory (drop 1 entries)
   pub len : length (bytes_at_place v.heap.memory (place_of_entry e)) ≡ e.len
 
-pub oldest_stored : (v : StoreContents) (entries : List Entry) (e : Entry) → HasPlaces v (map place_of_entry entries) → 0 < length entries → e ≡ slice_index_or entries 0 e → Oldest v entries e
+pub oldest_stored : (v : StoreContents) (entries : List Entry) (e : Entry) → KeepsAt v (map place_of_entry entries) → 0 < length entries → e ≡ slice_index_or entries 0 e → Oldest v entries e
 oldest_stored v [] e has some first = absurd (omega arith)
 oldest_stored v (x ∷ xs) e has some first =
-    let places = subst (λ y. HasPlaces v (place_of_entry y ∷ map place_of_entry xs)) (sym first) has in
+    let places = subst (λ y. KeepsAt v (place_of_entry y ∷ map place_of_entry xs)) (sym first) has in
     record { places = places; messages = ap (λ y. messages_in v.heap.memory (y ∷ xs)) (sym first); len = length-bytes_at_place [] (map place_of_entry xs) (place_of_entry e) places }
 
 -- ---- a longest length
@@ -68,7 +68,7 @@ small_entries n [] all = tt
 small_entries n (e ∷ es) (first, rest) = ((first, refl), small_entries n es rest)
 
 -- a queue that isn't full has the budget for a message that isn't too long
-pub budget_for_message : (longest : Option ℕ) (v : StoreContents) (es : List Entry) (capacity len : ℕ) → HasPlaces v (map place_of_entry es) → KeepsLongest longest (range_of v.heap.memory) capacity es → length es < capacity
+pub budget_for_message : (longest : Option ℕ) (v : StoreContents) (es : List Entry) (capacity len : ℕ) → KeepsAt v (map place_of_entry es) → KeepsLongest longest (range_of v.heap.memory) capacity es → length es < capacity
     → IsSomeAnd longest (λ n. len ≤ n) → (n : ℕ) × HasBudgetFor v (map place_of_entry es) (capacity - 1) n 1 × (len ≤ n)
 budget_for_message None v es capacity len has keeps few short = absurd short
 budget_for_message (Some n) v es capacity len has (all, fits) few short = (

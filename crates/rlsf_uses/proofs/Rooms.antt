@@ -32,7 +32,7 @@ use Rattle.rlsf_tlsf.specs.Allocator.{Allocator, Steps}
 use Rattle.rlsf_tlsf.proofs.Arrivals.{opened, well_formed}
 use Rattle.rlsf_uses.specs.Budgets.{AreFewStrings, FitsPayloads, HasBudgetFor, HasBudgetOf, HasBytesFor}
 use Rattle.rlsf_uses.specs.Handled.{Handled}
-use Rattle.rlsf_uses.specs.Stored.{HasPlaces, IsStore, Place, Stored, StoreContents, lists_at, place_of}
+use Rattle.rlsf_uses.specs.Stored.{KeepsAt, IsStore, Place, Stored, StoreContents, lists_at, place_of}
 use Rattle.rlsf_uses.proofs.Places.{bytes_of}
 use Rattle.rlsf_uses.proofs.Stores.{bytes_at_place-stored}
 use Rattle.rlsf_uses.proofs.UsedBlocks.{NoTwo, length-le_from_own}
@@ -178,7 +178,7 @@ small_places size align [] short aligned = tt
 small_places size align (k ∷ ks) (short, shorts) (aligned, rest) = ((short, aligned), small_places size align ks shorts rest)
 
 -- a store has a budget if its lists of bytes are short and have one alignment
-pub HasBudgetFor-lists : {v : StoreContents} {places : List Place} {live size align : ℕ} → HasPlaces v places → length places ≤ live → IsLayout size align → AllByRecursion (λ (b : List ℕ). length b ≤ size) (lists_at v places)
+pub HasBudgetFor-lists : {v : StoreContents} {places : List Place} {live size align : ℕ} → KeepsAt v places → length places ≤ live → IsLayout size align → AllByRecursion (λ (b : List ℕ). length b ≤ size) (lists_at v places)
     → AllByRecursion (λ (p : Place). p.align ≡ align) places → HasBytesFor (range_of v.heap.memory) live size align → HasBudgetFor v places live size align
 HasBudgetFor-lists {v} {places} {live} {size} {align} (all, store, at) few layout short aligned bytes =
     let are : lists_at v places ≡ map bytes_of all = ap (lists_at v) (sym at) ∙ bytes_at_place-stored v all store in

@@ -8,7 +8,7 @@ use Rattle.rlsf_base.specs.Space.{range_of}
 use Rattle.rlsf_machine.specs.Budget.{HasBudget}
 use Rattle.rlsf_machine.specs.Insert.{aligned_part}
 use Rattle.rlsf_uses.specs.Handled.{Handled}
-use Rattle.rlsf_uses.specs.Stored.{HasPlaces, Place, StoreContents}
+use Rattle.rlsf_uses.specs.Stored.{KeepsAt, Place, StoreContents}
 use Rattle.rlsf_uses.specs.Strings.{Texts}
 
 -- a pool of a memory never refuses a payload up to this layout while `count` or fewer live: its aligned part is as long as
@@ -24,7 +24,7 @@ HasBytesFor memory live size align = HasBudget live (request_size size align) 8 
 -- a store keeps `live` lists of bytes or fewer, none of which is longer than the layout's size, all with its alignment, and
 -- its pool has the bytes for one more
 pub record HasBudgetFor (v : StoreContents) (places : List Place) (live size align : ℕ) : Type 0 where
-  pub has : HasPlaces v places
+  pub has : KeepsAt v places
   pub few : length places ≤ live
   pub layout : IsLayout size align
   pub small : AllByRecursion (λ p. (p.len ≤ size) × (p.align ≡ align)) places

@@ -1,12 +1,12 @@
 -- Handles: numbers that count up, each with a value.
-use Rattle.std.specs.Prelude.{ℕ, ◌<◌, List, map}
+use Rattle.std.specs.Prelude.{ℕ, ◌+◌, ◌<◌, ◌≤◌, List, [], ◌∷◌, ◌++◌, length, map, IsSomeAnd, nat_eq}
 use Rattle.std.specs.List.{AllByRecursion}
-use Rattle.std.specs.Map.{values_of}
+use Rattle.std.specs.Map.{lookup, set_value, values_of}
 use Rattle.rlsf_base.specs.Addr.{at}
 use Rattle.rlsf_base.specs.declared.memory.range.Range.{Range}
 use Rattle.rlsf_base.specs.Space.{range_of}
 use Rattle.rlsf_machine.specs.State.{State}
-use Rattle.rlsf_uses.specs.Stored.{StoreContents, HasPlaces, Place, bytes_at_place}
+use Rattle.rlsf_uses.specs.Stored.{StoreContents, KeepsAt, Place, bytes_at_place}
 use Rattle.rlsf_uses.specs.declared.handles.Spot.{Spot}
 
 -- the handles with where their bytes are stored, in the order of the handles, and the number that the next one has
@@ -36,7 +36,7 @@ places_in align rows = map (place_at align) (values_of rows)
 
 -- the store keeps a list of bytes for each handle, where the rows say, and nothing else
 abbrev pub IsHandled : StoreContents → ℕ → List (ℕ × Spot) → Type 0
-IsHandled v align rows = HasPlaces v (places_in align rows)
+IsHandled v align rows = KeepsAt v (places_in align rows)
 
 -- lists of bytes by their handles, in the order of the handles; the number that the next handle has; the alignment and the
 -- memory of their payloads; and the state of their allocator
@@ -50,6 +50,18 @@ pub record Handled : Type 0 where
 -- the same by its parts
 abbrev pub handled : List (ℕ × List ℕ) → ℕ → ℕ → Range → State → Handled
 handled lists next align memory state = record { lists = lists; next = next; align = align; memory = memory; state = state }
+
+-- with one more list of bytes, under a new handle, and another state of the allocator
+abbrev pub with_list : Handled → ℕ → List ℕ → State → Handled
+with_list h handle bytes state = record h { lists = h.lists ++ (handle, bytes) ∷ []; next = handle + 1; state = state }
+
+-- with other bytes under a handle, and another state of the allocator
+abbrev pub with_bytes_of : Handled → ℕ → List ℕ → State → Handled
+with_bytes_of h handle bytes state = record h { lists = set_value (nat_eq handle) h.lists bytes; state = state }
+
+-- with so many more bytes the list of a handle is no longer than a size
+abbrev pub IsShortWithMore : Handled → ℕ → ℕ → ℕ → Type 0
+IsShortWithMore h handle more size = IsSomeAnd (lookup (nat_eq handle) h.lists) (λ old. length old + more ≤ size)
 
 -- a store with handles, as callers see it
 abbrev pub handled_by : StoreContents → ℕ → HandleRows → Handled

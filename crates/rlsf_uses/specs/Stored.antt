@@ -1,5 +1,6 @@
 -- Lists of bytes that an owner keeps in the payloads of one allocator.
 use Rattle.std.specs.Prelude.{◌≡◌, ◌≢◌, ℕ, ◌+◌, ◌<◌, ◌≤◌, List, [], ◌∷◌, ◌++◌, length, take, Some, count_by, map, ⊤}
+use Rattle.std.specs.List.{splice}
 use Rattle.rlsf_base.specs.declared.memory.range.Range.{Range}
 use Rattle.rlsf_base.specs.Range.{end_of, range_at}
 use Rattle.rlsf_base.specs.Sizes.{max_pool_size, pool_size_to_contain_allocation}
@@ -79,8 +80,8 @@ abbrev pub bytes_at_place : Space → Place → List ℕ
 bytes_at_place m p = bytes_in m (range_at p.addr p.len)
 
 -- the allocator keeps lists of bytes at these places, and nothing else
-abbrev pub HasPlaces : StoreContents → List Place → Type 0
-HasPlaces v places = (all : List Stored) × IsStore v all × (map place_of all ≡ places)
+abbrev pub KeepsAt : StoreContents → List Place → Type 0
+KeepsAt v places = (all : List Stored) × IsStore v all × (map place_of all ≡ places)
 
 -- a place by its parts
 abbrev pub place : ℕ → ℕ → ℕ → Place
@@ -92,18 +93,32 @@ lists_at v places = map (bytes_at_place v.heap.memory) places
 
 -- w keeps lists of bytes at these places, and nothing else, and they are those that v has there
 abbrev pub HasSame : StoreContents → StoreContents → List Place → Type 0
-HasSame v w places = HasPlaces w places × (lists_at w places ≡ lists_at v places)
+HasSame v w places = KeepsAt w places × (lists_at w places ≡ lists_at v places)
 
 -- w keeps what v keeps
 abbrev pub KeepsAll : StoreContents → StoreContents → Type 0
-KeepsAll v w = (places : List Place) → HasPlaces v places → HasSame v w places
+KeepsAll v w = (places : List Place) → KeepsAt v places → HasSame v w places
 
 -- w keeps these bytes at a place, lists of bytes at the places before and after it, which are those that v has there, and nothing else
 pub record HasAmong (v w : StoreContents) (before after : List Place) (p : Place) (bytes : List ℕ) : Type 0 where
-  pub places : HasPlaces w (before ++ p ∷ after)
+  pub places : KeepsAt w (before ++ p ∷ after)
   pub front : lists_at w before ≡ lists_at v before
   pub here : bytes_at_place w.heap.memory p ≡ bytes
   pub back : lists_at w after ≡ lists_at v after
+
+-- bytes with others written over them, from an offset on
+abbrev pub with_bytes_over : List ℕ → ℕ → List ℕ → List ℕ
+with_bytes_over old offset bytes = splice old offset (offset + length bytes) bytes
+
+-- bytes were written over those that are kept at an address, from an offset on
+abbrev pub WritesOver : StoreContents → StoreContents → ℕ → ℕ → List ℕ → Type 0
+WritesOver v w addr offset bytes = (before after : List Place) (p : Place) → KeepsAt v (before ++ p ∷ after) → p.addr ≡ addr → offset + length bytes ≤ p.len
+    → HasAmong v w before after p (with_bytes_over (bytes_at_place v.heap.memory p) offset bytes)
+
+-- more bytes are kept behind the `len` ones at an address, and all of them at the address `to`
+abbrev pub AppendsAt : StoreContents → StoreContents → ℕ → ℕ → List ℕ → ℕ → Type 0
+AppendsAt v w addr len more to = (before after : List Place) (p : Place) → KeepsAt v (before ++ p ∷ after) → p.addr ≡ addr → p.align ≡ 1 → p.len ≡ len
+    → HasAmong v w before after (place to 1 (len + length more)) (bytes_at_place v.heap.memory p ++ more)
 
 -- how many of the blocks are used
 abbrev pub used_count : List Block → ℕ

@@ -1,12 +1,12 @@
 //! Lists of bytes by handle, each in a payload of one store: what the pool of objects and the strings share.
 
 ghost use Rattle.std.specs.Prelude.{◌≡◌, ◌≤◌, ◌+◌, ◌↔◌, ℕ, [], ◌∷◌, ◌++◌, List, None, Some, IfOk, OnOk, OnErr, IsErr, IsErrOf, IsSomeAnd, length, nat_eq, replicate};
-ghost use Rattle.std.specs.List.{splice};
-ghost use Rattle.std.specs.Map.{lookup, remove_entry, set_value};
+ghost use Rattle.std.specs.Map.{lookup, remove_entry};
 ghost use Rattle.rlsf_base.specs.Addr.{at};
 ghost use Rattle.rlsf_base.specs.Space.{SamePlace, range_of};
 ghost use Rattle.std.specs.Map.Iter.{GivesInOrder};
 ghost use Rattle.rlsf_blocks.specs.Blocks.{IsInOrder};
+ghost use Rattle.rlsf_uses.specs.Handled.{IsShortWithMore, with_bytes_of, with_list};
 ghost use Rattle.rlsf_uses.specs.Objects.{set_answer};
 ghost use Rattle.rlsf_uses.specs.Budgets.{HasBudgetOf};
 ghost use Rattle.rlsf_base.specs.Sizes.{request_size};
@@ -14,7 +14,7 @@ ghost use Rattle.rlsf_base.specs.declared.memory.range.Range as declared_range;
 ghost use Rattle.rlsf_machine.specs.Insert.{aligned_part};
 ghost use Rattle.rlsf_machine.specs.Uniform.{IsUniform};
 ghost use Rattle.rlsf_uses.specs.Tiles.{HasTileFor, KeepsUniform};
-ghost use Rattle.rlsf_uses.specs.Stored.{FitsPool, HasPlaces, HasSame, Place, used_count};
+ghost use Rattle.rlsf_uses.specs.Stored.{FitsPool, KeepsAt, HasSame, Place, used_count, with_bytes_over};
 ghost use Rattle.rlsf_uses.specs.declared.objects.TakeError.TheVariants.{NoRoom};
 ghost use Rattle.rlsf_uses.specs.declared.strings.StringError.TheVariants as string_error;
 
@@ -72,7 +72,7 @@ impl Items {
     pub(crate) fn add(&mut self, bytes: &[u8]) -> Result<usize, StringError>
         requires { self.old.align ≡ 1 }
         ensures added { IfOk result (λ handle. (handle ≡ self.old.next)
-            × (self.new ≡ record self.old { lists = self.old.lists ++ (handle, bytes.now) ∷ []; next = handle + 1; state = self.new.state })) }
+            × (self.new ≡ with_list self.old handle bytes.now self.new.state)) }
         ensures new { IfOk result (λ handle. lookup (nat_eq handle) self.old.lists ≡ None) }
         ensures known { IsErrOf result string_error.UnknownHandle → ⊥ }
         ensures room { self.old.lists ≡ [] → FitsPool self.old.memory (length bytes.now) 1 → IsErrOf result string_error.NoRoom → ⊥ }
@@ -95,7 +95,7 @@ impl Items {
     pub(crate) fn add_zeros(&mut self, layout: Layout) -> Result<usize, TakeError>
         requires { self.old.align ≡ layout.align }
         ensures added { IfOk result (λ handle. (handle ≡ self.old.next)
-            × (self.new ≡ record self.old { lists = self.old.lists ++ (handle, replicate layout.size 0) ∷ []; next = handle + 1; state = self.new.state })) }
+            × (self.new ≡ with_list self.old handle (replicate layout.size 0) self.new.state)) }
         ensures new { IfOk result (λ handle. lookup (nat_eq handle) self.old.lists ≡ None) }
         ensures room { self.old.lists ≡ [] → FitsPool self.old.memory layout.size layout.align → IsErrOf result NoRoom → ⊥ }
         ensures enough { (live size : ℕ) → HasBudgetOf self.old live size → layout.size ≤ size → IsErrOf result NoRoom → ⊥ }
@@ -135,7 +135,7 @@ impl Items {
     ) -> Result<(), SetError>
         ensures answer { result ≡ set_answer (lookup (nat_eq handle) self.old.lists) (offset + length bytes.now) }
         ensures written { OnOk result (IsSomeAnd (lookup (nat_eq handle) self.old.lists) (λ old.
-            self.new ≡ record self.old { lists = set_value (nat_eq handle) self.old.lists (splice old offset (offset + length bytes.now) bytes.now); state = self.new.state })) }
+            self.new ≡ with_bytes_of self.old handle (with_bytes_over old offset bytes.now) self.new.state)) }
         ensures uniform { (len : ℕ) → KeepsUniform self.old.state self.new.state len }
         ensures refused { OnErr result (self.new ≡ self.old) }
     {
@@ -153,10 +153,9 @@ impl Items {
     pub(crate) fn append(&mut self, handle: usize, more: &[u8]) -> Result<(), StringError>
         requires { self.old.align ≡ 1 }
         ensures appended { OnOk result (IsSomeAnd (lookup (nat_eq handle) self.old.lists) (λ old.
-            self.new ≡ record self.old { lists = set_value (nat_eq handle) self.old.lists (old ++ more.now); state = self.new.state })) }
+            self.new ≡ with_bytes_of self.old handle (old ++ more.now) self.new.state)) }
         ensures unknown { IsErrOf result string_error.UnknownHandle ↔ (lookup (nat_eq handle) self.old.lists ≡ None) }
-        ensures enough { (live size : ℕ) → HasBudgetOf self.old live size → IsSomeAnd (lookup (nat_eq handle) self.old.lists) (λ old. length old + length more.now ≤ size)
-            → IsErrOf result string_error.NoRoom → ⊥ }
+        ensures enough { (live size : ℕ) → HasBudgetOf self.old live size → IsShortWithMore self.old handle (length more.now) size → IsErrOf result string_error.NoRoom → ⊥ }
         ensures refused { OnErr result (self.new ≡ record self.old { state = self.new.state }) }
     {
         let Some(spot) = self.handles.get(handle) else {
@@ -204,11 +203,11 @@ fn keep(
     spot: Spot,
     align: usize,
 ) -> Result<usize, AllocError>
-    requires { (before : List Place) × (p : Place) × HasPlaces store.old (before ++ p ∷ []) × (p.addr ≡ at spot.addr) × (p.align ≡ align) }
+    requires { (before : List Place) × (p : Place) × KeepsAt store.old (before ++ p ∷ []) × (p.addr ≡ at spot.addr) × (p.align ≡ align) }
     ensures kept { IfOk result (λ handle. (store.new ≡ store.old) × (handle ≡ handles.old.next)
         × (handles.new ≡ record { rows = handles.old.rows ++ (handle, spot) ∷ []; next = handle + 1 })) }
     ensures new { IfOk result (λ handle. lookup (nat_eq handle) handles.old.rows ≡ None) }
-    ensures given_back { OnErr result ((before : List Place) (p : Place) → HasPlaces store.old (before ++ p ∷ [])
+    ensures given_back { OnErr result ((before : List Place) (p : Place) → KeepsAt store.old (before ++ p ∷ [])
         → p.addr ≡ at spot.addr → p.align ≡ align → HasSame store.old store.new (before ++ [])) }
     ensures refused { OnErr result (handles.new ≡ handles.old) }
     ensures uniform { (len : ℕ) → KeepsUniform store.old.heap.state store.new.heap.state len }

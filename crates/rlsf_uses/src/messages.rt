@@ -76,13 +76,13 @@ impl Model for Messages {
     ghost use Rattle.std.specs.VecDeque.{deque_capacity};
     ghost use Rattle.rlsf_base.specs.Space.{range_of};
     ghost use Rattle.rlsf_uses.specs.Queue.{KeepsLongest, Queue, messages_in, place_of_entry};
-    ghost use Rattle.rlsf_uses.specs.Stored.{HasPlaces};
+    ghost use Rattle.rlsf_uses.specs.Stored.{KeepsAt};
 
     ghost Value = { Queue };
 
     ghost view = { λ q. record { messages = messages_in q.store.heap.memory q.entries.items; capacity = deque_capacity q.entries; longest = q.longest; memory = range_of q.store.heap.memory; touches = q.store.heap.memory.touches } };
 
-    ghost invariant = { λ q. HasPlaces q.store (map place_of_entry q.entries.items)
+    ghost invariant = { λ q. KeepsAt q.store (map place_of_entry q.entries.items)
         × KeepsLongest q.longest (range_of q.store.heap.memory) (deque_capacity q.entries) q.entries.items };
 }
 

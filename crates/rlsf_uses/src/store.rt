@@ -13,7 +13,7 @@ ghost use Rattle.rlsf_base.specs.Sizes.{request_size};
 ghost use Rattle.rlsf_base.specs.declared.memory.range.Range as declared_range;
 ghost use Rattle.rlsf_machine.specs.Uniform.{IsUniform};
 ghost use Rattle.rlsf_uses.specs.Tiles.{HasTileFor, KeepsUniform};
-ghost use Rattle.rlsf_uses.specs.Stored.{FitsPool, HasAmong, HasPlaces, HasSame, KeepsAll, Place, bytes_at_place, place, used_count};
+ghost use Rattle.rlsf_uses.specs.Stored.{AppendsAt, FitsPool, HasAmong, KeepsAt, HasSame, KeepsAll, Place, WritesOver, place, used_count};
 
 use rlsf::{Addr, BlockInfo, Blocks, Layout, Memory, Range, Tlsf};
 use std::marker::Model;
@@ -40,7 +40,7 @@ impl Model for Store {
 impl Store {
     /// A store that keeps nothing, over a memory that is its pool.
     pub(crate) fn new(memory: Memory) -> Store
-        ensures empty { HasPlaces result [] }
+        ensures empty { KeepsAt result [] }
         ensures place { SamePlace memory result.heap.memory }
         ensures uniform { (len : ℕ) → 64 ≤ (aligned_part (range_of memory)).len → IsUniform len (aligned_part (range_of memory)) result.heap.state }
         ensures touches { result.heap.memory.touches ≤ memory.touches + 13 }
@@ -58,10 +58,10 @@ impl Store {
 
     /// Stores bytes in a payload of their own. Answers its address, or `None` without room, and then nothing changes.
     pub(crate) fn add(&mut self, bytes: &[u8]) -> Option<Addr>
-        ensures stored { IfSome result (λ addr. (places : List Place) → HasPlaces self.old places
+        ensures stored { IfSome result (λ addr. (places : List Place) → KeepsAt self.old places
             → HasAmong self.old self.new places [] (place (at addr) 1 (length bytes.now)) bytes.now) }
         ensures refused { IfNone result (KeepsAll self.old self.new) }
-        ensures room { HasPlaces self.old [] → FitsPool (range_of self.old.heap.memory) (length bytes.now) 1 → IsSome result }
+        ensures room { KeepsAt self.old [] → FitsPool (range_of self.old.heap.memory) (length bytes.now) 1 → IsSome result }
         ensures enough { (places : List Place) (live size : ℕ) → HasBudgetFor self.old places live size 1 → length bytes.now ≤ size → IsSome result }
         ensures place { SamePlace self.old.heap.memory self.new.heap.memory }
         ensures touches { self.new.heap.memory.touches ≤ self.old.heap.memory.touches + 30 }
@@ -77,13 +77,13 @@ impl Store {
     /// Stores as many zeros as a layout has bytes, at its alignment. Answers their address, or `None` without room, and then
     /// nothing changes.
     pub(crate) fn add_zeros(&mut self, layout: Layout) -> Option<Addr>
-        ensures stored { IfSome result (λ addr. (places : List Place) → HasPlaces self.old places
+        ensures stored { IfSome result (λ addr. (places : List Place) → KeepsAt self.old places
             → HasAmong self.old self.new places [] (place (at addr) layout.align layout.size) (replicate layout.size 0)) }
         ensures refused { IfNone result (KeepsAll self.old self.new) }
-        ensures room { HasPlaces self.old [] → FitsPool (range_of self.old.heap.memory) layout.size layout.align → IsSome result }
+        ensures room { KeepsAt self.old [] → FitsPool (range_of self.old.heap.memory) layout.size layout.align → IsSome result }
         ensures enough { (places : List Place) (live size : ℕ) → HasBudgetFor self.old places live size layout.align → layout.size ≤ size → IsSome result }
-        ensures tiled { (places : List Place) (c : declared_range.Range) → HasPlaces self.old places → HasTileFor self.old.heap.state c layout.size layout.align (length places) → IsSome result }
-        ensures uniform { (places : List Place) → HasPlaces self.old places → layout.align ≤ 32
+        ensures tiled { (places : List Place) (c : declared_range.Range) → KeepsAt self.old places → HasTileFor self.old.heap.state c layout.size layout.align (length places) → IsSome result }
+        ensures uniform { (places : List Place) → KeepsAt self.old places → layout.align ≤ 32
             → KeepsUniform self.old.heap.state self.new.heap.state (request_size layout.size layout.align) }
         ensures place { SamePlace self.old.heap.memory self.new.heap.memory }
         ensures touches { self.new.heap.memory.touches ≤ self.old.heap.memory.touches + 30 }
@@ -95,7 +95,7 @@ impl Store {
 
     /// The bytes that are stored at an address, as many as are kept there.
     pub(crate) fn read(&self, addr: Addr, len: usize) -> &[u8]
-        requires { (before after : List Place) × (p : Place) × HasPlaces self.now (before ++ p ∷ after) × (p.addr ≡ at addr) × (p.len ≡ len) }
+        requires { (before after : List Place) × (p : Place) × KeepsAt self.now (before ++ p ∷ after) × (p.addr ≡ at addr) × (p.len ≡ len) }
         ensures bytes { result.now ≡ bytes_in self.now.heap.memory (range_at (at addr) len) }
         ensures len { length result.now ≡ len }
     {
@@ -104,10 +104,9 @@ impl Store {
 
     /// Writes bytes over those that are stored at an address, from an offset on.
     pub(crate) fn write(&mut self, addr: Addr, offset: usize, bytes: &[u8])
-        requires { (before after : List Place) × (p : Place) × HasPlaces self.old (before ++ p ∷ after) × (p.addr ≡ at addr) × (offset + length bytes.now ≤ p.len) }
-        ensures stored { (before after : List Place) (p : Place) → HasPlaces self.old (before ++ p ∷ after) → p.addr ≡ at addr → offset + length bytes.now ≤ p.len
-            → HasAmong self.old self.new before after p (splice (bytes_at_place self.old.heap.memory p) offset (offset + length bytes.now) bytes.now) }
-        ensures uniform { (places : List Place) (len : ℕ) → HasPlaces self.old places → KeepsUniform self.old.heap.state self.new.heap.state len }
+        requires { (before after : List Place) × (p : Place) × KeepsAt self.old (before ++ p ∷ after) × (p.addr ≡ at addr) × (offset + length bytes.now ≤ p.len) }
+        ensures stored { WritesOver self.old self.new (at addr) offset bytes.now }
+        ensures uniform { (places : List Place) (len : ℕ) → KeepsAt self.old places → KeepsUniform self.old.heap.state self.new.heap.state len }
         ensures place { SamePlace self.old.heap.memory self.new.heap.memory }
         ensures touches { self.new.heap.memory.touches ≤ self.old.heap.memory.touches + 3 }
     {
@@ -117,9 +116,8 @@ impl Store {
     /// Stores more bytes behind the `len` bytes that are stored at an address, whose payload may move. Answers its address, or
     /// `None` without room, and then nothing changes.
     pub(crate) fn append(&mut self, addr: Addr, len: usize, more: &[u8]) -> Option<Addr>
-        requires { (before after : List Place) × (p : Place) × HasPlaces self.old (before ++ p ∷ after) × (p.addr ≡ at addr) × (p.align ≡ 1) × (p.len ≡ len) }
-        ensures stored { IfSome result (λ to. (before after : List Place) (p : Place) → HasPlaces self.old (before ++ p ∷ after) → p.addr ≡ at addr → p.align ≡ 1 → p.len ≡ len
-            → HasAmong self.old self.new before after (place (at to) 1 (len + length more.now)) (bytes_at_place self.old.heap.memory p ++ more.now)) }
+        requires { (before after : List Place) × (p : Place) × KeepsAt self.old (before ++ p ∷ after) × (p.addr ≡ at addr) × (p.align ≡ 1) × (p.len ≡ len) }
+        ensures stored { IfSome result (λ to. AppendsAt self.old self.new (at addr) len more.now (at to)) }
         ensures refused { IfNone result (KeepsAll self.old self.new) }
         ensures enough { (places : List Place) (live size : ℕ) → HasBudgetFor self.old places live size 1 → len + length more.now ≤ size → IsSome result }
         ensures place { SamePlace self.old.heap.memory self.new.heap.memory }
@@ -136,8 +134,8 @@ impl Store {
 
     /// Gives back what is stored at an address, with that alignment.
     pub(crate) fn remove(&mut self, addr: Addr, align: usize)
-        requires { (before after : List Place) × (p : Place) × HasPlaces self.old (before ++ p ∷ after) × (p.addr ≡ at addr) × (p.align ≡ align) }
-        ensures removed { (before after : List Place) (p : Place) → HasPlaces self.old (before ++ p ∷ after) → p.addr ≡ at addr → p.align ≡ align
+        requires { (before after : List Place) × (p : Place) × KeepsAt self.old (before ++ p ∷ after) × (p.addr ≡ at addr) × (p.align ≡ align) }
+        ensures removed { (before after : List Place) (p : Place) → KeepsAt self.old (before ++ p ∷ after) → p.addr ≡ at addr → p.align ≡ align
             → HasSame self.old self.new (before ++ after) }
         ensures uniform { (len : ℕ) → KeepsUniform self.old.heap.state self.new.heap.state len }
         ensures place { SamePlace self.old.heap.memory self.new.heap.memory }
@@ -148,8 +146,8 @@ impl Store {
 
     /// The blocks of the pool, used and free, in address order.
     pub(crate) fn blocks(&self) -> Blocks<'_>
-        requires { (places : List Place) × HasPlaces self.now places }
-        ensures used { (places : List Place) → HasPlaces self.now places → used_count result ≡ length places }
+        requires { (places : List Place) × KeepsAt self.now places }
+        ensures used { (places : List Place) → KeepsAt self.now places → used_count result ≡ length places }
         ensures order { IsInOrder result }
         ensures runs { GivesInOrder BlockInfo }
     {

@@ -25,7 +25,7 @@ use Rattle.rlsf_text.specs.declared.op.Op.TheVariants.{Insert, Append, Alloc, Fr
 use Rattle.rlsf_runs.specs.Runs.{Does, Frees, Owns, RunState, with_name, without_name}
 use Rattle.rlsf_runs.proofs.NamedPayloads.{reallocation_refused}
 use Rattle.rlsf_watched.specs.Moments.{name_in, moment_of, usable_bytes}
-use Rattle.rlsf_watched.specs.Steps.Changes.{bytes_in, live_in, Measures, MeasuresName}
+use Rattle.rlsf_watched.specs.Steps.Changes.{live_in, Measures, MeasuresName, usable_in}
 use Rattle.rlsf_watched.proofs.Weights.{IsBlind, weight, weight-allocated, weight-deallocated, weight-filled, weight-reallocated}
 
 -- no payload has the name, or one that weighs so much
@@ -271,8 +271,8 @@ Weighs-live s None told is = ap live_in is
 Weighs-live s (Some name) None is = inl (is, refl)
 Weighs-live s (Some name) (Some bytes) (u, owns, _) = inr (u, owns, refl)
 
-pub Weighs-bytes : (s : RunState) (o told : Option ℕ) → Measures s o told → Weighs length_of s o (bytes_in told)
-Weighs-bytes s None told is = ap bytes_in is
+pub Weighs-bytes : (s : RunState) (o told : Option ℕ) → Measures s o told → Weighs length_of s o (usable_in told)
+Weighs-bytes s None told is = ap usable_in is
 Weighs-bytes s (Some name) None is = inl (is, refl)
 Weighs-bytes s (Some name) (Some bytes) (u, owns, is) = inr (u, owns, is)
 
@@ -287,5 +287,5 @@ module _ {fllen sllen : ℕ} {memory : Range} (s t : RunState) (ws : IsWellForme
         weight-one s.machine.used,
       )
 
-  pub usable-balanced : usable_bytes t.machine.used + bytes_in before ≡ usable_bytes s.machine.used + bytes_in after
-  usable-balanced = balanced length_of (λ u bytes. refl) s t ws wt op answer does (bytes_in before) (bytes_in after) (Weighs-bytes s (name_in op) before was) (Weighs-bytes t (name_in op) after is)
+  pub usable-balanced : usable_bytes t.machine.used + usable_in before ≡ usable_bytes s.machine.used + usable_in after
+  usable-balanced = balanced length_of (λ u bytes. refl) s t ws wt op answer does (usable_in before) (usable_in after) (Weighs-bytes s (name_in op) before was) (Weighs-bytes t (name_in op) after is)

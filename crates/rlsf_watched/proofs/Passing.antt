@@ -14,6 +14,7 @@ use Rattle.rlsf_runs.specs.Runs.{beginning, Does, RunState}
 use Rattle.rlsf_runs.specs.Steps.Tables.{HasRoom, IsAt}
 use Rattle.rlsf_watched.specs.declared.moments.Moment.{Moment}
 use Rattle.rlsf_watched.specs.Moments.{last_of, moment_of, Passes}
+use Rattle.rlsf_watched.specs.Steps.Changes.{LeadsWatched}
 
 last_of-push : (s u : RunState) (us : List RunState) → last_of s (us ++ u ∷ []) ≡ u
 last_of-push s u [] = refl
@@ -22,11 +23,6 @@ last_of-push s u (x ∷ xs) = last_of-push x u xs
 map-push : (us : List RunState) (u : RunState) → map moment_of (us ++ u ∷ []) ≡ map moment_of us ++ moment_of u ∷ []
 map-push [] u = refl
 map-push (x ∷ xs) u = ap (λ l. moment_of x ∷ l) (map-push xs u)
-
--- what an op and its answer lead on to, and what is told of the state then
-abbrev pub LeadsTo : ℕ → ℕ → Allocator → Op → Answer → Moment → Moment → Allocator → Tables → RunState → Type 0
-LeadsTo fllen sllen v op answer moment after w new s = (t : RunState)
-    × Does fllen sllen (range_of v.memory) s op answer t × IsAt fllen sllen w new t × (moment ≡ moment_of s → after ≡ moment_of t)
 
 -- the first ops were done, with one answer and one moment each, and there is room for the others
 pub record IsPassing (fllen sllen : ℕ) (m : Space) (ops : List Op) (v : Allocator) (tables : Tables) (moment : Moment) (done : ℕ) (given : List Answer) (told : List Moment) : Type 0 where
@@ -60,7 +56,7 @@ module _ {fllen sllen : ℕ} {m : Space} {ops : List Op} {v : Allocator} {tables
 
   -- one op more
   pub IsPassing-next : {done : ℕ} {given : List Answer} {told : List Moment} (w : IsPassing fllen sllen m ops v tables moment done given told) (op : Op) → ((d : Op) → op ≡ slice_index_or ops done d) → done < length ops
-      → (answer : Answer) (after : Moment) (w2 : Allocator) (new : Tables) → ((s : RunState) → IsAt fllen sllen v tables s → LeadsTo fllen sllen v op answer moment after w2 new s)
+      → (answer : Answer) (after : Moment) (w2 : Allocator) (new : Tables) → ((s : RunState) → IsAt fllen sllen v tables s → LeadsWatched fllen sllen v s op moment answer after w2 new)
       → ((n : ℕ) → HasRoom tables (n + 1) → HasRoom new n) → SamePlace v.memory w2.memory
       → IsPassing fllen sllen m ops w2 new after (done + 1) (given ++ answer ∷ []) (told ++ after ∷ [])
   IsPassing-next {done} {given} {told} w op is below answer after w2 new does room place =

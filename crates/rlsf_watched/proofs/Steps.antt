@@ -12,7 +12,7 @@ use Rattle.rlsf_runs.specs.Runs.{Does, RunState}
 use Rattle.rlsf_runs.specs.Steps.Tables.{IsAt}
 use Rattle.rlsf_watched.specs.declared.moments.Moment.{Moment}
 use Rattle.rlsf_watched.specs.Moments.{moment_of, name_in, usable_bytes}
-use Rattle.rlsf_watched.specs.Steps.Changes.{bytes_in, live_in, Measures}
+use Rattle.rlsf_watched.specs.Steps.Changes.{live_in, Measures, usable_in}
 use Rattle.rlsf_watched.proofs.Ops.{live-balanced, usable-balanced}
 
 module _ {fllen sllen : ℕ} {v w : Allocator} {tables new : Tables} (s t : RunState) (at : IsAt fllen sllen v tables s) (then : IsAt fllen sllen w new t) (place : SamePlace v.memory w.memory)
@@ -24,11 +24,11 @@ module _ {fllen sllen : ℕ} {v w : Allocator} {tables new : Tables} (s t : RunS
   pub live-after : length t.machine.used + live_in before ≡ moment.live + live_in after
   live-after = omega (arith, live-balanced s t at.stands.stands.well_formed whole op answer does before after was is, ap (λ (x : Moment). x.live) now)
 
-  pub usable-after : usable_bytes t.machine.used + bytes_in before ≡ moment.usable + bytes_in after
+  pub usable-after : usable_bytes t.machine.used + usable_in before ≡ moment.usable + usable_in after
   usable-after = omega (arith, usable-balanced s t at.stands.stands.well_formed whole op answer does before after was is, ap (λ (x : Moment). x.usable) now)
 
   -- so what has these counts is what is told of the state after it
-  pub moment-after : (told : Moment) → told.live + live_in before ≡ moment.live + live_in after → told.usable + bytes_in before ≡ moment.usable + bytes_in after → told ≡ moment_of t
+  pub moment-after : (told : Moment) → told.live + live_in before ≡ moment.live + live_in after → told.usable + usable_in before ≡ moment.usable + usable_in after → told ≡ moment_of t
   moment-after told live usable =
       let lives : told.live ≡ length t.machine.used = omega (arith, live, live-after) in
       let bytes : told.usable ≡ usable_bytes t.machine.used = omega (arith, usable, usable-after) in

@@ -1,11 +1,11 @@
 //! What an allocator holds between two ops.
 
 ghost use Rattle.std.specs.Prelude.{◌≡◌, ℕ, ◌+◌, ◌<◌, ◌≤◌, ◌^◌};
-ghost use Rattle.rlsf_base.specs.Space.{range_of, SamePlace};
-ghost use Rattle.rlsf_runs.specs.Runs.{Does, RunState};
+ghost use Rattle.rlsf_base.specs.Space.{SamePlace};
+ghost use Rattle.rlsf_runs.specs.Runs.{RunState};
 ghost use Rattle.rlsf_runs.specs.Steps.Tables.{HasRoom, IsAt};
 ghost use Rattle.rlsf_watched.specs.Moments.{moment_of, name_in};
-ghost use Rattle.rlsf_watched.specs.Steps.Changes.{bytes_in, live_in, Measures};
+ghost use Rattle.rlsf_watched.specs.Steps.Changes.{LeadsWatched, live_in, Measures, usable_in};
 
 use rlsf_int::Bitmap;
 use rlsf_runs::{Tables, step};
@@ -60,9 +60,9 @@ fn usable_of<FLBitmap: Bitmap, SLBitmap: Bitmap, const FLLEN: usize, const SLLEN
 // The moment after an op, by what is usable of the payload that it is on, before it and after it: no other payload changes.
 fn moved_on(moment: Moment, before: Option<usize>, after: Option<usize>) -> Moment
     requires live { (moment.live + 1 < 2 ^ 64) × (live_in before ≤ moment.live + live_in after) }
-    requires usable { (moment.usable + 2 ^ 64 < 2 ^ 128) × (bytes_in before ≤ moment.usable + bytes_in after) }
+    requires usable { (moment.usable + 2 ^ 64 < 2 ^ 128) × (usable_in before ≤ moment.usable + usable_in after) }
     ensures live { result.live + live_in before ≡ moment.live + live_in after }
-    ensures usable { result.usable + bytes_in before ≡ moment.usable + bytes_in after }
+    ensures usable { result.usable + usable_in before ≡ moment.usable + usable_in after }
 {
     let live = moment.live + usize::from(after.is_some()) - usize::from(before.is_some());
     let usable = moment.usable + after.unwrap_or(0) as u128 - before.unwrap_or(0) as u128;
@@ -84,8 +84,7 @@ pub(crate) fn watched_step<
     requires state { (s : RunState) × IsAt FLLEN SLLEN tlsf.old tables.old s × (moment ≡ moment_of s) }
     requires room { HasRoom tables.old 1 }
     requires few { (moment.live + 1 < 2 ^ 64) × (moment.usable + 2 ^ 64 < 2 ^ 128) }
-    ensures does { (s : RunState) → IsAt FLLEN SLLEN tlsf.old tables.old s → (t : RunState)
-        × Does FLLEN SLLEN (range_of tlsf.old.memory) s op result.0 t × IsAt FLLEN SLLEN tlsf.new tables.new t × (moment ≡ moment_of s → result.1 ≡ moment_of t) }
+    ensures does { (s : RunState) → IsAt FLLEN SLLEN tlsf.old tables.old s → LeadsWatched FLLEN SLLEN tlsf.old s op moment result.0 result.1 tlsf.new tables.new }
     ensures few { (result.1.live ≤ moment.live + 1) × (result.1.usable < moment.usable + 2 ^ 64) }
     ensures room { (ops : ℕ) → HasRoom tables.old (ops + 1) → HasRoom tables.new ops }
     ensures place { SamePlace tlsf.old.memory tlsf.new.memory }

@@ -63,20 +63,16 @@ pub record Took {S : Type 0} (fllen sllen : ℕ) (terms : S → Terms) (owes : S
 
 module _ {S : Type 0} (fllen sllen : ℕ) (terms : S → Terms) (owes : S → List Range → Type 0) (leads : S → Note → S → Type 0) (before after : FlexContents S) where
   -- a range was asked for, if there is a question, and what came was taken in
-  pub record AskedRange (e : ℕ) (more : Bool) : Type 0 where
-    pub answer : Option Range
+  pub record AskedRange (e : ℕ) (answer : Option Range) : Type 0 where
     pub notes : LeadsBy leads before.source (range_note (range_length (terms before.source) e) answer) after.source
     pub asked : range_length (terms before.source) e ≡ None → answer ≡ None
     pub took : Took fllen sllen terms owes before after e (outcome_of_range answer)
-    pub came : more ≡ is_more (outcome_of_range answer)
 
   -- growth to n bytes was asked for, if there is a question, and what came was taken in
-  pub record AskedGrowth (k : KeptPool) (n e : ℕ) (more : Bool) : Type 0 where
-    pub answer : Option ℕ
+  pub record AskedGrowth (k : KeptPool) (n e : ℕ) (answer : Option ℕ) : Type 0 where
     pub notes : LeadsBy leads before.source (growth_note (growth_question (terms before.source) k n) answer) after.source
     pub asked : growth_question (terms before.source) k n ≡ None → answer ≡ None
     pub took : Took fllen sllen terms owes before after e (outcome_of_growth answer)
-    pub came : more ≡ is_more (outcome_of_growth answer)
 
   -- the source was asked for e bytes more
   pub record Extended (e : ℕ) (more : Bool) : Type 0 where

@@ -12,8 +12,8 @@ use Rattle.rlsf_machine.specs.Terms.{Terms}
 use Rattle.rlsf_machine.specs.Trim.{all_removed}
 
 -- the range has room for a chunk, and ends below 2^64
-abbrev pub HasRoom : Range → Type 0
-HasRoom r = (64 ≤ r.len) × (end_of r < 2 ^ 64)
+abbrev pub HasRoomForChunk : Range → Type 0
+HasRoomForChunk r = (64 ≤ r.len) × (end_of r < 2 ^ 64)
 
 -- the ranges but for the newest
 abbrev pub older : List Range → List Range

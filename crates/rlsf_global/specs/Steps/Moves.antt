@@ -1,13 +1,17 @@
 -- A payload that gets another size, as callers see it.
-use Rattle.std.specs.Prelude.{◌≡◌, ◌≢◌, ℕ, ◌+◌, ◌≤◌, ◌<◌, length, Some, None}
+use Rattle.std.specs.Prelude.{◌≡◌, ◌≢◌, ℕ, ◌+◌, ◌≤◌, ◌<◌, Bool, List, length, Some, None, Ok}
+use Rattle.std.specs.declared.num.NonZeroUsize.{NonZeroUsize}
 use Rattle.rlsf_base.specs.declared.memory.layout.Layout.{Layout}
 use Rattle.rlsf_flex.specs.StandsFor.{FlexContents, FlexStandsFor}
+use Rattle.rlsf_global.specs.Locked.{heap_of}
 use Rattle.rlsf_placement.specs.Pages.{MayOwe}
 use Rattle.rlsf_machine.specs.Callers.{align_at, bytes_at}
 use Rattle.rlsf_placement.specs.Cursor.{PageCursor, terms_of}
+use Rattle.rlsf_placement.specs.Moves.{ReallocatesTo}
+use Rattle.rlsf_placement.specs.Rows.{Row, put, without_row}
 
 -- the payload at an address is now at another, or at its own, and serves a layout there; all others stay
-pub record IsMoved (before after : FlexContents PageCursor) (addr : ℕ) (wanted : Layout) (to : ℕ) : Type 0 where
+pub record IsGivenLayout (before after : FlexContents PageCursor) (addr : ℕ) (wanted : Layout) (to : ℕ) : Type 0 where
   pub stands : FlexStandsFor 64 64 terms_of MayOwe after
   pub live : align_at after.state.machine to ≡ Some wanted.align
   pub sized : wanted.size ≤ length (bytes_at after.state.machine to)
@@ -16,6 +20,11 @@ pub record IsMoved (before after : FlexContents PageCursor) (addr : ℕ) (wanted
   pub left : to ≢ addr → align_at after.state.machine addr ≡ None
   pub aligns : (a : ℕ) → a ≢ addr → a ≢ to → align_at after.state.machine a ≡ align_at before.state.machine a
   pub bytes : (a : ℕ) → a ≢ addr → a ≢ to → bytes_at after.state.machine a ≡ bytes_at before.state.machine a
+
+-- whatever rows the table has, the payload of a layout gets another size, and its row is the one at the address that was answered
+abbrev pub ResizesTo : Bool → FlexContents PageCursor → FlexContents PageCursor → ℕ → Layout → Layout → NonZeroUsize → Type 0
+ResizesTo enabled before after addr layout wanted to =
+    (rows : List Row) → ReallocatesTo enabled (heap_of before rows) addr layout wanted (Ok to) (heap_of after (put (to, wanted) (without_row addr rows)))
 
 -- nothing changed
 pub record StaysRefused (before after : FlexContents PageCursor) : Type 0 where

@@ -1,10 +1,10 @@
 -- Where a search in the live table ends.
 use Rattle.std.specs.Prelude.{◌≡◌, ℕ, ◌<◌, ◌≤◌, List, length, Some, None, slice_index_or, slice_set}
 use Rattle.std.specs.List.{insert, remove}
-use Rattle.rlsf_placement.specs.Rows.{Row, key, put, row_at, without}
+use Rattle.rlsf_placement.specs.Rows.{Row, key, put, row_at, without_row}
 
 -- the row at place i has the address
-pub record IsAt (rows : List Row) (addr i : ℕ) : Type 0 where
+pub record IsRowOf (rows : List Row) (addr i : ℕ) : Type 0 where
   pub in_range : i < length rows
   pub here : (d : Row) → key (slice_index_or rows i d) ≡ addr
 
@@ -18,8 +18,8 @@ pub record IsGapFor (rows : List Row) (addr i : ℕ) : Type 0 where
 pub record IsFound (rows : List Row) (addr at : ℕ) : Type 0 where
   pub in_range : at < length rows
   pub row : (d : Row) → row_at addr rows ≡ Some (slice_index_or rows at d)
-  pub taken_out : remove rows at ≡ without addr rows
-  pub replaced : (row : Row) → key row ≡ addr → slice_set rows at row ≡ put row (without addr rows)
+  pub taken_out : remove rows at ≡ without_row addr rows
+  pub replaced : (row : Row) → key row ≡ addr → slice_set rows at row ≡ put row (without_row addr rows)
 
 -- the address has no row, and one can be put at the place
 pub record IsPlaceFor (rows : List Row) (addr at : ℕ) : Type 0 where

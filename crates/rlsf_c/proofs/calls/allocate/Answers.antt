@@ -1,6 +1,6 @@
 use Rattle.std.proofs.Common.{sym, subst}
 use Rattle.rlsf_machine.specs.Allocate as machine
-use Rattle.rlsf_checked.specs.Answers.{placed}
+use Rattle.rlsf_checked.specs.Answers.{addr_in}
 use Rattle.rlsf_c.specs.Answers.{place_of}
 use Rattle.rlsf_c.specs.Calls.{Allocates}
 use Rattle.rlsf_c.specs.Seen.{seen_in}
@@ -14,7 +14,7 @@ returns-in-Ok g c =
     let new = c.allocate.new.self in
     let did = c.allocate.ensures in
     let layout = c.in-Ok.layout in
-    let step = step_of g.row.FLLEN sllen old.heap new.heap (λ t. machine.Allocates sllen old.heap.state layout.size layout.align (placed c.allocate.result) t) did.step in
+    let step = step_of g.row.FLLEN sllen old.heap new.heap (λ t. machine.Allocates sllen old.heap.state layout.size layout.align (addr_in c.allocate.result) t) did.step in
     let done : Allocates (seen_in sllen old) layout.size layout.align (place_of c.allocate.result) (seen_in sllen new) =
     allocated sllen old new layout.size layout.align layout.valid did.pool did.place c.allocate.result did.refused step did.live did.sized did.few did.new did.aligns did.bytes did.same in
     subst (λ a. Allocates (seen_in sllen old) c.args.size c.args.align a (seen_in sllen new)) (sym c.to_place.ensures)

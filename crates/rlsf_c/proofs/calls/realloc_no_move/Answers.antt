@@ -2,7 +2,7 @@ use Rattle.std.proofs.Common.{◌≡◌, None, sym, subst}
 use Rattle.rlsf_base.specs.Addr.{at}
 use Rattle.rlsf_machine.specs.Callers.{align_at}
 use Rattle.rlsf_machine.specs.NoMove.{ReallocatesWithoutMove}
-use Rattle.rlsf_checked.specs.Answers.{placed}
+use Rattle.rlsf_checked.specs.Answers.{addr_in}
 use Rattle.rlsf_c.specs.Answers.{place_of}
 use Rattle.rlsf_c.specs.Calls.{ResizesThere}
 use Rattle.rlsf_c.specs.Seen.{seen_in}
@@ -18,7 +18,7 @@ returns-in-Some g c =
     let did = c.reallocate_no_move.ensures in
     let addr = at c.in-Some.addr in
     let done = resized_there sllen old new addr c.args.size did.pool did.place c.reallocate_no_move.result did.answer
-    (λ none. step_of g.row.FLLEN sllen old.heap new.heap (λ t. ReallocatesWithoutMove old.heap.state addr c.args.size (placed c.reallocate_no_move.result) t) (did.step none))
+    (λ none. step_of g.row.FLLEN sllen old.heap new.heap (λ t. ReallocatesWithoutMove old.heap.state addr c.args.size (addr_in c.reallocate_no_move.result) t) (did.step none))
     did.there did.sized did.few did.kept did.aligns did.bytes did.same in
     subst (λ r. ResizesThere (seen_in sllen old) c.args.addr c.args.size r (seen_in sllen new)) (sym c.to_place.ensures)
     (subst (λ a. ResizesThere (seen_in sllen old) a c.args.size (place_of c.reallocate_no_move.result) (seen_in sllen new)) c.in-Some.ensures done)

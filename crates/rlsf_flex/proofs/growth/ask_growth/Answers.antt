@@ -1,12 +1,169 @@
-use Rattle.std.proofs.Common.{refl}
-use Rattle.rlsf_flex.proofs.KeptPayloads.{KeepsPayloads-refl}
+use Rattle.std.proofs.Common.{rules, ◌≡◌, ◌+◌, [], arith, sym, ap, ◌∙◌, subst, refl, inl}
+use Rattle.rlsf_base.specs.Space.{IsWord, range_of, word_at}
+use Rattle.rlsf_tlsf.specs.Allocator.{Allocator, IsInState}
+use Rattle.rlsf_flex.specs.Footers.{first_len, first_start, footer_of, Footers}
+use Rattle.rlsf_flex.specs.StandsFor.{kept_pool}
+use Rattle.rlsf_flex.specs.Steps.Growth.{AskedGrowth, KeepsPayloads}
+use Rattle.rlsf_flex.specs.Steps.Parts.{flex_over}
+use Rattle.rlsf_machine.specs.Growth.{behind, longer}
+use Rattle.rlsf_machine.specs.Insert.{Appends, IsNext}
+use Rattle.rlsf_machine.specs.Lists.{IsIn}
+use Rattle.rlsf_machine.specs.Note.{grow}
+use Rattle.rlsf_machine.specs.Terms.{Terms, with_len}
+use Rattle.rlsf_machine.proofs.TakenPools.{pool_size_is}
+use Rattle.rlsf_tlsf.proofs.Standing.{of_state, stepped}
+use Rattle.rlsf_flex.proofs.Asks.{AskedGrowth-asked, AskedGrowth-none}
+use Rattle.rlsf_flex.proofs.Calls.{stays_in}
+use Rattle.rlsf_flex.proofs.Frames.{ends_here, spare_here}
+use Rattle.rlsf_flex.proofs.Growths.{Grew, Grew-footers, Grew-longer, Grew-next, Grew-taken, Grew-took}
+use Rattle.rlsf_flex.proofs.Outcomes.{Took-named, Took-refused}
+use Rattle.rlsf_flex.proofs.Kept.{IsKeptPool-known}
+use Rattle.rlsf_flex.proofs.KeptPayloads.{KeepsPayloads-refl, KeepsPayloads-same, KeepsPayloads-trans}
+use Rattle.rlsf_flex.proofs.Rewritten.{IsFooted, IsFooted-none, IsFooted-written}
+use Rattle.rlsf_flex.proofs.Standing.{inner_in}
+use Rattle.rlsf_flex.proofs.growth.ask_growth.Given as given
 use Rattle.rlsf_flex.proofs.growth.ask_growth.Goals as goal
+use Rattle.rlsf_flex.proofs.growth.ask_growth.Goals.{In_ok-grown, Joined-supports_dealloc, then-supports_dealloc, else-supports_dealloc}
 
-pub returns-then-supports_realloc_inplace_grow-clause-payloads : goal.returns-then-supports_realloc_inplace_grow-clause-payloads
-returns-then-supports_realloc_inplace_grow-clause-payloads g c = c.grow_kept.ensures.payloads
+pub realloc_inplace_grow-requires-clause-outstanding : goal.realloc_inplace_grow-requires-clause-outstanding
+realloc_inplace_grow-requires-clause-outstanding g c =
+    let (was, kept) = IsKeptPool-known c.requires.stands c.requires.kept in
+    ([], kept.rest, subst (g.S.FlexSource.owes c.args.source.now) kept.split c.requires.stands.owed)
 
-pub returns-else-supports_realloc_inplace_grow-clause-payloads : goal.returns-else-supports_realloc_inplace_grow-clause-payloads
-returns-else-supports_realloc_inplace_grow-clause-payloads g c = KeepsPayloads-refl c.args.tlsf.now
+pub realloc_inplace_grow-requires-clause-longer : goal.realloc_inplace_grow-requires-clause-longer
+realloc_inplace_grow-requires-clause-longer g c =
+    let (was, kept) = IsKeptPool-known c.requires.stands c.requires.kept in
+    let (room, whole, short) = pool_size_is _ _ g.row.FLLEN g.row.SLLEN c.args.wanted c.requires.valid c.requires.wanted in
+    omega (arith, kept.nearly, c.requires.len, room)
 
-pub returns-else-supports_realloc_inplace_grow-clause-refused : goal.returns-else-supports_realloc_inplace_grow-clause-refused
-returns-else-supports_realloc_inplace_grow-clause-refused g c = λ none. refl
+pub returns-then-not-supports_realloc_inplace_grow-clause-step : goal.returns-then-not-supports_realloc_inplace_grow-clause-step
+returns-then-not-supports_realloc_inplace_grow-clause-step g c =
+    let before = flex_over c.args.tlsf.now c.args.kept.now c.args.source.now c.args.owed.now in
+    AskedGrowth-none (kept_pool c.args.pool) c.args.len (sym c.supports_realloc_inplace_grow.ensures ∙ c.if-not-supports_realloc_inplace_grow.true) refl
+    (Took-refused before c.args.source.now c.requires.stands refl c.requires.stands.owed c.args.wanted)
+
+pub returns-in_err-grown-clause-step : goal.returns-in_err-grown-clause-step
+returns-in_err-grown-clause-step g c =
+    let v = c.requires.stands in
+    let before = flex_over c.args.tlsf.now c.args.kept.now c.args.source.now c.args.owed.now in
+    let (was, kept) = IsKeptPool-known v c.requires.kept in
+    let same = g.met.S.FlexSource.constant c.args.source.now c.realloc_inplace_grow.new.self (grow c.args.pool.range c.args.len c.realloc_inplace_grow.result) c.realloc_inplace_grow.ensures.leads in
+    let y = c.realloc_inplace_grow.new.self in
+    let owed = subst (g.S.FlexSource.owes y) (sym kept.split) (c.in_err-grown.ensures.owes [] kept.rest (subst (g.S.FlexSource.owes c.args.source.now) kept.split v.owed)) in
+    subst (AskedGrowth g.row.FLLEN g.row.SLLEN g.S.FlexSource.terms g.S.FlexSource.owes g.S.FlexSource.leads before (flex_over c.args.tlsf.now c.args.kept.now y c.args.owed.now) (kept_pool c.args.pool) c.args.len c.args.wanted) (sym c.from_residual.ensures)
+    (AskedGrowth-asked (kept_pool c.args.pool) c.args.len (sym c.supports_realloc_inplace_grow.ensures ∙ c.if-not-supports_realloc_inplace_grow.false) c.in_err-grown.ensures.leads (Took-refused before y v same owed c.args.wanted))
+
+-- the growth that came
+grew : (g : given.Over) (c : In_ok-grown g)
+    → Grew g.row.FLLEN g.row.SLLEN c.args.wanted g.S.FlexSource.terms g.S.FlexSource.owes (flex_over c.args.tlsf.now c.args.kept.now c.args.source.now c.args.owed.now) c.realloc_inplace_grow.new.self (kept_pool c.args.pool) c.args.len c.in_ok-grown.grown
+grew g c =
+    let v = c.requires.stands in
+    let (was, kept) = IsKeptPool-known v c.requires.kept in
+    let (is_grown, owed) = c.in_ok-grown.ensures.owes [] kept.rest (subst (g.S.FlexSource.owes c.args.source.now) kept.split v.owed) in
+    record {
+      before = v;
+      size = c.requires.wanted;
+      was = was;
+      kept = kept;
+      is_asked = c.requires.len;
+      is_grown = is_grown;
+      owed = owed;
+      anywhere = λ front behind split. (c.in_ok-grown.ensures.owes front behind (subst (g.S.FlexSource.owes c.args.source.now) split v.owed)).0;
+    }
+
+pub read_footer-start-requires-clause-range : goal.read_footer-start-requires-clause-range
+read_footer-start-requires-clause-range g c =
+    let is_grew = grew g (goal.at.read_footer-start-requires-clause-range g c).In_ok-grown in
+    ends_here c.args.tlsf.now.memory c.requires.stands.well_formed c.args.pool.range (subst (IsIn c.args.pool.range) (sym is_grew.kept.split) (inl refl))
+
+pub read_footer-start-requires-clause-words : goal.read_footer-start-requires-clause-words
+read_footer-start-requires-clause-words g c =
+    let is_grew = grew g (goal.at.read_footer-start-requires-clause-words g c).In_ok-grown in
+    let footer = spare_here c.args.tlsf.now.memory c.requires.stands.well_formed c.args.pool.range (subst (IsIn c.args.pool.range) (sym is_grew.kept.split) (inl refl)) in
+    subst (λ m. IsWord m (footer_of c.args.pool.range) × IsWord m (footer_of c.args.pool.range + 8)) (sym c.memory_ref.ensures.memory) (footer.0.0, footer.1.0)
+
+pub write_footer-requires : goal.write_footer-requires
+write_footer-requires g c =
+    let now = with_len c.args.pool.range c.in_ok-grown.grown in
+    let (ends, footer) = Grew-footers c.requires.valid (grew g (goal.at.write_footer-requires g c).In_ok-grown) c.args.tlsf.now.memory c.requires.stands.machine.well_formed (refl, refl) now (inl refl) in
+    (search rules, (ends, footer))
+
+pub overflow_add-pool : goal.overflow_add-pool
+overflow_add-pool g c =
+    let is_grew = grew g (goal.at.overflow_add-pool g c).In_ok-grown in
+    let ends = ends_here c.args.tlsf.now.memory c.requires.stands.well_formed c.args.pool.range (subst (IsIn c.args.pool.range) (sym is_grew.kept.split) (inl refl)) in
+    omega (arith, ends.1, is_grew.kept.within)
+
+pub overflow_sub-grown : goal.overflow_sub-grown
+overflow_sub-grown g c =
+    let (enough, more, long) = Grew-longer c.requires.valid (grew g (goal.at.overflow_sub-grown g c).In_ok-grown) in
+    omega (arith, enough)
+
+-- the footer was moved, or there is none
+moved : (g : given.Over) (c : Joined-supports_dealloc g)
+    → (h : Grew g.row.FLLEN g.row.SLLEN c.args.wanted g.S.FlexSource.terms g.S.FlexSource.owes (flex_over c.args.tlsf.now c.args.kept.now c.args.source.now c.args.owed.now) c.realloc_inplace_grow.new.self (kept_pool c.args.pool) c.args.len c.in_ok-grown.grown)
+    → IsInState g.row.FLLEN g.row.SLLEN c.if-supports_dealloc.tlsf c.args.tlsf.now.state
+    × IsFooted (g.S.FlexSource.terms c.args.source.now).dealloc c.args.tlsf.now.memory c.if-supports_dealloc.tlsf.memory (with_len c.args.pool.range c.in_ok-grown.grown) (first_start h.kept.rest) (first_len h.kept.rest)
+moved g c h =
+    let t = g.S.FlexSource.terms c.args.source.now in
+    let a = c.args.tlsf.now in
+    let now = with_len c.args.pool.range c.in_ok-grown.grown in
+    let takes : c.supports_dealloc.result ≡ t.dealloc = subst (λ (e : Terms). c.supports_dealloc.result ≡ e.dealloc) (g.met.S.FlexSource.constant c.args.source.now c.realloc_inplace_grow.new.self (grow c.args.pool.range c.args.len c.realloc_inplace_grow.result) c.realloc_inplace_grow.ensures.leads) c.supports_dealloc.ensures in
+    let Done : Allocator → Type 0 = λ d. IsInState g.row.FLLEN g.row.SLLEN d a.state × IsFooted t.dealloc a.memory d.memory now (first_start h.kept.rest) (first_len h.kept.rest) in
+    elim c.if-supports_dealloc.branch [
+      | then-supports_dealloc w ↦
+          let f = subst (Footers a.memory) h.kept.split (h.before.footers (sym takes ∙ w.if-supports_dealloc.true)) in
+          subst Done (sym w.tlsf-is) (
+            stays_in (inner_in h.before) w.write_footer.new.tlsf w.write_footer.ensures.state w.write_footer.ensures.stands,
+            IsFooted-written _ _ _ _ _ _ _ _ (sym takes ∙ w.if-supports_dealloc.true) w.write_footer.ensures.footer
+                (subst (λ m. w.read_footer-start.result.0 ≡ word_at m (footer_of c.args.pool.range)) w.memory_ref.ensures.memory w.read_footer-start.ensures.0 ∙ f.0)
+                (subst (λ m. w.read_footer-start.result.1 ≡ word_at m (footer_of c.args.pool.range + 8)) w.memory_ref.ensures.memory w.read_footer-start.ensures.1 ∙ f.1),
+          )
+      | else-supports_dealloc w ↦ subst Done (sym w.tlsf-is) (inner_in h.before, IsFooted-none _ _ _ _ _ (sym takes ∙ w.if-supports_dealloc.false))
+    ]
+
+pub append_free_block_ptr-taken-requires : goal.append_free_block_ptr-taken-requires
+append_free_block_ptr-taken-requires g c =
+    let h = grew g (goal.at.append_free_block_ptr-taken-requires g c).In_ok-grown in
+    let (stands, footed) = moved g (goal.at.append_free_block_ptr-taken-requires g c).Joined-supports_dealloc h in
+    (search rules, of_state stands (λ x. IsNext (range_of c.if-supports_dealloc.tlsf.memory) x (behind (kept_pool c.args.pool) c.in_ok-grown.grown)) (Grew-next c.requires.valid h c.if-supports_dealloc.tlsf.memory footed.place))
+
+pub overflow_add-kept : goal.overflow_add-kept
+overflow_add-kept g c =
+    let h = grew g (goal.at.overflow_add-kept g c).In_ok-grown in
+    let (stands, footed) = moved g (goal.at.overflow_add-kept g c).Joined-supports_dealloc h in
+    let d = c.if-supports_dealloc.tlsf in
+    let (t, step, after, spare) = stepped stands c.append_free_block_ptr-taken.new.self (λ x. Appends g.row.FLLEN x (behind (kept_pool c.args.pool) c.in_ok-grown.grown) c.append_free_block_ptr-taken.result) c.append_free_block_ptr-taken.ensures.step in
+    let (pool, taken) = Grew-taken c.requires.valid h t c.append_free_block_ptr-taken.result step in
+    let (ends, footer) = Grew-footers c.requires.valid h d.memory stands.stands.well_formed footed.place (with_len c.args.pool.range c.in_ok-grown.grown) (inl refl) in
+    let longer = Grew-longer c.requires.valid h in
+    omega (arith, taken.within, ends.1, longer.0)
+
+pub returns-clause-step : goal.returns-clause-step
+returns-clause-step g c =
+    let h = grew g (goal.at.returns-clause-step g c).In_ok-grown in
+    let (stands, footed) = moved g (goal.at.returns-clause-step g c).Joined-supports_dealloc h in
+    let d = c.if-supports_dealloc.tlsf in
+    let same = g.met.S.FlexSource.constant c.args.source.now c.realloc_inplace_grow.new.self (grow c.args.pool.range c.args.len c.realloc_inplace_grow.result) c.realloc_inplace_grow.ensures.leads in
+    let (t, step, after, spare) = stepped stands c.append_free_block_ptr-taken.new.self (λ x. Appends g.row.FLLEN x (behind (kept_pool c.args.pool) c.in_ok-grown.grown) c.append_free_block_ptr-taken.result) c.append_free_block_ptr-taken.ensures.step in
+    AskedGrowth-asked (kept_pool c.args.pool) c.args.len (sym c.supports_realloc_inplace_grow.ensures ∙ c.if-not-supports_realloc_inplace_grow.false) c.in_ok-grown.ensures.leads
+    (Took-named after.state (c.grow.ensures ∙ ap (longer c.in_ok-grown.grown) h.kept.split)
+    (Grew-took c.requires.valid h d c.append_free_block_ptr-taken.new.self t c.append_free_block_ptr-taken.result same stands footed step after spare c.append_free_block_ptr-taken.ensures.place))
+
+pub returns-then-not-supports_realloc_inplace_grow-clause-payloads : goal.returns-then-not-supports_realloc_inplace_grow-clause-payloads
+returns-then-not-supports_realloc_inplace_grow-clause-payloads g c = KeepsPayloads-refl c.args.tlsf.now
+
+pub returns-in_err-grown-clause-payloads : goal.returns-in_err-grown-clause-payloads
+returns-in_err-grown-clause-payloads g c = KeepsPayloads-refl c.args.tlsf.now
+
+pub returns-clause-payloads : goal.returns-clause-payloads
+returns-clause-payloads g c =
+    let did = c.append_free_block_ptr-taken.ensures in
+    let taken : KeepsPayloads c.if-supports_dealloc.tlsf c.append_free_block_ptr-taken.new.self = record { aligns = did.aligns; bytes = did.bytes; place = did.place; grow = did.grow; copied = did.copied } in
+    elim c.if-supports_dealloc.branch [
+      | then-supports_dealloc w ↦
+          let wrote = w.write_footer.ensures in
+          let footed = KeepsPayloads-same c.args.tlsf.now w.write_footer.new.tlsf wrote.state wrote.footer.place wrote.grow wrote.copied in
+          KeepsPayloads-trans _ _ _ (subst (KeepsPayloads c.args.tlsf.now) (sym w.tlsf-is) footed) taken
+      | else-supports_dealloc w ↦ subst (λ (d : Allocator). KeepsPayloads d c.append_free_block_ptr-taken.new.self) w.tlsf-is taken
+    ]

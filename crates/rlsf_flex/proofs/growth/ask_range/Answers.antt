@@ -1,12 +1,122 @@
-use Rattle.std.proofs.Common.{refl}
-use Rattle.rlsf_flex.proofs.KeptPayloads.{KeepsPayloads-refl}
+use Rattle.std.proofs.Common.{rules, ◌≡◌, ◌≤◌, ℕ, arith, Option, Some, None, sym, ap, ◌∙◌, subst, refl}
+use Rattle.std.specs.Bool.{then_some}
+use Rattle.std.specs.Int.NonZero.{non_zero_usize_get}
+use Rattle.std.specs.Option.{MatchOption, option_map}
+use Rattle.rlsf_base.specs.Addr.{reply}
+use Rattle.std.specs.declared.num.NonZeroUsize.{NonZeroUsize}
+use Rattle.rlsf_base.specs.Space.{range_of}
+use Rattle.rlsf_blocks.specs.Spare.{KeepsSpare}
+use Rattle.rlsf_tlsf.specs.Allocator.{Allocator, IsInState}
+use Rattle.rlsf_flex.specs.StandsFor.{kept_of, kept_pool}
+use Rattle.rlsf_flex.specs.Steps.Growth.{AskedRange, kept_len, kept_start, KeepsPayloads}
+use Rattle.rlsf_flex.specs.Steps.Parts.{flex_over}
+use Rattle.rlsf_machine.specs.Growth.{keeps}
+use Rattle.rlsf_machine.specs.Insert.{Inserts}
+use Rattle.rlsf_machine.proofs.Untouched.{parts_of-IsFresh}
+use Rattle.rlsf_machine.specs.Note.{alloc}
+use Rattle.rlsf_machine.specs.Terms.{Terms}
+use Rattle.rlsf_machine.proofs.FlexGrowths.{given_fresh}
+use Rattle.rlsf_machine.proofs.TakenPools.{pool_size_is}
+use Rattle.rlsf_flex.proofs.Asks.{AskedRange-asked, AskedRange-none}
+use Rattle.rlsf_flex.proofs.Calls.{stays_in}
+use Rattle.rlsf_flex.proofs.NewRanges.{Came, Came-footer, Came-took}
+use Rattle.rlsf_flex.proofs.Outcomes.{Took-named, Took-refused}
+use Rattle.rlsf_flex.proofs.Kept.{kept_of-then_some}
+use Rattle.rlsf_flex.proofs.KeptPayloads.{KeepsPayloads-refl, KeepsPayloads-same, KeepsPayloads-trans}
+use Rattle.rlsf_flex.proofs.RangeLengths.{range_length-whole}
+use Rattle.rlsf_flex.proofs.Rewritten.{IsFooted, IsFooted-none, IsFooted-written}
+use Rattle.rlsf_flex.proofs.Standing.{opened}
+use Rattle.rlsf_flex.proofs.growth.ask_range.Given as given
 use Rattle.rlsf_flex.proofs.growth.ask_range.Goals as goal
+use Rattle.rlsf_flex.proofs.growth.ask_range.Goals.{In_ok-range, After-insert_free_block_ptr, then-takes_back, else-takes_back}
 
-pub returns-in-Some-clause-payloads : goal.returns-in-Some-clause-payloads
-returns-in-Some-clause-payloads g c = c.take_range.ensures.payloads
+pub alloc-requires : goal.alloc-requires
+alloc-requires g c =
+    let (room, whole, short) = pool_size_is _ _ g.row.FLLEN g.row.SLLEN c.args.wanted c.requires.valid c.requires.wanted in
+    let is = range_length-whole (g.S.FlexSource.terms c.args.source.now) c.args.wanted c.in_ok-len.len whole (sym c.in_ok-len.ensures) in
+    (omega (arith, is.0, room), is.1)
 
-pub returns-in-None-clause-payloads : goal.returns-in-None-clause-payloads
-returns-in-None-clause-payloads g c = KeepsPayloads-refl c.args.tlsf.now
+pub returns-in_err-len-clause-step : goal.returns-in_err-len-clause-step
+returns-in_err-len-clause-step g c =
+    let before = flex_over c.args.tlsf.now c.args.kept.now c.args.source.now c.args.owed.now in
+    subst (AskedRange g.row.FLLEN g.row.SLLEN g.S.FlexSource.terms g.S.FlexSource.owes g.S.FlexSource.leads before before c.args.wanted) (sym c.from_residual.ensures)
+    (AskedRange-none (sym c.in_err-len.ensures) refl (Took-refused before c.args.source.now c.requires.stands refl c.requires.stands.owed c.args.wanted))
 
-pub returns-in-None-clause-refused : goal.returns-in-None-clause-refused
-returns-in-None-clause-refused g c = λ none. refl
+pub returns-in_err-range-clause-step : goal.returns-in_err-range-clause-step
+returns-in_err-range-clause-step g c =
+    let before = flex_over c.args.tlsf.now c.args.kept.now c.args.source.now c.args.owed.now in
+    let same = g.met.S.FlexSource.constant c.args.source.now c.alloc.new.self (alloc c.in_ok-len.len c.alloc.result) c.alloc.ensures.leads in
+    subst (AskedRange g.row.FLLEN g.row.SLLEN g.S.FlexSource.terms g.S.FlexSource.owes g.S.FlexSource.leads before (flex_over c.args.tlsf.now c.args.kept.now c.alloc.new.self c.args.owed.now) c.args.wanted) (sym c.from_residual-in_err-range.ensures)
+    (AskedRange-asked (sym c.in_ok-len.ensures) c.in_err-range.ensures.leads
+    (Took-refused before c.alloc.new.self c.requires.stands same (c.in_err-range.ensures.owes c.args.owed.now.ranges c.requires.stands.owed) c.args.wanted))
+
+-- the range that came
+came : (g : given.Over) (c : In_ok-range g) → Came g.row.FLLEN g.row.SLLEN c.args.wanted g.S.FlexSource.terms g.S.FlexSource.owes (flex_over c.args.tlsf.now c.args.kept.now c.args.source.now c.args.owed.now) c.alloc.new.self c.in_ok-len.len c.in_ok-range.range
+came g c =
+    let (is_given, owed) = c.in_ok-range.ensures.owes c.args.owed.now.ranges c.requires.stands.owed in
+    record { before = c.requires.stands; size = c.requires.wanted; told = sym c.in_ok-len.ensures; is_given = is_given; owed = owed }
+
+pub insert_free_block_ptr-requires : goal.insert_free_block_ptr-requires
+insert_free_block_ptr-requires g c =
+    let is_came = came g (goal.at.insert_free_block_ptr-requires g c).In_ok-range in
+    (search rules, parts_of-IsFresh (range_of c.args.tlsf.now.memory) c.args.tlsf.now.state c.in_ok-range.range (given_fresh is_came.before.well_formed c.in_ok-len.len c.in_ok-range.range is_came.is_given))
+
+-- the range was taken
+taken : (g : given.Over) (c : After-insert_free_block_ptr g)
+    → Inserts g.row.FLLEN c.args.tlsf.now.state c.in_ok-range.range (reply c.insert_free_block_ptr.result) c.insert_free_block_ptr.new.self.state × IsInState g.row.FLLEN g.row.SLLEN c.insert_free_block_ptr.new.self c.insert_free_block_ptr.new.self.state
+    × KeepsSpare c.args.tlsf.now.memory c.args.tlsf.now.state c.insert_free_block_ptr.new.self.memory c.insert_free_block_ptr.new.self.state
+taken g c = let (step, stands, spare) = opened _ _ _ c.insert_free_block_ptr.ensures.step in (step, record { state = refl; stands = stands }, spare)
+
+pub write_footer-requires : goal.write_footer-requires
+write_footer-requires g c =
+    let is_came = came g (goal.at.write_footer-requires g c).In_ok-range in
+    let (step, stands, spare) = taken g (goal.at.write_footer-requires g c).After-insert_free_block_ptr in
+    let (ends, footer) = Came-footer c.requires.valid is_came c.insert_free_block_ptr.new.self.memory c.insert_free_block_ptr.new.self.state _ step c.insert_free_block_ptr.ensures.place in
+    (search rules, (ends, footer))
+
+-- how many bytes were taken
+taken_is : (o : Option NonZeroUsize) (taken n : ℕ) → MatchOption o (taken ≡ 0) (λ x. (taken ≡ non_zero_usize_get x) × (1 ≤ taken)) → option_map non_zero_usize_get o ≡ Some n → taken ≡ n
+taken_is None taken n counted is = absurd (cc)
+taken_is (Some x) taken n counted is = cc
+
+pub returns-clause-step : goal.returns-clause-step
+returns-clause-step g c =
+    let t = g.S.FlexSource.terms c.args.source.now in
+    let same = g.met.S.FlexSource.constant c.args.source.now c.alloc.new.self (alloc c.in_ok-len.len c.alloc.result) c.alloc.ensures.leads in
+    let at = (goal.at.returns-clause-step g c).In_ok-range in
+    let is_came = came g at in
+    let b = c.insert_free_block_ptr.new.self in
+    let d = c.if-takes_back.tlsf in
+    let r = c.in_ok-range.range in
+    let place = c.insert_free_block_ptr.ensures.place in
+    let (step, stands, spare) = taken g (goal.at.returns-clause-step g c).After-insert_free_block_ptr in
+    let Done : Allocator → Type 0 = λ d. IsInState g.row.FLLEN g.row.SLLEN d b.state × IsFooted t.dealloc b.memory d.memory r (kept_start c.args.kept.now) (kept_len c.args.kept.now) in
+    let done : Done d = elim c.if-takes_back.branch [
+      | then-takes_back w ↦ subst Done (sym w.tlsf-is) (
+        stays_in stands w.write_footer.new.tlsf w.write_footer.ensures.state w.write_footer.ensures.stands,
+        IsFooted-written _ _ _ _ _ _ _ _ (sym (c.supports_dealloc-takes_back.ensures ∙ ap (λ (e : Terms). e.dealloc) same) ∙ w.if-takes_back.true) w.write_footer.ensures.footer w.words_of-start.ensures.0 w.words_of-start.ensures.1,
+      )
+      | else-takes_back w ↦ subst Done (sym w.tlsf-is) (stands, IsFooted-none _ _ _ _ _ (sym (c.supports_dealloc-takes_back.ensures ∙ ap (λ (e : Terms). e.dealloc) same) ∙ w.if-takes_back.false))
+    ] in
+    AskedRange-asked (sym c.in_ok-len.ensures) c.in_ok-range.ensures.leads (Took-named done.0.state c.give.ensures (Came-took c.requires.valid is_came b d b.state _ c.args.kept.now (kept_of c.then_some.result) same refl step stands spare place done.0 done.1
+    (λ n is. ap kept_of c.then_some.ensures ∙ kept_of-then_some c.keeps_pool.result (record { range = r; len = c.map_or-taken.result })
+    ∙ ap (λ k. then_some k (kept_pool (record { range = r; len = c.map_or-taken.result }))) (c.keeps_pool.ensures ∙ ap keeps same)
+    ∙ ap (λ m. then_some (keeps t) (record { range = r; len = m })) (taken_is c.insert_free_block_ptr.result c.map_or-taken.result n c.map_or-taken.ensures is))))
+
+pub returns-in_err-len-clause-payloads : goal.returns-in_err-len-clause-payloads
+returns-in_err-len-clause-payloads g c = KeepsPayloads-refl c.args.tlsf.now
+
+pub returns-in_err-range-clause-payloads : goal.returns-in_err-range-clause-payloads
+returns-in_err-range-clause-payloads g c = KeepsPayloads-refl c.args.tlsf.now
+
+pub returns-clause-payloads : goal.returns-clause-payloads
+returns-clause-payloads g c =
+    let did = c.insert_free_block_ptr.ensures in
+    let taken : KeepsPayloads c.args.tlsf.now c.insert_free_block_ptr.new.self = record { aligns = did.aligns; bytes = did.bytes; place = did.place; grow = did.grow; copied = did.copied } in
+    elim c.if-takes_back.branch [
+      | then-takes_back w ↦
+          let wrote = w.write_footer.ensures in
+          let footed = KeepsPayloads-same c.insert_free_block_ptr.new.self w.write_footer.new.tlsf wrote.state wrote.footer.place wrote.grow wrote.copied in
+          subst (KeepsPayloads c.args.tlsf.now) (sym w.tlsf-is) (KeepsPayloads-trans _ _ _ taken footed)
+      | else-takes_back w ↦ subst (KeepsPayloads c.args.tlsf.now) (sym w.tlsf-is) taken
+    ]

@@ -1,13 +1,13 @@
 use Rattle.std.proofs.Common.{rules, ◌≡◌, ◌+◌, arith, None, true≢false, refl, sym, ◌∙◌, ap}
 use Rattle.rlsf_flex.specs.StandsFor.{kept_of}
-use Rattle.rlsf_flex.proofs.Asks.{extended_first, extended_grown, extended_past, extended_refused, extended_second, sum_fits, sum_past, terms_stay}
+use Rattle.rlsf_flex.proofs.Asks.{extended_first, extended_grown, extended_past, extended_refused, extended_second, if_none, sum_fits, sum_past, terms_stay}
 use Rattle.rlsf_flex.proofs.KeptPayloads.{KeepsPayloads-refl, KeepsPayloads-trans}
 use Rattle.rlsf_flex.proofs.growth.extend.Goals as goal
 
 pub returns-in_default-clause-step : goal.returns-in_default-clause-step
 returns-in_default-clause-step g c =
     let none : c.args.kept.now ≡ None = search rules in
-    extended_first (ap kept_of none) c.ask_range.ensures.step
+    extended_first (ap kept_of none) c.is_some.ensures c.ask_range.ensures.step
 
 pub returns-in_default-checked_add-clause-step : goal.returns-in_default-checked_add-clause-step
 returns-in_default-checked_add-clause-step g c =
@@ -16,10 +16,10 @@ returns-in_default-checked_add-clause-step g c =
 pub ask_range-requires-else-is_contiguous_growable : goal.ask_range-requires-else-is_contiguous_growable
 ask_range-requires-else-is_contiguous_growable g c = (omega arith, (c.requires.valid, (c.requires.wanted, c.ask_growth.ensures.step.took.stands)))
 
-pub returns-then-ask_growth-clause-step : goal.returns-then-ask_growth-clause-step
-returns-then-ask_growth-clause-step g c =
+pub returns-then-is_some-clause-step : goal.returns-then-is_some-clause-step
+returns-then-is_some-clause-step g c =
     let fits = sum_fits c.checked_add.result (c.in-Some.pool.len + c.args.wanted) c.in-Some-checked_add.len c.checked_add.ensures c.in-Some-checked_add.is in
-    extended_grown (ap kept_of c.in-Some.is) fits.0 c.ask_growth.ensures.step c.if-ask_growth.true
+    extended_grown (ap kept_of c.in-Some.is) fits.0 c.ask_growth.ensures.step (sym c.is_some-2.ensures ∙ c.if-is_some.true)
 
 pub returns-then-is_contiguous_growable-clause-step : goal.returns-then-is_contiguous_growable-clause-step
 returns-then-is_contiguous_growable-clause-step g c =
@@ -27,7 +27,7 @@ returns-then-is_contiguous_growable-clause-step g c =
     let kept = ap kept_of c.in-Some.is in
     let h = c.ask_growth.ensures.step in
     let same = terms_stay kept fits.0 h g.met.S.FlexSource.constant in
-    extended_refused kept fits.0 h c.if-ask_growth.false (sym (ap (λ t. t.contiguous) same) ∙ sym c.is_contiguous_growable.ensures ∙ c.if-is_contiguous_growable.true)
+    extended_refused kept fits.0 h (sym c.is_some-2.ensures ∙ c.if-is_some.false) (sym (ap (λ t. t.contiguous) same) ∙ sym c.is_contiguous_growable.ensures ∙ c.if-is_contiguous_growable.true)
 
 pub returns-else-is_contiguous_growable-clause-step : goal.returns-else-is_contiguous_growable-clause-step
 returns-else-is_contiguous_growable-clause-step g c =
@@ -35,22 +35,23 @@ returns-else-is_contiguous_growable-clause-step g c =
     let kept = ap kept_of c.in-Some.is in
     let h = c.ask_growth.ensures.step in
     let same = terms_stay kept fits.0 h g.met.S.FlexSource.constant in
-    extended_second kept fits.0 h c.if-ask_growth.false (sym (ap (λ t. t.contiguous) same) ∙ sym c.is_contiguous_growable.ensures ∙ c.if-is_contiguous_growable.false) same c.ask_range-else-is_contiguous_growable.ensures.step
+    extended_second kept fits.0 h (sym c.is_some-2.ensures ∙ c.if-is_some.false) (sym (ap (λ t. t.contiguous) same) ∙ sym c.is_contiguous_growable.ensures ∙ c.if-is_contiguous_growable.false) same c.is_some-else-is_contiguous_growable.ensures c.ask_range-else-is_contiguous_growable.ensures.step
 
 pub returns-else-is_contiguous_growable-clause-refused : goal.returns-else-is_contiguous_growable-clause-refused
-returns-else-is_contiguous_growable-clause-refused g c none = c.ask_range-else-is_contiguous_growable.ensures.refused none ∙ c.ask_growth.ensures.refused c.if-ask_growth.false
+returns-else-is_contiguous_growable-clause-refused g c none =
+    if_none c.ask_range-else-is_contiguous_growable.result c.ask_range-else-is_contiguous_growable.ensures.refused (sym c.is_some-else-is_contiguous_growable.ensures ∙ none) ∙ if_none c.ask_growth.result c.ask_growth.ensures.refused (sym c.is_some-2.ensures ∙ c.if-is_some.false)
 
 pub returns-in_default-clause-refused : goal.returns-in_default-clause-refused
-returns-in_default-clause-refused g c = c.ask_range.ensures.refused
+returns-in_default-clause-refused g c none = if_none c.ask_range.result c.ask_range.ensures.refused (sym c.is_some.ensures ∙ none)
 
 pub returns-in_default-checked_add-clause-refused : goal.returns-in_default-checked_add-clause-refused
 returns-in_default-checked_add-clause-refused g c = λ none. refl
 
-pub returns-then-ask_growth-clause-refused : goal.returns-then-ask_growth-clause-refused
-returns-then-ask_growth-clause-refused g c = λ none. absurd (true≢false none)
+pub returns-then-is_some-clause-refused : goal.returns-then-is_some-clause-refused
+returns-then-is_some-clause-refused g c = λ none. absurd (true≢false none)
 
 pub returns-then-is_contiguous_growable-clause-refused : goal.returns-then-is_contiguous_growable-clause-refused
-returns-then-is_contiguous_growable-clause-refused g c = λ none. c.ask_growth.ensures.refused c.if-ask_growth.false
+returns-then-is_contiguous_growable-clause-refused g c = λ none. if_none c.ask_growth.result c.ask_growth.ensures.refused (sym c.is_some-2.ensures ∙ c.if-is_some.false)
 
 pub returns-in_default-clause-payloads : goal.returns-in_default-clause-payloads
 returns-in_default-clause-payloads g c = c.ask_range.ensures.payloads
@@ -58,8 +59,8 @@ returns-in_default-clause-payloads g c = c.ask_range.ensures.payloads
 pub returns-in_default-checked_add-clause-payloads : goal.returns-in_default-checked_add-clause-payloads
 returns-in_default-checked_add-clause-payloads g c = KeepsPayloads-refl c.args.tlsf.now
 
-pub returns-then-ask_growth-clause-payloads : goal.returns-then-ask_growth-clause-payloads
-returns-then-ask_growth-clause-payloads g c = c.ask_growth.ensures.payloads
+pub returns-then-is_some-clause-payloads : goal.returns-then-is_some-clause-payloads
+returns-then-is_some-clause-payloads g c = c.ask_growth.ensures.payloads
 
 pub returns-then-is_contiguous_growable-clause-payloads : goal.returns-then-is_contiguous_growable-clause-payloads
 returns-then-is_contiguous_growable-clause-payloads g c = c.ask_growth.ensures.payloads

@@ -1,7 +1,7 @@
 use Rattle.std.proofs.Common.{rules, ◌≡◌, ◌+◌, ℕ, Some, None, [], ◌∷◌, IfSome, MatchOption, sym, subst}
 use Rattle.rlsf_base.specs.Space.{IsWord}
 use Rattle.rlsf_flex.specs.Footers.{Footers, first, footer_of}
-use Rattle.rlsf_flex.specs.Steps.Trim.{HasRoom}
+use Rattle.rlsf_flex.specs.Steps.Trim.{HasRoomForChunk}
 use Rattle.rlsf_machine.specs.FlexWellFormed.{IsPool}
 use Rattle.rlsf_flex.proofs.NewestRange.{gave_newest, newest_ends, newest_first, newest_footers, newest_pool, newest_words, next_pool, others, others_start}
 use Rattle.rlsf_flex.proofs.Standing.{opened, stood_at}
@@ -43,7 +43,7 @@ pool_of-requires g c =
       search rules,
       (
         stood_at stands,
-        subst (λ o. IfSome o (λ r. HasRoom r × ((len : ℕ) × IsPool b.state r len))) (sym (before_is g (goal.at.pool_of-requires g c).After-drop_newest)) (next_pool c.requires.stands c.in-Some.is idle b step),
+        subst (λ o. IfSome o (λ r. HasRoomForChunk r × ((len : ℕ) × IsPool b.state r len))) (sym (before_is g (goal.at.pool_of-requires g c).After-drop_newest)) (next_pool c.requires.stands c.in-Some.is idle b step),
       ),
     )
 

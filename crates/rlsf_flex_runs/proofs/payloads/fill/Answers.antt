@@ -29,7 +29,7 @@ returns g c =
     let rest = c.payload_mut.ensures.rest w in
     filled c.requires rest.2 rest.3 (Fill c.args.name c.args.byte) (address p) w (address p, w, refl) (λ m step. (
       refl,
-      with_machine m (without_source s),
+      with_machine (without_source s) m,
       (u, owns, m, subst (λ l. Fills s.flex.machine u.payload l m) bytes (subst (λ a. Fills s.flex.machine a w m) (sym holds.1) step), refl),
       refl,
       refl,

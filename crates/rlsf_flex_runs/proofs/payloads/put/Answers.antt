@@ -40,7 +40,7 @@ returns g c =
     filled c.requires rest.2 rest.3 (Put c.args.name c.args.offset c.args.byte) (address p) w (address p, w, refl) (λ m step.
     let fills = subst (λ a. Fills s.flex.machine a (slice_set u.bytes c.args.offset c.args.byte) m) (sym holds.1) (subst (λ l. Fills s.flex.machine (address p) (slice_set l c.args.offset c.args.byte) m) lent step) in (
       refl,
-      with_machine m (without_source s),
+      with_machine (without_source s) m,
       (u, owns, omega (arith, c.if-offset-payload.false, ap length (c.payload.ensures ∙ its), long), m, fills, refl),
       refl,
       refl,

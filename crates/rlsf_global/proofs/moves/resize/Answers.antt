@@ -12,7 +12,7 @@ use Rattle.rlsf_machine.proofs.CallerWords.{align_at-some}
 use Rattle.rlsf_placement.specs.declared.error.GlobalError.TheVariants.{NoRoom}
 use Rattle.rlsf_placement.specs.Cursor.{PageLeads, terms_of}
 use Rattle.rlsf_placement.specs.Moves.{ReallocatesTo}
-use Rattle.rlsf_placement.specs.Rows.{put, without}
+use Rattle.rlsf_placement.specs.Rows.{put, without_row}
 use Rattle.rlsf_global.proofs.moves.resize.Given as given
 use Rattle.rlsf_global.proofs.moves.resize.Goals as goal
 
@@ -25,7 +25,7 @@ steps_with g c o is = subst
 
 pub returns-then-ENABLE_REALLOCATION-clause-step : goal.returns-then-ENABLE_REALLOCATION-clause-step
 returns-then-ENABLE_REALLOCATION-clause-step g c = for_some c.reallocate.result (λ to some rows. subst
-    (λ enabled. ReallocatesTo enabled (heap_of c.args.flex.now rows) (at c.args.addr) c.args.layout c.args.wanted (Ok to) (heap_of c.reallocate.new.self (put (to, c.args.wanted) (without (at c.args.addr) rows))))
+    (λ enabled. ReallocatesTo enabled (heap_of c.args.flex.now rows) (at c.args.addr) c.args.layout c.args.wanted (Ok to) (heap_of c.reallocate.new.self (put (to, c.args.wanted) (without_row (at c.args.addr) rows))))
     c.if-ENABLE_REALLOCATION.ensures (reallocated c.args.flex.now c.reallocate.new.self (at c.args.addr) c.args.wanted to (steps_with g c (Some to) some) rows))
 
 pub returns-then-ENABLE_REALLOCATION-clause-moved : goal.returns-then-ENABLE_REALLOCATION-clause-moved

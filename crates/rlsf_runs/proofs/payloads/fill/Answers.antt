@@ -19,7 +19,7 @@ returns-clause-does g c = λ s at.
     let whole = ap length (c.payload_mut.ensures.value ∙ bytes_in at.stands (address p) u holds) ∙ long in
     let bytes = c.fill.ensures.after (λ y e. e) ∙ ap (λ n. replicate n c.args.byte) whole in
     let fills = subst (λ l. Fills s.machine u.payload l t) bytes (subst (λ a. Fills s.machine a w t) (sym holds.1) step) in
-    (with_machine t s, (u, owns, t, fills, refl), IsAt-filled at (c.payload_mut.ensures.rest w).1 t stands (address p) w step, keeps)
+    (with_machine s t, (u, owns, t, fills, refl), IsAt-filled at (c.payload_mut.ensures.rest w).1 t stands (address p) w step, keeps)
 
 pub returns-in_default-clause-does : goal.returns-in_default-clause-does
 returns-in_default-clause-does g c = λ s at.

@@ -2,7 +2,7 @@ use Rattle.std.proofs.Common.{◌≡◌, ℕ, List, ◌∷◌, ◌++◌, ◌+◌
 use Rattle.rlsf_base.specs.declared.memory.range.Range.{Range}
 use Rattle.rlsf_base.specs.Range.{end_of}
 use Rattle.rlsf_flex_tests.specs.Cursor.{Cursor, MayOwe}
-use Rattle.rlsf_flex_tests.proofs.Cursors.{grown_range, moved, owed_ends}
+use Rattle.rlsf_flex_tests.proofs.Cursors.{grown_range, moved_to, owed_ends}
 use Rattle.rlsf_machine.specs.Terms.{IsGrown, with_len}
 use Rattle.rlsf_flex_tests.proofs.cursor.CursorSourceFlexSource.realloc_inplace_grow.Goals as goal
 
@@ -20,6 +20,6 @@ returns-clause-owes c =
     let same : fields ≡ c.args.self.now = c.self.view_is ∙ c.remember.ensures in
     let (ends, fits) = subst (λ (v : Cursor). (c.in_ok-end.end ≡ r.start + len) × (c.in_ok-end.end ≤ end_of v.terms.space)) (sym c.self.view_is) c.in_ok-end.ensures in
     let last : r.start + r.len ≡ c.self.inside.at = omega (arith, c.if-range-self.false) in
-    subst (λ (end : ℕ). (before after : List Range) → MayOwe c.args.self.now (before ++ r ∷ after) → IsGrown c.args.self.now.terms (before ++ after) r c.args.min_new_len len × MayOwe (moved fields end) (before ++ with_len r len ∷ after)) (sym ends)
-    (subst (λ (old : Cursor). (before after : List Range) → MayOwe old (before ++ r ∷ after) → IsGrown old.terms (before ++ after) r c.args.min_new_len len × MayOwe (moved fields (r.start + len)) (before ++ with_len r len ∷ after)) same
+    subst (λ (end : ℕ). (before after : List Range) → MayOwe c.args.self.now (before ++ r ∷ after) → IsGrown c.args.self.now.terms (before ++ after) r c.args.min_new_len len × MayOwe (moved_to fields end) (before ++ with_len r len ∷ after)) (sym ends)
+    (subst (λ (old : Cursor). (before after : List Range) → MayOwe old (before ++ r ∷ after) → IsGrown old.terms (before ++ after) r c.args.min_new_len len × MayOwe (moved_to fields (r.start + len)) (before ++ with_len r len ∷ after)) same
     (grown_range fields r c.args.min_new_len len c.self.invariant last (omega (arith, c.in_ok-len.ensures)) c.requires.longer (omega (arith, ends, fits))))

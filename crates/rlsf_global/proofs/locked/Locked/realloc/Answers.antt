@@ -11,7 +11,7 @@ use Rattle.rlsf_global.proofs.Kept.{kept_asked, kept_usable}
 use Rattle.rlsf_global.proofs.Lives.{known, unknown}
 use Rattle.rlsf_global.proofs.Placements.{live_row, no_row, row_sized}
 use Rattle.rlsf_global.proofs.Results.{not-false, not-true}
-use Rattle.rlsf_placement.proofs.Rows.{without-sorted}
+use Rattle.rlsf_placement.proofs.Rows.{without_row-sorted}
 use Rattle.rlsf_machine.specs.Callers.{bytes_at}
 use Rattle.rlsf_placement.specs.declared.error.GlobalError.TheVariants.{NoRoom, WrongLayout}
 use Rattle.rlsf_placement.specs.Moves.{ReallocatesAsAt, ReallocatesTo}
@@ -51,7 +51,7 @@ returns-in_default-resize-clause-step g c = rw (← c.self.view_is) (
 pub place-requires-clause-sorted : goal.place-requires-clause-sorted
 place-requires-clause-sorted g c =
     let found = rw c.deref.ensures.value at c.in-Ok.ensures.found in
-    subst IsSorted (sym (c.remove.ensures.items ∙ found.taken_out)) (without-sorted (at c.args.addr) c.self.inside.rows.items c.self.invariant.sorted)
+    subst IsSorted (sym (c.remove.ensures.items ∙ found.taken_out)) (without_row-sorted (at c.args.addr) c.self.inside.rows.items c.self.invariant.sorted)
 
 pub place-requires-clause-fresh : goal.place-requires-clause-fresh
 place-requires-clause-fresh g c =

@@ -6,7 +6,7 @@ use Rattle.rlsf_global.proofs.MovedPayloads.{moved_locked, moved_row, same_heap}
 use Rattle.rlsf_global.proofs.Kept.{kept_elsewhere}
 use Rattle.rlsf_global.proofs.Lives.{known, unknown}
 use Rattle.rlsf_global.proofs.Placements.{live_here, live_row, no_row}
-use Rattle.rlsf_placement.proofs.Rows.{without-sorted}
+use Rattle.rlsf_placement.proofs.Rows.{without_row-sorted}
 use Rattle.rlsf_placement.specs.declared.error.GlobalError.TheVariants.{NoRoom}
 use Rattle.rlsf_placement.specs.Moves.{MovesAway, ReallocatesAt}
 use Rattle.rlsf_placement.specs.Rows.{IsSorted, row_at}
@@ -35,7 +35,7 @@ returns-in_default-move_away-clause-step g c = rw (← c.self.view_is) (
 pub place-requires-clause-sorted : goal.place-requires-clause-sorted
 place-requires-clause-sorted g c =
     let found = rw c.deref.ensures.value at c.in-Ok.ensures.found in
-    subst IsSorted (sym (c.remove.ensures.items ∙ found.taken_out)) (without-sorted (at c.args.addr) c.self.inside.rows.items c.self.invariant.sorted)
+    subst IsSorted (sym (c.remove.ensures.items ∙ found.taken_out)) (without_row-sorted (at c.args.addr) c.self.inside.rows.items c.self.invariant.sorted)
 
 pub place-requires-clause-fresh : goal.place-requires-clause-fresh
 place-requires-clause-fresh g c =

@@ -6,7 +6,7 @@ use Rattle.std.specs.VecDeque.{deque_capacity}
 use Rattle.rlsf_base.specs.Range.{range_at}
 use Rattle.rlsf_base.specs.Space.{range_of}
 use Rattle.rlsf_uses.specs.Queue.{oldest, place_of_entry}
-use Rattle.rlsf_uses.specs.Stored.{HasPlaces, HasSame, bytes_at_place}
+use Rattle.rlsf_uses.specs.Stored.{KeepsAt, HasSame, bytes_at_place}
 use Rattle.rlsf_uses.proofs.Queues.{KeepsLongest-less, KeepsLongest-same, Oldest, oldest_stored}
 use Rattle.rlsf_uses.proofs.messages.Messages.pop.Goals as goal
 use Rattle.rlsf_uses.proofs.messages.Messages.pop.Goals.{After-remove, In-Some}
@@ -42,7 +42,7 @@ invariant_of-self c =
     let rest : drop 1 c.self.inside.entries.items ≡ c.pop_front.new.self.items = cc in
     let place : range_of c.self.inside.store.heap.memory ≡ range_of c.remove.new.self.heap.memory = ap₂ range_at (sym c.remove.ensures.place.0) (sym c.remove.ensures.place.1) in
     let holds : deque_capacity c.self.inside.entries ≡ deque_capacity c.pop_front.new.self = omega arith in (
-      subst (λ es. HasPlaces c.remove.new.self (map place_of_entry es)) rest (left at.After-remove (found at.In-Some)).0,
+      subst (λ es. KeepsAt c.remove.new.self (map place_of_entry es)) rest (left at.After-remove (found at.In-Some)).0,
       KeepsLongest-same c.self.inside.longest place holds rest (KeepsLongest-less c.self.inside.longest (range_of c.self.inside.store.heap.memory) (deque_capacity c.self.inside.entries) c.self.inside.entries.items c.self.invariant.1),
     )
 

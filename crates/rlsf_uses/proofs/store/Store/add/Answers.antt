@@ -5,7 +5,7 @@ use Rattle.rlsf_base.specs.Sizes.{pool_size_to_contain_allocation}
 use Rattle.rlsf_base.specs.Space.{range_of, SamePlace}
 use Rattle.rlsf_tlsf.specs.Lending.{written}
 use Rattle.rlsf_uses.specs.Budgets.{HasBudgetFor}
-use Rattle.rlsf_uses.specs.Stored.{FitsPool, HasAmong, HasPlaces, KeepsAll, Place, StoreContents, place, store_contents, stored}
+use Rattle.rlsf_uses.specs.Stored.{FitsPool, HasAmong, KeepsAt, KeepsAll, Place, StoreContents, place, store_contents, stored}
 use Rattle.rlsf_uses.proofs.Fronts.{front-append}
 use Rattle.rlsf_uses.proofs.Places.{HasAmong-added, HasSame-stored, IsStore-none}
 use Rattle.rlsf_uses.proofs.Rooms.{budget_has_room}
@@ -21,7 +21,7 @@ returns-in_err-addr-clause-refused c =
 pub returns-in_err-addr-clause-room : goal.returns-in_err-addr-clause-room
 returns-in_err-addr-clause-room c =
     let layout = c.in-Ok.layout in
-    subst (λ (old : StoreContents). HasPlaces old [] → FitsPool (range_of old.heap.memory) (length c.args.bytes.now) 1 → IsSome c.from_residual.result) c.self.view_is
+    subst (λ (old : StoreContents). KeepsAt old [] → FitsPool (range_of old.heap.memory) (length c.args.bytes.now) 1 → IsSome c.from_residual.result) c.self.view_is
     (λ has (e, told, long).
     let (size, align) = c.in-Ok.ensures.layout in
     let fits : FitsPool (range_of c.self.inside.heap.memory) layout.size layout.align = (e, subst (λ n. pool_size_to_contain_allocation 59 8 n layout.align ≡ Some e) (sym size) (subst (λ n. pool_size_to_contain_allocation 59 8 (length c.args.bytes.now) n ≡ Some e) (sym align) told), long) in
@@ -44,7 +44,7 @@ returns-clause-stored c =
     let w = c.write_at.new.payload in
     let front = c.args.bytes.now in
     let new = store_contents (written c.allocate.new.self addr (length lent) w) c.self.inside.pool in
-    subst (λ (old : StoreContents). (places : List Place) → HasPlaces old places → HasAmong old new places [] (place addr 1 (length front)) front) c.self.view_is
+    subst (λ (old : StoreContents). (places : List Place) → KeepsAt old places → HasAmong old new places [] (place addr 1 (length front)) front) c.self.view_is
     (λ places has. subst (λ n. HasAmong (store_contents c.self.inside.heap c.self.inside.pool) new places [] (place addr n (length front)) front) c.in-Ok.ensures.layout.1
     (HasAmong-added places addr layout.align front (length front) refl has (λ before after store.
     let allocated = IsStore-allocated c.allocate.new.self layout.size layout.align addr layout.valid.aligned before after c.in_ok-addr.ensures.step c.in_ok-addr.ensures.place store in

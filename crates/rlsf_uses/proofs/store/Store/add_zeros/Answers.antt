@@ -11,7 +11,7 @@ use Rattle.rlsf_machine.specs.Allocate.{Allocates}
 use Rattle.rlsf_tlsf.proofs.Arrivals.{opened}
 use Rattle.rlsf_uses.specs.Tiles.{HasTileFor, KeepsUniform}
 use Rattle.rlsf_uses.proofs.Tilings.{KeepsUniform-allocated, KeepsUniform-filled, tile_has_room}
-use Rattle.rlsf_uses.specs.Stored.{place_of, FitsPool, HasAmong, HasPlaces, KeepsAll, Place, StoreContents, place, store_contents, stored}
+use Rattle.rlsf_uses.specs.Stored.{place_of, FitsPool, HasAmong, KeepsAt, KeepsAll, Place, StoreContents, place, store_contents, stored}
 use Rattle.rlsf_uses.proofs.Places.{HasAmong-added, HasSame-stored, IsStore-none}
 use Rattle.rlsf_uses.proofs.Rooms.{budget_has_room}
 use Rattle.rlsf_uses.proofs.Stores.{IsStore-allocated, IsStore-filled, IsStore-refused, asked_at, empty_has_room}
@@ -26,7 +26,7 @@ returns-in_err-addr-clause-refused c =
 pub returns-in_err-addr-clause-room : goal.returns-in_err-addr-clause-room
 returns-in_err-addr-clause-room c =
     let layout = c.args.layout in
-    subst (λ (old : StoreContents). HasPlaces old [] → FitsPool (range_of old.heap.memory) layout.size layout.align → IsSome c.from_residual.result) c.self.view_is
+    subst (λ (old : StoreContents). KeepsAt old [] → FitsPool (range_of old.heap.memory) layout.size layout.align → IsSome c.from_residual.result) c.self.view_is
     (λ has fits. absurd (empty_has_room c.allocate.new.self layout.size layout.align fits c.in_err-addr.ensures.step (IsStore-none has)))
 
 pub returns-in_err-addr-clause-enough : goal.returns-in_err-addr-clause-enough
@@ -38,7 +38,7 @@ returns-in_err-addr-clause-enough c =
 pub returns-in_err-addr-clause-tiled : goal.returns-in_err-addr-clause-tiled
 returns-in_err-addr-clause-tiled c =
     let layout = c.args.layout in
-    subst (λ (old : StoreContents). (places : List Place) (d : Range) → HasPlaces old places → HasTileFor old.heap.state d layout.size layout.align (length places) → IsSome c.from_residual.result) c.self.view_is
+    subst (λ (old : StoreContents). (places : List Place) (d : Range) → KeepsAt old places → HasTileFor old.heap.state d layout.size layout.align (length places) → IsSome c.from_residual.result) c.self.view_is
     (λ places d (all, store, at) tile.
     let same = subst (HasTileFor c.self.inside.heap.state d layout.size layout.align) (sym (ap length at) ∙ length-map all place_of) tile in
     absurd (tile_has_room store c.allocate.new.self d layout.size layout.align same c.in_err-addr.ensures.step))
@@ -51,7 +51,7 @@ returns-clause-uniform c =
     let len = request_size layout.size layout.align in
     let w = c.fill.new.self in
     let last = written c.allocate.new.self addr (length c.payload_mut.result.now) w in
-    subst (λ (old : StoreContents). (places : List Place) → HasPlaces old places → layout.align ≤ 32 → KeepsUniform old.heap.state last.state len) c.self.view_is
+    subst (λ (old : StoreContents). (places : List Place) → KeepsAt old places → layout.align ≤ 32 → KeepsUniform old.heap.state last.state len) c.self.view_is
     (λ places (all, store, at) small d is.
     let stands = (opened 59 8 h c.allocate.new.self (Allocates 8 h.state layout.size layout.align (Some addr)) c.in_ok-addr.ensures.step).1 in
     let first = KeepsUniform-allocated h store.stands c.allocate.new.self layout.size layout.align (Some addr) layout.valid.aligned small c.in_ok-addr.ensures.step d is in
@@ -67,7 +67,7 @@ returns-clause-stored c =
     let room : layout.size ≤ length lent = omega (arith, ap length c.payload_mut.ensures.value, c.in_ok-addr.ensures.sized) in
     let zeros : w ≡ replicate (length lent) 0 = c.fill.ensures.after (λ y same. same) in
     let begins : take (length front) w ≡ front = ap (λ n. take n w) (length-replicate layout.size 0) ∙ ap (take layout.size) zeros ∙ take-replicate layout.size (length lent) 0 room in
-    subst (λ (old : StoreContents). (places : List Place) → HasPlaces old places → HasAmong old (store_contents (written c.allocate.new.self addr (length lent) w) c.self.inside.pool) places [] (place addr layout.align layout.size) front) c.self.view_is
+    subst (λ (old : StoreContents). (places : List Place) → KeepsAt old places → HasAmong old (store_contents (written c.allocate.new.self addr (length lent) w) c.self.inside.pool) places [] (place addr layout.align layout.size) front) c.self.view_is
     (λ places has. HasAmong-added places addr layout.align front layout.size (length-replicate layout.size 0) has
     (λ before after store.
     let allocated = IsStore-allocated c.allocate.new.self layout.size layout.align addr layout.valid.aligned before after c.in_ok-addr.ensures.step c.in_ok-addr.ensures.place store in

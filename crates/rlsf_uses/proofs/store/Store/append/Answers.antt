@@ -4,7 +4,7 @@ use Rattle.std.specs.Int.NonZero.{non_zero_usize_get}
 use Rattle.rlsf_base.specs.Space.{SamePlace}
 use Rattle.rlsf_tlsf.specs.Lending.{written}
 use Rattle.rlsf_uses.specs.Budgets.{HasBudgetFor}
-use Rattle.rlsf_uses.specs.Stored.{HasAmong, HasPlaces, KeepsAll, Place, StoreContents, bytes_at_place, place, store_contents, stored}
+use Rattle.rlsf_uses.specs.Stored.{HasAmong, KeepsAt, KeepsAll, Place, StoreContents, bytes_at_place, place, store_contents, stored}
 use Rattle.rlsf_uses.proofs.Fronts.{front-append}
 use Rattle.rlsf_uses.proofs.Places.{HasAmong-changed, HasSame-stored, among}
 use Rattle.rlsf_uses.proofs.Rooms.{budget_has_room_again}
@@ -13,7 +13,7 @@ use Rattle.rlsf_uses.proofs.store.Store.append.Goals as goal
 
 pub reallocate-requires : goal.reallocate-requires
 reallocate-requires c =
-    let (before, after, p, has, at, aligned, long) = subst (λ (old : StoreContents). (before after : List Place) × (p : Place) × HasPlaces old (before ++ p ∷ after) × (p.addr ≡ non_zero_usize_get c.args.addr) × (p.align ≡ 1) × (p.len ≡ c.args.len)) (sym c.self.view_is) c.requires in
+    let (before, after, p, has, at, aligned, long) = subst (λ (old : StoreContents). (before after : List Place) × (p : Place) × KeepsAt old (before ++ p ∷ after) × (p.addr ≡ non_zero_usize_get c.args.addr) × (p.align ≡ 1) × (p.len ≡ c.args.len)) (sym c.self.view_is) c.requires in
     let a = among before after p has in
     (lit< tt, live_stored a.front a.back a.here (ap (λ q. q.addr) a.here_at ∙ at) a.is ∙ ap Some (ap (λ q. q.align) a.here_at ∙ aligned ∙ sym c.in-Ok.ensures.layout.1))
 
@@ -25,7 +25,7 @@ returns-in_err-to-clause-refused c =
 
 pub returns-in_err-to-clause-enough : goal.returns-in_err-to-clause-enough
 returns-in_err-to-clause-enough c =
-    let (before, after, p, has, at, aligned, long) = subst (λ (old : StoreContents). (before after : List Place) × (p : Place) × HasPlaces old (before ++ p ∷ after) × (p.addr ≡ non_zero_usize_get c.args.addr) × (p.align ≡ 1) × (p.len ≡ c.args.len)) (sym c.self.view_is) c.requires in
+    let (before, after, p, has, at, aligned, long) = subst (λ (old : StoreContents). (before after : List Place) × (p : Place) × KeepsAt old (before ++ p ∷ after) × (p.addr ≡ non_zero_usize_get c.args.addr) × (p.align ≡ 1) × (p.len ≡ c.args.len)) (sym c.self.view_is) c.requires in
     let a = among before after p has in
     let live_here = live_stored a.front a.back a.here (ap (λ q. q.addr) a.here_at ∙ at) a.is ∙ ap Some (ap (λ q. q.align) a.here_at ∙ aligned) in
     let size_is : c.in-Ok.layout.size ≡ c.args.len + length c.args.more.now = omega (arith, c.in-Ok.ensures.layout.0, c.in_ok-size.ensures) in
@@ -39,7 +39,7 @@ returns-clause-stored c =
     let more = c.args.more.now in
     let lent = c.payload_mut.result.now in
     let w = c.write_at.new.payload in
-    subst (λ (old : StoreContents). (before after : List Place) (p : Place) → HasPlaces old (before ++ p ∷ after) → p.addr ≡ non_zero_usize_get c.args.addr → p.align ≡ 1 → p.len ≡ c.args.len
+    subst (λ (old : StoreContents). (before after : List Place) (p : Place) → KeepsAt old (before ++ p ∷ after) → p.addr ≡ non_zero_usize_get c.args.addr → p.align ≡ 1 → p.len ≡ c.args.len
     → HasAmong old (store_contents (written c.reallocate.new.self to (length lent) w) c.self.inside.pool) before after (place to 1 (c.args.len + length more)) (bytes_at_place old.heap.memory p ++ more)) c.self.view_is
     (λ before after p has at one p_len. HasAmong-changed before after p (place to 1 (c.args.len + length more)) (bytes_at_place c.self.inside.heap.memory p ++ more) has (λ front back k store there are.
     let aligned = ap (λ q. q.align) there ∙ one in

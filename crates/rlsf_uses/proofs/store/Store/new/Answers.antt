@@ -8,7 +8,7 @@ use Rattle.rlsf_base.specs.Range.{range_at}
 use Rattle.rlsf_base.specs.Space.{range_of}
 use Rattle.rlsf_machine.specs.Insert.{aligned_part}
 use Rattle.rlsf_machine.specs.Uniform.{IsUniform}
-use Rattle.rlsf_uses.specs.Stored.{HasPlaces, store_contents}
+use Rattle.rlsf_uses.specs.Stored.{KeepsAt, store_contents}
 use Rattle.rlsf_uses.proofs.Tilings.{IsUniform-new}
 use Rattle.rlsf_uses.proofs.Stores.{IsStore-new}
 use Rattle.rlsf_uses.proofs.store.Store.new.Goals as goal
@@ -30,7 +30,7 @@ returns-clause-empty c =
     let taken = c.insert_free_block_ptr-taken.result in
     let made : c.new-heap.result.memory ≡ c.args.memory = c.new-heap.ensures.memory in
     let whole : range_of c.new-heap.result.memory ≡ r = ap range_of made ∙ ap₂ range_at (sym c.start-start.ensures.value) (sym c.len-len.ensures.value) in
-    subst (λ n. HasPlaces (store_contents c.insert_free_block_ptr-taken.new.self (range_at start n)) []) (sym (on_each taken c.map_or-len.ensures))
+    subst (λ n. KeepsAt (store_contents c.insert_free_block_ptr-taken.new.self (range_at start n)) []) (sym (on_each taken c.map_or-len.ensures))
     ([], IsStore-new c.new-heap.result c.insert_free_block_ptr-taken.new.self r (reply taken) c.new-heap.ensures.state whole c.insert_free_block_ptr-taken.ensures.step c.insert_free_block_ptr-taken.ensures.place, refl)
   where
     on_each : {n : ℕ} (o : Option NonZeroUsize) → MatchOption o (n ≡ 0) (λ x. (n ≡ non_zero_usize_get x) × (1 ≤ n)) → n ≡ unwrap_or (option_map non_zero_usize_get o) 0

@@ -4,7 +4,7 @@ use Rattle.std.proofs.lemmas.List.{length-take-le}
 use Rattle.std.specs.Int.NonZero.{non_zero_usize_get}
 use Rattle.rlsf_base.specs.Range.{range_at}
 use Rattle.rlsf_base.specs.Space.{bytes_in}
-use Rattle.rlsf_uses.specs.Stored.{HasPlaces, Place, StoreContents, bytes_at_place}
+use Rattle.rlsf_uses.specs.Stored.{KeepsAt, Place, StoreContents, bytes_at_place}
 use Rattle.rlsf_uses.proofs.Fronts.{front-le}
 use Rattle.rlsf_uses.proofs.Places.{among, here_bytes}
 use Rattle.rlsf_uses.proofs.Stores.{front_stored, live_stored}
@@ -12,7 +12,7 @@ use Rattle.rlsf_uses.proofs.store.Store.read.Goals as goal
 
 -- some bytes are kept there
 abbrev HasHere : StoreContents → ℕ → ℕ → Type 0
-HasHere v addr len = (before after : List Place) × (p : Place) × HasPlaces v (before ++ p ∷ after) × (p.addr ≡ addr) × (p.len ≡ len)
+HasHere v addr len = (before after : List Place) × (p : Place) × KeepsAt v (before ++ p ∷ after) × (p.addr ≡ addr) × (p.len ≡ len)
 
 pub payload-requires : goal.payload-requires
 payload-requires c =

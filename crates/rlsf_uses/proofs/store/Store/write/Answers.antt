@@ -3,7 +3,7 @@ use Rattle.std.specs.Int.NonZero.{non_zero_usize_get}
 use Rattle.std.specs.List.{splice}
 use Rattle.rlsf_base.proofs.Words.Splices.{length-splice}
 use Rattle.rlsf_tlsf.specs.Lending.{written}
-use Rattle.rlsf_uses.specs.Stored.{HasAmong, HasPlaces, Place, StoreContents, bytes_at_place, place, store_contents, stored}
+use Rattle.rlsf_uses.specs.Stored.{HasAmong, KeepsAt, Place, StoreContents, bytes_at_place, place, store_contents, stored}
 use Rattle.rlsf_uses.proofs.Fronts.{front-le, front-splice}
 use Rattle.rlsf_uses.proofs.Places.{HasAmong-changed, among}
 use Rattle.rlsf_uses.specs.Tiles.{KeepsUniform}
@@ -13,7 +13,7 @@ use Rattle.rlsf_uses.proofs.store.Store.write.Goals as goal
 
 -- so many bytes are kept there, or more
 abbrev HasHere : StoreContents → ℕ → ℕ → Type 0
-HasHere v addr end = (before after : List Place) × (p : Place) × HasPlaces v (before ++ p ∷ after) × (p.addr ≡ addr) × (end ≤ p.len)
+HasHere v addr end = (before after : List Place) × (p : Place) × KeepsAt v (before ++ p ∷ after) × (p.addr ≡ addr) × (end ≤ p.len)
 
 pub payload_mut-requires : goal.payload_mut-requires
 payload_mut-requires c =
@@ -34,7 +34,7 @@ returns-clause-uniform c =
     let addr = non_zero_usize_get c.args.addr in
     let w = c.write_at.new.payload in
     let last = written h addr (length c.payload_mut.result.now) w in
-    subst (λ (old : StoreContents). (places : List Place) (len : ℕ) → HasPlaces old places → KeepsUniform old.heap.state last.state len) c.self.view_is
+    subst (λ (old : StoreContents). (places : List Place) (len : ℕ) → KeepsAt old places → KeepsUniform old.heap.state last.state len) c.self.view_is
     (λ places len (all, store, at) d is. KeepsUniform-filled h store.stands last addr len w (c.payload_mut.ensures.meaning w c.write_at.ensures.len) d is)
 
 pub returns-clause-stored : goal.returns-clause-stored
@@ -45,7 +45,7 @@ returns-clause-stored c =
     let end = offset + length bytes in
     let lent = c.payload_mut.result.now in
     let w = c.write_at.new.payload in
-    subst (λ (old : StoreContents). (before after : List Place) (p : Place) → HasPlaces old (before ++ p ∷ after) → p.addr ≡ addr → end ≤ p.len
+    subst (λ (old : StoreContents). (before after : List Place) (p : Place) → KeepsAt old (before ++ p ∷ after) → p.addr ≡ addr → end ≤ p.len
     → HasAmong old (store_contents (written c.self.inside.heap addr (length lent) w) c.self.inside.pool) before after p (splice (bytes_at_place old.heap.memory p) offset end bytes)) c.self.view_is
     (λ before after p has at room. HasAmong-changed before after p p (splice (bytes_at_place c.self.inside.heap.memory p) offset end bytes) has (λ front back k store there are.
     let now = splice k.bytes offset end bytes in
