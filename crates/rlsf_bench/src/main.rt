@@ -2,104 +2,22 @@
 //! in an order that seems random and is the same in each run.
 #![tactic(auto)]
 
-ghost use Rattle.std.specs.Prelude.{◌≡◌, ◌^◌, IfOk, IfErr};
-ghost use Rattle.std.specs.Int.NonZero.{non_zero_usize_get};
-ghost use Rattle.rlsf_base.specs.Range.{range_at};
-ghost use Rattle.rlsf_bench.specs.Runs.{rows_of, classes_of, IsBench};
-
-mod arguments;
-mod error;
-mod random;
-mod steps;
-mod tally;
-
-use arguments::{Arguments, Configuration};
-use error::BenchError;
-use rlsf_base::memory::Range;
-use rlsf_tlsf::Tlsf;
-use std::alloc::Global;
-use std::env;
+use rlsf_bench_steps::bench;
 use std::process::ExitCode;
-use std::rt::Env;
-use steps::{memory_of, run};
-use tally::Tally;
 
-/// The addresses of the pool.
-const POOL: Range = Range {
-    start: 4096,
-    len: 1 << 25,
-};
+/// Whether each call has a function of its own.
+const CALLED: bool = false;
 
-/// The addresses of the memory. The system gives a block of this length 16 bytes past the begin of a page: with 48
-/// bytes more before the pool no block's links lie across two of its cache lines, as they don't in the original.
-const MEMORY: Range = Range {
-    start: 4096 - 48,
-    len: (1 << 25) + 48,
-};
+/// How many alignments the slots have.
+const ALIGNS: usize = 1;
 
 fn main(rt: HostRuntime) -> ExitCode {
-    match bench(&rt) {
+    match bench::<_, CALLED, ALIGNS>(&rt) {
         Ok(()) => ExitCode::SUCCESS,
         Err(error) => {
             // Where standard error fails too, only the status tells of the error.
             let _ = eprintln!(rt; "{error}");
             ExitCode::FAILURE
-        }
-    }
-}
-
-/// Reads the command line, does what it asks for, and prints what came of it.
-fn bench(rt: &(impl Env + Print + AllocGlobal)) -> Result<(), BenchError> {
-    let words: Vec<String> = env::args(rt)?.collect(rt.alloc())?;
-    let tally = tally_of(rt.alloc(), Arguments::read(&words)?)?;
-    println!(rt; "{tally}")?;
-    Ok(())
-}
-
-/// Does the steps that are asked for, with the configuration's allocator.
-fn tally_of(alloc: Global, arguments: Arguments) -> Result<Tally, BenchError>
-    ensures ok { IfOk result (λ tally. IsBench
-        (rows_of arguments.configuration) (classes_of arguments.configuration)
-        (range_at 4096 (2 ^ 25)) (non_zero_usize_get arguments.slots) arguments.steps arguments.mode tally) }
-    ensures err { IfErr result (λ error. error ≡ BenchError.OutOfMemory) }
-{
-    let Arguments {
-        configuration,
-        slots,
-        steps,
-        mode,
-    } = arguments;
-    let memory = memory_of(alloc, MEMORY)?;
-    match configuration {
-        Configuration::TwelveBySixteen => {
-            run(
-                alloc,
-                Tlsf::<u16, u16, 12, 16>::new(memory),
-                POOL,
-                slots,
-                steps,
-                mode,
-            )
-        }
-        Configuration::FiftyNineByEight => {
-            run(
-                alloc,
-                Tlsf::<u64, u64, 59, 8>::new(memory),
-                POOL,
-                slots,
-                steps,
-                mode,
-            )
-        }
-        Configuration::SixtyFourBySixtyFour => {
-            run(
-                alloc,
-                Tlsf::<usize, usize, 64, 64>::new(memory),
-                POOL,
-                slots,
-                steps,
-                mode,
-            )
         }
     }
 }

@@ -1,3 +1,4 @@
+pub mod Alignments
 pub mod FirstPool
 pub mod SlotChanges
 pub mod Underway

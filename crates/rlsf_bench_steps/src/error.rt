@@ -6,7 +6,7 @@ use std::{fmt, io};
 
 /// Why nothing was done.
 #[derive(Debug, Drop)]
-pub(crate) enum BenchError {
+pub enum BenchError {
     /// The arguments aren't a configuration, a number of slots that isn't 0, a number of steps, and a mode.
     Usage,
     /// The system refused memory.
@@ -19,7 +19,7 @@ impl fmt::Display for BenchError {
     fn fmt<W: fmt::Write>(&self, f: &mut fmt::Formatter<W>) -> fmt::Result {
         match self {
             BenchError::Usage => f.write_str(
-                "usage: rlsf_bench 12x16|59x8|64x64 SLOTS STEPS free|realloc, with SLOTS from 1 on",
+                "the arguments are 12x16|59x8|64x64 SLOTS STEPS free|realloc, with SLOTS from 1 on",
             ),
             BenchError::OutOfMemory => f.write_str("the system refused memory"),
             BenchError::Io(error) => write!(f, "{error}"),
@@ -30,7 +30,7 @@ impl fmt::Display for BenchError {
 impl Error for BenchError {}
 
 impl From<AllocError> for BenchError {
-    ghost use Rattle.rlsf_bench.specs.declared.error.BenchError.TheVariants.{OutOfMemory};
+    ghost use Rattle.rlsf_bench_steps.specs.declared.error.BenchError.TheVariants.{OutOfMemory};
 
     ghost from_gives = { λ _ error. error ≡ OutOfMemory };
 

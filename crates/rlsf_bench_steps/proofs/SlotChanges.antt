@@ -1,11 +1,11 @@
 -- Where a run has come to, by its slots, and where a step takes it.
-use Rattle.std.proofs.Common.{◌≡◌, ℕ, zero, suc, ◌<◌, ◌⊎◌, Bool, true, false, cond, Option, Some, None, MatchOption, List, length, slice_index_or, slice_set, replicate, arith, inl, inr, refl, sym, ◌∙◌, ap, subst}
+use Rattle.std.proofs.Common.{◌≡◌, ℕ, zero, suc, ◌<◌, ◌%◌, ◌⊎◌, Bool, true, false, cond, Option, Some, None, MatchOption, List, length, slice_index_or, slice_set, replicate, arith, inl, inr, refl, sym, ◌∙◌, ap, subst}
 use Rattle.std.proofs.lemmas.Bool.Decides.{eqb_tells, leb_tells}
 use Rattle.std.proofs.lemmas.List.{get_or-replicate, get_or-set_same, get_or-set_other, get_or_past, length-replicate}
 use Rattle.std.specs.Int.NonZero.{non_zero_usize_get}
 use Rattle.std.specs.Option.{option_map, unwrap_or}
 use Rattle.std.specs.declared.num.NonZeroUsize.{NonZeroUsize}
-use Rattle.rlsf_base.specs.PowerOfTwo.{IsPowerOfTwo}
+use Rattle.rlsf_base.proofs.Numbers.PowersOfTwo.{IsPowerOfTwo-pow}
 use Rattle.rlsf_base.specs.Space.{range_of}
 use Rattle.rlsf_machine.specs.Allocate.{Allocates}
 use Rattle.rlsf_machine.specs.Reallocate.{Reallocates}
@@ -15,9 +15,9 @@ use Rattle.rlsf_machine.specs.State.{State, IsLive}
 use Rattle.rlsf_machine.proofs.Determined.{refusal_changes_nothing}
 use Rattle.rlsf_machine.proofs.Live.{handed_out_is_new, live_stays, reallocated_is_live}
 use Rattle.rlsf_tlsf.specs.Allocator.{Allocator, IsInState}
-use Rattle.rlsf_bench.specs.declared.tally.Tally.{Tally}
-use Rattle.rlsf_bench.specs.Runs.{ChangesSlot, DoesStep, BenchState, beginning, counted, nothing, size_of, slot_of, with_slot}
-use Rattle.rlsf_bench.specs.Slots.{AreSlotsAt, LeadsSlotsOn, held}
+use Rattle.rlsf_bench_steps.specs.declared.tally.Tally.{Tally}
+use Rattle.rlsf_bench_steps.specs.Runs.{ChangesSlot, DoesStep, BenchState, alignment_of, beginning, counted, nothing, size_of, slot_of, with_slot}
+use Rattle.rlsf_bench_steps.specs.Slots.{AreSlotsAt, LeadsSlotsOn, held}
 
 -- an address in changed slots is in the one that was changed, or was in another before
 with_slot-cases : (slot : ℕ) (held : Option ℕ) (slots : ℕ → Option ℕ) (other addr : ℕ) → with_slot slot held slots other ≡ Some addr
@@ -27,7 +27,7 @@ with_slot-cases slot held slots other addr is = elim (eqb_tells slot other) [
   | inr (is_false, differ) ↦ inr (differ, sym (ap (λ b. cond b held (slots other)) is_false) ∙ is)
 ]
 
-module _ {fllen sllen : ℕ} {v : Allocator} {table : List ℕ} {counts : Tally} {s : BenchState} (at : AreSlotsAt fllen sllen v table counts s) (slot : ℕ) (below : slot < length table) where
+module _ {fllen sllen aligns : ℕ} {v : Allocator} {table : List ℕ} {counts : Tally} {s : BenchState} (at : AreSlotsAt fllen sllen aligns v table counts s) (slot : ℕ) (below : slot < length table) where
   -- what the slots hold once one is changed
   slots-set : (number other : ℕ) → held (slice_index_or (slice_set table slot number) other 0) ≡ with_slot slot (held number) s.slots other
   slots-set number other = elim (eqb_tells slot other) [
@@ -42,12 +42,12 @@ module _ {fllen sllen : ℕ} {v : Allocator} {table : List ℕ} {counts : Tally}
   module _ {w : Allocator} (t : State) (stands : IsInState fllen sllen w t) where
     -- after the deallocation of the slot's payload
     pub AreSlotsAt-freed : (addr : ℕ) → s.slots slot ≡ Some addr → Deallocates s.machine addr t
-        → AreSlotsAt fllen sllen w (slice_set table slot 0) counts (record { machine = t; slots = with_slot slot None s.slots; tally = s.tally })
+        → AreSlotsAt fllen sllen aligns w (slice_set table slot 0) counts (record { machine = t; slots = with_slot slot None s.slots; tally = s.tally })
     AreSlotsAt-freed addr its step = record {
       stands = stands;
       slots = slots-set 0;
       live = λ other a is. let (differ, there) = kept other a is in
-          live_stays fllen sllen s.machine t (deallocate addr) a 1 step (at.live other a there) (λ same. differ (at.one_slot slot other a (its ∙ ap Some same) there));
+          live_stays fllen sllen s.machine t (deallocate addr) a (alignment_of aligns other) step (at.live other a there) (λ same. differ (at.one_slot slot other a (its ∙ ap Some same) there));
       one_slot = λ one other a first second. at.one_slot one other a (kept one a first).1 (kept other a second).1;
       tally = at.tally;
     }
@@ -56,23 +56,23 @@ module _ {fllen sllen : ℕ} {v : Allocator} {table : List ℕ} {counts : Tally}
         kept other a is = elim (with_slot-cases slot None s.slots other a is) [ inl (_, none) ↦ absurd (cc) | inr was ↦ was ]
 
     -- after an allocation into it
-    pub AreSlotsAt-answered : (reply : Option ℕ) (number size : ℕ) → held number ≡ reply → IsPowerOfTwo 1 → Allocates sllen s.machine size 1 reply t
+    pub AreSlotsAt-answered : (reply : Option ℕ) (number size : ℕ) → held number ≡ reply → Allocates sllen s.machine size (alignment_of aligns slot) reply t
         → (now : Tally) → now ≡ counted reply counts
-        → AreSlotsAt fllen sllen w (slice_set table slot number) now (record { machine = t; slots = with_slot slot reply s.slots; tally = counted reply s.tally })
-    AreSlotsAt-answered reply number size kept power step now counts_are = record {
+        → AreSlotsAt fllen sllen aligns w (slice_set table slot number) now (record { machine = t; slots = with_slot slot reply s.slots; tally = counted reply s.tally })
+    AreSlotsAt-answered reply number size kept step now counts_are = record {
       stands = stands;
       slots = λ other. slots-set number other ∙ ap (λ o. with_slot slot o s.slots other) kept;
       live = λ other a is. elim (cases other a is) [
-        | inl (_, new) ↦ (handed a new).1
-        | inr (_, there) ↦ live_stays fllen sllen s.machine t (allocate size 1 reply) a 1 step (at.live other a there) (λ never. never)
+        | inl (same, new) ↦ subst (λ i. IsLive t a (alignment_of aligns i)) same (handed a new).1
+        | inr (_, there) ↦ live_stays fllen sllen s.machine t (allocate size (alignment_of aligns slot) reply) a (alignment_of aligns other) step (at.live other a there) (λ never. never)
       ];
       one_slot = λ one other a first second. elim (cases one a first) [
         | inl (same, new) ↦ elim (cases other a second) [
           | inl (same_too, _) ↦ sym same ∙ same_too
-          | inr (_, there) ↦ absurd ((handed a new).0 1 (at.live other a there))
+          | inr (_, there) ↦ absurd ((handed a new).0 (alignment_of aligns other) (at.live other a there))
         ]
         | inr (_, there) ↦ elim (cases other a second) [
-          | inl (_, new) ↦ absurd ((handed a new).0 1 (at.live one a there))
+          | inl (_, new) ↦ absurd ((handed a new).0 (alignment_of aligns one) (at.live one a there))
           | inr (_, there_too) ↦ at.one_slot one other a there there_too
         ]
       ];
@@ -82,19 +82,20 @@ module _ {fllen sllen : ℕ} {v : Allocator} {table : List ℕ} {counts : Tally}
         cases : (other a : ℕ) → with_slot slot reply s.slots other ≡ Some a → ((slot ≡ other) × (reply ≡ Some a)) ⊎ ((slot ≡ other → ⊥) × (s.slots other ≡ Some a))
         cases other a is = with_slot-cases slot reply s.slots other a is
 
-        handed : (a : ℕ) → reply ≡ Some a → ((old : ℕ) → IsLive s.machine a old → ⊥) × IsLive t a 1
-        handed a new = handed_out_is_new fllen sllen (range_of v.memory) s.machine t size 1 a at.stands.stands.well_formed power (subst (λ r. Allocates sllen s.machine size 1 r t) new step)
+        handed : (a : ℕ) → reply ≡ Some a → ((old : ℕ) → IsLive s.machine a old → ⊥) × IsLive t a (alignment_of aligns slot)
+        handed a new = handed_out_is_new fllen sllen (range_of v.memory) s.machine t size (alignment_of aligns slot) a at.stands.stands.well_formed (IsPowerOfTwo-pow (slot % aligns))
+            (subst (λ r. Allocates sllen s.machine size (alignment_of aligns slot) r t) new step)
 
     -- after a reallocation of the slot's payload
     pub AreSlotsAt-reallocated : (addr : ℕ) → s.slots slot ≡ Some addr → (reply : Option ℕ) (number size : ℕ) → held number ≡ Some (unwrap_or reply addr) → Reallocates sllen s.machine addr size reply t
         → (now : Tally) → now ≡ counted reply counts
-        → AreSlotsAt fllen sllen w (slice_set table slot number) now (record { machine = t; slots = with_slot slot (Some (unwrap_or reply addr)) s.slots; tally = counted reply s.tally })
+        → AreSlotsAt fllen sllen aligns w (slice_set table slot number) now (record { machine = t; slots = with_slot slot (Some (unwrap_or reply addr)) s.slots; tally = counted reply s.tally })
     AreSlotsAt-reallocated addr its reply number size kept step now counts_are = record {
       stands = stands;
       slots = λ other. slots-set number other ∙ ap (λ o. with_slot slot o s.slots other) kept;
       live = λ other a is. elim (cases other a is) [
-        | inl (_, moved) ↦ subst (λ x. IsLive t x 1) moved (there_now reply step).0
-        | inr (differ, there) ↦ live_stays fllen sllen s.machine t (reallocate addr size reply) a 1 step (at.live other a there) (λ same. differ (at.one_slot slot other a (its ∙ ap Some same) there))
+        | inl (same, moved) ↦ subst (λ i. IsLive t a (alignment_of aligns i)) same (subst (λ x. IsLive t x (alignment_of aligns slot)) moved (there_now reply step).0)
+        | inr (differ, there) ↦ live_stays fllen sllen s.machine t (reallocate addr size reply) a (alignment_of aligns other) step (at.live other a there) (λ same. differ (at.one_slot slot other a (its ∙ ap Some same) there))
       ];
       one_slot = λ one other a first second. elim (cases one a first) [
         | inl (same, moved) ↦ elim (cases other a second) [
@@ -116,29 +117,28 @@ module _ {fllen sllen : ℕ} {v : Allocator} {table : List ℕ} {counts : Tally}
         ]
 
         -- the payload is live where it is now, and that is where it was if something was live there
-        there_now : (reply : Option ℕ) → Reallocates sllen s.machine addr size reply t → IsLive t (unwrap_or reply addr) 1 × (IsLive s.machine (unwrap_or reply addr) 1 → unwrap_or reply addr ≡ addr)
-        there_now None step = (subst (λ x. IsLive x addr 1) (sym (refusal_changes_nothing fllen sllen s.machine t (reallocate addr size None) step refl)) (at.live slot addr its), λ _. refl)
-        there_now (Some to) step =
-            let (live, same) = reallocated_is_live fllen sllen (range_of v.memory) s.machine t addr size to 1 at.stands.stands.well_formed (at.live slot addr its) step in
-            (live, same 1)
+        there_now : (reply : Option ℕ) → Reallocates sllen s.machine addr size reply t → IsLive t (unwrap_or reply addr) (alignment_of aligns slot) × ((old : ℕ) → IsLive s.machine (unwrap_or reply addr) old → unwrap_or reply addr ≡ addr)
+        there_now None step = (subst (λ x. IsLive x addr (alignment_of aligns slot)) (sym (refusal_changes_nothing fllen sllen s.machine t (reallocate addr size None) step refl)) (at.live slot addr its), λ old _. refl)
+        there_now (Some to) step = reallocated_is_live fllen sllen (range_of v.memory) s.machine t addr size to (alignment_of aligns slot) at.stands.stands.well_formed (at.live slot addr its) step
 
         -- no other slot held where it is now
         unshared : (other a : ℕ) → unwrap_or reply addr ≡ a → s.slots other ≡ Some a → slot ≡ other
         unshared other a moved there =
-            let same = (there_now reply step).1 (subst (λ x. IsLive s.machine x 1) (sym moved) (at.live other a there)) in
+            let same = (there_now reply step).1 (alignment_of aligns other) (subst (λ x. IsLive s.machine x (alignment_of aligns other)) (sym moved) (at.live other a there)) in
             at.one_slot slot other a (its ∙ ap Some (sym same ∙ moved)) there
 
     -- a step on the slot, by what it holds
-    does_on : (reallocates : Bool) (draw : ℕ) → slot ≡ slot_of (length table) draw → (o : Option ℕ) → held (slice_index_or table slot 0) ≡ o → (after : BenchState) → ChangesSlot sllen reallocates slot (size_of draw) s o after
-        → DoesStep sllen (length table) reallocates draw s after
+    does_on : (reallocates : Bool) (draw : ℕ) → slot ≡ slot_of (length table) draw → (o : Option ℕ) → held (slice_index_or table slot 0) ≡ o → (after : BenchState) → ChangesSlot sllen (alignment_of aligns slot) reallocates slot (size_of draw) s o after
+        → DoesStep sllen aligns (length table) reallocates draw s after
     does_on reallocates draw named o holds after step =
-        subst (λ n. ChangesSlot sllen reallocates n (size_of draw) s (s.slots n) after) named (subst (λ p. ChangesSlot sllen reallocates slot (size_of draw) s p after) (sym holds ∙ at.slots slot) step)
+        subst (λ n. ChangesSlot sllen (alignment_of aligns n) reallocates n (size_of draw) s (s.slots n) after) named
+        (subst (λ p. ChangesSlot sllen (alignment_of aligns slot) reallocates slot (size_of draw) s p after) (sym holds ∙ at.slots slot) step)
 
     -- a step that frees the slot's payload
     pub LeadsSlotsOn-freed : (reallocates : Bool) → reallocates ≡ false → (draw : ℕ) → slot ≡ slot_of (length table) draw → (addr : ℕ) → held (slice_index_or table slot 0) ≡ Some addr → Deallocates s.machine addr t
-        → LeadsSlotsOn fllen sllen (length table) reallocates draw s w (slice_set table slot 0) counts
+        → LeadsSlotsOn fllen sllen aligns (length table) reallocates draw s w (slice_set table slot 0) counts
     LeadsSlotsOn-freed reallocates frees draw named addr there step =
-        (after, does_on reallocates draw named (Some addr) there after (subst (λ r. ChangesSlot sllen r slot (size_of draw) s (Some addr) after) (sym frees) (t, step, refl)), AreSlotsAt-freed addr (sym (at.slots slot) ∙ there) step)
+        (after, does_on reallocates draw named (Some addr) there after (subst (λ r. ChangesSlot sllen (alignment_of aligns slot) r slot (size_of draw) s (Some addr) after) (sym frees) (t, step, refl)), AreSlotsAt-freed addr (sym (at.slots slot) ∙ there) step)
       where
         after : BenchState
         after = record { machine = t; slots = with_slot slot None s.slots; tally = s.tally }
@@ -146,10 +146,10 @@ module _ {fllen sllen : ℕ} {v : Allocator} {table : List ℕ} {counts : Tally}
     -- a step that reallocates it
     pub LeadsSlotsOn-reallocated : (reallocates : Bool) → reallocates ≡ true → (draw : ℕ) → slot ≡ slot_of (length table) draw → (addr : ℕ) → held (slice_index_or table slot 0) ≡ Some addr → (reply : Option ℕ) (number size : ℕ)
         → held number ≡ Some (unwrap_or reply addr) → size ≡ size_of draw → Reallocates sllen s.machine addr size reply t → (now : Tally) → now ≡ counted reply counts
-        → LeadsSlotsOn fllen sllen (length table) reallocates draw s w (slice_set table slot number) now
+        → LeadsSlotsOn fllen sllen aligns (length table) reallocates draw s w (slice_set table slot number) now
     LeadsSlotsOn-reallocated reallocates does draw named addr there reply number size kept size_is step now counts_are = (
       after,
-      does_on reallocates draw named (Some addr) there after (subst (λ r. ChangesSlot sllen r slot (size_of draw) s (Some addr) after) (sym does) (reply, t, asked, refl)),
+      does_on reallocates draw named (Some addr) there after (subst (λ r. ChangesSlot sllen (alignment_of aligns slot) r slot (size_of draw) s (Some addr) after) (sym does) (reply, t, asked, refl)),
       AreSlotsAt-reallocated addr (sym (at.slots slot) ∙ there) reply number (size_of draw) kept asked now counts_are,
     )
       where
@@ -160,16 +160,16 @@ module _ {fllen sllen : ℕ} {v : Allocator} {table : List ℕ} {counts : Tally}
         after = record { machine = t; slots = with_slot slot (Some (unwrap_or reply addr)) s.slots; tally = counted reply s.tally }
 
     -- a step that allocates into it
-    pub LeadsSlotsOn-answered : (reallocates : Bool) (draw : ℕ) → slot ≡ slot_of (length table) draw → held (slice_index_or table slot 0) ≡ None → (reply : Option ℕ) (number size align : ℕ) → held number ≡ reply → size ≡ size_of draw → align ≡ 1
+    pub LeadsSlotsOn-answered : (reallocates : Bool) (draw : ℕ) → slot ≡ slot_of (length table) draw → held (slice_index_or table slot 0) ≡ None → (reply : Option ℕ) (number size align : ℕ) → held number ≡ reply → size ≡ size_of draw → align ≡ alignment_of aligns slot
         → Allocates sllen s.machine size align reply t → (now : Tally) → now ≡ counted reply counts
-        → LeadsSlotsOn fllen sllen (length table) reallocates draw s w (slice_set table slot number) now
+        → LeadsSlotsOn fllen sllen aligns (length table) reallocates draw s w (slice_set table slot number) now
     LeadsSlotsOn-answered reallocates draw named empty reply number size align kept size_is align_is step now counts_are = (
       after,
       does_on reallocates draw named None empty after (reply, t, asked, refl),
-      AreSlotsAt-answered reply number (size_of draw) kept refl asked now counts_are,
+      AreSlotsAt-answered reply number (size_of draw) kept asked now counts_are,
     )
       where
-        asked : Allocates sllen s.machine (size_of draw) 1 reply t
+        asked : Allocates sllen s.machine (size_of draw) (alignment_of aligns slot) reply t
         asked = subst (λ a. Allocates sllen s.machine (size_of draw) a reply t) align_is (subst (λ n. Allocates sllen s.machine n align reply t) size_is step)
 
         after : BenchState
@@ -196,8 +196,8 @@ replicate_same x n i = elim (leb_tells n i) [
 ]
 
 -- with empty slots, a run is at its beginning
-pub AreSlotsAt-beginning : {fllen sllen : ℕ} {v : Allocator} {table : List ℕ} {counts : Tally} (s : State) (n : ℕ) → IsInState fllen sllen v s → table ≡ replicate n 0 → counts ≡ nothing
-    → AreSlotsAt fllen sllen v table counts (beginning s)
+pub AreSlotsAt-beginning : {fllen sllen aligns : ℕ} {v : Allocator} {table : List ℕ} {counts : Tally} (s : State) (n : ℕ) → IsInState fllen sllen v s → table ≡ replicate n 0 → counts ≡ nothing
+    → AreSlotsAt fllen sllen aligns v table counts (beginning s)
 AreSlotsAt-beginning {table = table} s n stands empty none = record {
   stands = stands;
   slots = λ slot. ap (λ t. held (slice_index_or t slot 0)) empty ∙ ap held (replicate_same 0 n slot);

@@ -5,10 +5,11 @@ ghost use Rattle.std.specs.Int.NonZero.{non_zero_usize_get};
 ghost use Rattle.rlsf_base.specs.Addr.{reply};
 ghost use Rattle.rlsf_base.specs.Range.{LiesIn};
 ghost use Rattle.rlsf_machine.specs.State.{empty};
-ghost use Rattle.rlsf_bench.specs.Runs.{slot_of, size_of, BenchState, IsBench};
-ghost use Rattle.rlsf_bench.specs.Slots.{AreSlotsAt, LeadsSlotsOn, held};
+ghost use Rattle.rlsf_bench_steps.specs.Runs.{alignment_of, slot_of, size_of, BenchState, IsBench};
+ghost use Rattle.rlsf_bench_steps.specs.Slots.{AreSlotsAt, LeadsSlotsOn, held};
 
 use crate::arguments::Mode;
+use crate::calls::{allocate, deallocate, reallocate};
 use crate::error::BenchError;
 use crate::random::Xorshift;
 use crate::tally::Tally;
@@ -18,11 +19,21 @@ use rlsf_tlsf::Tlsf;
 use std::alloc::Global;
 use std::num::NonZeroUsize;
 
-/// The layout that a drawn number asks for: up to 511 bytes, anywhere.
-fn layout_of(draw: u64) -> Layout
-    ensures { (result.size ≡ size_of draw) × (result.align ≡ 1) }
+/// The alignment of a slot's payloads: slot after slot has 1, 2, 4 and so on, `ALIGNS` of them, and then 1 again. Where it is one
+/// alignment, the compiler knows that it is 1.
+fn alignment_of<const ALIGNS: usize>(slot: usize) -> usize
+    requires { (0 < ALIGNS) × (ALIGNS < 64) }
+    ensures { result ≡ alignment_of ALIGNS slot }
 {
-    Layout::from_size_align_unchecked((draw % 512) as usize, 1)
+    1 << (slot % ALIGNS)
+}
+
+/// The layout that a drawn number asks for in a slot: up to 511 bytes, with the slot's alignment.
+fn layout_of<const ALIGNS: usize>(draw: u64, slot: usize) -> Layout
+    requires { (0 < ALIGNS) × (ALIGNS < 64) }
+    ensures { (result.size ≡ size_of draw) × (result.align ≡ alignment_of ALIGNS slot) }
+{
+    Layout::from_size_align_unchecked((draw % 512) as usize, alignment_of::<ALIGNS>(slot))
 }
 
 /// The slot that a drawn number names, of so many.
@@ -61,31 +72,51 @@ fn slot_with(placed: Option<Addr>) -> usize
 }
 
 /// Frees the payload of the slot that a drawn number names, or reallocates it; a slot without a payload gets one.
-fn step<FLBitmap: Bitmap, SLBitmap: Bitmap, const FLLEN: usize, const SLLEN: usize>(
+fn step<
+    FLBitmap: Bitmap,
+    SLBitmap: Bitmap,
+    const FLLEN: usize,
+    const SLLEN: usize,
+    const CALLED: bool,
+    const ALIGNS: usize,
+>(
     tlsf: &mut Tlsf<FLBitmap, SLBitmap, FLLEN, SLLEN>,
     slots: &mut [usize],
     tally: &mut Tally,
     reallocates: bool,
     draw: u64,
 )
+    requires alignments { (0 < ALIGNS) × (ALIGNS < 64) }
     requires some { 0 < length slots.old }
-    requires state { (s : BenchState) × AreSlotsAt FLLEN SLLEN tlsf.old slots.old tally.old s }
+    requires state { (s : BenchState) × AreSlotsAt FLLEN SLLEN ALIGNS tlsf.old slots.old tally.old s }
     requires refused { tally.old.refused + 1 < 2 ^ 64 }
-    ensures does { (s : BenchState) → AreSlotsAt FLLEN SLLEN tlsf.old slots.old tally.old s → LeadsSlotsOn FLLEN SLLEN (length slots.old) reallocates draw s tlsf.new slots.new tally.new }
+    ensures does { (s : BenchState) → AreSlotsAt FLLEN SLLEN ALIGNS tlsf.old slots.old tally.old s
+        → LeadsSlotsOn FLLEN SLLEN ALIGNS (length slots.old) reallocates draw s tlsf.new slots.new tally.new }
     ensures refused { tally.new.refused ≤ tally.old.refused + 1 }
 {
     let slot = slot_of(slots.len(), draw);
     if let Some(addr) = NonZeroUsize::new(slots[slot]) {
         if reallocates {
-            let moved = tlsf.reallocate(addr, layout_of(draw));
+            let moved = reallocate::<FLBitmap, SLBitmap, FLLEN, SLLEN, CALLED>(
+                tlsf,
+                addr,
+                layout_of::<ALIGNS>(draw, slot),
+            );
             slots[slot] = moved.unwrap_or(addr).get();
             tally.count(moved);
         } else {
-            tlsf.deallocate(addr, 1);
+            deallocate::<FLBitmap, SLBitmap, FLLEN, SLLEN, CALLED>(
+                tlsf,
+                addr,
+                alignment_of::<ALIGNS>(slot),
+            );
             slots[slot] = 0;
         }
     } else {
-        let placed = tlsf.allocate(layout_of(draw));
+        let placed = allocate::<FLBitmap, SLBitmap, FLLEN, SLLEN, CALLED>(
+            tlsf,
+            layout_of::<ALIGNS>(draw, slot),
+        );
         slots[slot] = slot_with(placed);
         tally.count(placed);
     }
@@ -93,7 +124,14 @@ fn step<FLBitmap: Bitmap, SLBitmap: Bitmap, const FLLEN: usize, const SLLEN: usi
 
 /// Does so many steps on so many slots, with an allocator that has no chunk: the pool, which lies in its memory, is inserted
 /// first. Answers what came of the allocations and reallocations.
-pub(crate) fn run<FLBitmap: Bitmap, SLBitmap: Bitmap, const FLLEN: usize, const SLLEN: usize>(
+pub(crate) fn run<
+    FLBitmap: Bitmap,
+    SLBitmap: Bitmap,
+    const FLLEN: usize,
+    const SLLEN: usize,
+    const CALLED: bool,
+    const ALIGNS: usize,
+>(
     alloc: Global,
     mut tlsf: Tlsf<FLBitmap, SLBitmap, FLLEN, SLLEN>,
     pool: Range,
@@ -101,9 +139,10 @@ pub(crate) fn run<FLBitmap: Bitmap, SLBitmap: Bitmap, const FLLEN: usize, const 
     steps: u64,
     mode: Mode,
 ) -> Result<Tally, BenchError>
+    requires alignments { (0 < ALIGNS) × (ALIGNS < 64) }
     requires new { tlsf.state ≡ empty }
     requires pool { LiesIn pool tlsf.memory.start (length tlsf.memory.bytes) }
-    ensures ok { IfOk result (λ tally. IsBench FLLEN SLLEN pool (non_zero_usize_get slots) steps mode tally) }
+    ensures ok { IfOk result (λ tally. IsBench FLLEN SLLEN ALIGNS pool (non_zero_usize_get slots) steps mode tally) }
     ensures err { IfErr result (λ error. error ≡ BenchError.OutOfMemory) }
 {
     let _ = tlsf.insert_free_block_ptr(pool);
@@ -111,7 +150,7 @@ pub(crate) fn run<FLBitmap: Bitmap, SLBitmap: Bitmap, const FLLEN: usize, const 
     let mut draws = Xorshift::new();
     let mut tally = Tally::new();
     for number in 0..steps {
-        step(
+        step::<FLBitmap, SLBitmap, FLLEN, SLLEN, CALLED, ALIGNS>(
             &mut tlsf,
             &mut live,
             &mut tally,

@@ -7,12 +7,12 @@ use Rattle.rlsf_machine.specs.Insert.{Inserts}
 use Rattle.rlsf_machine.specs.Reallocate.{Reallocates}
 use Rattle.rlsf_machine.specs.Release.{Deallocates}
 use Rattle.rlsf_machine.specs.State.{State, empty}
-use Rattle.rlsf_bench.specs.declared.arguments.Configuration.{Configuration}
-use Rattle.rlsf_bench.specs.declared.arguments.Configuration.TheVariants.{TwelveBySixteen, FiftyNineByEight, SixtyFourBySixtyFour}
-use Rattle.rlsf_bench.specs.declared.arguments.Mode.{Mode}
-use Rattle.rlsf_bench.specs.declared.arguments.Mode.TheVariants.{Free, Realloc}
-use Rattle.rlsf_bench.specs.declared.tally.Tally.{Tally}
-use Rattle.rlsf_bench.specs.Draws.{drawn}
+use Rattle.rlsf_bench_steps.specs.declared.arguments.Configuration.{Configuration}
+use Rattle.rlsf_bench_steps.specs.declared.arguments.Configuration.TheVariants.{TwelveBySixteen, FiftyNineByEight, SixtyFourBySixtyFour}
+use Rattle.rlsf_bench_steps.specs.declared.arguments.Mode.{Mode}
+use Rattle.rlsf_bench_steps.specs.declared.arguments.Mode.TheVariants.{Free, Realloc}
+use Rattle.rlsf_bench_steps.specs.declared.tally.Tally.{Tally}
+use Rattle.rlsf_bench_steps.specs.Draws.{drawn}
 
 -- how many rows of size classes a configuration has
 abbrev pub rows_of : Configuration → ℕ
@@ -62,32 +62,38 @@ slot_of slots draw = draw / 2 ^ 32 % slots
 abbrev pub size_of : ℕ → ℕ
 size_of draw = draw % 512
 
--- where the slot holds no payload, one of this size is allocated into it; else the one that it holds is freed, or, in a step that
--- reallocates, gets this size, and stays where it was if that is refused
-abbrev pub ChangesSlot : ℕ → Bool → ℕ → ℕ → BenchState → Option ℕ → BenchState → Type 0
-ChangesSlot sllen reallocates slot size s None t =
-    (reply : Option ℕ) × (machine : State) × Allocates sllen s.machine size 1 reply machine
+-- the alignment of a slot's payloads, of so many alignments: slot after slot has 1, 2, 4 and so on, and then 1 again
+abbrev pub alignment_of : ℕ → ℕ → ℕ
+alignment_of aligns slot = 2 ^ (slot % aligns)
+
+-- where the slot holds no payload, one of this alignment and size is allocated into it; else the one that it holds is freed, or, in a
+-- step that reallocates, gets this size, and stays where it was if that is refused
+abbrev pub ChangesSlot : ℕ → ℕ → Bool → ℕ → ℕ → BenchState → Option ℕ → BenchState → Type 0
+ChangesSlot sllen align reallocates slot size s None t =
+    (reply : Option ℕ) × (machine : State) × Allocates sllen s.machine size align reply machine
     × (t ≡ record { machine = machine; slots = with_slot slot reply s.slots; tally = counted reply s.tally })
-ChangesSlot sllen false slot size s (Some addr) t =
+ChangesSlot sllen align false slot size s (Some addr) t =
     (machine : State) × Deallocates s.machine addr machine × (t ≡ record { machine = machine; slots = with_slot slot None s.slots; tally = s.tally })
-ChangesSlot sllen true slot size s (Some addr) t =
+ChangesSlot sllen align true slot size s (Some addr) t =
     (reply : Option ℕ) × (machine : State) × Reallocates sllen s.machine addr size reply machine
     × (t ≡ record { machine = machine; slots = with_slot slot (Some (unwrap_or reply addr)) s.slots; tally = counted reply s.tally })
 
--- one step by a number, which may be one that reallocates
-abbrev pub DoesStep : ℕ → ℕ → Bool → ℕ → BenchState → BenchState → Type 0
-DoesStep sllen slots reallocates draw s t = ChangesSlot sllen reallocates (slot_of slots draw) (size_of draw) s (s.slots (slot_of slots draw)) t
+-- one step by a number, which may be one that reallocates, on slots of so many alignments
+abbrev pub DoesStep : ℕ → ℕ → ℕ → Bool → ℕ → BenchState → BenchState → Type 0
+DoesStep sllen aligns slots reallocates draw s t =
+    let slot = slot_of slots draw in
+    ChangesSlot sllen (alignment_of aligns slot) reallocates slot (size_of draw) s (s.slots slot) t
 
 -- so many steps in a mode, by the numbers in the order that they are drawn in
-abbrev pub RunsSteps : ℕ → ℕ → Mode → ℕ → BenchState → BenchState → Type 0
-RunsSteps sllen slots mode zero s t = t ≡ s
-RunsSteps sllen slots mode (suc n) s t = (u : BenchState) × RunsSteps sllen slots mode n s u × DoesStep sllen slots (reallocates_at mode n) (drawn n) u t
+abbrev pub RunsSteps : ℕ → ℕ → ℕ → Mode → ℕ → BenchState → BenchState → Type 0
+RunsSteps sllen aligns slots mode zero s t = t ≡ s
+RunsSteps sllen aligns slots mode (suc n) s t = (u : BenchState) × RunsSteps sllen aligns slots mode n s u × DoesStep sllen aligns slots (reallocates_at mode n) (drawn n) u t
 
 -- this is counted in a run of so many steps in a mode, from the state that a pool leads to
-pub record IsBench (fllen sllen : ℕ) (pool : Range) (slots steps : ℕ) (mode : Mode) (tally : Tally) : Type 0 where
+pub record IsBench (fllen sllen aligns : ℕ) (pool : Range) (slots steps : ℕ) (mode : Mode) (tally : Tally) : Type 0 where
   pub taken : Option ℕ
   pub machine : State
   pub inserted : Inserts fllen empty pool taken machine
   pub last : BenchState
-  pub ran : RunsSteps sllen slots mode steps (beginning machine) last
+  pub ran : RunsSteps sllen aligns slots mode steps (beginning machine) last
   pub counts : tally ≡ last.tally

@@ -2,8 +2,8 @@
 use Rattle.std.specs.Prelude.{◌≡◌, ℕ, zero, suc, Bool, List, Option, Some, None, slice_index_or}
 use Rattle.rlsf_machine.specs.State.{IsLive}
 use Rattle.rlsf_tlsf.specs.Allocator.{Allocator, IsInState}
-use Rattle.rlsf_bench.specs.declared.tally.Tally.{Tally}
-use Rattle.rlsf_bench.specs.Runs.{BenchState, DoesStep}
+use Rattle.rlsf_bench_steps.specs.declared.tally.Tally.{Tally}
+use Rattle.rlsf_bench_steps.specs.Runs.{BenchState, DoesStep, alignment_of}
 
 -- the payload that a slot of this number holds, by its address: 0 stands for none
 abbrev pub held : ℕ → Option ℕ
@@ -11,14 +11,14 @@ held zero = None
 held (suc before) = Some (suc before)
 
 -- the allocator and the slots are where a run has come to, and this is counted: the payload that a slot holds is live,
--- and no other slot holds it
-pub record AreSlotsAt (fllen sllen : ℕ) (v : Allocator) (table : List ℕ) (counts : Tally) (s : BenchState) : Type 0 where
+-- with the slot's alignment, and no other slot holds it
+pub record AreSlotsAt (fllen sllen aligns : ℕ) (v : Allocator) (table : List ℕ) (counts : Tally) (s : BenchState) : Type 0 where
   pub stands : IsInState fllen sllen v s.machine
   pub slots : (slot : ℕ) → held (slice_index_or table slot 0) ≡ s.slots slot
-  pub live : (slot addr : ℕ) → s.slots slot ≡ Some addr → IsLive s.machine addr 1
+  pub live : (slot addr : ℕ) → s.slots slot ≡ Some addr → IsLive s.machine addr (alignment_of aligns slot)
   pub one_slot : (slot other addr : ℕ) → s.slots slot ≡ Some addr → s.slots other ≡ Some addr → slot ≡ other
   pub tally : counts ≡ s.tally
 
 -- a step by a number, which may be one that reallocates, leads on from this state of the run to one where the allocator and the slots then are
-abbrev pub LeadsSlotsOn : ℕ → ℕ → ℕ → Bool → ℕ → BenchState → Allocator → List ℕ → Tally → Type 0
-LeadsSlotsOn fllen sllen slots reallocates draw s w table counts = (t : BenchState) × DoesStep sllen slots reallocates draw s t × AreSlotsAt fllen sllen w table counts t
+abbrev pub LeadsSlotsOn : ℕ → ℕ → ℕ → ℕ → Bool → ℕ → BenchState → Allocator → List ℕ → Tally → Type 0
+LeadsSlotsOn fllen sllen aligns slots reallocates draw s w table counts = (t : BenchState) × DoesStep sllen aligns slots reallocates draw s t × AreSlotsAt fllen sllen aligns w table counts t

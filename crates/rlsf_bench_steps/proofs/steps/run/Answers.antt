@@ -6,11 +6,11 @@ use Rattle.rlsf_machine.specs.Insert.{Inserts, IsFresh}
 use Rattle.rlsf_machine.proofs.Untouched.{parts_of-IsFresh}
 use Rattle.rlsf_tlsf.proofs.Arrivals.{opened}
 use Rattle.rlsf_tlsf.proofs.Standing.{in_state}
-use Rattle.rlsf_bench.proofs.FirstPool.{pool_is_fresh}
-use Rattle.rlsf_bench.specs.Runs.{IsBench, BenchState}
-use Rattle.rlsf_bench.specs.Slots.{AreSlotsAt, LeadsSlotsOn}
-use Rattle.rlsf_bench.proofs.Underway.{IsUnderway, IsUnderway-beginning, IsUnderway-next, IsBench-end, take_all}
-use Rattle.rlsf_bench.proofs.steps.run.Goals as goal
+use Rattle.rlsf_bench_steps.proofs.FirstPool.{pool_is_fresh}
+use Rattle.rlsf_bench_steps.specs.Runs.{IsBench, BenchState}
+use Rattle.rlsf_bench_steps.specs.Slots.{AreSlotsAt, LeadsSlotsOn}
+use Rattle.rlsf_bench_steps.proofs.Underway.{IsUnderway, IsUnderway-beginning, IsUnderway-next, IsBench-end, take_all}
+use Rattle.rlsf_bench_steps.proofs.steps.run.Goals as goal
 
 pub insert_free_block_ptr-requires : goal.insert_free_block_ptr-requires
 insert_free_block_ptr-requires g c =
@@ -31,9 +31,10 @@ step-requires g c =
     let items = c.deref_mut.ensures.value in (
       search rules,
       (
+        c.requires.alignments,
         omega (arith, ap length items, w.slots, c.get.ensures.value, c.get.ensures.nonzero),
         (
-          (w.state, subst (λ t. AreSlotsAt g.row.FLLEN g.row.SLLEN c.loop-number.tlsf t c.loop-number.tally w.state) (sym items) w.at),
+          (w.state, subst (λ t. AreSlotsAt g.row.FLLEN g.row.SLLEN g.row.ALIGNS c.loop-number.tlsf t c.loop-number.tally w.state) (sym items) w.at),
           omega (arith, w.refused, c.loop-number-test.true, c.ranges.steps.fits),
         ),
       ),
@@ -42,14 +43,14 @@ step-requires g c =
 pub loop-number-preserved : goal.loop-number-preserved
 loop-number-preserved g c =
     let items = c.deref_mut.ensures.value in
-    let does = subst (λ t. (s : BenchState) → AreSlotsAt g.row.FLLEN g.row.SLLEN c.loop-number.tlsf t c.loop-number.tally s → LeadsSlotsOn g.row.FLLEN g.row.SLLEN (length t) c.reallocates_at.result c.next.result s c.step.new.tlsf c.step.new.slots c.step.new.tally) items c.step.ensures.does in
+    let does = subst (λ t. (s : BenchState) → AreSlotsAt g.row.FLLEN g.row.SLLEN g.row.ALIGNS c.loop-number.tlsf t c.loop-number.tally s → LeadsSlotsOn g.row.FLLEN g.row.SLLEN g.row.ALIGNS (length t) c.reallocates_at.result c.next.result s c.step.new.tlsf c.step.new.slots c.step.new.tally) items c.step.ensures.does in
     let long : length c.step.new.slots ≡ length c.loop-number.live.items = omega (arith, c.step.auto.slots, ap length items) in
     let whole : length c.step.new.slots ≡ c.loop-number.live.len = omega (arith, c.step.auto.slots, c.deref_mut.ensures.len) in
     let next = IsUnderway-next c.loop-number.invariant c.reallocates_at.result c.reallocates_at.ensures c.next.result c.next.new.self.state c.next.ensures.state c.next.ensures.number c.step.new.tlsf c.step.new.slots c.step.new.tally does long c.step.ensures.refused in
-    subst (λ t. IsUnderway g.row.FLLEN g.row.SLLEN c.args.pool (non_zero_usize_get c.args.slots) c.args.mode c.step.new.tlsf t c.step.new.tally c.next.new.self.state (c.loop-number.number + 1))
+    subst (λ t. IsUnderway g.row.FLLEN g.row.SLLEN g.row.ALIGNS c.args.pool (non_zero_usize_get c.args.slots) c.args.mode c.step.new.tlsf t c.step.new.tally c.next.new.self.state (c.loop-number.number + 1))
     (sym (take_all c.step.new.slots (drop (length c.step.new.slots) c.loop-number.live.items) c.loop-number.live.len whole)) next
 
 pub returns-clause-ok : goal.returns-clause-ok
 returns-clause-ok g c =
     let all : c.loop-number.number ≡ c.args.steps = omega (arith, c.loop-number-test.false, c.loop-number.auto.number-end) in
-    subst (λ n. IsBench g.row.FLLEN g.row.SLLEN c.args.pool (non_zero_usize_get c.args.slots) n c.args.mode c.loop-number.tally) all (IsBench-end c.loop-number.invariant)
+    subst (λ n. IsBench g.row.FLLEN g.row.SLLEN g.row.ALIGNS c.args.pool (non_zero_usize_get c.args.slots) n c.args.mode c.loop-number.tally) all (IsBench-end c.loop-number.invariant)

@@ -1,5 +1,5 @@
 ghost use Rattle.std.specs.Prelude.{◌≡◌, ◌*◌, ◌%◌, ◌^◌};
-ghost use Rattle.rlsf_bench.specs.Draws.{next_state, seed};
+ghost use Rattle.rlsf_bench_steps.specs.Draws.{next_state, seed};
 
 /// A generator of numbers that seem random: each follows from the one before by shifts and exclusive ors, and is
 /// multiplied by a constant on its way out.

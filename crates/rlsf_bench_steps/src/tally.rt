@@ -1,6 +1,6 @@
 ghost use Rattle.std.specs.Prelude.{◌≡◌, ◌+◌, ◌<◌, ◌≤◌, ◌^◌};
 ghost use Rattle.rlsf_base.specs.Addr.{reply};
-ghost use Rattle.rlsf_bench.specs.Runs.{counted, nothing};
+ghost use Rattle.rlsf_bench_steps.specs.Runs.{counted, nothing};
 
 use rlsf_base::memory::Addr;
 use std::fmt;

@@ -1,5 +1,5 @@
 ghost use Rattle.std.specs.Prelude.{◌≡◌};
-ghost use Rattle.rlsf_bench.specs.Runs.{reallocates_at};
+ghost use Rattle.rlsf_bench_steps.specs.Runs.{reallocates_at};
 
 use crate::error::BenchError;
 use std::num::NonZeroUsize;

@@ -1,0 +1,103 @@
+//! The steps of the programs that time the allocator: payloads are allocated into slots and freed or reallocated, in an order that
+//! seems random and is the same in each run. A program of them says whether each call has a function of its own, and how many alignments there are, and
+//! makes no others: in a program with more places that make a call, LLVM doesn't inline the same ones.
+#![tactic(auto)]
+
+ghost use Rattle.std.specs.Prelude.{◌≡◌, ◌<◌, ◌^◌, IfOk, IfErr};
+ghost use Rattle.std.specs.Int.NonZero.{non_zero_usize_get};
+ghost use Rattle.rlsf_base.specs.Range.{range_at};
+ghost use Rattle.rlsf_bench_steps.specs.Runs.{rows_of, classes_of, IsBench};
+
+mod arguments;
+mod calls;
+mod error;
+mod random;
+mod steps;
+mod tally;
+
+use arguments::{Arguments, Configuration};
+pub use error::BenchError;
+use rlsf_base::memory::Range;
+use rlsf_tlsf::Tlsf;
+use std::alloc::Global;
+use std::env;
+use std::rt::Env;
+use steps::{memory_of, run};
+use tally::Tally;
+
+/// The addresses of the pool.
+const POOL: Range = Range {
+    start: 4096,
+    len: 1 << 25,
+};
+
+/// The addresses of the memory. The system gives a block of this length 16 bytes past the begin of a page: with 48
+/// bytes more before the pool no block's links lie across two of its cache lines, as they don't in the original.
+const MEMORY: Range = Range {
+    start: 4096 - 48,
+    len: (1 << 25) + 48,
+};
+
+/// Reads the command line, does what it asks for on slots of so many alignments, and prints what came of it.
+pub fn bench<R: Env + Print + AllocGlobal, const CALLED: bool, const ALIGNS: usize>(
+    rt: &R,
+) -> Result<(), BenchError>
+    requires { (0 < ALIGNS) × (ALIGNS < 64) }
+{
+    let words: Vec<String> = env::args(rt)?.collect(rt.alloc())?;
+    let tally = tally_of::<CALLED, ALIGNS>(rt.alloc(), Arguments::read(&words)?)?;
+    println!(rt; "{tally}")?;
+    Ok(())
+}
+
+/// Does the steps that are asked for, with the configuration's allocator.
+fn tally_of<const CALLED: bool, const ALIGNS: usize>(
+    alloc: Global,
+    arguments: Arguments,
+) -> Result<Tally, BenchError>
+    requires { (0 < ALIGNS) × (ALIGNS < 64) }
+    ensures ok { IfOk result (λ tally. IsBench
+        (rows_of arguments.configuration) (classes_of arguments.configuration) ALIGNS
+        (range_at 4096 (2 ^ 25)) (non_zero_usize_get arguments.slots) arguments.steps arguments.mode tally) }
+    ensures err { IfErr result (λ error. error ≡ BenchError.OutOfMemory) }
+{
+    let Arguments {
+        configuration,
+        slots,
+        steps,
+        mode,
+    } = arguments;
+    let memory = memory_of(alloc, MEMORY)?;
+    match configuration {
+        Configuration::TwelveBySixteen => {
+            run::<u16, u16, 12, 16, CALLED, ALIGNS>(
+                alloc,
+                Tlsf::<u16, u16, 12, 16>::new(memory),
+                POOL,
+                slots,
+                steps,
+                mode,
+            )
+        }
+        Configuration::FiftyNineByEight => {
+            run::<u64, u64, 59, 8, CALLED, ALIGNS>(
+                alloc,
+                Tlsf::<u64, u64, 59, 8>::new(memory),
+                POOL,
+                slots,
+                steps,
+                mode,
+            )
+        }
+        Configuration::SixtyFourBySixtyFour => {
+            run::<usize, usize, 64, 64, CALLED, ALIGNS>(
+                alloc,
+                Tlsf::<usize, usize, 64, 64>::new(memory),
+                POOL,
+                slots,
+                steps,
+                mode,
+            )
+        }
+    }
+}
