@@ -9,7 +9,7 @@ pub use Rattle.rlsf_global.specs.Kept.{KeepsFirst}
 pub use Rattle.rlsf_global.specs.Locked.{LockedContents, LockedStands}
 pub use Rattle.rlsf_global.specs.Refusals.{RefusesOnlyBy}
 -- those that contracts over the journal cite
-pub use Rattle.rlsf_journal.specs.Close.{Agree, IsWhole, LacksOne, is_strange}
+pub use Rattle.rlsf_journal.specs.Close.{Agree, AreComplete, LacksOne, is_strange}
 pub use Rattle.rlsf_journal.specs.Entries.{IsReplyTo, entries_of, receipts_of}
 pub use Rattle.rlsf_journal.specs.Passes.{AreFirst, PassContents, Receipted}
-pub use Rattle.rlsf_journal.specs.Replay.{BookContents, IsAnswered, IsReplay}
+pub use Rattle.rlsf_journal.specs.Replay.{BookContents, IsReplay, LeadsOrRefused}

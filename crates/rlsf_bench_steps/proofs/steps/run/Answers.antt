@@ -32,10 +32,12 @@ step-requires g c =
       search rules,
       (
         c.requires.alignments,
-        omega (arith, ap length items, w.slots, c.get.ensures.value, c.get.ensures.nonzero),
         (
-          (w.state, subst (λ t. AreSlotsAt g.row.FLLEN g.row.SLLEN g.row.ALIGNS c.loop-number.tlsf t c.loop-number.tally w.state) (sym items) w.at),
-          omega (arith, w.refused, c.loop-number-test.true, c.ranges.steps.fits),
+          omega (arith, ap length items, w.slots, c.get.ensures.value, c.get.ensures.nonzero),
+          (
+            (w.state, subst (λ t. AreSlotsAt g.row.FLLEN g.row.SLLEN g.row.ALIGNS c.loop-number.tlsf t c.loop-number.tally w.state) (sym items) w.at),
+            omega (arith, w.refused, c.loop-number-test.true, c.ranges.steps.fits),
+          ),
         ),
       ),
     )
