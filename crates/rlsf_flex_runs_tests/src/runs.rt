@@ -1,7 +1,8 @@
 //! What runs over a source answer: each op, and each refusal, which leaves all as it was.
 
+use crate::calls::alloc_op;
 use crate::sources::parts;
-use rlsf_base::memory::{Layout, LayoutError, Range};
+use rlsf_base::memory::{Layout, Range};
 use rlsf_flex::FlexTlsf;
 use rlsf_flex_runs::run_flex;
 use rlsf_listed::{Capabilities, Question, SourceAnswer};
@@ -40,10 +41,6 @@ fn answers(rt: &impl Abort, alloc: Global, len: usize, steps: &[(Op, Answer)]) -
     }
     assert_eq!(rt; answers_to(alloc, len, &ops)?, expected);
     Ok(())
-}
-
-fn alloc_op(name: usize, size: usize, align: usize) -> Result<Op, LayoutError> {
-    Ok(Op::Alloc(name, Layout::from_size_align(size, align)?))
 }
 
 fn placed(addr: usize) -> Answer {
@@ -103,7 +100,7 @@ static ASKED: [Question; 2] = [
 fn a_range_grows(rt: HostRuntime) -> Result<(), Fail> {
     let (memory, source) = parts(rt.alloc(), GROWING, GROWN.to_vec(rt.alloc())?)?;
     let mut flex = FlexTlsf::<_, u16, u16, 12, 16>::new(memory, source);
-    let ops = [alloc_op(1, 1, 1)?, alloc_op(2, 1, 1)?];
+    let ops = [alloc_op(1, 1), alloc_op(2, 1)];
     let mut answers = Vec::new(rt.alloc());
     run_flex(rt.alloc(), &mut flex, &ops, &mut answers)?;
     assert_eq!(rt; answers.as_slice(), [placed(4144), placed(4208)].as_slice());
@@ -115,7 +112,7 @@ fn a_range_grows(rt: HostRuntime) -> Result<(), Fail> {
 fn a_chunk_of_any_length_grows(rt: HostRuntime) -> Result<(), Fail> {
     let (memory, source) = parts(rt.alloc(), GROWING, GROWN.to_vec(rt.alloc())?)?;
     let mut flex = FlexTlsf::<_, u64, u64, 59, 8>::new(memory, source);
-    let ops = [alloc_op(1, 1, 1)?, alloc_op(2, 1, 1)?];
+    let ops = [alloc_op(1, 1), alloc_op(2, 1)];
     let mut answers = Vec::new(rt.alloc());
     // Those already there stay in front.
     answers.push(UNKNOWN)?;
@@ -131,7 +128,7 @@ fn a_chunk_of_any_length_grows(rt: HostRuntime) -> Result<(), Fail> {
 #[test]
 fn each_op(rt: HostRuntime) -> Result<(), Fail> {
     let steps = [
-        (alloc_op(1, 16, 1)?, placed(4112)),
+        (alloc_op(1, 16), placed(4112)),
         (Op::Fill(1, 7), Answer::Done),
         (Op::Put(1, 3, 9), Answer::Done),
         (Op::Get(1, 3), Answer::Byte(9)),
@@ -145,7 +142,7 @@ fn each_op(rt: HostRuntime) -> Result<(), Fail> {
         (Op::Usable(1), Answer::Usable(80)),
         (Op::Get(1, 3), Answer::Byte(9)),
         (Op::Free(1), Answer::Done),
-        (alloc_op(1, 16, 1)?, placed(4112)),
+        (alloc_op(1, 16), placed(4112)),
         (Op::FreeUnknown(1), Answer::Done),
     ];
     answers(&rt, rt.alloc(), 160, &steps)
@@ -163,14 +160,14 @@ fn ops_on_ranges(rt: HostRuntime) -> Result<(), Fail> {
     };
     let steps = [
         (Op::Insert(behind), RANGE),
-        (alloc_op(1, 1, 1)?, placed(4112)),
+        (alloc_op(1, 1), placed(4112)),
         (Op::Insert(behind), RANGE),
         (Op::Append(behind), RANGE),
         (Op::Block(pool, 0), RANGE),
         (Op::Block(behind, 0), RANGE),
         (Op::Usable(1), Answer::Usable(16)),
-        (alloc_op(2, 1, 1)?, placed(4144)),
-        (alloc_op(3, 1, 1)?, NOWHERE),
+        (alloc_op(2, 1), placed(4144)),
+        (alloc_op(3, 1), NOWHERE),
         (Op::Free(1), Answer::Done),
     ];
     answers(&rt, rt.alloc(), 96, &steps)
@@ -180,7 +177,7 @@ fn ops_on_ranges(rt: HostRuntime) -> Result<(), Fail> {
 fn unknown_names(rt: HostRuntime) -> Result<(), Fail> {
     let steps = [
         (Op::Free(1), UNKNOWN),
-        (alloc_op(1, 16, 1)?, placed(4112)),
+        (alloc_op(1, 16), placed(4112)),
         (Op::Fill(1, 7), Answer::Done),
         (Op::Free(2), UNKNOWN),
         (Op::FreeUnknown(2), UNKNOWN),
@@ -200,7 +197,7 @@ fn unknown_names(rt: HostRuntime) -> Result<(), Fail> {
         (Op::Put(1, 0, 1), UNKNOWN),
         (Op::Get(1, 0), UNKNOWN),
         (Op::Usable(1), UNKNOWN),
-        (alloc_op(1, 16, 1)?, placed(4112)),
+        (alloc_op(1, 16), placed(4112)),
     ];
     answers(&rt, rt.alloc(), 96, &steps)
 }
@@ -208,13 +205,13 @@ fn unknown_names(rt: HostRuntime) -> Result<(), Fail> {
 #[test]
 fn names_that_are_taken(rt: HostRuntime) -> Result<(), Fail> {
     let steps = [
-        (alloc_op(1, 1, 1)?, placed(4112)),
+        (alloc_op(1, 1), placed(4112)),
         (Op::Fill(1, 7), Answer::Done),
-        (alloc_op(1, 1, 1)?, TAKEN),
+        (alloc_op(1, 1), TAKEN),
         (Op::Get(1, 0), Answer::Byte(7)),
-        (alloc_op(2, 1, 1)?, placed(4144)),
+        (alloc_op(2, 1), placed(4144)),
         (Op::Free(1), Answer::Done),
-        (alloc_op(1, 1, 1)?, placed(4112)),
+        (alloc_op(1, 1), placed(4112)),
     ];
     answers(&rt, rt.alloc(), 96, &steps)
 }
@@ -222,7 +219,7 @@ fn names_that_are_taken(rt: HostRuntime) -> Result<(), Fail> {
 #[test]
 fn offsets_from_the_usable_size_on(rt: HostRuntime) -> Result<(), Fail> {
     let steps = [
-        (alloc_op(1, 1, 1)?, placed(4112)),
+        (alloc_op(1, 1), placed(4112)),
         (Op::Fill(1, 7), Answer::Done),
         (Op::Put(1, 16, 8), OFFSET),
         (Op::Get(1, 16), OFFSET),
@@ -238,14 +235,17 @@ fn offsets_from_the_usable_size_on(rt: HostRuntime) -> Result<(), Fail> {
 #[test]
 fn sizes_that_no_layout_has(rt: HostRuntime) -> Result<(), Fail> {
     let steps = [
-        (alloc_op(1, 1, 16)?, placed(4112)),
+        (
+            Op::Alloc(1, Layout::from_size_align_unchecked(1, 16)),
+            placed(4112),
+        ),
         (Op::Fill(1, 7), Answer::Done),
         (Op::Realloc(1, 9223372036854775808), LAYOUT),
         (Op::Realloc(1, 9223372036854775793), LAYOUT),
         (Op::ReallocNoMove(1, 9223372036854775793), LAYOUT),
         (Op::Usable(1), Answer::Usable(16)),
         (Op::Get(1, 15), Answer::Byte(7)),
-        (alloc_op(2, 1, 1)?, placed(4144)),
+        (alloc_op(2, 1), placed(4144)),
     ];
     answers(&rt, rt.alloc(), 96, &steps)
 }
@@ -253,8 +253,8 @@ fn sizes_that_no_layout_has(rt: HostRuntime) -> Result<(), Fail> {
 #[test]
 fn a_payload_that_may_not_move(rt: HostRuntime) -> Result<(), Fail> {
     let steps = [
-        (alloc_op(1, 1, 1)?, placed(4112)),
-        (alloc_op(2, 16, 1)?, placed(4144)),
+        (alloc_op(1, 1), placed(4112)),
+        (alloc_op(2, 16), placed(4144)),
         (Op::Fill(2, 7), Answer::Done),
         (Op::Free(1), Answer::Done),
         // The free block before its own would suffice.
@@ -270,13 +270,13 @@ fn a_payload_that_may_not_move(rt: HostRuntime) -> Result<(), Fail> {
 #[test]
 fn a_payload_that_finds_no_other_room(rt: HostRuntime) -> Result<(), Fail> {
     let steps = [
-        (alloc_op(1, 16, 1)?, placed(4112)),
+        (alloc_op(1, 16), placed(4112)),
         (Op::Fill(1, 7), Answer::Done),
         (Op::Realloc(1, 1000), NOWHERE),
         (Op::Usable(1), Answer::Usable(16)),
         (Op::Get(1, 0), Answer::Byte(7)),
         (Op::Get(1, 15), Answer::Byte(7)),
-        (alloc_op(1, 1, 1)?, TAKEN),
+        (alloc_op(1, 1), TAKEN),
         (Op::Free(1), Answer::Done),
     ];
     answers(&rt, rt.alloc(), 96, &steps)

@@ -2,8 +2,9 @@
 
 ghost use Rattle.rlsf_base.specs.PowerOfTwo.{IsPowerOfTwo};
 
+use crate::calls::alloc_op;
 use crate::sources::parts;
-use rlsf_base::memory::{Layout, LayoutError, Range};
+use rlsf_base::memory::Range;
 use rlsf_flex::FlexTlsf;
 use rlsf_flex_runs::run_flex;
 use rlsf_listed::{Capabilities, Question, SourceAnswer};
@@ -52,10 +53,6 @@ fn tell(text: &mut String, question: Question) -> Result<(), AllocError> {
     }
 }
 
-fn alloc_op(name: usize, size: usize) -> Result<Op, LayoutError> {
-    Ok(Op::Alloc(name, Layout::from_size_align(size, 1)?))
-}
-
 fn range(start: usize, len: usize) -> SourceAnswer {
     SourceAnswer::Range(Range { start, len })
 }
@@ -70,8 +67,8 @@ fn ranges_go_back_one_after_another(rt: HostRuntime) -> Result<(), Fail> {
     };
     let given = [range(4096, 1024), range(5120, 3072)];
     let ops = [
-        alloc_op(1, 1)?,
-        alloc_op(2, 2000)?,
+        alloc_op(1, 1),
+        alloc_op(2, 2000),
         Op::Trim,
         Op::Free(2),
         Op::Trim,
@@ -96,8 +93,8 @@ fn a_range_that_grew_goes_back(rt: HostRuntime) -> Result<(), Fail> {
     };
     let given = [range(4097, 96), SourceAnswer::Len(159)];
     let ops = [
-        alloc_op(1, 1)?,
-        alloc_op(2, 1)?,
+        alloc_op(1, 1),
+        alloc_op(2, 1),
         Op::Free(2),
         Op::Trim,
         Op::Free(1),
@@ -126,12 +123,12 @@ fn the_range_before_grows(rt: HostRuntime) -> Result<(), Fail> {
         SourceAnswer::Len(160),
     ];
     let ops = [
-        alloc_op(1, 1)?,
-        alloc_op(2, 1)?,
-        alloc_op(3, 1)?,
+        alloc_op(1, 1),
+        alloc_op(2, 1),
+        alloc_op(3, 1),
         Op::Free(3),
         Op::Trim,
-        alloc_op(4, 1)?,
+        alloc_op(4, 1),
     ];
     let told = told(rt.alloc(), capabilities, &given, &ops)?;
     assert_eq!(rt;
@@ -199,24 +196,24 @@ fn told_of(alloc: Global, dealloc: bool, grow: bool, contiguous: bool) -> Result
         range(19456, 128),
     ];
     let ops = [
-        alloc_op(1, 1)?,
+        alloc_op(1, 1),
         Op::Fill(1, 7),
         Op::Trim,
-        alloc_op(2, 100)?,
-        alloc_op(3, 40)?,
+        alloc_op(2, 100),
+        alloc_op(3, 40),
         Op::Free(3),
         Op::Trim,
         Op::Free(2),
         Op::Trim,
         Op::Get(1, 0),
-        alloc_op(4, 200)?,
+        alloc_op(4, 200),
         Op::Free(1),
         Op::Trim,
         Op::Free(4),
         Op::Trim,
         Op::Trim,
-        alloc_op(5, 1)?,
-        alloc_op(6, 1)?,
+        alloc_op(5, 1),
+        alloc_op(6, 1),
     ];
     told(alloc, capabilities, &given, &ops)
 }
