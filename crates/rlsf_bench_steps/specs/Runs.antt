@@ -1,12 +1,15 @@
 -- RunsSteps of the benchmark: what steps do to the list machine, and what is counted.
 use Rattle.std.specs.Prelude.{◌≡◌, ℕ, zero, suc, ◌+◌, ◌*◌, ◌/◌, ◌%◌, ◌^◌, nat_eq, ◌==◌, Bool, true, false, if◌then◌else◌, Option, Some, None}
+use Rattle.std.specs.Int.NonZero.{non_zero_usize_get}
 use Rattle.std.specs.Option.{unwrap_or}
 use Rattle.rlsf_base.specs.declared.memory.range.Range.{Range}
+use Rattle.rlsf_base.specs.Range.{range_at}
 use Rattle.rlsf_machine.specs.Allocate.{Allocates}
 use Rattle.rlsf_machine.specs.Insert.{Inserts}
 use Rattle.rlsf_machine.specs.Reallocate.{Reallocates}
 use Rattle.rlsf_machine.specs.Release.{Deallocates}
 use Rattle.rlsf_machine.specs.State.{State, empty}
+use Rattle.rlsf_bench_steps.specs.declared.arguments.Arguments.{Arguments}
 use Rattle.rlsf_bench_steps.specs.declared.arguments.Configuration.{Configuration}
 use Rattle.rlsf_bench_steps.specs.declared.arguments.Configuration.TheVariants.{TwelveBySixteen, FiftyNineByEight, SixtyFourBySixtyFour}
 use Rattle.rlsf_bench_steps.specs.declared.arguments.Mode.{Mode}
@@ -97,3 +100,7 @@ pub record IsBench (fllen sllen aligns : ℕ) (pool : Range) (slots steps : ℕ)
   pub last : BenchState
   pub ran : RunsSteps sllen aligns slots mode steps (beginning machine) last
   pub counts : tally ≡ last.tally
+
+-- the steps that the command line asks for, on slots of so many alignments, in a pool of 32 MiB from address 4096 on
+abbrev pub IsAsked : Arguments → ℕ → Tally → Type 0
+IsAsked a aligns tally = IsBench (rows_of a.configuration) (classes_of a.configuration) aligns (range_at 4096 (2 ^ 25)) (non_zero_usize_get a.slots) a.steps a.mode tally

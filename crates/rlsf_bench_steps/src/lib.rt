@@ -3,10 +3,8 @@
 //! makes no others: in a program with more places that make a call, LLVM doesn't inline the same ones.
 #![tactic(auto)]
 
-ghost use Rattle.std.specs.Prelude.{◌≡◌, ◌<◌, ◌^◌, IfOk, IfErr};
-ghost use Rattle.std.specs.Int.NonZero.{non_zero_usize_get};
-ghost use Rattle.rlsf_base.specs.Range.{range_at};
-ghost use Rattle.rlsf_bench_steps.specs.Runs.{rows_of, classes_of, IsBench};
+ghost use Rattle.std.specs.Prelude.{◌≡◌, ◌<◌, IfOk, IfErr};
+ghost use Rattle.rlsf_bench_steps.specs.Runs.{IsAsked};
 
 mod arguments;
 mod calls;
@@ -56,9 +54,7 @@ fn tally_of<const CALLED: bool, const ALIGNS: usize>(
     arguments: Arguments,
 ) -> Result<Tally, BenchError>
     requires { (0 < ALIGNS) × (ALIGNS < 64) }
-    ensures ok { IfOk result (λ tally. IsBench
-        (rows_of arguments.configuration) (classes_of arguments.configuration) ALIGNS
-        (range_at 4096 (2 ^ 25)) (non_zero_usize_get arguments.slots) arguments.steps arguments.mode tally) }
+    ensures ok { IfOk result (IsAsked arguments ALIGNS) }
     ensures err { IfErr result (λ error. error ≡ BenchError.OutOfMemory) }
 {
     let Arguments {

@@ -1,4 +1,5 @@
 mod Crossing
+mod Found
 pub mod Arrivals
 pub mod Lent
 pub mod Moved

@@ -8,9 +8,8 @@ use Rattle.rlsf_blocks.specs.Laws.{read_from}
 use Rattle.rlsf_blocks.specs.StandsFor.{contents, StandsFor}
 use Rattle.rlsf_blocks.proofs.Machine.Counted.{KeepsSpare-counted_first, StandsFor-counted}
 use Rattle.rlsf_tlsf.specs.Allocator.{Allocator, allocator, Steps}
-use Rattle.rlsf_tlsf.specs.Steps.Moves.{bare, deallocated}
-use Rattle.rlsf_tlsf.proofs.Arrivals.{IsAllocator-arrived, Steps-arrived, bare-kept, live_inside, opened, view_well_formed}
-use Rattle.rlsf_tlsf.proofs.Moved.{deallocated-bare}
+use Rattle.rlsf_tlsf.specs.Steps.Moves.{bare}
+use Rattle.rlsf_tlsf.proofs.Arrivals.{IsAllocator-arrived, Steps-arrived, kept_without, live_inside, opened, view_well_formed}
 use Rattle.rlsf_base.specs.Space.{SamePlace}
 use Rattle.rlsf_resize.proofs.Counting.{SamePlace-counted_first, copied-counted_first, grow-counted_first, touches-counted_first}
 use Rattle.rlsf_tlsf.proofs.tlsf.Tlsf.deallocate.Given as given
@@ -49,10 +48,7 @@ deallocate_block-requires g c =
 -- what is kept of the state is the one without the payload
 kept : (g : given.Over) (c : After-deallocate g) (u : Used) → Holds (read_from c.self.inside.memory c.self.inside.state.state) (at c.args.addr) u
     → c.deallocate.new.self.state ≡ bare (released (read_from c.self.inside.memory c.self.inside.state.state) u)
-kept g c u holds =
-    let s = read_from c.self.inside.memory c.self.inside.state.state in
-    c.deallocate.ensures ∙ (λ i. deallocated ((c.get-2.ensures.value) i) (sym (bare-kept c.self.invariant) i))
-    ∙ deallocated-bare c.self.invariant.stands.well_formed (released s u) (at c.args.addr) (record { block = u; holds = holds; after = refl })
+kept g c u holds = c.deallocate.ensures ∙ kept_without c.self.invariant (at c.args.addr) u holds c.get-2.ensures.value
 
 pub invariant_of-self : goal.invariant_of-self
 invariant_of-self g c =
@@ -77,11 +73,13 @@ done g c =
 pub returns-clause-step : goal.returns-clause-step
 returns-clause-step g c = done g c
 
+stepped : (g : given.Over) (c : After-deallocate g) → Deallocates c.args.self.now.state (at c.args.addr) (after g c).state
+stepped g c = (opened g.row.FLLEN g.row.SLLEN c.args.self.now (after g c) (Deallocates c.args.self.now.state (at c.args.addr)) (done g c)).0
+
 seen : (g : given.Over) (c : After-deallocate g) → SeesGone c.args.self.now.state (after g c).state (at c.args.addr)
 seen g c =
     let (u, holds, is) = align_at-live c.args.self.now.state (at c.args.addr) c.args.align c.requires in
-    gone_seen (view_well_formed c.self.invariant c.args.self.now c.self.view_is) (after g c).state (at c.args.addr) (u, holds)
-    (opened g.row.FLLEN g.row.SLLEN c.args.self.now (after g c) (Deallocates c.args.self.now.state (at c.args.addr)) (done g c)).0
+    gone_seen (view_well_formed c.self.invariant c.args.self.now c.self.view_is) (after g c).state (at c.args.addr) (u, holds) (stepped g c)
 
 pub returns-clause-gone : goal.returns-clause-gone
 returns-clause-gone g c = (seen g c).gone
@@ -93,8 +91,7 @@ pub returns-clause-bytes : goal.returns-clause-bytes
 returns-clause-bytes g c = (seen g c).bytes
 
 pub returns-clause-chunks : goal.returns-clause-chunks
-returns-clause-chunks g c =
-    chunks-deallocated c.args.self.now.state (after g c).state (at c.args.addr) (opened g.row.FLLEN g.row.SLLEN c.args.self.now (after g c) (Deallocates c.args.self.now.state (at c.args.addr)) (done g c)).0
+returns-clause-chunks g c = chunks-deallocated c.args.self.now.state (after g c).state (at c.args.addr) (stepped g c)
 
 pub returns-clause-place : goal.returns-clause-place
 returns-clause-place g c = subst (λ (o : Allocator). SamePlace o.memory c.deallocate_block.new.memory) c.self.view_is (SamePlace-counted_first c.self.inside.memory c.used_block-block.new.memory 1 c.used_block-block.ensures.counts c.deallocate_block.new.memory c.deallocate_block.ensures.place)

@@ -3,7 +3,7 @@ use Rattle.rlsf_base.specs.Addr.{at, reply}
 use Rattle.rlsf_machine.specs.Callers.{align_at, bytes_at}
 use Rattle.rlsf_machine.specs.Reallocate.{Keeps, Plan, Reallocates, in_place, into_next, or_else}
 use Rattle.rlsf_machine.specs.Run.{reallocate}
-use Rattle.rlsf_machine.specs.State.{State, Used, Holds, IsLive}
+use Rattle.rlsf_machine.specs.State.{State, Used, Holds}
 use Rattle.rlsf_machine.proofs.CallerWords.{SeesResized, align_at-live, resized_seen}
 use Rattle.rlsf_machine.proofs.Changes.{Holds-unique}
 use Rattle.rlsf_machine.proofs.Chunks.{chunks-reallocated}
@@ -12,12 +12,12 @@ use Rattle.rlsf_machine.proofs.Payloads.{IsUsed-after_start}
 use Rattle.rlsf_blocks.specs.Laws.{read_from}
 use Rattle.rlsf_blocks.specs.Spare.{KeepsSpare}
 use Rattle.rlsf_blocks.specs.StandsFor.{contents, StandsFor}
-use Rattle.rlsf_blocks.proofs.Machine.Counted.{KeepsSpare-counted_first, StandsFor-counted}
+use Rattle.rlsf_blocks.proofs.Machine.Counted.{KeepsSpare-counted_first}
 use Rattle.rlsf_blocks.proofs.Words.NonZeroNumbers.{number, on_none, on_some}
-use Rattle.rlsf_resize.specs.Steps.Resize.{IsUsedAt}
 use Rattle.rlsf_tlsf.specs.Allocator.{Allocator, allocator, Steps}
 use Rattle.rlsf_tlsf.specs.Steps.Moves.{bare, reallocated}
 use Rattle.rlsf_tlsf.proofs.Arrivals.{IsAllocator-arrived, Steps-arrived, bare-kept, bytes_inside, live_inside, opened, view_well_formed, well_formed, arrived}
+use Rattle.rlsf_tlsf.proofs.Found.{Found, live_in, payload_found}
 use Rattle.rlsf_tlsf.proofs.Moved.{reallocated-bare}
 use Rattle.rlsf_base.specs.Space.{SamePlace}
 use Rattle.rlsf_resize.proofs.Counting.{SamePlace-counted_first, grow-counted_first, grow_copied-counted_first, touches-counted_first}
@@ -30,38 +30,21 @@ use Rattle.rlsf_tlsf.proofs.tlsf.Tlsf.reallocate.Goals.{After-from_residual, Aft
 abbrev state : (g : given.Over) (c : After-used_block-block g) → State
 state g c = read_from c.self.inside.memory c.self.inside.state.state
 
--- the payload's block
-block : (g : given.Over) (c : After-used_block-block g) → (u : Used) × Holds (state g c) (at c.args.addr) u × (u.align ≡ c.args.layout.align)
-block g c = live_inside c.self.invariant c.args.self.now c.self.view_is (at c.args.addr) c.args.layout.align c.requires
-
--- the block that was found is the payload's
-used_at : (g : given.Over) (c : After-used_block-block g) (u : Used) → Holds (state g c) (at c.args.addr) u → u.align ≡ c.args.layout.align
-    → IsUsedAt (state g c) u c.used_block-block.result c.get-payload.result c.args.layout.align
-used_at g c u holds is =
-    let addr = at c.args.addr in
-    let s = state g c in
-    let v = c.self.invariant.stands in
-    let (x, (i, here), same, start) = c.used_block-block.ensures.block g.row.FLLEN g.row.SLLEN c.self.inside.table s v (subst (λ p. IsLive s p c.align.result) (sym c.get-payload.ensures.value) (u, holds, is ∙ sym c.align.ensures.value)) in
-    let one : u ≡ x = Holds-unique v.well_formed addr u x holds (i, here ∙ c.get-payload.ensures.value) in
-    record { is_used = holds.0; start = ap (λ y. y.block.start) one ∙ start; caller = holds.1 ∙ sym c.get-payload.ensures.value; alignment = is }
-
--- the memory in which it was sought stands for the same state
-read_in : (g : given.Over) (c : After-used_block-block g) → StandsFor g.row.FLLEN g.row.SLLEN (contents c.used_block-block.new.memory c.self.inside.table) (state g c)
-read_in g c =
-    let counts = c.used_block-block.ensures.counts in
-    StandsFor-counted c.self.inside.memory c.used_block-block.new.memory counts.start counts.bytes c.self.invariant.stands
+-- the payload's block, once it was found
+found : (g : given.Over) (c : After-used_block-block g) → Found g.row.FLLEN g.row.SLLEN (contents c.used_block-block.new.memory c.self.inside.table) (state g c) (at c.args.addr) c.used_block-block.result c.get-payload.result c.args.layout.align
+found g c =
+    let live = live_inside c.self.invariant c.args.self.now c.self.view_is (at c.args.addr) c.args.layout.align c.requires in
+    payload_found c.self.invariant.stands c.get-payload.ensures.value c.align.ensures.value live c.used_block-block.ensures.counts c.used_block-block.ensures.block
 
 pub used_block-block-requires-clause-live : goal.used_block-block-requires-clause-live
 used_block-block-requires-clause-live g c =
-    let s = read_from c.self.inside.memory c.self.inside.state.state in
-    let live = live_inside c.self.invariant c.args.self.now c.self.view_is (at c.args.addr) c.args.layout.align c.requires in
-    (g.row.FLLEN, g.row.SLLEN, c.self.inside.table, s, c.self.invariant.stands, subst (λ a. IsLive s c.get-payload.result a) (sym c.align.ensures.value) (subst (λ p. IsLive s p c.args.layout.align) (sym c.get-payload.ensures.value) live))
+    live_in c.self.invariant.stands c.get-payload.ensures.value c.align.ensures.value (live_inside c.self.invariant c.args.self.now c.self.view_is (at c.args.addr) c.args.layout.align c.requires)
 
 pub reallocate_block-requires : goal.reallocate_block-requires
 reallocate_block-requires g c =
     let before = (goal.at.reallocate_block-requires g c).After-used_block-block in
-    let (u, holds, is) = block g before in
-    (search rules, (c.self.invariant.valid, ((state g before, u, read_in g before, used_at g before u holds is), search rules)))
+    let f = found g before in
+    (search rules, (c.self.invariant.valid, ((state g before, f.used, f.stands, f.used_at), search rules)))
 
 -- ---- the refusal
 
@@ -74,11 +57,11 @@ module _ (g : given.Over) (c : After-from_residual g) where
       × StandsFor g.row.FLLEN g.row.SLLEN (contents c.reallocate_block.new.memory c.reallocate_block.new.table) (state g before)
       × KeepsSpare c.self.inside.memory (state g before) c.reallocate_block.new.memory (state g before)
   staying =
-      let (u, holds, is) = block g before in
+      let f = found g before in
       let s = state g before in
       let counts = c.used_block-block.ensures.counts in
-      let (t, step, stands, spare) = c.in_err-moved.ensures.step s u (read_in g before) (used_at g before u holds is) in
-      let told : Reallocates g.row.SLLEN s (at c.args.addr) c.args.layout.size None t = record { block = u; holds = holds; step = step } in
+      let (t, step, stands, spare) = c.in_err-moved.ensures.step s f.used f.stands f.used_at in
+      let told : Reallocates g.row.SLLEN s (at c.args.addr) c.args.layout.size None t = record { block = f.used; holds = f.holds; step = step } in
       let same : t ≡ s = refusal_changes_nothing g.row.FLLEN g.row.SLLEN s t (reallocate (at c.args.addr) c.args.layout.size None) told refl in
       subst (λ (x : State). Reallocates g.row.SLLEN s (at c.args.addr) c.args.layout.size None x
       × StandsFor g.row.FLLEN g.row.SLLEN (contents c.reallocate_block.new.memory c.reallocate_block.new.table) x × KeepsSpare c.self.inside.memory s c.reallocate_block.new.memory x) same
@@ -99,49 +82,45 @@ returns-in_err-moved-clause-step g c =
 pub returns-in_err-moved-clause-copied : goal.returns-in_err-moved-clause-copied
 returns-in_err-moved-clause-copied g c =
     let before = (goal.at.returns-in_err-moved-clause-copied g c).After-used_block-block in
-    let (u, holds, is) = block g before in
+    let f = found g before in
     let counted = ap (λ (o : Allocator). o.memory.copied) c.self.view_is in
-    let least = c.reallocate_block.ensures.copied (state g before) u (read_in g before) (used_at g before u holds is) in
-    let long = ap length (bytes_inside c.self.invariant c.args.self.now c.self.view_is (at c.args.addr) u holds) ∙ (c.self.invariant.stands.well_formed.used u holds.0).bytes in
+    let least = c.reallocate_block.ensures.copied (state g before) f.used f.stands f.used_at in
+    let long = ap length (bytes_inside c.self.invariant c.args.self.now c.self.view_is (at c.args.addr) f.used f.holds) ∙ (c.self.invariant.stands.well_formed.used f.used f.holds.0).bytes in
     omega (arith, c.used_block-block.ensures.counts.copied, least, long, counted)
 
 pub returns-clause-copied : goal.returns-clause-copied
 returns-clause-copied g c =
     let before = (goal.at.returns-clause-copied g c).After-used_block-block in
-    let (u, holds, is) = block g before in
+    let f = found g before in
     let counted = ap (λ (o : Allocator). o.memory.copied) c.self.view_is in
-    let least = c.reallocate_block.ensures.copied (state g before) u (read_in g before) (used_at g before u holds is) in
-    let long = ap length (bytes_inside c.self.invariant c.args.self.now c.self.view_is (at c.args.addr) u holds) ∙ (c.self.invariant.stands.well_formed.used u holds.0).bytes in
+    let least = c.reallocate_block.ensures.copied (state g before) f.used f.stands f.used_at in
+    let long = ap length (bytes_inside c.self.invariant c.args.self.now c.self.view_is (at c.args.addr) f.used f.holds) ∙ (c.self.invariant.stands.well_formed.used f.used f.holds.0).bytes in
     omega (arith, c.used_block-block.ensures.counts.copied, least, long, counted)
 
 -- none, where the payload stays or takes from the block behind
 stays : (g : given.Over) (c : After-used_block-block g) (u : Used) (p : Plan) → Holds c.args.self.now.state (at c.args.addr) u
     → or_else (in_place c.args.self.now.state u c.args.layout.size) (into_next c.args.self.now.state u c.args.layout.size) ≡ Some p
-    → (v : Used) × Holds (state g c) (at c.args.addr) v × (v.align ≡ c.args.layout.align) × (or_else (in_place (state g c) v c.args.layout.size) (into_next (state g c) v c.args.layout.size) ≡ Some p)
+    → or_else (in_place (state g c) (found g c).used c.args.layout.size) (into_next (state g c) (found g c).used c.args.layout.size) ≡ Some p
 stays g c u p held first =
-    let (v, holds, is) = block g c in
+    let f = found g c in
     let inside : Holds (state g c) (at c.args.addr) u = subst (λ (o : Allocator). Holds o.state (at c.args.addr) u) (sym c.self.view_is) held in
-    let one : u ≡ v = Holds-unique c.self.invariant.stands.well_formed (at c.args.addr) u v inside holds in (
-      v,
-      holds,
-      is,
-      subst (λ (y : Used). or_else (in_place (state g c) y c.args.layout.size) (into_next (state g c) y c.args.layout.size) ≡ Some p) one
-          (subst (λ (o : Allocator). or_else (in_place o.state u c.args.layout.size) (into_next o.state u c.args.layout.size) ≡ Some p) (sym c.self.view_is) first),
-    )
+    let one : u ≡ f.used = Holds-unique c.self.invariant.stands.well_formed (at c.args.addr) u f.used inside f.holds in
+    subst (λ (y : Used). or_else (in_place (state g c) y c.args.layout.size) (into_next (state g c) y c.args.layout.size) ≡ Some p) one
+    (subst (λ (o : Allocator). or_else (in_place o.state u c.args.layout.size) (into_next o.state u c.args.layout.size) ≡ Some p) (sym c.self.view_is) first)
 
 pub returns-in_err-moved-clause-stays : goal.returns-in_err-moved-clause-stays
 returns-in_err-moved-clause-stays g c = λ room.
     let (u, p, held, first) = room in
     let before = (goal.at.returns-in_err-moved-clause-stays g c).After-used_block-block in
-    let (v, holds, is, planned) = stays g before u p held first in
-    c.reallocate_block.ensures.stays (state g before) v (read_in g before) (used_at g before v holds is) p planned ∙ c.used_block-block.ensures.counts.copied ∙ ap (λ (o : Allocator). o.memory.copied) c.self.view_is
+    let f = found g before in
+    c.reallocate_block.ensures.stays (state g before) f.used f.stands f.used_at p (stays g before u p held first) ∙ c.used_block-block.ensures.counts.copied ∙ ap (λ (o : Allocator). o.memory.copied) c.self.view_is
 
 pub returns-clause-stays : goal.returns-clause-stays
 returns-clause-stays g c = λ room.
     let (u, p, held, first) = room in
     let before = (goal.at.returns-clause-stays g c).After-used_block-block in
-    let (v, holds, is, planned) = stays g before u p held first in
-    c.reallocate_block.ensures.stays (state g before) v (read_in g before) (used_at g before v holds is) p planned ∙ c.used_block-block.ensures.counts.copied ∙ ap (λ (o : Allocator). o.memory.copied) c.self.view_is
+    let f = found g before in
+    c.reallocate_block.ensures.stays (state g before) f.used f.stands f.used_at p (stays g before u p held first) ∙ c.used_block-block.ensures.counts.copied ∙ ap (λ (o : Allocator). o.memory.copied) c.self.view_is
 
 -- ---- the payload with another size
 
@@ -153,11 +132,11 @@ module _ (g : given.Over) (c : After-new g) where
       × StandsFor g.row.FLLEN g.row.SLLEN (contents c.reallocate_block.new.memory c.reallocate_block.new.table) t
       × KeepsSpare c.self.inside.memory (state g early) c.reallocate_block.new.memory t
   moving =
-      let (u, holds, is) = block g early in
+      let f = found g early in
       let s = state g early in
       let counts = c.used_block-block.ensures.counts in
-      let (t, step, stands, spare) = c.in_ok-moved.ensures.step s u (read_in g early) (used_at g early u holds is) in
-      (t, record { block = u; holds = holds; step = step }, stands, KeepsSpare-counted_first c.self.inside.memory c.used_block-block.new.memory counts.start counts.bytes s t c.reallocate_block.new.memory spare)
+      let (t, step, stands, spare) = c.in_ok-moved.ensures.step s f.used f.stands f.used_at in
+      (t, record { block = f.used; holds = f.holds; step = step }, stands, KeepsSpare-counted_first c.self.inside.memory c.used_block-block.new.memory counts.start counts.bytes s t c.reallocate_block.new.memory spare)
 
   -- what is kept of the state is the one after
   kept : (t : State) → Reallocates g.row.SLLEN (state g early) (at c.args.addr) c.args.layout.size (Some c.in_ok-moved.moved) t → c.reallocate.new.self.state ≡ bare t

@@ -1,23 +1,22 @@
-use Rattle.std.proofs.Common.{◌≡◌, ℕ, eqb, Some, None, arith, refl, sym, ◌∙◌, ap, subst, ◌≤◌, ◌+◌, rules}
+use Rattle.std.proofs.Common.{◌≡◌, ℕ, eqb, Some, None, refl, sym, ◌∙◌, ap, subst, ◌≤◌, ◌+◌, rules}
 use Rattle.std.proofs.lemmas.Bool.{eqb-true, eqb-false}
 use Rattle.rlsf_base.specs.Addr.{at}
 use Rattle.rlsf_machine.specs.Callers.{align_at, bytes_at}
 use Rattle.rlsf_machine.specs.NoMove.{ReallocatesUnmovedBy, ReallocatesWithoutMove}
 use Rattle.rlsf_machine.specs.Reallocate.{Reallocates, Replans}
-use Rattle.rlsf_machine.specs.State.{State, Used, Holds, IsLive}
+use Rattle.rlsf_machine.specs.State.{State}
 use Rattle.rlsf_machine.proofs.CallerWords.{SeesResized, align_at-live, resized_seen}
-use Rattle.rlsf_machine.proofs.Changes.{Holds-unique}
 use Rattle.rlsf_machine.proofs.Coverage.{by_test}
 use Rattle.rlsf_machine.proofs.NoMove.{unmoved_is_reallocated}
 use Rattle.rlsf_blocks.specs.Laws.{read_from}
 use Rattle.rlsf_blocks.specs.Spare.{KeepsSpare}
 use Rattle.rlsf_blocks.specs.StandsFor.{contents, StandsFor}
-use Rattle.rlsf_blocks.proofs.Machine.Counted.{KeepsSpare-counted, KeepsSpare-counted_first, StandsFor-counted}
-use Rattle.rlsf_resize.specs.Steps.Resize.{IsUsedAt}
+use Rattle.rlsf_blocks.proofs.Machine.Counted.{KeepsSpare-counted, KeepsSpare-counted_first}
 use Rattle.rlsf_resize.proofs.Reallocate.FirstPlan.{StandsFor-unchanged}
 use Rattle.rlsf_tlsf.specs.Allocator.{Allocator, allocator, Steps}
 use Rattle.rlsf_tlsf.specs.Steps.Moves.{bare, reallocated}
 use Rattle.rlsf_tlsf.proofs.Arrivals.{IsAllocator-arrived, Steps-arrived, arrived, bare-kept, live_inside, opened, view_well_formed}
+use Rattle.rlsf_tlsf.proofs.Found.{Found, live_in, payload_found}
 use Rattle.rlsf_tlsf.proofs.Moved.{reallocated-bare}
 use Rattle.rlsf_base.specs.Space.{SamePlace}
 use Rattle.rlsf_machine.proofs.Chunks.{chunks-reallocated}
@@ -30,38 +29,21 @@ use Rattle.rlsf_tlsf.proofs.tlsf.Tlsf.reallocate_no_move.Goals.{After-used_block
 abbrev state : (g : given.Over) (c : After-used_block-block g) → State
 state g c = read_from c.self.inside.memory c.self.inside.state.state
 
--- the payload's block
-block : (g : given.Over) (c : After-used_block-block g) → (u : Used) × Holds (state g c) (at c.args.addr) u × (u.align ≡ c.args.layout.align)
-block g c = live_inside c.self.invariant c.args.self.now c.self.view_is (at c.args.addr) c.args.layout.align c.requires
-
--- the block that was found is the payload's
-used_at : (g : given.Over) (c : After-used_block-block g) (u : Used) → Holds (state g c) (at c.args.addr) u → u.align ≡ c.args.layout.align
-    → IsUsedAt (state g c) u c.used_block-block.result c.get-payload.result c.args.layout.align
-used_at g c u holds is =
-    let addr = at c.args.addr in
-    let s = state g c in
-    let v = c.self.invariant.stands in
-    let (x, (i, here), same, start) = c.used_block-block.ensures.block g.row.FLLEN g.row.SLLEN c.self.inside.table s v (subst (λ p. IsLive s p c.align.result) (sym c.get-payload.ensures.value) (u, holds, is ∙ sym c.align.ensures.value)) in
-    let one : u ≡ x = Holds-unique v.well_formed addr u x holds (i, here ∙ c.get-payload.ensures.value) in
-    record { is_used = holds.0; start = ap (λ y. y.block.start) one ∙ start; caller = holds.1 ∙ sym c.get-payload.ensures.value; alignment = is }
-
--- the memory in which it was sought stands for the same state
-read_in : (g : given.Over) (c : After-used_block-block g) → StandsFor g.row.FLLEN g.row.SLLEN (contents c.used_block-block.new.memory c.self.inside.table) (state g c)
-read_in g c =
-    let counts = c.used_block-block.ensures.counts in
-    StandsFor-counted c.self.inside.memory c.used_block-block.new.memory counts.start counts.bytes c.self.invariant.stands
+-- the payload's block, once it was found
+found : (g : given.Over) (c : After-used_block-block g) → Found g.row.FLLEN g.row.SLLEN (contents c.used_block-block.new.memory c.self.inside.table) (state g c) (at c.args.addr) c.used_block-block.result c.get-payload.result c.args.layout.align
+found g c =
+    let live = live_inside c.self.invariant c.args.self.now c.self.view_is (at c.args.addr) c.args.layout.align c.requires in
+    payload_found c.self.invariant.stands c.get-payload.ensures.value c.align.ensures.value live c.used_block-block.ensures.counts c.used_block-block.ensures.block
 
 pub used_block-block-requires-clause-live : goal.used_block-block-requires-clause-live
 used_block-block-requires-clause-live g c =
-    let s = read_from c.self.inside.memory c.self.inside.state.state in
-    let live = live_inside c.self.invariant c.args.self.now c.self.view_is (at c.args.addr) c.args.layout.align c.requires in
-    (g.row.FLLEN, g.row.SLLEN, c.self.inside.table, s, c.self.invariant.stands, subst (λ a. IsLive s c.get-payload.result a) (sym c.align.ensures.value) (subst (λ p. IsLive s p c.args.layout.align) (sym c.get-payload.ensures.value) live))
+    live_in c.self.invariant.stands c.get-payload.ensures.value c.align.ensures.value (live_inside c.self.invariant c.args.self.now c.self.view_is (at c.args.addr) c.args.layout.align c.requires)
 
 pub resize_block-requires : goal.resize_block-requires
 resize_block-requires g c =
     let before = (goal.at.resize_block-requires g c).After-used_block-block in
-    let (u, holds, is) = block g before in
-    (search rules, (c.self.invariant.valid, ((state g before, u, read_in g before, used_at g before u holds is), search rules)))
+    let f = found g before in
+    (search rules, (c.self.invariant.valid, ((state g before, f.used, f.stands, f.used_at), search rules)))
 
 -- ---- the refusal
 
@@ -71,7 +53,7 @@ module _ (g : given.Over) (c : Then-not-resize_block g) where
   before = (goal.at.returns-then-not-resize_block-clause-step g c).After-used_block-block
 
   stands : StandsFor g.row.FLLEN g.row.SLLEN (contents c.resize_block.new.memory c.resize_block.new.table) (state g before)
-  stands = StandsFor-unchanged c.used_block-block.new.memory c.resize_block.new.memory c.self.inside.table c.resize_block.new.table (state g before) 2 (c.resize_block.ensures.unchanged c.if-not-resize_block.true) (read_in g before)
+  stands = StandsFor-unchanged c.used_block-block.new.memory c.resize_block.new.memory c.self.inside.table c.resize_block.new.table (state g before) 2 (c.resize_block.ensures.unchanged c.if-not-resize_block.true) (found g before).stands
 
   keeps : KeepsSpare c.self.inside.memory (state g before) c.resize_block.new.memory (state g before)
   keeps =
@@ -81,9 +63,9 @@ module _ (g : given.Over) (c : Then-not-resize_block g) where
 
   refused : ReallocatesWithoutMove (state g before) (at c.args.addr) c.args.layout.size None (state g before)
   refused =
-      let (u, holds, is) = block g before in
-      let none = c.resize_block.ensures.refused (state g before) u (read_in g before) (used_at g before u holds is) c.if-not-resize_block.true in
-      record { block = u; holds = holds; step = subst (λ o. ReallocatesUnmovedBy (state g before) u o None (state g before)) (sym none) refl }
+      let f = found g before in
+      let none = c.resize_block.ensures.refused (state g before) f.used f.stands f.used_at c.if-not-resize_block.true in
+      record { block = f.used; holds = f.holds; step = subst (λ o. ReallocatesUnmovedBy (state g before) f.used o None (state g before)) (sym none) refl }
 
 pub invariant_of-self : goal.invariant_of-self
 invariant_of-self g c = IsAllocator-arrived (stands g c) c.self.inside.state.state (sym (bare-kept c.self.invariant)) c.self.invariant.valid
@@ -107,14 +89,14 @@ module _ (g : given.Over) (c : After-reallocate g) where
       × StandsFor g.row.FLLEN g.row.SLLEN (contents c.resize_block.new.memory c.resize_block.new.table) t
       × KeepsSpare c.self.inside.memory (state g early) c.resize_block.new.memory t
   resized =
-      let (u, holds, is) = block g early in
+      let f = found g early in
       let s = state g early in
       let counts = c.used_block-block.ensures.counts in
-      let (p, first, there, carried) = c.resize_block.ensures.done s u (read_in g early) (used_at g early u holds is) c.if-not-resize_block.false in
+      let (p, first, there, carried) = c.resize_block.ensures.done s f.used f.stands f.used_at c.if-not-resize_block.false in
       let (t, replans, stands, spare) = carried in
-      let by = subst (λ a. Replans s u p a t) (there ∙ c.get-payload.ensures.value) replans in
+      let by = subst (λ a. Replans s f.used p a t) (there ∙ c.get-payload.ensures.value) replans in
       let told : ReallocatesWithoutMove s (at c.args.addr) c.args.layout.size (Some (at c.args.addr)) t =
-      record { block = u; holds = holds; step = subst (λ o. ReallocatesUnmovedBy s u o (Some (at c.args.addr)) t) (sym first) by } in
+      record { block = f.used; holds = f.holds; step = subst (λ o. ReallocatesUnmovedBy s f.used o (Some (at c.args.addr)) t) (sym first) by } in
       (t, told, stands, KeepsSpare-counted_first c.self.inside.memory c.used_block-block.new.memory counts.start counts.bytes s t c.resize_block.new.memory spare)
 
   -- what is kept of the state is the one after
