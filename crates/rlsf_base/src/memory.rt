@@ -192,7 +192,11 @@ impl Memory {
         ensures { result ≡ word_at self.now addr }
     {
         let b = self.slice_at(view, word_range(addr));
-        u64::from_le_bytes([b[0], b[1], b[2], b[3], b[4], b[5], b[6], b[7]])
+        // As one array, which LLVM reads at once: of eight bytes it would read some alone, where a caller asks for part of the word.
+        match b.first_chunk::<8>() {
+            Some(chunk) => u64::from_le_bytes(*chunk),
+            None => 0,
+        }
     }
 
     /// The word at `addr`, as `word` gives it, counted as one touch.
