@@ -1,10 +1,11 @@
 //! Size classes: the rows of an allocator begin at the powers of two from 32 on, and `SLLEN` classes of equal width cut
 //! each row.
 //!
-//! Each function but `request_size` is generic in an allocator's parameters. They are valid: there are from 1 to
-//! `FLBitmap`'s bits rows, each of a power of two of classes that is at most `SLBitmap`'s bits. A size is a nonzero
-//! multiple of 32, in bytes. A class is named by its row, counted from 0, and its place in the row. No function refuses
-//! or panics within its condition, none asks the system for memory, and the work of each is constant.
+//! Each function but `request_size` is generic in an allocator's parameters, and `class_of` in the length of a row alone.
+//! They are valid: there are from 1 to `FLBitmap`'s bits rows, each of a power of two of classes that is at most
+//! `SLBitmap`'s bits. A size is a nonzero multiple of 32, in bytes. A class is named by its row, counted from 0, and its
+//! place in the row. No function refuses or panics within its condition, none asks the system for memory, and the work of
+//! each is constant.
 
 ghost use Rattle.std.specs.Prelude.{◌≡◌, ◌%◌, ◌^◌, ◌<◌, ◌≤◌, ◌*◌, ◌-◌, IsTrue, IfSome, IfNone};
 ghost use Rattle.rlsf_base.specs.ClassLaws.{MappedIsFirstReaching, UnmappedIsEnough, UnmappedBeginsItsClass, UnreachedIsNotUnmapped, LongestBlockHasAClass, PoolIsOneChunk, PoolContainsItsAllocation};
@@ -183,9 +184,10 @@ fn within_rows<const FLLEN: usize>(class: (usize, usize)) -> Option<(usize, usiz
     if class.0 < FLLEN { Some(class) } else { None }
 }
 
-// The class of a size. The exponent of its row, 5 in the first one, is the position of its highest one. With that at
-// position 63, the leading positions, one more than a place has, are the number SLLEN + place.
-fn class_of<const SLLEN: usize>(size: usize) -> (usize, usize)
+/// The class of a size, by its row and its place there, whether or not an allocator has so many rows.
+// The exponent of its row, 5 in the first one, is the position of its highest one. With that at position 63, the leading
+// positions, one more than a place has, are the number SLLEN + place.
+pub fn class_of<const SLLEN: usize>(size: usize) -> (usize, usize)
     requires parameters { IsTrue (is_row_length SLLEN) }
     requires size { 32 ≤ size }
     ensures { result ≡ sizes.indices (class_of SLLEN size) }

@@ -11,7 +11,7 @@ ghost use Rattle.rlsf_table.specs.FreeTable.{AtEachListed, AtEachNewest, AtEachR
 ghost use Rattle.rlsf_table.specs.Table.{IsNewestAt};
 
 use crate::table::ClassTable;
-use rlsf_base::classes::map_floor;
+use rlsf_base::classes::class_of;
 use rlsf_base::memory::{Memory, View};
 use rlsf_int::Bitmap;
 
@@ -104,9 +104,7 @@ pub fn link<FLBitmap: Bitmap, SLBitmap: Bitmap, const FLLEN: usize, const SLLEN:
     ensures copied { memory.new.copied ≡ memory.old.copied }
     ensures view { memory.new.view ≡ memory.old.view }
 {
-    let Some((fl, sl)) = map_floor::<FLBitmap, SLBitmap, FLLEN, SLLEN>(len) else {
-        unreachable!()
-    };
+    let (fl, sl) = class_of::<SLLEN>(len);
     let newest = table.head(memory, fl, sl);
     link_front(memory, view, newest, block);
     table.put(memory, fl, sl, block);
@@ -136,9 +134,7 @@ pub fn unlink<FLBitmap: Bitmap, SLBitmap: Bitmap, const FLLEN: usize, const SLLE
 {
     let newest = unlink_between(memory, view, block);
     if let Some(next) = newest {
-        let Some((fl, sl)) = map_floor::<FLBitmap, SLBitmap, FLLEN, SLLEN>(len) else {
-            unreachable!()
-        };
+        let (fl, sl) = class_of::<SLLEN>(len);
         table.take(memory, fl, sl, next);
     }
 }

@@ -1,11 +1,9 @@
 -- The two indices of the class of a free block.
-use Rattle.std.proofs.Common.{◌≡◌, ℕ, ◌+◌, ◌-◌, ◌≤◌, Some, None, arith, sym, ◌∙◌, ap}
+use Rattle.std.proofs.Common.{◌≡◌, ℕ, ◌+◌, ◌-◌, ◌≤◌, arith, refl, sym, ◌∙◌, ap}
 use mathlib.Core.Path.{ap₂}
-use Rattle.std.proofs.lemmas.Bool.{cond-true, lt-ltb}
-use Rattle.std.proofs.lemmas.Option.{same_Some}
 use Rattle.rlsf_base.specs.PowerOfTwo.{floor_log2}
 use Rattle.rlsf_base.specs.SizeClass.{class_of, IsValid}
-use Rattle.rlsf_base.specs.Sizes.{IsSize, map_floor}
+use Rattle.rlsf_base.specs.Sizes.{indices}
 use Rattle.rlsf_base.specs.declared.memory.range.Range.{Range}
 use Rattle.rlsf_base.proofs.Numbers.PowersOfTwo.{floor_log2-lt, pow-between}
 use Rattle.rlsf_base.proofs.SizeClasses.Reach.{division-lt}
@@ -15,24 +13,16 @@ use Rattle.rlsf_table.specs.Table.{IsClassAt}
 
 module _ {fl_bits sl_bits fllen sllen : ℕ} {r : Range} (valid : IsValid fl_bits sl_bits fllen sllen) (free : IsFree fllen sllen r) where
   -- a block has room for four words
-  room : 32 ≤ r.len
+  pub room : 32 ≤ r.len
   room = omega (arith, free.some, free.whole.len)
 
   exponent-le : 5 ≤ floor_log2 r.len
   exponent-le = pow-between r.len 5 (floor_log2 r.len) room (floor_log2-lt r.len free.some)
 
-  map_floor-free : map_floor fllen sllen r.len ≡ Some ((class_of sllen r.len).exponent - 5, (class_of sllen r.len).division)
-  map_floor-free =
+  -- the indices that a size's class has
+  IsClassAt-indices : (fl sl : ℕ) → fl ≡ (class_of sllen r.len).exponent - 5 → sl ≡ (class_of sllen r.len).division → IsClassAt fllen sllen r.len fl sl
+  IsClassAt-indices fl sl fl_is sl_is =
       let c = class_of sllen r.len in
-      cond-true _ (Some (c.exponent - 5, c.division)) None (lt-ltb c.exponent (5 + fllen) free.valid)
-
-  -- the indices that were told
-  pub IsClassAt-map_floor : (fl sl : ℕ) → Some (fl, sl) ≡ map_floor fllen sllen r.len → IsClassAt fllen sllen r.len fl sl
-  IsClassAt-map_floor fl sl told =
-      let c = class_of sllen r.len in
-      let pair = same_Some _ _ (told ∙ map_floor-free) in
-      let fl_is : fl ≡ c.exponent - 5 = ap (λ p. p.0) pair in
-      let sl_is : sl ≡ c.division = ap (λ p. p.1) pair in
       let exponent : c.exponent ≡ 5 + fl = omega (arith, exponent-le) in
       record {
         row = omega (arith, free.valid, exponent);
@@ -41,13 +31,11 @@ module _ {fl_bits sl_bits fllen sllen : ℕ} {r : Range} (valid : IsValid fl_bit
       }
 
   -- they are told of the block's length
-  pub IsClassAt-told : (len fl sl : ℕ) → r.len ≡ len → Some (fl, sl) ≡ map_floor fllen sllen len → IsClassAt fllen sllen r.len fl sl
-  IsClassAt-told len fl sl same told = IsClassAt-map_floor fl sl (told ∙ ap (map_floor fllen sllen) (sym same))
+  pub IsClassAt-told : (len : ℕ) (told : ℕ × ℕ) → r.len ≡ len → told ≡ indices (class_of sllen len) → IsClassAt fllen sllen r.len told.0 told.1
+  IsClassAt-told len told same is =
+      let pair = is ∙ ap (λ n. indices (class_of sllen n)) (sym same) in
+      IsClassAt-indices told.0 told.1 (ap (λ p. p.0) pair) (ap (λ p. p.1) pair)
 
   -- its own indices
   pub indices_of : (fl : ℕ) × (sl : ℕ) × IsClassAt fllen sllen r.len fl sl
-  indices_of = let c = class_of sllen r.len in (c.exponent - 5, c.division, IsClassAt-map_floor (c.exponent - 5) c.division (sym map_floor-free))
-
--- the length of a block is a size
-pub IsSize-free : {fllen sllen : ℕ} {r : Range} → IsFree fllen sllen r → IsSize r.len
-IsSize-free free = (free.some, free.whole.len)
+  indices_of = let c = class_of sllen r.len in (c.exponent - 5, c.division, IsClassAt-indices (c.exponent - 5) c.division refl refl)

@@ -1,47 +1,52 @@
 -- The indices are those of the block's class, and the table has the block in front of that class's list.
-use Rattle.std.proofs.Common.{rules}
+use Rattle.std.proofs.Common.{arith, rules}
 use Rattle.rlsf_table.specs.Table.{of_class}
 use Rattle.rlsf_table.proofs.Tables.Linking.{coverage-front_class, HasTable-front, IsFreeList-of_class_from, Rewrites-front_class}
 use Rattle.rlsf_table.proofs.FreeLists.Counted.{HasTable-counted, IsRoom-counted, Rewrites-counted_first, Rewrites-counted_last}
-use Rattle.rlsf_table.proofs.FreeLists.Indices.{IsClassAt-told}
+use Rattle.rlsf_table.proofs.FreeLists.Indices.{IsClassAt-told, room}
 use Rattle.rlsf_table.proofs.list.link.Goals as goal
+
+pub class_of-fl-requires-clause-size : goal.class_of-fl-requires-clause-size
+class_of-fl-requires-clause-size g c =
+    let (r, free, place, len, beside) = c.requires.room in
+    omega (arith, len, room c.requires.parameters beside.block)
 
 pub head-newest-requires : goal.head-newest-requires
 head-newest-requires g c =
-    let (r, free, place, len, room) = c.requires.room in
-    let at = IsClassAt-told c.requires.parameters room.block c.args.len c.in-Some.fl c.in-Some.sl len c.in-Some.ensures in
+    let (r, free, place, len, beside) = c.requires.room in
+    let at = IsClassAt-told c.requires.parameters beside.block c.args.len c.class_of-fl.result len c.class_of-fl.ensures in
     (search rules, (at.row, at.place))
 
 pub link_front-requires-clause-place : goal.link_front-requires-clause-place
 link_front-requires-clause-place g c =
-    let fl = c.in-Some.fl in
-    let sl = c.in-Some.sl in
-    let (r, free, place, len, room) = c.requires.room in
-    let at = IsClassAt-told c.requires.parameters room.block c.args.len fl sl len c.in-Some.ensures in
+    let fl = c.class_of-fl.result.0 in
+    let sl = c.class_of-fl.result.1 in
+    let (r, free, place, len, beside) = c.requires.room in
+    let at = IsClassAt-told c.requires.parameters beside.block c.args.len c.class_of-fl.result len c.class_of-fl.ensures in
     let counts = c.head-newest.ensures.counts in
-    let kept = IsRoom-counted c.args.memory.now c.head-newest.new.memory counts.start counts.bytes room in
+    let kept = IsRoom-counted c.args.memory.now c.head-newest.new.memory counts.start counts.bytes beside in
     let list = IsFreeList-of_class_from kept.list fl sl at.row at.place c.head-newest.result c.head-newest.ensures.value in
     (r, of_class g.row.SLLEN fl sl free, place, list, kept.placed, coverage-front_class fl sl kept at)
 
 pub put-requires : goal.put-requires
 put-requires g c =
-    let (r, free, place, len, room) = c.requires.room in
-    let at = IsClassAt-told c.requires.parameters room.block c.args.len c.in-Some.fl c.in-Some.sl len c.in-Some.ensures in
+    let (r, free, place, len, beside) = c.requires.room in
+    let at = IsClassAt-told c.requires.parameters beside.block c.args.len c.class_of-fl.result len c.class_of-fl.ensures in
     (search rules, (c.requires.parameters, (at.row, at.place)))
 
 pub returns-clause-step : goal.returns-clause-step
-returns-clause-step g c r free place len room =
+returns-clause-step g c r free place len beside =
     let m = c.args.memory.now in
     let n = c.head-newest.new.memory in
     let o = c.link_front.new.memory in
-    let fl = c.in-Some.fl in
-    let sl = c.in-Some.sl in
-    let at = IsClassAt-told c.requires.parameters room.block c.args.len fl sl len c.in-Some.ensures in
+    let fl = c.class_of-fl.result.0 in
+    let sl = c.class_of-fl.result.1 in
+    let at = IsClassAt-told c.requires.parameters beside.block c.args.len c.class_of-fl.result len c.class_of-fl.ensures in
     let read = c.head-newest.ensures.counts in
-    let kept = IsRoom-counted m n read.start read.bytes room in
+    let kept = IsRoom-counted m n read.start read.bytes beside in
     let list = IsFreeList-of_class_from kept.list fl sl at.row at.place c.head-newest.result c.head-newest.ensures.value in
     let (linked, rewrites) = c.link_front.ensures.step r (of_class g.row.SLLEN fl sl free) place list kept.placed (coverage-front_class fl sl kept at) in
-    let bits = c.put.ensures.bits r free at.class room.list.table.bits in
+    let bits = c.put.ensures.bits r free at.class beside.list.table.bits in
     let counts = c.put.ensures.counts in (
       HasTable-counted o c.put.new.memory counts.start counts.bytes (HasTable-front fl sl kept at c.args.block place c.put.ensures.heads bits linked rewrites),
       Rewrites-counted_first m n read.start read.bytes (Rewrites-counted_last o c.put.new.memory counts.start counts.bytes (Rewrites-front_class fl sl kept at rewrites)),

@@ -1,13 +1,12 @@
 -- The block is taken out of the list of its class; where it was the newest one there, the class's head is set.
-use Rattle.std.proofs.Common.{◌∷◌, inl, refl, rules, subst}
-use Rattle.rlsf_base.specs.Sizes.{IsSize}
+use Rattle.std.proofs.Common.{◌∷◌, arith, inl, refl, rules}
 use Rattle.rlsf_machine.proofs.Choices.{has_class-from}
 use Rattle.rlsf_machine.proofs.Coverage.{IsIn-append_right}
 use Rattle.rlsf_table.specs.Table.{class_at, head_at, of_class}
 use Rattle.rlsf_table.proofs.Tables.Linking.{HasTable-removal, HasTable-removal_behind, IsFreeList-amid, IsFreeList-of_class, IsHeadOf-removal, Rewrites-amid_class}
 use Rattle.rlsf_table.proofs.FreeLists.Classes.{IsIn-of_class_from}
 use Rattle.rlsf_table.proofs.FreeLists.Counted.{HasTable-counted, Rewrites-counted_last}
-use Rattle.rlsf_table.proofs.FreeLists.Indices.{IsClassAt-told, indices_of, IsSize-free}
+use Rattle.rlsf_table.proofs.FreeLists.Indices.{IsClassAt-told, indices_of, room}
 use Rattle.rlsf_table.proofs.list.unlink.Goals as goal
 
 pub unlink_between-newest-requires-clause-listed : goal.unlink_between-newest-requires-clause-listed
@@ -17,27 +16,27 @@ unlink_between-newest-requires-clause-listed g c =
     let (fl, sl, at) = indices_of c.requires.parameters (list.blocks r i) in
     (r, of_class sllen fl sl free, head_at c.args.table.now fl sl, place, IsIn-of_class_from sllen fl sl r free i (has_class-from sllen (class_at fl sl) r at.class), IsFreeList-of_class list fl sl at.row at.place)
 
-pub map_floor-requires-clause-size : goal.map_floor-requires-clause-size
-map_floor-requires-clause-size g c =
+pub class_of-fl-requires-clause-size : goal.class_of-fl-requires-clause-size
+class_of-fl-requires-clause-size g c =
     let (r, free, place, len, i, list) = c.requires.listed in
-    subst IsSize len (IsSize-free (list.blocks r i))
+    omega (arith, len, room c.requires.parameters (list.blocks r i))
 
 pub take-requires : goal.take-requires
 take-requires g c =
     let (r, free, place, len, i, list) = c.requires.listed in
-    let at = IsClassAt-told c.requires.parameters (list.blocks r i) c.args.len c.in-Some-map_floor.fl c.in-Some-map_floor.sl len c.in-Some-map_floor.ensures in
+    let at = IsClassAt-told c.requires.parameters (list.blocks r i) c.args.len c.class_of-fl.result len c.class_of-fl.ensures in
     (search rules, (c.requires.parameters, (at.row, at.place)))
 
-pub returns-in-Some-map_floor-clause-step : goal.returns-in-Some-map_floor-clause-step
-returns-in-Some-map_floor-clause-step g c r before after place len list =
+pub returns-in-Some-clause-step : goal.returns-in-Some-clause-step
+returns-in-Some-clause-step g c r before after place len list =
     let sllen = g.row.SLLEN in
     let n = c.unlink_between-newest.new.memory in
     let o = c.take.new.memory in
-    let fl = c.in-Some-map_floor.fl in
-    let sl = c.in-Some-map_floor.sl in
+    let fl = c.class_of-fl.result.0 in
+    let sl = c.class_of-fl.result.1 in
     let next = c.in-Some.next in
     let block = list.blocks r (IsIn-append_right r before (r ∷ after) (inl refl)) in
-    let at = IsClassAt-told c.requires.parameters block c.args.len fl sl len c.in-Some-map_floor.ensures in
+    let at = IsClassAt-told c.requires.parameters block c.args.len c.class_of-fl.result len c.class_of-fl.ensures in
     let (linked, rewrites) = c.in-Some.ensures.step (head_at c.args.table.now fl sl) r (of_class sllen fl sl before) (of_class sllen fl sl after) place (IsFreeList-amid before r after fl sl list at) in
     let is_head = IsHeadOf-removal before r after fl sl list at next linked rewrites in
     let bits = c.take.ensures.bits r before after at.class is_head list.table.bits in
