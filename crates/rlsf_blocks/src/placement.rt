@@ -1,12 +1,13 @@
 //! The front of a free block becomes a used block.
 
-ghost use Rattle.std.specs.Prelude.{◌≡◌, ◌+◌, ◌-◌, ◌≤◌, ◌<◌, ℕ, List, Some};
+ghost use Rattle.std.specs.Prelude.{◌≡◌, ◌+◌, ◌-◌, ◌%◌, ◌^◌, ◌≤◌, ◌<◌, ℕ, List, Some};
 ghost use Rattle.rlsf_base.specs.declared.memory.range.Range.{Range};
 ghost use Rattle.rlsf_base.specs.Range.{range_at};
 ghost use Rattle.rlsf_base.specs.SizeClass.{IsValid};
 ghost use Rattle.rlsf_base.specs.Sizes.{request_size};
 ghost use Rattle.rlsf_base.specs.Space.{SamePlace, word_at};
 ghost use Rattle.rlsf_machine.specs.Allocate.{choice, Places};
+ghost use Rattle.rlsf_machine.specs.Payload.{block_length, payload_of};
 ghost use Rattle.rlsf_machine.specs.State.{State};
 ghost use Rattle.rlsf_table.specs.Table.{IsClassAt};
 ghost use Rattle.rlsf_blocks.specs.Steps.Rest.{AtEachChosen, AtEachRest, AtEachTaken, IsInnerRoom, IsFreeBlockBehind, IsOpened, IsTaken};
@@ -74,6 +75,28 @@ fn take_out<FLBitmap: Bitmap, SLBitmap: Bitmap, const FLLEN: usize, const SLLEN:
     }
 }
 
+/// Where the payload of a layout lies in the block at `block`, and the length of that block.
+///
+/// An alignment of 16 or less rounds nothing: the payload lies 16 bytes into the block, which is as long as what was sought.
+#[inline(always)]
+fn front(block: usize, layout: Layout) -> (usize, usize)
+    requires whole { block % 32 ≡ 0 }
+    requires address { payload_of block layout.align < 2 ^ 64 }
+    requires length { block_length block (payload_of block layout.align) layout.size < 2 ^ 64 }
+    ensures payload { result.0 ≡ payload_of block layout.align }
+    ensures length { result.1 ≡ block_length block result.0 layout.size }
+{
+    if layout.align() >= GRANULARITY {
+        let payload = layout.align_up(block + HEADER);
+        (
+            payload,
+            next_multiple_of_32(payload - block + layout.size()),
+        )
+    } else {
+        (block + HEADER, next_multiple_of_32(HEADER + layout.size()))
+    }
+}
+
 /// Makes a used block for a layout of the front of the free block at `block`, the choice for it, which has the class at
 /// these indices. Answers the payload's address.
 #[inline(always)]
@@ -97,8 +120,7 @@ pub fn place<FLBitmap: Bitmap, SLBitmap: Bitmap, const FLLEN: usize, const SLLEN
     ensures view { memory.new.view ≡ memory.old.view }
 {
     let len = memory.load_at(view, block) as usize;
-    let payload = layout.align_up(block + HEADER);
-    let taken = next_multiple_of_32(payload - block + layout.size());
+    let (payload, taken) = front(block, layout);
     take_out(memory, view, table, block, len, class, taken);
     memory.set_word_at(view, block, taken as u64 + 1);
     let wide = layout.align() >= GRANULARITY;

@@ -1,8 +1,8 @@
 use Rattle.std.proofs.Common.{◌≡◌, ◌+◌, ◌-◌, ◌^◌, ◌<◌, ◌≤◌, length, Some, arith, refl, sym, ◌∙◌, ap, rules, subst}
-use Rattle.std.specs.Int.{next_multiple_of}
 use Rattle.rlsf_base.specs.declared.memory.range.Range.{Range}
 use Rattle.rlsf_base.specs.Sizes.{request_size}
 use Rattle.rlsf_machine.specs.Allocate.{choice}
+use Rattle.rlsf_machine.specs.Payload.{block_length, payload_of}
 use Rattle.rlsf_machine.specs.State.{State}
 use Rattle.rlsf_table.proofs.FreeLists.Counted.{word_at-counted}
 use Rattle.rlsf_table.proofs.Words.Writes.{Writes-none, Writes-some}
@@ -15,7 +15,7 @@ use Rattle.rlsf_blocks.proofs.Allocate.Placements.{AreComputed, AreComputed-from
 use Rattle.rlsf_machine.proofs.Allocations.{placed-fits}
 use Rattle.rlsf_blocks.proofs.placement.place.Given as given
 use Rattle.rlsf_blocks.proofs.placement.place.Goals as goal
-use Rattle.rlsf_blocks.proofs.placement.place.Goals.{After-load_at-len, After-next_multiple_of_32-taken, After-set_word_at}
+use Rattle.rlsf_blocks.proofs.placement.place.Goals.{After-load_at-len, After-front-payload, After-set_word_at}
 
 pub load_at-len-requires-clause-place : goal.load_at-len-requires-clause-place
 load_at-len-requires-clause-place g c =
@@ -25,21 +25,28 @@ load_at-len-requires-clause-place g c =
     let fit = fitting v f layout.size layout.align layout.valid.aligned chosen in
     (omega (arith, fit.whole), (omega (arith, place.0), omega (arith, place.1)))
 
-pub overflow_add-block : goal.overflow_add-block
-overflow_add-block g c =
+pub front-payload-requires-clause-whole : goal.front-payload-requires-clause-whole
+front-payload-requires-clause-whole g c =
     let (s, f, v, chosen, start) = c.requires.chosen in
     let layout = c.args.layout in
-    let place = free_in_memory v.well_formed f (is_free v f layout.size layout.align layout.valid.aligned chosen) in
-    omega (arith, place.1, v.well_formed.addressable)
+    omega (arith, (fitting v f layout.size layout.align layout.valid.aligned chosen).whole, start)
 
-pub align_up-payload-requires : goal.align_up-payload-requires
-align_up-payload-requires g c =
+pub front-payload-requires-clause-address : goal.front-payload-requires-clause-address
+front-payload-requires-clause-address g c =
     let (s, f, v, chosen, start) = c.requires.chosen in
     let layout = c.args.layout in
     let place = free_in_memory v.well_formed f (is_free v f layout.size layout.align layout.valid.aligned chosen) in
     let fit = fitting v f layout.size layout.align layout.valid.aligned chosen in
-    let below : next_multiple_of (f.start + 16) layout.align < 2 ^ 64 = omega (arith, fit.before_end, placed-fits v.well_formed f layout.size layout.align layout.valid.aligned chosen, place.1, v.well_formed.addressable) in
-    record { fits = subst (λ b. next_multiple_of (b + 16) layout.align < 2 ^ 64) start below }
+    let below : payload_of f.start layout.align < 2 ^ 64 = omega (arith, fit.before_end, placed-fits v.well_formed f layout.size layout.align layout.valid.aligned chosen, place.1, v.well_formed.addressable) in
+    subst (λ b. payload_of b layout.align < 2 ^ 64) start below
+
+pub front-payload-requires-clause-length : goal.front-payload-requires-clause-length
+front-payload-requires-clause-length g c =
+    let (s, f, v, chosen, start) = c.requires.chosen in
+    let layout = c.args.layout in
+    let place = free_in_memory v.well_formed f (is_free v f layout.size layout.align layout.valid.aligned chosen) in
+    let below : block_length f.start (payload_of f.start layout.align) layout.size < 2 ^ 64 = omega (arith, placed-fits v.well_formed f layout.size layout.align layout.valid.aligned chosen, place.1, v.well_formed.addressable) in
+    subst (λ b. block_length b (payload_of b layout.align) layout.size < 2 ^ 64) start below
 
 -- the memory whose word was read stands for the same states
 loaded : (g : given.Over) (c : After-load_at-len g) {s : State} → StandsFor g.row.FLLEN g.row.SLLEN (contents c.args.memory.now c.args.table.now) s
@@ -47,20 +54,20 @@ loaded : (g : given.Over) (c : After-load_at-len g) {s : State} → StandsFor g.
 loaded g c v = StandsFor-counted c.args.memory.now c.load_at-len.new.self c.load_at-len.ensures.start c.load_at-len.ensures.bytes v
 
 -- for each state and the choice in it, what is computed is as the definitions have it
-computed : (g : given.Over) (c : After-next_multiple_of_32-taken g) {s : State} (v : StandsFor g.row.FLLEN g.row.SLLEN (contents c.load_at-len.new.self c.args.table.now) s) (f : Range)
+computed : (g : given.Over) (c : After-front-payload g) {s : State} (v : StandsFor g.row.FLLEN g.row.SLLEN (contents c.load_at-len.new.self c.args.table.now) s) (f : Range)
     (chosen : choice g.row.SLLEN (request_size c.args.layout.size c.args.layout.align) s.free ≡ Some f) → f.start ≡ c.args.block
-    → AreComputed v f c.args.layout.size c.args.layout.align c.args.layout.valid.aligned chosen c.args.block c.load_at-len.result c.align_up-payload.result c.next_multiple_of_32-taken.result
+    → AreComputed v f c.args.layout.size c.args.layout.align c.args.layout.valid.aligned chosen c.args.block c.load_at-len.result c.front-payload.result.0 c.front-payload.result.1
 computed g c v f chosen start =
     let word = c.load_at-len.ensures.word ∙ sym (word_at-counted c.args.memory.now c.load_at-len.new.self c.load_at-len.ensures.start c.load_at-len.ensures.bytes c.args.block) in
-    AreComputed-from v f c.args.layout.size c.args.layout.align c.args.layout.valid.aligned chosen _ _ _ _ _ _ start word refl c.align_up-payload.ensures.value c.size.ensures.value c.next_multiple_of_32-taken.ensures.value
+    AreComputed-from v f c.args.layout.size c.args.layout.align c.args.layout.valid.aligned chosen _ _ _ _ _ _ start word refl c.front-payload.ensures.payload refl c.front-payload.ensures.length
 
 -- and once the block is taken out, its size word is written
 sized : (g : given.Over) (c : After-set_word_at g) {s : State} {v : StandsFor g.row.FLLEN g.row.SLLEN (contents c.load_at-len.new.self c.args.table.now) s} {f : Range}
     {chosen : choice g.row.SLLEN (request_size c.args.layout.size c.args.layout.align) s.free ≡ Some f}
-    (are : AreComputed v f c.args.layout.size c.args.layout.align c.args.layout.valid.aligned chosen c.args.block c.load_at-len.result c.align_up-payload.result c.next_multiple_of_32-taken.result)
+    (are : AreComputed v f c.args.layout.size c.args.layout.align c.args.layout.valid.aligned chosen c.args.block c.load_at-len.result c.front-payload.result.0 c.front-payload.result.1)
     → IsSized are c.take_out.new.memory c.set_word_at.new.self c.take_out.new.table
 sized g c {s} {v} {f} are =
-    IsSized-from are (c.take_out.ensures.step s f v (IsTaken-computed are)) c.set_word_at.ensures.start (wrote c.take_out.new.memory c.set_word_at.new.self c.args.block (c.next_multiple_of_32-taken.result + 1) c.set_word_at.ensures.bytes (omega arith) (omega arith)) (omega arith)
+    IsSized-from are (c.take_out.ensures.step s f v (IsTaken-computed are)) c.set_word_at.ensures.start (wrote c.take_out.new.memory c.set_word_at.new.self c.args.block (c.front-payload.result.1 + 1) c.set_word_at.ensures.bytes (omega arith) (omega arith)) (omega arith)
 
 pub take_out-requires : goal.take_out-requires
 take_out-requires g c =
@@ -68,14 +75,14 @@ take_out-requires g c =
     let at = goal.at.take_out-requires g c in
     let stands = loaded g at.After-load_at-len v in
     let class = subst (λ n. IsClassAt g.row.FLLEN g.row.SLLEN n c.args.class.0 c.args.class.1) (sym c.load_at-len.ensures.word) c.requires.class in
-    (search rules, (c.requires.parameters, (class, ((s, f, stands, IsTaken-computed (computed g at.After-next_multiple_of_32-taken stands f chosen start)), search rules))))
+    (search rules, (c.requires.parameters, (class, ((s, f, stands, IsTaken-computed (computed g at.After-front-payload stands f chosen start)), search rules))))
 
 pub set_word_at-requires-clause-place : goal.set_word_at-requires-clause-place
 set_word_at-requires-clause-place g c =
     let (s, f, v, chosen, start) = c.requires.chosen in
     let at = goal.at.set_word_at-requires-clause-place g c in
     let stands = loaded g at.After-load_at-len v in
-    let are = computed g at.After-next_multiple_of_32-taken stands f chosen start in
+    let are = computed g at.After-front-payload stands f chosen start in
     let opened = c.take_out.ensures.step s f stands (IsTaken-computed are) in
     IsWord-block are c.take_out.new.memory opened.rewrites.start opened.rewrites.length
 
@@ -83,32 +90,32 @@ pub set_word_at-requires-then-wide-clause-place : goal.set_word_at-requires-then
 set_word_at-requires-then-wide-clause-place g c =
     let (s, f, v, chosen, start) = c.requires.chosen in
     let at = goal.at.set_word_at-requires-then-wide-clause-place g c in
-    let are = computed g at.After-next_multiple_of_32-taken (loaded g at.After-load_at-len v) f chosen start in
+    let are = computed g at.After-front-payload (loaded g at.After-load_at-len v) f chosen start in
     IsWord-pad are (sized g at.After-set_word_at are) (omega arith)
 
 pub returns-then-wide-clause-step : goal.returns-then-wide-clause-step
 returns-then-wide-clause-step g c = λ s f v chosen start.
     let at = goal.at.returns-then-wide-clause-step g c in
-    let are = computed g at.After-next_multiple_of_32-taken (loaded g at.After-load_at-len v) f chosen start in
+    let are = computed g at.After-front-payload (loaded g at.After-load_at-len v) f chosen start in
     let is = sized g at.After-set_word_at are in
     let wide : 32 ≤ c.args.layout.align = omega arith in
     let (t, places, stands, spare) =
-    Places-sized are is (Writes-some (32 ≤ c.args.layout.align) wide (IsWord-pad are is wide) (omega arith) c.set_word_at-then-wide.ensures.start (wrote c.set_word_at.new.self c.set_word_at-then-wide.new.self (c.align_up-payload.result - 8) c.args.block c.set_word_at-then-wide.ensures.bytes (omega arith) (omega arith))) in
+    Places-sized are is (Writes-some (32 ≤ c.args.layout.align) wide (IsWord-pad are is wide) (omega arith) c.set_word_at-then-wide.ensures.start (wrote c.set_word_at.new.self c.set_word_at-then-wide.new.self (c.front-payload.result.0 - 8) c.args.block c.set_word_at-then-wide.ensures.bytes (omega arith) (omega arith))) in
     (t, places, stands, KeepsSpare-counted_first c.args.memory.now c.load_at-len.new.self c.load_at-len.ensures.start c.load_at-len.ensures.bytes s t c.set_word_at-then-wide.new.self spare)
 
 pub returns-else-wide-clause-step : goal.returns-else-wide-clause-step
 returns-else-wide-clause-step g c = λ s f v chosen start.
     let at = goal.at.returns-else-wide-clause-step g c in
-    let are = computed g at.After-next_multiple_of_32-taken (loaded g at.After-load_at-len v) f chosen start in
+    let are = computed g at.After-front-payload (loaded g at.After-load_at-len v) f chosen start in
     let narrow : ¬ (32 ≤ c.args.layout.align) = λ wide. omega arith in
-    let (t, places, stands, spare) = Places-sized are (sized g at.After-set_word_at are) (Writes-none c.set_word_at.new.self c.set_word_at.new.self (32 ≤ c.args.layout.align) (c.align_up-payload.result - 8) c.args.block refl narrow) in
+    let (t, places, stands, spare) = Places-sized are (sized g at.After-set_word_at are) (Writes-none c.set_word_at.new.self c.set_word_at.new.self (32 ≤ c.args.layout.align) (c.front-payload.result.0 - 8) c.args.block refl narrow) in
     (t, places, stands, KeepsSpare-counted_first c.args.memory.now c.load_at-len.new.self c.load_at-len.ensures.start c.load_at-len.ensures.bytes s t c.set_word_at.new.self spare)
 
 pub returns-then-wide-clause-place : goal.returns-then-wide-clause-place
 returns-then-wide-clause-place g c =
     let (s, f, v, chosen, start) = c.requires.chosen in
     let at = goal.at.returns-then-wide-clause-place g c in
-    let are = computed g at.After-next_multiple_of_32-taken (loaded g at.After-load_at-len v) f chosen start in
+    let are = computed g at.After-front-payload (loaded g at.After-load_at-len v) f chosen start in
     let same = SamePlace-sized are (sized g at.After-set_word_at are) in
     (omega arith, omega (arith, ap length c.load_at-len.ensures.bytes))
 
@@ -116,6 +123,6 @@ pub returns-else-wide-clause-place : goal.returns-else-wide-clause-place
 returns-else-wide-clause-place g c =
     let (s, f, v, chosen, start) = c.requires.chosen in
     let at = goal.at.returns-else-wide-clause-place g c in
-    let are = computed g at.After-next_multiple_of_32-taken (loaded g at.After-load_at-len v) f chosen start in
+    let are = computed g at.After-front-payload (loaded g at.After-load_at-len v) f chosen start in
     let same = SamePlace-sized are (sized g at.After-set_word_at are) in
     (omega arith, omega (arith, ap length c.load_at-len.ensures.bytes))
