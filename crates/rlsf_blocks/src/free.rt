@@ -1,6 +1,6 @@
 //! A used block becomes free.
 
-ghost use Rattle.std.specs.Prelude.{◌≡◌, ◌+◌, ◌≤◌, ℕ, List};
+ghost use Rattle.std.specs.Prelude.{◌≡◌, ◌+◌, ◌<◌, ◌≤◌, ℕ, List, IfSome, unwrap_or};
 ghost use Rattle.rlsf_base.specs.declared.memory.range.Range.{Range};
 ghost use Rattle.rlsf_base.specs.SizeClass.{IsValid};
 ghost use Rattle.rlsf_base.specs.Space.{SamePlace};
@@ -36,6 +36,33 @@ pub fn used_block(memory: &mut Memory, view: View, payload: usize, align: usize)
     }
 }
 
+/// Takes the block at `block` out of its list, if it is free. Answers the bytes of the block that was taken out.
+#[inline(always)]
+fn take_free<FLBitmap: Bitmap, SLBitmap: Bitmap, const FLLEN: usize, const SLLEN: usize>(
+    memory: &mut Memory,
+    view: View,
+    table: &mut ClassTable<FLBitmap, SLBitmap, FLLEN, SLLEN>,
+    block: usize,
+) -> Option<usize>
+    requires parameters { IsValid FLBitmap.width SLBitmap.width FLLEN SLLEN }
+    requires marked { (free : List Range) × IsFreeTable FLLEN SLLEN memory.old table.old free × IsMarked memory.old free block }
+    requires view { view ≡ memory.old.view }
+    ensures step { (free : List Range) → IsFreeTable FLLEN SLLEN memory.old table.old free → IsMarked memory.old free block → IsNextOut FLLEN SLLEN memory.old memory.new table.new free block (unwrap_or result 0) }
+    ensures some { IfSome result (λ len. 0 < len) }
+    ensures touches { memory.new.touches ≤ memory.old.touches + 9 }
+    ensures grow { memory.old.touches ≤ memory.new.touches }
+    ensures copied { memory.new.copied ≡ memory.old.copied }
+    ensures view { memory.new.view ≡ memory.old.view }
+{
+    let size = memory.load_at(view, block);
+    if size % 2 == 0 {
+        unlink(memory, view, table, block, size as usize);
+        Some(size as usize)
+    } else {
+        None
+    }
+}
+
 /// Takes the block at `block` out of its list, if it is free. Answers the bytes of the block that was taken out, or 0.
 #[inline(always)]
 pub fn take_if_free<FLBitmap: Bitmap, SLBitmap: Bitmap, const FLLEN: usize, const SLLEN: usize>(
@@ -53,12 +80,9 @@ pub fn take_if_free<FLBitmap: Bitmap, SLBitmap: Bitmap, const FLLEN: usize, cons
     ensures copied { memory.new.copied ≡ memory.old.copied }
     ensures view { memory.new.view ≡ memory.old.view }
 {
-    let size = memory.load_at(view, block);
-    if size % 2 == 0 {
-        unlink(memory, view, table, block, size as usize);
-        size as usize
-    } else {
-        0
+    match take_free(memory, view, table, block) {
+        Some(len) => len,
+        None => 0,
     }
 }
 
@@ -82,9 +106,11 @@ pub fn take_previous<FLBitmap: Bitmap, SLBitmap: Bitmap, const FLLEN: usize, con
 {
     let previous = memory.load_at(view, block + 8) as usize;
     if previous == 0 {
-        block
-    } else {
-        block - take_if_free(memory, view, table, previous)
+        return block;
+    }
+    match take_free(memory, view, table, previous) {
+        Some(_) => previous,
+        None => block,
     }
 }
 

@@ -1,5 +1,5 @@
 -- The words at the neighbours of a used block tell if they are free.
-use Rattle.std.proofs.Common.{◌≡◌, ◌≢◌, ◌↔◌, ℕ, eqb, false, ◌+◌, ◌-◌, ◌%◌, ◌≤◌, Some, None, find, arith, inl, inr, sym, ◌∙◌, ap, subst}
+use Rattle.std.proofs.Common.{◌≡◌, ◌≢◌, ◌↔◌, ℕ, eqb, false, ◌+◌, ◌-◌, ◌%◌, ◌<◌, ◌≤◌, Some, None, find, arith, inl, inr, sym, ◌∙◌, ap, subst}
 use Rattle.std.proofs.lemmas.Bool.{eq-eqb, eqb-true, ne_eqb}
 use Rattle.rlsf_base.specs.declared.memory.range.Range.{Range}
 use Rattle.rlsf_base.specs.Range.{end_of}
@@ -158,6 +158,23 @@ module _ {fllen sllen : ℕ} {m : Space} {t : Table} {s : State} (v : StandsFor 
               },
             )
         go (names_used y j same e) = missing (used_begins y j previous (sym same)) e
+        go (names_none none e) = absurd (some none)
+
+    -- where a block was taken out, it begins where the word says
+    pub previous_begins : {n : Space} {x : Table} {len : ℕ} → previous ≢ 0 → IsNextOut fllen sllen m n x s.free previous len → 0 < len → previous + len ≡ b
+    previous_begins {len = len} some out more = go named
+      where
+        missing : (FreeBlockBegins s.free previous → ⊥) → previous + len ≡ b
+        missing none =
+            let no_start = find-no_start s.free previous (λ f j same. none (f, j, same)) in
+            let end : previous + len ≡ previous = out.end ∙ ap (end_or previous) no_start in
+            absurd (omega (arith, end))
+
+        go : Named m s b previous → previous + len ≡ b
+        go (names_free f j end same found) =
+            let start = find-start s.free f previous (IsFreeTable-free v).apart (λ g k. (v.well_formed.free g k).some) j (sym same) in
+            out.end ∙ ap (end_or previous) start ∙ end
+        go (names_used y j same e) = missing (used_begins y j previous (sym same))
         go (names_none none e) = absurd (some none)
 
   -- ---- the block behind

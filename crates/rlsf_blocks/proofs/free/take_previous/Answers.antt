@@ -1,7 +1,7 @@
 use Rattle.std.proofs.Common.{arith, rules}
 use Rattle.rlsf_table.proofs.FreeLists.Counted.{IsFreeTable-counted}
 use Rattle.rlsf_blocks.proofs.Deallocate.Loaded.{IsMarked-loaded, IsNextOut-loaded}
-use Rattle.rlsf_blocks.proofs.Deallocate.Marks.{IsMarked-previous, IsPreviousOut-none, previous_out}
+use Rattle.rlsf_blocks.proofs.Deallocate.Marks.{IsMarked-previous, IsPreviousOut-none, previous_begins, previous_out}
 use Rattle.rlsf_blocks.proofs.Machine.FreeBlocks.{IsFreeTable-free}
 use Rattle.rlsf_blocks.proofs.Words.Apart.{used_in_memory}
 use Rattle.rlsf_blocks.proofs.free.take_previous.Goals as goal
@@ -17,8 +17,8 @@ load_at-previous-requires-clause-place g c =
     let place = used_in_memory v.well_formed u i in
     (omega (arith, at, (v.well_formed.used u i).whole.start), (omega (arith, at, place.0), omega (arith, at, place.1)))
 
-pub take_if_free-requires : goal.take_if_free-requires
-take_if_free-requires g c =
+pub take_free-requires : goal.take_free-requires
+take_free-requires g c =
     let (s, u, v, i, at) = c.requires.used in
     let m = c.args.memory.now in
     let n = c.load_at-previous.new.self in
@@ -27,27 +27,30 @@ take_if_free-requires g c =
     let marked = IsMarked-loaded m n start bytes (IsMarked-previous v u i at c.load_at-previous.ensures.word c.if-previous-eq0.false) in
     (search rules, (c.requires.parameters, ((s.free, IsFreeTable-counted m n start bytes (IsFreeTable-free v), marked), search rules)))
 
-pub overflow_sub-result : goal.overflow_sub-result
-overflow_sub-result g c =
-    let (s, u, v, i, at) = c.requires.used in
-    let m = c.args.memory.now in
-    let n = c.load_at-previous.new.self in
-    let start = c.load_at-previous.ensures.start in
-    let bytes = c.load_at-previous.ensures.bytes in
-    let marked = IsMarked-loaded m n start bytes (IsMarked-previous v u i at c.load_at-previous.ensures.word c.if-previous-eq0.false) in
-    let out = IsNextOut-loaded m n start bytes (c.take_if_free.ensures.step s.free (IsFreeTable-counted m n start bytes (IsFreeTable-free v)) marked) in
-    (previous_out v u i at c.load_at-previous.ensures.word c.if-previous-eq0.false out).0
-
 pub returns-then-previous-eq0-clause-step : goal.returns-then-previous-eq0-clause-step
 returns-then-previous-eq0-clause-step g c = λ s u v i at.
     IsPreviousOut-none v u i at c.load_at-previous.ensures.word c.load_at-previous.new.self c.load_at-previous.ensures.start c.load_at-previous.ensures.bytes c.if-previous-eq0.true
 
-pub returns-else-previous-eq0-clause-step : goal.returns-else-previous-eq0-clause-step
-returns-else-previous-eq0-clause-step g c = λ s u v i at.
+pub returns-in-Some-clause-step : goal.returns-in-Some-clause-step
+returns-in-Some-clause-step g c = λ s u v i at.
+    let m = c.args.memory.now in
+    let n = c.load_at-previous.new.self in
+    let start = c.load_at-previous.ensures.start in
+    let bytes = c.load_at-previous.ensures.bytes in
+    let word = c.load_at-previous.ensures.word in
+    let some = c.if-previous-eq0.false in
+    let marked = IsMarked-loaded m n start bytes (IsMarked-previous v u i at word some) in
+    let out = IsNextOut-loaded m n start bytes (c.in-Some.ensures.step s.free (IsFreeTable-counted m n start bytes (IsFreeTable-free v)) marked) in
+    let is = (previous_out v u i at word some out).1 in
+    record { rewrites = is.rewrites; list = is.list; begins = omega (arith, is.begins, previous_begins v u i at word some out c.in-Some.ensures.some) }
+
+pub returns-in-None-clause-step : goal.returns-in-None-clause-step
+returns-in-None-clause-step g c = λ s u v i at.
     let m = c.args.memory.now in
     let n = c.load_at-previous.new.self in
     let start = c.load_at-previous.ensures.start in
     let bytes = c.load_at-previous.ensures.bytes in
     let marked = IsMarked-loaded m n start bytes (IsMarked-previous v u i at c.load_at-previous.ensures.word c.if-previous-eq0.false) in
-    let out = IsNextOut-loaded m n start bytes (c.take_if_free.ensures.step s.free (IsFreeTable-counted m n start bytes (IsFreeTable-free v)) marked) in
-    (previous_out v u i at c.load_at-previous.ensures.word c.if-previous-eq0.false out).1
+    let out = IsNextOut-loaded m n start bytes (c.in-None.ensures.step s.free (IsFreeTable-counted m n start bytes (IsFreeTable-free v)) marked) in
+    let is = (previous_out v u i at c.load_at-previous.ensures.word c.if-previous-eq0.false out).1 in
+    record { rewrites = is.rewrites; list = is.list; begins = omega (arith, is.begins) }
