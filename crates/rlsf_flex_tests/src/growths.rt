@@ -7,6 +7,7 @@ use rlsf_flex::FlexTlsf;
 use rlsf_int::Bitmap;
 use std::alloc::Global;
 use std::cell::Cell;
+use std::process::Abort;
 use std::test::Fail;
 
 /// All but the last byte of the addresses from 4097 on.
@@ -31,97 +32,153 @@ const REFUSING: Habits = Habits {
     ..GROWING
 };
 
-/// Whether an allocator allocates these addresses for so many bytes, 0 for none, and what the source was asked.
-fn allocates<FLBitmap: Bitmap, SLBitmap: Bitmap, const FLLEN: usize, const SLLEN: usize>(
-    flex: &mut FlexTlsf<CursorSource, FLBitmap, SLBitmap, FLLEN, SLLEN>,
+/// The types of an allocator.
+#[derive(Clone, Copy)]
+enum Shape {
+    /// For chunks up to 131,072 bytes.
+    Wide,
+    /// For chunks of any length.
+    Long,
+    /// Of 59 rows that have one class each.
+    Few,
+    /// Of 64 such rows.
+    All,
+}
+
+/// Allocations by an allocator over a source from an odd address on.
+#[derive(Clone, Copy)]
+struct Growth {
+    shape: Shape,
+    habits: Habits,
+    /// How many bytes each is for.
     size: usize,
+    /// The address that each answers, 0 for none.
+    addresses: &'static [usize],
+    /// What the source is asked.
+    asked: &'static [Question],
+}
+
+/// Whether an allocator allocates these addresses for a layout, and what the source was asked.
+fn allocates<FLBitmap: Bitmap, SLBitmap: Bitmap, const FLLEN: usize, const SLLEN: usize>(
+    mut flex: FlexTlsf<CursorSource, FLBitmap, SLBitmap, FLLEN, SLLEN>,
+    layout: Layout,
     addresses: &[usize],
-) -> Result<Outcome, Fail> {
-    let layout = Layout::from_size_align(size, 1)?;
+) -> Outcome {
     let mut wrong = None;
     for (index, addr) in addresses.iter().enumerate() {
         if wrong.is_none() && number(flex.allocate(layout)) != *addr {
             wrong = Some(index);
         }
     }
-    Ok((wrong, flex.source_ref().asked()))
+    (wrong, flex.source_ref().asked())
 }
 
-/// The same of a new allocator for chunks up to 131,072 bytes, over a source from an odd address on.
-fn wide(alloc: Global, habits: Habits, size: usize, addresses: &[usize]) -> Result<Outcome, Fail> {
+/// What comes of the allocations.
+fn outcome(alloc: Global, growth: Growth) -> Result<Outcome, Fail> {
+    let layout = Layout::from_size_align(growth.size, 1)?;
     let seen = Cell::new(Questions::new());
-    let (memory, source) = parts(alloc, ODD, habits, &seen)?;
-    let mut flex = FlexTlsf::<_, u16, u16, 12, 16>::new(memory, source);
-    allocates(&mut flex, size, addresses)
+    let (memory, source) = parts(alloc, ODD, growth.habits, &seen)?;
+    let addresses = growth.addresses;
+    Ok(match growth.shape {
+        Shape::Wide => {
+            let flex = FlexTlsf::<_, u16, u16, 12, 16>::new(memory, source);
+            allocates(flex, layout, addresses)
+        }
+        Shape::Long => {
+            let flex = FlexTlsf::<_, u64, u8, 59, 8>::new(memory, source);
+            allocates(flex, layout, addresses)
+        }
+        Shape::Few => {
+            let flex = FlexTlsf::<_, u64, u8, 59, 1>::new(memory, source);
+            allocates(flex, layout, addresses)
+        }
+        Shape::All => {
+            let flex = FlexTlsf::<_, u64, u8, 64, 1>::new(memory, source);
+            allocates(flex, layout, addresses)
+        }
+    })
 }
 
-/// The same of one for chunks of any length.
-fn long(alloc: Global, habits: Habits, size: usize, addresses: &[usize]) -> Result<Outcome, Fail> {
-    let seen = Cell::new(Questions::new());
-    let (memory, source) = parts(alloc, ODD, habits, &seen)?;
-    let mut flex = FlexTlsf::<_, u64, u8, 59, 8>::new(memory, source);
-    allocates(&mut flex, size, addresses)
+/// Passes where what must comes of each.
+fn go_so(rt: &impl Abort, alloc: Global, growths: &[Growth]) -> Result<(), Fail> {
+    for growth in growths {
+        is_right(rt, outcome(alloc, *growth)?, growth.asked);
+    }
+    Ok(())
 }
 
-/// The same of one of 59 rows that have one class each.
-fn few(alloc: Global, habits: Habits, size: usize, addresses: &[usize]) -> Result<Outcome, Fail> {
-    let seen = Cell::new(Questions::new());
-    let (memory, source) = parts(alloc, ODD, habits, &seen)?;
-    let mut flex = FlexTlsf::<_, u64, u8, 59, 1>::new(memory, source);
-    allocates(&mut flex, size, addresses)
-}
-
-/// The same of one of 64 such rows.
-fn all(alloc: Global, habits: Habits, size: usize, addresses: &[usize]) -> Result<Outcome, Fail> {
-    let seen = Cell::new(Questions::new());
-    let (memory, source) = parts(alloc, ODD, habits, &seen)?;
-    let mut flex = FlexTlsf::<_, u64, u8, 64, 1>::new(memory, source);
-    allocates(&mut flex, size, addresses)
-}
+const IN_PLACE: Growth = Growth {
+    shape: Shape::Wide,
+    habits: GROWING,
+    size: 1,
+    addresses: &[4144, 4208],
+    asked: &[Question::Alloc(96), Question::Grow(4097, 96, 159)],
+};
 
 #[test]
 fn grows_in_place(rt: HostRuntime) -> Result<(), Fail> {
-    let asked = [Question::Alloc(96), Question::Grow(4097, 96, 159)];
-    is_right(&rt, wide(rt.alloc(), GROWING, 1, &[4144, 4208])?, &asked);
-    is_right(&rt, long(rt.alloc(), GROWING, 1, &[4144, 4176])?, &asked);
-    Ok(())
+    let growths = [
+        IN_PLACE,
+        Growth {
+            shape: Shape::Long,
+            addresses: &[4144, 4176],
+            ..IN_PLACE
+        },
+    ];
+    go_so(&rt, rt.alloc(), &growths)
 }
+
+const MORE_THAN_ASKED: Growth = Growth {
+    shape: Shape::Wide,
+    habits: Habits {
+        extra: 50,
+        ..GROWING
+    },
+    size: 1,
+    addresses: &[4144, 4176, 4240],
+    asked: &[Question::Alloc(96), Question::Grow(4097, 146, 191)],
+};
 
 #[test]
 fn more_than_asked(rt: HostRuntime) -> Result<(), Fail> {
-    let habits = Habits {
-        extra: 50,
-        ..GROWING
-    };
-    let asked = [Question::Alloc(96), Question::Grow(4097, 146, 191)];
-    is_right(
-        &rt,
-        wide(rt.alloc(), habits, 1, &[4144, 4176, 4240])?,
-        &asked,
-    );
-    is_right(
-        &rt,
-        long(rt.alloc(), habits, 1, &[4144, 4176, 4208])?,
-        &asked,
-    );
-    Ok(())
+    let growths = [
+        MORE_THAN_ASKED,
+        Growth {
+            shape: Shape::Long,
+            addresses: &[4144, 4176, 4208],
+            ..MORE_THAN_ASKED
+        },
+    ];
+    go_so(&rt, rt.alloc(), &growths)
 }
+
+const THE_GREATEST_LAYOUT: Growth = Growth {
+    shape: Shape::Long,
+    habits: Habits {
+        min_align: 32,
+        ..REFUSING
+    },
+    size: 9223372036854775807,
+    addresses: &[0],
+    asked: &[Question::Alloc(10376293541461622816)],
+};
 
 #[test]
 fn the_greatest_layout(rt: HostRuntime) -> Result<(), Fail> {
-    let habits = Habits {
-        min_align: 32,
-        ..REFUSING
-    };
-    let size = 9223372036854775807;
-    is_right(
-        &rt,
-        long(rt.alloc(), habits, size, &[0])?,
-        &[Question::Alloc(10376293541461622816)],
-    );
-    is_right(&rt, few(rt.alloc(), habits, size, &[0])?, &[]);
-    is_right(&rt, all(rt.alloc(), habits, size, &[0])?, &[]);
-    Ok(())
+    let growths = [
+        THE_GREATEST_LAYOUT,
+        Growth {
+            shape: Shape::Few,
+            asked: &[],
+            ..THE_GREATEST_LAYOUT
+        },
+        Growth {
+            shape: Shape::All,
+            asked: &[],
+            ..THE_GREATEST_LAYOUT
+        },
+    ];
+    go_so(&rt, rt.alloc(), &growths)
 }
 
 /// A source of one range of 64 bytes.

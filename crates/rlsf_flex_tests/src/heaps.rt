@@ -5,23 +5,26 @@ ghost use Rattle.rlsf_base.specs.Range.{LiesIn};
 ghost use Rattle.rlsf_flex_tests.specs.Cursor.{MayOwe};
 
 use crate::cursor::{CursorSource, Habits, Question, Questions};
-use rlsf_base::memory::{Addr, Layout, LayoutError, Memory, Range};
-use rlsf_flex::FlexTlsf;
+use rlsf_base::memory::{Addr, Layout, Memory, Range};
+use rlsf_flex::{FlexSource, FlexTlsf};
 use std::alloc::Global;
 use std::cell::Cell;
 use std::process::Abort;
 use std::test::Fail;
 
-/// The shape of most tests: chunks up to 8160 bytes.
-pub type Small<'a> = FlexTlsf<CursorSource<'a>, u8, u8, 8, 8>;
+/// The shape of most tests, over any source: chunks up to 8160 bytes.
+pub type Shaped<S> = FlexTlsf<S, u8, u8, 8, 8>;
+
+/// The same over a source with a cursor.
+pub type Small<'a> = Shaped<CursorSource<'a>>;
 
 /// A step of a test, and what it answers.
 #[derive(Clone, Copy)]
 pub enum Step {
     /// Allocates for so many bytes: the payload's address, or 0.
-    Allocate(usize, usize),
+    Allocate(u32, usize),
     /// The same, and gives the payload back.
-    GiveBack(usize, usize),
+    GiveBack(u32, usize),
     /// Trims: how many ranges went.
     Trim(usize),
     /// Reads the footer at an address.
@@ -89,20 +92,22 @@ pub fn number(addr: Option<Addr>) -> usize {
     }
 }
 
-/// The address that is allocated for so many bytes, or 0.
-fn allocated(flex: &mut Small, size: usize) -> Result<usize, LayoutError> {
-    let layout = Layout::from_size_align(size, 1)?;
-    Ok(number(flex.allocate(layout)))
+/// The layout of so many bytes at any address.
+pub fn bytes(size: u32) -> Layout
+    ensures { (result.size ≡ size) × (result.align ≡ 1) }
+{
+    Layout::from_size_align_unchecked(size as usize, 1)
 }
 
-/// The same. The payload is given back.
-fn given_back(flex: &mut Small, size: usize) -> Result<usize, LayoutError> {
-    let layout = Layout::from_size_align(size, 1)?;
-    let addr = flex.allocate(layout);
-    if let Some(addr) = addr {
-        flex.deallocate(addr, layout.align());
+/// The address that is allocated for so many bytes, or 0. The payload is given back.
+fn given_back<S: FlexSource>(flex: &mut Shaped<S>, size: u32) -> usize {
+    match flex.allocate(bytes(size)) {
+        Some(addr) => {
+            flex.deallocate(addr, 1);
+            addr.get()
+        }
+        None => 0,
     }
-    Ok(number(addr))
 }
 
 /// The two words of a footer, where the memory has them.
@@ -115,27 +120,31 @@ pub fn footer(memory: &Memory, addr: usize) -> Option<(u64, u64)> {
     }
 }
 
+/// Whether the allocator answers a step as it has to.
+fn goes_so<S: FlexSource>(flex: &mut Shaped<S>, step: Step) -> bool {
+    match step {
+        Step::Allocate(size, addr) => number(flex.allocate(bytes(size))) == addr,
+        Step::GiveBack(size, addr) => given_back(flex, size) == addr,
+        Step::Trim(count) => flex.trim() == count,
+        Step::Footer(addr, words) => footer(flex.memory_ref(), addr) == Some(words),
+    }
+}
+
 /// The index of the first step that the allocator answers otherwise.
-pub fn first_wrong(flex: &mut Small, steps: &[Step]) -> Result<Option<usize>, LayoutError> {
+pub fn first_wrong<S: FlexSource>(flex: &mut Shaped<S>, steps: &[Step]) -> Option<usize> {
     for (index, step) in steps.iter().enumerate() {
-        let is_right = match *step {
-            Step::Allocate(size, addr) => allocated(flex, size)? == addr,
-            Step::GiveBack(size, addr) => given_back(flex, size)? == addr,
-            Step::Trim(count) => flex.trim() == count,
-            Step::Footer(addr, words) => footer(flex.memory_ref(), addr) == Some(words),
-        };
-        if !is_right {
-            return Ok(Some(index));
+        if !goes_so(flex, *step) {
+            return Some(index);
         }
     }
-    Ok(None)
+    None
 }
 
 /// What comes of a case up to its end. A source that takes nothing back must be asked nothing in the end.
 pub fn outcome(alloc: Global, case: Case) -> Result<Outcome, Fail> {
     let seen = Cell::new(Questions::new());
     let mut flex = small(alloc, case.space, case.habits, &seen)?;
-    let wrong = first_wrong(&mut flex, case.steps)?;
+    let wrong = first_wrong(&mut flex, case.steps);
     let before = flex.source_ref().asked();
     let (memory, source) = flex.into_parts();
     let asked = source.asked();

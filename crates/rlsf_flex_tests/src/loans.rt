@@ -5,7 +5,7 @@ ghost use Rattle.rlsf_base.specs.Addr.{at};
 ghost use Rattle.rlsf_machine.specs.Callers.{align_at};
 
 use crate::cursor::{Habits, Question, Questions};
-use crate::heaps::{Small, is_right, small};
+use crate::heaps::{Small, bytes, is_right, small};
 use rlsf_base::memory::{Addr, Layout, Range};
 use rlsf_flex::{FlexSource, SourceChange};
 use std::cell::Cell;
@@ -81,25 +81,24 @@ fn two(flex: &mut Small, first: Layout, second: Layout) -> Option<[u8; 2]>
     Some(reads)
 }
 
+/// Fills a payload of 16 bytes, moves it into one of 500, and gives that back. Answers the two addresses, and whether the bytes were
+/// right at each.
+fn moved(flex: &mut Small) -> Option<([usize; 2], [bool; 2])> {
+    let addr = filled(flex, bytes(16), 7)?;
+    let before = reads(flex, addr, 16, 7);
+    let to = flex.reallocate(addr, bytes(500))?;
+    let after = reads(flex, to, 528, 7);
+    flex.deallocate_unknown_align(to);
+    Some(([addr.get(), to.get()], [before, after]))
+}
+
 #[test]
 fn a_payload_moves_into_growth(rt: HostRuntime) -> Result<(), Fail> {
     let seen = Cell::new(Questions::new());
-    let layout = Layout::from_size_align(16, 1)?;
-    let longer = Layout::from_size_align(500, 1)?;
     let mut flex = small(rt.alloc(), ALL, HABITS, &seen)?;
-    let mut addresses = [0, 0];
-    let mut kept = [false, false];
-    if let Some(addr) = filled(&mut flex, layout, 7) {
-        kept[0] = reads(&flex, addr, 16, 7);
-        addresses[0] = addr.get();
-        if let Some(to) = flex.reallocate(addr, longer) {
-            kept[1] = reads(&flex, to, 528, 7);
-            addresses[1] = to.get();
-            flex.deallocate_unknown_align(to);
-        }
-    }
-    assert_eq!(rt; (addresses, kept), ([4112, 4176], [true, true]));
+    let moved = moved(&mut flex);
     let (_, source) = flex.into_parts();
+    assert_eq!(rt; moved, Some(([4112, 4176], [true, true])));
     let asked = [
         Question::Alloc(64),
         Question::Grow(4096, 64, 672),
@@ -112,10 +111,9 @@ fn a_payload_moves_into_growth(rt: HostRuntime) -> Result<(), Fail> {
 #[test]
 fn two_payloads_with_a_growth_between(rt: HostRuntime) -> Result<(), Fail> {
     let seen = Cell::new(Questions::new());
-    let first = Layout::from_size_align(16, 1)?;
-    let second = Layout::from_size_align(500, 8)?;
+    let second = Layout::from_size_align_unchecked(500, 8);
     let mut flex = small(rt.alloc(), ALL, HABITS, &seen)?;
-    let read = two(&mut flex, first, second);
+    let read = two(&mut flex, bytes(16), second);
     assert_eq!(rt; read, Some([7, 9]));
     let asked = flex.source_ref().asked();
     is_right(
@@ -129,9 +127,8 @@ fn two_payloads_with_a_growth_between(rt: HostRuntime) -> Result<(), Fail> {
 #[test]
 fn a_copy_asks_nothing(rt: HostRuntime) -> Result<(), Fail> {
     let seen = Cell::new(Questions::new());
-    let layout = Layout::from_size_align(16, 1)?;
     let mut flex = small(rt.alloc(), ALL, HABITS, &seen)?;
-    if let Some(addr) = filled(&mut flex, layout, 7) {
+    if let Some(addr) = filled(&mut flex, bytes(16), 7) {
         flex.copy_payload(addr, addr, 0);
     }
     let asked = flex.source_ref().asked();

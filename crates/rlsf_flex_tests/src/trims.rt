@@ -2,11 +2,12 @@
 
 use crate::cursor::{Habits, Question, Questions};
 use crate::heap_source::CursorAlloc;
-use crate::heaps::{Case, Step, are_right, footer, is_right, number, small};
-use rlsf_base::memory::{Layout, Memory, Range};
+use crate::heaps::{Case, Shaped, Step, are_right, bytes, first_wrong, footer, is_right, small};
+use rlsf_base::memory::{Memory, Range};
 use rlsf_flex::{FlexSource, FlexTlsf};
 use rlsf_heap::GlobalAllocAsFlexSource;
 use rlsf_listed::{Capabilities, ListedSource, Question as Asked, SourceAnswer};
+use std::alloc::Global;
 use std::cell::Cell;
 use std::test::Fail;
 
@@ -141,41 +142,21 @@ static CASES: [Case; 8] = [
     },
 ];
 
-/// The shape of these tests over any source.
-type Shaped<S> = FlexTlsf<S, u8, u8, 8, 8>;
-
-/// Allocates two payloads and trims, gives the newer one back and trims, gives the older one back and trims. Answers the addresses,
-/// and how many ranges went each time.
+/// Allocates two payloads of so many bytes and trims, gives the newer one back and trims, gives the older one back and trims. Answers
+/// the addresses, and how many ranges went each time.
 fn shrinks<S: FlexSource>(
     flex: &mut Shaped<S>,
-    first: Layout,
-    second: Layout,
+    first: u32,
+    second: u32,
 ) -> Option<([usize; 2], [usize; 3])> {
-    let older = flex.allocate(first)?;
-    let Some(newer) = flex.allocate(second) else {
-        flex.deallocate(older, first.align());
-        return None;
-    };
+    let older = flex.allocate(bytes(first))?;
+    let newer = flex.allocate(bytes(second))?;
     let held = flex.trim();
-    flex.deallocate(newer, second.align());
+    flex.deallocate(newer, 1);
     let one_left = flex.trim();
-    flex.deallocate(older, first.align());
+    flex.deallocate(older, 1);
     let none_left = flex.trim();
     Some(([older.get(), newer.get()], [held, one_left, none_left]))
-}
-
-/// Allocates three payloads, gives the third back, trims and allocates again. Answers the addresses, and behind them how many ranges
-/// went.
-fn grows_again<S: FlexSource>(flex: &mut Shaped<S>, layout: Layout) -> ([usize; 4], usize) {
-    let first = number(flex.allocate(layout));
-    let second = number(flex.allocate(layout));
-    let third = flex.allocate(layout);
-    if let Some(addr) = third {
-        flex.deallocate(addr, layout.align());
-    }
-    let went = flex.trim();
-    let fourth = number(flex.allocate(layout));
-    ([first, second, number(third), fourth], went)
 }
 
 #[test]
@@ -188,9 +169,7 @@ fn two_ranges_go_back_one_after_the_other(rt: HostRuntime) -> Result<(), Fail> {
     let memory = Memory::new(rt.alloc(), 4096, 4096)?;
     let source = GlobalAllocAsFlexSource::<_, 1024>(CursorAlloc::new(ALL));
     let mut flex = FlexTlsf::<_, u8, u8, 8, 8>::new(memory, source);
-    let first = Layout::from_size_align(1, 1)?;
-    let second = Layout::from_size_align(2000, 1)?;
-    let went = shrinks(&mut flex, first, second);
+    let went = shrinks(&mut flex, 1, 2000);
     let (_, source) = flex.into_parts();
     let asked = [
         Question::AllocLayout(1024, 1024),
@@ -217,8 +196,7 @@ fn a_range_that_grew_goes_back_once(rt: HostRuntime) -> Result<(), Fail> {
         ..NEITHER
     };
     let mut flex = small(rt.alloc(), space, habits, &seen)?;
-    let layout = Layout::from_size_align(1, 1)?;
-    let went = shrinks(&mut flex, layout, layout);
+    let went = shrinks(&mut flex, 1, 1);
     let (_, source) = flex.into_parts();
     let asked = [
         Question::Alloc(96),
@@ -230,8 +208,19 @@ fn a_range_that_grew_goes_back_once(rt: HostRuntime) -> Result<(), Fail> {
     Ok(())
 }
 
-#[test]
-fn the_range_before_grows_after_a_trim(rt: HostRuntime) -> Result<(), Fail> {
+/// The two ranges of a source that gives one, doesn't grow it at first, and gives another.
+const FIRST: Range = Range {
+    start: 4096,
+    len: 101,
+};
+
+const SECOND: Range = Range {
+    start: 8192,
+    len: 101,
+};
+
+/// An allocator over a source with these answers.
+fn over_answers(alloc: Global, answers: &[SourceAnswer]) -> Result<Shaped<ListedSource>, Fail> {
     let space = Range {
         start: 4096,
         len: 8192,
@@ -242,41 +231,44 @@ fn the_range_before_grows_after_a_trim(rt: HostRuntime) -> Result<(), Fail> {
         contiguous: false,
         min_align: 32,
     };
-    let first = Range {
-        start: 4096,
-        len: 101,
-    };
-    let second = Range {
-        start: 8192,
-        len: 101,
-    };
+    let memory = Memory::new(alloc, 4096, 8192)?;
+    let source = ListedSource::new(alloc, space, capabilities, answers.to_vec(alloc)?, 8)?;
+    Ok(FlexTlsf::new(memory, source))
+}
+
+#[test]
+fn the_range_before_grows_after_a_trim(rt: HostRuntime) -> Result<(), Fail> {
     let answers = [
-        SourceAnswer::Range(first),
+        SourceAnswer::Range(FIRST),
         SourceAnswer::None,
-        SourceAnswer::Range(second),
+        SourceAnswer::Range(SECOND),
         SourceAnswer::Len(160),
-    ]
-    .to_vec(rt.alloc())?;
-    let memory = Memory::new(rt.alloc(), 4096, 8192)?;
-    let source = ListedSource::new(rt.alloc(), space, capabilities, answers, 8)?;
-    let mut flex = FlexTlsf::<_, u8, u8, 8, 8>::new(memory, source);
-    let allocated = grows_again(&mut flex, Layout::from_size_align(1, 1)?);
-    assert_eq!(rt; allocated, ([4112, 4144, 8208, 4208], 1));
-    let (memory, source) = flex.into_parts();
-    // The footer moved there from 4176.
-    assert_eq!(rt; footer(&memory, 4240), Some((0, 0)));
+    ];
+    let steps = [
+        Step::Allocate(1, 4112),
+        Step::Allocate(1, 4144),
+        Step::GiveBack(1, 8208),
+        Step::Trim(1),
+        Step::Allocate(1, 4208),
+    ];
     let grown = Range {
         start: 4096,
         len: 160,
     };
     let asked = [
-        Asked::Alloc(64, Some(first)),
-        Asked::Grow(first, 160, None),
-        Asked::Alloc(64, Some(second)),
-        Asked::Dealloc(second),
-        Asked::Grow(first, 160, Some(160)),
+        Asked::Alloc(64, Some(FIRST)),
+        Asked::Grow(FIRST, 160, None),
+        Asked::Alloc(64, Some(SECOND)),
+        Asked::Dealloc(SECOND),
+        Asked::Grow(FIRST, 160, Some(160)),
         Asked::Dealloc(grown),
     ];
+    let mut flex = over_answers(rt.alloc(), &answers)?;
+    let wrong = first_wrong(&mut flex, &steps);
+    let (memory, source) = flex.into_parts();
+    assert_eq!(rt; wrong, None);
+    // The footer moved there from 4176.
+    assert_eq!(rt; footer(&memory, 4240), Some((0, 0)));
     assert_eq!(rt; source.asked(), asked.as_slice());
     Ok(())
 }
