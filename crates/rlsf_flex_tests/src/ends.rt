@@ -23,64 +23,67 @@ const ALL: Range = Range {
     len: 4096,
 };
 
-const FOOTER_MOVES_WITH_GROWTH: Case = Case {
-    space: Range {
-        start: 4097,
-        len: 4095,
+static CASES: [Case; 3] = [
+    // The footer moves with growth.
+    Case {
+        space: Range {
+            start: 4097,
+            len: 4095,
+        },
+        habits: Habits {
+            grow: true,
+            min_align: 1,
+            ..TAKING
+        },
+        steps: &[
+            Step::Allocate(1, 4144),
+            Step::Footer(4176, (0, 0)),
+            Step::Allocate(1, 4208),
+            Step::Footer(4240, (0, 0)),
+        ],
+        asked: &[
+            Question::Alloc(96),
+            Question::Grow(4097, 96, 159),
+            Question::Dealloc(4097, 159),
+        ],
+        left: None,
     },
-    habits: Habits {
-        grow: true,
-        min_align: 1,
-        ..TAKING
+    // Footers name the ranges before.
+    Case {
+        space: ALL,
+        habits: Habits {
+            extra: 37,
+            ..TAKING
+        },
+        steps: &[
+            Step::Allocate(1, 4112),
+            Step::Allocate(1, 4144),
+            Step::Allocate(1, 4240),
+            Step::Footer(4176, (0, 0)),
+            Step::Footer(4304, (4096, 101)),
+        ],
+        asked: &[
+            Question::Alloc(64),
+            Question::Alloc(64),
+            Question::Dealloc(4224, 101),
+            Question::Dealloc(4096, 101),
+        ],
+        left: Some((4304, (4096, 101))),
     },
-    steps: &[
-        Step::Allocate(1, 4144),
-        Step::Footer(4176, (0, 0)),
-        Step::Allocate(1, 4208),
-        Step::Footer(4240, (0, 0)),
-    ],
-    asked: &[
-        Question::Alloc(96),
-        Question::Grow(4097, 96, 159),
-        Question::Dealloc(4097, 159),
-    ],
-    left: None,
-};
-
-const FOOTERS_NAME_THE_RANGES_BEFORE: Case = Case {
-    space: ALL,
-    habits: Habits {
-        extra: 37,
-        ..TAKING
+    // Two ranges go back.
+    Case {
+        space: ALL,
+        habits: TAKING,
+        steps: &[Step::Allocate(1, 4112), Step::Allocate(1, 4176)],
+        asked: &[
+            Question::Alloc(64),
+            Question::Alloc(64),
+            Question::Dealloc(4160, 64),
+            Question::Dealloc(4096, 64),
+        ],
+        left: None,
     },
-    steps: &[
-        Step::Allocate(1, 4112),
-        Step::Allocate(1, 4144),
-        Step::Allocate(1, 4240),
-        Step::Footer(4176, (0, 0)),
-        Step::Footer(4304, (4096, 101)),
-    ],
-    asked: &[
-        Question::Alloc(64),
-        Question::Alloc(64),
-        Question::Dealloc(4224, 101),
-        Question::Dealloc(4096, 101),
-    ],
-    left: Some((4304, (4096, 101))),
-};
-
-const TWO_RANGES_GO_BACK: Case = Case {
-    space: ALL,
-    habits: TAKING,
-    steps: &[Step::Allocate(1, 4112), Step::Allocate(1, 4176)],
-    asked: &[
-        Question::Alloc(64),
-        Question::Alloc(64),
-        Question::Dealloc(4160, 64),
-        Question::Dealloc(4096, 64),
-    ],
-    left: None,
-};
+];
 
 /// Takes the steps of a case and drops the allocator. Answers the index of the first step that went otherwise.
 fn dropped(alloc: Global, case: Case, seen: &Cell<Questions>) -> Result<Option<usize>, Fail> {
@@ -90,15 +93,12 @@ fn dropped(alloc: Global, case: Case, seen: &Cell<Questions>) -> Result<Option<u
 
 #[test]
 fn ends(rt: HostRuntime) -> Result<(), Fail> {
-    let cases = [
-        FOOTER_MOVES_WITH_GROWTH,
-        FOOTERS_NAME_THE_RANGES_BEFORE,
-        TWO_RANGES_GO_BACK,
-    ];
-    are_right(&rt, rt.alloc(), &cases)?;
+    are_right(&rt, rt.alloc(), &CASES)?;
     // A drop gives back what `into_parts` does.
-    let seen = Cell::new(Questions::new());
-    let wrong = dropped(rt.alloc(), TWO_RANGES_GO_BACK, &seen)?;
-    is_right(&rt, (wrong, seen.get().asked()), TWO_RANGES_GO_BACK.asked);
+    for case in &CASES {
+        let seen = Cell::new(Questions::new());
+        let wrong = dropped(rt.alloc(), *case, &seen)?;
+        is_right(&rt, (wrong, seen.get().asked()), case.asked);
+    }
     Ok(())
 }

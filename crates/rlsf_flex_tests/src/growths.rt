@@ -115,17 +115,18 @@ const IN_PLACE: Growth = Growth {
     asked: &[Question::Alloc(96), Question::Grow(4097, 96, 159)],
 };
 
+static GROWN_IN_PLACE: [Growth; 2] = [
+    IN_PLACE,
+    Growth {
+        shape: Shape::Long,
+        addresses: &[4144, 4176],
+        ..IN_PLACE
+    },
+];
+
 #[test]
 fn grows_in_place(rt: HostRuntime) -> Result<(), Fail> {
-    let growths = [
-        IN_PLACE,
-        Growth {
-            shape: Shape::Long,
-            addresses: &[4144, 4176],
-            ..IN_PLACE
-        },
-    ];
-    go_so(&rt, rt.alloc(), &growths)
+    go_so(&rt, rt.alloc(), &GROWN_IN_PLACE)
 }
 
 const MORE_THAN_ASKED: Growth = Growth {
@@ -139,17 +140,18 @@ const MORE_THAN_ASKED: Growth = Growth {
     asked: &[Question::Alloc(96), Question::Grow(4097, 146, 191)],
 };
 
+static WITH_MORE_THAN_ASKED: [Growth; 2] = [
+    MORE_THAN_ASKED,
+    Growth {
+        shape: Shape::Long,
+        addresses: &[4144, 4176, 4208],
+        ..MORE_THAN_ASKED
+    },
+];
+
 #[test]
 fn more_than_asked(rt: HostRuntime) -> Result<(), Fail> {
-    let growths = [
-        MORE_THAN_ASKED,
-        Growth {
-            shape: Shape::Long,
-            addresses: &[4144, 4176, 4208],
-            ..MORE_THAN_ASKED
-        },
-    ];
-    go_so(&rt, rt.alloc(), &growths)
+    go_so(&rt, rt.alloc(), &WITH_MORE_THAN_ASKED)
 }
 
 const THE_GREATEST_LAYOUT: Growth = Growth {
@@ -163,22 +165,23 @@ const THE_GREATEST_LAYOUT: Growth = Growth {
     asked: &[Question::Alloc(10376293541461622816)],
 };
 
+static GREATEST_LAYOUTS: [Growth; 3] = [
+    THE_GREATEST_LAYOUT,
+    Growth {
+        shape: Shape::Few,
+        asked: &[],
+        ..THE_GREATEST_LAYOUT
+    },
+    Growth {
+        shape: Shape::All,
+        asked: &[],
+        ..THE_GREATEST_LAYOUT
+    },
+];
+
 #[test]
 fn the_greatest_layout(rt: HostRuntime) -> Result<(), Fail> {
-    let growths = [
-        THE_GREATEST_LAYOUT,
-        Growth {
-            shape: Shape::Few,
-            asked: &[],
-            ..THE_GREATEST_LAYOUT
-        },
-        Growth {
-            shape: Shape::All,
-            asked: &[],
-            ..THE_GREATEST_LAYOUT
-        },
-    ];
-    go_so(&rt, rt.alloc(), &growths)
+    go_so(&rt, rt.alloc(), &GREATEST_LAYOUTS)
 }
 
 /// A source of one range of 64 bytes.
@@ -187,56 +190,53 @@ const SHORT: Range = Range {
     len: 64,
 };
 
-const GROWTH_OF_THE_ONE_RANGE_IS_REFUSED: Case = Case {
-    space: SHORT,
-    habits: Habits {
-        min_align: 32,
-        ..GROWING
+static REFUSALS: [Case; 4] = [
+    // Growth of the one range is refused.
+    Case {
+        space: SHORT,
+        habits: Habits {
+            min_align: 32,
+            ..GROWING
+        },
+        steps: &[Step::Allocate(1, 4112), Step::Allocate(1, 0)],
+        asked: &[Question::Alloc(64), Question::Grow(4096, 64, 128)],
+        left: None,
     },
-    steps: &[Step::Allocate(1, 4112), Step::Allocate(1, 0)],
-    asked: &[Question::Alloc(64), Question::Grow(4096, 64, 128)],
-    left: None,
-};
-
-const GROWTH_AND_A_RANGE_ARE_REFUSED: Case = Case {
-    space: SHORT,
-    habits: Habits {
-        contiguous: false,
-        min_align: 32,
-        ..GROWING
+    // Growth and a range are refused.
+    Case {
+        space: SHORT,
+        habits: Habits {
+            contiguous: false,
+            min_align: 32,
+            ..GROWING
+        },
+        steps: &[Step::Allocate(1, 4112), Step::Allocate(1, 0)],
+        asked: &[
+            Question::Alloc(64),
+            Question::Grow(4096, 64, 128),
+            Question::Alloc(64),
+        ],
+        left: None,
     },
-    steps: &[Step::Allocate(1, 4112), Step::Allocate(1, 0)],
-    asked: &[
-        Question::Alloc(64),
-        Question::Grow(4096, 64, 128),
-        Question::Alloc(64),
-    ],
-    left: None,
-};
-
-const NOTHING_IS_ASKED_WHERE_NO_POOL_WOULD_DO: Case = Case {
-    space: ODD,
-    habits: GROWING,
-    steps: &[Step::Allocate(8000, 0)],
-    asked: &[],
-    left: None,
-};
-
-const A_RANGE_IS_REFUSED: Case = Case {
-    space: ODD,
-    habits: REFUSING,
-    steps: &[Step::Allocate(1, 0)],
-    asked: &[Question::Alloc(96)],
-    left: None,
-};
+    // Nothing is asked where no pool would do.
+    Case {
+        space: ODD,
+        habits: GROWING,
+        steps: &[Step::Allocate(8000, 0)],
+        asked: &[],
+        left: None,
+    },
+    // A range is refused.
+    Case {
+        space: ODD,
+        habits: REFUSING,
+        steps: &[Step::Allocate(1, 0)],
+        asked: &[Question::Alloc(96)],
+        left: None,
+    },
+];
 
 #[test]
 fn refusals(rt: HostRuntime) -> Result<(), Fail> {
-    let cases = [
-        GROWTH_OF_THE_ONE_RANGE_IS_REFUSED,
-        GROWTH_AND_A_RANGE_ARE_REFUSED,
-        NOTHING_IS_ASKED_WHERE_NO_POOL_WOULD_DO,
-        A_RANGE_IS_REFUSED,
-    ];
-    are_right(&rt, rt.alloc(), &cases)
+    are_right(&rt, rt.alloc(), &REFUSALS)
 }

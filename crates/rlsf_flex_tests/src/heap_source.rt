@@ -110,6 +110,15 @@ impl GlobalAlloc for CursorAlloc {
     ghost constant = { λ x y n led. led };
 }
 
+static STEPS: [Step; 2] = [Step::Allocate(1, 4112), Step::Allocate(2000, 5136)];
+
+static ASKED: [Question; 4] = [
+    Question::AllocLayout(1024, 1024),
+    Question::AllocLayout(3072, 1024),
+    Question::DeallocLayout(5120, 3072, 1024),
+    Question::DeallocLayout(4096, 1024, 1024),
+];
+
 #[test]
 fn an_allocator_is_asked_for_whole_multiples(rt: HostRuntime) -> Result<(), Fail> {
     let memory = Memory::new(rt.alloc(), 4096, 4096)?;
@@ -119,17 +128,8 @@ fn an_allocator_is_asked_for_whole_multiples(rt: HostRuntime) -> Result<(), Fail
     };
     let source = GlobalAllocAsFlexSource::<_, 1024>(CursorAlloc::new(space));
     let mut flex = FlexTlsf::<_, u8, u8, 8, 8>::new(memory, source);
-    let wrong = first_wrong(
-        &mut flex,
-        &[Step::Allocate(1, 4112), Step::Allocate(2000, 5136)],
-    );
+    let wrong = first_wrong(&mut flex, &STEPS);
     let (_, source) = flex.into_parts();
-    let asked = [
-        Question::AllocLayout(1024, 1024),
-        Question::AllocLayout(3072, 1024),
-        Question::DeallocLayout(5120, 3072, 1024),
-        Question::DeallocLayout(4096, 1024, 1024),
-    ];
-    is_right(&rt, (wrong, source.0.asked()), &asked);
+    is_right(&rt, (wrong, source.0.asked()), &ASKED);
     Ok(())
 }

@@ -1,6 +1,6 @@
 //! Payloads that are written, grow into other memory and are read; and a change of the source.
 
-ghost use Rattle.std.specs.Prelude.{◌≡◌, ◌<◌, Some, IfSome, IsSome};
+ghost use Rattle.std.specs.Prelude.{◌≡◌, Some, IfSome, IsSome};
 ghost use Rattle.rlsf_base.specs.Addr.{at};
 ghost use Rattle.rlsf_machine.specs.Callers.{align_at};
 
@@ -58,24 +58,20 @@ fn reads(flex: &Small, addr: Addr, usable: usize, byte: u8) -> bool
     requires { IsSome (align_at flex.now.state.machine (at addr)) }
 {
     let bytes = flex.payload(addr);
-    flex.allocation_usable_size(addr) == usable
-        && bytes.len() > 15
-        && bytes[0] == byte
-        && bytes[15] == byte
+    let ends = (bytes.first().copied(), bytes.get(15).copied());
+    flex.allocation_usable_size(addr) == usable && ends == (Some(byte), Some(byte))
 }
 
 /// Allocates two payloads, the second of which may need more memory, fills both, reads the first byte of each, and gives both back.
-fn two(flex: &mut Small, first: Layout, second: Layout) -> Option<[u8; 2]>
-    requires { (0 < first.size) × (0 < second.size) }
-{
+fn two(flex: &mut Small, first: Layout, second: Layout) -> Option<[Option<u8>; 2]> {
     let one = flex.allocate(first)?;
-    let Some(other) = flex.allocate(second) else {
-        flex.deallocate(one, first.align());
-        return None;
-    };
+    let other = flex.allocate(second)?;
     flex.payload_mut(one).fill(7);
     flex.payload_mut(other).fill(9);
-    let reads = [flex.payload(one)[0], flex.payload(other)[0]];
+    let reads = [
+        flex.payload(one).first().copied(),
+        flex.payload(other).first().copied(),
+    ];
     flex.deallocate(other, second.align());
     flex.deallocate(one, first.align());
     Some(reads)
@@ -92,6 +88,12 @@ fn moved(flex: &mut Small) -> Option<([usize; 2], [bool; 2])> {
     Some(([addr.get(), to.get()], [before, after]))
 }
 
+static GROWN_AND_GIVEN_BACK: [Question; 3] = [
+    Question::Alloc(64),
+    Question::Grow(4096, 64, 672),
+    Question::Dealloc(4096, 672),
+];
+
 #[test]
 fn a_payload_moves_into_growth(rt: HostRuntime) -> Result<(), Fail> {
     let seen = Cell::new(Questions::new());
@@ -99,28 +101,20 @@ fn a_payload_moves_into_growth(rt: HostRuntime) -> Result<(), Fail> {
     let moved = moved(&mut flex);
     let (_, source) = flex.into_parts();
     assert_eq!(rt; moved, Some(([4112, 4176], [true, true])));
-    let asked = [
-        Question::Alloc(64),
-        Question::Grow(4096, 64, 672),
-        Question::Dealloc(4096, 672),
-    ];
-    is_right(&rt, (None, source.asked()), &asked);
+    is_right(&rt, (None, source.asked()), &GROWN_AND_GIVEN_BACK);
     Ok(())
 }
 
+static GROWN: [Question; 2] = [Question::Alloc(64), Question::Grow(4096, 64, 672)];
+
 #[test]
 fn two_payloads_with_a_growth_between(rt: HostRuntime) -> Result<(), Fail> {
+    let second = Layout::from_size_align(500, 8)?;
     let seen = Cell::new(Questions::new());
-    let second = Layout::from_size_align_unchecked(500, 8);
     let mut flex = small(rt.alloc(), ALL, HABITS, &seen)?;
     let read = two(&mut flex, bytes(16), second);
-    assert_eq!(rt; read, Some([7, 9]));
-    let asked = flex.source_ref().asked();
-    is_right(
-        &rt,
-        (None, asked),
-        &[Question::Alloc(64), Question::Grow(4096, 64, 672)],
-    );
+    assert_eq!(rt; read, Some([Some(7), Some(9)]));
+    is_right(&rt, (None, flex.source_ref().asked()), &GROWN);
     Ok(())
 }
 

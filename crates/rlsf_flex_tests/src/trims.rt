@@ -164,6 +164,13 @@ fn trims_with_each_capability(rt: HostRuntime) -> Result<(), Fail> {
     are_right(&rt, rt.alloc(), &CASES)
 }
 
+static TWO_RANGES_WENT: [Question; 4] = [
+    Question::AllocLayout(1024, 1024),
+    Question::AllocLayout(3072, 1024),
+    Question::DeallocLayout(5120, 3072, 1024),
+    Question::DeallocLayout(4096, 1024, 1024),
+];
+
 #[test]
 fn two_ranges_go_back_one_after_the_other(rt: HostRuntime) -> Result<(), Fail> {
     let memory = Memory::new(rt.alloc(), 4096, 4096)?;
@@ -171,40 +178,39 @@ fn two_ranges_go_back_one_after_the_other(rt: HostRuntime) -> Result<(), Fail> {
     let mut flex = FlexTlsf::<_, u8, u8, 8, 8>::new(memory, source);
     let went = shrinks(&mut flex, 1, 2000);
     let (_, source) = flex.into_parts();
-    let asked = [
-        Question::AllocLayout(1024, 1024),
-        Question::AllocLayout(3072, 1024),
-        Question::DeallocLayout(5120, 3072, 1024),
-        Question::DeallocLayout(4096, 1024, 1024),
-    ];
     assert_eq!(rt; went, Some(([4112, 5136], [0, 1, 1])));
-    is_right(&rt, (None, source.0.asked()), &asked);
+    is_right(&rt, (None, source.0.asked()), &TWO_RANGES_WENT);
     Ok(())
 }
+
+/// All addresses of the memory but the first.
+const ODD: Range = Range {
+    start: 4097,
+    len: 4095,
+};
+
+/// A source that grows its ranges, takes them back, and gives them from any address on.
+const GROWING: Habits = Habits {
+    dealloc: true,
+    grow: true,
+    min_align: 1,
+    ..NEITHER
+};
+
+static A_GROWN_RANGE_WENT: [Question; 3] = [
+    Question::Alloc(96),
+    Question::Grow(4097, 96, 159),
+    Question::Dealloc(4097, 159),
+];
 
 #[test]
 fn a_range_that_grew_goes_back_once(rt: HostRuntime) -> Result<(), Fail> {
     let seen = Cell::new(Questions::new());
-    let space = Range {
-        start: 4097,
-        len: 4095,
-    };
-    let habits = Habits {
-        dealloc: true,
-        grow: true,
-        min_align: 1,
-        ..NEITHER
-    };
-    let mut flex = small(rt.alloc(), space, habits, &seen)?;
+    let mut flex = small(rt.alloc(), ODD, GROWING, &seen)?;
     let went = shrinks(&mut flex, 1, 1);
     let (_, source) = flex.into_parts();
-    let asked = [
-        Question::Alloc(96),
-        Question::Grow(4097, 96, 159),
-        Question::Dealloc(4097, 159),
-    ];
     assert_eq!(rt; went, Some(([4144, 4208], [0, 0, 1])));
-    is_right(&rt, (None, source.asked()), &asked);
+    is_right(&rt, (None, source.asked()), &A_GROWN_RANGE_WENT);
     Ok(())
 }
 
@@ -236,39 +242,41 @@ fn over_answers(alloc: Global, answers: &[SourceAnswer]) -> Result<Shaped<Listed
     Ok(FlexTlsf::new(memory, source))
 }
 
-#[test]
-fn the_range_before_grows_after_a_trim(rt: HostRuntime) -> Result<(), Fail> {
-    let answers = [
-        SourceAnswer::Range(FIRST),
-        SourceAnswer::None,
-        SourceAnswer::Range(SECOND),
-        SourceAnswer::Len(160),
-    ];
-    let steps = [
-        Step::Allocate(1, 4112),
-        Step::Allocate(1, 4144),
-        Step::GiveBack(1, 8208),
-        Step::Trim(1),
-        Step::Allocate(1, 4208),
-    ];
-    let grown = Range {
+static ANSWERS: [SourceAnswer; 4] = [
+    SourceAnswer::Range(FIRST),
+    SourceAnswer::None,
+    SourceAnswer::Range(SECOND),
+    SourceAnswer::Len(160),
+];
+
+static GROWN_AGAIN: [Step; 5] = [
+    Step::Allocate(1, 4112),
+    Step::Allocate(1, 4144),
+    Step::GiveBack(1, 8208),
+    Step::Trim(1),
+    Step::Allocate(1, 4208),
+];
+
+static ASKED: [Asked; 6] = [
+    Asked::Alloc(64, Some(FIRST)),
+    Asked::Grow(FIRST, 160, None),
+    Asked::Alloc(64, Some(SECOND)),
+    Asked::Dealloc(SECOND),
+    Asked::Grow(FIRST, 160, Some(160)),
+    Asked::Dealloc(Range {
         start: 4096,
         len: 160,
-    };
-    let asked = [
-        Asked::Alloc(64, Some(FIRST)),
-        Asked::Grow(FIRST, 160, None),
-        Asked::Alloc(64, Some(SECOND)),
-        Asked::Dealloc(SECOND),
-        Asked::Grow(FIRST, 160, Some(160)),
-        Asked::Dealloc(grown),
-    ];
-    let mut flex = over_answers(rt.alloc(), &answers)?;
-    let wrong = first_wrong(&mut flex, &steps);
+    }),
+];
+
+#[test]
+fn the_range_before_grows_after_a_trim(rt: HostRuntime) -> Result<(), Fail> {
+    let mut flex = over_answers(rt.alloc(), &ANSWERS)?;
+    let wrong = first_wrong(&mut flex, &GROWN_AGAIN);
     let (memory, source) = flex.into_parts();
-    assert_eq!(rt; wrong, None);
     // The footer moved there from 4176.
-    assert_eq!(rt; footer(&memory, 4240), Some((0, 0)));
-    assert_eq!(rt; source.asked(), asked.as_slice());
+    let moved = footer(&memory, 4240);
+    assert_eq!(rt; (wrong, moved), (None, Some((0, 0))));
+    assert_eq!(rt; source.asked(), ASKED.as_slice());
     Ok(())
 }
