@@ -1,12 +1,58 @@
-//! Calls under two passes on one thread, and what closing finds.
+//! Calls under the passes of several callers on one thread, and what closing finds.
 
 use rlsf_base::memory::{Addr, Layout, Memory};
 use rlsf_global::GlobalError;
 use rlsf_journal::{Call, CloseError, Closed, Journaled, Pass};
 use std::alloc::Global;
 use std::num::NonZeroUsize;
+use std::process::Abort;
 use std::sync::Wait;
 use std::test::Fail;
+
+/// A call. Addresses, sizes and alignments are in the order of its arguments.
+#[derive(Clone, Copy)]
+enum Step {
+    Allocate(usize, usize),
+    Deallocate(usize),
+    Reallocate(usize, usize, usize),
+}
+
+/// Calls, each with the number of its caller before it and what it answers behind it: an address, 0 for a deallocation, or the number
+/// of the error.
+type Steps = &'static [(usize, Step, usize)];
+
+/// Calls over an allocator, and what is closed behind them.
+#[derive(Clone, Copy)]
+struct Case {
+    /// How many bytes the memory has, from 65536 on.
+    len: usize,
+    callers: usize,
+    steps: Steps,
+    /// For each caller the numbers of the entries that it has receipts for.
+    receipts: &'static [&'static [usize]],
+    /// Whether the passes are handed back the last one first.
+    last_first: bool,
+    /// How many entries there are, and how many payloads are live.
+    counts: (usize, usize),
+    /// What is closed, as text.
+    text: &'static str,
+}
+
+fn layout(size: usize, align: usize) -> Option<Layout> {
+    Layout::from_size_align(size, align).ok()
+}
+
+/// The call of a step; nothing where it names no address or no layout.
+fn call_of(step: Step) -> Option<Call> {
+    match step {
+        Step::Allocate(size, align) => Some(Call::Allocate(layout(size, align)?)),
+        Step::Deallocate(addr) => Some(Call::Deallocate(NonZeroUsize::new(addr)?)),
+        Step::Reallocate(addr, size, align) => {
+            let addr = NonZeroUsize::new(addr)?;
+            Some(Call::Reallocate(addr, layout(size, align)?))
+        }
+    }
+}
 
 /// The number of an address, or that of the error.
 fn number(answer: Result<Addr, GlobalError>) -> usize {
@@ -31,25 +77,177 @@ fn answer(rt: &impl Wait, journaled: &Journaled, pass: &mut Pass, call: Call) ->
     }
 }
 
+/// The place of the first step that answers otherwise, or that can't be done.
+fn first_wrong(
+    rt: &impl Wait,
+    journaled: &Journaled,
+    passes: &mut [Pass],
+    steps: Steps,
+) -> Option<usize> {
+    for (place, (caller, step, wanted)) in steps.iter().enumerate() {
+        let (Some(pass), Some(call)) = (passes.get_mut(*caller), call_of(*step)) else {
+            return Some(place);
+        };
+        if answer(rt, journaled, pass, call) != *wanted {
+            return Some(place);
+        }
+    }
+    None
+}
+
+/// Whether a pass has receipts for the entries of these numbers.
+fn has_receipts(pass: &Pass, numbers: &[usize]) -> bool {
+    let receipts = pass.receipts();
+    for (receipt, number) in receipts.iter().zip(numbers) {
+        if receipt.number != *number {
+            return false;
+        }
+    }
+    receipts.len() == numbers.len()
+}
+
+/// Whether each pass has the receipts that stand at its place.
+fn have_receipts(passes: &[Pass], numbers: &[&[usize]]) -> bool {
+    for (pass, numbers) in passes.iter().zip(numbers) {
+        if !has_receipts(pass, numbers) {
+            return false;
+        }
+    }
+    passes.len() == numbers.len()
+}
+
 /// An allocator over so many bytes from 65536 on, with the passes of its callers.
-fn over(alloc: Global, len: usize, callers: usize) -> Result<(Journaled, Vec<Pass>), Fail> {
+pub fn over(alloc: Global, len: usize, callers: usize) -> Result<(Journaled, Vec<Pass>), Fail> {
     let memory = Memory::new(alloc, 65536, len)?;
     Ok(Journaled::new(alloc, memory, callers)?)
 }
 
-/// Two passes under which a payload is allocated by one, and freed by both.
-fn freed_twice(rt: &impl Wait, alloc: Global) -> Result<(Journaled, Pass, Pass, [usize; 3]), Fail> {
-    let (journaled, mut passes) = over(alloc, 131072, 2)?;
-    let mut second = passes.pop().ok_or(GlobalError::JournalMemory)?;
-    let mut first = passes.pop().ok_or(GlobalError::JournalMemory)?;
-    let addr = NonZeroUsize::new(65552).ok_or(GlobalError::NoRoom)?;
-    let byte = Layout::from_size_align(1, 1)?;
-    let answers = [
-        answer(rt, &journaled, &mut first, Call::Allocate(byte)),
-        answer(rt, &journaled, &mut second, Call::Deallocate(addr)),
-        answer(rt, &journaled, &mut first, Call::Deallocate(addr)),
-    ];
-    Ok((journaled, first, second, answers))
+/// What is left when all steps of a case have answered as they have to.
+fn after_steps(
+    rt: &(impl Wait + Abort),
+    alloc: Global,
+    case: Case,
+) -> Result<(Journaled, Vec<Pass>), Fail> {
+    let (journaled, mut passes) = over(alloc, case.len, case.callers)?;
+    let wrong = first_wrong(rt, &journaled, &mut passes, case.steps);
+    assert_eq!(rt; wrong, None);
+    Ok((journaled, passes))
+}
+
+/// What closing leaves, where the passes agree with the journal.
+pub fn agreed(rt: &impl Abort, journaled: Journaled, passes: Vec<Pass>) -> Closed {
+    journaled.close(passes).ok().expect(rt, "the passes agree")
+}
+
+/// Passes where what must comes of a case.
+fn is_right(rt: &(impl Wait + Abort), alloc: Global, case: Case) -> Result<(), Fail> {
+    let (journaled, mut passes) = after_steps(rt, alloc, case)?;
+    assert!(rt; have_receipts(&passes, case.receipts));
+    if case.last_first {
+        passes.reverse();
+    }
+    let closed = agreed(rt, journaled, passes);
+    assert_eq!(rt; (closed.journal.len(), closed.live.len()), case.counts);
+    assert_eq!(rt; closed.to_string(alloc)?.as_str(), case.text);
+    Ok(())
+}
+
+const ONE_THREAD: Case = Case {
+    len: 65536,
+    callers: 2,
+    steps: &[
+        (0, Step::Allocate(0, 1), 65552),
+        (1, Step::Allocate(0, 1), 65584),
+        (0, Step::Allocate(65536, 1), 1),
+    ],
+    receipts: &[&[0, 2], &[1]],
+    last_first: false,
+    counts: (3, 2),
+    text: "0 caller 0: allocate 0 align 1: placed at 65552\n\
+           1 caller 1: allocate 0 align 1: placed at 65584\n\
+           2 caller 0: allocate 65536 align 1: no room\n\
+           live 65552: 0 align 1\n\
+           live 65584: 0 align 1\n",
+};
+
+#[test]
+fn one_thread(rt: HostRuntime) -> Result<(), Fail> {
+    is_right(&rt, rt.alloc(), ONE_THREAD)
+}
+
+/// A payload that one of two callers allocates, and both free.
+const FREED_TWICE: Case = Case {
+    len: 131072,
+    callers: 2,
+    steps: &[
+        (0, Step::Allocate(1, 1), 65552),
+        (1, Step::Deallocate(65552), 0),
+        (0, Step::Deallocate(65552), 2),
+    ],
+    receipts: &[&[0, 2], &[1]],
+    last_first: true,
+    counts: (3, 0),
+    text: "0 caller 0: allocate 1 align 1: placed at 65552\n\
+           1 caller 1: deallocate 65552: freed\n\
+           2 caller 0: deallocate 65552: unknown address\n",
+};
+
+#[test]
+fn another_caller_frees(rt: HostRuntime) -> Result<(), Fail> {
+    is_right(&rt, rt.alloc(), FREED_TWICE)
+}
+
+const MOVED: Case = Case {
+    len: 131072,
+    callers: 1,
+    steps: &[
+        (0, Step::Allocate(8, 8), 65552),
+        (0, Step::Reallocate(65552, 40, 16), 65584),
+        (0, Step::Reallocate(65552, 40, 16), 2),
+    ],
+    receipts: &[&[0, 1, 2]],
+    last_first: false,
+    counts: (3, 1),
+    text: "0 caller 0: allocate 8 align 8: placed at 65552\n\
+           1 caller 0: reallocate 65552 to 40 align 16: placed at 65584\n\
+           2 caller 0: reallocate 65552 to 40 align 16: unknown address\n\
+           live 65584: 40 align 16\n",
+};
+
+#[test]
+fn a_payload_moves(rt: HostRuntime) -> Result<(), Fail> {
+    is_right(&rt, rt.alloc(), MOVED)
+}
+
+/// A pass that is handed back.
+#[derive(Clone, Copy)]
+enum Handed {
+    /// The next of the allocator's own passes.
+    Own,
+    /// The last pass, an unused one, of another allocator with so many callers.
+    Stray(usize),
+}
+
+/// The pass that is handed back, which is taken off the end of the allocator's own ones if it is one of them.
+fn pass_of(alloc: Global, own: &mut Vec<Pass>, handed: Handed) -> Result<Pass, Fail> {
+    let pass = match handed {
+        Handed::Own => own.pop(),
+        Handed::Stray(callers) => {
+            let (_, mut others) = over(alloc, 65536, callers)?;
+            others.pop()
+        }
+    };
+    Ok(pass.ok_or(GlobalError::JournalMemory)?)
+}
+
+/// The passes that are handed back.
+fn passes_of(alloc: Global, mut own: Vec<Pass>, handed: &[Handed]) -> Result<Vec<Pass>, Fail> {
+    own.reverse();
+    let mut passes = Vec::new(alloc);
+    for one in handed {
+        passes.push(pass_of(alloc, &mut own, *one)?)?;
+    }
+    Ok(passes)
 }
 
 /// The number of the error, or 0 where it was closed.
@@ -60,124 +258,28 @@ fn code(closed: Result<Closed, CloseError>) -> usize {
     }
 }
 
-/// The number of the entry that a pass has its receipt of this place for, if it has one.
-fn number_at(pass: &Pass, place: usize) -> Option<usize> {
-    pass.receipts().get(place).map(|receipt| receipt.number)
+/// What closing answers to these passes, when a payload was freed twice.
+fn closing(rt: &(impl Wait + Abort), alloc: Global, handed: &[Handed]) -> Result<usize, Fail> {
+    let (journaled, own) = after_steps(rt, alloc, FREED_TWICE)?;
+    let passes = passes_of(alloc, own, handed)?;
+    Ok(code(journaled.close(passes)))
 }
 
-/// The pass of a number, of an allocator that nobody calls.
-fn stray(alloc: Global, callers: usize, number: usize) -> Result<Pass, Fail> {
-    let (_, mut passes) = over(alloc, 65536, callers)?;
-    if number >= passes.len() {
-        return Err(GlobalError::JournalMemory)?;
-    }
-    Ok(passes.remove(number))
-}
-
-#[test]
-fn one_thread(rt: HostRuntime) -> Result<(), Fail> {
-    let (journaled, mut passes) = over(rt.alloc(), 65536, 2)?;
-    let mut second = passes.pop().expect(&rt, "pass 1");
-    let mut first = passes.pop().expect(&rt, "pass 0");
-    let none = Call::Allocate(Layout::from_size_align(0, 1)?);
-    let page = Call::Allocate(Layout::from_size_align(65536, 1)?);
-    let answers = [
-        answer(&rt, &journaled, &mut first, none),
-        answer(&rt, &journaled, &mut second, none),
-        answer(&rt, &journaled, &mut first, page),
-    ];
-    assert_eq!(rt; answers, [65552, 65584, 1]);
-    assert_eq!(rt; (first.receipts().len(), second.receipts().len()), (2, 1));
-    assert_eq!(rt;
-        (
-            number_at(&first, 0),
-            number_at(&first, 1),
-            number_at(&second, 0)
-        ),
-        (Some(0), Some(2), Some(1))
-    );
-    let closed = journaled
-        .close(vec![in rt.alloc(); first, second]?)
-        .ok()
-        .expect(&rt, "the passes agree");
-    assert_eq!(rt;
-        closed.to_string(rt.alloc())?.as_str(),
-        "0 caller 0: allocate 0 align 1: placed at 65552\n\
-         1 caller 1: allocate 0 align 1: placed at 65584\n\
-         2 caller 0: allocate 65536 align 1: no room\n\
-         live 65552: 0 align 1\n\
-         live 65584: 0 align 1\n"
-    );
-    Ok(())
-}
-
-#[test]
-fn another_caller_frees(rt: HostRuntime) -> Result<(), Fail> {
-    let (journaled, first, second, answers) = freed_twice(&rt, rt.alloc())?;
-    assert_eq!(rt; answers, [65552, 0, 2]);
-    let closed = journaled
-        .close(vec![in rt.alloc(); second, first]?)
-        .ok()
-        .expect(&rt, "the passes agree");
-    assert_eq!(rt; (closed.journal.len(), closed.live.len()), (3, 0));
-    assert_eq!(rt;
-        closed.to_string(rt.alloc())?.as_str(),
-        "0 caller 0: allocate 1 align 1: placed at 65552\n\
-         1 caller 1: deallocate 65552: freed\n\
-         2 caller 0: deallocate 65552: unknown address\n"
-    );
-    Ok(())
-}
+/// Passes that are handed back, and the number of the error that closing answers to them.
+static FAULTS: [(&[Handed], usize); 5] = [
+    (&[Handed::Own], 1),
+    (&[Handed::Own, Handed::Own, Handed::Stray(3)], 2),
+    (&[Handed::Own, Handed::Stray(2)], 3),
+    // Strange, missing and a mismatch; and the last two.
+    (&[Handed::Stray(2), Handed::Stray(2)], 2),
+    (&[Handed::Stray(2)], 1),
+];
 
 #[test]
 fn faults_come_in_their_order(rt: HostRuntime) -> Result<(), Fail> {
-    let alloc = rt.alloc();
-    let (journaled, first, _, _) = freed_twice(&rt, alloc)?;
-    assert_eq!(rt; code(journaled.close(vec![in alloc; first]?)), 1);
-    let (journaled, first, second, _) = freed_twice(&rt, alloc)?;
-    let third = stray(alloc, 3, 2)?;
-    assert_eq!(rt;
-        code(journaled.close(vec![in alloc; first, second, third]?)),
-        2
-    );
-    let (journaled, first, _, _) = freed_twice(&rt, alloc)?;
-    let unused = stray(alloc, 2, 1)?;
-    assert_eq!(rt; code(journaled.close(vec![in alloc; first, unused]?)), 3);
-    // Strange, missing and a mismatch; and the last two.
-    let (journaled, _, _, _) = freed_twice(&rt, alloc)?;
-    let (unused, again) = (stray(alloc, 2, 1)?, stray(alloc, 2, 1)?);
-    assert_eq!(rt; code(journaled.close(vec![in alloc; unused, again]?)), 2);
-    let (journaled, _, _, _) = freed_twice(&rt, alloc)?;
-    let unused = stray(alloc, 2, 1)?;
-    assert_eq!(rt; code(journaled.close(vec![in alloc; unused]?)), 1);
-    Ok(())
-}
-
-#[test]
-fn a_payload_moves(rt: HostRuntime) -> Result<(), Fail> {
-    let (journaled, mut passes) = over(rt.alloc(), 131072, 1)?;
-    let mut pass = passes.pop().expect(&rt, "pass 0");
-    let addr = NonZeroUsize::new(65552).expect(&rt, "an address");
-    let small = Layout::from_size_align(8, 8)?;
-    let great = Layout::from_size_align(40, 16)?;
-    let moved = Call::Reallocate(addr, great);
-    let answers = [
-        answer(&rt, &journaled, &mut pass, Call::Allocate(small)),
-        answer(&rt, &journaled, &mut pass, moved),
-        answer(&rt, &journaled, &mut pass, moved),
-    ];
-    assert_eq!(rt; answers, [65552, 65584, 2]);
-    let closed = journaled
-        .close(vec![in rt.alloc(); pass]?)
-        .ok()
-        .expect(&rt, "the pass agrees");
-    assert_eq!(rt;
-        closed.to_string(rt.alloc())?.as_str(),
-        "0 caller 0: allocate 8 align 8: placed at 65552\n\
-         1 caller 0: reallocate 65552 to 40 align 16: placed at 65584\n\
-         2 caller 0: reallocate 65552 to 40 align 16: unknown address\n\
-         live 65584: 40 align 16\n"
-    );
+    for (handed, error) in &FAULTS {
+        assert_eq!(rt; closing(&rt, rt.alloc(), handed)?, *error);
+    }
     Ok(())
 }
 

@@ -1,12 +1,14 @@
 //! Callers in threads.
 
-use rlsf_base::memory::{Layout, Memory};
+use crate::calls::{agreed, over};
+use rlsf_base::memory::Layout;
 use rlsf_global::GlobalError;
 use rlsf_journal::{Closed, Journaled, Pass};
 use std::sync::Wait;
 use std::sync::atomic::{AtomicBool, Ordering};
 use std::test::Fail;
 use std::thread;
+use std::thread::Threads;
 
 /// Sets one's own flag, and waits for the other's, at most 100,000,000 turns.
 fn meet(mine: &AtomicBool, theirs: &AtomicBool) -> bool {
@@ -68,32 +70,38 @@ fn caller_of(closed: &Closed, number: usize) -> usize {
     closed.journal[number].caller
 }
 
+fn callers_of(closed: &Closed, numbers: [usize; 2]) -> [usize; 2] {
+    [caller_of(closed, numbers[0]), caller_of(closed, numbers[1])]
+}
+
+/// What two callers do at once.
+fn visits<R: Threads + Wait + Sync>(
+    rt: &R,
+    journaled: &Journaled,
+    first: Pass,
+    second: Pass,
+) -> ((Pass, bool), (Pass, bool)) {
+    let (here, there) = (AtomicBool::new(false), AtomicBool::new(false));
+    thread::join(
+        rt,
+        || visit(rt, journaled, first, &here, &there, 7),
+        || visit(rt, journaled, second, &there, &here, 9),
+    )
+}
+
 #[test]
 fn two_callers(rt: HostRuntime) -> Result<(), Fail> {
-    let memory = Memory::new(rt.alloc(), 65536, 131072)?;
-    let (journaled, mut passes) = Journaled::new(rt.alloc(), memory, 2)?;
-    let second = passes.pop().expect(&rt, "pass 1");
-    let first = passes.pop().expect(&rt, "pass 0");
-    let (here, there) = (AtomicBool::new(false), AtomicBool::new(false));
-    let (left, right) = thread::join(
-        &rt,
-        || visit(&rt, &journaled, first, &here, &there, 7),
-        || visit(&rt, &journaled, second, &there, &here, 9),
-    );
-    assert!(rt; left.1 && right.1);
+    let (journaled, mut passes) = over(rt.alloc(), 131072, 2)?;
+    let (Some(second), Some(first)) = (passes.pop(), passes.pop()) else {
+        return Err(Fail::new("two passes"));
+    };
+    let (left, right) = visits(&rt, &journaled, first, second);
     let (own, other) = (numbers(&left.0), numbers(&right.0));
-    let closed = journaled
-        .close(vec![in rt.alloc(); left.0, right.0]?)
-        .ok()
-        .expect(&rt, "the passes agree");
+    assert!(rt; left.1 && right.1);
+    let closed = agreed(&rt, journaled, vec![in rt.alloc(); left.0, right.0]?);
     assert_eq!(rt; (closed.journal.len(), closed.live.len()), (4, 0));
-    let callers = [
-        caller_of(&closed, own[0]),
-        caller_of(&closed, own[1]),
-        caller_of(&closed, other[0]),
-        caller_of(&closed, other[1]),
-    ];
-    assert_eq!(rt; callers, [0, 0, 1, 1]);
+    assert_eq!(rt; callers_of(&closed, own), [0, 0]);
+    assert_eq!(rt; callers_of(&closed, other), [1, 1]);
     Ok(())
 }
 
@@ -130,15 +138,14 @@ fn rounds(rt: &impl Wait, journaled: &Journaled, mut pass: Pass) -> (Pass, bool)
 
 #[test]
 fn eight_callers(rt: HostRuntime) -> Result<(), Fail> {
-    let memory = Memory::new(rt.alloc(), 65536, 196608)?;
-    let (journaled, passes) = Journaled::new(rt.alloc(), memory, 8)?;
+    let (journaled, passes) = over(rt.alloc(), 196608, 8)?;
     let done = thread::map_vec(&rt, passes, &|pass| rounds(&rt, &journaled, pass))?;
     let mut passes = Vec::new(rt.alloc());
     for (pass, all) in done {
         assert!(rt; all);
         passes.push(pass)?;
     }
-    let closed = journaled.close(passes).ok().expect(&rt, "the passes agree");
+    let closed = agreed(&rt, journaled, passes);
     assert_eq!(rt; (closed.journal.len(), closed.live.len()), (24000, 0));
     Ok(())
 }
