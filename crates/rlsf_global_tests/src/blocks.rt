@@ -1,8 +1,9 @@
 //! The blocks that calls leave, by their words in the memory.
 
-use rlsf_base::memory::{Layout, Memory};
-use rlsf_global::Locked;
-use std::num::NonZeroUsize;
+use crate::locked::{first_wrong, over};
+use crate::steps::{Step, two_pages};
+use rlsf_base::memory::Memory;
+use std::alloc::Global;
 use std::test::Fail;
 
 /// The word at an address, if the memory has it.
@@ -16,7 +17,7 @@ fn word_at(memory: &Memory, addr: usize) -> Option<u64> {
 }
 
 /// The address of the first word that isn't the one beside it.
-fn first_wrong(memory: &Memory, words: &[(usize, u64)]) -> Option<usize> {
+fn first_wrong_word(memory: &Memory, words: &[(usize, u64)]) -> Option<usize> {
     for (addr, word) in words {
         if word_at(memory, *addr) != Some(*word) {
             return Some(*addr);
@@ -39,13 +40,22 @@ static GROWN: [(usize, u64); 10] = [
     (262120, 135584),
 ];
 
+/// What differs behind calls on an allocator over so many bytes: the first answer, and the address of the first word.
+fn differences(
+    alloc: Global,
+    len: usize,
+    steps: &[(Step, usize)],
+    words: &[(usize, u64)],
+) -> Result<(Option<(usize, usize)>, Option<usize>), Fail> {
+    let mut locked = over::<()>(alloc, len)?;
+    let step = first_wrong(&mut locked, steps);
+    Ok((step, first_wrong_word(locked.memory_ref(), words)))
+}
+
 #[test]
 fn a_chunk_that_grew(rt: HostRuntime) -> Result<(), Fail> {
-    let memory = Memory::new(rt.alloc(), 65536, 196608)?;
-    let mut locked = Locked::<()>::new(rt.alloc(), memory);
-    let _ = locked.allocate(Layout::from_size_align(1, 1)?);
-    let _ = locked.allocate(Layout::from_size_align(70000, 1)?);
-    assert_eq!(rt; first_wrong(locked.memory_ref(), &GROWN), None);
+    let found = differences(rt.alloc(), 196608, &two_pages(65584), &GROWN)?;
+    assert_eq!(rt; found, (None, None));
     Ok(())
 }
 
@@ -68,11 +78,11 @@ static MOVED: [(usize, u64); 13] = [
 
 #[test]
 fn a_payload_that_moved(rt: HostRuntime) -> Result<(), Fail> {
-    let memory = Memory::new(rt.alloc(), 65536, 131072)?;
-    let mut locked = Locked::<()>::new(rt.alloc(), memory);
-    let _ = locked.allocate(Layout::from_size_align(40, 8)?);
-    let addr = NonZeroUsize::new(65552).expect(&rt, "an address");
-    let _ = locked.reallocate(addr, Layout::from_size_align(10, 64)?);
-    assert_eq!(rt; first_wrong(locked.memory_ref(), &MOVED), None);
+    let steps = [
+        (Step::Allocate(40, 8), 65552),
+        (Step::Reallocate(65552, 10, 64), 65664),
+    ];
+    let found = differences(rt.alloc(), 131072, &steps, &MOVED)?;
+    assert_eq!(rt; found, (None, None));
     Ok(())
 }

@@ -12,4 +12,6 @@ mod pages;
 #[cfg(test)]
 mod shared;
 #[cfg(test)]
+mod steps;
+#[cfg(test)]
 mod threads;

@@ -32,13 +32,13 @@ struct Run<Options: GlobalTlsfOptions> {
     mark: u8,
 }
 
-/// What a call comes to.
-#[derive(Clone, Copy, PartialEq, Eq)]
-enum Outcome {
-    Right,
-    Wrong,
-    /// The bytes end before the call does.
-    End,
+/// What the next bytes mean. A payload is named by its place among those that are live.
+#[derive(Clone, Copy)]
+enum Call {
+    Nothing,
+    Allocate(Layout),
+    Free(usize),
+    Move(usize, Layout),
 }
 
 impl<Options: GlobalTlsfOptions> Run<Options> {
@@ -60,10 +60,11 @@ impl<Options: GlobalTlsfOptions> Run<Options> {
     /// Whether all calls answer what they have to, up to the last whole one, and all payloads that are live then can be freed.
     fn is_right<R: Wait>(&mut self, rt: &R) -> bool {
         for _ in 0..self.bytes.len() {
-            match self.call(rt) {
-                Outcome::Right => {}
-                Outcome::Wrong => return false,
-                Outcome::End => break,
+            let Some(call) = self.next_call() else {
+                break;
+            };
+            if !self.goes_so(rt, call) {
+                return false;
             }
         }
         self.all_are_freed(rt) && self.placed.is_empty()
@@ -78,15 +79,20 @@ impl<Options: GlobalTlsfOptions> Run<Options> {
         true
     }
 
-    /// Makes the call that the next bytes mean. The first chooses which one.
-    fn call<R: Wait>(&mut self, rt: &R) -> Outcome {
-        let Some(kind) = self.bytes.pop() else {
-            return Outcome::End;
-        };
-        match kind % 8 {
-            0..=2 => self.allocate(rt),
-            3..=5 => self.free(rt),
-            _ => self.move_one(rt),
+    /// The call that the next bytes mean, if they don't end before. The first chooses which one. With more than 64 payloads live none
+    /// is allocated.
+    fn next_call(&mut self) -> Option<Call> {
+        match self.bytes.pop()? % 8 {
+            0..=2 if self.live.len() > 64 => Some(Call::Nothing),
+            0..=2 => Some(Call::Allocate(self.next_layout()?)),
+            3..=5 => Some(match self.next_place()? {
+                Some(place) => Call::Free(place),
+                None => Call::Nothing,
+            }),
+            _ => match self.next_place()? {
+                Some(place) => Some(Call::Move(place, self.next_layout()?)),
+                None => Some(Call::Nothing),
+            },
         }
     }
 
@@ -97,89 +103,83 @@ impl<Options: GlobalTlsfOptions> Run<Options> {
         Layout::from_size_align(size, align).ok()
     }
 
-    /// Whether the next address is this one.
-    fn is_next(&mut self, addr: Addr) -> bool {
-        self.placed.pop().map(|offset| offset as usize) == addr.get().checked_sub(START)
-    }
-
-    /// With more than 64 payloads live none is allocated.
-    fn allocate<R: Wait>(&mut self, rt: &R) -> Outcome {
-        if self.live.len() > 64 {
-            return Outcome::Right;
-        }
-        let Some(layout) = self.next_layout() else {
-            return Outcome::End;
-        };
-        let Ok(addr) = self.shared.allocate(rt, layout) else {
-            return Outcome::Wrong;
-        };
-        let is_right = self.is_next(addr);
-        let Some(payload) = self.filled(rt, addr, layout.size()) else {
-            return Outcome::Wrong;
-        };
-        right_if(is_right && self.live.push(payload).is_ok())
-    }
-
     /// The payload that a byte chooses. The outer is none at the end of the bytes, and the inner where none is live.
     fn next_place(&mut self) -> Option<Option<usize>> {
         let index = usize::from(self.bytes.pop()?);
         Some(index.checked_rem(self.live.len()))
     }
 
-    fn free<R: Wait>(&mut self, rt: &R) -> Outcome {
-        let place = match self.next_place() {
-            None => return Outcome::End,
-            Some(None) => return Outcome::Right,
-            Some(Some(place)) => place,
-        };
-        let Some(payload) = self.live.get(place).copied() else {
-            return Outcome::Wrong;
-        };
-        let _ = self.live.swap_remove(place);
-        let is_right = self.has_its_bytes(rt, payload)
-            && self.shared.deallocate(rt, payload.addr).is_ok();
-        right_if(is_right)
+    /// Whether a call answers what it has to.
+    fn goes_so<R: Wait>(&mut self, rt: &R, call: Call) -> bool {
+        match call {
+            Call::Nothing => true,
+            Call::Allocate(layout) => self.allocate(rt, layout),
+            Call::Free(place) => self.free(rt, place),
+            Call::Move(place, layout) => self.move_one(rt, place, layout),
+        }
     }
 
-    fn move_one<R: Wait>(&mut self, rt: &R) -> Outcome {
-        let place = match self.next_place() {
-            None => return Outcome::End,
-            Some(None) => return Outcome::Right,
-            Some(Some(place)) => place,
+    fn allocate<R: Wait>(&mut self, rt: &R, layout: Layout) -> bool {
+        let Ok(addr) = self.shared.allocate(rt, layout) else {
+            return false;
         };
-        let Some(layout) = self.next_layout() else {
-            return Outcome::End;
+        let payload = self.payload(addr, layout.size());
+        self.is_next(addr) && self.is_filled(rt, payload) && self.live.push(payload).is_ok()
+    }
+
+    fn free<R: Wait>(&mut self, rt: &R, place: usize) -> bool {
+        if place >= self.live.len() {
+            return false;
+        }
+        let payload = self.live.swap_remove(place);
+        self.has_its_bytes(rt, payload) && self.shared.deallocate(rt, payload.addr).is_ok()
+    }
+
+    /// The bytes that are kept are read, and then all are filled anew.
+    fn move_one<R: Wait>(&mut self, rt: &R, place: usize, layout: Layout) -> bool {
+        let Some(old) = self.live.get(place).copied() else {
+            return false;
         };
-        let Some(payload) = self.live.get(place).copied() else {
-            return Outcome::Wrong;
-        };
-        let Ok(addr) = self.shared.reallocate(rt, payload.addr, layout) else {
-            return Outcome::Wrong;
+        let Ok(addr) = self.shared.reallocate(rt, old.addr, layout) else {
+            return false;
         };
         let kept = Live {
             addr,
-            size: payload.size.min(layout.size()),
-            mark: payload.mark,
+            size: old.size.min(layout.size()),
+            mark: old.mark,
         };
-        let is_right = self.is_next(addr) && self.has_its_bytes(rt, kept);
-        let Some(moved) = self.filled(rt, addr, layout.size()) else {
-            return Outcome::Wrong;
-        };
+        let moved = self.payload(addr, layout.size());
         if let Some(payload) = self.live.get_mut(place) {
             *payload = moved;
         }
-        right_if(is_right)
+        self.is_next(addr) && self.has_its_bytes(rt, kept) && self.is_filled(rt, moved)
     }
 
-    /// Fills a payload, in another way than those before it.
-    fn filled<R: Wait>(&mut self, rt: &R, addr: Addr, size: usize) -> Option<Live> {
+    /// Whether the next address is this one.
+    fn is_next(&mut self, addr: Addr) -> bool {
+        self.placed.pop().map(|offset| offset as usize) == addr.get().checked_sub(START)
+    }
+
+    /// A payload that gets a mark, so that it is filled in another way than those before it.
+    fn payload(&mut self, addr: Addr, size: usize) -> Live {
         self.mark = self.mark.wrapping_add(1);
-        let mark = self.mark;
-        let bytes = filling(mark);
-        self.shared
-            .write_payload(rt, addr, 0, bytes.get(..size)?)
-            .ok()?;
-        Some(Live { addr, size, mark })
+        Live {
+            addr,
+            size,
+            mark: self.mark,
+        }
+    }
+
+    /// Fills a payload; whether it could be filled.
+    fn is_filled<R: Wait>(&self, rt: &R, payload: Live) -> bool {
+        let bytes = filling(payload.mark);
+        match bytes.get(..payload.size) {
+            Some(bytes) => self
+                .shared
+                .write_payload(rt, payload.addr, 0, bytes)
+                .is_ok(),
+            None => false,
+        }
     }
 
     /// Whether a payload's bytes are those that it was filled with.
@@ -205,14 +205,6 @@ fn filling(mark: u8) -> [u8; 256] {
         next = next.wrapping_add(7);
     }
     bytes
-}
-
-fn right_if(is_right: bool) -> Outcome {
-    if is_right {
-        Outcome::Right
-    } else {
-        Outcome::Wrong
-    }
 }
 
 /// Whether a list's calls are answered as they have to be.

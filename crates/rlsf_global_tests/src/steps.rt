@@ -1,0 +1,241 @@
+//! Calls as rows of tables, each with what it has to answer: an address, a number of bytes, 0 for done, or the number of an error.
+//! They are made of the value under the lock and of the allocator with its lock.
+
+ghost use Rattle.rlsf_base.specs.Layout.{IsLayout};
+
+use rlsf_base::memory::{Addr, Layout};
+use rlsf_global::GlobalError;
+use std::num::NonZeroUsize;
+
+/// A call. Addresses, sizes, alignments and new sizes are in the order of its arguments.
+#[derive(Clone, Copy)]
+pub enum Step {
+    Alloc(usize, usize),
+    Allocate(usize, usize),
+    Dealloc(usize, usize, usize),
+    Deallocate(usize),
+    Realloc(usize, usize, usize, usize),
+    Reallocate(usize, usize, usize),
+    NoMove(usize, usize, usize, usize),
+    Usable(usize),
+    /// Writes so many bytes at an offset: 1, 2, ..
+    Write(usize, usize, usize),
+    /// Reads so many bytes at an offset, which are 1, 2, ..
+    Read(usize, usize, usize),
+}
+
+/// A step whose numbers are an address and layouts.
+#[derive(Clone, Copy)]
+pub enum Call {
+    Alloc(Layout),
+    Allocate(Layout),
+    Dealloc(Addr, Layout),
+    Deallocate(Addr),
+    Realloc(Addr, Resized),
+    Reallocate(Addr, Layout),
+    NoMove(Addr, Resized),
+    Usable(Addr),
+    Write(Addr, usize, usize),
+    Read(Addr, usize, usize),
+}
+
+/// A layout, and another size that goes with its alignment.
+#[derive(Clone, Copy)]
+pub struct Resized {
+    pub layout: Layout,
+    pub new_size: usize,
+    pub ghost valid: { IsLayout new_size layout.align },
+}
+
+fn layout(size: usize, align: usize) -> Option<Layout> {
+    Layout::from_size_align(size, align).ok()
+}
+
+fn placed_as(addr: usize, size: usize, align: usize) -> Option<(Addr, Layout)> {
+    Some((NonZeroUsize::new(addr)?, layout(size, align)?))
+}
+
+fn with_new_size(size: usize, align: usize, new_size: usize) -> Option<Resized> {
+    match (
+        Layout::from_size_align(size, align),
+        Layout::from_size_align(new_size, align),
+    ) {
+        (Ok(layout), Ok(_)) => Some(Resized { layout, new_size }),
+        _ => None,
+    }
+}
+
+/// The call of a step; nothing where it names no address or no layout.
+pub fn call_of(step: Step) -> Option<Call> {
+    match step {
+        Step::Alloc(size, align) => Some(Call::Alloc(layout(size, align)?)),
+        Step::Allocate(size, align) => Some(Call::Allocate(layout(size, align)?)),
+        Step::Dealloc(addr, size, align) => {
+            let (addr, layout) = placed_as(addr, size, align)?;
+            Some(Call::Dealloc(addr, layout))
+        }
+        Step::Deallocate(addr) => Some(Call::Deallocate(NonZeroUsize::new(addr)?)),
+        Step::Realloc(addr, size, align, new_size) => {
+            let addr = NonZeroUsize::new(addr)?;
+            Some(Call::Realloc(addr, with_new_size(size, align, new_size)?))
+        }
+        Step::Reallocate(addr, size, align) => {
+            let (addr, layout) = placed_as(addr, size, align)?;
+            Some(Call::Reallocate(addr, layout))
+        }
+        Step::NoMove(addr, size, align, new_size) => {
+            let addr = NonZeroUsize::new(addr)?;
+            Some(Call::NoMove(addr, with_new_size(size, align, new_size)?))
+        }
+        Step::Usable(addr) => Some(Call::Usable(NonZeroUsize::new(addr)?)),
+        Step::Write(addr, offset, len) => {
+            Some(Call::Write(NonZeroUsize::new(addr)?, offset, len))
+        }
+        Step::Read(addr, offset, len) => Some(Call::Read(NonZeroUsize::new(addr)?, offset, len)),
+    }
+}
+
+/// What is written and read.
+static RISING: [u8; 40] = [
+    1, 2, 3, 4, 5, 6, 7, 8, 9, 10, 11, 12, 13, 14, 15, 16, 17, 18, 19, 20, 21, 22, 23, 24, 25, 26,
+    27, 28, 29, 30, 31, 32, 33, 34, 35, 36, 37, 38, 39, 40,
+];
+
+/// So many bytes that are written, or read.
+pub fn rising(len: usize) -> Option<&'static [u8]> {
+    RISING.get(..len)
+}
+
+/// The number of an address, or that of the error.
+pub fn placed(answer: Result<Addr, GlobalError>) -> usize {
+    match answer {
+        Ok(addr) => addr.get(),
+        Err(error) => error as usize,
+    }
+}
+
+/// 0 where a call was done, or the number of the error.
+pub fn done(answer: Result<(), GlobalError>) -> usize {
+    match answer {
+        Ok(()) => 0,
+        Err(error) => error as usize,
+    }
+}
+
+/// A number of bytes, or the number of the error.
+pub fn counted(answer: Result<usize, GlobalError>) -> usize {
+    match answer {
+        Ok(size) => size,
+        Err(error) => error as usize,
+    }
+}
+
+/// What the bytes are that a read goes into. A read that is refused has to leave them.
+pub const UNREAD: [u8; 40] = [77; 40];
+
+/// 0 where a read gave the first of the bytes that are written, or the number of the error.
+pub fn told(answer: Result<(), GlobalError>, bytes: &[u8; 40], len: usize) -> usize {
+    match answer {
+        Ok(()) if bytes.get(..len) == rising(len) => 0,
+        Err(error) if *bytes == UNREAD => error as usize,
+        _ => OTHER_BYTES,
+    }
+}
+
+/// What is answered where bytes aren't those that they should be.
+const OTHER_BYTES: usize = 99;
+
+/// What is answered where a step can't be done, as it names no address, no layout or too many bytes.
+pub const NO_STEP: usize = 98;
+
+pub const NO_ROOM: usize = GlobalError::NoRoom as usize;
+
+const UNKNOWN_ADDRESS: usize = GlobalError::UnknownAddress as usize;
+
+pub const WRONG_LAYOUT: usize = GlobalError::WrongLayout as usize;
+
+const OUT_OF_RANGE: usize = GlobalError::OutOfRange as usize;
+
+#[test]
+fn errors_have_their_numbers(rt: HostRuntime) {
+    let numbers = [
+        NO_ROOM,
+        UNKNOWN_ADDRESS,
+        WRONG_LAYOUT,
+        GlobalError::TableMemory as usize,
+        OUT_OF_RANGE,
+        GlobalError::JournalMemory as usize,
+    ];
+    assert_eq!(rt; numbers, [1, 2, 3, 4, 5, 6]);
+}
+
+/// Calls with what they answer, over 131072 bytes from 65536 on.
+pub fn tables() -> [&'static [(Step, usize)]; 5] {
+    [&FREED, &WRITES, &READS, &MOVES, &STAYS]
+}
+
+/// An address that is strange, one that was freed, and one that was freed and handed out again, which is live then.
+static FREED: [(Step, usize); 15] = [
+    (Step::Allocate(1, 1), 65552),
+    (Step::Deallocate(65552), 0),
+    (Step::Deallocate(65552), UNKNOWN_ADDRESS),
+    (Step::Deallocate(7), UNKNOWN_ADDRESS),
+    (Step::Dealloc(65552, 1, 1), UNKNOWN_ADDRESS),
+    (Step::Usable(65552), UNKNOWN_ADDRESS),
+    (Step::Read(65552, 0, 1), UNKNOWN_ADDRESS),
+    (Step::Write(65552, 0, 0), UNKNOWN_ADDRESS),
+    (Step::Realloc(65552, 1, 1, 2), UNKNOWN_ADDRESS),
+    (Step::Reallocate(65552, 1, 1), UNKNOWN_ADDRESS),
+    (Step::NoMove(65552, 1, 1, 2), UNKNOWN_ADDRESS),
+    (Step::Alloc(1, 1), 65552),
+    (Step::Dealloc(65552, 1, 1), 0),
+    (Step::Allocate(1, 1), 65552),
+    (Step::Deallocate(65552), 0),
+];
+
+/// Bytes past the usable ones, and a layout that wasn't asked for.
+static WRITES: [(Step, usize); 6] = [
+    (Step::Allocate(1, 1), 65552),
+    (Step::Write(65552, 10, 7), OUT_OF_RANGE),
+    (Step::Write(65552, 10, 6), 0),
+    (Step::Read(65552, 10, 6), 0),
+    (Step::Dealloc(65552, 2, 1), WRONG_LAYOUT),
+    (Step::Dealloc(65552, 1, 1), 0),
+];
+
+static READS: [(Step, usize); 6] = [
+    (Step::Allocate(1, 1), 65552),
+    (Step::Read(65552, 16, 0), 0),
+    (Step::Read(65552, 17, 0), OUT_OF_RANGE),
+    (Step::Read(65552, usize::MAX, 1), OUT_OF_RANGE),
+    (Step::Read(7, usize::MAX, 1), UNKNOWN_ADDRESS),
+    (Step::Usable(65552), 16),
+];
+
+/// A payload that gets another alignment moves, and its old address isn't live any more.
+static MOVES: [(Step, usize); 8] = [
+    (Step::Allocate(40, 8), 65552),
+    (Step::Write(65552, 0, 40), 0),
+    (Step::Reallocate(65552, 10, 64), 65664),
+    (Step::Usable(65664), 32),
+    (Step::Read(65664, 0, 10), 0),
+    (Step::Deallocate(65552), UNKNOWN_ADDRESS),
+    (Step::Deallocate(65664), 0),
+    (Step::Deallocate(65664), UNKNOWN_ADDRESS),
+];
+
+/// The layout that counts is the one that was last asked for.
+static STAYS: [(Step, usize); 4] = [
+    (Step::Alloc(40, 8), 65552),
+    (Step::NoMove(65552, 40, 8, 100), 65552),
+    (Step::NoMove(65552, 40, 8, 20), WRONG_LAYOUT),
+    (Step::NoMove(65552, 100, 8, 70000), NO_ROOM),
+];
+
+/// Two allocations, the second of which needs another page.
+pub fn two_pages(second: usize) -> [(Step, usize); 2] {
+    [
+        (Step::Allocate(1, 1), 65552),
+        (Step::Allocate(70000, 1), second),
+    ]
+}
