@@ -1,11 +1,11 @@
 //! Scripts of calls, each with what it answers. Payloads lie at the first multiple of their alignment that leaves 16 bytes before it, and
 //! blocks are as short as multiples of 32 allow.
 
-use super::pools::{START, Small, at, number};
-use rlsf_base::memory::{Layout, Memory, Range};
+use super::pools::{Small, at, memory, number, small};
+use rlsf_base::memory::{Layout, Range};
 use rlsf_checked::{CheckedError, CheckedTlsf};
+use rlsf_int::Bitmap;
 use std::process::Abort;
-use std::test::Fail;
 
 /// A call, and what it answers.
 #[derive(Clone, Copy)]
@@ -86,6 +86,13 @@ fn answers_as(pool: &mut Small, rt: &impl Abort, step: &Step) -> bool {
     }
 }
 
+/// Passes where the calls answer what they should, one after another.
+fn answers_all(pool: &mut Small, rt: &impl Abort, steps: &[Step]) {
+    for (index, step) in steps.iter().enumerate() {
+        assert!(rt; answers_as(pool, rt, step), "the step at {index}");
+    }
+}
+
 const SIZES: &[Step] = &[
     Step::Insert(4096, 1024, Ok(1024)),
     Step::Allocate(100, 32, Ok(4128)),
@@ -151,16 +158,14 @@ const REFUSALS: &[Step] = &[
 ];
 
 #[test]
-fn scripts(rt: HostRuntime) -> Result<(), Fail> {
+fn scripts(rt: HostRuntime) {
     for script in [SIZES, RANGES, REFUSALS] {
-        let mut pool = Small::new(rt.alloc(), Memory::new(rt.alloc(), START, 1024)?)?;
-        assert!(rt; script.iter().all(|step| answers_as(&mut pool, &rt, step)));
+        answers_all(&mut small(&rt, 1024), &rt, script);
     }
-    Ok(())
 }
 
-/// Whether all that a payload's address is asked for is refused.
-fn is_strange(pool: &mut Small, rt: &impl Abort, addr: usize) -> bool {
+/// Passes where all that a payload's address is asked for is refused.
+fn is_strange(pool: &mut Small, rt: &impl Abort, addr: usize) {
     let strange = CheckedError::UnknownAddress;
     let steps = [
         Step::Usable(addr, Err(strange)),
@@ -171,8 +176,14 @@ fn is_strange(pool: &mut Small, rt: &impl Abort, addr: usize) -> bool {
         Step::ReallocateThere(addr, 18446744073709551615, Err(strange)),
         Step::Deallocate(addr, Err(strange)),
     ];
-    steps.iter().all(|step| answers_as(pool, rt, step))
+    answers_all(pool, rt, &steps);
 }
+
+/// A payload of 100 bytes at 4112.
+const ONE_PAYLOAD: &[Step] = &[
+    Step::Insert(4096, 1024, Ok(1024)),
+    Step::Allocate(100, 1, Ok(4112)),
+];
 
 /// Addresses at which no payload lies: before, in and behind the memory, and in the payload that lies at 4112.
 static STRANGE: [usize; 14] = [
@@ -193,69 +204,60 @@ static STRANGE: [usize; 14] = [
 ];
 
 #[test]
-fn strange_addresses_are_refused(rt: HostRuntime) -> Result<(), Fail> {
-    let mut pool = Small::new(rt.alloc(), Memory::new(rt.alloc(), START, 1024)?)?;
-    let all = [
-        Step::Insert(4096, 1024, Ok(1024)),
-        Step::Allocate(100, 1, Ok(4112)),
-    ];
-    assert!(rt; all.iter().all(|step| answers_as(&mut pool, &rt, step)));
+fn strange_addresses_are_refused(rt: HostRuntime) {
+    let mut pool = small(&rt, 1024);
+    answers_all(&mut pool, &rt, ONE_PAYLOAD);
     for addr in STRANGE {
-        assert!(rt; is_strange(&mut pool, &rt, addr));
+        is_strange(&mut pool, &rt, addr);
     }
-    assert_eq!(rt; pool.usable_size(at(&rt, 4112)), Ok(112));
-    Ok(())
+    answers_all(&mut pool, &rt, &[Step::Usable(4112, Ok(112))]);
+}
+
+/// Why there is no allocator of these classes.
+fn refusal<FLBitmap: Bitmap, SLBitmap: Bitmap, const FLLEN: usize, const SLLEN: usize>(
+    rt: &(impl Abort + AllocGlobal),
+) -> Option<CheckedError> {
+    CheckedTlsf::<FLBitmap, SLBitmap, FLLEN, SLLEN>::new(rt.alloc(), memory(rt, 64)).err()
 }
 
 #[test]
-fn classes_are_tested(rt: HostRuntime) -> Result<(), Fail> {
-    let too_many_rows = CheckedTlsf::<u8, u8, 9, 4>::new(
-        rt.alloc(),
-        Memory::new(rt.alloc(), START, 64)?,
-    );
-    let no_rows = CheckedTlsf::<u8, u8, 0, 4>::new(rt.alloc(), Memory::new(rt.alloc(), START, 64)?);
-    let no_power_of_two = CheckedTlsf::<u8, u8, 8, 3>::new(
-        rt.alloc(),
-        Memory::new(rt.alloc(), START, 64)?,
-    );
-    let too_many_classes = CheckedTlsf::<u8, u8, 8, 16>::new(
-        rt.alloc(),
-        Memory::new(rt.alloc(), START, 64)?,
-    );
-    let all = CheckedTlsf::<u8, u8, 8, 8>::new(rt.alloc(), Memory::new(rt.alloc(), START, 64)?);
-    assert_eq!(rt; too_many_rows.err(), Some(CheckedError::InvalidClasses));
-    assert_eq!(rt; no_rows.err(), Some(CheckedError::InvalidClasses));
-    assert_eq!(rt; no_power_of_two.err(), Some(CheckedError::InvalidClasses));
-    assert_eq!(rt; too_many_classes.err(), Some(CheckedError::InvalidClasses));
-    assert_eq!(rt; all.err(), None);
-    Ok(())
+fn classes_are_tested(rt: HostRuntime) {
+    let invalid = Some(CheckedError::InvalidClasses);
+    let too_many_rows = refusal::<u8, u8, 9, 4>(&rt);
+    let no_rows = refusal::<u8, u8, 0, 4>(&rt);
+    let no_power_of_two = refusal::<u8, u8, 8, 3>(&rt);
+    let too_many_classes = refusal::<u8, u8, 8, 16>(&rt);
+    let all = refusal::<u8, u8, 8, 8>(&rt);
+    let refusals = [
+        too_many_rows,
+        no_rows,
+        no_power_of_two,
+        too_many_classes,
+        all,
+    ];
+    assert_eq!(rt; refusals, [invalid, invalid, invalid, invalid, None]);
 }
 
 #[test]
-fn the_last_chunk_grows(rt: HostRuntime) -> Result<(), Fail> {
-    let memory = Memory::new(rt.alloc(), START, 1024)?;
-    let mut pool = CheckedTlsf::<u64, u64, 59, 8>::new(rt.alloc(), memory)?;
+fn the_last_chunk_grows(rt: HostRuntime) {
+    let pool = CheckedTlsf::<u64, u64, 59, 8>::new(rt.alloc(), memory(&rt, 1024));
+    let mut pool = pool.expect(&rt, "an allocator");
+    let first = pool.insert(Range {
+        start: 4096,
+        len: 128,
+    });
+    let short = pool.append(Range {
+        start: 4224,
+        len: 31,
+    });
+    let second = pool.append(Range {
+        start: 4224,
+        len: 70,
+    });
+    let size = pool.blocks().next().map(|block| block.size());
     assert_eq!(rt;
-        pool.insert(Range {
-            start: 4096,
-            len: 128
-        }),
-        Ok(128)
+        [first, short, second],
+        [Ok(128), Err(CheckedError::TooShort), Ok(64)]
     );
-    assert_eq!(rt;
-        pool.append(Range {
-            start: 4224,
-            len: 31
-        }),
-        Err(CheckedError::TooShort)
-    );
-    assert_eq!(rt;
-        pool.append(Range {
-            start: 4224,
-            len: 70
-        }),
-        Ok(64)
-    );
-    assert_eq!(rt; pool.blocks().next().map(|block| block.size()), Some(160));
-    Ok(())
+    assert_eq!(rt; size, Some(160));
 }

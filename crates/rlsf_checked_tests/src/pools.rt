@@ -1,11 +1,9 @@
 //! What the tests share.
 
-use rlsf_base::memory::{Addr, Memory, Range};
+use rlsf_base::memory::{Addr, Memory};
 use rlsf_checked::{CheckedError, CheckedTlsf};
-use std::alloc::Global;
 use std::num::NonZeroUsize;
 use std::process::Abort;
-use std::test::Fail;
 
 /// Where every memory of these tests begins.
 pub(crate) const START: usize = 4096;
@@ -13,15 +11,14 @@ pub(crate) const START: usize = 4096;
 /// 12 rows of 16 classes.
 pub(crate) type Small = CheckedTlsf<u16, u16, 12, 16>;
 
-/// An allocator over so many bytes, of which the first are handed in.
-pub(crate) fn with_pool(alloc: Global, len: usize, first: usize) -> Result<Small, Fail> {
-    let mut pool = Small::new(alloc, Memory::new(alloc, START, len)?)?;
-    let range = Range {
-        start: START,
-        len: first,
-    };
-    let _ = pool.insert(range)?;
-    Ok(pool)
+/// A memory of so many bytes.
+pub(crate) fn memory(rt: &(impl Abort + AllocGlobal), len: usize) -> Memory {
+    Memory::new(rt.alloc(), START, len).expect(rt, "a memory")
+}
+
+/// An allocator over so many bytes, of which none are handed in.
+pub(crate) fn small(rt: &(impl Abort + AllocGlobal), len: usize) -> Small {
+    Small::new(rt.alloc(), memory(rt, len)).expect(rt, "an allocator")
 }
 
 /// The address of a number that isn't 0.

@@ -1,10 +1,10 @@
 //! Random calls against a plain table of what must live.
 
-use super::pools::{START, Small, with_pool};
-use rlsf_base::memory::{Addr, Layout};
+use super::pools::{START, Small, small};
+use rlsf_base::memory::{Addr, Layout, Range};
 use rlsf_checked::CheckedError;
 use std::num::NonZeroUsize;
-use std::test::Fail;
+use std::process::Abort;
 
 /// How many payloads may live at once.
 const PLACES: usize = 32;
@@ -37,43 +37,45 @@ fn holds(pool: &Small, entry: Entry) -> bool {
 }
 
 /// Fills the first bytes of a payload, one by one.
-fn fill(pool: &mut Small, entry: Entry) -> Result<(), CheckedError> {
+fn fill(pool: &mut Small, rt: &impl Abort, entry: Entry) {
     for offset in 0..entry.size {
-        pool.write(entry.addr, offset, &[entry.byte])?;
+        let written = pool.write(entry.addr, offset, &[entry.byte]);
+        assert!(rt; written.is_ok(), "a byte of a payload is refused");
     }
-    Ok(())
+}
+
+/// The address that a call answers, or none where there is no room.
+fn found(rt: &impl Abort, answer: Result<Addr, CheckedError>) -> Option<Addr> {
+    assert!(rt; answer.is_ok() || answer == Err(CheckedError::NoRoom));
+    answer.ok()
 }
 
 /// Allocates a payload and fills it, where there is room.
-fn placed(pool: &mut Small, size: usize, align: usize, byte: u8) -> Result<Option<Entry>, Fail> {
-    let addr = match pool.allocate(Layout::from_size_align(size, align)?) {
-        Ok(addr) => addr,
-        Err(CheckedError::NoRoom) => return Ok(None),
-        Err(error) => return Err(Fail::from(error)),
-    };
+fn placed(pool: &mut Small, rt: &impl Abort, size: usize, align: usize, byte: u8) -> Option<Entry> {
+    let layout = Layout::from_size_align(size, align).expect(rt, "a layout");
+    let addr = found(rt, pool.allocate(layout))?;
     let entry = Entry { addr, size, byte };
-    fill(pool, entry)?;
-    Ok(Some(entry))
+    fill(pool, rt, entry);
+    Some(entry)
 }
 
 /// Gives a payload another size, and its bytes another value, where there is room.
-fn resized(pool: &mut Small, entry: Entry, size: usize, byte: u8) -> Result<Option<Entry>, Fail> {
-    let addr = match pool.reallocate(entry.addr, size) {
-        Ok(addr) => addr,
-        Err(CheckedError::NoRoom) => return Ok(Some(entry)),
-        Err(error) => return Err(Fail::from(error)),
+fn resized(pool: &mut Small, rt: &impl Abort, entry: Entry, size: usize, byte: u8) -> Entry {
+    let Some(addr) = found(rt, pool.reallocate(entry.addr, size)) else {
+        return entry;
     };
     let kept = Entry {
         addr,
         size: size.min(entry.size),
         byte: entry.byte,
     };
-    if !holds(pool, kept) {
-        return Err(Fail::new("the bytes that both sizes have are not kept"));
-    }
+    assert!(rt;
+        holds(pool, kept),
+        "the bytes that both sizes have are not kept"
+    );
     let entry = Entry { addr, size, byte };
-    fill(pool, entry)?;
-    Ok(Some(entry))
+    fill(pool, rt, entry);
+    entry
 }
 
 /// Whether some entry has the address.
@@ -84,52 +86,58 @@ fn is_listed(table: &[Option<Entry>], addr: Addr) -> bool {
 }
 
 /// Asks at any address of the memory or near it, and gives back what lives there by chance, if the table says so too.
-fn asked(pool: &mut Small, table: &[Option<Entry>], word: u64) -> Result<(), Fail> {
+fn asked(pool: &mut Small, rt: &impl Abort, table: &[Option<Entry>], word: u64) {
     let [_, _, high, low, ..] = word.to_be_bytes();
     let offset = usize::from(high) * 256 + usize::from(low);
     let Some(addr) = NonZeroUsize::new(START - 64 + offset % (LEN + 128)) else {
-        return Ok(());
+        return;
     };
-    if pool.usable_size(addr).is_ok() != is_listed(table, addr) {
-        return Err(Fail::new("the table and the marks differ"));
+    let is_live = is_listed(table, addr);
+    assert!(rt;
+        pool.usable_size(addr).is_ok() == is_live,
+        "the table and the marks differ"
+    );
+    if !is_live {
+        let freed = pool.deallocate(addr);
+        assert!(rt;
+            freed == Err(CheckedError::UnknownAddress),
+            "a strange address was freed"
+        );
     }
-    if !is_listed(table, addr) && pool.deallocate(addr) != Err(CheckedError::UnknownAddress) {
-        return Err(Fail::new("a strange address was freed"));
-    }
-    Ok(())
 }
 
 /// Makes a call that a word chooses on the payload of a place, and answers what must live there then.
-fn after(pool: &mut Small, entry: Option<Entry>, word: u64) -> Result<Option<Entry>, Fail> {
+fn after(pool: &mut Small, rt: &impl Abort, entry: Option<Entry>, word: u64) -> Option<Entry> {
     let [kind, byte, shift, long, ..] = word.to_be_bytes();
     let size = usize::from(long) + usize::from(kind) / 64 * 60;
-    match entry {
-        None => placed(pool, size, 1 << (shift % 8), byte),
-        Some(entry) => {
-            if !holds(pool, entry) {
-                return Err(Fail::new("a payload lost its bytes"));
-            }
-            if kind % 2 == 0 {
-                return resized(pool, entry, size, byte);
-            }
-            pool.deallocate(entry.addr)?;
-            Ok(None)
-        }
+    let Some(entry) = entry else {
+        return placed(pool, rt, size, 1 << (shift % 8), byte);
+    };
+    assert!(rt; holds(pool, entry), "a payload lost its bytes");
+    if kind % 2 == 0 {
+        return Some(resized(pool, rt, entry, size, byte));
     }
+    let freed = pool.deallocate(entry.addr);
+    assert!(rt; freed.is_ok(), "a payload isn't freed");
+    None
 }
 
 #[test]
-fn calls_agree_with_a_table(rt: HostRuntime) -> Result<(), Fail> {
-    let mut pool = with_pool(rt.alloc(), LEN, LEN)?;
+fn calls_agree_with_a_table(rt: HostRuntime) {
+    let mut pool = small(&rt, LEN);
+    let all = Range {
+        start: START,
+        len: LEN,
+    };
+    assert!(rt; pool.insert(all) == Ok(LEN));
     let mut table = [None; PLACES];
     let mut word = 35;
     for _ in 0..2000 {
         word = next(word);
-        asked(&mut pool, &table, word)?;
+        asked(&mut pool, &rt, &table, word);
         let [.., place] = next(word).to_le_bytes();
         if let Some(entry) = table.get_mut(usize::from(place) % PLACES) {
-            *entry = after(&mut pool, *entry, word)?;
+            *entry = after(&mut pool, &rt, *entry, word);
         }
     }
-    Ok(())
 }
