@@ -6,33 +6,29 @@ mod streams;
 
 use rlsf_text::status;
 use rlsf_trace::replay;
-use std::alloc::Global;
 use std::process::Abort;
-use std::test::Fail;
 
 const FIRST_RUN: &[u8] = b"8x8 4096 4096\ninsert 4096 96\nalloc 1 0 1\nalloc 2 0 1\nalloc 3 0 1\n";
 
 /// What is written for a text, and what is told of its fault and the status.
-fn replayed(alloc: Global, text: &[u8]) -> Result<String, Fail> {
+fn replayed(rt: &(impl Abort + AllocGlobal), text: &[u8]) -> String {
     let mut reader = text;
-    let mut written = Vec::new(alloc);
-    let outcome = replay(alloc, &mut reader, &mut written);
-    let mut told = String::from_utf8(written)?;
+    let mut written = Vec::new(rt.alloc());
+    let outcome = replay(rt.alloc(), &mut reader, &mut written);
+    let mut told = String::from_utf8(written).expect(rt, "a text");
     if let Err(fault) = outcome {
-        write!(told, "{fault}, ")?;
+        write!(told, "{fault}, ").expect(rt, "memory");
     }
     let code = status(&outcome);
-    write!(told, "status {code}")?;
-    Ok(told)
+    write!(told, "status {code}").expect(rt, "memory");
+    told
 }
 
 /// Passes where for each text is written, and told of its fault and the status, what stands beside it.
-pub fn replays(rt: &impl Abort, alloc: Global, cases: &[(&[u8], &str)]) -> Result<(), Fail> {
+pub fn replays(rt: &(impl Abort + AllocGlobal), cases: &[(&[u8], &str)]) {
     for (text, wanted) in cases {
-        let told = replayed(alloc, text)?;
-        assert_eq!(rt; told.as_str(), *wanted);
+        assert_eq!(rt; replayed(rt, text).as_str(), *wanted);
     }
-    Ok(())
 }
 
 static TEXTS: [(&[u8], &str); 17] = [
@@ -113,6 +109,6 @@ static TEXTS: [(&[u8], &str); 17] = [
 ];
 
 #[test]
-fn texts(rt: HostRuntime) -> Result<(), Fail> {
-    replays(&rt, rt.alloc(), &TEXTS)
+fn texts(rt: HostRuntime) {
+    replays(&rt, &TEXTS);
 }

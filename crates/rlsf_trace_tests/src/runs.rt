@@ -7,10 +7,8 @@ use rlsf_base::memory::{Layout, Memory, Range};
 use rlsf_runs::{RunError, run};
 use rlsf_text::{Answer, Op, TraceError};
 use rlsf_tlsf::Tlsf;
-use std::alloc::Global;
 use std::num::NonZeroUsize;
 use std::process::Abort;
-use std::test::Fail;
 
 /// The first line of a trace, and each further line with what it writes. The memory has 4096 bytes from 4096 on. With 59 rows of
 /// classes no chunk is too long for it.
@@ -244,52 +242,45 @@ static RUNS: [Lines; 15] = [
 ];
 
 /// Passes where the lines write what stands beside them.
-fn writes(rt: &impl Abort, alloc: Global, lines: Lines) -> Result<(), Fail> {
+fn writes(rt: &(impl Abort + AllocGlobal), lines: Lines) {
     let (first, others) = lines;
-    let mut text = String::new(alloc);
-    let mut wanted = String::new(alloc);
-    text.push_str(first)?;
+    let mut text = String::new(rt.alloc());
+    let mut wanted = String::new(rt.alloc());
+    write!(text, "{first}").expect(rt, "memory");
     for (line, answer) in others {
-        text.push('\n')?;
-        text.push_str(line)?;
-        wanted.push_str(answer)?;
-        wanted.push('\n')?;
+        write!(text, "\n{line}").expect(rt, "memory");
+        write!(wanted, "{answer}\n").expect(rt, "memory");
     }
-    wanted.push_str("status 0")?;
-    replays(rt, alloc, &[(text.as_bytes(), wanted.as_str())])
+    write!(wanted, "status 0").expect(rt, "memory");
+    replays(rt, &[(text.as_bytes(), wanted.as_str())]);
 }
 
 #[test]
-fn lines_and_their_answers(rt: HostRuntime) -> Result<(), Fail> {
+fn lines_and_their_answers(rt: HostRuntime) {
     for lines in RUNS {
-        writes(&rt, rt.alloc(), lines)?;
+        writes(&rt, lines);
     }
-    Ok(())
 }
 
-#[test]
-fn answers_follow_those_already_there(rt: HostRuntime) -> Result<(), Fail> {
-    let memory = Memory::new(rt.alloc(), 4096, 4096)?;
+/// Passes where a run of the ops, with these answers there already, leaves the wanted ones.
+fn leaves(rt: &(impl Abort + AllocGlobal), there: &[Answer], ops: &[Op], wanted: &[Answer]) {
+    let memory = Memory::new(rt.alloc(), 4096, 4096).expect(rt, "a memory");
     let mut tlsf = Tlsf::<u8, u8, 8, 8>::new(memory);
     let mut answers = Vec::new(rt.alloc());
-    answers.push(Answer::Placed(NonZeroUsize::new(1)))?;
-    run(
-        rt.alloc(),
-        &mut tlsf,
-        &[Op::Alloc(1, Layout::from_size_align(0, 1)?)],
-        &mut answers,
-    )?;
-    assert_eq!(rt;
-        answers.as_slice(),
-        [Answer::Placed(NonZeroUsize::new(1)), Answer::Placed(None)].as_slice()
-    );
-    Ok(())
+    answers.extend_from_slice(there).expect(rt, "memory");
+    run(rt.alloc(), &mut tlsf, ops, &mut answers).expect(rt, "memory");
+    assert!(rt; answers.as_slice() == wanted);
 }
 
 #[test]
-fn trims_are_refused(rt: HostRuntime) -> Result<(), Fail> {
-    let memory = Memory::new(rt.alloc(), 4096, 4096)?;
-    let mut tlsf = Tlsf::<u8, u8, 8, 8>::new(memory);
+fn answers_follow_those_already_there(rt: HostRuntime) {
+    let there = Answer::Placed(NonZeroUsize::new(1));
+    let ops = [Op::Alloc(1, Layout::from_size_align_unchecked(0, 1))];
+    leaves(&rt, &[there], &ops, &[there, Answer::Placed(None)]);
+}
+
+#[test]
+fn trims_are_refused(rt: HostRuntime) {
     let pool = Range {
         start: 4096,
         len: 96,
@@ -298,22 +289,16 @@ fn trims_are_refused(rt: HostRuntime) -> Result<(), Fail> {
         Op::Trim,
         Op::Insert(pool),
         Op::Trim,
-        Op::Alloc(1, Layout::from_size_align(1, 1)?),
+        Op::Alloc(1, Layout::from_size_align_unchecked(1, 1)),
     ];
-    let mut answers = Vec::new(rt.alloc());
-    run(rt.alloc(), &mut tlsf, &ops, &mut answers)?;
     // What is idle stays a pool.
-    assert_eq!(rt;
-        answers.as_slice(),
-        [
-            Answer::Refused(TraceError::NotForTlsf),
-            Answer::Inserted(NonZeroUsize::new(96)),
-            Answer::Refused(TraceError::NotForTlsf),
-            Answer::Placed(NonZeroUsize::new(4112)),
-        ]
-        .as_slice()
-    );
-    Ok(())
+    let wanted = [
+        Answer::Refused(TraceError::NotForTlsf),
+        Answer::Inserted(NonZeroUsize::new(96)),
+        Answer::Refused(TraceError::NotForTlsf),
+        Answer::Placed(NonZeroUsize::new(4112)),
+    ];
+    leaves(&rt, &[], &ops, &wanted);
 }
 
 #[test]

@@ -1,7 +1,6 @@
 //! Worked examples, with the blocks and the sizes that they end with: what each text prints.
 
 use super::replays;
-use std::test::Fail;
 
 static EXAMPLES: [(&[u8], &str); 24] = [
     // What is given back is joined with its neighbours.
@@ -127,6 +126,6 @@ static EXAMPLES: [(&[u8], &str); 24] = [
 ];
 
 #[test]
-fn worked_examples(rt: HostRuntime) -> Result<(), Fail> {
-    replays(&rt, rt.alloc(), &EXAMPLES)
+fn worked_examples(rt: HostRuntime) {
+    replays(&rt, &EXAMPLES);
 }

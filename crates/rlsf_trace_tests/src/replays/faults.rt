@@ -1,10 +1,8 @@
 //! Faults of texts, and the lines that have them.
 
 use super::replays;
-use std::test::Fail;
 
-static FAULTS: [(&[u8], &str); 48] = [
-    // Of the first line.
+static FIRST_LINES: [(&[u8], &str); 24] = [
     (b"", "line 1: FieldCount, status 1"),
     (b"\n", "line 1: FieldCount, status 1"),
     (b"8x8 4096", "line 1: FieldCount, status 1"),
@@ -35,7 +33,9 @@ static FAULTS: [(&[u8], &str); 48] = [
     ),
     (b"8x8 0 0", "line 1: ZeroStart, status 1"),
     (b"8x8 18446744073709551615 1", "line 1: TooLong, status 1"),
-    // Of other lines.
+];
+
+static OTHER_LINES: [(&[u8], &str); 24] = [
     (b"8x8 4096 96\n\n", "line 2: UnknownOp, status 1"),
     (b"8x8 4096 96\n insert 1 1\n", "line 2: UnknownOp, status 1"),
     (b"8x8 4096 96\nInsert 1 1\n", "line 2: UnknownOp, status 1"),
@@ -91,6 +91,11 @@ static FAULTS: [(&[u8], &str); 48] = [
 ];
 
 #[test]
-fn faults(rt: HostRuntime) -> Result<(), Fail> {
-    replays(&rt, rt.alloc(), &FAULTS)
+fn faults_of_first_lines(rt: HostRuntime) {
+    replays(&rt, &FIRST_LINES);
+}
+
+#[test]
+fn faults_of_other_lines(rt: HostRuntime) {
+    replays(&rt, &OTHER_LINES);
 }

@@ -11,8 +11,8 @@ use rlsf_int::Bitmap;
 use rlsf_runs::run;
 use rlsf_text::{Answer, Op, TraceError};
 use rlsf_tlsf::Tlsf;
-use std::alloc::Global;
 use std::num::NonZeroUsize;
+use std::process::Abort;
 
 const FIRST: [u32; 40] = [
     0x2265b1f5, 0x91b7584a, 0xd8f16adf, 0xcd613e30, 0xc386bbc4, 0x1027c4d1, 0x414c343c, 0x1e2feb89,
@@ -62,25 +62,16 @@ const SIXTH: [u32; 40] = [
     0x316774fe, 0x903c2ac9, 0x8db9b92c, 0xb313fc7e, 0xce1c9c17, 0xba98666a, 0x43f9300c, 0xa9b3d1a2,
 ];
 
-const LISTS: usize = 6;
-
-/// The list with the index. A proof of a caller sees none of its words.
-fn list(index: usize) -> [u32; 40] {
-    match index {
-        0 => FIRST,
-        1 => SECOND,
-        2 => THIRD,
-        3 => FOURTH,
-        4 => FIFTH,
-        _ => SIXTH,
-    }
-}
+static LISTS: [[u32; 40]; 6] = [FIRST, SECOND, THIRD, FOURTH, FIFTH, SIXTH];
 
 const NAMES: usize = 8;
 
 const MEMORY_START: usize = 4096;
 
 const MEMORY_LEN: usize = 16384;
+
+/// What is missing where the system refuses memory.
+const MEMORY: &str = "memory";
 
 /// The ops of a list, what those on the pool answer, and the chunks that the pool has at the end.
 #[derive(Drop)]
@@ -93,22 +84,22 @@ struct Plan {
 }
 
 /// Cuts a range into chunks of at most `most` bytes while 64 or more are left, and tells how many of its bytes they have.
-fn add_chunks(chunks: &mut Vec<Range>, range: Range, most: usize) -> Option<usize> {
+fn add_chunks(rt: &impl Abort, chunks: &mut Vec<Range>, range: Range, most: usize) -> usize {
     let mut taken: usize = 0;
     for _ in 0..range.len / 64 {
         let len = (range.len / 32 * 32).wrapping_sub(taken).min(most);
         if len >= 64 {
             let start = range.start.wrapping_add(taken);
-            chunks.push(Range { start, len }).ok()?;
+            chunks.push(Range { start, len }).expect(rt, MEMORY);
             taken = taken.wrapping_add(len);
         }
     }
-    Some(taken)
+    taken
 }
 
 impl Plan {
     /// An insert of a pool, whose start and length the word chooses.
-    fn begin(alloc: Global, word: u32, most: usize) -> Option<Plan> {
+    fn begin(rt: &(impl Abort + AllocGlobal), word: u32, most: usize) -> Plan {
         let [start, low, high, shift] = word.to_le_bytes();
         let skipped = (start % 32) as usize;
         let part = u16::from_le_bytes([low, high]) >> (shift % 8);
@@ -116,28 +107,42 @@ impl Plan {
             start: MEMORY_START + 32 + (start % 64 / 32 * 32) as usize,
             len: 128 + part as usize / 16,
         };
-        let mut chunks = Vec::new(alloc);
-        let taken = add_chunks(&mut chunks, body, most)?;
+        let mut chunks = Vec::new(rt.alloc());
+        let taken = add_chunks(rt, &mut chunks, body, most);
         let start = body.start - skipped;
-        let mut ops = Vec::new(alloc);
-        let len = body.len + skipped;
-        ops.push(Op::Insert(Range { start, len })).ok()?;
         let len = taken.wrapping_add(skipped);
-        let mut pool_answers = Vec::new(alloc);
-        pool_answers
-            .push(Answer::Inserted(NonZeroUsize::new(len)))
-            .ok()?;
-        Some(Plan {
-            ops,
-            pool_answers,
+        let mut plan = Plan {
+            ops: Vec::new(rt.alloc()),
+            pool_answers: Vec::new(rt.alloc()),
             pool: Range { start, len },
             chunks,
             most,
-        })
+        };
+        let range = Range {
+            start,
+            len: body.len + skipped,
+        };
+        plan.ask_pool(
+            rt,
+            Op::Insert(range),
+            Answer::Inserted(NonZeroUsize::new(len)),
+        );
+        plan
+    }
+
+    /// Puts an op at the end.
+    fn ask(&mut self, rt: &impl Abort, op: Op) {
+        self.ops.push(op).expect(rt, MEMORY);
+    }
+
+    /// Puts an op on the pool at the end, and what it answers.
+    fn ask_pool(&mut self, rt: &impl Abort, op: Op, answer: Answer) {
+        self.ask(rt, op);
+        self.pool_answers.push(answer).expect(rt, MEMORY);
     }
 
     /// An append of some of the memory behind the pool.
-    fn append(&mut self, word: u32) -> Option<()> {
+    fn append(&mut self, rt: &impl Abort, word: u32) {
         let [_, low, high, _] = word.to_le_bytes();
         let start = self.pool.start.wrapping_add(self.pool.len);
         let room = (MEMORY_START + MEMORY_LEN).saturating_sub(start);
@@ -148,30 +153,28 @@ impl Plan {
                 last.len = last.len.wrapping_add(len / 32 * 32);
                 len / 32 * 32
             }
-            _ => add_chunks(&mut self.chunks, range, self.most)?,
+            _ => add_chunks(rt, &mut self.chunks, range, self.most),
         };
         self.pool.len = self.pool.len.wrapping_add(taken);
-        self.ops.push(Op::Append(range)).ok()?;
-        self.pool_answers.push(Answer::Appended(taken)).ok()?;
-        Some(())
+        self.ask_pool(rt, Op::Append(range), Answer::Appended(taken));
     }
 
     /// Frees of all names, and a walk over the pool, each of whose chunks is one free block then.
-    fn end(&mut self) -> Option<()> {
+    fn end(&mut self, rt: &impl Abort) {
         for name in 0..NAMES {
-            self.ops.push(Op::Free(name)).ok()?;
+            self.ask(rt, Op::Free(name));
         }
         for (index, chunk) in self.chunks.iter().enumerate() {
             let start = chunk.start;
             let len = chunk.len.wrapping_sub(32);
-            self.ops.push(Op::Block(self.pool, index)).ok()?;
-            self.pool_answers
-                .push(Answer::Block(Some((Range { start, len }, false))))
-                .ok()?;
+            let answer = Answer::Block(Some((Range { start, len }, false)));
+            self.ops
+                .push(Op::Block(self.pool, index))
+                .expect(rt, MEMORY);
+            self.pool_answers.push(answer).expect(rt, MEMORY);
         }
-        self.ops.push(Op::Block(self.pool, self.chunks.len())).ok()?;
-        self.pool_answers.push(Answer::Block(None)).ok()?;
-        Some(())
+        let count = self.chunks.len();
+        self.ask_pool(rt, Op::Block(self.pool, count), Answer::Block(None));
     }
 }
 
@@ -216,60 +219,61 @@ fn free_ops(draw: Draw, last: usize) -> [Op; 5] {
 
 /// Allocates or reallocates a payload, some without a move, and reads the first and the last byte that were asked for: of a payload that moves, of
 /// both its sizes.
-fn size_ops(draw: Draw, old_last: usize) -> Option<[Op; 5]> {
+fn size_ops(rt: &impl Abort, draw: Draw, old_last: usize) -> [Op; 5] {
     let name = draw.name;
     let last = draw.size.saturating_sub(1);
     if draw.kind % 8 < 3 {
-        return Some([
-            Op::Alloc(name, Layout::from_size_align(draw.size, draw.align).ok()?),
+        let layout = Layout::from_size_align(draw.size, draw.align).expect(rt, "a layout");
+        return [
+            Op::Alloc(name, layout),
             Op::Usable(name),
             Op::Fill(name, draw.byte),
             Op::Get(name, 0),
             Op::Get(name, last),
-        ]);
+        ];
     }
     let op = if draw.byte % 4 == 0 {
         Op::ReallocNoMove(name, draw.size)
     } else {
         Op::Realloc(name, draw.size)
     };
-    Some([
+    [
         op,
         Op::Usable(name),
         Op::Get(name, 0),
         Op::Get(name, old_last.min(last)),
         Op::Fill(name, draw.byte),
-    ])
+    ]
 }
 
 /// What a word does to a payload. `sizes` are those that the names were given last.
-fn payload_ops(word: u32, scale: usize, sizes: &mut [usize; NAMES]) -> Option<[Op; 5]> {
+fn payload_ops(rt: &impl Abort, word: u32, scale: usize, sizes: &mut [usize; NAMES]) -> [Op; 5] {
     let draw = drawn(word, scale);
     let name = draw.name % NAMES;
     let old_last = sizes[name].saturating_sub(1);
     if draw.kind % 8 == 3 || draw.kind % 8 == 4 {
-        return Some(free_ops(draw, old_last));
+        return free_ops(draw, old_last);
     }
     sizes[name] = draw.size;
-    size_ops(draw, old_last)
+    size_ops(rt, draw, old_last)
 }
 
 /// The plan of a list, where chunks have at most `most` bytes.
-fn plan_of(alloc: Global, list: &[u32; 40], most: usize) -> Option<Plan> {
-    let mut plan = Plan::begin(alloc, list[0], most)?;
+fn plan_of(rt: &(impl Abort + AllocGlobal), list: &[u32; 40], most: usize) -> Plan {
+    let mut plan = Plan::begin(rt, list[0], most);
     let scale = plan.pool.len.min(most);
     let mut sizes = [0; NAMES];
     for word in list.iter().skip(1) {
         if *word % 8 == 7 {
-            plan.append(*word)?;
+            plan.append(rt, *word);
         } else {
-            plan.ops
-                .extend_from_slice(&payload_ops(*word, scale, &mut sizes)?)
-                .ok()?;
+            for op in payload_ops(rt, *word, scale, &mut sizes) {
+                plan.ask(rt, op);
+            }
         }
     }
-    plan.end()?;
-    Some(plan)
+    plan.end(rt);
+    plan
 }
 
 /// A live payload, as the answers tell of it.
@@ -342,11 +346,12 @@ fn follow_live(payload: Payload, op: Op, answer: Answer) -> (bool, Option<Payloa
             let Answer::Placed(placed) = answer else {
                 return (false, None);
             };
-            if placed.is_some() {
-                next.usable = size;
-                next.filled = payload.filled.min(size);
-            }
-            placed.is_none_or(|addr| addr.get() == payload.addr)
+            let Some(addr) = placed else {
+                return (true, Some(payload));
+            };
+            next.usable = size;
+            next.filled = payload.filled.min(size);
+            addr.get() == payload.addr
         }
         Op::Fill(_, value) => {
             next.value = value;
@@ -428,107 +433,85 @@ type Shape<'a, FLBitmap, SLBitmap, const FLLEN: usize, const SLLEN: usize> = Opt
     &'a Tlsf<FLBitmap, SLBitmap, FLLEN, SLLEN>,
 >;
 
-/// The index of the first wrong answer to a list's ops; nothing where the system refused memory.
+/// The index of the first wrong answer to a list's ops.
 fn wrong_of<FLBitmap: Bitmap, SLBitmap: Bitmap, const FLLEN: usize, const SLLEN: usize>(
-    alloc: Global,
+    rt: &(impl Abort + AllocGlobal),
     list: &[u32; 40],
     _shape: Shape<'_, FLBitmap, SLBitmap, FLLEN, SLLEN>,
-) -> Option<Option<usize>>
+) -> Option<usize>
     requires { IsValid FLBitmap.width SLBitmap.width FLLEN SLLEN }
 {
     let most = if FLLEN < 59 { 32 << FLLEN } else { usize::MAX };
-    let plan = plan_of(alloc, list, most)?;
-    let memory = Memory::new(alloc, MEMORY_START, MEMORY_LEN).ok()?;
+    let plan = plan_of(rt, list, most);
+    let memory = Memory::new(rt.alloc(), MEMORY_START, MEMORY_LEN).expect(rt, MEMORY);
     let mut tlsf = Tlsf::<FLBitmap, SLBitmap, FLLEN, SLLEN>::new(memory);
-    let mut answers = Vec::new(alloc);
-    run(alloc, &mut tlsf, plan.ops.as_slice(), &mut answers).ok()?;
-    Some(first_wrong(&plan, answers.as_slice()))
+    let mut answers = Vec::new(rt.alloc());
+    run(rt.alloc(), &mut tlsf, plan.ops.as_slice(), &mut answers).expect(rt, MEMORY);
+    first_wrong(&plan, answers.as_slice())
 }
 
-/// The index of the first list with a wrong answer to its ops, and the index of that answer: past all where the system refused
-/// memory.
-fn wrong<FLBitmap: Bitmap, SLBitmap: Bitmap, const FLLEN: usize, const SLLEN: usize>(
-    alloc: Global,
+/// Passes where all lists' ops have right answers.
+fn lists_pass<FLBitmap: Bitmap, SLBitmap: Bitmap, const FLLEN: usize, const SLLEN: usize>(
+    rt: &(impl Abort + AllocGlobal),
     shape: Shape<'_, FLBitmap, SLBitmap, FLLEN, SLLEN>,
-) -> Option<(usize, usize)>
+)
     requires { IsValid FLBitmap.width SLBitmap.width FLLEN SLLEN }
 {
-    for index in 0..LISTS {
-        match wrong_of(alloc, &list(index), shape) {
-            Some(None) => {}
-            Some(Some(answer)) => return Some((index, answer)),
-            None => return Some((index, usize::MAX)),
-        }
+    for (index, list) in LISTS.iter().enumerate() {
+        let wrong = wrong_of(rt, list, shape);
+        assert!(rt;
+            wrong.is_none(),
+            "an answer to the list at {index} is wrong"
+        );
     }
-    None
 }
 
 #[test]
 fn few_classes(rt: HostRuntime) {
-    let alloc = rt.alloc();
-    let found = [
-        wrong::<u8, u8, 1, 1>(alloc, None),
-        wrong::<u8, u8, 1, 2>(alloc, None),
-        wrong::<u8, u8, 1, 4>(alloc, None),
-        wrong::<u8, u8, 1, 8>(alloc, None),
-        wrong::<u8, u8, 3, 4>(alloc, None),
-    ];
-    assert_eq!(rt; found, [None; 5]);
+    lists_pass::<u8, u8, 1, 1>(&rt, None);
+    lists_pass::<u8, u8, 1, 2>(&rt, None);
+    lists_pass::<u8, u8, 1, 4>(&rt, None);
+    lists_pass::<u8, u8, 1, 8>(&rt, None);
+    lists_pass::<u8, u8, 3, 4>(&rt, None);
 }
 
 #[test]
 fn rows_of_8_bits(rt: HostRuntime) {
-    let alloc = rt.alloc();
-    let found = [
-        wrong::<u8, u8, 5, 4>(alloc, None),
-        wrong::<u8, u8, 8, 1>(alloc, None),
-        wrong::<u8, u8, 8, 8>(alloc, None),
-        wrong::<u16, u8, 3, 4>(alloc, None),
-        wrong::<u16, u8, 11, 4>(alloc, None),
-        wrong::<u16, u8, 16, 4>(alloc, None),
-    ];
-    assert_eq!(rt; found, [None; 6]);
+    lists_pass::<u8, u8, 5, 4>(&rt, None);
+    lists_pass::<u8, u8, 8, 1>(&rt, None);
+    lists_pass::<u8, u8, 8, 8>(&rt, None);
+    lists_pass::<u16, u8, 3, 4>(&rt, None);
+    lists_pass::<u16, u8, 11, 4>(&rt, None);
+    lists_pass::<u16, u8, 16, 4>(&rt, None);
 }
 
 #[test]
 fn rows_of_16_classes(rt: HostRuntime) {
-    let alloc = rt.alloc();
-    let found = [
-        wrong::<u16, u16, 3, 16>(alloc, None),
-        wrong::<u16, u16, 11, 16>(alloc, None),
-        wrong::<u16, u16, 16, 16>(alloc, None),
-        wrong::<u16, u32, 3, 16>(alloc, None),
-        wrong::<u16, u32, 11, 16>(alloc, None),
-        wrong::<u16, u32, 16, 16>(alloc, None),
-    ];
-    assert_eq!(rt; found, [None; 6]);
+    lists_pass::<u16, u16, 3, 16>(&rt, None);
+    lists_pass::<u16, u16, 11, 16>(&rt, None);
+    lists_pass::<u16, u16, 16, 16>(&rt, None);
+    lists_pass::<u16, u32, 3, 16>(&rt, None);
+    lists_pass::<u16, u32, 11, 16>(&rt, None);
+    lists_pass::<u16, u32, 16, 16>(&rt, None);
 }
 
 #[test]
 fn rows_of_32_classes(rt: HostRuntime) {
-    let alloc = rt.alloc();
-    let found = [
-        wrong::<u16, u32, 3, 32>(alloc, None),
-        wrong::<u16, u32, 11, 32>(alloc, None),
-        wrong::<u16, u32, 16, 32>(alloc, None),
-        wrong::<u32, u32, 20, 32>(alloc, None),
-        wrong::<u32, u32, 27, 32>(alloc, None),
-        wrong::<u32, u32, 28, 32>(alloc, None),
-        wrong::<u32, u32, 29, 32>(alloc, None),
-        wrong::<u32, u32, 32, 32>(alloc, None),
-    ];
-    assert_eq!(rt; found, [None; 8]);
+    lists_pass::<u16, u32, 3, 32>(&rt, None);
+    lists_pass::<u16, u32, 11, 32>(&rt, None);
+    lists_pass::<u16, u32, 16, 32>(&rt, None);
+    lists_pass::<u32, u32, 20, 32>(&rt, None);
+    lists_pass::<u32, u32, 27, 32>(&rt, None);
+    lists_pass::<u32, u32, 28, 32>(&rt, None);
+    lists_pass::<u32, u32, 29, 32>(&rt, None);
+    lists_pass::<u32, u32, 32, 32>(&rt, None);
 }
 
 #[test]
 fn most_rows(rt: HostRuntime) {
-    let alloc = rt.alloc();
-    let found = [
-        wrong::<u64, u64, 58, 8>(alloc, None),
-        wrong::<u64, u64, 59, 8>(alloc, None),
-        wrong::<u64, u64, 60, 8>(alloc, None),
-        wrong::<u64, u64, 61, 8>(alloc, None),
-        wrong::<u64, u64, 64, 8>(alloc, None),
-    ];
-    assert_eq!(rt; found, [None; 5]);
+    lists_pass::<u64, u64, 58, 8>(&rt, None);
+    lists_pass::<u64, u64, 59, 8>(&rt, None);
+    lists_pass::<u64, u64, 60, 8>(&rt, None);
+    lists_pass::<u64, u64, 61, 8>(&rt, None);
+    lists_pass::<u64, u64, 64, 8>(&rt, None);
 }

@@ -1,5 +1,5 @@
 use Rattle.std.proofs.Common.{lit<, lit≤, refl}
-use Rattle.rlsf_trace_tests.proofs.runs.answers_follow_those_already_there.Goals as goal
+use Rattle.rlsf_trace_tests.proofs.runs.leaves.Goals as goal
 
 pub new-tlsf-requires : goal.new-tlsf-requires
 new-tlsf-requires g c = (lit< tt, record { some_rows = lit< tt; rows_fit = lit≤ tt; power_of_two = refl; classes_fit = lit≤ tt })
