@@ -46,8 +46,13 @@ fn fill(pool: &mut Small, rt: &impl Abort, entry: Entry) {
 
 /// The address that a call answers, or none where there is no room.
 fn found(rt: &impl Abort, answer: Result<Addr, CheckedError>) -> Option<Addr> {
-    assert!(rt; answer.is_ok() || answer == Err(CheckedError::NoRoom));
-    answer.ok()
+    match answer {
+        Ok(addr) => Some(addr),
+        Err(error) => {
+            assert!(rt; error == CheckedError::NoRoom);
+            None
+        }
+    }
 }
 
 /// Allocates a payload and fills it, where there is room.
@@ -80,9 +85,14 @@ fn resized(pool: &mut Small, rt: &impl Abort, entry: Entry, size: usize, byte: u
 
 /// Whether some entry has the address.
 fn is_listed(table: &[Option<Entry>], addr: Addr) -> bool {
-    table
-        .iter()
-        .any(|entry| entry.is_some_and(|entry| entry.addr == addr))
+    for entry in table {
+        if let Some(entry) = entry {
+            if entry.addr == addr {
+                return true;
+            }
+        }
+    }
+    false
 }
 
 /// Asks at any address of the memory or near it, and gives back what lives there by chance, if the table says so too.
