@@ -1,24 +1,16 @@
 use rlsf_base::memory::{Layout, Range};
 use rlsf_text::{Answer, Op, TraceError, text_of};
-use std::alloc::Global;
 use std::num::NonZeroUsize;
 use std::process::Abort;
-use std::test::Fail;
 
 /// Passes where the answers to the ops are printed as the text.
-fn prints(
-    rt: &impl Abort,
-    alloc: Global,
-    ops: &[Op],
-    answers: &[Answer],
-    text: &str,
-) -> Result<(), Fail> {
-    assert_eq!(rt; text_of(alloc, ops, answers)?.as_str(), text);
-    Ok(())
+fn prints(rt: &(impl Abort + AllocGlobal), ops: &[Op], answers: &[Answer], text: &str) {
+    let printed = text_of(rt.alloc(), ops, answers).expect(rt, "memory");
+    assert_eq!(rt; printed.as_str(), text);
 }
 
 #[test]
-fn first_run(rt: HostRuntime) -> Result<(), Fail> {
+fn first_run(rt: HostRuntime) {
     let byte = Layout::from_size_align_unchecked(0, 1);
     let range = Range {
         start: 4096,
@@ -38,15 +30,14 @@ fn first_run(rt: HostRuntime) -> Result<(), Fail> {
     ];
     prints(
         &rt,
-        rt.alloc(),
         &ops,
         &answers,
         "insert some 96\nalloc 1 at 4112\nalloc 2 at 4144\nalloc 3 none\n",
-    )
+    );
 }
 
 #[test]
-fn refusals(rt: HostRuntime) -> Result<(), Fail> {
+fn refusals(rt: HostRuntime) {
     let byte = Layout::from_size_align_unchecked(0, 1);
     let range = Range { start: 0, len: 1 };
     let ops = [
@@ -59,28 +50,35 @@ fn refusals(rt: HostRuntime) -> Result<(), Fail> {
         Answer::Refused(TraceError::BadRange),
         Answer::Refused(TraceError::NameTaken),
     ];
-    assert_eq!(rt;
-        text_of(rt.alloc(), &ops, &answers)?.as_str(),
-        "insert none\nrefused 3 BadRange\nrefused 2 NameTaken\n"
+    prints(
+        &rt,
+        &ops,
+        &answers,
+        "insert none\nrefused 3 BadRange\nrefused 2 NameTaken\n",
     );
-    assert_eq!(rt; text_of(rt.alloc(), &[], &[])?.as_str(), "");
-    assert_eq!(rt;
-        (
-            TraceError::UnknownName.number(),
-            TraceError::NameTaken.number(),
-            TraceError::BadRange.number(),
-            TraceError::BadOffset.number(),
-            TraceError::BadLayout.number(),
-            TraceError::NotForFlex.number(),
-            TraceError::NotForTlsf.number()
-        ),
-        (1, 2, 3, 4, 5, 6, 7)
-    );
-    Ok(())
+    prints(&rt, &[], &[], "");
+}
+
+/// Each refusal with its number.
+static NUMBERS: [(TraceError, u8); 7] = [
+    (TraceError::UnknownName, 1),
+    (TraceError::NameTaken, 2),
+    (TraceError::BadRange, 3),
+    (TraceError::BadOffset, 4),
+    (TraceError::BadLayout, 5),
+    (TraceError::NotForFlex, 6),
+    (TraceError::NotForTlsf, 7),
+];
+
+#[test]
+fn numbers_of_refusals(rt: HostRuntime) {
+    for (error, number) in NUMBERS {
+        assert_eq!(rt; error.number(), number);
+    }
 }
 
 #[test]
-fn ops_on_payloads(rt: HostRuntime) -> Result<(), Fail> {
+fn ops_on_payloads(rt: HostRuntime) {
     let ops = [
         Op::Free(9),
         Op::Fill(18446744073709551615, 7),
@@ -101,15 +99,14 @@ fn ops_on_payloads(rt: HostRuntime) -> Result<(), Fail> {
     ];
     prints(
         &rt,
-        rt.alloc(),
         &ops,
         &answers,
         "refused 1 UnknownName\nfill 18446744073709551615 done\nput 3 done\nrefused 4 BadOffset\nget 3 255\nget 3 0\nfree 3 done\n",
-    )
+    );
 }
 
 #[test]
-fn pools_and_payloads_grow(rt: HostRuntime) -> Result<(), Fail> {
+fn pools_and_payloads_grow(rt: HostRuntime) {
     let range = Range {
         start: 4352,
         len: 256,
@@ -144,15 +141,14 @@ fn pools_and_payloads_grow(rt: HostRuntime) -> Result<(), Fail> {
     ];
     prints(
         &rt,
-        rt.alloc(),
         &ops,
         &answers,
         "append 256\nappend 0\nrefused 3 BadRange\nrealloc 1 at 4112\nrealloc 18446744073709551615 none\nrefused 1 UnknownName\nrefused 5 BadLayout\nrefused 6 NotForFlex\nnrealloc 1 at 4112\nnrealloc 2 none\ntrim 2\nrefused 7 NotForTlsf\n",
-    )
+    );
 }
 
 #[test]
-fn blocks_and_their_bytes(rt: HostRuntime) -> Result<(), Fail> {
+fn blocks_and_their_bytes(rt: HostRuntime) {
     let range = Range {
         start: 4096,
         len: 96,
@@ -181,9 +177,8 @@ fn blocks_and_their_bytes(rt: HostRuntime) -> Result<(), Fail> {
     ];
     prints(
         &rt,
-        rt.alloc(),
         &ops,
         &answers,
         "ufree 1 done\nusable 18446744073709551615 48\nblock 4128 32 used\nblock 4128 32 free\nblock none\nrefused 3 BadRange\nrefused 1 UnknownName\n",
-    )
+    );
 }
