@@ -4,35 +4,33 @@ ghost use Rattle.std.specs.Prelude.{◌≡◌, ◌≢◌, IfSome};
 ghost use Rattle.rlsf_base.specs.Addr.{at};
 ghost use Rattle.rlsf_machine.specs.Callers.{align_at};
 
-use super::pools::{Small, Step, are, inserts, number, with_inserted, with_pool, word_at};
+use super::pools::{
+    Small, Step, are, inserts, layout_of, number, with_inserted, with_pool, word_at,
+};
 use rlsf::{Addr, Layout, Range};
-use std::test::Fail;
 
 #[test]
-fn class_that_reaches(rt: HostRuntime) -> Result<(), Fail> {
+fn class_that_reaches(rt: HostRuntime) {
     let pool = (4096, 128);
-    inserts::<u8, u8, 8, 1>(&rt, rt.alloc(), pool, pool, &[Step::Allocate(66, 1, 0)])?;
-    inserts::<u8, u8, 8, 8>(&rt, rt.alloc(), pool, pool, &[Step::Allocate(66, 1, 4112)])?;
-    Ok(())
+    inserts::<u8, u8, 8, 1>(&rt, pool, pool, &[Step::Allocate(66, 1, 0)]);
+    inserts::<u8, u8, 8, 8>(&rt, pool, pool, &[Step::Allocate(66, 1, 4112)]);
 }
 
 #[test]
-fn ranges_are_inserted(rt: HostRuntime) -> Result<(), Fail> {
-    let alloc = rt.alloc();
+fn ranges_are_inserted(rt: HostRuntime) {
     let last = (18446744073709551552, 63);
     let top = (18446744073709551424, 191);
     let steps = [Step::Allocate(0, 1, 18446744073709551440)];
     // A skipped front counts.
-    let (_, front) = inserts::<u8, u8, 8, 8>(&rt, alloc, (4097, 4096), (4097, 1024), &[])?;
+    let (_, front) = inserts::<u8, u8, 8, 8>(&rt, (4097, 4096), (4097, 1024), &[]);
     // At the top of the address space.
-    let (_, none) = inserts::<u8, u8, 8, 8>(&rt, alloc, last, (18446744073709551585, 0), &[])?;
-    let (_, all) = inserts::<u8, u8, 8, 8>(&rt, alloc, top, top, &steps)?;
+    let (_, none) = inserts::<u8, u8, 8, 8>(&rt, last, (18446744073709551585, 0), &[]);
+    let (_, all) = inserts::<u8, u8, 8, 8>(&rt, top, top, &steps);
     are(&rt, &[front, none, all], &[1023, 0, 160]);
-    Ok(())
 }
 
 #[test]
-fn chunks_of_the_greatest_length(rt: HostRuntime) -> Result<(), Fail> {
+fn chunks_of_the_greatest_length(rt: HostRuntime) {
     let addresses = (4096, 4096);
     let steps = [
         Step::Allocate(0, 1, 4240),
@@ -40,52 +38,43 @@ fn chunks_of_the_greatest_length(rt: HostRuntime) -> Result<(), Fail> {
         Step::Allocate(0, 1, 4112),
         Step::Allocate(0, 1, 0),
     ];
-    let (_, more) = inserts::<u8, u8, 1, 1>(&rt, rt.alloc(), addresses, (4096, 200), &steps)?;
-    let (_, less) = inserts::<u8, u8, 1, 1>(&rt, rt.alloc(), addresses, (4096, 160), &[])?;
+    let (_, more) = inserts::<u8, u8, 1, 1>(&rt, addresses, (4096, 200), &steps);
+    let (_, less) = inserts::<u8, u8, 1, 1>(&rt, addresses, (4096, 160), &[]);
     are(&rt, &[more, less], &[192, 128]);
-    Ok(())
 }
 
 #[test]
-fn wide_alignments(rt: HostRuntime) -> Result<(), Fail> {
+fn wide_alignments(rt: HostRuntime) {
     let (page, short) = ((4096, 8192), (4096, 256));
-    inserts::<u8, u8, 8, 8>(
-        &rt,
-        rt.alloc(),
-        page,
-        page,
-        &[Step::Allocate(1, 4096, 8192)],
-    )?;
+    inserts::<u8, u8, 8, 8>(&rt, page, page, &[Step::Allocate(1, 4096, 8192)]);
     // The word before the payload names its block.
     let steps = [
         Step::Allocate(0, 1, 4112),
         Step::Allocate(1, 64, 4160),
         Step::Word(4152, 4128),
     ];
-    inserts::<u8, u8, 8, 8>(&rt, rt.alloc(), short, short, &steps)?;
-    Ok(())
+    inserts::<u8, u8, 8, 8>(&rt, short, short, &steps);
 }
 
 #[test]
-fn greatest_sizes_are_refused(rt: HostRuntime) -> Result<(), Fail> {
+fn greatest_sizes_are_refused(rt: HostRuntime) {
     let pool = (4096, 256);
     let steps = [
         Step::Allocate((1 << 63) - 1, 1, 0),
         Step::Allocate(0, 1 << 63, 0),
         Step::Allocate(0, 1, 4112),
     ];
-    inserts::<u64, u8, 59, 8>(&rt, rt.alloc(), pool, pool, &steps)?;
-    Ok(())
+    inserts::<u64, u8, 59, 8>(&rt, pool, pool, &steps);
 }
 
 #[test]
-fn words_of_a_pool(rt: HostRuntime) -> Result<(), Fail> {
-    let layout = Layout::from_size_align(0, 1)?;
+fn words_of_a_pool(rt: HostRuntime) {
+    let layout = layout_of(&rt, 0, 1);
     let pool = Range {
         start: 4096,
         len: 96,
     };
-    let (mut tlsf, taken) = with_inserted::<u8, u8, 8, 8>(rt.alloc(), pool, pool)?;
+    let (mut tlsf, taken) = with_inserted::<u8, u8, 8, 8>(&rt, pool, pool);
     let addr = number(tlsf.allocate(layout));
     are(&rt, &[taken, addr], &[96, 4112]);
     let memory = tlsf.into_memory();
@@ -102,7 +91,6 @@ fn words_of_a_pool(rt: HostRuntime) -> Result<(), Fail> {
     for (addr, word) in words {
         assert_eq!(rt; word_at(&memory, addr), Some(word), "at {addr}");
     }
-    Ok(())
 }
 
 /// Allocates two payloads. What the clauses of the calls say is enough to give either back, in any order.
@@ -117,13 +105,12 @@ fn two(tlsf: &mut Small, first: Layout, second: Layout) -> Option<(Addr, Addr)>
 }
 
 #[test]
-fn two_are_live(rt: HostRuntime) -> Result<(), Fail> {
-    let layout = Layout::from_size_align(0, 1)?;
-    let mut tlsf = with_pool(rt.alloc(), 96)?;
+fn two_are_live(rt: HostRuntime) {
+    let layout = layout_of(&rt, 0, 1);
+    let mut tlsf = with_pool(&rt, 96);
     let addresses = match two(&mut tlsf, layout, layout) {
         Some((one, other)) => [one.get(), other.get()],
         None => [0; 2],
     };
     are(&rt, &addresses, &[4112, 4144]);
-    Ok(())
 }

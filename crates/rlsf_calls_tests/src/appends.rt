@@ -3,10 +3,9 @@
 ghost use Rattle.std.specs.Prelude.{◌≡◌, ◌≤◌, length};
 ghost use Rattle.rlsf_machine.specs.State.{empty};
 
-use super::pools::{Long, Small, Step, are, number, takes_steps};
+use super::pools::{Long, Small, Step, are, layout_of, number, takes_steps, zeros};
 use rlsf::int::Bitmap;
-use rlsf::{Layout, Memory, Range, Tlsf};
-use std::test::Fail;
+use rlsf::{Layout, Range, Tlsf};
 
 /// One chunk of the first `pool` of 4096 bytes from the address 4096 on, a payload of `size` bytes that is asked for, and a
 /// range of `few` and one of `many` bytes that are appended behind the chunk. Then the payload is asked for again.
@@ -101,15 +100,14 @@ const ROUNDED_DOWN: Case = Case {
 };
 
 #[test]
-fn chunks_of_any_length_grow(rt: HostRuntime) -> Result<(), Fail> {
+fn chunks_of_any_length_grow(rt: HostRuntime) {
     for case in [JOINED, BEHIND_A_USED_BLOCK, ROUNDED_DOWN] {
-        let layout = Layout::from_size_align(case.size, 1)?;
-        let mut tlsf = Long::new(Memory::new(rt.alloc(), 4096, 4096)?);
+        let layout = layout_of(&rt, case.size, 1);
+        let mut tlsf = Long::new(zeros(&rt, 4096, 4096));
         let answers = appended(&mut tlsf, case, layout);
         are(&rt, &answers.unwrap_or([1; 4]), &case.answers);
         takes_steps(&rt, &mut tlsf, case.then);
     }
-    Ok(())
 }
 
 const NEVER_JOINED: Case = Case {
@@ -156,13 +154,12 @@ const CHUNK_ROUNDED_DOWN: Case = Case {
 };
 
 #[test]
-fn chunks_of_a_greatest_length_follow(rt: HostRuntime) -> Result<(), Fail> {
+fn chunks_of_a_greatest_length_follow(rt: HostRuntime) {
     for case in [NEVER_JOINED, TOO_SHORT_FOR_A_CHUNK, CHUNK_ROUNDED_DOWN] {
-        let layout = Layout::from_size_align(case.size, 1)?;
-        let mut tlsf = Small::new(Memory::new(rt.alloc(), 4096, 4096)?);
+        let layout = layout_of(&rt, case.size, 1);
+        let mut tlsf = Small::new(zeros(&rt, 4096, 4096));
         let answers = appended(&mut tlsf, case, layout);
         are(&rt, &answers.unwrap_or([1; 4]), &case.answers);
         takes_steps(&rt, &mut tlsf, case.then);
     }
-    Ok(())
 }

@@ -5,10 +5,9 @@ ghost use Rattle.rlsf_base.specs.Addr.{at};
 ghost use Rattle.rlsf_machine.specs.Callers.{align_at, bytes_at};
 
 use super::loans::{copy_front, place};
-use super::pools::{Small, Step, are, takes_steps, with_pool};
-use rlsf::{Addr, Layout, Memory, MemoryError, Range};
-use std::alloc::Global;
-use std::test::Fail;
+use super::pools::{Small, Step, are, layout_of, takes_steps, with_pool, zeros};
+use rlsf::{Addr, Layout, Range};
+use std::process::Abort;
 
 /// Allocates a payload and leaves bytes in its front, as many as there is room for. As many are usable as were asked for,
 /// and those of other payloads stay so.
@@ -55,40 +54,38 @@ fn copied_onto_itself(tlsf: &mut Small, layout: Layout, bytes: &[u8], len: usize
 
 /// Makes one chunk of the first 256 of 288 bytes from the address 4096 on, and sets a word in the last 16 bytes of its
 /// sentinel or behind it.
-fn with_spare_word(alloc: Global, addr: usize, word: u64) -> Result<Small, MemoryError>
+fn with_spare_word(rt: &(impl Abort + AllocGlobal), addr: usize, word: u64) -> Small
     requires { (addr % 8 ≡ 0) × (4336 ≤ addr) × (addr + 8 ≤ 4384) }
 {
-    let memory = Memory::new(alloc, 4096, 288)?;
-    let mut tlsf = Small::new(memory);
+    let mut tlsf = Small::new(zeros(rt, 4096, 288));
     tlsf.insert_free_block(Range {
         start: 4096,
         len: 256,
     });
     tlsf.set_spare_word(addr, word);
-    Ok(tlsf)
+    tlsf
 }
 
 /// How many bytes are copied over `abcdefghijklmnop`, and what stands there then.
 const COPIES: [(usize, &[u8]); 2] = [(10, b"ABCDEFGHIJklmnop"), (0, b"abcdefghijklmnop")];
 
 #[test]
-fn front_is_copied(rt: HostRuntime) -> Result<(), Fail> {
-    let layout = Layout::from_size_align(16, 1)?;
+fn front_is_copied(rt: HostRuntime) {
+    let layout = layout_of(&rt, 16, 1);
     let bytes: (&[u8], &[u8]) = (b"ABCDEFGHIJKLMNOP", b"abcdefghijklmnop");
     for (len, expected) in COPIES {
-        let mut tlsf = with_pool(rt.alloc(), 256)?;
+        let mut tlsf = with_pool(&rt, 256);
         let reads = copied(&mut tlsf, layout, bytes, len, expected);
         are(&rt, &reads.unwrap_or([0; 2]), &[4112, 4144]);
     }
-    let mut tlsf = with_pool(rt.alloc(), 256)?;
+    let mut tlsf = with_pool(&rt, 256);
     let stays = copied_onto_itself(&mut tlsf, layout, bytes.0, 10);
     are(&rt, &[stays.unwrap_or(false) as usize], &[1]);
-    Ok(())
 }
 
 #[test]
-fn word_in_a_sentinel(rt: HostRuntime) -> Result<(), Fail> {
-    let mut tlsf = with_spare_word(rt.alloc(), 4344, 77)?;
+fn word_in_a_sentinel(rt: HostRuntime) {
+    let mut tlsf = with_spare_word(&rt, 4344, 77);
     let steps = [
         Step::Word(4336, 0),
         Step::Word(4344, 77),
@@ -102,12 +99,11 @@ fn word_in_a_sentinel(rt: HostRuntime) -> Result<(), Fail> {
         Step::Word(4320, 35),
     ];
     takes_steps(&rt, &mut tlsf, &steps);
-    Ok(())
 }
 
 #[test]
-fn word_behind_a_pool(rt: HostRuntime) -> Result<(), Fail> {
-    let mut tlsf = with_spare_word(rt.alloc(), 4376, 77)?;
+fn word_behind_a_pool(rt: HostRuntime) {
+    let mut tlsf = with_spare_word(&rt, 4376, 77);
     let steps = [
         Step::Allocate(208, 1, 4112),
         Step::Word(4368, 0),
@@ -115,5 +111,4 @@ fn word_behind_a_pool(rt: HostRuntime) -> Result<(), Fail> {
         Step::Allocate(0, 1, 0),
     ];
     takes_steps(&rt, &mut tlsf, &steps);
-    Ok(())
 }

@@ -4,9 +4,9 @@ ghost use Rattle.std.specs.Prelude.{◌≡◌, ◌<◌, ℕ, IfSome, IsSome};
 ghost use Rattle.rlsf_base.specs.Addr.{at};
 ghost use Rattle.rlsf_machine.specs.Callers.{align_at};
 
-use super::pools::{Small, Wide, are, wide, with_pool};
-use rlsf::{Addr, Layout};
-use std::test::Fail;
+use super::pools::{Small, Wide, are, layout_of, wide, with_pool};
+use rlsf::int::Bitmap;
+use rlsf::{Addr, Layout, Tlsf};
 
 /// Allocates a payload, fills it with a byte, reads it at an offset, and gives it back. Answers what was read.
 fn filled(tlsf: &mut Small, layout: Layout, byte: u8, offset: usize) -> Option<u8>
@@ -87,16 +87,10 @@ fn words(
 }
 
 /// The address of a payload, or 0, and how many of its bytes are lent, to read and to write.
-fn lent(tlsf: &mut Small, layout: Layout) -> [usize; 3] {
-    let Some(addr) = tlsf.allocate(layout) else {
-        return [0; 3];
-    };
-    let read = tlsf.payload(addr).len();
-    [addr.get(), read, tlsf.payload_mut(addr).len()]
-}
-
-/// The same, in the wide shape.
-fn wide_lent(tlsf: &mut Wide, layout: Layout) -> [usize; 3] {
+fn lent<FLBitmap: Bitmap, SLBitmap: Bitmap, const FLLEN: usize, const SLLEN: usize>(
+    tlsf: &mut Tlsf<FLBitmap, SLBitmap, FLLEN, SLLEN>,
+    layout: Layout,
+) -> [usize; 3] {
     let Some(addr) = tlsf.allocate(layout) else {
         return [0; 3];
     };
@@ -105,51 +99,46 @@ fn wide_lent(tlsf: &mut Wide, layout: Layout) -> [usize; 3] {
 }
 
 #[test]
-fn page_is_lent(rt: HostRuntime) -> Result<(), Fail> {
-    let layout = Layout::from_size_align(1, 4096)?;
-    let mut tlsf = with_pool(rt.alloc(), 8192)?;
+fn page_is_lent(rt: HostRuntime) {
+    let layout = layout_of(&rt, 1, 4096);
+    let mut tlsf = with_pool(&rt, 8192);
     are(&rt, &lent(&mut tlsf, layout), &[8192, 32, 32]);
-    Ok(())
 }
 
 #[test]
-fn payload_without_bytes_is_lent(rt: HostRuntime) -> Result<(), Fail> {
-    let layout = Layout::from_size_align(0, 32)?;
-    let mut tlsf = wide(rt.alloc(), 65536)?;
-    are(&rt, &wide_lent(&mut tlsf, layout), &[4128, 0, 0]);
-    Ok(())
+fn payload_without_bytes_is_lent(rt: HostRuntime) {
+    let layout = layout_of(&rt, 0, 32);
+    let mut tlsf = wide(&rt, 65536);
+    are(&rt, &lent(&mut tlsf, layout), &[4128, 0, 0]);
 }
 
 #[test]
-fn neighbours_keep_their_bytes(rt: HostRuntime) -> Result<(), Fail> {
+fn neighbours_keep_their_bytes(rt: HostRuntime) {
     let layouts = (
-        Layout::from_size_align(0, 1)?,
-        Layout::from_size_align(40, 1)?,
-        Layout::from_size_align(100, 1)?,
+        layout_of(&rt, 0, 1),
+        layout_of(&rt, 40, 1),
+        layout_of(&rt, 100, 1),
     );
-    let mut tlsf = with_pool(rt.alloc(), 256)?;
+    let mut tlsf = with_pool(&rt, 256);
     let reads = neighbours(&mut tlsf, layouts, (&[1; 16], &[2; 48], &[3; 112]));
     are(&rt, &reads.unwrap_or([0; 3]), &[4112, 4144, 4208]);
-    Ok(())
 }
 
 #[test]
-fn filled_reads_back(rt: HostRuntime) -> Result<(), Fail> {
-    let layout = Layout::from_size_align(100, 1)?;
-    let mut tlsf = with_pool(rt.alloc(), 256)?;
+fn filled_reads_back(rt: HostRuntime) {
+    let layout = layout_of(&rt, 100, 1);
+    let mut tlsf = with_pool(&rt, 256);
     let first = filled(&mut tlsf, layout, 7, 99);
     // It was given back: else there would be no room for another.
     let second = filled(&mut tlsf, layout, 8, 0);
     are(&rt, &numbers(first, second), &[7, 8]);
-    Ok(())
 }
 
 #[test]
-fn words_read_back(rt: HostRuntime) -> Result<(), Fail> {
-    let layout = Layout::from_size_align(8, 8)?;
-    let mut tlsf = wide(rt.alloc(), 65536)?;
+fn words_read_back(rt: HostRuntime) {
+    let layout = layout_of(&rt, 8, 8);
+    let mut tlsf = wide(&rt, 65536);
     let (places, [one, two]) = words(&mut tlsf, layout, 42, 56).unwrap_or(([0; 2], [0; 2]));
     are(&rt, &places, &[4112, 4144]);
     are(&rt, &[one as usize, two as usize], &[42, 56]);
-    Ok(())
 }

@@ -1,13 +1,12 @@
 //! Allocators with their pools, what they answer as numbers, and the words of their memories.
 
-ghost use Rattle.std.specs.Prelude.{◌+◌, ◌≤◌, IfOk};
+ghost use Rattle.std.specs.Prelude.{◌≡◌, ◌+◌, ◌≤◌, replicate};
 ghost use Rattle.rlsf_base.specs.Range.{LiesIn, range_at};
 ghost use Rattle.rlsf_base.specs.SizeClass.{IsValid};
 ghost use Rattle.rlsf_calls_tests.specs.Rows.{TakesRow};
 
 use rlsf::int::Bitmap;
-use rlsf::{Addr, Layout, Memory, MemoryError, Range, Tlsf};
-use std::alloc::Global;
+use rlsf::{Addr, Layout, Memory, Range, Tlsf};
 use std::num::NonZeroUsize;
 use std::process::Abort;
 
@@ -17,6 +16,21 @@ pub(crate) type Small = Tlsf<u8, u8, 8, 8>;
 pub(crate) type Wide = Tlsf<u16, u16, 12, 16>;
 
 pub(crate) type Long = Tlsf<u64, u8, 59, 8>;
+
+/// The layout of so many bytes at a multiple of a power of two.
+pub(crate) fn layout_of(rt: &impl Abort, size: usize, align: usize) -> Layout
+    ensures { (result.size ≡ size) × (result.align ≡ align) }
+{
+    Layout::from_size_align(size, align).expect(rt, "a layout")
+}
+
+/// A memory of so many bytes from an address on, all of them 0.
+pub(crate) fn zeros(rt: &(impl Abort + AllocGlobal), start: usize, len: usize) -> Memory
+    ensures start { result.start ≡ start }
+    ensures bytes { result.bytes ≡ replicate len 0 }
+{
+    Memory::new(rt.alloc(), start, len).expect(rt, "memory")
+}
 
 /// Passes where the answers are the expected ones.
 pub(crate) fn are(rt: &impl Abort, answers: &[usize], expected: &[usize]) {
@@ -41,38 +55,35 @@ pub(crate) fn with_inserted<
     const FLLEN: usize,
     const SLLEN: usize,
 >(
-    alloc: Global,
+    rt: &(impl Abort + AllocGlobal),
     addresses: Range,
     pool: Range,
-) -> Result<(Tlsf<FLBitmap, SLBitmap, FLLEN, SLLEN>, usize), MemoryError>
+) -> (Tlsf<FLBitmap, SLBitmap, FLLEN, SLLEN>, usize)
     requires shape { IsValid FLBitmap.width SLBitmap.width FLLEN SLLEN }
     requires inside { LiesIn pool addresses.start addresses.len }
-    ensures { IfOk result (λ r. TakesRow FLLEN pool r.0.state) }
+    ensures { TakesRow FLLEN pool result.0.state }
 {
-    let memory = Memory::new(alloc, addresses.start, addresses.len)?;
-    let mut tlsf = Tlsf::new(memory);
+    let mut tlsf = Tlsf::new(zeros(rt, addresses.start, addresses.len));
     let taken = number(tlsf.insert_free_block_ptr(pool));
-    Ok((tlsf, taken))
+    (tlsf, taken)
 }
 
 /// An allocator over so many bytes from the address 4096 on, all of which are its pool.
-pub(crate) fn with_pool(alloc: Global, len: usize) -> Result<Small, MemoryError>
-    ensures { IfOk result (λ tlsf. TakesRow 8 (range_at 4096 len) tlsf.state) }
+pub(crate) fn with_pool(rt: &(impl Abort + AllocGlobal), len: usize) -> Small
+    ensures { TakesRow 8 (range_at 4096 len) result.state }
 {
-    let memory = Memory::new(alloc, 4096, len)?;
-    let mut tlsf = Small::new(memory);
+    let mut tlsf = Small::new(zeros(rt, 4096, len));
     tlsf.insert_free_block(Range { start: 4096, len });
-    Ok(tlsf)
+    tlsf
 }
 
 /// The same, in the wide shape.
-pub(crate) fn wide(alloc: Global, len: usize) -> Result<Wide, MemoryError>
-    ensures { IfOk result (λ tlsf. TakesRow 12 (range_at 4096 len) tlsf.state) }
+pub(crate) fn wide(rt: &(impl Abort + AllocGlobal), len: usize) -> Wide
+    ensures { TakesRow 12 (range_at 4096 len) result.state }
 {
-    let memory = Memory::new(alloc, 4096, len)?;
-    let mut tlsf = Wide::new(memory);
+    let mut tlsf = Wide::new(zeros(rt, 4096, len));
     tlsf.insert_free_block(Range { start: 4096, len });
-    Ok(tlsf)
+    tlsf
 }
 
 /// An address as a number, 0 if there is none.
@@ -136,12 +147,11 @@ pub(crate) fn takes_steps<
 /// Inserts a pool into a memory and does the steps; passes where each answers what is expected. Answers the allocator, and the
 /// bytes taken, or 0. The memory and the pool are a start and a length.
 pub(crate) fn inserts<FLBitmap: Bitmap, SLBitmap: Bitmap, const FLLEN: usize, const SLLEN: usize>(
-    rt: &impl Abort,
-    alloc: Global,
+    rt: &(impl Abort + AllocGlobal),
     memory: (usize, usize),
     pool: (usize, usize),
     steps: &[Step],
-) -> Result<(Tlsf<FLBitmap, SLBitmap, FLLEN, SLLEN>, usize), MemoryError>
+) -> (Tlsf<FLBitmap, SLBitmap, FLLEN, SLLEN>, usize)
     requires shape { IsValid FLBitmap.width SLBitmap.width FLLEN SLLEN }
     requires inside { (memory.0 ≤ pool.0) × (pool.0 + pool.1 ≤ memory.0 + memory.1) }
 {
@@ -153,7 +163,7 @@ pub(crate) fn inserts<FLBitmap: Bitmap, SLBitmap: Bitmap, const FLLEN: usize, co
         start: pool.0,
         len: pool.1,
     };
-    let (mut tlsf, taken) = with_inserted(alloc, addresses, inserted)?;
+    let (mut tlsf, taken) = with_inserted(rt, addresses, inserted);
     takes_steps(rt, &mut tlsf, steps);
-    Ok((tlsf, taken))
+    (tlsf, taken)
 }

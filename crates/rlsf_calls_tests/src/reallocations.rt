@@ -1,14 +1,13 @@
 //! Payloads that get another size: where they lie then, and what they hold.
 
-ghost use Rattle.std.specs.Prelude.{◌≡◌, ◌≢◌, ◌<◌, length, IfOk, IfSome, unwrap_or};
+ghost use Rattle.std.specs.Prelude.{◌≡◌, ◌≢◌, ◌<◌, length, IfSome, unwrap_or};
 ghost use Rattle.rlsf_base.specs.Addr.{at};
 ghost use Rattle.rlsf_machine.specs.Callers.{align_at};
 
 use super::loans::{copy_front, numbers};
-use super::pools::{Small, Step, Wide, are, number, takes_steps, wide, with_pool};
-use rlsf::{Addr, Layout, LayoutError};
+use super::pools::{Small, Step, Wide, are, layout_of, number, takes_steps, wide, with_pool};
+use rlsf::{Addr, Layout};
 use std::process::Abort;
-use std::test::Fail;
 
 // What is left in a payload, as far as there is room, before it gets another size.
 const BYTES: &[u8] = b"abcdefghijklmnopqrstuvwxyzABCDEFGHIJKLMNOPQRSTUVWXYZ0123456789+-";
@@ -222,30 +221,24 @@ fn wide_second(tlsf: &mut Wide, layout: Layout, freed: Freed, wanted: Layout) ->
 }
 
 /// Three layouts of one alignment.
-fn layouts(
-    align: usize,
-    first: usize,
-    second: usize,
-    third: usize,
-) -> Result<(Layout, Layout, Layout), LayoutError>
-    ensures { IfOk result (λ r. r.1.align ≡ align) }
+fn layouts(rt: &impl Abort, align: usize, sizes: (usize, usize, usize)) -> (Layout, Layout, Layout)
+    ensures { result.1.align ≡ align }
 {
-    Ok((
-        Layout::from_size_align(first, align)?,
-        Layout::from_size_align(second, align)?,
-        Layout::from_size_align(third, align)?,
-    ))
+    (
+        layout_of(rt, sizes.0, align),
+        layout_of(rt, sizes.1, align),
+        layout_of(rt, sizes.2, align),
+    )
 }
 
 #[test]
-fn shrunk_to_nothing(rt: HostRuntime) -> Result<(), Fail> {
-    let layout = Layout::from_size_align(17, 1)?;
-    let nothing = Layout::from_size_align(0, 1)?;
-    let mut tlsf = with_pool(rt.alloc(), 96)?;
+fn shrunk_to_nothing(rt: HostRuntime) {
+    let layout = layout_of(&rt, 17, 1);
+    let nothing = layout_of(&rt, 0, 1);
+    let mut tlsf = with_pool(&rt, 96);
     let outcome = one(&mut tlsf, layout, nothing);
     became(&rt, outcome, ((4112, 4112), (16, true)));
     takes_steps(&rt, &mut tlsf, &[Step::Allocate(0, 1, 4144)]);
-    Ok(())
 }
 
 /// The second of three payloads of these sizes, in a pool of 256 bytes, that is asked to get another size once one of its
@@ -304,17 +297,16 @@ const GREATEST_LAYOUT_IS_REFUSED: Case = Case {
 };
 
 #[test]
-fn second_of_three(rt: HostRuntime) -> Result<(), Fail> {
+fn second_of_three(rt: HostRuntime) {
     for case in [
         MOVED_OVER_ITS_OWN_BYTES,
         MOVED_WITH_A_REST,
         GROWN_TO_THE_END_OF_THE_NEXT,
         GREATEST_LAYOUT_IS_REFUSED,
     ] {
-        let (before, size, behind) = case.sizes;
-        let wanted = Layout::from_size_align(case.wanted, 1)?;
-        let sizes = layouts(1, before, size, behind)?;
-        let mut tlsf = with_pool(rt.alloc(), 256)?;
+        let wanted = layout_of(&rt, case.wanted, 1);
+        let sizes = layouts(&rt, 1, case.sizes);
+        let mut tlsf = with_pool(&rt, 256);
         became(
             &rt,
             second(&mut tlsf, sizes, case.freed, wanted),
@@ -328,19 +320,17 @@ fn second_of_three(rt: HostRuntime) -> Result<(), Fail> {
         }
         takes_steps(&rt, &mut tlsf, case.words);
     }
-    Ok(())
 }
 
 #[test]
-fn refused_without_room(rt: HostRuntime) -> Result<(), Fail> {
-    let wanted = Layout::from_size_align(70, 1)?;
-    let again = Layout::from_size_align(200, 1)?;
-    let sizes = layouts(1, 0, 40, 100)?;
-    let mut tlsf = with_pool(rt.alloc(), 256)?;
+fn refused_without_room(rt: HostRuntime) {
+    let wanted = layout_of(&rt, 70, 1);
+    let again = layout_of(&rt, 200, 1);
+    let sizes = layouts(&rt, 1, (0, 40, 100));
+    let mut tlsf = with_pool(&rt, 256);
     let outcome = second_again(&mut tlsf, sizes, wanted, again);
     became(&rt, outcome, ((4112, 0), (80, true)));
     are(&rt, &[tlsf.fl_bitmap() as usize], &[0]);
-    Ok(())
 }
 
 // Of three payloads of 40 bytes in a pool of 65,536 bytes: which neighbour is given back, the alignment, the size that is asked for, and what becomes of the payload.
@@ -374,38 +364,35 @@ const WIDE_CASES: [(Freed, usize, usize, Outcome); 16] = [
 ];
 
 #[test]
-fn second_of_three_in_a_wide_pool(rt: HostRuntime) -> Result<(), Fail> {
+fn second_of_three_in_a_wide_pool(rt: HostRuntime) {
     for (freed, align, size, expected) in WIDE_CASES {
-        let layout = Layout::from_size_align(40, align)?;
-        let wanted = Layout::from_size_align(size, align)?;
-        let mut tlsf = wide(rt.alloc(), 65536)?;
+        let layout = layout_of(&rt, 40, align);
+        let wanted = layout_of(&rt, size, align);
+        let mut tlsf = wide(&rt, 65536);
         let outcome = wide_second(&mut tlsf, layout, freed, wanted);
         became(&rt, outcome, expected);
     }
-    Ok(())
 }
 
 #[test]
-fn kept_reads_back(rt: HostRuntime) -> Result<(), Fail> {
-    let layout = Layout::from_size_align(40, 1)?;
-    let wanted = Layout::from_size_align(100, 1)?;
-    let mut tlsf = with_pool(rt.alloc(), 256)?;
+fn kept_reads_back(rt: HostRuntime) {
+    let layout = layout_of(&rt, 40, 1);
+    let wanted = layout_of(&rt, 100, 1);
+    let mut tlsf = with_pool(&rt, 256);
     let grown = kept(&mut tlsf, layout, wanted, 7, 39);
     let shrunk = kept(&mut tlsf, wanted, layout, 8, 39);
     are(&rt, &numbers(grown, shrunk), &[7, 8]);
-    Ok(())
 }
 
 #[test]
-fn kept_there_reads_back(rt: HostRuntime) -> Result<(), Fail> {
-    let layout = Layout::from_size_align(40, 1)?;
-    let wanted = Layout::from_size_align(100, 1)?;
-    let longest = Layout::from_size_align(300, 1)?;
-    let mut tlsf = with_pool(rt.alloc(), 256)?;
+fn kept_there_reads_back(rt: HostRuntime) {
+    let layout = layout_of(&rt, 40, 1);
+    let wanted = layout_of(&rt, 100, 1);
+    let longest = layout_of(&rt, 300, 1);
+    let mut tlsf = with_pool(&rt, 256);
     let grown = kept_there(&mut tlsf, layout, wanted, 7, 39);
     let shrunk = kept_there(&mut tlsf, wanted, layout, 8, 39);
     are(&rt, &numbers(grown, shrunk), &[7, 8]);
     let refused = kept_there(&mut tlsf, layout, longest, 9, 39);
     assert_eq!(rt; refused, None);
-    Ok(())
 }

@@ -8,12 +8,13 @@
 
 ghost use Rattle.rlsf_base.specs.SizeClass.{IsValid};
 
+use super::pools::{layout_of, zeros};
 use rlsf::classes::{pool_size_for_objects, pool_size_for_payloads};
 use rlsf::int::Bitmap;
-use rlsf::{Layout, Memory, Range, Tlsf};
+use rlsf::{Layout, Range, Tlsf};
 use rlsf_runs::run;
 use rlsf_text::{Answer, Op};
-use std::alloc::Global;
+use std::process::Abort;
 
 /// Ops, and whether each has to be granted.
 #[derive(Drop)]
@@ -49,41 +50,47 @@ fn name_at(order: Order, count: usize, place: usize) -> usize {
 
 impl Script {
     /// A pool of so many bytes.
-    fn new(alloc: Global, len: usize) -> Option<Script> {
+    fn new(rt: &(impl Abort + AllocGlobal), len: usize) -> Script {
         let mut script = Script {
-            ops: Vec::new(alloc),
-            granted: Vec::new(alloc),
+            ops: Vec::new(rt.alloc()),
+            granted: Vec::new(rt.alloc()),
         };
         let start = 4096;
-        script.add(Op::Insert(Range { start, len }), true)?;
-        Some(script)
+        script.add(rt, Op::Insert(Range { start, len }), true);
+        script
     }
 
-    fn add(&mut self, op: Op, granted: bool) -> Option<()> {
-        self.ops.push(op).ok()?;
-        self.granted.push(granted).ok()
+    fn add(&mut self, rt: &(impl Abort + AllocGlobal), op: Op, granted: bool) {
+        self.ops.push(op).expect(rt, "memory");
+        self.granted.push(granted).expect(rt, "memory");
     }
 
     /// Payloads for the names at these places of an order, all of `count` then, and one for one more name, which has to be refused.
     fn fill(
         &mut self,
+        rt: &(impl Abort + AllocGlobal),
         order: Order,
         count: usize,
         places: (usize, usize),
         layout: Layout,
-    ) -> Option<()> {
+    ) {
         for place in places.0..places.1 {
-            self.add(Op::Alloc(name_at(order, count, place), layout), true)?;
+            self.add(rt, Op::Alloc(name_at(order, count, place), layout), true);
         }
-        self.add(Op::Alloc(count, layout), false)
+        self.add(rt, Op::Alloc(count, layout), false);
     }
 
     /// The payloads of the names at these places of an order are given back.
-    fn give_back(&mut self, order: Order, count: usize, places: (usize, usize)) -> Option<()> {
+    fn give_back(
+        &mut self,
+        rt: &(impl Abort + AllocGlobal),
+        order: Order,
+        count: usize,
+        places: (usize, usize),
+    ) {
         for place in places.0..places.1 {
-            self.add(Op::Free(name_at(order, count, place)), true)?;
+            self.add(rt, Op::Free(name_at(order, count, place)), true);
         }
-        Some(())
     }
 
     /// The index of the first op that is answered otherwise.
@@ -111,45 +118,44 @@ type Shape<'a, FLBitmap, SLBitmap, const FLLEN: usize, const SLLEN: usize> = Opt
     &'a Tlsf<FLBitmap, SLBitmap, FLLEN, SLLEN>,
 >;
 
-/// The index of the first op that is answered otherwise in a memory of so many bytes; nothing where the system refused memory.
+/// The index of the first op that is answered otherwise in a memory of so many bytes.
 fn wrong_in<FLBitmap: Bitmap, SLBitmap: Bitmap, const FLLEN: usize, const SLLEN: usize>(
-    alloc: Global,
+    rt: &(impl Abort + AllocGlobal),
     script: &Script,
     len: usize,
     _shape: Shape<'_, FLBitmap, SLBitmap, FLLEN, SLLEN>,
-) -> Option<Option<usize>>
+) -> Option<usize>
     requires { IsValid FLBitmap.width SLBitmap.width FLLEN SLLEN }
 {
-    let memory = Memory::new(alloc, 4096, len).ok()?;
-    let mut tlsf = Tlsf::<FLBitmap, SLBitmap, FLLEN, SLLEN>::new(memory);
-    let mut answers = Vec::new(alloc);
-    run(alloc, &mut tlsf, script.ops.as_slice(), &mut answers).ok()?;
-    Some(script.first_wrong(answers.as_slice()))
+    let mut tlsf = Tlsf::<FLBitmap, SLBitmap, FLLEN, SLLEN>::new(zeros(rt, 4096, len));
+    let mut answers = Vec::new(rt.alloc());
+    run(rt.alloc(), &mut tlsf, script.ops.as_slice(), &mut answers).expect(rt, "memory");
+    script.first_wrong(answers.as_slice())
 }
 
 /// A pool of so many bytes holds `count` payloads: they are taken and given back in an order, all of them and each half of them,
 /// and whenever all are taken one more is refused.
 fn filled_in_order(
-    alloc: Global,
+    rt: &(impl Abort + AllocGlobal),
     order: Order,
     count: usize,
     layout: Layout,
     len: usize,
-) -> Option<Script> {
+) -> Script {
     let half = count / 2;
-    let mut script = Script::new(alloc, len)?;
-    script.fill(order, count, (0, count), layout)?;
+    let mut script = Script::new(rt, len);
+    script.fill(rt, order, count, (0, count), layout);
     for places in [(0, half), (half, count), (0, count)] {
-        script.give_back(order, count, places)?;
-        script.fill(order, count, places, layout)?;
+        script.give_back(rt, order, count, places);
+        script.fill(rt, order, count, places, layout);
     }
-    Some(script)
+    script
 }
 
 /// The first of the three orders in which a pool of so many bytes holds more or fewer than `count` payloads, and the index of the
-/// op that shows it: past all where the system refused memory.
+/// op that shows it.
 fn wrong_order<FLBitmap: Bitmap, SLBitmap: Bitmap, const FLLEN: usize, const SLLEN: usize>(
-    alloc: Global,
+    rt: &(impl Abort + AllocGlobal),
     count: usize,
     layout: Layout,
     len: usize,
@@ -159,14 +165,9 @@ fn wrong_order<FLBitmap: Bitmap, SLBitmap: Bitmap, const FLLEN: usize, const SLL
 {
     let orders = [Order::Ascending, Order::Descending, Order::Alternating];
     for (index, order) in orders.into_iter().enumerate() {
-        let found = match filled_in_order(alloc, order, count, layout, len) {
-            Some(script) => wrong_in(alloc, &script, len, shape),
-            None => None,
-        };
-        match found {
-            Some(None) => {}
-            Some(Some(op)) => return Some((index, op)),
-            None => return Some((index, usize::MAX)),
+        let script = filled_in_order(rt, order, count, layout, len);
+        if let Some(op) = wrong_in(rt, &script, len, shape) {
+            return Some((index, op));
         }
     }
     None
@@ -175,17 +176,17 @@ fn wrong_order<FLBitmap: Bitmap, SLBitmap: Bitmap, const FLLEN: usize, const SLL
 /// The length of a pool for 100 objects of a size, and the size to ask for, where the pool holds 100 and one that is 32 bytes
 /// shorter holds 99, in each order.
 fn pool_of_100<FLBitmap: Bitmap, SLBitmap: Bitmap, const FLLEN: usize, const SLLEN: usize>(
-    alloc: Global,
+    rt: &(impl Abort + AllocGlobal),
     size: usize,
     shape: Shape<'_, FLBitmap, SLBitmap, FLLEN, SLLEN>,
 ) -> Option<(usize, usize)>
     requires { IsValid FLBitmap.width SLBitmap.width FLLEN SLLEN }
 {
     let (len, size) = pool_size_for_objects::<FLBitmap, SLBitmap, FLLEN, SLLEN>(100, size)?;
-    let layout = Layout::from_size_align(size, 16).ok()?;
+    let object = layout_of(rt, size, 16);
     let shorter = len.saturating_sub(32);
-    if wrong_order(alloc, 100, layout, len, shape).is_some()
-        || wrong_order(alloc, 99, layout, shorter, shape).is_some()
+    if wrong_order(rt, 100, object, len, shape).is_some()
+        || wrong_order(rt, 99, object, shorter, shape).is_some()
     {
         return None;
     }
@@ -194,25 +195,24 @@ fn pool_of_100<FLBitmap: Bitmap, SLBitmap: Bitmap, const FLLEN: usize, const SLL
 
 /// The same for objects of 40, of 700 and of 1100 bytes.
 fn pools_of_100<FLBitmap: Bitmap, SLBitmap: Bitmap, const FLLEN: usize, const SLLEN: usize>(
-    alloc: Global,
+    rt: &(impl Abort + AllocGlobal),
     shape: Shape<'_, FLBitmap, SLBitmap, FLLEN, SLLEN>,
 ) -> [Option<(usize, usize)>; 3]
     requires { IsValid FLBitmap.width SLBitmap.width FLLEN SLLEN }
 {
     [
-        pool_of_100(alloc, 40, shape),
-        pool_of_100(alloc, 700, shape),
-        pool_of_100(alloc, 1100, shape),
+        pool_of_100(rt, 40, shape),
+        pool_of_100(rt, 700, shape),
+        pool_of_100(rt, 1100, shape),
     ]
 }
 
 #[test]
 fn pools_of_100_objects(rt: HostRuntime) {
-    let alloc = rt.alloc();
     let found = [
-        pools_of_100::<u16, u16, 12, 16>(alloc, None),
-        pools_of_100::<u64, u64, 59, 8>(alloc, None),
-        pools_of_100::<u64, u64, 64, 64>(alloc, None),
+        pools_of_100::<u16, u16, 12, 16>(&rt, None),
+        pools_of_100::<u64, u64, 59, 8>(&rt, None),
+        pools_of_100::<u64, u64, 64, 64>(&rt, None),
     ];
     let expected = [
         [Some((6432, 48)), Some((73632, 720)), Some((115232, 1136))],
@@ -233,25 +233,24 @@ fn next(word: u64) -> u64 {
 
 /// What a word does to the payload of a name: one that isn't live is allocated, and a live one gets another size, or is given
 /// back, in one of eight times. Sizes go up to 700 bytes, alignments up to 64.
-fn random_op(word: u64, live: &mut [bool; NAMES]) -> Option<Op> {
+fn random_op(rt: &impl Abort, word: u64, live: &mut [bool; NAMES]) -> Op {
     let [name, kind, high, low, shift, ..] = word.to_be_bytes();
     let name = name as usize % NAMES;
     let size = u16::from_be_bytes([high, low]) as usize % 701;
     if !live[name] {
         live[name] = true;
-        let layout = Layout::from_size_align(size, 1 << (shift % 7)).ok()?;
-        Some(Op::Alloc(name, layout))
+        Op::Alloc(name, layout_of(rt, size, 1 << (shift % 7)))
     } else if kind % 8 == 0 {
         live[name] = false;
-        Some(Op::Free(name))
+        Op::Free(name)
     } else {
-        Some(Op::Realloc(name, size))
+        Op::Realloc(name, size)
     }
 }
 
 /// 100,000 random ops in a pool of so many bytes, each of which has to be granted, and for how many of them all names were live.
-fn random_script(alloc: Global, len: usize) -> Option<(Script, usize)> {
-    let mut script = Script::new(alloc, len)?;
+fn random_script(rt: &(impl Abort + AllocGlobal), len: usize) -> (Script, usize) {
+    let mut script = Script::new(rt, len);
     let mut live = [false; NAMES];
     let mut full: usize = 0;
     let mut word = 0x9e3779b97f4a7c15;
@@ -260,22 +259,22 @@ fn random_script(alloc: Global, len: usize) -> Option<(Script, usize)> {
         if live == [true; NAMES] {
             full = full.wrapping_add(1);
         }
-        script.add(random_op(word, &mut live)?, true)?;
+        script.add(rt, random_op(rt, word, &mut live), true);
     }
-    Some((script, full))
+    (script, full)
 }
 
 /// The length of a pool for as many payloads as may be live before an op of the random run, where none of its ops is refused.
 fn pool_of_random_run<FLBitmap: Bitmap, SLBitmap: Bitmap, const FLLEN: usize, const SLLEN: usize>(
-    alloc: Global,
+    rt: &(impl Abort + AllocGlobal),
     shape: Shape<'_, FLBitmap, SLBitmap, FLLEN, SLLEN>,
 ) -> Option<usize>
     requires { IsValid FLBitmap.width SLBitmap.width FLLEN SLLEN }
 {
-    let greatest = Layout::from_size_align(700, 64).ok()?;
+    let greatest = layout_of(rt, 700, 64);
     let len = pool_size_for_payloads::<FLBitmap, SLBitmap, FLLEN, SLLEN>(NAMES, greatest)?;
-    let (script, full) = random_script(alloc, len)?;
-    if full == 0 || wrong_in(alloc, &script, len, shape)?.is_some() {
+    let (script, full) = random_script(rt, len);
+    if full == 0 || wrong_in(rt, &script, len, shape).is_some() {
         return None;
     }
     Some(len)
@@ -283,46 +282,43 @@ fn pool_of_random_run<FLBitmap: Bitmap, SLBitmap: Bitmap, const FLLEN: usize, co
 
 #[test]
 fn random_run_without_a_refusal(rt: HostRuntime) {
-    let alloc = rt.alloc();
     // A payload of 700 bytes at a multiple of 64 is sought with 768, so 50 live ones want 77,600 bytes, and one SLLENth of 39,168.
     let found = [
-        pool_of_random_run::<u16, u16, 12, 16>(alloc, None),
-        pool_of_random_run::<u64, u64, 59, 8>(alloc, None),
-        pool_of_random_run::<u64, u64, 64, 64>(alloc, None),
+        pool_of_random_run::<u16, u16, 12, 16>(&rt, None),
+        pool_of_random_run::<u64, u64, 59, 8>(&rt, None),
+        pool_of_random_run::<u64, u64, 64, 64>(&rt, None),
     ];
     assert_eq!(rt; found, [Some(80064), Some(82496), Some(78240)]);
 }
 
 /// Sixteen payloads that are sought with 992 bytes, of which every other one is given back, and one that is sought with 1024, which is granted or not.
-fn fragments(alloc: Global, len: usize, granted: bool) -> Option<Script> {
-    let mut script = Script::new(alloc, len)?;
-    let lesser = Layout::from_size_align(976, 1).ok()?;
-    let greatest = Layout::from_size_align(1008, 1).ok()?;
+fn fragments(rt: &(impl Abort + AllocGlobal), len: usize, granted: bool) -> Script {
+    let mut script = Script::new(rt, len);
+    let lesser = layout_of(rt, 976, 1);
+    let greatest = layout_of(rt, 1008, 1);
     for name in 0..16 {
-        script.add(Op::Alloc(name, lesser), true)?;
+        script.add(rt, Op::Alloc(name, lesser), true);
     }
     for name in 0..8 {
-        script.add(Op::Free(2 * name), true)?;
+        script.add(rt, Op::Free(2 * name), true);
     }
-    script.add(Op::Alloc(16, greatest), granted)?;
-    Some(script)
+    script.add(rt, Op::Alloc(16, greatest), granted);
+    script
 }
 
 /// The length of a pool in which sixteen payloads may live, where the greatest is granted beside the fragments, and refused in half
 /// of that length.
 fn pool_of_fragments<FLBitmap: Bitmap, SLBitmap: Bitmap, const FLLEN: usize, const SLLEN: usize>(
-    alloc: Global,
+    rt: &(impl Abort + AllocGlobal),
     shape: Shape<'_, FLBitmap, SLBitmap, FLLEN, SLLEN>,
 ) -> Option<usize>
     requires { IsValid FLBitmap.width SLBitmap.width FLLEN SLLEN }
 {
-    let greatest = Layout::from_size_align(1008, 1).ok()?;
+    let greatest = layout_of(rt, 1008, 1);
     let len = pool_size_for_payloads::<FLBitmap, SLBitmap, FLLEN, SLLEN>(15, greatest)?;
-    let whole = fragments(alloc, len, true)?;
-    let half = fragments(alloc, len / 2, false)?;
-    if wrong_in(alloc, &whole, len, shape)?.is_some()
-        || wrong_in(alloc, &half, len / 2, shape)?.is_some()
-    {
+    let whole = fragments(rt, len, true);
+    let half = fragments(rt, len / 2, false);
+    if wrong_in(rt, &whole, len, shape).is_some() || wrong_in(rt, &half, len / 2, shape).is_some() {
         return None;
     }
     Some(len)
@@ -330,13 +326,12 @@ fn pool_of_fragments<FLBitmap: Bitmap, SLBitmap: Bitmap, const FLLEN: usize, con
 
 #[test]
 fn greatest_beside_fragments(rt: HostRuntime) {
-    let alloc = rt.alloc();
     // Before each allocation 15 payloads are live at most: 31,776 bytes, and one SLLENth of 16,384. Half of that has room for the
     // sixteen lesser ones and at most 992 bytes more behind them.
     let found = [
-        pool_of_fragments::<u16, u16, 12, 16>(alloc, None),
-        pool_of_fragments::<u64, u64, 59, 8>(alloc, None),
-        pool_of_fragments::<u64, u64, 64, 64>(alloc, None),
+        pool_of_fragments::<u16, u16, 12, 16>(&rt, None),
+        pool_of_fragments::<u64, u64, 59, 8>(&rt, None),
+        pool_of_fragments::<u64, u64, 64, 64>(&rt, None),
     ];
     assert_eq!(rt; found, [Some(32800), Some(33824), Some(32032)]);
 }

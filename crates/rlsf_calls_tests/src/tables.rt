@@ -2,9 +2,10 @@
 
 ghost use Rattle.std.specs.Prelude.{◌<◌};
 
-use super::pools::{Small, Step, are, inserts, number, takes_steps, with_inserted, with_pool};
+use super::pools::{
+    Small, Step, are, inserts, layout_of, number, takes_steps, with_inserted, with_pool,
+};
 use rlsf::{Layout, Range};
-use std::test::Fail;
 
 /// The newest free block of a class, or 0.
 fn newest(tlsf: &Small, fl: usize, sl: usize) -> usize
@@ -25,9 +26,9 @@ fn every_other_freed(tlsf: &mut Small, layout: Layout) -> Option<[usize; 4]> {
 }
 
 #[test]
-fn two_free_blocks_of_a_class(rt: HostRuntime) -> Result<(), Fail> {
-    let layout = Layout::from_size_align(0, 1)?;
-    let mut tlsf = with_pool(rt.alloc(), 256)?;
+fn two_free_blocks_of_a_class(rt: HostRuntime) {
+    let layout = layout_of(&rt, 0, 1);
+    let mut tlsf = with_pool(&rt, 256);
     let addresses = every_other_freed(&mut tlsf, layout);
     are(&rt, &addresses.unwrap_or([0; 4]), &[4112, 4144, 4176, 4208]);
     let bitmaps = [
@@ -49,12 +50,11 @@ fn two_free_blocks_of_a_class(rt: HostRuntime) -> Result<(), Fail> {
         Step::Allocate(0, 1, 4176),
     ];
     takes_steps(&rt, &mut tlsf, &steps);
-    Ok(())
 }
 
 #[test]
-fn one_free_block(rt: HostRuntime) -> Result<(), Fail> {
-    let mut tlsf = with_pool(rt.alloc(), 96)?;
+fn one_free_block(rt: HostRuntime) {
+    let mut tlsf = with_pool(&rt, 96);
     takes_steps(&rt, &mut tlsf, &[Step::Allocate(0, 1, 4112)]);
     let table = [
         tlsf.fl_bitmap() as usize,
@@ -62,29 +62,26 @@ fn one_free_block(rt: HostRuntime) -> Result<(), Fail> {
         newest(&tlsf, 0, 0),
     ];
     are(&rt, &table, &[1, 1, 4128]);
-    Ok(())
 }
 
 #[test]
-fn signed_bitmaps(rt: HostRuntime) -> Result<(), Fail> {
+fn signed_bitmaps(rt: HostRuntime) {
     let pool = Range {
         start: 4096,
         len: 8192,
     };
-    let (tlsf, _) = with_inserted::<i8, i8, 8, 8>(rt.alloc(), pool, pool)?;
+    let (tlsf, _) = with_inserted::<i8, i8, 8, 8>(&rt, pool, pool);
     // The pool's block has the highest class: its bits are those of the signs.
     assert_eq!(rt; (tlsf.fl_bitmap(), tlsf.sl_bitmap(7)), (-128, -128));
-    Ok(())
 }
 
 #[test]
-fn shapes(rt: HostRuntime) -> Result<(), Fail> {
+fn shapes(rt: HostRuntime) {
     let (least, pool, page) = ((4096, 64), (4096, 96), (4096, 8192));
     let steps = [Step::GiveBack(16, 1, 4112), Step::Allocate(16, 1, 4112)];
-    inserts::<u8, u8, 1, 1>(&rt, rt.alloc(), least, least, &steps)?;
-    inserts::<u8, u8, 8, 1>(&rt, rt.alloc(), pool, pool, &steps)?;
-    inserts::<i8, i8, 8, 8>(&rt, rt.alloc(), page, page, &steps)?;
-    inserts::<usize, usize, 64, 64>(&rt, rt.alloc(), pool, pool, &steps)?;
-    inserts::<u128, u128, 128, 128>(&rt, rt.alloc(), pool, pool, &steps)?;
-    Ok(())
+    inserts::<u8, u8, 1, 1>(&rt, least, least, &steps);
+    inserts::<u8, u8, 8, 1>(&rt, pool, pool, &steps);
+    inserts::<i8, i8, 8, 8>(&rt, page, page, &steps);
+    inserts::<usize, usize, 64, 64>(&rt, pool, pool, &steps);
+    inserts::<u128, u128, 128, 128>(&rt, pool, pool, &steps);
 }

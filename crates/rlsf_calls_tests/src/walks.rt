@@ -1,14 +1,12 @@
 //! Walks over the blocks of a range, payloads given back without their alignment, and how many bytes a payload has.
 
-ghost use Rattle.std.specs.Prelude.{IfOk};
 ghost use Rattle.rlsf_base.specs.Range.{range_at};
 ghost use Rattle.rlsf_machine.specs.ChunkRows.{IsRow};
 
-use super::pools::{Small, are, number, wide, with_inserted, with_pool};
+use super::pools::{Small, are, layout_of, number, wide, with_inserted, with_pool};
 use rlsf::{BlockInfo, Blocks, Layout, Range, Tlsf};
-use std::alloc::Global;
+use std::alloc::{AllocError, Global};
 use std::process::Abort;
-use std::test::Fail;
 
 /// Chunks of any length.
 type Growing = Tlsf<u64, u64, 59, 8>;
@@ -51,10 +49,10 @@ fn greatest_sizes(mut blocks: Blocks<'_>) -> [usize; 2] {
 }
 
 /// The text of the first block of a walk, or none.
-fn first_text(rt: &HostRuntime, mut blocks: Blocks<'_>) -> Result<String, Fail> {
+fn first_text(alloc: Global, mut blocks: Blocks<'_>) -> Result<String, AllocError> {
     match blocks.next() {
-        Some(block) => Ok(format!(in rt.alloc(); "{block:?}")?),
-        None => Ok(String::new(rt.alloc())),
+        Some(block) => format!(in alloc; "{block:?}"),
+        None => Ok(String::new(alloc)),
     }
 }
 
@@ -81,42 +79,39 @@ fn walks(rt: &impl Abort, tlsf: &Small, expected: &[Row], sizes: [usize; 2])
 }
 
 #[test]
-fn one_pool_is_walked(rt: HostRuntime) -> Result<(), Fail> {
-    let layout = Layout::from_size_align(0, 1)?;
-    let mut tlsf = with_pool(rt.alloc(), 96)?;
+fn one_pool_is_walked(rt: HostRuntime) {
+    let layout = layout_of(&rt, 0, 1);
+    let mut tlsf = with_pool(&rt, 96);
     walks_nowhere(&rt, &tlsf);
     walks(&rt, &tlsf, &[(4096, 64, false)], [48, 0]);
     let addresses = [number(tlsf.allocate(layout)), number(tlsf.allocate(layout))];
     are(&rt, &addresses, &[4112, 4144]);
     walks(&rt, &tlsf, &[(4096, 32, true), (4128, 32, true)], [16, 16]);
-    Ok(())
 }
 
 #[test]
-fn blocks_have_a_text(rt: HostRuntime) -> Result<(), Fail> {
-    let tlsf = with_pool(rt.alloc(), 96)?;
+fn blocks_have_a_text(rt: HostRuntime) {
+    let tlsf = with_pool(&rt, 96);
     let range = Range {
         start: 4096,
         len: 96,
     };
-    let text = first_text(&rt, tlsf.iter_blocks(range))?;
+    let text = first_text(rt.alloc(), tlsf.iter_blocks(range)).expect(&rt, "memory");
     assert_eq!(rt;
         text.as_str(),
         "BlockInfo { ptr: 4096..4160, size: 64, is_occupied: false }"
     );
-    Ok(())
 }
 
 #[test]
-fn adjacent_chunks_are_walked(rt: HostRuntime) -> Result<(), Fail> {
+fn adjacent_chunks_are_walked(rt: HostRuntime) {
     let range = Range {
         start: 4096,
         len: 128,
     };
-    let (tlsf, _) = with_inserted::<u8, u8, 1, 1>(rt.alloc(), range, range)?;
+    let (tlsf, _) = with_inserted::<u8, u8, 1, 1>(&rt, range, range);
     let rows = [(4096, 32, false), (4160, 32, false)];
     gives(&rt, tlsf.iter_blocks(range), &rows);
-    Ok(())
 }
 
 /// The greatest sizes that fit in the free blocks of a walk, added up.
@@ -131,18 +126,17 @@ fn free_bytes(blocks: Blocks<'_>) -> usize {
 }
 
 #[test]
-fn free_bytes_are_added_up(rt: HostRuntime) -> Result<(), Fail> {
+fn free_bytes_are_added_up(rt: HostRuntime) {
     let range = Range {
         start: 4096,
         len: 1024,
     };
-    let layout = Layout::from_size_align(8, 8)?;
-    let mut tlsf = wide(rt.alloc(), 1024)?;
+    let layout = layout_of(&rt, 8, 8);
+    let mut tlsf = wide(&rt, 1024);
     let before = free_bytes(tlsf.iter_blocks(range));
     let _ = tlsf.allocate(layout);
     let after = free_bytes(tlsf.iter_blocks(range));
     are(&rt, &[before, after], &[976, 944]);
-    Ok(())
 }
 
 /// Allocates a payload and gives it back without its alignment. Passes where a walk gives these rows then.
@@ -161,15 +155,15 @@ fn frees(rt: &impl Abort, tlsf: &mut Growing, layout: Layout, rows: &[Row])
 }
 
 /// An allocator with a pool of 16,384 bytes.
-fn growing(alloc: Global) -> Result<Growing, Fail>
-    ensures { IfOk result (λ tlsf. IsRow tlsf.state (range_at 4096 16384)) }
+fn growing(rt: &(impl Abort + AllocGlobal)) -> Growing
+    ensures { IsRow result.state (range_at 4096 16384) }
 {
     let all = Range {
         start: 4096,
         len: 16384,
     };
-    let (tlsf, _) = with_inserted(alloc, all, all)?;
-    Ok(tlsf)
+    let (tlsf, _) = with_inserted(rt, all, all);
+    tlsf
 }
 
 // What stands then: one free block, and one behind the other payload's block.
@@ -194,18 +188,17 @@ const LAYOUTS: [(usize, usize); 10] = [
 ];
 
 #[test]
-fn alignments_are_found(rt: HostRuntime) -> Result<(), Fail> {
+fn alignments_are_found(rt: HostRuntime) {
     for (size, align) in LAYOUTS {
-        let layout = Layout::from_size_align(size, align)?;
-        let least = Layout::from_size_align(1, 1)?;
+        let layout = layout_of(&rt, size, align);
+        let least = layout_of(&rt, 1, 1);
         // The first payload of a new allocator, before which no word was written.
-        frees(&rt, &mut growing(rt.alloc())?, layout, ALONE);
+        frees(&rt, &mut growing(&rt), layout, ALONE);
         // The same behind another payload.
-        let mut tlsf = growing(rt.alloc())?;
+        let mut tlsf = growing(&rt);
         let _ = tlsf.allocate(least);
         frees(&rt, &mut tlsf, layout, BEHIND);
     }
-    Ok(())
 }
 
 /// The address of a payload that is allocated, and how many bytes it has; or 0.
@@ -217,11 +210,10 @@ fn usable(tlsf: &mut Small, layout: Layout) -> [usize; 2] {
 }
 
 #[test]
-fn usable_sizes(rt: HostRuntime) -> Result<(), Fail> {
+fn usable_sizes(rt: HostRuntime) {
     for (len, size, align, expected) in [(96, 17, 1, [4112, 48]), (8192, 1, 4096, [8192, 32])] {
-        let layout = Layout::from_size_align(size, align)?;
-        let mut tlsf = with_pool(rt.alloc(), len)?;
+        let layout = layout_of(&rt, size, align);
+        let mut tlsf = with_pool(&rt, len);
         are(&rt, &usable(&mut tlsf, layout), &expected);
     }
-    Ok(())
 }

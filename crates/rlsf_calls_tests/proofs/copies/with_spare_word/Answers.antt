@@ -6,9 +6,9 @@ use Rattle.rlsf_calls_tests.proofs.FirstChunk.{chunks-first}
 use Rattle.rlsf_calls_tests.proofs.copies.with_spare_word.Goals as goal
 
 pub set_spare_word-requires : goal.set_spare_word-requires
-set_spare_word-requires c =
+set_spare_word-requires g c =
     let chunk = range_at 4096 256 in
-    let made = c.in_ok-memory.ensures in
+    let made = c.zeros.ensures in
     let room = c.requires in
     let one = chunks-first 8 8 c.new-tlsf.result c.insert_free_block.new.self chunk c.new-tlsf.ensures.state refl refl refl c.insert_free_block.ensures.step in
     let start = ap (λ m. m.start) c.new-tlsf.ensures.memory ∙ made.start in
