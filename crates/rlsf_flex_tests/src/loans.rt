@@ -1,6 +1,6 @@
 //! Payloads that are written, grow into other memory and are read; and a change of the source.
 
-ghost use Rattle.std.specs.Prelude.{◌≡◌, Some, IfSome, IsSome};
+ghost use Rattle.std.specs.Prelude.{◌≡◌, ◌<◌, Some, IfSome, IsSome};
 ghost use Rattle.rlsf_base.specs.Addr.{at};
 ghost use Rattle.rlsf_machine.specs.Callers.{align_at};
 
@@ -63,15 +63,17 @@ fn reads(flex: &Small, addr: Addr, usable: usize, byte: u8) -> bool
 }
 
 /// Allocates two payloads, the second of which may need more memory, fills both, reads the first byte of each, and gives both back.
-fn two(flex: &mut Small, first: Layout, second: Layout) -> Option<[Option<u8>; 2]> {
+fn two(flex: &mut Small, first: Layout, second: Layout) -> Option<[u8; 2]>
+    requires { (0 < first.size) × (0 < second.size) }
+{
     let one = flex.allocate(first)?;
-    let other = flex.allocate(second)?;
+    let Some(other) = flex.allocate(second) else {
+        flex.deallocate(one, first.align());
+        return None;
+    };
     flex.payload_mut(one).fill(7);
     flex.payload_mut(other).fill(9);
-    let reads = [
-        flex.payload(one).first().copied(),
-        flex.payload(other).first().copied(),
-    ];
+    let reads = [flex.payload(one)[0], flex.payload(other)[0]];
     flex.deallocate(other, second.align());
     flex.deallocate(one, first.align());
     Some(reads)
@@ -109,11 +111,12 @@ static GROWN: [Question; 2] = [Question::Alloc(64), Question::Grow(4096, 64, 672
 
 #[test]
 fn two_payloads_with_a_growth_between(rt: HostRuntime) -> Result<(), Fail> {
+    let first = Layout::from_size_align(16, 1)?;
     let second = Layout::from_size_align(500, 8)?;
     let seen = Cell::new(Questions::new());
     let mut flex = small(rt.alloc(), ALL, HABITS, &seen)?;
-    let read = two(&mut flex, bytes(16), second);
-    assert_eq!(rt; read, Some([Some(7), Some(9)]));
+    let read = two(&mut flex, first, second);
+    assert_eq!(rt; read, Some([7, 9]));
     is_right(&rt, (None, flex.source_ref().asked()), &GROWN);
     Ok(())
 }
