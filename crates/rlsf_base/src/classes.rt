@@ -184,7 +184,7 @@ fn within_rows<const FLLEN: usize>(class: (usize, usize)) -> Option<(usize, usiz
     if class.0 < FLLEN { Some(class) } else { None }
 }
 
-/// The class of a size, by its row and its place there, whether or not an allocator has so many rows.
+/// The class of a size, which is at least 32 bytes, where a row has `SLLEN` classes, a power of two. Its row may lie past an allocator's last one.
 // The exponent of its row, 5 in the first one, is the position of its highest one. With that at position 63, the leading
 // positions, one more than a place has, are the number SLLEN + place.
 pub fn class_of<const SLLEN: usize>(size: usize) -> (usize, usize)

@@ -193,6 +193,7 @@ impl Memory {
     {
         let b = self.slice_at(view, word_range(addr));
         // As one array, which LLVM reads at once: of eight bytes it would read some alone, where a caller asks for part of the word.
+        // There are eight, so `None` doesn't come.
         match b.first_chunk::<8>() {
             Some(chunk) => u64::from_le_bytes(*chunk),
             None => 0,
