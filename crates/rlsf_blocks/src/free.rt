@@ -16,10 +16,12 @@ ghost use Rattle.rlsf_blocks.specs.Steps.LiveBlock.{IsBlockOf};
 ghost use Rattle.rlsf_blocks.specs.Steps.Rest.{IsInnerRoom};
 ghost use Rattle.rlsf_blocks.specs.Steps.Standing.{AtEachUsed, StandsAfter};
 
-use crate::GRANULARITY;
+use crate::{GRANULARITY, HEADER};
 use rlsf_base::memory::{Memory, View};
 use rlsf_int::Bitmap;
-use rlsf_table::{ClassTable, link, unlink};
+use rlsf_table::{
+    ClassTable, PAD, PREVIOUS_BLOCK, is_free, link_free_block, unlink_free_block, used_end,
+};
 
 /// The used block whose payload at `payload` was allocated with that alignment.
 #[inline(always)]
@@ -30,9 +32,9 @@ pub fn used_block(memory: &mut Memory, view: View, payload: usize, align: usize)
     ensures counts { Counts memory.old memory.new 1 }
 {
     if align < GRANULARITY {
-        payload - 16
+        payload - HEADER
     } else {
-        memory.load_at(view, payload - 8) as usize
+        memory.load_at(view, payload - PAD) as usize
     }
 }
 
@@ -55,8 +57,8 @@ fn take_free<FLBitmap: Bitmap, SLBitmap: Bitmap, const FLLEN: usize, const SLLEN
     ensures view { memory.new.view ≡ memory.old.view }
 {
     let size = memory.load_at(view, block);
-    if size % 2 == 0 {
-        unlink(memory, view, table, block, size as usize);
+    if is_free(size) {
+        unlink_free_block(memory, view, table, block, size as usize);
         Some(size as usize)
     } else {
         None
@@ -104,7 +106,7 @@ pub fn take_previous<FLBitmap: Bitmap, SLBitmap: Bitmap, const FLLEN: usize, con
     ensures copied { memory.new.copied ≡ memory.old.copied }
     ensures view { memory.new.view ≡ memory.old.view }
 {
-    let previous = memory.load_at(view, block + 8) as usize;
+    let previous = memory.load_at(view, block + PREVIOUS_BLOCK) as usize;
     if previous == 0 {
         return block;
     }
@@ -133,8 +135,8 @@ fn put<FLBitmap: Bitmap, SLBitmap: Bitmap, const FLLEN: usize, const SLLEN: usiz
     ensures view { memory.new.view ≡ memory.old.view }
 {
     memory.set_word_at(view, block, len as u64);
-    memory.set_word_at(view, block + len + 8, block as u64);
-    link(memory, view, table, block, len);
+    memory.set_word_at(view, block + len + PREVIOUS_BLOCK, block as u64);
+    link_free_block(memory, view, table, block, len);
 }
 
 /// Makes the used block at `block` free: joined with a free block before it and a free block behind it, it becomes the
@@ -156,7 +158,7 @@ pub fn deallocate_block<FLBitmap: Bitmap, SLBitmap: Bitmap, const FLLEN: usize, 
     ensures copied { memory.new.copied ≡ memory.old.copied }
     ensures view { memory.new.view ≡ memory.old.view }
 {
-    let end = block + (memory.load_at(view, block) as usize - 1);
+    let end = used_end(block, memory.load_at(view, block));
     let start = take_previous(memory, view, table, block);
     let next = take_if_free(memory, view, table, end);
     put(memory, view, table, start, end - start + next);

@@ -4,7 +4,9 @@ ghost use Rattle.std.specs.Prelude.{◌≡◌, ◌+◌};
 ghost use Rattle.rlsf_machine.specs.State.{usable};
 ghost use Rattle.rlsf_blocks.specs.Steps.LiveBlock.{IsLiveIn, AtEachBlock};
 
+use crate::HEADER;
 use rlsf_base::memory::{Memory, Range};
+use rlsf_table::{PAD, used_end};
 
 /// Where the block of the live payload at `payload` begins, whatever alignment it was allocated with.
 ///
@@ -14,8 +16,8 @@ pub fn block_of(memory: &Memory, payload: usize) -> usize
     requires { IsLiveIn memory.now payload }
     ensures { AtEachBlock memory.now payload (λ u. result ≡ u.block.start) }
 {
-    let named = memory.word(payload - 8) as usize;
-    let nearest = payload - 16;
+    let named = memory.word(payload - PAD) as usize;
+    let nearest = payload - HEADER;
     if named == 0 {
         return nearest;
     }
@@ -31,8 +33,7 @@ pub fn usable_bytes(memory: &Memory, payload: usize) -> Range
     ensures { AtEachBlock memory.now payload (λ u. result ≡ usable u) }
 {
     let block = block_of(memory, payload);
-    // The lowest bit of the size word is a flag.
-    let end = block + (memory.word(block) as usize - 1);
+    let end = used_end(block, memory.word(block));
     Range {
         start: payload,
         len: end - payload,
@@ -45,8 +46,8 @@ pub fn load_block_of(memory: &mut Memory, payload: usize) -> usize
     ensures block { AtEachBlock memory.old payload (λ u. result ≡ u.block.start) }
     ensures memory { memory.new ≡ record memory.old { touches = memory.old.touches + 2 } }
 {
-    let named = memory.load(payload - 8) as usize;
-    let nearest = payload - 16;
+    let named = memory.load(payload - PAD) as usize;
+    let nearest = payload - HEADER;
     if named == 0 {
         // Counted as the second word is, so that the count does not depend on the words.
         memory.touch();
@@ -63,7 +64,7 @@ pub fn load_usable_bytes(memory: &mut Memory, payload: usize) -> Range
     ensures memory { memory.new ≡ record memory.old { touches = memory.old.touches + 3 } }
 {
     let block = load_block_of(memory, payload);
-    let end = block + (memory.load(block) as usize - 1);
+    let end = used_end(block, memory.load(block));
     Range {
         start: payload,
         len: end - payload,

@@ -1,24 +1,29 @@
-//! The front of a free block becomes a used block.
+//! A free block becomes a used block, whole or its front.
 
-ghost use Rattle.std.specs.Prelude.{◌≡◌, ◌+◌, ◌-◌, ◌%◌, ◌^◌, ◌≤◌, ◌<◌, ℕ, List, Some};
+ghost use Rattle.std.specs.Prelude.{◌≡◌, ◌+◌, ◌-◌, ◌%◌, ◌^◌, ◌≤◌, ◌<◌, ℕ, List, Some, IfNone};
 ghost use Rattle.rlsf_base.specs.declared.memory.range.Range.{Range};
 ghost use Rattle.rlsf_base.specs.Range.{range_at};
 ghost use Rattle.rlsf_base.specs.SizeClass.{IsValid};
 ghost use Rattle.rlsf_base.specs.Sizes.{request_size};
 ghost use Rattle.rlsf_base.specs.Space.{SamePlace, word_at};
-ghost use Rattle.rlsf_machine.specs.Allocate.{choice, Places};
+ghost use Rattle.rlsf_machine.specs.Allocate.{Allocates, choice, Places};
 ghost use Rattle.rlsf_machine.specs.Payload.{block_length, payload_of};
 ghost use Rattle.rlsf_machine.specs.State.{State};
+ghost use Rattle.rlsf_table.specs.Counts.{Counts};
 ghost use Rattle.rlsf_table.specs.Table.{IsClassAt};
 ghost use Rattle.rlsf_blocks.specs.Steps.Rest.{AtEachChosen, AtEachRest, AtEachTaken, IsInnerRoom, IsFreeBlockBehind, IsOpened, IsTaken};
-ghost use Rattle.rlsf_blocks.specs.Steps.Standing.{StepsTo};
+ghost use Rattle.rlsf_blocks.specs.Steps.Standing.{InEach, StepsTo};
 ghost use Rattle.rlsf_blocks.specs.StandsFor.{contents, StandsFor};
 
 use crate::{GRANULARITY, HEADER};
+use rlsf_base::classes;
 use rlsf_base::memory::{Layout, Memory, View};
 use rlsf_base::rounding::next_multiple_of_32;
 use rlsf_int::Bitmap;
-use rlsf_table::{ClassTable, link, unlink_newest};
+use rlsf_table::{
+    ClassIndex, ClassTable, FoundBlock, PAD, PREVIOUS_BLOCK, first_fit, link_free_block,
+    unlink_newest_block, used_size,
+};
 
 /// Makes a free block of what is left behind the first `taken` of the `len` bytes at `block`.
 #[inline(always)]
@@ -41,9 +46,9 @@ pub fn leave_rest<FLBitmap: Bitmap, SLBitmap: Bitmap, const FLLEN: usize, const 
 {
     let rest = block + taken;
     memory.set_word_at(view, rest, (len - taken) as u64);
-    memory.set_word_at(view, rest + 8, block as u64);
-    memory.set_word_at(view, block + len + 8, rest as u64);
-    link(memory, view, table, rest, len - taken);
+    memory.set_word_at(view, rest + PREVIOUS_BLOCK, block as u64);
+    memory.set_word_at(view, block + len + PREVIOUS_BLOCK, rest as u64);
+    link_free_block(memory, view, table, rest, len - taken);
 }
 
 /// Takes the free block of `len` bytes at `block` out of the list of its class, whose indices these are, for a block of
@@ -55,11 +60,11 @@ fn take_out<FLBitmap: Bitmap, SLBitmap: Bitmap, const FLLEN: usize, const SLLEN:
     table: &mut ClassTable<FLBitmap, SLBitmap, FLLEN, SLLEN>,
     block: usize,
     len: usize,
-    class: (usize, usize),
+    class: ClassIndex,
     taken: usize,
 )
     requires parameters { IsValid FLBitmap.width SLBitmap.width FLLEN SLLEN }
-    requires class { IsClassAt FLLEN SLLEN len class.0 class.1 }
+    requires class { IsClassAt FLLEN SLLEN len class.fl class.sl }
     requires taken { (s : State) × (f : Range) × StandsFor FLLEN SLLEN (contents memory.old table.old) s × IsTaken SLLEN s f block len taken }
     requires view { view ≡ memory.old.view }
     ensures step { AtEachTaken FLLEN SLLEN memory.old table.old block len taken (λ s f. IsOpened FLLEN SLLEN memory.old memory.new table.new s f (range_at block taken)) }
@@ -68,7 +73,7 @@ fn take_out<FLBitmap: Bitmap, SLBitmap: Bitmap, const FLLEN: usize, const SLLEN:
     ensures copied { memory.new.copied ≡ memory.old.copied }
     ensures view { memory.new.view ≡ memory.old.view }
 {
-    unlink_newest(memory, view, table, block, class);
+    unlink_newest_block(memory, view, table, block, class);
     let longer = taken < len;
     if longer {
         leave_rest(memory, view, table, block, len, taken);
@@ -97,35 +102,58 @@ fn front(block: usize, layout: Layout) -> (usize, usize)
     }
 }
 
-/// Makes a used block for a layout of the front of the free block at `block`, the choice for it, which has the class at
-/// these indices. Answers the payload's address.
+/// Makes a used block for a layout of the front of a free block, the choice for it. Answers the payload's address.
 #[inline(always)]
-pub fn place<FLBitmap: Bitmap, SLBitmap: Bitmap, const FLLEN: usize, const SLLEN: usize>(
+fn place<FLBitmap: Bitmap, SLBitmap: Bitmap, const FLLEN: usize, const SLLEN: usize>(
     memory: &mut Memory,
     view: View,
     table: &mut ClassTable<FLBitmap, SLBitmap, FLLEN, SLLEN>,
-    block: usize,
-    class: (usize, usize),
+    found: FoundBlock,
     layout: Layout,
 ) -> usize
     requires parameters { IsValid FLBitmap.width SLBitmap.width FLLEN SLLEN }
-    requires class { IsClassAt FLLEN SLLEN (word_at memory.old block) class.0 class.1 }
-    requires chosen { (s : State) × (f : Range) × StandsFor FLLEN SLLEN (contents memory.old table.old) s × (choice SLLEN (request_size layout.size layout.align) s.free ≡ Some f) × (f.start ≡ block) }
+    requires class { IsClassAt FLLEN SLLEN (word_at memory.old found.start) found.class.fl found.class.sl }
+    requires chosen { (s : State) × (f : Range) × StandsFor FLLEN SLLEN (contents memory.old table.old) s × (choice SLLEN (request_size layout.size layout.align) s.free ≡ Some f) × (f.start ≡ found.start) }
     requires view { view ≡ memory.old.view }
-    ensures step { AtEachChosen FLLEN SLLEN memory.old table.old layout block (λ s f. StepsTo FLLEN SLLEN memory.old memory.new table.new s (Places SLLEN s layout.size layout.align result)) }
+    ensures step { AtEachChosen FLLEN SLLEN memory.old table.old layout found.start (λ s f. StepsTo FLLEN SLLEN memory.old memory.new table.new s (Places SLLEN s layout.size layout.align result)) }
     ensures place { SamePlace memory.old memory.new }
     ensures touches { memory.new.touches ≤ memory.old.touches + 23 }
     ensures grow { memory.old.touches ≤ memory.new.touches }
     ensures copied { memory.new.copied ≡ memory.old.copied }
     ensures view { memory.new.view ≡ memory.old.view }
 {
+    let block = found.start;
     let len = memory.load_at(view, block) as usize;
     let (payload, taken) = front(block, layout);
-    take_out(memory, view, table, block, len, class, taken);
-    memory.set_word_at(view, block, taken as u64 + 1);
+    take_out(memory, view, table, block, len, found.class, taken);
+    memory.set_word_at(view, block, used_size(taken));
     let wide = layout.align() >= GRANULARITY;
     if wide {
-        memory.set_word_at(view, payload - 8, block as u64);
+        memory.set_word_at(view, payload - PAD, block as u64);
     }
     payload
+}
+
+/// Makes a used block for a layout, of the front of the newest free block of the first class that reaches the size that is
+/// sought. Answers the payload's address, or `None` exactly where no free block's class reaches, and then nothing changes.
+#[inline(always)]
+pub fn allocate_block<FLBitmap: Bitmap, SLBitmap: Bitmap, const FLLEN: usize, const SLLEN: usize>(
+    memory: &mut Memory,
+    view: View,
+    table: &mut ClassTable<FLBitmap, SLBitmap, FLLEN, SLLEN>,
+    layout: Layout,
+) -> Option<usize>
+    requires parameters { IsValid FLBitmap.width SLBitmap.width FLLEN SLLEN }
+    requires stands { (s : State) × StandsFor FLLEN SLLEN (contents memory.old table.old) s }
+    requires view { view ≡ memory.old.view }
+    ensures step { InEach FLLEN SLLEN memory.old table.old (λ s. StepsTo FLLEN SLLEN memory.old memory.new table.new s (Allocates SLLEN s layout.size layout.align result)) }
+    ensures unchanged { IfNone result (Counts memory.old memory.new 4 × (table.new ≡ table.old)) }
+    ensures place { SamePlace memory.old memory.new }
+    ensures touches { memory.new.touches ≤ memory.old.touches + 27 }
+    ensures grow { memory.old.touches ≤ memory.new.touches }
+    ensures copied { memory.new.copied ≡ memory.old.copied }
+    ensures view { memory.new.view ≡ memory.old.view }
+{
+    let found = first_fit(memory, table, classes::request_size(layout))?;
+    Some(place(memory, view, table, found, layout))
 }

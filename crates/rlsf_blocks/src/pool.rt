@@ -16,11 +16,11 @@ use crate::GRANULARITY;
 use rlsf_base::classes;
 use rlsf_base::memory::{Memory, Range};
 use rlsf_int::Bitmap;
-use rlsf_table::{ClassTable, link};
+use rlsf_table::{ClassTable, PREVIOUS_BLOCK, SIZE_SENTINEL, SIZE_USED, link_free_block};
 use std::num::NonZeroUsize;
 
 // A sentinel's size word: its length, in use, the last block of its chunk.
-pub const SENTINEL: u64 = GRANULARITY as u64 + 3;
+pub const SENTINEL: u64 = GRANULARITY as u64 + SIZE_USED + SIZE_SENTINEL;
 
 /// Makes a chunk of a range: one free block and a sentinel in the last 32 bytes.
 pub fn add_chunk<FLBitmap: Bitmap, SLBitmap: Bitmap, const FLLEN: usize, const SLLEN: usize>(
@@ -39,11 +39,11 @@ pub fn add_chunk<FLBitmap: Bitmap, SLBitmap: Bitmap, const FLLEN: usize, const S
     let len = chunk.len - GRANULARITY;
     let sentinel = block + len;
     memory.set_word(block, len as u64);
-    memory.set_word(block + 8, 0);
+    memory.set_word(block + PREVIOUS_BLOCK, 0);
     memory.set_word(sentinel, SENTINEL);
-    memory.set_word(sentinel + 8, block as u64);
+    memory.set_word(sentinel + PREVIOUS_BLOCK, block as u64);
     let view = memory.view();
-    link(memory, view, table, block, len);
+    link_free_block(memory, view, table, block, len);
 }
 
 // The length of the chunk that begins what is left of a range.
@@ -65,7 +65,7 @@ fn chunk_length<FLBitmap: Bitmap, SLBitmap: Bitmap, const FLLEN: usize, const SL
 /// the range's start up to the last chunk's end, or `None` without a chunk.
 // Out of line, since pools are rare: so the compiler keeps the memory's base in a register in the frequent calls.
 #[inline(never)]
-pub fn insert<FLBitmap: Bitmap, SLBitmap: Bitmap, const FLLEN: usize, const SLLEN: usize>(
+pub fn insert_chunks<FLBitmap: Bitmap, SLBitmap: Bitmap, const FLLEN: usize, const SLLEN: usize>(
     memory: &mut Memory,
     table: &mut ClassTable<FLBitmap, SLBitmap, FLLEN, SLLEN>,
     range: Range,

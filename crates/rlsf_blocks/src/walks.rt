@@ -123,7 +123,7 @@ pub(crate) fn span(range: Range) -> (usize, usize)
 ///
 /// From there to there it is a row of whole adjacent chunks, or empty, in some state for which the memory and a class
 /// table stand.
-pub fn walk(memory: &Memory, range: Range) -> Blocks<'_>
+pub fn walk_blocks(memory: &Memory, range: Range) -> Blocks<'_>
     requires { (fllen : ℕ) × (sllen : ℕ) × (t : Table) × (s : State) × StandsFor fllen sllen (contents memory.now t) s × IsRow s (walked range) }
     ensures blocks { (fllen sllen : ℕ) (t : Table) (s : State) → StandsFor fllen sllen (contents memory.now t) s → IsRow s (walked range) → AreBlocks s (walked range) result }
     ensures runs { GivesInOrder BlockInfo }

@@ -1,4 +1,1 @@
-pub mod Counting
-pub mod LongerChunks
 pub mod Reallocate
-pub mod Refused

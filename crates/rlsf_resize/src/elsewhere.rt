@@ -9,11 +9,10 @@ ghost use Rattle.rlsf_blocks.specs.StandsFor.{contents, StandsFor};
 ghost use Rattle.rlsf_table.specs.Counts.{Counts};
 ghost use Rattle.rlsf_resize.specs.Steps.Resize.{AtEachPayload, AtEachShort, IsElsewhere, IsUsedAt};
 
-use rlsf_base::classes::request_size;
 use rlsf_base::memory::{Layout, Memory, Range, View};
-use rlsf_blocks::{deallocate_block, place};
+use rlsf_blocks::{allocate_block, deallocate_block};
 use rlsf_int::Bitmap;
-use rlsf_table::{ClassTable, first_fit};
+use rlsf_table::{ClassTable, used_end};
 
 /// Allocates a payload for the layout, moves the bytes of the payload at `payload` there, whose used block is at
 /// `block`, and gives the old block back. Answers the new address, or `None` exactly where an allocation is refused, and then nothing
@@ -44,9 +43,8 @@ pub(crate) fn move_elsewhere<
     ensures copied { AtEachPayload FLLEN SLLEN memory.old table.old block payload layout (λ s u. memory.new.copied ≤ memory.old.copied + (usable u).len) }
     ensures grow_copied { memory.old.copied ≤ memory.new.copied }
 {
-    let end = block + (memory.load_at(view, block) as usize - 1);
-    let (free, class) = first_fit(memory, table, request_size(layout))?;
-    let moved = place(memory, view, table, free, class, layout);
+    let end = used_end(block, memory.load_at(view, block));
+    let moved = allocate_block(memory, view, table, layout)?;
     memory.copy_within(
         Range {
             start: payload,

@@ -19,7 +19,7 @@ use rlsf_base::memory::{Layout, Memory, Range, View};
 use rlsf_base::rounding::next_multiple_of_32;
 use rlsf_blocks::{GRANULARITY, HEADER, take_if_free, take_previous};
 use rlsf_int::Bitmap;
-use rlsf_table::ClassTable;
+use rlsf_table::{ClassTable, PAD, PREVIOUS_BLOCK, used_end};
 
 /// Where the free block before the used one at `block` begins, or `block` where none is before it.
 fn start_before(memory: &mut Memory, view: View, block: usize) -> usize
@@ -28,7 +28,7 @@ fn start_before(memory: &mut Memory, view: View, block: usize) -> usize
     ensures start { (fllen sllen : ℕ) (t : Table) → AtEachUsed fllen sllen memory.old t block (λ s u. result ≡ start_or block (find (ends_at block) s.free)) }
     ensures counts { Counts memory.old memory.new 2 }
 {
-    let previous = memory.load_at(view, block + 8) as usize;
+    let previous = memory.load_at(view, block + PREVIOUS_BLOCK) as usize;
     if previous == 0 {
         block
     } else {
@@ -95,7 +95,7 @@ pub(crate) fn move_into_previous<
     ensures copied { AtEachPayload FLLEN SLLEN memory.old table.old block payload layout (λ s u. memory.new.copied ≤ memory.old.copied + (usable u).len) }
     ensures grow_copied { memory.old.copied ≤ memory.new.copied }
 {
-    let end = block + (memory.load_at(view, block) as usize - 1);
+    let end = used_end(block, memory.load_at(view, block));
     let (moved, taken) = place_before(memory, view, block, end, layout)?;
     let start = take_previous(memory, view, table, block);
     let next = take_if_free(memory, view, table, end);
@@ -110,7 +110,7 @@ pub(crate) fn move_into_previous<
     occupy(memory, view, table, start, end - start + next, taken);
     let wide = layout.align() >= GRANULARITY;
     if wide {
-        memory.set_word_at(view, moved - 8, start as u64);
+        memory.set_word_at(view, moved - PAD, start as u64);
     }
     Some(moved)
 }

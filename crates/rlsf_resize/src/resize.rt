@@ -19,7 +19,7 @@ use rlsf_base::memory::{Layout, Memory, View};
 use rlsf_base::rounding::next_multiple_of_32;
 use rlsf_blocks::{leave_rest, take_if_free};
 use rlsf_int::Bitmap;
-use rlsf_table::ClassTable;
+use rlsf_table::{ClassTable, PREVIOUS_BLOCK, is_free, used_len, used_size};
 
 /// The bytes of the free block at `block`, or 0 where no free block begins.
 pub(crate) fn free_length(memory: &mut Memory, view: View, block: usize) -> usize
@@ -29,7 +29,7 @@ pub(crate) fn free_length(memory: &mut Memory, view: View, block: usize) -> usiz
     ensures counts { Counts memory.old memory.new 1 }
 {
     let size = memory.load_at(view, block);
-    if size % 2 == 0 { size as usize } else { 0 }
+    if is_free(size) { size as usize } else { 0 }
 }
 
 /// Makes a used block of the first `taken` of the `total` bytes at `block`, which are no block's; a rest becomes a free
@@ -52,11 +52,11 @@ pub(crate) fn occupy<FLBitmap: Bitmap, SLBitmap: Bitmap, const FLLEN: usize, con
     ensures copied { memory.new.copied ≡ memory.old.copied }
     ensures view { memory.new.view ≡ memory.old.view }
 {
-    memory.set_word_at(view, block, taken as u64 + 1);
+    memory.set_word_at(view, block, used_size(taken));
     if taken < total {
         leave_rest(memory, view, table, block, total, taken);
     } else {
-        memory.set_word_at(view, block + total + 8, block as u64);
+        memory.set_word_at(view, block + total + PREVIOUS_BLOCK, block as u64);
     }
 }
 
@@ -83,7 +83,7 @@ pub fn resize_block<FLBitmap: Bitmap, SLBitmap: Bitmap, const FLLEN: usize, cons
     ensures grow { memory.old.touches ≤ memory.new.touches }
     ensures copied { memory.new.copied ≡ memory.old.copied }
 {
-    let len = memory.load_at(view, block) as usize - 1;
+    let len = used_len(memory.load_at(view, block));
     let taken = next_multiple_of_32(payload - block + layout.size());
     if taken == len {
         return true;

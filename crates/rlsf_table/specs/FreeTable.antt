@@ -6,6 +6,7 @@ use Rattle.rlsf_base.specs.Space.{Space, word_at}
 use Rattle.rlsf_machine.specs.Allocate.{choice}
 use Rattle.rlsf_machine.specs.Lists.{IsIn}
 use Rattle.rlsf_machine.specs.WellFormed.{coverage, itself, IsFree}
+use Rattle.rlsf_table.specs.declared.fit.FoundBlock.{FoundBlock}
 use Rattle.rlsf_table.specs.FreeList.{IsLink, CanBeBlock, Rewrites}
 use Rattle.rlsf_table.specs.Table.{Table, HasBits, HasTable, IsClassAt, IsHeadOf, IsNewestAt, class_at}
 
@@ -51,7 +52,7 @@ abbrev pub HasBitsWithout : ℕ → ℕ → Table → Table → ℕ → ℕ → 
 HasBitsWithout fllen sllen t u fl sl head = (r : Range) (before after : List Range) → class_of sllen r.len ≡ class_at fl sl → IsHeadOf sllen fl sl head (before ++ after)
     → HasBits fllen sllen t (before ++ (r ∷ after)) → HasBits fllen sllen u (before ++ after)
 
--- what a search for a size answers: where the choice begins, with the two indices of its class, or nothing if there is no choice
-abbrev pub IsFirstFit : ℕ → ℕ → ℕ → List Range → Option (ℕ × (ℕ × ℕ)) → Type 0
+-- what a search for a size answers: where the choice begins, and its class, or nothing if there is no choice
+abbrev pub IsFirstFit : ℕ → ℕ → ℕ → List Range → Option FoundBlock → Type 0
 IsFirstFit fllen sllen size free answer = MatchOption answer (choice sllen size free ≡ None)
-    (λ found. (f : Range) × (choice sllen size free ≡ Some f) × (f.start ≡ found.0) × IsClassAt fllen sllen f.len found.1.0 found.1.1)
+    (λ found. (f : Range) × (choice sllen size free ≡ Some f) × (f.start ≡ found.start) × IsClassAt fllen sllen f.len found.class.fl found.class.sl)

@@ -9,6 +9,7 @@ use Rattle.rlsf_int.specs.Bits.{bit}
 use Rattle.rlsf_machine.specs.Allocate.{has_class}
 use Rattle.rlsf_machine.specs.Lists.{IsIn}
 use Rattle.rlsf_table.specs.FreeList.{Links}
+use Rattle.rlsf_table.specs.declared.table.ClassIndex.{ClassIndex}
 
 -- the table as contracts see it: the first-level bitmap, the second-level bitmap of each row, and the heads of each row's lists
 pub record Table : Type 0 where
@@ -81,10 +82,10 @@ abbrev pub IsHeadOf : ℕ → ℕ → ℕ → ℕ → List Range → Type 0
 IsHeadOf sllen fl sl head free = (head ≡ 0) ↔ (of_class sllen fl sl free ≡ [])
 
 -- the least class from two indices on that some of the ranges have, or none if they have no class from there on
-abbrev pub IsLeastFrom : ℕ → ℕ → ℕ → ℕ → List Range → Option (ℕ × ℕ) → Type 0
+abbrev pub IsLeastFrom : ℕ → ℕ → ℕ → ℕ → List Range → Option ClassIndex → Type 0
 IsLeastFrom fllen sllen fl sl free None = (f : Range) → IsIn f free → ¬ IsAtMost (class_at fl sl) (class_of sllen f.len)
 IsLeastFrom fllen sllen fl sl free (Some at) =
-    (at.0 < fllen) × (at.1 < sllen)
-    × IsAtMost (class_at fl sl) (class_at at.0 at.1)
-    × ((f : Range) × IsIn f free × (class_of sllen f.len ≡ class_at at.0 at.1))
-    × ((f : Range) → IsIn f free → IsAtMost (class_at fl sl) (class_of sllen f.len) → IsAtMost (class_at at.0 at.1) (class_of sllen f.len))
+    (at.fl < fllen) × (at.sl < sllen)
+    × IsAtMost (class_at fl sl) (class_at at.fl at.sl)
+    × ((f : Range) × IsIn f free × (class_of sllen f.len ≡ class_at at.fl at.sl))
+    × ((f : Range) → IsIn f free → IsAtMost (class_at fl sl) (class_of sllen f.len) → IsAtMost (class_at at.fl at.sl) (class_of sllen f.len))

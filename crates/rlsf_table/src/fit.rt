@@ -7,20 +7,27 @@ ghost use Rattle.rlsf_base.specs.Sizes.{IsSize};
 ghost use Rattle.rlsf_table.specs.Counts.{Counts};
 ghost use Rattle.rlsf_table.specs.FreeTable.{IsFirstFit, IsFreeTable};
 
-use crate::table::ClassTable;
+use crate::table::{ClassIndex, ClassTable};
 use rlsf_base::classes::map_ceil;
 use rlsf_base::memory::Memory;
 use rlsf_int::Bitmap;
 
-/// The address of the newest of the free blocks of the first class that reaches a size, in bytes, and the two indices of that
-/// class; `None` exactly where no block's class reaches it. At most 4 touches.
+/// A free block that a search found: where it begins, and its class.
+#[derive(Clone, Copy)]
+pub struct FoundBlock {
+    pub start: usize,
+    pub class: ClassIndex,
+}
+
+/// The newest of the free blocks of the first class that reaches a size, in bytes; `None` exactly where no block's class
+/// reaches it. At most 4 touches.
 ///
 /// The size is a multiple of 32 that is not 0; table and memory are those of some free blocks.
 pub fn first_fit<FLBitmap: Bitmap, SLBitmap: Bitmap, const FLLEN: usize, const SLLEN: usize>(
     memory: &mut Memory,
     table: &ClassTable<FLBitmap, SLBitmap, FLLEN, SLLEN>,
     size: usize,
-) -> Option<(usize, (usize, usize))>
+) -> Option<FoundBlock>
     requires parameters { IsValid FLBitmap.width SLBitmap.width FLLEN SLLEN }
     requires size { IsSize size }
     requires list { (free : List Range) × IsFreeTable FLLEN SLLEN memory.old table.now free }
@@ -28,6 +35,9 @@ pub fn first_fit<FLBitmap: Bitmap, SLBitmap: Bitmap, const FLLEN: usize, const S
     ensures counts { Counts memory.old memory.new 4 }
 {
     let (fl, sl) = map_ceil::<FLBitmap, SLBitmap, FLLEN, SLLEN>(size)?;
-    let (row, place) = table.first_from(memory, fl, sl)?;
-    Some((table.head(memory, row, place), (row, place)))
+    let class = table.first_from(memory, fl, sl)?;
+    Some(FoundBlock {
+        start: table.head(memory, class.fl, class.sl),
+        class,
+    })
 }

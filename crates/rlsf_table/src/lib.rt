@@ -6,11 +6,16 @@
 //! rewritten: `IsFreeTable` says that table and words spell a list of free blocks.
 #![tactic(auto)]
 
+mod block_words;
 mod fit;
 mod list;
 mod rows;
 mod table;
 
-pub use fit::first_fit;
-pub use list::{link, unlink, unlink_newest};
-pub use table::ClassTable;
+pub use block_words::{
+    NEXT_FREE, PAD, PREVIOUS_BLOCK, PREVIOUS_FREE, SIZE_SENTINEL, SIZE_USED, is_free, used_end,
+    used_len, used_size,
+};
+pub use fit::{FoundBlock, first_fit};
+pub use list::{link_free_block, unlink_free_block, unlink_newest_block};
+pub use table::{ClassIndex, ClassTable};

@@ -10,7 +10,8 @@ ghost use Rattle.rlsf_table.specs.Steps.ClassList.{unlinking_touches, AtEachFron
 ghost use Rattle.rlsf_table.specs.FreeTable.{AtEachListed, AtEachNewest, AtEachRoom, IsFreeTable, IsLinked, IsRoom, IsUnlinked};
 ghost use Rattle.rlsf_table.specs.Table.{IsNewestAt};
 
-use crate::table::ClassTable;
+use crate::block_words::{NEXT_FREE, PREVIOUS_FREE};
+use crate::table::{ClassIndex, ClassTable};
 use rlsf_base::classes::class_of;
 use rlsf_base::memory::{Memory, View};
 use rlsf_int::Bitmap;
@@ -35,9 +36,13 @@ fn link_front(memory: &mut Memory, view: View, newest: usize, block: usize)
     ensures copied { memory.new.copied ≡ memory.old.copied }
     ensures view { memory.new.view ≡ memory.old.view }
 {
-    memory.set_word_at(view, block + 16, newest as u64);
-    memory.set_word_at(view, first_or_own(newest, block) + 24, block as u64);
-    memory.set_word_at(view, block + 24, 0);
+    memory.set_word_at(view, block + NEXT_FREE, newest as u64);
+    memory.set_word_at(
+        view,
+        first_or_own(newest, block) + PREVIOUS_FREE,
+        block as u64,
+    );
+    memory.set_word_at(view, block + PREVIOUS_FREE, 0);
 }
 
 /// Takes the block at `block`, the first of its list, out of it. Answers the next one, which is the first then, or 0. The link to
@@ -52,8 +57,8 @@ fn unlink_front(memory: &mut Memory, view: View, block: usize) -> usize
     ensures copied { memory.new.copied ≡ memory.old.copied }
     ensures view { memory.new.view ≡ memory.old.view }
 {
-    let next = memory.load_at(view, block + 16) as usize;
-    memory.set_word_at(view, first_or_own(next, block) + 24, 0);
+    let next = memory.load_at(view, block + NEXT_FREE) as usize;
+    memory.set_word_at(view, first_or_own(next, block) + PREVIOUS_FREE, 0);
     next
 }
 
@@ -69,15 +74,15 @@ fn unlink_between(memory: &mut Memory, view: View, block: usize) -> Option<usize
     ensures copied { memory.new.copied ≡ memory.old.copied }
     ensures view { memory.new.view ≡ memory.old.view }
 {
-    let next = memory.load_at(view, block + 16) as usize;
-    let previous = memory.load_at(view, block + 24) as usize;
+    let next = memory.load_at(view, block + NEXT_FREE) as usize;
+    let previous = memory.load_at(view, block + PREVIOUS_FREE) as usize;
     if next != 0 {
-        memory.set_word_at(view, next + 24, previous as u64);
+        memory.set_word_at(view, next + PREVIOUS_FREE, previous as u64);
     }
     if previous == 0 {
         Some(next)
     } else {
-        memory.set_word_at(view, previous + 16, next as u64);
+        memory.set_word_at(view, previous + NEXT_FREE, next as u64);
         None
     }
 }
@@ -88,7 +93,7 @@ fn unlink_between(memory: &mut Memory, view: View, block: usize) -> Option<usize
 /// Table and memory are those of some free blocks, of valid classes, with their size words, none of which overlap, and the
 /// block can be one beside them.
 #[inline(always)]
-pub fn link<FLBitmap: Bitmap, SLBitmap: Bitmap, const FLLEN: usize, const SLLEN: usize>(
+pub fn link_free_block<FLBitmap: Bitmap, SLBitmap: Bitmap, const FLLEN: usize, const SLLEN: usize>(
     memory: &mut Memory,
     view: View,
     table: &mut ClassTable<FLBitmap, SLBitmap, FLLEN, SLLEN>,
@@ -116,7 +121,12 @@ pub fn link<FLBitmap: Bitmap, SLBitmap: Bitmap, const FLLEN: usize, const SLLEN:
 /// Table and memory are those of some free blocks, of valid classes, with their size words, none of which overlap, and the
 /// block is one of them.
 #[inline(always)]
-pub fn unlink<FLBitmap: Bitmap, SLBitmap: Bitmap, const FLLEN: usize, const SLLEN: usize>(
+pub fn unlink_free_block<
+    FLBitmap: Bitmap,
+    SLBitmap: Bitmap,
+    const FLLEN: usize,
+    const SLLEN: usize,
+>(
     memory: &mut Memory,
     view: View,
     table: &mut ClassTable<FLBitmap, SLBitmap, FLLEN, SLLEN>,
@@ -139,28 +149,32 @@ pub fn unlink<FLBitmap: Bitmap, SLBitmap: Bitmap, const FLLEN: usize, const SLLE
     }
 }
 
-/// Takes the newest block of a class, at the address `block`, out of its list. The two indices of the class are known: a row of
-/// the table and a place in it. Writes links of free blocks and the table alone. At most 8 touches.
+/// Takes the newest block of a class, at the address `block`, out of its list. Writes links of free blocks and the table alone. At most 8 touches.
 ///
 /// Table and memory are those of some free blocks, of valid classes, with their size words, none of which overlap; the block is
 /// one of them, has that class, and none before it has.
 #[inline(always)]
-pub fn unlink_newest<FLBitmap: Bitmap, SLBitmap: Bitmap, const FLLEN: usize, const SLLEN: usize>(
+pub fn unlink_newest_block<
+    FLBitmap: Bitmap,
+    SLBitmap: Bitmap,
+    const FLLEN: usize,
+    const SLLEN: usize,
+>(
     memory: &mut Memory,
     view: View,
     table: &mut ClassTable<FLBitmap, SLBitmap, FLLEN, SLLEN>,
     block: usize,
-    class: (usize, usize),
+    class: ClassIndex,
 )
     requires parameters { IsValid FLBitmap.width SLBitmap.width FLLEN SLLEN }
-    requires newest { (r : Range) × (before after : List Range) × (r.start ≡ block) × IsNewestAt FLLEN SLLEN r before class.0 class.1 × IsFreeTable FLLEN SLLEN memory.old table.old (before ++ r ∷ after) }
+    requires newest { (r : Range) × (before after : List Range) × (r.start ≡ block) × IsNewestAt FLLEN SLLEN r before class.fl class.sl × IsFreeTable FLLEN SLLEN memory.old table.old (before ++ r ∷ after) }
     requires view { view ≡ memory.old.view }
-    ensures step { AtEachNewest FLLEN SLLEN memory.old table.old block class.0 class.1 (IsUnlinked FLLEN SLLEN memory.old memory.new table.new) }
+    ensures step { AtEachNewest FLLEN SLLEN memory.old table.old block class.fl class.sl (IsUnlinked FLLEN SLLEN memory.old memory.new table.new) }
     ensures touches { memory.new.touches ≤ memory.old.touches + 8 }
     ensures grow { memory.old.touches ≤ memory.new.touches }
     ensures copied { memory.new.copied ≡ memory.old.copied }
     ensures view { memory.new.view ≡ memory.old.view }
 {
     let next = unlink_front(memory, view, block);
-    table.take(memory, class.0, class.1, next);
+    table.take(memory, class.fl, class.sl, next);
 }

@@ -16,6 +16,13 @@ use rlsf_base::memory::Memory;
 use rlsf_int::{BitPattern, Bitmap};
 use std::marker::{Model, PhantomData};
 
+/// Where a class stands in a table: its row, below `FLLEN`, and its place in the row, below `SLLEN`.
+#[derive(Clone, Copy)]
+pub struct ClassIndex {
+    pub fl: usize,
+    pub sl: usize,
+}
+
 /// Which classes have free blocks, and where the list of each begins.
 ///
 /// A class is named by its row, below `FLLEN`, and its place in the row, below `SLLEN`; a block by its address, and 0 means none.
@@ -164,11 +171,10 @@ impl<FLBitmap: Bitmap, SLBitmap: Bitmap, const FLLEN: usize, const SLLEN: usize>
         }
     }
 
-    /// The first class from a row and place on that has a free block, by its row and place; `None` exactly if none has. At most
-    /// three touches.
+    /// The first class from a row and place on that has a free block; `None` exactly if none has. At most three touches.
     ///
     /// The row is below `FLLEN`, and the place below `SLLEN`.
-    pub fn first_from(&self, memory: &mut Memory, fl: usize, sl: usize) -> Option<(usize, usize)>
+    pub fn first_from(&self, memory: &mut Memory, fl: usize, sl: usize) -> Option<ClassIndex>
         requires parameters { IsValid FLBitmap.width SLBitmap.width FLLEN SLLEN }
         requires class { (fl < FLLEN) × (sl < SLLEN) }
         ensures first { (free : List Range) → HasBits FLLEN SLLEN self.now free → ((f : Range) → IsIn f free → IsFree FLLEN SLLEN f) → IsLeastFrom FLLEN SLLEN fl sl free result }
@@ -176,7 +182,7 @@ impl<FLBitmap: Bitmap, SLBitmap: Bitmap, const FLLEN: usize, const SLLEN: usize>
     {
         memory.touch();
         if let Some(place) = self.rows.first_from(fl, sl) {
-            return Some((fl, place));
+            return Some(ClassIndex { fl, sl: place });
         }
         memory.touch();
         let row = self.fl_bitmap.first_from(fl as u32 + 1) as usize;
@@ -184,6 +190,9 @@ impl<FLBitmap: Bitmap, SLBitmap: Bitmap, const FLLEN: usize, const SLLEN: usize>
             return None;
         }
         memory.touch();
-        Some((row, self.rows.first(row)))
+        Some(ClassIndex {
+            fl: row,
+            sl: self.rows.first(row),
+        })
     }
 }

@@ -27,15 +27,14 @@ ghost use Rattle.rlsf_blocks.specs.Blocks.{AreBlocks, walked};
 ghost use Rattle.rlsf_blocks.specs.Spare.{IsSpareWord, KeepsSpare};
 
 use crate::state::GhostState;
-use rlsf_base::classes::request_size;
 use rlsf_base::memory::{Addr, Layout, Memory, Range};
 use rlsf_blocks::{
-    BlockInfo, Blocks, chunk_end, deallocate_block, insert, load_block_of, load_usable_bytes,
-    place, remove_chunks, usable_bytes, used_block, walk,
+    BlockInfo, Blocks, allocate_block, append_chunks, chunk_end, deallocate_block, insert_chunks,
+    load_block_of, load_usable_bytes, remove_chunks, usable_bytes, used_block, walk_blocks,
 };
 use rlsf_int::{BitPattern, Bitmap};
-use rlsf_resize::{append, reallocate_block, resize_block};
-use rlsf_table::{ClassTable, first_fit};
+use rlsf_resize::{reallocate_block, resize_block};
+use rlsf_table::ClassTable;
 use std::marker::Model;
 use std::num::NonZeroUsize;
 
@@ -118,7 +117,7 @@ impl<FLBitmap: Bitmap, SLBitmap: Bitmap, const FLLEN: usize, const SLLEN: usize>
         ensures grow { self.old.memory.touches ≤ self.new.memory.touches }
         ensures copied { self.new.memory.copied ≡ self.old.memory.copied }
     {
-        let taken = insert(&mut self.memory, &mut self.table, range);
+        let taken = insert_chunks(&mut self.memory, &mut self.table, range);
         self.state.insert(FLLEN, range.start, range.len);
         taken
     }
@@ -162,7 +161,7 @@ impl<FLBitmap: Bitmap, SLBitmap: Bitmap, const FLLEN: usize, const SLLEN: usize>
         ensures grow { self.old.memory.touches ≤ self.new.memory.touches }
         ensures copied { self.new.memory.copied ≡ self.old.memory.copied }
     {
-        let taken = append(&mut self.memory, &mut self.table, range);
+        let taken = append_chunks(&mut self.memory, &mut self.table, range);
         self.state.append(FLLEN, range.start, range.len);
         taken
     }
@@ -217,16 +216,8 @@ impl<FLBitmap: Bitmap, SLBitmap: Bitmap, const FLLEN: usize, const SLLEN: usize>
         ensures grow { self.old.memory.touches ≤ self.new.memory.touches }
         ensures copied { self.new.memory.copied ≡ self.old.memory.copied }
     {
-        let (block, class) = first_fit(&mut self.memory, &self.table, request_size(layout))?;
         let view = self.memory.view();
-        let payload = place(
-            &mut self.memory,
-            view,
-            &mut self.table,
-            block,
-            class,
-            layout,
-        );
+        let payload = allocate_block(&mut self.memory, view, &mut self.table, layout)?;
         self.state.allocate(SLLEN, layout.size(), layout.align());
         NonZeroUsize::new(payload)
     }
@@ -448,7 +439,7 @@ impl<FLBitmap: Bitmap, SLBitmap: Bitmap, const FLLEN: usize, const SLLEN: usize>
         ensures blocks { AreBlocks self.now.state (walked range) result }
         ensures runs { GivesInOrder BlockInfo }
     {
-        walk(&self.memory, range)
+        walk_blocks(&self.memory, range)
     }
 
     /// The address of the newest free block of a class, by its row and its index in the row; `None` exactly if none is

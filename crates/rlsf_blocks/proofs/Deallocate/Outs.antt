@@ -1,5 +1,5 @@
 -- A block is taken out of the table, if it is free.
-use Rattle.std.proofs.Common.{◌≡◌, ℕ, ◌%◌, List, ◌∷◌, ◌++◌, arith, sym, ◌∙◌, ap, subst}
+use Rattle.std.proofs.Common.{◌≡◌, ◌≢◌, ◌↔◌, ℕ, ◌%◌, Bool, false, true≢false, IsTrue, List, ◌∷◌, ◌++◌, arith, sym, ◌∙◌, ap, subst}
 use Rattle.rlsf_base.specs.declared.memory.range.Range.{Range}
 use Rattle.rlsf_base.specs.Space.{Space, word_at}
 use Rattle.rlsf_table.specs.FreeList.{IsLink, Rewrites}
@@ -13,6 +13,12 @@ use Rattle.rlsf_blocks.specs.Steps.Join.{IsMarked, IsNextOut}
 use Rattle.rlsf_machine.specs.Join.{starts_at, end_or}
 use Rattle.rlsf_machine.specs.Lists.{IsIn}
 use Rattle.rlsf_machine.proofs.Coverage.{without-none}
+
+-- a size word whose block isn't free is odd
+pub odd_from : (size : ℕ) {free : Bool} → (IsTrue free ↔ (size % 2 ≡ 0)) → free ≡ false → size % 2 ≡ 1
+odd_from size is used =
+    let some : size % 2 ≢ 0 = λ even. true≢false (sym (is.1 even) ∙ used) in
+    omega (arith, some)
 
 module _ {fllen sllen : ℕ} {m : Space} {t : Table} {block : ℕ} {free : List Range} (list : IsFreeTable fllen sllen m t free) (marked : IsMarked m free block) where
   -- the free block that begins there

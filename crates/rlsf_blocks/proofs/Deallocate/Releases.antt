@@ -36,6 +36,10 @@ module _ {fllen sllen : ℕ} {m : Space} {t : Table} {s : State} (v : StandsFor 
   pub home : LiesInChunk s (union u.block s.free)
   home = let here = home_of_free t_well_formed (union u.block s.free) (inl refl) in record { chunk = here.chunk; is_chunk = here.is_chunk; from = here.from; to = here.to }
 
+  -- its size word
+  pub word_computed : {block word : ℕ} → u.block.start ≡ block → word ≡ word_at m block → word ≡ u.block.len + 1
+  word_computed at is = is ∙ ap (word_at m) (sym at) ∙ v.sizes.used u i
+
   -- where the block ends, by its size word
   pub end_computed : {block word : ℕ} → u.block.start ≡ block → word ≡ word_at m block → end_of u.block ≡ block + (word - 1)
   end_computed {block} {word} at is = omega (arith, at, is ∙ ap (word_at m) (sym at) ∙ v.sizes.used u i)

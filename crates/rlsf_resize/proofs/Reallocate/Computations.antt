@@ -36,17 +36,17 @@ module _ {fllen sllen : ℕ} {m : Space} {t : Table} {s : State} (v : StandsFor 
       (block_length-whole u.block.start u.payload size, omega (arith, block_length-le u.block.start u.payload size))
 
   -- where it ends, by its size word
-  module _ {word : ℕ} (is : word ≡ word_at m block) where
-    pub end_is : end_of u.block ≡ block + (word - 1)
-    end_is = end_computed v u at.is_used at.start is
+  module _ {word len : ℕ} (is : word ≡ word_at m block) (long : len ≡ word - 1) where
+    pub end_is : end_of u.block ≡ block + len
+    end_is = end_computed v u at.is_used at.start is ∙ ap (λ n. block + n) (sym long)
 
     module _ {n : Space} (start : n.start ≡ m.start) (bytes : n.bytes ≡ m.bytes) where
       -- the word there tells if a free block is behind it
-      pub IsMarked-loaded_end : IsMarked n s.free (block + (word - 1))
-      IsMarked-loaded_end = IsMarked-loaded m n start bytes (IsMarked-end v u at.is_used (block + (word - 1)) end_is)
+      pub IsMarked-loaded_end : IsMarked n s.free (block + len)
+      IsMarked-loaded_end = IsMarked-loaded m n start bytes (IsMarked-end v u at.is_used (block + len) end_is)
 
-      pub IsNextOut-end : {o : Space} {x : Table} {next : ℕ} → IsNextOut fllen sllen n o x s.free (block + (word - 1)) next → IsNextOut fllen sllen m o x s.free (end_of u.block) next
+      pub IsNextOut-end : {o : Space} {x : Table} {next : ℕ} → IsNextOut fllen sllen n o x s.free (block + len) next → IsNextOut fllen sllen m o x s.free (end_of u.block) next
       IsNextOut-end {o} {x} {next} out = IsNextOut-loaded m n start bytes (subst (λ e. IsNextOut fllen sllen n o x s.free e next) (sym end_is) out)
 
-    pub reach_is : (next : ℕ) → block + (word - 1) + next ≡ end_or (block + (word - 1)) (find (starts_at (block + (word - 1))) s.free) → end_of u.block + next ≡ reach s u
+    pub reach_is : (next : ℕ) → block + len + next ≡ end_or (block + len) (find (starts_at (block + len)) s.free) → end_of u.block + next ≡ reach s u
     reach_is next ends = subst (λ e. e + next ≡ end_or e (find (starts_at e) s.free)) (sym end_is) ends

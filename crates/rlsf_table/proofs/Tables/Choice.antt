@@ -15,6 +15,7 @@ use Rattle.rlsf_machine.specs.Lists.{IsIn}
 use Rattle.rlsf_machine.specs.WellFormed.{IsFree}
 use Rattle.rlsf_machine.proofs.Choices.{choice-from, choice-from_none, has_class-from, has_class-true}
 use Rattle.rlsf_machine.proofs.Coverage.{find-some}
+use Rattle.rlsf_table.specs.declared.table.ClassIndex.{ClassIndex}
 use Rattle.rlsf_table.specs.FreeList.{Links}
 use Rattle.rlsf_table.specs.Table.{Table, class_at, head_at, of_class, HasLists, IsLeastFrom}
 use Rattle.rlsf_table.proofs.Tables.Tests.{list_any-true, list_any-filtered, find-filtered}
@@ -81,15 +82,15 @@ module _ (fllen sllen size : ℕ) (any : 0 < sllen) (is : IsSize size) where
       choice-none_from none = choice-from_none sllen size free (λ g i reached. none g i (is_at.first.first (class_of sllen g.len) (in_row g i) reached))
 
       -- and else the newest of the least class is chosen
-      module _ (to : ℕ × ℕ) (least : IsLeastFrom fllen sllen at.0 at.1 free (Some to)) where
+      module _ (to : ClassIndex) (least : IsLeastFrom fllen sllen at.0 at.1 free (Some to)) where
         -- the class's list isn't empty, and its first range is found
-        chosen : (m : Space) (head : ℕ) (xs : List Range) → of_class sllen to.0 to.1 free ≡ xs → Links m 0 xs head → (f : Range) × (choice sllen size free ≡ Some f) × (f.start ≡ head) × (class_of sllen f.len ≡ class_at to.0 to.1)
+        chosen : (m : Space) (head : ℕ) (xs : List Range) → of_class sllen to.fl to.sl free ≡ xs → Links m 0 xs head → (f : Range) × (choice sllen size free ≡ Some f) × (f.start ≡ head) × (class_of sllen f.len ≡ class_at to.fl to.sl)
         chosen m head [] none links =
             let (f, i, class) = least.3 in
-            let c = class_at to.0 to.1 in
+            let c = class_at to.fl to.sl in
             absurd (true≢false (sym (list_any-true (has_class sllen c) free f i (has_class-from sllen c f class)) ∙ list_any-filtered (has_class sllen c) free none))
         chosen m head (f ∷ fs) some links =
-            let c = class_at to.0 to.1 in
+            let c = class_at to.fl to.sl in
             let found : find (has_class sllen c) free ≡ Some f = find-filtered (has_class sllen c) free f fs some in
             let passes = find-some (has_class sllen c) f free found in
             let class : c ≡ class_of sllen f.len = sym (has_class-true sllen c f passes.1) in (
@@ -104,5 +105,5 @@ module _ (fllen sllen size : ℕ) (any : 0 < sllen) (is : IsSize size) where
               sym class,
             )
 
-        pub choice-head : (m : Space) (t : Table) → HasLists fllen sllen m t free → (f : Range) × (choice sllen size free ≡ Some f) × (f.start ≡ head_at t to.0 to.1) × (class_of sllen f.len ≡ class_at to.0 to.1)
-        choice-head m t lists = chosen m (head_at t to.0 to.1) (of_class sllen to.0 to.1 free) refl (lists.links to.0 to.1 least.0 least.1)
+        pub choice-head : (m : Space) (t : Table) → HasLists fllen sllen m t free → (f : Range) × (choice sllen size free ≡ Some f) × (f.start ≡ head_at t to.fl to.sl) × (class_of sllen f.len ≡ class_at to.fl to.sl)
+        choice-head m t lists = chosen m (head_at t to.fl to.sl) (of_class sllen to.fl to.sl free) refl (lists.links to.fl to.sl least.0 least.1)

@@ -70,7 +70,7 @@ module _ {fllen sllen : ℕ} {t : Table} {free : List Range} (any : 0 < sllen) (
 
   module _ {scanned fl sl place : ℕ} (within : fl < fllen) (scan : IsFirstOne scanned (slice_index t.second_level fl) sl place) where
     -- the scan of the row found a class
-    pub IsLeastFrom-own_row : place < scanned → IsLeastFrom fllen sllen fl sl free (Some (fl, place))
+    pub IsLeastFrom-own_row : place < scanned → IsLeastFrom fllen sllen fl sl free (Some (record { fl = fl; sl = place }))
     IsLeastFrom-own_row found =
         let one = scan.found found in
         let range = range_of_place fl place within one.1 in (
@@ -96,7 +96,7 @@ module _ {fllen sllen : ℕ} {t : Table} {free : List Range} (any : 0 < sllen) (
         IsLeastFrom-none past f i order = let valid = (blocks f i).valid in let behind = row_behind rows f i (row_after f i order) in omega arith
 
         -- the scan of the rows found one, and that of it a class
-        pub IsLeastFrom-row_behind : row < fllen → fllen ≤ width → {first : ℕ} → IsFirstOne scanned (slice_index t.second_level row) 0 first → IsLeastFrom fllen sllen fl sl free (Some (row, first))
+        pub IsLeastFrom-row_behind : row < fllen → fllen ≤ width → {first : ℕ} → IsFirstOne scanned (slice_index t.second_level row) 0 first → IsLeastFrom fllen sllen fl sl free (Some (record { fl = row; sl = first }))
         IsLeastFrom-row_behind in_rows fit {first} places =
             let one = rows.found (omega arith) in
             let (f, i, at) = range_of_row row one.1 in

@@ -1,4 +1,4 @@
-use Rattle.std.proofs.Common.{arith, ap, refl, ◌∙◌}
+use Rattle.std.proofs.Common.{◌-◌, arith, ap, refl, ◌∙◌}
 use Rattle.rlsf_base.specs.Space.{Space}
 use Rattle.rlsf_blocks.proofs.Deallocate.Loaded.{IsWord-loaded, word_at-touched}
 use Rattle.rlsf_blocks.proofs.Payloads.UnknownAlignment.{IsPayloadOf-holds, IsWord-block, sized, usable-sized}
@@ -12,21 +12,21 @@ load-requires c =
     let touched = c.load_block_of-block.ensures.memory in
     IsWord-loaded c.args.memory.now c.load_block_of-block.new.memory (ap (λ (m : Space). m.start) touched) (ap (λ (m : Space). m.bytes) touched) (IsWord-block is c.load_block_of-block.result begins)
 
-pub overflow_sub-end : goal.overflow_sub-end
-overflow_sub-end c =
+pub used_end-end-requires-clause-used : goal.used_end-end-requires-clause-used
+used_end-end-requires-clause-used c =
     let (fllen, sllen, v, s, same, stands, live) = c.requires in
     let is = IsPayloadOf-holds live.0 same stands live.1 in
     let begins = c.load_block_of-block.ensures.block fllen sllen v s live.0 same stands live.1 in
     let size = c.load.ensures.word ∙ word_at-touched c.args.memory.now c.load_block_of-block.new.memory 2 c.load_block_of-block.ensures.memory c.load_block_of-block.result in
     omega (arith, sized is c.load_block_of-block.result begins c.load.result size, is.in_block, is.within)
 
-pub overflow_add-end : goal.overflow_add-end
-overflow_add-end c =
+pub used_end-end-requires-clause-fits : goal.used_end-end-requires-clause-fits
+used_end-end-requires-clause-fits c =
     let (fllen, sllen, v, s, same, stands, live) = c.requires in
     let is = IsPayloadOf-holds live.0 same stands live.1 in
     let begins = c.load_block_of-block.ensures.block fllen sllen v s live.0 same stands live.1 in
     let size = c.load.ensures.word ∙ word_at-touched c.args.memory.now c.load_block_of-block.new.memory 2 c.load_block_of-block.ensures.memory c.load_block_of-block.result in
-    record { fits = omega (arith, sized is c.load_block_of-block.result begins c.load.result size, is.ends) }
+    omega (arith, sized is c.load_block_of-block.result begins c.load.result size, is.ends)
 
 pub overflow_sub-result : goal.overflow_sub-result
 overflow_sub-result c =
@@ -34,9 +34,9 @@ overflow_sub-result c =
     let is = IsPayloadOf-holds live.0 same stands live.1 in
     let begins = c.load_block_of-block.ensures.block fllen sllen v s live.0 same stands live.1 in
     let size = c.load.ensures.word ∙ word_at-touched c.args.memory.now c.load_block_of-block.new.memory 2 c.load_block_of-block.ensures.memory c.load_block_of-block.result in
-    omega (arith, sized is c.load_block_of-block.result begins c.load.result size, is.within)
+    omega (arith, sized is c.load_block_of-block.result begins c.load.result size, is.within, c.used_end-end.ensures)
 
 pub returns-clause-range : goal.returns-clause-range
 returns-clause-range c = λ fllen sllen v s u same stands holds.
     let size = c.load.ensures.word ∙ word_at-touched c.args.memory.now c.load_block_of-block.new.memory 2 c.load_block_of-block.ensures.memory c.load_block_of-block.result in
-    usable-sized (IsPayloadOf-holds u same stands holds) c.load_block_of-block.result (c.load_block_of-block.ensures.block fllen sllen v s u same stands holds) c.load.result size _ refl refl
+    usable-sized (IsPayloadOf-holds u same stands holds) c.load_block_of-block.result (c.load_block_of-block.ensures.block fllen sllen v s u same stands holds) c.load.result size _ refl (ap (λ e. e - c.args.payload) c.used_end-end.ensures)

@@ -1,4 +1,4 @@
-use Rattle.std.proofs.Common.{arith, refl}
+use Rattle.std.proofs.Common.{◌-◌, arith, refl, ap}
 use Rattle.rlsf_blocks.proofs.Payloads.UnknownAlignment.{IsPayloadOf-holds, IsWord-block, sized, usable-sized}
 use Rattle.rlsf_blocks.proofs.payload.usable_bytes.Goals as goal
 
@@ -7,15 +7,15 @@ word-requires c =
     let (fllen, sllen, v, s, same, stands, live) = c.requires in
     IsWord-block (IsPayloadOf-holds live.0 same stands live.1) c.block_of-block.result (c.block_of-block.ensures fllen sllen v s live.0 same stands live.1)
 
-pub overflow_sub-end : goal.overflow_sub-end
-overflow_sub-end c =
+pub used_end-end-requires-clause-used : goal.used_end-end-requires-clause-used
+used_end-end-requires-clause-used c =
     let (fllen, sllen, v, s, same, stands, live) = c.requires in
     let is = IsPayloadOf-holds live.0 same stands live.1 in
     let begins = c.block_of-block.ensures fllen sllen v s live.0 same stands live.1 in
     omega (arith, sized is c.block_of-block.result begins c.word.result c.word.ensures, is.in_block, is.within)
 
-pub overflow_add-end : goal.overflow_add-end
-overflow_add-end c =
+pub used_end-end-requires-clause-fits : goal.used_end-end-requires-clause-fits
+used_end-end-requires-clause-fits c =
     let (fllen, sllen, v, s, same, stands, live) = c.requires in
     let is = IsPayloadOf-holds live.0 same stands live.1 in
     let begins = c.block_of-block.ensures fllen sllen v s live.0 same stands live.1 in
@@ -26,8 +26,8 @@ overflow_sub-result c =
     let (fllen, sllen, v, s, same, stands, live) = c.requires in
     let is = IsPayloadOf-holds live.0 same stands live.1 in
     let begins = c.block_of-block.ensures fllen sllen v s live.0 same stands live.1 in
-    omega (arith, sized is c.block_of-block.result begins c.word.result c.word.ensures, is.within)
+    omega (arith, sized is c.block_of-block.result begins c.word.result c.word.ensures, is.within, c.used_end-end.ensures)
 
 pub returns : goal.returns
 returns c = λ fllen sllen v s u same stands holds.
-    usable-sized (IsPayloadOf-holds u same stands holds) c.block_of-block.result (c.block_of-block.ensures fllen sllen v s u same stands holds) c.word.result c.word.ensures _ refl refl
+    usable-sized (IsPayloadOf-holds u same stands holds) c.block_of-block.result (c.block_of-block.ensures fllen sllen v s u same stands holds) c.word.result c.word.ensures _ refl (ap (λ e. e - c.args.payload) c.used_end-end.ensures)

@@ -18,13 +18,13 @@ written g c r room start len =
     let three = wrote c.set_word_at-2.new.self c.set_word_at-3.new.self (block + c.args.len + 8) rest c.set_word_at-3.ensures.bytes (omega arith) (omega arith) in
     AreLeft-from block c.args.len c.args.taken r room start len (omega arith) (c.set_word_at.ensures.start, one) (c.set_word_at-2.ensures.start, two) (c.set_word_at-3.ensures.start, three)
 
-pub link-requires : goal.link-requires
-link-requires g c =
+pub link_free_block-requires : goal.link_free_block-requires
+link_free_block-requires g c =
     let (free, r, start, len, room) = c.requires.room in
-    let writes = written g (goal.at.link-requires g c).After-set_word_at-3 r room start len in
+    let writes = written g (goal.at.link_free_block-requires g c).After-set_word_at-3 r room start len in
     (search rules, (c.requires.parameters, ((r, free, start, omega (arith, len), IsRoom-written r room writes), search rules)))
 
 pub returns-clause-step : goal.returns-clause-step
 returns-clause-step g c = λ free r start len room.
     let writes = written g (goal.at.returns-clause-step g c).After-set_word_at-3 r room start len in
-    IsFreeBlockBehind-written r room writes (c.link.ensures.step r free start (omega (arith, len)) (IsRoom-written r room writes))
+    IsFreeBlockBehind-written r room writes (c.link_free_block.ensures.step r free start (omega (arith, len)) (IsRoom-written r room writes))

@@ -55,26 +55,26 @@ loaded g c v = StandsFor-counted c.args.memory.now c.load_at-len.new.self c.load
 
 -- for each state and the choice in it, what is computed is as the definitions have it
 computed : (g : given.Over) (c : After-front-payload g) {s : State} (v : StandsFor g.row.FLLEN g.row.SLLEN (contents c.load_at-len.new.self c.args.table.now) s) (f : Range)
-    (chosen : choice g.row.SLLEN (request_size c.args.layout.size c.args.layout.align) s.free ≡ Some f) → f.start ≡ c.args.block
-    → AreComputed v f c.args.layout.size c.args.layout.align c.args.layout.valid.aligned chosen c.args.block c.load_at-len.result c.front-payload.result.0 c.front-payload.result.1
+    (chosen : choice g.row.SLLEN (request_size c.args.layout.size c.args.layout.align) s.free ≡ Some f) → f.start ≡ c.args.found.start
+    → AreComputed v f c.args.layout.size c.args.layout.align c.args.layout.valid.aligned chosen c.args.found.start c.load_at-len.result c.front-payload.result.0 c.front-payload.result.1
 computed g c v f chosen start =
-    let word = c.load_at-len.ensures.word ∙ sym (word_at-counted c.args.memory.now c.load_at-len.new.self c.load_at-len.ensures.start c.load_at-len.ensures.bytes c.args.block) in
+    let word = c.load_at-len.ensures.word ∙ sym (word_at-counted c.args.memory.now c.load_at-len.new.self c.load_at-len.ensures.start c.load_at-len.ensures.bytes c.args.found.start) in
     AreComputed-from v f c.args.layout.size c.args.layout.align c.args.layout.valid.aligned chosen _ _ _ _ _ _ start word refl c.front-payload.ensures.payload refl c.front-payload.ensures.length
 
 -- and once the block is taken out, its size word is written
 sized : (g : given.Over) (c : After-set_word_at g) {s : State} {v : StandsFor g.row.FLLEN g.row.SLLEN (contents c.load_at-len.new.self c.args.table.now) s} {f : Range}
     {chosen : choice g.row.SLLEN (request_size c.args.layout.size c.args.layout.align) s.free ≡ Some f}
-    (are : AreComputed v f c.args.layout.size c.args.layout.align c.args.layout.valid.aligned chosen c.args.block c.load_at-len.result c.front-payload.result.0 c.front-payload.result.1)
+    (are : AreComputed v f c.args.layout.size c.args.layout.align c.args.layout.valid.aligned chosen c.args.found.start c.load_at-len.result c.front-payload.result.0 c.front-payload.result.1)
     → IsSized are c.take_out.new.memory c.set_word_at.new.self c.take_out.new.table
 sized g c {s} {v} {f} are =
-    IsSized-from are (c.take_out.ensures.step s f v (IsTaken-computed are)) c.set_word_at.ensures.start (wrote c.take_out.new.memory c.set_word_at.new.self c.args.block (c.front-payload.result.1 + 1) c.set_word_at.ensures.bytes (omega arith) (omega arith)) (omega arith)
+    IsSized-from are (c.take_out.ensures.step s f v (IsTaken-computed are)) c.set_word_at.ensures.start (wrote c.take_out.new.memory c.set_word_at.new.self c.args.found.start (c.front-payload.result.1 + 1) c.set_word_at.ensures.bytes (omega arith) (omega arith)) (omega arith)
 
 pub take_out-requires : goal.take_out-requires
 take_out-requires g c =
     let (s, f, v, chosen, start) = c.requires.chosen in
     let at = goal.at.take_out-requires g c in
     let stands = loaded g at.After-load_at-len v in
-    let class = subst (λ n. IsClassAt g.row.FLLEN g.row.SLLEN n c.args.class.0 c.args.class.1) (sym c.load_at-len.ensures.word) c.requires.class in
+    let class = subst (λ n. IsClassAt g.row.FLLEN g.row.SLLEN n c.args.found.class.fl c.args.found.class.sl) (sym c.load_at-len.ensures.word) c.requires.class in
     (search rules, (c.requires.parameters, (class, ((s, f, stands, IsTaken-computed (computed g at.After-front-payload stands f chosen start)), search rules))))
 
 pub set_word_at-requires-clause-place : goal.set_word_at-requires-clause-place
@@ -100,7 +100,7 @@ returns-then-wide-clause-step g c = λ s f v chosen start.
     let is = sized g at.After-set_word_at are in
     let wide : 32 ≤ c.args.layout.align = omega arith in
     let (t, places, stands, spare) =
-    Places-sized are is (Writes-some (32 ≤ c.args.layout.align) wide (IsWord-pad are is wide) (omega arith) c.set_word_at-then-wide.ensures.start (wrote c.set_word_at.new.self c.set_word_at-then-wide.new.self (c.front-payload.result.0 - 8) c.args.block c.set_word_at-then-wide.ensures.bytes (omega arith) (omega arith))) in
+    Places-sized are is (Writes-some (32 ≤ c.args.layout.align) wide (IsWord-pad are is wide) (omega arith) c.set_word_at-then-wide.ensures.start (wrote c.set_word_at.new.self c.set_word_at-then-wide.new.self (c.front-payload.result.0 - 8) c.args.found.start c.set_word_at-then-wide.ensures.bytes (omega arith) (omega arith))) in
     (t, places, stands, KeepsSpare-counted_first c.args.memory.now c.load_at-len.new.self c.load_at-len.ensures.start c.load_at-len.ensures.bytes s t c.set_word_at-then-wide.new.self spare)
 
 pub returns-else-wide-clause-step : goal.returns-else-wide-clause-step
@@ -108,7 +108,7 @@ returns-else-wide-clause-step g c = λ s f v chosen start.
     let at = goal.at.returns-else-wide-clause-step g c in
     let are = computed g at.After-front-payload (loaded g at.After-load_at-len v) f chosen start in
     let narrow : ¬ (32 ≤ c.args.layout.align) = λ wide. omega arith in
-    let (t, places, stands, spare) = Places-sized are (sized g at.After-set_word_at are) (Writes-none c.set_word_at.new.self c.set_word_at.new.self (32 ≤ c.args.layout.align) (c.front-payload.result.0 - 8) c.args.block refl narrow) in
+    let (t, places, stands, spare) = Places-sized are (sized g at.After-set_word_at are) (Writes-none c.set_word_at.new.self c.set_word_at.new.self (32 ≤ c.args.layout.align) (c.front-payload.result.0 - 8) c.args.found.start refl narrow) in
     (t, places, stands, KeepsSpare-counted_first c.args.memory.now c.load_at-len.new.self c.load_at-len.ensures.start c.load_at-len.ensures.bytes s t c.set_word_at.new.self spare)
 
 pub returns-then-wide-clause-place : goal.returns-then-wide-clause-place

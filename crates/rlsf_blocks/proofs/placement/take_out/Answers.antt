@@ -10,25 +10,25 @@ use Rattle.rlsf_blocks.proofs.placement.take_out.Goals as goal
 at_class : {fllen sllen : ℕ} {s : State} {f : Range} {block len taken fl sl : ℕ} → IsClassAt fllen sllen len fl sl → IsTaken sllen s f block len taken → IsClassAt fllen sllen f.len fl sl
 at_class {fllen} {sllen} {fl = fl} {sl = sl} at take = subst (λ n. IsClassAt fllen sllen n fl sl) (sym take.length) at
 
-pub unlink_newest-requires : goal.unlink_newest-requires
-unlink_newest-requires g c =
+pub unlink_newest_block-requires : goal.unlink_newest_block-requires
+unlink_newest_block-requires g c =
     let (s, f, v, take) = c.requires.taken in
     (search rules, (c.requires.parameters, ((f, ahead v take, later v take, take.start, is_newest v take (at_class c.requires.class take), split_list v take), search rules)))
 
 pub leave_rest-requires : goal.leave_rest-requires
 leave_rest-requires g c =
     let (s, f, v, take) = c.requires.taken in
-    let unlinked = c.unlink_newest.ensures.step f (ahead v take) (later v take) take.start (is_newest v take (at_class c.requires.class take)) (split_list v take) in
+    let unlinked = c.unlink_newest_block.ensures.step f (ahead v take) (later v take) take.start (is_newest v take (at_class c.requires.class take)) (split_list v take) in
     (search rules, (c.requires.parameters, ((ahead v take ++ later v take, rest v take, refl, omega (arith, take.start, take.length, take.fits), IsInnerRoom-rest v take unlinked (omega (arith, take.fits))), search rules)))
 
 pub returns-then-longer-clause-step : goal.returns-then-longer-clause-step
 returns-then-longer-clause-step g c = λ s f v take.
-    let unlinked = c.unlink_newest.ensures.step f (ahead v take) (later v take) take.start (is_newest v take (at_class c.requires.class take)) (split_list v take) in
+    let unlinked = c.unlink_newest_block.ensures.step f (ahead v take) (later v take) take.start (is_newest v take (at_class c.requires.class take)) (split_list v take) in
     let short : c.args.taken < c.args.len = omega (arith, take.fits) in
     let room = IsInnerRoom-rest v take unlinked short in
     IsOpened-rest v take unlinked short (c.leave_rest.ensures.step (ahead v take ++ later v take) (rest v take) refl (omega (arith, take.start, take.length, take.fits)) room)
 
 pub returns-else-longer-clause-step : goal.returns-else-longer-clause-step
 returns-else-longer-clause-step g c = λ s f v take.
-    let unlinked = c.unlink_newest.ensures.step f (ahead v take) (later v take) take.start (is_newest v take (at_class c.requires.class take)) (split_list v take) in
+    let unlinked = c.unlink_newest_block.ensures.step f (ahead v take) (later v take) take.start (is_newest v take (at_class c.requires.class take)) (split_list v take) in
     IsOpened-whole v take unlinked (omega (arith, take.fits))

@@ -21,15 +21,15 @@ written g c v new =
     let four = wrote c.set_word-3.new.self c.set_word-4.new.self (sentinel + 8) start c.set_word-4.ensures.bytes (omega arith) (omega arith) in
     AreWrites-from c.args.chunk len sentinel new v.well_formed.addressable refl refl (c.set_word.ensures.start, one) (c.set_word-2.ensures.start, c.set_word-2.ensures.bytes) (c.set_word-3.ensures.start, three) (c.set_word-4.ensures.start, four)
 
-pub link-requires : goal.link-requires
-link-requires g c =
+pub link_free_block-requires : goal.link_free_block-requires
+link_free_block-requires g c =
     let (s, v, new) = c.requires.fresh in
     let chunk = c.args.chunk in
-    let writes = written g (goal.at.link-requires g c).After-set_word-4 v new in
+    let writes = written g (goal.at.link_free_block-requires g c).After-set_word-4 v new in
     (search rules, (c.requires.parameters, ((body chunk, s.free, refl, refl, IsRoom-body v chunk new writes), search rules)))
 
 pub returns-clause-step : goal.returns-clause-step
 returns-clause-step g c = λ s v new.
     let chunk = c.args.chunk in
     let writes = written g (goal.at.returns-clause-step g c).After-set_word-4 v new in
-    IsAdded-written v chunk new writes (c.link.ensures.step (body chunk) s.free refl refl (IsRoom-body v chunk new writes))
+    IsAdded-written v chunk new writes (c.link_free_block.ensures.step (body chunk) s.free refl refl (IsRoom-body v chunk new writes))

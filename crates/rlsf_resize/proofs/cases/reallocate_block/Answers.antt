@@ -1,8 +1,8 @@
 use Rattle.std.proofs.Common.{Some, arith, ◌∙◌, sym, rules}
 use Rattle.rlsf_resize.proofs.Reallocate.FirstPlan.{in_place-none, IsReallocated-counted_first, IsReallocated-elsewhere, IsReallocated-planned, plan-moves, plan-stays, StandsFor-unchanged}
 use Rattle.std.proofs.lemmas.Option.{none-some}
-use Rattle.rlsf_resize.proofs.Counting.{SamePlace-counted_first, copied-more, grow-counted_first, grow_copied-counted_first, grow_copied-same, touches-counted_first, touches-more}
-use Rattle.rlsf_resize.proofs.Refused.{none_more}
+use Rattle.rlsf_blocks.proofs.Counting.{SamePlace-counted_first, copied-more, grow-counted_first, grow_copied-counted_first, grow_copied-same, touches-counted_first, touches-more}
+use Rattle.rlsf_blocks.proofs.Refused.{none_more}
 use Rattle.rlsf_resize.proofs.cases.reallocate_block.Goals as goal
 
 pub returns-then-resize_block-clause-step : goal.returns-then-resize_block-clause-step

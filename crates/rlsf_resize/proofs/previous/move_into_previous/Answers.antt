@@ -8,20 +8,20 @@ use Rattle.rlsf_blocks.specs.StandsFor.{contents, StandsFor}
 use Rattle.rlsf_blocks.specs.Steps.Join.{union, untouched}
 use Rattle.rlsf_resize.specs.Steps.Resize.{IsUsedAt}
 use Rattle.rlsf_blocks.proofs.Deallocate.Marks.{IsMarked-behind}
-use Rattle.rlsf_blocks.proofs.Deallocate.Releases.{end_computed}
+use Rattle.rlsf_blocks.proofs.Deallocate.Releases.{end_computed, word_computed}
 use Rattle.rlsf_blocks.proofs.Machine.Counted.{KeepsSpare-counted_first, StandsFor-counted}
 use Rattle.rlsf_table.proofs.Words.Writes.{Writes-none, Writes-some}
 use Rattle.rlsf_resize.proofs.Reallocate.Computed.{AreOut, IsUsedBlock-from, IsWord-pad, LiesIn-moved, LiesIn-payload, moved_to, part, payload_within, room, SamePlace-occupied, sixteen-le, start-fits, total_is, total-fits, union_begins}
 use Rattle.rlsf_blocks.proofs.Words.Apart.{used_in_memory}
 use Rattle.rlsf_table.proofs.Words.Writing.{wrote}
-use Rattle.rlsf_resize.proofs.Refused.{none_none, none_some}
+use Rattle.rlsf_blocks.proofs.Refused.{none_none, none_some}
 use mathlib.Core.Path.{ap₂}
 use Rattle.rlsf_base.specs.declared.memory.range.Range.{Range}
 use Rattle.rlsf_table.specs.Counts.{Counts}
-use Rattle.rlsf_resize.proofs.Counting.{Counts-counted_first, Counts-loaded, SamePlace-counted, copied-more, grow-counted_first, grow_copied-same, touches-counted, touches-counted_first, touches-more}
+use Rattle.rlsf_blocks.proofs.Counting.{Counts-counted_first, Counts-loaded, SamePlace-counted, copied-more, grow-counted_first, grow_copied-same, touches-counted, touches-counted_first, touches-more}
 use Rattle.rlsf_resize.proofs.previous.move_into_previous.Given as given
 use Rattle.rlsf_resize.proofs.previous.move_into_previous.Goals as goal
-use Rattle.rlsf_resize.proofs.previous.move_into_previous.Goals.{After-load_at, After-take_if_free-next, In_ok-moved, After-place_before}
+use Rattle.rlsf_resize.proofs.previous.move_into_previous.Goals.{After-load_at, After-used_end-end, After-take_if_free-next, In_ok-moved, After-place_before}
 
 pub load_at-requires-clause-place : goal.load_at-requires-clause-place
 load_at-requires-clause-place g c =
@@ -30,25 +30,29 @@ load_at-requires-clause-place g c =
     (omega (arith, used.start, (v.well_formed.used u used.is_used).whole.start), (omega (arith, used.start, place.0), omega (arith, used.start, place.1)))
 
 -- where a used block ends, by the word that was read, and the state that stands in the memory then
-ends : (g : given.Over) (c : After-load_at g) {s : State} {u : Used} → StandsFor g.row.FLLEN g.row.SLLEN (contents c.args.memory.now c.args.table.now) s
-    → IsUsedAt s u c.args.block c.args.payload c.args.layout.align → end_of u.block ≡ c.args.block + (c.load_at.result - 1)
-ends g c {u = u} v used = end_computed v u used.is_used used.start c.load_at.ensures.word
+ends : (g : given.Over) (c : After-used_end-end g) {s : State} {u : Used} → StandsFor g.row.FLLEN g.row.SLLEN (contents c.args.memory.now c.args.table.now) s
+    → IsUsedAt s u c.args.block c.args.payload c.args.layout.align → end_of u.block ≡ c.used_end-end.result
+ends g c {u = u} v used = end_computed v u used.is_used used.start c.load_at.ensures.word ∙ sym c.used_end-end.ensures
 
 loaded : (g : given.Over) (c : After-load_at g) {s : State} → StandsFor g.row.FLLEN g.row.SLLEN (contents c.args.memory.now c.args.table.now) s
     → StandsFor g.row.FLLEN g.row.SLLEN (contents c.load_at.new.self c.args.table.now) s
 loaded g c v = StandsFor-counted c.args.memory.now c.load_at.new.self c.load_at.ensures.start c.load_at.ensures.bytes v
 
-pub overflow_add-end : goal.overflow_add-end
-overflow_add-end g c =
+pub used_end-end-requires-clause-used : goal.used_end-end-requires-clause-used
+used_end-end-requires-clause-used g c =
     let (s, u, v, used, short) = c.requires.used in
-    let at = goal.at.overflow_add-end g c in
-    record { fits = omega (arith, ends g at.After-load_at v used, used_in_memory v.well_formed u used.is_used, v.well_formed.addressable) }
+    omega (arith, word_computed v u used.is_used used.start c.load_at.ensures.word)
+
+pub used_end-end-requires-clause-fits : goal.used_end-end-requires-clause-fits
+used_end-end-requires-clause-fits g c =
+    let (s, u, v, used, short) = c.requires.used in
+    omega (arith, end_computed v u used.is_used used.start c.load_at.ensures.word, used_in_memory v.well_formed u used.is_used, v.well_formed.addressable)
 
 pub place_before-requires-clause-used : goal.place_before-requires-clause-used
 place_before-requires-clause-used g c =
     let (s, u, v, used, short) = c.requires.used in
     let at = goal.at.place_before-requires-clause-used g c in
-    (g.row.FLLEN, g.row.SLLEN, c.args.table.now, s, u, loaded g at.After-load_at v, IsUsedBlock-from used (ends g at.After-load_at v used))
+    (g.row.FLLEN, g.row.SLLEN, c.args.table.now, s, u, loaded g at.After-load_at v, IsUsedBlock-from used (ends g at.After-used_end-end v used))
 
 -- ---- what is counted
 
@@ -87,7 +91,7 @@ returns-in_err-moved-clause-moved g c = λ s u v used short. none_some _ c.from_
 pub returns-in_err-moved-clause-refused : goal.returns-in_err-moved-clause-refused
 returns-in_err-moved-clause-refused g c = λ s u v used short.
     let at = goal.at.returns-in_err-moved-clause-refused g c in
-    let is = IsUsedBlock-from used (ends g at.After-load_at v used) in
+    let is = IsUsedBlock-from used (ends g at.After-used_end-end v used) in
     none_none {P = into_previous s u c.args.layout.size ≡ None} c.from_residual.result (c.in_err-moved.ensures.place g.row.FLLEN g.row.SLLEN c.args.table.now s u (loaded g at.After-load_at v) is)
 
 pub returns-in_err-moved-clause-unchanged : goal.returns-in_err-moved-clause-unchanged
@@ -138,17 +142,17 @@ take_if_free-next-requires g c =
     let at = goal.at.take_if_free-next-requires g c in
     let v0 = stood g at.In_ok-moved v in
     let out = c.take_previous-start.ensures.step s u v0 used.is_used used.start in
-    (search rules, (c.requires.parameters, ((without (ends_at c.args.block) s.free, out.list, IsMarked-behind v0 u used.is_used used.start out _ (ends g at.After-load_at v used)), search rules)))
+    (search rules, (c.requires.parameters, ((without (ends_at c.args.block) s.free, out.list, IsMarked-behind v0 u used.is_used used.start out _ (ends g at.After-used_end-end v used)), search rules)))
 
 outs : (g : given.Over) (c : After-take_if_free-next g) {s : State} {u : Used} → StandsFor g.row.FLLEN g.row.SLLEN (contents c.args.memory.now c.args.table.now) s
     → IsUsedAt s u c.args.block c.args.payload c.args.layout.align → in_place s u c.args.layout.size ≡ None
-    → AreOut g.row.FLLEN g.row.SLLEN c.place_before.new.memory c.args.table.now s u c.args.block (c.args.block + (c.load_at.result - 1)) c.args.payload c.args.layout.align c.args.layout.size
+    → AreOut g.row.FLLEN g.row.SLLEN c.place_before.new.memory c.args.table.now s u c.args.block c.used_end-end.result c.args.payload c.args.layout.align c.args.layout.size
     c.in_ok-moved.moved c.in_ok-moved.taken c.take_previous-start.new.memory c.take_if_free-next.new.memory c.take_previous-start.new.table c.take_if_free-next.new.table c.take_previous-start.result c.take_if_free-next.result
 outs g c {s} {u} v used short =
     let read = StandsFor-counted c.args.memory.now c.load_at.new.self c.load_at.ensures.start c.load_at.ensures.bytes v in
     let counts = c.place_before.ensures.counts in
     let v0 = StandsFor-counted c.load_at.new.self c.place_before.new.memory counts.start counts.bytes read in
-    let end = end_computed v u used.is_used used.start c.load_at.ensures.word in
+    let end = end_computed v u used.is_used used.start c.load_at.ensures.word ∙ sym c.used_end-end.ensures in
     let out = c.take_previous-start.ensures.step s u v0 used.is_used used.start in
     record {
       stands = v0;
@@ -162,10 +166,10 @@ outs g c {s} {u} v used short =
 
 -- ---- the payload is copied
 
-pub overflow_sub-end-2 : goal.overflow_sub-end-2
-overflow_sub-end-2 g c =
+pub overflow_sub-end : goal.overflow_sub-end
+overflow_sub-end g c =
     let (s, u, v, used, short) = c.requires.used in
-    let at = goal.at.overflow_sub-end-2 g c in
+    let at = goal.at.overflow_sub-end g c in
     let are = outs g at.After-take_if_free-next v used short in
     payload_within are
 
@@ -185,17 +189,17 @@ copy_within-requires-clause-to g c =
 
 -- ---- the block is made
 
-pub overflow_sub-end-3 : goal.overflow_sub-end-3
-overflow_sub-end-3 g c =
+pub overflow_sub-end-2 : goal.overflow_sub-end-2
+overflow_sub-end-2 g c =
     let (s, u, v, used, short) = c.requires.used in
-    let at = goal.at.overflow_sub-end-3 g c in
+    let at = goal.at.overflow_sub-end-2 g c in
     let are = outs g at.After-take_if_free-next v used short in
     (total_is are).0
 
-pub overflow_add-end-2 : goal.overflow_add-end-2
-overflow_add-end-2 g c =
+pub overflow_add-end : goal.overflow_add-end
+overflow_add-end g c =
     let (s, u, v, used, short) = c.requires.used in
-    let at = goal.at.overflow_add-end-2 g c in
+    let at = goal.at.overflow_add-end g c in
     let are = outs g at.After-take_if_free-next v used short in
     record { fits = total-fits are }
 
@@ -258,13 +262,13 @@ returns-then-wide-clause-grow g c =
 pub returns-then-wide-clause-grow_copied : goal.returns-then-wide-clause-grow_copied
 returns-then-wide-clause-grow_copied g c =
     let counts = sought g (goal.at.returns-then-wide-clause-grow_copied g c).After-place_before in
-    copied_taken c.args.memory.now.copied c.place_before.new.memory.copied c.set_word_at.new.self.copied (c.args.block + (c.load_at.result - 1) - c.args.payload) counts.copied (copied_padded c.place_before.new.memory.copied c.occupy.new.memory.copied c.set_word_at.new.self.copied (c.args.block + (c.load_at.result - 1) - c.args.payload) (copied_moved c.place_before.new.memory.copied c.take_previous-start.new.memory.copied c.take_if_free-next.new.memory.copied c.copy_within.new.self.copied c.occupy.new.memory.copied (c.args.block + (c.load_at.result - 1) - c.args.payload) c.take_previous-start.ensures.copied c.take_if_free-next.ensures.copied c.copy_within.ensures.copied c.occupy.ensures.copied) c.set_word_at.ensures.copied)
+    copied_taken c.args.memory.now.copied c.place_before.new.memory.copied c.set_word_at.new.self.copied (c.used_end-end.result - c.args.payload) counts.copied (copied_padded c.place_before.new.memory.copied c.occupy.new.memory.copied c.set_word_at.new.self.copied (c.used_end-end.result - c.args.payload) (copied_moved c.place_before.new.memory.copied c.take_previous-start.new.memory.copied c.take_if_free-next.new.memory.copied c.copy_within.new.self.copied c.occupy.new.memory.copied (c.used_end-end.result - c.args.payload) c.take_previous-start.ensures.copied c.take_if_free-next.ensures.copied c.copy_within.ensures.copied c.occupy.ensures.copied) c.set_word_at.ensures.copied)
 
 pub returns-then-wide-clause-copied : goal.returns-then-wide-clause-copied
 returns-then-wide-clause-copied g c = λ s u v used.
     let at = goal.at.returns-then-wide-clause-copied g c in
-    let long = ap (λ (r : Range). r.len) (ap₂ (λ from to. between from to) (sym used.caller) (sym (ends g at.After-load_at v used))) in
-    copied_long c.args.memory.now.copied c.place_before.new.memory.copied c.set_word_at.new.self.copied (c.args.block + (c.load_at.result - 1) - c.args.payload) (usable u).len (sought g at.After-place_before).copied (copied_padded c.place_before.new.memory.copied c.occupy.new.memory.copied c.set_word_at.new.self.copied (c.args.block + (c.load_at.result - 1) - c.args.payload) (copied_moved c.place_before.new.memory.copied c.take_previous-start.new.memory.copied c.take_if_free-next.new.memory.copied c.copy_within.new.self.copied c.occupy.new.memory.copied (c.args.block + (c.load_at.result - 1) - c.args.payload) c.take_previous-start.ensures.copied c.take_if_free-next.ensures.copied c.copy_within.ensures.copied c.occupy.ensures.copied) c.set_word_at.ensures.copied) long
+    let long = ap (λ (r : Range). r.len) (ap₂ (λ from to. between from to) (sym used.caller) (sym (ends g at.After-used_end-end v used))) in
+    copied_long c.args.memory.now.copied c.place_before.new.memory.copied c.set_word_at.new.self.copied (c.used_end-end.result - c.args.payload) (usable u).len (sought g at.After-place_before).copied (copied_padded c.place_before.new.memory.copied c.occupy.new.memory.copied c.set_word_at.new.self.copied (c.used_end-end.result - c.args.payload) (copied_moved c.place_before.new.memory.copied c.take_previous-start.new.memory.copied c.take_if_free-next.new.memory.copied c.copy_within.new.self.copied c.occupy.new.memory.copied (c.used_end-end.result - c.args.payload) c.take_previous-start.ensures.copied c.take_if_free-next.ensures.copied c.copy_within.ensures.copied c.occupy.ensures.copied) c.set_word_at.ensures.copied) long
 
 pub returns-else-wide-clause-moved : goal.returns-else-wide-clause-moved
 returns-else-wide-clause-moved g c = λ s u v used short.
@@ -302,10 +306,10 @@ returns-else-wide-clause-grow g c =
 pub returns-else-wide-clause-grow_copied : goal.returns-else-wide-clause-grow_copied
 returns-else-wide-clause-grow_copied g c =
     let counts = sought g (goal.at.returns-else-wide-clause-grow_copied g c).After-place_before in
-    copied_taken c.args.memory.now.copied c.place_before.new.memory.copied c.occupy.new.memory.copied (c.args.block + (c.load_at.result - 1) - c.args.payload) counts.copied (copied_moved c.place_before.new.memory.copied c.take_previous-start.new.memory.copied c.take_if_free-next.new.memory.copied c.copy_within.new.self.copied c.occupy.new.memory.copied (c.args.block + (c.load_at.result - 1) - c.args.payload) c.take_previous-start.ensures.copied c.take_if_free-next.ensures.copied c.copy_within.ensures.copied c.occupy.ensures.copied)
+    copied_taken c.args.memory.now.copied c.place_before.new.memory.copied c.occupy.new.memory.copied (c.used_end-end.result - c.args.payload) counts.copied (copied_moved c.place_before.new.memory.copied c.take_previous-start.new.memory.copied c.take_if_free-next.new.memory.copied c.copy_within.new.self.copied c.occupy.new.memory.copied (c.used_end-end.result - c.args.payload) c.take_previous-start.ensures.copied c.take_if_free-next.ensures.copied c.copy_within.ensures.copied c.occupy.ensures.copied)
 
 pub returns-else-wide-clause-copied : goal.returns-else-wide-clause-copied
 returns-else-wide-clause-copied g c = λ s u v used.
     let at = goal.at.returns-else-wide-clause-copied g c in
-    let long = ap (λ (r : Range). r.len) (ap₂ (λ from to. between from to) (sym used.caller) (sym (ends g at.After-load_at v used))) in
-    copied_long c.args.memory.now.copied c.place_before.new.memory.copied c.occupy.new.memory.copied (c.args.block + (c.load_at.result - 1) - c.args.payload) (usable u).len (sought g at.After-place_before).copied (copied_moved c.place_before.new.memory.copied c.take_previous-start.new.memory.copied c.take_if_free-next.new.memory.copied c.copy_within.new.self.copied c.occupy.new.memory.copied (c.args.block + (c.load_at.result - 1) - c.args.payload) c.take_previous-start.ensures.copied c.take_if_free-next.ensures.copied c.copy_within.ensures.copied c.occupy.ensures.copied) long
+    let long = ap (λ (r : Range). r.len) (ap₂ (λ from to. between from to) (sym used.caller) (sym (ends g at.After-used_end-end v used))) in
+    copied_long c.args.memory.now.copied c.place_before.new.memory.copied c.occupy.new.memory.copied (c.used_end-end.result - c.args.payload) (usable u).len (sought g at.After-place_before).copied (copied_moved c.place_before.new.memory.copied c.take_previous-start.new.memory.copied c.take_if_free-next.new.memory.copied c.copy_within.new.self.copied c.occupy.new.memory.copied (c.used_end-end.result - c.args.payload) c.take_previous-start.ensures.copied c.take_if_free-next.ensures.copied c.copy_within.ensures.copied c.occupy.ensures.copied) long

@@ -16,41 +16,41 @@ use Rattle.rlsf_tlsf.proofs.Moved.{appended_to-bare}
 use Rattle.rlsf_base.specs.Sizes.{max_pool_size}
 use Rattle.rlsf_tlsf.proofs.tlsf.Tlsf.append_free_block_ptr.Given as given
 use Rattle.rlsf_tlsf.proofs.tlsf.Tlsf.append_free_block_ptr.Goals as goal
-use Rattle.rlsf_tlsf.proofs.tlsf.Tlsf.append_free_block_ptr.Goals.{After-append-taken, After-append}
+use Rattle.rlsf_tlsf.proofs.tlsf.Tlsf.append_free_block_ptr.Goals.{After-append_chunks-taken, After-append}
 
-pub append-taken-requires : goal.append-taken-requires
-append-taken-requires g c =
+pub append_chunks-taken-requires : goal.append_chunks-taken-requires
+append_chunks-taken-requires g c =
     (omega arith, (c.self.invariant.valid, (_, c.self.invariant.stands, subst (λ (o : Allocator). IsNext (range_of o.memory) o.state c.args.range) (sym c.self.view_is) c.requires)))
 
 -- the range becomes chunks, or a chunk grows
-appending : (g : given.Over) (c : After-append-taken g)
-    → (t : State) × Appends g.row.FLLEN (read_from c.self.inside.memory c.self.inside.state.state) c.args.range c.append-taken.result t
-    × StandsFor g.row.FLLEN g.row.SLLEN (contents c.append-taken.new.memory c.append-taken.new.table) t
-    × KeepsSpare c.self.inside.memory (read_from c.self.inside.memory c.self.inside.state.state) c.append-taken.new.memory t
+appending : (g : given.Over) (c : After-append_chunks-taken g)
+    → (t : State) × Appends g.row.FLLEN (read_from c.self.inside.memory c.self.inside.state.state) c.args.range c.append_chunks-taken.result t
+    × StandsFor g.row.FLLEN g.row.SLLEN (contents c.append_chunks-taken.new.memory c.append_chunks-taken.new.table) t
+    × KeepsSpare c.self.inside.memory (read_from c.self.inside.memory c.self.inside.state.state) c.append_chunks-taken.new.memory t
 appending g c =
-    c.append-taken.ensures.step (read_from c.self.inside.memory c.self.inside.state.state) c.self.invariant.stands
+    c.append_chunks-taken.ensures.step (read_from c.self.inside.memory c.self.inside.state.state) c.self.invariant.stands
     (subst (λ (o : Allocator). IsNext (range_of o.memory) o.state c.args.range) (sym c.self.view_is) c.requires)
 
 -- what is kept of the state is the one with the range
-kept : (g : given.Over) (c : After-append g) (t : State) → Appends g.row.FLLEN (read_from c.self.inside.memory c.self.inside.state.state) c.args.range c.append-taken.result t
+kept : (g : given.Over) (c : After-append g) (t : State) → Appends g.row.FLLEN (read_from c.self.inside.memory c.self.inside.state.state) c.args.range c.append_chunks-taken.result t
     → c.append.new.self.state ≡ bare t
 kept g c t step =
     c.append.ensures ∙ ap (appended_to g.row.FLLEN c.args.range) (sym (bare-kept c.self.invariant))
-    ∙ appended_to-bare g.row.FLLEN (read_from c.self.inside.memory c.self.inside.state.state) t c.args.range c.append-taken.result step
+    ∙ appended_to-bare g.row.FLLEN (read_from c.self.inside.memory c.self.inside.state.state) t c.args.range c.append_chunks-taken.result step
 
 pub invariant_of-self : goal.invariant_of-self
 invariant_of-self g c =
-    let (t, step, stands, spare) = appending g (goal.at.invariant_of-self g c).After-append-taken in
+    let (t, step, stands, spare) = appending g (goal.at.invariant_of-self g c).After-append_chunks-taken in
     IsAllocator-arrived stands c.append.new.self.state (kept g c t step) c.self.invariant.valid
 
 abbrev after : (g : given.Over) (c : After-append g) → Allocator
-after g c = allocator c.append-taken.new.memory c.append-taken.new.table c.append.new.self.state
+after g c = allocator c.append_chunks-taken.new.memory c.append_chunks-taken.new.table c.append.new.self.state
 
-done : (g : given.Over) (c : After-append g) → Steps g.row.FLLEN g.row.SLLEN c.args.self.now (after g c) (Appends g.row.FLLEN c.args.self.now.state c.args.range c.append-taken.result)
+done : (g : given.Over) (c : After-append g) → Steps g.row.FLLEN g.row.SLLEN c.args.self.now (after g c) (Appends g.row.FLLEN c.args.self.now.state c.args.range c.append_chunks-taken.result)
 done g c =
-    let (t, step, stands, spare) = appending g (goal.at.returns-clause-step g c).After-append-taken in
+    let (t, step, stands, spare) = appending g (goal.at.returns-clause-step g c).After-append_chunks-taken in
     Steps-arrived stands c.append.new.self.state (kept g c t step) c.args.self.now c.self.inside.memory c.self.inside.table c.self.inside.state.state c.self.view_is
-    (λ old. Appends g.row.FLLEN old c.args.range c.append-taken.result) step spare
+    (λ old. Appends g.row.FLLEN old c.args.range c.append_chunks-taken.result) step spare
 
 pub returns-clause-step : goal.returns-clause-step
 returns-clause-step g c = done g c
@@ -58,9 +58,9 @@ returns-clause-step g c = done g c
 seen : (g : given.Over) (c : After-append g) → SeesSame c.args.self.now.state (after g c).state
 seen g c =
     same_seen c.args.self.now.state (after g c).state
-    (callers_see_map g.row.FLLEN g.row.SLLEN (range_of c.args.self.now.memory) c.args.self.now.state (after g c).state (append c.args.range c.append-taken.result)
+    (callers_see_map g.row.FLLEN g.row.SLLEN (range_of c.args.self.now.memory) c.args.self.now.state (after g c).state (append c.args.range c.append_chunks-taken.result)
     (view_well_formed c.self.invariant c.args.self.now c.self.view_is) c.requires
-    (opened g.row.FLLEN g.row.SLLEN c.args.self.now (after g c) (Appends g.row.FLLEN c.args.self.now.state c.args.range c.append-taken.result) (done g c)).0)
+    (opened g.row.FLLEN g.row.SLLEN c.args.self.now (after g c) (Appends g.row.FLLEN c.args.self.now.state c.args.range c.append_chunks-taken.result) (done g c)).0)
 
 pub returns-clause-aligns : goal.returns-clause-aligns
 returns-clause-aligns g c = (seen g c).aligns
@@ -70,20 +70,20 @@ returns-clause-bytes g c = (seen g c).bytes
 
 pub returns-clause-untouched : goal.returns-clause-untouched
 returns-clause-untouched g c =
-    untouched_appended g.row.FLLEN c.args.self.now.state (after g c).state c.args.range c.append-taken.result
-    (opened g.row.FLLEN g.row.SLLEN c.args.self.now (after g c) (Appends g.row.FLLEN c.args.self.now.state c.args.range c.append-taken.result) (done g c)).0
+    untouched_appended g.row.FLLEN c.args.self.now.state (after g c).state c.args.range c.append_chunks-taken.result
+    (opened g.row.FLLEN g.row.SLLEN c.args.self.now (after g c) (Appends g.row.FLLEN c.args.self.now.state c.args.range c.append_chunks-taken.result) (done g c)).0
 
 pub returns-clause-unchanged : goal.returns-clause-unchanged
-returns-clause-unchanged g c = λ zero. c.append-taken.ensures.unchanged zero ∙ ap (λ (o : Allocator). o.memory.bytes) c.self.view_is
+returns-clause-unchanged g c = λ zero. c.append_chunks-taken.ensures.unchanged zero ∙ ap (λ (o : Allocator). o.memory.bytes) c.self.view_is
 
 pub returns-clause-place : goal.returns-clause-place
-returns-clause-place g c = subst (λ (o : Allocator). SamePlace o.memory c.append-taken.new.memory) c.self.view_is c.append-taken.ensures.place
+returns-clause-place g c = subst (λ (o : Allocator). SamePlace o.memory c.append_chunks-taken.new.memory) c.self.view_is c.append_chunks-taken.ensures.place
 
 pub returns-clause-touches : goal.returns-clause-touches
-returns-clause-touches g c = subst (λ (o : Allocator). c.append-taken.new.memory.touches ≤ o.memory.touches + (if is_some (max_pool_size g.row.FLLEN) then 13 * length (cut (max_pool_size g.row.FLLEN) (aligned_part c.args.range)) else 34)) c.self.view_is c.append-taken.ensures.touches
+returns-clause-touches g c = subst (λ (o : Allocator). c.append_chunks-taken.new.memory.touches ≤ o.memory.touches + (if is_some (max_pool_size g.row.FLLEN) then 13 * length (cut (max_pool_size g.row.FLLEN) (aligned_part c.args.range)) else 34)) c.self.view_is c.append_chunks-taken.ensures.touches
 
 pub returns-clause-grow : goal.returns-clause-grow
-returns-clause-grow g c = subst (λ (o : Allocator). o.memory.touches ≤ c.append-taken.new.memory.touches) c.self.view_is c.append-taken.ensures.grow
+returns-clause-grow g c = subst (λ (o : Allocator). o.memory.touches ≤ c.append_chunks-taken.new.memory.touches) c.self.view_is c.append_chunks-taken.ensures.grow
 
 pub returns-clause-copied : goal.returns-clause-copied
-returns-clause-copied g c = c.append-taken.ensures.copied ∙ ap (λ (o : Allocator). o.memory.copied) c.self.view_is
+returns-clause-copied g c = c.append_chunks-taken.ensures.copied ∙ ap (λ (o : Allocator). o.memory.copied) c.self.view_is

@@ -11,7 +11,7 @@ use Rattle.rlsf_tlsf.specs.Allocator.{Allocator, allocator, Steps}
 use Rattle.rlsf_tlsf.specs.Steps.Moves.{bare}
 use Rattle.rlsf_tlsf.proofs.Arrivals.{IsAllocator-arrived, Steps-arrived, kept_without, opened, some_inside, view_well_formed}
 use Rattle.rlsf_base.specs.Space.{SamePlace}
-use Rattle.rlsf_resize.proofs.Counting.{Counts-touched, SamePlace-counted_first, copied-counted_first, grow-counted_first, touches-counted_first}
+use Rattle.rlsf_blocks.proofs.Counting.{Counts-touched, SamePlace-counted_first, copied-counted_first, grow-counted_first, touches-counted_first}
 use Rattle.rlsf_tlsf.proofs.tlsf.Tlsf.deallocate_unknown_align.Given as given
 use Rattle.rlsf_tlsf.proofs.tlsf.Tlsf.deallocate_unknown_align.Goals as goal
 use Rattle.rlsf_tlsf.proofs.tlsf.Tlsf.deallocate_unknown_align.Goals.{After-load_block_of-block, After-deallocate}

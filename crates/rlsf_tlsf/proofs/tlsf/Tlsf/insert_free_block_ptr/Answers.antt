@@ -17,43 +17,43 @@ use Rattle.rlsf_tlsf.proofs.Moved.{inserted-bare}
 use Rattle.rlsf_base.specs.Sizes.{max_pool_size}
 use Rattle.rlsf_tlsf.proofs.tlsf.Tlsf.insert_free_block_ptr.Given as given
 use Rattle.rlsf_tlsf.proofs.tlsf.Tlsf.insert_free_block_ptr.Goals as goal
-use Rattle.rlsf_tlsf.proofs.tlsf.Tlsf.insert_free_block_ptr.Goals.{After-insert-taken, After-insert}
+use Rattle.rlsf_tlsf.proofs.tlsf.Tlsf.insert_free_block_ptr.Goals.{After-insert_chunks-taken, After-insert}
 
-pub insert-taken-requires : goal.insert-taken-requires
-insert-taken-requires g c =
+pub insert_chunks-taken-requires : goal.insert_chunks-taken-requires
+insert_chunks-taken-requires g c =
     let fresh = IsFresh-untouched (range_of c.args.self.now.memory) c.args.self.now.state c.args.range c.requires.lies_in c.requires.untouched in
     (omega arith, (c.self.invariant.valid, (_, c.self.invariant.stands, subst (λ (o : Allocator). IsFresh (range_of o.memory) o.state c.args.range) (sym c.self.view_is) fresh)))
 
 -- the range becomes chunks
-inserting : (g : given.Over) (c : After-insert-taken g)
-    → (t : State) × Inserts g.row.FLLEN (read_from c.self.inside.memory c.self.inside.state.state) c.args.range (reply c.insert-taken.result) t
-    × StandsFor g.row.FLLEN g.row.SLLEN (contents c.insert-taken.new.memory c.insert-taken.new.table) t
-    × KeepsSpare c.self.inside.memory (read_from c.self.inside.memory c.self.inside.state.state) c.insert-taken.new.memory t
+inserting : (g : given.Over) (c : After-insert_chunks-taken g)
+    → (t : State) × Inserts g.row.FLLEN (read_from c.self.inside.memory c.self.inside.state.state) c.args.range (reply c.insert_chunks-taken.result) t
+    × StandsFor g.row.FLLEN g.row.SLLEN (contents c.insert_chunks-taken.new.memory c.insert_chunks-taken.new.table) t
+    × KeepsSpare c.self.inside.memory (read_from c.self.inside.memory c.self.inside.state.state) c.insert_chunks-taken.new.memory t
 inserting g c =
-    c.insert-taken.ensures.step (read_from c.self.inside.memory c.self.inside.state.state) c.self.invariant.stands
+    c.insert_chunks-taken.ensures.step (read_from c.self.inside.memory c.self.inside.state.state) c.self.invariant.stands
     (subst (λ (o : Allocator). IsFresh (range_of o.memory) o.state c.args.range) (sym c.self.view_is)
     (IsFresh-untouched (range_of c.args.self.now.memory) c.args.self.now.state c.args.range c.requires.lies_in c.requires.untouched))
 
 -- what is kept of the state is the one with the chunks
-kept : (g : given.Over) (c : After-insert g) (t : State) → Inserts g.row.FLLEN (read_from c.self.inside.memory c.self.inside.state.state) c.args.range (reply c.insert-taken.result) t
+kept : (g : given.Over) (c : After-insert g) (t : State) → Inserts g.row.FLLEN (read_from c.self.inside.memory c.self.inside.state.state) c.args.range (reply c.insert_chunks-taken.result) t
     → c.insert.new.self.state ≡ bare t
 kept g c t step =
     c.insert.ensures ∙ ap (inserted g.row.FLLEN c.args.range) (sym (bare-kept c.self.invariant))
-    ∙ inserted-bare g.row.FLLEN (read_from c.self.inside.memory c.self.inside.state.state) t c.args.range (reply c.insert-taken.result) step
+    ∙ inserted-bare g.row.FLLEN (read_from c.self.inside.memory c.self.inside.state.state) t c.args.range (reply c.insert_chunks-taken.result) step
 
 pub invariant_of-self : goal.invariant_of-self
 invariant_of-self g c =
-    let (t, step, stands, spare) = inserting g (goal.at.invariant_of-self g c).After-insert-taken in
+    let (t, step, stands, spare) = inserting g (goal.at.invariant_of-self g c).After-insert_chunks-taken in
     IsAllocator-arrived stands c.insert.new.self.state (kept g c t step) c.self.invariant.valid
 
 abbrev after : (g : given.Over) (c : After-insert g) → Allocator
-after g c = allocator c.insert-taken.new.memory c.insert-taken.new.table c.insert.new.self.state
+after g c = allocator c.insert_chunks-taken.new.memory c.insert_chunks-taken.new.table c.insert.new.self.state
 
-done : (g : given.Over) (c : After-insert g) → Steps g.row.FLLEN g.row.SLLEN c.args.self.now (after g c) (Inserts g.row.FLLEN c.args.self.now.state c.args.range (reply c.insert-taken.result))
+done : (g : given.Over) (c : After-insert g) → Steps g.row.FLLEN g.row.SLLEN c.args.self.now (after g c) (Inserts g.row.FLLEN c.args.self.now.state c.args.range (reply c.insert_chunks-taken.result))
 done g c =
-    let (t, step, stands, spare) = inserting g (goal.at.returns-clause-step g c).After-insert-taken in
+    let (t, step, stands, spare) = inserting g (goal.at.returns-clause-step g c).After-insert_chunks-taken in
     Steps-arrived stands c.insert.new.self.state (kept g c t step) c.args.self.now c.self.inside.memory c.self.inside.table c.self.inside.state.state c.self.view_is
-    (λ old. Inserts g.row.FLLEN old c.args.range (reply c.insert-taken.result)) step spare
+    (λ old. Inserts g.row.FLLEN old c.args.range (reply c.insert_chunks-taken.result)) step spare
 
 pub returns-clause-step : goal.returns-clause-step
 returns-clause-step g c = done g c
@@ -61,10 +61,10 @@ returns-clause-step g c = done g c
 seen : (g : given.Over) (c : After-insert g) → SeesSame c.args.self.now.state (after g c).state
 seen g c =
     same_seen c.args.self.now.state (after g c).state
-    (callers_see_map g.row.FLLEN g.row.SLLEN (range_of c.args.self.now.memory) c.args.self.now.state (after g c).state (insert c.args.range (reply c.insert-taken.result))
+    (callers_see_map g.row.FLLEN g.row.SLLEN (range_of c.args.self.now.memory) c.args.self.now.state (after g c).state (insert c.args.range (reply c.insert_chunks-taken.result))
     (view_well_formed c.self.invariant c.args.self.now c.self.view_is)
     (IsFresh-untouched (range_of c.args.self.now.memory) c.args.self.now.state c.args.range c.requires.lies_in c.requires.untouched)
-    (opened g.row.FLLEN g.row.SLLEN c.args.self.now (after g c) (Inserts g.row.FLLEN c.args.self.now.state c.args.range (reply c.insert-taken.result)) (done g c)).0)
+    (opened g.row.FLLEN g.row.SLLEN c.args.self.now (after g c) (Inserts g.row.FLLEN c.args.self.now.state c.args.range (reply c.insert_chunks-taken.result)) (done g c)).0)
 
 pub returns-clause-aligns : goal.returns-clause-aligns
 returns-clause-aligns g c = (seen g c).aligns
@@ -74,20 +74,20 @@ returns-clause-bytes g c = (seen g c).bytes
 
 pub returns-clause-untouched : goal.returns-clause-untouched
 returns-clause-untouched g c =
-    untouched_inserted g.row.FLLEN c.args.self.now.state (after g c).state c.args.range (reply c.insert-taken.result)
-    (opened g.row.FLLEN g.row.SLLEN c.args.self.now (after g c) (Inserts g.row.FLLEN c.args.self.now.state c.args.range (reply c.insert-taken.result)) (done g c)).0
+    untouched_inserted g.row.FLLEN c.args.self.now.state (after g c).state c.args.range (reply c.insert_chunks-taken.result)
+    (opened g.row.FLLEN g.row.SLLEN c.args.self.now (after g c) (Inserts g.row.FLLEN c.args.self.now.state c.args.range (reply c.insert_chunks-taken.result)) (done g c)).0
 
 pub returns-clause-refused : goal.returns-clause-refused
-returns-clause-refused g c = subst (λ (o : Allocator). IfNone c.insert-taken.result (c.insert-taken.new.memory.bytes ≡ o.memory.bytes)) c.self.view_is c.insert-taken.ensures.refused
+returns-clause-refused g c = subst (λ (o : Allocator). IfNone c.insert_chunks-taken.result (c.insert_chunks-taken.new.memory.bytes ≡ o.memory.bytes)) c.self.view_is c.insert_chunks-taken.ensures.refused
 
 pub returns-clause-place : goal.returns-clause-place
-returns-clause-place g c = subst (λ (o : Allocator). SamePlace o.memory c.insert-taken.new.memory) c.self.view_is c.insert-taken.ensures.place
+returns-clause-place g c = subst (λ (o : Allocator). SamePlace o.memory c.insert_chunks-taken.new.memory) c.self.view_is c.insert_chunks-taken.ensures.place
 
 pub returns-clause-touches : goal.returns-clause-touches
-returns-clause-touches g c = subst (λ (o : Allocator). c.insert-taken.new.memory.touches ≤ o.memory.touches + 13 * length (cut (max_pool_size g.row.FLLEN) (aligned_part c.args.range))) c.self.view_is c.insert-taken.ensures.touches
+returns-clause-touches g c = subst (λ (o : Allocator). c.insert_chunks-taken.new.memory.touches ≤ o.memory.touches + 13 * length (cut (max_pool_size g.row.FLLEN) (aligned_part c.args.range))) c.self.view_is c.insert_chunks-taken.ensures.touches
 
 pub returns-clause-grow : goal.returns-clause-grow
-returns-clause-grow g c = subst (λ (o : Allocator). o.memory.touches ≤ c.insert-taken.new.memory.touches) c.self.view_is c.insert-taken.ensures.grow
+returns-clause-grow g c = subst (λ (o : Allocator). o.memory.touches ≤ c.insert_chunks-taken.new.memory.touches) c.self.view_is c.insert_chunks-taken.ensures.grow
 
 pub returns-clause-copied : goal.returns-clause-copied
-returns-clause-copied g c = c.insert-taken.ensures.copied ∙ ap (λ (o : Allocator). o.memory.copied) c.self.view_is
+returns-clause-copied g c = c.insert_chunks-taken.ensures.copied ∙ ap (λ (o : Allocator). o.memory.copied) c.self.view_is

@@ -5,13 +5,13 @@ use Rattle.rlsf_blocks.specs.Laws.{read_from}
 use Rattle.rlsf_tlsf.specs.Allocator.{Allocator}
 use Rattle.rlsf_tlsf.proofs.tlsf.Tlsf.iter_blocks.Goals as goal
 
-pub walk-requires : goal.walk-requires
-walk-requires g c =
+pub walk_blocks-requires : goal.walk_blocks-requires
+walk_blocks-requires g c =
     let row = subst (λ (o : Allocator). IsRow o.state (walked c.args.range)) (sym c.self.view_is) c.requires in
     (g.row.FLLEN, g.row.SLLEN, c.self.inside.table, read_from c.self.inside.memory c.self.inside.state.state, c.self.invariant.stands, row)
 
 pub returns-clause-blocks : goal.returns-clause-blocks
 returns-clause-blocks g c =
     let row = subst (λ (o : Allocator). IsRow o.state (walked c.args.range)) (sym c.self.view_is) c.requires in
-    subst (λ (o : Allocator). AreBlocks o.state (walked c.args.range) c.walk.result) c.self.view_is
-    (c.walk.ensures.blocks g.row.FLLEN g.row.SLLEN c.self.inside.table (read_from c.self.inside.memory c.self.inside.state.state) c.self.invariant.stands row)
+    subst (λ (o : Allocator). AreBlocks o.state (walked c.args.range) c.walk_blocks.result) c.self.view_is
+    (c.walk_blocks.ensures.blocks g.row.FLLEN g.row.SLLEN c.self.inside.table (read_from c.self.inside.memory c.self.inside.state.state) c.self.invariant.stands row)

@@ -20,8 +20,8 @@ use Rattle.rlsf_tlsf.proofs.Arrivals.{IsAllocator-arrived, Steps-arrived, bare-k
 use Rattle.rlsf_tlsf.proofs.Found.{Found, live_in, payload_found}
 use Rattle.rlsf_tlsf.proofs.Moved.{reallocated-bare}
 use Rattle.rlsf_base.specs.Space.{SamePlace}
-use Rattle.rlsf_resize.proofs.Counting.{SamePlace-counted_first, grow-counted_first, grow_copied-counted_first, touches-counted_first}
-use Rattle.rlsf_resize.proofs.Refused.{none_none, none_some}
+use Rattle.rlsf_blocks.proofs.Counting.{SamePlace-counted_first, grow-counted_first, grow_copied-counted_first, touches-counted_first}
+use Rattle.rlsf_blocks.proofs.Refused.{none_none, none_some}
 use Rattle.rlsf_tlsf.proofs.tlsf.Tlsf.reallocate.Given as given
 use Rattle.rlsf_tlsf.proofs.tlsf.Tlsf.reallocate.Goals as goal
 use Rattle.rlsf_tlsf.proofs.tlsf.Tlsf.reallocate.Goals.{After-from_residual, After-used_block-block, After-new}

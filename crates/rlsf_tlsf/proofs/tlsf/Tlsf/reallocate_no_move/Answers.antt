@@ -20,7 +20,7 @@ use Rattle.rlsf_tlsf.proofs.Found.{Found, live_in, payload_found}
 use Rattle.rlsf_tlsf.proofs.Moved.{reallocated-bare}
 use Rattle.rlsf_base.specs.Space.{SamePlace}
 use Rattle.rlsf_machine.proofs.Chunks.{chunks-reallocated}
-use Rattle.rlsf_resize.proofs.Counting.{SamePlace-counted_first, copied-counted_first, grow-counted_first, touches-counted_first}
+use Rattle.rlsf_blocks.proofs.Counting.{SamePlace-counted_first, copied-counted_first, grow-counted_first, touches-counted_first}
 use Rattle.rlsf_tlsf.proofs.tlsf.Tlsf.reallocate_no_move.Given as given
 use Rattle.rlsf_tlsf.proofs.tlsf.Tlsf.reallocate_no_move.Goals as goal
 use Rattle.rlsf_tlsf.proofs.tlsf.Tlsf.reallocate_no_move.Goals.{After-used_block-block, After-reallocate, Then-not-resize_block}

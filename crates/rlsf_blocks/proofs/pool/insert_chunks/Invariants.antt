@@ -3,7 +3,7 @@ use Rattle.rlsf_machine.specs.Insert.{IsFresh}
 use Rattle.rlsf_machine.specs.State.{State}
 use Rattle.rlsf_blocks.specs.StandsFor.{contents, StandsFor}
 use Rattle.rlsf_blocks.proofs.Chunks.Pools.{IsFilled}
-use Rattle.rlsf_blocks.proofs.pool.insert.Given as goal
+use Rattle.rlsf_blocks.proofs.pool.insert_chunks.Given as goal
 
 abbrev pub invariant-loop-left : goal.invariant-loop-left
 invariant-loop-left g l =

@@ -10,13 +10,15 @@ ghost use Rattle.rlsf_machine.specs.Insert.{Appends, IsNext, aligned_part, cut, 
 ghost use Rattle.rlsf_machine.specs.State.{State};
 ghost use Rattle.rlsf_blocks.specs.StandsFor.{contents, StandsFor};
 ghost use Rattle.rlsf_blocks.specs.Steps.Standing.{InEach, StandsAfter, StepsTo};
-ghost use Rattle.rlsf_resize.specs.Steps.Extension.{AtEachExtensible, IsExtensible};
+ghost use Rattle.rlsf_blocks.specs.Steps.Extension.{AtEachExtensible, IsExtensible};
 
+use crate::GRANULARITY;
+use crate::free::deallocate_block;
+use crate::pool::{SENTINEL, insert_chunks};
 use rlsf_base::classes;
 use rlsf_base::memory::{Memory, Range};
-use rlsf_blocks::{GRANULARITY, SENTINEL, deallocate_block, insert};
 use rlsf_int::Bitmap;
-use rlsf_table::ClassTable;
+use rlsf_table::{ClassTable, PREVIOUS_BLOCK, used_size};
 
 /// Makes the chunk that ends at `end` longer by `len` bytes. Its old sentinel and the new bytes but those of a new
 /// sentinel become free: joined with a free block before them, they are the newest free block.
@@ -37,16 +39,16 @@ fn extend_chunk<FLBitmap: Bitmap, SLBitmap: Bitmap, const FLLEN: usize, const SL
     // The word that names the block before the old sentinel stays: it names the one before the new block.
     let block = end - GRANULARITY;
     let sentinel = block + len;
-    memory.set_word(block, len as u64 + 1);
+    memory.set_word(block, used_size(len));
     memory.set_word(sentinel, SENTINEL);
-    memory.set_word(sentinel + 8, block as u64);
+    memory.set_word(sentinel + PREVIOUS_BLOCK, block as u64);
     let view = memory.view();
     deallocate_block(memory, view, table, block);
 }
 
 /// Hands in a range that begins where a chunk ends. Where chunks have a greatest length, the range becomes chunks of its
 /// own; else the chunk grows by the range's length rounded down to a multiple of 32. Answers how many bytes are taken.
-pub fn append<FLBitmap: Bitmap, SLBitmap: Bitmap, const FLLEN: usize, const SLLEN: usize>(
+pub fn append_chunks<FLBitmap: Bitmap, SLBitmap: Bitmap, const FLLEN: usize, const SLLEN: usize>(
     memory: &mut Memory,
     table: &mut ClassTable<FLBitmap, SLBitmap, FLLEN, SLLEN>,
     range: Range,
@@ -61,7 +63,7 @@ pub fn append<FLBitmap: Bitmap, SLBitmap: Bitmap, const FLLEN: usize, const SLLE
     ensures copied { memory.new.copied ≡ memory.old.copied }
 {
     if classes::max_pool_size::<FLBitmap, SLBitmap, FLLEN, SLLEN>().is_some() {
-        return match insert(memory, table, range) {
+        return match insert_chunks(memory, table, range) {
             Some(taken) => taken.get(),
             None => 0,
         };

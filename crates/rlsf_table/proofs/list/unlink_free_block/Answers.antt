@@ -7,7 +7,7 @@ use Rattle.rlsf_table.proofs.Tables.Linking.{HasTable-removal, HasTable-removal_
 use Rattle.rlsf_table.proofs.FreeLists.Classes.{IsIn-of_class_from}
 use Rattle.rlsf_table.proofs.FreeLists.Counted.{HasTable-counted, Rewrites-counted_last}
 use Rattle.rlsf_table.proofs.FreeLists.Indices.{IsClassAt-told, indices_of, room}
-use Rattle.rlsf_table.proofs.list.unlink.Goals as goal
+use Rattle.rlsf_table.proofs.list.unlink_free_block.Goals as goal
 
 pub unlink_between-newest-requires-clause-listed : goal.unlink_between-newest-requires-clause-listed
 unlink_between-newest-requires-clause-listed g c =

@@ -16,7 +16,7 @@ use Rattle.rlsf_machine.proofs.Coverage.{inside, before, behind, where_is, cover
 use Rattle.rlsf_machine.proofs.Payloads.{others-none, IsUsed-after_start}
 use Rattle.rlsf_machine.proofs.Tiling.{block_of, used-le, tiling_of, IsWellFormed-from}
 use Rattle.rlsf_machine.proofs.Releases.{IsSound-free}
-use Rattle.rlsf_resize.specs.Steps.Extension.{IsExtensible, lengthened, more_block}
+use Rattle.rlsf_blocks.specs.Steps.Extension.{IsExtensible, lengthened, more_block}
 use Rattle.rlsf_blocks.proofs.Words.Apart.{Has}
 
 module _ {fllen sllen : ℕ} {memory : Range} {s : State} (w : IsWellFormed fllen sllen memory s) (c : Range) (len : ℕ) (is : IsExtensible fllen memory s c len) where

@@ -3,8 +3,8 @@ use Rattle.std.specs.Int.NonZero.{non_zero_usize_get}
 use Rattle.std.specs.Option.{option_map}
 use Rattle.rlsf_base.specs.Space.{range_of}
 use Rattle.rlsf_machine.specs.Insert.{grown}
-use Rattle.rlsf_resize.proofs.LongerChunks.Appended.{Appends-grown, Appends-inserted, found_chunk, no_most, or_zero, some_most, touches-cut, touches-grown}
-use Rattle.rlsf_resize.proofs.extend.append.Goals as goal
+use Rattle.rlsf_blocks.proofs.LongerChunks.Appended.{Appends-grown, Appends-inserted, found_chunk, no_most, or_zero, some_most, touches-cut, touches-grown}
+use Rattle.rlsf_blocks.proofs.extend.append_chunks.Goals as goal
 
 pub returns-in-Some-clause-step : goal.returns-in-Some-clause-step
 returns-in-Some-clause-step g c = λ s v next.
@@ -13,8 +13,8 @@ returns-in-Some-clause-step g c = λ s v next.
     let is = c.is_some.ensures in
     let true = c.if-is_some.true in
     let limited = some_most fllen (cc) in
-    let (t, step, stands, spare) = c.insert.ensures.step s v next.fresh in
-    (t, Appends-inserted fllen (2 ^ (5 + fllen)) s c.args.range (option_map non_zero_usize_get c.insert.result) c.get.result t limited (c.get.ensures.value ∙ sym (ap (λ o. or_zero (option_map non_zero_usize_get o)) c.in-Some.is)) step, stands, spare)
+    let (t, step, stands, spare) = c.insert_chunks.ensures.step s v next.fresh in
+    (t, Appends-inserted fllen (2 ^ (5 + fllen)) s c.args.range (option_map non_zero_usize_get c.insert_chunks.result) c.get.result t limited (c.get.ensures.value ∙ sym (ap (λ o. or_zero (option_map non_zero_usize_get o)) c.in-Some.is)) step, stands, spare)
 
 pub returns-in-None-clause-step : goal.returns-in-None-clause-step
 returns-in-None-clause-step g c = λ s v next.
@@ -23,8 +23,8 @@ returns-in-None-clause-step g c = λ s v next.
     let is = c.is_some.ensures in
     let true = c.if-is_some.true in
     let limited = some_most fllen (cc) in
-    let (t, step, stands, spare) = c.insert.ensures.step s v next.fresh in
-    (t, Appends-inserted fllen (2 ^ (5 + fllen)) s c.args.range (option_map non_zero_usize_get c.insert.result) 0 t limited (sym (ap (λ o. or_zero (option_map non_zero_usize_get o)) c.in-None.is)) step, stands, spare)
+    let (t, step, stands, spare) = c.insert_chunks.ensures.step s v next.fresh in
+    (t, Appends-inserted fllen (2 ^ (5 + fllen)) s c.args.range (option_map non_zero_usize_get c.insert_chunks.result) 0 t limited (sym (ap (λ o. or_zero (option_map non_zero_usize_get o)) c.in-None.is)) step, stands, spare)
 
 pub extend_chunk-requires : goal.extend_chunk-requires
 extend_chunk-requires g c =
@@ -53,14 +53,14 @@ returns-in-Some-clause-touches g c =
     let most = c.max_pool_size.ensures in
     let is = c.is_some.ensures in
     let true = c.if-is_some.true in
-    touches-cut g.row.FLLEN c.args.range c.args.memory.now.touches c.insert.new.memory.touches (cc) c.insert.ensures.touches
+    touches-cut g.row.FLLEN c.args.range c.args.memory.now.touches c.insert_chunks.new.memory.touches (cc) c.insert_chunks.ensures.touches
 
 pub returns-in-None-clause-touches : goal.returns-in-None-clause-touches
 returns-in-None-clause-touches g c =
     let most = c.max_pool_size.ensures in
     let is = c.is_some.ensures in
     let true = c.if-is_some.true in
-    touches-cut g.row.FLLEN c.args.range c.args.memory.now.touches c.insert.new.memory.touches (cc) c.insert.ensures.touches
+    touches-cut g.row.FLLEN c.args.range c.args.memory.now.touches c.insert_chunks.new.memory.touches (cc) c.insert_chunks.ensures.touches
 
 pub returns-clause-touches : goal.returns-clause-touches
 returns-clause-touches g c =

@@ -8,7 +8,7 @@ use Rattle.rlsf_table.specs.Table.{IsNewestAt, Table, head_at, of_class}
 use Rattle.rlsf_base.specs.Space.{Space}
 use Rattle.rlsf_table.proofs.Tables.Linking.{HasTable-removal, IsFreeList-amid, IsHeadOf-removal, Rewrites-amid_class}
 use Rattle.rlsf_table.proofs.FreeLists.Counted.{HasTable-counted, Rewrites-counted_last}
-use Rattle.rlsf_table.proofs.list.unlink_newest.Goals as goal
+use Rattle.rlsf_table.proofs.list.unlink_newest_block.Goals as goal
 
 -- the list of the class begins with the block
 list_from : {fllen sllen : ℕ} {m : Space} {t : Table} (r : Range) (before after : List Range) {fl sl : ℕ} → IsNewestAt fllen sllen r before fl sl → IsFreeTable fllen sllen m t (before ++ (r ∷ after))
@@ -19,7 +19,7 @@ list_from {fllen} {sllen} {m} {t} r before after {fl} {sl} newest list =
 pub unlink_front-next-requires-clause-front : goal.unlink_front-next-requires-clause-front
 unlink_front-next-requires-clause-front g c =
     let (r, before, after, place, newest, list) = c.requires.newest in
-    (r, of_class g.row.SLLEN c.args.class.0 c.args.class.1 after, head_at c.args.table.now c.args.class.0 c.args.class.1, place, list_from r before after newest list)
+    (r, of_class g.row.SLLEN c.args.class.fl c.args.class.sl after, head_at c.args.table.now c.args.class.fl c.args.class.sl, place, list_from r before after newest list)
 
 pub take-requires : goal.take-requires
 take-requires g c =
@@ -31,8 +31,8 @@ returns-clause-step g c r before after place newest list =
     let sllen = g.row.SLLEN in
     let n = c.unlink_front-next.new.memory in
     let o = c.take.new.memory in
-    let fl = c.args.class.0 in
-    let sl = c.args.class.1 in
+    let fl = c.args.class.fl in
+    let sl = c.args.class.sl in
     let next = c.unlink_front-next.result in
     let (joined, rewritten) = c.unlink_front-next.ensures.step (head_at c.args.table.now fl sl) r (of_class sllen fl sl after) place (list_from r before after newest list) in
     let linked : Links n 0 (of_class sllen fl sl before ++ of_class sllen fl sl after) next = subst (λ l. Links n 0 (l ++ of_class sllen fl sl after) next) (sym newest.first) joined in

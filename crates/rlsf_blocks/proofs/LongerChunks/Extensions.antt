@@ -15,12 +15,12 @@ use Rattle.rlsf_machine.proofs.Coverage.{covers-inside, coverage-IsIn, IsIn-with
 use Rattle.rlsf_blocks.specs.InBand.{sentinel_of}
 use Rattle.rlsf_blocks.specs.Spare.{IsSpare, KeepsSpare}
 use Rattle.rlsf_blocks.specs.StandsFor.{contents, StandsFor}
-use Rattle.rlsf_resize.specs.Steps.Extension.{IsExtensible, lengthened, more_block}
+use Rattle.rlsf_blocks.specs.Steps.Extension.{IsExtensible, lengthened, more_block}
 use Rattle.rlsf_table.specs.FreeList.{Rewrites}
 use Rattle.rlsf_blocks.specs.Steps.Touched.{Touched, in_hole}
 use Rattle.rlsf_table.specs.Table.{Table}
 use Rattle.rlsf_blocks.proofs.Allocate.Placements.{length-bytes_in}
-use Rattle.rlsf_resize.proofs.LongerChunks.Lengthened.{is_chunk, IsWellFormed-lengthened, released-lengthened}
+use Rattle.rlsf_blocks.proofs.LongerChunks.Lengthened.{is_chunk, IsWellFormed-lengthened, released-lengthened}
 use Rattle.rlsf_table.proofs.Tables.FreeTables.{HasTable-Rewrites}
 use Rattle.rlsf_blocks.proofs.Machine.FreeBlocks.{CanBeBlock-free}
 use Rattle.rlsf_table.proofs.Words.Writes.{Rewrites-trans, Rewrites-weaken, Rewrites-word}

@@ -11,7 +11,7 @@ use Rattle.rlsf_machine.specs.Join.{ends_at}
 use Rattle.rlsf_machine.specs.State.{State}
 use Rattle.rlsf_machine.proofs.Coverage.{find-none, find-some}
 use Rattle.rlsf_machine.proofs.Cuts.{max_pool-cases}
-use Rattle.rlsf_resize.specs.Steps.Extension.{IsExtensible}
+use Rattle.rlsf_blocks.specs.Steps.Extension.{IsExtensible}
 
 -- ---- whether chunks have a greatest length
 

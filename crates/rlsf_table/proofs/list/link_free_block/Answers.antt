@@ -4,7 +4,7 @@ use Rattle.rlsf_table.specs.Table.{of_class}
 use Rattle.rlsf_table.proofs.Tables.Linking.{coverage-front_class, HasTable-front, IsFreeList-of_class_from, Rewrites-front_class}
 use Rattle.rlsf_table.proofs.FreeLists.Counted.{HasTable-counted, IsRoom-counted, Rewrites-counted_first, Rewrites-counted_last}
 use Rattle.rlsf_table.proofs.FreeLists.Indices.{IsClassAt-told, room}
-use Rattle.rlsf_table.proofs.list.link.Goals as goal
+use Rattle.rlsf_table.proofs.list.link_free_block.Goals as goal
 
 pub class_of-fl-requires-clause-size : goal.class_of-fl-requires-clause-size
 class_of-fl-requires-clause-size g c =

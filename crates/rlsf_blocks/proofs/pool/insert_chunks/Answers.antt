@@ -9,8 +9,8 @@ use Rattle.rlsf_base.proofs.Numbers.Roundings.{round32-le}
 use Rattle.rlsf_blocks.specs.Steps.Pool.{IsAdded, IsNewChunk}
 use Rattle.rlsf_blocks.proofs.Words.NonZeroNumbers.{number, on_none}
 use Rattle.rlsf_blocks.proofs.Chunks.Pools.{IsFilled, IsFilled-end, IsFilled-init, IsFilled-next, IsNewChunk-next, nothing_inserted}
-use Rattle.rlsf_blocks.proofs.pool.insert.Goals as goal
-use Rattle.rlsf_blocks.proofs.pool.insert.Goals.{then-start-first, else-start-first}
+use Rattle.rlsf_blocks.proofs.pool.insert_chunks.Goals as goal
+use Rattle.rlsf_blocks.proofs.pool.insert_chunks.Goals.{then-start-first, else-start-first}
 
 pub returns-in_default-clause-step : goal.returns-in_default-clause-step
 returns-in_default-clause-step g c = λ s v fresh.

@@ -1,7 +1,7 @@
 use Rattle.std_collections.proofs.IterRuns.{gives_in_order}
 use Rattle.rlsf_blocks.specs.Blocks.{walked}
 use Rattle.rlsf_blocks.proofs.Walking.Rows.{AreBlocks-span, IsAtBlock-span}
-use Rattle.rlsf_blocks.proofs.walks.walk.Goals as goal
+use Rattle.rlsf_blocks.proofs.walks.walk_blocks.Goals as goal
 
 pub invariant_of-result : goal.invariant_of-result
 invariant_of-result c =

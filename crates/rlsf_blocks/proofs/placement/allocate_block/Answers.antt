@@ -1,0 +1,83 @@
+-- What the search finds is the choice for the layout, and gives its front to the payload.
+use Rattle.std.proofs.Common.{◌≡◌, Option, Some, None, arith, refl, sym, ◌∙◌, ap, subst, rules}
+use Rattle.rlsf_base.specs.declared.memory.range.Range.{Range}
+use Rattle.rlsf_base.specs.Sizes.{request_size}
+use Rattle.rlsf_base.specs.Space.{word_at}
+use Rattle.rlsf_machine.specs.Allocate.{Allocates, choice, Places}
+use Rattle.rlsf_machine.specs.State.{State}
+use Rattle.rlsf_machine.proofs.Choices.{choice-some}
+use Rattle.rlsf_table.specs.Table.{IsClassAt}
+use Rattle.rlsf_table.proofs.FreeLists.Counted.{word_at-counted}
+use Rattle.rlsf_blocks.specs.StandsFor.{contents, StandsFor}
+use Rattle.rlsf_blocks.proofs.Counting.{SamePlace-counted, SamePlace-counted_first, copied-counted_first, grow-counted_first, touches-counted, touches-counted_first}
+use Rattle.rlsf_blocks.proofs.Machine.Counted.{KeepsSpare-counted, KeepsSpare-counted_first, StandsFor-counted}
+use Rattle.rlsf_blocks.proofs.Machine.FreeBlocks.{IsFreeTable-free}
+use Rattle.rlsf_blocks.proofs.Refused.{none_none}
+use Rattle.rlsf_blocks.proofs.placement.allocate_block.Given as given
+use Rattle.rlsf_blocks.proofs.placement.allocate_block.Goals as goal
+use Rattle.rlsf_blocks.proofs.placement.allocate_block.Goals.{After-first_fit}
+
+-- what is computed for the layout is what is sought
+sought : (g : given.Over) (c : After-first_fit g) (s : State) {o : Option Range} → choice g.row.SLLEN c.request_size.result s.free ≡ o → choice g.row.SLLEN (request_size c.args.layout.size c.args.layout.align) s.free ≡ o
+sought g c s {o} = subst (λ n. choice g.row.SLLEN n s.free ≡ o) c.request_size.ensures.value
+
+-- the memory in which the search was counted stands for the same states
+searched : (g : given.Over) (c : After-first_fit g) {s : State} → StandsFor g.row.FLLEN g.row.SLLEN (contents c.args.memory.now c.args.table.now) s
+    → StandsFor g.row.FLLEN g.row.SLLEN (contents c.first_fit.new.memory c.args.table.now) s
+searched g c v = StandsFor-counted c.args.memory.now c.first_fit.new.memory c.first_fit.ensures.counts.start c.first_fit.ensures.counts.bytes v
+
+pub first_fit-requires : goal.first_fit-requires
+first_fit-requires g c =
+    let (s, v) = c.requires.stands in
+    (omega arith, (c.requires.parameters, (c.request_size.ensures.size, (s.free, IsFreeTable-free v))))
+
+pub returns-in_err-found-clause-step : goal.returns-in_err-found-clause-step
+returns-in_err-found-clause-step g c = λ s v.
+    let at = (goal.at.returns-in_err-found-clause-step g c).After-first_fit in
+    let counts = c.first_fit.ensures.counts in
+    let none = sought g at s (c.in_err-found.ensures.choice s.free (IsFreeTable-free v)) in (
+      s,
+      subst (λ o. Allocates g.row.SLLEN s c.args.layout.size c.args.layout.align o s) (sym c.from_residual.ensures) (none, refl),
+      searched g at v,
+      KeepsSpare-counted c.args.memory.now c.first_fit.new.memory counts.start counts.bytes s s,
+    )
+
+pub returns-in_err-found-clause-unchanged : goal.returns-in_err-found-clause-unchanged
+returns-in_err-found-clause-unchanged g c = none_none c.from_residual.result (c.first_fit.ensures.counts, refl)
+
+pub returns-in_err-found-clause-place : goal.returns-in_err-found-clause-place
+returns-in_err-found-clause-place g c = SamePlace-counted c.args.memory.now c.first_fit.new.memory 4 c.first_fit.ensures.counts
+
+pub returns-in_err-found-clause-touches : goal.returns-in_err-found-clause-touches
+returns-in_err-found-clause-touches g c = touches-counted c.args.memory.now c.first_fit.new.memory 4 c.first_fit.ensures.counts 23
+
+pub place-requires : goal.place-requires
+place-requires g c =
+    let (s, v) = c.requires.stands in
+    let at = (goal.at.place-requires g c).After-first_fit in
+    let (f, chosen, start, class) = c.in_ok-found.ensures.choice s.free (IsFreeTable-free v) in
+    let counts = c.first_fit.ensures.counts in
+    let own = (choice-some g.row.SLLEN c.request_size.result s.free f chosen).is_in in
+    let size = word_at-counted c.args.memory.now c.first_fit.new.memory counts.start counts.bytes c.in_ok-found.found.start ∙ ap (word_at c.args.memory.now) (sym start) ∙ (IsFreeTable-free v).sizes f own in
+    let at_class = subst (λ n. IsClassAt g.row.FLLEN g.row.SLLEN n c.in_ok-found.found.class.fl c.in_ok-found.found.class.sl) (sym size) class in
+    (search rules, (c.requires.parameters, (at_class, ((s, f, searched g at v, sought g at s chosen, start), search rules))))
+
+pub returns-clause-step : goal.returns-clause-step
+returns-clause-step g c = λ s v.
+    let at = (goal.at.returns-clause-step g c).After-first_fit in
+    let counts = c.first_fit.ensures.counts in
+    let (f, chosen, start, _) = c.in_ok-found.ensures.choice s.free (IsFreeTable-free v) in
+    let (t, places, now, spare) = c.place.ensures.step s f (searched g at v) (sought g at s chosen) start in
+    (t, places, now, KeepsSpare-counted_first c.args.memory.now c.first_fit.new.memory counts.start counts.bytes s t c.place.new.memory spare)
+
+pub returns-clause-place : goal.returns-clause-place
+returns-clause-place g c = SamePlace-counted_first c.args.memory.now c.first_fit.new.memory 4 c.first_fit.ensures.counts c.place.new.memory c.place.ensures.place
+
+pub returns-clause-touches : goal.returns-clause-touches
+returns-clause-touches g c = touches-counted_first c.args.memory.now c.first_fit.new.memory 4 c.first_fit.ensures.counts c.place.new.memory 23 c.place.ensures.touches
+
+pub returns-clause-grow : goal.returns-clause-grow
+returns-clause-grow g c = grow-counted_first c.args.memory.now c.first_fit.new.memory 4 c.first_fit.ensures.counts c.place.new.memory c.place.ensures.grow
+
+pub returns-clause-copied : goal.returns-clause-copied
+returns-clause-copied g c = copied-counted_first c.args.memory.now c.first_fit.new.memory 4 c.first_fit.ensures.counts c.place.new.memory c.place.ensures.copied
