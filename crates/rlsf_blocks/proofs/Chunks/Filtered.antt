@@ -1,5 +1,5 @@
 -- Lists of ranges without those that lie in a range.
-use Rattle.std.proofs.Common.{◌≡◌, ℕ, ◌+◌, ◌-◌, ◌<◌, ◌≤◌, ◌||◌, Bool, true, false, true≢false, not, cond, filter, List, [], ◌∷◌, ◌++◌, Some, find, length, arith, inl, inr, refl, sym, ◌∙◌, ap}
+use Rattle.std.proofs.Common.{◌≡◌, ℕ, ◌+◌, ◌<◌, ◌≤◌, ◌||◌, Bool, true, false, true≢false, not, cond, List, [], ◌∷◌, ◌++◌, Some, find, length, arith, inl, inr, refl, sym, ◌∙◌, ap}
 use Rattle.std.proofs.lemmas.Bool.{cases_lt, false_from_ne_true, or_from}
 use Rattle.std.proofs.lemmas.List.Elements.{filter-append}
 use Rattle.rlsf_base.specs.declared.memory.range.Range.{Range}

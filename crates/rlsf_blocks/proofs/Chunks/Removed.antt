@@ -1,32 +1,30 @@
 -- A chunk without a used block is taken out: its one free block leaves its list.
-use Rattle.std.proofs.Common.{◌≡◌, ℕ, ◌+◌, ◌-◌, ◌%◌, ◌<◌, ◌≤◌, true, false, true≢false, List, ◌∷◌, ◌++◌, Some, find, length, arith, inl, inr, refl, sym, ◌∙◌, ap, subst}
+use Rattle.std.proofs.Common.{◌≡◌, ℕ, ◌+◌, ◌%◌, true, false, true≢false, List, ◌∷◌, ◌++◌, Some, find, arith, inl, inr, refl, sym, ◌∙◌, ap, subst}
 use mathlib.Core.Path.{ap₂}
 use Rattle.std.proofs.lemmas.Bool.{cases_eq, cases_lt, false_from_ne_true}
 use Rattle.rlsf_base.specs.declared.memory.range.Range.{Range}
 use Rattle.rlsf_base.specs.Range.{end_of}
 use Rattle.rlsf_base.specs.Space.{Space, range_of, word_at}
 use Rattle.rlsf_table.specs.FreeList.{IsLink}
-use Rattle.rlsf_table.specs.FreeTable.{IsFreeTable}
 use Rattle.rlsf_table.specs.Table.{Table, HasTable}
 use Rattle.rlsf_table.proofs.FreeLists.Found.{find-start}
 use Rattle.rlsf_table.proofs.Words.Writes.{Rewrites-weaken}
 use Rattle.rlsf_blocks.specs.Spare.{KeepsSpare}
 use Rattle.rlsf_blocks.specs.StandsFor.{contents, StandsFor}
-use Rattle.rlsf_blocks.specs.Steps.Join.{FreeBlockBegins, IsMarked, IsNextOut}
-use Rattle.rlsf_blocks.specs.Steps.Touched.{Touched, at_link}
+use Rattle.rlsf_blocks.specs.Steps.Join.{IsMarked, IsNextOut}
+use Rattle.rlsf_blocks.specs.Steps.Touched.{at_link}
 use Rattle.rlsf_machine.specs.Insert.{body}
 use Rattle.rlsf_machine.specs.Join.{starts_at, end_or}
 use Rattle.rlsf_machine.specs.Lists.{IsIn, without}
 use Rattle.rlsf_machine.specs.Remove.{lies_within, outside_of, removed, IsIdle, IsRemovable, IsWithinOrOff}
 use Rattle.rlsf_machine.specs.State.{State}
-use Rattle.rlsf_machine.specs.WellFormed.{covers, coverage, itself, IsFree, IsWellFormed}
+use Rattle.rlsf_machine.specs.WellFormed.{covers, coverage, itself, IsWellFormed}
 use Rattle.rlsf_machine.proofs.Coverage.{covers-inside, covers-le, covers-some, coverage-append, coverage-IsIn, IsIn-append, IsIn-append_left, IsIn-append_right}
 use Rattle.rlsf_machine.proofs.Removals.{lies_within-le, lies_within-true, IsIn-outside, Removes-keeps}
 use Rattle.rlsf_machine.proofs.Room.{idle_chunk_is_one_range}
 use Rattle.rlsf_machine.proofs.Tiling.{LiesInChunk, free-le, tiling_of}
 use Rattle.rlsf_blocks.proofs.Chunks.Filtered.{outside_of-found}
 use Rattle.rlsf_blocks.proofs.Deallocate.Marks.{free_even}
-use Rattle.rlsf_blocks.proofs.Machine.FreeBlocks.{IsFreeTable-free}
 use Rattle.rlsf_blocks.proofs.Words.Apart.{chunk_chunk, free_free, free_in_memory, used_free}
 use Rattle.rlsf_blocks.proofs.Words.Refilled.{old_used, old_free, IsRefilled, StandsFor-refilled_in, KeepsSpare-refilled}
 

@@ -8,7 +8,7 @@ use Rattle.rlsf_machine.specs.State.{State}
 use Rattle.rlsf_table.specs.Table.{Table}
 use Rattle.rlsf_blocks.specs.Blocks.{Block}
 use Rattle.rlsf_blocks.specs.StandsFor.{contents, StandsFor}
-use Rattle.rlsf_blocks.specs.Steps.Walk.{BlockBegins, block_at}
+use Rattle.rlsf_blocks.specs.Steps.Walk.{BlockBegins}
 use Rattle.rlsf_blocks.proofs.Walking.Begins.{BehindBlock, block_behind, end_behind, begins_at_chunk, behind_block, lies_in_same_chunk}
 use Rattle.rlsf_blocks.proofs.Walking.Blocks.{IsWhole-block, block-some}
 use Rattle.rlsf_blocks.proofs.Walking.Sizes.{block_at-block, block_word}

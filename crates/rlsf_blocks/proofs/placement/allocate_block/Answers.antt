@@ -1,9 +1,9 @@
 -- What the search finds is the choice for the layout, and gives its front to the payload.
-use Rattle.std.proofs.Common.{◌≡◌, Option, Some, None, arith, refl, sym, ◌∙◌, ap, subst, rules}
+use Rattle.std.proofs.Common.{◌≡◌, Option, arith, refl, sym, ◌∙◌, ap, subst, rules}
 use Rattle.rlsf_base.specs.declared.memory.range.Range.{Range}
 use Rattle.rlsf_base.specs.Sizes.{request_size}
 use Rattle.rlsf_base.specs.Space.{word_at}
-use Rattle.rlsf_machine.specs.Allocate.{Allocates, choice, Places}
+use Rattle.rlsf_machine.specs.Allocate.{Allocates, choice}
 use Rattle.rlsf_machine.specs.State.{State}
 use Rattle.rlsf_machine.proofs.Choices.{choice-some}
 use Rattle.rlsf_table.specs.Table.{IsClassAt}

@@ -1,10 +1,10 @@
-use Rattle.std.proofs.Common.{◌≡◌, ◌+◌, ◌-◌, ◌*◌, ◌<◌, ◌≤◌, ℕ, length, arith, rules, sym, ap, subst}
+use Rattle.std.proofs.Common.{◌≡◌, ◌<◌, length, arith, rules, ap, subst}
 use Rattle.rlsf_base.specs.Range.{end_of}
 use Rattle.rlsf_blocks.specs.Blocks.{walked}
 use Rattle.rlsf_blocks.specs.StandsFor.{contents, StandsFor}
 use Rattle.rlsf_machine.specs.Remove.{removed, outside_of}
 use Rattle.rlsf_machine.specs.State.{State, between}
-use Rattle.rlsf_blocks.proofs.Chunks.RemovedRows.{chunk, IsIdle-span, IsIdleChunk-next, IsRemovedTo-end, IsRemovedTo-next, IsRemovedTo-start, IsRow-span, removed-span}
+use Rattle.rlsf_blocks.proofs.Chunks.RemovedRows.{chunk, IsIdle-span, IsIdleChunk-next, IsRemovedTo-next, IsRemovedTo-start, IsRow-span, removed-span}
 use Rattle.rlsf_blocks.proofs.removal.remove_chunks.Goals as goal
 
 pub loop-start-init : goal.loop-start-init

@@ -1,4 +1,4 @@
-use Rattle.std.proofs.Common.{arith, sym}
+use Rattle.std.proofs.Common.{arith}
 use Rattle.rlsf_blocks.proofs.Walking.ChunkEnds.{IsInChunk-next, IsInChunk-start, IsWord-chunk, end_there}
 use Rattle.rlsf_blocks.proofs.walks.chunk_end.Goals as goal
 

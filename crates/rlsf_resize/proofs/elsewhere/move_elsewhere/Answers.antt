@@ -5,18 +5,13 @@ use Rattle.rlsf_base.specs.Range.{range_at, LiesIn}
 use Rattle.rlsf_base.specs.Sizes.{request_size}
 use Rattle.rlsf_base.specs.Space.{SamePlace, Space}
 use Rattle.rlsf_machine.specs.Allocate.{choice, Places}
-use Rattle.rlsf_machine.proofs.Choices.{choice-some}
 use Rattle.rlsf_machine.specs.Release.{released}
 use Rattle.rlsf_machine.specs.State.{State, Used, between, usable}
 use Rattle.rlsf_blocks.specs.Spare.{KeepsSpare}
 use Rattle.rlsf_blocks.specs.StandsFor.{contents, StandsFor}
-use Rattle.rlsf_table.specs.FreeTable.{IsFreeTable}
-use Rattle.rlsf_table.specs.Table.{IsClassAt}
 use Rattle.rlsf_resize.specs.Steps.Resize.{IsUsedAt}
 use Rattle.rlsf_blocks.proofs.Deallocate.Releases.{end_computed, word_computed}
-use Rattle.rlsf_table.proofs.FreeLists.Counted.{IsFreeTable-counted, word_at-counted}
 use Rattle.rlsf_blocks.proofs.Machine.Counted.{KeepsSpare-counted_first, StandsFor-counted}
-use Rattle.rlsf_blocks.proofs.Machine.FreeBlocks.{IsFreeTable-free}
 use Rattle.rlsf_resize.proofs.Reallocate.Elsewhere.{both, copied_stands, KeepsSpare-copied, LiesIn-new, LiesIn-old, MovesAway-copied}
 use Rattle.rlsf_blocks.proofs.Words.Apart.{used_in_memory}
 use Rattle.rlsf_table.specs.Counts.{Counts}

@@ -1,4 +1,4 @@
-use Rattle.std.proofs.Common.{◌≡◌, ◌≢◌, ◌+◌, ◌-◌, ◌%◌, ◌<◌, ◌≤◌, arith, rules, sym, ◌∙◌, subst, ℕ, refl, true≢false}
+use Rattle.std.proofs.Common.{◌≡◌, ◌≢◌, ◌+◌, ◌%◌, ◌<◌, ◌≤◌, arith, rules, sym, ◌∙◌, subst, ℕ, refl, true≢false}
 use mathlib.Core.Path.{ap₂}
 use Rattle.rlsf_base.specs.Range.{end_of, range_at}
 use Rattle.rlsf_machine.specs.Reallocate.{resized}
