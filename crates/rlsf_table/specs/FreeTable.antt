@@ -1,12 +1,13 @@
 -- The free blocks by classes, as their words and the class table have them.
 use Rattle.std.specs.Prelude.{◌≡◌, ℕ, ◌+◌, ◌^◌, ◌<◌, ◌≤◌, List, ◌∷◌, ◌++◌, length, Option, None, Some, MatchOption}
 use Rattle.rlsf_base.specs.declared.memory.range.Range.{Range}
-use Rattle.rlsf_base.specs.SizeClass.{class_of}
+use Rattle.rlsf_base.specs.SizeClass.{IsAtMost, class_of}
 use Rattle.rlsf_base.specs.Space.{Space, word_at}
 use Rattle.rlsf_machine.specs.Allocate.{choice}
 use Rattle.rlsf_machine.specs.Lists.{IsIn}
 use Rattle.rlsf_machine.specs.WellFormed.{coverage, itself, IsFree}
 use Rattle.rlsf_table.specs.declared.fit.FoundBlock.{FoundBlock}
+use Rattle.rlsf_table.specs.declared.table.ClassIndex.{ClassIndex}
 use Rattle.rlsf_table.specs.FreeList.{IsLink, CanBeBlock, Rewrites}
 use Rattle.rlsf_table.specs.Table.{Table, HasBits, HasTable, IsClassAt, IsHeadOf, IsNewestAt, class_at}
 
@@ -56,3 +57,12 @@ HasBitsWithout fllen sllen t u fl sl head = (r : Range) (before after : List Ran
 abbrev pub IsFirstFit : ℕ → ℕ → ℕ → List Range → Option FoundBlock → Type 0
 IsFirstFit fllen sllen size free answer = MatchOption answer (choice sllen size free ≡ None)
     (λ found. (f : Range) × (choice sllen size free ≡ Some f) × (f.start ≡ found.start) × IsClassAt fllen sllen f.len found.class.fl found.class.sl)
+
+-- the least class from two indices on that some of the ranges have, or none if they have no class from there on
+abbrev pub IsLeastFrom : ℕ → ℕ → ℕ → ℕ → List Range → Option ClassIndex → Type 0
+IsLeastFrom fllen sllen fl sl free None = (f : Range) → IsIn f free → ¬ IsAtMost (class_at fl sl) (class_of sllen f.len)
+IsLeastFrom fllen sllen fl sl free (Some at) =
+    (at.fl < fllen) × (at.sl < sllen)
+    × IsAtMost (class_at fl sl) (class_at at.fl at.sl)
+    × ((f : Range) × IsIn f free × (class_of sllen f.len ≡ class_at at.fl at.sl))
+    × ((f : Range) → IsIn f free → IsAtMost (class_at fl sl) (class_of sllen f.len) → IsAtMost (class_at at.fl at.sl) (class_of sllen f.len))

@@ -3,13 +3,12 @@
 use Rattle.std.specs.Prelude.{◌≡◌, ◌↔◌, ℕ, ◌+◌, ◌<◌, Bool, List, [], ◌∷◌, Option, None, Some, length, filter, slice_index, slice_index_or, ◌==◌}
 use Rattle.std.specs.List.{list_any}
 use Rattle.rlsf_base.specs.declared.memory.range.Range.{Range}
-use Rattle.rlsf_base.specs.SizeClass.{SizeClass, class_of, IsAtMost}
+use Rattle.rlsf_base.specs.SizeClass.{SizeClass, class_of}
 use Rattle.rlsf_base.specs.Space.{Space}
 use Rattle.rlsf_int.specs.Bits.{bit}
 use Rattle.rlsf_machine.specs.Allocate.{has_class}
 use Rattle.rlsf_machine.specs.Lists.{IsIn}
 use Rattle.rlsf_table.specs.FreeList.{Links}
-use Rattle.rlsf_table.specs.declared.table.ClassIndex.{ClassIndex}
 
 -- the table as contracts see it: the first-level bitmap, the second-level bitmap of each row, and the heads of each row's lists
 pub record Table : Type 0 where
@@ -80,12 +79,3 @@ pub record IsHeadSet (fllen sllen : ℕ) (t u : Table) (fl sl head : ℕ) : Type
 -- the head answers whether ranges of a class are left: it is 0 exactly if none is
 abbrev pub IsHeadOf : ℕ → ℕ → ℕ → ℕ → List Range → Type 0
 IsHeadOf sllen fl sl head free = (head ≡ 0) ↔ (of_class sllen fl sl free ≡ [])
-
--- the least class from two indices on that some of the ranges have, or none if they have no class from there on
-abbrev pub IsLeastFrom : ℕ → ℕ → ℕ → ℕ → List Range → Option ClassIndex → Type 0
-IsLeastFrom fllen sllen fl sl free None = (f : Range) → IsIn f free → ¬ IsAtMost (class_at fl sl) (class_of sllen f.len)
-IsLeastFrom fllen sllen fl sl free (Some at) =
-    (at.fl < fllen) × (at.sl < sllen)
-    × IsAtMost (class_at fl sl) (class_at at.fl at.sl)
-    × ((f : Range) × IsIn f free × (class_of sllen f.len ≡ class_at at.fl at.sl))
-    × ((f : Range) → IsIn f free → IsAtMost (class_at fl sl) (class_of sllen f.len) → IsAtMost (class_at at.fl at.sl) (class_of sllen f.len))

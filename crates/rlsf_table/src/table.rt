@@ -8,8 +8,8 @@ ghost use Rattle.rlsf_int.specs.Bits.{bit};
 ghost use Rattle.rlsf_machine.specs.Lists.{IsIn};
 ghost use Rattle.rlsf_machine.specs.WellFormed.{IsFree};
 ghost use Rattle.rlsf_table.specs.Counts.{Counts};
-ghost use Rattle.rlsf_table.specs.FreeTable.{HasBitsWithout};
-ghost use Rattle.rlsf_table.specs.Table.{IsHeadSet, IsLeastFrom, class_at, head_at, HasBits, HasTable};
+ghost use Rattle.rlsf_table.specs.FreeTable.{HasBitsWithout, IsLeastFrom};
+ghost use Rattle.rlsf_table.specs.Table.{IsHeadSet, class_at, head_at, HasBits, HasTable};
 
 use crate::rows::Rows;
 use rlsf_base::memory::Memory;

@@ -17,7 +17,8 @@ use Rattle.rlsf_machine.proofs.Choices.{choice-from, choice-from_none, has_class
 use Rattle.rlsf_machine.proofs.Coverage.{find-some}
 use Rattle.rlsf_table.specs.declared.table.ClassIndex.{ClassIndex}
 use Rattle.rlsf_table.specs.FreeList.{Links}
-use Rattle.rlsf_table.specs.Table.{Table, class_at, head_at, of_class, HasLists, IsLeastFrom}
+use Rattle.rlsf_table.specs.FreeTable.{IsLeastFrom}
+use Rattle.rlsf_table.specs.Table.{Table, class_at, head_at, of_class, HasLists}
 use Rattle.rlsf_table.proofs.Tables.Tests.{list_any-true, list_any-filtered, find-filtered}
 
 -- ---- the first class that reaches a size, by its indices

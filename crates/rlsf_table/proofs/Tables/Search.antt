@@ -11,7 +11,8 @@ use Rattle.rlsf_machine.specs.Allocate.{has_class}
 use Rattle.rlsf_machine.specs.Lists.{IsIn}
 use Rattle.rlsf_machine.specs.WellFormed.{IsFree}
 use Rattle.rlsf_machine.proofs.Choices.{has_class-from, has_class-true}
-use Rattle.rlsf_table.specs.Table.{Table, class_at, is_in_row, HasBits, IsLeastFrom}
+use Rattle.rlsf_table.specs.FreeTable.{IsLeastFrom}
+use Rattle.rlsf_table.specs.Table.{Table, class_at, is_in_row, HasBits}
 use Rattle.rlsf_table.specs.Steps.Places.{scanned_places}
 use Rattle.rlsf_table.proofs.Tables.Tests.{list_any-true, list_any-some}
 

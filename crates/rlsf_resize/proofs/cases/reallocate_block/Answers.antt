@@ -46,7 +46,7 @@ move_elsewhere-requires g c =
     let none = in_place-none s u c.args.layout.size first in
     let same_still = c.in_default.ensures.unchanged in
     let v2 = StandsFor-unchanged c.resize_block.new.memory c.move_into_previous.new.memory c.resize_block.new.table c.move_into_previous.new.table s 4 same_still v1 in
-    (search rules, (c.requires.parameters, ((s, u, v2, is, none), search rules)))
+    (search rules, (c.requires.parameters, (search rules, (s, u, v2, is, none))))
 
 pub returns-clause-step : goal.returns-clause-step
 returns-clause-step g c = λ s u v is.
