@@ -39,9 +39,10 @@ pub enum MemoryError {
 /// for contracts alone, how often words were touched and how many bytes were copied. It is as large as a `Vec<u8>`.
 pub struct Memory {
     base: Base,
-    // The address of the first byte, negated: so a view's shift is a sum to LLVM, which adds it to the base but once.
-    negated: usize,
-    len: usize,
+    // What is added to an address to get its place in the block: the multiple of 8 below the first byte's address, negated.
+    shift: usize,
+    // Eight times the length, and the place of the first byte in the block, which is below 8.
+    len_and_skip: usize,
     bytes: Bytes,
     counters: Counters,
     // Out of reach of every call here but `new`, which makes it, and `drop`, which uses it up.
@@ -57,9 +58,9 @@ impl Model for Memory {
 
     ghost use Rattle.rlsf_base.specs.Steps.Block.{IsMemory, start_of, view_of};
 
-    ghost view = { λ m. record { start = start_of m.negated; bytes = m.bytes.bytes; touches = m.counters.touches; copied = m.counters.copied; view = view_of m.base (start_of m.negated) } };
+    ghost view = { λ m. record { start = start_of m.shift m.len_and_skip; bytes = m.bytes.bytes; touches = m.counters.touches; copied = m.counters.copied; view = view_of m.base m.shift } };
 
-    ghost invariant = { λ m. IsMemory m.base (start_of m.negated) m.len m.bytes m.supplier };
+    ghost invariant = { λ m. IsMemory m.base m.shift m.len_and_skip m.bytes m.supplier };
 }
 
 impl Drop for Memory {
@@ -68,13 +69,13 @@ impl Drop for Memory {
     fn drop(self) {
         let Memory {
             base,
-            negated,
-            len,
+            shift: _,
+            len_and_skip,
             bytes,
             counters: _,
             supplier,
         } = self;
-        supplier.give_back(base, negated.wrapping_neg() % 8, len, bytes);
+        supplier.give_back(base, len_and_skip % 8, len_and_skip / 8, bytes);
     }
 }
 
@@ -102,8 +103,8 @@ impl Memory {
         match take_zeroed(alloc, start % 8, len) {
             Some((base, bytes, supplier)) => Ok(Memory {
                 base,
-                negated: start.wrapping_neg(),
-                len,
+                shift: (start - start % 8).wrapping_neg(),
+                len_and_skip: len * 8 + start % 8,
                 bytes,
                 counters: Counters::new(),
                 supplier,
@@ -117,7 +118,7 @@ impl Memory {
         ensures value { result ≡ self.now.start }
         ensures bounds { (0 < self.now.start) × (self.now.start + length self.now.bytes < 2 ^ 64) }
     {
-        self.negated.wrapping_neg()
+        self.shift.wrapping_neg() + self.len_and_skip % 8
     }
 
     /// The number of bytes.
@@ -125,14 +126,14 @@ impl Memory {
         ensures value { result ≡ length self.now.bytes }
         ensures bounds { (0 < self.now.start) × (self.now.start + length self.now.bytes < 2 ^ 64) }
     {
-        self.len
+        self.len_and_skip / 8
     }
 
     /// A view of the memory. It stays one, whatever is written there.
     pub fn view(&self) -> View
         ensures { result ≡ self.now.view }
     {
-        View::new(self.base, self.negated)
+        View::new(self.base, self.shift)
     }
 
     /// The bytes of `range`, which lies in the memory.
@@ -289,8 +290,9 @@ impl Memory {
         ensures view { self.new.view ≡ self.old.view }
     {
         let start = self.start();
-        let (base, first, from) = (self.base, start % 8, range.start - start);
-        let bytes = self.bytes.slice_mut(base, first, self.len);
+        let (base, first, len) = (self.base, self.len_and_skip % 8, self.len());
+        let bytes = self.bytes.slice_mut(base, first, len);
+        let from = range.start - start;
         bytes.copy_within(from..from + range.len, to - start);
         self.counters.count_copy(range.len);
     }

@@ -1,5 +1,5 @@
 -- Where the ones of a number stand after an operation, at any number.
-use Rattle.std.proofs.Common.{◌≡◌, ℕ, ◌+◌, ◌-◌, ◌/◌, ◌%◌, ◌^◌, ◌<◌, ◌≤◌, true, false, ◌&&◌, ◌||◌, ◌==◌, nat_lt, bit_and, bit_or, refl, sym, ap, ◌∙◌, arith, inl, inr}
+use Rattle.std.proofs.Common.{◌≡◌, ℕ, ◌+◌, ◌-◌, ◌/◌, ◌%◌, ◌^◌, ◌<◌, ◌≤◌, true, false, ◌&&◌, ◌||◌, ◌==◌, nat_le, nat_lt, min, bit_and, bit_or, refl, sym, ap, ◌∙◌, arith, inl, inr}
 use Rattle.std.proofs.lemmas.Bool.{cases_Bool, cases_eq, cases_lt, eq-eqb, lt-ltb, ne_eqb}
 use Rattle.std.proofs.lemmas.Bool.Decides.{nat_tests}
 use Rattle.std.proofs.lemmas.Nat.{shr-shr}
@@ -60,3 +60,8 @@ one_position r n i width within cut = elim (cases_Bool (bit n i)) [
       ]) in
       ap (λ m. m == 1) is ∙ grind (arith, nat_tests)
 ]
+
+-- the positions of a range whose ends are cut to a width
+pub range_truncated : (start end width v w i a b : ℕ) → v ≡ width → w ≡ width → a ≡ min start v → b ≡ min end w
+    → (nat_le a i && nat_lt i b) ≡ (nat_le start i && (nat_lt i end && nat_lt i width))
+range_truncated start end width v w i a b is_v is_w cut_start cut_end = grind (arith, nat_tests)

@@ -15,6 +15,10 @@ module _ (w : Width) where
       let back = of_z-to_z w n fits in
       ap (λ z. cast_unsigned w (cast_signed w (cast_unsigned w z))) is ∙ ap (λ m. cast_unsigned w (cast_signed w m)) back ∙ back
 
+  -- the pattern that is cast from a place of the signed type is its value's
+  pub pattern_is : (z : ℤ) (n : ℕ) → FitsSigned w z → n ≡ cast_unsigned w (cast_signed w (cast_unsigned w z)) → n ≡ cast_unsigned w z
+  pattern_is z n real old = old ∙ ap (cast_unsigned w) (to_z-of_z w z real)
+
   -- `(n | 1 << k).cast_signed()`, where n is the old value's pattern
   pub set_signed : (z : ℤ) (n k : ℕ) (r : ℤ) → FitsSigned w z → n < 2 ^ bits w → k < bits w → n ≡ cast_unsigned w (cast_signed w (cast_unsigned w z)) → r ≡ cast_signed w (bit_or n (1 * 2 ^ k % 2 ^ bits w))
       → (i : ℕ) → bit (cast_unsigned w (cast_signed w (cast_unsigned w r))) i ≡ (bit (cast_unsigned w z) i || ((i == k) && nat_lt k (bits w)))

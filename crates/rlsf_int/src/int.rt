@@ -37,12 +37,14 @@ pub trait Bitmap: BitPattern {
     fn empty() -> Self
         ensures { Self.pattern result ≡ 0 };
 
-    /// Puts a one at the position. Past the last one nothing changes.
+    /// Puts a one at the position, which is below the number of positions.
     fn insert(&mut self, i: u32)
+        requires { i < Self.width }
         ensures { (j : ℕ) → bit (Self.pattern self.new) j ≡ (bit (Self.pattern self.old) j || (nat_eq j i && nat_lt i Self.width)) };
 
-    /// Takes the one at the position away, if there is one. Past the last one nothing changes.
+    /// Takes the one at the position away, if there is one. The position is below the number of positions.
     fn remove(&mut self, i: u32)
+        requires { i < Self.width }
         ensures { (j : ℕ) → bit (Self.pattern self.new) j ≡ (bit (Self.pattern self.old) j && not (nat_eq j i && nat_lt i Self.width)) };
 
     /// The least position of a one that isn't below `start`, or the number of positions where there is none.

@@ -6,7 +6,7 @@ use Rattle.std.proofs.lemmas.Nat.{pow_pos}
 use Rattle.std.proofs.lemmas.Nat.Bits.{and_high_mask}
 use Rattle.rlsf_base.specs.PowerOfTwo.{floor_log2, IsPowerOfTwo}
 use Rattle.rlsf_base.proofs.Layouts.{pow-quotient}
-use Rattle.rlsf_base.proofs.Numbers.PowersOfTwo.{IsPowerOfTwo-positive, pow-between}
+use Rattle.rlsf_base.proofs.Numbers.PowersOfTwo.{pow-between}
 use Rattle.rlsf_base.proofs.Numbers.Roundings.{next_multiple_of-le, next_multiple_of-multiple, next_multiple_of-unique}
 
 module _ (n k : ℕ) (word : k ≤ 63) where

@@ -15,20 +15,18 @@ pub record IsSupplierOf (base : Base) (skip len : ℕ) (supplier : Supplier) : T
   pub none : len ≡ 0 → supplier.deed.at ≡ null_ptr
   pub block : 0 < len → (supplier.deed.at ≡ base.ptr) × (supplier.deed.words ≡ words_for skip len) × (supplier.deed.skip ≡ skip) × (supplier.deed.len ≡ len) × (supplier.deed.alloc ≡ supplier.alloc)
 
--- the address of the first byte, which a memory keeps negated
-abbrev pub start_of : ℕ → ℕ
-start_of negated = 2 ^ 64 - negated
-
--- what is added to an address, with what passes a word cut off, to get its place in the block: the first byte has the place start % 8
-abbrev pub shift_of : ℕ → ℕ
-shift_of start = (2 ^ 64 - (start - start % 8)) % 2 ^ 64
+-- the address of the first byte, of two numbers that a memory keeps: what is added to an address, with what passes a word cut off, to
+-- get its place in the block; and eight times the length, and the place of the first byte
+abbrev pub start_of : ℕ → ℕ → ℕ
+start_of shift len_and_skip = (2 ^ 64 - shift) % 2 ^ 64 + len_and_skip % 8
 
 abbrev pub view_of : Base → ℕ → View
-view_of base start = record { base = base; shift = shift_of start }
+view_of base shift = record { base = base; shift = shift }
 
--- the parts of a memory of len bytes from the address start on: its block begins start % 8 bytes before the byte of start
-pub record IsMemory (base : Base) (start len : ℕ) (bytes : Bytes) (supplier : Supplier) : Type 0 where
-  pub lies : (base.ptr ≡ bytes.at) × (bytes.skip ≡ start % 8)
-  pub whole : (length bytes.bytes ≡ len) × (bytes.left ≡ 0)
-  pub bounds : (1 ≤ start) × (start + len < 2 ^ 64) × (start % 8 + len ≤ 2 ^ 63 - 8)
-  pub returns : IsSupplierOf base (start % 8) len supplier
+-- the parts of a memory, by these numbers: its bytes lie in the block from the place of the first byte on
+pub record IsMemory (base : Base) (shift len_and_skip : ℕ) (bytes : Bytes) (supplier : Supplier) : Type 0 where
+  pub lies : (base.ptr ≡ bytes.at) × (bytes.skip ≡ len_and_skip % 8)
+  pub aligned : shift % 8 ≡ 0
+  pub whole : (length bytes.bytes ≡ len_and_skip / 8) × (bytes.left ≡ 0)
+  pub bounds : (1 ≤ start_of shift len_and_skip) × (start_of shift len_and_skip + len_and_skip / 8 < 2 ^ 64) × (len_and_skip % 8 + len_and_skip / 8 ≤ 2 ^ 61 - 8)
+  pub returns : IsSupplierOf base (len_and_skip % 8) (len_and_skip / 8) supplier

@@ -1,6 +1,6 @@
 //! Where the words of a memory lie.
 ghost use Rattle.std.specs.Prelude.{◌≡◌, ◌+◌, ◌%◌, ◌^◌};
-ghost use Rattle.rlsf_base.specs.Steps.Block.{start_of, view_of};
+ghost use Rattle.rlsf_base.specs.Steps.Block.{view_of};
 
 use super::block::Base;
 
@@ -13,14 +13,11 @@ pub struct View {
 }
 
 impl View {
-    /// The view of a memory whose block begins at `base`, by the address of its first byte, negated.
-    pub(crate) fn new(base: Base, negated: usize) -> View
-        ensures { result ≡ view_of base (start_of negated) }
+    /// The view of a memory whose block begins at `base`, by what is added to an address to get its place there.
+    pub(crate) fn new(base: Base, shift: usize) -> View
+        ensures { result ≡ view_of base shift }
     {
-        View {
-            base,
-            shift: negated.wrapping_add(7) / 8 * 8,
-        }
+        View { base, shift }
     }
 
     /// The place in the block of the byte at `addr`.

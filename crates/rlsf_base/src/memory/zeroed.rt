@@ -14,8 +14,8 @@ pub(crate) struct Supplier {
     alloc: Global,
 }
 
-/// The most bytes that a block can have, and be whole words.
-const MAX_LEN: usize = 0x7fff_ffff_ffff_fff8;
+/// The most bytes that a block has: no system has so many. They are whole words, and their number times 8 is a `usize`.
+const MAX_LEN: usize = 0x1fff_ffff_ffff_fff8;
 
 fn words(skip: usize, len: usize) -> usize
     requires { skip + len ≤ 2 ^ 63 - 8 }
@@ -37,7 +37,7 @@ fn fill_zero(bytes: &mut Bytes, base: Base, skip: usize, len: usize)
 /// Takes a block, and of it the `len` bytes from the byte `skip` on, all zero. No block is taken for no bytes.
 pub(crate) fn take_zeroed(alloc: Global, skip: usize, len: usize) -> Option<(Base, Bytes, Supplier)>
     requires { skip ≤ 7 }
-    ensures bytes { IfSome result (λ r. (r.0.ptr ≡ r.1.at) × (r.1.skip ≡ skip) × (r.1.bytes ≡ replicate len 0) × (r.1.left ≡ 0) × (skip + len ≤ 2 ^ 63 - 8)) }
+    ensures bytes { IfSome result (λ r. (r.0.ptr ≡ r.1.at) × (r.1.skip ≡ skip) × (r.1.bytes ≡ replicate len 0) × (r.1.left ≡ 0) × (skip + len ≤ 2 ^ 61 - 8)) }
     ensures supplier { IfSome result (λ r. IsSupplierOf r.0 skip len r.2) }
     ensures empty { len ≡ 0 → IsSome result }
 {

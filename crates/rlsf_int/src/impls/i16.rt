@@ -28,11 +28,11 @@ impl Bitmap for i16 {
     }
 
     fn insert(&mut self, i: u32) {
-        self.set_bit(i);
+        *self = (self.cast_unsigned() | 1 << i).cast_signed();
     }
 
     fn remove(&mut self, i: u32) {
-        self.clear_bit(i);
+        *self = (self.cast_unsigned() & !(1 << i)).cast_signed();
     }
 
     fn first_from(&self, start: u32) -> u32 {
@@ -79,13 +79,13 @@ impl BinInteger for i16 {
 
     fn set_bit(&mut self, i: u32) {
         if i < Self::BITS {
-            *self = (self.cast_unsigned() | 1 << i).cast_signed();
+            self.insert(i);
         }
     }
 
     fn clear_bit(&mut self, i: u32) {
         if i < Self::BITS {
-            *self = (self.cast_unsigned() & !(1 << i)).cast_signed();
+            self.remove(i);
         }
     }
 

@@ -29,11 +29,11 @@ impl Bitmap for u128 {
     }
 
     fn insert(&mut self, i: u32) {
-        self.set_bit(i);
+        *self |= 1 << i;
     }
 
     fn remove(&mut self, i: u32) {
-        self.clear_bit(i);
+        *self &= !(1 << i);
     }
 
     fn first_from(&self, start: u32) -> u32 {
@@ -94,13 +94,13 @@ impl BinInteger for u128 {
 
     fn set_bit(&mut self, i: u32) {
         if i < Self::BITS {
-            *self |= 1 << i;
+            self.insert(i);
         }
     }
 
     fn clear_bit(&mut self, i: u32) {
         if i < Self::BITS {
-            *self &= !(1 << i);
+            self.remove(i);
         }
     }
 

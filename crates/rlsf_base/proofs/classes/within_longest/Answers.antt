@@ -1,4 +1,4 @@
-use Rattle.std.proofs.Common.{◌^◌, ◌<◌, ◌≤◌, ◌+◌, arith, sym}
+use Rattle.std.proofs.Common.{◌^◌, ◌≤◌, ◌+◌, arith, sym}
 use Rattle.std.proofs.Math.Pow.{pow_mono}
 use Rattle.rlsf_base.proofs.SizeMaps.ChunkLengths.{chunk_length-some}
 use Rattle.rlsf_base.proofs.SizeMaps.PoolSizes.{max_pool_size-none}

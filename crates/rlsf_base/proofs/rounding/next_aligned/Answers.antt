@@ -1,6 +1,4 @@
-use Rattle.std.proofs.Common.{◌-◌, arith}
 use Rattle.rlsf_base.proofs.Numbers.Masked.{align_up-fits, align_up-masked}
-use Rattle.rlsf_base.proofs.Numbers.PowersOfTwo.{IsPowerOfTwo-positive}
 use Rattle.rlsf_base.proofs.rounding.next_aligned.Goals as goal
 
 pub overflow_add-result : goal.overflow_add-result

@@ -1,7 +1,0 @@
-use Rattle.std.proofs.Common.{arith}
-use Rattle.std.specs.Int.{w8}
-use Rattle.rlsf_int.proofs.Unsigned.{bit-set}
-use Rattle.rlsf_int.proofs.impls.u8.U8BinInteger.set_bit.Goals as goal
-
-pub returns-then-i-lt-BITS : goal.returns-then-i-lt-BITS
-returns-then-i-lt-BITS c = bit-set w8 c.args.self.now c.args.i (omega arith)
