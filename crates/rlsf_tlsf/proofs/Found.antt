@@ -8,7 +8,7 @@ use Rattle.rlsf_table.specs.Table.{Table}
 use Rattle.rlsf_blocks.specs.StandsFor.{Contents, contents, StandsFor}
 use Rattle.rlsf_blocks.specs.Steps.LiveBlock.{IsBlockOf}
 use Rattle.rlsf_blocks.proofs.Machine.Counted.{StandsFor-counted}
-use Rattle.rlsf_resize.specs.Steps.Resize.{IsUsedAt}
+use Rattle.rlsf_reallocate.specs.Steps.Resize.{IsUsedAt}
 
 -- the used block of the payload at the address, in a state that the words stand for
 pub record Found (fllen sllen : ℕ) (w : Contents) (s : State) (addr block payload align : ℕ) : Type 0 where

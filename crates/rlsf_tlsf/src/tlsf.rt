@@ -33,7 +33,7 @@ use rlsf_blocks::{
     load_block_of, load_usable_bytes, remove_chunks, usable_bytes, used_block, walk_blocks,
 };
 use rlsf_int::{BitPattern, Bitmap};
-use rlsf_resize::{reallocate_block, resize_block};
+use rlsf_reallocate::{reallocate_block, resize_block};
 use rlsf_table::ClassTable;
 use std::marker::Model;
 use std::num::NonZeroUsize;

@@ -1,0 +1,54 @@
+use Rattle.std.proofs.Common.{arith}
+use Rattle.rlsf_blocks.proofs.Deallocate.Loaded.{IsMarked-loaded}
+use Rattle.rlsf_blocks.proofs.Deallocate.Marks.{IsMarked-previous, IsPreviousOut-none}
+use Rattle.rlsf_table.proofs.FreeLists.Counted.{IsFreeTable-counted}
+use Rattle.rlsf_blocks.proofs.Machine.FreeBlocks.{IsFreeTable-free}
+use Rattle.rlsf_reallocate.proofs.Reallocate.Neighbours.{start_or-length}
+use Rattle.rlsf_blocks.proofs.Words.Apart.{used_in_memory}
+use Rattle.rlsf_reallocate.proofs.previous.start_before.Goals as goal
+
+pub overflow_add-block : goal.overflow_add-block
+overflow_add-block c =
+    let (fllen, sllen, t, s, u, v, i, at) = c.requires.used in
+    record { fits = omega (arith, at, used_in_memory v.well_formed u i, v.well_formed.addressable) }
+
+pub load_at-previous-requires-clause-place : goal.load_at-previous-requires-clause-place
+load_at-previous-requires-clause-place c =
+    let (fllen, sllen, t, s, u, v, i, at) = c.requires.used in
+    let place = used_in_memory v.well_formed u i in
+    (omega (arith, at, (v.well_formed.used u i).whole.start), (omega (arith, at, place.0), omega (arith, at, place.1)))
+
+pub free_length-requires-clause-marked : goal.free_length-requires-clause-marked
+free_length-requires-clause-marked c =
+    let (fllen, sllen, t, s, u, v, i, at) = c.requires.used in
+    let m = c.args.memory.now in
+    let n = c.load_at-previous.new.self in
+    let start = c.load_at-previous.ensures.start in
+    let bytes = c.load_at-previous.ensures.bytes in
+    let marked = IsMarked-loaded m n start bytes (IsMarked-previous v u i at c.load_at-previous.ensures.word c.if-previous-eq0.false) in
+    (fllen, sllen, t, s.free, IsFreeTable-counted m n start bytes (IsFreeTable-free v), marked)
+
+pub overflow_sub-result : goal.overflow_sub-result
+overflow_sub-result c =
+    let (fllen, sllen, t, s, u, v, i, at) = c.requires.used in
+    let m = c.args.memory.now in
+    let n = c.load_at-previous.new.self in
+    let start = c.load_at-previous.ensures.start in
+    let bytes = c.load_at-previous.ensures.bytes in
+    let marked = IsMarked-loaded m n start bytes (IsMarked-previous v u i at c.load_at-previous.ensures.word c.if-previous-eq0.false) in
+    let long = c.free_length.ensures.length fllen sllen t s.free (IsFreeTable-counted m n start bytes (IsFreeTable-free v)) marked in
+    (start_or-length v u i at c.load_at-previous.ensures.word c.if-previous-eq0.false long).0
+
+pub returns-then-previous-eq0-clause-start : goal.returns-then-previous-eq0-clause-start
+returns-then-previous-eq0-clause-start c = λ fllen sllen t s u v i at.
+    (IsPreviousOut-none v u i at c.load_at-previous.ensures.word c.load_at-previous.new.self c.load_at-previous.ensures.start c.load_at-previous.ensures.bytes c.if-previous-eq0.true).begins
+
+pub returns-else-previous-eq0-clause-start : goal.returns-else-previous-eq0-clause-start
+returns-else-previous-eq0-clause-start c = λ fllen sllen t s u v i at.
+    let m = c.args.memory.now in
+    let n = c.load_at-previous.new.self in
+    let start = c.load_at-previous.ensures.start in
+    let bytes = c.load_at-previous.ensures.bytes in
+    let marked = IsMarked-loaded m n start bytes (IsMarked-previous v u i at c.load_at-previous.ensures.word c.if-previous-eq0.false) in
+    let long = c.free_length.ensures.length fllen sllen t s.free (IsFreeTable-counted m n start bytes (IsFreeTable-free v)) marked in
+    (start_or-length v u i at c.load_at-previous.ensures.word c.if-previous-eq0.false long).1

@@ -1,0 +1,52 @@
+//! A payload moves into a block that is allocated for it.
+
+ghost use Rattle.std.specs.Prelude.{◌≡◌, ◌+◌, ◌≤◌, None, IfNone};
+ghost use Rattle.rlsf_base.specs.SizeClass.{IsValid};
+ghost use Rattle.rlsf_base.specs.Space.{SamePlace};
+ghost use Rattle.rlsf_machine.specs.Reallocate.{in_place};
+ghost use Rattle.rlsf_machine.specs.State.{State, Used, usable};
+ghost use Rattle.rlsf_blocks.specs.StandsFor.{contents, StandsFor};
+ghost use Rattle.rlsf_table.specs.Counts.{Counts};
+ghost use Rattle.rlsf_reallocate.specs.Steps.Resize.{AtEachPayload, AtEachShort, IsElsewhere, IsUsedAt};
+
+use rlsf_base::memory::{Layout, Memory, Range, View};
+use rlsf_blocks::{allocate_block, deallocate_block};
+use rlsf_int::Bitmap;
+use rlsf_table::{ClassTable, used_end};
+
+/// Allocates a payload for the layout, moves the bytes of the payload at `payload` there, whose used block is at
+/// `block`, and gives the old block back. Answers the new address, or `None` exactly where an allocation is refused, and then nothing
+/// changes.
+///
+/// The old block is too short for the layout.
+pub fn move_elsewhere<FLBitmap: Bitmap, SLBitmap: Bitmap, const FLLEN: usize, const SLLEN: usize>(
+    memory: &mut Memory,
+    view: View,
+    table: &mut ClassTable<FLBitmap, SLBitmap, FLLEN, SLLEN>,
+    block: usize,
+    payload: usize,
+    layout: Layout,
+) -> Option<usize>
+    requires parameters { IsValid FLBitmap.width SLBitmap.width FLLEN SLLEN }
+    requires view { view ≡ memory.old.view }
+    requires used { (s : State) × (u : Used) × StandsFor FLLEN SLLEN (contents memory.old table.old) s × IsUsedAt s u block payload layout.align × (in_place s u layout.size ≡ None) }
+    ensures step { AtEachShort FLLEN SLLEN memory.old table.old block payload layout (λ s u. IsElsewhere FLLEN SLLEN memory.old memory.new table.new s u layout.size result) }
+    ensures unchanged { IfNone result (Counts memory.old memory.new 5 × (table.new ≡ table.old)) }
+    ensures place { SamePlace memory.old memory.new }
+    ensures touches { memory.new.touches ≤ memory.old.touches + 59 }
+    ensures grow { memory.old.touches ≤ memory.new.touches }
+    ensures copied { AtEachPayload FLLEN SLLEN memory.old table.old block payload layout (λ s u. memory.new.copied ≤ memory.old.copied + (usable u).len) }
+    ensures grow_copied { memory.old.copied ≤ memory.new.copied }
+{
+    let end = used_end(block, memory.load_at(view, block));
+    let moved = allocate_block(memory, view, table, layout)?;
+    memory.copy_within(
+        Range {
+            start: payload,
+            len: end - payload,
+        },
+        moved,
+    );
+    deallocate_block(memory, view, table, block);
+    Some(moved)
+}

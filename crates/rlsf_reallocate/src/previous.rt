@@ -1,0 +1,116 @@
+//! A payload moves into the free block before its own.
+
+ghost use Rattle.std.specs.Prelude.{◌≡◌, ◌+◌, ◌≤◌, ℕ, None, find, IfNone, IfSome};
+ghost use Rattle.rlsf_base.specs.SizeClass.{IsValid};
+ghost use Rattle.rlsf_base.specs.Space.{SamePlace};
+ghost use Rattle.rlsf_machine.specs.Join.{ends_at, start_or};
+ghost use Rattle.rlsf_machine.specs.Lists.{IsIn};
+ghost use Rattle.rlsf_machine.specs.Reallocate.{in_place, into_previous};
+ghost use Rattle.rlsf_machine.specs.State.{State, Used, usable};
+ghost use Rattle.rlsf_blocks.specs.StandsFor.{contents, StandsFor};
+ghost use Rattle.rlsf_blocks.specs.Steps.Standing.{AtEachUsed};
+ghost use Rattle.rlsf_table.specs.Counts.{Counts};
+ghost use Rattle.rlsf_reallocate.specs.Steps.Previous.{IsUsedBlock, IsPlaceBefore};
+ghost use Rattle.rlsf_reallocate.specs.Steps.Resize.{AtEachPayload, AtEachShort, IsPlanned, IsUsedAt};
+ghost use Rattle.rlsf_table.specs.Table.{Table};
+
+use crate::resize::{free_length, occupy};
+use rlsf_base::memory::{Layout, Memory, Range, View};
+use rlsf_base::rounding::next_multiple_of_32;
+use rlsf_blocks::{GRANULARITY, HEADER, take_if_free, take_previous};
+use rlsf_int::Bitmap;
+use rlsf_table::{ClassTable, PAD, PREVIOUS_BLOCK, used_end};
+
+/// Where the free block before the used one at `block` begins, or `block` where none is before it.
+fn start_before(memory: &mut Memory, view: View, block: usize) -> usize
+    requires used { (fllen : ℕ) × (sllen : ℕ) × (t : Table) × (s : State) × (u : Used) × StandsFor fllen sllen (contents memory.old t) s × IsIn u s.used × (u.block.start ≡ block) }
+    requires view { view ≡ memory.old.view }
+    ensures start { (fllen sllen : ℕ) (t : Table) → AtEachUsed fllen sllen memory.old t block (λ s u. result ≡ start_or block (find (ends_at block) s.free)) }
+    ensures counts { Counts memory.old memory.new 2 }
+{
+    let previous = memory.load_at(view, block + PREVIOUS_BLOCK) as usize;
+    if previous == 0 {
+        block
+    } else {
+        block - free_length(memory, view, previous)
+    }
+}
+
+/// Where the payload for the layout would lie, and how many bytes its block would take, if the used block from `block` to
+/// `end` began where the free block before it does. `None` if no free block is before it, or if the bytes of both and those
+/// of a free block behind it don't suffice.
+fn place_before(
+    memory: &mut Memory,
+    view: View,
+    block: usize,
+    end: usize,
+    layout: Layout,
+) -> Option<(usize, usize)>
+    requires used { (fllen : ℕ) × (sllen : ℕ) × (t : Table) × (s : State) × (u : Used) × StandsFor fllen sllen (contents memory.old t) s × IsUsedBlock s u block end layout.align }
+    requires view { view ≡ memory.old.view }
+    ensures place { (fllen sllen : ℕ) (t : Table) (s : State) (u : Used) → StandsFor fllen sllen (contents memory.old t) s → IsUsedBlock s u block end layout.align → IsPlaceBefore s u layout.size result }
+    ensures counts { Counts memory.old memory.new 3 }
+{
+    let start = start_before(memory, view, block);
+    if start == block {
+        return None;
+    }
+    let payload = layout.align_up(start + HEADER);
+    let taken = next_multiple_of_32(payload - start + layout.size());
+    let room = end - start + free_length(memory, view, end);
+    if taken > room {
+        return None;
+    }
+    Some((payload, taken))
+}
+
+/// Moves the payload at `payload`, in the used block at `block`, into the free block before it, if that and the block's own bytes
+/// and those of a free block behind it suffice for the layout. Answers the payload's new address. What is left becomes a
+/// free block; all bytes of the payload are kept.
+///
+/// The block is too short for the layout where it stands.
+pub(crate) fn move_into_previous<
+    FLBitmap: Bitmap,
+    SLBitmap: Bitmap,
+    const FLLEN: usize,
+    const SLLEN: usize,
+>(
+    memory: &mut Memory,
+    view: View,
+    table: &mut ClassTable<FLBitmap, SLBitmap, FLLEN, SLLEN>,
+    block: usize,
+    payload: usize,
+    layout: Layout,
+) -> Option<usize>
+    requires parameters { IsValid FLBitmap.width SLBitmap.width FLLEN SLLEN }
+    requires used { (s : State) × (u : Used) × StandsFor FLLEN SLLEN (contents memory.old table.old) s × IsUsedAt s u block payload layout.align × (in_place s u layout.size ≡ None) }
+    requires view { view ≡ memory.old.view }
+    ensures moved { AtEachShort FLLEN SLLEN memory.old table.old block payload layout
+        (λ s u. IfSome result (IsPlanned FLLEN SLLEN memory.old memory.new table.new s u (into_previous s u layout.size))) }
+    ensures refused { AtEachShort FLLEN SLLEN memory.old table.old block payload layout (λ s u. IfNone result (into_previous s u layout.size ≡ None)) }
+    ensures unchanged { IfNone result (Counts memory.old memory.new 4 × (table.new ≡ table.old)) }
+    ensures place { SamePlace memory.old memory.new }
+    ensures touches { memory.new.touches ≤ memory.old.touches + 37 }
+    ensures grow { memory.old.touches ≤ memory.new.touches }
+    ensures copied { AtEachPayload FLLEN SLLEN memory.old table.old block payload layout (λ s u. memory.new.copied ≤ memory.old.copied + (usable u).len) }
+    ensures grow_copied { memory.old.copied ≤ memory.new.copied }
+{
+    let end = used_end(block, memory.load_at(view, block));
+    let (moved, taken) = place_before(memory, view, block, end, layout)?;
+    let start = take_previous(memory, view, table, block);
+    let next = take_if_free(memory, view, table, end);
+    // Before any header is written: the bytes may lie where one will stand.
+    memory.copy_within(
+        Range {
+            start: payload,
+            len: end - payload,
+        },
+        moved,
+    );
+    occupy(memory, view, table, start, end - start + next, taken);
+    let wide = layout.align() >= GRANULARITY;
+    if wide {
+        memory.set_word_at(view, moved - PAD, start as u64);
+    }
+    Some(moved)
+}
