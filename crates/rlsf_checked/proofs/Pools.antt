@@ -1,6 +1,6 @@
 -- What is true of a checked allocator's fields once a range was handed in.
-use Rattle.std.proofs.Common.{◌≡◌, ℕ, zero, suc, ◌*◌, ◌/◌, find, ◌+◌, ◌-◌, ◌%◌, ◌^◌, ◌<◌, ◌≤◌, Bool, true, cond, nat_le, nat_lt, List, [], ◌∷◌, length, Option, None, Some, Ok, Err, arith, refl, sym, ◌∙◌, ap, subst, inl, inr}
-use Rattle.std.proofs.lemmas.Bool.{and_parts, cases_lt, eqb-true, le-ltb, leb-true, ltb-true}
+use Rattle.std.proofs.Common.{◌≡◌, ℕ, zero, suc, ◌*◌, ◌/◌, find, ◌+◌, ◌-◌, ◌%◌, ◌^◌, ◌<◌, ◌≤◌, true, false, cond, nat_le, nat_lt, List, [], ◌∷◌, length, Option, None, Some, Ok, Err, arith, refl, sym, ◌∙◌, ap, subst, inl, inr}
+use Rattle.std.proofs.lemmas.Bool.{and_parts, cases_lt, eqb-true, le-ltb, leb-true, lt-ltb, ltb-true}
 use Rattle.std.proofs.lemmas.Option.{none-some}
 use Rattle.std.specs.Prelude.{◌==◌}
 use Rattle.rlsf_base.specs.declared.memory.range.Range.{Range}
@@ -139,6 +139,18 @@ behind_answer fllen v r within behind =
     let told = if_taken (bytes_taken r.start (cut (max_pool_size fllen) (aligned_part r))) in
     ap (λ t. cond t (cond (nat_lt r.start (end_of v.pool)) (Err NotBehind) told) (Err OutsideMemory)) (sym within) ∙ ap (λ t. cond t (Err NotBehind) told) (le-ltb r.start (end_of v.pool) behind)
 
+-- one outside of the memory is refused
+pub outside_answer : (fllen : ℕ) (v : Checked) (r : Range) → false ≡ is_within (range_of v.heap.memory) r → insert_answer fllen v r ≡ Err OutsideMemory
+outside_answer fllen v r outside =
+    let told = if_taken (bytes_taken r.start (cut (max_pool_size fllen) (aligned_part r))) in
+    ap (λ t. cond t (cond (nat_lt r.start (end_of v.pool)) (Err NotBehind) told) (Err OutsideMemory)) (sym outside)
+
+-- and so is one before the end of what was handed in last
+pub before_answer : (fllen : ℕ) (v : Checked) (r : Range) → true ≡ is_within (range_of v.heap.memory) r → r.start < end_of v.pool → insert_answer fllen v r ≡ Err NotBehind
+before_answer fllen v r within before =
+    let told = if_taken (bytes_taken r.start (cut (max_pool_size fllen) (aligned_part r))) in
+    ap (λ t. cond t (cond (nat_lt r.start (end_of v.pool)) (Err NotBehind) told) (Err OutsideMemory)) (sym within) ∙ ap (λ t. cond t (Err NotBehind) told) (lt-ltb r.start (end_of v.pool) before)
+
 -- ---- a range behind what was handed in last
 
 -- what was handed in last ends with a chunk
@@ -252,6 +264,18 @@ pub next_answer : (fllen : ℕ) (v : Checked) (r : Range) → true ≡ is_within
 next_answer fllen v r within next =
     let told = if_appended (appended_bytes (max_pool_size fllen) r) in
     ap (λ t. cond t (cond (is_next v.pool r.start) told (Err NotNext)) (Err OutsideMemory)) (sym within) ∙ ap (λ t. cond t told (Err NotNext)) (sym next)
+
+-- one outside of the memory isn't appended
+pub none_outside : (fllen : ℕ) (v : Checked) (r : Range) → false ≡ is_within (range_of v.heap.memory) r → append_answer fllen v r ≡ Err OutsideMemory
+none_outside fllen v r outside =
+    let told = if_appended (appended_bytes (max_pool_size fllen) r) in
+    ap (λ t. cond t (cond (is_next v.pool r.start) told (Err NotNext)) (Err OutsideMemory)) (sym outside)
+
+-- nor one that isn't next
+pub none_apart : (fllen : ℕ) (v : Checked) (r : Range) → true ≡ is_within (range_of v.heap.memory) r → false ≡ is_next v.pool r.start → append_answer fllen v r ≡ Err NotNext
+none_apart fllen v r within apart =
+    let told = if_appended (appended_bytes (max_pool_size fllen) r) in
+    ap (λ t. cond t (cond (is_next v.pool r.start) told (Err NotNext)) (Err OutsideMemory)) (sym within) ∙ ap (λ t. cond t told (Err NotNext)) (sym apart)
 
 -- a range that is found to be next begins where a chunk ends
 pub next_is : (pool r : Range) → true ≡ is_next pool r.start → (0 < pool.len) × (r.start ≡ end_of pool)

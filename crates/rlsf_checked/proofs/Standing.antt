@@ -1,11 +1,12 @@
 -- What is true of a checked allocator's fields over the steps.
 use Rattle.std.proofs.Common.{◌≡◌, ◌≢◌, ℕ, zero, suc, ◌+◌, ◌-◌, ◌*◌, ◌/◌, ◌%◌, ◌^◌, ◌<◌, ◌≤◌, cond, Option, None, Some, arith, refl, sym, ◌∙◌, ap, subst, inl, inr}
-use Rattle.std.proofs.lemmas.Bool.{cases_eq, cases_lt, le-leb}
+use Rattle.std.proofs.lemmas.Bool.{cases_eq, cases_lt, le-leb, lt-leb}
 use Rattle.std.proofs.lemmas.Nat.{pow_pos, pow-add}
 use Rattle.std.proofs.Math.Nat.{div-add-mod', mod-eq_of_lt}
 use Rattle.std.specs.Int.{next_multiple_of}
 use Rattle.rlsf_base.specs.declared.memory.layout.Layout.{Layout}
 use Rattle.rlsf_base.specs.declared.memory.range.Range.{Range}
+use Rattle.rlsf_base.specs.Layout.{IsLayout}
 use Rattle.rlsf_base.specs.PowerOfTwo.{IsPowerOfTwo, floor_log2}
 use Rattle.rlsf_base.specs.Range.{end_of}
 use Rattle.rlsf_base.specs.Space.{SamePlace, range_of}
@@ -17,7 +18,7 @@ use Rattle.rlsf_machine.specs.Lists.{IsIn}
 use Rattle.rlsf_machine.specs.Payload.{payload_of}
 use Rattle.rlsf_machine.specs.Reallocate.{Reallocates}
 use Rattle.rlsf_machine.specs.Run.{reallocate}
-use Rattle.rlsf_machine.specs.State.{State, usable}
+use Rattle.rlsf_machine.specs.State.{State}
 use Rattle.rlsf_machine.proofs.CallerWords.{align_at-live, align_at-none}
 use Rattle.rlsf_machine.proofs.Callers.{callers_see_map}
 use Rattle.rlsf_machine.proofs.ChunkRows.{IsRow-same}
@@ -185,3 +186,9 @@ left_behind fllen sllen v stands t addr align size to is step apart =
 -- with a layout's size and alignment, none is refused
 pub size_fits : (layout : Layout) (size align : ℕ) → layout.size ≡ size → layout.align ≡ align → size_refusal (Some align) size ≡ None
 size_fits layout size align long aligned = ap (λ t. cond t None (Some NoLayout)) (le-leb (size + align) (2 ^ 63) (omega (arith, layout.valid.fits, long, aligned)))
+
+-- with those of none, one is
+pub size_past : (size align : ℕ) → IsPowerOfTwo align → (IsLayout size align → ⊥) → size_refusal (Some align) size ≡ Some NoLayout
+size_past size align power none =
+    let past : 2 ^ 63 < size + align = elim (cases_lt (2 ^ 63) (size + align)) [ inl above ↦ above | inr fits ↦ absurd (none (record { aligned = power; fits = fits })) ] in
+    ap (λ t. cond t None (Some NoLayout)) (lt-leb (size + align) (2 ^ 63) past)

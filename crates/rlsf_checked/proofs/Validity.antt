@@ -1,5 +1,5 @@
 -- Whether an allocator's parameters are valid.
-use Rattle.std.proofs.Common.{◌≡◌, ◌↔◌, ◌≤◌, ◌<◌, ℕ, Bool, true, false, true≢false, IsTrue, nat_le, nat_lt, arith, refl, sym, ◌∙◌, ap, subst, inl, inr}
+use Rattle.std.proofs.Common.{◌≡◌, ◌↔◌, ℕ, true≢false, IsTrue, nat_le, nat_lt, arith, sym, ◌∙◌, ap, inl, inr}
 use mathlib.Core.Bool.{◌&&◌}
 use Rattle.std.proofs.lemmas.Bool.{and_parts, cases_lt, le-leb, leb-true, lt-ltb, ltb-true}
 use Rattle.rlsf_base.specs.SizeClass.{IsValid, is_row_length}

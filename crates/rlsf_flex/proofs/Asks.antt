@@ -95,6 +95,11 @@ sum_past None n past none = elim (cases_lt n (2 ^ 64)) [
 ]
 sum_past (Some m) n h none = absurd (none-some m (sym none))
 
+-- what checked_add gives is the sum, if it fits
+pub sum_is : (o : Option ℕ) (n : ℕ) → SomeIff o (n < 2 ^ 64) n → o ≡ if_fits n
+sum_is None n past = sym (sum_past None n past refl)
+sum_is (Some m) n fits = sym (sum_fits (Some m) n m fits refl).0
+
 -- the pool that is kept would be too long, so nothing is asked
 pub extended_past : {S : Type 0} {fllen sllen : ℕ} {terms : S → Terms} {owes : S → List Range → Type 0} {leads : S → Note → S → Type 0} {before : FlexContents S} {e : ℕ} {k : KeptPool}
     → before.state.kept ≡ Some k → if_fits (k.len + e) ≡ None → FlexStandsFor fllen sllen terms owes before → Extended fllen sllen terms owes leads before before e false

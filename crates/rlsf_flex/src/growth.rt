@@ -116,7 +116,8 @@ fn ask_growth<
     ensures payloads { KeepsPayloads tlsf.old tlsf.new }
     ensures refused { IfNone result (tlsf.new ≡ tlsf.old) }
 {
-    if !source.supports_realloc_inplace_grow() {
+    let grows = source.supports_realloc_inplace_grow();
+    if !grows {
         return None;
     }
     let grown = source.realloc_inplace_grow(pool.range, len)?;
@@ -171,10 +172,13 @@ pub(crate) fn extend<
     };
     if ask_growth(tlsf, kept, source, owed, pool, wanted, len).is_some() {
         true
-    } else if source.is_contiguous_growable() {
-        false
     } else {
-        ask_range(tlsf, kept, source, owed, wanted).is_some()
+        let is_one_range = source.is_contiguous_growable();
+        if is_one_range {
+            false
+        } else {
+            ask_range(tlsf, kept, source, owed, wanted).is_some()
+        }
     }
 }
 

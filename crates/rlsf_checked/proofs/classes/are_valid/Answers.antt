@@ -1,4 +1,4 @@
-use Rattle.std.proofs.Common.{◌↔◌, IsTrue, Bool, ℕ, sym, ◌∙◌, ap, subst}
+use Rattle.std.proofs.Common.{◌↔◌, IsTrue, Bool, sym, ◌∙◌, ap, subst}
 use Rattle.rlsf_base.specs.SizeClass.{IsValid}
 use Rattle.rlsf_checked.specs.Steps.Classes.{is_valid}
 use Rattle.rlsf_checked.proofs.Validity.{is_valid-iff}

@@ -1,4 +1,4 @@
-use Rattle.std.proofs.Common.{◌+◌, arith}
+use Rattle.std.proofs.Common.{arith}
 use Rattle.std.proofs.Math.Nat.{pow-suc}
 use Rattle.rlsf_base.proofs.Numbers.PowersOfTwo.{floor_log2-unique}
 use Rattle.rlsf_checked.proofs.marks.mark_of.Goals as goal

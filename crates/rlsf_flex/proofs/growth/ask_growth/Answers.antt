@@ -1,4 +1,4 @@
-use Rattle.std.proofs.Common.{rules, ◌≡◌, ◌+◌, [], arith, sym, ap, ◌∙◌, subst, refl, inl}
+use Rattle.std.proofs.Common.{rules, true, false, ◌≡◌, ◌+◌, [], Option, Some, None, IfNone, arith, sym, ap, ◌∙◌, subst, refl, inl}
 use Rattle.rlsf_base.specs.Space.{IsWord, range_of, word_at}
 use Rattle.rlsf_tlsf.specs.Allocator.{Allocator, IsInState}
 use Rattle.rlsf_flex.specs.Footers.{first_len, first_start, footer_of, Footers}
@@ -36,14 +36,16 @@ realloc_inplace_grow-requires-clause-longer g c =
     let (room, whole, short) = pool_size_is _ _ g.row.FLLEN g.row.SLLEN c.args.wanted c.requires.valid c.requires.wanted in
     omega (arith, kept.nearly, c.requires.len, room)
 
-pub returns-then-not-supports_realloc_inplace_grow-clause-step : goal.returns-then-not-supports_realloc_inplace_grow-clause-step
-returns-then-not-supports_realloc_inplace_grow-clause-step g c =
+pub returns-then-not-grows-clause-step : goal.returns-then-not-grows-clause-step
+returns-then-not-grows-clause-step g c =
+    let fixed : (g.S.FlexSource.terms c.args.source.now).grow ≡ false = sym c.supports_realloc_inplace_grow-grows.ensures ∙ c.if-not-grows.true in
     let before = flex_over c.args.tlsf.now c.args.kept.now c.args.source.now c.args.owed.now in
-    AskedGrowth-none (kept_pool c.args.pool) c.args.len (sym c.supports_realloc_inplace_grow.ensures ∙ c.if-not-supports_realloc_inplace_grow.true) refl
+    AskedGrowth-none (kept_pool c.args.pool) c.args.len fixed refl
     (Took-refused before c.args.source.now c.requires.stands refl c.requires.stands.owed c.args.wanted)
 
 pub returns-in_err-grown-clause-step : goal.returns-in_err-grown-clause-step
 returns-in_err-grown-clause-step g c =
+    let grows : (g.S.FlexSource.terms c.args.source.now).grow ≡ true = sym c.supports_realloc_inplace_grow-grows.ensures ∙ c.if-not-grows.false in
     let v = c.requires.stands in
     let before = flex_over c.args.tlsf.now c.args.kept.now c.args.source.now c.args.owed.now in
     let (was, kept) = IsKeptPool-known v c.requires.kept in
@@ -51,7 +53,7 @@ returns-in_err-grown-clause-step g c =
     let y = c.realloc_inplace_grow.new.self in
     let owed = subst (g.S.FlexSource.owes y) (sym kept.split) (c.in_err-grown.ensures.owes [] kept.rest (subst (g.S.FlexSource.owes c.args.source.now) kept.split v.owed)) in
     subst (AskedGrowth g.row.FLLEN g.row.SLLEN g.S.FlexSource.terms g.S.FlexSource.owes g.S.FlexSource.leads before (flex_over c.args.tlsf.now c.args.kept.now y c.args.owed.now) (kept_pool c.args.pool) c.args.len c.args.wanted) (sym c.from_residual.ensures)
-    (AskedGrowth-asked (kept_pool c.args.pool) c.args.len (sym c.supports_realloc_inplace_grow.ensures ∙ c.if-not-supports_realloc_inplace_grow.false) c.in_err-grown.ensures.leads (Took-refused before y v same owed c.args.wanted))
+    (AskedGrowth-asked (kept_pool c.args.pool) c.args.len grows c.in_err-grown.ensures.leads (Took-refused before y v same owed c.args.wanted))
 
 -- the growth that came
 grew : (g : given.Over) (c : In_ok-grown g)
@@ -141,17 +143,18 @@ overflow_add-kept g c =
 
 pub returns-clause-step : goal.returns-clause-step
 returns-clause-step g c =
+    let grows : (g.S.FlexSource.terms c.args.source.now).grow ≡ true = sym c.supports_realloc_inplace_grow-grows.ensures ∙ c.if-not-grows.false in
     let h = grew g (goal.at.returns-clause-step g c).In_ok-grown in
     let (stands, footed) = moved g (goal.at.returns-clause-step g c).Joined-supports_dealloc h in
     let d = c.if-supports_dealloc.tlsf in
     let same = g.met.S.FlexSource.constant c.args.source.now c.realloc_inplace_grow.new.self (grow c.args.pool.range c.args.len c.realloc_inplace_grow.result) c.realloc_inplace_grow.ensures.leads in
     let (t, step, after, spare) = stepped stands c.append_free_block_ptr-taken.new.self (λ x. Appends g.row.FLLEN x (behind (kept_pool c.args.pool) c.in_ok-grown.grown) c.append_free_block_ptr-taken.result) c.append_free_block_ptr-taken.ensures.step in
-    AskedGrowth-asked (kept_pool c.args.pool) c.args.len (sym c.supports_realloc_inplace_grow.ensures ∙ c.if-not-supports_realloc_inplace_grow.false) c.in_ok-grown.ensures.leads
+    AskedGrowth-asked (kept_pool c.args.pool) c.args.len grows c.in_ok-grown.ensures.leads
     (Took-named after.state (c.grow.ensures ∙ ap (longer c.in_ok-grown.grown) h.kept.split)
     (Grew-took c.requires.valid h d c.append_free_block_ptr-taken.new.self t c.append_free_block_ptr-taken.result same stands footed step after spare c.append_free_block_ptr-taken.ensures.place))
 
-pub returns-then-not-supports_realloc_inplace_grow-clause-payloads : goal.returns-then-not-supports_realloc_inplace_grow-clause-payloads
-returns-then-not-supports_realloc_inplace_grow-clause-payloads g c = KeepsPayloads-refl c.args.tlsf.now
+pub returns-then-not-grows-clause-payloads : goal.returns-then-not-grows-clause-payloads
+returns-then-not-grows-clause-payloads g c = KeepsPayloads-refl c.args.tlsf.now
 
 pub returns-in_err-grown-clause-payloads : goal.returns-in_err-grown-clause-payloads
 returns-in_err-grown-clause-payloads g c = KeepsPayloads-refl c.args.tlsf.now
@@ -167,3 +170,20 @@ returns-clause-payloads g c =
           KeepsPayloads-trans _ _ _ (subst (KeepsPayloads c.args.tlsf.now) (sym w.tlsf-is) footed) taken
       | else-supports_dealloc w ↦ subst (λ (d : Allocator). KeepsPayloads d c.append_free_block_ptr-taken.new.self) w.tlsf-is taken
     ]
+
+pub realloc_inplace_grow-requires-clause-supported : goal.realloc_inplace_grow-requires-clause-supported
+realloc_inplace_grow-requires-clause-supported g c = sym c.supports_realloc_inplace_grow-grows.ensures ∙ c.if-not-grows.false
+
+-- what is true is so without an answer
+if_any : {A P : Type 0} (o : Option A) → P → IfNone o P
+if_any None p = p
+if_any (Some x) p = tt
+
+pub returns-then-not-grows-clause-refused : goal.returns-then-not-grows-clause-refused
+returns-then-not-grows-clause-refused g c = refl
+
+pub returns-in_err-grown-clause-refused : goal.returns-in_err-grown-clause-refused
+returns-in_err-grown-clause-refused g c = if_any c.from_residual.result refl
+
+pub returns-clause-refused : goal.returns-clause-refused
+returns-clause-refused g c = tt

@@ -28,3 +28,48 @@ invariant_of-self-2 g c =
 
 pub returns-clause-aligns : goal.returns-clause-aligns
 returns-clause-aligns g c = rw (← c.self.view_is) c.in-Some.ensures.aligns
+
+pub returns-in_default-clause-step : goal.returns-in_default-clause-step
+returns-in_default-clause-step g c = rw (← c.self.view_is) c.in_default.ensures.step
+
+pub returns-in_default-clause-same : goal.returns-in_default-clause-same
+returns-in_default-clause-same g c = rw (← c.self.view_is) c.in_default.ensures.same
+
+pub returns-in_default-clause-place : goal.returns-in_default-clause-place
+returns-in_default-clause-place g c = rw (← c.self.view_is) c.in_default.ensures.place
+
+pub returns-in_default-clause-touches : goal.returns-in_default-clause-touches
+returns-in_default-clause-touches g c = rw (← c.self.view_is) c.in_default.ensures.touches
+
+pub returns-in_default-clause-copied : goal.returns-in_default-clause-copied
+returns-in_default-clause-copied g c = rw (← c.self.view_is) c.in_default.ensures.copied
+
+pub returns-in_default-clause-same_bytes : goal.returns-in_default-clause-same_bytes
+returns-in_default-clause-same_bytes g c = rw (← c.self.view_is) c.in_default.ensures.refused
+
+pub returns-clause-step : goal.returns-clause-step
+returns-clause-step g c = rw (← c.self.view_is) c.in-Some.ensures.step
+
+pub returns-clause-new : goal.returns-clause-new
+returns-clause-new g c = rw (← c.self.view_is) c.in-Some.ensures.new
+
+pub returns-clause-bytes : goal.returns-clause-bytes
+returns-clause-bytes g c = rw (← c.self.view_is) c.in-Some.ensures.bytes
+
+pub returns-clause-place : goal.returns-clause-place
+returns-clause-place g c = rw (← c.self.view_is) c.in-Some.ensures.place
+
+pub returns-clause-touches : goal.returns-clause-touches
+returns-clause-touches g c = rw (← c.self.view_is) c.in-Some.ensures.touches
+
+pub returns-clause-copied : goal.returns-clause-copied
+returns-clause-copied g c = rw (← c.self.view_is) c.in-Some.ensures.copied
+
+pub returns-clause-live : goal.returns-clause-live
+returns-clause-live g c = c.in-Some.ensures.live
+
+pub returns-clause-sized : goal.returns-clause-sized
+returns-clause-sized g c = c.in-Some.ensures.sized
+
+pub returns-clause-few : goal.returns-clause-few
+returns-clause-few g c = c.in-Some.ensures.few

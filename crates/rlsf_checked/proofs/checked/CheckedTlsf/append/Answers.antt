@@ -1,11 +1,11 @@
-use Rattle.std.proofs.Common.{rules, ◌≡◌, ◌+◌, ◌≤◌, ◌<◌, true, Ok, zero, suc, arith, refl, sym, ◌∙◌, ap, subst}
-use Rattle.rlsf_base.specs.Range.{end_of, range_at}
+use Rattle.std.proofs.Common.{rules, ◌≡◌, ◌+◌, true, arith, refl, sym, ◌∙◌, ap, subst, false}
+use Rattle.rlsf_base.specs.Range.{range_at}
 use Rattle.rlsf_base.specs.Space.{range_of}
 use Rattle.rlsf_machine.specs.Insert.{Appends}
 use Rattle.rlsf_checked.specs.Answers.{if_appended, is_next, is_within}
 use Rattle.rlsf_checked.specs.Checked.{checked}
 use Rattle.rlsf_checked.specs.Steps.Standing.{IsChecked}
-use Rattle.rlsf_checked.proofs.Pools.{handed_on, next_answer, next_is, next_range, none_appended, pool_fits, some_appended, within_is}
+use Rattle.rlsf_checked.proofs.Pools.{handed_on, next_answer, next_is, next_range, none_apart, none_appended, none_outside, pool_fits, some_appended, within_is}
 use Rattle.rlsf_checked.proofs.Standing.{stands_after, step_of}
 use Rattle.rlsf_checked.proofs.checked.CheckedTlsf.append.Goals as goal
 
@@ -92,3 +92,50 @@ returns-clause-answer g c = rw (← c.self.view_is) (
 
 pub returns-clause-pool : goal.returns-clause-pool
 returns-clause-pool g c = rw (← c.self.view_is) refl
+
+pub returns-then-not-lies_in-clause-answer : goal.returns-then-not-lies_in-clause-answer
+returns-then-not-lies_in-clause-answer g c = rw (← c.self.view_is) (
+    let outside : false ≡ is_within (range_of c.self.inside.heap.memory) c.args.range = sym c.if-not-lies_in.true ∙ c.lies_in.ensures ∙ ap (λ m. is_within (range_of m) c.args.range) c.memory_ref.ensures.memory in
+    sym (none_outside g.row.FLLEN (checked c.self.inside.heap c.self.inside.pool) c.args.range outside))
+
+pub returns-then-not-is_next-clause-answer : goal.returns-then-not-is_next-clause-answer
+returns-then-not-is_next-clause-answer g c = rw (← c.self.view_is) (
+    let within : true ≡ is_within (range_of c.self.inside.heap.memory) c.args.range = sym c.if-not-lies_in.false ∙ c.lies_in.ensures ∙ ap (λ m. is_within (range_of m) c.args.range) c.memory_ref.ensures.memory in
+    let apart : false ≡ is_next c.self.inside.pool c.args.range.start = sym c.if-not-is_next.true ∙ c.is_next.ensures in
+    sym (none_apart g.row.FLLEN (checked c.self.inside.heap c.self.inside.pool) c.args.range within apart))
+
+pub returns-then-taken-eq0-clause-refused : goal.returns-then-taken-eq0-clause-refused
+returns-then-taken-eq0-clause-refused g c = rw (← c.self.view_is) (c.append_free_block_ptr-taken.ensures.unchanged c.if-taken-eq0.true)
+
+pub returns-clause-step : goal.returns-clause-step
+returns-clause-step g c = rw (← c.self.view_is) c.append_free_block_ptr-taken.ensures.step
+
+pub returns-then-taken-eq0-clause-aligns : goal.returns-then-taken-eq0-clause-aligns
+returns-then-taken-eq0-clause-aligns g c = rw (← c.self.view_is) c.append_free_block_ptr-taken.ensures.aligns
+
+pub returns-then-taken-eq0-clause-bytes : goal.returns-then-taken-eq0-clause-bytes
+returns-then-taken-eq0-clause-bytes g c = rw (← c.self.view_is) c.append_free_block_ptr-taken.ensures.bytes
+
+pub returns-then-taken-eq0-clause-place : goal.returns-then-taken-eq0-clause-place
+returns-then-taken-eq0-clause-place g c = rw (← c.self.view_is) c.append_free_block_ptr-taken.ensures.place
+
+pub returns-then-taken-eq0-clause-touches : goal.returns-then-taken-eq0-clause-touches
+returns-then-taken-eq0-clause-touches g c = rw (← c.self.view_is) c.append_free_block_ptr-taken.ensures.touches
+
+pub returns-then-taken-eq0-clause-copied : goal.returns-then-taken-eq0-clause-copied
+returns-then-taken-eq0-clause-copied g c = rw (← c.self.view_is) c.append_free_block_ptr-taken.ensures.copied
+
+pub returns-clause-aligns : goal.returns-clause-aligns
+returns-clause-aligns g c = rw (← c.self.view_is) c.append_free_block_ptr-taken.ensures.aligns
+
+pub returns-clause-bytes : goal.returns-clause-bytes
+returns-clause-bytes g c = rw (← c.self.view_is) c.append_free_block_ptr-taken.ensures.bytes
+
+pub returns-clause-place : goal.returns-clause-place
+returns-clause-place g c = rw (← c.self.view_is) c.append_free_block_ptr-taken.ensures.place
+
+pub returns-clause-touches : goal.returns-clause-touches
+returns-clause-touches g c = rw (← c.self.view_is) c.append_free_block_ptr-taken.ensures.touches
+
+pub returns-clause-copied : goal.returns-clause-copied
+returns-clause-copied g c = rw (← c.self.view_is) c.append_free_block_ptr-taken.ensures.copied

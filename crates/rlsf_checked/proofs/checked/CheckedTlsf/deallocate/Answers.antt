@@ -21,3 +21,21 @@ invariant_of-self g c =
 
 pub returns-clause-aligns : goal.returns-clause-aligns
 returns-clause-aligns g c = rw (← c.self.view_is) c.deallocate.ensures.aligns
+
+pub returns-clause-step : goal.returns-clause-step
+returns-clause-step g c = rw (← c.self.view_is) c.deallocate.ensures.step
+
+pub returns-clause-bytes : goal.returns-clause-bytes
+returns-clause-bytes g c = rw (← c.self.view_is) c.deallocate.ensures.bytes
+
+pub returns-clause-place : goal.returns-clause-place
+returns-clause-place g c = rw (← c.self.view_is) c.deallocate.ensures.place
+
+pub returns-clause-touches : goal.returns-clause-touches
+returns-clause-touches g c = rw (← c.self.view_is) c.deallocate.ensures.touches
+
+pub returns-clause-copied : goal.returns-clause-copied
+returns-clause-copied g c = rw (← c.self.view_is) c.deallocate.ensures.copied
+
+pub returns-clause-gone : goal.returns-clause-gone
+returns-clause-gone g c = c.deallocate.ensures.gone

@@ -1,13 +1,14 @@
-use Rattle.std.proofs.Common.{rules, ◌≡◌, ◌+◌, ◌≤◌, Bool, true, Ok, Some, None, length, arith, refl, sym, ◌∙◌, ap, subst}
+use Rattle.std.proofs.Common.{rules, ◌≡◌, ◌≤◌, true, Ok, Some, None, arith, refl, sym, ◌∙◌, ap, subst, false}
 use Rattle.rlsf_base.specs.Addr.{at}
-use Rattle.rlsf_base.specs.Range.{LiesIn, end_of, range_at}
+use Rattle.rlsf_base.specs.Range.{end_of, range_at}
 use Rattle.rlsf_base.specs.Space.{range_of}
 use Rattle.rlsf_machine.specs.Insert.{Inserts}
 use Rattle.rlsf_machine.specs.State.{State}
+use Rattle.rlsf_tlsf.specs.Allocator.{Steps}
 use Rattle.rlsf_checked.specs.Answers.{if_taken, is_within}
 use Rattle.rlsf_checked.specs.Checked.{checked}
 use Rattle.rlsf_checked.specs.Steps.Standing.{IsChecked}
-use Rattle.rlsf_checked.proofs.Pools.{behind_answer, handed_in, none_taken, pool_fits, untouched, within_is}
+use Rattle.rlsf_checked.proofs.Pools.{before_answer, behind_answer, handed_in, none_taken, outside_answer, pool_fits, untouched, within_is}
 use Rattle.rlsf_checked.proofs.Standing.{stands_after, step_of, unchanged}
 use Rattle.rlsf_checked.proofs.checked.CheckedTlsf.insert.Goals as goal
 
@@ -53,3 +54,50 @@ returns-clause-answer g c = rw (← c.self.view_is) (
     let behind : end_of c.self.inside.pool ≤ c.args.range.start = omega (arith, c.if-range-self.false) in
     let step : Inserts g.row.FLLEN c.self.inside.heap.state c.args.range (Some (at c.in-Some.taken)) c.insert_free_block_ptr.new.self.state = step_of _ _ _ _ _ c.in-Some.ensures.step in
     ap Ok c.get-2.ensures.value ∙ sym (behind_answer g.row.FLLEN (checked c.self.inside.heap c.self.inside.pool) c.args.range within behind ∙ ap if_taken (sym step.answer)))
+
+pub returns-then-not-lies_in-clause-answer : goal.returns-then-not-lies_in-clause-answer
+returns-then-not-lies_in-clause-answer g c = rw (← c.self.view_is) (
+    let outside : false ≡ is_within (range_of c.self.inside.heap.memory) c.args.range = sym c.if-not-lies_in.true ∙ c.lies_in.ensures ∙ ap (λ m. is_within (range_of m) c.args.range) c.memory_ref.ensures.memory in
+    sym (outside_answer g.row.FLLEN (checked c.self.inside.heap c.self.inside.pool) c.args.range outside))
+
+pub returns-then-range-self-clause-answer : goal.returns-then-range-self-clause-answer
+returns-then-range-self-clause-answer g c = rw (← c.self.view_is) (
+    let within : true ≡ is_within (range_of c.self.inside.heap.memory) c.args.range = sym c.if-not-lies_in.false ∙ c.lies_in.ensures ∙ ap (λ m. is_within (range_of m) c.args.range) c.memory_ref.ensures.memory in
+    sym (before_answer g.row.FLLEN (checked c.self.inside.heap c.self.inside.pool) c.args.range within c.if-range-self.true))
+
+pub returns-in_default-clause-refused : goal.returns-in_default-clause-refused
+returns-in_default-clause-refused g c = rw (← c.self.view_is) c.in_default.ensures.refused
+
+pub returns-in_default-clause-aligns : goal.returns-in_default-clause-aligns
+returns-in_default-clause-aligns g c = rw (← c.self.view_is) c.in_default.ensures.aligns
+
+pub returns-in_default-clause-bytes : goal.returns-in_default-clause-bytes
+returns-in_default-clause-bytes g c = rw (← c.self.view_is) c.in_default.ensures.bytes
+
+pub returns-in_default-clause-place : goal.returns-in_default-clause-place
+returns-in_default-clause-place g c = rw (← c.self.view_is) c.in_default.ensures.place
+
+pub returns-in_default-clause-touches : goal.returns-in_default-clause-touches
+returns-in_default-clause-touches g c = rw (← c.self.view_is) c.in_default.ensures.touches
+
+pub returns-in_default-clause-copied : goal.returns-in_default-clause-copied
+returns-in_default-clause-copied g c = rw (← c.self.view_is) c.in_default.ensures.copied
+
+pub returns-clause-step : goal.returns-clause-step
+returns-clause-step g c = subst (λ n. Steps g.row.FLLEN g.row.SLLEN c.args.self.now.heap c.insert_free_block_ptr.new.self (Inserts g.row.FLLEN c.args.self.now.heap.state c.args.range (Some n))) (sym c.get-2.ensures.value)
+    (rw (← c.self.view_is) c.in-Some.ensures.step)
+
+pub returns-clause-aligns : goal.returns-clause-aligns
+returns-clause-aligns g c = rw (← c.self.view_is) c.in-Some.ensures.aligns
+
+pub returns-clause-bytes : goal.returns-clause-bytes
+returns-clause-bytes g c = rw (← c.self.view_is) c.in-Some.ensures.bytes
+
+pub returns-clause-place : goal.returns-clause-place
+returns-clause-place g c = rw (← c.self.view_is) c.in-Some.ensures.place
+
+pub returns-clause-touches : goal.returns-clause-touches
+returns-clause-touches g c = rw (← c.self.view_is) c.in-Some.ensures.touches
+
+pub returns-clause-copied : goal.returns-clause-copied
+returns-clause-copied g c = rw (← c.self.view_is) c.in-Some.ensures.copied

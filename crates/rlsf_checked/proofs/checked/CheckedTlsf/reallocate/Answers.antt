@@ -1,11 +1,15 @@
-use Rattle.std.proofs.Common.{◌≡◌, suc, Some, Ok, refl, sym, ◌∙◌, ap, subst}
+use Rattle.std.proofs.Common.{◌≡◌, ◌≤◌, ◌<◌, ◌+◌, length, suc, Some, None, Ok, Err, refl, sym, ◌∙◌, ap, subst}
+use Rattle.std.proofs.lemmas.Bool.{false≢true}
+use Rattle.std.specs.declared.num.NonZeroUsize.{NonZeroUsize}
 use Rattle.rlsf_base.specs.Addr.{at}
 use Rattle.rlsf_base.specs.PowerOfTwo.{floor_log2}
-use Rattle.rlsf_machine.specs.Callers.{align_at}
+use Rattle.rlsf_machine.specs.Callers.{align_at, bytes_at}
 use Rattle.rlsf_machine.specs.Reallocate.{Reallocates}
+use Rattle.rlsf_tlsf.specs.Allocator.{Steps}
 use Rattle.rlsf_checked.specs.Answers.{IsRefusedBy, size_refusal}
+use Rattle.rlsf_checked.specs.declared.error.CheckedError.TheVariants.{NoLayout, NoRoom, UnknownAddress}
 use Rattle.rlsf_checked.specs.Steps.Marks.{HasMark, mark_at}
-use Rattle.rlsf_checked.proofs.Standing.{has_mark, left_behind, marked_moved, size_fits, stands_after, step_of, unchanged}
+use Rattle.rlsf_checked.proofs.Standing.{has_mark, left_behind, marked_moved, size_fits, size_past, stands_after, step_of, unchanged}
 use Rattle.rlsf_checked.proofs.checked.CheckedTlsf.reallocate.Goals as goal
 
 pub invariant_of-self : goal.invariant_of-self
@@ -60,3 +64,64 @@ returns-clause-aligns g c = rw (← c.self.view_is) c.in-Some-reallocate.ensures
 
 pub returns-clause-bytes : goal.returns-clause-bytes
 returns-clause-bytes g c = rw (← c.self.view_is) c.in-Some-reallocate.ensures.bytes
+
+pub returns-in_default-clause-answer : goal.returns-in_default-clause-answer
+returns-in_default-clause-answer g c = subst (λ o. IsRefusedBy {A = NonZeroUsize} (size_refusal o c.args.size) (Err UnknownAddress)) c.in_default.ensures.value refl
+
+pub returns-in_default-from_size_align-clause-answer : goal.returns-in_default-from_size_align-clause-answer
+returns-in_default-from_size_align-clause-answer g c =
+    let past = size_past c.args.size c.in-Some.align c.in-Some.ensures.power (λ is. false≢true (c.in_default-from_size_align.ensures.succeeds.1 is)) in
+    subst (λ o. IsRefusedBy {A = NonZeroUsize} (size_refusal o c.args.size) (Err NoLayout)) c.in-Some.ensures.value (subst (λ o. IsRefusedBy {A = NonZeroUsize} o (Err NoLayout)) (sym past) refl)
+
+pub returns-in_default-reallocate-clause-answer : goal.returns-in_default-reallocate-clause-answer
+returns-in_default-reallocate-clause-answer g c =
+    let (size, align) = c.in-Ok.ensures.layout in
+    subst (λ o. IsRefusedBy {A = NonZeroUsize} (size_refusal o c.args.size) (Err NoRoom)) c.in-Some.ensures.value
+    (subst (λ o. IsRefusedBy {A = NonZeroUsize} o (Err NoRoom)) (sym (size_fits c.in-Ok.layout c.args.size c.in-Some.align size align)) refl)
+
+pub returns-in_default-reallocate-clause-step : goal.returns-in_default-reallocate-clause-step
+returns-in_default-reallocate-clause-step g c = λ fits. subst (λ n. Steps g.row.FLLEN g.row.SLLEN c.args.self.now.heap c.reallocate.new.self (Reallocates g.row.SLLEN c.args.self.now.heap.state (at c.args.addr) n None)) c.in-Ok.ensures.layout.0
+    (rw (← c.self.view_is) c.in_default-reallocate.ensures.step)
+
+pub returns-in_default-reallocate-clause-same : goal.returns-in_default-reallocate-clause-same
+returns-in_default-reallocate-clause-same g c = rw (← c.self.view_is) c.in_default-reallocate.ensures.same
+
+pub returns-in_default-reallocate-clause-refused : goal.returns-in_default-reallocate-clause-refused
+returns-in_default-reallocate-clause-refused g c = rw (← c.self.view_is) c.in_default-reallocate.ensures.refused
+
+pub returns-in_default-reallocate-clause-place : goal.returns-in_default-reallocate-clause-place
+returns-in_default-reallocate-clause-place g c = rw (← c.self.view_is) c.in_default-reallocate.ensures.place
+
+pub returns-in_default-reallocate-clause-touches : goal.returns-in_default-reallocate-clause-touches
+returns-in_default-reallocate-clause-touches g c = rw (← c.self.view_is) c.in_default-reallocate.ensures.touches
+
+pub returns-in_default-reallocate-clause-copied : goal.returns-in_default-reallocate-clause-copied
+returns-in_default-reallocate-clause-copied g c = rw (← c.self.view_is) c.in_default-reallocate.ensures.copied
+
+pub returns-clause-step : goal.returns-clause-step
+returns-clause-step g c = λ fits. subst (λ n. Steps g.row.FLLEN g.row.SLLEN c.args.self.now.heap c.reallocate.new.self (Reallocates g.row.SLLEN c.args.self.now.heap.state (at c.args.addr) n (Some (at c.in-Some-reallocate.moved)))) c.in-Ok.ensures.layout.0
+    (rw (← c.self.view_is) c.in-Some-reallocate.ensures.step)
+
+pub returns-clause-sized : goal.returns-clause-sized
+returns-clause-sized g c = subst (λ n. n ≤ length (bytes_at c.reallocate.new.self.state (at c.in-Some-reallocate.moved))) c.in-Ok.ensures.layout.0 c.in-Some-reallocate.ensures.sized
+
+pub returns-clause-few : goal.returns-clause-few
+returns-clause-few g c = subst (λ n. length (bytes_at c.reallocate.new.self.state (at c.in-Some-reallocate.moved)) < n + 32) c.in-Ok.ensures.layout.0 c.in-Some-reallocate.ensures.few
+
+pub returns-clause-kept : goal.returns-clause-kept
+returns-clause-kept g c = rw (← c.self.view_is) c.in-Some-reallocate.ensures.kept
+
+pub returns-clause-live : goal.returns-clause-live
+returns-clause-live g c = c.in-Some-reallocate.ensures.live ∙ ap Some c.in-Ok.ensures.layout.1 ∙ c.in-Some.ensures.value
+
+pub returns-clause-new : goal.returns-clause-new
+returns-clause-new g c = rw (← c.self.view_is) c.in-Some-reallocate.ensures.new
+
+pub returns-clause-place : goal.returns-clause-place
+returns-clause-place g c = rw (← c.self.view_is) c.in-Some-reallocate.ensures.place
+
+pub returns-clause-touches : goal.returns-clause-touches
+returns-clause-touches g c = rw (← c.self.view_is) c.in-Some-reallocate.ensures.touches
+
+pub returns-clause-copied : goal.returns-clause-copied
+returns-clause-copied g c = rw (← c.self.view_is) c.in-Some-reallocate.ensures.copied

@@ -8,7 +8,7 @@ use Rattle.rlsf_machine.specs.Allocate.{Allocates}
 use Rattle.rlsf_machine.specs.Callers.{align_at, bytes_at}
 use Rattle.rlsf_machine.specs.FlexReallocate.{FlexReallocates, IsStuck}
 use Rattle.rlsf_machine.specs.Reallocate.{HasRoomToResize, HasRoomToStay, Keeps, Reallocates, in_place, into_next, or_else}
-use Rattle.rlsf_machine.specs.State.{State, Used, usable, Holds}
+use Rattle.rlsf_machine.specs.State.{Used, usable, Holds}
 use Rattle.rlsf_machine.proofs.CallerWords.{align_at-live, bytes_at-held}
 use Rattle.rlsf_tlsf.specs.Allocator.{Steps}
 use Rattle.rlsf_flex.proofs.Allocations.{Tried, extended_none, for_some, more_is_found, not_none, nothing_asked, nothing_more, vacuous}

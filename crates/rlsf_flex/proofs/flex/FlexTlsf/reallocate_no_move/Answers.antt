@@ -1,10 +1,11 @@
-use Rattle.std.proofs.Common.{◌≡◌, ◌≤◌, ◌+◌, IfNone, IfSome, ◌∙◌, ap, subst}
+use Rattle.std.proofs.Common.{◌≡◌, ◌≤◌, ◌+◌, Option, None, Some, IfNone, IfSome, ◌∙◌, ap, subst}
 use Rattle.rlsf_base.specs.Addr.{at, reply}
 use Rattle.rlsf_machine.specs.NoMove.{ReallocatesWithoutMove}
 use Rattle.rlsf_base.specs.Space.{SamePlace}
 use Rattle.rlsf_machine.specs.Callers.{align_at, bytes_at}
 use Rattle.rlsf_machine.specs.Reallocate.{Keeps}
-use Rattle.rlsf_flex.specs.StandsFor.{flex_contents, FlexContents, StepsAlone}
+use Rattle.rlsf_machine.specs.State.{State}
+use Rattle.rlsf_flex.specs.StandsFor.{flex_contents, kept_of, FlexContents, StepsAlone}
 use Rattle.rlsf_flex.proofs.Calls.{stands_alone, steps_alone}
 use Rattle.rlsf_flex.proofs.flex.FlexTlsf.reallocate_no_move.Goals as goal
 
@@ -58,3 +59,14 @@ returns-clause-grow g c = subst (λ (old : FlexContents g.row.S.Denot). old.memo
 
 pub returns-clause-copied : goal.returns-clause-copied
 returns-clause-copied g c = c.reallocate_no_move.ensures.copied ∙ ap (λ (old : FlexContents g.row.S.Denot). old.memory.copied) c.self.view_is
+
+-- what is true without an answer, by what is
+if_none : {A P Q : Type 0} (o : Option A) → (P → Q) → IfNone o P → IfNone o Q
+if_none None f p = f p
+if_none (Some x) f p = tt
+
+pub returns-clause-same : goal.returns-clause-same
+returns-clause-same g c =
+    let new = flex_contents c.reallocate_no_move.new.self c.self.inside.kept c.self.inside.source c.self.inside.owed.ranges in
+    subst (λ (old : FlexContents g.row.S.Denot). IfNone c.reallocate_no_move.result (new.state ≡ old.state)) c.self.view_is
+    (if_none c.reallocate_no_move.result (ap (λ (s : State). record { machine = s; pools = c.self.inside.owed.ranges; kept = kept_of c.self.inside.kept })) c.reallocate_no_move.ensures.same)
