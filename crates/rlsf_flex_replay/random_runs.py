@@ -4,8 +4,9 @@
 usage: random_runs.py RUNS SEED          writes stdin and stdout beside this file
        random_runs.py RUNS SEED --try    compares the program with the model, and writes neither
 
-The model is tools/model/flex_machine.py. There are RUNS random runs of 60 calls, and behind them those of the original's tests of this
-allocator (`original_runs`). The answers of a source are chosen while the model runs, and are then a fixed list for the program.
+The model is tools/model/flex_machine.py. There are RUNS random runs of 60 calls, behind them those of the original's tests of this
+allocator (`original_runs`), and at the end runs over sources with fixed answers (`listed_runs`). The answers of a source are else chosen
+while the model runs, and are then a fixed list for the program. The stored ones are those of 20 and 29.
 """
 import pathlib
 import random
@@ -20,6 +21,7 @@ HERE = pathlib.Path(__file__).resolve().parent
 sys.path.insert(0, str(HERE.parents[1] / "tools/model"))
 from machine_runs import CAPABILITIES, START, Run, Source, up  # noqa: E402
 from original_runs import original_runs  # noqa: E402
+from listed_runs import listed_runs  # noqa: E402
 
 CALLS, PER_FILE = 60, 25
 MIN_ALIGNS = (1, 8, 32, 64, 1024)
@@ -149,7 +151,7 @@ def compare(runs):
 
 def main(count, seed, *options):
     rng = random.Random(int(seed))
-    runs = [random_run(rng, index) for index in range(int(count))] + original_runs()
+    runs = [random_run(rng, index) for index in range(int(count))] + original_runs() + listed_runs()
     if "--try" in options:
         return compare(runs)
     write(runs, HERE / "stdin", HERE / "stdout")

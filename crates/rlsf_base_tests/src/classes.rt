@@ -1,7 +1,7 @@
 ghost use Rattle.rlsf_base.specs.SizeClass.{IsValid};
 ghost use Rattle.rlsf_base.specs.Sizes as sizes;
 
-use crate::answers::all;
+use crate::answers::{all, passes};
 use rlsf_base::classes::{
     map_ceil, map_ceil_and_unmap, map_floor, max_pool_size, pool_size_to_contain_allocation,
     request_size,
@@ -9,7 +9,6 @@ use rlsf_base::classes::{
 use rlsf_base::memory::Layout;
 use rlsf_int::BitPattern;
 use std::process::Abort;
-use std::test::Fail;
 
 /// What is computed of a size.
 type Row = (
@@ -36,7 +35,7 @@ fn start(fl: usize, sl: usize, size: usize) -> Row {
 
 /// Passes where the rows are the expected ones.
 fn are(rt: &impl Abort, rows: &[Row], expected: &[Row]) {
-    assert_eq!(rt; rows, expected);
+    assert!(rt; rows == expected);
 }
 
 #[test]
@@ -148,7 +147,7 @@ fn longest_chunks(rt: HostRuntime) {
         None,
         None,
     ];
-    assert_eq!(rt; ends, expected);
+    assert!(rt; ends == expected);
 }
 
 #[test]
@@ -161,14 +160,12 @@ fn pools_for_one_allocation(rt: HostRuntime) {
         pool_size_to_contain_allocation::<u8, u8, 8, 8>(middling),
         pool_size_to_contain_allocation::<u8, u8, 8, 8>(large),
     ];
-    assert_eq!(rt;
-        (request_size(one), pools),
-        (32, [Some(64), Some(2080), None])
-    );
+    assert!(rt; request_size(one) == 32);
+    assert!(rt; pools == [Some(64), Some(2080), None]);
 }
 
 #[test]
-fn pools_for_one_allocation_of_most_classes(rt: HostRuntime) -> Result<(), Fail> {
+fn pools_for_one_allocation_of_most_classes(rt: HostRuntime) {
     let half = 1 << 63;
     let asked = [
         (1, 1, 64),
@@ -179,14 +176,10 @@ fn pools_for_one_allocation_of_most_classes(rt: HostRuntime) -> Result<(), Fail>
         (0, half, 9223372036854775840),
     ];
     for (size, align, len) in asked {
-        let layout = Layout::from_size_align(size, align)?;
-        assert_eq!(rt;
-            pool_size_to_contain_allocation::<u128, u128, 128, 128>(layout),
-            Some(len),
-            "{size} bytes at multiples of {align}"
-        );
+        let layout = Layout::from_size_align(size, align).expect(&rt, "a layout");
+        let pool = pool_size_to_contain_allocation::<u128, u128, 128, 128>(layout);
+        passes(&rt, pool == Some(len), size);
     }
-    Ok(())
 }
 
 /// Whether the class is one, and is that of a size which begins it.

@@ -114,7 +114,8 @@ fn bits_of_each_type(rt: HostRuntime) {
         positions::<u128>(),
         positions::<usize>(),
     ];
-    assert_eq!(rt; [signed, unsigned], [[8, 16, 32, 64, 128, 64]; 2]);
+    let expected = [8, 16, 32, 64, 128, 64];
+    all(&rt, &[signed == expected, unsigned == expected]);
 }
 
 #[test]

@@ -2,11 +2,11 @@ ghost use Rattle.std.specs.Prelude.{◌≡◌, ◌%◌, length, IsTrue};
 ghost use Rattle.rlsf_base.specs.Range.{LiesIn};
 ghost use Rattle.rlsf_base.specs.Space.{IsWord};
 
+use crate::answers::passes;
 use rlsf_base::memory::{Memory, MemoryError, Range};
 use std::alloc::Global;
 use std::mem::size_of;
 use std::rt::Files;
-use std::test::Fail;
 use std::{fs, thread};
 
 const MAX: usize = usize::MAX;
@@ -109,16 +109,12 @@ fn first_wrong(memory: &mut Memory, steps: &[Step]) -> Option<usize> {
     None
 }
 
-/// The start and the length of a memory that was made so, and the index of the first step that it answers otherwise.
-fn made(
-    alloc: Global,
-    start: usize,
-    len: usize,
-    steps: &[Step],
-) -> Result<(usize, usize, Option<usize>), MemoryError> {
-    let mut memory = Memory::new(alloc, start, len)?;
-    let wrong = first_wrong(&mut memory, steps);
-    Ok((memory.start(), memory.len(), wrong))
+/// Whether a memory that was made so has this start and length, and answers each step so.
+fn goes_so(alloc: Global, start: usize, len: usize, steps: &[Step]) -> bool {
+    let Ok(mut memory) = Memory::new(alloc, start, len) else {
+        return false;
+    };
+    first_wrong(&mut memory, steps) == None && memory.start() == start && memory.len() == len
 }
 
 /// A start, a length, and why there is no such memory.
@@ -137,18 +133,15 @@ const REFUSED: [(usize, usize, Option<MemoryError>); 8] = [
 #[test]
 fn refuses_in_order(rt: HostRuntime) {
     for (start, len, error) in REFUSED {
-        assert_eq!(rt;
-            Memory::new(rt.alloc(), start, len).err(),
-            error,
-            "{len} bytes from {start} on"
-        );
+        let refused = Memory::new(rt.alloc(), start, len).err();
+        passes(&rt, refused == error, len);
     }
 }
 
 #[test]
 fn as_large_as_a_list_of_bytes(rt: HostRuntime) {
-    assert_eq!(rt; size_of::<Memory>(), size_of::<Vec<u8>>());
-    assert_eq!(rt; size_of::<Memory>(), 3 * size_of::<usize>());
+    assert!(rt; size_of::<Memory>() == size_of::<Vec<u8>>());
+    assert!(rt; size_of::<Memory>() == 3 * size_of::<usize>());
 }
 
 #[test]
@@ -158,7 +151,7 @@ fn errors_have_numbers(rt: HostRuntime) {
         MemoryError::TooLong as u8,
         MemoryError::OutOfMemory as u8,
     ];
-    assert_eq!(rt; numbers, [1, 2, 3]);
+    assert!(rt; numbers == [1, 2, 3]);
 }
 
 /// The range without a byte at the greatest address.
@@ -269,33 +262,32 @@ static SCRIPTS: [(usize, usize, &[Step]); 7] = [
 ];
 
 #[test]
-fn steps(rt: HostRuntime) -> Result<(), Fail> {
+fn steps(rt: HostRuntime) {
     for (start, len, steps) in SCRIPTS {
-        assert_eq!(rt; made(rt.alloc(), start, len, steps)?, (start, len, None));
+        let is_so = goes_so(rt.alloc(), start, len, steps);
+        passes(&rt, is_so, len);
     }
-    Ok(())
 }
 
 /// How many bytes of addresses the process has, by the pages that the system tells.
-fn mapped(rt: &(impl Files + AllocGlobal)) -> Result<usize, Fail> {
-    let sizes = fs::read_to_string(rt, "/proc/self/statm")?;
-    let pages = sizes.split(' ').next().unwrap_or("");
-    Ok(pages.parse::<usize>()?.saturating_mul(4096))
+fn mapped(rt: &(impl Files + AllocGlobal)) -> Option<usize> {
+    let sizes = fs::read_to_string(rt, "/proc/self/statm").ok()?;
+    let (pages, _) = sizes.split_once(' ')?;
+    let pages: usize = pages.parse().ok()?;
+    Some(pages.saturating_mul(4096))
 }
 
 // They are 6400 MiB together, so a process that stays below 2 GiB more than before has given them back.
 #[test]
-fn dropped_memories_are_given_back(rt: HostRuntime) -> Result<(), Fail> {
+fn dropped_memories_are_given_back(rt: HostRuntime) {
     let steps = [Step::SetWord(4096, 1), Step::Word(4096, 1)];
-    let before = mapped(&rt)?;
+    let before = mapped(&rt).expect(&rt, "a number");
     for _ in 0..200 {
-        assert_eq!(rt;
-            made(rt.alloc(), 4096, 1 << 25, &steps)?,
-            (4096, 1 << 25, None)
-        );
-        assert!(rt; mapped(&rt)?.saturating_sub(before) < 1 << 31);
+        let is_so = goes_so(rt.alloc(), 4096, 1 << 25, &steps);
+        assert!(rt; is_so);
+        let then = mapped(&rt).expect(&rt, "a number");
+        assert!(rt; then.saturating_sub(before) < 1 << 31);
     }
-    Ok(())
 }
 
 const WRITTEN: &[Step] = &[
@@ -309,15 +301,14 @@ const SEEN: &[Step] = &[Step::Bytes(
 )];
 
 #[test]
-fn crosses_threads(rt: HostRuntime) -> Result<(), Fail> {
-    let mut memory = Memory::new(rt.alloc(), 4096, 16)?;
+fn crosses_threads(rt: HostRuntime) {
+    let mut memory = Memory::new(rt.alloc(), 4096, 16).expect(&rt, "a memory");
     let before = first_wrong(&mut memory, WRITTEN);
-    let child = thread::spawn(&rt, move || memory)?;
+    let Ok(child) = thread::spawn(&rt, move || memory) else {
+        panic!(rt; "no thread");
+    };
     let mut back = child.join(&rt);
     let after = first_wrong(&mut back, SEEN);
-    assert_eq!(rt;
-        (back.start(), back.len(), before, after),
-        (4096, 16, None, None)
-    );
-    Ok(())
+    assert!(rt; before == None && after == None);
+    assert!(rt; back.start() == 4096 && back.len() == 16);
 }

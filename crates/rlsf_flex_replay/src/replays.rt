@@ -10,7 +10,7 @@ use rlsf_base::memory::{Memory, Range};
 use rlsf_flex::FlexTlsf;
 use rlsf_flex_runs::run_flex;
 use rlsf_int::Bitmap;
-use rlsf_listed::ListedSource;
+use rlsf_listed_source::ListedSource;
 use rlsf_text::{Configuration, Op, text_of};
 use std::alloc::Global;
 

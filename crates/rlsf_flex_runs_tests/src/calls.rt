@@ -1,7 +1,5 @@
 //! Calls on payloads that have names.
 
-ghost use Rattle.std.specs.Prelude.{◌<◌, ◌^◌};
-
 use rlsf_base::memory::{Layout, LayoutError};
 use rlsf_text::Op;
 
@@ -25,11 +23,4 @@ pub fn op(call: Call) -> Result<Op, LayoutError> {
         Call::Free(name) => Ok(Op::Free(name)),
         Call::Realloc(name, size) => Ok(Op::Realloc(name, size)),
     }
-}
-
-/// A payload of this name is allocated, of so many bytes, anywhere.
-pub fn alloc_op(name: usize, size: usize) -> Op
-    requires { size < 2 ^ 32 }
-{
-    Op::Alloc(name, Layout::from_size_align_unchecked(size, 1))
 }

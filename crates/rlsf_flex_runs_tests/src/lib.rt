@@ -11,5 +11,3 @@ mod refusals;
 mod runs;
 #[cfg(test)]
 mod sources;
-#[cfg(test)]
-mod trims;

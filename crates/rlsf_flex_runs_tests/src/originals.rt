@@ -24,7 +24,7 @@ use crate::sources::parts_of;
 use rlsf_flex::FlexTlsf;
 use rlsf_flex_runs::run_flex;
 use rlsf_int::Bitmap;
-use rlsf_listed::{ListedSource, Question, SourceAnswer};
+use rlsf_listed_source::{ListedSource, Question, SourceAnswer};
 use rlsf_text::{Answer, Op};
 use std::alloc::Global;
 

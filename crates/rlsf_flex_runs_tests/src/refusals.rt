@@ -1,80 +1,25 @@
 //! Sources that answer from a list, as it is and with each answer replaced by none in turn: after each call that is refused, all
 //! bytes and the source's outstanding ranges are as before, and the run goes on.
 
-mod short_tables;
 mod tables;
 
 ghost use Rattle.rlsf_base.specs.PowerOfTwo.{IsPowerOfTwo};
 
-use self::short_tables::{
-    CLAIMS_CONTIGUITY_ANSWERS, CLAIMS_CONTIGUITY_CALLS, CLAIMS_CONTIGUITY_RUNS, TAKES_BACK_ANSWERS,
-    TAKES_BACK_CALLS, TAKES_BACK_RUNS,
-};
-use self::tables::{
-    GROWS_AND_TAKES_BACK_ANSWERS, GROWS_AND_TAKES_BACK_CALLS, GROWS_AND_TAKES_BACK_RUNS,
-};
-use crate::calls::{Call, op};
+use self::tables::{CLAIMS_CONTIGUITY, GROWS_AND_TAKES_BACK, TAKES_BACK};
 use crate::sources::parts;
 use rlsf_base::memory::{Memory, Range};
 use rlsf_flex::FlexTlsf;
 use rlsf_flex_runs::run_flex;
-use rlsf_listed::{Capabilities, ListedSource, Question, SourceAnswer};
-use rlsf_text::{Answer, Op, TraceError};
+use rlsf_listed_source::{Capabilities, ListedSource, Question, SourceAnswer};
+use rlsf_text::{Answer, Op, Trace, text_of};
 use std::alloc::{AllocError, Global};
-use std::num::NonZeroUsize;
-use std::test::Fail;
 
-/// What a source has to be asked, and what it has to answer: 0 for none.
-#[derive(Clone, Copy)]
-enum Asked {
-    /// A range of so many bytes; its start and its length.
-    Alloc(usize, usize, usize),
-    /// Growth of the range of that start and length to so many bytes; its new length.
-    Grow(usize, usize, usize, usize),
-    /// To take the range of that start and length back.
-    Dealloc(usize, usize),
-}
-
-/// What comes of the calls.
-#[derive(Clone, Copy)]
-struct Run {
-    /// Which answer of the list is replaced by none.
-    refused: Option<usize>,
-    /// The address that each call answers, 0 for none.
-    placed: &'static [usize],
-    /// Which calls name no live payload.
-    unknown: &'static [usize],
-    /// What the source is asked, up to the end.
-    asked: &'static [Asked],
-}
-
-/// What a run has to answer to the op at a place.
-fn answer(run: Run, place: usize, op: Op) -> Answer {
-    if run.unknown.contains(&place) {
-        return Answer::Refused(TraceError::UnknownName);
-    }
-    match op {
-        Op::Free(_) => Answer::Done,
-        _ => Answer::Placed(
-            run.placed
-                .get(place)
-                .and_then(|addr| NonZeroUsize::new(*addr)),
-        ),
-    }
-}
-
-fn question(asked: Asked) -> Question {
-    match asked {
-        Asked::Alloc(min_size, _, 0) => Question::Alloc(min_size, None),
-        Asked::Alloc(min_size, start, len) => Question::Alloc(min_size, Some(Range { start, len })),
-        Asked::Grow(start, len, min_new_len, 0) => {
-            Question::Grow(Range { start, len }, min_new_len, None)
-        }
-        Asked::Grow(start, len, min_new_len, new_len) => {
-            Question::Grow(Range { start, len }, min_new_len, Some(new_len))
-        }
-        Asked::Dealloc(start, len) => Question::Dealloc(Range { start, len }),
-    }
+/// The answers of a source, the calls of its runs, and what each run answers and asks: first with the answers as they are, and then
+/// with each of them replaced by none.
+struct List {
+    answers: &'static [SourceAnswer],
+    trace: &'static str,
+    runs: &'static [&'static str],
 }
 
 /// What calls leave at the end: what they answered, the memory and the source.
@@ -85,21 +30,21 @@ struct Left {
     source: ListedSource,
 }
 
-/// What ops leave over a source with these answers.
+/// What ops leave over a source with these answers; nothing where the system refuses memory.
 fn left_by(
     alloc: Global,
     capabilities: Capabilities,
     given: &[SourceAnswer],
     ops: &[Op],
-) -> Result<Left, Fail>
+) -> Option<Left>
     requires { IsPowerOfTwo capabilities.min_align }
 {
-    let (first, fresh) = parts(alloc, capabilities, given.to_vec(alloc)?)?;
+    let (first, fresh) = parts(alloc, capabilities, given)?;
     let mut flex = FlexTlsf::<_, u8, u8, 8, 8>::new(first, fresh);
     let mut answers = Vec::new(alloc);
-    run_flex(alloc, &mut flex, ops, &mut answers)?;
+    run_flex(alloc, &mut flex, ops, &mut answers).ok()?;
     let (memory, source) = flex.into_parts();
-    Ok(Left {
+    Some(Left {
         answers,
         memory,
         source,
@@ -108,10 +53,12 @@ fn left_by(
 
 /// The questions up to the end, and those at the end: the ranges that were outstanding then.
 fn up_to_end(asked: &[Question]) -> (&[Question], &[Question]) {
-    let end = asked
-        .iter()
-        .position(|question| matches!(question, Question::Dealloc(_)));
-    asked.split_at(end.unwrap_or(asked.len()))
+    for (end, question) in asked.iter().enumerate() {
+        if let Question::Dealloc(_) = question {
+            return asked.split_at(end);
+        }
+    }
+    (asked, &[])
 }
 
 /// Whether a question was answered with none.
@@ -142,126 +89,121 @@ fn is_unchanged(before: &Left, after: &Left) -> bool {
         && new.iter().all(is_refused)
 }
 
-/// The answers of a list, one of which may be replaced by none.
-fn replaced(
-    alloc: Global,
-    given: &[SourceAnswer],
-    refused: Option<usize>,
-) -> Result<Vec<SourceAnswer>, AllocError> {
-    let mut answers = given.to_vec(alloc)?;
-    if let Some(answer) = refused.and_then(|place| answers.get_mut(place)) {
-        *answer = SourceAnswer::None;
+/// Whether one more op answers once more, and leaves all as it was where that is a refusal.
+fn follows(before: &Left, after: &Left) -> bool {
+    match after.answers.strip_prefix(before.answers.as_slice()) {
+        Some([Answer::Placed(None)]) => is_unchanged(before, after),
+        Some([_]) => true,
+        _ => false,
     }
-    Ok(answers)
 }
 
-/// A source's capabilities and answers, and the calls of its runs.
-#[derive(Clone, Copy)]
-struct List {
+/// What the ops leave; nothing where one of them, done as the last one, doesn't answer what it answers among all of them, or is refused and
+/// leaves something else than was there.
+fn left_by_each(
+    alloc: Global,
     capabilities: Capabilities,
-    answers: &'static [SourceAnswer],
-    calls: &'static [Call],
-}
-
-/// Whether one more op answers what the run has to, and leaves all as it was where that is a refusal.
-fn is_right(before: &Left, after: &Left, expected: &[Answer]) -> bool {
-    let refused = expected.last() == Some(&Answer::Placed(None));
-    after.answers.as_slice() == expected && (!refused || is_unchanged(before, after))
-}
-
-/// Whether the calls answer what the run has to, one more from the beginning each time, and the source is asked what it has to be.
-fn goes_so(alloc: Global, list: List, run: Run) -> Result<bool, Fail>
-    requires { IsPowerOfTwo list.capabilities.min_align }
+    given: &[SourceAnswer],
+    ops: &[Op],
+) -> Option<Left>
+    requires { IsPowerOfTwo capabilities.min_align }
 {
-    let given = replaced(alloc, list.answers, run.refused)?;
-    let mut ops = Vec::new(alloc);
-    let mut expected = Vec::new(alloc);
-    let mut before = left_by(alloc, list.capabilities, &given, &ops)?;
-    for (place, call) in list.calls.iter().enumerate() {
-        let op = op(*call)?;
-        ops.push(op)?;
-        expected.push(answer(run, place, op))?;
-        let after = left_by(alloc, list.capabilities, &given, &ops)?;
-        if !is_right(&before, &after, &expected) {
-            return Ok(false);
+    let mut before = left_by(alloc, capabilities, given, &[])?;
+    for (place, _) in ops.iter().enumerate() {
+        let after = left_by(alloc, capabilities, given, &ops[..=place])?;
+        if !follows(&before, &after) {
+            return None;
         }
         before = after;
     }
-    Ok(asks_so(&before.source, run))
+    Some(before)
 }
 
-/// Whether the source was asked what the run has to ask.
-fn asks_so(source: &ListedSource, run: Run) -> bool {
-    let asked = source.asked();
-    asked.len() == run.asked.len()
-        && asked
-            .iter()
-            .zip(run.asked.iter())
-            .all(|(one, other)| *one == question(*other))
+/// The answers of a list, one of which is replaced by none if the run isn't the first.
+fn replaced(alloc: Global, given: &[SourceAnswer], run: usize) -> Option<Vec<SourceAnswer>> {
+    let mut answers = given.to_vec(alloc).ok()?;
+    if 0 < run && run <= answers.len() {
+        answers[run - 1] = SourceAnswer::None;
+    }
+    Some(answers)
+}
+
+/// A line for a question.
+fn tell(text: &mut String, question: Question) -> Result<(), AllocError> {
+    match question {
+        Question::Alloc(size, Some(Range { start, len })) => {
+            write!(text, "asked {size} got {start} {len}\n")
+        }
+        Question::Alloc(size, None) => write!(text, "asked {size} got none\n"),
+        Question::Grow(Range { start, len }, wanted, Some(given)) => {
+            write!(
+                text,
+                "asked {start} {len} to grow to {wanted} got {given}\n"
+            )
+        }
+        Question::Grow(Range { start, len }, wanted, None) => {
+            write!(text, "asked {start} {len} to grow to {wanted} got none\n")
+        }
+        Question::Dealloc(Range { start, len }) => write!(text, "given back {start} {len}\n"),
+    }
+}
+
+/// What a run answers and asks; nothing where a refused call changes something, or the system refuses memory.
+fn told(alloc: Global, capabilities: Capabilities, list: &List, run: usize) -> Option<String>
+    requires { IsPowerOfTwo capabilities.min_align }
+{
+    let ops = Trace::parse(alloc, list.trace.as_bytes()).ok()?.ops;
+    let given = replaced(alloc, list.answers, run)?;
+    let left = left_by_each(alloc, capabilities, &given, &ops)?;
+    let mut text = text_of(alloc, &ops, &left.answers).ok()?;
+    for question in left.source.asked() {
+        tell(&mut text, *question).ok()?;
+    }
+    Some(text)
 }
 
 /// The first run that goes otherwise.
-fn first_wrong(alloc: Global, list: List, runs: &[Run]) -> Result<Option<usize>, Fail>
-    requires { IsPowerOfTwo list.capabilities.min_align }
+fn first_wrong(alloc: Global, capabilities: Capabilities, list: &List) -> Option<usize>
+    requires { IsPowerOfTwo capabilities.min_align }
 {
-    for (place, run) in runs.iter().enumerate() {
-        if !goes_so(alloc, list, *run)? {
-            return Ok(Some(place));
+    for (run, wanted) in list.runs.iter().enumerate() {
+        match told(alloc, capabilities, list, run) {
+            Some(text) if text.as_str() == *wanted => {}
+            _ => return Some(run),
         }
     }
-    Ok(None)
+    None
 }
 
-#[test]
-fn grows_and_takes_back(rt: HostRuntime) -> Result<(), Fail> {
-    let list = List {
-        capabilities: Capabilities {
-            dealloc: true,
-            grow: true,
-            contiguous: false,
-            min_align: 1,
-        },
-        answers: &GROWS_AND_TAKES_BACK_ANSWERS,
-        calls: &GROWS_AND_TAKES_BACK_CALLS,
-    };
-    assert_eq!(rt;
-        first_wrong(rt.alloc(), list, &GROWS_AND_TAKES_BACK_RUNS)?,
-        None
-    );
-    Ok(())
-}
+/// A source that grows its ranges and takes them back, one that claims to be one range, and one that only takes its ranges back.
+const GROWS: Capabilities = Capabilities {
+    dealloc: true,
+    grow: true,
+    contiguous: false,
+    min_align: 1,
+};
+
+const CLAIMS: Capabilities = Capabilities {
+    dealloc: false,
+    grow: true,
+    contiguous: true,
+    min_align: 1,
+};
+
+const TAKES: Capabilities = Capabilities {
+    dealloc: true,
+    grow: false,
+    contiguous: false,
+    min_align: 64,
+};
 
 #[test]
-fn claims_contiguity(rt: HostRuntime) -> Result<(), Fail> {
-    let list = List {
-        capabilities: Capabilities {
-            dealloc: false,
-            grow: true,
-            contiguous: true,
-            min_align: 1,
-        },
-        answers: &CLAIMS_CONTIGUITY_ANSWERS,
-        calls: &CLAIMS_CONTIGUITY_CALLS,
-    };
-    assert_eq!(rt;
-        first_wrong(rt.alloc(), list, &CLAIMS_CONTIGUITY_RUNS)?,
-        None
-    );
-    Ok(())
-}
-
-#[test]
-fn takes_back(rt: HostRuntime) -> Result<(), Fail> {
-    let list = List {
-        capabilities: Capabilities {
-            dealloc: true,
-            grow: false,
-            contiguous: false,
-            min_align: 64,
-        },
-        answers: &TAKES_BACK_ANSWERS,
-        calls: &TAKES_BACK_CALLS,
-    };
-    assert_eq!(rt; first_wrong(rt.alloc(), list, &TAKES_BACK_RUNS)?, None);
-    Ok(())
+fn each_answer_refused(rt: HostRuntime) {
+    let alloc = rt.alloc();
+    let found = [
+        first_wrong(alloc, GROWS, &GROWS_AND_TAKES_BACK),
+        first_wrong(alloc, CLAIMS, &CLAIMS_CONTIGUITY),
+        first_wrong(alloc, TAKES, &TAKES_BACK),
+    ];
+    assert_eq!(rt; found, [None; 3]);
 }

@@ -6,7 +6,7 @@ use crate::heaps::{Case, Shaped, Step, are_right, bytes, first_wrong, footer, is
 use rlsf_base::memory::{Memory, Range};
 use rlsf_flex::{FlexSource, FlexTlsf};
 use rlsf_heap::GlobalAllocAsFlexSource;
-use rlsf_listed::{Capabilities, ListedSource, Question as Asked, SourceAnswer};
+use rlsf_listed_source::{Capabilities, ListedSource, Question as Asked, SourceAnswer};
 use std::alloc::Global;
 use std::cell::Cell;
 use std::test::Fail;

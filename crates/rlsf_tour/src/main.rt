@@ -8,7 +8,7 @@ mod strings;
 
 use error::TourError;
 use rlsf::Blocks;
-use rlsf_uses::picture;
+use rlsf_collections::picture;
 use std::process::ExitCode;
 
 /// How many marks stand for a whole pool.

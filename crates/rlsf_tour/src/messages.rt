@@ -3,7 +3,7 @@
 use crate::draw;
 use crate::error::TourError;
 use rlsf::Memory;
-use rlsf_uses::Messages;
+use rlsf_collections::Messages;
 
 /// Pushes and pops messages.
 pub(crate) fn show(rt: &(impl Print + AllocGlobal)) -> Result<(), TourError> {

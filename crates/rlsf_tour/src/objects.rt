@@ -4,7 +4,7 @@ use crate::draw;
 use crate::error::TourError;
 use crate::messages::text;
 use rlsf::{Layout, Memory};
-use rlsf_uses::Objects;
+use rlsf_collections::Objects;
 
 /// Takes objects, writes into one, and gives one back.
 pub(crate) fn show(rt: &(impl Print + AllocGlobal)) -> Result<(), TourError> {

@@ -4,7 +4,7 @@ use crate::draw;
 use crate::error::TourError;
 use crate::messages::text;
 use rlsf::Memory;
-use rlsf_uses::Strings;
+use rlsf_collections::Strings;
 
 /// Makes strings, lets them grow past each other, joins two and drops one.
 pub(crate) fn show(rt: &(impl Print + AllocGlobal)) -> Result<(), TourError> {

@@ -90,8 +90,12 @@ impl Script {
 
     /// A size below the bound: the next three bytes are its part of it.
     fn next_size(&mut self, bound: usize) -> Option<usize> {
-        let bytes = [self.bytes.pop()?, self.bytes.pop()?, self.bytes.pop()?, 0];
-        Some((u32::from_le_bytes(bytes) as usize).wrapping_mul(bound) >> 24)
+        let mut part: usize = 0;
+        for unit in [1, 256, 65536] {
+            let byte = usize::from(self.bytes.pop()?);
+            part = part.wrapping_add(byte.wrapping_mul(unit));
+        }
+        Some(part.wrapping_mul(bound) >> 24)
     }
 
     fn add(&mut self, call: Call) -> Option<()> {

@@ -1,8 +1,8 @@
 #!/usr/bin/env python3
-"""Prints refusals/tables.rt or refusals/short_tables.rt but for their heads, before `rt fmt`: what the list machine over a source answers and asks, for a list of answers as it is and
+"""Prints refusals/tables.rt but for its head, before `rt fmt`: what the list machine over a source answers and asks, for a list of answers as it is and
 with each of them replaced by None in turn.
 
-usage: tables.py tables|short_tables
+usage: tables.py
 """
 import copy
 import pathlib
@@ -74,11 +74,19 @@ def asked(note):
     kind, *rest = note
     if kind == "alloc":
         n, given = rest
-        return f"Asked::Alloc({n}, {', '.join(map(str, given or (0, 0)))})"
+        return f"asked {n} got {'{} {}'.format(*given) if given else 'none'}"
     if kind == "grow":
         (s, l), n, given = rest
-        return f"Asked::Grow({s}, {l}, {n}, {given or 0})"
-    return f"Asked::Dealloc({rest[0][0]}, {rest[0][1]})"
+        return f"asked {s} {l} to grow to {n} got {given or 'none'}"
+    return f"given back {rest[0][0]} {rest[0][1]}"
+
+
+def answered(call, name, reply):
+    if reply == "unknown":
+        return "refused 1 UnknownName"
+    if call == "Free":
+        return f"free {name} done"
+    return f"{call.lower()} {name} {f'at {reply}' if reply else 'none'}"
 
 
 def runs(calls, answers, terms):
@@ -88,7 +96,6 @@ def runs(calls, answers, terms):
 
 LISTS = {
     "GROWS_AND_TAKES_BACK": (
-        "tables",
         (True, True, False, 1),
         [
             (4103, 781), 1756, 2460, 3449, 3932, None, (8042, 417), 1433, 2492, 3479, None, (11528, 557),
@@ -108,7 +115,6 @@ LISTS = {
         ],
     ),
     "CLAIMS_CONTIGUITY": (
-        "short_tables",
         (False, True, True, 1),
         [
             (4101, 421), 699, 993, 1147, 1534,
@@ -121,7 +127,6 @@ LISTS = {
         ],
     ),
     "TAKES_BACK": (
-        "short_tables",
         (True, False, False, 64),
         [
             (4160, 192), (4352, 229), (4608, 288), (4928, 673), (5696, 579),
@@ -141,19 +146,17 @@ def answer(a):
     return "SourceAnswer::None" if a is None else f"SourceAnswer::Len({a})"
 
 
+def text(lines):
+    return '"' + "".join(line + "\\n" for line in lines) + '"'
+
+
 def show(name, terms, answers, calls):
-    print(f"pub static {name}_ANSWERS: [SourceAnswer; {len(answers)}] = [{', '.join(map(answer, answers))}];\n")
-    shown = [f"Call::{c}({', '.join(map(str, rest))})" for c, *rest in calls]
-    print(f"pub static {name}_CALLS: [Call; {len(calls)}] = [{', '.join(shown)}];\n")
-    print(f"pub static {name}_RUNS: [Run; {len(answers) + 1}] = [")
-    for place, (replies, notes) in runs(calls, answers, terms):
-        refused = "None" if place < 0 else f"Some({place})"
-        placed = ", ".join("0" if r == "unknown" else str(r) for r in replies)
-        unknown = ", ".join(str(i) for i, r in enumerate(replies) if r == "unknown")
-        print(f"Run {{ refused: {refused}, placed: &[{placed}], unknown: &[{unknown}], asked: &[{', '.join(map(asked, notes))}] }},")
-    print("];\n")
+    trace = [f"8x8 {SPACE[0]} {SPACE[1]}"] + [" ".join(map(str, (c.lower(), *rest))) for c, *rest in calls]
+    print(f"pub static {name}: List = List {{ answers: &[{', '.join(map(answer, answers))}], trace: {text(trace)}, runs: &[")
+    for _, (replies, notes) in runs(calls, answers, terms):
+        print(text([answered(*call[:2], reply) for call, reply in zip(calls, replies)] + [asked(note) for note in notes]) + ",")
+    print("]};\n")
 
 
-for name, (file, terms, answers, calls) in LISTS.items():
-    if file == sys.argv[1]:
-        show(name, terms, answers, calls)
+for name, (terms, answers, calls) in LISTS.items():
+    show(name, terms, answers, calls)

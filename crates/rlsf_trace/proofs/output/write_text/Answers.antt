@@ -1,5 +1,9 @@
-use Rattle.rlsf_trace.proofs.Writing.{Appends-more}
+use Rattle.std.proofs.Common.{[], refl}
+use Rattle.rlsf_trace.proofs.Writing.{Appends-more, Appends-none}
 use Rattle.rlsf_trace.proofs.output.write_text.Goals as goal
+
+pub loop-init : goal.loop-init
+loop-init g c = ([], refl, Appends-none _)
 
 pub loop-preserved : goal.loop-preserved
 loop-preserved g c =

@@ -1,0 +1,42 @@
+use Rattle.std.proofs.Common.{◌≡◌, ◌<◌, arith, refl, ap, length, sym, ◌∙◌}
+use Rattle.std.proofs.Math.Path.{ap₂}
+use Rattle.std.proofs.lemmas.Bool.{false≢true}
+use Rattle.std.specs.VecDeque.{deque_capacity}
+use Rattle.rlsf_base.specs.Range.{range_at}
+use Rattle.rlsf_base.specs.Space.{range_of}
+use Rattle.rlsf_collections.proofs.Queues.{KeepsLongest-more, KeepsLongest-same, budget_for_message, length-messages, nothing_stored, pushed}
+use Rattle.rlsf_collections.proofs.messages.Messages.push.Goals as goal
+
+pub returns-in_default-clause-refused : goal.returns-in_default-clause-refused
+returns-in_default-clause-refused c = rw (← c.self.view_is) (c.in_default.ensures.refused _ c.self.invariant.0).1
+
+pub returns-in_default-clause-room : goal.returns-in_default-clause-room
+returns-in_default-clause-room c = rw (← c.self.view_is) (λ none _ fits _. c.in_default.ensures.room (nothing_stored c.self.inside.store c.self.inside.entries.items c.self.invariant.0 none) fits)
+
+pub invariant_of-self-2 : goal.invariant_of-self-2
+invariant_of-self-2 c =
+    let i = c.self.inside in
+    let place : range_of i.store.heap.memory ≡ range_of c.add.new.self.heap.memory = ap₂ range_at (sym c.add.ensures.place.0) (sym c.add.ensures.place.1) in
+    let holds : deque_capacity i.entries ≡ deque_capacity c.push_back_reserved.new.self = omega arith in
+    let keeps = KeepsLongest-more i.longest (range_of i.store.heap.memory) (deque_capacity i.entries) i.entries.items (record { addr = c.in-Some.addr; len = length c.args.message.now })
+    (λ longer. absurd (false≢true (sym c.if-is_longer.false ∙ c.is_longer.ensures.1 longer))) c.self.invariant.1 in
+    (rw c.push_back_reserved.ensures.items (pushed c.self.inside.store c.add.new.self c.self.inside.entries.items _ c.args.message.now (c.in-Some.ensures.stored _ c.self.invariant.0)).0, KeepsLongest-same i.longest place holds (sym c.push_back_reserved.ensures.items) keeps)
+
+pub returns-in_default-clause-enough : goal.returns-in_default-clause-enough
+returns-in_default-clause-enough c = rw (← c.self.view_is) (λ short _.
+    let i = c.self.inside in
+    let few : length i.entries.items < deque_capacity i.entries = omega arith in
+    let (n, budget, fits) = budget_for_message i.longest i.store i.entries.items (deque_capacity i.entries) (length c.args.message.now) c.self.invariant.0 c.self.invariant.1 few short in
+    absurd (false≢true (c.in_default.ensures.enough _ _ _ budget fits)))
+
+pub returns-clause-ok : goal.returns-clause-ok
+returns-clause-ok c = rw (← c.self.view_is, c.push_back_reserved.ensures.items) (pushed c.self.inside.store c.add.new.self c.self.inside.entries.items _ c.args.message.now (c.in-Some.ensures.stored _ c.self.invariant.0)).1
+
+pub returns-then-len-capacity-clause-full : goal.returns-then-len-capacity-clause-full
+returns-then-len-capacity-clause-full c = rw (← c.self.view_is) (λ _. omega (arith, length-messages c.self.inside.store.heap.memory c.self.inside.entries.items), λ _. refl)
+
+pub returns-then-len-capacity-clause-room : goal.returns-then-len-capacity-clause-room
+returns-then-len-capacity-clause-room c = rw (← c.self.view_is) (λ none some _. absurd (omega (arith, length-messages c.self.inside.store.heap.memory c.self.inside.entries.items, ap length none)))
+
+pub returns-in_default-clause-full : goal.returns-in_default-clause-full
+returns-in_default-clause-full c = rw (← c.self.view_is) (λ bad. absurd cc, λ full. absurd (omega (arith, length-messages c.self.inside.store.heap.memory c.self.inside.entries.items)))

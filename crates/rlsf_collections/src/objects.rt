@@ -1,0 +1,192 @@
+//! A pool of objects of one size and alignment, which are handed out and taken back by handle.
+
+ghost use Rattle.std.specs.Prelude.{◌≡◌, ◌≤◌, ◌+◌, ◌↔◌, [], ◌∷◌, ◌++◌, None, Some, IfOk, OnOk, OnErr, IsErr, IsErrOf, IsSomeAnd, length, nat_eq, replicate};
+ghost use Rattle.std.specs.List.{splice};
+ghost use Rattle.std.specs.Map.{lookup, remove_entry, set_value};
+ghost use Rattle.rlsf_base.specs.Sizes as sizes;
+ghost use Rattle.rlsf_base.specs.Space.{range_of};
+ghost use Rattle.std.specs.Map.Iter.{GivesInOrder};
+ghost use Rattle.rlsf_blocks.specs.Blocks.{IsInOrder};
+ghost use Rattle.rlsf_machine.specs.Insert.{aligned_part};
+ghost use Rattle.rlsf_collections.specs.Objects.{Writes, set_answer};
+ghost use Rattle.rlsf_collections.specs.Objects as objects;
+ghost use Rattle.rlsf_collections.specs.Stored.{FitsPool, used_count};
+ghost use Rattle.rlsf_collections.specs.declared.objects.TakeError.TheVariants.{NoRoom, OutOfMemory};
+
+use crate::items::Items;
+use crate::store::pool_len;
+use rlsf::{BlockInfo, Blocks, Layout, Memory, classes};
+use std::alloc::{AllocError, Global};
+use std::marker::Model;
+
+/// Why no object was handed out.
+#[derive(Clone, Copy, Debug, PartialEq, Eq)]
+pub enum TakeError {
+    /// As many objects are out as the pool may have.
+    NoRoom,
+    /// No memory was left for the table of handles, or every number was a handle already.
+    OutOfMemory,
+}
+
+impl From<AllocError> for TakeError {
+    ghost from_gives = { λ _ e. e ≡ OutOfMemory };
+
+    fn from(_error: AllocError) -> TakeError {
+        TakeError::OutOfMemory
+    }
+}
+
+/// No object with that handle is out.
+#[derive(Clone, Copy, Debug, PartialEq, Eq)]
+pub struct UnknownHandle;
+
+/// Why no bytes were written into an object.
+#[derive(Clone, Copy, Debug, PartialEq, Eq)]
+pub enum SetError {
+    /// No object with that handle is out.
+    UnknownHandle,
+    /// The bytes would reach past the end of the object.
+    OutOfRange,
+}
+
+/// A pool of objects of one layout, in a memory of its own.
+///
+/// Handles count up from 0, and a handle that was given back never comes back.
+#[derive(Drop)]
+pub struct Objects {
+    items: Items,
+    layout: Layout,
+    // How many may be out at once. Below that, the pool has room.
+    capacity: usize,
+}
+
+impl Model for Objects {
+    ghost use Rattle.rlsf_collections.specs.Capacities.{IsObjectPool};
+    ghost use Rattle.rlsf_collections.specs.Objects.{Pool};
+
+    ghost Value = { Pool };
+
+    ghost view = { λ o. record { objects = o.items.lists; next = o.items.next; size = o.layout.size; align = o.layout.align; memory = o.items.memory; capacity = o.capacity } };
+
+    ghost invariant = { λ o. IsObjectPool o.items o.layout.size o.layout.align o.capacity };
+}
+
+impl Objects {
+    /// A pool of which no object is out yet. Its memory is all that objects are taken from, and its length says how many may be
+    /// out at once.
+    ///
+    /// In a memory of the length that `classes::pool_size_for_objects` computes, from a multiple of 32 on, as many of the size
+    /// that it says may be out as were asked for, at an alignment of 16 or less. Where the block of an object doesn't begin a
+    /// size class, or the alignment is above 32, about half as many may be out.
+    pub fn new(alloc: Global, memory: Memory, layout: Layout) -> Objects
+        ensures pool { result ≡ record { objects = []; next = 0; size = layout.size; align = layout.align; memory = range_of memory; capacity = result.capacity } }
+        ensures capacity { result.capacity ≡ objects.capacity_of (aligned_part (range_of memory)).len layout.size layout.align }
+    {
+        let capacity = capacity_of(pool_len(&memory), layout);
+        Objects {
+            items: Items::new(alloc, memory, layout.align),
+            layout,
+            capacity,
+        }
+    }
+
+    /// How many objects may be out at once.
+    pub fn capacity(&self) -> usize
+        ensures { result ≡ self.now.capacity }
+    {
+        self.capacity
+    }
+
+    /// How many objects are out.
+    pub fn len(&self) -> usize
+        ensures value { result ≡ length self.now.objects }
+        ensures most { result ≤ self.now.capacity }
+    {
+        self.items.len()
+    }
+
+    /// Hands out an object of zeros, under a new handle.
+    ///
+    /// Refused with `NoRoom` exactly where as many are out as the capacity, and else with `OutOfMemory` without memory for its
+    /// handle, and then nothing changes. A pool of which no object is out, and whose memory fits one, has room.
+    pub fn take(&mut self) -> Result<usize, TakeError>
+        ensures taken { IfOk result (λ handle. (handle ≡ self.old.next)
+            × (self.new ≡ record self.old { objects = self.old.objects ++ (handle, replicate self.old.size 0) ∷ []; next = handle + 1 })) }
+        ensures new { IfOk result (λ handle. lookup (nat_eq handle) self.old.objects ≡ None) }
+        ensures full { IsErrOf result NoRoom ↔ (length self.old.objects ≡ self.old.capacity) }
+        ensures room { self.old.objects ≡ [] → FitsPool self.old.memory self.old.size self.old.align → IsErrOf result NoRoom → ⊥ }
+        ensures refused { OnErr result (self.new ≡ self.old) }
+    {
+        if self.items.len() == self.capacity {
+            return Err(TakeError::NoRoom);
+        }
+        self.items.add_zeros(self.layout)
+    }
+
+    /// Takes an object back. Its handle is unknown from then on, and all others are as they were.
+    ///
+    /// Refused exactly where no object with that handle is out, and then nothing changes.
+    pub fn give_back(&mut self, handle: usize) -> Result<(), UnknownHandle>
+        ensures given_back { OnOk result (self.new ≡ record self.old { objects = remove_entry (nat_eq handle) self.old.objects }) }
+        ensures gone { lookup (nat_eq handle) self.new.objects ≡ None }
+        ensures unknown { IsErr result ↔ (lookup (nat_eq handle) self.old.objects ≡ None) }
+        ensures refused { OnErr result (self.new ≡ self.old) }
+    {
+        self.items.remove(handle)
+    }
+
+    /// The bytes of an object. Refused exactly where no object with that handle is out.
+    pub fn get(&self, handle: usize) -> Result<&[u8], UnknownHandle>
+        ensures bytes { IfOk result (λ bytes. lookup (nat_eq handle) self.now.objects ≡ Some bytes.now) }
+        ensures len { IfOk result (λ bytes. length bytes.now ≡ self.now.size) }
+        ensures unknown { OnErr result (lookup (nat_eq handle) self.now.objects ≡ None) }
+    {
+        self.items.get(handle)
+    }
+
+    /// Writes bytes over those of one object, from an offset on. All others are as they were.
+    ///
+    /// Refused exactly where no object with that handle is out, or else where the bytes would reach past its end, and then nothing
+    /// changes.
+    pub fn set(&mut self, handle: usize, offset: usize, bytes: &[u8]) -> Result<(), SetError>
+        ensures answer { result ≡ set_answer (lookup (nat_eq handle) self.old.objects) (offset + length bytes.now) }
+        ensures written { OnOk result (Writes self.old handle offset bytes.now self.new) }
+        ensures refused { OnErr result (self.new ≡ self.old) }
+    {
+        self.items.write(handle, offset, bytes)
+    }
+
+    /// The blocks of the pool, used and free, in address order, as for a picture. As many are used as objects are out.
+    pub fn blocks(&self) -> Blocks<'_>
+        ensures used { used_count result ≡ length self.now.objects }
+        ensures order { IsInOrder result }
+        ensures runs { GivesInOrder BlockInfo }
+    {
+        self.items.blocks()
+    }
+}
+
+/// How many objects of a layout a pool of so many bytes is sure to hold.
+fn capacity_of(len: usize, layout: Layout) -> usize
+    ensures { result ≡ objects.capacity_of len layout.size layout.align }
+{
+    let Some(least) = classes::pool_size_to_contain_allocation::<u64, u64, 59, 8>(layout) else {
+        return 0;
+    };
+    if len < least {
+        return 0;
+    }
+    let block = request_size(layout);
+    if layout.align <= 32 && least == block + 32 {
+        (len - 32) / block
+    } else {
+        (((len - 32) / block + 1) * 8 / 17).max(1)
+    }
+}
+
+/// How long a block is sought for a layout: its payload begins 16 bytes into it, or up to `align - 16` bytes later.
+fn request_size(layout: Layout) -> usize
+    ensures { result ≡ sizes.request_size layout.size layout.align }
+{
+    (layout.size() + layout.align().max(16)).next_multiple_of(32)
+}

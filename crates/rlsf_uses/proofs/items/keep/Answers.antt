@@ -1,6 +1,0 @@
-use Rattle.std.proofs.Common.{[]}
-use Rattle.rlsf_uses.proofs.HandledStores.{OnErr-always}
-use Rattle.rlsf_uses.proofs.items.keep.Goals as goal
-
-pub returns-then-is_err-clause-given_back : goal.returns-then-is_err-clause-given_back
-returns-then-is_err-clause-given_back c = OnErr-always c.add-added.result (λ before p has at aligned. c.remove.ensures.removed before [] p has at aligned)
