@@ -2,7 +2,7 @@
 
 use std::process::Abort;
 
-/// Passes where the answer is true. The number tells of which case it is.
+/// Passes where the answer is true. A number of the case, as its index or its length, helps to find it.
 pub(crate) fn passes(rt: &impl Abort, answer: bool, case: usize) {
     assert!(rt; answer, "the case of {case}");
 }

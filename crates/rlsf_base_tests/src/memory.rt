@@ -118,16 +118,18 @@ fn goes_so(alloc: Global, start: usize, len: usize, steps: &[Step]) -> bool {
 }
 
 /// A start, a length, and why there is no such memory.
-const REFUSED: [(usize, usize, Option<MemoryError>); 8] = [
+const REFUSED: [(usize, usize, Option<MemoryError>); 9] = [
     (0, 5, Some(MemoryError::ZeroStart)),
     (0, MAX, Some(MemoryError::ZeroStart)),
     (1, MAX, Some(MemoryError::TooLong)),
     (2, MAX - 1, Some(MemoryError::TooLong)),
     (MAX, 0, None),
-    // No system has such a block.
+    // So long that the system isn't asked.
     (1, MAX - 1, Some(MemoryError::OutOfMemory)),
     (4096, 1 << 63, Some(MemoryError::OutOfMemory)),
     (4096, 1 << 62, Some(MemoryError::OutOfMemory)),
+    // No system has such a block.
+    (4096, 1 << 60, Some(MemoryError::OutOfMemory)),
 ];
 
 #[test]

@@ -18,7 +18,7 @@ use crate::pool::{SENTINEL, insert_chunks};
 use rlsf_base::classes;
 use rlsf_base::memory::{Memory, Range};
 use rlsf_int::Bitmap;
-use rlsf_table::{ClassTable, PREVIOUS_BLOCK, used_size};
+use rlsf_table::{ClassTable, PREVIOUS_BLOCK, used_size_word};
 
 /// Makes the chunk that ends at `end` longer by `len` bytes. Its old sentinel and the new bytes but those of a new
 /// sentinel become free: joined with a free block before them, they are the newest free block.
@@ -39,7 +39,7 @@ fn extend_chunk<FLBitmap: Bitmap, SLBitmap: Bitmap, const FLLEN: usize, const SL
     // The word that names the block before the old sentinel stays: it names the one before the new block.
     let block = end - GRANULARITY;
     let sentinel = block + len;
-    memory.set_word(block, used_size(len));
+    memory.set_word(block, used_size_word(len));
     memory.set_word(sentinel, SENTINEL);
     memory.set_word(sentinel + PREVIOUS_BLOCK, block as u64);
     let view = memory.view();

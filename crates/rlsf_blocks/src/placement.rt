@@ -22,7 +22,7 @@ use rlsf_base::rounding::next_multiple_of_32;
 use rlsf_int::Bitmap;
 use rlsf_table::{
     ClassIndex, ClassTable, FoundBlock, PAD, PREVIOUS_BLOCK, first_fit, link_free_block,
-    unlink_newest_block, used_size,
+    unlink_newest_block, used_size_word,
 };
 
 /// Makes a free block of what is left behind the first `taken` of the `len` bytes at `block`.
@@ -51,8 +51,8 @@ pub fn leave_rest<FLBitmap: Bitmap, SLBitmap: Bitmap, const FLLEN: usize, const 
     link_free_block(memory, view, table, rest, len - taken);
 }
 
-/// Takes the free block of `len` bytes at `block` out of the list of its class, whose indices these are, for a block of
-/// its first `taken` bytes; a rest becomes a free block.
+/// Takes the free block of `len` bytes at `block` out of the list of its class `class`, for a block of its first `taken` bytes; a
+/// rest becomes a free block.
 #[inline(always)]
 fn take_out<FLBitmap: Bitmap, SLBitmap: Bitmap, const FLLEN: usize, const SLLEN: usize>(
     memory: &mut Memory,
@@ -126,7 +126,7 @@ fn place<FLBitmap: Bitmap, SLBitmap: Bitmap, const FLLEN: usize, const SLLEN: us
     let len = memory.load_at(view, block) as usize;
     let (payload, taken) = front(block, layout);
     take_out(memory, view, table, block, len, found.class, taken);
-    memory.set_word_at(view, block, used_size(taken));
+    memory.set_word_at(view, block, used_size_word(taken));
     let wide = layout.align() >= GRANULARITY;
     if wide {
         memory.set_word_at(view, payload - PAD, block as u64);

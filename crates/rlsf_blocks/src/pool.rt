@@ -19,8 +19,8 @@ use rlsf_int::Bitmap;
 use rlsf_table::{ClassTable, PREVIOUS_BLOCK, SIZE_SENTINEL, SIZE_USED, link_free_block};
 use std::num::NonZeroUsize;
 
-// A sentinel's size word: its length, in use, the last block of its chunk.
-pub const SENTINEL: u64 = GRANULARITY as u64 + SIZE_USED + SIZE_SENTINEL;
+/// A sentinel's size word: its length, in use, the last block of its chunk.
+pub(crate) const SENTINEL: u64 = GRANULARITY as u64 + SIZE_USED + SIZE_SENTINEL;
 
 /// Makes a chunk of a range: one free block and a sentinel in the last 32 bytes.
 pub fn add_chunk<FLBitmap: Bitmap, SLBitmap: Bitmap, const FLLEN: usize, const SLLEN: usize>(

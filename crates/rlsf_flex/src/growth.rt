@@ -173,8 +173,8 @@ pub(crate) fn extend<
     if ask_growth(tlsf, kept, source, owed, pool, wanted, len).is_some() {
         true
     } else {
-        let is_one_range = source.is_contiguous_growable();
-        if is_one_range {
+        let is_contiguous = source.is_contiguous_growable();
+        if is_contiguous {
             false
         } else {
             ask_range(tlsf, kept, source, owed, wanted).is_some()

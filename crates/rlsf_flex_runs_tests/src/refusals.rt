@@ -89,7 +89,7 @@ fn is_unchanged(before: &Left, after: &Left) -> bool {
         && new.iter().all(is_refused)
 }
 
-/// Whether one more op answers once more, and leaves all as it was where that is a refusal.
+/// Whether one more op adds one answer, and leaves all as it was where that is a refusal.
 fn follows(before: &Left, after: &Left) -> bool {
     match after.answers.strip_prefix(before.answers.as_slice()) {
         Some([Answer::Placed(None)]) => is_unchanged(before, after),
@@ -162,10 +162,13 @@ fn told(alloc: Global, capabilities: Capabilities, list: &List, run: usize) -> O
     Some(text)
 }
 
-/// The first run that goes otherwise.
+/// The first run that goes otherwise, or 0 where there isn't a run for each answer and one more.
 fn first_wrong(alloc: Global, capabilities: Capabilities, list: &List) -> Option<usize>
     requires { IsPowerOfTwo capabilities.min_align }
 {
+    if list.answers.len().checked_add(1) != Some(list.runs.len()) {
+        return Some(0);
+    }
     for (run, wanted) in list.runs.iter().enumerate() {
         match told(alloc, capabilities, list, run) {
             Some(text) if text.as_str() == *wanted => {}

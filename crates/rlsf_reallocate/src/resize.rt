@@ -19,7 +19,7 @@ use rlsf_base::memory::{Layout, Memory, View};
 use rlsf_base::rounding::next_multiple_of_32;
 use rlsf_blocks::{leave_rest, take_if_free};
 use rlsf_int::Bitmap;
-use rlsf_table::{ClassTable, PREVIOUS_BLOCK, is_free, used_len, used_size};
+use rlsf_table::{ClassTable, PREVIOUS_BLOCK, is_free, len_of_used, used_size_word};
 
 /// The bytes of the free block at `block`, or 0 where no free block begins.
 pub(crate) fn free_length(memory: &mut Memory, view: View, block: usize) -> usize
@@ -52,7 +52,7 @@ pub(crate) fn occupy<FLBitmap: Bitmap, SLBitmap: Bitmap, const FLLEN: usize, con
     ensures copied { memory.new.copied ≡ memory.old.copied }
     ensures view { memory.new.view ≡ memory.old.view }
 {
-    memory.set_word_at(view, block, used_size(taken));
+    memory.set_word_at(view, block, used_size_word(taken));
     if taken < total {
         leave_rest(memory, view, table, block, total, taken);
     } else {
@@ -83,7 +83,7 @@ pub fn resize_block<FLBitmap: Bitmap, SLBitmap: Bitmap, const FLLEN: usize, cons
     ensures grow { memory.old.touches ≤ memory.new.touches }
     ensures copied { memory.new.copied ≡ memory.old.copied }
 {
-    let len = used_len(memory.load_at(view, block));
+    let len = len_of_used(memory.load_at(view, block));
     let taken = next_multiple_of_32(payload - block + layout.size());
     if taken == len {
         return true;

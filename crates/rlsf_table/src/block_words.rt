@@ -30,15 +30,15 @@ pub fn is_free(size: u64) -> bool
 }
 
 /// The size word of a used block of `len` bytes.
-pub fn used_size(len: usize) -> u64
+pub fn used_size_word(len: usize) -> u64
     requires { len + 1 < 2 ^ 64 }
     ensures { result ≡ len + 1 }
 {
     len as u64 + SIZE_USED
 }
 
-/// The length of the used block with this size word.
-pub fn used_len(size: u64) -> usize
+/// The length of the used block with this size word, which is not a sentinel's.
+pub fn len_of_used(size: u64) -> usize
     requires { 1 ≤ size }
     ensures { result ≡ size - 1 }
 {
@@ -51,5 +51,5 @@ pub fn used_end(block: usize, size: u64) -> usize
     requires fits { block + (size - 1) < 2 ^ 64 }
     ensures { result ≡ block + (size - 1) }
 {
-    block + used_len(size)
+    block + len_of_used(size)
 }

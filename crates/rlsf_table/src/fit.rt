@@ -12,10 +12,12 @@ use rlsf_base::classes::map_ceil;
 use rlsf_base::memory::Memory;
 use rlsf_int::Bitmap;
 
-/// A free block that a search found: where it begins, and its class.
+/// A free block that a search found.
 #[derive(Clone, Copy)]
 pub struct FoundBlock {
+    /// The address where it begins.
     pub start: usize,
+    /// Its class.
     pub class: ClassIndex,
 }
 

@@ -13,8 +13,8 @@ mod rows;
 mod table;
 
 pub use block_words::{
-    NEXT_FREE, PAD, PREVIOUS_BLOCK, PREVIOUS_FREE, SIZE_SENTINEL, SIZE_USED, is_free, used_end,
-    used_len, used_size,
+    NEXT_FREE, PAD, PREVIOUS_BLOCK, PREVIOUS_FREE, SIZE_SENTINEL, SIZE_USED, is_free, len_of_used,
+    used_end, used_size_word,
 };
 pub use fit::{FoundBlock, first_fit};
 pub use list::{link_free_block, unlink_free_block, unlink_newest_block};

@@ -149,7 +149,8 @@ pub fn unlink_free_block<
     }
 }
 
-/// Takes the newest block of a class, at the address `block`, out of its list. Writes links of free blocks and the table alone. At most 8 touches.
+/// Takes the newest block of a class, at the address `block`, out of its list. Writes links of free blocks and the table alone. At
+/// most 8 touches.
 ///
 /// Table and memory are those of some free blocks, of valid classes, with their size words, none of which overlap; the block is
 /// one of them, has that class, and none before it has.

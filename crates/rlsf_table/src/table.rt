@@ -19,7 +19,9 @@ use std::marker::{Model, PhantomData};
 /// Where a class stands in a table: its row, below `FLLEN`, and its place in the row, below `SLLEN`.
 #[derive(Clone, Copy)]
 pub struct ClassIndex {
+    /// The row.
     pub fl: usize,
+    /// The place in the row.
     pub sl: usize,
 }
 

@@ -14,7 +14,7 @@ use Rattle.rlsf_blocks.proofs.extend.extend_chunk.Goals.{After-set_word-3}
 written : (g : given.Over) (c : After-set_word-3 g) {s : State} (d : Range) → StandsFor g.row.FLLEN g.row.SLLEN (contents c.args.memory.now c.args.table.now) s
     → IsExtensible g.row.FLLEN (range_of c.args.memory.now) s d c.args.len → end_of d ≡ c.args.end → AreExtended c.args.memory.now c.set_word.new.self c.set_word-2.new.self c.set_word-3.new.self d c.args.len
 written g c d v is at =
-    AreExtended-from v d c.args.len is at (c.set_word.ensures.start, c.set_word.ensures.bytes ∙ ap (λ w. with_word c.args.memory.now (c.args.end - 32) w) c.used_size.ensures) (c.set_word-2.ensures.start, c.set_word-2.ensures.bytes) (c.set_word-3.ensures.start, c.set_word-3.ensures.bytes)
+    AreExtended-from v d c.args.len is at (c.set_word.ensures.start, c.set_word.ensures.bytes ∙ ap (λ w. with_word c.args.memory.now (c.args.end - 32) w) c.used_size_word.ensures) (c.set_word-2.ensures.start, c.set_word-2.ensures.bytes) (c.set_word-3.ensures.start, c.set_word-3.ensures.bytes)
 
 pub overflow_sub-block : goal.overflow_sub-block
 overflow_sub-block g c =

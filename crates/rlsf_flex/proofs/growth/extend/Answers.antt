@@ -13,35 +13,35 @@ pub returns-in_default-checked_add-clause-step : goal.returns-in_default-checked
 returns-in_default-checked_add-clause-step g c =
     extended_past (ap kept_of c.in-Some.is) (sum_past c.checked_add.result (c.in-Some.pool.len + c.args.wanted) c.checked_add.ensures c.in_default-checked_add.is) c.requires.stands
 
-pub ask_range-requires-else-is_one_range : goal.ask_range-requires-else-is_one_range
-ask_range-requires-else-is_one_range g c = (omega arith, (c.requires.valid, (c.requires.wanted, c.ask_growth.ensures.step.took.stands)))
+pub ask_range-requires-else-is_contiguous : goal.ask_range-requires-else-is_contiguous
+ask_range-requires-else-is_contiguous g c = (omega arith, (c.requires.valid, (c.requires.wanted, c.ask_growth.ensures.step.took.stands)))
 
 pub returns-then-is_some-clause-step : goal.returns-then-is_some-clause-step
 returns-then-is_some-clause-step g c =
     let fits = sum_fits c.checked_add.result (c.in-Some.pool.len + c.args.wanted) c.in-Some-checked_add.len c.checked_add.ensures c.in-Some-checked_add.is in
     extended_grown (ap kept_of c.in-Some.is) fits.0 c.ask_growth.ensures.step (sym c.is_some-2.ensures ∙ c.if-is_some.true)
 
-pub returns-then-is_one_range-clause-step : goal.returns-then-is_one_range-clause-step
-returns-then-is_one_range-clause-step g c =
-    let one_range : (g.S.FlexSource.terms c.ask_growth.new.source).contiguous ≡ true = sym c.is_contiguous_growable-is_one_range.ensures ∙ c.if-is_one_range.true in
+pub returns-then-is_contiguous-clause-step : goal.returns-then-is_contiguous-clause-step
+returns-then-is_contiguous-clause-step g c =
+    let one_range : (g.S.FlexSource.terms c.ask_growth.new.source).contiguous ≡ true = sym c.is_contiguous_growable-is_contiguous.ensures ∙ c.if-is_contiguous.true in
     let fits = sum_fits c.checked_add.result (c.in-Some.pool.len + c.args.wanted) c.in-Some-checked_add.len c.checked_add.ensures c.in-Some-checked_add.is in
     let kept = ap kept_of c.in-Some.is in
     let h = c.ask_growth.ensures.step in
     let same = terms_stay kept fits.0 h g.met.S.FlexSource.constant in
     extended_refused kept fits.0 h (sym c.is_some-2.ensures ∙ c.if-is_some.false) (sym (ap (λ t. t.contiguous) same) ∙ one_range)
 
-pub returns-else-is_one_range-clause-step : goal.returns-else-is_one_range-clause-step
-returns-else-is_one_range-clause-step g c =
-    let many_ranges : (g.S.FlexSource.terms c.ask_growth.new.source).contiguous ≡ false = sym c.is_contiguous_growable-is_one_range.ensures ∙ c.if-is_one_range.false in
+pub returns-else-is_contiguous-clause-step : goal.returns-else-is_contiguous-clause-step
+returns-else-is_contiguous-clause-step g c =
+    let many_ranges : (g.S.FlexSource.terms c.ask_growth.new.source).contiguous ≡ false = sym c.is_contiguous_growable-is_contiguous.ensures ∙ c.if-is_contiguous.false in
     let fits = sum_fits c.checked_add.result (c.in-Some.pool.len + c.args.wanted) c.in-Some-checked_add.len c.checked_add.ensures c.in-Some-checked_add.is in
     let kept = ap kept_of c.in-Some.is in
     let h = c.ask_growth.ensures.step in
     let same = terms_stay kept fits.0 h g.met.S.FlexSource.constant in
-    extended_second kept fits.0 h (sym c.is_some-2.ensures ∙ c.if-is_some.false) (sym (ap (λ t. t.contiguous) same) ∙ many_ranges) same c.is_some-else-is_one_range.ensures c.ask_range-else-is_one_range.ensures.step
+    extended_second kept fits.0 h (sym c.is_some-2.ensures ∙ c.if-is_some.false) (sym (ap (λ t. t.contiguous) same) ∙ many_ranges) same c.is_some-else-is_contiguous.ensures c.ask_range-else-is_contiguous.ensures.step
 
-pub returns-else-is_one_range-clause-refused : goal.returns-else-is_one_range-clause-refused
-returns-else-is_one_range-clause-refused g c none =
-    if_none c.ask_range-else-is_one_range.result c.ask_range-else-is_one_range.ensures.refused (sym c.is_some-else-is_one_range.ensures ∙ none) ∙ if_none c.ask_growth.result c.ask_growth.ensures.refused (sym c.is_some-2.ensures ∙ c.if-is_some.false)
+pub returns-else-is_contiguous-clause-refused : goal.returns-else-is_contiguous-clause-refused
+returns-else-is_contiguous-clause-refused g c none =
+    if_none c.ask_range-else-is_contiguous.result c.ask_range-else-is_contiguous.ensures.refused (sym c.is_some-else-is_contiguous.ensures ∙ none) ∙ if_none c.ask_growth.result c.ask_growth.ensures.refused (sym c.is_some-2.ensures ∙ c.if-is_some.false)
 
 pub returns-in_default-clause-refused : goal.returns-in_default-clause-refused
 returns-in_default-clause-refused g c none = if_none c.ask_range.result c.ask_range.ensures.refused (sym c.is_some.ensures ∙ none)
@@ -52,8 +52,8 @@ returns-in_default-checked_add-clause-refused g c = λ none. refl
 pub returns-then-is_some-clause-refused : goal.returns-then-is_some-clause-refused
 returns-then-is_some-clause-refused g c = λ none. absurd (true≢false none)
 
-pub returns-then-is_one_range-clause-refused : goal.returns-then-is_one_range-clause-refused
-returns-then-is_one_range-clause-refused g c = λ none. if_none c.ask_growth.result c.ask_growth.ensures.refused (sym c.is_some-2.ensures ∙ c.if-is_some.false)
+pub returns-then-is_contiguous-clause-refused : goal.returns-then-is_contiguous-clause-refused
+returns-then-is_contiguous-clause-refused g c = λ none. if_none c.ask_growth.result c.ask_growth.ensures.refused (sym c.is_some-2.ensures ∙ c.if-is_some.false)
 
 pub returns-in_default-clause-payloads : goal.returns-in_default-clause-payloads
 returns-in_default-clause-payloads g c = c.ask_range.ensures.payloads
@@ -64,11 +64,11 @@ returns-in_default-checked_add-clause-payloads g c = KeepsPayloads-refl c.args.t
 pub returns-then-is_some-clause-payloads : goal.returns-then-is_some-clause-payloads
 returns-then-is_some-clause-payloads g c = c.ask_growth.ensures.payloads
 
-pub returns-then-is_one_range-clause-payloads : goal.returns-then-is_one_range-clause-payloads
-returns-then-is_one_range-clause-payloads g c = c.ask_growth.ensures.payloads
+pub returns-then-is_contiguous-clause-payloads : goal.returns-then-is_contiguous-clause-payloads
+returns-then-is_contiguous-clause-payloads g c = c.ask_growth.ensures.payloads
 
-pub returns-else-is_one_range-clause-payloads : goal.returns-else-is_one_range-clause-payloads
-returns-else-is_one_range-clause-payloads g c = KeepsPayloads-trans _ _ _ c.ask_growth.ensures.payloads c.ask_range-else-is_one_range.ensures.payloads
+pub returns-else-is_contiguous-clause-payloads : goal.returns-else-is_contiguous-clause-payloads
+returns-else-is_contiguous-clause-payloads g c = KeepsPayloads-trans _ _ _ c.ask_growth.ensures.payloads c.ask_range-else-is_contiguous.ensures.payloads
 
 pub ask_growth-requires : goal.ask_growth-requires
 ask_growth-requires g c =

@@ -30,7 +30,7 @@ pub returns-then-taken-len-clause-done : goal.returns-then-taken-len-clause-done
 returns-then-taken-len-clause-done g c = λ s u v at yes.
     let size = c.args.layout.size in
     let taken = taken_is g (goal.at.returns-then-taken-len-clause-done g c).After-next_multiple_of_32-taken v u at in
-    let same : end_of (resized u size) ≡ end_of u.block = omega (arith, taken, at.start, end_is v u at c.load_at.ensures.word c.used_len-len.ensures, c.if-taken-len.true) in
+    let same : end_of (resized u size) ≡ end_of u.block = omega (arith, taken, at.start, end_is v u at c.load_at.ensures.word c.len_of_used-len.ensures, c.if-taken-len.true) in
     (kept_whole s u size, or_else-kept s u size v.well_formed at.is_used same, at.caller, IsCarriedOut-kept v u at.is_used size c.load_at.ensures.start c.load_at.ensures.bytes same)
 
 pub free_length-requires-clause-marked : goal.free_length-requires-clause-marked
@@ -38,7 +38,7 @@ free_length-requires-clause-marked g c =
     let (s, u, v, at) = c.requires.used in
     let start = c.load_at.ensures.start in
     let bytes = c.load_at.ensures.bytes in
-    (g.row.FLLEN, g.row.SLLEN, c.args.table.now, s.free, IsFreeTable-counted c.args.memory.now c.load_at.new.self start bytes (IsFreeTable-free v), IsMarked-loaded_end v u at c.load_at.ensures.word c.used_len-len.ensures start bytes)
+    (g.row.FLLEN, g.row.SLLEN, c.args.table.now, s.free, IsFreeTable-counted c.args.memory.now c.load_at.new.self start bytes (IsFreeTable-free v), IsMarked-loaded_end v u at c.load_at.ensures.word c.len_of_used-len.ensures start bytes)
 
 -- where a free block behind it ends, or the block itself
 reached : (g : given.Over) (c : After-free_length g) {s : State} (v : StandsFor g.row.FLLEN g.row.SLLEN (contents c.args.memory.now c.args.table.now) s) (u : Used)
@@ -47,14 +47,14 @@ reached g c {s} v u at =
     let start = c.load_at.ensures.start in
     let bytes = c.load_at.ensures.bytes in
     let list = IsFreeTable-counted c.args.memory.now c.load_at.new.self start bytes (IsFreeTable-free v) in
-    reach_is v u at c.load_at.ensures.word c.used_len-len.ensures c.free_length.result
-    (c.free_length.ensures.length g.row.FLLEN g.row.SLLEN c.args.table.now s.free list (IsMarked-loaded_end v u at c.load_at.ensures.word c.used_len-len.ensures start bytes))
+    reach_is v u at c.load_at.ensures.word c.len_of_used-len.ensures c.free_length.result
+    (c.free_length.ensures.length g.row.FLLEN g.row.SLLEN c.args.table.now s.free list (IsMarked-loaded_end v u at c.load_at.ensures.word c.len_of_used-len.ensures start bytes))
 
 pub overflow_add-len : goal.overflow_add-len
 overflow_add-len g c =
     let (s, u, v, at) = c.requires.used in
     let ends = reached g (goal.at.overflow_add-len g c).After-free_length v u at in
-    record { fits = omega (arith, ends, end_is v u at c.load_at.ensures.word c.used_len-len.ensures, span_in_memory v u at.is_used, v.well_formed.addressable) }
+    record { fits = omega (arith, ends, end_is v u at c.load_at.ensures.word c.len_of_used-len.ensures, span_in_memory v u at.is_used, v.well_formed.addressable) }
 
 pub returns-then-taken-len-2-clause-refused : goal.returns-then-taken-len-2-clause-refused
 returns-then-taken-len-2-clause-refused g c = λ s u v at no.
@@ -62,16 +62,16 @@ returns-then-taken-len-2-clause-refused g c = λ s u v at no.
     let here = goal.at.returns-then-taken-len-2-clause-refused g c in
     let taken = taken_is g here.After-next_multiple_of_32-taken v u at in
     let ends = reached g here.After-free_length v u at in
-    let end = end_is v u at c.load_at.ensures.word c.used_len-len.ensures in
+    let end = end_is v u at c.load_at.ensures.word c.len_of_used-len.ensures in
     let start = at.start in
     no_plan s u size (omega (arith, c.if-taken-len-2.true)) (omega (arith, c.if-taken-len-2.true))
 
 -- the free block behind it, once two words were read
 marked : (g : given.Over) (c : After-free_length g) {s : State} (v : StandsFor g.row.FLLEN g.row.SLLEN (contents c.args.memory.now c.args.table.now) s) (u : Used)
-    → IsUsedAt s u c.args.block c.args.payload c.args.layout.align → IsMarked c.free_length.new.memory s.free (c.args.block + c.used_len-len.result)
+    → IsUsedAt s u c.args.block c.args.payload c.args.layout.align → IsMarked c.free_length.new.memory s.free (c.args.block + c.len_of_used-len.result)
 marked g c v u at =
     let counts = c.free_length.ensures.counts in
-    IsMarked-loaded_end v u at c.load_at.ensures.word c.used_len-len.ensures (counts.start ∙ c.load_at.ensures.start) (counts.bytes ∙ c.load_at.ensures.bytes)
+    IsMarked-loaded_end v u at c.load_at.ensures.word c.len_of_used-len.ensures (counts.start ∙ c.load_at.ensures.start) (counts.bytes ∙ c.load_at.ensures.bytes)
 
 pub take_if_free-next-requires : goal.take_if_free-next-requires
 take_if_free-next-requires g c =
@@ -89,13 +89,13 @@ out g c {s} v u at =
     let start = counts.start ∙ c.load_at.ensures.start in
     let bytes = counts.bytes ∙ c.load_at.ensures.bytes in
     let list = IsFreeTable-counted c.args.memory.now c.free_length.new.memory start bytes (IsFreeTable-free v) in
-    IsNextOut-end v u at c.load_at.ensures.word c.used_len-len.ensures start bytes (c.take_if_free-next.ensures.step s.free list (IsMarked-loaded_end v u at c.load_at.ensures.word c.used_len-len.ensures start bytes))
+    IsNextOut-end v u at c.load_at.ensures.word c.len_of_used-len.ensures start bytes (c.take_if_free-next.ensures.step s.free list (IsMarked-loaded_end v u at c.load_at.ensures.word c.len_of_used-len.ensures start bytes))
 
 pub overflow_add-len-2 : goal.overflow_add-len-2
 overflow_add-len-2 g c =
     let (s, u, v, at) = c.requires.used in
     let gone = out g (goal.at.overflow_add-len-2 g c).After-take_if_free-next v u at in
-    record { fits = omega (arith, gone.end, end_is v u at c.load_at.ensures.word c.used_len-len.ensures, span_in_memory v u at.is_used, v.well_formed.addressable) }
+    record { fits = omega (arith, gone.end, end_is v u at c.load_at.ensures.word c.len_of_used-len.ensures, span_in_memory v u at.is_used, v.well_formed.addressable) }
 
 pub occupy-requires : goal.occupy-requires
 occupy-requires g c =
@@ -105,10 +105,10 @@ occupy-requires g c =
     let gone = out g here.After-take_if_free-next v u at in
     let taken = taken_is g here.After-next_multiple_of_32-taken v u at in
     let ends = reached g here.After-free_length v u at in
-    let end = end_is v u at c.load_at.ensures.word c.used_len-len.ensures in
+    let end = end_is v u at c.load_at.ensures.word c.len_of_used-len.ensures in
     let parts = IsTaken-len v u at size in
     let start = at.start in
-    let long : (span_of s u).len ≡ c.used_len-len.result + c.take_if_free-next.result = omega (arith, span_len v u at.is_used gone) in
+    let long : (span_of s u).len ≡ c.len_of_used-len.result + c.take_if_free-next.result = omega (arith, span_len v u at.is_used gone) in
     let inner = IsInnerRoom-span v u at.is_used gone in
     let whole : c.next_multiple_of_32-taken.result % 32 ≡ 0 = omega (arith, parts.0) in
     let some : 0 < c.next_multiple_of_32-taken.result = omega (arith, parts.1) in
@@ -121,7 +121,7 @@ returns-clause-done g c = λ s u v at yes.
     let gone = out g here.After-take_if_free-next v u at in
     let taken = taken_is g here.After-next_multiple_of_32-taken v u at in
     let ends = reached g here.After-free_length v u at in
-    let end = end_is v u at c.load_at.ensures.word c.used_len-len.ensures in
+    let end = end_is v u at c.load_at.ensures.word c.len_of_used-len.ensures in
     let start = at.start in
     let words = c.occupy.ensures.step (staying s u) (span_of s u) at.start (omega (arith, span_len v u at.is_used gone)) (IsInnerRoom-span v u at.is_used gone) in
     let front : range_at c.args.block c.next_multiple_of_32-taken.result ≡ resized u size = ap₂ (λ b l. range_at b l) (sym at.start) taken in
@@ -134,7 +134,7 @@ pub returns-clause-place : goal.returns-clause-place
 returns-clause-place g c =
     let (s, u, v, at) = c.requires.used in
     let gone = out g (goal.at.returns-clause-place g c).After-take_if_free-next v u at in
-    let end = end_is v u at c.load_at.ensures.word c.used_len-len.ensures in
+    let end = end_is v u at c.load_at.ensures.word c.len_of_used-len.ensures in
     let start = at.start in
     let words = c.occupy.ensures.step (staying s u) (span_of s u) at.start (omega (arith, span_len v u at.is_used gone)) (IsInnerRoom-span v u at.is_used gone) in
     (words.rewrites.start ∙ gone.rewrites.start, words.rewrites.length ∙ gone.rewrites.length)
