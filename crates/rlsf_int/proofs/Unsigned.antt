@@ -3,7 +3,7 @@ use Rattle.std.proofs.Common.{◌≡◌, ℕ, zero, suc, ◌+◌, ◌-◌, ◌*�
 use Rattle.std.proofs.Math.Bool.{and-true}
 use Rattle.std.proofs.Math.Nat.{pow-suc}
 use lib.Count.{ones-ones}
-use Rattle.std.proofs.lemmas.Bool.{and_parts, cases_eq, cases_lt, le-leb, leb-true, lt-ltb}
+use Rattle.std.proofs.lemmas.Bool.{and_parts, cases_eq, cases_lt, le-leb, leb-true}
 use Rattle.std.proofs.lemmas.Bool.Decides.{nat_tests}
 use Rattle.std.proofs.lemmas.Nat.{and_le_l, div-add-mod', leading_length, one_shl, ones_cat, pow_below, pow_pos, mod_below, shr_below, shr_high}
 use Rattle.std.proofs.lemmas.Nat.Bits.{bit_at-lt, bit_at-trailing_zeros, bit_at_mask_below, bit_at_mask_inside, bit_at_not, bit_at_cat_low, ones_shl, ones_shr}
@@ -110,10 +110,10 @@ module _ (w : Width) where
   -- ---- one position
 
   -- `n | 1 << k`
-  pub bit-set : (n k : ℕ) → k < bits w → (i : ℕ) → bit (bit_or n (1 * 2 ^ k % 2 ^ bits w)) i ≡ (bit n i || ((i == k) && nat_lt k (bits w)))
+  pub bit-set : (n k : ℕ) → k < bits w → (i : ℕ) → bit (bit_or n (1 * 2 ^ k % 2 ^ bits w)) i ≡ (bit n i || (i == k))
   bit-set n k within i =
       bit-or n _ i ∙ ap (λ t. bit n i || t)
-      (ap (λ m. bit m i) (one_shl k (bits w) within) ∙ bit-pow k i ∙ sym (and-true (i == k)) ∙ ap (λ t. (i == k) && t) (sym (lt-ltb k (bits w) within)))
+      (ap (λ m. bit m i) (one_shl k (bits w) within) ∙ bit-pow k i)
 
   bit-not : (n i : ℕ) → n < 2 ^ bits w → i < bits w → bit (bit_not w n) i ≡ not (bit n i)
   unfolding bit
@@ -121,21 +121,15 @@ module _ (w : Width) where
 
   -- `n & !(1 << k)`
   pub bit-clear : (n k : ℕ) → n < 2 ^ bits w → k < bits w → (i : ℕ)
-      → bit (bit_and n (2 ^ bits w - 1 - 1 * 2 ^ k % 2 ^ bits w)) i ≡ (bit n i && not ((i == k) && nat_lt k (bits w)))
+      → bit (bit_and n (2 ^ bits w - 1 - 1 * 2 ^ k % 2 ^ bits w)) i ≡ (bit n i && not (i == k))
   bit-clear n k fits within i =
       let one = one_shl k (bits w) within in
       let one_fits : 1 * 2 ^ k % 2 ^ bits w < 2 ^ bits w = omega (arith, one, pow_below k (bits w) within) in
       bit-and n _ i ∙ elim (cases_lt i (bits w)) [
         | inl low ↦ ap (λ t. bit n i && t)
-            (bit-not _ i one_fits low ∙ ap not (ap (λ m. bit m i) one ∙ bit-pow k i ∙ sym (and-true (i == k)) ∙ ap (λ t. (i == k) && t) (sym (lt-ltb k (bits w) within))))
+            (bit-not _ i one_fits low ∙ ap not (ap (λ m. bit m i) one ∙ bit-pow k i))
         | inr past ↦ let none = bit-above (bits w) n i fits past in grind (arith, nat_tests)
       ]
-
-  pub past_set : (n k : ℕ) → bits w ≤ k → (i : ℕ) → bit n i ≡ (bit n i || ((i == k) && nat_lt k (bits w)))
-  past_set n k past i = grind (arith, nat_tests)
-
-  pub past_clear : (n k : ℕ) → bits w ≤ k → (i : ℕ) → bit n i ≡ (bit n i && not ((i == k) && nat_lt k (bits w)))
-  past_clear n k past i = grind (arith, nat_tests)
 
 -- ---- counts
 

@@ -37,15 +37,23 @@ pub trait Bitmap: BitPattern {
     fn empty() -> Self
         ensures { Self.pattern result ≡ 0 };
 
-    /// Puts a one at the position, which is below the number of positions.
+    /// Puts a one at the position. From the number of positions on nothing changes.
     fn insert(&mut self, i: u32)
-        requires { i < Self.width }
         ensures { (j : ℕ) → bit (Self.pattern self.new) j ≡ (bit (Self.pattern self.old) j || (nat_eq j i && nat_lt i Self.width)) };
 
-    /// Takes the one at the position away, if there is one. The position is below the number of positions.
+    /// Takes the one at the position away, if there is one. From the number of positions on nothing changes.
     fn remove(&mut self, i: u32)
-        requires { i < Self.width }
         ensures { (j : ℕ) → bit (Self.pattern self.new) j ≡ (bit (Self.pattern self.old) j && not (nat_eq j i && nat_lt i Self.width)) };
+
+    /// Puts a one at the position, which is below the number of positions. It tests no bound.
+    fn insert_within(&mut self, i: u32)
+        requires { i < Self.width }
+        ensures { (j : ℕ) → bit (Self.pattern self.new) j ≡ (bit (Self.pattern self.old) j || nat_eq j i) };
+
+    /// Takes the one at the position away, if there is one. The position is below the number of positions. It tests no bound.
+    fn remove_within(&mut self, i: u32)
+        requires { i < Self.width }
+        ensures { (j : ℕ) → bit (Self.pattern self.new) j ≡ (bit (Self.pattern self.old) j && not (nat_eq j i)) };
 
     /// The least position of a one that isn't below `start`, or the number of positions where there is none.
     fn first_from(&self, start: u32) -> u32

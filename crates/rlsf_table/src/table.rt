@@ -144,7 +144,7 @@ impl<FLBitmap: Bitmap, SLBitmap: Bitmap, const FLLEN: usize, const SLLEN: usize>
         self.rows.insert(fl, sl);
         memory.touch();
         memory.touch();
-        self.fl_bitmap.insert(fl as u32);
+        self.fl_bitmap.insert_within(fl as u32);
     }
 
     /// Makes the block at the address `next` the newest one of a class whose newest one was taken out; 0 if no block of the class
@@ -168,7 +168,7 @@ impl<FLBitmap: Bitmap, SLBitmap: Bitmap, const FLLEN: usize, const SLLEN: usize>
             if self.rows.is_empty(fl) {
                 memory.touch();
                 memory.touch();
-                self.fl_bitmap.remove(fl as u32);
+                self.fl_bitmap.remove_within(fl as u32);
             }
         }
     }

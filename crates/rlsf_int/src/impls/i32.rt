@@ -28,10 +28,18 @@ impl Bitmap for i32 {
     }
 
     fn insert(&mut self, i: u32) {
-        *self = (self.cast_unsigned() | 1 << i).cast_signed();
+        self.set_bit(i);
     }
 
     fn remove(&mut self, i: u32) {
+        self.clear_bit(i);
+    }
+
+    fn insert_within(&mut self, i: u32) {
+        *self = (self.cast_unsigned() | 1 << i).cast_signed();
+    }
+
+    fn remove_within(&mut self, i: u32) {
         *self = (self.cast_unsigned() & !(1 << i)).cast_signed();
     }
 
@@ -79,13 +87,13 @@ impl BinInteger for i32 {
 
     fn set_bit(&mut self, i: u32) {
         if i < Self::BITS {
-            self.insert(i);
+            self.insert_within(i);
         }
     }
 
     fn clear_bit(&mut self, i: u32) {
         if i < Self::BITS {
-            self.remove(i);
+            self.remove_within(i);
         }
     }
 

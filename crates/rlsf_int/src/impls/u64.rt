@@ -29,10 +29,18 @@ impl Bitmap for u64 {
     }
 
     fn insert(&mut self, i: u32) {
-        *self |= 1 << i;
+        self.set_bit(i);
     }
 
     fn remove(&mut self, i: u32) {
+        self.clear_bit(i);
+    }
+
+    fn insert_within(&mut self, i: u32) {
+        *self |= 1 << i;
+    }
+
+    fn remove_within(&mut self, i: u32) {
         *self &= !(1 << i);
     }
 
@@ -94,13 +102,13 @@ impl BinInteger for u64 {
 
     fn set_bit(&mut self, i: u32) {
         if i < Self::BITS {
-            self.insert(i);
+            self.insert_within(i);
         }
     }
 
     fn clear_bit(&mut self, i: u32) {
         if i < Self::BITS {
-            self.remove(i);
+            self.remove_within(i);
         }
     }
 

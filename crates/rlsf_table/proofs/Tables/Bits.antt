@@ -1,8 +1,8 @@
 -- The bits of the class table, where a range is put in front of the free ones, or taken out from among them.
-use Rattle.std.proofs.Common.{◌≡◌, ◌≢◌, ℕ, ◌+◌, ◌<◌, ◌==◌, nat_lt, Bool, true, false, ◌&&◌, ◌||◌, not, true≢false, List, ◌∷◌, ◌++◌, length, slice_index, arith, refl, sym, ◌∙◌, ap, subst, inl, inr}
+use Rattle.std.proofs.Common.{◌≡◌, ◌≢◌, ℕ, ◌+◌, ◌<◌, ◌==◌, Bool, true, false, ◌&&◌, ◌||◌, not, true≢false, List, ◌∷◌, ◌++◌, length, slice_index, arith, refl, sym, ◌∙◌, ap, subst, inl, inr}
 use Rattle.std.specs.List.{list_any}
 use Rattle.std.proofs.Math.Bool.{or_comm, and-true}
-use Rattle.std.proofs.lemmas.Bool.{cases_eq, eq-eqb, lt-ltb, ne_eqb, and_from, and_left, and_right}
+use Rattle.std.proofs.lemmas.Bool.{cases_eq, eq-eqb, ne_eqb, and_from, and_left, and_right}
 use Rattle.rlsf_base.specs.declared.memory.range.Range.{Range}
 use Rattle.rlsf_base.specs.SizeClass.{SizeClass, class_of}
 use Rattle.rlsf_int.specs.Bits.{bit, bit-zero}
@@ -14,19 +14,15 @@ use Rattle.rlsf_machine.proofs.Coverage.{by_test, IsIn-append_right}
 use Rattle.rlsf_table.specs.Table.{Table, class_at, is_in_row, HasBits, IsHeadOf}
 use Rattle.rlsf_table.proofs.Tables.Tests.{list_any-true, list_any-some, list_any-false, list_any-less_one, list_any-amid, filter-none, list_any-filtered}
 
--- ---- a bit that is set or cleared, below the width
-
--- a bit has a one if it had one or is the one that is set
-pub bit-set : (b x : Bool) (i j width : ℕ) → i < width → b ≡ (x || (j == i && nat_lt i width)) → b ≡ (x || j == i)
-bit-set b x i j width within is = is ∙ ap (λ y. x || (j == i && y)) (lt-ltb i width within) ∙ ap (λ y. x || y) (and-true (j == i))
+-- ---- a bit that is cleared
 
 -- the bit that is cleared has none
-pub bit-cleared : (b x : Bool) (i width : ℕ) → i < width → b ≡ (x && not (i == i && nat_lt i width)) → b ≡ false
-bit-cleared b x i width within is = is ∙ ap (λ y. x && not (i == i && y)) (lt-ltb i width within) ∙ ap (λ y. x && not (y && true)) (eq-eqb i i refl) ∙ and_right x false refl
+pub bit-cleared : (b x : Bool) (i : ℕ) → b ≡ (x && not (i == i)) → b ≡ false
+bit-cleared b x i is = is ∙ ap (λ y. x && not y) (eq-eqb i i refl) ∙ and_right x false refl
 
 -- and each other is as it was
-pub bit-kept : (b x : Bool) (i j width : ℕ) → j ≢ i → b ≡ (x && not (j == i && nat_lt i width)) → b ≡ x
-bit-kept b x i j width apart is = is ∙ ap (λ y. x && not (y && nat_lt i width)) (ne_eqb j i apart) ∙ and-true x
+pub bit-kept : (b x : Bool) (i j : ℕ) → j ≢ i → b ≡ (x && not (j == i)) → b ≡ x
+bit-kept b x i j apart is = is ∙ ap (λ y. x && not y) (ne_eqb j i apart) ∙ and-true x
 
 -- ---- a range of a class
 

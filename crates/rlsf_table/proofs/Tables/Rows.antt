@@ -10,7 +10,7 @@ use Rattle.std.proofs.lemmas.Nat.{and_le_l}
 use Rattle.rlsf_int.specs.Bits.{bit, IsFirstOne}
 use Rattle.rlsf_int.proofs.Unsigned as unsigned
 use Rattle.rlsf_table.specs.Steps.Places.{joined, row_word, row_words, scanned_places, IsFirstFrom}
-use Rattle.rlsf_table.proofs.Tables.Bits.{bit-set, bit-cleared, bit-kept}
+use Rattle.rlsf_table.proofs.Tables.Bits.{bit-cleared, bit-kept}
 use Rattle.rlsf_table.proofs.Tables.Search.{scanned_places-few, scanned_places-many}
 
 -- the word of a row is one, or both
@@ -42,17 +42,13 @@ module _ (fllen sllen : ℕ) (low high low2 high2 : List ℕ) (fl : ℕ) (within
 pub IsFirstOne-row : (fllen sllen : ℕ) (low high : List ℕ) (fl : ℕ) → fl < fllen → {width start place : ℕ} → IsFirstOne width (row_word sllen low high fl) start place → IsFirstOne width (slice_index (row_words fllen sllen low high) fl) start place
 IsFirstOne-row fllen sllen low high fl within {width} {start} {place} scan = subst (λ n. IsFirstOne width n start place) (sym (row_words-at fllen sllen low high fl within)) scan
 
--- a word with one more one, `n | 1 << i`
-pub bit-with : (w : Width) (n i k : ℕ) → i < bits w → bit (bit_or n (1 * 2 ^ i % 2 ^ bits w)) k ≡ (bit n k || k == i)
-bit-with w n i k within = bit-set _ (bit n k) i k (bits w) within (unsigned.bit-set w n i within k)
-
 -- a word with one less, `n & !(1 << i)`: none is there, and the others stay
 module _ (w : Width) (n i : ℕ) (fits : n < 2 ^ bits w) (within : i < bits w) where
   pub bit-without : bit (bit_and n (2 ^ bits w - 1 - 1 * 2 ^ i % 2 ^ bits w)) i ≡ false
-  bit-without = bit-cleared _ (bit n i) i (bits w) within (unsigned.bit-clear w n i fits within i)
+  bit-without = bit-cleared _ (bit n i) i (unsigned.bit-clear w n i fits within i)
 
   pub bit-without_other : (k : ℕ) → k ≢ i → bit (bit_and n (2 ^ bits w - 1 - 1 * 2 ^ i % 2 ^ bits w)) k ≡ bit n k
-  bit-without_other k apart = bit-kept _ (bit n k) i k (bits w) apart (unsigned.bit-clear w n i fits within k)
+  bit-without_other k apart = bit-kept _ (bit n k) i k apart (unsigned.bit-clear w n i fits within k)
 
 -- no one is found exactly in the word 0
 trailing-none : (w : Width) (n : ℕ) → n ≡ 0 → trailing_zeros w n ≡ bits w
@@ -68,7 +64,7 @@ module _ (sllen : ℕ) (low high : List ℕ) (fl : ℕ) (few : sllen ≤ 64) whe
   pub inserted-few : (place : ℕ) → place < 64 → fl < length low → (k : ℕ)
       → bit (row_word sllen (slice_set low fl (bit_or (slice_index low fl) (1 * 2 ^ place % 2 ^ 64))) high fl) k ≡ (bit (row_word sllen low high fl) k || k == place)
   inserted-few place below within k =
-      ap (λ n. bit n k) (row_word-few sllen _ high fl few ∙ get_or-set_same low fl _ 0 within) ∙ bit-with w64 (slice_index low fl) place k below ∙ ap (λ n. bit n k || k == place) (sym (row_word-few sllen low high fl few))
+      ap (λ n. bit n k) (row_word-few sllen _ high fl few ∙ get_or-set_same low fl _ 0 within) ∙ unsigned.bit-set w64 (slice_index low fl) place below k ∙ ap (λ n. bit n k || k == place) (sym (row_word-few sllen low high fl few))
 
   module _ (fits : slice_index low fl < 2 ^ 64) where
     -- and taken away
@@ -109,7 +105,7 @@ module _ (sllen : ℕ) (low high : List ℕ) (fl : ℕ) (many : 64 < sllen) (wor
   module _ (low2 high2 : List ℕ) (place : ℕ) (below : place < 128) where
     -- a one is put at a place
     pub inserted-many : joined (slice_index low2 fl) (slice_index high2 fl) ≡ bit_or word (1 * 2 ^ place % 2 ^ 128) → (k : ℕ) → bit (row_word sllen low2 high2 fl) k ≡ (bit (row_word sllen low high fl) k || k == place)
-    inserted-many set k = ap (λ n. bit n k) (row_word-many sllen low2 high2 fl many ∙ set) ∙ bit-with w128 word place k below ∙ ap (λ n. bit n k || k == place) (is ∙ sym (row_word-many sllen low high fl many))
+    inserted-many set k = ap (λ n. bit n k) (row_word-many sllen low2 high2 fl many ∙ set) ∙ unsigned.bit-set w128 word place below k ∙ ap (λ n. bit n k || k == place) (is ∙ sym (row_word-many sllen low high fl many))
 
     -- and taken away
     module _ (fits : word < 2 ^ 128) (set : joined (slice_index low2 fl) (slice_index high2 fl) ≡ bit_and word (2 ^ 128 - 1 - 1 * 2 ^ place % 2 ^ 128)) where

@@ -1,8 +1,8 @@
 -- The block is the head of its class, and the class's bits are set.
-use Rattle.std.proofs.Common.{[], ◌<◌, refl, arith, sym, subst}
+use Rattle.std.proofs.Common.{[], refl, sym, subst}
 use Rattle.rlsf_table.specs.Table.{HasBits}
 use Rattle.rlsf_table.proofs.Tables.Heads.{IsHeadSet-written, IsHeadSet-opened}
-use Rattle.rlsf_table.proofs.Tables.Bits.{HasBits-put, bit-set}
+use Rattle.rlsf_table.proofs.Tables.Bits.{HasBits-put}
 use Rattle.rlsf_table.proofs.Tables.Rows.{row_words-length, rows-bit_set, rows-same}
 use Rattle.rlsf_table.proofs.table.ClassTable.put.Goals as goal
 
@@ -17,10 +17,9 @@ returns-clause-heads g c =
 
 pub returns-clause-bits : goal.returns-clause-bits
 returns-clause-bits g c r free class bits =
-    let row : c.args.fl < g.FLBitmap.BitPattern.width = omega (arith, c.requires.parameters.rows_fit, c.requires.class.0) in
     let inside = subst (λ t. HasBits g.row.FLLEN g.row.SLLEN t free) (sym c.self.view_is) bits in
     HasBits-put g.row.FLLEN g.row.SLLEN c.args.fl c.args.sl _ _ r free class (record {
-      first = λ i. bit-set _ _ c.args.fl i g.FLBitmap.BitPattern.width row (c.insert-2.ensures i);
+      first = c.insert_within.ensures;
       rows = row_words-length g.row.FLLEN g.row.SLLEN _ _;
       second = λ k. rows-bit_set g.row.FLLEN g.row.SLLEN _ _ _ _ c.args.fl c.requires.class.0 k c.args.sl (c.insert.ensures.own k);
       others = λ i within apart. rows-same g.row.FLLEN g.row.SLLEN _ _ _ _ i within (c.insert.ensures.others i apart);

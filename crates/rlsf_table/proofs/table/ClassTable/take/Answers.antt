@@ -1,5 +1,5 @@
 -- The next block is the head of the class. Where there is none its bit is cleared, and where its row is empty then, that one's too.
-use Rattle.std.proofs.Common.{◌<◌, true≢false, ◌∙◌, ap, refl, arith, sym, subst, ◌∷◌, ◌++◌}
+use Rattle.std.proofs.Common.{true≢false, ◌∙◌, ap, refl, sym, subst, ◌∷◌, ◌++◌}
 use Rattle.rlsf_int.specs.Bits.{bit}
 use Rattle.rlsf_table.specs.Table.{HasBits}
 use Rattle.rlsf_table.proofs.Tables.Heads.{IsHeadSet-opened}
@@ -21,17 +21,16 @@ returns-else-next-eq0-clause-heads g c =
 
 pub returns-then-is_empty-clause-bits : goal.returns-then-is_empty-clause-bits
 returns-then-is_empty-clause-bits g c r before after class is_head bits =
-    let row : c.args.fl < g.FLBitmap.BitPattern.width = omega (arith, c.requires.parameters.rows_fit, c.requires.class.0) in
     let inside = subst (λ t. HasBits g.row.FLLEN g.row.SLLEN t (before ++ r ∷ after)) (sym c.self.view_is) bits in
     HasBits-none_left g.row.FLLEN g.row.SLLEN c.args.fl c.args.sl _ _ r before after class inside c.requires.class.0 (record {
-      first = λ i apart. bit-kept _ _ c.args.fl i g.FLBitmap.BitPattern.width apart (c.remove-then-is_empty.ensures i);
+      first = λ i apart. bit-kept _ _ c.args.fl i apart (c.remove_within.ensures i);
       rows = row_words-length g.row.FLLEN g.row.SLLEN _ _;
       places = λ k apart. rows-bit_same g.row.FLLEN g.row.SLLEN _ _ _ _ c.args.fl c.requires.class.0 k (c.remove.ensures.own k apart);
       others = λ i within apart. rows-same g.row.FLLEN g.row.SLLEN _ _ _ _ i within (c.remove.ensures.others i apart);
     }) c.args.next is_head c.if-next-eq0.true
     (ap (λ n. bit n c.args.sl) (row_words-at g.row.FLLEN g.row.SLLEN _ _ c.args.fl c.requires.class.0) ∙ c.remove.ensures.gone)
     (row_words-at g.row.FLLEN g.row.SLLEN _ _ c.args.fl c.requires.class.0 ∙ c.is_empty.ensures.0 c.if-is_empty.true)
-    (bit-cleared _ _ c.args.fl g.FLBitmap.BitPattern.width row (c.remove-then-is_empty.ensures c.args.fl))
+    (bit-cleared _ _ c.args.fl (c.remove_within.ensures c.args.fl))
 
 pub returns-else-is_empty-clause-bits : goal.returns-else-is_empty-clause-bits
 returns-else-is_empty-clause-bits g c r before after class is_head bits =
