@@ -20,7 +20,7 @@ use std::alloc::{AllocError, Global};
 /// A bar of `width` marks would stand for the bytes of all the blocks together. A block's bar is its part of that one,
 /// rounded up, so that each block has a bar if `width` isn't 0.
 ///
-/// An error comes only where the system refused memory.
+/// An error comes where the system refuses memory; no clause says that it comes only then.
 pub fn picture(alloc: Global, blocks: Blocks<'_>, width: usize) -> Result<String, AllocError>
     ensures { IfOk result (λ text. string_bytes text ≡ picture_of width blocks.entry) }
 {

@@ -50,8 +50,8 @@ fn step<S: FlexSource, FLBitmap: Bitmap, SLBitmap: Bitmap, const FLLEN: usize, c
 /// The memory stays in place, its bytes outside of the ranges that the source gave stay, and the source is asked what the machine
 /// asks it, and nothing else.
 ///
-/// `OutOfMemory` comes only where the system refused memory for the answers or for the run's own table. Then no op was
-/// done, nothing was asked, and the answers are as before.
+/// `OutOfMemory` comes where the system refuses memory for the answers or for the run's own table; no clause says that it
+/// comes only then. No op was done then, nothing was asked, and the answers are as before.
 pub fn run_flex<
     S: FlexSource,
     FLBitmap: Bitmap,

@@ -30,7 +30,7 @@ pub(crate) struct Advice {
 }
 
 /// The advice for a trace that has one insert and no append, which is run again in half the range. None for any other. Refused only
-/// where the machine refuses memory.
+/// where the system refuses memory.
 pub(crate) fn advice_of(
     alloc: Global,
     trace: &Trace,

@@ -178,8 +178,8 @@ fn alloc<FLBitmap: Bitmap, SLBitmap: Bitmap, const FLLEN: usize, const SLLEN: us
 ///
 /// The memory stays in place, and at `Ok` each of its bytes that no block is made of at the end is as it was.
 ///
-/// `OutOfMemory` comes only where the system refused memory for the answers or for the run's own tables. Then no op
-/// was done, and the answers are as before.
+/// `OutOfMemory` comes where the system refuses memory for the answers or for the run's own tables; no clause says that it
+/// comes only then. No op was done then, and the answers are as before.
 pub fn run<FLBitmap: Bitmap, SLBitmap: Bitmap, const FLLEN: usize, const SLLEN: usize>(
     alloc: Global,
     tlsf: &mut Tlsf<FLBitmap, SLBitmap, FLLEN, SLLEN>,

@@ -41,7 +41,7 @@ impl Trace {
     /// tested for `FieldCount`, `Config`, `BadNumber`, `ZeroStart` and `TooLong`, in this order, and any
     /// other for `UnknownOp`, `FieldCount`, `BadNumber` and `BadLayout`.
     ///
-    /// `OutOfMemory`, of no line, comes only where the system refused memory for the ops.
+    /// `OutOfMemory`, of no line, comes where the system refuses memory for the ops; no clause says that it comes only then.
     #[tactic(auto, using(crate::proofs::TextFaults::fault_of_line))]
     pub fn parse(alloc: Global, text: &[u8]) -> Result<Trace, ReplayFault>
         ensures read { ReadsAsOrRefused trace_text result (trace_in text.now) }

@@ -5,7 +5,7 @@ use rlsf_text::Fault;
 use std::alloc::Global;
 use std::io::{ErrorKind, Read};
 
-/// Reads all that is left of the input. `Read` where that fails, and `OutOfMemory` where the machine refuses memory for it.
+/// Reads all that is left of the input. `Read` where that fails, and `OutOfMemory` where the system refuses memory for it.
 ///
 /// A read that a signal interrupts is tried again.
 pub fn read_input<R: Read>(alloc: Global, reader: &mut R) -> Result<Vec<u8>, Fault>

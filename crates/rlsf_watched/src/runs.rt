@@ -28,7 +28,8 @@ pub struct Watched {
 /// Does the ops, one after another, with an allocator that has no chunk yet, as `run` does, and tells what it held after each
 /// op, and its blocks at the end.
 ///
-/// `OutOfMemory` comes only where the system refused memory for what is told or for the run's own tables.
+/// `OutOfMemory` comes where the system refuses memory for what is told or for the run's own tables; no clause says that it
+/// comes only then.
 pub fn watch<FLBitmap: Bitmap, SLBitmap: Bitmap, const FLLEN: usize, const SLLEN: usize>(
     alloc: Global,
     tlsf: &mut Tlsf<FLBitmap, SLBitmap, FLLEN, SLLEN>,

@@ -38,8 +38,8 @@ fn watch_with<FLBitmap: Bitmap, SLBitmap: Bitmap, const FLLEN: usize, const SLLE
 
 /// Runs ops with the configuration and the memory of a trace, and tells what was seen.
 ///
-/// `OutOfMemory` of line 1 comes only where the machine refuses the memory that the first line asks for, and of line 0 only where
-/// it refuses other memory. There is no other fault.
+/// `OutOfMemory` of line 1 comes where the system refuses the memory that the first line asks for, and of line 0 where it refuses
+/// other memory; no clause says that it comes only then. There is no other fault.
 pub fn watch_ops(alloc: Global, trace: &Trace, ops: &[Op]) -> Result<Watched, ReplayFault>
     ensures ok { IfOk result (λ w. IsWatched
         (rows_of trace.now.configuration) (classes_of trace.now.configuration) (range_at trace.now.start trace.now.len) ops.now w) }
