@@ -29,7 +29,7 @@ pub(crate) struct Advice {
     pub(crate) first_denied: Option<u128>,
 }
 
-/// The advice for a trace that has one insert and no append, which is run again in half the range. None for any other. Refused only
+/// The advice for a trace that has one insert and no append, which is run again in half the range. None for any other. Refused
 /// where the system refuses memory.
 pub(crate) fn advice_of(
     alloc: Global,

@@ -1,5 +1,5 @@
 -- `rlsf_read` lends the pool behind the handle to `Pool::read`, passes on where the bytes go, and takes the pool back.
-use Rattle.rlsf_c.proofs.Walking.{◌≡◌, ℕ, List, [], ◌∷◌, ◌++◌, refl, w64, proved, full_share, id⊢, ftrue, flft, flent, named, vptr, WpFn, fact, tables, ‵, raw, ◌⊛◌, some, later, prop, ◌$◌, ◌∵◌, !, qed, done, move, keep, drop, use1, use2, use3, split, join, fsplit, fjoin, fpack, feq_l, pick, await, regoal, suffices, group, lft_new, lft_end, Body, enter, of_opd, addr, stop, no_more, and_then, returns, alloc_all, pass_all, free_all, look_at, get, through, sets, lands_as, usize, yes, Is, shows, lends_ref, ref_back, part_at, mem, uint_Makes, uint_vals, uint_Tells, uint_Lawful, Ptr, RawPtr, block_ptr, lies_at, in_a_block, rawptr_vals, rawptr_Tells, MutRef, plain, nothing, owned, heard, peeks, calls_at, lasts, triple_of, Stays, walk_of, stay_dropped, Goes-dropped, ends_at, framed}
+use Rattle.rlsf_c.proofs.Walking.{◌≡◌, ℕ, List, [], ◌∷◌, ◌++◌, refl, w64, proved, full_share, id⊢, ftrue, flft, named, vptr, WpFn, fact, tables, ‵, raw, ◌⊛◌, some, later, prop, ◌$◌, ◌∵◌, !, qed, done, move, keep, drop, use1, use2, use3, split, join, fsplit, fjoin, fpack, feq_l, pick, await, suffices, group, lft_end, enter, of_opd, addr, stop, no_more, and_then, returns, alloc_all, pass_all, free_all, look_at, get, through, sets, lands_as, usize, yes, Is, shows, ref_back, part_at, uint_Makes, uint_vals, uint_Tells, uint_Lawful, Ptr, RawPtr, block_ptr, lies_at, rawptr_vals, rawptr_Tells, plain, nothing, owned, heard, peeks, calls_at, lasts, triple_of, Stays, walk_of, stay_dropped, Goes-dropped, ends_at, framed}
 use denote.Builtin.{u8}
 use denote.RattleType.{owns}
 use types.Run.{from, fld, hop}
@@ -7,6 +7,7 @@ use types.ByLocal.{get_in, look_in_at}
 use types.Part.{agg, sub, whole}
 use denote.Slice.{MutSlice, mut_slice_vals, mut_slice_Tells}
 use denote.Triple.Walked.{gave_slice, Goes-gave_slice}
+use Rattle.rlsf_c.proofs.Lending.{in_its_block, lends}
 use Rattle.rlsf_c.specs.Handle.{SomePool}
 use Rattle.rlsf_c.specs.Seen.{PoolValue, seen}
 use Rattle.rlsf_c.specs.Calls.{Reads}
@@ -32,13 +33,10 @@ rlsf_read_spec 𝓤 𝓛 𝓜 𝓡 wired =
     qed 𝓛 (((‵ (flft κ q) ⊛ ‵ ftrue) ⊛ ‵ (owns (RawPtr ∷ usize ∷ usize ∷ MutSlice (named 0) κ u8 ∷ []) a (s a.0).0.4)) ∷ ‵ (lies_at R full_share a.0 before) ∷ []) ∵
     split ! $ split ! $ move ! (2 ∷ []) $ fsplit ! $ drop ! $ fsplit ! $ drop ! $ fsplit ! $ drop ! $ fsplit ! $ keep ! (4 ∷ 0 ∷ 2 ∷ []) $
     -- [the pool; the bytes; the token of κ]
-    in_a_block ! a.0 (λ p. lies_at R full_share p before) (id⊢ 𝓤 _) (λ b o e.
-    regoal ! (λ p. prop (WpFn 𝓤 𝓛.H 𝓣.C 𝓣.Λ code.function (rawptr_vals p ++ uint_vals w64 x ++ uint_vals w64 y' ++ mut_slice_vals z' ++ []) (W.post (s p)))) e refl $
-    use1 𝓛 (‵ (part_at R full_share before b o)) (id⊢ 𝓤 _) $
+    in_its_block ! R before a.0 (λ p. prop (WpFn 𝓤 𝓛.H 𝓣.C 𝓣.Λ code.function (rawptr_vals p ++ uint_vals w64 x ++ uint_vals w64 y' ++ mut_slice_vals z' ++ []) (W.post (s p)))) (λ b o.
     enter ! _ _ _ _ _ $ alloc_all ! (λ l. pass_all ! refl ((tt, tt), ((tt, record { fits = are.1.0.1 }), ((tt, record { fits = are.1.1.0.1 }), ((tt, (tt, (record { fits = are.1.1.1.0.0.1.0 }, tt))), tt)))) $
-    lft_new ! tt (λ α. move ! (1 ∷ []) $
-    use1 𝓛 (later (some (λ (γ : ℕ). ‵ ((MutRef (named 0) (α ∷ []) R).own_val (record { ref_ptr = (b, o); ghost_name = γ; now = before }) (vptr b o ∷ [])) ⊛ ‵ (flent (α ∷ []) (Body (mem R) b o γ)))))
-    (lends_ref 𝓛 R (named 0) (α ∷ []) before b o) $ await ! tt $ pick ! (λ γ. split ! $
+    let asked = met 𝓤 𝓛 𝓜 𝓡 (code.calls-rlsf_c::pool::Pool::read 𝓡.env wired) in
+    lends ! tt R before b o (λ α γ.
     -- [the loan; what the lender keeps; the token of α; the bytes; the token of κ; the locals]
     sets ! (of_opd ! (get ! refl)) refl (tt, tt) $ sets ! (addr ! (through ! refl (stop !))) refl (tt, tt) $
     sets ! (addr ! (from ! (fld ! refl (hop ! (look_in_at ! 4 (sub ! 0 refl (whole !))) (stop !))))) refl (tt, tt) $
@@ -48,7 +46,7 @@ rlsf_read_spec 𝓤 𝓛 𝓜 𝓡 wired =
     nothing ! $ move ! (4 ∷ 0 ∷ []) $ join ! $ owned ! usize _ (uint_Makes 𝓛 w64) y' _ (refl, are.1.1.0.1) $ join ! $ owned ! usize _ (uint_Makes 𝓛 w64) x _ (refl, are.1.0.1) $ join ! $ move ! (1 ∷ 0 ∷ []) $ join ! $
     -- [the arguments; what the lender keeps; the token of α; the token of κ; the locals]
     nothing ! $ move ! (4 ∷ 0 ∷ []) $ join ! $ move ! (3 ∷ 0 ∷ []) $ join ! $ join ! $ nothing ! $ move ! (1 ∷ 0 ∷ []) $ use2 𝓛 (raw (G.pre y)) (id⊢ 𝓤 _) $
-    calls_at ! (framed 𝓤 𝓛.H 𝓜 (tables 𝓤 𝓛.H 𝓜 𝓡 𝓡.env)) G (met 𝓤 𝓛 𝓜 𝓡 (code.calls-rlsf_c::pool::Pool::read 𝓡.env wired)) y
+    calls_at ! (framed 𝓤 𝓛.H 𝓜 (tables 𝓤 𝓛.H 𝓜 𝓡 𝓡.env)) G asked y
     (and_then ! (get ! refl) (and_then ! (get ! refl) (and_then ! (get ! refl) (and_then ! (get ! refl) (no_more !))))) (λ v.
     use1 𝓛 (later (some (λ (r : ℕ). ((‵ (flft (α ∷ []) full_share) ⊛ (‵ (flft κ q) ⊛ ‵ ftrue)) ⊛ ‵ (usize.own_val r (v ∷ []))) ⊛
     some (λ (ws : PoolValue × (Unit {0} × (Unit {0} × (List ℕ × Unit {0})))). ‵ (lasts g.ended y.0.0 y.0.3 ws) ⊛ raw (fact 𝓤 (Reads (seen before) x y' z'.now r ws.1.1.1.0 × (ws.0 ≡ before))))))) (id⊢ 𝓤 _) $
@@ -63,4 +61,4 @@ rlsf_read_spec 𝓤 𝓛 𝓜 𝓡 wired =
     returns ! (look_at ! 0 refl) $ free_all ! refl $ keep ! (0 ∷ 1 ∷ 4 ∷ 5 ∷ []) $
     fpack ! (SomePool (λ v. Reads (seen before) x y' z'.now r ws.1.1.1.0 × (v ≡ before))) (λ x. lies_at R full_share (block_ptr b o) x.0) (ws.0, did) $ move ! (1 ∷ []) $
     suffices ! _ (ends_at 𝓛 f.ended stayed c (s (block_ptr b o)) v r (tt, (tt, (tt, (ws.1.1.1.0, tt)))) (tt, (tt, (tt, (long, tt))))) $
-    nothing ! $ move ! (1 ∷ 0 ∷ []) $ join ! $ nothing ! $ join ! $ nothing ! $ join ! $ nothing ! $ join ! $ move ! (3 ∷ 0 ∷ 2 ∷ []) $ group ! 3 $ done !)))))))))))
+    nothing ! $ move ! (1 ∷ 0 ∷ []) $ join ! $ nothing ! $ join ! $ nothing ! $ join ! $ nothing ! $ join ! $ move ! (3 ∷ 0 ∷ 2 ∷ []) $ group ! 3 $ done !))))))))))
