@@ -62,18 +62,20 @@ fn reads(flex: &Small, addr: Addr, usable: usize, byte: u8) -> bool
     flex.allocation_usable_size(addr) == usable && ends == (Some(byte), Some(byte))
 }
 
-/// Allocates two payloads, the second of which may need more memory, fills both, reads the first byte of each, and gives both back.
-fn two(flex: &mut Small, first: Layout, second: Layout) -> Option<[u8; 2]>
+/// Allocates a payload and fills it with 7, allocates another, which may need more memory, and fills that with 9. Reads the first byte
+/// of each, and gives both back.
+fn two(flex: &mut Small, first: Layout, second: Layout) -> Option<(u8, u8)>
     requires { (0 < first.size) × (0 < second.size) }
+    ensures { IfSome result (λ reads. (reads.0 ≡ 7) × (reads.1 ≡ 9)) }
 {
     let one = flex.allocate(first)?;
+    flex.payload_mut(one).fill(7);
     let Some(other) = flex.allocate(second) else {
         flex.deallocate(one, first.align());
         return None;
     };
-    flex.payload_mut(one).fill(7);
     flex.payload_mut(other).fill(9);
-    let reads = [flex.payload(one)[0], flex.payload(other)[0]];
+    let reads = (flex.payload(one)[0], flex.payload(other)[0]);
     flex.deallocate(other, second.align());
     flex.deallocate(one, first.align());
     Some(reads)
@@ -116,7 +118,7 @@ fn two_payloads_with_a_growth_between(rt: HostRuntime) -> Result<(), Fail> {
     let seen = Cell::new(Questions::new());
     let mut flex = small(rt.alloc(), ALL, HABITS, &seen)?;
     let read = two(&mut flex, first, second);
-    assert_eq!(rt; read, Some([7, 9]));
+    assert_eq!(rt; read, Some((7, 9)));
     is_right(&rt, (None, flex.source_ref().asked()), &GROWN);
     Ok(())
 }
