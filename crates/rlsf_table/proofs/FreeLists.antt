@@ -7,3 +7,4 @@ pub mod Front
 pub mod Indices
 pub mod OtherClasses
 pub mod Removal
+pub mod Touches

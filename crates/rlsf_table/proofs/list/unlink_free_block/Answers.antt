@@ -1,5 +1,6 @@
 -- The block is taken out of the list of its class; where it was the newest one there, the class's head is set.
-use Rattle.std.proofs.Common.{◌∷◌, arith, inl, refl, rules}
+use Rattle.std.proofs.Common.{◌∷◌, ◌∙◌, arith, inl, refl, rules}
+use Rattle.std.proofs.Math.Nat.{le_trans}
 use Rattle.rlsf_machine.proofs.Choices.{has_class-from}
 use Rattle.rlsf_machine.proofs.Coverage.{IsIn-append_right}
 use Rattle.rlsf_table.specs.Table.{class_at, head_at, of_class}
@@ -7,6 +8,7 @@ use Rattle.rlsf_table.proofs.Tables.Linking.{HasTable-removal, HasTable-removal_
 use Rattle.rlsf_table.proofs.FreeLists.Classes.{IsIn-of_class_from}
 use Rattle.rlsf_table.proofs.FreeLists.Counted.{HasTable-counted, Rewrites-counted_last}
 use Rattle.rlsf_table.proofs.FreeLists.Indices.{IsClassAt-told, indices_of, room}
+use Rattle.rlsf_table.proofs.FreeLists.Touches.{newest_touches}
 use Rattle.rlsf_table.proofs.list.unlink_free_block.Goals as goal
 
 pub unlink_between-newest-requires-clause-listed : goal.unlink_between-newest-requires-clause-listed
@@ -52,3 +54,15 @@ returns-in_default-clause-step g c r before after place len list =
     let head = head_at c.args.table.now fl sl in
     let (linked, rewrites) = c.in_default.ensures.step head r (of_class sllen fl sl before) (of_class sllen fl sl after) place (IsFreeList-amid before r after fl sl list at) in
     (HasTable-removal_behind before r after fl sl list at head linked rewrites refl, Rewrites-amid_class before r after fl sl list at rewrites)
+
+pub returns-in-Some-clause-touches : goal.returns-in-Some-clause-touches
+returns-in-Some-clause-touches g c = newest_touches c.in-Some.next _ _ _ c.in-Some.ensures.touches c.take.ensures.counts.touches
+
+pub returns-in-Some-clause-grow : goal.returns-in-Some-clause-grow
+returns-in-Some-clause-grow g c = le_trans c.in-Some.ensures.grow c.take.ensures.counts.grow
+
+pub returns-in-Some-clause-copied : goal.returns-in-Some-clause-copied
+returns-in-Some-clause-copied g c = c.take.ensures.counts.copied ∙ c.in-Some.ensures.copied
+
+pub returns-in-Some-clause-view : goal.returns-in-Some-clause-view
+returns-in-Some-clause-view g c = c.take.ensures.counts.view ∙ c.in-Some.ensures.view

@@ -1,5 +1,6 @@
 -- The block is taken out of the list of its class, and the class's head is set to the next one.
-use Rattle.std.proofs.Common.{ℕ, ◌∷◌, ◌++◌, List, rules, subst, sym}
+use Rattle.std.proofs.Common.{ℕ, ◌∷◌, ◌++◌, ◌∙◌, List, rules, subst, sym}
+use Rattle.std.proofs.Math.Nat.{le_trans}
 use Rattle.rlsf_base.specs.declared.memory.range.Range.{Range}
 use Rattle.rlsf_table.specs.FreeList.{IsLink, Links, Rewrites}
 use Rattle.rlsf_table.specs.FreeTable.{IsFreeTable}
@@ -8,6 +9,7 @@ use Rattle.rlsf_table.specs.Table.{IsNewestAt, Table, head_at, of_class}
 use Rattle.rlsf_base.specs.Space.{Space}
 use Rattle.rlsf_table.proofs.Tables.Linking.{HasTable-removal, IsFreeList-amid, IsHeadOf-removal, Rewrites-amid_class}
 use Rattle.rlsf_table.proofs.FreeLists.Counted.{HasTable-counted, Rewrites-counted_last}
+use Rattle.rlsf_table.proofs.FreeLists.Touches.{front_touches}
 use Rattle.rlsf_table.proofs.list.unlink_newest_block.Goals as goal
 
 -- the list of the class begins with the block
@@ -44,3 +46,15 @@ returns-clause-step g c r before after place newest list =
       HasTable-counted n o counts.start counts.bytes (HasTable-removal before r after fl sl list newest.at next linked rewrites c.take.ensures.heads bits),
       Rewrites-counted_last n o counts.start counts.bytes (Rewrites-amid_class before r after fl sl list newest.at rewrites),
     )
+
+pub returns-clause-touches : goal.returns-clause-touches
+returns-clause-touches g c = front_touches c.unlink_front-next.result _ _ _ c.unlink_front-next.ensures.touches c.take.ensures.counts.touches
+
+pub returns-clause-grow : goal.returns-clause-grow
+returns-clause-grow g c = le_trans c.unlink_front-next.ensures.grow c.take.ensures.counts.grow
+
+pub returns-clause-copied : goal.returns-clause-copied
+returns-clause-copied g c = c.take.ensures.counts.copied ∙ c.unlink_front-next.ensures.copied
+
+pub returns-clause-view : goal.returns-clause-view
+returns-clause-view g c = c.take.ensures.counts.view ∙ c.unlink_front-next.ensures.view

@@ -2,7 +2,7 @@
 use Rattle.std.proofs.Common.{true≢false, ◌∙◌, ap, refl, sym, subst, ◌∷◌, ◌++◌}
 use Rattle.rlsf_int.specs.Bits.{bit}
 use Rattle.rlsf_table.specs.Table.{HasBits}
-use Rattle.rlsf_table.proofs.Tables.Heads.{IsHeadSet-opened}
+use Rattle.rlsf_table.proofs.Tables.Heads.{HasPlaces-written, IsHeadSet-opened}
 use Rattle.rlsf_table.proofs.Tables.Bits.{bit-cleared, bit-kept, HasBits-some_left, HasBits-row_left, HasBits-none_left}
 use Rattle.rlsf_table.proofs.Tables.Rows.{row_words-at, row_words-length, rows-bit_same, rows-same}
 use Rattle.rlsf_table.proofs.table.ClassTable.take.Goals as goal
@@ -54,3 +54,12 @@ returns-else-next-eq0-clause-bits g c r before after class is_head bits =
       places = λ k apart. refl;
       others = λ i within apart. refl;
     }) c.args.next is_head c.if-next-eq0.false refl refl
+
+pub invariant_of-self : goal.invariant_of-self
+invariant_of-self g c = HasPlaces-written g.row.FLLEN g.row.SLLEN c.args.fl c.args.sl c.args.next c.self.inside.heads c.requires.class.0 c.requires.class.1 c.self.told c.self.invariant
+
+pub invariant_of-self-else-is_empty : goal.invariant_of-self-else-is_empty
+invariant_of-self-else-is_empty g c = HasPlaces-written g.row.FLLEN g.row.SLLEN c.args.fl c.args.sl c.args.next c.self.inside.heads c.requires.class.0 c.requires.class.1 c.self.told c.self.invariant
+
+pub invariant_of-self-else-next-eq0 : goal.invariant_of-self-else-next-eq0
+invariant_of-self-else-next-eq0 g c = HasPlaces-written g.row.FLLEN g.row.SLLEN c.args.fl c.args.sl c.args.next c.self.inside.heads c.requires.class.0 c.requires.class.1 c.self.told c.self.invariant
