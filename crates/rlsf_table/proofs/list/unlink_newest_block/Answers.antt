@@ -1,5 +1,5 @@
 -- The block is taken out of the list of its class, and the class's head is set to the next one.
-use Rattle.std.proofs.Common.{ℕ, ◌∷◌, ◌++◌, ◌∙◌, List, rules, subst, sym}
+use Rattle.std.proofs.Common.{ℕ, ◌∷◌, ◌++◌, ◌∙◌, List, subst, sym}
 use Rattle.std.proofs.Math.Nat.{le_trans}
 use Rattle.rlsf_base.specs.declared.memory.range.Range.{Range}
 use Rattle.rlsf_table.specs.FreeList.{IsLink, Links, Rewrites}
@@ -22,11 +22,6 @@ pub unlink_front-next-requires-clause-front : goal.unlink_front-next-requires-cl
 unlink_front-next-requires-clause-front g c =
     let (r, before, after, place, newest, list) = c.requires.newest in
     (r, of_class g.row.SLLEN c.args.class.fl c.args.class.sl after, head_at c.args.table.now c.args.class.fl c.args.class.sl, place, list_from r before after newest list)
-
-pub take-requires : goal.take-requires
-take-requires g c =
-    let (r, before, after, place, newest, list) = c.requires.newest in
-    (search rules, (c.requires.parameters, (newest.at.row, newest.at.place)))
 
 pub returns-clause-step : goal.returns-clause-step
 returns-clause-step g c r before after place newest list =

@@ -1,4 +1,4 @@
-use Rattle.std.proofs.Common.{ℕ, ◌≡◌, ◌≢◌, ◌≤◌, ◌+◌, ◌<◌, length, Some, None, arith, sym, ◌∙◌, ap, subst, rules}
+use Rattle.std.proofs.Common.{ℕ, ◌≡◌, ◌≢◌, ◌≤◌, ◌+◌, ◌<◌, length, Some, None, arith, sym, ◌∙◌, ap, subst}
 use Rattle.rlsf_base.specs.Addr.{reply}
 use Rattle.rlsf_base.specs.Space.{SamePlace}
 use Rattle.rlsf_machine.specs.Allocate.{Allocates, Places}
@@ -24,9 +24,6 @@ use Rattle.rlsf_tlsf.proofs.tlsf.Tlsf.allocate.Goals.{After-new, In_err-payload,
 -- no payload is at the address 0
 positive : {sllen size align addr : ℕ} {s t : State} → Places sllen s size align addr t → 0 < addr
 positive {align = align} places = omega (arith, places.answer, payload_of-after places.range.start align)
-
-pub allocate_block-requires : goal.allocate_block-requires
-allocate_block-requires g c = (search rules, (c.self.invariant.valid, ((_, c.self.invariant.stands), search rules)))
 
 -- where it is refused, the state stays
 refusing : (g : given.Over) (c : In_err-payload g) → Allocates g.row.SLLEN (read_from c.self.inside.memory c.self.inside.state.state) c.args.layout.size c.args.layout.align None (read_from c.self.inside.memory c.self.inside.state.state)
