@@ -1,4 +1,4 @@
-use Rattle.std.proofs.Common.{◌*◌, ◌/◌, ◌^◌, ◌+◌, arith, refl, rules, ap, sym, ◌∙◌}
+use Rattle.std.proofs.Common.{ℕ, ◌*◌, ◌/◌, ◌^◌, ◌+◌, ◌≤◌, arith, refl, rules, ap, sym, ◌∙◌}
 use Rattle.std.specs.Int.NonZero.{non_zero_usize_get}
 use Rattle.std.specs.Option.{option_map}
 use Rattle.rlsf_base.specs.Space.{range_of}
@@ -68,3 +68,19 @@ returns-clause-touches g c =
     let some = c.is_some.ensures in
     let false = c.if-is_some.false in
     touches-grown g.row.FLLEN c.args.range c.args.memory.now.touches c.extend_chunk.new.memory.touches (cc) c.extend_chunk.ensures.touches
+
+-- nothing is touched where nothing is taken
+few : (a b : ℕ) → a ≤ a + b
+few a b = omega arith
+
+pub returns-then-len-eq0-clause-touches : goal.returns-then-len-eq0-clause-touches
+returns-then-len-eq0-clause-touches g c = few _ _
+
+pub returns-then-len-eq0-clause-unchanged : goal.returns-then-len-eq0-clause-unchanged
+returns-then-len-eq0-clause-unchanged g c = λ none. refl
+
+pub returns-in-Some-clause-unchanged : goal.returns-in-Some-clause-unchanged
+returns-in-Some-clause-unchanged g c = λ none. absurd (omega (arith, none, c.get.ensures.nonzero))
+
+pub returns-clause-unchanged : goal.returns-clause-unchanged
+returns-clause-unchanged g c = λ none. absurd (c.if-len-eq0.false none)
