@@ -80,6 +80,10 @@ pub record IsAt {S : Type 0} (owes : S → List Range → Type 0) (leads : S →
   pub owed : owes now rest
   pub notes : LeadsBy leads begin (map dealloc gone) now
 
+-- at the beginning, none was
+pub IsAt-begun : {S : Type 0} {owes : S → List Range → Type 0} {leads : S → Note → S → Type 0} {m : Space} {pools : List Range} {begin : S} {next : Option Range} → AreSpelled m next pools → owes begin pools → IsAt owes leads m pools begin next begin
+IsAt-begun {pools = pools} is owed = record { gone = []; rest = pools; split = refl; spelled = is; owed = owed; notes = refl }
+
 module _ {S : Type 0} {owes : S → List Range → Type 0} {leads : S → Note → S → Type 0} {m : Space} {pools : List Range} {begin now : S} {next : Option Range} (at : IsAt owes leads m pools begin next now) {p : Range} (some : next ≡ Some p) where
   pub IsAt-front : IsNext m p at.rest
   IsAt-front = AreSpelled-next m p at.rest (subst (λ n. AreSpelled m n at.rest) some at.spelled)

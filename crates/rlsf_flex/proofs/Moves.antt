@@ -1,5 +1,5 @@
 -- A payload moves into a block that is allocated for it: its bytes are copied there, and its old block is given back.
-use Rattle.std.proofs.Common.{◌≡◌, ℕ, ◌≤◌, List, Some, length, min, take, drop, arith, inl, refl, sym, ◌∙◌, ap, subst}
+use Rattle.std.proofs.Common.{◌≡◌, ℕ, ◌≤◌, List, Some, length, min, take, drop, arith, length-drop, inl, refl, sym, ◌∙◌, ap, subst}
 use Rattle.std.proofs.lemmas.List.{length-append, take_all, take_at}
 use Rattle.rlsf_base.specs.declared.memory.range.Range.{Range}
 use Rattle.rlsf_base.specs.PowerOfTwo.{IsPowerOfTwo}
@@ -19,13 +19,19 @@ use Rattle.rlsf_machine.proofs.Live.{allocated_filled, allocation_has_size, othe
 use Rattle.rlsf_blocks.proofs.Machine.SpareBytes.{KeepsSpare-trans}
 
 -- a list with the whole of a shorter one in front keeps it
-Keeps-front : (n : ℕ) (old new : List ℕ) → length old ≡ n → n ≤ length new → Keeps old (with_front n old new)
+pub Keeps-front : (n : ℕ) (old new : List ℕ) → length old ≡ n → n ≤ length new → Keeps old (with_front n old new)
 Keeps-front n old new is short =
     let whole : take n old ≡ old = take_all n old (omega (arith, is)) in
     let front : length (take n old) ≡ n = ap length whole ∙ is in
     let long : n ≤ length (with_front n old new) = omega (arith, length-append (take n old) (drop n new), front) in
     let least : min (length old) (length (with_front n old new)) ≡ n = omega (arith, is, long) in
     subst (λ k. take k (with_front n old new) ≡ take k old) (sym least) (take_at (take n old) (drop n new) n front)
+
+-- and is as long as it was
+pub length-front : (n : ℕ) (old new : List ℕ) → length old ≡ n → n ≤ length new → length (with_front n old new) ≡ length new
+length-front n old new is short =
+    let front : length (take n old) ≡ n = ap length (take_all n old (omega (arith, is))) ∙ is in
+    omega (arith, length-append (take n old) (drop n new), length-drop n new, front, short)
 
 -- the bytes that were copied are those of the two payloads
 pub Fills-copied : {fllen sllen : ℕ} {memory : Range} {s t : State} → IsWellFormed fllen sllen memory s → (from to len : ℕ) (x y : Used) → Holds s from x → Holds s to y → Fills s to (with_front len (bytes_at s from) (bytes_at s to)) t

@@ -6,7 +6,7 @@ ghost use Rattle.rlsf_base.specs.SizeClass.{IsValid};
 ghost use Rattle.rlsf_base.specs.Space.{SamePlace};
 ghost use Rattle.rlsf_tlsf.specs.Allocator.{Stands};
 ghost use Rattle.rlsf_flex.specs.StandsFor.{FlexStandsFor, kept_pool};
-ghost use Rattle.rlsf_flex.specs.Steps.Growth.{AskedGrowth, AskedRange, Extended, KeepsPayloads, MovesTo, kept_len, kept_start};
+ghost use Rattle.rlsf_flex.specs.Steps.Growth.{AskedGrowth, AskedRange, Extended, IsUntouched, KeepsPayloads, MovesTo, kept_len, kept_start};
 ghost use Rattle.rlsf_flex.specs.Steps.Parts.{flex_over};
 ghost use Rattle.rlsf_machine.specs.Allocate.{Allocates};
 ghost use Rattle.rlsf_machine.specs.Callers.{align_at, bytes_at};
@@ -60,11 +60,11 @@ fn ask_range<
     const FLLEN: usize,
     const SLLEN: usize,
 >(
+    source: &mut S,
+    wanted: usize,
     tlsf: &mut Tlsf<FLBitmap, SLBitmap, FLLEN, SLLEN>,
     kept: &mut Option<Pool>,
-    source: &mut S,
     owed: &mut GhostRanges,
-    wanted: usize,
 ) -> Option<Range>
     requires valid { IsValid FLBitmap.width SLBitmap.width FLLEN SLLEN }
     requires wanted { IsPoolSize FLLEN SLLEN wanted }
@@ -72,7 +72,7 @@ fn ask_range<
     ensures step { AskedRange FLLEN SLLEN S.terms S.owes S.leads (flex_over tlsf.old kept.old source.old owed.old)
         (flex_over tlsf.new kept.new source.new owed.new) wanted result }
     ensures payloads { KeepsPayloads tlsf.old tlsf.new }
-    ensures refused { IfNone result (tlsf.new ≡ tlsf.old) }
+    ensures refused { IfNone result (IsUntouched tlsf.old tlsf.new) }
 {
     let len = range_len(source, wanted)?;
     let range = source.alloc(len)?;
@@ -98,13 +98,13 @@ fn ask_growth<
     const FLLEN: usize,
     const SLLEN: usize,
 >(
-    tlsf: &mut Tlsf<FLBitmap, SLBitmap, FLLEN, SLLEN>,
-    kept: &mut Option<Pool>,
     source: &mut S,
-    owed: &mut GhostRanges,
     pool: Pool,
     wanted: usize,
     len: usize,
+    tlsf: &mut Tlsf<FLBitmap, SLBitmap, FLLEN, SLLEN>,
+    kept: &mut Option<Pool>,
+    owed: &mut GhostRanges,
 ) -> Option<usize>
     requires kept { kept.old ≡ Some pool }
     requires valid { IsValid FLBitmap.width SLBitmap.width FLLEN SLLEN }
@@ -114,7 +114,7 @@ fn ask_growth<
     ensures step { AskedGrowth FLLEN SLLEN S.terms S.owes S.leads (flex_over tlsf.old kept.old source.old owed.old)
         (flex_over tlsf.new kept.new source.new owed.new) (kept_pool pool) len wanted result }
     ensures payloads { KeepsPayloads tlsf.old tlsf.new }
-    ensures refused { IfNone result (tlsf.new ≡ tlsf.old) }
+    ensures refused { IfNone result (IsUntouched tlsf.old tlsf.new) }
 {
     let grows = source.supports_realloc_inplace_grow();
     if !grows {
@@ -162,24 +162,21 @@ pub(crate) fn extend<
     ensures step { Extended FLLEN SLLEN S.terms S.owes S.leads (flex_over tlsf.old kept.old source.old owed.old)
         (flex_over tlsf.new kept.new source.new owed.new) wanted result }
     ensures payloads { KeepsPayloads tlsf.old tlsf.new }
-    ensures refused { result ≡ false → tlsf.new ≡ tlsf.old }
+    ensures refused { result ≡ false → IsUntouched tlsf.old tlsf.new }
 {
     let Some(pool) = *kept else {
-        return ask_range(tlsf, kept, source, owed, wanted).is_some();
+        return ask_range(source, wanted, tlsf, kept, owed).is_some();
     };
     let Some(len) = pool.len.checked_add(wanted) else {
         return false;
     };
-    if ask_growth(tlsf, kept, source, owed, pool, wanted, len).is_some() {
-        true
-    } else {
-        let is_contiguous = source.is_contiguous_growable();
-        if is_contiguous {
-            false
-        } else {
-            ask_range(tlsf, kept, source, owed, wanted).is_some()
-        }
+    if ask_growth(source, pool, wanted, len, tlsf, kept, owed).is_some() {
+        return true;
     }
+    if source.is_contiguous_growable() {
+        return false;
+    }
+    ask_range(source, wanted, tlsf, kept, owed).is_some()
 }
 
 /// Moves a payload into a block that is allocated for it, where there is room for one, with all its bytes.

@@ -44,6 +44,10 @@ MayCome t s e refused = Unit {0}
 MayCome t s e (given r) = (n : ℕ) → range_length t e ≡ Some n → MayAnswer t s.pools (alloc n (Some r))
 MayCome t s e (grown len) = (k : KeptPool) → s.kept ≡ Some k → MayAnswer t s.pools (grow k.range (k.len + e) (Some len))
 
+-- nothing has changed
+pub record IsUntouched {A : Type 0} (before after : A) : Type 0 where
+  pub same : after ≡ before
+
 -- growth leaves every payload, the place of the memory and the count of copied bytes as they were; touches only grow
 pub record KeepsPayloads (before after : Allocator) : Type 0 where
   pub aligns : align_at after.state ≡ align_at before.state

@@ -1,4 +1,4 @@
-use Rattle.std.proofs.Common.{rules, true, false, ◌≡◌, ◌+◌, [], Option, Some, None, IfNone, arith, sym, ap, ◌∙◌, subst, refl, inl}
+use Rattle.std.proofs.Common.{rules, true, false, ◌≡◌, ◌+◌, [], arith, sym, ap, ◌∙◌, subst, refl, inl}
 use Rattle.rlsf_base.specs.Space.{IsWord, range_of, word_at}
 use Rattle.rlsf_tlsf.specs.Allocator.{Allocator, IsInState}
 use Rattle.rlsf_flex.specs.Footers.{first_len, first_start, footer_of, Footers}
@@ -12,6 +12,7 @@ use Rattle.rlsf_machine.specs.Note.{grow}
 use Rattle.rlsf_machine.specs.Terms.{Terms, with_len}
 use Rattle.rlsf_machine.proofs.TakenPools.{pool_size_is}
 use Rattle.rlsf_tlsf.proofs.Standing.{of_state, stepped}
+use Rattle.rlsf_flex.proofs.Allocations.{if_any}
 use Rattle.rlsf_flex.proofs.Asks.{AskedGrowth-asked, AskedGrowth-none}
 use Rattle.rlsf_flex.proofs.Calls.{stays_in}
 use Rattle.rlsf_flex.proofs.Frames.{ends_here, spare_here}
@@ -174,16 +175,11 @@ returns-clause-payloads g c =
 pub realloc_inplace_grow-requires-clause-supported : goal.realloc_inplace_grow-requires-clause-supported
 realloc_inplace_grow-requires-clause-supported g c = sym c.supports_realloc_inplace_grow-grows.ensures ∙ c.if-not-grows.false
 
--- what is true is so without an answer
-if_any : {A P : Type 0} (o : Option A) → P → IfNone o P
-if_any None p = p
-if_any (Some x) p = tt
-
 pub returns-then-not-grows-clause-refused : goal.returns-then-not-grows-clause-refused
-returns-then-not-grows-clause-refused g c = refl
+returns-then-not-grows-clause-refused g c = record { same = refl }
 
 pub returns-in_err-grown-clause-refused : goal.returns-in_err-grown-clause-refused
-returns-in_err-grown-clause-refused g c = if_any c.from_residual.result refl
+returns-in_err-grown-clause-refused g c = if_any c.from_residual.result (record { same = refl })
 
 pub returns-clause-refused : goal.returns-clause-refused
 returns-clause-refused g c = tt

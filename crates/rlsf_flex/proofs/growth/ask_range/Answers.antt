@@ -1,4 +1,4 @@
-use Rattle.std.proofs.Common.{rules, ◌≡◌, ◌≤◌, ℕ, arith, Option, Some, None, IfNone, sym, ap, ◌∙◌, subst, refl}
+use Rattle.std.proofs.Common.{rules, ◌≡◌, ◌≤◌, ℕ, arith, Option, Some, None, sym, ap, ◌∙◌, subst, refl}
 use Rattle.std.specs.Bool.{then_some}
 use Rattle.std.specs.Int.NonZero.{non_zero_usize_get}
 use Rattle.std.specs.Option.{MatchOption, option_map}
@@ -17,6 +17,7 @@ use Rattle.rlsf_machine.specs.Note.{alloc}
 use Rattle.rlsf_machine.specs.Terms.{Terms}
 use Rattle.rlsf_machine.proofs.FlexGrowths.{given_fresh}
 use Rattle.rlsf_machine.proofs.TakenPools.{pool_size_is}
+use Rattle.rlsf_flex.proofs.Allocations.{if_any}
 use Rattle.rlsf_flex.proofs.Asks.{AskedRange-asked, AskedRange-none}
 use Rattle.rlsf_flex.proofs.Calls.{stays_in}
 use Rattle.rlsf_flex.proofs.NewRanges.{Came, Came-footer, Came-took}
@@ -121,16 +122,11 @@ returns-clause-payloads g c =
       | else-takes_back w ↦ subst (KeepsPayloads c.args.tlsf.now) (sym w.tlsf-is) taken
     ]
 
--- what is true is so without an answer
-if_any : {A P : Type 0} (o : Option A) → P → IfNone o P
-if_any None p = p
-if_any (Some x) p = tt
-
 pub returns-in_err-len-clause-refused : goal.returns-in_err-len-clause-refused
-returns-in_err-len-clause-refused g c = if_any c.from_residual.result refl
+returns-in_err-len-clause-refused g c = if_any c.from_residual.result (record { same = refl })
 
 pub returns-in_err-range-clause-refused : goal.returns-in_err-range-clause-refused
-returns-in_err-range-clause-refused g c = if_any c.from_residual-in_err-range.result refl
+returns-in_err-range-clause-refused g c = if_any c.from_residual-in_err-range.result (record { same = refl })
 
 pub returns-clause-refused : goal.returns-clause-refused
 returns-clause-refused g c = tt

@@ -1,4 +1,4 @@
-use Rattle.std.proofs.Common.{rules, ◌≡◌, ◌≢◌, ◌≤◌, ◌+◌, ℕ, List, true≢false, Option, Some, None, IsSome, IfSome, arith, refl, sym, ◌∙◌, ap, subst}
+use Rattle.std.proofs.Common.{rules, ◌≡◌, ◌≢◌, ◌≤◌, ◌+◌, ℕ, List, true≢false, Option, Some, None, IsSome, IfNone, IfSome, arith, refl, sym, ◌∙◌, ap, subst}
 use Rattle.rlsf_base.specs.Addr.{at, reply}
 use Rattle.rlsf_base.specs.Sizes.{request_size}
 use Rattle.rlsf_base.specs.Space.{SamePlace}
@@ -6,8 +6,8 @@ use Rattle.rlsf_flex.specs.StandsFor.{FlexContents, flex_contents, FlexSteps}
 use Rattle.rlsf_machine.specs.Allocate.{Allocates, choice}
 use Rattle.rlsf_machine.specs.Callers.{align_at, bytes_at}
 use Rattle.rlsf_machine.specs.FlexAllocate.{FlexAllocates}
-use Rattle.rlsf_tlsf.specs.Allocator.{Steps}
-use Rattle.rlsf_flex.proofs.Allocations.{Tried, allocated_in_more, allocated_in_room, allocated_stands, extended_none, more_is_found, no_room, not_none, nothing_asked, nothing_more, vacuous}
+use Rattle.rlsf_tlsf.specs.Allocator.{Allocator, Steps}
+use Rattle.rlsf_flex.proofs.Allocations.{Tried, allocated_in_more, allocated_in_room, allocated_stands, extended_none, if_any, more_is_found, no_room, not_none, nothing_asked, nothing_more, vacuous}
 use Rattle.rlsf_flex.proofs.Standing.{flex_opened, opened}
 use Rattle.rlsf_flex.proofs.flex.FlexTlsf.allocate.Given as given
 use Rattle.rlsf_flex.proofs.flex.FlexTlsf.allocate.Goals as goal
@@ -245,3 +245,53 @@ returns-else-extend-clause-grow g c =
 
 pub returns-else-extend-clause-copied : goal.returns-else-extend-clause-copied
 returns-else-extend-clause-copied g c = c.extend.ensures.payloads.copied ∙ c.allocate.ensures.copied ∙ ap (λ (old : FlexContents g.row.S.Denot). old.memory.copied) c.self.view_is
+
+pub invariant_of-self-else-extend : goal.invariant_of-self-else-extend
+invariant_of-self-else-extend g c = record { valid = c.self.invariant.valid; stands = c.if-extend.ensures.step.stands }
+
+pub returns-else-extend-clause-live : goal.returns-else-extend-clause-live
+returns-else-extend-clause-live g c = tt
+
+pub returns-else-extend-clause-sized : goal.returns-else-extend-clause-sized
+returns-else-extend-clause-sized g c = tt
+
+pub returns-else-extend-clause-few : goal.returns-else-extend-clause-few
+returns-else-extend-clause-few g c = tt
+
+pub returns-else-extend-clause-new : goal.returns-else-extend-clause-new
+returns-else-extend-clause-new g c = tt
+
+pub returns-else-extend-clause-aligns : goal.returns-else-extend-clause-aligns
+returns-else-extend-clause-aligns g c = tt
+
+pub returns-else-extend-clause-bytes : goal.returns-else-extend-clause-bytes
+returns-else-extend-clause-bytes g c = tt
+
+pub returns-in-Some-clause-refused : goal.returns-in-Some-clause-refused
+returns-in-Some-clause-refused g c = tt
+
+pub returns-in-Some-clause-same : goal.returns-in-Some-clause-same
+returns-in-Some-clause-same g c = tt
+
+-- a refused try leaves each byte
+bytes_stay : (g : given.Over) (c : In_default g) → c.allocate.new.self.memory.bytes ≡ c.args.self.now.memory.bytes
+bytes_stay g c =
+    let none : c.allocate.result ≡ None = search rules in
+    subst (λ o. IfNone o (c.allocate.new.self.memory.bytes ≡ c.self.inside.tlsf.memory.bytes)) none c.allocate.ensures.refused ∙ ap (λ (old : FlexContents g.row.S.Denot). old.memory.bytes) c.self.view_is
+
+pub returns-else-extend-clause-refused : goal.returns-else-extend-clause-refused
+returns-else-extend-clause-refused g c = ap (λ (a : Allocator). a.memory.bytes) (c.if-extend.ensures.refused refl).same ∙ bytes_stay g (goal.at.returns-else-extend-clause-refused g c).In_default
+
+pub returns-in_err-wanted-clause-refused : goal.returns-in_err-wanted-clause-refused
+returns-in_err-wanted-clause-refused g c = if_any c.from_residual.result (bytes_stay g (goal.at.returns-in_err-wanted-clause-refused g c).In_default)
+
+pub returns-in_err-wanted-clause-same : goal.returns-in_err-wanted-clause-same
+returns-in_err-wanted-clause-same g c =
+    if_any c.from_residual.result ((tried g (goal.at.returns-in_err-wanted-clause-same g c).In_default).same ∙ ap (λ (old : FlexContents g.row.S.Denot). old.state) c.self.view_is)
+
+pub returns-else-extend-clause-touches : goal.returns-else-extend-clause-touches
+returns-else-extend-clause-touches g c =
+    let sought = request_size c.args.layout.size c.args.layout.align in
+    let none : choice g.row.SLLEN sought c.args.self.now.state.machine.free ≡ None =
+    subst (λ (old : FlexContents g.row.S.Denot). choice g.row.SLLEN sought old.state.machine.free ≡ None) c.self.view_is (tried g (goal.at.returns-else-extend-clause-touches g c).In_default).full.0 in
+    λ some. absurd (true≢false (sym (subst IsSome none some)))

@@ -10,8 +10,8 @@ use Rattle.rlsf_machine.specs.FlexReallocate.{FlexReallocates, IsStuck}
 use Rattle.rlsf_machine.specs.Reallocate.{HasRoomToResize, HasRoomToStay, Keeps, Reallocates, in_place, into_next, or_else}
 use Rattle.rlsf_machine.specs.State.{Used, usable, Holds}
 use Rattle.rlsf_machine.proofs.CallerWords.{align_at-live, bytes_at-held}
-use Rattle.rlsf_tlsf.specs.Allocator.{Steps}
-use Rattle.rlsf_flex.proofs.Allocations.{Tried, extended_none, for_some, more_is_found, not_none, nothing_asked, nothing_more, vacuous}
+use Rattle.rlsf_tlsf.specs.Allocator.{Allocator, Steps}
+use Rattle.rlsf_flex.proofs.Allocations.{Tried, extended_none, for_some, if_any, more_is_found, not_none, nothing_asked, nothing_more, vacuous}
 use Rattle.rlsf_flex.proofs.Reallocations.{no_room_to_move, reallocated_in_more, reallocated_in_room, reallocated_stands, refused_move_alone, refused_too, stuck_moves, stuck_short}
 use Rattle.rlsf_flex.proofs.Standing.{flex_opened, stood_at}
 use Rattle.rlsf_flex.proofs.flex.FlexTlsf.reallocate.Given as given
@@ -336,3 +336,50 @@ returns-else-extend-clause-grow_copied g c =
 
 pub returns-else-extend-clause-copied : goal.returns-else-extend-clause-copied
 returns-else-extend-clause-copied g c = λ room. absurd (refused_in g (goal.at.returns-else-extend-clause-copied g c).In_default room)
+
+pub invariant_of-self-else-extend : goal.invariant_of-self-else-extend
+invariant_of-self-else-extend g c = record { valid = c.self.invariant.valid; stands = c.if-extend.ensures.step.stands }
+
+pub returns-else-extend-clause-live : goal.returns-else-extend-clause-live
+returns-else-extend-clause-live g c = tt
+
+pub returns-else-extend-clause-sized : goal.returns-else-extend-clause-sized
+returns-else-extend-clause-sized g c = tt
+
+pub returns-else-extend-clause-few : goal.returns-else-extend-clause-few
+returns-else-extend-clause-few g c = tt
+
+pub returns-else-extend-clause-kept : goal.returns-else-extend-clause-kept
+returns-else-extend-clause-kept g c = tt
+
+pub returns-else-extend-clause-new : goal.returns-else-extend-clause-new
+returns-else-extend-clause-new g c = tt
+
+pub returns-else-extend-clause-aligns : goal.returns-else-extend-clause-aligns
+returns-else-extend-clause-aligns g c = tt
+
+pub returns-else-extend-clause-bytes : goal.returns-else-extend-clause-bytes
+returns-else-extend-clause-bytes g c = tt
+
+pub returns-in-Some-clause-refused : goal.returns-in-Some-clause-refused
+returns-in-Some-clause-refused g c = tt
+
+pub returns-in-Some-clause-same : goal.returns-in-Some-clause-same
+returns-in-Some-clause-same g c = tt
+
+-- a refused try leaves each byte
+bytes_stay : (g : given.Over) (c : In_default g) → c.reallocate.new.self.memory.bytes ≡ c.args.self.now.memory.bytes
+bytes_stay g c =
+    let none : c.reallocate.result ≡ None = search rules in
+    subst (λ o. IfNone o (c.reallocate.new.self.memory.bytes ≡ c.self.inside.tlsf.memory.bytes)) none c.reallocate.ensures.refused ∙ ap (λ (old : FlexContents g.row.S.Denot). old.memory.bytes) c.self.view_is
+
+pub returns-else-extend-clause-refused : goal.returns-else-extend-clause-refused
+returns-else-extend-clause-refused g c = ap (λ (a : Allocator). a.memory.bytes) (c.if-extend.ensures.refused refl).same ∙ bytes_stay g (goal.at.returns-else-extend-clause-refused g c).In_default
+
+pub returns-in_err-wanted-clause-refused : goal.returns-in_err-wanted-clause-refused
+returns-in_err-wanted-clause-refused g c = if_any c.from_residual.result (bytes_stay g (goal.at.returns-in_err-wanted-clause-refused g c).In_default)
+
+pub returns-in_err-wanted-clause-same : goal.returns-in_err-wanted-clause-same
+returns-in_err-wanted-clause-same g c =
+    let (u, stuck, is, first) = tried g (goal.at.returns-in_err-wanted-clause-same g c).In_default in
+    if_any c.from_residual.result (first.same ∙ ap (λ (old : FlexContents g.row.S.Denot). old.state) c.self.view_is)

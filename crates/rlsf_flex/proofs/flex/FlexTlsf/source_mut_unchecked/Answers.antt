@@ -24,3 +24,9 @@ returns-clause-memory g c = ap (λ (old : FlexContents g.row.S.Denot). old.memor
 
 pub returns-clause-table : goal.returns-clause-table
 returns-clause-table g c = ap (λ (old : FlexContents g.row.S.Denot). old.table) c.self.view_is
+
+pub invariant_of-self : goal.invariant_of-self
+invariant_of-self g c =
+    let v = flex_contents c.self.inside.tlsf c.self.inside.kept c.self.inside.source c.self.inside.owed.ranges in
+    let is = c.self.invariant.stands in
+    record { valid = c.self.invariant.valid; stands = FlexStandsFor-refused v c.change.new.source is c.change.ensures.terms (c.change.ensures.owes v.state.pools is.owed) }
