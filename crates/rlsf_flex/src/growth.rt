@@ -173,7 +173,8 @@ pub(crate) fn extend<
     if ask_growth(source, pool, wanted, len, tlsf, kept, owed).is_some() {
         return true;
     }
-    if source.is_contiguous_growable() {
+    let is_contiguous = source.is_contiguous_growable();
+    if is_contiguous {
         return false;
     }
     ask_range(source, wanted, tlsf, kept, owed).is_some()

@@ -18,9 +18,9 @@ returns-then-is_some-clause-step g c =
     let fits = sum_fits c.checked_add.result (c.in-Some.pool.len + c.args.wanted) c.in-Some-checked_add.len c.checked_add.ensures c.in-Some-checked_add.is in
     extended_grown (ap kept_of c.in-Some.is) fits.0 c.ask_growth.ensures.step (sym c.is_some-2.ensures ∙ c.if-is_some.true)
 
-pub returns-then-is_contiguous_growable-clause-step : goal.returns-then-is_contiguous_growable-clause-step
-returns-then-is_contiguous_growable-clause-step g c =
-    let one_range : (g.S.FlexSource.terms c.ask_growth.new.source).contiguous ≡ true = sym c.is_contiguous_growable.ensures ∙ c.if-is_contiguous_growable.true in
+pub returns-then-is_contiguous-clause-step : goal.returns-then-is_contiguous-clause-step
+returns-then-is_contiguous-clause-step g c =
+    let one_range : (g.S.FlexSource.terms c.ask_growth.new.source).contiguous ≡ true = sym c.is_contiguous_growable-is_contiguous.ensures ∙ c.if-is_contiguous.true in
     let fits = sum_fits c.checked_add.result (c.in-Some.pool.len + c.args.wanted) c.in-Some-checked_add.len c.checked_add.ensures c.in-Some-checked_add.is in
     let kept = ap kept_of c.in-Some.is in
     let h = c.ask_growth.ensures.step in
@@ -29,7 +29,7 @@ returns-then-is_contiguous_growable-clause-step g c =
 
 pub returns-clause-step : goal.returns-clause-step
 returns-clause-step g c =
-    let many_ranges : (g.S.FlexSource.terms c.ask_growth.new.source).contiguous ≡ false = sym c.is_contiguous_growable.ensures ∙ c.if-is_contiguous_growable.false in
+    let many_ranges : (g.S.FlexSource.terms c.ask_growth.new.source).contiguous ≡ false = sym c.is_contiguous_growable-is_contiguous.ensures ∙ c.if-is_contiguous.false in
     let fits = sum_fits c.checked_add.result (c.in-Some.pool.len + c.args.wanted) c.in-Some-checked_add.len c.checked_add.ensures c.in-Some-checked_add.is in
     let kept = ap kept_of c.in-Some.is in
     let h = c.ask_growth.ensures.step in
@@ -51,8 +51,8 @@ returns-in_default-checked_add-clause-refused g c = λ none. record { same = ref
 pub returns-then-is_some-clause-refused : goal.returns-then-is_some-clause-refused
 returns-then-is_some-clause-refused g c = λ none. absurd (true≢false none)
 
-pub returns-then-is_contiguous_growable-clause-refused : goal.returns-then-is_contiguous_growable-clause-refused
-returns-then-is_contiguous_growable-clause-refused g c = λ none. if_none c.ask_growth.result c.ask_growth.ensures.refused (sym c.is_some-2.ensures ∙ c.if-is_some.false)
+pub returns-then-is_contiguous-clause-refused : goal.returns-then-is_contiguous-clause-refused
+returns-then-is_contiguous-clause-refused g c = λ none. if_none c.ask_growth.result c.ask_growth.ensures.refused (sym c.is_some-2.ensures ∙ c.if-is_some.false)
 
 pub returns-in_default-clause-payloads : goal.returns-in_default-clause-payloads
 returns-in_default-clause-payloads g c = c.ask_range.ensures.payloads
@@ -63,8 +63,8 @@ returns-in_default-checked_add-clause-payloads g c = KeepsPayloads-refl c.args.t
 pub returns-then-is_some-clause-payloads : goal.returns-then-is_some-clause-payloads
 returns-then-is_some-clause-payloads g c = c.ask_growth.ensures.payloads
 
-pub returns-then-is_contiguous_growable-clause-payloads : goal.returns-then-is_contiguous_growable-clause-payloads
-returns-then-is_contiguous_growable-clause-payloads g c = c.ask_growth.ensures.payloads
+pub returns-then-is_contiguous-clause-payloads : goal.returns-then-is_contiguous-clause-payloads
+returns-then-is_contiguous-clause-payloads g c = c.ask_growth.ensures.payloads
 
 pub returns-clause-payloads : goal.returns-clause-payloads
 returns-clause-payloads g c = KeepsPayloads-trans _ _ _ c.ask_growth.ensures.payloads c.ask_range-2.ensures.payloads

@@ -340,33 +340,6 @@ returns-else-extend-clause-copied g c = λ room. absurd (refused_in g (goal.at.r
 pub invariant_of-self-else-extend : goal.invariant_of-self-else-extend
 invariant_of-self-else-extend g c = record { valid = c.self.invariant.valid; stands = c.if-extend.ensures.step.stands }
 
-pub returns-else-extend-clause-live : goal.returns-else-extend-clause-live
-returns-else-extend-clause-live g c = tt
-
-pub returns-else-extend-clause-sized : goal.returns-else-extend-clause-sized
-returns-else-extend-clause-sized g c = tt
-
-pub returns-else-extend-clause-few : goal.returns-else-extend-clause-few
-returns-else-extend-clause-few g c = tt
-
-pub returns-else-extend-clause-kept : goal.returns-else-extend-clause-kept
-returns-else-extend-clause-kept g c = tt
-
-pub returns-else-extend-clause-new : goal.returns-else-extend-clause-new
-returns-else-extend-clause-new g c = tt
-
-pub returns-else-extend-clause-aligns : goal.returns-else-extend-clause-aligns
-returns-else-extend-clause-aligns g c = tt
-
-pub returns-else-extend-clause-bytes : goal.returns-else-extend-clause-bytes
-returns-else-extend-clause-bytes g c = tt
-
-pub returns-in-Some-clause-refused : goal.returns-in-Some-clause-refused
-returns-in-Some-clause-refused g c = tt
-
-pub returns-in-Some-clause-same : goal.returns-in-Some-clause-same
-returns-in-Some-clause-same g c = tt
-
 -- a refused try leaves each byte
 bytes_stay : (g : given.Over) (c : In_default g) → c.reallocate.new.self.memory.bytes ≡ c.args.self.now.memory.bytes
 bytes_stay g c =
@@ -383,3 +356,30 @@ pub returns-in_err-wanted-clause-same : goal.returns-in_err-wanted-clause-same
 returns-in_err-wanted-clause-same g c =
     let (u, stuck, is, first) = tried g (goal.at.returns-in_err-wanted-clause-same g c).In_default in
     if_any c.from_residual.result (first.same ∙ ap (λ (old : FlexContents g.row.S.Denot). old.state) c.self.view_is)
+
+pub returns-in-Some-clause-refused : goal.returns-in-Some-clause-refused
+returns-in-Some-clause-refused g c = tt
+
+pub returns-else-extend-clause-sized : goal.returns-else-extend-clause-sized
+returns-else-extend-clause-sized g c = tt
+
+pub returns-in-Some-clause-same : goal.returns-in-Some-clause-same
+returns-in-Some-clause-same g c = tt
+
+pub returns-else-extend-clause-live : goal.returns-else-extend-clause-live
+returns-else-extend-clause-live g c = tt
+
+pub returns-else-extend-clause-bytes : goal.returns-else-extend-clause-bytes
+returns-else-extend-clause-bytes g c = tt
+
+pub returns-else-extend-clause-aligns : goal.returns-else-extend-clause-aligns
+returns-else-extend-clause-aligns g c = tt
+
+pub returns-else-extend-clause-kept : goal.returns-else-extend-clause-kept
+returns-else-extend-clause-kept g c = tt
+
+pub returns-else-extend-clause-few : goal.returns-else-extend-clause-few
+returns-else-extend-clause-few g c = tt
+
+pub returns-else-extend-clause-new : goal.returns-else-extend-clause-new
+returns-else-extend-clause-new g c = tt
