@@ -10,256 +10,349 @@ use rlsf_tlsf::Tlsf;
 use std::num::NonZeroUsize;
 use std::process::Abort;
 
-/// The first line of a trace, and each further line with what it writes. The memory has 4096 bytes from 4096 on. With 59 rows of
-/// classes no chunk is too long for it.
-type Lines = (&'static str, &'static [(&'static str, &'static str)]);
-
-static RUNS: [Lines; 15] = [
+/// Traces, and what is written for them. With 59 rows of classes no chunk is too long for the memory.
+static RUNS: [(&[u8], &str); 15] = [
     // One answer an op.
     (
-        "8x8 4096 4096",
-        &[
-            ("insert 4096 96", "insert some 96"),
-            ("alloc 1 0 1", "alloc 1 at 4112"),
-            ("alloc 2 0 1", "alloc 2 at 4144"),
-            ("alloc 3 0 1", "alloc 3 none"),
-        ],
+        b"8x8 4096 4096\n\
+          insert 4096 96\n\
+          alloc 1 0 1\n\
+          alloc 2 0 1\n\
+          alloc 3 0 1",
+        "insert some 96\n\
+         alloc 1 at 4112\n\
+         alloc 2 at 4144\n\
+         alloc 3 none\n\
+         status 0",
     ),
     // Names are taken while live. A name whose payload found no room stays free.
     (
-        "8x8 4096 4096",
-        &[
-            ("insert 4096 96", "insert some 96"),
-            ("alloc 1 17 1", "alloc 1 at 4112"),
-            ("alloc 1 0 1", "refused 2 NameTaken"),
-            ("alloc 2 0 1", "alloc 2 none"),
-            ("alloc 2 0 1", "alloc 2 none"),
-        ],
+        b"8x8 4096 4096\n\
+          insert 4096 96\n\
+          alloc 1 17 1\n\
+          alloc 1 0 1\n\
+          alloc 2 0 1\n\
+          alloc 2 0 1",
+        "insert some 96\n\
+         alloc 1 at 4112\n\
+         refused 2 NameTaken\n\
+         alloc 2 none\n\
+         alloc 2 none\n\
+         status 0",
     ),
     // Names are free again.
     (
-        "8x8 4096 4096",
-        &[
-            ("insert 4096 128", "insert some 128"),
-            ("alloc 1 0 1", "alloc 1 at 4112"),
-            ("alloc 2 0 1", "alloc 2 at 4144"),
-            ("fill 1 1", "fill 1 done"),
-            ("fill 2 2", "fill 2 done"),
-            ("get 1 15", "get 1 1"),
-            ("free 1", "free 1 done"),
-            ("get 2 0", "get 2 2"),
-            ("alloc 1 0 1", "alloc 1 at 4112"),
-            ("put 1 15 3", "put 1 done"),
-            ("get 2 0", "get 2 2"),
-            ("get 1 15", "get 1 3"),
-        ],
+        b"8x8 4096 4096\n\
+          insert 4096 128\n\
+          alloc 1 0 1\n\
+          alloc 2 0 1\n\
+          fill 1 1\n\
+          fill 2 2\n\
+          get 1 15\n\
+          free 1\n\
+          get 2 0\n\
+          alloc 1 0 1\n\
+          put 1 15 3\n\
+          get 2 0\n\
+          get 1 15",
+        "insert some 128\n\
+         alloc 1 at 4112\n\
+         alloc 2 at 4144\n\
+         fill 1 done\n\
+         fill 2 done\n\
+         get 1 1\n\
+         free 1 done\n\
+         get 2 2\n\
+         alloc 1 at 4112\n\
+         put 1 done\n\
+         get 2 2\n\
+         get 1 3\n\
+         status 0",
     ),
     // Bytes are written and read up to a payload's end, and a payload is given back once.
     (
-        "8x8 4096 4096",
-        &[
-            ("insert 4096 96", "insert some 96"),
-            ("alloc 1 0 1", "alloc 1 at 4112"),
-            ("alloc 2 0 1", "alloc 2 at 4144"),
-            ("fill 1 255", "fill 1 done"),
-            ("put 2 15 7", "put 2 done"),
-            ("put 2 16 7", "refused 4 BadOffset"),
-            ("get 1 15", "get 1 255"),
-            ("get 2 15", "get 2 7"),
-            ("free 1", "free 1 done"),
-            ("free 1", "refused 1 UnknownName"),
-        ],
+        b"8x8 4096 4096\n\
+          insert 4096 96\n\
+          alloc 1 0 1\n\
+          alloc 2 0 1\n\
+          fill 1 255\n\
+          put 2 15 7\n\
+          put 2 16 7\n\
+          get 1 15\n\
+          get 2 15\n\
+          free 1\n\
+          free 1",
+        "insert some 96\n\
+         alloc 1 at 4112\n\
+         alloc 2 at 4144\n\
+         fill 1 done\n\
+         put 2 done\n\
+         refused 4 BadOffset\n\
+         get 1 255\n\
+         get 2 7\n\
+         free 1 done\n\
+         refused 1 UnknownName\n\
+         status 0",
     ),
     // Ranges lie in the memory and overlap no pool.
+    // Bytes before the pool and behind it are free, and so is an empty range in it.
     (
-        "8x8 4096 4096",
-        &[
-            ("insert 4095 96", "refused 3 BadRange"),
-            ("insert 8190 3", "refused 3 BadRange"),
-            ("insert 18446744073709551615 1", "refused 3 BadRange"),
-            ("insert 4097 127", "insert some 127"),
-            ("insert 4100 64", "refused 3 BadRange"),
-            ("insert 4128 1", "refused 3 BadRange"),
-            ("insert 4223 64", "refused 3 BadRange"),
-            // Bytes before the pool and behind it are free, and so is an empty range in it.
-            ("insert 4096 32", "insert none"),
-            ("insert 4150 0", "insert none"),
-            ("insert 4224 64", "insert some 64"),
-        ],
+        b"8x8 4096 4096\n\
+          insert 4095 96\n\
+          insert 8190 3\n\
+          insert 18446744073709551615 1\n\
+          insert 4097 127\n\
+          insert 4100 64\n\
+          insert 4128 1\n\
+          insert 4223 64\n\
+          insert 4096 32\n\
+          insert 4150 0\n\
+          insert 4224 64",
+        "refused 3 BadRange\n\
+         refused 3 BadRange\n\
+         refused 3 BadRange\n\
+         insert some 127\n\
+         refused 3 BadRange\n\
+         refused 3 BadRange\n\
+         refused 3 BadRange\n\
+         insert none\n\
+         insert none\n\
+         insert some 64\n\
+         status 0",
     ),
     // Pools are found whatever their order.
+    // The first byte of one, the last of another, all of a third, and what lies between them.
     (
-        "8x8 4096 4096",
-        &[
-            ("insert 4608 64", "insert some 64"),
-            ("insert 4096 64", "insert some 64"),
-            ("insert 4352 64", "insert some 64"),
-            // The first byte of one, the last of another, all of a third, and what lies between them.
-            ("insert 4544 65", "refused 3 BadRange"),
-            ("insert 4415 1", "refused 3 BadRange"),
-            ("insert 4064 128", "refused 3 BadRange"),
-            ("insert 4096 64", "refused 3 BadRange"),
-            ("insert 4416 192", "insert some 192"),
-            ("insert 4160 192", "insert some 192"),
-            ("insert 4672 64", "insert some 64"),
-        ],
+        b"8x8 4096 4096\n\
+          insert 4608 64\n\
+          insert 4096 64\n\
+          insert 4352 64\n\
+          insert 4544 65\n\
+          insert 4415 1\n\
+          insert 4064 128\n\
+          insert 4096 64\n\
+          insert 4416 192\n\
+          insert 4160 192\n\
+          insert 4672 64",
+        "insert some 64\n\
+         insert some 64\n\
+         insert some 64\n\
+         refused 3 BadRange\n\
+         refused 3 BadRange\n\
+         refused 3 BadRange\n\
+         refused 3 BadRange\n\
+         insert some 192\n\
+         insert some 192\n\
+         insert some 64\n\
+         status 0",
     ),
     // Appended bytes join the pool.
     (
-        "59x8 4096 4096",
-        &[
-            ("insert 4096 256", "insert some 256"),
-            ("alloc 1 384 1", "alloc 1 none"),
-            ("append 4352 256", "append 256"),
-            ("alloc 1 384 1", "alloc 1 at 4112"),
-        ],
+        b"59x8 4096 4096\n\
+          insert 4096 256\n\
+          alloc 1 384 1\n\
+          append 4352 256\n\
+          alloc 1 384 1",
+        "insert some 256\n\
+         alloc 1 none\n\
+         append 256\n\
+         alloc 1 at 4112\n\
+         status 0",
     ),
     // Where chunks have a greatest length, the range becomes a chunk of its own.
     (
-        "8x8 4096 4096",
-        &[
-            ("insert 4096 256", "insert some 256"),
-            ("alloc 1 384 1", "alloc 1 none"),
-            ("append 4352 256", "append 256"),
-            ("alloc 1 384 1", "alloc 1 none"),
-        ],
+        b"8x8 4096 4096\n\
+          insert 4096 256\n\
+          alloc 1 384 1\n\
+          append 4352 256\n\
+          alloc 1 384 1",
+        "insert some 256\n\
+         alloc 1 none\n\
+         append 256\n\
+         alloc 1 none\n\
+         status 0",
     ),
     // Short ranges are not appended.
     (
-        "59x8 4096 4096",
-        &[
-            ("insert 4096 64", "insert some 64"),
-            ("alloc 1 0 1", "alloc 1 at 4112"),
-            ("append 4160 31", "append 0"),
-            ("append 4160 32", "append 32"),
-        ],
+        b"59x8 4096 4096\n\
+          insert 4096 64\n\
+          alloc 1 0 1\n\
+          append 4160 31\n\
+          append 4160 32",
+        "insert some 64\n\
+         alloc 1 at 4112\n\
+         append 0\n\
+         append 32\n\
+         status 0",
     ),
     // The same, where chunks have a greatest length.
     (
-        "8x8 4096 4096",
-        &[
-            ("insert 4096 64", "insert some 64"),
-            ("alloc 1 0 1", "alloc 1 at 4112"),
-            ("append 4160 31", "append 0"),
-            ("append 4160 32", "append 0"),
-        ],
+        b"8x8 4096 4096\n\
+          insert 4096 64\n\
+          alloc 1 0 1\n\
+          append 4160 31\n\
+          append 4160 32",
+        "insert some 64\n\
+         alloc 1 at 4112\n\
+         append 0\n\
+         append 0\n\
+         status 0",
     ),
     // Appends begin where a pool ends.
+    // The pool ends at the next one's begin now.
     (
-        "59x8 4096 4096",
-        &[
-            ("append 4096 64", "refused 3 BadRange"),
-            ("insert 4096 128", "insert some 128"),
-            ("insert 4352 128", "insert some 128"),
-            ("append 4223 64", "refused 3 BadRange"),
-            ("append 4225 64", "refused 3 BadRange"),
-            ("append 4192 64", "refused 3 BadRange"),
-            ("append 4224 160", "refused 3 BadRange"),
-            ("append 8192 64", "refused 3 BadRange"),
-            ("append 4480 8192", "refused 3 BadRange"),
-            ("append 4224 128", "append 128"),
-            // The pool ends at the next one's begin now.
-            ("append 4224 64", "refused 3 BadRange"),
-            ("append 4352 0", "append 0"),
-            ("append 4480 64", "append 64"),
-            ("insert 4500 64", "refused 3 BadRange"),
-            ("append 4544 64", "append 64"),
-        ],
+        b"59x8 4096 4096\n\
+          append 4096 64\n\
+          insert 4096 128\n\
+          insert 4352 128\n\
+          append 4223 64\n\
+          append 4225 64\n\
+          append 4192 64\n\
+          append 4224 160\n\
+          append 8192 64\n\
+          append 4480 8192\n\
+          append 4224 128\n\
+          append 4224 64\n\
+          append 4352 0\n\
+          append 4480 64\n\
+          insert 4500 64\n\
+          append 4544 64",
+        "refused 3 BadRange\n\
+         insert some 128\n\
+         insert some 128\n\
+         refused 3 BadRange\n\
+         refused 3 BadRange\n\
+         refused 3 BadRange\n\
+         refused 3 BadRange\n\
+         refused 3 BadRange\n\
+         refused 3 BadRange\n\
+         append 128\n\
+         refused 3 BadRange\n\
+         append 0\n\
+         append 64\n\
+         refused 3 BadRange\n\
+         append 64\n\
+         status 0",
     ),
     // Payloads get other sizes.
+    // There is no room, and the name keeps its payload.
     (
-        "8x8 4096 4096",
-        &[
-            ("insert 4096 256", "insert some 256"),
-            ("alloc 1 0 1", "alloc 1 at 4112"),
-            ("alloc 2 40 1", "alloc 2 at 4144"),
-            ("alloc 3 100 1", "alloc 3 at 4208"),
-            ("put 2 47 9", "put 2 done"),
-            ("free 1", "free 1 done"),
-            ("realloc 2 70", "realloc 2 at 4112"),
-            ("get 2 47", "get 2 9"),
-            // There is no room, and the name keeps its payload.
-            ("realloc 2 200", "realloc 2 none"),
-            ("get 2 47", "get 2 9"),
-            ("put 2 79 1", "put 2 done"),
-            ("put 2 80 1", "refused 4 BadOffset"),
-            ("free 2", "free 2 done"),
-            ("realloc 2 0", "refused 1 UnknownName"),
-        ],
+        b"8x8 4096 4096\n\
+          insert 4096 256\n\
+          alloc 1 0 1\n\
+          alloc 2 40 1\n\
+          alloc 3 100 1\n\
+          put 2 47 9\n\
+          free 1\n\
+          realloc 2 70\n\
+          get 2 47\n\
+          realloc 2 200\n\
+          get 2 47\n\
+          put 2 79 1\n\
+          put 2 80 1\n\
+          free 2\n\
+          realloc 2 0",
+        "insert some 256\n\
+         alloc 1 at 4112\n\
+         alloc 2 at 4144\n\
+         alloc 3 at 4208\n\
+         put 2 done\n\
+         free 1 done\n\
+         realloc 2 at 4112\n\
+         get 2 9\n\
+         realloc 2 none\n\
+         get 2 9\n\
+         put 2 done\n\
+         refused 4 BadOffset\n\
+         free 2 done\n\
+         refused 1 UnknownName\n\
+         status 0",
     ),
     // Sizes have layouts.
+    // An unknown name is told first.
     (
-        "8x8 4096 4096",
-        &[
-            ("insert 4096 96", "insert some 96"),
-            ("alloc 1 17 1", "alloc 1 at 4112"),
-            ("realloc 1 9223372036854775808", "refused 5 BadLayout"),
-            ("realloc 1 9223372036854775807", "realloc 1 none"),
-            ("realloc 1 0", "realloc 1 at 4112"),
-            ("alloc 2 0 1", "alloc 2 at 4144"),
-            // An unknown name is told first.
-            ("realloc 9 18446744073709551615", "refused 1 UnknownName"),
-            ("nrealloc 1 9223372036854775808", "refused 5 BadLayout"),
-            ("nrealloc 1 9223372036854775807", "nrealloc 1 none"),
-            ("nrealloc 9 18446744073709551615", "refused 1 UnknownName"),
-        ],
+        b"8x8 4096 4096\n\
+          insert 4096 96\n\
+          alloc 1 17 1\n\
+          realloc 1 9223372036854775808\n\
+          realloc 1 9223372036854775807\n\
+          realloc 1 0\n\
+          alloc 2 0 1\n\
+          realloc 9 18446744073709551615\n\
+          nrealloc 1 9223372036854775808\n\
+          nrealloc 1 9223372036854775807\n\
+          nrealloc 9 18446744073709551615",
+        "insert some 96\n\
+         alloc 1 at 4112\n\
+         refused 5 BadLayout\n\
+         realloc 1 none\n\
+         realloc 1 at 4112\n\
+         alloc 2 at 4144\n\
+         refused 1 UnknownName\n\
+         refused 5 BadLayout\n\
+         nrealloc 1 none\n\
+         refused 1 UnknownName\n\
+         status 0",
     ),
     // Blocks, and their usable bytes.
     (
-        "8x8 4096 4096",
-        &[
-            ("insert 4096 96", "insert some 96"),
-            ("alloc 1 17 1", "alloc 1 at 4112"),
-            ("usable 1", "usable 1 48"),
-            ("realloc 1 0", "realloc 1 at 4112"),
-            ("alloc 2 0 1", "alloc 2 at 4144"),
-            ("block 4096 96 1", "block 4128 32 used"),
-            ("block 4096 96 2", "block none"),
-            ("ufree 2", "ufree 2 done"),
-            ("block 4096 96 1", "block 4128 32 free"),
-            ("ufree 2", "refused 1 UnknownName"),
-            ("usable 2", "refused 1 UnknownName"),
-        ],
+        b"8x8 4096 4096\n\
+          insert 4096 96\n\
+          alloc 1 17 1\n\
+          usable 1\n\
+          realloc 1 0\n\
+          alloc 2 0 1\n\
+          block 4096 96 1\n\
+          block 4096 96 2\n\
+          ufree 2\n\
+          block 4096 96 1\n\
+          ufree 2\n\
+          usable 2",
+        "insert some 96\n\
+         alloc 1 at 4112\n\
+         usable 1 48\n\
+         realloc 1 at 4112\n\
+         alloc 2 at 4144\n\
+         block 4128 32 used\n\
+         block none\n\
+         ufree 2 done\n\
+         block 4128 32 free\n\
+         refused 1 UnknownName\n\
+         refused 1 UnknownName\n\
+         status 0",
     ),
     // The ranges of walks are those of one pool.
+    // Not in the memory, two pools, and parts of one.
+    // The start is rounded up to that of the pool.
     (
-        "8x8 4096 4096",
-        &[
-            ("insert 4096 96", "insert some 96"),
-            ("insert 4192 64", "insert some 64"),
-            // Not in the memory, two pools, and parts of one.
-            ("block 4095 97 0", "refused 3 BadRange"),
-            ("block 18446744073709551615 1 0", "refused 3 BadRange"),
-            ("block 4096 160 0", "refused 3 BadRange"),
-            ("block 4128 64 0", "refused 3 BadRange"),
-            ("block 4096 64 0", "refused 3 BadRange"),
-            ("block 4192 0 0", "refused 3 BadRange"),
-            // The start is rounded up to that of the pool.
-            ("block 4161 95 0", "block 4192 32 free"),
-            ("block 4160 96 0", "refused 3 BadRange"),
-        ],
+        b"8x8 4096 4096\n\
+          insert 4096 96\n\
+          insert 4192 64\n\
+          block 4095 97 0\n\
+          block 18446744073709551615 1 0\n\
+          block 4096 160 0\n\
+          block 4128 64 0\n\
+          block 4096 64 0\n\
+          block 4192 0 0\n\
+          block 4161 95 0\n\
+          block 4160 96 0",
+        "insert some 96\n\
+         insert some 64\n\
+         refused 3 BadRange\n\
+         refused 3 BadRange\n\
+         refused 3 BadRange\n\
+         refused 3 BadRange\n\
+         refused 3 BadRange\n\
+         refused 3 BadRange\n\
+         block 4192 32 free\n\
+         refused 3 BadRange\n\
+         status 0",
     ),
 ];
 
-/// Passes where the lines write what stands beside them.
-fn writes(rt: &(impl Abort + AllocGlobal), lines: Lines) {
-    let (first, others) = lines;
-    let mut text = String::new(rt.alloc());
-    let mut wanted = String::new(rt.alloc());
-    write!(text, "{first}").expect(rt, "memory");
-    for (line, answer) in others {
-        write!(text, "\n{line}").expect(rt, "memory");
-        write!(wanted, "{answer}\n").expect(rt, "memory");
-    }
-    write!(wanted, "status 0").expect(rt, "memory");
-    replays(rt, &[(text.as_bytes(), wanted.as_str())]);
-}
-
 #[test]
 fn lines_and_their_answers(rt: HostRuntime) {
-    for lines in RUNS {
-        writes(&rt, lines);
-    }
+    replays(&rt, &RUNS);
 }
 
 /// Passes where a run of the ops, with these answers there already, leaves the wanted ones.

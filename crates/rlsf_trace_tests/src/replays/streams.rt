@@ -230,11 +230,16 @@ static CASES: [(Streams, Option<ReplayFault>, &[u8]); 11] = [
     (Streams { room: 0, ..NO_POOL }, NOT_WRITTEN, b""),
 ];
 
+/// Passes where a replay leaves what stands beside its streams, for each of these.
+fn leave_so(rt: &(impl Abort + AllocGlobal), cases: &[(Streams, Option<ReplayFault>, &[u8])]) {
+    for (streams, fault, written) in cases {
+        leaves(rt, rt.alloc(), *streams, *fault, written);
+    }
+}
+
 #[test]
 fn faults_and_interruptions(rt: HostRuntime) {
-    for (streams, fault, written) in CASES {
-        leaves(&rt, rt.alloc(), streams, fault, written);
-    }
+    leave_so(&rt, &CASES);
 }
 
 #[test]
