@@ -1,14 +1,50 @@
 //! Payloads given back: which addresses are allocated then, and the words that stand.
 
-use super::pools::{Step, are, inserts, layout_of, number, takes_steps, wide, with_pool};
+ghost use Rattle.std.specs.Prelude.{◌≡◌, ◌≢◌, ℕ, IfSome};
+ghost use Rattle.rlsf_base.specs.Addr.{at};
+ghost use Rattle.rlsf_machine.specs.Callers.{align_at};
+
+use super::pools::{Step, are, inserts, layout_of, takes_steps, wide, with_pool};
 use rlsf::int::Bitmap;
-use rlsf::{Layout, Tlsf};
+use rlsf::{Addr, Layout, Tlsf};
 
 /// When the first one of two payloads is given back.
 #[derive(Clone, Copy)]
 enum Order {
     FirstFirst,
     FirstLast,
+}
+
+/// Allocates a payload, if there is room. What was live stays live. Answers its address, or 0.
+fn third<FLBitmap: Bitmap, SLBitmap: Bitmap, const FLLEN: usize, const SLLEN: usize>(
+    tlsf: &mut Tlsf<FLBitmap, SLBitmap, FLLEN, SLLEN>,
+    layout: Layout,
+) -> usize
+    ensures { (a align : ℕ) → align_at tlsf.old.state a ≡ Some align → align_at tlsf.new.state a ≡ Some align }
+{
+    match tlsf.allocate(layout) {
+        Some(addr) => addr.get(),
+        None => 0,
+    }
+}
+
+/// Allocates two payloads for a layout, and asks for a third for another layout. Answers the two, and the third's address, or 0.
+fn two_taken<FLBitmap: Bitmap, SLBitmap: Bitmap, const FLLEN: usize, const SLLEN: usize>(
+    tlsf: &mut Tlsf<FLBitmap, SLBitmap, FLLEN, SLLEN>,
+    layout: Layout,
+    other: Layout,
+) -> Option<((Addr, Addr), usize)>
+    ensures first { IfSome result (λ r. align_at tlsf.new.state (at r.0.0) ≡ Some layout.align) }
+    ensures second { IfSome result (λ r. align_at tlsf.new.state (at r.0.1) ≡ Some layout.align) }
+    ensures apart { IfSome result (λ r. at r.0.0 ≢ at r.0.1) }
+{
+    let Some(first) = tlsf.allocate(layout) else {
+        return None;
+    };
+    let Some(second) = tlsf.allocate(layout) else {
+        return None;
+    };
+    Some(((first, second), third(tlsf, other)))
 }
 
 /// Allocates two payloads for a layout, asks for a third for another layout, and gives the two back. Answers the three
@@ -19,9 +55,9 @@ fn two_freed<FLBitmap: Bitmap, SLBitmap: Bitmap, const FLLEN: usize, const SLLEN
     other: Layout,
     order: Order,
 ) -> Option<[usize; 3]> {
-    let first = tlsf.allocate(layout)?;
-    let second = tlsf.allocate(layout)?;
-    let third = tlsf.allocate(other);
+    let Some(((first, second), third)) = two_taken(tlsf, layout, other) else {
+        return None;
+    };
     match order {
         Order::FirstFirst => {
             tlsf.deallocate(first, layout.align());
@@ -32,7 +68,7 @@ fn two_freed<FLBitmap: Bitmap, SLBitmap: Bitmap, const FLLEN: usize, const SLLEN
             tlsf.deallocate(first, layout.align());
         }
     }
-    Some([first.get(), second.get(), number(third)])
+    Some([first.get(), second.get(), third])
 }
 
 #[test]

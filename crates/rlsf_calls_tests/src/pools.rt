@@ -123,6 +123,31 @@ pub(crate) fn word_at(memory: &Memory, addr: usize) -> Option<u64> {
     }
 }
 
+/// Whether a step answers what is expected.
+fn goes_so<FLBitmap: Bitmap, SLBitmap: Bitmap, const FLLEN: usize, const SLLEN: usize>(
+    tlsf: &mut Tlsf<FLBitmap, SLBitmap, FLLEN, SLLEN>,
+    step: Step,
+) -> bool {
+    match step {
+        Step::Allocate(size, align, addr) => asked(tlsf, size, align, true) == addr,
+        Step::GiveBack(size, align, addr) => asked(tlsf, size, align, false) == addr,
+        Step::Word(addr, word) => word_at(tlsf.memory_ref(), addr) == Some(word),
+    }
+}
+
+/// The index of the first step that answers otherwise.
+fn first_wrong<FLBitmap: Bitmap, SLBitmap: Bitmap, const FLLEN: usize, const SLLEN: usize>(
+    tlsf: &mut Tlsf<FLBitmap, SLBitmap, FLLEN, SLLEN>,
+    steps: &[Step],
+) -> Option<usize> {
+    for (index, step) in steps.iter().enumerate() {
+        if !goes_so(tlsf, *step) {
+            return Some(index);
+        }
+    }
+    None
+}
+
 /// Passes where each step answers what is expected.
 pub(crate) fn takes_steps<
     FLBitmap: Bitmap,
@@ -130,18 +155,7 @@ pub(crate) fn takes_steps<
     const FLLEN: usize,
     const SLLEN: usize,
 >(rt: &impl Abort, tlsf: &mut Tlsf<FLBitmap, SLBitmap, FLLEN, SLLEN>, steps: &[Step]) {
-    for (i, step) in steps.iter().enumerate() {
-        let (answer, expected) = match *step {
-            Step::Allocate(size, align, addr) => {
-                (Some(asked(tlsf, size, align, true) as u64), addr as u64)
-            }
-            Step::GiveBack(size, align, addr) => {
-                (Some(asked(tlsf, size, align, false) as u64), addr as u64)
-            }
-            Step::Word(addr, word) => (word_at(tlsf.memory_ref(), addr), word),
-        };
-        assert_eq!(rt; answer, Some(expected), "step {i}");
-    }
+    assert_eq!(rt; first_wrong(tlsf, steps), None);
 }
 
 /// Inserts a pool into a memory and does the steps; passes where each answers what is expected. Answers the allocator, and the

@@ -296,28 +296,32 @@ const GREATEST_LAYOUT_IS_REFUSED: Case = Case {
     words: &[],
 };
 
+static CASES: [Case; 4] = [
+    MOVED_OVER_ITS_OWN_BYTES,
+    MOVED_WITH_A_REST,
+    GROWN_TO_THE_END_OF_THE_NEXT,
+    GREATEST_LAYOUT_IS_REFUSED,
+];
+
+/// Passes where the class table is as a case tells it.
+fn has_table(rt: &impl Abort, tlsf: &Small, case: &Case) {
+    if let Some(rows) = case.first_level {
+        are(rt, &[tlsf.fl_bitmap() as usize], &[rows]);
+    }
+    if let Some(addr) = case.newest {
+        are(rt, &[number(tlsf.first_free(0, 0))], &[addr]);
+    }
+}
+
 #[test]
 fn second_of_three(rt: HostRuntime) {
-    for case in [
-        MOVED_OVER_ITS_OWN_BYTES,
-        MOVED_WITH_A_REST,
-        GROWN_TO_THE_END_OF_THE_NEXT,
-        GREATEST_LAYOUT_IS_REFUSED,
-    ] {
+    for case in &CASES {
         let wanted = layout_of(&rt, case.wanted, 1);
         let sizes = layouts(&rt, 1, case.sizes);
         let mut tlsf = with_pool(&rt, 256);
-        became(
-            &rt,
-            second(&mut tlsf, sizes, case.freed, wanted),
-            case.outcome,
-        );
-        if let Some(rows) = case.first_level {
-            are(&rt, &[tlsf.fl_bitmap() as usize], &[rows]);
-        }
-        if let Some(addr) = case.newest {
-            are(&rt, &[number(tlsf.first_free(0, 0))], &[addr]);
-        }
+        let outcome = second(&mut tlsf, sizes, case.freed, wanted);
+        became(&rt, outcome, case.outcome);
+        has_table(&rt, &tlsf, case);
         takes_steps(&rt, &mut tlsf, case.words);
     }
 }
@@ -334,7 +338,7 @@ fn refused_without_room(rt: HostRuntime) {
 }
 
 // Of three payloads of 40 bytes in a pool of 65,536 bytes: which neighbour is given back, the alignment, the size that is asked for, and what becomes of the payload.
-const WIDE_CASES: [(Freed, usize, usize, Outcome); 16] = [
+static WIDE_CASES: [(Freed, usize, usize, Outcome); 16] = [
     // in place
     (Freed::Neither, 1, 0, ((4176, 4176), (16, true))),
     (Freed::Neither, 1, 48, ((4176, 4176), (48, true))),
@@ -365,12 +369,12 @@ const WIDE_CASES: [(Freed, usize, usize, Outcome); 16] = [
 
 #[test]
 fn second_of_three_in_a_wide_pool(rt: HostRuntime) {
-    for (freed, align, size, expected) in WIDE_CASES {
-        let layout = layout_of(&rt, 40, align);
-        let wanted = layout_of(&rt, size, align);
+    for (freed, align, size, expected) in &WIDE_CASES {
+        let layout = layout_of(&rt, 40, *align);
+        let wanted = layout_of(&rt, *size, *align);
         let mut tlsf = wide(&rt, 65536);
-        let outcome = wide_second(&mut tlsf, layout, freed, wanted);
-        became(&rt, outcome, expected);
+        let outcome = wide_second(&mut tlsf, layout, *freed, wanted);
+        became(&rt, outcome, *expected);
     }
 }
 

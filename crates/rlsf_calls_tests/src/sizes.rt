@@ -152,25 +152,25 @@ fn filled_in_order(
     script
 }
 
-/// The first of the three orders in which a pool of so many bytes holds more or fewer than `count` payloads, and the index of the
-/// op that shows it.
-fn wrong_order<FLBitmap: Bitmap, SLBitmap: Bitmap, const FLLEN: usize, const SLLEN: usize>(
+static ORDERS: [Order; 3] = [Order::Ascending, Order::Descending, Order::Alternating];
+
+/// Whether a pool of so many bytes holds `count` payloads and no more, in each of the three orders.
+fn holds<FLBitmap: Bitmap, SLBitmap: Bitmap, const FLLEN: usize, const SLLEN: usize>(
     rt: &(impl Abort + AllocGlobal),
     count: usize,
     layout: Layout,
     len: usize,
     shape: Shape<'_, FLBitmap, SLBitmap, FLLEN, SLLEN>,
-) -> Option<(usize, usize)>
+) -> bool
     requires { IsValid FLBitmap.width SLBitmap.width FLLEN SLLEN }
 {
-    let orders = [Order::Ascending, Order::Descending, Order::Alternating];
-    for (index, order) in orders.into_iter().enumerate() {
-        let script = filled_in_order(rt, order, count, layout, len);
-        if let Some(op) = wrong_in(rt, &script, len, shape) {
-            return Some((index, op));
+    for order in &ORDERS {
+        let script = filled_in_order(rt, *order, count, layout, len);
+        if wrong_in(rt, &script, len, shape).is_some() {
+            return false;
         }
     }
-    None
+    true
 }
 
 /// The length of a pool for 100 objects of a size, and the size to ask for, where the pool holds 100 and one that is 32 bytes
@@ -182,15 +182,17 @@ fn pool_of_100<FLBitmap: Bitmap, SLBitmap: Bitmap, const FLLEN: usize, const SLL
 ) -> Option<(usize, usize)>
     requires { IsValid FLBitmap.width SLBitmap.width FLLEN SLLEN }
 {
-    let (len, size) = pool_size_for_objects::<FLBitmap, SLBitmap, FLLEN, SLLEN>(100, size)?;
+    let found = pool_size_for_objects::<FLBitmap, SLBitmap, FLLEN, SLLEN>(100, size);
+    let Some((len, size)) = found else {
+        return None;
+    };
     let object = layout_of(rt, size, 16);
     let shorter = len.saturating_sub(32);
-    if wrong_order(rt, 100, object, len, shape).is_some()
-        || wrong_order(rt, 99, object, shorter, shape).is_some()
-    {
-        return None;
+    if holds(rt, 100, object, len, shape) && holds(rt, 99, object, shorter, shape) {
+        Some((len, size))
+    } else {
+        None
     }
-    Some((len, size))
 }
 
 /// The same for objects of 40, of 700 and of 1100 bytes.
@@ -274,7 +276,8 @@ fn pool_of_random_run<FLBitmap: Bitmap, SLBitmap: Bitmap, const FLLEN: usize, co
     let greatest = layout_of(rt, 700, 64);
     let len = pool_size_for_payloads::<FLBitmap, SLBitmap, FLLEN, SLLEN>(NAMES, greatest)?;
     let (script, full) = random_script(rt, len);
-    if full == 0 || wrong_in(rt, &script, len, shape).is_some() {
+    let wrong = wrong_in(rt, &script, len, shape);
+    if full == 0 || wrong.is_some() {
         return None;
     }
     Some(len)
@@ -316,9 +319,9 @@ fn pool_of_fragments<FLBitmap: Bitmap, SLBitmap: Bitmap, const FLLEN: usize, con
 {
     let greatest = layout_of(rt, 1008, 1);
     let len = pool_size_for_payloads::<FLBitmap, SLBitmap, FLLEN, SLLEN>(15, greatest)?;
-    let whole = fragments(rt, len, true);
-    let half = fragments(rt, len / 2, false);
-    if wrong_in(rt, &whole, len, shape).is_some() || wrong_in(rt, &half, len / 2, shape).is_some() {
+    let whole = wrong_in(rt, &fragments(rt, len, true), len, shape);
+    let half = wrong_in(rt, &fragments(rt, len / 2, false), len / 2, shape);
+    if whole.is_some() || half.is_some() {
         return None;
     }
     Some(len)
