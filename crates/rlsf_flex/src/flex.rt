@@ -122,8 +122,9 @@ impl<
     }
 
     /// Allocates a payload for a layout, as `Tlsf::allocate` does. Where there is no room, the source is asked for more memory:
-    /// once for growth of its newest range, if it can grow ranges, and once for a new range, if no growth came and it isn't one
-    /// range that grows. The allocation that the memory was asked for succeeds in what came, whatever its length.
+    /// once for growth of its newest range, if it has one outstanding and can grow ranges, and once for a new range, if no growth
+    /// came, unless it is one range that grows and that is outstanding. The allocation that the memory was asked for succeeds in
+    /// what came, whatever its length.
     ///
     /// Bytes outside of the outstanding ranges stay, and so do those that no block is made of, but for the newest range's footer
     /// where memory came and the source takes ranges back. `None` exactly where there is no room and no memory came; nothing is

@@ -141,8 +141,8 @@ fn ask_growth<
     Some(grown)
 }
 
-/// Asks for `wanted` bytes more: for growth of the kept range first, and then, where the source isn't one range that grows,
-/// for a new one. Answers whether some came.
+/// Asks for `wanted` bytes more: for growth of the kept range, if there is one, and then for a new one, unless the source is one
+/// range that grows and that is kept. Answers whether some came.
 pub(crate) fn extend<
     S: FlexSource,
     FLBitmap: Bitmap,
