@@ -1,5 +1,5 @@
 -- The blocks that the block's links name are placed, so that their words can be written; and the two writes take the block out.
-use Rattle.std.proofs.Common.{◌≡◌, ◌≢◌, ℕ, ◌∷◌, ◌+◌, List, length, ap, arith, inl, refl, sym, ◌∙◌}
+use Rattle.std.proofs.Common.{◌≤◌, ◌≡◌, ◌≢◌, ℕ, ◌∷◌, ◌+◌, List, length, ap, arith, inl, refl, sym, ◌∙◌}
 use Rattle.rlsf_base.specs.Space.{Space, word_at}
 use Rattle.rlsf_base.specs.declared.memory.range.Range.{Range}
 use Rattle.rlsf_table.specs.Steps.ClassList.{IsFreeList}
@@ -122,3 +122,11 @@ returns-else-previous-eq0-clause-step c newest r before after place listed =
       Links-out m n newest c.args.block next previous r before after place list is.is_next is.is_previous cuts newest (λ none. absurd (c.if-previous-eq0.false none)) (λ some. refl),
       Rewrites-counted_first c.args.memory.now m is.start is.bytes (Rewrites-out m n newest c.args.block next previous r before after place list is.is_next is.is_previous cuts),
     )
+
+pub returns-else-previous-eq0-clause-touches : goal.returns-else-previous-eq0-clause-touches
+returns-else-previous-eq0-clause-touches c =
+    let few : c.if-next-ne0.memory.touches ≤ c.args.memory.now.touches + 3 = elim c.if-next-ne0.branch [
+      | then-next-ne0 w ↦ let same = ap (λ (m : Space). m.touches) w.memory-is in omega arith
+      | else-next-ne0 w ↦ let same = ap (λ (m : Space). m.touches) w.memory-is in omega arith
+    ] in
+    omega arith
