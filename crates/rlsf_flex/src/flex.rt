@@ -150,11 +150,11 @@ impl<
         }
         let wanted = pool_size_to_contain_allocation::<FLBitmap, SLBitmap, FLLEN, SLLEN>(layout)?;
         if extend(
+            wanted,
             &mut self.tlsf,
             &mut self.kept,
             &mut self.source,
             &mut self.owed,
-            wanted,
         ) {
             self.tlsf.allocate(layout)
         } else {
@@ -236,11 +236,11 @@ impl<
         }
         let wanted = pool_size_to_contain_allocation::<FLBitmap, SLBitmap, FLLEN, SLLEN>(layout)?;
         if extend(
+            wanted,
             &mut self.tlsf,
             &mut self.kept,
             &mut self.source,
             &mut self.owed,
-            wanted,
         ) {
             move_payload(&mut self.tlsf, addr, layout)
         } else {

@@ -150,11 +150,11 @@ pub(crate) fn extend<
     const FLLEN: usize,
     const SLLEN: usize,
 >(
+    wanted: usize,
     tlsf: &mut Tlsf<FLBitmap, SLBitmap, FLLEN, SLLEN>,
     kept: &mut Option<Pool>,
     source: &mut S,
     owed: &mut GhostRanges,
-    wanted: usize,
 ) -> bool
     requires valid { IsValid FLBitmap.width SLBitmap.width FLLEN SLLEN }
     requires wanted { IsPoolSize FLLEN SLLEN wanted }

@@ -86,9 +86,9 @@ fn give_newest_back<
     const FLLEN: usize,
     const SLLEN: usize,
 >(
+    source: &mut S,
     tlsf: &mut Tlsf<FLBitmap, SLBitmap, FLLEN, SLLEN>,
     kept: &mut Option<Pool>,
-    source: &mut S,
     owed: &mut GhostRanges,
 ) -> bool
     requires supported { (S.terms source.old).dealloc ≡ true }
@@ -148,7 +148,7 @@ pub(crate) fn give_idle_back<
     ensures copied { tlsf.new.memory.copied ≡ tlsf.old.memory.copied }
 {
     let mut count = 0;
-    while give_newest_back(tlsf, kept, source, owed) {
+    while give_newest_back(source, tlsf, kept, owed) {
         count += 1;
     }
     count

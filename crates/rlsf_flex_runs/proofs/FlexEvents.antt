@@ -1,13 +1,12 @@
 -- An op of a run over a source makes one call of the machine, or none.
 use Rattle.std.proofs.Common.{◌≡◌, ℕ, List, [], ◌∷◌, ◌++◌, Option, Some, None, inl, refl, sym, ◌∙◌, ap, subst}
 use Rattle.rlsf_base.specs.declared.memory.range.Range.{Range}
-use Rattle.rlsf_machine.specs.FlexRun.{AsksNothing, FlexLeads, IsFlexRun, IsFlexStep}
+use Rattle.rlsf_machine.specs.FlexRun.{IsFlexRun}
 use Rattle.rlsf_machine.specs.FlexState.{FlexState, with_machine}
 use Rattle.rlsf_machine.specs.NoMove.{ReallocatesWithoutMove}
 use Rattle.rlsf_machine.specs.Note.{Note}
-use Rattle.rlsf_machine.specs.Run.{Event, deallocate, reallocate, fill, Fills}
+use Rattle.rlsf_machine.specs.Run.{deallocate, reallocate, fill, Fills}
 use Rattle.rlsf_machine.specs.Release.{Deallocates}
-use Rattle.rlsf_machine.specs.State.{State}
 use Rattle.rlsf_machine.specs.Terms.{Terms}
 use Rattle.rlsf_machine.proofs.NoMove.{unmoved_is_reallocated}
 use Rattle.rlsf_runs.specs.Events.{IsDoneBy, unmoved_calls}

@@ -1,6 +1,6 @@
 //! The ops on named payloads.
 
-ghost use Rattle.std.specs.Prelude.{ℕ, ◌≡◌, ◌+◌, ◌≤◌, nat_eq};
+ghost use Rattle.std.specs.Prelude.{ℕ, ◌≡◌, ◌+◌, ◌≤◌, true, false, nat_eq};
 ghost use Rattle.std.specs.HashMap.{get, spare};
 ghost use Rattle.rlsf_flex_runs.specs.Steps.Names.{IsAt, LeadsOn};
 ghost use Rattle.rlsf_text.specs.declared.op.Op.TheVariants.{Alloc, Free, FreeUnknown, Realloc, ReallocNoMove, Fill, Put, Get, Usable};
@@ -48,7 +48,7 @@ pub(crate) fn alloc<
     Answer::Placed(placed)
 }
 
-/// Gives the payload of a name back, unless no live one has it. The name is free again.
+/// Gives the payload of a name back, and tells its alignment or doesn't, unless no live one has it. The name is free again.
 pub(crate) fn free<
     S: FlexSource,
     FLBitmap: Bitmap,
@@ -59,37 +59,20 @@ pub(crate) fn free<
     flex: &mut FlexTlsf<S, FLBitmap, SLBitmap, FLLEN, SLLEN>,
     names: &mut HashMap<usize, Payload>,
     name: usize,
+    tells_align: bool,
 ) -> Answer
     requires { IsAt FLLEN SLLEN S.terms S.owes flex.old names.old }
-    ensures does { LeadsOn FLLEN SLLEN S.terms S.owes S.leads flex.old names.old (Free name) result flex.new names.new }
+    ensures told { tells_align ≡ true → LeadsOn FLLEN SLLEN S.terms S.owes S.leads flex.old names.old (Free name) result flex.new names.new }
+    ensures untold { tells_align ≡ false → LeadsOn FLLEN SLLEN S.terms S.owes S.leads flex.old names.old (FreeUnknown name) result flex.new names.new }
     ensures room { (ops : ℕ) → ops + 1 ≤ spare names.old → ops ≤ spare names.new }
 {
     let Some(payload) = names.remove(&name) else {
         return Answer::Refused(TraceError::UnknownName);
     };
-    flex.deallocate(payload.addr, payload.align);
-    Answer::Done
-}
-
-/// Gives the payload of a name back without telling its alignment, unless no live one has it. The name is free again.
-pub(crate) fn free_unknown<
-    S: FlexSource,
-    FLBitmap: Bitmap,
-    SLBitmap: Bitmap,
-    const FLLEN: usize,
-    const SLLEN: usize,
->(
-    flex: &mut FlexTlsf<S, FLBitmap, SLBitmap, FLLEN, SLLEN>,
-    names: &mut HashMap<usize, Payload>,
-    name: usize,
-) -> Answer
-    requires { IsAt FLLEN SLLEN S.terms S.owes flex.old names.old }
-    ensures does { LeadsOn FLLEN SLLEN S.terms S.owes S.leads flex.old names.old (FreeUnknown name) result flex.new names.new }
-    ensures room { (ops : ℕ) → ops + 1 ≤ spare names.old → ops ≤ spare names.new }
-{
-    let Some(payload) = names.remove(&name) else {
-        return Answer::Refused(TraceError::UnknownName);
-    };
+    if tells_align {
+        flex.deallocate(payload.addr, payload.align);
+        return Answer::Done;
+    }
     flex.deallocate_unknown_align(payload.addr);
     Answer::Done
 }

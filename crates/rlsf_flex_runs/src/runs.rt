@@ -8,9 +8,7 @@ ghost use Rattle.rlsf_flex_runs.specs.Whole.{RunsFlexTo};
 ghost use Rattle.rlsf_machine.specs.FlexState.{empty};
 ghost use Rattle.rlsf_text.specs.declared.op.Answer.{Answer};
 
-use crate::payloads::{
-    alloc, fill, free, free_unknown, get, put, realloc, realloc_no_move, usable,
-};
+use crate::payloads::{alloc, fill, free, get, put, realloc, realloc_no_move, usable};
 use rlsf_flex::{FlexSource, FlexTlsf};
 use rlsf_int::Bitmap;
 use rlsf_runs::{Payload, RunError};
@@ -32,8 +30,8 @@ fn step<S: FlexSource, FLBitmap: Bitmap, SLBitmap: Bitmap, const FLLEN: usize, c
     match op {
         Op::Insert(_) | Op::Append(_) | Op::Block(_, _) => Answer::Refused(TraceError::NotForFlex),
         Op::Alloc(name, layout) => alloc(flex, names, name, layout),
-        Op::Free(name) => free(flex, names, name),
-        Op::FreeUnknown(name) => free_unknown(flex, names, name),
+        Op::Free(name) => free(flex, names, name, true),
+        Op::FreeUnknown(name) => free(flex, names, name, false),
         Op::Realloc(name, size) => realloc(flex, names, name, size),
         Op::ReallocNoMove(name, size) => realloc_no_move(flex, names, name, size),
         Op::Fill(name, byte) => fill(flex, names, name, byte),

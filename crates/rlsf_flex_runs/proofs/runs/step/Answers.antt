@@ -1,4 +1,4 @@
-use Rattle.std.proofs.Common.{sym, subst}
+use Rattle.std.proofs.Common.{refl, sym, subst}
 use Rattle.rlsf_flex_runs.specs.Steps.Names.{LeadsOn}
 use Rattle.rlsf_text.specs.declared.op.Answer.TheVariants.{Trimmed}
 use Rattle.rlsf_flex_runs.proofs.NamedPayloads.{not_on_ranges}
@@ -19,18 +19,18 @@ returns-in-Alloc-clause-room g c = c.alloc.ensures.room
 pub returns-in-Free-clause-does : goal.returns-in-Free-clause-does
 returns-in-Free-clause-does g c =
     subst (λ op. LeadsOn g.row.FLLEN g.row.SLLEN g.S.FlexSource.terms g.S.FlexSource.owes g.S.FlexSource.leads c.args.flex.now c.args.names.now op c.free.result c.free.new.flex c.free.new.names)
-    (sym c.in-Free.is) c.free.ensures.does
+    (sym c.in-Free.is) (c.free.ensures.told refl)
 
 pub returns-in-Free-clause-room : goal.returns-in-Free-clause-room
 returns-in-Free-clause-room g c = c.free.ensures.room
 
 pub returns-in-FreeUnknown-clause-does : goal.returns-in-FreeUnknown-clause-does
 returns-in-FreeUnknown-clause-does g c =
-    subst (λ op. LeadsOn g.row.FLLEN g.row.SLLEN g.S.FlexSource.terms g.S.FlexSource.owes g.S.FlexSource.leads c.args.flex.now c.args.names.now op c.free_unknown.result c.free_unknown.new.flex c.free_unknown.new.names)
-    (sym c.in-FreeUnknown.is) c.free_unknown.ensures.does
+    subst (λ op. LeadsOn g.row.FLLEN g.row.SLLEN g.S.FlexSource.terms g.S.FlexSource.owes g.S.FlexSource.leads c.args.flex.now c.args.names.now op c.free-in-FreeUnknown.result c.free-in-FreeUnknown.new.flex c.free-in-FreeUnknown.new.names)
+    (sym c.in-FreeUnknown.is) (c.free-in-FreeUnknown.ensures.untold refl)
 
 pub returns-in-FreeUnknown-clause-room : goal.returns-in-FreeUnknown-clause-room
-returns-in-FreeUnknown-clause-room g c = c.free_unknown.ensures.room
+returns-in-FreeUnknown-clause-room g c = c.free-in-FreeUnknown.ensures.room
 
 pub returns-in-Realloc-clause-does : goal.returns-in-Realloc-clause-does
 returns-in-Realloc-clause-does g c =
