@@ -1,4 +1,4 @@
--- What holds of the words that stand inside the pools.
+-- Statements about the words that stand inside the pools, which `laws` of `rlsf_tlsf` proves; and the state with the bytes of a memory.
 use Rattle.std.specs.Prelude.{◌≡◌, ℕ, ◌+◌, ◌-◌, ◌<◌, ◌≤◌, ◌⊎◌, ◌==◌, length, map, nat_lt, if◌then◌else◌}
 use Rattle.rlsf_base.specs.Range.{end_of}
 use Rattle.rlsf_base.specs.Space.{Space, byte_at, bytes_in, word_at}

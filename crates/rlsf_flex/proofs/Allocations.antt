@@ -17,7 +17,7 @@ use Rattle.rlsf_machine.specs.Answers.{MayAnswerAll}
 use Rattle.rlsf_machine.specs.FlexAllocate.{Asks, FlexAllocates}
 use Rattle.rlsf_machine.specs.FlexState.{FlexState, with_machine}
 use Rattle.rlsf_machine.specs.FlexWellFormed.{IsNewest}
-use Rattle.rlsf_machine.specs.Growth.{Extends, Outcome, given, grown, is_more, refused, TakesIn}
+use Rattle.rlsf_machine.specs.Growth.{Extends, Outcome, range_came, growth_came, is_more, refused, TakesIn}
 use Rattle.rlsf_machine.specs.Note.{Note, LeadsBy}
 use Rattle.rlsf_machine.specs.State.{State}
 use Rattle.rlsf_machine.specs.Terms.{Terms}
@@ -55,8 +55,8 @@ refused_alone sllen size align addr s t u none some = none-some some.range (sym 
 -- where no memory came, the outcome is a refusal
 pub nothing_came : (o : Outcome) → false ≡ is_more o → o ≡ refused
 nothing_came refused is = refl
-nothing_came (grown len) is = absurd (true≢false (sym is))
-nothing_came (given r) is = absurd (true≢false (sym is))
+nothing_came (growth_came len) is = absurd (true≢false (sym is))
+nothing_came (range_came r) is = absurd (true≢false (sym is))
 
 -- so the state stays
 pub extended_none : {S : Type 0} {fllen sllen : ℕ} {terms : S → Terms} {owes : S → List Range → Type 0} {leads : S → Note → S → Type 0} {w after : FlexContents S} {e : ℕ} {more : Bool} → Extended fllen sllen terms owes leads w after e more → more ≡ false

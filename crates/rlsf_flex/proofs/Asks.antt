@@ -10,7 +10,7 @@ use Rattle.rlsf_flex.specs.StandsFor.{FlexContents, FlexStandsFor}
 use Rattle.rlsf_flex.specs.Steps.Growth.{AskedGrowth, AskedRange, Extended, MayCome, Took, outcome_of_growth, outcome_of_range}
 use Rattle.rlsf_machine.specs.Answers.{MayAnswer, MayAnswerAll}
 use Rattle.rlsf_machine.specs.FlexState.{FlexState, KeptPool}
-use Rattle.rlsf_machine.specs.Growth.{IsPossible, Questions, grown, growth_note, growth_question, if_fits, is_more, notes_of, nothing, questions, questions_for, questions_kept, range_length, range_note, refused, TakesIn}
+use Rattle.rlsf_machine.specs.Growth.{IsPossible, Questions, growth_came, growth_note, growth_question, if_fits, is_more, notes_of, nothing, questions, questions_for, questions_kept, range_length, range_note, refused, TakesIn}
 use Rattle.rlsf_machine.specs.Note.{Note, LeadsBy, alloc, grow}
 use Rattle.rlsf_machine.specs.Terms.{Terms}
 use Rattle.rlsf_machine.proofs.Coverage.{IsIn-append}
@@ -209,11 +209,11 @@ module _ {S : Type 0} {fllen sllen : ℕ} {terms : S → Terms} {owes : S → Li
         go : (o : Option ℕ) → answer ≡ o → Extended fllen sllen terms owes leads before after e true
         go None is = absurd (false≢true (sym (ap is_some is) ∙ is_true))
         go (Some l) is = record {
-          outcome = grown l;
+          outcome = growth_came l;
           notes = growth_note (growth_question (terms before.source) k n) (Some l);
           extends = record {
-            possible = subst (λ q. IsPossible q (grown l)) (sym asks) (is_asked (growth_question (terms before.source) k n) (λ none. none-some l (sym (h.asked none) ∙ is)));
-            asked = ap (λ q. notes_of q (grown l)) (sym asks);
+            possible = subst (λ q. IsPossible q (growth_came l)) (sym asks) (is_asked (growth_question (terms before.source) k n) (λ none. none-some l (sym (h.asked none) ∙ is)));
+            asked = ap (λ q. notes_of q (growth_came l)) (sym asks);
             after = subst (λ o. TakesIn fllen (terms before.source) before.state (outcome_of_growth o) after.state) is h.took.takes;
           };
           leads_by = subst (λ o. LeadsBy leads before.source (growth_note (growth_question (terms before.source) k n) o) after.source) is h.notes;

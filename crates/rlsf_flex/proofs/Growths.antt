@@ -15,7 +15,7 @@ use Rattle.rlsf_flex.specs.Steps.Growth.{Took}
 use Rattle.rlsf_machine.specs.Answers.{MayAnswer}
 use Rattle.rlsf_machine.specs.FlexState.{FlexState, KeptPool}
 use Rattle.rlsf_machine.specs.FlexWellFormed.{AreHoused, AreOutstanding, IsFlexWellFormed, IsKeptPool}
-use Rattle.rlsf_machine.specs.Growth.{behind, grown, longer}
+use Rattle.rlsf_machine.specs.Growth.{behind, growth_came, longer}
 use Rattle.rlsf_machine.specs.Insert.{Appends, IsNext}
 use Rattle.rlsf_machine.specs.Lists.{IsIn}
 use Rattle.rlsf_machine.specs.Note.{grow}
@@ -90,7 +90,7 @@ module _ {S : Type 0} {fl_bits sl_bits fllen sllen e : ℕ} (valid : IsValid fl_
   pub Grew-took : (d b : Allocator) (t : State) (n : ℕ) → terms y ≡ terms v.source → IsInState fllen sllen d v.state.machine
       → IsFooted (terms v.source).dealloc v.memory d.memory (with_len k.range len) (first_start c.kept.rest) (first_len c.kept.rest)
       → Appends fllen v.state.machine (behind k len) n t → IsInState fllen sllen b t → KeepsSpare d.memory v.state.machine b.memory t → SamePlace d.memory b.memory
-      → Took fllen sllen terms owes v (contents_at b y (record { machine = t; pools = with_len k.range len ∷ c.kept.rest; kept = Some (record { range = with_len k.range len; len = k.len + n }) })) e (grown len)
+      → Took fllen sllen terms owes v (contents_at b y (record { machine = t; pools = with_len k.range len ∷ c.kept.rest; kept = Some (record { range = with_len k.range len; len = k.len + n }) })) e (growth_came len)
   Grew-took d b t n same footed_stands foot step stands spare place =
       let now = with_len k.range len in
       let after = Grew-well_formed b.memory t n step (place.0 ∙ foot.place.0, place.1 ∙ foot.place.1) in

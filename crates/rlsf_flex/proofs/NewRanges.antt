@@ -15,7 +15,7 @@ use Rattle.rlsf_flex.specs.StandsFor.{FlexContents, FlexStandsFor, kept_of}
 use Rattle.rlsf_flex.specs.Steps.Growth.{kept_len, kept_start, Took}
 use Rattle.rlsf_machine.specs.FlexState.{KeptPool}
 use Rattle.rlsf_machine.specs.FlexWellFormed.{IsFlexWellFormed, IsNewest}
-use Rattle.rlsf_machine.specs.Growth.{given, keeps, range_length}
+use Rattle.rlsf_machine.specs.Growth.{range_came, keeps, range_length}
 use Rattle.rlsf_machine.specs.Insert.{Inserts}
 use Rattle.rlsf_machine.specs.Lists.{IsIn}
 use Rattle.rlsf_machine.specs.PoolLength.{HasPool, IsPoolSize}
@@ -65,7 +65,7 @@ module _ {S : Type 0} {fl_bits sl_bits fllen sllen e : ℕ} (valid : IsValid fl_
       → Inserts fllen v.state.machine r taken t → IsInState fllen sllen b t → KeepsSpare v.memory v.state.machine b.memory t → SamePlace v.memory b.memory
       → IsInState fllen sllen d t → IsFooted (terms v.source).dealloc b.memory d.memory r (kept_start kept) (kept_len kept)
       → ((n : ℕ) → taken ≡ Some n → later ≡ then_some (keeps (terms v.source)) (record { range = r; len = n }))
-      → Took fllen sllen terms owes v (contents_at d y (record { machine = t; pools = r ∷ v.state.pools; kept = later })) e (given r)
+      → Took fllen sllen terms owes v (contents_at d y (record { machine = t; pools = r ∷ v.state.pools; kept = later })) e (range_came r)
   Came-took b d t taken kept later same was step stands spare place footed_stands foot told =
       let (n, is, is_taken, pool) = Came-taken t taken step in
       let inserted = subst (λ o. Inserts fllen v.state.machine r o t) is step in

@@ -9,7 +9,7 @@ use Rattle.rlsf_flex.specs.Outside.{IsOutside, KeepsOutside, NothingGoesBack, ev
 use Rattle.rlsf_flex.specs.Steps.Outside.{KeepsOutsideNow}
 use Rattle.rlsf_machine.specs.FlexState.{FlexState, KeptPool}
 use Rattle.rlsf_machine.specs.FlexWellFormed.{AreHoused, IsNewest}
-use Rattle.rlsf_machine.specs.Growth.{Extends, IsPossible, Outcome, given, grown, growth_note, if_fits, longer, notes_of, questions, questions_kept, range_note, refused, TakesIn}
+use Rattle.rlsf_machine.specs.Growth.{Extends, IsPossible, Outcome, range_came, growth_came, growth_note, if_fits, longer, notes_of, questions, questions_kept, range_note, refused, TakesIn}
 use Rattle.rlsf_machine.specs.Note.{Note, dealloc}
 use Rattle.rlsf_machine.specs.State.{State}
 use Rattle.rlsf_machine.specs.Terms.{Terms, with_len}
@@ -115,12 +115,12 @@ module _ (fllen : ℕ) (t : Terms) (s u : FlexState) (e : ℕ) (newest : IsNewes
       let is = ap (λ rs. coverage itself rs a) (handed-refused q.growth q.range) in
       let owed = ap (λ (v : FlexState). coverage itself v.pools a) {x = u} same in
       (λ none. omega (arith, ever_owed-coverage s.pools (notes_of q refused) a, is, owed, none), λ none before. omega (arith, ever_owed-coverage s.pools (notes_of q refused) a, is, before))
-  known (given r) possible (len, inserts, pools, kept) a =
+  known (range_came r) possible (len, inserts, pools, kept) a =
       let q = questions t s.kept (Some e) in
       let is = ap (λ rs. coverage itself rs a) (handed-given q.growth q.range r possible) in
       let owed = ap (λ rs. coverage itself rs a) pools in
-      (λ none. omega (arith, ever_owed-coverage s.pools (notes_of q (given r)) a, is, owed, none), λ none before. omega (arith, ever_owed-coverage s.pools (notes_of q (given r)) a, is, owed, none, before))
-  known (grown len) possible (k, taken, was, appends, pools, kept) a =
+      (λ none. omega (arith, ever_owed-coverage s.pools (notes_of q (range_came r)) a, is, owed, none), λ none before. omega (arith, ever_owed-coverage s.pools (notes_of q (range_came r)) a, is, owed, none, before))
+  known (growth_came len) possible (k, taken, was, appends, pools, kept) a =
       let q = questions t s.kept (Some e) in
       let (r, n, is_asked, handed_is) = handed-grown q.growth len possible in
       let kept_pool = subst (λ o. IsNewest t o s.pools s.machine.chunks) was newest in
@@ -128,7 +128,7 @@ module _ (fllen : ℕ) (t : Terms) (s u : FlexState) (e : ℕ) (newest : IsNewes
       let is = ap (λ rs. coverage itself rs a) (handed_is ∙ ap (λ q. with_len q len ∷ []) range) in
       let split = ap (λ rs. coverage itself rs a) kept_pool.split in
       let owed = ap (λ rs. coverage itself rs a) (pools ∙ ap (longer len) kept_pool.split) in
-      (λ none. omega (arith, ever_owed-coverage s.pools (notes_of q (grown len)) a, is, split, owed, none), λ none before. omega (arith, ever_owed-coverage s.pools (notes_of q (grown len)) a, is, split, owed, none, before))
+      (λ none. omega (arith, ever_owed-coverage s.pools (notes_of q (growth_came len)) a, is, split, owed, none), λ none before. omega (arith, ever_owed-coverage s.pools (notes_of q (growth_came len)) a, is, split, owed, none, before))
 
   -- so what asks for memory keeps the bytes outside of the ranges
   pub KeepsOutside-asked : {o : Outcome} {notes : List Note} (m n : Space) → Extends fllen t s (Some e) o notes u → KeepsOutsideNow m s.pools n u.pools → KeepsOutside m s.pools notes n u.pools

@@ -1,7 +1,7 @@
 -- An op of a run over a source makes one call of the machine, or none.
 use Rattle.std.proofs.Common.{◌≡◌, ℕ, List, [], ◌∷◌, ◌++◌, Option, Some, None, inl, refl, sym, ◌∙◌, ap, subst}
 use Rattle.rlsf_base.specs.declared.memory.range.Range.{Range}
-use Rattle.rlsf_machine.specs.FlexRun.{IsFlexRun}
+use Rattle.rlsf_machine.specs.FlexRun.{IsFlexRun, events_in}
 use Rattle.rlsf_machine.specs.FlexState.{FlexState, with_machine}
 use Rattle.rlsf_machine.specs.NoMove.{ReallocatesWithoutMove}
 use Rattle.rlsf_machine.specs.Note.{Note}
@@ -12,7 +12,7 @@ use Rattle.rlsf_machine.proofs.NoMove.{unmoved_is_reallocated}
 use Rattle.rlsf_runs.specs.Events.{IsDoneBy, unmoved_calls}
 use Rattle.rlsf_text.specs.declared.op.Answer.{Answer}
 use Rattle.rlsf_text.specs.declared.op.Op.{Op}
-use Rattle.rlsf_flex_runs.specs.FlexEvents.{events_of, RunsFlexByEvents}
+use Rattle.rlsf_flex_runs.specs.FlexEvents.{RunsFlexByEvents}
 use Rattle.rlsf_flex_runs.specs.Steps.Names.{MakesFlex, no_call, one_call}
 
 module _ {fllen sllen : ℕ} {memory : Range} {terms : Terms} {s u : FlexState} {op : Op} {answer : Answer} where
@@ -20,9 +20,9 @@ module _ {fllen sllen : ℕ} {memory : Range} {terms : Terms} {s u : FlexState} 
   pub one_more : {first : List Note} → MakesFlex fllen sllen memory terms s op answer first u → (ops : List Op) (answers : List Answer) (others : List Note) (t : FlexState)
       → RunsFlexByEvents fllen sllen memory terms u ops answers others t → RunsFlexByEvents fllen sllen memory terms s (op ∷ ops) (answer ∷ answers) (first ++ others) t
   one_more (no_call is_done none is) ops answers others t (cs, all, asked, run) =
-      (cs, ([], events_of cs, refl, is_done, all), asked ∙ sym (ap (λ ns. ns ++ others) none), subst (λ x. IsFlexRun fllen sllen memory terms x cs t) is run)
+      (cs, ([], events_in cs, refl, is_done, all), asked ∙ sym (ap (λ ns. ns ++ others) none), subst (λ x. IsFlexRun fllen sllen memory terms x cs t) is run)
   one_more {first} (one_call e is_done step) ops answers others t (cs, all, asked, run) =
-      (record { event = e; notes = first } ∷ cs, (e ∷ [], events_of cs, refl, is_done, all), ap (λ ns. first ++ ns) asked, (u, step, run))
+      (record { event = e; notes = first } ∷ cs, (e ∷ [], events_in cs, refl, is_done, all), ap (λ ns. first ++ ns) asked, (u, step, run))
 
   -- a payload is given back
   pub made-deallocate : (addr : ℕ) → IsDoneBy op answer (deallocate addr ∷ []) → Deallocates s.machine addr u.machine → u ≡ with_machine s u.machine → MakesFlex fllen sllen memory terms s op answer [] u

@@ -12,7 +12,8 @@ use Rattle.rlsf_text.specs.declared.op.Op.{Op}
 use Rattle.rlsf_text.specs.declared.op.Answer.{Answer}
 
 -- From no chunk, no range and no name the ops lead, with these answers and with notes that lead the source on, to the state in the
--- allocator after them, which a run of the machine's calls with the same notes reaches. Bytes outside of all ranges are as they were.
+-- allocator after them, which a run of the machine's calls with the same notes reaches. Bytes outside of all ranges that the source
+-- ever gave are as they were.
 abbrev pub RunsFlexTo : {S : Type 0} → ℕ → ℕ → (S → Terms) → (S → Note → S → Type 0) → FlexContents S → List Op → List Answer → FlexContents S → Type 0
 RunsFlexTo fllen sllen terms leads before ops answers after =
     (notes : List Note) × (t : FlexRunState)

@@ -6,7 +6,7 @@ use Rattle.rlsf_base.specs.declared.memory.range.Range.{Range}
 use Rattle.rlsf_base.specs.Sizes.{pool_size_to_contain_allocation}
 use Rattle.rlsf_machine.specs.FlexAllocate.{FlexAllocates}
 use Rattle.rlsf_machine.specs.FlexState.{FlexState, KeptPool, empty}
-use Rattle.rlsf_machine.specs.Growth.{Extends, Outcome, given, grown, is_more, notes_of, questions, refused}
+use Rattle.rlsf_machine.specs.Growth.{Extends, Outcome, range_came, growth_came, is_more, notes_of, questions, refused}
 use Rattle.rlsf_machine.specs.Note.{LeadsBy, Note, alloc}
 use Rattle.rlsf_machine.specs.Terms.{Terms}
 use Rattle.rlsf_machine.proofs.Notes.{terms-led}
@@ -23,11 +23,11 @@ notes_for space outcome kept = notes_of (questions (plain space) kept (pool_size
 more_is_a_range : (space : Range) (s m : FlexState) (outcome : Outcome) (notes : List Note) → s.kept ≡ None → is_more outcome ≡ true
     → Extends 8 (plain space) s (pool_size_to_contain_allocation 8 8 1 1) outcome notes m → (m.kept ≡ None) × (r : Range) × (notes ≡ alloc 64 (Some r) ∷ [])
 more_is_a_range space s m refused notes kept more e = absurd (true≢false (sym more))
-more_is_a_range space s m (grown len) notes kept more e =
+more_is_a_range space s m (growth_came len) notes kept more e =
     absurd (true≢false (sym (subst (λ k. is_some (questions (plain space) k (pool_size_to_contain_allocation 8 8 1 1)).growth ≡ true) kept e.possible)))
-more_is_a_range space s m (given r) notes kept more e =
+more_is_a_range space s m (range_came r) notes kept more e =
     let (len, inserts, pools, none) = e.after in
-    (none, r, e.asked ∙ ap (notes_for space (given r)) kept)
+    (none, r, e.asked ∙ ap (notes_for space (range_came r)) kept)
 
 -- what an allocation that asks has asked, as it replies
 abbrev HasAsked : Option ℕ → List Note → Type 0

@@ -9,7 +9,7 @@ use Rattle.rlsf_base.specs.Sizes.{max_pool_size, pool_size_to_contain_allocation
 use Rattle.rlsf_machine.specs.Allocate.{choice}
 use Rattle.rlsf_machine.specs.FlexAllocate.{Asks, FlexAllocates}
 use Rattle.rlsf_machine.specs.FlexState.{FlexState, KeptPool, with_machine}
-use Rattle.rlsf_machine.specs.Growth.{Outcome, Questions, IsPossible, TakesIn, refused, grown, given, behind, is_more, keeps, longer, notes_of, questions}
+use Rattle.rlsf_machine.specs.Growth.{Outcome, Questions, IsPossible, TakesIn, refused, growth_came, range_came, behind, is_more, keeps, longer, notes_of, questions}
 use Rattle.rlsf_machine.specs.Insert.{aligned_part, appended, appended_bytes, bytes_taken, cut, with_chunks}
 use Rattle.rlsf_machine.specs.Note.{Note, alloc, grow, dealloc}
 use Rattle.rlsf_machine.specs.Terms.{IsGiven, IsGrown, Terms, with_len}
@@ -80,8 +80,8 @@ with_growth fllen s len (Some k) = record {
 -- what came is handed in
 abbrev pub with_outcome : ℕ → Terms → FlexState → Outcome → FlexState
 with_outcome fllen t s refused = s
-with_outcome fllen t s (grown len) = with_growth fllen s len s.kept
-with_outcome fllen t s (given r) = with_range fllen t s r (taken_of fllen r)
+with_outcome fllen t s (growth_came len) = with_growth fllen s len s.kept
+with_outcome fllen t s (range_came r) = with_range fllen t s r (taken_of fllen r)
 
 -- the state in which an allocation is placed: where there is no room, what came is handed in first
 abbrev pub meanwhile : ℕ → Terms → FlexState → Outcome → Option Range → FlexState
@@ -129,8 +129,8 @@ all_after fllen sllen t s (a ∷ others) = all_after fllen sllen t (after fllen 
 -- whether what came was asked for, and the allocation has a range in it
 abbrev pub can_come : ℕ → Questions → FlexState → Outcome → Option Range → Bool
 can_come fllen q s refused p = true
-can_come fllen q s (grown len) p = is_some q.growth && (is_some s.kept && is_some p)
-can_come fllen q s (given r) p = is_some q.range && (is_some (taken_of fllen r) && is_some p)
+can_come fllen q s (growth_came len) p = is_some q.growth && (is_some s.kept && is_some p)
+can_come fllen q s (range_came r) p = is_some q.range && (is_some (taken_of fllen r) && is_some p)
 
 -- the same, where there may be room
 abbrev pub may_come : ℕ → Questions → FlexState → Outcome → Option Range → Option Range → Bool
@@ -219,12 +219,12 @@ AreAnswers-from t owed (n ∷ ns) e =
 
 module _ (fllen sllen : ℕ) (t : Terms) (s : FlexState) where
   -- the range that came is taken in
-  TakesIn-range : (r : Range) (n : Option ℕ) → taken_of fllen r ≡ n → is_some n ≡ true → TakesIn fllen t s (given r) (with_range fllen t s r n)
+  TakesIn-range : (r : Range) (n : Option ℕ) → taken_of fllen r ≡ n → is_some n ≡ true → TakesIn fllen t s (range_came r) (with_range fllen t s r n)
   TakesIn-range r None e some = absurd (true≢false (sym some))
   TakesIn-range r (Some len) e some = (len, record { answer = sym e; after = refl }, refl, refl)
 
   -- the growth that came is taken in
-  TakesIn-growth : (len : ℕ) (k : Option KeptPool) → s.kept ≡ k → is_some k ≡ true → TakesIn fllen t s (grown len) (with_growth fllen s len k)
+  TakesIn-growth : (len : ℕ) (k : Option KeptPool) → s.kept ≡ k → is_some k ≡ true → TakesIn fllen t s (growth_came len) (with_growth fllen s len k)
   TakesIn-growth len None e some = absurd (true≢false (sym some))
   TakesIn-growth len (Some k) e some = (k, appended_bytes (max_pool_size fllen) (behind k len), e, record { answer = refl; after = refl }, refl, refl)
 
@@ -254,16 +254,16 @@ module _ (fllen sllen : ℕ) (t : Terms) (s : FlexState) where
         → FlexAllocates fllen sllen t s size align (address align p) (notes_of (asked fllen sllen t s size align) outcome) (placed_in sllen (with_outcome fllen t s outcome) size align p)
     allocates_or_asks none refused (Some f) e may = absurd (is_some_of (room sllen s size align) f e none)
     allocates_or_asks none refused None e may = Asks-so none refused tt refl
-    allocates_or_asks none (grown len) p e may =
+    allocates_or_asks none (growth_came len) p e may =
         let (possible, rest) = and_parts (is_some (asked fllen sllen t s size align).growth) (is_some s.kept && is_some p) may in
         let (kept, served) = and_parts (is_some s.kept) (is_some p) rest in
-        let asks = Asks-so none (grown len) possible (TakesIn-growth len s.kept refl kept) in
-        allocates_in_more (grown len) (notes_of (asked fllen sllen t s size align) (grown len)) (with_outcome fllen t s (grown len)) refl asks p e served
-    allocates_or_asks none (given r) p e may =
+        let asks = Asks-so none (growth_came len) possible (TakesIn-growth len s.kept refl kept) in
+        allocates_in_more (growth_came len) (notes_of (asked fllen sllen t s size align) (growth_came len)) (with_outcome fllen t s (growth_came len)) refl asks p e served
+    allocates_or_asks none (range_came r) p e may =
         let (possible, rest) = and_parts (is_some (asked fllen sllen t s size align).range) (is_some (taken_of fllen r) && is_some p) may in
         let (taken, served) = and_parts (is_some (taken_of fllen r)) (is_some p) rest in
-        let asks = Asks-so none (given r) possible (TakesIn-range r (taken_of fllen r) refl taken) in
-        allocates_in_more (given r) (notes_of (asked fllen sllen t s size align) (given r)) (with_outcome fllen t s (given r)) refl asks p e served
+        let asks = Asks-so none (range_came r) possible (TakesIn-range r (taken_of fllen r) refl taken) in
+        allocates_in_more (range_came r) (notes_of (asked fllen sllen t s size align) (range_came r)) (with_outcome fllen t s (range_came r)) refl asks p e served
 
     -- an allocation, in room or not
     pub FlexAllocates-so : (outcome : Outcome) (o p : Option Range) → room sllen s size align ≡ o → room sllen (meanwhile fllen t s outcome o) size align ≡ p

@@ -15,7 +15,7 @@ use Rattle.rlsf_machine.specs.ChunkRows.{IsRow}
 use Rattle.rlsf_machine.specs.FlexRun.{HandsIn}
 use Rattle.rlsf_machine.specs.FlexState.{FlexState, KeptPool}
 use Rattle.rlsf_machine.specs.FlexWellFormed.{AreHoused, AreOutstanding, ArePools, IsFlexWellFormed, IsKeptPool, IsNewest, IsPool}
-use Rattle.rlsf_machine.specs.Growth.{IsPossible, Outcome, behind, given, grown, is_more, keeps, longer, notes_of, questions, questions_for, refused, TakesIn}
+use Rattle.rlsf_machine.specs.Growth.{IsPossible, Outcome, behind, range_came, growth_came, is_more, keeps, longer, notes_of, questions, questions_for, refused, TakesIn}
 use Rattle.rlsf_machine.specs.Insert.{Appends, Inserts, IsClear, IsFresh, IsNext}
 use Rattle.rlsf_machine.specs.Laws.{GrowthHasRoom, GrowthKeepsWellFormed}
 use Rattle.rlsf_machine.specs.Lists.{IsIn}
@@ -245,23 +245,23 @@ module _ {fllen sllen : ℕ} {memory : Range} {t : Terms} {s : FlexState} (w : I
     pub is_grown : IsGrown t kept.rest k.range (k.len + e) len
     pub room : k.len + 64 ≤ k.len + e
 
-  pub has_grown : (fl_bits sl_bits size align len : ℕ) (k : KeptPool) → IsValid fl_bits sl_bits fllen sllen → s.kept ≡ Some k → IsPossible (questions t s.kept (pool_size_to_contain_allocation fllen sllen size align)) (grown len)
-      → MayAnswerAll t s.pools (notes_of (questions t s.kept (pool_size_to_contain_allocation fllen sllen size align)) (grown len)) → HasGrown (pool_size_to_contain_allocation fllen sllen size align) k len
+  pub has_grown : (fl_bits sl_bits size align len : ℕ) (k : KeptPool) → IsValid fl_bits sl_bits fllen sllen → s.kept ≡ Some k → IsPossible (questions t s.kept (pool_size_to_contain_allocation fllen sllen size align)) (growth_came len)
+      → MayAnswerAll t s.pools (notes_of (questions t s.kept (pool_size_to_contain_allocation fllen sllen size align)) (growth_came len)) → HasGrown (pool_size_to_contain_allocation fllen sllen size align) k len
   has_grown fl_bits sl_bits size align len k valid was possible answers =
-      let (e, wanted) = more_wanted t s.kept (pool_size_to_contain_allocation fllen sllen size align) (grown len) refl possible in
+      let (e, wanted) = more_wanted t s.kept (pool_size_to_contain_allocation fllen sllen size align) (growth_came len) refl possible in
       let is_asked : questions t s.kept (pool_size_to_contain_allocation fllen sllen size align) ≡ questions_for t (Some k) e = ap (λ o. questions t s.kept o) wanted ∙ ap (λ o. questions_for t o e) was in
       let kept = subst (λ o. IsNewest t o s.pools s.machine.chunks) was w.newest in
       let room = (pool_size_is fl_bits sl_bits fllen sllen e valid (record { size = size; align = align; is = wanted })).0 in
-      let answer = grown_answer t s.pools k e len (subst (λ q. IsPossible q (grown len)) is_asked possible) (subst (λ q. MayAnswerAll t s.pools (notes_of q (grown len))) is_asked answers) in
+      let answer = grown_answer t s.pools k e len (subst (λ q. IsPossible q (growth_came len)) is_asked possible) (subst (λ q. MayAnswerAll t s.pools (notes_of q (growth_came len))) is_asked answers) in
       record { e = e; is_wanted = wanted; kept = kept; is_grown = answer [] kept.rest kept.split; room = omega (arith, room) }
 
   taken_keeps : (fl_bits sl_bits size align : ℕ) → IsValid fl_bits sl_bits fllen sllen → (outcome : Outcome) (u : FlexState) → IsPossible (questions t s.kept (pool_size_to_contain_allocation fllen sllen size align)) outcome
       → MayAnswerAll t s.pools (notes_of (questions t s.kept (pool_size_to_contain_allocation fllen sllen size align)) outcome) → TakesIn fllen t s outcome u → IsFlexWellFormed fllen sllen memory t u
   taken_keeps fl_bits sl_bits size align valid refused u possible answers takes = subst (IsFlexWellFormed fllen sllen memory t) (sym takes) w
-  taken_keeps fl_bits sl_bits size align valid (given r) u possible answers (len, step, pools, kept) =
+  taken_keeps fl_bits sl_bits size align valid (range_came r) u possible answers (len, step, pools, kept) =
       let (n, asked, g) = given_answer t s.pools (questions t s.kept (pool_size_to_contain_allocation fllen sllen size align)) r possible answers in
       given_keeps n len r u g step pools kept
-  taken_keeps fl_bits sl_bits size align valid (grown len) u possible answers (k, n, was, step, pools, is_kept) =
+  taken_keeps fl_bits sl_bits size align valid (growth_came len) u possible answers (k, n, was, step, pools, is_kept) =
       let g = has_grown fl_bits sl_bits size align len k valid was possible answers in
       grown_keeps was (k.len + g.e) len g.kept g.is_grown g.room n u step pools is_kept
 
@@ -270,10 +270,10 @@ module _ {fllen sllen : ℕ} {memory : Range} {t : Terms} {s : FlexState} (w : I
       → MayAnswerAll t s.pools (notes_of (questions t s.kept (pool_size_to_contain_allocation fllen sllen size align)) outcome) → TakesIn fllen t s outcome u → is_more outcome ≡ true
       → (h : Event) × HandsIn h × MayCall memory s.machine h × Leads fllen sllen s.machine h u.machine
   taken_handed_in fl_bits sl_bits size align valid refused u possible answers takes more = absurd (false≢true more)
-  taken_handed_in fl_bits sl_bits size align valid (given r) u possible answers (len, step, pools, kept) more =
+  taken_handed_in fl_bits sl_bits size align valid (range_came r) u possible answers (len, step, pools, kept) more =
       let (n, asked, g) = given_answer t s.pools (questions t s.kept (pool_size_to_contain_allocation fllen sllen size align)) r possible answers in
       (insert r (Some len), tt, given_fresh n r g, step)
-  taken_handed_in fl_bits sl_bits size align valid (grown len) u possible answers (k, n, was, step, pools, is_kept) more =
+  taken_handed_in fl_bits sl_bits size align valid (growth_came len) u possible answers (k, n, was, step, pools, is_kept) more =
       let g = has_grown fl_bits sl_bits size align len k valid was possible answers in
       (append (behind k len) n, tt, behind_next was (k.len + g.e) len g.kept g.is_grown g.room, step)
 
@@ -282,13 +282,13 @@ module _ {fllen sllen : ℕ} {memory : Range} {t : Terms} {s : FlexState} (w : I
       → MayAnswerAll t s.pools (notes_of (questions t s.kept (pool_size_to_contain_allocation fllen sllen size align)) outcome) → TakesIn fllen t s outcome u → is_more outcome ≡ true
       → pool_size_to_contain_allocation fllen sllen size align ≡ Some e → HasPool e u.machine
   taken_has_pool fl_bits sl_bits size align e valid refused u possible answers takes more wanted = absurd (false≢true more)
-  taken_has_pool fl_bits sl_bits size align e valid (given r) u possible answers (len, step, pools, kept) more wanted =
+  taken_has_pool fl_bits sl_bits size align e valid (range_came r) u possible answers (len, step, pools, kept) more wanted =
       let (n, asked, g) = given_answer t s.pools (questions t s.kept (pool_size_to_contain_allocation fllen sllen size align)) r possible answers in
       let (room, whole, short) = pool_size_is fl_bits sl_bits fllen sllen e valid (record { size = size; align = align; is = wanted }) in
       let told = range_asked t s.kept e n (ap (λ o. (questions t s.kept o).range) (sym wanted) ∙ asked) in
       let (m, is, taken, pool) = inserted_pool fllen sllen e s.machine u.machine r (Some len) w.machine.rows room whole short (HasAlignedPart-given t s.pools e n r told g) step in
       pool
-  taken_has_pool fl_bits sl_bits size align e valid (grown len) u possible answers (k, n, was, step, pools, is_kept) more wanted =
+  taken_has_pool fl_bits sl_bits size align e valid (growth_came len) u possible answers (k, n, was, step, pools, is_kept) more wanted =
       let g = has_grown fl_bits sl_bits size align len k valid was possible answers in
       let (room, whole, short) = pool_size_is fl_bits sl_bits fllen sllen e valid (record { size = size; align = align; is = wanted }) in
       let same : g.e ≡ e = same_Some g.e e (sym g.is_wanted ∙ wanted) in

@@ -11,7 +11,7 @@ use Rattle.rlsf_machine.specs.FlexAllocate.{Asks}
 use Rattle.rlsf_machine.specs.FlexRun.{IsFlexStep}
 use Rattle.rlsf_machine.specs.FlexState.{FlexState, KeptPool, with_machine}
 use Rattle.rlsf_machine.specs.FlexWellFormed.{IsFlexWellFormed}
-use Rattle.rlsf_machine.specs.Growth.{IsPossible, Outcome, Questions, TakesIn, behind, given, grown, is_more, keeps, longer, notes_of, questions, refused}
+use Rattle.rlsf_machine.specs.Growth.{IsPossible, Outcome, Questions, TakesIn, behind, range_came, growth_came, is_more, keeps, longer, notes_of, questions, refused}
 use Rattle.rlsf_machine.specs.Insert.{Inserts, aligned_part, appended, appended_bytes, bytes_taken, cut, with_chunks}
 use Rattle.rlsf_machine.specs.Lists.{IsIn}
 use Rattle.rlsf_machine.specs.Laws.{FlexEachCallAnswers, IsAnswered, MayRespond}
@@ -36,10 +36,10 @@ use Rattle.rlsf_machine.proofs.TakenPools.{inserted_pool, pool_size_is}
 module _ {fl_bits sl_bits fllen sllen : ℕ} {memory : Range} {t : Terms} {s : FlexState} (valid : IsValid fl_bits sl_bits fllen sllen) (w : IsFlexWellFormed fllen sllen memory t s) where
   -- ---- what came is taken in
 
-  given_taken : (size align : ℕ) (r : Range) → IsPossible (questions t s.kept (pool_size_to_contain_allocation fllen sllen size align)) (given r)
-      → MayAnswerAll t s.pools (notes_of (questions t s.kept (pool_size_to_contain_allocation fllen sllen size align)) (given r)) → (u : FlexState) × TakesIn fllen t s (given r) u
+  given_taken : (size align : ℕ) (r : Range) → IsPossible (questions t s.kept (pool_size_to_contain_allocation fllen sllen size align)) (range_came r)
+      → MayAnswerAll t s.pools (notes_of (questions t s.kept (pool_size_to_contain_allocation fllen sllen size align)) (range_came r)) → (u : FlexState) × TakesIn fllen t s (range_came r) u
   given_taken size align r possible answers =
-      let (e, wanted) = more_wanted t s.kept (pool_size_to_contain_allocation fllen sllen size align) (given r) refl possible in
+      let (e, wanted) = more_wanted t s.kept (pool_size_to_contain_allocation fllen sllen size align) (range_came r) refl possible in
       let (n, asked, g) = given_answer t s.pools (questions t s.kept (pool_size_to_contain_allocation fllen sllen size align)) r possible answers in
       let (room, whole, short) = pool_size_is fl_bits sl_bits fllen sllen e valid (record { size = size; align = align; is = wanted }) in
       let told = range_asked t s.kept e n (ap (λ o. (questions t s.kept o).range) (sym wanted) ∙ asked) in
@@ -51,10 +51,10 @@ module _ {fl_bits sl_bits fllen sllen : ℕ} {memory : Range} {t : Terms} {s : F
         (len, subst (λ o. Inserts fllen s.machine r o m) is step, refl, refl),
       )
 
-  grown_taken : (size align len : ℕ) (kept : Option KeptPool) → s.kept ≡ kept → IsPossible (questions t kept (pool_size_to_contain_allocation fllen sllen size align)) (grown len) → (u : FlexState) × TakesIn fllen t s (grown len) u
+  grown_taken : (size align len : ℕ) (kept : Option KeptPool) → s.kept ≡ kept → IsPossible (questions t kept (pool_size_to_contain_allocation fllen sllen size align)) (growth_came len) → (u : FlexState) × TakesIn fllen t s (growth_came len) u
   grown_taken size align len None is possible =
-      let (e, wanted) = more_wanted t None (pool_size_to_contain_allocation fllen sllen size align) (grown len) refl possible in
-      absurd (true≢false (sym (subst (λ o. IsPossible (questions t None o) (grown len)) wanted possible)))
+      let (e, wanted) = more_wanted t None (pool_size_to_contain_allocation fllen sllen size align) (growth_came len) refl possible in
+      absurd (true≢false (sym (subst (λ o. IsPossible (questions t None o) (growth_came len)) wanted possible)))
   grown_taken size align len (Some k) is possible =
       let most = max_pool_size fllen in
       let r = behind k len in
@@ -66,8 +66,8 @@ module _ {fl_bits sl_bits fllen sllen : ℕ} {memory : Range} {t : Terms} {s : F
   taken_exists : (size align : ℕ) (o : Outcome) → IsPossible (questions t s.kept (pool_size_to_contain_allocation fllen sllen size align)) o
       → MayAnswerAll t s.pools (notes_of (questions t s.kept (pool_size_to_contain_allocation fllen sllen size align)) o) → (u : FlexState) × TakesIn fllen t s o u
   taken_exists size align refused possible answers = (s, refl)
-  taken_exists size align (given r) possible answers = given_taken size align r possible answers
-  taken_exists size align (grown len) possible answers = grown_taken size align len s.kept refl possible
+  taken_exists size align (range_came r) possible answers = given_taken size align r possible answers
+  taken_exists size align (growth_came len) possible answers = grown_taken size align len s.kept refl possible
 
   -- ---- what is asked
 
@@ -101,8 +101,8 @@ module _ {fl_bits sl_bits fllen sllen : ℕ} {memory : Range} {t : Terms} {s : F
 
     pub allocated_asked : (size align : ℕ) (reply : Option ℕ) (o : Outcome) (m : FlexState) → IsPowerOfTwo align → Asks fllen sllen t s size align o notes m → Replies (allocate size align reply)
     allocated_asked size align reply refused m power asks = (allocate size align None, m, (refl, refl), record { may = power; answers = answers; leads = asks })
-    allocated_asked size align reply (given r) m power asks = allocated_more size align reply (given r) m power refl asks
-    allocated_asked size align reply (grown len) m power asks = allocated_more size align reply (grown len) m power refl asks
+    allocated_asked size align reply (range_came r) m power asks = allocated_more size align reply (range_came r) m power refl asks
+    allocated_asked size align reply (growth_came len) m power asks = allocated_more size align reply (growth_came len) m power refl asks
 
     -- ---- a reallocation
 
@@ -136,8 +136,8 @@ module _ {fl_bits sl_bits fllen sllen : ℕ} {memory : Range} {t : Terms} {s : F
         (refl, refl),
         record { may = (v, holds); answers = answers; leads = record { block = v; stuck = record { holds = holds; no_plan = none }; asks = asks } },
       )
-      moved_asked (given r) m asks = moved_more (given r) m refl asks
-      moved_asked (grown len) m asks = moved_more (grown len) m refl asks
+      moved_asked (range_came r) m asks = moved_more (range_came r) m refl asks
+      moved_asked (growth_came len) m asks = moved_more (growth_came len) m refl asks
 
 -- a call has a reply, with notes that the source answered
 abbrev Answers : ℕ → ℕ → Range → Terms → FlexState → (Questions → Outcome) → Event → Type 0

@@ -5,7 +5,7 @@ use Rattle.rlsf_base.specs.Range.{range_at}
 use Rattle.rlsf_machine.specs.End.{notes_at_end}
 use Rattle.rlsf_machine.specs.FlexAllocate.{FlexAllocates}
 use Rattle.rlsf_machine.specs.FlexState.{FlexState, empty}
-use Rattle.rlsf_machine.specs.Growth.{Outcome, refused, grown, given}
+use Rattle.rlsf_machine.specs.Growth.{Outcome, refused, growth_came, range_came}
 use Rattle.rlsf_machine.specs.Note.{Note, alloc, grow, dealloc}
 use Rattle.rlsf_machine.specs.Terms.{Terms}
 use Rattle.rlsf_machine.proofs.Examples.{Block, block, seen}
@@ -47,7 +47,7 @@ growth_is_a_chunk : GivesOver 12 16 one_growing_range
     ([])
     (range_at 4097 159 ∷ [])
     ([])
-growth_is_a_chunk = gives_over 12 16 one_growing_range (attempt 1 (given (range_at 4097 96)) ∷ attempt 1 (grown 159) ∷ []) refl
+growth_is_a_chunk = gives_over 12 16 one_growing_range (attempt 1 (range_came (range_at 4097 96)) ∷ attempt 1 (growth_came 159) ∷ []) refl
 
 -- where chunks have no greatest length, the chunk grows
 growth_joins_the_chunk : GivesOver 59 8 one_growing_range
@@ -56,7 +56,7 @@ growth_joins_the_chunk : GivesOver 59 8 one_growing_range
     (range_at 4192 32 ∷ [])
     (range_at 4097 159 ∷ [])
     ([])
-growth_joins_the_chunk = gives_over 59 8 one_growing_range (attempt 1 (given (range_at 4097 96)) ∷ attempt 1 (grown 159) ∷ []) refl
+growth_joins_the_chunk = gives_over 59 8 one_growing_range (attempt 1 (range_came (range_at 4097 96)) ∷ attempt 1 (growth_came 159) ∷ []) refl
 
 -- a source that takes its ranges back and gives multiples of 1024 bytes at such addresses
 abbrev pub pages : Terms
@@ -69,7 +69,7 @@ ranges_go_back : GivesOver 8 8 pages
     (range_at 7136 1024 ∷ range_at 4128 960 ∷ [])
     (range_at 5120 3072 ∷ range_at 4096 1024 ∷ [])
     (dealloc (range_at 5120 3072) ∷ dealloc (range_at 4096 1024) ∷ [])
-ranges_go_back = gives_over 8 8 pages (attempt 1 (given (range_at 4096 1024)) ∷ attempt 2000 (given (range_at 5120 3072)) ∷ []) refl
+ranges_go_back = gives_over 8 8 pages (attempt 1 (range_came (range_at 4096 1024)) ∷ attempt 2000 (range_came (range_at 5120 3072)) ∷ []) refl
 
 -- a source that grows its ranges and takes them back
 abbrev pub growing_and_taking_back : Terms
@@ -82,7 +82,7 @@ grown_range_goes_back : GivesOver 8 8 growing_and_taking_back
     ([])
     (range_at 4097 159 ∷ [])
     (dealloc (range_at 4097 159) ∷ [])
-grown_range_goes_back = gives_over 8 8 growing_and_taking_back (attempt 1 (given (range_at 4097 96)) ∷ attempt 1 (grown 159) ∷ []) refl
+grown_range_goes_back = gives_over 8 8 growing_and_taking_back (attempt 1 (range_came (range_at 4097 96)) ∷ attempt 1 (growth_came 159) ∷ []) refl
 
 -- no pool of 8 rows of 8 classes serves 8000 bytes, and no source is asked for one
 too_long_to_ask : (t : Terms) → FlexAllocates 8 8 t empty 8000 1 None [] empty
@@ -104,7 +104,7 @@ only_range_cannot_grow : GivesOver 8 8 (small_space true)
     ([])
     (range_at 4096 64 ∷ [])
     ([])
-only_range_cannot_grow = gives_over 8 8 (small_space true) (attempt 1 (given (range_at 4096 64)) ∷ attempt 1 refused ∷ []) refl
+only_range_cannot_grow = gives_over 8 8 (small_space true) (attempt 1 (range_came (range_at 4096 64)) ∷ attempt 1 refused ∷ []) refl
 
 -- else a range is asked for then
 neither_growth_nor_range : GivesOver 8 8 (small_space false)
@@ -113,7 +113,7 @@ neither_growth_nor_range : GivesOver 8 8 (small_space false)
     ([])
     (range_at 4096 64 ∷ [])
     ([])
-neither_growth_nor_range = gives_over 8 8 (small_space false) (attempt 1 (given (range_at 4096 64)) ∷ attempt 1 refused ∷ []) refl
+neither_growth_nor_range = gives_over 8 8 (small_space false) (attempt 1 (range_came (range_at 4096 64)) ∷ attempt 1 refused ∷ []) refl
 
 -- a source that takes its ranges back, and gives more than is asked
 abbrev generous : Terms
@@ -126,4 +126,4 @@ more_than_asked : GivesOver 8 8 generous
     (range_at 4256 32 ∷ [])
     (range_at 4224 101 ∷ range_at 4096 101 ∷ [])
     (dealloc (range_at 4224 101) ∷ dealloc (range_at 4096 101) ∷ [])
-more_than_asked = gives_over 8 8 generous (attempt 1 (given (range_at 4096 101)) ∷ attempt 1 refused ∷ attempt 1 (given (range_at 4224 101)) ∷ []) refl
+more_than_asked = gives_over 8 8 generous (attempt 1 (range_came (range_at 4096 101)) ∷ attempt 1 refused ∷ attempt 1 (range_came (range_at 4224 101)) ∷ []) refl

@@ -13,7 +13,7 @@ use Rattle.rlsf_machine.specs.FlexReallocate.{FlexReallocates, IsStuck}
 use Rattle.rlsf_machine.specs.FlexRun.{FlexEvent, notes_in}
 use Rattle.rlsf_machine.specs.FlexState.{AreFlexSimilar, FlexState, KeptPool, with_machine}
 use Rattle.rlsf_machine.specs.FlexWellFormed.{IsFlexWellFormed}
-use Rattle.rlsf_machine.specs.Growth.{Extends, IsPossible, Outcome, Questions, behind, given, grown, is_more, keeps, longer, notes_of, questions, refused, TakesIn}
+use Rattle.rlsf_machine.specs.Growth.{Extends, IsPossible, Outcome, Questions, behind, range_came, growth_came, is_more, keeps, longer, notes_of, questions, refused, TakesIn}
 use Rattle.rlsf_machine.specs.Laws.{FlexSimilarRunsAgree, FlexSimilarStatesAgree}
 use Rattle.rlsf_machine.specs.Lists.{IsIn}
 use Rattle.rlsf_machine.specs.Note.{AnswersAgree, Note}
@@ -33,23 +33,23 @@ outcome-agrees q o o' p p' a = go q.growth q.range o o' p p' a
   where
     go : (g : Option (Range × ℕ)) (r : Option ℕ) (o o' : Outcome) → IsPossible (record { growth = g; range = r }) o → IsPossible (record { growth = g; range = r }) o'
         → AnswersAgree (notes_of (record { growth = g; range = r }) o) (notes_of (record { growth = g; range = r }) o') → o ≡ o'
-    go None r (grown n) o' p p' a = absurd (true≢false (sym p))
-    go None r o (grown n) p p' a = absurd (true≢false (sym p'))
-    go g None (given c) o' p p' a = absurd (true≢false (sym p))
-    go g None o (given c) p p' a = absurd (true≢false (sym p'))
+    go None r (growth_came n) o' p p' a = absurd (true≢false (sym p))
+    go None r o (growth_came n) p p' a = absurd (true≢false (sym p'))
+    go g None (range_came c) o' p p' a = absurd (true≢false (sym p))
+    go g None o (range_came c) p p' a = absurd (true≢false (sym p'))
     go None r refused refused p p' a = refl
-    go None (Some n) refused (given c) p p' a = let bad = a.0 refl in absurd (cc)
-    go None (Some n) (given c) refused p p' a = let bad = a.0 refl in absurd (cc)
-    go None (Some n) (given c) (given d) p p' a = let same = a.0 refl in let is : c ≡ d = cc in ap given is
+    go None (Some n) refused (range_came c) p p' a = let bad = a.0 refl in absurd (cc)
+    go None (Some n) (range_came c) refused p p' a = let bad = a.0 refl in absurd (cc)
+    go None (Some n) (range_came c) (range_came d) p p' a = let same = a.0 refl in let is : c ≡ d = cc in ap range_came is
     go (Some (k, m)) r refused refused p p' a = refl
-    go (Some (k, m)) r refused (grown n) p p' a = let bad = a.0 (refl, refl) in absurd (cc)
-    go (Some (k, m)) r (grown n) refused p p' a = let bad = a.0 (refl, refl) in absurd (cc)
-    go (Some (k, m)) r (grown n) (grown i) p p' a = let same = a.0 (refl, refl) in let is : n ≡ i = cc in ap grown is
-    go (Some (k, m)) (Some i) (given c) (grown n) p p' a = let bad = a.0 (refl, refl) in absurd (cc)
-    go (Some (k, m)) (Some i) (grown n) (given c) p p' a = let bad = a.0 (refl, refl) in absurd (cc)
-    go (Some (k, m)) (Some i) refused (given c) p p' a = let bad = (a.1 refl).0 refl in absurd (cc)
-    go (Some (k, m)) (Some i) (given c) refused p p' a = let bad = (a.1 refl).0 refl in absurd (cc)
-    go (Some (k, m)) (Some i) (given c) (given d) p p' a = let same = (a.1 refl).0 refl in let is : c ≡ d = cc in ap given is
+    go (Some (k, m)) r refused (growth_came n) p p' a = let bad = a.0 (refl, refl) in absurd (cc)
+    go (Some (k, m)) r (growth_came n) refused p p' a = let bad = a.0 (refl, refl) in absurd (cc)
+    go (Some (k, m)) r (growth_came n) (growth_came i) p p' a = let same = a.0 (refl, refl) in let is : n ≡ i = cc in ap growth_came is
+    go (Some (k, m)) (Some i) (range_came c) (growth_came n) p p' a = let bad = a.0 (refl, refl) in absurd (cc)
+    go (Some (k, m)) (Some i) (growth_came n) (range_came c) p p' a = let bad = a.0 (refl, refl) in absurd (cc)
+    go (Some (k, m)) (Some i) refused (range_came c) p p' a = let bad = (a.1 refl).0 refl in absurd (cc)
+    go (Some (k, m)) (Some i) (range_came c) refused p p' a = let bad = (a.1 refl).0 refl in absurd (cc)
+    go (Some (k, m)) (Some i) (range_came c) (range_came d) p p' a = let same = (a.1 refl).0 refl in let is : c ≡ d = cc in ap range_came is
 
 -- a reallocation is refused by the machine, where the block is stuck and there is no room
 refuses_stuck : {fllen sllen : ℕ} {t : Terms} {x : FlexState} (addr size : ℕ) (v : Used) (outcome : Outcome) (ns : List Note) (m : FlexState) → IsStuck x.machine addr size v → Asks fllen sllen t x size v.align outcome ns m → Reallocates sllen x.machine addr size None x.machine
@@ -65,7 +65,7 @@ module _ {fllen sllen : ℕ} {memory : Range} {t : Terms} {s s' : FlexState} (w 
   -- the same memory that is taken in leaves similar states
   taken-similar : (o : Outcome) (u u' : FlexState) → TakesIn fllen t s o u → TakesIn fllen t s' o u' → AreFlexSimilar u u'
   taken-similar refused u u' a b = subst (λ x. AreFlexSimilar x u') (sym a) (subst (AreFlexSimilar s) (sym b) r)
-  taken-similar (given q) u u' (n, step, pools, kept) (n', step', pools', kept') =
+  taken-similar (range_came q) u u' (n, step, pools, kept) (n', step', pools', kept') =
       let d = similar_states_agree fllen sllen memory s.machine s'.machine u.machine u'.machine (insert q (Some n)) (insert q (Some n')) w.machine w'.machine r.machine step step' refl in
       let is = d.0 in
       let same : n ≡ n' = cc in
@@ -74,7 +74,7 @@ module _ {fllen sllen : ℕ} {memory : Range} {t : Terms} {s s' : FlexState} (w 
         pools = pools ∙ ap (λ ps. q ∷ ps) r.pools ∙ sym pools';
         kept = kept ∙ ap (λ len. then_some (keeps t) (let k : KeptPool = record { range = q; len = len } in k)) same ∙ sym kept';
       }
-  taken-similar (grown len) u u' (k, n, was, step, pools, kept) (k', n', was', step', pools', kept') =
+  taken-similar (growth_came len) u u' (k, n, was, step, pools, kept) (k', n', was', step', pools', kept') =
       let is : k ≡ k' = same_Some k k' (sym was ∙ r.kept ∙ was') in
       let d = similar_states_agree fllen sllen memory s.machine s'.machine u.machine u'.machine (append (behind k len) n) (append (behind k' len) n') w.machine w'.machine r.machine step step' (ap (λ x. behind x len) is) in
       let e = d.0 in

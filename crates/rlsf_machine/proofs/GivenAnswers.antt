@@ -4,7 +4,7 @@ use Rattle.std.specs.Option.{is_some}
 use Rattle.rlsf_base.specs.declared.memory.range.Range.{Range}
 use Rattle.rlsf_machine.specs.Answers.{MayAnswer, MayAnswerAll}
 use Rattle.rlsf_machine.specs.FlexState.{KeptPool}
-use Rattle.rlsf_machine.specs.Growth.{IsPossible, Outcome, Questions, given, grown, growth_note, is_more, refused, if_fits, notes_of, questions, questions_for, questions_kept, range_note}
+use Rattle.rlsf_machine.specs.Growth.{IsPossible, Outcome, Questions, range_came, growth_came, growth_note, is_more, refused, if_fits, notes_of, questions, questions_for, questions_kept, range_note}
 use Rattle.rlsf_machine.specs.Note.{alloc, grow}
 use Rattle.rlsf_machine.specs.Terms.{IsGiven, Terms}
 use Rattle.rlsf_machine.proofs.Coverage.{IsIn-append_right}
@@ -12,7 +12,7 @@ use Rattle.rlsf_machine.proofs.RangeLengths.{if_fits-some}
 
 module _ (t : Terms) (owed : List Range) where
   -- a range that came is one that a source may give
-  pub given_answer : (q : Questions) (r : Range) → IsPossible q (given r) → MayAnswerAll t owed (notes_of q (given r)) → (n : ℕ) × (q.range ≡ Some n) × IsGiven t owed n r
+  pub given_answer : (q : Questions) (r : Range) → IsPossible q (range_came r) → MayAnswerAll t owed (notes_of q (range_came r)) → (n : ℕ) × (q.range ≡ Some n) × IsGiven t owed n r
   given_answer q r possible answers = go q.range possible answers
     where
       go : (range : Option ℕ) → is_some range ≡ true → MayAnswerAll t owed (growth_note q.growth None ++ range_note range (Some r)) → (n : ℕ) × (range ≡ Some n) × IsGiven t owed n r
@@ -20,7 +20,7 @@ module _ (t : Terms) (owed : List Range) where
       go (Some n) possible answers = (n, refl, answers (alloc n (Some r)) (IsIn-append_right (alloc n (Some r)) (growth_note q.growth None) (range_note (Some n) (Some r)) (inl refl)))
 
   -- a growth that came is one to which a source may let the kept range grow
-  pub grown_answer : (k : KeptPool) (e len : ℕ) → IsPossible (questions_for t (Some k) e) (grown len) → MayAnswerAll t owed (notes_of (questions_for t (Some k) e) (grown len))
+  pub grown_answer : (k : KeptPool) (e len : ℕ) → IsPossible (questions_for t (Some k) e) (growth_came len) → MayAnswerAll t owed (notes_of (questions_for t (Some k) e) (growth_came len))
       → MayAnswer t owed (grow k.range (k.len + e) (Some len))
   grown_answer k e len possible answers = go (if_fits (k.len + e)) refl possible answers
     where
@@ -28,7 +28,7 @@ module _ (t : Terms) (owed : List Range) where
       asked n true possible answers = answers (grow k.range n (Some len)) (inl refl)
       asked n false possible answers = absurd (true≢false (sym possible))
 
-      go : (o : Option ℕ) → if_fits (k.len + e) ≡ o → IsPossible (questions_kept t k e o) (grown len) → MayAnswerAll t owed (notes_of (questions_kept t k e o) (grown len)) → MayAnswer t owed (grow k.range (k.len + e) (Some len))
+      go : (o : Option ℕ) → if_fits (k.len + e) ≡ o → IsPossible (questions_kept t k e o) (growth_came len) → MayAnswerAll t owed (notes_of (questions_kept t k e o) (growth_came len)) → MayAnswer t owed (grow k.range (k.len + e) (Some len))
       go None is possible answers = absurd (true≢false (sym possible))
       go (Some n) is possible answers = subst (λ m. MayAnswer t owed (grow k.range m (Some len))) (if_fits-some (k.len + e) n is) (asked n t.grow possible answers)
 
@@ -36,5 +36,5 @@ module _ (t : Terms) (owed : List Range) where
 pub more_wanted : (t : Terms) (kept : Option KeptPool) (wanted : Option ℕ) (outcome : Outcome) → is_more outcome ≡ true → IsPossible (questions t kept wanted) outcome → (e : ℕ) × (wanted ≡ Some e)
 more_wanted t kept (Some e) outcome more possible = (e, refl)
 more_wanted t kept None refused more possible = absurd (true≢false (sym more))
-more_wanted t kept None (grown len) more possible = absurd (true≢false (sym possible))
-more_wanted t kept None (given r) more possible = absurd (true≢false (sym possible))
+more_wanted t kept None (growth_came len) more possible = absurd (true≢false (sym possible))
+more_wanted t kept None (range_came r) more possible = absurd (true≢false (sym possible))

@@ -2,7 +2,7 @@
 use Rattle.std.proofs.Common.{◌≡◌, ℕ, Option, Some, ap, subst, sym}
 use Rattle.rlsf_base.specs.declared.memory.range.Range.{Range}
 use Rattle.rlsf_machine.specs.FlexState.{FlexState}
-use Rattle.rlsf_machine.specs.Growth.{Outcome, refused, grown, given, TakesIn, behind}
+use Rattle.rlsf_machine.specs.Growth.{Outcome, refused, growth_came, range_came, TakesIn, behind}
 use Rattle.rlsf_machine.specs.Insert.{Appends, Inserts}
 use Rattle.rlsf_machine.specs.Lists.{IsIn}
 use Rattle.rlsf_machine.specs.State.{State, Used, Holds}
@@ -21,5 +21,5 @@ Holds-appended fllen s t r reply addr u step = Holds-same s t addr u (used-appen
 
 pub used-taken : (fllen : ℕ) (t : Terms) (s u : FlexState) (outcome : Outcome) → TakesIn fllen t s outcome u → u.machine.used ≡ s.machine.used
 used-taken fllen t s u refused step = ap (λ (x : FlexState). x.machine.used) step
-used-taken fllen t s u (given r) (len, inserted, pools, kept) = used-inserted fllen s.machine u.machine r (Some len) inserted
-used-taken fllen t s u (grown len) (k, taken, was_kept, appended, pools, kept) = used-appended fllen s.machine u.machine (behind k len) taken appended
+used-taken fllen t s u (range_came r) (len, inserted, pools, kept) = used-inserted fllen s.machine u.machine r (Some len) inserted
+used-taken fllen t s u (growth_came len) (k, taken, was_kept, appended, pools, kept) = used-appended fllen s.machine u.machine (behind k len) taken appended

@@ -10,7 +10,7 @@ use Rattle.rlsf_machine.specs.FlexReallocate.{FlexReallocates}
 use Rattle.rlsf_machine.specs.FlexRun.{FlexEvent, IsFlexRun, IsFlexStep, notes_in}
 use Rattle.rlsf_machine.specs.FlexState.{FlexState, KeptPool}
 use Rattle.rlsf_machine.specs.FlexWellFormed.{IsFlexWellFormed, IsNewest}
-use Rattle.rlsf_machine.specs.Growth.{Extends, Outcome, given, grown, growth_note, if_fits, longer, notes_of, questions, questions_kept, range_note, refused}
+use Rattle.rlsf_machine.specs.Growth.{Extends, Outcome, range_came, growth_came, growth_note, if_fits, longer, notes_of, questions, questions_kept, range_note, refused}
 use Rattle.rlsf_machine.specs.Laws.{EachGoesBack}
 use Rattle.rlsf_machine.specs.Note.{Note, dealloc}
 use Rattle.rlsf_machine.specs.Owed.{OwesAfterAll}
@@ -79,12 +79,12 @@ module _ {fllen sllen : ℕ} {memory : Range} {t : Terms} {s : FlexState} (w : I
       let q = questions t s.kept wanted in
       subst (λ ns. OwesAfterAll s.pools ns u.pools) (sym step.asked)
       (subst (OwesAfterAll s.pools (notes_of q refused)) (sym (ap (λ (x : FlexState). x.pools) step.after)) (owed-growth_refused q.growth s.pools s.pools (range_note q.range None) (owed-range_refused q.range s.pools)))
-  owed-extended wanted (given r) notes u step =
+  owed-extended wanted (range_came r) notes u step =
       let q = questions t s.kept wanted in
       let (len, inserted, pools, kept) = step.after in
       subst (λ ns. OwesAfterAll s.pools ns u.pools) (sym step.asked)
       (owed-growth_refused q.growth s.pools u.pools (range_note q.range (Some r)) (owed-range q.range s.pools u.pools r step.possible pools))
-  owed-extended wanted (grown len) notes u step =
+  owed-extended wanted (growth_came len) notes u step =
       let q = questions t s.kept wanted in
       let (k, taken, was, appended, pools, kept) = step.after in
       let newest = subst (λ o. IsNewest t o s.pools s.machine.chunks) was w.newest in

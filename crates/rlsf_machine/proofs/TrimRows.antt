@@ -5,7 +5,7 @@ use Rattle.rlsf_base.specs.Range.{range_at}
 use Rattle.rlsf_machine.specs.End.{notes_at_end}
 use Rattle.rlsf_machine.specs.FlexRun.{FlexEvent}
 use Rattle.rlsf_machine.specs.FlexState.{FlexState, KeptPool, empty}
-use Rattle.rlsf_machine.specs.Growth.{refused, grown, given}
+use Rattle.rlsf_machine.specs.Growth.{refused, growth_came, range_came}
 use Rattle.rlsf_machine.specs.Note.{Note, alloc, grow, dealloc}
 use Rattle.rlsf_machine.specs.Run.{Event, allocate, deallocate, trim}
 use Rattle.rlsf_machine.specs.Terms.{Terms}
@@ -50,7 +50,7 @@ ranges_go_back_by_trims : GivesWith 8 8 pages
     ([])
     None
     ([])
-ranges_go_back_by_trims = gives_with 8 8 pages (allocates (attempt 1 (given (range_at 4096 1024))) ∷ allocates (attempt 2000 (given (range_at 5120 3072))) ∷ gives_back 0
+ranges_go_back_by_trims = gives_with 8 8 pages (allocates (attempt 1 (range_came (range_at 4096 1024))) ∷ allocates (attempt 2000 (range_came (range_at 5120 3072))) ∷ gives_back 0
     ∷ frees 5136 ∷ gives_back 1 ∷ frees 4112 ∷ gives_back 1 ∷ []) refl
 
 -- a range that grew goes back as long as it grew, once none of its chunks holds a block
@@ -67,7 +67,7 @@ grown_range_goes_back_by_a_trim : GivesWith 8 8 growing_and_taking_back
     ([])
     None
     ([])
-grown_range_goes_back_by_a_trim = gives_with 8 8 growing_and_taking_back (allocates (attempt 1 (given (range_at 4097 96))) ∷ allocates (attempt 1 (grown 159))
+grown_range_goes_back_by_a_trim = gives_with 8 8 growing_and_taking_back (allocates (attempt 1 (range_came (range_at 4097 96))) ∷ allocates (attempt 1 (growth_came 159))
     ∷ frees 4208 ∷ gives_back 0 ∷ frees 4144 ∷ gives_back 1 ∷ []) refl
 
 -- a source that grows its ranges and takes them back, each at a multiple of 32
@@ -88,5 +88,5 @@ older_range_grows_after_a_trim : GivesWith 8 8 aligned_ranges
     (range_at 4096 160 ∷ [])
     (Some (record { range = range_at 4096 160; len = 160 }))
     (dealloc (range_at 4096 160) ∷ [])
-older_range_grows_after_a_trim = gives_with 8 8 aligned_ranges (allocates (attempt 1 (given (range_at 4096 101))) ∷ allocates (attempt 1 refused) ∷ allocates (attempt 1 (given (range_at 8192 101)))
-    ∷ frees 8208 ∷ gives_back 1 ∷ allocates (attempt 1 (grown 160)) ∷ []) refl
+older_range_grows_after_a_trim = gives_with 8 8 aligned_ranges (allocates (attempt 1 (range_came (range_at 4096 101))) ∷ allocates (attempt 1 refused) ∷ allocates (attempt 1 (range_came (range_at 8192 101)))
+    ∷ frees 8208 ∷ gives_back 1 ∷ allocates (attempt 1 (growth_came 160)) ∷ []) refl

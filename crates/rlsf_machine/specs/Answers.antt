@@ -14,7 +14,7 @@ MayAnswer t owed (grow r n None) = Unit {0}
 MayAnswer t owed (grow r n (Some len)) = (before after : List Range) → owed ≡ before ++ r ∷ after → IsGrown t (before ++ after) r n len
 MayAnswer t owed (dealloc r) = Unit {0}
 
--- all answers to the questions of one call are such: no question follows an answer that isn't none, so the same ranges are
--- outstanding at each
+-- all answers to the questions of one call are such. Of an allocation or a reallocation no question follows an answer that isn't none, so the
+-- same ranges are outstanding at each; a trim only gives ranges back, which any source takes
 abbrev pub MayAnswerAll : Terms → List Range → List Note → Type 0
 MayAnswerAll t owed notes = (n : Note) → IsIn n notes → MayAnswer t owed n

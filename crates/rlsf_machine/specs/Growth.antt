@@ -30,7 +30,8 @@ range_length t e = if nat_lt t.min_align 32 then if_fits (e + 32) else Some e
 abbrev pub growth_question : Terms → KeptPool → ℕ → Option (Range × ℕ)
 growth_question t k n = if t.grow then Some (k.range, n) else None
 
--- what is asked where a pool is kept that is to be n bytes long, if that is a length
+-- what is asked where a pool is kept that is to be n bytes long. If that isn't a length nothing is asked, not even
+-- for a new range (rlsf 0.2.3 does so)
 abbrev pub questions_kept : Terms → KeptPool → ℕ → Option ℕ → Questions
 questions_kept t k e None = nothing
 questions_kept t k e (Some n) = record {
@@ -51,14 +52,14 @@ questions t kept (Some e) = questions_for t kept e
 -- what came of the questions: nothing, a growth to a length, or a range
 pub data Outcome : Type 0 where
   refused : Outcome
-  grown : ℕ → Outcome
-  given : Range → Outcome
+  growth_came : ℕ → Outcome
+  range_came : Range → Outcome
 
 -- what isn't asked isn't given
 abbrev pub IsPossible : Questions → Outcome → Type 0
 IsPossible q refused = Unit {0}
-IsPossible q (grown len) = IsSome q.growth
-IsPossible q (given r) = IsSome q.range
+IsPossible q (growth_came len) = IsSome q.growth
+IsPossible q (range_came r) = IsSome q.range
 
 -- the question for growth with its answer
 abbrev pub growth_note : Option (Range × ℕ) → Option ℕ → List Note
@@ -73,8 +74,8 @@ range_note (Some n) answer = alloc n answer ∷ []
 -- the questions with the answers that led to an outcome
 abbrev pub notes_of : Questions → Outcome → List Note
 notes_of q refused = growth_note q.growth None ++ range_note q.range None
-notes_of q (grown len) = growth_note q.growth (Some len)
-notes_of q (given r) = growth_note q.growth None ++ range_note q.range (Some r)
+notes_of q (growth_came len) = growth_note q.growth (Some len)
+notes_of q (range_came r) = growth_note q.growth None ++ range_note q.range (Some r)
 
 -- whether a pool is kept
 abbrev pub keeps : Terms → Bool
@@ -92,10 +93,10 @@ longer len (p ∷ ps) = with_len p len ∷ ps
 -- what came is handed in: a range is inserted, and the bytes that a growth gave are appended
 abbrev pub TakesIn : ℕ → Terms → FlexState → Outcome → FlexState → Type 0
 TakesIn fllen t s refused u = u ≡ s
-TakesIn fllen t s (given r) u =
+TakesIn fllen t s (range_came r) u =
     (len : ℕ) × Inserts fllen s.machine r (Some len) u.machine × (u.pools ≡ r ∷ s.pools)
     × (u.kept ≡ then_some (keeps t) (record { range = r; len = len }))
-TakesIn fllen t s (grown len) u =
+TakesIn fllen t s (growth_came len) u =
     (k : KeptPool) × (taken : ℕ) × (s.kept ≡ Some k) × Appends fllen s.machine (behind k len) taken u.machine × (u.pools ≡ longer len s.pools)
     × (u.kept ≡ Some (record { range = with_len k.range len; len = k.len + taken }))
 
@@ -108,5 +109,5 @@ pub record Extends (fllen : ℕ) (t : Terms) (s : FlexState) (wanted : Option �
 -- whether memory came
 abbrev pub is_more : Outcome → Bool
 is_more refused = false
-is_more (grown len) = true
-is_more (given r) = true
+is_more (growth_came len) = true
+is_more (range_came r) = true

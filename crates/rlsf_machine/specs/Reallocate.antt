@@ -47,10 +47,10 @@ into_previous_at s u size None = None
 into_previous_at s u size (Some previous) =
     let payload = payload_of previous.start u.align in
     let block = block_for previous.start payload size in
-    let others = without (ends_at u.block.start) s.free in
-    let end = end_or (end_of u.block) (find (starts_at (end_of u.block)) others) in
+    let rest = without (ends_at u.block.start) s.free in
+    let end = end_or (end_of u.block) (find (starts_at (end_of u.block)) rest) in
     if nat_le (end_of block) end
-    then Some (record { block = block; payload = payload; free = rest_behind block end ++ without (starts_at (end_of u.block)) others })
+    then Some (record { block = block; payload = payload; free = rest_behind block end ++ without (starts_at (end_of u.block)) rest })
     else None
 
 -- the same, with the free range before the block that there is, if any
@@ -96,8 +96,8 @@ pub record MovesAway (sllen : ℕ) (s : State) (u : Used) (size addr : ℕ) (t :
   pub kept : Keeps u.bytes block.bytes
   pub released : Deallocates meanwhile u.payload t
 
--- the used block u gets another size: by the first plan that can be, else elsewhere. It is refused exactly
--- where an allocation is, and then nothing changes
+-- the used block u gets another size: by the first plan that can be, else elsewhere. With a plan it is never refused; without one, exactly
+-- where an allocation of the new size is, and then nothing changes
 abbrev pub ReallocatesBy : ℕ → State → Used → ℕ → Option Plan → Option ℕ → State → Type 0
 ReallocatesBy sllen s u size (Some p) None t = ⊥
 ReallocatesBy sllen s u size (Some p) (Some addr) t = Replans s u p addr t

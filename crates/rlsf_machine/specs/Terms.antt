@@ -5,8 +5,8 @@ use Rattle.rlsf_base.specs.PowerOfTwo.{IsPowerOfTwo}
 use Rattle.rlsf_base.specs.Range.{range_at, LiesIn}
 use Rattle.rlsf_machine.specs.Insert.{IsClear}
 
--- in which range a source hands out memory, whether it takes memory back, grows what it handed out, and hands out nothing
--- but one range that grows; and what the starts of its ranges are multiples of
+-- in which range a source hands out memory, whether it takes memory back, whether it grows what it handed out, and whether it is asked for
+-- no other range while one is kept; and what the starts of its ranges are multiples of
 pub record Terms : Type 0 where
   pub space : Range
   pub dealloc : Bool

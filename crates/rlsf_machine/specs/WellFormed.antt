@@ -21,7 +21,7 @@ coverage range (x ∷ xs) a = covers (range x) a + coverage range xs a
 abbrev pub itself : Range → Range
 itself r = r
 
--- the last 32 bytes of a chunk, which no block ever has
+-- the last 32 bytes of a chunk, its sentinel, which no block ever has
 abbrev pub last_bytes : Range → Range
 last_bytes c = between (end_of c - 32) (end_of c)
 

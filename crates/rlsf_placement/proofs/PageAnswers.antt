@@ -9,7 +9,7 @@ use Rattle.rlsf_base.specs.Sizes.{pool_size_to_contain_allocation}
 use Rattle.rlsf_machine.specs.Answers.{MayAnswer, MayAnswerAll}
 use Rattle.rlsf_machine.specs.FlexState.{FlexState, KeptPool}
 use Rattle.rlsf_machine.specs.FlexWellFormed.{IsFlexWellFormed, IsKeptPool, IsNewest}
-use Rattle.rlsf_machine.specs.Growth.{Extends, IsPossible, Outcome, given, grown, growth_note, if_fits, is_more, longer, notes_of, questions, questions_for, questions_kept, range_note, refused, TakesIn}
+use Rattle.rlsf_machine.specs.Growth.{Extends, IsPossible, Outcome, range_came, growth_came, growth_note, if_fits, is_more, longer, notes_of, questions, questions_for, questions_kept, range_note, refused, TakesIn}
 use Rattle.rlsf_machine.specs.Note.{LeadsBy, Note, alloc, grow}
 use Rattle.rlsf_machine.specs.Terms.{Terms, with_len}
 use Rattle.rlsf_machine.proofs.GivenAnswers.{more_wanted}
@@ -136,15 +136,15 @@ module _ {memory : Range} (x y : PageCursor) (is : IsPageCursor x) (s u : FlexSt
       go : (o : Outcome) (g : Option (Range × ℕ)) (r : Option ℕ) → (questions t s.kept wanted).growth ≡ g → (questions t s.kept wanted).range ≡ r → IsPossible (record { growth = g; range = r }) o → TakesIn 64 t s o u
           → LeadsBy PageLeads x (notes_of (record { growth = g; range = r }) o) y → IsAnswered x s.pools (notes_of (record { growth = g; range = r }) o) y u.pools
       go refused g r is_g is_r possible takes led = subst (IsAnswered x s.pools (growth_note g None ++ range_note r None) y) (sym (ap (λ (v : FlexState). v.pools) takes)) (refused_answered x y is s.pools may g r led)
-      go (given c) g None is_g is_r possible takes led = absurd (true≢false (sym possible))
-      go (given c) g (Some n) is_g is_r possible (len, inserted, pools, kept) led =
-          let (e, is_wanted, long) = pool_of (given c) refl (subst (λ o. is_some o ≡ true) (sym is_r) possible) in
+      go (range_came c) g None is_g is_r possible takes led = absurd (true≢false (sym possible))
+      go (range_came c) g (Some n) is_g is_r possible (len, inserted, pools, kept) led =
+          let (e, is_wanted, long) = pool_of (range_came c) refl (subst (λ o. is_some o ≡ true) (sym is_r) possible) in
           let told = range_asked t s.kept e n (ap (λ o. (questions t s.kept o).range) (sym is_wanted) ∙ is_r) in
           let some : 0 < n = elim (range_length-is t e n told) [ inl more ↦ omega (arith, more, long) | inr same ↦ omega (arith, same.1, long) ] in
           subst (IsAnswered x s.pools (growth_note g None ++ range_note (Some n) (Some c)) y) (sym pools) (given_answered x y is s.pools may g n c some led)
-      go (grown len) None r is_g is_r possible takes led = absurd (true≢false (sym possible))
-      go (grown len) (Some (c, n)) r is_g is_r possible (k, taken, was, appended, pools, kept) led =
-          let (e, is_wanted, long) = pool_of (grown len) refl (subst (λ o. is_some o ≡ true) (sym is_g) possible) in
+      go (growth_came len) None r is_g is_r possible takes led = absurd (true≢false (sym possible))
+      go (growth_came len) (Some (c, n)) r is_g is_r possible (k, taken, was, appended, pools, kept) led =
+          let (e, is_wanted, long) = pool_of (growth_came len) refl (subst (λ o. is_some o ≡ true) (sym is_g) possible) in
           let (same, sum) = growth_asked t k e c n (ap (λ o. (questions_for t o e).growth) (sym was) ∙ ap (λ o. (questions t s.kept o).growth) (sym is_wanted) ∙ is_g) in
           let newest : IsKeptPool t k s.pools s.machine.chunks = subst (λ o. IsNewest t o s.pools s.machine.chunks) was w.newest in
           let split : s.pools ≡ c ∷ newest.rest = newest.split ∙ ap (λ (p : Range). p ∷ newest.rest) (sym same) in

@@ -9,7 +9,7 @@ use Rattle.rlsf_text.specs.declared.op.Op.TheVariants.{Insert, Append, Alloc, Fr
 use Rattle.rlsf_text.specs.declared.op.Answer.{Answer}
 use Rattle.rlsf_text.specs.declared.op.Answer.TheVariants.{Inserted, Appended, Placed, Done, Trimmed}
 
--- a reallocation that moved nothing is one that the machine replies to with where the payload is; one that found no room is none
+-- a reallocation without a move is the machine's reallocation, with the payload's own address for a reply; one that found no room is no call
 abbrev pub unmoved_calls : ℕ → ℕ → Option ℕ → List Event
 unmoved_calls old size None = []
 unmoved_calls old size (Some addr) = reallocate old size (Some addr) ∷ []

@@ -23,7 +23,8 @@ use Rattle.rlsf_text.specs.declared.op.Answer.TheVariants.{Inserted, Appended, P
 use Rattle.rlsf_text.specs.declared.op.TraceError.{TraceError}
 use Rattle.rlsf_text.specs.declared.op.TraceError.TheVariants.{UnknownName, NameTaken, BadRange, BadOffset, BadLayout, NotForTlsf}
 
--- what a run has come to: the machine's state, the address of each live payload by its name, and the pools
+-- what a run has come to: the machine's state, the address of each live payload by its name, and the pools, each the row of chunks that was
+-- made of an inserted range and of what was appended to it
 pub record RunState : Type 0 where
   pub machine : State
   pub named : ℕ → Option ℕ
@@ -65,7 +66,7 @@ longer_pool more pool = range_at pool.start (pool.len + more)
 abbrev pub longer_pool_at : ℕ → ℕ → Range → Range
 longer_pool_at addr more pool = if end_of pool == addr then longer_pool more pool else pool
 
--- the names with that of a payload that was placed; another that had the name doesn't have it any more
+-- the names with that of a payload that was placed, in place of what the name had
 abbrev pub with_name : ℕ → Option ℕ → (ℕ → Option ℕ) → ℕ → Option ℕ
 with_name name None named = named
 with_name name (Some addr) named = λ other. if nat_eq name other then Some addr else named other

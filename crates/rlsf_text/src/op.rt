@@ -36,7 +36,8 @@ pub enum Op {
 /// What an op of a trace answers.
 #[derive(Clone, Copy, Debug, PartialEq, Eq)]
 pub enum Answer {
-    /// The length of the pool that was made of the range, or that it was too short for one.
+    /// How many bytes there are from the range's start up to the end of the pool that was made of it, what was skipped in front
+    /// included; none where it was too short for one.
     Inserted(Option<NonZeroUsize>),
     /// How many bytes of the range the pool took.
     Appended(usize),
@@ -52,7 +53,7 @@ pub enum Answer {
     Block(Option<(Range, bool)>),
     /// How many ranges went back to the source.
     Trimmed(usize),
-    /// The op was refused before any call of the allocator, and changed nothing.
+    /// The op was refused, and changed nothing.
     Refused(TraceError),
 }
 
@@ -63,8 +64,9 @@ pub enum TraceError {
     UnknownName = 1,
     /// The name of a new payload is that of a live one.
     NameTaken = 2,
-    /// The range doesn't lie in the memory, or overlaps a pool; or it is to be appended, and no pool ends where it
-    /// begins; or its blocks are asked for, and its start rounded up to 32 and its end aren't those of one pool.
+    /// The range doesn't lie in the memory; or it is to be inserted or appended, and overlaps a pool; or it is to be appended, and
+    /// no pool ends where it begins; or its blocks are asked for, and its start rounded up to 32 and its end aren't those of one
+    /// pool.
     BadRange = 3,
     /// The offset isn't below the usable size of the payload.
     BadOffset = 4,

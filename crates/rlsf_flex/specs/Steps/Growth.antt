@@ -11,7 +11,7 @@ use Rattle.rlsf_flex.specs.StandsFor.{FlexContents, FlexStandsFor}
 use Rattle.rlsf_machine.specs.Answers.{MayAnswer, MayAnswerAll}
 use Rattle.rlsf_machine.specs.Callers.{align_at, bytes_at}
 use Rattle.rlsf_machine.specs.FlexState.{FlexState, KeptPool}
-use Rattle.rlsf_machine.specs.Growth.{Extends, Outcome, TakesIn, given, grown, growth_note, growth_question, is_more, range_length, range_note, refused}
+use Rattle.rlsf_machine.specs.Growth.{Extends, Outcome, TakesIn, range_came, growth_came, growth_note, growth_question, is_more, range_length, range_note, refused}
 use Rattle.rlsf_machine.specs.Note.{Note, LeadsBy, alloc, grow}
 use Rattle.rlsf_machine.specs.Reallocate.{MovesAway}
 use Rattle.rlsf_machine.specs.State.{Used, Holds}
@@ -21,12 +21,12 @@ use Rattle.rlsf_machine.specs.PoolLength.{HasPool}
 -- what a range that was asked for came to
 abbrev pub outcome_of_range : Option Range → Outcome
 outcome_of_range None = refused
-outcome_of_range (Some r) = given r
+outcome_of_range (Some r) = range_came r
 
 -- what a growth that was asked for came to
 abbrev pub outcome_of_growth : Option ℕ → Outcome
 outcome_of_growth None = refused
-outcome_of_growth (Some len) = grown len
+outcome_of_growth (Some len) = growth_came len
 
 -- where the newest range begins, or 0 where none is kept
 abbrev pub kept_start : Option Pool → ℕ
@@ -41,8 +41,8 @@ kept_len (Some k) = k.range.len
 -- what came for e bytes more is what a source may give
 abbrev pub MayCome : Terms → FlexState → ℕ → Outcome → Type 0
 MayCome t s e refused = Unit {0}
-MayCome t s e (given r) = (n : ℕ) → range_length t e ≡ Some n → MayAnswer t s.pools (alloc n (Some r))
-MayCome t s e (grown len) = (k : KeptPool) → s.kept ≡ Some k → MayAnswer t s.pools (grow k.range (k.len + e) (Some len))
+MayCome t s e (range_came r) = (n : ℕ) → range_length t e ≡ Some n → MayAnswer t s.pools (alloc n (Some r))
+MayCome t s e (growth_came len) = (k : KeptPool) → s.kept ≡ Some k → MayAnswer t s.pools (grow k.range (k.len + e) (Some len))
 
 -- nothing has changed
 pub record IsUntouched {A : Type 0} (before after : A) : Type 0 where
