@@ -6,7 +6,7 @@ ghost use Rattle.rlsf_base.specs.SizeClass.{IsValid};
 ghost use Rattle.rlsf_base.specs.Space.{SamePlace};
 ghost use Rattle.rlsf_tlsf.specs.Allocator.{Stands};
 ghost use Rattle.rlsf_flex.specs.StandsFor.{FlexStandsFor, kept_pool};
-ghost use Rattle.rlsf_flex.specs.Steps.Growth.{AskedGrowth, AskedRange, Extended, IsUntouched, KeepsPayloads, MovesTo, kept_len, kept_start};
+ghost use Rattle.rlsf_flex.specs.Steps.Growth.{AskedGrowth, AskedRange, Extended, IsAsBefore, KeepsPayloads, MovesTo, kept_len, kept_start};
 ghost use Rattle.rlsf_flex.specs.Steps.Parts.{flex_over};
 ghost use Rattle.rlsf_machine.specs.Allocate.{Allocates};
 ghost use Rattle.rlsf_machine.specs.Callers.{align_at, bytes_at};
@@ -72,7 +72,7 @@ fn ask_range<
     ensures step { AskedRange FLLEN SLLEN S.terms S.owes S.leads (flex_over tlsf.old kept.old source.old owed.old)
         (flex_over tlsf.new kept.new source.new owed.new) wanted result }
     ensures payloads { KeepsPayloads tlsf.old tlsf.new }
-    ensures refused { IfNone result (IsUntouched tlsf.old tlsf.new) }
+    ensures refused { IfNone result (IsAsBefore tlsf.old tlsf.new) }
 {
     let len = range_len(source, wanted)?;
     let range = source.alloc(len)?;
@@ -114,7 +114,7 @@ fn ask_growth<
     ensures step { AskedGrowth FLLEN SLLEN S.terms S.owes S.leads (flex_over tlsf.old kept.old source.old owed.old)
         (flex_over tlsf.new kept.new source.new owed.new) (kept_pool pool) len wanted result }
     ensures payloads { KeepsPayloads tlsf.old tlsf.new }
-    ensures refused { IfNone result (IsUntouched tlsf.old tlsf.new) }
+    ensures refused { IfNone result (IsAsBefore tlsf.old tlsf.new) }
 {
     let grows = source.supports_realloc_inplace_grow();
     if !grows {
@@ -162,7 +162,7 @@ pub(crate) fn extend<
     ensures step { Extended FLLEN SLLEN S.terms S.owes S.leads (flex_over tlsf.old kept.old source.old owed.old)
         (flex_over tlsf.new kept.new source.new owed.new) wanted result }
     ensures payloads { KeepsPayloads tlsf.old tlsf.new }
-    ensures refused { result ≡ false → IsUntouched tlsf.old tlsf.new }
+    ensures refused { result ≡ false → IsAsBefore tlsf.old tlsf.new }
 {
     let Some(pool) = *kept else {
         return ask_range(source, wanted, tlsf, kept, owed).is_some();

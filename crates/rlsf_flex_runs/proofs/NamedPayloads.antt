@@ -13,7 +13,7 @@ use Rattle.rlsf_flex.specs.StandsFor.{FlexContents, FlexStandsFor, StepsAlone}
 use Rattle.rlsf_flex.proofs.Outside.{KeepsOutside-refl, KeepsOutside-spare}
 use Rattle.rlsf_flex.proofs.Standing.{inner_in}
 use Rattle.rlsf_flex_runs.specs.FlexRuns.{DoesFlex, with_run, without_source}
-use Rattle.rlsf_flex_runs.specs.Steps.Names.{IsAt, LeadsOn, MakesFlex, named_in, no_call, run_of}
+use Rattle.rlsf_flex_runs.specs.Steps.Names.{IsFlexAt, LeadsOn, MakesFlex, named_in, no_call, run_of}
 use Rattle.rlsf_flex_runs.proofs.FlexEvents.{made-deallocate, made-fill, made-unmoved}
 use Rattle.rlsf_machine.specs.Callers.{align_at, bytes_at}
 use Rattle.rlsf_machine.specs.FlexState.{with_machine}
@@ -69,7 +69,7 @@ module _ {S : Type 0} {fllen sllen : ℕ} {terms : S → Terms} {owes : S → Li
     at = record { stands = stands; are_named = AreNamed-in are };
   }
 
-module _ {S : Type 0} {fllen sllen : ℕ} {terms : S → Terms} {owes : S → List Range → Type 0} {v : FlexContents S} {table : NameTable} (at : IsAt fllen sllen terms owes v table) where
+module _ {S : Type 0} {fllen sllen : ℕ} {terms : S → Terms} {owes : S → List Range → Type 0} {v : FlexContents S} {table : NameTable} (at : IsFlexAt fllen sllen terms owes v table) where
   -- a payload of the table has a block, which its name owns, with as many bytes as are usable
   pub owned : (name : ℕ) (p : Payload) → get nat_eq table name ≡ Some p
       → (u : Used) × Owns (without_source (run_of v table)) name u × Holds v.state.machine (address p) u × (bytes_at v.state.machine (address p) ≡ u.bytes) × (length u.bytes ≡ (usable u).len)

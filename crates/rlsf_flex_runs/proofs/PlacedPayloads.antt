@@ -9,7 +9,7 @@ use Rattle.rlsf_base.specs.declared.memory.range.Range.{Range}
 use Rattle.rlsf_base.specs.Layout.{IsLayout}
 use Rattle.rlsf_base.specs.Space.{range_of}
 use Rattle.rlsf_flex.specs.StandsFor.{FlexContents, FlexSteps}
-use Rattle.rlsf_flex_runs.specs.Steps.Names.{IsAt, LeadsOn, named_in, one_call}
+use Rattle.rlsf_flex_runs.specs.Steps.Names.{IsFlexAt, LeadsOn, named_in, one_call}
 use Rattle.rlsf_machine.specs.Allocate.{Allocates}
 use Rattle.rlsf_machine.specs.FlexAllocate.{Asks, FlexAllocates}
 use Rattle.rlsf_machine.specs.FlexReallocate.{FlexReallocates}
@@ -65,7 +65,7 @@ module _ {fllen sllen : ℕ} {terms : Terms} {s : FlexState} {table : NameTable}
       (subst (λ x. MovesAway sllen more.meanwhile.machine more.block size to x.machine) (sym more.after) more.moves)
       (λ is. more.elsewhere (is ∙ at)) p_addr (sym (ap (λ x. x.align) same ∙ aligned))
 
-module _ {S : Type 0} {fllen sllen : ℕ} {terms : S → Terms} {owes : S → List Range → Type 0} {leads : S → Note → S → Type 0} {v w : FlexContents S} {table : NameTable} (at : IsAt fllen sllen terms owes v table) where
+module _ {S : Type 0} {fllen sllen : ℕ} {terms : S → Terms} {owes : S → List Range → Type 0} {leads : S → Note → S → Type 0} {v w : FlexContents S} {table : NameTable} (at : IsFlexAt fllen sllen terms owes v table) where
   -- an allocation was made and named
   pub allocated : {new : NameTable} (name : ℕ) (layout : Layout) (addr : NonZeroUsize) (p : Payload) → get nat_eq table name ≡ None → address p ≡ non_zero_usize_get addr → p.align ≡ layout.align
       → FlexSteps fllen sllen terms owes leads v w (FlexAllocates fllen sllen (terms v.source) v.state layout.size layout.align (Some (non_zero_usize_get addr))) → IsSetAt name (Some p) table new

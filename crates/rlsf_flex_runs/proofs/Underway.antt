@@ -12,7 +12,7 @@ use Rattle.rlsf_flex.specs.StandsFor.{FlexContents, FlexStands}
 use Rattle.rlsf_flex.proofs.Outside.{KeepsOutside-refl, KeepsOutside-then}
 use Rattle.rlsf_flex_runs.specs.FlexEvents.{RunsFlexByEvents}
 use Rattle.rlsf_flex_runs.specs.FlexRuns.{beginning, DoesFlex, FlexRunState, RunsFlex}
-use Rattle.rlsf_flex_runs.specs.Steps.Names.{IsAt, LeadsOn, MakesFlex, run_of}
+use Rattle.rlsf_flex_runs.specs.Steps.Names.{IsFlexAt, LeadsOn, MakesFlex, run_of}
 use Rattle.rlsf_machine.specs.FlexState.{empty, FlexState}
 use Rattle.rlsf_machine.specs.Note.{Note, LeadsBy}
 use Rattle.rlsf_machine.specs.Terms.{Terms}
@@ -28,7 +28,7 @@ use Rattle.rlsf_flex_runs.proofs.NamedPayloads.{AreNamed-in, named-in}
 -- there is room for the others.
 pub record IsUnderway {S : Type 0} (fllen sllen : ℕ) (terms : S → Terms) (owes : S → List Range → Type 0) (leads : S → Note → S → Type 0) (first : FlexContents S) (ops : List Op) (v : FlexContents S) (table : NameTable) (done : ℕ) (given : List Answer) : Type 0 where
   pub notes : List Note
-  pub at : IsAt fllen sllen terms owes v table
+  pub at : IsFlexAt fllen sllen terms owes v table
   pub runs : (more : List Answer) (others : List Note) (t : FlexRunState) → RunsFlex fllen sllen (terms first.source) (run_of v table) (drop done ops) more others t
       → RunsFlex fllen sllen (terms first.source) beginning ops (given ++ more) (notes ++ others) t
   pub by_events : (more : List Answer) (others : List Note) (t : FlexState) → RunsFlexByEvents fllen sllen (range_of first.memory) (terms first.source) v.state (drop done ops) more others t

@@ -2,7 +2,7 @@
 
 ghost use Rattle.std.specs.Prelude.{ℕ, ◌≡◌, ◌+◌, ◌≤◌, true, false, nat_eq};
 ghost use Rattle.std.specs.HashMap.{get, spare};
-ghost use Rattle.rlsf_flex_runs.specs.Steps.Names.{IsAt, LeadsOn};
+ghost use Rattle.rlsf_flex_runs.specs.Steps.Names.{IsFlexAt, LeadsOn};
 ghost use Rattle.rlsf_text.specs.declared.op.Op.TheVariants.{Alloc, Free, FreeUnknown, Realloc, ReallocNoMove, Fill, Put, Get, Usable};
 
 use rlsf_base::memory::Layout;
@@ -32,7 +32,7 @@ pub(crate) fn alloc<
     name: usize,
     layout: Layout,
 ) -> Answer
-    requires state { IsAt FLLEN SLLEN S.terms S.owes flex.old names.old }
+    requires state { IsFlexAt FLLEN SLLEN S.terms S.owes flex.old names.old }
     requires room { 1 ≤ spare names.old }
     ensures does { LeadsOn FLLEN SLLEN S.terms S.owes S.leads flex.old names.old (Alloc name layout) result flex.new names.new }
     ensures room { (ops : ℕ) → ops + 1 ≤ spare names.old → ops ≤ spare names.new }
@@ -61,7 +61,7 @@ pub(crate) fn free<
     name: usize,
     tells_align: bool,
 ) -> Answer
-    requires { IsAt FLLEN SLLEN S.terms S.owes flex.old names.old }
+    requires { IsFlexAt FLLEN SLLEN S.terms S.owes flex.old names.old }
     ensures told { tells_align ≡ true → LeadsOn FLLEN SLLEN S.terms S.owes S.leads flex.old names.old (Free name) result flex.new names.new }
     ensures untold { tells_align ≡ false → LeadsOn FLLEN SLLEN S.terms S.owes S.leads flex.old names.old (FreeUnknown name) result flex.new names.new }
     ensures room { (ops : ℕ) → ops + 1 ≤ spare names.old → ops ≤ spare names.new }
@@ -91,7 +91,7 @@ pub(crate) fn realloc<
     name: usize,
     size: usize,
 ) -> Answer
-    requires state { IsAt FLLEN SLLEN S.terms S.owes flex.old names.old }
+    requires state { IsFlexAt FLLEN SLLEN S.terms S.owes flex.old names.old }
     requires room { 1 ≤ spare names.old }
     ensures does { LeadsOn FLLEN SLLEN S.terms S.owes S.leads flex.old names.old (Realloc name size) result flex.new names.new }
     ensures room { (ops : ℕ) → ops + 1 ≤ spare names.old → ops ≤ spare names.new }
@@ -124,7 +124,7 @@ pub(crate) fn realloc_no_move<
     name: usize,
     size: usize,
 ) -> Answer
-    requires { IsAt FLLEN SLLEN S.terms S.owes flex.old names.now }
+    requires { IsFlexAt FLLEN SLLEN S.terms S.owes flex.old names.now }
     ensures { LeadsOn FLLEN SLLEN S.terms S.owes S.leads flex.old names.now (ReallocNoMove name size) result flex.new names.now }
 {
     let Some(payload) = payload_of(names, name) else {
@@ -149,7 +149,7 @@ pub(crate) fn fill<
     name: usize,
     byte: u8,
 ) -> Answer
-    requires { IsAt FLLEN SLLEN S.terms S.owes flex.old names.now }
+    requires { IsFlexAt FLLEN SLLEN S.terms S.owes flex.old names.now }
     ensures { LeadsOn FLLEN SLLEN S.terms S.owes S.leads flex.old names.now (Fill name byte) result flex.new names.now }
 {
     let Some(payload) = payload_of(names, name) else {
@@ -173,7 +173,7 @@ pub(crate) fn put<
     offset: usize,
     byte: u8,
 ) -> Answer
-    requires { IsAt FLLEN SLLEN S.terms S.owes flex.old names.now }
+    requires { IsFlexAt FLLEN SLLEN S.terms S.owes flex.old names.now }
     ensures { LeadsOn FLLEN SLLEN S.terms S.owes S.leads flex.old names.now (Put name offset byte) result flex.new names.now }
 {
     let Some(payload) = payload_of(names, name) else {
@@ -199,7 +199,7 @@ pub(crate) fn get<
     name: usize,
     offset: usize,
 ) -> Answer
-    requires { IsAt FLLEN SLLEN S.terms S.owes flex.now names.now }
+    requires { IsFlexAt FLLEN SLLEN S.terms S.owes flex.now names.now }
     ensures { LeadsOn FLLEN SLLEN S.terms S.owes S.leads flex.now names.now (Get name offset) result flex.now names.now }
 {
     let Some(payload) = payload_of(names, name) else {
@@ -223,7 +223,7 @@ pub(crate) fn usable<
     names: &HashMap<usize, Payload>,
     name: usize,
 ) -> Answer
-    requires { IsAt FLLEN SLLEN S.terms S.owes flex.now names.now }
+    requires { IsFlexAt FLLEN SLLEN S.terms S.owes flex.now names.now }
     ensures { LeadsOn FLLEN SLLEN S.terms S.owes S.leads flex.now names.now (Usable name) result flex.now names.now }
 {
     match payload_of(names, name) {

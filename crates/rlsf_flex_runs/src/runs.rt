@@ -3,7 +3,7 @@
 ghost use Rattle.std.specs.Prelude.{◌≡◌, ℕ, ◌+◌, ◌≤◌, ◌++◌, List, [], OnOk, OnErr};
 ghost use Rattle.std.specs.HashMap.{spare};
 ghost use Rattle.rlsf_base.specs.Space.{range_of, SamePlace};
-ghost use Rattle.rlsf_flex_runs.specs.Steps.Names.{IsAt, LeadsOn};
+ghost use Rattle.rlsf_flex_runs.specs.Steps.Names.{IsFlexAt, LeadsOn};
 ghost use Rattle.rlsf_flex_runs.specs.Whole.{RunsFlexTo};
 ghost use Rattle.rlsf_machine.specs.FlexState.{empty};
 ghost use Rattle.rlsf_text.specs.declared.op.Answer.{Answer};
@@ -22,7 +22,7 @@ fn step<S: FlexSource, FLBitmap: Bitmap, SLBitmap: Bitmap, const FLLEN: usize, c
     names: &mut HashMap<usize, Payload>,
     op: Op,
 ) -> Answer
-    requires state { IsAt FLLEN SLLEN S.terms S.owes flex.old names.old }
+    requires state { IsFlexAt FLLEN SLLEN S.terms S.owes flex.old names.old }
     requires room { 1 ≤ spare names.old }
     ensures does { LeadsOn FLLEN SLLEN S.terms S.owes S.leads flex.old names.old op result flex.new names.new }
     ensures room { (ops : ℕ) → ops + 1 ≤ spare names.old → ops ≤ spare names.new }

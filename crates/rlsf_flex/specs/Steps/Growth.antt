@@ -44,8 +44,8 @@ MayCome t s e refused = Unit {0}
 MayCome t s e (range_came r) = (n : ℕ) → range_length t e ≡ Some n → MayAnswer t s.pools (alloc n (Some r))
 MayCome t s e (growth_came len) = (k : KeptPool) → s.kept ≡ Some k → MayAnswer t s.pools (grow k.range (k.len + e) (Some len))
 
--- nothing has changed
-pub record IsUntouched {A : Type 0} (before after : A) : Type 0 where
+-- a value is as it was
+pub record IsAsBefore {A : Type 0} (before after : A) : Type 0 where
   pub same : after ≡ before
 
 -- growth leaves every payload, the place of the memory and the count of copied bytes as they were; touches only grow

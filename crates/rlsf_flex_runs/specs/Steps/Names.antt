@@ -26,7 +26,7 @@ abbrev pub run_of : {S : Type 0} → FlexContents S → NameTable → FlexRunSta
 run_of v table = record { flex = v.state; named = named_in table }
 
 -- the allocator's parts stand for its state, and the table has its live payloads
-pub record IsAt {S : Type 0} (fllen sllen : ℕ) (terms : S → Terms) (owes : S → List Range → Type 0) (v : FlexContents S) (table : NameTable) : Type 0 where
+pub record IsFlexAt {S : Type 0} (fllen sllen : ℕ) (terms : S → Terms) (owes : S → List Range → Type 0) (v : FlexContents S) (table : NameTable) : Type 0 where
   pub stands : FlexStandsFor fllen sllen terms owes v
   pub are_named : AreNamed v.state.machine table (named_in table)
 
@@ -45,4 +45,4 @@ pub record LeadsOn {S : Type 0} (fllen sllen : ℕ) (terms : S → Terms) (owes 
   pub makes : MakesFlex fllen sllen (range_of v.memory) (terms v.source) v.state op answer notes w.state
   pub leads_by : LeadsBy leads v.source notes w.source
   pub outside : KeepsOutside v.memory v.state.pools notes w.memory w.state.pools
-  pub at : IsAt fllen sllen terms owes w new
+  pub at : IsFlexAt fllen sllen terms owes w new
