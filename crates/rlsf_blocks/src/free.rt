@@ -40,13 +40,13 @@ pub fn used_block(memory: &mut Memory, view: View, payload: usize, align: usize)
 
 /// Takes the block at `block` out of its list, if it is free. Answers the bytes of the block that was taken out.
 #[inline(always)]
-fn take_free<FLBitmap: Bitmap, SLBitmap: Bitmap, const FLLEN: usize, const SLLEN: usize>(
+fn take_free<FLBitmap: Bitmap, const FLLEN: usize, const SLLEN: usize>(
     memory: &mut Memory,
     view: View,
-    table: &mut ClassTable<FLBitmap, SLBitmap, FLLEN, SLLEN>,
+    table: &mut ClassTable<FLBitmap, FLLEN, SLLEN>,
     block: usize,
 ) -> Option<usize>
-    requires parameters { IsValid FLBitmap.width SLBitmap.width FLLEN SLLEN }
+    requires parameters { IsValid FLBitmap.width 128 FLLEN SLLEN }
     requires marked { (free : List Range) × IsFreeTable FLLEN SLLEN memory.old table.old free × IsMarked memory.old free block }
     requires view { view ≡ memory.old.view }
     ensures step { (free : List Range) → IsFreeTable FLLEN SLLEN memory.old table.old free → IsMarked memory.old free block → IsNextOut FLLEN SLLEN memory.old memory.new table.new free block (unwrap_or result 0) }
@@ -67,13 +67,13 @@ fn take_free<FLBitmap: Bitmap, SLBitmap: Bitmap, const FLLEN: usize, const SLLEN
 
 /// Takes the block at `block` out of its list, if it is free. Answers the bytes of the block that was taken out, or 0.
 #[inline(always)]
-pub fn take_if_free<FLBitmap: Bitmap, SLBitmap: Bitmap, const FLLEN: usize, const SLLEN: usize>(
+pub fn take_if_free<FLBitmap: Bitmap, const FLLEN: usize, const SLLEN: usize>(
     memory: &mut Memory,
     view: View,
-    table: &mut ClassTable<FLBitmap, SLBitmap, FLLEN, SLLEN>,
+    table: &mut ClassTable<FLBitmap, FLLEN, SLLEN>,
     block: usize,
 ) -> usize
-    requires parameters { IsValid FLBitmap.width SLBitmap.width FLLEN SLLEN }
+    requires parameters { IsValid FLBitmap.width 128 FLLEN SLLEN }
     requires marked { (free : List Range) × IsFreeTable FLLEN SLLEN memory.old table.old free × IsMarked memory.old free block }
     requires view { view ≡ memory.old.view }
     ensures step { (free : List Range) → IsFreeTable FLLEN SLLEN memory.old table.old free → IsMarked memory.old free block → IsNextOut FLLEN SLLEN memory.old memory.new table.new free block result }
@@ -91,13 +91,13 @@ pub fn take_if_free<FLBitmap: Bitmap, SLBitmap: Bitmap, const FLLEN: usize, cons
 /// Takes the block before the used one at `block` out of its list, if it is free. Answers where the block that was taken
 /// out begins, or `block`.
 #[inline(always)]
-pub fn take_previous<FLBitmap: Bitmap, SLBitmap: Bitmap, const FLLEN: usize, const SLLEN: usize>(
+pub fn take_previous<FLBitmap: Bitmap, const FLLEN: usize, const SLLEN: usize>(
     memory: &mut Memory,
     view: View,
-    table: &mut ClassTable<FLBitmap, SLBitmap, FLLEN, SLLEN>,
+    table: &mut ClassTable<FLBitmap, FLLEN, SLLEN>,
     block: usize,
 ) -> usize
-    requires parameters { IsValid FLBitmap.width SLBitmap.width FLLEN SLLEN }
+    requires parameters { IsValid FLBitmap.width 128 FLLEN SLLEN }
     requires used { (s : State) × (u : Used) × StandsFor FLLEN SLLEN (contents memory.old table.old) s × IsIn u s.used × (u.block.start ≡ block) }
     requires view { view ≡ memory.old.view }
     ensures step { AtEachUsed FLLEN SLLEN memory.old table.old block (λ s u. IsPreviousOut FLLEN SLLEN memory.old memory.new table.new s.free block result) }
@@ -118,14 +118,14 @@ pub fn take_previous<FLBitmap: Bitmap, SLBitmap: Bitmap, const FLLEN: usize, con
 
 /// Makes a free block of the `len` bytes at `block`. The word that names the block before it stays.
 #[inline(always)]
-fn put<FLBitmap: Bitmap, SLBitmap: Bitmap, const FLLEN: usize, const SLLEN: usize>(
+fn put<FLBitmap: Bitmap, const FLLEN: usize, const SLLEN: usize>(
     memory: &mut Memory,
     view: View,
-    table: &mut ClassTable<FLBitmap, SLBitmap, FLLEN, SLLEN>,
+    table: &mut ClassTable<FLBitmap, FLLEN, SLLEN>,
     block: usize,
     len: usize,
 )
-    requires parameters { IsValid FLBitmap.width SLBitmap.width FLLEN SLLEN }
+    requires parameters { IsValid FLBitmap.width 128 FLLEN SLLEN }
     requires room { (free : List Range) × (r : Range) × (r.start ≡ block) × (r.len ≡ len) × IsInnerRoom FLLEN SLLEN memory.old table.old free r }
     requires view { view ≡ memory.old.view }
     ensures step { (free : List Range) (r : Range) → r.start ≡ block → r.len ≡ len → IsInnerRoom FLLEN SLLEN memory.old table.old free r → IsNewFreeBlock FLLEN SLLEN memory.old memory.new table.new free r }
@@ -142,13 +142,13 @@ fn put<FLBitmap: Bitmap, SLBitmap: Bitmap, const FLLEN: usize, const SLLEN: usiz
 /// Makes the used block at `block` free: joined with a free block before it and a free block behind it, it becomes the
 /// newest.
 #[inline(always)]
-pub fn deallocate_block<FLBitmap: Bitmap, SLBitmap: Bitmap, const FLLEN: usize, const SLLEN: usize>(
+pub fn deallocate_block<FLBitmap: Bitmap, const FLLEN: usize, const SLLEN: usize>(
     memory: &mut Memory,
     view: View,
-    table: &mut ClassTable<FLBitmap, SLBitmap, FLLEN, SLLEN>,
+    table: &mut ClassTable<FLBitmap, FLLEN, SLLEN>,
     block: usize,
 )
-    requires parameters { IsValid FLBitmap.width SLBitmap.width FLLEN SLLEN }
+    requires parameters { IsValid FLBitmap.width 128 FLLEN SLLEN }
     requires used { (s : State) × (u : Used) × StandsFor FLLEN SLLEN (contents memory.old table.old) s × IsIn u s.used × (u.block.start ≡ block) }
     requires view { view ≡ memory.old.view }
     ensures step { AtEachUsed FLLEN SLLEN memory.old table.old block (λ s u. StandsAfter FLLEN SLLEN memory.old memory.new table.new s (released s u)) }

@@ -19,15 +19,15 @@ use rlsf_table::{ClassTable, used_end};
 /// changes.
 ///
 /// The old block is too short for the layout.
-pub fn move_elsewhere<FLBitmap: Bitmap, SLBitmap: Bitmap, const FLLEN: usize, const SLLEN: usize>(
+pub fn move_elsewhere<FLBitmap: Bitmap, const FLLEN: usize, const SLLEN: usize>(
     memory: &mut Memory,
     view: View,
-    table: &mut ClassTable<FLBitmap, SLBitmap, FLLEN, SLLEN>,
+    table: &mut ClassTable<FLBitmap, FLLEN, SLLEN>,
     block: usize,
     payload: usize,
     layout: Layout,
 ) -> Option<usize>
-    requires parameters { IsValid FLBitmap.width SLBitmap.width FLLEN SLLEN }
+    requires parameters { IsValid FLBitmap.width 128 FLLEN SLLEN }
     requires view { view ≡ memory.old.view }
     requires used { (s : State) × (u : Used) × StandsFor FLLEN SLLEN (contents memory.old table.old) s × IsUsedAt s u block payload layout.align × (in_place s u layout.size ≡ None) }
     ensures step { AtEachShort FLLEN SLLEN memory.old table.old block payload layout (λ s u. IsElsewhere FLLEN SLLEN memory.old memory.new table.new s u layout.size result) }

@@ -69,20 +69,15 @@ fn place_before(
 /// free block; all bytes of the payload are kept.
 ///
 /// The block is too short for the layout where it stands.
-pub(crate) fn move_into_previous<
-    FLBitmap: Bitmap,
-    SLBitmap: Bitmap,
-    const FLLEN: usize,
-    const SLLEN: usize,
->(
+pub(crate) fn move_into_previous<FLBitmap: Bitmap, const FLLEN: usize, const SLLEN: usize>(
     memory: &mut Memory,
     view: View,
-    table: &mut ClassTable<FLBitmap, SLBitmap, FLLEN, SLLEN>,
+    table: &mut ClassTable<FLBitmap, FLLEN, SLLEN>,
     block: usize,
     payload: usize,
     layout: Layout,
 ) -> Option<usize>
-    requires parameters { IsValid FLBitmap.width SLBitmap.width FLLEN SLLEN }
+    requires parameters { IsValid FLBitmap.width 128 FLLEN SLLEN }
     requires used { (s : State) × (u : Used) × StandsFor FLLEN SLLEN (contents memory.old table.old) s × IsUsedAt s u block payload layout.align × (in_place s u layout.size ≡ None) }
     requires view { view ≡ memory.old.view }
     ensures moved { AtEachShort FLLEN SLLEN memory.old table.old block payload layout

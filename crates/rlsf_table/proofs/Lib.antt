@@ -1,3 +1,4 @@
 pub mod FreeLists
+pub mod Parameters
 pub mod Tables
 pub mod Words

@@ -25,18 +25,18 @@ pub struct FoundBlock {
 /// reaches it. At most 4 touches.
 ///
 /// The size is a multiple of 32 that is not 0; table and memory are those of some free blocks.
-pub fn first_fit<FLBitmap: Bitmap, SLBitmap: Bitmap, const FLLEN: usize, const SLLEN: usize>(
+pub fn first_fit<FLBitmap: Bitmap, const FLLEN: usize, const SLLEN: usize>(
     memory: &mut Memory,
-    table: &ClassTable<FLBitmap, SLBitmap, FLLEN, SLLEN>,
+    table: &ClassTable<FLBitmap, FLLEN, SLLEN>,
     size: usize,
 ) -> Option<FoundBlock>
-    requires parameters { IsValid FLBitmap.width SLBitmap.width FLLEN SLLEN }
+    requires parameters { IsValid FLBitmap.width 128 FLLEN SLLEN }
     requires size { IsSize size }
     requires list { (free : List Range) × IsFreeTable FLLEN SLLEN memory.old table.now free }
     ensures choice { (free : List Range) → IsFreeTable FLLEN SLLEN memory.old table.now free → IsFirstFit FLLEN SLLEN size free result }
     ensures counts { Counts memory.old memory.new 4 }
 {
-    let (fl, sl) = map_ceil::<FLBitmap, SLBitmap, FLLEN, SLLEN>(size)?;
+    let (fl, sl) = map_ceil::<FLBitmap, u128, FLLEN, SLLEN>(size)?;
     let class = table.first_from(memory, fl, sl)?;
     Some(FoundBlock {
         start: table.head(memory, class.fl, class.sl),

@@ -93,14 +93,14 @@ fn unlink_between(memory: &mut Memory, view: View, block: usize) -> Option<usize
 /// Table and memory are those of some free blocks, of valid classes, with their size words, none of which overlap, and the
 /// block can be one beside them.
 #[inline(always)]
-pub fn link_free_block<FLBitmap: Bitmap, SLBitmap: Bitmap, const FLLEN: usize, const SLLEN: usize>(
+pub fn link_free_block<FLBitmap: Bitmap, const FLLEN: usize, const SLLEN: usize>(
     memory: &mut Memory,
     view: View,
-    table: &mut ClassTable<FLBitmap, SLBitmap, FLLEN, SLLEN>,
+    table: &mut ClassTable<FLBitmap, FLLEN, SLLEN>,
     block: usize,
     len: usize,
 )
-    requires parameters { IsValid FLBitmap.width SLBitmap.width FLLEN SLLEN }
+    requires parameters { IsValid FLBitmap.width 128 FLLEN SLLEN }
     requires room { (r : Range) × (free : List Range) × (r.start ≡ block) × (r.len ≡ len) × IsRoom FLLEN SLLEN memory.old table.old free r }
     requires view { view ≡ memory.old.view }
     ensures step { AtEachRoom FLLEN SLLEN memory.old table.old block len (IsLinked FLLEN SLLEN memory.old memory.new table.new) }
@@ -121,19 +121,14 @@ pub fn link_free_block<FLBitmap: Bitmap, SLBitmap: Bitmap, const FLLEN: usize, c
 /// Table and memory are those of some free blocks, of valid classes, with their size words, none of which overlap, and the
 /// block is one of them.
 #[inline(always)]
-pub fn unlink_free_block<
-    FLBitmap: Bitmap,
-    SLBitmap: Bitmap,
-    const FLLEN: usize,
-    const SLLEN: usize,
->(
+pub fn unlink_free_block<FLBitmap: Bitmap, const FLLEN: usize, const SLLEN: usize>(
     memory: &mut Memory,
     view: View,
-    table: &mut ClassTable<FLBitmap, SLBitmap, FLLEN, SLLEN>,
+    table: &mut ClassTable<FLBitmap, FLLEN, SLLEN>,
     block: usize,
     len: usize,
 )
-    requires parameters { IsValid FLBitmap.width SLBitmap.width FLLEN SLLEN }
+    requires parameters { IsValid FLBitmap.width 128 FLLEN SLLEN }
     requires listed { (r : Range) × (free : List Range) × (r.start ≡ block) × (r.len ≡ len) × IsIn r free × IsFreeTable FLLEN SLLEN memory.old table.old free }
     requires view { view ≡ memory.old.view }
     ensures step { AtEachListed FLLEN SLLEN memory.old table.old block len (IsUnlinked FLLEN SLLEN memory.old memory.new table.new) }
@@ -155,19 +150,14 @@ pub fn unlink_free_block<
 /// Table and memory are those of some free blocks, of valid classes, with their size words, none of which overlap; the block is
 /// one of them, has that class, and none before it has.
 #[inline(always)]
-pub fn unlink_newest_block<
-    FLBitmap: Bitmap,
-    SLBitmap: Bitmap,
-    const FLLEN: usize,
-    const SLLEN: usize,
->(
+pub fn unlink_newest_block<FLBitmap: Bitmap, const FLLEN: usize, const SLLEN: usize>(
     memory: &mut Memory,
     view: View,
-    table: &mut ClassTable<FLBitmap, SLBitmap, FLLEN, SLLEN>,
+    table: &mut ClassTable<FLBitmap, FLLEN, SLLEN>,
     block: usize,
     class: ClassIndex,
 )
-    requires parameters { IsValid FLBitmap.width SLBitmap.width FLLEN SLLEN }
+    requires parameters { IsValid FLBitmap.width 128 FLLEN SLLEN }
     requires newest { (r : Range) × (before after : List Range) × (r.start ≡ block) × IsNewestAt FLLEN SLLEN r before class.fl class.sl × IsFreeTable FLLEN SLLEN memory.old table.old (before ++ r ∷ after) }
     requires view { view ≡ memory.old.view }
     ensures step { AtEachNewest FLLEN SLLEN memory.old table.old block class.fl class.sl (IsUnlinked FLLEN SLLEN memory.old memory.new table.new) }

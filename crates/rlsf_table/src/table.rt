@@ -14,7 +14,7 @@ ghost use Rattle.rlsf_table.specs.Table.{IsHeadSet, class_at, head_at, HasBits, 
 use crate::rows::Rows;
 use rlsf_base::memory::Memory;
 use rlsf_int::{BitPattern, Bitmap};
-use std::marker::{Model, PhantomData};
+use std::marker::Model;
 
 /// Where a class stands in a table: its row, below `FLLEN`, and its place in the row, below `SLLEN`.
 #[derive(Clone, Copy)]
@@ -28,27 +28,21 @@ pub struct ClassIndex {
 /// Which classes have free blocks, and where the list of each begins.
 ///
 /// A class is named by its row, below `FLLEN`, and its place in the row, below `SLLEN`; a block by its address, and 0 means none.
-/// The parameters are valid: from 1 to `FLBitmap`'s bits rows, of a power of two of classes that is at most `SLBitmap`'s bits.
+/// The parameters are valid: from 1 to `FLBitmap`'s bits rows, of a power of two of classes that is at most 128.
 /// Each read or write of a word of the table counts as a touch of the memory that it is handed; `newest`, `fl_bitmap` and
 /// `sl_bitmap`, which are handed none, count nothing.
 #[derive(Drop)]
-pub struct ClassTable<
-    FLBitmap: BitPattern,
-    SLBitmap: BitPattern,
-    const FLLEN: usize,
-    const SLLEN: usize,
-> {
+pub struct ClassTable<FLBitmap: BitPattern, const FLLEN: usize, const SLLEN: usize> {
     // The rows that have a free block.
     fl_bitmap: FLBitmap,
     // The classes of each row that have one.
     rows: Rows<FLLEN, SLLEN>,
     // The newest free block of each class, or 0.
     heads: [[usize; SLLEN]; FLLEN],
-    marker: PhantomData<SLBitmap>,
 }
 
-impl<FLBitmap: BitPattern, SLBitmap: BitPattern, const FLLEN: usize, const SLLEN: usize> Model
-    for ClassTable<FLBitmap, SLBitmap, FLLEN, SLLEN> {
+impl<FLBitmap: BitPattern, const FLLEN: usize, const SLLEN: usize> Model
+    for ClassTable<FLBitmap, FLLEN, SLLEN> {
     ghost use Rattle.rlsf_table.specs.Table.{Table, HasPlaces};
     ghost use Rattle.rlsf_table.specs.Steps.Places.{row_words};
 
@@ -60,12 +54,7 @@ impl<FLBitmap: BitPattern, SLBitmap: BitPattern, const FLLEN: usize, const SLLEN
     ghost invariant = { λ t. HasPlaces FLLEN SLLEN t.heads };
 }
 
-impl<FLBitmap: Bitmap, SLBitmap: Bitmap, const FLLEN: usize, const SLLEN: usize> ClassTable<
-    FLBitmap,
-    SLBitmap,
-    FLLEN,
-    SLLEN,
-> {
+impl<FLBitmap: Bitmap, const FLLEN: usize, const SLLEN: usize> ClassTable<FLBitmap, FLLEN, SLLEN> {
     /// A table of no blocks, of any memory.
     pub fn new() -> Self
         ensures { (m : Space) → HasTable FLLEN SLLEN m result [] }
@@ -74,7 +63,6 @@ impl<FLBitmap: Bitmap, SLBitmap: Bitmap, const FLLEN: usize, const SLLEN: usize>
             fl_bitmap: FLBitmap::empty(),
             rows: Rows::new(),
             heads: [[0; SLLEN]; FLLEN],
-            marker: PhantomData,
         }
     }
 
@@ -100,7 +88,7 @@ impl<FLBitmap: Bitmap, SLBitmap: Bitmap, const FLLEN: usize, const SLLEN: usize>
     /// The second-level bitmap of a row: a place's position has a one exactly where a block of that class is free. Not counted.
     ///
     /// The row is below `FLLEN`.
-    pub fn sl_bitmap(&self, fl: usize) -> SLBitmap
+    pub fn sl_bitmap<SLBitmap: Bitmap>(&self, fl: usize) -> SLBitmap
         requires parameters { IsValid FLBitmap.width SLBitmap.width FLLEN SLLEN }
         requires row { fl < FLLEN }
         ensures within { (sl : ℕ) → sl < SLLEN → bit (SLBitmap.pattern result) sl ≡ bit (slice_index self.now.second_level fl) sl }
@@ -131,7 +119,7 @@ impl<FLBitmap: Bitmap, SLBitmap: Bitmap, const FLLEN: usize, const SLLEN: usize>
     ///
     /// The row is below `FLLEN`, and the place below `SLLEN`.
     pub fn put(&mut self, memory: &mut Memory, fl: usize, sl: usize, block: usize)
-        requires parameters { IsValid FLBitmap.width SLBitmap.width FLLEN SLLEN }
+        requires parameters { IsValid FLBitmap.width 128 FLLEN SLLEN }
         requires class { (fl < FLLEN) × (sl < SLLEN) }
         ensures heads { IsHeadSet FLLEN SLLEN self.old self.new fl sl block }
         ensures bits { (r : Range) (free : List Range) → class_of SLLEN r.len ≡ class_at fl sl → HasBits FLLEN SLLEN self.old free → HasBits FLLEN SLLEN self.new (r ∷ free) }
@@ -152,7 +140,7 @@ impl<FLBitmap: Bitmap, SLBitmap: Bitmap, const FLLEN: usize, const SLLEN: usize>
     ///
     /// The row is below `FLLEN`, and the place below `SLLEN`.
     pub fn take(&mut self, memory: &mut Memory, fl: usize, sl: usize, next: usize)
-        requires parameters { IsValid FLBitmap.width SLBitmap.width FLLEN SLLEN }
+        requires parameters { IsValid FLBitmap.width 128 FLLEN SLLEN }
         requires class { (fl < FLLEN) × (sl < SLLEN) }
         ensures heads { IsHeadSet FLLEN SLLEN self.old self.new fl sl next }
         ensures bits { HasBitsWithout FLLEN SLLEN self.old self.new fl sl next }
@@ -177,7 +165,7 @@ impl<FLBitmap: Bitmap, SLBitmap: Bitmap, const FLLEN: usize, const SLLEN: usize>
     ///
     /// The row is below `FLLEN`, and the place below `SLLEN`.
     pub fn first_from(&self, memory: &mut Memory, fl: usize, sl: usize) -> Option<ClassIndex>
-        requires parameters { IsValid FLBitmap.width SLBitmap.width FLLEN SLLEN }
+        requires parameters { IsValid FLBitmap.width 128 FLLEN SLLEN }
         requires class { (fl < FLLEN) × (sl < SLLEN) }
         ensures first { (free : List Range) → HasBits FLLEN SLLEN self.now free → ((f : Range) → IsIn f free → IsFree FLLEN SLLEN f) → IsLeastFrom FLLEN SLLEN fl sl free result }
         ensures counts { Counts memory.old memory.new 3 }

@@ -35,7 +35,7 @@ use rlsf_blocks::{
 use rlsf_int::{BitPattern, Bitmap};
 use rlsf_reallocate::{reallocate_block, resize_block};
 use rlsf_table::ClassTable;
-use std::marker::Model;
+use std::marker::{Model, PhantomData};
 use std::num::NonZeroUsize;
 
 /// The allocator over pools of one memory, which it owns.
@@ -47,8 +47,9 @@ pub struct Tlsf<
     const SLLEN: usize,
 > {
     memory: Memory,
-    table: ClassTable<FLBitmap, SLBitmap, FLLEN, SLLEN>,
+    table: ClassTable<FLBitmap, FLLEN, SLLEN>,
     state: GhostState,
+    marker: PhantomData<SLBitmap>,
 }
 
 impl<FLBitmap: BitPattern, SLBitmap: BitPattern, const FLLEN: usize, const SLLEN: usize> Model
@@ -88,6 +89,7 @@ impl<FLBitmap: Bitmap, SLBitmap: Bitmap, const FLLEN: usize, const SLLEN: usize>
             memory,
             table: ClassTable::new(),
             state: GhostState::new(),
+            marker: PhantomData,
         }
     }
 

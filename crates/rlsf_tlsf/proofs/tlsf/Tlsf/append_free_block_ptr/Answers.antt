@@ -6,6 +6,7 @@ use Rattle.rlsf_machine.specs.State.{State}
 use Rattle.rlsf_machine.proofs.AppendedRanges.{untouched_appended}
 use Rattle.rlsf_machine.proofs.CallerWords.{SeesSame, same_seen}
 use Rattle.rlsf_machine.proofs.Callers.{callers_see_map}
+use Rattle.rlsf_table.proofs.Parameters.{IsValid-widest}
 use Rattle.rlsf_blocks.specs.Laws.{read_from}
 use Rattle.rlsf_blocks.specs.Spare.{KeepsSpare}
 use Rattle.rlsf_blocks.specs.StandsFor.{contents, StandsFor}
@@ -20,7 +21,7 @@ use Rattle.rlsf_tlsf.proofs.tlsf.Tlsf.append_free_block_ptr.Goals.{After-append_
 
 pub append_chunks-taken-requires : goal.append_chunks-taken-requires
 append_chunks-taken-requires g c =
-    (omega arith, (c.self.invariant.valid, (_, c.self.invariant.stands, subst (λ (o : Allocator). IsNext (range_of o.memory) o.state c.args.range) (sym c.self.view_is) c.requires)))
+    (omega arith, (IsValid-widest c.self.invariant.valid, (_, c.self.invariant.stands, subst (λ (o : Allocator). IsNext (range_of o.memory) o.state c.args.range) (sym c.self.view_is) c.requires)))
 
 -- the range becomes chunks, or a chunk grows
 appending : (g : given.Over) (c : After-append_chunks-taken g)

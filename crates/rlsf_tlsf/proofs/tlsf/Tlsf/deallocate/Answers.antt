@@ -4,6 +4,7 @@ use Rattle.rlsf_machine.specs.Release.{Deallocates, released}
 use Rattle.rlsf_machine.specs.State.{State, Used, Holds, IsLive}
 use Rattle.rlsf_machine.proofs.CallerWords.{SeesGone, align_at-live, gone_seen}
 use Rattle.rlsf_machine.proofs.Chunks.{chunks-deallocated}
+use Rattle.rlsf_table.proofs.Parameters.{IsValid-widest}
 use Rattle.rlsf_blocks.specs.Laws.{read_from}
 use Rattle.rlsf_blocks.specs.StandsFor.{contents, StandsFor}
 use Rattle.rlsf_blocks.proofs.Machine.Counted.{KeepsSpare-counted_first, StandsFor-counted}
@@ -43,7 +44,7 @@ pub deallocate_block-requires : goal.deallocate_block-requires
 deallocate_block-requires g c =
     let before = (goal.at.deallocate_block-requires g c).After-used_block-block in
     let (u, holds, start) = found g before in
-    (search rules, (c.self.invariant.valid, ((state g before, u, read g before, holds.0, start), search rules)))
+    (search rules, (IsValid-widest c.self.invariant.valid, ((state g before, u, read g before, holds.0, start), search rules)))
 
 -- what is kept of the state is the one without the payload
 kept : (g : given.Over) (c : After-deallocate g) (u : Used) → Holds (read_from c.self.inside.memory c.self.inside.state.state) (at c.args.addr) u

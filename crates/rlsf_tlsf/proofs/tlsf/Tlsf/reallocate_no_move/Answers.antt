@@ -8,6 +8,7 @@ use Rattle.rlsf_machine.specs.State.{State}
 use Rattle.rlsf_machine.proofs.CallerWords.{SeesResized, align_at-live, resized_seen}
 use Rattle.rlsf_machine.proofs.Coverage.{by_test}
 use Rattle.rlsf_machine.proofs.NoMove.{unmoved_is_reallocated}
+use Rattle.rlsf_table.proofs.Parameters.{IsValid-widest}
 use Rattle.rlsf_blocks.specs.Laws.{read_from}
 use Rattle.rlsf_blocks.specs.Spare.{KeepsSpare}
 use Rattle.rlsf_blocks.specs.StandsFor.{contents, StandsFor}
@@ -43,7 +44,7 @@ pub resize_block-requires : goal.resize_block-requires
 resize_block-requires g c =
     let before = (goal.at.resize_block-requires g c).After-used_block-block in
     let f = found g before in
-    (search rules, (c.self.invariant.valid, ((state g before, f.used, f.stands, f.used_at), search rules)))
+    (search rules, (IsValid-widest c.self.invariant.valid, ((state g before, f.used, f.stands, f.used_at), search rules)))
 
 -- ---- the refusal
 

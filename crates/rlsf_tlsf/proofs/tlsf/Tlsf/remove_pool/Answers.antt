@@ -5,6 +5,7 @@ use Rattle.rlsf_machine.specs.Remove.{IsIdle, Removes, removed}
 use Rattle.rlsf_machine.specs.Run.{remove}
 use Rattle.rlsf_machine.proofs.CallerWords.{SeesSame, same_seen}
 use Rattle.rlsf_machine.proofs.Callers.{callers_see_map}
+use Rattle.rlsf_table.proofs.Parameters.{IsValid-widest}
 use Rattle.rlsf_blocks.specs.Blocks.{walked}
 use Rattle.rlsf_blocks.specs.Laws.{read_from}
 use Rattle.rlsf_blocks.specs.Spare.{KeepsSpare}
@@ -21,7 +22,7 @@ pub remove_chunks-requires : goal.remove_chunks-requires
 remove_chunks-requires g c =
     let row = subst (λ (o : Allocator). IsRow o.state (walked c.args.range)) (sym c.self.view_is) c.requires.row in
     let idle = subst (λ (o : Allocator). IsIdle o.state (walked c.args.range)) (sym c.self.view_is) c.requires.idle in
-    (omega arith, (c.self.invariant.valid, (_, c.self.invariant.stands, row, idle)))
+    (omega arith, (IsValid-widest c.self.invariant.valid, (_, c.self.invariant.stands, row, idle)))
 
 -- the chunks are taken out
 removing : (g : given.Over) (c : After-remove_chunks g)
