@@ -9,6 +9,7 @@ use std::marker::Model;
 use std::mem::size_of;
 
 pub(crate) mod block;
+pub(crate) mod copying;
 pub(crate) mod counters;
 mod layout;
 mod range;
@@ -16,6 +17,7 @@ mod view;
 pub(crate) mod zeroed;
 
 use block::{Base, Bytes};
+use copying::copy_bytes;
 use counters::Counters;
 pub use layout::{Layout, LayoutError};
 pub use range::{Addr, Range};
@@ -293,7 +295,7 @@ impl Memory {
         let (base, first, len) = (self.base, self.len_and_skip % 8, self.len());
         let bytes = self.bytes.slice_mut(base, first, len);
         let from = range.start - start;
-        bytes.copy_within(from..from + range.len, to - start);
+        copy_bytes(bytes, from, range.len, to - start);
         self.counters.count_copy(range.len);
     }
 }
