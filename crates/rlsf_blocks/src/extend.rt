@@ -17,18 +17,17 @@ use crate::free::deallocate_block;
 use crate::pool::{SENTINEL, insert_chunks};
 use rlsf_base::classes;
 use rlsf_base::memory::{Memory, Range};
-use rlsf_int::Bitmap;
 use rlsf_table::{ClassTable, PREVIOUS_BLOCK, used_size_word};
 
 /// Makes the chunk that ends at `end` longer by `len` bytes. Its old sentinel and the new bytes but those of a new
 /// sentinel become free: joined with a free block before them, they are the newest free block.
-fn extend_chunk<FLBitmap: Bitmap, const FLLEN: usize, const SLLEN: usize>(
+fn extend_chunk<const FLLEN: usize, const SLLEN: usize>(
     memory: &mut Memory,
-    table: &mut ClassTable<FLBitmap, FLLEN, SLLEN>,
+    table: &mut ClassTable<FLLEN, SLLEN>,
     end: usize,
     len: usize,
 )
-    requires parameters { IsValid FLBitmap.width 128 FLLEN SLLEN }
+    requires parameters { IsValid 128 128 FLLEN SLLEN }
     requires extensible { (s : State) × (c : Range) × StandsFor FLLEN SLLEN (contents memory.old table.old) s × IsExtensible FLLEN (range_of memory.old) s c len × (end_of c ≡ end) }
     ensures step { AtEachExtensible FLLEN SLLEN memory.old table.old end len (λ s c. StandsAfter FLLEN SLLEN memory.old memory.new table.new s (grown c len s)) }
     ensures place { SamePlace memory.old memory.new }
@@ -48,12 +47,12 @@ fn extend_chunk<FLBitmap: Bitmap, const FLLEN: usize, const SLLEN: usize>(
 
 /// Hands in a range that begins where a chunk ends. Where chunks have a greatest length, the range becomes chunks of its
 /// own; else the chunk grows by the range's length rounded down to a multiple of 32. Answers how many bytes are taken.
-pub fn append_chunks<FLBitmap: Bitmap, const FLLEN: usize, const SLLEN: usize>(
+pub fn append_chunks<const FLLEN: usize, const SLLEN: usize>(
     memory: &mut Memory,
-    table: &mut ClassTable<FLBitmap, FLLEN, SLLEN>,
+    table: &mut ClassTable<FLLEN, SLLEN>,
     range: Range,
 ) -> usize
-    requires parameters { IsValid FLBitmap.width 128 FLLEN SLLEN }
+    requires parameters { IsValid 128 128 FLLEN SLLEN }
     requires next { (s : State) × StandsFor FLLEN SLLEN (contents memory.old table.old) s × IsNext (range_of memory.old) s range }
     ensures step { InEach FLLEN SLLEN memory.old table.old (λ s. IsNext (range_of memory.old) s range → StepsTo FLLEN SLLEN memory.old memory.new table.new s (Appends FLLEN s range result)) }
     ensures unchanged { result ≡ 0 → memory.new.bytes ≡ memory.old.bytes }
@@ -62,7 +61,7 @@ pub fn append_chunks<FLBitmap: Bitmap, const FLLEN: usize, const SLLEN: usize>(
     ensures grow { memory.old.touches ≤ memory.new.touches }
     ensures copied { memory.new.copied ≡ memory.old.copied }
 {
-    if classes::max_pool_size::<FLBitmap, u128, FLLEN, SLLEN>().is_some() {
+    if classes::max_pool_size::<u128, u128, FLLEN, SLLEN>().is_some() {
         return match insert_chunks(memory, table, range) {
             Some(taken) => taken.get(),
             None => 0,

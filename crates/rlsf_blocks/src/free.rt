@@ -18,7 +18,6 @@ ghost use Rattle.rlsf_blocks.specs.Steps.Standing.{AtEachUsed, StandsAfter};
 
 use crate::{GRANULARITY, HEADER};
 use rlsf_base::memory::{Memory, View};
-use rlsf_int::Bitmap;
 use rlsf_table::{
     ClassTable, PAD, PREVIOUS_BLOCK, is_free, link_free_block, unlink_free_block, used_end,
 };
@@ -40,13 +39,13 @@ pub fn used_block(memory: &mut Memory, view: View, payload: usize, align: usize)
 
 /// Takes the block at `block` out of its list, if it is free. Answers the bytes of the block that was taken out.
 #[inline(always)]
-fn take_free<FLBitmap: Bitmap, const FLLEN: usize, const SLLEN: usize>(
+fn take_free<const FLLEN: usize, const SLLEN: usize>(
     memory: &mut Memory,
     view: View,
-    table: &mut ClassTable<FLBitmap, FLLEN, SLLEN>,
+    table: &mut ClassTable<FLLEN, SLLEN>,
     block: usize,
 ) -> Option<usize>
-    requires parameters { IsValid FLBitmap.width 128 FLLEN SLLEN }
+    requires parameters { IsValid 128 128 FLLEN SLLEN }
     requires marked { (free : List Range) × IsFreeTable FLLEN SLLEN memory.old table.old free × IsMarked memory.old free block }
     requires view { view ≡ memory.old.view }
     ensures step { (free : List Range) → IsFreeTable FLLEN SLLEN memory.old table.old free → IsMarked memory.old free block → IsNextOut FLLEN SLLEN memory.old memory.new table.new free block (unwrap_or result 0) }
@@ -67,13 +66,13 @@ fn take_free<FLBitmap: Bitmap, const FLLEN: usize, const SLLEN: usize>(
 
 /// Takes the block at `block` out of its list, if it is free. Answers the bytes of the block that was taken out, or 0.
 #[inline(always)]
-pub fn take_if_free<FLBitmap: Bitmap, const FLLEN: usize, const SLLEN: usize>(
+pub fn take_if_free<const FLLEN: usize, const SLLEN: usize>(
     memory: &mut Memory,
     view: View,
-    table: &mut ClassTable<FLBitmap, FLLEN, SLLEN>,
+    table: &mut ClassTable<FLLEN, SLLEN>,
     block: usize,
 ) -> usize
-    requires parameters { IsValid FLBitmap.width 128 FLLEN SLLEN }
+    requires parameters { IsValid 128 128 FLLEN SLLEN }
     requires marked { (free : List Range) × IsFreeTable FLLEN SLLEN memory.old table.old free × IsMarked memory.old free block }
     requires view { view ≡ memory.old.view }
     ensures step { (free : List Range) → IsFreeTable FLLEN SLLEN memory.old table.old free → IsMarked memory.old free block → IsNextOut FLLEN SLLEN memory.old memory.new table.new free block result }
@@ -91,13 +90,13 @@ pub fn take_if_free<FLBitmap: Bitmap, const FLLEN: usize, const SLLEN: usize>(
 /// Takes the block before the used one at `block` out of its list, if it is free. Answers where the block that was taken
 /// out begins, or `block`.
 #[inline(always)]
-pub fn take_previous<FLBitmap: Bitmap, const FLLEN: usize, const SLLEN: usize>(
+pub fn take_previous<const FLLEN: usize, const SLLEN: usize>(
     memory: &mut Memory,
     view: View,
-    table: &mut ClassTable<FLBitmap, FLLEN, SLLEN>,
+    table: &mut ClassTable<FLLEN, SLLEN>,
     block: usize,
 ) -> usize
-    requires parameters { IsValid FLBitmap.width 128 FLLEN SLLEN }
+    requires parameters { IsValid 128 128 FLLEN SLLEN }
     requires used { (s : State) × (u : Used) × StandsFor FLLEN SLLEN (contents memory.old table.old) s × IsIn u s.used × (u.block.start ≡ block) }
     requires view { view ≡ memory.old.view }
     ensures step { AtEachUsed FLLEN SLLEN memory.old table.old block (λ s u. IsPreviousOut FLLEN SLLEN memory.old memory.new table.new s.free block result) }
@@ -118,14 +117,14 @@ pub fn take_previous<FLBitmap: Bitmap, const FLLEN: usize, const SLLEN: usize>(
 
 /// Makes a free block of the `len` bytes at `block`. The word that names the block before it stays.
 #[inline(always)]
-fn put<FLBitmap: Bitmap, const FLLEN: usize, const SLLEN: usize>(
+fn put<const FLLEN: usize, const SLLEN: usize>(
     memory: &mut Memory,
     view: View,
-    table: &mut ClassTable<FLBitmap, FLLEN, SLLEN>,
+    table: &mut ClassTable<FLLEN, SLLEN>,
     block: usize,
     len: usize,
 )
-    requires parameters { IsValid FLBitmap.width 128 FLLEN SLLEN }
+    requires parameters { IsValid 128 128 FLLEN SLLEN }
     requires room { (free : List Range) × (r : Range) × (r.start ≡ block) × (r.len ≡ len) × IsInnerRoom FLLEN SLLEN memory.old table.old free r }
     requires view { view ≡ memory.old.view }
     ensures step { (free : List Range) (r : Range) → r.start ≡ block → r.len ≡ len → IsInnerRoom FLLEN SLLEN memory.old table.old free r → IsNewFreeBlock FLLEN SLLEN memory.old memory.new table.new free r }
@@ -142,13 +141,13 @@ fn put<FLBitmap: Bitmap, const FLLEN: usize, const SLLEN: usize>(
 /// Makes the used block at `block` free: joined with a free block before it and a free block behind it, it becomes the
 /// newest.
 #[inline(always)]
-pub fn deallocate_block<FLBitmap: Bitmap, const FLLEN: usize, const SLLEN: usize>(
+pub fn deallocate_block<const FLLEN: usize, const SLLEN: usize>(
     memory: &mut Memory,
     view: View,
-    table: &mut ClassTable<FLBitmap, FLLEN, SLLEN>,
+    table: &mut ClassTable<FLLEN, SLLEN>,
     block: usize,
 )
-    requires parameters { IsValid FLBitmap.width 128 FLLEN SLLEN }
+    requires parameters { IsValid 128 128 FLLEN SLLEN }
     requires used { (s : State) × (u : Used) × StandsFor FLLEN SLLEN (contents memory.old table.old) s × IsIn u s.used × (u.block.start ≡ block) }
     requires view { view ≡ memory.old.view }
     ensures step { AtEachUsed FLLEN SLLEN memory.old table.old block (λ s u. StandsAfter FLLEN SLLEN memory.old memory.new table.new s (released s u)) }

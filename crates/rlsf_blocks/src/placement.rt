@@ -19,7 +19,6 @@ use crate::{GRANULARITY, HEADER};
 use rlsf_base::classes;
 use rlsf_base::memory::{Layout, Memory, View};
 use rlsf_base::rounding::next_multiple_of_32;
-use rlsf_int::Bitmap;
 use rlsf_table::{
     ClassIndex, ClassTable, FoundBlock, PAD, PREVIOUS_BLOCK, first_fit, link_free_block,
     unlink_newest_block, used_size_word,
@@ -27,15 +26,15 @@ use rlsf_table::{
 
 /// Makes a free block of what is left behind the first `taken` of the `len` bytes at `block`.
 #[inline(always)]
-pub fn leave_rest<FLBitmap: Bitmap, const FLLEN: usize, const SLLEN: usize>(
+pub fn leave_rest<const FLLEN: usize, const SLLEN: usize>(
     memory: &mut Memory,
     view: View,
-    table: &mut ClassTable<FLBitmap, FLLEN, SLLEN>,
+    table: &mut ClassTable<FLLEN, SLLEN>,
     block: usize,
     len: usize,
     taken: usize,
 )
-    requires parameters { IsValid FLBitmap.width 128 FLLEN SLLEN }
+    requires parameters { IsValid 128 128 FLLEN SLLEN }
     requires room { (free : List Range) × (r : Range) × (r.start ≡ block + taken) × (r.len + taken ≡ len) × IsInnerRoom FLLEN SLLEN memory.old table.old free r }
     requires view { view ≡ memory.old.view }
     ensures step { AtEachRest FLLEN SLLEN memory.old table.old block len taken (λ free r. IsFreeBlockBehind FLLEN SLLEN memory.old memory.new table.new free block r) }
@@ -54,16 +53,16 @@ pub fn leave_rest<FLBitmap: Bitmap, const FLLEN: usize, const SLLEN: usize>(
 /// Takes the free block of `len` bytes at `block` out of the list of its class `class`, for a block of its first `taken` bytes; a
 /// rest becomes a free block.
 #[inline(always)]
-fn take_out<FLBitmap: Bitmap, const FLLEN: usize, const SLLEN: usize>(
+fn take_out<const FLLEN: usize, const SLLEN: usize>(
     memory: &mut Memory,
     view: View,
-    table: &mut ClassTable<FLBitmap, FLLEN, SLLEN>,
+    table: &mut ClassTable<FLLEN, SLLEN>,
     block: usize,
     len: usize,
     class: ClassIndex,
     taken: usize,
 )
-    requires parameters { IsValid FLBitmap.width 128 FLLEN SLLEN }
+    requires parameters { IsValid 128 128 FLLEN SLLEN }
     requires class { IsClassAt FLLEN SLLEN len class.fl class.sl }
     requires taken { (s : State) × (f : Range) × StandsFor FLLEN SLLEN (contents memory.old table.old) s × IsTaken SLLEN s f block len taken }
     requires view { view ≡ memory.old.view }
@@ -104,14 +103,14 @@ fn front(block: usize, layout: Layout) -> (usize, usize)
 
 /// Makes a used block for a layout of the front of a free block, the choice for it. Answers the payload's address.
 #[inline(always)]
-fn place<FLBitmap: Bitmap, const FLLEN: usize, const SLLEN: usize>(
+fn place<const FLLEN: usize, const SLLEN: usize>(
     memory: &mut Memory,
     view: View,
-    table: &mut ClassTable<FLBitmap, FLLEN, SLLEN>,
+    table: &mut ClassTable<FLLEN, SLLEN>,
     found: FoundBlock,
     layout: Layout,
 ) -> usize
-    requires parameters { IsValid FLBitmap.width 128 FLLEN SLLEN }
+    requires parameters { IsValid 128 128 FLLEN SLLEN }
     requires class { IsClassAt FLLEN SLLEN (word_at memory.old found.start) found.class.fl found.class.sl }
     requires chosen { (s : State) × (f : Range) × StandsFor FLLEN SLLEN (contents memory.old table.old) s × (choice SLLEN (request_size layout.size layout.align) s.free ≡ Some f) × (f.start ≡ found.start) }
     requires view { view ≡ memory.old.view }
@@ -137,13 +136,13 @@ fn place<FLBitmap: Bitmap, const FLLEN: usize, const SLLEN: usize>(
 /// Makes a used block for a layout, of the front of the newest free block of the first class that reaches the size that is
 /// sought. Answers the payload's address, or `None` exactly where no free block's class reaches, and then nothing changes.
 #[inline(always)]
-pub fn allocate_block<FLBitmap: Bitmap, const FLLEN: usize, const SLLEN: usize>(
+pub fn allocate_block<const FLLEN: usize, const SLLEN: usize>(
     memory: &mut Memory,
     view: View,
-    table: &mut ClassTable<FLBitmap, FLLEN, SLLEN>,
+    table: &mut ClassTable<FLLEN, SLLEN>,
     layout: Layout,
 ) -> Option<usize>
-    requires parameters { IsValid FLBitmap.width 128 FLLEN SLLEN }
+    requires parameters { IsValid 128 128 FLLEN SLLEN }
     requires stands { (s : State) × StandsFor FLLEN SLLEN (contents memory.old table.old) s }
     requires view { view ≡ memory.old.view }
     ensures step { InEach FLLEN SLLEN memory.old table.old (λ s. StepsTo FLLEN SLLEN memory.old memory.new table.new s (Allocates SLLEN s layout.size layout.align result)) }

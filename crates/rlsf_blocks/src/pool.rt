@@ -15,7 +15,6 @@ ghost use Rattle.rlsf_blocks.specs.StandsFor.{contents, StandsFor};
 use crate::GRANULARITY;
 use rlsf_base::classes;
 use rlsf_base::memory::{Memory, Range};
-use rlsf_int::Bitmap;
 use rlsf_table::{ClassTable, PREVIOUS_BLOCK, SIZE_SENTINEL, SIZE_USED, link_free_block};
 use std::num::NonZeroUsize;
 
@@ -23,12 +22,12 @@ use std::num::NonZeroUsize;
 pub(crate) const SENTINEL: u64 = GRANULARITY as u64 + SIZE_USED + SIZE_SENTINEL;
 
 /// Makes a chunk of a range: one free block and a sentinel in the last 32 bytes.
-pub fn add_chunk<FLBitmap: Bitmap, const FLLEN: usize, const SLLEN: usize>(
+pub fn add_chunk<const FLLEN: usize, const SLLEN: usize>(
     memory: &mut Memory,
-    table: &mut ClassTable<FLBitmap, FLLEN, SLLEN>,
+    table: &mut ClassTable<FLLEN, SLLEN>,
     chunk: Range,
 )
-    requires parameters { IsValid FLBitmap.width 128 FLLEN SLLEN }
+    requires parameters { IsValid 128 128 FLLEN SLLEN }
     requires fresh { (s : State) × StandsFor FLLEN SLLEN (contents memory.old table.old) s × IsNewChunk FLLEN SLLEN memory.old s chunk }
     ensures step { (s : State) → StandsFor FLLEN SLLEN (contents memory.old table.old) s → IsNewChunk FLLEN SLLEN memory.old s chunk → IsAdded FLLEN SLLEN memory.old memory.new table.new s.free chunk }
     ensures touches { memory.new.touches ≤ memory.old.touches + 13 }
@@ -47,13 +46,13 @@ pub fn add_chunk<FLBitmap: Bitmap, const FLLEN: usize, const SLLEN: usize>(
 }
 
 // The length of the chunk that begins what is left of a range.
-fn chunk_length<FLBitmap: Bitmap, const FLLEN: usize, const SLLEN: usize>(left: usize) -> usize
-    requires parameters { IsValid FLBitmap.width 128 FLLEN SLLEN }
+fn chunk_length<const FLLEN: usize, const SLLEN: usize>(left: usize) -> usize
+    requires parameters { IsValid 128 128 FLLEN SLLEN }
     requires room { 64 ≤ left }
     ensures value { result ≡ first_length (max_pool_size FLLEN) left }
     ensures bounds { (64 ≤ result) × (result ≤ left) }
 {
-    match classes::max_pool_size::<FLBitmap, u128, FLLEN, SLLEN>() {
+    match classes::max_pool_size::<u128, u128, FLLEN, SLLEN>() {
         Some(most) => left.min(most),
         None => left,
     }
@@ -63,12 +62,12 @@ fn chunk_length<FLBitmap: Bitmap, const FLLEN: usize, const SLLEN: usize>(left: 
 /// the range's start up to the last chunk's end, or `None` without a chunk.
 // Out of line, since pools are rare: so the compiler keeps the memory's base in a register in the frequent calls.
 #[inline(never)]
-pub fn insert_chunks<FLBitmap: Bitmap, const FLLEN: usize, const SLLEN: usize>(
+pub fn insert_chunks<const FLLEN: usize, const SLLEN: usize>(
     memory: &mut Memory,
-    table: &mut ClassTable<FLBitmap, FLLEN, SLLEN>,
+    table: &mut ClassTable<FLLEN, SLLEN>,
     range: Range,
 ) -> Option<NonZeroUsize>
-    requires parameters { IsValid FLBitmap.width 128 FLLEN SLLEN }
+    requires parameters { IsValid 128 128 FLLEN SLLEN }
     requires fresh { (s : State) × StandsFor FLLEN SLLEN (contents memory.old table.old) s × IsFresh (range_of memory.old) s range }
     ensures step { InEach FLLEN SLLEN memory.old table.old (λ s. IsFresh (range_of memory.old) s range → StepsTo FLLEN SLLEN memory.old memory.new table.new s (Inserts FLLEN s range (reply result))) }
     ensures refused { IfNone result (memory.new.bytes ≡ memory.old.bytes) }
@@ -85,7 +84,7 @@ pub fn insert_chunks<FLBitmap: Bitmap, const FLLEN: usize, const SLLEN: usize>(
     let mut start = first;
     let mut left = (end - first) / GRANULARITY * GRANULARITY;
     while left >= 2 * GRANULARITY {
-        let len = chunk_length::<FLBitmap, FLLEN, SLLEN>(left);
+        let len = chunk_length::<FLLEN, SLLEN>(left);
         add_chunk(memory, table, Range { start, len });
         start += len;
         left -= len;

@@ -16,17 +16,16 @@ use crate::GRANULARITY;
 use crate::free::take_if_free;
 use crate::walks::span;
 use rlsf_base::memory::{Memory, Range};
-use rlsf_int::Bitmap;
 use rlsf_table::ClassTable;
 
 /// Takes out the chunk at `start`, of which no block is in use: its one free block leaves its list. Answers where the
 /// chunk ends.
-fn remove_chunk<FLBitmap: Bitmap, const FLLEN: usize, const SLLEN: usize>(
+fn remove_chunk<const FLLEN: usize, const SLLEN: usize>(
     memory: &mut Memory,
-    table: &mut ClassTable<FLBitmap, FLLEN, SLLEN>,
+    table: &mut ClassTable<FLLEN, SLLEN>,
     start: usize,
 ) -> usize
-    requires parameters { IsValid FLBitmap.width 128 FLLEN SLLEN }
+    requires parameters { IsValid 128 128 FLLEN SLLEN }
     requires idle { (s : State) × (c : Range) × StandsFor FLLEN SLLEN (contents memory.old table.old) s × IsIdleChunk s c start }
     ensures step { (s : State) (c : Range) → StandsFor FLLEN SLLEN (contents memory.old table.old) s → IsIdleChunk s c start → IsRemoved FLLEN SLLEN memory.old memory.new table.new s c result }
     ensures place { SamePlace memory.old memory.new }
@@ -45,12 +44,12 @@ fn remove_chunk<FLBitmap: Bitmap, const FLLEN: usize, const SLLEN: usize>(
 /// From there to there the range is a row of whole adjacent chunks, or empty.
 // Out of line, since pools are rare: so the compiler keeps the memory's base in a register in the frequent calls.
 #[inline(never)]
-pub fn remove_chunks<FLBitmap: Bitmap, const FLLEN: usize, const SLLEN: usize>(
+pub fn remove_chunks<const FLLEN: usize, const SLLEN: usize>(
     memory: &mut Memory,
-    table: &mut ClassTable<FLBitmap, FLLEN, SLLEN>,
+    table: &mut ClassTable<FLLEN, SLLEN>,
     range: Range,
 )
-    requires parameters { IsValid FLBitmap.width 128 FLLEN SLLEN }
+    requires parameters { IsValid 128 128 FLLEN SLLEN }
     requires idle { (s : State) × StandsFor FLLEN SLLEN (contents memory.old table.old) s × IsRow s (walked range) × IsIdle s (walked range) }
     ensures step { InEach FLLEN SLLEN memory.old table.old (λ s. IsRow s (walked range) → IsIdle s (walked range) → AreRemoved FLLEN SLLEN memory.old memory.new table.new s (walked range)) }
     ensures place { SamePlace memory.old memory.new }

@@ -13,7 +13,6 @@ use crate::elsewhere::move_elsewhere;
 use crate::previous::move_into_previous;
 use crate::resize::resize_block;
 use rlsf_base::memory::{Layout, Memory, View};
-use rlsf_int::Bitmap;
 use rlsf_table::ClassTable;
 
 /// Gives the payload at `payload`, in the used block at `block`, the layout's size: where it stands, else in the free
@@ -21,15 +20,15 @@ use rlsf_table::ClassTable;
 /// nothing changes.
 // Out of line, since it is long: so the compiler keeps the memory's base in a register in the short calls.
 #[inline(never)]
-pub fn reallocate_block<FLBitmap: Bitmap, const FLLEN: usize, const SLLEN: usize>(
+pub fn reallocate_block<const FLLEN: usize, const SLLEN: usize>(
     memory: &mut Memory,
     view: View,
-    table: &mut ClassTable<FLBitmap, FLLEN, SLLEN>,
+    table: &mut ClassTable<FLLEN, SLLEN>,
     block: usize,
     payload: usize,
     layout: Layout,
 ) -> Option<usize>
-    requires parameters { IsValid FLBitmap.width 128 FLLEN SLLEN }
+    requires parameters { IsValid 128 128 FLLEN SLLEN }
     requires used { (s : State) × (u : Used) × StandsFor FLLEN SLLEN (contents memory.old table.old) s × IsUsedAt s u block payload layout.align }
     requires view { view ≡ memory.old.view }
     ensures step { AtEachPayload FLLEN SLLEN memory.old table.old block payload layout (λ s u. IsReallocated FLLEN SLLEN memory.old memory.new table.new s u layout.size result) }

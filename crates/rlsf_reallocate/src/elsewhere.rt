@@ -11,7 +11,6 @@ ghost use Rattle.rlsf_reallocate.specs.Steps.Resize.{AtEachPayload, AtEachShort,
 
 use rlsf_base::memory::{Layout, Memory, Range, View};
 use rlsf_blocks::{allocate_block, deallocate_block};
-use rlsf_int::Bitmap;
 use rlsf_table::{ClassTable, used_end};
 
 /// Allocates a payload for the layout, moves the bytes of the payload at `payload` there, whose used block is at
@@ -19,15 +18,15 @@ use rlsf_table::{ClassTable, used_end};
 /// changes.
 ///
 /// The old block is too short for the layout.
-pub fn move_elsewhere<FLBitmap: Bitmap, const FLLEN: usize, const SLLEN: usize>(
+pub fn move_elsewhere<const FLLEN: usize, const SLLEN: usize>(
     memory: &mut Memory,
     view: View,
-    table: &mut ClassTable<FLBitmap, FLLEN, SLLEN>,
+    table: &mut ClassTable<FLLEN, SLLEN>,
     block: usize,
     payload: usize,
     layout: Layout,
 ) -> Option<usize>
-    requires parameters { IsValid FLBitmap.width 128 FLLEN SLLEN }
+    requires parameters { IsValid 128 128 FLLEN SLLEN }
     requires view { view ≡ memory.old.view }
     requires used { (s : State) × (u : Used) × StandsFor FLLEN SLLEN (contents memory.old table.old) s × IsUsedAt s u block payload layout.align × (in_place s u layout.size ≡ None) }
     ensures step { AtEachShort FLLEN SLLEN memory.old table.old block payload layout (λ s u. IsElsewhere FLLEN SLLEN memory.old memory.new table.new s u layout.size result) }

@@ -18,7 +18,6 @@ use crate::resize::{free_length, occupy};
 use rlsf_base::memory::{Layout, Memory, Range, View};
 use rlsf_base::rounding::next_multiple_of_32;
 use rlsf_blocks::{GRANULARITY, HEADER, take_if_free, take_previous};
-use rlsf_int::Bitmap;
 use rlsf_table::{ClassTable, PAD, PREVIOUS_BLOCK, used_end};
 
 /// Where the free block before the used one at `block` begins, or `block` where none is before it.
@@ -69,15 +68,15 @@ fn place_before(
 /// free block; all bytes of the payload are kept.
 ///
 /// The block is too short for the layout where it stands.
-pub(crate) fn move_into_previous<FLBitmap: Bitmap, const FLLEN: usize, const SLLEN: usize>(
+pub(crate) fn move_into_previous<const FLLEN: usize, const SLLEN: usize>(
     memory: &mut Memory,
     view: View,
-    table: &mut ClassTable<FLBitmap, FLLEN, SLLEN>,
+    table: &mut ClassTable<FLLEN, SLLEN>,
     block: usize,
     payload: usize,
     layout: Layout,
 ) -> Option<usize>
-    requires parameters { IsValid FLBitmap.width 128 FLLEN SLLEN }
+    requires parameters { IsValid 128 128 FLLEN SLLEN }
     requires used { (s : State) × (u : Used) × StandsFor FLLEN SLLEN (contents memory.old table.old) s × IsUsedAt s u block payload layout.align × (in_place s u layout.size ≡ None) }
     requires view { view ≡ memory.old.view }
     ensures moved { AtEachShort FLLEN SLLEN memory.old table.old block payload layout

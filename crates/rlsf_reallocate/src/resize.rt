@@ -18,7 +18,6 @@ ghost use Rattle.rlsf_table.specs.Table.{Table};
 use rlsf_base::memory::{Layout, Memory, View};
 use rlsf_base::rounding::next_multiple_of_32;
 use rlsf_blocks::{leave_rest, take_if_free};
-use rlsf_int::Bitmap;
 use rlsf_table::{ClassTable, PREVIOUS_BLOCK, is_free, len_of_used, used_size_word};
 
 /// The bytes of the free block at `block`, or 0 where no free block begins.
@@ -34,15 +33,15 @@ pub(crate) fn free_length(memory: &mut Memory, view: View, block: usize) -> usiz
 
 /// Makes a used block of the first `taken` of the `total` bytes at `block`, which are no block's; a rest becomes a free
 /// block. The word that names the block before it stays, and so do the bytes of the used block behind its first 16.
-pub(crate) fn occupy<FLBitmap: Bitmap, const FLLEN: usize, const SLLEN: usize>(
+pub(crate) fn occupy<const FLLEN: usize, const SLLEN: usize>(
     memory: &mut Memory,
     view: View,
-    table: &mut ClassTable<FLBitmap, FLLEN, SLLEN>,
+    table: &mut ClassTable<FLLEN, SLLEN>,
     block: usize,
     total: usize,
     taken: usize,
 )
-    requires parameters { IsValid FLBitmap.width 128 FLLEN SLLEN }
+    requires parameters { IsValid 128 128 FLLEN SLLEN }
     requires room { (free : List Range) × (span : Range) × (span.start ≡ block) × (span.len ≡ total) × IsInnerRoom FLLEN SLLEN memory.old table.old free span }
     requires part { (taken % 32 ≡ 0) × (0 < taken) × (taken ≤ total) }
     requires view { view ≡ memory.old.view }
@@ -63,15 +62,15 @@ pub(crate) fn occupy<FLBitmap: Bitmap, const FLLEN: usize, const SLLEN: usize>(
 /// Gives the used block at `block` another size where it stands, if its own bytes and those of a free block behind it
 /// suffice, and answers whether they do. What is left of them becomes a free block; if nothing is left over and nothing
 /// more is taken, nothing changes.
-pub fn resize_block<FLBitmap: Bitmap, const FLLEN: usize, const SLLEN: usize>(
+pub fn resize_block<const FLLEN: usize, const SLLEN: usize>(
     memory: &mut Memory,
     view: View,
-    table: &mut ClassTable<FLBitmap, FLLEN, SLLEN>,
+    table: &mut ClassTable<FLLEN, SLLEN>,
     block: usize,
     payload: usize,
     layout: Layout,
 ) -> bool
-    requires parameters { IsValid FLBitmap.width 128 FLLEN SLLEN }
+    requires parameters { IsValid 128 128 FLLEN SLLEN }
     requires used { (s : State) × (u : Used) × StandsFor FLLEN SLLEN (contents memory.old table.old) s × IsUsedAt s u block payload layout.align }
     requires view { view ≡ memory.old.view }
     ensures done { AtEachPayload FLLEN SLLEN memory.old table.old block payload layout

@@ -10,7 +10,6 @@ ghost use Rattle.rlsf_table.specs.FreeTable.{IsFirstFit, IsFreeTable};
 use crate::table::{ClassIndex, ClassTable};
 use rlsf_base::classes::map_ceil;
 use rlsf_base::memory::Memory;
-use rlsf_int::Bitmap;
 
 /// A free block that a search found.
 #[derive(Clone, Copy)]
@@ -25,18 +24,18 @@ pub struct FoundBlock {
 /// reaches it. At most 4 touches.
 ///
 /// The size is a multiple of 32 that is not 0; table and memory are those of some free blocks.
-pub fn first_fit<FLBitmap: Bitmap, const FLLEN: usize, const SLLEN: usize>(
+pub fn first_fit<const FLLEN: usize, const SLLEN: usize>(
     memory: &mut Memory,
-    table: &ClassTable<FLBitmap, FLLEN, SLLEN>,
+    table: &ClassTable<FLLEN, SLLEN>,
     size: usize,
 ) -> Option<FoundBlock>
-    requires parameters { IsValid FLBitmap.width 128 FLLEN SLLEN }
+    requires parameters { IsValid 128 128 FLLEN SLLEN }
     requires size { IsSize size }
     requires list { (free : List Range) × IsFreeTable FLLEN SLLEN memory.old table.now free }
     ensures choice { (free : List Range) → IsFreeTable FLLEN SLLEN memory.old table.now free → IsFirstFit FLLEN SLLEN size free result }
     ensures counts { Counts memory.old memory.new 4 }
 {
-    let (fl, sl) = map_ceil::<FLBitmap, u128, FLLEN, SLLEN>(size)?;
+    let (fl, sl) = map_ceil::<u128, u128, FLLEN, SLLEN>(size)?;
     let class = table.first_from(memory, fl, sl)?;
     Some(FoundBlock {
         start: table.head(memory, class.fl, class.sl),

@@ -14,7 +14,6 @@ use crate::block_words::{NEXT_FREE, PREVIOUS_FREE};
 use crate::table::{ClassIndex, ClassTable};
 use rlsf_base::classes::class_of;
 use rlsf_base::memory::{Memory, View};
-use rlsf_int::Bitmap;
 
 /// Where the link to the block before lies that is written when the list from `first` on gets another front: in its first
 /// block, or where it has none, in the block at `block`, which isn't in it. So the word is written in either case: whether
@@ -93,14 +92,14 @@ fn unlink_between(memory: &mut Memory, view: View, block: usize) -> Option<usize
 /// Table and memory are those of some free blocks, of valid classes, with their size words, none of which overlap, and the
 /// block can be one beside them.
 #[inline(always)]
-pub fn link_free_block<FLBitmap: Bitmap, const FLLEN: usize, const SLLEN: usize>(
+pub fn link_free_block<const FLLEN: usize, const SLLEN: usize>(
     memory: &mut Memory,
     view: View,
-    table: &mut ClassTable<FLBitmap, FLLEN, SLLEN>,
+    table: &mut ClassTable<FLLEN, SLLEN>,
     block: usize,
     len: usize,
 )
-    requires parameters { IsValid FLBitmap.width 128 FLLEN SLLEN }
+    requires parameters { IsValid 128 128 FLLEN SLLEN }
     requires room { (r : Range) × (free : List Range) × (r.start ≡ block) × (r.len ≡ len) × IsRoom FLLEN SLLEN memory.old table.old free r }
     requires view { view ≡ memory.old.view }
     ensures step { AtEachRoom FLLEN SLLEN memory.old table.old block len (IsLinked FLLEN SLLEN memory.old memory.new table.new) }
@@ -121,14 +120,14 @@ pub fn link_free_block<FLBitmap: Bitmap, const FLLEN: usize, const SLLEN: usize>
 /// Table and memory are those of some free blocks, of valid classes, with their size words, none of which overlap, and the
 /// block is one of them.
 #[inline(always)]
-pub fn unlink_free_block<FLBitmap: Bitmap, const FLLEN: usize, const SLLEN: usize>(
+pub fn unlink_free_block<const FLLEN: usize, const SLLEN: usize>(
     memory: &mut Memory,
     view: View,
-    table: &mut ClassTable<FLBitmap, FLLEN, SLLEN>,
+    table: &mut ClassTable<FLLEN, SLLEN>,
     block: usize,
     len: usize,
 )
-    requires parameters { IsValid FLBitmap.width 128 FLLEN SLLEN }
+    requires parameters { IsValid 128 128 FLLEN SLLEN }
     requires listed { (r : Range) × (free : List Range) × (r.start ≡ block) × (r.len ≡ len) × IsIn r free × IsFreeTable FLLEN SLLEN memory.old table.old free }
     requires view { view ≡ memory.old.view }
     ensures step { AtEachListed FLLEN SLLEN memory.old table.old block len (IsUnlinked FLLEN SLLEN memory.old memory.new table.new) }
@@ -150,14 +149,14 @@ pub fn unlink_free_block<FLBitmap: Bitmap, const FLLEN: usize, const SLLEN: usiz
 /// Table and memory are those of some free blocks, of valid classes, with their size words, none of which overlap; the block is
 /// one of them, has that class, and none before it has.
 #[inline(always)]
-pub fn unlink_newest_block<FLBitmap: Bitmap, const FLLEN: usize, const SLLEN: usize>(
+pub fn unlink_newest_block<const FLLEN: usize, const SLLEN: usize>(
     memory: &mut Memory,
     view: View,
-    table: &mut ClassTable<FLBitmap, FLLEN, SLLEN>,
+    table: &mut ClassTable<FLLEN, SLLEN>,
     block: usize,
     class: ClassIndex,
 )
-    requires parameters { IsValid FLBitmap.width 128 FLLEN SLLEN }
+    requires parameters { IsValid 128 128 FLLEN SLLEN }
     requires newest { (r : Range) × (before after : List Range) × (r.start ≡ block) × IsNewestAt FLLEN SLLEN r before class.fl class.sl × IsFreeTable FLLEN SLLEN memory.old table.old (before ++ r ∷ after) }
     requires view { view ≡ memory.old.view }
     ensures step { AtEachNewest FLLEN SLLEN memory.old table.old block class.fl class.sl (IsUnlinked FLLEN SLLEN memory.old memory.new table.new) }

@@ -1,10 +1,10 @@
-//! The second level of a class table: which places of its rows have a one.
+//! Rows of places that have a one or none: the two levels of a class table.
 
-ghost use Rattle.std.specs.Prelude.{◌≡◌, ◌≢◌, ℕ, ◌<◌, ◌≤◌, ◌↔◌, ◌||◌, ◌==◌, false, IsTrue, slice_index};
+ghost use Rattle.std.specs.Prelude.{◌≡◌, ◌≢◌, ℕ, ◌+◌, ◌<◌, ◌≤◌, ◌↔◌, ◌||◌, ◌==◌, false, IsTrue, slice_index};
 ghost use Rattle.rlsf_int.specs.Bits.{bit, IsFirstOne};
 ghost use Rattle.rlsf_table.specs.Steps.Places.{joined, row_word, scanned_places, IsFirstFrom};
 
-use rlsf_int::BinInteger;
+use rlsf_int::{BinInteger, Bitmap};
 
 /// Which places of each row have a one. A row of 64 places or fewer is one word, and its scan one of that word; a row of 128 is
 /// two words.
@@ -102,6 +102,19 @@ impl<const FLLEN: usize, const SLLEN: usize> Rows<FLLEN, SLLEN> {
         }
     }
 
+    /// The least place of a row behind `place` that has a one, or the number of scanned places where none has.
+    pub(crate) fn first_behind(&self, fl: usize, place: usize) -> usize
+        requires { (fl < FLLEN) × (place < SLLEN) × (SLLEN ≤ 128) }
+        ensures { IsFirstOne (scanned_places SLLEN) (row_word SLLEN self.now.low self.now.high fl) (place + 1) result }
+    {
+        let start = place as u32 + 1;
+        if SLLEN <= 64 {
+            self.low[fl].bit_scan_forward(start) as usize
+        } else {
+            self.both(fl).bit_scan_forward(start) as usize
+        }
+    }
+
     /// The least place of a row that has a one, or the number of scanned places where none has.
     pub(crate) fn first(&self, fl: usize) -> usize
         requires { fl < FLLEN }
@@ -112,6 +125,21 @@ impl<const FLLEN: usize, const SLLEN: usize> Rows<FLLEN, SLLEN> {
         } else {
             self.both(fl).trailing_zeros() as usize
         }
+    }
+
+    /// The bitmap of a row: a place's position has a one exactly where the place has.
+    pub(crate) fn bitmap<B: Bitmap>(&self, fl: usize) -> B
+        requires { (fl < FLLEN) × (SLLEN ≤ B.width) }
+        ensures within { (place : ℕ) → place < SLLEN → bit (B.pattern result) place ≡ bit (row_word SLLEN self.now.low self.now.high fl) place }
+        ensures past { (place : ℕ) → SLLEN ≤ place → bit (B.pattern result) place ≡ false }
+    {
+        let mut places = B::empty();
+        for place in 0..SLLEN {
+            if self.has(fl, place) {
+                places.insert(place as u32);
+            }
+        }
+        places
     }
 
     // The two words of a row as one.

@@ -13,7 +13,7 @@ ghost use Rattle.rlsf_table.specs.Table.{IsHeadSet, class_at, head_at, HasBits, 
 
 use crate::rows::Rows;
 use rlsf_base::memory::Memory;
-use rlsf_int::{BitPattern, Bitmap};
+use rlsf_int::Bitmap;
 use std::marker::Model;
 
 /// Where a class stands in a table: its row, below `FLLEN`, and its place in the row, below `SLLEN`.
@@ -28,39 +28,38 @@ pub struct ClassIndex {
 /// Which classes have free blocks, and where the list of each begins.
 ///
 /// A class is named by its row, below `FLLEN`, and its place in the row, below `SLLEN`; a block by its address, and 0 means none.
-/// The parameters are valid: from 1 to `FLBitmap`'s bits rows, of a power of two of classes that is at most 128.
+/// The parameters are valid: from 1 to 128 rows, of a power of two of classes that is at most 128.
 /// Each read or write of a word of the table counts as a touch of the memory that it is handed; `newest`, `fl_bitmap` and
 /// `sl_bitmap`, which are handed none, count nothing.
 #[derive(Drop)]
-pub struct ClassTable<FLBitmap: BitPattern, const FLLEN: usize, const SLLEN: usize> {
-    // The rows that have a free block.
-    fl_bitmap: FLBitmap,
+pub struct ClassTable<const FLLEN: usize, const SLLEN: usize> {
+    // Which rows have a free block, as the places of one row.
+    first_level: Rows<1, FLLEN>,
     // The classes of each row that have one.
     rows: Rows<FLLEN, SLLEN>,
     // The newest free block of each class, or 0.
     heads: [[usize; SLLEN]; FLLEN],
 }
 
-impl<FLBitmap: BitPattern, const FLLEN: usize, const SLLEN: usize> Model
-    for ClassTable<FLBitmap, FLLEN, SLLEN> {
+impl<const FLLEN: usize, const SLLEN: usize> Model for ClassTable<FLLEN, SLLEN> {
     ghost use Rattle.rlsf_table.specs.Table.{Table, HasPlaces};
-    ghost use Rattle.rlsf_table.specs.Steps.Places.{row_words};
+    ghost use Rattle.rlsf_table.specs.Steps.Places.{row_word, row_words};
 
     ghost Value = { Table };
 
-    ghost view = { λ t. record { first_level = FLBitmap.pattern t.fl_bitmap; second_level = row_words FLLEN SLLEN t.rows.low t.rows.high; heads = t.heads } };
+    ghost view = { λ t. record { first_level = row_word FLLEN t.first_level.low t.first_level.high 0; second_level = row_words FLLEN SLLEN t.rows.low t.rows.high; heads = t.heads } };
 
     // Each row has a head for each class.
     ghost invariant = { λ t. HasPlaces FLLEN SLLEN t.heads };
 }
 
-impl<FLBitmap: Bitmap, const FLLEN: usize, const SLLEN: usize> ClassTable<FLBitmap, FLLEN, SLLEN> {
+impl<const FLLEN: usize, const SLLEN: usize> ClassTable<FLLEN, SLLEN> {
     /// A table of no blocks, of any memory.
     pub fn new() -> Self
         ensures { (m : Space) → HasTable FLLEN SLLEN m result [] }
     {
         ClassTable {
-            fl_bitmap: FLBitmap::empty(),
+            first_level: Rows::new(),
             rows: Rows::new(),
             heads: [[0; SLLEN]; FLLEN],
         }
@@ -78,29 +77,26 @@ impl<FLBitmap: Bitmap, const FLLEN: usize, const SLLEN: usize> ClassTable<FLBitm
     }
 
     /// The first-level bitmap: a row's position has a one exactly where a block of the row is free. Not counted.
-    pub fn fl_bitmap(&self) -> FLBitmap
-        ensures { FLBitmap.pattern result ≡ self.now.first_level }
+    ///
+    /// It has a position for each row.
+    pub fn fl_bitmap<FLBitmap: Bitmap>(&self) -> FLBitmap
+        requires { FLLEN ≤ FLBitmap.width }
+        ensures within { (fl : ℕ) → fl < FLLEN → bit (FLBitmap.pattern result) fl ≡ bit self.now.first_level fl }
+        ensures past { (fl : ℕ) → FLLEN ≤ fl → bit (FLBitmap.pattern result) fl ≡ false }
     {
-        let ClassTable { fl_bitmap, .. } = self;
-        *fl_bitmap
+        self.first_level.bitmap(0)
     }
 
     /// The second-level bitmap of a row: a place's position has a one exactly where a block of that class is free. Not counted.
     ///
-    /// The row is below `FLLEN`.
+    /// The row is below `FLLEN`. The bitmap has a position for each place.
     pub fn sl_bitmap<SLBitmap: Bitmap>(&self, fl: usize) -> SLBitmap
-        requires parameters { IsValid FLBitmap.width SLBitmap.width FLLEN SLLEN }
+        requires width { SLLEN ≤ SLBitmap.width }
         requires row { fl < FLLEN }
         ensures within { (sl : ℕ) → sl < SLLEN → bit (SLBitmap.pattern result) sl ≡ bit (slice_index self.now.second_level fl) sl }
         ensures past { (sl : ℕ) → SLLEN ≤ sl → bit (SLBitmap.pattern result) sl ≡ false }
     {
-        let mut places = SLBitmap::empty();
-        for place in 0..SLLEN {
-            if self.rows.has(fl, place) {
-                places.insert(place as u32);
-            }
-        }
-        places
+        self.rows.bitmap(fl)
     }
 
     /// The address of the newest free block of a class, or 0 if none is free. At most one touch.
@@ -119,7 +115,7 @@ impl<FLBitmap: Bitmap, const FLLEN: usize, const SLLEN: usize> ClassTable<FLBitm
     ///
     /// The row is below `FLLEN`, and the place below `SLLEN`.
     pub fn put(&mut self, memory: &mut Memory, fl: usize, sl: usize, block: usize)
-        requires parameters { IsValid FLBitmap.width 128 FLLEN SLLEN }
+        requires parameters { IsValid 128 128 FLLEN SLLEN }
         requires class { (fl < FLLEN) × (sl < SLLEN) }
         ensures heads { IsHeadSet FLLEN SLLEN self.old self.new fl sl block }
         ensures bits { (r : Range) (free : List Range) → class_of SLLEN r.len ≡ class_at fl sl → HasBits FLLEN SLLEN self.old free → HasBits FLLEN SLLEN self.new (r ∷ free) }
@@ -132,7 +128,7 @@ impl<FLBitmap: Bitmap, const FLLEN: usize, const SLLEN: usize> ClassTable<FLBitm
         self.rows.insert(fl, sl);
         memory.touch();
         memory.touch();
-        self.fl_bitmap.insert_within(fl as u32);
+        self.first_level.insert(0, fl);
     }
 
     /// Makes the block at the address `next` the newest one of a class whose newest one was taken out; 0 if no block of the class
@@ -140,7 +136,7 @@ impl<FLBitmap: Bitmap, const FLLEN: usize, const SLLEN: usize> ClassTable<FLBitm
     ///
     /// The row is below `FLLEN`, and the place below `SLLEN`.
     pub fn take(&mut self, memory: &mut Memory, fl: usize, sl: usize, next: usize)
-        requires parameters { IsValid FLBitmap.width 128 FLLEN SLLEN }
+        requires parameters { IsValid 128 128 FLLEN SLLEN }
         requires class { (fl < FLLEN) × (sl < SLLEN) }
         ensures heads { IsHeadSet FLLEN SLLEN self.old self.new fl sl next }
         ensures bits { HasBitsWithout FLLEN SLLEN self.old self.new fl sl next }
@@ -156,7 +152,7 @@ impl<FLBitmap: Bitmap, const FLLEN: usize, const SLLEN: usize> ClassTable<FLBitm
             if self.rows.is_empty(fl) {
                 memory.touch();
                 memory.touch();
-                self.fl_bitmap.remove_within(fl as u32);
+                self.first_level.remove(0, fl);
             }
         }
     }
@@ -165,7 +161,7 @@ impl<FLBitmap: Bitmap, const FLLEN: usize, const SLLEN: usize> ClassTable<FLBitm
     ///
     /// The row is below `FLLEN`, and the place below `SLLEN`.
     pub fn first_from(&self, memory: &mut Memory, fl: usize, sl: usize) -> Option<ClassIndex>
-        requires parameters { IsValid FLBitmap.width 128 FLLEN SLLEN }
+        requires parameters { IsValid 128 128 FLLEN SLLEN }
         requires class { (fl < FLLEN) × (sl < SLLEN) }
         ensures first { (free : List Range) → HasBits FLLEN SLLEN self.now free → ((f : Range) → IsIn f free → IsFree FLLEN SLLEN f) → IsLeastFrom FLLEN SLLEN fl sl free result }
         ensures counts { Counts memory.old memory.new 3 }
@@ -175,7 +171,7 @@ impl<FLBitmap: Bitmap, const FLLEN: usize, const SLLEN: usize> ClassTable<FLBitm
             return Some(ClassIndex { fl, sl: place });
         }
         memory.touch();
-        let row = self.fl_bitmap.first_from(fl as u32 + 1) as usize;
+        let row = self.first_level.first_behind(0, fl);
         if row >= FLLEN {
             return None;
         }

@@ -47,9 +47,9 @@ pub struct Tlsf<
     const SLLEN: usize,
 > {
     memory: Memory,
-    table: ClassTable<FLBitmap, FLLEN, SLLEN>,
+    table: ClassTable<FLLEN, SLLEN>,
     state: GhostState,
-    marker: PhantomData<SLBitmap>,
+    bitmaps: PhantomData<(FLBitmap, SLBitmap)>,
 }
 
 impl<FLBitmap: BitPattern, SLBitmap: BitPattern, const FLLEN: usize, const SLLEN: usize> Model
@@ -89,7 +89,7 @@ impl<FLBitmap: Bitmap, SLBitmap: Bitmap, const FLLEN: usize, const SLLEN: usize>
             memory,
             table: ClassTable::new(),
             state: GhostState::new(),
-            marker: PhantomData,
+            bitmaps: PhantomData,
         }
     }
 

@@ -1,5 +1,5 @@
 -- What is read of the class table of a value, in the words of the state that it stands for.
-use Rattle.std.proofs.Common.{◌≡◌, ℕ, ◌<◌, ◌≤◌, false, List, [], ◌∷◌, Option, Some, MatchOption, option_map, slice_index, arith, refl, sym, ◌∙◌, ap, subst, inl, inr}
+use Rattle.std.proofs.Common.{◌≡◌, ℕ, ◌+◌, ◌<◌, ◌≤◌, false, List, [], ◌∷◌, Option, Some, MatchOption, option_map, slice_index, arith, refl, sym, ◌∙◌, ap, subst, inl, inr}
 use Rattle.std.specs.Int.NonZero.{non_zero_usize_get}
 use Rattle.std.specs.List.{list_any}
 use Rattle.std.specs.declared.num.NonZeroUsize.{NonZeroUsize}
@@ -13,7 +13,7 @@ use Rattle.rlsf_machine.specs.Allocate.{has_class}
 use Rattle.rlsf_machine.specs.Lists.{IsIn}
 use Rattle.rlsf_machine.specs.State.{State}
 use Rattle.rlsf_table.specs.FreeList.{Links}
-use Rattle.rlsf_table.specs.Table.{class_at, head_at, newest_of, of_class}
+use Rattle.rlsf_table.specs.Table.{class_at, head_at, is_in_row, newest_of, of_class}
 use Rattle.rlsf_table.proofs.FreeLists.Classes.{IsIn-of_class}
 use Rattle.rlsf_table.proofs.Tables.Tests.{list_any-false}
 use Rattle.rlsf_blocks.specs.StandsFor.{Contents, StandsFor}
@@ -25,6 +25,20 @@ newest_of-Links : (m : Space) (xs : List Range) (head : ℕ) (o : Option NonZero
     → option_map non_zero_usize_get o ≡ newest_of xs
 newest_of-Links m [] head o is links some = (number o head is).0 links
 newest_of-Links m (f ∷ fs) head o is links some = (number o head is).1 (omega (arith, links.0, some f (inl refl))) ∙ ap (λ n. Some n) links.0
+
+module _ (fllen sllen : ℕ) (v : Contents) (s : State) (stands : StandsFor fllen sllen v s) where
+  -- no range is in a row past the last one
+  past_rows : (fl : ℕ) → fllen ≤ fl → list_any (is_in_row sllen fl) s.free ≡ false
+  past_rows fl past = list_any-false (is_in_row sllen fl) s.free (λ f i.
+      ne_eqb (class_of sllen f.len).exponent (5 + fl) (λ same. let valid = (stands.well_formed.free f i).valid in omega (arith, valid, same)))
+
+  -- the first level, read row by row
+  pub rows_of-first_level : (read : ℕ) → ((fl : ℕ) → fl < fllen → bit read fl ≡ bit v.table.first_level fl) → ((fl : ℕ) → fllen ≤ fl → bit read fl ≡ false)
+      → (fl : ℕ) → bit read fl ≡ list_any (is_in_row sllen fl) s.free
+  rows_of-first_level read within past fl = elim (cases_lt fl fllen) [
+    | inl row ↦ within fl row ∙ stands.table.bits.first fl
+    | inr behind ↦ past fl behind ∙ sym (past_rows fl behind)
+  ]
 
 module _ (fllen sllen : ℕ) (v : Contents) (s : State) (stands : StandsFor fllen sllen v s) (fl : ℕ) (row : fl < fllen) where
   -- no free range begins at 0

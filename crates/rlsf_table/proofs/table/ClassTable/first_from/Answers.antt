@@ -18,12 +18,12 @@ returns-then-row-clause-first g c free bits blocks =
     let some = row_length-bounds g.row.SLLEN c.requires.parameters.power_of_two in
     let inside = subst (λ t. HasBits g.row.FLLEN g.row.SLLEN t free) (sym c.self.view_is) bits in
     let scan = IsFirstOne-row g.row.FLLEN g.row.SLLEN _ _ c.args.fl c.requires.class.0 c.in_default.ensures in
-    IsLeastFrom-none some.0 inside blocks c.requires.class.0 scan (scanned_places-whole_row g.row.SLLEN some.1) (omega arith) c.first_from-row.ensures c.if-row.true
+    IsLeastFrom-none some.0 inside blocks c.requires.class.0 scan (scanned_places-whole_row g.row.SLLEN some.1) (omega arith) c.first_behind-row.ensures c.if-row.true
 
 pub returns-clause-first : goal.returns-clause-first
 returns-clause-first g c free bits blocks =
     let some = row_length-bounds g.row.SLLEN c.requires.parameters.power_of_two in
     let inside = subst (λ t. HasBits g.row.FLLEN g.row.SLLEN t free) (sym c.self.view_is) bits in
     let scan = IsFirstOne-row g.row.FLLEN g.row.SLLEN _ _ c.args.fl c.requires.class.0 c.in_default.ensures in
-    let behind = IsFirstOne-row g.row.FLLEN g.row.SLLEN _ _ c.first_from-row.result c.if-row.false c.first.ensures in
-    IsLeastFrom-row_behind some.0 inside blocks c.requires.class.0 scan (scanned_places-whole_row g.row.SLLEN some.1) (omega arith) c.first_from-row.ensures c.if-row.false c.requires.parameters.rows_fit behind
+    let behind = IsFirstOne-row g.row.FLLEN g.row.SLLEN _ _ c.first_behind-row.result c.if-row.false c.first.ensures in
+    IsLeastFrom-row_behind some.0 inside blocks c.requires.class.0 scan (scanned_places-whole_row g.row.SLLEN some.1) (omega arith) c.first_behind-row.ensures c.if-row.false (scanned_places-whole_row g.row.FLLEN c.requires.parameters.rows_fit) behind

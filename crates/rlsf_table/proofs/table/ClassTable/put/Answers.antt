@@ -19,7 +19,7 @@ pub returns-clause-bits : goal.returns-clause-bits
 returns-clause-bits g c r free class bits =
     let inside = subst (λ t. HasBits g.row.FLLEN g.row.SLLEN t free) (sym c.self.view_is) bits in
     HasBits-put g.row.FLLEN g.row.SLLEN c.args.fl c.args.sl _ _ r free class (record {
-      first = c.insert_within.ensures;
+      first = c.insert-2.ensures.own;
       rows = row_words-length g.row.FLLEN g.row.SLLEN _ _;
       second = λ k. rows-bit_set g.row.FLLEN g.row.SLLEN _ _ _ _ c.args.fl c.requires.class.0 k c.args.sl (c.insert.ensures.own k);
       others = λ i within apart. rows-same g.row.FLLEN g.row.SLLEN _ _ _ _ i within (c.insert.ensures.others i apart);

@@ -3,7 +3,7 @@ use Rattle.std.proofs.Common.{true≢false, ◌∙◌, ap, refl, sym, subst, ◌
 use Rattle.rlsf_int.specs.Bits.{bit}
 use Rattle.rlsf_table.specs.Table.{HasBits}
 use Rattle.rlsf_table.proofs.Tables.Heads.{HasPlaces-written, IsHeadSet-opened}
-use Rattle.rlsf_table.proofs.Tables.Bits.{bit-cleared, bit-kept, HasBits-some_left, HasBits-row_left, HasBits-none_left}
+use Rattle.rlsf_table.proofs.Tables.Bits.{HasBits-some_left, HasBits-row_left, HasBits-none_left}
 use Rattle.rlsf_table.proofs.Tables.Rows.{row_words-at, row_words-length, rows-bit_same, rows-same}
 use Rattle.rlsf_table.proofs.table.ClassTable.take.Goals as goal
 
@@ -23,14 +23,14 @@ pub returns-then-is_empty-clause-bits : goal.returns-then-is_empty-clause-bits
 returns-then-is_empty-clause-bits g c r before after class is_head bits =
     let inside = subst (λ t. HasBits g.row.FLLEN g.row.SLLEN t (before ++ r ∷ after)) (sym c.self.view_is) bits in
     HasBits-none_left g.row.FLLEN g.row.SLLEN c.args.fl c.args.sl _ _ r before after class inside c.requires.class.0 (record {
-      first = λ i apart. bit-kept _ _ c.args.fl i apart (c.remove_within.ensures i);
+      first = c.remove-then-is_empty.ensures.own;
       rows = row_words-length g.row.FLLEN g.row.SLLEN _ _;
       places = λ k apart. rows-bit_same g.row.FLLEN g.row.SLLEN _ _ _ _ c.args.fl c.requires.class.0 k (c.remove.ensures.own k apart);
       others = λ i within apart. rows-same g.row.FLLEN g.row.SLLEN _ _ _ _ i within (c.remove.ensures.others i apart);
     }) c.args.next is_head c.if-next-eq0.true
     (ap (λ n. bit n c.args.sl) (row_words-at g.row.FLLEN g.row.SLLEN _ _ c.args.fl c.requires.class.0) ∙ c.remove.ensures.gone)
     (row_words-at g.row.FLLEN g.row.SLLEN _ _ c.args.fl c.requires.class.0 ∙ c.is_empty.ensures.0 c.if-is_empty.true)
-    (bit-cleared _ _ c.args.fl (c.remove_within.ensures c.args.fl))
+    c.remove-then-is_empty.ensures.gone
 
 pub returns-else-is_empty-clause-bits : goal.returns-else-is_empty-clause-bits
 returns-else-is_empty-clause-bits g c r before after class is_head bits =

@@ -21,7 +21,7 @@ use Rattle.rlsf_tlsf.proofs.tlsf.Tlsf.append_free_block_ptr.Goals.{After-append_
 
 pub append_chunks-taken-requires : goal.append_chunks-taken-requires
 append_chunks-taken-requires g c =
-    (omega arith, (IsValid-widest c.self.invariant.valid, (_, c.self.invariant.stands, subst (λ (o : Allocator). IsNext (range_of o.memory) o.state c.args.range) (sym c.self.view_is) c.requires)))
+    (omega arith, (IsValid-widest g.FLBitmap.BitPattern.width_limit c.self.invariant.valid, (_, c.self.invariant.stands, subst (λ (o : Allocator). IsNext (range_of o.memory) o.state c.args.range) (sym c.self.view_is) c.requires)))
 
 -- the range becomes chunks, or a chunk grows
 appending : (g : given.Over) (c : After-append_chunks-taken g)

@@ -42,7 +42,7 @@ pub deallocate_block-requires : goal.deallocate_block-requires
 deallocate_block-requires g c =
     let before = (goal.at.deallocate_block-requires g c).After-load_block_of-block in
     let (u, holds, start) = found g before in
-    (search rules, (IsValid-widest c.self.invariant.valid, ((state g before, u, read g before, holds.0, start), search rules)))
+    (search rules, (IsValid-widest g.FLBitmap.BitPattern.width_limit c.self.invariant.valid, ((state g before, u, read g before, holds.0, start), search rules)))
 
 -- what is kept of the state is the one without the payload
 kept : (g : given.Over) (c : After-deallocate g) (u : Used) → Holds (read_from c.self.inside.memory c.self.inside.state.state) (at c.args.addr) u

@@ -23,7 +23,7 @@ use Rattle.rlsf_tlsf.proofs.tlsf.Tlsf.insert_free_block_ptr.Goals.{After-insert_
 pub insert_chunks-taken-requires : goal.insert_chunks-taken-requires
 insert_chunks-taken-requires g c =
     let fresh = IsFresh-untouched (range_of c.args.self.now.memory) c.args.self.now.state c.args.range c.requires.lies_in c.requires.untouched in
-    (omega arith, (IsValid-widest c.self.invariant.valid, (_, c.self.invariant.stands, subst (λ (o : Allocator). IsFresh (range_of o.memory) o.state c.args.range) (sym c.self.view_is) fresh)))
+    (omega arith, (IsValid-widest g.FLBitmap.BitPattern.width_limit c.self.invariant.valid, (_, c.self.invariant.stands, subst (λ (o : Allocator). IsFresh (range_of o.memory) o.state c.args.range) (sym c.self.view_is) fresh)))
 
 -- the range becomes chunks
 inserting : (g : given.Over) (c : After-insert_chunks-taken g)

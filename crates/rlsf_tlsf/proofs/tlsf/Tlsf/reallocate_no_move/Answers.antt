@@ -44,7 +44,7 @@ pub resize_block-requires : goal.resize_block-requires
 resize_block-requires g c =
     let before = (goal.at.resize_block-requires g c).After-used_block-block in
     let f = found g before in
-    (search rules, (IsValid-widest c.self.invariant.valid, ((state g before, f.used, f.stands, f.used_at), search rules)))
+    (search rules, (IsValid-widest g.FLBitmap.BitPattern.width_limit c.self.invariant.valid, ((state g before, f.used, f.stands, f.used_at), search rules)))
 
 -- ---- the refusal
 

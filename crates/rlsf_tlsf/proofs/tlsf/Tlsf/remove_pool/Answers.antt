@@ -22,7 +22,7 @@ pub remove_chunks-requires : goal.remove_chunks-requires
 remove_chunks-requires g c =
     let row = subst (λ (o : Allocator). IsRow o.state (walked c.args.range)) (sym c.self.view_is) c.requires.row in
     let idle = subst (λ (o : Allocator). IsIdle o.state (walked c.args.range)) (sym c.self.view_is) c.requires.idle in
-    (omega arith, (IsValid-widest c.self.invariant.valid, (_, c.self.invariant.stands, row, idle)))
+    (omega arith, (IsValid-widest g.FLBitmap.BitPattern.width_limit c.self.invariant.valid, (_, c.self.invariant.stands, row, idle)))
 
 -- the chunks are taken out
 removing : (g : given.Over) (c : After-remove_chunks g)
