@@ -6,35 +6,35 @@ ghost use Rattle.rlsf_table.specs.Steps.Places.{joined, row_word, scanned_places
 
 use rlsf_int::{BinInteger, Bitmap};
 
-/// Which places of each row have a one. A row of 64 places or fewer is one word, and its scan one of that word; a row of 128 is
-/// two words.
+/// Which places of each row have a one. A row of 64 places or fewer is one word, and its scan one of that word; a longer
+/// one is two words.
 ///
-/// A row is below `FLLEN`, and a place below `SLLEN`, which is at most 128.
+/// A row is below `ROWS`, and a place below `PLACES`, which is at most 128.
 #[derive(Drop)]
-pub(crate) struct Rows<const FLLEN: usize, const SLLEN: usize> {
+pub(crate) struct Rows<const ROWS: usize, const PLACES: usize> {
     // The first 64 places of each row.
-    low: [u64; FLLEN],
+    low: [u64; ROWS],
     // The places behind them. Where rows have none, it is neither read nor written.
-    high: [u64; FLLEN],
+    high: [u64; ROWS],
 }
 
-impl<const FLLEN: usize, const SLLEN: usize> Rows<FLLEN, SLLEN> {
+impl<const ROWS: usize, const PLACES: usize> Rows<ROWS, PLACES> {
     /// Rows without a one.
     pub(crate) fn new() -> Self
-        ensures { (fl : ℕ) → fl < FLLEN → row_word SLLEN result.low result.high fl ≡ 0 }
+        ensures { (fl : ℕ) → fl < ROWS → row_word PLACES result.low result.high fl ≡ 0 }
     {
         Rows {
-            low: [0; FLLEN],
-            high: [0; FLLEN],
+            low: [0; ROWS],
+            high: [0; ROWS],
         }
     }
 
     /// Whether a place has a one.
     pub(crate) fn has(&self, fl: usize, place: usize) -> bool
-        requires { (fl < FLLEN) × (place < SLLEN) × (SLLEN ≤ 128) }
-        ensures { result ≡ bit (row_word SLLEN self.now.low self.now.high fl) place }
+        requires { (fl < ROWS) × (place < PLACES) × (PLACES ≤ 128) }
+        ensures { result ≡ bit (row_word PLACES self.now.low self.now.high fl) place }
     {
-        if SLLEN <= 64 {
+        if PLACES <= 64 {
             self.low[fl].get_bit(place as u32)
         } else {
             self.both(fl).get_bit(place as u32)
@@ -43,11 +43,11 @@ impl<const FLLEN: usize, const SLLEN: usize> Rows<FLLEN, SLLEN> {
 
     /// Puts a one at a place.
     pub(crate) fn insert(&mut self, fl: usize, place: usize)
-        requires { (fl < FLLEN) × (place < SLLEN) × (SLLEN ≤ 128) }
-        ensures own { (k : ℕ) → bit (row_word SLLEN self.new.low self.new.high fl) k ≡ (bit (row_word SLLEN self.old.low self.old.high fl) k || k == place) }
-        ensures others { (i : ℕ) → i ≢ fl → row_word SLLEN self.new.low self.new.high i ≡ row_word SLLEN self.old.low self.old.high i }
+        requires { (fl < ROWS) × (place < PLACES) × (PLACES ≤ 128) }
+        ensures own { (k : ℕ) → bit (row_word PLACES self.new.low self.new.high fl) k ≡ (bit (row_word PLACES self.old.low self.old.high fl) k || k == place) }
+        ensures others { (i : ℕ) → i ≢ fl → row_word PLACES self.new.low self.new.high i ≡ row_word PLACES self.old.low self.old.high i }
     {
-        if SLLEN <= 64 {
+        if PLACES <= 64 {
             self.low[fl] |= 1 << place;
         } else {
             self.set_both(fl, self.both(fl) | 1 << place);
@@ -56,12 +56,12 @@ impl<const FLLEN: usize, const SLLEN: usize> Rows<FLLEN, SLLEN> {
 
     /// Takes the one at a place away, if there is one.
     pub(crate) fn remove(&mut self, fl: usize, place: usize)
-        requires { (fl < FLLEN) × (place < SLLEN) × (SLLEN ≤ 128) }
-        ensures gone { bit (row_word SLLEN self.new.low self.new.high fl) place ≡ false }
-        ensures own { (k : ℕ) → k ≢ place → bit (row_word SLLEN self.new.low self.new.high fl) k ≡ bit (row_word SLLEN self.old.low self.old.high fl) k }
-        ensures others { (i : ℕ) → i ≢ fl → row_word SLLEN self.new.low self.new.high i ≡ row_word SLLEN self.old.low self.old.high i }
+        requires { (fl < ROWS) × (place < PLACES) × (PLACES ≤ 128) }
+        ensures gone { bit (row_word PLACES self.new.low self.new.high fl) place ≡ false }
+        ensures own { (k : ℕ) → k ≢ place → bit (row_word PLACES self.new.low self.new.high fl) k ≡ bit (row_word PLACES self.old.low self.old.high fl) k }
+        ensures others { (i : ℕ) → i ≢ fl → row_word PLACES self.new.low self.new.high i ≡ row_word PLACES self.old.low self.old.high i }
     {
-        if SLLEN <= 64 {
+        if PLACES <= 64 {
             self.low[fl] &= !(1 << place);
         } else {
             self.set_both(fl, self.both(fl) & !(1 << place));
@@ -70,10 +70,10 @@ impl<const FLLEN: usize, const SLLEN: usize> Rows<FLLEN, SLLEN> {
 
     /// Whether a row has no one.
     pub(crate) fn is_empty(&self, fl: usize) -> bool
-        requires { fl < FLLEN }
-        ensures { IsTrue result ↔ (row_word SLLEN self.now.low self.now.high fl ≡ 0) }
+        requires { fl < ROWS }
+        ensures { IsTrue result ↔ (row_word PLACES self.now.low self.now.high fl ≡ 0) }
     {
-        if SLLEN <= 64 {
+        if PLACES <= 64 {
             self.low[fl] == 0
         } else {
             self.both(fl) == 0
@@ -82,10 +82,10 @@ impl<const FLLEN: usize, const SLLEN: usize> Rows<FLLEN, SLLEN> {
 
     /// The least place of a row from `start` on that has a one, if one has.
     pub(crate) fn first_from(&self, fl: usize, start: usize) -> Option<usize>
-        requires { (fl < FLLEN) × (start < SLLEN) × (SLLEN ≤ 128) }
-        ensures { IsFirstFrom SLLEN (row_word SLLEN self.now.low self.now.high fl) start result }
+        requires { (fl < ROWS) × (start < PLACES) × (PLACES ≤ 128) }
+        ensures { IsFirstFrom PLACES (row_word PLACES self.now.low self.now.high fl) start result }
     {
-        if SLLEN <= 64 {
+        if PLACES <= 64 {
             let places = self.low[fl] & (u64::MAX << start);
             if places != 0 {
                 Some(places.trailing_zeros() as usize)
@@ -104,11 +104,11 @@ impl<const FLLEN: usize, const SLLEN: usize> Rows<FLLEN, SLLEN> {
 
     /// The least place of a row behind `place` that has a one, or the number of scanned places where none has.
     pub(crate) fn first_behind(&self, fl: usize, place: usize) -> usize
-        requires { (fl < FLLEN) × (place < SLLEN) × (SLLEN ≤ 128) }
-        ensures { IsFirstOne (scanned_places SLLEN) (row_word SLLEN self.now.low self.now.high fl) (place + 1) result }
+        requires { (fl < ROWS) × (place < PLACES) × (PLACES ≤ 128) }
+        ensures { IsFirstOne (scanned_places PLACES) (row_word PLACES self.now.low self.now.high fl) (place + 1) result }
     {
         let start = place as u32 + 1;
-        if SLLEN <= 64 {
+        if PLACES <= 64 {
             self.low[fl].bit_scan_forward(start) as usize
         } else {
             self.both(fl).bit_scan_forward(start) as usize
@@ -117,10 +117,10 @@ impl<const FLLEN: usize, const SLLEN: usize> Rows<FLLEN, SLLEN> {
 
     /// The least place of a row that has a one, or the number of scanned places where none has.
     pub(crate) fn first(&self, fl: usize) -> usize
-        requires { fl < FLLEN }
-        ensures { IsFirstOne (scanned_places SLLEN) (row_word SLLEN self.now.low self.now.high fl) 0 result }
+        requires { fl < ROWS }
+        ensures { IsFirstOne (scanned_places PLACES) (row_word PLACES self.now.low self.now.high fl) 0 result }
     {
-        if SLLEN <= 64 {
+        if PLACES <= 64 {
             self.low[fl].trailing_zeros() as usize
         } else {
             self.both(fl).trailing_zeros() as usize
@@ -129,12 +129,12 @@ impl<const FLLEN: usize, const SLLEN: usize> Rows<FLLEN, SLLEN> {
 
     /// The bitmap of a row: a place's position has a one exactly where the place has.
     pub(crate) fn bitmap<B: Bitmap>(&self, fl: usize) -> B
-        requires { (fl < FLLEN) × (SLLEN ≤ B.width) }
-        ensures within { (place : ℕ) → place < SLLEN → bit (B.pattern result) place ≡ bit (row_word SLLEN self.now.low self.now.high fl) place }
-        ensures past { (place : ℕ) → SLLEN ≤ place → bit (B.pattern result) place ≡ false }
+        requires { (fl < ROWS) × (PLACES ≤ B.width) }
+        ensures within { (place : ℕ) → place < PLACES → bit (B.pattern result) place ≡ bit (row_word PLACES self.now.low self.now.high fl) place }
+        ensures past { (place : ℕ) → PLACES ≤ place → bit (B.pattern result) place ≡ false }
     {
         let mut places = B::empty();
-        for place in 0..SLLEN {
+        for place in 0..PLACES {
             if self.has(fl, place) {
                 places.insert(place as u32);
             }
@@ -144,7 +144,7 @@ impl<const FLLEN: usize, const SLLEN: usize> Rows<FLLEN, SLLEN> {
 
     // The two words of a row as one.
     fn both(&self, fl: usize) -> u128
-        requires { fl < FLLEN }
+        requires { fl < ROWS }
         ensures { result ≡ joined (slice_index self.now.low fl) (slice_index self.now.high fl) }
     {
         self.low[fl] as u128 + ((self.high[fl] as u128) << 64)
@@ -152,7 +152,7 @@ impl<const FLLEN: usize, const SLLEN: usize> Rows<FLLEN, SLLEN> {
 
     // Sets the two words of a row.
     fn set_both(&mut self, fl: usize, places: u128)
-        requires { fl < FLLEN }
+        requires { fl < ROWS }
         ensures own { joined (slice_index self.new.low fl) (slice_index self.new.high fl) ≡ places }
         ensures others { (i : ℕ) → i ≢ fl → (slice_index self.new.low i ≡ slice_index self.old.low i) × (slice_index self.new.high i ≡ slice_index self.old.high i) }
     {

@@ -4,8 +4,8 @@ use Rattle.rlsf_table.proofs.rows.Rows.first_from.Goals as goal
 
 pub returns-then-places-ne0 : goal.returns-then-places-ne0
 returns-then-places-ne0 g c =
-    first_from-few g.row.SLLEN c.args.self.now.low c.args.self.now.high c.args.fl c.if-this-le64.true (omega arith) c.args.start (omega arith) c.if-places-ne0.true
+    first_from-few g.row.PLACES c.args.self.now.low c.args.self.now.high c.args.fl c.if-this-le64.true (omega arith) c.args.start (omega arith) c.if-places-ne0.true
 
 pub returns-else-places-ne0 : goal.returns-else-places-ne0
 returns-else-places-ne0 g c =
-    first_from-few_none g.row.SLLEN c.args.self.now.low c.args.self.now.high c.args.fl c.if-this-le64.true (omega arith) c.args.start (omega arith) c.if-places-ne0.false
+    first_from-few_none g.row.PLACES c.args.self.now.low c.args.self.now.high c.args.fl c.if-this-le64.true (omega arith) c.args.start (omega arith) c.if-places-ne0.false
