@@ -1,4 +1,4 @@
-use Rattle.std.proofs.Common.{◌≡◌, Some, None, refl, ap, sym, ◌∙◌, subst, rules}
+use Rattle.std.proofs.Common.{◌≡◌, Some, None, refl, ap, sym, ◌∙◌, subst, rules, true≢false}
 use Rattle.std.specs.Int.NonZero.{non_zero_usize_get}
 use Rattle.rlsf_base.specs.Addr.{reply}
 use Rattle.rlsf_base.specs.Layout.{IsLayout}
@@ -13,7 +13,7 @@ use Rattle.rlsf_runs.proofs.Named.{AreNamed-reallocated, owned_live, unnamed}
 use Rattle.rlsf_runs.proofs.NamedPayloads.{IsAt-named, IsAt-unmoved, reallocation_keeps_chunks, reallocation_refused, LeadsOn-nothing, room_left}
 use Rattle.rlsf_text.specs.declared.op.Answer.TheVariants.{Refused}
 use Rattle.rlsf_text.specs.declared.op.Op.TheVariants.{Realloc}
-use Rattle.rlsf_text.specs.declared.op.TraceError.TheVariants.{UnknownName}
+use Rattle.rlsf_text.specs.declared.op.TraceError.TheVariants.{BadLayout, UnknownName}
 use Rattle.rlsf_runs.proofs.payloads.realloc.Goals as goal
 
 pub returns-in-Some-placed-clause-does : goal.returns-in-Some-placed-clause-does
@@ -76,3 +76,9 @@ add_name-requires g c = c.requires.room
 
 pub returns-in_default-placed-clause-room : goal.returns-in_default-placed-clause-room
 returns-in_default-placed-clause-room g c = room_left c.args.tables.now
+
+pub returns-in_default-from_size_align-clause-does : goal.returns-in_default-from_size_align-clause-does
+returns-in_default-from_size_align-clause-does g c = λ s at.
+    let p = c.in-Some.old in
+    let (u, owns, holds, its) = owned_live at.named c.args.name p (sym c.payload.ensures ∙ c.in-Some.is) in
+    LeadsOn-nothing at (Realloc c.args.name c.args.size) (Refused BadLayout) ((u, owns, λ valid. true≢false (sym (c.in_default-from_size_align.ensures.succeeds.1 (subst (IsLayout c.args.size) its valid)))), refl)

@@ -1,4 +1,4 @@
-use Rattle.std.proofs.Common.{refl, sym, ◌∙◌, subst, rules}
+use Rattle.std.proofs.Common.{refl, sym, ◌∙◌, subst, rules, true≢false}
 use Rattle.rlsf_base.specs.Addr.{reply}
 use Rattle.rlsf_base.specs.Layout.{IsLayout}
 use Rattle.rlsf_machine.specs.NoMove.{ReallocatesWithoutMove}
@@ -9,7 +9,7 @@ use Rattle.rlsf_runs.proofs.Named.{owned_live, unnamed}
 use Rattle.rlsf_runs.proofs.NamedPayloads.{IsAt-aligned, LeadsOn-nothing}
 use Rattle.rlsf_text.specs.declared.op.Answer.TheVariants.{Refused}
 use Rattle.rlsf_text.specs.declared.op.Op.TheVariants.{ReallocNoMove}
-use Rattle.rlsf_text.specs.declared.op.TraceError.TheVariants.{UnknownName}
+use Rattle.rlsf_text.specs.declared.op.TraceError.TheVariants.{BadLayout, UnknownName}
 use Rattle.rlsf_runs.proofs.payloads.realloc_no_move.Goals as goal
 
 pub returns-in_default-clause-does : goal.returns-in_default-clause-does
@@ -39,3 +39,9 @@ returns-clause-does g c = λ s at.
       IsAt-aligned at c.reallocate_no_move.ensures.place t stands c.reallocate_no_move.ensures.chunks c.reallocate_no_move.ensures.aligns,
       keeps,
     )
+
+pub returns-in_default-from_size_align-clause-does : goal.returns-in_default-from_size_align-clause-does
+returns-in_default-from_size_align-clause-does g c = λ s at.
+    let p = c.in-Some.payload in
+    let (u, owns, holds, its) = owned_live at.named c.args.name p (sym c.payload.ensures ∙ c.in-Some.is) in
+    LeadsOn-nothing at (ReallocNoMove c.args.name c.args.size) (Refused BadLayout) ((u, owns, λ valid. true≢false (sym (c.in_default-from_size_align.ensures.succeeds.1 (subst (IsLayout c.args.size) its valid)))), refl)

@@ -1,14 +1,18 @@
-use Rattle.std.proofs.Common.{◌≡◌, Some, None, refl, ap, sym, ◌∙◌, subst}
+use Rattle.std.proofs.Common.{◌≡◌, Some, None, IsSome, refl, ap, sym, ◌∙◌, subst}
 use Rattle.std.specs.Int.NonZero.{non_zero_usize_get}
 use Rattle.rlsf_base.specs.Addr.{reply}
 use Rattle.rlsf_machine.specs.Allocate.{Allocates}
 use Rattle.rlsf_machine.specs.State.{State}
 use Rattle.rlsf_blocks.specs.Spare.{KeepsSpare}
+use Rattle.rlsf_text.specs.declared.op.Answer.TheVariants.{Refused}
+use Rattle.rlsf_text.specs.declared.op.Op.TheVariants.{Alloc}
+use Rattle.rlsf_text.specs.declared.op.TraceError.TheVariants.{NameTaken}
 use Rattle.rlsf_tlsf.proofs.Standing.{stepped}
+use Rattle.rlsf_runs.specs.Names.{address}
 use Rattle.rlsf_runs.specs.Runs.{RunState, with_name}
 use Rattle.rlsf_runs.specs.Steps.Tables.{IsAt}
 use Rattle.rlsf_runs.proofs.Named.{AreNamed-allocated, unnamed}
-use Rattle.rlsf_runs.proofs.NamedPayloads.{allocation_keeps_chunks, IsAt-named, IsAt-unmoved, none_is, room_left}
+use Rattle.rlsf_runs.proofs.NamedPayloads.{allocation_keeps_chunks, IsAt-named, IsAt-unmoved, LeadsOn-nothing, none_is, room_left, some_is}
 use Rattle.rlsf_runs.proofs.runs.alloc.Goals as goal
 
 pub returns-in-Some-clause-does : goal.returns-in-Some-clause-does
@@ -44,3 +48,8 @@ add_name-requires g c = c.requires.room
 
 pub returns-in_default-clause-room : goal.returns-in_default-clause-room
 returns-in_default-clause-room g c = room_left c.args.tables.now
+
+pub returns-then-contains_key-clause-does : goal.returns-then-contains_key-clause-does
+returns-then-contains_key-clause-does g c = λ s at.
+    let taken = some_is address _ (sym c.contains_key.ensures ∙ c.if-contains_key.true) in
+    LeadsOn-nothing at (Alloc c.args.name c.args.layout) (Refused NameTaken) (subst IsSome (at.named.names c.args.name) taken, refl)

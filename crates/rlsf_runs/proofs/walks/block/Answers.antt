@@ -1,7 +1,8 @@
 use mathlib.Core.Path.{ap₂}
-use Rattle.std.proofs.Common.{length, Some, None, rules, true≢false, refl, sym, ◌∙◌, ap, subst}
+use Rattle.std.proofs.Common.{length, Some, None, rules, true≢false, refl, sym, ◌∙◌, ap, subst, ◌<◌, ◌^◌}
 use Rattle.std.specs.Option.{option_map}
-use Rattle.rlsf_base.specs.Range.{LiesIn}
+use Rattle.rlsf_base.specs.Range.{LiesIn, end_of}
+use Rattle.rlsf_base.specs.Space.{range_of}
 use Rattle.rlsf_machine.specs.ChunkRows.{IsRow}
 use Rattle.rlsf_blocks.specs.Blocks.{AreBlocks, walked}
 use Rattle.rlsf_text.specs.declared.op.Answer.TheVariants.{Block as Told, Refused}
@@ -48,3 +49,13 @@ returns-in-None g c = λ s at.
     let are = at_state at.stands (λ x. AreBlocks x (walked r) bs) c.iter_blocks.ensures.blocks in
     let is = nth-list c.args.index bs c.nth.new.self c.nth.result c.nth.ensures.ran in
     LeadsOn-nothing at (Block r c.args.index) (Told None) (may, bs, are, ap (option_map told_of) (sym c.in-None.is ∙ is), refl)
+
+pub may_walk-requires-clause-in_order : goal.may_walk-requires-clause-in_order
+may_walk-requires-clause-in_order g c =
+    let (s, at) = c.requires in
+    at.in_order
+
+pub may_walk-requires-clause-addressable : goal.may_walk-requires-clause-addressable
+may_walk-requires-clause-addressable g c =
+    let (s, at) = c.requires in
+    subst (λ m. end_of (range_of m) < 2 ^ 64) (sym c.memory_ref.ensures.memory) at.stands.stands.well_formed.addressable

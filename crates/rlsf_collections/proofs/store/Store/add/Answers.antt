@@ -52,9 +52,6 @@ returns-clause-stored c =
     let few : length w < length front + 32 = omega (arith, c.write_at.ensures.len, ap length c.payload_mut.ensures.value, c.in_ok-addr.ensures.few, c.in-Ok.ensures.layout.0) in
     IsStore-filled before after (stored addr layout.align (asked_at c.allocate.new.self addr layout.size)) refl allocated (written c.allocate.new.self addr (length lent) w) w front writes few (c.payload_mut.ensures.meaning w c.write_at.ensures.len) (c.payload_mut.ensures.rest w).1)))
 
-pub payload_mut-requires : goal.payload_mut-requires
-payload_mut-requires c = (lit< tt, subst IsSome (sym c.in_ok-addr.ensures.live) refl)
-
 pub returns-clause-place : goal.returns-clause-place
 returns-clause-place c =
     let first = c.in_ok-addr.ensures.place in

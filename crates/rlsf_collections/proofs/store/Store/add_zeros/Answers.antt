@@ -74,9 +74,6 @@ returns-clause-stored c =
     let few : length w < length front + 32 = omega (arith, c.fill.ensures.len, ap length c.payload_mut.ensures.value, c.in_ok-addr.ensures.few, length-replicate {A = ℕ} layout.size 0) in
     IsStore-filled before after (stored addr layout.align (asked_at c.allocate.new.self addr layout.size)) refl allocated (written c.allocate.new.self addr (length lent) w) w front begins few (c.payload_mut.ensures.meaning w c.fill.ensures.len) (c.payload_mut.ensures.rest w).1))
 
-pub payload_mut-requires : goal.payload_mut-requires
-payload_mut-requires c = (lit< tt, subst IsSome (sym c.in_ok-addr.ensures.live) refl)
-
 pub returns-clause-place : goal.returns-clause-place
 returns-clause-place c =
     let first = c.in_ok-addr.ensures.place in

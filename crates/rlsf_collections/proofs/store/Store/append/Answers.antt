@@ -58,9 +58,6 @@ returns-clause-stored c =
     let stores = IsStore-filled front back moved refl resized (written c.reallocate.new.self to (length lent) w) w (k.bytes ++ more) writes few (c.payload_mut.ensures.meaning w c.write_at.ensures.len) (c.payload_mut.ensures.rest w).1 in
     (stored to k.align (k.bytes ++ more), stores, ap (λ n. place to n (length (k.bytes ++ more))) aligned ∙ ap (place to 1) new_len, ap (λ bs. bs ++ more) are)))
 
-pub payload_mut-requires : goal.payload_mut-requires
-payload_mut-requires c = (lit< tt, subst IsSome (sym c.in_ok-to.ensures.live) refl)
-
 pub returns-clause-place : goal.returns-clause-place
 returns-clause-place c =
     let first = c.in_ok-to.ensures.place in
