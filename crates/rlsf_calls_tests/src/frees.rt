@@ -16,8 +16,8 @@ enum Order {
 }
 
 /// Allocates a payload, if there is room. What was live stays live. Answers its address, or 0.
-fn third<FLBitmap: Bitmap, SLBitmap: Bitmap, const FLLEN: usize, const SLLEN: usize>(
-    tlsf: &mut Tlsf<FLBitmap, SLBitmap, FLLEN, SLLEN>,
+fn third<Bits: Bitmap, const FLLEN: usize, const SLLEN: usize>(
+    tlsf: &mut Tlsf<Bits, Bits, FLLEN, SLLEN>,
     layout: Layout,
 ) -> usize
     ensures { (a align : ℕ) → align_at tlsf.old.state a ≡ Some align → align_at tlsf.new.state a ≡ Some align }
@@ -29,8 +29,8 @@ fn third<FLBitmap: Bitmap, SLBitmap: Bitmap, const FLLEN: usize, const SLLEN: us
 }
 
 /// Allocates two payloads for a layout, and asks for a third for another layout. Answers the two, and the third's address, or 0.
-fn two_taken<FLBitmap: Bitmap, SLBitmap: Bitmap, const FLLEN: usize, const SLLEN: usize>(
-    tlsf: &mut Tlsf<FLBitmap, SLBitmap, FLLEN, SLLEN>,
+fn two_taken<Bits: Bitmap, const FLLEN: usize, const SLLEN: usize>(
+    tlsf: &mut Tlsf<Bits, Bits, FLLEN, SLLEN>,
     layout: Layout,
     other: Layout,
 ) -> Option<((Addr, Addr), usize)>
@@ -49,8 +49,8 @@ fn two_taken<FLBitmap: Bitmap, SLBitmap: Bitmap, const FLLEN: usize, const SLLEN
 
 /// Allocates two payloads for a layout, asks for a third for another layout, and gives the two back. Answers the three
 /// addresses.
-fn two_freed<FLBitmap: Bitmap, SLBitmap: Bitmap, const FLLEN: usize, const SLLEN: usize>(
-    tlsf: &mut Tlsf<FLBitmap, SLBitmap, FLLEN, SLLEN>,
+fn two_freed<Bits: Bitmap, const FLLEN: usize, const SLLEN: usize>(
+    tlsf: &mut Tlsf<Bits, Bits, FLLEN, SLLEN>,
     layout: Layout,
     other: Layout,
     order: Order,

@@ -113,21 +113,21 @@ fn is_granted(answer: Answer) -> Option<bool> {
     }
 }
 
-/// Names the type of an allocator. A proof knows that it fits in memory where a caller names it.
-type Shape<'a, FLBitmap, SLBitmap, const FLLEN: usize, const SLLEN: usize> = Option<
-    &'a Tlsf<FLBitmap, SLBitmap, FLLEN, SLLEN>,
+/// Names the type of an allocator, whose bitmaps are of one type. A proof knows that it fits in memory where a caller names it.
+type Shape<'a, Bits, const FLLEN: usize, const SLLEN: usize> = Option<
+    &'a Tlsf<Bits, Bits, FLLEN, SLLEN>,
 >;
 
 /// The index of the first op that is answered otherwise in a memory of so many bytes.
-fn wrong_in<FLBitmap: Bitmap, SLBitmap: Bitmap, const FLLEN: usize, const SLLEN: usize>(
+fn wrong_in<Bits: Bitmap, const FLLEN: usize, const SLLEN: usize>(
     rt: &(impl Abort + AllocGlobal),
     script: &Script,
     len: usize,
-    _shape: Shape<'_, FLBitmap, SLBitmap, FLLEN, SLLEN>,
+    _shape: Shape<'_, Bits, FLLEN, SLLEN>,
 ) -> Option<usize>
-    requires { IsValid FLBitmap.width SLBitmap.width FLLEN SLLEN }
+    requires { IsValid Bits.width Bits.width FLLEN SLLEN }
 {
-    let mut tlsf = Tlsf::<FLBitmap, SLBitmap, FLLEN, SLLEN>::new(zeros(rt, 4096, len));
+    let mut tlsf = Tlsf::<Bits, Bits, FLLEN, SLLEN>::new(zeros(rt, 4096, len));
     let mut answers = Vec::new(rt.alloc());
     run(rt.alloc(), &mut tlsf, script.ops.as_slice(), &mut answers).expect(rt, "memory");
     script.first_wrong(answers.as_slice())
@@ -155,14 +155,14 @@ fn filled_in_order(
 static ORDERS: [Order; 3] = [Order::Ascending, Order::Descending, Order::Alternating];
 
 /// Whether a pool of so many bytes holds `count` payloads and no more, in each of the three orders.
-fn holds<FLBitmap: Bitmap, SLBitmap: Bitmap, const FLLEN: usize, const SLLEN: usize>(
+fn holds<Bits: Bitmap, const FLLEN: usize, const SLLEN: usize>(
     rt: &(impl Abort + AllocGlobal),
     count: usize,
     layout: Layout,
     len: usize,
-    shape: Shape<'_, FLBitmap, SLBitmap, FLLEN, SLLEN>,
+    shape: Shape<'_, Bits, FLLEN, SLLEN>,
 ) -> bool
-    requires { IsValid FLBitmap.width SLBitmap.width FLLEN SLLEN }
+    requires { IsValid Bits.width Bits.width FLLEN SLLEN }
 {
     for order in &ORDERS {
         let script = filled_in_order(rt, *order, count, layout, len);
@@ -175,14 +175,14 @@ fn holds<FLBitmap: Bitmap, SLBitmap: Bitmap, const FLLEN: usize, const SLLEN: us
 
 /// The length of a pool for 100 objects of a size, and the size to ask for, where the pool holds 100 and one that is 32 bytes
 /// shorter holds 99, in each order.
-fn pool_of_100<FLBitmap: Bitmap, SLBitmap: Bitmap, const FLLEN: usize, const SLLEN: usize>(
+fn pool_of_100<Bits: Bitmap, const FLLEN: usize, const SLLEN: usize>(
     rt: &(impl Abort + AllocGlobal),
     size: usize,
-    shape: Shape<'_, FLBitmap, SLBitmap, FLLEN, SLLEN>,
+    shape: Shape<'_, Bits, FLLEN, SLLEN>,
 ) -> Option<(usize, usize)>
-    requires { IsValid FLBitmap.width SLBitmap.width FLLEN SLLEN }
+    requires { IsValid Bits.width Bits.width FLLEN SLLEN }
 {
-    let found = pool_size_for_objects::<FLBitmap, SLBitmap, FLLEN, SLLEN>(100, size);
+    let found = pool_size_for_objects::<Bits, Bits, FLLEN, SLLEN>(100, size);
     let Some((len, size)) = found else {
         return None;
     };
@@ -196,11 +196,11 @@ fn pool_of_100<FLBitmap: Bitmap, SLBitmap: Bitmap, const FLLEN: usize, const SLL
 }
 
 /// The same for objects of 40, of 700 and of 1100 bytes.
-fn pools_of_100<FLBitmap: Bitmap, SLBitmap: Bitmap, const FLLEN: usize, const SLLEN: usize>(
+fn pools_of_100<Bits: Bitmap, const FLLEN: usize, const SLLEN: usize>(
     rt: &(impl Abort + AllocGlobal),
-    shape: Shape<'_, FLBitmap, SLBitmap, FLLEN, SLLEN>,
+    shape: Shape<'_, Bits, FLLEN, SLLEN>,
 ) -> [Option<(usize, usize)>; 3]
-    requires { IsValid FLBitmap.width SLBitmap.width FLLEN SLLEN }
+    requires { IsValid Bits.width Bits.width FLLEN SLLEN }
 {
     [
         pool_of_100(rt, 40, shape),
@@ -212,9 +212,9 @@ fn pools_of_100<FLBitmap: Bitmap, SLBitmap: Bitmap, const FLLEN: usize, const SL
 #[test]
 fn pools_of_100_objects(rt: HostRuntime) {
     let found = [
-        pools_of_100::<u16, u16, 12, 16>(&rt, None),
-        pools_of_100::<u64, u64, 59, 8>(&rt, None),
-        pools_of_100::<u64, u64, 64, 64>(&rt, None),
+        pools_of_100::<u16, 12, 16>(&rt, None),
+        pools_of_100::<u64, 59, 8>(&rt, None),
+        pools_of_100::<u64, 64, 64>(&rt, None),
     ];
     let expected = [
         [Some((6432, 48)), Some((73632, 720)), Some((115232, 1136))],
@@ -267,14 +267,14 @@ fn random_script(rt: &(impl Abort + AllocGlobal), len: usize) -> (Script, usize)
 }
 
 /// The length of a pool for as many payloads as may be live before an op of the random run, where none of its ops is refused.
-fn pool_of_random_run<FLBitmap: Bitmap, SLBitmap: Bitmap, const FLLEN: usize, const SLLEN: usize>(
+fn pool_of_random_run<Bits: Bitmap, const FLLEN: usize, const SLLEN: usize>(
     rt: &(impl Abort + AllocGlobal),
-    shape: Shape<'_, FLBitmap, SLBitmap, FLLEN, SLLEN>,
+    shape: Shape<'_, Bits, FLLEN, SLLEN>,
 ) -> Option<usize>
-    requires { IsValid FLBitmap.width SLBitmap.width FLLEN SLLEN }
+    requires { IsValid Bits.width Bits.width FLLEN SLLEN }
 {
     let greatest = layout_of(rt, 700, 64);
-    let len = pool_size_for_payloads::<FLBitmap, SLBitmap, FLLEN, SLLEN>(NAMES, greatest)?;
+    let len = pool_size_for_payloads::<Bits, Bits, FLLEN, SLLEN>(NAMES, greatest)?;
     let (script, full) = random_script(rt, len);
     let wrong = wrong_in(rt, &script, len, shape);
     if full == 0 || wrong.is_some() {
@@ -287,9 +287,9 @@ fn pool_of_random_run<FLBitmap: Bitmap, SLBitmap: Bitmap, const FLLEN: usize, co
 fn random_run_without_a_refusal(rt: HostRuntime) {
     // A payload of 700 bytes at a multiple of 64 is sought with 768, so 50 live ones want 77,600 bytes, and one SLLENth of 39,168.
     let found = [
-        pool_of_random_run::<u16, u16, 12, 16>(&rt, None),
-        pool_of_random_run::<u64, u64, 59, 8>(&rt, None),
-        pool_of_random_run::<u64, u64, 64, 64>(&rt, None),
+        pool_of_random_run::<u16, 12, 16>(&rt, None),
+        pool_of_random_run::<u64, 59, 8>(&rt, None),
+        pool_of_random_run::<u64, 64, 64>(&rt, None),
     ];
     assert_eq!(rt; found, [Some(80064), Some(82496), Some(78240)]);
 }
@@ -311,14 +311,14 @@ fn fragments(rt: &(impl Abort + AllocGlobal), len: usize, granted: bool) -> Scri
 
 /// The length of a pool in which sixteen payloads may live, where the greatest is granted beside the fragments, and refused in half
 /// of that length.
-fn pool_of_fragments<FLBitmap: Bitmap, SLBitmap: Bitmap, const FLLEN: usize, const SLLEN: usize>(
+fn pool_of_fragments<Bits: Bitmap, const FLLEN: usize, const SLLEN: usize>(
     rt: &(impl Abort + AllocGlobal),
-    shape: Shape<'_, FLBitmap, SLBitmap, FLLEN, SLLEN>,
+    shape: Shape<'_, Bits, FLLEN, SLLEN>,
 ) -> Option<usize>
-    requires { IsValid FLBitmap.width SLBitmap.width FLLEN SLLEN }
+    requires { IsValid Bits.width Bits.width FLLEN SLLEN }
 {
     let greatest = layout_of(rt, 1008, 1);
-    let len = pool_size_for_payloads::<FLBitmap, SLBitmap, FLLEN, SLLEN>(15, greatest)?;
+    let len = pool_size_for_payloads::<Bits, Bits, FLLEN, SLLEN>(15, greatest)?;
     let whole = wrong_in(rt, &fragments(rt, len, true), len, shape);
     let half = wrong_in(rt, &fragments(rt, len / 2, false), len / 2, shape);
     if whole.is_some() || half.is_some() {
@@ -332,9 +332,9 @@ fn greatest_beside_fragments(rt: HostRuntime) {
     // Before each allocation 15 payloads are live at most: 31,776 bytes, and one SLLENth of 16,384. Half of that has room for the
     // sixteen lesser ones and at most 992 bytes more behind them.
     let found = [
-        pool_of_fragments::<u16, u16, 12, 16>(&rt, None),
-        pool_of_fragments::<u64, u64, 59, 8>(&rt, None),
-        pool_of_fragments::<u64, u64, 64, 64>(&rt, None),
+        pool_of_fragments::<u16, 12, 16>(&rt, None),
+        pool_of_fragments::<u64, 59, 8>(&rt, None),
+        pool_of_fragments::<u64, 64, 64>(&rt, None),
     ];
     assert_eq!(rt; found, [Some(32800), Some(33824), Some(32032)]);
 }
