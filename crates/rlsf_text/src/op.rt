@@ -98,14 +98,14 @@ impl fmt::Display for TraceError {
     ghost output = { λ error. Some (error_word error) };
 
     fn fmt<W: fmt::Write>(&self, f: &mut fmt::Formatter<W>) -> fmt::Result {
-        match self {
-            TraceError::UnknownName => f.write_str("UnknownName"),
-            TraceError::NameTaken => f.write_str("NameTaken"),
-            TraceError::BadRange => f.write_str("BadRange"),
-            TraceError::BadOffset => f.write_str("BadOffset"),
-            TraceError::BadLayout => f.write_str("BadLayout"),
-            TraceError::NotForFlex => f.write_str("NotForFlex"),
-            TraceError::NotForTlsf => f.write_str("NotForTlsf"),
-        }
+        f.write_str(match self {
+            TraceError::UnknownName => "UnknownName",
+            TraceError::NameTaken => "NameTaken",
+            TraceError::BadRange => "BadRange",
+            TraceError::BadOffset => "BadOffset",
+            TraceError::BadLayout => "BadLayout",
+            TraceError::NotForFlex => "NotForFlex",
+            TraceError::NotForTlsf => "NotForTlsf",
+        })
     }
 }

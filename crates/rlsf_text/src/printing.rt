@@ -29,9 +29,9 @@ fn print_line(text: &mut String, op: Op, answer: Answer) -> Result<(), AllocErro
             print_op(text, op)?;
             print_inserted(text, len)
         }
-        Answer::Appended(len) => {
+        Answer::Appended(count) | Answer::Usable(count) | Answer::Trimmed(count) => {
             print_op(text, op)?;
-            write!(text, " {len}")
+            write!(text, " {count}")
         }
         Answer::Placed(addr) => {
             print_op(text, op)?;
@@ -45,17 +45,9 @@ fn print_line(text: &mut String, op: Op, answer: Answer) -> Result<(), AllocErro
             print_op(text, op)?;
             write!(text, " {byte}")
         }
-        Answer::Usable(bytes) => {
-            print_op(text, op)?;
-            write!(text, " {bytes}")
-        }
         Answer::Block(block) => {
             print_op(text, op)?;
             print_block(text, block)
-        }
-        Answer::Trimmed(count) => {
-            print_op(text, op)?;
-            write!(text, " {count}")
         }
         Answer::Refused(error) => {
             let number = error.number();
@@ -67,20 +59,24 @@ fn print_line(text: &mut String, op: Op, answer: Answer) -> Result<(), AllocErro
 fn print_op(text: &mut String, op: Op) -> Result<(), AllocError>
     ensures { OnOk result (string_bytes text.new ≡ string_bytes text.old ++ op_text op) }
 {
-    match op {
-        Op::Insert(_) => write!(text, "insert"),
-        Op::Append(_) => write!(text, "append"),
-        Op::Alloc(name, _) => write!(text, "alloc {name}"),
-        Op::Free(name) => write!(text, "free {name}"),
-        Op::FreeUnknown(name) => write!(text, "ufree {name}"),
-        Op::Realloc(name, _) => write!(text, "realloc {name}"),
-        Op::ReallocNoMove(name, _) => write!(text, "nrealloc {name}"),
-        Op::Fill(name, _) => write!(text, "fill {name}"),
-        Op::Put(name, _, _) => write!(text, "put {name}"),
-        Op::Get(name, _) => write!(text, "get {name}"),
-        Op::Usable(name) => write!(text, "usable {name}"),
-        Op::Block(_, _) => write!(text, "block"),
-        Op::Trim => write!(text, "trim"),
+    let (command, name) = match op {
+        Op::Insert(_) => ("insert", None),
+        Op::Append(_) => ("append", None),
+        Op::Alloc(name, _) => ("alloc", Some(name)),
+        Op::Free(name) => ("free", Some(name)),
+        Op::FreeUnknown(name) => ("ufree", Some(name)),
+        Op::Realloc(name, _) => ("realloc", Some(name)),
+        Op::ReallocNoMove(name, _) => ("nrealloc", Some(name)),
+        Op::Fill(name, _) => ("fill", Some(name)),
+        Op::Put(name, _, _) => ("put", Some(name)),
+        Op::Get(name, _) => ("get", Some(name)),
+        Op::Usable(name) => ("usable", Some(name)),
+        Op::Block(_, _) => ("block", None),
+        Op::Trim => ("trim", None),
+    };
+    match name {
+        Some(name) => write!(text, "{command} {name}"),
+        None => write!(text, "{command}"),
     }
 }
 
