@@ -3,7 +3,7 @@
 ghost use Rattle.std.specs.Prelude.{◌≡◌, ◌≢◌, ◌⊎◌, IfErr, IfSome, OnOk};
 ghost use Rattle.std.specs.Io.KnownBytes.{IsAtEnd};
 ghost use Rattle.rlsf_text.specs.Faults.{out_of_memory};
-ghost use Rattle.rlsf_trace.specs.Replays.{not_read, IsOutputFault, IsReplayFault, IsTrace};
+ghost use Rattle.rlsf_trace.specs.Replays.{no_memory, not_read, IsOutputFault, IsReplayFault, IsTrace};
 
 use crate::advice::advice_of;
 use crate::counts::counts_of;
@@ -13,7 +13,7 @@ use crate::summary::summary_of;
 use crate::table::table_of;
 use rlsf_text::{Fault, ReplayFault, Trace};
 use rlsf_trace::{read_input, write_text};
-use rlsf_watched::watch_trace;
+use rlsf_watched::{Watched, watch_trace};
 use std::alloc::Global;
 use std::io::{Read, Write};
 
@@ -56,12 +56,17 @@ fn text_for(alloc: Global, input: &[u8], form: Form) -> Result<String, ReplayFau
     let watched = watch_trace(alloc, &trace)?;
     match form {
         Form::Csv => Ok(csv_of(alloc, &trace.ops, &watched)?),
-        Form::Table => {
-            let counts = counts_of(alloc, &trace.ops, &watched.answers)?;
-            let summary = summary_of(&watched);
-            let asked = asked_bytes(alloc, &trace.ops, &watched.answers)?;
-            let advice = advice_of(alloc, &trace, &watched)?;
-            Ok(table_of(alloc, &counts, summary, asked, advice)?)
-        }
+        Form::Table => table_for(alloc, &trace, &watched),
     }
+}
+
+// The table for a trace that was run.
+fn table_for(alloc: Global, trace: &Trace, watched: &Watched) -> Result<String, ReplayFault>
+    ensures { IfErr result (λ f. (f ≡ out_of_memory) ⊎ (f ≡ no_memory)) }
+{
+    let counts = counts_of(alloc, &trace.ops, &watched.answers)?;
+    let summary = summary_of(watched);
+    let asked = asked_bytes(alloc, &trace.ops, &watched.answers)?;
+    let advice = advice_of(alloc, trace, watched)?;
+    Ok(table_of(alloc, &counts, summary, asked, advice)?)
 }

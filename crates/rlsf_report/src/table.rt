@@ -51,21 +51,23 @@ fn print_summary(text: &mut String, summary: Summary, asked: u128) -> Result<(),
         text,
         "\n                                     at the end    at most"
     )?;
-    writeln!(
-        text,
-        "live payloads                   {:>15}{most_live:>11}",
-        last.live
-    )?;
-    writeln!(
-        text,
-        "their usable bytes              {:>15}{most_usable:>11}",
-        last.usable
-    )?;
-    writeln!(text, "bytes that they asked for       {asked:>15}")?;
-    writeln!(text, "bytes of headers and rounding   {lost:>15}")?;
-    writeln!(text, "free bytes                      {free_bytes:>15}")?;
-    writeln!(text, "free blocks                     {free_blocks:>15}")?;
-    writeln!(text, "longest free block              {longest:>15}")
+    print_both(text, "live payloads", last.live as u128, most_live as u128)?;
+    print_both(text, "their usable bytes", last.usable, most_usable)?;
+    print_row(text, "bytes that they asked for", asked)?;
+    print_row(text, "bytes of headers and rounding", lost)?;
+    print_row(text, "free bytes", free_bytes)?;
+    print_row(text, "free blocks", free_blocks as u128)?;
+    print_row(text, "longest free block", longest as u128)
+}
+
+// What a number is of, and the number.
+fn print_row(text: &mut String, label: &str, number: u128) -> Result<(), AllocError> {
+    writeln!(text, "{label:<32}{number:>15}")
+}
+
+// What two numbers are of: the number at the end, and the greatest.
+fn print_both(text: &mut String, label: &str, last: u128, most: u128) -> Result<(), AllocError> {
+    writeln!(text, "{label:<32}{last:>15}{most:>11}")
 }
 
 fn print_advice(text: &mut String, advice: Advice) -> Result<(), AllocError> {
@@ -82,7 +84,7 @@ fn print_advice(text: &mut String, advice: Advice) -> Result<(), AllocError> {
         "\n{live} payloads of up to {size} bytes at multiples of up to {align}"
     )?;
     match enough {
-        Some(len) => writeln!(text, "never refused in a pool of      {len:>15}")?,
+        Some(len) => print_row(text, "never refused in a pool of", len as u128)?,
         None => writeln!(text, "no pool is so long that it never refuses them")?,
     }
     let half = inserted / 2;
