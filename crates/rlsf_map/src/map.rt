@@ -12,8 +12,8 @@ use crate::pools::pools_of;
 use crate::window::{Lines, Window};
 use rlsf_text::{Fault, ReplayFault, Trace};
 use rlsf_trace::{read_input, write_text};
-use rlsf_watched::watch_trace;
-use std::alloc::Global;
+use rlsf_watched::{Watched, watch_trace};
+use std::alloc::{AllocError, Global};
 use std::io::{Read, Write};
 
 /// Reads a trace, all that is left of the reader, runs it on a new allocator, and writes a drawing of the calls of some lines.
@@ -44,9 +44,19 @@ fn text_for(alloc: Global, input: &[u8], lines: Lines) -> Result<String, ReplayF
 {
     let trace = Trace::parse(alloc, input)?;
     let watched = watch_trace(alloc, &trace)?;
+    Ok(drawing_for(alloc, &trace, &watched, lines)?)
+}
+
+// The drawing of a trace that was run.
+fn drawing_for(
+    alloc: Global,
+    trace: &Trace,
+    watched: &Watched,
+    lines: Lines,
+) -> Result<String, AllocError> {
     let window = Window::new(lines, trace.ops.len());
     let pools = pools_of(alloc, &trace.ops, &watched.answers)?;
-    let boxes = boxes_of(alloc, &trace.ops, &watched, window)?;
-    let legend = legend_of(trace.configuration, &watched, window, boxes.left_out);
-    Ok(drawing(alloc, window, &pools, &boxes.boxes, &watched, &legend)?)
+    let boxes = boxes_of(alloc, &trace.ops, watched, window)?;
+    let legend = legend_of(trace.configuration, watched, window, boxes.left_out);
+    drawing(alloc, window, &pools, &boxes.boxes, watched, &legend)
 }
