@@ -1,10 +1,10 @@
 use Rattle.rlsf_global.proofs.Layouts.{content_at-bytes, layout_at-without_here, layout_at-without_other}
-use Rattle.std.proofs.Common.{Some, Ok, Err, ap, ◌∙◌, subst, sym, refl}
+use Rattle.std.proofs.Common.{Some, Ok, Err, lit<, ap, ◌∙◌, subst, sym, refl}
 use Rattle.rlsf_base.specs.Addr.{at}
 use Rattle.rlsf_global.specs.Locked.{heap_of}
 use Rattle.rlsf_global.proofs.Checks.{deallocates_in, deallocates_out}
 use Rattle.rlsf_global.proofs.Lives.{known, unknown}
-use Rattle.rlsf_global.proofs.Placements.{released, released_locked}
+use Rattle.rlsf_global.proofs.Placements.{live_row, released, released_locked}
 use Rattle.rlsf_global.proofs.Results.{not-false, not-true}
 use Rattle.rlsf_placement.specs.declared.error.GlobalError.TheVariants.{WrongLayout}
 use Rattle.rlsf_placement.specs.Steps.{DeallocatesAsAt}
@@ -16,6 +16,12 @@ returns-then-ne-clause-step g c = rw (← c.self.view_is) (
     let found = rw c.deref.ensures.value at c.in-Ok.ensures.found in
     let row = found.row c.index.result.now ∙ ap Some (sym c.index.ensures) in
     subst (λ o. DeallocatesAsAt h (at c.args.addr) c.args.layout o (Err WrongLayout) h) (sym row) (deallocates_out h (at c.args.addr) c.args.layout c.index.result.now (not-true _ c.if-ne.ensures)))
+
+pub deallocate-requires : goal.deallocate-requires
+deallocate-requires g c =
+    let found = rw c.deref.ensures.value at c.in-Ok.ensures.found in
+    let row = found.row c.remove-row.result ∙ ap Some (sym c.remove-row.ensures.value) in
+    (lit< tt, live_row c.self.inside.flex c.self.inside.rows.items c.self.invariant (at c.args.addr) c.remove-row.result row ∙ ap Some (sym c.align.ensures.value))
 
 pub invariant_of-self : goal.invariant_of-self
 invariant_of-self g c =

@@ -1,11 +1,17 @@
 use Rattle.rlsf_global.proofs.Layouts.{content_at-bytes, layout_at-without_here, layout_at-without_other}
-use Rattle.std.proofs.Common.{Ok, refl, ◌∙◌, subst, sym}
+use Rattle.std.proofs.Common.{Some, Ok, lit<, ap, refl, ◌∙◌, subst, sym}
 use Rattle.rlsf_base.specs.Addr.{at}
 use Rattle.rlsf_global.specs.Locked.{heap_of}
 use Rattle.rlsf_global.proofs.Lives.{known, unknown}
-use Rattle.rlsf_global.proofs.Placements.{released, released_locked, some_row}
+use Rattle.rlsf_global.proofs.Placements.{live_row, released, released_locked, some_row}
 use Rattle.rlsf_placement.specs.Steps.{DeallocatesAt}
 use Rattle.rlsf_global.proofs.locked.Locked.deallocate.Goals as goal
+
+pub deallocate-requires : goal.deallocate-requires
+deallocate-requires g c =
+    let found = rw c.deref.ensures.value at c.in-Ok.ensures.found in
+    let row = found.row c.remove-gone.result ∙ ap Some (sym c.remove-gone.ensures.value) in
+    (lit< tt, live_row c.self.inside.flex c.self.inside.rows.items c.self.invariant (at c.args.addr) c.remove-gone.result row ∙ ap Some (sym c.align.ensures.value))
 
 pub invariant_of-self : goal.invariant_of-self
 invariant_of-self g c =
