@@ -1,5 +1,6 @@
 use Rattle.std.proofs.Common.{◌≡◌, ◌≤◌, ◌<◌, ◌+◌, length, suc, Some, None, Ok, Err, refl, sym, ◌∙◌, ap, subst}
 use Rattle.std.proofs.lemmas.Bool.{false≢true}
+use Rattle.std.proofs.lemmas.Option.{none-some}
 use Rattle.std.specs.declared.num.NonZeroUsize.{NonZeroUsize}
 use Rattle.rlsf_base.specs.Addr.{at}
 use Rattle.rlsf_base.specs.PowerOfTwo.{floor_log2}
@@ -67,6 +68,14 @@ returns-clause-bytes g c = rw (← c.self.view_is) c.in-Some-reallocate.ensures.
 
 pub returns-in_default-clause-answer : goal.returns-in_default-clause-answer
 returns-in_default-clause-answer g c = subst (λ o. IsRefusedBy {A = NonZeroUsize} (size_refusal o c.args.size) (Err UnknownAddress)) c.in_default.ensures.value refl
+
+pub returns-in_default-clause-step : goal.returns-in_default-clause-step
+returns-in_default-clause-step g c = λ fits. absurd (subst (λ o. size_refusal o c.args.size ≡ None → ⊥) c.in_default.ensures.value (λ none. none-some UnknownAddress (sym none)) fits)
+
+pub returns-in_default-from_size_align-clause-step : goal.returns-in_default-from_size_align-clause-step
+returns-in_default-from_size_align-clause-step g c = λ fits.
+    let past = size_past c.args.size c.in-Some.align c.in-Some.ensures.power (λ is. false≢true (c.in_default-from_size_align.ensures.succeeds.1 is)) in
+    absurd (subst (λ o. size_refusal o c.args.size ≡ None → ⊥) c.in-Some.ensures.value (λ none. none-some NoLayout (sym none ∙ past)) fits)
 
 pub returns-in_default-from_size_align-clause-answer : goal.returns-in_default-from_size_align-clause-answer
 returns-in_default-from_size_align-clause-answer g c =
