@@ -227,12 +227,14 @@ impl<FLBitmap: Bitmap, SLBitmap: Bitmap, const FLLEN: usize, const SLLEN: usize>
         ensures touches { self.new.heap.memory.touches ≤ self.old.heap.memory.touches + 32 }
         ensures copied { self.new.heap.memory.copied ≡ self.old.heap.memory.copied }
     {
-        let Some(align) = self.alignment(addr) else {
-            return Err(CheckedError::UnknownAddress);
-        };
-        self.heap.deallocate(addr, align);
-        self.marks.set(addr.get(), 0);
-        Ok(())
+        match self.alignment(addr) {
+            None => Err(CheckedError::UnknownAddress),
+            Some(align) => {
+                self.heap.deallocate(addr, align);
+                self.marks.set(addr.get(), 0);
+                Ok(())
+            }
+        }
     }
 
     /// Gives a payload another size, with the alignment that it has. It stays where it stands if its block and a free one behind it

@@ -1,6 +1,7 @@
 use Rattle.std.proofs.Common.{◌≡◌, Some, refl, sym, ◌∙◌, ap, subst}
 use Rattle.rlsf_base.specs.Addr.{at}
 use Rattle.rlsf_machine.specs.Callers.{align_at}
+use Rattle.rlsf_checked.specs.Answers.{if_live}
 use Rattle.rlsf_checked.specs.Steps.Marks.{HasMark, mark_at, mark_of}
 use Rattle.rlsf_checked.proofs.Standing.{has_mark, marked_at, stands_after}
 use Rattle.rlsf_checked.proofs.checked.CheckedTlsf.deallocate.Goals as goal
@@ -19,23 +20,29 @@ invariant_of-self g c =
     let here : mark_at marks addr ≡ mark_of (align_at heap.state addr) = subst (λ a. mark_at marks a ≡ 0) c.get.ensures.value c.set.ensures.here ∙ sym (ap mark_of did.gone) in
     marked_at c.self.invariant heap marks addr (stands_after _ _ _ _ _ did.step) did.place did.chunks c.set.ensures.places here (λ a apart. c.set.ensures.others a (λ same. apart (same ∙ c.get.ensures.value))) did.aligns
 
-pub returns-clause-aligns : goal.returns-clause-aligns
-returns-clause-aligns g c = rw (← c.self.view_is) c.deallocate.ensures.aligns
+pub returns-in-Some-clause-aligns : goal.returns-in-Some-clause-aligns
+returns-in-Some-clause-aligns g c = rw (← c.self.view_is) c.deallocate.ensures.aligns
 
-pub returns-clause-step : goal.returns-clause-step
-returns-clause-step g c = rw (← c.self.view_is) c.deallocate.ensures.step
+pub returns-in-Some-clause-step : goal.returns-in-Some-clause-step
+returns-in-Some-clause-step g c = rw (← c.self.view_is) c.deallocate.ensures.step
 
-pub returns-clause-bytes : goal.returns-clause-bytes
-returns-clause-bytes g c = rw (← c.self.view_is) c.deallocate.ensures.bytes
+pub returns-in-Some-clause-bytes : goal.returns-in-Some-clause-bytes
+returns-in-Some-clause-bytes g c = rw (← c.self.view_is) c.deallocate.ensures.bytes
 
-pub returns-clause-place : goal.returns-clause-place
-returns-clause-place g c = rw (← c.self.view_is) c.deallocate.ensures.place
+pub returns-in-Some-clause-place : goal.returns-in-Some-clause-place
+returns-in-Some-clause-place g c = rw (← c.self.view_is) c.deallocate.ensures.place
 
-pub returns-clause-touches : goal.returns-clause-touches
-returns-clause-touches g c = rw (← c.self.view_is) c.deallocate.ensures.touches
+pub returns-in-Some-clause-touches : goal.returns-in-Some-clause-touches
+returns-in-Some-clause-touches g c = rw (← c.self.view_is) c.deallocate.ensures.touches
 
-pub returns-clause-copied : goal.returns-clause-copied
-returns-clause-copied g c = rw (← c.self.view_is) c.deallocate.ensures.copied
+pub returns-in-Some-clause-copied : goal.returns-in-Some-clause-copied
+returns-in-Some-clause-copied g c = rw (← c.self.view_is) c.deallocate.ensures.copied
 
-pub returns-clause-gone : goal.returns-clause-gone
-returns-clause-gone g c = c.deallocate.ensures.gone
+pub returns-in-Some-clause-gone : goal.returns-in-Some-clause-gone
+returns-in-Some-clause-gone g c = c.deallocate.ensures.gone
+
+pub returns-in-None-clause-answer : goal.returns-in-None-clause-answer
+returns-in-None-clause-answer g c = ap (λ o. if_live o tt) c.in-None.ensures.value
+
+pub returns-in-None-clause-step : goal.returns-in-None-clause-step
+returns-in-None-clause-step g c = tt
