@@ -1,0 +1,8 @@
+use Rattle.std.proofs.Common.{rules, ◌≡◌, ◌++◌}
+use Rattle.rlsf_journal.specs.Entries.{receipts_for}
+use Rattle.rlsf_journal.proofs.journaled.Journaled.step.Goals as goal
+
+pub returns-then-not-matches-clause-receipt : goal.returns-then-not-matches-clause-receipt
+returns-then-not-matches-clause-receipt g c = rw (← c.pass.view_is) (
+    let receipts : c.push_reserved.new.self.items ≡ c.pass.inside.receipts.items ++ receipts_for c.len-number.result c.args.call c.step-reply.result = search rules in
+    (c.len-number.result, receipts))
