@@ -132,6 +132,7 @@ impl<FLBitmap: Bitmap, SLBitmap: Bitmap, const FLLEN: usize, const SLLEN: usize>
         ensures bytes { bytes_at self.new.heap.state ≡ bytes_at self.old.heap.state }
         ensures place { SamePlace self.old.heap.memory self.new.heap.memory }
         ensures touches { self.new.heap.memory.touches ≤ self.old.heap.memory.touches + 13 * length (cut (max_pool_size FLLEN) (aligned_part range)) }
+        ensures grow { self.old.heap.memory.touches ≤ self.new.heap.memory.touches }
         ensures copied { self.new.heap.memory.copied ≡ self.old.heap.memory.copied }
     {
         if !lies_in(self.heap.memory_ref(), range) {
@@ -167,6 +168,7 @@ impl<FLBitmap: Bitmap, SLBitmap: Bitmap, const FLLEN: usize, const SLLEN: usize>
         ensures place { SamePlace self.old.heap.memory self.new.heap.memory }
         ensures touches { self.new.heap.memory.touches ≤ self.old.heap.memory.touches
             + (if is_some (max_pool_size FLLEN) then 13 * length (cut (max_pool_size FLLEN) (aligned_part range)) else 34) }
+        ensures grow { self.old.heap.memory.touches ≤ self.new.heap.memory.touches }
         ensures copied { self.new.heap.memory.copied ≡ self.old.heap.memory.copied }
     {
         if !lies_in(self.heap.memory_ref(), range) {
@@ -203,6 +205,7 @@ impl<FLBitmap: Bitmap, SLBitmap: Bitmap, const FLLEN: usize, const SLLEN: usize>
         ensures pool { self.new.pool ≡ self.old.pool }
         ensures place { SamePlace self.old.heap.memory self.new.heap.memory }
         ensures touches { self.new.heap.memory.touches ≤ self.old.heap.memory.touches + 27 }
+        ensures grow { self.old.heap.memory.touches ≤ self.new.heap.memory.touches }
         ensures copied { self.new.heap.memory.copied ≡ self.old.heap.memory.copied }
     {
         let Some(addr) = self.heap.allocate(layout) else {
@@ -225,6 +228,7 @@ impl<FLBitmap: Bitmap, SLBitmap: Bitmap, const FLLEN: usize, const SLLEN: usize>
         ensures pool { self.new.pool ≡ self.old.pool }
         ensures place { SamePlace self.old.heap.memory self.new.heap.memory }
         ensures touches { self.new.heap.memory.touches ≤ self.old.heap.memory.touches + 32 }
+        ensures grow { self.old.heap.memory.touches ≤ self.new.heap.memory.touches }
         ensures copied { self.new.heap.memory.copied ≡ self.old.heap.memory.copied }
     {
         match self.alignment(addr) {
@@ -260,7 +264,9 @@ impl<FLBitmap: Bitmap, SLBitmap: Bitmap, const FLLEN: usize, const SLLEN: usize>
         ensures pool { self.new.pool ≡ self.old.pool }
         ensures place { SamePlace self.old.heap.memory self.new.heap.memory }
         ensures touches { self.new.heap.memory.touches ≤ self.old.heap.memory.touches + 66 }
+        ensures grow { self.old.heap.memory.touches ≤ self.new.heap.memory.touches }
         ensures copied { self.new.heap.memory.copied ≤ self.old.heap.memory.copied + length (bytes_at self.old.heap.state (at addr)) }
+        ensures grow_copied { self.old.heap.memory.copied ≤ self.new.heap.memory.copied }
     {
         let Some(align) = self.alignment(addr) else {
             return Err(CheckedError::UnknownAddress);
@@ -297,6 +303,7 @@ impl<FLBitmap: Bitmap, SLBitmap: Bitmap, const FLLEN: usize, const SLLEN: usize>
         ensures pool { self.new.pool ≡ self.old.pool }
         ensures place { SamePlace self.old.heap.memory self.new.heap.memory }
         ensures touches { self.new.heap.memory.touches ≤ self.old.heap.memory.touches + 25 }
+        ensures grow { self.old.heap.memory.touches ≤ self.new.heap.memory.touches }
         ensures copied { self.new.heap.memory.copied ≡ self.old.heap.memory.copied }
     {
         let Some(align) = self.alignment(addr) else {
@@ -373,6 +380,7 @@ impl<FLBitmap: Bitmap, SLBitmap: Bitmap, const FLLEN: usize, const SLLEN: usize>
         ensures pool { self.new.pool ≡ self.old.pool }
         ensures place { SamePlace self.old.heap.memory self.new.heap.memory }
         ensures touches { self.new.heap.memory.touches ≤ self.old.heap.memory.touches + 3 }
+        ensures grow { self.old.heap.memory.touches ≤ self.new.heap.memory.touches }
         ensures copied { self.new.heap.memory.copied ≡ self.old.heap.memory.copied }
     {
         let Some(_) = self.alignment(addr) else {

@@ -100,10 +100,7 @@ pub fn bytes(size: u32) -> Layout
 }
 
 /// The address that is allocated for so many bytes, or 0. The payload is given back.
-fn given_back<S: FlexSource, const FLLEN: usize>(
-    flex: &mut FlexTlsf<S, u8, u8, FLLEN, 8>,
-    size: u32,
-) -> usize {
+fn given_back<S: FlexSource>(flex: &mut Shaped<S>, size: u32) -> usize {
     match flex.allocate(bytes(size)) {
         Some(addr) => {
             flex.deallocate(addr, 1);
@@ -124,10 +121,7 @@ pub fn footer(memory: &Memory, addr: usize) -> Option<(u64, u64)> {
 }
 
 /// Whether the allocator answers a step as it has to.
-fn goes_so<S: FlexSource, const FLLEN: usize>(
-    flex: &mut FlexTlsf<S, u8, u8, FLLEN, 8>,
-    step: Step,
-) -> bool {
+fn goes_so<S: FlexSource>(flex: &mut Shaped<S>, step: Step) -> bool {
     match step {
         Step::Allocate(size, addr) => number(flex.allocate(bytes(size))) == addr,
         Step::GiveBack(size, addr) => given_back(flex, size) == addr,
@@ -137,10 +131,7 @@ fn goes_so<S: FlexSource, const FLLEN: usize>(
 }
 
 /// The index of the first step that the allocator answers otherwise.
-pub fn first_wrong<S: FlexSource, const FLLEN: usize>(
-    flex: &mut FlexTlsf<S, u8, u8, FLLEN, 8>,
-    steps: &[Step],
-) -> Option<usize> {
+pub fn first_wrong<S: FlexSource>(flex: &mut Shaped<S>, steps: &[Step]) -> Option<usize> {
     for (index, step) in steps.iter().enumerate() {
         if !goes_so(flex, *step) {
             return Some(index);

@@ -144,8 +144,8 @@ static CASES: [Case; 8] = [
 
 /// Allocates two payloads of so many bytes and trims, gives the newer one back and trims, gives the older one back and trims. Answers
 /// the addresses, and how many ranges went each time.
-fn shrinks<S: FlexSource, const FLLEN: usize>(
-    flex: &mut FlexTlsf<S, u8, u8, FLLEN, 8>,
+fn shrinks<S: FlexSource>(
+    flex: &mut Shaped<S>,
     first: u32,
     second: u32,
 ) -> Option<([usize; 2], [usize; 3])> {

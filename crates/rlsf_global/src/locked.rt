@@ -84,6 +84,7 @@ impl<Options: GlobalTlsfOptions> Locked<Options> {
         ensures contents { IfOk result (λ addr. (a : ℕ) → a ≢ at addr → content_at self.new.heap a ≡ content_at self.old.heap a) }
         ensures same { OnErr result (self.new.heap ≡ self.old.heap) }
         ensures touches { HasRoomFor 64 self.old.heap.flex.machine layout.size layout.align → self.new.memory.touches ≤ self.old.memory.touches + 27 }
+        ensures grow { self.old.memory.touches ≤ self.new.memory.touches }
     {
         if self.rows.try_reserve(1).is_err() {
             return Err(GlobalError::TableMemory);
@@ -107,6 +108,7 @@ impl<Options: GlobalTlsfOptions> Locked<Options> {
         ensures contents { OnOk result ((a : ℕ) → a ≢ at addr → content_at self.new.heap a ≡ content_at self.old.heap a) }
         ensures same { OnErr result (self.new.heap ≡ self.old.heap) }
         ensures touches { self.new.memory.touches ≤ self.old.memory.touches + 32 }
+        ensures grow { self.old.memory.touches ≤ self.new.memory.touches }
     {
         let Ok(found) = search(&self.rows, addr) else {
             return Err(GlobalError::UnknownAddress);
@@ -129,6 +131,7 @@ impl<Options: GlobalTlsfOptions> Locked<Options> {
         ensures contents { OnOk result ((a : ℕ) → a ≢ at addr → content_at self.new.heap a ≡ content_at self.old.heap a) }
         ensures same { OnErr result (self.new.heap ≡ self.old.heap) }
         ensures touches { self.new.memory.touches ≤ self.old.memory.touches + 32 }
+        ensures grow { self.old.memory.touches ≤ self.new.memory.touches }
     {
         let Ok(index) = search(&self.rows, addr) else {
             return Err(GlobalError::UnknownAddress);
@@ -172,6 +175,7 @@ impl<Options: GlobalTlsfOptions> Locked<Options> {
             → self.new.memory.touches ≤ self.old.memory.touches + 66 }
         ensures touches_elsewhere { Options.ENABLE_REALLOCATION ≡ false → HasRoomFor 64 self.old.heap.flex.machine new_size layout.align
             → self.new.memory.touches ≤ self.old.memory.touches + 59 }
+        ensures grow { self.old.memory.touches ≤ self.new.memory.touches }
     {
         let Ok(at) = search(&self.rows, addr) else {
             return Err(GlobalError::UnknownAddress);
@@ -203,6 +207,7 @@ impl<Options: GlobalTlsfOptions> Locked<Options> {
         ensures contents { IfOk result (λ to. (a : ℕ) → a ≢ at addr → a ≢ at to → content_at self.new.heap a ≡ content_at self.old.heap a) }
         ensures same { OnErr result (self.new.heap ≡ self.old.heap) }
         ensures touches { HasRoomFor 64 self.old.heap.flex.machine layout.size layout.align → self.new.memory.touches ≤ self.old.memory.touches + 59 }
+        ensures grow { self.old.memory.touches ≤ self.new.memory.touches }
     {
         let Ok(at) = search(&self.rows, addr) else {
             return Err(GlobalError::UnknownAddress);
@@ -239,6 +244,7 @@ impl<Options: GlobalTlsfOptions> Locked<Options> {
         ensures contents { IfOk result (λ to. (a : ℕ) → a ≢ at addr → content_at self.new.heap a ≡ content_at self.old.heap a) }
         ensures same { OnErr result (self.new.heap ≡ self.old.heap) }
         ensures touches { self.new.memory.touches ≤ self.old.memory.touches + 25 }
+        ensures grow { self.old.memory.touches ≤ self.new.memory.touches }
     {
         let Ok(at) = search(&self.rows, addr) else {
             return Err(GlobalError::UnknownAddress);
@@ -309,6 +315,7 @@ impl<Options: GlobalTlsfOptions> Locked<Options> {
         ensures contents { OnOk result ((a : ℕ) → a ≢ at addr → content_at self.new.heap a ≡ content_at self.old.heap a) }
         ensures same { OnErr result (self.new.heap ≡ self.old.heap) }
         ensures touches { self.new.memory.touches ≤ self.old.memory.touches + 3 }
+        ensures grow { self.old.memory.touches ≤ self.new.memory.touches }
     {
         let Ok(_) = search(&self.rows, addr) else {
             return Err(GlobalError::UnknownAddress);

@@ -40,6 +40,7 @@ pub(crate) fn move_away<Options: GlobalTlsfOptions>(
     ensures none { IfNone result ((rows : List Row) → MovesAway (heap_of flex.old rows) (at addr) keep wanted (Err NoRoom) (heap_of flex.new rows)) }
     ensures refused { IfNone result (StaysRefused flex.old flex.new) }
     ensures touches { HasRoomFor 64 flex.old.state.machine wanted.size wanted.align → flex.new.memory.touches ≤ flex.old.memory.touches + 59 }
+    ensures grow { flex.old.memory.touches ≤ flex.new.memory.touches }
 {
     let to = flex.allocate(wanted)?;
     flex.copy_payload(addr, to, keep);
@@ -67,6 +68,7 @@ pub(crate) fn resize<Options: GlobalTlsfOptions>(
         → flex.new.memory.touches ≤ flex.old.memory.touches + 66 }
     ensures touches_elsewhere { Options.ENABLE_REALLOCATION ≡ false → HasRoomFor 64 flex.old.state.machine wanted.size wanted.align
         → flex.new.memory.touches ≤ flex.old.memory.touches + 59 }
+    ensures grow { flex.old.memory.touches ≤ flex.new.memory.touches }
 {
     if Options::ENABLE_REALLOCATION {
         flex.reallocate(addr, wanted)

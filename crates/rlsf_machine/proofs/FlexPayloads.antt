@@ -1,10 +1,10 @@
 -- What steps over a source leave of payloads.
-use Rattle.std.proofs.Common.{◌≡◌, ℕ, length, Some, None, arith, sym, ◌∙◌, ap, subst, inl, inr}
+use Rattle.std.proofs.Common.{◌≡◌, ℕ, [], ◌∷◌, length, Some, None, arith, refl, sym, ◌∙◌, ap, subst, inl, inr}
 use Rattle.std.proofs.lemmas.Option.{same_Some}
 use Rattle.rlsf_base.specs.declared.memory.range.Range.{Range}
 use Rattle.rlsf_machine.specs.Callers.{Payload, Serves, payload_at, payload_in}
 use Rattle.rlsf_machine.specs.FlexState.{FlexState}
-use Rattle.rlsf_machine.specs.Laws.{FlexStepsChangeMap, FlexPayloadsAreApart, FlexAllocationHasSize, FlexReallocationHasSize, FlexReallocationKeepsBytes, FlexOtherPayloadsStay, FlexUsedWasUsed, HasSize}
+use Rattle.rlsf_machine.specs.Laws.{FlexStepsChangeMap, FlexRunsChangeMap, FlexPayloadsAreApart, FlexAllocationHasSize, FlexReallocationHasSize, FlexReallocationKeepsBytes, FlexOtherPayloadsStay, FlexOthersStayInRuns, FlexUsedWasUsed, FlexUsedWasUsedInRuns, HasSize}
 use Rattle.rlsf_machine.specs.Lists.{IsIn}
 use Rattle.rlsf_machine.specs.Reallocate.{Keeps}
 use Rattle.rlsf_machine.specs.Run.{insert, append, allocate, deallocate, reallocate, fill, remove, trim}
@@ -20,6 +20,14 @@ use Rattle.rlsf_machine.proofs.Live.{live_addresses_are_aligned, live_address_ha
 pub flex_steps_change_map : FlexStepsChangeMap
 flex_steps_change_map fl_bits sl_bits fllen sllen memory t s u e notes valid w step =
     flex_callers_see_map fllen sllen t memory memory s u e notes w.machine (flex_steps_keep_well_formed fl_bits sl_bits fllen sllen memory t s u e notes valid w step).machine step.may step.leads
+
+pub flex_runs_change_map : FlexRunsChangeMap
+flex_runs_change_map fl_bits sl_bits fllen sllen memory t s u [] valid w run = λ a. ap (λ (y : FlexState). payload_at y.machine a) run
+flex_runs_change_map fl_bits sl_bits fllen sllen memory t s u (c ∷ cs) valid w (m, step, rest) = (
+  payload_at m.machine,
+  flex_steps_change_map fl_bits sl_bits fllen sllen memory t s m c.event c.notes valid w step,
+  flex_runs_change_map fl_bits sl_bits fllen sllen memory t m u cs valid (flex_steps_keep_well_formed fl_bits sl_bits fllen sllen memory t s m c.event c.notes valid w step) rest,
+)
 
 pub flex_payloads_are_apart : FlexPayloadsAreApart
 flex_payloads_are_apart fl_bits sl_bits fllen sllen memory t s u cs valid w run =
@@ -114,3 +122,17 @@ flex_used_was_used fllen sllen t s u (reallocate addr size (Some to)) notes x (i
     (reallocate_from x m.machine more.machine (subst (λ (y : FlexState). IsIn x y.machine.used) more.after i) sllen size more.block None (Some to) new more.moves)
 flex_used_was_used fllen sllen t s u (fill addr bytes) notes x step i other new =
     used_was_used fllen sllen s.machine step.machine (fill addr bytes) x step.leads (subst (λ (y : FlexState). IsIn x y.machine.used) step.after i) other new
+
+-- ---- and a run
+
+pub flex_others_stay_in_runs : FlexOthersStayInRuns
+flex_others_stay_in_runs fllen sllen memory t s u [] x run i apart = subst (λ (y : FlexState). IsIn x y.machine.used) (sym run) i
+flex_others_stay_in_runs fllen sllen memory t s u (c ∷ cs) x (m, step, rest) i apart =
+    let j = flex_other_payloads_stay fllen sllen t s m c.event c.notes x step.leads i (apart c.event (inl refl)) in
+    flex_others_stay_in_runs fllen sllen memory t m u cs x rest j (λ e k. apart e (inr k))
+
+pub flex_used_was_used_in_runs : FlexUsedWasUsedInRuns
+flex_used_was_used_in_runs fllen sllen memory t s u [] x run i other new = subst (λ (y : FlexState). IsIn x y.machine.used) run i
+flex_used_was_used_in_runs fllen sllen memory t s u (c ∷ cs) x (m, step, rest) i other new =
+    let j = flex_used_was_used_in_runs fllen sllen memory t m u cs x rest i (λ e k. other e (inr k)) (λ e k. new e (inr k)) in
+    flex_used_was_used fllen sllen t s m c.event c.notes x step.leads j (other c.event (inl refl)) (new c.event (inl refl))

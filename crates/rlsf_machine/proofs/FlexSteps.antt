@@ -10,7 +10,7 @@ use Rattle.rlsf_machine.specs.FlexReallocate.{FlexReallocates}
 use Rattle.rlsf_machine.specs.FlexState.{FlexState, with_machine}
 use Rattle.rlsf_machine.specs.FlexWellFormed.{AreHoused, IsFlexWellFormed, IsNewest}
 use Rattle.rlsf_machine.specs.Growth.{Outcome, refused}
-use Rattle.rlsf_machine.specs.Laws.{FlexEmptyIsWellFormed, FlexStepsKeepWellFormed, FlexRunsKeepWellFormed}
+use Rattle.rlsf_machine.specs.Laws.{FlexEmptyIsWellFormed, FlexStepsKeepWellFormed, FlexRunsAreSteps, FlexRunsKeepWellFormed}
 use Rattle.rlsf_machine.specs.Note.{Note}
 use Rattle.rlsf_machine.specs.Reallocate.{MovesAway}
 use Rattle.rlsf_machine.specs.Run.{insert, append, allocate, deallocate, reallocate, fill, remove, trim}
@@ -92,3 +92,25 @@ pub flex_runs_keep_well_formed : FlexRunsKeepWellFormed
 flex_runs_keep_well_formed fl_bits sl_bits fllen sllen memory t s u [] valid w run = subst (IsFlexWellFormed fllen sllen memory t) (sym run) w
 flex_runs_keep_well_formed fl_bits sl_bits fllen sllen memory t s u (c ∷ cs) valid w (m, step, rest) =
     flex_runs_keep_well_formed fl_bits sl_bits fllen sllen memory t m u cs valid (flex_steps_keep_well_formed fl_bits sl_bits fllen sllen memory t s m c.event c.notes valid w step) rest
+
+pub flex_runs_are_steps : FlexRunsAreSteps
+flex_runs_are_steps fl_bits sl_bits fllen sllen memory t s u [] after c valid w (m, step, rest) = record {
+  old = s;
+  now = m;
+  led = refl;
+  well_before = w;
+  step = step;
+  well_after = flex_steps_keep_well_formed fl_bits sl_bits fllen sllen memory t s m c.event c.notes valid w step;
+  leads = rest;
+}
+flex_runs_are_steps fl_bits sl_bits fllen sllen memory t s u (b ∷ before) after c valid w (m, first, rest) =
+    let is = flex_runs_are_steps fl_bits sl_bits fllen sllen memory t m u before after c valid (flex_steps_keep_well_formed fl_bits sl_bits fllen sllen memory t s m b.event b.notes valid w first) rest in
+    record {
+      old = is.old;
+      now = is.now;
+      led = (m, first, is.led);
+      well_before = is.well_before;
+      step = is.step;
+      well_after = is.well_after;
+      leads = is.leads;
+    }

@@ -7,7 +7,7 @@ use Rattle.rlsf_machine.specs.Laws.{UnmovedIsReallocated}
 use Rattle.rlsf_machine.specs.Lists.{without}
 use Rattle.rlsf_machine.specs.NoMove.{ReallocatesUnmovedBy, unmoved_plan}
 use Rattle.rlsf_machine.specs.Reallocate.{Plan, Reallocates, ReallocatesBy, in_place, into_next, into_previous, or_else, plan, resized, tail_joined}
-use Rattle.rlsf_machine.specs.State.{State, Used, Holds}
+use Rattle.rlsf_machine.specs.State.{State, Used}
 
 module _ (s : State) (u : Used) (size : ℕ) where
   -- a plan that leaves the payload where it is is the first of the three

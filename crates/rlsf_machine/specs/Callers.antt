@@ -1,5 +1,5 @@
 -- What callers see of the machine: a map from addresses to payloads, and nothing of chunks, blocks or free ranges.
-use Rattle.std.specs.Prelude.{◌≡◌, ◌≢◌, ℕ, ◌+◌, ◌<◌, ◌≤◌, ◌==◌, List, [], length, Option, Some, None, find}
+use Rattle.std.specs.Prelude.{◌≡◌, ◌≢◌, ℕ, ◌+◌, ◌<◌, ◌≤◌, ◌==◌, List, [], ◌∷◌, length, Option, Some, None, find}
 use Rattle.std.specs.List.{splice}
 use Rattle.std.specs.Option.{option_map}
 use Rattle.rlsf_machine.specs.Reallocate.{Keeps}
@@ -80,3 +80,8 @@ Changes before (reallocate addr size (Some to)) after = IsResized before addr si
 Changes before (fill addr bytes) after = (p : Payload) × (before addr ≡ Some p) × (length bytes ≡ length p.bytes) × IsSet before addr (Some (record { align = p.align; bytes = bytes })) after
 Changes before (remove r) after = IsUnchanged before after
 Changes before (trim count) after = IsUnchanged before after
+
+-- what a list of calls with their replies does to the map, one after another
+abbrev pub ChangesAll : (ℕ → Option Payload) → List Event → (ℕ → Option Payload) → Type 0
+ChangesAll before [] after = IsUnchanged before after
+ChangesAll before (e ∷ es) after = (between : ℕ → Option Payload) × Changes before e between × ChangesAll between es after

@@ -7,9 +7,9 @@ use Rattle.rlsf_base.specs.SizeClass.{class_of, IsAtMost, IsValid, Reaches}
 use Rattle.rlsf_base.specs.Sizes.{max_pool_size, pool_size_to_contain_allocation, request_size}
 use Rattle.rlsf_machine.specs.Allocate.{choice, has_class, Allocates}
 use Rattle.rlsf_machine.specs.Answers.{MayAnswerAll}
-use Rattle.rlsf_machine.specs.Callers.{Payload, payload_in, payload_at, Changes}
+use Rattle.rlsf_machine.specs.Callers.{Payload, payload_in, payload_at, Changes, ChangesAll}
 use Rattle.rlsf_machine.specs.End.{notes_at_end, owed_at_end}
-use Rattle.rlsf_machine.specs.FlexRun.{AllComeTo, AreSameCalls, FlexEvent, FlexLeads, FlexMayCall, HandsIn, IsFlexRun, IsFlexStep, notes_in}
+use Rattle.rlsf_machine.specs.FlexRun.{AllComeTo, AreSameCalls, FlexEvent, FlexLeads, FlexMayCall, HandsIn, IsFlexRun, IsFlexStep, events_in, notes_in}
 use Rattle.rlsf_machine.specs.FlexState.{FlexState, AreFlexSimilar, empty as flex_empty}
 use Rattle.rlsf_machine.specs.FlexWellFormed.{IsFlexWellFormed}
 use Rattle.rlsf_machine.specs.Growth.{Extends, IsPossible, Outcome, Questions, is_more, notes_of}
@@ -304,6 +304,21 @@ abbrev pub FlexRunsKeepWellFormed : Type 0
 FlexRunsKeepWellFormed = (fl_bits sl_bits fllen sllen : ℕ) (memory : Range) (t : Terms) (s u : FlexState) (cs : List FlexEvent) → IsValid fl_bits sl_bits fllen sllen
     → IsFlexWellFormed fllen sllen memory t s → IsFlexRun fllen sllen memory t s cs u → IsFlexWellFormed fllen sllen memory t u
 
+-- one call of a run: a step between two well-formed states, to which the calls before it led and from which those behind it lead
+pub record IsCallOfRun (fllen sllen : ℕ) (memory : Range) (t : Terms) (s : FlexState) (before : List FlexEvent) (c : FlexEvent) (after : List FlexEvent) (u : FlexState) : Type 0 where
+  pub old : FlexState
+  pub now : FlexState
+  pub led : IsFlexRun fllen sllen memory t s before old
+  pub well_before : IsFlexWellFormed fllen sllen memory t old
+  pub step : IsFlexStep fllen sllen memory t old c.event c.notes now
+  pub well_after : IsFlexWellFormed fllen sllen memory t now
+  pub leads : IsFlexRun fllen sllen memory t now after u
+
+-- each call of a run over a source is such a step, so what is said of steps holds of it
+abbrev pub FlexRunsAreSteps : Type 0
+FlexRunsAreSteps = (fl_bits sl_bits fllen sllen : ℕ) (memory : Range) (t : Terms) (s u : FlexState) (before after : List FlexEvent) (c : FlexEvent) → IsValid fl_bits sl_bits fllen sllen
+    → IsFlexWellFormed fllen sllen memory t s → IsFlexRun fllen sllen memory t s (before ++ c ∷ after) u → IsCallOfRun fllen sllen memory t s before c after u
+
 -- steps over a source are determined: from similar states the same call asks the same questions, has the same reply, and leads to
 -- similar states, where the source gives the same answers to the same questions
 abbrev pub FlexSimilarStatesAgree : Type 0
@@ -366,6 +381,21 @@ FlexOtherPayloadsStay = (fllen sllen : ℕ) (t : Terms) (s u : FlexState) (e : E
 abbrev pub FlexUsedWasUsed : Type 0
 FlexUsedWasUsed = (fllen sllen : ℕ) (t : Terms) (s u : FlexState) (e : Event) (notes : List Note) (x : Used) → FlexLeads fllen sllen t s e notes u
     → IsIn x u.machine.used → (Names e x.payload → ⊥) → (Gives e x.payload → ⊥) → IsIn x s.machine.used
+
+-- a run over a source changes the callers' map call by call
+abbrev pub FlexRunsChangeMap : Type 0
+FlexRunsChangeMap = (fl_bits sl_bits fllen sllen : ℕ) (memory : Range) (t : Terms) (s u : FlexState) (cs : List FlexEvent) → IsValid fl_bits sl_bits fllen sllen
+    → IsFlexWellFormed fllen sllen memory t s → IsFlexRun fllen sllen memory t s cs u → ChangesAll (payload_at s.machine) (events_in cs) (payload_at u.machine)
+
+-- a run over a source of which no call names a payload leaves its block with its bytes as it was
+abbrev pub FlexOthersStayInRuns : Type 0
+FlexOthersStayInRuns = (fllen sllen : ℕ) (memory : Range) (t : Terms) (s u : FlexState) (cs : List FlexEvent) (x : Used) → IsFlexRun fllen sllen memory t s cs u
+    → IsIn x s.machine.used → ((e : Event) → IsIn e (events_in cs) → Names e x.payload → ⊥) → IsIn x u.machine.used
+
+-- a used block that a run over a source names in none of its calls and replies was there before, with the same bytes
+abbrev pub FlexUsedWasUsedInRuns : Type 0
+FlexUsedWasUsedInRuns = (fllen sllen : ℕ) (memory : Range) (t : Terms) (s u : FlexState) (cs : List FlexEvent) (x : Used) → IsFlexRun fllen sllen memory t s cs u
+    → IsIn x u.machine.used → ((e : Event) → IsIn e (events_in cs) → Names e x.payload → ⊥) → ((e : Event) → IsIn e (events_in cs) → Gives e x.payload → ⊥) → IsIn x s.machine.used
 
 -- to whatever it is asked a source gives answers that it may give while these ranges are outstanding, and this comes of them
 abbrev pub MayRespond : Terms → List Range → (Questions → Outcome) → Type 0
@@ -439,14 +469,18 @@ pub record SourceLaws : Type 0 where
   pub flex_room : GrowthHasRoom
   pub flex_steps : FlexStepsKeepWellFormed
   pub flex_runs : FlexRunsKeepWellFormed
+  pub flex_in_runs : FlexRunsAreSteps
   pub flex_as_runs : FlexRunsAreRuns
   pub flex_map : FlexStepsChangeMap
+  pub flex_map_runs : FlexRunsChangeMap
   pub flex_apart : FlexPayloadsAreApart
   pub flex_allocated_size : FlexAllocationHasSize
   pub flex_reallocated_size : FlexReallocationHasSize
   pub flex_kept_bytes : FlexReallocationKeepsBytes
   pub flex_others_stay : FlexOtherPayloadsStay
   pub flex_was_used : FlexUsedWasUsed
+  pub flex_others_stay_runs : FlexOthersStayInRuns
+  pub flex_was_used_runs : FlexUsedWasUsedInRuns
   pub flex_similar : FlexSimilarStatesAgree
   pub flex_similar_runs : FlexSimilarRunsAgree
   pub flex_each_call : FlexEachCallAnswers

@@ -33,15 +33,16 @@ ghost use Rattle.rlsf_machine.specs.Sizing.{SizingLaws};
 /// the pool size that is computed for an allocation makes it succeed. A fill leaves a similar state. What gets
 /// another size without a move leads where a reallocation does, and stays at its address; or it is refused, and nothing changes.
 ///
-/// `sources`: over a source of memory too the machine is such a map to its callers, between any two states that are well-formed. The
-/// beginning is, and as long as the source answers what it may, memory that comes, each step and each run over it keep a
-/// state well-formed, and so they change the map as the calls say; and memory that comes for an allocation has room for it.
-/// After each run payloads are disjoint, each in one chunk at a multiple of its alignment; sizes, the bytes that both sizes have,
-/// and payloads that a step doesn't name are as without a source. A run over a source is one of the machine alone, in which
-/// the memory that comes is handed in. From similar states, where the source gives the same answers to the same questions, the
-/// same calls ask the same, have the same replies, and lead to similar states. Each call that its caller may make has a reply,
-/// whatever of what it may answer the source answers. A trim gives the newest ranges back that hold no block in use; with trims too
-/// what is outstanding is what came and did not go back, so that each range goes back once, by a trim or at the end.
+/// `sources`: over a source of memory too the machine is such a map to its callers, between any two states that are well-formed.
+/// The beginning is, and as long as the source answers what it may, memory that comes, each step and each run over it keep a
+/// state well-formed, and so they change the map as the calls say; and memory that comes for an allocation has room for it. After
+/// each run payloads are disjoint, each in one chunk at a multiple of its alignment; sizes, the bytes that both sizes have, and
+/// payloads that a step doesn't name are as without a source. Each call of a run is such a step; so payloads that no call names
+/// stay, and the map changes call by call. A run over a source is one of the machine alone, in which the memory that comes is
+/// handed in. From similar states, where the source gives the same answers to the same questions, the same calls ask the same,
+/// have the same replies, and lead to similar states. Each call that its caller may make has a reply, whatever of what it may
+/// answer the source answers. A trim gives the newest ranges back that hold no block in use; with trims too what is outstanding
+/// is what came and did not go back, so that each range goes back once, by a trim or at the end.
 ///
 /// `sizing`: how much memory is enough is known before the first call. There are at most as many free ranges as used blocks and chunks
 /// together, and the free ranges, the used blocks and 32 bytes of each chunk add up to the chunks. So an allocation is not

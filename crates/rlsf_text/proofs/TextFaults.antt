@@ -9,7 +9,7 @@ use Rattle.rlsf_text.specs.declared.parse.Trace.{Trace}
 use Rattle.rlsf_text.specs.Faults.{out_of_memory, IsOfText, IsOfLine}
 use Rattle.rlsf_text.specs.Lines.{lines, first_line}
 use Rattle.rlsf_text.specs.Numbers.{number_of, byte_of}
-use Rattle.rlsf_text.specs.Reading.{layout_of, insert_in, append_in, alloc_in, free_in, free_unknown_in, realloc_in, realloc_no_move_in, fill_in, put_in, get_in, usable_in, block_in, command_in, header_in, commands_in, trace_in, trace_text}
+use Rattle.rlsf_text.specs.Reading.{layout_of, one_number, two_numbers, three_numbers, insert_in, append_in, alloc_in, free_in, free_unknown_in, realloc_in, realloc_no_move_in, fill_in, put_in, get_in, usable_in, block_in, command_in, header_in, commands_in, trace_in, trace_text}
 use Rattle.rlsf_text.specs.FallibleSteps.{◌>>=◌, or_fault, at_line, all_or_fault, ReadsAsOrRefused}
 use Rattle.rlsf_text.specs.Words.{words, exactly_one, exactly_two, exactly_three}
 use Rattle.rlsf_text.proofs.Commands.{commands_from}
@@ -57,33 +57,45 @@ layout_of-faults : (size align : ℕ) → IfErr (layout_of size align) IsOfText
 unfolding layout_of
 layout_of-faults size align = search choice
 
+one_number-faults : (fields : List (List ℕ)) → IfErr (one_number fields) IsOfText
+unfolding one_number
+one_number-faults fields = search (step, exactly_one-faults, number_of-faults)
+
+two_numbers-faults : (fields : List (List ℕ)) → IfErr (two_numbers fields) IsOfText
+unfolding two_numbers
+two_numbers-faults fields = search (step, exactly_two-faults, number_of-faults)
+
+three_numbers-faults : (fields : List (List ℕ)) → IfErr (three_numbers fields) IsOfText
+unfolding three_numbers
+three_numbers-faults fields = search (step, exactly_three-faults, number_of-faults) depth 9
+
 insert_in-faults : (fields : List (List ℕ)) → IfErr (insert_in fields) IsOfText
 unfolding insert_in
-insert_in-faults fields = search (step, exactly_two-faults, number_of-faults)
+insert_in-faults fields = search (step, two_numbers-faults)
 
 append_in-faults : (fields : List (List ℕ)) → IfErr (append_in fields) IsOfText
 unfolding append_in
-append_in-faults fields = search (step, exactly_two-faults, number_of-faults)
+append_in-faults fields = search (step, two_numbers-faults)
 
 alloc_in-faults : (fields : List (List ℕ)) → IfErr (alloc_in fields) IsOfText
 unfolding alloc_in
-alloc_in-faults fields = search (step, exactly_three-faults, number_of-faults, layout_of-faults) depth 9
+alloc_in-faults fields = search (step, three_numbers-faults, layout_of-faults)
 
 free_in-faults : (fields : List (List ℕ)) → IfErr (free_in fields) IsOfText
 unfolding free_in
-free_in-faults fields = search (step, exactly_one-faults, number_of-faults)
+free_in-faults fields = search (step, one_number-faults)
 
 free_unknown_in-faults : (fields : List (List ℕ)) → IfErr (free_unknown_in fields) IsOfText
 unfolding free_unknown_in
-free_unknown_in-faults fields = search (step, exactly_one-faults, number_of-faults)
+free_unknown_in-faults fields = search (step, one_number-faults)
 
 realloc_in-faults : (fields : List (List ℕ)) → IfErr (realloc_in fields) IsOfText
 unfolding realloc_in
-realloc_in-faults fields = search (step, exactly_two-faults, number_of-faults)
+realloc_in-faults fields = search (step, two_numbers-faults)
 
 realloc_no_move_in-faults : (fields : List (List ℕ)) → IfErr (realloc_no_move_in fields) IsOfText
 unfolding realloc_no_move_in
-realloc_no_move_in-faults fields = search (step, exactly_two-faults, number_of-faults)
+realloc_no_move_in-faults fields = search (step, two_numbers-faults)
 
 fill_in-faults : (fields : List (List ℕ)) → IfErr (fill_in fields) IsOfText
 unfolding fill_in
@@ -95,15 +107,15 @@ put_in-faults fields = search (step, exactly_three-faults, number_of-faults, byt
 
 get_in-faults : (fields : List (List ℕ)) → IfErr (get_in fields) IsOfText
 unfolding get_in
-get_in-faults fields = search (step, exactly_two-faults, number_of-faults)
+get_in-faults fields = search (step, two_numbers-faults)
 
 usable_in-faults : (fields : List (List ℕ)) → IfErr (usable_in fields) IsOfText
 unfolding usable_in
-usable_in-faults fields = search (step, exactly_one-faults, number_of-faults)
+usable_in-faults fields = search (step, one_number-faults)
 
 block_in-faults : (fields : List (List ℕ)) → IfErr (block_in fields) IsOfText
 unfolding block_in
-block_in-faults fields = search (step, exactly_three-faults, number_of-faults) depth 9
+block_in-faults fields = search (step, three_numbers-faults)
 
 command_in-faults : (line : List (List ℕ)) → IfErr (command_in line) IsOfText
 unfolding command_in

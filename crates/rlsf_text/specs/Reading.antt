@@ -15,21 +15,40 @@ use Rattle.rlsf_text.specs.Lines.{lines, first_line}
 use Rattle.rlsf_text.specs.Numbers.{number_of, byte_of}
 use Rattle.rlsf_text.specs.Words.{words, exactly_one, exactly_two, exactly_three}
 
+-- the one number that is there
+unfoldable pub one_number : List (List ℕ) → Result ℕ Fault
+one_number fields = do
+  word ← exactly_one fields
+  number_of word
+
+-- the two numbers that are there
+unfoldable pub two_numbers : List (List ℕ) → Result (ℕ × ℕ) Fault
+two_numbers fields = do
+  both ← exactly_two fields
+  first ← number_of both.0
+  second ← number_of both.1
+  Ok (first, second)
+
+-- the three numbers that are there
+unfoldable pub three_numbers : List (List ℕ) → Result (ℕ × ℕ × ℕ) Fault
+three_numbers fields = do
+  all ← exactly_three fields
+  first ← number_of all.0
+  second ← number_of all.1
+  third ← number_of all.2
+  Ok (first, second, third)
+
 -- `insert START LEN`
 unfoldable pub insert_in : List (List ℕ) → Result Command Fault
 insert_in fields = do
-  both ← exactly_two fields
-  start ← number_of both.0
-  len ← number_of both.1
-  Ok (insert start len)
+  both ← two_numbers fields
+  Ok (insert both.0 both.1)
 
 -- `append START LEN`
 unfoldable pub append_in : List (List ℕ) → Result Command Fault
 append_in fields = do
-  both ← exactly_two fields
-  start ← number_of both.0
-  len ← number_of both.1
-  Ok (append start len)
+  both ← two_numbers fields
+  Ok (append both.0 both.1)
 
 -- there is a layout of this size and alignment, as a test
 abbrev pub is_layout : ℕ → ℕ → Bool
@@ -42,42 +61,33 @@ layout_of size align = if is_layout size align then Ok (size, align) else Err Ba
 -- `alloc NAME SIZE ALIGN`
 unfoldable pub alloc_in : List (List ℕ) → Result Command Fault
 alloc_in fields = do
-  all ← exactly_three fields
-  name ← number_of all.0
-  size ← number_of all.1
-  align ← number_of all.2
-  layout ← layout_of size align
-  Ok (alloc name layout.0 layout.1)
+  all ← three_numbers fields
+  layout ← layout_of all.1 all.2
+  Ok (alloc all.0 layout.0 layout.1)
 
 -- `free NAME`
 unfoldable pub free_in : List (List ℕ) → Result Command Fault
 free_in fields = do
-  word ← exactly_one fields
-  name ← number_of word
+  name ← one_number fields
   Ok (free name)
 
 -- `ufree NAME`
 unfoldable pub free_unknown_in : List (List ℕ) → Result Command Fault
 free_unknown_in fields = do
-  word ← exactly_one fields
-  name ← number_of word
+  name ← one_number fields
   Ok (free_unknown name)
 
 -- `realloc NAME SIZE`: whether there is such a layout depends on the name's alignment, which the text doesn't have
 unfoldable pub realloc_in : List (List ℕ) → Result Command Fault
 realloc_in fields = do
-  both ← exactly_two fields
-  name ← number_of both.0
-  size ← number_of both.1
-  Ok (realloc name size)
+  both ← two_numbers fields
+  Ok (realloc both.0 both.1)
 
 -- `nrealloc NAME SIZE`
 unfoldable pub realloc_no_move_in : List (List ℕ) → Result Command Fault
 realloc_no_move_in fields = do
-  both ← exactly_two fields
-  name ← number_of both.0
-  size ← number_of both.1
-  Ok (realloc_no_move name size)
+  both ← two_numbers fields
+  Ok (realloc_no_move both.0 both.1)
 
 -- `fill NAME BYTE`
 unfoldable pub fill_in : List (List ℕ) → Result Command Fault
@@ -99,26 +109,20 @@ put_in fields = do
 -- `get NAME OFFSET`
 unfoldable pub get_in : List (List ℕ) → Result Command Fault
 get_in fields = do
-  both ← exactly_two fields
-  name ← number_of both.0
-  offset ← number_of both.1
-  Ok (get name offset)
+  both ← two_numbers fields
+  Ok (get both.0 both.1)
 
 -- `usable NAME`
 unfoldable pub usable_in : List (List ℕ) → Result Command Fault
 usable_in fields = do
-  word ← exactly_one fields
-  name ← number_of word
+  name ← one_number fields
   Ok (usable name)
 
 -- `block START LEN INDEX`
 unfoldable pub block_in : List (List ℕ) → Result Command Fault
 block_in fields = do
-  all ← exactly_three fields
-  start ← number_of all.0
-  len ← number_of all.1
-  index ← number_of all.2
-  Ok (block start len index)
+  all ← three_numbers fields
+  Ok (block all.0 all.1 all.2)
 
 -- what a line's words ask for: the first is the command's name
 unfoldable pub command_in : List (List ℕ) → Result Command Fault

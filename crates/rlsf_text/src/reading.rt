@@ -3,7 +3,7 @@ ghost use Rattle.rlsf_text.specs.FallibleSteps.{ReadsAs, ReadsAsOrRefused};
 ghost use Rattle.rlsf_text.specs.Commands.{command_of};
 ghost use Rattle.rlsf_text.specs.Lines.{lines_left};
 ghost use Rattle.rlsf_text.specs.Words.{words, words_left};
-ghost use Rattle.rlsf_text.specs.Reading.{insert_in, append_in, layout_of, alloc_in, free_in, free_unknown_in, realloc_in, realloc_no_move_in, fill_in, put_in, get_in, usable_in, block_in, command_in, header_in, commands_in};
+ghost use Rattle.rlsf_text.specs.Reading.{one_number, two_numbers, three_numbers, insert_in, append_in, layout_of, alloc_in, free_in, free_unknown_in, realloc_in, realloc_no_move_in, fill_in, put_in, get_in, usable_in, block_in, command_in, header_in, commands_in};
 
 use crate::configuration::Configuration;
 use crate::fault::{Fault, ReplayFault};
@@ -92,13 +92,43 @@ fn read_op(line: &[u8]) -> Result<Op, Fault>
     }
 }
 
+/// The one number that is left.
+#[tactic(auto, unfolding(crate::specs::Reading::one_number))]
+fn one_number(fields: Words) -> Result<usize, Fault>
+    ensures { ReadsAs (λ n. n) result (one_number (words_left fields.entry)) }
+{
+    let word = fields.exactly_one()?;
+    number(word)
+}
+
+/// The two numbers that are left.
+#[tactic(auto, unfolding(crate::specs::Reading::two_numbers))]
+fn two_numbers(fields: Words) -> Result<(usize, usize), Fault>
+    ensures { ReadsAs (λ both. both) result (two_numbers (words_left fields.entry)) }
+{
+    let (first, second) = fields.exactly_two()?;
+    let first = number(first)?;
+    let second = number(second)?;
+    Ok((first, second))
+}
+
+/// The three numbers that are left.
+#[tactic(auto, unfolding(crate::specs::Reading::three_numbers))]
+fn three_numbers(fields: Words) -> Result<(usize, usize, usize), Fault>
+    ensures { ReadsAs (λ all. all) result (three_numbers (words_left fields.entry)) }
+{
+    let (first, second, third) = fields.exactly_three()?;
+    let first = number(first)?;
+    let second = number(second)?;
+    let third = number(third)?;
+    Ok((first, second, third))
+}
+
 #[tactic(auto, unfolding(crate::specs::Reading::insert_in))]
 fn read_insert(fields: Words) -> Result<Op, Fault>
     ensures { ReadsAs command_of result (insert_in (words_left fields.entry)) }
 {
-    let (start, len) = fields.exactly_two()?;
-    let start = number(start)?;
-    let len = number(len)?;
+    let (start, len) = two_numbers(fields)?;
     Ok(Op::Insert(Range { start, len }))
 }
 
@@ -106,9 +136,7 @@ fn read_insert(fields: Words) -> Result<Op, Fault>
 fn read_append(fields: Words) -> Result<Op, Fault>
     ensures { ReadsAs command_of result (append_in (words_left fields.entry)) }
 {
-    let (start, len) = fields.exactly_two()?;
-    let start = number(start)?;
-    let len = number(len)?;
+    let (start, len) = two_numbers(fields)?;
     Ok(Op::Append(Range { start, len }))
 }
 
@@ -116,10 +144,7 @@ fn read_append(fields: Words) -> Result<Op, Fault>
 fn read_alloc(fields: Words) -> Result<Op, Fault>
     ensures { ReadsAs command_of result (alloc_in (words_left fields.entry)) }
 {
-    let (name, size, align) = fields.exactly_three()?;
-    let name = number(name)?;
-    let size = number(size)?;
-    let align = number(align)?;
+    let (name, size, align) = three_numbers(fields)?;
     let layout = layout_of(size, align)?;
     Ok(Op::Alloc(name, layout))
 }
@@ -138,8 +163,7 @@ fn layout_of(size: usize, align: usize) -> Result<Layout, Fault>
 fn read_free(fields: Words) -> Result<Op, Fault>
     ensures { ReadsAs command_of result (free_in (words_left fields.entry)) }
 {
-    let name = fields.exactly_one()?;
-    let name = number(name)?;
+    let name = one_number(fields)?;
     Ok(Op::Free(name))
 }
 
@@ -147,8 +171,7 @@ fn read_free(fields: Words) -> Result<Op, Fault>
 fn read_free_unknown(fields: Words) -> Result<Op, Fault>
     ensures { ReadsAs command_of result (free_unknown_in (words_left fields.entry)) }
 {
-    let name = fields.exactly_one()?;
-    let name = number(name)?;
+    let name = one_number(fields)?;
     Ok(Op::FreeUnknown(name))
 }
 
@@ -156,9 +179,7 @@ fn read_free_unknown(fields: Words) -> Result<Op, Fault>
 fn read_realloc(fields: Words) -> Result<Op, Fault>
     ensures { ReadsAs command_of result (realloc_in (words_left fields.entry)) }
 {
-    let (name, size) = fields.exactly_two()?;
-    let name = number(name)?;
-    let size = number(size)?;
+    let (name, size) = two_numbers(fields)?;
     Ok(Op::Realloc(name, size))
 }
 
@@ -166,9 +187,7 @@ fn read_realloc(fields: Words) -> Result<Op, Fault>
 fn read_realloc_no_move(fields: Words) -> Result<Op, Fault>
     ensures { ReadsAs command_of result (realloc_no_move_in (words_left fields.entry)) }
 {
-    let (name, size) = fields.exactly_two()?;
-    let name = number(name)?;
-    let size = number(size)?;
+    let (name, size) = two_numbers(fields)?;
     Ok(Op::ReallocNoMove(name, size))
 }
 
@@ -197,9 +216,7 @@ fn read_put(fields: Words) -> Result<Op, Fault>
 fn read_get(fields: Words) -> Result<Op, Fault>
     ensures { ReadsAs command_of result (get_in (words_left fields.entry)) }
 {
-    let (name, offset) = fields.exactly_two()?;
-    let name = number(name)?;
-    let offset = number(offset)?;
+    let (name, offset) = two_numbers(fields)?;
     Ok(Op::Get(name, offset))
 }
 
@@ -207,8 +224,7 @@ fn read_get(fields: Words) -> Result<Op, Fault>
 fn read_usable(fields: Words) -> Result<Op, Fault>
     ensures { ReadsAs command_of result (usable_in (words_left fields.entry)) }
 {
-    let name = fields.exactly_one()?;
-    let name = number(name)?;
+    let name = one_number(fields)?;
     Ok(Op::Usable(name))
 }
 
@@ -216,9 +232,6 @@ fn read_usable(fields: Words) -> Result<Op, Fault>
 fn read_block(fields: Words) -> Result<Op, Fault>
     ensures { ReadsAs command_of result (block_in (words_left fields.entry)) }
 {
-    let (start, len, index) = fields.exactly_three()?;
-    let start = number(start)?;
-    let len = number(len)?;
-    let index = number(index)?;
+    let (start, len, index) = three_numbers(fields)?;
     Ok(Op::Block(Range { start, len }, index))
 }

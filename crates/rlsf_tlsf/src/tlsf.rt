@@ -49,7 +49,8 @@ pub struct Tlsf<
     memory: Memory,
     table: ClassTable<FLLEN, SLLEN>,
     state: GhostState,
-    bitmaps: PhantomData<(FLBitmap, SLBitmap)>,
+    // Of no element. A type that has an array beside a type parameter is known to be below 2^63 bytes, whatever else it holds.
+    bitmaps: [PhantomData<(FLBitmap, SLBitmap)>; 0],
 }
 
 impl<FLBitmap: BitPattern, SLBitmap: BitPattern, const FLLEN: usize, const SLLEN: usize> Model
@@ -89,7 +90,7 @@ impl<FLBitmap: Bitmap, SLBitmap: Bitmap, const FLLEN: usize, const SLLEN: usize>
             memory,
             table: ClassTable::new(),
             state: GhostState::new(),
-            bitmaps: PhantomData,
+            bitmaps: [],
         }
     }
 

@@ -4,7 +4,7 @@ ghost use Rattle.std.specs.Prelude.{◌≡◌, ◌+◌, ◌≤◌, length};
 ghost use Rattle.core.specs.List.{copy_within};
 
 /// Copies the `len` bytes from `from` on to those from `to` on, as they stood before.
-// Parts that don't overlap are two slices, between which the compiler copies by `memcpy`. A slice's own `copy_within` goes byte by
+// Parts that don't overlap are two slices, between which the compiler copies by `memmove`. A slice's own `copy_within` goes byte by
 // byte in one direction, and the compiler makes a loop of 32 bytes a turn of it.
 #[inline(always)]
 pub(crate) fn copy_bytes(bytes: &mut [u8], from: usize, len: usize, to: usize)

@@ -6,11 +6,11 @@ use Rattle.rlsf_machine.proofs.Determined.{steps_are_determined, refusal_changes
 use Rattle.rlsf_machine.proofs.FlexBudgets.{flex_never_asked}
 use Rattle.rlsf_machine.proofs.FlexCallers.{flex_callers_see_map}
 use Rattle.rlsf_machine.proofs.FlexGrowths.{growth_has_room, growth_keeps_well_formed}
-use Rattle.rlsf_machine.proofs.FlexPayloads.{flex_steps_change_map, flex_payloads_are_apart, flex_allocation_has_size, flex_reallocation_has_size, flex_reallocation_keeps_bytes, flex_other_payloads_stay, flex_used_was_used}
+use Rattle.rlsf_machine.proofs.FlexPayloads.{flex_steps_change_map, flex_runs_change_map, flex_payloads_are_apart, flex_allocation_has_size, flex_reallocation_has_size, flex_reallocation_keeps_bytes, flex_other_payloads_stay, flex_others_stay_in_runs, flex_used_was_used, flex_used_was_used_in_runs}
 use Rattle.rlsf_machine.proofs.FlexReplies.{flex_each_call_answers}
 use Rattle.rlsf_machine.proofs.FlexRuns.{flex_runs_are_runs}
 use Rattle.rlsf_machine.proofs.FlexSimilar.{flex_similar_states_agree, flex_similar_runs_agree}
-use Rattle.rlsf_machine.proofs.FlexSteps.{flex_empty_is_well_formed, flex_steps_keep_well_formed, flex_runs_keep_well_formed}
+use Rattle.rlsf_machine.proofs.FlexSteps.{flex_empty_is_well_formed, flex_steps_keep_well_formed, flex_runs_keep_well_formed, flex_runs_are_steps}
 use Rattle.rlsf_machine.proofs.Live.{live_addresses_are_aligned, live_address_has_one_block, payloads_are_disjoint, payload_lies_in_one_chunk, allocation_has_size, reallocation_has_size, reallocation_keeps_bytes, other_payloads_stay, used_was_used, handed_out_is_new, reallocated_is_live, live_stays, released_is_not_live, filled_has_bytes, fill_leaves_others, deallocation_leaves_others}
 use Rattle.rlsf_machine.proofs.NoMove.{unmoved_is_reallocated}
 use Rattle.rlsf_machine.proofs.Orders.{order_means_nothing}
@@ -77,14 +77,18 @@ returns-clause-sources c = record {
   flex_room = growth_has_room;
   flex_steps = flex_steps_keep_well_formed;
   flex_runs = flex_runs_keep_well_formed;
+  flex_in_runs = flex_runs_are_steps;
   flex_as_runs = flex_runs_are_runs;
   flex_map = flex_steps_change_map;
+  flex_map_runs = flex_runs_change_map;
   flex_apart = flex_payloads_are_apart;
   flex_allocated_size = flex_allocation_has_size;
   flex_reallocated_size = flex_reallocation_has_size;
   flex_kept_bytes = flex_reallocation_keeps_bytes;
   flex_others_stay = flex_other_payloads_stay;
   flex_was_used = flex_used_was_used;
+  flex_others_stay_runs = flex_others_stay_in_runs;
+  flex_was_used_runs = flex_used_was_used_in_runs;
   flex_similar = flex_similar_states_agree;
   flex_similar_runs = flex_similar_runs_agree;
   flex_each_call = flex_each_call_answers;

@@ -1,7 +1,7 @@
 use Rattle.rlsf_base.specs.Sizes.{request_size}
 use Rattle.rlsf_machine.specs.Allocate.{choice}
 use Rattle.rlsf_machine.specs.Reallocate.{HasRoomToResize}
-use Rattle.std.proofs.Common.{IsSome, ◌≡◌, ◌≤◌, length, Some, None, Ok, Err, ap, ◌∙◌, subst, sym, refl}
+use Rattle.std.proofs.Common.{IsSome, ◌≡◌, ◌≤◌, length, Some, None, Ok, Err, lit<, ap, ◌∙◌, subst, sym, refl}
 use Rattle.rlsf_global.proofs.Layouts.{content_at-bytes, layout_at-moved_left, layout_at-moved_other, layout_at-none, layout_at-put_here}
 use Rattle.rlsf_base.specs.Addr.{at}
 use Rattle.rlsf_global.specs.Locked.{heap_of, locked_contents}
@@ -34,7 +34,7 @@ resize-requires g c =
     let same = not-false _ c.if-ne.ensures in
     let live = live_row c.self.inside.flex c.self.inside.rows.items c.self.invariant (at c.args.addr) c.index.result.now row ∙ ap Some (same_align c.index.result.now.1 c.args.layout same) in
     let sized = subst (λ n. n ≤ length (bytes_at c.self.inside.flex.state.machine (at c.args.addr))) (same_size c.index.result.now.1 c.args.layout same) (row_sized c.self.inside.flex c.self.inside.rows.items c.self.invariant (at c.args.addr) c.index.result.now row) in
-    record { live = live; sized = sized; aligned = c.from_size_align_unchecked-wanted.ensures.1 ∙ c.align.ensures.value; stands = c.self.invariant.flex }
+    (lit< tt, (live, (sized, (c.from_size_align_unchecked-wanted.ensures.1 ∙ c.align.ensures.value, c.self.invariant.flex))))
 
 pub returns-in_default-resize-clause-step : goal.returns-in_default-resize-clause-step
 returns-in_default-resize-clause-step g c = rw (← c.self.view_is) (

@@ -20,7 +20,7 @@ move_away-requires g c =
     let found = rw c.deref.ensures.value at c.in-Ok.ensures.found in
     let row = found.row c.index.result.now ∙ ap Some (sym c.index.ensures) in
     let live = live_row c.self.inside.flex c.self.inside.rows.items c.self.invariant (at c.args.addr) c.index.result.now row ∙ ap Some (sym c.align-align.ensures.value) in
-    record { live = live; old = omega (arith, c.min-keep.ensures, c.allocation_usable_size.ensures); new = omega (arith, c.min-keep.ensures, c.size.ensures.value) }
+    (lit< tt, (live, (omega (arith, c.min-keep.ensures, c.allocation_usable_size.ensures), omega (arith, c.min-keep.ensures, c.size.ensures.value))))
 
 pub returns-in_default-move_away-clause-step : goal.returns-in_default-move_away-clause-step
 returns-in_default-move_away-clause-step g c = rw (← c.self.view_is) (
