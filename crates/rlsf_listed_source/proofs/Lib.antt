@@ -1,3 +1,4 @@
 pub mod HandedOut
 pub mod OneByte
+pub mod OneRange
 pub mod Remembered
