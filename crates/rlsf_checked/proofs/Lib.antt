@@ -1,3 +1,4 @@
 mod Pools
+mod SizeRefusals
 mod Standing
 mod Validity

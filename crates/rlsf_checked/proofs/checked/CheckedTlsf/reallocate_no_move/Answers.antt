@@ -1,14 +1,14 @@
-use Rattle.std.proofs.Common.{◌≡◌, ◌∙◌, ◌≤◌, ◌<◌, ◌+◌, length, Some, None, Ok, Err, refl, sym, subst}
+use Rattle.std.proofs.Common.{◌≤◌, ◌<◌, ◌+◌, length, Some, None, Ok, Err, refl, sym, subst}
 use Rattle.std.proofs.lemmas.Bool.{false≢true}
-use Rattle.std.proofs.lemmas.Option.{none-some}
 use Rattle.std.specs.declared.num.NonZeroUsize.{NonZeroUsize}
 use Rattle.rlsf_base.specs.Addr.{at}
 use Rattle.rlsf_machine.specs.Callers.{bytes_at}
 use Rattle.rlsf_machine.specs.NoMove.{ReallocatesWithoutMove}
 use Rattle.rlsf_tlsf.specs.Allocator.{Steps}
 use Rattle.rlsf_checked.specs.Answers.{IsRefusedBy, size_refusal}
-use Rattle.rlsf_checked.specs.declared.error.CheckedError.TheVariants.{NoLayout, NoRoom, UnknownAddress}
-use Rattle.rlsf_checked.proofs.Standing.{size_fits, size_past, stands_after, unchanged}
+use Rattle.rlsf_checked.specs.declared.error.CheckedError.TheVariants.{NoRoom}
+use Rattle.rlsf_checked.proofs.SizeRefusals.{unknown_is_refused, unknown_is_not_fine, past_is_refused, past_is_not_fine}
+use Rattle.rlsf_checked.proofs.Standing.{size_fits, stands_after, unchanged}
 use Rattle.rlsf_checked.proofs.checked.CheckedTlsf.reallocate_no_move.Goals as goal
 
 pub invariant_of-self : goal.invariant_of-self
@@ -22,20 +22,18 @@ invariant_of-self-2 g c =
     unchanged c.self.invariant c.reallocate_no_move.new.self (stands_after _ _ _ _ _ did.step) did.place did.chunks did.aligns
 
 pub returns-in_default-clause-answer : goal.returns-in_default-clause-answer
-returns-in_default-clause-answer g c = subst (λ o. IsRefusedBy {A = NonZeroUsize} (size_refusal o c.args.size) (Err UnknownAddress)) c.in_default.ensures.value refl
+returns-in_default-clause-answer g c = unknown_is_refused c.args.size _ c.in_default.ensures.value
 
 pub returns-in_default-clause-step : goal.returns-in_default-clause-step
-returns-in_default-clause-step g c = λ fits. absurd (subst (λ o. size_refusal o c.args.size ≡ None → ⊥) c.in_default.ensures.value (λ none. none-some UnknownAddress (sym none)) fits)
+returns-in_default-clause-step g c = λ fine. absurd (unknown_is_not_fine c.args.size _ c.in_default.ensures.value fine)
 
 pub returns-in_default-from_size_align-clause-step : goal.returns-in_default-from_size_align-clause-step
-returns-in_default-from_size_align-clause-step g c = λ fits.
-    let past = size_past c.args.size c.in-Some.align c.in-Some.ensures.power (λ is. false≢true (c.in_default-from_size_align.ensures.succeeds.1 is)) in
-    absurd (subst (λ o. size_refusal o c.args.size ≡ None → ⊥) c.in-Some.ensures.value (λ none. none-some NoLayout (sym none ∙ past)) fits)
+returns-in_default-from_size_align-clause-step g c = λ fine.
+    absurd (past_is_not_fine c.args.size c.in-Some.align _ c.in-Some.ensures.value c.in-Some.ensures.power (λ is. false≢true (c.in_default-from_size_align.ensures.succeeds.1 is)) fine)
 
 pub returns-in_default-from_size_align-clause-answer : goal.returns-in_default-from_size_align-clause-answer
 returns-in_default-from_size_align-clause-answer g c =
-    let past = size_past c.args.size c.in-Some.align c.in-Some.ensures.power (λ is. false≢true (c.in_default-from_size_align.ensures.succeeds.1 is)) in
-    subst (λ o. IsRefusedBy {A = NonZeroUsize} (size_refusal o c.args.size) (Err NoLayout)) c.in-Some.ensures.value (subst (λ o. IsRefusedBy {A = NonZeroUsize} o (Err NoLayout)) (sym past) refl)
+    past_is_refused c.args.size c.in-Some.align _ c.in-Some.ensures.value c.in-Some.ensures.power (λ is. false≢true (c.in_default-from_size_align.ensures.succeeds.1 is))
 
 pub returns-in_default-reallocate_no_move-clause-answer : goal.returns-in_default-reallocate_no_move-clause-answer
 returns-in_default-reallocate_no_move-clause-answer g c =
