@@ -10,14 +10,14 @@ ghost use Rattle.rlsf_machine.specs.Release.{Deallocates};
 ghost use Rattle.rlsf_tlsf.specs.Allocator.{Steps};
 
 use rlsf_base::memory::{Addr, Layout};
-use rlsf_int::Bitmap;
+use rlsf_int::BitPattern;
 use rlsf_tlsf::Tlsf;
 
 /// Allocates a payload.
 #[inline(always)]
 pub(crate) fn allocate<
-    FLBitmap: Bitmap,
-    SLBitmap: Bitmap,
+    FLBitmap: BitPattern,
+    SLBitmap: BitPattern,
     const FLLEN: usize,
     const SLLEN: usize,
     const CALLED: bool,
@@ -32,10 +32,12 @@ pub(crate) fn allocate<
 }
 
 #[inline(never)]
-fn called_allocate<FLBitmap: Bitmap, SLBitmap: Bitmap, const FLLEN: usize, const SLLEN: usize>(
-    tlsf: &mut Tlsf<FLBitmap, SLBitmap, FLLEN, SLLEN>,
-    layout: Layout,
-) -> Option<Addr>
+fn called_allocate<
+    FLBitmap: BitPattern,
+    SLBitmap: BitPattern,
+    const FLLEN: usize,
+    const SLLEN: usize,
+>(tlsf: &mut Tlsf<FLBitmap, SLBitmap, FLLEN, SLLEN>, layout: Layout) -> Option<Addr>
     ensures { Steps FLLEN SLLEN tlsf.old tlsf.new (Allocates SLLEN tlsf.old.state layout.size layout.align (reply result)) }
 {
     tlsf.allocate(layout)
@@ -44,8 +46,8 @@ fn called_allocate<FLBitmap: Bitmap, SLBitmap: Bitmap, const FLLEN: usize, const
 /// Gives a payload back, which is live with this alignment.
 #[inline(always)]
 pub(crate) fn deallocate<
-    FLBitmap: Bitmap,
-    SLBitmap: Bitmap,
+    FLBitmap: BitPattern,
+    SLBitmap: BitPattern,
     const FLLEN: usize,
     const SLLEN: usize,
     const CALLED: bool,
@@ -61,11 +63,12 @@ pub(crate) fn deallocate<
 }
 
 #[inline(never)]
-fn called_deallocate<FLBitmap: Bitmap, SLBitmap: Bitmap, const FLLEN: usize, const SLLEN: usize>(
-    tlsf: &mut Tlsf<FLBitmap, SLBitmap, FLLEN, SLLEN>,
-    addr: Addr,
-    align: usize,
-)
+fn called_deallocate<
+    FLBitmap: BitPattern,
+    SLBitmap: BitPattern,
+    const FLLEN: usize,
+    const SLLEN: usize,
+>(tlsf: &mut Tlsf<FLBitmap, SLBitmap, FLLEN, SLLEN>, addr: Addr, align: usize)
     requires { align_at tlsf.old.state (at addr) ≡ Some align }
     ensures { Steps FLLEN SLLEN tlsf.old tlsf.new (Deallocates tlsf.old.state (at addr)) }
 {
@@ -75,8 +78,8 @@ fn called_deallocate<FLBitmap: Bitmap, SLBitmap: Bitmap, const FLLEN: usize, con
 /// Gives a payload, which is live with the layout's alignment, another size.
 #[inline(always)]
 pub(crate) fn reallocate<
-    FLBitmap: Bitmap,
-    SLBitmap: Bitmap,
+    FLBitmap: BitPattern,
+    SLBitmap: BitPattern,
     const FLLEN: usize,
     const SLLEN: usize,
     const CALLED: bool,
@@ -92,11 +95,12 @@ pub(crate) fn reallocate<
 }
 
 #[inline(never)]
-fn called_reallocate<FLBitmap: Bitmap, SLBitmap: Bitmap, const FLLEN: usize, const SLLEN: usize>(
-    tlsf: &mut Tlsf<FLBitmap, SLBitmap, FLLEN, SLLEN>,
-    addr: Addr,
-    layout: Layout,
-) -> Option<Addr>
+fn called_reallocate<
+    FLBitmap: BitPattern,
+    SLBitmap: BitPattern,
+    const FLLEN: usize,
+    const SLLEN: usize,
+>(tlsf: &mut Tlsf<FLBitmap, SLBitmap, FLLEN, SLLEN>, addr: Addr, layout: Layout) -> Option<Addr>
     requires { align_at tlsf.old.state (at addr) ≡ Some layout.align }
     ensures { Steps FLLEN SLLEN tlsf.old tlsf.new (Reallocates SLLEN tlsf.old.state (at addr) layout.size (reply result)) }
 {

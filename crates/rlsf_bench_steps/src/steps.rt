@@ -14,7 +14,7 @@ use crate::error::BenchError;
 use crate::random::Xorshift;
 use crate::tally::Tally;
 use rlsf_base::memory::{Addr, Layout, Memory, Range};
-use rlsf_int::Bitmap;
+use rlsf_int::BitPattern;
 use rlsf_tlsf::Tlsf;
 use std::alloc::Global;
 use std::num::NonZeroUsize;
@@ -73,8 +73,8 @@ fn slot_with(placed: Option<Addr>) -> usize
 
 /// Frees the payload of the slot that a drawn number names, or reallocates it; a slot without a payload gets one.
 fn step<
-    FLBitmap: Bitmap,
-    SLBitmap: Bitmap,
+    FLBitmap: BitPattern,
+    SLBitmap: BitPattern,
     const FLLEN: usize,
     const SLLEN: usize,
     const CALLED: bool,
@@ -125,8 +125,8 @@ fn step<
 /// Does so many steps on so many slots, with an allocator that has no chunk: the pool, which lies in its memory, is inserted
 /// first. Answers what came of the allocations and reallocations.
 pub(crate) fn run<
-    FLBitmap: Bitmap,
-    SLBitmap: Bitmap,
+    FLBitmap: BitPattern,
+    SLBitmap: BitPattern,
     const FLLEN: usize,
     const SLLEN: usize,
     const CALLED: bool,

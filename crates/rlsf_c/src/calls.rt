@@ -9,10 +9,10 @@ ghost use Rattle.rlsf_c.specs.Seen.{nothing, seen_in};
 use crate::answers::{Answer, number, refused, to_answer, to_code, to_place};
 use rlsf_base::memory::{Addr, Layout, Range};
 use rlsf_checked::{CheckedError, CheckedTlsf};
-use rlsf_int::Bitmap;
+use rlsf_int::BitPattern;
 
 /// Hands a range in.
-pub(crate) fn insert<F: Bitmap, S: Bitmap, const FLLEN: usize, const SLLEN: usize>(
+pub(crate) fn insert<F: BitPattern, S: BitPattern, const FLLEN: usize, const SLLEN: usize>(
     heap: &mut CheckedTlsf<F, S, FLLEN, SLLEN>,
     range: Range,
 ) -> Answer
@@ -22,7 +22,7 @@ pub(crate) fn insert<F: Bitmap, S: Bitmap, const FLLEN: usize, const SLLEN: usiz
 }
 
 /// Makes what was handed in last longer.
-pub(crate) fn append<F: Bitmap, S: Bitmap, const FLLEN: usize, const SLLEN: usize>(
+pub(crate) fn append<F: BitPattern, S: BitPattern, const FLLEN: usize, const SLLEN: usize>(
     heap: &mut CheckedTlsf<F, S, FLLEN, SLLEN>,
     range: Range,
 ) -> Answer
@@ -32,7 +32,7 @@ pub(crate) fn append<F: Bitmap, S: Bitmap, const FLLEN: usize, const SLLEN: usiz
 }
 
 /// Allocates a payload.
-pub(crate) fn allocate<F: Bitmap, S: Bitmap, const FLLEN: usize, const SLLEN: usize>(
+pub(crate) fn allocate<F: BitPattern, S: BitPattern, const FLLEN: usize, const SLLEN: usize>(
     heap: &mut CheckedTlsf<F, S, FLLEN, SLLEN>,
     size: usize,
     align: usize,
@@ -56,7 +56,7 @@ pub(crate) fn allocate_nothing(size: usize, align: usize) -> Answer
 }
 
 /// Gives a payload back.
-pub(crate) fn free<F: Bitmap, S: Bitmap, const FLLEN: usize, const SLLEN: usize>(
+pub(crate) fn free<F: BitPattern, S: BitPattern, const FLLEN: usize, const SLLEN: usize>(
     heap: &mut CheckedTlsf<F, S, FLLEN, SLLEN>,
     addr: usize,
 ) -> usize
@@ -70,7 +70,7 @@ pub(crate) fn free<F: Bitmap, S: Bitmap, const FLLEN: usize, const SLLEN: usize>
 }
 
 /// Gives a payload another size.
-pub(crate) fn realloc<F: Bitmap, S: Bitmap, const FLLEN: usize, const SLLEN: usize>(
+pub(crate) fn realloc<F: BitPattern, S: BitPattern, const FLLEN: usize, const SLLEN: usize>(
     heap: &mut CheckedTlsf<F, S, FLLEN, SLLEN>,
     addr: usize,
     size: usize,
@@ -85,7 +85,7 @@ pub(crate) fn realloc<F: Bitmap, S: Bitmap, const FLLEN: usize, const SLLEN: usi
 }
 
 /// Gives a payload another size where it stands.
-pub(crate) fn realloc_no_move<F: Bitmap, S: Bitmap, const FLLEN: usize, const SLLEN: usize>(
+pub(crate) fn realloc_no_move<F: BitPattern, S: BitPattern, const FLLEN: usize, const SLLEN: usize>(
     heap: &mut CheckedTlsf<F, S, FLLEN, SLLEN>,
     addr: usize,
     size: usize,
@@ -100,7 +100,7 @@ pub(crate) fn realloc_no_move<F: Bitmap, S: Bitmap, const FLLEN: usize, const SL
 }
 
 /// How many bytes of a payload its caller may use.
-pub(crate) fn usable<F: Bitmap, S: Bitmap, const FLLEN: usize, const SLLEN: usize>(
+pub(crate) fn usable<F: BitPattern, S: BitPattern, const FLLEN: usize, const SLLEN: usize>(
     heap: &CheckedTlsf<F, S, FLLEN, SLLEN>,
     addr: usize,
 ) -> Answer
@@ -114,7 +114,7 @@ pub(crate) fn usable<F: Bitmap, S: Bitmap, const FLLEN: usize, const SLLEN: usiz
 }
 
 /// Reads bytes of a payload.
-pub(crate) fn read<F: Bitmap, S: Bitmap, const FLLEN: usize, const SLLEN: usize>(
+pub(crate) fn read<F: BitPattern, S: BitPattern, const FLLEN: usize, const SLLEN: usize>(
     heap: &CheckedTlsf<F, S, FLLEN, SLLEN>,
     addr: usize,
     offset: usize,
@@ -130,7 +130,7 @@ pub(crate) fn read<F: Bitmap, S: Bitmap, const FLLEN: usize, const SLLEN: usize>
 }
 
 /// Writes bytes of a payload.
-pub(crate) fn write<F: Bitmap, S: Bitmap, const FLLEN: usize, const SLLEN: usize>(
+pub(crate) fn write<F: BitPattern, S: BitPattern, const FLLEN: usize, const SLLEN: usize>(
     heap: &mut CheckedTlsf<F, S, FLLEN, SLLEN>,
     addr: usize,
     offset: usize,

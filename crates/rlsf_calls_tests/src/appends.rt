@@ -4,7 +4,7 @@ ghost use Rattle.std.specs.Prelude.{◌≡◌, ◌≤◌, length};
 ghost use Rattle.rlsf_machine.specs.State.{empty};
 
 use super::pools::{Long, Small, Step, are, layout_of, number, takes_steps, zeros};
-use rlsf::int::Bitmap;
+use rlsf::int::BitPattern;
 use rlsf::{Layout, Range, Tlsf};
 
 /// One chunk of the first `pool` of 4096 bytes from the address 4096 on, a payload of `size` bytes that is asked for, and a
@@ -23,7 +23,7 @@ struct Case {
 
 /// Makes the chunk of a case, asks for the payload, appends the ranges and asks again. Answers the payload's address, or 0, the
 /// bytes taken of the ranges, and the second payload's address, or 0.
-fn appended<FLBitmap: Bitmap, const FLLEN: usize>(
+fn appended<FLBitmap: BitPattern, const FLLEN: usize>(
     tlsf: &mut Tlsf<FLBitmap, u8, FLLEN, 8>,
     case: Case,
     layout: Layout,

@@ -5,7 +5,7 @@ ghost use Rattle.rlsf_base.specs.Addr.{at};
 ghost use Rattle.rlsf_machine.specs.Callers.{align_at};
 
 use super::pools::{Step, are, inserts, layout_of, takes_steps, wide, with_pool};
-use rlsf::int::Bitmap;
+use rlsf::int::BitPattern;
 use rlsf::{Addr, Layout, Tlsf};
 
 /// When the first one of two payloads is given back.
@@ -16,7 +16,7 @@ enum Order {
 }
 
 /// Allocates a payload, if there is room. What was live stays live. Answers its address, or 0.
-fn third<Bits: Bitmap, const FLLEN: usize, const SLLEN: usize>(
+fn third<Bits: BitPattern, const FLLEN: usize, const SLLEN: usize>(
     tlsf: &mut Tlsf<Bits, Bits, FLLEN, SLLEN>,
     layout: Layout,
 ) -> usize
@@ -29,7 +29,7 @@ fn third<Bits: Bitmap, const FLLEN: usize, const SLLEN: usize>(
 }
 
 /// Allocates two payloads for a layout, and asks for a third for another layout. Answers the two, and the third's address, or 0.
-fn two_taken<Bits: Bitmap, const FLLEN: usize, const SLLEN: usize>(
+fn two_taken<Bits: BitPattern, const FLLEN: usize, const SLLEN: usize>(
     tlsf: &mut Tlsf<Bits, Bits, FLLEN, SLLEN>,
     layout: Layout,
     other: Layout,
@@ -49,7 +49,7 @@ fn two_taken<Bits: Bitmap, const FLLEN: usize, const SLLEN: usize>(
 
 /// Allocates two payloads for a layout, asks for a third for another layout, and gives the two back. Answers the three
 /// addresses.
-fn two_freed<Bits: Bitmap, const FLLEN: usize, const SLLEN: usize>(
+fn two_freed<Bits: BitPattern, const FLLEN: usize, const SLLEN: usize>(
     tlsf: &mut Tlsf<Bits, Bits, FLLEN, SLLEN>,
     layout: Layout,
     other: Layout,

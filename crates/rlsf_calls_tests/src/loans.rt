@@ -5,7 +5,7 @@ ghost use Rattle.rlsf_base.specs.Addr.{at};
 ghost use Rattle.rlsf_machine.specs.Callers.{align_at};
 
 use super::pools::{Small, Wide, are, layout_of, wide, with_pool};
-use rlsf::int::Bitmap;
+use rlsf::int::BitPattern;
 use rlsf::{Addr, Layout, Tlsf};
 
 /// Allocates a payload, fills it with a byte, reads it at an offset, and gives it back. Answers what was read.
@@ -87,7 +87,7 @@ fn words(
 }
 
 /// The address of a payload, or 0, and how many of its bytes are lent, to read and to write.
-fn lent<FLBitmap: Bitmap, SLBitmap: Bitmap, const FLLEN: usize, const SLLEN: usize>(
+fn lent<FLBitmap: BitPattern, SLBitmap: BitPattern, const FLLEN: usize, const SLLEN: usize>(
     tlsf: &mut Tlsf<FLBitmap, SLBitmap, FLLEN, SLLEN>,
     layout: Layout,
 ) -> [usize; 3] {

@@ -5,7 +5,7 @@ ghost use Rattle.rlsf_base.specs.Range.{LiesIn, range_at};
 ghost use Rattle.rlsf_base.specs.SizeClass.{IsValid};
 ghost use Rattle.rlsf_calls_tests.specs.Rows.{TakesRow};
 
-use rlsf::int::Bitmap;
+use rlsf::int::BitPattern;
 use rlsf::{Addr, Layout, Memory, Range, Tlsf};
 use std::num::NonZeroUsize;
 use std::process::Abort;
@@ -50,8 +50,8 @@ pub(crate) enum Step {
 
 /// An allocator over a memory of these addresses, with the pool that was inserted, and the answer to that, or 0.
 pub(crate) fn with_inserted<
-    FLBitmap: Bitmap,
-    SLBitmap: Bitmap,
+    FLBitmap: BitPattern,
+    SLBitmap: BitPattern,
     const FLLEN: usize,
     const SLLEN: usize,
 >(
@@ -93,7 +93,7 @@ pub(crate) fn number(addr: Option<Addr>) -> usize {
 
 /// The address that is allocated for a layout, or 0; or 1, if there is no such layout. The payload is given back, unless it is to
 /// stay.
-fn asked<FLBitmap: Bitmap, SLBitmap: Bitmap, const FLLEN: usize, const SLLEN: usize>(
+fn asked<FLBitmap: BitPattern, SLBitmap: BitPattern, const FLLEN: usize, const SLLEN: usize>(
     tlsf: &mut Tlsf<FLBitmap, SLBitmap, FLLEN, SLLEN>,
     size: usize,
     align: usize,
@@ -124,7 +124,7 @@ pub(crate) fn word_at(memory: &Memory, addr: usize) -> Option<u64> {
 }
 
 /// Whether a step answers what is expected.
-fn goes_so<FLBitmap: Bitmap, SLBitmap: Bitmap, const FLLEN: usize, const SLLEN: usize>(
+fn goes_so<FLBitmap: BitPattern, SLBitmap: BitPattern, const FLLEN: usize, const SLLEN: usize>(
     tlsf: &mut Tlsf<FLBitmap, SLBitmap, FLLEN, SLLEN>,
     step: Step,
 ) -> bool {
@@ -136,7 +136,7 @@ fn goes_so<FLBitmap: Bitmap, SLBitmap: Bitmap, const FLLEN: usize, const SLLEN: 
 }
 
 /// The index of the first step that answers otherwise.
-fn first_wrong<FLBitmap: Bitmap, SLBitmap: Bitmap, const FLLEN: usize, const SLLEN: usize>(
+fn first_wrong<FLBitmap: BitPattern, SLBitmap: BitPattern, const FLLEN: usize, const SLLEN: usize>(
     tlsf: &mut Tlsf<FLBitmap, SLBitmap, FLLEN, SLLEN>,
     steps: &[Step],
 ) -> Option<usize> {
@@ -150,8 +150,8 @@ fn first_wrong<FLBitmap: Bitmap, SLBitmap: Bitmap, const FLLEN: usize, const SLL
 
 /// Passes where each step answers what is expected.
 pub(crate) fn takes_steps<
-    FLBitmap: Bitmap,
-    SLBitmap: Bitmap,
+    FLBitmap: BitPattern,
+    SLBitmap: BitPattern,
     const FLLEN: usize,
     const SLLEN: usize,
 >(rt: &impl Abort, tlsf: &mut Tlsf<FLBitmap, SLBitmap, FLLEN, SLLEN>, steps: &[Step]) {
@@ -160,7 +160,12 @@ pub(crate) fn takes_steps<
 
 /// Inserts a pool into a memory and does the steps; passes where each answers what is expected. Answers the allocator, and the
 /// bytes taken, or 0. The memory and the pool are a start and a length.
-pub(crate) fn inserts<FLBitmap: Bitmap, SLBitmap: Bitmap, const FLLEN: usize, const SLLEN: usize>(
+pub(crate) fn inserts<
+    FLBitmap: BitPattern,
+    SLBitmap: BitPattern,
+    const FLLEN: usize,
+    const SLLEN: usize,
+>(
     rt: &(impl Abort + AllocGlobal),
     memory: (usize, usize),
     pool: (usize, usize),

@@ -10,7 +10,7 @@ ghost use Rattle.rlsf_base.specs.SizeClass.{IsValid};
 
 use super::pools::{layout_of, zeros};
 use rlsf::classes::{pool_size_for_objects, pool_size_for_payloads};
-use rlsf::int::Bitmap;
+use rlsf::int::BitPattern;
 use rlsf::{Layout, Range, Tlsf};
 use rlsf_runs::run;
 use rlsf_text::{Answer, Op};
@@ -119,7 +119,7 @@ type Shape<'a, Bits, const FLLEN: usize, const SLLEN: usize> = Option<
 >;
 
 /// The index of the first op that is answered otherwise in a memory of so many bytes.
-fn wrong_in<Bits: Bitmap, const FLLEN: usize, const SLLEN: usize>(
+fn wrong_in<Bits: BitPattern, const FLLEN: usize, const SLLEN: usize>(
     rt: &(impl Abort + AllocGlobal),
     script: &Script,
     len: usize,
@@ -155,7 +155,7 @@ fn filled_in_order(
 static ORDERS: [Order; 3] = [Order::Ascending, Order::Descending, Order::Alternating];
 
 /// Whether a pool of so many bytes holds `count` payloads and no more, in each of the three orders.
-fn holds<Bits: Bitmap, const FLLEN: usize, const SLLEN: usize>(
+fn holds<Bits: BitPattern, const FLLEN: usize, const SLLEN: usize>(
     rt: &(impl Abort + AllocGlobal),
     count: usize,
     layout: Layout,
@@ -175,7 +175,7 @@ fn holds<Bits: Bitmap, const FLLEN: usize, const SLLEN: usize>(
 
 /// The length of a pool for 100 objects of a size, and the size to ask for, where the pool holds 100 and one that is 32 bytes
 /// shorter holds 99, in each order.
-fn pool_of_100<Bits: Bitmap, const FLLEN: usize, const SLLEN: usize>(
+fn pool_of_100<Bits: BitPattern, const FLLEN: usize, const SLLEN: usize>(
     rt: &(impl Abort + AllocGlobal),
     size: usize,
     shape: Shape<'_, Bits, FLLEN, SLLEN>,
@@ -196,7 +196,7 @@ fn pool_of_100<Bits: Bitmap, const FLLEN: usize, const SLLEN: usize>(
 }
 
 /// The same for objects of 40, of 700 and of 1100 bytes.
-fn pools_of_100<Bits: Bitmap, const FLLEN: usize, const SLLEN: usize>(
+fn pools_of_100<Bits: BitPattern, const FLLEN: usize, const SLLEN: usize>(
     rt: &(impl Abort + AllocGlobal),
     shape: Shape<'_, Bits, FLLEN, SLLEN>,
 ) -> [Option<(usize, usize)>; 3]
@@ -267,7 +267,7 @@ fn random_script(rt: &(impl Abort + AllocGlobal), len: usize) -> (Script, usize)
 }
 
 /// The length of a pool for as many payloads as may be live before an op of the random run, where none of its ops is refused.
-fn pool_of_random_run<Bits: Bitmap, const FLLEN: usize, const SLLEN: usize>(
+fn pool_of_random_run<Bits: BitPattern, const FLLEN: usize, const SLLEN: usize>(
     rt: &(impl Abort + AllocGlobal),
     shape: Shape<'_, Bits, FLLEN, SLLEN>,
 ) -> Option<usize>
@@ -311,7 +311,7 @@ fn fragments(rt: &(impl Abort + AllocGlobal), len: usize, granted: bool) -> Scri
 
 /// The length of a pool in which sixteen payloads may live, where the greatest is granted beside the fragments, and refused in half
 /// of that length.
-fn pool_of_fragments<Bits: Bitmap, const FLLEN: usize, const SLLEN: usize>(
+fn pool_of_fragments<Bits: BitPattern, const FLLEN: usize, const SLLEN: usize>(
     rt: &(impl Abort + AllocGlobal),
     shape: Shape<'_, Bits, FLLEN, SLLEN>,
 ) -> Option<usize>

@@ -96,7 +96,14 @@ impl<FLBitmap: Bitmap, SLBitmap: Bitmap, const FLLEN: usize, const SLLEN: usize>
             pool,
         })
     }
+}
 
+impl<
+    FLBitmap: BitPattern,
+    SLBitmap: BitPattern,
+    const FLLEN: usize,
+    const SLLEN: usize,
+> CheckedTlsf<FLBitmap, SLBitmap, FLLEN, SLLEN> {
     /// The memory, to read.
     pub fn memory_ref(&self) -> &Memory
         ensures memory { result.now ≡ self.now.heap.memory }

@@ -21,7 +21,7 @@ use Rattle.rlsf_machine.specs.Uniform.{IsUniform}
 use Rattle.rlsf_collections.specs.Budgets.{HasBudgetOf, HasBytesFor}
 use Rattle.rlsf_collections.specs.Capacities.{IsObjectPool, IsSpread, IsTiled}
 use Rattle.rlsf_collections.specs.Handled.{Handled}
-use Rattle.rlsf_collections.specs.Objects.{HaveSize, capacity_from, capacity_of, capacity_with}
+use Rattle.rlsf_collections.specs.Objects.{HaveSize, capacity_of, capacity_with}
 use Rattle.rlsf_collections.specs.Stored.{FitsPool}
 use Rattle.rlsf_collections.specs.Tiles.{HasTileFor, KeepsUniform}
 use Rattle.rlsf_collections.proofs.Entries.{AllByRecursion-remove_entry, AllByRecursion-set_value}

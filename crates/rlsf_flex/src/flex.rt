@@ -28,28 +28,31 @@ use crate::source::{FlexSource, SourceChange};
 use crate::trim::give_idle_back;
 use rlsf_base::classes::pool_size_to_contain_allocation;
 use rlsf_base::memory::{Addr, Layout, Memory};
-use rlsf_int::Bitmap;
+use rlsf_int::BitPattern;
 use rlsf_tlsf::Tlsf;
-use std::marker::Model;
+use std::marker::{Model, PhantomData};
 
 /// The allocator over a source: it asks the source for memory when it has no room.
 pub struct FlexTlsf<
     S: FlexSource,
-    FLBitmap: Bitmap,
-    SLBitmap: Bitmap,
+    FLBitmap: BitPattern,
+    SLBitmap: BitPattern,
     const FLLEN: usize,
     const SLLEN: usize,
 > {
-    tlsf: Tlsf<FLBitmap, SLBitmap, FLLEN, SLLEN>,
+    // Its bitmaps are never asked for, so it has the widest ones: what works on it knows the lengths alone.
+    tlsf: Tlsf<u128, u128, FLLEN, SLLEN>,
     kept: Option<Pool>,
     source: S,
     owed: GhostRanges,
+    // Of no element.
+    bitmaps: [PhantomData<(FLBitmap, SLBitmap)>; 0],
 }
 
 impl<
     S: FlexSource,
-    FLBitmap: Bitmap,
-    SLBitmap: Bitmap,
+    FLBitmap: BitPattern,
+    SLBitmap: BitPattern,
     const FLLEN: usize,
     const SLLEN: usize,
 > Model for FlexTlsf<S, FLBitmap, SLBitmap, FLLEN, SLLEN> {
@@ -64,8 +67,8 @@ impl<
 
 impl<
     S: FlexSource,
-    FLBitmap: Bitmap,
-    SLBitmap: Bitmap,
+    FLBitmap: BitPattern,
+    SLBitmap: BitPattern,
     const FLLEN: usize,
     const SLLEN: usize,
 > FlexTlsf<S, FLBitmap, SLBitmap, FLLEN, SLLEN> {
@@ -90,6 +93,7 @@ impl<
             kept: None,
             source,
             owed: GhostRanges::new(),
+            bitmaps: [],
         }
     }
 
@@ -376,6 +380,7 @@ impl<
             kept,
             mut source,
             owed: _owed,
+            bitmaps: _bitmaps,
         } = self;
         let memory = tlsf.into_memory();
         if source.supports_dealloc() {
@@ -388,8 +393,8 @@ impl<
 /// Does what `into_parts` does: the source gets its ranges back.
 impl<
     S: FlexSource + Drop,
-    FLBitmap: Bitmap,
-    SLBitmap: Bitmap,
+    FLBitmap: BitPattern,
+    SLBitmap: BitPattern,
     const FLLEN: usize,
     const SLLEN: usize,
 > Drop for FlexTlsf<S, FLBitmap, SLBitmap, FLLEN, SLLEN> {

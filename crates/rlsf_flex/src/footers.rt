@@ -8,7 +8,6 @@ ghost use Rattle.rlsf_base.specs.Space.{word_at, IsWord};
 ghost use Rattle.rlsf_flex.specs.Footers.{footer_of, WritesFooter};
 
 use rlsf_base::memory::{Memory, Range};
-use rlsf_int::Bitmap;
 use rlsf_tlsf::Tlsf;
 
 /// Where a range's footer stands.
@@ -35,12 +34,12 @@ pub(crate) fn read_footer(memory: &Memory, range: Range) -> (usize, usize)
 /// Writes a range's footer.
 ///
 /// Its two words are spare.
-pub(crate) fn write_footer<
-    FLBitmap: Bitmap,
-    SLBitmap: Bitmap,
-    const FLLEN: usize,
-    const SLLEN: usize,
->(tlsf: &mut Tlsf<FLBitmap, SLBitmap, FLLEN, SLLEN>, range: Range, start: usize, len: usize)
+pub(crate) fn write_footer<const FLLEN: usize, const SLLEN: usize>(
+    tlsf: &mut Tlsf<u128, u128, FLLEN, SLLEN>,
+    range: Range,
+    start: usize,
+    len: usize,
+)
     requires range { (16 ≤ end_of range) × (end_of range < 2 ^ 64) }
     requires spare { IsSpareWord tlsf.old.memory tlsf.old.state (footer_of range) × IsSpareWord tlsf.old.memory tlsf.old.state (footer_of range + 8) }
     ensures footer { WritesFooter tlsf.old.memory tlsf.new.memory range start len }

@@ -19,7 +19,6 @@ use crate::pool::Pool;
 use crate::ranges::GhostRanges;
 use crate::source::FlexSource;
 use rlsf_base::memory::{Addr, Layout, Range};
-use rlsf_int::Bitmap;
 use rlsf_tlsf::Tlsf;
 use std::num::NonZeroUsize;
 
@@ -53,20 +52,14 @@ fn range_len<S: FlexSource>(source: &S, wanted: usize) -> Option<usize>
 
 /// Asks for a range in which `wanted` bytes from a multiple of 32 on are sure to lie, if there is a length for one, and hands it
 /// in.
-fn ask_range<
-    S: FlexSource,
-    FLBitmap: Bitmap,
-    SLBitmap: Bitmap,
-    const FLLEN: usize,
-    const SLLEN: usize,
->(
+fn ask_range<S: FlexSource, const FLLEN: usize, const SLLEN: usize>(
     source: &mut S,
     wanted: usize,
-    tlsf: &mut Tlsf<FLBitmap, SLBitmap, FLLEN, SLLEN>,
+    tlsf: &mut Tlsf<u128, u128, FLLEN, SLLEN>,
     kept: &mut Option<Pool>,
     owed: &mut GhostRanges,
 ) -> Option<Range>
-    requires valid { IsValid FLBitmap.width SLBitmap.width FLLEN SLLEN }
+    requires valid { IsValid 128 128 FLLEN SLLEN }
     requires wanted { IsPoolSize FLLEN SLLEN wanted }
     requires stands { FlexStandsFor FLLEN SLLEN S.terms S.owes (flex_over tlsf.old kept.old source.old owed.old) }
     ensures step { AskedRange FLLEN SLLEN S.terms S.owes S.leads (flex_over tlsf.old kept.old source.old owed.old)
@@ -91,23 +84,17 @@ fn ask_range<
 
 /// Asks for growth of the kept range to `len` bytes, if the source can grow it, and hands the new ones in. The footer moves before
 /// they are.
-fn ask_growth<
-    S: FlexSource,
-    FLBitmap: Bitmap,
-    SLBitmap: Bitmap,
-    const FLLEN: usize,
-    const SLLEN: usize,
->(
+fn ask_growth<S: FlexSource, const FLLEN: usize, const SLLEN: usize>(
     source: &mut S,
     pool: Pool,
     wanted: usize,
     len: usize,
-    tlsf: &mut Tlsf<FLBitmap, SLBitmap, FLLEN, SLLEN>,
+    tlsf: &mut Tlsf<u128, u128, FLLEN, SLLEN>,
     kept: &mut Option<Pool>,
     owed: &mut GhostRanges,
 ) -> Option<usize>
     requires kept { kept.old ≡ Some pool }
-    requires valid { IsValid FLBitmap.width SLBitmap.width FLLEN SLLEN }
+    requires valid { IsValid 128 128 FLLEN SLLEN }
     requires wanted { IsPoolSize FLLEN SLLEN wanted }
     requires len { len ≡ pool.len + wanted }
     requires stands { FlexStandsFor FLLEN SLLEN S.terms S.owes (flex_over tlsf.old kept.old source.old owed.old) }
@@ -143,20 +130,14 @@ fn ask_growth<
 
 /// Asks for `wanted` bytes more: for growth of the kept range, if there is one, and then for a new one, unless the source is one
 /// range that grows and that is kept. Answers whether some came.
-pub(crate) fn extend<
-    S: FlexSource,
-    FLBitmap: Bitmap,
-    SLBitmap: Bitmap,
-    const FLLEN: usize,
-    const SLLEN: usize,
->(
+pub(crate) fn extend<S: FlexSource, const FLLEN: usize, const SLLEN: usize>(
     wanted: usize,
-    tlsf: &mut Tlsf<FLBitmap, SLBitmap, FLLEN, SLLEN>,
+    tlsf: &mut Tlsf<u128, u128, FLLEN, SLLEN>,
     kept: &mut Option<Pool>,
     source: &mut S,
     owed: &mut GhostRanges,
 ) -> bool
-    requires valid { IsValid FLBitmap.width SLBitmap.width FLLEN SLLEN }
+    requires valid { IsValid 128 128 FLLEN SLLEN }
     requires wanted { IsPoolSize FLLEN SLLEN wanted }
     requires stands { FlexStandsFor FLLEN SLLEN S.terms S.owes (flex_over tlsf.old kept.old source.old owed.old) }
     ensures step { Extended FLLEN SLLEN S.terms S.owes S.leads (flex_over tlsf.old kept.old source.old owed.old)
@@ -181,12 +162,11 @@ pub(crate) fn extend<
 }
 
 /// Moves a payload into a block that is allocated for it, where there is room for one, with all its bytes.
-pub(crate) fn move_payload<
-    FLBitmap: Bitmap,
-    SLBitmap: Bitmap,
-    const FLLEN: usize,
-    const SLLEN: usize,
->(tlsf: &mut Tlsf<FLBitmap, SLBitmap, FLLEN, SLLEN>, addr: Addr, layout: Layout) -> Option<Addr>
+pub(crate) fn move_payload<const FLLEN: usize, const SLLEN: usize>(
+    tlsf: &mut Tlsf<u128, u128, FLLEN, SLLEN>,
+    addr: Addr,
+    layout: Layout,
+) -> Option<Addr>
     requires stands { Stands FLLEN SLLEN tlsf.old }
     requires live { align_at tlsf.old.state (at addr) ≡ Some layout.align }
     requires short { length (bytes_at tlsf.old.state (at addr)) ≤ layout.size }

@@ -20,12 +20,11 @@ use crate::pool::Pool;
 use crate::ranges::GhostRanges;
 use crate::source::FlexSource;
 use rlsf_base::memory::Range;
-use rlsf_int::Bitmap;
 use rlsf_tlsf::Tlsf;
 
 /// Whether no block of a row of chunks is used.
-fn is_idle<FLBitmap: Bitmap, SLBitmap: Bitmap, const FLLEN: usize, const SLLEN: usize>(
-    tlsf: &Tlsf<FLBitmap, SLBitmap, FLLEN, SLLEN>,
+fn is_idle<const FLLEN: usize, const SLLEN: usize>(
+    tlsf: &Tlsf<u128, u128, FLLEN, SLLEN>,
     row: Range,
 ) -> bool
     requires stands { Stands FLLEN SLLEN tlsf.now }
@@ -43,8 +42,8 @@ fn is_idle<FLBitmap: Bitmap, SLBitmap: Bitmap, const FLLEN: usize, const SLLEN: 
 
 /// How many bytes there are from a range's start to the end of its last chunk: its chunks are walked while there is room for
 /// one.
-fn pool_len<FLBitmap: Bitmap, SLBitmap: Bitmap, const FLLEN: usize, const SLLEN: usize>(
-    tlsf: &Tlsf<FLBitmap, SLBitmap, FLLEN, SLLEN>,
+fn pool_len<const FLLEN: usize, const SLLEN: usize>(
+    tlsf: &Tlsf<u128, u128, FLLEN, SLLEN>,
     range: Range,
 ) -> usize
     requires stands { Stands FLLEN SLLEN tlsf.now }
@@ -60,8 +59,8 @@ fn pool_len<FLBitmap: Bitmap, SLBitmap: Bitmap, const FLLEN: usize, const SLLEN:
 }
 
 /// The pool that a range has, if there is a range.
-fn pool_of<FLBitmap: Bitmap, SLBitmap: Bitmap, const FLLEN: usize, const SLLEN: usize>(
-    tlsf: &Tlsf<FLBitmap, SLBitmap, FLLEN, SLLEN>,
+fn pool_of<const FLLEN: usize, const SLLEN: usize>(
+    tlsf: &Tlsf<u128, u128, FLLEN, SLLEN>,
     range: Option<Range>,
 ) -> Option<Pool>
     requires stands { Stands FLLEN SLLEN tlsf.now }
@@ -79,15 +78,9 @@ fn pool_of<FLBitmap: Bitmap, SLBitmap: Bitmap, const FLLEN: usize, const SLLEN: 
 
 /// Gives the newest range back, if there is one and it holds no used block. The range before it is the newest then. Answers
 /// whether one went.
-fn give_newest_back<
-    S: FlexSource,
-    FLBitmap: Bitmap,
-    SLBitmap: Bitmap,
-    const FLLEN: usize,
-    const SLLEN: usize,
->(
+fn give_newest_back<S: FlexSource, const FLLEN: usize, const SLLEN: usize>(
     source: &mut S,
-    tlsf: &mut Tlsf<FLBitmap, SLBitmap, FLLEN, SLLEN>,
+    tlsf: &mut Tlsf<u128, u128, FLLEN, SLLEN>,
     kept: &mut Option<Pool>,
     owed: &mut GhostRanges,
 ) -> bool
@@ -123,14 +116,8 @@ fn give_newest_back<
 }
 
 /// Gives the newest ranges back, as far as they hold no used block, and answers how many went.
-pub(crate) fn give_idle_back<
-    S: FlexSource,
-    FLBitmap: Bitmap,
-    SLBitmap: Bitmap,
-    const FLLEN: usize,
-    const SLLEN: usize,
->(
-    tlsf: &mut Tlsf<FLBitmap, SLBitmap, FLLEN, SLLEN>,
+pub(crate) fn give_idle_back<S: FlexSource, const FLLEN: usize, const SLLEN: usize>(
+    tlsf: &mut Tlsf<u128, u128, FLLEN, SLLEN>,
     kept: &mut Option<Pool>,
     source: &mut S,
     owed: &mut GhostRanges,

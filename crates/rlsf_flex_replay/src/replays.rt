@@ -9,7 +9,7 @@ use crate::reading::{Run, read_run};
 use rlsf_base::memory::{Memory, Range};
 use rlsf_flex::FlexTlsf;
 use rlsf_flex_runs::run_flex;
-use rlsf_int::Bitmap;
+use rlsf_int::BitPattern;
 use rlsf_listed_source::ListedSource;
 use rlsf_text::{Configuration, Op, text_of};
 use std::alloc::Global;
@@ -56,7 +56,7 @@ pub(crate) fn output_of(alloc: Global, text: &str) -> Result<String, Failure> {
 }
 
 /// The lines of ops on an allocator that has asked for nothing yet.
-fn output_with<FLBitmap: Bitmap, SLBitmap: Bitmap, const FLLEN: usize, const SLLEN: usize>(
+fn output_with<FLBitmap: BitPattern, SLBitmap: BitPattern, const FLLEN: usize, const SLLEN: usize>(
     alloc: Global,
     mut flex: FlexTlsf<ListedSource, FLBitmap, SLBitmap, FLLEN, SLLEN>,
     ops: &[Op],

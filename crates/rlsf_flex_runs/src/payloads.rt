@@ -7,7 +7,7 @@ ghost use Rattle.rlsf_text.specs.declared.op.Op.TheVariants.{Alloc, Free, FreeUn
 
 use rlsf_base::memory::Layout;
 use rlsf_flex::{FlexSource, FlexTlsf};
-use rlsf_int::Bitmap;
+use rlsf_int::BitPattern;
 use rlsf_runs::Payload;
 use rlsf_text::{Answer, TraceError};
 use std::collections::HashMap;
@@ -22,8 +22,8 @@ fn payload_of(names: &HashMap<usize, Payload>, name: usize) -> Option<Payload>
 /// Allocates a payload and names it, unless a live one has the name. A name whose payload found no room stays free.
 pub(crate) fn alloc<
     S: FlexSource,
-    FLBitmap: Bitmap,
-    SLBitmap: Bitmap,
+    FLBitmap: BitPattern,
+    SLBitmap: BitPattern,
     const FLLEN: usize,
     const SLLEN: usize,
 >(
@@ -51,8 +51,8 @@ pub(crate) fn alloc<
 /// Gives the payload of a name back, and tells its alignment or doesn't, unless no live one has it. The name is free again.
 pub(crate) fn free<
     S: FlexSource,
-    FLBitmap: Bitmap,
-    SLBitmap: Bitmap,
+    FLBitmap: BitPattern,
+    SLBitmap: BitPattern,
     const FLLEN: usize,
     const SLLEN: usize,
 >(
@@ -81,8 +81,8 @@ pub(crate) fn free<
 /// there is no room for it and no memory came, the name keeps its payload as it is.
 pub(crate) fn realloc<
     S: FlexSource,
-    FLBitmap: Bitmap,
-    SLBitmap: Bitmap,
+    FLBitmap: BitPattern,
+    SLBitmap: BitPattern,
     const FLLEN: usize,
     const SLLEN: usize,
 >(
@@ -114,8 +114,8 @@ pub(crate) fn realloc<
 /// alignment. Where the bytes there don't suffice, it stays as it is. The name keeps its payload in each case.
 pub(crate) fn realloc_no_move<
     S: FlexSource,
-    FLBitmap: Bitmap,
-    SLBitmap: Bitmap,
+    FLBitmap: BitPattern,
+    SLBitmap: BitPattern,
     const FLLEN: usize,
     const SLLEN: usize,
 >(
@@ -139,8 +139,8 @@ pub(crate) fn realloc_no_move<
 /// Sets every usable byte of the payload of a name, unless no live one has it.
 pub(crate) fn fill<
     S: FlexSource,
-    FLBitmap: Bitmap,
-    SLBitmap: Bitmap,
+    FLBitmap: BitPattern,
+    SLBitmap: BitPattern,
     const FLLEN: usize,
     const SLLEN: usize,
 >(
@@ -162,8 +162,8 @@ pub(crate) fn fill<
 /// Sets the byte at an offset of the payload of a name, unless no live one has it or the offset isn't below its usable size.
 pub(crate) fn put<
     S: FlexSource,
-    FLBitmap: Bitmap,
-    SLBitmap: Bitmap,
+    FLBitmap: BitPattern,
+    SLBitmap: BitPattern,
     const FLLEN: usize,
     const SLLEN: usize,
 >(
@@ -189,8 +189,8 @@ pub(crate) fn put<
 /// Reads the byte at an offset of the payload of a name, unless no live one has it or the offset isn't below its usable size.
 pub(crate) fn get<
     S: FlexSource,
-    FLBitmap: Bitmap,
-    SLBitmap: Bitmap,
+    FLBitmap: BitPattern,
+    SLBitmap: BitPattern,
     const FLLEN: usize,
     const SLLEN: usize,
 >(
@@ -214,8 +214,8 @@ pub(crate) fn get<
 /// How many bytes of the payload of a name are usable, unless no live one has it.
 pub(crate) fn usable<
     S: FlexSource,
-    FLBitmap: Bitmap,
-    SLBitmap: Bitmap,
+    FLBitmap: BitPattern,
+    SLBitmap: BitPattern,
     const FLLEN: usize,
     const SLLEN: usize,
 >(

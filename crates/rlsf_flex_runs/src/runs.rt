@@ -10,14 +10,20 @@ ghost use Rattle.rlsf_text.specs.declared.op.Answer.{Answer};
 
 use crate::payloads::{alloc, fill, free, get, put, realloc, realloc_no_move, usable};
 use rlsf_flex::{FlexSource, FlexTlsf};
-use rlsf_int::Bitmap;
+use rlsf_int::BitPattern;
 use rlsf_runs::{Payload, RunError};
 use rlsf_text::{Answer, Op, TraceError};
 use std::alloc::Global;
 use std::collections::HashMap;
 
 /// Does one op, and answers it.
-fn step<S: FlexSource, FLBitmap: Bitmap, SLBitmap: Bitmap, const FLLEN: usize, const SLLEN: usize>(
+fn step<
+    S: FlexSource,
+    FLBitmap: BitPattern,
+    SLBitmap: BitPattern,
+    const FLLEN: usize,
+    const SLLEN: usize,
+>(
     flex: &mut FlexTlsf<S, FLBitmap, SLBitmap, FLLEN, SLLEN>,
     names: &mut HashMap<usize, Payload>,
     op: Op,
@@ -52,8 +58,8 @@ fn step<S: FlexSource, FLBitmap: Bitmap, SLBitmap: Bitmap, const FLLEN: usize, c
 /// comes only then. No op was done then, nothing was asked, and the answers are as before.
 pub fn run_flex<
     S: FlexSource,
-    FLBitmap: Bitmap,
-    SLBitmap: Bitmap,
+    FLBitmap: BitPattern,
+    SLBitmap: BitPattern,
     const FLLEN: usize,
     const SLLEN: usize,
 >(

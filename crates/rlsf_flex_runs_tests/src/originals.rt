@@ -23,7 +23,7 @@ use crate::calls::Call;
 use crate::sources::parts_of;
 use rlsf_flex::FlexTlsf;
 use rlsf_flex_runs::run_flex;
-use rlsf_int::Bitmap;
+use rlsf_int::BitPattern;
 use rlsf_listed_source::{ListedSource, Question, SourceAnswer};
 use rlsf_text::{Answer, Op};
 use std::alloc::Global;
@@ -155,7 +155,7 @@ struct Left {
 }
 
 /// What ops leave; nothing where the system refuses memory.
-fn left_by<FLBitmap: Bitmap, SLBitmap: Bitmap, const FLLEN: usize, const SLLEN: usize>(
+fn left_by<FLBitmap: BitPattern, SLBitmap: BitPattern, const FLLEN: usize, const SLLEN: usize>(
     alloc: Global,
     source: Source,
     given: Vec<SourceAnswer>,
@@ -217,7 +217,7 @@ fn is_right(script: &Script, questions: &[Question], left: &Left) -> bool {
 }
 
 /// Whether the run with a number goes as it has to; nothing where the system refuses memory.
-fn goes_so<FLBitmap: Bitmap, SLBitmap: Bitmap, const FLLEN: usize, const SLLEN: usize>(
+fn goes_so<FLBitmap: BitPattern, SLBitmap: BitPattern, const FLLEN: usize, const SLLEN: usize>(
     alloc: Global,
     choice: usize,
     number: usize,
@@ -236,7 +236,7 @@ fn goes_so<FLBitmap: Bitmap, SLBitmap: Bitmap, const FLLEN: usize, const SLLEN: 
 }
 
 /// The number of the first run that goes otherwise, or for which the system refuses memory.
-fn first_wrong<FLBitmap: Bitmap, SLBitmap: Bitmap, const FLLEN: usize, const SLLEN: usize>(
+fn first_wrong<FLBitmap: BitPattern, SLBitmap: BitPattern, const FLLEN: usize, const SLLEN: usize>(
     alloc: Global,
     choice: usize,
     shape: Shape<'_, FLBitmap, SLBitmap, FLLEN, SLLEN>,

@@ -4,7 +4,7 @@ use crate::cursor::{CursorSource, Habits, Question, Questions};
 use crate::heaps::{Case, Outcome, Step, are_right, is_right, number, parts};
 use rlsf_base::memory::{Layout, Range};
 use rlsf_flex::FlexTlsf;
-use rlsf_int::Bitmap;
+use rlsf_int::BitPattern;
 use std::alloc::Global;
 use std::cell::Cell;
 use std::process::Abort;
@@ -59,7 +59,7 @@ struct Growth {
 }
 
 /// Whether an allocator allocates these addresses for a layout, and what the source was asked.
-fn allocates<FLBitmap: Bitmap, SLBitmap: Bitmap, const FLLEN: usize, const SLLEN: usize>(
+fn allocates<FLBitmap: BitPattern, SLBitmap: BitPattern, const FLLEN: usize, const SLLEN: usize>(
     mut flex: FlexTlsf<CursorSource, FLBitmap, SLBitmap, FLLEN, SLLEN>,
     layout: Layout,
     addresses: &[usize],

@@ -9,16 +9,17 @@ ghost use Rattle.rlsf_runs.specs.Steps.Tables.{HasRoom, IsAt, LeadsOn};
 use crate::names::Payload;
 use crate::tables::Tables;
 use rlsf_base::memory::Layout;
-use rlsf_int::Bitmap;
+use rlsf_int::BitPattern;
 use rlsf_text::{Answer, TraceError};
 use rlsf_tlsf::Tlsf;
 
 /// Gives the payload of a name back, unless no live one has it. The name is free again.
-pub(crate) fn free<FLBitmap: Bitmap, SLBitmap: Bitmap, const FLLEN: usize, const SLLEN: usize>(
-    tlsf: &mut Tlsf<FLBitmap, SLBitmap, FLLEN, SLLEN>,
-    tables: &mut Tables,
-    name: usize,
-) -> Answer
+pub(crate) fn free<
+    FLBitmap: BitPattern,
+    SLBitmap: BitPattern,
+    const FLLEN: usize,
+    const SLLEN: usize,
+>(tlsf: &mut Tlsf<FLBitmap, SLBitmap, FLLEN, SLLEN>, tables: &mut Tables, name: usize) -> Answer
     requires { (s : RunState) × IsAt FLLEN SLLEN tlsf.old tables.old s }
     ensures does { (s : RunState) → IsAt FLLEN SLLEN tlsf.old tables.old s → LeadsOn FLLEN SLLEN tlsf.old s (Free name) result tlsf.new tables.new }
     ensures room { (ops : ℕ) → HasRoom tables.old (ops + 1) → HasRoom tables.new ops }
@@ -33,8 +34,8 @@ pub(crate) fn free<FLBitmap: Bitmap, SLBitmap: Bitmap, const FLLEN: usize, const
 
 /// Gives the payload of a name back without telling its alignment, unless no live one has it. The name is free again.
 pub(crate) fn free_unknown<
-    FLBitmap: Bitmap,
-    SLBitmap: Bitmap,
+    FLBitmap: BitPattern,
+    SLBitmap: BitPattern,
     const FLLEN: usize,
     const SLLEN: usize,
 >(tlsf: &mut Tlsf<FLBitmap, SLBitmap, FLLEN, SLLEN>, tables: &mut Tables, name: usize) -> Answer
@@ -52,7 +53,12 @@ pub(crate) fn free_unknown<
 
 /// Gives the payload of a name another size, unless no live one has it or no layout has that size with its alignment. Where
 /// there is no room for it, the name keeps its payload as it is.
-pub(crate) fn realloc<FLBitmap: Bitmap, SLBitmap: Bitmap, const FLLEN: usize, const SLLEN: usize>(
+pub(crate) fn realloc<
+    FLBitmap: BitPattern,
+    SLBitmap: BitPattern,
+    const FLLEN: usize,
+    const SLLEN: usize,
+>(
     tlsf: &mut Tlsf<FLBitmap, SLBitmap, FLLEN, SLLEN>,
     tables: &mut Tables,
     name: usize,
@@ -81,8 +87,8 @@ pub(crate) fn realloc<FLBitmap: Bitmap, SLBitmap: Bitmap, const FLLEN: usize, co
 /// Gives the payload of a name another size where it stands, unless no live one has it or no layout has that size with its
 /// alignment. Where the bytes there don't suffice, it stays as it is. The name keeps its payload in each case.
 pub(crate) fn realloc_no_move<
-    FLBitmap: Bitmap,
-    SLBitmap: Bitmap,
+    FLBitmap: BitPattern,
+    SLBitmap: BitPattern,
     const FLLEN: usize,
     const SLLEN: usize,
 >(
@@ -105,7 +111,12 @@ pub(crate) fn realloc_no_move<
 }
 
 /// Sets every usable byte of the payload of a name, unless no live one has it.
-pub(crate) fn fill<FLBitmap: Bitmap, SLBitmap: Bitmap, const FLLEN: usize, const SLLEN: usize>(
+pub(crate) fn fill<
+    FLBitmap: BitPattern,
+    SLBitmap: BitPattern,
+    const FLLEN: usize,
+    const SLLEN: usize,
+>(
     tlsf: &mut Tlsf<FLBitmap, SLBitmap, FLLEN, SLLEN>,
     tables: &Tables,
     name: usize,
@@ -123,7 +134,12 @@ pub(crate) fn fill<FLBitmap: Bitmap, SLBitmap: Bitmap, const FLLEN: usize, const
 }
 
 /// Sets the byte at an offset of the payload of a name, unless no live one has it or the offset isn't below its usable size.
-pub(crate) fn put<FLBitmap: Bitmap, SLBitmap: Bitmap, const FLLEN: usize, const SLLEN: usize>(
+pub(crate) fn put<
+    FLBitmap: BitPattern,
+    SLBitmap: BitPattern,
+    const FLLEN: usize,
+    const SLLEN: usize,
+>(
     tlsf: &mut Tlsf<FLBitmap, SLBitmap, FLLEN, SLLEN>,
     tables: &Tables,
     name: usize,
@@ -145,7 +161,12 @@ pub(crate) fn put<FLBitmap: Bitmap, SLBitmap: Bitmap, const FLLEN: usize, const 
 }
 
 /// Reads the byte at an offset of the payload of a name, unless no live one has it or the offset isn't below its usable size.
-pub(crate) fn get<FLBitmap: Bitmap, SLBitmap: Bitmap, const FLLEN: usize, const SLLEN: usize>(
+pub(crate) fn get<
+    FLBitmap: BitPattern,
+    SLBitmap: BitPattern,
+    const FLLEN: usize,
+    const SLLEN: usize,
+>(
     tlsf: &Tlsf<FLBitmap, SLBitmap, FLLEN, SLLEN>,
     tables: &Tables,
     name: usize,
@@ -164,11 +185,12 @@ pub(crate) fn get<FLBitmap: Bitmap, SLBitmap: Bitmap, const FLLEN: usize, const 
 }
 
 /// How many bytes of the payload of a name are usable, unless no live one has it.
-pub(crate) fn usable<FLBitmap: Bitmap, SLBitmap: Bitmap, const FLLEN: usize, const SLLEN: usize>(
-    tlsf: &Tlsf<FLBitmap, SLBitmap, FLLEN, SLLEN>,
-    tables: &Tables,
-    name: usize,
-) -> Answer
+pub(crate) fn usable<
+    FLBitmap: BitPattern,
+    SLBitmap: BitPattern,
+    const FLLEN: usize,
+    const SLLEN: usize,
+>(tlsf: &Tlsf<FLBitmap, SLBitmap, FLLEN, SLLEN>, tables: &Tables, name: usize) -> Answer
     requires { (s : RunState) × IsAt FLLEN SLLEN tlsf.now tables.now s }
     ensures { (s : RunState) → IsAt FLLEN SLLEN tlsf.now tables.now s → LeadsOn FLLEN SLLEN tlsf.now s (Usable name) result tlsf.now tables.now }
 {

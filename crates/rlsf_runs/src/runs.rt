@@ -21,7 +21,7 @@ use crate::payloads::{fill, free, free_unknown, get, put, realloc, realloc_no_mo
 use crate::tables::{Tables, ending_at, overlaps_any};
 use crate::walks::block;
 use rlsf_base::memory::{Layout, Memory, Range};
-use rlsf_int::Bitmap;
+use rlsf_int::BitPattern;
 use rlsf_text::{Answer, Op, TraceError};
 use rlsf_tlsf::{GRANULARITY, Tlsf};
 use std::alloc::{AllocError, Global};
@@ -62,7 +62,7 @@ fn is_vacant(memory: &Memory, pools: &VecDeque<Range>, range: Range) -> bool
 }
 
 /// Does one op, and answers it. The tables have room for it.
-pub fn step<FLBitmap: Bitmap, SLBitmap: Bitmap, const FLLEN: usize, const SLLEN: usize>(
+pub fn step<FLBitmap: BitPattern, SLBitmap: BitPattern, const FLLEN: usize, const SLLEN: usize>(
     tlsf: &mut Tlsf<FLBitmap, SLBitmap, FLLEN, SLLEN>,
     tables: &mut Tables,
     op: Op,
@@ -91,7 +91,7 @@ pub fn step<FLBitmap: Bitmap, SLBitmap: Bitmap, const FLLEN: usize, const SLLEN:
 }
 
 /// Inserts a range, unless it doesn't lie in the memory or overlaps a pool.
-fn insert<FLBitmap: Bitmap, SLBitmap: Bitmap, const FLLEN: usize, const SLLEN: usize>(
+fn insert<FLBitmap: BitPattern, SLBitmap: BitPattern, const FLLEN: usize, const SLLEN: usize>(
     tlsf: &mut Tlsf<FLBitmap, SLBitmap, FLLEN, SLLEN>,
     tables: &mut Tables,
     range: Range,
@@ -125,7 +125,7 @@ fn pool_of(range: Range, len: usize) -> Range
 }
 
 /// Appends a range, unless it doesn't lie in the memory, overlaps a pool, or begins where none ends.
-fn append<FLBitmap: Bitmap, SLBitmap: Bitmap, const FLLEN: usize, const SLLEN: usize>(
+fn append<FLBitmap: BitPattern, SLBitmap: BitPattern, const FLLEN: usize, const SLLEN: usize>(
     tlsf: &mut Tlsf<FLBitmap, SLBitmap, FLLEN, SLLEN>,
     tables: &mut Tables,
     range: Range,
@@ -147,7 +147,7 @@ fn append<FLBitmap: Bitmap, SLBitmap: Bitmap, const FLLEN: usize, const SLLEN: u
 }
 
 /// Allocates a payload and names it, unless a live one has the name.
-fn alloc<FLBitmap: Bitmap, SLBitmap: Bitmap, const FLLEN: usize, const SLLEN: usize>(
+fn alloc<FLBitmap: BitPattern, SLBitmap: BitPattern, const FLLEN: usize, const SLLEN: usize>(
     tlsf: &mut Tlsf<FLBitmap, SLBitmap, FLLEN, SLLEN>,
     tables: &mut Tables,
     name: usize,
@@ -180,7 +180,7 @@ fn alloc<FLBitmap: Bitmap, SLBitmap: Bitmap, const FLLEN: usize, const SLLEN: us
 ///
 /// `OutOfMemory` comes where the system refuses memory for the answers or for the run's own tables; no clause says that it
 /// comes only then. No op was done then, and the answers are as before.
-pub fn run<FLBitmap: Bitmap, SLBitmap: Bitmap, const FLLEN: usize, const SLLEN: usize>(
+pub fn run<FLBitmap: BitPattern, SLBitmap: BitPattern, const FLLEN: usize, const SLLEN: usize>(
     alloc: Global,
     tlsf: &mut Tlsf<FLBitmap, SLBitmap, FLLEN, SLLEN>,
     ops: &[Op],

@@ -11,7 +11,7 @@ ghost use Rattle.rlsf_runs.specs.Steps.Tables.{IsAt, IsInOrder, LeadsOn};
 use crate::runs::lies_in;
 use crate::tables::{Tables, is_pool};
 use rlsf_base::memory::{Memory, Range};
-use rlsf_int::Bitmap;
+use rlsf_int::BitPattern;
 use rlsf_text::{Answer, TraceError};
 use rlsf_tlsf::Tlsf;
 use std::collections::VecDeque;
@@ -28,7 +28,12 @@ fn may_walk(memory: &Memory, pools: &VecDeque<Range>, range: Range) -> bool
 
 /// The block at an index of a pool, from 0. The range goes from the pool's start, or from up to 31 bytes before it, to the
 /// pool's end; any other is refused.
-pub(crate) fn block<FLBitmap: Bitmap, SLBitmap: Bitmap, const FLLEN: usize, const SLLEN: usize>(
+pub(crate) fn block<
+    FLBitmap: BitPattern,
+    SLBitmap: BitPattern,
+    const FLLEN: usize,
+    const SLLEN: usize,
+>(
     tlsf: &Tlsf<FLBitmap, SLBitmap, FLLEN, SLLEN>,
     tables: &Tables,
     range: Range,

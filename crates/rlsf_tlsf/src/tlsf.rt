@@ -64,7 +64,7 @@ impl<FLBitmap: BitPattern, SLBitmap: BitPattern, const FLLEN: usize, const SLLEN
     ghost invariant = { λ t. IsAllocator FLBitmap.width SLBitmap.width FLLEN SLLEN t.memory t.table t.state.state };
 }
 
-impl<FLBitmap: Bitmap, SLBitmap: Bitmap, const FLLEN: usize, const SLLEN: usize> Tlsf<
+impl<FLBitmap: BitPattern, SLBitmap: BitPattern, const FLLEN: usize, const SLLEN: usize> Tlsf<
     FLBitmap,
     SLBitmap,
     FLLEN,
@@ -456,6 +456,21 @@ impl<FLBitmap: Bitmap, SLBitmap: Bitmap, const FLLEN: usize, const SLLEN: usize>
         NonZeroUsize::new(self.table.newest(fl, sl))
     }
 
+    /// The memory, to read. Its words and the class table spell the state.
+    pub fn memory_ref(&self) -> &Memory
+        ensures memory { result.now ≡ self.now.memory }
+        ensures stands { Stands FLLEN SLLEN self.now }
+    {
+        &self.memory
+    }
+}
+
+impl<FLBitmap: Bitmap, SLBitmap: Bitmap, const FLLEN: usize, const SLLEN: usize> Tlsf<
+    FLBitmap,
+    SLBitmap,
+    FLLEN,
+    SLLEN,
+> {
     /// The first-level bitmap: a row's position has a one exactly where a block is free whose class is in the row.
     pub fn fl_bitmap(&self) -> FLBitmap
         ensures { (fl : ℕ) → bit (FLBitmap.pattern result) fl ≡ list_any (is_in_row SLLEN fl) self.now.state.free }
@@ -471,13 +486,5 @@ impl<FLBitmap: Bitmap, SLBitmap: Bitmap, const FLLEN: usize, const SLLEN: usize>
         ensures { (sl : ℕ) → bit (SLBitmap.pattern result) sl ≡ list_any (has_class SLLEN (class_at fl sl)) self.now.state.free }
     {
         self.table.sl_bitmap(fl)
-    }
-
-    /// The memory, to read. Its words and the class table spell the state.
-    pub fn memory_ref(&self) -> &Memory
-        ensures memory { result.now ≡ self.now.memory }
-        ensures stands { Stands FLLEN SLLEN self.now }
-    {
-        &self.memory
     }
 }

@@ -12,7 +12,7 @@ ghost use Rattle.rlsf_trace.specs.Replays.{AppendsReplay, AppendsCutReplay, no_m
 use crate::input::read_input;
 use crate::output::write_text;
 use rlsf_base::memory::Memory;
-use rlsf_int::Bitmap;
+use rlsf_int::BitPattern;
 use rlsf_runs::run;
 use rlsf_text::{Answer, Configuration, Fault, Op, ReplayFault, Trace, text_of};
 use rlsf_tlsf::Tlsf;
@@ -28,7 +28,7 @@ fn memory_of(alloc: Global, trace: &Trace) -> Result<Memory, ReplayFault>
 }
 
 // What ops answer, on an allocator that has no chunk.
-fn answers_with<FLBitmap: Bitmap, SLBitmap: Bitmap, const FLLEN: usize, const SLLEN: usize>(
+fn answers_with<FLBitmap: BitPattern, SLBitmap: BitPattern, const FLLEN: usize, const SLLEN: usize>(
     alloc: Global,
     mut tlsf: Tlsf<FLBitmap, SLBitmap, FLLEN, SLLEN>,
     ops: &[Op],

@@ -1,5 +1,5 @@
 -- What an op changes: the payload that it is on, and no other.
-use Rattle.std.proofs.Common.{◌≡◌, ℕ, ◌+◌, eqb, cond, length, List, [], ◌∷◌, Option, Some, None, arith, refl, sym, ◌∙◌, ap, subst, inl, inr, replicate, slice_set}
+use Rattle.std.proofs.Common.{◌≡◌, ℕ, ◌+◌, cond, length, List, [], ◌∷◌, Option, Some, None, arith, refl, sym, ◌∙◌, ap, subst, inl, inr, replicate, slice_set}
 use Rattle.std.specs.Prelude.{◌⊎◌, sum_by}
 use Rattle.std.proofs.lemmas.Bool.{eq-eqb}
 use Rattle.std.proofs.lemmas.List.Sums.{sum_by-cons}
@@ -8,9 +8,7 @@ use Rattle.rlsf_base.specs.Addr.{reply}
 use Rattle.rlsf_base.specs.declared.memory.range.Range.{Range}
 use Rattle.rlsf_machine.specs.Allocate.{Allocates}
 use Rattle.rlsf_machine.specs.Lists.{IsIn}
-use Rattle.rlsf_machine.specs.NoMove.{ReallocatesWithoutMove}
 use Rattle.rlsf_machine.specs.Reallocate.{Reallocates}
-use Rattle.rlsf_machine.specs.Release.{Deallocates}
 use Rattle.rlsf_machine.specs.Run.{Fills}
 use Rattle.rlsf_machine.specs.State.{State, Used, Holds, usable, with_bytes}
 use Rattle.rlsf_machine.specs.WellFormed.{IsWellFormed}
@@ -22,10 +20,10 @@ use Rattle.rlsf_text.specs.declared.op.Answer.{Answer}
 use Rattle.rlsf_text.specs.declared.op.Answer.TheVariants.{Inserted, Appended, Placed, Done, Byte, Usable, Block, Trimmed, Refused}
 use Rattle.rlsf_text.specs.declared.op.Op.{Op}
 use Rattle.rlsf_text.specs.declared.op.Op.TheVariants.{Insert, Append, Alloc, Free, FreeUnknown, Realloc, ReallocNoMove, Fill, Put, Get, Usable as OpUsable, Block as OpBlock, Trim}
-use Rattle.rlsf_runs.specs.Runs.{Does, Frees, Owns, RunState, with_name, without_name}
+use Rattle.rlsf_runs.specs.Runs.{Does, Frees, RunState, with_name, without_name}
 use Rattle.rlsf_runs.proofs.NamedPayloads.{reallocation_refused}
-use Rattle.rlsf_watched.specs.Moments.{name_in, moment_of, usable_bytes}
-use Rattle.rlsf_watched.specs.Steps.Changes.{live_in, Measures, MeasuresName, usable_in}
+use Rattle.rlsf_watched.specs.Moments.{name_in, usable_bytes}
+use Rattle.rlsf_watched.specs.Steps.Changes.{live_in, Measures, usable_in}
 use Rattle.rlsf_watched.proofs.Weights.{IsBlind, weight, weight-allocated, weight-deallocated, weight-filled, weight-reallocated}
 
 -- no payload has the name, or one that weighs so much

@@ -1,15 +1,15 @@
 -- The blocks of all pools are those of the state.
-use Rattle.std.proofs.Common.{◌≡◌, ℕ, zero, suc, ◌+◌, ◌-◌, ◌%◌, ◌<◌, ◌≤◌, ◌++◌, length, take, List, [], ◌∷◌, slice_index_or, arith, refl, sym, ◌∙◌, ap, subst, inl, inr}
-use Rattle.std.specs.Prelude.{◌⊎◌, ◌↔◌}
+use Rattle.std.proofs.Common.{◌≡◌, ℕ, zero, suc, ◌%◌, ◌<◌, ◌≤◌, ◌++◌, length, take, List, [], ◌∷◌, slice_index_or, arith, refl, sym, ap, subst, inl, inr}
+use Rattle.std.specs.Prelude.{◌↔◌}
 use Rattle.std.proofs.lemmas.List.Sorted.{IsPermutation-sym}
 use Rattle.rlsf_base.specs.declared.memory.range.Range.{Range}
-use Rattle.rlsf_base.specs.Range.{end_of, LiesIn}
+use Rattle.rlsf_base.specs.Range.{end_of}
 use Rattle.rlsf_base.specs.Rounding.{round32}
 use Rattle.rlsf_base.specs.Space.{range_of}
 use Rattle.rlsf_machine.specs.ChunkRows.{IsRow}
 use Rattle.rlsf_machine.specs.Lists.{IsIn}
-use Rattle.rlsf_machine.specs.State.{State, Used, between}
-use Rattle.rlsf_machine.specs.WellFormed.{coverage, covers, itself, IsWellFormed}
+use Rattle.rlsf_machine.specs.State.{State}
+use Rattle.rlsf_machine.specs.WellFormed.{itself, IsWellFormed}
 use Rattle.rlsf_machine.proofs.Coverage.{covers-inside, coverage-IsIn, coverage-some, coverage-unique, IsIn-append, IsIn-append_left, IsIn-append_right}
 use Rattle.rlsf_machine.proofs.Payloads.{IsUsed-some}
 use Rattle.rlsf_machine.proofs.Tiling.{tiling_of, lies_in_chunk, IsPart-free, IsPart-used, LiesInChunk}

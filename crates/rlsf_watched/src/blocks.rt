@@ -7,15 +7,15 @@ ghost use Rattle.rlsf_runs.specs.Runs.{RunState};
 ghost use Rattle.rlsf_runs.specs.Steps.Tables.{IsAt};
 
 use rlsf_blocks::BlockInfo;
-use rlsf_int::Bitmap;
+use rlsf_int::BitPattern;
 use rlsf_runs::{RunError, Tables};
 use rlsf_tlsf::Tlsf;
 use std::alloc::Global;
 
 /// The blocks of all pools, used and free, in the order of their addresses.
 pub(crate) fn all_blocks<
-    FLBitmap: Bitmap,
-    SLBitmap: Bitmap,
+    FLBitmap: BitPattern,
+    SLBitmap: BitPattern,
     const FLLEN: usize,
     const SLLEN: usize,
 >(

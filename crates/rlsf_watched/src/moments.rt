@@ -7,7 +7,7 @@ ghost use Rattle.rlsf_runs.specs.Steps.Tables.{HasRoom, IsAt};
 ghost use Rattle.rlsf_watched.specs.Moments.{moment_of, name_in};
 ghost use Rattle.rlsf_watched.specs.Steps.Changes.{LeadsWatched, live_in, Measures, usable_in};
 
-use rlsf_int::Bitmap;
+use rlsf_int::BitPattern;
 use rlsf_runs::{Tables, step};
 use rlsf_text::{Answer, Op};
 use rlsf_tlsf::Tlsf;
@@ -40,7 +40,7 @@ pub(crate) fn name_of(op: Op) -> Option<usize>
 }
 
 // How many bytes are usable of the payload that an op is on, if it is on a live one.
-fn usable_of<FLBitmap: Bitmap, SLBitmap: Bitmap, const FLLEN: usize, const SLLEN: usize>(
+fn usable_of<FLBitmap: BitPattern, SLBitmap: BitPattern, const FLLEN: usize, const SLLEN: usize>(
     tlsf: &Tlsf<FLBitmap, SLBitmap, FLLEN, SLLEN>,
     tables: &Tables,
     op: Op,
@@ -71,8 +71,8 @@ fn moved_on(moment: Moment, before: Option<usize>, after: Option<usize>) -> Mome
 
 /// Does one op, and answers it, with the moment after it, where the moment before it is told.
 pub(crate) fn watched_step<
-    FLBitmap: Bitmap,
-    SLBitmap: Bitmap,
+    FLBitmap: BitPattern,
+    SLBitmap: BitPattern,
     const FLLEN: usize,
     const SLLEN: usize,
 >(

@@ -8,7 +8,7 @@ ghost use Rattle.rlsf_watched.specs.Moments.{IsWatched};
 use crate::blocks::all_blocks;
 use crate::moments::{Moment, watched_step};
 use rlsf_blocks::BlockInfo;
-use rlsf_int::Bitmap;
+use rlsf_int::BitPattern;
 use rlsf_runs::{RunError, Tables};
 use rlsf_text::{Answer, Op};
 use rlsf_tlsf::Tlsf;
@@ -30,7 +30,7 @@ pub struct Watched {
 ///
 /// `OutOfMemory` comes where the system refuses memory for what is told or for the run's own tables; no clause says that it
 /// comes only then.
-pub fn watch<FLBitmap: Bitmap, SLBitmap: Bitmap, const FLLEN: usize, const SLLEN: usize>(
+pub fn watch<FLBitmap: BitPattern, SLBitmap: BitPattern, const FLLEN: usize, const SLLEN: usize>(
     alloc: Global,
     tlsf: &mut Tlsf<FLBitmap, SLBitmap, FLLEN, SLLEN>,
     ops: &[Op],

@@ -10,7 +10,7 @@ ghost use Rattle.rlsf_watched.specs.Moments.{IsWatched};
 
 use crate::runs::{Watched, watch};
 use rlsf_base::memory::Memory;
-use rlsf_int::Bitmap;
+use rlsf_int::BitPattern;
 use rlsf_text::{Configuration, Fault, Op, ReplayFault, Trace};
 use rlsf_tlsf::Tlsf;
 use std::alloc::Global;
@@ -24,7 +24,7 @@ fn memory_of(alloc: Global, trace: &Trace) -> Result<Memory, ReplayFault>
 }
 
 // The run of ops on an allocator that has no chunk.
-fn watch_with<FLBitmap: Bitmap, SLBitmap: Bitmap, const FLLEN: usize, const SLLEN: usize>(
+fn watch_with<FLBitmap: BitPattern, SLBitmap: BitPattern, const FLLEN: usize, const SLLEN: usize>(
     alloc: Global,
     mut tlsf: Tlsf<FLBitmap, SLBitmap, FLLEN, SLLEN>,
     ops: &[Op],

@@ -7,7 +7,7 @@ ghost use Rattle.rlsf_base.specs.SizeClass.{IsValid};
 
 use self::lists::LISTS;
 use rlsf_base::memory::{Layout, Memory, Range};
-use rlsf_int::Bitmap;
+use rlsf_int::BitPattern;
 use rlsf_runs::run;
 use rlsf_text::{Answer, Op, TraceError};
 use rlsf_tlsf::Tlsf;
@@ -384,7 +384,7 @@ type Shape<'a, FLBitmap, SLBitmap, const FLLEN: usize, const SLLEN: usize> = Opt
 >;
 
 /// The index of the first wrong answer to a list's ops.
-fn wrong_of<FLBitmap: Bitmap, SLBitmap: Bitmap, const FLLEN: usize, const SLLEN: usize>(
+fn wrong_of<FLBitmap: BitPattern, SLBitmap: BitPattern, const FLLEN: usize, const SLLEN: usize>(
     rt: &(impl Abort + AllocGlobal),
     list: &[u32; 40],
     _shape: Shape<'_, FLBitmap, SLBitmap, FLLEN, SLLEN>,
@@ -401,7 +401,7 @@ fn wrong_of<FLBitmap: Bitmap, SLBitmap: Bitmap, const FLLEN: usize, const SLLEN:
 }
 
 /// Passes where all lists' ops have right answers.
-fn lists_pass<FLBitmap: Bitmap, SLBitmap: Bitmap, const FLLEN: usize, const SLLEN: usize>(
+fn lists_pass<FLBitmap: BitPattern, SLBitmap: BitPattern, const FLLEN: usize, const SLLEN: usize>(
     rt: &(impl Abort + AllocGlobal),
     shape: Shape<'_, FLBitmap, SLBitmap, FLLEN, SLLEN>,
 )

@@ -25,23 +25,6 @@ loop-number-init g c =
     let first = subst (λ s. Inserts g.row.FLLEN s c.args.pool taken after.state) c.requires.new step in
     IsUnderway-beginning taken after.state first (in_state g.row.FLLEN g.row.SLLEN after stands) (c.in_ok-live.ensures.ok ∙ ap (λ n. replicate n 0) c.get.ensures.value) c.new-tally.ensures c.new-draws.ensures
 
-pub step-requires : goal.step-requires
-step-requires g c =
-    let w = c.loop-number.invariant in
-    let items = c.deref_mut.ensures.value in (
-      search rules,
-      (
-        c.requires.alignments,
-        (
-          omega (arith, ap length items, w.slots, c.get.ensures.value, c.get.ensures.nonzero),
-          (
-            (w.state, subst (λ t. AreSlotsAt g.row.FLLEN g.row.SLLEN g.row.ALIGNS c.loop-number.tlsf t c.loop-number.tally w.state) (sym items) w.at),
-            omega (arith, w.refused, c.loop-number-test.true, c.ranges.steps.fits),
-          ),
-        ),
-      ),
-    )
-
 pub loop-number-preserved : goal.loop-number-preserved
 loop-number-preserved g c =
     let items = c.deref_mut.ensures.value in

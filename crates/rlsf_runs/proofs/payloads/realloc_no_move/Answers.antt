@@ -2,7 +2,7 @@ use Rattle.std.proofs.Common.{refl, sym, ◌∙◌, subst, rules, true≢false}
 use Rattle.rlsf_base.specs.Addr.{reply}
 use Rattle.rlsf_base.specs.Layout.{IsLayout}
 use Rattle.rlsf_machine.specs.NoMove.{ReallocatesWithoutMove}
-use Rattle.rlsf_machine.specs.State.{State, Used, IsLive}
+use Rattle.rlsf_machine.specs.State.{IsLive}
 use Rattle.rlsf_tlsf.proofs.Standing.{live_in, stepped}
 use Rattle.rlsf_runs.specs.Names.{address}
 use Rattle.rlsf_runs.proofs.Named.{owned_live, unnamed}

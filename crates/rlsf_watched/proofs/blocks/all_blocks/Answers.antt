@@ -1,4 +1,3 @@
-use mathlib.Core.Path.{ap₂}
 use Rattle.std.proofs.Common.{◌≡◌, ◌<◌, ◌++◌, ◌+◌, take, length, [], ◌∷◌, Ok, arith, rules, sym, ◌∙◌, ap, subst}
 use Rattle.std.proofs.lemmas.Iterator.{items_from_collect}
 use Rattle.std.proofs.lemmas.Iterator.Consumers.{YieldsList-from_shown}

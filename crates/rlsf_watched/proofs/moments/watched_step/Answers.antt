@@ -1,5 +1,4 @@
-use Rattle.std.proofs.Common.{◌+◌, ◌≤◌, arith, rules}
-use Rattle.rlsf_watched.specs.Steps.Changes.{live_in, usable_in}
+use Rattle.std.proofs.Common.{arith, rules}
 use Rattle.rlsf_watched.proofs.Steps.{live-after, moment-after, usable-after}
 use Rattle.rlsf_watched.proofs.moments.watched_step.Goals as goal
 

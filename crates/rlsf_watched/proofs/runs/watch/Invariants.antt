@@ -1,4 +1,4 @@
-use Rattle.std.proofs.Common.{◌≡◌, ◌+◌, ◌*◌, ◌^◌, ◌<◌, ◌≤◌}
+use Rattle.std.proofs.Common.{◌*◌, ◌^◌, ◌≤◌}
 use Rattle.rlsf_watched.proofs.Passing.{IsPassing}
 use Rattle.rlsf_watched.proofs.runs.watch.Given as goal
 

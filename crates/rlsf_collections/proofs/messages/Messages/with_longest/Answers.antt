@@ -1,4 +1,4 @@
-use Rattle.std.proofs.Common.{◌≡◌, [], Some, map, sym, ◌∙◌, ap, subst}
+use Rattle.std.proofs.Common.{◌≡◌, Some, map, sym, subst}
 use Rattle.std.proofs.Math.Path.{ap₂}
 use Rattle.std.specs.VecDeque.{deque_capacity}
 use Rattle.rlsf_base.specs.Range.{range_at}

@@ -1,5 +1,4 @@
 use Rattle.std.proofs.Common.{◌≡◌, ◌≤◌, ap, sym, subst, ◌∙◌}
-use Rattle.rlsf_base.specs.Space.{range_of}
 use Rattle.rlsf_machine.specs.Insert.{aligned_part}
 use Rattle.rlsf_machine.specs.Uniform.{IsUniform}
 use Rattle.rlsf_collections.specs.Capacities.{IsObjectPool}

@@ -1,4 +1,4 @@
-use Rattle.std.proofs.Common.{◌≡◌, ◌<◌, length, IsErrOf, arith, ap, ◌∙◌, sym}
+use Rattle.std.proofs.Common.{◌<◌, length, IsErrOf, arith}
 use Rattle.rlsf_collections.specs.declared.objects.TakeError.TheVariants.{NoRoom}
 use Rattle.rlsf_collections.proofs.Capacities.{IsObjectPool-taken, pool_has_room}
 use Rattle.rlsf_collections.proofs.objects.Objects.take.Goals as goal

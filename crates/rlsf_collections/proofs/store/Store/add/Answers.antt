@@ -1,4 +1,4 @@
-use Rattle.std.proofs.Common.{◌≡◌, ℕ, [], List, Some, length, take, refl, sym, ◌∙◌, ap, subst, ◌+◌, ◌<◌, ◌≤◌, lit<, arith}
+use Rattle.std.proofs.Common.{◌≡◌, ℕ, [], List, Some, length, take, refl, sym, ◌∙◌, ap, subst, ◌+◌, ◌<◌, ◌≤◌, arith}
 use Rattle.std.specs.Prelude.{IfNone, IsSome}
 use Rattle.std.specs.Int.NonZero.{non_zero_usize_get}
 use Rattle.rlsf_base.specs.Sizes.{pool_size_to_contain_allocation}

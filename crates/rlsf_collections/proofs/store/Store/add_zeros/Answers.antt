@@ -1,4 +1,4 @@
-use Rattle.std.proofs.Common.{◌≡◌, ◌<◌, ◌≤◌, ℕ, [], List, Some, length, replicate, take, arith, refl, sym, ◌∙◌, ap, subst, ◌+◌, lit<}
+use Rattle.std.proofs.Common.{◌≡◌, ◌<◌, ◌≤◌, ℕ, [], List, Some, length, replicate, take, arith, refl, sym, ◌∙◌, ap, subst, ◌+◌}
 use Rattle.std.proofs.lemmas.List.{length-map, length-replicate, take-replicate}
 use Rattle.std.specs.Prelude.{IfNone, IsSome}
 use Rattle.std.specs.Int.NonZero.{non_zero_usize_get}

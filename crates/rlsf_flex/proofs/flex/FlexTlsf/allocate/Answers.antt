@@ -6,6 +6,7 @@ use Rattle.rlsf_flex.specs.StandsFor.{FlexContents, flex_contents, FlexSteps}
 use Rattle.rlsf_machine.specs.Allocate.{Allocates, choice}
 use Rattle.rlsf_machine.specs.Callers.{align_at, bytes_at}
 use Rattle.rlsf_machine.specs.FlexAllocate.{FlexAllocates}
+use Rattle.rlsf_table.proofs.Parameters.{IsValid-widest}
 use Rattle.rlsf_tlsf.specs.Allocator.{Allocator, Steps}
 use Rattle.rlsf_flex.proofs.Allocations.{Tried, allocated_in_more, allocated_in_room, allocated_stands, extended_none, if_any, more_is_found, no_room, not_none, nothing_asked, nothing_more, vacuous}
 use Rattle.rlsf_flex.proofs.Standing.{flex_opened, opened}
@@ -54,7 +55,7 @@ returns-in_err-wanted-clause-step g c =
 pub extend-requires : goal.extend-requires
 extend-requires g c =
     let stands = (tried g (goal.at.extend-requires g c).In_default).stands in
-    (omega arith, (c.self.invariant.valid, (record { size = c.args.layout.size; align = c.args.layout.align; is = sym c.in_ok-wanted.ensures }, stands)))
+    (omega arith, ((IsValid-widest g.FLBitmap.BitPattern.width_limit c.self.invariant.valid), (record { size = c.args.layout.size; align = c.args.layout.align; is = sym c.in_ok-wanted.ensures }, stands)))
 
 -- the first try, as the second sees it
 abbrev HasTried : (g : given.Over) → After-allocate-then-extend g → Type 0

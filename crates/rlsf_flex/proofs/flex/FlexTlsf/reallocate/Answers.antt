@@ -10,6 +10,7 @@ use Rattle.rlsf_machine.specs.FlexReallocate.{FlexReallocates, IsStuck}
 use Rattle.rlsf_machine.specs.Reallocate.{HasRoomToResize, HasRoomToStay, Keeps, Reallocates, in_place, into_next, or_else}
 use Rattle.rlsf_machine.specs.State.{Used, usable, Holds}
 use Rattle.rlsf_machine.proofs.CallerWords.{align_at-live, bytes_at-held}
+use Rattle.rlsf_table.proofs.Parameters.{IsValid-widest}
 use Rattle.rlsf_tlsf.specs.Allocator.{Allocator, Steps}
 use Rattle.rlsf_flex.proofs.Allocations.{Tried, extended_none, for_some, if_any, more_is_found, not_none, nothing_asked, nothing_more, vacuous}
 use Rattle.rlsf_flex.proofs.Reallocations.{no_room_to_move, reallocated_in_more, reallocated_in_room, reallocated_stands, refused_move_alone, refused_too, stuck_moves, stuck_short}
@@ -69,7 +70,7 @@ returns-in_err-wanted-clause-step g c =
 pub extend-requires : goal.extend-requires
 extend-requires g c =
     let (u, stuck, is, first) = tried g (goal.at.extend-requires g c).In_default in
-    (omega arith, (c.self.invariant.valid, (record { size = c.args.layout.size; align = c.args.layout.align; is = sym c.in_ok-wanted.ensures }, first.stands)))
+    (omega arith, ((IsValid-widest g.FLBitmap.BitPattern.width_limit c.self.invariant.valid), (record { size = c.args.layout.size; align = c.args.layout.align; is = sym c.in_ok-wanted.ensures }, first.stands)))
 
 -- the first try, as what follows sees it
 abbrev HasTried : (g : given.Over) → After-extend g → Type 0
