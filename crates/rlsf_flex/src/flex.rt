@@ -40,12 +40,12 @@ pub struct FlexTlsf<
     const FLLEN: usize,
     const SLLEN: usize,
 > {
-    // Its bitmaps are never asked for, so it has the widest ones: what works on it knows the lengths alone.
+    // No call here answers one of its bitmaps, so it has the widest ones: what works on it knows the lengths alone.
     tlsf: Tlsf<u128, u128, FLLEN, SLLEN>,
     kept: Option<Pool>,
     source: S,
     owed: GhostRanges,
-    // Of no element.
+    // Of no element: the types bound the lengths, and nothing is kept of them.
     bitmaps: [PhantomData<(FLBitmap, SLBitmap)>; 0],
 }
 
