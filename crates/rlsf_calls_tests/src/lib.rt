@@ -1,11 +1,16 @@
 //! Tests of `rlsf` by calls: what becomes of pools, as addresses, words and walks tell it, and what payloads hold, when they are
-//! lent, copied or get another size; and how long pools have to be. This crate has no other code, so that `rlsf` and the crates below it are proved once.
+//! lent, copied or get another size; how long pools have to be; and what the calls of a `CheckedTlsf` and of the libraries of
+//! `rlsf_collections` answer. This crate has no other code, so that these three and the crates below them are proved once.
 #![tactic(auto)]
 
 #[cfg(test)]
 mod allocations;
 #[cfg(test)]
 mod appends;
+#[cfg(test)]
+mod checked;
+#[cfg(test)]
+mod collections;
 #[cfg(test)]
 mod copies;
 #[cfg(test)]

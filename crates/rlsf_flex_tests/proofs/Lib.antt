@@ -1,2 +1,4 @@
 pub mod Cursors
 pub mod HeapCursors
+pub mod OneByte
+pub mod OneRange

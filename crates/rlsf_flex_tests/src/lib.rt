@@ -1,6 +1,9 @@
-//! Tests of `rlsf_flex`, over a source of their own. This crate has no other code.
+//! Tests of `rlsf_flex`, over sources of their own, and of `rlsf_flex_runs`: what runs over a source answer, and what sources that
+//! refuse leave. This crate has no other code.
 #![tactic(auto)]
 
+#[cfg(test)]
+mod calls;
 #[cfg(test)]
 mod capabilities;
 #[cfg(test)]
@@ -15,5 +18,15 @@ mod heap_source;
 mod heaps;
 #[cfg(test)]
 mod loans;
+#[cfg(test)]
+mod originals;
+#[cfg(test)]
+mod questions;
+#[cfg(test)]
+mod refusals;
+#[cfg(test)]
+mod runs;
+#[cfg(test)]
+mod sources;
 #[cfg(test)]
 mod trims;

@@ -1,8 +1,10 @@
-//! Tests of `rlsf_global`. This crate has no other code.
+//! Tests of `rlsf_global` and of `rlsf_journal`. This crate has no other code.
 #![tactic(auto)]
 
 #[cfg(test)]
 mod blocks;
+#[cfg(test)]
+mod journal;
 #[cfg(test)]
 mod locked;
 #[cfg(test)]

@@ -1,11 +1,11 @@
 -- Where the ones stand in what a signed type of width w computes. Its values go to the unsigned type and back.
-use Rattle.std.proofs.Common.{◌≡◌, ℕ, ◌-◌, ◌*◌, ◌%◌, ◌^◌, ◌<◌, not, ◌&&◌, ◌||◌, ◌==◌, bit_and, bit_or, ap, ◌∙◌, arith}
+use Rattle.std.proofs.Common.{◌≡◌, ℕ, ◌-◌, ◌*◌, ◌%◌, ◌^◌, ◌<◌, not, ◌&&◌, ◌||◌, ◌==◌, nat_lt, bit_and, bit_or, ap, ◌∙◌, arith}
 use Rattle.std.specs.Prelude.{ℤ, FitsSigned}
 use Rattle.std.proofs.lemmas.Int.{of_z-to_z, to_z-of_z}
 use Rattle.std.proofs.lemmas.Nat.{and_le_l, one_shl, or_lt, pow_below}
 use Rattle.std.specs.Int.{Width, cast_signed, cast_unsigned}
 use Rattle.rlsf_int.specs.Bits.{bit}
-use Rattle.rlsf_int.proofs.Unsigned.{bit-clear, bit-set}
+use Rattle.rlsf_int.proofs.Unsigned.{bit-clear_tested, bit-set}
 use mir.Val.{bits}
 
 module _ (w : Width) where
@@ -29,7 +29,7 @@ module _ (w : Width) where
   -- `(n & !(1 << k)).cast_signed()`
   pub clear_signed : (z : ℤ) (n k : ℕ) (r : ℤ) → FitsSigned w z → n < 2 ^ bits w → k < bits w → n ≡ cast_unsigned w (cast_signed w (cast_unsigned w z))
       → r ≡ cast_signed w (bit_and n (2 ^ bits w - 1 - 1 * 2 ^ k % 2 ^ bits w))
-      → (i : ℕ) → bit (cast_unsigned w (cast_signed w (cast_unsigned w r))) i ≡ (bit (cast_unsigned w z) i && not (i == k))
+      → (i : ℕ) → bit (cast_unsigned w (cast_signed w (cast_unsigned w r))) i ≡ (bit (cast_unsigned w z) i && not (i == k && nat_lt k (bits w)))
   clear_signed z n k r real fits within old new i =
       let less = and_le_l n (2 ^ bits w - 1 - 1 * 2 ^ k % 2 ^ bits w) in
-      ap (λ m. bit m i) (kept r _ (omega arith) new) ∙ bit-clear w n k fits within i ∙ ap (λ m. bit m i && not (i == k)) (old ∙ ap (cast_unsigned w) (to_z-of_z w z real))
+      ap (λ m. bit m i) (kept r _ (omega arith) new) ∙ bit-clear_tested w n k fits within i ∙ ap (λ m. bit m i && not (i == k && nat_lt k (bits w))) (old ∙ ap (cast_unsigned w) (to_z-of_z w z real))

@@ -131,6 +131,13 @@ module _ (w : Width) where
         | inr past ↦ let none = bit-above (bits w) n i fits past in grind (arith, nat_tests)
       ]
 
+  -- the same behind a test whether k is a position
+  pub bit-clear_tested : (n k : ℕ) → n < 2 ^ bits w → k < bits w → (i : ℕ)
+      → bit (bit_and n (2 ^ bits w - 1 - 1 * 2 ^ k % 2 ^ bits w)) i ≡ (bit n i && not (i == k && nat_lt k (bits w)))
+  bit-clear_tested n k fits within i =
+      let tested : (i == k) ≡ (i == k && nat_lt k (bits w)) = grind (arith, nat_tests) in
+      bit-clear n k fits within i ∙ ap (λ t. bit n i && not t) tested
+
 -- ---- counts
 
 -- the digits from k on don't matter to the positions below

@@ -12,9 +12,9 @@ use std::{fmt, ops};
 /// What a value means: the set of the positions of its ones in two's complement. The lowest
 /// position is 0.
 ///
-/// It has no code. It is a trait beside `BinInteger` for the structs that hold a bitmap, whose proofs
+/// It has no code and no parent. It is a trait below `BinInteger` for structs that know their bitmaps by their widths alone, whose proofs
 /// carry every parent of the trait that bounds them.
-pub trait BitPattern: Copy + Sealed {
+pub trait BitPattern {
     // How many positions there are.
     ghost width: { ℕ };
 
@@ -32,28 +32,15 @@ pub trait BitPattern: Copy + Sealed {
 ///
 /// `BinInteger` has all of it under the original's names. It is a trait of its own for the functions that are generic over
 /// bitmaps, whose proofs carry every parent of the trait that bounds them.
-pub trait Bitmap: BitPattern {
+pub trait Bitmap: BitPattern + Copy + Sealed {
     /// The value without a one.
     fn empty() -> Self
         ensures { Self.pattern result ≡ 0 };
-
-    /// Puts a one at the position. From the number of positions on nothing changes.
-    fn insert(&mut self, i: u32)
-        ensures { (j : ℕ) → bit (Self.pattern self.new) j ≡ (bit (Self.pattern self.old) j || (nat_eq j i && nat_lt i Self.width)) };
-
-    /// Takes the one at the position away, if there is one. From the number of positions on nothing changes.
-    fn remove(&mut self, i: u32)
-        ensures { (j : ℕ) → bit (Self.pattern self.new) j ≡ (bit (Self.pattern self.old) j && not (nat_eq j i && nat_lt i Self.width)) };
 
     /// Puts a one at the position, which is below the number of positions. It tests no bound.
     fn insert_within(&mut self, i: u32)
         requires { i < Self.width }
         ensures { (j : ℕ) → bit (Self.pattern self.new) j ≡ (bit (Self.pattern self.old) j || nat_eq j i) };
-
-    /// Takes the one at the position away, if there is one. The position is below the number of positions. It tests no bound.
-    fn remove_within(&mut self, i: u32)
-        requires { i < Self.width }
-        ensures { (j : ℕ) → bit (Self.pattern self.new) j ≡ (bit (Self.pattern self.old) j && not (nat_eq j i)) };
 
     /// The least position of a one that isn't below `start`, or the number of positions where there is none.
     fn first_from(&self, start: u32) -> u32

@@ -1,4 +1,2 @@
 pub mod HandedOut
-pub mod OneByte
-pub mod OneRange
 pub mod Remembered

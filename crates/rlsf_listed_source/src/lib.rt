@@ -2,8 +2,6 @@
 #![tactic(auto)]
 
 mod listed;
-#[cfg(test)]
-mod questions;
 mod ranges;
 
 pub use listed::{Capabilities, ListedSource, Question, SourceAnswer};

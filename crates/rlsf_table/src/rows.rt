@@ -136,7 +136,7 @@ impl<const ROWS: usize, const PLACES: usize> Rows<ROWS, PLACES> {
         let mut places = B::empty();
         for place in 0..PLACES {
             if self.has(fl, place) {
-                places.insert(place as u32);
+                places.insert_within(place as u32);
             }
         }
         places

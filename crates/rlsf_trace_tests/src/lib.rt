@@ -1,7 +1,11 @@
-//! Tests of `rlsf_runs` and `rlsf_trace`: of runs and of replays. This crate has no other code, so that those two are proved
-//! once.
+//! Tests of `rlsf_text`, `rlsf_runs` and `rlsf_trace`: how the text of a trace is read and how answers are printed, of runs and of
+//! replays. This crate has no other code, so that those three are proved once.
 #![tactic(auto)]
 
+#[cfg(test)]
+mod printing;
+#[cfg(test)]
+mod reading;
 #[cfg(test)]
 mod replays;
 #[cfg(test)]

@@ -27,20 +27,8 @@ impl Bitmap for i32 {
         0
     }
 
-    fn insert(&mut self, i: u32) {
-        self.set_bit(i);
-    }
-
-    fn remove(&mut self, i: u32) {
-        self.clear_bit(i);
-    }
-
     fn insert_within(&mut self, i: u32) {
         *self = (self.cast_unsigned() | 1 << i).cast_signed();
-    }
-
-    fn remove_within(&mut self, i: u32) {
-        *self = (self.cast_unsigned() & !(1 << i)).cast_signed();
     }
 
     fn first_from(&self, start: u32) -> u32 {
@@ -93,7 +81,7 @@ impl BinInteger for i32 {
 
     fn clear_bit(&mut self, i: u32) {
         if i < Self::BITS {
-            self.remove_within(i);
+            *self = (self.cast_unsigned() & !(1 << i)).cast_signed();
         }
     }
 

@@ -28,20 +28,8 @@ impl Bitmap for u8 {
         0
     }
 
-    fn insert(&mut self, i: u32) {
-        self.set_bit(i);
-    }
-
-    fn remove(&mut self, i: u32) {
-        self.clear_bit(i);
-    }
-
     fn insert_within(&mut self, i: u32) {
         *self |= 1 << i;
-    }
-
-    fn remove_within(&mut self, i: u32) {
-        *self &= !(1 << i);
     }
 
     fn first_from(&self, start: u32) -> u32 {
@@ -108,7 +96,7 @@ impl BinInteger for u8 {
 
     fn clear_bit(&mut self, i: u32) {
         if i < Self::BITS {
-            self.remove_within(i);
+            *self &= !(1 << i);
         }
     }
 

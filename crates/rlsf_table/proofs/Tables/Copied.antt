@@ -20,14 +20,12 @@ copied-nothing word k = sym (and-false (word k)) ∙ ap (λ b. word k && b) (sym
 
 module _ (word : ℕ → Bool) (k place : ℕ) (was : Bool) (copied : was ≡ (word k && nat_lt k place)) where
   -- a one is copied
-  pub copied-one : (now : Bool) (width : ℕ) → now ≡ (was || (k == place && nat_lt place width)) → word place ≡ true → place < width → now ≡ (word k && nat_lt k (place + 1))
-  copied-one now width set one within = elim (cases_eq k place) [
+  pub copied-one : (now : Bool) → now ≡ (was || (k == place)) → word place ≡ true → now ≡ (word k && nat_lt k (place + 1))
+  copied-one now set one = elim (cases_eq k place) [
     | inl same ↦
-        let here : (k == place && nat_lt place width) ≡ true = and_from (k == place) (nat_lt place width) (eq-eqb k place same) (lt-ltb place width within) in
-        set ∙ or_right was (k == place && nat_lt place width) here ∙ sym (and_from (word k) (nat_lt k (place + 1)) (ap word same ∙ one) (lt-ltb k (place + 1) (omega arith)))
+        set ∙ or_right was (k == place) (eq-eqb k place same) ∙ sym (and_from (word k) (nat_lt k (place + 1)) (ap word same ∙ one) (lt-ltb k (place + 1) (omega arith)))
     | inr apart ↦
-        let none : (k == place && nat_lt place width) ≡ false = and_left (k == place) (nat_lt place width) (ne_eqb k place apart) in
-        set ∙ ap (λ b. was || b) none ∙ or-false was ∙ copied ∙ ap (λ b. word k && b) (lt-next k place apart)
+        set ∙ ap (λ b. was || b) (ne_eqb k place apart) ∙ or-false was ∙ copied ∙ ap (λ b. word k && b) (lt-next k place apart)
   ]
 
   -- where there is none, nothing is

@@ -1,5 +1,5 @@
 -- The loop copies the row's bits, one place after another.
-use Rattle.std.proofs.Common.{◌≡◌, ℕ, ◌<◌, true, false, arith, ◌∙◌, sym, ap}
+use Rattle.std.proofs.Common.{◌≡◌, ℕ, true, false, ◌∙◌, sym, ap}
 use Rattle.rlsf_int.specs.Bits.{bit, bit-zero}
 use Rattle.rlsf_table.specs.Steps.Places.{row_word}
 use Rattle.rlsf_table.proofs.Tables.Copied.{copied-one, copied-none, copied-nothing}
@@ -12,12 +12,11 @@ loop-place-init g c k = ap (λ n. bit n k) c.empty-places.ensures ∙ bit-zero k
 pub loop-place-preserved : goal.loop-place-preserved
 loop-place-preserved g c k =
     let place = c.loop-place.place in
-    let within : place < g.B.BitPattern.width = omega (arith, c.requires.1, c.loop-place-test.true) in
     let word = λ (j : ℕ). bit (row_word g.row.PLACES c.args.self.now.low c.args.self.now.high c.args.fl) j in
     elim c.if-has.branch [
       | then-has w ↦
           let one : word place ≡ true = sym c.has.ensures ∙ w.if-has.true in
-          copied-one word k place _ (c.loop-place.invariant k) _ g.B.BitPattern.width (ap (λ x. bit (g.B.BitPattern.pattern x) k) w.places-is ∙ w.insert.ensures k) one within
+          copied-one word k place _ (c.loop-place.invariant k) _ (ap (λ x. bit (g.B.BitPattern.pattern x) k) w.places-is ∙ w.insert_within.ensures k) one
       | else-has w ↦
           let none : word place ≡ false = sym c.has.ensures ∙ w.if-has.false in
           ap (λ x. bit (g.B.BitPattern.pattern x) k) w.places-is ∙ copied-none word k place _ (c.loop-place.invariant k) none

@@ -1,0 +1,6 @@
+//! Calls of a `CheckedTlsf`: what each answers, wrong addresses and sizes among them.
+
+mod calls;
+mod kept;
+mod pools;
+mod random;

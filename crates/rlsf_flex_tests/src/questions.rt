@@ -1,0 +1,78 @@
+//! What a source is asked for two payloads.
+
+ghost use Rattle.std.specs.Prelude.{◌≡◌, ◌≤◌, []};
+ghost use Rattle.rlsf_base.specs.Addr.{reply};
+ghost use Rattle.rlsf_flex_tests.specs.Questions.{IsAskedForTwo, plain};
+ghost use Rattle.rlsf_machine.specs.FlexState.{empty};
+
+use rlsf_base::memory::{Addr, Layout, Memory, Range};
+use rlsf_flex::FlexTlsf;
+use rlsf_listed_source::{Capabilities, ListedSource, Question, SourceAnswer};
+use std::alloc::Global;
+use std::test::Fail;
+
+/// Two payloads of one byte, from an allocator that has asked for nothing, over a source that neither grows a range nor takes one
+/// back. It has room for two questions.
+fn two_payloads(flex: &mut FlexTlsf<ListedSource, u8, u8, 8, 8>) -> (Option<Addr>, Option<Addr>)
+    requires empty { flex.old.state ≡ empty }
+    requires terms { flex.old.source.terms ≡ plain flex.old.source.terms.space }
+    requires nothing_asked { flex.old.source.asked ≡ [] }
+    requires room { 2 ≤ flex.old.source.room }
+    ensures { IsAskedForTwo (reply result.0) (reply result.1) flex.new.source.asked }
+{
+    let layout = Layout::from_size_align_unchecked(1, 1);
+    let first = flex.allocate(layout);
+    let second = flex.allocate(layout);
+    (first, second)
+}
+
+/// A source that neither grows a range nor takes one back.
+const PLAIN: Capabilities = Capabilities {
+    dealloc: false,
+    grow: false,
+    contiguous: false,
+    min_align: 32,
+};
+
+/// Whether a source with one answer is asked these questions for two payloads.
+fn are_asked(alloc: Global, answer: SourceAnswer, questions: &[Question]) -> Result<bool, Fail> {
+    let space = Range {
+        start: 4096,
+        len: 1024,
+    };
+    let memory = Memory::new(alloc, 4096, 1024)?;
+    let answers = [answer].to_vec(alloc)?;
+    let source = ListedSource::new(alloc, space, PLAIN, answers, 2)?;
+    let mut flex = FlexTlsf::<_, u8, u8, 8, 8>::new(memory, source);
+    let _payloads = two_payloads(&mut flex);
+    Ok(flex.source_ref().asked() == questions)
+}
+
+#[test]
+fn a_range_for_one_payload(rt: HostRuntime) -> Result<(), Fail> {
+    let range = Range {
+        start: 4096,
+        len: 64,
+    };
+    let questions = [Question::Alloc(64, Some(range)), Question::Alloc(64, None)];
+    assert!(rt; are_asked(rt.alloc(), SourceAnswer::Range(range), &questions)?);
+    Ok(())
+}
+
+#[test]
+fn a_range_for_two_payloads(rt: HostRuntime) -> Result<(), Fail> {
+    let range = Range {
+        start: 4096,
+        len: 1024,
+    };
+    let questions = [Question::Alloc(64, Some(range))];
+    assert!(rt; are_asked(rt.alloc(), SourceAnswer::Range(range), &questions)?);
+    Ok(())
+}
+
+#[test]
+fn no_range_for_payloads(rt: HostRuntime) -> Result<(), Fail> {
+    let questions = [Question::Alloc(64, None), Question::Alloc(64, None)];
+    assert!(rt; are_asked(rt.alloc(), SourceAnswer::None, &questions)?);
+    Ok(())
+}

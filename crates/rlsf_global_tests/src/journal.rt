@@ -1,0 +1,4 @@
+//! Calls of a `Journaled`, and of eight threads that share one.
+
+mod calls;
+mod threads;

@@ -1,7 +1,0 @@
-use Rattle.std.proofs.Common.{arith, rules}
-use Rattle.std.specs.Int.{w8}
-use Rattle.rlsf_int.proofs.Signed.{clear_signed}
-use Rattle.rlsf_int.proofs.impls.i8.I8Bitmap.remove_within.Goals as goal
-
-pub returns : goal.returns
-returns c = clear_signed w8 c.args.self.now c.cast_unsigned.result c.args.i c.cast_signed.result (Prim.search rules) (omega arith) (omega arith) c.cast_unsigned.ensures c.cast_signed.ensures

@@ -1,7 +1,0 @@
-use Rattle.std.proofs.Common.{arith}
-use Rattle.std.specs.Int.{w32}
-use Rattle.rlsf_int.proofs.Unsigned.{bit-clear}
-use Rattle.rlsf_int.proofs.impls.u32.U32Bitmap.remove_within.Goals as goal
-
-pub returns : goal.returns
-returns c = bit-clear w32 c.args.self.now c.args.i (omega arith) (omega arith)
