@@ -4,12 +4,11 @@
 #![tactic(auto)]
 
 pub use rlsf_base::memory::{Addr, Layout, LayoutError, Memory, MemoryError, Range};
-pub use rlsf_flex::{FlexSource, FlexTlsf, SourceChange};
+pub use rlsf_flex::{FlexSource, FlexTlsf, GlobalAlloc, GlobalAllocAsFlexSource, SourceChange};
 pub use rlsf_global::{
     CAlloc, GlobalError, GlobalTlsf, GlobalTlsfOptions, Locked, SmallGlobalTlsf,
     SmallGlobalTlsfOptions, Source,
 };
-pub use rlsf_heap::{GlobalAlloc, GlobalAllocAsFlexSource};
 pub use rlsf_placement::{isolation, replays};
 pub use rlsf_tlsf::{BlockInfo, Blocks, GRANULARITY, Tlsf, laws};
 

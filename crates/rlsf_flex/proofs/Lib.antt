@@ -8,6 +8,7 @@ pub mod Ends
 pub mod FooterWords
 pub mod Frames
 pub mod Growths
+pub mod Heaps
 pub mod Kept
 pub mod KeptPayloads
 pub mod Loans

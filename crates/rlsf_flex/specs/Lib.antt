@@ -1,4 +1,6 @@
 pub mod Footers
+pub mod Heap
+pub mod HeapConstant
 pub mod Laws
 pub mod Lending
 pub mod Outside

@@ -1,4 +1,4 @@
-//! The allocator that asks a source for memory when it has no room.
+//! The allocator that asks a source for memory when it has no room, and an allocator of single allocations as such a source.
 #![tactic(auto)]
 
 ghost use Rattle.rlsf_flex.specs.Laws.{FlexStatesAreWellFormed, FlexWordsReadNoPayload};
@@ -7,12 +7,14 @@ mod end;
 mod flex;
 mod footers;
 mod growth;
+mod heap;
 mod pool;
 mod ranges;
 mod source;
 mod trim;
 
 pub use flex::FlexTlsf;
+pub use heap::{GlobalAlloc, GlobalAllocAsFlexSource};
 pub use source::{FlexSource, SourceChange};
 
 /// Does nothing. Its contract states the laws of the states that an allocator over a source stands for, so that a check proves them.

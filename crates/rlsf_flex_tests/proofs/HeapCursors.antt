@@ -6,7 +6,7 @@ use Rattle.rlsf_base.specs.Range.{end_of}
 use Rattle.rlsf_flex_tests.specs.Cursor.{Cursor, IsCursor, MayOwe}
 use Rattle.rlsf_flex_tests.specs.HeapCursor.{heap_cursor, OwesAllocations}
 use Rattle.rlsf_flex_tests.proofs.Cursors.{given_range, gone_range}
-use Rattle.rlsf_heap.specs.Heap.{Allocation, allocation_at, bytes_of_allocation, IsAllocated}
+use Rattle.rlsf_flex.specs.Heap.{Allocation, allocation_at, bytes_of_allocation, IsAllocated}
 
 -- an allocation is answered at the cursor or behind it, which moves to its end
 pub answered_allocation : (space : Range) (at start size align : ℕ) → IsCursor (heap_cursor space at) → at ≤ start → start % align ≡ 0 → start + size ≤ end_of space → (owed : List Allocation) → OwesAllocations (heap_cursor space at) owed

@@ -2,7 +2,7 @@
 use Rattle.std.specs.Prelude.{◌≡◌, ℕ, List, map}
 use Rattle.rlsf_base.specs.declared.memory.range.Range.{Range}
 use Rattle.rlsf_flex_tests.specs.Cursor.{Cursor, MayOwe}
-use Rattle.rlsf_heap.specs.Heap.{Allocation, bytes_of_allocation, heap_terms, HeapNote}
+use Rattle.rlsf_flex.specs.Heap.{Allocation, bytes_of_allocation, heap_terms, HeapNote}
 
 -- the space, and the address that no outstanding allocation goes past
 abbrev pub heap_cursor : Range → ℕ → Cursor

@@ -1,5 +1,5 @@
 -- What a source is asked for two payloads of one byte.
-use Rattle.std.specs.Prelude.{◌≡◌, ℕ, ◌<◌, ◌≤◌, ◌⊎◌, false, List, [], ◌∷◌, Option, Some, None}
+use Rattle.std.specs.Prelude.{◌≡◌, ◌<◌, ◌≤◌, ◌⊎◌, false, List, [], ◌∷◌, Option, Some, None}
 use Rattle.rlsf_base.specs.declared.memory.range.Range.{Range}
 use Rattle.rlsf_listed_source.specs.declared.listed.Question.{Question}
 use Rattle.rlsf_listed_source.specs.declared.listed.Question.TheVariants.{Alloc}

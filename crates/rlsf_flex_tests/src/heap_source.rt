@@ -8,8 +8,7 @@ ghost use Rattle.rlsf_flex_tests.specs.HeapCursor.{heap_cursor, KeepsSpace, Owes
 use crate::cursor::{Question, Questions};
 use crate::heaps::{Step, first_wrong, is_right};
 use rlsf_base::memory::{Addr, Layout, Memory, Range};
-use rlsf_flex::FlexTlsf;
-use rlsf_heap::{GlobalAlloc, GlobalAllocAsFlexSource};
+use rlsf_flex::{FlexTlsf, GlobalAlloc, GlobalAllocAsFlexSource};
 use std::marker::Model;
 use std::num::NonZeroUsize;
 use std::test::Fail;

@@ -1,5 +1,5 @@
 -- A pool for objects has room for their bytes.
-use Rattle.std.proofs.Common.{◌≡◌, ℕ, ◌+◌, ◌*◌, ◌≤◌, Some, IsTrue, arith}
+use Rattle.std.proofs.Common.{◌≡◌, ℕ, ◌*◌, ◌≤◌, Some, IsTrue, arith}
 use Rattle.std.proofs.Math.Nat.{mul-le-mul_left}
 use Rattle.rlsf_base.specs.SizeClass.{is_row_length}
 use Rattle.rlsf_base.specs.Sizes.{pool_size_for_objects}

@@ -1,5 +1,5 @@
 -- The text that is printed for ops and their answers.
-use Rattle.std.specs.Prelude.{ℕ, List, [], ◌∷◌, ◌++◌, codes, Bool, Option, Some, None, if◌then◌else◌}
+use Rattle.std.specs.Prelude.{ℕ, List, [], ◌∷◌, ◌++◌, codes, Bool, true, false, Option, Some, None, if◌then◌else◌}
 use Rattle.std.specs.Fmt.{decimal}
 use Rattle.std.specs.Int.NonZero.{non_zero_usize_get}
 use Rattle.std.specs.List.{flat_map, zip}
@@ -63,17 +63,33 @@ abbrev pub block_text : Option (Range × Bool) → List ℕ
 block_text (Some block) = codes " " ++ decimal block.0.start ++ codes " " ++ decimal block.0.len ++ (if block.1 then codes " used" else codes " free")
 block_text None = codes " none"
 
+-- what the line of an op tells of its answer
+abbrev pub answer_text : Answer → List ℕ
+answer_text (Inserted len) = inserted_text len
+answer_text (Appended len) = codes " " ++ decimal len
+answer_text (Placed addr) = placed_text addr
+answer_text Done = codes " done"
+answer_text (Byte byte) = codes " " ++ decimal byte
+answer_text (Usable bytes) = codes " " ++ decimal bytes
+answer_text (Block block) = block_text block
+answer_text (Trimmed count) = codes " " ++ decimal count
+answer_text (Refused error) = codes "refused " ++ decimal (error_number error) ++ codes " " ++ error_word error
+
+-- whether an op was refused
+abbrev pub is_refused : Answer → Bool
+is_refused (Inserted len) = false
+is_refused (Appended len) = false
+is_refused (Placed addr) = false
+is_refused Done = false
+is_refused (Byte byte) = false
+is_refused (Usable bytes) = false
+is_refused (Block block) = false
+is_refused (Trimmed count) = false
+is_refused (Refused error) = true
+
 -- the line of an op and its answer; that of a refused op shows only why
-abbrev pub line_text : Op → Answer → List ℕ
-line_text op (Inserted len) = op_text op ++ inserted_text len
-line_text op (Appended len) = op_text op ++ codes " " ++ decimal len
-line_text op (Placed addr) = op_text op ++ placed_text addr
-line_text op Done = op_text op ++ codes " done"
-line_text op (Byte byte) = op_text op ++ codes " " ++ decimal byte
-line_text op (Usable bytes) = op_text op ++ codes " " ++ decimal bytes
-line_text op (Block block) = op_text op ++ block_text block
-line_text op (Trimmed count) = op_text op ++ codes " " ++ decimal count
-line_text op (Refused error) = codes "refused " ++ decimal (error_number error) ++ codes " " ++ error_word error
+unfoldable pub line_text : Op → Answer → List ℕ
+line_text op answer = (if is_refused answer then [] else op_text op) ++ answer_text answer
 
 -- the line of each op that has an answer, in their order, each with LF at its end
 abbrev pub text_of : List Op → List Answer → List ℕ

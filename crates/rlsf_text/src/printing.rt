@@ -1,5 +1,5 @@
 ghost use Rattle.std.specs.Prelude.{◌≡◌, ◌++◌, OnOk, IfOk, string_bytes};
-ghost use Rattle.rlsf_text.specs.Printing.{op_text, inserted_text, placed_text, block_text, line_text, text_of};
+ghost use Rattle.rlsf_text.specs.Printing.{op_text, inserted_text, placed_text, block_text, answer_text, line_text, text_of};
 
 use crate::op::{Answer, Op};
 use rlsf_base::memory::{Addr, Range};
@@ -21,34 +21,30 @@ pub fn text_of(alloc: Global, ops: &[Op], answers: &[Answer]) -> Result<String, 
     Ok(text)
 }
 
+/// A line without its end.
+#[tactic(auto, unfolding(crate::specs::Printing::line_text))]
 fn print_line(text: &mut String, op: Op, answer: Answer) -> Result<(), AllocError>
     ensures { OnOk result (string_bytes text.new ≡ string_bytes text.old ++ line_text op answer) }
 {
     match answer {
-        Answer::Inserted(len) => {
-            print_op(text, op)?;
-            print_inserted(text, len)
-        }
+        Answer::Refused(_) => {}
+        _ => print_op(text, op)?,
+    }
+    print_answer(text, answer)
+}
+
+fn print_answer(text: &mut String, answer: Answer) -> Result<(), AllocError>
+    ensures { OnOk result (string_bytes text.new ≡ string_bytes text.old ++ answer_text answer) }
+{
+    match answer {
+        Answer::Inserted(len) => print_inserted(text, len),
         Answer::Appended(count) | Answer::Usable(count) | Answer::Trimmed(count) => {
-            print_op(text, op)?;
             write!(text, " {count}")
         }
-        Answer::Placed(addr) => {
-            print_op(text, op)?;
-            print_placed(text, addr)
-        }
-        Answer::Done => {
-            print_op(text, op)?;
-            write!(text, " done")
-        }
-        Answer::Byte(byte) => {
-            print_op(text, op)?;
-            write!(text, " {byte}")
-        }
-        Answer::Block(block) => {
-            print_op(text, op)?;
-            print_block(text, block)
-        }
+        Answer::Placed(addr) => print_placed(text, addr),
+        Answer::Done => write!(text, " done"),
+        Answer::Byte(byte) => write!(text, " {byte}"),
+        Answer::Block(block) => print_block(text, block),
         Answer::Refused(error) => {
             let number = error.number();
             write!(text, "refused {number} {error}")

@@ -4,7 +4,7 @@ use Rattle.rlsf_base.specs.Range.{end_of}
 use Rattle.rlsf_flex_tests.specs.Cursor.{Cursor}
 use Rattle.rlsf_flex_tests.specs.HeapCursor.{heap_cursor, OwesAllocations}
 use Rattle.rlsf_flex_tests.proofs.HeapCursors.{answered_allocation}
-use Rattle.rlsf_heap.specs.Heap.{Allocation, allocation_at, IsAllocated}
+use Rattle.rlsf_flex.specs.Heap.{Allocation, allocation_at, IsAllocated}
 use Rattle.rlsf_flex_tests.proofs.heap_source.CursorAllocGlobalAlloc.alloc.Goals as goal
 
 pub returns-clause-owes : goal.returns-clause-owes

@@ -2,7 +2,7 @@ use Rattle.std.proofs.Common.{◌++◌, subst, sym}
 use Rattle.std.specs.Int.NonZero.{non_zero_usize_get}
 use Rattle.rlsf_flex_tests.specs.HeapCursor.{OwesAllocations}
 use Rattle.rlsf_flex_tests.proofs.HeapCursors.{gone_allocation}
-use Rattle.rlsf_heap.specs.Heap.{allocation_at}
+use Rattle.rlsf_flex.specs.Heap.{allocation_at}
 use Rattle.rlsf_flex_tests.proofs.heap_source.CursorAllocGlobalAlloc.dealloc.Goals as goal
 
 pub returns-clause-owes : goal.returns-clause-owes

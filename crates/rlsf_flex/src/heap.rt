@@ -4,12 +4,12 @@ ghost use Rattle.std.specs.Prelude.{◌≡◌, ◌≤◌, ◌∷◌, ◌++◌, L
 ghost use Rattle.std.specs.Int.NonZero.{non_zero_usize_get};
 ghost use Rattle.std.specs.Option.{option_map};
 ghost use Rattle.rlsf_base.specs.declared.memory.range.Range.{Range};
-ghost use Rattle.rlsf_heap.specs.Constant.{heap_terms-constant};
-ghost use Rattle.rlsf_heap.specs.Heap.{Allocation, allocation_at, HeapNote, allocate, deallocate, OwesAllocated, heap_terms, HeapOwes, HeapOwesGrown, HeapLeads};
+ghost use Rattle.rlsf_flex.specs.HeapConstant.{heap_terms-constant};
+ghost use Rattle.rlsf_flex.specs.Heap.{Allocation, allocation_at, HeapNote, allocate, deallocate, OwesAllocated, heap_terms, HeapOwes, HeapOwesGrown, HeapLeads};
 ghost use Rattle.rlsf_machine.specs.Note.{grow};
 
+use crate::source::FlexSource;
 use rlsf_base::memory::{Addr, Layout, Range};
-use rlsf_flex::FlexSource;
 use std::num::NonZeroUsize;
 
 /// An allocator: it hands out addresses of its space, and takes them back.

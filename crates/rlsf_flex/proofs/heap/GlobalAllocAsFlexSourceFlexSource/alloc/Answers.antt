@@ -4,9 +4,9 @@ use Rattle.std.specs.Int.NonZero.{non_zero_usize_get}
 use Rattle.rlsf_base.specs.declared.memory.range.Range.{Range}
 use Rattle.rlsf_base.specs.Layout.{IsLayout}
 use Rattle.rlsf_base.specs.Range.{range_at}
-use Rattle.rlsf_heap.proofs.Heaps.{Allocation-equal, HeapOwes-more}
-use Rattle.rlsf_heap.specs.Heap.{Allocation, allocation_at, allocation_of, IsAllocated}
-use Rattle.rlsf_heap.proofs.heap.GlobalAllocAsFlexSourceFlexSource.alloc.Goals as goal
+use Rattle.rlsf_flex.proofs.Heaps.{Allocation-equal, HeapOwes-more}
+use Rattle.rlsf_flex.specs.Heap.{Allocation, allocation_at, allocation_of, IsAllocated}
+use Rattle.rlsf_flex.proofs.heap.GlobalAllocAsFlexSourceFlexSource.alloc.Goals as goal
 
 pub returns-in_ok-addr-in-Ok-clause-owes : goal.returns-in_ok-addr-in-Ok-clause-owes
 returns-in_ok-addr-in-Ok-clause-owes g c owed h =

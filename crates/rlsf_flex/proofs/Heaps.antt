@@ -10,7 +10,7 @@ use Rattle.rlsf_machine.specs.Lists.{IsIn}
 use Rattle.rlsf_machine.specs.Terms.{IsGiven}
 use Rattle.rlsf_machine.proofs.Between.{IsIn-between}
 use Rattle.rlsf_machine.proofs.Coverage.{IsIn-append_right}
-use Rattle.rlsf_heap.specs.Heap.{Allocation, allocation_at, allocation_of, bytes_of_allocation, HeapOwes, heap_terms, IsAllocated}
+use Rattle.rlsf_flex.specs.Heap.{Allocation, allocation_at, allocation_of, bytes_of_allocation, HeapOwes, heap_terms, IsAllocated}
 
 -- the bytes of the ranges' allocations are the ranges
 bytes_of_allocation-allocations : (align : ℕ) (rs : List Range) → map bytes_of_allocation (map (allocation_of align) rs) ≡ rs

@@ -1,9 +1,9 @@
 use Rattle.std.proofs.Common.{◌≡◌, ◌∙◌, ◌∷◌, ◌++◌, map, max, arith, subst, sym}
 use Rattle.std.specs.Int.NonZero.{non_zero_usize_get}
 use Rattle.rlsf_base.specs.Layout.{IsLayout}
-use Rattle.rlsf_heap.proofs.Heaps.{Allocation-equal, HeapOwes-less, layout_of}
-use Rattle.rlsf_heap.specs.Heap.{Allocation, allocation_at, allocation_of}
-use Rattle.rlsf_heap.proofs.heap.GlobalAllocAsFlexSourceFlexSource.dealloc.Goals as goal
+use Rattle.rlsf_flex.proofs.Heaps.{Allocation-equal, HeapOwes-less, layout_of}
+use Rattle.rlsf_flex.specs.Heap.{Allocation, allocation_at, allocation_of}
+use Rattle.rlsf_flex.proofs.heap.GlobalAllocAsFlexSourceFlexSource.dealloc.Goals as goal
 
 pub from_size_align_unchecked-layout-requires : goal.from_size_align_unchecked-layout-requires
 from_size_align_unchecked-layout-requires g c =

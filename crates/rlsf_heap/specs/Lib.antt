@@ -1,2 +1,0 @@
-pub mod Constant
-pub mod Heap
