@@ -58,13 +58,13 @@ fn print_line(
     let Range { start, len } = block.as_ptr();
     let end = start + len;
     let marks = part_of(width, len, total);
-    if block.is_occupied() {
-        let bar = "#".repeat(alloc, marks)?;
-        writeln!(text, "{start}..{end} used {bar}")
+    let (state, mark) = if block.is_occupied() {
+        ("used", "#")
     } else {
-        let bar = ".".repeat(alloc, marks)?;
-        writeln!(text, "{start}..{end} free {bar}")
-    }
+        ("free", ".")
+    };
+    let bar = mark.repeat(alloc, marks)?;
+    writeln!(text, "{start}..{end} {state} {bar}")
 }
 
 /// How many of the `width` marks that stand for `total` bytes stand for `size` of them, rounded up.
