@@ -17,7 +17,7 @@ impl fmt::Display for SizesError {
     fn fmt<W: fmt::Write>(&self, f: &mut fmt::Formatter<W>) -> fmt::Result {
         match self {
             SizesError::Layout => f.write_str("no such layout"),
-            SizesError::Io(error) => write!(f, "{error}"),
+            SizesError::Io(error) => fmt::Display::fmt(error, f),
         }
     }
 }

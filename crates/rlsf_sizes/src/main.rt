@@ -13,6 +13,10 @@ use rlsf_int::BitPattern;
 use rows::row_for;
 use std::process::ExitCode;
 
+/// The heads of the columns, of all three tables.
+const COLUMNS: &str = "                        any sizes                   one size
+ count   size        pool   share   asked       pool   share";
+
 /// How many payloads, and how many bytes each has.
 const CASES: [(usize, usize); 9] = [
     (10, 16),
@@ -39,26 +43,24 @@ fn main(rt: HostRuntime) -> ExitCode {
 
 /// Prints the tables of the three shapes.
 fn tables(rt: &impl Print) -> Result<(), SizesError> {
-    println!(rt; "                        any sizes                   one size")?;
-    println!(rt; " count   size        pool   share   asked       pool   share")?;
-    println!(rt; "\n12 rows of 16 classes, chunks of up to 131072 bytes")?;
-    table::<u16, u16, 12, 16>(rt)?;
-    println!(rt; "\n59 rows of 8 classes, chunks of any length")?;
-    table::<u64, u64, 59, 8>(rt)?;
-    println!(rt; "\n64 rows of 64 classes, chunks of any length")?;
-    table::<u64, u64, 64, 64>(rt)
+    rt.println(COLUMNS)?;
+    table::<u16, u16, 12, 16>(rt, "\n12 rows of 16 classes, chunks of up to 131072 bytes")?;
+    table::<u64, u64, 59, 8>(rt, "\n59 rows of 8 classes, chunks of any length")?;
+    table::<u64, u64, 64, 64>(rt, "\n64 rows of 64 classes, chunks of any length")
 }
 
-/// Prints the rows of a shape.
+/// Prints the rows of a shape, below its name.
 fn table<FLBitmap: BitPattern, SLBitmap: BitPattern, const FLLEN: usize, const SLLEN: usize>(
     rt: &impl Print,
+    shape: &str,
 ) -> Result<(), SizesError>
     requires { IsValid FLBitmap.width SLBitmap.width FLLEN SLLEN }
 {
+    rt.println(shape)?;
     for (count, size) in CASES {
         let layout = Layout::from_size_align(size, 16)?;
         let row = row_for::<FLBitmap, SLBitmap, FLLEN, SLLEN>(count, layout);
-        println!(rt; "{row}")?;
+        rt.println(row)?;
     }
     Ok(())
 }

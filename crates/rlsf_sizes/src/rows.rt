@@ -100,14 +100,35 @@ impl fmt::Display for Pool {
 
 impl fmt::Display for Row {
     fn fmt<W: fmt::Write>(&self, f: &mut fmt::Formatter<W>) -> fmt::Result {
-        write!(f, "{:>6} {:>6}  ", self.count, self.size)?;
-        match self.payloads {
-            Some(pool) => write!(f, "{pool}  ")?,
-            None => write!(f, "{:>10} {:>7}  ", "-", "-")?,
+        let Row { count, size, .. } = *self;
+        let payloads = PayloadsColumns(self.payloads);
+        let objects = ObjectsColumns(self.objects);
+        write!(f, "{count:>6} {size:>6}  {payloads}  {objects}")
+    }
+}
+
+/// The length and the share of a pool for payloads, or dashes without one.
+#[derive(Clone, Copy)]
+struct PayloadsColumns(Option<Pool>);
+
+impl fmt::Display for PayloadsColumns {
+    fn fmt<W: fmt::Write>(&self, f: &mut fmt::Formatter<W>) -> fmt::Result {
+        match self.0 {
+            Some(pool) => fmt::Display::fmt(&pool, f),
+            None => f.write_str("         -       -"),
         }
-        match self.objects {
+    }
+}
+
+/// The size to ask for, and the length and the share of a pool for objects, or dashes without one.
+#[derive(Clone, Copy)]
+struct ObjectsColumns(Option<(Pool, usize)>);
+
+impl fmt::Display for ObjectsColumns {
+    fn fmt<W: fmt::Write>(&self, f: &mut fmt::Formatter<W>) -> fmt::Result {
+        match self.0 {
             Some((pool, asked)) => write!(f, "{asked:>6} {pool}"),
-            None => write!(f, "{:>6} {:>10} {:>7}", "-", "-", "-"),
+            None => f.write_str("     -          -       -"),
         }
     }
 }
