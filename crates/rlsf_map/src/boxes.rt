@@ -71,14 +71,13 @@ impl Boxes {
         let Some(name) = changed_name(op, answer) else {
             return Ok(());
         };
-        let old = self.live.remove(&name);
-        let old_len = match old {
-            Some(payload) => payload.len as u128,
+        let old_len = match self.live.remove(&name) {
+            Some(payload) => {
+                self.end(payload, index, window)?;
+                payload.len as u128
+            }
             None => 0,
         };
-        if let Some(payload) = old {
-            self.end(payload, index, window)?;
-        }
         if let Answer::Placed(Some(addr)) = answer {
             let len = (moment.usable.saturating_add(old_len)).saturating_sub(before);
             let payload = PayloadBox {
@@ -102,21 +101,9 @@ impl Boxes {
             self.left_out = self.left_out.saturating_add(1);
             return Ok(());
         }
-        let PayloadBox {
-            name,
-            addr,
-            len,
-            since,
-            ..
-        } = payload;
-        let payload = PayloadBox {
-            name,
-            addr,
-            len,
-            since,
-            until,
-        };
-        self.boxes.push(payload).map_err(|_| AllocError)
+        self.boxes
+            .push(PayloadBox { until, ..payload })
+            .map_err(|_| AllocError)
     }
 
     // Ends the payloads that are live behind the window.

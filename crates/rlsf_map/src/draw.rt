@@ -2,15 +2,18 @@
 
 use crate::boxes::PayloadBox;
 use crate::colour::{Class, Colour};
-use crate::legend::{Legend, drawn, is_denied};
+use crate::legend::{DeniedLines, LeftOut, Legend, PoolList, drawn, is_denied};
 use crate::pools::Pool;
-use crate::scale::{HEIGHT, LEFT, Scale, TOP, Tenths, WIDTH};
+use crate::scale::{HEIGHT, Scale, TOP, Tenths};
 use crate::window::Window;
 use rlsf_watched::{BlockInfo, Watched};
 use std::alloc::{AllocError, Global};
 
-/// How many pools, and how many lines without room, the legend lists at most.
-const MOST_LISTED: usize = 12;
+/// What the colours mean, and the end of the drawing.
+const FOOT: &str =
+    "<text x='40' y='730'>the colour is the size class of the payload's block: 2^n stands for blocks from 2^n bytes up to twice as many, the longer the lighter</text>
+</svg>
+";
 
 /// The whole drawing, as SVG.
 pub(crate) fn drawing(
@@ -21,42 +24,39 @@ pub(crate) fn drawing(
     watched: &Watched,
     legend: &Legend,
 ) -> Result<String, AllocError> {
-    let scale = Scale::new(window, pools);
     let mut text = String::new(alloc);
-    writeln!(text, "<?xml version='1.0' encoding='UTF-8'?>")?;
-    writeln!(
-        text,
-        "<svg xmlns='http://www.w3.org/2000/svg' viewBox='0 0 1200 760' font-family='sans-serif' font-size='14'>"
-    )?;
-    writeln!(text, "<title>A pool, {window}</title>")?;
-    writeln!(text, "<rect width='1200' height='760' fill='white'/>")?;
-    print_pools(&mut text, scale, pools, window)?;
-    print_boxes(&mut text, scale, boxes, legend.classes)?;
-    print_sentinels(&mut text, scale, &watched.blocks)?;
-    print_denied(&mut text, scale, watched, window)?;
+    print_head(&mut text, window)?;
+    print_shapes(&mut text, window, pools, boxes, watched, legend)?;
     print_legend(&mut text, pools, watched, window, legend)?;
     print_colours(&mut text, boxes)?;
-    writeln!(text, "</svg>")?;
+    text.push_str(FOOT)?;
     Ok(text)
 }
 
-// A rectangle, with a text that shows where the pointer rests on it. None is so small that nothing is seen of it.
-fn print_rect(
-    text: &mut String,
-    scale: Scale,
-    calls: (usize, usize),
-    addrs: (u128, u128),
-    fill: Colour,
-) -> Result<(), AllocError> {
-    let (x, right) = (scale.x(calls.0), scale.x(calls.1));
-    let (y, bottom) = (scale.y(addrs.0), scale.y(addrs.1));
-    let width = Tenths(right.saturating_sub(x).max(1));
-    let height = Tenths(bottom.saturating_sub(y).max(1));
-    let (x, y) = (Tenths(x), Tenths(y));
-    write!(
+fn print_head(text: &mut String, window: Window) -> Result<(), AllocError> {
+    writeln!(
         text,
-        "<rect x='{x}' y='{y}' width='{width}' height='{height}' fill='{fill}'"
+        "<?xml version='1.0' encoding='UTF-8'?>
+<svg xmlns='http://www.w3.org/2000/svg' viewBox='0 0 1200 760' font-family='sans-serif' font-size='14'>
+<title>A pool, {window}</title>
+<rect width='1200' height='760' fill='white'/>"
     )
+}
+
+// All that has a place on the scale.
+fn print_shapes(
+    text: &mut String,
+    window: Window,
+    pools: &[Pool],
+    boxes: &[PayloadBox],
+    watched: &Watched,
+    legend: &Legend,
+) -> Result<(), AllocError> {
+    let scale = Scale::new(window, pools);
+    print_pools(text, scale, pools, window)?;
+    print_boxes(text, scale, boxes, legend.classes)?;
+    print_sentinels(text, scale, &watched.blocks)?;
+    print_denied(text, scale, watched, window)
 }
 
 fn print_pools(
@@ -66,11 +66,11 @@ fn print_pools(
     window: Window,
 ) -> Result<(), AllocError> {
     for pool in pools {
-        let calls = (pool.since, window.end);
-        let addrs = (pool.start as u128, pool.end());
         if pool.since < window.end {
-            print_rect(text, scale, calls, addrs, Colour::Free)?;
-            writeln!(text, "/>")?;
+            let calls = (pool.since, window.end);
+            let addrs = (pool.start as u128, pool.end());
+            let rect = scale.rect(calls, addrs, Colour::Free);
+            writeln!(text, "{rect}/>")?;
         }
     }
     Ok(())
@@ -93,11 +93,11 @@ fn print_boxes(
         let low = addr as u128;
         let addrs = (low, low + len as u128);
         let fill = Colour::Class(Class::of(len, classes));
-        print_rect(text, scale, (since, until), addrs, fill)?;
+        let rect = scale.rect((since, until), addrs, fill);
         let line = since as u128 + 2;
         writeln!(
             text,
-            " stroke='white' stroke-width='0.3'><title>{name}: {len} bytes at {addr}, from line {line}</title></rect>"
+            "{rect} stroke='white' stroke-width='0.3'><title>{name}: {len} bytes at {addr}, from line {line}</title></rect>"
         )?;
     }
     Ok(())
@@ -116,12 +116,8 @@ fn print_sentinels(
             .get(index.saturating_add(1))
             .map(|block| block.as_ptr().start as u128);
         if next != Some(end) {
-            let (x, y) = (Tenths(LEFT), Tenths(scale.y(end)));
-            let (width, fill) = (Tenths(WIDTH), Colour::Sentinel);
-            writeln!(
-                text,
-                "<rect x='{x}' y='{y}' width='{width}' height='1.5' fill='{fill}'/>"
-            )?;
+            let rect = scale.line_at(end, Colour::Sentinel);
+            writeln!(text, "{rect}/>")?;
         }
     }
     Ok(())
@@ -161,40 +157,22 @@ fn print_legend(
         left_out,
         ..
     } = *legend;
-    write!(text, "<text x='40' y='25'>{configuration}, {window}")?;
-    if left_out > 0 {
-        write!(text, "; {left_out} boxes are left out")?;
-    }
-    writeln!(text, "</text>")?;
-    write!(text, "<text x='40' y='610'>pools: {}", pools.len())?;
-    for pool in pools.iter().take(MOST_LISTED) {
-        write!(text, ", {} to {}", pool.start, pool.end())?;
-    }
-    writeln!(text, "</text>")?;
+    let left_out = LeftOut(left_out);
+    let pools = PoolList(pools);
+    let lines = DeniedLines {
+        answers: &watched.answers,
+        window,
+    };
     writeln!(
         text,
-        "<text x='40' y='635'>at most {most_usable} bytes live, in the whole trace</text>"
+        "<text x='40' y='25'>{configuration}, {window}{left_out}</text>
+<text x='40' y='610'>pools: {pools}</text>"
     )?;
-    write!(text, "<text x='40' y='660'>no room: {denied} times")?;
-    print_denied_lines(text, watched, window)?;
-    writeln!(text, "</text>")
-}
-
-// The numbers of the first lines that found no room.
-fn print_denied_lines(
-    text: &mut String,
-    watched: &Watched,
-    window: Window,
-) -> Result<(), AllocError> {
-    let denied = drawn(&watched.answers, window)
-        .iter()
-        .enumerate()
-        .filter(|(_, answer)| is_denied(**answer));
-    for (index, _) in denied.take(MOST_LISTED) {
-        let line = window.first as u128 + index as u128 + 2;
-        write!(text, ", line {line}")?;
-    }
-    Ok(())
+    writeln!(
+        text,
+        "<text x='40' y='635'>at most {most_usable} bytes live, in the whole trace</text>
+<text x='40' y='660'>no room: {denied} times{lines}</text>"
+    )
 }
 
 // The colours of the rows of classes that the drawing shows.
@@ -205,23 +183,25 @@ fn print_colours(text: &mut String, boxes: &[PayloadBox]) -> Result<(), AllocErr
             .iter()
             .any(|payload| Class::of(payload.len, 1).row == row)
         {
-            let class = Class {
-                row,
-                part: 0,
-                classes: 1,
-            };
-            let (left, fill) = (Tenths(x), Colour::Class(class));
-            writeln!(
-                text,
-                "<rect x='{left}' y='690' width='14' height='14' fill='{fill}'/>"
-            )?;
-            let left = Tenths(x.saturating_add(180));
-            writeln!(text, "<text x='{left}' y='702'>2^{row}</text>")?;
+            print_colour(text, x, row)?;
             x = x.saturating_add(700);
         }
     }
+    Ok(())
+}
+
+// The colour of a row, and its name beside it.
+fn print_colour(text: &mut String, x: u128, row: u32) -> Result<(), AllocError> {
+    let class = Class {
+        row,
+        part: 0,
+        classes: 1,
+    };
+    let (left, fill) = (Tenths(x), Colour::Class(class));
+    let beside = Tenths(x.saturating_add(180));
     writeln!(
         text,
-        "<text x='40' y='730'>the colour is the size class of the payload's block: 2^n stands for blocks from 2^n bytes up to twice as many, the longer the lighter</text>"
+        "<rect x='{left}' y='690' width='14' height='14' fill='{fill}'/>
+<text x='{beside}' y='702'>2^{row}</text>"
     )
 }

@@ -1,8 +1,13 @@
 //! What is told beside the drawing.
 
+use crate::pools::Pool;
 use crate::window::Window;
 use rlsf_text::{Answer, Configuration};
 use rlsf_watched::Watched;
+use std::fmt;
+
+/// How many pools, and how many lines without room, are listed at most.
+const MOST_LISTED: usize = 12;
 
 /// What is told beside the drawing.
 #[derive(Clone, Copy)]
@@ -56,4 +61,54 @@ pub(crate) fn drawn(answers: &[Answer], window: Window) -> &[Answer] {
 /// Whether an allocation or a reallocation found no room.
 pub(crate) fn is_denied(answer: Answer) -> bool {
     matches!(answer, Answer::Placed(None))
+}
+
+/// How many boxes are left out, where any are.
+#[derive(Clone, Copy)]
+pub(crate) struct LeftOut(pub(crate) u128);
+
+impl fmt::Display for LeftOut {
+    fn fmt<W: fmt::Write>(&self, f: &mut fmt::Formatter<W>) -> fmt::Result {
+        match self.0 {
+            0 => Ok(()),
+            count => write!(f, "; {count} boxes are left out"),
+        }
+    }
+}
+
+/// How many pools there are, and where the first ones are.
+#[derive(Clone, Copy)]
+pub(crate) struct PoolList<'a>(pub(crate) &'a [Pool]);
+
+impl fmt::Display for PoolList<'_> {
+    fn fmt<W: fmt::Write>(&self, f: &mut fmt::Formatter<W>) -> fmt::Result {
+        write!(f, "{}", self.0.len())?;
+        for pool in self.0.iter().take(MOST_LISTED) {
+            write!(f, ", {} to {}", pool.start, pool.end())?;
+        }
+        Ok(())
+    }
+}
+
+/// The numbers of the first lines that found no room.
+#[derive(Clone, Copy)]
+pub(crate) struct DeniedLines<'a> {
+    /// The answers of the whole trace.
+    pub(crate) answers: &'a [Answer],
+    /// The calls that are drawn.
+    pub(crate) window: Window,
+}
+
+impl fmt::Display for DeniedLines<'_> {
+    fn fmt<W: fmt::Write>(&self, f: &mut fmt::Formatter<W>) -> fmt::Result {
+        let denied = drawn(self.answers, self.window)
+            .iter()
+            .enumerate()
+            .filter(|(_, answer)| is_denied(**answer));
+        for (index, _) in denied.take(MOST_LISTED) {
+            let line = self.window.first as u128 + index as u128 + 2;
+            write!(f, ", line {line}")?;
+        }
+        Ok(())
+    }
 }

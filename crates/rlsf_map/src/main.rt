@@ -34,7 +34,12 @@ fn main(rt: HostRuntime) -> ExitCode {
 /// The lines that the command line asks for, if it is one that the program knows.
 fn asked_lines(rt: &(impl Env + AllocGlobal)) -> Option<Lines> {
     let words: Vec<String> = env::args(rt).ok()?.collect(rt.alloc()).ok()?;
-    match words.as_slice() {
+    lines_of(words.as_slice())
+}
+
+/// The lines that the words of a command line ask for. The first one is the program's name.
+fn lines_of(words: &[String]) -> Option<Lines> {
+    match words {
         [] | [_] => Some(Lines::ALL),
         [_, first, last] => Some(Lines {
             first: first.parse().ok()?,

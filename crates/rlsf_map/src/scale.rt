@@ -1,5 +1,6 @@
 //! Where calls and addresses are on the drawing.
 
+use crate::colour::Colour;
 use crate::pools::Pool;
 use crate::window::Window;
 use std::fmt;
@@ -14,12 +15,38 @@ impl fmt::Display for Tenths {
     }
 }
 
+/// A rectangle, as SVG begins it: what stands behind it closes it.
+#[derive(Clone, Copy)]
+pub(crate) struct Rect {
+    x: Tenths,
+    y: Tenths,
+    width: Tenths,
+    height: Tenths,
+    fill: Colour,
+}
+
+impl fmt::Display for Rect {
+    fn fmt<W: fmt::Write>(&self, f: &mut fmt::Formatter<W>) -> fmt::Result {
+        let Rect {
+            x,
+            y,
+            width,
+            height,
+            fill,
+        } = *self;
+        write!(
+            f,
+            "<rect x='{x}' y='{y}' width='{width}' height='{height}' fill='{fill}'"
+        )
+    }
+}
+
 /// The left edge and the top of the calls' part of the drawing, its width and its height, in tenths of a unit.
-pub(crate) const LEFT: u128 = 400;
+const LEFT: u128 = 400;
 
 pub(crate) const TOP: u128 = 400;
 
-pub(crate) const WIDTH: u128 = 11200;
+const WIDTH: u128 = 11200;
 
 pub(crate) const HEIGHT: u128 = 5200;
 
@@ -59,5 +86,29 @@ impl Scale {
     pub(crate) fn y(self, addr: u128) -> u128 {
         let passed = addr.saturating_sub(self.low).min(self.bytes);
         TOP.saturating_add(passed.saturating_mul(HEIGHT) / self.bytes.max(1))
+    }
+
+    /// The rectangle from a call to another one and from an address to another one. None is so small that nothing is seen of it.
+    pub(crate) fn rect(self, calls: (usize, usize), addrs: (u128, u128), fill: Colour) -> Rect {
+        let (x, right) = (self.x(calls.0), self.x(calls.1));
+        let (y, bottom) = (self.y(addrs.0), self.y(addrs.1));
+        Rect {
+            x: Tenths(x),
+            y: Tenths(y),
+            width: Tenths(right.saturating_sub(x).max(1)),
+            height: Tenths(bottom.saturating_sub(y).max(1)),
+            fill,
+        }
+    }
+
+    /// A line at an address, through all calls.
+    pub(crate) fn line_at(self, addr: u128, fill: Colour) -> Rect {
+        Rect {
+            x: Tenths(LEFT),
+            y: Tenths(self.y(addr)),
+            width: Tenths(WIDTH),
+            height: Tenths(15),
+            fill,
+        }
     }
 }
