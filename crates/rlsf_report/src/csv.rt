@@ -2,30 +2,37 @@
 
 use crate::counts::Outcome;
 use crate::kinds::Kind;
-use rlsf_text::Op;
-use rlsf_watched::Watched;
+use rlsf_text::{Answer, Op};
+use rlsf_watched::{Moment, Watched};
 use std::alloc::{AllocError, Global};
 
 /// A line for each call, behind a line of names: the number of its line in the trace, its command, how it ended, and how many
 /// payloads are live after it, with how many usable bytes together.
 pub(crate) fn csv_of(alloc: Global, ops: &[Op], watched: &Watched) -> Result<String, AllocError> {
     let mut text = String::new(alloc);
-    writeln!(text, "line,call,outcome,live,usable")?;
+    text.push_str("line,call,outcome,live,usable\n")?;
     let answers = watched.answers.iter().zip(&watched.moments);
     for (index, (op, (answer, moment))) in ops.iter().zip(answers).enumerate() {
-        // Line 1 names the configuration and the memory.
-        let line = index as u128 + 2;
-        let kind = Kind::of(*op);
-        let outcome = match Outcome::of(*answer) {
-            Outcome::Done => "done",
-            Outcome::None => "none",
-            Outcome::Refused => "refused",
-        };
-        writeln!(
-            text,
-            "{line},{kind},{outcome},{},{}",
-            moment.live, moment.usable
-        )?;
+        print_call(&mut text, index, *op, *answer, *moment)?;
     }
     Ok(text)
+}
+
+fn print_call(
+    text: &mut String,
+    index: usize,
+    op: Op,
+    answer: Answer,
+    moment: Moment,
+) -> Result<(), AllocError> {
+    // Line 1 names the configuration and the memory.
+    let line = index as u128 + 2;
+    let kind = Kind::of(op);
+    let outcome = match Outcome::of(answer) {
+        Outcome::Done => "done",
+        Outcome::None => "none",
+        Outcome::Refused => "refused",
+    };
+    let Moment { live, usable } = moment;
+    writeln!(text, "{line},{kind},{outcome},{live},{usable}")
 }

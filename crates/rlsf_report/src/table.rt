@@ -23,7 +23,7 @@ pub(crate) fn table_of(
 }
 
 fn print_counts(text: &mut String, counts: &[Count]) -> Result<(), AllocError> {
-    writeln!(text, "call            lines   no room   refused")?;
+    text.push_str("call            lines   no room   refused\n")?;
     for count in counts {
         let Count {
             kind,
@@ -47,17 +47,20 @@ fn print_summary(text: &mut String, summary: Summary, asked: u128) -> Result<(),
         longest,
     } = summary;
     let lost = used_bytes.saturating_sub(asked);
-    writeln!(
-        text,
-        "\n                                     at the end    at most"
-    )?;
+    text.push_str("\n                                     at the end    at most\n")?;
     print_both(text, "live payloads", last.live as u128, most_live as u128)?;
     print_both(text, "their usable bytes", last.usable, most_usable)?;
-    print_row(text, "bytes that they asked for", asked)?;
-    print_row(text, "bytes of headers and rounding", lost)?;
-    print_row(text, "free bytes", free_bytes)?;
-    print_row(text, "free blocks", free_blocks as u128)?;
-    print_row(text, "longest free block", longest as u128)
+    let rows = [
+        ("bytes that they asked for", asked),
+        ("bytes of headers and rounding", lost),
+        ("free bytes", free_bytes),
+        ("free blocks", free_blocks as u128),
+        ("longest free block", longest as u128),
+    ];
+    for (label, number) in rows {
+        print_row(text, label, number)?;
+    }
+    Ok(())
 }
 
 // What a number is of, and the number.
@@ -83,10 +86,7 @@ fn print_advice(text: &mut String, advice: Advice) -> Result<(), AllocError> {
         text,
         "\n{live} payloads of up to {size} bytes at multiples of up to {align}"
     )?;
-    match enough {
-        Some(len) => print_row(text, "never refused in a pool of", len as u128)?,
-        None => writeln!(text, "no pool is so long that it never refuses them")?,
-    }
+    print_enough(text, enough)?;
     let half = inserted / 2;
     match first_denied {
         None => writeln!(
@@ -97,5 +97,12 @@ fn print_advice(text: &mut String, advice: Advice) -> Result<(), AllocError> {
             text,
             "half the pool, {half} bytes, has no room at line {line}"
         ),
+    }
+}
+
+fn print_enough(text: &mut String, enough: Option<usize>) -> Result<(), AllocError> {
+    match enough {
+        Some(len) => print_row(text, "never refused in a pool of", len as u128),
+        None => text.push_str("no pool is so long that it never refuses them\n"),
     }
 }
