@@ -24,7 +24,7 @@ impl fmt::Display for TourError {
             TourError::Memory(error) => write!(f, "no memory: {error:?}"),
             TourError::Layout => f.write_str("no such layout"),
             TourError::OutOfMemory => f.write_str("the system refused memory"),
-            TourError::Io(error) => write!(f, "{error}"),
+            TourError::Io(error) => fmt::Display::fmt(error, f),
         }
     }
 }

@@ -1,6 +1,7 @@
 //! A tour of the small libraries over the allocator: a fixed script, and a picture of the pool after each step.
 #![tactic(auto)]
 
+mod answer;
 mod error;
 mod messages;
 mod objects;
@@ -9,6 +10,7 @@ mod strings;
 use error::TourError;
 use rlsf::Blocks;
 use rlsf_collections::picture;
+use std::fmt::Display;
 use std::process::ExitCode;
 
 /// How many marks stand for a whole pool.
@@ -31,9 +33,13 @@ fn tour(rt: &(impl Print + AllocGlobal)) -> Result<(), TourError> {
     strings::show(rt)
 }
 
-/// Prints the blocks of a pool.
-fn draw(rt: &(impl Print + AllocGlobal), blocks: Blocks<'_>) -> Result<(), TourError> {
+/// Prints what was done, and the blocks of the pool behind it.
+fn draw(
+    rt: &(impl Print + AllocGlobal),
+    done: impl Display + Drop,
+    blocks: Blocks<'_>,
+) -> Result<(), TourError> {
+    rt.println(done)?;
     let picture = picture(rt.alloc(), blocks, WIDTH)?;
-    println!(rt; "{picture}")?;
-    Ok(())
+    Ok(rt.println(picture)?)
 }

@@ -1,32 +1,61 @@
 //! A pool of objects.
 
+use crate::answer::{Answer, Refusal};
 use crate::draw;
 use crate::error::TourError;
 use crate::messages::text;
 use rlsf::{Layout, Memory};
 use rlsf_collections::Objects;
 
+/// A call of the script.
+#[derive(Clone, Copy)]
+enum Step {
+    Take,
+    Set(usize, &'static str),
+    GiveBack(usize),
+}
+
+const SCRIPT: [Step; 8] = [
+    Step::Take,
+    Step::Take,
+    Step::Set(1, "a name"),
+    Step::Take,
+    Step::GiveBack(0),
+    Step::Take,
+    Step::GiveBack(0),
+    Step::Set(1, "an"),
+];
+
 /// Takes objects, writes into one, and gives one back.
 pub(crate) fn show(rt: &(impl Print + AllocGlobal)) -> Result<(), TourError> {
     let memory = Memory::new(rt.alloc(), 8192, 288)?;
     let mut pool = Objects::new(rt.alloc(), memory, Layout::from_size_align(40, 32)?);
-    println!(rt; "Objects of 40 bytes at multiples of 32, in 288 bytes")?;
-    take(rt, &mut pool)?;
-    take(rt, &mut pool)?;
-    set(rt, &mut pool, 1, "a name")?;
-    take(rt, &mut pool)?;
-    give_back(rt, &mut pool, 0)?;
-    take(rt, &mut pool)?;
-    give_back(rt, &mut pool, 0)?;
-    set(rt, &mut pool, 1, "an")
+    rt.println("Objects of 40 bytes at multiples of 32, in 288 bytes")?;
+    run_script(rt, &mut pool)
+}
+
+fn run_script(rt: &(impl Print + AllocGlobal), pool: &mut Objects) -> Result<(), TourError> {
+    for step in SCRIPT {
+        run_step(rt, pool, step)?;
+    }
+    Ok(())
+}
+
+fn run_step(
+    rt: &(impl Print + AllocGlobal),
+    pool: &mut Objects,
+    step: Step,
+) -> Result<(), TourError> {
+    match step {
+        Step::Take => take(rt, pool),
+        Step::Set(handle, name) => set(rt, pool, handle, name),
+        Step::GiveBack(handle) => give_back(rt, pool, handle),
+    }
 }
 
 fn take(rt: &(impl Print + AllocGlobal), pool: &mut Objects) -> Result<(), TourError> {
-    match pool.take() {
-        Ok(handle) => println!(rt; "take: {handle}")?,
-        Err(error) => println!(rt; "take: refused, {error:?}")?,
-    }
-    draw(rt, pool.blocks())
+    let answer = Answer(pool.take());
+    draw(rt, format_args!("take: {answer}"), pool.blocks())
 }
 
 fn give_back(
@@ -34,11 +63,12 @@ fn give_back(
     pool: &mut Objects,
     handle: usize,
 ) -> Result<(), TourError> {
-    match pool.give_back(handle) {
-        Ok(()) => println!(rt; "give back: {handle}")?,
-        Err(error) => println!(rt; "give back: {handle}: refused, {error:?}")?,
-    }
-    draw(rt, pool.blocks())
+    let refusal = Refusal(pool.give_back(handle));
+    draw(
+        rt,
+        format_args!("give back: {handle}{refusal}"),
+        pool.blocks(),
+    )
 }
 
 /// Writes a text into the front of an object, and prints its first six bytes.
@@ -48,13 +78,12 @@ fn set(
     handle: usize,
     name: &str,
 ) -> Result<(), TourError> {
-    match pool.set(handle, 0, name.as_bytes()) {
-        Ok(()) => {
-            let front = pool.get(handle).ok().and_then(|bytes| bytes.get(..6));
-            let front = text(front);
-            println!(rt; "set: {handle}: {front}")?;
-        }
-        Err(error) => println!(rt; "set: {handle}: refused, {error:?}")?,
-    }
-    draw(rt, pool.blocks())
+    let done = pool.set(handle, 0, name.as_bytes());
+    let answer = Answer(done.map(|()| front(pool, handle)));
+    draw(rt, format_args!("set: {handle}: {answer}"), pool.blocks())
+}
+
+/// The first six bytes of an object.
+fn front(pool: &Objects, handle: usize) -> &str {
+    text(pool.get(handle).ok().and_then(|bytes| bytes.get(..6)))
 }

@@ -1,32 +1,63 @@
 //! Strings that grow.
 
+use crate::answer::{Answer, Refusal};
 use crate::draw;
 use crate::error::TourError;
 use crate::messages::text;
 use rlsf::Memory;
 use rlsf_collections::Strings;
 
+/// A call of the script.
+#[derive(Clone, Copy)]
+enum Step {
+    Create,
+    Append(usize, &'static str),
+    Concat(usize, usize),
+    DropString(usize),
+}
+
+const SCRIPT: [Step; 8] = [
+    Step::Create,
+    Step::Append(0, "hello"),
+    Step::Create,
+    Step::Append(1, "world"),
+    Step::Append(0, ", this one grows past the other "),
+    Step::Concat(0, 1),
+    Step::DropString(0),
+    Step::Append(0, "?"),
+];
+
 /// Makes strings, lets them grow past each other, joins two and drops one.
 pub(crate) fn show(rt: &(impl Print + AllocGlobal)) -> Result<(), TourError> {
     let memory = Memory::new(rt.alloc(), 16384, 320)?;
     let mut strings = Strings::new(rt.alloc(), memory);
-    println!(rt; "Strings, in 320 bytes")?;
-    create(rt, &mut strings)?;
-    append(rt, &mut strings, 0, "hello")?;
-    create(rt, &mut strings)?;
-    append(rt, &mut strings, 1, "world")?;
-    append(rt, &mut strings, 0, ", this one grows past the other ")?;
-    concat(rt, &mut strings, 0, 1)?;
-    drop_string(rt, &mut strings, 0)?;
-    append(rt, &mut strings, 0, "?")
+    rt.println("Strings, in 320 bytes")?;
+    run_script(rt, &mut strings)
+}
+
+fn run_script(rt: &(impl Print + AllocGlobal), strings: &mut Strings) -> Result<(), TourError> {
+    for step in SCRIPT {
+        run_step(rt, strings, step)?;
+    }
+    Ok(())
+}
+
+fn run_step(
+    rt: &(impl Print + AllocGlobal),
+    strings: &mut Strings,
+    step: Step,
+) -> Result<(), TourError> {
+    match step {
+        Step::Create => create(rt, strings),
+        Step::Append(handle, more) => append(rt, strings, handle, more),
+        Step::Concat(left, right) => concat(rt, strings, left, right),
+        Step::DropString(handle) => drop_string(rt, strings, handle),
+    }
 }
 
 fn create(rt: &(impl Print + AllocGlobal), strings: &mut Strings) -> Result<(), TourError> {
-    match strings.create() {
-        Ok(handle) => println!(rt; "create: {handle}")?,
-        Err(error) => println!(rt; "create: refused, {error:?}")?,
-    }
-    draw(rt, strings.blocks())
+    let answer = Answer(strings.create());
+    draw(rt, format_args!("create: {answer}"), strings.blocks())
 }
 
 fn append(
@@ -35,14 +66,13 @@ fn append(
     handle: usize,
     more: &str,
 ) -> Result<(), TourError> {
-    match strings.append(handle, more.as_bytes()) {
-        Ok(()) => {
-            let whole = text(strings.bytes(handle).ok());
-            println!(rt; "append: {handle}: {whole}")?;
-        }
-        Err(error) => println!(rt; "append: {handle}: refused, {error:?}")?,
-    }
-    draw(rt, strings.blocks())
+    let done = strings.append(handle, more.as_bytes());
+    let answer = Answer(done.map(|()| whole(strings, handle)));
+    draw(
+        rt,
+        format_args!("append: {handle}: {answer}"),
+        strings.blocks(),
+    )
 }
 
 fn concat(
@@ -53,12 +83,19 @@ fn concat(
 ) -> Result<(), TourError> {
     match strings.concat(left, right) {
         Ok(handle) => {
-            let whole = text(strings.bytes(handle).ok());
-            println!(rt; "concat: {handle}: {whole}")?;
+            let whole = whole(strings, handle);
+            draw(
+                rt,
+                format_args!("concat: {handle}: {whole}"),
+                strings.blocks(),
+            )
         }
-        Err(error) => println!(rt; "concat: refused, {error:?}")?,
+        Err(error) => draw(
+            rt,
+            format_args!("concat: refused, {error:?}"),
+            strings.blocks(),
+        ),
     }
-    draw(rt, strings.blocks())
 }
 
 fn drop_string(
@@ -66,9 +103,15 @@ fn drop_string(
     strings: &mut Strings,
     handle: usize,
 ) -> Result<(), TourError> {
-    match strings.drop_string(handle) {
-        Ok(()) => println!(rt; "drop: {handle}")?,
-        Err(error) => println!(rt; "drop: {handle}: refused, {error:?}")?,
-    }
-    draw(rt, strings.blocks())
+    let refusal = Refusal(strings.drop_string(handle));
+    draw(
+        rt,
+        format_args!("drop: {handle}{refusal}"),
+        strings.blocks(),
+    )
+}
+
+/// The bytes of a string.
+fn whole(strings: &Strings, handle: usize) -> &str {
+    text(strings.bytes(handle).ok())
 }
