@@ -1,12 +1,11 @@
 ghost use Rattle.std.specs.Prelude.{◌≡◌};
 ghost use Rattle.rlsf_bench_steps.specs.Runs.{reallocates_at};
 
-use crate::error::BenchError;
 use std::num::NonZeroUsize;
 
 /// The parameters of the allocator: how many rows of size classes it has, how many classes in a row, and the type of its
 /// bitmaps.
-#[derive(Clone, Copy, Debug, PartialEq, Eq)]
+#[derive(Clone, Copy)]
 pub(crate) enum Configuration {
     /// `12x16`: 12 rows of 16 classes, with bitmaps of type `u16`.
     TwelveBySixteen,
@@ -29,7 +28,7 @@ impl Configuration {
 }
 
 /// What a step does to a payload that its slot holds.
-#[derive(Clone, Copy, Debug, PartialEq, Eq)]
+#[derive(Clone, Copy)]
 pub(crate) enum Mode {
     /// `free`: it is freed.
     Free,
@@ -59,7 +58,7 @@ impl Mode {
 }
 
 /// What the command line asks for.
-#[derive(Clone, Copy, Debug, PartialEq, Eq)]
+#[derive(Clone, Copy)]
 pub(crate) struct Arguments {
     /// The allocator's parameters.
     pub(crate) configuration: Configuration,
@@ -72,16 +71,16 @@ pub(crate) struct Arguments {
 }
 
 impl Arguments {
-    /// Reads the words of a command line, of which the first is the program's name.
-    pub(crate) fn read(words: &[String]) -> Result<Arguments, BenchError> {
+    /// Reads the words of a command line, of which the first is the program's name. `None` where a word is missing, wrong or too many.
+    pub(crate) fn read(words: &[String]) -> Option<Arguments> {
         let [_, configuration, slots, steps, mode] = words else {
-            return Err(BenchError::Usage);
+            return None;
         };
-        Ok(Arguments {
-            configuration: Configuration::named(configuration).ok_or(BenchError::Usage)?,
-            slots: slots.parse().map_err(|_| BenchError::Usage)?,
-            steps: steps.parse().map_err(|_| BenchError::Usage)?,
-            mode: Mode::named(mode).ok_or(BenchError::Usage)?,
+        Some(Arguments {
+            configuration: Configuration::named(configuration)?,
+            slots: slots.parse().ok()?,
+            steps: steps.parse().ok()?,
+            mode: Mode::named(mode)?,
         })
     }
 }

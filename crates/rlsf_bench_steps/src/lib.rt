@@ -42,10 +42,15 @@ pub fn bench<R: Env + Print + AllocGlobal, const CALLED: bool, const ALIGNS: usi
 ) -> Result<(), BenchError>
     requires { (0 < ALIGNS) × (ALIGNS < 64) }
 {
+    let arguments = arguments_of(rt)?;
+    let tally = tally_of::<CALLED, ALIGNS>(rt.alloc(), arguments)?;
+    println!(rt; "{tally}").map_err(BenchError::Io)
+}
+
+/// What the command line asks for.
+fn arguments_of<R: Env + AllocGlobal>(rt: &R) -> Result<Arguments, BenchError> {
     let words: Vec<String> = env::args(rt)?.collect(rt.alloc())?;
-    let tally = tally_of::<CALLED, ALIGNS>(rt.alloc(), Arguments::read(&words)?)?;
-    println!(rt; "{tally}")?;
-    Ok(())
+    Arguments::read(&words).ok_or(BenchError::Usage)
 }
 
 /// Does the steps that are asked for, with the configuration's allocator.

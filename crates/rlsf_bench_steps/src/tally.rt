@@ -6,7 +6,7 @@ use rlsf_base::memory::Addr;
 use std::fmt;
 
 /// What came of the allocations and reallocations so far.
-#[derive(Clone, Copy, Debug, PartialEq, Eq)]
+#[derive(Clone, Copy)]
 pub(crate) struct Tally {
     /// How many were refused.
     pub(crate) refused: u64,
