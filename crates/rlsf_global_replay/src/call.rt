@@ -3,7 +3,6 @@
 use crate::error::Failure;
 use rlsf_base::memory::{Addr, Layout};
 use std::alloc::Global;
-use std::num::NonZeroUsize;
 
 /// A call.
 #[derive(Clone, Copy)]
@@ -30,55 +29,62 @@ pub(crate) enum Call {
 
 /// Reads a call from its line.
 pub(crate) fn read_call(alloc: Global, line: &str) -> Result<Call, Failure> {
-    let (word, rest) = line.split_once(' ').ok_or(Failure::Line)?;
+    let Some((word, rest)) = line.split_once(' ') else {
+        return Err(Failure::Line);
+    };
     let numbers = read_numbers(alloc, rest)?;
-    match *numbers.as_slice() {
-        [addr] => with_one(word, read_addr(addr)?),
-        [size, align] => with_two(word, Layout::from_size_align(size, align)?),
-        [addr, second, third] => with_three(word, read_addr(addr)?, second, third),
-        [addr, second, third, fourth] => with_four(word, read_addr(addr)?, [second, third, fourth]),
-        _ => Err(Failure::Line),
-    }
+    let call = match *numbers.as_slice() {
+        [addr] => with_one(word, addr),
+        [size, align] => with_two(word, size, align),
+        [addr, second, third] => with_three(word, addr, second, third),
+        [addr, second, third, fourth] => with_four(word, addr, [second, third, fourth]),
+        _ => None,
+    };
+    call.ok_or(Failure::Line)
 }
 
-fn with_one(word: &str, addr: Addr) -> Result<Call, Failure> {
+fn with_one(word: &str, addr: usize) -> Option<Call> {
+    let addr = Addr::new(addr)?;
     match word {
-        "cdeallocate" => Ok(Call::Deallocate(addr)),
-        "usable" => Ok(Call::Usable(addr)),
-        _ => Err(Failure::Line),
+        "cdeallocate" => Some(Call::Deallocate(addr)),
+        "usable" => Some(Call::Usable(addr)),
+        _ => None,
     }
 }
 
-fn with_two(word: &str, layout: Layout) -> Result<Call, Failure> {
+fn with_two(word: &str, size: usize, align: usize) -> Option<Call> {
+    let layout = Layout::from_size_align(size, align).ok()?;
     match word {
-        "alloc" | "callocate" => Ok(Call::Allocate(layout)),
-        _ => Err(Failure::Line),
+        "alloc" | "callocate" => Some(Call::Allocate(layout)),
+        _ => None,
     }
 }
 
-fn with_three(word: &str, addr: Addr, second: usize, third: usize) -> Result<Call, Failure> {
+fn with_three(word: &str, addr: usize, second: usize, third: usize) -> Option<Call> {
+    let addr = Addr::new(addr)?;
     if word == "read" {
-        return Ok(Call::Read(addr, second, third));
+        return Some(Call::Read(addr, second, third));
     }
-    let layout = Layout::from_size_align(second, third)?;
+    let layout = Layout::from_size_align(second, third).ok()?;
     match word {
-        "dealloc" => Ok(Call::Dealloc(addr, layout)),
-        "creallocate" => Ok(Call::Reallocate(addr, layout)),
-        _ => Err(Failure::Line),
+        "dealloc" => Some(Call::Dealloc(addr, layout)),
+        "creallocate" => Some(Call::Reallocate(addr, layout)),
+        _ => None,
     }
 }
 
-fn with_four(word: &str, addr: Addr, rest: [usize; 3]) -> Result<Call, Failure> {
+fn with_four(word: &str, addr: usize, rest: [usize; 3]) -> Option<Call> {
+    let addr = Addr::new(addr)?;
     let [second, third, fourth] = rest;
     if word == "write" {
-        let byte = u8::try_from(fourth).map_err(|_| Failure::Line)?;
-        return Ok(Call::Write(addr, second, third, byte));
+        let byte = u8::try_from(fourth).ok()?;
+        return Some(Call::Write(addr, second, third, byte));
     }
-    let layout = Layout::from_size_align(second, third)?;
+    let layout = Layout::from_size_align(second, third).ok()?;
     match word {
-        "realloc" => Ok(Call::Realloc(addr, layout, fourth)),
-        "norealloc" => Ok(Call::ReallocateNoMove(addr, layout, fourth)),
-        _ => Err(Failure::Line),
+        "realloc" => Some(Call::Realloc(addr, layout, fourth)),
+        "norealloc" => Some(Call::ReallocateNoMove(addr, layout, fourth)),
+        _ => None,
     }
 }
 
@@ -86,11 +92,10 @@ fn with_four(word: &str, addr: Addr, rest: [usize; 3]) -> Result<Call, Failure> 
 pub(crate) fn read_numbers(alloc: Global, text: &str) -> Result<Vec<usize>, Failure> {
     let mut numbers = Vec::new(alloc);
     for word in text.split(' ') {
-        numbers.push(word.parse().map_err(|_| Failure::Line)?)?;
+        let Ok(number) = word.parse() else {
+            return Err(Failure::Line);
+        };
+        numbers.push(number)?;
     }
     Ok(numbers)
-}
-
-fn read_addr(number: usize) -> Result<Addr, Failure> {
-    NonZeroUsize::new(number).ok_or(Failure::Line)
 }

@@ -58,12 +58,10 @@ impl Reply {
 
 fn print_bytes(text: &mut String, bytes: &[u8]) -> Result<(), AllocError> {
     text.push_str("bytes ")?;
-    for (index, byte) in bytes.iter().enumerate() {
-        if index > 0 {
-            text.push(',')?;
-        }
-        write!(text, "{byte}")?;
+    let mut separator = "";
+    for byte in bytes {
+        write!(text, "{separator}{byte}")?;
+        separator = ",";
     }
-    text.push('\n')?;
-    Ok(())
+    text.push('\n')
 }

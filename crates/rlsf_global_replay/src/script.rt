@@ -3,7 +3,7 @@
 use crate::call::{Call, read_call, read_numbers};
 use crate::error::{Failure, ReplayError};
 use crate::reply::Reply;
-use rlsf_base::memory::{Layout, Memory};
+use rlsf_base::memory::{Addr, Layout, Memory};
 use rlsf_global::{GlobalTlsfOptions, Locked, SmallGlobalTlsfOptions};
 use std::alloc::Global;
 
@@ -77,6 +77,16 @@ fn run_line(
     let Some(allocator) = allocator else {
         return Err(Failure::Line);
     };
+    run_call(alloc, allocator, line, output)
+}
+
+/// Makes the call of a line, and prints its reply.
+fn run_call(
+    alloc: Global,
+    allocator: &mut Allocator,
+    line: &str,
+    output: &mut String,
+) -> Result<(), Failure> {
     let call = line.split_once(" = ").map_or(line, |parts| parts.0);
     let reply = allocator.call(alloc, read_call(alloc, call)?)?;
     reply.print(output)?;
@@ -107,13 +117,22 @@ fn make<Options: GlobalTlsfOptions>(
             let bytes = rising(alloc, len, first)?;
             Ok(Reply::done(locked.write_payload(addr, offset, &bytes)))
         }
-        Call::Read(addr, offset, len) => {
-            let mut bytes = vec![in alloc; 0; len]?;
-            match locked.read_payload(addr, offset, &mut bytes) {
-                Ok(()) => Ok(Reply::Bytes(bytes)),
-                Err(error) => Ok(Reply::Refused(error)),
-            }
-        }
+        Call::Read(addr, offset, len) => read(alloc, locked, addr, offset, len),
+    }
+}
+
+/// Reads so many bytes of a payload, from an offset on.
+fn read<Options: GlobalTlsfOptions>(
+    alloc: Global,
+    locked: &mut Locked<Options>,
+    addr: Addr,
+    offset: usize,
+    len: usize,
+) -> Result<Reply, Failure> {
+    let mut bytes = vec![in alloc; 0; len]?;
+    match locked.read_payload(addr, offset, &mut bytes) {
+        Ok(()) => Ok(Reply::Bytes(bytes)),
+        Err(error) => Ok(Reply::Refused(error)),
     }
 }
 
