@@ -28,103 +28,84 @@ fn row<F: BitPattern, S: BitPattern, const FLLEN: usize, const SLLEN: usize>(siz
     )
 }
 
-/// A size whose class begins at it.
-fn start(fl: usize, sl: usize, size: usize) -> Row {
-    (Some((fl, sl)), Some((fl, sl)), Some(size))
+/// Passes where what is computed of each size is what stands beside it.
+fn are<F: BitPattern, S: BitPattern, const FLLEN: usize, const SLLEN: usize>(
+    rt: &impl Abort,
+    rows: &[(usize, Row)],
+)
+    requires parameters { IsValid F.width S.width FLLEN SLLEN }
+{
+    for (size, expected) in rows {
+        let is_size = *size != 0 && *size % 32 == 0;
+        let is_so = is_size && row::<F, S, FLLEN, SLLEN>(*size) == *expected;
+        passes(rt, is_so, *size);
+    }
 }
 
-/// Passes where the rows are the expected ones.
-fn are(rt: &impl Abort, rows: &[Row], expected: &[Row]) {
-    assert!(rt; rows == expected);
-}
+const EIGHT_BY_EIGHT: &[(usize, Row)] = &[
+    (32, (Some((0, 0)), Some((0, 0)), Some(32))),
+    (64, (Some((1, 0)), Some((1, 0)), Some(64))),
+    (96, (Some((1, 4)), Some((1, 4)), Some(96))),
+    (416, (Some((3, 5)), Some((3, 5)), Some(416))),
+    (448, (Some((3, 6)), Some((3, 6)), Some(448))),
+    (544, (Some((4, 0)), Some((4, 1)), Some(576))),
+    (2016, (Some((5, 7)), Some((6, 0)), Some(2048))),
+    (7680, (Some((7, 7)), Some((7, 7)), Some(7680))),
+    (8160, (Some((7, 7)), None, None)),
+    (8192, (None, None, None)),
+];
 
 #[test]
 fn eight_rows_of_eight(rt: HostRuntime) {
-    let rows = [
-        row::<u8, u8, 8, 8>(32),
-        row::<u8, u8, 8, 8>(64),
-        row::<u8, u8, 8, 8>(96),
-        row::<u8, u8, 8, 8>(416),
-        row::<u8, u8, 8, 8>(448),
-        row::<u8, u8, 8, 8>(544),
-        row::<u8, u8, 8, 8>(2016),
-        row::<u8, u8, 8, 8>(7680),
-        row::<u8, u8, 8, 8>(8160),
-        row::<u8, u8, 8, 8>(8192),
-    ];
-    let expected = [
-        start(0, 0, 32),
-        start(1, 0, 64),
-        start(1, 4, 96),
-        start(3, 5, 416),
-        start(3, 6, 448),
-        (Some((4, 0)), Some((4, 1)), Some(576)),
-        (Some((5, 7)), Some((6, 0)), Some(2048)),
-        start(7, 7, 7680),
-        (Some((7, 7)), None, None),
-        (None, None, None),
-    ];
-    are(&rt, &rows, &expected);
+    are::<u8, u8, 8, 8>(&rt, EIGHT_BY_EIGHT);
 }
+
+/// The greatest size.
+const LAST: usize = usize::MAX - 31;
+
+const SIXTY_FOUR_BY_SIXTY_FOUR: &[(usize, Row)] = &[
+    (32, (Some((0, 0)), Some((0, 0)), Some(32))),
+    (96, (Some((1, 32)), Some((1, 32)), Some(96))),
+    (70016, (Some((11, 4)), Some((11, 5)), Some(70656))),
+    (LAST, (Some((58, 63)), Some((59, 0)), None)),
+];
 
 #[test]
 fn other_rows(rt: HostRuntime) {
-    let last = usize::MAX - 31;
-    let rows = [
-        row::<u8, u8, 8, 1>(96),
-        row::<u8, u8, 1, 1>(32),
-        row::<u64, u64, 64, 64>(32),
-        row::<u64, u64, 64, 64>(96),
-        row::<u64, u64, 64, 64>(70016),
-        row::<u64, u64, 64, 64>(last),
-        row::<u64, u8, 59, 8>(last),
-    ];
-    let expected = [
-        (Some((1, 0)), Some((2, 0)), Some(128)),
-        start(0, 0, 32),
-        start(0, 0, 32),
-        start(1, 32, 96),
-        (Some((11, 4)), Some((11, 5)), Some(70656)),
-        (Some((58, 63)), Some((59, 0)), None),
-        (Some((58, 7)), None, None),
-    ];
-    are(&rt, &rows, &expected);
+    are::<u8, u8, 8, 1>(&rt, &[(96, (Some((1, 0)), Some((2, 0)), Some(128)))]);
+    are::<u8, u8, 1, 1>(&rt, &[(32, (Some((0, 0)), Some((0, 0)), Some(32)))]);
+    are::<u64, u64, 64, 64>(&rt, SIXTY_FOUR_BY_SIXTY_FOUR);
+    are::<u64, u8, 59, 8>(&rt, &[(LAST, (Some((58, 7)), None, None))]);
 }
+
+const MOST_CLASSES: &[(usize, Row)] = &[
+    (32, (Some((0, 0)), Some((0, 0)), Some(32))),
+    (96, (Some((1, 64)), Some((1, 64)), Some(96))),
+    (416, (Some((3, 80)), Some((3, 80)), Some(416))),
+    (544, (Some((4, 8)), Some((4, 8)), Some(544))),
+    (8160, (Some((7, 127)), Some((7, 127)), Some(8160))),
+    (8192, (Some((8, 0)), Some((8, 0)), Some(8192))),
+    (70016, (Some((11, 8)), Some((11, 9)), Some(70144))),
+    (1048608, (Some((15, 0)), Some((15, 1)), Some(1056768))),
+    (
+        9223372036854775808,
+        (Some((58, 0)), Some((58, 0)), Some(9223372036854775808)),
+    ),
+    (
+        18374686479671623648,
+        (Some((58, 126)), Some((58, 127)), Some(18374686479671623680)),
+    ),
+    (
+        18374686479671623680,
+        (Some((58, 127)), Some((58, 127)), Some(18374686479671623680)),
+    ),
+    (18374686479671623712, (Some((58, 127)), Some((59, 0)), None)),
+    (LAST, (Some((58, 127)), Some((59, 0)), None)),
+];
 
 #[test]
 fn most_rows_of_most_classes(rt: HostRuntime) {
-    let last = usize::MAX - 31;
-    let rows = [
-        row::<u128, u128, 128, 128>(32),
-        row::<u128, u128, 128, 128>(96),
-        row::<u128, u128, 128, 128>(416),
-        row::<u128, u128, 128, 128>(544),
-        row::<u128, u128, 128, 128>(8160),
-        row::<u128, u128, 128, 128>(8192),
-        row::<u128, u128, 128, 128>(70016),
-        row::<u128, u128, 128, 128>(1048608),
-        row::<u128, u128, 128, 128>(9223372036854775808),
-        row::<u128, u128, 128, 128>(18374686479671623648),
-        row::<u128, u128, 128, 128>(18374686479671623680),
-        row::<u128, u128, 128, 128>(18374686479671623712),
-        row::<u128, u128, 128, 128>(last),
-    ];
-    let expected = [
-        start(0, 0, 32),
-        start(1, 64, 96),
-        start(3, 80, 416),
-        start(4, 8, 544),
-        start(7, 127, 8160),
-        start(8, 0, 8192),
-        (Some((11, 8)), Some((11, 9)), Some(70144)),
-        (Some((15, 0)), Some((15, 1)), Some(1056768)),
-        start(58, 0, 9223372036854775808),
-        (Some((58, 126)), Some((58, 127)), Some(18374686479671623680)),
-        start(58, 127, 18374686479671623680),
-        (Some((58, 127)), Some((59, 0)), None),
-        (Some((58, 127)), Some((59, 0)), None),
-    ];
-    are(&rt, &rows, &expected);
+    are::<u128, u128, 128, 128>(&rt, MOST_CLASSES);
 }
 
 #[test]
@@ -164,21 +145,24 @@ fn pools_for_one_allocation(rt: HostRuntime) {
     assert!(rt; pools == [Some(64), Some(2080), None]);
 }
 
+const HALF: usize = 1 << 63;
+
+/// A size, an alignment, and the length of a pool for it.
+static POOLS: [(usize, usize, usize); 6] = [
+    (1, 1, 64),
+    (2000, 1, 2048),
+    (8000, 1, 8064),
+    (HALF - 1, 1, 9295429630892703776),
+    (HALF - 16, 16, 9223372036854775840),
+    (0, HALF, 9223372036854775840),
+];
+
 #[test]
 fn pools_for_one_allocation_of_most_classes(rt: HostRuntime) {
-    let half = 1 << 63;
-    let asked = [
-        (1, 1, 64),
-        (2000, 1, 2048),
-        (8000, 1, 8064),
-        (half - 1, 1, 9295429630892703776),
-        (half - 16, 16, 9223372036854775840),
-        (0, half, 9223372036854775840),
-    ];
-    for (size, align, len) in asked {
-        let layout = Layout::from_size_align(size, align).expect(&rt, "a layout");
+    for (size, align, len) in &POOLS {
+        let layout = Layout::from_size_align(*size, *align).expect(&rt, "a layout");
         let pool = pool_size_to_contain_allocation::<u128, u128, 128, 128>(layout);
-        passes(&rt, pool == Some(len), size);
+        passes(&rt, pool == Some(*len), *size);
     }
 }
 

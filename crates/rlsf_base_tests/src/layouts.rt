@@ -1,18 +1,21 @@
 use crate::answers::passes;
 use rlsf_base::memory::Layout;
 
+const HALF: usize = 1 << 63;
+
+/// A size, an alignment, and whether there is such a layout.
+static ASKED: [(usize, usize, bool); 4] = [
+    (1, 3, false),
+    (1, 0, false),
+    (HALF - 16, 16, true),
+    (HALF - 15, 16, false),
+];
+
 #[test]
 fn layouts(rt: HostRuntime) {
-    let half = 1 << 63;
-    let asked = [
-        (1, 3, false),
-        (1, 0, false),
-        (half - 16, 16, true),
-        (half - 15, 16, false),
-    ];
-    for (size, align, is_layout) in asked {
-        let layout = Layout::from_size_align(size, align);
-        passes(&rt, layout.is_ok() == is_layout, size);
+    for (size, align, is_layout) in &ASKED {
+        let layout = Layout::from_size_align(*size, *align);
+        passes(&rt, layout.is_ok() == *is_layout, *size);
     }
 }
 

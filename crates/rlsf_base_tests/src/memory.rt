@@ -2,7 +2,7 @@ ghost use Rattle.std.specs.Prelude.{◌≡◌, ◌%◌, length, IsTrue};
 ghost use Rattle.rlsf_base.specs.Range.{LiesIn};
 ghost use Rattle.rlsf_base.specs.Space.{IsWord};
 
-use crate::answers::passes;
+use crate::answers::{all, passes};
 use rlsf_base::memory::{Memory, MemoryError, Range};
 use std::alloc::Global;
 use std::mem::size_of;
@@ -118,7 +118,7 @@ fn goes_so(alloc: Global, start: usize, len: usize, steps: &[Step]) -> bool {
 }
 
 /// A start, a length, and why there is no such memory.
-const REFUSED: [(usize, usize, Option<MemoryError>); 9] = [
+static REFUSED: [(usize, usize, Option<MemoryError>); 9] = [
     (0, 5, Some(MemoryError::ZeroStart)),
     (0, MAX, Some(MemoryError::ZeroStart)),
     (1, MAX, Some(MemoryError::TooLong)),
@@ -134,16 +134,17 @@ const REFUSED: [(usize, usize, Option<MemoryError>); 9] = [
 
 #[test]
 fn refuses_in_order(rt: HostRuntime) {
-    for (start, len, error) in REFUSED {
-        let refused = Memory::new(rt.alloc(), start, len).err();
-        passes(&rt, refused == error, len);
+    for (start, len, error) in &REFUSED {
+        let refused = Memory::new(rt.alloc(), *start, *len).err();
+        passes(&rt, refused == *error, *len);
     }
 }
 
 #[test]
 fn as_large_as_a_list_of_bytes(rt: HostRuntime) {
-    assert!(rt; size_of::<Memory>() == size_of::<Vec<u8>>());
-    assert!(rt; size_of::<Memory>() == 3 * size_of::<usize>());
+    let size = size_of::<Memory>();
+    let answers = [size == size_of::<Vec<u8>>(), size == 3 * size_of::<usize>()];
+    all(&rt, &answers);
 }
 
 #[test]
@@ -265,17 +266,22 @@ static SCRIPTS: [(usize, usize, &[Step]); 7] = [
 
 #[test]
 fn steps(rt: HostRuntime) {
-    for (start, len, steps) in SCRIPTS {
-        let is_so = goes_so(rt.alloc(), start, len, steps);
-        passes(&rt, is_so, len);
+    for (start, len, steps) in &SCRIPTS {
+        let is_so = goes_so(rt.alloc(), *start, *len, steps);
+        passes(&rt, is_so, *len);
     }
+}
+
+/// The number in front of the first space.
+fn first_number(text: &str) -> Option<usize> {
+    let (word, _) = text.split_once(' ')?;
+    word.parse().ok()
 }
 
 /// How many bytes of addresses the process has, by the pages that the system tells.
 fn mapped(rt: &(impl Files + AllocGlobal)) -> Option<usize> {
     let sizes = fs::read_to_string(rt, "/proc/self/statm").ok()?;
-    let (pages, _) = sizes.split_once(' ')?;
-    let pages: usize = pages.parse().ok()?;
+    let pages = first_number(&sizes)?;
     Some(pages.saturating_mul(4096))
 }
 
@@ -286,9 +292,8 @@ fn dropped_memories_are_given_back(rt: HostRuntime) {
     let before = mapped(&rt).expect(&rt, "a number");
     for _ in 0..200 {
         let is_so = goes_so(rt.alloc(), 4096, 1 << 25, &steps);
-        assert!(rt; is_so);
         let then = mapped(&rt).expect(&rt, "a number");
-        assert!(rt; then.saturating_sub(before) < 1 << 31);
+        all(&rt, &[is_so, then.saturating_sub(before) < 1 << 31]);
     }
 }
 
@@ -306,11 +311,9 @@ const SEEN: &[Step] = &[Step::Bytes(
 fn crosses_threads(rt: HostRuntime) {
     let mut memory = Memory::new(rt.alloc(), 4096, 16).expect(&rt, "a memory");
     let before = first_wrong(&mut memory, WRITTEN);
-    let Ok(child) = thread::spawn(&rt, move || memory) else {
-        panic!(rt; "no thread");
-    };
-    let mut back = child.join(&rt);
+    let child = thread::spawn(&rt, move || memory).ok();
+    let mut back = child.expect(&rt, "a thread").join(&rt);
     let after = first_wrong(&mut back, SEEN);
-    assert!(rt; before == None && after == None);
-    assert!(rt; back.start() == 4096 && back.len() == 16);
+    let is_same = back.start() == 4096 && back.len() == 16;
+    all(&rt, &[before == None, after == None, is_same]);
 }
