@@ -48,31 +48,36 @@ fn are_asked(alloc: Global, answer: SourceAnswer, questions: &[Question]) -> Res
     Ok(flex.source_ref().asked() == questions)
 }
 
-#[test]
-fn a_range_for_one_payload(rt: HostRuntime) -> Result<(), Fail> {
-    let range = Range {
-        start: 4096,
-        len: 64,
-    };
-    let questions = [Question::Alloc(64, Some(range)), Question::Alloc(64, None)];
-    assert!(rt; are_asked(rt.alloc(), SourceAnswer::Range(range), &questions)?);
-    Ok(())
-}
+/// A range for one payload.
+const ONE: Range = Range {
+    start: 4096,
+    len: 64,
+};
+
+/// A range for two payloads.
+const TWO: Range = Range {
+    start: 4096,
+    len: 1024,
+};
+
+/// What a source answers, and what it is asked for two payloads.
+static CASES: [(SourceAnswer, &[Question]); 3] = [
+    (
+        SourceAnswer::Range(ONE),
+        &[Question::Alloc(64, Some(ONE)), Question::Alloc(64, None)],
+    ),
+    (SourceAnswer::Range(TWO), &[Question::Alloc(64, Some(TWO))]),
+    (
+        SourceAnswer::None,
+        &[Question::Alloc(64, None), Question::Alloc(64, None)],
+    ),
+];
 
 #[test]
-fn a_range_for_two_payloads(rt: HostRuntime) -> Result<(), Fail> {
-    let range = Range {
-        start: 4096,
-        len: 1024,
-    };
-    let questions = [Question::Alloc(64, Some(range))];
-    assert!(rt; are_asked(rt.alloc(), SourceAnswer::Range(range), &questions)?);
-    Ok(())
-}
-
-#[test]
-fn no_range_for_payloads(rt: HostRuntime) -> Result<(), Fail> {
-    let questions = [Question::Alloc(64, None), Question::Alloc(64, None)];
-    assert!(rt; are_asked(rt.alloc(), SourceAnswer::None, &questions)?);
+fn questions_for_two_payloads(rt: HostRuntime) -> Result<(), Fail> {
+    for (index, (answer, questions)) in CASES.iter().enumerate() {
+        let is_so = are_asked(rt.alloc(), *answer, questions)?;
+        assert!(rt; is_so, "the case at {index}");
+    }
     Ok(())
 }

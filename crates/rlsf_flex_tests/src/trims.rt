@@ -8,6 +8,7 @@ use rlsf_flex::{FlexSource, FlexTlsf, GlobalAllocAsFlexSource};
 use rlsf_listed_source::{Capabilities, ListedSource, Question as Asked, SourceAnswer};
 use std::alloc::Global;
 use std::cell::Cell;
+use std::process::Abort;
 use std::test::Fail;
 
 /// All addresses of the memory.
@@ -141,13 +142,12 @@ static CASES: [Case; 8] = [
     },
 ];
 
+/// The addresses of two payloads, and how many ranges went with each of three trims.
+type Shrunk = ([usize; 2], [usize; 3]);
+
 /// Allocates two payloads of so many bytes and trims, gives the newer one back and trims, gives the older one back and trims. Answers
 /// the addresses, and how many ranges went each time.
-fn shrinks<S: FlexSource>(
-    flex: &mut Shaped<S>,
-    first: u32,
-    second: u32,
-) -> Option<([usize; 2], [usize; 3])> {
+fn shrinks<S: FlexSource>(flex: &mut Shaped<S>, first: u32, second: u32) -> Option<Shrunk> {
     let older = flex.allocate(bytes(first))?;
     let newer = flex.allocate(bytes(second))?;
     let held = flex.trim();
@@ -156,6 +156,11 @@ fn shrinks<S: FlexSource>(
     flex.deallocate(older, 1);
     let none_left = flex.trim();
     Some(([older.get(), newer.get()], [held, one_left, none_left]))
+}
+
+/// Passes where so many ranges went.
+fn went(rt: &impl Abort, shrunk: Option<Shrunk>, expected: Shrunk) {
+    assert_eq!(rt; shrunk, Some(expected));
 }
 
 #[test]
@@ -175,9 +180,9 @@ fn two_ranges_go_back_one_after_the_other(rt: HostRuntime) -> Result<(), Fail> {
     let memory = Memory::new(rt.alloc(), 4096, 4096)?;
     let source = GlobalAllocAsFlexSource::<_, 1024>(CursorAlloc::new(ALL));
     let mut flex = FlexTlsf::<_, u8, u8, 8, 8>::new(memory, source);
-    let went = shrinks(&mut flex, 1, 2000);
+    let shrunk = shrinks(&mut flex, 1, 2000);
     let (_, source) = flex.into_parts();
-    assert_eq!(rt; went, Some(([4112, 5136], [0, 1, 1])));
+    went(&rt, shrunk, ([4112, 5136], [0, 1, 1]));
     is_right(&rt, (None, source.0.asked()), &TWO_RANGES_WENT);
     Ok(())
 }
@@ -206,9 +211,9 @@ static A_GROWN_RANGE_WENT: [Question; 3] = [
 fn a_range_that_grew_goes_back_once(rt: HostRuntime) -> Result<(), Fail> {
     let seen = Cell::new(Questions::new());
     let mut flex = small(rt.alloc(), ODD, GROWING, &seen)?;
-    let went = shrinks(&mut flex, 1, 1);
+    let shrunk = shrinks(&mut flex, 1, 1);
     let (_, source) = flex.into_parts();
-    assert_eq!(rt; went, Some(([4144, 4208], [0, 0, 1])));
+    went(&rt, shrunk, ([4144, 4208], [0, 0, 1]));
     is_right(&rt, (None, source.asked()), &A_GROWN_RANGE_WENT);
     Ok(())
 }
@@ -275,7 +280,7 @@ fn the_range_before_grows_after_a_trim(rt: HostRuntime) -> Result<(), Fail> {
     let (memory, source) = flex.into_parts();
     // The footer moved there from 4176.
     let moved = footer(&memory, 4240);
-    assert_eq!(rt; (wrong, moved), (None, Some((0, 0))));
-    assert_eq!(rt; source.asked(), ASKED.as_slice());
+    let found = (wrong, moved, source.asked());
+    assert_eq!(rt; found, (None, Some((0, 0)), ASKED.as_slice()));
     Ok(())
 }
