@@ -4,6 +4,7 @@ use crate::locked::{first_wrong, over};
 use crate::steps::{Step, two_pages};
 use rlsf_base::memory::Memory;
 use std::alloc::Global;
+use std::process::Abort;
 use std::test::Fail;
 
 /// The word at an address, if the memory has it.
@@ -40,23 +41,24 @@ static GROWN: [(usize, u64); 10] = [
     (262120, 135584),
 ];
 
-/// What differs behind calls on an allocator over so many bytes: the first answer, and the address of the first word.
-fn differences(
+/// Passes where calls on an allocator over so many bytes answer what stands beside them, and leave these words.
+fn leave(
+    rt: &impl Abort,
     alloc: Global,
     len: usize,
     steps: &[(Step, usize)],
     words: &[(usize, u64)],
-) -> Result<(Option<(usize, usize)>, Option<usize>), Fail> {
+) -> Result<(), Fail> {
     let mut locked = over::<()>(alloc, len)?;
     let step = first_wrong(&mut locked, steps);
-    Ok((step, first_wrong_word(locked.memory_ref(), words)))
+    let word = first_wrong_word(locked.memory_ref(), words);
+    assert_eq!(rt; (step, word), (None, None));
+    Ok(())
 }
 
 #[test]
 fn a_chunk_that_grew(rt: HostRuntime) -> Result<(), Fail> {
-    let found = differences(rt.alloc(), 196608, &two_pages(65584), &GROWN)?;
-    assert_eq!(rt; found, (None, None));
-    Ok(())
+    leave(&rt, rt.alloc(), 196608, &two_pages(65584), &GROWN)
 }
 
 /// A free block of 64 bytes, a used one of 96 with the word before its payload, a free one of 65344 and the chunk's end.
@@ -82,7 +84,5 @@ fn a_payload_that_moved(rt: HostRuntime) -> Result<(), Fail> {
         (Step::Allocate(40, 8), 65552),
         (Step::Reallocate(65552, 10, 64), 65664),
     ];
-    let found = differences(rt.alloc(), 131072, &steps, &MOVED)?;
-    assert_eq!(rt; found, (None, None));
-    Ok(())
+    leave(&rt, rt.alloc(), 131072, &steps, &MOVED)
 }

@@ -1,8 +1,8 @@
 //! Calls of the value under the lock, with what they answer.
 
 use crate::steps::{
-    Call, NO_ROOM, NO_STEP, Step, UNREAD, call_of, counted, done, placed, rising, tables, told,
-    two_pages,
+    Call, NO_ROOM, NO_STEP, Step, UNREAD, call_of, counted, done, none_is_wrong, placed, rising,
+    tables, told, two_pages,
 };
 use rlsf_base::memory::{Addr, Memory};
 use rlsf_global::{GlobalTlsfOptions, Locked, SmallGlobalTlsfOptions};
@@ -84,14 +84,15 @@ fn pages_are_taken_as_they_are_needed(rt: HostRuntime) -> Result<(), Fail> {
         first_wrong_over::<()>(alloc, 131072, &two_pages(NO_ROOM))?,
         first_wrong_over::<SmallGlobalTlsfOptions>(alloc, 196608, &two_pages(131088))?,
     ];
-    assert_eq!(rt; found, [None; 3]);
+    none_is_wrong(&rt, &found);
     Ok(())
 }
 
 #[test]
 fn addresses_layouts_and_offsets_are_tested(rt: HostRuntime) -> Result<(), Fail> {
     for table in tables() {
-        assert_eq!(rt; first_wrong_over::<()>(rt.alloc(), 131072, table)?, None);
+        let wrong = first_wrong_over::<()>(rt.alloc(), 131072, table)?;
+        none_is_wrong(&rt, &[wrong]);
     }
     Ok(())
 }

@@ -9,6 +9,7 @@ use self::tables::{PLACED_1, PLACED_2, PLACED_3, PLACED_4};
 use rlsf_base::memory::{Addr, Layout, Memory};
 use rlsf_global::{CAlloc, GlobalTlsf, GlobalTlsfOptions, SmallGlobalTlsfOptions};
 use std::alloc::Global;
+use std::process::Abort;
 use std::sync::Wait;
 
 /// Where the memory starts.
@@ -220,25 +221,23 @@ fn goes_so<R: Wait, Options: GlobalTlsfOptions>(
     }
 }
 
-/// Which of the lists go as they have to.
-fn all<R: Wait, Options: GlobalTlsfOptions>(rt: &R, alloc: Global) -> [bool; 4] {
-    [
+/// Passes where all lists go as they have to.
+fn all_go_so<R: Abort + Wait, Options: GlobalTlsfOptions>(rt: &R, alloc: Global) {
+    let found = [
         goes_so::<_, Options>(rt, alloc, &LIST_1, &PLACED_1),
         goes_so::<_, Options>(rt, alloc, &LIST_2, &PLACED_2),
         goes_so::<_, Options>(rt, alloc, &LIST_3, &PLACED_3),
         goes_so::<_, Options>(rt, alloc, &LIST_4, &PLACED_4),
-    ]
+    ];
+    assert_eq!(rt; found, [true; 4]);
 }
 
 #[test]
 fn coalescing(rt: HostRuntime) {
-    assert_eq!(rt; all::<_, ()>(&rt, rt.alloc()), [true; 4]);
+    all_go_so::<_, ()>(&rt, rt.alloc());
 }
 
 #[test]
 fn small(rt: HostRuntime) {
-    assert_eq!(rt;
-        all::<_, SmallGlobalTlsfOptions>(&rt, rt.alloc()),
-        [true; 4]
-    );
+    all_go_so::<_, SmallGlobalTlsfOptions>(&rt, rt.alloc());
 }

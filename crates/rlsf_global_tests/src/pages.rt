@@ -3,7 +3,7 @@
 use rlsf_base::memory::Range;
 use rlsf_flex::FlexSource;
 use rlsf_global::Source;
-use std::test::Fail;
+use std::process::Abort;
 
 /// The start and the length of a range, or two zeros for none.
 fn numbers(answer: Option<Range>) -> [usize; 2] {
@@ -13,21 +13,32 @@ fn numbers(answer: Option<Range>) -> [usize; 2] {
     }
 }
 
+/// Passes where the ranges are the expected ones.
+fn are(rt: &impl Abort, ranges: &[[usize; 2]], expected: &[[usize; 2]]) {
+    assert_eq!(rt; ranges, expected);
+}
+
 #[test]
-fn whole_pages_from_the_rounded_start(rt: HostRuntime) -> Result<(), Fail> {
+fn whole_pages_from_the_rounded_start(rt: HostRuntime) {
     let mut source = Source::<()>::new(Range {
         start: 65537,
         len: 196608,
     });
-    assert_eq!(rt; numbers(source.alloc(64)), [65568, 65536]);
-    assert_eq!(rt; numbers(source.alloc(65568)), [0, 0]);
-    assert_eq!(rt; numbers(source.alloc(65536)), [131104, 65536]);
-    assert_eq!(rt; numbers(source.alloc(32)), [0, 0]);
-    Ok(())
+    let ranges = [
+        numbers(source.alloc(64)),
+        numbers(source.alloc(65568)),
+        numbers(source.alloc(65536)),
+        numbers(source.alloc(32)),
+    ];
+    are(
+        &rt,
+        &ranges,
+        &[[65568, 65536], [0, 0], [131104, 65536], [0, 0]],
+    );
 }
 
 #[test]
-fn no_page_in_the_space(rt: HostRuntime) -> Result<(), Fail> {
+fn no_page_in_the_space(rt: HostRuntime) {
     let mut short = Source::<()>::new(Range {
         start: 65536,
         len: 65535,
@@ -36,7 +47,6 @@ fn no_page_in_the_space(rt: HostRuntime) -> Result<(), Fail> {
         start: usize::MAX - 20,
         len: 10,
     });
-    assert_eq!(rt; numbers(short.alloc(32)), [0, 0]);
-    assert_eq!(rt; numbers(last.alloc(32)), [0, 0]);
-    Ok(())
+    let ranges = [numbers(short.alloc(32)), numbers(last.alloc(32))];
+    are(&rt, &ranges, &[[0, 0], [0, 0]]);
 }

@@ -6,6 +6,7 @@ ghost use Rattle.rlsf_base.specs.Layout.{IsLayout};
 use rlsf_base::memory::{Addr, Layout};
 use rlsf_global::GlobalError;
 use std::num::NonZeroUsize;
+use std::process::Abort;
 
 /// A call. Addresses, sizes, alignments and new sizes are in the order of its arguments.
 #[derive(Clone, Copy)]
@@ -155,6 +156,13 @@ const UNKNOWN_ADDRESS: usize = GlobalError::UnknownAddress as usize;
 pub const WRONG_LAYOUT: usize = GlobalError::WrongLayout as usize;
 
 const OUT_OF_RANGE: usize = GlobalError::OutOfRange as usize;
+
+/// Passes where no step was answered otherwise in any of the runs: it and its answer stand where one was.
+pub fn none_is_wrong(rt: &impl Abort, found: &[Option<(usize, usize)>]) {
+    for (index, wrong) in found.iter().enumerate() {
+        assert_eq!(rt; *wrong, None, "in the run at {index}");
+    }
+}
 
 #[test]
 fn errors_have_their_numbers(rt: HostRuntime) {

@@ -134,9 +134,16 @@ fn after_steps(
     Ok((journaled, passes))
 }
 
-/// What closing leaves, where the passes agree with the journal.
-pub fn agreed(rt: &impl Abort, journaled: Journaled, passes: Vec<Pass>) -> Closed {
-    journaled.close(passes).ok().expect(rt, "the passes agree")
+/// What closing leaves. Passes where the passes agree with the journal, and there are so many entries and so many live payloads.
+pub fn agreed(
+    rt: &impl Abort,
+    journaled: Journaled,
+    passes: Vec<Pass>,
+    counts: (usize, usize),
+) -> Closed {
+    let closed = journaled.close(passes).ok().expect(rt, "the passes agree");
+    assert_eq!(rt; (closed.journal.len(), closed.live.len()), counts);
+    closed
 }
 
 /// Passes where what must comes of a case.
@@ -146,8 +153,7 @@ fn is_right(rt: &(impl Wait + Abort), alloc: Global, case: Case) -> Result<(), F
     if case.last_first {
         passes.reverse();
     }
-    let closed = agreed(rt, journaled, passes);
-    assert_eq!(rt; (closed.journal.len(), closed.live.len()), case.counts);
+    let closed = agreed(rt, journaled, passes, case.counts);
     assert_eq!(rt; closed.to_string(alloc)?.as_str(), case.text);
     Ok(())
 }
