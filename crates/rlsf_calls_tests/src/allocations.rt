@@ -67,6 +67,18 @@ fn greatest_sizes_are_refused(rt: HostRuntime) {
     inserts::<u64, u8, 59, 8>(&rt, pool, pool, &steps);
 }
 
+/// Addresses in a pool of 96 bytes with a payload, and the words there.
+static WORDS: [(usize, u64); 8] = [
+    (4096, 33),
+    (4104, 0),
+    (4128, 32),
+    (4136, 4096),
+    (4144, 0),
+    (4152, 0),
+    (4160, 35),
+    (4168, 4128),
+];
+
 #[test]
 fn words_of_a_pool(rt: HostRuntime) {
     let layout = layout_of(&rt, 0, 1);
@@ -78,18 +90,8 @@ fn words_of_a_pool(rt: HostRuntime) {
     let addr = number(tlsf.allocate(layout));
     are(&rt, &[taken, addr], &[96, 4112]);
     let memory = tlsf.into_memory();
-    let words = [
-        (4096, 33),
-        (4104, 0),
-        (4128, 32),
-        (4136, 4096),
-        (4144, 0),
-        (4152, 0),
-        (4160, 35),
-        (4168, 4128),
-    ];
-    for (addr, word) in words {
-        assert_eq!(rt; word_at(&memory, addr), Some(word), "at {addr}");
+    for (addr, word) in &WORDS {
+        assert_eq!(rt; word_at(&memory, *addr), Some(*word), "at {addr}");
     }
 }
 

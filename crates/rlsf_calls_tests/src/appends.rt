@@ -6,6 +6,7 @@ ghost use Rattle.rlsf_machine.specs.State.{empty};
 use super::pools::{Long, Small, Step, are, layout_of, number, takes_steps, zeros};
 use rlsf::int::BitPattern;
 use rlsf::{Layout, Range, Tlsf};
+use std::process::Abort;
 
 /// One chunk of the first `pool` of 4096 bytes from the address 4096 on, a payload of `size` bytes that is asked for, and a
 /// range of `few` and one of `many` bytes that are appended behind the chunk. Then the payload is asked for again.
@@ -54,6 +55,21 @@ fn appended<FLBitmap: BitPattern, const FLLEN: usize>(
     Some([before, less, more, after])
 }
 
+/// Passes where a case goes as it has to in an allocator that has no pool yet.
+fn goes_so<FLBitmap: BitPattern, const FLLEN: usize>(
+    rt: &impl Abort,
+    tlsf: &mut Tlsf<FLBitmap, u8, FLLEN, 8>,
+    case: Case,
+)
+    requires state { tlsf.old.state ≡ empty }
+    requires rows { 8 ≤ FLLEN }
+    requires place { (tlsf.old.memory.start ≡ 4096) × (length tlsf.old.memory.bytes ≡ 4096) }
+{
+    let answers = appended(tlsf, case, layout_of(rt, case.size, 1));
+    are(rt, &answers.unwrap_or([1; 4]), &case.answers);
+    takes_steps(rt, tlsf, case.then);
+}
+
 const JOINED: Case = Case {
     pool: 256,
     size: 384,
@@ -99,14 +115,12 @@ const ROUNDED_DOWN: Case = Case {
     ],
 };
 
+static GROWN: [Case; 3] = [JOINED, BEHIND_A_USED_BLOCK, ROUNDED_DOWN];
+
 #[test]
 fn chunks_of_any_length_grow(rt: HostRuntime) {
-    for case in [JOINED, BEHIND_A_USED_BLOCK, ROUNDED_DOWN] {
-        let layout = layout_of(&rt, case.size, 1);
-        let mut tlsf = Long::new(zeros(&rt, 4096, 4096));
-        let answers = appended(&mut tlsf, case, layout);
-        are(&rt, &answers.unwrap_or([1; 4]), &case.answers);
-        takes_steps(&rt, &mut tlsf, case.then);
+    for case in &GROWN {
+        goes_so(&rt, &mut Long::new(zeros(&rt, 4096, 4096)), *case);
     }
 }
 
@@ -153,13 +167,11 @@ const CHUNK_ROUNDED_DOWN: Case = Case {
     ],
 };
 
+static FOLLOWED: [Case; 3] = [NEVER_JOINED, TOO_SHORT_FOR_A_CHUNK, CHUNK_ROUNDED_DOWN];
+
 #[test]
 fn chunks_of_a_greatest_length_follow(rt: HostRuntime) {
-    for case in [NEVER_JOINED, TOO_SHORT_FOR_A_CHUNK, CHUNK_ROUNDED_DOWN] {
-        let layout = layout_of(&rt, case.size, 1);
-        let mut tlsf = Small::new(zeros(&rt, 4096, 4096));
-        let answers = appended(&mut tlsf, case, layout);
-        are(&rt, &answers.unwrap_or([1; 4]), &case.answers);
-        takes_steps(&rt, &mut tlsf, case.then);
+    for case in &FOLLOWED {
+        goes_so(&rt, &mut Small::new(zeros(&rt, 4096, 4096)), *case);
     }
 }

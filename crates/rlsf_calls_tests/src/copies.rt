@@ -67,15 +67,15 @@ fn with_spare_word(rt: &(impl Abort + AllocGlobal), addr: usize, word: u64) -> S
 }
 
 /// How many bytes are copied over `abcdefghijklmnop`, and what stands there then.
-const COPIES: [(usize, &[u8]); 2] = [(10, b"ABCDEFGHIJklmnop"), (0, b"abcdefghijklmnop")];
+static COPIES: [(usize, &[u8]); 2] = [(10, b"ABCDEFGHIJklmnop"), (0, b"abcdefghijklmnop")];
 
 #[test]
 fn front_is_copied(rt: HostRuntime) {
     let layout = layout_of(&rt, 16, 1);
     let bytes: (&[u8], &[u8]) = (b"ABCDEFGHIJKLMNOP", b"abcdefghijklmnop");
-    for (len, expected) in COPIES {
+    for (len, expected) in &COPIES {
         let mut tlsf = with_pool(&rt, 256);
-        let reads = copied(&mut tlsf, layout, bytes, len, expected);
+        let reads = copied(&mut tlsf, layout, bytes, *len, expected);
         are(&rt, &reads.unwrap_or([0; 2]), &[4112, 4144]);
     }
     let mut tlsf = with_pool(&rt, 256);

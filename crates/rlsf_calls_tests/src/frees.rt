@@ -71,12 +71,14 @@ fn two_freed<Bits: BitPattern, const FLLEN: usize, const SLLEN: usize>(
     Some([first.get(), second.get(), third])
 }
 
+static ORDERS: [Order; 2] = [Order::FirstFirst, Order::FirstLast];
+
 #[test]
 fn two_are_joined_in_either_order(rt: HostRuntime) {
     let layout = layout_of(&rt, 0, 1);
-    for order in [Order::FirstFirst, Order::FirstLast] {
+    for order in &ORDERS {
         let mut tlsf = with_pool(&rt, 96);
-        let addresses = two_freed(&mut tlsf, layout, layout, order);
+        let addresses = two_freed(&mut tlsf, layout, layout, *order);
         are(&rt, &addresses.unwrap_or([0; 3]), &[4112, 4144, 0]);
         takes_steps(&rt, &mut tlsf, &[Step::Allocate(48, 1, 4112)]);
     }

@@ -37,6 +37,11 @@ pub(crate) fn are(rt: &impl Abort, answers: &[usize], expected: &[usize]) {
     assert_eq!(rt; answers, expected);
 }
 
+/// Passes where no step was answered otherwise than it has to be.
+pub(crate) fn none_is_wrong(rt: &impl Abort, wrong: Option<usize>) {
+    assert_eq!(rt; wrong, None);
+}
+
 /// A step of a test, and what it answers.
 #[derive(Clone, Copy)]
 pub(crate) enum Step {
@@ -155,7 +160,7 @@ pub(crate) fn takes_steps<
     const FLLEN: usize,
     const SLLEN: usize,
 >(rt: &impl Abort, tlsf: &mut Tlsf<FLBitmap, SLBitmap, FLLEN, SLLEN>, steps: &[Step]) {
-    assert_eq!(rt; first_wrong(tlsf, steps), None);
+    none_is_wrong(rt, first_wrong(tlsf, steps));
 }
 
 /// Inserts a pool into a memory and does the steps; passes where each answers what is expected. Answers the allocator, and the

@@ -172,7 +172,7 @@ const ALONE: &[Row] = &[(4096, 16352, false)];
 const BEHIND: &[Row] = &[(4096, 32, true), (4128, 16320, false)];
 
 // Sizes and alignments.
-const LAYOUTS: [(usize, usize); 10] = [
+static LAYOUTS: [(usize, usize); 10] = [
     // below 32
     (0, 1),
     (1, 1),
@@ -189,8 +189,8 @@ const LAYOUTS: [(usize, usize); 10] = [
 
 #[test]
 fn alignments_are_found(rt: HostRuntime) {
-    for (size, align) in LAYOUTS {
-        let layout = layout_of(&rt, size, align);
+    for (size, align) in &LAYOUTS {
+        let layout = layout_of(&rt, *size, *align);
         let least = layout_of(&rt, 1, 1);
         // The first payload of a new allocator, before which no word was written.
         frees(&rt, &mut growing(&rt), layout, ALONE);
@@ -209,11 +209,17 @@ fn usable(tlsf: &mut Small, layout: Layout) -> [usize; 2] {
     }
 }
 
+/// The length of a pool, a size and an alignment, and where the payload is and how many bytes it has.
+static USABLE: [(usize, usize, usize, [usize; 2]); 2] = [
+    (96, 17, 1, [4112, 48]),
+    (8192, 1, 4096, [8192, 32]),
+];
+
 #[test]
 fn usable_sizes(rt: HostRuntime) {
-    for (len, size, align, expected) in [(96, 17, 1, [4112, 48]), (8192, 1, 4096, [8192, 32])] {
-        let layout = layout_of(&rt, size, align);
-        let mut tlsf = with_pool(&rt, len);
-        are(&rt, &usable(&mut tlsf, layout), &expected);
+    for (len, size, align, expected) in &USABLE {
+        let layout = layout_of(&rt, *size, *align);
+        let mut tlsf = with_pool(&rt, *len);
+        are(&rt, &usable(&mut tlsf, layout), expected);
     }
 }

@@ -156,9 +156,11 @@ const REFUSALS: &[Step] = &[
     Step::Deallocate(4112, Err(CheckedError::UnknownAddress)),
 ];
 
+static SCRIPTS: [&[Step]; 3] = [SIZES, RANGES, REFUSALS];
+
 #[test]
 fn scripts(rt: HostRuntime) {
-    for script in [SIZES, RANGES, REFUSALS] {
+    for script in &SCRIPTS {
         answers_all(&mut small(&rt, 1024), &rt, script);
     }
 }
@@ -206,8 +208,8 @@ static STRANGE: [usize; 14] = [
 fn strange_addresses_are_refused(rt: HostRuntime) {
     let mut pool = small(&rt, 1024);
     answers_all(&mut pool, &rt, ONE_PAYLOAD);
-    for addr in STRANGE {
-        is_strange(&mut pool, &rt, addr);
+    for addr in &STRANGE {
+        is_strange(&mut pool, &rt, *addr);
     }
     answers_all(&mut pool, &rt, &[Step::Usable(4112, Ok(112))]);
 }
@@ -220,12 +222,15 @@ fn classes_are_tested(rt: HostRuntime) {
     let no_power_of_two = CheckedTlsf::<u8, u8, 8, 3>::new(alloc, memory(&rt, 64)).err();
     let too_many_classes = CheckedTlsf::<u8, u8, 8, 16>::new(alloc, memory(&rt, 64)).err();
     let all = CheckedTlsf::<u8, u8, 8, 8>::new(alloc, memory(&rt, 64)).err();
+    let errors = [
+        too_many_rows,
+        no_rows,
+        no_power_of_two,
+        too_many_classes,
+        all,
+    ];
     let invalid = Some(CheckedError::InvalidClasses);
-    assert!(rt; too_many_rows == invalid);
-    assert!(rt; no_rows == invalid);
-    assert!(rt; no_power_of_two == invalid);
-    assert!(rt; too_many_classes == invalid);
-    assert!(rt; all.is_none());
+    assert_eq!(rt; errors, [invalid, invalid, invalid, invalid, None]);
 }
 
 #[test]
@@ -245,9 +250,6 @@ fn the_last_chunk_grows(rt: HostRuntime) {
         len: 70,
     });
     let size = pool.blocks().next().map(|block| block.size());
-    assert_eq!(rt;
-        [first, short, second],
-        [Ok(128), Err(CheckedError::TooShort), Ok(64)]
-    );
-    assert_eq!(rt; size, Some(160));
+    let taken = [Ok(128), Err(CheckedError::TooShort), Ok(64)];
+    assert_eq!(rt; ([first, short, second], size), (taken, Some(160)));
 }

@@ -20,6 +20,11 @@ struct Entry {
     byte: u8,
 }
 
+/// Passes where the answer is true, and tells else what is wrong.
+fn passes(rt: &impl Abort, answer: bool, wrong: &str) {
+    assert!(rt; answer, "{wrong}");
+}
+
 /// The next word of Knuth's linear generator for 64 bits, of which the high bytes serve best.
 fn next(word: u64) -> u64 {
     word.wrapping_mul(6364136223846793005)
@@ -40,7 +45,7 @@ fn holds(pool: &Small, entry: Entry) -> bool {
 fn fill(pool: &mut Small, rt: &impl Abort, entry: Entry) {
     for offset in 0..entry.size {
         let written = pool.write(entry.addr, offset, &[entry.byte]);
-        assert!(rt; written.is_ok(), "a byte of a payload is refused");
+        passes(rt, written.is_ok(), "a byte of a payload is refused");
     }
 }
 
@@ -49,7 +54,11 @@ fn found(rt: &impl Abort, answer: Result<Addr, CheckedError>) -> Option<Addr> {
     match answer {
         Ok(addr) => Some(addr),
         Err(error) => {
-            assert!(rt; error == CheckedError::NoRoom);
+            passes(
+                rt,
+                error == CheckedError::NoRoom,
+                "it isn't for want of room",
+            );
             None
         }
     }
@@ -74,10 +83,8 @@ fn resized(pool: &mut Small, rt: &impl Abort, entry: Entry, size: usize, byte: u
         size: size.min(entry.size),
         byte: entry.byte,
     };
-    assert!(rt;
-        holds(pool, kept),
-        "the bytes that both sizes have are not kept"
-    );
+    let is_kept = holds(pool, kept);
+    passes(rt, is_kept, "the bytes that both sizes have are not kept");
     let entry = Entry { addr, size, byte };
     fill(pool, rt, entry);
     entry
@@ -103,16 +110,11 @@ fn asked(pool: &mut Small, rt: &impl Abort, table: &[Option<Entry>], word: u64) 
         return;
     };
     let is_live = is_listed(table, addr);
-    assert!(rt;
-        pool.usable_size(addr).is_ok() == is_live,
-        "the table and the marks differ"
-    );
+    let is_marked = pool.usable_size(addr).is_ok();
+    passes(rt, is_marked == is_live, "the table and the marks differ");
     if !is_live {
-        let freed = pool.deallocate(addr);
-        assert!(rt;
-            freed == Err(CheckedError::UnknownAddress),
-            "a strange address was freed"
-        );
+        let is_refused = pool.deallocate(addr) == Err(CheckedError::UnknownAddress);
+        passes(rt, is_refused, "a strange address was freed");
     }
 }
 
@@ -123,12 +125,12 @@ fn after(pool: &mut Small, rt: &impl Abort, entry: Option<Entry>, word: u64) -> 
     let Some(entry) = entry else {
         return placed(pool, rt, size, 1 << (shift % 8), byte);
     };
-    assert!(rt; holds(pool, entry), "a payload lost its bytes");
+    passes(rt, holds(pool, entry), "a payload lost its bytes");
     if kind % 2 == 0 {
         return Some(resized(pool, rt, entry, size, byte));
     }
     let freed = pool.deallocate(entry.addr);
-    assert!(rt; freed.is_ok(), "a payload isn't freed");
+    passes(rt, freed.is_ok(), "a payload isn't freed");
     None
 }
 
@@ -139,7 +141,11 @@ fn calls_agree_with_a_table(rt: HostRuntime) {
         start: START,
         len: LEN,
     };
-    assert!(rt; pool.insert(all) == Ok(LEN));
+    passes(
+        &rt,
+        pool.insert(all) == Ok(LEN),
+        "the memory isn't handed in",
+    );
     let mut table = [None; PLACES];
     let mut word = 35;
     for _ in 0..2000 {

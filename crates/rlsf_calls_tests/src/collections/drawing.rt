@@ -77,9 +77,9 @@ static PICTURES: [(usize, &str); 3] = [
 #[test]
 fn two_used_blocks_and_a_free_one(rt: HostRuntime) -> Result<(), Fail> {
     let tlsf = two_payloads(rt.alloc())?;
-    for (width, wanted) in PICTURES {
-        let text = drawn(rt.alloc(), &tlsf, width)?;
-        assert_eq!(rt; text.as_str(), wanted);
+    for (width, wanted) in &PICTURES {
+        let text = drawn(rt.alloc(), &tlsf, *width)?;
+        assert_eq!(rt; text.as_str(), *wanted);
     }
     Ok(())
 }

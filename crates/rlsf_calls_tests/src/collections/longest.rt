@@ -4,6 +4,7 @@
 //! with S bytes wants `32 + (n - 1) * S + n * S` and an eighth of `n * S`, rounded up to a multiple of 32.
 
 use super::queues::{Pair, Step, first_wrong, wrong_random_step};
+use crate::pools::none_is_wrong;
 use rlsf::Memory;
 use rlsf_collections::{LongestError, Messages, PushError};
 use std::test::Fail;
@@ -38,10 +39,10 @@ static MEMORIES: [(usize, usize, usize, usize, bool); 17] = [
 
 #[test]
 fn memories(rt: HostRuntime) -> Result<(), Fail> {
-    for (start, len, capacity, longest, is_made) in MEMORIES {
-        let memory = Memory::new(rt.alloc(), start, len)?;
-        let error = Messages::with_longest(rt.alloc(), memory, capacity, longest).err();
-        let expected = if is_made {
+    for (start, len, capacity, longest, is_made) in &MEMORIES {
+        let memory = Memory::new(rt.alloc(), *start, *len)?;
+        let error = Messages::with_longest(rt.alloc(), memory, *capacity, *longest).err();
+        let expected = if *is_made {
             None
         } else {
             Some(LongestError::MemoryTooShort)
@@ -92,10 +93,10 @@ static SCRIPTS: [(usize, usize, usize, &[Step]); 2] = [
 
 #[test]
 fn queues(rt: HostRuntime) -> Result<(), Fail> {
-    for (len, capacity, longest, steps) in SCRIPTS {
-        let memory = Memory::new(rt.alloc(), 4096, len)?;
-        let mut queue = Messages::with_longest(rt.alloc(), memory, capacity, longest)?;
-        assert_eq!(rt; first_wrong(&mut queue, steps), None);
+    for (len, capacity, longest, steps) in &SCRIPTS {
+        let memory = Memory::new(rt.alloc(), 4096, *len)?;
+        let mut queue = Messages::with_longest(rt.alloc(), memory, *capacity, *longest)?;
+        none_is_wrong(&rt, first_wrong(&mut queue, steps));
     }
     Ok(())
 }
@@ -106,9 +107,8 @@ fn many_steps_that_find_room(rt: HostRuntime) -> Result<(), Fail> {
     let memory = Memory::new(rt.alloc(), 4096, 52832)?;
     let queue = Messages::with_longest(rt.alloc(), memory, 24, 1023)?;
     let mut pair = Pair::new(rt.alloc(), queue);
-    assert_eq!(rt; wrong_random_step(rt.alloc(), &mut pair, 5_000)?, None);
+    none_is_wrong(&rt, wrong_random_step(rt.alloc(), &mut pair, 5_000)?);
     let fewest = pair.full.min(pair.too_short).min(pair.empty);
-    assert!(rt; fewest > 0);
-    assert_eq!(rt; pair.no_room, 0);
+    assert_eq!(rt; (fewest > 0, pair.no_room), (true, 0));
     Ok(())
 }

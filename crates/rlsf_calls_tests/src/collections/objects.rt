@@ -3,6 +3,7 @@
 //! A memory from the address 4096 on loses 32 bytes to the word behind its last block, and an object of 16 bytes takes 32 of the
 //! others.
 
+use crate::pools::none_is_wrong;
 use rlsf::{Layout, Memory};
 use rlsf_collections::{Objects, SetError, TakeError, UnknownHandle};
 use std::alloc::Global;
@@ -144,8 +145,8 @@ static SCRIPTS: [(usize, &[Step]); 5] = [
 
 #[test]
 fn objects(rt: HostRuntime) -> Result<(), Fail> {
-    for (len, steps) in SCRIPTS {
-        assert_eq!(rt; first_wrong(rt.alloc(), len, steps)?, None);
+    for (len, steps) in &SCRIPTS {
+        none_is_wrong(&rt, first_wrong(rt.alloc(), *len, steps)?);
     }
     Ok(())
 }
@@ -185,12 +186,12 @@ fn taken(pool: &mut Objects) -> usize {
 
 #[test]
 fn capacities(rt: HostRuntime) -> Result<(), Fail> {
-    for (start, len, size, align, capacity) in CAPACITIES {
-        let memory = Memory::new(rt.alloc(), start, len)?;
-        let mut pool = Objects::new(rt.alloc(), memory, Layout::from_size_align(size, align)?);
+    for (start, len, size, align, capacity) in &CAPACITIES {
+        let memory = Memory::new(rt.alloc(), *start, *len)?;
+        let mut pool = Objects::new(rt.alloc(), memory, Layout::from_size_align(*size, *align)?);
         assert_eq!(rt;
             (pool.capacity(), taken(&mut pool)),
-            (capacity, capacity),
+            (*capacity, *capacity),
             "{size} bytes at multiples of {align} in {len}"
         );
     }

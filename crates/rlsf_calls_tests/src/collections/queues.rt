@@ -1,5 +1,6 @@
 //! Queues of messages: by values that are typed out, and in many steps beside a `VecDeque` of the standard library.
 
+use crate::pools::none_is_wrong;
 use rlsf::Memory;
 use rlsf_collections::{Messages, PopError, PushError};
 use std::alloc::{AllocError, Global};
@@ -133,9 +134,9 @@ static SCRIPTS: [(usize, usize, &[Step]); 5] = [
 
 #[test]
 fn queues(rt: HostRuntime) -> Result<(), Fail> {
-    for (len, capacity, steps) in SCRIPTS {
-        let mut queue = empty(rt.alloc(), len, capacity)?;
-        assert_eq!(rt; first_wrong(&mut queue, steps), None);
+    for (len, capacity, steps) in &SCRIPTS {
+        let mut queue = empty(rt.alloc(), *len, *capacity)?;
+        none_is_wrong(&rt, first_wrong(&mut queue, steps));
     }
     Ok(())
 }
@@ -260,8 +261,8 @@ fn random_step(
 pub(crate) fn wrong_random_step(
     alloc: Global,
     pair: &mut Pair,
-    steps: u32,
-) -> Result<Option<u32>, Fail> {
+    steps: usize,
+) -> Result<Option<usize>, Fail> {
     let mut into = [0; 1024];
     let mut word = 0x9e3779b97f4a7c15;
     for index in 0..steps {
@@ -276,7 +277,7 @@ pub(crate) fn wrong_random_step(
 #[test]
 fn many_steps_beside_a_deque(rt: HostRuntime) -> Result<(), Fail> {
     let mut pair = Pair::new(rt.alloc(), empty(rt.alloc(), 8192, 24)?);
-    assert_eq!(rt; wrong_random_step(rt.alloc(), &mut pair, 10_000)?, None);
+    none_is_wrong(&rt, wrong_random_step(rt.alloc(), &mut pair, 10_000)?);
     let fewest = pair
         .full
         .min(pair.no_room)

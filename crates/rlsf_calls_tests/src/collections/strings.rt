@@ -4,6 +4,7 @@
 //! the others.
 
 use super::queues::next;
+use crate::pools::none_is_wrong;
 use rlsf::Memory;
 use rlsf_collections::{StringError, Strings, UnknownHandle};
 use std::alloc::Global;
@@ -127,8 +128,8 @@ static SCRIPTS: [(usize, &[Step]); 5] = [
 
 #[test]
 fn strings(rt: HostRuntime) -> Result<(), Fail> {
-    for (len, steps) in SCRIPTS {
-        assert_eq!(rt; first_wrong(rt.alloc(), len, steps)?, None);
+    for (len, steps) in &SCRIPTS {
+        none_is_wrong(&rt, first_wrong(rt.alloc(), *len, steps)?);
     }
     Ok(())
 }
