@@ -72,8 +72,8 @@ static NUMBERS: [(TraceError, u8); 7] = [
 
 #[test]
 fn numbers_of_refusals(rt: HostRuntime) {
-    for (error, number) in NUMBERS {
-        assert_eq!(rt; error.number(), number);
+    for (error, number) in &NUMBERS {
+        assert_eq!(rt; error.number(), *number);
     }
 }
 

@@ -1,5 +1,6 @@
 use rlsf_base::memory::{Layout, Range};
 use rlsf_text::{Configuration, Fault, Op, ReplayFault, Trace};
+use std::alloc::AllocError;
 use std::process::Abort;
 
 /// A trace's configuration, the start of its memory and its length.
@@ -180,16 +181,18 @@ fn words_that_are_no_ops(rt: HostRuntime) {
     are_refused(&rt, &[b"1x1 1 0\nFree 1"], Fault::UnknownOp);
 }
 
+/// Passes where a fault is told in these words.
+fn is_told(rt: &impl Abort, text: Result<String, AllocError>, words: &str) {
+    assert_eq!(rt; text.expect(rt, "memory").as_str(), words);
+}
+
 #[test]
 fn words_of_faults(rt: HostRuntime) {
     let refused = ReplayFault {
         line: 0,
         fault: Fault::OutOfMemory,
     };
-    let text = refused.to_string(rt.alloc()).expect(&rt, "memory");
-    assert_eq!(rt; text.as_str(), "line 0: OutOfMemory");
-    for (fault, word) in [(Fault::Read, "Read"), (Fault::Write, "Write")] {
-        let text = fault.to_string(rt.alloc()).expect(&rt, "memory");
-        assert_eq!(rt; text.as_str(), word);
-    }
+    is_told(&rt, refused.to_string(rt.alloc()), "line 0: OutOfMemory");
+    is_told(&rt, Fault::Read.to_string(rt.alloc()), "Read");
+    is_told(&rt, Fault::Write.to_string(rt.alloc()), "Write");
 }

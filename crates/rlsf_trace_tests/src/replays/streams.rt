@@ -251,14 +251,14 @@ fn writers_without_room(rt: HostRuntime) {
 }
 
 /// Texts of three lines, without a fault and with one in the last line.
-const THREE_LINES: [&[u8]; 2] = [
+static THREE_LINES: [&[u8]; 2] = [
     b"8x8 4096 96\ninsert 4096 96\nalloc 1 0 1\n",
     b"8x8 4096 96\ninsert 4096 96\nalloc 1 0 3\n",
 ];
 
 #[test]
 fn readers_that_fail(rt: HostRuntime) {
-    for lines in THREE_LINES {
+    for lines in &THREE_LINES {
         for len in 0..=lines.len() {
             let streams = Streams {
                 text: &lines[..len],
