@@ -1,7 +1,7 @@
 ghost use Rattle.rlsf_base.specs.SizeClass.{IsValid};
 ghost use Rattle.rlsf_base.specs.Sizes as sizes;
 
-use crate::answers::{all, passes};
+use crate::base::answers::{all, passes};
 use rlsf_base::classes::{
     map_ceil, map_ceil_and_unmap, map_floor, max_pool_size, pool_size_to_contain_allocation,
     request_size,

@@ -1,4 +1,4 @@
-use crate::answers::passes;
+use crate::base::answers::passes;
 use rlsf_base::memory::Layout;
 
 const HALF: usize = 1 << 63;

@@ -3,7 +3,7 @@
 ghost use Rattle.std.specs.Prelude.{◌≡◌, ◌≢◌, ◌+◌, ◌^◌, ◌<◌, ◌≤◌, ℕ, false, true, IfNone, IfSome};
 ghost use Rattle.rlsf_int.specs.Bits.{bit};
 
-use crate::answers::all;
+use crate::base::answers::all;
 use rlsf_int::BinInteger;
 
 /// The number of positions, through the bound.

@@ -2,7 +2,7 @@ ghost use Rattle.std.specs.Prelude.{◌≡◌, ◌%◌, length, IsTrue};
 ghost use Rattle.rlsf_base.specs.Range.{LiesIn};
 ghost use Rattle.rlsf_base.specs.Space.{IsWord};
 
-use crate::answers::{all, passes};
+use crate::base::answers::{all, passes};
 use rlsf_base::memory::{Memory, MemoryError, Range};
 use std::alloc::Global;
 use std::mem::size_of;

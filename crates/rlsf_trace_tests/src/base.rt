@@ -1,0 +1,7 @@
+//! The tests of `rlsf_int` and `rlsf_base`: of bitmaps, size classes, layouts and memories.
+
+mod answers;
+mod classes;
+mod integers;
+mod layouts;
+mod memory;
