@@ -21,10 +21,14 @@ use Rattle.rlsf_machine.specs.Uniform.{IsUniform}
 use Rattle.rlsf_collections.specs.Budgets.{HasBudgetOf, HasBytesFor}
 use Rattle.rlsf_collections.specs.Capacities.{IsObjectPool, IsSpread, IsTiled}
 use Rattle.rlsf_collections.specs.Handled.{Handled}
-use Rattle.rlsf_collections.specs.Objects.{HaveSize, capacity_of, capacity_with}
+use Rattle.rlsf_collections.specs.Objects.{HaveSize, Pool, capacity_of, capacity_with}
 use Rattle.rlsf_collections.specs.Stored.{FitsPool}
 use Rattle.rlsf_collections.specs.Tiles.{HasTileFor, KeepsUniform}
 use Rattle.rlsf_collections.proofs.Entries.{AllByRecursion-remove_entry, AllByRecursion-set_value}
+
+-- the items as callers of a pool see them
+abbrev pub shown : ℕ → ℕ → ℕ → Handled → Pool
+shown size align capacity h = record { objects = h.lists; next = h.next; size = size; align = align; memory = h.memory; capacity = capacity }
 
 -- ---- a pool after a call
 

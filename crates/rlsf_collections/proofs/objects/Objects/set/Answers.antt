@@ -1,14 +1,15 @@
-use Rattle.std.proofs.Common.{rules, ◌≡◌, ◌+◌, ◌≤◌, ℕ, List, length, nat_eq, Option, None, Some, Result, Ok, Err, OnOk, OnErr, IsSomeAnd, arith, refl, sym, ap, subst, ◌∙◌}
+use Rattle.std.proofs.Common.{◌≡◌, ◌+◌, ◌≤◌, ℕ, List, length, nat_eq, Option, None, Some, Result, Ok, Err, OnOk, OnErr, IsSomeAnd, arith, refl, sym, ap, subst, ◌∙◌}
 use Rattle.std.proofs.lemmas.Bool.Decides.{nat_tests}
 use Rattle.std.specs.List.{splice}
 use Rattle.std.specs.Map.{lookup, set_value}
 use Rattle.rlsf_base.proofs.Words.Splices.{length-splice}
+use Rattle.rlsf_machine.specs.State.{State}
 use Rattle.rlsf_collections.specs.Handled.{Handled}
 use Rattle.rlsf_collections.specs.Capacities.{IsObjectPool}
-use Rattle.rlsf_collections.specs.Objects.{set_answer}
+use Rattle.rlsf_collections.specs.Objects.{Writes, set_answer}
 use Rattle.rlsf_collections.specs.Tiles.{KeepsUniform}
 use Rattle.rlsf_collections.specs.declared.objects.SetError.{SetError}
-use Rattle.rlsf_collections.proofs.Capacities.{IsObjectPool-set}
+use Rattle.rlsf_collections.proofs.Capacities.{IsObjectPool-set, shown}
 use Rattle.rlsf_collections.proofs.Entries.{AllByRecursion-lookup}
 use Rattle.rlsf_collections.proofs.objects.Objects.set.Goals as goal
 
@@ -36,7 +37,20 @@ invariant_of-self c =
     kept c.write.result i.items c.write.new.self i.layout.size i.layout.align i.capacity _ _ _ c.self.invariant c.write.ensures.answer c.write.ensures.written c.write.ensures.refused c.write.ensures.uniform
 
 pub returns-clause-answer : goal.returns-clause-answer
-returns-clause-answer c = search rules
+returns-clause-answer c = rw (← c.self.view_is) c.write.ensures.answer
+
+written : (r : Result Unit SetError) (o n : Handled) (size align capacity handle offset : ℕ) (bytes : List ℕ) (s : State)
+    → OnOk r (IsSomeAnd (lookup (nat_eq handle) o.lists) (λ old. n ≡ record o { lists = set_value (nat_eq handle) o.lists (splice old offset (offset + length bytes) bytes); state = s }))
+    → OnOk r (Writes (shown size align capacity o) handle offset bytes (shown size align capacity n))
+written (Ok _) o n size align capacity handle offset bytes s did = seen (lookup (nat_eq handle) o.lists) did
+  where
+    seen : (old : Option (List ℕ)) → IsSomeAnd old (λ l. n ≡ record o { lists = set_value (nat_eq handle) o.lists (splice l offset (offset + length bytes) bytes); state = s })
+        → IsSomeAnd old (λ l. shown size align capacity n ≡ record (shown size align capacity o) { objects = set_value (nat_eq handle) o.lists (splice l offset (offset + length bytes) bytes) })
+    seen None did = did
+    seen (Some l) did = ap (shown size align capacity) did
+written (Err e) o n size align capacity handle offset bytes s did = tt
 
 pub returns-clause-written : goal.returns-clause-written
-returns-clause-written c = search rules
+returns-clause-written c =
+    let i = c.self.inside in
+    rw (← c.self.view_is) (written c.write.result i.items c.write.new.self i.layout.size i.layout.align i.capacity c.args.handle c.args.offset c.args.bytes.now _ c.write.ensures.written)
