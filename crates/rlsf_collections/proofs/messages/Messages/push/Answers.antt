@@ -1,4 +1,4 @@
-use Rattle.std.proofs.Common.{◌≡◌, ◌<◌, arith, refl, ap, length, sym, ◌∙◌}
+use Rattle.std.proofs.Common.{◌≡◌, ◌<◌, ◌≤◌, ℕ, Option, None, Some, IfSome, IsSomeAnd, arith, refl, ap, length, sym, ◌∙◌}
 use Rattle.std.proofs.Math.Path.{ap₂}
 use Rattle.std.proofs.lemmas.Bool.{false≢true}
 use Rattle.std.specs.VecDeque.{deque_capacity}
@@ -40,3 +40,39 @@ returns-then-len-capacity-clause-room c = rw (← c.self.view_is) (λ none some 
 
 pub returns-in_default-clause-full : goal.returns-in_default-clause-full
 returns-in_default-clause-full c = rw (← c.self.view_is) (λ bad. absurd cc, λ full. absurd (omega (arith, length-messages c.self.inside.store.heap.memory c.self.inside.entries.items)))
+
+pub returns-then-len-capacity-clause-long : goal.returns-then-len-capacity-clause-long
+returns-then-len-capacity-clause-long c = rw (← c.self.view_is) (λ bad. absurd cc, λ (few, _). absurd (omega (arith, few, length-messages c.self.inside.store.heap.memory c.self.inside.entries.items)))
+
+pub returns-then-len-capacity-clause-enough : goal.returns-then-len-capacity-clause-enough
+returns-then-len-capacity-clause-enough c = rw (← c.self.view_is) (λ _ _. omega (arith, length-messages c.self.inside.store.heap.memory c.self.inside.entries.items))
+
+pub returns-then-is_longer-clause-full : goal.returns-then-is_longer-clause-full
+returns-then-is_longer-clause-full c = rw (← c.self.view_is) (λ bad. absurd cc, λ full. absurd (omega (arith, length-messages c.self.inside.store.heap.memory c.self.inside.entries.items)))
+
+pub returns-then-is_longer-clause-long : goal.returns-then-is_longer-clause-long
+returns-then-is_longer-clause-long c = rw (← c.self.view_is) (λ _. (omega (arith, length-messages c.self.inside.store.heap.memory c.self.inside.entries.items), c.is_longer.ensures.0 c.if-is_longer.true), λ _. refl)
+
+-- a length isn't both above the longest and not
+both : {A : Type 0} (o : Option ℕ) (len : ℕ) → IsSomeAnd o (λ longest. longest < len) → IfSome o (λ longest. len ≤ longest) → A
+both None len longer short = absurd longer
+both (Some longest) len longer short = absurd (omega (arith, longer, short))
+
+pub returns-then-is_longer-clause-room : goal.returns-then-is_longer-clause-room
+returns-then-is_longer-clause-room c = rw (← c.self.view_is) (λ _ _ _ short. both c.self.inside.longest (length c.args.message.now) (c.is_longer.ensures.0 c.if-is_longer.true) short)
+
+both_told : {A : Type 0} (o : Option ℕ) (len : ℕ) → IsSomeAnd o (λ longest. longest < len) → IsSomeAnd o (λ longest. len ≤ longest) → A
+both_told None len longer short = absurd longer
+both_told (Some longest) len longer short = absurd (omega (arith, longer, short))
+
+pub returns-then-is_longer-clause-enough : goal.returns-then-is_longer-clause-enough
+returns-then-is_longer-clause-enough c = rw (← c.self.view_is) (λ short _. both_told c.self.inside.longest (length c.args.message.now) (c.is_longer.ensures.0 c.if-is_longer.true) short)
+
+pub returns-in_default-clause-long : goal.returns-in_default-clause-long
+returns-in_default-clause-long c = rw (← c.self.view_is) (λ bad. absurd cc, λ (_, longer). absurd (false≢true (sym c.if-is_longer.false ∙ c.is_longer.ensures.1 longer)))
+
+pub returns-clause-full : goal.returns-clause-full
+returns-clause-full c = rw (← c.self.view_is) (λ bad. absurd cc, λ full. absurd (omega (arith, length-messages c.self.inside.store.heap.memory c.self.inside.entries.items)))
+
+pub returns-clause-long : goal.returns-clause-long
+returns-clause-long c = rw (← c.self.view_is) (λ bad. absurd cc, λ (_, longer). absurd (false≢true (sym c.if-is_longer.false ∙ c.is_longer.ensures.1 longer)))
