@@ -10,3 +10,9 @@ returns-in-Refused c = (
       (subst (λ r. Reads nothing c.args.addr c.args.offset c.args.into.now r c.args.into.now) (sym c.number.ensures) (none_read nothing c.args.addr c.args.offset c.args.into.now (none_in_empty c.args.addr))),
   refl,
 )
+
+pub returns-in-Large : goal.returns-in-Large
+returns-in-Large c = (
+  subst (λ p. Reads (seen p) c.args.addr c.args.offset c.args.into.now c.read-in-Large.result c.read-in-Large.new.into) (sym c.in-Large.is) c.read-in-Large.ensures,
+  sym c.in-Large.is,
+)
