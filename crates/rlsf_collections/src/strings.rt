@@ -135,8 +135,7 @@ impl Strings {
     {
         let left = self.bytes(left)?;
         let right = self.bytes(right)?;
-        let mut joined = Vec::new(self.alloc);
-        joined.extend_from_slice(left)?;
+        let mut joined = Vec::from_slice(self.alloc, left)?;
         joined.extend_from_slice(right)?;
         Ok(joined)
     }

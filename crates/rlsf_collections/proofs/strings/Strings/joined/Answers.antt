@@ -7,7 +7,6 @@ pub returns-clause-bytes : goal.returns-clause-bytes
 returns-clause-bytes c =
     let left = c.in_ok-left.left.now in
     let right = c.in_ok-right.right.now in
-    let first : c.extend_from_slice.new.self.items ≡ left = c.in_ok-extend_from_slice.ensures.items ∙ ap (λ l. l ++ left) c.new-joined.ensures.items in
-    let both : c.extend_from_slice-2.new.self.items ≡ left ++ right = c.in_ok-extend_from_slice-2.ensures.items ∙ ap (λ l. l ++ right) first in
+    let both : c.extend_from_slice.new.self.items ≡ left ++ right = c.in_ok-extend_from_slice.ensures.items ∙ ap (λ l. l ++ right) c.in_ok-joined.ensures.items in
     ap (option_and_then (λ l. option_map (λ r. l ++ r) (lookup (nat_eq c.args.right) c.args.self.now.strings))) c.in_ok-left.ensures.bytes ∙ ap (option_map (λ r. left ++ r)) c.in_ok-right.ensures.bytes
     ∙ ap Some (sym both)
