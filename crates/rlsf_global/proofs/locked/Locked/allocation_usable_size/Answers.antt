@@ -1,19 +1,17 @@
-use Rattle.std.proofs.Common.{Ok, lit<, length, ap, ◌∙◌, subst, sym, refl}
+use Rattle.std.proofs.Common.{Ok, lit<, length, ap, ◌∙◌, sym, refl}
 use Rattle.rlsf_base.specs.Addr.{at}
 use Rattle.rlsf_global.specs.Locked.{heap_of}
+use Rattle.rlsf_global.proofs.Checks.{usable_in}
 use Rattle.rlsf_global.proofs.Layouts.{content_at-is}
 use Rattle.rlsf_global.proofs.Lives.{known, unknown}
-use Rattle.rlsf_global.proofs.Placements.{live_here, some_row}
-use Rattle.rlsf_placement.specs.Steps.{UsableAt}
+use Rattle.rlsf_global.proofs.Placements.{live_here}
 use Rattle.rlsf_global.proofs.locked.Locked.allocation_usable_size.Goals as goal
 
 pub allocation_usable_size-requires : goal.allocation_usable_size-requires
 allocation_usable_size-requires g c = (lit< tt, live_here c.self.inside.flex c.self.inside.rows.items c.self.invariant (at c.args.addr) _ (rw c.deref.ensures.value at c.in-Ok.ensures.found))
 
 pub returns-clause-step : goal.returns-clause-step
-returns-clause-step g c = rw (← c.self.view_is) (
-    let (row, there) = some_row c.self.inside.rows.items (at c.args.addr) _ (rw c.deref.ensures.value at c.in-Ok.ensures.found) in
-    subst (λ o. UsableAt (heap_of c.self.inside.flex c.self.inside.rows.items) (at c.args.addr) o (Ok c.allocation_usable_size.result)) (sym there) (ap Ok c.allocation_usable_size.ensures))
+returns-clause-step g c = rw (← c.self.view_is) (usable_in (heap_of c.self.inside.flex c.self.inside.rows.items) (at c.args.addr) _ c.allocation_usable_size.result (rw c.deref.ensures.value at c.in-Ok.ensures.found) c.allocation_usable_size.ensures)
 
 pub returns-in_default-clause-unknown : goal.returns-in_default-clause-unknown
 returns-in_default-clause-unknown g c = rw (← c.self.view_is) (unknown c.self.inside.flex c.self.inside.rows.items (at c.args.addr) _ (rw c.deref.ensures.value at c.in_default.ensures.absent))

@@ -1,12 +1,11 @@
-use Rattle.std.proofs.Common.{◌+◌, ◌-◌, ◌≡◌, nat_le, length, take, drop, Ok, Err, arith, lit<, ap, ◌∙◌, subst, sym, refl}
+use Rattle.std.proofs.Common.{◌+◌, ◌-◌, ◌≡◌, nat_le, length, take, drop, Err, Ok, arith, lit<, ap, ◌∙◌, sym, refl}
 use Rattle.rlsf_base.specs.Addr.{at}
 use Rattle.rlsf_global.specs.Locked.{heap_of}
 use Rattle.rlsf_global.proofs.Checks.{reads_in, reads_out}
 use Rattle.rlsf_global.proofs.Layouts.{content_at-is}
 use Rattle.rlsf_global.proofs.Lives.{known, unknown}
-use Rattle.rlsf_global.proofs.Placements.{live_here, some_row}
+use Rattle.rlsf_global.proofs.Placements.{live_here}
 use Rattle.rlsf_placement.specs.declared.error.GlobalError.TheVariants.{OutOfRange}
-use Rattle.rlsf_placement.specs.Steps.{ReadsAt}
 use Rattle.rlsf_global.proofs.locked.Locked.read_payload.Goals as goal
 
 pub payload-payload-requires : goal.payload-payload-requires
@@ -16,9 +15,7 @@ pub returns-then-not-fits-clause-step : goal.returns-then-not-fits-clause-step
 returns-then-not-fits-clause-step g c = rw (← c.self.view_is) (
     let h = heap_of c.self.inside.flex c.self.inside.rows.items in
     let lent = c.args.bytes.now in
-    let (row, there) = some_row c.self.inside.rows.items (at c.args.addr) _ (rw c.deref.ensures.value at c.in-Ok.ensures.found) in
-    subst (λ o. ReadsAt h (at c.args.addr) c.args.offset lent o (Err OutOfRange) lent) (sym there)
-    (reads_out h (at c.args.addr) c.args.offset lent row (c.if-not-fits.ensures ∙ ap (λ l. nat_le (c.args.offset + length lent) (length l)) c.payload-payload.ensures)))
+    reads_out h (at c.args.addr) c.args.offset _ (rw c.deref.ensures.value at c.in-Ok.ensures.found) lent (c.if-not-fits.ensures ∙ ap (λ l. nat_le (c.args.offset + length lent) (length l)) c.payload-payload.ensures))
 
 pub returns-clause-step : goal.returns-clause-step
 returns-clause-step g c = rw (← c.self.view_is) (
@@ -26,11 +23,9 @@ returns-clause-step g c = rw (← c.self.view_is) (
     let lent = c.args.bytes.now in
     let offset = c.args.offset in
     let same = c.payload-payload.ensures in
-    let (row, there) = some_row c.self.inside.rows.items (at c.args.addr) _ (rw c.deref.ensures.value at c.in-Ok.ensures.found) in
     let n : offset + length lent - offset ≡ length lent = omega arith in
-    subst (λ o. ReadsAt h (at c.args.addr) offset lent o (Ok tt) c.copy_from_slice.new.self) (sym there)
-    (reads_in h (at c.args.addr) offset lent row c.copy_from_slice.new.self (c.if-not-fits.ensures ∙ ap (λ l. nat_le (offset + length lent) (length l)) same)
-    (c.copy_from_slice.ensures.after ∙ ap (λ k. take k (drop offset c.payload-payload.result.now)) n ∙ ap (λ l. take (length lent) (drop offset l)) same)))
+    reads_in h (at c.args.addr) offset _ (rw c.deref.ensures.value at c.in-Ok.ensures.found) lent c.copy_from_slice.new.self (c.if-not-fits.ensures ∙ ap (λ l. nat_le (offset + length lent) (length l)) same)
+    (c.copy_from_slice.ensures.after ∙ ap (λ k. take k (drop offset c.payload-payload.result.now)) n ∙ ap (λ l. take (length lent) (drop offset l)) same))
 
 pub returns-in_default-clause-unknown : goal.returns-in_default-clause-unknown
 returns-in_default-clause-unknown g c = rw (← c.self.view_is) (unknown c.self.inside.flex c.self.inside.rows.items (at c.args.addr) _ (rw c.deref.ensures.value at c.in_default.ensures.absent))

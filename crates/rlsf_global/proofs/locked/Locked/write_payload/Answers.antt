@@ -6,10 +6,9 @@ use Rattle.rlsf_flex.specs.Lending.{written}
 use Rattle.rlsf_global.specs.Locked.{heap_of}
 use Rattle.rlsf_global.proofs.Checks.{writes_in, writes_out}
 use Rattle.rlsf_global.proofs.Lives.{known, unknown}
-use Rattle.rlsf_global.proofs.Placements.{filled, filled_locked, live_here, some_row}
+use Rattle.rlsf_global.proofs.Placements.{filled, filled_locked, live_here}
 use Rattle.rlsf_machine.specs.Run.{Fills}
 use Rattle.rlsf_placement.specs.declared.error.GlobalError.TheVariants.{OutOfRange}
-use Rattle.rlsf_placement.specs.Steps.{WritesAt}
 use Rattle.rlsf_global.proofs.locked.Locked.write_payload.Goals as goal
 
 pub allocation_usable_size-requires : goal.allocation_usable_size-requires
@@ -19,9 +18,7 @@ pub returns-then-not-fits-clause-step : goal.returns-then-not-fits-clause-step
 returns-then-not-fits-clause-step g c = rw (← c.self.view_is) (
     let h = heap_of c.self.inside.flex c.self.inside.rows.items in
     let bytes = c.args.bytes.now in
-    let (row, there) = some_row c.self.inside.rows.items (at c.args.addr) _ (rw c.deref.ensures.value at c.in-Ok.ensures.found) in
-    subst (λ o. WritesAt h (at c.args.addr) c.args.offset bytes o (Err OutOfRange) h) (sym there)
-    (writes_out h (at c.args.addr) c.args.offset bytes row (c.if-not-fits.ensures ∙ ap (nat_le (c.args.offset + length bytes)) c.allocation_usable_size.ensures)))
+    writes_out h (at c.args.addr) c.args.offset _ (rw c.deref.ensures.value at c.in-Ok.ensures.found) bytes (c.if-not-fits.ensures ∙ ap (nat_le (c.args.offset + length bytes)) c.allocation_usable_size.ensures))
 
 pub payload_mut-requires : goal.payload_mut-requires
 payload_mut-requires g c = (lit< tt, live_here c.self.inside.flex c.self.inside.rows.items c.self.invariant (at c.args.addr) _ (rw c.deref.ensures.value at c.in-Ok.ensures.found))
@@ -42,11 +39,9 @@ returns-clause-step g c = rw (← c.self.view_is) (
     let w = c.write_at.new.payload in
     let did = c.payload_mut.ensures in
     let after = written c.self.inside.flex addr (length c.payload_mut.result.now) w in
-    let (row, there) = some_row c.self.inside.rows.items addr _ (rw c.deref.ensures.value at c.in-Ok.ensures.found) in
     let (fills, leads) = filled c.self.inside.flex c.self.inside.rows.items c.self.invariant after addr w (did.meaning w c.write_at.ensures.len) refl in
     let spliced = subst (λ l. Fills h.flex.machine addr l after.state.machine) (c.write_at.ensures.bytes ∙ ap (λ l. splice l offset (offset + length bytes) bytes) did.value) fills in
-    subst (λ o. WritesAt h addr offset bytes o (Ok tt) (heap_of after c.self.inside.rows.items)) (sym there)
-    (writes_in h addr offset bytes row (heap_of after c.self.inside.rows.items) (c.if-not-fits.ensures ∙ ap (nat_le (offset + length bytes)) c.allocation_usable_size.ensures) (after.state.machine, spliced, leads)))
+    writes_in h addr offset _ (rw c.deref.ensures.value at c.in-Ok.ensures.found) bytes (heap_of after c.self.inside.rows.items) (c.if-not-fits.ensures ∙ ap (nat_le (offset + length bytes)) c.allocation_usable_size.ensures) (after.state.machine, spliced, leads))
 
 pub returns-clause-written : goal.returns-clause-written
 returns-clause-written g c = rw (← c.self.view_is) (
