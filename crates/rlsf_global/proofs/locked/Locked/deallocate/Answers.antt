@@ -1,11 +1,20 @@
 use Rattle.rlsf_global.proofs.Layouts.{content_at-bytes, layout_at-without_here, layout_at-without_other}
-use Rattle.std.proofs.Common.{Some, Ok, lit<, ap, refl, ◌∙◌, subst, sym}
+use Rattle.std.proofs.Common.{◌≡◌, Some, Ok, Err, lit<, ap, refl, ◌∙◌, subst, sym}
 use Rattle.rlsf_base.specs.Addr.{at}
 use Rattle.rlsf_global.specs.Locked.{heap_of}
 use Rattle.rlsf_global.proofs.Lives.{known, unknown}
 use Rattle.rlsf_global.proofs.Placements.{live_row, released, released_locked, some_row}
 use Rattle.rlsf_placement.specs.Steps.{DeallocatesAt}
+use Rattle.rlsf_placement.specs.declared.error.GlobalError.TheVariants.{UnknownAddress}
+use Rattle.rlsf_placement.specs.Rows.{without_row}
+use Rattle.rlsf_global.proofs.locked.Locked.deallocate.Given as given
 use Rattle.rlsf_global.proofs.locked.Locked.deallocate.Goals as goal
+
+-- the row of the address is gone
+taken_out : (g : given.Over) (c : goal.After-deallocate g) → c.remove-gone.new.self.items ≡ without_row (at c.args.addr) c.self.inside.rows.items
+taken_out g c =
+    let found = rw c.deref.ensures.value at c.in-Ok.ensures.found in
+    c.remove-gone.ensures.items ∙ found.taken_out
 
 pub deallocate-requires : goal.deallocate-requires
 deallocate-requires g c =
@@ -15,31 +24,34 @@ deallocate-requires g c =
 
 pub invariant_of-self : goal.invariant_of-self
 invariant_of-self g c =
-    let found = rw c.deref.ensures.value at c.in-Ok.ensures.found in
     released_locked c.self.inside.flex c.self.inside.rows.items c.self.invariant c.deallocate.new.self (at c.args.addr) c.deallocate.ensures.step c.deallocate.ensures.source _
-    (c.remove-gone.ensures.items ∙ found.taken_out) c.deallocate.ensures.gone c.deallocate.ensures.aligns c.deallocate.ensures.bytes
+    (taken_out g c) c.deallocate.ensures.gone c.deallocate.ensures.aligns c.deallocate.ensures.bytes
+
+pub returns-in_default-clause-step : goal.returns-in_default-clause-step
+returns-in_default-clause-step g c = rw (← c.self.view_is) (
+    let h = heap_of c.self.inside.flex c.self.inside.rows.items in
+    let absent = rw c.deref.ensures.value at c.in_default.ensures.absent in
+    subst (λ o. DeallocatesAt h (at c.args.addr) o (Err UnknownAddress) h) (sym absent.none) (refl, refl))
 
 pub returns-clause-step : goal.returns-clause-step
 returns-clause-step g c = rw (← c.self.view_is) (
     let found = rw c.deref.ensures.value at c.in-Ok.ensures.found in
     let (row, there) = some_row c.self.inside.rows.items (at c.args.addr) _ found in
     let gone = released c.self.inside.flex c.self.inside.rows.items c.self.invariant c.deallocate.new.self (at c.args.addr) c.deallocate.ensures.step c.deallocate.ensures.source _
-    (c.remove-gone.ensures.items ∙ found.taken_out) in
+    (taken_out g c) in
     subst (λ o. DeallocatesAt (heap_of c.self.inside.flex c.self.inside.rows.items) (at c.args.addr) o (Ok tt) (heap_of c.deallocate.new.self c.remove-gone.new.self.items)) (sym there) (refl, gone))
 
 pub returns-clause-gone : goal.returns-clause-gone
 returns-clause-gone g c =
-    let found = rw c.deref.ensures.value at c.in-Ok.ensures.found in
     let before = heap_of c.self.inside.flex c.self.inside.rows.items in
     let after = heap_of c.deallocate.new.self c.remove-gone.new.self.items in
-    layout_at-without_here before after (at c.args.addr) (c.remove-gone.ensures.items ∙ found.taken_out)
+    layout_at-without_here before after (at c.args.addr) (taken_out g c)
 
 pub returns-clause-layouts : goal.returns-clause-layouts
 returns-clause-layouts g c = rw (← c.self.view_is) (
-    let found = rw c.deref.ensures.value at c.in-Ok.ensures.found in
     let before = heap_of c.self.inside.flex c.self.inside.rows.items in
     let after = heap_of c.deallocate.new.self c.remove-gone.new.self.items in
-    layout_at-without_other before after (at c.args.addr) (c.remove-gone.ensures.items ∙ found.taken_out))
+    layout_at-without_other before after (at c.args.addr) (taken_out g c))
 
 pub returns-clause-contents : goal.returns-clause-contents
 returns-clause-contents g c = rw (← c.self.view_is) (

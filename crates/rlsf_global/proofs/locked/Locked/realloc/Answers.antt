@@ -15,8 +15,15 @@ use Rattle.rlsf_placement.proofs.Rows.{without_row-sorted}
 use Rattle.rlsf_machine.specs.Callers.{bytes_at}
 use Rattle.rlsf_placement.specs.declared.error.GlobalError.TheVariants.{NoRoom, WrongLayout}
 use Rattle.rlsf_placement.specs.Moves.{ReallocatesAsAt, ReallocatesTo}
-use Rattle.rlsf_placement.specs.Rows.{IsSorted, row_at}
+use Rattle.rlsf_placement.specs.Rows.{IsSorted, put, row_at, without_row}
+use Rattle.rlsf_global.proofs.locked.Locked.realloc.Given as given
 use Rattle.rlsf_global.proofs.locked.Locked.realloc.Goals as goal
+
+-- the row of the address is that of the payload with the wanted layout now
+replaced : (g : given.Over) (c : goal.After-place g) → c.place.new.rows.items ≡ put (c.in-Some.moved, c.from_size_align_unchecked-wanted.result) (without_row (at c.args.addr) c.self.inside.rows.items)
+replaced g c =
+    let found = rw c.deref.ensures.value at c.in-Ok.ensures.found in
+    rw (c.remove.ensures.items, found.taken_out) at c.place.ensures
 
 pub returns-then-ne-clause-step : goal.returns-then-ne-clause-step
 returns-then-ne-clause-step g c = rw (← c.self.view_is) (
@@ -61,8 +68,7 @@ place-requires-clause-fresh g c =
 
 pub invariant_of-self-2 : goal.invariant_of-self-2
 invariant_of-self-2 g c =
-    let found = rw c.deref.ensures.value at c.in-Ok.ensures.found in
-    let rows = rw (c.remove.ensures.items, found.taken_out) at c.place.ensures in
+    let rows = replaced g c in
     moved_locked c.self.inside.flex c.self.inside.rows.items c.self.invariant c.resize.new.flex (at c.args.addr) c.from_size_align_unchecked-wanted.result c.in-Some.moved c.in-Some.ensures.moved _ rows
 
 pub returns-clause-step : goal.returns-clause-step
@@ -71,7 +77,7 @@ returns-clause-step g c = rw (← c.self.view_is) (
     let after = heap_of c.resize.new.flex c.place.new.rows.items in
     let found = rw c.deref.ensures.value at c.in-Ok.ensures.found in
     let row = found.row c.index.result.now ∙ ap Some (sym c.index.ensures) in
-    let rows = rw (c.remove.ensures.items, found.taken_out) at c.place.ensures in
+    let rows = replaced g c in
     let wanted = c.from_size_align_unchecked-wanted in
     let enabled = g.Options.GlobalTlsfOptions.ENABLE_REALLOCATION in
     let step = subst (λ l. ReallocatesTo enabled h (at c.args.addr) c.args.layout wanted.result (Ok c.in-Some.moved) (heap_of c.resize.new.flex l)) (sym rows) (c.in-Some.ensures.step c.self.inside.rows.items) in
@@ -80,8 +86,7 @@ returns-clause-step g c = rw (← c.self.view_is) (
 
 pub returns-clause-live : goal.returns-clause-live
 returns-clause-live g c =
-    let found = rw c.deref.ensures.value at c.in-Ok.ensures.found in
-    let rows = rw (c.remove.ensures.items, found.taken_out) at c.place.ensures in
+    let rows = replaced g c in
     let before = heap_of c.self.inside.flex c.self.inside.rows.items in
     let after = heap_of c.resize.new.flex c.place.new.rows.items in
     (c.from_size_align_unchecked-wanted.result, layout_at-put_here before after (c.in-Some.moved, c.from_size_align_unchecked-wanted.result) _ rows, c.from_size_align_unchecked-wanted.ensures.0, c.from_size_align_unchecked-wanted.ensures.1 ∙ c.align.ensures.value)
@@ -93,16 +98,14 @@ returns-clause-new g c = rw (← c.self.view_is) (
 
 pub returns-clause-left : goal.returns-clause-left
 returns-clause-left g c =
-    let found = rw c.deref.ensures.value at c.in-Ok.ensures.found in
-    let rows = rw (c.remove.ensures.items, found.taken_out) at c.place.ensures in
+    let rows = replaced g c in
     let before = heap_of c.self.inside.flex c.self.inside.rows.items in
     let after = heap_of c.resize.new.flex c.place.new.rows.items in
     λ off. layout_at-moved_left before after (at c.args.addr) (c.in-Some.moved, c.from_size_align_unchecked-wanted.result) rows off
 
 pub returns-clause-layouts : goal.returns-clause-layouts
 returns-clause-layouts g c = rw (← c.self.view_is) (
-    let found = rw c.deref.ensures.value at c.in-Ok.ensures.found in
-    let rows = rw (c.remove.ensures.items, found.taken_out) at c.place.ensures in
+    let rows = replaced g c in
     let before = heap_of c.self.inside.flex c.self.inside.rows.items in
     let after = heap_of c.resize.new.flex c.place.new.rows.items in
     layout_at-moved_other before after (at c.args.addr) (c.in-Some.moved, c.from_size_align_unchecked-wanted.result) rows)

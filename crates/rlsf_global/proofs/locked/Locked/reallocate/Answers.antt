@@ -9,8 +9,15 @@ use Rattle.rlsf_global.proofs.Placements.{live_here, live_row, no_row}
 use Rattle.rlsf_placement.proofs.Rows.{without_row-sorted}
 use Rattle.rlsf_placement.specs.declared.error.GlobalError.TheVariants.{NoRoom}
 use Rattle.rlsf_placement.specs.Moves.{MovesAway, ReallocatesAt}
-use Rattle.rlsf_placement.specs.Rows.{IsSorted, row_at}
+use Rattle.rlsf_placement.specs.Rows.{IsSorted, put, row_at, without_row}
+use Rattle.rlsf_global.proofs.locked.Locked.reallocate.Given as given
 use Rattle.rlsf_global.proofs.locked.Locked.reallocate.Goals as goal
+
+-- the row of the address is that of the payload with the new layout now
+replaced : (g : given.Over) (c : goal.After-place g) → c.place.new.rows.items ≡ put (c.in-Some.to, c.args.layout) (without_row (at c.args.addr) c.self.inside.rows.items)
+replaced g c =
+    let found = rw c.deref.ensures.value at c.in-Ok.ensures.found in
+    rw (c.remove.ensures.items, found.taken_out) at c.place.ensures
 
 pub allocation_usable_size-requires : goal.allocation_usable_size-requires
 allocation_usable_size-requires g c = (lit< tt, live_here c.self.inside.flex c.self.inside.rows.items c.self.invariant (at c.args.addr) _ (rw c.deref.ensures.value at c.in-Ok.ensures.found))
@@ -45,8 +52,7 @@ place-requires-clause-fresh g c =
 
 pub invariant_of-self-2 : goal.invariant_of-self-2
 invariant_of-self-2 g c =
-    let found = rw c.deref.ensures.value at c.in-Ok.ensures.found in
-    let rows = rw (c.remove.ensures.items, found.taken_out) at c.place.ensures in
+    let rows = replaced g c in
     moved_locked c.self.inside.flex c.self.inside.rows.items c.self.invariant c.move_away.new.flex (at c.args.addr) c.args.layout c.in-Some.to c.in-Some.ensures.moved _ rows
 
 pub returns-clause-step : goal.returns-clause-step
@@ -55,7 +61,7 @@ returns-clause-step g c = rw (← c.self.view_is) (
     let after = heap_of c.move_away.new.flex c.place.new.rows.items in
     let found = rw c.deref.ensures.value at c.in-Ok.ensures.found in
     let row = found.row c.index.result.now ∙ ap Some (sym c.index.ensures) in
-    let rows = rw (c.remove.ensures.items, found.taken_out) at c.place.ensures in
+    let rows = replaced g c in
     let keep = c.min-keep.ensures ∙ ap (λ n. min n c.allocation_usable_size.result) c.size.ensures.value ∙ ap (min c.args.layout.size) c.allocation_usable_size.ensures in
     let step = subst (λ l. MovesAway h (at c.args.addr) c.min-keep.result c.args.layout (Ok c.in-Some.to) (heap_of c.move_away.new.flex l)) (sym rows) (c.in-Some.ensures.step c.self.inside.rows.items) in
     subst (λ o. ReallocatesAt h (at c.args.addr) c.args.layout o (Ok c.in-Some.to) after) (sym row)
@@ -63,8 +69,7 @@ returns-clause-step g c = rw (← c.self.view_is) (
 
 pub returns-clause-live : goal.returns-clause-live
 returns-clause-live g c =
-    let found = rw c.deref.ensures.value at c.in-Ok.ensures.found in
-    let rows = rw (c.remove.ensures.items, found.taken_out) at c.place.ensures in
+    let rows = replaced g c in
     let before = heap_of c.self.inside.flex c.self.inside.rows.items in
     let after = heap_of c.move_away.new.flex c.place.new.rows.items in
     layout_at-put_here before after (c.in-Some.to, c.args.layout) _ rows
@@ -76,16 +81,14 @@ returns-clause-new g c = rw (← c.self.view_is) (
 
 pub returns-clause-left : goal.returns-clause-left
 returns-clause-left g c =
-    let found = rw c.deref.ensures.value at c.in-Ok.ensures.found in
-    let rows = rw (c.remove.ensures.items, found.taken_out) at c.place.ensures in
+    let rows = replaced g c in
     let before = heap_of c.self.inside.flex c.self.inside.rows.items in
     let after = heap_of c.move_away.new.flex c.place.new.rows.items in
     λ off. layout_at-moved_left before after (at c.args.addr) (c.in-Some.to, c.args.layout) rows off
 
 pub returns-clause-layouts : goal.returns-clause-layouts
 returns-clause-layouts g c = rw (← c.self.view_is) (
-    let found = rw c.deref.ensures.value at c.in-Ok.ensures.found in
-    let rows = rw (c.remove.ensures.items, found.taken_out) at c.place.ensures in
+    let rows = replaced g c in
     let before = heap_of c.self.inside.flex c.self.inside.rows.items in
     let after = heap_of c.move_away.new.flex c.place.new.rows.items in
     layout_at-moved_other before after (at c.args.addr) (c.in-Some.to, c.args.layout) rows)

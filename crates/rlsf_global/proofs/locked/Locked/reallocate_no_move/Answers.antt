@@ -13,7 +13,13 @@ use Rattle.rlsf_global.proofs.Results.{not-false, not-true}
 use Rattle.rlsf_placement.specs.declared.error.GlobalError.TheVariants.{NoRoom, WrongLayout}
 use Rattle.rlsf_placement.specs.Moves.{ReallocatesThereAt}
 use Rattle.rlsf_global.specs.Steps.Table.{IsFound}
+use Rattle.rlsf_placement.specs.Rows.{put, without_row}
+use Rattle.rlsf_global.proofs.locked.Locked.reallocate_no_move.Given as given
 use Rattle.rlsf_global.proofs.locked.Locked.reallocate_no_move.Goals as goal
+
+-- the row of the address has the wanted layout now
+replaced : (g : given.Over) (c : goal.After-replace g) → c.replace.new.rows.items ≡ put (c.in-Some.to, c.from_size_align_unchecked-wanted.result) (without_row (at c.args.addr) c.self.inside.rows.items)
+replaced g c = row_there c.self.inside.rows.items c.replace.new.rows.items (at c.args.addr) c.in-Some.to c.from_size_align_unchecked-wanted.result c.in-Some.ensures.there c.replace.ensures
 
 pub returns-then-ne-clause-step : goal.returns-then-ne-clause-step
 returns-then-ne-clause-step g c = rw (← c.self.view_is) (
@@ -53,7 +59,7 @@ replace-requires g c = subst (λ a. IsFound c.self.inside.rows.items a c.in-Ok.a
 pub invariant_of-self-2 : goal.invariant_of-self-2
 invariant_of-self-2 g c =
     let did = c.in-Some.ensures in
-    let rows = row_there _ _ _ c.in-Some.to _ c.in-Some.ensures.there c.replace.ensures in
+    let rows = replaced g c in
     resized_locked c.self.inside.flex c.self.inside.rows.items c.self.invariant c.reallocate_no_move.new.self (at c.args.addr) c.from_size_align_unchecked-wanted.result did.source c.in-Some.to did.there did.step _ rows
     (record { live = did.live; sized = did.sized; few = did.few }) did.aligns did.bytes
 
@@ -64,7 +70,7 @@ returns-clause-step g c = rw (← c.self.view_is) (
     let did = c.in-Some.ensures in
     let found = rw c.deref.ensures.value at c.in-Ok.ensures.found in
     let row = found.row c.index.result.now ∙ ap Some (sym c.index.ensures) in
-    let rows = row_there _ _ _ c.in-Some.to _ c.in-Some.ensures.there c.replace.ensures in
+    let rows = replaced g c in
     let wanted = c.from_size_align_unchecked-wanted in
     let step = resized c.self.inside.flex c.self.inside.rows.items c.self.invariant c.reallocate_no_move.new.self (at c.args.addr) wanted.result did.source c.in-Some.to did.there did.step _ rows in
     subst (λ o. ReallocatesThereAt h (at c.args.addr) c.args.layout c.args.new_size o (Ok c.in-Some.to) after) (sym row)
@@ -72,7 +78,7 @@ returns-clause-step g c = rw (← c.self.view_is) (
 
 pub returns-clause-live : goal.returns-clause-live
 returns-clause-live g c =
-    let rows = row_there _ _ _ c.in-Some.to _ c.in-Some.ensures.there c.replace.ensures in
+    let rows = replaced g c in
     let wanted = c.from_size_align_unchecked-wanted in
     let before = heap_of c.self.inside.flex c.self.inside.rows.items in
     let after = heap_of c.reallocate_no_move.new.self c.replace.new.rows.items in
@@ -81,7 +87,7 @@ returns-clause-live g c =
 
 pub returns-clause-layouts : goal.returns-clause-layouts
 returns-clause-layouts g c = rw (← c.self.view_is) (
-    let rows = row_there _ _ _ c.in-Some.to _ c.in-Some.ensures.there c.replace.ensures in
+    let rows = replaced g c in
     let before = heap_of c.self.inside.flex c.self.inside.rows.items in
     let after = heap_of c.reallocate_no_move.new.self c.replace.new.rows.items in
     λ a off. layout_at-moved_other before after (at c.args.addr) (c.in-Some.to, c.from_size_align_unchecked-wanted.result) rows a off (λ same. off (same ∙ c.in-Some.ensures.there)))
