@@ -1,5 +1,4 @@
-use Rattle.std.proofs.Common.{rules}
 use Rattle.rlsf_global.proofs.pages.SourceFlexSource.supports_realloc_inplace_grow.Goals as goal
 
 pub returns : goal.returns
-returns g c = search rules
+returns g c = rw (← c.self.view_is) c.COALESCE_POOLS.ensures
