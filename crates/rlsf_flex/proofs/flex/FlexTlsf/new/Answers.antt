@@ -1,4 +1,4 @@
-use Rattle.std.proofs.Common.{◌≡◌, None, sym, subst}
+use Rattle.std.proofs.Common.{◌≡◌, None, refl, sym, subst}
 use Rattle.rlsf_flex.specs.StandsFor.{FlexStandsFor, flex_contents}
 use Rattle.rlsf_machine.specs.FlexState.{FlexState, empty}
 use Rattle.rlsf_flex.proofs.EmptyFlex.{FlexStandsFor-empty}
@@ -17,5 +17,10 @@ stands g c =
 pub invariant_of-result : goal.invariant_of-result
 invariant_of-result g c = record { valid = c.requires.valid; stands = stands g (goal.at.invariant_of-result g c).After-new-2 }
 
-pub returns-clause-stands : goal.returns-clause-stands
-returns-clause-stands g c = flex_stood_at (stands g (goal.at.returns-clause-stands g c).After-new-2)
+pub returns : goal.returns
+returns g c = record {
+  state = λ i. record { machine = c.new.ensures.state i; pools = c.new-2.ensures i; kept = None };
+  stands = flex_stood_at (stands g (goal.at.returns g c).After-new-2);
+  source = refl;
+  memory = c.new.ensures.memory;
+}
