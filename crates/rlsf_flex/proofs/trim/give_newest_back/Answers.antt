@@ -50,86 +50,52 @@ pool_of-requires g c =
       ),
     )
 
-pub returns-clause-gone : goal.returns-clause-gone
-returns-clause-gone g c = λ went.
+pub returns : goal.returns
+returns g c =
+    let removed = c.remove_pool.ensures in
     let v = c.requires.stands in
     let is = c.in-Some.is in
     let (step, stands, spare) = opened _ _ _ c.remove_pool.ensures.step in
     let b = c.remove_pool.new.self in
-    let told = subst (λ o. MatchOption o (c.pool_of.result ≡ None) (λ r. (len : ℕ) → IsPool b.state r len → c.pool_of.result ≡ Some (record { range = r; len = len }))) (before_is g (goal.at.returns-clause-gone g c).After-drop_newest) c.pool_of.ensures in
-    gave_newest v is (c.is_idle.ensures.0 c.if-not-is_idle.false) b step stands spare c.remove_pool.ensures.place c.requires.supported c.pool_of.result told g.S.FlexSource.leads c.dealloc.new.self c.drop_newest.new.self.ranges
-    c.dealloc.ensures.leads (g.met.S.FlexSource.constant _ _ _ c.dealloc.ensures.leads) (c.dealloc.ensures.owes [] (others v is) (subst (g.S.FlexSource.owes c.args.source.now) (newest_first v is) v.owed)) c.drop_newest.ensures
+    let told = subst (λ o. MatchOption o (c.pool_of.result ≡ None) (λ r. (len : ℕ) → IsPool b.state r len → c.pool_of.result ≡ Some (record { range = r; len = len }))) (before_is g (goal.at.returns g c).After-drop_newest) c.pool_of.ensures in
+    record {
+      gone = λ went.
+          gave_newest v is (c.is_idle.ensures.0 c.if-not-is_idle.false) b step stands spare c.remove_pool.ensures.place c.requires.supported c.pool_of.result told g.S.FlexSource.leads c.dealloc.new.self c.drop_newest.new.self.ranges
+          c.dealloc.ensures.leads (g.met.S.FlexSource.constant _ _ _ c.dealloc.ensures.leads) (c.dealloc.ensures.owes [] (others v is) (subst (g.S.FlexSource.owes c.args.source.now) (newest_first v is) v.owed)) c.drop_newest.ensures;
+      held = λ stayed. absurd (true≢false stayed);
+      same = λ stayed. absurd (true≢false stayed);
+      aligns = removed.aligns;
+      bytes = removed.bytes;
+      touches = removed.touches;
+      grow = removed.grow;
+      copied = removed.copied;
+    }
 
-pub returns-clause-held : goal.returns-clause-held
-returns-clause-held g c = λ stayed. absurd (true≢false stayed)
+pub returns-then-not-is_idle : goal.returns-then-not-is_idle
+returns-then-not-is_idle g c = record {
+  gone = λ went. absurd (false≢true went);
+  held = λ stayed. newest_held c.requires.stands c.in-Some.is (λ idle. false≢true (sym c.if-not-is_idle.true ∙ c.is_idle.ensures.1 idle));
+  same = λ stayed. refl;
+  aligns = refl;
+  bytes = refl;
+  touches = omega arith;
+  grow = omega arith;
+  copied = refl;
+}
 
-pub returns-clause-same : goal.returns-clause-same
-returns-clause-same g c = λ stayed. absurd (true≢false stayed)
-
-pub returns-clause-aligns : goal.returns-clause-aligns
-returns-clause-aligns g c = c.remove_pool.ensures.aligns
-
-pub returns-clause-bytes : goal.returns-clause-bytes
-returns-clause-bytes g c = c.remove_pool.ensures.bytes
-
-pub returns-clause-touches : goal.returns-clause-touches
-returns-clause-touches g c = c.remove_pool.ensures.touches
-
-pub returns-clause-grow : goal.returns-clause-grow
-returns-clause-grow g c = c.remove_pool.ensures.grow
-
-pub returns-clause-copied : goal.returns-clause-copied
-returns-clause-copied g c = c.remove_pool.ensures.copied
-
-pub returns-then-not-is_idle-clause-gone : goal.returns-then-not-is_idle-clause-gone
-returns-then-not-is_idle-clause-gone g c = λ went. absurd (false≢true went)
-
-pub returns-then-not-is_idle-clause-held : goal.returns-then-not-is_idle-clause-held
-returns-then-not-is_idle-clause-held g c = λ stayed. newest_held c.requires.stands c.in-Some.is (λ idle. false≢true (sym c.if-not-is_idle.true ∙ c.is_idle.ensures.1 idle))
-
-pub returns-then-not-is_idle-clause-same : goal.returns-then-not-is_idle-clause-same
-returns-then-not-is_idle-clause-same g c = λ stayed. refl
-
-pub returns-then-not-is_idle-clause-aligns : goal.returns-then-not-is_idle-clause-aligns
-returns-then-not-is_idle-clause-aligns g c = refl
-
-pub returns-then-not-is_idle-clause-bytes : goal.returns-then-not-is_idle-clause-bytes
-returns-then-not-is_idle-clause-bytes g c = refl
-
-pub returns-then-not-is_idle-clause-copied : goal.returns-then-not-is_idle-clause-copied
-returns-then-not-is_idle-clause-copied g c = refl
-
-pub returns-then-not-is_idle-clause-touches : goal.returns-then-not-is_idle-clause-touches
-returns-then-not-is_idle-clause-touches g c = omega arith
-
-pub returns-then-not-is_idle-clause-grow : goal.returns-then-not-is_idle-clause-grow
-returns-then-not-is_idle-clause-grow g c = omega arith
-
-pub returns-in_default-clause-gone : goal.returns-in_default-clause-gone
-returns-in_default-clause-gone g c = λ went. absurd (false≢true went)
-
-pub returns-in_default-clause-held : goal.returns-in_default-clause-held
-returns-in_default-clause-held g c =
+pub returns-in_default : goal.returns-in_default
+returns-in_default g c =
     let v = c.requires.stands in
     let t = g.S.FlexSource.terms c.args.source.now in
     let none : c.args.kept.now ≡ None = search rules in
     let newest = subst (λ k. IsNewest t (kept_of k) c.args.owed.now.ranges c.args.tlsf.now.state.chunks) none v.well_formed.newest in
-    λ stayed. subst (IsNewestHeld c.args.tlsf.now.state) (sym (newest (ap (λ b. b || t.grow) c.requires.supported))) tt
-
-pub returns-in_default-clause-same : goal.returns-in_default-clause-same
-returns-in_default-clause-same g c = λ stayed. refl
-
-pub returns-in_default-clause-aligns : goal.returns-in_default-clause-aligns
-returns-in_default-clause-aligns g c = refl
-
-pub returns-in_default-clause-bytes : goal.returns-in_default-clause-bytes
-returns-in_default-clause-bytes g c = refl
-
-pub returns-in_default-clause-copied : goal.returns-in_default-clause-copied
-returns-in_default-clause-copied g c = refl
-
-pub returns-in_default-clause-touches : goal.returns-in_default-clause-touches
-returns-in_default-clause-touches g c = omega arith
-
-pub returns-in_default-clause-grow : goal.returns-in_default-clause-grow
-returns-in_default-clause-grow g c = omega arith
+    record {
+      gone = λ went. absurd (false≢true went);
+      held = λ stayed. subst (IsNewestHeld c.args.tlsf.now.state) (sym (newest (ap (λ b. b || t.grow) c.requires.supported))) tt;
+      same = λ stayed. refl;
+      aligns = refl;
+      bytes = refl;
+      touches = omega arith;
+      grow = omega arith;
+      copied = refl;
+    }

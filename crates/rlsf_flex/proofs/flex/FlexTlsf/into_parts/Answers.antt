@@ -2,7 +2,6 @@ use Rattle.std.proofs.Common.{◌∙◌, sym, subst}
 use Rattle.rlsf_machine.specs.End.{notes_at_end, owed_at_end}
 use Rattle.rlsf_machine.specs.Note.{LeadsBy}
 use Rattle.rlsf_flex.specs.Footers.{AreSpelled}
-use Rattle.rlsf_flex.specs.StandsFor.{FlexContents}
 use Rattle.rlsf_flex.proofs.Ends.{spelled, ends_with, ends_without}
 use Rattle.rlsf_flex.proofs.flex.FlexTlsf.into_parts.Given as given
 use Rattle.rlsf_flex.proofs.flex.FlexTlsf.into_parts.Goals as goal
@@ -34,14 +33,7 @@ ends g c =
       | else-supports_dealloc w ↦ rw w.source-is (ends_without owes leads t x ranges (sym c.supports_dealloc.ensures ∙ w.if-supports_dealloc.false) v.owed)
     ]
 
-pub returns-clause-leads : goal.returns-clause-leads
-returns-clause-leads g c =
-    let leads = g.S.FlexSource.leads in
-    subst (λ (old : FlexContents g.row.S.Denot). LeadsBy leads old.source (notes_at_end (g.S.FlexSource.terms old.source) old.state.pools) c.if-supports_dealloc.source) c.self.view_is
-    (ends g (goal.at.returns-clause-leads g c).Joined-supports_dealloc).0
-
-pub returns-clause-owes : goal.returns-clause-owes
-returns-clause-owes g c =
-    let owes = g.S.FlexSource.owes in
-    subst (λ (old : FlexContents g.row.S.Denot). owes c.if-supports_dealloc.source (owed_at_end (g.S.FlexSource.terms old.source) old.state.pools)) c.self.view_is
-    (ends g (goal.at.returns-clause-owes g c).Joined-supports_dealloc).1
+pub returns : goal.returns
+returns g c =
+    let (leads, owes) = ends g (goal.at.returns g c).Joined-supports_dealloc in
+    rw (← c.self.view_is) (record { memory = c.into_memory-memory.ensures; leads = leads; owes = owes })

@@ -1,7 +1,5 @@
-use Rattle.std.proofs.Common.{subst}
-use Rattle.rlsf_flex.specs.StandsFor.{FlexStands}
 use Rattle.rlsf_flex.proofs.Standing.{flex_stood_at}
 use Rattle.rlsf_flex.proofs.flex.FlexTlsf.memory_ref.Goals as goal
 
-pub returns-clause-stands : goal.returns-clause-stands
-returns-clause-stands g c = subst (FlexStands g.row.FLLEN g.row.SLLEN g.S.FlexSource.terms g.S.FlexSource.owes) c.self.view_is (flex_stood_at c.self.invariant.stands)
+pub returns : goal.returns
+returns g c = rw (← c.self.view_is) (record { memory = c.memory_ref.ensures.memory; stands = flex_stood_at c.self.invariant.stands })
