@@ -37,25 +37,6 @@ realloc_inplace_grow-requires-clause-longer g c =
     let (room, whole, short) = pool_size_is _ _ g.row.FLLEN g.row.SLLEN c.args.wanted c.requires.valid c.requires.wanted in
     omega (arith, kept.nearly, c.requires.len, room)
 
-pub returns-then-not-grows-clause-step : goal.returns-then-not-grows-clause-step
-returns-then-not-grows-clause-step g c =
-    let fixed : (g.S.FlexSource.terms c.args.source.now).grow ≡ false = sym c.supports_realloc_inplace_grow-grows.ensures ∙ c.if-not-grows.true in
-    let before = flex_over c.args.tlsf.now c.args.kept.now c.args.source.now c.args.owed.now in
-    AskedGrowth-none (kept_pool c.args.pool) c.args.len fixed refl
-    (Took-refused before c.args.source.now c.requires.stands refl c.requires.stands.owed c.args.wanted)
-
-pub returns-in_err-grown-clause-step : goal.returns-in_err-grown-clause-step
-returns-in_err-grown-clause-step g c =
-    let grows : (g.S.FlexSource.terms c.args.source.now).grow ≡ true = sym c.supports_realloc_inplace_grow-grows.ensures ∙ c.if-not-grows.false in
-    let v = c.requires.stands in
-    let before = flex_over c.args.tlsf.now c.args.kept.now c.args.source.now c.args.owed.now in
-    let (was, kept) = IsKeptPool-known v c.requires.kept in
-    let same = g.met.S.FlexSource.constant c.args.source.now c.realloc_inplace_grow.new.self (grow c.args.pool.range c.args.len c.realloc_inplace_grow.result) c.realloc_inplace_grow.ensures.leads in
-    let y = c.realloc_inplace_grow.new.self in
-    let owed = subst (g.S.FlexSource.owes y) (sym kept.split) (c.in_err-grown.ensures.owes [] kept.rest (subst (g.S.FlexSource.owes c.args.source.now) kept.split v.owed)) in
-    subst (AskedGrowth g.row.FLLEN g.row.SLLEN g.S.FlexSource.terms g.S.FlexSource.owes g.S.FlexSource.leads before (flex_over c.args.tlsf.now c.args.kept.now y c.args.owed.now) (kept_pool c.args.pool) c.args.len c.args.wanted) (sym c.from_residual.ensures)
-    (AskedGrowth-asked (kept_pool c.args.pool) c.args.len grows c.in_err-grown.ensures.leads (Took-refused before y v same owed c.args.wanted))
-
 -- the growth that came
 grew : (g : given.Over) (c : In_ok-grown g)
     → Grew g.row.FLLEN g.row.SLLEN c.args.wanted g.S.FlexSource.terms g.S.FlexSource.owes (flex_over c.args.tlsf.now c.args.kept.now c.args.source.now c.args.owed.now) c.realloc_inplace_grow.new.self (kept_pool c.args.pool) c.args.len c.in_ok-grown.grown
@@ -142,44 +123,57 @@ overflow_add-kept g c =
     let longer = Grew-longer c.requires.valid h in
     omega (arith, taken.within, ends.1, longer.0)
 
-pub returns-clause-step : goal.returns-clause-step
-returns-clause-step g c =
-    let grows : (g.S.FlexSource.terms c.args.source.now).grow ≡ true = sym c.supports_realloc_inplace_grow-grows.ensures ∙ c.if-not-grows.false in
-    let h = grew g (goal.at.returns-clause-step g c).In_ok-grown in
-    let (stands, footed) = moved g (goal.at.returns-clause-step g c).Joined-supports_dealloc h in
-    let d = c.if-supports_dealloc.tlsf in
-    let same = g.met.S.FlexSource.constant c.args.source.now c.realloc_inplace_grow.new.self (grow c.args.pool.range c.args.len c.realloc_inplace_grow.result) c.realloc_inplace_grow.ensures.leads in
-    let (t, step, after, spare) = stepped stands c.append_free_block_ptr-taken.new.self (λ x. Appends g.row.FLLEN x (behind (kept_pool c.args.pool) c.in_ok-grown.grown) c.append_free_block_ptr-taken.result) c.append_free_block_ptr-taken.ensures.step in
-    AskedGrowth-asked (kept_pool c.args.pool) c.args.len grows c.in_ok-grown.ensures.leads
-    (Took-named after.state (c.grow.ensures ∙ ap (longer c.in_ok-grown.grown) h.kept.split)
-    (Grew-took c.requires.valid h d c.append_free_block_ptr-taken.new.self t c.append_free_block_ptr-taken.result same stands footed step after spare c.append_free_block_ptr-taken.ensures.place))
-
-pub returns-then-not-grows-clause-payloads : goal.returns-then-not-grows-clause-payloads
-returns-then-not-grows-clause-payloads g c = KeepsPayloads-refl c.args.tlsf.now
-
-pub returns-in_err-grown-clause-payloads : goal.returns-in_err-grown-clause-payloads
-returns-in_err-grown-clause-payloads g c = KeepsPayloads-refl c.args.tlsf.now
-
-pub returns-clause-payloads : goal.returns-clause-payloads
-returns-clause-payloads g c =
-    let did = c.append_free_block_ptr-taken.ensures in
-    let taken : KeepsPayloads c.if-supports_dealloc.tlsf c.append_free_block_ptr-taken.new.self = record { aligns = did.aligns; bytes = did.bytes; place = did.place; grow = did.grow; copied = did.copied } in
-    elim c.if-supports_dealloc.branch [
-      | then-supports_dealloc w ↦
-          let wrote = w.write_footer.ensures in
-          let footed = KeepsPayloads-same c.args.tlsf.now w.write_footer.new.tlsf wrote.state wrote.footer.place wrote.grow wrote.copied in
-          KeepsPayloads-trans _ _ _ (subst (KeepsPayloads c.args.tlsf.now) (sym w.tlsf-is) footed) taken
-      | else-supports_dealloc w ↦ subst (λ (d : Allocator). KeepsPayloads d c.append_free_block_ptr-taken.new.self) w.tlsf-is taken
-    ]
-
 pub realloc_inplace_grow-requires-clause-supported : goal.realloc_inplace_grow-requires-clause-supported
 realloc_inplace_grow-requires-clause-supported g c = sym c.supports_realloc_inplace_grow-grows.ensures ∙ c.if-not-grows.false
 
-pub returns-then-not-grows-clause-refused : goal.returns-then-not-grows-clause-refused
-returns-then-not-grows-clause-refused g c = record { same = refl }
+pub returns-then-not-grows : goal.returns-then-not-grows
+returns-then-not-grows g c = record {
+  step =
+      let fixed : (g.S.FlexSource.terms c.args.source.now).grow ≡ false = sym c.supports_realloc_inplace_grow-grows.ensures ∙ c.if-not-grows.true in
+      let before = flex_over c.args.tlsf.now c.args.kept.now c.args.source.now c.args.owed.now in
+      AskedGrowth-none (kept_pool c.args.pool) c.args.len fixed refl
+      (Took-refused before c.args.source.now c.requires.stands refl c.requires.stands.owed c.args.wanted);
+  payloads = KeepsPayloads-refl c.args.tlsf.now;
+  refused = record { same = refl };
+}
 
-pub returns-in_err-grown-clause-refused : goal.returns-in_err-grown-clause-refused
-returns-in_err-grown-clause-refused g c = if_any c.from_residual.result (record { same = refl })
+pub returns-in_err-grown : goal.returns-in_err-grown
+returns-in_err-grown g c =
+    rw c.from_residual.ensures (record {
+      step =
+          let grows : (g.S.FlexSource.terms c.args.source.now).grow ≡ true = sym c.supports_realloc_inplace_grow-grows.ensures ∙ c.if-not-grows.false in
+          let v = c.requires.stands in
+          let before = flex_over c.args.tlsf.now c.args.kept.now c.args.source.now c.args.owed.now in
+          let (was, kept) = IsKeptPool-known v c.requires.kept in
+          let same = g.met.S.FlexSource.constant c.args.source.now c.realloc_inplace_grow.new.self (grow c.args.pool.range c.args.len c.realloc_inplace_grow.result) c.realloc_inplace_grow.ensures.leads in
+          let y = c.realloc_inplace_grow.new.self in
+          let owed = subst (g.S.FlexSource.owes y) (sym kept.split) (c.in_err-grown.ensures.owes [] kept.rest (subst (g.S.FlexSource.owes c.args.source.now) kept.split v.owed)) in
+          AskedGrowth-asked (kept_pool c.args.pool) c.args.len grows c.in_err-grown.ensures.leads (Took-refused before y v same owed c.args.wanted);
+      payloads = KeepsPayloads-refl c.args.tlsf.now;
+      refused = record { same = refl };
+    })
 
-pub returns-clause-refused : goal.returns-clause-refused
-returns-clause-refused g c = tt
+pub returns : goal.returns
+returns g c = record {
+  step =
+      let grows : (g.S.FlexSource.terms c.args.source.now).grow ≡ true = sym c.supports_realloc_inplace_grow-grows.ensures ∙ c.if-not-grows.false in
+      let h = grew g (goal.at.returns g c).In_ok-grown in
+      let (stands, footed) = moved g (goal.at.returns g c).Joined-supports_dealloc h in
+      let d = c.if-supports_dealloc.tlsf in
+      let same = g.met.S.FlexSource.constant c.args.source.now c.realloc_inplace_grow.new.self (grow c.args.pool.range c.args.len c.realloc_inplace_grow.result) c.realloc_inplace_grow.ensures.leads in
+      let (t, step, after, spare) = stepped stands c.append_free_block_ptr-taken.new.self (λ x. Appends g.row.FLLEN x (behind (kept_pool c.args.pool) c.in_ok-grown.grown) c.append_free_block_ptr-taken.result) c.append_free_block_ptr-taken.ensures.step in
+      AskedGrowth-asked (kept_pool c.args.pool) c.args.len grows c.in_ok-grown.ensures.leads
+      (Took-named after.state (c.grow.ensures ∙ ap (longer c.in_ok-grown.grown) h.kept.split)
+      (Grew-took c.requires.valid h d c.append_free_block_ptr-taken.new.self t c.append_free_block_ptr-taken.result same stands footed step after spare c.append_free_block_ptr-taken.ensures.place));
+  payloads =
+      let did = c.append_free_block_ptr-taken.ensures in
+      let taken : KeepsPayloads c.if-supports_dealloc.tlsf c.append_free_block_ptr-taken.new.self = record { aligns = did.aligns; bytes = did.bytes; place = did.place; grow = did.grow; copied = did.copied } in
+      elim c.if-supports_dealloc.branch [
+        | then-supports_dealloc w ↦
+            let wrote = w.write_footer.ensures in
+            let footed = KeepsPayloads-same c.args.tlsf.now w.write_footer.new.tlsf wrote.state wrote.footer.place wrote.grow wrote.copied in
+            KeepsPayloads-trans _ _ _ (subst (KeepsPayloads c.args.tlsf.now) (sym w.tlsf-is) footed) taken
+        | else-supports_dealloc w ↦ subst (λ (d : Allocator). KeepsPayloads d c.append_free_block_ptr-taken.new.self) w.tlsf-is taken
+      ];
+  refused = tt;
+}

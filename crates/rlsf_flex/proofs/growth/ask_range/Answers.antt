@@ -37,20 +37,6 @@ alloc-requires g c =
     let is = range_length-whole (g.S.FlexSource.terms c.args.source.now) c.args.wanted c.in_ok-len.len whole (sym c.in_ok-len.ensures) in
     (omega (arith, is.0, room), is.1)
 
-pub returns-in_err-len-clause-step : goal.returns-in_err-len-clause-step
-returns-in_err-len-clause-step g c =
-    let before = flex_over c.args.tlsf.now c.args.kept.now c.args.source.now c.args.owed.now in
-    subst (AskedRange g.row.FLLEN g.row.SLLEN g.S.FlexSource.terms g.S.FlexSource.owes g.S.FlexSource.leads before before c.args.wanted) (sym c.from_residual.ensures)
-    (AskedRange-none (sym c.in_err-len.ensures) refl (Took-refused before c.args.source.now c.requires.stands refl c.requires.stands.owed c.args.wanted))
-
-pub returns-in_err-range-clause-step : goal.returns-in_err-range-clause-step
-returns-in_err-range-clause-step g c =
-    let before = flex_over c.args.tlsf.now c.args.kept.now c.args.source.now c.args.owed.now in
-    let same = g.met.S.FlexSource.constant c.args.source.now c.alloc.new.self (alloc c.in_ok-len.len c.alloc.result) c.alloc.ensures.leads in
-    subst (AskedRange g.row.FLLEN g.row.SLLEN g.S.FlexSource.terms g.S.FlexSource.owes g.S.FlexSource.leads before (flex_over c.args.tlsf.now c.args.kept.now c.alloc.new.self c.args.owed.now) c.args.wanted) (sym c.from_residual-in_err-range.ensures)
-    (AskedRange-asked (sym c.in_ok-len.ensures) c.in_err-range.ensures.leads
-    (Took-refused before c.alloc.new.self c.requires.stands same (c.in_err-range.ensures.owes c.args.owed.now.ranges c.requires.stands.owed) c.args.wanted))
-
 -- the range that came
 came : (g : given.Over) (c : In_ok-range g) → Came g.row.FLLEN g.row.SLLEN c.args.wanted g.S.FlexSource.terms g.S.FlexSource.owes (flex_over c.args.tlsf.now c.args.kept.now c.args.source.now c.args.owed.now) c.alloc.new.self c.in_ok-len.len c.in_ok-range.range
 came g c =
@@ -80,53 +66,61 @@ taken_is : (o : Option NonZeroUsize) (taken n : ℕ) → MatchOption o (taken �
 taken_is None taken n counted is = absurd (cc)
 taken_is (Some x) taken n counted is = cc
 
-pub returns-clause-step : goal.returns-clause-step
-returns-clause-step g c =
-    let t = g.S.FlexSource.terms c.args.source.now in
-    let same = g.met.S.FlexSource.constant c.args.source.now c.alloc.new.self (alloc c.in_ok-len.len c.alloc.result) c.alloc.ensures.leads in
-    let at = (goal.at.returns-clause-step g c).In_ok-range in
-    let is_came = came g at in
-    let b = c.insert_free_block_ptr.new.self in
-    let d = c.if-takes_back.tlsf in
-    let r = c.in_ok-range.range in
-    let place = c.insert_free_block_ptr.ensures.place in
-    let (step, stands, spare) = taken g (goal.at.returns-clause-step g c).After-insert_free_block_ptr in
-    let Done : Allocator → Type 0 = λ d. IsInState g.row.FLLEN g.row.SLLEN d b.state × IsFooted t.dealloc b.memory d.memory r (kept_start c.args.kept.now) (kept_len c.args.kept.now) in
-    let done : Done d = elim c.if-takes_back.branch [
-      | then-takes_back w ↦ subst Done (sym w.tlsf-is) (
-        stays_in stands w.write_footer.new.tlsf w.write_footer.ensures.state w.write_footer.ensures.stands,
-        IsFooted-written _ _ _ _ _ _ _ _ (sym (c.supports_dealloc-takes_back.ensures ∙ ap (λ (e : Terms). e.dealloc) same) ∙ w.if-takes_back.true) w.write_footer.ensures.footer w.words_of-start.ensures.0 w.words_of-start.ensures.1,
-      )
-      | else-takes_back w ↦ subst Done (sym w.tlsf-is) (stands, IsFooted-none _ _ _ _ _ (sym (c.supports_dealloc-takes_back.ensures ∙ ap (λ (e : Terms). e.dealloc) same) ∙ w.if-takes_back.false))
-    ] in
-    AskedRange-asked (sym c.in_ok-len.ensures) c.in_ok-range.ensures.leads (Took-named done.0.state c.give.ensures (Came-took c.requires.valid is_came b d b.state _ c.args.kept.now (kept_of c.then_some.result) same refl step stands spare place done.0 done.1
-    (λ n is. ap kept_of c.then_some.ensures ∙ kept_of-then_some c.keeps_pool.result (record { range = r; len = c.map_or-taken.result })
-    ∙ ap (λ k. then_some k (kept_pool (record { range = r; len = c.map_or-taken.result }))) (c.keeps_pool.ensures ∙ ap keeps same)
-    ∙ ap (λ m. then_some (keeps t) (record { range = r; len = m })) (taken_is c.insert_free_block_ptr.result c.map_or-taken.result n c.map_or-taken.ensures is))))
+pub returns-in_err-len : goal.returns-in_err-len
+returns-in_err-len g c =
+    rw c.from_residual.ensures (record {
+      step =
+          let before = flex_over c.args.tlsf.now c.args.kept.now c.args.source.now c.args.owed.now in
+          AskedRange-none (sym c.in_err-len.ensures) refl (Took-refused before c.args.source.now c.requires.stands refl c.requires.stands.owed c.args.wanted);
+      payloads = KeepsPayloads-refl c.args.tlsf.now;
+      refused = record { same = refl };
+    })
 
-pub returns-in_err-len-clause-payloads : goal.returns-in_err-len-clause-payloads
-returns-in_err-len-clause-payloads g c = KeepsPayloads-refl c.args.tlsf.now
+pub returns-in_err-range : goal.returns-in_err-range
+returns-in_err-range g c =
+    rw c.from_residual-in_err-range.ensures (record {
+      step =
+          let before = flex_over c.args.tlsf.now c.args.kept.now c.args.source.now c.args.owed.now in
+          let same = g.met.S.FlexSource.constant c.args.source.now c.alloc.new.self (alloc c.in_ok-len.len c.alloc.result) c.alloc.ensures.leads in
+          AskedRange-asked (sym c.in_ok-len.ensures) c.in_err-range.ensures.leads
+          (Took-refused before c.alloc.new.self c.requires.stands same (c.in_err-range.ensures.owes c.args.owed.now.ranges c.requires.stands.owed) c.args.wanted);
+      payloads = KeepsPayloads-refl c.args.tlsf.now;
+      refused = record { same = refl };
+    })
 
-pub returns-in_err-range-clause-payloads : goal.returns-in_err-range-clause-payloads
-returns-in_err-range-clause-payloads g c = KeepsPayloads-refl c.args.tlsf.now
-
-pub returns-clause-payloads : goal.returns-clause-payloads
-returns-clause-payloads g c =
-    let did = c.insert_free_block_ptr.ensures in
-    let taken : KeepsPayloads c.args.tlsf.now c.insert_free_block_ptr.new.self = record { aligns = did.aligns; bytes = did.bytes; place = did.place; grow = did.grow; copied = did.copied } in
-    elim c.if-takes_back.branch [
-      | then-takes_back w ↦
-          let wrote = w.write_footer.ensures in
-          let footed = KeepsPayloads-same c.insert_free_block_ptr.new.self w.write_footer.new.tlsf wrote.state wrote.footer.place wrote.grow wrote.copied in
-          subst (KeepsPayloads c.args.tlsf.now) (sym w.tlsf-is) (KeepsPayloads-trans _ _ _ taken footed)
-      | else-takes_back w ↦ subst (KeepsPayloads c.args.tlsf.now) (sym w.tlsf-is) taken
-    ]
-
-pub returns-in_err-len-clause-refused : goal.returns-in_err-len-clause-refused
-returns-in_err-len-clause-refused g c = if_any c.from_residual.result (record { same = refl })
-
-pub returns-in_err-range-clause-refused : goal.returns-in_err-range-clause-refused
-returns-in_err-range-clause-refused g c = if_any c.from_residual-in_err-range.result (record { same = refl })
-
-pub returns-clause-refused : goal.returns-clause-refused
-returns-clause-refused g c = tt
+pub returns : goal.returns
+returns g c = record {
+  step =
+      let t = g.S.FlexSource.terms c.args.source.now in
+      let same = g.met.S.FlexSource.constant c.args.source.now c.alloc.new.self (alloc c.in_ok-len.len c.alloc.result) c.alloc.ensures.leads in
+      let at = (goal.at.returns g c).In_ok-range in
+      let is_came = came g at in
+      let b = c.insert_free_block_ptr.new.self in
+      let d = c.if-takes_back.tlsf in
+      let r = c.in_ok-range.range in
+      let place = c.insert_free_block_ptr.ensures.place in
+      let (step, stands, spare) = taken g (goal.at.returns g c).After-insert_free_block_ptr in
+      let Done : Allocator → Type 0 = λ d. IsInState g.row.FLLEN g.row.SLLEN d b.state × IsFooted t.dealloc b.memory d.memory r (kept_start c.args.kept.now) (kept_len c.args.kept.now) in
+      let done : Done d = elim c.if-takes_back.branch [
+        | then-takes_back w ↦ subst Done (sym w.tlsf-is) (
+          stays_in stands w.write_footer.new.tlsf w.write_footer.ensures.state w.write_footer.ensures.stands,
+          IsFooted-written _ _ _ _ _ _ _ _ (sym (c.supports_dealloc-takes_back.ensures ∙ ap (λ (e : Terms). e.dealloc) same) ∙ w.if-takes_back.true) w.write_footer.ensures.footer w.words_of-start.ensures.0 w.words_of-start.ensures.1,
+        )
+        | else-takes_back w ↦ subst Done (sym w.tlsf-is) (stands, IsFooted-none _ _ _ _ _ (sym (c.supports_dealloc-takes_back.ensures ∙ ap (λ (e : Terms). e.dealloc) same) ∙ w.if-takes_back.false))
+      ] in
+      AskedRange-asked (sym c.in_ok-len.ensures) c.in_ok-range.ensures.leads (Took-named done.0.state c.give.ensures (Came-took c.requires.valid is_came b d b.state _ c.args.kept.now (kept_of c.then_some.result) same refl step stands spare place done.0 done.1
+      (λ n is. ap kept_of c.then_some.ensures ∙ kept_of-then_some c.keeps_pool.result (record { range = r; len = c.map_or-taken.result })
+      ∙ ap (λ k. then_some k (kept_pool (record { range = r; len = c.map_or-taken.result }))) (c.keeps_pool.ensures ∙ ap keeps same)
+      ∙ ap (λ m. then_some (keeps t) (record { range = r; len = m })) (taken_is c.insert_free_block_ptr.result c.map_or-taken.result n c.map_or-taken.ensures is))));
+  payloads =
+      let did = c.insert_free_block_ptr.ensures in
+      let taken : KeepsPayloads c.args.tlsf.now c.insert_free_block_ptr.new.self = record { aligns = did.aligns; bytes = did.bytes; place = did.place; grow = did.grow; copied = did.copied } in
+      elim c.if-takes_back.branch [
+        | then-takes_back w ↦
+            let wrote = w.write_footer.ensures in
+            let footed = KeepsPayloads-same c.insert_free_block_ptr.new.self w.write_footer.new.tlsf wrote.state wrote.footer.place wrote.grow wrote.copied in
+            subst (KeepsPayloads c.args.tlsf.now) (sym w.tlsf-is) (KeepsPayloads-trans _ _ _ taken footed)
+        | else-takes_back w ↦ subst (KeepsPayloads c.args.tlsf.now) (sym w.tlsf-is) taken
+      ];
+  refused = tt;
+}

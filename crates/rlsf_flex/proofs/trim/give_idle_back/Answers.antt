@@ -46,29 +46,17 @@ loop-count-preserved g c =
       copied = step.copied ∙ h.copied;
     }
 
-pub returns-clause-gone : goal.returns-clause-gone
-returns-clause-gone g c =
-    let begin = flex_contents c.args.tlsf.now c.args.kept.now c.args.source.now c.args.owed.now.ranges in
-    subst (λ (now : FlexContents g.row.S.Denot). GaveBack g.row.FLLEN g.row.SLLEN g.S.FlexSource.terms g.S.FlexSource.owes g.S.FlexSource.leads begin now c.loop-count.count) (sym (c.loop-count-test.ensures.same refl)) c.loop-count.invariant.gone
-
-pub returns-clause-same : goal.returns-clause-same
-returns-clause-same g c = λ none. c.loop-count-test.ensures.same refl ∙ c.loop-count.invariant.same none
-
-pub returns-clause-held : goal.returns-clause-held
-returns-clause-held g c =
-    subst (λ (now : FlexContents g.row.S.Denot). IsNewestHeld now.state.machine now.state.pools) (sym (c.loop-count-test.ensures.same refl)) (c.loop-count-test.ensures.held refl)
-
-pub returns-clause-aligns : goal.returns-clause-aligns
-returns-clause-aligns g c = c.loop-count-test.ensures.aligns ∙ c.loop-count.invariant.aligns
-
-pub returns-clause-bytes : goal.returns-clause-bytes
-returns-clause-bytes g c = c.loop-count-test.ensures.bytes ∙ c.loop-count.invariant.bytes
-
-pub returns-clause-touches : goal.returns-clause-touches
-returns-clause-touches g c = omega (arith, c.loop-count-test.ensures.touches, c.loop-count.invariant.touches)
-
-pub returns-clause-grow : goal.returns-clause-grow
-returns-clause-grow g c = omega (arith, c.loop-count-test.ensures.grow, c.loop-count.invariant.grow)
-
-pub returns-clause-copied : goal.returns-clause-copied
-returns-clause-copied g c = c.loop-count-test.ensures.copied ∙ c.loop-count.invariant.copied
+pub returns : goal.returns
+returns g c = record {
+  gone =
+      let begin = flex_contents c.args.tlsf.now c.args.kept.now c.args.source.now c.args.owed.now.ranges in
+      subst (λ (now : FlexContents g.row.S.Denot). GaveBack g.row.FLLEN g.row.SLLEN g.S.FlexSource.terms g.S.FlexSource.owes g.S.FlexSource.leads begin now c.loop-count.count) (sym (c.loop-count-test.ensures.same refl)) c.loop-count.invariant.gone;
+  held =
+      subst (λ (now : FlexContents g.row.S.Denot). IsNewestHeld now.state.machine now.state.pools) (sym (c.loop-count-test.ensures.same refl)) (c.loop-count-test.ensures.held refl);
+  same = λ none. c.loop-count-test.ensures.same refl ∙ c.loop-count.invariant.same none;
+  aligns = c.loop-count-test.ensures.aligns ∙ c.loop-count.invariant.aligns;
+  bytes = c.loop-count-test.ensures.bytes ∙ c.loop-count.invariant.bytes;
+  touches = omega (arith, c.loop-count-test.ensures.touches, c.loop-count.invariant.touches);
+  grow = omega (arith, c.loop-count-test.ensures.grow, c.loop-count.invariant.grow);
+  copied = c.loop-count-test.ensures.copied ∙ c.loop-count.invariant.copied;
+}
