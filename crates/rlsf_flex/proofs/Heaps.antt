@@ -1,5 +1,5 @@
 -- A source's ranges as an allocator's allocations.
-use Rattle.std.proofs.Common.{◌≡◌, ℕ, ◌<◌, List, [], ◌∷◌, ◌++◌, map, arith, refl, sym, ◌∙◌, ap, subst, inl, inr}
+use Rattle.std.proofs.Common.{◌≡◌, ℕ, ◌<◌, List, Option, [], ◌∷◌, ◌++◌, map, arith, refl, sym, ◌∙◌, ap, subst, inl, inr}
 use Rattle.std.proofs.lemmas.List.{map-append}
 use Rattle.std.specs.Int.{next_multiple_of}
 use Rattle.rlsf_base.proofs.Numbers.Roundings.{next_multiple_of-le}
@@ -10,7 +10,7 @@ use Rattle.rlsf_machine.specs.Lists.{IsIn}
 use Rattle.rlsf_machine.specs.Terms.{IsGiven}
 use Rattle.rlsf_machine.proofs.Between.{IsIn-between}
 use Rattle.rlsf_machine.proofs.Coverage.{IsIn-append_right}
-use Rattle.rlsf_flex.specs.Heap.{Allocation, allocation_at, allocation_of, bytes_of_allocation, HeapOwes, heap_terms, IsAllocated}
+use Rattle.rlsf_flex.specs.Heap.{Allocation, HeapNote, allocate, allocation_at, allocation_of, bytes_of_allocation, HeapOwes, heap_terms, IsAllocated}
 
 -- the bytes of the ranges' allocations are the ranges
 bytes_of_allocation-allocations : (align : ℕ) (rs : List Range) → map bytes_of_allocation (map (allocation_of align) rs) ≡ rs
@@ -21,6 +21,10 @@ bytes_of_allocation-allocations align (r ∷ rs) = ap (λ qs. r ∷ qs) (bytes_o
 pub Allocation-equal : {align : ℕ} {r : Range} (a : Allocation) → a.addr ≡ r.start → a.size ≡ r.len → a.align ≡ align → a ≡ allocation_of align r
 Allocation-equal {align} {r} a same_addr same_size same_align =
     ap (λ n. allocation_at n a.size a.align) same_addr ∙ ap (λ n. allocation_at r.start n a.align) same_size ∙ ap (allocation_at r.start r.len) same_align
+
+-- a question for a layout is one for the layout's numbers
+pub asked_for : {T : Type 0} (leads : T → HeapNote → T → Type 0) (x y : T) {size align n a : ℕ} (answer : Option ℕ) → size ≡ n → align ≡ a → leads x (allocate size align answer) y → leads x (allocate n a answer) y
+asked_for leads x y {size} {a = a} answer same_size same_align led = subst (λ m. leads x (allocate m a answer) y) same_size (subst (λ b. leads x (allocate size b answer) y) same_align led)
 
 module _ {T : Type 0} (owes : T → List Allocation → Type 0) (align : ℕ) where
   -- an outstanding range was answered for a layout
