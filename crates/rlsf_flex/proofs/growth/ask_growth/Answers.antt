@@ -3,7 +3,7 @@ use Rattle.rlsf_base.specs.Space.{IsWord, range_of, word_at}
 use Rattle.rlsf_tlsf.specs.Allocator.{Allocator, IsInState}
 use Rattle.rlsf_flex.specs.Footers.{first_len, first_start, footer_of, Footers}
 use Rattle.rlsf_flex.specs.StandsFor.{kept_pool}
-use Rattle.rlsf_flex.specs.Steps.Growth.{AskedGrowth, KeepsPayloads}
+use Rattle.rlsf_flex.specs.Steps.Growth.{KeepsPayloads}
 use Rattle.rlsf_flex.specs.Steps.Parts.{flex_over}
 use Rattle.rlsf_machine.specs.Growth.{behind, longer}
 use Rattle.rlsf_machine.specs.Insert.{Appends, IsNext}
@@ -12,7 +12,6 @@ use Rattle.rlsf_machine.specs.Note.{grow}
 use Rattle.rlsf_machine.specs.Terms.{Terms, with_len}
 use Rattle.rlsf_machine.proofs.TakenPools.{pool_size_is}
 use Rattle.rlsf_tlsf.proofs.Standing.{of_state, stepped}
-use Rattle.rlsf_flex.proofs.Allocations.{if_any}
 use Rattle.rlsf_flex.proofs.Asks.{AskedGrowth-asked, AskedGrowth-none}
 use Rattle.rlsf_flex.proofs.Calls.{stays_in}
 use Rattle.rlsf_flex.proofs.Frames.{ends_here, spare_here}

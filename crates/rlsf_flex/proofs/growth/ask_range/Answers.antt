@@ -8,7 +8,7 @@ use Rattle.rlsf_base.specs.Space.{range_of}
 use Rattle.rlsf_blocks.specs.Spare.{KeepsSpare}
 use Rattle.rlsf_tlsf.specs.Allocator.{Allocator, IsInState}
 use Rattle.rlsf_flex.specs.StandsFor.{kept_of, kept_pool}
-use Rattle.rlsf_flex.specs.Steps.Growth.{AskedRange, kept_len, kept_start, KeepsPayloads}
+use Rattle.rlsf_flex.specs.Steps.Growth.{kept_len, kept_start, KeepsPayloads}
 use Rattle.rlsf_flex.specs.Steps.Parts.{flex_over}
 use Rattle.rlsf_machine.specs.Growth.{keeps}
 use Rattle.rlsf_machine.specs.Insert.{Inserts}
@@ -17,7 +17,6 @@ use Rattle.rlsf_machine.specs.Note.{alloc}
 use Rattle.rlsf_machine.specs.Terms.{Terms}
 use Rattle.rlsf_machine.proofs.FlexGrowths.{given_fresh}
 use Rattle.rlsf_machine.proofs.TakenPools.{pool_size_is}
-use Rattle.rlsf_flex.proofs.Allocations.{if_any}
 use Rattle.rlsf_flex.proofs.Asks.{AskedRange-asked, AskedRange-none}
 use Rattle.rlsf_flex.proofs.Calls.{stays_in}
 use Rattle.rlsf_flex.proofs.NewRanges.{Came, Came-footer, Came-took}

@@ -1,6 +1,6 @@
-use Rattle.std.proofs.Common.{rules, ◌≡◌, ◌≢◌, ◌≤◌, ℕ, List, true≢false, Option, None, Some, IsSome, IfNone, IfSome, arith, refl, sym, ◌∙◌, ap, subst}
+use Rattle.std.proofs.Common.{rules, ◌≡◌, ◌≢◌, ℕ, List, true≢false, Option, None, Some, IsSome, IfNone, IfSome, arith, refl, sym, ◌∙◌, ap, subst}
 use Rattle.rlsf_base.specs.Addr.{at, reply}
-use Rattle.rlsf_flex.specs.StandsFor.{FlexContents, flex_contents, FlexSteps}
+use Rattle.rlsf_flex.specs.StandsFor.{flex_contents, FlexSteps}
 use Rattle.rlsf_machine.specs.Allocate.{Allocates}
 use Rattle.rlsf_machine.specs.Callers.{align_at, bytes_at}
 use Rattle.rlsf_machine.specs.FlexAllocate.{FlexAllocates}
