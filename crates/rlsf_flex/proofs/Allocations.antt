@@ -34,15 +34,6 @@ pub for_some : {A : Type 0} {P : A → Type 0} (o : Option A) → ((x : A) → o
 for_some None holds = tt
 for_some (Some x) holds = holds x refl
 
--- of what isn't there, anything holds
-pub vacuous : {A : Type 0} (P : A → Type 0) (o : Option A) → o ≡ None → IfSome o P
-vacuous P o none = for_some o (λ x some. absurd (none-some x (sym none ∙ some)))
-
--- what is true is so without an answer
-pub if_any : {A P : Type 0} (o : Option A) → P → IfNone o P
-if_any None p = p
-if_any (Some x) p = tt
-
 -- what there is a value of isn't none
 pub not_none : {A : Type 0} (P : Type 0) (o : Option A) → (o ≡ None → ⊥) → IfNone o P
 not_none P None some = absurd (some refl)

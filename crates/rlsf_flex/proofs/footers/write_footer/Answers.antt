@@ -1,4 +1,4 @@
-use Rattle.std.proofs.Common.{rules, ◌+◌, arith, ap, refl, sym, ◌∙◌, subst}
+use Rattle.std.proofs.Common.{◌+◌, arith, ap, refl, sym, ◌∙◌, subst}
 use Rattle.rlsf_blocks.specs.Spare.{IsSpareWord}
 use Rattle.rlsf_flex.proofs.FooterWords.{IsSpareWord-place, writes_footer}
 use Rattle.rlsf_flex.proofs.footers.write_footer.Goals as goal
@@ -6,13 +6,13 @@ use Rattle.rlsf_flex.proofs.footers.write_footer.Goals as goal
 pub set_spare_word-requires : goal.set_spare_word-requires
 set_spare_word-requires g c =
     let old = c.args.tlsf.now.memory in
-    (search rules, IsSpareWord-place old old c.args.tlsf.now.state _ _ (refl, refl) c.footer_at-footer.ensures c.requires.spare.0)
+    (omega arith, IsSpareWord-place old old c.args.tlsf.now.state _ _ (refl, refl) c.footer_at-footer.ensures c.requires.spare.0)
 
 pub set_spare_word-requires-2 : goal.set_spare_word-requires-2
 set_spare_word-requires-2 g c =
     let one = c.set_spare_word.ensures in
     let new = c.set_spare_word.new.self in (
-      search rules,
+      omega arith,
       subst (λ s. IsSpareWord new.memory s (c.footer_at-footer.result + 8)) (sym one.state)
           (IsSpareWord-place c.args.tlsf.now.memory new.memory c.args.tlsf.now.state _ _ one.place (ap (λ a. a + 8) c.footer_at-footer.ensures) c.requires.spare.1),
     )

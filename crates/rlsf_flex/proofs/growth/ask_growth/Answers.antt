@@ -1,4 +1,4 @@
-use Rattle.std.proofs.Common.{rules, true, false, ◌≡◌, ◌+◌, [], arith, sym, ap, ◌∙◌, subst, refl, inl}
+use Rattle.std.proofs.Common.{true, false, ◌≡◌, ◌+◌, [], arith, sym, ap, ◌∙◌, subst, refl, inl}
 use Rattle.rlsf_base.specs.Space.{IsWord, range_of, word_at}
 use Rattle.rlsf_tlsf.specs.Allocator.{Allocator, IsInState}
 use Rattle.rlsf_flex.specs.Footers.{first_len, first_start, footer_of, Footers}
@@ -69,7 +69,7 @@ pub write_footer-requires : goal.write_footer-requires
 write_footer-requires g c =
     let now = with_len c.args.pool.range c.in_ok-grown.grown in
     let (ends, footer) = Grew-footers c.requires.valid (grew g (goal.at.write_footer-requires g c).In_ok-grown) c.args.tlsf.now.memory c.requires.stands.machine.well_formed (refl, refl) now (inl refl) in
-    (search rules, (ends, footer))
+    (omega arith, (ends, footer))
 
 pub overflow_add-pool : goal.overflow_add-pool
 overflow_add-pool g c =
@@ -109,7 +109,7 @@ pub append_free_block_ptr-taken-requires : goal.append_free_block_ptr-taken-requ
 append_free_block_ptr-taken-requires g c =
     let h = grew g (goal.at.append_free_block_ptr-taken-requires g c).In_ok-grown in
     let (stands, footed) = moved g (goal.at.append_free_block_ptr-taken-requires g c).Joined-supports_dealloc h in
-    (search rules, of_state stands (λ x. IsNext (range_of c.if-supports_dealloc.tlsf.memory) x (behind (kept_pool c.args.pool) c.in_ok-grown.grown)) (Grew-next c.requires.valid h c.if-supports_dealloc.tlsf.memory footed.place))
+    (omega arith, of_state stands (λ x. IsNext (range_of c.if-supports_dealloc.tlsf.memory) x (behind (kept_pool c.args.pool) c.in_ok-grown.grown)) (Grew-next c.requires.valid h c.if-supports_dealloc.tlsf.memory footed.place))
 
 pub overflow_add-kept : goal.overflow_add-kept
 overflow_add-kept g c =

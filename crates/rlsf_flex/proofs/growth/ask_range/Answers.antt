@@ -1,4 +1,4 @@
-use Rattle.std.proofs.Common.{rules, ◌≡◌, ◌≤◌, ℕ, arith, Option, Some, None, sym, ap, ◌∙◌, subst, refl}
+use Rattle.std.proofs.Common.{◌≡◌, ◌≤◌, ℕ, arith, Option, Some, None, sym, ap, ◌∙◌, subst, refl}
 use Rattle.std.specs.Bool.{then_some}
 use Rattle.std.specs.Int.NonZero.{non_zero_usize_get}
 use Rattle.std.specs.Option.{MatchOption, option_map}
@@ -45,7 +45,7 @@ came g c =
 pub insert_free_block_ptr-requires : goal.insert_free_block_ptr-requires
 insert_free_block_ptr-requires g c =
     let is_came = came g (goal.at.insert_free_block_ptr-requires g c).In_ok-range in
-    (search rules, parts_of-IsFresh (range_of c.args.tlsf.now.memory) c.args.tlsf.now.state c.in_ok-range.range (given_fresh is_came.before.well_formed c.in_ok-len.len c.in_ok-range.range is_came.is_given))
+    (omega arith, parts_of-IsFresh (range_of c.args.tlsf.now.memory) c.args.tlsf.now.state c.in_ok-range.range (given_fresh is_came.before.well_formed c.in_ok-len.len c.in_ok-range.range is_came.is_given))
 
 -- the range was taken
 taken : (g : given.Over) (c : After-insert_free_block_ptr g)
@@ -58,7 +58,7 @@ write_footer-requires g c =
     let is_came = came g (goal.at.write_footer-requires g c).In_ok-range in
     let (step, stands, spare) = taken g (goal.at.write_footer-requires g c).After-insert_free_block_ptr in
     let (ends, footer) = Came-footer c.requires.valid is_came c.insert_free_block_ptr.new.self.memory c.insert_free_block_ptr.new.self.state _ step c.insert_free_block_ptr.ensures.place in
-    (search rules, (ends, footer))
+    (omega arith, (ends, footer))
 
 -- how many bytes were taken
 taken_is : (o : Option NonZeroUsize) (taken n : ℕ) → MatchOption o (taken ≡ 0) (λ x. (taken ≡ non_zero_usize_get x) × (1 ≤ taken)) → option_map non_zero_usize_get o ≡ Some n → taken ≡ n

@@ -13,7 +13,7 @@ use Rattle.rlsf_flex.proofs.trim.give_newest_back.Goals as goal
 use Rattle.rlsf_flex.proofs.trim.give_newest_back.Goals.{After-drop_newest}
 
 pub is_idle-requires : goal.is_idle-requires
-is_idle-requires g c = (search rules, (stood_at c.requires.stands.machine, (newest_pool c.requires.stands c.in-Some.is).row))
+is_idle-requires g c = (omega arith, (stood_at c.requires.stands.machine, (newest_pool c.requires.stands c.in-Some.is).row))
 
 pub range_before-before-requires-clause-range : goal.range_before-before-requires-clause-range
 range_before-before-requires-clause-range g c = newest_ends c.requires.stands c.in-Some.is
@@ -24,7 +24,7 @@ range_before-before-requires-clause-words g c =
     subst (λ m. IsWord m at × IsWord m (at + 8)) (sym c.memory_ref.ensures.memory) (newest_words c.requires.stands c.in-Some.is)
 
 pub remove_pool-requires : goal.remove_pool-requires
-remove_pool-requires g c = (search rules, ((newest_pool c.requires.stands c.in-Some.is).row, c.is_idle.ensures.0 c.if-not-is_idle.false))
+remove_pool-requires g c = (omega arith, ((newest_pool c.requires.stands c.in-Some.is).row, c.is_idle.ensures.0 c.if-not-is_idle.false))
 
 pub dealloc-requires-clause-outstanding : goal.dealloc-requires-clause-outstanding
 dealloc-requires-clause-outstanding g c =
@@ -43,7 +43,7 @@ pool_of-requires g c =
     let (step, stands, spare) = opened _ _ _ c.remove_pool.ensures.step in
     let idle = c.is_idle.ensures.0 c.if-not-is_idle.false in
     let b = c.remove_pool.new.self in (
-      search rules,
+      omega arith,
       (
         stood_at stands,
         subst (λ o. IfSome o (λ r. HasRoomForChunk r × ((len : ℕ) × IsPool b.state r len))) (sym (before_is g (goal.at.pool_of-requires g c).After-drop_newest)) (next_pool c.requires.stands c.in-Some.is idle b step),

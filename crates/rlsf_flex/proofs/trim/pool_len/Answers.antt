@@ -1,4 +1,4 @@
-use Rattle.std.proofs.Common.{rules, ◌+◌, ◌≤◌, arith, sym, subst}
+use Rattle.std.proofs.Common.{◌+◌, ◌≤◌, arith, sym, subst}
 use Rattle.rlsf_base.specs.Range.{end_of}
 use Rattle.rlsf_flex.proofs.RangeRows.{IsEdge, IsEdge-end, IsEdge-next, chunk_at}
 use Rattle.rlsf_flex.proofs.Standing.{stood}
@@ -15,7 +15,7 @@ chunk_end-end-requires g c =
     let edge = c.loop-end.invariant len is in
     let more : c.loop-end.end + 64 ≤ end_of c.args.range = omega (arith, c.loop-end-test.true, edge.to, is.within) in
     let (chunk, i, at, to) = chunk_at (stood c.requires.stands).well_formed c.args.range len is c.loop-end.end edge more in
-    (search rules, (chunk, i, at))
+    (omega arith, (chunk, i, at))
 
 pub loop-end-smaller : goal.loop-end-smaller
 loop-end-smaller g c =
