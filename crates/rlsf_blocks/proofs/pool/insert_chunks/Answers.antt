@@ -62,47 +62,39 @@ overflow_sub-taken g c =
     let filled = c.loop-left.invariant s v fresh in
     omega (arith, filled.from, round32-le c.args.range.start)
 
-pub returns-clause-step : goal.returns-clause-step
-returns-clause-step g c = λ s v fresh.
-    let filled = c.loop-left.invariant s v fresh in
-    let answer = number c.new.result c.if-start-first.taken c.new.ensures in
-    let first : c.in-Some.first ≡ round32 c.args.range.start = c.in-Some.ensures.1 in
-    let skipped = round32-le c.args.range.start in
-    IsFilled-end v c.args.range fresh filled (omega arith) (option_map non_zero_usize_get c.new.result)
-    (λ at. answer.0 (elim c.if-start-first.branch [ then-start-first w ↦ w.taken-is | else-start-first w ↦ absurd (w.if-start-first.false (at ∙ sym first)) ]))
-    (λ past. elim c.if-start-first.branch [
-      | then-start-first w ↦ absurd (past (w.if-start-first.true ∙ first))
-      | else-start-first w ↦ answer.1 (omega (arith, w.taken-is, filled.from, past)) ∙ ap Some w.taken-is
-    ])
-
-pub returns-clause-refused : goal.returns-clause-refused
-returns-clause-refused g c =
-    let (s, v, fresh) = c.requires.fresh in
-    let filled = c.loop-left.invariant s v fresh in
-    let first : c.in-Some.first ≡ round32 c.args.range.start = c.in-Some.ensures.1 in
-    on_none c.new.result c.if-start-first.taken c.new.ensures (λ none. filled.untouched (elim c.if-start-first.branch [
-      | then-start-first w ↦ w.if-start-first.true ∙ first
-      | else-start-first w ↦ omega (arith, w.taken-is, filled.from, round32-le c.args.range.start)
-    ]))
-
-pub returns-clause-place : goal.returns-clause-place
-returns-clause-place g c =
-    let (s, v, fresh) = c.requires.fresh in
-    let filled = c.loop-left.invariant s v fresh in
-    (ap (λ p. p.start) filled.place, ap (λ p. p.len) filled.place)
-
-pub returns-clause-touches : goal.returns-clause-touches
-returns-clause-touches g c =
-    let (s, v, fresh) = c.requires.fresh in
-    let filled = c.loop-left.invariant s v fresh in
-    omega (arith, filled.touches)
-
-pub returns-clause-grow : goal.returns-clause-grow
-returns-clause-grow g c =
-    let (s, v, fresh) = c.requires.fresh in
-    (c.loop-left.invariant s v fresh).grow
-
-pub returns-clause-copied : goal.returns-clause-copied
-returns-clause-copied g c =
-    let (s, v, fresh) = c.requires.fresh in
-    (c.loop-left.invariant s v fresh).copied
+pub returns : goal.returns
+returns g c = record {
+  step = λ s v fresh.
+      let filled = c.loop-left.invariant s v fresh in
+      let answer = number c.new.result c.if-start-first.taken c.new.ensures in
+      let first : c.in-Some.first ≡ round32 c.args.range.start = c.in-Some.ensures.1 in
+      let skipped = round32-le c.args.range.start in
+      IsFilled-end v c.args.range fresh filled (omega arith) (option_map non_zero_usize_get c.new.result)
+      (λ at. answer.0 (elim c.if-start-first.branch [ then-start-first w ↦ w.taken-is | else-start-first w ↦ absurd (w.if-start-first.false (at ∙ sym first)) ]))
+      (λ past. elim c.if-start-first.branch [
+        | then-start-first w ↦ absurd (past (w.if-start-first.true ∙ first))
+        | else-start-first w ↦ answer.1 (omega (arith, w.taken-is, filled.from, past)) ∙ ap Some w.taken-is
+      ]);
+  refused =
+      let (s, v, fresh) = c.requires.fresh in
+      let filled = c.loop-left.invariant s v fresh in
+      let first : c.in-Some.first ≡ round32 c.args.range.start = c.in-Some.ensures.1 in
+      on_none c.new.result c.if-start-first.taken c.new.ensures (λ none. filled.untouched (elim c.if-start-first.branch [
+        | then-start-first w ↦ w.if-start-first.true ∙ first
+        | else-start-first w ↦ omega (arith, w.taken-is, filled.from, round32-le c.args.range.start)
+      ]));
+  place =
+      let (s, v, fresh) = c.requires.fresh in
+      let filled = c.loop-left.invariant s v fresh in
+      (ap (λ p. p.start) filled.place, ap (λ p. p.len) filled.place);
+  touches =
+      let (s, v, fresh) = c.requires.fresh in
+      let filled = c.loop-left.invariant s v fresh in
+      omega (arith, filled.touches);
+  grow =
+      let (s, v, fresh) = c.requires.fresh in
+      (c.loop-left.invariant s v fresh).grow;
+  copied =
+      let (s, v, fresh) = c.requires.fresh in
+      (c.loop-left.invariant s v fresh).copied;
+}

@@ -45,32 +45,26 @@ loop-start-preserved g c = λ s v row idle.
     let step = c.remove_chunk-start.ensures.step (removed (between q.start c.loop-start.start) s) (chunk v q rowed idles is more) is.stands (IsIdleChunk-next v q rowed idles is more) in
     (span, IsRemovedTo-next v q rowed idles is more step c.remove_chunk-start.ensures.place c.remove_chunk-start.ensures.touches c.remove_chunk-start.ensures.grow c.remove_chunk-start.ensures.copied)
 
-pub returns-clause-step : goal.returns-clause-step
-returns-clause-step g c = λ s v row idle.
-    let (span, is) = c.loop-start.invariant s v row idle in
-    let end : c.loop-start.start ≡ c.span-start.result.1 = omega (arith, is.to, span.within, c.loop-start-test.false) in
-    let stands = subst (λ a. StandsFor g.row.FLLEN g.row.SLLEN (contents c.loop-start.memory c.loop-start.table) (removed (between c.span-start.result.0 a) s)) end is.stands in
-    (subst (StandsFor g.row.FLLEN g.row.SLLEN (contents c.loop-start.memory c.loop-start.table)) (removed-span v (walked c.args.range) _ _ span) stands, is.spare)
-
-pub returns-clause-place : goal.returns-clause-place
-returns-clause-place g c =
-    let (s, v, row, idle) = c.requires.idle in
-    (c.loop-start.invariant s v row idle).1.place
-
-pub returns-clause-touches : goal.returns-clause-touches
-returns-clause-touches g c = λ s v row idle.
-    let (span, is) = c.loop-start.invariant s v row idle in
-    let end : c.loop-start.start ≡ c.span-start.result.1 = omega (arith, is.to, span.within, c.loop-start-test.false) in
-    let same = ap (λ (x : State). length x.chunks) (removed-span v (walked c.args.range) _ _ span) in
-    let at_end = ap (λ a. length (outside_of (between c.span-start.result.0 a) s.chunks)) end in
-    omega (arith, is.touches, same, at_end)
-
-pub returns-clause-copied : goal.returns-clause-copied
-returns-clause-copied g c =
-    let (s, v, row, idle) = c.requires.idle in
-    (c.loop-start.invariant s v row idle).1.copied
-
-pub returns-clause-grow : goal.returns-clause-grow
-returns-clause-grow g c =
-    let (s, v, row, idle) = c.requires.idle in
-    (c.loop-start.invariant s v row idle).1.grow
+pub returns : goal.returns
+returns g c = record {
+  step = λ s v row idle.
+      let (span, is) = c.loop-start.invariant s v row idle in
+      let end : c.loop-start.start ≡ c.span-start.result.1 = omega (arith, is.to, span.within, c.loop-start-test.false) in
+      let stands = subst (λ a. StandsFor g.row.FLLEN g.row.SLLEN (contents c.loop-start.memory c.loop-start.table) (removed (between c.span-start.result.0 a) s)) end is.stands in
+      (subst (StandsFor g.row.FLLEN g.row.SLLEN (contents c.loop-start.memory c.loop-start.table)) (removed-span v (walked c.args.range) _ _ span) stands, is.spare);
+  place =
+      let (s, v, row, idle) = c.requires.idle in
+      (c.loop-start.invariant s v row idle).1.place;
+  touches = λ s v row idle.
+      let (span, is) = c.loop-start.invariant s v row idle in
+      let end : c.loop-start.start ≡ c.span-start.result.1 = omega (arith, is.to, span.within, c.loop-start-test.false) in
+      let same = ap (λ (x : State). length x.chunks) (removed-span v (walked c.args.range) _ _ span) in
+      let at_end = ap (λ a. length (outside_of (between c.span-start.result.0 a) s.chunks)) end in
+      omega (arith, is.touches, same, at_end);
+  grow =
+      let (s, v, row, idle) = c.requires.idle in
+      (c.loop-start.invariant s v row idle).1.grow;
+  copied =
+      let (s, v, row, idle) = c.requires.idle in
+      (c.loop-start.invariant s v row idle).1.copied;
+}

@@ -8,8 +8,8 @@ invariant_of-result c =
     let (fllen, sllen, t, s, v, row) = c.requires in
     (fllen, sllen, t, s, v, IsAtBlock-span v (walked c.args.range) _ _ (c.span-start.ensures fllen sllen _ t s v row) row)
 
-pub returns-clause-blocks : goal.returns-clause-blocks
-returns-clause-blocks c = λ fllen sllen t s v row. AreBlocks-span v (walked c.args.range) _ _ (c.span-start.ensures fllen sllen _ t s v row) row
-
-pub returns-clause-runs : goal.returns-clause-runs
-returns-clause-runs c = gives_in_order
+pub returns : goal.returns
+returns c = record {
+  blocks = λ fllen sllen t s v row. AreBlocks-span v (walked c.args.range) _ _ (c.span-start.ensures fllen sllen _ t s v row) row;
+  runs = gives_in_order;
+}

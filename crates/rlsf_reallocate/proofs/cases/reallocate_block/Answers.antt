@@ -5,11 +5,6 @@ use Rattle.rlsf_blocks.proofs.Counting.{SamePlace-counted_first, copied-more, gr
 use Rattle.rlsf_blocks.proofs.Refused.{none_more}
 use Rattle.rlsf_reallocate.proofs.cases.reallocate_block.Goals as goal
 
-pub returns-then-resize_block-clause-step : goal.returns-then-resize_block-clause-step
-returns-then-resize_block-clause-step g c = λ s u v is.
-    let (p, first, at, carried) = c.resize_block.ensures.done s u v is c.if-resize_block.true in
-    IsReallocated-planned c.args.memory.now c.resize_block.new.memory c.args.table.now c.resize_block.new.table s u c.args.layout.size p c.args.payload (plan-stays s u c.args.layout.size p first) at carried
-
 pub move_into_previous-requires : goal.move_into_previous-requires
 move_into_previous-requires g c =
     let (s, u, v, is) = c.requires.used in
@@ -18,24 +13,6 @@ move_into_previous-requires g c =
     let first = c.resize_block.ensures.refused s u v is c.if-resize_block.false in
     let none = in_place-none s u c.args.layout.size first in
     (search rules, (c.requires.parameters, ((s, u, v1, is, none), search rules)))
-
-pub returns-in-Some-clause-step : goal.returns-in-Some-clause-step
-returns-in-Some-clause-step g c = λ s u v is.
-    let same = c.resize_block.ensures.unchanged c.if-resize_block.false in
-    let v1 = StandsFor-unchanged c.args.memory.now c.resize_block.new.memory c.args.table.now c.resize_block.new.table s 2 same v in
-    let first = c.resize_block.ensures.refused s u v is c.if-resize_block.false in
-    let none = in_place-none s u c.args.layout.size first in
-    let (p, third, at, carried) = c.in-Some.ensures.moved s u v1 is none in
-    IsReallocated-counted_first c.resize_block.new.memory c.move_into_previous.new.memory c.resize_block.new.table c.move_into_previous.new.table s u c.args.layout.size c.args.memory.now 2 (Some c.in-Some.moved) same.0
-    (IsReallocated-planned c.resize_block.new.memory c.move_into_previous.new.memory c.resize_block.new.table c.move_into_previous.new.table s u c.args.layout.size p c.in-Some.moved (plan-moves s u c.args.layout.size first ∙ third) at carried)
-
-pub returns-in-Some-clause-copied : goal.returns-in-Some-clause-copied
-returns-in-Some-clause-copied g c = λ s u v is.
-    let same = c.resize_block.ensures.unchanged c.if-resize_block.false in
-    let v1 = StandsFor-unchanged c.args.memory.now c.resize_block.new.memory c.args.table.now c.resize_block.new.table s 2 same v in
-    let first = c.resize_block.ensures.refused s u v is c.if-resize_block.false in
-    let none = in_place-none s u c.args.layout.size first in
-    omega (arith, same.0.copied, c.move_into_previous.ensures.copied s u v1 is)
 
 pub move_elsewhere-requires : goal.move_elsewhere-requires
 move_elsewhere-requires g c =
@@ -48,89 +25,76 @@ move_elsewhere-requires g c =
     let v2 = StandsFor-unchanged c.resize_block.new.memory c.move_into_previous.new.memory c.resize_block.new.table c.move_into_previous.new.table s 4 same_still v1 in
     (search rules, (c.requires.parameters, (search rules, (s, u, v2, is, none))))
 
-pub returns-clause-step : goal.returns-clause-step
-returns-clause-step g c = λ s u v is.
-    let same = c.resize_block.ensures.unchanged c.if-resize_block.false in
-    let v1 = StandsFor-unchanged c.args.memory.now c.resize_block.new.memory c.args.table.now c.resize_block.new.table s 2 same v in
-    let first = c.resize_block.ensures.refused s u v is c.if-resize_block.false in
-    let none = in_place-none s u c.args.layout.size first in
-    let same_still = c.in_default.ensures.unchanged in
-    let v2 = StandsFor-unchanged c.resize_block.new.memory c.move_into_previous.new.memory c.resize_block.new.table c.move_into_previous.new.table s 4 same_still v1 in
-    let nowhere = plan-moves s u c.args.layout.size first ∙ c.in_default.ensures.refused s u v1 is none in
-    IsReallocated-counted_first c.resize_block.new.memory c.move_elsewhere.new.memory c.resize_block.new.table c.move_elsewhere.new.table s u c.args.layout.size c.args.memory.now 2 c.move_elsewhere.result same.0
-    (IsReallocated-counted_first c.move_into_previous.new.memory c.move_elsewhere.new.memory c.move_into_previous.new.table c.move_elsewhere.new.table s u c.args.layout.size c.resize_block.new.memory 4 c.move_elsewhere.result same_still.0
-    (IsReallocated-elsewhere c.move_into_previous.new.memory c.move_elsewhere.new.memory c.move_into_previous.new.table c.move_elsewhere.new.table s u c.args.layout.size c.move_elsewhere.result 5 nowhere v2 c.move_elsewhere.ensures.unchanged
-    (c.move_elsewhere.ensures.step s u v2 is none)))
-
-pub returns-clause-copied : goal.returns-clause-copied
-returns-clause-copied g c = λ s u v is.
-    let same = c.resize_block.ensures.unchanged c.if-resize_block.false in
-    let v1 = StandsFor-unchanged c.args.memory.now c.resize_block.new.memory c.args.table.now c.resize_block.new.table s 2 same v in
-    let first = c.resize_block.ensures.refused s u v is c.if-resize_block.false in
-    let none = in_place-none s u c.args.layout.size first in
-    let same_still = c.in_default.ensures.unchanged in
-    let v2 = StandsFor-unchanged c.resize_block.new.memory c.move_into_previous.new.memory c.resize_block.new.table c.move_into_previous.new.table s 4 same_still v1 in
-    omega (arith, same.0.copied, same_still.0.copied, c.move_elsewhere.ensures.copied s u v2 is)
-
 -- ---- where it stands
 
-pub returns-then-resize_block-clause-refused : goal.returns-then-resize_block-clause-refused
-returns-then-resize_block-clause-refused g c = tt
-
-pub returns-then-resize_block-clause-place : goal.returns-then-resize_block-clause-place
-returns-then-resize_block-clause-place g c = c.resize_block.ensures.place
-
-pub returns-then-resize_block-clause-touches : goal.returns-then-resize_block-clause-touches
-returns-then-resize_block-clause-touches g c = touches-more c.args.memory.now c.resize_block.new.memory 24 41 c.resize_block.ensures.touches
-
-pub returns-then-resize_block-clause-grow : goal.returns-then-resize_block-clause-grow
-returns-then-resize_block-clause-grow g c = c.resize_block.ensures.grow
-
-pub returns-then-resize_block-clause-copied : goal.returns-then-resize_block-clause-copied
-returns-then-resize_block-clause-copied g c = λ s u v is. copied-more c.args.memory.now c.resize_block.new.memory _ c.resize_block.ensures.copied
-
-pub returns-then-resize_block-clause-grow_copied : goal.returns-then-resize_block-clause-grow_copied
-returns-then-resize_block-clause-grow_copied g c = grow_copied-same c.args.memory.now c.resize_block.new.memory c.resize_block.ensures.copied
-
-pub returns-then-resize_block-clause-stays : goal.returns-then-resize_block-clause-stays
-returns-then-resize_block-clause-stays g c = λ s u v is p first. c.resize_block.ensures.copied
+pub returns-then-resize_block : goal.returns-then-resize_block
+returns-then-resize_block g c = record {
+  step = λ s u v is.
+      let (p, first, at, carried) = c.resize_block.ensures.done s u v is c.if-resize_block.true in
+      IsReallocated-planned c.args.memory.now c.resize_block.new.memory c.args.table.now c.resize_block.new.table s u c.args.layout.size p c.args.payload (plan-stays s u c.args.layout.size p first) at carried;
+  refused = tt;
+  place = c.resize_block.ensures.place;
+  touches = touches-more c.args.memory.now c.resize_block.new.memory 24 41 c.resize_block.ensures.touches;
+  grow = c.resize_block.ensures.grow;
+  copied = λ s u v is. copied-more c.args.memory.now c.resize_block.new.memory _ c.resize_block.ensures.copied;
+  grow_copied = grow_copied-same c.args.memory.now c.resize_block.new.memory c.resize_block.ensures.copied;
+  stays = λ s u v is p first. c.resize_block.ensures.copied;
+}
 
 -- ---- in the free block before it
 
-pub returns-in-Some-clause-refused : goal.returns-in-Some-clause-refused
-returns-in-Some-clause-refused g c = tt
-
-pub returns-in-Some-clause-place : goal.returns-in-Some-clause-place
-returns-in-Some-clause-place g c = SamePlace-counted_first c.args.memory.now c.resize_block.new.memory 2 (c.resize_block.ensures.unchanged c.if-resize_block.false).0 c.move_into_previous.new.memory c.move_into_previous.ensures.place
-
-pub returns-in-Some-clause-touches : goal.returns-in-Some-clause-touches
-returns-in-Some-clause-touches g c = touches-counted_first c.args.memory.now c.resize_block.new.memory 2 (c.resize_block.ensures.unchanged c.if-resize_block.false).0 c.move_into_previous.new.memory 63 (touches-more c.resize_block.new.memory c.move_into_previous.new.memory 37 26 c.move_into_previous.ensures.touches)
-
-pub returns-in-Some-clause-grow : goal.returns-in-Some-clause-grow
-returns-in-Some-clause-grow g c = grow-counted_first c.args.memory.now c.resize_block.new.memory 2 (c.resize_block.ensures.unchanged c.if-resize_block.false).0 c.move_into_previous.new.memory c.move_into_previous.ensures.grow
-
-pub returns-in-Some-clause-grow_copied : goal.returns-in-Some-clause-grow_copied
-returns-in-Some-clause-grow_copied g c = grow_copied-counted_first c.args.memory.now c.resize_block.new.memory 2 (c.resize_block.ensures.unchanged c.if-resize_block.false).0 c.move_into_previous.new.memory c.move_into_previous.ensures.grow_copied
-
-pub returns-in-Some-clause-stays : goal.returns-in-Some-clause-stays
-returns-in-Some-clause-stays g c = λ s u v is p first. absurd (none-some p (sym (c.resize_block.ensures.refused s u v is c.if-resize_block.false) ∙ first))
+pub returns-in-Some : goal.returns-in-Some
+returns-in-Some g c = record {
+  step = λ s u v is.
+      let same = c.resize_block.ensures.unchanged c.if-resize_block.false in
+      let v1 = StandsFor-unchanged c.args.memory.now c.resize_block.new.memory c.args.table.now c.resize_block.new.table s 2 same v in
+      let first = c.resize_block.ensures.refused s u v is c.if-resize_block.false in
+      let none = in_place-none s u c.args.layout.size first in
+      let (p, third, at, carried) = c.in-Some.ensures.moved s u v1 is none in
+      IsReallocated-counted_first c.resize_block.new.memory c.move_into_previous.new.memory c.resize_block.new.table c.move_into_previous.new.table s u c.args.layout.size c.args.memory.now 2 (Some c.in-Some.moved) same.0
+      (IsReallocated-planned c.resize_block.new.memory c.move_into_previous.new.memory c.resize_block.new.table c.move_into_previous.new.table s u c.args.layout.size p c.in-Some.moved (plan-moves s u c.args.layout.size first ∙ third) at carried);
+  refused = tt;
+  place = SamePlace-counted_first c.args.memory.now c.resize_block.new.memory 2 (c.resize_block.ensures.unchanged c.if-resize_block.false).0 c.move_into_previous.new.memory c.move_into_previous.ensures.place;
+  touches = touches-counted_first c.args.memory.now c.resize_block.new.memory 2 (c.resize_block.ensures.unchanged c.if-resize_block.false).0 c.move_into_previous.new.memory 63 (touches-more c.resize_block.new.memory c.move_into_previous.new.memory 37 26 c.move_into_previous.ensures.touches);
+  grow = grow-counted_first c.args.memory.now c.resize_block.new.memory 2 (c.resize_block.ensures.unchanged c.if-resize_block.false).0 c.move_into_previous.new.memory c.move_into_previous.ensures.grow;
+  copied = λ s u v is.
+      let same = c.resize_block.ensures.unchanged c.if-resize_block.false in
+      let v1 = StandsFor-unchanged c.args.memory.now c.resize_block.new.memory c.args.table.now c.resize_block.new.table s 2 same v in
+      let first = c.resize_block.ensures.refused s u v is c.if-resize_block.false in
+      let none = in_place-none s u c.args.layout.size first in
+      omega (arith, same.0.copied, c.move_into_previous.ensures.copied s u v1 is);
+  grow_copied = grow_copied-counted_first c.args.memory.now c.resize_block.new.memory 2 (c.resize_block.ensures.unchanged c.if-resize_block.false).0 c.move_into_previous.new.memory c.move_into_previous.ensures.grow_copied;
+  stays = λ s u v is p first. absurd (none-some p (sym (c.resize_block.ensures.refused s u v is c.if-resize_block.false) ∙ first));
+}
 
 -- ---- elsewhere
 
-pub returns-clause-refused : goal.returns-clause-refused
-returns-clause-refused g c = none_more c.move_elsewhere.result (λ same. same.0.bytes ∙ c.in_default.ensures.unchanged.0.bytes ∙ (c.resize_block.ensures.unchanged c.if-resize_block.false).0.bytes) c.move_elsewhere.ensures.unchanged
-
-pub returns-clause-place : goal.returns-clause-place
-returns-clause-place g c = SamePlace-counted_first c.args.memory.now c.resize_block.new.memory 2 (c.resize_block.ensures.unchanged c.if-resize_block.false).0 c.move_elsewhere.new.memory (SamePlace-counted_first c.resize_block.new.memory c.move_into_previous.new.memory 4 c.in_default.ensures.unchanged.0 c.move_elsewhere.new.memory c.move_elsewhere.ensures.place)
-
-pub returns-clause-touches : goal.returns-clause-touches
-returns-clause-touches g c = touches-counted_first c.args.memory.now c.resize_block.new.memory 2 (c.resize_block.ensures.unchanged c.if-resize_block.false).0 c.move_elsewhere.new.memory 63 (touches-counted_first c.resize_block.new.memory c.move_into_previous.new.memory 4 c.in_default.ensures.unchanged.0 c.move_elsewhere.new.memory 59 c.move_elsewhere.ensures.touches)
-
-pub returns-clause-grow : goal.returns-clause-grow
-returns-clause-grow g c = grow-counted_first c.args.memory.now c.resize_block.new.memory 2 (c.resize_block.ensures.unchanged c.if-resize_block.false).0 c.move_elsewhere.new.memory (grow-counted_first c.resize_block.new.memory c.move_into_previous.new.memory 4 c.in_default.ensures.unchanged.0 c.move_elsewhere.new.memory c.move_elsewhere.ensures.grow)
-
-pub returns-clause-grow_copied : goal.returns-clause-grow_copied
-returns-clause-grow_copied g c = grow_copied-counted_first c.args.memory.now c.resize_block.new.memory 2 (c.resize_block.ensures.unchanged c.if-resize_block.false).0 c.move_elsewhere.new.memory (grow_copied-counted_first c.resize_block.new.memory c.move_into_previous.new.memory 4 c.in_default.ensures.unchanged.0 c.move_elsewhere.new.memory c.move_elsewhere.ensures.grow_copied)
-
-pub returns-clause-stays : goal.returns-clause-stays
-returns-clause-stays g c = λ s u v is p first. absurd (none-some p (sym (c.resize_block.ensures.refused s u v is c.if-resize_block.false) ∙ first))
+pub returns : goal.returns
+returns g c = record {
+  step = λ s u v is.
+      let same = c.resize_block.ensures.unchanged c.if-resize_block.false in
+      let v1 = StandsFor-unchanged c.args.memory.now c.resize_block.new.memory c.args.table.now c.resize_block.new.table s 2 same v in
+      let first = c.resize_block.ensures.refused s u v is c.if-resize_block.false in
+      let none = in_place-none s u c.args.layout.size first in
+      let same_still = c.in_default.ensures.unchanged in
+      let v2 = StandsFor-unchanged c.resize_block.new.memory c.move_into_previous.new.memory c.resize_block.new.table c.move_into_previous.new.table s 4 same_still v1 in
+      let nowhere = plan-moves s u c.args.layout.size first ∙ c.in_default.ensures.refused s u v1 is none in
+      IsReallocated-counted_first c.resize_block.new.memory c.move_elsewhere.new.memory c.resize_block.new.table c.move_elsewhere.new.table s u c.args.layout.size c.args.memory.now 2 c.move_elsewhere.result same.0
+      (IsReallocated-counted_first c.move_into_previous.new.memory c.move_elsewhere.new.memory c.move_into_previous.new.table c.move_elsewhere.new.table s u c.args.layout.size c.resize_block.new.memory 4 c.move_elsewhere.result same_still.0
+      (IsReallocated-elsewhere c.move_into_previous.new.memory c.move_elsewhere.new.memory c.move_into_previous.new.table c.move_elsewhere.new.table s u c.args.layout.size c.move_elsewhere.result 5 nowhere v2 c.move_elsewhere.ensures.unchanged
+      (c.move_elsewhere.ensures.step s u v2 is none)));
+  refused = none_more c.move_elsewhere.result (λ same. same.0.bytes ∙ c.in_default.ensures.unchanged.0.bytes ∙ (c.resize_block.ensures.unchanged c.if-resize_block.false).0.bytes) c.move_elsewhere.ensures.unchanged;
+  place = SamePlace-counted_first c.args.memory.now c.resize_block.new.memory 2 (c.resize_block.ensures.unchanged c.if-resize_block.false).0 c.move_elsewhere.new.memory (SamePlace-counted_first c.resize_block.new.memory c.move_into_previous.new.memory 4 c.in_default.ensures.unchanged.0 c.move_elsewhere.new.memory c.move_elsewhere.ensures.place);
+  touches = touches-counted_first c.args.memory.now c.resize_block.new.memory 2 (c.resize_block.ensures.unchanged c.if-resize_block.false).0 c.move_elsewhere.new.memory 63 (touches-counted_first c.resize_block.new.memory c.move_into_previous.new.memory 4 c.in_default.ensures.unchanged.0 c.move_elsewhere.new.memory 59 c.move_elsewhere.ensures.touches);
+  grow = grow-counted_first c.args.memory.now c.resize_block.new.memory 2 (c.resize_block.ensures.unchanged c.if-resize_block.false).0 c.move_elsewhere.new.memory (grow-counted_first c.resize_block.new.memory c.move_into_previous.new.memory 4 c.in_default.ensures.unchanged.0 c.move_elsewhere.new.memory c.move_elsewhere.ensures.grow);
+  copied = λ s u v is.
+      let same = c.resize_block.ensures.unchanged c.if-resize_block.false in
+      let v1 = StandsFor-unchanged c.args.memory.now c.resize_block.new.memory c.args.table.now c.resize_block.new.table s 2 same v in
+      let first = c.resize_block.ensures.refused s u v is c.if-resize_block.false in
+      let none = in_place-none s u c.args.layout.size first in
+      let same_still = c.in_default.ensures.unchanged in
+      let v2 = StandsFor-unchanged c.resize_block.new.memory c.move_into_previous.new.memory c.resize_block.new.table c.move_into_previous.new.table s 4 same_still v1 in
+      omega (arith, same.0.copied, same_still.0.copied, c.move_elsewhere.ensures.copied s u v2 is);
+  grow_copied = grow_copied-counted_first c.args.memory.now c.resize_block.new.memory 2 (c.resize_block.ensures.unchanged c.if-resize_block.false).0 c.move_elsewhere.new.memory (grow_copied-counted_first c.resize_block.new.memory c.move_into_previous.new.memory 4 c.in_default.ensures.unchanged.0 c.move_elsewhere.new.memory c.move_elsewhere.ensures.grow_copied);
+  stays = λ s u v is p first. absurd (none-some p (sym (c.resize_block.ensures.refused s u v is c.if-resize_block.false) ∙ first));
+}

@@ -69,11 +69,6 @@ allocate_block-requires g c =
     let (s, u, v, is, short) = c.requires.used in
     (search rules, (c.requires.parameters, ((s, loaded g (goal.at.allocate_block-requires g c).After-load_at v), search rules)))
 
-pub returns-in_err-moved-clause-step : goal.returns-in_err-moved-clause-step
-returns-in_err-moved-clause-step g c = λ s u v is short.
-    let (t, none, now, spare) = c.in_err-moved.ensures.step s (loaded g (goal.at.returns-in_err-moved-clause-step g c).After-load_at v) in
-    on_none _ c.from_residual.result c.from_residual.ensures (subst (λ a. choice g.row.SLLEN (request_size c.args.layout.size a) s.free ≡ None) (sym is.alignment) none.0, refl)
-
 pub copy_within-requires-clause-from : goal.copy_within-requires-clause-from
 copy_within-requires-clause-from g c =
     let (s, u, v, is, short) = c.requires.used in
@@ -98,20 +93,6 @@ deallocate_block-requires g c =
     let (bytes, copied) = copied_stands v.well_formed u is.is_used c.args.layout.size short places now (old_payload g at u v is) c.copy_within.new.self c.copy_within.ensures.start c.copy_within.ensures.bytes in
     (search rules, (c.requires.parameters, ((both v.well_formed u is.is_used c.args.layout.size short places now bytes, u, copied.stands, inr is.is_used, is.start), search rules)))
 
-pub returns-clause-step : goal.returns-clause-step
-returns-clause-step g c = λ s u v is short.
-    let at = (goal.at.returns-clause-step g c).In_ok-moved in
-    let (t, places, now, spare) = placing g at s u v is in
-    let (bytes, copied) = copied_stands v.well_formed u is.is_used c.args.layout.size short places now (old_payload g at u v is) c.copy_within.new.self c.copy_within.ensures.start c.copy_within.ensures.bytes in
-    let w = v.well_formed in
-    let i = is.is_used in
-    let size = c.args.layout.size in
-    let meanwhile = both w u i size short places now bytes in
-    let (stands, last) = c.deallocate_block.ensures.step meanwhile u copied.stands (inr i) is.start in
-    let placed = c.in_ok-moved.ensures.place in
-    let place : SamePlace c.args.memory.now c.allocate_block.new.memory = (placed.0 ∙ c.load_at.ensures.start, placed.1 ∙ ap length c.load_at.ensures.bytes) in
-    (released meanwhile u, MovesAway-copied w u i size short places now copied, stands, KeepsSpare-copied w u i size short places now copied c.args.memory.now c.deallocate_block.new.memory place spare last)
-
 -- ---- what is counted: the word that is read first, and then the allocation
 
 read : (g : given.Over) (c : After-load_at g) → Counts c.args.memory.now c.load_at.new.self 1
@@ -122,33 +103,28 @@ read g c = Counts-loaded c.args.memory.now c.load_at.new.self c.load_at.ensures.
 counted : (g : given.Over) (c : After-load_at g) {n : Space} → Counts c.load_at.new.self n 4 → Counts c.args.memory.now n 5
 counted g c {n} more = Counts-counted_first c.args.memory.now c.load_at.new.self n 1 4 (read g c) more
 
-pub returns-in_err-moved-clause-unchanged : goal.returns-in_err-moved-clause-unchanged
-returns-in_err-moved-clause-unchanged g c =
-    let (counts, table) = c.in_err-moved.ensures.unchanged in
-    none_none c.from_residual.result (counted g (goal.at.returns-in_err-moved-clause-unchanged g c).After-load_at counts, table)
-
-pub returns-in_err-moved-clause-place : goal.returns-in_err-moved-clause-place
-returns-in_err-moved-clause-place g c =
-    let counts = counted g (goal.at.returns-in_err-moved-clause-place g c).After-load_at c.in_err-moved.ensures.unchanged.0 in
-    SamePlace-counted c.args.memory.now c.allocate_block.new.memory 5 counts
-
-pub returns-in_err-moved-clause-touches : goal.returns-in_err-moved-clause-touches
-returns-in_err-moved-clause-touches g c =
-    let counts = counted g (goal.at.returns-in_err-moved-clause-touches g c).After-load_at c.in_err-moved.ensures.unchanged.0 in
-    touches-counted c.args.memory.now c.allocate_block.new.memory 5 counts 54
-
-pub returns-in_err-moved-clause-grow : goal.returns-in_err-moved-clause-grow
-returns-in_err-moved-clause-grow g c = (counted g (goal.at.returns-in_err-moved-clause-grow g c).After-load_at c.in_err-moved.ensures.unchanged.0).grow
-
-pub returns-in_err-moved-clause-copied : goal.returns-in_err-moved-clause-copied
-returns-in_err-moved-clause-copied g c = λ s u v is.
-    let counts = counted g (goal.at.returns-in_err-moved-clause-copied g c).After-load_at c.in_err-moved.ensures.unchanged.0 in
-    copied-more c.args.memory.now c.allocate_block.new.memory _ counts.copied
-
-pub returns-in_err-moved-clause-grow_copied : goal.returns-in_err-moved-clause-grow_copied
-returns-in_err-moved-clause-grow_copied g c =
-    let counts = counted g (goal.at.returns-in_err-moved-clause-grow_copied g c).After-load_at c.in_err-moved.ensures.unchanged.0 in
-    grow_copied-same c.args.memory.now c.allocate_block.new.memory counts.copied
+pub returns-in_err-moved : goal.returns-in_err-moved
+returns-in_err-moved g c = record {
+  step = λ s u v is short.
+      let (t, none, now, spare) = c.in_err-moved.ensures.step s (loaded g (goal.at.returns-in_err-moved g c).After-load_at v) in
+      on_none _ c.from_residual.result c.from_residual.ensures (subst (λ a. choice g.row.SLLEN (request_size c.args.layout.size a) s.free ≡ None) (sym is.alignment) none.0, refl);
+  unchanged =
+      let (counts, table) = c.in_err-moved.ensures.unchanged in
+      none_none c.from_residual.result (counted g (goal.at.returns-in_err-moved g c).After-load_at counts, table);
+  place =
+      let counts = counted g (goal.at.returns-in_err-moved g c).After-load_at c.in_err-moved.ensures.unchanged.0 in
+      SamePlace-counted c.args.memory.now c.allocate_block.new.memory 5 counts;
+  touches =
+      let counts = counted g (goal.at.returns-in_err-moved g c).After-load_at c.in_err-moved.ensures.unchanged.0 in
+      touches-counted c.args.memory.now c.allocate_block.new.memory 5 counts 54;
+  grow = (counted g (goal.at.returns-in_err-moved g c).After-load_at c.in_err-moved.ensures.unchanged.0).grow;
+  copied = λ s u v is.
+      let counts = counted g (goal.at.returns-in_err-moved g c).After-load_at c.in_err-moved.ensures.unchanged.0 in
+      copied-more c.args.memory.now c.allocate_block.new.memory _ counts.copied;
+  grow_copied =
+      let counts = counted g (goal.at.returns-in_err-moved g c).After-load_at c.in_err-moved.ensures.unchanged.0 in
+      grow_copied-same c.args.memory.now c.allocate_block.new.memory counts.copied;
+}
 
 -- ---- where it moves: a payload that is allocated, a copy and a release
 
@@ -164,33 +140,37 @@ copied_moved f d y z n placed copied released = (omega arith, omega arith)
 copied_long : (m f z n k : ℕ) → f ≡ m → z ≡ f + n → n ≡ k → z ≤ m + k
 copied_long m f z n k searched moved long = omega arith
 
-pub returns-clause-unchanged : goal.returns-clause-unchanged
-returns-clause-unchanged g c = tt
-
-pub returns-clause-place : goal.returns-clause-place
-returns-clause-place g c =
-    SamePlace-counted_first c.args.memory.now c.load_at.new.self 1 (read g (goal.at.returns-clause-place g c).After-load_at) c.deallocate_block.new.memory
-    (c.deallocate_block.ensures.place.0 ∙ c.copy_within.ensures.start ∙ c.in_ok-moved.ensures.place.0, c.deallocate_block.ensures.place.1 ∙ c.copy_within.ensures.len ∙ c.in_ok-moved.ensures.place.1)
-
-pub returns-clause-touches : goal.returns-clause-touches
-returns-clause-touches g c =
-    let counts = read g (goal.at.returns-clause-touches g c).After-load_at in
-    touches-counted_first c.args.memory.now c.load_at.new.self 1 counts c.deallocate_block.new.memory 58 (touches_moved c.load_at.new.self.touches c.allocate_block.new.memory.touches c.copy_within.new.self.touches c.deallocate_block.new.memory.touches c.in_ok-moved.ensures.touches c.copy_within.ensures.touches c.deallocate_block.ensures.touches)
-
-pub returns-clause-grow : goal.returns-clause-grow
-returns-clause-grow g c =
-    let counts = read g (goal.at.returns-clause-grow g c).After-load_at in
-    grow-counted_first c.args.memory.now c.load_at.new.self 1 counts c.deallocate_block.new.memory (grow_moved c.load_at.new.self.touches c.allocate_block.new.memory.touches c.copy_within.new.self.touches c.deallocate_block.new.memory.touches c.in_ok-moved.ensures.grow c.copy_within.ensures.touches c.deallocate_block.ensures.grow)
-
-pub returns-clause-grow_copied : goal.returns-clause-grow_copied
-returns-clause-grow_copied g c =
-    let counts = read g (goal.at.returns-clause-grow_copied g c).After-load_at in
-    grow_copied-counted_first c.args.memory.now c.load_at.new.self 1 counts c.deallocate_block.new.memory (copied_moved c.load_at.new.self.copied c.allocate_block.new.memory.copied c.copy_within.new.self.copied c.deallocate_block.new.memory.copied _ c.in_ok-moved.ensures.copied c.copy_within.ensures.copied c.deallocate_block.ensures.copied).1
-
-pub returns-clause-copied : goal.returns-clause-copied
-returns-clause-copied g c = λ s u v is.
-    let at = goal.at.returns-clause-copied g c in
-    let counts = read g at.After-load_at in
-    let moved = (copied_moved c.load_at.new.self.copied c.allocate_block.new.memory.copied c.copy_within.new.self.copied c.deallocate_block.new.memory.copied _ c.in_ok-moved.ensures.copied c.copy_within.ensures.copied c.deallocate_block.ensures.copied).0 in
-    let long = ap (λ (r : Range). r.len) (old_payload g at.In_ok-moved u v is) in
-    copied_long c.args.memory.now.copied c.load_at.new.self.copied c.deallocate_block.new.memory.copied _ (usable u).len counts.copied moved long
+pub returns : goal.returns
+returns g c = record {
+  step = λ s u v is short.
+      let at = (goal.at.returns g c).In_ok-moved in
+      let (t, places, now, spare) = placing g at s u v is in
+      let (bytes, copied) = copied_stands v.well_formed u is.is_used c.args.layout.size short places now (old_payload g at u v is) c.copy_within.new.self c.copy_within.ensures.start c.copy_within.ensures.bytes in
+      let w = v.well_formed in
+      let i = is.is_used in
+      let size = c.args.layout.size in
+      let meanwhile = both w u i size short places now bytes in
+      let (stands, last) = c.deallocate_block.ensures.step meanwhile u copied.stands (inr i) is.start in
+      let placed = c.in_ok-moved.ensures.place in
+      let place : SamePlace c.args.memory.now c.allocate_block.new.memory = (placed.0 ∙ c.load_at.ensures.start, placed.1 ∙ ap length c.load_at.ensures.bytes) in
+      (released meanwhile u, MovesAway-copied w u i size short places now copied, stands, KeepsSpare-copied w u i size short places now copied c.args.memory.now c.deallocate_block.new.memory place spare last);
+  unchanged = tt;
+  place =
+      SamePlace-counted_first c.args.memory.now c.load_at.new.self 1 (read g (goal.at.returns g c).After-load_at) c.deallocate_block.new.memory
+      (c.deallocate_block.ensures.place.0 ∙ c.copy_within.ensures.start ∙ c.in_ok-moved.ensures.place.0, c.deallocate_block.ensures.place.1 ∙ c.copy_within.ensures.len ∙ c.in_ok-moved.ensures.place.1);
+  touches =
+      let counts = read g (goal.at.returns g c).After-load_at in
+      touches-counted_first c.args.memory.now c.load_at.new.self 1 counts c.deallocate_block.new.memory 58 (touches_moved c.load_at.new.self.touches c.allocate_block.new.memory.touches c.copy_within.new.self.touches c.deallocate_block.new.memory.touches c.in_ok-moved.ensures.touches c.copy_within.ensures.touches c.deallocate_block.ensures.touches);
+  grow =
+      let counts = read g (goal.at.returns g c).After-load_at in
+      grow-counted_first c.args.memory.now c.load_at.new.self 1 counts c.deallocate_block.new.memory (grow_moved c.load_at.new.self.touches c.allocate_block.new.memory.touches c.copy_within.new.self.touches c.deallocate_block.new.memory.touches c.in_ok-moved.ensures.grow c.copy_within.ensures.touches c.deallocate_block.ensures.grow);
+  copied = λ s u v is.
+      let at = goal.at.returns g c in
+      let counts = read g at.After-load_at in
+      let moved = (copied_moved c.load_at.new.self.copied c.allocate_block.new.memory.copied c.copy_within.new.self.copied c.deallocate_block.new.memory.copied _ c.in_ok-moved.ensures.copied c.copy_within.ensures.copied c.deallocate_block.ensures.copied).0 in
+      let long = ap (λ (r : Range). r.len) (old_payload g at.In_ok-moved u v is) in
+      copied_long c.args.memory.now.copied c.load_at.new.self.copied c.deallocate_block.new.memory.copied _ (usable u).len counts.copied moved long;
+  grow_copied =
+      let counts = read g (goal.at.returns g c).After-load_at in
+      grow_copied-counted_first c.args.memory.now c.load_at.new.self 1 counts c.deallocate_block.new.memory (copied_moved c.load_at.new.self.copied c.allocate_block.new.memory.copied c.copy_within.new.self.copied c.deallocate_block.new.memory.copied _ c.in_ok-moved.ensures.copied c.copy_within.ensures.copied c.deallocate_block.ensures.copied).1;
+}

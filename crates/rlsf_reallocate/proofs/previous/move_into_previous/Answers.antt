@@ -85,42 +85,30 @@ copied_long m q o n k before copied long = omega arith
 
 -- ---- the payload fits nowhere before it
 
-pub returns-in_err-moved-clause-moved : goal.returns-in_err-moved-clause-moved
-returns-in_err-moved-clause-moved g c = λ s u v used short. none_some _ c.from_residual.result c.from_residual.ensures
-
-pub returns-in_err-moved-clause-refused : goal.returns-in_err-moved-clause-refused
-returns-in_err-moved-clause-refused g c = λ s u v used short.
-    let at = goal.at.returns-in_err-moved-clause-refused g c in
-    let is = IsUsedBlock-from used (ends g at.After-used_end-end v used) in
-    none_none {P = into_previous s u c.args.layout.size ≡ None} c.from_residual.result (c.in_err-moved.ensures.place g.row.FLLEN g.row.SLLEN c.args.table.now s u (loaded g at.After-load_at v) is)
-
-pub returns-in_err-moved-clause-unchanged : goal.returns-in_err-moved-clause-unchanged
-returns-in_err-moved-clause-unchanged g c =
-    let counts = sought g (goal.at.returns-in_err-moved-clause-unchanged g c).After-place_before in
-    none_none {P = Counts c.args.memory.now c.place_before.new.memory 4 × (c.args.table.now ≡ c.args.table.now)} c.from_residual.result (counts, refl)
-
-pub returns-in_err-moved-clause-place : goal.returns-in_err-moved-clause-place
-returns-in_err-moved-clause-place g c =
-    let counts = sought g (goal.at.returns-in_err-moved-clause-place g c).After-place_before in
-    SamePlace-counted c.args.memory.now c.place_before.new.memory 4 counts
-
-pub returns-in_err-moved-clause-touches : goal.returns-in_err-moved-clause-touches
-returns-in_err-moved-clause-touches g c =
-    let counts = sought g (goal.at.returns-in_err-moved-clause-touches g c).After-place_before in
-    touches-counted c.args.memory.now c.place_before.new.memory 4 counts 33
-
-pub returns-in_err-moved-clause-grow : goal.returns-in_err-moved-clause-grow
-returns-in_err-moved-clause-grow g c =
-    let counts = sought g (goal.at.returns-in_err-moved-clause-grow g c).After-place_before in
-    counts.grow
-
-pub returns-in_err-moved-clause-grow_copied : goal.returns-in_err-moved-clause-grow_copied
-returns-in_err-moved-clause-grow_copied g c =
-    let counts = sought g (goal.at.returns-in_err-moved-clause-grow_copied g c).After-place_before in
-    grow_copied-same c.args.memory.now c.place_before.new.memory counts.copied
-
-pub returns-in_err-moved-clause-copied : goal.returns-in_err-moved-clause-copied
-returns-in_err-moved-clause-copied g c = λ s u v used. copied-more c.args.memory.now c.place_before.new.memory _ (sought g (goal.at.returns-in_err-moved-clause-copied g c).After-place_before).copied
+pub returns-in_err-moved : goal.returns-in_err-moved
+returns-in_err-moved g c = record {
+  moved = λ s u v used short. none_some _ c.from_residual.result c.from_residual.ensures;
+  refused = λ s u v used short.
+      let at = goal.at.returns-in_err-moved g c in
+      let is = IsUsedBlock-from used (ends g at.After-used_end-end v used) in
+      none_none {P = into_previous s u c.args.layout.size ≡ None} c.from_residual.result (c.in_err-moved.ensures.place g.row.FLLEN g.row.SLLEN c.args.table.now s u (loaded g at.After-load_at v) is);
+  unchanged =
+      let counts = sought g (goal.at.returns-in_err-moved g c).After-place_before in
+      none_none {P = Counts c.args.memory.now c.place_before.new.memory 4 × (c.args.table.now ≡ c.args.table.now)} c.from_residual.result (counts, refl);
+  place =
+      let counts = sought g (goal.at.returns-in_err-moved g c).After-place_before in
+      SamePlace-counted c.args.memory.now c.place_before.new.memory 4 counts;
+  touches =
+      let counts = sought g (goal.at.returns-in_err-moved g c).After-place_before in
+      touches-counted c.args.memory.now c.place_before.new.memory 4 counts 33;
+  grow =
+      let counts = sought g (goal.at.returns-in_err-moved g c).After-place_before in
+      counts.grow;
+  copied = λ s u v used. copied-more c.args.memory.now c.place_before.new.memory _ (sought g (goal.at.returns-in_err-moved g c).After-place_before).copied;
+  grow_copied =
+      let counts = sought g (goal.at.returns-in_err-moved g c).After-place_before in
+      grow_copied-same c.args.memory.now c.place_before.new.memory counts.copied;
+}
 
 -- ---- it fits, and the free blocks before it and behind it are taken out
 

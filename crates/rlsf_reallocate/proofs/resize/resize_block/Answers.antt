@@ -26,13 +26,6 @@ taken_is : (g : given.Over) (c : After-next_multiple_of_32-taken g) {s : State} 
     → IsUsedAt s u c.args.block c.args.payload c.args.layout.align → c.next_multiple_of_32-taken.result ≡ (resized u c.args.layout.size).len
 taken_is g c v u at = taken_computed v u at c.args.layout.size c.size.ensures.value c.next_multiple_of_32-taken.ensures.value
 
-pub returns-then-taken-len-clause-done : goal.returns-then-taken-len-clause-done
-returns-then-taken-len-clause-done g c = λ s u v at yes.
-    let size = c.args.layout.size in
-    let taken = taken_is g (goal.at.returns-then-taken-len-clause-done g c).After-next_multiple_of_32-taken v u at in
-    let same : end_of (resized u size) ≡ end_of u.block = omega (arith, taken, at.start, end_is v u at c.load_at.ensures.word c.len_of_used-len.ensures, c.if-taken-len.true) in
-    (kept_whole s u size, or_else-kept s u size v.well_formed at.is_used same, at.caller, IsCarriedOut-kept v u at.is_used size c.load_at.ensures.start c.load_at.ensures.bytes same)
-
 pub free_length-requires-clause-marked : goal.free_length-requires-clause-marked
 free_length-requires-clause-marked g c =
     let (s, u, v, at) = c.requires.used in
@@ -55,16 +48,6 @@ overflow_add-len g c =
     let (s, u, v, at) = c.requires.used in
     let ends = reached g (goal.at.overflow_add-len g c).After-free_length v u at in
     record { fits = omega (arith, ends, end_is v u at c.load_at.ensures.word c.len_of_used-len.ensures, span_in_memory v u at.is_used, v.well_formed.addressable) }
-
-pub returns-then-taken-len-2-clause-refused : goal.returns-then-taken-len-2-clause-refused
-returns-then-taken-len-2-clause-refused g c = λ s u v at no.
-    let size = c.args.layout.size in
-    let here = goal.at.returns-then-taken-len-2-clause-refused g c in
-    let taken = taken_is g here.After-next_multiple_of_32-taken v u at in
-    let ends = reached g here.After-free_length v u at in
-    let end = end_is v u at c.load_at.ensures.word c.len_of_used-len.ensures in
-    let start = at.start in
-    no_plan s u size (omega (arith, c.if-taken-len-2.true)) (omega (arith, c.if-taken-len-2.true))
 
 -- the free block behind it, once two words were read
 marked : (g : given.Over) (c : After-free_length g) {s : State} (v : StandsFor g.row.FLLEN g.row.SLLEN (contents c.args.memory.now c.args.table.now) s) (u : Used)
@@ -114,88 +97,54 @@ occupy-requires g c =
     let some : 0 < c.next_multiple_of_32-taken.result = omega (arith, parts.1) in
     (search rules, (c.requires.parameters, ((staying s u, span_of s u, at.start, long, inner), ((whole, some, omega (arith, gone.end, c.if-taken-len-2.false)), search rules))))
 
-pub returns-clause-done : goal.returns-clause-done
-returns-clause-done g c = λ s u v at yes.
-    let here = goal.at.returns-clause-done g c in
-    let size = c.args.layout.size in
-    let gone = out g here.After-take_if_free-next v u at in
-    let taken = taken_is g here.After-next_multiple_of_32-taken v u at in
-    let ends = reached g here.After-free_length v u at in
-    let end = end_is v u at c.load_at.ensures.word c.len_of_used-len.ensures in
-    let start = at.start in
-    let words = c.occupy.ensures.step (staying s u) (span_of s u) at.start (omega (arith, span_len v u at.is_used gone)) (IsInnerRoom-span v u at.is_used gone) in
-    let front : range_at c.args.block c.next_multiple_of_32-taken.result ≡ resized u size = ap₂ (λ b l. range_at b l) (sym at.start) taken in
-    let occupied = subst (λ q. IsOccupied g.row.FLLEN g.row.SLLEN c.take_if_free-next.new.memory c.occupy.new.memory c.occupy.new.table (staying s u) (span_of s u) q) front words in
-    let fits : end_of (resized u size) ≤ reach s u = omega (arith, c.if-taken-len-2.false) in
-    let other : end_of (resized u size) ≢ end_of u.block = omega (arith, c.if-taken-len.false) in
-    (stretched s u size, or_else-stretched s u size v.well_formed at.is_used other (reach-le v u at.is_used) fits, at.caller, IsCarriedOut-stretched v u at.is_used size fits gone occupied)
-
-pub returns-clause-place : goal.returns-clause-place
-returns-clause-place g c =
-    let (s, u, v, at) = c.requires.used in
-    let gone = out g (goal.at.returns-clause-place g c).After-take_if_free-next v u at in
-    let end = end_is v u at c.load_at.ensures.word c.len_of_used-len.ensures in
-    let start = at.start in
-    let words = c.occupy.ensures.step (staying s u) (span_of s u) at.start (omega (arith, span_len v u at.is_used gone)) (IsInnerRoom-span v u at.is_used gone) in
-    (words.rewrites.start ∙ gone.rewrites.start, words.rewrites.length ∙ gone.rewrites.length)
-
 -- ---- what is counted
 
-pub returns-then-taken-len-clause-refused : goal.returns-then-taken-len-clause-refused
-returns-then-taken-len-clause-refused g c = λ s u v at no. absurd (true≢false no)
-
-pub returns-then-taken-len-clause-unchanged : goal.returns-then-taken-len-clause-unchanged
-returns-then-taken-len-clause-unchanged g c = λ no. absurd (true≢false no)
-
-pub returns-then-taken-len-clause-place : goal.returns-then-taken-len-clause-place
-returns-then-taken-len-clause-place g c = SamePlace-counted c.args.memory.now c.load_at.new.self 1 (Counts-loaded c.args.memory.now c.load_at.new.self c.load_at.ensures.start c.load_at.ensures.bytes c.load_at.ensures.touches c.load_at.ensures.copied c.load_at.ensures.view)
-
-pub returns-then-taken-len-clause-touches : goal.returns-then-taken-len-clause-touches
-returns-then-taken-len-clause-touches g c = touches-counted c.args.memory.now c.load_at.new.self 1 (Counts-loaded c.args.memory.now c.load_at.new.self c.load_at.ensures.start c.load_at.ensures.bytes c.load_at.ensures.touches c.load_at.ensures.copied c.load_at.ensures.view) 23
-
-pub returns-then-taken-len-clause-grow : goal.returns-then-taken-len-clause-grow
-returns-then-taken-len-clause-grow g c = (Counts-loaded c.args.memory.now c.load_at.new.self c.load_at.ensures.start c.load_at.ensures.bytes c.load_at.ensures.touches c.load_at.ensures.copied c.load_at.ensures.view).grow
-
-pub returns-then-taken-len-clause-copied : goal.returns-then-taken-len-clause-copied
-returns-then-taken-len-clause-copied g c = c.load_at.ensures.copied
+pub returns-then-taken-len : goal.returns-then-taken-len
+returns-then-taken-len g c = record {
+  done = λ s u v at yes.
+      let size = c.args.layout.size in
+      let taken = taken_is g (goal.at.returns-then-taken-len g c).After-next_multiple_of_32-taken v u at in
+      let same : end_of (resized u size) ≡ end_of u.block = omega (arith, taken, at.start, end_is v u at c.load_at.ensures.word c.len_of_used-len.ensures, c.if-taken-len.true) in
+      (kept_whole s u size, or_else-kept s u size v.well_formed at.is_used same, at.caller, IsCarriedOut-kept v u at.is_used size c.load_at.ensures.start c.load_at.ensures.bytes same);
+  refused = λ s u v at no. absurd (true≢false no);
+  unchanged = λ no. absurd (true≢false no);
+  place = SamePlace-counted c.args.memory.now c.load_at.new.self 1 (Counts-loaded c.args.memory.now c.load_at.new.self c.load_at.ensures.start c.load_at.ensures.bytes c.load_at.ensures.touches c.load_at.ensures.copied c.load_at.ensures.view);
+  touches = touches-counted c.args.memory.now c.load_at.new.self 1 (Counts-loaded c.args.memory.now c.load_at.new.self c.load_at.ensures.start c.load_at.ensures.bytes c.load_at.ensures.touches c.load_at.ensures.copied c.load_at.ensures.view) 23;
+  grow = (Counts-loaded c.args.memory.now c.load_at.new.self c.load_at.ensures.start c.load_at.ensures.bytes c.load_at.ensures.touches c.load_at.ensures.copied c.load_at.ensures.view).grow;
+  copied = c.load_at.ensures.copied;
+}
 
 -- two words were read
 read : (g : given.Over) (c : After-free_length g) → Counts c.args.memory.now c.free_length.new.memory 2
 read g c = Counts-counted_first c.args.memory.now c.load_at.new.self c.free_length.new.memory 1 1 (Counts-loaded c.args.memory.now c.load_at.new.self c.load_at.ensures.start c.load_at.ensures.bytes c.load_at.ensures.touches c.load_at.ensures.copied c.load_at.ensures.view) c.free_length.ensures.counts
 
-pub returns-then-taken-len-2-clause-done : goal.returns-then-taken-len-2-clause-done
-returns-then-taken-len-2-clause-done g c = λ s u v at yes. absurd (true≢false (sym yes))
-
-pub returns-then-taken-len-2-clause-unchanged : goal.returns-then-taken-len-2-clause-unchanged
-returns-then-taken-len-2-clause-unchanged g c =
-    let counts = read g (goal.at.returns-then-taken-len-2-clause-unchanged g c).After-free_length in
-    λ no. (counts, refl)
-
-pub returns-then-taken-len-2-clause-place : goal.returns-then-taken-len-2-clause-place
-returns-then-taken-len-2-clause-place g c =
-    let counts = read g (goal.at.returns-then-taken-len-2-clause-place g c).After-free_length in
-    SamePlace-counted c.args.memory.now c.free_length.new.memory 2 counts
-
-pub returns-then-taken-len-2-clause-touches : goal.returns-then-taken-len-2-clause-touches
-returns-then-taken-len-2-clause-touches g c =
-    let counts = read g (goal.at.returns-then-taken-len-2-clause-touches g c).After-free_length in
-    touches-counted c.args.memory.now c.free_length.new.memory 2 counts 22
-
-pub returns-then-taken-len-2-clause-grow : goal.returns-then-taken-len-2-clause-grow
-returns-then-taken-len-2-clause-grow g c =
-    let counts = read g (goal.at.returns-then-taken-len-2-clause-grow g c).After-free_length in
-    counts.grow
-
-pub returns-then-taken-len-2-clause-copied : goal.returns-then-taken-len-2-clause-copied
-returns-then-taken-len-2-clause-copied g c =
-    let counts = read g (goal.at.returns-then-taken-len-2-clause-copied g c).After-free_length in
-    counts.copied
-
-pub returns-clause-refused : goal.returns-clause-refused
-returns-clause-refused g c = λ s u v at no. absurd (true≢false no)
-
-pub returns-clause-unchanged : goal.returns-clause-unchanged
-returns-clause-unchanged g c = λ no. absurd (true≢false no)
+pub returns-then-taken-len-2 : goal.returns-then-taken-len-2
+returns-then-taken-len-2 g c = record {
+  done = λ s u v at yes. absurd (true≢false (sym yes));
+  refused = λ s u v at no.
+      let size = c.args.layout.size in
+      let here = goal.at.returns-then-taken-len-2 g c in
+      let taken = taken_is g here.After-next_multiple_of_32-taken v u at in
+      let ends = reached g here.After-free_length v u at in
+      let end = end_is v u at c.load_at.ensures.word c.len_of_used-len.ensures in
+      let start = at.start in
+      no_plan s u size (omega (arith, c.if-taken-len-2.true)) (omega (arith, c.if-taken-len-2.true));
+  unchanged =
+      let counts = read g (goal.at.returns-then-taken-len-2 g c).After-free_length in
+      λ no. (counts, refl);
+  place =
+      let counts = read g (goal.at.returns-then-taken-len-2 g c).After-free_length in
+      SamePlace-counted c.args.memory.now c.free_length.new.memory 2 counts;
+  touches =
+      let counts = read g (goal.at.returns-then-taken-len-2 g c).After-free_length in
+      touches-counted c.args.memory.now c.free_length.new.memory 2 counts 22;
+  grow =
+      let counts = read g (goal.at.returns-then-taken-len-2 g c).After-free_length in
+      counts.grow;
+  copied =
+      let counts = read g (goal.at.returns-then-taken-len-2 g c).After-free_length in
+      counts.copied;
+}
 
 touches_resized : (r k o : ℕ) → k ≤ r + 9 → o ≤ k + 13 → o ≤ r + 22
 touches_resized r k o taken occupied = omega arith
@@ -203,17 +152,38 @@ touches_resized r k o taken occupied = omega arith
 grow_resized : (r k o : ℕ) → r ≤ k → k ≤ o → r ≤ o
 grow_resized r k o taken occupied = omega arith
 
-pub returns-clause-touches : goal.returns-clause-touches
-returns-clause-touches g c =
-    let counts = read g (goal.at.returns-clause-touches g c).After-free_length in
-    touches-counted_first c.args.memory.now c.free_length.new.memory 2 counts c.occupy.new.memory 22 (touches_resized c.free_length.new.memory.touches c.take_if_free-next.new.memory.touches c.occupy.new.memory.touches c.take_if_free-next.ensures.touches c.occupy.ensures.touches)
-
-pub returns-clause-grow : goal.returns-clause-grow
-returns-clause-grow g c =
-    let counts = read g (goal.at.returns-clause-grow g c).After-free_length in
-    grow-counted_first c.args.memory.now c.free_length.new.memory 2 counts c.occupy.new.memory (grow_resized c.free_length.new.memory.touches c.take_if_free-next.new.memory.touches c.occupy.new.memory.touches c.take_if_free-next.ensures.grow c.occupy.ensures.grow)
-
-pub returns-clause-copied : goal.returns-clause-copied
-returns-clause-copied g c =
-    let counts = read g (goal.at.returns-clause-copied g c).After-free_length in
-    c.occupy.ensures.copied ∙ c.take_if_free-next.ensures.copied ∙ counts.copied
+pub returns : goal.returns
+returns g c = record {
+  done = λ s u v at yes.
+      let here = goal.at.returns g c in
+      let size = c.args.layout.size in
+      let gone = out g here.After-take_if_free-next v u at in
+      let taken = taken_is g here.After-next_multiple_of_32-taken v u at in
+      let ends = reached g here.After-free_length v u at in
+      let end = end_is v u at c.load_at.ensures.word c.len_of_used-len.ensures in
+      let start = at.start in
+      let words = c.occupy.ensures.step (staying s u) (span_of s u) at.start (omega (arith, span_len v u at.is_used gone)) (IsInnerRoom-span v u at.is_used gone) in
+      let front : range_at c.args.block c.next_multiple_of_32-taken.result ≡ resized u size = ap₂ (λ b l. range_at b l) (sym at.start) taken in
+      let occupied = subst (λ q. IsOccupied g.row.FLLEN g.row.SLLEN c.take_if_free-next.new.memory c.occupy.new.memory c.occupy.new.table (staying s u) (span_of s u) q) front words in
+      let fits : end_of (resized u size) ≤ reach s u = omega (arith, c.if-taken-len-2.false) in
+      let other : end_of (resized u size) ≢ end_of u.block = omega (arith, c.if-taken-len.false) in
+      (stretched s u size, or_else-stretched s u size v.well_formed at.is_used other (reach-le v u at.is_used) fits, at.caller, IsCarriedOut-stretched v u at.is_used size fits gone occupied);
+  refused = λ s u v at no. absurd (true≢false no);
+  unchanged = λ no. absurd (true≢false no);
+  place =
+      let (s, u, v, at) = c.requires.used in
+      let gone = out g (goal.at.returns g c).After-take_if_free-next v u at in
+      let end = end_is v u at c.load_at.ensures.word c.len_of_used-len.ensures in
+      let start = at.start in
+      let words = c.occupy.ensures.step (staying s u) (span_of s u) at.start (omega (arith, span_len v u at.is_used gone)) (IsInnerRoom-span v u at.is_used gone) in
+      (words.rewrites.start ∙ gone.rewrites.start, words.rewrites.length ∙ gone.rewrites.length);
+  touches =
+      let counts = read g (goal.at.returns g c).After-free_length in
+      touches-counted_first c.args.memory.now c.free_length.new.memory 2 counts c.occupy.new.memory 22 (touches_resized c.free_length.new.memory.touches c.take_if_free-next.new.memory.touches c.occupy.new.memory.touches c.take_if_free-next.ensures.touches c.occupy.ensures.touches);
+  grow =
+      let counts = read g (goal.at.returns g c).After-free_length in
+      grow-counted_first c.args.memory.now c.free_length.new.memory 2 counts c.occupy.new.memory (grow_resized c.free_length.new.memory.touches c.take_if_free-next.new.memory.touches c.occupy.new.memory.touches c.take_if_free-next.ensures.grow c.occupy.ensures.grow);
+  copied =
+      let counts = read g (goal.at.returns g c).After-free_length in
+      c.occupy.ensures.copied ∙ c.take_if_free-next.ensures.copied ∙ counts.copied;
+}

@@ -10,17 +10,6 @@ use Rattle.rlsf_text.specs.declared.op.TraceError.TheVariants.{UnknownName}
 use Rattle.rlsf_runs.proofs.Named.{unnamed}
 use Rattle.rlsf_runs.proofs.payloads.fill.Goals as goal
 
-pub returns-clause-does : goal.returns-clause-does
-returns-clause-does g c = λ s at.
-    let p = c.in-Some.payload in
-    let w = c.fill.new.self in
-    let (u, owns, holds, long) = owned at c.args.name p (sym c.payload.ensures ∙ c.in-Some.is) in
-    let (t, step, stands, keeps) = stepped at.stands _ (λ x. Fills x (address p) w) (c.payload_mut.ensures.meaning w c.fill.ensures.len) in
-    let whole = ap length (c.payload_mut.ensures.value ∙ bytes_in at.stands (address p) u holds) ∙ long in
-    let bytes = c.fill.ensures.after (λ y e. e) ∙ ap (λ n. replicate n c.args.byte) whole in
-    let fills = subst (λ l. Fills s.machine u.payload l t) bytes (subst (λ a. Fills s.machine a w t) (sym holds.1) step) in
-    (with_machine s t, (u, owns, t, fills, refl), IsAt-filled at (c.payload_mut.ensures.rest w).1 t stands (address p) w step, keeps)
-
 pub returns-in_default-clause-does : goal.returns-in_default-clause-does
 returns-in_default-clause-does g c = λ s at.
     LeadsOn-nothing at (Fill c.args.name c.args.byte) (Refused UnknownName) (unnamed at.named c.args.name (sym c.payload.ensures ∙ c.in_default.is), refl)
@@ -31,5 +20,16 @@ payload_mut-requires g c =
     let (u, owns, holds, _) = owned at c.args.name c.in-Some.payload (sym c.payload.ensures ∙ c.in-Some.is) in
     (search rules, some_live_in at.stands (address c.in-Some.payload) (u, holds))
 
-pub returns-clause-place : goal.returns-clause-place
-returns-clause-place g c = (c.payload_mut.ensures.rest c.fill.new.self).1
+pub returns : goal.returns
+returns g c = record {
+  does = λ s at.
+      let p = c.in-Some.payload in
+      let w = c.fill.new.self in
+      let (u, owns, holds, long) = owned at c.args.name p (sym c.payload.ensures ∙ c.in-Some.is) in
+      let (t, step, stands, keeps) = stepped at.stands _ (λ x. Fills x (address p) w) (c.payload_mut.ensures.meaning w c.fill.ensures.len) in
+      let whole = ap length (c.payload_mut.ensures.value ∙ bytes_in at.stands (address p) u holds) ∙ long in
+      let bytes = c.fill.ensures.after (λ y e. e) ∙ ap (λ n. replicate n c.args.byte) whole in
+      let fills = subst (λ l. Fills s.machine u.payload l t) bytes (subst (λ a. Fills s.machine a w t) (sym holds.1) step) in
+      (with_machine s t, (u, owns, t, fills, refl), IsAt-filled at (c.payload_mut.ensures.rest w).1 t stands (address p) w step, keeps);
+  place = (c.payload_mut.ensures.rest c.fill.new.self).1;
+}

@@ -24,21 +24,6 @@ bounds-payload_mut-offset g c =
     let bytes = c.payload-2.ensures ∙ bytes_in at.stands (address c.in-Some.payload) u holds in
     omega (arith, c.if-offset-payload.false, ap length bytes, long, ap length (c.payload_mut.ensures.value ∙ bytes_in at.stands (address c.in-Some.payload) u holds))
 
-pub returns-clause-does : goal.returns-clause-does
-returns-clause-does g c = λ s at.
-    let p = c.in-Some.payload in
-    let w = slice_set c.payload_mut.result.now c.args.offset c.args.byte in
-    let (u, owns, holds, long) = owned at c.args.name p (sym c.payload.ensures ∙ c.in-Some.is) in
-    let bytes = c.payload-2.ensures ∙ bytes_in at.stands (address c.in-Some.payload) u holds in
-    let lent = c.payload_mut.ensures.value ∙ bytes_in at.stands (address p) u holds in
-    let (t, step, stands, keeps) = stepped at.stands _ (λ x. Fills x (address p) w) (c.payload_mut.ensures.meaning w (length-set c.payload_mut.result.now c.args.offset c.args.byte)) in
-    let fills = subst (λ a. Fills s.machine a (slice_set u.bytes c.args.offset c.args.byte) t) (sym holds.1) (subst (λ l. Fills s.machine (address p) (slice_set l c.args.offset c.args.byte) t) lent step) in (
-      with_machine s t,
-      (u, owns, omega (arith, c.if-offset-payload.false, ap length bytes, long), t, fills, refl),
-      IsAt-filled at (c.payload_mut.ensures.rest w).1 t stands (address p) w step,
-      keeps,
-    )
-
 pub returns-in_default-clause-does : goal.returns-in_default-clause-does
 returns-in_default-clause-does g c = λ s at.
     LeadsOn-nothing at (Put c.args.name c.args.offset c.args.byte) (Refused UnknownName) (unnamed at.named c.args.name (sym c.payload.ensures ∙ c.in_default.is), refl)
@@ -55,5 +40,20 @@ payload_mut-requires g c =
     let (u, owns, holds, _) = owned at c.args.name c.in-Some.payload (sym c.payload.ensures ∙ c.in-Some.is) in
     (search rules, some_live_in at.stands (address c.in-Some.payload) (u, holds))
 
-pub returns-clause-place : goal.returns-clause-place
-returns-clause-place g c = (c.payload_mut.ensures.rest (slice_set c.payload_mut.result.now c.args.offset c.args.byte)).1
+pub returns : goal.returns
+returns g c = record {
+  does = λ s at.
+      let p = c.in-Some.payload in
+      let w = slice_set c.payload_mut.result.now c.args.offset c.args.byte in
+      let (u, owns, holds, long) = owned at c.args.name p (sym c.payload.ensures ∙ c.in-Some.is) in
+      let bytes = c.payload-2.ensures ∙ bytes_in at.stands (address c.in-Some.payload) u holds in
+      let lent = c.payload_mut.ensures.value ∙ bytes_in at.stands (address p) u holds in
+      let (t, step, stands, keeps) = stepped at.stands _ (λ x. Fills x (address p) w) (c.payload_mut.ensures.meaning w (length-set c.payload_mut.result.now c.args.offset c.args.byte)) in
+      let fills = subst (λ a. Fills s.machine a (slice_set u.bytes c.args.offset c.args.byte) t) (sym holds.1) (subst (λ l. Fills s.machine (address p) (slice_set l c.args.offset c.args.byte) t) lent step) in (
+        with_machine s t,
+        (u, owns, omega (arith, c.if-offset-payload.false, ap length bytes, long), t, fills, refl),
+        IsAt-filled at (c.payload_mut.ensures.rest w).1 t stands (address p) w step,
+        keeps,
+      );
+  place = (c.payload_mut.ensures.rest (slice_set c.payload_mut.result.now c.args.offset c.args.byte)).1;
+}

@@ -9,12 +9,12 @@ align_of-requires g c =
     let (is, some, few, power) = marked_as c.self.invariant c.get.result (λ e. c.if-mark-eq0.false (c.get-mark.ensures ∙ e)) in
     (omega (arith, some, c.get-mark.ensures), omega (arith, few, c.get-mark.ensures))
 
-pub returns-clause-value : goal.returns-clause-value
-returns-clause-value g c = rw (← c.self.view_is) (
-    let (is, some, few, power) = marked_as c.self.invariant c.get.result (λ e. c.if-mark-eq0.false (c.get-mark.ensures ∙ e)) in
-    ap Some (c.align_of.ensures ∙ ap (λ n. 2 ^ (n - 1)) c.get-mark.ensures) ∙ sym is ∙ ap (align_at c.self.inside.heap.state) c.get.ensures.value)
-
-pub returns-clause-power : goal.returns-clause-power
-returns-clause-power g c =
-    let (is, some, few, power) = marked_as c.self.invariant c.get.result (λ e. c.if-mark-eq0.false (c.get-mark.ensures ∙ e)) in
-    subst IsPowerOfTwo (sym (c.align_of.ensures ∙ ap (λ n. 2 ^ (n - 1)) c.get-mark.ensures)) power
+pub returns : goal.returns
+returns g c = record {
+  value = rw (← c.self.view_is) (
+      let (is, some, few, power) = marked_as c.self.invariant c.get.result (λ e. c.if-mark-eq0.false (c.get-mark.ensures ∙ e)) in
+      ap Some (c.align_of.ensures ∙ ap (λ n. 2 ^ (n - 1)) c.get-mark.ensures) ∙ sym is ∙ ap (align_at c.self.inside.heap.state) c.get.ensures.value);
+  power =
+      let (is, some, few, power) = marked_as c.self.invariant c.get.result (λ e. c.if-mark-eq0.false (c.get-mark.ensures ∙ e)) in
+      subst IsPowerOfTwo (sym (c.align_of.ensures ∙ ap (λ n. 2 ^ (n - 1)) c.get-mark.ensures)) power;
+}

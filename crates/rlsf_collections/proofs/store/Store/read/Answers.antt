@@ -37,8 +37,8 @@ front c =
 pub slice_bounds-result-end : goal.slice_bounds-result-end
 slice_bounds-result-end c = sym (length-take-le c.args.len c.payload.result.now (front c).0)
 
-pub returns-clause-bytes : goal.returns-clause-bytes
-returns-clause-bytes c = rw (← c.self.view_is) (front c).1
-
-pub returns-clause-len : goal.returns-clause-len
-returns-clause-len c = length-take-le c.args.len c.payload.result.now (front c).0
+pub returns : goal.returns
+returns c = record {
+  bytes = rw (← c.self.view_is) (front c).1;
+  len = length-take-le c.args.len c.payload.result.now (front c).0;
+}

@@ -10,14 +10,12 @@ use Rattle.rlsf_global.proofs.locked.Locked.allocation_usable_size.Goals as goal
 pub allocation_usable_size-requires : goal.allocation_usable_size-requires
 allocation_usable_size-requires g c = (lit< tt, live_here c.self.inside.flex c.self.inside.rows.items c.self.invariant (at c.args.addr) _ (rw c.deref.ensures.value at c.in-Ok.ensures.found))
 
-pub returns-clause-step : goal.returns-clause-step
-returns-clause-step g c = rw (← c.self.view_is) (usable_in (heap_of c.self.inside.flex c.self.inside.rows.items) (at c.args.addr) _ c.allocation_usable_size.result (rw c.deref.ensures.value at c.in-Ok.ensures.found) c.allocation_usable_size.ensures)
-
 pub returns-in_default-clause-unknown : goal.returns-in_default-clause-unknown
 returns-in_default-clause-unknown g c = rw (← c.self.view_is) (unknown c.self.inside.flex c.self.inside.rows.items (at c.args.addr) _ (rw c.deref.ensures.value at c.in_default.ensures.absent))
 
-pub returns-clause-unknown : goal.returns-clause-unknown
-returns-clause-unknown g c = rw (← c.self.view_is) (known c.self.inside.flex c.self.inside.rows.items (at c.args.addr) _ (rw c.deref.ensures.value at c.in-Ok.ensures.found) (Ok c.allocation_usable_size.result) refl)
-
-pub returns-clause-len : goal.returns-clause-len
-returns-clause-len g c = rw (← c.self.view_is) (c.allocation_usable_size.ensures ∙ ap length (sym (content_at-is (heap_of c.self.inside.flex c.self.inside.rows.items) (at c.args.addr))))
+pub returns : goal.returns
+returns g c = record {
+  step = rw (← c.self.view_is) (usable_in (heap_of c.self.inside.flex c.self.inside.rows.items) (at c.args.addr) _ c.allocation_usable_size.result (rw c.deref.ensures.value at c.in-Ok.ensures.found) c.allocation_usable_size.ensures);
+  unknown = rw (← c.self.view_is) (known c.self.inside.flex c.self.inside.rows.items (at c.args.addr) _ (rw c.deref.ensures.value at c.in-Ok.ensures.found) (Ok c.allocation_usable_size.result) refl);
+  len = rw (← c.self.view_is) (c.allocation_usable_size.ensures ∙ ap length (sym (content_at-is (heap_of c.self.inside.flex c.self.inside.rows.items) (at c.args.addr))));
+}

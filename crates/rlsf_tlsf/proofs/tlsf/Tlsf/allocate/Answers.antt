@@ -39,14 +39,6 @@ pub invariant_of-self : goal.invariant_of-self
 invariant_of-self g c =
     IsAllocator-arrived (refusing g (goal.at.invariant_of-self g c).In_err-payload).1 c.self.inside.state.state (sym (bare-kept c.self.invariant)) c.self.invariant.valid
 
-pub returns-in_err-payload-clause-step : goal.returns-in_err-payload-clause-step
-returns-in_err-payload-clause-step g c =
-    let (step, stands, spare) = refusing g (goal.at.returns-in_err-payload-clause-step g c).In_err-payload in
-    Steps-arrived stands c.self.inside.state.state (sym (bare-kept c.self.invariant)) c.args.self.now c.self.inside.memory c.self.inside.table c.self.inside.state.state c.self.view_is
-    (λ old. Allocates g.row.SLLEN old c.args.layout.size c.args.layout.align (reply c.from_residual.result))
-    (subst (λ o. Allocates g.row.SLLEN (read_from c.self.inside.memory c.self.inside.state.state) c.args.layout.size c.args.layout.align (reply o) (read_from c.self.inside.memory c.self.inside.state.state)) (sym c.from_residual.ensures) step)
-    spare
-
 -- a block is made for the payload
 placing : (g : given.Over) (c : In_ok-payload g)
     → (t : State) × Places g.row.SLLEN (read_from c.self.inside.memory c.self.inside.state.state) c.args.layout.size c.args.layout.align c.in_ok-payload.payload t
@@ -71,7 +63,7 @@ after g c = allocator c.allocate_block.new.memory c.allocate_block.new.table c.a
 
 done : (g : given.Over) (c : After-new g) → Steps g.row.FLLEN g.row.SLLEN c.args.self.now (after g c) (Allocates g.row.SLLEN c.args.self.now.state c.args.layout.size c.args.layout.align (Some c.in_ok-payload.payload))
 done g c =
-    let (t, places, stands, spare) = placing g (goal.at.returns-clause-step g c).In_ok-payload in
+    let (t, places, stands, spare) = placing g (goal.at.returns g c).In_ok-payload in
     Steps-arrived stands c.allocate.new.self.state (kept g c t places) c.args.self.now c.self.inside.memory c.self.inside.table c.self.inside.state.state c.self.view_is
     (λ old. Allocates g.row.SLLEN old c.args.layout.size c.args.layout.align (Some c.in_ok-payload.payload)) places spare
 
@@ -81,99 +73,58 @@ places_of g c = (opened g.row.FLLEN g.row.SLLEN c.args.self.now (after g c) (All
 answer : (g : given.Over) (c : After-new g) → reply c.new.result ≡ Some c.in_ok-payload.payload
 answer g c = (number c.new.result c.in_ok-payload.payload c.new.ensures).1 (positive (places_of g c))
 
-pub returns-clause-step : goal.returns-clause-step
-returns-clause-step g c =
-    subst (λ o. Steps g.row.FLLEN g.row.SLLEN c.args.self.now (after g c) (Allocates g.row.SLLEN c.args.self.now.state c.args.layout.size c.args.layout.align o)) (sym (answer g c)) (done g c)
-
 seen : (g : given.Over) (c : After-new g) → SeesNew c.args.self.now.state (after g c).state c.args.layout.size c.args.layout.align c.in_ok-payload.payload
 seen g c =
     let stood = Stands-view c.self.inside.memory c.self.inside.table c.self.inside.state.state c.args.self.now c.self.view_is c.self.invariant.stands in
     new_seen (well_formed c.args.self.now stood) (after g c).state c.args.layout.size c.args.layout.align c.in_ok-payload.payload c.args.layout.valid.aligned (places_of g c)
 
-pub returns-clause-live : goal.returns-clause-live
-returns-clause-live g c = on_some (λ addr. align_at (after g c).state addr ≡ Some c.args.layout.align) c.new.result c.in_ok-payload.payload c.new.ensures (seen g c).live
-
-pub returns-clause-sized : goal.returns-clause-sized
-returns-clause-sized g c = on_some (λ addr. c.args.layout.size ≤ length (bytes_at (after g c).state addr)) c.new.result c.in_ok-payload.payload c.new.ensures (seen g c).sized
-
-pub returns-clause-few : goal.returns-clause-few
-returns-clause-few g c = on_some (λ addr. length (bytes_at (after g c).state addr) < c.args.layout.size + 32) c.new.result c.in_ok-payload.payload c.new.ensures (seen g c).few
-
-pub returns-clause-new : goal.returns-clause-new
-returns-clause-new g c = on_some (λ addr. align_at c.args.self.now.state addr ≡ None) c.new.result c.in_ok-payload.payload c.new.ensures (seen g c).new
-
-pub returns-clause-aligns : goal.returns-clause-aligns
-returns-clause-aligns g c = on_some (λ addr. (a : ℕ) → a ≢ addr → align_at (after g c).state a ≡ align_at c.args.self.now.state a) c.new.result c.in_ok-payload.payload c.new.ensures (seen g c).aligns
-
-pub returns-clause-bytes : goal.returns-clause-bytes
-returns-clause-bytes g c = on_some (λ addr. (a : ℕ) → a ≢ addr → bytes_at (after g c).state a ≡ bytes_at c.args.self.now.state a) c.new.result c.in_ok-payload.payload c.new.ensures (seen g c).bytes
-
-pub returns-clause-same : goal.returns-clause-same
-returns-clause-same g c =
-    let some = positive (places_of g c) in
-    on_none c.new.result c.in_ok-payload.payload c.new.ensures (λ zero. absurd (omega arith))
-
-pub returns-clause-refused : goal.returns-clause-refused
-returns-clause-refused g c =
-    let some = positive (places_of g c) in
-    on_none c.new.result c.in_ok-payload.payload c.new.ensures (λ zero. absurd (omega arith))
-
-pub returns-clause-chunks : goal.returns-clause-chunks
-returns-clause-chunks g c = chunks-allocated g.row.SLLEN c.args.self.now.state (after g c).state c.args.layout.size c.args.layout.align (Some c.in_ok-payload.payload) (places_of g c)
-
 -- ---- what stays where it is refused
 
-pub returns-in_err-payload-clause-live : goal.returns-in_err-payload-clause-live
-returns-in_err-payload-clause-live g c = none_some _ c.from_residual.result c.from_residual.ensures
-
-pub returns-in_err-payload-clause-sized : goal.returns-in_err-payload-clause-sized
-returns-in_err-payload-clause-sized g c = none_some _ c.from_residual.result c.from_residual.ensures
-
-pub returns-in_err-payload-clause-few : goal.returns-in_err-payload-clause-few
-returns-in_err-payload-clause-few g c = none_some _ c.from_residual.result c.from_residual.ensures
-
-pub returns-in_err-payload-clause-new : goal.returns-in_err-payload-clause-new
-returns-in_err-payload-clause-new g c = none_some _ c.from_residual.result c.from_residual.ensures
-
-pub returns-in_err-payload-clause-aligns : goal.returns-in_err-payload-clause-aligns
-returns-in_err-payload-clause-aligns g c = none_some _ c.from_residual.result c.from_residual.ensures
-
-pub returns-in_err-payload-clause-bytes : goal.returns-in_err-payload-clause-bytes
-returns-in_err-payload-clause-bytes g c = none_some _ c.from_residual.result c.from_residual.ensures
-
-pub returns-in_err-payload-clause-chunks : goal.returns-in_err-payload-clause-chunks
-returns-in_err-payload-clause-chunks g c = ap (λ (o : Allocator). o.state.chunks) c.self.view_is
-
-pub returns-in_err-payload-clause-same : goal.returns-in_err-payload-clause-same
-returns-in_err-payload-clause-same g c =
-    let v = (refusing g (goal.at.returns-in_err-payload-clause-same g c).In_err-payload).1 in
-    none_none c.from_residual.result (arrived v c.self.inside.state.state (sym (bare-kept c.self.invariant)) ∙ ap (λ (o : Allocator). o.state) c.self.view_is)
-
-pub returns-in_err-payload-clause-refused : goal.returns-in_err-payload-clause-refused
-returns-in_err-payload-clause-refused g c = none_none c.from_residual.result (c.in_err-payload.ensures.unchanged.0.bytes ∙ ap (λ (o : Allocator). o.memory.bytes) c.self.view_is)
-
-pub returns-in_err-payload-clause-place : goal.returns-in_err-payload-clause-place
-returns-in_err-payload-clause-place g c = subst (λ (o : Allocator). SamePlace o.memory c.allocate_block.new.memory) c.self.view_is (SamePlace-counted c.self.inside.memory c.allocate_block.new.memory 4 c.in_err-payload.ensures.unchanged.0)
-
-pub returns-in_err-payload-clause-touches : goal.returns-in_err-payload-clause-touches
-returns-in_err-payload-clause-touches g c = subst (λ (o : Allocator). c.allocate_block.new.memory.touches ≤ o.memory.touches + 27) c.self.view_is (touches-counted c.self.inside.memory c.allocate_block.new.memory 4 c.in_err-payload.ensures.unchanged.0 23)
-
-pub returns-in_err-payload-clause-grow : goal.returns-in_err-payload-clause-grow
-returns-in_err-payload-clause-grow g c = subst (λ (o : Allocator). o.memory.touches ≤ c.allocate_block.new.memory.touches) c.self.view_is c.in_err-payload.ensures.unchanged.0.grow
-
-pub returns-in_err-payload-clause-copied : goal.returns-in_err-payload-clause-copied
-returns-in_err-payload-clause-copied g c = c.in_err-payload.ensures.unchanged.0.copied ∙ ap (λ (o : Allocator). o.memory.copied) c.self.view_is
+pub returns-in_err-payload : goal.returns-in_err-payload
+returns-in_err-payload g c = record {
+  step =
+      let (step, stands, spare) = refusing g (goal.at.returns-in_err-payload g c).In_err-payload in
+      Steps-arrived stands c.self.inside.state.state (sym (bare-kept c.self.invariant)) c.args.self.now c.self.inside.memory c.self.inside.table c.self.inside.state.state c.self.view_is
+      (λ old. Allocates g.row.SLLEN old c.args.layout.size c.args.layout.align (reply c.from_residual.result))
+      (subst (λ o. Allocates g.row.SLLEN (read_from c.self.inside.memory c.self.inside.state.state) c.args.layout.size c.args.layout.align (reply o) (read_from c.self.inside.memory c.self.inside.state.state)) (sym c.from_residual.ensures) step)
+      spare;
+  live = none_some _ c.from_residual.result c.from_residual.ensures;
+  sized = none_some _ c.from_residual.result c.from_residual.ensures;
+  few = none_some _ c.from_residual.result c.from_residual.ensures;
+  new = none_some _ c.from_residual.result c.from_residual.ensures;
+  aligns = none_some _ c.from_residual.result c.from_residual.ensures;
+  bytes = none_some _ c.from_residual.result c.from_residual.ensures;
+  chunks = ap (λ (o : Allocator). o.state.chunks) c.self.view_is;
+  same =
+      let v = (refusing g (goal.at.returns-in_err-payload g c).In_err-payload).1 in
+      none_none c.from_residual.result (arrived v c.self.inside.state.state (sym (bare-kept c.self.invariant)) ∙ ap (λ (o : Allocator). o.state) c.self.view_is);
+  refused = none_none c.from_residual.result (c.in_err-payload.ensures.unchanged.0.bytes ∙ ap (λ (o : Allocator). o.memory.bytes) c.self.view_is);
+  place = subst (λ (o : Allocator). SamePlace o.memory c.allocate_block.new.memory) c.self.view_is (SamePlace-counted c.self.inside.memory c.allocate_block.new.memory 4 c.in_err-payload.ensures.unchanged.0);
+  touches = subst (λ (o : Allocator). c.allocate_block.new.memory.touches ≤ o.memory.touches + 27) c.self.view_is (touches-counted c.self.inside.memory c.allocate_block.new.memory 4 c.in_err-payload.ensures.unchanged.0 23);
+  grow = subst (λ (o : Allocator). o.memory.touches ≤ c.allocate_block.new.memory.touches) c.self.view_is c.in_err-payload.ensures.unchanged.0.grow;
+  copied = c.in_err-payload.ensures.unchanged.0.copied ∙ ap (λ (o : Allocator). o.memory.copied) c.self.view_is;
+}
 
 -- ---- the counts of a payload that was placed
 
-pub returns-clause-place : goal.returns-clause-place
-returns-clause-place g c = subst (λ (o : Allocator). SamePlace o.memory c.allocate_block.new.memory) c.self.view_is c.in_ok-payload.ensures.place
-
-pub returns-clause-touches : goal.returns-clause-touches
-returns-clause-touches g c = subst (λ (o : Allocator). c.allocate_block.new.memory.touches ≤ o.memory.touches + 27) c.self.view_is c.in_ok-payload.ensures.touches
-
-pub returns-clause-grow : goal.returns-clause-grow
-returns-clause-grow g c = subst (λ (o : Allocator). o.memory.touches ≤ c.allocate_block.new.memory.touches) c.self.view_is c.in_ok-payload.ensures.grow
-
-pub returns-clause-copied : goal.returns-clause-copied
-returns-clause-copied g c = c.in_ok-payload.ensures.copied ∙ ap (λ (o : Allocator). o.memory.copied) c.self.view_is
+pub returns : goal.returns
+returns g c = record {
+  step = subst (λ o. Steps g.row.FLLEN g.row.SLLEN c.args.self.now (after g c) (Allocates g.row.SLLEN c.args.self.now.state c.args.layout.size c.args.layout.align o)) (sym (answer g c)) (done g c);
+  live = on_some (λ addr. align_at (after g c).state addr ≡ Some c.args.layout.align) c.new.result c.in_ok-payload.payload c.new.ensures (seen g c).live;
+  sized = on_some (λ addr. c.args.layout.size ≤ length (bytes_at (after g c).state addr)) c.new.result c.in_ok-payload.payload c.new.ensures (seen g c).sized;
+  few = on_some (λ addr. length (bytes_at (after g c).state addr) < c.args.layout.size + 32) c.new.result c.in_ok-payload.payload c.new.ensures (seen g c).few;
+  new = on_some (λ addr. align_at c.args.self.now.state addr ≡ None) c.new.result c.in_ok-payload.payload c.new.ensures (seen g c).new;
+  aligns = on_some (λ addr. (a : ℕ) → a ≢ addr → align_at (after g c).state a ≡ align_at c.args.self.now.state a) c.new.result c.in_ok-payload.payload c.new.ensures (seen g c).aligns;
+  bytes = on_some (λ addr. (a : ℕ) → a ≢ addr → bytes_at (after g c).state a ≡ bytes_at c.args.self.now.state a) c.new.result c.in_ok-payload.payload c.new.ensures (seen g c).bytes;
+  chunks = chunks-allocated g.row.SLLEN c.args.self.now.state (after g c).state c.args.layout.size c.args.layout.align (Some c.in_ok-payload.payload) (places_of g c);
+  same =
+      let some = positive (places_of g c) in
+      on_none c.new.result c.in_ok-payload.payload c.new.ensures (λ zero. absurd (omega arith));
+  refused =
+      let some = positive (places_of g c) in
+      on_none c.new.result c.in_ok-payload.payload c.new.ensures (λ zero. absurd (omega arith));
+  place = subst (λ (o : Allocator). SamePlace o.memory c.allocate_block.new.memory) c.self.view_is c.in_ok-payload.ensures.place;
+  touches = subst (λ (o : Allocator). c.allocate_block.new.memory.touches ≤ o.memory.touches + 27) c.self.view_is c.in_ok-payload.ensures.touches;
+  grow = subst (λ (o : Allocator). o.memory.touches ≤ c.allocate_block.new.memory.touches) c.self.view_is c.in_ok-payload.ensures.grow;
+  copied = c.in_ok-payload.ensures.copied ∙ ap (λ (o : Allocator). o.memory.copied) c.self.view_is;
+}

@@ -49,12 +49,9 @@ after g c = allocator c.append_chunks-taken.new.memory c.append_chunks-taken.new
 
 done : (g : given.Over) (c : After-append g) → Steps g.row.FLLEN g.row.SLLEN c.args.self.now (after g c) (Appends g.row.FLLEN c.args.self.now.state c.args.range c.append_chunks-taken.result)
 done g c =
-    let (t, step, stands, spare) = appending g (goal.at.returns-clause-step g c).After-append_chunks-taken in
+    let (t, step, stands, spare) = appending g (goal.at.returns g c).After-append_chunks-taken in
     Steps-arrived stands c.append.new.self.state (kept g c t step) c.args.self.now c.self.inside.memory c.self.inside.table c.self.inside.state.state c.self.view_is
     (λ old. Appends g.row.FLLEN old c.args.range c.append_chunks-taken.result) step spare
-
-pub returns-clause-step : goal.returns-clause-step
-returns-clause-step g c = done g c
 
 seen : (g : given.Over) (c : After-append g) → SeesSame c.args.self.now.state (after g c).state
 seen g c =
@@ -63,28 +60,17 @@ seen g c =
     (view_well_formed c.self.invariant c.args.self.now c.self.view_is) c.requires
     (opened g.row.FLLEN g.row.SLLEN c.args.self.now (after g c) (Appends g.row.FLLEN c.args.self.now.state c.args.range c.append_chunks-taken.result) (done g c)).0)
 
-pub returns-clause-aligns : goal.returns-clause-aligns
-returns-clause-aligns g c = (seen g c).aligns
-
-pub returns-clause-bytes : goal.returns-clause-bytes
-returns-clause-bytes g c = (seen g c).bytes
-
-pub returns-clause-untouched : goal.returns-clause-untouched
-returns-clause-untouched g c =
-    untouched_appended g.row.FLLEN c.args.self.now.state (after g c).state c.args.range c.append_chunks-taken.result
-    (opened g.row.FLLEN g.row.SLLEN c.args.self.now (after g c) (Appends g.row.FLLEN c.args.self.now.state c.args.range c.append_chunks-taken.result) (done g c)).0
-
-pub returns-clause-unchanged : goal.returns-clause-unchanged
-returns-clause-unchanged g c = λ zero. c.append_chunks-taken.ensures.unchanged zero ∙ ap (λ (o : Allocator). o.memory.bytes) c.self.view_is
-
-pub returns-clause-place : goal.returns-clause-place
-returns-clause-place g c = subst (λ (o : Allocator). SamePlace o.memory c.append_chunks-taken.new.memory) c.self.view_is c.append_chunks-taken.ensures.place
-
-pub returns-clause-touches : goal.returns-clause-touches
-returns-clause-touches g c = subst (λ (o : Allocator). c.append_chunks-taken.new.memory.touches ≤ o.memory.touches + (if is_some (max_pool_size g.row.FLLEN) then 13 * length (cut (max_pool_size g.row.FLLEN) (aligned_part c.args.range)) else 34)) c.self.view_is c.append_chunks-taken.ensures.touches
-
-pub returns-clause-grow : goal.returns-clause-grow
-returns-clause-grow g c = subst (λ (o : Allocator). o.memory.touches ≤ c.append_chunks-taken.new.memory.touches) c.self.view_is c.append_chunks-taken.ensures.grow
-
-pub returns-clause-copied : goal.returns-clause-copied
-returns-clause-copied g c = c.append_chunks-taken.ensures.copied ∙ ap (λ (o : Allocator). o.memory.copied) c.self.view_is
+pub returns : goal.returns
+returns g c = record {
+  step = done g c;
+  untouched =
+      untouched_appended g.row.FLLEN c.args.self.now.state (after g c).state c.args.range c.append_chunks-taken.result
+      (opened g.row.FLLEN g.row.SLLEN c.args.self.now (after g c) (Appends g.row.FLLEN c.args.self.now.state c.args.range c.append_chunks-taken.result) (done g c)).0;
+  aligns = (seen g c).aligns;
+  bytes = (seen g c).bytes;
+  unchanged = λ zero. c.append_chunks-taken.ensures.unchanged zero ∙ ap (λ (o : Allocator). o.memory.bytes) c.self.view_is;
+  place = subst (λ (o : Allocator). SamePlace o.memory c.append_chunks-taken.new.memory) c.self.view_is c.append_chunks-taken.ensures.place;
+  touches = subst (λ (o : Allocator). c.append_chunks-taken.new.memory.touches ≤ o.memory.touches + (if is_some (max_pool_size g.row.FLLEN) then 13 * length (cut (max_pool_size g.row.FLLEN) (aligned_part c.args.range)) else 34)) c.self.view_is c.append_chunks-taken.ensures.touches;
+  grow = subst (λ (o : Allocator). o.memory.touches ≤ c.append_chunks-taken.new.memory.touches) c.self.view_is c.append_chunks-taken.ensures.grow;
+  copied = c.append_chunks-taken.ensures.copied ∙ ap (λ (o : Allocator). o.memory.copied) c.self.view_is;
+}

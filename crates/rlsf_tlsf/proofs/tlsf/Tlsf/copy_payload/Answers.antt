@@ -84,34 +84,22 @@ done g c =
     Steps-arrived stands c.self.inside.state.state (kept g c t (front g c) fills) c.args.self.now c.self.inside.memory c.self.inside.table c.self.inside.state.state c.self.view_is
     (λ old. Fills old (at c.args.to) (front g c)) fills spare
 
-pub returns-clause-step : goal.returns-clause-step
-returns-clause-step g c = done g (goal.at.returns-clause-step g c).After-copy_within
-
 seen : (g : given.Over) (c : After-copy_within g) → SeesFilled c.args.self.now.state (after g c).state (at c.args.to) (front g c)
 seen g c =
     filled_seen (view_well_formed c.self.invariant c.args.self.now c.self.view_is) (after g c).state (at c.args.to) (front g c)
     (opened g.row.FLLEN g.row.SLLEN c.args.self.now (after g c) (Fills c.args.self.now.state (at c.args.to) (front g c)) (done g c)).0
 
-pub returns-clause-filled : goal.returns-clause-filled
-returns-clause-filled g c = (seen g (goal.at.returns-clause-filled g c).After-copy_within).here
-
-pub returns-clause-aligns : goal.returns-clause-aligns
-returns-clause-aligns g c = λ i a. (seen g (goal.at.returns-clause-aligns g c).After-copy_within).aligns a i
-
-pub returns-clause-bytes : goal.returns-clause-bytes
-returns-clause-bytes g c = (seen g (goal.at.returns-clause-bytes g c).After-copy_within).bytes
-
-pub returns-clause-chunks : goal.returns-clause-chunks
-returns-clause-chunks g c =
-    let before = (goal.at.returns-clause-chunks g c).After-copy_within in
-    chunks-filled c.args.self.now.state (after g before).state (at c.args.to) (front g before)
-    (opened g.row.FLLEN g.row.SLLEN c.args.self.now (after g before) (Fills c.args.self.now.state (at c.args.to) (front g before)) (done g before)).0
-
-pub returns-clause-place : goal.returns-clause-place
-returns-clause-place g c = subst (λ (o : Allocator). SamePlace o.memory c.copy_within.new.self) c.self.view_is (c.copy_within.ensures.start, c.copy_within.ensures.len)
-
-pub returns-clause-touches : goal.returns-clause-touches
-returns-clause-touches g c = c.copy_within.ensures.touches ∙ ap (λ (o : Allocator). o.memory.touches) c.self.view_is
-
-pub returns-clause-copied : goal.returns-clause-copied
-returns-clause-copied g c = c.copy_within.ensures.copied ∙ ap (λ (o : Allocator). o.memory.copied + c.args.len) c.self.view_is
+pub returns : goal.returns
+returns g c = record {
+  step = done g (goal.at.returns g c).After-copy_within;
+  filled = (seen g (goal.at.returns g c).After-copy_within).here;
+  bytes = (seen g (goal.at.returns g c).After-copy_within).bytes;
+  aligns = λ i a. (seen g (goal.at.returns g c).After-copy_within).aligns a i;
+  chunks =
+      let before = (goal.at.returns g c).After-copy_within in
+      chunks-filled c.args.self.now.state (after g before).state (at c.args.to) (front g before)
+      (opened g.row.FLLEN g.row.SLLEN c.args.self.now (after g before) (Fills c.args.self.now.state (at c.args.to) (front g before)) (done g before)).0;
+  place = subst (λ (o : Allocator). SamePlace o.memory c.copy_within.new.self) c.self.view_is (c.copy_within.ensures.start, c.copy_within.ensures.len);
+  touches = c.copy_within.ensures.touches ∙ ap (λ (o : Allocator). o.memory.touches) c.self.view_is;
+  copied = c.copy_within.ensures.copied ∙ ap (λ (o : Allocator). o.memory.copied + c.args.len) c.self.view_is;
+}

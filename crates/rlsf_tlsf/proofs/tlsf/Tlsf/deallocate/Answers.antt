@@ -62,7 +62,7 @@ after g c = allocator c.deallocate_block.new.memory c.deallocate_block.new.table
 
 done : (g : given.Over) (c : After-deallocate g) → Steps g.row.FLLEN g.row.SLLEN c.args.self.now (after g c) (Deallocates c.args.self.now.state (at c.args.addr))
 done g c =
-    let before = (goal.at.returns-clause-step g c).After-used_block-block in
+    let before = (goal.at.returns g c).After-used_block-block in
     let counts = c.used_block-block.ensures.counts in
     let s = state g before in
     let (u, holds, start) = found g before in
@@ -70,9 +70,6 @@ done g c =
     Steps-arrived stands c.deallocate.new.self.state (kept g c u holds) c.args.self.now c.self.inside.memory c.self.inside.table c.self.inside.state.state c.self.view_is
     (λ old. Deallocates old (at c.args.addr)) (record { block = u; holds = holds; after = refl })
     (KeepsSpare-counted_first c.self.inside.memory c.used_block-block.new.memory counts.start counts.bytes s (released s u) c.deallocate_block.new.memory spare)
-
-pub returns-clause-step : goal.returns-clause-step
-returns-clause-step g c = done g c
 
 stepped : (g : given.Over) (c : After-deallocate g) → Deallocates c.args.self.now.state (at c.args.addr) (after g c).state
 stepped g c = (opened g.row.FLLEN g.row.SLLEN c.args.self.now (after g c) (Deallocates c.args.self.now.state (at c.args.addr)) (done g c)).0
@@ -82,26 +79,15 @@ seen g c =
     let (u, holds, is) = align_at-live c.args.self.now.state (at c.args.addr) c.args.align c.requires in
     gone_seen (view_well_formed c.self.invariant c.args.self.now c.self.view_is) (after g c).state (at c.args.addr) (u, holds) (stepped g c)
 
-pub returns-clause-gone : goal.returns-clause-gone
-returns-clause-gone g c = (seen g c).gone
-
-pub returns-clause-aligns : goal.returns-clause-aligns
-returns-clause-aligns g c = (seen g c).aligns
-
-pub returns-clause-bytes : goal.returns-clause-bytes
-returns-clause-bytes g c = (seen g c).bytes
-
-pub returns-clause-chunks : goal.returns-clause-chunks
-returns-clause-chunks g c = chunks-deallocated c.args.self.now.state (after g c).state (at c.args.addr) (stepped g c)
-
-pub returns-clause-place : goal.returns-clause-place
-returns-clause-place g c = subst (λ (o : Allocator). SamePlace o.memory c.deallocate_block.new.memory) c.self.view_is (SamePlace-counted_first c.self.inside.memory c.used_block-block.new.memory 1 c.used_block-block.ensures.counts c.deallocate_block.new.memory c.deallocate_block.ensures.place)
-
-pub returns-clause-touches : goal.returns-clause-touches
-returns-clause-touches g c = subst (λ (o : Allocator). c.deallocate_block.new.memory.touches ≤ o.memory.touches + 32) c.self.view_is (touches-counted_first c.self.inside.memory c.used_block-block.new.memory 1 c.used_block-block.ensures.counts c.deallocate_block.new.memory 31 c.deallocate_block.ensures.touches)
-
-pub returns-clause-grow : goal.returns-clause-grow
-returns-clause-grow g c = subst (λ (o : Allocator). o.memory.touches ≤ c.deallocate_block.new.memory.touches) c.self.view_is (grow-counted_first c.self.inside.memory c.used_block-block.new.memory 1 c.used_block-block.ensures.counts c.deallocate_block.new.memory c.deallocate_block.ensures.grow)
-
-pub returns-clause-copied : goal.returns-clause-copied
-returns-clause-copied g c = copied-counted_first c.self.inside.memory c.used_block-block.new.memory 1 c.used_block-block.ensures.counts c.deallocate_block.new.memory c.deallocate_block.ensures.copied ∙ ap (λ (o : Allocator). o.memory.copied) c.self.view_is
+pub returns : goal.returns
+returns g c = record {
+  step = done g c;
+  chunks = chunks-deallocated c.args.self.now.state (after g c).state (at c.args.addr) (stepped g c);
+  gone = (seen g c).gone;
+  aligns = (seen g c).aligns;
+  bytes = (seen g c).bytes;
+  place = subst (λ (o : Allocator). SamePlace o.memory c.deallocate_block.new.memory) c.self.view_is (SamePlace-counted_first c.self.inside.memory c.used_block-block.new.memory 1 c.used_block-block.ensures.counts c.deallocate_block.new.memory c.deallocate_block.ensures.place);
+  touches = subst (λ (o : Allocator). c.deallocate_block.new.memory.touches ≤ o.memory.touches + 32) c.self.view_is (touches-counted_first c.self.inside.memory c.used_block-block.new.memory 1 c.used_block-block.ensures.counts c.deallocate_block.new.memory 31 c.deallocate_block.ensures.touches);
+  grow = subst (λ (o : Allocator). o.memory.touches ≤ c.deallocate_block.new.memory.touches) c.self.view_is (grow-counted_first c.self.inside.memory c.used_block-block.new.memory 1 c.used_block-block.ensures.counts c.deallocate_block.new.memory c.deallocate_block.ensures.grow);
+  copied = copied-counted_first c.self.inside.memory c.used_block-block.new.memory 1 c.used_block-block.ensures.counts c.deallocate_block.new.memory c.deallocate_block.ensures.copied ∙ ap (λ (o : Allocator). o.memory.copied) c.self.view_is;
+}

@@ -52,12 +52,9 @@ after g c = allocator c.insert_chunks-taken.new.memory c.insert_chunks-taken.new
 
 done : (g : given.Over) (c : After-insert g) → Steps g.row.FLLEN g.row.SLLEN c.args.self.now (after g c) (Inserts g.row.FLLEN c.args.self.now.state c.args.range (reply c.insert_chunks-taken.result))
 done g c =
-    let (t, step, stands, spare) = inserting g (goal.at.returns-clause-step g c).After-insert_chunks-taken in
+    let (t, step, stands, spare) = inserting g (goal.at.returns g c).After-insert_chunks-taken in
     Steps-arrived stands c.insert.new.self.state (kept g c t step) c.args.self.now c.self.inside.memory c.self.inside.table c.self.inside.state.state c.self.view_is
     (λ old. Inserts g.row.FLLEN old c.args.range (reply c.insert_chunks-taken.result)) step spare
-
-pub returns-clause-step : goal.returns-clause-step
-returns-clause-step g c = done g c
 
 seen : (g : given.Over) (c : After-insert g) → SeesSame c.args.self.now.state (after g c).state
 seen g c =
@@ -67,28 +64,17 @@ seen g c =
     (IsFresh-untouched (range_of c.args.self.now.memory) c.args.self.now.state c.args.range c.requires.lies_in c.requires.untouched)
     (opened g.row.FLLEN g.row.SLLEN c.args.self.now (after g c) (Inserts g.row.FLLEN c.args.self.now.state c.args.range (reply c.insert_chunks-taken.result)) (done g c)).0)
 
-pub returns-clause-aligns : goal.returns-clause-aligns
-returns-clause-aligns g c = (seen g c).aligns
-
-pub returns-clause-bytes : goal.returns-clause-bytes
-returns-clause-bytes g c = (seen g c).bytes
-
-pub returns-clause-untouched : goal.returns-clause-untouched
-returns-clause-untouched g c =
-    untouched_inserted g.row.FLLEN c.args.self.now.state (after g c).state c.args.range (reply c.insert_chunks-taken.result)
-    (opened g.row.FLLEN g.row.SLLEN c.args.self.now (after g c) (Inserts g.row.FLLEN c.args.self.now.state c.args.range (reply c.insert_chunks-taken.result)) (done g c)).0
-
-pub returns-clause-refused : goal.returns-clause-refused
-returns-clause-refused g c = subst (λ (o : Allocator). IfNone c.insert_chunks-taken.result (c.insert_chunks-taken.new.memory.bytes ≡ o.memory.bytes)) c.self.view_is c.insert_chunks-taken.ensures.refused
-
-pub returns-clause-place : goal.returns-clause-place
-returns-clause-place g c = subst (λ (o : Allocator). SamePlace o.memory c.insert_chunks-taken.new.memory) c.self.view_is c.insert_chunks-taken.ensures.place
-
-pub returns-clause-touches : goal.returns-clause-touches
-returns-clause-touches g c = subst (λ (o : Allocator). c.insert_chunks-taken.new.memory.touches ≤ o.memory.touches + 13 * length (cut (max_pool_size g.row.FLLEN) (aligned_part c.args.range))) c.self.view_is c.insert_chunks-taken.ensures.touches
-
-pub returns-clause-grow : goal.returns-clause-grow
-returns-clause-grow g c = subst (λ (o : Allocator). o.memory.touches ≤ c.insert_chunks-taken.new.memory.touches) c.self.view_is c.insert_chunks-taken.ensures.grow
-
-pub returns-clause-copied : goal.returns-clause-copied
-returns-clause-copied g c = c.insert_chunks-taken.ensures.copied ∙ ap (λ (o : Allocator). o.memory.copied) c.self.view_is
+pub returns : goal.returns
+returns g c = record {
+  step = done g c;
+  untouched =
+      untouched_inserted g.row.FLLEN c.args.self.now.state (after g c).state c.args.range (reply c.insert_chunks-taken.result)
+      (opened g.row.FLLEN g.row.SLLEN c.args.self.now (after g c) (Inserts g.row.FLLEN c.args.self.now.state c.args.range (reply c.insert_chunks-taken.result)) (done g c)).0;
+  aligns = (seen g c).aligns;
+  bytes = (seen g c).bytes;
+  refused = subst (λ (o : Allocator). IfNone c.insert_chunks-taken.result (c.insert_chunks-taken.new.memory.bytes ≡ o.memory.bytes)) c.self.view_is c.insert_chunks-taken.ensures.refused;
+  place = subst (λ (o : Allocator). SamePlace o.memory c.insert_chunks-taken.new.memory) c.self.view_is c.insert_chunks-taken.ensures.place;
+  touches = subst (λ (o : Allocator). c.insert_chunks-taken.new.memory.touches ≤ o.memory.touches + 13 * length (cut (max_pool_size g.row.FLLEN) (aligned_part c.args.range))) c.self.view_is c.insert_chunks-taken.ensures.touches;
+  grow = subst (λ (o : Allocator). o.memory.touches ≤ c.insert_chunks-taken.new.memory.touches) c.self.view_is c.insert_chunks-taken.ensures.grow;
+  copied = c.insert_chunks-taken.ensures.copied ∙ ap (λ (o : Allocator). o.memory.copied) c.self.view_is;
+}

@@ -51,7 +51,7 @@ resize_block-requires g c =
 -- where the bytes don't suffice, the state stays
 module _ (g : given.Over) (c : Then-not-resize_block g) where
   abbrev before : After-used_block-block g
-  before = (goal.at.returns-then-not-resize_block-clause-step g c).After-used_block-block
+  before = (goal.at.returns-then-not-resize_block g c).After-used_block-block
 
   stands : StandsFor g.row.FLLEN g.row.SLLEN (contents c.resize_block.new.memory c.resize_block.new.table) (state g before)
   stands = StandsFor-unchanged c.used_block-block.new.memory c.resize_block.new.memory c.self.inside.table c.resize_block.new.table (state g before) 2 (c.resize_block.ensures.unchanged c.if-not-resize_block.true) (found g before).stands
@@ -71,20 +71,11 @@ module _ (g : given.Over) (c : Then-not-resize_block g) where
 pub invariant_of-self : goal.invariant_of-self
 invariant_of-self g c = IsAllocator-arrived (stands g c) c.self.inside.state.state (sym (bare-kept c.self.invariant)) c.self.invariant.valid
 
-pub returns-then-not-resize_block-clause-step : goal.returns-then-not-resize_block-clause-step
-returns-then-not-resize_block-clause-step g c =
-    Steps-arrived (stands g c) c.self.inside.state.state (sym (bare-kept c.self.invariant)) c.args.self.now c.self.inside.memory c.self.inside.table c.self.inside.state.state c.self.view_is
-    (λ old. ReallocatesWithoutMove old (at c.args.addr) c.args.layout.size None) (refused g c) (keeps g c)
-
-pub returns-then-not-resize_block-clause-aligns : goal.returns-then-not-resize_block-clause-aligns
-returns-then-not-resize_block-clause-aligns g c =
-    ap align_at (arrived (stands g c) c.self.inside.state.state (sym (bare-kept c.self.invariant)) ∙ ap (λ (o : Allocator). o.state) c.self.view_is)
-
 -- ---- the payload with another size
 
 module _ (g : given.Over) (c : After-reallocate g) where
   abbrev early : After-used_block-block g
-  early = (goal.at.returns-clause-step g c).After-used_block-block
+  early = (goal.at.returns g c).After-used_block-block
 
   resized : (t : State) × ReallocatesWithoutMove (state g early) (at c.args.addr) c.args.layout.size (Some (at c.args.addr)) t
       × StandsFor g.row.FLLEN g.row.SLLEN (contents c.resize_block.new.memory c.resize_block.new.table) t
@@ -134,93 +125,49 @@ module _ (g : given.Over) (c : After-reallocate g) where
 pub invariant_of-self-2 : goal.invariant_of-self-2
 invariant_of-self-2 g c = let (t, step, stands, spare) = resized g c in IsAllocator-arrived stands c.reallocate.new.self.state (kept g c t step) c.self.invariant.valid
 
-pub returns-clause-step : goal.returns-clause-step
-returns-clause-step g c = done g c
-
-pub returns-clause-live : goal.returns-clause-live
-returns-clause-live g c = (seen g c).live
-
-pub returns-clause-sized : goal.returns-clause-sized
-returns-clause-sized g c = (seen g c).sized
-
-pub returns-clause-few : goal.returns-clause-few
-returns-clause-few g c = (seen g c).few
-
-pub returns-clause-kept : goal.returns-clause-kept
-returns-clause-kept g c = (seen g c).kept
-
-pub returns-clause-aligns : goal.returns-clause-aligns
-returns-clause-aligns g c = λ i a. aligned g c a i
-
-pub returns-clause-bytes : goal.returns-clause-bytes
-returns-clause-bytes g c = λ a apart. (seen g c).bytes a apart apart
-
 -- ---- what stays where it is refused
-
-pub returns-then-not-resize_block-clause-there : goal.returns-then-not-resize_block-clause-there
-returns-then-not-resize_block-clause-there g c = tt
-
-pub returns-then-not-resize_block-clause-sized : goal.returns-then-not-resize_block-clause-sized
-returns-then-not-resize_block-clause-sized g c = tt
-
-pub returns-then-not-resize_block-clause-few : goal.returns-then-not-resize_block-clause-few
-returns-then-not-resize_block-clause-few g c = tt
-
-pub returns-then-not-resize_block-clause-kept : goal.returns-then-not-resize_block-clause-kept
-returns-then-not-resize_block-clause-kept g c = tt
 
 same : (g : given.Over) (c : Then-not-resize_block g) → read_from c.resize_block.new.memory c.self.inside.state.state ≡ c.args.self.now.state
 same g c = arrived (stands g c) c.self.inside.state.state (sym (bare-kept c.self.invariant)) ∙ ap (λ (o : Allocator). o.state) c.self.view_is
 
-pub returns-then-not-resize_block-clause-live : goal.returns-then-not-resize_block-clause-live
-returns-then-not-resize_block-clause-live g c = ap (λ s. align_at s (at c.args.addr)) (same g c) ∙ c.requires
-
-pub returns-then-not-resize_block-clause-bytes : goal.returns-then-not-resize_block-clause-bytes
-returns-then-not-resize_block-clause-bytes g c = λ a apart. ap (λ s. bytes_at s a) (same g c)
-
-pub returns-then-not-resize_block-clause-chunks : goal.returns-then-not-resize_block-clause-chunks
-returns-then-not-resize_block-clause-chunks g c = ap (λ (o : Allocator). o.state.chunks) c.self.view_is
-
-pub returns-then-not-resize_block-clause-same : goal.returns-then-not-resize_block-clause-same
-returns-then-not-resize_block-clause-same g c = same g c
-
-pub returns-then-not-resize_block-clause-refused : goal.returns-then-not-resize_block-clause-refused
-returns-then-not-resize_block-clause-refused g c = (c.resize_block.ensures.unchanged c.if-not-resize_block.true).0.bytes ∙ c.used_block-block.ensures.counts.bytes ∙ ap (λ (o : Allocator). o.memory.bytes) c.self.view_is
-
-pub returns-then-not-resize_block-clause-place : goal.returns-then-not-resize_block-clause-place
-returns-then-not-resize_block-clause-place g c = subst (λ (o : Allocator). SamePlace o.memory c.resize_block.new.memory) c.self.view_is (SamePlace-counted_first c.self.inside.memory c.used_block-block.new.memory 1 c.used_block-block.ensures.counts c.resize_block.new.memory c.resize_block.ensures.place)
-
-pub returns-then-not-resize_block-clause-touches : goal.returns-then-not-resize_block-clause-touches
-returns-then-not-resize_block-clause-touches g c = subst (λ (o : Allocator). c.resize_block.new.memory.touches ≤ o.memory.touches + 25) c.self.view_is (touches-counted_first c.self.inside.memory c.used_block-block.new.memory 1 c.used_block-block.ensures.counts c.resize_block.new.memory 24 c.resize_block.ensures.touches)
-
-pub returns-then-not-resize_block-clause-grow : goal.returns-then-not-resize_block-clause-grow
-returns-then-not-resize_block-clause-grow g c = subst (λ (o : Allocator). o.memory.touches ≤ c.resize_block.new.memory.touches) c.self.view_is (grow-counted_first c.self.inside.memory c.used_block-block.new.memory 1 c.used_block-block.ensures.counts c.resize_block.new.memory c.resize_block.ensures.grow)
-
-pub returns-then-not-resize_block-clause-copied : goal.returns-then-not-resize_block-clause-copied
-returns-then-not-resize_block-clause-copied g c = copied-counted_first c.self.inside.memory c.used_block-block.new.memory 1 c.used_block-block.ensures.counts c.resize_block.new.memory c.resize_block.ensures.copied ∙ ap (λ (o : Allocator). o.memory.copied) c.self.view_is
+pub returns-then-not-resize_block : goal.returns-then-not-resize_block
+returns-then-not-resize_block g c = record {
+  step =
+      Steps-arrived (stands g c) c.self.inside.state.state (sym (bare-kept c.self.invariant)) c.args.self.now c.self.inside.memory c.self.inside.table c.self.inside.state.state c.self.view_is
+      (λ old. ReallocatesWithoutMove old (at c.args.addr) c.args.layout.size None) (refused g c) (keeps g c);
+  there = tt;
+  live = ap (λ s. align_at s (at c.args.addr)) (same g c) ∙ c.requires;
+  sized = tt;
+  few = tt;
+  kept = tt;
+  aligns = ap align_at (arrived (stands g c) c.self.inside.state.state (sym (bare-kept c.self.invariant)) ∙ ap (λ (o : Allocator). o.state) c.self.view_is);
+  bytes = λ a apart. ap (λ s. bytes_at s a) (same g c);
+  chunks = ap (λ (o : Allocator). o.state.chunks) c.self.view_is;
+  same = same g c;
+  refused = (c.resize_block.ensures.unchanged c.if-not-resize_block.true).0.bytes ∙ c.used_block-block.ensures.counts.bytes ∙ ap (λ (o : Allocator). o.memory.bytes) c.self.view_is;
+  place = subst (λ (o : Allocator). SamePlace o.memory c.resize_block.new.memory) c.self.view_is (SamePlace-counted_first c.self.inside.memory c.used_block-block.new.memory 1 c.used_block-block.ensures.counts c.resize_block.new.memory c.resize_block.ensures.place);
+  touches = subst (λ (o : Allocator). c.resize_block.new.memory.touches ≤ o.memory.touches + 25) c.self.view_is (touches-counted_first c.self.inside.memory c.used_block-block.new.memory 1 c.used_block-block.ensures.counts c.resize_block.new.memory 24 c.resize_block.ensures.touches);
+  grow = subst (λ (o : Allocator). o.memory.touches ≤ c.resize_block.new.memory.touches) c.self.view_is (grow-counted_first c.self.inside.memory c.used_block-block.new.memory 1 c.used_block-block.ensures.counts c.resize_block.new.memory c.resize_block.ensures.grow);
+  copied = copied-counted_first c.self.inside.memory c.used_block-block.new.memory 1 c.used_block-block.ensures.counts c.resize_block.new.memory c.resize_block.ensures.copied ∙ ap (λ (o : Allocator). o.memory.copied) c.self.view_is;
+}
 
 -- ---- the counts of a payload with another size
 
-pub returns-clause-there : goal.returns-clause-there
-returns-clause-there g c = refl
-
-pub returns-clause-chunks : goal.returns-clause-chunks
-returns-clause-chunks g c = chunks-reallocated g.row.SLLEN c.args.self.now.state (after g c).state (at c.args.addr) c.args.layout.size (Some (at c.args.addr)) (reached g c)
-
-pub returns-clause-same : goal.returns-clause-same
-returns-clause-same g c = tt
-
-pub returns-clause-refused : goal.returns-clause-refused
-returns-clause-refused g c = tt
-
-pub returns-clause-place : goal.returns-clause-place
-returns-clause-place g c = subst (λ (o : Allocator). SamePlace o.memory c.resize_block.new.memory) c.self.view_is (SamePlace-counted_first c.self.inside.memory c.used_block-block.new.memory 1 c.used_block-block.ensures.counts c.resize_block.new.memory c.resize_block.ensures.place)
-
-pub returns-clause-touches : goal.returns-clause-touches
-returns-clause-touches g c = subst (λ (o : Allocator). c.resize_block.new.memory.touches ≤ o.memory.touches + 25) c.self.view_is (touches-counted_first c.self.inside.memory c.used_block-block.new.memory 1 c.used_block-block.ensures.counts c.resize_block.new.memory 24 c.resize_block.ensures.touches)
-
-pub returns-clause-grow : goal.returns-clause-grow
-returns-clause-grow g c = subst (λ (o : Allocator). o.memory.touches ≤ c.resize_block.new.memory.touches) c.self.view_is (grow-counted_first c.self.inside.memory c.used_block-block.new.memory 1 c.used_block-block.ensures.counts c.resize_block.new.memory c.resize_block.ensures.grow)
-
-pub returns-clause-copied : goal.returns-clause-copied
-returns-clause-copied g c = copied-counted_first c.self.inside.memory c.used_block-block.new.memory 1 c.used_block-block.ensures.counts c.resize_block.new.memory c.resize_block.ensures.copied ∙ ap (λ (o : Allocator). o.memory.copied) c.self.view_is
+pub returns : goal.returns
+returns g c = record {
+  step = done g c;
+  there = refl;
+  live = (seen g c).live;
+  sized = (seen g c).sized;
+  few = (seen g c).few;
+  kept = (seen g c).kept;
+  aligns = λ i a. aligned g c a i;
+  bytes = λ a apart. (seen g c).bytes a apart apart;
+  chunks = chunks-reallocated g.row.SLLEN c.args.self.now.state (after g c).state (at c.args.addr) c.args.layout.size (Some (at c.args.addr)) (reached g c);
+  same = tt;
+  refused = tt;
+  place = subst (λ (o : Allocator). SamePlace o.memory c.resize_block.new.memory) c.self.view_is (SamePlace-counted_first c.self.inside.memory c.used_block-block.new.memory 1 c.used_block-block.ensures.counts c.resize_block.new.memory c.resize_block.ensures.place);
+  touches = subst (λ (o : Allocator). c.resize_block.new.memory.touches ≤ o.memory.touches + 25) c.self.view_is (touches-counted_first c.self.inside.memory c.used_block-block.new.memory 1 c.used_block-block.ensures.counts c.resize_block.new.memory 24 c.resize_block.ensures.touches);
+  grow = subst (λ (o : Allocator). o.memory.touches ≤ c.resize_block.new.memory.touches) c.self.view_is (grow-counted_first c.self.inside.memory c.used_block-block.new.memory 1 c.used_block-block.ensures.counts c.resize_block.new.memory c.resize_block.ensures.grow);
+  copied = copied-counted_first c.self.inside.memory c.used_block-block.new.memory 1 c.used_block-block.ensures.counts c.resize_block.new.memory c.resize_block.ensures.copied ∙ ap (λ (o : Allocator). o.memory.copied) c.self.view_is;
+}

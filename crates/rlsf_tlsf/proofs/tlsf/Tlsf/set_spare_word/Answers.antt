@@ -19,21 +19,12 @@ stands g c =
 pub invariant_of-self : goal.invariant_of-self
 invariant_of-self g c = IsAllocator-arrived (stands g (goal.at.invariant_of-self g c).After-set_word) c.self.inside.state.state (sym (bare-kept c.self.invariant)) c.self.invariant.valid
 
-pub returns-clause-state : goal.returns-clause-state
-returns-clause-state g c =
-    arrived (stands g (goal.at.returns-clause-state g c).After-set_word) c.self.inside.state.state (sym (bare-kept c.self.invariant)) ∙ ap (λ (o : Allocator). o.state) c.self.view_is
-
-pub returns-clause-stands : goal.returns-clause-stands
-returns-clause-stands g c = Stands-arrived (stands g (goal.at.returns-clause-stands g c).After-set_word) c.self.inside.state.state (sym (bare-kept c.self.invariant))
-
-pub returns-clause-bytes : goal.returns-clause-bytes
-returns-clause-bytes g c = c.set_word.ensures.bytes ∙ ap (λ (o : Allocator). with_word o.memory c.args.addr c.args.word) c.self.view_is
-
-pub returns-clause-place : goal.returns-clause-place
-returns-clause-place g c = subst (λ (o : Allocator). SamePlace o.memory c.set_word.new.self) c.self.view_is (c.set_word.ensures.start, c.set_word.ensures.len)
-
-pub returns-clause-touches : goal.returns-clause-touches
-returns-clause-touches g c = c.set_word.ensures.touches ∙ ap (λ (o : Allocator). o.memory.touches + 1) c.self.view_is
-
-pub returns-clause-copied : goal.returns-clause-copied
-returns-clause-copied g c = c.set_word.ensures.copied ∙ ap (λ (o : Allocator). o.memory.copied) c.self.view_is
+pub returns : goal.returns
+returns g c = record {
+  state = arrived (stands g (goal.at.returns g c).After-set_word) c.self.inside.state.state (sym (bare-kept c.self.invariant)) ∙ ap (λ (o : Allocator). o.state) c.self.view_is;
+  stands = Stands-arrived (stands g (goal.at.returns g c).After-set_word) c.self.inside.state.state (sym (bare-kept c.self.invariant));
+  bytes = c.set_word.ensures.bytes ∙ ap (λ (o : Allocator). with_word o.memory c.args.addr c.args.word) c.self.view_is;
+  place = subst (λ (o : Allocator). SamePlace o.memory c.set_word.new.self) c.self.view_is (c.set_word.ensures.start, c.set_word.ensures.len);
+  touches = c.set_word.ensures.touches ∙ ap (λ (o : Allocator). o.memory.touches + 1) c.self.view_is;
+  copied = c.set_word.ensures.copied ∙ ap (λ (o : Allocator). o.memory.copied) c.self.view_is;
+}
