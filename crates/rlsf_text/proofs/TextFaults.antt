@@ -49,9 +49,9 @@ number_of-faults : (word : List ℕ) → IfErr (number_of word) IsOfText
 unfolding number_of
 number_of-faults word = search (choice, or_fault-faults)
 
-byte_of-faults : (word : List ℕ) → IfErr (byte_of word) IsOfText
+byte_of-faults : (value : ℕ) → IfErr (byte_of value) IsOfText
 unfolding byte_of
-byte_of-faults word = search (step, choice, number_of-faults)
+byte_of-faults value = search choice
 
 layout_of-faults : (size align : ℕ) → IfErr (layout_of size align) IsOfText
 unfolding layout_of
@@ -99,11 +99,11 @@ realloc_no_move_in-faults fields = search (step, two_numbers-faults)
 
 fill_in-faults : (fields : List (List ℕ)) → IfErr (fill_in fields) IsOfText
 unfolding fill_in
-fill_in-faults fields = search (step, exactly_two-faults, number_of-faults, byte_of-faults)
+fill_in-faults fields = search (step, two_numbers-faults, byte_of-faults)
 
 put_in-faults : (fields : List (List ℕ)) → IfErr (put_in fields) IsOfText
 unfolding put_in
-put_in-faults fields = search (step, exactly_three-faults, number_of-faults, byte_of-faults) depth 9
+put_in-faults fields = search (step, three_numbers-faults, byte_of-faults)
 
 get_in-faults : (fields : List (List ℕ)) → IfErr (get_in fields) IsOfText
 unfolding get_in

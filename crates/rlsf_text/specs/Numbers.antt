@@ -5,7 +5,7 @@ use Rattle.std.specs.Str.{all_ascii_digits}
 use Rattle.std.specs.Str.Parse.{digits_value}
 use Rattle.rlsf_text.specs.declared.fault.Fault.{Fault}
 use Rattle.rlsf_text.specs.declared.fault.Fault.TheVariants.{BadNumber}
-use Rattle.rlsf_text.specs.FallibleSteps.{or_fault, ◌>>=◌}
+use Rattle.rlsf_text.specs.FallibleSteps.{or_fault}
 
 -- the number so far with one more digit, if it is a digit, and 64 bits have room
 abbrev pub with_digit : ℕ → ℕ → Option ℕ
@@ -21,7 +21,5 @@ unfoldable pub number_of : List ℕ → Result ℕ Fault
 number_of word = if nat_lt 0 (length word) && nat_le (length word) 20 then or_fault BadNumber (value_of word) else Err BadNumber
 
 -- a number that a byte has room for
-unfoldable pub byte_of : List ℕ → Result ℕ Fault
-byte_of word = do
-  value ← number_of word
-  if nat_lt value 256 then Ok value else Err BadNumber
+unfoldable pub byte_of : ℕ → Result ℕ Fault
+byte_of value = if nat_lt value 256 then Ok value else Err BadNumber

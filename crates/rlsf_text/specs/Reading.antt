@@ -92,19 +92,16 @@ realloc_no_move_in fields = do
 -- `fill NAME BYTE`
 unfoldable pub fill_in : List (List ℕ) → Result Command Fault
 fill_in fields = do
-  both ← exactly_two fields
-  name ← number_of both.0
+  both ← two_numbers fields
   byte ← byte_of both.1
-  Ok (fill name byte)
+  Ok (fill both.0 byte)
 
 -- `put NAME OFFSET BYTE`
 unfoldable pub put_in : List (List ℕ) → Result Command Fault
 put_in fields = do
-  all ← exactly_three fields
-  name ← number_of all.0
-  offset ← number_of all.1
+  all ← three_numbers fields
   byte ← byte_of all.2
-  Ok (put name offset byte)
+  Ok (put all.0 all.1 byte)
 
 -- `get NAME OFFSET`
 unfoldable pub get_in : List (List ℕ) → Result Command Fault

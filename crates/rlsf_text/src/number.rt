@@ -14,12 +14,12 @@ pub(crate) fn number(word: &[u8]) -> Result<usize, Fault>
     value_of(word).ok_or(Fault::BadNumber)
 }
 
-/// The byte that a word is: a number of at most 255.
+/// The byte that a number is, if it is at most 255.
 #[tactic(auto, unfolding(crate::specs::Numbers::byte_of))]
-pub(crate) fn byte(word: &[u8]) -> Result<u8, Fault>
-    ensures { result ≡ byte_of word.now }
+pub(crate) fn byte(value: usize) -> Result<u8, Fault>
+    ensures { result ≡ byte_of value }
 {
-    u8::try_from(number(word)?).or(Err(Fault::BadNumber))
+    u8::try_from(value).or(Err(Fault::BadNumber))
 }
 
 #[tactic(auto, using(crate::proofs::NumberTests::value_read))]

@@ -195,21 +195,18 @@ fn read_realloc_no_move(fields: Words) -> Result<Op, Fault>
 fn read_fill(fields: Words) -> Result<Op, Fault>
     ensures { ReadsAs command_of result (fill_in (words_left fields.entry)) }
 {
-    let (name, value) = fields.exactly_two()?;
-    let name = number(name)?;
-    let value = byte(value)?;
-    Ok(Op::Fill(name, value))
+    let (name, value) = two_numbers(fields)?;
+    let byte = byte(value)?;
+    Ok(Op::Fill(name, byte))
 }
 
 #[tactic(auto, unfolding(crate::specs::Reading::put_in))]
 fn read_put(fields: Words) -> Result<Op, Fault>
     ensures { ReadsAs command_of result (put_in (words_left fields.entry)) }
 {
-    let (name, offset, value) = fields.exactly_three()?;
-    let name = number(name)?;
-    let offset = number(offset)?;
-    let value = byte(value)?;
-    Ok(Op::Put(name, offset, value))
+    let (name, offset, value) = three_numbers(fields)?;
+    let byte = byte(value)?;
+    Ok(Op::Put(name, offset, byte))
 }
 
 #[tactic(auto, unfolding(crate::specs::Reading::get_in))]
