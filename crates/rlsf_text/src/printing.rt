@@ -42,7 +42,7 @@ fn print_answer(text: &mut String, answer: Answer) -> Result<(), AllocError>
             write!(text, " {count}")
         }
         Answer::Placed(addr) => print_placed(text, addr),
-        Answer::Done => write!(text, " done"),
+        Answer::Done => text.push_str(" done"),
         Answer::Byte(byte) => write!(text, " {byte}"),
         Answer::Block(block) => print_block(text, block),
         Answer::Refused(error) => {
@@ -72,7 +72,7 @@ fn print_op(text: &mut String, op: Op) -> Result<(), AllocError>
     };
     match name {
         Some(name) => write!(text, "{command} {name}"),
-        None => write!(text, "{command}"),
+        None => text.push_str(command),
     }
 }
 
@@ -81,7 +81,7 @@ fn print_inserted(text: &mut String, len: Option<NonZeroUsize>) -> Result<(), Al
 {
     match len {
         Some(len) => write!(text, " some {len}"),
-        None => write!(text, " none"),
+        None => text.push_str(" none"),
     }
 }
 
@@ -90,7 +90,7 @@ fn print_placed(text: &mut String, addr: Option<Addr>) -> Result<(), AllocError>
 {
     match addr {
         Some(addr) => write!(text, " at {addr}"),
-        None => write!(text, " none"),
+        None => text.push_str(" none"),
     }
 }
 
@@ -100,6 +100,6 @@ fn print_block(text: &mut String, block: Option<(Range, bool)>) -> Result<(), Al
     match block {
         Some((Range { start, len }, true)) => write!(text, " {start} {len} used"),
         Some((Range { start, len }, false)) => write!(text, " {start} {len} free"),
-        None => write!(text, " none"),
+        None => text.push_str(" none"),
     }
 }
