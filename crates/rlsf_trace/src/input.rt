@@ -20,7 +20,7 @@ pub fn read_input<R: Read>(alloc: Global, reader: &mut R) -> Result<Vec<u8>, Fau
             Ok(0) => return Ok(input),
             Ok(len) => input
                 .extend_from_slice(&piece[..len])
-                .map_err(|_| Fault::OutOfMemory)?,
+                .or(Err(Fault::OutOfMemory))?,
             Err(error) => {
                 if error.kind() != ErrorKind::Interrupted {
                     return Err(Fault::Read);

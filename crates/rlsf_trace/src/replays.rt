@@ -24,7 +24,7 @@ fn memory_of(alloc: Global, trace: &Trace) -> Result<Memory, ReplayFault>
     ensures ok { IfOk result (λ memory. range_of memory ≡ range_at trace.now.start trace.now.len) }
     ensures err { IfErr result (λ f. f ≡ no_memory) }
 {
-    Memory::new(alloc, trace.start, trace.len).map_err(|_| Fault::OutOfMemory.at_line(1))
+    Memory::new(alloc, trace.start, trace.len).or(Err(Fault::OutOfMemory.at_line(1)))
 }
 
 // What ops answer, on an allocator that has no chunk.
@@ -38,7 +38,7 @@ fn answers_with<FLBitmap: BitPattern, SLBitmap: BitPattern, const FLLEN: usize, 
     ensures err { IfErr result (λ f. f ≡ out_of_memory) }
 {
     let mut answers = Vec::new(alloc);
-    run(alloc, &mut tlsf, ops, &mut answers).map_err(|_| Fault::OutOfMemory.at_line(0))?;
+    run(alloc, &mut tlsf, ops, &mut answers).or(Err(Fault::OutOfMemory.at_line(0)))?;
     Ok(answers)
 }
 
