@@ -20,7 +20,7 @@ fn memory_of(alloc: Global, trace: &Trace) -> Result<Memory, ReplayFault>
     ensures ok { IfOk result (λ memory. range_of memory ≡ range_at trace.now.start trace.now.len) }
     ensures err { IfErr result (λ f. f ≡ no_memory) }
 {
-    Memory::new(alloc, trace.start, trace.len).map_err(|_| Fault::OutOfMemory.at_line(1))
+    Memory::new(alloc, trace.start, trace.len).or(Err(Fault::OutOfMemory.at_line(1)))
 }
 
 // The run of ops on an allocator that has no chunk.
@@ -33,7 +33,7 @@ fn watch_with<FLBitmap: BitPattern, SLBitmap: BitPattern, const FLLEN: usize, co
     ensures ok { IfOk result (λ w. IsWatched FLLEN SLLEN (range_of tlsf.memory) ops.now w) }
     ensures err { IfErr result (λ f. f ≡ out_of_memory) }
 {
-    watch(alloc, &mut tlsf, ops).map_err(|_| Fault::OutOfMemory.at_line(0))
+    watch(alloc, &mut tlsf, ops).or(Err(Fault::OutOfMemory.at_line(0)))
 }
 
 /// Runs ops with the configuration and the memory of a trace, and tells what was seen.
