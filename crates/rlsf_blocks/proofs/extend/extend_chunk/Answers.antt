@@ -56,10 +56,16 @@ deallocate_block-requires g c =
     let writes = written g (goal.at.deallocate_block-requires g c).After-set_word-3 d v is at in
     (search rules, (c.requires.parameters, ((lengthened d len (more_bytes n d len) s, more_block d len (more_bytes n d len), StandsFor-lengthened v d len is writes, inl refl, ap (λ e. e - 32) at), search rules)))
 
-pub returns-clause-step : goal.returns-clause-step
-returns-clause-step g c = λ s d v is at.
-    let len = c.args.len in
-    let n = c.set_word-3.new.self in
-    let writes = written g (goal.at.returns-clause-step g c).After-set_word-3 d v is at in
-    let step = c.deallocate_block.ensures.step (lengthened d len (more_bytes n d len) s) (more_block d len (more_bytes n d len)) (StandsFor-lengthened v d len is writes) (inl refl) (ap (λ e. e - 32) at) in
-    grown_stands v d len is writes step
+pub returns : goal.returns
+returns g c = record {
+  step = λ s d v is at.
+      let len = c.args.len in
+      let n = c.set_word-3.new.self in
+      let writes = written g (goal.at.returns g c).After-set_word-3 d v is at in
+      let step = c.deallocate_block.ensures.step (lengthened d len (more_bytes n d len) s) (more_block d len (more_bytes n d len)) (StandsFor-lengthened v d len is writes) (inl refl) (ap (λ e. e - 32) at) in
+      grown_stands v d len is writes step;
+  place = search rules;
+  touches = search rules;
+  grow = search rules;
+  copied = search rules;
+}

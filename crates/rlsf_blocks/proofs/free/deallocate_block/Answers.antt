@@ -68,26 +68,30 @@ put-requires g c =
     let before = before_at v0 u i at previous in
     (search rules, (c.requires.parameters, ((untouched u.block s.free, union u.block s.free, union_start v0 u i before behind, omega (arith, end, union_len v0 u i before behind), IsInnerRoom-union v0 u i before behind), search rules)))
 
-pub returns-clause-step : goal.returns-clause-step
-returns-clause-step g c = λ s u v i at.
-    let v0 = StandsFor-counted c.args.memory.now c.load_at.new.self c.load_at.ensures.start c.load_at.ensures.bytes v in
-    let previous = c.take_previous-start.ensures.step s u v0 i at in
-    let end = end_computed v u i at c.load_at.ensures.word ∙ sym c.used_end-end.ensures in
-    let behind = behind_at v0 u i at end (c.take_if_free-next.ensures.step (without (ends_at c.args.block) s.free) previous.list (IsMarked-behind v0 u i at previous _ end)) in
-    let before = before_at v0 u i at previous in
-    let put = c.put.ensures.step (untouched u.block s.free) (union u.block s.free) (union_start v0 u i before behind) (omega (arith, end, union_len v0 u i before behind)) (IsInnerRoom-union v0 u i before behind) in
-    let (stands, spare) = released_stands v0 u i before behind put in
-    (stands, KeepsSpare-counted_first c.args.memory.now c.load_at.new.self c.load_at.ensures.start c.load_at.ensures.bytes s (released s u) c.put.new.memory spare)
-
-pub returns-clause-place : goal.returns-clause-place
-returns-clause-place g c =
-    let (s, u, v, i, at) = c.requires.used in
-    let v0 = StandsFor-counted c.args.memory.now c.load_at.new.self c.load_at.ensures.start c.load_at.ensures.bytes v in
-    let previous = c.take_previous-start.ensures.step s u v0 i at in
-    let end = end_computed v u i at c.load_at.ensures.word ∙ sym c.used_end-end.ensures in
-    let behind = behind_at v0 u i at end (c.take_if_free-next.ensures.step (without (ends_at c.args.block) s.free) previous.list (IsMarked-behind v0 u i at previous _ end)) in
-    let before = before_at v0 u i at previous in
-    let put = c.put.ensures.step (untouched u.block s.free) (union u.block s.free) (union_start v0 u i before behind) (omega (arith, end, union_len v0 u i before behind)) (IsInnerRoom-union v0 u i before behind) in (
-      put.rewrites.start ∙ behind.rewrites.start ∙ before.rewrites.start ∙ c.load_at.ensures.start,
-      put.rewrites.length ∙ behind.rewrites.length ∙ before.rewrites.length ∙ ap length c.load_at.ensures.bytes,
-    )
+pub returns : goal.returns
+returns g c = record {
+  step = λ s u v i at.
+      let v0 = StandsFor-counted c.args.memory.now c.load_at.new.self c.load_at.ensures.start c.load_at.ensures.bytes v in
+      let previous = c.take_previous-start.ensures.step s u v0 i at in
+      let end = end_computed v u i at c.load_at.ensures.word ∙ sym c.used_end-end.ensures in
+      let behind = behind_at v0 u i at end (c.take_if_free-next.ensures.step (without (ends_at c.args.block) s.free) previous.list (IsMarked-behind v0 u i at previous _ end)) in
+      let before = before_at v0 u i at previous in
+      let put = c.put.ensures.step (untouched u.block s.free) (union u.block s.free) (union_start v0 u i before behind) (omega (arith, end, union_len v0 u i before behind)) (IsInnerRoom-union v0 u i before behind) in
+      let (stands, spare) = released_stands v0 u i before behind put in
+      (stands, KeepsSpare-counted_first c.args.memory.now c.load_at.new.self c.load_at.ensures.start c.load_at.ensures.bytes s (released s u) c.put.new.memory spare);
+  place =
+      let (s, u, v, i, at) = c.requires.used in
+      let v0 = StandsFor-counted c.args.memory.now c.load_at.new.self c.load_at.ensures.start c.load_at.ensures.bytes v in
+      let previous = c.take_previous-start.ensures.step s u v0 i at in
+      let end = end_computed v u i at c.load_at.ensures.word ∙ sym c.used_end-end.ensures in
+      let behind = behind_at v0 u i at end (c.take_if_free-next.ensures.step (without (ends_at c.args.block) s.free) previous.list (IsMarked-behind v0 u i at previous _ end)) in
+      let before = before_at v0 u i at previous in
+      let put = c.put.ensures.step (untouched u.block s.free) (union u.block s.free) (union_start v0 u i before behind) (omega (arith, end, union_len v0 u i before behind)) (IsInnerRoom-union v0 u i before behind) in (
+        put.rewrites.start ∙ behind.rewrites.start ∙ before.rewrites.start ∙ c.load_at.ensures.start,
+        put.rewrites.length ∙ behind.rewrites.length ∙ before.rewrites.length ∙ ap length c.load_at.ensures.bytes,
+      );
+  touches = search rules;
+  grow = search rules;
+  copied = search rules;
+  view = search rules;
+}

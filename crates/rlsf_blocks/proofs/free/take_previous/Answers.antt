@@ -27,30 +27,48 @@ take_free-requires g c =
     let marked = IsMarked-loaded m n start bytes (IsMarked-previous v u i at c.load_at-previous.ensures.word c.if-previous-eq0.false) in
     (search rules, (c.requires.parameters, ((s.free, IsFreeTable-counted m n start bytes (IsFreeTable-free v), marked), search rules)))
 
-pub returns-then-previous-eq0-clause-step : goal.returns-then-previous-eq0-clause-step
-returns-then-previous-eq0-clause-step g c = λ s u v i at.
-    IsPreviousOut-none v u i at c.load_at-previous.ensures.word c.load_at-previous.new.self c.load_at-previous.ensures.start c.load_at-previous.ensures.bytes c.if-previous-eq0.true
+pub returns-then-previous-eq0 : goal.returns-then-previous-eq0
+returns-then-previous-eq0 g c = record {
+  step = λ s u v i at.
+      IsPreviousOut-none v u i at c.load_at-previous.ensures.word c.load_at-previous.new.self c.load_at-previous.ensures.start c.load_at-previous.ensures.bytes c.if-previous-eq0.true;
+  touches = search rules;
+  grow = search rules;
+  copied = search rules;
+  view = search rules;
+}
 
-pub returns-in-Some-clause-step : goal.returns-in-Some-clause-step
-returns-in-Some-clause-step g c = λ s u v i at.
-    let m = c.args.memory.now in
-    let n = c.load_at-previous.new.self in
-    let start = c.load_at-previous.ensures.start in
-    let bytes = c.load_at-previous.ensures.bytes in
-    let word = c.load_at-previous.ensures.word in
-    let some = c.if-previous-eq0.false in
-    let marked = IsMarked-loaded m n start bytes (IsMarked-previous v u i at word some) in
-    let out = IsNextOut-loaded m n start bytes (c.in-Some.ensures.step s.free (IsFreeTable-counted m n start bytes (IsFreeTable-free v)) marked) in
-    let is = (previous_out v u i at word some out).1 in
-    record { rewrites = is.rewrites; list = is.list; begins = omega (arith, is.begins, previous_begins v u i at word some out c.in-Some.ensures.some) }
+pub returns-in-Some : goal.returns-in-Some
+returns-in-Some g c = record {
+  step = λ s u v i at.
+      let m = c.args.memory.now in
+      let n = c.load_at-previous.new.self in
+      let start = c.load_at-previous.ensures.start in
+      let bytes = c.load_at-previous.ensures.bytes in
+      let word = c.load_at-previous.ensures.word in
+      let some = c.if-previous-eq0.false in
+      let marked = IsMarked-loaded m n start bytes (IsMarked-previous v u i at word some) in
+      let out = IsNextOut-loaded m n start bytes (c.in-Some.ensures.step s.free (IsFreeTable-counted m n start bytes (IsFreeTable-free v)) marked) in
+      let is = (previous_out v u i at word some out).1 in
+      record { rewrites = is.rewrites; list = is.list; begins = omega (arith, is.begins, previous_begins v u i at word some out c.in-Some.ensures.some) };
+  touches = search rules;
+  grow = search rules;
+  copied = search rules;
+  view = search rules;
+}
 
-pub returns-in-None-clause-step : goal.returns-in-None-clause-step
-returns-in-None-clause-step g c = λ s u v i at.
-    let m = c.args.memory.now in
-    let n = c.load_at-previous.new.self in
-    let start = c.load_at-previous.ensures.start in
-    let bytes = c.load_at-previous.ensures.bytes in
-    let marked = IsMarked-loaded m n start bytes (IsMarked-previous v u i at c.load_at-previous.ensures.word c.if-previous-eq0.false) in
-    let out = IsNextOut-loaded m n start bytes (c.in-None.ensures.step s.free (IsFreeTable-counted m n start bytes (IsFreeTable-free v)) marked) in
-    let is = (previous_out v u i at c.load_at-previous.ensures.word c.if-previous-eq0.false out).1 in
-    record { rewrites = is.rewrites; list = is.list; begins = omega (arith, is.begins) }
+pub returns-in-None : goal.returns-in-None
+returns-in-None g c = record {
+  step = λ s u v i at.
+      let m = c.args.memory.now in
+      let n = c.load_at-previous.new.self in
+      let start = c.load_at-previous.ensures.start in
+      let bytes = c.load_at-previous.ensures.bytes in
+      let marked = IsMarked-loaded m n start bytes (IsMarked-previous v u i at c.load_at-previous.ensures.word c.if-previous-eq0.false) in
+      let out = IsNextOut-loaded m n start bytes (c.in-None.ensures.step s.free (IsFreeTable-counted m n start bytes (IsFreeTable-free v)) marked) in
+      let is = (previous_out v u i at c.load_at-previous.ensures.word c.if-previous-eq0.false out).1 in
+      record { rewrites = is.rewrites; list = is.list; begins = omega (arith, is.begins) };
+  touches = search rules;
+  grow = search rules;
+  copied = search rules;
+  view = search rules;
+}

@@ -1,4 +1,4 @@
-use Rattle.std.proofs.Common.{arith, sym, ◌∙◌}
+use Rattle.std.proofs.Common.{rules, arith, sym, ◌∙◌}
 use Rattle.rlsf_blocks.proofs.Deallocate.Addresses.{IsWord-before, narrow_start, wide_start}
 use Rattle.rlsf_machine.proofs.Payloads.{IsUsed-after_start}
 use Rattle.rlsf_blocks.proofs.free.used_block.Goals as goal
@@ -18,10 +18,16 @@ load_at-requires-clause-place c =
     let (fllen, sllen, t, s, v, (u, (i, at), is)) = c.requires.live in
     IsWord-before v u i at is c.if-align-lt-GRANULARITY.false
 
-pub returns-then-align-lt-GRANULARITY-clause-block : goal.returns-then-align-lt-GRANULARITY-clause-block
-returns-then-align-lt-GRANULARITY-clause-block c = λ fllen sllen t s v (u, (i, at), is).
-    (u, (i, at), is, omega (arith, narrow_start v u i at is c.if-align-lt-GRANULARITY.true))
+pub returns-then-align-lt-GRANULARITY : goal.returns-then-align-lt-GRANULARITY
+returns-then-align-lt-GRANULARITY c = record {
+  block = λ fllen sllen t s v (u, (i, at), is).
+      (u, (i, at), is, omega (arith, narrow_start v u i at is c.if-align-lt-GRANULARITY.true));
+  counts = search rules;
+}
 
-pub returns-else-align-lt-GRANULARITY-clause-block : goal.returns-else-align-lt-GRANULARITY-clause-block
-returns-else-align-lt-GRANULARITY-clause-block c = λ fllen sllen t s v (u, (i, at), is).
-    (u, (i, at), is, sym (c.load_at.ensures.word ∙ wide_start v u i at is c.if-align-lt-GRANULARITY.false))
+pub returns-else-align-lt-GRANULARITY : goal.returns-else-align-lt-GRANULARITY
+returns-else-align-lt-GRANULARITY c = record {
+  block = λ fllen sllen t s v (u, (i, at), is).
+      (u, (i, at), is, sym (c.load_at.ensures.word ∙ wide_start v u i at is c.if-align-lt-GRANULARITY.false));
+  counts = search rules;
+}

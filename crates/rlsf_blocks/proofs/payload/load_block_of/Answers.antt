@@ -1,4 +1,4 @@
-use Rattle.std.proofs.Common.{arith, ◌∙◌}
+use Rattle.std.proofs.Common.{rules, arith, ◌∙◌}
 use Rattle.rlsf_table.proofs.FreeLists.Counted.{word_at-counted}
 use Rattle.rlsf_blocks.proofs.Deallocate.Loaded.{IsWord-loaded}
 use Rattle.rlsf_blocks.proofs.Payloads.UnknownAlignment.{IsPayloadOf-holds, IsWord-named, fits_named, begins_first, begins_behind, begins_there}
@@ -21,9 +21,12 @@ overflow_sub-nearest c =
     let is = IsPayloadOf-holds live.0 same stands live.1 in
     omega (arith, is.in_block)
 
-pub returns-then-named-eq0-clause-block : goal.returns-then-named-eq0-clause-block
-returns-then-named-eq0-clause-block c = λ fllen sllen v s u same stands holds.
-    begins_first (IsPayloadOf-holds u same stands holds) c.load-named.result c.load-named.ensures.word c.if-named-eq0.true
+pub returns-then-named-eq0 : goal.returns-then-named-eq0
+returns-then-named-eq0 c = record {
+  block = λ fllen sllen v s u same stands holds.
+      begins_first (IsPayloadOf-holds u same stands holds) c.load-named.result c.load-named.ensures.word c.if-named-eq0.true;
+  memory = search rules;
+}
 
 pub load-requires : goal.load-requires
 load-requires c =
@@ -37,12 +40,18 @@ overflow_add-end c =
     let size = c.load.ensures.word ∙ word_at-counted c.args.memory.now c.load-named.new.self c.load-named.ensures.start c.load-named.ensures.bytes c.load-named.result in
     record { fits = omega (arith, fits_named (IsPayloadOf-holds live.0 same stands live.1) c.load-named.result c.load-named.ensures.word c.load.result c.if-named-eq0.false size) }
 
-pub returns-then-payload-end-clause-block : goal.returns-then-payload-end-clause-block
-returns-then-payload-end-clause-block c = λ fllen sllen v s u same stands holds.
-    let size = c.load.ensures.word ∙ word_at-counted c.args.memory.now c.load-named.new.self c.load-named.ensures.start c.load-named.ensures.bytes c.load-named.result in
-    begins_behind (IsPayloadOf-holds u same stands holds) c.load-named.result c.load-named.ensures.word c.load.result size c.if-payload-end.true
+pub returns-then-payload-end : goal.returns-then-payload-end
+returns-then-payload-end c = record {
+  block = λ fllen sllen v s u same stands holds.
+      let size = c.load.ensures.word ∙ word_at-counted c.args.memory.now c.load-named.new.self c.load-named.ensures.start c.load-named.ensures.bytes c.load-named.result in
+      begins_behind (IsPayloadOf-holds u same stands holds) c.load-named.result c.load-named.ensures.word c.load.result size c.if-payload-end.true;
+  memory = search rules;
+}
 
-pub returns-else-payload-end-clause-block : goal.returns-else-payload-end-clause-block
-returns-else-payload-end-clause-block c = λ fllen sllen v s u same stands holds.
-    let size = c.load.ensures.word ∙ word_at-counted c.args.memory.now c.load-named.new.self c.load-named.ensures.start c.load-named.ensures.bytes c.load-named.result in
-    begins_there (IsPayloadOf-holds u same stands holds) c.load-named.result c.load-named.ensures.word c.load.result c.if-named-eq0.false size c.if-payload-end.false
+pub returns-else-payload-end : goal.returns-else-payload-end
+returns-else-payload-end c = record {
+  block = λ fllen sllen v s u same stands holds.
+      let size = c.load.ensures.word ∙ word_at-counted c.args.memory.now c.load-named.new.self c.load-named.ensures.start c.load-named.ensures.bytes c.load-named.result in
+      begins_there (IsPayloadOf-holds u same stands holds) c.load-named.result c.load-named.ensures.word c.load.result c.if-named-eq0.false size c.if-payload-end.false;
+  memory = search rules;
+}

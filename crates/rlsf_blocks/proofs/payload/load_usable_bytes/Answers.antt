@@ -1,4 +1,4 @@
-use Rattle.std.proofs.Common.{◌-◌, arith, ap, refl, ◌∙◌}
+use Rattle.std.proofs.Common.{rules, ◌-◌, arith, ap, refl, ◌∙◌}
 use Rattle.rlsf_base.specs.Space.{Space}
 use Rattle.rlsf_blocks.proofs.Deallocate.Loaded.{IsWord-loaded, word_at-touched}
 use Rattle.rlsf_blocks.proofs.Payloads.UnknownAlignment.{IsPayloadOf-holds, IsWord-block, sized, usable-sized}
@@ -36,7 +36,10 @@ overflow_sub-result c =
     let size = c.load.ensures.word ∙ word_at-touched c.args.memory.now c.load_block_of-block.new.memory 2 c.load_block_of-block.ensures.memory c.load_block_of-block.result in
     omega (arith, sized is c.load_block_of-block.result begins c.load.result size, is.within, c.used_end-end.ensures)
 
-pub returns-clause-range : goal.returns-clause-range
-returns-clause-range c = λ fllen sllen v s u same stands holds.
-    let size = c.load.ensures.word ∙ word_at-touched c.args.memory.now c.load_block_of-block.new.memory 2 c.load_block_of-block.ensures.memory c.load_block_of-block.result in
-    usable-sized (IsPayloadOf-holds u same stands holds) c.load_block_of-block.result (c.load_block_of-block.ensures.block fllen sllen v s u same stands holds) c.load.result size _ refl (ap (λ e. e - c.args.payload) c.used_end-end.ensures)
+pub returns : goal.returns
+returns c = record {
+  range = λ fllen sllen v s u same stands holds.
+      let size = c.load.ensures.word ∙ word_at-touched c.args.memory.now c.load_block_of-block.new.memory 2 c.load_block_of-block.ensures.memory c.load_block_of-block.result in
+      usable-sized (IsPayloadOf-holds u same stands holds) c.load_block_of-block.result (c.load_block_of-block.ensures.block fllen sllen v s u same stands holds) c.load.result size _ refl (ap (λ e. e - c.args.payload) c.used_end-end.ensures);
+  memory = search rules;
+}

@@ -31,25 +31,24 @@ first_fit-requires g c =
     let (s, v) = c.requires.stands in
     (omega arith, (c.requires.parameters, (c.request_size.ensures.size, (s.free, IsFreeTable-free v))))
 
-pub returns-in_err-found-clause-step : goal.returns-in_err-found-clause-step
-returns-in_err-found-clause-step g c = λ s v.
-    let at = (goal.at.returns-in_err-found-clause-step g c).After-first_fit in
-    let counts = c.first_fit.ensures.counts in
-    let none = sought g at s (c.in_err-found.ensures.choice s.free (IsFreeTable-free v)) in (
-      s,
-      subst (λ o. Allocates g.row.SLLEN s c.args.layout.size c.args.layout.align o s) (sym c.from_residual.ensures) (none, refl),
-      searched g at v,
-      KeepsSpare-counted c.args.memory.now c.first_fit.new.memory counts.start counts.bytes s s,
-    )
-
-pub returns-in_err-found-clause-unchanged : goal.returns-in_err-found-clause-unchanged
-returns-in_err-found-clause-unchanged g c = none_none c.from_residual.result (c.first_fit.ensures.counts, refl)
-
-pub returns-in_err-found-clause-place : goal.returns-in_err-found-clause-place
-returns-in_err-found-clause-place g c = SamePlace-counted c.args.memory.now c.first_fit.new.memory 4 c.first_fit.ensures.counts
-
-pub returns-in_err-found-clause-touches : goal.returns-in_err-found-clause-touches
-returns-in_err-found-clause-touches g c = touches-counted c.args.memory.now c.first_fit.new.memory 4 c.first_fit.ensures.counts 23
+pub returns-in_err-found : goal.returns-in_err-found
+returns-in_err-found g c = record {
+  step = λ s v.
+      let at = (goal.at.returns-in_err-found g c).After-first_fit in
+      let counts = c.first_fit.ensures.counts in
+      let none = sought g at s (c.in_err-found.ensures.choice s.free (IsFreeTable-free v)) in (
+        s,
+        subst (λ o. Allocates g.row.SLLEN s c.args.layout.size c.args.layout.align o s) (sym c.from_residual.ensures) (none, refl),
+        searched g at v,
+        KeepsSpare-counted c.args.memory.now c.first_fit.new.memory counts.start counts.bytes s s,
+      );
+  unchanged = none_none c.from_residual.result (c.first_fit.ensures.counts, refl);
+  place = SamePlace-counted c.args.memory.now c.first_fit.new.memory 4 c.first_fit.ensures.counts;
+  touches = touches-counted c.args.memory.now c.first_fit.new.memory 4 c.first_fit.ensures.counts 23;
+  grow = search rules;
+  copied = search rules;
+  view = search rules;
+}
 
 pub place-requires : goal.place-requires
 place-requires g c =
@@ -62,22 +61,18 @@ place-requires g c =
     let at_class = subst (λ n. IsClassAt g.row.FLLEN g.row.SLLEN n c.in_ok-found.found.class.fl c.in_ok-found.found.class.sl) (sym size) class in
     (search rules, (c.requires.parameters, (at_class, ((s, f, searched g at v, sought g at s chosen, start), search rules))))
 
-pub returns-clause-step : goal.returns-clause-step
-returns-clause-step g c = λ s v.
-    let at = (goal.at.returns-clause-step g c).After-first_fit in
-    let counts = c.first_fit.ensures.counts in
-    let (f, chosen, start, _) = c.in_ok-found.ensures.choice s.free (IsFreeTable-free v) in
-    let (t, places, now, spare) = c.place.ensures.step s f (searched g at v) (sought g at s chosen) start in
-    (t, places, now, KeepsSpare-counted_first c.args.memory.now c.first_fit.new.memory counts.start counts.bytes s t c.place.new.memory spare)
-
-pub returns-clause-place : goal.returns-clause-place
-returns-clause-place g c = SamePlace-counted_first c.args.memory.now c.first_fit.new.memory 4 c.first_fit.ensures.counts c.place.new.memory c.place.ensures.place
-
-pub returns-clause-touches : goal.returns-clause-touches
-returns-clause-touches g c = touches-counted_first c.args.memory.now c.first_fit.new.memory 4 c.first_fit.ensures.counts c.place.new.memory 23 c.place.ensures.touches
-
-pub returns-clause-grow : goal.returns-clause-grow
-returns-clause-grow g c = grow-counted_first c.args.memory.now c.first_fit.new.memory 4 c.first_fit.ensures.counts c.place.new.memory c.place.ensures.grow
-
-pub returns-clause-copied : goal.returns-clause-copied
-returns-clause-copied g c = copied-counted_first c.args.memory.now c.first_fit.new.memory 4 c.first_fit.ensures.counts c.place.new.memory c.place.ensures.copied
+pub returns : goal.returns
+returns g c = record {
+  step = λ s v.
+      let at = (goal.at.returns g c).After-first_fit in
+      let counts = c.first_fit.ensures.counts in
+      let (f, chosen, start, _) = c.in_ok-found.ensures.choice s.free (IsFreeTable-free v) in
+      let (t, places, now, spare) = c.place.ensures.step s f (searched g at v) (sought g at s chosen) start in
+      (t, places, now, KeepsSpare-counted_first c.args.memory.now c.first_fit.new.memory counts.start counts.bytes s t c.place.new.memory spare);
+  unchanged = search rules;
+  place = SamePlace-counted_first c.args.memory.now c.first_fit.new.memory 4 c.first_fit.ensures.counts c.place.new.memory c.place.ensures.place;
+  touches = touches-counted_first c.args.memory.now c.first_fit.new.memory 4 c.first_fit.ensures.counts c.place.new.memory 23 c.place.ensures.touches;
+  grow = grow-counted_first c.args.memory.now c.first_fit.new.memory 4 c.first_fit.ensures.counts c.place.new.memory c.place.ensures.grow;
+  copied = copied-counted_first c.args.memory.now c.first_fit.new.memory 4 c.first_fit.ensures.counts c.place.new.memory c.place.ensures.copied;
+  view = search rules;
+}

@@ -1,14 +1,17 @@
 -- An alignment below 32 is 16 or less, so it divides the address 16 bytes into a block.
-use Rattle.std.proofs.Common.{◌^◌, ◌<◌, arith}
+use Rattle.std.proofs.Common.{rules, ◌^◌, ◌<◌, arith}
 use Rattle.rlsf_base.proofs.Numbers.PowersOfTwo.{IsPowerOfTwo-le}
 use Rattle.rlsf_machine.proofs.Payloads.{payload_of-after, payload_of-le}
 use Rattle.rlsf_blocks.proofs.placement.front.Goals as goal
 
-pub returns-else-align-ge-GRANULARITY-clause-payload : goal.returns-else-align-ge-GRANULARITY-clause-payload
-returns-else-align-ge-GRANULARITY-clause-payload c =
-    let block = c.args.block in
-    let align = c.args.layout.align in
-    let power = c.args.layout.valid.aligned in
-    let below : align < 2 ^ 5 = omega (arith, c.if-align-ge-GRANULARITY.false, c.align.ensures.value) in
-    let few = IsPowerOfTwo-le align 4 power below in
-    omega (arith, few, payload_of-le block align c.requires.whole power, payload_of-after block align)
+pub returns-else-align-ge-GRANULARITY : goal.returns-else-align-ge-GRANULARITY
+returns-else-align-ge-GRANULARITY c = record {
+  payload =
+      let block = c.args.block in
+      let align = c.args.layout.align in
+      let power = c.args.layout.valid.aligned in
+      let below : align < 2 ^ 5 = omega (arith, c.if-align-ge-GRANULARITY.false, c.align.ensures.value) in
+      let few = IsPowerOfTwo-le align 4 power below in
+      omega (arith, few, payload_of-le block align c.requires.whole power, payload_of-after block align);
+  length = search rules;
+}

@@ -24,7 +24,13 @@ link_free_block-requires g c =
     let writes = written g (goal.at.link_free_block-requires g c).After-set_word_at-3 r room start len in
     (search rules, (c.requires.parameters, ((r, free, start, omega (arith, len), IsRoom-written r room writes), search rules)))
 
-pub returns-clause-step : goal.returns-clause-step
-returns-clause-step g c = λ free r start len room.
-    let writes = written g (goal.at.returns-clause-step g c).After-set_word_at-3 r room start len in
-    IsFreeBlockBehind-written r room writes (c.link_free_block.ensures.step r free start (omega (arith, len)) (IsRoom-written r room writes))
+pub returns : goal.returns
+returns g c = record {
+  step = λ free r start len room.
+      let writes = written g (goal.at.returns g c).After-set_word_at-3 r room start len in
+      IsFreeBlockBehind-written r room writes (c.link_free_block.ensures.step r free start (omega (arith, len)) (IsRoom-written r room writes));
+  touches = search rules;
+  grow = search rules;
+  copied = search rules;
+  view = search rules;
+}

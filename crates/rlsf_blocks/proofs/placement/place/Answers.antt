@@ -93,36 +93,44 @@ set_word_at-requires-then-wide-clause-place g c =
     let are = computed g at.After-front-payload (loaded g at.After-load_at-len v) f chosen start in
     IsWord-pad are (sized g at.After-set_word_at are) (omega arith)
 
-pub returns-then-wide-clause-step : goal.returns-then-wide-clause-step
-returns-then-wide-clause-step g c = λ s f v chosen start.
-    let at = goal.at.returns-then-wide-clause-step g c in
-    let are = computed g at.After-front-payload (loaded g at.After-load_at-len v) f chosen start in
-    let is = sized g at.After-set_word_at are in
-    let wide : 32 ≤ c.args.layout.align = omega arith in
-    let (t, places, stands, spare) =
-    Places-sized are is (Writes-some (32 ≤ c.args.layout.align) wide (IsWord-pad are is wide) (omega arith) c.set_word_at-then-wide.ensures.start (wrote c.set_word_at.new.self c.set_word_at-then-wide.new.self (c.front-payload.result.0 - 8) c.args.found.start c.set_word_at-then-wide.ensures.bytes (omega arith) (omega arith))) in
-    (t, places, stands, KeepsSpare-counted_first c.args.memory.now c.load_at-len.new.self c.load_at-len.ensures.start c.load_at-len.ensures.bytes s t c.set_word_at-then-wide.new.self spare)
+pub returns-then-wide : goal.returns-then-wide
+returns-then-wide g c = record {
+  step = λ s f v chosen start.
+      let at = goal.at.returns-then-wide g c in
+      let are = computed g at.After-front-payload (loaded g at.After-load_at-len v) f chosen start in
+      let is = sized g at.After-set_word_at are in
+      let wide : 32 ≤ c.args.layout.align = omega arith in
+      let (t, places, stands, spare) =
+      Places-sized are is (Writes-some (32 ≤ c.args.layout.align) wide (IsWord-pad are is wide) (omega arith) c.set_word_at-then-wide.ensures.start (wrote c.set_word_at.new.self c.set_word_at-then-wide.new.self (c.front-payload.result.0 - 8) c.args.found.start c.set_word_at-then-wide.ensures.bytes (omega arith) (omega arith))) in
+      (t, places, stands, KeepsSpare-counted_first c.args.memory.now c.load_at-len.new.self c.load_at-len.ensures.start c.load_at-len.ensures.bytes s t c.set_word_at-then-wide.new.self spare);
+  place =
+      let (s, f, v, chosen, start) = c.requires.chosen in
+      let at = goal.at.returns-then-wide g c in
+      let are = computed g at.After-front-payload (loaded g at.After-load_at-len v) f chosen start in
+      let same = SamePlace-sized are (sized g at.After-set_word_at are) in
+      (omega arith, omega (arith, ap length c.load_at-len.ensures.bytes));
+  touches = search rules;
+  grow = search rules;
+  copied = search rules;
+  view = search rules;
+}
 
-pub returns-else-wide-clause-step : goal.returns-else-wide-clause-step
-returns-else-wide-clause-step g c = λ s f v chosen start.
-    let at = goal.at.returns-else-wide-clause-step g c in
-    let are = computed g at.After-front-payload (loaded g at.After-load_at-len v) f chosen start in
-    let narrow : ¬ (32 ≤ c.args.layout.align) = λ wide. omega arith in
-    let (t, places, stands, spare) = Places-sized are (sized g at.After-set_word_at are) (Writes-none c.set_word_at.new.self c.set_word_at.new.self (32 ≤ c.args.layout.align) (c.front-payload.result.0 - 8) c.args.found.start refl narrow) in
-    (t, places, stands, KeepsSpare-counted_first c.args.memory.now c.load_at-len.new.self c.load_at-len.ensures.start c.load_at-len.ensures.bytes s t c.set_word_at.new.self spare)
-
-pub returns-then-wide-clause-place : goal.returns-then-wide-clause-place
-returns-then-wide-clause-place g c =
-    let (s, f, v, chosen, start) = c.requires.chosen in
-    let at = goal.at.returns-then-wide-clause-place g c in
-    let are = computed g at.After-front-payload (loaded g at.After-load_at-len v) f chosen start in
-    let same = SamePlace-sized are (sized g at.After-set_word_at are) in
-    (omega arith, omega (arith, ap length c.load_at-len.ensures.bytes))
-
-pub returns-else-wide-clause-place : goal.returns-else-wide-clause-place
-returns-else-wide-clause-place g c =
-    let (s, f, v, chosen, start) = c.requires.chosen in
-    let at = goal.at.returns-else-wide-clause-place g c in
-    let are = computed g at.After-front-payload (loaded g at.After-load_at-len v) f chosen start in
-    let same = SamePlace-sized are (sized g at.After-set_word_at are) in
-    (omega arith, omega (arith, ap length c.load_at-len.ensures.bytes))
+pub returns-else-wide : goal.returns-else-wide
+returns-else-wide g c = record {
+  step = λ s f v chosen start.
+      let at = goal.at.returns-else-wide g c in
+      let are = computed g at.After-front-payload (loaded g at.After-load_at-len v) f chosen start in
+      let narrow : ¬ (32 ≤ c.args.layout.align) = λ wide. omega arith in
+      let (t, places, stands, spare) = Places-sized are (sized g at.After-set_word_at are) (Writes-none c.set_word_at.new.self c.set_word_at.new.self (32 ≤ c.args.layout.align) (c.front-payload.result.0 - 8) c.args.found.start refl narrow) in
+      (t, places, stands, KeepsSpare-counted_first c.args.memory.now c.load_at-len.new.self c.load_at-len.ensures.start c.load_at-len.ensures.bytes s t c.set_word_at.new.self spare);
+  place =
+      let (s, f, v, chosen, start) = c.requires.chosen in
+      let at = goal.at.returns-else-wide g c in
+      let are = computed g at.After-front-payload (loaded g at.After-load_at-len v) f chosen start in
+      let same = SamePlace-sized are (sized g at.After-set_word_at are) in
+      (omega arith, omega (arith, ap length c.load_at-len.ensures.bytes));
+  touches = search rules;
+  grow = search rules;
+  copied = search rules;
+  view = search rules;
+}

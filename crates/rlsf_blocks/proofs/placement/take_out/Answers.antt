@@ -21,14 +21,26 @@ leave_rest-requires g c =
     let unlinked = c.unlink_newest_block.ensures.step f (ahead v take) (later v take) take.start (is_newest v take (at_class c.requires.class take)) (split_list v take) in
     (search rules, (c.requires.parameters, ((ahead v take ++ later v take, rest v take, refl, omega (arith, take.start, take.length, take.fits), IsInnerRoom-rest v take unlinked (omega (arith, take.fits))), search rules)))
 
-pub returns-then-longer-clause-step : goal.returns-then-longer-clause-step
-returns-then-longer-clause-step g c = λ s f v take.
-    let unlinked = c.unlink_newest_block.ensures.step f (ahead v take) (later v take) take.start (is_newest v take (at_class c.requires.class take)) (split_list v take) in
-    let short : c.args.taken < c.args.len = omega (arith, take.fits) in
-    let room = IsInnerRoom-rest v take unlinked short in
-    IsOpened-rest v take unlinked short (c.leave_rest.ensures.step (ahead v take ++ later v take) (rest v take) refl (omega (arith, take.start, take.length, take.fits)) room)
+pub returns-then-longer : goal.returns-then-longer
+returns-then-longer g c = record {
+  step = λ s f v take.
+      let unlinked = c.unlink_newest_block.ensures.step f (ahead v take) (later v take) take.start (is_newest v take (at_class c.requires.class take)) (split_list v take) in
+      let short : c.args.taken < c.args.len = omega (arith, take.fits) in
+      let room = IsInnerRoom-rest v take unlinked short in
+      IsOpened-rest v take unlinked short (c.leave_rest.ensures.step (ahead v take ++ later v take) (rest v take) refl (omega (arith, take.start, take.length, take.fits)) room);
+  touches = search rules;
+  grow = search rules;
+  copied = search rules;
+  view = search rules;
+}
 
-pub returns-else-longer-clause-step : goal.returns-else-longer-clause-step
-returns-else-longer-clause-step g c = λ s f v take.
-    let unlinked = c.unlink_newest_block.ensures.step f (ahead v take) (later v take) take.start (is_newest v take (at_class c.requires.class take)) (split_list v take) in
-    IsOpened-whole v take unlinked (omega (arith, take.fits))
+pub returns-else-longer : goal.returns-else-longer
+returns-else-longer g c = record {
+  step = λ s f v take.
+      let unlinked = c.unlink_newest_block.ensures.step f (ahead v take) (later v take) take.start (is_newest v take (at_class c.requires.class take)) (split_list v take) in
+      IsOpened-whole v take unlinked (omega (arith, take.fits));
+  touches = search rules;
+  grow = search rules;
+  copied = search rules;
+  view = search rules;
+}

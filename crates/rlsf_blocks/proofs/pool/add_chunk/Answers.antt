@@ -28,8 +28,13 @@ link_free_block-requires g c =
     let writes = written g (goal.at.link_free_block-requires g c).After-set_word-4 v new in
     (search rules, (c.requires.parameters, ((body chunk, s.free, refl, refl, IsRoom-body v chunk new writes), search rules)))
 
-pub returns-clause-step : goal.returns-clause-step
-returns-clause-step g c = λ s v new.
-    let chunk = c.args.chunk in
-    let writes = written g (goal.at.returns-clause-step g c).After-set_word-4 v new in
-    IsAdded-written v chunk new writes (c.link_free_block.ensures.step (body chunk) s.free refl refl (IsRoom-body v chunk new writes))
+pub returns : goal.returns
+returns g c = record {
+  step = λ s v new.
+      let chunk = c.args.chunk in
+      let writes = written g (goal.at.returns g c).After-set_word-4 v new in
+      IsAdded-written v chunk new writes (c.link_free_block.ensures.step (body chunk) s.free refl refl (IsRoom-body v chunk new writes));
+  touches = search rules;
+  grow = search rules;
+  copied = search rules;
+}

@@ -1,4 +1,4 @@
-use Rattle.std.proofs.Common.{◌≡◌, ◌+◌, ◌-◌, ◌*◌, ◌/◌, ◌^◌, ◌≤◌, Some, arith, inl, inr, sym, ◌∙◌, ap, subst}
+use Rattle.std.proofs.Common.{rules, ◌≡◌, ◌+◌, ◌-◌, ◌*◌, ◌/◌, ◌^◌, ◌≤◌, Some, arith, inl, inr, sym, ◌∙◌, ap, subst}
 use Rattle.std.proofs.lemmas.Bool.{cases_lt}
 use Rattle.std.specs.Int.NonZero.{non_zero_usize_get}
 use Rattle.std.specs.Option.{option_map}
@@ -12,20 +12,34 @@ use Rattle.rlsf_blocks.proofs.Chunks.Pools.{IsFilled, IsFilled-end, IsFilled-ini
 use Rattle.rlsf_blocks.proofs.pool.insert_chunks.Goals as goal
 use Rattle.rlsf_blocks.proofs.pool.insert_chunks.Goals.{then-start-first, else-start-first}
 
-pub returns-in_default-clause-step : goal.returns-in_default-clause-step
-returns-in_default-clause-step g c = λ s v fresh.
-    let first : c.in-Some.first ≡ round32 c.args.range.start = c.in-Some.ensures.1 in
-    nothing_inserted v c.args.range fresh (omega (arith, c.if-first-end.false))
+pub returns-in_default : goal.returns-in_default
+returns-in_default g c = record {
+  step = λ s v fresh.
+      let first : c.in-Some.first ≡ round32 c.args.range.start = c.in-Some.ensures.1 in
+      nothing_inserted v c.args.range fresh (omega (arith, c.if-first-end.false));
+  refused = search rules;
+  place = search rules;
+  touches = search rules;
+  grow = search rules;
+  copied = search rules;
+}
 
-pub returns-in_default-2-clause-step : goal.returns-in_default-2-clause-step
-returns-in_default-2-clause-step g c = λ s v fresh.
-    let past : 2 ^ 64 ≤ round32 c.args.range.start = elim (cases_lt (round32 c.args.range.start) (2 ^ 64)) [
-      | inl below ↦ absurd (c.in_default.ensures (omega arith, below))
-      | inr above ↦ above
-    ] in
-    let inside = fresh.lies_in.1 in
-    let none : (aligned_part c.args.range).len ≡ 0 = omega (arith, v.well_formed.addressable) in
-    nothing_inserted v c.args.range fresh none
+pub returns-in_default-2 : goal.returns-in_default-2
+returns-in_default-2 g c = record {
+  step = λ s v fresh.
+      let past : 2 ^ 64 ≤ round32 c.args.range.start = elim (cases_lt (round32 c.args.range.start) (2 ^ 64)) [
+        | inl below ↦ absurd (c.in_default.ensures (omega arith, below))
+        | inr above ↦ above
+      ] in
+      let inside = fresh.lies_in.1 in
+      let none : (aligned_part c.args.range).len ≡ 0 = omega (arith, v.well_formed.addressable) in
+      nothing_inserted v c.args.range fresh none;
+  refused = search rules;
+  place = search rules;
+  touches = search rules;
+  grow = search rules;
+  copied = search rules;
+}
 
 pub loop-left-init : goal.loop-left-init
 loop-left-init g c = λ s v fresh.

@@ -22,13 +22,16 @@ overflow_add-result-2 g c =
     let end = end_is v k is.is_chunk is.idle is.begins out in
     record { fits = omega (arith, end, (v.well_formed.chunks k is.is_chunk).lies_in.1, v.well_formed.addressable) }
 
-pub returns-clause-step : goal.returns-clause-step
-returns-clause-step g c = λ s k v is.
-    let out = c.take_if_free-free.ensures.step s.free (IsFreeTable-free v) (IsMarked-idle v k is.is_chunk is.idle c.args.start is.begins) in
-    (StandsFor-removed v k is.is_chunk is.idle is.begins out, KeepsSpare-removed v k is.is_chunk is.idle is.begins out, end_is v k is.is_chunk is.idle is.begins out)
-
-pub returns-clause-place : goal.returns-clause-place
-returns-clause-place g c =
-    let (s, k, v, is) = c.requires.idle in
-    let out = c.take_if_free-free.ensures.step s.free (IsFreeTable-free v) (IsMarked-idle v k is.is_chunk is.idle c.args.start is.begins) in
-    (out.rewrites.start, out.rewrites.length)
+pub returns : goal.returns
+returns g c = record {
+  step = λ s k v is.
+      let out = c.take_if_free-free.ensures.step s.free (IsFreeTable-free v) (IsMarked-idle v k is.is_chunk is.idle c.args.start is.begins) in
+      (StandsFor-removed v k is.is_chunk is.idle is.begins out, KeepsSpare-removed v k is.is_chunk is.idle is.begins out, end_is v k is.is_chunk is.idle is.begins out);
+  place =
+      let (s, k, v, is) = c.requires.idle in
+      let out = c.take_if_free-free.ensures.step s.free (IsFreeTable-free v) (IsMarked-idle v k is.is_chunk is.idle c.args.start is.begins) in
+      (out.rewrites.start, out.rewrites.length);
+  touches = search rules;
+  grow = search rules;
+  copied = search rules;
+}

@@ -1,4 +1,4 @@
-use Rattle.std.proofs.Common.{◌++◌, [], ◌∷◌, arith, refl, sym, ◌∙◌, ap}
+use Rattle.std.proofs.Common.{rules, ◌++◌, [], ◌∷◌, arith, refl, sym, ◌∙◌, ap}
 use Rattle.std.proofs.lemmas.List.{append_assoc, append-nil, get_or_default}
 use Rattle.rlsf_runs.proofs.Outcomes.{when_ok}
 use Rattle.rlsf_flex_runs.specs.Steps.Names.{run_of}
@@ -20,7 +20,11 @@ loop-op-preserved g c =
     let more = when_ok c.push.result _ pushed c.push.ensures.items ∙ ap (λ l. l ++ answer ∷ []) items ∙ append_assoc c.args.answers.now.items given (answer ∷ []) in
     ((given ++ answer ∷ [], more, next), omega (arith, space, c.loop-op-test.true, when_ok c.push.result _ pushed c.push.ensures.len, c.push.ensures.capacity))
 
-pub returns-clause-runs : goal.returns-clause-runs
-returns-clause-runs g c =
-    let ((given, items, u), _) = c.loop-op.invariant in
-    (given, items, (u.notes, run_of c.loop-op.flex c.loop-op.names, RunsFlex-end u c.loop-op-test.false, u.leads_by, refl, u.outside, RunsFlexByEvents-end u c.loop-op-test.false))
+pub returns : goal.returns
+returns g c = record {
+  runs =
+      let ((given, items, u), _) = c.loop-op.invariant in
+      (given, items, (u.notes, run_of c.loop-op.flex c.loop-op.names, RunsFlex-end u c.loop-op-test.false, u.leads_by, refl, u.outside, RunsFlexByEvents-end u c.loop-op-test.false));
+  refused = search rules;
+  place = search rules;
+}

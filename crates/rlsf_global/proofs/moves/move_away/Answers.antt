@@ -1,38 +1,40 @@
-use Rattle.std.proofs.Common.{arith}
+use Rattle.std.proofs.Common.{rules, arith}
 use Rattle.rlsf_base.specs.Addr.{at}
 use Rattle.rlsf_global.proofs.MovedPayloads.{moved_away, moved_away_seen, not_allocated_stays, not_moved}
 use Rattle.rlsf_global.proofs.Results.{for_none}
 use Rattle.rlsf_global.proofs.moves.move_away.Goals as goal
 
-pub returns-in_err-to-clause-none : goal.returns-in_err-to-clause-none
-returns-in_err-to-clause-none g c =
-    let did = c.in_err-to.ensures in
-    for_none c.from_residual.result (λ none rows. not_moved c.args.flex.now c.allocate.new.self did.same did.refused (at c.args.addr) c.args.keep c.args.wanted did.step rows)
+pub returns-in_err-to : goal.returns-in_err-to
+returns-in_err-to g c = record {
+  step = search rules;
+  moved = search rules;
+  none =
+      let did = c.in_err-to.ensures in
+      for_none c.from_residual.result (λ none rows. not_moved c.args.flex.now c.allocate.new.self did.same did.refused (at c.args.addr) c.args.keep c.args.wanted did.step rows);
+  refused =
+      let did = c.in_err-to.ensures in
+      for_none c.from_residual.result (λ none. not_allocated_stays c.args.flex.now c.allocate.new.self did.same did.refused c.args.wanted.size c.args.wanted.align did.step);
+  touches = λ some.
+      let first = c.in_err-to.ensures.touches some in
+      omega (arith, first);
+  grow = search rules;
+}
 
-pub returns-in_err-to-clause-refused : goal.returns-in_err-to-clause-refused
-returns-in_err-to-clause-refused g c =
-    let did = c.in_err-to.ensures in
-    for_none c.from_residual.result (λ none. not_allocated_stays c.args.flex.now c.allocate.new.self did.same did.refused c.args.wanted.size c.args.wanted.align did.step)
-
-pub returns-clause-step : goal.returns-clause-step
-returns-clause-step g c = λ rows.
-    moved_away c.args.flex.now c.allocate.new.self c.copy_payload.new.self c.deallocate.new.self (at c.args.addr) c.args.keep c.args.wanted c.in_ok-to.to c.in_ok-to.ensures.step c.copy_payload.ensures.step c.deallocate.ensures.step
-    c.copy_payload.ensures.source c.deallocate.ensures.source rows
-
-pub returns-clause-moved : goal.returns-clause-moved
-returns-clause-moved g c =
-    let first = c.in_ok-to.ensures in
-    let second = c.copy_payload.ensures in
-    let third = c.deallocate.ensures in
-    moved_away_seen c.args.flex.now c.allocate.new.self c.copy_payload.new.self c.deallocate.new.self (at c.args.addr) c.args.keep c.args.wanted c.in_ok-to.to first.step second.step third.step
-    c.args.align c.requires.live first.new (record { live = first.live; sized = first.sized; few = first.few }) first.aligns first.bytes second.aligns second.bytes third.gone third.aligns third.bytes
-
-pub returns-in_err-to-clause-touches : goal.returns-in_err-to-clause-touches
-returns-in_err-to-clause-touches g c = λ some.
-    let first = c.in_err-to.ensures.touches some in
-    omega (arith, first)
-
-pub returns-clause-touches : goal.returns-clause-touches
-returns-clause-touches g c = λ some.
-    let first = c.in_ok-to.ensures.touches some in
-    omega (arith, first, c.copy_payload.ensures.touches, c.deallocate.ensures.touches)
+pub returns : goal.returns
+returns g c = record {
+  step = λ rows.
+      moved_away c.args.flex.now c.allocate.new.self c.copy_payload.new.self c.deallocate.new.self (at c.args.addr) c.args.keep c.args.wanted c.in_ok-to.to c.in_ok-to.ensures.step c.copy_payload.ensures.step c.deallocate.ensures.step
+      c.copy_payload.ensures.source c.deallocate.ensures.source rows;
+  moved =
+      let first = c.in_ok-to.ensures in
+      let second = c.copy_payload.ensures in
+      let third = c.deallocate.ensures in
+      moved_away_seen c.args.flex.now c.allocate.new.self c.copy_payload.new.self c.deallocate.new.self (at c.args.addr) c.args.keep c.args.wanted c.in_ok-to.to first.step second.step third.step
+      c.args.align c.requires.live first.new (record { live = first.live; sized = first.sized; few = first.few }) first.aligns first.bytes second.aligns second.bytes third.gone third.aligns third.bytes;
+  none = search rules;
+  refused = search rules;
+  touches = λ some.
+      let first = c.in_ok-to.ensures.touches some in
+      omega (arith, first, c.copy_payload.ensures.touches, c.deallocate.ensures.touches);
+  grow = search rules;
+}

@@ -1,4 +1,4 @@
-use Rattle.std.proofs.Common.{true≢false, ◌∙◌, ◌≡◌, ◌≢◌, ◌≤◌, ◌<◌, ◌+◌, ℕ, length, Ok, Err, Some, None, IsSome, Option, refl, subst, sym}
+use Rattle.std.proofs.Common.{rules, true≢false, ◌∙◌, ◌≡◌, ◌≢◌, ◌≤◌, ◌<◌, ◌+◌, ℕ, length, Ok, Err, Some, None, IsSome, Option, refl, subst, sym}
 use Rattle.std.specs.declared.num.NonZeroUsize.{NonZeroUsize}
 use Rattle.rlsf_base.specs.Addr.{at, reply}
 use Rattle.rlsf_flex.specs.StandsFor.{FlexSteps}
@@ -23,52 +23,47 @@ steps_with g c o is = subst
     (λ o. FlexSteps 64 64 terms_of MayOwe PageLeads c.args.flex.now c.reallocate.new.self (FlexReallocates 64 64 (terms_of c.args.flex.now.source) c.args.flex.now.state (at c.args.addr) c.args.wanted.size (reply o)))
     is c.reallocate.ensures.step
 
-pub returns-then-ENABLE_REALLOCATION-clause-step : goal.returns-then-ENABLE_REALLOCATION-clause-step
-returns-then-ENABLE_REALLOCATION-clause-step g c = for_some c.reallocate.result (λ to some rows. subst
-    (λ enabled. ReallocatesTo enabled (heap_of c.args.flex.now rows) (at c.args.addr) c.args.layout c.args.wanted (Ok to) (heap_of c.reallocate.new.self (put (to, c.args.wanted) (without_row (at c.args.addr) rows))))
-    c.if-ENABLE_REALLOCATION.ensures (reallocated c.args.flex.now c.reallocate.new.self (at c.args.addr) c.args.wanted to (steps_with g c (Some to) some) rows))
+pub returns-then-ENABLE_REALLOCATION : goal.returns-then-ENABLE_REALLOCATION
+returns-then-ENABLE_REALLOCATION g c = record {
+  step = for_some c.reallocate.result (λ to some rows. subst
+      (λ enabled. ReallocatesTo enabled (heap_of c.args.flex.now rows) (at c.args.addr) c.args.layout c.args.wanted (Ok to) (heap_of c.reallocate.new.self (put (to, c.args.wanted) (without_row (at c.args.addr) rows))))
+      c.if-ENABLE_REALLOCATION.ensures (reallocated c.args.flex.now c.reallocate.new.self (at c.args.addr) c.args.wanted to (steps_with g c (Some to) some) rows));
+  moved = for_some c.reallocate.result (λ to some.
+      let old = c.args.flex.now in
+      let new = c.reallocate.new.self in
+      let addr = at c.args.addr in
+      let did = c.reallocate.ensures in
+      let steps = steps_with g c (Some to) some in
+      let live = align_at-some old.state.machine addr (subst IsSome (sym c.requires.live) refl) in
+      record {
+        stands = reallocated_stands old new addr c.args.wanted to steps;
+        live = some_of (λ to. align_at new.state.machine (at to) ≡ Some c.args.wanted.align) c.reallocate.result to some did.live;
+        sized = some_of (λ to. c.args.wanted.size ≤ length (bytes_at new.state.machine (at to))) c.reallocate.result to some did.sized;
+        few = some_of (λ to. length (bytes_at new.state.machine (at to)) < c.args.wanted.size + 32) c.reallocate.result to some did.few;
+        new = some_of (λ to. at to ≢ addr → align_at old.state.machine (at to) ≡ None) c.reallocate.result to some did.new;
+        left = reallocated_left old new addr c.args.wanted to steps c.requires.stands live;
+        aligns = some_of (λ to. (a : ℕ) → a ≢ addr → a ≢ at to → align_at new.state.machine a ≡ align_at old.state.machine a) c.reallocate.result to some did.aligns;
+        bytes = some_of (λ to. (a : ℕ) → a ≢ addr → a ≢ at to → bytes_at new.state.machine a ≡ bytes_at old.state.machine a) c.reallocate.result to some did.bytes;
+      });
+  none = for_none c.reallocate.result (λ none rows. subst
+      (λ enabled. ReallocatesTo enabled (heap_of c.args.flex.now rows) (at c.args.addr) c.args.layout c.args.wanted (Err NoRoom) (heap_of c.reallocate.new.self rows))
+      c.if-ENABLE_REALLOCATION.ensures (not_reallocated c.args.flex.now c.reallocate.new.self (none_of c.reallocate.result none c.reallocate.ensures.same) (none_of c.reallocate.result none c.reallocate.ensures.refused) (at c.args.addr) c.args.wanted (steps_with g c None none) rows));
+  refused = for_none c.reallocate.result (λ none.
+      not_reallocated_stays c.args.flex.now c.reallocate.new.self (none_of c.reallocate.result none c.reallocate.ensures.same) (none_of c.reallocate.result none c.reallocate.ensures.refused) (at c.args.addr) c.args.wanted.size (steps_with g c None none));
+  touches = λ on room. c.reallocate.ensures.touches room;
+  touches_elsewhere = λ off some. absurd (true≢false (c.if-ENABLE_REALLOCATION.ensures ∙ off));
+  grow = search rules;
+}
 
-pub returns-then-ENABLE_REALLOCATION-clause-moved : goal.returns-then-ENABLE_REALLOCATION-clause-moved
-returns-then-ENABLE_REALLOCATION-clause-moved g c = for_some c.reallocate.result (λ to some.
-    let old = c.args.flex.now in
-    let new = c.reallocate.new.self in
-    let addr = at c.args.addr in
-    let did = c.reallocate.ensures in
-    let steps = steps_with g c (Some to) some in
-    let live = align_at-some old.state.machine addr (subst IsSome (sym c.requires.live) refl) in
-    record {
-      stands = reallocated_stands old new addr c.args.wanted to steps;
-      live = some_of (λ to. align_at new.state.machine (at to) ≡ Some c.args.wanted.align) c.reallocate.result to some did.live;
-      sized = some_of (λ to. c.args.wanted.size ≤ length (bytes_at new.state.machine (at to))) c.reallocate.result to some did.sized;
-      few = some_of (λ to. length (bytes_at new.state.machine (at to)) < c.args.wanted.size + 32) c.reallocate.result to some did.few;
-      new = some_of (λ to. at to ≢ addr → align_at old.state.machine (at to) ≡ None) c.reallocate.result to some did.new;
-      left = reallocated_left old new addr c.args.wanted to steps c.requires.stands live;
-      aligns = some_of (λ to. (a : ℕ) → a ≢ addr → a ≢ at to → align_at new.state.machine a ≡ align_at old.state.machine a) c.reallocate.result to some did.aligns;
-      bytes = some_of (λ to. (a : ℕ) → a ≢ addr → a ≢ at to → bytes_at new.state.machine a ≡ bytes_at old.state.machine a) c.reallocate.result to some did.bytes;
-    })
-
-pub returns-then-ENABLE_REALLOCATION-clause-none : goal.returns-then-ENABLE_REALLOCATION-clause-none
-returns-then-ENABLE_REALLOCATION-clause-none g c = for_none c.reallocate.result (λ none rows. subst
-    (λ enabled. ReallocatesTo enabled (heap_of c.args.flex.now rows) (at c.args.addr) c.args.layout c.args.wanted (Err NoRoom) (heap_of c.reallocate.new.self rows))
-    c.if-ENABLE_REALLOCATION.ensures (not_reallocated c.args.flex.now c.reallocate.new.self (none_of c.reallocate.result none c.reallocate.ensures.same) (none_of c.reallocate.result none c.reallocate.ensures.refused) (at c.args.addr) c.args.wanted (steps_with g c None none) rows))
-
-pub returns-then-ENABLE_REALLOCATION-clause-refused : goal.returns-then-ENABLE_REALLOCATION-clause-refused
-returns-then-ENABLE_REALLOCATION-clause-refused g c = for_none c.reallocate.result (λ none.
-    not_reallocated_stays c.args.flex.now c.reallocate.new.self (none_of c.reallocate.result none c.reallocate.ensures.same) (none_of c.reallocate.result none c.reallocate.ensures.refused) (at c.args.addr) c.args.wanted.size (steps_with g c None none))
-
-pub returns-else-ENABLE_REALLOCATION-clause-none : goal.returns-else-ENABLE_REALLOCATION-clause-none
-returns-else-ENABLE_REALLOCATION-clause-none g c = for_none c.move_away.result (λ none rows. subst
-    (λ enabled. ReallocatesTo enabled (heap_of c.args.flex.now rows) (at c.args.addr) c.args.layout c.args.wanted (Err NoRoom) (heap_of c.move_away.new.flex rows))
-    c.if-ENABLE_REALLOCATION.ensures (none_of c.move_away.result none c.move_away.ensures.none rows))
-
-pub returns-then-ENABLE_REALLOCATION-clause-touches : goal.returns-then-ENABLE_REALLOCATION-clause-touches
-returns-then-ENABLE_REALLOCATION-clause-touches g c = λ on room. c.reallocate.ensures.touches room
-
-pub returns-then-ENABLE_REALLOCATION-clause-touches_elsewhere : goal.returns-then-ENABLE_REALLOCATION-clause-touches_elsewhere
-returns-then-ENABLE_REALLOCATION-clause-touches_elsewhere g c = λ off some. absurd (true≢false (c.if-ENABLE_REALLOCATION.ensures ∙ off))
-
-pub returns-else-ENABLE_REALLOCATION-clause-touches : goal.returns-else-ENABLE_REALLOCATION-clause-touches
-returns-else-ENABLE_REALLOCATION-clause-touches g c = λ on room. absurd (true≢false (sym on ∙ sym c.if-ENABLE_REALLOCATION.ensures))
-
-pub returns-else-ENABLE_REALLOCATION-clause-touches_elsewhere : goal.returns-else-ENABLE_REALLOCATION-clause-touches_elsewhere
-returns-else-ENABLE_REALLOCATION-clause-touches_elsewhere g c = λ off some. c.move_away.ensures.touches some
+pub returns-else-ENABLE_REALLOCATION : goal.returns-else-ENABLE_REALLOCATION
+returns-else-ENABLE_REALLOCATION g c = record {
+  step = search rules;
+  moved = search rules;
+  none = for_none c.move_away.result (λ none rows. subst
+      (λ enabled. ReallocatesTo enabled (heap_of c.args.flex.now rows) (at c.args.addr) c.args.layout c.args.wanted (Err NoRoom) (heap_of c.move_away.new.flex rows))
+      c.if-ENABLE_REALLOCATION.ensures (none_of c.move_away.result none c.move_away.ensures.none rows));
+  refused = search rules;
+  touches = λ on room. absurd (true≢false (sym on ∙ sym c.if-ENABLE_REALLOCATION.ensures));
+  touches_elsewhere = λ off some. c.move_away.ensures.touches some;
+  grow = search rules;
+}

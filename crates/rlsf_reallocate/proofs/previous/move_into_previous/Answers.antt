@@ -213,91 +213,73 @@ set_word_at-requires-clause-place g c =
     let are = outs g at.After-take_if_free-next v used short in
     IsWord-pad are c.copy_within.ensures.start c.copy_within.ensures.bytes c.occupy.ensures.step (omega (arith, c.align-wide.ensures.value, c.if-wide.true))
 
-pub returns-then-wide-clause-moved : goal.returns-then-wide-clause-moved
-returns-then-wide-clause-moved g c = λ s u v used short.
-    let at = goal.at.returns-then-wide-clause-moved g c in
-    let are = outs g at.After-take_if_free-next v used short in
-    let wide : 32 ≤ c.args.layout.align = omega (arith, c.align-wide.ensures.value, c.if-wide.true) in
-    let written = wrote c.occupy.new.memory c.set_word_at.new.self (c.in_ok-moved.moved - 8) c.take_previous-start.result c.set_word_at.ensures.bytes (omega arith) (omega arith) in
-    let padded = Writes-some (32 ≤ c.args.layout.align) wide (IsWord-pad are c.copy_within.ensures.start c.copy_within.ensures.bytes c.occupy.ensures.step wide) (start-fits are) c.set_word_at.ensures.start written in
-    let (p, is, to, (t, replans, stands, spare)) = moved_to are c.copy_within.ensures.start c.copy_within.ensures.bytes c.occupy.ensures.step padded in
-    let counts = c.place_before.ensures.counts in
-    let later = KeepsSpare-counted_first c.load_at.new.self c.place_before.new.memory counts.start counts.bytes s t c.set_word_at.new.self spare in
-    (p, is, to, (t, replans, stands, KeepsSpare-counted_first c.args.memory.now c.load_at.new.self c.load_at.ensures.start c.load_at.ensures.bytes s t c.set_word_at.new.self later))
+pub returns-then-wide : goal.returns-then-wide
+returns-then-wide g c = record {
+  moved = λ s u v used short.
+      let at = goal.at.returns-then-wide g c in
+      let are = outs g at.After-take_if_free-next v used short in
+      let wide : 32 ≤ c.args.layout.align = omega (arith, c.align-wide.ensures.value, c.if-wide.true) in
+      let written = wrote c.occupy.new.memory c.set_word_at.new.self (c.in_ok-moved.moved - 8) c.take_previous-start.result c.set_word_at.ensures.bytes (omega arith) (omega arith) in
+      let padded = Writes-some (32 ≤ c.args.layout.align) wide (IsWord-pad are c.copy_within.ensures.start c.copy_within.ensures.bytes c.occupy.ensures.step wide) (start-fits are) c.set_word_at.ensures.start written in
+      let (p, is, to, (t, replans, stands, spare)) = moved_to are c.copy_within.ensures.start c.copy_within.ensures.bytes c.occupy.ensures.step padded in
+      let counts = c.place_before.ensures.counts in
+      let later = KeepsSpare-counted_first c.load_at.new.self c.place_before.new.memory counts.start counts.bytes s t c.set_word_at.new.self spare in
+      (p, is, to, (t, replans, stands, KeepsSpare-counted_first c.args.memory.now c.load_at.new.self c.load_at.ensures.start c.load_at.ensures.bytes s t c.set_word_at.new.self later));
+  refused = λ s u v used short. tt;
+  unchanged = search rules;
+  place =
+      let (s, u, v, used, short) = c.requires.used in
+      let at = goal.at.returns-then-wide g c in
+      let are = outs g at.After-take_if_free-next v used short in
+      let same = SamePlace-occupied are c.copy_within.ensures.start c.copy_within.ensures.bytes c.occupy.ensures.step in
+      let counts = c.place_before.ensures.counts in
+      (c.set_word_at.ensures.start ∙ same.0 ∙ counts.start ∙ c.load_at.ensures.start, c.set_word_at.ensures.len ∙ same.1 ∙ ap length (counts.bytes ∙ c.load_at.ensures.bytes));
+  touches =
+      let counts = sought g (goal.at.returns-then-wide g c).After-place_before in
+      touches-counted_first c.args.memory.now c.place_before.new.memory 4 counts c.set_word_at.new.self 33 (touches_padded c.place_before.new.memory.touches c.occupy.new.memory.touches c.set_word_at.new.self.touches (touches_taken c.place_before.new.memory.touches c.take_previous-start.new.memory.touches c.take_if_free-next.new.memory.touches c.copy_within.new.self.touches c.occupy.new.memory.touches c.take_previous-start.ensures.touches c.take_if_free-next.ensures.touches c.copy_within.ensures.touches c.occupy.ensures.touches) c.set_word_at.ensures.touches);
+  grow =
+      let counts = sought g (goal.at.returns-then-wide g c).After-place_before in
+      grow-counted_first c.args.memory.now c.place_before.new.memory 4 counts c.set_word_at.new.self (grow_padded c.place_before.new.memory.touches c.occupy.new.memory.touches c.set_word_at.new.self.touches (grow_taken c.place_before.new.memory.touches c.take_previous-start.new.memory.touches c.take_if_free-next.new.memory.touches c.copy_within.new.self.touches c.occupy.new.memory.touches c.take_previous-start.ensures.grow c.take_if_free-next.ensures.grow c.copy_within.ensures.touches c.occupy.ensures.grow) c.set_word_at.ensures.touches);
+  copied = λ s u v used.
+      let at = goal.at.returns-then-wide g c in
+      let long = ap (λ (r : Range). r.len) (ap₂ (λ from to. between from to) (sym used.caller) (sym (ends g at.After-used_end-end v used))) in
+      copied_long c.args.memory.now.copied c.place_before.new.memory.copied c.set_word_at.new.self.copied (c.used_end-end.result - c.args.payload) (usable u).len (sought g at.After-place_before).copied (copied_padded c.place_before.new.memory.copied c.occupy.new.memory.copied c.set_word_at.new.self.copied (c.used_end-end.result - c.args.payload) (copied_moved c.place_before.new.memory.copied c.take_previous-start.new.memory.copied c.take_if_free-next.new.memory.copied c.copy_within.new.self.copied c.occupy.new.memory.copied (c.used_end-end.result - c.args.payload) c.take_previous-start.ensures.copied c.take_if_free-next.ensures.copied c.copy_within.ensures.copied c.occupy.ensures.copied) c.set_word_at.ensures.copied) long;
+  grow_copied =
+      let counts = sought g (goal.at.returns-then-wide g c).After-place_before in
+      copied_taken c.args.memory.now.copied c.place_before.new.memory.copied c.set_word_at.new.self.copied (c.used_end-end.result - c.args.payload) counts.copied (copied_padded c.place_before.new.memory.copied c.occupy.new.memory.copied c.set_word_at.new.self.copied (c.used_end-end.result - c.args.payload) (copied_moved c.place_before.new.memory.copied c.take_previous-start.new.memory.copied c.take_if_free-next.new.memory.copied c.copy_within.new.self.copied c.occupy.new.memory.copied (c.used_end-end.result - c.args.payload) c.take_previous-start.ensures.copied c.take_if_free-next.ensures.copied c.copy_within.ensures.copied c.occupy.ensures.copied) c.set_word_at.ensures.copied);
+}
 
-pub returns-then-wide-clause-refused : goal.returns-then-wide-clause-refused
-returns-then-wide-clause-refused g c = λ s u v used short. tt
-
-pub returns-then-wide-clause-place : goal.returns-then-wide-clause-place
-returns-then-wide-clause-place g c =
-    let (s, u, v, used, short) = c.requires.used in
-    let at = goal.at.returns-then-wide-clause-place g c in
-    let are = outs g at.After-take_if_free-next v used short in
-    let same = SamePlace-occupied are c.copy_within.ensures.start c.copy_within.ensures.bytes c.occupy.ensures.step in
-    let counts = c.place_before.ensures.counts in
-    (c.set_word_at.ensures.start ∙ same.0 ∙ counts.start ∙ c.load_at.ensures.start, c.set_word_at.ensures.len ∙ same.1 ∙ ap length (counts.bytes ∙ c.load_at.ensures.bytes))
-
-pub returns-then-wide-clause-touches : goal.returns-then-wide-clause-touches
-returns-then-wide-clause-touches g c =
-    let counts = sought g (goal.at.returns-then-wide-clause-touches g c).After-place_before in
-    touches-counted_first c.args.memory.now c.place_before.new.memory 4 counts c.set_word_at.new.self 33 (touches_padded c.place_before.new.memory.touches c.occupy.new.memory.touches c.set_word_at.new.self.touches (touches_taken c.place_before.new.memory.touches c.take_previous-start.new.memory.touches c.take_if_free-next.new.memory.touches c.copy_within.new.self.touches c.occupy.new.memory.touches c.take_previous-start.ensures.touches c.take_if_free-next.ensures.touches c.copy_within.ensures.touches c.occupy.ensures.touches) c.set_word_at.ensures.touches)
-
-pub returns-then-wide-clause-grow : goal.returns-then-wide-clause-grow
-returns-then-wide-clause-grow g c =
-    let counts = sought g (goal.at.returns-then-wide-clause-grow g c).After-place_before in
-    grow-counted_first c.args.memory.now c.place_before.new.memory 4 counts c.set_word_at.new.self (grow_padded c.place_before.new.memory.touches c.occupy.new.memory.touches c.set_word_at.new.self.touches (grow_taken c.place_before.new.memory.touches c.take_previous-start.new.memory.touches c.take_if_free-next.new.memory.touches c.copy_within.new.self.touches c.occupy.new.memory.touches c.take_previous-start.ensures.grow c.take_if_free-next.ensures.grow c.copy_within.ensures.touches c.occupy.ensures.grow) c.set_word_at.ensures.touches)
-
-pub returns-then-wide-clause-grow_copied : goal.returns-then-wide-clause-grow_copied
-returns-then-wide-clause-grow_copied g c =
-    let counts = sought g (goal.at.returns-then-wide-clause-grow_copied g c).After-place_before in
-    copied_taken c.args.memory.now.copied c.place_before.new.memory.copied c.set_word_at.new.self.copied (c.used_end-end.result - c.args.payload) counts.copied (copied_padded c.place_before.new.memory.copied c.occupy.new.memory.copied c.set_word_at.new.self.copied (c.used_end-end.result - c.args.payload) (copied_moved c.place_before.new.memory.copied c.take_previous-start.new.memory.copied c.take_if_free-next.new.memory.copied c.copy_within.new.self.copied c.occupy.new.memory.copied (c.used_end-end.result - c.args.payload) c.take_previous-start.ensures.copied c.take_if_free-next.ensures.copied c.copy_within.ensures.copied c.occupy.ensures.copied) c.set_word_at.ensures.copied)
-
-pub returns-then-wide-clause-copied : goal.returns-then-wide-clause-copied
-returns-then-wide-clause-copied g c = λ s u v used.
-    let at = goal.at.returns-then-wide-clause-copied g c in
-    let long = ap (λ (r : Range). r.len) (ap₂ (λ from to. between from to) (sym used.caller) (sym (ends g at.After-used_end-end v used))) in
-    copied_long c.args.memory.now.copied c.place_before.new.memory.copied c.set_word_at.new.self.copied (c.used_end-end.result - c.args.payload) (usable u).len (sought g at.After-place_before).copied (copied_padded c.place_before.new.memory.copied c.occupy.new.memory.copied c.set_word_at.new.self.copied (c.used_end-end.result - c.args.payload) (copied_moved c.place_before.new.memory.copied c.take_previous-start.new.memory.copied c.take_if_free-next.new.memory.copied c.copy_within.new.self.copied c.occupy.new.memory.copied (c.used_end-end.result - c.args.payload) c.take_previous-start.ensures.copied c.take_if_free-next.ensures.copied c.copy_within.ensures.copied c.occupy.ensures.copied) c.set_word_at.ensures.copied) long
-
-pub returns-else-wide-clause-moved : goal.returns-else-wide-clause-moved
-returns-else-wide-clause-moved g c = λ s u v used short.
-    let at = goal.at.returns-else-wide-clause-moved g c in
-    let are = outs g at.After-take_if_free-next v used short in
-    let narrow : ¬ (32 ≤ c.args.layout.align) = λ wide. omega (arith, c.align-wide.ensures.value, c.if-wide.false) in
-    let padded = Writes-none c.occupy.new.memory c.occupy.new.memory (32 ≤ c.args.layout.align) (c.in_ok-moved.moved - 8) c.take_previous-start.result refl narrow in
-    let (p, is, to, (t, replans, stands, spare)) = moved_to are c.copy_within.ensures.start c.copy_within.ensures.bytes c.occupy.ensures.step padded in
-    let counts = c.place_before.ensures.counts in
-    let later = KeepsSpare-counted_first c.load_at.new.self c.place_before.new.memory counts.start counts.bytes s t c.occupy.new.memory spare in
-    (p, is, to, (t, replans, stands, KeepsSpare-counted_first c.args.memory.now c.load_at.new.self c.load_at.ensures.start c.load_at.ensures.bytes s t c.occupy.new.memory later))
-
-pub returns-else-wide-clause-refused : goal.returns-else-wide-clause-refused
-returns-else-wide-clause-refused g c = λ s u v used short. tt
-
-pub returns-else-wide-clause-place : goal.returns-else-wide-clause-place
-returns-else-wide-clause-place g c =
-    let (s, u, v, used, short) = c.requires.used in
-    let at = goal.at.returns-else-wide-clause-place g c in
-    let are = outs g at.After-take_if_free-next v used short in
-    let same = SamePlace-occupied are c.copy_within.ensures.start c.copy_within.ensures.bytes c.occupy.ensures.step in
-    let counts = c.place_before.ensures.counts in
-    (same.0 ∙ counts.start ∙ c.load_at.ensures.start, same.1 ∙ ap length (counts.bytes ∙ c.load_at.ensures.bytes))
-
-pub returns-else-wide-clause-touches : goal.returns-else-wide-clause-touches
-returns-else-wide-clause-touches g c =
-    let counts = sought g (goal.at.returns-else-wide-clause-touches g c).After-place_before in
-    touches-counted_first c.args.memory.now c.place_before.new.memory 4 counts c.occupy.new.memory 33 (touches-more c.place_before.new.memory c.occupy.new.memory 32 1 (touches_taken c.place_before.new.memory.touches c.take_previous-start.new.memory.touches c.take_if_free-next.new.memory.touches c.copy_within.new.self.touches c.occupy.new.memory.touches c.take_previous-start.ensures.touches c.take_if_free-next.ensures.touches c.copy_within.ensures.touches c.occupy.ensures.touches))
-
-pub returns-else-wide-clause-grow : goal.returns-else-wide-clause-grow
-returns-else-wide-clause-grow g c =
-    let counts = sought g (goal.at.returns-else-wide-clause-grow g c).After-place_before in
-    grow-counted_first c.args.memory.now c.place_before.new.memory 4 counts c.occupy.new.memory (grow_taken c.place_before.new.memory.touches c.take_previous-start.new.memory.touches c.take_if_free-next.new.memory.touches c.copy_within.new.self.touches c.occupy.new.memory.touches c.take_previous-start.ensures.grow c.take_if_free-next.ensures.grow c.copy_within.ensures.touches c.occupy.ensures.grow)
-
-pub returns-else-wide-clause-grow_copied : goal.returns-else-wide-clause-grow_copied
-returns-else-wide-clause-grow_copied g c =
-    let counts = sought g (goal.at.returns-else-wide-clause-grow_copied g c).After-place_before in
-    copied_taken c.args.memory.now.copied c.place_before.new.memory.copied c.occupy.new.memory.copied (c.used_end-end.result - c.args.payload) counts.copied (copied_moved c.place_before.new.memory.copied c.take_previous-start.new.memory.copied c.take_if_free-next.new.memory.copied c.copy_within.new.self.copied c.occupy.new.memory.copied (c.used_end-end.result - c.args.payload) c.take_previous-start.ensures.copied c.take_if_free-next.ensures.copied c.copy_within.ensures.copied c.occupy.ensures.copied)
-
-pub returns-else-wide-clause-copied : goal.returns-else-wide-clause-copied
-returns-else-wide-clause-copied g c = λ s u v used.
-    let at = goal.at.returns-else-wide-clause-copied g c in
-    let long = ap (λ (r : Range). r.len) (ap₂ (λ from to. between from to) (sym used.caller) (sym (ends g at.After-used_end-end v used))) in
-    copied_long c.args.memory.now.copied c.place_before.new.memory.copied c.occupy.new.memory.copied (c.used_end-end.result - c.args.payload) (usable u).len (sought g at.After-place_before).copied (copied_moved c.place_before.new.memory.copied c.take_previous-start.new.memory.copied c.take_if_free-next.new.memory.copied c.copy_within.new.self.copied c.occupy.new.memory.copied (c.used_end-end.result - c.args.payload) c.take_previous-start.ensures.copied c.take_if_free-next.ensures.copied c.copy_within.ensures.copied c.occupy.ensures.copied) long
+pub returns-else-wide : goal.returns-else-wide
+returns-else-wide g c = record {
+  moved = λ s u v used short.
+      let at = goal.at.returns-else-wide g c in
+      let are = outs g at.After-take_if_free-next v used short in
+      let narrow : ¬ (32 ≤ c.args.layout.align) = λ wide. omega (arith, c.align-wide.ensures.value, c.if-wide.false) in
+      let padded = Writes-none c.occupy.new.memory c.occupy.new.memory (32 ≤ c.args.layout.align) (c.in_ok-moved.moved - 8) c.take_previous-start.result refl narrow in
+      let (p, is, to, (t, replans, stands, spare)) = moved_to are c.copy_within.ensures.start c.copy_within.ensures.bytes c.occupy.ensures.step padded in
+      let counts = c.place_before.ensures.counts in
+      let later = KeepsSpare-counted_first c.load_at.new.self c.place_before.new.memory counts.start counts.bytes s t c.occupy.new.memory spare in
+      (p, is, to, (t, replans, stands, KeepsSpare-counted_first c.args.memory.now c.load_at.new.self c.load_at.ensures.start c.load_at.ensures.bytes s t c.occupy.new.memory later));
+  refused = λ s u v used short. tt;
+  unchanged = search rules;
+  place =
+      let (s, u, v, used, short) = c.requires.used in
+      let at = goal.at.returns-else-wide g c in
+      let are = outs g at.After-take_if_free-next v used short in
+      let same = SamePlace-occupied are c.copy_within.ensures.start c.copy_within.ensures.bytes c.occupy.ensures.step in
+      let counts = c.place_before.ensures.counts in
+      (same.0 ∙ counts.start ∙ c.load_at.ensures.start, same.1 ∙ ap length (counts.bytes ∙ c.load_at.ensures.bytes));
+  touches =
+      let counts = sought g (goal.at.returns-else-wide g c).After-place_before in
+      touches-counted_first c.args.memory.now c.place_before.new.memory 4 counts c.occupy.new.memory 33 (touches-more c.place_before.new.memory c.occupy.new.memory 32 1 (touches_taken c.place_before.new.memory.touches c.take_previous-start.new.memory.touches c.take_if_free-next.new.memory.touches c.copy_within.new.self.touches c.occupy.new.memory.touches c.take_previous-start.ensures.touches c.take_if_free-next.ensures.touches c.copy_within.ensures.touches c.occupy.ensures.touches));
+  grow =
+      let counts = sought g (goal.at.returns-else-wide g c).After-place_before in
+      grow-counted_first c.args.memory.now c.place_before.new.memory 4 counts c.occupy.new.memory (grow_taken c.place_before.new.memory.touches c.take_previous-start.new.memory.touches c.take_if_free-next.new.memory.touches c.copy_within.new.self.touches c.occupy.new.memory.touches c.take_previous-start.ensures.grow c.take_if_free-next.ensures.grow c.copy_within.ensures.touches c.occupy.ensures.grow);
+  copied = λ s u v used.
+      let at = goal.at.returns-else-wide g c in
+      let long = ap (λ (r : Range). r.len) (ap₂ (λ from to. between from to) (sym used.caller) (sym (ends g at.After-used_end-end v used))) in
+      copied_long c.args.memory.now.copied c.place_before.new.memory.copied c.occupy.new.memory.copied (c.used_end-end.result - c.args.payload) (usable u).len (sought g at.After-place_before).copied (copied_moved c.place_before.new.memory.copied c.take_previous-start.new.memory.copied c.take_if_free-next.new.memory.copied c.copy_within.new.self.copied c.occupy.new.memory.copied (c.used_end-end.result - c.args.payload) c.take_previous-start.ensures.copied c.take_if_free-next.ensures.copied c.copy_within.ensures.copied c.occupy.ensures.copied) long;
+  grow_copied =
+      let counts = sought g (goal.at.returns-else-wide g c).After-place_before in
+      copied_taken c.args.memory.now.copied c.place_before.new.memory.copied c.occupy.new.memory.copied (c.used_end-end.result - c.args.payload) counts.copied (copied_moved c.place_before.new.memory.copied c.take_previous-start.new.memory.copied c.take_if_free-next.new.memory.copied c.copy_within.new.self.copied c.occupy.new.memory.copied (c.used_end-end.result - c.args.payload) c.take_previous-start.ensures.copied c.take_if_free-next.ensures.copied c.copy_within.ensures.copied c.occupy.ensures.copied);
+}

@@ -1,4 +1,4 @@
-use Rattle.std.proofs.Common.{arith}
+use Rattle.std.proofs.Common.{rules, arith}
 use Rattle.rlsf_blocks.proofs.Deallocate.Loaded.{IsMarked-loaded}
 use Rattle.rlsf_blocks.proofs.Deallocate.Marks.{IsMarked-previous, IsPreviousOut-none}
 use Rattle.rlsf_table.proofs.FreeLists.Counted.{IsFreeTable-counted}
@@ -39,16 +39,22 @@ overflow_sub-result c =
     let long = c.free_length.ensures.length fllen sllen t s.free (IsFreeTable-counted m n start bytes (IsFreeTable-free v)) marked in
     (start_or-length v u i at c.load_at-previous.ensures.word c.if-previous-eq0.false long).0
 
-pub returns-then-previous-eq0-clause-start : goal.returns-then-previous-eq0-clause-start
-returns-then-previous-eq0-clause-start c = λ fllen sllen t s u v i at.
-    (IsPreviousOut-none v u i at c.load_at-previous.ensures.word c.load_at-previous.new.self c.load_at-previous.ensures.start c.load_at-previous.ensures.bytes c.if-previous-eq0.true).begins
+pub returns-then-previous-eq0 : goal.returns-then-previous-eq0
+returns-then-previous-eq0 c = record {
+  start = λ fllen sllen t s u v i at.
+      (IsPreviousOut-none v u i at c.load_at-previous.ensures.word c.load_at-previous.new.self c.load_at-previous.ensures.start c.load_at-previous.ensures.bytes c.if-previous-eq0.true).begins;
+  counts = search rules;
+}
 
-pub returns-else-previous-eq0-clause-start : goal.returns-else-previous-eq0-clause-start
-returns-else-previous-eq0-clause-start c = λ fllen sllen t s u v i at.
-    let m = c.args.memory.now in
-    let n = c.load_at-previous.new.self in
-    let start = c.load_at-previous.ensures.start in
-    let bytes = c.load_at-previous.ensures.bytes in
-    let marked = IsMarked-loaded m n start bytes (IsMarked-previous v u i at c.load_at-previous.ensures.word c.if-previous-eq0.false) in
-    let long = c.free_length.ensures.length fllen sllen t s.free (IsFreeTable-counted m n start bytes (IsFreeTable-free v)) marked in
-    (start_or-length v u i at c.load_at-previous.ensures.word c.if-previous-eq0.false long).1
+pub returns-else-previous-eq0 : goal.returns-else-previous-eq0
+returns-else-previous-eq0 c = record {
+  start = λ fllen sllen t s u v i at.
+      let m = c.args.memory.now in
+      let n = c.load_at-previous.new.self in
+      let start = c.load_at-previous.ensures.start in
+      let bytes = c.load_at-previous.ensures.bytes in
+      let marked = IsMarked-loaded m n start bytes (IsMarked-previous v u i at c.load_at-previous.ensures.word c.if-previous-eq0.false) in
+      let long = c.free_length.ensures.length fllen sllen t s.free (IsFreeTable-counted m n start bytes (IsFreeTable-free v)) marked in
+      (start_or-length v u i at c.load_at-previous.ensures.word c.if-previous-eq0.false long).1;
+  counts = search rules;
+}

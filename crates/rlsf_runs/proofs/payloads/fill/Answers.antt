@@ -10,9 +10,12 @@ use Rattle.rlsf_text.specs.declared.op.TraceError.TheVariants.{UnknownName}
 use Rattle.rlsf_runs.proofs.Named.{unnamed}
 use Rattle.rlsf_runs.proofs.payloads.fill.Goals as goal
 
-pub returns-in_default-clause-does : goal.returns-in_default-clause-does
-returns-in_default-clause-does g c = λ s at.
-    LeadsOn-nothing at (Fill c.args.name c.args.byte) (Refused UnknownName) (unnamed at.named c.args.name (sym c.payload.ensures ∙ c.in_default.is), refl)
+pub returns-in_default : goal.returns-in_default
+returns-in_default g c = record {
+  does = λ s at.
+      LeadsOn-nothing at (Fill c.args.name c.args.byte) (Refused UnknownName) (unnamed at.named c.args.name (sym c.payload.ensures ∙ c.in_default.is), refl);
+  place = search rules;
+}
 
 pub payload_mut-requires : goal.payload_mut-requires
 payload_mut-requires g c =

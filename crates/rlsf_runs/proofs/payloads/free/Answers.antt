@@ -5,23 +5,25 @@ use Rattle.rlsf_runs.specs.Names.{address}
 use Rattle.rlsf_runs.proofs.NamedPayloads.{freed, not_freed}
 use Rattle.rlsf_runs.proofs.payloads.free.Goals as goal
 
-pub returns-in_default-clause-does : goal.returns-in_default-clause-does
-returns-in_default-clause-does g c = λ s at. not_freed at c.args.name (sym c.take_name.ensures.value ∙ c.in_default.is) c.take_name.ensures.pools c.take_name.ensures.names
-
-pub returns-clause-does : goal.returns-clause-does
-returns-clause-does g c = λ s at.
-    let p = c.in-Some.payload in
-    let there = sym c.take_name.ensures.value ∙ c.in-Some.is in
-    let (t, step, stands, keeps) = stepped at.stands c.deallocate.new.self (λ x. Deallocates x (address p)) c.deallocate.ensures.step in
-    freed at c.deallocate.ensures.place t stands keeps c.args.name p there step c.take_name.ensures.pools c.take_name.ensures.names
-
 pub deallocate-requires : goal.deallocate-requires
 deallocate-requires g c =
     let (s, at) = c.requires in
     (search rules, live_in at.stands (address c.in-Some.payload) c.in-Some.payload.align (at.named.live c.args.name c.in-Some.payload (sym c.take_name.ensures.value ∙ c.in-Some.is)))
 
-pub returns-in_default-clause-room : goal.returns-in_default-clause-room
-returns-in_default-clause-room g c = c.take_name.ensures.room
+pub returns-in_default : goal.returns-in_default
+returns-in_default g c = record {
+  does = λ s at. not_freed at c.args.name (sym c.take_name.ensures.value ∙ c.in_default.is) c.take_name.ensures.pools c.take_name.ensures.names;
+  room = c.take_name.ensures.room;
+  place = search rules;
+}
 
-pub returns-clause-room : goal.returns-clause-room
-returns-clause-room g c = c.take_name.ensures.room
+pub returns : goal.returns
+returns g c = record {
+  does = λ s at.
+      let p = c.in-Some.payload in
+      let there = sym c.take_name.ensures.value ∙ c.in-Some.is in
+      let (t, step, stands, keeps) = stepped at.stands c.deallocate.new.self (λ x. Deallocates x (address p)) c.deallocate.ensures.step in
+      freed at c.deallocate.ensures.place t stands keeps c.args.name p there step c.take_name.ensures.pools c.take_name.ensures.names;
+  room = c.take_name.ensures.room;
+  place = search rules;
+}

@@ -11,11 +11,14 @@ use Rattle.rlsf_runs.proofs.NamedPayloads.{IsAt-filled, LeadsOn-nothing, owned}
 use Rattle.rlsf_runs.proofs.Named.{unnamed}
 use Rattle.rlsf_runs.proofs.payloads.put.Goals as goal
 
-pub returns-then-offset-payload-clause-does : goal.returns-then-offset-payload-clause-does
-returns-then-offset-payload-clause-does g c = λ s at.
-    let (u, owns, holds, long) = owned at c.args.name c.in-Some.payload (sym c.payload.ensures ∙ c.in-Some.is) in
-    let bytes = c.payload-2.ensures ∙ bytes_in at.stands (address c.in-Some.payload) u holds in
-    LeadsOn-nothing at (Put c.args.name c.args.offset c.args.byte) (Refused BadOffset) ((u, owns, omega (arith, c.if-offset-payload.true, ap length bytes, long)), refl)
+pub returns-then-offset-payload : goal.returns-then-offset-payload
+returns-then-offset-payload g c = record {
+  does = λ s at.
+      let (u, owns, holds, long) = owned at c.args.name c.in-Some.payload (sym c.payload.ensures ∙ c.in-Some.is) in
+      let bytes = c.payload-2.ensures ∙ bytes_in at.stands (address c.in-Some.payload) u holds in
+      LeadsOn-nothing at (Put c.args.name c.args.offset c.args.byte) (Refused BadOffset) ((u, owns, omega (arith, c.if-offset-payload.true, ap length bytes, long)), refl);
+  place = search rules;
+}
 
 pub bounds-payload_mut-offset : goal.bounds-payload_mut-offset
 bounds-payload_mut-offset g c =
@@ -24,9 +27,12 @@ bounds-payload_mut-offset g c =
     let bytes = c.payload-2.ensures ∙ bytes_in at.stands (address c.in-Some.payload) u holds in
     omega (arith, c.if-offset-payload.false, ap length bytes, long, ap length (c.payload_mut.ensures.value ∙ bytes_in at.stands (address c.in-Some.payload) u holds))
 
-pub returns-in_default-clause-does : goal.returns-in_default-clause-does
-returns-in_default-clause-does g c = λ s at.
-    LeadsOn-nothing at (Put c.args.name c.args.offset c.args.byte) (Refused UnknownName) (unnamed at.named c.args.name (sym c.payload.ensures ∙ c.in_default.is), refl)
+pub returns-in_default : goal.returns-in_default
+returns-in_default g c = record {
+  does = λ s at.
+      LeadsOn-nothing at (Put c.args.name c.args.offset c.args.byte) (Refused UnknownName) (unnamed at.named c.args.name (sym c.payload.ensures ∙ c.in_default.is), refl);
+  place = search rules;
+}
 
 pub payload-requires-2 : goal.payload-requires-2
 payload-requires-2 g c =

@@ -39,24 +39,6 @@ lengthen_pool-requires g c =
     let longer = IsLonger-appended at.stands.stands.well_formed r next c.append_free_block_ptr-taken.result t step stands.stands.well_formed in
     (below, λ d. omega (arith, ends d, longer.within, may.vacant.lies_in.1, at.stands.stands.well_formed.addressable))
 
-pub returns-then-not-is_vacant-clause-does : goal.returns-then-not-is_vacant-clause-does
-returns-then-not-is_vacant-clause-does g c = λ s at.
-    LeadsOn-nothing at (Append c.args.range) (Refused BadRange)
-    (λ may. true≢false (sym (c.is_vacant.ensures.1 (IsVacant-tables at c.args.range c.memory_ref.ensures.memory may.vacant)) ∙ c.if-not-is_vacant.true), refl)
-
-pub returns-in_default-clause-does : goal.returns-in_default-clause-does
-returns-in_default-clause-does g c = λ s at.
-    LeadsOn-nothing at (Append c.args.range) (Refused BadRange) (MayAppend-none at c.args.range c.in_default.ensures.none, refl)
-
-pub returns-clause-does : goal.returns-clause-does
-returns-clause-does g c = λ s at.
-    let r = c.args.range in
-    let place = c.in-Some.place in
-    let ends = c.in-Some.ensures.found in
-    let may = MayAppend-tested at r place (MayInsert-tested at r c.memory_ref.ensures.memory (c.is_vacant.ensures.0 c.if-not-is_vacant.false)) ends in
-    let (t, step, stands, keeps) = stepped at.stands c.append_free_block_ptr-taken.new.self (λ x. Appends g.row.FLLEN x r c.append_free_block_ptr-taken.result) c.append_free_block_ptr-taken.ensures.step in
-    (_, (may, t, step, refl), IsAt-appended at c.append_free_block_ptr-taken.ensures.place t stands r c.append_free_block_ptr-taken.result place step may ends c.lengthen_pool.ensures.names (c.lengthen_pool.ensures.pools no_range), keeps)
-
 pub is_vacant-requires-clause-in_order : goal.is_vacant-requires-clause-in_order
 is_vacant-requires-clause-in_order g c =
     let (s, at) = c.requires in
@@ -67,16 +49,37 @@ is_vacant-requires-clause-addressable g c =
     let (s, at) = c.requires in
     subst (λ m. end_of (range_of m) < 2 ^ 64) (sym c.memory_ref.ensures.memory) at.stands.stands.well_formed.addressable
 
-pub returns-then-not-is_vacant-clause-room : goal.returns-then-not-is_vacant-clause-room
-returns-then-not-is_vacant-clause-room g c = room_left c.args.tables.now
+pub returns-then-not-is_vacant : goal.returns-then-not-is_vacant
+returns-then-not-is_vacant g c = record {
+  does = λ s at.
+      LeadsOn-nothing at (Append c.args.range) (Refused BadRange)
+      (λ may. true≢false (sym (c.is_vacant.ensures.1 (IsVacant-tables at c.args.range c.memory_ref.ensures.memory may.vacant)) ∙ c.if-not-is_vacant.true), refl);
+  room = room_left c.args.tables.now;
+  place = search rules;
+}
 
 pub ending_at-requires-clause-in_order : goal.ending_at-requires-clause-in_order
 ending_at-requires-clause-in_order g c =
     let (s, at) = c.requires in
     at.in_order
 
-pub returns-in_default-clause-room : goal.returns-in_default-clause-room
-returns-in_default-clause-room g c = room_left c.args.tables.now
+pub returns-in_default : goal.returns-in_default
+returns-in_default g c = record {
+  does = λ s at.
+      LeadsOn-nothing at (Append c.args.range) (Refused BadRange) (MayAppend-none at c.args.range c.in_default.ensures.none, refl);
+  room = room_left c.args.tables.now;
+  place = search rules;
+}
 
-pub returns-clause-room : goal.returns-clause-room
-returns-clause-room g c = c.lengthen_pool.ensures.room
+pub returns : goal.returns
+returns g c = record {
+  does = λ s at.
+      let r = c.args.range in
+      let place = c.in-Some.place in
+      let ends = c.in-Some.ensures.found in
+      let may = MayAppend-tested at r place (MayInsert-tested at r c.memory_ref.ensures.memory (c.is_vacant.ensures.0 c.if-not-is_vacant.false)) ends in
+      let (t, step, stands, keeps) = stepped at.stands c.append_free_block_ptr-taken.new.self (λ x. Appends g.row.FLLEN x r c.append_free_block_ptr-taken.result) c.append_free_block_ptr-taken.ensures.step in
+      (_, (may, t, step, refl), IsAt-appended at c.append_free_block_ptr-taken.ensures.place t stands r c.append_free_block_ptr-taken.result place step may ends c.lengthen_pool.ensures.names (c.lengthen_pool.ensures.pools no_range), keeps);
+  room = c.lengthen_pool.ensures.room;
+  place = search rules;
+}

@@ -1,4 +1,4 @@
-use Rattle.std.proofs.Common.{◌++◌, [], ◌∷◌, arith, refl, sym, ◌∙◌, ap, subst}
+use Rattle.std.proofs.Common.{rules, ◌++◌, [], ◌∷◌, arith, refl, sym, ◌∙◌, ap, subst}
 use Rattle.std.proofs.lemmas.List.{append_assoc, append-nil, get_or_default}
 use Rattle.rlsf_base.specs.Space.{range_of}
 use Rattle.rlsf_machine.specs.State.{empty}
@@ -26,12 +26,14 @@ loop-op-preserved g c =
     let more = when_ok c.push.result _ pushed c.push.ensures.items ∙ ap (λ l. l ++ answer ∷ []) items ∙ append_assoc c.args.answers.now.items given (answer ∷ []) in
     ((given ++ answer ∷ [], more, next), omega (arith, space, c.loop-op-test.true, when_ok c.push.result _ pushed c.push.ensures.len, c.push.ensures.capacity))
 
-pub returns-clause-runs : goal.returns-clause-runs
-returns-clause-runs g c =
-    let ((given, items, w), _) = c.loop-op.invariant in
-    (given, items, (w.state, RunsOps-end w c.loop-op-test.false, w.at.stands.state, w.spare))
-
-pub returns-clause-events : goal.returns-clause-events
-returns-clause-events g c =
-    let ((given, items, w), _) = c.loop-op.invariant in
-    (given, items, subst (RunsByEvents g.row.FLLEN g.row.SLLEN (range_of c.args.tlsf.now.memory) empty c.args.ops.now given) (sym w.at.stands.state) (RunsByEvents-end w c.loop-op-test.false))
+pub returns : goal.returns
+returns g c = record {
+  runs =
+      let ((given, items, w), _) = c.loop-op.invariant in
+      (given, items, (w.state, RunsOps-end w c.loop-op-test.false, w.at.stands.state, w.spare));
+  events =
+      let ((given, items, w), _) = c.loop-op.invariant in
+      (given, items, subst (RunsByEvents g.row.FLLEN g.row.SLLEN (range_of c.args.tlsf.now.memory) empty c.args.ops.now given) (sym w.at.stands.state) (RunsByEvents-end w c.loop-op-test.false));
+  refused = search rules;
+  place = search rules;
+}

@@ -7,11 +7,14 @@ use Rattle.rlsf_table.proofs.Tables.RowLengths.{row_length-bounds}
 use Rattle.rlsf_table.proofs.Tables.Choice.{choice-past_rows, choice-none_from, choice-head, IsReaching-map_ceil}
 use Rattle.rlsf_table.proofs.fit.first_fit.Goals as goal
 
-pub returns-in_err-fl-clause-choice : goal.returns-in_err-fl-clause-choice
-returns-in_err-fl-clause-choice g c free is =
-    let some = row_length-bounds g.row.SLLEN c.requires.parameters.power_of_two in
-    let none = choice-past_rows g.row.FLLEN g.row.SLLEN c.args.size some.0 c.requires.size free is.blocks (sym c.map_ceil.ensures ∙ c.in_err-fl.was) in
-    subst (λ o. MatchOption o (choice g.row.SLLEN c.args.size free ≡ None) (λ found. (f : Range) × (choice g.row.SLLEN c.args.size free ≡ Some f) × (f.start ≡ found.start) × IsClassAt g.row.FLLEN g.row.SLLEN f.len found.class.fl found.class.sl)) (sym c.from_residual.ensures) none
+pub returns-in_err-fl : goal.returns-in_err-fl
+returns-in_err-fl g c = record {
+  choice = λ free is.
+      let some = row_length-bounds g.row.SLLEN c.requires.parameters.power_of_two in
+      let none = choice-past_rows g.row.FLLEN g.row.SLLEN c.args.size some.0 c.requires.size free is.blocks (sym c.map_ceil.ensures ∙ c.in_err-fl.was) in
+      subst (λ o. MatchOption o (choice g.row.SLLEN c.args.size free ≡ None) (λ found. (f : Range) × (choice g.row.SLLEN c.args.size free ≡ Some f) × (f.start ≡ found.start) × IsClassAt g.row.FLLEN g.row.SLLEN f.len found.class.fl found.class.sl)) (sym c.from_residual.ensures) none;
+  counts = search rules;
+}
 
 pub first_from-requires : goal.first_from-requires
 first_from-requires g c =
@@ -19,12 +22,15 @@ first_from-requires g c =
     let at = IsReaching-map_ceil g.row.FLLEN g.row.SLLEN c.args.size some.0 c.requires.size (c.in_ok-fl.fl, c.in_ok-fl.sl) (sym c.map_ceil.ensures ∙ c.in_ok-fl.was) in
     (search rules, (c.requires.parameters, (at.row, at.place)))
 
-pub returns-in_err-class-clause-choice : goal.returns-in_err-class-clause-choice
-returns-in_err-class-clause-choice g c free is =
-    let some = row_length-bounds g.row.SLLEN c.requires.parameters.power_of_two in
-    let at = IsReaching-map_ceil g.row.FLLEN g.row.SLLEN c.args.size some.0 c.requires.size (c.in_ok-fl.fl, c.in_ok-fl.sl) (sym c.map_ceil.ensures ∙ c.in_ok-fl.was) in
-    let none = choice-none_from g.row.FLLEN g.row.SLLEN c.args.size some.0 c.requires.size free is.blocks (c.in_ok-fl.fl, c.in_ok-fl.sl) at (c.in_err-class.ensures.first free is.table.bits is.blocks) in
-    subst (λ o. MatchOption o (choice g.row.SLLEN c.args.size free ≡ None) (λ found. (f : Range) × (choice g.row.SLLEN c.args.size free ≡ Some f) × (f.start ≡ found.start) × IsClassAt g.row.FLLEN g.row.SLLEN f.len found.class.fl found.class.sl)) (sym c.from_residual-in_err-class.ensures) none
+pub returns-in_err-class : goal.returns-in_err-class
+returns-in_err-class g c = record {
+  choice = λ free is.
+      let some = row_length-bounds g.row.SLLEN c.requires.parameters.power_of_two in
+      let at = IsReaching-map_ceil g.row.FLLEN g.row.SLLEN c.args.size some.0 c.requires.size (c.in_ok-fl.fl, c.in_ok-fl.sl) (sym c.map_ceil.ensures ∙ c.in_ok-fl.was) in
+      let none = choice-none_from g.row.FLLEN g.row.SLLEN c.args.size some.0 c.requires.size free is.blocks (c.in_ok-fl.fl, c.in_ok-fl.sl) at (c.in_err-class.ensures.first free is.table.bits is.blocks) in
+      subst (λ o. MatchOption o (choice g.row.SLLEN c.args.size free ≡ None) (λ found. (f : Range) × (choice g.row.SLLEN c.args.size free ≡ Some f) × (f.start ≡ found.start) × IsClassAt g.row.FLLEN g.row.SLLEN f.len found.class.fl found.class.sl)) (sym c.from_residual-in_err-class.ensures) none;
+  counts = search rules;
+}
 
 pub head-requires : goal.head-requires
 head-requires g c =
@@ -32,11 +38,14 @@ head-requires g c =
     let least = c.in_ok-class.ensures.first free is.table.bits is.blocks in
     (search rules, (least.0, least.1))
 
-pub returns-clause-choice : goal.returns-clause-choice
-returns-clause-choice g c free is =
-    let some = row_length-bounds g.row.SLLEN c.requires.parameters.power_of_two in
-    let at = IsReaching-map_ceil g.row.FLLEN g.row.SLLEN c.args.size some.0 c.requires.size (c.in_ok-fl.fl, c.in_ok-fl.sl) (sym c.map_ceil.ensures ∙ c.in_ok-fl.was) in
-    let least = c.in_ok-class.ensures.first free is.table.bits is.blocks in
-    let (f, chosen, starts, class) = choice-head g.row.FLLEN g.row.SLLEN c.args.size some.0 c.requires.size free is.blocks (c.in_ok-fl.fl, c.in_ok-fl.sl) at c.in_ok-class.class
-    least _ c.args.table.now is.table.lists in
-    (f, chosen, starts ∙ sym c.head.ensures.value, record { row = least.0; place = least.1; class = class })
+pub returns : goal.returns
+returns g c = record {
+  choice = λ free is.
+      let some = row_length-bounds g.row.SLLEN c.requires.parameters.power_of_two in
+      let at = IsReaching-map_ceil g.row.FLLEN g.row.SLLEN c.args.size some.0 c.requires.size (c.in_ok-fl.fl, c.in_ok-fl.sl) (sym c.map_ceil.ensures ∙ c.in_ok-fl.was) in
+      let least = c.in_ok-class.ensures.first free is.table.bits is.blocks in
+      let (f, chosen, starts, class) = choice-head g.row.FLLEN g.row.SLLEN c.args.size some.0 c.requires.size free is.blocks (c.in_ok-fl.fl, c.in_ok-fl.sl) at c.in_ok-class.class
+      least _ c.args.table.now is.table.lists in
+      (f, chosen, starts ∙ sym c.head.ensures.value, record { row = least.0; place = least.1; class = class });
+  counts = search rules;
+}

@@ -34,20 +34,26 @@ put-requires g c =
     let at = IsClassAt-told c.requires.parameters beside.block c.args.len c.class_of-fl.result len c.class_of-fl.ensures in
     (search rules, (c.requires.parameters, (at.row, at.place)))
 
-pub returns-clause-step : goal.returns-clause-step
-returns-clause-step g c r free place len beside =
-    let m = c.args.memory.now in
-    let n = c.head-newest.new.memory in
-    let o = c.link_front.new.memory in
-    let fl = c.class_of-fl.result.0 in
-    let sl = c.class_of-fl.result.1 in
-    let at = IsClassAt-told c.requires.parameters beside.block c.args.len c.class_of-fl.result len c.class_of-fl.ensures in
-    let read = c.head-newest.ensures.counts in
-    let kept = IsRoom-counted m n read.start read.bytes beside in
-    let list = IsFreeList-of_class_from kept.list fl sl at.row at.place c.head-newest.result c.head-newest.ensures.value in
-    let (linked, rewrites) = c.link_front.ensures.step r (of_class g.row.SLLEN fl sl free) place list kept.placed (coverage-front_class fl sl kept at) in
-    let bits = c.put.ensures.bits r free at.class beside.list.table.bits in
-    let counts = c.put.ensures.counts in (
-      HasTable-counted o c.put.new.memory counts.start counts.bytes (HasTable-front fl sl kept at c.args.block place c.put.ensures.heads bits linked rewrites),
-      Rewrites-counted_first m n read.start read.bytes (Rewrites-counted_last o c.put.new.memory counts.start counts.bytes (Rewrites-front_class fl sl kept at rewrites)),
-    )
+pub returns : goal.returns
+returns g c = record {
+  step = λ r free place len beside.
+      let m = c.args.memory.now in
+      let n = c.head-newest.new.memory in
+      let o = c.link_front.new.memory in
+      let fl = c.class_of-fl.result.0 in
+      let sl = c.class_of-fl.result.1 in
+      let at = IsClassAt-told c.requires.parameters beside.block c.args.len c.class_of-fl.result len c.class_of-fl.ensures in
+      let read = c.head-newest.ensures.counts in
+      let kept = IsRoom-counted m n read.start read.bytes beside in
+      let list = IsFreeList-of_class_from kept.list fl sl at.row at.place c.head-newest.result c.head-newest.ensures.value in
+      let (linked, rewrites) = c.link_front.ensures.step r (of_class g.row.SLLEN fl sl free) place list kept.placed (coverage-front_class fl sl kept at) in
+      let bits = c.put.ensures.bits r free at.class beside.list.table.bits in
+      let counts = c.put.ensures.counts in (
+        HasTable-counted o c.put.new.memory counts.start counts.bytes (HasTable-front fl sl kept at c.args.block place c.put.ensures.heads bits linked rewrites),
+        Rewrites-counted_first m n read.start read.bytes (Rewrites-counted_last o c.put.new.memory counts.start counts.bytes (Rewrites-front_class fl sl kept at rewrites)),
+      );
+  touches = search rules;
+  grow = search rules;
+  copied = search rules;
+  view = search rules;
+}

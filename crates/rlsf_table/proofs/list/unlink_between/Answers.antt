@@ -1,5 +1,5 @@
 -- The blocks that the block's links name are placed, so that their words can be written; and the two writes take the block out.
-use Rattle.std.proofs.Common.{◌≤◌, ◌≡◌, ◌≢◌, ℕ, ◌∷◌, ◌+◌, List, length, ap, arith, inl, refl, sym, ◌∙◌}
+use Rattle.std.proofs.Common.{rules, ◌≤◌, ◌≡◌, ◌≢◌, ℕ, ◌∷◌, ◌+◌, List, length, ap, arith, inl, refl, sym, ◌∙◌}
 use Rattle.rlsf_base.specs.Space.{Space, word_at}
 use Rattle.rlsf_base.specs.declared.memory.range.Range.{Range}
 use Rattle.rlsf_table.specs.Steps.ClassList.{IsFreeList}
@@ -80,53 +80,62 @@ set_word_at-requires-else-previous-eq0-clause-place c =
     ] in
     IsWord-at 16 (omega arith) refl found.1 found.2 c.if-next-ne0.memory back.rewrites.start back.rewrites.length
 
-pub returns-then-previous-eq0-clause-step : goal.returns-then-previous-eq0-clause-step
-returns-then-previous-eq0-clause-step c newest r before after place listed =
-    let m = c.load_at-previous.new.self in
-    let n = c.if-next-ne0.memory in
-    let next = c.load_at-next.result in
-    let previous = c.load_at-previous.result in
-    let is = reads (goal.at.returns-then-previous-eq0-clause-step c).After-load_at-previous in
-    let list = list_of is listed in
-    let back : Writes m n (next ≢ 0) (next + 24) previous = elim c.if-next-ne0.branch [
-      | then-next-ne0 w ↦ Writes-back r place (IsIn-append_right r before (r ∷ after) (inl refl)) list n w.set_word_at.new.self is.is_next w.if-next-ne0.true c.load_at-previous.type_inv w.memory-is w.set_word_at.ensures.start w.set_word_at.ensures.bytes
-      | else-next-ne0 w ↦ Writes-none _ _ _ _ _ w.memory-is (λ some. some w.if-next-ne0.false)
-    ] in
-    let cuts : Cuts m n next previous = record {
-      one = n;
-      back = back;
-      forth = Writes-none n n (previous ≢ 0) (previous + 16) next refl (λ some. some c.if-previous-eq0.true);
-    } in (
-      Links-out m n newest c.args.block next previous r before after place list is.is_next is.is_previous cuts next (λ none. refl) (λ some. absurd (some c.if-previous-eq0.true)),
-      Rewrites-counted_first c.args.memory.now m is.start is.bytes (Rewrites-out m n newest c.args.block next previous r before after place list is.is_next is.is_previous cuts),
-    )
+pub returns-then-previous-eq0 : goal.returns-then-previous-eq0
+returns-then-previous-eq0 c = record {
+  step = λ newest r before after place listed.
+      let m = c.load_at-previous.new.self in
+      let n = c.if-next-ne0.memory in
+      let next = c.load_at-next.result in
+      let previous = c.load_at-previous.result in
+      let is = reads (goal.at.returns-then-previous-eq0 c).After-load_at-previous in
+      let list = list_of is listed in
+      let back : Writes m n (next ≢ 0) (next + 24) previous = elim c.if-next-ne0.branch [
+        | then-next-ne0 w ↦ Writes-back r place (IsIn-append_right r before (r ∷ after) (inl refl)) list n w.set_word_at.new.self is.is_next w.if-next-ne0.true c.load_at-previous.type_inv w.memory-is w.set_word_at.ensures.start w.set_word_at.ensures.bytes
+        | else-next-ne0 w ↦ Writes-none _ _ _ _ _ w.memory-is (λ some. some w.if-next-ne0.false)
+      ] in
+      let cuts : Cuts m n next previous = record {
+        one = n;
+        back = back;
+        forth = Writes-none n n (previous ≢ 0) (previous + 16) next refl (λ some. some c.if-previous-eq0.true);
+      } in (
+        Links-out m n newest c.args.block next previous r before after place list is.is_next is.is_previous cuts next (λ none. refl) (λ some. absurd (some c.if-previous-eq0.true)),
+        Rewrites-counted_first c.args.memory.now m is.start is.bytes (Rewrites-out m n newest c.args.block next previous r before after place list is.is_next is.is_previous cuts),
+      );
+  touches = search rules;
+  grow = search rules;
+  copied = search rules;
+  view = search rules;
+}
 
-pub returns-else-previous-eq0-clause-step : goal.returns-else-previous-eq0-clause-step
-returns-else-previous-eq0-clause-step c newest r before after place listed =
-    let m = c.load_at-previous.new.self in
-    let n = c.set_word_at-else-previous-eq0.new.self in
-    let next = c.load_at-next.result in
-    let previous = c.load_at-previous.result in
-    let is = reads (goal.at.returns-else-previous-eq0-clause-step c).After-load_at-previous in
-    let list = list_of is listed in
-    let there = IsIn-append_right r before (r ∷ after) (inl refl) in
-    let back : Writes m c.if-next-ne0.memory (next ≢ 0) (next + 24) previous = elim c.if-next-ne0.branch [
-      | then-next-ne0 w ↦ Writes-back r place there list c.if-next-ne0.memory w.set_word_at.new.self is.is_next w.if-next-ne0.true c.load_at-previous.type_inv w.memory-is w.set_word_at.ensures.start w.set_word_at.ensures.bytes
-      | else-next-ne0 w ↦ Writes-none _ _ _ _ _ w.memory-is (λ some. some w.if-next-ne0.false)
-    ] in
-    let cuts : Cuts m n next previous = record {
-      one = c.if-next-ne0.memory;
-      back = back;
-      forth = Writes-forth r place there list c.if-next-ne0.memory n is.is_previous c.if-previous-eq0.false c.load_at-next.type_inv back c.set_word_at-else-previous-eq0.ensures.start c.set_word_at-else-previous-eq0.ensures.bytes;
-    } in (
-      Links-out m n newest c.args.block next previous r before after place list is.is_next is.is_previous cuts newest (λ none. absurd (c.if-previous-eq0.false none)) (λ some. refl),
-      Rewrites-counted_first c.args.memory.now m is.start is.bytes (Rewrites-out m n newest c.args.block next previous r before after place list is.is_next is.is_previous cuts),
-    )
-
-pub returns-else-previous-eq0-clause-touches : goal.returns-else-previous-eq0-clause-touches
-returns-else-previous-eq0-clause-touches c =
-    let few : c.if-next-ne0.memory.touches ≤ c.args.memory.now.touches + 3 = elim c.if-next-ne0.branch [
-      | then-next-ne0 w ↦ let same = ap (λ (m : Space). m.touches) w.memory-is in omega arith
-      | else-next-ne0 w ↦ let same = ap (λ (m : Space). m.touches) w.memory-is in omega arith
-    ] in
-    omega arith
+pub returns-else-previous-eq0 : goal.returns-else-previous-eq0
+returns-else-previous-eq0 c = record {
+  step = λ newest r before after place listed.
+      let m = c.load_at-previous.new.self in
+      let n = c.set_word_at-else-previous-eq0.new.self in
+      let next = c.load_at-next.result in
+      let previous = c.load_at-previous.result in
+      let is = reads (goal.at.returns-else-previous-eq0 c).After-load_at-previous in
+      let list = list_of is listed in
+      let there = IsIn-append_right r before (r ∷ after) (inl refl) in
+      let back : Writes m c.if-next-ne0.memory (next ≢ 0) (next + 24) previous = elim c.if-next-ne0.branch [
+        | then-next-ne0 w ↦ Writes-back r place there list c.if-next-ne0.memory w.set_word_at.new.self is.is_next w.if-next-ne0.true c.load_at-previous.type_inv w.memory-is w.set_word_at.ensures.start w.set_word_at.ensures.bytes
+        | else-next-ne0 w ↦ Writes-none _ _ _ _ _ w.memory-is (λ some. some w.if-next-ne0.false)
+      ] in
+      let cuts : Cuts m n next previous = record {
+        one = c.if-next-ne0.memory;
+        back = back;
+        forth = Writes-forth r place there list c.if-next-ne0.memory n is.is_previous c.if-previous-eq0.false c.load_at-next.type_inv back c.set_word_at-else-previous-eq0.ensures.start c.set_word_at-else-previous-eq0.ensures.bytes;
+      } in (
+        Links-out m n newest c.args.block next previous r before after place list is.is_next is.is_previous cuts newest (λ none. absurd (c.if-previous-eq0.false none)) (λ some. refl),
+        Rewrites-counted_first c.args.memory.now m is.start is.bytes (Rewrites-out m n newest c.args.block next previous r before after place list is.is_next is.is_previous cuts),
+      );
+  touches =
+      let few : c.if-next-ne0.memory.touches ≤ c.args.memory.now.touches + 3 = elim c.if-next-ne0.branch [
+        | then-next-ne0 w ↦ let same = ap (λ (m : Space). m.touches) w.memory-is in omega arith
+        | else-next-ne0 w ↦ let same = ap (λ (m : Space). m.touches) w.memory-is in omega arith
+      ] in
+      omega arith;
+  grow = search rules;
+  copied = search rules;
+  view = search rules;
+}

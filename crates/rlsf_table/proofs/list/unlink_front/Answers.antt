@@ -1,5 +1,5 @@
 -- The one write takes the first block out.
-use Rattle.std.proofs.Common.{◌≡◌, ℕ, ◌+◌, List, ◌∷◌, ◌∙◌, length, ap, arith, inl, refl, subst, sym}
+use Rattle.std.proofs.Common.{rules, ◌≡◌, ℕ, ◌+◌, List, ◌∷◌, ◌∙◌, length, ap, arith, inl, refl, subst, sym}
 use Rattle.rlsf_base.specs.Space.{Space, word_at}
 use Rattle.rlsf_base.specs.declared.memory.range.Range.{Range}
 use Rattle.rlsf_table.specs.FreeList.{CanBeBlock}
@@ -31,21 +31,27 @@ set_word_at-requires-clause-place c =
     let found = there c.requires.front.0 c.requires.front.1 c.requires.front.3 c.requires.front.4 c.load_at-next.ensures.word c.first_or_own.ensures in
     IsWord-at 24 (omega arith) refl found.1 found.2 c.load_at-next.new.self c.load_at-next.ensures.start (ap length c.load_at-next.ensures.bytes)
 
-pub returns-clause-step : goal.returns-clause-step
-returns-clause-step c newest r after place listed =
-    let m = c.args.memory.now in
-    let one = c.load_at-next.new.self in
-    let n = c.set_word_at.new.self in
-    let next = c.load_at-next.result in
-    let at = c.first_or_own.result in
-    let start = c.load_at-next.ensures.start in
-    let bytes = c.load_at-next.ensures.bytes in
-    let list = IsFreeList-counted m one start bytes listed in
-    let is_next : next ≡ word_at one (r.start + 16) = c.load_at-next.ensures.word ∙ sym (word_at-counted m one start bytes (c.args.block + 16)) ∙ ap (λ a. word_at one (a + 16)) (sym place) in
-    let own : IsFirstOrOwn next r.start at = subst (λ b. IsFirstOrOwn next b at) (sym place) c.first_or_own.ensures in
-    let found = rest_placed one n newest next at r after list is_next own in
-    let word = IsWord-at 24 (omega arith) refl found.1 found.2 one refl refl in
-    let cut : Writes one n (Unit {0}) (at + 24) 0 = Writes-some (Unit {0}) tt word (omega arith) c.set_word_at.ensures.start c.set_word_at.ensures.bytes in (
-      Links-rest one n newest next at r after list is_next own cut,
-      Rewrites-counted_first m one start bytes (Rewrites-rest one n newest next at r after list is_next own cut),
-    )
+pub returns : goal.returns
+returns c = record {
+  step = λ newest r after place listed.
+      let m = c.args.memory.now in
+      let one = c.load_at-next.new.self in
+      let n = c.set_word_at.new.self in
+      let next = c.load_at-next.result in
+      let at = c.first_or_own.result in
+      let start = c.load_at-next.ensures.start in
+      let bytes = c.load_at-next.ensures.bytes in
+      let list = IsFreeList-counted m one start bytes listed in
+      let is_next : next ≡ word_at one (r.start + 16) = c.load_at-next.ensures.word ∙ sym (word_at-counted m one start bytes (c.args.block + 16)) ∙ ap (λ a. word_at one (a + 16)) (sym place) in
+      let own : IsFirstOrOwn next r.start at = subst (λ b. IsFirstOrOwn next b at) (sym place) c.first_or_own.ensures in
+      let found = rest_placed one n newest next at r after list is_next own in
+      let word = IsWord-at 24 (omega arith) refl found.1 found.2 one refl refl in
+      let cut : Writes one n (Unit {0}) (at + 24) 0 = Writes-some (Unit {0}) tt word (omega arith) c.set_word_at.ensures.start c.set_word_at.ensures.bytes in (
+        Links-rest one n newest next at r after list is_next own cut,
+        Rewrites-counted_first m one start bytes (Rewrites-rest one n newest next at r after list is_next own cut),
+      );
+  touches = search rules;
+  grow = search rules;
+  copied = search rules;
+  view = search rules;
+}

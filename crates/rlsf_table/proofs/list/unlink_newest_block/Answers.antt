@@ -23,33 +23,27 @@ unlink_front-next-requires-clause-front g c =
     let (r, before, after, place, newest, list) = c.requires.newest in
     (r, of_class g.row.SLLEN c.args.class.fl c.args.class.sl after, head_at c.args.table.now c.args.class.fl c.args.class.sl, place, list_from r before after newest list)
 
-pub returns-clause-step : goal.returns-clause-step
-returns-clause-step g c r before after place newest list =
-    let sllen = g.row.SLLEN in
-    let n = c.unlink_front-next.new.memory in
-    let o = c.take.new.memory in
-    let fl = c.args.class.fl in
-    let sl = c.args.class.sl in
-    let next = c.unlink_front-next.result in
-    let (joined, rewritten) = c.unlink_front-next.ensures.step (head_at c.args.table.now fl sl) r (of_class sllen fl sl after) place (list_from r before after newest list) in
-    let linked : Links n 0 (of_class sllen fl sl before ++ of_class sllen fl sl after) next = subst (λ l. Links n 0 (l ++ of_class sllen fl sl after) next) (sym newest.first) joined in
-    let rewrites : Rewrites c.args.memory.now n (IsLink (of_class sllen fl sl before ++ (r ∷ of_class sllen fl sl after))) =
-    subst (λ l. Rewrites c.args.memory.now n (IsLink (l ++ (r ∷ of_class sllen fl sl after)))) (sym newest.first) rewritten in
-    let is_head = IsHeadOf-removal before r after fl sl list newest.at next linked rewrites in
-    let bits = c.take.ensures.bits r before after newest.at.class is_head list.table.bits in
-    let counts = c.take.ensures.counts in (
-      HasTable-counted n o counts.start counts.bytes (HasTable-removal before r after fl sl list newest.at next linked rewrites c.take.ensures.heads bits),
-      Rewrites-counted_last n o counts.start counts.bytes (Rewrites-amid_class before r after fl sl list newest.at rewrites),
-    )
-
-pub returns-clause-touches : goal.returns-clause-touches
-returns-clause-touches g c = front_touches c.unlink_front-next.result _ _ _ c.unlink_front-next.ensures.touches c.take.ensures.counts.touches
-
-pub returns-clause-grow : goal.returns-clause-grow
-returns-clause-grow g c = le_trans c.unlink_front-next.ensures.grow c.take.ensures.counts.grow
-
-pub returns-clause-copied : goal.returns-clause-copied
-returns-clause-copied g c = c.take.ensures.counts.copied ∙ c.unlink_front-next.ensures.copied
-
-pub returns-clause-view : goal.returns-clause-view
-returns-clause-view g c = c.take.ensures.counts.view ∙ c.unlink_front-next.ensures.view
+pub returns : goal.returns
+returns g c = record {
+  step = λ r before after place newest list.
+      let sllen = g.row.SLLEN in
+      let n = c.unlink_front-next.new.memory in
+      let o = c.take.new.memory in
+      let fl = c.args.class.fl in
+      let sl = c.args.class.sl in
+      let next = c.unlink_front-next.result in
+      let (joined, rewritten) = c.unlink_front-next.ensures.step (head_at c.args.table.now fl sl) r (of_class sllen fl sl after) place (list_from r before after newest list) in
+      let linked : Links n 0 (of_class sllen fl sl before ++ of_class sllen fl sl after) next = subst (λ l. Links n 0 (l ++ of_class sllen fl sl after) next) (sym newest.first) joined in
+      let rewrites : Rewrites c.args.memory.now n (IsLink (of_class sllen fl sl before ++ (r ∷ of_class sllen fl sl after))) =
+      subst (λ l. Rewrites c.args.memory.now n (IsLink (l ++ (r ∷ of_class sllen fl sl after)))) (sym newest.first) rewritten in
+      let is_head = IsHeadOf-removal before r after fl sl list newest.at next linked rewrites in
+      let bits = c.take.ensures.bits r before after newest.at.class is_head list.table.bits in
+      let counts = c.take.ensures.counts in (
+        HasTable-counted n o counts.start counts.bytes (HasTable-removal before r after fl sl list newest.at next linked rewrites c.take.ensures.heads bits),
+        Rewrites-counted_last n o counts.start counts.bytes (Rewrites-amid_class before r after fl sl list newest.at rewrites),
+      );
+  touches = front_touches c.unlink_front-next.result _ _ _ c.unlink_front-next.ensures.touches c.take.ensures.counts.touches;
+  grow = le_trans c.unlink_front-next.ensures.grow c.take.ensures.counts.grow;
+  copied = c.take.ensures.counts.copied ∙ c.unlink_front-next.ensures.copied;
+  view = c.take.ensures.counts.view ∙ c.unlink_front-next.ensures.view;
+}

@@ -1,7 +1,9 @@
+use Rattle.std.proofs.Common.{rules}
 use Rattle.rlsf_trace.proofs.input.read_input.Goals as goal
 
-pub returns-then-ne-clause-bytes : goal.returns-then-ne-clause-bytes
-returns-then-ne-clause-bytes g c = tt
-
-pub returns-then-ne-clause-end : goal.returns-then-ne-clause-end
-returns-then-ne-clause-end g c = tt
+pub returns-then-ne : goal.returns-then-ne
+returns-then-ne g c = record {
+  bytes = tt;
+  end = tt;
+  fault = search rules;
+}

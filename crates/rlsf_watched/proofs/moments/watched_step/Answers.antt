@@ -24,12 +24,17 @@ moved_on-requires-clause-usable g c =
     (c.usable_of-before.ensures s at) (c.usable_of-after.ensures t then) c.args.moment now in
     (c.requires.few.1, omega (arith, balance))
 
-pub returns-clause-does : goal.returns-clause-does
-returns-clause-does g c = λ s at.
-    let (t, does, then, _) = c.step-answer.ensures.does s at in (
-      t,
-      does,
-      then,
-      λ now. moment-after s t at then c.step-answer.ensures.place c.args.op c.step-answer.result does c.usable_of-before.result c.usable_of-after.result
-          (c.usable_of-before.ensures s at) (c.usable_of-after.ensures t then) c.args.moment now c.moved_on.result c.moved_on.ensures.live c.moved_on.ensures.usable,
-    )
+pub returns : goal.returns
+returns g c = record {
+  does = λ s at.
+      let (t, does, then, _) = c.step-answer.ensures.does s at in (
+        t,
+        does,
+        then,
+        λ now. moment-after s t at then c.step-answer.ensures.place c.args.op c.step-answer.result does c.usable_of-before.result c.usable_of-after.result
+            (c.usable_of-before.ensures s at) (c.usable_of-after.ensures t then) c.args.moment now c.moved_on.result c.moved_on.ensures.live c.moved_on.ensures.usable,
+      );
+  few = search rules;
+  room = search rules;
+  place = search rules;
+}

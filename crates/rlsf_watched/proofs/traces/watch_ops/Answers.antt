@@ -1,5 +1,8 @@
 use Rattle.std.proofs.Common.{rules}
 use Rattle.rlsf_watched.proofs.traces.watch_ops.Goals as goal
 
-pub returns-in-OneByOne-clause-ok : goal.returns-in-OneByOne-clause-ok
-returns-in-OneByOne-clause-ok c = search rules
+pub returns-in-OneByOne : goal.returns-in-OneByOne
+returns-in-OneByOne c = record {
+  ok = search rules;
+  err = search rules;
+}

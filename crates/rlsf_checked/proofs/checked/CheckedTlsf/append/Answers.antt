@@ -33,26 +33,6 @@ invariant_of-self g c =
     let same : c.self.inside.pool.len + n ≡ c.self.inside.pool.len = omega (arith, c.if-taken-eq0.true) in
     subst (λ l. IsChecked g.row.FLLEN g.row.SLLEN heap c.self.inside.marks (range_at c.self.inside.pool.start l)) same (handed_on c.self.invariant c.args.range some ends lies heap (stands_after _ _ _ _ _ did.step) did.place did.aligns n step)
 
-pub returns-then-taken-eq0-clause-answer : goal.returns-then-taken-eq0-clause-answer
-returns-then-taken-eq0-clause-answer g c = rw (← c.self.view_is) (
-    let within : true ≡ is_within (range_of c.self.inside.heap.memory) c.args.range = sym c.if-not-lies_in.false ∙ c.lies_in.ensures ∙ ap (λ m. is_within (range_of m) c.args.range) c.memory_ref.ensures.memory in
-    let lies = within_is (range_of c.self.inside.heap.memory) c.args.range within in
-    let is : true ≡ is_next c.self.inside.pool c.args.range.start = sym c.if-not-is_next.false ∙ c.is_next.ensures in
-    let (some, ends) = next_is c.self.inside.pool c.args.range is in
-    let heap = c.append_free_block_ptr-taken.new.self in
-    let n = c.append_free_block_ptr-taken.result in
-    let did = c.append_free_block_ptr-taken.ensures in
-    let step : Appends g.row.FLLEN c.self.inside.heap.state c.args.range n heap.state = step_of _ _ _ _ _ did.step in
-    sym (next_answer g.row.FLLEN (checked c.self.inside.heap c.self.inside.pool) c.args.range within is ∙ ap if_appended (sym step.answer ∙ c.if-taken-eq0.true)))
-
-pub returns-then-taken-eq0-clause-same : goal.returns-then-taken-eq0-clause-same
-returns-then-taken-eq0-clause-same g c = rw (← c.self.view_is) (
-    let heap = c.append_free_block_ptr-taken.new.self in
-    let n = c.append_free_block_ptr-taken.result in
-    let did = c.append_free_block_ptr-taken.ensures in
-    let step : Appends g.row.FLLEN c.self.inside.heap.state c.args.range n heap.state = step_of _ _ _ _ _ did.step in
-    (none_appended g.row.FLLEN c.self.inside.heap.state heap.state c.args.range (subst (λ k. Appends g.row.FLLEN c.self.inside.heap.state c.args.range k heap.state) c.if-taken-eq0.true step), refl))
-
 pub overflow_add-self : goal.overflow_add-self
 overflow_add-self g c =
     let within : true ≡ is_within (range_of c.self.inside.heap.memory) c.args.range = sym c.if-not-lies_in.false ∙ c.lies_in.ensures ∙ ap (λ m. is_within (range_of m) c.args.range) c.memory_ref.ensures.memory in
@@ -78,64 +58,90 @@ invariant_of-self-2 g c =
     let step : Appends g.row.FLLEN c.self.inside.heap.state c.args.range n heap.state = step_of _ _ _ _ _ did.step in
     handed_on c.self.invariant c.args.range some ends lies heap (stands_after _ _ _ _ _ did.step) did.place did.aligns n step
 
-pub returns-clause-answer : goal.returns-clause-answer
-returns-clause-answer g c = rw (← c.self.view_is) (
-    let within : true ≡ is_within (range_of c.self.inside.heap.memory) c.args.range = sym c.if-not-lies_in.false ∙ c.lies_in.ensures ∙ ap (λ m. is_within (range_of m) c.args.range) c.memory_ref.ensures.memory in
-    let lies = within_is (range_of c.self.inside.heap.memory) c.args.range within in
-    let is : true ≡ is_next c.self.inside.pool c.args.range.start = sym c.if-not-is_next.false ∙ c.is_next.ensures in
-    let (some, ends) = next_is c.self.inside.pool c.args.range is in
-    let heap = c.append_free_block_ptr-taken.new.self in
-    let n = c.append_free_block_ptr-taken.result in
-    let did = c.append_free_block_ptr-taken.ensures in
-    let step : Appends g.row.FLLEN c.self.inside.heap.state c.args.range n heap.state = step_of _ _ _ _ _ did.step in
-    sym (next_answer g.row.FLLEN (checked c.self.inside.heap c.self.inside.pool) c.args.range within is ∙ ap if_appended (sym step.answer) ∙ some_appended n c.if-taken-eq0.false))
+pub returns-then-not-lies_in : goal.returns-then-not-lies_in
+returns-then-not-lies_in g c = record {
+  answer = rw (← c.self.view_is) (
+      let outside : false ≡ is_within (range_of c.self.inside.heap.memory) c.args.range = sym c.if-not-lies_in.true ∙ c.lies_in.ensures ∙ ap (λ m. is_within (range_of m) c.args.range) c.memory_ref.ensures.memory in
+      sym (none_outside g.row.FLLEN (checked c.self.inside.heap c.self.inside.pool) c.args.range outside));
+  step = search rules;
+  pool = search rules;
+  same = search rules;
+  refused = search rules;
+  aligns = search rules;
+  bytes = search rules;
+  place = search rules;
+  touches = search rules;
+  grow = search rules;
+  copied = search rules;
+}
 
-pub returns-clause-pool : goal.returns-clause-pool
-returns-clause-pool g c = rw (← c.self.view_is) refl
+pub returns-then-not-is_next : goal.returns-then-not-is_next
+returns-then-not-is_next g c = record {
+  answer = rw (← c.self.view_is) (
+      let within : true ≡ is_within (range_of c.self.inside.heap.memory) c.args.range = sym c.if-not-lies_in.false ∙ c.lies_in.ensures ∙ ap (λ m. is_within (range_of m) c.args.range) c.memory_ref.ensures.memory in
+      let apart : false ≡ is_next c.self.inside.pool c.args.range.start = sym c.if-not-is_next.true ∙ c.is_next.ensures in
+      sym (none_apart g.row.FLLEN (checked c.self.inside.heap c.self.inside.pool) c.args.range within apart));
+  step = search rules;
+  pool = search rules;
+  same = search rules;
+  refused = search rules;
+  aligns = search rules;
+  bytes = search rules;
+  place = search rules;
+  touches = search rules;
+  grow = search rules;
+  copied = search rules;
+}
 
-pub returns-then-not-lies_in-clause-answer : goal.returns-then-not-lies_in-clause-answer
-returns-then-not-lies_in-clause-answer g c = rw (← c.self.view_is) (
-    let outside : false ≡ is_within (range_of c.self.inside.heap.memory) c.args.range = sym c.if-not-lies_in.true ∙ c.lies_in.ensures ∙ ap (λ m. is_within (range_of m) c.args.range) c.memory_ref.ensures.memory in
-    sym (none_outside g.row.FLLEN (checked c.self.inside.heap c.self.inside.pool) c.args.range outside))
+pub returns-then-taken-eq0 : goal.returns-then-taken-eq0
+returns-then-taken-eq0 g c = record {
+  answer = rw (← c.self.view_is) (
+      let within : true ≡ is_within (range_of c.self.inside.heap.memory) c.args.range = sym c.if-not-lies_in.false ∙ c.lies_in.ensures ∙ ap (λ m. is_within (range_of m) c.args.range) c.memory_ref.ensures.memory in
+      let lies = within_is (range_of c.self.inside.heap.memory) c.args.range within in
+      let is : true ≡ is_next c.self.inside.pool c.args.range.start = sym c.if-not-is_next.false ∙ c.is_next.ensures in
+      let (some, ends) = next_is c.self.inside.pool c.args.range is in
+      let heap = c.append_free_block_ptr-taken.new.self in
+      let n = c.append_free_block_ptr-taken.result in
+      let did = c.append_free_block_ptr-taken.ensures in
+      let step : Appends g.row.FLLEN c.self.inside.heap.state c.args.range n heap.state = step_of _ _ _ _ _ did.step in
+      sym (next_answer g.row.FLLEN (checked c.self.inside.heap c.self.inside.pool) c.args.range within is ∙ ap if_appended (sym step.answer ∙ c.if-taken-eq0.true)));
+  step = search rules;
+  pool = search rules;
+  same = rw (← c.self.view_is) (
+      let heap = c.append_free_block_ptr-taken.new.self in
+      let n = c.append_free_block_ptr-taken.result in
+      let did = c.append_free_block_ptr-taken.ensures in
+      let step : Appends g.row.FLLEN c.self.inside.heap.state c.args.range n heap.state = step_of _ _ _ _ _ did.step in
+      (none_appended g.row.FLLEN c.self.inside.heap.state heap.state c.args.range (subst (λ k. Appends g.row.FLLEN c.self.inside.heap.state c.args.range k heap.state) c.if-taken-eq0.true step), refl));
+  refused = rw (← c.self.view_is) (c.append_free_block_ptr-taken.ensures.unchanged c.if-taken-eq0.true);
+  aligns = rw (← c.self.view_is) c.append_free_block_ptr-taken.ensures.aligns;
+  bytes = rw (← c.self.view_is) c.append_free_block_ptr-taken.ensures.bytes;
+  place = rw (← c.self.view_is) c.append_free_block_ptr-taken.ensures.place;
+  touches = rw (← c.self.view_is) c.append_free_block_ptr-taken.ensures.touches;
+  grow = search rules;
+  copied = rw (← c.self.view_is) c.append_free_block_ptr-taken.ensures.copied;
+}
 
-pub returns-then-not-is_next-clause-answer : goal.returns-then-not-is_next-clause-answer
-returns-then-not-is_next-clause-answer g c = rw (← c.self.view_is) (
-    let within : true ≡ is_within (range_of c.self.inside.heap.memory) c.args.range = sym c.if-not-lies_in.false ∙ c.lies_in.ensures ∙ ap (λ m. is_within (range_of m) c.args.range) c.memory_ref.ensures.memory in
-    let apart : false ≡ is_next c.self.inside.pool c.args.range.start = sym c.if-not-is_next.true ∙ c.is_next.ensures in
-    sym (none_apart g.row.FLLEN (checked c.self.inside.heap c.self.inside.pool) c.args.range within apart))
-
-pub returns-then-taken-eq0-clause-refused : goal.returns-then-taken-eq0-clause-refused
-returns-then-taken-eq0-clause-refused g c = rw (← c.self.view_is) (c.append_free_block_ptr-taken.ensures.unchanged c.if-taken-eq0.true)
-
-pub returns-clause-step : goal.returns-clause-step
-returns-clause-step g c = rw (← c.self.view_is) c.append_free_block_ptr-taken.ensures.step
-
-pub returns-then-taken-eq0-clause-aligns : goal.returns-then-taken-eq0-clause-aligns
-returns-then-taken-eq0-clause-aligns g c = rw (← c.self.view_is) c.append_free_block_ptr-taken.ensures.aligns
-
-pub returns-then-taken-eq0-clause-bytes : goal.returns-then-taken-eq0-clause-bytes
-returns-then-taken-eq0-clause-bytes g c = rw (← c.self.view_is) c.append_free_block_ptr-taken.ensures.bytes
-
-pub returns-then-taken-eq0-clause-place : goal.returns-then-taken-eq0-clause-place
-returns-then-taken-eq0-clause-place g c = rw (← c.self.view_is) c.append_free_block_ptr-taken.ensures.place
-
-pub returns-then-taken-eq0-clause-touches : goal.returns-then-taken-eq0-clause-touches
-returns-then-taken-eq0-clause-touches g c = rw (← c.self.view_is) c.append_free_block_ptr-taken.ensures.touches
-
-pub returns-then-taken-eq0-clause-copied : goal.returns-then-taken-eq0-clause-copied
-returns-then-taken-eq0-clause-copied g c = rw (← c.self.view_is) c.append_free_block_ptr-taken.ensures.copied
-
-pub returns-clause-aligns : goal.returns-clause-aligns
-returns-clause-aligns g c = rw (← c.self.view_is) c.append_free_block_ptr-taken.ensures.aligns
-
-pub returns-clause-bytes : goal.returns-clause-bytes
-returns-clause-bytes g c = rw (← c.self.view_is) c.append_free_block_ptr-taken.ensures.bytes
-
-pub returns-clause-place : goal.returns-clause-place
-returns-clause-place g c = rw (← c.self.view_is) c.append_free_block_ptr-taken.ensures.place
-
-pub returns-clause-touches : goal.returns-clause-touches
-returns-clause-touches g c = rw (← c.self.view_is) c.append_free_block_ptr-taken.ensures.touches
-
-pub returns-clause-copied : goal.returns-clause-copied
-returns-clause-copied g c = rw (← c.self.view_is) c.append_free_block_ptr-taken.ensures.copied
+pub returns : goal.returns
+returns g c = record {
+  answer = rw (← c.self.view_is) (
+      let within : true ≡ is_within (range_of c.self.inside.heap.memory) c.args.range = sym c.if-not-lies_in.false ∙ c.lies_in.ensures ∙ ap (λ m. is_within (range_of m) c.args.range) c.memory_ref.ensures.memory in
+      let lies = within_is (range_of c.self.inside.heap.memory) c.args.range within in
+      let is : true ≡ is_next c.self.inside.pool c.args.range.start = sym c.if-not-is_next.false ∙ c.is_next.ensures in
+      let (some, ends) = next_is c.self.inside.pool c.args.range is in
+      let heap = c.append_free_block_ptr-taken.new.self in
+      let n = c.append_free_block_ptr-taken.result in
+      let did = c.append_free_block_ptr-taken.ensures in
+      let step : Appends g.row.FLLEN c.self.inside.heap.state c.args.range n heap.state = step_of _ _ _ _ _ did.step in
+      sym (next_answer g.row.FLLEN (checked c.self.inside.heap c.self.inside.pool) c.args.range within is ∙ ap if_appended (sym step.answer) ∙ some_appended n c.if-taken-eq0.false));
+  step = rw (← c.self.view_is) c.append_free_block_ptr-taken.ensures.step;
+  pool = rw (← c.self.view_is) refl;
+  same = search rules;
+  refused = search rules;
+  aligns = rw (← c.self.view_is) c.append_free_block_ptr-taken.ensures.aligns;
+  bytes = rw (← c.self.view_is) c.append_free_block_ptr-taken.ensures.bytes;
+  place = rw (← c.self.view_is) c.append_free_block_ptr-taken.ensures.place;
+  touches = rw (← c.self.view_is) c.append_free_block_ptr-taken.ensures.touches;
+  grow = search rules;
+  copied = rw (← c.self.view_is) c.append_free_block_ptr-taken.ensures.copied;
+}

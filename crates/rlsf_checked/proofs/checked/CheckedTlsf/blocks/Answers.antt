@@ -1,5 +1,8 @@
 use Rattle.std.proofs.Common.{rules}
 use Rattle.rlsf_checked.proofs.checked.CheckedTlsf.blocks.Goals as goal
 
-pub returns-clause-blocks : goal.returns-clause-blocks
-returns-clause-blocks g c = search rules
+pub returns : goal.returns
+returns g c = record {
+  blocks = search rules;
+  runs = search rules;
+}

@@ -1,4 +1,4 @@
-use Rattle.std.proofs.Common.{◌≡◌, Some, refl, sym, ◌∙◌, ap, subst}
+use Rattle.std.proofs.Common.{rules, ◌≡◌, Some, refl, sym, ◌∙◌, ap, subst}
 use Rattle.rlsf_base.specs.Addr.{at}
 use Rattle.rlsf_machine.specs.Callers.{align_at}
 use Rattle.rlsf_checked.specs.Answers.{if_live}
@@ -20,29 +20,32 @@ invariant_of-self g c =
     let here : mark_at marks addr ≡ mark_of (align_at heap.state addr) = subst (λ a. mark_at marks a ≡ 0) c.get.ensures.value c.set.ensures.here ∙ sym (ap mark_of did.gone) in
     marked_at c.self.invariant heap marks addr (stands_after _ _ _ _ _ did.step) did.place did.chunks c.set.ensures.places here (λ a apart. c.set.ensures.others a (λ same. apart (same ∙ c.get.ensures.value))) did.aligns
 
-pub returns-in-Some-clause-aligns : goal.returns-in-Some-clause-aligns
-returns-in-Some-clause-aligns g c = rw (← c.self.view_is) c.deallocate.ensures.aligns
+pub returns-in-Some : goal.returns-in-Some
+returns-in-Some g c = record {
+  answer = search rules;
+  step = rw (← c.self.view_is) c.deallocate.ensures.step;
+  gone = c.deallocate.ensures.gone;
+  aligns = rw (← c.self.view_is) c.deallocate.ensures.aligns;
+  bytes = rw (← c.self.view_is) c.deallocate.ensures.bytes;
+  same = search rules;
+  pool = search rules;
+  place = rw (← c.self.view_is) c.deallocate.ensures.place;
+  touches = rw (← c.self.view_is) c.deallocate.ensures.touches;
+  grow = search rules;
+  copied = rw (← c.self.view_is) c.deallocate.ensures.copied;
+}
 
-pub returns-in-Some-clause-step : goal.returns-in-Some-clause-step
-returns-in-Some-clause-step g c = rw (← c.self.view_is) c.deallocate.ensures.step
-
-pub returns-in-Some-clause-bytes : goal.returns-in-Some-clause-bytes
-returns-in-Some-clause-bytes g c = rw (← c.self.view_is) c.deallocate.ensures.bytes
-
-pub returns-in-Some-clause-place : goal.returns-in-Some-clause-place
-returns-in-Some-clause-place g c = rw (← c.self.view_is) c.deallocate.ensures.place
-
-pub returns-in-Some-clause-touches : goal.returns-in-Some-clause-touches
-returns-in-Some-clause-touches g c = rw (← c.self.view_is) c.deallocate.ensures.touches
-
-pub returns-in-Some-clause-copied : goal.returns-in-Some-clause-copied
-returns-in-Some-clause-copied g c = rw (← c.self.view_is) c.deallocate.ensures.copied
-
-pub returns-in-Some-clause-gone : goal.returns-in-Some-clause-gone
-returns-in-Some-clause-gone g c = c.deallocate.ensures.gone
-
-pub returns-in-None-clause-answer : goal.returns-in-None-clause-answer
-returns-in-None-clause-answer g c = ap (λ o. if_live o tt) c.in-None.ensures.value
-
-pub returns-in-None-clause-step : goal.returns-in-None-clause-step
-returns-in-None-clause-step g c = tt
+pub returns-in-None : goal.returns-in-None
+returns-in-None g c = record {
+  answer = ap (λ o. if_live o tt) c.in-None.ensures.value;
+  step = tt;
+  gone = search rules;
+  aligns = search rules;
+  bytes = search rules;
+  same = search rules;
+  pool = search rules;
+  place = search rules;
+  touches = search rules;
+  grow = search rules;
+  copied = search rules;
+}

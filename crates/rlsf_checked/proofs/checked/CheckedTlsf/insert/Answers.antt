@@ -28,16 +28,6 @@ invariant_of-self g c =
     let same : heap.state ≡ c.self.inside.heap.state = none_taken g.row.FLLEN c.self.inside.heap.state heap.state c.args.range (step_of _ _ _ _ _ did.step) in
     unchanged c.self.invariant heap (stands_after _ _ _ _ _ did.step) did.place (ap (λ (s : State). s.chunks) same) did.aligns
 
-pub returns-in_default-clause-answer : goal.returns-in_default-clause-answer
-returns-in_default-clause-answer g c = rw (← c.self.view_is) (
-    let within : true ≡ is_within (range_of c.self.inside.heap.memory) c.args.range = sym c.if-not-lies_in.false ∙ c.lies_in.ensures ∙ ap (λ m. is_within (range_of m) c.args.range) c.memory_ref.ensures.memory in
-    let behind : end_of c.self.inside.pool ≤ c.args.range.start = omega (arith, c.if-range-self.false) in
-    let step : Inserts g.row.FLLEN c.self.inside.heap.state c.args.range None c.insert_free_block_ptr.new.self.state = step_of _ _ _ _ _ c.in_default.ensures.step in
-    sym (behind_answer g.row.FLLEN (checked c.self.inside.heap c.self.inside.pool) c.args.range within behind ∙ ap if_taken (sym step.answer)))
-
-pub returns-in_default-clause-same : goal.returns-in_default-clause-same
-returns-in_default-clause-same g c = rw (← c.self.view_is) (none_taken g.row.FLLEN c.self.inside.heap.state c.insert_free_block_ptr.new.self.state c.args.range (step_of _ _ _ _ _ c.in_default.ensures.step), refl)
-
 pub invariant_of-self-2 : goal.invariant_of-self-2
 invariant_of-self-2 g c =
     let did = c.in-Some.ensures in
@@ -48,56 +38,75 @@ invariant_of-self-2 g c =
     subst (λ n. IsChecked g.row.FLLEN g.row.SLLEN heap c.self.inside.marks (range_at c.args.range.start n)) (sym c.get.ensures.value)
     (handed_in c.self.invariant c.args.range behind (within_is (range_of c.self.inside.heap.memory) c.args.range within) heap (stands_after _ _ _ _ _ did.step) did.place did.aligns (at c.in-Some.taken) step)
 
-pub returns-clause-answer : goal.returns-clause-answer
-returns-clause-answer g c = rw (← c.self.view_is) (
-    let within : true ≡ is_within (range_of c.self.inside.heap.memory) c.args.range = sym c.if-not-lies_in.false ∙ c.lies_in.ensures ∙ ap (λ m. is_within (range_of m) c.args.range) c.memory_ref.ensures.memory in
-    let behind : end_of c.self.inside.pool ≤ c.args.range.start = omega (arith, c.if-range-self.false) in
-    let step : Inserts g.row.FLLEN c.self.inside.heap.state c.args.range (Some (at c.in-Some.taken)) c.insert_free_block_ptr.new.self.state = step_of _ _ _ _ _ c.in-Some.ensures.step in
-    ap Ok c.get-2.ensures.value ∙ sym (behind_answer g.row.FLLEN (checked c.self.inside.heap c.self.inside.pool) c.args.range within behind ∙ ap if_taken (sym step.answer)))
+pub returns-then-not-lies_in : goal.returns-then-not-lies_in
+returns-then-not-lies_in g c = record {
+  answer = rw (← c.self.view_is) (
+      let outside : false ≡ is_within (range_of c.self.inside.heap.memory) c.args.range = sym c.if-not-lies_in.true ∙ c.lies_in.ensures ∙ ap (λ m. is_within (range_of m) c.args.range) c.memory_ref.ensures.memory in
+      sym (outside_answer g.row.FLLEN (checked c.self.inside.heap c.self.inside.pool) c.args.range outside));
+  step = search rules;
+  pool = search rules;
+  same = search rules;
+  refused = search rules;
+  aligns = search rules;
+  bytes = search rules;
+  place = search rules;
+  touches = search rules;
+  grow = search rules;
+  copied = search rules;
+}
 
-pub returns-then-not-lies_in-clause-answer : goal.returns-then-not-lies_in-clause-answer
-returns-then-not-lies_in-clause-answer g c = rw (← c.self.view_is) (
-    let outside : false ≡ is_within (range_of c.self.inside.heap.memory) c.args.range = sym c.if-not-lies_in.true ∙ c.lies_in.ensures ∙ ap (λ m. is_within (range_of m) c.args.range) c.memory_ref.ensures.memory in
-    sym (outside_answer g.row.FLLEN (checked c.self.inside.heap c.self.inside.pool) c.args.range outside))
+pub returns-then-range-self : goal.returns-then-range-self
+returns-then-range-self g c = record {
+  answer = rw (← c.self.view_is) (
+      let within : true ≡ is_within (range_of c.self.inside.heap.memory) c.args.range = sym c.if-not-lies_in.false ∙ c.lies_in.ensures ∙ ap (λ m. is_within (range_of m) c.args.range) c.memory_ref.ensures.memory in
+      sym (before_answer g.row.FLLEN (checked c.self.inside.heap c.self.inside.pool) c.args.range within c.if-range-self.true));
+  step = search rules;
+  pool = search rules;
+  same = search rules;
+  refused = search rules;
+  aligns = search rules;
+  bytes = search rules;
+  place = search rules;
+  touches = search rules;
+  grow = search rules;
+  copied = search rules;
+}
 
-pub returns-then-range-self-clause-answer : goal.returns-then-range-self-clause-answer
-returns-then-range-self-clause-answer g c = rw (← c.self.view_is) (
-    let within : true ≡ is_within (range_of c.self.inside.heap.memory) c.args.range = sym c.if-not-lies_in.false ∙ c.lies_in.ensures ∙ ap (λ m. is_within (range_of m) c.args.range) c.memory_ref.ensures.memory in
-    sym (before_answer g.row.FLLEN (checked c.self.inside.heap c.self.inside.pool) c.args.range within c.if-range-self.true))
+pub returns-in_default : goal.returns-in_default
+returns-in_default g c = record {
+  answer = rw (← c.self.view_is) (
+      let within : true ≡ is_within (range_of c.self.inside.heap.memory) c.args.range = sym c.if-not-lies_in.false ∙ c.lies_in.ensures ∙ ap (λ m. is_within (range_of m) c.args.range) c.memory_ref.ensures.memory in
+      let behind : end_of c.self.inside.pool ≤ c.args.range.start = omega (arith, c.if-range-self.false) in
+      let step : Inserts g.row.FLLEN c.self.inside.heap.state c.args.range None c.insert_free_block_ptr.new.self.state = step_of _ _ _ _ _ c.in_default.ensures.step in
+      sym (behind_answer g.row.FLLEN (checked c.self.inside.heap c.self.inside.pool) c.args.range within behind ∙ ap if_taken (sym step.answer)));
+  step = search rules;
+  pool = search rules;
+  same = rw (← c.self.view_is) (none_taken g.row.FLLEN c.self.inside.heap.state c.insert_free_block_ptr.new.self.state c.args.range (step_of _ _ _ _ _ c.in_default.ensures.step), refl);
+  refused = rw (← c.self.view_is) c.in_default.ensures.refused;
+  aligns = rw (← c.self.view_is) c.in_default.ensures.aligns;
+  bytes = rw (← c.self.view_is) c.in_default.ensures.bytes;
+  place = rw (← c.self.view_is) c.in_default.ensures.place;
+  touches = rw (← c.self.view_is) c.in_default.ensures.touches;
+  grow = search rules;
+  copied = rw (← c.self.view_is) c.in_default.ensures.copied;
+}
 
-pub returns-in_default-clause-refused : goal.returns-in_default-clause-refused
-returns-in_default-clause-refused g c = rw (← c.self.view_is) c.in_default.ensures.refused
-
-pub returns-in_default-clause-aligns : goal.returns-in_default-clause-aligns
-returns-in_default-clause-aligns g c = rw (← c.self.view_is) c.in_default.ensures.aligns
-
-pub returns-in_default-clause-bytes : goal.returns-in_default-clause-bytes
-returns-in_default-clause-bytes g c = rw (← c.self.view_is) c.in_default.ensures.bytes
-
-pub returns-in_default-clause-place : goal.returns-in_default-clause-place
-returns-in_default-clause-place g c = rw (← c.self.view_is) c.in_default.ensures.place
-
-pub returns-in_default-clause-touches : goal.returns-in_default-clause-touches
-returns-in_default-clause-touches g c = rw (← c.self.view_is) c.in_default.ensures.touches
-
-pub returns-in_default-clause-copied : goal.returns-in_default-clause-copied
-returns-in_default-clause-copied g c = rw (← c.self.view_is) c.in_default.ensures.copied
-
-pub returns-clause-step : goal.returns-clause-step
-returns-clause-step g c = subst (λ n. Steps g.row.FLLEN g.row.SLLEN c.args.self.now.heap c.insert_free_block_ptr.new.self (Inserts g.row.FLLEN c.args.self.now.heap.state c.args.range (Some n))) (sym c.get-2.ensures.value)
-    (rw (← c.self.view_is) c.in-Some.ensures.step)
-
-pub returns-clause-aligns : goal.returns-clause-aligns
-returns-clause-aligns g c = rw (← c.self.view_is) c.in-Some.ensures.aligns
-
-pub returns-clause-bytes : goal.returns-clause-bytes
-returns-clause-bytes g c = rw (← c.self.view_is) c.in-Some.ensures.bytes
-
-pub returns-clause-place : goal.returns-clause-place
-returns-clause-place g c = rw (← c.self.view_is) c.in-Some.ensures.place
-
-pub returns-clause-touches : goal.returns-clause-touches
-returns-clause-touches g c = rw (← c.self.view_is) c.in-Some.ensures.touches
-
-pub returns-clause-copied : goal.returns-clause-copied
-returns-clause-copied g c = rw (← c.self.view_is) c.in-Some.ensures.copied
+pub returns : goal.returns
+returns g c = record {
+  answer = rw (← c.self.view_is) (
+      let within : true ≡ is_within (range_of c.self.inside.heap.memory) c.args.range = sym c.if-not-lies_in.false ∙ c.lies_in.ensures ∙ ap (λ m. is_within (range_of m) c.args.range) c.memory_ref.ensures.memory in
+      let behind : end_of c.self.inside.pool ≤ c.args.range.start = omega (arith, c.if-range-self.false) in
+      let step : Inserts g.row.FLLEN c.self.inside.heap.state c.args.range (Some (at c.in-Some.taken)) c.insert_free_block_ptr.new.self.state = step_of _ _ _ _ _ c.in-Some.ensures.step in
+      ap Ok c.get-2.ensures.value ∙ sym (behind_answer g.row.FLLEN (checked c.self.inside.heap c.self.inside.pool) c.args.range within behind ∙ ap if_taken (sym step.answer)));
+  step = subst (λ n. Steps g.row.FLLEN g.row.SLLEN c.args.self.now.heap c.insert_free_block_ptr.new.self (Inserts g.row.FLLEN c.args.self.now.heap.state c.args.range (Some n))) (sym c.get-2.ensures.value)
+      (rw (← c.self.view_is) c.in-Some.ensures.step);
+  pool = search rules;
+  same = search rules;
+  refused = search rules;
+  aligns = rw (← c.self.view_is) c.in-Some.ensures.aligns;
+  bytes = rw (← c.self.view_is) c.in-Some.ensures.bytes;
+  place = rw (← c.self.view_is) c.in-Some.ensures.place;
+  touches = rw (← c.self.view_is) c.in-Some.ensures.touches;
+  grow = search rules;
+  copied = rw (← c.self.view_is) c.in-Some.ensures.copied;
+}

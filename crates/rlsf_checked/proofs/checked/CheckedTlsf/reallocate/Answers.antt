@@ -1,4 +1,4 @@
-use Rattle.std.proofs.Common.{◌≡◌, ◌≤◌, ◌<◌, ◌+◌, length, suc, Some, None, Ok, Err, refl, sym, ◌∙◌, ap, subst}
+use Rattle.std.proofs.Common.{rules, ◌≡◌, ◌≤◌, ◌<◌, ◌+◌, length, suc, Some, None, Ok, Err, refl, sym, ◌∙◌, ap, subst}
 use Rattle.std.proofs.lemmas.Bool.{false≢true}
 use Rattle.std.specs.declared.num.NonZeroUsize.{NonZeroUsize}
 use Rattle.rlsf_base.specs.Addr.{at}
@@ -45,90 +45,105 @@ invariant_of-self-2 g c =
     (λ a apart. c.set.ensures.others a (λ same. apart (same ∙ c.get-left.ensures.value))) cleared (λ a apart. c.set-2.ensures.others a (λ same. apart (same ∙ c.get.ensures.value))) set did.live
     (left_behind g.row.FLLEN g.row.SLLEN c.self.inside.heap c.self.invariant.stands heap.state addr c.in-Some.align layout.size to live step) did.aligns
 
-pub returns-clause-answer : goal.returns-clause-answer
-returns-clause-answer g c =
-    let (size, align) = c.in-Ok.ensures.layout in
-    subst (λ o. IsRefusedBy (size_refusal o c.args.size) (Ok c.in-Some-reallocate.moved)) c.in-Some.ensures.value
-    (subst (λ o. IsRefusedBy o (Ok c.in-Some-reallocate.moved)) (sym (size_fits c.in-Ok.layout c.args.size c.in-Some.align size align)) tt)
+pub returns-in_default : goal.returns-in_default
+returns-in_default g c = record {
+  answer = unknown_is_refused c.args.size _ c.in_default.ensures.value;
+  step = λ fine. absurd (unknown_is_not_fine c.args.size _ c.in_default.ensures.value fine);
+  live = search rules;
+  sized = search rules;
+  few = search rules;
+  kept = search rules;
+  new = search rules;
+  left = search rules;
+  aligns = search rules;
+  bytes = search rules;
+  same = search rules;
+  refused = search rules;
+  pool = search rules;
+  place = search rules;
+  touches = search rules;
+  grow = search rules;
+  copied = search rules;
+  grow_copied = search rules;
+}
 
-pub returns-clause-left : goal.returns-clause-left
-returns-clause-left g c =
-    let did = c.in-Some-reallocate.ensures in
-    let addr = at c.args.addr in
-    let to = at c.in-Some-reallocate.moved in
-    let live : align_at c.self.inside.heap.state addr ≡ Some c.in-Some.align = sym (rw (← c.self.view_is) at c.in-Some.ensures.value) in
-    let step : Reallocates g.row.SLLEN c.self.inside.heap.state addr c.in-Ok.layout.size (Some to) c.reallocate.new.self.state = step_of _ _ _ _ _ did.step in
-    left_behind g.row.FLLEN g.row.SLLEN c.self.inside.heap c.self.invariant.stands c.reallocate.new.self.state addr c.in-Some.align c.in-Ok.layout.size to live step
+pub returns-in_default-from_size_align : goal.returns-in_default-from_size_align
+returns-in_default-from_size_align g c = record {
+  answer = past_is_refused c.args.size c.in-Some.align _ c.in-Some.ensures.value c.in-Some.ensures.power (λ is. false≢true (c.in_default-from_size_align.ensures.succeeds.1 is));
+  step = λ fine.
+      absurd (past_is_not_fine c.args.size c.in-Some.align _ c.in-Some.ensures.value c.in-Some.ensures.power (λ is. false≢true (c.in_default-from_size_align.ensures.succeeds.1 is)) fine);
+  live = search rules;
+  sized = search rules;
+  few = search rules;
+  kept = search rules;
+  new = search rules;
+  left = search rules;
+  aligns = search rules;
+  bytes = search rules;
+  same = search rules;
+  refused = search rules;
+  pool = search rules;
+  place = search rules;
+  touches = search rules;
+  grow = search rules;
+  copied = search rules;
+  grow_copied = search rules;
+}
 
-pub returns-clause-aligns : goal.returns-clause-aligns
-returns-clause-aligns g c = rw (← c.self.view_is) c.in-Some-reallocate.ensures.aligns
+pub returns-in_default-reallocate : goal.returns-in_default-reallocate
+returns-in_default-reallocate g c = record {
+  answer =
+      let (size, align) = c.in-Ok.ensures.layout in
+      subst (λ o. IsRefusedBy {A = NonZeroUsize} (size_refusal o c.args.size) (Err NoRoom)) c.in-Some.ensures.value
+      (subst (λ o. IsRefusedBy {A = NonZeroUsize} o (Err NoRoom)) (sym (size_fits c.in-Ok.layout c.args.size c.in-Some.align size align)) refl);
+  step = λ fits. subst (λ n. Steps g.row.FLLEN g.row.SLLEN c.args.self.now.heap c.reallocate.new.self (Reallocates g.row.SLLEN c.args.self.now.heap.state (at c.args.addr) n None)) c.in-Ok.ensures.layout.0
+      (rw (← c.self.view_is) c.in_default-reallocate.ensures.step);
+  live = search rules;
+  sized = search rules;
+  few = search rules;
+  kept = search rules;
+  new = search rules;
+  left = search rules;
+  aligns = search rules;
+  bytes = search rules;
+  same = rw (← c.self.view_is) c.in_default-reallocate.ensures.same;
+  refused = rw (← c.self.view_is) c.in_default-reallocate.ensures.refused;
+  pool = search rules;
+  place = rw (← c.self.view_is) c.in_default-reallocate.ensures.place;
+  touches = rw (← c.self.view_is) c.in_default-reallocate.ensures.touches;
+  grow = search rules;
+  copied = rw (← c.self.view_is) c.in_default-reallocate.ensures.copied;
+  grow_copied = search rules;
+}
 
-pub returns-clause-bytes : goal.returns-clause-bytes
-returns-clause-bytes g c = rw (← c.self.view_is) c.in-Some-reallocate.ensures.bytes
-
-pub returns-in_default-clause-answer : goal.returns-in_default-clause-answer
-returns-in_default-clause-answer g c = unknown_is_refused c.args.size _ c.in_default.ensures.value
-
-pub returns-in_default-clause-step : goal.returns-in_default-clause-step
-returns-in_default-clause-step g c = λ fine. absurd (unknown_is_not_fine c.args.size _ c.in_default.ensures.value fine)
-
-pub returns-in_default-from_size_align-clause-step : goal.returns-in_default-from_size_align-clause-step
-returns-in_default-from_size_align-clause-step g c = λ fine.
-    absurd (past_is_not_fine c.args.size c.in-Some.align _ c.in-Some.ensures.value c.in-Some.ensures.power (λ is. false≢true (c.in_default-from_size_align.ensures.succeeds.1 is)) fine)
-
-pub returns-in_default-from_size_align-clause-answer : goal.returns-in_default-from_size_align-clause-answer
-returns-in_default-from_size_align-clause-answer g c =
-    past_is_refused c.args.size c.in-Some.align _ c.in-Some.ensures.value c.in-Some.ensures.power (λ is. false≢true (c.in_default-from_size_align.ensures.succeeds.1 is))
-
-pub returns-in_default-reallocate-clause-answer : goal.returns-in_default-reallocate-clause-answer
-returns-in_default-reallocate-clause-answer g c =
-    let (size, align) = c.in-Ok.ensures.layout in
-    subst (λ o. IsRefusedBy {A = NonZeroUsize} (size_refusal o c.args.size) (Err NoRoom)) c.in-Some.ensures.value
-    (subst (λ o. IsRefusedBy {A = NonZeroUsize} o (Err NoRoom)) (sym (size_fits c.in-Ok.layout c.args.size c.in-Some.align size align)) refl)
-
-pub returns-in_default-reallocate-clause-step : goal.returns-in_default-reallocate-clause-step
-returns-in_default-reallocate-clause-step g c = λ fits. subst (λ n. Steps g.row.FLLEN g.row.SLLEN c.args.self.now.heap c.reallocate.new.self (Reallocates g.row.SLLEN c.args.self.now.heap.state (at c.args.addr) n None)) c.in-Ok.ensures.layout.0
-    (rw (← c.self.view_is) c.in_default-reallocate.ensures.step)
-
-pub returns-in_default-reallocate-clause-same : goal.returns-in_default-reallocate-clause-same
-returns-in_default-reallocate-clause-same g c = rw (← c.self.view_is) c.in_default-reallocate.ensures.same
-
-pub returns-in_default-reallocate-clause-refused : goal.returns-in_default-reallocate-clause-refused
-returns-in_default-reallocate-clause-refused g c = rw (← c.self.view_is) c.in_default-reallocate.ensures.refused
-
-pub returns-in_default-reallocate-clause-place : goal.returns-in_default-reallocate-clause-place
-returns-in_default-reallocate-clause-place g c = rw (← c.self.view_is) c.in_default-reallocate.ensures.place
-
-pub returns-in_default-reallocate-clause-touches : goal.returns-in_default-reallocate-clause-touches
-returns-in_default-reallocate-clause-touches g c = rw (← c.self.view_is) c.in_default-reallocate.ensures.touches
-
-pub returns-in_default-reallocate-clause-copied : goal.returns-in_default-reallocate-clause-copied
-returns-in_default-reallocate-clause-copied g c = rw (← c.self.view_is) c.in_default-reallocate.ensures.copied
-
-pub returns-clause-step : goal.returns-clause-step
-returns-clause-step g c = λ fits. subst (λ n. Steps g.row.FLLEN g.row.SLLEN c.args.self.now.heap c.reallocate.new.self (Reallocates g.row.SLLEN c.args.self.now.heap.state (at c.args.addr) n (Some (at c.in-Some-reallocate.moved)))) c.in-Ok.ensures.layout.0
-    (rw (← c.self.view_is) c.in-Some-reallocate.ensures.step)
-
-pub returns-clause-sized : goal.returns-clause-sized
-returns-clause-sized g c = subst (λ n. n ≤ length (bytes_at c.reallocate.new.self.state (at c.in-Some-reallocate.moved))) c.in-Ok.ensures.layout.0 c.in-Some-reallocate.ensures.sized
-
-pub returns-clause-few : goal.returns-clause-few
-returns-clause-few g c = subst (λ n. length (bytes_at c.reallocate.new.self.state (at c.in-Some-reallocate.moved)) < n + 32) c.in-Ok.ensures.layout.0 c.in-Some-reallocate.ensures.few
-
-pub returns-clause-kept : goal.returns-clause-kept
-returns-clause-kept g c = rw (← c.self.view_is) c.in-Some-reallocate.ensures.kept
-
-pub returns-clause-live : goal.returns-clause-live
-returns-clause-live g c = c.in-Some-reallocate.ensures.live ∙ ap Some c.in-Ok.ensures.layout.1 ∙ c.in-Some.ensures.value
-
-pub returns-clause-new : goal.returns-clause-new
-returns-clause-new g c = rw (← c.self.view_is) c.in-Some-reallocate.ensures.new
-
-pub returns-clause-place : goal.returns-clause-place
-returns-clause-place g c = rw (← c.self.view_is) c.in-Some-reallocate.ensures.place
-
-pub returns-clause-touches : goal.returns-clause-touches
-returns-clause-touches g c = rw (← c.self.view_is) c.in-Some-reallocate.ensures.touches
-
-pub returns-clause-copied : goal.returns-clause-copied
-returns-clause-copied g c = rw (← c.self.view_is) c.in-Some-reallocate.ensures.copied
+pub returns : goal.returns
+returns g c = record {
+  answer =
+      let (size, align) = c.in-Ok.ensures.layout in
+      subst (λ o. IsRefusedBy (size_refusal o c.args.size) (Ok c.in-Some-reallocate.moved)) c.in-Some.ensures.value
+      (subst (λ o. IsRefusedBy o (Ok c.in-Some-reallocate.moved)) (sym (size_fits c.in-Ok.layout c.args.size c.in-Some.align size align)) tt);
+  step = λ fits. subst (λ n. Steps g.row.FLLEN g.row.SLLEN c.args.self.now.heap c.reallocate.new.self (Reallocates g.row.SLLEN c.args.self.now.heap.state (at c.args.addr) n (Some (at c.in-Some-reallocate.moved)))) c.in-Ok.ensures.layout.0
+      (rw (← c.self.view_is) c.in-Some-reallocate.ensures.step);
+  live = c.in-Some-reallocate.ensures.live ∙ ap Some c.in-Ok.ensures.layout.1 ∙ c.in-Some.ensures.value;
+  sized = subst (λ n. n ≤ length (bytes_at c.reallocate.new.self.state (at c.in-Some-reallocate.moved))) c.in-Ok.ensures.layout.0 c.in-Some-reallocate.ensures.sized;
+  few = subst (λ n. length (bytes_at c.reallocate.new.self.state (at c.in-Some-reallocate.moved)) < n + 32) c.in-Ok.ensures.layout.0 c.in-Some-reallocate.ensures.few;
+  kept = rw (← c.self.view_is) c.in-Some-reallocate.ensures.kept;
+  new = rw (← c.self.view_is) c.in-Some-reallocate.ensures.new;
+  left =
+      let did = c.in-Some-reallocate.ensures in
+      let addr = at c.args.addr in
+      let to = at c.in-Some-reallocate.moved in
+      let live : align_at c.self.inside.heap.state addr ≡ Some c.in-Some.align = sym (rw (← c.self.view_is) at c.in-Some.ensures.value) in
+      let step : Reallocates g.row.SLLEN c.self.inside.heap.state addr c.in-Ok.layout.size (Some to) c.reallocate.new.self.state = step_of _ _ _ _ _ did.step in
+      left_behind g.row.FLLEN g.row.SLLEN c.self.inside.heap c.self.invariant.stands c.reallocate.new.self.state addr c.in-Some.align c.in-Ok.layout.size to live step;
+  aligns = rw (← c.self.view_is) c.in-Some-reallocate.ensures.aligns;
+  bytes = rw (← c.self.view_is) c.in-Some-reallocate.ensures.bytes;
+  same = search rules;
+  refused = search rules;
+  pool = search rules;
+  place = rw (← c.self.view_is) c.in-Some-reallocate.ensures.place;
+  touches = rw (← c.self.view_is) c.in-Some-reallocate.ensures.touches;
+  grow = search rules;
+  copied = rw (← c.self.view_is) c.in-Some-reallocate.ensures.copied;
+  grow_copied = search rules;
+}

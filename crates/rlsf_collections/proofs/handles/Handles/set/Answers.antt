@@ -1,4 +1,4 @@
-use Rattle.std.proofs.Common.{◌≡◌, ◌<◌, None, nat_eq, sym, ap, subst, ◌∙◌}
+use Rattle.std.proofs.Common.{rules, ◌≡◌, ◌<◌, None, nat_eq, sym, ap, subst, ◌∙◌}
 use Rattle.std.specs.Map.{lookup, set_value}
 use Rattle.rlsf_collections.specs.Handled.{AreBelow}
 use Rattle.rlsf_collections.proofs.Entries.{AllByRecursion-set_value, is_at-nat_cmp, set_value-absent}
@@ -19,5 +19,8 @@ invariant_of-self c =
     let below : AreBelow c.match-get_mut.self-inside.rows.entries c.match-get_mut.self-inside.next = rw (changed c, same_next c) (AllByRecursion-set_value (λ e. e.0 < c.self.inside.next) _ _ _ (λ _ _ below. below) c.self.invariant) in
     below
 
-pub returns-clause-rows : goal.returns-clause-rows
-returns-clause-rows c = rw (← c.self.view_is) (changed c)
+pub returns : goal.returns
+returns c = record {
+  rows = rw (← c.self.view_is) (changed c);
+  next = search rules;
+}

@@ -1,4 +1,4 @@
-use Rattle.std.proofs.Common.{◌+◌, ◌∷◌, ◌++◌, [], length, refl, sym, ap, subst, ◌∙◌}
+use Rattle.std.proofs.Common.{rules, ◌+◌, ◌∷◌, ◌++◌, [], length, refl, sym, ap, subst, ◌∙◌}
 use Rattle.std.proofs.lemmas.Bool.{false≢true}
 use Rattle.std.specs.Int.NonZero.{non_zero_usize_get}
 use Rattle.rlsf_collections.specs.Handled.{lists_in, places_in}
@@ -8,22 +8,23 @@ use Rattle.rlsf_collections.proofs.HandledStores.{HasBudgetFor-handled, OnErr-al
 use Rattle.rlsf_collections.proofs.Places.{HasSame-given_back}
 use Rattle.rlsf_collections.proofs.items.Items.add.Goals as goal
 
-pub returns-in_default-clause-room : goal.returns-in_default-clause-room
-returns-in_default-clause-room c = λ none fits _.
-    let empty = none_stored c.self.inside.store c.self.inside.align c.self.inside.handles.rows c.self.invariant (ap (λ h. h.lists) c.self.view_is ∙ none) in
-    absurd (false≢true (c.in_default.ensures.room empty (subst (λ h. FitsPool h.memory (length c.args.bytes.now) 1) (sym c.self.view_is) fits)))
-
-pub returns-in_default-clause-enough : goal.returns-in_default-clause-enough
-returns-in_default-clause-enough c = λ live size budget short _.
-    let i = c.self.inside in
-    let here = HasBudgetFor-handled i.store i.align i.handles live size c.self.invariant (subst (λ h. HasBudgetOf h live size) (sym c.self.view_is) budget) in
-    let one = ap (λ h. h.align) c.self.view_is ∙ c.requires in
-    absurd (false≢true (c.in_default.ensures.enough _ live size (subst (λ n. HasBudgetFor i.store (places_in i.align i.handles.rows) live size n) one here) short))
-
-pub returns-in_default-clause-refused : goal.returns-in_default-clause-refused
-returns-in_default-clause-refused c =
-    let kept = same_items c.self.inside.handles c.self.invariant c.add.new.self c.self.inside.handles c.add.ensures.place (c.in_default.ensures.refused _ c.self.invariant) refl refl in
-    rw (← c.self.view_is) kept.1
+pub returns-in_default : goal.returns-in_default
+returns-in_default c = record {
+  added = search rules;
+  new = search rules;
+  known = search rules;
+  room = λ none fits _.
+      let empty = none_stored c.self.inside.store c.self.inside.align c.self.inside.handles.rows c.self.invariant (ap (λ h. h.lists) c.self.view_is ∙ none) in
+      absurd (false≢true (c.in_default.ensures.room empty (subst (λ h. FitsPool h.memory (length c.args.bytes.now) 1) (sym c.self.view_is) fits)));
+  enough = λ live size budget short _.
+      let i = c.self.inside in
+      let here = HasBudgetFor-handled i.store i.align i.handles live size c.self.invariant (subst (λ h. HasBudgetOf h live size) (sym c.self.view_is) budget) in
+      let one = ap (λ h. h.align) c.self.view_is ∙ c.requires in
+      absurd (false≢true (c.in_default.ensures.enough _ live size (subst (λ n. HasBudgetFor i.store (places_in i.align i.handles.rows) live size n) one here) short));
+  refused =
+      let kept = same_items c.self.inside.handles c.self.invariant c.add.new.self c.self.inside.handles c.add.ensures.place (c.in_default.ensures.refused _ c.self.invariant) refl refl in
+      rw (← c.self.view_is) kept.1;
+}
 
 pub invariant_of-self : goal.invariant_of-self
 invariant_of-self c = (c.in_default.ensures.refused _ c.self.invariant).0
@@ -42,8 +43,15 @@ kept c =
 pub invariant_of-self-in_err-handle : goal.invariant_of-self-in_err-handle
 invariant_of-self-in_err-handle c = (kept c).0
 
-pub returns-in_err-handle-clause-refused : goal.returns-in_err-handle-clause-refused
-returns-in_err-handle-clause-refused c = rw (← c.self.view_is) (OnErr-always c.from_residual.result (kept c).1)
+pub returns-in_err-handle : goal.returns-in_err-handle
+returns-in_err-handle c = record {
+  added = search rules;
+  new = search rules;
+  known = search rules;
+  room = search rules;
+  enough = search rules;
+  refused = rw (← c.self.view_is) (OnErr-always c.from_residual.result (kept c).1);
+}
 
 -- the store with one more
 more : (c : goal.In_ok-handle) → Shows c.self.inside.store c.self.inside.align (lists_in c.self.inside.store c.self.inside.align c.self.inside.handles.rows ++ (c.in_ok-handle.handle, c.args.bytes.now) ∷ []) (c.in_ok-handle.handle + 1) c.keep.new.store c.keep.new.handles
@@ -60,8 +68,12 @@ more c =
 pub invariant_of-self-2 : goal.invariant_of-self-2
 invariant_of-self-2 c = (more c).0
 
-pub returns-clause-added : goal.returns-clause-added
-returns-clause-added c = rw (← c.self.view_is) (c.in_ok-handle.ensures.kept.1, (more c).1)
-
-pub returns-clause-new : goal.returns-clause-new
-returns-clause-new c = rw (← c.self.view_is) (absent c.self.inside.store c.self.inside.align c.self.inside.handles.rows c.in_ok-handle.handle c.in_ok-handle.ensures.new)
+pub returns : goal.returns
+returns c = record {
+  added = rw (← c.self.view_is) (c.in_ok-handle.ensures.kept.1, (more c).1);
+  new = rw (← c.self.view_is) (absent c.self.inside.store c.self.inside.align c.self.inside.handles.rows c.in_ok-handle.handle c.in_ok-handle.ensures.new);
+  known = search rules;
+  room = search rules;
+  enough = search rules;
+  refused = search rules;
+}

@@ -1,4 +1,4 @@
-use Rattle.std.proofs.Common.{◌≡◌, ◌+◌, ◌<◌, ◌≤◌, ℕ, List, length, Some, Ok, Err, nat_eq, arith, refl, sym, ap, ◌∙◌}
+use Rattle.std.proofs.Common.{rules, ◌≡◌, ◌+◌, ◌<◌, ◌≤◌, ℕ, List, length, Some, Ok, Err, nat_eq, arith, refl, sym, ap, ◌∙◌}
 use Rattle.std.proofs.lemmas.Bool.Decides.{nat_tests}
 use Rattle.std.proofs.lemmas.Map.Steps.{set_value_same}
 use Rattle.std.specs.List.{splice}
@@ -17,19 +17,29 @@ set_answer-out old end past = grind (arith, nat_tests)
 set_answer-in : (old : List ℕ) (end : ℕ) → end ≤ length old → set_answer (Some old) end ≡ Ok tt
 set_answer-in old end within = grind (arith, nat_tests)
 
-pub returns-in_default-clause-answer : goal.returns-in_default-clause-answer
-returns-in_default-clause-answer c =
-    let none = absent c.self.inside.store c.self.inside.align c.self.inside.handles.rows c.args.handle (sym c.get.ensures ∙ c.in_default.is) in
-    rw (← c.self.view_is) (ap (λ o. set_answer o (c.args.offset + length c.args.bytes.now)) (sym none))
+pub returns-in_default : goal.returns-in_default
+returns-in_default c = record {
+  answer =
+      let none = absent c.self.inside.store c.self.inside.align c.self.inside.handles.rows c.args.handle (sym c.get.ensures ∙ c.in_default.is) in
+      rw (← c.self.view_is) (ap (λ o. set_answer o (c.args.offset + length c.args.bytes.now)) (sym none));
+  written = search rules;
+  uniform = search rules;
+  refused = search rules;
+}
 
-pub returns-then-offset-spot-clause-answer : goal.returns-then-offset-spot-clause-answer
-returns-then-offset-spot-clause-answer c =
-    let a = stored_at c.self.inside.handles c.self.invariant c.args.handle c.in-Some.spot (sym c.get.ensures ∙ c.in-Some.is) in
-    let past : length (bytes_at_place c.self.inside.store.heap.memory (place_at c.self.inside.align c.in-Some.spot)) < c.args.offset + length c.args.bytes.now = elim c.then-offset-spot.branch [
-      | then-offset-spot-via-then-offset-spot w ↦ omega (arith, a.len)
-      | then-offset-spot-via-else-offset-spot+then-bytes-spot w ↦ omega (arith, a.len)
-    ] in
-    rw (← c.self.view_is) (sym (set_answer-out _ (c.args.offset + length c.args.bytes.now) past) ∙ ap (λ o. set_answer o (c.args.offset + length c.args.bytes.now)) (sym a.bytes))
+pub returns-then-offset-spot : goal.returns-then-offset-spot
+returns-then-offset-spot c = record {
+  answer =
+      let a = stored_at c.self.inside.handles c.self.invariant c.args.handle c.in-Some.spot (sym c.get.ensures ∙ c.in-Some.is) in
+      let past : length (bytes_at_place c.self.inside.store.heap.memory (place_at c.self.inside.align c.in-Some.spot)) < c.args.offset + length c.args.bytes.now = elim c.then-offset-spot.branch [
+        | then-offset-spot-via-then-offset-spot w ↦ omega (arith, a.len)
+        | then-offset-spot-via-else-offset-spot+then-bytes-spot w ↦ omega (arith, a.len)
+      ] in
+      rw (← c.self.view_is) (sym (set_answer-out _ (c.args.offset + length c.args.bytes.now) past) ∙ ap (λ o. set_answer o (c.args.offset + length c.args.bytes.now)) (sym a.bytes));
+  written = search rules;
+  uniform = search rules;
+  refused = search rules;
+}
 
 pub write-requires : goal.write-requires
 write-requires c =
@@ -52,13 +62,12 @@ written c =
 pub invariant_of-self : goal.invariant_of-self
 invariant_of-self c = (written c).0
 
-pub returns-clause-answer : goal.returns-clause-answer
-returns-clause-answer c =
-    let a = found c in
-    rw (← c.self.view_is) (sym (set_answer-in _ (c.args.offset + length c.args.bytes.now) (omega (arith, a.len))) ∙ ap (λ o. set_answer o (c.args.offset + length c.args.bytes.now)) (sym a.bytes))
-
-pub returns-clause-written : goal.returns-clause-written
-returns-clause-written c = rw (← c.self.view_is) (IsSomeAnd-is _ _ _ (found c).bytes (written c).1)
-
-pub returns-clause-uniform : goal.returns-clause-uniform
-returns-clause-uniform c = rw (← c.self.view_is) (λ len. c.write.ensures.uniform _ len c.self.invariant)
+pub returns : goal.returns
+returns c = record {
+  answer =
+      let a = found c in
+      rw (← c.self.view_is) (sym (set_answer-in _ (c.args.offset + length c.args.bytes.now) (omega (arith, a.len))) ∙ ap (λ o. set_answer o (c.args.offset + length c.args.bytes.now)) (sym a.bytes));
+  written = rw (← c.self.view_is) (IsSomeAnd-is _ _ _ (found c).bytes (written c).1);
+  uniform = rw (← c.self.view_is) (λ len. c.write.ensures.uniform _ len c.self.invariant);
+  refused = search rules;
+}

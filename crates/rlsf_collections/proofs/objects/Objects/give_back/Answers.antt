@@ -1,4 +1,4 @@
-use Rattle.std.proofs.Common.{◌≡◌, ◌↔◌, ℕ, nat_eq, None, Result, Ok, Err, IsErr, OnOk, OnErr, refl, ap, ◌∙◌}
+use Rattle.std.proofs.Common.{rules, ◌≡◌, ◌↔◌, ℕ, nat_eq, None, Result, Ok, Err, IsErr, OnOk, OnErr, refl, ap, ◌∙◌}
 use Rattle.std.specs.Map.{lookup, remove_entry}
 use Rattle.rlsf_machine.specs.State.{State}
 use Rattle.rlsf_collections.specs.Handled.{Handled}
@@ -16,18 +16,17 @@ without : {E : Type 0} (r : Result Unit E) (o n : Handled) (size align capacity 
 without (Ok _) o n size align capacity handle s P removed = ap (shown size align capacity) removed.0
 without (Err e) o n size align capacity handle s P removed = tt
 
-pub returns-clause-given_back : goal.returns-clause-given_back
-returns-clause-given_back c =
-    let i = c.self.inside in
-    rw (← c.self.view_is) (without c.remove.result i.items c.remove.new.self i.layout.size i.layout.align i.capacity c.args.handle _ _ c.remove.ensures.removed)
-
 gone : {E : Type 0} (r : Result Unit E) (o n : Handled) (handle : ℕ) (P : Type 0) → OnOk r (P × (lookup (nat_eq handle) n.lists ≡ None)) → IsErr r ↔ (lookup (nat_eq handle) o.lists ≡ None) → OnErr r (n ≡ o)
     → lookup (nat_eq handle) n.lists ≡ None
 gone (Ok _) o n handle P removed unknown refused = removed.1
 gone (Err e) o n handle P removed unknown refused = ap (λ h. lookup (nat_eq handle) h.lists) refused ∙ unknown.0 refl
 
-pub returns-clause-gone : goal.returns-clause-gone
-returns-clause-gone c = gone c.remove.result c.self.inside.items c.remove.new.self c.args.handle _ c.remove.ensures.removed c.remove.ensures.unknown c.remove.ensures.refused
-
-pub returns-clause-unknown : goal.returns-clause-unknown
-returns-clause-unknown c = rw (← c.self.view_is) c.remove.ensures.unknown
+pub returns : goal.returns
+returns c = record {
+  given_back =
+      let i = c.self.inside in
+      rw (← c.self.view_is) (without c.remove.result i.items c.remove.new.self i.layout.size i.layout.align i.capacity c.args.handle _ _ c.remove.ensures.removed);
+  gone = gone c.remove.result c.self.inside.items c.remove.new.self c.args.handle _ c.remove.ensures.removed c.remove.ensures.unknown c.remove.ensures.refused;
+  unknown = rw (← c.self.view_is) c.remove.ensures.unknown;
+  refused = search rules;
+}

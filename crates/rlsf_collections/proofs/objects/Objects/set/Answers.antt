@@ -1,4 +1,4 @@
-use Rattle.std.proofs.Common.{◌≡◌, ◌+◌, ◌≤◌, ℕ, List, length, nat_eq, Option, None, Some, Result, Ok, Err, OnOk, OnErr, IsSomeAnd, arith, refl, sym, ap, subst, ◌∙◌}
+use Rattle.std.proofs.Common.{rules, ◌≡◌, ◌+◌, ◌≤◌, ℕ, List, length, nat_eq, Option, None, Some, Result, Ok, Err, OnOk, OnErr, IsSomeAnd, arith, refl, sym, ap, subst, ◌∙◌}
 use Rattle.std.proofs.lemmas.Bool.Decides.{nat_tests}
 use Rattle.std.specs.List.{splice}
 use Rattle.std.specs.Map.{lookup, set_value}
@@ -36,9 +36,6 @@ invariant_of-self c =
     let i = c.self.inside in
     kept c.write.result i.items c.write.new.self i.layout.size i.layout.align i.capacity _ _ _ c.self.invariant c.write.ensures.answer c.write.ensures.written c.write.ensures.refused c.write.ensures.uniform
 
-pub returns-clause-answer : goal.returns-clause-answer
-returns-clause-answer c = rw (← c.self.view_is) c.write.ensures.answer
-
 written : (r : Result Unit SetError) (o n : Handled) (size align capacity handle offset : ℕ) (bytes : List ℕ) (s : State)
     → OnOk r (IsSomeAnd (lookup (nat_eq handle) o.lists) (λ old. n ≡ record o { lists = set_value (nat_eq handle) o.lists (splice old offset (offset + length bytes) bytes); state = s }))
     → OnOk r (Writes (shown size align capacity o) handle offset bytes (shown size align capacity n))
@@ -50,7 +47,11 @@ written (Ok _) o n size align capacity handle offset bytes s did = seen (lookup 
     seen (Some l) did = ap (shown size align capacity) did
 written (Err e) o n size align capacity handle offset bytes s did = tt
 
-pub returns-clause-written : goal.returns-clause-written
-returns-clause-written c =
-    let i = c.self.inside in
-    rw (← c.self.view_is) (written c.write.result i.items c.write.new.self i.layout.size i.layout.align i.capacity c.args.handle c.args.offset c.args.bytes.now _ c.write.ensures.written)
+pub returns : goal.returns
+returns c = record {
+  answer = rw (← c.self.view_is) c.write.ensures.answer;
+  written =
+      let i = c.self.inside in
+      rw (← c.self.view_is) (written c.write.result i.items c.write.new.self i.layout.size i.layout.align i.capacity c.args.handle c.args.offset c.args.bytes.now _ c.write.ensures.written);
+  refused = search rules;
+}

@@ -1,4 +1,4 @@
-use Rattle.std.proofs.Common.{◌≡◌, List, length, lit<, sym, subst, ap, ◌∙◌}
+use Rattle.std.proofs.Common.{rules, ◌≡◌, List, length, lit<, sym, subst, ap, ◌∙◌}
 use Rattle.std.proofs.lemmas.List.{length-map}
 use Rattle.rlsf_collections.specs.Stored.{KeepsAt, Place, StoreContents, place_of, used_count}
 use Rattle.rlsf_collections.proofs.UsedBlocks.{used_count-stored}
@@ -9,10 +9,11 @@ iter_blocks-requires c =
     let (places, (all, store, at)) = subst (λ (now : StoreContents). (places : List Place) × KeepsAt now places) (sym c.self.view_is) c.requires in
     (lit< tt, store.row)
 
-pub returns-clause-used : goal.returns-clause-used
-returns-clause-used c =
-    subst (λ (now : StoreContents). (places : List Place) → KeepsAt now places → used_count c.iter_blocks.result ≡ length places) c.self.view_is
-    (λ places (all, store, at). used_count-stored store c.iter_blocks.result c.iter_blocks.ensures.blocks ∙ sym (length-map all place_of) ∙ ap length at)
-
-pub returns-clause-order : goal.returns-clause-order
-returns-clause-order c = c.iter_blocks.ensures.blocks.in_order
+pub returns : goal.returns
+returns c = record {
+  used =
+      subst (λ (now : StoreContents). (places : List Place) → KeepsAt now places → used_count c.iter_blocks.result ≡ length places) c.self.view_is
+      (λ places (all, store, at). used_count-stored store c.iter_blocks.result c.iter_blocks.ensures.blocks ∙ sym (length-map all place_of) ∙ ap length at);
+  order = c.iter_blocks.ensures.blocks.in_order;
+  runs = search rules;
+}

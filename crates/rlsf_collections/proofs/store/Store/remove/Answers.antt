@@ -1,4 +1,4 @@
-use Rattle.std.proofs.Common.{◌≡◌, ◌∷◌, ◌++◌, ℕ, List, Some, lit<, ap, sym, subst, ◌∙◌}
+use Rattle.std.proofs.Common.{rules, ◌≡◌, ◌∷◌, ◌++◌, ℕ, List, Some, lit<, ap, sym, subst, ◌∙◌}
 use Rattle.std.specs.Int.NonZero.{non_zero_usize_get}
 use Rattle.rlsf_collections.specs.Stored.{KeepsAt, HasSame, Place, StoreContents, store_contents}
 use Rattle.rlsf_collections.proofs.Places.{HasSame-removed, among}
@@ -13,13 +13,15 @@ deallocate-requires c =
     let a = among before after p has in
     (lit< tt, live_stored a.front a.back a.here (ap (λ q. q.addr) a.here_at ∙ at) a.is ∙ ap Some (ap (λ q. q.align) a.here_at ∙ aligned))
 
-pub returns-clause-removed : goal.returns-clause-removed
-returns-clause-removed c =
-    subst (λ (old : StoreContents). (before after : List Place) (p : Place) → KeepsAt old (before ++ p ∷ after) → p.addr ≡ non_zero_usize_get c.args.addr → p.align ≡ c.args.align
-    → HasSame old (store_contents c.deallocate.new.self c.self.inside.pool) (before ++ after)) c.self.view_is
-    (λ before after p has at aligned. HasSame-removed before after p has at aligned (λ front back k store at _. IsStore-removed front back k at store c.deallocate.new.self c.deallocate.ensures.step c.deallocate.ensures.place))
-
-pub returns-clause-uniform : goal.returns-clause-uniform
-returns-clause-uniform c =
-    subst (λ (old : StoreContents). (len : ℕ) → KeepsUniform old.heap.state c.deallocate.new.self.state len) c.self.view_is
-    (λ len d is. KeepsUniform-released c.self.inside.heap c.deallocate.new.self (non_zero_usize_get c.args.addr) len c.deallocate.ensures.step d is)
+pub returns : goal.returns
+returns c = record {
+  removed =
+      subst (λ (old : StoreContents). (before after : List Place) (p : Place) → KeepsAt old (before ++ p ∷ after) → p.addr ≡ non_zero_usize_get c.args.addr → p.align ≡ c.args.align
+      → HasSame old (store_contents c.deallocate.new.self c.self.inside.pool) (before ++ after)) c.self.view_is
+      (λ before after p has at aligned. HasSame-removed before after p has at aligned (λ front back k store at _. IsStore-removed front back k at store c.deallocate.new.self c.deallocate.ensures.step c.deallocate.ensures.place));
+  uniform =
+      subst (λ (old : StoreContents). (len : ℕ) → KeepsUniform old.heap.state c.deallocate.new.self.state len) c.self.view_is
+      (λ len d is. KeepsUniform-released c.self.inside.heap c.deallocate.new.self (non_zero_usize_get c.args.addr) len c.deallocate.ensures.step d is);
+  place = search rules;
+  touches = search rules;
+}

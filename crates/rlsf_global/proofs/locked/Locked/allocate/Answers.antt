@@ -1,15 +1,23 @@
-use Rattle.std.proofs.Common.{◌≤◌, length, refl, subst, sym}
+use Rattle.std.proofs.Common.{rules, ◌≤◌, length, refl, subst, sym}
 use Rattle.rlsf_base.specs.Addr.{at}
 use Rattle.rlsf_global.specs.Locked.{heap_of}
 use Rattle.rlsf_global.proofs.Layouts.{content_at-bytes, content_at-is, layout_at-none, layout_at-put_here, layout_at-put_other}
 use Rattle.rlsf_global.proofs.Placements.{allocated, allocated_locked, heap_stays, no_row, not_allocated, stays_locked}
 use Rattle.rlsf_global.proofs.locked.Locked.allocate.Goals as goal
 
-pub returns-then-is_err-clause-step : goal.returns-then-is_err-clause-step
-returns-then-is_err-clause-step g c = rw (← c.self.view_is, c.try_reserve.ensures.items) refl
-
-pub returns-in_default-clause-step : goal.returns-in_default-clause-step
-returns-in_default-clause-step g c = rw (← c.self.view_is, c.try_reserve.ensures.items) (not_allocated c.self.inside.flex c.self.inside.rows.items c.self.invariant c.allocate.new.self c.args.layout c.in_default.ensures.step c.in_default.ensures.same)
+pub returns-then-is_err : goal.returns-then-is_err
+returns-then-is_err g c = record {
+  step = rw (← c.self.view_is, c.try_reserve.ensures.items) refl;
+  refused = search rules;
+  live = search rules;
+  sized = search rules;
+  new = search rules;
+  layouts = search rules;
+  contents = search rules;
+  same = search rules;
+  touches = search rules;
+  grow = search rules;
+}
 
 pub invariant_of-self-in_default : goal.invariant_of-self-in_default
 invariant_of-self-in_default g c = rw c.try_reserve.ensures.items (stays_locked c.self.inside.flex c.self.inside.rows.items c.self.invariant c.allocate.new.self c.args.layout c.in_default.ensures.step c.in_default.ensures.same)
@@ -23,44 +31,44 @@ invariant_of-self-2 g c =
     allocated_locked c.self.inside.flex c.self.inside.rows.items c.self.invariant c.allocate.new.self c.args.layout c.in-Some.addr c.in-Some.ensures.step _ rows
     c.in-Some.ensures.new (record { live = c.in-Some.ensures.live; sized = c.in-Some.ensures.sized; few = c.in-Some.ensures.few }) c.in-Some.ensures.aligns c.in-Some.ensures.bytes
 
-pub returns-clause-step : goal.returns-clause-step
-returns-clause-step g c =
-    let rows = rw c.try_reserve.ensures.items at c.place.ensures in
-    rw (← c.self.view_is) (allocated c.self.inside.flex c.self.inside.rows.items c.self.invariant c.allocate.new.self c.args.layout c.in-Some.addr c.in-Some.ensures.step _ rows)
+pub returns-in_default : goal.returns-in_default
+returns-in_default g c = record {
+  step = rw (← c.self.view_is, c.try_reserve.ensures.items) (not_allocated c.self.inside.flex c.self.inside.rows.items c.self.invariant c.allocate.new.self c.args.layout c.in_default.ensures.step c.in_default.ensures.same);
+  refused = search rules;
+  live = search rules;
+  sized = search rules;
+  new = search rules;
+  layouts = search rules;
+  contents = search rules;
+  same = rw (← c.self.view_is, c.try_reserve.ensures.items) (heap_stays c.self.inside.flex c.self.inside.rows.items c.self.invariant c.allocate.new.self c.args.layout c.in_default.ensures.step c.in_default.ensures.same);
+  touches = rw (← c.self.view_is) c.in_default.ensures.touches;
+  grow = search rules;
+}
 
-pub returns-in_default-clause-same : goal.returns-in_default-clause-same
-returns-in_default-clause-same g c = rw (← c.self.view_is, c.try_reserve.ensures.items) (heap_stays c.self.inside.flex c.self.inside.rows.items c.self.invariant c.allocate.new.self c.args.layout c.in_default.ensures.step c.in_default.ensures.same)
-
-pub returns-clause-live : goal.returns-clause-live
-returns-clause-live g c =
-    let rows = rw c.try_reserve.ensures.items at c.place.ensures in
-    let before = heap_of c.self.inside.flex c.self.inside.rows.items in
-    let after = heap_of c.allocate.new.self c.place.new.rows.items in
-    layout_at-put_here before after (c.in-Some.addr, c.args.layout) c.self.inside.rows.items rows
-
-pub returns-clause-sized : goal.returns-clause-sized
-returns-clause-sized g c =
-    subst (λ l. c.args.layout.size ≤ length l) (sym (content_at-is (heap_of c.allocate.new.self c.place.new.rows.items) (at c.in-Some.addr))) c.in-Some.ensures.sized
-
-pub returns-clause-new : goal.returns-clause-new
-returns-clause-new g c = rw (← c.self.view_is)
-    (layout_at-none (heap_of c.self.inside.flex c.self.inside.rows.items) (at c.in-Some.addr) (no_row c.self.inside.flex c.self.inside.rows.items c.self.invariant (at c.in-Some.addr) c.in-Some.ensures.new))
-
-pub returns-clause-layouts : goal.returns-clause-layouts
-returns-clause-layouts g c = rw (← c.self.view_is) (
-    let rows = rw c.try_reserve.ensures.items at c.place.ensures in
-    let before = heap_of c.self.inside.flex c.self.inside.rows.items in
-    let after = heap_of c.allocate.new.self c.place.new.rows.items in
-    layout_at-put_other before after (c.in-Some.addr, c.args.layout) rows)
-
-pub returns-clause-contents : goal.returns-clause-contents
-returns-clause-contents g c = rw (← c.self.view_is) (
-    let before = heap_of c.self.inside.flex c.self.inside.rows.items in
-    let after = heap_of c.allocate.new.self c.place.new.rows.items in
-    λ a off. content_at-bytes before after a a (c.in-Some.ensures.bytes a off))
-
-pub returns-in_default-clause-touches : goal.returns-in_default-clause-touches
-returns-in_default-clause-touches g c = rw (← c.self.view_is) c.in_default.ensures.touches
-
-pub returns-clause-touches : goal.returns-clause-touches
-returns-clause-touches g c = rw (← c.self.view_is) c.in-Some.ensures.touches
+pub returns : goal.returns
+returns g c = record {
+  step =
+      let rows = rw c.try_reserve.ensures.items at c.place.ensures in
+      rw (← c.self.view_is) (allocated c.self.inside.flex c.self.inside.rows.items c.self.invariant c.allocate.new.self c.args.layout c.in-Some.addr c.in-Some.ensures.step _ rows);
+  refused = search rules;
+  live =
+      let rows = rw c.try_reserve.ensures.items at c.place.ensures in
+      let before = heap_of c.self.inside.flex c.self.inside.rows.items in
+      let after = heap_of c.allocate.new.self c.place.new.rows.items in
+      layout_at-put_here before after (c.in-Some.addr, c.args.layout) c.self.inside.rows.items rows;
+  sized = subst (λ l. c.args.layout.size ≤ length l) (sym (content_at-is (heap_of c.allocate.new.self c.place.new.rows.items) (at c.in-Some.addr))) c.in-Some.ensures.sized;
+  new = rw (← c.self.view_is)
+      (layout_at-none (heap_of c.self.inside.flex c.self.inside.rows.items) (at c.in-Some.addr) (no_row c.self.inside.flex c.self.inside.rows.items c.self.invariant (at c.in-Some.addr) c.in-Some.ensures.new));
+  layouts = rw (← c.self.view_is) (
+      let rows = rw c.try_reserve.ensures.items at c.place.ensures in
+      let before = heap_of c.self.inside.flex c.self.inside.rows.items in
+      let after = heap_of c.allocate.new.self c.place.new.rows.items in
+      layout_at-put_other before after (c.in-Some.addr, c.args.layout) rows);
+  contents = rw (← c.self.view_is) (
+      let before = heap_of c.self.inside.flex c.self.inside.rows.items in
+      let after = heap_of c.allocate.new.self c.place.new.rows.items in
+      λ a off. content_at-bytes before after a a (c.in-Some.ensures.bytes a off));
+  same = search rules;
+  touches = rw (← c.self.view_is) c.in-Some.ensures.touches;
+  grow = search rules;
+}

@@ -1,4 +1,4 @@
-use Rattle.std.proofs.Common.{Ok, lit<, length, ap, ◌∙◌, sym, refl}
+use Rattle.std.proofs.Common.{rules, Ok, lit<, length, ap, ◌∙◌, sym, refl}
 use Rattle.rlsf_base.specs.Addr.{at}
 use Rattle.rlsf_global.specs.Locked.{heap_of}
 use Rattle.rlsf_global.proofs.Checks.{usable_in}
@@ -10,8 +10,12 @@ use Rattle.rlsf_global.proofs.locked.Locked.allocation_usable_size.Goals as goal
 pub allocation_usable_size-requires : goal.allocation_usable_size-requires
 allocation_usable_size-requires g c = (lit< tt, live_here c.self.inside.flex c.self.inside.rows.items c.self.invariant (at c.args.addr) _ (rw c.deref.ensures.value at c.in-Ok.ensures.found))
 
-pub returns-in_default-clause-unknown : goal.returns-in_default-clause-unknown
-returns-in_default-clause-unknown g c = rw (← c.self.view_is) (unknown c.self.inside.flex c.self.inside.rows.items (at c.args.addr) _ (rw c.deref.ensures.value at c.in_default.ensures.absent))
+pub returns-in_default : goal.returns-in_default
+returns-in_default g c = record {
+  step = search rules;
+  unknown = rw (← c.self.view_is) (unknown c.self.inside.flex c.self.inside.rows.items (at c.args.addr) _ (rw c.deref.ensures.value at c.in_default.ensures.absent));
+  len = search rules;
+}
 
 pub returns : goal.returns
 returns g c = record {

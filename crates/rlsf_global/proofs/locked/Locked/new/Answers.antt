@@ -9,9 +9,10 @@ pub invariant_of-result : goal.invariant_of-result
 invariant_of-result g c = subst (λ l. IsLocked (locked_contents c.new-2.result l)) (sym c.new-3.ensures.items)
     (record { flex = flex_stood c.new-2.result c.new-2.ensures.stands; sorted = tt; lists = Lists-none c.new-2.result.state c.new-2.ensures.state })
 
-pub returns-clause-stands : goal.returns-clause-stands
-returns-clause-stands g c = locked_stands _ (subst (λ l. IsLocked (locked_contents c.new-2.result l)) (sym c.new-3.ensures.items)
-    (record { flex = flex_stood c.new-2.result c.new-2.ensures.stands; sorted = tt; lists = Lists-none c.new-2.result.state c.new-2.ensures.state }))
-
-pub returns-clause-heap : goal.returns-clause-heap
-returns-clause-heap g c = search rules
+pub returns : goal.returns
+returns g c = record {
+  heap = search rules;
+  memory = search rules;
+  stands = locked_stands _ (subst (λ l. IsLocked (locked_contents c.new-2.result l)) (sym c.new-3.ensures.items)
+      (record { flex = flex_stood c.new-2.result c.new-2.ensures.stands; sorted = tt; lists = Lists-none c.new-2.result.state c.new-2.ensures.state }));
+}

@@ -1,4 +1,4 @@
-use Rattle.std.proofs.Common.{◌+◌, ◌-◌, ◌≡◌, nat_le, length, take, drop, Err, Ok, arith, lit<, ap, ◌∙◌, sym, refl}
+use Rattle.std.proofs.Common.{rules, ◌+◌, ◌-◌, ◌≡◌, nat_le, length, take, drop, Err, Ok, arith, lit<, ap, ◌∙◌, sym, refl}
 use Rattle.rlsf_base.specs.Addr.{at}
 use Rattle.rlsf_global.specs.Locked.{heap_of}
 use Rattle.rlsf_global.proofs.Checks.{reads_in, reads_out}
@@ -11,35 +11,41 @@ use Rattle.rlsf_global.proofs.locked.Locked.read_payload.Goals as goal
 pub payload-payload-requires : goal.payload-payload-requires
 payload-payload-requires g c = (lit< tt, live_here c.self.inside.flex c.self.inside.rows.items c.self.invariant (at c.args.addr) _ (rw c.deref.ensures.value at c.in-Ok.ensures.found))
 
-pub returns-then-not-fits-clause-step : goal.returns-then-not-fits-clause-step
-returns-then-not-fits-clause-step g c = rw (← c.self.view_is) (
-    let h = heap_of c.self.inside.flex c.self.inside.rows.items in
-    let lent = c.args.bytes.now in
-    reads_out h (at c.args.addr) c.args.offset _ (rw c.deref.ensures.value at c.in-Ok.ensures.found) lent (c.if-not-fits.ensures ∙ ap (λ l. nat_le (c.args.offset + length lent) (length l)) c.payload-payload.ensures))
+pub returns-in_default : goal.returns-in_default
+returns-in_default g c = record {
+  step = search rules;
+  unknown = rw (← c.self.view_is) (unknown c.self.inside.flex c.self.inside.rows.items (at c.args.addr) _ (rw c.deref.ensures.value at c.in_default.ensures.absent));
+  told = search rules;
+  refused = search rules;
+}
 
-pub returns-clause-step : goal.returns-clause-step
-returns-clause-step g c = rw (← c.self.view_is) (
-    let h = heap_of c.self.inside.flex c.self.inside.rows.items in
-    let lent = c.args.bytes.now in
-    let offset = c.args.offset in
-    let same = c.payload-payload.ensures in
-    let n : offset + length lent - offset ≡ length lent = omega arith in
-    reads_in h (at c.args.addr) offset _ (rw c.deref.ensures.value at c.in-Ok.ensures.found) lent c.copy_from_slice.new.self (c.if-not-fits.ensures ∙ ap (λ l. nat_le (offset + length lent) (length l)) same)
-    (c.copy_from_slice.ensures.after ∙ ap (λ k. take k (drop offset c.payload-payload.result.now)) n ∙ ap (λ l. take (length lent) (drop offset l)) same))
+pub returns-then-not-fits : goal.returns-then-not-fits
+returns-then-not-fits g c = record {
+  step = rw (← c.self.view_is) (
+      let h = heap_of c.self.inside.flex c.self.inside.rows.items in
+      let lent = c.args.bytes.now in
+      reads_out h (at c.args.addr) c.args.offset _ (rw c.deref.ensures.value at c.in-Ok.ensures.found) lent (c.if-not-fits.ensures ∙ ap (λ l. nat_le (c.args.offset + length lent) (length l)) c.payload-payload.ensures));
+  unknown = rw (← c.self.view_is) (known c.self.inside.flex c.self.inside.rows.items (at c.args.addr) _ (rw c.deref.ensures.value at c.in-Ok.ensures.found) (Err OutOfRange) refl);
+  told = search rules;
+  refused = search rules;
+}
 
-pub returns-in_default-clause-unknown : goal.returns-in_default-clause-unknown
-returns-in_default-clause-unknown g c = rw (← c.self.view_is) (unknown c.self.inside.flex c.self.inside.rows.items (at c.args.addr) _ (rw c.deref.ensures.value at c.in_default.ensures.absent))
-
-pub returns-then-not-fits-clause-unknown : goal.returns-then-not-fits-clause-unknown
-returns-then-not-fits-clause-unknown g c = rw (← c.self.view_is) (known c.self.inside.flex c.self.inside.rows.items (at c.args.addr) _ (rw c.deref.ensures.value at c.in-Ok.ensures.found) (Err OutOfRange) refl)
-
-pub returns-clause-unknown : goal.returns-clause-unknown
-returns-clause-unknown g c = rw (← c.self.view_is) (known c.self.inside.flex c.self.inside.rows.items (at c.args.addr) _ (rw c.deref.ensures.value at c.in-Ok.ensures.found) (Ok tt) refl)
-
-pub returns-clause-told : goal.returns-clause-told
-returns-clause-told g c = rw (← c.self.view_is) (
-    let lent = c.args.bytes.now in
-    let offset = c.args.offset in
-    let n : offset + length lent - offset ≡ length lent = omega arith in
-    c.copy_from_slice.ensures.after ∙ ap (λ k. take k (drop offset c.payload-payload.result.now)) n
-    ∙ ap (λ l. take (length lent) (drop offset l)) (c.payload-payload.ensures ∙ sym (content_at-is (heap_of c.self.inside.flex c.self.inside.rows.items) (at c.args.addr))))
+pub returns : goal.returns
+returns g c = record {
+  step = rw (← c.self.view_is) (
+      let h = heap_of c.self.inside.flex c.self.inside.rows.items in
+      let lent = c.args.bytes.now in
+      let offset = c.args.offset in
+      let same = c.payload-payload.ensures in
+      let n : offset + length lent - offset ≡ length lent = omega arith in
+      reads_in h (at c.args.addr) offset _ (rw c.deref.ensures.value at c.in-Ok.ensures.found) lent c.copy_from_slice.new.self (c.if-not-fits.ensures ∙ ap (λ l. nat_le (offset + length lent) (length l)) same)
+      (c.copy_from_slice.ensures.after ∙ ap (λ k. take k (drop offset c.payload-payload.result.now)) n ∙ ap (λ l. take (length lent) (drop offset l)) same));
+  unknown = rw (← c.self.view_is) (known c.self.inside.flex c.self.inside.rows.items (at c.args.addr) _ (rw c.deref.ensures.value at c.in-Ok.ensures.found) (Ok tt) refl);
+  told = rw (← c.self.view_is) (
+      let lent = c.args.bytes.now in
+      let offset = c.args.offset in
+      let n : offset + length lent - offset ≡ length lent = omega arith in
+      c.copy_from_slice.ensures.after ∙ ap (λ k. take k (drop offset c.payload-payload.result.now)) n
+      ∙ ap (λ l. take (length lent) (drop offset l)) (c.payload-payload.ensures ∙ sym (content_at-is (heap_of c.self.inside.flex c.self.inside.rows.items) (at c.args.addr))));
+  refused = search rules;
+}

@@ -1,5 +1,5 @@
 use Rattle.rlsf_global.proofs.Layouts.{content_at-bytes, content_at-is, layout_at-row}
-use Rattle.std.proofs.Common.{arith, ◌+◌, nat_le, length, Ok, Err, lit<, refl, ap, ◌∙◌, subst, sym}
+use Rattle.std.proofs.Common.{rules, arith, ◌+◌, nat_le, length, Ok, Err, lit<, refl, ap, ◌∙◌, subst, sym}
 use Rattle.std.specs.List.{splice}
 use Rattle.rlsf_base.specs.Addr.{at}
 use Rattle.rlsf_flex.specs.Lending.{written}
@@ -14,12 +14,6 @@ use Rattle.rlsf_global.proofs.locked.Locked.write_payload.Goals as goal
 pub allocation_usable_size-requires : goal.allocation_usable_size-requires
 allocation_usable_size-requires g c = (lit< tt, live_here c.self.inside.flex c.self.inside.rows.items c.self.invariant (at c.args.addr) _ (rw c.deref.ensures.value at c.in-Ok.ensures.found))
 
-pub returns-then-not-fits-clause-step : goal.returns-then-not-fits-clause-step
-returns-then-not-fits-clause-step g c = rw (← c.self.view_is) (
-    let h = heap_of c.self.inside.flex c.self.inside.rows.items in
-    let bytes = c.args.bytes.now in
-    writes_out h (at c.args.addr) c.args.offset _ (rw c.deref.ensures.value at c.in-Ok.ensures.found) bytes (c.if-not-fits.ensures ∙ ap (nat_le (c.args.offset + length bytes)) c.allocation_usable_size.ensures))
-
 pub payload_mut-requires : goal.payload_mut-requires
 payload_mut-requires g c = (lit< tt, live_here c.self.inside.flex c.self.inside.rows.items c.self.invariant (at c.args.addr) _ (rw c.deref.ensures.value at c.in-Ok.ensures.found))
 
@@ -30,53 +24,71 @@ invariant_of-self g c =
     filled_locked c.self.inside.flex c.self.inside.rows.items c.self.invariant (written c.self.inside.flex (at c.args.addr) (length c.payload_mut.result.now) w) (at c.args.addr) w (did.meaning w c.write_at.ensures.len) refl
     (did.aligns w) (did.lengths w ∙ ap length did.value) (did.bytes w)
 
-pub returns-clause-step : goal.returns-clause-step
-returns-clause-step g c = rw (← c.self.view_is) (
-    let h = heap_of c.self.inside.flex c.self.inside.rows.items in
-    let addr = at c.args.addr in
-    let offset = c.args.offset in
-    let bytes = c.args.bytes.now in
-    let w = c.write_at.new.payload in
-    let did = c.payload_mut.ensures in
-    let after = written c.self.inside.flex addr (length c.payload_mut.result.now) w in
-    let (fills, leads) = filled c.self.inside.flex c.self.inside.rows.items c.self.invariant after addr w (did.meaning w c.write_at.ensures.len) refl in
-    let spliced = subst (λ l. Fills h.flex.machine addr l after.state.machine) (c.write_at.ensures.bytes ∙ ap (λ l. splice l offset (offset + length bytes) bytes) did.value) fills in
-    writes_in h addr offset _ (rw c.deref.ensures.value at c.in-Ok.ensures.found) bytes (heap_of after c.self.inside.rows.items) (c.if-not-fits.ensures ∙ ap (nat_le (offset + length bytes)) c.allocation_usable_size.ensures) (after.state.machine, spliced, leads))
+pub returns-in_default : goal.returns-in_default
+returns-in_default g c = record {
+  step = search rules;
+  refused = search rules;
+  unknown = rw (← c.self.view_is) (unknown c.self.inside.flex c.self.inside.rows.items (at c.args.addr) _ (rw c.deref.ensures.value at c.in_default.ensures.absent));
+  written = search rules;
+  layouts = search rules;
+  contents = search rules;
+  same = search rules;
+  touches = search rules;
+  grow = search rules;
+}
 
-pub returns-clause-written : goal.returns-clause-written
-returns-clause-written g c = rw (← c.self.view_is) (
-    let addr = at c.args.addr in
-    let bytes = c.args.bytes.now in
-    let w = c.write_at.new.payload in
-    let did = c.payload_mut.ensures in
-    let before = heap_of c.self.inside.flex c.self.inside.rows.items in
-    let after = heap_of (written c.self.inside.flex addr (length c.payload_mut.result.now) w) c.self.inside.rows.items in
-    content_at-is after addr ∙ did.filled w c.write_at.ensures.len ∙ c.write_at.ensures.bytes
-    ∙ ap (λ l. splice l c.args.offset (c.args.offset + length bytes) bytes) (did.value ∙ sym (content_at-is before addr)))
+pub returns-then-not-fits : goal.returns-then-not-fits
+returns-then-not-fits g c = record {
+  step = rw (← c.self.view_is) (
+      let h = heap_of c.self.inside.flex c.self.inside.rows.items in
+      let bytes = c.args.bytes.now in
+      writes_out h (at c.args.addr) c.args.offset _ (rw c.deref.ensures.value at c.in-Ok.ensures.found) bytes (c.if-not-fits.ensures ∙ ap (nat_le (c.args.offset + length bytes)) c.allocation_usable_size.ensures));
+  refused = search rules;
+  unknown = rw (← c.self.view_is) (known c.self.inside.flex c.self.inside.rows.items (at c.args.addr) _ (rw c.deref.ensures.value at c.in-Ok.ensures.found) (Err OutOfRange) refl);
+  written = search rules;
+  layouts = search rules;
+  contents = search rules;
+  same = search rules;
+  touches = search rules;
+  grow = search rules;
+}
 
-pub returns-clause-layouts : goal.returns-clause-layouts
-returns-clause-layouts g c = rw (← c.self.view_is) (
-    let before = heap_of c.self.inside.flex c.self.inside.rows.items in
-    let after = heap_of (written c.self.inside.flex (at c.args.addr) (length c.payload_mut.result.now) c.write_at.new.payload) c.self.inside.rows.items in
-    λ i a. layout_at-row before after a a refl i)
-
-pub returns-clause-contents : goal.returns-clause-contents
-returns-clause-contents g c = rw (← c.self.view_is) (
-    let w = c.write_at.new.payload in
-    let before = heap_of c.self.inside.flex c.self.inside.rows.items in
-    let after = heap_of (written c.self.inside.flex (at c.args.addr) (length c.payload_mut.result.now) w) c.self.inside.rows.items in
-    λ a off. content_at-bytes before after a a (c.payload_mut.ensures.bytes w a off))
-
-pub returns-clause-touches : goal.returns-clause-touches
-returns-clause-touches g c = rw (← c.self.view_is) (
-    let (chunks, after, source, place, stands, touches, copied) = c.payload_mut.ensures.rest c.write_at.new.payload in
-    omega (arith, touches))
-
-pub returns-in_default-clause-unknown : goal.returns-in_default-clause-unknown
-returns-in_default-clause-unknown g c = rw (← c.self.view_is) (unknown c.self.inside.flex c.self.inside.rows.items (at c.args.addr) _ (rw c.deref.ensures.value at c.in_default.ensures.absent))
-
-pub returns-then-not-fits-clause-unknown : goal.returns-then-not-fits-clause-unknown
-returns-then-not-fits-clause-unknown g c = rw (← c.self.view_is) (known c.self.inside.flex c.self.inside.rows.items (at c.args.addr) _ (rw c.deref.ensures.value at c.in-Ok.ensures.found) (Err OutOfRange) refl)
-
-pub returns-clause-unknown : goal.returns-clause-unknown
-returns-clause-unknown g c = rw (← c.self.view_is) (known c.self.inside.flex c.self.inside.rows.items (at c.args.addr) _ (rw c.deref.ensures.value at c.in-Ok.ensures.found) (Ok tt) refl)
+pub returns : goal.returns
+returns g c = record {
+  step = rw (← c.self.view_is) (
+      let h = heap_of c.self.inside.flex c.self.inside.rows.items in
+      let addr = at c.args.addr in
+      let offset = c.args.offset in
+      let bytes = c.args.bytes.now in
+      let w = c.write_at.new.payload in
+      let did = c.payload_mut.ensures in
+      let after = written c.self.inside.flex addr (length c.payload_mut.result.now) w in
+      let (fills, leads) = filled c.self.inside.flex c.self.inside.rows.items c.self.invariant after addr w (did.meaning w c.write_at.ensures.len) refl in
+      let spliced = subst (λ l. Fills h.flex.machine addr l after.state.machine) (c.write_at.ensures.bytes ∙ ap (λ l. splice l offset (offset + length bytes) bytes) did.value) fills in
+      writes_in h addr offset _ (rw c.deref.ensures.value at c.in-Ok.ensures.found) bytes (heap_of after c.self.inside.rows.items) (c.if-not-fits.ensures ∙ ap (nat_le (offset + length bytes)) c.allocation_usable_size.ensures) (after.state.machine, spliced, leads));
+  refused = search rules;
+  unknown = rw (← c.self.view_is) (known c.self.inside.flex c.self.inside.rows.items (at c.args.addr) _ (rw c.deref.ensures.value at c.in-Ok.ensures.found) (Ok tt) refl);
+  written = rw (← c.self.view_is) (
+      let addr = at c.args.addr in
+      let bytes = c.args.bytes.now in
+      let w = c.write_at.new.payload in
+      let did = c.payload_mut.ensures in
+      let before = heap_of c.self.inside.flex c.self.inside.rows.items in
+      let after = heap_of (written c.self.inside.flex addr (length c.payload_mut.result.now) w) c.self.inside.rows.items in
+      content_at-is after addr ∙ did.filled w c.write_at.ensures.len ∙ c.write_at.ensures.bytes
+      ∙ ap (λ l. splice l c.args.offset (c.args.offset + length bytes) bytes) (did.value ∙ sym (content_at-is before addr)));
+  layouts = rw (← c.self.view_is) (
+      let before = heap_of c.self.inside.flex c.self.inside.rows.items in
+      let after = heap_of (written c.self.inside.flex (at c.args.addr) (length c.payload_mut.result.now) c.write_at.new.payload) c.self.inside.rows.items in
+      λ i a. layout_at-row before after a a refl i);
+  contents = rw (← c.self.view_is) (
+      let w = c.write_at.new.payload in
+      let before = heap_of c.self.inside.flex c.self.inside.rows.items in
+      let after = heap_of (written c.self.inside.flex (at c.args.addr) (length c.payload_mut.result.now) w) c.self.inside.rows.items in
+      λ a off. content_at-bytes before after a a (c.payload_mut.ensures.bytes w a off));
+  same = search rules;
+  touches = rw (← c.self.view_is) (
+      let (chunks, after, source, place, stands, touches, copied) = c.payload_mut.ensures.rest c.write_at.new.payload in
+      omega (arith, touches));
+  grow = search rules;
+}

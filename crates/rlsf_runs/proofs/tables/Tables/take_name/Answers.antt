@@ -1,5 +1,10 @@
 use Rattle.std.proofs.Common.{rules}
 use Rattle.rlsf_runs.proofs.tables.Tables.take_name.Goals as goal
 
-pub returns-clause-names : goal.returns-clause-names
-returns-clause-names c = search rules
+pub returns : goal.returns
+returns c = record {
+  value = search rules;
+  names = search rules;
+  pools = search rules;
+  room = search rules;
+}

@@ -1,29 +1,38 @@
 -- The scans of the bitmaps find the least class.
-use Rattle.std.proofs.Common.{arith, sym, subst}
+use Rattle.std.proofs.Common.{rules, arith, sym, subst}
 use Rattle.rlsf_table.specs.Table.{HasBits}
 use Rattle.rlsf_table.proofs.Tables.RowLengths.{row_length-bounds}
 use Rattle.rlsf_table.proofs.Tables.Rows.{IsFirstOne-row}
 use Rattle.rlsf_table.proofs.Tables.Search.{IsLeastFrom-own_row, IsLeastFrom-none, IsLeastFrom-row_behind, scanned_places-whole_row}
 use Rattle.rlsf_table.proofs.table.ClassTable.first_from.Goals as goal
 
-pub returns-in-Some-clause-first : goal.returns-in-Some-clause-first
-returns-in-Some-clause-first g c free bits blocks =
-    let some = row_length-bounds g.row.SLLEN c.requires.parameters.power_of_two in
-    let inside = subst (λ t. HasBits g.row.FLLEN g.row.SLLEN t free) (sym c.self.view_is) bits in
-    let scan = IsFirstOne-row g.row.FLLEN g.row.SLLEN _ _ c.args.fl c.requires.class.0 c.in-Some.ensures.1 in
-    IsLeastFrom-own_row some.0 inside blocks c.requires.class.0 scan c.in-Some.ensures.0
+pub returns-in-Some : goal.returns-in-Some
+returns-in-Some g c = record {
+  first = λ free bits blocks.
+      let some = row_length-bounds g.row.SLLEN c.requires.parameters.power_of_two in
+      let inside = subst (λ t. HasBits g.row.FLLEN g.row.SLLEN t free) (sym c.self.view_is) bits in
+      let scan = IsFirstOne-row g.row.FLLEN g.row.SLLEN _ _ c.args.fl c.requires.class.0 c.in-Some.ensures.1 in
+      IsLeastFrom-own_row some.0 inside blocks c.requires.class.0 scan c.in-Some.ensures.0;
+  counts = search rules;
+}
 
-pub returns-then-row-clause-first : goal.returns-then-row-clause-first
-returns-then-row-clause-first g c free bits blocks =
-    let some = row_length-bounds g.row.SLLEN c.requires.parameters.power_of_two in
-    let inside = subst (λ t. HasBits g.row.FLLEN g.row.SLLEN t free) (sym c.self.view_is) bits in
-    let scan = IsFirstOne-row g.row.FLLEN g.row.SLLEN _ _ c.args.fl c.requires.class.0 c.in_default.ensures in
-    IsLeastFrom-none some.0 inside blocks c.requires.class.0 scan (scanned_places-whole_row g.row.SLLEN some.1) (omega arith) c.first_behind-row.ensures c.if-row.true
+pub returns-then-row : goal.returns-then-row
+returns-then-row g c = record {
+  first = λ free bits blocks.
+      let some = row_length-bounds g.row.SLLEN c.requires.parameters.power_of_two in
+      let inside = subst (λ t. HasBits g.row.FLLEN g.row.SLLEN t free) (sym c.self.view_is) bits in
+      let scan = IsFirstOne-row g.row.FLLEN g.row.SLLEN _ _ c.args.fl c.requires.class.0 c.in_default.ensures in
+      IsLeastFrom-none some.0 inside blocks c.requires.class.0 scan (scanned_places-whole_row g.row.SLLEN some.1) (omega arith) c.first_behind-row.ensures c.if-row.true;
+  counts = search rules;
+}
 
-pub returns-clause-first : goal.returns-clause-first
-returns-clause-first g c free bits blocks =
-    let some = row_length-bounds g.row.SLLEN c.requires.parameters.power_of_two in
-    let inside = subst (λ t. HasBits g.row.FLLEN g.row.SLLEN t free) (sym c.self.view_is) bits in
-    let scan = IsFirstOne-row g.row.FLLEN g.row.SLLEN _ _ c.args.fl c.requires.class.0 c.in_default.ensures in
-    let behind = IsFirstOne-row g.row.FLLEN g.row.SLLEN _ _ c.first_behind-row.result c.if-row.false c.first.ensures in
-    IsLeastFrom-row_behind some.0 inside blocks c.requires.class.0 scan (scanned_places-whole_row g.row.SLLEN some.1) (omega arith) c.first_behind-row.ensures c.if-row.false (scanned_places-whole_row g.row.FLLEN c.requires.parameters.rows_fit) behind
+pub returns : goal.returns
+returns g c = record {
+  first = λ free bits blocks.
+      let some = row_length-bounds g.row.SLLEN c.requires.parameters.power_of_two in
+      let inside = subst (λ t. HasBits g.row.FLLEN g.row.SLLEN t free) (sym c.self.view_is) bits in
+      let scan = IsFirstOne-row g.row.FLLEN g.row.SLLEN _ _ c.args.fl c.requires.class.0 c.in_default.ensures in
+      let behind = IsFirstOne-row g.row.FLLEN g.row.SLLEN _ _ c.first_behind-row.result c.if-row.false c.first.ensures in
+      IsLeastFrom-row_behind some.0 inside blocks c.requires.class.0 scan (scanned_places-whole_row g.row.SLLEN some.1) (omega arith) c.first_behind-row.ensures c.if-row.false (scanned_places-whole_row g.row.FLLEN c.requires.parameters.rows_fit) behind;
+  counts = search rules;
+}

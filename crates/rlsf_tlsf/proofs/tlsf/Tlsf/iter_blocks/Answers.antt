@@ -1,4 +1,4 @@
-use Rattle.std.proofs.Common.{sym, subst}
+use Rattle.std.proofs.Common.{rules, sym, subst}
 use Rattle.rlsf_machine.specs.ChunkRows.{IsRow}
 use Rattle.rlsf_blocks.specs.Blocks.{AreBlocks, walked}
 use Rattle.rlsf_blocks.specs.Laws.{read_from}
@@ -10,8 +10,11 @@ walk_blocks-requires g c =
     let row = subst (λ (o : Allocator). IsRow o.state (walked c.args.range)) (sym c.self.view_is) c.requires in
     (g.row.FLLEN, g.row.SLLEN, c.self.inside.table, read_from c.self.inside.memory c.self.inside.state.state, c.self.invariant.stands, row)
 
-pub returns-clause-blocks : goal.returns-clause-blocks
-returns-clause-blocks g c =
-    let row = subst (λ (o : Allocator). IsRow o.state (walked c.args.range)) (sym c.self.view_is) c.requires in
-    subst (λ (o : Allocator). AreBlocks o.state (walked c.args.range) c.walk_blocks.result) c.self.view_is
-    (c.walk_blocks.ensures.blocks g.row.FLLEN g.row.SLLEN c.self.inside.table (read_from c.self.inside.memory c.self.inside.state.state) c.self.invariant.stands row)
+pub returns : goal.returns
+returns g c = record {
+  blocks =
+      let row = subst (λ (o : Allocator). IsRow o.state (walked c.args.range)) (sym c.self.view_is) c.requires in
+      subst (λ (o : Allocator). AreBlocks o.state (walked c.args.range) c.walk_blocks.result) c.self.view_is
+      (c.walk_blocks.ensures.blocks g.row.FLLEN g.row.SLLEN c.self.inside.table (read_from c.self.inside.memory c.self.inside.state.state) c.self.invariant.stands row);
+  runs = search rules;
+}

@@ -1,4 +1,4 @@
-use Rattle.std.proofs.Common.{◌≡◌, arith, refl, sym, ◌∙◌, ap, subst, ◌≤◌}
+use Rattle.std.proofs.Common.{rules, ◌≡◌, arith, refl, sym, ◌∙◌, ap, subst, ◌≤◌}
 use Rattle.rlsf_base.specs.Space.{range_of, SamePlace}
 use Rattle.rlsf_machine.specs.ChunkRows.{IsRow}
 use Rattle.rlsf_machine.specs.Remove.{IsIdle, Removes, removed}
@@ -47,12 +47,9 @@ after g c = allocator c.remove_chunks.new.memory c.remove_chunks.new.table c.rem
 
 done : (g : given.Over) (c : After-remove g) → Steps g.row.FLLEN g.row.SLLEN c.args.self.now (after g c) (Removes c.args.self.now.state (walked c.args.range))
 done g c =
-    let (stands, spare) = removing g (goal.at.returns-clause-step g c).After-remove_chunks in
+    let (stands, spare) = removing g (goal.at.returns g c).After-remove_chunks in
     Steps-arrived stands c.remove.new.self.state (kept g c) c.args.self.now c.self.inside.memory c.self.inside.table c.self.inside.state.state c.self.view_is
     (λ old. Removes old (walked c.args.range)) refl (λ a from to here there. spare a from to here here)
-
-pub returns-clause-step : goal.returns-clause-step
-returns-clause-step g c = done g c
 
 stepped : (g : given.Over) (c : After-remove g) → Removes c.args.self.now.state (walked c.args.range) (after g c).state
 stepped g c = (opened g.row.FLLEN g.row.SLLEN c.args.self.now (after g c) (Removes c.args.self.now.state (walked c.args.range)) (done g c)).0
@@ -64,27 +61,19 @@ seen g c =
     (callers_see_map g.row.FLLEN g.row.SLLEN (range_of c.args.self.now.memory) c.args.self.now.state (after g c).state (remove (walked c.args.range)) w
     (IsRemovable-row w (walked c.args.range) c.requires.row c.requires.idle) (stepped g c))
 
-pub returns-clause-aligns : goal.returns-clause-aligns
-returns-clause-aligns g c = (seen g c).aligns
-
-pub returns-clause-bytes : goal.returns-clause-bytes
-returns-clause-bytes g c = (seen g c).bytes
-
-pub returns-clause-untouched : goal.returns-clause-untouched
-returns-clause-untouched g c =
-    let w = view_well_formed c.self.invariant c.args.self.now c.self.view_is in
-    untouched_removed w (walked c.args.range) c.requires.row c.requires.idle (after g c).state (stepped g c)
-
-pub returns-clause-gone : goal.returns-clause-gone
-returns-clause-gone g c =
-    let w = view_well_formed c.self.invariant c.args.self.now c.self.view_is in
-    untouched_gone w (walked c.args.range) c.requires.row c.requires.idle (after g c).state (stepped g c)
-
-pub returns-clause-place : goal.returns-clause-place
-returns-clause-place g c = subst (λ (o : Allocator). SamePlace o.memory c.remove_chunks.new.memory) c.self.view_is c.remove_chunks.ensures.place
-
-pub returns-clause-grow : goal.returns-clause-grow
-returns-clause-grow g c = subst (λ (o : Allocator). o.memory.touches ≤ c.remove_chunks.new.memory.touches) c.self.view_is c.remove_chunks.ensures.grow
-
-pub returns-clause-copied : goal.returns-clause-copied
-returns-clause-copied g c = c.remove_chunks.ensures.copied ∙ ap (λ (o : Allocator). o.memory.copied) c.self.view_is
+pub returns : goal.returns
+returns g c = record {
+  step = done g c;
+  untouched =
+      let w = view_well_formed c.self.invariant c.args.self.now c.self.view_is in
+      untouched_removed w (walked c.args.range) c.requires.row c.requires.idle (after g c).state (stepped g c);
+  gone =
+      let w = view_well_formed c.self.invariant c.args.self.now c.self.view_is in
+      untouched_gone w (walked c.args.range) c.requires.row c.requires.idle (after g c).state (stepped g c);
+  aligns = (seen g c).aligns;
+  bytes = (seen g c).bytes;
+  place = subst (λ (o : Allocator). SamePlace o.memory c.remove_chunks.new.memory) c.self.view_is c.remove_chunks.ensures.place;
+  touches = search rules;
+  grow = subst (λ (o : Allocator). o.memory.touches ≤ c.remove_chunks.new.memory.touches) c.self.view_is c.remove_chunks.ensures.grow;
+  copied = c.remove_chunks.ensures.copied ∙ ap (λ (o : Allocator). o.memory.copied) c.self.view_is;
+}
