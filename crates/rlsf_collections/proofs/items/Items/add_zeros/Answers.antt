@@ -1,4 +1,4 @@
-use Rattle.std.proofs.Common.{◌+◌, ◌∷◌, ◌++◌, [], replicate, refl, sym, ap, subst, ◌∙◌}
+use Rattle.std.proofs.Common.{rules, ◌+◌, ◌∷◌, ◌++◌, [], replicate, refl, sym, ap, subst, ◌∙◌}
 use Rattle.std.proofs.lemmas.Bool.{false≢true}
 use Rattle.std.specs.Int.NonZero.{non_zero_usize_get}
 use Rattle.rlsf_collections.specs.Handled.{lists_in, places_in}
@@ -42,9 +42,6 @@ kept c =
 pub invariant_of-self-in_err-handle : goal.invariant_of-self-in_err-handle
 invariant_of-self-in_err-handle c = (kept c).0
 
-pub returns-in_err-handle-clause-refused : goal.returns-in_err-handle-clause-refused
-returns-in_err-handle-clause-refused c = rw (← c.self.view_is) (OnErr-always c.from_residual.result (kept c).1)
-
 -- the store with one more
 more : (c : goal.In_ok-handle) → Shows c.self.inside.store c.self.inside.align (lists_in c.self.inside.store c.self.inside.align c.self.inside.handles.rows ++ (c.in_ok-handle.handle, (replicate c.args.layout.size 0)) ∷ []) (c.in_ok-handle.handle + 1) c.keep.new.store c.keep.new.handles
 more c =
@@ -60,17 +57,27 @@ more c =
 pub invariant_of-self-2 : goal.invariant_of-self-2
 invariant_of-self-2 c = (more c).0
 
-pub returns-clause-added : goal.returns-clause-added
-returns-clause-added c = rw (← c.self.view_is) (c.in_ok-handle.ensures.kept.1, (more c).1)
-
-pub returns-clause-new : goal.returns-clause-new
-returns-clause-new c = rw (← c.self.view_is) (absent c.self.inside.store c.self.inside.align c.self.inside.handles.rows c.in_ok-handle.handle c.in_ok-handle.ensures.new)
-
 pub returns-in_default-clause-uniform : goal.returns-in_default-clause-uniform
 returns-in_default-clause-uniform c = rw (← c.self.view_is) (λ small. c.add_zeros.ensures.uniform _ c.self.invariant small)
 
-pub returns-in_err-handle-clause-uniform : goal.returns-in_err-handle-clause-uniform
-returns-in_err-handle-clause-uniform c = rw (← c.self.view_is) (λ small d is. c.keep.ensures.uniform _ d (c.add_zeros.ensures.uniform _ c.self.invariant small d is))
+pub returns-in_err-handle : goal.returns-in_err-handle
+returns-in_err-handle c = record {
+  added = search rules;
+  new = search rules;
+  room = search rules;
+  enough = search rules;
+  tiled = search rules;
+  uniform = rw (← c.self.view_is) (λ small d is. c.keep.ensures.uniform _ d (c.add_zeros.ensures.uniform _ c.self.invariant small d is));
+  refused = rw (← c.self.view_is) (OnErr-always c.from_residual.result (kept c).1);
+}
 
-pub returns-clause-uniform : goal.returns-clause-uniform
-returns-clause-uniform c = rw (← c.self.view_is) (λ small d is. c.keep.ensures.uniform _ d (c.add_zeros.ensures.uniform _ c.self.invariant small d is))
+pub returns : goal.returns
+returns c = record {
+  added = rw (← c.self.view_is) (c.in_ok-handle.ensures.kept.1, (more c).1);
+  new = rw (← c.self.view_is) (absent c.self.inside.store c.self.inside.align c.self.inside.handles.rows c.in_ok-handle.handle c.in_ok-handle.ensures.new);
+  room = search rules;
+  enough = search rules;
+  tiled = search rules;
+  uniform = rw (← c.self.view_is) (λ small d is. c.keep.ensures.uniform _ d (c.add_zeros.ensures.uniform _ c.self.invariant small d is));
+  refused = search rules;
+}

@@ -1,4 +1,4 @@
-use Rattle.std.proofs.Common.{◌≡◌, ◌<◌, [], ◌++◌, length, drop, map, arith, refl, ◌∙◌, ap, sym, subst}
+use Rattle.std.proofs.Common.{rules, ◌≡◌, ◌<◌, [], ◌++◌, length, drop, map, arith, refl, ◌∙◌, ap, sym, subst}
 use Rattle.std.proofs.lemmas.List.{length-take}
 use Rattle.std.proofs.Math.Path.{ap₂}
 use Rattle.std.specs.Option.{IsSomeAnd}
@@ -46,15 +46,24 @@ invariant_of-self c =
       KeepsLongest-same c.self.inside.longest place holds rest (KeepsLongest-less c.self.inside.longest (range_of c.self.inside.store.heap.memory) (deque_capacity c.self.inside.entries) c.self.inside.entries.items c.self.invariant.1),
     )
 
-pub returns-clause-ok : goal.returns-clause-ok
-returns-clause-ok c =
-    let at = goal.at.returns-clause-ok c in
-    let o = found at.In-Some in
-    let rest = (left at.After-remove o).1 in
-    let bytes = c.copy_from_slice.ensures.after ∙ c.read.ensures.bytes in
-    rw (← c.self.view_is) (
-      bytes_at_place c.self.inside.store.heap.memory (place_of_entry c.in-Some.field-0.now),
-      cc (o.messages, rest),
-      sym o.len,
-      ap (λ bs. bs ++ drop c.in-Some.field-0.now.len c.args.into.now) bytes,
-    )
+pub returns : goal.returns
+returns c = record {
+  ok =
+      let at = goal.at.returns c in
+      let o = found at.In-Some in
+      let rest = (left at.After-remove o).1 in
+      let bytes = c.copy_from_slice.ensures.after ∙ c.read.ensures.bytes in
+      rw (← c.self.view_is) (
+        bytes_at_place c.self.inside.store.heap.memory (place_of_entry c.in-Some.field-0.now),
+        cc (o.messages, rest),
+        sym o.len,
+        ap (λ bs. bs ++ drop c.in-Some.field-0.now.len c.args.into.now) bytes,
+      );
+  refused = search rules;
+  empty = search rules;
+  longest = search rules;
+  short = search rules;
+  capacity = search rules;
+  memory = search rules;
+  touches = search rules;
+}

@@ -1,4 +1,4 @@
-use Rattle.std.proofs.Common.{◌<◌, length, IsErrOf, arith, refl, sym, ap, ◌∙◌}
+use Rattle.std.proofs.Common.{rules, ◌<◌, length, IsErrOf, arith, refl, sym, ap, ◌∙◌}
 use Rattle.rlsf_collections.specs.declared.objects.TakeError.TheVariants.{NoRoom}
 use Rattle.rlsf_collections.proofs.Capacities.{IsObjectPool-taken, pool_has_room}
 use Rattle.rlsf_collections.proofs.objects.Objects.take.Goals as goal
@@ -18,8 +18,11 @@ returns-clause-full c =
       λ full. absurd (omega (arith, full)),
     )
 
-pub returns-then-len-self-clause-full : goal.returns-then-len-self-clause-full
-returns-then-len-self-clause-full c = rw (← c.self.view_is) ((λ _. sym c.len.ensures ∙ c.if-len-self.true), λ _. refl)
-
-pub returns-then-len-self-clause-room : goal.returns-then-len-self-clause-room
-returns-then-len-self-clause-room c = rw (← c.self.view_is) (λ none fits _. absurd (omega (arith, c.self.invariant.fits fits, c.len.ensures, c.if-len-self.true, ap length none)))
+pub returns-then-len-self : goal.returns-then-len-self
+returns-then-len-self c = record {
+  taken = search rules;
+  new = search rules;
+  full = rw (← c.self.view_is) ((λ _. sym c.len.ensures ∙ c.if-len-self.true), λ _. refl);
+  room = rw (← c.self.view_is) (λ none fits _. absurd (omega (arith, c.self.invariant.fits fits, c.len.ensures, c.if-len-self.true, ap length none)));
+  refused = search rules;
+}

@@ -1,7 +1,7 @@
 use Rattle.rlsf_base.specs.Sizes.{request_size}
 use Rattle.rlsf_machine.specs.Allocate.{choice}
 use Rattle.rlsf_machine.specs.Reallocate.{HasRoomToResize}
-use Rattle.std.proofs.Common.{IsSome, ◌≡◌, ◌≤◌, length, Some, None, Ok, Err, lit<, ap, ◌∙◌, subst, sym, refl}
+use Rattle.std.proofs.Common.{rules, IsSome, ◌≡◌, ◌≤◌, length, Some, None, Ok, Err, lit<, ap, ◌∙◌, subst, sym, refl}
 use Rattle.rlsf_global.proofs.Layouts.{content_at-bytes, layout_at-moved_left, layout_at-moved_other, layout_at-none, layout_at-put_here}
 use Rattle.rlsf_base.specs.Addr.{at}
 use Rattle.rlsf_global.specs.Locked.{heap_of, locked_contents}
@@ -25,15 +25,6 @@ replaced g c =
     let found = rw c.deref.ensures.value at c.in-Ok.ensures.found in
     rw (c.remove.ensures.items, found.taken_out) at c.place.ensures
 
-pub returns-then-ne-clause-step : goal.returns-then-ne-clause-step
-returns-then-ne-clause-step g c = rw (← c.self.view_is) (
-    let h = heap_of c.self.inside.flex c.self.inside.rows.items in
-    let found = rw c.deref.ensures.value at c.in-Ok.ensures.found in
-    let row = found.row c.index.result.now ∙ ap Some (sym c.index.ensures) in
-    let enabled = g.Options.GlobalTlsfOptions.ENABLE_REALLOCATION in
-    subst (λ o. ReallocatesAsAt enabled h (at c.args.addr) c.args.layout c.args.new_size o (Err WrongLayout) h) (sym row)
-    (reallocates_out enabled h (at c.args.addr) c.args.layout c.args.new_size c.index.result.now (not-true _ c.if-ne.ensures)))
-
 pub resize-requires : goal.resize-requires
 resize-requires g c =
     let found = rw c.deref.ensures.value at c.in-Ok.ensures.found in
@@ -42,18 +33,6 @@ resize-requires g c =
     let live = live_row c.self.inside.flex c.self.inside.rows.items c.self.invariant (at c.args.addr) c.index.result.now row ∙ ap Some (same_align c.index.result.now.1 c.args.layout same) in
     let sized = subst (λ n. n ≤ length (bytes_at c.self.inside.flex.state.machine (at c.args.addr))) (same_size c.index.result.now.1 c.args.layout same) (row_sized c.self.inside.flex c.self.inside.rows.items c.self.invariant (at c.args.addr) c.index.result.now row) in
     (lit< tt, (live, (sized, (c.from_size_align_unchecked-wanted.ensures.1 ∙ c.align.ensures.value, c.self.invariant.flex))))
-
-pub returns-in_default-resize-clause-step : goal.returns-in_default-resize-clause-step
-returns-in_default-resize-clause-step g c = rw (← c.self.view_is) (
-    let h = heap_of c.self.inside.flex c.self.inside.rows.items in
-    let after = heap_of c.resize.new.flex c.self.inside.rows.items in
-    let found = rw c.deref.ensures.value at c.in-Ok.ensures.found in
-    let row = found.row c.index.result.now ∙ ap Some (sym c.index.ensures) in
-    let wanted = c.from_size_align_unchecked-wanted in
-    let enabled = g.Options.GlobalTlsfOptions.ENABLE_REALLOCATION in
-    subst (λ o. ReallocatesAsAt enabled h (at c.args.addr) c.args.layout c.args.new_size o (Err NoRoom) after) (sym row)
-    (reallocates_in enabled h (at c.args.addr) c.args.layout c.args.new_size c.index.result.now wanted.result (Err NoRoom) after (not-false _ c.if-ne.ensures) wanted.ensures.0 (wanted.ensures.1 ∙ c.align.ensures.value)
-    (c.in_default-resize.ensures.none c.self.inside.rows.items)))
 
 pub place-requires-clause-sorted : goal.place-requires-clause-sorted
 place-requires-clause-sorted g c =
@@ -116,23 +95,6 @@ returns-clause-contents g c = rw (← c.self.view_is) (
     let after = heap_of c.resize.new.flex c.place.new.rows.items in
     λ a off off_to. content_at-bytes before after a a (c.in-Some.ensures.moved.bytes a off off_to))
 
-pub returns-in_default-resize-clause-same : goal.returns-in_default-resize-clause-same
-returns-in_default-resize-clause-same g c = rw (← c.self.view_is) (
-    let stays = c.in_default-resize.ensures.refused in
-    same_heap c.self.inside.flex c.resize.new.flex c.self.inside.rows.items stays.state stays.source)
-
-pub returns-in_default-resize-clause-touches : goal.returns-in_default-resize-clause-touches
-returns-in_default-resize-clause-touches g c = rw (← c.self.view_is) (
-    let wanted = c.from_size_align_unchecked-wanted in
-    λ on room. c.resize.ensures.touches on (subst (HasRoomToResize 64 c.self.inside.flex.state.machine (at c.args.addr)) (sym wanted.ensures.0) room))
-
-pub returns-in_default-resize-clause-touches_elsewhere : goal.returns-in_default-resize-clause-touches_elsewhere
-returns-in_default-resize-clause-touches_elsewhere g c = rw (← c.self.view_is) (
-    let wanted = c.from_size_align_unchecked-wanted in
-    let free = c.self.inside.flex.state.machine.free in
-    let same = ap (λ n. request_size n c.args.layout.align) (sym wanted.ensures.0) ∙ ap (request_size wanted.result.size) (sym (wanted.ensures.1 ∙ c.align.ensures.value)) in
-    λ off some. c.resize.ensures.touches_elsewhere off (subst (λ n. IsSome (choice 64 n free)) same some))
-
 pub returns-clause-touches : goal.returns-clause-touches
 returns-clause-touches g c = rw (← c.self.view_is) (
     let wanted = c.from_size_align_unchecked-wanted in
@@ -145,14 +107,82 @@ returns-clause-touches_elsewhere g c = rw (← c.self.view_is) (
     let same = ap (λ n. request_size n c.args.layout.align) (sym wanted.ensures.0) ∙ ap (request_size wanted.result.size) (sym (wanted.ensures.1 ∙ c.align.ensures.value)) in
     λ off some. c.resize.ensures.touches_elsewhere off (subst (λ n. IsSome (choice 64 n free)) same some))
 
-pub returns-in_default-clause-unknown : goal.returns-in_default-clause-unknown
-returns-in_default-clause-unknown g c = rw (← c.self.view_is) (unknown c.self.inside.flex c.self.inside.rows.items (at c.args.addr) _ (rw c.deref.ensures.value at c.in_default.ensures.absent))
+pub returns-in_default : goal.returns-in_default
+returns-in_default g c = record {
+  step = search rules;
+  refused = search rules;
+  unknown = rw (← c.self.view_is) (unknown c.self.inside.flex c.self.inside.rows.items (at c.args.addr) _ (rw c.deref.ensures.value at c.in_default.ensures.absent));
+  live = search rules;
+  new = search rules;
+  left = search rules;
+  kept = search rules;
+  kept_usable = search rules;
+  layouts = search rules;
+  contents = search rules;
+  same = search rules;
+  touches = search rules;
+  touches_elsewhere = search rules;
+  grow = search rules;
+}
 
-pub returns-then-ne-clause-unknown : goal.returns-then-ne-clause-unknown
-returns-then-ne-clause-unknown g c = rw (← c.self.view_is) (known c.self.inside.flex c.self.inside.rows.items (at c.args.addr) _ (rw c.deref.ensures.value at c.in-Ok.ensures.found) (Err WrongLayout) refl)
+pub returns-then-ne : goal.returns-then-ne
+returns-then-ne g c = record {
+  step = rw (← c.self.view_is) (
+      let h = heap_of c.self.inside.flex c.self.inside.rows.items in
+      let found = rw c.deref.ensures.value at c.in-Ok.ensures.found in
+      let row = found.row c.index.result.now ∙ ap Some (sym c.index.ensures) in
+      let enabled = g.Options.GlobalTlsfOptions.ENABLE_REALLOCATION in
+      subst (λ o. ReallocatesAsAt enabled h (at c.args.addr) c.args.layout c.args.new_size o (Err WrongLayout) h) (sym row)
+      (reallocates_out enabled h (at c.args.addr) c.args.layout c.args.new_size c.index.result.now (not-true _ c.if-ne.ensures)));
+  refused = search rules;
+  unknown = rw (← c.self.view_is) (known c.self.inside.flex c.self.inside.rows.items (at c.args.addr) _ (rw c.deref.ensures.value at c.in-Ok.ensures.found) (Err WrongLayout) refl);
+  live = search rules;
+  new = search rules;
+  left = search rules;
+  kept = search rules;
+  kept_usable = search rules;
+  layouts = search rules;
+  contents = search rules;
+  same = search rules;
+  touches = search rules;
+  touches_elsewhere = search rules;
+  grow = search rules;
+}
 
-pub returns-in_default-resize-clause-unknown : goal.returns-in_default-resize-clause-unknown
-returns-in_default-resize-clause-unknown g c = rw (← c.self.view_is) (known c.self.inside.flex c.self.inside.rows.items (at c.args.addr) _ (rw c.deref.ensures.value at c.in-Ok.ensures.found) (Err NoRoom) refl)
+pub returns-in_default-resize : goal.returns-in_default-resize
+returns-in_default-resize g c = record {
+  step = rw (← c.self.view_is) (
+      let h = heap_of c.self.inside.flex c.self.inside.rows.items in
+      let after = heap_of c.resize.new.flex c.self.inside.rows.items in
+      let found = rw c.deref.ensures.value at c.in-Ok.ensures.found in
+      let row = found.row c.index.result.now ∙ ap Some (sym c.index.ensures) in
+      let wanted = c.from_size_align_unchecked-wanted in
+      let enabled = g.Options.GlobalTlsfOptions.ENABLE_REALLOCATION in
+      subst (λ o. ReallocatesAsAt enabled h (at c.args.addr) c.args.layout c.args.new_size o (Err NoRoom) after) (sym row)
+      (reallocates_in enabled h (at c.args.addr) c.args.layout c.args.new_size c.index.result.now wanted.result (Err NoRoom) after (not-false _ c.if-ne.ensures) wanted.ensures.0 (wanted.ensures.1 ∙ c.align.ensures.value)
+      (c.in_default-resize.ensures.none c.self.inside.rows.items)));
+  refused = search rules;
+  unknown = rw (← c.self.view_is) (known c.self.inside.flex c.self.inside.rows.items (at c.args.addr) _ (rw c.deref.ensures.value at c.in-Ok.ensures.found) (Err NoRoom) refl);
+  live = search rules;
+  new = search rules;
+  left = search rules;
+  kept = search rules;
+  kept_usable = search rules;
+  layouts = search rules;
+  contents = search rules;
+  same = rw (← c.self.view_is) (
+      let stays = c.in_default-resize.ensures.refused in
+      same_heap c.self.inside.flex c.resize.new.flex c.self.inside.rows.items stays.state stays.source);
+  touches = rw (← c.self.view_is) (
+      let wanted = c.from_size_align_unchecked-wanted in
+      λ on room. c.resize.ensures.touches on (subst (HasRoomToResize 64 c.self.inside.flex.state.machine (at c.args.addr)) (sym wanted.ensures.0) room));
+  touches_elsewhere = rw (← c.self.view_is) (
+      let wanted = c.from_size_align_unchecked-wanted in
+      let free = c.self.inside.flex.state.machine.free in
+      let same = ap (λ n. request_size n c.args.layout.align) (sym wanted.ensures.0) ∙ ap (request_size wanted.result.size) (sym (wanted.ensures.1 ∙ c.align.ensures.value)) in
+      λ off some. c.resize.ensures.touches_elsewhere off (subst (λ n. IsSome (choice 64 n free)) same some));
+  grow = search rules;
+}
 
 pub returns-clause-unknown : goal.returns-clause-unknown
 returns-clause-unknown g c = rw (← c.self.view_is) (known c.self.inside.flex c.self.inside.rows.items (at c.args.addr) _ (rw c.deref.ensures.value at c.in-Ok.ensures.found) (Ok c.in-Some.moved) refl)

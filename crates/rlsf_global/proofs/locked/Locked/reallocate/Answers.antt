@@ -1,5 +1,5 @@
 use Rattle.rlsf_global.proofs.Layouts.{content_at-bytes, layout_at-moved_left, layout_at-moved_other, layout_at-none, layout_at-put_here}
-use Rattle.std.proofs.Common.{◌≡◌, arith, min, Some, None, Ok, Err, lit<, ap, ◌∙◌, subst, sym, refl}
+use Rattle.std.proofs.Common.{rules, ◌≡◌, arith, min, Some, None, Ok, Err, lit<, ap, ◌∙◌, subst, sym, refl}
 use Rattle.rlsf_base.specs.Addr.{at}
 use Rattle.rlsf_global.specs.Locked.{heap_of, locked_contents}
 use Rattle.rlsf_global.proofs.MovedPayloads.{moved_locked, moved_row, same_heap}
@@ -28,16 +28,6 @@ move_away-requires g c =
     let row = found.row c.index.result.now ∙ ap Some (sym c.index.ensures) in
     let live = live_row c.self.inside.flex c.self.inside.rows.items c.self.invariant (at c.args.addr) c.index.result.now row ∙ ap Some (sym c.align-align.ensures.value) in
     (lit< tt, (live, (omega (arith, c.min-keep.ensures, c.allocation_usable_size.ensures), omega (arith, c.min-keep.ensures, c.size.ensures.value))))
-
-pub returns-in_default-move_away-clause-step : goal.returns-in_default-move_away-clause-step
-returns-in_default-move_away-clause-step g c = rw (← c.self.view_is) (
-    let h = heap_of c.self.inside.flex c.self.inside.rows.items in
-    let after = heap_of c.move_away.new.flex c.self.inside.rows.items in
-    let found = rw c.deref.ensures.value at c.in-Ok.ensures.found in
-    let row = found.row c.index.result.now ∙ ap Some (sym c.index.ensures) in
-    let keep = c.min-keep.ensures ∙ ap (λ n. min n c.allocation_usable_size.result) c.size.ensures.value ∙ ap (min c.args.layout.size) c.allocation_usable_size.ensures in
-    subst (λ o. ReallocatesAt h (at c.args.addr) c.args.layout o (Err NoRoom) after) (sym row)
-    (subst (λ n. MovesAway h (at c.args.addr) n c.args.layout (Err NoRoom) after) keep (c.in_default-move_away.ensures.none c.self.inside.rows.items)))
 
 pub place-requires-clause-sorted : goal.place-requires-clause-sorted
 place-requires-clause-sorted g c =
@@ -99,22 +89,49 @@ returns-clause-contents g c = rw (← c.self.view_is) (
     let after = heap_of c.move_away.new.flex c.place.new.rows.items in
     λ a off off_to. content_at-bytes before after a a (c.in-Some.ensures.moved.bytes a off off_to))
 
-pub returns-in_default-move_away-clause-same : goal.returns-in_default-move_away-clause-same
-returns-in_default-move_away-clause-same g c = rw (← c.self.view_is) (
-    let stays = c.in_default-move_away.ensures.refused in
-    same_heap c.self.inside.flex c.move_away.new.flex c.self.inside.rows.items stays.state stays.source)
-
-pub returns-in_default-move_away-clause-touches : goal.returns-in_default-move_away-clause-touches
-returns-in_default-move_away-clause-touches g c = rw (← c.self.view_is) c.move_away.ensures.touches
-
 pub returns-clause-touches : goal.returns-clause-touches
 returns-clause-touches g c = rw (← c.self.view_is) c.move_away.ensures.touches
 
-pub returns-in_default-clause-unknown : goal.returns-in_default-clause-unknown
-returns-in_default-clause-unknown g c = rw (← c.self.view_is) (unknown c.self.inside.flex c.self.inside.rows.items (at c.args.addr) _ (rw c.deref.ensures.value at c.in_default.ensures.absent))
+pub returns-in_default : goal.returns-in_default
+returns-in_default g c = record {
+  step = search rules;
+  refused = search rules;
+  unknown = rw (← c.self.view_is) (unknown c.self.inside.flex c.self.inside.rows.items (at c.args.addr) _ (rw c.deref.ensures.value at c.in_default.ensures.absent));
+  live = search rules;
+  new = search rules;
+  left = search rules;
+  kept = search rules;
+  layouts = search rules;
+  contents = search rules;
+  same = search rules;
+  touches = search rules;
+  grow = search rules;
+}
 
-pub returns-in_default-move_away-clause-unknown : goal.returns-in_default-move_away-clause-unknown
-returns-in_default-move_away-clause-unknown g c = rw (← c.self.view_is) (known c.self.inside.flex c.self.inside.rows.items (at c.args.addr) _ (rw c.deref.ensures.value at c.in-Ok.ensures.found) (Err NoRoom) refl)
+pub returns-in_default-move_away : goal.returns-in_default-move_away
+returns-in_default-move_away g c = record {
+  step = rw (← c.self.view_is) (
+      let h = heap_of c.self.inside.flex c.self.inside.rows.items in
+      let after = heap_of c.move_away.new.flex c.self.inside.rows.items in
+      let found = rw c.deref.ensures.value at c.in-Ok.ensures.found in
+      let row = found.row c.index.result.now ∙ ap Some (sym c.index.ensures) in
+      let keep = c.min-keep.ensures ∙ ap (λ n. min n c.allocation_usable_size.result) c.size.ensures.value ∙ ap (min c.args.layout.size) c.allocation_usable_size.ensures in
+      subst (λ o. ReallocatesAt h (at c.args.addr) c.args.layout o (Err NoRoom) after) (sym row)
+      (subst (λ n. MovesAway h (at c.args.addr) n c.args.layout (Err NoRoom) after) keep (c.in_default-move_away.ensures.none c.self.inside.rows.items)));
+  refused = search rules;
+  unknown = rw (← c.self.view_is) (known c.self.inside.flex c.self.inside.rows.items (at c.args.addr) _ (rw c.deref.ensures.value at c.in-Ok.ensures.found) (Err NoRoom) refl);
+  live = search rules;
+  new = search rules;
+  left = search rules;
+  kept = search rules;
+  layouts = search rules;
+  contents = search rules;
+  same = rw (← c.self.view_is) (
+      let stays = c.in_default-move_away.ensures.refused in
+      same_heap c.self.inside.flex c.move_away.new.flex c.self.inside.rows.items stays.state stays.source);
+  touches = rw (← c.self.view_is) c.move_away.ensures.touches;
+  grow = search rules;
+}
 
 pub returns-clause-unknown : goal.returns-clause-unknown
 returns-clause-unknown g c = rw (← c.self.view_is) (known c.self.inside.flex c.self.inside.rows.items (at c.args.addr) _ (rw c.deref.ensures.value at c.in-Ok.ensures.found) (Ok c.in-Some.to) refl)

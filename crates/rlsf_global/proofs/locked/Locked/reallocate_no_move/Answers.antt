@@ -1,4 +1,4 @@
-use Rattle.std.proofs.Common.{◌≡◌, Some, Ok, Err, lit<, ap, ◌∙◌, subst, sym, refl}
+use Rattle.std.proofs.Common.{rules, ◌≡◌, Some, Ok, Err, lit<, ap, ◌∙◌, subst, sym, refl}
 use Rattle.rlsf_placement.specs.Heap.{layout_at}
 use Rattle.rlsf_global.proofs.MovedPayloads.{same_heap}
 use Rattle.rlsf_global.proofs.Layouts.{content_at-bytes, layout_at-moved_other, layout_at-put_here}
@@ -21,14 +21,6 @@ use Rattle.rlsf_global.proofs.locked.Locked.reallocate_no_move.Goals as goal
 replaced : (g : given.Over) (c : goal.After-replace g) → c.replace.new.rows.items ≡ put (c.in-Some.to, c.from_size_align_unchecked-wanted.result) (without_row (at c.args.addr) c.self.inside.rows.items)
 replaced g c = row_there c.self.inside.rows.items c.replace.new.rows.items (at c.args.addr) c.in-Some.to c.from_size_align_unchecked-wanted.result c.in-Some.ensures.there c.replace.ensures
 
-pub returns-then-ne-clause-step : goal.returns-then-ne-clause-step
-returns-then-ne-clause-step g c = rw (← c.self.view_is) (
-    let h = heap_of c.self.inside.flex c.self.inside.rows.items in
-    let found = rw c.deref.ensures.value at c.in-Ok.ensures.found in
-    let row = found.row c.index.result.now ∙ ap Some (sym c.index.ensures) in
-    subst (λ o. ReallocatesThereAt h (at c.args.addr) c.args.layout c.args.new_size o (Err WrongLayout) h) (sym row)
-    (resizes_out h (at c.args.addr) c.args.layout c.args.new_size c.index.result.now (not-true _ c.if-ne.ensures)))
-
 pub reallocate_no_move-requires : goal.reallocate_no_move-requires
 reallocate_no_move-requires g c =
     let found = rw c.deref.ensures.value at c.in-Ok.ensures.found in
@@ -40,18 +32,6 @@ pub invariant_of-self : goal.invariant_of-self
 invariant_of-self g c =
     let did = c.in_default-reallocate_no_move.ensures in
     not_resized_locked c.self.inside.flex c.self.inside.rows.items c.self.invariant c.reallocate_no_move.new.self (at c.args.addr) c.from_size_align_unchecked-wanted.result did.source did.step did.same
-
-pub returns-in_default-reallocate_no_move-clause-step : goal.returns-in_default-reallocate_no_move-clause-step
-returns-in_default-reallocate_no_move-clause-step g c = rw (← c.self.view_is) (
-    let h = heap_of c.self.inside.flex c.self.inside.rows.items in
-    let after = heap_of c.reallocate_no_move.new.self c.self.inside.rows.items in
-    let did = c.in_default-reallocate_no_move.ensures in
-    let found = rw c.deref.ensures.value at c.in-Ok.ensures.found in
-    let row = found.row c.index.result.now ∙ ap Some (sym c.index.ensures) in
-    let wanted = c.from_size_align_unchecked-wanted in
-    let step = not_resized c.self.inside.flex c.self.inside.rows.items c.self.invariant c.reallocate_no_move.new.self (at c.args.addr) wanted.result did.source did.step did.same in
-    subst (λ o. ReallocatesThereAt h (at c.args.addr) c.args.layout c.args.new_size o (Err NoRoom) after) (sym row)
-    (resizes_in h (at c.args.addr) c.args.layout c.args.new_size c.index.result.now wanted.result (Err NoRoom) after (not-false _ c.if-ne.ensures) wanted.ensures.0 (wanted.ensures.1 ∙ c.align.ensures.value) step))
 
 pub replace-requires : goal.replace-requires
 replace-requires g c = subst (λ a. IsFound c.self.inside.rows.items a c.in-Ok.at) (sym c.in-Some.ensures.there) (rw c.deref.ensures.value at c.in-Ok.ensures.found)
@@ -98,25 +78,69 @@ returns-clause-contents g c = rw (← c.self.view_is) (
     let after = heap_of c.reallocate_no_move.new.self c.replace.new.rows.items in
     λ a off. content_at-bytes before after a a (c.in-Some.ensures.bytes a off))
 
-pub returns-in_default-reallocate_no_move-clause-same : goal.returns-in_default-reallocate_no_move-clause-same
-returns-in_default-reallocate_no_move-clause-same g c = rw (← c.self.view_is) (
-    let did = c.in_default-reallocate_no_move.ensures in
-    same_heap c.self.inside.flex c.reallocate_no_move.new.self c.self.inside.rows.items did.same did.source)
-
-pub returns-in_default-reallocate_no_move-clause-touches : goal.returns-in_default-reallocate_no_move-clause-touches
-returns-in_default-reallocate_no_move-clause-touches g c = rw (← c.self.view_is) c.reallocate_no_move.ensures.touches
-
 pub returns-clause-touches : goal.returns-clause-touches
 returns-clause-touches g c = rw (← c.self.view_is) c.reallocate_no_move.ensures.touches
 
-pub returns-in_default-clause-unknown : goal.returns-in_default-clause-unknown
-returns-in_default-clause-unknown g c = rw (← c.self.view_is) (unknown c.self.inside.flex c.self.inside.rows.items (at c.args.addr) _ (rw c.deref.ensures.value at c.in_default.ensures.absent))
+pub returns-in_default : goal.returns-in_default
+returns-in_default g c = record {
+  step = search rules;
+  refused = search rules;
+  unknown = rw (← c.self.view_is) (unknown c.self.inside.flex c.self.inside.rows.items (at c.args.addr) _ (rw c.deref.ensures.value at c.in_default.ensures.absent));
+  there = search rules;
+  live = search rules;
+  kept = search rules;
+  layouts = search rules;
+  contents = search rules;
+  same = search rules;
+  touches = search rules;
+  grow = search rules;
+}
 
-pub returns-then-ne-clause-unknown : goal.returns-then-ne-clause-unknown
-returns-then-ne-clause-unknown g c = rw (← c.self.view_is) (known c.self.inside.flex c.self.inside.rows.items (at c.args.addr) _ (rw c.deref.ensures.value at c.in-Ok.ensures.found) (Err WrongLayout) refl)
+pub returns-then-ne : goal.returns-then-ne
+returns-then-ne g c = record {
+  step = rw (← c.self.view_is) (
+      let h = heap_of c.self.inside.flex c.self.inside.rows.items in
+      let found = rw c.deref.ensures.value at c.in-Ok.ensures.found in
+      let row = found.row c.index.result.now ∙ ap Some (sym c.index.ensures) in
+      subst (λ o. ReallocatesThereAt h (at c.args.addr) c.args.layout c.args.new_size o (Err WrongLayout) h) (sym row)
+      (resizes_out h (at c.args.addr) c.args.layout c.args.new_size c.index.result.now (not-true _ c.if-ne.ensures)));
+  refused = search rules;
+  unknown = rw (← c.self.view_is) (known c.self.inside.flex c.self.inside.rows.items (at c.args.addr) _ (rw c.deref.ensures.value at c.in-Ok.ensures.found) (Err WrongLayout) refl);
+  there = search rules;
+  live = search rules;
+  kept = search rules;
+  layouts = search rules;
+  contents = search rules;
+  same = search rules;
+  touches = search rules;
+  grow = search rules;
+}
 
-pub returns-in_default-reallocate_no_move-clause-unknown : goal.returns-in_default-reallocate_no_move-clause-unknown
-returns-in_default-reallocate_no_move-clause-unknown g c = rw (← c.self.view_is) (known c.self.inside.flex c.self.inside.rows.items (at c.args.addr) _ (rw c.deref.ensures.value at c.in-Ok.ensures.found) (Err NoRoom) refl)
+pub returns-in_default-reallocate_no_move : goal.returns-in_default-reallocate_no_move
+returns-in_default-reallocate_no_move g c = record {
+  step = rw (← c.self.view_is) (
+      let h = heap_of c.self.inside.flex c.self.inside.rows.items in
+      let after = heap_of c.reallocate_no_move.new.self c.self.inside.rows.items in
+      let did = c.in_default-reallocate_no_move.ensures in
+      let found = rw c.deref.ensures.value at c.in-Ok.ensures.found in
+      let row = found.row c.index.result.now ∙ ap Some (sym c.index.ensures) in
+      let wanted = c.from_size_align_unchecked-wanted in
+      let step = not_resized c.self.inside.flex c.self.inside.rows.items c.self.invariant c.reallocate_no_move.new.self (at c.args.addr) wanted.result did.source did.step did.same in
+      subst (λ o. ReallocatesThereAt h (at c.args.addr) c.args.layout c.args.new_size o (Err NoRoom) after) (sym row)
+      (resizes_in h (at c.args.addr) c.args.layout c.args.new_size c.index.result.now wanted.result (Err NoRoom) after (not-false _ c.if-ne.ensures) wanted.ensures.0 (wanted.ensures.1 ∙ c.align.ensures.value) step));
+  refused = search rules;
+  unknown = rw (← c.self.view_is) (known c.self.inside.flex c.self.inside.rows.items (at c.args.addr) _ (rw c.deref.ensures.value at c.in-Ok.ensures.found) (Err NoRoom) refl);
+  there = search rules;
+  live = search rules;
+  kept = search rules;
+  layouts = search rules;
+  contents = search rules;
+  same = rw (← c.self.view_is) (
+      let did = c.in_default-reallocate_no_move.ensures in
+      same_heap c.self.inside.flex c.reallocate_no_move.new.self c.self.inside.rows.items did.same did.source);
+  touches = rw (← c.self.view_is) c.reallocate_no_move.ensures.touches;
+  grow = search rules;
+}
 
 pub returns-clause-unknown : goal.returns-clause-unknown
 returns-clause-unknown g c = rw (← c.self.view_is) (known c.self.inside.flex c.self.inside.rows.items (at c.args.addr) _ (rw c.deref.ensures.value at c.in-Ok.ensures.found) (Ok c.in-Some.to) refl)

@@ -19,8 +19,8 @@ pub invariant_of-result : goal.invariant_of-result
 invariant_of-result g c = subst (λ at. IsPageCursor (page_cursor c.args.space at g.Options.GlobalTlsfOptions.COALESCE_POOLS)) (sym (at_first g c))
     (first_cursor c.args.space g.Options.GlobalTlsfOptions.COALESCE_POOLS c.requires)
 
-pub returns-clause-value : goal.returns-clause-value
-returns-clause-value g c = ap (λ at. page_cursor c.args.space at g.Options.GlobalTlsfOptions.COALESCE_POOLS) (at_first g c)
-
-pub returns-clause-owed : goal.returns-clause-owed
-returns-clause-owed g c = record { cursor = invariant_of-result g c; start = λ r i. absurd i; end = λ r i. absurd i; aligned = λ r i. absurd i; disjoint = λ a. omega arith }
+pub returns : goal.returns
+returns g c = record {
+  value = ap (λ at. page_cursor c.args.space at g.Options.GlobalTlsfOptions.COALESCE_POOLS) (at_first g c);
+  owed = record { cursor = invariant_of-result g c; start = λ r i. absurd i; end = λ r i. absurd i; aligned = λ r i. absurd i; disjoint = λ a. omega arith };
+}
