@@ -1,4 +1,4 @@
-use Rattle.std.proofs.Common.{rules, ◌≡◌, ◌+◌, length, drop, replicate, arith, sym, ◌∙◌, ap, subst}
+use Rattle.std.proofs.Common.{◌≡◌, ◌+◌, length, drop, replicate, arith, sym, ◌∙◌, ap, subst}
 use Rattle.std.specs.Int.NonZero.{non_zero_usize_get}
 use Rattle.rlsf_base.specs.Addr.{reply}
 use Rattle.rlsf_base.specs.Space.{range_of}
@@ -15,7 +15,7 @@ use Rattle.rlsf_bench_steps.proofs.steps.run.Goals as goal
 pub insert_free_block_ptr-requires : goal.insert_free_block_ptr-requires
 insert_free_block_ptr-requires g c =
     let fresh = subst (λ s. IsFresh (range_of c.args.tlsf.memory) s c.args.pool) (sym c.requires.new) (pool_is_fresh c.args.tlsf.memory c.args.pool c.requires.pool) in
-    (search rules, parts_of-IsFresh (range_of c.args.tlsf.memory) c.args.tlsf.state c.args.pool fresh)
+    (omega arith, parts_of-IsFresh (range_of c.args.tlsf.memory) c.args.tlsf.state c.args.pool fresh)
 
 pub loop-number-init : goal.loop-number-init
 loop-number-init g c =

@@ -1,4 +1,4 @@
-use Rattle.std.proofs.Common.{rules, sym, ◌∙◌, ap, subst}
+use Rattle.std.proofs.Common.{arith, sym, ◌∙◌, ap, subst}
 use Rattle.std.proofs.lemmas.List.{get_or_default}
 use Rattle.std.specs.Int.NonZero.{non_zero_usize_get}
 use Rattle.std.specs.Option.{option_map}
@@ -18,14 +18,14 @@ reallocate-moved-requires g c =
     let addr = non_zero_usize_get c.in-Some.addr in
     let there = ap held (get_or_default c.args.slots.now c.slot_of-slot.result 0 _ c.slot_of-slot.ensures.bound) ∙ held-address _ c.new.result c.new.ensures ∙ ap (option_map non_zero_usize_get) c.in-Some.is in
     let live = at.live c.slot_of-slot.result addr (sym (at.slots c.slot_of-slot.result) ∙ there) in
-    (search rules, live_in at.stands addr c.layout_of.result.align (subst (λ n. IsLive s.machine addr n) (sym c.layout_of.ensures.1) live))
+    (omega arith, live_in at.stands addr c.layout_of.result.align (subst (λ n. IsLive s.machine addr n) (sym c.layout_of.ensures.1) live))
 
 pub deallocate-requires : goal.deallocate-requires
 deallocate-requires g c =
     let (s, at) = c.requires.state in
     let addr = non_zero_usize_get c.in-Some.addr in
     let there = ap held (get_or_default c.args.slots.now c.slot_of-slot.result 0 _ c.slot_of-slot.ensures.bound) ∙ held-address _ c.new.result c.new.ensures ∙ ap (option_map non_zero_usize_get) c.in-Some.is in
-    (search rules, live_in at.stands addr c.alignment_of.result (subst (λ n. IsLive s.machine addr n) (sym c.alignment_of.ensures) (at.live c.slot_of-slot.result addr (sym (at.slots c.slot_of-slot.result) ∙ there))))
+    (omega arith, live_in at.stands addr c.alignment_of.result (subst (λ n. IsLive s.machine addr n) (sym c.alignment_of.ensures) (at.live c.slot_of-slot.result addr (sym (at.slots c.slot_of-slot.result) ∙ there))))
 
 pub returns-then-reallocates-clause-does : goal.returns-then-reallocates-clause-does
 returns-then-reallocates-clause-does g c = λ s at.

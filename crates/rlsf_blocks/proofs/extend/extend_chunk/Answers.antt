@@ -54,7 +54,7 @@ deallocate_block-requires g c =
     let len = c.args.len in
     let n = c.set_word-3.new.self in
     let writes = written g (goal.at.deallocate_block-requires g c).After-set_word-3 d v is at in
-    (search rules, (c.requires.parameters, ((lengthened d len (more_bytes n d len) s, more_block d len (more_bytes n d len), StandsFor-lengthened v d len is writes, inl refl, ap (λ e. e - 32) at), search rules)))
+    (omega arith, (c.requires.parameters, ((lengthened d len (more_bytes n d len) s, more_block d len (more_bytes n d len), StandsFor-lengthened v d len is writes, inl refl, ap (λ e. e - 32) at), search rules)))
 
 pub returns : goal.returns
 returns g c = record {

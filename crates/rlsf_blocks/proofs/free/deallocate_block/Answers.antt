@@ -28,7 +28,7 @@ used_end-end-requires-clause-fits g c =
 pub take_previous-start-requires : goal.take_previous-start-requires
 take_previous-start-requires g c =
     let (s, u, v, i, at) = c.requires.used in
-    (search rules, (c.requires.parameters, ((s, u, StandsFor-counted c.args.memory.now c.load_at.new.self c.load_at.ensures.start c.load_at.ensures.bytes v, i, at), search rules)))
+    (omega arith, (c.requires.parameters, ((s, u, StandsFor-counted c.args.memory.now c.load_at.new.self c.load_at.ensures.start c.load_at.ensures.bytes v, i, at), search rules)))
 
 pub take_if_free-next-requires : goal.take_if_free-next-requires
 take_if_free-next-requires g c =
@@ -36,7 +36,7 @@ take_if_free-next-requires g c =
     let v0 = StandsFor-counted c.args.memory.now c.load_at.new.self c.load_at.ensures.start c.load_at.ensures.bytes v in
     let previous = c.take_previous-start.ensures.step s u v0 i at in
     let end = end_computed v u i at c.load_at.ensures.word ∙ sym c.used_end-end.ensures in
-    (search rules, (c.requires.parameters, ((without (ends_at c.args.block) s.free, previous.list, IsMarked-behind v0 u i at previous _ end), search rules)))
+    (omega arith, (c.requires.parameters, ((without (ends_at c.args.block) s.free, previous.list, IsMarked-behind v0 u i at previous _ end), search rules)))
 
 pub overflow_sub-end : goal.overflow_sub-end
 overflow_sub-end g c =
@@ -66,7 +66,7 @@ put-requires g c =
     let end = end_computed v u i at c.load_at.ensures.word ∙ sym c.used_end-end.ensures in
     let behind = behind_at v0 u i at end (c.take_if_free-next.ensures.step (without (ends_at c.args.block) s.free) previous.list (IsMarked-behind v0 u i at previous _ end)) in
     let before = before_at v0 u i at previous in
-    (search rules, (c.requires.parameters, ((untouched u.block s.free, union u.block s.free, union_start v0 u i before behind, omega (arith, end, union_len v0 u i before behind), IsInnerRoom-union v0 u i before behind), search rules)))
+    (omega arith, (c.requires.parameters, ((untouched u.block s.free, union u.block s.free, union_start v0 u i before behind, omega (arith, end, union_len v0 u i before behind), IsInnerRoom-union v0 u i before behind), search rules)))
 
 pub returns : goal.returns
 returns g c = record {

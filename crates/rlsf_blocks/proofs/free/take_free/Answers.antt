@@ -9,7 +9,7 @@ unlink_free_block-requires g c =
     let (free, list, marked) = c.requires.marked in
     let (r, i, at, long) = block_there list marked c.load_at-size.ensures.word (c.is_free.ensures.0 c.if-is_free.true) in
     let listed = IsFreeTable-counted c.args.memory.now c.load_at-size.new.self c.load_at-size.ensures.start c.load_at-size.ensures.bytes list in
-    (search rules, (c.requires.parameters, ((r, free, at, long, i, listed), search rules)))
+    (omega arith, (c.requires.parameters, ((r, free, at, long, i, listed), search rules)))
 
 pub returns-else-is_free : goal.returns-else-is_free
 returns-else-is_free g c = record {

@@ -25,7 +25,7 @@ take_free-requires g c =
     let start = c.load_at-previous.ensures.start in
     let bytes = c.load_at-previous.ensures.bytes in
     let marked = IsMarked-loaded m n start bytes (IsMarked-previous v u i at c.load_at-previous.ensures.word c.if-previous-eq0.false) in
-    (search rules, (c.requires.parameters, ((s.free, IsFreeTable-counted m n start bytes (IsFreeTable-free v), marked), search rules)))
+    (omega arith, (c.requires.parameters, ((s.free, IsFreeTable-counted m n start bytes (IsFreeTable-free v), marked), search rules)))
 
 pub returns-then-previous-eq0 : goal.returns-then-previous-eq0
 returns-then-previous-eq0 g c = record {

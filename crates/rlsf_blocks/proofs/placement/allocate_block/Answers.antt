@@ -59,7 +59,7 @@ place-requires g c =
     let own = (choice-some g.row.SLLEN c.request_size.result s.free f chosen).is_in in
     let size = word_at-counted c.args.memory.now c.first_fit.new.memory counts.start counts.bytes c.in_ok-found.found.start ∙ ap (word_at c.args.memory.now) (sym start) ∙ (IsFreeTable-free v).sizes f own in
     let at_class = subst (λ n. IsClassAt g.row.FLLEN g.row.SLLEN n c.in_ok-found.found.class.fl c.in_ok-found.found.class.sl) (sym size) class in
-    (search rules, (c.requires.parameters, (at_class, ((s, f, searched g at v, sought g at s chosen, start), search rules))))
+    (omega arith, (c.requires.parameters, (at_class, ((s, f, searched g at v, sought g at s chosen, start), search rules))))
 
 pub returns : goal.returns
 returns g c = record {

@@ -22,7 +22,7 @@ pub link_free_block-requires : goal.link_free_block-requires
 link_free_block-requires g c =
     let (free, r, start, len, room) = c.requires.room in
     let writes = written g (goal.at.link_free_block-requires g c).After-set_word_at-3 r room start len in
-    (search rules, (c.requires.parameters, ((r, free, start, omega (arith, len), IsRoom-written r room writes), search rules)))
+    (omega arith, (c.requires.parameters, ((r, free, start, omega (arith, len), IsRoom-written r room writes), search rules)))
 
 pub returns : goal.returns
 returns g c = record {

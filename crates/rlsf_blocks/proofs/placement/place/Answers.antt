@@ -75,7 +75,7 @@ take_out-requires g c =
     let at = goal.at.take_out-requires g c in
     let stands = loaded g at.After-load_at-len v in
     let class = subst (λ n. IsClassAt g.row.FLLEN g.row.SLLEN n c.args.found.class.fl c.args.found.class.sl) (sym c.load_at-len.ensures.word) c.requires.class in
-    (search rules, (c.requires.parameters, (class, ((s, f, stands, IsTaken-computed (computed g at.After-front-payload stands f chosen start)), search rules))))
+    (omega arith, (c.requires.parameters, (class, ((s, f, stands, IsTaken-computed (computed g at.After-front-payload stands f chosen start)), search rules))))
 
 pub set_word_at-requires-clause-place : goal.set_word_at-requires-clause-place
 set_word_at-requires-clause-place g c =

@@ -13,13 +13,13 @@ at_class {fllen} {sllen} {fl = fl} {sl = sl} at take = subst (λ n. IsClassAt fl
 pub unlink_newest_block-requires : goal.unlink_newest_block-requires
 unlink_newest_block-requires g c =
     let (s, f, v, take) = c.requires.taken in
-    (search rules, (c.requires.parameters, ((f, ahead v take, later v take, take.start, is_newest v take (at_class c.requires.class take), split_list v take), search rules)))
+    (omega arith, (c.requires.parameters, ((f, ahead v take, later v take, take.start, is_newest v take (at_class c.requires.class take), split_list v take), search rules)))
 
 pub leave_rest-requires : goal.leave_rest-requires
 leave_rest-requires g c =
     let (s, f, v, take) = c.requires.taken in
     let unlinked = c.unlink_newest_block.ensures.step f (ahead v take) (later v take) take.start (is_newest v take (at_class c.requires.class take)) (split_list v take) in
-    (search rules, (c.requires.parameters, ((ahead v take ++ later v take, rest v take, refl, omega (arith, take.start, take.length, take.fits), IsInnerRoom-rest v take unlinked (omega (arith, take.fits))), search rules)))
+    (omega arith, (c.requires.parameters, ((ahead v take ++ later v take, rest v take, refl, omega (arith, take.start, take.length, take.fits), IsInnerRoom-rest v take unlinked (omega (arith, take.fits))), search rules)))
 
 pub returns-then-longer : goal.returns-then-longer
 returns-then-longer g c = record {

@@ -26,7 +26,7 @@ link_free_block-requires g c =
     let (s, v, new) = c.requires.fresh in
     let chunk = c.args.chunk in
     let writes = written g (goal.at.link_free_block-requires g c).After-set_word-4 v new in
-    (search rules, (c.requires.parameters, ((body chunk, s.free, refl, refl, IsRoom-body v chunk new writes), search rules)))
+    (omega arith, (c.requires.parameters, ((body chunk, s.free, refl, refl, IsRoom-body v chunk new writes), search rules)))
 
 pub returns : goal.returns
 returns g c = record {

@@ -6,7 +6,7 @@ use Rattle.rlsf_blocks.proofs.removal.remove_chunk.Goals as goal
 pub take_if_free-free-requires : goal.take_if_free-free-requires
 take_if_free-free-requires g c =
     let (s, k, v, is) = c.requires.idle in
-    (search rules, (c.requires.parameters, ((s.free, IsFreeTable-free v, IsMarked-idle v k is.is_chunk is.idle c.args.start is.begins), search rules)))
+    (omega arith, (c.requires.parameters, ((s.free, IsFreeTable-free v, IsMarked-idle v k is.is_chunk is.idle c.args.start is.begins), search rules)))
 
 pub overflow_add-result : goal.overflow_add-result
 overflow_add-result g c =

@@ -1,4 +1,4 @@
-use Rattle.std.proofs.Common.{◌≡◌, ◌<◌, length, arith, rules, ap, subst}
+use Rattle.std.proofs.Common.{◌≡◌, ◌<◌, length, arith, ap, subst}
 use Rattle.rlsf_base.specs.Range.{end_of}
 use Rattle.rlsf_blocks.specs.Blocks.{walked}
 use Rattle.rlsf_blocks.specs.StandsFor.{contents, StandsFor}
@@ -20,7 +20,7 @@ remove_chunk-start-requires g c =
     let idles = IsIdle-span v (walked c.args.range) _ _ span idle in
     let q = between c.span-start.result.0 c.span-start.result.1 in
     let more : c.loop-start.start < end_of q = omega (arith, c.loop-start-test.true, span.within) in
-    (search rules, (c.requires.parameters, (removed (between q.start c.loop-start.start) s, chunk v q rowed idles is more, is.stands, IsIdleChunk-next v q rowed idles is more)))
+    (omega arith, (c.requires.parameters, (removed (between q.start c.loop-start.start) s, chunk v q rowed idles is more, is.stands, IsIdleChunk-next v q rowed idles is more)))
 
 pub loop-start-smaller : goal.loop-start-smaller
 loop-start-smaller g c =

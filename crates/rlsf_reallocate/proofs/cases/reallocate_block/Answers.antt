@@ -12,7 +12,7 @@ move_into_previous-requires g c =
     let v1 = StandsFor-unchanged c.args.memory.now c.resize_block.new.memory c.args.table.now c.resize_block.new.table s 2 same v in
     let first = c.resize_block.ensures.refused s u v is c.if-resize_block.false in
     let none = in_place-none s u c.args.layout.size first in
-    (search rules, (c.requires.parameters, ((s, u, v1, is, none), search rules)))
+    (omega arith, (c.requires.parameters, ((s, u, v1, is, none), search rules)))
 
 pub move_elsewhere-requires : goal.move_elsewhere-requires
 move_elsewhere-requires g c =
@@ -23,7 +23,7 @@ move_elsewhere-requires g c =
     let none = in_place-none s u c.args.layout.size first in
     let same_still = c.in_default.ensures.unchanged in
     let v2 = StandsFor-unchanged c.resize_block.new.memory c.move_into_previous.new.memory c.resize_block.new.table c.move_into_previous.new.table s 4 same_still v1 in
-    (search rules, (c.requires.parameters, (search rules, (s, u, v2, is, none))))
+    (omega arith, (c.requires.parameters, (search rules, (s, u, v2, is, none))))
 
 -- ---- where it stands
 

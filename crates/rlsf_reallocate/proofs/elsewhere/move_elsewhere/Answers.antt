@@ -67,7 +67,7 @@ used_end-end-requires-clause-fits g c =
 pub allocate_block-requires : goal.allocate_block-requires
 allocate_block-requires g c =
     let (s, u, v, is, short) = c.requires.used in
-    (search rules, (c.requires.parameters, ((s, loaded g (goal.at.allocate_block-requires g c).After-load_at v), search rules)))
+    (omega arith, (c.requires.parameters, ((s, loaded g (goal.at.allocate_block-requires g c).After-load_at v), search rules)))
 
 pub copy_within-requires-clause-from : goal.copy_within-requires-clause-from
 copy_within-requires-clause-from g c =
@@ -91,7 +91,7 @@ deallocate_block-requires g c =
     let at = (goal.at.deallocate_block-requires g c).In_ok-moved in
     let (t, places, now, spare) = placing g at s u v is in
     let (bytes, copied) = copied_stands v.well_formed u is.is_used c.args.layout.size short places now (old_payload g at u v is) c.copy_within.new.self c.copy_within.ensures.start c.copy_within.ensures.bytes in
-    (search rules, (c.requires.parameters, ((both v.well_formed u is.is_used c.args.layout.size short places now bytes, u, copied.stands, inr is.is_used, is.start), search rules)))
+    (omega arith, (c.requires.parameters, ((both v.well_formed u is.is_used c.args.layout.size short places now bytes, u, copied.stands, inr is.is_used, is.start), search rules)))
 
 -- ---- what is counted: the word that is read first, and then the allocation
 

@@ -122,7 +122,7 @@ pub take_previous-start-requires : goal.take_previous-start-requires
 take_previous-start-requires g c =
     let (s, u, v, used, short) = c.requires.used in
     let at = goal.at.take_previous-start-requires g c in
-    (search rules, (c.requires.parameters, ((s, u, stood g at.In_ok-moved v, used.is_used, used.start), search rules)))
+    (omega arith, (c.requires.parameters, ((s, u, stood g at.In_ok-moved v, used.is_used, used.start), search rules)))
 
 pub take_if_free-next-requires : goal.take_if_free-next-requires
 take_if_free-next-requires g c =
@@ -130,7 +130,7 @@ take_if_free-next-requires g c =
     let at = goal.at.take_if_free-next-requires g c in
     let v0 = stood g at.In_ok-moved v in
     let out = c.take_previous-start.ensures.step s u v0 used.is_used used.start in
-    (search rules, (c.requires.parameters, ((without (ends_at c.args.block) s.free, out.list, IsMarked-behind v0 u used.is_used used.start out _ (ends g at.After-used_end-end v used)), search rules)))
+    (omega arith, (c.requires.parameters, ((without (ends_at c.args.block) s.free, out.list, IsMarked-behind v0 u used.is_used used.start out _ (ends g at.After-used_end-end v used)), search rules)))
 
 outs : (g : given.Over) (c : After-take_if_free-next g) {s : State} {u : Used} → StandsFor g.row.FLLEN g.row.SLLEN (contents c.args.memory.now c.args.table.now) s
     → IsUsedAt s u c.args.block c.args.payload c.args.layout.align → in_place s u c.args.layout.size ≡ None
@@ -197,7 +197,7 @@ occupy-requires g c =
     let at = goal.at.occupy-requires g c in
     let are = outs g at.After-take_if_free-next v used short in
     let inner = room are c.copy_within.ensures.start c.copy_within.ensures.bytes in
-    (search rules, (c.requires.parameters, ((untouched u.block s.free, union u.block s.free, union_begins are, (total_is are).1, inner), (part are, search rules))))
+    (omega arith, (c.requires.parameters, ((untouched u.block s.free, union u.block s.free, union_begins are, (total_is are).1, inner), (part are, search rules))))
 
 pub overflow_sub-moved : goal.overflow_sub-moved
 overflow_sub-moved g c =

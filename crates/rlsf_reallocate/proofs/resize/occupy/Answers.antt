@@ -10,7 +10,7 @@ leave_rest-requires g c =
     let short : c.args.taken < c.args.total = omega (arith, c.if-taken-total.true) in
     let written = wrote c.args.memory.now c.set_word_at.new.self c.args.block (c.args.taken + 1) c.set_word_at.ensures.bytes (omega arith) (omega arith) in
     let sized = sized_from span start len inner part {m1 = c.set_word_at.new.self} c.set_word_at.ensures.start written in
-    (search rules, (c.requires.parameters, ((free, rest_of c.args.block c.args.taken span, refl, omega (arith, start, len, short), IsInnerRoom-rest span start len inner part sized short), search rules)))
+    (omega arith, (c.requires.parameters, ((free, rest_of c.args.block c.args.taken span, refl, omega (arith, start, len, short), IsInnerRoom-rest span start len inner part sized short), search rules)))
 
 pub returns-then-taken-total : goal.returns-then-taken-total
 returns-then-taken-total g c = record {

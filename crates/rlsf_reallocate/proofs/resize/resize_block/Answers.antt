@@ -61,7 +61,7 @@ take_if_free-next-requires g c =
     let (s, u, v, at) = c.requires.used in
     let counts = c.free_length.ensures.counts in
     let list = IsFreeTable-counted c.args.memory.now c.free_length.new.memory (counts.start ∙ c.load_at.ensures.start) (counts.bytes ∙ c.load_at.ensures.bytes) (IsFreeTable-free v) in
-    (search rules, (c.requires.parameters, ((s.free, list, marked g (goal.at.take_if_free-next-requires g c).After-free_length v u at), search rules)))
+    (omega arith, (c.requires.parameters, ((s.free, list, marked g (goal.at.take_if_free-next-requires g c).After-free_length v u at), search rules)))
 
 -- and once it was taken out
 out : (g : given.Over) (c : After-take_if_free-next g) {s : State} (v : StandsFor g.row.FLLEN g.row.SLLEN (contents c.args.memory.now c.args.table.now) s) (u : Used)
@@ -95,7 +95,7 @@ occupy-requires g c =
     let inner = IsInnerRoom-span v u at.is_used gone in
     let whole : c.next_multiple_of_32-taken.result % 32 ≡ 0 = omega (arith, parts.0) in
     let some : 0 < c.next_multiple_of_32-taken.result = omega (arith, parts.1) in
-    (search rules, (c.requires.parameters, ((staying s u, span_of s u, at.start, long, inner), ((whole, some, omega (arith, gone.end, c.if-taken-len-2.false)), search rules))))
+    (omega arith, (c.requires.parameters, ((staying s u, span_of s u, at.start, long, inner), ((whole, some, omega (arith, gone.end, c.if-taken-len-2.false)), search rules))))
 
 -- ---- what is counted
 

@@ -1,4 +1,4 @@
-use Rattle.std.proofs.Common.{length, replicate, refl, sym, ◌∙◌, ap, subst, rules}
+use Rattle.std.proofs.Common.{arith, length, replicate, refl, sym, ◌∙◌, ap, subst, rules}
 use Rattle.rlsf_machine.specs.Run.{Fills}
 use Rattle.rlsf_tlsf.proofs.Standing.{bytes_in, some_live_in, stepped}
 use Rattle.rlsf_runs.specs.Names.{address}
@@ -21,7 +21,7 @@ pub payload_mut-requires : goal.payload_mut-requires
 payload_mut-requires g c =
     let (s, at) = c.requires in
     let (u, owns, holds, _) = owned at c.args.name c.in-Some.payload (sym c.payload.ensures ∙ c.in-Some.is) in
-    (search rules, some_live_in at.stands (address c.in-Some.payload) (u, holds))
+    (omega arith, some_live_in at.stands (address c.in-Some.payload) (u, holds))
 
 pub returns : goal.returns
 returns g c = record {

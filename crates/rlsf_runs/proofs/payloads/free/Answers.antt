@@ -1,4 +1,4 @@
-use Rattle.std.proofs.Common.{sym, ◌∙◌, rules}
+use Rattle.std.proofs.Common.{arith, sym, ◌∙◌, rules}
 use Rattle.rlsf_machine.specs.Release.{Deallocates}
 use Rattle.rlsf_tlsf.proofs.Standing.{live_in, stepped}
 use Rattle.rlsf_runs.specs.Names.{address}
@@ -8,7 +8,7 @@ use Rattle.rlsf_runs.proofs.payloads.free.Goals as goal
 pub deallocate-requires : goal.deallocate-requires
 deallocate-requires g c =
     let (s, at) = c.requires in
-    (search rules, live_in at.stands (address c.in-Some.payload) c.in-Some.payload.align (at.named.live c.args.name c.in-Some.payload (sym c.take_name.ensures.value ∙ c.in-Some.is)))
+    (omega arith, live_in at.stands (address c.in-Some.payload) c.in-Some.payload.align (at.named.live c.args.name c.in-Some.payload (sym c.take_name.ensures.value ∙ c.in-Some.is)))
 
 pub returns-in_default : goal.returns-in_default
 returns-in_default g c = record {

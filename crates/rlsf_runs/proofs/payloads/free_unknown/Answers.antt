@@ -1,4 +1,4 @@
-use Rattle.std.proofs.Common.{sym, ◌∙◌, rules}
+use Rattle.std.proofs.Common.{arith, sym, ◌∙◌, rules}
 use Rattle.rlsf_machine.specs.Release.{Deallocates}
 use Rattle.rlsf_tlsf.proofs.Standing.{some_live_in, stepped}
 use Rattle.rlsf_runs.specs.Names.{address}
@@ -27,4 +27,4 @@ pub deallocate_unknown_align-requires : goal.deallocate_unknown_align-requires
 deallocate_unknown_align-requires g c =
     let (s, at) = c.requires in
     let (u, owns, holds, _) = owned at c.args.name c.in-Some.payload (sym c.take_name.ensures.value ∙ c.in-Some.is) in
-    (search rules, some_live_in at.stands (address c.in-Some.payload) (u, holds))
+    (omega arith, some_live_in at.stands (address c.in-Some.payload) (u, holds))

@@ -38,13 +38,13 @@ pub payload-requires-2 : goal.payload-requires-2
 payload-requires-2 g c =
     let (s, at) = c.requires in
     let (u, owns, holds, _) = owned at c.args.name c.in-Some.payload (sym c.payload.ensures ∙ c.in-Some.is) in
-    (search rules, some_live_in at.stands (address c.in-Some.payload) (u, holds))
+    (omega arith, some_live_in at.stands (address c.in-Some.payload) (u, holds))
 
 pub payload_mut-requires : goal.payload_mut-requires
 payload_mut-requires g c =
     let (s, at) = c.requires in
     let (u, owns, holds, _) = owned at c.args.name c.in-Some.payload (sym c.payload.ensures ∙ c.in-Some.is) in
-    (search rules, some_live_in at.stands (address c.in-Some.payload) (u, holds))
+    (omega arith, some_live_in at.stands (address c.in-Some.payload) (u, holds))
 
 pub returns : goal.returns
 returns g c = record {

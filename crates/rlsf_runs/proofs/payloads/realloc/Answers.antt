@@ -1,4 +1,4 @@
-use Rattle.std.proofs.Common.{◌≡◌, Some, None, refl, ap, sym, ◌∙◌, subst, rules, true≢false}
+use Rattle.std.proofs.Common.{arith, ◌≡◌, Some, None, refl, ap, sym, ◌∙◌, subst, rules, true≢false}
 use Rattle.std.specs.Int.NonZero.{non_zero_usize_get}
 use Rattle.rlsf_base.specs.Addr.{reply}
 use Rattle.rlsf_base.specs.Layout.{IsLayout}
@@ -52,7 +52,7 @@ reallocate-placed-requires g c =
     let p = c.in-Some.old in
     let live = at.named.live c.args.name p (sym c.payload.ensures ∙ c.in-Some.is) in
     let (size, align) = c.in-Ok.ensures.layout in
-    (search rules, live_in at.stands (address p) c.in-Ok.layout.align (subst (IsLive s.machine (address p)) (sym align) live))
+    (omega arith, live_in at.stands (address p) c.in-Ok.layout.align (subst (IsLive s.machine (address p)) (sym align) live))
 
 pub add_name-requires : goal.add_name-requires
 add_name-requires g c = c.requires.room

@@ -1,4 +1,4 @@
-use Rattle.std.proofs.Common.{refl, sym, ◌∙◌, subst, rules, true≢false}
+use Rattle.std.proofs.Common.{arith, refl, sym, ◌∙◌, subst, rules, true≢false}
 use Rattle.rlsf_base.specs.Addr.{reply}
 use Rattle.rlsf_base.specs.Layout.{IsLayout}
 use Rattle.rlsf_machine.specs.NoMove.{ReallocatesWithoutMove}
@@ -25,7 +25,7 @@ reallocate_no_move-requires g c =
     let p = c.in-Some.payload in
     let live = at.named.live c.args.name p (sym c.payload.ensures ∙ c.in-Some.is) in
     let (size, align) = c.in-Ok.ensures.layout in
-    (search rules, live_in at.stands (address p) c.in-Ok.layout.align (subst (IsLive s.machine (address p)) (sym align) live))
+    (omega arith, live_in at.stands (address p) c.in-Ok.layout.align (subst (IsLive s.machine (address p)) (sym align) live))
 
 pub returns : goal.returns
 returns g c = record {

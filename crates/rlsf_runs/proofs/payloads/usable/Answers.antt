@@ -1,4 +1,4 @@
-use Rattle.std.proofs.Common.{length, refl, sym, ◌∙◌, ap, rules}
+use Rattle.std.proofs.Common.{arith, length, refl, sym, ◌∙◌, ap, rules}
 use Rattle.rlsf_text.specs.declared.op.Answer.TheVariants.{Usable as Told, Refused}
 use Rattle.rlsf_text.specs.declared.op.Op.TheVariants.{Usable}
 use Rattle.rlsf_tlsf.proofs.Standing.{bytes_in, some_live_in}
@@ -21,4 +21,4 @@ pub allocation_usable_size-requires : goal.allocation_usable_size-requires
 allocation_usable_size-requires g c =
     let (s, at) = c.requires in
     let (u, owns, holds, _) = owned at c.args.name c.in-Some.payload (sym c.payload.ensures ∙ c.in-Some.is) in
-    (search rules, some_live_in at.stands (address c.in-Some.payload) (u, holds))
+    (omega arith, some_live_in at.stands (address c.in-Some.payload) (u, holds))

@@ -26,7 +26,7 @@ pub append_free_block_ptr-taken-requires : goal.append_free_block_ptr-taken-requ
 append_free_block_ptr-taken-requires g c =
     let (s, at) = c.requires in
     let may = MayAppend-tested at c.args.range c.in-Some.place (MayInsert-tested at c.args.range c.memory_ref.ensures.memory (c.is_vacant.ensures.0 c.if-not-is_vacant.false)) c.in-Some.ensures.found in
-    (search rules, of_state at.stands (λ x. IsNext (range_of c.args.tlsf.now.memory) x c.args.range) (IsNext-MayAppend at c.args.range may))
+    (omega arith, of_state at.stands (λ x. IsNext (range_of c.args.tlsf.now.memory) x c.args.range) (IsNext-MayAppend at c.args.range may))
 
 pub lengthen_pool-requires : goal.lengthen_pool-requires
 lengthen_pool-requires g c =

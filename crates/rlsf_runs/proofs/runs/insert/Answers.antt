@@ -29,7 +29,7 @@ insert_free_block_ptr-taken-requires g c =
     let (s, at) = c.requires.state in
     let may = MayInsert-tested at c.args.range c.memory_ref.ensures.memory (c.is_vacant.ensures.0 c.if-not-is_vacant.false) in
     let fresh = of_state at.stands (λ x. IsFresh (range_of c.args.tlsf.now.memory) x c.args.range) (IsFresh-MayInsert at c.args.range may) in
-    (search rules, parts_of-IsFresh (range_of c.args.tlsf.now.memory) c.args.tlsf.now.state c.args.range fresh)
+    (omega arith, parts_of-IsFresh (range_of c.args.tlsf.now.memory) c.args.tlsf.now.state c.args.range fresh)
 
 pub pool_of-requires : goal.pool_of-requires
 pool_of-requires g c =

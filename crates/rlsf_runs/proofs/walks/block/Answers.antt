@@ -1,5 +1,5 @@
 use mathlib.Core.Path.{ap₂}
-use Rattle.std.proofs.Common.{length, Some, None, rules, true≢false, refl, sym, ◌∙◌, ap, subst, ◌<◌, ◌^◌}
+use Rattle.std.proofs.Common.{arith, length, Some, None, true≢false, refl, sym, ◌∙◌, ap, subst, ◌<◌, ◌^◌}
 use Rattle.std.specs.Option.{option_map}
 use Rattle.rlsf_base.specs.Range.{LiesIn, end_of}
 use Rattle.rlsf_base.specs.Space.{range_of}
@@ -28,7 +28,7 @@ pub iter_blocks-requires : goal.iter_blocks-requires
 iter_blocks-requires g c =
     let (s, at) = c.requires in
     let may = MayWalk-tested at c.args.range c.memory_ref.ensures.memory (c.may_walk.ensures.0 c.if-not-may_walk.false) in
-    (search rules, of_state at.stands (λ x. IsRow x (walked c.args.range)) (IsRow-walked at c.args.range may))
+    (omega arith, of_state at.stands (λ x. IsRow x (walked c.args.range)) (IsRow-walked at c.args.range may))
 
 pub returns-in-Some : goal.returns-in-Some
 returns-in-Some g c = λ s at.

@@ -1,5 +1,5 @@
 -- The head of the least class from the first on that reaches the size is the choice.
-use Rattle.std.proofs.Common.{rules, ◌≡◌, Some, None, MatchOption, ◌∙◌, sym, subst}
+use Rattle.std.proofs.Common.{arith, rules, ◌≡◌, Some, None, MatchOption, ◌∙◌, sym, subst}
 use Rattle.rlsf_base.specs.declared.memory.range.Range.{Range}
 use Rattle.rlsf_machine.specs.Allocate.{choice}
 use Rattle.rlsf_table.specs.Table.{IsClassAt}
@@ -20,7 +20,7 @@ pub first_from-requires : goal.first_from-requires
 first_from-requires g c =
     let some = row_length-bounds g.row.SLLEN c.requires.parameters.power_of_two in
     let at = IsReaching-map_ceil g.row.FLLEN g.row.SLLEN c.args.size some.0 c.requires.size (c.in_ok-fl.fl, c.in_ok-fl.sl) (sym c.map_ceil.ensures ∙ c.in_ok-fl.was) in
-    (search rules, (c.requires.parameters, (at.row, at.place)))
+    (omega arith, (c.requires.parameters, (at.row, at.place)))
 
 pub returns-in_err-class : goal.returns-in_err-class
 returns-in_err-class g c = record {
@@ -36,7 +36,7 @@ pub head-requires : goal.head-requires
 head-requires g c =
     let (free, is) = c.requires.list in
     let least = c.in_ok-class.ensures.first free is.table.bits is.blocks in
-    (search rules, (least.0, least.1))
+    (omega arith, (least.0, least.1))
 
 pub returns : goal.returns
 returns g c = record {

@@ -15,7 +15,7 @@ pub head-newest-requires : goal.head-newest-requires
 head-newest-requires g c =
     let (r, free, place, len, beside) = c.requires.room in
     let at = IsClassAt-told c.requires.parameters beside.block c.args.len c.class_of-fl.result len c.class_of-fl.ensures in
-    (search rules, (at.row, at.place))
+    (omega arith, (at.row, at.place))
 
 pub link_front-requires-clause-place : goal.link_front-requires-clause-place
 link_front-requires-clause-place g c =
@@ -32,7 +32,7 @@ pub put-requires : goal.put-requires
 put-requires g c =
     let (r, free, place, len, beside) = c.requires.room in
     let at = IsClassAt-told c.requires.parameters beside.block c.args.len c.class_of-fl.result len c.class_of-fl.ensures in
-    (search rules, (c.requires.parameters, (at.row, at.place)))
+    (omega arith, (c.requires.parameters, (at.row, at.place)))
 
 pub returns : goal.returns
 returns g c = record {

@@ -27,7 +27,7 @@ pub take-requires : goal.take-requires
 take-requires g c =
     let (r, free, place, len, i, list) = c.requires.listed in
     let at = IsClassAt-told c.requires.parameters (list.blocks r i) c.args.len c.class_of-fl.result len c.class_of-fl.ensures in
-    (search rules, (c.requires.parameters, (at.row, at.place)))
+    (omega arith, (c.requires.parameters, (at.row, at.place)))
 
 pub returns-in_default : goal.returns-in_default
 returns-in_default g c = record {

@@ -1,4 +1,4 @@
-use Rattle.std.proofs.Common.{◌≡◌, ◌<◌, ◌++◌, ◌+◌, take, length, [], ◌∷◌, Ok, arith, rules, sym, ◌∙◌, ap, subst}
+use Rattle.std.proofs.Common.{◌≡◌, ◌<◌, ◌++◌, ◌+◌, take, length, [], ◌∷◌, Ok, arith, sym, ◌∙◌, ap, subst}
 use Rattle.std.proofs.lemmas.Iterator.{items_from_collect}
 use Rattle.std.proofs.lemmas.Iterator.Consumers.{YieldsList-from_shown}
 use Rattle.std.proofs.lemmas.List.{get_or_default, take_all, take_more}
@@ -19,7 +19,7 @@ iter_blocks-requires g c =
     let p = c.index.result.now in
     let below : c.loop-place.place < length pools = omega (arith, c.loop-place-test.true, c.len-place-end.ensures) in
     let there = subst (λ q. IsIn q pools) (sym c.index.ensures) (IsIn-at pools c.loop-place.place p below) in
-    (search rules, of_state at.stands (λ x. IsRow x (walked p)) (pool_walked at p there))
+    (omega arith, of_state at.stands (λ x. IsRow x (walked p)) (pool_walked at p there))
 
 pub loop-place-preserved : goal.loop-place-preserved
 loop-place-preserved g c =

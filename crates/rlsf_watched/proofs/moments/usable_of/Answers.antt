@@ -1,4 +1,4 @@
-use Rattle.std.proofs.Common.{length, Some, sym, ◌∙◌, ap, subst, rules}
+use Rattle.std.proofs.Common.{arith, length, Some, sym, ◌∙◌, ap, subst, rules}
 use Rattle.rlsf_tlsf.proofs.Standing.{bytes_in, some_live_in}
 use Rattle.rlsf_runs.specs.Names.{address}
 use Rattle.rlsf_runs.proofs.NamedPayloads.{owned}
@@ -10,7 +10,7 @@ allocation_usable_size-requires g c =
     let (s, at) = c.requires in
     let p = c.in-Some-payload.payload in
     let (u, owns, holds, _) = owned at c.in-Some.name p (sym c.payload.ensures ∙ c.in-Some-payload.is) in
-    (search rules, some_live_in at.stands (address p) (u, holds))
+    (omega arith, some_live_in at.stands (address p) (u, holds))
 
 pub returns : goal.returns
 returns g c = λ s at.

@@ -6,7 +6,7 @@ pub usable_of-after-requires : goal.usable_of-after-requires
 usable_of-after-requires g c =
     let (s, at, _) = c.requires.state in
     let (t, _, then, _) = c.step-answer.ensures.does s at in
-    (search rules, (t, then))
+    (omega arith, (t, then))
 
 pub moved_on-requires-clause-live : goal.moved_on-requires-clause-live
 moved_on-requires-clause-live g c =

@@ -18,7 +18,7 @@ append_free_block_ptr-taken-requires g c =
     let lies = within_is (range_of c.self.inside.heap.memory) c.args.range within in
     let is : true ≡ is_next c.self.inside.pool c.args.range.start = sym c.if-not-is_next.false ∙ c.is_next.ensures in
     let (some, ends) = next_is c.self.inside.pool c.args.range is in
-    (search rules, next_range c.self.invariant c.args.range some ends lies)
+    (omega arith, next_range c.self.invariant c.args.range some ends lies)
 
 pub invariant_of-self : goal.invariant_of-self
 invariant_of-self g c =

@@ -19,7 +19,7 @@ pub insert_free_block_ptr-requires : goal.insert_free_block_ptr-requires
 insert_free_block_ptr-requires g c =
     let within : true ≡ is_within (range_of c.self.inside.heap.memory) c.args.range = sym c.if-not-lies_in.false ∙ c.lies_in.ensures ∙ ap (λ m. is_within (range_of m) c.args.range) c.memory_ref.ensures.memory in
     let behind : end_of c.self.inside.pool ≤ c.args.range.start = omega (arith, c.if-range-self.false) in
-    (search rules, (within_is (range_of c.self.inside.heap.memory) c.args.range within, untouched c.self.invariant c.args.range behind))
+    (omega arith, (within_is (range_of c.self.inside.heap.memory) c.args.range within, untouched c.self.invariant c.args.range behind))
 
 pub invariant_of-self : goal.invariant_of-self
 invariant_of-self g c =

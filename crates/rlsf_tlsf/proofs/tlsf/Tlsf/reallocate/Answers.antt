@@ -45,7 +45,7 @@ pub reallocate_block-requires : goal.reallocate_block-requires
 reallocate_block-requires g c =
     let before = (goal.at.reallocate_block-requires g c).After-used_block-block in
     let f = found g before in
-    (search rules, (IsValid-widest g.FLBitmap.BitPattern.width_limit c.self.invariant.valid, ((state g before, f.used, f.stands, f.used_at), search rules)))
+    (omega arith, (IsValid-widest g.FLBitmap.BitPattern.width_limit c.self.invariant.valid, ((state g before, f.used, f.stands, f.used_at), search rules)))
 
 -- ---- the refusal
 

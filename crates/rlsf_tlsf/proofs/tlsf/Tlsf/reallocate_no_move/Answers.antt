@@ -1,4 +1,4 @@
-use Rattle.std.proofs.Common.{◌≡◌, ℕ, eqb, Some, None, refl, sym, ◌∙◌, ap, subst, ◌≤◌, ◌+◌, rules}
+use Rattle.std.proofs.Common.{arith, ◌≡◌, ℕ, eqb, Some, None, refl, sym, ◌∙◌, ap, subst, ◌≤◌, ◌+◌, rules}
 use Rattle.std.proofs.lemmas.Bool.{eqb-true, eqb-false}
 use Rattle.rlsf_base.specs.Addr.{at}
 use Rattle.rlsf_machine.specs.Callers.{align_at, bytes_at}
@@ -44,7 +44,7 @@ pub resize_block-requires : goal.resize_block-requires
 resize_block-requires g c =
     let before = (goal.at.resize_block-requires g c).After-used_block-block in
     let f = found g before in
-    (search rules, (IsValid-widest g.FLBitmap.BitPattern.width_limit c.self.invariant.valid, ((state g before, f.used, f.stands, f.used_at), search rules)))
+    (omega arith, (IsValid-widest g.FLBitmap.BitPattern.width_limit c.self.invariant.valid, ((state g before, f.used, f.stands, f.used_at), search rules)))
 
 -- ---- the refusal
 
