@@ -4,7 +4,8 @@ ghost use Rattle.std.specs.Prelude.{◌≡◌, ◌%◌, ◌+◌, ◌≤◌, ℕ,
 ghost use Rattle.rlsf_base.specs.Addr.{at};
 ghost use Rattle.rlsf_machine.specs.Callers.{align_at, bytes_at};
 
-use super::loans::{copy_front, place};
+use super::bytes::copy_front;
+use super::loans::place;
 use super::pools::{Small, Step, are, layout_of, takes_steps, with_pool, zeros};
 use rlsf::{Addr, Layout, Range};
 use std::process::Abort;

@@ -8,6 +8,8 @@ mod allocations;
 #[cfg(test)]
 mod appends;
 #[cfg(test)]
+mod bytes;
+#[cfg(test)]
 mod checked;
 #[cfg(test)]
 mod collections;
@@ -29,3 +31,5 @@ mod sizes;
 mod tables;
 #[cfg(test)]
 mod walks;
+#[cfg(test)]
+mod words;

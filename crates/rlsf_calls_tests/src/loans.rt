@@ -4,6 +4,7 @@ ghost use Rattle.std.specs.Prelude.{◌≡◌, ◌<◌, ℕ, IfSome, IsSome};
 ghost use Rattle.rlsf_base.specs.Addr.{at};
 ghost use Rattle.rlsf_machine.specs.Callers.{align_at};
 
+use super::bytes::copy_front;
 use super::pools::{Small, Wide, are, layout_of, wide, with_pool};
 use rlsf::int::BitPattern;
 use rlsf::{Addr, Layout, Tlsf};
@@ -24,12 +25,6 @@ fn filled(tlsf: &mut Small, layout: Layout, byte: u8, offset: usize) -> Option<u
 /// Bytes that were read, as numbers, 0 if there is none.
 pub(crate) fn numbers(first: Option<u8>, second: Option<u8>) -> [usize; 2] {
     [first.unwrap_or(0) as usize, second.unwrap_or(0) as usize]
-}
-
-/// Copies as many bytes as both have.
-pub(crate) fn copy_front(from: &[u8], to: &mut [u8]) {
-    let n = to.len().min(from.len());
-    to[..n].copy_from_slice(&from[..n]);
 }
 
 /// Allocates a payload and leaves bytes in its front, as many as there is room for. What was live stays live.

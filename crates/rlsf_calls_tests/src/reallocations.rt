@@ -4,7 +4,8 @@ ghost use Rattle.std.specs.Prelude.{◌≡◌, ◌≢◌, ◌<◌, length, IfSom
 ghost use Rattle.rlsf_base.specs.Addr.{at};
 ghost use Rattle.rlsf_machine.specs.Callers.{align_at};
 
-use super::loans::{copy_front, numbers};
+use super::bytes::copy_front;
+use super::loans::numbers;
 use super::pools::{Small, Step, Wide, are, layout_of, number, takes_steps, wide, with_pool};
 use rlsf::{Addr, Layout};
 use std::process::Abort;
@@ -18,9 +19,13 @@ fn kept(tlsf: &mut Small, layout: Layout, wanted: Layout, byte: u8, offset: usiz
     requires { (wanted.align ≡ layout.align) × (offset < layout.size) × (offset < wanted.size) }
     ensures { IfSome result (λ read. read ≡ byte) }
 {
-    let addr = tlsf.allocate(layout)?;
+    let Some(addr) = tlsf.allocate(layout) else {
+        return None;
+    };
     tlsf.payload_mut(addr).fill(byte);
-    let moved = tlsf.reallocate(addr, wanted)?;
+    let Some(moved) = tlsf.reallocate(addr, wanted) else {
+        return None;
+    };
     let bytes = tlsf.payload(moved);
     let read = bytes[offset];
     tlsf.deallocate(moved, wanted.align());
@@ -39,7 +44,9 @@ fn kept_there(
     requires { (wanted.align ≡ layout.align) × (offset < layout.size) × (offset < wanted.size) }
     ensures { IfSome result (λ read. read ≡ byte) }
 {
-    let addr = tlsf.allocate(layout)?;
+    let Some(addr) = tlsf.allocate(layout) else {
+        return None;
+    };
     tlsf.payload_mut(addr).fill(byte);
     if tlsf.reallocate_no_move(addr, wanted).is_none() {
         tlsf.deallocate(addr, layout.align());
@@ -137,9 +144,15 @@ fn second_moved(
     requires { wanted.align ≡ layouts.1.align }
     ensures { IfSome result (λ r. align_at tlsf.new.state (at (unwrap_or r.moved r.was)) ≡ Some wanted.align) }
 {
-    let first = tlsf.allocate(layouts.0)?;
-    let second = tlsf.allocate(layouts.1)?;
-    let third = tlsf.allocate(layouts.2)?;
+    let Some(first) = tlsf.allocate(layouts.0) else {
+        return None;
+    };
+    let Some(second) = tlsf.allocate(layouts.1) else {
+        return None;
+    };
+    let Some(third) = tlsf.allocate(layouts.2) else {
+        return None;
+    };
     let had = leave_bytes(tlsf.payload_mut(second));
     give_back(tlsf, (first, second, third), layouts, freed);
     let moved = tlsf.reallocate(second, wanted);

@@ -9,6 +9,7 @@
 ghost use Rattle.rlsf_base.specs.SizeClass.{IsValid};
 
 use super::pools::{layout_of, zeros};
+use super::words::next;
 use rlsf::classes::{pool_size_for_objects, pool_size_for_payloads};
 use rlsf::int::BitPattern;
 use rlsf::{Layout, Range, Tlsf};
@@ -226,12 +227,6 @@ fn pools_of_100_objects(rt: HostRuntime) {
 
 /// How many payloads are live at most in the random run.
 const NAMES: usize = 50;
-
-/// The next word of Knuth's linear generator for 64 bits, of which the high bytes serve best.
-fn next(word: u64) -> u64 {
-    word.wrapping_mul(6364136223846793005)
-        .wrapping_add(1442695040888963407)
-}
 
 /// What a word does to the payload of a name: one that isn't live is allocated, and a live one gets another size, or is given
 /// back, in one of eight times. Sizes go up to 700 bytes, alignments up to 64.

@@ -3,7 +3,6 @@
 use crate::cursor::{Habits, Question};
 use crate::heaps::{Case, Step, are_right};
 use rlsf_base::memory::Range;
-use std::test::Fail;
 
 /// A source that neither grows ranges nor takes them back.
 const NEITHER: Habits = Habits {
@@ -119,6 +118,6 @@ static CASES: [Case; 8] = [
 ];
 
 #[test]
-fn capabilities(rt: HostRuntime) -> Result<(), Fail> {
-    are_right(&rt, rt.alloc(), &CASES)
+fn capabilities(rt: HostRuntime) {
+    are_right(&rt, &CASES);
 }

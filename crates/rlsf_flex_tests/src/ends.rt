@@ -3,9 +3,8 @@
 use crate::cursor::{Habits, Question, Questions};
 use crate::heaps::{Case, Step, are_right, first_wrong, is_right, small};
 use rlsf_base::memory::Range;
-use std::alloc::Global;
 use std::cell::Cell;
-use std::test::Fail;
+use std::process::Abort;
 
 /// A source that takes ranges back, and gives what is asked at multiples of 32.
 const TAKING: Habits = Habits {
@@ -86,19 +85,18 @@ static CASES: [Case; 3] = [
 ];
 
 /// Takes the steps of a case and drops the allocator. Answers the index of the first step that went otherwise.
-fn dropped(alloc: Global, case: Case, seen: &Cell<Questions>) -> Result<Option<usize>, Fail> {
-    let mut flex = small(alloc, case.space, case.habits, seen)?;
-    Ok(first_wrong(&mut flex, case.steps))
+fn dropped(rt: &(impl Abort + AllocGlobal), case: Case, seen: &Cell<Questions>) -> Option<usize> {
+    let mut flex = small(rt, case.space, case.habits, seen);
+    first_wrong(&mut flex, case.steps)
 }
 
 #[test]
-fn ends(rt: HostRuntime) -> Result<(), Fail> {
-    are_right(&rt, rt.alloc(), &CASES)?;
+fn ends(rt: HostRuntime) {
+    are_right(&rt, &CASES);
     // A drop gives back what `into_parts` does.
     for case in &CASES {
         let seen = Cell::new(Questions::new());
-        let wrong = dropped(rt.alloc(), *case, &seen)?;
+        let wrong = dropped(&rt, *case, &seen);
         is_right(&rt, (wrong, seen.get().asked()), case.asked);
     }
-    Ok(())
 }

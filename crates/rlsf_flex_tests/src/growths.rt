@@ -5,10 +5,8 @@ use crate::heaps::{Case, Outcome, Step, are_right, is_right, number, parts};
 use rlsf_base::memory::{Layout, Range};
 use rlsf_flex::FlexTlsf;
 use rlsf_int::BitPattern;
-use std::alloc::Global;
 use std::cell::Cell;
 use std::process::Abort;
-use std::test::Fail;
 
 /// All but the last byte of the addresses from 4097 on.
 const ODD: Range = Range {
@@ -74,12 +72,12 @@ fn allocates<FLBitmap: BitPattern, SLBitmap: BitPattern, const FLLEN: usize, con
 }
 
 /// What comes of the allocations.
-fn outcome(alloc: Global, growth: Growth) -> Result<Outcome, Fail> {
-    let layout = Layout::from_size_align(growth.size, 1)?;
+fn outcome(rt: &(impl Abort + AllocGlobal), growth: Growth) -> Outcome {
+    let layout = Layout::from_size_align(growth.size, 1).expect(rt, "a layout");
     let seen = Cell::new(Questions::new());
-    let (memory, source) = parts(alloc, ODD, growth.habits, &seen)?;
+    let (memory, source) = parts(rt.alloc(), ODD, growth.habits, &seen).expect(rt, "memory");
     let addresses = growth.addresses;
-    Ok(match growth.shape {
+    match growth.shape {
         Shape::Wide => {
             let flex = FlexTlsf::<_, u16, u16, 12, 16>::new(memory, source);
             allocates(flex, layout, addresses)
@@ -96,15 +94,14 @@ fn outcome(alloc: Global, growth: Growth) -> Result<Outcome, Fail> {
             let flex = FlexTlsf::<_, u64, u8, 64, 1>::new(memory, source);
             allocates(flex, layout, addresses)
         }
-    })
+    }
 }
 
 /// Passes where what must comes of each.
-fn go_so(rt: &impl Abort, alloc: Global, growths: &[Growth]) -> Result<(), Fail> {
+fn go_so(rt: &(impl Abort + AllocGlobal), growths: &[Growth]) {
     for growth in growths {
-        is_right(rt, outcome(alloc, *growth)?, growth.asked);
+        is_right(rt, outcome(rt, *growth), growth.asked);
     }
-    Ok(())
 }
 
 const IN_PLACE: Growth = Growth {
@@ -125,8 +122,8 @@ static GROWN_IN_PLACE: [Growth; 2] = [
 ];
 
 #[test]
-fn grows_in_place(rt: HostRuntime) -> Result<(), Fail> {
-    go_so(&rt, rt.alloc(), &GROWN_IN_PLACE)
+fn grows_in_place(rt: HostRuntime) {
+    go_so(&rt, &GROWN_IN_PLACE);
 }
 
 const MORE_THAN_ASKED: Growth = Growth {
@@ -150,8 +147,8 @@ static WITH_MORE_THAN_ASKED: [Growth; 2] = [
 ];
 
 #[test]
-fn more_than_asked(rt: HostRuntime) -> Result<(), Fail> {
-    go_so(&rt, rt.alloc(), &WITH_MORE_THAN_ASKED)
+fn more_than_asked(rt: HostRuntime) {
+    go_so(&rt, &WITH_MORE_THAN_ASKED);
 }
 
 const THE_GREATEST_LAYOUT: Growth = Growth {
@@ -180,8 +177,8 @@ static GREATEST_LAYOUTS: [Growth; 3] = [
 ];
 
 #[test]
-fn the_greatest_layout(rt: HostRuntime) -> Result<(), Fail> {
-    go_so(&rt, rt.alloc(), &GREATEST_LAYOUTS)
+fn the_greatest_layout(rt: HostRuntime) {
+    go_so(&rt, &GREATEST_LAYOUTS);
 }
 
 /// A source of one range of 64 bytes.
@@ -237,6 +234,6 @@ static REFUSALS: [Case; 4] = [
 ];
 
 #[test]
-fn refusals(rt: HostRuntime) -> Result<(), Fail> {
-    are_right(&rt, rt.alloc(), &REFUSALS)
+fn refusals(rt: HostRuntime) {
+    are_right(&rt, &REFUSALS);
 }

@@ -6,12 +6,12 @@ ghost use Rattle.rlsf_base.specs.Range.{end_of};
 ghost use Rattle.rlsf_flex_tests.specs.HeapCursor.{heap_cursor, KeepsSpace, OwesAllocations};
 
 use crate::cursor::{Question, Questions};
-use crate::heaps::{Step, first_wrong, is_right};
+use crate::heaps::{Shaped, Step, first_wrong, is_right};
 use rlsf_base::memory::{Addr, Layout, Memory, Range};
 use rlsf_flex::{FlexTlsf, GlobalAlloc, GlobalAllocAsFlexSource};
 use std::marker::Model;
 use std::num::NonZeroUsize;
-use std::test::Fail;
+use std::process::Abort;
 
 /// An allocator that hands out its space from a cursor on, and remembers what it was asked.
 #[derive(Drop)]
@@ -118,17 +118,22 @@ static ASKED: [Question; 4] = [
     Question::DeallocLayout(4096, 1024, 1024),
 ];
 
-#[test]
-fn an_allocator_is_asked_for_whole_multiples(rt: HostRuntime) -> Result<(), Fail> {
-    let memory = Memory::new(rt.alloc(), 4096, 4096)?;
+/// An allocator over such an allocator of all addresses of a memory of 4096 bytes.
+pub fn over_allocator(
+    rt: &(impl Abort + AllocGlobal),
+) -> Shaped<GlobalAllocAsFlexSource<CursorAlloc, 1024>> {
+    let memory = Memory::new(rt.alloc(), 4096, 4096).expect(rt, "memory");
     let space = Range {
         start: 4096,
         len: 4096,
     };
-    let source = GlobalAllocAsFlexSource::<_, 1024>(CursorAlloc::new(space));
-    let mut flex = FlexTlsf::<_, u8, u8, 8, 8>::new(memory, source);
+    FlexTlsf::new(memory, GlobalAllocAsFlexSource(CursorAlloc::new(space)))
+}
+
+#[test]
+fn an_allocator_is_asked_for_whole_multiples(rt: HostRuntime) {
+    let mut flex = over_allocator(&rt);
     let wrong = first_wrong(&mut flex, &STEPS);
     let (_, source) = flex.into_parts();
     is_right(&rt, (wrong, source.0.asked()), &ASKED);
-    Ok(())
 }

@@ -75,13 +75,13 @@ pub fn parts<'a>(
 
 /// An allocator over such a source.
 pub fn small<'a>(
-    alloc: Global,
+    rt: &(impl Abort + AllocGlobal),
     space: Range,
     habits: Habits,
     seen: &'a Cell<Questions>,
-) -> Result<Small<'a>, Fail> {
-    let (memory, source) = parts(alloc, space, habits, seen)?;
-    Ok(FlexTlsf::new(memory, source))
+) -> Small<'a> {
+    let (memory, source) = parts(rt.alloc(), space, habits, seen).expect(rt, "memory");
+    FlexTlsf::new(memory, source)
 }
 
 /// An address as a number, 0 if there is none.
@@ -141,9 +141,9 @@ pub fn first_wrong<S: FlexSource>(flex: &mut Shaped<S>, steps: &[Step]) -> Optio
 }
 
 /// What comes of a case up to its end. A source that takes nothing back must be asked nothing in the end.
-pub fn outcome(alloc: Global, case: Case) -> Result<Outcome, Fail> {
+pub fn outcome(rt: &(impl Abort + AllocGlobal), case: Case) -> Outcome {
     let seen = Cell::new(Questions::new());
-    let mut flex = small(alloc, case.space, case.habits, &seen)?;
+    let mut flex = small(rt, case.space, case.habits, &seen);
     let wrong = first_wrong(&mut flex, case.steps);
     let before = flex.source_ref().asked();
     let (memory, source) = flex.into_parts();
@@ -153,18 +153,17 @@ pub fn outcome(alloc: Global, case: Case) -> Result<Outcome, Fail> {
         None => true,
     };
     if is_left && (case.habits.dealloc || before == asked) {
-        Ok((wrong, asked))
+        (wrong, asked)
     } else {
-        Ok((Some(case.steps.len()), asked))
+        (Some(case.steps.len()), asked)
     }
 }
 
 /// Passes where what must comes of each case.
-pub fn are_right(rt: &impl Abort, alloc: Global, cases: &[Case]) -> Result<(), Fail> {
+pub fn are_right(rt: &(impl Abort + AllocGlobal), cases: &[Case]) {
     for case in cases {
-        is_right(rt, outcome(alloc, *case)?, case.asked);
+        is_right(rt, outcome(rt, *case), case.asked);
     }
-    Ok(())
 }
 
 /// These questions, and no others.

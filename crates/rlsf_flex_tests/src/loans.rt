@@ -9,7 +9,6 @@ use crate::heaps::{Small, bytes, is_right, small};
 use rlsf_base::memory::{Addr, Layout, Range};
 use rlsf_flex::{FlexSource, SourceChange};
 use std::cell::Cell;
-use std::test::Fail;
 
 /// Leaves the source as it is, and answers a number.
 #[derive(Drop)]
@@ -99,48 +98,43 @@ static GROWN_AND_GIVEN_BACK: [Question; 3] = [
 ];
 
 #[test]
-fn a_payload_moves_into_growth(rt: HostRuntime) -> Result<(), Fail> {
+fn a_payload_moves_into_growth(rt: HostRuntime) {
     let seen = Cell::new(Questions::new());
-    let mut flex = small(rt.alloc(), ALL, HABITS, &seen)?;
+    let mut flex = small(&rt, ALL, HABITS, &seen);
     let moved = moved(&mut flex);
     let (_, source) = flex.into_parts();
     assert_eq!(rt; moved, Some(([4112, 4176], [true, true])));
     is_right(&rt, (None, source.asked()), &GROWN_AND_GIVEN_BACK);
-    Ok(())
 }
 
 static GROWN: [Question; 2] = [Question::Alloc(64), Question::Grow(4096, 64, 672)];
 
 #[test]
-fn two_payloads_with_a_growth_between(rt: HostRuntime) -> Result<(), Fail> {
-    let first = Layout::from_size_align(16, 1)?;
-    let second = Layout::from_size_align(500, 8)?;
+fn two_payloads_with_a_growth_between(rt: HostRuntime) {
+    let second = Layout::from_size_align(500, 8).expect(&rt, "a layout");
     let seen = Cell::new(Questions::new());
-    let mut flex = small(rt.alloc(), ALL, HABITS, &seen)?;
-    let read = two(&mut flex, first, second);
+    let mut flex = small(&rt, ALL, HABITS, &seen);
+    let read = two(&mut flex, bytes(16), second);
     assert_eq!(rt; read, Some((7, 9)));
     is_right(&rt, (None, flex.source_ref().asked()), &GROWN);
-    Ok(())
 }
 
 #[test]
-fn a_copy_asks_nothing(rt: HostRuntime) -> Result<(), Fail> {
+fn a_copy_asks_nothing(rt: HostRuntime) {
     let seen = Cell::new(Questions::new());
-    let mut flex = small(rt.alloc(), ALL, HABITS, &seen)?;
+    let mut flex = small(&rt, ALL, HABITS, &seen);
     if let Some(addr) = filled(&mut flex, bytes(16), 7) {
         flex.copy_payload(addr, addr, 0);
     }
     let asked = flex.source_ref().asked();
     is_right(&rt, (None, asked), &[Question::Alloc(64)]);
-    Ok(())
 }
 
 #[test]
-fn a_change_of_the_source(rt: HostRuntime) -> Result<(), Fail> {
+fn a_change_of_the_source(rt: HostRuntime) {
     let seen = Cell::new(Questions::new());
-    let mut flex = small(rt.alloc(), ALL, HABITS, &seen)?;
+    let mut flex = small(&rt, ALL, HABITS, &seen);
     let looked = flex.source_mut_unchecked(Look(7));
     assert_eq!(rt; looked, 7);
     is_right(&rt, (None, flex.source_ref().asked()), &[]);
-    Ok(())
 }

@@ -8,8 +8,7 @@ ghost use Rattle.rlsf_machine.specs.FlexState.{empty};
 use rlsf_base::memory::{Addr, Layout, Memory, Range};
 use rlsf_flex::FlexTlsf;
 use rlsf_listed_source::{Capabilities, ListedSource, Question, SourceAnswer};
-use std::alloc::Global;
-use std::test::Fail;
+use std::process::Abort;
 
 /// Two payloads of one byte, from an allocator that has asked for nothing, over a source that neither grows a range nor takes one
 /// back. It has room for two questions.
@@ -35,17 +34,22 @@ const PLAIN: Capabilities = Capabilities {
 };
 
 /// Whether a source with one answer is asked these questions for two payloads.
-fn are_asked(alloc: Global, answer: SourceAnswer, questions: &[Question]) -> Result<bool, Fail> {
+fn are_asked(
+    rt: &(impl Abort + AllocGlobal),
+    answer: SourceAnswer,
+    questions: &[Question],
+) -> bool {
+    let alloc = rt.alloc();
     let space = Range {
         start: 4096,
         len: 1024,
     };
-    let memory = Memory::new(alloc, 4096, 1024)?;
-    let answers = [answer].to_vec(alloc)?;
-    let source = ListedSource::new(alloc, space, PLAIN, answers, 2)?;
+    let memory = Memory::new(alloc, 4096, 1024).expect(rt, "memory");
+    let answers = [answer].to_vec(alloc).expect(rt, "memory");
+    let source = ListedSource::new(alloc, space, PLAIN, answers, 2).expect(rt, "memory");
     let mut flex = FlexTlsf::<_, u8, u8, 8, 8>::new(memory, source);
     let _payloads = two_payloads(&mut flex);
-    Ok(flex.source_ref().asked() == questions)
+    flex.source_ref().asked() == questions
 }
 
 /// A range for one payload.
@@ -74,10 +78,9 @@ static CASES: [(SourceAnswer, &[Question]); 3] = [
 ];
 
 #[test]
-fn questions_for_two_payloads(rt: HostRuntime) -> Result<(), Fail> {
+fn questions_for_two_payloads(rt: HostRuntime) {
     for (index, (answer, questions)) in CASES.iter().enumerate() {
-        let is_so = are_asked(rt.alloc(), *answer, questions)?;
+        let is_so = are_asked(&rt, *answer, questions);
         assert!(rt; is_so, "the case at {index}");
     }
-    Ok(())
 }

@@ -12,7 +12,8 @@ use rlsf_flex::FlexTlsf;
 use rlsf_flex_runs::run_flex;
 use rlsf_listed_source::{Capabilities, ListedSource, Question, SourceAnswer};
 use rlsf_text::{Answer, Op, Trace, text_of};
-use std::alloc::{AllocError, Global};
+use std::alloc::AllocError;
+use std::process::Abort;
 
 /// The answers of a source, the calls of its runs, and what each run answers and asks: first with the answers as they are, and then
 /// with each of them replaced by none.
@@ -30,25 +31,25 @@ struct Left {
     source: ListedSource,
 }
 
-/// What ops leave over a source with these answers; nothing where the system refuses memory.
+/// What ops leave over a source with these answers.
 fn left_by(
-    alloc: Global,
+    rt: &(impl Abort + AllocGlobal),
     capabilities: Capabilities,
     given: &[SourceAnswer],
     ops: &[Op],
-) -> Option<Left>
+) -> Left
     requires { IsPowerOfTwo capabilities.min_align }
 {
-    let (first, fresh) = parts(alloc, capabilities, given)?;
+    let (first, fresh) = parts(rt.alloc(), capabilities, given).expect(rt, "memory");
     let mut flex = FlexTlsf::<_, u8, u8, 8, 8>::new(first, fresh);
-    let mut answers = Vec::new(alloc);
-    run_flex(alloc, &mut flex, ops, &mut answers).ok()?;
+    let mut answers = Vec::new(rt.alloc());
+    run_flex(rt.alloc(), &mut flex, ops, &mut answers).expect(rt, "memory");
     let (memory, source) = flex.into_parts();
-    Some(Left {
+    Left {
         answers,
         memory,
         source,
-    })
+    }
 }
 
 /// The questions up to the end, and those at the end: the ranges that were outstanding then.
@@ -101,16 +102,16 @@ fn follows(before: &Left, after: &Left) -> bool {
 /// What the ops leave; nothing where one of them, done as the last one, doesn't answer what it answers among all of them, or is refused and
 /// leaves something else than was there.
 fn left_by_each(
-    alloc: Global,
+    rt: &(impl Abort + AllocGlobal),
     capabilities: Capabilities,
     given: &[SourceAnswer],
     ops: &[Op],
 ) -> Option<Left>
     requires { IsPowerOfTwo capabilities.min_align }
 {
-    let mut before = left_by(alloc, capabilities, given, &[])?;
+    let mut before = left_by(rt, capabilities, given, &[]);
     for (place, _) in ops.iter().enumerate() {
-        let after = left_by(alloc, capabilities, given, &ops[..=place])?;
+        let after = left_by(rt, capabilities, given, &ops[..=place]);
         if !follows(&before, &after) {
             return None;
         }
@@ -120,12 +121,16 @@ fn left_by_each(
 }
 
 /// The answers of a list, one of which is replaced by none if the run isn't the first.
-fn replaced(alloc: Global, given: &[SourceAnswer], run: usize) -> Option<Vec<SourceAnswer>> {
-    let mut answers = given.to_vec(alloc).ok()?;
+fn replaced(
+    rt: &(impl Abort + AllocGlobal),
+    given: &[SourceAnswer],
+    run: usize,
+) -> Vec<SourceAnswer> {
+    let mut answers = given.to_vec(rt.alloc()).expect(rt, "memory");
     if 0 < run && run <= answers.len() {
         answers[run - 1] = SourceAnswer::None;
     }
-    Some(answers)
+    answers
 }
 
 /// A line for a question.
@@ -148,29 +153,38 @@ fn tell(text: &mut String, question: Question) -> Result<(), AllocError> {
     }
 }
 
-/// What a run answers and asks; nothing where a refused call changes something, or the system refuses memory.
-fn told(alloc: Global, capabilities: Capabilities, list: &List, run: usize) -> Option<String>
+/// What a run answers and asks; nothing where a refused call changes something.
+fn told(
+    rt: &(impl Abort + AllocGlobal),
+    capabilities: Capabilities,
+    list: &List,
+    run: usize,
+) -> Option<String>
     requires { IsPowerOfTwo capabilities.min_align }
 {
-    let ops = Trace::parse(alloc, list.trace.as_bytes()).ok()?.ops;
-    let given = replaced(alloc, list.answers, run)?;
-    let left = left_by_each(alloc, capabilities, &given, &ops)?;
-    let mut text = text_of(alloc, &ops, &left.answers).ok()?;
+    let trace = Trace::parse(rt.alloc(), list.trace.as_bytes()).expect(rt, "a trace");
+    let given = replaced(rt, list.answers, run);
+    let left = left_by_each(rt, capabilities, &given, &trace.ops)?;
+    let mut text = text_of(rt.alloc(), &trace.ops, &left.answers).expect(rt, "memory");
     for question in left.source.asked() {
-        tell(&mut text, *question).ok()?;
+        tell(&mut text, *question).expect(rt, "memory");
     }
     Some(text)
 }
 
 /// The first run that goes otherwise, or 0 where there isn't a run for each answer and one more.
-fn first_wrong(alloc: Global, capabilities: Capabilities, list: &List) -> Option<usize>
+fn first_wrong(
+    rt: &(impl Abort + AllocGlobal),
+    capabilities: Capabilities,
+    list: &List,
+) -> Option<usize>
     requires { IsPowerOfTwo capabilities.min_align }
 {
     if list.answers.len().checked_add(1) != Some(list.runs.len()) {
         return Some(0);
     }
     for (run, wanted) in list.runs.iter().enumerate() {
-        match told(alloc, capabilities, list, run) {
+        match told(rt, capabilities, list, run) {
             Some(text) if text.as_str() == *wanted => {}
             _ => return Some(run),
         }
@@ -202,11 +216,10 @@ const TAKES: Capabilities = Capabilities {
 
 #[test]
 fn each_answer_refused(rt: HostRuntime) {
-    let alloc = rt.alloc();
     let found = [
-        first_wrong(alloc, GROWS, &GROWS_AND_TAKES_BACK),
-        first_wrong(alloc, CLAIMS, &CLAIMS_CONTIGUITY),
-        first_wrong(alloc, TAKES, &TAKES_BACK),
+        first_wrong(&rt, GROWS, &GROWS_AND_TAKES_BACK),
+        first_wrong(&rt, CLAIMS, &CLAIMS_CONTIGUITY),
+        first_wrong(&rt, TAKES, &TAKES_BACK),
     ];
     assert_eq!(rt; found, [None; 3]);
 }

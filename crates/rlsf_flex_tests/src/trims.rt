@@ -1,15 +1,14 @@
 //! Trims: what goes back to a source while payloads live, what comes after it, and what is left for the end.
 
 use crate::cursor::{Habits, Question, Questions};
-use crate::heap_source::CursorAlloc;
+use crate::heap_source::over_allocator;
 use crate::heaps::{Case, Shaped, Step, are_right, bytes, first_wrong, footer, is_right, small};
-use rlsf_base::memory::{Memory, Range};
-use rlsf_flex::{FlexSource, FlexTlsf, GlobalAllocAsFlexSource};
+use crate::sources::parts_of;
+use rlsf_base::memory::Range;
+use rlsf_flex::{FlexSource, FlexTlsf};
 use rlsf_listed_source::{Capabilities, ListedSource, Question as Asked, SourceAnswer};
-use std::alloc::Global;
 use std::cell::Cell;
 use std::process::Abort;
-use std::test::Fail;
 
 /// All addresses of the memory.
 const ALL: Range = Range {
@@ -164,8 +163,8 @@ fn went(rt: &impl Abort, shrunk: Option<Shrunk>, expected: Shrunk) {
 }
 
 #[test]
-fn trims_with_each_capability(rt: HostRuntime) -> Result<(), Fail> {
-    are_right(&rt, rt.alloc(), &CASES)
+fn trims_with_each_capability(rt: HostRuntime) {
+    are_right(&rt, &CASES);
 }
 
 static TWO_RANGES_WENT: [Question; 4] = [
@@ -176,15 +175,12 @@ static TWO_RANGES_WENT: [Question; 4] = [
 ];
 
 #[test]
-fn two_ranges_go_back_one_after_the_other(rt: HostRuntime) -> Result<(), Fail> {
-    let memory = Memory::new(rt.alloc(), 4096, 4096)?;
-    let source = GlobalAllocAsFlexSource::<_, 1024>(CursorAlloc::new(ALL));
-    let mut flex = FlexTlsf::<_, u8, u8, 8, 8>::new(memory, source);
+fn two_ranges_go_back_one_after_the_other(rt: HostRuntime) {
+    let mut flex = over_allocator(&rt);
     let shrunk = shrinks(&mut flex, 1, 2000);
     let (_, source) = flex.into_parts();
     went(&rt, shrunk, ([4112, 5136], [0, 1, 1]));
     is_right(&rt, (None, source.0.asked()), &TWO_RANGES_WENT);
-    Ok(())
 }
 
 /// All addresses of the memory but the first.
@@ -208,14 +204,13 @@ static A_GROWN_RANGE_WENT: [Question; 3] = [
 ];
 
 #[test]
-fn a_range_that_grew_goes_back_once(rt: HostRuntime) -> Result<(), Fail> {
+fn a_range_that_grew_goes_back_once(rt: HostRuntime) {
     let seen = Cell::new(Questions::new());
-    let mut flex = small(rt.alloc(), ODD, GROWING, &seen)?;
+    let mut flex = small(&rt, ODD, GROWING, &seen);
     let shrunk = shrinks(&mut flex, 1, 1);
     let (_, source) = flex.into_parts();
     went(&rt, shrunk, ([4144, 4208], [0, 0, 1]));
     is_right(&rt, (None, source.asked()), &A_GROWN_RANGE_WENT);
-    Ok(())
 }
 
 /// The two ranges of a source that gives one, doesn't grow it at first, and gives another.
@@ -230,7 +225,7 @@ const SECOND: Range = Range {
 };
 
 /// An allocator over a source with these answers.
-fn over_answers(alloc: Global, answers: &[SourceAnswer]) -> Result<Shaped<ListedSource>, Fail> {
+fn over_answers(rt: &(impl Abort + AllocGlobal), answers: &[SourceAnswer]) -> Shaped<ListedSource> {
     let space = Range {
         start: 4096,
         len: 8192,
@@ -241,9 +236,10 @@ fn over_answers(alloc: Global, answers: &[SourceAnswer]) -> Result<Shaped<Listed
         contiguous: false,
         min_align: 32,
     };
-    let memory = Memory::new(alloc, 4096, 8192)?;
-    let source = ListedSource::new(alloc, space, capabilities, answers.to_vec(alloc)?, 8)?;
-    Ok(FlexTlsf::new(memory, source))
+    let answers = answers.to_vec(rt.alloc()).expect(rt, "memory");
+    let parts = parts_of(rt.alloc(), space, capabilities, answers, 8);
+    let (memory, source) = parts.expect(rt, "memory");
+    FlexTlsf::new(memory, source)
 }
 
 static ANSWERS: [SourceAnswer; 4] = [
@@ -274,13 +270,12 @@ static ASKED: [Asked; 6] = [
 ];
 
 #[test]
-fn the_range_before_grows_after_a_trim(rt: HostRuntime) -> Result<(), Fail> {
-    let mut flex = over_answers(rt.alloc(), &ANSWERS)?;
+fn the_range_before_grows_after_a_trim(rt: HostRuntime) {
+    let mut flex = over_answers(&rt, &ANSWERS);
     let wrong = first_wrong(&mut flex, &GROWN_AGAIN);
     let (memory, source) = flex.into_parts();
     // The footer moved there from 4176.
     let moved = footer(&memory, 4240);
     let found = (wrong, moved, source.asked());
     assert_eq!(rt; found, (None, Some((0, 0)), ASKED.as_slice()));
-    Ok(())
 }

@@ -1,8 +1,9 @@
 //! Scripts of calls, each with what it answers. Payloads lie at the first multiple of their alignment that leaves 16 bytes before it, and
 //! blocks are as short as multiples of 32 allow.
 
-use super::pools::{Small, at, memory, number, small};
-use rlsf_base::memory::{Layout, Range};
+use super::pools::{START, Small, at, number, small};
+use crate::pools::{layout_of, zeros};
+use rlsf_base::memory::Range;
 use rlsf_checked::{CheckedError, CheckedTlsf};
 use std::process::Abort;
 
@@ -49,11 +50,6 @@ fn has_block(pool: &Small, place: usize, start: usize, size: usize, is_used: boo
     }
 }
 
-/// The layout of a size and an alignment, which the scripts know to be right.
-fn layout(rt: &impl Abort, size: usize, align: usize) -> Layout {
-    Layout::from_size_align(size, align).expect(rt, "a layout")
-}
-
 /// Whether a call on a payload answers what it should.
 fn answers_as(pool: &mut Small, rt: &impl Abort, step: &Step) -> bool {
     match step {
@@ -65,7 +61,7 @@ fn answers_as(pool: &mut Small, rt: &impl Abort, step: &Step) -> bool {
             start: *start,
             len: *len,
         }) == *wanted,
-        Step::Allocate(size, align, wanted) => number(pool.allocate(layout(rt, *size, *align)))
+        Step::Allocate(size, align, wanted) => number(pool.allocate(layout_of(rt, *size, *align)))
             == *wanted,
         Step::Deallocate(addr, wanted) => pool.deallocate(at(rt, *addr)) == *wanted,
         Step::Reallocate(addr, size, wanted) => number(pool.reallocate(at(rt, *addr), *size))
@@ -217,11 +213,11 @@ fn strange_addresses_are_refused(rt: HostRuntime) {
 #[test]
 fn classes_are_tested(rt: HostRuntime) {
     let alloc = rt.alloc();
-    let too_many_rows = CheckedTlsf::<u8, u8, 9, 4>::new(alloc, memory(&rt, 64)).err();
-    let no_rows = CheckedTlsf::<u8, u8, 0, 4>::new(alloc, memory(&rt, 64)).err();
-    let no_power_of_two = CheckedTlsf::<u8, u8, 8, 3>::new(alloc, memory(&rt, 64)).err();
-    let too_many_classes = CheckedTlsf::<u8, u8, 8, 16>::new(alloc, memory(&rt, 64)).err();
-    let all = CheckedTlsf::<u8, u8, 8, 8>::new(alloc, memory(&rt, 64)).err();
+    let too_many_rows = CheckedTlsf::<u8, u8, 9, 4>::new(alloc, zeros(&rt, START, 64)).err();
+    let no_rows = CheckedTlsf::<u8, u8, 0, 4>::new(alloc, zeros(&rt, START, 64)).err();
+    let no_power_of_two = CheckedTlsf::<u8, u8, 8, 3>::new(alloc, zeros(&rt, START, 64)).err();
+    let too_many_classes = CheckedTlsf::<u8, u8, 8, 16>::new(alloc, zeros(&rt, START, 64)).err();
+    let all = CheckedTlsf::<u8, u8, 8, 8>::new(alloc, zeros(&rt, START, 64)).err();
     let errors = [
         too_many_rows,
         no_rows,
@@ -233,23 +229,40 @@ fn classes_are_tested(rt: HostRuntime) {
     assert_eq!(rt; errors, [invalid, invalid, invalid, invalid, None]);
 }
 
+/// Chunks of any length.
+type Growing = CheckedTlsf<u64, u64, 59, 8>;
+
+/// What is taken of a range, of a few bytes behind it and of more, where the last chunk grows.
+fn grown(pool: &mut Growing) -> [Result<usize, CheckedError>; 3] {
+    [
+        pool.insert(Range {
+            start: 4096,
+            len: 128,
+        }),
+        pool.append(Range {
+            start: 4224,
+            len: 31,
+        }),
+        pool.append(Range {
+            start: 4224,
+            len: 70,
+        }),
+    ]
+}
+
+/// The size of the first block.
+fn first_size(pool: &Growing) -> Option<usize> {
+    match pool.blocks().next() {
+        Some(block) => Some(block.size()),
+        None => None,
+    }
+}
+
 #[test]
 fn the_last_chunk_grows(rt: HostRuntime) {
-    let pool = CheckedTlsf::<u64, u64, 59, 8>::new(rt.alloc(), memory(&rt, 1024));
+    let pool = Growing::new(rt.alloc(), zeros(&rt, START, 1024));
     let mut pool = pool.expect(&rt, "an allocator");
-    let first = pool.insert(Range {
-        start: 4096,
-        len: 128,
-    });
-    let short = pool.append(Range {
-        start: 4224,
-        len: 31,
-    });
-    let second = pool.append(Range {
-        start: 4224,
-        len: 70,
-    });
-    let size = pool.blocks().next().map(|block| block.size());
+    let found = (grown(&mut pool), first_size(&pool));
     let taken = [Ok(128), Err(CheckedError::TooShort), Ok(64)];
-    assert_eq!(rt; ([first, short, second], size), (taken, Some(160)));
+    assert_eq!(rt; found, (taken, Some(160)));
 }

@@ -1,6 +1,7 @@
 //! What the tests share.
 
-use rlsf_base::memory::{Addr, Memory};
+use crate::pools::zeros;
+use rlsf_base::memory::Addr;
 use rlsf_checked::{CheckedError, CheckedTlsf};
 use std::num::NonZeroUsize;
 use std::process::Abort;
@@ -11,14 +12,9 @@ pub(crate) const START: usize = 4096;
 /// 12 rows of 16 classes.
 pub(crate) type Small = CheckedTlsf<u16, u16, 12, 16>;
 
-/// A memory of so many bytes.
-pub(crate) fn memory(rt: &(impl Abort + AllocGlobal), len: usize) -> Memory {
-    Memory::new(rt.alloc(), START, len).expect(rt, "a memory")
-}
-
 /// An allocator over so many bytes, of which none are handed in.
 pub(crate) fn small(rt: &(impl Abort + AllocGlobal), len: usize) -> Small {
-    Small::new(rt.alloc(), memory(rt, len)).expect(rt, "an allocator")
+    Small::new(rt.alloc(), zeros(rt, START, len)).expect(rt, "an allocator")
 }
 
 /// The address of a number that isn't 0.

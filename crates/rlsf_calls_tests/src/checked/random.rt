@@ -1,7 +1,10 @@
 //! Random calls against a plain table of what must live.
 
 use super::pools::{START, Small, small};
-use rlsf_base::memory::{Addr, Layout, Range};
+use crate::bytes::is_all;
+use crate::pools::layout_of;
+use crate::words::next;
+use rlsf_base::memory::{Addr, Range};
 use rlsf_checked::CheckedError;
 use std::num::NonZeroUsize;
 use std::process::Abort;
@@ -22,21 +25,16 @@ struct Entry {
 
 /// Passes where the answer is true, and tells else what is wrong.
 fn passes(rt: &impl Abort, answer: bool, wrong: &str) {
-    assert!(rt; answer, "{wrong}");
-}
-
-/// The next word of Knuth's linear generator for 64 bits, of which the high bytes serve best.
-fn next(word: u64) -> u64 {
-    word.wrapping_mul(6364136223846793005)
-        .wrapping_add(1442695040888963407)
+    answer.then_some(()).expect(rt, wrong);
 }
 
 /// Whether the payload of an entry has its bytes.
 fn holds(pool: &Small, entry: Entry) -> bool {
     match pool.payload(entry.addr) {
-        Ok(bytes) => bytes
-            .get(..entry.size)
-            .is_some_and(|asked| asked.iter().all(|byte| *byte == entry.byte)),
+        Ok(bytes) => match bytes.get(..entry.size) {
+            Some(asked) => is_all(asked, entry.byte),
+            None => false,
+        },
         Err(_) => false,
     }
 }
@@ -66,8 +64,7 @@ fn found(rt: &impl Abort, answer: Result<Addr, CheckedError>) -> Option<Addr> {
 
 /// Allocates a payload and fills it, where there is room.
 fn placed(pool: &mut Small, rt: &impl Abort, size: usize, align: usize, byte: u8) -> Option<Entry> {
-    let layout = Layout::from_size_align(size, align).expect(rt, "a layout");
-    let addr = found(rt, pool.allocate(layout))?;
+    let addr = found(rt, pool.allocate(layout_of(rt, size, align)))?;
     let entry = Entry { addr, size, byte };
     fill(pool, rt, entry);
     Some(entry)

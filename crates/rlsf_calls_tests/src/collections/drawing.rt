@@ -1,64 +1,49 @@
 //! Pictures of one pool: what stands in each line, and the widths 0 and 1.
 
-ghost use Rattle.std.specs.Prelude.{IfOk};
 ghost use Rattle.rlsf_base.specs.Range.{range_at};
 ghost use Rattle.rlsf_machine.specs.ChunkRows.{IsRow};
 
-use rlsf::{Layout, Memory, MemoryError, Range, Tlsf};
+use crate::pools::{Small, layout_of, with_pool};
+use rlsf::{Blocks, Range};
 use rlsf_collections::picture;
-use std::alloc::{AllocError, Global};
-use std::test::Fail;
+use std::process::Abort;
 
-type Small = Tlsf<u8, u8, 8, 8>;
-
-/// An allocator over 256 bytes from the address 4096 on, which are one chunk.
-fn one_chunk(alloc: Global) -> Result<Small, MemoryError>
-    ensures { IfOk result (λ tlsf. IsRow tlsf.state (range_at 4096 256)) }
+/// An allocator over 256 bytes from the address 4096 on, which are one chunk, with two payloads, of 1 byte and of 40.
+fn two_payloads(rt: &(impl Abort + AllocGlobal)) -> Small
+    ensures { IsRow result.state (range_at 4096 256) }
 {
-    let memory = Memory::new(alloc, 4096, 256)?;
-    let mut tlsf = Small::new(memory);
-    tlsf.insert_free_block(Range {
-        start: 4096,
-        len: 256,
-    });
-    Ok(tlsf)
+    let mut tlsf = with_pool(rt, 256);
+    let _ = tlsf.allocate(layout_of(rt, 1, 1));
+    let _ = tlsf.allocate(layout_of(rt, 40, 8));
+    tlsf
 }
 
-/// That allocator with two payloads, of 1 byte and of 40.
-fn two_payloads(alloc: Global) -> Result<Small, Fail>
-    ensures { IfOk result (λ tlsf. IsRow tlsf.state (range_at 4096 256)) }
-{
-    let mut tlsf = one_chunk(alloc)?;
-    let _ = tlsf.allocate(Layout::from_size_align(1, 1)?);
-    let _ = tlsf.allocate(Layout::from_size_align(40, 8)?);
-    Ok(tlsf)
+/// Passes where the picture of these blocks is this text.
+fn are_drawn(rt: &(impl Abort + AllocGlobal), blocks: Blocks<'_>, width: usize, text: &str) {
+    let drawn = picture(rt.alloc(), blocks, width).expect(rt, "memory");
+    assert_eq!(rt; drawn.as_str(), text);
 }
 
-/// The picture of the chunk.
-fn drawn(alloc: Global, tlsf: &Small, width: usize) -> Result<String, AllocError>
+/// Passes where the picture of the chunk is this text.
+fn is_drawn(rt: &(impl Abort + AllocGlobal), tlsf: &Small, width: usize, text: &str)
     requires { IsRow tlsf.now.state (range_at 4096 256) }
 {
-    let blocks = tlsf.iter_blocks(Range {
+    let chunk = Range {
         start: 4096,
         len: 256,
-    });
-    picture(alloc, blocks, width)
+    };
+    are_drawn(rt, tlsf.iter_blocks(chunk), width, text);
 }
 
 #[test]
-fn one_free_block_and_an_empty_range(rt: HostRuntime) -> Result<(), Fail> {
-    let tlsf = one_chunk(rt.alloc())?;
-    let blocks = tlsf.iter_blocks(Range {
+fn one_free_block_and_an_empty_range(rt: HostRuntime) {
+    let tlsf = with_pool(&rt, 256);
+    let nowhere = Range {
         start: 4096,
         len: 0,
-    });
-    let nothing = picture(rt.alloc(), blocks, 16)?;
-    let text = drawn(rt.alloc(), &tlsf, 16)?;
-    assert_eq!(rt;
-        [nothing.as_str(), text.as_str()],
-        ["", "4096..4320 free ................\n"]
-    );
-    Ok(())
+    };
+    are_drawn(&rt, tlsf.iter_blocks(nowhere), 16, "");
+    is_drawn(&rt, &tlsf, 16, "4096..4320 free ................\n");
 }
 
 /// Pictures of two used blocks and a free one, by their widths.
@@ -75,11 +60,9 @@ static PICTURES: [(usize, &str); 3] = [
 ];
 
 #[test]
-fn two_used_blocks_and_a_free_one(rt: HostRuntime) -> Result<(), Fail> {
-    let tlsf = two_payloads(rt.alloc())?;
-    for (width, wanted) in &PICTURES {
-        let text = drawn(rt.alloc(), &tlsf, *width)?;
-        assert_eq!(rt; text.as_str(), *wanted);
+fn two_used_blocks_and_a_free_one(rt: HostRuntime) {
+    let tlsf = two_payloads(&rt);
+    for (width, text) in &PICTURES {
+        is_drawn(&rt, &tlsf, *width, text);
     }
-    Ok(())
 }

@@ -4,10 +4,9 @@
 //! with S bytes wants `32 + (n - 1) * S + n * S` and an eighth of `n * S`, rounded up to a multiple of 32.
 
 use super::queues::{Pair, Step, first_wrong, wrong_random_step};
-use crate::pools::none_is_wrong;
-use rlsf::Memory;
+use crate::pools::{none_is_wrong, zeros};
 use rlsf_collections::{LongestError, Messages, PushError};
-use std::test::Fail;
+use std::process::Abort;
 
 /// The start and the length of a memory, how many messages a queue over it can hold and how long they may be, and whether it is
 /// made.
@@ -38,9 +37,9 @@ static MEMORIES: [(usize, usize, usize, usize, bool); 17] = [
 ];
 
 #[test]
-fn memories(rt: HostRuntime) -> Result<(), Fail> {
+fn memories(rt: HostRuntime) {
     for (start, len, capacity, longest, is_made) in &MEMORIES {
-        let memory = Memory::new(rt.alloc(), *start, *len)?;
+        let memory = zeros(&rt, *start, *len);
         let error = Messages::with_longest(rt.alloc(), memory, *capacity, *longest).err();
         let expected = if *is_made {
             None
@@ -49,7 +48,17 @@ fn memories(rt: HostRuntime) -> Result<(), Fail> {
         };
         assert_eq!(rt; error, expected, "{capacity} of {longest} in {len}");
     }
-    Ok(())
+}
+
+/// An empty queue over so many bytes from the address 4096 on, for so many messages, which may be so long.
+fn with_longest(
+    rt: &(impl Abort + AllocGlobal),
+    len: usize,
+    capacity: usize,
+    longest: usize,
+) -> Messages {
+    let memory = zeros(rt, 4096, len);
+    Messages::with_longest(rt.alloc(), memory, capacity, longest).expect(rt, "a queue")
 }
 
 const NO_CAPACITY: &[Step] = &[
@@ -92,23 +101,18 @@ static SCRIPTS: [(usize, usize, usize, &[Step]); 2] = [
 ];
 
 #[test]
-fn queues(rt: HostRuntime) -> Result<(), Fail> {
+fn queues(rt: HostRuntime) {
     for (len, capacity, longest, steps) in &SCRIPTS {
-        let memory = Memory::new(rt.alloc(), 4096, *len)?;
-        let mut queue = Messages::with_longest(rt.alloc(), memory, *capacity, *longest)?;
+        let mut queue = with_longest(&rt, *len, *capacity, *longest);
         none_is_wrong(&rt, first_wrong(&mut queue, steps));
     }
-    Ok(())
 }
 
 #[test]
-fn many_steps_that_find_room(rt: HostRuntime) -> Result<(), Fail> {
+fn many_steps_that_find_room(rt: HostRuntime) {
     // 24 messages with 1056 bytes: 32, 24,288, 25,344, and an eighth of that.
-    let memory = Memory::new(rt.alloc(), 4096, 52832)?;
-    let queue = Messages::with_longest(rt.alloc(), memory, 24, 1023)?;
-    let mut pair = Pair::new(rt.alloc(), queue);
-    none_is_wrong(&rt, wrong_random_step(rt.alloc(), &mut pair, 5_000)?);
+    let mut pair = Pair::new(rt.alloc(), with_longest(&rt, 52832, 24, 1023));
+    none_is_wrong(&rt, wrong_random_step(&rt, &mut pair, 5_000));
     let fewest = pair.full.min(pair.too_short).min(pair.empty);
     assert_eq!(rt; (fewest > 0, pair.no_room), (true, 0));
-    Ok(())
 }

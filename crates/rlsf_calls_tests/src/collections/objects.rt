@@ -3,17 +3,19 @@
 //! A memory from the address 4096 on loses 32 bytes to the word behind its last block, and an object of 16 bytes takes 32 of the
 //! others.
 
-use crate::pools::none_is_wrong;
-use rlsf::{Layout, Memory};
+use crate::pools::{layout_of, none_is_wrong, zeros};
 use rlsf_collections::{Objects, SetError, TakeError, UnknownHandle};
-use std::alloc::Global;
-use std::test::Fail;
+use std::process::Abort;
 
-/// A pool of objects of 16 bytes in a memory of so many bytes.
-fn pool(alloc: Global, len: usize) -> Result<Objects, Fail> {
-    let memory = Memory::new(alloc, 4096, len)?;
-    let layout = Layout::from_size_align(16, 8)?;
-    Ok(Objects::new(alloc, memory, layout))
+/// A pool of objects of so many bytes at multiples of an alignment, in a memory of a start and a length.
+fn pool(
+    rt: &(impl Abort + AllocGlobal),
+    memory: (usize, usize),
+    size: usize,
+    align: usize,
+) -> Objects {
+    let layout = layout_of(rt, size, align);
+    Objects::new(rt.alloc(), zeros(rt, memory.0, memory.1), layout)
 }
 
 /// What a pool is asked, and what it must answer.
@@ -42,15 +44,14 @@ fn is_right(pool: &mut Objects, step: Step) -> bool {
     }
 }
 
-/// The index of the first step that a pool over so many bytes answers otherwise.
-fn first_wrong(alloc: Global, len: usize, steps: &[Step]) -> Result<Option<usize>, Fail> {
-    let mut pool = pool(alloc, len)?;
+/// The index of the first step that a pool answers otherwise.
+fn first_wrong(pool: &mut Objects, steps: &[Step]) -> Option<usize> {
     for (index, step) in steps.iter().enumerate() {
-        if !is_right(&mut pool, *step) {
-            return Ok(Some(index));
+        if !is_right(pool, *step) {
+            return Some(index);
         }
     }
-    Ok(None)
+    None
 }
 
 const ZEROS: &[u8] = &[0; 16];
@@ -144,11 +145,11 @@ static SCRIPTS: [(usize, &[Step]); 5] = [
 ];
 
 #[test]
-fn objects(rt: HostRuntime) -> Result<(), Fail> {
+fn objects(rt: HostRuntime) {
     for (len, steps) in &SCRIPTS {
-        none_is_wrong(&rt, first_wrong(rt.alloc(), *len, steps)?);
+        let mut pool = pool(&rt, (4096, *len), 16, 8);
+        none_is_wrong(&rt, first_wrong(&mut pool, steps));
     }
-    Ok(())
 }
 
 /// The start and the length of a memory, the size and the alignment of the objects in it, and how many may be out at once.
@@ -185,15 +186,13 @@ fn taken(pool: &mut Objects) -> usize {
 }
 
 #[test]
-fn capacities(rt: HostRuntime) -> Result<(), Fail> {
+fn capacities(rt: HostRuntime) {
     for (start, len, size, align, capacity) in &CAPACITIES {
-        let memory = Memory::new(rt.alloc(), *start, *len)?;
-        let mut pool = Objects::new(rt.alloc(), memory, Layout::from_size_align(*size, *align)?);
+        let mut pool = pool(&rt, (*start, *len), *size, *align);
         assert_eq!(rt;
             (pool.capacity(), taken(&mut pool)),
             (*capacity, *capacity),
             "{size} bytes at multiples of {align} in {len}"
         );
     }
-    Ok(())
 }

@@ -1,16 +1,16 @@
 //! Queues of messages: by values that are typed out, and in many steps beside a `VecDeque` of the standard library.
 
-use crate::pools::none_is_wrong;
-use rlsf::Memory;
+use crate::bytes::is_all;
+use crate::pools::{none_is_wrong, zeros};
+use crate::words::next;
 use rlsf_collections::{Messages, PopError, PushError};
-use std::alloc::{AllocError, Global};
+use std::alloc::Global;
 use std::collections::VecDeque;
-use std::test::Fail;
+use std::process::Abort;
 
 /// An empty queue over so many bytes from the address 4096 on.
-fn empty(alloc: Global, len: usize, capacity: usize) -> Result<Messages, Fail> {
-    let memory = Memory::new(alloc, 4096, len)?;
-    Ok(Messages::new(alloc, memory, capacity)?)
+fn empty(rt: &(impl Abort + AllocGlobal), len: usize, capacity: usize) -> Messages {
+    Messages::new(rt.alloc(), zeros(rt, 4096, len), capacity).expect(rt, "a queue")
 }
 
 /// What a queue is asked, and what it must answer.
@@ -26,16 +26,6 @@ pub(crate) enum Step {
     Capacity(usize),
 }
 
-/// Whether the bytes are all `rest`.
-fn is_all(bytes: &[u8], rest: u8) -> bool {
-    for byte in bytes {
-        if *byte != rest {
-            return false;
-        }
-    }
-    true
-}
-
 /// Whether the bytes begin with the message, and those behind it are all `rest`.
 fn begins_with(bytes: &[u8], message: &[u8], rest: u8) -> bool {
     match bytes.split_at_checked(message.len()) {
@@ -47,11 +37,8 @@ fn begins_with(bytes: &[u8], message: &[u8], rest: u8) -> bool {
 /// Whether a pop into bytes that are all 7 gives the message and leaves the bytes behind it, or is refused and leaves all.
 fn pops(queue: &mut Messages, into: &mut [u8], expected: Result<&[u8], PopError>) -> bool {
     into.fill(7);
-    match (queue.pop(into), expected) {
-        (Ok(len), Ok(message)) => len == message.len() && begins_with(into, message, 7),
-        (Err(answer), Err(error)) => answer == error && begins_with(into, &[], 7),
-        _ => false,
-    }
+    let message = expected.unwrap_or(&[]);
+    queue.pop(into) == expected.map(<[u8]>::len) && begins_with(into, message, 7)
 }
 
 /// Whether the queue answers so.
@@ -133,37 +120,40 @@ static SCRIPTS: [(usize, usize, &[Step]); 5] = [
 ];
 
 #[test]
-fn queues(rt: HostRuntime) -> Result<(), Fail> {
+fn queues(rt: HostRuntime) {
     for (len, capacity, steps) in &SCRIPTS {
-        let mut queue = empty(rt.alloc(), *len, *capacity)?;
-        none_is_wrong(&rt, first_wrong(&mut queue, steps));
+        none_is_wrong(&rt, first_wrong(&mut empty(&rt, *len, *capacity), steps));
     }
-    Ok(())
 }
 
-/// The next word of Knuth's linear generator for 64 bits, of which the high bytes serve best.
-pub(crate) fn next(word: u64) -> u64 {
-    word.wrapping_mul(6364136223846793005)
-        .wrapping_add(1442695040888963407)
-}
-
-/// A message of so many bytes, which the words from this one on give.
-fn message_of(alloc: Global, word: u64, len: usize) -> Result<Vec<u8>, AllocError> {
-    let mut message = Vec::with_capacity(alloc, len)?;
+/// Writes a message, whose bytes the words from this one on give.
+fn write_message(message: &mut [u8], word: u64) {
     let mut word = word;
-    for _ in 0..len {
+    for place in 0..message.len() {
         word = next(word);
         let [byte, ..] = word.to_be_bytes();
-        message.push(byte)?;
+        message[place] = byte;
     }
-    Ok(message)
 }
 
-/// A queue, the messages that must be in it, and how often each refusal came.
+/// Whether the bytes are the message that these words give.
+fn is_message(bytes: &[u8], word: u64) -> bool {
+    let mut word = word;
+    for byte in bytes {
+        word = next(word);
+        let [wanted, ..] = word.to_be_bytes();
+        if *byte != wanted {
+            return false;
+        }
+    }
+    true
+}
+
+/// A queue, the messages that must be in it, each as the word that gives it and its length, and how often each refusal came.
 #[derive(Drop)]
 pub(crate) struct Pair {
     queue: Messages,
-    expected: VecDeque<Vec<u8>>,
+    expected: VecDeque<(u64, usize)>,
     pub(crate) full: u32,
     pub(crate) no_room: u32,
     pub(crate) too_short: u32,
@@ -183,32 +173,33 @@ impl Pair {
         }
     }
 
-    /// Pushes a message to both, and tells whether the answer is right: `Full` exactly if there are as many as the queue can
-    /// hold, and `NoRoom` only while it has a message.
-    fn push(&mut self, message: Vec<u8>) -> Result<bool, Fail> {
+    /// Pushes a message that a word gives to both, and tells whether the answer is right: `Full` exactly if there are as many as
+    /// the queue can hold, and `NoRoom` only while it has a message.
+    fn push(&mut self, rt: &impl Abort, message: &[u8], word: u64) -> bool {
         let is_full = self.expected.len() == self.queue.capacity();
-        match self.queue.push(&message) {
+        match self.queue.push(message) {
             Ok(()) => {
-                self.expected.push_back(message)?;
-                Ok(!is_full)
+                let pushed = self.expected.push_back((word, message.len()));
+                pushed.expect(rt, "memory");
+                !is_full
             }
             Err(PushError::Full) => {
                 self.full = self.full.wrapping_add(1);
-                Ok(is_full)
+                is_full
             }
             Err(PushError::NoRoom) => {
                 self.no_room = self.no_room.wrapping_add(1);
-                Ok(!is_full && !self.expected.is_empty())
+                !is_full && !self.expected.is_empty()
             }
             // The queues here take messages of all lengths that are drawn.
-            Err(PushError::TooLong) => Ok(false),
+            Err(PushError::TooLong) => false,
         }
     }
 
     /// The length of the oldest message that must be in the queue.
     fn front_len(&self) -> Option<usize> {
         match self.expected.front() {
-            Some(message) => Some(message.len()),
+            Some((_, len)) => Some(*len),
             None => None,
         }
     }
@@ -218,71 +209,73 @@ impl Pair {
         self.queue.len() == self.expected.len() && self.queue.front_len() == self.front_len()
     }
 
+    /// Takes the oldest message that must be in the queue, and tells whether it has this length and stands in front of bytes that are
+    /// all `rest`.
+    fn takes(&mut self, bytes: &[u8], len: usize, rest: u8) -> bool {
+        let Some((word, expected_len)) = self.expected.pop_front() else {
+            return false;
+        };
+        match bytes.split_at_checked(expected_len) {
+            Some((front, behind)) => len == expected_len
+                && is_message(front, word)
+                && is_all(behind, rest),
+            None => false,
+        }
+    }
+
     /// Pops from both, and tells whether the answer is right, with the message in front of bytes that are all `rest`.
     fn pop(&mut self, into: &mut [u8], rest: u8) -> bool {
         into.fill(rest);
         let expected_len = self.front_len();
-        let answer = self.queue.pop(into);
-        match (answer, expected_len) {
+        match (self.queue.pop(into), expected_len) {
             (Err(PopError::Empty), None) => {
                 self.empty = self.empty.wrapping_add(1);
-                begins_with(into, &[], rest)
+                is_all(into, rest)
             }
             (Err(PopError::TooShort), Some(len)) => {
                 self.too_short = self.too_short.wrapping_add(1);
-                into.len() < len && begins_with(into, &[], rest)
+                into.len() < len && is_all(into, rest)
             }
-            (Ok(len), Some(expected_len)) => match self.expected.pop_front() {
-                Some(message) => len == expected_len && begins_with(into, &message, rest),
-                None => false,
-            },
+            (Ok(len), Some(_)) => self.takes(into, len, rest),
             _ => false,
         }
     }
 }
 
 /// One step that a word chooses: a push of up to 1023 bytes, or a pop into as many.
-fn random_step(
-    alloc: Global,
-    pair: &mut Pair,
-    into: &mut [u8; 1024],
-    word: u64,
-) -> Result<bool, Fail> {
+fn random_step(rt: &impl Abort, pair: &mut Pair, bytes: &mut [u8; 1024], word: u64) -> bool {
     let [kind, high, low, shift, slice, rest, ..] = word.to_be_bytes();
     let len = u16::from_be_bytes([high, low]) as usize % 1024 >> (shift % 4);
     if kind < 131 {
-        return pair.push(message_of(alloc, word, len)?);
+        let message = &mut bytes[..len];
+        write_message(message, word);
+        return pair.push(rt, message, word);
     }
     let len = if slice % 8 == 0 { len } else { 1024 };
-    Ok(pair.pop(&mut into[..len], rest))
+    pair.pop(&mut bytes[..len], rest)
 }
 
 /// Does so many random steps, and answers the index of the first one that comes out otherwise.
-pub(crate) fn wrong_random_step(
-    alloc: Global,
-    pair: &mut Pair,
-    steps: usize,
-) -> Result<Option<usize>, Fail> {
-    let mut into = [0; 1024];
+pub(crate) fn wrong_random_step(rt: &impl Abort, pair: &mut Pair, steps: usize) -> Option<usize> {
+    let mut bytes = [0; 1024];
     let mut word = 0x9e3779b97f4a7c15;
     for index in 0..steps {
         word = next(word);
-        if !random_step(alloc, pair, &mut into, word)? || !pair.is_same_len() {
-            return Ok(Some(index));
+        if !random_step(rt, pair, &mut bytes, word) || !pair.is_same_len() {
+            return Some(index);
         }
     }
-    Ok(None)
+    None
 }
 
 #[test]
-fn many_steps_beside_a_deque(rt: HostRuntime) -> Result<(), Fail> {
-    let mut pair = Pair::new(rt.alloc(), empty(rt.alloc(), 8192, 24)?);
-    none_is_wrong(&rt, wrong_random_step(rt.alloc(), &mut pair, 10_000)?);
+fn many_steps_beside_a_deque(rt: HostRuntime) {
+    let mut pair = Pair::new(rt.alloc(), empty(&rt, 8192, 24));
+    none_is_wrong(&rt, wrong_random_step(&rt, &mut pair, 10_000));
     let fewest = pair
         .full
         .min(pair.no_room)
         .min(pair.too_short)
         .min(pair.empty);
     assert!(rt; fewest > 0);
-    Ok(())
 }

@@ -3,12 +3,10 @@
 //! A memory from the address 4096 on loses 32 bytes to the word behind its last block, and a string of up to 16 bytes takes 32 of
 //! the others.
 
-use super::queues::next;
-use crate::pools::none_is_wrong;
-use rlsf::Memory;
+use crate::pools::{none_is_wrong, zeros};
+use crate::words::next;
 use rlsf_collections::{StringError, Strings, UnknownHandle};
-use std::alloc::Global;
-use std::test::Fail;
+use std::process::Abort;
 
 /// What strings are asked, and what they must answer.
 #[derive(Clone, Copy)]
@@ -40,15 +38,14 @@ fn is_right(strings: &mut Strings, step: Step) -> bool {
 }
 
 /// The index of the first step that strings in so many bytes answer otherwise.
-fn first_wrong(alloc: Global, len: usize, steps: &[Step]) -> Result<Option<usize>, Fail> {
-    let memory = Memory::new(alloc, 4096, len)?;
-    let mut strings = Strings::new(alloc, memory);
+fn first_wrong(rt: &(impl Abort + AllocGlobal), len: usize, steps: &[Step]) -> Option<usize> {
+    let mut strings = Strings::new(rt.alloc(), zeros(rt, 4096, len));
     for (index, step) in steps.iter().enumerate() {
         if !is_right(&mut strings, *step) {
-            return Ok(Some(index));
+            return Some(index);
         }
     }
-    Ok(None)
+    None
 }
 
 const GROWN_PAST_THEIR_NEIGHBOURS: &[Step] = &[
@@ -127,11 +124,10 @@ static SCRIPTS: [(usize, &[Step]); 5] = [
 ];
 
 #[test]
-fn strings(rt: HostRuntime) -> Result<(), Fail> {
+fn strings(rt: HostRuntime) {
     for (len, steps) in &SCRIPTS {
-        none_is_wrong(&rt, first_wrong(rt.alloc(), *len, steps)?);
+        none_is_wrong(&rt, first_wrong(&rt, *len, steps));
     }
-    Ok(())
 }
 
 /// The most strings in the random run, and the most bytes that one of them has.
@@ -153,34 +149,46 @@ fn made(strings: &mut Strings, other: Option<(usize, usize)>) -> Option<(usize, 
     }
 }
 
-/// One step that a word chooses: a string is made if there is none in its place, and else grows, or is dropped where it would grow
-/// past the longest. Tells whether it was granted.
-fn random_step(strings: &mut Strings, known: &mut Known, word: u64) -> bool {
-    let [place, other, len, ..] = word.to_be_bytes();
-    let place = place as usize % MOST;
-    let more = &[7; 64][..len as usize % 64];
-    match known[place] {
-        None => {
-            known[place] = made(strings, known[other as usize % MOST]);
-            known[place].is_some()
-        }
-        Some((handle, len)) if len <= LONGEST - more.len() => {
-            known[place] = Some((handle, len + more.len()));
-            strings.append(handle, more).is_ok()
-        }
-        Some((handle, _)) => {
-            known[place] = None;
-            strings.drop_string(handle).is_ok()
-        }
+/// What is added to strings, up to 63 bytes of it at once.
+static ADDED: [u8; 64] = [7; 64];
+
+/// Adds bytes to a string, or drops it where it would grow past the longest. Answers its handle and its length if it is still there,
+/// and whether that was granted.
+fn changed(
+    strings: &mut Strings,
+    handle: usize,
+    len: usize,
+    more: &[u8],
+) -> (Option<(usize, usize)>, bool) {
+    let len = len.saturating_add(more.len());
+    if len <= LONGEST {
+        (Some((handle, len)), strings.append(handle, more).is_ok())
+    } else {
+        (None, strings.drop_string(handle).is_ok())
     }
 }
 
+/// One step that a word chooses: a string is made if there is none in its place, and else grows or is dropped. Tells whether it was
+/// granted.
+fn random_step(strings: &mut Strings, known: &mut Known, word: u64) -> bool {
+    let [place, other, len, ..] = word.to_be_bytes();
+    let place = place as usize % MOST;
+    let (string, is_granted) = match known[place] {
+        None => {
+            let string = made(strings, known[other as usize % MOST]);
+            (string, string.is_some())
+        }
+        Some((handle, had)) => changed(strings, handle, had, &ADDED[..len as usize % 64]),
+    };
+    known[place] = string;
+    is_granted
+}
+
 #[test]
-fn many_steps_within_a_budget(rt: HostRuntime) -> Result<(), Fail> {
+fn many_steps_within_a_budget(rt: HostRuntime) {
     // A string of 200 bytes is sought with 224. With eight of them live before each call, that wants 32 bytes, 8 times and 9 times
     // 224, and an eighth of the latter, rounded up to 256.
-    let memory = Memory::new(rt.alloc(), 4096, 4096)?;
-    let mut strings = Strings::new(rt.alloc(), memory);
+    let mut strings = Strings::new(rt.alloc(), zeros(&rt, 4096, 4096));
     let mut known = [None; MOST];
     let mut most = 0;
     let mut word = 0x9e3779b97f4a7c15;
@@ -190,5 +198,4 @@ fn many_steps_within_a_budget(rt: HostRuntime) -> Result<(), Fail> {
         most = strings.len().max(most);
     }
     assert_eq!(rt; most, MOST);
-    Ok(())
 }

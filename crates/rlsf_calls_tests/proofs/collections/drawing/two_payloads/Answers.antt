@@ -4,4 +4,4 @@ use Rattle.rlsf_machine.proofs.ChunkRows.{IsRow-same}
 use Rattle.rlsf_calls_tests.proofs.collections.drawing.two_payloads.Goals as goal
 
 pub returns : goal.returns
-returns c = IsRow-same c.in_ok-tlsf.tlsf.state c.allocate-2.new.self.state (range_at 4096 256) (c.allocate-2.ensures.chunks ∙ c.allocate.ensures.chunks) c.in_ok-tlsf.ensures
+returns g c = IsRow-same c.with_pool-tlsf.result.state c.allocate-2.new.self.state (range_at 4096 256) (c.allocate-2.ensures.chunks ∙ c.allocate.ensures.chunks) c.with_pool-tlsf.ensures
