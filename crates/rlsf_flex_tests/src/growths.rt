@@ -75,7 +75,8 @@ fn allocates<FLBitmap: BitPattern, SLBitmap: BitPattern, const FLLEN: usize, con
 fn outcome(rt: &(impl Abort + AllocGlobal), growth: Growth) -> Outcome {
     let layout = Layout::from_size_align(growth.size, 1).expect(rt, "a layout");
     let seen = Cell::new(Questions::new());
-    let (memory, source) = parts(rt.alloc(), ODD, growth.habits, &seen).expect(rt, "memory");
+    let parts = parts(rt.alloc(), ODD, growth.habits, &seen);
+    let (memory, source) = parts.expect(rt, "a memory and a source");
     let addresses = growth.addresses;
     match growth.shape {
         Shape::Wide => {

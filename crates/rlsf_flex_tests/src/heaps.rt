@@ -1,6 +1,6 @@
 //! The allocators that the tests are about, what they are asked, and what must come of it.
 
-ghost use Rattle.std.specs.Prelude.{◌≡◌, [], length, IfOk};
+ghost use Rattle.std.specs.Prelude.{◌≡◌, [], length, IfSome};
 ghost use Rattle.rlsf_base.specs.Range.{LiesIn};
 ghost use Rattle.rlsf_flex_tests.specs.Cursor.{MayOwe};
 
@@ -10,7 +10,6 @@ use rlsf_flex::{FlexSource, FlexTlsf};
 use std::alloc::Global;
 use std::cell::Cell;
 use std::process::Abort;
-use std::test::Fail;
 
 /// The shape of most tests, over any source: chunks up to 8160 bytes.
 pub type Shaped<S> = FlexTlsf<S, u8, u8, 8, 8>;
@@ -52,25 +51,26 @@ pub fn is_right(rt: &impl Abort, outcome: Outcome, asked: &[Question]) {
     assert_eq!(rt; outcome, (None, only(asked)));
 }
 
-/// A memory of 4096 bytes from the address 4096 on, and a source of a part of it.
+/// A memory of 4096 bytes from the address 4096 on, and a source of a part of it; nothing where it is no part of it, or the system
+/// refuses memory.
 pub fn parts<'a>(
     alloc: Global,
     space: Range,
     habits: Habits,
     seen: &'a Cell<Questions>,
-) -> Result<(Memory, CursorSource<'a>), Fail>
-    ensures { IfOk result (λ r. (r.0.start ≡ 4096) × (length r.0.bytes ≡ 4096) × LiesIn r.1.terms.space 4096 4096 × MayOwe r.1 []) }
+) -> Option<(Memory, CursorSource<'a>)>
+    ensures { IfSome result (λ r. (r.0.start ≡ 4096) × (length r.0.bytes ≡ 4096) × LiesIn r.1.terms.space 4096 4096 × MayOwe r.1 []) }
 {
     if space.start < 4096 || space.start > 8192 || space.len > 8192 - space.start {
-        return Err(Fail::new("no part of the memory"));
+        return None;
     }
-    let min_align = Layout::from_size_align(1, habits.min_align)?.align();
-    let memory = Memory::new(alloc, 4096, 4096)?;
+    let min_align = Layout::from_size_align(1, habits.min_align).ok()?.align();
+    let memory = Memory::new(alloc, 4096, 4096).ok()?;
     let habits = Habits {
         min_align,
         ..habits
     };
-    Ok((memory, CursorSource::new(space, habits, seen)))
+    Some((memory, CursorSource::new(space, habits, seen)))
 }
 
 /// An allocator over such a source.
@@ -80,7 +80,10 @@ pub fn small<'a>(
     habits: Habits,
     seen: &'a Cell<Questions>,
 ) -> Small<'a> {
-    let (memory, source) = parts(rt.alloc(), space, habits, seen).expect(rt, "memory");
+    let (memory, source) = parts(rt.alloc(), space, habits, seen).expect(
+        rt,
+        "a memory and a source",
+    );
     FlexTlsf::new(memory, source)
 }
 

@@ -26,7 +26,6 @@ use rlsf_flex_runs::run_flex;
 use rlsf_int::BitPattern;
 use rlsf_listed_source::{ListedSource, Question, SourceAnswer};
 use rlsf_text::{Answer, Op};
-use std::alloc::Global;
 use std::process::Abort;
 
 /// Where the spaces of the sources start.
@@ -139,13 +138,13 @@ type Shape<'a, FLBitmap, SLBitmap, const FLLEN: usize, const SLLEN: usize> = Opt
 >;
 
 /// What is done in a run, and what has to be answered.
-fn script_of(alloc: Global, calls: Calls, placed: &[u32]) -> Option<Script> {
-    let mut script = Script::new(alloc, placed)?;
+fn script_of(rt: &(impl Abort + AllocGlobal), calls: Calls, placed: &[u32]) -> Script {
+    let mut script = Script::new(rt, placed);
     match calls {
-        Calls::Fixed(calls) => script.add_calls(calls)?,
-        Calls::Listed(list) => script.add_bytes(&list.bytes, list.bound)?,
+        Calls::Fixed(calls) => script.add_calls(rt, calls),
+        Calls::Listed(list) => script.add_bytes(rt, &list.bytes, list.bound),
     }
-    Some(script)
+    script
 }
 
 /// What a run leaves over a source: what it answered, and the source.
@@ -155,28 +154,25 @@ struct Left {
     source: ListedSource,
 }
 
-/// What ops leave; nothing where the system refuses memory.
+/// What ops leave.
 fn left_by<FLBitmap: BitPattern, SLBitmap: BitPattern, const FLLEN: usize, const SLLEN: usize>(
-    alloc: Global,
+    rt: &(impl Abort + AllocGlobal),
     source: Source,
     given: Vec<SourceAnswer>,
     ops: &[Op],
     _shape: Shape<'_, FLBitmap, SLBitmap, FLLEN, SLLEN>,
-) -> Option<Left>
+) -> Left
     requires { IsValid FLBitmap.width SLBitmap.width FLLEN SLLEN }
 {
-    let (memory, source) = parts_of(
-        alloc,
-        source.space(),
-        source.capabilities(),
-        given,
-        QUESTIONS,
-    )?;
+    let alloc = rt.alloc();
+    let (space, capabilities) = (source.space(), source.capabilities());
+    let parts = parts_of(alloc, space, capabilities, given, QUESTIONS);
+    let (memory, source) = parts.expect(rt, "memory");
     let mut flex = FlexTlsf::<_, FLBitmap, SLBitmap, FLLEN, SLLEN>::new(memory, source);
     let mut answers = Vec::new(alloc);
-    run_flex(alloc, &mut flex, ops, &mut answers).ok()?;
+    run_flex(alloc, &mut flex, ops, &mut answers).expect(rt, "memory");
     let (_, source) = flex.into_parts();
-    Some(Left { answers, source })
+    Left { answers, source }
 }
 
 /// A run, and what has to come of it.
@@ -187,8 +183,8 @@ struct Plan {
     asked: Asked,
 }
 
-/// The run with a number: with an even one over the system's allocator, and else over the vector.
-fn plan_of(alloc: Global, choice: usize, number: usize) -> Option<Plan> {
+/// The run with a number: with an even one over the system's allocator, and else over the vector. Nothing where there is none.
+fn plan_of(rt: &(impl Abort + AllocGlobal), choice: usize, number: usize) -> Option<Plan> {
     let place = number / 2;
     let calls = calls_at(place)?;
     let choice = CHOICES.get(choice)?;
@@ -207,8 +203,8 @@ fn plan_of(alloc: Global, choice: usize, number: usize) -> Option<Plan> {
     };
     Some(Plan {
         source,
-        script: script_of(alloc, calls, outcome.placed)?,
-        asked: Asked::new(alloc, source, outcome.asked)?,
+        script: script_of(rt, calls, outcome.placed),
+        asked: Asked::new(rt, source, outcome.asked),
     })
 }
 
@@ -217,9 +213,9 @@ fn is_right(script: &Script, questions: &[Question], left: &Left) -> bool {
     script.is_answered_by(&left.answers) && left.source.asked() == questions
 }
 
-/// Whether the run with a number goes as it has to; nothing where the system refuses memory.
+/// Whether the run with a number goes as it has to; nothing where there is none.
 fn goes_so<FLBitmap: BitPattern, SLBitmap: BitPattern, const FLLEN: usize, const SLLEN: usize>(
-    alloc: Global,
+    rt: &(impl Abort + AllocGlobal),
     choice: usize,
     number: usize,
     shape: Shape<'_, FLBitmap, SLBitmap, FLLEN, SLLEN>,
@@ -230,22 +226,22 @@ fn goes_so<FLBitmap: BitPattern, SLBitmap: BitPattern, const FLLEN: usize, const
         source,
         script,
         asked,
-    } = plan_of(alloc, choice, number)?;
+    } = plan_of(rt, choice, number)?;
     let Asked { answers, questions } = asked;
-    let left = left_by(alloc, source, answers, &script.ops, shape)?;
+    let left = left_by(rt, source, answers, &script.ops, shape);
     Some(is_right(&script, &questions, &left))
 }
 
-/// The number of the first run that goes otherwise, or for which the system refuses memory.
+/// The number of the first run that goes otherwise.
 fn first_wrong<FLBitmap: BitPattern, SLBitmap: BitPattern, const FLLEN: usize, const SLLEN: usize>(
-    alloc: Global,
+    rt: &(impl Abort + AllocGlobal),
     choice: usize,
     shape: Shape<'_, FLBitmap, SLBitmap, FLLEN, SLLEN>,
 ) -> Option<usize>
     requires { IsValid FLBitmap.width SLBitmap.width FLLEN SLLEN }
 {
     for number in 0..2 * RUNS {
-        if goes_so(alloc, choice, number, shape) != Some(true) {
+        if goes_so(rt, choice, number, shape) != Some(true) {
             return Some(number);
         }
     }
@@ -261,70 +257,65 @@ fn none_is_wrong(rt: &impl Abort, found: &[Option<usize>]) {
 
 #[test]
 fn few_classes(rt: HostRuntime) {
-    let alloc = rt.alloc();
     let found = [
-        first_wrong::<u8, u8, 1, 1>(alloc, LIKE_1_BY_1, None),
-        first_wrong::<u8, u8, 1, 2>(alloc, LIKE_1_BY_1, None),
-        first_wrong::<u8, u8, 1, 4>(alloc, LIKE_1_BY_1, None),
-        first_wrong::<u8, u8, 1, 8>(alloc, LIKE_1_BY_1, None),
-        first_wrong::<u8, u8, 3, 4>(alloc, LIKE_3_BY_4, None),
+        first_wrong::<u8, u8, 1, 1>(&rt, LIKE_1_BY_1, None),
+        first_wrong::<u8, u8, 1, 2>(&rt, LIKE_1_BY_1, None),
+        first_wrong::<u8, u8, 1, 4>(&rt, LIKE_1_BY_1, None),
+        first_wrong::<u8, u8, 1, 8>(&rt, LIKE_1_BY_1, None),
+        first_wrong::<u8, u8, 3, 4>(&rt, LIKE_3_BY_4, None),
     ];
     none_is_wrong(&rt, &found);
 }
 
 #[test]
 fn rows_of_8_bits(rt: HostRuntime) {
-    let alloc = rt.alloc();
     let found = [
-        first_wrong::<u8, u8, 5, 4>(alloc, LIKE_5_BY_4, None),
-        first_wrong::<u8, u8, 8, 1>(alloc, LIKE_8_BY_1, None),
-        first_wrong::<u8, u8, 8, 8>(alloc, LIKE_8_BY_8, None),
-        first_wrong::<u16, u8, 3, 4>(alloc, LIKE_3_BY_4, None),
-        first_wrong::<u16, u8, 11, 4>(alloc, LIKE_11_BY_4, None),
-        first_wrong::<u16, u8, 16, 4>(alloc, LIKE_16_BY_4, None),
+        first_wrong::<u8, u8, 5, 4>(&rt, LIKE_5_BY_4, None),
+        first_wrong::<u8, u8, 8, 1>(&rt, LIKE_8_BY_1, None),
+        first_wrong::<u8, u8, 8, 8>(&rt, LIKE_8_BY_8, None),
+        first_wrong::<u16, u8, 3, 4>(&rt, LIKE_3_BY_4, None),
+        first_wrong::<u16, u8, 11, 4>(&rt, LIKE_11_BY_4, None),
+        first_wrong::<u16, u8, 16, 4>(&rt, LIKE_16_BY_4, None),
     ];
     none_is_wrong(&rt, &found);
 }
 
 #[test]
 fn rows_of_16_classes(rt: HostRuntime) {
-    let alloc = rt.alloc();
     let found = [
-        first_wrong::<u16, u16, 3, 16>(alloc, LIKE_3_BY_4, None),
-        first_wrong::<u16, u16, 11, 16>(alloc, LIKE_11_BY_16, None),
-        first_wrong::<u16, u16, 16, 16>(alloc, LIKE_16_BY_16, None),
-        first_wrong::<u16, u32, 3, 16>(alloc, LIKE_3_BY_4, None),
-        first_wrong::<u16, u32, 11, 16>(alloc, LIKE_11_BY_16, None),
-        first_wrong::<u16, u32, 16, 16>(alloc, LIKE_16_BY_16, None),
+        first_wrong::<u16, u16, 3, 16>(&rt, LIKE_3_BY_4, None),
+        first_wrong::<u16, u16, 11, 16>(&rt, LIKE_11_BY_16, None),
+        first_wrong::<u16, u16, 16, 16>(&rt, LIKE_16_BY_16, None),
+        first_wrong::<u16, u32, 3, 16>(&rt, LIKE_3_BY_4, None),
+        first_wrong::<u16, u32, 11, 16>(&rt, LIKE_11_BY_16, None),
+        first_wrong::<u16, u32, 16, 16>(&rt, LIKE_16_BY_16, None),
     ];
     none_is_wrong(&rt, &found);
 }
 
 #[test]
 fn rows_of_32_classes(rt: HostRuntime) {
-    let alloc = rt.alloc();
     let found = [
-        first_wrong::<u16, u32, 3, 32>(alloc, LIKE_3_BY_4, None),
-        first_wrong::<u16, u32, 11, 32>(alloc, LIKE_11_BY_32, None),
-        first_wrong::<u16, u32, 16, 32>(alloc, LIKE_16_BY_32, None),
-        first_wrong::<u32, u32, 20, 32>(alloc, LIKE_16_BY_32, None),
-        first_wrong::<u32, u32, 27, 32>(alloc, LIKE_16_BY_32, None),
-        first_wrong::<u32, u32, 28, 32>(alloc, LIKE_16_BY_32, None),
-        first_wrong::<u32, u32, 29, 32>(alloc, LIKE_16_BY_32, None),
-        first_wrong::<u32, u32, 32, 32>(alloc, LIKE_16_BY_32, None),
+        first_wrong::<u16, u32, 3, 32>(&rt, LIKE_3_BY_4, None),
+        first_wrong::<u16, u32, 11, 32>(&rt, LIKE_11_BY_32, None),
+        first_wrong::<u16, u32, 16, 32>(&rt, LIKE_16_BY_32, None),
+        first_wrong::<u32, u32, 20, 32>(&rt, LIKE_16_BY_32, None),
+        first_wrong::<u32, u32, 27, 32>(&rt, LIKE_16_BY_32, None),
+        first_wrong::<u32, u32, 28, 32>(&rt, LIKE_16_BY_32, None),
+        first_wrong::<u32, u32, 29, 32>(&rt, LIKE_16_BY_32, None),
+        first_wrong::<u32, u32, 32, 32>(&rt, LIKE_16_BY_32, None),
     ];
     none_is_wrong(&rt, &found);
 }
 
 #[test]
 fn most_rows(rt: HostRuntime) {
-    let alloc = rt.alloc();
     let found = [
-        first_wrong::<u64, u64, 58, 8>(alloc, LIKE_58_BY_8, None),
-        first_wrong::<u64, u64, 59, 8>(alloc, LIKE_59_BY_8, None),
-        first_wrong::<u64, u64, 60, 8>(alloc, LIKE_59_BY_8, None),
-        first_wrong::<u64, u64, 61, 8>(alloc, LIKE_59_BY_8, None),
-        first_wrong::<u64, u64, 64, 8>(alloc, LIKE_59_BY_8, None),
+        first_wrong::<u64, u64, 58, 8>(&rt, LIKE_58_BY_8, None),
+        first_wrong::<u64, u64, 59, 8>(&rt, LIKE_59_BY_8, None),
+        first_wrong::<u64, u64, 60, 8>(&rt, LIKE_59_BY_8, None),
+        first_wrong::<u64, u64, 61, 8>(&rt, LIKE_59_BY_8, None),
+        first_wrong::<u64, u64, 64, 8>(&rt, LIKE_59_BY_8, None),
     ];
     none_is_wrong(&rt, &found);
 }

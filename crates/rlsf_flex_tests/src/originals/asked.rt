@@ -5,7 +5,7 @@ ghost use Rattle.rlsf_base.specs.PowerOfTwo.{IsPowerOfTwo};
 use super::START;
 use rlsf_base::memory::Range;
 use rlsf_listed_source::{Capabilities, Question, SourceAnswer};
-use std::alloc::Global;
+use std::process::Abort;
 
 /// A source of the original's tests.
 #[derive(Clone, Copy)]
@@ -54,41 +54,42 @@ pub struct Asked {
 
 impl Asked {
     /// What the source answers where it is asked for so many bytes each time.
-    pub fn new(alloc: Global, source: Source, sizes: &[u32]) -> Option<Asked> {
+    pub fn new(rt: &(impl Abort + AllocGlobal), source: Source, sizes: &[u32]) -> Asked {
         let mut asked = Asked {
-            answers: Vec::new(alloc),
-            questions: Vec::new(alloc),
+            answers: Vec::new(rt.alloc()),
+            questions: Vec::new(rt.alloc()),
         };
         match source {
-            Source::System => asked.add_ranges(alloc, sizes)?,
-            Source::Contiguous(skipped) => asked.add_growth(skipped, sizes)?,
+            Source::System => asked.add_ranges(rt, sizes),
+            Source::Contiguous(skipped) => asked.add_growth(rt, skipped, sizes),
         }
-        Some(asked)
+        asked
     }
 
     /// Ranges one behind another, each of which goes back at the end, the newest first.
-    fn add_ranges(&mut self, alloc: Global, sizes: &[u32]) -> Option<()> {
-        let mut ranges = Vec::new(alloc);
+    fn add_ranges(&mut self, rt: &(impl Abort + AllocGlobal), sizes: &[u32]) {
+        let mut ranges = Vec::new(rt.alloc());
         let mut start = START;
         for size in sizes {
             let size = *size as usize;
             let len = size.wrapping_add(1023) / 1024 * 1024;
             let range = Range { start, len };
             self.add(
+                rt,
                 Question::Alloc(size, Some(range)),
                 SourceAnswer::Range(range),
-            )?;
-            ranges.push(range).ok()?;
+            );
+            ranges.push(range).expect(rt, "memory");
             start = start.wrapping_add(len);
         }
         for range in ranges.iter().rev() {
-            self.questions.push(Question::Dealloc(*range)).ok()?;
+            let question = Question::Dealloc(*range);
+            self.questions.push(question).expect(rt, "memory");
         }
-        Some(())
     }
 
     /// A range that grows while there is room behind it.
-    fn add_growth(&mut self, skipped: usize, sizes: &[u32]) -> Option<()> {
+    fn add_growth(&mut self, rt: &impl Abort, skipped: usize, sizes: &[u32]) {
         let start = START.wrapping_add(skipped);
         let mut len = 0;
         for size in sizes {
@@ -102,19 +103,17 @@ impl Asked {
             if len == 0 {
                 let given = new.map(|len| Range { start, len });
                 let answer = given.map_or(SourceAnswer::None, SourceAnswer::Range);
-                self.add(Question::Alloc(size, given), answer)?;
+                self.add(rt, Question::Alloc(size, given), answer);
             } else {
                 let answer = new.map_or(SourceAnswer::None, SourceAnswer::Len);
-                self.add(Question::Grow(range, size, new), answer)?;
+                self.add(rt, Question::Grow(range, size, new), answer);
             }
             len = new.unwrap_or(len);
         }
-        Some(())
     }
 
-    fn add(&mut self, question: Question, answer: SourceAnswer) -> Option<()> {
-        self.questions.push(question).ok()?;
-        self.answers.push(answer).ok()?;
-        Some(())
+    fn add(&mut self, rt: &impl Abort, question: Question, answer: SourceAnswer) {
+        self.questions.push(question).expect(rt, "memory");
+        self.answers.push(answer).expect(rt, "memory");
     }
 }

@@ -1,10 +1,11 @@
 //! The ops of a run, and what they have to answer.
 
 use super::START;
-use crate::calls::{Call, op};
+use crate::calls::Call;
+use rlsf_base::memory::Layout;
 use rlsf_text::{Answer, Op};
-use std::alloc::Global;
 use std::num::NonZeroUsize;
+use std::process::Abort;
 
 /// A payload that is live.
 #[derive(Clone, Copy)]
@@ -28,17 +29,18 @@ pub struct Script {
 
 impl Script {
     /// No ops yet. Calls that place a payload are to answer these addresses, less the space's start, 0 for none.
-    pub fn new(alloc: Global, placed: &[u32]) -> Option<Script> {
-        let mut placed = placed.to_vec(alloc).ok()?;
+    pub fn new(rt: &(impl Abort + AllocGlobal), placed: &[u32]) -> Script {
+        let alloc = rt.alloc();
+        let mut placed = placed.to_vec(alloc).expect(rt, "memory");
         placed.reverse();
-        Some(Script {
+        Script {
             ops: Vec::new(alloc),
             answers: Vec::new(alloc),
             live: Vec::new(alloc),
             placed,
             bytes: Vec::new(alloc),
             names: 0,
-        })
+        }
     }
 
     /// Whether these are the answers, and all addresses were used.
@@ -47,26 +49,24 @@ impl Script {
     }
 
     /// Adds the calls of payloads that are live, and those of new ones.
-    pub fn add_calls(&mut self, calls: &[Call]) -> Option<()> {
+    pub fn add_calls(&mut self, rt: &impl Abort, calls: &[Call]) {
         for call in calls {
-            self.add(*call)?;
+            self.add(rt, *call);
         }
-        Some(())
     }
 
     /// Adds the calls that bytes mean, up to the last whole one. Sizes are below the bound.
-    pub fn add_bytes(&mut self, bytes: &[u8], bound: usize) -> Option<()> {
-        self.bytes.extend_from_slice(bytes).ok()?;
+    pub fn add_bytes(&mut self, rt: &impl Abort, bytes: &[u8], bound: usize) {
+        self.bytes.extend_from_slice(bytes).expect(rt, "memory");
         self.bytes.reverse();
         for _ in bytes {
             let Some(call) = self.next_call(bound) else {
                 break;
             };
             if let Some(call) = call {
-                self.add(call)?;
+                self.add(rt, call);
             }
         }
-        Some(())
     }
 
     /// The call that the next bytes mean: none where no payload is live, for which it would be.
@@ -98,37 +98,38 @@ impl Script {
         Some(part.wrapping_mul(bound) >> 24)
     }
 
-    fn add(&mut self, call: Call) -> Option<()> {
+    fn add(&mut self, rt: &impl Abort, call: Call) {
         match call {
-            Call::Alloc(name, size, _) => {
-                self.names = self.names.wrapping_add(1);
-                if self.place(op(call).ok()?)? {
-                    self.live.push(Live { name, size }).ok()?;
-                    self.write(name, size)?;
-                }
-            }
+            Call::Alloc(name, size, align) => self.allocate(rt, name, size, align),
             Call::Free(name) => {
                 if let Some(payload) = self.take(name) {
-                    self.read(payload, payload.size)?;
-                    self.push(op(call).ok()?, Answer::Done)?;
+                    self.read(rt, payload, payload.size);
+                    self.push(rt, Op::Free(name), Answer::Done);
                 }
             }
-            Call::Realloc(name, size) => self.resize(name, size)?,
+            Call::Realloc(name, size) => self.resize(rt, name, size),
         }
-        Some(())
     }
 
-    fn resize(&mut self, name: usize, size: usize) -> Option<()> {
-        let Some(place) = self.place_of(name) else {
-            return Some(());
-        };
-        let old = *self.live.get(place)?;
-        if self.place(Op::Realloc(name, size))? {
-            self.read(old, size)?;
-            self.write(name, size)?;
-            *self.live.get_mut(place)? = Live { name, size };
+    fn allocate(&mut self, rt: &impl Abort, name: usize, size: usize, align: usize) {
+        let layout = Layout::from_size_align(size, align).expect(rt, "a layout");
+        self.names = self.names.wrapping_add(1);
+        if self.place(rt, Op::Alloc(name, layout)) {
+            self.live.push(Live { name, size }).expect(rt, "memory");
+            self.write(rt, name, size);
         }
-        Some(())
+    }
+
+    fn resize(&mut self, rt: &impl Abort, name: usize, size: usize) {
+        let Some(place) = self.place_of(name) else {
+            return;
+        };
+        let old = *self.live.get(place).expect(rt, "a payload");
+        if self.place(rt, Op::Realloc(name, size)) {
+            self.read(rt, old, size);
+            self.write(rt, name, size);
+            *self.live.get_mut(place).expect(rt, "a payload") = Live { name, size };
+        }
     }
 
     /// Takes a payload out, and puts the last one in its place.
@@ -150,39 +151,37 @@ impl Script {
     }
 
     /// Adds an op that places a payload, and tells whether it is to find room.
-    fn place(&mut self, op: Op) -> Option<bool> {
-        let addr = match self.placed.pop()? {
+    fn place(&mut self, rt: &impl Abort, op: Op) -> bool {
+        let addr = match self.placed.pop().expect(rt, "an address") {
             0 => None,
             offset => NonZeroUsize::new(START.wrapping_add(offset as usize)),
         };
-        self.push(op, Answer::Placed(addr))?;
-        Some(addr.is_some())
+        self.push(rt, op, Answer::Placed(addr));
+        addr.is_some()
     }
 
     /// Writes the pattern at the offsets of a payload of this size.
-    fn write(&mut self, name: usize, size: usize) -> Option<()> {
+    fn write(&mut self, rt: &impl Abort, name: usize, size: usize) {
         for index in 0..number_of_offsets(size) {
             let offset = offset_at(index, size);
-            self.push(Op::Put(name, offset, pattern(offset)), Answer::Done)?;
+            self.push(rt, Op::Put(name, offset, pattern(offset)), Answer::Done);
         }
-        Some(())
     }
 
     /// Reads it where it was written and is below a size.
-    fn read(&mut self, payload: Live, below: usize) -> Option<()> {
+    fn read(&mut self, rt: &impl Abort, payload: Live, below: usize) {
         for index in 0..number_of_offsets(payload.size) {
             let offset = offset_at(index, payload.size);
             if offset < below {
-                self.push(Op::Get(payload.name, offset), Answer::Byte(pattern(offset)))?;
+                let answer = Answer::Byte(pattern(offset));
+                self.push(rt, Op::Get(payload.name, offset), answer);
             }
         }
-        Some(())
     }
 
-    fn push(&mut self, op: Op, answer: Answer) -> Option<()> {
-        self.ops.push(op).ok()?;
-        self.answers.push(answer).ok()?;
-        Some(())
+    fn push(&mut self, rt: &impl Abort, op: Op, answer: Answer) {
+        self.ops.push(op).expect(rt, "memory");
+        self.answers.push(answer).expect(rt, "memory");
     }
 }
 
