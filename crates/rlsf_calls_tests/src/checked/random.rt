@@ -25,7 +25,7 @@ struct Entry {
 
 /// Passes where the answer is true, and tells else what is wrong.
 fn passes(rt: &impl Abort, answer: bool, wrong: &str) {
-    answer.then_some(()).expect(rt, wrong);
+    assert!(rt; answer, "{wrong}");
 }
 
 /// Whether the payload of an entry has its bytes.
