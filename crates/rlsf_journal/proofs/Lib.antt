@@ -3,3 +3,4 @@ mod Determined
 mod Equal
 mod ReceiptsOf
 mod Replays
+mod Replies

@@ -1,5 +1,5 @@
 -- A journal with one more entry, and a placement that is written to.
-use Rattle.std.proofs.Common.{◌≡◌, ℕ, Bool, true, false, List, [], ◌∷◌, ◌++◌, map, length, Option, Some, None, Ok, Err, MatchBool, refl, ◌∙◌, ap, sym, subst, arith, append-nil}
+use Rattle.std.proofs.Common.{◌≡◌, ◌≢◌, ℕ, Bool, true, false, List, [], ◌∷◌, ◌++◌, map, length, Option, Some, None, Ok, Err, MatchBool, refl, ◌∙◌, ap, sym, subst, arith, append-nil}
 use Rattle.std.proofs.lemmas.List.{map_push}
 use Rattle.std.proofs.lemmas.List.Elements.{All-push}
 use Rattle.rlsf_base.specs.Addr.{at}
@@ -124,6 +124,15 @@ entered es e h g run step =
 -- without one
 unentered : (es : List Entry) (h g : Heap) → IsReplay es h → g ≡ h → IsReplay (es ++ []) g
 unentered es h g run same = subst (λ l. IsReplay l g) (sym (append-nil es)) (subst (IsReplay es) (sym same) run)
+
+-- a call that is not refused for want of memory has one entry
+pub one_entry : (caller : ℕ) (call : Call) (reply : Reply) → reply ≢ TableMemory → reply ≢ JournalMemory → entries_of caller call reply ≡ record { caller = caller; call = call; reply = reply } ∷ []
+one_entry caller call TableMemory not_table not_journal = absurd (not_table refl)
+one_entry caller call JournalMemory not_table not_journal = absurd (not_journal refl)
+one_entry caller call (Placed to) not_table not_journal = refl
+one_entry caller call Freed not_table not_journal = refl
+one_entry caller call NoRoom not_table not_journal = refl
+one_entry caller call UnknownAddress not_table not_journal = refl
 
 -- whatever a call is answered, the journal with its entries replays to the heap after it
 pub recorded : (es : List Entry) (caller : ℕ) (call : Call) (reply : Reply) (h g : Heap) → IsReplay es h → LeadsOrRefused h call reply g → IsReplay (es ++ entries_of caller call reply) g

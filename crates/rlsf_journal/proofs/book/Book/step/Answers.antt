@@ -1,11 +1,30 @@
-use Rattle.std.proofs.Common.{rules, ◌≡◌, ◌++◌, sym, subst}
+use Rattle.std.proofs.Common.{◌≡◌, ◌≢◌, [], ◌∷◌, ◌++◌, ◌∙◌, ap, sym, subst}
+use Rattle.std.proofs.lemmas.Bool.{false≢true}
+use Rattle.rlsf_journal.specs.declared.entry.Reply.TheVariants.{TableMemory}
 use Rattle.rlsf_journal.specs.Entries.{entries_of}
 use Rattle.rlsf_journal.specs.Replay.{IsReplay}
-use Rattle.rlsf_journal.proofs.Replays.{recorded}
+use Rattle.rlsf_journal.proofs.Replays.{one_entry, recorded}
 use Rattle.rlsf_journal.proofs.book.Book.step.Goals as goal
+use Rattle.rlsf_journal.proofs.book.Book.step.Goals.{in-TableMemory, in_default}
+
+-- an entry is pushed only where the table had room
+has_table : (c : goal.After-push_reserved) → c.answer-reply.result ≢ TableMemory
+has_table c = elim c.match-matches.branch [ in-TableMemory w ↦ absurd (false≢true (sym c.if-not-matches.true ∙ w.matches-is)) | in_default w ↦ w.in_default.not-TableMemory ]
+
+-- and it is the call's
+pushed : (c : goal.After-push_reserved) → c.push_reserved.new.self.items ≡ c.self.inside.journal.items ++ entries_of c.args.caller c.args.call c.answer-reply.result
+pushed c = c.push_reserved.ensures.items ∙ ap (λ l. l ++ record { caller = c.args.caller; call = c.args.call; reply = c.answer-reply.result } ∷ []) c.try_reserve.ensures.items
+    ∙ ap (λ l. c.self.inside.journal.items ++ l) (sym (one_entry c.args.caller c.args.call c.answer-reply.result (has_table c) c.answer-reply.ensures.not_journal))
 
 pub invariant_of-self-then-not-matches : goal.invariant_of-self-then-not-matches
 invariant_of-self-then-not-matches c =
-    let journal : c.push_reserved.new.self.items ≡ c.self.inside.journal.items ++ entries_of c.args.caller c.args.call c.answer-reply.result = search rules in
-    subst (λ l. IsReplay l c.answer-reply.new.locked.heap) (sym journal)
+    subst (λ l. IsReplay l c.answer-reply.new.locked.heap) (sym (pushed c))
     (recorded c.self.inside.journal.items c.args.caller c.args.call c.answer-reply.result c.self.inside.locked.heap c.answer-reply.new.locked.heap c.self.invariant c.answer-reply.ensures.step)
+
+pub returns-then-not-matches : goal.returns-then-not-matches
+returns-then-not-matches c = record {
+  step = rw (← c.self.view_is) c.answer-reply.ensures.step;
+  entry = rw (← c.self.view_is) (pushed c);
+  fits = c.answer-reply.ensures.fits;
+  refused = rw (← c.self.view_is) c.answer-reply.ensures.refused;
+}

@@ -1,0 +1,22 @@
+-- What a call's answer says of the reply that is made of it.
+use Rattle.std.proofs.Common.{◌≡◌, Result, Err, sym, subst}
+use Rattle.std.specs.Prelude.{OnErr}
+use Rattle.rlsf_base.specs.declared.memory.layout.Layout.{Layout}
+use Rattle.rlsf_journal.specs.declared.entry.Call.{Call}
+use Rattle.rlsf_journal.specs.declared.entry.Call.TheVariants.{Allocate}
+use Rattle.rlsf_journal.specs.declared.entry.Reply.TheVariants.{NoRoom}
+use Rattle.rlsf_journal.specs.Replay.{Leads}
+use Rattle.rlsf_placement.specs.declared.error.GlobalError.{GlobalError}
+use Rattle.rlsf_placement.specs.declared.error.GlobalError.TheVariants as error
+use Rattle.rlsf_placement.specs.Heap.{Heap}
+use Rattle.rlsf_placement.specs.Steps.{HeapAllocates, Placed}
+
+-- an allocation that finds no room leads on by that reply
+pub no_room : (h g : Heap) {call : Call} {layout : Layout} {r : Placed} {e : GlobalError} → call ≡ Allocate layout → r ≡ Err e → e ≡ error.NoRoom → HeapAllocates h layout r g → Leads h call NoRoom g
+no_room h g {layout = layout} is_call is_err is_error step =
+    subst (λ call. Leads h call NoRoom g) (sym is_call)
+    (subst (λ e. HeapAllocates h layout (Err e) g) is_error (subst (λ r. HeapAllocates h layout r g) is_err step))
+
+-- what an error leaves
+pub on_err : {A E P : Type 0} {r : Result A E} {e : E} → r ≡ Err e → OnErr r P → P
+on_err {P = P} is_err left = subst (λ r. OnErr r P) is_err left

@@ -1,0 +1,13 @@
+use Rattle.std.proofs.Common.{rules, sym, subst}
+use Rattle.rlsf_journal.specs.declared.entry.Reply.TheVariants.{NoRoom}
+use Rattle.rlsf_journal.specs.Entries.{IsReplyTo}
+use Rattle.rlsf_journal.proofs.Replies.{no_room, on_err}
+use Rattle.rlsf_journal.proofs.book.answer.Goals as goal
+
+pub returns-in-Err-NoRoom : goal.returns-in-Err-NoRoom
+returns-in-Err-NoRoom c = record {
+  step = no_room _ _ c.in-Allocate.is c.in-Err-NoRoom.is c.in-Err-NoRoom.field-0-is assumption;
+  not_journal = search rules;
+  fits = subst (λ call. IsReplyTo call NoRoom) (sym c.in-Allocate.is) tt;
+  refused = on_err c.in-Err-NoRoom.is assumption;
+}
