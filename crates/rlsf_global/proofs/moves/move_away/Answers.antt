@@ -1,24 +1,21 @@
-use Rattle.std.proofs.Common.{rules, arith}
+use Rattle.std.proofs.Common.{arith}
 use Rattle.rlsf_base.specs.Addr.{at}
 use Rattle.rlsf_global.proofs.MovedPayloads.{moved_away, moved_away_seen, not_allocated_stays, not_moved}
-use Rattle.rlsf_global.proofs.Results.{for_none}
 use Rattle.rlsf_global.proofs.moves.move_away.Goals as goal
 
 pub returns-in_err-to : goal.returns-in_err-to
-returns-in_err-to g c = record {
-  step = search rules;
-  moved = search rules;
-  none =
-      let did = c.in_err-to.ensures in
-      for_none c.from_residual.result (λ none rows. not_moved c.args.flex.now c.allocate.new.self did.same did.refused (at c.args.addr) c.args.keep c.args.wanted did.step rows);
-  refused =
-      let did = c.in_err-to.ensures in
-      for_none c.from_residual.result (λ none. not_allocated_stays c.args.flex.now c.allocate.new.self did.same did.refused c.args.wanted.size c.args.wanted.align did.step);
-  touches = λ some.
-      let first = c.in_err-to.ensures.touches some in
-      omega (arith, first);
-  grow = search rules;
-}
+returns-in_err-to g c =
+    let did = c.in_err-to.ensures in
+    rw c.from_residual.ensures (record {
+      step = tt;
+      moved = tt;
+      none = λ rows. not_moved c.args.flex.now c.allocate.new.self did.same did.refused (at c.args.addr) c.args.keep c.args.wanted did.step rows;
+      refused = not_allocated_stays c.args.flex.now c.allocate.new.self did.same did.refused c.args.wanted.size c.args.wanted.align did.step;
+      touches = λ some.
+          let first = did.touches some in
+          omega (arith, first);
+      grow = did.grow;
+    })
 
 pub returns : goal.returns
 returns g c = record {
@@ -31,10 +28,10 @@ returns g c = record {
       let third = c.deallocate.ensures in
       moved_away_seen c.args.flex.now c.allocate.new.self c.copy_payload.new.self c.deallocate.new.self (at c.args.addr) c.args.keep c.args.wanted c.in_ok-to.to first.step second.step third.step
       c.args.align c.requires.live first.new (record { live = first.live; sized = first.sized; few = first.few }) first.aligns first.bytes second.aligns second.bytes third.gone third.aligns third.bytes;
-  none = search rules;
-  refused = search rules;
+  none = tt;
+  refused = tt;
   touches = λ some.
       let first = c.in_ok-to.ensures.touches some in
       omega (arith, first, c.copy_payload.ensures.touches, c.deallocate.ensures.touches);
-  grow = search rules;
+  grow = omega (arith, c.in_ok-to.ensures.grow, c.copy_payload.ensures.touches, c.deallocate.ensures.grow);
 }

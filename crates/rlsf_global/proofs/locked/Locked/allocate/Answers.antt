@@ -9,11 +9,11 @@ pub returns-then-is_err : goal.returns-then-is_err
 returns-then-is_err g c = record {
   step = rw (← c.self.view_is, c.try_reserve.ensures.items) refl;
   refused = search rules;
-  live = search rules;
-  sized = search rules;
-  new = search rules;
-  layouts = search rules;
-  contents = search rules;
+  live = tt;
+  sized = tt;
+  new = tt;
+  layouts = tt;
+  contents = tt;
   same = search rules;
   touches = search rules;
   grow = search rules;
@@ -35,14 +35,14 @@ pub returns-in_default : goal.returns-in_default
 returns-in_default g c = record {
   step = rw (← c.self.view_is, c.try_reserve.ensures.items) (not_allocated c.self.inside.flex c.self.inside.rows.items c.self.invariant c.allocate.new.self c.args.layout c.in_default.ensures.step c.in_default.ensures.same);
   refused = search rules;
-  live = search rules;
-  sized = search rules;
-  new = search rules;
-  layouts = search rules;
-  contents = search rules;
+  live = tt;
+  sized = tt;
+  new = tt;
+  layouts = tt;
+  contents = tt;
   same = rw (← c.self.view_is, c.try_reserve.ensures.items) (heap_stays c.self.inside.flex c.self.inside.rows.items c.self.invariant c.allocate.new.self c.args.layout c.in_default.ensures.step c.in_default.ensures.same);
   touches = rw (← c.self.view_is) c.in_default.ensures.touches;
-  grow = search rules;
+  grow = rw (← c.self.view_is) c.in_default.ensures.grow;
 }
 
 pub returns : goal.returns
@@ -50,7 +50,7 @@ returns g c = record {
   step =
       let rows = rw c.try_reserve.ensures.items at c.place.ensures in
       rw (← c.self.view_is) (allocated c.self.inside.flex c.self.inside.rows.items c.self.invariant c.allocate.new.self c.args.layout c.in-Some.addr c.in-Some.ensures.step _ rows);
-  refused = search rules;
+  refused = tt;
   live =
       let rows = rw c.try_reserve.ensures.items at c.place.ensures in
       let before = heap_of c.self.inside.flex c.self.inside.rows.items in
@@ -68,7 +68,7 @@ returns g c = record {
       let before = heap_of c.self.inside.flex c.self.inside.rows.items in
       let after = heap_of c.allocate.new.self c.place.new.rows.items in
       λ a off. content_at-bytes before after a a (c.in-Some.ensures.bytes a off));
-  same = search rules;
+  same = tt;
   touches = rw (← c.self.view_is) c.in-Some.ensures.touches;
-  grow = search rules;
+  grow = rw (← c.self.view_is) c.in-Some.ensures.grow;
 }

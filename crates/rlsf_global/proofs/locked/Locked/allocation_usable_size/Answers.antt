@@ -14,7 +14,7 @@ pub returns-in_default : goal.returns-in_default
 returns-in_default g c = record {
   step = search rules;
   unknown = rw (← c.self.view_is) (unknown c.self.inside.flex c.self.inside.rows.items (at c.args.addr) _ (rw c.deref.ensures.value at c.in_default.ensures.absent));
-  len = search rules;
+  len = tt;
 }
 
 pub returns : goal.returns

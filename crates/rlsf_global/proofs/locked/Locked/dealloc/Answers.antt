@@ -1,5 +1,5 @@
 use Rattle.rlsf_global.proofs.Layouts.{content_at-bytes, layout_at-without_here, layout_at-without_other}
-use Rattle.std.proofs.Common.{rules, ◌≡◌, Some, Ok, Err, lit<, ap, ◌∙◌, subst, sym, refl}
+use Rattle.std.proofs.Common.{◌≡◌, Some, Ok, Err, lit<, ap, ◌∙◌, subst, sym, refl, arith}
 use Rattle.rlsf_base.specs.Addr.{at}
 use Rattle.rlsf_global.specs.Locked.{heap_of}
 use Rattle.rlsf_global.proofs.Checks.{deallocates_in, deallocates_out}
@@ -35,14 +35,14 @@ returns-in_default g c = record {
       let h = heap_of c.self.inside.flex c.self.inside.rows.items in
       let absent = rw c.deref.ensures.value at c.in_default.ensures.absent in
       subst (λ o. DeallocatesAsAt h (at c.args.addr) c.args.layout o (Err UnknownAddress) h) (sym absent.none) (refl, refl));
-  refused = search rules;
+  refused = refl;
   unknown = rw (← c.self.view_is) (unknown c.self.inside.flex c.self.inside.rows.items (at c.args.addr) _ (rw c.deref.ensures.value at c.in_default.ensures.absent));
-  gone = search rules;
-  layouts = search rules;
-  contents = search rules;
-  same = search rules;
-  touches = search rules;
-  grow = search rules;
+  gone = tt;
+  layouts = tt;
+  contents = tt;
+  same = refl;
+  touches = omega arith;
+  grow = omega arith;
 }
 
 pub returns-then-ne : goal.returns-then-ne
@@ -52,14 +52,14 @@ returns-then-ne g c = record {
       let found = rw c.deref.ensures.value at c.in-Ok.ensures.found in
       let row = found.row c.index.result.now ∙ ap Some (sym c.index.ensures) in
       subst (λ o. DeallocatesAsAt h (at c.args.addr) c.args.layout o (Err WrongLayout) h) (sym row) (deallocates_out h (at c.args.addr) c.args.layout c.index.result.now (not-true _ c.if-ne.ensures)));
-  refused = search rules;
+  refused = refl;
   unknown = rw (← c.self.view_is) (known c.self.inside.flex c.self.inside.rows.items (at c.args.addr) _ (rw c.deref.ensures.value at c.in-Ok.ensures.found) (Err WrongLayout) refl);
-  gone = search rules;
-  layouts = search rules;
-  contents = search rules;
-  same = search rules;
-  touches = search rules;
-  grow = search rules;
+  gone = tt;
+  layouts = tt;
+  contents = tt;
+  same = refl;
+  touches = omega arith;
+  grow = omega arith;
 }
 
 pub returns : goal.returns
@@ -72,7 +72,7 @@ returns g c = record {
       let gone = released c.self.inside.flex c.self.inside.rows.items c.self.invariant c.deallocate.new.self (at c.args.addr) c.deallocate.ensures.step c.deallocate.ensures.source _
       (taken_out g c) in
       subst (λ o. DeallocatesAsAt h (at c.args.addr) c.args.layout o (Ok tt) after) (sym row) (deallocates_in h (at c.args.addr) c.args.layout c.index.result.now after (not-false _ c.if-ne.ensures) gone));
-  refused = search rules;
+  refused = tt;
   unknown = rw (← c.self.view_is) (known c.self.inside.flex c.self.inside.rows.items (at c.args.addr) _ (rw c.deref.ensures.value at c.in-Ok.ensures.found) (Ok tt) refl);
   gone =
       let before = heap_of c.self.inside.flex c.self.inside.rows.items in
@@ -86,7 +86,7 @@ returns g c = record {
       let before = heap_of c.self.inside.flex c.self.inside.rows.items in
       let after = heap_of c.deallocate.new.self c.remove-row.new.self.items in
       λ a off. content_at-bytes before after a a (c.deallocate.ensures.bytes a off));
-  same = search rules;
+  same = tt;
   touches = rw (← c.self.view_is) c.deallocate.ensures.touches;
-  grow = search rules;
+  grow = rw (← c.self.view_is) c.deallocate.ensures.grow;
 }

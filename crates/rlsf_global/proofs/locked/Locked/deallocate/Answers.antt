@@ -1,5 +1,5 @@
 use Rattle.rlsf_global.proofs.Layouts.{content_at-bytes, layout_at-without_here, layout_at-without_other}
-use Rattle.std.proofs.Common.{rules, ◌≡◌, Some, Ok, Err, lit<, ap, refl, ◌∙◌, subst, sym}
+use Rattle.std.proofs.Common.{◌≡◌, Some, Ok, Err, lit<, ap, refl, ◌∙◌, subst, sym, arith}
 use Rattle.rlsf_base.specs.Addr.{at}
 use Rattle.rlsf_global.specs.Locked.{heap_of}
 use Rattle.rlsf_global.proofs.Lives.{known, unknown}
@@ -33,14 +33,14 @@ returns-in_default g c = record {
       let h = heap_of c.self.inside.flex c.self.inside.rows.items in
       let absent = rw c.deref.ensures.value at c.in_default.ensures.absent in
       subst (λ o. DeallocatesAt h (at c.args.addr) o (Err UnknownAddress) h) (sym absent.none) (refl, refl));
-  refused = search rules;
+  refused = refl;
   unknown = rw (← c.self.view_is) (unknown c.self.inside.flex c.self.inside.rows.items (at c.args.addr) _ (rw c.deref.ensures.value at c.in_default.ensures.absent));
-  gone = search rules;
-  layouts = search rules;
-  contents = search rules;
-  same = search rules;
-  touches = search rules;
-  grow = search rules;
+  gone = tt;
+  layouts = tt;
+  contents = tt;
+  same = refl;
+  touches = omega arith;
+  grow = omega arith;
 }
 
 pub returns : goal.returns
@@ -51,7 +51,7 @@ returns g c = record {
       let gone = released c.self.inside.flex c.self.inside.rows.items c.self.invariant c.deallocate.new.self (at c.args.addr) c.deallocate.ensures.step c.deallocate.ensures.source _
       (taken_out g c) in
       subst (λ o. DeallocatesAt (heap_of c.self.inside.flex c.self.inside.rows.items) (at c.args.addr) o (Ok tt) (heap_of c.deallocate.new.self c.remove-gone.new.self.items)) (sym there) (refl, gone));
-  refused = search rules;
+  refused = tt;
   unknown = rw (← c.self.view_is) (known c.self.inside.flex c.self.inside.rows.items (at c.args.addr) _ (rw c.deref.ensures.value at c.in-Ok.ensures.found) (Ok tt) refl);
   gone =
       let before = heap_of c.self.inside.flex c.self.inside.rows.items in
@@ -65,7 +65,7 @@ returns g c = record {
       let before = heap_of c.self.inside.flex c.self.inside.rows.items in
       let after = heap_of c.deallocate.new.self c.remove-gone.new.self.items in
       λ a off. content_at-bytes before after a a (c.deallocate.ensures.bytes a off));
-  same = search rules;
+  same = tt;
   touches = rw (← c.self.view_is) c.deallocate.ensures.touches;
-  grow = search rules;
+  grow = rw (← c.self.view_is) c.deallocate.ensures.grow;
 }

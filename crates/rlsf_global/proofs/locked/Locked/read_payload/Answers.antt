@@ -15,8 +15,8 @@ pub returns-in_default : goal.returns-in_default
 returns-in_default g c = record {
   step = search rules;
   unknown = rw (← c.self.view_is) (unknown c.self.inside.flex c.self.inside.rows.items (at c.args.addr) _ (rw c.deref.ensures.value at c.in_default.ensures.absent));
-  told = search rules;
-  refused = search rules;
+  told = tt;
+  refused = refl;
 }
 
 pub returns-then-not-fits : goal.returns-then-not-fits
@@ -26,8 +26,8 @@ returns-then-not-fits g c = record {
       let lent = c.args.bytes.now in
       reads_out h (at c.args.addr) c.args.offset _ (rw c.deref.ensures.value at c.in-Ok.ensures.found) lent (c.if-not-fits.ensures ∙ ap (λ l. nat_le (c.args.offset + length lent) (length l)) c.payload-payload.ensures));
   unknown = rw (← c.self.view_is) (known c.self.inside.flex c.self.inside.rows.items (at c.args.addr) _ (rw c.deref.ensures.value at c.in-Ok.ensures.found) (Err OutOfRange) refl);
-  told = search rules;
-  refused = search rules;
+  told = tt;
+  refused = refl;
 }
 
 pub returns : goal.returns
@@ -47,5 +47,5 @@ returns g c = record {
       let n : offset + length lent - offset ≡ length lent = omega arith in
       c.copy_from_slice.ensures.after ∙ ap (λ k. take k (drop offset c.payload-payload.result.now)) n
       ∙ ap (λ l. take (length lent) (drop offset l)) (c.payload-payload.ensures ∙ sym (content_at-is (heap_of c.self.inside.flex c.self.inside.rows.items) (at c.args.addr))));
-  refused = search rules;
+  refused = tt;
 }

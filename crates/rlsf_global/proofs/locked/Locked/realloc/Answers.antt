@@ -1,7 +1,7 @@
 use Rattle.rlsf_base.specs.Sizes.{request_size}
 use Rattle.rlsf_machine.specs.Allocate.{choice}
 use Rattle.rlsf_machine.specs.Reallocate.{HasRoomToResize}
-use Rattle.std.proofs.Common.{rules, IsSome, ◌≡◌, ◌≤◌, length, Some, None, Ok, Err, lit<, ap, ◌∙◌, subst, sym, refl}
+use Rattle.std.proofs.Common.{rules, IsSome, ◌≡◌, ◌≤◌, length, Some, None, Ok, Err, lit<, ap, ◌∙◌, subst, sym, refl, arith}
 use Rattle.rlsf_global.proofs.Layouts.{content_at-bytes, layout_at-moved_left, layout_at-moved_other, layout_at-none, layout_at-put_here}
 use Rattle.rlsf_base.specs.Addr.{at}
 use Rattle.rlsf_global.specs.Locked.{heap_of, locked_contents}
@@ -110,19 +110,19 @@ returns-clause-touches_elsewhere g c = rw (← c.self.view_is) (
 pub returns-in_default : goal.returns-in_default
 returns-in_default g c = record {
   step = search rules;
-  refused = search rules;
+  refused = refl;
   unknown = rw (← c.self.view_is) (unknown c.self.inside.flex c.self.inside.rows.items (at c.args.addr) _ (rw c.deref.ensures.value at c.in_default.ensures.absent));
-  live = search rules;
-  new = search rules;
-  left = search rules;
-  kept = search rules;
-  kept_usable = search rules;
-  layouts = search rules;
-  contents = search rules;
-  same = search rules;
-  touches = search rules;
-  touches_elsewhere = search rules;
-  grow = search rules;
+  live = tt;
+  new = tt;
+  left = tt;
+  kept = tt;
+  kept_usable = λ _. tt;
+  layouts = tt;
+  contents = tt;
+  same = refl;
+  touches = λ _. omega arith;
+  touches_elsewhere = λ _. omega arith;
+  grow = omega arith;
 }
 
 pub returns-then-ne : goal.returns-then-ne
@@ -134,19 +134,19 @@ returns-then-ne g c = record {
       let enabled = g.Options.GlobalTlsfOptions.ENABLE_REALLOCATION in
       subst (λ o. ReallocatesAsAt enabled h (at c.args.addr) c.args.layout c.args.new_size o (Err WrongLayout) h) (sym row)
       (reallocates_out enabled h (at c.args.addr) c.args.layout c.args.new_size c.index.result.now (not-true _ c.if-ne.ensures)));
-  refused = search rules;
+  refused = refl;
   unknown = rw (← c.self.view_is) (known c.self.inside.flex c.self.inside.rows.items (at c.args.addr) _ (rw c.deref.ensures.value at c.in-Ok.ensures.found) (Err WrongLayout) refl);
-  live = search rules;
-  new = search rules;
-  left = search rules;
-  kept = search rules;
-  kept_usable = search rules;
-  layouts = search rules;
-  contents = search rules;
-  same = search rules;
-  touches = search rules;
-  touches_elsewhere = search rules;
-  grow = search rules;
+  live = tt;
+  new = tt;
+  left = tt;
+  kept = tt;
+  kept_usable = λ _. tt;
+  layouts = tt;
+  contents = tt;
+  same = refl;
+  touches = λ _. omega arith;
+  touches_elsewhere = λ _. omega arith;
+  grow = omega arith;
 }
 
 pub returns-in_default-resize : goal.returns-in_default-resize
@@ -163,13 +163,13 @@ returns-in_default-resize g c = record {
       (c.in_default-resize.ensures.none c.self.inside.rows.items)));
   refused = search rules;
   unknown = rw (← c.self.view_is) (known c.self.inside.flex c.self.inside.rows.items (at c.args.addr) _ (rw c.deref.ensures.value at c.in-Ok.ensures.found) (Err NoRoom) refl);
-  live = search rules;
-  new = search rules;
-  left = search rules;
-  kept = search rules;
-  kept_usable = search rules;
-  layouts = search rules;
-  contents = search rules;
+  live = tt;
+  new = tt;
+  left = tt;
+  kept = tt;
+  kept_usable = λ _. tt;
+  layouts = tt;
+  contents = tt;
   same = rw (← c.self.view_is) (
       let stays = c.in_default-resize.ensures.refused in
       same_heap c.self.inside.flex c.resize.new.flex c.self.inside.rows.items stays.state stays.source);

@@ -95,17 +95,17 @@ returns-clause-touches g c = rw (← c.self.view_is) c.move_away.ensures.touches
 pub returns-in_default : goal.returns-in_default
 returns-in_default g c = record {
   step = search rules;
-  refused = search rules;
+  refused = refl;
   unknown = rw (← c.self.view_is) (unknown c.self.inside.flex c.self.inside.rows.items (at c.args.addr) _ (rw c.deref.ensures.value at c.in_default.ensures.absent));
-  live = search rules;
-  new = search rules;
-  left = search rules;
-  kept = search rules;
-  layouts = search rules;
-  contents = search rules;
-  same = search rules;
-  touches = search rules;
-  grow = search rules;
+  live = tt;
+  new = tt;
+  left = tt;
+  kept = tt;
+  layouts = tt;
+  contents = tt;
+  same = refl;
+  touches = λ _. omega arith;
+  grow = omega arith;
 }
 
 pub returns-in_default-move_away : goal.returns-in_default-move_away
@@ -120,17 +120,17 @@ returns-in_default-move_away g c = record {
       (subst (λ n. MovesAway h (at c.args.addr) n c.args.layout (Err NoRoom) after) keep (c.in_default-move_away.ensures.none c.self.inside.rows.items)));
   refused = search rules;
   unknown = rw (← c.self.view_is) (known c.self.inside.flex c.self.inside.rows.items (at c.args.addr) _ (rw c.deref.ensures.value at c.in-Ok.ensures.found) (Err NoRoom) refl);
-  live = search rules;
-  new = search rules;
-  left = search rules;
-  kept = search rules;
-  layouts = search rules;
-  contents = search rules;
+  live = tt;
+  new = tt;
+  left = tt;
+  kept = tt;
+  layouts = tt;
+  contents = tt;
   same = rw (← c.self.view_is) (
       let stays = c.in_default-move_away.ensures.refused in
       same_heap c.self.inside.flex c.move_away.new.flex c.self.inside.rows.items stays.state stays.source);
   touches = rw (← c.self.view_is) c.move_away.ensures.touches;
-  grow = search rules;
+  grow = rw (← c.self.view_is) c.move_away.ensures.grow;
 }
 
 pub returns-clause-unknown : goal.returns-clause-unknown

@@ -1,4 +1,4 @@
-use Rattle.std.proofs.Common.{rules, ◌≡◌, Some, Ok, Err, lit<, ap, ◌∙◌, subst, sym, refl}
+use Rattle.std.proofs.Common.{rules, ◌≡◌, Some, Ok, Err, lit<, ap, ◌∙◌, subst, sym, refl, arith}
 use Rattle.rlsf_placement.specs.Heap.{layout_at}
 use Rattle.rlsf_global.proofs.MovedPayloads.{same_heap}
 use Rattle.rlsf_global.proofs.Layouts.{content_at-bytes, layout_at-moved_other, layout_at-put_here}
@@ -84,16 +84,16 @@ returns-clause-touches g c = rw (← c.self.view_is) c.reallocate_no_move.ensure
 pub returns-in_default : goal.returns-in_default
 returns-in_default g c = record {
   step = search rules;
-  refused = search rules;
+  refused = refl;
   unknown = rw (← c.self.view_is) (unknown c.self.inside.flex c.self.inside.rows.items (at c.args.addr) _ (rw c.deref.ensures.value at c.in_default.ensures.absent));
-  there = search rules;
-  live = search rules;
-  kept = search rules;
-  layouts = search rules;
-  contents = search rules;
-  same = search rules;
-  touches = search rules;
-  grow = search rules;
+  there = tt;
+  live = tt;
+  kept = tt;
+  layouts = tt;
+  contents = tt;
+  same = refl;
+  touches = omega arith;
+  grow = omega arith;
 }
 
 pub returns-then-ne : goal.returns-then-ne
@@ -104,16 +104,16 @@ returns-then-ne g c = record {
       let row = found.row c.index.result.now ∙ ap Some (sym c.index.ensures) in
       subst (λ o. ReallocatesThereAt h (at c.args.addr) c.args.layout c.args.new_size o (Err WrongLayout) h) (sym row)
       (resizes_out h (at c.args.addr) c.args.layout c.args.new_size c.index.result.now (not-true _ c.if-ne.ensures)));
-  refused = search rules;
+  refused = refl;
   unknown = rw (← c.self.view_is) (known c.self.inside.flex c.self.inside.rows.items (at c.args.addr) _ (rw c.deref.ensures.value at c.in-Ok.ensures.found) (Err WrongLayout) refl);
-  there = search rules;
-  live = search rules;
-  kept = search rules;
-  layouts = search rules;
-  contents = search rules;
-  same = search rules;
-  touches = search rules;
-  grow = search rules;
+  there = tt;
+  live = tt;
+  kept = tt;
+  layouts = tt;
+  contents = tt;
+  same = refl;
+  touches = omega arith;
+  grow = omega arith;
 }
 
 pub returns-in_default-reallocate_no_move : goal.returns-in_default-reallocate_no_move
@@ -130,16 +130,16 @@ returns-in_default-reallocate_no_move g c = record {
       (resizes_in h (at c.args.addr) c.args.layout c.args.new_size c.index.result.now wanted.result (Err NoRoom) after (not-false _ c.if-ne.ensures) wanted.ensures.0 (wanted.ensures.1 ∙ c.align.ensures.value) step));
   refused = search rules;
   unknown = rw (← c.self.view_is) (known c.self.inside.flex c.self.inside.rows.items (at c.args.addr) _ (rw c.deref.ensures.value at c.in-Ok.ensures.found) (Err NoRoom) refl);
-  there = search rules;
-  live = search rules;
-  kept = search rules;
-  layouts = search rules;
-  contents = search rules;
+  there = tt;
+  live = tt;
+  kept = tt;
+  layouts = tt;
+  contents = tt;
   same = rw (← c.self.view_is) (
       let did = c.in_default-reallocate_no_move.ensures in
       same_heap c.self.inside.flex c.reallocate_no_move.new.self c.self.inside.rows.items did.same did.source);
   touches = rw (← c.self.view_is) c.reallocate_no_move.ensures.touches;
-  grow = search rules;
+  grow = rw (← c.self.view_is) c.reallocate_no_move.ensures.grow;
 }
 
 pub returns-clause-unknown : goal.returns-clause-unknown

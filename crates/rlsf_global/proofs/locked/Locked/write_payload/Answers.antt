@@ -27,14 +27,14 @@ invariant_of-self g c =
 pub returns-in_default : goal.returns-in_default
 returns-in_default g c = record {
   step = search rules;
-  refused = search rules;
+  refused = refl;
   unknown = rw (← c.self.view_is) (unknown c.self.inside.flex c.self.inside.rows.items (at c.args.addr) _ (rw c.deref.ensures.value at c.in_default.ensures.absent));
-  written = search rules;
-  layouts = search rules;
-  contents = search rules;
-  same = search rules;
-  touches = search rules;
-  grow = search rules;
+  written = tt;
+  layouts = refl;
+  contents = tt;
+  same = refl;
+  touches = omega arith;
+  grow = omega arith;
 }
 
 pub returns-then-not-fits : goal.returns-then-not-fits
@@ -43,14 +43,14 @@ returns-then-not-fits g c = record {
       let h = heap_of c.self.inside.flex c.self.inside.rows.items in
       let bytes = c.args.bytes.now in
       writes_out h (at c.args.addr) c.args.offset _ (rw c.deref.ensures.value at c.in-Ok.ensures.found) bytes (c.if-not-fits.ensures ∙ ap (nat_le (c.args.offset + length bytes)) c.allocation_usable_size.ensures));
-  refused = search rules;
+  refused = refl;
   unknown = rw (← c.self.view_is) (known c.self.inside.flex c.self.inside.rows.items (at c.args.addr) _ (rw c.deref.ensures.value at c.in-Ok.ensures.found) (Err OutOfRange) refl);
-  written = search rules;
-  layouts = search rules;
-  contents = search rules;
-  same = search rules;
-  touches = search rules;
-  grow = search rules;
+  written = tt;
+  layouts = refl;
+  contents = tt;
+  same = refl;
+  touches = omega arith;
+  grow = omega arith;
 }
 
 pub returns : goal.returns
@@ -66,7 +66,7 @@ returns g c = record {
       let (fills, leads) = filled c.self.inside.flex c.self.inside.rows.items c.self.invariant after addr w (did.meaning w c.write_at.ensures.len) refl in
       let spliced = subst (λ l. Fills h.flex.machine addr l after.state.machine) (c.write_at.ensures.bytes ∙ ap (λ l. splice l offset (offset + length bytes) bytes) did.value) fills in
       writes_in h addr offset _ (rw c.deref.ensures.value at c.in-Ok.ensures.found) bytes (heap_of after c.self.inside.rows.items) (c.if-not-fits.ensures ∙ ap (nat_le (offset + length bytes)) c.allocation_usable_size.ensures) (after.state.machine, spliced, leads));
-  refused = search rules;
+  refused = tt;
   unknown = rw (← c.self.view_is) (known c.self.inside.flex c.self.inside.rows.items (at c.args.addr) _ (rw c.deref.ensures.value at c.in-Ok.ensures.found) (Ok tt) refl);
   written = rw (← c.self.view_is) (
       let addr = at c.args.addr in
@@ -86,7 +86,7 @@ returns g c = record {
       let before = heap_of c.self.inside.flex c.self.inside.rows.items in
       let after = heap_of (written c.self.inside.flex (at c.args.addr) (length c.payload_mut.result.now) w) c.self.inside.rows.items in
       λ a off. content_at-bytes before after a a (c.payload_mut.ensures.bytes w a off));
-  same = search rules;
+  same = tt;
   touches = rw (← c.self.view_is) (
       let (chunks, after, source, place, stands, touches, copied) = c.payload_mut.ensures.rest c.write_at.new.payload in
       omega (arith, touches));
