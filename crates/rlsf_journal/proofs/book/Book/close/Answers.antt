@@ -15,9 +15,9 @@ returns-then-is_strange c = record {
   mismatch = rw (← c.self.view_is) (
       let is : is_strange c.args.callers c.args.passes.items ≡ true = ap (is_strange c.args.callers) (sym c.deref.ensures.value) ∙ sym c.is_strange.ensures ∙ c.if-is_strange.true in
       (told_strange c.args.callers c.args.passes.items c.self.inside.journal.items is).mismatch);
-  agreed = search rules;
-  journal = search rules;
-  live = search rules;
+  agreed = tt;
+  journal = tt;
+  live = tt;
 }
 
 pub returns-then-is_missing : goal.returns-then-is_missing
@@ -34,9 +34,9 @@ returns-then-is_missing c = record {
       let none : is_strange c.args.callers c.args.passes.items ≡ false = ap (is_strange c.args.callers) (sym c.deref.ensures.value) ∙ sym c.is_strange.ensures ∙ c.if-is_strange.false in
       let lacks = rw (c.if-is_missing.true, c.deref-2.ensures.value) at c.is_missing.ensures in
       (told_missing c.args.callers c.args.passes.items c.self.inside.journal.items none lacks).mismatch);
-  agreed = search rules;
-  journal = search rules;
-  live = search rules;
+  agreed = tt;
+  journal = tt;
+  live = tt;
 }
 
 pub returns-then-not-agree : goal.returns-then-not-agree
@@ -56,9 +56,9 @@ returns-then-not-agree c = record {
       let each = rw (c.if-is_missing.false, c.deref-2.ensures.value) at c.is_missing.ensures in
       let told = rw (c.deref-3.ensures.value, c.deref-4.ensures.value) at c.agree.ensures in
       (told_mismatch c.args.callers c.args.passes.items c.self.inside.journal.items none each (λ agree. false≢true (sym c.if-not-agree.true ∙ told.1 agree))).mismatch);
-  agreed = search rules;
-  journal = search rules;
-  live = search rules;
+  agreed = tt;
+  journal = tt;
+  live = tt;
 }
 
 pub returns : goal.returns

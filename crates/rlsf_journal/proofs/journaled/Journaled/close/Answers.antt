@@ -4,9 +4,9 @@ use Rattle.rlsf_journal.proofs.journaled.Journaled.close.Goals as goal
 
 pub returns : goal.returns
 returns c = record {
-  strange = search rules;
-  missing = search rules;
-  mismatch = search rules;
+  strange = c.close.ensures.strange;
+  missing = c.close.ensures.missing;
+  mismatch = λ e. (c.close.ensures.mismatch.0 e).0;
   agreed = search rules;
   history = closed_history c.into_inner.result c.close.result c.close.ensures.journal c.close.ensures.live;
 }
