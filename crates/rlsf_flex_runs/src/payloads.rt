@@ -179,7 +179,7 @@ pub(crate) fn put<
     let Some(payload) = payload_of(names, name) else {
         return Answer::Refused(TraceError::UnknownName);
     };
-    if offset >= flex.payload(payload.addr).len() {
+    if offset >= flex.allocation_usable_size(payload.addr) {
         return Answer::Refused(TraceError::BadOffset);
     }
     flex.payload_mut(payload.addr)[offset] = byte;

@@ -17,14 +17,14 @@ returns-in_default g c =
     LeadsOn-nothing c.requires (Put c.args.name c.args.offset c.args.byte) (Refused UnknownName) refl
     (refl, without_source (run_of c.args.flex.now c.args.names.now), (unnamed c.requires.are_named c.args.name (sym c.payload_of.ensures ∙ c.in_default.is), refl), refl, refl)
 
-pub payload-requires : goal.payload-requires
-payload-requires g c = (omega arith, some_live c.requires c.args.name c.in-Some.payload (sym c.payload_of.ensures ∙ c.in-Some.is))
+pub allocation_usable_size-requires : goal.allocation_usable_size-requires
+allocation_usable_size-requires g c = (omega arith, some_live c.requires c.args.name c.in-Some.payload (sym c.payload_of.ensures ∙ c.in-Some.is))
 
-pub returns-then-offset-payload : goal.returns-then-offset-payload
-returns-then-offset-payload g c =
+pub returns-then-offset-allocation_usable_size : goal.returns-then-offset-allocation_usable_size
+returns-then-offset-allocation_usable_size g c =
     let (u, owns, holds, its, long) = owned c.requires c.args.name c.in-Some.payload (sym c.payload_of.ensures ∙ c.in-Some.is) in
     LeadsOn-nothing c.requires (Put c.args.name c.args.offset c.args.byte) (Refused BadOffset) refl
-    (refl, without_source (run_of c.args.flex.now c.args.names.now), ((u, owns, omega (arith, c.if-offset-payload.true, ap length (c.payload.ensures ∙ its), long)), refl), refl, refl)
+    (refl, without_source (run_of c.args.flex.now c.args.names.now), ((u, owns, omega (arith, c.if-offset-allocation_usable_size.true, c.allocation_usable_size.ensures, ap length its, long)), refl), refl, refl)
 
 pub payload_mut-requires : goal.payload_mut-requires
 payload_mut-requires g c = (omega arith, some_live c.requires c.args.name c.in-Some.payload (sym c.payload_of.ensures ∙ c.in-Some.is))
@@ -41,7 +41,7 @@ returns g c =
     let fills = subst (λ a. Fills s.flex.machine a (slice_set u.bytes c.args.offset c.args.byte) m) (sym holds.1) (subst (λ l. Fills s.flex.machine (address p) (slice_set l c.args.offset c.args.byte) m) lent step) in (
       refl,
       with_machine (without_source s) m,
-      (u, owns, omega (arith, c.if-offset-payload.false, ap length (c.payload.ensures ∙ its), long), m, fills, refl),
+      (u, owns, omega (arith, c.if-offset-allocation_usable_size.false, c.allocation_usable_size.ensures, ap length its, long), m, fills, refl),
       refl,
       refl,
     )) (c.payload_mut.ensures.meaning w (length-set c.payload_mut.result.now c.args.offset c.args.byte))

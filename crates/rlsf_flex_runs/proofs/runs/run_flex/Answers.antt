@@ -25,6 +25,6 @@ returns g c = record {
   runs =
       let ((given, items, u), _) = c.loop-op.invariant in
       (given, items, (u.notes, run_of c.loop-op.flex c.loop-op.names, RunsFlex-end u c.loop-op-test.false, u.leads_by, refl, u.outside, RunsFlexByEvents-end u c.loop-op-test.false));
-  refused = search rules;
+  refused = tt;
   place = search rules;
 }
