@@ -1,7 +1,7 @@
-use Rattle.std.proofs.Common.{rules, ◌≤◌, ◌<◌, ◌+◌, length, Some, None, Ok, Err, refl, sym, subst}
+use Rattle.std.proofs.Common.{rules, ◌≡◌, Option, ◌≤◌, ◌<◌, ◌+◌, length, Some, None, Ok, Err, refl, sym, subst}
 use Rattle.std.proofs.lemmas.Bool.{false≢true}
 use Rattle.std.specs.declared.num.NonZeroUsize.{NonZeroUsize}
-use Rattle.rlsf_base.specs.Addr.{at}
+use Rattle.rlsf_base.specs.Addr.{at, reply}
 use Rattle.rlsf_machine.specs.Callers.{bytes_at}
 use Rattle.rlsf_machine.specs.NoMove.{ReallocatesWithoutMove}
 use Rattle.rlsf_tlsf.specs.Allocator.{Steps}
@@ -9,7 +9,18 @@ use Rattle.rlsf_checked.specs.Answers.{IsRefusedBy, size_refusal}
 use Rattle.rlsf_checked.specs.declared.error.CheckedError.TheVariants.{NoRoom}
 use Rattle.rlsf_checked.proofs.SizeRefusals.{unknown_is_refused, unknown_is_not_fine, past_is_refused, past_is_not_fine}
 use Rattle.rlsf_checked.proofs.Standing.{size_fits, stands_after, unchanged}
+use Rattle.rlsf_checked.proofs.checked.CheckedTlsf.reallocate_no_move.Given as given
 use Rattle.rlsf_checked.proofs.checked.CheckedTlsf.reallocate_no_move.Goals as goal
+use Rattle.rlsf_checked.proofs.checked.CheckedTlsf.reallocate_no_move.Goals.{After-reallocate_no_move}
+
+-- the machine made the step for the size
+did_step : (g : given.Over) (c : After-reallocate_no_move g) (answer : Option NonZeroUsize) → c.reallocate_no_move.result ≡ answer
+    → Steps g.row.FLLEN g.row.SLLEN c.self.inside.heap c.reallocate_no_move.new.self (ReallocatesWithoutMove c.self.inside.heap.state (at c.args.addr) c.args.size (reply answer))
+did_step g c answer is =
+    let heap = c.self.inside.heap in
+    let new = c.reallocate_no_move.new.self in
+    subst (λ r. Steps g.row.FLLEN g.row.SLLEN heap new (ReallocatesWithoutMove heap.state (at c.args.addr) c.args.size (reply r))) is
+    (subst (λ n. Steps g.row.FLLEN g.row.SLLEN heap new (ReallocatesWithoutMove heap.state (at c.args.addr) n (reply c.reallocate_no_move.result))) c.in-Ok.ensures.layout.0 c.reallocate_no_move.ensures.step)
 
 pub invariant_of-self : goal.invariant_of-self
 invariant_of-self g c =
@@ -66,8 +77,7 @@ returns-in_default-reallocate_no_move g c = record {
       let (size, align) = c.in-Ok.ensures.layout in
       subst (λ o. IsRefusedBy {A = NonZeroUsize} (size_refusal o c.args.size) (Err NoRoom)) c.in-Some.ensures.value
       (subst (λ o. IsRefusedBy {A = NonZeroUsize} o (Err NoRoom)) (sym (size_fits c.in-Ok.layout c.args.size c.in-Some.align size align)) refl);
-  step = λ fits. subst (λ n. Steps g.row.FLLEN g.row.SLLEN c.args.self.now.heap c.reallocate_no_move.new.self (ReallocatesWithoutMove c.args.self.now.heap.state (at c.args.addr) n None)) c.in-Ok.ensures.layout.0
-      (rw (← c.self.view_is) c.in_default-reallocate_no_move.ensures.step);
+  step = λ fits. rw (← c.self.view_is) (did_step g (goal.at.returns-in_default-reallocate_no_move g c).After-reallocate_no_move None c.in_default-reallocate_no_move.is);
   there = search rules;
   sized = search rules;
   few = search rules;
@@ -89,8 +99,7 @@ returns g c = record {
       let (size, align) = c.in-Ok.ensures.layout in
       subst (λ o. IsRefusedBy (size_refusal o c.args.size) (Ok c.in-Some-reallocate_no_move.to)) c.in-Some.ensures.value
       (subst (λ o. IsRefusedBy o (Ok c.in-Some-reallocate_no_move.to)) (sym (size_fits c.in-Ok.layout c.args.size c.in-Some.align size align)) tt);
-  step = λ fits. subst (λ n. Steps g.row.FLLEN g.row.SLLEN c.args.self.now.heap c.reallocate_no_move.new.self (ReallocatesWithoutMove c.args.self.now.heap.state (at c.args.addr) n (Some (at c.in-Some-reallocate_no_move.to)))) c.in-Ok.ensures.layout.0
-      (rw (← c.self.view_is) c.in-Some-reallocate_no_move.ensures.step);
+  step = λ fits. rw (← c.self.view_is) (did_step g (goal.at.returns g c).After-reallocate_no_move (Some c.in-Some-reallocate_no_move.to) c.in-Some-reallocate_no_move.is);
   there = c.in-Some-reallocate_no_move.ensures.there;
   sized = subst (λ n. n ≤ length (bytes_at c.reallocate_no_move.new.self.state (at c.args.addr))) c.in-Ok.ensures.layout.0 c.in-Some-reallocate_no_move.ensures.sized;
   few = subst (λ n. length (bytes_at c.reallocate_no_move.new.self.state (at c.args.addr)) < n + 32) c.in-Ok.ensures.layout.0 c.in-Some-reallocate_no_move.ensures.few;

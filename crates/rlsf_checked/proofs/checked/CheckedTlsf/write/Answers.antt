@@ -1,7 +1,7 @@
 use Rattle.std.proofs.Common.{rules, ◌≡◌, ◌+◌, true, false, cond, nat_le, Ok, Err, sym, subst, length, arith, ◌∙◌, ap}
 use Rattle.std.specs.List.{splice}
 use Rattle.rlsf_base.specs.Addr.{at}
-use Rattle.rlsf_machine.specs.Callers.{bytes_at}
+use Rattle.rlsf_machine.specs.Callers.{bytes_at, written_over}
 use Rattle.rlsf_machine.specs.Run.{Fills}
 use Rattle.rlsf_tlsf.specs.Allocator.{Steps}
 use Rattle.rlsf_tlsf.specs.Lending.{written}
@@ -9,7 +9,13 @@ use Rattle.rlsf_checked.specs.Answers.{fits, if_in_range}
 use Rattle.rlsf_checked.specs.Checked.{Checked}
 use Rattle.rlsf_checked.specs.declared.error.CheckedError.TheVariants.{OutOfRange}
 use Rattle.rlsf_checked.proofs.Standing.{unchanged}
+use Rattle.rlsf_checked.proofs.checked.CheckedTlsf.write.Given as given
 use Rattle.rlsf_checked.proofs.checked.CheckedTlsf.write.Goals as goal
+use Rattle.rlsf_checked.proofs.checked.CheckedTlsf.write.Goals.{After-write_at}
+
+-- the bytes are written over those that the payload had
+over : (g : given.Over) (c : After-write_at g) → c.write_at.new.payload ≡ written_over c.self.inside.heap.state (at c.args.addr) c.args.offset c.args.bytes.now
+over g c = c.write_at.ensures.bytes ∙ ap (λ l. splice l c.args.offset (c.args.offset + length c.args.bytes.now) c.args.bytes.now) c.payload_mut.ensures.value
 
 pub invariant_of-self : goal.invariant_of-self
 invariant_of-self g c =
@@ -46,16 +52,11 @@ returns g c = record {
       subst (λ o. Ok tt ≡ if_in_range o (fits c.args.offset (length c.args.bytes.now) (bytes_at c.args.self.now.heap.state (at c.args.addr)))) c.in-Some.ensures.value
       (ap (λ b. cond b (Ok tt) (Err OutOfRange)) told);
   step = rw (← c.self.view_is) (
-      let bytes = c.args.bytes.now in
-      let did = c.payload_mut.ensures in
       let heap = c.self.inside.heap in
       let addr = at c.args.addr in
-      subst (λ w. Steps g.row.FLLEN g.row.SLLEN heap (written heap addr (length c.payload_mut.result.now) c.write_at.new.payload) (Fills heap.state addr w))
-      (c.write_at.ensures.bytes ∙ ap (λ l. splice l c.args.offset (c.args.offset + length bytes) bytes) did.value) (did.meaning c.write_at.new.payload c.write_at.ensures.len));
-  written = rw (← c.self.view_is) (
-      let bytes = c.args.bytes.now in
-      let did = c.payload_mut.ensures in
-      did.filled c.write_at.new.payload c.write_at.ensures.len ∙ c.write_at.ensures.bytes ∙ ap (λ l. splice l c.args.offset (c.args.offset + length bytes) bytes) did.value);
+      subst (λ w. Steps g.row.FLLEN g.row.SLLEN heap (written heap addr (length c.payload_mut.result.now) c.write_at.new.payload) (Fills heap.state addr w)) (over g (goal.at.returns g c).After-write_at)
+      (c.payload_mut.ensures.meaning c.write_at.new.payload c.write_at.ensures.len));
+  written = rw (← c.self.view_is) (c.payload_mut.ensures.filled c.write_at.new.payload c.write_at.ensures.len ∙ over g (goal.at.returns g c).After-write_at);
   aligns = rw (← c.self.view_is) (c.payload_mut.ensures.aligns c.write_at.new.payload);
   bytes = rw (← c.self.view_is) (c.payload_mut.ensures.bytes c.write_at.new.payload);
   same = search rules;
