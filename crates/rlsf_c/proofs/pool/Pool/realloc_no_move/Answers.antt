@@ -1,4 +1,4 @@
-use Rattle.std.proofs.Common.{sym, subst}
+use Rattle.std.proofs.Common.{rules, sym, subst}
 use Rattle.rlsf_c.specs.Calls.{ResizesThere}
 use Rattle.rlsf_c.specs.Seen.{nothing, seen}
 use Rattle.rlsf_c.proofs.Outcomes.{none_resized_there, none_in_empty}
@@ -8,3 +8,6 @@ pub returns-in-Refused : goal.returns-in-Refused
 returns-in-Refused c =
     subst (λ p. ResizesThere (seen p) c.args.addr c.args.size c.refused.result (seen p)) (sym c.in-Refused.is)
     (subst (λ r. ResizesThere nothing c.args.addr c.args.size r nothing) (sym c.refused.ensures) (none_resized_there nothing c.args.addr c.args.size (none_in_empty c.args.addr)))
+
+pub returns-in-Small : goal.returns-in-Small
+returns-in-Small c = search rules
