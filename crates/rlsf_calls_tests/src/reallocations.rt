@@ -19,13 +19,9 @@ fn kept(tlsf: &mut Small, layout: Layout, wanted: Layout, byte: u8, offset: usiz
     requires { (wanted.align ≡ layout.align) × (offset < layout.size) × (offset < wanted.size) }
     ensures { IfSome result (λ read. read ≡ byte) }
 {
-    let Some(addr) = tlsf.allocate(layout) else {
-        return None;
-    };
+    let addr = tlsf.allocate(layout)?;
     tlsf.payload_mut(addr).fill(byte);
-    let Some(moved) = tlsf.reallocate(addr, wanted) else {
-        return None;
-    };
+    let moved = tlsf.reallocate(addr, wanted)?;
     let bytes = tlsf.payload(moved);
     let read = bytes[offset];
     tlsf.deallocate(moved, wanted.align());
@@ -44,9 +40,7 @@ fn kept_there(
     requires { (wanted.align ≡ layout.align) × (offset < layout.size) × (offset < wanted.size) }
     ensures { IfSome result (λ read. read ≡ byte) }
 {
-    let Some(addr) = tlsf.allocate(layout) else {
-        return None;
-    };
+    let addr = tlsf.allocate(layout)?;
     tlsf.payload_mut(addr).fill(byte);
     if tlsf.reallocate_no_move(addr, wanted).is_none() {
         tlsf.deallocate(addr, layout.align());
@@ -144,15 +138,9 @@ fn second_moved(
     requires { wanted.align ≡ layouts.1.align }
     ensures { IfSome result (λ r. align_at tlsf.new.state (at (unwrap_or r.moved r.was)) ≡ Some wanted.align) }
 {
-    let Some(first) = tlsf.allocate(layouts.0) else {
-        return None;
-    };
-    let Some(second) = tlsf.allocate(layouts.1) else {
-        return None;
-    };
-    let Some(third) = tlsf.allocate(layouts.2) else {
-        return None;
-    };
+    let first = tlsf.allocate(layouts.0)?;
+    let second = tlsf.allocate(layouts.1)?;
+    let third = tlsf.allocate(layouts.2)?;
     let had = leave_bytes(tlsf.payload_mut(second));
     give_back(tlsf, (first, second, third), layouts, freed);
     let moved = tlsf.reallocate(second, wanted);
