@@ -1,10 +1,10 @@
 -- Where the ones of a number stand after an operation, at any number.
-use Rattle.std.proofs.Common.{◌≡◌, ℕ, ◌+◌, ◌-◌, ◌/◌, ◌%◌, ◌^◌, ◌<◌, ◌≤◌, true, false, ◌&&◌, ◌||◌, ◌==◌, nat_le, nat_lt, min, bit_and, bit_or, refl, sym, ap, ◌∙◌, arith, inl, inr}
-use Rattle.std.proofs.lemmas.Bool.{cases_Bool, cases_eq, cases_lt, eq-eqb, lt-ltb, ne_eqb}
+use Rattle.std.proofs.Common.{◌≡◌, ℕ, ◌+◌, ◌-◌, ◌/◌, ◌%◌, ◌^◌, ◌<◌, ◌≤◌, true, false, ◌&&◌, ◌||◌, ◌==◌, nat_le, nat_lt, min, bit_and, bit_or, refl, sym, ap, subst, ◌∙◌, arith, inl, inr}
+use Rattle.std.proofs.lemmas.Bool.{cases_eq, cases_lt, eq-eqb, lt-ltb, ne_eqb}
 use Rattle.std.proofs.lemmas.Bool.Decides.{nat_tests}
 use Rattle.std.proofs.lemmas.Nat.{shr-shr}
 use Rattle.std.proofs.lemmas.Nat.Bits.{bit_at-lt, bit_at-pow_other, bit_at-pow_same, bit_at_above, bit_at_and, bit_at_ones, bit_at_ones_above, bit_at_or, same_from_bits}
-use Rattle.rlsf_int.specs.Bits.{bit, bit-zero}
+use Rattle.rlsf_int.specs.Bits.{bit, IsFirstOne}
 
 pub bit-or : (a b i : ℕ) → bit (bit_or a b) i ≡ (bit a i || bit b i)
 unfolding bit
@@ -44,21 +44,19 @@ pub same_from_ones : (a b : ℕ) → ((i : ℕ) → bit a i ≡ bit b i) → a �
 unfolding bit
 same_from_ones a b ones = same_from_bits a b (λ i. let same = ones i in grind (arith, nat_tests, bit_at-lt a i, bit_at-lt b i))
 
--- a number that is a range of one position
-pub one_position : (r n i width : ℕ) → i < width → ((j : ℕ) → bit r j ≡ (bit n (i + j) && (nat_lt (i + j) (i + 1) && nat_lt j 32))) → (r == 1) ≡ (bit n i && nat_lt i width)
-one_position r n i width within cut = elim (cases_Bool (bit n i)) [
-  | inl one ↦
-      let is : r ≡ 1 = same_from_ones r 1 (λ j. cut j ∙ elim (cases_eq j 0) [
-        | inl first ↦ let here : bit n (i + j) ≡ true = ap (λ m. bit n m) (omega arith) ∙ one in grind (arith, nat_tests, bit-pow 0 j)
-        | inr later ↦ grind (arith, nat_tests, bit-pow 0 j)
-      ]) in
-      eq-eqb r 1 is ∙ grind (arith, nat_tests)
-  | inr none ↦
-      let is : r ≡ 0 = same_from_ones r 0 (λ j. cut j ∙ elim (cases_eq j 0) [
-        | inl first ↦ let here : bit n (i + j) ≡ false = ap (λ m. bit n m) (omega arith) ∙ none in grind (arith, nat_tests, bit-zero j)
-        | inr later ↦ grind (arith, nat_tests, bit-zero j)
-      ]) in
-      ap (λ m. m == 1) is ∙ grind (arith, nat_tests)
+-- the first one from a position on stands there exactly if there is a one at the position
+pub first_one_is_here : (width n i answer : ℕ) → i < width → IsFirstOne width n i answer → (answer == i) ≡ (bit n i && nat_lt i width)
+first_one_is_here width n i answer within first = elim (cases_eq answer i) [
+  | inl here ↦
+      let one : bit n i ≡ true = subst (λ k. bit n k ≡ true) here (first.found (omega (arith, here))).1 in
+      eq-eqb answer i here ∙ grind (arith, nat_tests)
+  | inr apart ↦
+      let behind : i < answer = elim (cases_lt answer width) [
+        | inl below ↦ omega (arith, (first.found below).0, apart)
+        | inr past ↦ omega arith
+      ] in
+      let none : bit n i ≡ false = first.none_before i (omega arith) behind in
+      ne_eqb answer i apart ∙ grind (arith, nat_tests)
 ]
 
 -- the positions of a range whose ends are cut to a width

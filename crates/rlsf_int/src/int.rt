@@ -47,7 +47,7 @@ pub trait Bitmap: BitPattern + Copy + Sealed {
         ensures { IsFirstOne Self.width (Self.pattern self.now) start result };
 }
 
-/// Integral types with efficient binary operations.
+/// The integer types that serve as bitmaps: operations on the positions of a value's ones, under the original's names.
 ///
 /// A position is that of a binary digit, from 0 for the lowest on. A range of positions has its
 /// start and not its end.
@@ -134,7 +134,7 @@ pub trait BinInteger: Bitmap
     fn get_bit(&self, i: u32) -> bool
         ensures { result ≡ (bit (Self.pattern self.now) i && nat_lt i BITS) }
     {
-        i < Self::BITS && self.extract_u32(i..i + 1) == 1
+        i < Self::BITS && self.bit_scan_forward(i) == i
     }
 
     /// Puts a one at the position. From `BITS` on nothing changes.
