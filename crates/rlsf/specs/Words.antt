@@ -12,6 +12,7 @@ pub use Rattle.rlsf_machine.specs.Reallocate.{Keeps, Reallocates}
 pub use Rattle.rlsf_machine.specs.Release.{Deallocates}
 pub use Rattle.rlsf_machine.specs.Remove.{IsIdle, Removes}
 pub use Rattle.rlsf_machine.specs.Run.{Fills}
+pub use Rattle.rlsf_machine.specs.Sized.{IsSizedFor, live_count}
 pub use Rattle.rlsf_machine.specs.State.{State, Used, empty, Holds}
 pub use Rattle.rlsf_blocks.specs.Blocks.{walked}
 pub use Rattle.rlsf_blocks.specs.Spare.{IsSpareWord, KeepsSpare}

@@ -1,6 +1,5 @@
 -- What the allocator computes of sizes and layouts: indices of classes, pool sizes and requests.
 use Rattle.std.specs.Prelude.{◌≡◌, ℕ, ◌+◌, ◌-◌, ◌*◌, ◌%◌, ◌^◌, ◌<◌, Option, Some, None, nat_le, nat_lt, if◌then◌else◌}
-use Rattle.std.specs.Int.{div_ceil}
 use Rattle.std.specs.Option.{option_and_then, option_map}
 use Rattle.rlsf_base.specs.Rounding.{round32}
 use Rattle.rlsf_base.specs.SizeClass.{SizeClass, class_of, reaching_class, least_size}
@@ -47,14 +46,15 @@ pool_size_to_contain_allocation fllen sllen size align = option_map (λ n. n + 3
 abbrev pub chunk_length : ℕ → ℕ → Option ℕ
 chunk_length fllen len = if nat_lt len (2 ^ 64) then (if nat_le len (2 ^ (5 + fllen)) then Some len else None) else None
 
--- the length of a chunk that has, beside `count` blocks in use, one more that are free, each longer by one SLLENth: its
--- sentinel takes 32 bytes
+-- the length of a chunk that has, beside `count` used blocks of a size, as many free ranges that are one block shorter than the
+-- least that is taken for that size, one range that is taken, and a sentinel of 32 bytes
 abbrev pub payloads_length : ℕ → ℕ → ℕ → ℕ
-payloads_length sllen count size = count * size + (count + 1) * size + round32 (div_ceil ((count + 1) * size) sllen) + 32
+payloads_length count size least = count * size + count * (least - 32) + (least + 32)
 
--- the length of a chunk that never refuses a payload up to a layout while `count` or fewer live, reallocations among them
+-- the length of a chunk that never refuses a payload up to a layout while `count` or fewer are live, reallocations among them
 abbrev pub pool_size_for_payloads : ℕ → ℕ → ℕ → ℕ → ℕ → Option ℕ
-pool_size_for_payloads fllen sllen count size align = chunk_length fllen (payloads_length sllen count (request_size size align))
+pool_size_for_payloads fllen sllen count size align =
+    option_and_then (λ least. chunk_length fllen (payloads_length count (request_size size align) least)) (map_ceil_and_unmap fllen sllen (request_size size align))
 
 -- the block of an object: the least one from a class's start on that has room for so many bytes behind 16
 abbrev pub object_length : ℕ → ℕ → ℕ → Option ℕ

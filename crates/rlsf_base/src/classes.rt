@@ -116,10 +116,10 @@ pub fn pool_size_for_payloads<
     ensures { result ≡ sizes.pool_size_for_payloads FLLEN SLLEN count layout.size layout.align }
 {
     let size = request_size(layout);
+    let least = map_ceil_and_unmap::<FLBitmap, SLBitmap, FLLEN, SLLEN>(size)?;
     let used = count.checked_mul(size)?;
-    let free = used.checked_add(size)?;
-    let slack = free.div_ceil(SLLEN).next_multiple_of(32);
-    let len = used.checked_add(free)?.checked_add(slack)?.checked_add(32)?;
+    let free = count.checked_mul(least - 32)?;
+    let len = used.checked_add(free)?.checked_add(least + 32)?;
     within_longest::<FLBitmap, SLBitmap, FLLEN, SLLEN>(len)
 }
 

@@ -11,13 +11,13 @@ use Rattle.std.specs.List.{AllByRecursion}
 use Rattle.rlsf_base.specs.Layout.{IsLayout}
 use Rattle.std.specs.Map.{remove_entry, set_value}
 use Rattle.rlsf_base.specs.SizeClass.{IsValid, Reaches, class_of}
-use Rattle.rlsf_base.specs.Sizes.{pool_size_to_contain_allocation, request_size}
+use Rattle.rlsf_base.specs.Sizes.{IsSize, pool_size_to_contain_allocation, request_size}
 use Rattle.rlsf_base.proofs.Numbers.Roundings.{round32-le, round32-multiple}
 use Rattle.rlsf_base.proofs.SizeMaps.Laws.{pool_contains_its_allocation}
-use Rattle.rlsf_machine.specs.Budget.{total_len}
 use Rattle.rlsf_base.specs.declared.memory.range.Range.{Range}
 use Rattle.rlsf_machine.specs.Insert.{aligned_part}
 use Rattle.rlsf_machine.specs.Uniform.{IsUniform}
+use Rattle.rlsf_machine.proofs.PoolLengths.{HasBudget-reached}
 use Rattle.rlsf_collections.specs.Budgets.{HasBudgetOf, HasBytesFor}
 use Rattle.rlsf_collections.specs.Capacities.{IsObjectPool, IsSpread, IsTiled}
 use Rattle.rlsf_collections.specs.Handled.{Handled}
@@ -129,6 +129,26 @@ pool_has_room h size align capacity Refused pool few empty enough tiled refused 
 
 -- ---- a new pool
 
+-- the block of a pool that is made for an allocation is taken for it
+pool_taken : (size align least : ℕ) → pool_size_to_contain_allocation 59 8 size align ≡ Some least → IsSize (least - 32) × Reaches 8 (class_of 8 (least - 32)) (request_size size align)
+pool_taken size align least told =
+    let is = pool_contains_its_allocation 64 64 59 8 size align least (record { some_rows = lit< tt; rows_fit = omega arith; power_of_two = refl; classes_fit = omega arith }) told in
+    ((omega (arith, is.0), omega (arith, is.0, is.1.1)), is.3)
+
+-- one more of so many lengths fits
+rooms : (n len least block : ℕ) → 64 ≤ least → least ≤ len → n + 1 ≤ (len - least) / (block + (least - 64)) → (n + 1) * block + (n + 1) * (least - 32 - 32) + (least - 32 + 32) ≤ len
+rooms n len least block some long few =
+    let d = block + (least - 64) in
+    let whole : (len - least) / d * d ≤ len - least = omega (arith, div-add-mod' (len - least) d) in
+    let times : (n + 1) * d ≤ (len - least) / d * d = mul-le-mul_right d few in
+    let parts : (n + 1) * d ≡ (n + 1) * block + (n + 1) * (least - 64) = product (n + 1) block (least - 64) in
+    let same : least - 32 - 32 ≡ least - 64 = omega arith in
+    let product' : (n + 1) * (least - 32 - 32) ≡ (n + 1) * (least - 64) = ap (λ k. (n + 1) * k) same in
+    omega (arith, whole, times, parts, product')
+  where
+    product : (a b c : ℕ) → a * (b + c) ≡ a * b + a * c
+    product a b c = omega arith
+
 module _ (h : Handled) (size align : ℕ) (layout : IsLayout size align) (aligned : h.align ≡ align) (none : h.lists ≡ []) (fresh : (len : ℕ) → 64 ≤ (aligned_part h.memory).len → IsUniform len (aligned_part h.memory) h.state) where
   abbrev len : ℕ
   len = (aligned_part h.memory).len
@@ -158,15 +178,13 @@ module _ (h : Handled) (size align : ℕ) (layout : IsLayout size align) (aligne
     contained : (64 ≤ least) × Reaches 8 (class_of 8 (least - 32)) block
     contained = let is = pool_contains_its_allocation 64 64 59 8 size align least valid told in (is.0, is.3)
 
-    spread : IsObjectPool h size align (max 1 ((blocks + 1) * 8 / 17))
-    spread = made (max 1 ((blocks + 1) * 8 / 17)) (λ _. omega arith) (inl (record {
+    spread : IsObjectPool h size align ((len - least) / (block + (least - 64)) + 1)
+    spread = made ((len - least) / (block + (least - 64)) + 1) (λ _. omega arith) (inl (record {
       layout = layout;
       one = λ _. (least, told, long);
       more = λ n less.
-          let few : (n + 2) * 17 ≤ (blocks + 1) * 8 = omega (arith, less) in
-          let times : (n + 2) * 17 * block ≤ (blocks + 1) * 8 * block = mul-le-mul_right block few in
-          let all : total_len (aligned_part h.memory ∷ []) ≡ len = omega (arith, sum_by-cons (λ (r : Range). r.len) (aligned_part h.memory) []) in
-          omega (arith, all, times, blocks-fit, some, long, contained.0);
+          let taken = pool_taken size align least told in
+          HasBudget-reached (n + 1) block 8 (least - 32) (aligned_part h.memory) taken.0 taken.1 (rooms n len least block contained.0 long (omega (arith, less)));
     }))
 
     tiled : align ≤ 32 → least ≡ block + 32 → IsObjectPool h size align blocks
@@ -177,11 +195,11 @@ module _ (h : Handled) (size align : ℕ) (layout : IsLayout size align) (aligne
       uniform = λ _. fresh block (omega (arith, is, long, some));
     }))
 
-    of_test : (b : Bool) → (nat_le align 32 && nat_eq least (block + 32)) ≡ b → IsObjectPool h size align (cond b blocks (max 1 ((blocks + 1) * 8 / 17)))
+    of_test : (b : Bool) → (nat_le align 32 && nat_eq least (block + 32)) ≡ b → IsObjectPool h size align (cond b blocks ((len - least) / (block + (least - 64)) + 1))
     of_test true e = tiled (grind (arith, nat_tests)) (grind (arith, nat_tests))
     of_test false e = spread
 
-    of_length : (b : Bool) → nat_lt len least ≡ b → IsObjectPool h size align (cond b 0 (cond (nat_le align 32 && nat_eq least (block + 32)) blocks (max 1 ((blocks + 1) * 8 / 17))))
+    of_length : (b : Bool) → nat_lt len least ≡ b → IsObjectPool h size align (cond b 0 (cond (nat_le align 32 && nat_eq least (block + 32)) blocks ((len - least) / (block + (least - 64)) + 1)))
     of_length true e = absurd (grind (arith, nat_tests))
     of_length false e = of_test (nat_le align 32 && nat_eq least (block + 32)) refl
 
@@ -189,7 +207,7 @@ module _ (h : Handled) (size align : ℕ) (layout : IsLayout size align) (aligne
   of_pool None e = made_of_none (λ (least, told, long). none-some least (sym e ∙ told))
   of_pool (Some least) e = elim (cases_lt len least) [
     | inl short ↦
-        subst (λ b. IsObjectPool h size align (cond b 0 (cond (nat_le align 32 && nat_eq least (block + 32)) ((len - 32) / block) (max 1 (((len - 32) / block + 1) * 8 / 17))))) (sym (lt-ltb len least short))
+        subst (λ b. IsObjectPool h size align (cond b 0 (cond (nat_le align 32 && nat_eq least (block + 32)) ((len - 32) / block) ((len - least) / (block + (least - 64)) + 1)))) (sym (lt-ltb len least short))
         (made_of_none (λ (other, told, long). let same : least ≡ other = same_Some least other (sym e ∙ told) in omega (arith, short, long, same)))
     | inr long ↦ of_length least e long (nat_lt len least) refl
   ]

@@ -1,20 +1,19 @@
 -- Stores whose pool is sure to have room for one more list of bytes.
 use Rattle.std.proofs.Common.{◌≡◌, ℕ, ◌+◌, ◌-◌, ◌*◌, ◌<◌, ◌≤◌, cond, List, [], ◌∷◌, length, map, Option, Some, None, arith, refl, sym, ◌∙◌, ap, subst, inl, inr}
 use Rattle.std.proofs.lemmas.Bool.{le-leb}
-use Rattle.std.proofs.lemmas.Grind.{div_ceil_times}
 use Rattle.std.proofs.lemmas.List.{length-map}
 use Rattle.std.proofs.lemmas.List.Sums.{sum_by-cons}
 use Rattle.std.proofs.Math.Nat.{mul-le-mul_right}
-use Rattle.std.specs.Int.{div_ceil}
 use Rattle.std.specs.List.{AllByRecursion}
 use Rattle.rlsf_base.specs.Layout.{IsLayout}
 use Rattle.rlsf_base.specs.Range.{range_at}
-use Rattle.rlsf_base.specs.Rounding.{round32}
-use Rattle.rlsf_base.specs.Sizes.{payloads_length, request_size}
+use Rattle.rlsf_base.specs.Sizes.{request_size}
 use Rattle.rlsf_base.specs.Space.{range_of}
 use Rattle.rlsf_base.specs.declared.memory.range.Range.{Range}
 use Rattle.rlsf_base.proofs.Numbers.Roundings.{round32-le, round32-mono, round32-multiple}
-use Rattle.rlsf_base.proofs.SizeMaps.ChunkLengths.{chunk_length-is}
+use Rattle.rlsf_base.proofs.SizeClasses.Reach.{Reaches-class_of}
+use Rattle.rlsf_base.proofs.SizeMaps.ChunkLengths.{IsPayloadPool-some}
+use Rattle.rlsf_base.proofs.SizeMaps.Laws.{IsSize-request_size}
 use Rattle.rlsf_machine.specs.Allocate.{Allocates}
 use Rattle.rlsf_machine.specs.Budget.{AreAtMost, total_len}
 use Rattle.rlsf_machine.specs.Callers.{align_at}
@@ -26,7 +25,9 @@ use Rattle.rlsf_machine.specs.WellFormed.{IsUsed, IsWellFormed, coverage}
 use Rattle.rlsf_machine.proofs.Budgets.{AreFronts-one, not_denied}
 use Rattle.rlsf_machine.proofs.CallerWords.{align_at-held, bytes_at-held}
 use Rattle.rlsf_machine.proofs.Coverage.{coverage-IsIn, covers-inside}
+use Rattle.rlsf_machine.proofs.Insertions.{IsWhole-aligned_part}
 use Rattle.rlsf_machine.proofs.Payloads.{IsUsed-after_start, payload_of-le}
+use Rattle.rlsf_machine.proofs.PoolLengths.{HasBudget-pool}
 use Rattle.rlsf_machine.proofs.Tiling.{tiling_of, used-le}
 use Rattle.rlsf_tlsf.specs.Allocator.{Allocator, Steps}
 use Rattle.rlsf_tlsf.proofs.Arrivals.{opened, well_formed}
@@ -99,23 +100,19 @@ small_stored size align (j ∷ js) (first, rest) k (inr i) = small_stored size a
 
 -- a pool with the bytes for a block is one chunk
 module _ (memory : Range) (live size align : ℕ) (bytes : HasBytesFor memory live size align) where
-  pub long_part : 64 ≤ (aligned_part memory).len
-  long_part =
-      let part = aligned_part memory in
-      let most = request_size size align in
-      let some : 32 ≤ most = omega (arith, round32-multiple (size + (align - 16) + 16), round32-le (size + (align - 16) + 16)) in
-      let all : total_len (part ∷ []) ≡ part.len = omega (arith, sum_by-cons (λ (r : Range). r.len) part []) in
-      let once : 1 * (most * 9) ≤ (live + 1) * (most * 9) = mul-le-mul_right (most * 9) (omega arith) in
-      omega (arith, all, once, bytes)
-
   -- and has room for what is sought
   pub request_size-part : request_size size align < (aligned_part memory).len
   request_size-part =
       let part = aligned_part memory in
-      let most = request_size size align in
       let all : total_len (part ∷ []) ≡ part.len = omega (arith, sum_by-cons (λ (r : Range). r.len) part []) in
-      let once : 1 * (most * 9) ≤ (live + 1) * (most * 9) = mul-le-mul_right (most * 9) (omega arith) in
-      omega (arith, all, once, bytes)
+      let least = bytes.least in
+      let taken = bytes.taken in
+      let longer : request_size size align ≤ least = Reaches-class_of 8 least (taken.is.0) (request_size size align) (omega arith) taken.reaches in
+      let once : 1 * (least - 32) ≤ (live + 1) * (least - 32) = mul-le-mul_right (least - 32) (omega arith) in
+      omega (arith, all, once, bytes.enough, longer, taken.is.0, taken.is.1)
+
+  pub long_part : 64 ≤ (aligned_part memory).len
+  long_part = omega (arith, request_size-part, (IsWhole-aligned_part memory).len, round32-multiple (size + (align - 16) + 16), round32-le (size + (align - 16) + 16))
 
 -- the chunk of a store whose pool is that long
 pub one_chunk : {v : StoreContents} {all : List Stored} → IsStore v all → 64 ≤ (aligned_part (range_of v.heap.memory)).len → v.heap.state.chunks ≡ aligned_part (range_of v.heap.memory) ∷ []
@@ -133,7 +130,7 @@ module _ {v : StoreContents} {places : List Place} {live size align : ℕ} (budg
       let few : length v.heap.state.used ≤ live = omega (arith, length-used_le store, budget.few, count) in
       let small = AreAtMost-stored store (request_size size align) (small_stored size align all (subst (AllByRecursion (λ (p : Place). (p.len ≤ size) × (p.align ≡ align))) (sym at) budget.small)) in
       let fronts = AreFronts-one part v.heap.state.chunks (subst (IsIn part) (sym (one_chunk store long)) (inl refl)) (omega arith) in
-      not_denied live (request_size size align) (well_formed v.heap store.stands) (part ∷ []) fronts (omega arith) small budget.bytes few n a fits t step
+      not_denied live (request_size size align) (well_formed v.heap store.stands) (part ∷ []) fronts small budget.bytes few n a fits t step
 
   -- an allocation has room
   pub budget_has_room : (w : Allocator) (n : ℕ) → n ≤ size → Steps 59 8 v.heap w (Allocates 8 v.heap.state n align None) → ⊥
@@ -162,13 +159,7 @@ module _ {v : StoreContents} {places : List Place} {live size align : ℕ} (budg
 -- a pool that fits payloads has the bytes for them
 pub bytes_for-fits : (memory : Range) (count size align : ℕ) → FitsPayloads memory count size align → HasBytesFor memory count size align
 bytes_for-fits memory count size align (layout, (e, told, long)) =
-    let sought = request_size size align in
-    let part = aligned_part memory in
-    let n = (count + 1) * sought in
-    let slack = round32 (div_ceil n 8) in
-    let is : payloads_length 8 count sought ≡ e = chunk_length-is 59 (payloads_length 8 count sought) e told in
-    let all : total_len (part ∷ []) ≡ part.len = omega (arith, sum_by-cons (λ (r : Range). r.len) part []) in
-    omega (arith, all, is, long, round32-le (div_ceil n 8), (div_ceil_times n 8 (omega arith)).0)
+    HasBudget-pool count (request_size size align) 8 e (aligned_part memory) (IsPayloadPool-some 59 8 count (request_size size align) e refl (IsSize-request_size size align) told) long
 
 -- ---- budgets of lists of bytes
 

@@ -32,11 +32,11 @@ set_answer None end = Err UnknownHandle
 set_answer (Some old) end = if nat_le end (length old) then Ok tt else Err OutOfRange
 
 -- how many objects a pool of `len` bytes is sure to hold, one of which wants a pool of `least` bytes and a block of `block`: where
--- such blocks fill a pool from its start, as many as fit; else as many as fit with a free piece, longer by an eighth, for each
+-- such blocks fill a pool from its start, as many as fit; else as many as fit with a free piece for each that is one block too short, but for the one that is sure to be taken
 abbrev pub capacity_from : ℕ → ℕ → ℕ → ℕ → ℕ
 capacity_from len align block least =
     if nat_lt len least then 0
-    else (if nat_le align 32 && nat_eq least (block + 32) then (len - 32) / block else max 1 (((len - 32) / block + 1) * 8 / 17))
+    else (if nat_le align 32 && nat_eq least (block + 32) then (len - 32) / block else (len - least) / (block + (least - 64)) + 1)
 
 abbrev pub capacity_with : ℕ → ℕ → ℕ → Option ℕ → ℕ
 capacity_with len align block None = 0

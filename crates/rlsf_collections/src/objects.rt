@@ -180,7 +180,7 @@ fn capacity_of(len: usize, layout: Layout) -> usize
     if layout.align <= 32 && least == block + 32 {
         (len - 32) / block
     } else {
-        (((len - 32) / block + 1) * 8 / 17).max(1)
+        (len - least) / (least - 64).saturating_add(block) + 1
     }
 }
 

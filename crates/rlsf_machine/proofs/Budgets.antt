@@ -3,7 +3,6 @@ use Rattle.std.proofs.Common.{◌≡◌, ℕ, ◌+◌, ◌-◌, ◌*◌, ◌<◌
 use Rattle.std.proofs.lemmas.List.{length-map}
 use Rattle.std.proofs.lemmas.List.Sums.{sum_by-cons}
 use Rattle.std.proofs.lemmas.List.Filters.{length-filter_both}
-use Rattle.std.proofs.lemmas.Nat.{mul-le}
 use Rattle.std.proofs.Math.Nat.{mul-le-mul_right}
 use Rattle.rlsf_base.specs.declared.memory.range.Range.{Range}
 use Rattle.rlsf_base.specs.Range.{range_at}
@@ -22,7 +21,7 @@ use Rattle.rlsf_machine.specs.State.{empty, State, Used, Holds, others, filled_i
 use Rattle.rlsf_machine.specs.WellFormed.{IsWellFormed}
 use Rattle.rlsf_machine.proofs.Allocations.{Allocates-keeps}
 use Rattle.rlsf_machine.proofs.Changes.{IsIn-others}
-use Rattle.rlsf_machine.proofs.Choices.{choice-some}
+use Rattle.rlsf_machine.proofs.Choices.{choice-none, choice-some}
 use Rattle.rlsf_machine.proofs.Chunks.{chunks_stay, used-inserted, used-appended}
 use Rattle.rlsf_machine.proofs.Coverage.{covers-le}
 use Rattle.rlsf_machine.proofs.Fillings.{shape-filled_from}
@@ -31,8 +30,7 @@ use Rattle.rlsf_machine.proofs.Parts.{begins_in, part, IsIn-filter, length-filte
 use Rattle.rlsf_machine.proofs.Payloads.{payload_of-le, block_length-request}
 use Rattle.rlsf_machine.proofs.Plans.{IsSoundPlan, IsSound-plan}
 use Rattle.rlsf_machine.proofs.Steps.{empty_is_well_formed, steps_keep_well_formed}
-use Rattle.rlsf_machine.proofs.Room.{room_is_found}
-use Rattle.rlsf_machine.proofs.Sums.{bytes_add_up, long_free, request-positive}
+use Rattle.rlsf_machine.proofs.Sums.{bytes_add_up, taken_free}
 
 -- ---- one call
 
@@ -40,33 +38,24 @@ used_bytes-le : (most : ℕ) (us : List Used) → AreAtMost most us → used_byt
 used_bytes-le most [] small = omega arith
 used_bytes-le most (u ∷ us) small = omega (arith, sum_by-cons (λ v. v.block.len) u us, small u (inl refl), used_bytes-le most us (λ v i. small v (inr i)))
 
-left_over : (free used bound chunks total k x : ℕ) → free + used + 32 * chunks ≡ total → used ≤ bound → x + (bound + 32 * chunks) * k ≤ total * k → x ≤ free * k
-left_over free used bound chunks total k x sum few budget =
-    let all : (free + used + 32 * chunks) * k ≡ total * k = ap (λ n. n * k) sum in
-    let less : used * k ≤ bound * k = mul-le-mul_right k few in
-    omega arith
-
 -- within the budget an allocation is not refused
-pub not_denied : (live most : ℕ) {fllen sllen : ℕ} {memory : Range} {s : State} → IsWellFormed fllen sllen memory s → (fronts : List Range) → AreFronts s.chunks fronts → 0 < length fronts → AreAtMost most s.used
+pub not_denied : (live most : ℕ) {fllen sllen : ℕ} {memory : Range} {s : State} → IsWellFormed fllen sllen memory s → (fronts : List Range) → AreFronts s.chunks fronts → AreAtMost most s.used
     → HasBudget live most sllen fronts → length s.used ≤ live → (size align : ℕ) → request_size size align ≤ most → (t : State) → Allocates sllen s size align None t → ⊥
-not_denied live most {fllen} {sllen} {memory} {s} w fronts are some small budget few size align fits t step =
+not_denied live most {fllen} {sllen} {memory} {s} w fronts are small budget few size align fits t step =
     let have = have_chunks s.chunks w.disjoint fronts are.each are.disjoint in
     let cs = have.whole in
     let n = length cs in
     let p = part cs s in
     let wp = part_is_well_formed w cs have.are have.disjoint in
+    let least = budget.least in
     let fewer : length p.used ≤ live = omega (arith, length-filter_le (λ u. begins_in cs u.block) s.used) in
     let blocks : length p.used * most ≤ live * most = mul-le-mul_right most fewer in
-    let long : total_len fronts * sllen ≤ total_len cs * sllen = mul-le-mul_right sllen have.longer in
-    let same : (live + n) * (most * (sllen + 1)) + (live * most + 32 * n) * sllen ≤ total_len fronts * sllen =
-    subst (λ k. (live + k) * (most * (sllen + 1)) + (live * most + 32 * k) * sllen ≤ total_len fronts * sllen) (sym have.count) budget in
-    let room = left_over (total_len p.free) (used_bytes p.used) (live * most) n (total_len cs) sllen ((live + n) * (most * (sllen + 1)))
-    (bytes_add_up fllen sllen memory p wp) (omega (arith, used_bytes-le most p.used (λ u i. small u (IsIn-filter (λ v. begins_in cs v.block) u s.used i)))) (omega arith) in
-    let each : request_size size align * (sllen + 1) ≤ most * (sllen + 1) = mul-le-mul_right (sllen + 1) fits in
-    let less : (length p.used + n) * (request_size size align * (sllen + 1)) ≤ (live + n) * (most * (sllen + 1)) =
-    mul-le (length p.used + n) (request_size size align * (sllen + 1)) (live + n) (most * (sllen + 1)) (omega arith) each in
-    let (f, i, enough) = long_free p wp (omega (arith, have.count)) (request_size size align * (sllen + 1)) (request-positive size align sllen) (omega (arith, less, room)) in
-    room_is_found fllen sllen memory s t size align None f w (IsIn-filter (begins_in cs) f s.free i) enough step refl
+    let gaps : (length p.used + n) * (least - 32) ≤ (live + n) * (least - 32) = mul-le-mul_right (least - 32) (omega arith) in
+    let same : 32 * n + live * most + (live + n) * (least - 32) < total_len fronts =
+    subst (λ k. 32 * k + live * most + (live + k) * (least - 32) < total_len fronts) (sym have.count) budget.enough in
+    let used = used_bytes-le most p.used (λ u i. small u (IsIn-filter (λ v. begins_in cs v.block) u s.used i)) in
+    let (f, i, reached) = taken_free p wp most least (request_size size align) budget.taken fits (omega (arith, bytes_add_up fllen sllen memory p wp, used, have.longer)) in
+    choice-none sllen (request_size size align) s.free step.0 f (IsIn-filter (begins_in cs) f s.free i) reached
 
 -- ---- steps
 
@@ -139,32 +128,32 @@ module _ (most : ℕ) {fllen sllen : ℕ} {memory : Range} {s : State} (w : IsWe
   step_modest live t (trim n) may modest step = absurd modest
 
   -- and the call is not refused
-  step_not_denied : (live : ℕ) (fronts : List Range) (t : State) (e : Event) → AreFronts s.chunks fronts → 0 < length fronts → HasBudget live most sllen fronts → IsModest live most s e → Leads fllen sllen s e t → IsDenied e → ⊥
-  step_not_denied live fronts t (insert r reply) are some budget modest step denied = absurd denied
-  step_not_denied live fronts t (append r reply) are some budget modest step denied = absurd denied
-  step_not_denied live fronts t (allocate size align reply) are some budget modest step denied =
-      not_denied live most w fronts are some small budget modest.0 size align modest.1 t (subst (λ r. Allocates sllen s size align r t) denied step)
-  step_not_denied live fronts t (deallocate addr) are some budget modest step denied = absurd denied
-  step_not_denied live fronts t (reallocate addr size reply) are some budget modest step denied =
+  step_not_denied : (live : ℕ) (fronts : List Range) (t : State) (e : Event) → AreFronts s.chunks fronts → HasBudget live most sllen fronts → IsModest live most s e → Leads fllen sllen s e t → IsDenied e → ⊥
+  step_not_denied live fronts t (insert r reply) are budget modest step denied = absurd denied
+  step_not_denied live fronts t (append r reply) are budget modest step denied = absurd denied
+  step_not_denied live fronts t (allocate size align reply) are budget modest step denied =
+      not_denied live most w fronts are small budget modest.0 size align modest.1 t (subst (λ r. Allocates sllen s size align r t) denied step)
+  step_not_denied live fronts t (deallocate addr) are budget modest step denied = absurd denied
+  step_not_denied live fronts t (reallocate addr size reply) are budget modest step denied =
       let u = step.block in
       none_left (plan s u size) (subst (λ r. ReallocatesBy sllen s u size (plan s u size) r t) denied step.step)
     where
       none_left : (o : Option Plan) → ReallocatesBy sllen s step.block size o None t → ⊥
       none_left (Some p) impossible = impossible
-      none_left None allocated = not_denied live most w fronts are some small budget modest.0 size step.block.align (modest.1 step.block step.holds) t allocated
-  step_not_denied live fronts t (fill addr bytes) are some budget modest step denied = absurd denied
-  step_not_denied live fronts t (remove r) are some budget modest step denied = absurd denied
-  step_not_denied live fronts t (trim n) are some budget modest step denied = absurd denied
+      none_left None allocated = not_denied live most w fronts are small budget modest.0 size step.block.align (modest.1 step.block step.holds) t allocated
+  step_not_denied live fronts t (fill addr bytes) are budget modest step denied = absurd denied
+  step_not_denied live fronts t (remove r) are budget modest step denied = absurd denied
+  step_not_denied live fronts t (trim n) are budget modest step denied = absurd denied
 
 -- ---- runs
 
 pub modest_runs_are_not_denied : ModestRunsAreNotDenied
-modest_runs_are_not_denied live most fllen sllen memory s t fronts [] w are some small budget run e i denied = absurd i
-modest_runs_are_not_denied live most fllen sllen memory s t fronts (d ∷ es) w are some small budget (u, may, modest, step, rest) e i denied = elim i [
-  | inl same ↦ step_not_denied most w small live fronts u d are some budget modest step (subst IsDenied same denied)
+modest_runs_are_not_denied live most fllen sllen memory s t fronts [] w are small budget run e i denied = absurd i
+modest_runs_are_not_denied live most fllen sllen memory s t fronts (d ∷ es) w are small budget (u, may, modest, step, rest) e i denied = elim i [
+  | inl same ↦ step_not_denied most w small live fronts u d are budget modest step (subst IsDenied same denied)
   | inr j ↦
       modest_runs_are_not_denied live most fllen sllen memory u t fronts es (steps_keep_well_formed fllen sllen memory s u d w may step)
-      (AreFronts-kept fllen sllen s fronts are u d (IsModest-stays live most s d modest) step) some (step_modest most w small live u d may modest step) budget rest e j denied
+      (AreFronts-kept fllen sllen s fronts are u d (IsModest-stays live most s d modest) step) (step_modest most w small live u d may modest step) budget rest e j denied
 ]
 
 -- ---- how many payloads are live
@@ -260,7 +249,7 @@ module _ (most : ℕ) where
 
 -- ---- runs, by their calls alone
 
-request_size-mono : (size align most_size most_align : ℕ) → size ≤ most_size → align ≤ most_align → request_size size align ≤ request_size most_size most_align
+pub request_size-mono : (size align most_size most_align : ℕ) → size ≤ most_size → align ≤ most_align → request_size size align ≤ request_size most_size most_align
 request_size-mono size align most_size most_align short fits = round32-mono (size + (align - 16) + 16) (most_size + (most_align - 16) + 16) (omega arith)
 
 pub modest_by : (live size align n : ℕ) (s : State) (e : Event) → length s.used ≡ n → AreAligned align s.used → AsksWithin live size align n e → IsModest live (request_size size align) s e
@@ -288,9 +277,9 @@ runs_modestly live size align n fllen sllen memory s t (e ∷ es) w count small 
 )
 
 pub bounded_runs_are_not_denied : BoundedRunsAreNotDenied
-bounded_runs_are_not_denied live size align fllen sllen memory s t fronts es w idle are some budget run within =
+bounded_runs_are_not_denied live size align fllen sllen memory s t fronts es w idle are budget run within =
     let most = request_size size align in
-    modest_runs_are_not_denied live most fllen sllen memory s t fronts es w are some (subst (AreAtMost most) (sym idle) (λ u i. absurd i)) budget
+    modest_runs_are_not_denied live most fllen sllen memory s t fronts es w are (subst (AreAtMost most) (sym idle) (λ u i. absurd i)) budget
     (runs_modestly live size align 0 fllen sllen memory s t es w (ap length idle) (aligned_none align s.used idle) run within)
 
 -- ---- fronts
@@ -311,12 +300,13 @@ AreFronts-chunks s w = record {
 
 -- ---- an example
 
--- a chunk of 512 bytes has room for four payloads of 48 bytes or fewer, whatever was allocated and freed before, and
+-- a chunk of 384 bytes has room for four payloads of 48 bytes or fewer, whatever was allocated and freed before, and
 -- whatever memory came
-four_payloads : (t : State) (es : List Event) → Runs 8 8 (range_at 4096 8192) (with_chunk (range_at 4096 512) empty) es t → AreWithin 3 48 16 0 es → (e : Event) → IsIn e es → IsDenied e → ⊥
+four_payloads : (t : State) (es : List Event) → Runs 8 8 (range_at 4096 8192) (with_chunk (range_at 4096 384) empty) es t → AreWithin 3 48 16 0 es → (e : Event) → IsIn e es → IsDenied e → ⊥
 four_payloads t es run within =
     let memory = range_at 4096 8192 in
-    let c = range_at 4096 512 in
-    let w = steps_keep_well_formed 8 8 memory empty (with_chunk c empty) (insert c (Some 512)) (empty_is_well_formed 8 8 memory (omega arith) (omega arith) (omega arith))
+    let c = range_at 4096 384 in
+    let w = steps_keep_well_formed 8 8 memory empty (with_chunk c empty) (insert c (Some 384)) (empty_is_well_formed 8 8 memory (omega arith) (omega arith) (omega arith))
     (record { lies_in = (omega arith, omega arith); apart = λ a low high. refl }) (record { answer = refl; after = refl }) in
-    bounded_runs_are_not_denied 3 48 16 8 8 memory (with_chunk c empty) t (c ∷ []) es w refl (AreFronts-one c (c ∷ []) (inl refl) (omega arith)) (omega arith) (omega arith) run within
+    bounded_runs_are_not_denied 3 48 16 8 8 memory (with_chunk c empty) t (c ∷ []) es w refl (AreFronts-one c (c ∷ []) (inl refl) (omega arith))
+    (record { least = 64; taken = record { is = (omega arith, omega arith); reaches = omega arith }; enough = omega arith }) run within

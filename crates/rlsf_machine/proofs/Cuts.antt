@@ -62,7 +62,7 @@ most_whole fllen rows =
     let least : 2 ^ 6 ≤ 2 ^ (5 + fllen) = (let more : 6 ≤ 5 + fllen = omega arith in pow_mono {i = 6} more) in
     (omega arith, omega arith)
 
-whole_product : (m n : ℕ) → m % 32 ≡ 0 → n * m % 32 ≡ 0
+pub whole_product : (m n : ℕ) → m % 32 ≡ 0 → n * m % 32 ≡ 0
 whole_product m n e = let times : m ≡ 32 * (m / 32) = omega arith in let product : n * m ≡ n * (32 * (m / 32)) = ap (λ k. n * k) times in omega arith
 
 module _ (part : Range) (part_whole : IsWhole part) where

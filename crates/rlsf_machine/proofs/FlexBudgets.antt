@@ -1,5 +1,5 @@
 -- Runs over a source whose calls keep to a budget, so that it is never asked.
-use Rattle.std.proofs.Common.{◌≡◌, ℕ, ◌<◌, ◌≤◌, List, [], ◌∷◌, ◌++◌, length, Option, Some, None, refl, sym, ◌∙◌, ap, subst, inl, inr}
+use Rattle.std.proofs.Common.{◌≡◌, ℕ, ◌≤◌, List, [], ◌∷◌, ◌++◌, length, Option, Some, None, refl, sym, ◌∙◌, ap, subst, inl, inr}
 use Rattle.rlsf_base.specs.declared.memory.range.Range.{Range}
 use Rattle.rlsf_base.specs.Sizes.{request_size}
 use Rattle.rlsf_machine.specs.Allocate.{Allocates}
@@ -20,9 +20,9 @@ use Rattle.rlsf_machine.proofs.Steps.{steps_keep_well_formed}
 -- ---- one call
 
 module _ (live most : ℕ) {fllen sllen : ℕ} {memory : Range} (t : Terms) (s : FlexState) (w : IsWellFormed fllen sllen memory s.machine) (fronts : List Range)
-    (are : AreFronts s.machine.chunks fronts) (some : 0 < length fronts) (small : AreAtMost most s.machine.used) (budget : HasBudget live most sllen fronts) where
+    (are : AreFronts s.machine.chunks fronts) (small : AreAtMost most s.machine.used) (budget : HasBudget live most sllen fronts) where
   never_full : length s.machine.used ≤ live → (size align : ℕ) → request_size size align ≤ most → Allocates sllen s.machine size align None s.machine → ⊥
-  never_full few size align fits full = not_denied live most w fronts are some small budget few size align fits s.machine full
+  never_full few size align fits full = not_denied live most w fronts are small budget few size align fits s.machine full
 
   allocates_in_room : (size align : ℕ) (reply : Option ℕ) (notes : List Note) (u : FlexState) → length s.machine.used ≤ live → request_size size align ≤ most
       → FlexAllocates fllen sllen t s size align reply notes u → AsksNothing fllen sllen s (allocate size align reply) notes u
@@ -60,26 +60,26 @@ may_modest live most memory s (remove r) modest may = may
 may_modest live most memory s (trim n) modest may = absurd modest
 
 never_asked_from : (live size align n fllen sllen : ℕ) (memory : Range) (t : Terms) (s u : FlexState) (fronts : List Range) (cs : List FlexEvent) → IsWellFormed fllen sllen memory s.machine
-    → length s.machine.used ≡ n → AreAligned align s.machine.used → AreAtMost (request_size size align) s.machine.used → AreFronts s.machine.chunks fronts → 0 < length fronts
+    → length s.machine.used ≡ n → AreAligned align s.machine.used → AreAtMost (request_size size align) s.machine.used → AreFronts s.machine.chunks fronts
     → HasBudget live (request_size size align) sllen fronts → IsFlexRun fllen sllen memory t s cs u → AreWithin live size align n (events_in cs)
     → (notes_in cs ≡ []) × Runs fllen sllen memory s.machine (events_in cs) u.machine
-never_asked_from live size align n fllen sllen memory t s u fronts [] w count low small are some budget run within = (refl, ap (λ (x : FlexState). x.machine) run)
-never_asked_from live size align n fllen sllen memory t s u fronts (c ∷ cs) w count low small are some budget (m, step, rest) (asks, within) =
+never_asked_from live size align n fllen sllen memory t s u fronts [] w count low small are budget run within = (refl, ap (λ (x : FlexState). x.machine) run)
+never_asked_from live size align n fllen sllen memory t s u fronts (c ∷ cs) w count low small are budget (m, step, rest) (asks, within) =
     let most = request_size size align in
     let e = c.event in
     let modest = modest_by live size align n s.machine e count low asks in
     let may = may_modest live most memory s.machine e modest step.may in
-    let nothing = asks_nothing live most t s w fronts are some small budget e c.notes m modest step.leads in
+    let nothing = asks_nothing live most t s w fronts are small budget e c.notes m modest step.leads in
     let leads : Leads fllen sllen s.machine e m.machine = subst (λ (x : FlexState). Leads fllen sllen s.machine e x.machine) (sym nothing.after) nothing.leads in
     let later = never_asked_from live size align (live_after e n) fllen sllen memory t m u fronts cs (steps_keep_well_formed fllen sllen memory s.machine m.machine e w may leads)
     (live_is_counted fllen sllen memory s.machine m.machine e w may leads ∙ ap (live_after e) count)
     (step_aligned align live size n fllen sllen s.machine m.machine e asks low leads) (step_modest most w small live m.machine e may modest leads)
-    (AreFronts-kept fllen sllen s.machine fronts are m.machine e (IsModest-stays live most s.machine e modest) leads) some budget rest within in
+    (AreFronts-kept fllen sllen s.machine fronts are m.machine e (IsModest-stays live most s.machine e modest) leads) budget rest within in
     (ap (λ l. l ++ notes_in cs) nothing.none ∙ later.0, (m.machine, may, leads, later.1))
 
 pub flex_never_asked : FlexNeverAsked
-flex_never_asked live size align fllen sllen memory t s u fronts cs w idle are some budget run within =
+flex_never_asked live size align fllen sllen memory t s u fronts cs w idle are budget run within =
     let most = request_size size align in
     let (silent, runs) = never_asked_from live size align 0 fllen sllen memory t s u fronts cs w (ap length idle) (aligned_none align s.machine.used idle)
-    (subst (AreAtMost most) (sym idle) (λ x i. absurd i)) are some budget run within in
-    (silent, runs, bounded_runs_are_not_denied live size align fllen sllen memory s.machine u.machine fronts (events_in cs) w idle are some budget runs within)
+    (subst (AreAtMost most) (sym idle) (λ x i. absurd i)) are budget run within in
+    (silent, runs, bounded_runs_are_not_denied live size align fllen sllen memory s.machine u.machine fronts (events_in cs) w idle are budget runs within)

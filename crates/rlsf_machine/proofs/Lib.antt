@@ -50,9 +50,11 @@ pub mod Replies
 pub mod Room
 pub mod Rows
 pub mod Similar
+pub mod SizedWords
 pub mod Steps
 pub mod Sums
 pub mod TakenPools
+pub mod ShortChunks
 pub mod Tiling
 pub mod Uniform
 pub mod TrimExamples

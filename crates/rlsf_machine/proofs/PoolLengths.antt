@@ -1,15 +1,14 @@
 -- Pools of the lengths that are computed for many payloads.
-use Rattle.std.proofs.Common.{◌≡◌, ℕ, ◌+◌, ◌-◌, ◌*◌, ◌/◌, ◌%◌, ◌<◌, ◌≤◌, [], ◌∷◌, length, arith, sym, ◌∙◌, ap, subst, inl, inr}
-use Rattle.std.specs.Int.{div_ceil}
-use Rattle.std.proofs.lemmas.Grind.{div_ceil_times}
+use Rattle.std.proofs.Common.{◌≡◌, ℕ, ◌+◌, ◌-◌, ◌*◌, ◌/◌, ◌%◌, ◌<◌, ◌≤◌, [], ◌∷◌, length, arith, ◌∙◌, ap, subst, inl, inr}
 use Rattle.std.proofs.lemmas.List.Sums.{sum_by-cons}
 use Rattle.std.proofs.lemmas.Nat.{div-mul-add}
-use Rattle.std.proofs.Math.Nat.{mul-le-mul_right}
 use Rattle.rlsf_base.specs.declared.memory.range.Range.{Range}
 use Rattle.rlsf_base.specs.Rounding.{round32}
-use Rattle.rlsf_base.specs.Sizes.{payloads_length, request_size}
-use Rattle.rlsf_base.proofs.Numbers.Roundings.{round32-le, round32-same}
-use Rattle.rlsf_base.proofs.SizeMaps.ChunkLengths.{IsObjectPool-some, chunk_length-is}
+use Rattle.rlsf_base.specs.SizeClass.{Reaches, class_of}
+use Rattle.rlsf_base.specs.Sizes.{IsSize, payloads_length, request_size}
+use Rattle.rlsf_base.proofs.Numbers.Roundings.{round32-same}
+use Rattle.rlsf_base.proofs.SizeMaps.ChunkLengths.{IsObjectPool-some, IsPayloadPool, IsPayloadPool-some}
+use Rattle.rlsf_base.proofs.SizeMaps.Laws.{IsSize-request_size}
 use Rattle.rlsf_machine.specs.Budget.{HasBudget, total_len}
 use Rattle.rlsf_machine.specs.Insert.{body}
 use Rattle.rlsf_machine.specs.Lists.{IsIn}
@@ -26,28 +25,25 @@ use Rattle.rlsf_machine.proofs.Uniform.{uniform_runs_answer}
 
 -- ---- payloads up to a layout
 
-long_enough : (count size sllen slack len : ℕ) → (count + 1) * size ≤ slack * sllen → count * size + (count + 1) * size + slack + 32 ≤ len
-    → (count + 1) * (size * (sllen + 1)) + (count * size + 32 * 1) * sllen ≤ len * sllen
-long_enough count size sllen slack len enough short =
-    let times : (count * size + (count + 1) * size + slack + 32) * sllen ≤ len * sllen = mul-le-mul_right sllen short in
-    omega arith
+-- what is left for the free ranges, and more
+gaps : (count size n len : ℕ) → count * size + count * n + (n + 64) ≤ len → 32 * 1 + count * size + (count + 1) * n < len
+gaps count size n len short = omega arith
 
-HasBudget-pool : (count size sllen : ℕ) (c : Range) → 0 < sllen → payloads_length sllen count size ≤ c.len → HasBudget count size sllen (c ∷ [])
-HasBudget-pool count size sllen c some short =
-    let n = (count + 1) * size in
-    let slack = round32 (div_ceil n sllen) in
-    let up : div_ceil n sllen * sllen ≤ slack * sllen = mul-le-mul_right sllen (round32-le (div_ceil n sllen)) in
-    let enough : n ≤ slack * sllen = omega (arith, up, (div_ceil_times n sllen some).0) in
-    let all : total_len (c ∷ []) ≡ c.len = omega (arith, sum_by-cons (λ (r : Range). r.len) c []) in
-    subst (λ m. (count + 1) * (size * (sllen + 1)) + (count * size + 32 * 1) * sllen ≤ m * sllen) (sym all) (long_enough count size sllen slack c.len enough short)
+pub HasBudget-reached : (count size sllen least : ℕ) (c : Range) → IsSize least → Reaches sllen (class_of sllen least) size → payloads_length count size least ≤ c.len → HasBudget count size sllen (c ∷ [])
+HasBudget-reached count size sllen least c is reaches long =
+    let all : c.len ≡ total_len (c ∷ []) = omega (arith, sum_by-cons (λ (r : Range). r.len) c []) in
+    record { least = least; taken = record { is = is; reaches = reaches }; enough = gaps count size (least - 32) (total_len (c ∷ [])) (omega (arith, long, all, is.0, is.1)) }
+
+pub HasBudget-pool : {fllen : ℕ} (count size sllen len : ℕ) (c : Range) → IsPayloadPool fllen sllen count size len → len ≤ c.len → HasBudget count size sllen (c ∷ [])
+HasBudget-pool count size sllen len c pool long = HasBudget-reached count size sllen pool.least c pool.is pool.reaches (omega (arith, pool.length, long))
 
 pub payload_pool_is_enough : PayloadPoolIsEnough
-payload_pool_is_enough fllen sllen count size align len memory s t c es w told idle is_chunk long run within =
+payload_pool_is_enough fl_bits sl_bits fllen sllen count size align len memory s t c es valid w told idle is_chunk long run within =
     let room = (w.chunks c is_chunk).has_room in
     let sought = request_size size align in
-    let is : payloads_length sllen count sought ≡ len = chunk_length-is fllen (payloads_length sllen count sought) len told in
-    bounded_runs_are_not_denied count size align fllen sllen memory s t (c ∷ []) es w idle (AreFronts-one c s.chunks is_chunk (omega arith)) (omega arith)
-    (HasBudget-pool count sought sllen c w.row_length (omega (arith, is))) run within
+    let pool = IsPayloadPool-some fllen sllen count sought len valid.power_of_two (IsSize-request_size size align) told in
+    bounded_runs_are_not_denied count size align fllen sllen memory s t (c ∷ []) es w idle (AreFronts-one c s.chunks is_chunk (omega arith))
+    (HasBudget-pool count sought sllen len c pool long) run within
 
 -- ---- objects of one size
 

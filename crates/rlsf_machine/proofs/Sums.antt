@@ -1,22 +1,23 @@
 -- Numbers of ranges and of bytes, counted address by address.
-use Rattle.std.proofs.Common.{◌≡◌, ℕ, zero, suc, ◌+◌, ◌-◌, ◌*◌, ◌<◌, ◌≤◌, ◌⊎◌, List, [], ◌∷◌, length, arith, refl, ap, subst, inl, inr}
+use Rattle.std.proofs.Common.{◌≡◌, ℕ, zero, None, suc, ◌+◌, ◌-◌, ◌*◌, ◌<◌, ◌≤◌, ◌⊎◌, List, [], ◌∷◌, length, arith, refl, ap, subst, inl, inr}
 use Rattle.std.specs.Prelude.{sum_by}
 use Rattle.std.proofs.lemmas.Bool.{cases_lt}
 use Rattle.std.proofs.lemmas.List.Sums.{sum_by-cons}
-use Rattle.std.proofs.lemmas.Nat.{mul-le}
 use Rattle.std.proofs.Math.Nat.{mul-le-mul_right}
 use Rattle.rlsf_base.specs.declared.memory.range.Range.{Range}
 use Rattle.rlsf_base.specs.Range.{end_of, range_at}
 use Rattle.rlsf_base.specs.Sizes.{request_size}
-use Rattle.rlsf_base.proofs.Numbers.Roundings.{round32-le}
-use Rattle.rlsf_machine.specs.Budget.{total_len}
+use Rattle.rlsf_base.specs.SizeClass.{Reaches, class_of}
+use Rattle.rlsf_base.proofs.SizeClasses.Order.{Reaches-longer}
+use Rattle.rlsf_machine.specs.Allocate.{Allocates}
+use Rattle.rlsf_machine.specs.Budget.{IsTakenFor, total_len}
 use Rattle.rlsf_machine.specs.Lists.{IsIn}
 use Rattle.rlsf_machine.specs.Sizing.{FewFree, BytesAddUp, BudgetIsEnough}
 use Rattle.rlsf_machine.specs.State.{State, Used}
 use Rattle.rlsf_machine.specs.WellFormed.{covers, coverage, itself, last_bytes, IsWellFormed}
 use Rattle.rlsf_machine.proofs.Coverage.{inside, before, behind, where_is, covers-inside, coverage-IsIn, coverage-some, coverage-unique}
 use Rattle.rlsf_machine.proofs.Payloads.{IsUsed-some}
-use Rattle.rlsf_machine.proofs.Room.{room_is_found}
+use Rattle.rlsf_machine.proofs.Choices.{choice-none}
 use Rattle.rlsf_machine.proofs.Tiling.{block_of, tiling_of, free-le, blocks-le, lies_in_chunk, IsPart-free, IsPart-used}
 
 -- ---- sums over the addresses below n
@@ -195,39 +196,36 @@ bytes_add_up fllen sllen memory s w =
 
 -- ---- a budget
 
--- one of some ranges is so long, or all of them are shorter
-long_or_short : (k m : ℕ) (fs : List Range) → ((f : Range) × IsIn f fs × (k ≤ f.len * m)) ⊎ (sum_by (λ f. f.len) fs * m + length fs ≤ length fs * k)
-long_or_short k m [] = inr (omega arith)
-long_or_short k m (f ∷ fs) = elim (cases_lt (f.len * m) k) [
-  | inr long ↦ inl (f, inl refl, long)
-  | inl short ↦ elim (long_or_short k m fs) [
+-- one of some ranges is longer, or none is
+long_or_short : (k : ℕ) (fs : List Range) → ((f : Range) × IsIn f fs × (k < f.len)) ⊎ (sum_by (λ f. f.len) fs ≤ length fs * k)
+long_or_short k [] = inr (omega arith)
+long_or_short k (f ∷ fs) = elim (cases_lt k f.len) [
+  | inl long ↦ inl (f, inl refl, long)
+  | inr short ↦ elim (long_or_short k fs) [
     | inl (g, i, long) ↦ inl (g, inr i, long)
-    | inr less ↦ inr (omega (arith, less, ap (λ n. n * m) (sum_by-cons (λ g. g.len) f fs)))
+    | inr less ↦ inr (omega (arith, less, sum_by-cons (λ g. g.len) f fs))
   ]
 ]
 
--- where the free bytes are so many, one of so few free ranges is so long
-pub long_free : {fllen sllen : ℕ} {memory : Range} (s : State) → IsWellFormed fllen sllen memory s → 0 < length s.chunks → (k : ℕ) → 0 < k → (length s.used + length s.chunks) * k ≤ total_len s.free * sllen
-    → (f : Range) × IsIn f s.free × (k ≤ f.len * sllen)
-long_free {fllen} {sllen} {memory} s w some k positive enough = elim (long_or_short k sllen s.free) [
+-- where the free bytes are so many, one of so few free ranges is longer
+long_free : {fllen sllen : ℕ} {memory : Range} (s : State) → IsWellFormed fllen sllen memory s → (k : ℕ) → (length s.used + length s.chunks) * k < total_len s.free
+    → (f : Range) × IsIn f s.free × (k < f.len)
+long_free {fllen} {sllen} {memory} s w k enough = elim (long_or_short k s.free) [
   | inl long ↦ long
-  | inr short ↦ absurd (impossible (length s.used + length s.chunks) (length s.free) (total_len s.free * sllen) (omega arith) (few_free fllen sllen memory s w) enough short)
+  | inr short ↦ let few : length s.free * k ≤ (length s.used + length s.chunks) * k = mul-le-mul_right k (few_free fllen sllen memory s w) in absurd (omega arith)
 ]
-  where
-    impossible : (n l b : ℕ) → 1 ≤ n → l ≤ n → n * k ≤ b → b + l ≤ l * k → ⊥
-    impossible n l b n1 few all short =
-        let up : l * k ≤ n * k = mul-le-mul_right k few in
-        let none : l ≡ 0 = omega arith in
-        let nothing : l * k ≡ 0 * k = ap (λ x. x * k) none in
-        let much : 1 * 1 ≤ n * k = mul-le 1 1 n k n1 positive in
-        omega arith
 
-pub request-positive : (size align sllen : ℕ) → 0 < request_size size align * (sllen + 1)
-request-positive size align sllen =
-    let one : 1 * 1 ≤ request_size size align * (sllen + 1) = mul-le 1 1 (request_size size align) (sllen + 1) (omega (arith, round32-le (size + (align - 16) + 16))) (omega arith) in
-    omega arith
+-- and so it is taken for a size
+pub taken_free : {fllen sllen : ℕ} {memory : Range} (s : State) → IsWellFormed fllen sllen memory s → (most least size : ℕ) → IsTakenFor sllen most least → size ≤ most
+    → (length s.used + length s.chunks) * (least - 32) < total_len s.free → (f : Range) × IsIn f s.free × Reaches sllen (class_of sllen f.len) size
+taken_free {sllen = sllen} s w most least size taken fits enough =
+    let (f, i, long) = long_free s w (least - 32) enough in
+    let some = taken.is.0 in
+    let order : least ≤ f.len = omega (arith, taken.is.1, (w.free f i).whole.len) in
+    (f, i, Reaches-longer sllen least f.len most size w.row_length some order fits taken.reaches)
 
 pub budget_is_enough : BudgetIsEnough
-budget_is_enough fllen sllen memory s t size align reply w some enough step =
-    let (f, i, long) = long_free s w some (request_size size align * (sllen + 1)) (request-positive size align sllen) enough in
-    room_is_found fllen sllen memory s t size align reply f w i long step
+budget_is_enough fllen sllen least memory s t size align reply w taken enough step is =
+    let (f, i, reached) = taken_free s w (request_size size align) least (request_size size align) taken (omega arith) enough in
+    let refused : Allocates sllen s size align None t = subst (λ r. Allocates sllen s size align r t) is step in
+    choice-none sllen (request_size size align) s.free refused.0 f i reached

@@ -1,7 +1,8 @@
 -- Runs whose calls ask for so few bytes, and chunks that are so long, that none of them is refused.
 use Rattle.std.specs.Prelude.{◌≡◌, ℕ, ◌+◌, ◌*◌, ◌<◌, ◌≤◌, List, [], ◌∷◌, length, sum_by, Some, None, ◌-◌}
 use Rattle.rlsf_base.specs.declared.memory.range.Range.{Range}
-use Rattle.rlsf_base.specs.Sizes.{request_size}
+use Rattle.rlsf_base.specs.SizeClass.{Reaches, class_of}
+use Rattle.rlsf_base.specs.Sizes.{IsSize, request_size}
 use Rattle.rlsf_machine.specs.Lists.{IsIn}
 use Rattle.rlsf_machine.specs.Run.{Event, insert, append, allocate, deallocate, reallocate, fill, remove, trim, Leads, MayCall}
 use Rattle.rlsf_machine.specs.State.{State, Used, Holds}
@@ -24,11 +25,17 @@ pub record AreFronts (chunks fronts : List Range) : Type 0 where
   pub each : (r : Range) → IsIn r fronts → IsFront chunks r
   pub disjoint : (a : ℕ) → coverage itself fronts a ≤ 1
 
--- some ranges are together so long that, with 32 bytes of each and `live` blocks of `most` bytes taken off, there is left,
--- for each of these blocks and of the ranges, that length and one SLLENth more
-abbrev pub HasBudget : ℕ → ℕ → ℕ → List Range → Type 0
-HasBudget live most sllen ranges =
-    (live + length ranges) * (most * (sllen + 1)) + (live * most + 32 * length ranges) * sllen ≤ total_len ranges * sllen
+-- a block of this length has a class that reaches the size, and so has each longer one
+pub record IsTakenFor (sllen size least : ℕ) : Type 0 where
+  pub is : IsSize least
+  pub reaches : Reaches sllen (class_of sllen least) size
+
+-- some ranges are together longer than 32 bytes of each, `live` blocks of `most` bytes, and for each of these blocks and of
+-- the ranges a free one that is one block too short to be taken
+pub record HasBudget (live most sllen : ℕ) (ranges : List Range) : Type 0 where
+  pub least : ℕ
+  pub taken : IsTakenFor sllen most least
+  pub enough : 32 * length ranges + live * most + (live + length ranges) * (least - 32) < total_len ranges
 
 -- no used block is longer
 abbrev pub AreAtMost : ℕ → List Used → Type 0

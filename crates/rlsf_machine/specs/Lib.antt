@@ -26,6 +26,7 @@ pub mod Reallocate
 pub mod Release
 pub mod Remove
 pub mod Run
+pub mod Sized
 pub mod Sizing
 pub mod State
 pub mod Terms

@@ -1,11 +1,11 @@
 -- What holds of how much memory is enough: laws of runs, known before the first call.
-use Rattle.std.specs.Prelude.{◌≡◌, ◌≢◌, ◌↔◌, ℕ, ◌+◌, ◌*◌, ◌<◌, ◌≤◌, List, [], ◌∷◌, length, Option, Some, None}
+use Rattle.std.specs.Prelude.{◌≡◌, ◌≢◌, ◌↔◌, ℕ, ◌+◌, ◌-◌, ◌*◌, ◌<◌, ◌≤◌, List, [], ◌∷◌, length, Option, Some, None}
 use Rattle.rlsf_base.specs.declared.memory.range.Range.{Range}
 use Rattle.rlsf_base.specs.PowerOfTwo.{IsPowerOfTwo}
 use Rattle.rlsf_base.specs.SizeClass.{class_of, IsValid, Reaches}
-use Rattle.rlsf_base.specs.Sizes.{pool_size_for_objects, pool_size_for_payloads, request_size}
+use Rattle.rlsf_base.specs.Sizes.{IsSize, map_ceil_and_unmap, payloads_length, pool_size_for_objects, pool_size_for_payloads, request_size}
 use Rattle.rlsf_machine.specs.Allocate.{Allocates}
-use Rattle.rlsf_machine.specs.Budget.{total_len, used_bytes, AreFronts, AreAtMost, HasBudget, RunsModestly, IsDenied, AreWithin, live_after}
+use Rattle.rlsf_machine.specs.Budget.{total_len, used_bytes, AreFronts, AreAtMost, HasBudget, IsTakenFor, RunsModestly, IsDenied, AreWithin, live_after}
 use Rattle.rlsf_machine.specs.FlexRun.{FlexEvent, IsFlexRun, events_in, notes_in}
 use Rattle.rlsf_machine.specs.FlexState.{FlexState}
 use Rattle.rlsf_machine.specs.Lists.{IsIn}
@@ -27,14 +27,14 @@ BytesAddUp = (fllen sllen : ℕ) (memory : Range) (s : State) → IsWellFormed f
 
 -- an allocation is not refused where the free bytes are so many that one of so few free ranges has room for it
 abbrev pub BudgetIsEnough : Type 0
-BudgetIsEnough = (fllen sllen : ℕ) (memory : Range) (s t : State) (size align : ℕ) (reply : Option ℕ) → IsWellFormed fllen sllen memory s → 0 < length s.chunks
-    → (length s.used + length s.chunks) * (request_size size align * (sllen + 1)) ≤ total_len s.free * sllen → Allocates sllen s size align reply t → reply ≢ None
+BudgetIsEnough = (fllen sllen least : ℕ) (memory : Range) (s t : State) (size align : ℕ) (reply : Option ℕ) → IsWellFormed fllen sllen memory s
+    → IsTakenFor sllen (request_size size align) least → (length s.used + length s.chunks) * (least - 32) < total_len s.free → Allocates sllen s size align reply t → reply ≢ None
 
 -- in a run whose calls keep to a budget that fronts of the chunks have, no allocation or reallocation is refused, whatever
 -- memory comes meanwhile
 abbrev pub ModestRunsAreNotDenied : Type 0
 ModestRunsAreNotDenied = (live most fllen sllen : ℕ) (memory : Range) (s t : State) (fronts : List Range) (es : List Event) → IsWellFormed fllen sllen memory s
-    → AreFronts s.chunks fronts → 0 < length fronts → AreAtMost most s.used → HasBudget live most sllen fronts
+    → AreFronts s.chunks fronts → AreAtMost most s.used → HasBudget live most sllen fronts
     → RunsModestly live most fllen sllen memory s es t → (e : Event) → IsIn e es → IsDenied e → ⊥
 
 -- how many payloads are live after a step
@@ -46,7 +46,7 @@ LiveIsCounted = (fllen sllen : ℕ) (memory : Range) (s t : State) (e : Event) �
 -- payloads stay within bounds for which fronts of the chunks have a budget, whatever memory comes meanwhile
 abbrev pub BoundedRunsAreNotDenied : Type 0
 BoundedRunsAreNotDenied = (live size align fllen sllen : ℕ) (memory : Range) (s t : State) (fronts : List Range) (es : List Event) → IsWellFormed fllen sllen memory s
-    → s.used ≡ [] → AreFronts s.chunks fronts → 0 < length fronts → HasBudget live (request_size size align) sllen fronts
+    → s.used ≡ [] → AreFronts s.chunks fronts → HasBudget live (request_size size align) sllen fronts
     → Runs fllen sllen memory s es t → AreWithin live size align 0 es → (e : Event) → IsIn e es → IsDenied e → ⊥
 
 -- where blocks of one length, at which a class begins, fill a chunk from its start, an allocation is refused exactly
@@ -80,9 +80,30 @@ UniformRunsAnswer = (len fllen sllen : ℕ) (memory : Range) (s t : State) (c : 
 
 -- with nothing live, a chunk of the length that is computed for so many payloads up to a layout refuses none of them
 abbrev pub PayloadPoolIsEnough : Type 0
-PayloadPoolIsEnough = (fllen sllen count size align len : ℕ) (memory : Range) (s t : State) (c : Range) (es : List Event) → IsWellFormed fllen sllen memory s
+PayloadPoolIsEnough = (fl_bits sl_bits fllen sllen count size align len : ℕ) (memory : Range) (s t : State) (c : Range) (es : List Event) → IsValid fl_bits sl_bits fllen sllen → IsWellFormed fllen sllen memory s
     → pool_size_for_payloads fllen sllen count size align ≡ Some len → s.used ≡ [] → IsIn c s.chunks → len ≤ c.len
     → Runs fllen sllen memory s es t → AreWithin count size align 0 es → (e : Event) → IsIn e es → IsDenied e → ⊥
+
+-- in some run whose calls keep to the bounds one is refused
+pub record EndsRefused (live most fllen sllen : ℕ) (memory : Range) (s : State) : Type 0 where
+  pub calls : List Event
+  pub after : State
+  pub refused : Event
+  pub run : RunsModestly live most fllen sllen memory s calls after
+  pub is_call : IsIn refused calls
+  pub denied : IsDenied refused
+
+-- in none is
+abbrev pub NeverRefuses : ℕ → ℕ → ℕ → ℕ → Range → State → Type 0
+NeverRefuses live most fllen sllen memory s =
+    (es : List Event) (t : State) (e : Event) → RunsModestly live most fllen sllen memory s es t → IsIn e es → IsDenied e → ⊥
+
+-- that length is exact: a chunk alone, with nothing live, never refuses a block of up to `most` bytes while `live` or fewer are
+-- live exactly if it is as long or longer, and else some list of calls is refused
+abbrev pub PayloadPoolIsExact : Type 0
+PayloadPoolIsExact = (fl_bits sl_bits fllen sllen live most least : ℕ) (memory : Range) (s : State) (c : Range) → IsValid fl_bits sl_bits fllen sllen
+    → IsWellFormed fllen sllen memory s → IsSize most → map_ceil_and_unmap fllen sllen most ≡ Some least → s.used ≡ [] → s.chunks ≡ c ∷ []
+    → (payloads_length live most least ≤ c.len → NeverRefuses live most fllen sllen memory s) × (c.len < payloads_length live most least → EndsRefused live most fllen sllen memory s)
 
 -- with nothing live, a chunk of the length that is computed for so many objects of a size, alone, has room for exactly as
 -- many, where all ask for the size that is computed: and that is as great as theirs, or greater
@@ -97,7 +118,7 @@ ObjectPoolIsExact = (fl_bits sl_bits fllen sllen count size len asked : ℕ) (me
 -- replies, none of which refuses bytes
 abbrev pub FlexNeverAsked : Type 0
 FlexNeverAsked = (live size align fllen sllen : ℕ) (memory : Range) (t : Terms) (s u : FlexState) (fronts : List Range) (cs : List FlexEvent) → IsWellFormed fllen sllen memory s.machine
-    → s.machine.used ≡ [] → AreFronts s.machine.chunks fronts → 0 < length fronts → HasBudget live (request_size size align) sllen fronts → IsFlexRun fllen sllen memory t s cs u
+    → s.machine.used ≡ [] → AreFronts s.machine.chunks fronts → HasBudget live (request_size size align) sllen fronts → IsFlexRun fllen sllen memory t s cs u
     → AreWithin live size align 0 (events_in cs) → (notes_in cs ≡ []) × Runs fllen sllen memory s.machine (events_in cs) u.machine × ((e : Event) → IsIn e (events_in cs) → IsDenied e → ⊥)
 
 -- the laws of how much memory is enough, by name
@@ -114,5 +135,6 @@ pub record SizingLaws : Type 0 where
   pub uniform_runs : RunsKeepUniform
   pub uniform_answers : UniformRunsAnswer
   pub payload_pool : PayloadPoolIsEnough
+  pub payload_pool_exact : PayloadPoolIsExact
   pub object_pool : ObjectPoolIsExact
   pub flex_never_asked : FlexNeverAsked

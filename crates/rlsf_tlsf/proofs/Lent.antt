@@ -8,7 +8,9 @@ use Rattle.rlsf_base.proofs.Lending.Lent.{bytes_in-lent, bytes_in-lent_space, le
 use Rattle.rlsf_machine.specs.Callers.{align_at, bytes_at}
 use Rattle.rlsf_machine.specs.Run.{Fills}
 use Rattle.rlsf_machine.specs.State.{State, Used, usable, Holds}
+use Rattle.rlsf_machine.specs.Sized.{IsSizedFor, live_count}
 use Rattle.rlsf_machine.proofs.CallerWords.{filled_seen}
+use Rattle.rlsf_machine.proofs.SizedWords.{count_filled, sized_filled}
 use Rattle.rlsf_table.specs.Table.{Table}
 use Rattle.rlsf_blocks.specs.Laws.{read_from}
 use Rattle.rlsf_blocks.specs.Spare.{KeepsSpare}
@@ -38,6 +40,8 @@ pub record IsLeft (fllen sllen : ℕ) (before : Allocator) (addr len : ℕ) (w :
   pub filled : length w ≡ len → bytes_at after.state addr ≡ w
   pub bytes : (a : ℕ) → a ≢ addr → bytes_at after.state a ≡ bytes_at before.state a
   pub aligns : align_at after.state ≡ align_at before.state
+  pub count : live_count after.state ≡ live_count before.state
+  pub bounds : (count size align : ℕ) → IsSizedFor sllen count size align before.state → IsSizedFor sllen count size align after.state
   pub lengths : length (bytes_at after.state addr) ≡ length (bytes_at before.state addr)
   pub rest : LeavesRest fllen sllen before after
 
@@ -89,6 +93,8 @@ module _ {fl_bits sl_bits fllen sllen : ℕ} {m : Space} {x : Table} {kept : Sta
         filled = λ long. seen.here ∙ read long;
         bytes = seen.bytes;
         aligns = λ i a. seen.aligns a i;
+        count = count_filled is.stands.well_formed (read_from (left_in w) s) addr (bytes_in (left_in w) (usable u)) (u, holds) fills;
+        bounds = λ count size align sized. sized_filled is.stands.well_formed (read_from (left_in w) s) count size align sized addr (bytes_in (left_in w) (usable u)) (u, holds) fills;
         lengths = seen.lengths addr;
         rest = (refl, (refl, length-lent_space (touched m 3) (usable u) w lies), stands, refl, refl);
       }

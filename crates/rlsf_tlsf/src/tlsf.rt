@@ -1,14 +1,14 @@
 //! The allocator over pools that its caller hands in.
 
 ghost use Rattle.std.specs.Borrow.{sem};
-ghost use Rattle.std.specs.Prelude.{◌≡◌, ◌≢◌, ◌≤◌, ◌<◌, ◌+◌, ◌*◌, ℕ, List, [], Option, Some, None, length, is_some, IfNone, IfSome, IsSome, if◌then◌else◌};
+ghost use Rattle.std.specs.Prelude.{◌≡◌, ◌≢◌, ◌≤◌, ◌<◌, ◌+◌, ◌*◌, ◌%◌, ℕ, List, [], Option, Some, None, length, is_some, IfNone, IfSome, IsSome, if◌then◌else◌};
 ghost use Rattle.std.specs.List.{list_any};
 ghost use Rattle.std.specs.Map.Iter.{GivesInOrder};
 ghost use Rattle.rlsf_base.specs.Addr.{at, reply};
 ghost use Rattle.rlsf_base.specs.declared.memory.range.Range.{Range};
 ghost use Rattle.rlsf_base.specs.Range.{AreApart, LiesIn, end_of};
 ghost use Rattle.rlsf_base.specs.SizeClass.{IsValid};
-ghost use Rattle.rlsf_base.specs.Sizes.{max_pool_size};
+ghost use Rattle.rlsf_base.specs.Sizes.{max_pool_size, pool_size_for_payloads};
 ghost use Rattle.rlsf_base.specs.Space.{range_of, with_word, SamePlace};
 ghost use Rattle.rlsf_int.specs.Bits.{bit};
 ghost use Rattle.rlsf_machine.specs.Allocate.{Allocates, has_class};
@@ -21,6 +21,7 @@ ghost use Rattle.rlsf_machine.specs.Reallocate.{HasRoomToStay, Keeps, Reallocate
 ghost use Rattle.rlsf_machine.specs.Release.{Deallocates};
 ghost use Rattle.rlsf_machine.specs.Remove.{IsIdle, Removes};
 ghost use Rattle.rlsf_machine.specs.Run.{Fills};
+ghost use Rattle.rlsf_machine.specs.Sized.{IsSizedFor, live_count};
 ghost use Rattle.rlsf_machine.specs.State.{empty};
 ghost use Rattle.rlsf_table.specs.Table.{class_at, is_in_row, newest_of, of_class};
 ghost use Rattle.rlsf_blocks.specs.Blocks.{AreBlocks, walked};
@@ -82,6 +83,7 @@ impl<FLBitmap: BitPattern, SLBitmap: BitPattern, const FLLEN: usize, const SLLEN
         ensures state { result.state ≡ empty }
         ensures untouched { (r : Range) → IsUntouched result.state.chunks r }
         ensures stands { Stands FLLEN SLLEN result }
+        ensures count { live_count result.state ≡ 0 }
         ensures memory { result.memory ≡ memory }
     {
         // What `start` says of every memory: no address is 0, and each fits in a word.
@@ -114,6 +116,9 @@ impl<FLBitmap: BitPattern, SLBitmap: BitPattern, const FLLEN: usize, const SLLEN
         ensures untouched { (r : Range) → IsUntouched self.old.state.chunks r → AreApart range r → IsUntouched self.new.state.chunks r }
         ensures aligns { align_at self.new.state ≡ align_at self.old.state }
         ensures bytes { bytes_at self.new.state ≡ bytes_at self.old.state }
+        ensures count { live_count self.new.state ≡ live_count self.old.state }
+        ensures bounds { (count size align : ℕ) → IsSizedFor SLLEN count size align self.old.state → IsSizedFor SLLEN count size align self.new.state }
+        ensures pool { (count size align len : ℕ) → pool_size_for_payloads FLLEN SLLEN count size align ≡ Some len → range.start % 32 ≡ 0 → len ≤ range.len → live_count self.old.state ≡ 0 → IsSizedFor SLLEN count size align self.new.state }
         ensures refused { IfNone result (self.new.memory.bytes ≡ self.old.memory.bytes) }
         ensures place { SamePlace self.old.memory self.new.memory }
         ensures touches { self.new.memory.touches ≤ self.old.memory.touches + 13 * length (cut (max_pool_size FLLEN) (aligned_part range)) }
@@ -136,6 +141,9 @@ impl<FLBitmap: BitPattern, SLBitmap: BitPattern, const FLLEN: usize, const SLLEN
         ensures untouched { (r : Range) → IsUntouched self.old.state.chunks r → AreApart range r → IsUntouched self.new.state.chunks r }
         ensures aligns { align_at self.new.state ≡ align_at self.old.state }
         ensures bytes { bytes_at self.new.state ≡ bytes_at self.old.state }
+        ensures count { live_count self.new.state ≡ live_count self.old.state }
+        ensures bounds { (count size align : ℕ) → IsSizedFor SLLEN count size align self.old.state → IsSizedFor SLLEN count size align self.new.state }
+        ensures pool { (count size align len : ℕ) → pool_size_for_payloads FLLEN SLLEN count size align ≡ Some len → range.start % 32 ≡ 0 → len ≤ range.len → live_count self.old.state ≡ 0 → IsSizedFor SLLEN count size align self.new.state }
         ensures unchanged { cut (max_pool_size FLLEN) (aligned_part range) ≡ [] → self.new.memory.bytes ≡ self.old.memory.bytes }
         ensures place { SamePlace self.old.memory self.new.memory }
         ensures touches { self.new.memory.touches ≤ self.old.memory.touches + 13 * length (cut (max_pool_size FLLEN) (aligned_part range)) }
@@ -211,6 +219,9 @@ impl<FLBitmap: BitPattern, SLBitmap: BitPattern, const FLLEN: usize, const SLLEN
         ensures new { IfSome result (λ addr. align_at self.old.state (at addr) ≡ None) }
         ensures aligns { IfSome result (λ addr. (a : ℕ) → a ≢ at addr → align_at self.new.state a ≡ align_at self.old.state a) }
         ensures bytes { IfSome result (λ addr. (a : ℕ) → a ≢ at addr → bytes_at self.new.state a ≡ bytes_at self.old.state a) }
+        ensures room { (count size align : ℕ) → IsSizedFor SLLEN count size align self.old.state → live_count self.old.state ≤ count → layout.size ≤ size → layout.align ≤ align → IsSome result }
+        ensures count { IfSome result (λ addr. live_count self.new.state ≡ live_count self.old.state + 1) }
+        ensures bounds { (count size align : ℕ) → IsSizedFor SLLEN count size align self.old.state → layout.size ≤ size → layout.align ≤ align → IsSizedFor SLLEN count size align self.new.state }
         ensures chunks { self.new.state.chunks ≡ self.old.state.chunks }
         ensures same { IfNone result (self.new.state ≡ self.old.state) }
         ensures refused { IfNone result (self.new.memory.bytes ≡ self.old.memory.bytes) }
@@ -232,6 +243,8 @@ impl<FLBitmap: BitPattern, SLBitmap: BitPattern, const FLLEN: usize, const SLLEN
     pub fn deallocate(&mut self, addr: Addr, align: usize)
         requires { align_at self.old.state (at addr) ≡ Some align }
         ensures step { Steps FLLEN SLLEN self.old self.new (Deallocates self.old.state (at addr)) }
+        ensures count { live_count self.old.state ≡ live_count self.new.state + 1 }
+        ensures bounds { (count size align : ℕ) → IsSizedFor SLLEN count size align self.old.state → IsSizedFor SLLEN count size align self.new.state }
         ensures chunks { self.new.state.chunks ≡ self.old.state.chunks }
         ensures gone { align_at self.new.state (at addr) ≡ None }
         ensures aligns { (a : ℕ) → a ≢ at addr → align_at self.new.state a ≡ align_at self.old.state a }
@@ -254,6 +267,8 @@ impl<FLBitmap: BitPattern, SLBitmap: BitPattern, const FLLEN: usize, const SLLEN
     pub fn deallocate_unknown_align(&mut self, addr: Addr)
         requires { IsSome (align_at self.old.state (at addr)) }
         ensures step { Steps FLLEN SLLEN self.old self.new (Deallocates self.old.state (at addr)) }
+        ensures count { live_count self.old.state ≡ live_count self.new.state + 1 }
+        ensures bounds { (count size align : ℕ) → IsSizedFor SLLEN count size align self.old.state → IsSizedFor SLLEN count size align self.new.state }
         ensures chunks { self.new.state.chunks ≡ self.old.state.chunks }
         ensures gone { align_at self.new.state (at addr) ≡ None }
         ensures aligns { (a : ℕ) → a ≢ at addr → align_at self.new.state a ≡ align_at self.old.state a }
@@ -285,6 +300,9 @@ impl<FLBitmap: BitPattern, SLBitmap: BitPattern, const FLLEN: usize, const SLLEN
         ensures new { IfSome result (λ to. at to ≢ at addr → align_at self.old.state (at to) ≡ None) }
         ensures aligns { IfSome result (λ to. (a : ℕ) → a ≢ at addr → a ≢ at to → align_at self.new.state a ≡ align_at self.old.state a) }
         ensures bytes { IfSome result (λ to. (a : ℕ) → a ≢ at addr → a ≢ at to → bytes_at self.new.state a ≡ bytes_at self.old.state a) }
+        ensures room { (count size align : ℕ) → IsSizedFor SLLEN count size align self.old.state → live_count self.old.state ≤ count → layout.size ≤ size → layout.align ≤ align → IsSome result }
+        ensures count { live_count self.new.state ≡ live_count self.old.state }
+        ensures bounds { (count size align : ℕ) → IsSizedFor SLLEN count size align self.old.state → layout.size ≤ size → layout.align ≤ align → IsSizedFor SLLEN count size align self.new.state }
         ensures chunks { self.new.state.chunks ≡ self.old.state.chunks }
         ensures same { IfNone result (self.new.state ≡ self.old.state) }
         ensures refused { IfNone result (self.new.memory.bytes ≡ self.old.memory.bytes) }
@@ -384,6 +402,8 @@ impl<FLBitmap: BitPattern, SLBitmap: BitPattern, const FLLEN: usize, const SLLEN
         ensures filled { (w : List ℕ) → length w ≡ length result.now → bytes_at (written self.old (at addr) (length result.now) w).state (at addr) ≡ w }
         ensures bytes { (w : List ℕ) (a : ℕ) → a ≢ at addr → bytes_at (written self.old (at addr) (length result.now) w).state a ≡ bytes_at self.old.state a }
         ensures aligns { (w : List ℕ) → align_at (written self.old (at addr) (length result.now) w).state ≡ align_at self.old.state }
+        ensures count { (w : List ℕ) → live_count (written self.old (at addr) (length result.now) w).state ≡ live_count self.old.state }
+        ensures bounds { (w : List ℕ) (count size align : ℕ) → IsSizedFor SLLEN count size align self.old.state → IsSizedFor SLLEN count size align (written self.old (at addr) (length result.now) w).state }
         ensures lengths { (w : List ℕ) → length (bytes_at (written self.old (at addr) (length result.now) w).state (at addr)) ≡ length result.now }
         ensures rest { (w : List ℕ) → LeavesRest FLLEN SLLEN self.old (written self.old (at addr) (length result.now) w) }
     {

@@ -88,6 +88,12 @@ IsAtMost-class_of sllen m n any some order = elim (IsAtMost-or_before (class_of 
       absurd (omega (arith, gap, class_start-lt sllen n more, class_start-le sllen m some))
 ]
 
+-- the class of a longer block reaches what that of a shorter one does, and less
+pub Reaches-longer : (sllen m n wanted size : ℕ) → 0 < sllen → 0 < m → m ≤ n → size ≤ wanted → Reaches sllen (class_of sllen m) wanted → Reaches sllen (class_of sllen n) size
+Reaches-longer sllen m n wanted size any some order less reached =
+    let times : size * sllen ≤ wanted * sllen = mul-le-mul_right sllen less in
+    omega (arith, times, class_start-mono sllen (class_of sllen m) (class_of sllen n) (division-lt sllen m some any) (IsAtMost-class_of sllen m n any some order))
+
 -- ---- the first class that reaches a size
 
 -- what the next class is, inside a row and at its end

@@ -1,5 +1,5 @@
 -- Lengths of chunks that are computed for many payloads.
-use Rattle.std.proofs.Common.{◌≡◌, ℕ, ◌+◌, ◌-◌, ◌*◌, ◌/◌, ◌%◌, ◌^◌, ◌<◌, ◌≤◌, Option, Some, None, IsTrue, arith, cond, leb, inl, inr, refl, sym, ◌∙◌, ap}
+use Rattle.std.proofs.Common.{◌≡◌, ℕ, ◌+◌, ◌-◌, ◌*◌, ◌/◌, ◌%◌, ◌^◌, ◌<◌, ◌≤◌, Option, Some, None, IsTrue, arith, cond, leb, inl, inr, refl, sym, ◌∙◌, ap, subst}
 use Rattle.std.specs.Int.{div_ceil}
 use Rattle.std.specs.Option.{option_and_then, option_map}
 use Rattle.std.proofs.lemmas.Bool.{cases_lt, cond-true, cond-false, le-leb, lt-ltb, lt-leb, le-ltb}
@@ -8,7 +8,7 @@ use Rattle.std.proofs.lemmas.Grind.{div_ceil_times}
 use Rattle.std.proofs.Math.Nat.{mul-le-mul_right, mul-mod_left}
 use Rattle.rlsf_base.specs.Rounding.{round32}
 use Rattle.rlsf_base.specs.SizeClass.{class_of, class_start, is_row_length, reaching_class, Reaches}
-use Rattle.rlsf_base.specs.Sizes.{IsSize, chunk_length, object_length, objects_in, pool_size_for_objects}
+use Rattle.rlsf_base.specs.Sizes.{IsSize, chunk_length, map_ceil_and_unmap, object_length, objects_in, payloads_length, pool_size_for_objects}
 use Rattle.rlsf_base.proofs.Numbers.Roundings.{round32-le, round32-least, round32-multiple}
 use Rattle.rlsf_base.proofs.SizeClasses.Order.{IsFirstReaching-reaching_class}
 use Rattle.rlsf_base.proofs.SizeMaps.Laws.{IsUnmapped-some}
@@ -65,6 +65,49 @@ chunk_length-is fllen n len told = elim (cases_lt n (2 ^ 64)) [
   ]
   | inr past ↦ absurd (none-some len (sym (cond-false _ (cond (leb n (2 ^ (5 + fllen))) (Some n) None) None (le-ltb n (2 ^ 64) past)) ∙ told))
 ]
+
+-- and is not longer than the longest chunk
+chunk_length-short : (fllen n len : ℕ) → chunk_length fllen n ≡ Some len → n ≤ 2 ^ (5 + fllen)
+chunk_length-short fllen n len told = elim (cases_lt n (2 ^ 64)) [
+  | inl word ↦ elim (cases_lt (2 ^ (5 + fllen)) n) [
+    | inl long ↦ absurd (none-some len (sym (cond-true _ (cond (leb n (2 ^ (5 + fllen))) (Some n) None) None (lt-ltb n (2 ^ 64) word) ∙ cond-false _ (Some n) None (lt-leb n (2 ^ (5 + fllen)) long)) ∙ told))
+    | inr short ↦ short
+  ]
+  | inr past ↦ absurd (none-some len (sym (cond-false _ (cond (leb n (2 ^ (5 + fllen))) (Some n) None) None (le-ltb n (2 ^ 64) past)) ∙ told))
+]
+
+-- the least size of the class that is taken for a size is taken for it
+pub least_is_taken : (fllen sllen size least : ℕ) → IsTrue (is_row_length sllen) → IsSize size → map_ceil_and_unmap fllen sllen size ≡ Some least → IsSize least × Reaches sllen (class_of sllen least) size
+least_is_taken fllen sllen size least row size_is told =
+    let start = (IsUnmapped-some fllen sllen size least row size_is told).start in
+    let some = (IsPower-row_length sllen row).some in
+    let first = IsFirstReaching-reaching_class sllen size some size_is.0 in
+    let own : class_of sllen least ≡ reaching_class sllen size = class_of-start sllen least (reaching_class sllen size) some first.in_row start.begins in
+    ((omega (arith, size_is.0, start.enough), start.multiple), subst (λ c. Reaches sllen c size) (sym own) first.reached)
+
+-- a pool for payloads has the length for so many blocks and for free ranges that are too short for one
+pub record IsPayloadPool (fllen sllen count size len : ℕ) : Type 0 where
+  pub least : ℕ
+  pub is : IsSize least
+  pub reaches : Reaches sllen (class_of sllen least) size
+  pub length : payloads_length count size least ≡ len
+  pub short : len ≤ 2 ^ (5 + fllen)
+
+module _ (fllen sllen count size len : ℕ) (row : IsTrue (is_row_length sllen)) (size_is : IsSize size) where
+  payload_pool_from : (o : Option ℕ) → map_ceil_and_unmap fllen sllen size ≡ o → option_and_then (λ least. chunk_length fllen (payloads_length count size least)) o ≡ Some len → IsPayloadPool fllen sllen count size len
+  payload_pool_from None e told = absurd (none-some len told)
+  payload_pool_from (Some least) e told =
+      let taken = least_is_taken fllen sllen size least row size_is e in
+      record {
+        least = least;
+        is = taken.0;
+        reaches = taken.1;
+        length = chunk_length-is fllen (payloads_length count size least) len told;
+        short = omega (arith, chunk_length-is fllen (payloads_length count size least) len told, chunk_length-short fllen (payloads_length count size least) len told);
+      }
+
+  pub IsPayloadPool-some : option_and_then (λ least. chunk_length fllen (payloads_length count size least)) (map_ceil_and_unmap fllen sllen size) ≡ Some len → IsPayloadPool fllen sllen count size len
+  IsPayloadPool-some told = payload_pool_from (map_ceil_and_unmap fllen sllen size) refl told
 
 -- a pool for objects has room for so many blocks, each of which begins a class
 pub record IsObjectPool (sllen count size len asked : ℕ) : Type 0 where

@@ -1,12 +1,17 @@
-use Rattle.std.proofs.Common.{ℕ, ◌≡◌, ◌≢◌, ◌≤◌, ◌+◌, ◌<◌, length, Some, None, arith, sym, ◌∙◌, ap, subst}
+use Rattle.std.proofs.Common.{ℕ, ◌≡◌, ◌≢◌, ◌≤◌, ◌+◌, ◌<◌, length, Option, Some, None, IsSome, arith, refl, sym, ◌∙◌, ap, subst}
+use Rattle.std.proofs.lemmas.Option.{none-some}
+use Rattle.std.specs.declared.num.NonZeroUsize.{NonZeroUsize}
 use Rattle.rlsf_base.specs.Addr.{reply}
-use Rattle.rlsf_base.specs.Space.{SamePlace}
+use Rattle.rlsf_base.specs.Space.{SamePlace, range_of}
 use Rattle.rlsf_machine.specs.Allocate.{Allocates, Places}
 use Rattle.rlsf_machine.specs.Callers.{align_at, bytes_at}
+use Rattle.rlsf_machine.specs.Sized.{IsSizedFor, live_count}
 use Rattle.rlsf_machine.specs.State.{State}
+use Rattle.rlsf_machine.specs.WellFormed.{IsWellFormed}
 use Rattle.rlsf_machine.proofs.CallerWords.{SeesNew, new_seen}
 use Rattle.rlsf_machine.proofs.Chunks.{chunks-allocated}
 use Rattle.rlsf_machine.proofs.Payloads.{payload_of-after}
+use Rattle.rlsf_machine.proofs.SizedWords.{count_new, never_refused, sized_new}
 use Rattle.rlsf_blocks.specs.Laws.{read_from}
 use Rattle.rlsf_blocks.specs.Spare.{KeepsSpare}
 use Rattle.rlsf_blocks.specs.StandsFor.{contents, StandsFor}
@@ -78,7 +83,14 @@ seen g c =
     let stood = Stands-view c.self.inside.memory c.self.inside.table c.self.inside.state.state c.args.self.now c.self.view_is c.self.invariant.stands in
     new_seen (well_formed c.args.self.now stood) (after g c).state c.args.layout.size c.args.layout.align c.in_ok-payload.payload c.args.layout.valid.aligned (places_of g c)
 
+some_answer : (o : Option NonZeroUsize) (n : ℕ) → reply o ≡ Some n → IsSome o
+some_answer None n e = absurd (none-some n e)
+some_answer (Some x) n e = refl
+
 -- ---- what stays where it is refused
+
+stood : (g : given.Over) (c : After-new g) → IsWellFormed g.row.FLLEN g.row.SLLEN (range_of c.args.self.now.memory) c.args.self.now.state
+stood g c = well_formed c.args.self.now (Stands-view c.self.inside.memory c.self.inside.table c.self.inside.state.state c.args.self.now c.self.view_is c.self.invariant.stands)
 
 pub returns-in_err-payload : goal.returns-in_err-payload
 returns-in_err-payload g c = record {
@@ -94,6 +106,15 @@ returns-in_err-payload g c = record {
   new = none_some _ c.from_residual.result c.from_residual.ensures;
   aligns = none_some _ c.from_residual.result c.from_residual.ensures;
   bytes = none_some _ c.from_residual.result c.from_residual.ensures;
+  room = λ count size align sized few short fits.
+      let (step, stands, spare) = refusing g (goal.at.returns-in_err-payload g c).In_err-payload in
+      let stood = Stands-view c.self.inside.memory c.self.inside.table c.self.inside.state.state c.args.self.now c.self.view_is c.self.invariant.stands in
+      absurd (never_refused (well_formed c.args.self.now stood) c.args.self.now.state count size align sized c.args.layout.size c.args.layout.align few short fits
+      (subst (λ (o : Allocator). Allocates g.row.SLLEN o.state c.args.layout.size c.args.layout.align None o.state) c.self.view_is step));
+  count = none_some _ c.from_residual.result c.from_residual.ensures;
+  bounds = λ count size align sized short fits.
+      let v = (refusing g (goal.at.returns-in_err-payload g c).In_err-payload).1 in
+      subst (IsSizedFor g.row.SLLEN count size align) (sym (arrived v c.self.inside.state.state (sym (bare-kept c.self.invariant)) ∙ ap (λ (o : Allocator). o.state) c.self.view_is)) sized;
   chunks = ap (λ (o : Allocator). o.state.chunks) c.self.view_is;
   same =
       let v = (refusing g (goal.at.returns-in_err-payload g c).In_err-payload).1 in
@@ -116,6 +137,11 @@ returns g c = record {
   new = on_some (λ addr. align_at c.args.self.now.state addr ≡ None) c.new.result c.in_ok-payload.payload c.new.ensures (seen g c).new;
   aligns = on_some (λ addr. (a : ℕ) → a ≢ addr → align_at (after g c).state a ≡ align_at c.args.self.now.state a) c.new.result c.in_ok-payload.payload c.new.ensures (seen g c).aligns;
   bytes = on_some (λ addr. (a : ℕ) → a ≢ addr → bytes_at (after g c).state a ≡ bytes_at c.args.self.now.state a) c.new.result c.in_ok-payload.payload c.new.ensures (seen g c).bytes;
+  room = λ count size align sized few short fits. some_answer c.new.result c.in_ok-payload.payload (answer g c);
+  count = on_some (λ addr. live_count (after g c).state ≡ live_count c.args.self.now.state + 1) c.new.result c.in_ok-payload.payload c.new.ensures
+      (count_new (stood g c) (after g c).state c.args.layout.size c.args.layout.align c.in_ok-payload.payload c.args.layout.valid.aligned (places_of g c));
+  bounds = λ count size align sized short fits.
+      sized_new (stood g c) (after g c).state count size align sized c.args.layout.size c.args.layout.align (Some c.in_ok-payload.payload) c.args.layout.valid.aligned short fits (places_of g c);
   chunks = chunks-allocated g.row.SLLEN c.args.self.now.state (after g c).state c.args.layout.size c.args.layout.align (Some c.in_ok-payload.payload) (places_of g c);
   same =
       let some = positive (places_of g c) in

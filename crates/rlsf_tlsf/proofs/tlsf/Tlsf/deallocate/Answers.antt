@@ -1,9 +1,11 @@
 use Rattle.std.proofs.Common.{arith, rules, ◌≡◌, refl, sym, ◌∙◌, subst, ◌≤◌, ◌+◌, ap}
 use Rattle.rlsf_base.specs.Addr.{at}
 use Rattle.rlsf_machine.specs.Release.{Deallocates, released}
+use Rattle.rlsf_machine.specs.Run.{IsSomeLive}
 use Rattle.rlsf_machine.specs.State.{State, Used, Holds, IsLive}
 use Rattle.rlsf_machine.proofs.CallerWords.{SeesGone, align_at-live, gone_seen}
 use Rattle.rlsf_machine.proofs.Chunks.{chunks-deallocated}
+use Rattle.rlsf_machine.proofs.SizedWords.{count_gone, sized_gone}
 use Rattle.rlsf_table.proofs.Parameters.{IsValid-widest}
 use Rattle.rlsf_blocks.specs.Laws.{read_from}
 use Rattle.rlsf_blocks.specs.StandsFor.{contents, StandsFor}
@@ -79,6 +81,9 @@ seen g c =
     let (u, holds, is) = align_at-live c.args.self.now.state (at c.args.addr) c.args.align c.requires in
     gone_seen (view_well_formed c.self.invariant c.args.self.now c.self.view_is) (after g c).state (at c.args.addr) (u, holds) (stepped g c)
 
+live : (g : given.Over) (c : After-deallocate g) → IsSomeLive c.args.self.now.state (at c.args.addr)
+live g c = let (u, holds, is) = align_at-live c.args.self.now.state (at c.args.addr) c.args.align c.requires in (u, holds)
+
 pub returns : goal.returns
 returns g c = record {
   step = done g c;
@@ -86,6 +91,8 @@ returns g c = record {
   gone = (seen g c).gone;
   aligns = (seen g c).aligns;
   bytes = (seen g c).bytes;
+  count = count_gone (view_well_formed c.self.invariant c.args.self.now c.self.view_is) (after g c).state (at c.args.addr) (live g c) (stepped g c);
+  bounds = λ count size align sized. sized_gone (view_well_formed c.self.invariant c.args.self.now c.self.view_is) (after g c).state count size align sized (at c.args.addr) (live g c) (stepped g c);
   place = subst (λ (o : Allocator). SamePlace o.memory c.deallocate_block.new.memory) c.self.view_is (SamePlace-counted_first c.self.inside.memory c.used_block-block.new.memory 1 c.used_block-block.ensures.counts c.deallocate_block.new.memory c.deallocate_block.ensures.place);
   touches = subst (λ (o : Allocator). c.deallocate_block.new.memory.touches ≤ o.memory.touches + 32) c.self.view_is (touches-counted_first c.self.inside.memory c.used_block-block.new.memory 1 c.used_block-block.ensures.counts c.deallocate_block.new.memory 31 c.deallocate_block.ensures.touches);
   grow = subst (λ (o : Allocator). o.memory.touches ≤ c.deallocate_block.new.memory.touches) c.self.view_is (grow-counted_first c.self.inside.memory c.used_block-block.new.memory 1 c.used_block-block.ensures.counts c.deallocate_block.new.memory c.deallocate_block.ensures.grow);

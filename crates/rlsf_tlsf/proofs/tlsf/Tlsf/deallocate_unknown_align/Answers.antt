@@ -4,6 +4,7 @@ use Rattle.rlsf_machine.specs.Release.{Deallocates, released}
 use Rattle.rlsf_machine.specs.State.{State, Used, Holds}
 use Rattle.rlsf_machine.proofs.CallerWords.{SeesGone, align_at-some, gone_seen}
 use Rattle.rlsf_machine.proofs.Chunks.{chunks-deallocated}
+use Rattle.rlsf_machine.proofs.SizedWords.{count_gone, sized_gone}
 use Rattle.rlsf_table.proofs.Parameters.{IsValid-widest}
 use Rattle.rlsf_blocks.specs.Laws.{read_from}
 use Rattle.rlsf_blocks.specs.StandsFor.{contents, StandsFor}
@@ -82,6 +83,9 @@ returns g c = record {
   gone = (seen g c).gone;
   aligns = (seen g c).aligns;
   bytes = (seen g c).bytes;
+  count = count_gone (view_well_formed c.self.invariant c.args.self.now c.self.view_is) (after g c).state (at c.args.addr) (align_at-some c.args.self.now.state (at c.args.addr) c.requires) (stepped g c);
+  bounds = λ count size align sized.
+      sized_gone (view_well_formed c.self.invariant c.args.self.now c.self.view_is) (after g c).state count size align sized (at c.args.addr) (align_at-some c.args.self.now.state (at c.args.addr) c.requires) (stepped g c);
   place = subst (λ (o : Allocator). SamePlace o.memory c.deallocate_block.new.memory) c.self.view_is (SamePlace-counted_first c.self.inside.memory c.load_block_of-block.new.memory 2 (Counts-touched c.self.inside.memory c.load_block_of-block.new.memory 2 c.load_block_of-block.ensures.memory) c.deallocate_block.new.memory c.deallocate_block.ensures.place);
   touches = subst (λ (o : Allocator). c.deallocate_block.new.memory.touches ≤ o.memory.touches + 33) c.self.view_is (touches-counted_first c.self.inside.memory c.load_block_of-block.new.memory 2 (Counts-touched c.self.inside.memory c.load_block_of-block.new.memory 2 c.load_block_of-block.ensures.memory) c.deallocate_block.new.memory 31 c.deallocate_block.ensures.touches);
   grow = subst (λ (o : Allocator). o.memory.touches ≤ c.deallocate_block.new.memory.touches) c.self.view_is (grow-counted_first c.self.inside.memory c.load_block_of-block.new.memory 2 (Counts-touched c.self.inside.memory c.load_block_of-block.new.memory 2 c.load_block_of-block.ensures.memory) c.deallocate_block.new.memory c.deallocate_block.ensures.grow);

@@ -6,6 +6,7 @@ use Rattle.rlsf_machine.specs.Run.{insert}
 use Rattle.rlsf_machine.specs.State.{State}
 use Rattle.rlsf_machine.proofs.CallerWords.{SeesSame, same_seen}
 use Rattle.rlsf_machine.proofs.Callers.{callers_see_map}
+use Rattle.rlsf_machine.proofs.SizedWords.{count_inserted, sized_inserted, sized_pool}
 use Rattle.rlsf_machine.proofs.Untouched.{IsFresh-untouched, untouched_inserted}
 use Rattle.rlsf_table.proofs.Parameters.{IsValid-widest}
 use Rattle.rlsf_blocks.specs.Laws.{read_from}
@@ -56,6 +57,12 @@ done g c =
     Steps-arrived stands c.insert.new.self.state (kept g c t step) c.args.self.now c.self.inside.memory c.self.inside.table c.self.inside.state.state c.self.view_is
     (λ old. Inserts g.row.FLLEN old c.args.range (reply c.insert_chunks-taken.result)) step spare
 
+stepped : (g : given.Over) (c : After-insert g) → Inserts g.row.FLLEN c.args.self.now.state c.args.range (reply c.insert_chunks-taken.result) (after g c).state
+stepped g c = (opened g.row.FLLEN g.row.SLLEN c.args.self.now (after g c) (Inserts g.row.FLLEN c.args.self.now.state c.args.range (reply c.insert_chunks-taken.result)) (done g c)).0
+
+fresh : (g : given.Over) (c : After-insert g) → IsFresh (range_of c.args.self.now.memory) c.args.self.now.state c.args.range
+fresh g c = IsFresh-untouched (range_of c.args.self.now.memory) c.args.self.now.state c.args.range c.requires.lies_in c.requires.untouched
+
 seen : (g : given.Over) (c : After-insert g) → SeesSame c.args.self.now.state (after g c).state
 seen g c =
     same_seen c.args.self.now.state (after g c).state
@@ -72,6 +79,10 @@ returns g c = record {
       (opened g.row.FLLEN g.row.SLLEN c.args.self.now (after g c) (Inserts g.row.FLLEN c.args.self.now.state c.args.range (reply c.insert_chunks-taken.result)) (done g c)).0;
   aligns = (seen g c).aligns;
   bytes = (seen g c).bytes;
+  count = count_inserted (view_well_formed c.self.invariant c.args.self.now c.self.view_is) (after g c).state c.args.range (reply c.insert_chunks-taken.result) (fresh g c) (stepped g c);
+  bounds = λ count size align sized. sized_inserted (view_well_formed c.self.invariant c.args.self.now c.self.view_is) (after g c).state count size align sized c.args.range (reply c.insert_chunks-taken.result) (fresh g c) (stepped g c);
+  pool = λ count size align len told at32 long idle.
+      sized_pool g.FLBitmap.BitPattern.width g.SLBitmap.BitPattern.width g.row.FLLEN g.row.SLLEN count size align len c.args.self.now.state (after g c).state c.args.range (reply c.insert_chunks-taken.result) c.self.invariant.valid told at32 long idle (stepped g c);
   refused = subst (λ (o : Allocator). IfNone c.insert_chunks-taken.result (c.insert_chunks-taken.new.memory.bytes ≡ o.memory.bytes)) c.self.view_is c.insert_chunks-taken.ensures.refused;
   place = subst (λ (o : Allocator). SamePlace o.memory c.insert_chunks-taken.new.memory) c.self.view_is c.insert_chunks-taken.ensures.place;
   touches = subst (λ (o : Allocator). c.insert_chunks-taken.new.memory.touches ≤ o.memory.touches + 13 * length (cut (max_pool_size g.row.FLLEN) (aligned_part c.args.range))) c.self.view_is c.insert_chunks-taken.ensures.touches;

@@ -49,6 +49,8 @@ returns g c =
         filled = λ w. (left w).filled;
         bytes = λ w. (left w).bytes;
         aligns = λ w. (left w).aligns;
+        count = λ w. (left w).count;
+        bounds = λ w. (left w).bounds;
         lengths = λ w. (left w).lengths ∙ ap length (bytes_at-held c.self.invariant.stands.well_formed addr u holds) ∙ ap length (sym is.bytes);
         rest = λ w. (left w).rest;
       },

@@ -1,14 +1,18 @@
-use Rattle.std.proofs.Common.{◌≡◌, ◌≢◌, ◌+◌, ◌<◌, ◌≤◌, ℕ, length, Some, None, arith, refl, sym, ◌∙◌, ap, subst, rules}
+use Rattle.std.proofs.Common.{◌≡◌, ◌≢◌, ◌+◌, ◌<◌, ◌≤◌, ℕ, length, Option, Some, None, IsSome, arith, refl, sym, ◌∙◌, ap, subst, rules}
+use Rattle.std.proofs.lemmas.Option.{none-some}
+use Rattle.std.specs.declared.num.NonZeroUsize.{NonZeroUsize}
 use Rattle.rlsf_base.specs.Addr.{at, reply}
 use Rattle.rlsf_machine.specs.Callers.{align_at, bytes_at}
 use Rattle.rlsf_machine.specs.Reallocate.{Keeps, Plan, Reallocates, in_place, into_next, or_else}
-use Rattle.rlsf_machine.specs.Run.{reallocate}
+use Rattle.rlsf_machine.specs.Run.{reallocate, IsSomeLive}
+use Rattle.rlsf_machine.specs.Sized.{IsSizedFor, live_count}
 use Rattle.rlsf_machine.specs.State.{State, Used, Holds}
 use Rattle.rlsf_machine.proofs.CallerWords.{SeesResized, align_at-live, resized_seen}
 use Rattle.rlsf_machine.proofs.Changes.{Holds-unique}
 use Rattle.rlsf_machine.proofs.Chunks.{chunks-reallocated}
 use Rattle.rlsf_machine.proofs.Determined.{refusal_changes_nothing}
 use Rattle.rlsf_machine.proofs.Payloads.{IsUsed-after_start}
+use Rattle.rlsf_machine.proofs.SizedWords.{count_resized, never_refused_again, sized_resized}
 use Rattle.rlsf_table.proofs.Parameters.{IsValid-widest}
 use Rattle.rlsf_blocks.specs.Laws.{read_from}
 use Rattle.rlsf_blocks.specs.Spare.{KeepsSpare}
@@ -147,6 +151,12 @@ returns-in_err-moved g c = record {
   new = none_some _ c.from_residual.result c.from_residual.ensures;
   aligns = none_some _ c.from_residual.result c.from_residual.ensures;
   bytes = none_some _ c.from_residual.result c.from_residual.ensures;
+  room = λ count size align sized few short fits.
+      absurd (never_refused_again (view_well_formed c.self.invariant c.args.self.now c.self.view_is) c.args.self.now.state count size align sized (at c.args.addr) c.args.layout.size c.args.layout.align c.requires few short fits
+      (subst (λ (o : Allocator). Reallocates g.row.SLLEN o.state (at c.args.addr) c.args.layout.size None o.state) c.self.view_is (staying g c).0));
+  count = ap live_count (arrived (staying g c).1 c.self.inside.state.state (sym (bare-kept c.self.invariant)) ∙ ap (λ (o : Allocator). o.state) c.self.view_is);
+  bounds = λ count size align sized short fits.
+      subst (IsSizedFor g.row.SLLEN count size align) (sym (arrived (staying g c).1 c.self.inside.state.state (sym (bare-kept c.self.invariant)) ∙ ap (λ (o : Allocator). o.state) c.self.view_is)) sized;
   chunks = ap (λ (o : Allocator). o.state.chunks) c.self.view_is;
   same = none_none c.from_residual.result (arrived (staying g c).1 c.self.inside.state.state (sym (bare-kept c.self.invariant)) ∙ ap (λ (o : Allocator). o.state) c.self.view_is);
   refused = none_none c.from_residual.result (c.in_err-moved.ensures.refused ∙ c.used_block-block.ensures.counts.bytes ∙ ap (λ (o : Allocator). o.memory.bytes) c.self.view_is);
@@ -170,6 +180,13 @@ returns-in_err-moved g c = record {
 
 -- ---- the counts of a payload with another size
 
+some_live : (g : given.Over) (c : After-new g) → IsSomeLive c.args.self.now.state (at c.args.addr)
+some_live g c = let (u, holds, is) = align_at-live c.args.self.now.state (at c.args.addr) c.args.layout.align c.requires in (u, holds)
+
+some_answer : (o : Option NonZeroUsize) (n : ℕ) → reply o ≡ Some n → IsSome o
+some_answer None n e = absurd (none-some n e)
+some_answer (Some x) n e = refl
+
 pub returns : goal.returns
 returns g c = record {
   step =
@@ -182,6 +199,13 @@ returns g c = record {
   new = on_some (λ to. to ≢ at c.args.addr → align_at c.args.self.now.state to ≡ None) c.new.result c.in_ok-moved.moved c.new.ensures (seen g c).new;
   aligns = on_some (λ to. (a : ℕ) → a ≢ at c.args.addr → a ≢ to → align_at (after g c).state a ≡ align_at c.args.self.now.state a) c.new.result c.in_ok-moved.moved c.new.ensures (seen g c).aligns;
   bytes = on_some (λ to. (a : ℕ) → a ≢ at c.args.addr → a ≢ to → bytes_at (after g c).state a ≡ bytes_at c.args.self.now.state a) c.new.result c.in_ok-moved.moved c.new.ensures (seen g c).bytes;
+  room = λ count size align sized few short fits. some_answer c.new.result c.in_ok-moved.moved ((number c.new.result c.in_ok-moved.moved c.new.ensures).1 (positive g c));
+  count =
+      count_resized (view_well_formed c.self.invariant c.args.self.now c.self.view_is) (after g c).state (at c.args.addr) c.args.layout.size (Some c.in_ok-moved.moved) (some_live g c)
+      (opened g.row.FLLEN g.row.SLLEN c.args.self.now (after g c) (Reallocates g.row.SLLEN c.args.self.now.state (at c.args.addr) c.args.layout.size (Some c.in_ok-moved.moved)) (done g c)).0;
+  bounds = λ count size align sized short fits.
+      sized_resized (view_well_formed c.self.invariant c.args.self.now c.self.view_is) (after g c).state count size align sized (at c.args.addr) c.args.layout.size c.args.layout.align (Some c.in_ok-moved.moved) c.requires short fits
+      (opened g.row.FLLEN g.row.SLLEN c.args.self.now (after g c) (Reallocates g.row.SLLEN c.args.self.now.state (at c.args.addr) c.args.layout.size (Some c.in_ok-moved.moved)) (done g c)).0;
   chunks =
       chunks-reallocated g.row.SLLEN c.args.self.now.state (after g c).state (at c.args.addr) c.args.layout.size (Some c.in_ok-moved.moved)
       (opened g.row.FLLEN g.row.SLLEN c.args.self.now (after g c) (Reallocates g.row.SLLEN c.args.self.now.state (at c.args.addr) c.args.layout.size (Some c.in_ok-moved.moved)) (done g c)).0;
