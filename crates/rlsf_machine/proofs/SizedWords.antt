@@ -12,11 +12,12 @@ use Rattle.rlsf_base.proofs.SizeMaps.PoolSizes.{max_pool_size-some}
 use Rattle.rlsf_machine.specs.Allocate.{Allocates}
 use Rattle.rlsf_machine.specs.Budget.{IsFront, IsModest}
 use Rattle.rlsf_machine.specs.Callers.{align_at}
-use Rattle.rlsf_machine.specs.Insert.{Inserts, IsFresh, aligned_part, cut}
+use Rattle.rlsf_machine.specs.Insert.{Appends, Inserts, IsFresh, IsNext, aligned_part, cut}
 use Rattle.rlsf_machine.specs.Lists.{IsIn}
 use Rattle.rlsf_machine.specs.Release.{Deallocates}
 use Rattle.rlsf_machine.specs.Reallocate.{Plan, Reallocates, ReallocatesBy, plan}
-use Rattle.rlsf_machine.specs.Run.{Event, insert, allocate, deallocate, reallocate, fill, Fills, IsSomeLive, Leads, MayCall}
+use Rattle.rlsf_machine.specs.Remove.{IsRemovable, Removes}
+use Rattle.rlsf_machine.specs.Run.{Event, insert, append, allocate, deallocate, reallocate, fill, remove, Fills, IsSomeLive, Leads, MayCall}
 use Rattle.rlsf_machine.specs.Sized.{IsSizedFor, live_count}
 use Rattle.rlsf_machine.specs.State.{State, Used, Holds, empty}
 use Rattle.rlsf_machine.specs.WellFormed.{IsWellFormed}
@@ -56,6 +57,14 @@ module _ {fllen sllen : ℕ} {memory : Range} {s : State} (w : IsWellFormed flle
   pub count_inserted : (r : Range) (reply : Option ℕ) → IsFresh memory s r → Inserts fllen s r reply t → live_count t ≡ live_count s
   unfolding live_count
   count_inserted r reply fresh step = live_is_counted fllen sllen memory s t (insert r reply) w fresh step
+
+  pub count_appended : (r : Range) (reply : ℕ) → IsNext memory s r → Appends fllen s r reply t → live_count t ≡ live_count s
+  unfolding live_count
+  count_appended r reply next step = live_is_counted fllen sllen memory s t (append r reply) w next step
+
+  pub count_removed : (r : Range) → IsRemovable s r → Removes s r t → live_count t ≡ live_count s
+  unfolding live_count
+  count_removed r removable step = live_is_counted fllen sllen memory s t (remove r) w removable step
 
   pub count_filled : (addr : ℕ) (bytes : List ℕ) → IsSomeLive s addr → Fills s addr bytes t → live_count t ≡ live_count s
   unfolding live_count
@@ -102,6 +111,9 @@ module _ {fllen sllen : ℕ} {memory : Range} {s : State} (w : IsWellFormed flle
 
     pub sized_inserted : (r : Range) (reply : Option ℕ) → IsFresh memory s r → Inserts fllen s r reply t → IsSizedFor sllen count size align t
     sized_inserted r reply fresh step = kept (insert r reply) fresh tt step
+
+    pub sized_appended : (r : Range) (reply : ℕ) → IsNext memory s r → Appends fllen s r reply t → IsSizedFor sllen count size align t
+    sized_appended r reply next step = kept (append r reply) next tt step
 
     pub sized_filled : (addr : ℕ) (bytes : List ℕ) → IsSomeLive s addr → Fills s addr bytes t → IsSizedFor sllen count size align t
     sized_filled addr bytes live step = kept (fill addr bytes) live tt step

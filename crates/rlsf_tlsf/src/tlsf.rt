@@ -166,6 +166,8 @@ impl<FLBitmap: BitPattern, SLBitmap: BitPattern, const FLLEN: usize, const SLLEN
         ensures untouched { (r : Range) → IsUntouched self.old.state.chunks r → AreApart range r → IsUntouched self.new.state.chunks r }
         ensures aligns { align_at self.new.state ≡ align_at self.old.state }
         ensures bytes { bytes_at self.new.state ≡ bytes_at self.old.state }
+        ensures count { live_count self.new.state ≡ live_count self.old.state }
+        ensures bounds { (count size align : ℕ) → IsSizedFor SLLEN count size align self.old.state → IsSizedFor SLLEN count size align self.new.state }
         ensures unchanged { result ≡ 0 → self.new.memory.bytes ≡ self.old.memory.bytes }
         ensures place { SamePlace self.old.memory self.new.memory }
         ensures touches { self.new.memory.touches ≤ self.old.memory.touches + (if is_some (max_pool_size FLLEN) then 13 * length (cut (max_pool_size FLLEN) (aligned_part range)) else 34) }
@@ -189,6 +191,7 @@ impl<FLBitmap: BitPattern, SLBitmap: BitPattern, const FLLEN: usize, const SLLEN
         ensures gone { IsUntouched self.new.state.chunks (walked range) }
         ensures aligns { align_at self.new.state ≡ align_at self.old.state }
         ensures bytes { bytes_at self.new.state ≡ bytes_at self.old.state }
+        ensures count { live_count self.new.state ≡ live_count self.old.state }
         ensures place { SamePlace self.old.memory self.new.memory }
         ensures touches { self.new.memory.touches + 9 * length self.new.state.chunks ≤ self.old.memory.touches + 9 * length self.old.state.chunks }
         ensures grow { self.old.memory.touches ≤ self.new.memory.touches }
@@ -343,6 +346,8 @@ impl<FLBitmap: BitPattern, SLBitmap: BitPattern, const FLLEN: usize, const SLLEN
         ensures kept { IfSome result (λ to. Keeps (bytes_at self.old.state (at addr)) (bytes_at self.new.state (at addr))) }
         ensures aligns { align_at self.new.state ≡ align_at self.old.state }
         ensures bytes { (a : ℕ) → a ≢ at addr → bytes_at self.new.state a ≡ bytes_at self.old.state a }
+        ensures count { live_count self.new.state ≡ live_count self.old.state }
+        ensures bounds { (count size align : ℕ) → IsSizedFor SLLEN count size align self.old.state → layout.size ≤ size → layout.align ≤ align → IsSizedFor SLLEN count size align self.new.state }
         ensures chunks { self.new.state.chunks ≡ self.old.state.chunks }
         ensures same { IfNone result (self.new.state ≡ self.old.state) }
         ensures refused { IfNone result (self.new.memory.bytes ≡ self.old.memory.bytes) }
@@ -422,6 +427,8 @@ impl<FLBitmap: BitPattern, SLBitmap: BitPattern, const FLLEN: usize, const SLLEN
         ensures filled { bytes_at self.new.state (at to) ≡ copied_over self.old.state (at from) (at to) len }
         ensures bytes { (a : ℕ) → a ≢ at to → bytes_at self.new.state a ≡ bytes_at self.old.state a }
         ensures aligns { align_at self.new.state ≡ align_at self.old.state }
+        ensures count { live_count self.new.state ≡ live_count self.old.state }
+        ensures bounds { (count size align : ℕ) → IsSizedFor SLLEN count size align self.old.state → IsSizedFor SLLEN count size align self.new.state }
         ensures chunks { self.new.state.chunks ≡ self.old.state.chunks }
         ensures place { SamePlace self.old.memory self.new.memory }
         ensures touches { self.new.memory.touches ≡ self.old.memory.touches }

@@ -6,6 +6,7 @@ use Rattle.rlsf_machine.specs.State.{State}
 use Rattle.rlsf_machine.proofs.AppendedRanges.{untouched_appended}
 use Rattle.rlsf_machine.proofs.CallerWords.{SeesSame, same_seen}
 use Rattle.rlsf_machine.proofs.Callers.{callers_see_map}
+use Rattle.rlsf_machine.proofs.SizedWords.{count_appended, sized_appended}
 use Rattle.rlsf_table.proofs.Parameters.{IsValid-widest}
 use Rattle.rlsf_blocks.specs.Laws.{read_from}
 use Rattle.rlsf_blocks.specs.Spare.{KeepsSpare}
@@ -53,6 +54,9 @@ done g c =
     Steps-arrived stands c.append.new.self.state (kept g c t step) c.args.self.now c.self.inside.memory c.self.inside.table c.self.inside.state.state c.self.view_is
     (λ old. Appends g.row.FLLEN old c.args.range c.append_chunks-taken.result) step spare
 
+stepped : (g : given.Over) (c : After-append g) → Appends g.row.FLLEN c.args.self.now.state c.args.range c.append_chunks-taken.result (after g c).state
+stepped g c = (opened g.row.FLLEN g.row.SLLEN c.args.self.now (after g c) (Appends g.row.FLLEN c.args.self.now.state c.args.range c.append_chunks-taken.result) (done g c)).0
+
 seen : (g : given.Over) (c : After-append g) → SeesSame c.args.self.now.state (after g c).state
 seen g c =
     same_seen c.args.self.now.state (after g c).state
@@ -68,6 +72,8 @@ returns g c = record {
       (opened g.row.FLLEN g.row.SLLEN c.args.self.now (after g c) (Appends g.row.FLLEN c.args.self.now.state c.args.range c.append_chunks-taken.result) (done g c)).0;
   aligns = (seen g c).aligns;
   bytes = (seen g c).bytes;
+  count = count_appended (view_well_formed c.self.invariant c.args.self.now c.self.view_is) (after g c).state c.args.range c.append_chunks-taken.result c.requires (stepped g c);
+  bounds = λ count size align sized. sized_appended (view_well_formed c.self.invariant c.args.self.now c.self.view_is) (after g c).state count size align sized c.args.range c.append_chunks-taken.result c.requires (stepped g c);
   unchanged = λ zero. c.append_chunks-taken.ensures.unchanged zero ∙ ap (λ (o : Allocator). o.memory.bytes) c.self.view_is;
   place = subst (λ (o : Allocator). SamePlace o.memory c.append_chunks-taken.new.memory) c.self.view_is c.append_chunks-taken.ensures.place;
   touches = subst (λ (o : Allocator). c.append_chunks-taken.new.memory.touches ≤ o.memory.touches + (if is_some (max_pool_size g.row.FLLEN) then 13 * length (cut (max_pool_size g.row.FLLEN) (aligned_part c.args.range)) else 34)) c.self.view_is c.append_chunks-taken.ensures.touches;

@@ -3,10 +3,11 @@ use Rattle.rlsf_base.specs.Addr.{at}
 use Rattle.rlsf_base.specs.Range.{range_at}
 use Rattle.rlsf_base.specs.Space.{Space, bytes_in, with_bytes, SamePlace}
 use Rattle.rlsf_machine.specs.Callers.{bytes_at}
-use Rattle.rlsf_machine.specs.Run.{Fills}
+use Rattle.rlsf_machine.specs.Run.{Fills, IsSomeLive}
 use Rattle.rlsf_machine.specs.State.{State, with_front}
 use Rattle.rlsf_machine.proofs.CallerWords.{SeesFilled, filled_seen}
 use Rattle.rlsf_machine.proofs.Chunks.{chunks-filled}
+use Rattle.rlsf_machine.proofs.SizedWords.{count_filled, sized_filled}
 use Rattle.rlsf_blocks.specs.Laws.{read_from}
 use Rattle.rlsf_blocks.specs.Spare.{KeepsSpare}
 use Rattle.rlsf_blocks.specs.StandsFor.{contents, StandsFor}
@@ -84,6 +85,13 @@ done g c =
     Steps-arrived stands c.self.inside.state.state (kept g c t (front g c) fills) c.args.self.now c.self.inside.memory c.self.inside.table c.self.inside.state.state c.self.view_is
     (λ old. Fills old (at c.args.to) (front g c)) fills spare
 
+stepped : (g : given.Over) (c : After-copy_within g) → Fills c.args.self.now.state (at c.args.to) (front g c) (after g c).state
+stepped g c = (opened g.row.FLLEN g.row.SLLEN c.args.self.now (after g c) (Fills c.args.self.now.state (at c.args.to) (front g c)) (done g c)).0
+
+-- a payload is live where the bytes went
+live : (g : given.Over) (c : After-copy_within g) → IsSomeLive c.args.self.now.state (at c.args.to)
+live g c = let fills = stepped g c in (fills.block, fills.holds)
+
 seen : (g : given.Over) (c : After-copy_within g) → SeesFilled c.args.self.now.state (after g c).state (at c.args.to) (front g c)
 seen g c =
     filled_seen (view_well_formed c.self.invariant c.args.self.now c.self.view_is) (after g c).state (at c.args.to) (front g c)
@@ -95,6 +103,12 @@ returns g c = record {
   filled = (seen g (goal.at.returns g c).After-copy_within).here;
   bytes = (seen g (goal.at.returns g c).After-copy_within).bytes;
   aligns = λ i a. (seen g (goal.at.returns g c).After-copy_within).aligns a i;
+  count =
+      let before = (goal.at.returns g c).After-copy_within in
+      count_filled (view_well_formed c.self.invariant c.args.self.now c.self.view_is) (after g before).state (at c.args.to) (front g before) (live g before) (stepped g before);
+  bounds = λ count size align sized.
+      let before = (goal.at.returns g c).After-copy_within in
+      sized_filled (view_well_formed c.self.invariant c.args.self.now c.self.view_is) (after g before).state count size align sized (at c.args.to) (front g before) (live g before) (stepped g before);
   chunks =
       let before = (goal.at.returns g c).After-copy_within in
       chunks-filled c.args.self.now.state (after g before).state (at c.args.to) (front g before)

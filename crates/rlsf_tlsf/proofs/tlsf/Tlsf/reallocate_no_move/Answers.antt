@@ -4,10 +4,12 @@ use Rattle.rlsf_base.specs.Addr.{at}
 use Rattle.rlsf_machine.specs.Callers.{align_at, bytes_at}
 use Rattle.rlsf_machine.specs.NoMove.{ReallocatesUnmovedBy, ReallocatesWithoutMove}
 use Rattle.rlsf_machine.specs.Reallocate.{Reallocates, Replans}
+use Rattle.rlsf_machine.specs.Sized.{IsSizedFor, live_count}
 use Rattle.rlsf_machine.specs.State.{State}
 use Rattle.rlsf_machine.proofs.CallerWords.{SeesResized, align_at-live, resized_seen}
 use Rattle.rlsf_machine.proofs.Coverage.{by_test}
 use Rattle.rlsf_machine.proofs.NoMove.{unmoved_is_reallocated}
+use Rattle.rlsf_machine.proofs.SizedWords.{count_resized, sized_resized}
 use Rattle.rlsf_table.proofs.Parameters.{IsValid-widest}
 use Rattle.rlsf_blocks.specs.Laws.{read_from}
 use Rattle.rlsf_blocks.specs.Spare.{KeepsSpare}
@@ -142,6 +144,8 @@ returns-then-not-resize_block g c = record {
   kept = tt;
   aligns = ap align_at (arrived (stands g c) c.self.inside.state.state (sym (bare-kept c.self.invariant)) ∙ ap (λ (o : Allocator). o.state) c.self.view_is);
   bytes = λ a apart. ap (λ s. bytes_at s a) (same g c);
+  count = ap live_count (same g c);
+  bounds = λ count size align sized short fits. subst (IsSizedFor g.row.SLLEN count size align) (sym (same g c)) sized;
   chunks = ap (λ (o : Allocator). o.state.chunks) c.self.view_is;
   same = same g c;
   refused = (c.resize_block.ensures.unchanged c.if-not-resize_block.true).0.bytes ∙ c.used_block-block.ensures.counts.bytes ∙ ap (λ (o : Allocator). o.memory.bytes) c.self.view_is;
@@ -163,6 +167,9 @@ returns g c = record {
   kept = (seen g c).kept;
   aligns = λ i a. aligned g c a i;
   bytes = λ a apart. (seen g c).bytes a apart apart;
+  count = let r = reached g c in count_resized (view_well_formed c.self.invariant c.args.self.now c.self.view_is) (after g c).state (at c.args.addr) c.args.layout.size (Some (at c.args.addr)) (r.block, r.holds) r;
+  bounds = λ count size align sized short fits.
+      sized_resized (view_well_formed c.self.invariant c.args.self.now c.self.view_is) (after g c).state count size align sized (at c.args.addr) c.args.layout.size c.args.layout.align (Some (at c.args.addr)) c.requires short fits (reached g c);
   chunks = chunks-reallocated g.row.SLLEN c.args.self.now.state (after g c).state (at c.args.addr) c.args.layout.size (Some (at c.args.addr)) (reached g c);
   same = tt;
   refused = tt;

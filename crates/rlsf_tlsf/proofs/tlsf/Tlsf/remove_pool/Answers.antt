@@ -5,6 +5,7 @@ use Rattle.rlsf_machine.specs.Remove.{IsIdle, Removes, removed}
 use Rattle.rlsf_machine.specs.Run.{remove}
 use Rattle.rlsf_machine.proofs.CallerWords.{SeesSame, same_seen}
 use Rattle.rlsf_machine.proofs.Callers.{callers_see_map}
+use Rattle.rlsf_machine.proofs.SizedWords.{count_removed}
 use Rattle.rlsf_table.proofs.Parameters.{IsValid-widest}
 use Rattle.rlsf_blocks.specs.Blocks.{walked}
 use Rattle.rlsf_blocks.specs.Laws.{read_from}
@@ -72,6 +73,9 @@ returns g c = record {
       untouched_gone w (walked c.args.range) c.requires.row c.requires.idle (after g c).state (stepped g c);
   aligns = (seen g c).aligns;
   bytes = (seen g c).bytes;
+  count =
+      let w = view_well_formed c.self.invariant c.args.self.now c.self.view_is in
+      count_removed w (after g c).state (walked c.args.range) (IsRemovable-row w (walked c.args.range) c.requires.row c.requires.idle) (stepped g c);
   place = subst (λ (o : Allocator). SamePlace o.memory c.remove_chunks.new.memory) c.self.view_is c.remove_chunks.ensures.place;
   touches = search rules;
   grow = subst (λ (o : Allocator). o.memory.touches ≤ c.remove_chunks.new.memory.touches) c.self.view_is c.remove_chunks.ensures.grow;
