@@ -5,6 +5,7 @@ ghost use Rattle.rlsf_machine.specs.Laws.{SourceLaws, StepLaws};
 ghost use Rattle.rlsf_machine.specs.Sizing.{SizingLaws};
 ghost use Rattle.rlsf_blocks.specs.Laws.{WordsGiveBlock, WordsReadNoPayload};
 
+mod bitmaps;
 mod state;
 mod tlsf;
 

@@ -2,7 +2,6 @@
 
 ghost use Rattle.std.specs.Borrow.{sem};
 ghost use Rattle.std.specs.Prelude.{◌≡◌, ◌≢◌, ◌≤◌, ◌<◌, ◌+◌, ◌*◌, ◌%◌, ℕ, List, [], Option, Some, None, length, is_some, IfNone, IfSome, IsSome, if◌then◌else◌};
-ghost use Rattle.std.specs.List.{list_any};
 ghost use Rattle.std.specs.Map.Iter.{GivesInOrder};
 ghost use Rattle.rlsf_base.specs.Addr.{at, reply};
 ghost use Rattle.rlsf_base.specs.declared.memory.range.Range.{Range};
@@ -10,8 +9,7 @@ ghost use Rattle.rlsf_base.specs.Range.{AreApart, LiesIn, end_of};
 ghost use Rattle.rlsf_base.specs.SizeClass.{IsValid};
 ghost use Rattle.rlsf_base.specs.Sizes.{max_pool_size, pool_size_for_payloads};
 ghost use Rattle.rlsf_base.specs.Space.{range_of, with_word, SamePlace};
-ghost use Rattle.rlsf_int.specs.Bits.{bit};
-ghost use Rattle.rlsf_machine.specs.Allocate.{Allocates, has_class};
+ghost use Rattle.rlsf_machine.specs.Allocate.{Allocates};
 ghost use Rattle.rlsf_machine.specs.Callers.{align_at, bytes_at, copied_over};
 ghost use Rattle.rlsf_machine.specs.ChunkRows.{IsRow};
 ghost use Rattle.rlsf_machine.specs.Insert.{Appends, Inserts, IsNext, IsUntouched, aligned_part, cut};
@@ -23,7 +21,7 @@ ghost use Rattle.rlsf_machine.specs.Remove.{IsIdle, Removes};
 ghost use Rattle.rlsf_machine.specs.Run.{Fills};
 ghost use Rattle.rlsf_machine.specs.Sized.{IsSizedFor, live_count};
 ghost use Rattle.rlsf_machine.specs.State.{empty};
-ghost use Rattle.rlsf_table.specs.Table.{class_at, is_in_row, newest_of, of_class};
+ghost use Rattle.rlsf_table.specs.Table.{newest_of, of_class};
 ghost use Rattle.rlsf_blocks.specs.Blocks.{AreBlocks, walked};
 ghost use Rattle.rlsf_blocks.specs.Spare.{IsSpareWord, KeepsSpare};
 
@@ -33,7 +31,7 @@ use rlsf_blocks::{
     BlockInfo, Blocks, allocate_block, append_chunks, chunk_end, deallocate_block, insert_chunks,
     load_block_of, load_usable_bytes, remove_chunks, usable_bytes, used_block, walk_blocks,
 };
-use rlsf_int::{BitPattern, Bitmap};
+use rlsf_int::BitPattern;
 use rlsf_reallocate::{reallocate_block, resize_block};
 use rlsf_table::ClassTable;
 use std::marker::{Model, PhantomData};
@@ -48,7 +46,7 @@ pub struct Tlsf<
     const SLLEN: usize,
 > {
     memory: Memory,
-    table: ClassTable<FLLEN, SLLEN>,
+    pub(crate) table: ClassTable<FLLEN, SLLEN>,
     state: GhostState,
     // Of no element. A type that has an array beside a type parameter is known to be below 2^63 bytes, whatever else it holds.
     bitmaps: [PhantomData<(FLBitmap, SLBitmap)>; 0],
@@ -118,7 +116,8 @@ impl<FLBitmap: BitPattern, SLBitmap: BitPattern, const FLLEN: usize, const SLLEN
         ensures bytes { bytes_at self.new.state ≡ bytes_at self.old.state }
         ensures count { live_count self.new.state ≡ live_count self.old.state }
         ensures bounds { (count size align : ℕ) → IsSizedFor SLLEN count size align self.old.state → IsSizedFor SLLEN count size align self.new.state }
-        ensures pool { (count size align len : ℕ) → pool_size_for_payloads FLLEN SLLEN count size align ≡ Some len → range.start % 32 ≡ 0 → len ≤ range.len → live_count self.old.state ≡ 0 → IsSizedFor SLLEN count size align self.new.state }
+        ensures pool { (count size align len : ℕ) → pool_size_for_payloads FLLEN SLLEN count size align ≡ Some len → range.start % 32 ≡ 0 → len ≤ range.len
+            → live_count self.old.state ≡ 0 → IsSizedFor SLLEN count size align self.new.state }
         ensures refused { IfNone result (self.new.memory.bytes ≡ self.old.memory.bytes) }
         ensures place { SamePlace self.old.memory self.new.memory }
         ensures touches { self.new.memory.touches ≤ self.old.memory.touches + 13 * length (cut (max_pool_size FLLEN) (aligned_part range)) }
@@ -143,7 +142,8 @@ impl<FLBitmap: BitPattern, SLBitmap: BitPattern, const FLLEN: usize, const SLLEN
         ensures bytes { bytes_at self.new.state ≡ bytes_at self.old.state }
         ensures count { live_count self.new.state ≡ live_count self.old.state }
         ensures bounds { (count size align : ℕ) → IsSizedFor SLLEN count size align self.old.state → IsSizedFor SLLEN count size align self.new.state }
-        ensures pool { (count size align len : ℕ) → pool_size_for_payloads FLLEN SLLEN count size align ≡ Some len → range.start % 32 ≡ 0 → len ≤ range.len → live_count self.old.state ≡ 0 → IsSizedFor SLLEN count size align self.new.state }
+        ensures pool { (count size align len : ℕ) → pool_size_for_payloads FLLEN SLLEN count size align ≡ Some len → range.start % 32 ≡ 0 → len ≤ range.len
+            → live_count self.old.state ≡ 0 → IsSizedFor SLLEN count size align self.new.state }
         ensures unchanged { cut (max_pool_size FLLEN) (aligned_part range) ≡ [] → self.new.memory.bytes ≡ self.old.memory.bytes }
         ensures place { SamePlace self.old.memory self.new.memory }
         ensures touches { self.new.memory.touches ≤ self.old.memory.touches + 13 * length (cut (max_pool_size FLLEN) (aligned_part range)) }
@@ -489,29 +489,5 @@ impl<FLBitmap: BitPattern, SLBitmap: BitPattern, const FLLEN: usize, const SLLEN
         ensures stands { Stands FLLEN SLLEN self.now }
     {
         &self.memory
-    }
-}
-
-impl<FLBitmap: Bitmap, SLBitmap: Bitmap, const FLLEN: usize, const SLLEN: usize> Tlsf<
-    FLBitmap,
-    SLBitmap,
-    FLLEN,
-    SLLEN,
-> {
-    /// The first-level bitmap: a row's position has a one exactly where a block is free whose class is in the row.
-    pub fn fl_bitmap(&self) -> FLBitmap
-        ensures { (fl : ℕ) → bit (FLBitmap.pattern result) fl ≡ list_any (is_in_row SLLEN fl) self.now.state.free }
-    {
-        self.table.fl_bitmap()
-    }
-
-    /// The second-level bitmap of a row: a class's position has a one exactly where a block of the class is free.
-    ///
-    /// The row is below `FLLEN`.
-    pub fn sl_bitmap(&self, fl: usize) -> SLBitmap
-        requires { fl < FLLEN }
-        ensures { (sl : ℕ) → bit (SLBitmap.pattern result) sl ≡ list_any (has_class SLLEN (class_at fl sl)) self.now.state.free }
-    {
-        self.table.sl_bitmap(fl)
     }
 }
