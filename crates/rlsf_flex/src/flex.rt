@@ -18,6 +18,7 @@ ghost use Rattle.rlsf_machine.specs.NoMove.{ReallocatesWithoutMove};
 ghost use Rattle.rlsf_machine.specs.Reallocate.{HasRoomToResize, HasRoomToStay, Keeps};
 ghost use Rattle.rlsf_machine.specs.Release.{Deallocates};
 ghost use Rattle.rlsf_machine.specs.Run.{Fills};
+ghost use Rattle.rlsf_machine.specs.Sized.{IsSizedFor, live_count};
 ghost use Rattle.rlsf_machine.specs.Trim.{Trims};
 
 use crate::end::{give_back, newest_range};
@@ -84,6 +85,7 @@ impl<
         requires nothing_owed { S.owes source [] }
         requires space { LiesIn (S.terms source).space memory.start (length memory.bytes) }
         ensures state { result.state ≡ empty }
+        ensures count { live_count result.state.machine ≡ 0 }
         ensures stands { FlexStands FLLEN SLLEN S.terms S.owes result }
         ensures source { result.source ≡ source }
         ensures memory { result.memory ≡ memory }
@@ -133,6 +135,8 @@ impl<
     /// Bytes outside of the outstanding ranges stay, and so do those that no block is made of, but for the newest range's footer
     /// where memory came and the source takes ranges back. `None` exactly where there is no room and no memory came; nothing is
     /// asked where no pool would do. Then the pools and all bytes are as they were, and only the source was asked.
+    ///
+    /// Within bounds that the pools are sized for (`IsSizedFor`) it is never refused, and the source is asked nothing.
     pub fn allocate(&mut self, layout: Layout) -> Option<Addr>
         ensures step { FlexSteps FLLEN SLLEN S.terms S.owes S.leads self.old self.new
             (FlexAllocates FLLEN SLLEN (S.terms self.old.source) self.old.state layout.size layout.align (reply result)) }
@@ -142,6 +146,13 @@ impl<
         ensures new { IfSome result (λ addr. align_at self.old.state.machine (at addr) ≡ None) }
         ensures aligns { IfSome result (λ addr. (a : ℕ) → a ≢ at addr → align_at self.new.state.machine a ≡ align_at self.old.state.machine a) }
         ensures bytes { IfSome result (λ addr. (a : ℕ) → a ≢ at addr → bytes_at self.new.state.machine a ≡ bytes_at self.old.state.machine a) }
+        ensures room { (count size align : ℕ) → IsSizedFor SLLEN count size align self.old.state.machine → live_count self.old.state.machine ≤ count
+            → layout.size ≤ size → layout.align ≤ align → IsSome result }
+        ensures unasked { (count size align : ℕ) → IsSizedFor SLLEN count size align self.old.state.machine → live_count self.old.state.machine ≤ count
+            → layout.size ≤ size → layout.align ≤ align → self.new.source ≡ self.old.source }
+        ensures count { IfSome result (λ addr. live_count self.new.state.machine ≡ live_count self.old.state.machine + 1) }
+        ensures bounds { (count size align : ℕ) → IsSizedFor SLLEN count size align self.old.state.machine → layout.size ≤ size → layout.align ≤ align
+            → IsSizedFor SLLEN count size align self.new.state.machine }
         ensures same { IfNone result (self.new.state ≡ self.old.state) }
         ensures refused { IfNone result (self.new.memory.bytes ≡ self.old.memory.bytes) }
         ensures place { SamePlace self.old.memory self.new.memory }
@@ -172,6 +183,8 @@ impl<
     pub fn deallocate(&mut self, addr: Addr, align: usize)
         requires { align_at self.old.state.machine (at addr) ≡ Some align }
         ensures step { StepsAlone FLLEN SLLEN S.terms S.owes self.old self.new (Deallocates self.old.state.machine (at addr)) }
+        ensures count { live_count self.old.state.machine ≡ live_count self.new.state.machine + 1 }
+        ensures bounds { (count size align : ℕ) → IsSizedFor SLLEN count size align self.old.state.machine → IsSizedFor SLLEN count size align self.new.state.machine }
         ensures chunks { self.new.state.machine.chunks ≡ self.old.state.machine.chunks }
         ensures gone { align_at self.new.state.machine (at addr) ≡ None }
         ensures aligns { (a : ℕ) → a ≢ at addr → align_at self.new.state.machine a ≡ align_at self.old.state.machine a }
@@ -192,6 +205,8 @@ impl<
     pub fn deallocate_unknown_align(&mut self, addr: Addr)
         requires { IsSome (align_at self.old.state.machine (at addr)) }
         ensures step { StepsAlone FLLEN SLLEN S.terms S.owes self.old self.new (Deallocates self.old.state.machine (at addr)) }
+        ensures count { live_count self.old.state.machine ≡ live_count self.new.state.machine + 1 }
+        ensures bounds { (count size align : ℕ) → IsSizedFor SLLEN count size align self.old.state.machine → IsSizedFor SLLEN count size align self.new.state.machine }
         ensures chunks { self.new.state.machine.chunks ≡ self.old.state.machine.chunks }
         ensures gone { align_at self.new.state.machine (at addr) ≡ None }
         ensures aligns { (a : ℕ) → a ≢ at addr → align_at self.new.state.machine a ≡ align_at self.old.state.machine a }
@@ -212,6 +227,8 @@ impl<
     /// where memory came and the source takes ranges back. `None` exactly where there is no room and no memory came. Then the
     /// payload, the pools and all bytes are as they were, and only the source was asked.
     ///
+    /// Within bounds that the pools are sized for (`IsSizedFor`) it is never refused, and the source is asked nothing.
+    ///
     /// The address is live, with the layout's alignment.
     pub fn reallocate(&mut self, addr: Addr, layout: Layout) -> Option<Addr>
         requires { align_at self.old.state.machine (at addr) ≡ Some layout.align }
@@ -224,6 +241,13 @@ impl<
         ensures new { IfSome result (λ to. at to ≢ at addr → align_at self.old.state.machine (at to) ≡ None) }
         ensures aligns { IfSome result (λ to. (a : ℕ) → a ≢ at addr → a ≢ at to → align_at self.new.state.machine a ≡ align_at self.old.state.machine a) }
         ensures bytes { IfSome result (λ to. (a : ℕ) → a ≢ at addr → a ≢ at to → bytes_at self.new.state.machine a ≡ bytes_at self.old.state.machine a) }
+        ensures room { (count size align : ℕ) → IsSizedFor SLLEN count size align self.old.state.machine → live_count self.old.state.machine ≤ count
+            → layout.size ≤ size → layout.align ≤ align → IsSome result }
+        ensures unasked { (count size align : ℕ) → IsSizedFor SLLEN count size align self.old.state.machine → live_count self.old.state.machine ≤ count
+            → layout.size ≤ size → layout.align ≤ align → self.new.source ≡ self.old.source }
+        ensures count { live_count self.new.state.machine ≡ live_count self.old.state.machine }
+        ensures bounds { (count size align : ℕ) → IsSizedFor SLLEN count size align self.old.state.machine → layout.size ≤ size → layout.align ≤ align
+            → IsSizedFor SLLEN count size align self.new.state.machine }
         ensures same { IfNone result (self.new.state ≡ self.old.state) }
         ensures refused { IfNone result (self.new.memory.bytes ≡ self.old.memory.bytes) }
         ensures place { SamePlace self.old.memory self.new.memory }
@@ -266,6 +290,9 @@ impl<
         ensures kept { IfSome result (λ to. Keeps (bytes_at self.old.state.machine (at addr)) (bytes_at self.new.state.machine (at addr))) }
         ensures aligns { align_at self.new.state.machine ≡ align_at self.old.state.machine }
         ensures bytes { (a : ℕ) → a ≢ at addr → bytes_at self.new.state.machine a ≡ bytes_at self.old.state.machine a }
+        ensures count { live_count self.new.state.machine ≡ live_count self.old.state.machine }
+        ensures bounds { (count size align : ℕ) → IsSizedFor SLLEN count size align self.old.state.machine → layout.size ≤ size → layout.align ≤ align
+            → IsSizedFor SLLEN count size align self.new.state.machine }
         ensures chunks { self.new.state.machine.chunks ≡ self.old.state.machine.chunks }
         ensures same { IfNone result (self.new.state ≡ self.old.state) }
         ensures refused { IfNone result (self.new.memory.bytes ≡ self.old.memory.bytes) }
@@ -312,6 +339,9 @@ impl<
         ensures filled { (w : List ℕ) → length w ≡ length result.now → bytes_at (written self.old (at addr) (length result.now) w).state.machine (at addr) ≡ w }
         ensures bytes { (w : List ℕ) (a : ℕ) → a ≢ at addr → bytes_at (written self.old (at addr) (length result.now) w).state.machine a ≡ bytes_at self.old.state.machine a }
         ensures aligns { (w : List ℕ) → align_at (written self.old (at addr) (length result.now) w).state.machine ≡ align_at self.old.state.machine }
+        ensures count { (w : List ℕ) → live_count (written self.old (at addr) (length result.now) w).state.machine ≡ live_count self.old.state.machine }
+        ensures bounds { (w : List ℕ) (count size align : ℕ) → IsSizedFor SLLEN count size align self.old.state.machine
+            → IsSizedFor SLLEN count size align (written self.old (at addr) (length result.now) w).state.machine }
         ensures lengths { (w : List ℕ) → length (bytes_at (written self.old (at addr) (length result.now) w).state.machine (at addr)) ≡ length result.now }
         ensures rest { (w : List ℕ) → LeavesRest FLLEN SLLEN S.terms S.owes self.old (written self.old (at addr) (length result.now) w) }
     {
@@ -329,6 +359,8 @@ impl<
         ensures filled { bytes_at self.new.state.machine (at to) ≡ copied_over self.old.state.machine (at from) (at to) len }
         ensures bytes { (a : ℕ) → a ≢ at to → bytes_at self.new.state.machine a ≡ bytes_at self.old.state.machine a }
         ensures aligns { align_at self.new.state.machine ≡ align_at self.old.state.machine }
+        ensures count { live_count self.new.state.machine ≡ live_count self.old.state.machine }
+        ensures bounds { (count size align : ℕ) → IsSizedFor SLLEN count size align self.old.state.machine → IsSizedFor SLLEN count size align self.new.state.machine }
         ensures chunks { self.new.state.machine.chunks ≡ self.old.state.machine.chunks }
         ensures source { self.new.source ≡ self.old.source }
         ensures place { SamePlace self.old.memory self.new.memory }
@@ -350,6 +382,7 @@ impl<
         ensures spare { KeepsSpare self.old.memory self.old.state.machine self.new.memory self.new.state.machine }
         ensures aligns { align_at self.new.state.machine ≡ align_at self.old.state.machine }
         ensures bytes { bytes_at self.new.state.machine ≡ bytes_at self.old.state.machine }
+        ensures count { live_count self.new.state.machine ≡ live_count self.old.state.machine }
         ensures same { result ≡ 0 → self.new ≡ self.old }
         ensures place { SamePlace self.old.memory self.new.memory }
         ensures touches { self.new.memory.touches + 9 * length self.new.state.machine.chunks ≤ self.old.memory.touches + 9 * length self.old.state.machine.chunks }

@@ -13,6 +13,7 @@ ghost use Rattle.rlsf_machine.specs.Callers.{align_at, bytes_at};
 ghost use Rattle.rlsf_machine.specs.Growth.{keeps, range_length};
 ghost use Rattle.rlsf_machine.specs.PoolLength.{IsPoolSize};
 ghost use Rattle.rlsf_machine.specs.Reallocate.{Keeps};
+ghost use Rattle.rlsf_machine.specs.Sized.{IsSizedFor, live_count};
 
 use crate::footers::{read_footer, write_footer};
 use crate::pool::Pool;
@@ -64,7 +65,7 @@ fn ask_range<S: FlexSource, const FLLEN: usize, const SLLEN: usize>(
     requires stands { FlexStandsFor FLLEN SLLEN S.terms S.owes (flex_over tlsf.old kept.old source.old owed.old) }
     ensures step { AskedRange FLLEN SLLEN S.terms S.owes S.leads (flex_over tlsf.old kept.old source.old owed.old)
         (flex_over tlsf.new kept.new source.new owed.new) wanted result }
-    ensures payloads { KeepsPayloads tlsf.old tlsf.new }
+    ensures payloads { KeepsPayloads SLLEN tlsf.old tlsf.new }
     ensures refused { IfNone result (IsAsBefore tlsf.old tlsf.new) }
 {
     let len = range_len(source, wanted)?;
@@ -100,7 +101,7 @@ fn ask_growth<S: FlexSource, const FLLEN: usize, const SLLEN: usize>(
     requires stands { FlexStandsFor FLLEN SLLEN S.terms S.owes (flex_over tlsf.old kept.old source.old owed.old) }
     ensures step { AskedGrowth FLLEN SLLEN S.terms S.owes S.leads (flex_over tlsf.old kept.old source.old owed.old)
         (flex_over tlsf.new kept.new source.new owed.new) (kept_pool pool) len wanted result }
-    ensures payloads { KeepsPayloads tlsf.old tlsf.new }
+    ensures payloads { KeepsPayloads SLLEN tlsf.old tlsf.new }
     ensures refused { IfNone result (IsAsBefore tlsf.old tlsf.new) }
 {
     let grows = source.supports_realloc_inplace_grow();
@@ -142,7 +143,7 @@ pub(crate) fn extend<S: FlexSource, const FLLEN: usize, const SLLEN: usize>(
     requires stands { FlexStandsFor FLLEN SLLEN S.terms S.owes (flex_over tlsf.old kept.old source.old owed.old) }
     ensures step { Extended FLLEN SLLEN S.terms S.owes S.leads (flex_over tlsf.old kept.old source.old owed.old)
         (flex_over tlsf.new kept.new source.new owed.new) wanted result }
-    ensures payloads { KeepsPayloads tlsf.old tlsf.new }
+    ensures payloads { KeepsPayloads SLLEN tlsf.old tlsf.new }
     ensures refused { result ≡ false → IsAsBefore tlsf.old tlsf.new }
 {
     let Some(pool) = *kept else {
@@ -179,6 +180,9 @@ pub(crate) fn move_payload<const FLLEN: usize, const SLLEN: usize>(
     ensures new { IfSome result (λ to. align_at tlsf.old.state (at to) ≡ None) }
     ensures aligns { IfSome result (λ to. (a : ℕ) → a ≢ at addr → a ≢ at to → align_at tlsf.new.state a ≡ align_at tlsf.old.state a) }
     ensures bytes { IfSome result (λ to. (a : ℕ) → a ≢ at addr → a ≢ at to → bytes_at tlsf.new.state a ≡ bytes_at tlsf.old.state a) }
+    ensures count { live_count tlsf.new.state ≡ live_count tlsf.old.state }
+    ensures bounds { (count size align : ℕ) → IsSizedFor SLLEN count size align tlsf.old.state → layout.size ≤ size → layout.align ≤ align
+        → IsSizedFor SLLEN count size align tlsf.new.state }
     ensures place { SamePlace tlsf.old.memory tlsf.new.memory }
     ensures grow { tlsf.old.memory.touches ≤ tlsf.new.memory.touches }
     ensures grow_copied { tlsf.old.memory.copied ≤ tlsf.new.memory.copied }

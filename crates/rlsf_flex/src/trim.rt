@@ -12,6 +12,7 @@ ghost use Rattle.rlsf_machine.specs.Callers.{align_at, bytes_at};
 ghost use Rattle.rlsf_machine.specs.ChunkRows.{IsRow};
 ghost use Rattle.rlsf_machine.specs.FlexWellFormed.{IsPool};
 ghost use Rattle.rlsf_machine.specs.Remove.{IsIdle};
+ghost use Rattle.rlsf_machine.specs.Sized.{live_count};
 ghost use Rattle.rlsf_machine.specs.Trim.{IsNewestHeld};
 ghost use Rattle.rlsf_tlsf.specs.Allocator.{Stands};
 
@@ -90,6 +91,7 @@ fn give_newest_back<S: FlexSource, const FLLEN: usize, const SLLEN: usize>(
         (flex_over tlsf.new kept.new source.new owed.new) }
     ensures held { result ≡ false → IsNewestHeld tlsf.old.state owed.old.ranges }
     ensures same { result ≡ false → flex_over tlsf.new kept.new source.new owed.new ≡ flex_over tlsf.old kept.old source.old owed.old }
+    ensures live { live_count tlsf.new.state ≡ live_count tlsf.old.state }
     ensures aligns { align_at tlsf.new.state ≡ align_at tlsf.old.state }
     ensures bytes { bytes_at tlsf.new.state ≡ bytes_at tlsf.old.state }
     ensures touches { tlsf.new.memory.touches + 9 * length tlsf.new.state.chunks ≤ tlsf.old.memory.touches + 9 * length tlsf.old.state.chunks }
@@ -128,6 +130,7 @@ pub(crate) fn give_idle_back<S: FlexSource, const FLLEN: usize, const SLLEN: usi
         (flex_over tlsf.new kept.new source.new owed.new) result }
     ensures held { IsNewestHeld tlsf.new.state owed.new.ranges }
     ensures same { result ≡ 0 → flex_over tlsf.new kept.new source.new owed.new ≡ flex_over tlsf.old kept.old source.old owed.old }
+    ensures live { live_count tlsf.new.state ≡ live_count tlsf.old.state }
     ensures aligns { align_at tlsf.new.state ≡ align_at tlsf.old.state }
     ensures bytes { bytes_at tlsf.new.state ≡ bytes_at tlsf.old.state }
     ensures touches { tlsf.new.memory.touches + 9 * length tlsf.new.state.chunks ≤ tlsf.old.memory.touches + 9 * length tlsf.old.state.chunks }

@@ -14,6 +14,7 @@ use Rattle.rlsf_machine.specs.FlexState.{FlexState, KeptPool}
 use Rattle.rlsf_machine.specs.Growth.{Extends, Outcome, TakesIn, range_came, growth_came, growth_note, growth_question, is_more, range_length, range_note, refused}
 use Rattle.rlsf_machine.specs.Note.{Note, LeadsBy, alloc, grow}
 use Rattle.rlsf_machine.specs.Reallocate.{MovesAway}
+use Rattle.rlsf_machine.specs.Sized.{IsSizedFor, live_count}
 use Rattle.rlsf_machine.specs.State.{Used, Holds}
 use Rattle.rlsf_machine.specs.Terms.{Terms}
 use Rattle.rlsf_machine.specs.PoolLength.{HasPool}
@@ -48,10 +49,13 @@ MayCome t s e (growth_came len) = (k : KeptPool) → s.kept ≡ Some k → MayAn
 pub record IsAsBefore {A : Type 0} (before after : A) : Type 0 where
   pub same : after ≡ before
 
--- growth leaves every payload, the place of the memory and the count of copied bytes as they were; touches only grow
-pub record KeepsPayloads (before after : Allocator) : Type 0 where
+-- growth leaves every payload, what the pools are sized for, the place of the memory and the count of copied bytes as they were;
+-- touches only grow
+pub record KeepsPayloads (sllen : ℕ) (before after : Allocator) : Type 0 where
   pub aligns : align_at after.state ≡ align_at before.state
   pub bytes : bytes_at after.state ≡ bytes_at before.state
+  pub count : live_count after.state ≡ live_count before.state
+  pub bounds : (count size align : ℕ) → IsSizedFor sllen count size align before.state → IsSizedFor sllen count size align after.state
   pub place : SamePlace before.memory after.memory
   pub grow : before.memory.touches ≤ after.memory.touches
   pub copied : after.memory.copied ≡ before.memory.copied

@@ -166,13 +166,13 @@ returns g c = record {
       (Grew-took c.requires.valid h d c.append_free_block_ptr-taken.new.self t c.append_free_block_ptr-taken.result same stands footed step after spare c.append_free_block_ptr-taken.ensures.place));
   payloads =
       let did = c.append_free_block_ptr-taken.ensures in
-      let taken : KeepsPayloads c.if-supports_dealloc.tlsf c.append_free_block_ptr-taken.new.self = record { aligns = did.aligns; bytes = did.bytes; place = did.place; grow = did.grow; copied = did.copied } in
+      let taken : KeepsPayloads g.row.SLLEN c.if-supports_dealloc.tlsf c.append_free_block_ptr-taken.new.self = record { aligns = did.aligns; bytes = did.bytes; count = did.count; bounds = did.bounds; place = did.place; grow = did.grow; copied = did.copied } in
       elim c.if-supports_dealloc.branch [
         | then-supports_dealloc w ↦
             let wrote = w.write_footer.ensures in
             let footed = KeepsPayloads-same c.args.tlsf.now w.write_footer.new.tlsf wrote.state wrote.footer.place wrote.grow wrote.copied in
-            KeepsPayloads-trans _ _ _ (subst (KeepsPayloads c.args.tlsf.now) (sym w.tlsf-is) footed) taken
-        | else-supports_dealloc w ↦ subst (λ (d : Allocator). KeepsPayloads d c.append_free_block_ptr-taken.new.self) w.tlsf-is taken
+            KeepsPayloads-trans _ _ _ (subst (KeepsPayloads g.row.SLLEN c.args.tlsf.now) (sym w.tlsf-is) footed) taken
+        | else-supports_dealloc w ↦ subst (λ (d : Allocator). KeepsPayloads g.row.SLLEN d c.append_free_block_ptr-taken.new.self) w.tlsf-is taken
       ];
   refused = tt;
 }

@@ -113,13 +113,13 @@ returns g c = record {
       ∙ ap (λ m. then_some (keeps t) (record { range = r; len = m })) (taken_is c.insert_free_block_ptr.result c.map_or-taken.result n c.map_or-taken.ensures is))));
   payloads =
       let did = c.insert_free_block_ptr.ensures in
-      let taken : KeepsPayloads c.args.tlsf.now c.insert_free_block_ptr.new.self = record { aligns = did.aligns; bytes = did.bytes; place = did.place; grow = did.grow; copied = did.copied } in
+      let taken : KeepsPayloads g.row.SLLEN c.args.tlsf.now c.insert_free_block_ptr.new.self = record { aligns = did.aligns; bytes = did.bytes; count = did.count; bounds = did.bounds; place = did.place; grow = did.grow; copied = did.copied } in
       elim c.if-takes_back.branch [
         | then-takes_back w ↦
             let wrote = w.write_footer.ensures in
             let footed = KeepsPayloads-same c.insert_free_block_ptr.new.self w.write_footer.new.tlsf wrote.state wrote.footer.place wrote.grow wrote.copied in
-            subst (KeepsPayloads c.args.tlsf.now) (sym w.tlsf-is) (KeepsPayloads-trans _ _ _ taken footed)
-        | else-takes_back w ↦ subst (KeepsPayloads c.args.tlsf.now) (sym w.tlsf-is) taken
+            subst (KeepsPayloads g.row.SLLEN c.args.tlsf.now) (sym w.tlsf-is) (KeepsPayloads-trans _ _ _ taken footed)
+        | else-takes_back w ↦ subst (KeepsPayloads g.row.SLLEN c.args.tlsf.now) (sym w.tlsf-is) taken
       ];
   refused = tt;
 }

@@ -4,6 +4,7 @@ use Rattle.rlsf_base.specs.Addr.{at}
 use Rattle.rlsf_machine.specs.Callers.{align_at, bytes_at}
 use Rattle.rlsf_machine.specs.Reallocate.{Keeps}
 use Rattle.rlsf_machine.specs.Run.{Fills}
+use Rattle.rlsf_machine.specs.Sized.{live_count}
 use Rattle.rlsf_machine.specs.State.{State, with_front}
 use Rattle.rlsf_machine.proofs.CallerWords.{align_at-live, bytes_at-held}
 use Rattle.rlsf_tlsf.specs.Allocator.{IsInState}
@@ -29,6 +30,8 @@ returns-in_err-to g c =
       new = tt;
       aligns = tt;
       bytes = tt;
+      count = ap live_count c.in_err-to.ensures.same;
+      bounds = is.bounds;
       place = is.place;
       grow = is.grow;
       grow_copied = omega (arith, is.copied);
@@ -120,6 +123,8 @@ returns g c =
       new = one.new;
       aligns = λ a from to. three.aligns a from ∙ ap (λ aligns. aligns a) two.aligns ∙ one.aligns a to;
       bytes = λ a from to. three.bytes a from ∙ two.bytes a to ∙ one.bytes a to;
+      count = omega (arith, one.count, two.count, three.count);
+      bounds = λ count size align sized short fits. three.bounds count size align (two.bounds count size align (one.bounds count size align sized short fits));
       place = (three.place.0 ∙ two.place.0 ∙ one.place.0, three.place.1 ∙ two.place.1 ∙ one.place.1);
       grow = omega (arith, one.grow, two.touches, three.grow);
       grow_copied = omega (arith, one.copied, two.copied, three.copied);

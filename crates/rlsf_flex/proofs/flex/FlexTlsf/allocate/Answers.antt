@@ -1,9 +1,10 @@
-use Rattle.std.proofs.Common.{rules, ◌≡◌, ◌≢◌, ℕ, List, true≢false, Option, None, Some, IsSome, IfNone, IfSome, arith, refl, sym, ◌∙◌, ap, subst}
+use Rattle.std.proofs.Common.{rules, ◌≡◌, ◌≢◌, ◌≤◌, ◌+◌, ℕ, List, true≢false, Option, None, Some, IsSome, IfNone, IfSome, arith, refl, sym, ◌∙◌, ap, subst}
 use Rattle.rlsf_base.specs.Addr.{at, reply}
 use Rattle.rlsf_flex.specs.StandsFor.{flex_contents, FlexSteps}
 use Rattle.rlsf_machine.specs.Allocate.{Allocates}
 use Rattle.rlsf_machine.specs.Callers.{align_at, bytes_at}
 use Rattle.rlsf_machine.specs.FlexAllocate.{FlexAllocates}
+use Rattle.rlsf_machine.specs.Sized.{IsSizedFor, live_count}
 use Rattle.rlsf_table.proofs.Parameters.{IsValid-widest}
 use Rattle.rlsf_tlsf.specs.Allocator.{Allocator, Steps}
 use Rattle.rlsf_flex.proofs.Allocations.{Tried, allocated_in_more, allocated_in_room, allocated_stands, extended_none, more_is_found, no_room, not_none, nothing_asked, nothing_more}
@@ -29,6 +30,10 @@ returns-in-Some g c =
       new = is.new;
       aligns = is.aligns;
       bytes = is.bytes;
+      room = is.room;
+      unasked = λ count size align sized few short fits. refl;
+      count = is.count;
+      bounds = is.bounds;
       same = tt;
       refused = tt;
       place = is.place;
@@ -44,6 +49,13 @@ tried g c =
     let none : c.allocate.result ≡ None = search rules in
     no_room c.args.layout.size c.args.layout.align c.allocate.new.self c.allocate.ensures.place c.self.invariant.stands
     (subst (λ o. Steps g.row.FLLEN g.row.SLLEN c.self.inside.tlsf c.allocate.new.self (Allocates g.row.SLLEN c.self.inside.tlsf.state c.args.layout.size c.args.layout.align (reply o))) none c.allocate.ensures.step)
+
+-- which isn't so within bounds
+sure : (g : given.Over) (c : In_default g) (count size align : ℕ) → IsSizedFor g.row.SLLEN count size align c.self.inside.tlsf.state → live_count c.self.inside.tlsf.state ≤ count → c.args.layout.size ≤ size
+    → c.args.layout.align ≤ align → ⊥
+sure g c count size align sized few short fits =
+    let none : c.allocate.result ≡ None = search rules in
+    true≢false (sym (subst IsSome none (c.allocate.ensures.room count size align sized few short fits)))
 
 -- and left each byte
 bytes_stay : (g : given.Over) (c : In_default g) → c.allocate.new.self.memory.bytes ≡ c.self.inside.tlsf.memory.bytes
@@ -67,6 +79,10 @@ returns-in_err-wanted g c =
       new = tt;
       aligns = tt;
       bytes = tt;
+      room = λ count size align sized few short fits. absurd (sure g here count size align sized few short fits);
+      unasked = λ count size align sized few short fits. refl;
+      count = tt;
+      bounds = did.bounds;
       same = first.same;
       refused = bytes_stay g here;
       place = did.place;
@@ -131,6 +147,10 @@ returns-then-extend g c =
       new = subst (λ (before : ℕ → Option ℕ). IfSome c.allocate-then-extend.result (λ addr. before (at addr) ≡ None)) (aligns_before g second first) is.new;
       aligns = subst (λ (before : ℕ → Option ℕ). IfSome c.allocate-then-extend.result (λ addr. (a : ℕ) → a ≢ at addr → align_at c.allocate-then-extend.new.self.state a ≡ before a)) (aligns_before g second first) is.aligns;
       bytes = subst (λ (before : ℕ → List ℕ). IfSome c.allocate-then-extend.result (λ addr. (a : ℕ) → a ≢ at addr → bytes_at c.allocate-then-extend.new.self.state a ≡ before a)) (bytes_before g second first) is.bytes;
+      room = λ count size align sized few short fits. absurd (sure g here.In_default count size align sized few short fits);
+      unasked = λ count size align sized few short fits. absurd (sure g here.In_default count size align sized few short fits);
+      count = subst (λ (before : ℕ). IfSome c.allocate-then-extend.result (λ addr. live_count c.allocate-then-extend.new.self.state ≡ before + 1)) (came.count ∙ ap (λ s. live_count s.machine) first.same) is.count;
+      bounds = λ count size align sized short fits. is.bounds count size align (came.bounds count size align (did.bounds count size align sized short fits)) short fits;
       same = not_none _ c.allocate-then-extend.result (found g second first);
       refused = not_none _ c.allocate-then-extend.result (found g second first);
       place = (is.place.0 ∙ came.place.0 ∙ did.place.0, is.place.1 ∙ came.place.1 ∙ did.place.1);
@@ -157,6 +177,10 @@ returns-else-extend g c =
       new = tt;
       aligns = tt;
       bytes = tt;
+      room = λ count size align sized few short fits. absurd (sure g here count size align sized few short fits);
+      unasked = λ count size align sized few short fits. absurd (sure g here count size align sized few short fits);
+      count = tt;
+      bounds = λ count size align sized short fits. came.bounds count size align (did.bounds count size align sized short fits);
       same = extended_none h refl ∙ first.same;
       refused = ap (λ (a : Allocator). a.memory.bytes) (c.if-extend.ensures.refused refl).same ∙ bytes_stay g here;
       place = (came.place.0 ∙ did.place.0, came.place.1 ∙ did.place.1);

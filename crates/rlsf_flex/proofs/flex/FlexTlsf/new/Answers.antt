@@ -20,6 +20,7 @@ invariant_of-result g c = record { valid = c.requires.valid; stands = stands g (
 pub returns : goal.returns
 returns g c = record {
   state = λ i. record { machine = c.new.ensures.state i; pools = c.new-2.ensures i; kept = None };
+  count = c.new.ensures.count;
   stands = flex_stood_at (stands g (goal.at.returns g c).After-new-2);
   source = refl;
   memory = c.new.ensures.memory;

@@ -1,5 +1,5 @@
 use Rattle.std.specs.declared.num.NonZeroUsize.{NonZeroUsize}
-use Rattle.std.proofs.Common.{rules, ◌≡◌, ◌≢◌, ℕ, List, Option, Some, None, IfNone, IfSome, length, arith, refl, sym, ◌∙◌, ap, subst}
+use Rattle.std.proofs.Common.{rules, ◌≡◌, ◌≢◌, ◌≤◌, ℕ, List, true≢false, Option, Some, None, IfNone, IfSome, IsSome, length, arith, refl, sym, ◌∙◌, ap, subst}
 use Rattle.rlsf_base.specs.Addr.{at, reply}
 use Rattle.rlsf_flex.specs.StandsFor.{FlexContents, flex_contents, FlexSteps}
 use Rattle.rlsf_flex.specs.Steps.Growth.{MovesTo}
@@ -7,6 +7,7 @@ use Rattle.rlsf_machine.specs.Allocate.{Allocates}
 use Rattle.rlsf_machine.specs.Callers.{align_at, bytes_at}
 use Rattle.rlsf_machine.specs.FlexReallocate.{FlexReallocates, IsStuck}
 use Rattle.rlsf_machine.specs.Reallocate.{HasRoomToResize, HasRoomToStay, Keeps, Reallocates}
+use Rattle.rlsf_machine.specs.Sized.{IsSizedFor, live_count}
 use Rattle.rlsf_machine.specs.State.{Used, usable}
 use Rattle.rlsf_machine.proofs.CallerWords.{align_at-live, bytes_at-held}
 use Rattle.rlsf_table.proofs.Parameters.{IsValid-widest}
@@ -36,6 +37,10 @@ returns-in-Some g c =
       new = is.new;
       aligns = is.aligns;
       bytes = is.bytes;
+      room = is.room;
+      unasked = λ count size align sized few short fits. refl;
+      count = is.count;
+      bounds = is.bounds;
       same = tt;
       refused = tt;
       place = is.place;
@@ -56,6 +61,13 @@ tried g c =
     let live = subst (λ (old : FlexContents g.row.S.Denot). align_at old.state.machine addr ≡ Some c.args.layout.align) (sym c.self.view_is) c.requires in
     no_room_to_move addr c.args.layout.size c.args.layout.align c.reallocate.new.self c.reallocate.ensures.place c.self.invariant.stands (align_at-live c.self.inside.tlsf.state addr c.args.layout.align live)
     (subst (λ o. Steps g.row.FLLEN g.row.SLLEN c.self.inside.tlsf c.reallocate.new.self (Reallocates g.row.SLLEN c.self.inside.tlsf.state addr c.args.layout.size (reply o))) none c.reallocate.ensures.step)
+
+-- which isn't so within bounds
+sure : (g : given.Over) (c : In_default g) (count size align : ℕ) → IsSizedFor g.row.SLLEN count size align c.self.inside.tlsf.state → live_count c.self.inside.tlsf.state ≤ count → c.args.layout.size ≤ size
+    → c.args.layout.align ≤ align → ⊥
+sure g c count size align sized few short fits =
+    let none : c.reallocate.result ≡ None = search rules in
+    true≢false (sym (subst IsSome none (c.reallocate.ensures.room count size align sized few short fits)))
 
 -- and left each byte
 bytes_stay : (g : given.Over) (c : In_default g) → c.reallocate.new.self.memory.bytes ≡ c.self.inside.tlsf.memory.bytes
@@ -97,6 +109,10 @@ returns-in_err-wanted g c =
       new = tt;
       aligns = tt;
       bytes = tt;
+      room = λ count size align sized few short fits. absurd (sure g here count size align sized few short fits);
+      unasked = λ count size align sized few short fits. refl;
+      count = did.count;
+      bounds = did.bounds;
       same = first.same;
       refused = bytes_stay g here;
       place = did.place;
@@ -188,6 +204,10 @@ returns-then-extend g c =
           for_some c.move_payload.result (λ to some. λ off. subst (λ o. IfSome o (λ to. align_at c.self.inside.tlsf.state (at to) ≡ None)) some new);
       aligns = subst (λ (before : ℕ → Option ℕ). IfSome c.move_payload.result (λ to. (a : ℕ) → a ≢ at c.args.addr → a ≢ at to → align_at c.move_payload.new.tlsf.state a ≡ before a)) aligns is.aligns;
       bytes = subst (λ (before : ℕ → List ℕ). IfSome c.move_payload.result (λ to. (a : ℕ) → a ≢ at c.args.addr → a ≢ at to → bytes_at c.move_payload.new.tlsf.state a ≡ before a)) bytes is.bytes;
+      room = λ count size align sized few short fits. absurd (sure g here.In_default count size align sized few short fits);
+      unasked = λ count size align sized few short fits. absurd (sure g here.In_default count size align sized few short fits);
+      count = is.count ∙ came.count ∙ did.count;
+      bounds = λ count size align sized short fits. is.bounds count size align (came.bounds count size align (did.bounds count size align sized short fits)) short fits;
       same = not_none _ c.move_payload.result (found g here.After-move_payload first);
       refused = not_none _ c.move_payload.result (found g here.After-move_payload first);
       place = (is.place.0 ∙ came.place.0 ∙ did.place.0, is.place.1 ∙ came.place.1 ∙ did.place.1);
@@ -220,6 +240,10 @@ returns-else-extend g c =
       new = tt;
       aligns = tt;
       bytes = tt;
+      room = λ count size align sized few short fits. absurd (sure g here count size align sized few short fits);
+      unasked = λ count size align sized few short fits. absurd (sure g here count size align sized few short fits);
+      count = came.count ∙ did.count;
+      bounds = λ count size align sized short fits. came.bounds count size align (did.bounds count size align sized short fits);
       same = extended_none h refl ∙ first.same;
       refused = ap (λ (a : Allocator). a.memory.bytes) (c.if-extend.ensures.refused refl).same ∙ bytes_stay g here;
       place = (came.place.0 ∙ did.place.0, came.place.1 ∙ did.place.1);

@@ -26,6 +26,8 @@ returns g c =
       kept = is.kept;
       aligns = is.aligns;
       bytes = is.bytes;
+      count = is.count;
+      bounds = is.bounds;
       chunks = is.chunks;
       same = if_none c.reallocate_no_move.result (ap (λ (s : State). record { machine = s; pools = c.self.inside.owed.ranges; kept = kept_of c.self.inside.kept })) is.same;
       refused = is.refused;
