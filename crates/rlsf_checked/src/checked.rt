@@ -1,13 +1,13 @@
 //! The allocator with a mark for each address at which a payload may live.
 
-ghost use Rattle.std.specs.Prelude.{◌≡◌, ◌≢◌, ◌≤◌, ◌<◌, ◌+◌, ◌*◌, ◌^◌, ℕ, length, drop, take, nat_le, is_some, if◌then◌else◌, IfErr, IfOk, IfSome, IsErrOf, IsOk, IsSome, None, OnErr, OnOk, Some, ◌↔◌};
+ghost use Rattle.std.specs.Prelude.{◌≡◌, ◌≢◌, ◌≤◌, ◌<◌, ◌+◌, ◌*◌, ◌%◌, ◌^◌, ℕ, length, drop, take, nat_le, is_some, if◌then◌else◌, IfErr, IfOk, IfSome, IsErrOf, IsOk, IsSome, None, OnErr, OnOk, Some, ◌↔◌};
 ghost use Rattle.std.specs.List.{splice};
 ghost use Rattle.std.specs.Map.Iter.{GivesInOrder};
 ghost use Rattle.rlsf_base.specs.Addr.{at};
 ghost use Rattle.rlsf_base.specs.PowerOfTwo.{IsPowerOfTwo};
 ghost use Rattle.rlsf_base.specs.Range.{range_at};
 ghost use Rattle.rlsf_base.specs.SizeClass.{IsValid};
-ghost use Rattle.rlsf_base.specs.Sizes.{max_pool_size};
+ghost use Rattle.rlsf_base.specs.Sizes.{max_pool_size, pool_size_for_payloads};
 ghost use Rattle.rlsf_base.specs.Space.{range_of, SamePlace};
 ghost use Rattle.rlsf_machine.specs.Allocate.{Allocates};
 ghost use Rattle.rlsf_machine.specs.Callers.{align_at, bytes_at, written_over};
@@ -16,6 +16,7 @@ ghost use Rattle.rlsf_machine.specs.NoMove.{ReallocatesWithoutMove};
 ghost use Rattle.rlsf_machine.specs.Reallocate.{Keeps, Reallocates};
 ghost use Rattle.rlsf_machine.specs.Release.{Deallocates};
 ghost use Rattle.rlsf_machine.specs.Run.{Fills};
+ghost use Rattle.rlsf_machine.specs.Sized.{IsSizedFor, live_count};
 ghost use Rattle.rlsf_machine.specs.State.{empty};
 ghost use Rattle.rlsf_blocks.specs.Blocks.{AreBlocks, walked};
 ghost use Rattle.rlsf_tlsf.specs.Allocator.{Steps, Stands};
@@ -76,6 +77,7 @@ impl<FLBitmap: Bitmap, SLBitmap: Bitmap, const FLLEN: usize, const SLLEN: usize>
         ensures invalid { IsErrOf result InvalidClasses ↔ (IsValid FLBitmap.width SLBitmap.width FLLEN SLLEN → ⊥) }
         ensures refused { IfErr result (λ e. e ≢ InvalidClasses → e ≡ OutOfMemory) }
         ensures state { IfOk result (λ t. t.heap.state ≡ empty) }
+        ensures count { IfOk result (λ t. live_count t.heap.state ≡ 0) }
         ensures memory { IfOk result (λ t. t.heap.memory ≡ memory) }
         ensures pool { IfOk result (λ t. t.pool ≡ range_at memory.start 0) }
         ensures stands { IfOk result (λ t. Stands FLLEN SLLEN t.heap) }
@@ -137,6 +139,10 @@ impl<
         ensures refused { OnErr result (self.new.heap.memory.bytes ≡ self.old.heap.memory.bytes) }
         ensures aligns { align_at self.new.heap.state ≡ align_at self.old.heap.state }
         ensures bytes { bytes_at self.new.heap.state ≡ bytes_at self.old.heap.state }
+        ensures count { live_count self.new.heap.state ≡ live_count self.old.heap.state }
+        ensures bounds { (count size align : ℕ) → IsSizedFor SLLEN count size align self.old.heap.state → IsSizedFor SLLEN count size align self.new.heap.state }
+        ensures sized_pool { (count size align len : ℕ) → pool_size_for_payloads FLLEN SLLEN count size align ≡ Some len → range.start % 32 ≡ 0
+            → len ≤ range.len → live_count self.old.heap.state ≡ 0 → OnOk result (IsSizedFor SLLEN count size align self.new.heap.state) }
         ensures place { SamePlace self.old.heap.memory self.new.heap.memory }
         ensures touches { self.new.heap.memory.touches ≤ self.old.heap.memory.touches + 13 * length (cut (max_pool_size FLLEN) (aligned_part range)) }
         ensures grow { self.old.heap.memory.touches ≤ self.new.heap.memory.touches }
@@ -172,6 +178,8 @@ impl<
         ensures refused { OnErr result (self.new.heap.memory.bytes ≡ self.old.heap.memory.bytes) }
         ensures aligns { align_at self.new.heap.state ≡ align_at self.old.heap.state }
         ensures bytes { bytes_at self.new.heap.state ≡ bytes_at self.old.heap.state }
+        ensures count { live_count self.new.heap.state ≡ live_count self.old.heap.state }
+        ensures bounds { (count size align : ℕ) → IsSizedFor SLLEN count size align self.old.heap.state → IsSizedFor SLLEN count size align self.new.heap.state }
         ensures place { SamePlace self.old.heap.memory self.new.heap.memory }
         ensures touches { self.new.heap.memory.touches ≤ self.old.heap.memory.touches
             + (if is_some (max_pool_size FLLEN) then 13 * length (cut (max_pool_size FLLEN) (aligned_part range)) else 34) }
@@ -207,6 +215,11 @@ impl<
         ensures new { IfOk result (λ addr. align_at self.old.heap.state (at addr) ≡ None) }
         ensures aligns { IfOk result (λ addr. (a : ℕ) → a ≢ at addr → align_at self.new.heap.state a ≡ align_at self.old.heap.state a) }
         ensures bytes { IfOk result (λ addr. (a : ℕ) → a ≢ at addr → bytes_at self.new.heap.state a ≡ bytes_at self.old.heap.state a) }
+        ensures room { (count size align : ℕ) → IsSizedFor SLLEN count size align self.old.heap.state → live_count self.old.heap.state ≤ count → layout.size ≤ size
+            → layout.align ≤ align → IsOk result }
+        ensures count { IfOk result (λ addr. live_count self.new.heap.state ≡ live_count self.old.heap.state + 1) }
+        ensures bounds { (count size align : ℕ) → IsSizedFor SLLEN count size align self.old.heap.state → layout.size ≤ size → layout.align ≤ align
+            → IsSizedFor SLLEN count size align self.new.heap.state }
         ensures same { OnErr result (self.new.heap.state ≡ self.old.heap.state) }
         ensures same_bytes { OnErr result (self.new.heap.memory.bytes ≡ self.old.heap.memory.bytes) }
         ensures pool { self.new.pool ≡ self.old.pool }
@@ -231,6 +244,8 @@ impl<
         ensures gone { align_at self.new.heap.state (at addr) ≡ None }
         ensures aligns { (a : ℕ) → a ≢ at addr → align_at self.new.heap.state a ≡ align_at self.old.heap.state a }
         ensures bytes { (a : ℕ) → a ≢ at addr → bytes_at self.new.heap.state a ≡ bytes_at self.old.heap.state a }
+        ensures count { OnOk result (live_count self.old.heap.state ≡ live_count self.new.heap.state + 1) }
+        ensures bounds { (count size align : ℕ) → IsSizedFor SLLEN count size align self.old.heap.state → IsSizedFor SLLEN count size align self.new.heap.state }
         ensures same { OnErr result (self.new ≡ self.old) }
         ensures pool { self.new.pool ≡ self.old.pool }
         ensures place { SamePlace self.old.heap.memory self.new.heap.memory }
@@ -266,6 +281,11 @@ impl<
         ensures left { IfOk result (λ to. at to ≢ at addr → align_at self.new.heap.state (at addr) ≡ None) }
         ensures aligns { IfOk result (λ to. (a : ℕ) → a ≢ at addr → a ≢ at to → align_at self.new.heap.state a ≡ align_at self.old.heap.state a) }
         ensures bytes { IfOk result (λ to. (a : ℕ) → a ≢ at addr → a ≢ at to → bytes_at self.new.heap.state a ≡ bytes_at self.old.heap.state a) }
+        ensures room { (count most_size align : ℕ) → IsSizedFor SLLEN count most_size align self.old.heap.state → live_count self.old.heap.state ≤ count → size ≤ most_size
+            → IfSome (align_at self.old.heap.state (at addr)) (λ a. a ≤ align) → refusal_at self.old.heap.state (at addr) size ≡ None → IsOk result }
+        ensures count { live_count self.new.heap.state ≡ live_count self.old.heap.state }
+        ensures bounds { (count most_size align : ℕ) → IsSizedFor SLLEN count most_size align self.old.heap.state → size ≤ most_size
+            → IfSome (align_at self.old.heap.state (at addr)) (λ a. a ≤ align) → IsSizedFor SLLEN count most_size align self.new.heap.state }
         ensures same { OnErr result (self.new.heap.state ≡ self.old.heap.state) }
         ensures refused { OnErr result (self.new.heap.memory.bytes ≡ self.old.heap.memory.bytes) }
         ensures pool { self.new.pool ≡ self.old.pool }
@@ -305,6 +325,9 @@ impl<
         ensures kept { IfOk result (λ to. Keeps (bytes_at self.old.heap.state (at addr)) (bytes_at self.new.heap.state (at addr))) }
         ensures aligns { align_at self.new.heap.state ≡ align_at self.old.heap.state }
         ensures bytes { (a : ℕ) → a ≢ at addr → bytes_at self.new.heap.state a ≡ bytes_at self.old.heap.state a }
+        ensures count { live_count self.new.heap.state ≡ live_count self.old.heap.state }
+        ensures bounds { (count most_size align : ℕ) → IsSizedFor SLLEN count most_size align self.old.heap.state → size ≤ most_size
+            → IfSome (align_at self.old.heap.state (at addr)) (λ a. a ≤ align) → IsSizedFor SLLEN count most_size align self.new.heap.state }
         ensures same { OnErr result (self.new.heap.state ≡ self.old.heap.state) }
         ensures refused { OnErr result (self.new.heap.memory.bytes ≡ self.old.heap.memory.bytes) }
         ensures pool { self.new.pool ≡ self.old.pool }
@@ -383,6 +406,8 @@ impl<
         ensures written { OnOk result (bytes_at self.new.heap.state (at addr) ≡ written_over self.old.heap.state (at addr) offset bytes.now) }
         ensures aligns { align_at self.new.heap.state ≡ align_at self.old.heap.state }
         ensures bytes { (a : ℕ) → a ≢ at addr → bytes_at self.new.heap.state a ≡ bytes_at self.old.heap.state a }
+        ensures count { live_count self.new.heap.state ≡ live_count self.old.heap.state }
+        ensures bounds { (count size align : ℕ) → IsSizedFor SLLEN count size align self.old.heap.state → IsSizedFor SLLEN count size align self.new.heap.state }
         ensures same { OnErr result (self.new ≡ self.old) }
         ensures pool { self.new.pool ≡ self.old.pool }
         ensures place { SamePlace self.old.heap.memory self.new.heap.memory }

@@ -1,4 +1,4 @@
-use Rattle.std.proofs.Common.{rules, ◌≡◌, ◌≤◌, ◌<◌, ◌+◌, length, suc, Some, None, Ok, Err, refl, sym, ◌∙◌, ap, subst}
+use Rattle.std.proofs.Common.{rules, arith, ◌≡◌, IfSome, ◌≤◌, ◌<◌, ◌+◌, length, suc, Some, None, Ok, Err, refl, sym, ◌∙◌, ap, subst}
 use Rattle.std.proofs.lemmas.Bool.{false≢true}
 use Rattle.std.specs.declared.num.NonZeroUsize.{NonZeroUsize}
 use Rattle.rlsf_base.specs.Addr.{at}
@@ -57,6 +57,9 @@ returns-in_default g c = record {
   left = search rules;
   aligns = search rules;
   bytes = search rules;
+  room = λ count most_size align sized few short fits fine. absurd (unknown_is_not_fine c.args.size _ c.in_default.ensures.value fine);
+  count = rw (← c.self.view_is) refl;
+  bounds = rw (← c.self.view_is) (λ count most_size align sized short fits. sized);
   same = search rules;
   refused = search rules;
   pool = search rules;
@@ -80,6 +83,10 @@ returns-in_default-from_size_align g c = record {
   left = search rules;
   aligns = search rules;
   bytes = search rules;
+  room = λ count most_size align sized few short fits fine.
+      absurd (past_is_not_fine c.args.size c.in-Some.align _ c.in-Some.ensures.value c.in-Some.ensures.power (λ is. false≢true (c.in_default-from_size_align.ensures.succeeds.1 is)) fine);
+  count = rw (← c.self.view_is) refl;
+  bounds = rw (← c.self.view_is) (λ count most_size align sized short fits. sized);
   same = search rules;
   refused = search rules;
   pool = search rules;
@@ -106,6 +113,17 @@ returns-in_default-reallocate g c = record {
   left = search rules;
   aligns = search rules;
   bytes = search rules;
+  room =
+      let live : align_at c.self.inside.heap.state (at c.args.addr) ≡ Some c.in-Some.align = sym (rw (← c.self.view_is) at c.in-Some.ensures.value) in
+      rw (← c.self.view_is) (λ count most_size align sized few short fits fine.
+      let low : c.in-Some.align ≤ align = subst (λ o. IfSome o (λ a. a ≤ align)) live fits in
+      c.in_default-reallocate.ensures.room count most_size align sized few (omega (arith, short, c.in-Ok.ensures.layout.0)) (omega (arith, low, c.in-Ok.ensures.layout.1)));
+  count = rw (← c.self.view_is) c.in_default-reallocate.ensures.count;
+  bounds =
+      let live : align_at c.self.inside.heap.state (at c.args.addr) ≡ Some c.in-Some.align = sym (rw (← c.self.view_is) at c.in-Some.ensures.value) in
+      rw (← c.self.view_is) (λ count most_size align sized short fits.
+      let low : c.in-Some.align ≤ align = subst (λ o. IfSome o (λ a. a ≤ align)) live fits in
+      c.in_default-reallocate.ensures.bounds count most_size align sized (omega (arith, short, c.in-Ok.ensures.layout.0)) (omega (arith, low, c.in-Ok.ensures.layout.1)));
   same = rw (← c.self.view_is) c.in_default-reallocate.ensures.same;
   refused = rw (← c.self.view_is) c.in_default-reallocate.ensures.refused;
   pool = search rules;
@@ -138,6 +156,13 @@ returns g c = record {
       left_behind g.row.FLLEN g.row.SLLEN c.self.inside.heap c.self.invariant.stands c.reallocate.new.self.state addr c.in-Some.align c.in-Ok.layout.size to live step;
   aligns = rw (← c.self.view_is) c.in-Some-reallocate.ensures.aligns;
   bytes = rw (← c.self.view_is) c.in-Some-reallocate.ensures.bytes;
+  room = λ count most_size align sized few short fits fine. refl;
+  count = rw (← c.self.view_is) c.in-Some-reallocate.ensures.count;
+  bounds =
+      let live : align_at c.self.inside.heap.state (at c.args.addr) ≡ Some c.in-Some.align = sym (rw (← c.self.view_is) at c.in-Some.ensures.value) in
+      rw (← c.self.view_is) (λ count most_size align sized short fits.
+      let low : c.in-Some.align ≤ align = subst (λ o. IfSome o (λ a. a ≤ align)) live fits in
+      c.in-Some-reallocate.ensures.bounds count most_size align sized (omega (arith, short, c.in-Ok.ensures.layout.0)) (omega (arith, low, c.in-Ok.ensures.layout.1)));
   same = search rules;
   refused = search rules;
   pool = search rules;

@@ -1,8 +1,8 @@
-use Rattle.std.proofs.Common.{rules, ◌≡◌, Option, ◌≤◌, ◌<◌, ◌+◌, length, Some, None, Ok, Err, refl, sym, subst}
+use Rattle.std.proofs.Common.{rules, arith, ◌≡◌, IfSome, Option, ◌≤◌, ◌<◌, ◌+◌, length, Some, None, Ok, Err, refl, sym, subst}
 use Rattle.std.proofs.lemmas.Bool.{false≢true}
 use Rattle.std.specs.declared.num.NonZeroUsize.{NonZeroUsize}
 use Rattle.rlsf_base.specs.Addr.{at, reply}
-use Rattle.rlsf_machine.specs.Callers.{bytes_at}
+use Rattle.rlsf_machine.specs.Callers.{align_at, bytes_at}
 use Rattle.rlsf_machine.specs.NoMove.{ReallocatesWithoutMove}
 use Rattle.rlsf_tlsf.specs.Allocator.{Steps}
 use Rattle.rlsf_checked.specs.Answers.{IsRefusedBy, size_refusal}
@@ -42,6 +42,8 @@ returns-in_default g c = record {
   kept = search rules;
   aligns = search rules;
   bytes = search rules;
+  count = rw (← c.self.view_is) refl;
+  bounds = rw (← c.self.view_is) (λ count most_size align sized short fits. sized);
   same = search rules;
   refused = search rules;
   pool = search rules;
@@ -62,6 +64,8 @@ returns-in_default-from_size_align g c = record {
   kept = search rules;
   aligns = search rules;
   bytes = search rules;
+  count = rw (← c.self.view_is) refl;
+  bounds = rw (← c.self.view_is) (λ count most_size align sized short fits. sized);
   same = search rules;
   refused = search rules;
   pool = search rules;
@@ -84,6 +88,12 @@ returns-in_default-reallocate_no_move g c = record {
   kept = search rules;
   aligns = rw (← c.self.view_is) c.in_default-reallocate_no_move.ensures.aligns;
   bytes = rw (← c.self.view_is) c.in_default-reallocate_no_move.ensures.bytes;
+  count = rw (← c.self.view_is) c.in_default-reallocate_no_move.ensures.count;
+  bounds =
+      let live : align_at c.self.inside.heap.state (at c.args.addr) ≡ Some c.in-Some.align = sym (rw (← c.self.view_is) at c.in-Some.ensures.value) in
+      rw (← c.self.view_is) (λ count most_size align sized short fits.
+      let low : c.in-Some.align ≤ align = subst (λ o. IfSome o (λ a. a ≤ align)) live fits in
+      c.in_default-reallocate_no_move.ensures.bounds count most_size align sized (omega (arith, short, c.in-Ok.ensures.layout.0)) (omega (arith, low, c.in-Ok.ensures.layout.1)));
   same = rw (← c.self.view_is) c.in_default-reallocate_no_move.ensures.same;
   refused = rw (← c.self.view_is) c.in_default-reallocate_no_move.ensures.refused;
   pool = search rules;
@@ -106,6 +116,12 @@ returns g c = record {
   kept = rw (← c.self.view_is) c.in-Some-reallocate_no_move.ensures.kept;
   aligns = rw (← c.self.view_is) c.in-Some-reallocate_no_move.ensures.aligns;
   bytes = rw (← c.self.view_is) c.in-Some-reallocate_no_move.ensures.bytes;
+  count = rw (← c.self.view_is) c.in-Some-reallocate_no_move.ensures.count;
+  bounds =
+      let live : align_at c.self.inside.heap.state (at c.args.addr) ≡ Some c.in-Some.align = sym (rw (← c.self.view_is) at c.in-Some.ensures.value) in
+      rw (← c.self.view_is) (λ count most_size align sized short fits.
+      let low : c.in-Some.align ≤ align = subst (λ o. IfSome o (λ a. a ≤ align)) live fits in
+      c.in-Some-reallocate_no_move.ensures.bounds count most_size align sized (omega (arith, short, c.in-Ok.ensures.layout.0)) (omega (arith, low, c.in-Ok.ensures.layout.1)));
   same = search rules;
   refused = search rules;
   pool = search rules;

@@ -1,4 +1,4 @@
-use Rattle.std.proofs.Common.{rules, ◌≡◌, ◌+◌, true, false, cond, nat_le, Ok, Err, sym, subst, length, arith, ◌∙◌, ap}
+use Rattle.std.proofs.Common.{rules, refl, ◌≡◌, ◌+◌, true, false, cond, nat_le, Ok, Err, sym, subst, length, arith, ◌∙◌, ap}
 use Rattle.std.specs.List.{splice}
 use Rattle.rlsf_base.specs.Addr.{at}
 use Rattle.rlsf_machine.specs.Callers.{bytes_at, written_over}
@@ -35,6 +35,8 @@ returns-then-not-reaches g c = record {
   written = search rules;
   aligns = search rules;
   bytes = search rules;
+  count = rw (← c.self.view_is) refl;
+  bounds = rw (← c.self.view_is) (λ count size align sized. sized);
   same = search rules;
   pool = search rules;
   place = search rules;
@@ -59,6 +61,8 @@ returns g c = record {
   written = rw (← c.self.view_is) (c.payload_mut.ensures.filled c.write_at.new.payload c.write_at.ensures.len ∙ over g (goal.at.returns g c).After-write_at);
   aligns = rw (← c.self.view_is) (c.payload_mut.ensures.aligns c.write_at.new.payload);
   bytes = rw (← c.self.view_is) (c.payload_mut.ensures.bytes c.write_at.new.payload);
+  count = rw (← c.self.view_is) (c.payload_mut.ensures.count c.write_at.new.payload);
+  bounds = rw (← c.self.view_is) (c.payload_mut.ensures.bounds c.write_at.new.payload);
   same = search rules;
   pool = search rules;
   place = rw (← c.self.view_is) (c.payload_mut.ensures.rest c.write_at.new.payload).1;
