@@ -4,6 +4,7 @@
 mod checked;
 mod classes;
 mod error;
+mod lengths;
 mod marks;
 
 pub use checked::CheckedTlsf;
