@@ -185,6 +185,26 @@ static void zeros(size_t kind) {
     free(p);
 }
 
+/* Lengths of pools: 2 * 32 + 10 * 32 bytes for 10 payloads of 16 bytes, each in a block of 32; 736 + 32 + 10 * (736 + 736 - 32) bytes for
+ * 10 of 700, each in a block of up to 736. The first 11 are allocated, and no more, since 11 blocks and 32 bytes fill the range. */
+static void lengths(size_t kind) {
+    rlsf_pool *p = room();
+    WANT(rlsf_pool_length_for_payloads(kind, 10, 16, 16), 384);
+    WANT(rlsf_pool_length_for_payloads(kind, 10, 700, 16), 15168);
+    WANT(rlsf_pool_length_for_payloads(kind, 10, 16, 3), 0);
+    WANT(rlsf_pool_length_for_payloads(kind, (size_t)-1, 16, 16), 0);
+    WANT(rlsf_pool_length_for_payloads(3, 10, 16, 16), 0);
+    WANT(rlsf_pool_length_for_allocation(kind, 700, 16), 768);
+    WANT(rlsf_pool_length_for_allocation(kind, 16, 0), 0);
+    WANT(rlsf_pool_length_for_allocation(0, 16, 16), 0);
+    WANT(rlsf_init(p, kind, 4096, 4096), RLSF_OK);
+    ANSWER(rlsf_insert(p, 4096, 384), RLSF_OK, 384);
+    for (int i = 0; i < 11; i++) WANT(rlsf_allocate(p, 16, 16).error, RLSF_OK);
+    ANSWER(rlsf_allocate(p, 16, 16), RLSF_NO_ROOM, 0);
+    rlsf_destroy(p);
+    free(p);
+}
+
 int main(void) {
     numbers();
     no_pool(0, 4096, 4096, RLSF_NO_KIND);
@@ -201,6 +221,8 @@ int main(void) {
     blocks(RLSF_LARGE);
     zeros(RLSF_SMALL);
     zeros(RLSF_LARGE);
+    lengths(RLSF_SMALL);
+    lengths(RLSF_LARGE);
     if (failures) return 1;
     puts("demo: all calls answered as the header says");
     return 0;

@@ -69,6 +69,19 @@ typedef struct {
 /* How many bytes a handle has: malloc(rlsf_size()) has room for one. It is some 33 KiB, whatever the kind. */
 size_t rlsf_size(void);
 
+/* The length of a range in which a pool of the kind never refuses a payload of up to `size` bytes, at a multiple of up to `align`, while at
+ * most `count` payloads live before each rlsf_allocate and each rlsf_realloc: in whatever order they come and go. Insert the range at a
+ * multiple of 32, before the first payload. docs/SIZING.md has the formula.
+ *
+ * 0 exactly where there is no such kind, RLSF_NO_LAYOUT holds of `size` and `align`, or the length passes a size_t or, in a small pool,
+ * 131072. */
+size_t rlsf_pool_length_for_payloads(size_t kind, size_t count, size_t size, size_t align);
+
+/* The least length of a range in which such a payload can be allocated while no other lives there. Insert it in the same way.
+ *
+ * 0 exactly where there is no such kind, RLSF_NO_LAYOUT holds of `size` and `align`, or there is no such length. */
+size_t rlsf_pool_length_for_allocation(size_t kind, size_t size, size_t align);
+
 /* Makes a pool at a handle, over a memory for the addresses from `start` up to `start + len`. No range of it is handed in yet.
  *
  * RLSF_NO_KIND, RLSF_ZERO_START, RLSF_TOO_LONG, each exactly where it says, or RLSF_OUT_OF_MEMORY. Then all calls find a pool without an

@@ -6,11 +6,13 @@ ghost use Rattle.std.specs.Prelude.{◌≡◌};
 ghost use Rattle.rlsf_base.specs.Range.{range_at};
 ghost use Rattle.rlsf_c.specs.Calls.{Allocates, Appends, Frees, Inserts, Reads, Resizes, ResizesThere, Tells, Writes};
 ghost use Rattle.rlsf_c.specs.Handle.{HasRoomForPool, Holds, HoldsSome, room_size};
+ghost use Rattle.rlsf_c.specs.Lengths.{IsLengthForAllocation, IsLengthForPayloads};
 ghost use Rattle.rlsf_c.specs.Seen.{IsMade, PoolValue, append_result, insert_result, seen, status_of};
 ghost use Rattle.rlsf_c.specs.Walks.{IsNext, IsSummary};
 
 mod answers;
 mod calls;
+mod lengths;
 mod pool;
 mod walks;
 
@@ -25,6 +27,29 @@ pub extern "C" fn rlsf_size() -> usize
     ensures { result ≡ room_size }
 {
     size_of::<Pool>()
+}
+
+/// The length of a range, from a multiple of 32 on, in which no payload of up to `size` bytes and a multiple of `align` is refused
+/// while at most `count` live. 0 where there is no such kind, no such layout or no such length.
+#[unsafe(no_mangle)]
+pub extern "C" fn rlsf_pool_length_for_payloads(
+    kind: usize,
+    count: usize,
+    size: usize,
+    align: usize,
+) -> usize
+    ensures { IsLengthForPayloads kind count size align result }
+{
+    lengths::for_payloads(kind, count, size, align)
+}
+
+/// The least length of a range, from a multiple of 32 on, in which such a payload is allocated while nothing lives there. 0 where there
+/// is no such kind, no such layout or no such length.
+#[unsafe(no_mangle)]
+pub extern "C" fn rlsf_pool_length_for_allocation(kind: usize, size: usize, align: usize) -> usize
+    ensures { IsLengthForAllocation kind size align result }
+{
+    lengths::for_allocation(kind, size, align)
 }
 
 /// Makes a pool where there is room for one. Answers 0, or why there is none: then all calls find a pool without an address.

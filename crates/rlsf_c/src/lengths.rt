@@ -1,0 +1,37 @@
+//! Lengths of pools, over numbers.
+
+ghost use Rattle.std.specs.Prelude.{◌≡◌};
+ghost use Rattle.rlsf_c.specs.Lengths.{IsLengthForAllocation, IsLengthForPayloads};
+
+use rlsf_base::classes::{pool_size_for_payloads, pool_size_to_contain_allocation};
+use rlsf_base::memory::Layout;
+
+/// The length that never refuses payloads up to a layout, while `count` or fewer are live, or 0.
+pub(crate) fn for_payloads(kind: usize, count: usize, size: usize, align: usize) -> usize
+    ensures { IsLengthForPayloads kind count size align result }
+{
+    let Ok(layout) = Layout::from_size_align(size, align) else {
+        return 0;
+    };
+    let len = match kind {
+        1 => pool_size_for_payloads::<u16, u16, 12, 16>(count, layout),
+        2 => pool_size_for_payloads::<u64, u64, 64, 64>(count, layout),
+        _ => None,
+    };
+    len.unwrap_or(0)
+}
+
+/// The least length in which a layout is allocated while nothing lives there, or 0.
+pub(crate) fn for_allocation(kind: usize, size: usize, align: usize) -> usize
+    ensures { IsLengthForAllocation kind size align result }
+{
+    let Ok(layout) = Layout::from_size_align(size, align) else {
+        return 0;
+    };
+    let len = match kind {
+        1 => pool_size_to_contain_allocation::<u16, u16, 12, 16>(layout),
+        2 => pool_size_to_contain_allocation::<u64, u64, 64, 64>(layout),
+        _ => None,
+    };
+    len.unwrap_or(0)
+}
