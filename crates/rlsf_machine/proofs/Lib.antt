@@ -49,12 +49,13 @@ pub mod Removals
 pub mod Replies
 pub mod Room
 pub mod Rows
+pub mod ShortChunks
+pub mod ShortStates
 pub mod Similar
 pub mod SizedWords
 pub mod Steps
 pub mod Sums
 pub mod TakenPools
-pub mod ShortChunks
 pub mod Tiling
 pub mod Uniform
 pub mod TrimExamples

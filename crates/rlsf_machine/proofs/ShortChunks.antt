@@ -1,314 +1,100 @@
 -- Lists of calls that are refused in a chunk that is 32 bytes shorter than what is computed for many payloads.
-use Rattle.std.proofs.Common.{◌≡◌, ◌≢◌, ℕ, zero, suc, ◌+◌, ◌-◌, ◌*◌, ◌/◌, ◌%◌, ◌<◌, ◌≤◌, ◌⊎◌, [], ◌∷◌, length, Option, Some, None, cond, arith, refl, sym, ◌∙◌, ap, subst, inl, inr}
-use Rattle.std.proofs.lemmas.Bool.{cases_lt, le-leb}
-use Rattle.std.proofs.Math.Nat.{div-add-mod', le_of_mul-le-mul_right, mod-lt, mul-le-mul_left, mul-le-mul_right}
+use Rattle.std.proofs.Common.{◌≡◌, ◌≢◌, ℕ, zero, suc, ◌+◌, ◌-◌, ◌*◌, ◌%◌, ◌<◌, ◌≤◌, List, [], ◌∷◌, length, Option, Some, None, arith, refl, sym, ◌∙◌, ap, subst, inl, inr}
+use Rattle.std.proofs.lemmas.Bool.{cases_lt}
+use Rattle.std.proofs.lemmas.Option.{none-some}
+use Rattle.std.proofs.Math.Nat.{le_of_mul-le-mul_right, mul-le-mul_left}
+use Rattle.std.specs.Option.{option_and_then}
 use Rattle.rlsf_base.specs.declared.memory.range.Range.{Range}
 use Rattle.rlsf_base.specs.Range.{end_of, range_at}
 use Rattle.rlsf_base.specs.Rounding.{round32}
-use Rattle.rlsf_base.specs.SizeClass.{Reaches, class_of, reaching_class}
-use Rattle.rlsf_base.specs.Sizes.{IsSize, payloads_length, request_size}
+use Rattle.rlsf_base.specs.SizeClass.{IsValid, Reaches, class_of, reaching_class}
+use Rattle.rlsf_base.specs.Sizes.{IsSize, chunk_length, map_ceil_and_unmap, payloads_length, pool_size_for_payloads, request_size}
+use Rattle.rlsf_base.proofs.Numbers.PowersOfTwo.{IsPowerOfTwo-positive}
 use Rattle.rlsf_base.proofs.Numbers.Roundings.{round32-same}
 use Rattle.rlsf_base.proofs.SizeClasses.Order.{IsFirstReaching-reaching_class, class_start-mono}
 use Rattle.rlsf_base.proofs.SizeClasses.Reach.{Reaches-from_slack, class_start-le, division-lt}
-use Rattle.rlsf_base.proofs.SizeMaps.ChunkLengths.{least_is_taken}
-use Rattle.rlsf_base.proofs.SizeMaps.Laws.{IsUnmapped-some}
+use Rattle.rlsf_base.proofs.SizeMaps.ChunkLengths.{chunk_length-is, least_is_taken}
+use Rattle.rlsf_base.proofs.SizeMaps.Laws.{IsSize-request_size, IsUnmapped-some}
 use Rattle.rlsf_base.proofs.SizeMaps.RowLengths.{IsPower-row_length}
-use Rattle.rlsf_machine.specs.Allocate.{Allocates, choice, placed}
-use Rattle.rlsf_machine.specs.Budget.{AreAtMost, IsModest}
+use Rattle.rlsf_machine.specs.Allocate.{Allocates, choice}
+use Rattle.rlsf_machine.specs.Budget.{AreAtMost, AreWithin, AsksWithin, IsDenied, IsModest, RunsModestly}
 use Rattle.rlsf_machine.specs.Insert.{with_chunk}
 use Rattle.rlsf_machine.specs.Lists.{IsIn}
-use Rattle.rlsf_machine.specs.Payload.{payload_of}
-use Rattle.rlsf_machine.specs.Reallocate.{Plan, Reallocates, ReallocatesBy, into_next, into_previous, moved, or_else, plan, resized, tail_joined}
 use Rattle.rlsf_machine.specs.Release.{Deallocates, released}
-use Rattle.rlsf_machine.specs.Run.{Event, insert, allocate, deallocate, reallocate, Leads, MayCall}
-use Rattle.rlsf_machine.specs.Sizing.{EndsRefused, NeverRefuses, PayloadPoolIsExact}
-use Rattle.rlsf_machine.specs.State.{State, Used, Holds, empty, others}
-use Rattle.rlsf_machine.specs.WellFormed.{coverage, covers, itself, last_bytes, IsWellFormed}
+use Rattle.rlsf_machine.specs.Run.{Event, insert, allocate, deallocate, reallocate, Leads, MayCall, Runs}
+use Rattle.rlsf_machine.specs.Sizing.{EndsRefused, EndsRefusedWithin, LayoutPoolIsExact, NeverRefuses, NeverRefusesWithin, PayloadPoolIsExact}
+use Rattle.rlsf_machine.specs.State.{State, Used, Holds, empty}
+use Rattle.rlsf_machine.specs.WellFormed.{IsWellFormed}
 use Rattle.rlsf_machine.proofs.Budgets.{AreFronts-one, live_is_counted, modest_runs_are_not_denied}
 use Rattle.rlsf_machine.proofs.Changes.{Holds-unique, IsIn-others, IsIn-others_from}
-use Rattle.rlsf_machine.proofs.Choices.{choice-from_none, choice-some}
-use Rattle.rlsf_machine.proofs.Coverage.{covers-before, covers-behind, covers-inside, coverage-IsIn, coverage-none, coverage-some, coverage-unique}
+use Rattle.rlsf_machine.proofs.Choices.{choice-from_none}
 use Rattle.rlsf_machine.proofs.Cuts.{whole_product}
-use Rattle.rlsf_machine.proofs.Examples.{planned_after, planned_step, refilled}
-use Rattle.rlsf_machine.proofs.Payloads.{IsUsed-some}
-use Rattle.rlsf_machine.proofs.PoolLengths.{HasBudget-reached}
-use Rattle.rlsf_machine.proofs.Room.{allocation_answers}
+use Rattle.rlsf_machine.proofs.PoolLengths.{HasBudget-reached, payload_pool_is_enough}
+use Rattle.rlsf_machine.proofs.ShortStates.{AreAsked, Gave, IsAt, IsPlain, Shrunk, asked, at_given, behind_is_rest, blocks_others, gives, short, shrinks, within}
 use Rattle.rlsf_machine.proofs.Steps.{empty_is_well_formed, steps_keep_well_formed}
-use Rattle.rlsf_machine.proofs.Tiling.{IsPart-free, block_of, blocks-le, free-le, lies_in_chunk, tiling_of}
-
--- ---- states
-
--- in the one chunk c there are, i times from its start on, a gap and a used block of `most` bytes; each used block ends at
--- an address or before it, and there one ends or the chunk begins
-pub record IsAt (fllen sllen most gap : ℕ) (memory c : Range) (i p : ℕ) (s : State) : Type 0 where
-  pub w : IsWellFormed fllen sllen memory s
-  pub one : s.chunks ≡ c ∷ []
-  pub blocks : (k : ℕ) → k < i → (u : Used) × IsIn u s.used × (u.block ≡ range_at (c.start + k * (most + gap) + gap) most)
-  pub ends : (u : Used) → IsIn u s.used → end_of u.block ≤ p
-  pub stop : (p ≡ c.start) ⊎ ((u : Used) × IsIn u s.used × (end_of u.block ≡ p))
-
-module _ {fllen sllen most gap : ℕ} {memory c : Range} {i p : ℕ} {s : State} (is : IsAt fllen sllen most gap memory c i p s) where
-  has_chunk : IsIn c s.chunks
-  has_chunk = subst (IsIn c) (sym is.one) (inl refl)
-
-  chunk_at : (a : ℕ) → coverage itself s.chunks a ≡ covers c a + 0
-  chunk_at a = ap (λ l. coverage itself l a) is.one
-
-  last_at : (a : ℕ) → coverage last_bytes s.chunks a ≡ covers (last_bytes c) a + 0
-  last_at a = ap (λ l. coverage last_bytes l a) is.one
-
-  room : 64 ≤ c.len
-  room = (is.w.chunks c has_chunk).has_room
-
-  -- a free range lies in the chunk
-  within : (f : Range) → IsIn f s.free → (c.start ≤ f.start) × (end_of f + 32 ≤ end_of c) × (0 < f.len)
-  within f j =
-      let some = (is.w.free f j).some in
-      let home = lies_in_chunk s (tiling_of is.w) f some (IsPart-free s (tiling_of is.w) f j) in
-      let from = home.from in
-      let to = home.to in
-      elim (subst (IsIn home.chunk) is.one home.is_chunk) [
-        | inl same ↦
-            let start : home.chunk.start ≡ c.start = ap (λ r. r.start) same in
-            let len : home.chunk.len ≡ c.len = ap (λ r. r.len) same in
-            (omega arith, omega arith, some)
-        | inr none ↦ absurd none
-      ]
-
-  -- from the address on all is free
-  free_at : (a : ℕ) → p ≤ a → c.start ≤ a → a < end_of c - 32 → 1 ≤ coverage itself s.free a
-  free_at a past from below =
-      let long = room in
-      let no_used = coverage-none block_of s.used a (λ u j. covers-behind u.block a (omega (arith, is.ends u j))) in
-      omega (arith, is.w.tiled a, no_used, last_at a, covers-before (last_bytes c) a (omega arith), chunk_at a, covers-inside c a from (omega arith))
-
-  -- no free range begins before it and ends behind it
-  no_straddle : c.start ≤ p → (f : Range) → IsIn f s.free → p < end_of f → p ≤ f.start
-  no_straddle from f j high = elim (cases_lt f.start p) [
-    | inr later ↦ later
-    | inl earlier ↦ elim is.stop [
-      | inl at ↦ absurd (omega (arith, (within f j).0))
-      | inr (u, k, end) ↦
-          let some = IsUsed-some u (is.w.used u k) in
-          absurd (omega (
-            arith,
-            blocks-le s (tiling_of is.w) (p - 1),
-            coverage-IsIn itself f s.free (p - 1) j,
-            coverage-IsIn block_of u s.used (p - 1) k,
-            covers-inside f (p - 1) (omega arith) (omega arith),
-            covers-inside u.block (p - 1) (omega arith) (omega arith),
-          ))
-    ]
-  ]
-
-  -- the free range that begins at the address has all of the chunk from there on
-  rest_is_free : c.start ≤ p → p < end_of c - 32 → IsIn (range_at p (end_of c - 32 - p)) s.free
-  rest_is_free from below =
-      let t = tiling_of is.w in
-      let (f, j, low, high) = coverage-some itself s.free p (free_at p (omega arith) from below) in
-      let (f_from, f_to, f_some) = within f j in
-      let begins : f.start ≡ p = omega (arith, no_straddle from f j high) in
-      let ends : f.len ≡ end_of c - 32 - p = elim (cases_lt (end_of f) (end_of c - 32)) [
-        | inr long ↦ omega arith
-        | inl short ↦
-            let (g, k, g_low, g_high) = coverage-some itself s.free (end_of f) (free_at (end_of f) (omega arith) (omega arith) short) in
-            elim (cases_lt g.start (end_of f)) [
-              | inr at ↦ absurd (is.w.apart f g j k (omega arith))
-              | inl overlaps ↦
-                  let both : f ≡ g = coverage-unique itself f g s.free (end_of f - 1) (free-le s t (end_of f - 1)) j k (covers-inside f (end_of f - 1) (omega arith) (omega arith)) (covers-inside g (end_of f - 1) (omega arith) (omega arith)) in
-                  let same : end_of f ≡ end_of g = ap end_of both in
-                  absurd (omega arith)
-            ]
-      ] in
-      let whole : f ≡ range_at p (end_of c - 32 - p) = λ k. record { start = begins k; len = ends k } in
-      subst (λ r. IsIn r s.free) whole j
-
-  -- a free range that ends behind it is that one
-  behind_is_rest : c.start ≤ p → p < end_of c - 32 → (f : Range) → IsIn f s.free → p < end_of f → f ≡ range_at p (end_of c - 32 - p)
-  behind_is_rest from below f j high =
-      let rest = range_at p (end_of c - 32 - p) in
-      let (f_from, f_to, f_some) = within f j in
-      let a = end_of f - 1 in
-      coverage-unique itself f rest s.free a (free-le s (tiling_of is.w) a) j (rest_is_free from below) (covers-inside f a (omega arith) (omega arith)) (covers-inside rest a (omega arith) (omega arith))
-
-  -- and each other one is no longer than the gap
-  short : 0 < most → p ≤ c.start + i * (most + gap) + gap → (f : Range) → IsIn f s.free → end_of f ≤ p → f.len ≤ gap
-  short some near f j before =
-      let d = most + gap in
-      let (f_from, f_to, f_some) = within f j in
-      let x = f.start - c.start in
-      let k = x / d in
-      let parts : k * d + x % d ≡ x = div-add-mod' x d in
-      let less : x % d < d = mod-lt x (omega (arith, some)) in
-      elim (cases_lt k i) [
-        | inr more ↦ let times : i * d ≤ k * d = mul-le-mul_right d more in omega arith
-        | inl fewer ↦
-            let (u, h, at) = is.blocks k fewer in
-            let b = c.start + k * d + gap in
-            let start : u.block.start ≡ b = ap (λ r. r.start) at in
-            let len : u.block.len ≡ most = ap (λ r. r.len) at in
-            elim (cases_lt b (end_of f)) [
-              | inr ends ↦ omega arith
-              | inl over ↦ elim (cases_lt f.start b) [
-                | inl low ↦ absurd (apart f u j h b (omega arith) over (omega arith) (omega arith))
-                | inr high ↦ absurd (apart f u j h f.start (omega arith) (omega arith) (omega arith) (omega arith))
-              ]
-            ]
-      ]
-    where
-      apart : (f : Range) (u : Used) → IsIn f s.free → IsIn u s.used → (a : ℕ) → f.start ≤ a → a < end_of f → u.block.start ≤ a → a < end_of u.block → ⊥
-      apart f u j h a f_low f_high u_low u_high =
-          omega (arith, blocks-le s (tiling_of is.w) a, coverage-IsIn itself f s.free a j, coverage-IsIn block_of u s.used a h, covers-inside f a f_low f_high, covers-inside u.block a u_low u_high)
-
-  -- the used blocks behind the gaps stay where another is taken away that begins behind them
-  blocks_others : (addr : ℕ) (x : Used) → Holds s addr x → c.start + i * (most + gap) ≤ x.block.start → 0 < most → (k : ℕ) → k < i
-      → (u : Used) × IsIn u (others addr s.used) × (u.block ≡ range_at (c.start + k * (most + gap) + gap) most)
-  blocks_others addr x holds behind some k less =
-      let (u, h, at) = is.blocks k less in
-      let start : u.block.start ≡ c.start + k * (most + gap) + gap = ap (λ r. r.start) at in
-      let times : (k + 1) * (most + gap) ≤ i * (most + gap) = mul-le-mul_right (most + gap) (omega arith) in (
-        u,
-        IsIn-others_from addr u s.used h (λ same. let is_x : u ≡ x = Holds-unique is.w addr u x (h, same) holds in
-            let begins : u.block.start ≡ x.block.start = ap (λ v. v.block.start) is_x in
-            absurd (before (k * (most + gap)) (i * (most + gap)) u.block.start x.block.start start behind begins (omega (arith, times)))),
-        at,
-      )
-    where
-      before : (m n a b : ℕ) → a ≡ c.start + m + gap → c.start + n ≤ b → a ≡ b → m + most + gap ≤ n → ⊥
-      before m n a b start behind same times = omega arith
-
--- ---- steps
-
-asked : (most : ℕ) → IsSize most → request_size (most - 16) 1 ≡ most
-asked most is =
-    let sum : most - 16 + (1 - 16) + 16 ≡ most = omega (arith, is.0, is.1) in
-    ap round32 sum ∙ round32-same most is.1
-
--- a used block of so many bytes, with its payload 16 bytes behind its start
-pub record IsPlain (from len : ℕ) (u : Used) : Type 0 where
-  pub block : u.block ≡ range_at from len
-  pub payload : u.payload ≡ from + 16
-  pub align : u.align ≡ 1
-
-pub record Gave (sllen : ℕ) (s : State) (from len : ℕ) : Type 0 where
-  pub after : State
-  pub addr : ℕ
-  pub new : Used
-  pub step : Allocates sllen s (len - 16) 1 (Some addr) after
-  pub chunks : after.chunks ≡ s.chunks
-  pub used : after.used ≡ new ∷ s.used
-  pub plain : IsPlain from len new
-
-module _ {fllen sllen most gap : ℕ} {memory c : Range} (most_is : IsSize most)
-    (unreach : (n : ℕ) → 0 < n → n ≤ gap → Reaches sllen (class_of sllen n) most → ⊥) where
-  -- a block is taken from the front of the rest, or none is
-  gives : {i p : ℕ} {s : State} → IsAt fllen sllen most gap memory c i p s → c.start ≤ p → p ≤ c.start + i * (most + gap) + gap → Allocates sllen s (most - 16) 1 None s ⊎ Gave sllen s p most
-  gives {i} {p} {s} is from near =
-      let (reply, t, step) = allocation_answers sllen s (most - 16) 1 in
-      go reply t step
-    where
-      rest : Range
-      rest = range_at p (end_of c - 32 - p)
-
-      seeks : request_size (most - 16) 1 ≡ most
-      seeks = asked most most_is
-
-      go : (reply : Option ℕ) (t : State) → Allocates sllen s (most - 16) 1 reply t → Allocates sllen s (most - 16) 1 None s ⊎ Gave sllen s p most
-      go None t step = inl (step.0, refl)
-      go (Some addr) t step =
-          let f = step.range in
-          let chosen = choice-some sllen (request_size (most - 16) 1) s.free f step.chosen in
-          let reached : Reaches sllen (class_of sllen f.len) most = subst (Reaches sllen (class_of sllen f.len)) seeks chosen.reached in
-          let is_rest : f ≡ rest = elim (cases_lt p (end_of f)) [
-            | inl behind ↦ behind_is_rest is from (let (f_from, f_to, f_some) = within is f chosen.is_in in omega arith) f chosen.is_in behind
-            | inr before ↦ absurd (unreach f.len (is.w.free f chosen.is_in).some (short is most_is.0 near f chosen.is_in before) reached)
-          ] in
-          let v = placed f (most - 16) 1 step.bytes in
-          let start : f.start ≡ p = ap (λ r. r.start) is_rest in
-          let payload : payload_of f.start 1 ≡ p + 16 = omega (arith, start) in
-          let len : payload_of f.start 1 - f.start + (most - 16) ≡ most = omega (arith, start, payload, most_is.0, most_is.1) in
-          let whole : round32 (payload_of f.start 1 - f.start + (most - 16)) ≡ most = ap round32 len ∙ round32-same most most_is.1 in
-          inr (record {
-            after = t;
-            addr = addr;
-            new = v;
-            step = step;
-            chunks = ap (λ x. x.chunks) step.after;
-            used = ap (λ x. x.used) step.after;
-            plain = record { block = λ k. record { start = start k; len = whole k }; payload = payload; align = refl };
-          })
-
-  -- and all used blocks end where it does
-  at_given : {i p : ℕ} {s : State} → IsAt fllen sllen most gap memory c i p s → (g : Gave sllen s p most) → IsAt fllen sllen most gap memory c i (p + most) g.after
-  at_given {i} {p} {s} is g =
-      let new_end : end_of g.new.block ≡ p + most = ap end_of g.plain.block in record {
-        w = steps_keep_well_formed fllen sllen memory s g.after (allocate (most - 16) 1 (Some g.addr)) is.w refl g.step;
-        one = g.chunks ∙ is.one;
-        blocks = λ k less. let (u, h, at) = is.blocks k less in (u, subst (IsIn u) (sym g.used) (inr h), at);
-        ends = λ u h. elim (subst (IsIn u) g.used h) [ inl same ↦ omega (arith, ap (λ x. end_of x.block) same, new_end) | inr old ↦ omega (arith, is.ends u old) ];
-        stop = inr (g.new, subst (IsIn g.new) (sym g.used) (inl refl), new_end);
-      }
-
--- a plain block is made shorter where it stands
-pub record Shrunk (sllen : ℕ) (s : State) (from len : ℕ) : Type 0 where
-  pub after : State
-  pub addr : ℕ
-  pub new : Used
-  pub step : Reallocates sllen s (from + 16) (len - 16) (Some addr) after
-  pub chunks : after.chunks ≡ s.chunks
-  pub used : after.used ≡ new ∷ others (from + 16) s.used
-  pub plain : IsPlain from len new
-
-shrinks : (fllen sllen : ℕ) (memory : Range) (s : State) (u : Used) (from old len : ℕ) → IsIn u s.used → IsPlain from old u → IsSize len → len ≤ old → Shrunk sllen s from len
-shrinks fllen sllen memory s u from old len h plain is less =
-    let z = len - 16 in
-    let start : u.block.start ≡ from = ap (λ r. r.start) plain.block in
-    let end : end_of u.block ≡ from + old = ap end_of plain.block in
-    let sum : u.payload - u.block.start + z ≡ len = omega (arith, start, plain.payload, is.0, is.1) in
-    let long : round32 (u.payload - u.block.start + z) ≡ len = ap round32 sum ∙ round32-same len is.1 in
-    let block : resized u z ≡ range_at from len = λ k. record { start = start k; len = long k } in
-    let fits : end_of (resized u z) ≤ end_of u.block = omega (arith, start, end, long, less) in
-    let p : Plan = record { block = resized u z; payload = u.payload; free = tail_joined (resized u z) (end_of u.block) s.free } in
-    let planned : plan s u z ≡ Some p = ap (λ b. or_else (cond b (Some p) None) (or_else (into_next s u z) (into_previous s u z))) (le-leb (end_of (resized u z)) (end_of u.block) fits) in
-    let t = planned_after sllen s u z (Some p) in
-    record {
-      after = t;
-      addr = u.payload;
-      new = moved u p (refilled (end_of p.block - p.payload) u.bytes);
-      step = record { block = u; holds = (h, plain.payload); step = subst (λ o. ReallocatesBy sllen s u z o (Some u.payload) t) (sym planned) (planned_step fllen sllen memory s u h z (Some p)) };
-      chunks = refl;
-      used = ap (λ a. moved u p (refilled (end_of p.block - p.payload) u.bytes) ∷ others a s.used) plain.payload;
-      plain = record { block = block; payload = plain.payload; align = plain.align };
-    }
 
 -- ---- runs that end refused
 
 next_place : (a i d gap most : ℕ) → d ≡ most + gap → a + i * d + gap + most ≡ a + suc i * d
 next_place a i d gap most is = omega (arith, is)
 
-module _ (live fllen sllen most gap : ℕ) (memory c : Range) (most_is : IsSize most) (gap32 : gap % 32 ≡ 0) (twice : gap ≤ 2 * most)
+-- a list of calls that ends refused: the blocks that are sought are in bounds, and so are the sizes and alignments that are asked for
+record Ends (live most size align fllen sllen : ℕ) (memory : Range) (s : State) : Type 0 where
+  calls : List Event
+  after : State
+  refused : Event
+  modest : RunsModestly live most fllen sllen memory s calls after
+  within : AreWithin live size align (length s.used) calls
+  is_call : IsIn refused calls
+  denied : IsDenied refused
+
+module _ (live fllen sllen most gap size align : ℕ) (asks : ℕ → ℕ) (memory c : Range) (most_is : IsSize most) (are : AreAsked most size asks) (some_align : 1 ≤ align) (gap32 : gap % 32 ≡ 0) (twice : gap ≤ 2 * most)
     (unreach : (n : ℕ) → 0 < n → n ≤ gap → Reaches sllen (class_of sllen n) most → ⊥)
     (short_is : end_of c - 32 ≤ c.start + live * (most + gap) + gap) where
   abbrev At : ℕ → ℕ → State → Type 0
   At i p s = IsAt fllen sllen most gap memory c i p s
 
   abbrev Refuses : State → Type 0
-  Refuses s = EndsRefused live most fllen sllen memory s
+  Refuses s = Ends live most size align fllen sllen memory s
 
-  first : (s : State) (e : Event) (u : State) → MayCall memory s e → IsModest live most s e → Leads fllen sllen s e u → Refuses u → Refuses s
-  first s e u may modest step rest = record { calls = e ∷ rest.calls; after = rest.after; refused = rest.refused; run = (u, may, modest, step, rest.run); is_call = inr rest.is_call; denied = rest.denied }
+  -- what is asked for the longest block
+  abbrev z : ℕ
+  z = asks most
 
-  refusing : (s : State) → IsModest live most s (allocate (most - 16) 1 None) → Allocates sllen s (most - 16) 1 None s → Refuses s
-  refusing s modest full = record { calls = allocate (most - 16) 1 None ∷ []; after = s; refused = allocate (most - 16) 1 None; run = (s, refl, modest, full, refl); is_call = inl refl; denied = refl }
+  seeks : round32 (z + 16) ≡ most
+  seeks = are.seeks most most_is (omega arith)
+
+  first : (s : State) (e : Event) (u : State) → IsWellFormed fllen sllen memory s → MayCall memory s e → IsModest live most s e → AsksWithin live size align (length s.used) e → Leads fllen sllen s e u → Refuses u → Refuses s
+  first s e u w may modest within step rest = record {
+    calls = e ∷ rest.calls;
+    after = rest.after;
+    refused = rest.refused;
+    modest = (u, may, modest, step, rest.modest);
+    within = (within, subst (λ n. AreWithin live size align n rest.calls) (live_is_counted fllen sllen memory s u e w may step) rest.within);
+    is_call = inr rest.is_call;
+    denied = rest.denied;
+  }
+
+  refusing : (s : State) → length s.used ≤ live → Allocates sllen s z 1 None s → Refuses s
+  refusing s few full = record {
+    calls = allocate z 1 None ∷ [];
+    after = s;
+    refused = allocate z 1 None;
+    modest = (s, refl, (few, omega (arith, asked z most seeks)), full, refl);
+    within = ((few, are.small most most_is (omega arith), some_align), tt);
+    is_call = inl refl;
+    denied = refl;
+  }
 
   -- a block is allocated, or the list ends refused
   allocating : {i p : ℕ} {s : State} → At i p s → c.start ≤ p → p ≤ c.start + i * (most + gap) + gap → length s.used ≤ live
-      → ((g : Gave sllen s p most) → At i (p + most) g.after → length g.after.used ≡ suc (length s.used) → Refuses g.after) → Refuses s
+      → ((g : Gave sllen s p most z) → At i (p + most) g.after → length g.after.used ≡ suc (length s.used) → Refuses g.after) → Refuses s
   allocating {i} {p} {s} is from near few rest =
-      let modest : IsModest live most s (allocate (most - 16) 1 None) = (few, omega (arith, asked most most_is)) in
-      elim (gives most_is unreach is from near) [
-        | inl full ↦ refusing s modest full
-        | inr g ↦ first s (allocate (most - 16) 1 (Some g.addr)) g.after refl modest g.step (rest g (at_given most_is unreach is g) (ap length g.used))
+      elim (gives most_is seeks unreach is from near) [
+        | inl full ↦ refusing s few full
+        | inr g ↦
+            first s (allocate z 1 (Some g.addr)) g.after is.w refl (few, omega (arith, asked z most seeks)) (few, are.small most most_is (omega arith), some_align) g.step
+            (rest g (at_given most_is seeks unreach is g) (ap length g.used))
       ]
 
   -- a block is given back that begins behind the gaps
@@ -317,7 +103,7 @@ module _ (live fllen sllen most gap : ℕ) (memory c : Range) (most_is : IsSize 
   releasing {i} {p} {s} is x u h behind k end apart rest =
       let t = released s x in
       let step : Deallocates s x.payload t = record { block = x; holds = (h, refl); after = refl } in
-      first s (deallocate x.payload) t (x, (h, refl)) tt step (rest (record {
+      first s (deallocate x.payload) t is.w (x, (h, refl)) tt tt step (rest (record {
         w = steps_keep_well_formed fllen sllen memory s t (deallocate x.payload) is.w (x, (h, refl)) step;
         one = is.one;
         blocks = blocks_others is x.payload x (h, refl) behind most_is.0;
@@ -328,22 +114,23 @@ module _ (live fllen sllen most gap : ℕ) (memory c : Range) (most_is : IsSize 
   -- the last block is made shorter
   shrinking : {i p q old : ℕ} {s : State} → At i p s → (x : Used) → IsIn x s.used → IsPlain q old x → c.start + i * (most + gap) ≤ q
       → ((u : Used) → IsIn u s.used → u.payload ≢ q + 16 → end_of u.block ≤ q) → (len : ℕ) → IsSize len → len ≤ old → len ≤ most → length s.used ≤ live
-      → ((h : Shrunk sllen s q len) → At i (q + len) h.after → length h.after.used ≡ length s.used → Refuses h.after) → Refuses s
+      → ((h : Shrunk sllen s q len (asks len)) → At i (q + len) h.after → length h.after.used ≡ length s.used → Refuses h.after) → Refuses s
   shrinking {i} {p} {q} {old} {s} is x k plain behind others_end len len_is less fits few rest =
-      let h = shrinks fllen sllen memory s x q old len k plain len_is less in
+      let seeks_len : round32 (asks len + 16) ≡ len = are.seeks len len_is fits in
+      let h = shrinks fllen sllen memory s x q old len (asks len) k plain seeks_len less in
       let holds : Holds s (q + 16) x = (k, plain.payload) in
       let start : x.block.start ≡ q = ap (λ r. r.start) plain.block in
       let new_end : end_of h.new.block ≡ q + len = ap end_of h.plain.block in
-      let may : MayCall memory s (reallocate (q + 16) (len - 16) (Some h.addr)) = (x, holds) in
-      let modest : IsModest live most s (reallocate (q + 16) (len - 16) (Some h.addr)) = (
+      let may : MayCall memory s (reallocate (q + 16) (asks len) (Some h.addr)) = (x, holds) in
+      let modest : IsModest live most s (reallocate (q + 16) (asks len) (Some h.addr)) = (
         few,
         λ u held.
             let same : u ≡ x = Holds-unique is.w (q + 16) u x held holds in
             let one : u.align ≡ 1 = ap (λ v. v.align) same ∙ plain.align in
-            omega (arith, ap (request_size (len - 16)) one, asked len len_is),
+            omega (arith, ap (request_size (asks len)) one, asked (asks len) len seeks_len),
       ) in
-      first s (reallocate (q + 16) (len - 16) (Some h.addr)) h.after may modest h.step (rest h (record {
-        w = steps_keep_well_formed fllen sllen memory s h.after (reallocate (q + 16) (len - 16) (Some h.addr)) is.w may h.step;
+      first s (reallocate (q + 16) (asks len) (Some h.addr)) h.after is.w may modest (few, are.small len len_is fits) h.step (rest h (record {
+        w = steps_keep_well_formed fllen sllen memory s h.after (reallocate (q + 16) (asks len) (Some h.addr)) is.w may h.step;
         one = h.chunks ∙ is.one;
         blocks = λ n fewer. let (u, j, at) = blocks_others is (q + 16) x holds (omega arith) most_is.0 n fewer in (u, subst (IsIn u) (sym h.used) (inr j), at);
         ends = λ u j. elim (subst (IsIn u) h.used j) [
@@ -351,7 +138,7 @@ module _ (live fllen sllen most gap : ℕ) (memory c : Range) (most_is : IsSize 
           | inr left ↦ let (was, apart) = IsIn-others (q + 16) u s.used left in omega (arith, others_end u was apart)
         ];
         stop = inr (h.new, subst (IsIn h.new) (sym h.used) (inl refl), new_end);
-      }) (live_is_counted fllen sllen memory s h.after (reallocate (q + 16) (len - 16) (Some h.addr)) is.w may h.step))
+      }) (live_is_counted fllen sllen memory s h.after (reallocate (q + 16) (asks len) (Some h.addr)) is.w may h.step))
 
   -- one more gap with a used block behind it
   more : {i p : ℕ} {s : State} → At i p s → (u : Used) → IsIn u s.used → u.block ≡ range_at (c.start + i * (most + gap) + gap) most → At (suc i) p s
@@ -396,9 +183,9 @@ module _ (live fllen sllen most gap : ℕ) (memory c : Range) (most_is : IsSize 
             omega (arith, ap (λ r. r.len) rest, short_is)
         | inr before ↦ short is most_is.0 (omega arith) f j before
       ] in
-      let none : choice sllen (request_size (most - 16) 1) s.free ≡ None = choice-from_none sllen (request_size (most - 16) 1) s.free
-      (λ f j reached. unreach f.len (is.w.free f j).some (few f j) (subst (Reaches sllen (class_of sllen f.len)) (asked most most_is) reached)) in
-      refusing s (omega (arith, count), omega (arith, asked most most_is)) (none, refl)
+      let none : choice sllen (request_size z 1) s.free ≡ None = choice-from_none sllen (request_size z 1) s.free
+      (λ f j reached. unreach f.len (is.w.free f j).some (few f j) (subst (Reaches sllen (class_of sllen f.len)) (asked z most seeks) reached)) in
+      refusing s (omega (arith, count)) (none, refl)
 
   rounds : (j i : ℕ) (s : State) → i + j ≡ live → At i (c.start + i * (most + gap)) s → length s.used ≡ i → Refuses s
   rounds zero i s sum is count =
@@ -456,9 +243,35 @@ end_is n most gap a len less len32 gap32 most32 =
 slack : (m n : ℕ) → 0 < n → m * (n + 1) ≤ 2 * m * n
 slack m n some = let times : m * 1 ≤ m * n = mul-le-mul_left m some in omega arith
 
+-- a chunk alone, in which nothing lives, that is shorter than what is computed ends refused
+ends_refused : (fl_bits sl_bits fllen sllen live most least size align : ℕ) (asks : ℕ → ℕ) (memory : Range) (s : State) (c : Range) → IsValid fl_bits sl_bits fllen sllen → IsWellFormed fllen sllen memory s → IsSize most
+    → AreAsked most size asks → 1 ≤ align → map_ceil_and_unmap fllen sllen most ≡ Some least → s.used ≡ [] → s.chunks ≡ c ∷ [] → c.len < payloads_length live most least → Ends live most size align fllen sllen memory s
+ends_refused fl_bits sl_bits fllen sllen live most least size align asks memory s c valid w most_is are some_align told idle alone shorter =
+    let row = valid.power_of_two in
+    let start = (IsUnmapped-some fllen sllen most least row most_is told).start in
+    let some = (IsPower-row_length sllen row).some in
+    let first = IsFirstReaching-reaching_class sllen most some most_is.0 in
+    let gap = least - 32 in
+    let least_some : 32 ≤ least = omega (arith, start.enough, most_is.0, start.multiple) in
+    let minimal : (n : ℕ) → 0 < n → Reaches sllen (class_of sllen n) most → least ≤ n = λ n n_some reached.
+    let order = class_start-mono sllen (reaching_class sllen most) (class_of sllen n) first.in_row (first.first (class_of sllen n) (division-lt sllen n n_some some) reached) in
+    le_of_mul-le-mul_right {k = sllen} (omega (arith, order, start.begins, class_start-le sllen n n_some)) some in
+    let twice : least ≤ 2 * most = minimal (2 * most) (omega (arith, most_is.0)) (Reaches-from_slack sllen (2 * most) (omega (arith, most_is.0)) most (slack most sllen some)) in
+    let is_chunk : IsIn c s.chunks = subst (IsIn c) (sym alone) (inl refl) in
+    rounds live fllen sllen most gap size align asks memory c most_is are some_align (omega (arith, start.multiple)) (omega arith) (λ n n_some fewer reached. absurd (omega (arith, minimal n n_some reached)))
+    (end_is live most gap c.start c.len (omega arith) (w.chunks c is_chunk).whole.len (omega (arith, start.multiple)) most_is.1) live 0 s (omega arith)
+    (record {
+      w = w;
+      one = alone;
+      blocks = λ k less. absurd (omega arith);
+      ends = λ u j. absurd (subst (IsIn u) idle j);
+      stop = inl (omega arith);
+    })
+    (ap length idle)
+
 pub payload_pool_is_exact : PayloadPoolIsExact
 payload_pool_is_exact fl_bits sl_bits fllen sllen live most least memory s c valid w most_is told idle alone =
-    (never, λ shorter. ends shorter)
+    (never, ends)
   where
     never : payloads_length live most least ≤ c.len → NeverRefuses live most fllen sllen memory s
     never long es t e run i denied =
@@ -469,28 +282,63 @@ payload_pool_is_exact fl_bits sl_bits fllen sllen live most least memory s c val
 
     ends : c.len < payloads_length live most least → EndsRefused live most fllen sllen memory s
     ends shorter =
-        let row = valid.power_of_two in
-        let start = (IsUnmapped-some fllen sllen most least row most_is told).start in
-        let some = (IsPower-row_length sllen row).some in
-        let first = IsFirstReaching-reaching_class sllen most some most_is.0 in
-        let gap = least - 32 in
-        let least_some : 32 ≤ least = omega (arith, start.enough, most_is.0, start.multiple) in
-        let minimal : (n : ℕ) → 0 < n → Reaches sllen (class_of sllen n) most → least ≤ n = λ n n_some reached.
-        let order = class_start-mono sllen (reaching_class sllen most) (class_of sllen n) first.in_row (first.first (class_of sllen n) (division-lt sllen n n_some some) reached) in
-        le_of_mul-le-mul_right {k = sllen} (omega (arith, order, start.begins, class_start-le sllen n n_some)) some in
-        let twice : least ≤ 2 * most = minimal (2 * most) (omega (arith, most_is.0)) (Reaches-from_slack sllen (2 * most) (omega (arith, most_is.0)) most (slack most sllen some)) in
-        let is_chunk : IsIn c s.chunks = subst (IsIn c) (sym alone) (inl refl) in
-        let runs = rounds live fllen sllen most gap memory c most_is (omega (arith, start.multiple)) (omega arith)
-        (λ n n_some fewer reached. absurd (omega (arith, minimal n n_some reached)))
-        (end_is live most gap c.start c.len (omega arith) (w.chunks c is_chunk).whole.len (omega (arith, start.multiple)) most_is.1)
-        live 0 s (omega arith) (record {
-          w = w;
-          one = alone;
-          blocks = λ k less. absurd (omega arith);
-          ends = λ u j. absurd (subst (IsIn u) idle j);
-          stop = inl (omega arith);
-        }) (ap length idle) in
-        runs
+        let asks : ℕ → ℕ = λ len. len - 16 in
+        let are : AreAsked most (most - 16) asks = record {
+          seeks = λ len is fits. let sum : len - 16 + 16 ≡ len = omega (arith, is.0, is.1) in ap round32 sum ∙ round32-same len is.1;
+          small = λ len is fits. omega arith;
+        } in
+        let list = ends_refused fl_bits sl_bits fllen sllen live most least (most - 16) 1 asks memory s c valid w most_is are (omega arith) told idle alone shorter in
+        record { calls = list.calls; after = list.after; refused = list.refused; run = list.modest; is_call = list.is_call; denied = list.denied }
+
+-- ---- layouts
+
+-- for a layout with an alignment of 16 or less the size itself is asked for where the longest block is sought
+layout_is_asked : (size align : ℕ) → align ≤ 16 → AreAsked (request_size size align) size (λ len. size - (size - (len - 16)))
+layout_is_asked size align small =
+    let most : request_size size align ≡ round32 (size + 16) = let sum : size + (align - 16) + 16 ≡ size + 16 = omega arith in ap round32 sum in
+    record { seeks = λ len is fits. seeks len (request_size size align) most is.0 is.1 fits; small = λ len is fits. omega arith }
+  where
+    seeks : (len most : ℕ) → most ≡ round32 (size + 16) → 0 < len → len % 32 ≡ 0 → len ≤ most → round32 (size - (size - (len - 16)) + 16) ≡ len
+    seeks len most is some whole fits = omega (arith, is)
+
+-- what is modest is a run
+runs_of : (live most fllen sllen : ℕ) (memory : Range) (es : List Event) (s t : State) → RunsModestly live most fllen sllen memory s es t → Runs fllen sllen memory s es t
+runs_of live most fllen sllen memory [] s t is = is
+runs_of live most fllen sllen memory (e ∷ es) s t (u, may, modest, step, rest) = (u, may, step, runs_of live most fllen sllen memory es u t rest)
+
+-- the length that is computed is that of the least size of the class that reaches what is sought
+unmapped : (fllen sllen count size align len : ℕ) → pool_size_for_payloads fllen sllen count size align ≡ Some len
+    → (least : ℕ) × (map_ceil_and_unmap fllen sllen (request_size size align) ≡ Some least) × (payloads_length count (request_size size align) least ≡ len)
+unmapped fllen sllen count size align len told = go (map_ceil_and_unmap fllen sllen (request_size size align)) refl told
+  where
+    go : (o : Option ℕ) → map_ceil_and_unmap fllen sllen (request_size size align) ≡ o → option_and_then (λ least. chunk_length fllen (payloads_length count (request_size size align) least)) o ≡ Some len
+        → (least : ℕ) × (map_ceil_and_unmap fllen sllen (request_size size align) ≡ Some least) × (payloads_length count (request_size size align) least ≡ len)
+    go None e none = absurd (none-some len none)
+    go (Some least) e some = (least, e, chunk_length-is fllen (payloads_length count (request_size size align) least) len some)
+
+pub layout_pool_is_exact : LayoutPoolIsExact
+layout_pool_is_exact fl_bits sl_bits fllen sllen count size align len memory s c valid w power small told idle alone =
+    (never, ends)
+  where
+    never : len ≤ c.len → NeverRefusesWithin count size align fllen sllen memory s
+    never long es t e run within i denied =
+        payload_pool_is_enough fl_bits sl_bits fllen sllen count size align len memory s t c es valid w told idle (subst (IsIn c) (sym alone) (inl refl)) long run within e i denied
+
+    ends : c.len < len → EndsRefusedWithin count size align fllen sllen memory s
+    ends shorter =
+        let (least, is, length_is) = unmapped fllen sllen count size align len told in
+        let asks : ℕ → ℕ = λ l. size - (size - (l - 16)) in
+        let list = ends_refused fl_bits sl_bits fllen sllen count (request_size size align) least size align asks memory s c valid w (IsSize-request_size size align) (layout_is_asked size align small) (IsPowerOfTwo-positive align power) is idle alone
+        (omega (arith, shorter, length_is)) in
+        record {
+          calls = list.calls;
+          after = list.after;
+          refused = list.refused;
+          run = runs_of count (request_size size align) fllen sllen memory list.calls s list.after list.modest;
+          within = subst (λ n. AreWithin count size align n list.calls) (ap length idle) list.within;
+          is_call = list.is_call;
+          denied = list.denied;
+        }
 
 -- ---- an example
 
@@ -502,3 +350,12 @@ not_four_payloads =
     let w = steps_keep_well_formed 8 8 memory empty (with_chunk c empty) (insert c (Some 352)) (empty_is_well_formed 8 8 memory (omega arith) (omega arith) (omega arith))
     (record { lies_in = (omega arith, omega arith); apart = λ a low high. refl }) (record { answer = refl; after = refl }) in
     (payload_pool_is_exact 8 8 8 8 3 64 64 memory (with_chunk c empty) c (record { some_rows = omega arith; rows_fit = omega arith; power_of_two = refl; classes_fit = omega arith }) w (omega arith, omega arith) refl refl refl).1 (omega arith)
+
+-- nor is a chunk of 352 bytes long enough for layouts of up to 40 bytes, three of which are live before the last call
+not_four_layouts : EndsRefusedWithin 3 40 8 8 8 (range_at 4096 8192) (with_chunk (range_at 4096 352) empty)
+not_four_layouts =
+    let memory = range_at 4096 8192 in
+    let c = range_at 4096 352 in
+    let w = steps_keep_well_formed 8 8 memory empty (with_chunk c empty) (insert c (Some 352)) (empty_is_well_formed 8 8 memory (omega arith) (omega arith) (omega arith))
+    (record { lies_in = (omega arith, omega arith); apart = λ a low high. refl }) (record { answer = refl; after = refl }) in
+    (layout_pool_is_exact 8 8 8 8 3 40 8 384 memory (with_chunk c empty) c (record { some_rows = omega arith; rows_fit = omega arith; power_of_two = refl; classes_fit = omega arith }) w refl (omega arith) refl refl refl).1 (omega arith)

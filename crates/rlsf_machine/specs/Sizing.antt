@@ -105,6 +105,28 @@ PayloadPoolIsExact = (fl_bits sl_bits fllen sllen live most least : ℕ) (memory
     → IsWellFormed fllen sllen memory s → IsSize most → map_ceil_and_unmap fllen sllen most ≡ Some least → s.used ≡ [] → s.chunks ≡ c ∷ []
     → (payloads_length live most least ≤ c.len → NeverRefuses live most fllen sllen memory s) × (c.len < payloads_length live most least → EndsRefused live most fllen sllen memory s)
 
+-- in some run whose calls stay within the bounds of a count, a size and an alignment one is refused
+pub record EndsRefusedWithin (count size align fllen sllen : ℕ) (memory : Range) (s : State) : Type 0 where
+  pub calls : List Event
+  pub after : State
+  pub refused : Event
+  pub run : Runs fllen sllen memory s calls after
+  pub within : AreWithin count size align 0 calls
+  pub is_call : IsIn refused calls
+  pub denied : IsDenied refused
+
+-- in none is
+abbrev pub NeverRefusesWithin : ℕ → ℕ → ℕ → ℕ → ℕ → Range → State → Type 0
+NeverRefusesWithin count size align fllen sllen memory s =
+    (es : List Event) (t : State) (e : Event) → Runs fllen sllen memory s es t → AreWithin count size align 0 es → IsIn e es → IsDenied e → ⊥
+
+-- so it is for layouts, where the alignment is 16 or less: a chunk alone, with nothing live, never refuses a payload of up to a layout
+-- while `count` or fewer are live exactly if it is as long or longer, and else some list of calls is refused. Above 16 the length is enough
+abbrev pub LayoutPoolIsExact : Type 0
+LayoutPoolIsExact = (fl_bits sl_bits fllen sllen count size align len : ℕ) (memory : Range) (s : State) (c : Range) → IsValid fl_bits sl_bits fllen sllen
+    → IsWellFormed fllen sllen memory s → IsPowerOfTwo align → align ≤ 16 → pool_size_for_payloads fllen sllen count size align ≡ Some len → s.used ≡ [] → s.chunks ≡ c ∷ []
+    → (len ≤ c.len → NeverRefusesWithin count size align fllen sllen memory s) × (c.len < len → EndsRefusedWithin count size align fllen sllen memory s)
+
 -- with nothing live, a chunk of the length that is computed for so many objects of a size, alone, has room for exactly as
 -- many, where all ask for the size that is computed: and that is as great as theirs, or greater
 abbrev pub ObjectPoolIsExact : Type 0
@@ -136,5 +158,6 @@ pub record SizingLaws : Type 0 where
   pub uniform_answers : UniformRunsAnswer
   pub payload_pool : PayloadPoolIsEnough
   pub payload_pool_exact : PayloadPoolIsExact
+  pub layout_pool_exact : LayoutPoolIsExact
   pub object_pool : ObjectPoolIsExact
   pub flex_never_asked : FlexNeverAsked

@@ -23,7 +23,7 @@ use Rattle.rlsf_machine.proofs.Room.{room_is_found, allocation_answers, refused_
 use Rattle.rlsf_machine.proofs.Similar.{fill_is_similar, similar_states_agree}
 use Rattle.rlsf_machine.proofs.Steps.{empty_is_well_formed, steps_keep_well_formed, runs_keep_well_formed}
 use Rattle.rlsf_machine.proofs.Sums.{few_free, bytes_add_up, budget_is_enough}
-use Rattle.rlsf_machine.proofs.ShortChunks.{payload_pool_is_exact}
+use Rattle.rlsf_machine.proofs.ShortChunks.{layout_pool_is_exact, payload_pool_is_exact}
 use Rattle.rlsf_machine.proofs.Uniform.{uniform_is_full, allocation_keeps_uniform, deallocation_keeps_uniform, runs_keep_uniform, uniform_runs_answer}
 use Rattle.rlsf_machine.proofs.laws.Goals as goal
 
@@ -111,6 +111,7 @@ returns-clause-sizing c = record {
   uniform_answers = uniform_runs_answer;
   payload_pool = payload_pool_is_enough;
   payload_pool_exact = payload_pool_is_exact;
+  layout_pool_exact = layout_pool_is_exact;
   object_pool = object_pool_is_exact;
   flex_never_asked = flex_never_asked;
 }
