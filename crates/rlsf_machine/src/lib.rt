@@ -50,8 +50,9 @@ ghost use Rattle.rlsf_machine.specs.Sizing.{SizingLaws};
 /// sizes, its alignments and how many payloads live, nothing is refused where chunks, or fronts of them, have the budget for
 /// these bounds. Memory that comes meanwhile never hurts. In one chunk, blocks of one length at which a class begins stay in
 /// step: an allocation is refused exactly where as many payloads are live as the chunk has room for. Live payloads are counted.
-/// The lengths that are computed for so many payloads and for so many objects are enough, and exact. Within such bounds a source
-/// is never asked.
+/// The length that is computed for so many payloads is enough for each chunk (`payload_pool`), and a chunk alone, with nothing live, that
+/// is shorter is refused in some run within the bounds: for sought blocks (`payload_pool_exact`), and for layouts with an alignment of 16
+/// or less (`layout_pool_exact`). The one for so many objects is exact, too. Within such bounds a source is never asked.
 pub fn laws()
     ensures steps { StepLaws }
     ensures sources { SourceLaws }
