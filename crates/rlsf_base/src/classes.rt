@@ -104,8 +104,9 @@ pub fn pool_size_to_contain_allocation<
 
 /// The length of a chunk that never refuses a payload of up to the layout's size and alignment, as long as at most `count`
 /// payloads live in it before each allocation and each reallocation: whatever their sizes, and in whatever order they come
-/// and go. It is about twice the bytes in use. Memory of that length becomes such a chunk where it begins at a multiple of
-/// 32. `None` exactly where the length passes a `usize` or the longest chunk.
+/// and go. It is about twice the bytes in use. Where the alignment is 16 or less, it is the least such length: in each shorter
+/// chunk some of these calls are refused. Memory of that length becomes such a chunk where it begins at a multiple of 32.
+/// `None` exactly where the length passes a `usize` or the longest chunk.
 pub fn pool_size_for_payloads<
     FLBitmap: BitPattern,
     SLBitmap: BitPattern,
