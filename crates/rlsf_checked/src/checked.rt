@@ -127,7 +127,8 @@ impl<
     }
 
     /// Hands a range of the memory in. Its aligned part becomes chunks, which are free; no chunk is made of fewer than 64 bytes.
-    /// Answers the bytes from the range's start up to the last chunk's end.
+    /// Answers the bytes from the range's start up to the last chunk's end. Where nothing lives, a range from a multiple of 32 on that has
+    /// a length of `pool_size_for_payloads` sizes the allocator for these bounds (`IsSizedFor`).
     ///
     /// `OutsideMemory` exactly where the range doesn't lie in the memory, else `NotBehind` exactly where it begins before the end of what
     /// was handed in last, else `TooShort` exactly where no chunk is made of it. Then nothing changes.
@@ -205,7 +206,8 @@ impl<
     }
 
     /// Allocates a payload for a layout. Answers its address, a multiple of the alignment. `NoRoom` exactly where no free block's class
-    /// reaches the size that is sought. Then nothing changes.
+    /// reaches the size that is sought. Then nothing changes. Within bounds that the allocator is sized for (`IsSizedFor`) it is never
+    /// refused.
     pub fn allocate(&mut self, layout: Layout) -> Result<Addr, CheckedError>
         ensures refused { IfErr result (λ e. e ≡ NoRoom) }
         ensures step { Steps FLLEN SLLEN self.old.heap self.new.heap (Allocates SLLEN self.old.heap.state layout.size layout.align (addr_in result)) }
@@ -268,7 +270,8 @@ impl<
     /// old one stands. Answers its address. As many of its first bytes as both sizes have are kept.
     ///
     /// `UnknownAddress` exactly where none lives at the address, else `NoLayout` exactly where the size and the alignment together are
-    /// above 2^63, else `NoRoom` exactly where the machine refuses. Then nothing changes.
+    /// above 2^63, else `NoRoom` exactly where the machine refuses. Then nothing changes. A live payload's size within bounds that the
+    /// allocator is sized for (`IsSizedFor`) is never refused.
     pub fn reallocate(&mut self, addr: Addr, size: usize) -> Result<Addr, CheckedError>
         ensures answer { IsRefusedBy (refusal_at self.old.heap.state (at addr) size) result }
         ensures step { refusal_at self.old.heap.state (at addr) size ≡ None

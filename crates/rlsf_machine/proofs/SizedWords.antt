@@ -127,9 +127,32 @@ module _ {fllen sllen count size len : ℕ} (is : IsSize size) (pool : IsPayload
       let free = whole_product (pool.least - 32) count (omega (arith, pool.is.1, pool.is.0)) in
       (omega (arith, used, free, pool.length, pool.is.1), omega (arith, pool.length, pool.is.0, pool.is.1))
 
+-- a chunk that is as long, where nothing lives, is enough
+pub sized_chunk : (fl_bits sl_bits fllen sllen count size align len : ℕ) (s : State) (c : Range) → IsValid fl_bits sl_bits fllen sllen → pool_size_for_payloads fllen sllen count size align ≡ Some len
+    → IsIn c s.chunks → len ≤ c.len → live_count s ≡ 0 → IsSizedFor sllen count size align s
+unfolding live_count IsSizedFor
+sized_chunk fl_bits sl_bits fllen sllen count size align len s c valid told is_chunk long idle =
+    let sought = request_size size align in
+    let pool = IsPayloadPool-some fllen sllen count sought len valid.power_of_two (IsSize-request_size size align) told in
+    let (whole, some) = pool_len (IsSize-request_size size align) pool in
+    let front = range_at c.start len in (
+      front ∷ [],
+      record {
+        each = λ q. elim [ inl same ↦ subst (IsFront s.chunks) (sym same) (c, is_chunk, refl, long, omega arith) | inr none ↦ absurd none ];
+        disjoint = λ a. omega (arith, covers-le front a);
+      },
+      HasBudget-pool count sought sllen len front pool (omega arith),
+      λ u j. absurd (none_used s.used idle u j),
+    )
+  where
+    none_used : (us : List Used) → length us ≡ 0 → (u : Used) → IsIn u us → ⊥
+    none_used [] e u j = j
+    none_used (x ∷ xs) e u j = absurd (omega (arith, e))
+
+-- so is a range that is inserted
 pub sized_pool : (fl_bits sl_bits fllen sllen count size align len : ℕ) (s t : State) (r : Range) (reply : Option ℕ) → IsValid fl_bits sl_bits fllen sllen
     → pool_size_for_payloads fllen sllen count size align ≡ Some len → r.start % 32 ≡ 0 → len ≤ r.len → live_count s ≡ 0 → Inserts fllen s r reply t → IsSizedFor sllen count size align t
-unfolding live_count IsSizedFor
+unfolding live_count
 sized_pool fl_bits sl_bits fllen sllen count size align len s t r reply valid told at32 long idle step =
     let sought = request_size size align in
     let pool = IsPayloadPool-some fllen sllen count sought len valid.power_of_two (IsSize-request_size size align) told in
@@ -137,17 +160,5 @@ sized_pool fl_bits sl_bits fllen sllen count size align len s t r reply valid to
     let part = aligned_part r in
     let starts = round32-same r.start at32 in
     let (c, i, wide) = (AreCutFrom-cut fllen len part valid.some_rows some (λ p is. omega (arith, (max_pool_size-some fllen p is).1, pool.short)) (omega arith) (omega (arith, starts))).wide in
-    let front = range_at c.start len in
-    let is_chunk : IsIn c t.chunks = subst (λ x. IsIn c x.chunks) (sym step.after) (IsIn-with_chunks_new c (cut (max_pool_size fllen) part) s i).0 in (
-      front ∷ [],
-      record {
-        each = λ q. elim [ inl same ↦ subst (IsFront t.chunks) (sym same) (c, is_chunk, refl, wide, omega arith) | inr none ↦ absurd none ];
-        disjoint = λ a. omega (arith, covers-le front a);
-      },
-      HasBudget-pool count sought sllen len front pool (omega arith),
-      λ u j. absurd (none_used t.used (ap length (used-inserted fllen s t r reply step) ∙ idle) u j),
-    )
-  where
-    none_used : (us : List Used) → length us ≡ 0 → (u : Used) → IsIn u us → ⊥
-    none_used [] e u j = j
-    none_used (x ∷ xs) e u j = absurd (omega (arith, e))
+    let is_chunk : IsIn c t.chunks = subst (λ x. IsIn c x.chunks) (sym step.after) (IsIn-with_chunks_new c (cut (max_pool_size fllen) part) s i).0 in
+    sized_chunk fl_bits sl_bits fllen sllen count size align len t c valid told is_chunk wide (ap length (used-inserted fllen s t r reply step) ∙ idle)

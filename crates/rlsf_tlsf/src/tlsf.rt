@@ -104,7 +104,8 @@ impl<FLBitmap: BitPattern, SLBitmap: BitPattern, const FLLEN: usize, const SLLEN
 
     /// Hands a range of the memory in. Its aligned part becomes chunks, which are free; no chunk is made of fewer than
     /// 64 bytes. Answers the bytes from the range's start up to the last chunk's end, or `None` without a chunk, and
-    /// then nothing changes.
+    /// then nothing changes. Where nothing lives, a range from a multiple of 32 on that has a length of
+    /// `pool_size_for_payloads` sizes the allocator for these bounds (`IsSizedFor`).
     ///
     /// The range lies in the memory, and overlaps no chunk.
     pub fn insert_free_block_ptr(&mut self, range: Range) -> Option<NonZeroUsize>
@@ -213,7 +214,7 @@ impl<FLBitmap: BitPattern, SLBitmap: BitPattern, const FLLEN: usize, const SLLEN
 
     /// Allocates a payload for a layout: the front of the newest free block of the first class that reaches the size
     /// that is sought. Answers its address, a multiple of the alignment, or `None` exactly where no free block's class
-    /// reaches, and then nothing changes.
+    /// reaches, and then nothing changes. Within bounds that the allocator is sized for (`IsSizedFor`) it is never refused.
     pub fn allocate(&mut self, layout: Layout) -> Option<Addr>
         ensures step { Steps FLLEN SLLEN self.old self.new (Allocates SLLEN self.old.state layout.size layout.align (reply result)) }
         ensures live { IfSome result (λ addr. align_at self.new.state (at addr) ≡ Some layout.align) }
@@ -290,7 +291,8 @@ impl<FLBitmap: BitPattern, SLBitmap: BitPattern, const FLLEN: usize, const SLLEN
     /// Gives a payload another size: where it stands, if its block's bytes and those of a free block behind it suffice;
     /// else in the free block before it, if that suffices with these; else in a block that is allocated for it, and then
     /// the old one is given back. Answers its address, a multiple of the alignment. As many of its first bytes as both
-    /// sizes have are kept. `None` exactly where the allocation is refused, and then nothing changes.
+    /// sizes have are kept. `None` exactly where the allocation is refused, and then nothing changes. Within bounds that the
+    /// allocator is sized for (`IsSizedFor`) it is never refused.
     ///
     /// The address is live, with the layout's alignment.
     pub fn reallocate(&mut self, addr: Addr, layout: Layout) -> Option<Addr>
