@@ -21,6 +21,7 @@ pub mod OutsideNow
 pub mod RangeLengths
 pub mod RangeRows
 pub mod Reallocations
+pub mod Reserves
 pub mod Rewritten
 pub mod SpareBytes
 pub mod Standing

@@ -5,6 +5,7 @@ ghost use Rattle.std.specs.Prelude.{◌≡◌, ◌≢◌, ◌≤◌, ◌<◌, �
 ghost use Rattle.rlsf_base.specs.Addr.{at, reply};
 ghost use Rattle.rlsf_base.specs.Range.{LiesIn};
 ghost use Rattle.rlsf_base.specs.SizeClass.{IsValid};
+ghost use Rattle.rlsf_base.specs.Sizes.{pool_size_for_payloads};
 ghost use Rattle.rlsf_base.specs.Space.{SamePlace};
 ghost use Rattle.rlsf_blocks.specs.Spare.{KeepsSpare};
 ghost use Rattle.rlsf_machine.specs.Allocate.{HasRoomFor};
@@ -179,12 +180,18 @@ impl<
 
     /// Gives a payload back, as `Tlsf::deallocate` does. The source is asked nothing.
     ///
+    /// If no other payload lives, and its bytes and 48 more are as many as `pool_size_for_payloads` says, the pools are sized for
+    /// these bounds from then on (`IsSizedFor`). So memory can be had before it is needed: one long payload is allocated and
+    /// given back.
+    ///
     /// The address is live, with that alignment.
     pub fn deallocate(&mut self, addr: Addr, align: usize)
         requires { align_at self.old.state.machine (at addr) ≡ Some align }
         ensures step { StepsAlone FLLEN SLLEN S.terms S.owes self.old self.new (Deallocates self.old.state.machine (at addr)) }
         ensures count { live_count self.old.state.machine ≡ live_count self.new.state.machine + 1 }
         ensures bounds { (count size align : ℕ) → IsSizedFor SLLEN count size align self.old.state.machine → IsSizedFor SLLEN count size align self.new.state.machine }
+        ensures pool { (count size align len : ℕ) → pool_size_for_payloads FLLEN SLLEN count size align ≡ Some len → len ≤ length (bytes_at self.old.state.machine (at addr)) + 48
+            → live_count self.old.state.machine ≡ 1 → IsSizedFor SLLEN count size align self.new.state.machine }
         ensures chunks { self.new.state.machine.chunks ≡ self.old.state.machine.chunks }
         ensures gone { align_at self.new.state.machine (at addr) ≡ None }
         ensures aligns { (a : ℕ) → a ≢ at addr → align_at self.new.state.machine a ≡ align_at self.old.state.machine a }
@@ -207,6 +214,8 @@ impl<
         ensures step { StepsAlone FLLEN SLLEN S.terms S.owes self.old self.new (Deallocates self.old.state.machine (at addr)) }
         ensures count { live_count self.old.state.machine ≡ live_count self.new.state.machine + 1 }
         ensures bounds { (count size align : ℕ) → IsSizedFor SLLEN count size align self.old.state.machine → IsSizedFor SLLEN count size align self.new.state.machine }
+        ensures pool { (count size align len : ℕ) → pool_size_for_payloads FLLEN SLLEN count size align ≡ Some len → len ≤ length (bytes_at self.old.state.machine (at addr)) + 48
+            → live_count self.old.state.machine ≡ 1 → IsSizedFor SLLEN count size align self.new.state.machine }
         ensures chunks { self.new.state.machine.chunks ≡ self.old.state.machine.chunks }
         ensures gone { align_at self.new.state.machine (at addr) ≡ None }
         ensures aligns { (a : ℕ) → a ≢ at addr → align_at self.new.state.machine a ≡ align_at self.old.state.machine a }

@@ -1,5 +1,9 @@
 use Rattle.std.proofs.Common.{refl}
+use Rattle.rlsf_base.specs.Addr.{at}
+use Rattle.rlsf_base.specs.Space.{range_of}
 use Rattle.rlsf_flex.proofs.Calls.{stands_alone, steps_alone}
+use Rattle.rlsf_flex.proofs.Reserves.{sized_behind}
+use Rattle.rlsf_flex.proofs.Standing.{opened}
 use Rattle.rlsf_flex.proofs.flex.FlexTlsf.deallocate.Goals as goal
 
 pub invariant_of-self : goal.invariant_of-self
@@ -18,6 +22,10 @@ returns g c =
       bytes = is.bytes;
       count = is.count;
       bounds = is.bounds;
+      pool =
+          let (step, stands, spare) = opened _ _ _ is.step in
+          sized_behind g.FLBitmap.BitPattern.width g.SLBitmap.BitPattern.width g.row.FLLEN g.row.SLLEN (range_of c.self.inside.tlsf.memory) c.self.inside.tlsf.state c.deallocate.new.self.state c.self.invariant.valid
+          c.self.invariant.stands.machine.well_formed (at c.args.addr) step;
       source = refl;
       place = is.place;
       touches = is.touches;
