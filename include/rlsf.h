@@ -71,7 +71,7 @@ size_t rlsf_size(void);
 
 /* The length of a range in which a pool of the kind never refuses a payload of up to `size` bytes, at a multiple of up to `align`, while at
  * most `count` payloads live before each rlsf_allocate and each rlsf_realloc: in whatever order they come and go. Insert the range at a
- * multiple of 32, before the first payload. docs/SIZING.md has the formula.
+ * multiple of 32, before the first payload. Where `align` is 16 or less it is the least such length. docs/SIZING.md has the formula.
  *
  * 0 exactly where there is no such kind, RLSF_NO_LAYOUT holds of `size` and `align`, or the length passes a size_t or, in a small pool,
  * 131072. */
