@@ -93,7 +93,7 @@ pub record EndsRefused (live most fllen sllen : ℕ) (memory : Range) (s : State
   pub is_call : IsIn refused calls
   pub denied : IsDenied refused
 
--- in none is
+-- in no such run is a call refused
 abbrev pub NeverRefuses : ℕ → ℕ → ℕ → ℕ → Range → State → Type 0
 NeverRefuses live most fllen sllen memory s =
     (es : List Event) (t : State) (e : Event) → RunsModestly live most fllen sllen memory s es t → IsIn e es → IsDenied e → ⊥
@@ -115,7 +115,7 @@ pub record EndsRefusedWithin (count size align fllen sllen : ℕ) (memory : Rang
   pub is_call : IsIn refused calls
   pub denied : IsDenied refused
 
--- in none is
+-- in no such run is a call refused
 abbrev pub NeverRefusesWithin : ℕ → ℕ → ℕ → ℕ → ℕ → Range → State → Type 0
 NeverRefusesWithin count size align fllen sllen memory s =
     (es : List Event) (t : State) (e : Event) → Runs fllen sllen memory s es t → AreWithin count size align 0 es → IsIn e es → IsDenied e → ⊥

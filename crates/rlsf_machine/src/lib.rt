@@ -3,7 +3,7 @@
 //! It knows the chunks of memory that were handed to it, the blocks that are in use, and one list of the ranges that
 //! are free, the newest first; nothing of how a program keeps them. Read `specs/` in this order: `Lists` (two words),
 //! `State`, `Payload`, `WellFormed`, `Join`, `Insert` (and append), `Allocate`, `Release`, `Reallocate`, `NoMove`, `Remove`, `Run`
-//! (lists of calls), `Callers` (what these see of it), `Laws`, `Budget`, `Uniform` and `Sizing` (how much memory is enough); and for a
+//! (lists of calls), `Callers` (what these see of it), `Laws`, `Budget`, `Uniform`, `Sizing` and `Sized` (how much memory is enough); and for a
 //! machine that asks a source for memory `Terms`, `Note` and `Answers` (sources), `FlexState`, `Growth`, `FlexAllocate`,
 //! `FlexReallocate`, `Trim`, `FlexRun`, `FlexWellFormed`, `End`, `Owed`. Each step is a relation between the state before, the call, the reply
 //! and the state after.
