@@ -11,5 +11,5 @@ mod table;
 pub use locked::Locked;
 pub use options::{GlobalTlsfOptions, SmallGlobalTlsfOptions};
 pub use pages::Source;
-pub use rlsf_placement::GlobalError;
+pub use rlsf_placement::{GlobalError, isolation, replays};
 pub use shared::{CAlloc, GlobalTlsf, SmallGlobalTlsf};

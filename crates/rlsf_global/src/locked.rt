@@ -18,7 +18,7 @@ ghost use Rattle.rlsf_placement.specs.Steps.{HeapAllocates, HeapDeallocates, Hea
 use crate::moves::{PagedTlsf, move_away, resize};
 use crate::options::GlobalTlsfOptions;
 use crate::pages::Source;
-use crate::table::{place, replace, search};
+use crate::table::{move_row, place, replace, search};
 use rlsf_base::memory::{Addr, Layout, Memory, Range};
 use rlsf_flex::FlexTlsf;
 use rlsf_placement::GlobalError;
@@ -94,6 +94,25 @@ impl<Options: GlobalTlsfOptions> Locked<Options> {
         };
         place(&mut self.rows, (addr, layout));
         Ok(addr)
+    }
+
+    /// Allocates a payload for a layout, which is then the one that was last asked for it.
+    ///
+    /// `TableMemory` where the system refused room for a row, and then nothing else was tried; else `NoRoom` exactly where there
+    /// is no room and no memory came. Then nothing changes.
+    pub fn alloc(&mut self, layout: Layout) -> Result<Addr, GlobalError>
+        ensures step { HeapAllocates self.old.heap layout result self.new.heap }
+        ensures refused { OnErr result (self.new.memory.bytes ≡ self.old.memory.bytes) }
+        ensures live { IfOk result (λ addr. layout_at self.new.heap (at addr) ≡ Some layout) }
+        ensures sized { IfOk result (λ addr. layout.size ≤ length (content_at self.new.heap (at addr))) }
+        ensures new { IfOk result (λ addr. layout_at self.old.heap (at addr) ≡ None) }
+        ensures layouts { IfOk result (λ addr. (a : ℕ) → a ≢ at addr → layout_at self.new.heap a ≡ layout_at self.old.heap a) }
+        ensures contents { IfOk result (λ addr. (a : ℕ) → a ≢ at addr → content_at self.new.heap a ≡ content_at self.old.heap a) }
+        ensures same { OnErr result (self.new.heap ≡ self.old.heap) }
+        ensures touches { HasRoomFor 64 self.old.heap.flex.machine layout.size layout.align → self.new.memory.touches ≤ self.old.memory.touches + 27 }
+        ensures grow { self.old.memory.touches ≤ self.new.memory.touches }
+    {
+        self.allocate(layout)
     }
 
     /// Gives a payload back. `UnknownAddress` exactly where the address isn't live, and then nothing changes.
@@ -187,8 +206,7 @@ impl<Options: GlobalTlsfOptions> Locked<Options> {
         let Some(moved) = resize(&mut self.flex, addr, layout, wanted) else {
             return Err(GlobalError::NoRoom);
         };
-        let _ = self.rows.remove(at);
-        place(&mut self.rows, (moved, wanted));
+        move_row(&mut self.rows, addr, at, (moved, wanted));
         Ok(moved)
     }
 

@@ -31,7 +31,7 @@ impl<Options: GlobalTlsfOptions> GlobalTlsf<Options> {
         }
     }
 
-    /// Allocates a payload for a layout, as `Locked::allocate` does.
+    /// Allocates a payload for a layout, as `Locked::alloc` does.
     ///
     /// `TableMemory` where the system refused room for a row of the table, and then nothing else was tried; else `NoRoom` exactly
     /// where there is no room and no memory came. Then nothing changes.
@@ -39,7 +39,7 @@ impl<Options: GlobalTlsfOptions> GlobalTlsf<Options> {
     pub fn alloc<R: Wait>(&self, rt: &R, layout: Layout) -> Result<Addr, GlobalError>
         ensures refusals { RefusesOnlyBy (NoRoom ∷ TableMemory ∷ []) result }
     {
-        self.locked.lock(rt).allocate(layout)
+        self.locked.lock(rt).alloc(layout)
     }
 
     /// Gives a payload back whose layout is the one that was last asked, as `Locked::dealloc` does. `UnknownAddress` exactly where the

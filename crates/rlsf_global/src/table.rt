@@ -39,3 +39,24 @@ pub(crate) fn replace(rows: &mut Vec<(Addr, Layout)>, at: usize, row: (Addr, Lay
 {
     rows[at] = row;
 }
+
+/// Puts a row in the place of the one at `index`, whose address is `addr`: over it if the row's address is the same, else where the
+/// row's own address goes, where none is.
+pub(crate) fn move_row(
+    rows: &mut Vec<(Addr, Layout)>,
+    addr: Addr,
+    index: usize,
+    row: (Addr, Layout),
+)
+    requires sorted { IsSorted rows.old.items }
+    requires found { IsFound rows.old.items (at addr) index }
+    requires fresh { row_at (key row) (without_row (at addr) rows.old.items) ≡ None }
+    ensures { rows.new.items ≡ put row (without_row (at addr) rows.old.items) }
+{
+    if row.0.get() == addr.get() {
+        replace(rows, index, row);
+    } else {
+        let _ = rows.remove(index);
+        place(rows, row);
+    }
+}

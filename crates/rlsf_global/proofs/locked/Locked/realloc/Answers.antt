@@ -20,10 +20,8 @@ use Rattle.rlsf_global.proofs.locked.Locked.realloc.Given as given
 use Rattle.rlsf_global.proofs.locked.Locked.realloc.Goals as goal
 
 -- the row of the address is that of the payload with the wanted layout now
-replaced : (g : given.Over) (c : goal.After-place g) → c.place.new.rows.items ≡ put (c.in-Some.moved, c.from_size_align_unchecked-wanted.result) (without_row (at c.args.addr) c.self.inside.rows.items)
-replaced g c =
-    let found = rw c.deref.ensures.value at c.in-Ok.ensures.found in
-    rw (c.remove.ensures.items, found.taken_out) at c.place.ensures
+replaced : (g : given.Over) (c : goal.After-move_row g) → c.move_row.new.rows.items ≡ put (c.in-Some.moved, c.from_size_align_unchecked-wanted.result) (without_row (at c.args.addr) c.self.inside.rows.items)
+replaced g c = c.move_row.ensures
 
 pub resize-requires : goal.resize-requires
 resize-requires g c =
@@ -34,16 +32,15 @@ resize-requires g c =
     let sized = subst (λ n. n ≤ length (bytes_at c.self.inside.flex.state.machine (at c.args.addr))) (same_size c.index.result.now.1 c.args.layout same) (row_sized c.self.inside.flex c.self.inside.rows.items c.self.invariant (at c.args.addr) c.index.result.now row) in
     (lit< tt, (live, (sized, (c.from_size_align_unchecked-wanted.ensures.1 ∙ c.align.ensures.value, c.self.invariant.flex))))
 
-pub place-requires-clause-sorted : goal.place-requires-clause-sorted
-place-requires-clause-sorted g c =
-    let found = rw c.deref.ensures.value at c.in-Ok.ensures.found in
-    subst IsSorted (sym (c.remove.ensures.items ∙ found.taken_out)) (without_row-sorted (at c.args.addr) c.self.inside.rows.items c.self.invariant.sorted)
+pub move_row-requires-clause-sorted : goal.move_row-requires-clause-sorted
+move_row-requires-clause-sorted g c = c.self.invariant.sorted
 
-pub place-requires-clause-fresh : goal.place-requires-clause-fresh
-place-requires-clause-fresh g c =
-    let found = rw c.deref.ensures.value at c.in-Ok.ensures.found in
-    subst (λ l. row_at (at c.in-Some.moved) l ≡ None) (sym (c.remove.ensures.items ∙ found.taken_out))
-    (moved_row c.self.inside.flex c.self.inside.rows.items c.self.invariant c.resize.new.flex (at c.args.addr) c.from_size_align_unchecked-wanted.result c.in-Some.moved c.in-Some.ensures.moved)
+pub move_row-requires-clause-found : goal.move_row-requires-clause-found
+move_row-requires-clause-found g c = rw c.deref.ensures.value at c.in-Ok.ensures.found
+
+pub move_row-requires-clause-fresh : goal.move_row-requires-clause-fresh
+move_row-requires-clause-fresh g c =
+    moved_row c.self.inside.flex c.self.inside.rows.items c.self.invariant c.resize.new.flex (at c.args.addr) c.from_size_align_unchecked-wanted.result c.in-Some.moved c.in-Some.ensures.moved
 
 pub invariant_of-self-2 : goal.invariant_of-self-2
 invariant_of-self-2 g c =
@@ -53,7 +50,7 @@ invariant_of-self-2 g c =
 pub returns-clause-step : goal.returns-clause-step
 returns-clause-step g c = rw (← c.self.view_is) (
     let h = heap_of c.self.inside.flex c.self.inside.rows.items in
-    let after = heap_of c.resize.new.flex c.place.new.rows.items in
+    let after = heap_of c.resize.new.flex c.move_row.new.rows.items in
     let found = rw c.deref.ensures.value at c.in-Ok.ensures.found in
     let row = found.row c.index.result.now ∙ ap Some (sym c.index.ensures) in
     let rows = replaced g c in
@@ -67,7 +64,7 @@ pub returns-clause-live : goal.returns-clause-live
 returns-clause-live g c =
     let rows = replaced g c in
     let before = heap_of c.self.inside.flex c.self.inside.rows.items in
-    let after = heap_of c.resize.new.flex c.place.new.rows.items in
+    let after = heap_of c.resize.new.flex c.move_row.new.rows.items in
     (c.from_size_align_unchecked-wanted.result, layout_at-put_here before after (c.in-Some.moved, c.from_size_align_unchecked-wanted.result) _ rows, c.from_size_align_unchecked-wanted.ensures.0, c.from_size_align_unchecked-wanted.ensures.1 ∙ c.align.ensures.value)
 
 pub returns-clause-new : goal.returns-clause-new
@@ -79,20 +76,20 @@ pub returns-clause-left : goal.returns-clause-left
 returns-clause-left g c =
     let rows = replaced g c in
     let before = heap_of c.self.inside.flex c.self.inside.rows.items in
-    let after = heap_of c.resize.new.flex c.place.new.rows.items in
+    let after = heap_of c.resize.new.flex c.move_row.new.rows.items in
     λ off. layout_at-moved_left before after (at c.args.addr) (c.in-Some.moved, c.from_size_align_unchecked-wanted.result) rows off
 
 pub returns-clause-layouts : goal.returns-clause-layouts
 returns-clause-layouts g c = rw (← c.self.view_is) (
     let rows = replaced g c in
     let before = heap_of c.self.inside.flex c.self.inside.rows.items in
-    let after = heap_of c.resize.new.flex c.place.new.rows.items in
+    let after = heap_of c.resize.new.flex c.move_row.new.rows.items in
     layout_at-moved_other before after (at c.args.addr) (c.in-Some.moved, c.from_size_align_unchecked-wanted.result) rows)
 
 pub returns-clause-contents : goal.returns-clause-contents
 returns-clause-contents g c = rw (← c.self.view_is) (
     let before = heap_of c.self.inside.flex c.self.inside.rows.items in
-    let after = heap_of c.resize.new.flex c.place.new.rows.items in
+    let after = heap_of c.resize.new.flex c.move_row.new.rows.items in
     λ a off off_to. content_at-bytes before after a a (c.in-Some.ensures.moved.bytes a off off_to))
 
 pub returns-clause-touches : goal.returns-clause-touches
