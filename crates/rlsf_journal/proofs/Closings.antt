@@ -6,14 +6,14 @@ use Rattle.rlsf_journal.specs.declared.close.CloseError.TheVariants.{Mismatch, M
 use Rattle.rlsf_journal.specs.declared.entry.Entry.{Entry}
 use Rattle.rlsf_journal.specs.Close.{Agree, AreComplete, HasEach, LacksOne, has_pass, is_strange}
 use Rattle.rlsf_journal.specs.Passes.{PassContents}
-use Rattle.rlsf_journal.specs.Replay.{BookContents, IsReplay}
+use Rattle.rlsf_journal.specs.Replay.{BookContents, IsRun}
 use Rattle.rlsf_placement.specs.Heap.{Heap}
 use Rattle.rlsf_placement.specs.Rows.{IsSorted}
 
 -- the journal that is given out is one run, and what is live is what it leads to
-pub closed_history : (b : BookContents) (r : Result Closed CloseError) → IfOk r (λ c. (c.journal.items ≡ b.journal) × IsReplay b.journal b.locked.heap)
-    → IfOk r (λ c. (c.live.items ≡ b.locked.heap.asked) × IsSorted c.live.items) → IfOk r (λ c. (h : Heap) × IsReplay c.journal.items h × (c.live.items ≡ h.asked) × IsSorted c.live.items)
-closed_history b (Ok c) (same, replay) (live, sorted) = (b.locked.heap, subst (λ j. IsReplay j b.locked.heap) (sym same) replay, live, sorted)
+pub closed_history : (b : BookContents) (r : Result Closed CloseError) → IfOk r (λ c. (c.journal.items ≡ b.journal) × IsRun b.journal b.locked.heap)
+    → IfOk r (λ c. (c.live.items ≡ b.locked.heap.asked) × IsSorted c.live.items) → IfOk r (λ c. (h : Heap) × IsRun c.journal.items h × (c.live.items ≡ h.asked) × IsSorted c.live.items)
+closed_history b (Ok c) (same, replay) (live, sorted) = (b.locked.heap, subst (λ j. IsRun j b.locked.heap) (sym same) replay, live, sorted)
 closed_history b (Err e) journal live = tt
 
 -- the errors are three

@@ -1,8 +1,9 @@
 -- A journal with one more entry, and a placement that is written to.
-use Rattle.std.proofs.Common.{◌≡◌, ◌≢◌, ℕ, Bool, true, false, List, [], ◌∷◌, ◌++◌, map, length, Option, Some, None, Ok, Err, MatchBool, refl, ◌∙◌, ap, sym, subst, arith, append-nil}
+use Rattle.std.proofs.Common.{◌≡◌, ◌≢◌, ◌<◌, ◌^◌, ℕ, Bool, true, false, List, [], ◌∷◌, ◌++◌, map, length, Option, Some, None, Ok, Err, MatchBool, refl, ◌∙◌, ap, sym, subst, arith, append-nil}
 use Rattle.std.proofs.lemmas.List.{map_push}
 use Rattle.std.proofs.lemmas.List.Elements.{All-push}
 use Rattle.rlsf_base.specs.Addr.{at}
+use Rattle.rlsf_base.specs.Range.{end_of}
 use Rattle.rlsf_base.specs.declared.memory.layout.Layout.{Layout}
 use Rattle.rlsf_base.specs.declared.memory.range.Range.{Range}
 use Rattle.rlsf_journal.specs.declared.entry.Call.{Call}
@@ -11,7 +12,7 @@ use Rattle.rlsf_journal.specs.declared.entry.Entry.{Entry}
 use Rattle.rlsf_journal.specs.declared.entry.Reply.{Reply}
 use Rattle.rlsf_journal.specs.declared.entry.Reply.TheVariants.{Placed, Freed, NoRoom, UnknownAddress, TableMemory, JournalMemory}
 use Rattle.rlsf_journal.specs.Entries.{IsReplyTo, entries_of}
-use Rattle.rlsf_journal.specs.Replay.{LeadsOrRefused, IsReplay, Leads, beginning_of, step_by, step_of}
+use Rattle.rlsf_journal.specs.Replay.{BookContents, BookStands, LeadsOrRefused, IsReplay, IsRun, Leads, beginning_of, step_by, step_of}
 use Rattle.rlsf_machine.specs.FlexState.{FlexState}
 use Rattle.rlsf_machine.specs.Note.{LeadsBy, Note, alloc, dealloc, grow}
 use Rattle.rlsf_placement.proofs.Journals.{replay_begins, replay_goes_on}
@@ -150,3 +151,44 @@ written es h g addr offset bytes result run step = record {
   replayed = subst (λ l. placement.IsReplay g.source.space g.source.grows l g) (append-nil (map step_of es))
       (goes_on h g (map step_of es) (write addr offset bytes result) (writes-start h g addr offset bytes (row_at addr h.asked) result step) run.replayed step);
 }
+
+-- ---- runs
+
+-- the journal of a book is a run
+pub run_stands : (b : BookContents) → IsRun b.journal b.locked.heap → BookStands b
+unfolding BookStands
+run_stands b run = run
+
+-- nothing placed is one
+pub run_begins : (h : Heap) (space : Range) → h ≡ beginning space true → end_of h.source.space < 2 ^ 64 → IsRun [] h
+run_begins h space new small = record {
+  replay = subst (IsReplay []) (sym new) (begun space true);
+  grows = ap (λ (x : Heap). x.source.grows) new;
+  addressable = small;
+}
+
+-- in the same space, over the same kind of source
+stays_run : (es fs : List Entry) (h g : Heap) → IsRun es h → beginning_of g ≡ beginning_of h → IsReplay fs g → IsRun fs g
+stays_run es fs h g run same replay = record {
+  replay = replay;
+  grows = ap (λ (x : Heap). x.source.grows) same ∙ run.grows;
+  addressable = subst (λ (x : Heap). end_of x.source.space < 2 ^ 64) (sym same) run.addressable;
+}
+
+answered-start : (h g : Heap) (call : Call) (reply : Reply) → LeadsOrRefused h call reply g → beginning_of g ≡ beginning_of h
+answered-start h g call (Placed to) step = (enters h g call (Placed to) step).start
+answered-start h g call Freed step = (enters h g call Freed step).start
+answered-start h g call NoRoom step = (enters h g call NoRoom step).start
+answered-start h g call UnknownAddress step = (enters h g call UnknownAddress step).start
+answered-start h g call TableMemory step = ap beginning_of step
+answered-start h g call JournalMemory step = ap beginning_of step
+
+-- a call goes on with a run
+pub run_goes_on : (es : List Entry) (caller : ℕ) (call : Call) (reply : Reply) (h g : Heap) → IsRun es h → LeadsOrRefused h call reply g → IsRun (es ++ entries_of caller call reply) g
+run_goes_on es caller call reply h g run step =
+    stays_run es (es ++ entries_of caller call reply) h g run (answered-start h g call reply step) (recorded es caller call reply h g run.replay step)
+
+-- a write stays in it
+pub run_written : (es : List Entry) (h g : Heap) (addr offset : ℕ) (bytes : List ℕ) (result : Done) → IsRun es h → HeapWrites h addr offset bytes result g → IsRun es g
+run_written es h g addr offset bytes result run step =
+    stays_run es es h g run (writes-start h g addr offset bytes (row_at addr h.asked) result step) (written es h g addr offset bytes result run.replay step)

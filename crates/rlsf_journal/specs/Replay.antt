@@ -1,6 +1,7 @@
 -- The heap that a journal replays to.
-use Rattle.std.specs.Prelude.{◌≡◌, List, map, All, Ok, Err}
+use Rattle.std.specs.Prelude.{◌≡◌, ◌<◌, ◌^◌, List, map, All, Ok, Err, true}
 use Rattle.rlsf_base.specs.Addr.{at}
+use Rattle.rlsf_base.specs.Range.{end_of}
 use Rattle.rlsf_global.specs.Locked.{LockedContents}
 use Rattle.rlsf_journal.specs.declared.entry.Call.{Call}
 use Rattle.rlsf_journal.specs.declared.entry.Call.TheVariants.{Allocate, Deallocate, Reallocate}
@@ -53,7 +54,18 @@ pub record IsReplay (journal : List Entry) (h : Heap) : Type 0 where
   pub fits : All (λ e. IsReplyTo e.call e.reply) journal
   pub replayed : placement.IsReplay h.source.space h.source.grows (map step_of journal) h
 
+-- The journal replays to the heap, over a source whose newest range grows, in a space whose addresses fit in a word. So it is one run of the
+-- allocator that the coalescing kind of shared allocators has, and the laws of journals hold of it.
+pub record IsRun (journal : List Entry) (h : Heap) : Type 0 where
+  pub replay : IsReplay journal h
+  pub grows : h.source.grows ≡ true
+  pub addressable : end_of h.source.space < 2 ^ 64
+
 -- a book as contracts see it: the value with the heap, and the entries
 pub record BookContents : Type 0 where
   pub locked : LockedContents
   pub journal : List Entry
+
+-- what the type of a book keeps: its journal is a run to its heap
+unfoldable pub BookStands : BookContents → Type 0
+BookStands b = IsRun b.journal b.locked.heap

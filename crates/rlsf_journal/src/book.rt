@@ -7,7 +7,7 @@ ghost use Rattle.rlsf_journal.specs.Close.{is_strange, AreComplete, LacksOne, Ag
 ghost use Rattle.rlsf_journal.specs.declared.close.CloseError.TheVariants.{MissingPass, StrangePass, Mismatch};
 ghost use Rattle.rlsf_journal.specs.declared.entry.Reply.TheVariants.{JournalMemory};
 ghost use Rattle.rlsf_journal.specs.Entries.{IfRefused, IsReplyTo, entries_of};
-ghost use Rattle.rlsf_journal.specs.Replay.{LeadsOrRefused, IsReplay};
+ghost use Rattle.rlsf_journal.specs.Replay.{BookStands, IsRun, LeadsOrRefused};
 ghost use Rattle.rlsf_placement.specs.Heap.{beginning};
 ghost use Rattle.rlsf_placement.specs.Rows.{IsSorted};
 ghost use Rattle.rlsf_placement.specs.Steps.{HeapReads, HeapWrites};
@@ -21,7 +21,8 @@ use rlsf_global::{GlobalError, Locked};
 use std::alloc::Global;
 use std::marker::Model;
 
-/// An allocator with a journal of its placement calls. Its type keeps that the placement is what the journal replays to.
+/// An allocator with a journal of its placement calls. Its type keeps that the placement is what the journal replays to, from nothing
+/// placed on, over a source whose newest range grows.
 #[derive(Drop)]
 pub struct Book {
     locked: Locked<()>,
@@ -29,22 +30,22 @@ pub struct Book {
 }
 
 impl Model for Book {
-    ghost use Rattle.rlsf_journal.specs.Replay.{BookContents, IsReplay};
+    ghost use Rattle.rlsf_journal.specs.Replay.{BookContents, IsRun};
 
     ghost Value = { BookContents };
 
     ghost view = { λ b. record { locked = b.locked; journal = b.journal.items } };
 
-    ghost invariant = { λ b. IsReplay b.journal.items b.locked.heap };
+    ghost invariant = { λ b. IsRun b.journal.items b.locked.heap };
 }
 
 impl Book {
     /// An allocator whose source's space is the whole memory, with an empty journal. Nothing is live.
-    #[tactic(auto, using(crate::proofs::Replays::begun))]
     pub fn new(alloc: Global, memory: Memory) -> Book
         ensures heap { result.locked.heap ≡ beginning (range_of memory) true }
         ensures memory { result.locked.memory ≡ memory }
         ensures journal { result.journal ≡ [] }
+        ensures stands { BookStands result }
     {
         Book {
             locked: Locked::new(alloc, memory),
@@ -92,7 +93,9 @@ impl Book {
         offset: usize,
         bytes: &mut [u8],
     ) -> Result<(), GlobalError>
-        ensures { HeapReads self.now.locked.heap (at addr) offset bytes.old result bytes.new }
+        ensures step { HeapReads self.now.locked.heap (at addr) offset bytes.old result bytes.new }
+        ensures refused { OnErr result (bytes.new ≡ bytes.old) }
+        ensures stands { BookStands self.now }
     {
         self.locked.read_payload(addr, offset, bytes)
     }
@@ -109,6 +112,8 @@ impl Book {
         ensures step { HeapWrites self.old.locked.heap (at addr) offset bytes.now result self.new.locked.heap }
         ensures journal { self.new.journal ≡ self.old.journal }
         ensures refused { OnErr result (self.new.locked.memory ≡ self.old.locked.memory) }
+        ensures stood { BookStands self.old }
+        ensures stands { BookStands self.new }
     {
         self.locked.write_payload(addr, offset, bytes)
     }
@@ -125,7 +130,7 @@ impl Book {
         ensures missing { IsErrOf result MissingPass ↔ LacksOne callers passes.items }
         ensures mismatch { IsErrOf result Mismatch ↔ (AreComplete callers passes.items × (Agree callers passes.items self.journal → ⊥)) }
         ensures agreed { IfOk result (λ c. AreComplete callers passes.items × Agree callers passes.items self.journal) }
-        ensures journal { IfOk result (λ c. (c.journal.items ≡ self.journal) × IsReplay self.journal self.locked.heap) }
+        ensures journal { IfOk result (λ c. (c.journal.items ≡ self.journal) × IsRun self.journal self.locked.heap) }
         ensures live { IfOk result (λ c. (c.live.items ≡ self.locked.heap.asked) × IsSorted c.live.items) }
     {
         let _ = &self.journal;

@@ -1,13 +1,13 @@
 //! A book behind a lock, for callers in threads.
 
-ghost use Rattle.std.specs.Prelude.{◌≡◌, ◌++◌, ◌<◌, ◌↔◌, ℕ, MatchResult, IfSome, IfOk, IsErrOf, true};
+ghost use Rattle.std.specs.Prelude.{◌≡◌, ◌++◌, ◌<◌, ◌↔◌, ℕ, MatchResult, IfSome, IfOk, IsErrOf, OnErr, true};
 ghost use Rattle.rlsf_base.specs.Addr.{at};
 ghost use Rattle.rlsf_journal.specs.Close.{is_strange, AreComplete, LacksOne, Agree};
 ghost use Rattle.rlsf_journal.specs.declared.close.CloseError.TheVariants.{MissingPass, StrangePass, Mismatch};
 ghost use Rattle.rlsf_journal.specs.declared.entry.Call.TheVariants.{Allocate, Deallocate, Reallocate};
 ghost use Rattle.rlsf_journal.specs.Entries.{IsReplyTo, receipts_for};
 ghost use Rattle.rlsf_journal.specs.Passes.{AreFirst, Receipted, done_by, placed_by};
-ghost use Rattle.rlsf_journal.specs.Replay.{IsReplay};
+ghost use Rattle.rlsf_journal.specs.Replay.{BookContents, BookStands, IsRun};
 ghost use Rattle.rlsf_placement.specs.declared.error.GlobalError.TheVariants.{JournalMemory};
 ghost use Rattle.rlsf_placement.specs.Heap.{Heap};
 ghost use Rattle.rlsf_placement.specs.Rows.{IsSorted};
@@ -111,7 +111,8 @@ impl Journaled {
         offset: usize,
         bytes: &mut [u8],
     ) -> Result<(), GlobalError>
-        ensures { (h : Heap) × HeapReads h (at addr) offset bytes.old result bytes.new }
+        ensures step { (b : BookContents) × BookStands b × HeapReads b.locked.heap (at addr) offset bytes.old result bytes.new }
+        ensures refused { OnErr result (bytes.new ≡ bytes.old) }
     {
         self.book.lock(rt).read_payload(addr, offset, bytes)
     }
@@ -125,7 +126,7 @@ impl Journaled {
         offset: usize,
         bytes: &[u8],
     ) -> Result<(), GlobalError>
-        ensures { (h g : Heap) × HeapWrites h (at addr) offset bytes.now result g }
+        ensures { (b d : BookContents) × BookStands b × BookStands d × (d.journal ≡ b.journal) × HeapWrites b.locked.heap (at addr) offset bytes.now result d.locked.heap }
     {
         self.book.lock(rt).write_payload(addr, offset, bytes)
     }
@@ -142,7 +143,7 @@ impl Journaled {
         ensures missing { IsErrOf result MissingPass ↔ LacksOne self.callers passes.items }
         ensures mismatch { IsErrOf result Mismatch → AreComplete self.callers passes.items }
         ensures agreed { IfOk result (λ c. AreComplete self.callers passes.items × Agree self.callers passes.items c.journal.items) }
-        ensures history { IfOk result (λ c. (h : Heap) × IsReplay c.journal.items h × (c.live.items ≡ h.asked) × IsSorted c.live.items) }
+        ensures history { IfOk result (λ c. (h : Heap) × IsRun c.journal.items h × (c.live.items ≡ h.asked) × IsSorted c.live.items) }
     {
         let Journaled { book, callers } = self;
         book.into_inner().close(callers, passes)

@@ -2,8 +2,8 @@ use Rattle.std.proofs.Common.{◌≡◌, ◌≢◌, [], ◌∷◌, ◌++◌, ◌
 use Rattle.std.proofs.lemmas.Bool.{false≢true}
 use Rattle.rlsf_journal.specs.declared.entry.Reply.TheVariants.{TableMemory}
 use Rattle.rlsf_journal.specs.Entries.{entries_of}
-use Rattle.rlsf_journal.specs.Replay.{IsReplay}
-use Rattle.rlsf_journal.proofs.Replays.{one_entry, recorded}
+use Rattle.rlsf_journal.specs.Replay.{IsRun}
+use Rattle.rlsf_journal.proofs.Replays.{one_entry, run_goes_on}
 use Rattle.rlsf_journal.proofs.book.Book.step.Goals as goal
 use Rattle.rlsf_journal.proofs.book.Book.step.Goals.{in-TableMemory, in_default}
 
@@ -18,8 +18,8 @@ pushed c = c.push_reserved.ensures.items ∙ ap (λ l. l ++ record { caller = c.
 
 pub invariant_of-self-then-not-matches : goal.invariant_of-self-then-not-matches
 invariant_of-self-then-not-matches c =
-    subst (λ l. IsReplay l c.answer-reply.new.locked.heap) (sym (pushed c))
-    (recorded c.self.inside.journal.items c.args.caller c.args.call c.answer-reply.result c.self.inside.locked.heap c.answer-reply.new.locked.heap c.self.invariant c.answer-reply.ensures.step)
+    subst (λ l. IsRun l c.answer-reply.new.locked.heap) (sym (pushed c))
+    (run_goes_on c.self.inside.journal.items c.args.caller c.args.call c.answer-reply.result c.self.inside.locked.heap c.answer-reply.new.locked.heap c.self.invariant c.answer-reply.ensures.step)
 
 pub returns-then-not-matches : goal.returns-then-not-matches
 returns-then-not-matches c = record {
