@@ -9,14 +9,14 @@ use Rattle.rlsf_journal.specs.declared.entry.Entry.{Entry}
 use Rattle.rlsf_journal.specs.declared.entry.Reply.{Reply}
 use Rattle.rlsf_journal.specs.declared.entry.Reply.TheVariants.{Placed, Freed, NoRoom, UnknownAddress, TableMemory, JournalMemory}
 use Rattle.rlsf_journal.specs.Entries.{IsReplyTo}
-use Rattle.rlsf_journal.specs.Laws.{CallsDetermineReplies, ReplayDetermines, calls_of, replies_of}
+use Rattle.rlsf_journal.specs.Laws.{CallsDetermineReplies, ReplayDetermines, RunsDetermineReplies, calls_of, replies_of}
 use Rattle.rlsf_journal.specs.Passes.{done_by, placed_by}
 use Rattle.rlsf_journal.specs.Replay.{beginning_of, step_by, step_of}
 use Rattle.rlsf_placement.proofs.Isolated.{beginning_is_heap}
 use Rattle.rlsf_placement.proofs.Journals.{journal_determines}
 use Rattle.rlsf_placement.proofs.Similars.{same_placement-refl}
 use Rattle.rlsf_placement.specs.declared.error.GlobalError.TheVariants as error
-use Rattle.rlsf_placement.specs.Heap.{Heap}
+use Rattle.rlsf_placement.specs.Heap.{Heap, beginning}
 use Rattle.rlsf_placement.specs.History.{IsHistory}
 use Rattle.rlsf_placement.specs.Replays.{AreSameAnswers, AreSameCalls, IsSameAnswer, IsSameCall, journal_of}
 use Rattle.rlsf_placement.specs.Steps.{Done, Placed as Answer}
@@ -111,3 +111,8 @@ calls_determine_replies es fs h g small same run run' calls =
 
 pub replay_determines : ReplayDetermines
 replay_determines journal h g small same run run' = (calls_determine_replies journal journal h g small same run run' refl).1
+
+pub runs_determine_replies : RunsDetermineReplies
+runs_determine_replies journal other h g here run run' calls =
+    let start = ap (λ s. beginning s h.source.grows) here ∙ ap (beginning g.source.space) (run.grows ∙ sym run'.grows) in
+    calls_determine_replies journal other h g run.addressable start run.replay run'.replay calls

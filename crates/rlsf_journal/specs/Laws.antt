@@ -6,7 +6,7 @@ use Rattle.rlsf_journal.specs.declared.entry.Entry.{Entry}
 use Rattle.rlsf_journal.specs.declared.entry.Receipt.{Receipt}
 use Rattle.rlsf_journal.specs.declared.entry.Reply.{Reply}
 use Rattle.rlsf_journal.specs.Entries.{receipts_of}
-use Rattle.rlsf_journal.specs.Replay.{IsReplay, beginning_of}
+use Rattle.rlsf_journal.specs.Replay.{IsReplay, IsRun, beginning_of}
 use Rattle.rlsf_machine.specs.Lists.{IsIn}
 use Rattle.rlsf_placement.specs.Heap.{HaveSamePlacement, Heap}
 
@@ -39,3 +39,9 @@ CallsDetermineReplies = (journal other : List Entry) (h g : Heap) → end_of h.s
 -- all heaps to which a journal replays have one placement, so what is live at its end is known by it
 abbrev pub ReplayDetermines : Type 0
 ReplayDetermines = (journal : List Entry) (h g : Heap) → end_of h.source.space < 2 ^ 64 → beginning_of h ≡ beginning_of g → IsReplay journal h → IsReplay journal g → HaveSamePlacement h g
+
+-- Two runs over the same space, as closing gives them, with the same calls in the same order have the same replies and the same placement
+-- at the end.
+abbrev pub RunsDetermineReplies : Type 0
+RunsDetermineReplies = (journal other : List Entry) (h g : Heap) → h.source.space ≡ g.source.space → IsRun journal h → IsRun other g
+    → calls_of journal ≡ calls_of other → (replies_of journal ≡ replies_of other) × HaveSamePlacement h g

@@ -7,7 +7,7 @@
 //! Read `specs/` in this order: `Entries`, `Passes`, `Replay`, `Close`, `Laws`.
 #![tactic(auto)]
 
-ghost use Rattle.rlsf_journal.specs.Laws.{CallsDetermineReplies, ReceiptsAreEntries, ReplayDetermines};
+ghost use Rattle.rlsf_journal.specs.Laws.{CallsDetermineReplies, ReceiptsAreEntries, ReplayDetermines, RunsDetermineReplies};
 
 mod book;
 mod checks;
@@ -28,9 +28,11 @@ pub use pass::Pass;
 ///
 /// A receipt names its entry: the entry at the receipt's number is the caller's, with that call and that reply. The calls of a journal,
 /// in their order, determine their replies and the placement at the end, whatever was read and written meanwhile: so who has the
-/// calls of a closed journal can compute its replies, and what is live.
+/// calls of a closed journal can compute its replies, and what is live. Of the runs that closing gives it holds wherever their spaces
+/// are the same.
 pub fn laws()
     ensures receipts { ReceiptsAreEntries }
     ensures replies { CallsDetermineReplies }
     ensures one_placement { ReplayDetermines }
+    ensures runs { RunsDetermineReplies }
 {}
