@@ -2,3 +2,5 @@
 
 mod calls;
 mod threads;
+
+pub use calls::{agreed, over};

@@ -12,6 +12,8 @@ mod originals;
 #[cfg(test)]
 mod pages;
 #[cfg(test)]
+mod payloads;
+#[cfg(test)]
 mod shared;
 #[cfg(test)]
 mod steps;

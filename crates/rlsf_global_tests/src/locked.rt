@@ -12,7 +12,8 @@ use std::test::Fail;
 /// What a call answers.
 fn answer<Options: GlobalTlsfOptions>(locked: &mut Locked<Options>, call: Call) -> usize {
     match call {
-        Call::Alloc(layout) | Call::Allocate(layout) => placed(locked.allocate(layout)),
+        Call::Alloc(layout) => placed(locked.alloc(layout)),
+        Call::Allocate(layout) => placed(locked.allocate(layout)),
         Call::Dealloc(addr, layout) => done(locked.dealloc(addr, layout)),
         Call::Deallocate(addr) => done(locked.deallocate(addr)),
         Call::Realloc(addr, to) => placed(locked.realloc(addr, to.layout, to.new_size)),
@@ -90,9 +91,13 @@ fn pages_are_taken_as_they_are_needed(rt: HostRuntime) -> Result<(), Fail> {
 
 #[test]
 fn addresses_layouts_and_offsets_are_tested(rt: HostRuntime) -> Result<(), Fail> {
+    let alloc = rt.alloc();
     for table in tables() {
-        let wrong = first_wrong_over::<()>(rt.alloc(), 131072, table)?;
-        none_is_wrong(&rt, &[wrong]);
+        let found = [
+            first_wrong_over::<()>(alloc, 131072, table)?,
+            first_wrong_over::<SmallGlobalTlsfOptions>(alloc, 131072, table)?,
+        ];
+        none_is_wrong(&rt, &found);
     }
     Ok(())
 }

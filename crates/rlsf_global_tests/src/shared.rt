@@ -84,9 +84,13 @@ fn pages_are_taken_as_they_are_needed(rt: HostRuntime) -> Result<(), Fail> {
 
 #[test]
 fn addresses_layouts_and_offsets_are_tested(rt: HostRuntime) -> Result<(), Fail> {
+    let alloc = rt.alloc();
     for table in tables() {
-        let wrong = first_wrong::<_, ()>(&rt, rt.alloc(), 131072, table)?;
-        none_is_wrong(&rt, &[wrong]);
+        let found = [
+            first_wrong::<_, ()>(&rt, alloc, 131072, table)?,
+            first_wrong::<_, SmallGlobalTlsfOptions>(&rt, alloc, 131072, table)?,
+        ];
+        none_is_wrong(&rt, &found);
     }
     Ok(())
 }

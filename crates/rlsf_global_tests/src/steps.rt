@@ -177,9 +177,9 @@ fn errors_have_their_numbers(rt: HostRuntime) {
     assert_eq!(rt; numbers, [1, 2, 3, 4, 5, 6]);
 }
 
-/// Calls with what they answer, over 131072 bytes from 65536 on.
-pub fn tables() -> [&'static [(Step, usize)]; 5] {
-    [&FREED, &WRITES, &READS, &MOVES, &STAYS]
+/// Calls with what they answer, over 131072 bytes from 65536 on. Both kinds answer them alike.
+pub fn tables() -> [&'static [(Step, usize)]; 7] {
+    [&FREED, &WRITES, &READS, &MOVES, &STAYS, &SHRINKS, &ASKED]
 }
 
 /// An address that is strange, one that was freed, and one that was freed and handed out again, which is live then.
@@ -238,6 +238,32 @@ static STAYS: [(Step, usize); 4] = [
     (Step::NoMove(65552, 40, 8, 100), 65552),
     (Step::NoMove(65552, 40, 8, 20), WRONG_LAYOUT),
     (Step::NoMove(65552, 100, 8, 70000), NO_ROOM),
+];
+
+/// A payload that gets shorter where it stands: fewer bytes are usable, the next payload lies behind them, and the bytes that are left
+/// stay.
+static SHRINKS: [(Step, usize); 11] = [
+    (Step::Alloc(100, 8), 65552),
+    (Step::Usable(65552), 112),
+    (Step::Write(65552, 0, 40), 0),
+    (Step::NoMove(65552, 100, 8, 20), 65552),
+    (Step::Usable(65552), 48),
+    (Step::Read(65552, 0, 40), 0),
+    (Step::Alloc(1, 1), 65616),
+    (Step::Read(65552, 0, 40), 0),
+    (Step::Dealloc(65552, 100, 8), WRONG_LAYOUT),
+    (Step::Dealloc(65552, 20, 8), 0),
+    (Step::Dealloc(65616, 1, 1), 0),
+];
+
+/// A payload is freed by the layout with which it was allocated.
+static ASKED: [(Step, usize); 6] = [
+    (Step::Alloc(40, 8), 65552),
+    (Step::Usable(65552), 48),
+    (Step::Dealloc(65552, 41, 8), WRONG_LAYOUT),
+    (Step::Dealloc(65552, 40, 16), WRONG_LAYOUT),
+    (Step::Dealloc(65552, 40, 8), 0),
+    (Step::Usable(65552), UNKNOWN_ADDRESS),
 ];
 
 /// Two allocations, the second of which needs another page.

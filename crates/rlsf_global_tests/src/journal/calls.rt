@@ -225,6 +225,30 @@ fn a_payload_moves(rt: HostRuntime) -> Result<(), Fail> {
     is_right(&rt, rt.alloc(), MOVED)
 }
 
+/// The first page doesn't suffice, and the range that is there grows.
+const SECOND_PAGE: Case = Case {
+    len: 196608,
+    callers: 2,
+    steps: &[
+        (0, Step::Allocate(1, 1), 65552),
+        (1, Step::Allocate(70000, 1), 65584),
+        (0, Step::Reallocate(65552, 60000, 64), 135616),
+    ],
+    receipts: &[&[0, 2], &[1]],
+    last_first: false,
+    counts: (3, 2),
+    text: "0 caller 0: allocate 1 align 1: placed at 65552\n\
+           1 caller 1: allocate 70000 align 1: placed at 65584\n\
+           2 caller 0: reallocate 65552 to 60000 align 64: placed at 135616\n\
+           live 65584: 70000 align 1\n\
+           live 135616: 60000 align 64\n",
+};
+
+#[test]
+fn a_second_page(rt: HostRuntime) -> Result<(), Fail> {
+    is_right(&rt, rt.alloc(), SECOND_PAGE)
+}
+
 /// A pass that is handed back.
 #[derive(Clone, Copy)]
 enum Handed {

@@ -1,0 +1,189 @@
+//! Reads and writes through the locks, at offsets. What is refused changes nothing, and none of them has an entry in a journal.
+
+use crate::journal::{agreed, over};
+use crate::steps::done;
+use rlsf_base::memory::{Addr, Layout, Memory};
+use rlsf_global::{GlobalError, GlobalTlsf, GlobalTlsfOptions, SmallGlobalTlsfOptions};
+use rlsf_journal::Journaled;
+use std::alloc::Global;
+use std::num::NonZeroUsize;
+use std::process::Abort;
+use std::sync::Wait;
+use std::test::Fail;
+
+/// An allocator behind a lock.
+trait Shared {
+    fn read<R: Wait>(
+        &self,
+        rt: &R,
+        addr: Addr,
+        offset: usize,
+        bytes: &mut [u8],
+    ) -> Result<(), GlobalError>;
+
+    fn write<R: Wait>(
+        &self,
+        rt: &R,
+        addr: Addr,
+        offset: usize,
+        bytes: &[u8],
+    ) -> Result<(), GlobalError>;
+}
+
+impl<Options: GlobalTlsfOptions> Shared for GlobalTlsf<Options> {
+    fn read<R: Wait>(
+        &self,
+        rt: &R,
+        addr: Addr,
+        offset: usize,
+        bytes: &mut [u8],
+    ) -> Result<(), GlobalError> {
+        self.read_payload(rt, addr, offset, bytes)
+    }
+
+    fn write<R: Wait>(
+        &self,
+        rt: &R,
+        addr: Addr,
+        offset: usize,
+        bytes: &[u8],
+    ) -> Result<(), GlobalError> {
+        self.write_payload(rt, addr, offset, bytes)
+    }
+}
+
+impl Shared for Journaled {
+    fn read<R: Wait>(
+        &self,
+        rt: &R,
+        addr: Addr,
+        offset: usize,
+        bytes: &mut [u8],
+    ) -> Result<(), GlobalError> {
+        self.read_payload(rt, addr, offset, bytes)
+    }
+
+    fn write<R: Wait>(
+        &self,
+        rt: &R,
+        addr: Addr,
+        offset: usize,
+        bytes: &[u8],
+    ) -> Result<(), GlobalError> {
+        self.write_payload(rt, addr, offset, bytes)
+    }
+}
+
+/// Addresses, offsets and bytes that are written there, each with 0, or the number of the error. A payload of 48 usable bytes is at 65552.
+static WRITES: [(usize, usize, &[u8], usize); 9] = [
+    (65552, 0, &[1, 2, 3, 4, 5, 6, 7, 8], 0),
+    (65552, 3, &[20, 21], 0),
+    (65552, 44, &[30, 31, 32, 33], 0),
+    (65552, 45, &[40, 41, 42, 43], 5),
+    (65552, 48, &[], 0),
+    (65552, 49, &[], 5),
+    (65552, usize::MAX, &[44], 5),
+    (65560, 0, &[45], 2),
+    (7, usize::MAX, &[46], 2),
+];
+
+/// Addresses and offsets from which four bytes are read into four sevens, each with 0, or the number of the error, and with what is there
+/// then.
+static READS: [(usize, usize, usize, [u8; 4]); 8] = [
+    (65552, 0, 0, [1, 2, 3, 20]),
+    (65552, 2, 0, [3, 20, 21, 6]),
+    (65552, 4, 0, [21, 6, 7, 8]),
+    (65552, 44, 0, [30, 31, 32, 33]),
+    (65552, 45, 5, [7; 4]),
+    (65552, usize::MAX, 5, [7; 4]),
+    (65560, 0, 2, [7; 4]),
+    (7, usize::MAX, 2, [7; 4]),
+];
+
+/// What a write answers: 0, or the number of the error. Nothing where there is no such address.
+fn written(
+    rt: &impl Wait,
+    shared: &impl Shared,
+    addr: usize,
+    offset: usize,
+    bytes: &[u8],
+) -> Option<usize> {
+    let addr = NonZeroUsize::new(addr)?;
+    Some(done(shared.write(rt, addr, offset, bytes)))
+}
+
+/// The same of a read, with the bytes that are there then.
+fn read(
+    rt: &impl Wait,
+    shared: &impl Shared,
+    addr: usize,
+    offset: usize,
+) -> Option<(usize, [u8; 4])> {
+    let addr = NonZeroUsize::new(addr)?;
+    let mut bytes = [7; 4];
+    let answer = shared.read(rt, addr, offset, &mut bytes);
+    Some((done(answer), bytes))
+}
+
+/// The place of the first write that answers otherwise.
+fn first_wrong_write(rt: &impl Wait, shared: &impl Shared) -> Option<usize> {
+    for (place, (addr, offset, bytes, wanted)) in WRITES.iter().enumerate() {
+        if written(rt, shared, *addr, *offset, bytes) != Some(*wanted) {
+            return Some(place);
+        }
+    }
+    None
+}
+
+/// The place of the first read that answers otherwise, or leaves other bytes.
+fn first_wrong_read(rt: &impl Wait, shared: &impl Shared) -> Option<usize> {
+    for (place, (addr, offset, wanted, bytes)) in READS.iter().enumerate() {
+        if read(rt, shared, *addr, *offset) != Some((*wanted, *bytes)) {
+            return Some(place);
+        }
+    }
+    None
+}
+
+/// Passes where all writes, and then all reads, are answered as they have to be.
+fn are_right(rt: &(impl Wait + Abort), shared: &impl Shared) {
+    assert_eq!(rt; first_wrong_write(rt, shared), None);
+    assert_eq!(rt; first_wrong_read(rt, shared), None);
+}
+
+/// A payload of 48 usable bytes.
+fn layout() -> Layout {
+    Layout::from_size_align_unchecked(40, 8)
+}
+
+/// Passes where they are of an allocator of this kind.
+fn are_right_of<Options: GlobalTlsfOptions>(
+    rt: &(impl Wait + Abort),
+    alloc: Global,
+) -> Result<(), Fail> {
+    let shared = GlobalTlsf::<Options>::new(alloc, Memory::new(alloc, 65536, 65536)?);
+    let addr = shared.alloc(rt, layout())?;
+    assert_eq!(rt; addr.get(), 65552);
+    are_right(rt, &shared);
+    Ok(())
+}
+
+#[test]
+fn of_shared_allocators(rt: HostRuntime) -> Result<(), Fail> {
+    are_right_of::<()>(&rt, rt.alloc())?;
+    are_right_of::<SmallGlobalTlsfOptions>(&rt, rt.alloc())
+}
+
+#[test]
+fn of_one_with_a_journal(rt: HostRuntime) -> Result<(), Fail> {
+    let (journaled, mut passes) = over(rt.alloc(), 65536, 1)?;
+    let Some(mut pass) = passes.pop() else {
+        return Err(Fail::new("a pass"));
+    };
+    assert!(rt; pass.caller() < journaled.callers());
+    let addr = journaled.allocate(&rt, &mut pass, layout())?;
+    assert_eq!(rt; addr.get(), 65552);
+    are_right(&rt, &journaled);
+    agreed(&rt, journaled, vec![in rt.alloc(); pass]?, (1, 1));
+    Ok(())
+}
