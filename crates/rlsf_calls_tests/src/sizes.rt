@@ -1,10 +1,10 @@
 //! Runs in pools of computed lengths: the first allocation that is refused is the one that has to be, and none is refused in a
 //! pool that is long enough.
 //!
-//! Lengths are worked out by hand. Of a pool, 32 bytes end its chunk. With SLLEN classes a row, objects of L bytes with the 16
-//! before them want `32 + 100 * L`, where L is rounded up to a multiple of 32 and then of one SLLENth of the power of two below
-//! it. Payloads that are sought with S bytes, of which n are live before each call, want `32 + n * S + (n + 1) * S` and one
-//! SLLENth of `(n + 1) * S`, rounded up to a multiple of 32.
+//! Lengths are worked out by hand. The last 32 bytes of a pool end its chunk. With SLLEN classes a row, objects of L bytes with
+//! the 16 before them need `32 + 100 * L`, where L is rounded up to a multiple of 32 and then of one SLLENth of the power of two
+//! below it. Payloads in blocks of up to S bytes, of which n are live before each call, need `(m + 32) + n * (S + m - 32)`, where
+//! m is the least size whose class reaches S.
 
 ghost use Rattle.rlsf_base.specs.SizeClass.{IsValid};
 
@@ -280,32 +280,37 @@ fn pool_of_random_run<Bits: BitPattern, const FLLEN: usize, const SLLEN: usize>(
 
 #[test]
 fn random_run_without_a_refusal(rt: HostRuntime) {
-    // A payload of 700 bytes at a multiple of 64 is sought with 768, so 50 live ones want 77,600 bytes, and one SLLENth of 39,168.
+    // A payload of 700 bytes at a multiple of 64 needs a block of up to 768, at which a class begins: 800 bytes, and 50 times
+    // 1,504.
     let found = [
         pool_of_random_run::<u16, 12, 16>(&rt, None),
         pool_of_random_run::<u64, 59, 8>(&rt, None),
         pool_of_random_run::<u64, 64, 64>(&rt, None),
     ];
-    assert_eq!(rt; found, [Some(80064), Some(82496), Some(78240)]);
+    assert_eq!(rt; found, [Some(76000), Some(76000), Some(76000)]);
 }
 
-/// Sixteen payloads that are sought with 992 bytes, of which every other one is given back, and one that is sought with 1024, which is granted or not.
+/// How many payloads are live at most before a call of the run that leaves fragments.
+const FRAGMENTS: usize = 15;
+
+/// Fifteen times a payload shrinks in place to a block of 992 bytes, one with a block of 1024 is allocated behind it, and the first
+/// is given back: so fifteen free blocks are left that are 32 bytes too short for the last allocation, which is granted or not.
 fn fragments(rt: &(impl Abort + AllocGlobal), len: usize, granted: bool) -> Script {
     let mut script = Script::new(rt, len);
-    let lesser = layout_of(rt, 976, 1);
     let greatest = layout_of(rt, 1008, 1);
-    for name in 0..16 {
-        script.add(rt, Op::Alloc(name, lesser), true);
+    for name in 0..FRAGMENTS {
+        let fragment = FRAGMENTS + 1;
+        script.add(rt, Op::Alloc(fragment, greatest), true);
+        script.add(rt, Op::Realloc(fragment, 976), true);
+        script.add(rt, Op::Alloc(name, greatest), true);
+        script.add(rt, Op::Free(fragment), true);
     }
-    for name in 0..8 {
-        script.add(rt, Op::Free(2 * name), true);
-    }
-    script.add(rt, Op::Alloc(16, greatest), granted);
+    script.add(rt, Op::Alloc(FRAGMENTS, greatest), granted);
     script
 }
 
-/// The length of a pool in which sixteen payloads may live, where the greatest is granted beside the fragments, and refused in half
-/// of that length.
+/// The length of a pool that never refuses while so many payloads are live, where the last allocation is granted beside the
+/// fragments, and refused in a pool that is 32 bytes shorter.
 fn pool_of_fragments<Bits: BitPattern, const FLLEN: usize, const SLLEN: usize>(
     rt: &(impl Abort + AllocGlobal),
     shape: Shape<'_, Bits, FLLEN, SLLEN>,
@@ -313,10 +318,11 @@ fn pool_of_fragments<Bits: BitPattern, const FLLEN: usize, const SLLEN: usize>(
     requires { IsValid Bits.width Bits.width FLLEN SLLEN }
 {
     let greatest = layout_of(rt, 1008, 1);
-    let len = pool_size_for_payloads::<Bits, Bits, FLLEN, SLLEN>(15, greatest)?;
-    let whole = wrong_in(rt, &fragments(rt, len, true), len, shape);
-    let half = wrong_in(rt, &fragments(rt, len / 2, false), len / 2, shape);
-    if whole.is_some() || half.is_some() {
+    let len = pool_size_for_payloads::<Bits, Bits, FLLEN, SLLEN>(FRAGMENTS, greatest)?;
+    let shorter = len.saturating_sub(32);
+    let enough = wrong_in(rt, &fragments(rt, len, true), len, shape);
+    let refused = wrong_in(rt, &fragments(rt, shorter, false), shorter, shape);
+    if enough.is_some() || refused.is_some() {
         return None;
     }
     Some(len)
@@ -324,12 +330,11 @@ fn pool_of_fragments<Bits: BitPattern, const FLLEN: usize, const SLLEN: usize>(
 
 #[test]
 fn greatest_beside_fragments(rt: HostRuntime) {
-    // Before each allocation 15 payloads are live at most: 31,776 bytes, and one SLLENth of 16,384. Half of that has room for the
-    // sixteen lesser ones and at most 992 bytes more behind them.
+    // The greatest payload needs a block of 1,024 bytes, at which a class begins: 1,056 bytes, and 15 times 2,016.
     let found = [
         pool_of_fragments::<u16, 12, 16>(&rt, None),
         pool_of_fragments::<u64, 59, 8>(&rt, None),
         pool_of_fragments::<u64, 64, 64>(&rt, None),
     ];
-    assert_eq!(rt; found, [Some(32800), Some(33824), Some(32032)]);
+    assert_eq!(rt; found, [Some(31296), Some(31296), Some(31296)]);
 }

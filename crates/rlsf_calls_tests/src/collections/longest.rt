@@ -1,7 +1,9 @@
-//! Queues that were made with a longest message: how much memory they want, what they refuse, and that they have room for all else.
+//! Queues that were made with a longest message: how much memory they need, what they refuse, and that they have room for
+//! everything else.
 //!
-//! A message of `len` bytes is sought with `len + 16`, rounded up to a multiple of 32. A queue for `n` messages that are sought
-//! with S bytes wants `32 + (n - 1) * S + n * S` and an eighth of `n * S`, rounded up to a multiple of 32.
+//! A message of `len` bytes needs a block of S bytes: `len + 16`, rounded up to a multiple of 32. A queue for `n + 1` messages
+//! needs `(m + 32) + n * (S + m - 32)` bytes, where m is the least size whose class reaches S. Up to 512 bytes m is S, and from
+//! 1024 to 2048 bytes it is S rounded up to a multiple of 128.
 
 use super::queues::{Pair, Step, first_wrong, wrong_random_step};
 use crate::pools::{none_is_wrong, zeros};
@@ -11,24 +13,24 @@ use std::process::Abort;
 /// The start and the length of a memory, how many messages a queue over it can hold and how long they may be, and whether it is
 /// made.
 static MEMORIES: [(usize, usize, usize, usize, bool); 17] = [
-    // Three messages that are sought with 128 bytes: 32, 256, 384, and 48 rounded up to 64.
-    (4096, 735, 3, 100, false),
-    (4096, 736, 3, 100, true),
-    (4096, 736, 3, 112, true),
+    // Three messages in blocks of 128 bytes: 160, and two times 224.
+    (4096, 607, 3, 100, false),
+    (4096, 608, 3, 100, true),
+    (4096, 608, 3, 112, true),
     // The pool begins at the next multiple of 32.
-    (4097, 766, 3, 100, false),
-    (4097, 767, 3, 100, true),
-    // With 160 bytes: 32, 320, 480, and 60 rounded up to 64.
-    (4096, 895, 3, 113, false),
-    (4096, 896, 3, 113, true),
-    // One message with 128 bytes, and none.
-    (4096, 191, 1, 100, false),
-    (4096, 192, 1, 100, true),
-    (4096, 191, 0, 100, false),
-    (4096, 192, 0, 100, true),
-    // One with 32 bytes.
-    (4096, 95, 1, 0, false),
-    (4096, 96, 1, 0, true),
+    (4097, 638, 3, 100, false),
+    (4097, 639, 3, 100, true),
+    // In blocks of 160 bytes: 192, and two times 288.
+    (4096, 767, 3, 113, false),
+    (4096, 768, 3, 113, true),
+    // One message in a block of 128 bytes, and none.
+    (4096, 159, 1, 100, false),
+    (4096, 160, 1, 100, true),
+    (4096, 159, 0, 100, false),
+    (4096, 160, 0, 100, true),
+    // One in a block of 32 bytes.
+    (4096, 63, 1, 0, false),
+    (4096, 64, 1, 0, true),
     // The longest message of all, one that no payload has, and more messages than a number of 64 bits has bytes for.
     (4096, 4096, 1, (1 << 63) - 1, false),
     (4096, 4096, 1, 1 << 63, false),
@@ -95,9 +97,9 @@ const LONGEST_MESSAGES: &[Step] = &[
 
 /// How many bytes the queue is over, how many messages it can hold and how long they may be, and its steps.
 static SCRIPTS: [(usize, usize, usize, &[Step]); 2] = [
-    (192, 0, 100, NO_CAPACITY),
-    // Three messages with 96 bytes: 32, 192, 288, and 36 rounded up to 64.
-    (576, 3, 80, LONGEST_MESSAGES),
+    (160, 0, 100, NO_CAPACITY),
+    // Three messages in blocks of 96 bytes: 128, and two times 160.
+    (448, 3, 80, LONGEST_MESSAGES),
 ];
 
 #[test]
@@ -110,8 +112,8 @@ fn queues(rt: HostRuntime) {
 
 #[test]
 fn many_steps_that_find_room(rt: HostRuntime) {
-    // 24 messages with 1056 bytes: 32, 24,288, 25,344, and an eighth of that.
-    let mut pair = Pair::new(rt.alloc(), with_longest(&rt, 52832, 24, 1023));
+    // 24 messages in blocks of 1056 bytes, each found in a class from 1152 bytes on: 1184, and 23 times 2176.
+    let mut pair = Pair::new(rt.alloc(), with_longest(&rt, 51232, 24, 1023));
     none_is_wrong(&rt, wrong_random_step(&rt, &mut pair, 5_000));
     let fewest = pair.full.min(pair.too_short).min(pair.empty);
     assert_eq!(rt; (fewest > 0, pair.no_room), (true, 0));

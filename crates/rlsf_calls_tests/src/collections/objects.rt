@@ -153,7 +153,7 @@ fn objects(rt: HostRuntime) {
 }
 
 /// The start and the length of a memory, the size and the alignment of the objects in it, and how many may be out at once.
-static CAPACITIES: [(usize, usize, usize, usize, usize); 14] = [
+static CAPACITIES: [(usize, usize, usize, usize, usize); 16] = [
     (4096, 63, 16, 8, 0),
     (4096, 64, 16, 8, 1),
     (4096, 255, 16, 8, 6),
@@ -166,13 +166,16 @@ static CAPACITIES: [(usize, usize, usize, usize, usize); 14] = [
     // Of 752 bytes, with 16 more, 100 fill a pool up to its end.
     (4096, 76831, 752, 16, 99),
     (4096, 76832, 752, 16, 100),
-    // One of 700 bytes takes 736, and is sought where 768 are free. Of 10 times 736 bytes and once more, 8 parts of 17 serve.
+    // One of 700 bytes needs a block of 736, and a free one of 768 is sure to serve. The first object wants 800 bytes of the pool,
+    // and each further one 736 and 736 more.
     (4096, 799, 700, 1, 0),
     (4096, 800, 700, 1, 1),
-    (4096, 7392, 700, 1, 5),
-    // At multiples of 64 one of 64 bytes takes up to 128, of which the same holds.
+    (4096, 6687, 700, 1, 4),
+    (4096, 6688, 700, 1, 5),
+    // At multiples of 64 one of 64 bytes needs up to 128. The first wants 160 bytes, and each further one 128 and 96 more.
     (4096, 160, 64, 64, 1),
-    (4096, 1312, 64, 64, 5),
+    (4096, 1279, 64, 64, 5),
+    (4096, 1280, 64, 64, 6),
 ];
 
 /// How many objects a pool hands out until it refuses one for want of room, and at most 200.

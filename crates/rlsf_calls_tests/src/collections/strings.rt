@@ -186,9 +186,9 @@ fn random_step(strings: &mut Strings, known: &mut Known, word: u64) -> bool {
 
 #[test]
 fn many_steps_within_a_budget(rt: HostRuntime) {
-    // A string of 200 bytes is sought with 224. With eight of them live before each call, that wants 32 bytes, 8 times and 9 times
-    // 224, and an eighth of the latter, rounded up to 256.
-    let mut strings = Strings::new(rt.alloc(), zeros(&rt, 4096, 4096));
+    // A string of 200 bytes needs a block of 224. With eight of them live before each call, the pool needs 256 bytes, and eight
+    // times 224 and 192 more.
+    let mut strings = Strings::new(rt.alloc(), zeros(&rt, 4096, 3584));
     let mut known = [None; MOST];
     let mut most = 0;
     let mut word = 0x9e3779b97f4a7c15;
