@@ -1,5 +1,5 @@
 -- Pools of objects, over the calls of their items.
-use Rattle.std.proofs.Common.{◌≡◌, ◌⊎◌, ℕ, ◌+◌, ◌-◌, ◌*◌, ◌/◌, ◌<◌, ◌≤◌, Bool, true, false, cond, ◌&&◌, nat_eq, nat_le, nat_lt, max, List, [], ◌∷◌, ◌++◌, length, length-append, replicate, Option, Some, None, Result, Ok, Err, IfOk, OnOk, OnErr, lit<, arith, refl, sym, ◌∙◌, ap, subst, inl, inr}
+use Rattle.std.proofs.Common.{◌≡◌, ◌↔◌, ◌⊎◌, ℕ, ◌+◌, ◌-◌, ◌*◌, ◌/◌, ◌<◌, ◌≤◌, Bool, true, false, cond, ◌&&◌, nat_eq, nat_le, nat_lt, max, List, [], ◌∷◌, ◌++◌, length, length-append, replicate, Option, Some, None, Result, Ok, Err, IfOk, IsErr, OnOk, OnErr, lit<, arith, refl, sym, ◌∙◌, ap, subst, inl, inr}
 use Rattle.std.proofs.lemmas.Bool.{cases_Bool, cases_lt, lt-ltb}
 use Rattle.std.proofs.lemmas.Bool.Decides.{nat_tests}
 use Rattle.std.proofs.lemmas.List.{length-replicate}
@@ -9,7 +9,7 @@ use Rattle.std.proofs.lemmas.Option.{none-some, same_Some}
 use Rattle.std.proofs.Math.Nat.{mul-le-mul_right}
 use Rattle.std.specs.List.{AllByRecursion}
 use Rattle.rlsf_base.specs.Layout.{IsLayout}
-use Rattle.std.specs.Map.{remove_entry, set_value}
+use Rattle.std.specs.Map.{lookup, remove_entry, set_value}
 use Rattle.rlsf_base.specs.SizeClass.{IsValid, Reaches, class_of}
 use Rattle.rlsf_base.specs.Sizes.{IsSize, pool_size_to_contain_allocation, request_size}
 use Rattle.rlsf_base.proofs.Numbers.Roundings.{round32-le, round32-multiple}
@@ -73,6 +73,22 @@ length-remove_entry test (e ∷ es) = elim (cases_Bool (test e.0)) [
   | inl here ↦ rw here (omega arith)
   | inr other ↦ rw other (omega (arith, length-remove_entry test es))
 ]
+
+-- where the test finds an entry, one less is left
+length-remove_entry_found : {A : Type 0} (test : ℕ → Bool) (es : List (ℕ × A)) → (lookup test es ≡ None → ⊥) → length (remove_entry test es) < length es
+length-remove_entry_found test [] found = absurd (found refl)
+length-remove_entry_found test (e ∷ es) found = elim (cases_Bool (test e.0)) [
+  | inl here ↦ rw here (omega (arith, length-remove_entry test es))
+  | inr other ↦ rw other (omega (arith, length-remove_entry_found test es (λ none. found (rw other none))))
+]
+
+-- once one is given back, fewer are out than the capacity
+pub room_given_back : {T E : Type 0} (r : Result T E) (o n : Handled) (size align capacity handle : ℕ) (P : Type 0) → IsObjectPool o size align capacity
+    → OnOk r ((n ≡ record o { lists = remove_entry (nat_eq handle) o.lists; state = n.state }) × P) → IsErr r ↔ (lookup (nat_eq handle) o.lists ≡ None) → OnOk r (length n.lists < capacity)
+room_given_back (Ok x) o n size align capacity handle P pool (gone, _) unknown =
+    let less = length-remove_entry_found (nat_eq handle) o.lists (λ none. cc) in
+    omega (arith, less, ap (λ h. length h.lists) gone, pool.within)
+room_given_back (Err e) o n size align capacity handle P pool gone unknown = tt
 
 length-set_value : {A : Type 0} (test : ℕ → Bool) (es : List (ℕ × A)) (x : A) → length (set_value test es x) ≡ length es
 length-set_value test [] x = refl

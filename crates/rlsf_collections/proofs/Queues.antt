@@ -83,6 +83,13 @@ budget_for_message (Some n) v es capacity len has (all, fits) few short = (
   short,
 )
 
+-- no message is longer than a slice that has the longest length
+pub oldest_within : (longest : Option ℕ) (memory : Range) (capacity len : ℕ) (es : List Entry) (e : Entry) → KeepsLongest longest memory capacity es → 0 < length es → e ≡ slice_index_or es 0 e
+    → IsSomeAnd longest (λ n. n ≤ len) → e.len ≤ len
+oldest_within None memory capacity len es e keeps some first within = absurd within
+oldest_within (Some n) memory capacity len [] e keeps some first within = absurd (omega arith)
+oldest_within (Some n) memory capacity len (x ∷ xs) e ((here, _), _) some first within = omega (arith, here, within, ap (λ y. y.len) first)
+
 -- a length isn't both
 pub not_both : (longest : Option ℕ) (len : ℕ) → IsSomeAnd longest (λ n. n < len) → IfSome longest (λ n. len ≤ n) → ⊥
 not_both None len longer short = longer

@@ -38,7 +38,7 @@ use Rattle.rlsf_collections.proofs.Places.{bytes_of}
 use Rattle.rlsf_collections.proofs.Stores.{bytes_at_place-stored}
 use Rattle.rlsf_collections.proofs.UsedBlocks.{NoTwo, length-le_from_own}
 
--- a block of which less than 32 bytes more than the size are usable is no longer than what is sought for the size
+-- a block of which less than 32 bytes more than the size are usable is no longer than the block requested for the size
 block-le : (u : Used) (size : ℕ) → IsUsed u → length u.bytes < size + 32 → u.block.len ≤ request_size size u.align
 block-le u size is few =
     let n = size + (u.align - 16) + 16 in
@@ -71,7 +71,7 @@ module _ {v : StoreContents} {all : List Stored} (store : IsStore v all) where
       (λ u i. let (k, j, at) = store.payloads.no_other u.payload u.align (align_at-held formed u.payload u (i, refl)) in (k, j, sym at))
       (NoTwo-used s.used formed.used (used-le s (tiling_of formed)))
 
-  -- no used block is longer than what is sought for a layout that each list keeps to
+  -- no used block is longer than the block requested for a layout that each list keeps to
   pub AreAtMost-stored : (most : ℕ) → ((k : Stored) → IsIn k all → request_size (length k.bytes) k.align ≤ most) → AreAtMost most v.heap.state.used
   AreAtMost-stored most small u i =
       let s = v.heap.state in
@@ -86,7 +86,7 @@ module _ {v : StoreContents} {all : List Stored} (store : IsStore v all) where
 
 -- ---- room
 
--- a longer size or a greater alignment is sought with no fewer bytes
+-- a block for a longer size or a greater alignment is no shorter
 request_size-mono : (m n align : ℕ) → m ≤ n → request_size m align ≤ request_size n align
 request_size-mono m n align less = round32-mono (m + (align - 16) + 16) (n + (align - 16) + 16) (omega arith)
 
@@ -100,7 +100,7 @@ small_stored size align (j ∷ js) (first, rest) k (inr i) = small_stored size a
 
 -- a pool with the bytes for a block is one chunk
 module _ (memory : Range) (live size align : ℕ) (bytes : HasBytesFor memory live size align) where
-  -- and has room for what is sought
+  -- and has room for the block
   pub request_size-part : request_size size align < (aligned_part memory).len
   request_size-part =
       let part = aligned_part memory in

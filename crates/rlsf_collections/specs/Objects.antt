@@ -26,22 +26,24 @@ Writes p handle offset bytes q = IsSomeAnd (lookup (nat_eq handle) p.objects) (�
 abbrev pub HaveSize : ℕ → List (ℕ × List ℕ) → Type 0
 HaveSize size objects = AllByRecursion (λ e. length e.1 ≡ size) objects
 
--- what a write up to an end answers
+-- what a write up to an end returns
 abbrev pub set_answer : Option (List ℕ) → ℕ → Result Unit SetError
 set_answer None end = Err UnknownHandle
 set_answer (Some old) end = if nat_le end (length old) then Ok tt else Err OutOfRange
 
--- how many objects a pool of `len` bytes is sure to hold, one of which wants a pool of `least` bytes and a block of `block`: where
--- such blocks fill a pool from its start, as many as fit; else as many as fit with a free piece for each that is one block too short, but for the one that is sure to be taken
+-- how many objects a pool of `len` bytes is sure to hold, where one object needs a pool of `least` bytes and a block of `block`
+-- bytes. If such blocks fill a pool from its start, as many as fit; otherwise one, and one more for each `block + (least - 64)`
+-- bytes behind the first `least`: its block, and a free range that is 32 bytes too short to be sure to serve
 abbrev pub capacity_from : ℕ → ℕ → ℕ → ℕ → ℕ
 capacity_from len align block least =
     if nat_lt len least then 0
     else (if nat_le align 32 && nat_eq least (block + 32) then (len - 32) / block else (len - least) / (block + (least - 64)) + 1)
 
+-- none if no pool is long enough for one object
 abbrev pub capacity_with : ℕ → ℕ → ℕ → Option ℕ → ℕ
 capacity_with len align block None = 0
 capacity_with len align block (Some least) = capacity_from len align block least
 
--- so for objects of a size at an alignment
+-- the same for objects of a size at an alignment
 abbrev pub capacity_of : ℕ → ℕ → ℕ → ℕ
 capacity_of len size align = capacity_with len align (request_size size align) (pool_size_to_contain_allocation 59 8 size align)

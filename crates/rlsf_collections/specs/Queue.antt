@@ -9,7 +9,7 @@ use Rattle.rlsf_collections.specs.Budgets.{FitsPayloads}
 use Rattle.rlsf_collections.specs.Stored.{Place, bytes_at_place}
 
 -- a queue as its callers see it: the messages that are in it, the oldest first, how many it can hold, how long they may be if
--- that was told, the addresses of its memory, and how often the words of that memory were touched
+-- it was made with a longest message, the addresses of its memory, and how often the words of that memory were accessed
 pub record Queue : Type 0 where
   pub messages : List (List ℕ)
   pub capacity : ℕ
@@ -34,7 +34,7 @@ messages_in m entries = map (bytes_at_place m) (map place_of_entry entries)
 abbrev pub FitsMessages : Range → ℕ → ℕ → Type 0
 FitsMessages memory capacity longest = FitsPayloads memory (capacity - 1) longest 1
 
--- where a longest length was told, no entry is longer, and the pool has room for as many of that length as the queue can hold
+-- with a longest length, no entry is longer, and the pool has room for as many of that length as the queue can hold
 abbrev pub KeepsLongest : Option ℕ → Range → ℕ → List Entry → Type 0
 KeepsLongest None memory capacity entries = Unit {0}
 KeepsLongest (Some longest) memory capacity entries = AllByRecursion (λ e. e.len ≤ longest) entries × FitsMessages memory capacity longest

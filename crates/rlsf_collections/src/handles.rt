@@ -15,7 +15,7 @@ pub(crate) struct Spot {
     pub(crate) len: usize,
 }
 
-/// Handles with their spots. They count up from 0, and one that was taken out never comes back.
+/// Handles with their spots. They count up from 0, and a handle that was taken out is never used again.
 #[derive(Drop)]
 pub(crate) struct Handles {
     rows: BTreeMap<usize, Spot>,
@@ -51,7 +51,7 @@ impl Handles {
         self.rows.len()
     }
 
-    /// Adds a new handle with its spot. Refused where the memory for it is, or where every number was a handle already, and then
+    /// Adds a new handle with its spot. Refused if the system is out of memory, or if every number was a handle already, and then
     /// nothing changes.
     pub(crate) fn add(&mut self, spot: Spot) -> Result<usize, AllocError>
         ensures added { IfOk result (λ handle. self.new.rows ≡ self.old.rows ++ (handle, spot) ∷ []) }
@@ -83,7 +83,7 @@ impl Handles {
         }
     }
 
-    /// Takes a handle out, and answers its spot. Without that handle nothing changes.
+    /// Takes a handle out, and returns its spot. Without that handle nothing changes.
     pub(crate) fn remove(&mut self, handle: usize) -> Option<Spot>
         ensures spot { result ≡ lookup (nat_eq handle) self.old.rows }
         ensures rows { self.new.rows ≡ remove_entry (nat_eq handle) self.old.rows }

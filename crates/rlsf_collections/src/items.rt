@@ -125,7 +125,7 @@ impl Items {
         Ok(self.store.read(spot.addr, spot.len))
     }
 
-    /// Writes bytes over those of a handle, from an offset on. Refused where the handle isn't there, or has not that many bytes,
+    /// Writes bytes over those of a handle, from an offset on. Refused if the handle isn't there, or doesn't have that many bytes,
     /// and then nothing changes.
     pub(crate) fn write(
         &mut self,
@@ -149,7 +149,7 @@ impl Items {
         Ok(())
     }
 
-    /// Adds bytes behind those of a handle. Refused where the handle isn't there, or without room, and then nothing changes.
+    /// Adds bytes behind those of a handle. Refused if the handle isn't there, or without room, and then nothing changes.
     pub(crate) fn append(&mut self, handle: usize, more: &[u8]) -> Result<(), StringError>
         requires { self.old.align ≡ 1 }
         ensures appended { OnOk result (IsSomeAnd (lookup (nat_eq handle) self.old.lists) (λ old.
@@ -171,7 +171,7 @@ impl Items {
         Ok(())
     }
 
-    /// Takes a handle out, and gives back its payload. Refused where the handle isn't there, and then nothing changes.
+    /// Takes a handle out, and deallocates its payload. Refused if the handle isn't there, and then nothing changes.
     pub(crate) fn remove(&mut self, handle: usize) -> Result<(), UnknownHandle>
         ensures removed { OnOk result ((self.new ≡ record self.old { lists = remove_entry (nat_eq handle) self.old.lists; state = self.new.state })
             × (lookup (nat_eq handle) self.new.lists ≡ None)) }
@@ -196,7 +196,7 @@ impl Items {
     }
 }
 
-/// Gives what is stored last in a store a new handle. Where the memory for that is refused, what is stored there is given back.
+/// Adds a new handle for what is stored last in a store. If the system has no memory for the handle, the payload is deallocated.
 fn keep(
     store: &mut Store,
     handles: &mut Handles,

@@ -1,7 +1,6 @@
 //! Small libraries over the allocator: a queue of messages, a pool of objects, strings that grow, and a picture of a pool.
 //!
-//! Each has a contract in its own words, in which no block, chunk or free range appears: a caller sees a list of messages,
-//! or a map from handles to bytes.
+//! No block, chunk or free range appears in their contracts: a caller sees a list of messages, or a map from handles to bytes.
 #![tactic(auto)]
 
 mod drawing;

@@ -67,7 +67,7 @@ pub struct Messages {
     store: Store,
     // The oldest message first.
     entries: VecDeque<Entry>,
-    // The most bytes that a message may have, where the pool was made for that.
+    // The most bytes that a message may have, if the queue was made with a longest message.
     longest: Option<usize>,
 }
 
@@ -107,11 +107,11 @@ impl Messages {
     }
 
     /// An empty queue for at most `capacity` messages of at most `longest` bytes, over a memory that is its allocator's pool
-    /// and sure to have room for all of them. So such a message is refused exactly where the queue is full.
+    /// and sure to have room for all of them. So such a message is refused exactly if the queue is full.
     ///
-    /// Refused with `MemoryTooShort` exactly where the memory's part from one multiple of 32 to another is shorter than what
-    /// `classes::pool_size_for_payloads` says for `capacity - 1` payloads of that length, and else with `OutOfMemory` if the
-    /// system has no room for the table of the messages.
+    /// Refused with `MemoryTooShort` exactly if the memory's part from one multiple of 32 to another is shorter than what
+    /// `classes::pool_size_for_payloads` returns for `capacity - 1` payloads of that length, and otherwise with `OutOfMemory` if
+    /// the system has no room for the table of the messages.
     pub fn with_longest(
         alloc: Global,
         memory: Memory,
@@ -138,10 +138,12 @@ impl Messages {
         })
     }
 
-    /// Puts a message behind the others. Refused with `Full` if the queue has as many messages as it can hold, else with
-    /// `TooLong` if it was made for shorter ones, else with `NoRoom` if the pool has no room for this one, and then no message
-    /// changes. An empty queue that can hold a message takes each one that fits its pool and isn't too long. A queue that was
-    /// made with a longest message refuses one of at most that length exactly where it is full.
+    /// Puts a message behind the others.
+    ///
+    /// Refused with `Full` if the queue has as many messages as it can hold, otherwise with `TooLong` if it was made for shorter
+    /// ones, otherwise with `NoRoom` if the pool has no room for this one, and then no message changes. An empty queue that can
+    /// hold a message takes each one that fits its pool and isn't too long. A queue that was made with a longest message refuses
+    /// one of at most that length exactly if the queue is full. So right after a message was popped, such a message is taken.
     pub fn push(&mut self, message: &[u8]) -> Result<(), PushError>
         ensures ok { OnOk result (self.new.messages ≡ self.old.messages ++ message.now ∷ []) }
         ensures refused { OnErr result (self.new.messages ≡ self.old.messages) }
@@ -169,14 +171,19 @@ impl Messages {
         Ok(())
     }
 
-    /// Takes the oldest message out, writes it to the front of `into` and answers its length; the bytes behind it stay.
-    /// Refused with `Empty` if there is none, and with `TooShort` if it is longer than `into`, and then nothing changes.
+    /// Takes the oldest message out, writes it to the front of `into` and returns its length. The bytes behind it stay, and the
+    /// queue can hold one more message then.
+    ///
+    /// Refused with `Empty` if there is no message, and with `TooShort` if the oldest one is longer than `into`, and then nothing
+    /// changes. A queue that was made with a longest message never refuses with `TooShort` if `into` has that length.
     pub fn pop(&mut self, into: &mut [u8]) -> Result<usize, PopError>
         ensures ok { IfOk result (λ len. (m : List ℕ) × (self.old.messages ≡ m ∷ self.new.messages) × (len ≡ length m) × (into.new ≡ m ++ drop len into.old)) }
         ensures refused { OnErr result ((self.new.messages ≡ self.old.messages) × (into.new ≡ into.old)) }
         ensures empty { IsErrOf result PopError.Empty ↔ (self.old.messages ≡ []) }
         ensures longest { self.new.longest ≡ self.old.longest }
         ensures short { IsErrOf result PopError.TooShort ↔ IsSomeAnd (oldest self.old.messages) (λ m. length into.old < length m) }
+        ensures enough { IsSomeAnd self.old.longest (λ longest. longest ≤ length into.old) → IsErr result → self.old.messages ≡ [] }
+        ensures room { OnOk result (length self.new.messages < self.new.capacity) }
         ensures capacity { self.new.capacity ≡ self.old.capacity }
         ensures memory { self.new.memory ≡ self.old.memory }
         ensures touches { self.new.touches ≤ self.old.touches + 32 }

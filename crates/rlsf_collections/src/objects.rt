@@ -1,6 +1,6 @@
 //! A pool of objects of one size and alignment, which are handed out and taken back by handle.
 
-ghost use Rattle.std.specs.Prelude.{◌≡◌, ◌≤◌, ◌+◌, ◌↔◌, [], ◌∷◌, ◌++◌, None, Some, IfOk, OnOk, OnErr, IsErr, IsErrOf, IsSomeAnd, length, nat_eq, replicate};
+ghost use Rattle.std.specs.Prelude.{◌≡◌, ◌<◌, ◌≤◌, ◌+◌, ◌↔◌, [], ◌∷◌, ◌++◌, None, Some, IfOk, OnOk, OnErr, IsErr, IsErrOf, IsSomeAnd, length, nat_eq, replicate};
 ghost use Rattle.std.specs.List.{splice};
 ghost use Rattle.std.specs.Map.{lookup, remove_entry, set_value};
 ghost use Rattle.rlsf_base.specs.Sizes as sizes;
@@ -51,7 +51,7 @@ pub enum SetError {
 
 /// A pool of objects of one layout, in a memory of its own.
 ///
-/// Handles count up from 0, and a handle that was given back never comes back.
+/// Handles count up from 0, and the handle of an object that was given back is never used again.
 #[derive(Drop)]
 pub struct Objects {
     items: Items,
@@ -72,12 +72,13 @@ impl Model for Objects {
 }
 
 impl Objects {
-    /// A pool of which no object is out yet. Its memory is all that objects are taken from, and its length says how many may be
-    /// out at once.
+    /// A pool of which no object is out yet. Its memory is all that objects are taken from, and the memory's length determines how
+    /// many may be out at once.
     ///
-    /// In a memory of the length that `classes::pool_size_for_objects` computes, from a multiple of 32 on, as many of the size
-    /// that it says may be out as were asked for, at an alignment of 16 or less. Where the block of an object doesn't begin a
-    /// size class, or the alignment is above 32, about half as many may be out.
+    /// In a memory of the length that `classes::pool_size_for_objects` computes, from a multiple of 32 on, as many objects of the
+    /// size that it returns may be out as were asked for, at an alignment of 16 or less. If the block of an object doesn't begin a
+    /// size class, or the alignment is above 32, as many may be out as the greatest `n` for which
+    /// `classes::pool_size_for_payloads(n - 1, layout)` is not above the length.
     pub fn new(alloc: Global, memory: Memory, layout: Layout) -> Objects
         ensures pool { result ≡ record { objects = []; next = 0; size = layout.size; align = layout.align; memory = range_of memory; capacity = result.capacity } }
         ensures capacity { result.capacity ≡ objects.capacity_of (aligned_part (range_of memory)).len layout.size layout.align }
@@ -107,7 +108,7 @@ impl Objects {
 
     /// Hands out an object of zeros, under a new handle.
     ///
-    /// Refused with `NoRoom` exactly where as many are out as the capacity, and else with `OutOfMemory` without memory for its
+    /// Refused with `NoRoom` exactly if as many are out as the capacity, and otherwise with `OutOfMemory` without memory for its
     /// handle, and then nothing changes. A pool of which no object is out, and whose memory fits one, has room.
     pub fn take(&mut self) -> Result<usize, TakeError>
         ensures taken { IfOk result (λ handle. (handle ≡ self.old.next)
@@ -123,19 +124,20 @@ impl Objects {
         self.items.add_zeros(self.layout)
     }
 
-    /// Takes an object back. Its handle is unknown from then on, and all others are as they were.
+    /// Takes an object back. Its handle is unknown from then on, all others are as they were, and the pool has room for one more.
     ///
-    /// Refused exactly where no object with that handle is out, and then nothing changes.
+    /// Refused exactly if no object with that handle is out, and then nothing changes.
     pub fn give_back(&mut self, handle: usize) -> Result<(), UnknownHandle>
         ensures given_back { OnOk result (self.new ≡ record self.old { objects = remove_entry (nat_eq handle) self.old.objects }) }
         ensures gone { lookup (nat_eq handle) self.new.objects ≡ None }
+        ensures room { OnOk result (length self.new.objects < self.new.capacity) }
         ensures unknown { IsErr result ↔ (lookup (nat_eq handle) self.old.objects ≡ None) }
         ensures refused { OnErr result (self.new ≡ self.old) }
     {
         self.items.remove(handle)
     }
 
-    /// The bytes of an object. Refused exactly where no object with that handle is out.
+    /// The bytes of an object. Refused exactly if no object with that handle is out.
     pub fn get(&self, handle: usize) -> Result<&[u8], UnknownHandle>
         ensures bytes { IfOk result (λ bytes. lookup (nat_eq handle) self.now.objects ≡ Some bytes.now) }
         ensures len { IfOk result (λ bytes. length bytes.now ≡ self.now.size) }
@@ -146,7 +148,7 @@ impl Objects {
 
     /// Writes bytes over those of one object, from an offset on. All others are as they were.
     ///
-    /// Refused exactly where no object with that handle is out, or else where the bytes would reach past its end, and then nothing
+    /// Refused exactly if no object with that handle is out, or otherwise if the bytes would reach past its end, and then nothing
     /// changes.
     pub fn set(&mut self, handle: usize, offset: usize, bytes: &[u8]) -> Result<(), SetError>
         ensures answer { result ≡ set_answer (lookup (nat_eq handle) self.old.objects) (offset + length bytes.now) }
@@ -184,7 +186,7 @@ fn capacity_of(len: usize, layout: Layout) -> usize
     }
 }
 
-/// How long a block is sought for a layout: its payload begins 16 bytes into it, or up to `align - 16` bytes later.
+/// The least length of a block for a layout: its payload begins 16 bytes into it, or up to `align - 16` bytes later.
 fn request_size(layout: Layout) -> usize
     ensures { result ≡ sizes.request_size layout.size layout.align }
 {

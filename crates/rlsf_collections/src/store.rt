@@ -56,7 +56,7 @@ impl Store {
         }
     }
 
-    /// Stores bytes in a payload of their own. Answers its address, or `None` without room, and then nothing changes.
+    /// Stores bytes in a payload of their own. Returns its address, or `None` without room, and then nothing changes.
     pub(crate) fn add(&mut self, bytes: &[u8]) -> Option<Addr>
         ensures stored { IfSome result (λ addr. (places : List Place) → KeepsAt self.old places
             → HasAmong self.old self.new places [] (place (at addr) 1 (length bytes.now)) bytes.now) }
@@ -74,7 +74,7 @@ impl Store {
         Some(addr)
     }
 
-    /// Stores as many zeros as a layout has bytes, at its alignment. Answers their address, or `None` without room, and then
+    /// Stores as many zeros as a layout has bytes, at its alignment. Returns their address, or `None` without room, and then
     /// nothing changes.
     pub(crate) fn add_zeros(&mut self, layout: Layout) -> Option<Addr>
         ensures stored { IfSome result (λ addr. (places : List Place) → KeepsAt self.old places
@@ -113,7 +113,7 @@ impl Store {
         write_at(self.heap.payload_mut(addr), offset, bytes);
     }
 
-    /// Stores more bytes behind the `len` bytes that are stored at an address, whose payload may move. Answers its address, or
+    /// Stores more bytes behind the `len` bytes that are stored at an address, whose payload may move. Returns its address, or
     /// `None` without room, and then nothing changes.
     pub(crate) fn append(&mut self, addr: Addr, len: usize, more: &[u8]) -> Option<Addr>
         requires { (before after : List Place) × (p : Place) × KeepsAt self.old (before ++ p ∷ after) × (p.addr ≡ at addr) × (p.align ≡ 1) × (p.len ≡ len) }
@@ -132,7 +132,7 @@ impl Store {
         Some(to)
     }
 
-    /// Gives back what is stored at an address, with that alignment.
+    /// Deallocates what is stored at an address, with that alignment.
     pub(crate) fn remove(&mut self, addr: Addr, align: usize)
         requires { (before after : List Place) × (p : Place) × KeepsAt self.old (before ++ p ∷ after) × (p.addr ≡ at addr) × (p.align ≡ align) }
         ensures removed { (before after : List Place) (p : Place) → KeepsAt self.old (before ++ p ∷ after) → p.addr ≡ at addr → p.align ≡ align

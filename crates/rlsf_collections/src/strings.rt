@@ -45,7 +45,7 @@ impl From<UnknownHandle> for StringError {
 
 /// Strings by handle, in a memory of their own.
 ///
-/// Handles count up from 0, and the handle of a string that was dropped never comes back.
+/// Handles count up from 0, and the handle of a string that was dropped is never used again.
 #[derive(Drop)]
 pub struct Strings {
     items: Items,
@@ -83,7 +83,7 @@ impl Strings {
 
     /// Makes an empty string, under a new handle.
     ///
-    /// Refused without room, or without memory for its handle, and then nothing changes. Where there is no string yet, and the memory
+    /// Refused without room, or without memory for its handle, and then nothing changes. If there is no string yet, and the memory
     /// fits one, there is room.
     pub fn create(&mut self) -> Result<usize, StringError>
         ensures made { IfOk result (λ handle. (handle ≡ self.old.next)
@@ -99,7 +99,7 @@ impl Strings {
 
     /// Adds bytes behind those of a string. All others are as they were.
     ///
-    /// Refused with `UnknownHandle` exactly where there is no string with that handle, and without room, and then nothing changes.
+    /// Refused with `UnknownHandle` exactly if there is no string with that handle, and without room, and then nothing changes.
     pub fn append(&mut self, handle: usize, more: &[u8]) -> Result<(), StringError>
         ensures appended { OnOk result (IsSomeAnd (lookup (nat_eq handle) self.old.strings) (λ old.
             self.new ≡ record self.old { strings = set_value (nat_eq handle) self.old.strings (old ++ more.now) })) }
@@ -113,7 +113,7 @@ impl Strings {
 
     /// Makes a string of the bytes of one string and then those of another, under a new handle. The two stay.
     ///
-    /// Refused with `UnknownHandle` exactly where one of the two isn't there, and without room or memory, and then nothing changes.
+    /// Refused with `UnknownHandle` exactly if one of the two isn't there, and without room or memory, and then nothing changes.
     pub fn concat(&mut self, left: usize, right: usize) -> Result<usize, StringError>
         ensures joined { IfOk result (λ handle. (handle ≡ self.old.next)
             × IsSomeAnd (joined_of left right self.old.strings) (λ bytes. self.new ≡ with_string self.old handle bytes)) }
@@ -142,7 +142,7 @@ impl Strings {
 
     /// Drops a string. Its handle is unknown from then on, and all others are as they were.
     ///
-    /// Refused exactly where there is no string with that handle, and then nothing changes.
+    /// Refused exactly if there is no string with that handle, and then nothing changes.
     pub fn drop_string(&mut self, handle: usize) -> Result<(), UnknownHandle>
         ensures dropped { OnOk result (self.new ≡ record self.old { strings = remove_entry (nat_eq handle) self.old.strings }) }
         ensures gone { lookup (nat_eq handle) self.new.strings ≡ None }
@@ -152,7 +152,7 @@ impl Strings {
         self.items.remove(handle)
     }
 
-    /// The bytes of a string. Refused exactly where there is no string with that handle.
+    /// The bytes of a string. Refused exactly if there is no string with that handle.
     pub fn bytes(&self, handle: usize) -> Result<&[u8], UnknownHandle>
         ensures bytes { IfOk result (λ bytes. lookup (nat_eq handle) self.now.strings ≡ Some bytes.now) }
         ensures unknown { OnErr result (lookup (nat_eq handle) self.now.strings ≡ None) }

@@ -1,8 +1,8 @@
-//! What a call answered, as the tour prints it.
+//! What a call returned, as the tour prints it.
 
 use std::fmt;
 
-/// What a call gave, or why it was refused.
+/// What a call returned, or why it was refused.
 #[derive(Drop)]
 pub(crate) struct Answer<T: Drop, E: Drop>(pub(crate) Result<T, E>);
 

@@ -1,6 +1,7 @@
 //! What ends the tour early.
 
 use rlsf::{LayoutError, MemoryError};
+use rlsf_collections::LongestError;
 use std::alloc::AllocError;
 use std::error::Error;
 use std::{fmt, io};
@@ -14,6 +15,8 @@ pub(crate) enum TourError {
     Layout,
     /// The system refused memory.
     OutOfMemory,
+    /// The memory isn't sure to have room for so many messages of that length.
+    MemoryTooShort,
     /// The output could not be written.
     Io(io::Error),
 }
@@ -24,6 +27,7 @@ impl fmt::Display for TourError {
             TourError::Memory(error) => write!(f, "no memory: {error:?}"),
             TourError::Layout => f.write_str("no such layout"),
             TourError::OutOfMemory => f.write_str("the system refused memory"),
+            TourError::MemoryTooShort => f.write_str("the memory of a queue is too short"),
             TourError::Io(error) => fmt::Display::fmt(error, f),
         }
     }
@@ -46,6 +50,15 @@ impl From<LayoutError> for TourError {
 impl From<AllocError> for TourError {
     fn from(_refused: AllocError) -> TourError {
         TourError::OutOfMemory
+    }
+}
+
+impl From<LongestError> for TourError {
+    fn from(error: LongestError) -> TourError {
+        match error {
+            LongestError::MemoryTooShort => TourError::MemoryTooShort,
+            LongestError::OutOfMemory => TourError::OutOfMemory,
+        }
     }
 }
 

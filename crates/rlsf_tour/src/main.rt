@@ -3,6 +3,7 @@
 
 mod answer;
 mod error;
+mod latest;
 mod messages;
 mod objects;
 mod strings;
@@ -20,7 +21,7 @@ fn main(rt: HostRuntime) -> ExitCode {
     match tour(&rt) {
         Ok(()) => ExitCode::SUCCESS,
         Err(error) => {
-            // Where standard error fails too, only the status tells of the error.
+            // If standard error fails too, only the status reports the error.
             let _ = eprintln!(rt; "{error}");
             ExitCode::FAILURE
         }
@@ -29,6 +30,7 @@ fn main(rt: HostRuntime) -> ExitCode {
 
 fn tour(rt: &(impl Print + AllocGlobal)) -> Result<(), TourError> {
     messages::show(rt)?;
+    latest::show(rt)?;
     objects::show(rt)?;
     strings::show(rt)
 }

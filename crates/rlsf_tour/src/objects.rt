@@ -1,11 +1,15 @@
 //! A pool of objects.
 
+ghost use Rattle.std.specs.Prelude.{◌≡◌, ◌↔◌, IfOk, IsErr, IsErrOf, None, nat_eq};
+ghost use Rattle.std.specs.Map.{lookup};
+ghost use Rattle.rlsf_collections.specs.declared.objects.TakeError.TheVariants.{NoRoom};
+
 use crate::answer::{Answer, Refusal};
 use crate::draw;
 use crate::error::TourError;
 use crate::messages::text;
 use rlsf::{Layout, Memory};
-use rlsf_collections::Objects;
+use rlsf_collections::{Objects, TakeError, UnknownHandle};
 
 /// A call of the script.
 #[derive(Clone, Copy)]
@@ -13,9 +17,10 @@ enum Step {
     Take,
     Set(usize, &'static str),
     GiveBack(usize),
+    Exchange(usize),
 }
 
-const SCRIPT: [Step; 8] = [
+const SCRIPT: [Step; 9] = [
     Step::Take,
     Step::Take,
     Step::Set(1, "a name"),
@@ -24,9 +29,10 @@ const SCRIPT: [Step; 8] = [
     Step::Take,
     Step::GiveBack(0),
     Step::Set(1, "an"),
+    Step::Exchange(1),
 ];
 
-/// Takes objects, writes into one, and gives one back.
+/// Takes objects, writes into one, gives one back, and exchanges one for another.
 pub(crate) fn show(rt: &(impl Print + AllocGlobal)) -> Result<(), TourError> {
     let memory = Memory::new(rt.alloc(), 8192, 288)?;
     let mut pool = Objects::new(rt.alloc(), memory, Layout::from_size_align(40, 32)?);
@@ -50,6 +56,7 @@ fn run_step(
         Step::Take => take(rt, pool),
         Step::Set(handle, name) => set(rt, pool, handle, name),
         Step::GiveBack(handle) => give_back(rt, pool, handle),
+        Step::Exchange(handle) => show_exchange(rt, pool, handle),
     }
 }
 
@@ -67,6 +74,28 @@ fn give_back(
     draw(
         rt,
         format_args!("give back: {handle}{refusal}"),
+        pool.blocks(),
+    )
+}
+
+/// Gives an object back and takes another one, for which there is room then.
+fn exchange(pool: &mut Objects, handle: usize) -> Result<Result<usize, TakeError>, UnknownHandle>
+    ensures room { IfOk result (λ taken. IsErrOf taken NoRoom → ⊥) }
+    ensures unknown { IsErr result ↔ (lookup (nat_eq handle) pool.old.objects ≡ None) }
+{
+    pool.give_back(handle)?;
+    Ok(pool.take())
+}
+
+fn show_exchange(
+    rt: &(impl Print + AllocGlobal),
+    pool: &mut Objects,
+    handle: usize,
+) -> Result<(), TourError> {
+    let answer = Answer(exchange(pool, handle).map(|taken| Answer(taken)));
+    draw(
+        rt,
+        format_args!("exchange: {handle}: {answer}"),
         pool.blocks(),
     )
 }

@@ -166,13 +166,13 @@ static CAPACITIES: [(usize, usize, usize, usize, usize); 16] = [
     // Of 752 bytes, with 16 more, 100 fill a pool up to its end.
     (4096, 76831, 752, 16, 99),
     (4096, 76832, 752, 16, 100),
-    // One of 700 bytes needs a block of 736, and a free one of 768 is sure to serve. The first object wants 800 bytes of the pool,
+    // One of 700 bytes needs a block of 736, and a free one of 768 is sure to serve. The first object needs 800 bytes of the pool,
     // and each further one 736 and 736 more.
     (4096, 799, 700, 1, 0),
     (4096, 800, 700, 1, 1),
     (4096, 6687, 700, 1, 4),
     (4096, 6688, 700, 1, 5),
-    // At multiples of 64 one of 64 bytes needs up to 128. The first wants 160 bytes, and each further one 128 and 96 more.
+    // At multiples of 64 one of 64 bytes needs up to 128. The first needs 160 bytes, and each further one 128 and 96 more.
     (4096, 160, 64, 64, 1),
     (4096, 1279, 64, 64, 5),
     (4096, 1280, 64, 64, 6),

@@ -7,7 +7,7 @@ use Rattle.rlsf_base.specs.Range.{range_at}
 use Rattle.rlsf_base.specs.Space.{range_of}
 use Rattle.rlsf_collections.specs.Queue.{oldest, place_of_entry}
 use Rattle.rlsf_collections.specs.Stored.{KeepsAt, HasSame, bytes_at_place}
-use Rattle.rlsf_collections.proofs.Queues.{KeepsLongest-less, KeepsLongest-same, Oldest, oldest_stored}
+use Rattle.rlsf_collections.proofs.Queues.{KeepsLongest-less, KeepsLongest-same, Oldest, length-messages, oldest_stored, oldest_within}
 use Rattle.rlsf_collections.proofs.messages.Messages.pop.Goals as goal
 use Rattle.rlsf_collections.proofs.messages.Messages.pop.Goals.{After-remove, In-Some}
 
@@ -22,6 +22,15 @@ pub returns-then-into-entry-clause-short : goal.returns-then-into-entry-clause-s
 returns-then-into-entry-clause-short c =
     let o = found (goal.at.returns-then-into-entry-clause-short c).In-Some in
     rw (← c.self.view_is) (λ _. subst (λ ms. IsSomeAnd (oldest ms) (λ m. length c.args.into.now < length m)) (sym o.messages) (omega (arith, o.len)), λ _. refl)
+
+pub returns-then-into-entry-clause-enough : goal.returns-then-into-entry-clause-enough
+returns-then-into-entry-clause-enough c =
+    let i = c.self.inside in
+    let here = c.in-Some.ensures in
+    rw (← c.self.view_is) (λ within _. absurd (omega (
+      arith,
+      oldest_within i.longest (range_of i.store.heap.memory) (deque_capacity i.entries) (length c.args.into.now) i.entries.items c.in-Some.field-0.now c.self.invariant.1 (omega (arith, i.entries.ok.0, here.variant.0 refl)) here.lookup within,
+    )))
 
 pub read-requires : goal.read-requires
 read-requires c = ([], _, _, (found (goal.at.read-requires c).In-Some).places, refl, refl)
@@ -63,6 +72,10 @@ returns c = record {
   empty = search rules;
   longest = search rules;
   short = search rules;
+  enough = search rules;
+  room =
+      let i = c.self.inside in
+      omega (arith, length-messages c.remove.new.self.heap.memory c.pop_front.new.self.items, i.entries.ok.0, c.in-Some.ensures.variant.0 refl);
   capacity = search rules;
   memory = search rules;
   touches = search rules;

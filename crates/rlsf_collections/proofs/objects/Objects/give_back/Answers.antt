@@ -2,7 +2,7 @@ use Rattle.std.proofs.Common.{rules, ◌≡◌, ◌↔◌, ℕ, nat_eq, None, Re
 use Rattle.std.specs.Map.{lookup, remove_entry}
 use Rattle.rlsf_machine.specs.State.{State}
 use Rattle.rlsf_collections.specs.Handled.{Handled}
-use Rattle.rlsf_collections.proofs.Capacities.{IsObjectPool-given_back, shown}
+use Rattle.rlsf_collections.proofs.Capacities.{IsObjectPool-given_back, room_given_back, shown}
 use Rattle.rlsf_collections.proofs.objects.Objects.give_back.Goals as goal
 
 pub invariant_of-self : goal.invariant_of-self
@@ -27,6 +27,9 @@ returns c = record {
       let i = c.self.inside in
       rw (← c.self.view_is) (without c.remove.result i.items c.remove.new.self i.layout.size i.layout.align i.capacity c.args.handle _ _ c.remove.ensures.removed);
   gone = gone c.remove.result c.self.inside.items c.remove.new.self c.args.handle _ c.remove.ensures.removed c.remove.ensures.unknown c.remove.ensures.refused;
+  room =
+      let i = c.self.inside in
+      room_given_back c.remove.result i.items c.remove.new.self i.layout.size i.layout.align i.capacity c.args.handle _ c.self.invariant c.remove.ensures.removed c.remove.ensures.unknown;
   unknown = rw (← c.self.view_is) c.remove.ensures.unknown;
   refused = search rules;
 }
