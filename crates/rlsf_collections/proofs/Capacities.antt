@@ -1,9 +1,8 @@
 -- Pools of objects, over the calls of their items.
-use Rattle.std.proofs.Common.{◌≡◌, ◌↔◌, ◌⊎◌, ℕ, ◌+◌, ◌-◌, ◌*◌, ◌/◌, ◌<◌, ◌≤◌, Bool, true, false, cond, ◌&&◌, nat_eq, nat_le, nat_lt, max, List, [], ◌∷◌, ◌++◌, length, length-append, replicate, Option, Some, None, Result, Ok, Err, IfOk, IsErr, OnOk, OnErr, lit<, arith, refl, sym, ◌∙◌, ap, subst, inl, inr}
-use Rattle.std.proofs.lemmas.Bool.{cases_Bool, cases_lt, lt-ltb}
+use Rattle.std.proofs.Common.{◌≡◌, ◌↔◌, ◌⊎◌, ℕ, ◌+◌, ◌-◌, ◌*◌, ◌/◌, ◌<◌, ◌≤◌, Bool, true, false, cond, ◌&&◌, nat_eq, nat_le, nat_lt, List, [], ◌∷◌, ◌++◌, length, length-append, replicate, Option, Some, None, Result, Ok, Err, IfOk, IsErr, OnOk, OnErr, lit<, arith, refl, sym, ◌∙◌, ap, subst, inl, inr}
+use Rattle.std.proofs.lemmas.Bool.{cases_Bool, cases_lt, false≢true, lt-ltb}
 use Rattle.std.proofs.lemmas.Bool.Decides.{nat_tests}
 use Rattle.std.proofs.lemmas.List.{length-replicate}
-use Rattle.std.proofs.lemmas.List.Sums.{sum_by-cons}
 use Rattle.std.proofs.lemmas.Nat.{div-add-mod', le-div}
 use Rattle.std.proofs.lemmas.Option.{none-some, same_Some}
 use Rattle.std.proofs.Math.Nat.{mul-le-mul_right}
@@ -86,7 +85,7 @@ length-remove_entry_found test (e ∷ es) found = elim (cases_Bool (test e.0)) [
 pub room_given_back : {T E : Type 0} (r : Result T E) (o n : Handled) (size align capacity handle : ℕ) (P : Type 0) → IsObjectPool o size align capacity
     → OnOk r ((n ≡ record o { lists = remove_entry (nat_eq handle) o.lists; state = n.state }) × P) → IsErr r ↔ (lookup (nat_eq handle) o.lists ≡ None) → OnOk r (length n.lists < capacity)
 room_given_back (Ok x) o n size align capacity handle P pool (gone, _) unknown =
-    let less = length-remove_entry_found (nat_eq handle) o.lists (λ none. cc) in
+    let less = length-remove_entry_found (nat_eq handle) o.lists (λ none. false≢true (unknown.1 none)) in
     omega (arith, less, ap (λ h. length h.lists) gone, pool.within)
 room_given_back (Err e) o n size align capacity handle P pool gone unknown = tt
 

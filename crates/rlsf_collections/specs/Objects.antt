@@ -1,5 +1,5 @@
 -- A pool of objects of one size and alignment.
-use Rattle.std.specs.Prelude.{◌≡◌, ℕ, ◌+◌, ◌-◌, ◌*◌, ◌/◌, ◌&&◌, List, length, max, Option, Some, None, IsSomeAnd, Result, Ok, Err, if◌then◌else◌, nat_eq, nat_le, nat_lt}
+use Rattle.std.specs.Prelude.{◌≡◌, ℕ, ◌+◌, ◌-◌, ◌/◌, ◌&&◌, List, length, Option, Some, None, IsSomeAnd, Result, Ok, Err, if◌then◌else◌, nat_eq, nat_le, nat_lt}
 use Rattle.std.specs.List.{AllByRecursion, splice}
 use Rattle.std.specs.Map.{lookup, set_value}
 use Rattle.rlsf_base.specs.declared.memory.range.Range.{Range}

@@ -1,5 +1,5 @@
-use Rattle.std.proofs.Common.{rules, ◌≡◌, ◌<◌, [], ◌++◌, length, drop, map, arith, refl, ◌∙◌, ap, sym, subst}
-use Rattle.std.proofs.lemmas.List.{length-take}
+use Rattle.std.proofs.Common.{rules, ◌≡◌, ◌-◌, ◌<◌, [], ◌++◌, length, drop, map, arith, refl, ◌∙◌, ap, sym, subst}
+use Rattle.std.proofs.lemmas.List.{length-drop, length-take}
 use Rattle.std.proofs.Math.Path.{ap₂}
 use Rattle.std.specs.Option.{IsSomeAnd}
 use Rattle.std.specs.VecDeque.{deque_capacity}
@@ -74,8 +74,10 @@ returns c = record {
   short = search rules;
   enough = search rules;
   room =
-      let i = c.self.inside in
-      omega (arith, length-messages c.remove.new.self.heap.memory c.pop_front.new.self.items, i.entries.ok.0, c.in-Some.ensures.variant.0 refl);
+      let entries = c.self.inside.entries in
+      let rest : drop 1 entries.items ≡ c.pop_front.new.self.items = cc in
+      let less : length c.pop_front.new.self.items ≡ length entries.items - 1 = ap length (sym rest) ∙ length-drop 1 entries.items in
+      omega (arith, less, length-messages c.remove.new.self.heap.memory c.pop_front.new.self.items, entries.ok.0, c.in-Some.ensures.variant.0 refl);
   capacity = search rules;
   memory = search rules;
   touches = search rules;

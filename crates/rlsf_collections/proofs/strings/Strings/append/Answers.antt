@@ -1,4 +1,4 @@
-use Rattle.std.proofs.Common.{◌≡◌, length, sym, subst}
+use Rattle.std.proofs.Common.{length, sym, subst}
 use Rattle.rlsf_collections.specs.Budgets.{AreFewStrings}
 use Rattle.rlsf_collections.specs.Strings.{IsShortWith}
 use Rattle.rlsf_collections.proofs.Rooms.{HasBudgetOf-strings}

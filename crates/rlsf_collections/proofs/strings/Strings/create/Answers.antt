@@ -1,4 +1,4 @@
-use Rattle.std.proofs.Common.{◌≡◌, ◌≤◌, arith, sym, subst}
+use Rattle.std.proofs.Common.{arith, sym, subst}
 use Rattle.rlsf_collections.specs.Budgets.{AreFewStrings}
 use Rattle.rlsf_collections.proofs.Rooms.{HasBudgetOf-strings}
 use Rattle.rlsf_collections.proofs.strings.Strings.create.Goals as goal
