@@ -98,9 +98,9 @@ small_stored size align (j ∷ js) (first, rest) k (inl same) =
     omega (arith, request_size-mono (length k.bytes) size k.align long, ap (request_size size) aligned)
 small_stored size align (j ∷ js) (first, rest) k (inr i) = small_stored size align js rest k i
 
--- a pool with the bytes for a block is one chunk
+-- a pool with the bytes for a block
 module _ (memory : Range) (live size align : ℕ) (bytes : HasBytesFor memory live size align) where
-  -- and has room for the block
+  -- is longer than the block
   pub request_size-part : request_size size align < (aligned_part memory).len
   request_size-part =
       let part = aligned_part memory in
@@ -111,6 +111,7 @@ module _ (memory : Range) (live size align : ℕ) (bytes : HasBytesFor memory li
       let once : 1 * (least - 32) ≤ (live + 1) * (least - 32) = mul-le-mul_right (least - 32) (omega arith) in
       omega (arith, all, once, bytes.enough, longer, taken.is.0, taken.is.1)
 
+  -- and long enough for a chunk
   pub long_part : 64 ≤ (aligned_part memory).len
   long_part = omega (arith, request_size-part, (IsWhole-aligned_part memory).len, round32-multiple (size + (align - 16) + 16), round32-le (size + (align - 16) + 16))
 
