@@ -33,6 +33,7 @@ pub mod Insertions
 pub mod Joins
 pub mod Live
 pub mod NoMove
+pub mod NoMoveRows
 pub mod Notes
 pub mod Orders
 pub mod Owed

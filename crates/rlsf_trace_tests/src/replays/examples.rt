@@ -70,8 +70,8 @@ static EXAMPLES: [(&[u8], &str); 24] = [
     ),
     // A payload that may not move takes from the free block behind it alone.
     (
-        b"8x8 4096 4096\ninsert 4096 256\nalloc 1 17 1\nalloc 2 0 1\nnrealloc 1 100\nnrealloc 2 140\nblock 4096 256 1\nblock 4096 256 2\nnrealloc 1 0\nblock 4096 256 1\nnrealloc 1 48\nusable 1\n",
-        "insert some 256\nalloc 1 at 4112\nalloc 2 at 4176\nnrealloc 1 none\nnrealloc 2 at 4176\nblock 4160 160 used\nblock none\nnrealloc 1 at 4112\nblock 4128 32 free\nnrealloc 1 at 4112\nusable 1 48\nstatus 0",
+        b"8x8 4096 4096\ninsert 4096 256\nalloc 1 17 1\nalloc 2 0 1\nnrealloc 1 100\nnrealloc 2 140\nblock 4096 256 0\nblock 4096 256 1\nblock 4096 256 2\nnrealloc 1 0\nblock 4096 256 1\nnrealloc 1 48\nusable 1\nblock 4096 256 0\nblock 4096 256 1\nblock 4096 256 2\n",
+        "insert some 256\nalloc 1 at 4112\nalloc 2 at 4176\nnrealloc 1 none\nnrealloc 2 at 4176\nblock 4096 64 used\nblock 4160 160 used\nblock none\nnrealloc 1 at 4112\nblock 4128 32 free\nnrealloc 1 at 4112\nusable 1 48\nblock 4096 64 used\nblock 4160 160 used\nblock none\nstatus 0",
     ),
     // It doesn't move into the free block before its own, and then nothing changes.
     (
