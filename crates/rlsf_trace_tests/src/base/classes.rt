@@ -2,6 +2,7 @@ ghost use Rattle.rlsf_base.specs.SizeClass.{IsValid};
 ghost use Rattle.rlsf_base.specs.Sizes as sizes;
 
 use crate::base::answers::{all, passes};
+use crate::base::pools::{Shape, are_long_enough};
 use rlsf_base::classes::{
     map_ceil, map_ceil_and_unmap, map_floor, max_pool_size, pool_size_to_contain_allocation,
     request_size,
@@ -75,7 +76,7 @@ fn other_rows(rt: HostRuntime) {
     are::<u8, u8, 8, 1>(&rt, &[(96, (Some((1, 0)), Some((2, 0)), Some(128)))]);
     are::<u8, u8, 1, 1>(&rt, &[(32, (Some((0, 0)), Some((0, 0)), Some(32)))]);
     are::<u64, u64, 64, 64>(&rt, SIXTY_FOUR_BY_SIXTY_FOUR);
-    are::<u64, u8, 59, 8>(&rt, &[(LAST, (Some((58, 7)), None, None))]);
+    are::<u64, u64, 59, 8>(&rt, &[(LAST, (Some((58, 7)), None, None))]);
 }
 
 const MOST_CLASSES: &[(usize, Row)] = &[
@@ -114,9 +115,9 @@ fn longest_chunks(rt: HostRuntime) {
         max_pool_size::<u8, u8, 1, 8>(),
         max_pool_size::<u8, u8, 8, 8>(),
         max_pool_size::<u16, u8, 12, 8>(),
-        max_pool_size::<u64, u8, 58, 8>(),
-        max_pool_size::<u64, u8, 59, 8>(),
-        max_pool_size::<u64, u8, 60, 8>(),
+        max_pool_size::<u64, u64, 58, 8>(),
+        max_pool_size::<u64, u64, 59, 8>(),
+        max_pool_size::<u64, u64, 60, 8>(),
         max_pool_size::<u128, u128, 128, 128>(),
     ];
     let expected = [
@@ -206,58 +207,80 @@ fn chunk_laws_hold<F: BitPattern, S: BitPattern, const FLLEN: usize, const SLLEN
 }
 
 /// Whether the laws hold of all sizes up to `2^14`, of ten around each power of two from there on, and of the longest
-/// chunk.
-fn all_laws_hold<F: BitPattern, S: BitPattern, const FLLEN: usize, const SLLEN: usize>() -> bool
-    requires parameters { IsValid F.width S.width FLLEN SLLEN }
+/// chunk; and whether the lengths of pools that are computed for one allocation are enough.
+fn all_laws_hold<
+    FLBitmap: BitPattern,
+    SLBitmap: BitPattern,
+    const FLLEN: usize,
+    const SLLEN: usize,
+>(rt: &(impl Abort + AllocGlobal), shape: Shape<'_, FLBitmap, SLBitmap, FLLEN, SLLEN>) -> bool
+    requires parameters { IsValid FLBitmap.width SLBitmap.width FLLEN SLLEN }
 {
     for i in 1..=512 {
-        if !laws_hold::<F, S, FLLEN, SLLEN>(32 * i) {
+        if !laws_hold::<FLBitmap, SLBitmap, FLLEN, SLLEN>(32 * i) {
             return false;
         }
     }
     for k in 14u32..64 {
         for i in 0..10 {
             let size = (1usize << k).wrapping_sub(160).wrapping_add(32 * i);
-            if !laws_hold::<F, S, FLLEN, SLLEN>(size) {
+            if !laws_hold::<FLBitmap, SLBitmap, FLLEN, SLLEN>(size) {
                 return false;
             }
         }
     }
-    chunk_laws_hold::<F, S, FLLEN, SLLEN>()
+    chunk_laws_hold::<FLBitmap, SLBitmap, FLLEN, SLLEN>() && are_long_enough(rt, shape)
 }
 
 #[test]
-fn laws(rt: HostRuntime) {
+fn laws_of_rows_of_8_bits(rt: HostRuntime) {
     let answers = [
-        all_laws_hold::<u8, u8, 1, 1>(),
-        all_laws_hold::<u8, u8, 1, 2>(),
-        all_laws_hold::<u8, u8, 1, 4>(),
-        all_laws_hold::<u8, u8, 1, 8>(),
-        all_laws_hold::<u8, u8, 3, 4>(),
-        all_laws_hold::<u8, u8, 5, 4>(),
-        all_laws_hold::<u8, u8, 8, 1>(),
-        all_laws_hold::<u8, u8, 8, 8>(),
-        all_laws_hold::<u16, u8, 3, 4>(),
-        all_laws_hold::<u16, u8, 11, 4>(),
-        all_laws_hold::<u16, u8, 16, 4>(),
-        all_laws_hold::<u16, u16, 3, 16>(),
-        all_laws_hold::<u16, u16, 11, 16>(),
-        all_laws_hold::<u16, u16, 16, 16>(),
-        all_laws_hold::<u16, u64, 3, 32>(),
-        all_laws_hold::<u16, u64, 11, 32>(),
-        all_laws_hold::<u16, u64, 16, 32>(),
-        all_laws_hold::<u64, u64, 20, 32>(),
-        all_laws_hold::<u64, u64, 27, 32>(),
-        all_laws_hold::<u64, u64, 28, 32>(),
-        all_laws_hold::<u64, u64, 29, 32>(),
-        all_laws_hold::<u64, u64, 32, 32>(),
-        all_laws_hold::<u64, u8, 58, 8>(),
-        all_laws_hold::<u64, u8, 59, 8>(),
-        all_laws_hold::<u64, u8, 60, 8>(),
-        all_laws_hold::<u64, u8, 61, 8>(),
-        all_laws_hold::<u64, u8, 64, 8>(),
-        all_laws_hold::<usize, usize, 64, 64>(),
-        all_laws_hold::<u128, u128, 128, 128>(),
+        all_laws_hold::<u8, u8, 1, 1>(&rt, None),
+        all_laws_hold::<u8, u8, 1, 2>(&rt, None),
+        all_laws_hold::<u8, u8, 1, 4>(&rt, None),
+        all_laws_hold::<u8, u8, 1, 8>(&rt, None),
+        all_laws_hold::<u8, u8, 3, 4>(&rt, None),
+        all_laws_hold::<u8, u8, 5, 4>(&rt, None),
+        all_laws_hold::<u8, u8, 8, 1>(&rt, None),
+        all_laws_hold::<u8, u8, 8, 8>(&rt, None),
+        all_laws_hold::<u16, u8, 3, 4>(&rt, None),
+        all_laws_hold::<u16, u8, 11, 4>(&rt, None),
+        all_laws_hold::<u16, u8, 16, 4>(&rt, None),
+    ];
+    all(&rt, &answers);
+}
+
+#[test]
+fn laws_of_rows_of_16_and_32_classes(rt: HostRuntime) {
+    let answers = [
+        all_laws_hold::<u16, u16, 3, 16>(&rt, None),
+        all_laws_hold::<u16, u16, 11, 16>(&rt, None),
+        all_laws_hold::<u16, u16, 16, 16>(&rt, None),
+        all_laws_hold::<u16, u32, 3, 16>(&rt, None),
+        all_laws_hold::<u16, u32, 11, 16>(&rt, None),
+        all_laws_hold::<u16, u32, 16, 16>(&rt, None),
+        all_laws_hold::<u16, u32, 3, 32>(&rt, None),
+        all_laws_hold::<u16, u32, 11, 32>(&rt, None),
+        all_laws_hold::<u16, u32, 16, 32>(&rt, None),
+        all_laws_hold::<u32, u32, 20, 32>(&rt, None),
+        all_laws_hold::<u32, u32, 27, 32>(&rt, None),
+        all_laws_hold::<u32, u32, 28, 32>(&rt, None),
+        all_laws_hold::<u32, u32, 29, 32>(&rt, None),
+        all_laws_hold::<u32, u32, 32, 32>(&rt, None),
+    ];
+    all(&rt, &answers);
+}
+
+#[test]
+fn laws_of_most_rows(rt: HostRuntime) {
+    let answers = [
+        all_laws_hold::<u64, u64, 58, 8>(&rt, None),
+        all_laws_hold::<u64, u64, 59, 8>(&rt, None),
+        all_laws_hold::<u64, u64, 60, 8>(&rt, None),
+        all_laws_hold::<u64, u64, 61, 8>(&rt, None),
+        all_laws_hold::<u64, u64, 64, 8>(&rt, None),
+        all_laws_hold::<usize, usize, 64, 64>(&rt, None),
+        all_laws_hold::<u128, u128, 128, 128>(&rt, None),
     ];
     all(&rt, &answers);
 }
