@@ -6,6 +6,21 @@ ghost use Rattle.rlsf_c.specs.Answers.{answer_of, code_of, number_of, place_of, 
 use rlsf_base::memory::Addr;
 use rlsf_checked::CheckedError;
 
+/// No error.
+pub(crate) const OK: usize = 0;
+
+/// There is no such kind of pools. This number and those that follow stand behind those of a `CheckedError`.
+pub(crate) const NO_KIND: usize = 11;
+
+/// 0 is no address.
+pub(crate) const ZERO_START: usize = 12;
+
+/// The end of a memory lies past the greatest address.
+pub(crate) const TOO_LONG: usize = 13;
+
+/// No block begins at an address or behind it.
+pub(crate) const NO_BLOCK: usize = 14;
+
 /// A number, or why there is none.
 #[repr(C)]
 #[derive(Clone, Copy)]
@@ -77,7 +92,7 @@ pub(crate) fn to_answer(outcome: Result<usize, CheckedError>) -> Answer
     ensures { result ≡ answer_of outcome }
 {
     match outcome {
-        Ok(value) => Answer { error: 0, value },
+        Ok(value) => Answer { error: OK, value },
         Err(error) => refused(error),
     }
 }
@@ -88,7 +103,7 @@ pub(crate) fn to_place(outcome: Result<Addr, CheckedError>) -> Answer
 {
     match outcome {
         Ok(addr) => Answer {
-            error: 0,
+            error: OK,
             value: addr.get(),
         },
         Err(error) => refused(error),
@@ -100,7 +115,7 @@ pub(crate) fn to_code(outcome: Result<(), CheckedError>) -> usize
     ensures { result ≡ code_of outcome }
 {
     match outcome {
-        Ok(()) => 0,
+        Ok(()) => OK,
         Err(error) => number(error),
     }
 }

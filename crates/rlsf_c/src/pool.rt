@@ -6,7 +6,9 @@ ghost use Rattle.rlsf_c.specs.Calls.{Allocates, Appends, Frees, Inserts, Reads, 
 ghost use Rattle.rlsf_c.specs.Seen.{IsMade, append_result, init_refusal, insert_result, seen, status_of};
 ghost use Rattle.rlsf_c.specs.Walks.{IsNext, IsSummary};
 
-use crate::answers::{Answer, BlockAnswer, Statistics, number, refused};
+use crate::answers::{
+    Answer, BlockAnswer, NO_KIND, OK, Statistics, TOO_LONG, ZERO_START, number, refused,
+};
 use crate::{calls, walks};
 use rlsf_base::memory::{Memory, Range};
 use rlsf_checked::{CheckedError, CheckedTlsf};
@@ -28,13 +30,13 @@ fn refusal(kind: usize, start: usize, len: usize) -> Option<usize>
     ensures { result ≡ init_refusal kind start len }
 {
     if kind != 1 && kind != 2 {
-        return Some(11);
+        return Some(NO_KIND);
     }
     if start == 0 {
-        return Some(12);
+        return Some(ZERO_START);
     }
     if len > usize::MAX - start {
-        return Some(13);
+        return Some(TOO_LONG);
     }
     None
 }
@@ -48,17 +50,17 @@ impl Pool {
             return Pool::Refused(error);
         }
         let Ok(memory) = Memory::new(alloc, start, len) else {
-            return Pool::Refused(2);
+            return Pool::Refused(number(CheckedError::OutOfMemory));
         };
         if kind == 1 {
             match CheckedTlsf::new(alloc, memory) {
                 Ok(heap) => Pool::Small(heap),
-                Err(_) => Pool::Refused(2),
+                Err(_) => Pool::Refused(number(CheckedError::OutOfMemory)),
             }
         } else {
             match CheckedTlsf::new(alloc, memory) {
                 Ok(heap) => Pool::Large(heap),
-                Err(_) => Pool::Refused(2),
+                Err(_) => Pool::Refused(number(CheckedError::OutOfMemory)),
             }
         }
     }
@@ -69,7 +71,7 @@ impl Pool {
     {
         match self {
             Pool::Refused(error) => *error,
-            Pool::Small(_) | Pool::Large(_) => 0,
+            Pool::Small(_) | Pool::Large(_) => OK,
         }
     }
 

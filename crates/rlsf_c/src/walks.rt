@@ -4,7 +4,8 @@ ghost use Rattle.std.specs.Prelude.{◌≡◌, ◌+◌, ◌≤◌};
 ghost use Rattle.rlsf_blocks.specs.Blocks.{IsInOrder};
 ghost use Rattle.rlsf_c.specs.Walks.{IsSummaryOf, block_of, counted, first_from};
 
-use crate::answers::{BlockAnswer, Statistics};
+use crate::answers;
+use crate::answers::{BlockAnswer, OK, Statistics};
 use rlsf_blocks::{BlockInfo, Blocks};
 
 /// What no blocks come to.
@@ -17,7 +18,7 @@ pub(crate) const NOTHING: Statistics = Statistics {
 
 /// The answer where there is no block.
 pub(crate) const NO_BLOCK: BlockAnswer = BlockAnswer {
-    error: 14,
+    error: answers::NO_BLOCK,
     start: 0,
     len: 0,
     used: 0,
@@ -68,7 +69,7 @@ pub(crate) fn next_block(blocks: Blocks<'_>, from: usize) -> BlockAnswer
         let range = block.as_ptr();
         if range.start >= from {
             return BlockAnswer {
-                error: 0,
+                error: OK,
                 start: range.start,
                 len: range.len,
                 used: block.is_occupied() as usize,
