@@ -84,7 +84,7 @@ fn outcome(rt: &(impl Abort + AllocGlobal), growth: Growth) -> Outcome {
             allocates(flex, layout, addresses)
         }
         Shape::Long => {
-            let flex = FlexTlsf::<_, u64, u8, 59, 8>::new(memory, source);
+            let flex = FlexTlsf::<_, u64, u64, 59, 8>::new(memory, source);
             allocates(flex, layout, addresses)
         }
         Shape::Few => {
