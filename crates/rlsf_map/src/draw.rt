@@ -9,9 +9,20 @@ use crate::window::Window;
 use rlsf_watched::{BlockInfo, Watched};
 use std::alloc::{AllocError, Global};
 
+/// What is drawn, and how.
+const KINDS: &str = "<rect x='40' y='612' width='14' height='14' fill='hsl(42,65%,42%)'/>
+<text x='58' y='624'>payload of a used block</text>
+<rect x='250' y='612' width='14' height='14' fill='#eeeeee'/>
+<text x='268' y='624'>free block, or the header of a used block</text>
+<rect x='580' y='618' width='14' height='1.5' fill='#444444'/>
+<text x='598' y='624'>sentinel: the end of a chunk</text>
+<rect x='830' y='613' width='1.5' height='12' fill='red'/>
+<text x='838' y='624'>a call that finds no room</text>
+";
+
 /// What the colours mean, and the end of the drawing.
 const FOOT: &str =
-    "<text x='40' y='730'>the colour is the size class of the payload's block: 2^n stands for blocks from 2^n bytes up to twice as many, the longer the lighter</text>
+    "<text x='40' y='752'>colour: the size class of the used block. 2^n: from 2^n bytes to less than twice as many; longer blocks are lighter</text>
 </svg>
 ";
 
@@ -27,6 +38,7 @@ pub(crate) fn drawing(
     let mut text = String::new(alloc);
     print_head(&mut text, window)?;
     print_shapes(&mut text, window, pools, boxes, watched, legend)?;
+    text.push_str(KINDS)?;
     print_legend(&mut text, pools, watched, window, legend)?;
     print_colours(&mut text, boxes)?;
     text.push_str(FOOT)?;
@@ -37,9 +49,9 @@ fn print_head(text: &mut String, window: Window) -> Result<(), AllocError> {
     writeln!(
         text,
         "<?xml version='1.0' encoding='UTF-8'?>
-<svg xmlns='http://www.w3.org/2000/svg' viewBox='0 0 1200 760' font-family='sans-serif' font-size='14'>
+<svg xmlns='http://www.w3.org/2000/svg' viewBox='0 0 1200 770' font-family='sans-serif' font-size='14'>
 <title>A pool, {window}</title>
-<rect width='1200' height='760' fill='white'/>"
+<rect width='1200' height='770' fill='white'/>"
     )
 }
 
@@ -56,7 +68,8 @@ fn print_shapes(
     print_pools(text, scale, pools, window)?;
     print_boxes(text, scale, boxes, legend.classes)?;
     print_sentinels(text, scale, &watched.blocks)?;
-    print_denied(text, scale, watched, window)
+    print_denied(text, scale, watched, window)?;
+    print_axes(text, scale, window)
 }
 
 fn print_pools(
@@ -143,6 +156,23 @@ fn print_denied(
     Ok(())
 }
 
+// The two axes: which way each goes, and where it begins and ends.
+fn print_axes(text: &mut String, scale: Scale, window: Window) -> Result<(), AllocError> {
+    let (first, last) = (window.first as u128 + 2, window.end as u128 + 1);
+    let (low, high) = (scale.low(), scale.high());
+    writeln!(
+        text,
+        "<text x='40' y='592'>line {first}</text>
+<text x='600' y='592' text-anchor='middle'>calls &#8594;</text>
+<text x='1160' y='592' text-anchor='end'>line {last}</text>
+<g transform='translate(32 560) rotate(-90)'>
+<text x='0' y='0'>{low}</text>
+<text x='260' y='0' text-anchor='middle'>addresses &#8594;</text>
+<text x='520' y='0' text-anchor='end'>{high}</text>
+</g>"
+    )
+}
+
 fn print_legend(
     text: &mut String,
     pools: &[Pool],
@@ -166,12 +196,12 @@ fn print_legend(
     writeln!(
         text,
         "<text x='40' y='25'>{configuration}, {window}{left_out}</text>
-<text x='40' y='610'>pools: {pools}</text>"
+<text x='40' y='650'>pools: {pools}</text>"
     )?;
     writeln!(
         text,
-        "<text x='40' y='635'>at most {most_usable} bytes live, in the whole trace</text>
-<text x='40' y='660'>no room: {denied} times{lines}</text>"
+        "<text x='40' y='672'>at most {most_usable} bytes live, in the whole trace</text>
+<text x='40' y='694'>no room: {denied} times{lines}</text>"
     )
 }
 
@@ -201,7 +231,7 @@ fn print_colour(text: &mut String, x: u128, row: u32) -> Result<(), AllocError> 
     let beside = Tenths(x.saturating_add(180));
     writeln!(
         text,
-        "<rect x='{left}' y='690' width='14' height='14' fill='{fill}'/>
-<text x='{beside}' y='702'>2^{row}</text>"
+        "<rect x='{left}' y='712' width='14' height='14' fill='{fill}'/>
+<text x='{beside}' y='724'>2^{row}</text>"
     )
 }

@@ -1,5 +1,5 @@
 //! Draws a trace of allocator calls: reads it from standard input, and writes one SVG to standard output. Calls go from left to
-//! right, addresses from top to bottom. `rlsf_map FIRST LAST` draws the calls of these lines of the trace.
+//! right, addresses upwards. `rlsf_map FIRST LAST` draws the calls of these lines of the trace.
 #![tactic(auto)]
 
 mod boxes;

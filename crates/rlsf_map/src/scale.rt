@@ -41,7 +41,8 @@ impl fmt::Display for Rect {
     }
 }
 
-/// The left edge and the top of the calls' part of the drawing, its width and its height, in tenths of a unit.
+/// The left edge and the top of the calls' part of the drawing, its width and its height, in tenths of a unit. The axes that
+/// `print_axes` labels lie along its left and its lower edge.
 const LEFT: u128 = 400;
 
 pub(crate) const TOP: u128 = 400;
@@ -49,6 +50,9 @@ pub(crate) const TOP: u128 = 400;
 const WIDTH: u128 = 11200;
 
 pub(crate) const HEIGHT: u128 = 5200;
+
+// How thick a line is.
+const LINE: u128 = 15;
 
 /// The calls and the addresses that the drawing shows.
 #[derive(Clone, Copy)]
@@ -82,16 +86,27 @@ impl Scale {
         LEFT.saturating_add(passed.saturating_mul(WIDTH) / self.calls.max(1))
     }
 
-    /// Where an address is, from top to bottom.
+    /// The least address.
+    pub(crate) fn low(self) -> u128 {
+        self.low
+    }
+
+    /// The address behind the greatest one.
+    pub(crate) fn high(self) -> u128 {
+        self.low.saturating_add(self.bytes)
+    }
+
+    /// Where an address is, from bottom to top: the greater the address, the less is what SVG calls `y`.
     pub(crate) fn y(self, addr: u128) -> u128 {
         let passed = addr.saturating_sub(self.low).min(self.bytes);
-        TOP.saturating_add(passed.saturating_mul(HEIGHT) / self.bytes.max(1))
+        let above = passed.saturating_mul(HEIGHT) / self.bytes.max(1);
+        (TOP + HEIGHT).saturating_sub(above)
     }
 
     /// The rectangle from a call to another one and from an address to another one. None is so small that nothing is seen of it.
     pub(crate) fn rect(self, calls: (usize, usize), addrs: (u128, u128), fill: Colour) -> Rect {
         let (x, right) = (self.x(calls.0), self.x(calls.1));
-        let (y, bottom) = (self.y(addrs.0), self.y(addrs.1));
+        let (y, bottom) = (self.y(addrs.1), self.y(addrs.0));
         Rect {
             x: Tenths(x),
             y: Tenths(y),
@@ -101,13 +116,13 @@ impl Scale {
         }
     }
 
-    /// A line at an address, through all calls.
+    /// A line just above an address, through all calls.
     pub(crate) fn line_at(self, addr: u128, fill: Colour) -> Rect {
         Rect {
             x: Tenths(LEFT),
-            y: Tenths(self.y(addr)),
+            y: Tenths(self.y(addr).saturating_sub(LINE)),
             width: Tenths(WIDTH),
-            height: Tenths(15),
+            height: Tenths(LINE),
             fill,
         }
     }
