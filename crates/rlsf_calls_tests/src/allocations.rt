@@ -64,7 +64,7 @@ fn greatest_sizes_are_refused(rt: HostRuntime) {
         Step::Allocate(0, 1 << 63, 0),
         Step::Allocate(0, 1, 4112),
     ];
-    inserts::<u64, u8, 59, 8>(&rt, pool, pool, &steps);
+    inserts::<u64, u64, 59, 8>(&rt, pool, pool, &steps);
 }
 
 /// Addresses in a pool of 96 bytes with a payload, and the words there.

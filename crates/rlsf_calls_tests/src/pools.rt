@@ -15,7 +15,7 @@ pub(crate) type Small = Tlsf<u8, u8, 8, 8>;
 
 pub(crate) type Wide = Tlsf<u16, u16, 12, 16>;
 
-pub(crate) type Long = Tlsf<u64, u8, 59, 8>;
+pub(crate) type Long = Tlsf<u64, u64, 59, 8>;
 
 /// The layout of so many bytes at a multiple of a power of two.
 pub(crate) fn layout_of(rt: &impl Abort, size: usize, align: usize) -> Layout
