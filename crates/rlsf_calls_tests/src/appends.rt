@@ -24,8 +24,8 @@ struct Case {
 
 /// Makes the chunk of a case, asks for the payload, appends the ranges and asks again. Answers the payload's address, or 0, the
 /// bytes taken of the ranges, and the second payload's address, or 0.
-fn appended<FLBitmap: BitPattern, const FLLEN: usize>(
-    tlsf: &mut Tlsf<FLBitmap, u8, FLLEN, 8>,
+fn appended<FLBitmap: BitPattern, SLBitmap: BitPattern, const FLLEN: usize>(
+    tlsf: &mut Tlsf<FLBitmap, SLBitmap, FLLEN, 8>,
     case: Case,
     layout: Layout,
 ) -> Option<[usize; 4]>
@@ -56,9 +56,9 @@ fn appended<FLBitmap: BitPattern, const FLLEN: usize>(
 }
 
 /// Passes where a case goes as it has to in an allocator that has no pool yet.
-fn goes_so<FLBitmap: BitPattern, const FLLEN: usize>(
+fn goes_so<FLBitmap: BitPattern, SLBitmap: BitPattern, const FLLEN: usize>(
     rt: &impl Abort,
-    tlsf: &mut Tlsf<FLBitmap, u8, FLLEN, 8>,
+    tlsf: &mut Tlsf<FLBitmap, SLBitmap, FLLEN, 8>,
     case: Case,
 )
     requires state { tlsf.old.state ≡ empty }
