@@ -32,6 +32,7 @@ pub mod Housing
 pub mod Insertions
 pub mod Joins
 pub mod Live
+pub mod LiveAddresses
 pub mod NoMove
 pub mod NoMoveRows
 pub mod Notes

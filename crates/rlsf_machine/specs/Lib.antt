@@ -17,6 +17,7 @@ pub mod Insert
 pub mod Join
 pub mod Laws
 pub mod Lists
+pub mod LiveAddresses
 pub mod NoMove
 pub mod Note
 pub mod Owed
