@@ -1,0 +1,82 @@
+//! A cache of the latest messages.
+
+ghost use Rattle.std.specs.Prelude.{◌≡◌, ◌<◌, ◌≤◌, ◌+◌, IfSome, length, min};
+
+use crate::pools::{Pool, with_pool};
+use rlsf::{Addr, Layout};
+use std::alloc::Global;
+use std::collections::VecDeque;
+use std::marker::Model;
+
+/// The latest messages, as many as the list has room for.
+#[derive(Drop)]
+pub struct Cache {
+    pool: Pool,
+    layout: Layout,
+    addrs: VecDeque<Addr>,
+}
+
+impl Model for Cache {
+    ghost use Rattle.std.specs.Prelude.{◌≡◌, ◌<◌, ◌-◌, length};
+    ghost use Rattle.std.specs.VecDeque.{deque_capacity};
+    ghost use Rattle.rlsf.specs.Live.{AreLive};
+    ghost use Rattle.rlsf.specs.Words.{IsSizedFor, live_count};
+    ghost use Rattle.rlsf_callers.specs.Cache.{Shown, shown};
+
+    ghost Value = { Shown };
+
+    ghost view = { λ c. shown (length c.addrs.items) (deque_capacity c.addrs) };
+
+    ghost invariant = { λ c. IsSizedFor 16 (deque_capacity c.addrs - 1) c.layout.size c.layout.align c.pool.state
+        × (live_count c.pool.state ≡ length c.addrs.items)
+        × (0 < deque_capacity c.addrs)
+        × AreLive c.pool.state c.layout.align c.addrs.items };
+}
+
+impl Cache {
+    /// A cache for the latest `capacity` messages, each of up to the layout's bytes. `None` if the system is out of memory.
+    #[tactic(auto, using(rlsf::specs::Live::live_none))]
+    pub fn new(alloc: Global, capacity: usize, layout: Layout) -> Option<Cache>
+        requires { 0 < capacity }
+        ensures { IfSome result (λ c. (c.len ≡ 0) × (c.capacity ≡ capacity)) }
+    {
+        let addrs = VecDeque::with_capacity(alloc, capacity).ok()?;
+        let pool = with_pool(alloc, capacity - 1, layout)?;
+        Some(Cache {
+            pool,
+            layout,
+            addrs,
+        })
+    }
+
+    /// Puts one more message in, in place of the oldest one if the cache is full. It is never refused.
+    pub fn put(&mut self, byte: u8)
+        ensures { (self.new.len ≡ min self.old.capacity (self.old.len + 1)) × (self.new.capacity ≡ self.old.capacity) }
+    {
+        if self.addrs.len() == self.addrs.capacity() {
+            self.evict();
+        }
+        self.add(byte);
+    }
+
+    /// Frees the oldest message.
+    #[tactic(auto, using(rlsf::specs::Live::live_first, rlsf::specs::Live::live_rest))]
+    fn evict(&mut self)
+        requires { 0 < self.old.len }
+        ensures { (self.new.len + 1 ≡ self.old.len) × (self.new.capacity ≡ self.old.capacity) }
+    {
+        let oldest = self.addrs.pop_front().unwrap();
+        self.pool.deallocate(oldest, self.layout.align());
+    }
+
+    /// Puts one more message in, where there is room.
+    #[tactic(auto, using(rlsf::specs::Live::live_more, rlsf::specs::Live::live_kept))]
+    fn add(&mut self, byte: u8)
+        requires { self.old.len < self.old.capacity }
+        ensures { (self.new.len ≡ self.old.len + 1) × (self.new.capacity ≡ self.old.capacity) }
+    {
+        let addr = self.pool.allocate(self.layout).unwrap();
+        self.pool.payload_mut(addr).fill(byte);
+        self.addrs.push_back_reserved(addr);
+    }
+}

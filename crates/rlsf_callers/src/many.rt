@@ -1,0 +1,64 @@
+//! Loops over the addresses of many payloads, which a `Vec` keeps.
+
+ghost use Rattle.std.specs.Prelude.{◌≡◌, ◌<◌, ◌≤◌, ◌+◌, ◌%◌, length, IfSome, slice_index_or};
+ghost use Rattle.rlsf.specs.Live.{AreLive};
+ghost use Rattle.rlsf.specs.Words.{live_count};
+ghost use Rattle.rlsf_callers.specs.Stored.{AreNumbered, HaveBytes};
+
+use crate::pools::Pool;
+use rlsf::{Addr, Layout};
+
+/// Allocates `count` payloads, and puts their addresses behind the others. `None` if the pool or the system is out of memory.
+#[tactic(auto, using(rlsf::specs::Live::live_more))]
+pub fn allocate_all(
+    pool: &mut Pool,
+    layout: Layout,
+    count: usize,
+    addrs: &mut Vec<Addr>,
+) -> Option<()>
+    requires live { AreLive pool.old.state layout.align addrs.old.items }
+    ensures live { AreLive pool.new.state layout.align addrs.new.items }
+{
+    for _ in 0..count {
+        let addr = pool.allocate(layout)?;
+        if addrs.push(addr).is_err() {
+            pool.deallocate(addr, layout.align());
+            return None;
+        }
+    }
+    Some(())
+}
+
+/// Fills each payload with its index.
+pub fn fill_all(pool: &mut Pool, align: usize, addrs: &[Addr])
+    requires live { AreLive pool.old.state align addrs.now }
+    ensures live { AreLive pool.new.state align addrs.now }
+    ensures numbered { AreNumbered pool.new.state addrs.now (length addrs.now) }
+{
+    for index in 0..addrs.len() {
+        pool.payload_mut(addrs[index]).fill((index % 256) as u8);
+    }
+}
+
+/// The first byte of a payload by its index.
+#[tactic(auto, using(rlsf::specs::Live::live_at))]
+pub fn read_back(pool: &Pool, align: usize, addrs: &[Addr], index: usize) -> u8
+    requires live { AreLive pool.now.state align addrs.now }
+    requires numbered { AreNumbered pool.now.state addrs.now (length addrs.now) }
+    requires bytes { HaveBytes pool.now.state addrs.now }
+    requires index { index < length addrs.now }
+    ensures { result ≡ index % 256 }
+{
+    pool.payload(addrs[index])[0]
+}
+
+/// Frees all payloads.
+#[tactic(auto, using(rlsf::specs::Live::live_last, rlsf::specs::Live::live_front))]
+pub fn free_all(pool: &mut Pool, align: usize, mut addrs: Vec<Addr>)
+    requires live { AreLive pool.old.state align addrs.items }
+    ensures { live_count pool.old.state ≡ live_count pool.new.state + length addrs.items }
+{
+    while let Some(addr) = addrs.pop() {
+        pool.deallocate(addr, align);
+    }
+}
