@@ -2,6 +2,7 @@
 
 ghost use Rattle.std.specs.Prelude.{◌≡◌, ◌<◌, ◌≤◌, ◌+◌, IfSome, length, min};
 
+use crate::bytes::write_front;
 use crate::pools::{Pool, with_pool};
 use rlsf::{Addr, Layout};
 use std::alloc::Global;
@@ -25,7 +26,7 @@ impl Model for Cache {
 
     ghost Value = { Shown };
 
-    ghost view = { λ c. shown (length c.addrs.items) (deque_capacity c.addrs) };
+    ghost view = { λ c. shown (length c.addrs.items) (deque_capacity c.addrs) c.layout.size };
 
     ghost invariant = { λ c. IsSizedFor 16 (deque_capacity c.addrs - 1) c.layout.size c.layout.align c.pool.state
         × (live_count c.pool.state ≡ length c.addrs.items)
@@ -38,7 +39,7 @@ impl Cache {
     #[tactic(auto, using(rlsf::specs::Live::live_none))]
     pub fn new(alloc: Global, capacity: usize, layout: Layout) -> Option<Cache>
         requires { 0 < capacity }
-        ensures { IfSome result (λ c. (c.len ≡ 0) × (c.capacity ≡ capacity)) }
+        ensures { IfSome result (λ c. (c.len ≡ 0) × (c.capacity ≡ capacity) × (c.longest ≡ layout.size)) }
     {
         let addrs = VecDeque::with_capacity(alloc, capacity).ok()?;
         let pool = with_pool(alloc, capacity - 1, layout)?;
@@ -50,20 +51,25 @@ impl Cache {
     }
 
     /// Puts one more message in, in place of the oldest one if the cache is full. It is never refused.
-    pub fn put(&mut self, byte: u8)
-        ensures { (self.new.len ≡ min self.old.capacity (self.old.len + 1)) × (self.new.capacity ≡ self.old.capacity) }
+    ///
+    /// The message isn't longer than the longest that the cache is made for.
+    pub fn put(&mut self, message: &[u8])
+        requires { length message.now ≤ self.old.longest }
+        ensures len { self.new.len ≡ min self.old.capacity (self.old.len + 1) }
+        ensures bounds { (self.new.capacity ≡ self.old.capacity) × (self.new.longest ≡ self.old.longest) }
     {
         if self.addrs.len() == self.addrs.capacity() {
             self.evict();
         }
-        self.add(byte);
+        self.add(message);
     }
 
     /// Frees the oldest message.
     #[tactic(auto, using(rlsf::specs::Live::live_first, rlsf::specs::Live::live_rest))]
     fn evict(&mut self)
         requires { 0 < self.old.len }
-        ensures { (self.new.len + 1 ≡ self.old.len) × (self.new.capacity ≡ self.old.capacity) }
+        ensures len { self.new.len + 1 ≡ self.old.len }
+        ensures bounds { (self.new.capacity ≡ self.old.capacity) × (self.new.longest ≡ self.old.longest) }
     {
         let oldest = self.addrs.pop_front().unwrap();
         self.pool.deallocate(oldest, self.layout.align());
@@ -71,12 +77,14 @@ impl Cache {
 
     /// Puts one more message in, where there is room.
     #[tactic(auto, using(rlsf::specs::Live::live_more, rlsf::specs::Live::live_kept))]
-    fn add(&mut self, byte: u8)
-        requires { self.old.len < self.old.capacity }
-        ensures { (self.new.len ≡ self.old.len + 1) × (self.new.capacity ≡ self.old.capacity) }
+    fn add(&mut self, message: &[u8])
+        requires room { self.old.len < self.old.capacity }
+        requires short { length message.now ≤ self.old.longest }
+        ensures len { self.new.len ≡ self.old.len + 1 }
+        ensures bounds { (self.new.capacity ≡ self.old.capacity) × (self.new.longest ≡ self.old.longest) }
     {
         let addr = self.pool.allocate(self.layout).unwrap();
-        self.pool.payload_mut(addr).fill(byte);
+        write_front(self.pool.payload_mut(addr), message);
         self.addrs.push_back_reserved(addr);
     }
 }

@@ -1,9 +1,9 @@
 //! Loops over the addresses of many payloads, which a `Vec` keeps.
 
-ghost use Rattle.std.specs.Prelude.{◌≡◌, ◌<◌, ◌≤◌, ◌+◌, ◌%◌, length, IfSome, slice_index_or};
+ghost use Rattle.std.specs.Prelude.{◌≡◌, ◌<◌, ◌+◌, ◌%◌, length, IfSome};
 ghost use Rattle.rlsf.specs.Live.{AreLive};
 ghost use Rattle.rlsf.specs.Words.{live_count};
-ghost use Rattle.rlsf_callers.specs.Stored.{AreNumbered, HaveBytes};
+ghost use Rattle.rlsf_callers.specs.Stored.{AreNumbered};
 
 use crate::pools::Pool;
 use rlsf::{Addr, Layout};
@@ -20,42 +20,51 @@ pub fn allocate_all(
     ensures live { AreLive pool.new.state layout.align addrs.new.items }
 {
     for _ in 0..count {
-        let addr = pool.allocate(layout)?;
-        if addrs.push(addr).is_err() {
-            pool.deallocate(addr, layout.align());
-            return None;
-        }
+        addrs.reserve(1).ok()?;
+        addrs.push_reserved(pool.allocate(layout)?);
     }
     Some(())
 }
 
-/// Fills each payload with its index.
+/// Fills each payload with the low byte of its index.
+#[tactic(auto, using(crate::proofs::Numbered::numbered_none))]
 pub fn fill_all(pool: &mut Pool, align: usize, addrs: &[Addr])
-    requires live { AreLive pool.old.state align addrs.now }
+    requires { AreLive pool.old.state align addrs.now }
     ensures live { AreLive pool.new.state align addrs.now }
     ensures numbered { AreNumbered pool.new.state addrs.now (length addrs.now) }
 {
     for index in 0..addrs.len() {
-        pool.payload_mut(addrs[index]).fill((index % 256) as u8);
+        fill_next(pool, align, addrs, index);
     }
 }
 
-/// The first byte of a payload by its index.
-#[tactic(auto, using(rlsf::specs::Live::live_at))]
-pub fn read_back(pool: &Pool, align: usize, addrs: &[Addr], index: usize) -> u8
+/// Fills the payload behind those that are filled.
+#[tactic(auto, using(rlsf::specs::Live::live_at, rlsf::specs::Live::live_kept, crate::proofs::Numbered::numbered_more))]
+fn fill_next(pool: &mut Pool, align: usize, addrs: &[Addr], index: usize)
+    requires live { AreLive pool.old.state align addrs.now }
+    requires numbered { AreNumbered pool.old.state addrs.now index }
+    requires index { index < length addrs.now }
+    ensures live { AreLive pool.new.state align addrs.now }
+    ensures numbered { AreNumbered pool.new.state addrs.now (index + 1) }
+{
+    pool.payload_mut(addrs[index]).fill((index % 256) as u8);
+}
+
+/// The first byte of a payload, by its index: the low byte of that. `None` if the payload has no byte.
+#[tactic(auto, using(rlsf::specs::Live::live_at, crate::proofs::Numbered::numbered_byte))]
+pub fn read_back(pool: &Pool, align: usize, addrs: &[Addr], index: usize) -> Option<u8>
     requires live { AreLive pool.now.state align addrs.now }
     requires numbered { AreNumbered pool.now.state addrs.now (length addrs.now) }
-    requires bytes { HaveBytes pool.now.state addrs.now }
     requires index { index < length addrs.now }
-    ensures { result ≡ index % 256 }
+    ensures { IfSome result (λ byte. byte ≡ index % 256) }
 {
-    pool.payload(addrs[index])[0]
+    pool.payload(addrs[index]).first().copied()
 }
 
 /// Frees all payloads.
 #[tactic(auto, using(rlsf::specs::Live::live_last, rlsf::specs::Live::live_front))]
 pub fn free_all(pool: &mut Pool, align: usize, mut addrs: Vec<Addr>)
-    requires live { AreLive pool.old.state align addrs.items }
+    requires { AreLive pool.old.state align addrs.items }
     ensures { live_count pool.old.state ≡ live_count pool.new.state + length addrs.items }
 {
     while let Some(addr) = addrs.pop() {
