@@ -3,13 +3,10 @@
 
 mod locked;
 mod moves;
-mod options;
-mod pages;
 mod shared;
 mod table;
 
 pub use locked::Locked;
-pub use options::{GlobalTlsfOptions, SmallGlobalTlsfOptions};
-pub use pages::Source;
 pub use rlsf_placement::{GlobalError, isolation, replays};
+pub use rlsf_sources::{GlobalTlsfOptions, SmallGlobalTlsfOptions, Source};
 pub use shared::{CAlloc, GlobalTlsf, SmallGlobalTlsf};

@@ -16,12 +16,11 @@ ghost use Rattle.rlsf_placement.specs.Rows.{IsSorted};
 ghost use Rattle.rlsf_placement.specs.Steps.{HeapAllocates, HeapDeallocates, HeapDeallocatesAs, HeapReads, HeapUsable, HeapWrites};
 
 use crate::moves::{PagedTlsf, move_away, resize};
-use crate::options::GlobalTlsfOptions;
-use crate::pages::Source;
 use crate::table::{move_row, place, replace, search};
 use rlsf_base::memory::{Addr, Layout, Memory, Range};
 use rlsf_flex::FlexTlsf;
 use rlsf_placement::GlobalError;
+use rlsf_sources::{GlobalTlsfOptions, Source};
 use std::alloc::Global;
 use std::marker::Model;
 

@@ -14,10 +14,9 @@ ghost use Rattle.rlsf_placement.specs.Cursor.{terms_of};
 ghost use Rattle.rlsf_placement.specs.Moves.{MovesAway, ReallocatesTo};
 ghost use Rattle.rlsf_placement.specs.Rows.{Row, put, without_row};
 
-use crate::options::GlobalTlsfOptions;
-use crate::pages::Source;
 use rlsf_base::memory::{Addr, Layout};
 use rlsf_flex::FlexTlsf;
+use rlsf_sources::{GlobalTlsfOptions, Source};
 
 /// The allocator over the page source.
 pub(crate) type PagedTlsf<Options> = FlexTlsf<Source<Options>, usize, usize, 64, 64>;

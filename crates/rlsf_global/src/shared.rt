@@ -6,9 +6,9 @@ ghost use Rattle.rlsf_global.specs.Refusals.{RefusesOnlyBy};
 ghost use Rattle.rlsf_placement.specs.declared.error.GlobalError.TheVariants.{NoRoom, OutOfRange, TableMemory, UnknownAddress, WrongLayout};
 
 use crate::locked::Locked;
-use crate::options::{GlobalTlsfOptions, SmallGlobalTlsfOptions};
 use rlsf_base::memory::{Addr, Layout, Memory};
 use rlsf_placement::GlobalError;
+use rlsf_sources::{GlobalTlsfOptions, SmallGlobalTlsfOptions};
 use std::alloc::Global;
 use std::sync::{Mutex, Wait};
 

@@ -6,7 +6,7 @@ use Rattle.rlsf_placement.specs.Cursor.{PageCursor, PageLeads, moved_to, page_cu
 use Rattle.rlsf_placement.proofs.Cursors.{IsPageCursor-grown, grown_range, owed_ends}
 use Rattle.rlsf_machine.specs.Note.{grow}
 use Rattle.rlsf_machine.specs.Terms.{IsGrown, with_len}
-use Rattle.rlsf_global.proofs.pages.SourceFlexSource.realloc_inplace_grow.Goals as goal
+use Rattle.rlsf_sources.proofs.pages.SourceFlexSource.realloc_inplace_grow.Goals as goal
 
 -- some ranges are outstanding, among them r
 abbrev Owed : PageCursor → Range → Type 0

@@ -6,7 +6,7 @@ use Rattle.rlsf_placement.specs.Cursor.{PageCursor, PageLeads, moved_to, page_cu
 use Rattle.rlsf_placement.proofs.Cursors.{IsPageCursor-given, given_range}
 use Rattle.rlsf_machine.specs.Note.{alloc}
 use Rattle.rlsf_machine.specs.Terms.{IsGiven}
-use Rattle.rlsf_global.proofs.pages.SourceFlexSource.alloc.Goals as goal
+use Rattle.rlsf_sources.proofs.pages.SourceFlexSource.alloc.Goals as goal
 
 pub invariant_of-self : goal.invariant_of-self
 invariant_of-self g c =

@@ -1,0 +1,2 @@
+pub mod BumpRanges
+pub mod Refused

@@ -1,0 +1,2 @@
+pub mod Bump
+pub mod BumpConstant
