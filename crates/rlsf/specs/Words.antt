@@ -1,5 +1,8 @@
 -- The words that contracts over the allocator cite.
+pub use Rattle.rlsf_base.specs.declared.memory.layout.Layout.{Layout}
+pub use Rattle.rlsf_base.specs.declared.memory.range.Range.{Range}
 pub use Rattle.rlsf_base.specs.Addr.{at, reply}
+pub use Rattle.rlsf_base.specs.ClassLaws.{LongestBlockHasAClass, MappedIsFirstReaching, PoolContainsItsAllocation, PoolIsOneChunk, UnmappedBeginsItsClass, UnmappedIsEnough, UnreachedIsNotUnmapped}
 pub use Rattle.rlsf_base.specs.Range.{AreApart, LiesIn, end_of, range_at}
 pub use Rattle.rlsf_base.specs.SizeClass.{IsValid}
 pub use Rattle.rlsf_base.specs.Space.{SamePlace, Space, range_of}
@@ -23,5 +26,6 @@ pub use Rattle.rlsf_machine.specs.FlexReallocate.{FlexReallocates}
 pub use Rattle.rlsf_machine.specs.FlexState.{FlexState, KeptPool}
 pub use Rattle.rlsf_machine.specs.Note.{Note, LeadsBy}
 pub use Rattle.rlsf_machine.specs.Terms.{IsGiven, IsGrown, Terms}
+pub use Rattle.rlsf_flex.specs.Laws.{FlexStatesAreWellFormed, FlexWordsReadNoPayload}
 pub use Rattle.rlsf_flex.specs.Outside.{IsOutside, KeepsOutside, NothingGoesBack, ever_owed}
 pub use Rattle.rlsf_flex.specs.StandsFor.{FlexContents, FlexStands, FlexSteps, StepsAlone}

@@ -7,6 +7,7 @@
 
 pub use rlsf_base::memory::{Addr, Layout, LayoutError, Memory, MemoryError, Range};
 pub use rlsf_flex::{FlexSource, FlexTlsf, GlobalAlloc, GlobalAllocAsFlexSource, SourceChange};
+pub use rlsf_sources::{BumpSource, GlobalTlsfOptions, SmallGlobalTlsfOptions, Source};
 pub use rlsf_tlsf::{BlockInfo, Blocks, GRANULARITY, Tlsf, laws};
 
 /// The size classes, and the pool lengths that are computed from them.
@@ -17,7 +18,7 @@ pub mod classes {
     };
 }
 
-/// The allocator over a source.
+/// The laws of an allocator over a source.
 pub mod flex {
     pub use rlsf_flex::laws;
 }

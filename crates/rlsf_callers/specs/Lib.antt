@@ -1,2 +1,3 @@
 pub mod Cache
+pub mod Rationed
 pub mod Stored

@@ -11,7 +11,9 @@ mod bytes;
 mod cache;
 mod many;
 mod note;
+mod paged;
 mod pools;
+mod source;
 
 pub use across::copy_across;
 pub use buffer::Buffer;
@@ -19,4 +21,6 @@ pub use bytes::write_front;
 pub use cache::Cache;
 pub use many::{allocate_all, fill_all, free_all, read_back};
 pub use note::Note;
+pub use paged::{filled, over_one_range, over_pages, over_rations};
 pub use pools::{Pool, allocate_again, allocate_larger, allocate_many, allocate_three, with_pool};
+pub use source::RationedSource;

@@ -1,0 +1,101 @@
+//! A source of memory of the caller's own.
+
+ghost use Rattle.std.specs.Prelude.{◌≡◌, ◌<◌, ◌≤◌, ◌+◌, ◌^◌, [], IfSome, MatchOption};
+ghost use Rattle.rlsf.specs.Sources.{BumpOwes, end_of, round32};
+ghost use Rattle.rlsf_callers.specs.Rationed.{rationed_terms};
+
+use rlsf::{FlexSource, Range};
+use std::marker::Model;
+
+/// A source that hands out a number of ranges of its space, one behind another. It grows none and takes none back.
+#[derive(Drop)]
+pub struct RationedSource {
+    space: Range,
+    at: usize,
+    left: usize,
+}
+
+impl Model for RationedSource {
+    ghost use Rattle.rlsf.specs.Sources.{Bump, IsBump, bump_in};
+
+    ghost Value = { Bump };
+
+    ghost view = { λ s. bump_in s.space s.at };
+
+    ghost invariant = { λ s. IsBump (bump_in s.space s.at) };
+}
+
+impl RationedSource {
+    /// A source of `left` ranges of the space.
+    ///
+    /// The space's end isn't past the greatest address.
+    #[tactic(auto, using(rlsf::specs::Sources::bump_owes_none))]
+    pub fn new(space: Range, left: usize) -> RationedSource
+        requires { end_of space < 2 ^ 64 }
+        ensures space { result.space ≡ space }
+        ensures owed { BumpOwes result [] }
+    {
+        RationedSource {
+            space,
+            at: space.start,
+            left,
+        }
+    }
+
+    /// The end of `len` bytes from an address on, if the space has them.
+    fn end_in_space(&self, start: usize, len: usize) -> Option<usize>
+        ensures { IfSome result (λ end. (end ≡ start + len) × (end ≤ end_of self.now.space)) }
+    {
+        let last = self.space.start + self.space.len;
+        let end = start.checked_add(len)?;
+        if end <= last { Some(end) } else { None }
+    }
+}
+
+impl FlexSource for RationedSource {
+    ghost terms = { rationed_terms };
+
+    ghost owes = { BumpOwes };
+
+    ghost leads = { λ x n y. rationed_terms y ≡ rationed_terms x };
+
+    fn alloc(&mut self, min_size: usize) -> Option<Range> {
+        let left = self.left.checked_sub(1)?;
+        let start = self.at.checked_next_multiple_of(32)?;
+        let end = self.end_in_space(start, min_size)?;
+        self.left = left;
+        self.at = end;
+        Some(Range {
+            start,
+            len: min_size,
+        })
+    }
+
+    // What the trait requires, no caller of a source that grows no range meets.
+    fn realloc_inplace_grow(&mut self, range: Range, min_new_len: usize) -> Option<usize> {
+        let _ = (range, min_new_len);
+        None
+    }
+
+    fn dealloc(&mut self, range: Range) {
+        let _ = range;
+    }
+
+    fn supports_dealloc(&self) -> bool {
+        false
+    }
+
+    fn supports_realloc_inplace_grow(&self) -> bool {
+        false
+    }
+
+    fn is_contiguous_growable(&self) -> bool {
+        false
+    }
+
+    fn min_align(&self) -> usize {
+        32
+    }
+
+    ghost constant = { λ x y n led. led };
+}
