@@ -3,3 +3,4 @@ pub mod Entries
 pub mod Laws
 pub mod Passes
 pub mod Replay
+pub mod Words
