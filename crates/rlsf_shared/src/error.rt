@@ -1,6 +1,6 @@
 //! Why the program ends early.
 
-use rlsf_base::memory::{LayoutError, MemoryError};
+use rlsf::{LayoutError, MemoryError};
 use rlsf_global::GlobalError;
 use std::error::Error;
 use std::{fmt, io};

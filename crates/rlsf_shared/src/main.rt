@@ -5,7 +5,7 @@
 mod error;
 
 use error::SharedError;
-use rlsf_base::memory::{Addr, Layout, Memory};
+use rlsf::{Addr, Layout, Memory};
 use rlsf_global::{CAlloc, GlobalTlsf};
 use std::process::ExitCode;
 use std::sync::Wait;
