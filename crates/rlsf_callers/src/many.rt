@@ -1,6 +1,6 @@
 //! Loops over the addresses of many payloads, which a `Vec` keeps.
 
-ghost use Rattle.std.specs.Prelude.{◌≡◌, ◌<◌, ◌+◌, ◌%◌, length, IfSome};
+ghost use Rattle.std.specs.Prelude.{◌≡◌, ◌<◌, ◌+◌, ◌%◌, length, IfSome, OnSome};
 ghost use Rattle.rlsf.specs.Live.{AreLive};
 ghost use Rattle.rlsf.specs.Words.{live_count};
 ghost use Rattle.rlsf_callers.specs.Stored.{AreNumbered};
@@ -18,6 +18,7 @@ pub fn allocate_all(
 ) -> Option<()>
     requires live { AreLive pool.old.state layout.align addrs.old.items }
     ensures live { AreLive pool.new.state layout.align addrs.new.items }
+    ensures len { OnSome result (length addrs.new.items ≡ length addrs.old.items + count) }
 {
     for _ in 0..count {
         addrs.reserve(1).ok()?;

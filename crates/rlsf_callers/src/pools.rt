@@ -1,6 +1,6 @@
 //! Pools of a length that is computed for the payloads, so that no allocation within the bounds is refused.
 
-ghost use Rattle.std.specs.Prelude.{◌≡◌, ◌<◌, ◌≤◌, ◌+◌, IfSome, IsSome};
+ghost use Rattle.std.specs.Prelude.{◌≡◌, ◌≤◌, IfSome, OnOk};
 ghost use Rattle.rlsf.specs.Words.{IsSizedFor, live_count};
 
 use rlsf::{Addr, Layout, Memory, Range, Tlsf, classes};
@@ -62,7 +62,8 @@ pub fn allocate_larger(pool: &mut Pool, layout: Layout, small: Layout) -> (Addr,
     (moved, second)
 }
 
-/// Allocates one payload more than the pool is sized for, and puts their addresses behind the others. None is refused.
+/// Allocates `count` payloads from an empty pool that is sized for as many live ones, and puts their addresses behind the others. The
+/// pool refuses none. `Err` if the system is out of memory for the addresses.
 pub fn allocate_many(
     pool: &mut Pool,
     layout: Layout,
@@ -71,6 +72,7 @@ pub fn allocate_many(
 ) -> Result<(), AllocError>
     requires sized { IsSizedFor 16 count layout.size layout.align pool.old.state }
     requires empty { live_count pool.old.state ≡ 0 }
+    ensures { OnOk result (live_count pool.new.state ≡ count) }
 {
     for _ in 0..count {
         let addr = pool.allocate(layout).unwrap();
