@@ -1,3 +1,3 @@
 -- Many live addresses in a list, and the lemmas of loops over it, which callers name in `using`.
-pub use Rattle.rlsf_machine.specs.LiveAddresses.{AreLive}
+unfoldable pub use Rattle.rlsf_machine.specs.LiveAddresses.{AreLive}
 pub use Rattle.rlsf_machine.proofs.LiveAddresses.{live_none, live_first, live_last, live_at, live_apart, live_rest, live_front, live_more, live_kept}

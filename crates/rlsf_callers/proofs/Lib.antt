@@ -1,1 +1,2 @@
+pub mod CachedPayloads
 pub mod Numbered

@@ -1,6 +1,7 @@
 //! A cache of the latest messages.
 
-ghost use Rattle.std.specs.Prelude.{◌≡◌, ◌<◌, ◌≤◌, ◌+◌, IfSome, length, min};
+ghost use Rattle.std.specs.Prelude.{◌≡◌, ◌<◌, ◌≤◌, [], IfSome, drop, length, nat_eq, if◌then◌else◌};
+ghost use Rattle.rlsf_callers.specs.Cache.{HasMessageBehind};
 
 use crate::bytes::write_front;
 use crate::pools::{Pool, with_pool};
@@ -22,11 +23,11 @@ impl Model for Cache {
     ghost use Rattle.std.specs.VecDeque.{deque_capacity};
     ghost use Rattle.rlsf.specs.Live.{AreLive};
     ghost use Rattle.rlsf.specs.Words.{IsSizedFor, live_count};
-    ghost use Rattle.rlsf_callers.specs.Cache.{Shown, shown};
+    ghost use Rattle.rlsf_callers.specs.Cache.{Shown, payloads_at, shown};
 
     ghost Value = { Shown };
 
-    ghost view = { λ c. shown (length c.addrs.items) (deque_capacity c.addrs) c.layout.size };
+    ghost view = { λ c. shown (payloads_at c.pool.state c.addrs.items) (deque_capacity c.addrs) c.layout.size };
 
     ghost invariant = { λ c. IsSizedFor 16 (deque_capacity c.addrs - 1) c.layout.size c.layout.align c.pool.state
         × (live_count c.pool.state ≡ length c.addrs.items)
@@ -36,10 +37,10 @@ impl Model for Cache {
 
 impl Cache {
     /// A cache for the latest `capacity` messages, each of up to the layout's bytes. `None` if the system is out of memory.
-    #[tactic(auto, using(rlsf::specs::Live::live_none))]
+    #[tactic(auto, using(rlsf::specs::Live::live_none, crate::proofs::CachedPayloads::payloads_none))]
     pub fn new(alloc: Global, capacity: usize, layout: Layout) -> Option<Cache>
         requires { 0 < capacity }
-        ensures { IfSome result (λ c. (c.len ≡ 0) × (c.capacity ≡ capacity) × (c.longest ≡ layout.size)) }
+        ensures { IfSome result (λ c. (c.payloads ≡ []) × (c.capacity ≡ capacity) × (c.longest ≡ layout.size)) }
     {
         let addrs = VecDeque::with_capacity(alloc, capacity).ok()?;
         let pool = with_pool(alloc, capacity - 1, layout)?;
@@ -50,37 +51,37 @@ impl Cache {
         })
     }
 
-    /// Puts one more message in, in place of the oldest one if the cache is full. It is never refused.
+    /// Puts one more message behind the others, in place of the oldest one if the cache is full. It is never refused.
     ///
     /// The message isn't longer than the longest that the cache is made for.
     pub fn put(&mut self, message: &[u8])
         requires { length message.now ≤ self.old.longest }
-        ensures len { self.new.len ≡ min self.old.capacity (self.old.len + 1) }
+        ensures behind { let old = self.old in HasMessageBehind (if nat_eq (length old.payloads) old.capacity then drop 1 old.payloads else old.payloads) message.now self.new.payloads }
         ensures bounds { (self.new.capacity ≡ self.old.capacity) × (self.new.longest ≡ self.old.longest) }
     {
-        if self.addrs.len() == self.addrs.capacity() {
-            self.evict();
-        }
+        self.make_room();
         self.add(message);
     }
 
-    /// Frees the oldest message.
-    #[tactic(auto, using(rlsf::specs::Live::live_first, rlsf::specs::Live::live_rest))]
-    fn evict(&mut self)
-        requires { 0 < self.old.len }
-        ensures len { self.new.len + 1 ≡ self.old.len }
+    /// Frees the oldest message if the cache is full.
+    #[tactic(auto, using(rlsf::specs::Live::live_first, rlsf::specs::Live::live_rest, crate::proofs::CachedPayloads::payloads_len, crate::proofs::CachedPayloads::payloads_rest))]
+    fn make_room(&mut self)
+        ensures room { length self.new.payloads < self.new.capacity }
+        ensures payloads { let old = self.old in self.new.payloads ≡ (if nat_eq (length old.payloads) old.capacity then drop 1 old.payloads else old.payloads) }
         ensures bounds { (self.new.capacity ≡ self.old.capacity) × (self.new.longest ≡ self.old.longest) }
     {
-        let oldest = self.addrs.pop_front().unwrap();
-        self.pool.deallocate(oldest, self.layout.align());
+        if self.addrs.len() == self.addrs.capacity() {
+            let oldest = self.addrs.pop_front().unwrap();
+            self.pool.deallocate(oldest, self.layout.align());
+        }
     }
 
-    /// Puts one more message in, where there is room.
-    #[tactic(auto, using(rlsf::specs::Live::live_more, rlsf::specs::Live::live_kept))]
+    /// Puts one more message behind the others, where there is room.
+    #[tactic(auto, using(rlsf::specs::Live::live_more, rlsf::specs::Live::live_kept, crate::proofs::CachedPayloads::payloads_len, crate::proofs::CachedPayloads::payloads_more))]
     fn add(&mut self, message: &[u8])
-        requires room { self.old.len < self.old.capacity }
+        requires room { length self.old.payloads < self.old.capacity }
         requires short { length message.now ≤ self.old.longest }
-        ensures len { self.new.len ≡ self.old.len + 1 }
+        ensures behind { HasMessageBehind self.old.payloads message.now self.new.payloads }
         ensures bounds { (self.new.capacity ≡ self.old.capacity) × (self.new.longest ≡ self.old.longest) }
     {
         let addr = self.pool.allocate(self.layout).unwrap();
