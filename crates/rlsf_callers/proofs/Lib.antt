@@ -1,2 +1,1 @@
-pub mod CachedPayloads
 pub mod Numbered

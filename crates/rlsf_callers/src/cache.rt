@@ -1,7 +1,7 @@
 //! A cache of the latest messages.
 
 ghost use Rattle.std.specs.Prelude.{◌≡◌, ◌<◌, ◌≤◌, [], IfSome, drop, length, nat_eq, if◌then◌else◌};
-ghost use Rattle.rlsf_callers.specs.Cache.{HasMessageBehind};
+ghost use Rattle.rlsf.specs.Live.{AddsPayload};
 
 use crate::bytes::write_front;
 use crate::pools::{Pool, with_pool};
@@ -21,9 +21,9 @@ pub struct Cache {
 impl Model for Cache {
     ghost use Rattle.std.specs.Prelude.{◌≡◌, ◌<◌, ◌-◌, length};
     ghost use Rattle.std.specs.VecDeque.{deque_capacity};
-    ghost use Rattle.rlsf.specs.Live.{AreLive};
+    ghost use Rattle.rlsf.specs.Live.{AreLive, payloads_at};
     ghost use Rattle.rlsf.specs.Words.{IsSizedFor, live_count};
-    ghost use Rattle.rlsf_callers.specs.Cache.{Shown, payloads_at, shown};
+    ghost use Rattle.rlsf_callers.specs.Cache.{Shown, shown};
 
     ghost Value = { Shown };
 
@@ -37,7 +37,7 @@ impl Model for Cache {
 
 impl Cache {
     /// A cache for the latest `capacity` messages, each of up to the layout's bytes. `None` if the system is out of memory.
-    #[tactic(auto, using(rlsf::specs::Live::live_none, crate::proofs::CachedPayloads::payloads_none))]
+    #[tactic(auto, using(rlsf::specs::Live::live_none, rlsf::specs::Live::payloads_none))]
     pub fn new(alloc: Global, capacity: usize, layout: Layout) -> Option<Cache>
         requires { 0 < capacity }
         ensures { IfSome result (λ c. (c.payloads ≡ []) × (c.capacity ≡ capacity) × (c.longest ≡ layout.size)) }
@@ -56,7 +56,7 @@ impl Cache {
     /// The message isn't longer than the longest that the cache is made for.
     pub fn put(&mut self, message: &[u8])
         requires { length message.now ≤ self.old.longest }
-        ensures behind { let old = self.old in HasMessageBehind (if nat_eq (length old.payloads) old.capacity then drop 1 old.payloads else old.payloads) message.now self.new.payloads }
+        ensures behind { let old = self.old in AddsPayload (if nat_eq (length old.payloads) old.capacity then drop 1 old.payloads else old.payloads) message.now self.new.payloads }
         ensures bounds { (self.new.capacity ≡ self.old.capacity) × (self.new.longest ≡ self.old.longest) }
     {
         self.make_room();
@@ -64,7 +64,7 @@ impl Cache {
     }
 
     /// Frees the oldest message if the cache is full.
-    #[tactic(auto, using(rlsf::specs::Live::live_first, rlsf::specs::Live::live_rest, crate::proofs::CachedPayloads::payloads_len, crate::proofs::CachedPayloads::payloads_rest))]
+    #[tactic(auto, using(rlsf::specs::Live::live_first, rlsf::specs::Live::live_rest, rlsf::specs::Live::payloads_len, rlsf::specs::Live::payloads_rest))]
     fn make_room(&mut self)
         ensures room { length self.new.payloads < self.new.capacity }
         ensures payloads { let old = self.old in self.new.payloads ≡ (if nat_eq (length old.payloads) old.capacity then drop 1 old.payloads else old.payloads) }
@@ -77,11 +77,11 @@ impl Cache {
     }
 
     /// Puts one more message behind the others, where there is room.
-    #[tactic(auto, using(rlsf::specs::Live::live_more, rlsf::specs::Live::live_kept, crate::proofs::CachedPayloads::payloads_len, crate::proofs::CachedPayloads::payloads_more))]
+    #[tactic(auto, using(rlsf::specs::Live::live_more, rlsf::specs::Live::live_kept, rlsf::specs::Live::payloads_len, rlsf::specs::Live::payloads_more))]
     fn add(&mut self, message: &[u8])
         requires room { length self.old.payloads < self.old.capacity }
         requires short { length message.now ≤ self.old.longest }
-        ensures behind { HasMessageBehind self.old.payloads message.now self.new.payloads }
+        ensures behind { AddsPayload self.old.payloads message.now self.new.payloads }
         ensures bounds { (self.new.capacity ≡ self.old.capacity) × (self.new.longest ≡ self.old.longest) }
     {
         let addr = self.pool.allocate(self.layout).unwrap();

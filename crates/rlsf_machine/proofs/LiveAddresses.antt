@@ -1,12 +1,12 @@
 -- What a loop over a list of live addresses needs: it may be empty, it gets longer by an allocation and shorter by a deallocation, and
 -- each of its addresses is live and is no other's.
-use Rattle.std.proofs.Common.{◌≡◌, ◌≢◌, ℕ, suc, zero, ◌<◌, List, [], ◌∷◌, ◌++◌, Some, None, length, get_or, refl, sym, ◌∙◌, ap, arith}
+use Rattle.std.proofs.Common.{◌≡◌, ◌≢◌, ℕ, suc, zero, ◌<◌, List, [], ◌∷◌, ◌++◌, Some, None, length, get_or, drop, refl, sym, ◌∙◌, ap, arith}
 use Rattle.std.proofs.lemmas.Option.{none-some}
 use Rattle.std.specs.List.{AllByRecursion}
 use Rattle.std.specs.declared.num.NonZeroUsize.{NonZeroUsize}
 use Rattle.rlsf_base.specs.Addr.{at}
-use Rattle.rlsf_machine.specs.Callers.{align_at}
-use Rattle.rlsf_machine.specs.LiveAddresses.{AreLive}
+use Rattle.rlsf_machine.specs.Callers.{align_at, bytes_at}
+use Rattle.rlsf_machine.specs.LiveAddresses.{AddsPayload, AreLive, payloads_at}
 use Rattle.rlsf_machine.specs.State.{State}
 
 pub live_none : (s : State) (align : ℕ) → AreLive s align []
@@ -94,3 +94,45 @@ pub live_kept : (s t : State) (align : ℕ) (all : List NonZeroUsize) → AreLiv
 unfolding AreLive
 live_kept s t align [] live same = tt
 live_kept s t align (x ∷ xs) (here, apart, rest) same = (ap (λ f. f (at x)) same ∙ here, apart, live_kept s t align xs rest same)
+
+-- ---- their bytes
+
+pub payloads_none : (s : State) → payloads_at s [] ≡ []
+unfolding payloads_at
+payloads_none s = refl
+
+pub payloads_len : (s : State) (all : List NonZeroUsize) → length (payloads_at s all) ≡ length all
+unfolding payloads_at
+payloads_len s [] = refl
+payloads_len s (a ∷ rest) = omega (arith, payloads_len s rest)
+
+-- those at other addresses stay
+payloads_kept : (s t : State) (a : NonZeroUsize) (xs : List NonZeroUsize) → ((b : ℕ) → b ≢ at a → bytes_at t b ≡ bytes_at s b) → AllByRecursion (λ b. at b ≢ at a) xs → payloads_at t xs ≡ payloads_at s xs
+unfolding payloads_at
+payloads_kept s t a [] same others = refl
+payloads_kept s t a (x ∷ xs) same (off, offs) = λ i. same (at x) off i ∷ payloads_kept s t a xs same offs i
+
+-- the oldest is freed
+pub payloads_rest : (s t : State) (align : ℕ) (a : NonZeroUsize) (rest : List NonZeroUsize) → AreLive s align (a ∷ rest) → ((b : ℕ) → b ≢ at a → bytes_at t b ≡ bytes_at s b)
+    → payloads_at t rest ≡ drop 1 (payloads_at s (a ∷ rest))
+unfolding payloads_at AreLive
+payloads_rest s t align a rest live same = payloads_kept s t a rest same live.1
+
+-- an address at which nothing is live is none of those that are
+not_live : (s : State) (align : ℕ) (a : NonZeroUsize) (xs : List NonZeroUsize) → AreLive s align xs → align_at s (at a) ≡ None → AllByRecursion (λ b. at b ≢ at a) xs
+unfolding AreLive
+not_live s align a [] live new = tt
+not_live s align a (x ∷ xs) (here, apart, rest) new = (λ e. none-some align (sym new ∙ ap (align_at s) (sym e) ∙ here), not_live s align a xs rest new)
+
+behind : (s : State) (a : NonZeroUsize) (xs : List NonZeroUsize) → payloads_at s (xs ++ a ∷ []) ≡ payloads_at s xs ++ bytes_at s (at a) ∷ []
+unfolding payloads_at
+behind s a [] = refl
+behind s a (x ∷ xs) = ap (λ l. bytes_at s (at x) ∷ l) (behind s a xs)
+
+-- one more is allocated, and bytes are written over its first ones
+pub payloads_more : (s t u : State) (align : ℕ) (a : NonZeroUsize) (all : List NonZeroUsize) (bytes rest : List ℕ) → AreLive s align all → align_at s (at a) ≡ None
+    → ((b : ℕ) → b ≢ at a → bytes_at t b ≡ bytes_at s b) → ((b : ℕ) → b ≢ at a → bytes_at u b ≡ bytes_at t b) → bytes_at u (at a) ≡ bytes ++ rest
+    → AddsPayload (payloads_at s all) bytes (payloads_at u (all ++ a ∷ []))
+unfolding AddsPayload
+payloads_more s t u align a all bytes rest live new same later written =
+    (rest, behind u a all ∙ (λ i. payloads_kept s u a all (λ b off. later b off ∙ same b off) (not_live s align a all live new) i ++ written i ∷ []))
