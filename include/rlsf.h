@@ -73,8 +73,8 @@ size_t rlsf_size(void);
  * most `count` payloads live before each rlsf_allocate and each rlsf_realloc: in whatever order they come and go. Insert the range at a
  * multiple of 32, before the first payload. Where `align` is 16 or less it is the least such length. docs/SIZING.md has the formula.
  *
- * 0 exactly where there is no such kind, RLSF_NO_LAYOUT holds of `size` and `align`, or the length passes a size_t or, in a small pool,
- * 131072. */
+ * 0 exactly where there is no such kind, RLSF_NO_LAYOUT holds of `size` and `align`, no block is sure to be long enough, or the length
+ * passes a size_t or, in a small pool, 131072. */
 size_t rlsf_pool_length_for_payloads(size_t kind, size_t count, size_t size, size_t align);
 
 /* The least length of a range in which such a payload can be allocated while no other lives there. Insert it in the same way.

@@ -106,7 +106,7 @@ pub fn pool_size_to_contain_allocation<
 /// payloads live in it before each allocation and each reallocation: whatever their sizes, and in whatever order they come
 /// and go. It is about twice the bytes in use. Where the alignment is 16 or less, it is the least such length: in each shorter
 /// chunk some of these calls are refused. Memory of that length becomes such a chunk where it begins at a multiple of 32.
-/// `None` exactly where the length passes a `usize` or the longest chunk.
+/// `None` exactly where no class reaches the block that is sought, or the length passes a `usize` or the longest chunk.
 pub fn pool_size_for_payloads<
     FLBitmap: BitPattern,
     SLBitmap: BitPattern,

@@ -18,7 +18,7 @@ impl<FLBitmap: Bitmap, SLBitmap: Bitmap, const FLLEN: usize, const SLLEN: usize>
 > {
     /// The length in bytes of a pool, from a multiple of 32 on, in which no payload of up to the layout's size and alignment is
     /// refused while at most `count` payloads live before each allocation and each reallocation. `None` exactly where the
-    /// parameters aren't valid, or the length passes a `usize` or the longest chunk.
+    /// parameters aren't valid, no class reaches the block that is sought, or the length passes a `usize` or the longest chunk.
     pub fn pool_size_for_payloads(count: usize, layout: Layout) -> Option<usize>
         ensures length { IsValid FLBitmap.width SLBitmap.width FLLEN SLLEN → result ≡ pool_size_for_payloads FLLEN SLLEN count layout.size layout.align }
         ensures invalid { (IsValid FLBitmap.width SLBitmap.width FLLEN SLLEN → ⊥) → result ≡ None }

@@ -33,7 +33,7 @@ pub live_count-empty : live_count empty ≡ 0
 unfolding live_count
 live_count-empty = refl
 
--- who has a payload's address has its alignment
+-- the alignment that is found at an address is that of the block there
 aligned : {fllen sllen : ℕ} {memory : Range} {s : State} → IsWellFormed fllen sllen memory s → (addr a : ℕ) → align_at s addr ≡ Some a → (u : Used) → Holds s addr u → u.align ≡ a
 aligned w addr a live u holds = same (sym (align_at-held w addr u holds) ∙ live)
   where

@@ -31,7 +31,7 @@ pub record IsTakenFor (sllen size least : ℕ) : Type 0 where
   pub reaches : Reaches sllen (class_of sllen least) size
 
 -- some ranges are together longer than 32 bytes of each, `live` blocks of `most` bytes, and for each of these blocks and of
--- the ranges a free one that is one block too short to be taken
+-- the ranges a free one that is 32 bytes too short to be taken
 pub record HasBudget (live most sllen : ℕ) (ranges : List Range) : Type 0 where
   pub least : ℕ
   pub taken : IsTakenFor sllen most least

@@ -1,4 +1,4 @@
--- How much room callers are sure to find: words that don't unfold by themselves.
+-- How much room callers are sure to find. The definitions don't unfold by themselves.
 use Rattle.std.specs.Prelude.{ℕ, List, length}
 use Rattle.rlsf_base.specs.declared.memory.range.Range.{Range}
 use Rattle.rlsf_base.specs.Sizes.{request_size}
@@ -9,8 +9,8 @@ use Rattle.rlsf_machine.specs.State.{State}
 unfoldable pub live_count : State → ℕ
 live_count s = length s.used
 
--- none of the payloads that are live was asked for with more than this size and alignment, and as long as `count` or fewer are
--- live one more is never refused within these bounds, wherever they lie
+-- no used block is longer than what is sought for this size and alignment, and the chunks have the budget for payloads within these
+-- bounds: so while `count` or fewer are live one more is never refused, wherever they lie
 unfoldable pub IsSizedFor : ℕ → ℕ → ℕ → ℕ → State → Type 0
 IsSizedFor sllen count size align s =
     (fronts : List Range) × AreFronts s.chunks fronts × HasBudget count (request_size size align) sllen fronts × AreAtMost (request_size size align) s.used
