@@ -128,10 +128,11 @@ impl<Options: GlobalTlsfOptions> Locked<Options> {
         ensures touches { self.new.memory.touches ≤ self.old.memory.touches + 32 }
         ensures grow { self.old.memory.touches ≤ self.new.memory.touches }
     {
-        let Ok(found) = search(&self.rows, addr) else {
+        let Ok(index) = search(&self.rows, addr) else {
+            // Only a live address has a row, so nothing is given back twice.
             return Err(GlobalError::UnknownAddress);
         };
-        let gone = self.rows.remove(found);
+        let gone = self.rows.remove(index);
         self.flex.deallocate(addr, gone.1.align());
         Ok(())
     }
@@ -152,6 +153,7 @@ impl<Options: GlobalTlsfOptions> Locked<Options> {
         ensures grow { self.old.memory.touches ≤ self.new.memory.touches }
     {
         let Ok(index) = search(&self.rows, addr) else {
+            // Refused before the layout is looked at: an address without a row has none.
             return Err(GlobalError::UnknownAddress);
         };
         if self.rows[index].1 != layout {
@@ -195,17 +197,17 @@ impl<Options: GlobalTlsfOptions> Locked<Options> {
             → self.new.memory.touches ≤ self.old.memory.touches + 59 }
         ensures grow { self.old.memory.touches ≤ self.new.memory.touches }
     {
-        let Ok(at) = search(&self.rows, addr) else {
+        let Ok(index) = search(&self.rows, addr) else {
             return Err(GlobalError::UnknownAddress);
         };
-        if self.rows[at].1 != layout {
+        if self.rows[index].1 != layout {
             return Err(GlobalError::WrongLayout);
         }
         let wanted = Layout::from_size_align_unchecked(new_size, layout.align());
         let Some(moved) = resize(&mut self.flex, addr, layout, wanted) else {
             return Err(GlobalError::NoRoom);
         };
-        move_row(&mut self.rows, addr, at, (moved, wanted));
+        move_row(&mut self.rows, addr, index, (moved, wanted));
         Ok(moved)
     }
 
@@ -226,15 +228,15 @@ impl<Options: GlobalTlsfOptions> Locked<Options> {
         ensures touches { HasRoomFor 64 self.old.heap.flex.machine layout.size layout.align → self.new.memory.touches ≤ self.old.memory.touches + 59 }
         ensures grow { self.old.memory.touches ≤ self.new.memory.touches }
     {
-        let Ok(at) = search(&self.rows, addr) else {
+        let Ok(index) = search(&self.rows, addr) else {
             return Err(GlobalError::UnknownAddress);
         };
-        let align = self.rows[at].1.align();
+        let align = self.rows[index].1.align();
         let keep = layout.size().min(self.flex.allocation_usable_size(addr));
         let Some(to) = move_away(&mut self.flex, addr, align, keep, layout) else {
             return Err(GlobalError::NoRoom);
         };
-        let _ = self.rows.remove(at);
+        let _ = self.rows.remove(index);
         place(&mut self.rows, (to, layout));
         Ok(to)
     }
@@ -263,17 +265,17 @@ impl<Options: GlobalTlsfOptions> Locked<Options> {
         ensures touches { self.new.memory.touches ≤ self.old.memory.touches + 25 }
         ensures grow { self.old.memory.touches ≤ self.new.memory.touches }
     {
-        let Ok(at) = search(&self.rows, addr) else {
+        let Ok(index) = search(&self.rows, addr) else {
             return Err(GlobalError::UnknownAddress);
         };
-        if self.rows[at].1 != layout {
+        if self.rows[index].1 != layout {
             return Err(GlobalError::WrongLayout);
         }
         let wanted = Layout::from_size_align_unchecked(new_size, layout.align());
         let Some(to) = self.flex.reallocate_no_move(addr, wanted) else {
             return Err(GlobalError::NoRoom);
         };
-        replace(&mut self.rows, at, (to, wanted));
+        replace(&mut self.rows, index, (to, wanted));
         Ok(to)
     }
 

@@ -26,18 +26,18 @@ pub(crate) fn place(rows: &mut Vec<(Addr, Layout)>, row: (Addr, Layout))
 {
     match search(rows, row.0) {
         Ok(_) => {}
-        Err(at) => {
-            let _inserted = rows.insert(at, row);
+        Err(index) => {
+            let _inserted = rows.insert(index, row);
         }
     }
 }
 
-/// Puts a row in the place of the one that the address has.
-pub(crate) fn replace(rows: &mut Vec<(Addr, Layout)>, at: usize, row: (Addr, Layout))
-    requires { IsFound rows.old.items (key row) at }
+/// Puts a row in the place of the one at `index`, which has the same address.
+pub(crate) fn replace(rows: &mut Vec<(Addr, Layout)>, index: usize, row: (Addr, Layout))
+    requires { IsFound rows.old.items (key row) index }
     ensures { rows.new.items ≡ put row (without_row (key row) rows.old.items) }
 {
-    rows[at] = row;
+    rows[index] = row;
 }
 
 /// Puts a row in the place of the one at `index`, whose address is `addr`: over it if the row's address is the same, else where the

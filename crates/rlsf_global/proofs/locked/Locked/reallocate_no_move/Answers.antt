@@ -34,7 +34,7 @@ invariant_of-self g c =
     not_resized_locked c.self.inside.flex c.self.inside.rows.items c.self.invariant c.reallocate_no_move.new.self (at c.args.addr) c.from_size_align_unchecked-wanted.result did.source did.step did.same
 
 pub replace-requires : goal.replace-requires
-replace-requires g c = subst (λ a. IsFound c.self.inside.rows.items a c.in-Ok.at) (sym c.in-Some.ensures.there) (rw c.deref.ensures.value at c.in-Ok.ensures.found)
+replace-requires g c = subst (λ a. IsFound c.self.inside.rows.items a c.in-Ok.index) (sym c.in-Some.ensures.there) (rw c.deref.ensures.value at c.in-Ok.ensures.found)
 
 pub invariant_of-self-2 : goal.invariant_of-self-2
 invariant_of-self-2 g c =
