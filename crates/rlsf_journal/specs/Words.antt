@@ -2,4 +2,5 @@
 pub use Rattle.rlsf_journal.specs.Close.{Agree, AreComplete, LacksOne, is_strange}
 pub use Rattle.rlsf_journal.specs.Entries.{IsReplyTo, entries_of, receipts_of}
 pub use Rattle.rlsf_journal.specs.Passes.{AreFirst, PassContents, Receipted}
-pub use Rattle.rlsf_journal.specs.Replay.{BookContents, IsReplay, LeadsOrRefused}
+pub use Rattle.rlsf_journal.specs.Replay.{BookContents, IsReplay, IsRun, LeadsOrRefused}
+unfoldable pub use Rattle.rlsf_journal.specs.Replay.{BookStands}
