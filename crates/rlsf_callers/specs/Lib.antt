@@ -1,3 +1,4 @@
 pub mod Cache
+pub mod Note
 pub mod Rationed
 pub mod Stored

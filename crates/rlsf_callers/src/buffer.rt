@@ -6,7 +6,7 @@ use crate::pools::Pool;
 use rlsf::{Addr, Layout};
 use std::marker::Model;
 
-/// Bytes in a payload that gets twice as long whenever it is full. To its callers it is the list of its bytes.
+/// Bytes in a payload that gets 64 bytes longer whenever it is full. To its callers it is the list of its bytes.
 #[derive(Drop)]
 pub struct Buffer {
     pool: Pool,

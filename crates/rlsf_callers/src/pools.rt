@@ -1,6 +1,6 @@
 //! Pools of a length that is computed for the payloads, so that no allocation within the bounds is refused.
 
-ghost use Rattle.std.specs.Prelude.{◌≡◌, ◌≤◌, IfSome, OnOk};
+ghost use Rattle.std.specs.Prelude.{◌≡◌, ◌≤◌, ◌+◌, IfSome, OnOk, length};
 ghost use Rattle.rlsf.specs.Words.{IsSizedFor, live_count};
 
 use rlsf::{Addr, Layout, Memory, Range, Tlsf, classes};
@@ -72,7 +72,8 @@ pub fn allocate_many(
 ) -> Result<(), AllocError>
     requires sized { IsSizedFor 16 count layout.size layout.align pool.old.state }
     requires empty { live_count pool.old.state ≡ 0 }
-    ensures { OnOk result (live_count pool.new.state ≡ count) }
+    ensures live { OnOk result (live_count pool.new.state ≡ count) }
+    ensures len { OnOk result (length addrs.new.items ≡ length addrs.old.items + count) }
 {
     for _ in 0..count {
         let addr = pool.allocate(layout).unwrap();
