@@ -10,7 +10,7 @@ use Rattle.rlsf_base.specs.Range.{range_at}
 use Rattle.rlsf_base.specs.Sizes.{request_size}
 use Rattle.rlsf_base.specs.Space.{range_of}
 use Rattle.rlsf_base.specs.declared.memory.range.Range.{Range}
-use Rattle.rlsf_base.proofs.Numbers.Roundings.{round32-le, round32-mono, round32-multiple}
+use Rattle.rlsf_base.proofs.Numbers.Roundings.{round32-le, round32-multiple}
 use Rattle.rlsf_base.proofs.SizeClasses.Reach.{Reaches-class_of}
 use Rattle.rlsf_base.proofs.SizeMaps.ChunkLengths.{IsPayloadPool-some}
 use Rattle.rlsf_base.proofs.SizeMaps.Laws.{IsSize-request_size}
@@ -22,7 +22,7 @@ use Rattle.rlsf_machine.specs.Lists.{IsIn}
 use Rattle.rlsf_machine.specs.Reallocate.{Plan, Reallocates, ReallocatesBy, plan}
 use Rattle.rlsf_machine.specs.State.{State, Used}
 use Rattle.rlsf_machine.specs.WellFormed.{IsUsed, IsWellFormed, coverage}
-use Rattle.rlsf_machine.proofs.Budgets.{AreFronts-one, not_denied}
+use Rattle.rlsf_machine.proofs.Budgets.{AreFronts-one, not_denied, request_size-mono}
 use Rattle.rlsf_machine.proofs.CallerWords.{align_at-held, bytes_at-held}
 use Rattle.rlsf_machine.proofs.Coverage.{coverage-IsIn, covers-inside}
 use Rattle.rlsf_machine.proofs.Insertions.{IsWhole-aligned_part}
@@ -86,16 +86,12 @@ module _ {v : StoreContents} {all : List Stored} (store : IsStore v all) where
 
 -- ---- room
 
--- a block for a longer size or a greater alignment is no shorter
-request_size-mono : (m n align : ℕ) → m ≤ n → request_size m align ≤ request_size n align
-request_size-mono m n align less = round32-mono (m + (align - 16) + 16) (n + (align - 16) + 16) (omega arith)
-
 small_stored : (size align : ℕ) (all : List Stored) → AllByRecursion (λ (p : Place). (p.len ≤ size) × (p.align ≡ align)) (map place_of all) → (k : Stored) → IsIn k all → request_size (length k.bytes) k.align ≤ request_size size align
 small_stored size align [] small k i = absurd i
 small_stored size align (j ∷ js) (first, rest) k (inl same) =
     let long : length k.bytes ≤ size = omega (arith, first.0, ap (λ x. length x.bytes) same) in
     let aligned : k.align ≡ align = ap (λ x. x.align) same ∙ first.1 in
-    omega (arith, request_size-mono (length k.bytes) size k.align long, ap (request_size size) aligned)
+    omega (arith, request_size-mono (length k.bytes) k.align size k.align long (omega arith), ap (request_size size) aligned)
 small_stored size align (j ∷ js) (first, rest) k (inr i) = small_stored size align js rest k i
 
 -- a pool with the bytes for a block
@@ -135,7 +131,7 @@ module _ {v : StoreContents} {places : List Place} {live size align : ℕ} (budg
 
   -- an allocation has room
   pub budget_has_room : (w : Allocator) (n : ℕ) → n ≤ size → Steps 59 8 v.heap w (Allocates 8 v.heap.state n align None) → ⊥
-  budget_has_room w n short steps = denied w.state n align (request_size-mono n size align short) (opened 59 8 v.heap w (Allocates 8 v.heap.state n align None) steps).0
+  budget_has_room w n short steps = denied w.state n align (request_size-mono n align size align short (omega arith)) (opened 59 8 v.heap w (Allocates 8 v.heap.state n align None) steps).0
 
   -- a reallocation too
   pub budget_has_room_again : (w : Allocator) (addr n : ℕ) → align_at v.heap.state addr ≡ Some align → n ≤ size → Steps 59 8 v.heap w (Reallocates 8 v.heap.state addr n None) → ⊥
@@ -145,7 +141,7 @@ module _ {v : StoreContents} {places : List Place} {live size align : ℕ} (budg
       let step = (opened 59 8 v.heap w (Reallocates 8 s addr n None) steps).0 in
       let u = step.block in
       let aligned : u.align ≡ align = same (sym (align_at-held (well_formed v.heap store.stands) addr u step.holds) ∙ live) in
-      let fits : request_size n u.align ≤ request_size size align = omega (arith, ap (request_size n) aligned, request_size-mono n size align short) in
+      let fits : request_size n u.align ≤ request_size size align = omega (arith, ap (request_size n) aligned, request_size-mono n align size align short (omega arith)) in
       none_left u fits (plan s u n) step.step
     where
       same : {m n : ℕ} → Some m ≡ Some n → m ≡ n
