@@ -1,8 +1,8 @@
 //! A source of memory of the caller's own.
 
-ghost use Rattle.std.specs.Prelude.{◌≡◌, ◌<◌, ◌≤◌, ◌+◌, ◌^◌, [], IfSome, MatchOption};
-ghost use Rattle.rlsf.specs.Sources.{BumpOwes, end_of, round32};
-ghost use Rattle.rlsf_callers.specs.Rationed.{rationed_terms};
+ghost use Rattle.std.specs.Prelude.{◌≡◌, ◌<◌, ◌≤◌, ◌+◌, ◌^◌, [], MatchOption};
+ghost use Rattle.rlsf.specs.Sources.{end_of, round32};
+ghost use Rattle.rlsf_callers.specs.Rationed.{RationedLeads, RationedOwes, constant_rationed, rationed_in, rationed_terms};
 
 use rlsf::{FlexSource, Range};
 use std::marker::Model;
@@ -16,11 +16,12 @@ pub struct RationedSource {
 }
 
 impl Model for RationedSource {
-    ghost use Rattle.rlsf.specs.Sources.{Bump, IsBump, bump_in};
+    ghost use Rattle.rlsf.specs.Sources.{IsBump, bump_in};
+    ghost use Rattle.rlsf_callers.specs.Rationed.{Rationed, rationed_in};
 
-    ghost Value = { Bump };
+    ghost Value = { Rationed };
 
-    ghost view = { λ s. bump_in s.space s.at };
+    ghost view = { λ s. rationed_in s.space s.at s.left };
 
     ghost invariant = { λ s. IsBump (bump_in s.space s.at) };
 }
@@ -32,8 +33,8 @@ impl RationedSource {
     #[tactic(auto, using(rlsf::specs::Sources::bump_owes_none))]
     pub fn new(space: Range, left: usize) -> RationedSource
         requires { end_of space < 2 ^ 64 }
-        ensures space { result.space ≡ space }
-        ensures owed { BumpOwes result [] }
+        ensures value { result ≡ rationed_in space space.start left }
+        ensures owed { RationedOwes result [] }
     {
         RationedSource {
             space,
@@ -44,7 +45,7 @@ impl RationedSource {
 
     /// The end of `len` bytes from an address on, if the space has them.
     fn end_in_space(&self, start: usize, len: usize) -> Option<usize>
-        ensures { IfSome result (λ end. (end ≡ start + len) × (end ≤ end_of self.now.space)) }
+        ensures { MatchOption result (end_of self.now.bump.space < start + len) (λ end. (end ≡ start + len) × (end ≤ end_of self.now.bump.space)) }
     {
         let last = self.space.start + self.space.len;
         let end = start.checked_add(len)?;
@@ -55,9 +56,9 @@ impl RationedSource {
 impl FlexSource for RationedSource {
     ghost terms = { rationed_terms };
 
-    ghost owes = { BumpOwes };
+    ghost owes = { RationedOwes };
 
-    ghost leads = { λ x n y. rationed_terms y ≡ rationed_terms x };
+    ghost leads = { RationedLeads };
 
     fn alloc(&mut self, min_size: usize) -> Option<Range> {
         let left = self.left.checked_sub(1)?;
@@ -97,5 +98,5 @@ impl FlexSource for RationedSource {
         32
     }
 
-    ghost constant = { λ x y n led. led };
+    ghost constant = { constant_rationed };
 }
