@@ -2,5 +2,6 @@
 
 mod calls;
 mod kept;
+mod lengths;
 mod pools;
 mod random;

@@ -10,6 +10,8 @@ mod appends;
 #[cfg(test)]
 mod bytes;
 #[cfg(test)]
+mod callers;
+#[cfg(test)]
 mod checked;
 #[cfg(test)]
 mod collections;
