@@ -1,5 +1,5 @@
-/* An allocator whose calls take a bounded number of steps, and whose promises a prover has checked. It hands out addresses, which are
- * numbers of a memory of its own: bytes get there by rlsf_write and back by rlsf_read. docs/C.md says how to link it.
+/* An allocator (version 0.1.0) whose calls take a bounded number of steps, and whose promises a prover has checked. It hands out
+ * addresses, which are numbers of a memory of its own: bytes get there by rlsf_write and back by rlsf_read. docs/C.md says how to link it.
  *
  * What a caller owes, in each call; nothing tests it:
  *   - The handle is the one that rlsf_init was given, rlsf_destroy wasn't called on it since, and nothing else wrote to it.
