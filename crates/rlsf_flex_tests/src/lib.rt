@@ -3,6 +3,8 @@
 #![tactic(auto)]
 
 #[cfg(test)]
+mod bumps;
+#[cfg(test)]
 mod calls;
 #[cfg(test)]
 mod capabilities;

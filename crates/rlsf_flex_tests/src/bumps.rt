@@ -1,0 +1,26 @@
+//! A bump source: the addresses that an allocator over it returns.
+
+use crate::heaps::number;
+use rlsf_base::memory::{Layout, Memory, Range};
+use rlsf_flex::FlexTlsf;
+use rlsf_sources::BumpSource;
+
+#[test]
+fn bump_source_provides_and_grows_twice(rt: HostRuntime) {
+    // A payload of one byte needs a block of 32 bytes, and a pool of 64. The range begins at the first multiple of 32 behind 4097,
+    // which is 4128, and ends at 4192, then at 4256, and then at 4320, where the space ends. Each part has a payload behind 16 bytes.
+    let space = Range {
+        start: 4097,
+        len: 223,
+    };
+    let memory = Memory::new(rt.alloc(), space.start, space.len).expect(&rt, "memory");
+    let mut flex = FlexTlsf::<_, u16, u16, 12, 16>::new(memory, BumpSource::new(space));
+    let layout = Layout::from_size_align(1, 1).expect(&rt, "a layout");
+    let found = [
+        number(flex.allocate(layout)),
+        number(flex.allocate(layout)),
+        number(flex.allocate(layout)),
+        number(flex.allocate(layout)),
+    ];
+    assert_eq!(rt; found, [4144, 4208, 4272, 0]);
+}
