@@ -1,7 +1,7 @@
 //! A source of memory of the caller's own.
 
-ghost use Rattle.std.specs.Prelude.{◌≡◌, ◌<◌, ◌≤◌, ◌+◌, ◌^◌, [], MatchOption};
-ghost use Rattle.rlsf.specs.Sources.{end_of, round32};
+ghost use Rattle.std.specs.Prelude.{◌≡◌, ◌<◌, ◌≤◌, ◌+◌, ◌^◌, ◌++◌, ◌∷◌, [], List, MatchOption};
+ghost use Rattle.rlsf.specs.Sources.{OwesGrown, Range, dealloc, end_of, grow, round32};
 ghost use Rattle.rlsf_callers.specs.Rationed.{RationedLeads, RationedOwes, constant_rationed, rationed_in, rationed_terms};
 
 use rlsf::{FlexSource, Range};
@@ -72,13 +72,22 @@ impl FlexSource for RationedSource {
         })
     }
 
-    // What the trait requires, no caller of a source that grows no range meets.
-    fn realloc_inplace_grow(&mut self, range: Range, min_new_len: usize) -> Option<usize> {
+    // The source neither grows ranges nor takes them back, so nobody can meet what the trait requires of these two calls. They
+    // require nothing.
+    fn realloc_inplace_grow(&mut self, range: Range, min_new_len: usize) -> Option<usize>
+        ensures leads { RationedLeads self.old (grow range min_new_len result) self.new }
+        ensures owes { (before after : List Range) → RationedOwes self.old (before ++ range ∷ after)
+            → OwesGrown (rationed_terms self.old) (RationedOwes self.new) before range after min_new_len result }
+    {
         let _ = (range, min_new_len);
         None
     }
 
-    fn dealloc(&mut self, range: Range) {
+    #[tactic(auto, using(rlsf::specs::Sources::bump_takes))]
+    fn dealloc(&mut self, range: Range)
+        ensures leads { RationedLeads self.old (dealloc range) self.new }
+        ensures owes { (before after : List Range) → RationedOwes self.old (before ++ range ∷ after) → RationedOwes self.new (before ++ after) }
+    {
         let _ = range;
     }
 
