@@ -1,4 +1,4 @@
-//! The bitmaps of the allocator's class table, to read.
+//! Read access to the bitmaps of the allocator's class table.
 
 ghost use Rattle.std.specs.Prelude.{◌≡◌, ◌<◌, ℕ};
 ghost use Rattle.std.specs.List.{list_any};
@@ -15,16 +15,18 @@ impl<FLBitmap: Bitmap, SLBitmap: Bitmap, const FLLEN: usize, const SLLEN: usize>
     FLLEN,
     SLLEN,
 > {
-    /// The first-level bitmap: a row's position has a one exactly where a block is free whose class is in the row.
+    /// Returns the first-level bitmap. The bit of a row is set if and only if there is a free block whose class is in the
+    /// row.
     pub fn fl_bitmap(&self) -> FLBitmap
         ensures { (fl : ℕ) → bit (FLBitmap.pattern result) fl ≡ list_any (is_in_row SLLEN fl) self.now.state.free }
     {
         self.table.fl_bitmap()
     }
 
-    /// The second-level bitmap of a row: a class's position has a one exactly where a block of the class is free.
+    /// Returns the second-level bitmap of the row `fl`. The bit of a class is set if and only if there is a free block of
+    /// the class.
     ///
-    /// The row is below `FLLEN`.
+    /// `fl` must be below `FLLEN`.
     pub fn sl_bitmap(&self, fl: usize) -> SLBitmap
         requires { fl < FLLEN }
         ensures { (sl : ℕ) → bit (SLBitmap.pattern result) sl ≡ list_any (has_class SLLEN (class_at fl sl)) self.now.state.free }

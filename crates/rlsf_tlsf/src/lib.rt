@@ -1,4 +1,4 @@
-//! The allocator over pools that its caller hands in: two-level segregated fit (Masmano and others, ECRTS 2004).
+//! The allocator over pools that its caller inserts: two-level segregated fit (Masmano and others, ECRTS 2004).
 #![tactic(auto)]
 
 ghost use Rattle.rlsf_machine.specs.Laws.{SourceLaws, StepLaws};
@@ -12,13 +12,16 @@ mod tlsf;
 pub use rlsf_blocks::{BlockInfo, Blocks, GRANULARITY};
 pub use tlsf::Tlsf;
 
-/// Does nothing. Its contract states the laws of the states that an allocator stands for, so that a check proves them.
+/// Does nothing. Its contract states the laws of the states that an allocator represents, so that a check proves them.
 ///
-/// `steps`, `sources` and `sizing` are the laws of the machine, said in words on `rlsf_machine::laws`.
+/// `steps`, `sources` and `sizing` are the laws of the reference model. The documentation of `rlsf_machine::laws`
+/// describes them.
 ///
-/// What is said of the words inside the pools and of the class table reads no usable byte of a live payload: a memory that
-/// differs in such bytes alone stands for the state with these bytes (`words`). By the word before a payload and one size word
-/// every live address gives its block, whatever its alignment (`by_words`).
+/// `words`: the in-band layout and the class table depend on no usable byte of a live payload. A memory that differs only
+/// in such bytes represents the state with these bytes.
+///
+/// `by_words`: the word before a payload and one size word determine the block of every live address, whatever its
+/// alignment.
 pub fn laws()
     ensures steps { StepLaws }
     ensures sources { SourceLaws }

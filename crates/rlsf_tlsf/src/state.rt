@@ -1,4 +1,4 @@
-//! The machine's state, as ghost data: it takes no bytes and no time.
+//! The state of the reference model, as ghost data: it takes no bytes and no time.
 ghost use Rattle.std.specs.Prelude.{◌≡◌, ℕ};
 ghost use Rattle.std.specs.Borrow.{ftrue};
 ghost use Rattle.rlsf_base.specs.Range.{range_at};
@@ -9,7 +9,7 @@ ghost use Rattle.rlsf_tlsf.specs.Steps.Moves.{allocated, appended_to, deallocate
 
 use std::marker::{Model, Send, Sync};
 
-/// The machine's state but for the bytes of payloads, which stand in the memory.
+/// The state of the reference model without the bytes of payloads, which are in the memory.
 #[derive(Drop)]
 pub(crate) struct GhostState {
     pub(crate) ghost state: { State },
@@ -26,55 +26,55 @@ unsafe impl Send for GhostState {}
 unsafe impl Sync for GhostState {}
 
 impl GhostState {
-    /// The state to which nothing was handed.
+    /// Returns the empty state, into which no range was inserted.
     pub(crate) fn new() -> GhostState
         ensures { result.state ≡ empty }
     {
         GhostState {}
     }
 
-    /// Moves on to a state that is told of the one before and three numbers.
+    /// Replaces the state by one that the state before and three numbers determine.
     fn advance(&mut self, x: usize, y: usize, z: usize)
         ghost to: { ℕ → ℕ → ℕ → State → State }
         ensures { self.new.state ≡ to x y z self.old.state }
     {}
 
-    /// Moves on as an insert does.
+    /// Updates the state as an insert does.
     pub(crate) fn insert(&mut self, fllen: usize, start: usize, len: usize)
         ensures { self.new.state ≡ inserted fllen (range_at start len) self.old.state }
     {
         self.advance(fllen, start, len);
     }
 
-    /// Moves on as an append does.
+    /// Updates the state as an append does.
     pub(crate) fn append(&mut self, fllen: usize, start: usize, len: usize)
         ensures { self.new.state ≡ appended_to fllen (range_at start len) self.old.state }
     {
         self.advance(fllen, start, len);
     }
 
-    /// Moves on as an allocation does that isn't refused.
+    /// Updates the state as an allocation does that isn't refused.
     pub(crate) fn allocate(&mut self, sllen: usize, size: usize, align: usize)
         ensures { self.new.state ≡ allocated sllen size align self.old.state }
     {
         self.advance(sllen, size, align);
     }
 
-    /// Moves on as a deallocation does.
+    /// Updates the state as a deallocation does.
     pub(crate) fn deallocate(&mut self, addr: usize)
         ensures { self.new.state ≡ deallocated addr self.old.state }
     {
         self.advance(addr, 0, 0);
     }
 
-    /// Moves on as a reallocation does that isn't refused.
+    /// Updates the state as a reallocation does that isn't refused.
     pub(crate) fn reallocate(&mut self, sllen: usize, addr: usize, size: usize)
         ensures { self.new.state ≡ reallocated sllen addr size self.old.state }
     {
         self.advance(sllen, addr, size);
     }
 
-    /// Moves on as a removal does of the chunks of a range.
+    /// Updates the state as a removal of the chunks of a range does.
     pub(crate) fn remove(&mut self, start: usize, len: usize)
         ensures { self.new.state ≡ removed (walked (range_at start len)) self.old.state }
     {

@@ -1,4 +1,4 @@
-//! The allocator over pools that its caller hands in.
+//! The allocator over pools that its caller inserts.
 
 ghost use Rattle.std.specs.Borrow.{sem};
 ghost use Rattle.std.specs.Prelude.{◌≡◌, ◌≢◌, ◌≤◌, ◌<◌, ◌+◌, ◌*◌, ◌%◌, ℕ, List, [], Option, Some, None, length, is_some, IfNone, IfSome, IsSome, if◌then◌else◌};
@@ -37,7 +37,7 @@ use rlsf_table::ClassTable;
 use std::marker::{Model, PhantomData};
 use std::num::NonZeroUsize;
 
-/// The allocator over pools of one memory, which it owns.
+/// An allocator over the pools of one memory, which it owns.
 #[derive(Drop)]
 pub struct Tlsf<
     FLBitmap: BitPattern,
@@ -72,10 +72,11 @@ impl<FLBitmap: BitPattern, SLBitmap: BitPattern, const FLLEN: usize, const SLLEN
     ghost use Rattle.rlsf_tlsf.specs.Allocator.{Stands, Steps};
     ghost use Rattle.rlsf_tlsf.specs.Lending.{LeavesRest, lends_payload, written};
 
-    /// An allocator over the memory, without a pool.
+    /// Creates an allocator that owns `memory` and has no pool.
     ///
-    /// The parameters are valid: from 1 to `FLBitmap`'s bits rows, of a power of two of classes that is at
-    /// most `SLBitmap`'s bits.
+    /// The parameters must be valid:
+    /// - `FLLEN`, the number of rows, is at least 1 and at most the number of bits of `FLBitmap`.
+    /// - `SLLEN`, the number of classes of a row, is a power of two and at most the number of bits of `SLBitmap`.
     pub fn new(memory: Memory) -> Self
         requires { IsValid FLBitmap.width SLBitmap.width FLLEN SLLEN }
         ensures state { result.state ≡ empty }
@@ -94,7 +95,7 @@ impl<FLBitmap: BitPattern, SLBitmap: BitPattern, const FLLEN: usize, const SLLEN
         }
     }
 
-    /// The memory, as the allocator leaves it.
+    /// Consumes the allocator and returns its memory, as the allocator leaves it.
     pub fn into_memory(self) -> Memory
         ensures { result ≡ self.memory }
     {
@@ -102,12 +103,16 @@ impl<FLBitmap: BitPattern, SLBitmap: BitPattern, const FLLEN: usize, const SLLEN
         memory
     }
 
-    /// Hands a range of the memory in. Its aligned part becomes chunks, which are free; no chunk is made of fewer than
-    /// 64 bytes. Answers the bytes from the range's start up to the last chunk's end, or `None` without a chunk, and
-    /// then nothing changes. Where nothing lives, a range from a multiple of 32 on that has a length of
-    /// `pool_size_for_payloads` sizes the allocator for these bounds (`IsSizedFor`).
+    /// Inserts a range of the memory as a pool, and makes free chunks of its aligned part. No chunk has fewer than 64
+    /// bytes.
     ///
-    /// The range lies in the memory, and overlaps no chunk.
+    /// Returns the number of bytes from the range's start to the end of its last chunk. Returns `None` if the range makes
+    /// no chunk; then nothing changes.
+    ///
+    /// Suppose that no payload is live and that the range starts at a multiple of 32. If its length is at least what
+    /// `pool_size_for_payloads` returns for some bounds, the allocator is then sized for them (`IsSizedFor`).
+    ///
+    /// The range must lie in the memory and overlap no chunk.
     pub fn insert_free_block_ptr(&mut self, range: Range) -> Option<NonZeroUsize>
         requires lies_in { LiesIn range self.old.memory.start (length self.old.memory.bytes) }
         requires untouched { IsUntouched self.old.state.chunks range }
@@ -130,10 +135,10 @@ impl<FLBitmap: BitPattern, SLBitmap: BitPattern, const FLLEN: usize, const SLLEN
         taken
     }
 
-    /// Hands a range of the memory in, as `insert_free_block_ptr` does, for a caller that doesn't ask how many bytes were
+    /// Inserts a range of the memory as a pool, as `insert_free_block_ptr` does, but does not return the number of bytes
     /// taken.
     ///
-    /// The range lies in the memory, and overlaps no chunk.
+    /// The range must lie in the memory and overlap no chunk.
     pub fn insert_free_block(&mut self, range: Range)
         requires lies_in { LiesIn range self.old.memory.start (length self.old.memory.bytes) }
         requires untouched { IsUntouched self.old.state.chunks range }
@@ -154,13 +159,16 @@ impl<FLBitmap: BitPattern, SLBitmap: BitPattern, const FLLEN: usize, const SLLEN
         let _ = self.insert_free_block_ptr(range);
     }
 
-    /// Hands in a range of the memory that begins where a chunk ends. Where chunks have a greatest length, the range
-    /// becomes chunks of its own, as `insert_free_block_ptr` makes them. Else the chunk grows by the range's length
-    /// rounded down to a multiple of 32: its old sentinel, a free block before that and the new bytes, but for a new
-    /// sentinel, become one free block, the newest of all. Answers how many bytes are taken; where that is 0, nothing
-    /// changes.
+    /// Appends a range of the memory that begins at the end of a chunk, and returns the number of bytes taken. If it
+    /// returns 0, nothing changes.
     ///
-    /// The range lies in the memory, overlaps no chunk and begins where one ends.
+    /// - If there is a longest chunk (`FLLEN` is below 59), the range becomes chunks of its own, as
+    ///   `insert_free_block_ptr` makes them.
+    /// - Otherwise the chunk grows by the range's length, rounded down to a multiple of 32. Its old sentinel, any free
+    ///   block directly before that, and the new bytes except a new sentinel become one free block. This is the newest of
+    ///   all free blocks.
+    ///
+    /// The range must lie in the memory, overlap no chunk, and begin where a chunk ends.
     pub fn append_free_block_ptr(&mut self, range: Range) -> usize
         requires { IsNext (range_of self.old.memory) self.old.state range }
         ensures step { Steps FLLEN SLLEN self.old self.new (Appends FLLEN self.old.state range result) }
@@ -180,10 +188,11 @@ impl<FLBitmap: BitPattern, SLBitmap: BitPattern, const FLLEN: usize, const SLLEN
         taken
     }
 
-    /// Takes a range out that was handed in: its chunks, from its start rounded up to 32 to its end, and the free blocks there.
-    /// The order of the other free blocks stays, and so does each used one. No byte of the range is the allocator's any more.
+    /// Removes an inserted range: its chunks, and the free blocks in them. The removed part is the range from its start,
+    /// rounded up to a multiple of 32, to its end. The other free blocks keep their order, and every used block is
+    /// unchanged. Afterwards no chunk overlaps the removed part.
     ///
-    /// From there to there the range is a row of whole adjacent chunks, or empty, and no block there is used.
+    /// The removed part must be contiguous whole chunks, or empty. No block in it may be used.
     pub fn remove_pool(&mut self, range: Range)
         requires row { IsRow self.old.state (walked range) }
         requires idle { IsIdle self.old.state (walked range) }
@@ -202,9 +211,10 @@ impl<FLBitmap: BitPattern, SLBitmap: BitPattern, const FLLEN: usize, const SLLEN
         self.state.remove(range.start, range.len);
     }
 
-    /// Where the chunk ends that begins at `addr`: the address behind its sentinel. The walk over the chunk's blocks isn't counted.
+    /// Returns the address of the end of the chunk that begins at `addr`. This is the address just past its sentinel. The
+    /// iteration over the chunk's blocks is not counted as word accesses.
     ///
-    /// A chunk begins there.
+    /// A chunk must begin at `addr`.
     pub fn chunk_end(&self, addr: usize) -> usize
         requires { (c : Range) × IsIn c self.now.state.chunks × (c.start ≡ addr) }
         ensures { (c : Range) → IsIn c self.now.state.chunks → c.start ≡ addr → result ≡ end_of c }
@@ -212,9 +222,11 @@ impl<FLBitmap: BitPattern, SLBitmap: BitPattern, const FLLEN: usize, const SLLEN
         chunk_end(&self.memory, addr)
     }
 
-    /// Allocates a payload for a layout: the front of the newest free block of the first class that reaches the size
-    /// that is sought. Answers its address, a multiple of the alignment, or `None` exactly where no free block's class
-    /// reaches, and then nothing changes. Within bounds that the allocator is sized for (`IsSizedFor`) it is never refused.
+    /// Allocates a payload for `layout`, and returns its address, a multiple of the alignment. Its block is the front of
+    /// the newest free block of the first class that has a free block and reaches the sought size.
+    ///
+    /// Returns `None` if and only if no free block has a class that reaches the sought size; then nothing changes. Within
+    /// bounds that the allocator is sized for (`IsSizedFor`), an allocation is never refused.
     pub fn allocate(&mut self, layout: Layout) -> Option<Addr>
         ensures step { Steps FLLEN SLLEN self.old self.new (Allocates SLLEN self.old.state layout.size layout.align (reply result)) }
         ensures live { IfSome result (λ addr. align_at self.new.state (at addr) ≡ Some layout.align) }
@@ -240,10 +252,10 @@ impl<FLBitmap: BitPattern, SLBitmap: BitPattern, const FLLEN: usize, const SLLEN
         NonZeroUsize::new(payload)
     }
 
-    /// Gives a payload back. Its block becomes free: joined with the free block before it and the one behind it, if there
-    /// are any, it is the newest free block.
+    /// Deallocates the payload at `addr`. Its block becomes free, and is joined with the free block before it and the
+    /// free block behind it, if they exist. The joined block is the newest free block.
     ///
-    /// The address is live, with that alignment.
+    /// The payload at `addr` must be live, with the alignment `align`.
     pub fn deallocate(&mut self, addr: Addr, align: usize)
         requires { align_at self.old.state (at addr) ≡ Some align }
         ensures step { Steps FLLEN SLLEN self.old self.new (Deallocates self.old.state (at addr)) }
@@ -264,10 +276,10 @@ impl<FLBitmap: BitPattern, SLBitmap: BitPattern, const FLLEN: usize, const SLLEN
         self.state.deallocate(addr.get());
     }
 
-    /// Gives a payload back, as `deallocate` does, for a caller that doesn't know the payload's alignment. The state after it
-    /// is the same.
+    /// Deallocates the payload at `addr`, as `deallocate` does, if the caller does not know its alignment. The resulting
+    /// state is the same.
     ///
-    /// The address is live, with any alignment.
+    /// The payload at `addr` must be live, with any alignment.
     pub fn deallocate_unknown_align(&mut self, addr: Addr)
         requires { IsSome (align_at self.old.state (at addr)) }
         ensures step { Steps FLLEN SLLEN self.old self.new (Deallocates self.old.state (at addr)) }
@@ -288,13 +300,17 @@ impl<FLBitmap: BitPattern, SLBitmap: BitPattern, const FLLEN: usize, const SLLEN
         self.state.deallocate(addr.get());
     }
 
-    /// Gives a payload another size: where it stands, if its block's bytes and those of a free block behind it suffice;
-    /// else in the free block before it, if that suffices with these; else in a block that is allocated for it, and then
-    /// the old one is given back. Answers its address, a multiple of the alignment. As many of its first bytes as both
-    /// sizes have are kept. `None` exactly where the allocation is refused, and then nothing changes. Within bounds that the
-    /// allocator is sized for (`IsSizedFor`) it is never refused.
+    /// Changes the size of the payload at `addr` to that of `layout`, and returns its address, a multiple of the
+    /// alignment. The first bytes are kept, as many as both sizes have. The payload takes the first of these places that
+    /// is large enough:
+    /// - It stays at its address, with the bytes of its block and of a free block behind it.
+    /// - It moves into the free block before it, joined with those bytes.
+    /// - It moves into a newly allocated block, and the old block is deallocated.
     ///
-    /// The address is live, with the layout's alignment.
+    /// Returns `None` if and only if this allocation is refused; then nothing changes. Within bounds that the allocator
+    /// is sized for (`IsSizedFor`), a reallocation is never refused.
+    ///
+    /// The payload at `addr` must be live, with the alignment of `layout`.
     pub fn reallocate(&mut self, addr: Addr, layout: Layout) -> Option<Addr>
         requires { align_at self.old.state (at addr) ≡ Some layout.align }
         ensures step { Steps FLLEN SLLEN self.old self.new (Reallocates SLLEN self.old.state (at addr) layout.size (reply result)) }
@@ -333,11 +349,13 @@ impl<FLBitmap: BitPattern, SLBitmap: BitPattern, const FLLEN: usize, const SLLEN
         NonZeroUsize::new(moved)
     }
 
-    /// Gives a payload another size where it stands, if its block's bytes and those of a free block behind it suffice, and
-    /// answers its address. As many of its first bytes as both sizes have are kept, and none is copied. `None` exactly where
-    /// they don't suffice, and then nothing changes.
+    /// Changes the size of the payload at `addr` to that of `layout` without moving it, and returns its address. It uses
+    /// the bytes of the payload's block and of a free block behind it. The first bytes are kept, as many as both sizes
+    /// have, and no byte is copied.
     ///
-    /// The address is live, with the layout's alignment.
+    /// Returns `None` if and only if these bytes don't suffice; then nothing changes.
+    ///
+    /// The payload at `addr` must be live, with the alignment of `layout`.
     pub fn reallocate_no_move(&mut self, addr: Addr, layout: Layout) -> Option<Addr>
         requires { align_at self.old.state (at addr) ≡ Some layout.align }
         ensures step { Steps FLLEN SLLEN self.old self.new (ReallocatesWithoutMove self.old.state (at addr) layout.size (reply result)) }
@@ -375,10 +393,10 @@ impl<FLBitmap: BitPattern, SLBitmap: BitPattern, const FLLEN: usize, const SLLEN
         Some(addr)
     }
 
-    /// How many bytes the caller of the payload at `addr` may use: those from there to its block's end. They are as many as
-    /// were asked for, and less than 32 more.
+    /// Returns the number of usable bytes of the payload at `addr`: those from `addr` to the end of its block. They are
+    /// the requested bytes and less than 32 more.
     ///
-    /// The address is live, with any alignment.
+    /// The payload at `addr` must be live, with any alignment.
     pub fn allocation_usable_size(&self, addr: Addr) -> usize
         requires { IsSome (align_at self.now.state (at addr)) }
         ensures { result ≡ length (bytes_at self.now.state (at addr)) }
@@ -386,9 +404,9 @@ impl<FLBitmap: BitPattern, SLBitmap: BitPattern, const FLLEN: usize, const SLLEN
         usable_bytes(&self.memory, addr.get()).len
     }
 
-    /// The bytes of the payload at `addr`, from there to its block's end: all that its caller may use.
+    /// Returns all usable bytes of the payload at `addr`: those from `addr` to the end of its block.
     ///
-    /// The address is live, with any alignment.
+    /// The payload at `addr` must be live, with any alignment.
     pub fn payload(&self, addr: Addr) -> &[u8]
         requires { IsSome (align_at self.now.state (at addr)) }
         ensures { result.now ≡ bytes_at self.now.state (at addr) }
@@ -396,10 +414,10 @@ impl<FLBitmap: BitPattern, SLBitmap: BitPattern, const FLLEN: usize, const SLLEN
         self.memory.slice(usable_bytes(&self.memory, addr.get()))
     }
 
-    /// The bytes of the payload at `addr`, from there to its block's end, to write to. What is left there is what the
-    /// payload holds; nothing else changes.
+    /// Returns all usable bytes of the payload at `addr`, for reading and writing: those from `addr` to the end of its
+    /// block. When the borrow ends, the payload has the bytes that were written. Nothing else changes.
     ///
-    /// The address is live, with any alignment.
+    /// The payload at `addr` must be live, with any alignment.
     pub fn payload_mut(&mut self, addr: Addr) -> &mut [u8]
         requires { IsSome (align_at self.old.state (at addr)) }
         ensures* writes_back { sem 𝓛 (lends_payload FLBitmap.row SLBitmap.row FLLEN.row SLLEN.row FLBitmap.BitPattern SLBitmap.BitPattern self.entry (at addr) result) }
@@ -418,10 +436,11 @@ impl<FLBitmap: BitPattern, SLBitmap: BitPattern, const FLLEN: usize, const SLLEN
         self.memory.slice_mut(range)
     }
 
-    /// Copies the first `len` bytes of the payload at `from` over the first of the one at `to`, whose other bytes stay. Nothing
-    /// else changes. The two may be one payload, and then no byte does.
+    /// Copies the first `len` bytes of the payload at `from` over the first `len` bytes of the payload at `to`. The other
+    /// bytes of the payload at `to` are unchanged, and nothing else changes. `from` and `to` may be the same payload;
+    /// then no byte changes.
     ///
-    /// Both addresses are live, with any alignment, and both payloads have `len` usable bytes.
+    /// Both payloads must be live, with any alignment, and have at least `len` usable bytes.
     pub fn copy_payload(&mut self, from: Addr, to: Addr, len: usize)
         requires live { IsSome (align_at self.old.state (at from)) × IsSome (align_at self.old.state (at to)) }
         requires long { (len ≤ length (bytes_at self.old.state (at from))) × (len ≤ length (bytes_at self.old.state (at to))) }
@@ -445,11 +464,11 @@ impl<FLBitmap: BitPattern, SLBitmap: BitPattern, const FLLEN: usize, const SLLEN
         );
     }
 
-    /// Sets a word that no block is made of, which the allocator leaves to its caller: no other call changes a byte that is
-    /// spare before and after it. Nothing else changes.
+    /// Writes a spare word: one that belongs to no block, and that the allocator leaves to its caller. Nothing else
+    /// changes. No other call changes a byte that is spare both before and after it.
     ///
-    /// The address is a multiple of 8, and the 8 bytes there lie in the memory and are spare: each lies in no chunk or in the last
-    /// 16 bytes of a sentinel.
+    /// `addr` must be a multiple of 8, and the 8 bytes there must lie in the memory. Each of them must be spare: it lies
+    /// in no chunk, or in the last 16 bytes of a sentinel.
     pub fn set_spare_word(&mut self, addr: usize, word: u64)
         requires { IsSpareWord self.old.memory self.old.state addr }
         ensures state { self.new.state ≡ self.old.state }
@@ -462,10 +481,10 @@ impl<FLBitmap: BitPattern, SLBitmap: BitPattern, const FLLEN: usize, const SLLEN
         self.memory.set_word(addr, word);
     }
 
-    /// The blocks of a range, used and free, in address order, from its start rounded up to 32 to its end; the sentinels at
-    /// the ends of chunks are left out.
+    /// Returns an iterator over the blocks of a range, used and free, in address order. It begins at the range's start,
+    /// rounded up to a multiple of 32, and stops at the range's end. It skips the sentinels at the ends of chunks.
     ///
-    /// From there to there the range is a row of whole adjacent chunks, or empty.
+    /// This part of the range must be contiguous whole chunks, or empty.
     pub fn iter_blocks(&self, range: Range) -> Blocks<'_>
         requires { IsRow self.now.state (walked range) }
         ensures blocks { AreBlocks self.now.state (walked range) result }
@@ -474,10 +493,11 @@ impl<FLBitmap: BitPattern, SLBitmap: BitPattern, const FLLEN: usize, const SLLEN
         walk_blocks(&self.memory, range)
     }
 
-    /// The address of the newest free block of a class, by its row and its index in the row; `None` exactly if none is
-    /// free. It is the one that an allocation takes which takes one of the class.
+    /// Returns the address of the newest free block of a class, given by its row `fl` and its index `sl` in the row.
+    /// Returns `None` if and only if no block of the class is free. An allocation that uses a block of the class uses
+    /// this one.
     ///
-    /// The row is below `FLLEN`, and the index below `SLLEN`.
+    /// `fl` must be below `FLLEN`, and `sl` below `SLLEN`.
     pub fn first_free(&self, fl: usize, sl: usize) -> Option<Addr>
         requires { (fl < FLLEN) × (sl < SLLEN) }
         ensures { reply result ≡ newest_of (of_class SLLEN fl sl self.now.state.free) }
@@ -485,7 +505,7 @@ impl<FLBitmap: BitPattern, SLBitmap: BitPattern, const FLLEN: usize, const SLLEN
         NonZeroUsize::new(self.table.newest(fl, sl))
     }
 
-    /// The memory, to read. Its words and the class table spell the state.
+    /// Returns the memory, for reading. Its words and the class table represent the state.
     pub fn memory_ref(&self) -> &Memory
         ensures memory { result.now ≡ self.now.memory }
         ensures stands { Stands FLLEN SLLEN self.now }
