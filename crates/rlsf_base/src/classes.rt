@@ -1,11 +1,14 @@
-//! Size classes: the rows of an allocator begin at the powers of two from 32 on, and `SLLEN` classes of equal width cut
-//! each row.
+//! Size classes. An allocator's first-level rows begin at the powers of two from 32 on, and each row has `SLLEN` classes
+//! of equal width.
 //!
-//! Each function but `request_size` is generic in an allocator's parameters, and `class_of` in the length of a row alone.
-//! They are valid: there are from 1 to `FLBitmap`'s bits rows, each of a power of two of classes that is at most
-//! `SLBitmap`'s bits. A size is a nonzero multiple of 32, in bytes. A class is named by its row, counted from 0, and its
-//! place in the row. No function refuses or panics within its condition, none asks the system for memory, and the work of
-//! each is constant.
+//! Each function except `request_size` is generic over an allocator's parameters, and `class_of` over the length of a row
+//! alone. The parameters must be valid:
+//! - `FLLEN`, the number of rows, is at least 1 and at most the number of bits of `FLBitmap`.
+//! - `SLLEN`, the number of classes of a row, is a power of two and at most the number of bits of `SLBitmap`.
+//!
+//! The size of a block is a nonzero multiple of 32, in bytes. A class is named by its row, counted from 0, and its place
+//! in the row. If its condition holds, no function panics or refuses its arguments. No function asks the system for
+//! memory, and each does constant work.
 
 ghost use Rattle.std.specs.Prelude.{◌≡◌, ◌%◌, ◌^◌, ◌<◌, ◌≤◌, ◌*◌, ◌-◌, IsTrue, IfSome, IfNone};
 ghost use Rattle.rlsf_base.specs.ClassLaws.{MappedIsFirstReaching, UnmappedIsEnough, UnmappedBeginsItsClass, UnreachedIsNotUnmapped, LongestBlockHasAClass, PoolIsOneChunk, PoolContainsItsAllocation};
@@ -16,7 +19,9 @@ use crate::memory::Layout;
 use crate::rounding::next_multiple_of_32;
 use rlsf_int::BitPattern;
 
-/// The class of a block of `size` bytes. `None` exactly where it lies past the last row.
+/// Returns the class of a block of `size` bytes. Returns `None` if and only if the class is past the last row.
+///
+/// `size` must be a nonzero multiple of 32.
 pub fn map_floor<
     FLBitmap: BitPattern,
     SLBitmap: BitPattern,
@@ -30,8 +35,11 @@ pub fn map_floor<
     within_rows::<FLLEN>(class_of::<SLLEN>(size))
 }
 
-/// The first class that reaches `size`: each of its blocks is at least that long. `None` exactly where it lies past the
-/// last row. From 60 rows on it can be the first class of the row that begins at `2^64`, which no block has.
+/// Returns the first class that reaches `size`: each of its blocks has at least `size` bytes. Returns `None` if and only
+/// if the class is past the last row. With 60 rows or more, the result can be the first class of the row that begins at
+/// `2^64`; no block has this class.
+///
+/// `size` must be a nonzero multiple of 32.
 pub fn map_ceil<FLBitmap: BitPattern, SLBitmap: BitPattern, const FLLEN: usize, const SLLEN: usize>(
     size: usize,
 ) -> Option<(usize, usize)>
@@ -42,8 +50,10 @@ pub fn map_ceil<FLBitmap: BitPattern, SLBitmap: BitPattern, const FLLEN: usize, 
     within_rows::<FLLEN>(reaching_class::<SLLEN>(size))
 }
 
-/// The least size of the first class that reaches `size`. `None` exactly where `map_ceil` gives `None` or a class whose
-/// sizes are past a `usize`.
+/// Returns the least size, in bytes, of the first class that reaches `size`. Returns `None` if and only if `map_ceil`
+/// returns `None`, or a class whose sizes don't fit in a `usize`.
+///
+/// `size` must be a nonzero multiple of 32.
 pub fn map_ceil_and_unmap<
     FLBitmap: BitPattern,
     SLBitmap: BitPattern,
@@ -61,8 +71,8 @@ pub fn map_ceil_and_unmap<
     }
 }
 
-/// The length of the longest chunk, whose one block, 32 bytes shorter, has a class. `None` exactly where each size of a
-/// `usize` has one.
+/// Returns the length of the longest chunk, in bytes. The one block of such a chunk is 32 bytes shorter and has a class.
+/// Returns `None` if and only if each size that fits in a `usize` has a class.
 pub fn max_pool_size<
     FLBitmap: BitPattern,
     SLBitmap: BitPattern,
@@ -79,7 +89,7 @@ pub fn max_pool_size<
     }
 }
 
-/// The size of block that is sought for a layout.
+/// Returns the sought size of `layout`: the length of block, in bytes, that it needs.
 pub fn request_size(layout: Layout) -> usize
     ensures value { result ≡ sizes.request_size layout.size layout.align }
     ensures size { sizes.IsSize result }
@@ -87,8 +97,8 @@ pub fn request_size(layout: Layout) -> usize
     next_multiple_of_32(layout.size() + layout.align().saturating_sub(16) + 16)
 }
 
-/// The least length of a chunk whose block has a class that reaches what is sought for a layout. `None` exactly where
-/// no chunk has.
+/// Returns the least length, in bytes, of a chunk whose block has a class that reaches the sought size of `layout`.
+/// Returns `None` if and only if no chunk has such a block.
 pub fn pool_size_to_contain_allocation<
     FLBitmap: BitPattern,
     SLBitmap: BitPattern,
@@ -102,11 +112,18 @@ pub fn pool_size_to_contain_allocation<
     Some(least + 32)
 }
 
-/// The length of a chunk that never refuses a payload of up to the layout's size and alignment, as long as at most `count`
-/// payloads live in it before each allocation and each reallocation: whatever their sizes, and in whatever order they come
-/// and go. It is about twice the bytes in use. Where the alignment is 16 or less, it is the least such length: in each shorter
-/// chunk some of these calls are refused. Memory of that length becomes such a chunk where it begins at a multiple of 32.
-/// `None` exactly where no class reaches the block that is sought, or the length passes a `usize` or the longest chunk.
+/// Returns the length, in bytes, of a chunk that refuses no allocation and no reallocation within these bounds:
+/// - Each payload has at most the size and the alignment of `layout`.
+/// - At most `count` payloads are live in the chunk before each allocation and each reallocation.
+///
+/// The sizes, and the order of the calls, don't matter. The length is about twice the bytes in use. If the alignment is
+/// 16 or less, it is the least such length: each shorter chunk refuses some of these calls. Memory of that length becomes
+/// such a chunk if it begins at a multiple of 32.
+///
+/// Returns `None` if and only if one of these holds:
+/// - No class reaches the sought size.
+/// - The length doesn't fit in a `usize`.
+/// - The length is greater than that of the longest chunk.
 pub fn pool_size_for_payloads<
     FLBitmap: BitPattern,
     SLBitmap: BitPattern,
@@ -124,10 +141,17 @@ pub fn pool_size_for_payloads<
     within_longest::<FLBitmap, SLBitmap, FLLEN, SLLEN>(len)
 }
 
-/// The length of a chunk that has room for exactly `count` payloads of `size` bytes, and the size to ask for: where all ask
-/// for that size, at an alignment of 16 or less, the chunk refuses exactly where `count` payloads live, so no byte is lost
-/// to fragmentation. The size is that of the least block which has room for `size` bytes and begins a class. `None` exactly
-/// where no class has such a block, or the length passes a `usize` or the longest chunk.
+/// Returns the length of a chunk that has room for exactly `count` payloads of `size` bytes, and the size to request.
+/// Both are in bytes.
+///
+/// Suppose that all payloads are requested with that size, and with an alignment of 16 or less. The chunk then refuses an
+/// allocation if and only if `count` payloads are live, so no byte is lost to fragmentation. The size to request is that
+/// of the payload of the least block that has room for `size` bytes and begins a class.
+///
+/// Returns `None` if and only if one of these holds:
+/// - No class has such a block.
+/// - The length doesn't fit in a `usize`.
+/// - The length is greater than that of the longest chunk.
 pub fn pool_size_for_objects<
     FLBitmap: BitPattern,
     SLBitmap: BitPattern,
@@ -144,13 +168,16 @@ pub fn pool_size_for_objects<
     Some((pool, block - 16))
 }
 
-/// Does nothing. Its contract states the laws of size classes, so that a check proves them.
-///
-/// What `map_ceil` gives for a size is the first class that reaches it: no class before it does. What
-/// `map_ceil_and_unmap` gives for a size is at least that, and is where the class of `map_ceil` begins; where `map_ceil`
-/// gives `None`, so does it. Where `max_pool_size` gives a length, the block 32 bytes shorter has a class and one of that
-/// length has none; no length that `pool_size_to_contain_allocation` gives is greater. A chunk of such a length has a
-/// block that reaches what is sought for the layout.
+/// Does nothing. Its contract states the laws of size classes, so that a check proves them:
+/// - `first`: `map_ceil` returns the first class that reaches the size; no class before it does.
+/// - `enough`: `map_ceil_and_unmap` returns at least the size.
+/// - `begins`: the class of `map_ceil` begins at what `map_ceil_and_unmap` returns.
+/// - `unreached`: if `map_ceil` returns `None`, so does `map_ceil_and_unmap`.
+/// - `longest`: if `max_pool_size` returns a length, a block 32 bytes shorter has a class, and one of that length has
+///   none.
+/// - `one_chunk`: no length that `pool_size_to_contain_allocation` returns is greater than that of `max_pool_size`.
+/// - `contained`: a chunk of a length that `pool_size_to_contain_allocation` returns has a block that reaches the sought
+///   size of the layout.
 pub fn laws()
     ensures first { MappedIsFirstReaching }
     ensures enough { UnmappedIsEnough }
@@ -185,7 +212,9 @@ fn within_rows<const FLLEN: usize>(class: (usize, usize)) -> Option<(usize, usiz
     if class.0 < FLLEN { Some(class) } else { None }
 }
 
-/// The class of a size, which is at least 32 bytes, where a row has `SLLEN` classes, a power of two. Its row may lie past an allocator's last one.
+/// Returns the class of `size`, in bytes, if a row has `SLLEN` classes. Its row may be past an allocator's last row.
+///
+/// `size` must be at least 32. `SLLEN` must be a power of two, at most 128.
 // The exponent of its row, 5 in the first one, is the position of its highest one. With that at position 63, the leading
 // positions, one more than a place has, are the number SLLEN + place.
 pub fn class_of<const SLLEN: usize>(size: usize) -> (usize, usize)

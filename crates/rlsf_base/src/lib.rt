@@ -1,4 +1,4 @@
-//! The address space that the allocators of this workspace stand on, and their size classes.
+//! The address space that the allocators of this workspace divide up, and their size classes.
 #![tactic(auto)]
 
 pub mod classes;

@@ -1,4 +1,4 @@
-//! Addresses, ranges and layouts, and the one block of bytes that they speak of.
+//! Addresses, ranges and layouts, and the one block of bytes that they refer to.
 ghost use Rattle.std.specs.Prelude.{◌≡◌, ◌+◌, ◌-◌, ◌%◌, ◌^◌, ◌<◌, ◌≤◌, ◌↔◌, length, replicate, IfOk, IsOk, IsErrOf};
 ghost use Rattle.std.specs.Borrow.{sem};
 ghost use Rattle.rlsf_base.specs.Range.{range_at, LiesIn};
@@ -24,12 +24,12 @@ pub use range::{Addr, Range};
 pub use view::View;
 use zeroed::{Supplier, take_zeroed};
 
-/// Why a `Memory` wasn't made. Each error has a number.
+/// The reason why a `Memory` was not created. Each error has a number.
 #[derive(Clone, Copy, Debug, PartialEq, Eq)]
 pub enum MemoryError {
     /// The start is zero, which is no address.
     ZeroStart = 1,
-    /// The end lies past the greatest address.
+    /// The end is past the greatest address.
     TooLong = 2,
     /// The system has no block of this length.
     OutOfMemory = 3,
@@ -37,8 +37,8 @@ pub enum MemoryError {
 
 /// The address space that allocators divide up: `len` bytes at the addresses from `start` on.
 ///
-/// It is one block of the system, aligned so that each multiple of 8 is the address of an aligned word. It counts,
-/// for contracts alone, how often words were touched and how many bytes were copied. It is as large as a `Vec<u8>`.
+/// It is one block of the system, aligned so that each multiple of 8 is the address of an aligned word. For contracts
+/// alone, it counts word accesses (touches) and copied bytes. It is as large as a `Vec<u8>`.
 pub struct Memory {
     base: Base,
     // What is added to an address to get its place in the block: the multiple of 8 below the first byte's address, negated.
@@ -84,10 +84,13 @@ impl Drop for Memory {
 impl Memory {
     ghost use Rattle.rlsf_base.specs.Lends.{LendsBytes};
 
-    /// Makes a memory of `len` zero bytes from the address `start` on.
+    /// Creates a memory of `len` zero bytes at the addresses from `start` on. If `len` is zero, the system is not asked
+    /// for memory.
     ///
-    /// Refused with `ZeroStart` if `start` is zero, else with `TooLong` if `start + len` passes the greatest address,
-    /// else with `OutOfMemory` if the system has no such block. A memory of no bytes asks the system for nothing.
+    /// Returns the first of these errors that applies:
+    /// - `ZeroStart` if `start` is zero
+    /// - `TooLong` if `start + len` is past the greatest address
+    /// - `OutOfMemory` if the system has no such block
     pub fn new(alloc: Global, start: usize, len: usize) -> Result<Memory, MemoryError>
         ensures zero_start { IsErrOf result MemoryError.ZeroStart ↔ (start ≡ 0) }
         ensures too_long { IsErrOf result MemoryError.TooLong ↔ ((1 ≤ start) × (2 ^ 64 ≤ start + len)) }
@@ -115,7 +118,7 @@ impl Memory {
         }
     }
 
-    /// The address of the first byte.
+    /// Returns the address of the first byte.
     pub fn start(&self) -> usize
         ensures value { result ≡ self.now.start }
         ensures bounds { (0 < self.now.start) × (self.now.start + length self.now.bytes < 2 ^ 64) }
@@ -123,7 +126,7 @@ impl Memory {
         self.shift.wrapping_neg() + self.len_and_skip % 8
     }
 
-    /// The number of bytes.
+    /// Returns the number of bytes.
     pub fn len(&self) -> usize
         ensures value { result ≡ length self.now.bytes }
         ensures bounds { (0 < self.now.start) × (self.now.start + length self.now.bytes < 2 ^ 64) }
@@ -131,14 +134,14 @@ impl Memory {
         self.len_and_skip / 8
     }
 
-    /// A view of the memory. It stays one, whatever is written there.
+    /// Returns a view of the memory. It stays a view of this memory, whatever is written there.
     pub fn view(&self) -> View
         ensures { result ≡ self.now.view }
     {
         View::new(self.base, self.shift)
     }
 
-    /// The bytes of `range`, which lies in the memory.
+    /// Returns the bytes of `range`, which must lie in the memory.
     pub fn slice(&self, range: Range) -> &[u8]
         requires { LiesIn range self.now.start (length self.now.bytes) }
         ensures { result.now ≡ bytes_in self.now range }
@@ -157,7 +160,10 @@ impl Memory {
             .slice(view.base, view.place(range.start), range.len)
     }
 
-    /// The bytes of `range`, which lies in the memory, to write to. What is left there stays; nothing else changes.
+    /// Returns the bytes of `range`, for reading and writing. When the borrow ends, the memory has the bytes that were
+    /// written. Nothing else changes.
+    ///
+    /// `range` must lie in the memory.
     pub fn slice_mut(&mut self, range: Range) -> &mut [u8]
         requires { LiesIn range self.old.start (length self.old.bytes) }
         ensures* writes_back { sem 𝓛 (LendsBytes self.entry range.start range.len result) }
@@ -179,7 +185,9 @@ impl Memory {
             .slice_mut(view.base, view.place(range.start), range.len)
     }
 
-    /// The word at `addr`, a multiple of 8 whose 8 bytes lie in the memory: these bytes, least first.
+    /// Returns the word at `addr`: the 8 bytes there, the least significant byte first.
+    ///
+    /// `addr` must be a multiple of 8, and the 8 bytes must lie in the memory.
     pub fn word(&self, addr: usize) -> u64
         requires { IsWord self.now addr }
         ensures { result ≡ word_at self.now addr }
@@ -203,7 +211,9 @@ impl Memory {
         }
     }
 
-    /// The word at `addr`, as `word` gives it, counted as one touch.
+    /// Returns the word at `addr`, as `word` does, and counts one touch. Nothing else changes.
+    ///
+    /// `addr` must be a multiple of 8, and the 8 bytes must lie in the memory.
     pub fn load(&mut self, addr: usize) -> u64
         requires { IsWord self.old addr }
         ensures word { result ≡ word_at self.old addr }
@@ -217,7 +227,9 @@ impl Memory {
         self.load_at(view, addr)
     }
 
-    /// The same, by a view of the memory.
+    /// Returns the word at `addr` by a view of the memory, as `load` does, and counts one touch. Nothing else changes.
+    ///
+    /// `view` must be a view of this memory. `addr` must be a multiple of 8, and the 8 bytes must lie in the memory.
     #[inline(always)]
     pub fn load_at(&mut self, view: View, addr: usize) -> u64
         requires place { IsWord self.old addr }
@@ -234,8 +246,10 @@ impl Memory {
         word
     }
 
-    /// Writes the word at `addr`, a multiple of 8 whose 8 bytes lie in the memory, least byte first, and counts one
-    /// touch. No other byte changes.
+    /// Writes `word` to the 8 bytes at `addr`, the least significant byte first, and counts one touch. No other byte
+    /// changes.
+    ///
+    /// `addr` must be a multiple of 8, and the 8 bytes must lie in the memory.
     pub fn set_word(&mut self, addr: usize, word: u64)
         requires { IsWord self.old addr }
         ensures start { self.new.start ≡ self.old.start }
@@ -249,7 +263,10 @@ impl Memory {
         self.set_word_at(view, addr, word);
     }
 
-    /// The same, by a view of the memory.
+    /// Writes `word` to the 8 bytes at `addr` by a view of the memory, as `set_word` does, and counts one touch. No other
+    /// byte changes.
+    ///
+    /// `view` must be a view of this memory. `addr` must be a multiple of 8, and the 8 bytes must lie in the memory.
     #[inline(always)]
     pub fn set_word_at(&mut self, view: View, addr: usize, word: u64)
         requires place { IsWord self.old addr }
@@ -279,8 +296,10 @@ impl Memory {
         self.counters.count_touch();
     }
 
-    /// Copies the bytes of `range` to the same number of bytes from `to` on, and adds this number to the copied
-    /// bytes. Both lie in the memory, and may overlap: what is written is what stood in `range` before.
+    /// Copies the bytes of `range` to the same number of bytes from `to` on, and adds this number to the copied bytes.
+    /// The two ranges may overlap: the bytes written are those of `range` before the call. No other byte changes.
+    ///
+    /// Both must lie in the memory.
     pub fn copy_within(&mut self, range: Range, to: usize)
         requires from { LiesIn range self.old.start (length self.old.bytes) }
         requires to { LiesIn (range_at to range.len) self.old.start (length self.old.bytes) }

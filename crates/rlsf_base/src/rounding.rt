@@ -1,12 +1,12 @@
-//! Rounding up to a multiple of a power of two. Neither function divides: an alignment that isn't a constant would make the
-//! processor do so.
+//! Rounding up to a multiple of a power of two. Neither function makes the processor divide, even if an alignment isn't a
+//! constant.
 
 ghost use Rattle.std.specs.Prelude.{◌≡◌, ◌^◌, ◌<◌};
 ghost use Rattle.std.specs.Int.{next_multiple_of};
 ghost use Rattle.rlsf_base.specs.PowerOfTwo.{IsPowerOfTwo};
 ghost use Rattle.rlsf_base.specs.Rounding.{round32};
 
-/// The least multiple of 32, the unit of blocks, that is at least `n`. It fits in a `usize`.
+/// Returns the least multiple of 32, the granularity of blocks, that is at least `n`. It must fit in a `usize`.
 pub fn next_multiple_of_32(n: usize) -> usize
     requires fits { round32 n < 2 ^ 64 }
     ensures value { result ≡ round32 n }
@@ -14,7 +14,8 @@ pub fn next_multiple_of_32(n: usize) -> usize
     (n + 31) / 32 * 32
 }
 
-/// The least multiple of `align`, a power of two, that is at least `n`. It fits in a `usize`.
+/// Returns the least multiple of `align` that is at least `n`. It must fit in a `usize`, and `align` must be a power of
+/// two.
 pub fn next_aligned(n: usize, align: usize) -> usize
     requires power { IsPowerOfTwo align }
     requires fits { next_multiple_of n align < 2 ^ 64 }

@@ -1,4 +1,4 @@
-//! The block of a memory: where it begins, the owner of its bytes, and the right to give it back.
+//! The block of a memory: its address, the owner of its bytes, and the right to deallocate it.
 ghost use Rattle.std.specs.Prelude.{◌≡◌, ℕ, ◌+◌, ◌-◌, ◌*◌, ◌^◌, ◌<◌, ◌≤◌, suc, List, [], ◌∷◌, ◌++◌, length, take, drop, IfSome};
 ghost use Rattle.std.specs.Borrow.{sem};
 ghost use base.Fml.{ftrue};
@@ -9,7 +9,7 @@ use std::alloc::Allocator;
 use std::marker::{Model, PhantomData, Send, Sync};
 use std::slice;
 
-/// Where the block begins. It owns nothing.
+/// The place at which the block begins. It owns nothing.
 #[derive(Clone, Copy)]
 pub(crate) struct Base {
     ptr: *mut u8,
@@ -19,8 +19,8 @@ unsafe impl Send for Base {}
 
 unsafe impl Sync for Base {}
 
-/// The owner of the block's bytes from its place `skip` on. It takes no space: the memory holds the pointer and
-/// the length.
+/// The owner of the block's bytes from its place `skip` on. It takes no space: the memory holds the pointer and the
+/// length.
 pub(crate) struct Bytes {
     mark: PhantomData<*const u8>,
     ghost at: { Ptr },
@@ -39,7 +39,7 @@ unsafe impl Send for Bytes {}
 
 unsafe impl Sync for Bytes {}
 
-/// The right to give the block of `words` words at `at` back to `alloc`, for the `len` bytes from `skip` on. It
+/// The right to deallocate, with `alloc`, the block of `words` words at `at`, for the `len` bytes from `skip` on. It
 /// takes no space.
 pub(crate) struct Deed<A: Allocator> {
     mark: PhantomData<*const A>,
@@ -61,7 +61,8 @@ unsafe impl<A: Allocator + Send> Send for Deed<A> {}
 // A `&` to it holds nothing.
 unsafe impl<A: Allocator> Sync for Deed<A> {}
 
-/// Asks for `words` words, and keeps of them the `len` bytes from the byte `skip` on.
+/// Allocates a block of `words` words, and keeps the `len` bytes from the byte `skip` on. Returns `None` if the allocator
+/// refuses.
 pub(crate) fn allocate<A: Allocator>(
     alloc: &A,
     words: usize,
@@ -81,7 +82,7 @@ pub(crate) fn allocate<A: Allocator>(
     }
 }
 
-/// Gives the block back.
+/// Deallocates the block.
 pub(crate) fn deallocate<A: Allocator>(
     alloc: &A,
     base: Base,
@@ -96,7 +97,7 @@ pub(crate) fn deallocate<A: Allocator>(
     unsafe { alloc.deallocate(base.ptr, words * 8, 8) }
 }
 
-/// No block: there is no byte, and nothing to give back.
+/// Returns the parts of no block: there is no byte, and nothing to deallocate.
 pub(crate) fn no_block<A: Allocator>(_alloc: &A, skip: usize) -> (Base, Bytes, Deed<A>)
     ensures { (result.1.at ≡ result.0.ptr) × (result.1.skip ≡ skip) × (result.1.bytes ≡ []) × (result.1.left ≡ 0) × (result.2.at ≡ null_ptr) }
 {
@@ -109,7 +110,7 @@ pub(crate) fn no_block<A: Allocator>(_alloc: &A, skip: usize) -> (Base, Bytes, D
     )
 }
 
-/// Lets go of what `no_block` made.
+/// Consumes what `no_block` returned.
 pub(crate) fn forget<A: Allocator>(bytes: Bytes, deed: Deed<A>)
     requires { (bytes.bytes ≡ []) × (bytes.left ≡ 0) × (deed.at ≡ null_ptr) }
 {
@@ -120,7 +121,7 @@ pub(crate) fn forget<A: Allocator>(bytes: Bytes, deed: Deed<A>)
 impl Bytes {
     ghost use Rattle.rlsf_base.specs.Steps.LentParts.{lends_part};
 
-    /// Writes the first byte that holds nothing yet. It is the place `place` of the block.
+    /// Writes the first byte that has no value yet. Its place in the block is `place`.
     pub(crate) fn push(&mut self, base: Base, place: usize, byte: u8)
         requires { (base.ptr ≡ self.old.at) × (place ≡ self.old.skip + length self.old.bytes) × (0 < self.old.left) }
         ensures { (self.new.at ≡ self.old.at) × (self.new.skip ≡ self.old.skip) × (self.new.bytes ≡ self.old.bytes ++ byte ∷ []) × (suc self.new.left ≡ self.old.left) }
@@ -128,7 +129,7 @@ impl Bytes {
         unsafe { base.ptr.add(place).write(byte) }
     }
 
-    /// The `len` bytes from the place `place` of the block on.
+    /// Returns the `len` bytes from the place `place` of the block on.
     #[inline(always)]
     pub(crate) fn slice(&self, base: Base, place: usize, len: usize) -> &[u8]
         requires { (base.ptr ≡ self.now.at) × (self.now.skip ≤ place) × (place + len ≤ self.now.skip + length self.now.bytes) }
@@ -137,7 +138,7 @@ impl Bytes {
         unsafe { slice::from_raw_parts(base.ptr.add(place), len) }
     }
 
-    /// The same, to write to.
+    /// Returns the `len` bytes from the place `place` of the block on, for reading and writing.
     #[inline(always)]
     pub(crate) fn slice_mut(&mut self, base: Base, place: usize, len: usize) -> &mut [u8]
         requires { (base.ptr ≡ self.old.at) × (self.old.skip ≤ place) × (place + len ≤ self.old.skip + length self.old.bytes) }

@@ -1,9 +1,9 @@
-//! Copies within a row of bytes.
+//! Copies within a slice of bytes.
 
 ghost use Rattle.std.specs.Prelude.{◌≡◌, ◌+◌, ◌≤◌, length};
 ghost use Rattle.core.specs.List.{copy_within};
 
-/// Copies the `len` bytes from `from` on to those from `to` on, as they stood before.
+/// Copies the `len` bytes from `from` on to the `len` bytes from `to` on. The bytes written are those before the call.
 // Parts that don't overlap are two slices, between which the compiler copies by `memmove`. A slice's own `copy_within` goes byte by
 // byte in one direction, and the compiler makes a loop of 32 bytes a turn of it.
 #[inline(always)]

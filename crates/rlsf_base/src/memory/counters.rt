@@ -4,7 +4,7 @@ ghost use Rattle.std.specs.Borrow.{ftrue};
 
 use std::marker::{Model, Send, Sync};
 
-/// How often words were touched, and how many bytes were copied, since the memory was made.
+/// The number of word accesses (touches), and of copied bytes, since the memory was created.
 #[derive(Drop)]
 pub(crate) struct Counters {
     ghost touches: { ℕ },

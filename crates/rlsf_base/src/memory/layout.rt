@@ -4,10 +4,10 @@ ghost use Rattle.rlsf_base.specs.Layout.{IsLayout};
 
 use crate::rounding::next_aligned;
 
-/// What a caller asks memory for: a size in bytes, and the alignment of its address.
+/// What a caller requests of an allocator: a size in bytes, and the alignment of the address.
 ///
-/// The alignment is a power of two and the size is at most `2^63 - align`, by the type: so the size
-/// rounded up to the alignment fits in an `isize`.
+/// By the type, the alignment is a power of two and the size is at most `2^63 - align`. So the size, rounded up to a
+/// multiple of the alignment, fits in an `isize`.
 #[derive(Clone, Copy, Debug, PartialEq, Eq)]
 pub struct Layout {
     /// The size in bytes.
@@ -17,14 +17,14 @@ pub struct Layout {
     pub ghost valid: { IsLayout size align },
 }
 
-/// No layout has the size and the alignment that were asked for.
+/// The error if no layout has the requested size and alignment.
 #[derive(Clone, Copy, Debug, PartialEq, Eq)]
 pub struct LayoutError;
 
 impl Layout {
-    /// The layout of `size` bytes whose address is a multiple of `align`.
+    /// Returns the layout of `size` bytes at an address that is a multiple of `align`.
     ///
-    /// Refused exactly where `align` is no power of two, or `size` is above `2^63 - align`.
+    /// Returns an error if and only if `align` is not a power of two, or `size` is above `2^63 - align`.
     pub fn from_size_align(size: usize, align: usize) -> Result<Layout, LayoutError>
         ensures succeeds { IsOk result ↔ IsLayout size align }
         ensures layout { IfOk result (λ l. (l.size ≡ size) × (l.align ≡ align)) }
@@ -36,7 +36,9 @@ impl Layout {
         }
     }
 
-    /// The same, for a caller that knows the size and the alignment to be those of a layout.
+    /// Returns the layout of `size` bytes at an address that is a multiple of `align`, without checking them.
+    ///
+    /// `align` must be a power of two, and `size` must be at most `2^63 - align`.
     pub fn from_size_align_unchecked(size: usize, align: usize) -> Layout
         requires { IsLayout size align }
         ensures { (result.size ≡ size) × (result.align ≡ align) }
@@ -44,7 +46,7 @@ impl Layout {
         Layout { size, align }
     }
 
-    /// The size in bytes.
+    /// Returns the size in bytes.
     pub fn size(&self) -> usize
         ensures value { result ≡ self.now.size }
         ensures valid { IsLayout self.now.size self.now.align }
@@ -52,7 +54,7 @@ impl Layout {
         self.size
     }
 
-    /// The alignment in bytes, a power of two.
+    /// Returns the alignment in bytes, a power of two.
     pub fn align(&self) -> usize
         ensures value { result ≡ self.now.align }
         ensures valid { IsLayout self.now.size self.now.align }
@@ -60,8 +62,8 @@ impl Layout {
         self.align
     }
 
-    /// The layout whose size is the least multiple of the alignment that is not below the size, with the
-    /// same alignment.
+    /// Returns the layout with the same alignment whose size is the least multiple of the alignment that is at least the
+    /// size.
     pub fn pad_to_align(&self) -> Layout
         ensures size { result.size ≡ next_multiple_of self.now.size self.now.align }
         ensures align { result.align ≡ self.now.align }
@@ -72,7 +74,7 @@ impl Layout {
         }
     }
 
-    /// The least multiple of the alignment that is at least `n`. It fits in a `usize`.
+    /// Returns the least multiple of the alignment that is at least `n`. It must fit in a `usize`.
     pub fn align_up(&self, n: usize) -> usize
         requires fits { next_multiple_of n self.now.align < 2 ^ 64 }
         ensures value { result ≡ next_multiple_of n self.now.align }

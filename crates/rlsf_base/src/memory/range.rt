@@ -5,8 +5,8 @@ pub type Addr = NonZeroUsize;
 
 /// The `len` bytes from the address `start` on.
 ///
-/// A range lies in a memory if it begins no earlier and ends no later than the memory. An empty range
-/// has a place too: it lies in a memory that has no byte there, at its very end for one.
+/// A range lies in a memory if it begins no earlier and ends no later than the memory. An empty range has a place too.
+/// For example, it may lie at the very end of a memory, which has no byte there.
 #[derive(Clone, Copy, Debug, PartialEq, Eq)]
 pub struct Range {
     /// The address of the first byte.

@@ -1,10 +1,10 @@
-//! Where the words of a memory lie.
+//! The place of a memory's words in the system's block.
 ghost use Rattle.std.specs.Prelude.{◌≡◌, ◌+◌, ◌%◌, ◌^◌};
 ghost use Rattle.rlsf_base.specs.Steps.Block.{view_of};
 
 use super::block::Base;
 
-/// Where the bytes of a memory lie, for reads and writes of words: it is made once, for many of them, and owns nothing.
+/// The place of a memory's bytes in the system's block, made once for many word accesses. It owns nothing.
 #[derive(Clone, Copy)]
 pub struct View {
     pub(crate) base: Base,
@@ -13,14 +13,14 @@ pub struct View {
 }
 
 impl View {
-    /// The view of a memory whose block begins at `base`, by what is added to an address to get its place there.
+    /// Returns the view of a memory whose block begins at `base`. An address plus `shift` is its place there.
     pub(crate) fn new(base: Base, shift: usize) -> View
         ensures { result ≡ view_of base shift }
     {
         View { base, shift }
     }
 
-    /// The place in the block of the byte at `addr`.
+    /// Returns the place in the block of the byte at `addr`.
     #[inline(always)]
     pub(crate) fn place(self, addr: usize) -> usize
         ensures { result ≡ (self.shift + addr) % 2 ^ 64 }

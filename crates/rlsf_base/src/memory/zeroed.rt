@@ -1,20 +1,20 @@
-//! The block of a memory, zeroed when it is taken, and the allocator of the system, to which it goes back.
+//! The block of a memory, zeroed when it is allocated, and the system's allocator, which deallocates it.
 ghost use Rattle.std.specs.Prelude.{◌≡◌, ◌+◌, ◌-◌, ◌/◌, ◌^◌, ◌≤◌, [], length, replicate, IfSome, IsSome};
 ghost use Rattle.rlsf_base.specs.Steps.Block.{IsSupplierOf, words_for};
 
 use super::block::{Base, Bytes, Deed, allocate, deallocate, forget, no_block};
 use std::alloc::Global;
 
-/// The allocator of the system that a block was taken from, and the right to give that block back. It takes no space.
+/// The system's allocator, with which a block was allocated, and the right to deallocate that block. It takes no space.
 ///
-/// No other module reaches the allocator in it: who has a supplier, or a reference to one, can't ask for memory, but only
-/// give the block back.
+/// No other module reaches the allocator in it. The owner of a supplier, or of a reference to one, can't allocate memory.
+/// It can only deallocate the block.
 pub(crate) struct Supplier {
     deed: Deed<Global>,
     alloc: Global,
 }
 
-/// The most bytes that a block has: no system has so many. They are whole words, and their number times 8 is a `usize`.
+/// The most bytes of a block: no system has so many. They are whole words, and their number times 8 fits in a `usize`.
 const MAX_LEN: usize = 0x1fff_ffff_ffff_fff8;
 
 fn words(skip: usize, len: usize) -> usize
@@ -34,7 +34,8 @@ fn fill_zero(bytes: &mut Bytes, base: Base, skip: usize, len: usize)
     }
 }
 
-/// Takes a block, and of it the `len` bytes from the byte `skip` on, all zero. No block is taken for no bytes.
+/// Allocates a block, and returns its `len` bytes from the byte `skip` on, all zero. If `len` is zero, no block is
+/// allocated.
 pub(crate) fn take_zeroed(alloc: Global, skip: usize, len: usize) -> Option<(Base, Bytes, Supplier)>
     requires { skip ≤ 7 }
     ensures bytes { IfSome result (λ r. (r.0.ptr ≡ r.1.at) × (r.1.skip ≡ skip) × (r.1.bytes ≡ replicate len 0) × (r.1.left ≡ 0) × (skip + len ≤ 2 ^ 61 - 8)) }
@@ -54,7 +55,7 @@ pub(crate) fn take_zeroed(alloc: Global, skip: usize, len: usize) -> Option<(Bas
 }
 
 impl Supplier {
-    /// Gives the block back, if there is one.
+    /// Deallocates the block, if there is one.
     pub(crate) fn give_back(self, base: Base, skip: usize, len: usize, bytes: Bytes)
         requires bytes { (base.ptr ≡ bytes.at) × (bytes.skip ≡ skip) × (length bytes.bytes ≡ len) × (bytes.left ≡ 0) × (skip + len ≤ 2 ^ 63 - 8) }
         requires supplier { IsSupplierOf base skip len self }
