@@ -1,4 +1,4 @@
-//! What calls answer: numbers, which C knows.
+//! The values that calls return to C: numbers and structs of numbers.
 
 ghost use Rattle.std.specs.Prelude.{◌≡◌};
 ghost use Rattle.rlsf_c.specs.Answers.{answer_of, code_of, number_of, place_of, refused_by};
@@ -9,10 +9,10 @@ use rlsf_checked::CheckedError;
 /// No error.
 pub(crate) const OK: usize = 0;
 
-/// There is no such kind of pools. This number and those that follow stand behind those of a `CheckedError`.
+/// There is no such kind of pool. This number and those that follow come after the numbers of `CheckedError`.
 pub(crate) const NO_KIND: usize = 11;
 
-/// 0 is no address.
+/// The memory starts at 0, which is no address.
 pub(crate) const ZERO_START: usize = 12;
 
 /// The end of a memory lies past the greatest address.
@@ -21,45 +21,45 @@ pub(crate) const TOO_LONG: usize = 13;
 /// No block begins at an address or behind it.
 pub(crate) const NO_BLOCK: usize = 14;
 
-/// A number, or why there is none.
+/// A number, or the error because of which there is none.
 #[repr(C)]
 #[derive(Clone, Copy)]
 pub struct Answer {
     /// 0, or the number of an error.
     pub error: usize,
-    /// The number, or 0.
+    /// The number, or 0 on an error.
     pub value: usize,
 }
 
-/// A block, or why there is none.
+/// A block, or the error because of which there is none.
 #[repr(C)]
 #[derive(Clone, Copy)]
 pub struct BlockAnswer {
     /// 0, or the number of an error.
     pub error: usize,
-    /// Where the block begins, or 0.
+    /// The address at which the block begins, or 0 on an error.
     pub start: usize,
-    /// How many bytes it has with its header, or 0.
+    /// The length of the block in bytes, with its header, or 0 on an error.
     pub len: usize,
-    /// 1 if it is used, else 0.
+    /// 1 if the block is used, else 0.
     pub used: usize,
 }
 
-/// What blocks come to.
+/// The totals of some blocks.
 #[repr(C)]
 #[derive(Clone, Copy)]
 pub struct Statistics {
-    /// How many payloads live, one in each used block.
+    /// The number of live payloads, one in each used block.
     pub payloads: usize,
-    /// The bytes of all used blocks, with their headers.
+    /// The total length of all used blocks in bytes, with their headers.
     pub used: usize,
-    /// The bytes of all free blocks.
+    /// The total length of all free blocks in bytes.
     pub free: usize,
-    /// The bytes of the longest free block, or 0.
+    /// The length of the longest free block in bytes, or 0 if there is none.
     pub longest: usize,
 }
 
-/// The number of an error.
+/// Returns the number of an error.
 pub(crate) fn number(error: CheckedError) -> usize
     ensures { result ≡ number_of error }
 {
@@ -77,7 +77,7 @@ pub(crate) fn number(error: CheckedError) -> usize
     }
 }
 
-/// An answer that is an error.
+/// Returns an error as an `Answer`.
 pub(crate) fn refused(error: CheckedError) -> Answer
     ensures { result ≡ refused_by error }
 {
@@ -87,7 +87,7 @@ pub(crate) fn refused(error: CheckedError) -> Answer
     }
 }
 
-/// A number as an answer.
+/// Returns a number or an error as an `Answer`.
 pub(crate) fn to_answer(outcome: Result<usize, CheckedError>) -> Answer
     ensures { result ≡ answer_of outcome }
 {
@@ -97,7 +97,7 @@ pub(crate) fn to_answer(outcome: Result<usize, CheckedError>) -> Answer
     }
 }
 
-/// An address as an answer.
+/// Returns an address or an error as an `Answer`.
 pub(crate) fn to_place(outcome: Result<Addr, CheckedError>) -> Answer
     ensures { result ≡ place_of outcome }
 {
@@ -110,7 +110,7 @@ pub(crate) fn to_place(outcome: Result<Addr, CheckedError>) -> Answer
     }
 }
 
-/// 0, or the number of an error.
+/// Returns 0, or the number of the error.
 pub(crate) fn to_code(outcome: Result<(), CheckedError>) -> usize
     ensures { result ≡ code_of outcome }
 {

@@ -11,7 +11,7 @@ use rlsf_base::memory::{Addr, Layout, Range};
 use rlsf_checked::{CheckedError, CheckedTlsf};
 use rlsf_int::BitPattern;
 
-/// Hands a range in.
+/// Inserts a range of the memory.
 pub(crate) fn insert<F: BitPattern, S: BitPattern, const FLLEN: usize, const SLLEN: usize>(
     heap: &mut CheckedTlsf<F, S, FLLEN, SLLEN>,
     range: Range,
@@ -21,7 +21,7 @@ pub(crate) fn insert<F: BitPattern, S: BitPattern, const FLLEN: usize, const SLL
     to_answer(heap.insert(range))
 }
 
-/// Makes what was handed in last longer.
+/// Appends a range to the last pool.
 pub(crate) fn append<F: BitPattern, S: BitPattern, const FLLEN: usize, const SLLEN: usize>(
     heap: &mut CheckedTlsf<F, S, FLLEN, SLLEN>,
     range: Range,
@@ -45,7 +45,7 @@ pub(crate) fn allocate<F: BitPattern, S: BitPattern, const FLLEN: usize, const S
     }
 }
 
-/// What an allocation is answered where there is no allocator.
+/// Returns the error of an allocation if there is no allocator: `NoLayout` if no layout has the size and alignment, else `NoRoom`.
 pub(crate) fn allocate_nothing(size: usize, align: usize) -> Answer
     ensures { Allocates nothing size align result nothing }
 {
@@ -55,7 +55,7 @@ pub(crate) fn allocate_nothing(size: usize, align: usize) -> Answer
     }
 }
 
-/// Gives a payload back.
+/// Deallocates a payload.
 pub(crate) fn free<F: BitPattern, S: BitPattern, const FLLEN: usize, const SLLEN: usize>(
     heap: &mut CheckedTlsf<F, S, FLLEN, SLLEN>,
     addr: usize,
@@ -69,7 +69,7 @@ pub(crate) fn free<F: BitPattern, S: BitPattern, const FLLEN: usize, const SLLEN
     }
 }
 
-/// Gives a payload another size.
+/// Changes the size of a payload.
 pub(crate) fn realloc<F: BitPattern, S: BitPattern, const FLLEN: usize, const SLLEN: usize>(
     heap: &mut CheckedTlsf<F, S, FLLEN, SLLEN>,
     addr: usize,
@@ -84,7 +84,7 @@ pub(crate) fn realloc<F: BitPattern, S: BitPattern, const FLLEN: usize, const SL
     }
 }
 
-/// Gives a payload another size where it stands.
+/// Changes the size of a payload without moving it.
 pub(crate) fn realloc_no_move<F: BitPattern, S: BitPattern, const FLLEN: usize, const SLLEN: usize>(
     heap: &mut CheckedTlsf<F, S, FLLEN, SLLEN>,
     addr: usize,
@@ -99,7 +99,7 @@ pub(crate) fn realloc_no_move<F: BitPattern, S: BitPattern, const FLLEN: usize, 
     }
 }
 
-/// How many bytes of a payload its caller may use.
+/// Returns the number of usable bytes of a payload.
 pub(crate) fn usable<F: BitPattern, S: BitPattern, const FLLEN: usize, const SLLEN: usize>(
     heap: &CheckedTlsf<F, S, FLLEN, SLLEN>,
     addr: usize,

@@ -6,7 +6,7 @@ ghost use Rattle.rlsf_c.specs.Lengths.{IsLengthForAllocation, IsLengthForPayload
 use rlsf_base::classes::{pool_size_for_payloads, pool_size_to_contain_allocation};
 use rlsf_base::memory::Layout;
 
-/// The length that never refuses payloads up to a layout, while `count` or fewer are live, or 0.
+/// Returns the length in bytes of a pool that refuses no payload up to a layout while at most `count` are live, or 0.
 pub(crate) fn for_payloads(kind: usize, count: usize, size: usize, align: usize) -> usize
     ensures { IsLengthForPayloads kind count size align result }
 {
@@ -21,7 +21,7 @@ pub(crate) fn for_payloads(kind: usize, count: usize, size: usize, align: usize)
     len.unwrap_or(0)
 }
 
-/// The least length in which a layout is allocated while nothing lives there, or 0.
+/// Returns the least length in bytes of a pool that can allocate a layout while nothing is live there, or 0.
 pub(crate) fn for_allocation(kind: usize, size: usize, align: usize) -> usize
     ensures { IsLengthForAllocation kind size align result }
 {

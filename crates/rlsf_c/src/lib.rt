@@ -1,4 +1,4 @@
-//! The allocator for C and Rust programs: calls over a handle, behind which a pool lies. `include/rlsf.h` declares them.
+//! The allocator for C and Rust programs: calls over a handle that holds a pool. `include/rlsf.h` declares them.
 #![tactic(auto)]
 
 ghost use Rattle.std.specs.Borrow.{sem};
@@ -21,7 +21,7 @@ use pool::{Pool, finish};
 use std::alloc::Global;
 use std::mem::size_of;
 
-/// How many bytes a pool takes at its handle.
+/// Returns the size of a handle in bytes.
 #[unsafe(no_mangle)]
 pub extern "C" fn rlsf_size() -> usize
     ensures { result ≡ room_size }
@@ -29,8 +29,10 @@ pub extern "C" fn rlsf_size() -> usize
     size_of::<Pool>()
 }
 
-/// The length of a range, from a multiple of 32 on, in which no payload of up to `size` bytes and a multiple of `align` is refused
-/// while at most `count` live. 0 where there is no such kind, no such layout or no such length.
+/// Returns the length in bytes of a range that refuses no payload of up to `size` bytes and an alignment of up to `align`. This holds while
+/// at most `count` payloads are live, if the range starts at a multiple of 32.
+///
+/// Returns 0 if there is no such kind, no such layout or no such length.
 #[unsafe(no_mangle)]
 pub extern "C" fn rlsf_pool_length_for_payloads(
     kind: usize,
@@ -43,8 +45,10 @@ pub extern "C" fn rlsf_pool_length_for_payloads(
     lengths::for_payloads(kind, count, size, align)
 }
 
-/// The least length of a range, from a multiple of 32 on, in which such a payload is allocated while nothing lives there. 0 where there
-/// is no such kind, no such layout or no such length.
+/// Returns the least length in bytes of a range in which a payload of `size` bytes, aligned to `align`, can be allocated. This holds while
+/// nothing is live there, if the range starts at a multiple of 32.
+///
+/// Returns 0 if there is no such kind, no such layout or no such length.
 #[unsafe(no_mangle)]
 pub extern "C" fn rlsf_pool_length_for_allocation(kind: usize, size: usize, align: usize) -> usize
     ensures { IsLengthForAllocation kind size align result }
@@ -52,7 +56,8 @@ pub extern "C" fn rlsf_pool_length_for_allocation(kind: usize, size: usize, alig
     lengths::for_allocation(kind, size, align)
 }
 
-/// Makes a pool where there is room for one. Answers 0, or why there is none: then all calls find a pool without an address.
+/// Makes a pool in memory that has room for one. Returns 0, or the error because of which there is no pool. After an error, all calls find
+/// a pool whose memory has no address.
 #[unsafe(no_mangle)]
 pub unsafe extern "C" fn rlsf_init(
     pool: *mut u8,
@@ -68,7 +73,7 @@ pub unsafe extern "C" fn rlsf_init(
     Pool::status(&mut *(pool as *mut Pool))
 }
 
-/// Ends a pool. What remains is room for one.
+/// Drops a pool. Its handle is again room for a pool.
 #[unsafe(no_mangle)]
 pub unsafe extern "C" fn rlsf_destroy(pool: *mut u8)
     ghost before: { PoolValue }
@@ -78,7 +83,7 @@ pub unsafe extern "C" fn rlsf_destroy(pool: *mut u8)
     finish(std::ptr::read(pool as *const Pool));
 }
 
-/// How many addresses the memory has.
+/// Returns the number of addresses of the memory. Nothing changes.
 #[unsafe(no_mangle)]
 pub unsafe extern "C" fn rlsf_len(pool: *mut u8) -> usize
     ghost before: { PoolValue }
@@ -88,7 +93,7 @@ pub unsafe extern "C" fn rlsf_len(pool: *mut u8) -> usize
     Pool::len(&mut *(pool as *mut Pool))
 }
 
-/// Hands a range of the memory in. Answers the bytes from its start up to the last chunk's end.
+/// Inserts a range of the memory. Returns the number of bytes from its start to the end of its last chunk.
 #[unsafe(no_mangle)]
 pub unsafe extern "C" fn rlsf_insert(pool: *mut u8, start: usize, len: usize) -> Answer
     ghost before: { PoolValue }
@@ -98,7 +103,7 @@ pub unsafe extern "C" fn rlsf_insert(pool: *mut u8, start: usize, len: usize) ->
     Pool::insert(&mut *(pool as *mut Pool), start, len)
 }
 
-/// Makes what was handed in last longer. Answers how many bytes are taken.
+/// Appends a range to the last inserted one. Returns the number of bytes taken.
 #[unsafe(no_mangle)]
 pub unsafe extern "C" fn rlsf_append(pool: *mut u8, start: usize, len: usize) -> Answer
     ghost before: { PoolValue }
@@ -108,7 +113,7 @@ pub unsafe extern "C" fn rlsf_append(pool: *mut u8, start: usize, len: usize) ->
     Pool::append(&mut *(pool as *mut Pool), start, len)
 }
 
-/// Allocates a payload. Answers its address.
+/// Allocates a payload. Returns its address.
 #[unsafe(no_mangle)]
 pub unsafe extern "C" fn rlsf_allocate(pool: *mut u8, size: usize, align: usize) -> Answer
     ghost before: { PoolValue }
@@ -118,7 +123,7 @@ pub unsafe extern "C" fn rlsf_allocate(pool: *mut u8, size: usize, align: usize)
     Pool::allocate(&mut *(pool as *mut Pool), size, align)
 }
 
-/// Gives a payload back.
+/// Deallocates a payload.
 #[unsafe(no_mangle)]
 pub unsafe extern "C" fn rlsf_free(pool: *mut u8, addr: usize) -> usize
     ghost before: { PoolValue }
@@ -128,7 +133,7 @@ pub unsafe extern "C" fn rlsf_free(pool: *mut u8, addr: usize) -> usize
     Pool::free(&mut *(pool as *mut Pool), addr)
 }
 
-/// Gives a payload another size, and moves it where it must. Answers its address.
+/// Changes the size of a payload, and moves it if necessary. Returns its address.
 #[unsafe(no_mangle)]
 pub unsafe extern "C" fn rlsf_realloc(pool: *mut u8, addr: usize, size: usize) -> Answer
     ghost before: { PoolValue }
@@ -138,7 +143,7 @@ pub unsafe extern "C" fn rlsf_realloc(pool: *mut u8, addr: usize, size: usize) -
     Pool::realloc(&mut *(pool as *mut Pool), addr, size)
 }
 
-/// Gives a payload another size where it stands. Answers its address.
+/// Changes the size of a payload without moving it. Returns its address.
 #[unsafe(no_mangle)]
 pub unsafe extern "C" fn rlsf_realloc_no_move(pool: *mut u8, addr: usize, size: usize) -> Answer
     ghost before: { PoolValue }
@@ -148,7 +153,7 @@ pub unsafe extern "C" fn rlsf_realloc_no_move(pool: *mut u8, addr: usize, size: 
     Pool::realloc_no_move(&mut *(pool as *mut Pool), addr, size)
 }
 
-/// How many bytes of a payload its caller may use.
+/// Returns the number of usable bytes of a payload. Nothing changes.
 #[unsafe(no_mangle)]
 pub unsafe extern "C" fn rlsf_usable(pool: *mut u8, addr: usize) -> Answer
     ghost before: { PoolValue }
@@ -158,7 +163,7 @@ pub unsafe extern "C" fn rlsf_usable(pool: *mut u8, addr: usize) -> Answer
     Pool::usable(&mut *(pool as *mut Pool), addr)
 }
 
-/// Reads the bytes of a payload from an offset on.
+/// Reads bytes of a payload, from an offset on. The pool is unchanged.
 #[unsafe(no_mangle)]
 pub unsafe extern "C" fn rlsf_read(
     pool: *mut u8,
@@ -173,7 +178,7 @@ pub unsafe extern "C" fn rlsf_read(
     Pool::read(&mut *(pool as *mut Pool), addr, offset, into)
 }
 
-/// Writes bytes over those of a payload from an offset on.
+/// Overwrites bytes of a payload, from an offset on.
 #[unsafe(no_mangle)]
 pub unsafe extern "C" fn rlsf_write(
     pool: *mut u8,
@@ -188,7 +193,7 @@ pub unsafe extern "C" fn rlsf_write(
     Pool::write(&mut *(pool as *mut Pool), addr, offset, bytes)
 }
 
-/// What the blocks of what was handed in last come to.
+/// Returns the totals of the blocks of the last inserted range, with everything appended to it. Nothing changes.
 #[unsafe(no_mangle)]
 pub unsafe extern "C" fn rlsf_stats(pool: *mut u8) -> Statistics
     ghost before: { PoolValue }
@@ -198,7 +203,8 @@ pub unsafe extern "C" fn rlsf_stats(pool: *mut u8) -> Statistics
     Pool::stats(&mut *(pool as *mut Pool))
 }
 
-/// The first block of what was handed in last that begins at an address or behind it.
+/// Returns the first block that begins at an address or behind it. It considers the blocks of the last inserted range, with everything
+/// appended to it. Nothing changes.
 #[unsafe(no_mangle)]
 pub unsafe extern "C" fn rlsf_walk(pool: *mut u8, from: usize) -> BlockAnswer
     ghost before: { PoolValue }

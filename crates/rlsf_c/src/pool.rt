@@ -14,18 +14,18 @@ use rlsf_base::memory::{Memory, Range};
 use rlsf_checked::{CheckedError, CheckedTlsf};
 use std::alloc::Global;
 
-/// A checked allocator of one of two kinds, or the number of the error why there is none.
+/// A checked allocator of one of two kinds, or the number of the error because of which there is none.
 #[derive(Drop)]
 pub enum Pool {
     /// No allocator. All calls find a memory without an address.
     Refused(usize),
-    /// 12 rows of 16 classes.
+    /// 12 first-level rows of 16 size classes.
     Small(CheckedTlsf<u16, u16, 12, 16>),
-    /// 64 rows of 64 classes.
+    /// 64 first-level rows of 64 size classes.
     Large(CheckedTlsf<u64, u64, 64, 64>),
 }
 
-/// Why no pool can be made, as the number of an error.
+/// Returns the number of the error because of which no pool can be made, if there is one.
 fn refusal(kind: usize, start: usize, len: usize) -> Option<usize>
     ensures { result ≡ init_refusal kind start len }
 {
@@ -42,7 +42,7 @@ fn refusal(kind: usize, start: usize, len: usize) -> Option<usize>
 }
 
 impl Pool {
-    /// A pool of a kind over a memory with these addresses, of which none was handed in yet.
+    /// Returns a pool of a kind over a memory with these addresses. No range of it is inserted yet.
     pub fn new(alloc: Global, kind: usize, start: usize, len: usize) -> Pool
         ensures { IsMade kind start len result }
     {
@@ -65,7 +65,7 @@ impl Pool {
         }
     }
 
-    /// 0, or why there is no allocator.
+    /// Returns 0, or the error because of which there is no allocator.
     pub fn status(&mut self) -> usize
         ensures { (result ≡ status_of self.old) × (self.new ≡ self.old) }
     {
@@ -75,7 +75,7 @@ impl Pool {
         }
     }
 
-    /// How many addresses the memory has.
+    /// Returns the number of addresses of the memory.
     pub fn len(&mut self) -> usize
         ensures { (result ≡ (seen self.old).memory.len) × (self.new ≡ self.old) }
     {
@@ -86,7 +86,7 @@ impl Pool {
         }
     }
 
-    /// Hands a range in.
+    /// Inserts a range of the memory.
     pub fn insert(&mut self, start: usize, len: usize) -> Answer
         ensures { Inserts (insert_result self.old (range_at start len)) (seen self.old) start result (seen self.new) }
     {
@@ -97,7 +97,7 @@ impl Pool {
         }
     }
 
-    /// Makes what was handed in last longer.
+    /// Appends a range to the last pool.
     pub fn append(&mut self, start: usize, len: usize) -> Answer
         ensures { Appends (append_result self.old (range_at start len)) (seen self.old) result (seen self.new) }
     {
@@ -119,7 +119,7 @@ impl Pool {
         }
     }
 
-    /// Gives a payload back.
+    /// Deallocates a payload.
     pub fn free(&mut self, addr: usize) -> usize
         ensures { Frees (seen self.old) addr result (seen self.new) }
     {
@@ -130,7 +130,7 @@ impl Pool {
         }
     }
 
-    /// Gives a payload another size.
+    /// Changes the size of a payload.
     pub fn realloc(&mut self, addr: usize, size: usize) -> Answer
         ensures { Resizes (seen self.old) addr size result (seen self.new) }
     {
@@ -141,7 +141,7 @@ impl Pool {
         }
     }
 
-    /// Gives a payload another size where it stands.
+    /// Changes the size of a payload without moving it.
     pub fn realloc_no_move(&mut self, addr: usize, size: usize) -> Answer
         ensures { ResizesThere (seen self.old) addr size result (seen self.new) }
     {
@@ -152,7 +152,7 @@ impl Pool {
         }
     }
 
-    /// How many bytes of a payload its caller may use.
+    /// Returns the number of usable bytes of a payload.
     pub fn usable(&mut self, addr: usize) -> Answer
         ensures { Tells (seen self.old) addr result × (self.new ≡ self.old) }
     {
@@ -185,7 +185,7 @@ impl Pool {
         }
     }
 
-    /// What the blocks of what was handed in last come to.
+    /// Returns the totals of the blocks of the last pool.
     pub fn stats(&mut self) -> Statistics
         ensures { IsSummary (seen self.old) result × (self.new ≡ self.old) }
     {
@@ -196,7 +196,7 @@ impl Pool {
         }
     }
 
-    /// The first block of what was handed in last that begins at an address or behind it.
+    /// Returns the first block of the last pool that begins at an address or behind it.
     pub fn walk(&mut self, from: usize) -> BlockAnswer
         ensures { IsNext (seen self.old) from result × (self.new ≡ self.old) }
     {
@@ -208,7 +208,7 @@ impl Pool {
     }
 }
 
-/// A pool as it is: by the bound, all that it owns may go to another thread between two calls.
+/// Returns the pool unchanged. Its bound shows that everything a pool owns may move to another thread between two calls.
 pub fn handed_over(pool: Pool) -> Pool
     ensures { result ≡ pool }
 {

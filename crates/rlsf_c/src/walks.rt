@@ -1,4 +1,4 @@
-//! What is told of blocks.
+//! Statistics and iteration over blocks.
 
 ghost use Rattle.std.specs.Prelude.{◌≡◌, ◌+◌, ◌≤◌};
 ghost use Rattle.rlsf_blocks.specs.Blocks.{IsInOrder};
@@ -8,7 +8,7 @@ use crate::answers;
 use crate::answers::{BlockAnswer, OK, Statistics};
 use rlsf_blocks::{BlockInfo, Blocks};
 
-/// What no blocks come to.
+/// The totals of no blocks.
 pub(crate) const NOTHING: Statistics = Statistics {
     payloads: 0,
     used: 0,
@@ -16,7 +16,7 @@ pub(crate) const NOTHING: Statistics = Statistics {
     longest: 0,
 };
 
-/// The answer where there is no block.
+/// The value returned if there is no block.
 pub(crate) const NO_BLOCK: BlockAnswer = BlockAnswer {
     error: answers::NO_BLOCK,
     start: 0,
@@ -24,7 +24,7 @@ pub(crate) const NO_BLOCK: BlockAnswer = BlockAnswer {
     used: 0,
 };
 
-/// What blocks come to with one block more, which lies behind as many bytes.
+/// Adds one block to some totals. As many bytes as they count lie before the block.
 fn counted(sum: Statistics, block: BlockInfo) -> Statistics
     requires behind { sum.used + sum.free ≤ block.range.start }
     requires few { sum.payloads ≤ sum.used }
@@ -47,7 +47,7 @@ fn counted(sum: Statistics, block: BlockInfo) -> Statistics
     }
 }
 
-/// What blocks come to.
+/// Returns the totals of some blocks.
 pub(crate) fn summary(blocks: Blocks<'_>) -> Statistics
     requires { IsInOrder blocks }
     ensures { IsSummaryOf blocks.entry result }
@@ -60,7 +60,7 @@ pub(crate) fn summary(blocks: Blocks<'_>) -> Statistics
     sum
 }
 
-/// The first block that begins at an address or behind it.
+/// Returns the first block that begins at an address or behind it.
 pub(crate) fn next_block(blocks: Blocks<'_>, from: usize) -> BlockAnswer
     ensures { result ≡ block_of (first_from from blocks.entry) }
 {
