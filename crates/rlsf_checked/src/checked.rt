@@ -1,4 +1,4 @@
-//! The allocator with a mark for each address at which a payload may live.
+//! The allocator with a mark for each address at which a payload may be live.
 
 ghost use Rattle.std.specs.Prelude.{◌≡◌, ◌≢◌, ◌≤◌, ◌<◌, ◌+◌, ◌*◌, ◌%◌, ◌^◌, ℕ, length, drop, take, nat_le, is_some, if◌then◌else◌, IfErr, IfOk, IfSome, IsErrOf, IsOk, IsSome, None, OnErr, OnOk, Some, ◌↔◌};
 ghost use Rattle.std.specs.List.{splice};
@@ -33,10 +33,10 @@ use rlsf_tlsf::Tlsf;
 use std::alloc::Global;
 use std::marker::Model;
 
-/// An allocator whose calls have no condition: each tests what its caller may not do, and refuses it.
+/// An allocator whose calls have no preconditions: each call tests its arguments, and refuses those that a caller may not pass.
 ///
-/// A byte for each 16 addresses of the memory tells whether a payload lives there, and with which alignment. Each call reads one of
-/// them and writes two at most. After `new` nothing is asked of the system.
+/// A mark is a byte for each 16 addresses of the memory. It records whether a payload begins there, and with which alignment. Each call
+/// reads one mark and writes at most two. After `new`, the allocator requests nothing from the system.
 #[derive(Drop)]
 pub struct CheckedTlsf<
     FLBitmap: BitPattern,
@@ -68,11 +68,14 @@ impl<FLBitmap: Bitmap, SLBitmap: Bitmap, const FLLEN: usize, const SLLEN: usize>
     FLLEN,
     SLLEN,
 > {
-    /// An allocator over the memory, without a pool, and with the marks of the memory, for which the system is asked: a byte for each
-    /// 16 addresses.
+    /// Creates an allocator over the memory, without a pool. The system is asked for the marks: a byte for each 16 addresses.
     ///
-    /// `InvalidClasses` exactly where the parameters aren't valid: there are from 1 to `FLBitmap`'s bits rows, of a power of two of
-    /// classes that is at most `SLBitmap`'s bits. Else `OutOfMemory` where the system refuses. Then the memory is dropped.
+    /// Returns `InvalidClasses` exactly if the parameters are invalid. They are valid if both of these hold:
+    ///
+    /// - `FLLEN`, the number of first-level rows, is between 1 and the number of bits of `FLBitmap`.
+    /// - `SLLEN`, the number of classes of a row, is a power of two and at most the number of bits of `SLBitmap`.
+    ///
+    /// Else returns `OutOfMemory` if the system refuses the marks. On an error the memory is dropped.
     pub fn new(alloc: Global, memory: Memory) -> Result<Self, CheckedError>
         ensures invalid { IsErrOf result InvalidClasses ↔ (IsValid FLBitmap.width SLBitmap.width FLLEN SLLEN → ⊥) }
         ensures refused { IfErr result (λ e. e ≢ InvalidClasses → e ≡ OutOfMemory) }
@@ -106,7 +109,7 @@ impl<
     const FLLEN: usize,
     const SLLEN: usize,
 > CheckedTlsf<FLBitmap, SLBitmap, FLLEN, SLLEN> {
-    /// The memory, to read.
+    /// Returns the memory, for reading.
     pub fn memory_ref(&self) -> &Memory
         ensures memory { result.now ≡ self.now.heap.memory }
         ensures stands { Stands FLLEN SLLEN self.now.heap }
@@ -114,7 +117,7 @@ impl<
         self.heap.memory_ref()
     }
 
-    /// The alignment of the payload at an address, or `None` where none lives.
+    /// Returns the alignment of the payload at an address, or `None` if none is live there.
     fn alignment(&self, addr: Addr) -> Option<usize>
         ensures value { result ≡ align_at self.now.heap.state (at addr) }
         ensures power { IfSome result (λ align. IsPowerOfTwo align) }
@@ -126,12 +129,19 @@ impl<
         Some(align_of(mark))
     }
 
-    /// Hands a range of the memory in. Its aligned part becomes chunks, which are free; no chunk is made of fewer than 64 bytes.
-    /// Answers the bytes from the range's start up to the last chunk's end. Where nothing lives, a range from a multiple of 32 on that has
-    /// a length of `pool_size_for_payloads` sizes the allocator for these bounds (`IsSizedFor`).
+    /// Inserts a range of the memory. Its aligned part becomes free chunks. No chunk has fewer than 64 bytes.
     ///
-    /// `OutsideMemory` exactly where the range doesn't lie in the memory, else `NotBehind` exactly where it begins before the end of what
-    /// was handed in last, else `TooShort` exactly where no chunk is made of it. Then nothing changes.
+    /// Returns the number of bytes from the start of the range to the end of its last chunk. The range becomes the last pool, up to that
+    /// end. All payloads keep their bytes.
+    ///
+    /// If nothing is live, a range sizes the allocator for some bounds (`IsSizedFor`) under two conditions: its start is a multiple of 32,
+    /// and its length is at least `pool_size_for_payloads` of these bounds.
+    ///
+    /// Refuses, and changes nothing:
+    ///
+    /// - `OutsideMemory` exactly if the range doesn't lie in the memory.
+    /// - else `NotBehind` exactly if the range begins before the end of the last pool.
+    /// - else `TooShort` exactly if no chunk can be made of the range.
     pub fn insert(&mut self, range: Range) -> Result<usize, CheckedError>
         ensures answer { result ≡ insert_answer FLLEN self.old range }
         ensures step { OnOk result (Steps FLLEN SLLEN self.old.heap self.new.heap (Inserts FLLEN self.old.heap.state range (taken result))) }
@@ -165,12 +175,17 @@ impl<
         Ok(taken.get())
     }
 
-    /// Hands in a range of the memory that begins where what was handed in last ends, which it makes longer. Where chunks have a
-    /// greatest length, the range becomes chunks of its own; else the last chunk grows by the range's length rounded down to a multiple
-    /// of 32. Answers how many bytes are taken.
+    /// Appends a range of the memory, which begins at the end of the last pool, to that pool. Returns the number of bytes taken. All
+    /// payloads keep their bytes.
     ///
-    /// `OutsideMemory` exactly where the range doesn't lie in the memory, else `NotNext` exactly where it doesn't begin at the end of what
-    /// was handed in last, or nothing was, else `TooShort` exactly where no byte of it is taken. Then nothing changes.
+    /// If chunks have a greatest length, the range becomes chunks of its own. Else the last chunk grows by the length of the range, rounded
+    /// down to a multiple of 32.
+    ///
+    /// Refuses, and changes nothing:
+    ///
+    /// - `OutsideMemory` exactly if the range doesn't lie in the memory.
+    /// - else `NotNext` exactly if the range doesn't begin at the end of the last pool, or no range was inserted.
+    /// - else `TooShort` exactly if no byte of the range can be taken.
     pub fn append(&mut self, range: Range) -> Result<usize, CheckedError>
         ensures answer { result ≡ append_answer FLLEN self.old range }
         ensures step { IfOk result (λ n. Steps FLLEN SLLEN self.old.heap self.new.heap (Appends FLLEN self.old.heap.state range n)) }
@@ -205,9 +220,12 @@ impl<
         Ok(taken)
     }
 
-    /// Allocates a payload for a layout. Answers its address, a multiple of the alignment. `NoRoom` exactly where no free block's class
-    /// reaches the size that is sought. Then nothing changes. Within bounds that the allocator is sized for (`IsSizedFor`) it is never
-    /// refused.
+    /// Allocates a payload for a layout. Returns its address, a multiple of the alignment. The payload has at least `layout.size()` usable
+    /// bytes, and less than 32 more.
+    ///
+    /// Returns `NoRoom` exactly if no free block has a class that reaches the sought size. Then nothing changes.
+    ///
+    /// Never refuses a payload within bounds that the allocator is sized for (`IsSizedFor`).
     pub fn allocate(&mut self, layout: Layout) -> Result<Addr, CheckedError>
         ensures refused { IfErr result (λ e. e ≡ NoRoom) }
         ensures step { Steps FLLEN SLLEN self.old.heap self.new.heap (Allocates SLLEN self.old.heap.state layout.size layout.align (addr_in result)) }
@@ -237,9 +255,9 @@ impl<
         Ok(addr)
     }
 
-    /// Gives a payload back. `UnknownAddress` exactly where none lives at the address. Then nothing changes.
+    /// Deallocates a payload. Returns `UnknownAddress` exactly if none is live at the address. Then nothing changes.
     ///
-    /// An address that was given back and handed out again is live, so a call with it can't be refused.
+    /// An address that was deallocated and allocated again is live, so a call with it can't be refused.
     pub fn deallocate(&mut self, addr: Addr) -> Result<(), CheckedError>
         ensures answer { result ≡ if_live (align_at self.old.heap.state (at addr)) tt }
         ensures step { OnOk result (Steps FLLEN SLLEN self.old.heap self.new.heap (Deallocates self.old.heap.state (at addr))) }
@@ -265,13 +283,18 @@ impl<
         }
     }
 
-    /// Gives a payload another size, with the alignment that it has. It stays where it stands if its block and a free one behind it
-    /// suffice; else it moves into the free block before it, if that suffices with these; else into one that is allocated while the
-    /// old one stands. Answers its address. As many of its first bytes as both sizes have are kept.
+    /// Changes the size of a payload, and keeps its alignment. Returns its address. As many of its first bytes as both sizes have are kept.
     ///
-    /// `UnknownAddress` exactly where none lives at the address, else `NoLayout` exactly where the size and the alignment together are
-    /// above 2^63, else `NoRoom` exactly where the machine refuses. Then nothing changes. A live payload's size within bounds that the
-    /// allocator is sized for (`IsSizedFor`) is never refused.
+    /// The payload doesn't move if its block and a free one behind it suffice. Else it moves into the free block before it, if that block
+    /// suffices together with these. Else it moves into a new block, which is allocated while the payload is still live.
+    ///
+    /// Refuses, and changes nothing:
+    ///
+    /// - `UnknownAddress` exactly if no payload is live at the address.
+    /// - else `NoLayout` exactly if the size and the alignment together are above 2^63.
+    /// - else `NoRoom` exactly if the reference model refuses.
+    ///
+    /// Never refuses to resize a live payload within bounds that the allocator is sized for (`IsSizedFor`).
     pub fn reallocate(&mut self, addr: Addr, size: usize) -> Result<Addr, CheckedError>
         ensures answer { IsRefusedBy (refusal_at self.old.heap.state (at addr) size) result }
         ensures step { refusal_at self.old.heap.state (at addr) size ≡ None
@@ -313,11 +336,14 @@ impl<
         Ok(moved)
     }
 
-    /// Gives a payload another size where it stands, with the alignment that it has. Answers its address. As many of its first bytes
-    /// as both sizes have are kept, and none is copied.
+    /// Changes the size of a payload without moving it, and keeps its alignment. Returns its address. As many of its first bytes as both
+    /// sizes have are kept, and none is copied.
     ///
-    /// `UnknownAddress` exactly where none lives at the address, else `NoLayout` exactly where the size and the alignment together are
-    /// above 2^63, else `NoRoom` exactly where its block and a free one behind it don't suffice. Then nothing changes.
+    /// Refuses, and changes nothing:
+    ///
+    /// - `UnknownAddress` exactly if no payload is live at the address.
+    /// - else `NoLayout` exactly if the size and the alignment together are above 2^63.
+    /// - else `NoRoom` exactly if its block and a free one behind it don't suffice.
     pub fn reallocate_no_move(&mut self, addr: Addr, size: usize) -> Result<Addr, CheckedError>
         ensures answer { IsRefusedBy (refusal_at self.old.heap.state (at addr) size) result }
         ensures step { refusal_at self.old.heap.state (at addr) size ≡ None
@@ -351,8 +377,9 @@ impl<
         Ok(to)
     }
 
-    /// How many bytes the caller of a payload may use: those that were asked for, and less than 32 more. `UnknownAddress` exactly where
-    /// none lives at the address.
+    /// Returns the number of usable bytes of a payload: those requested, and less than 32 more.
+    ///
+    /// Returns `UnknownAddress` exactly if no payload is live at the address.
     pub fn usable_size(&self, addr: Addr) -> Result<usize, CheckedError>
         ensures { result ≡ if_live (align_at self.now.heap.state (at addr)) (length (bytes_at self.now.heap.state (at addr))) }
     {
@@ -362,7 +389,9 @@ impl<
         Ok(self.heap.allocation_usable_size(addr))
     }
 
-    /// The bytes of a payload, all that its caller may use. `UnknownAddress` exactly where none lives at the address.
+    /// Returns all usable bytes of a payload.
+    ///
+    /// Returns `UnknownAddress` exactly if no payload is live at the address.
     pub fn payload(&self, addr: Addr) -> Result<&[u8], CheckedError>
         ensures when { IsOk result ↔ IsSome (align_at self.now.heap.state (at addr)) }
         ensures refused { IfErr result (λ e. e ≡ UnknownAddress) }
@@ -374,7 +403,7 @@ impl<
         Ok(self.heap.payload(addr))
     }
 
-    /// The blocks of what was handed in last, used and free, in address order; the sentinels at the ends of chunks are left out.
+    /// Returns the used and free blocks of the last pool in address order. The sentinels at the ends of chunks are left out.
     pub fn blocks(&self) -> Blocks<'_>
         ensures blocks { AreBlocks self.now.heap.state (walked self.now.pool) result }
         ensures runs { GivesInOrder BlockInfo }
@@ -382,8 +411,10 @@ impl<
         self.heap.iter_blocks(self.pool)
     }
 
-    /// Reads the bytes of a payload from an offset on, as many as `bytes` has. `UnknownAddress` exactly where none lives at the address,
-    /// else `OutOfRange` exactly where the bytes go past the usable ones. Then `bytes` stays.
+    /// Reads `bytes.len()` bytes of a payload into `bytes`, from an offset on.
+    ///
+    /// Returns `UnknownAddress` exactly if no payload is live at the address, else `OutOfRange` exactly if the bytes go past the usable
+    /// ones. Then `bytes` is unchanged.
     pub fn read(&self, addr: Addr, offset: usize, bytes: &mut [u8]) -> Result<(), CheckedError>
         ensures answer { result ≡ if_in_range (align_at self.now.heap.state (at addr)) (fits offset (length bytes.old) (bytes_at self.now.heap.state (at addr))) }
         ensures read { OnOk result (bytes.new ≡ take (length bytes.old) (drop offset (bytes_at self.now.heap.state (at addr)))) }
@@ -400,8 +431,10 @@ impl<
         Ok(())
     }
 
-    /// Writes bytes over those of a payload from an offset on. Its other bytes stay, and so does all else. `UnknownAddress` exactly
-    /// where none lives at the address, else `OutOfRange` exactly where the bytes go past the usable ones. Then nothing changes.
+    /// Overwrites bytes of a payload, from an offset on. Its other bytes are unchanged, and so is everything else.
+    ///
+    /// Returns `UnknownAddress` exactly if no payload is live at the address, else `OutOfRange` exactly if the bytes go past the usable
+    /// ones. Then nothing changes.
     pub fn write(&mut self, addr: Addr, offset: usize, bytes: &[u8]) -> Result<(), CheckedError>
         ensures answer { result ≡ if_in_range (align_at self.old.heap.state (at addr)) (fits offset (length bytes.now) (bytes_at self.old.heap.state (at addr))) }
         ensures step { OnOk result (Steps FLLEN SLLEN self.old.heap self.new.heap (Fills self.old.heap.state (at addr)
@@ -429,7 +462,7 @@ impl<
     }
 }
 
-/// Whether a range lies in a memory.
+/// Returns whether a range lies in a memory.
 fn lies_in(memory: &Memory, range: Range) -> bool
     ensures { result ≡ is_within (range_of memory.now) range }
 {
@@ -437,7 +470,7 @@ fn lies_in(memory: &Memory, range: Range) -> bool
     memory.start() <= range.start && range.start <= end && range.len <= end - range.start
 }
 
-/// Whether an address is the end of a range that isn't empty.
+/// Returns whether an address is the end of a range that isn't empty.
 fn is_next(start: usize, len: usize, addr: usize) -> bool
     requires { start + len < 2 ^ 64 }
     ensures { result ≡ is_next (range_at start len) addr }
@@ -445,14 +478,14 @@ fn is_next(start: usize, len: usize, addr: usize) -> bool
     0 < len && addr == start + len
 }
 
-/// Whether `len` bytes from an offset on are among the first `usable`.
+/// Returns whether `len` bytes from an offset on are among the first `usable`.
 fn reaches(offset: usize, len: usize, usable: usize) -> bool
     ensures { result ≡ nat_le (offset + len) usable }
 {
     offset <= usable && len <= usable - offset
 }
 
-/// Writes bytes over those of a payload, from an offset on.
+/// Overwrites bytes of a payload, from an offset on.
 fn write_at(payload: &mut [u8], offset: usize, bytes: &[u8])
     requires { offset + length bytes.now ≤ length payload.old }
     ensures bytes { payload.new ≡ splice payload.old offset (offset + length bytes.now) bytes.now }

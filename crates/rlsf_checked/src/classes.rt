@@ -6,7 +6,8 @@ ghost use Rattle.rlsf_checked.specs.Steps.Classes.{is_valid};
 
 use rlsf_int::Bitmap;
 
-/// Whether there are from 1 to `FLBitmap`'s bits rows, of a power of two of classes that is at most `SLBitmap`'s bits.
+/// Returns whether the parameters are valid. `FLLEN` is between 1 and the number of bits of `FLBitmap`. `SLLEN` is a power of two and at
+/// most the number of bits of `SLBitmap`.
 pub(crate) fn are_valid<
     FLBitmap: Bitmap,
     SLBitmap: Bitmap,
@@ -18,21 +19,21 @@ pub(crate) fn are_valid<
     is_valid(bits::<FLBitmap>(), bits::<SLBitmap>(), FLLEN, SLLEN)
 }
 
-/// How many bits a bitmap has: where no bit is set, the first one is sought past the last.
+/// Returns the number of bits of a bitmap. If no bit is set, the search for the first one ends past the last.
 fn bits<B: Bitmap>() -> usize
     ensures { result ≡ B.width }
 {
     B::empty().first_from(0) as usize
 }
 
-/// The same, of numbers.
+/// Returns whether the parameters are valid, given the numbers of bits.
 fn is_valid(fl_bits: usize, sl_bits: usize, fllen: usize, sllen: usize) -> bool
     ensures { result ≡ is_valid fl_bits sl_bits fllen sllen }
 {
     0 < fllen && fllen <= fl_bits && sllen <= sl_bits && is_row_length(sllen)
 }
 
-/// Whether a row may have so many classes.
+/// Returns whether a first-level row may have this number of classes.
 fn is_row_length(classes: usize) -> bool
     ensures { result ≡ is_row_length classes }
 {

@@ -1,4 +1,4 @@
-//! Lengths of pools, for parameters that may be any.
+//! Lengths of pools, for any parameters.
 
 ghost use Rattle.std.specs.Prelude.{◌≡◌, None};
 ghost use Rattle.rlsf_base.specs.SizeClass.{IsValid};
@@ -16,9 +16,14 @@ impl<FLBitmap: Bitmap, SLBitmap: Bitmap, const FLLEN: usize, const SLLEN: usize>
     FLLEN,
     SLLEN,
 > {
-    /// The length in bytes of a pool, from a multiple of 32 on, in which no payload of up to the layout's size and alignment is
-    /// refused while at most `count` payloads live before each allocation and each reallocation. `None` exactly where the
-    /// parameters aren't valid, no class reaches the block that is sought, or the length passes a `usize` or the longest chunk.
+    /// Returns the length in bytes of a pool that refuses no payload of up to the size and alignment of the layout. This holds while at
+    /// most `count` payloads are live before each allocation and each reallocation. The pool starts at a multiple of 32.
+    ///
+    /// Returns `None` exactly in these cases:
+    ///
+    /// - The parameters are invalid.
+    /// - No class reaches the sought size.
+    /// - The length is above the greatest `usize` or the longest chunk.
     pub fn pool_size_for_payloads(count: usize, layout: Layout) -> Option<usize>
         ensures length { IsValid FLBitmap.width SLBitmap.width FLLEN SLLEN → result ≡ pool_size_for_payloads FLLEN SLLEN count layout.size layout.align }
         ensures invalid { (IsValid FLBitmap.width SLBitmap.width FLLEN SLLEN → ⊥) → result ≡ None }
@@ -29,8 +34,10 @@ impl<FLBitmap: Bitmap, SLBitmap: Bitmap, const FLLEN: usize, const SLLEN: usize>
         classes::pool_size_for_payloads::<FLBitmap, SLBitmap, FLLEN, SLLEN>(count, layout)
     }
 
-    /// The least length in bytes of a pool, from a multiple of 32 on, in which an allocation of the layout succeeds while nothing
-    /// lives there. `None` exactly where the parameters aren't valid, or no pool is long enough.
+    /// Returns the least length in bytes of a pool in which an allocation of the layout succeeds while nothing is live there. The pool
+    /// starts at a multiple of 32.
+    ///
+    /// Returns `None` exactly if the parameters are invalid, or no pool is long enough.
     pub fn pool_size_to_contain_allocation(layout: Layout) -> Option<usize>
         ensures length { IsValid FLBitmap.width SLBitmap.width FLLEN SLLEN → result ≡ pool_size_to_contain_allocation FLLEN SLLEN layout.size layout.align }
         ensures invalid { (IsValid FLBitmap.width SLBitmap.width FLLEN SLLEN → ⊥) → result ≡ None }

@@ -1,4 +1,4 @@
-//! An allocator that refuses what its caller may not do, in place of conditions on its calls.
+//! An allocator that refuses what its caller may not do, in place of preconditions on its calls.
 #![tactic(auto)]
 
 mod checked;

@@ -17,7 +17,7 @@ pub(crate) struct Marks {
 }
 
 impl Marks {
-    /// Marks for a memory, which are all 0. `None` where the system has no room for them.
+    /// Returns the marks of a memory, all of them 0. Returns `None` if the system has no memory for them.
     pub(crate) fn new(alloc: Global, memory: &Memory) -> Option<Marks>
         ensures none { IfSome result (λ m. (a : ℕ) → mark_at m a ≡ 0) }
         ensures covers { IfSome result (λ m. (a : ℕ) → a % 16 ≡ 0 → memory.now.start ≤ a → a ≤ end_of (range_of memory.now) → HasMark m a) }
@@ -28,7 +28,7 @@ impl Marks {
         Some(Marks { first, bytes })
     }
 
-    /// The mark of an address, which is 0 where it has none.
+    /// Returns the mark of an address, or 0 if it has none.
     pub(crate) fn get(&self, addr: usize) -> u8
         ensures { result ≡ mark_at self.now addr }
     {
@@ -53,7 +53,7 @@ impl Marks {
     }
 }
 
-/// The mark of an alignment: one more than its logarithm.
+/// Returns the mark of an alignment: one more than its logarithm.
 pub(crate) fn mark_of(align: usize) -> u8
     requires { IsPowerOfTwo align }
     ensures { result ≡ suc (floor_log2 align) }
@@ -61,7 +61,7 @@ pub(crate) fn mark_of(align: usize) -> u8
     align.ilog2() as u8 + 1
 }
 
-/// The alignment of a mark.
+/// Returns the alignment of a mark.
 pub(crate) fn align_of(mark: u8) -> usize
     requires { (1 ≤ mark) × (mark ≤ 64) }
     ensures { result ≡ 2 ^ (mark - 1) }
