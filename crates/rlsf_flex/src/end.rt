@@ -1,4 +1,4 @@
-//! The end: the ranges go back to their source.
+//! The end: the ranges are returned to their source.
 
 ghost use Rattle.std.specs.Prelude.{◌≡◌, ◌+◌, ◌<◌, ◌≤◌, ◌^◌, true, List, [], ◌∷◌, map};
 ghost use Rattle.std.specs.Option.{option_map};
@@ -14,14 +14,14 @@ use crate::pool::Pool;
 use crate::source::FlexSource;
 use rlsf_base::memory::{Memory, Range};
 
-/// The range of the kept pool.
+/// Returns the range of the kept pool.
 pub(crate) fn newest_range(kept: Option<Pool>) -> Option<Range>
     ensures { result ≡ option_map (λ p. p.range) kept }
 {
     kept.map(|pool| pool.range)
 }
 
-/// The range before the one with this footer, if there is one.
+/// Returns the range that the footer of a range names, if there is one.
 pub(crate) fn range_before(memory: &Memory, range: Range) -> Option<Range>
     requires range { (16 ≤ end_of range) × (end_of range < 2 ^ 64) }
     requires words { IsWord memory.now (footer_of range) × IsWord memory.now (footer_of range + 8) }
@@ -35,7 +35,7 @@ pub(crate) fn range_before(memory: &Memory, range: Range) -> Option<Range>
     }
 }
 
-/// Gives the ranges back, from the newest on. Each footer is read before its range goes.
+/// Returns the ranges to the source, from the newest on. Each footer is read before its range is returned.
 pub(crate) fn give_back<S: FlexSource>(memory: &Memory, source: &mut S, newest: Option<Range>)
     requires supported { (S.terms source.old).dealloc ≡ true }
     requires outstanding { (pools : List Range) × AreSpelled memory.now newest pools × S.owes source.old pools }

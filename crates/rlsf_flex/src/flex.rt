@@ -34,7 +34,7 @@ use rlsf_int::BitPattern;
 use rlsf_tlsf::Tlsf;
 use std::marker::{Model, PhantomData};
 
-/// The allocator over a source: it asks the source for memory when it has no room.
+/// An allocator over a source: it asks the source for memory when it has no room.
 pub struct FlexTlsf<
     S: FlexSource,
     FLBitmap: BitPattern,
@@ -77,10 +77,10 @@ impl<
     ghost use Rattle.rlsf_flex.specs.Lending.{LeavesRest, lends_payload, written};
     ghost use Rattle.rlsf_flex.specs.StandsFor.{FillsAlone, FlexStands, FlexSteps, StepsAlone};
 
-    /// An allocator over the memory and a source of its ranges. It asks for nothing yet.
+    /// Creates an allocator over the memory and a source of ranges of it. It asks for nothing yet.
     ///
-    /// The parameters are valid: from 1 to `FLBitmap`'s bits rows, of a power of two of classes that is at most `SLBitmap`'s
-    /// bits. Nothing is outstanding at the source, and its space lies in the memory.
+    /// The parameters are valid. `FLLEN` is between 1 and the number of bits of `FLBitmap`. `SLLEN` is a power of two and at most the
+    /// number of bits of `SLBitmap`. Nothing is outstanding at the source, and the space of the source lies in the memory.
     pub fn new(memory: Memory, source: S) -> Self
         requires valid { IsValid FLBitmap.width SLBitmap.width FLLEN SLLEN }
         requires nothing_owed { S.owes source [] }
@@ -100,7 +100,7 @@ impl<
         }
     }
 
-    /// The source, to read.
+    /// Returns the source, for reading.
     pub fn source_ref(&self) -> &S
         ensures source { result.now ≡ self.now.source }
         ensures stands { FlexStands FLLEN SLLEN S.terms S.owes self.now }
@@ -108,7 +108,7 @@ impl<
         &self.source
     }
 
-    /// The memory, to read.
+    /// Returns the memory, for reading.
     pub fn memory_ref(&self) -> &Memory
         ensures memory { result.now ≡ self.now.memory }
         ensures stands { FlexStands FLLEN SLLEN S.terms S.owes self.now }
@@ -116,7 +116,7 @@ impl<
         self.tlsf.memory_ref()
     }
 
-    /// Makes a change of the source once, and answers its result. Nothing else changes.
+    /// Makes a change of the source once, and returns its result. Nothing else changes.
     pub fn source_mut_unchecked<C: SourceChange<S>>(&mut self, change: C) -> C::Out
         ensures changes { C.changes change self.old.source result self.new.source }
         ensures terms { S.terms self.new.source ≡ S.terms self.old.source }
@@ -128,16 +128,20 @@ impl<
         change.change(&mut self.source)
     }
 
-    /// Allocates a payload for a layout, as `Tlsf::allocate` does. Where there is no room, the source is asked for more memory:
-    /// once for growth of its newest range, if it has one outstanding and can grow ranges, and once for a new range, if no growth
-    /// came, unless it is one range that grows and that is outstanding. The allocation that the memory was asked for succeeds in
-    /// what came, whatever its length.
+    /// Allocates a payload for a layout, as `Tlsf::allocate` does. If there is no room, the source is asked for more memory:
     ///
-    /// Bytes outside of the outstanding ranges stay, and so do those that no block is made of, but for the newest range's footer
-    /// where memory came and the source takes ranges back. `None` exactly where there is no room and no memory came; nothing is
-    /// asked where no pool would do. Then the pools and all bytes are as they were, and only the source was asked.
+    /// - for growth of its newest range, once, if that is outstanding and the source can grow ranges.
+    /// - else, or if no growth came, for a new range, once. This is skipped if the source is contiguous and its range is outstanding.
     ///
-    /// Within bounds that the pools are sized for (`IsSizedFor`) it is never refused, and the source is asked nothing.
+    /// If memory came, the allocation succeeds in it, whatever its length. Nothing is asked if no pool would suffice.
+    ///
+    /// Returns `None` exactly if there is no room and no memory came. Then the pools and all bytes are unchanged, and only the source was
+    /// asked.
+    ///
+    /// Bytes outside of the outstanding ranges are unchanged, and so are bytes that belong to no block. One exception is the footer of the
+    /// newest range: it is written if memory came and the source takes ranges back.
+    ///
+    /// Never refuses a payload within bounds that the pools are sized for (`IsSizedFor`). Then the source is asked nothing.
     pub fn allocate(&mut self, layout: Layout) -> Option<Addr>
         ensures step { FlexSteps FLLEN SLLEN S.terms S.owes S.leads self.old self.new
             (FlexAllocates FLLEN SLLEN (S.terms self.old.source) self.old.state layout.size layout.align (reply result)) }
@@ -178,13 +182,13 @@ impl<
         }
     }
 
-    /// Gives a payload back, as `Tlsf::deallocate` does. The source is asked nothing.
+    /// Deallocates a payload, as `Tlsf::deallocate` does. The source is asked nothing.
     ///
-    /// If no other payload lives, and its bytes and 48 more are as many as `pool_size_for_payloads` says, the pools are sized for
-    /// these bounds from then on (`IsSizedFor`). So memory can be had before it is needed: one long payload is allocated and
-    /// given back.
+    /// Afterwards the pools are sized for some bounds (`IsSizedFor`) if no other payload was live, and the payload was long enough. Long
+    /// enough means that its usable bytes and 48 more are at least `pool_size_for_payloads` of these bounds. So a program can obtain memory
+    /// before it needs it: it allocates one long payload and deallocates it.
     ///
-    /// The address is live, with that alignment.
+    /// The address is live, and `align` is its alignment.
     pub fn deallocate(&mut self, addr: Addr, align: usize)
         requires { align_at self.old.state.machine (at addr) ≡ Some align }
         ensures step { StepsAlone FLLEN SLLEN S.terms S.owes self.old self.new (Deallocates self.old.state.machine (at addr)) }
@@ -205,8 +209,7 @@ impl<
         self.tlsf.deallocate(addr, align);
     }
 
-    /// Gives a payload back, as `deallocate` does, for a caller that doesn't know the payload's alignment. The state after it
-    /// is the same.
+    /// Deallocates a payload, as `deallocate` does, for a caller that doesn't know its alignment. The state afterwards is the same.
     ///
     /// The address is live, with any alignment.
     pub fn deallocate_unknown_align(&mut self, addr: Addr)
@@ -229,16 +232,18 @@ impl<
         self.tlsf.deallocate_unknown_align(addr);
     }
 
-    /// Gives a payload another size, as `Tlsf::reallocate` does where there is room. Else the source is asked for more memory as
-    /// in `allocate`, and the payload moves there, with all its bytes.
+    /// Changes the size of a payload, as `Tlsf::reallocate` does if there is room. Else the source is asked for more memory, as `allocate`
+    /// does. If memory came, the payload moves there with all its bytes.
     ///
-    /// Bytes outside of the outstanding ranges stay, and so do those that no block is made of, but for the newest range's footer
-    /// where memory came and the source takes ranges back. `None` exactly where there is no room and no memory came. Then the
-    /// payload, the pools and all bytes are as they were, and only the source was asked.
+    /// Returns `None` exactly if there is no room and no memory came. Then the payload, the pools and all bytes are unchanged, and only the
+    /// source was asked.
     ///
-    /// Within bounds that the pools are sized for (`IsSizedFor`) it is never refused, and the source is asked nothing.
+    /// Bytes outside of the outstanding ranges are unchanged, and so are bytes that belong to no block. One exception is the footer of the
+    /// newest range: it is written if memory came and the source takes ranges back.
     ///
-    /// The address is live, with the layout's alignment.
+    /// Never refuses a payload within bounds that the pools are sized for (`IsSizedFor`). Then the source is asked nothing.
+    ///
+    /// The address is live, with the alignment of the layout.
     pub fn reallocate(&mut self, addr: Addr, layout: Layout) -> Option<Addr>
         requires { align_at self.old.state.machine (at addr) ≡ Some layout.align }
         ensures step { FlexSteps FLLEN SLLEN S.terms S.owes S.leads self.old self.new
@@ -285,10 +290,11 @@ impl<
         }
     }
 
-    /// Gives a payload another size where it stands, as `Tlsf::reallocate_no_move` does. The source is asked nothing. `None`
-    /// exactly where the bytes there don't suffice, and then nothing changes.
+    /// Changes the size of a payload without moving it, as `Tlsf::reallocate_no_move` does. The source is asked nothing.
     ///
-    /// The address is live, with the layout's alignment.
+    /// Returns `None` exactly if the bytes there don't suffice. Then nothing changes.
+    ///
+    /// The address is live, with the alignment of the layout.
     pub fn reallocate_no_move(&mut self, addr: Addr, layout: Layout) -> Option<Addr>
         requires { align_at self.old.state.machine (at addr) ≡ Some layout.align }
         ensures step { StepsAlone FLLEN SLLEN S.terms S.owes self.old self.new (ReallocatesWithoutMove self.old.state.machine (at addr) layout.size (reply result)) }
@@ -314,8 +320,8 @@ impl<
         self.tlsf.reallocate_no_move(addr, layout)
     }
 
-    /// How many bytes the caller of the payload at `addr` may use: those from there to its block's end. They are as many as
-    /// were asked for, and less than 32 more.
+    /// Returns the number of usable bytes of the payload at `addr`: those from `addr` to the end of its block. They are at least those
+    /// requested, and less than 32 more.
     ///
     /// The address is live, with any alignment.
     pub fn allocation_usable_size(&self, addr: Addr) -> usize
@@ -325,7 +331,7 @@ impl<
         self.tlsf.allocation_usable_size(addr)
     }
 
-    /// The bytes of the payload at `addr`, from there to its block's end: all that its caller may use.
+    /// Returns all usable bytes of the payload at `addr`: those from `addr` to the end of its block.
     ///
     /// The address is live, with any alignment.
     pub fn payload(&self, addr: Addr) -> &[u8]
@@ -335,8 +341,8 @@ impl<
         self.tlsf.payload(addr)
     }
 
-    /// The bytes of the payload at `addr`, from there to its block's end, to write to. What is left there is what the
-    /// payload holds; nothing else changes.
+    /// Returns all usable bytes of the payload at `addr`, for writing: those from `addr` to the end of its block. The payload then holds
+    /// what was written. Nothing else changes.
     ///
     /// The address is live, with any alignment.
     pub fn payload_mut(&mut self, addr: Addr) -> &mut [u8]
@@ -357,10 +363,10 @@ impl<
         self.tlsf.payload_mut(addr)
     }
 
-    /// Copies the first `len` bytes of the payload at `from` over the first of the one at `to`, whose other bytes stay. Nothing
-    /// else changes. The two may be one payload, and then no byte does.
+    /// Copies the first `len` bytes of the payload at `from` over the first bytes of the payload at `to`. The other bytes of `to` are
+    /// unchanged, and so is everything else. If both are one payload, no byte changes.
     ///
-    /// Both addresses are live, with any alignment, and both payloads have `len` usable bytes.
+    /// Both addresses are live, with any alignment, and both payloads have at least `len` usable bytes.
     pub fn copy_payload(&mut self, from: Addr, to: Addr, len: usize)
         requires live { IsSome (align_at self.old.state.machine (at from)) × IsSome (align_at self.old.state.machine (at to)) }
         requires long { (len ≤ length (bytes_at self.old.state.machine (at from))) × (len ≤ length (bytes_at self.old.state.machine (at to))) }
@@ -379,13 +385,16 @@ impl<
         self.tlsf.copy_payload(from, to, len);
     }
 
-    /// Gives the newest ranges back to the source, as far as they hold no used block, and answers how many: each once, with its
-    /// chunks and free blocks, the newest first. The newest of those that are left is the one that grows. Payloads stay, and so does
-    /// every byte that no block is made of before and after.
+    /// Returns the newest range to the source, as long as that holds no used block. Each range is returned once, with its chunks and free
+    /// blocks, the newest first. The result is the number of these ranges. The newest range that is left is the one that may grow.
     ///
-    /// 0 exactly where the source takes nothing back, the newest range holds a used block, or none is outstanding. Then nothing
-    /// changes. How long the walk over the blocks takes isn't bounded: it isn't counted, and the touches are 9 for each chunk that
-    /// goes.
+    /// Payloads are unchanged, and so is every byte that belongs to no block before and after.
+    ///
+    /// Returns 0 exactly if the source doesn't take ranges back, the newest range holds a used block, or none is outstanding. Then nothing
+    /// changes.
+    ///
+    /// The call makes at most 9 word accesses for each chunk that it removes. The time of the iteration over blocks isn't counted, and has
+    /// no bound.
     pub fn trim(&mut self) -> usize
         ensures step { FlexSteps FLLEN SLLEN S.terms S.owes S.leads self.old self.new (Trims (S.terms self.old.source) self.old.state result) }
         ensures spare { KeepsSpare self.old.memory self.old.state.machine self.new.memory self.new.state.machine }
@@ -410,8 +419,8 @@ impl<
         }
     }
 
-    /// The end: the memory and the source, which gets each outstanding range back once, as it grew, the newest first, if it takes
-    /// ranges back. Payloads may be live.
+    /// Ends the allocator, and returns its memory and its source. If the source takes ranges back, each outstanding range is returned to it
+    /// exactly once, as it has grown, the newest first. Payloads may be live.
     pub fn into_parts(self) -> (Memory, S)
         ensures memory { result.0 ≡ self.memory }
         ensures leads { LeadsBy S.leads self.source (notes_at_end (S.terms self.source) self.state.pools) result.1 }
@@ -432,7 +441,7 @@ impl<
     }
 }
 
-/// Does what `into_parts` does: the source gets its ranges back.
+/// Does what `into_parts` does: the outstanding ranges are returned to the source.
 impl<
     S: FlexSource + Drop,
     FLBitmap: BitPattern,

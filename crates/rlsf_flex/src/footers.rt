@@ -1,4 +1,4 @@
-//! The footers of ranges: where a source takes ranges back, each names the range that came before it.
+//! The footers of ranges. If a source takes ranges back, each footer names the range that came before.
 
 ghost use Rattle.std.specs.Prelude.{◌≡◌, ◌≤◌, ◌<◌, ◌^◌, ◌+◌};
 ghost use Rattle.rlsf_blocks.specs.Spare.{IsSpareWord};
@@ -10,7 +10,7 @@ ghost use Rattle.rlsf_flex.specs.Footers.{footer_of, WritesFooter};
 use rlsf_base::memory::{Memory, Range};
 use rlsf_tlsf::Tlsf;
 
-/// Where a range's footer stands.
+/// Returns the address of the footer of a range.
 fn footer_at(range: Range) -> usize
     requires { (16 ≤ end_of range) × (end_of range < 2 ^ 64) }
     ensures { result ≡ footer_of range }
@@ -18,7 +18,7 @@ fn footer_at(range: Range) -> usize
     (range.start + range.len - 16) / 8 * 8
 }
 
-/// The start and the length that a range's footer names.
+/// Returns the start and the length that the footer of a range names.
 pub(crate) fn read_footer(memory: &Memory, range: Range) -> (usize, usize)
     requires range { (16 ≤ end_of range) × (end_of range < 2 ^ 64) }
     requires words { IsWord memory.now (footer_of range) × IsWord memory.now (footer_of range + 8) }
@@ -31,7 +31,7 @@ pub(crate) fn read_footer(memory: &Memory, range: Range) -> (usize, usize)
     )
 }
 
-/// Writes a range's footer.
+/// Writes the footer of a range.
 ///
 /// Its two words are spare.
 pub(crate) fn write_footer<const FLLEN: usize, const SLLEN: usize>(

@@ -1,4 +1,4 @@
-//! Growth: a source is asked for more memory, and what comes is handed in.
+//! Growth: asks a source for more memory, and inserts the memory that comes.
 
 ghost use Rattle.std.specs.Prelude.{◌≡◌, ◌≢◌, ◌≤◌, ◌<◌, ◌+◌, ℕ, false, None, Some, IfNone, IfSome, length};
 ghost use Rattle.rlsf_base.specs.Addr.{at};
@@ -23,7 +23,7 @@ use rlsf_base::memory::{Addr, Layout, Range};
 use rlsf_tlsf::Tlsf;
 use std::num::NonZeroUsize;
 
-/// What the footer of the next range names.
+/// Returns the start and the length that the footer of the next range names.
 fn words_of(kept: Option<Pool>) -> (usize, usize)
     ensures { (result.0 ≡ kept_start kept) × (result.1 ≡ kept_len kept) }
 {
@@ -33,14 +33,14 @@ fn words_of(kept: Option<Pool>) -> (usize, usize)
     }
 }
 
-/// Whether a pool is kept.
+/// Returns whether the newest range is kept.
 fn keeps_pool<S: FlexSource>(source: &S) -> bool
     ensures { result ≡ keeps (S.terms source.now) }
 {
     source.supports_dealloc() || source.supports_realloc_inplace_grow()
 }
 
-/// The length of a new range in which `wanted` bytes from a multiple of 32 on are sure to lie.
+/// Returns the length of a new range that is sure to contain `wanted` bytes from a multiple of 32 on.
 fn range_len<S: FlexSource>(source: &S, wanted: usize) -> Option<usize>
     ensures { result ≡ range_length (S.terms source.now) wanted }
 {
@@ -51,8 +51,7 @@ fn range_len<S: FlexSource>(source: &S, wanted: usize) -> Option<usize>
     }
 }
 
-/// Asks for a range in which `wanted` bytes from a multiple of 32 on are sure to lie, if there is a length for one, and hands it
-/// in.
+/// Asks for a range that is sure to contain `wanted` bytes from a multiple of 32 on, if there is a length for one. Inserts the range.
 fn ask_range<S: FlexSource, const FLLEN: usize, const SLLEN: usize>(
     source: &mut S,
     wanted: usize,
@@ -83,8 +82,7 @@ fn ask_range<S: FlexSource, const FLLEN: usize, const SLLEN: usize>(
     Some(range)
 }
 
-/// Asks for growth of the kept range to `len` bytes, if the source can grow it, and hands the new ones in. The footer moves before
-/// they are.
+/// Asks for growth of the kept range to `len` bytes, if the source can grow it. Appends the new bytes, after the footer has moved.
 fn ask_growth<S: FlexSource, const FLLEN: usize, const SLLEN: usize>(
     source: &mut S,
     pool: Pool,
@@ -129,8 +127,8 @@ fn ask_growth<S: FlexSource, const FLLEN: usize, const SLLEN: usize>(
     Some(grown)
 }
 
-/// Asks for `wanted` bytes more: for growth of the kept range, if there is one, and then for a new one, unless the source is one
-/// range that grows and that is kept. Answers whether some came.
+/// Asks for `wanted` more bytes: first for growth of the kept range, if there is one. If no growth came, asks for a new range, unless a
+/// pool is kept and the source is contiguous. Returns whether memory came.
 pub(crate) fn extend<S: FlexSource, const FLLEN: usize, const SLLEN: usize>(
     wanted: usize,
     tlsf: &mut Tlsf<u128, u128, FLLEN, SLLEN>,
@@ -162,7 +160,7 @@ pub(crate) fn extend<S: FlexSource, const FLLEN: usize, const SLLEN: usize>(
     ask_range(source, wanted, tlsf, kept, owed).is_some()
 }
 
-/// Moves a payload into a block that is allocated for it, where there is room for one, with all its bytes.
+/// Moves a payload, with all its bytes, into a block that is allocated for it, if there is room for one.
 pub(crate) fn move_payload<const FLLEN: usize, const SLLEN: usize>(
     tlsf: &mut Tlsf<u128, u128, FLLEN, SLLEN>,
     addr: Addr,

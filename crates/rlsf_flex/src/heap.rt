@@ -12,11 +12,11 @@ use crate::source::FlexSource;
 use rlsf_base::memory::{Addr, Layout, Range};
 use std::num::NonZeroUsize;
 
-/// An allocator: it hands out addresses of its space, and takes them back.
+/// An allocator: it provides addresses of its space, and takes them back.
 ///
-/// Its meaning is its space, which never changes; which lists of allocations, that is of addresses with the layouts that they
-/// were answered for, may be those that it owes, `owes`; and where a question with its answer leads, `leads`. An answer of none
-/// leaves the allocations as they were.
+/// Its meaning has three parts. `space` is its space, which never changes. `owes` holds of the lists of allocations that may be
+/// outstanding: addresses with the layouts that they were allocated for. `leads` relates a question and its answer to the allocator before
+/// and after. If the answer is `None`, the allocations are unchanged.
 pub trait GlobalAlloc {
     ghost space: { Self → Range };
 
@@ -24,16 +24,16 @@ pub trait GlobalAlloc {
 
     ghost leads: { Self → HeapNote → Self → Type 0 };
 
-    /// The address of a new allocation, a multiple of the layout's alignment: the layout's `size` bytes from there on lie in the
-    /// space and are no other allocation's. It is owed then.
+    /// Returns the address of a new allocation, a multiple of the alignment of the layout. The `size` bytes of the layout from there on lie
+    /// in the space, and belong to no other allocation. The allocation is then outstanding.
     fn alloc(&mut self, layout: Layout) -> Option<Addr>
         ensures leads { leads self.old (allocate layout.size layout.align (option_map non_zero_usize_get result)) self.new }
         ensures owes { (owed : List Allocation) → owes self.old owed
             → OwesAllocated (space self.old) (owes self.new) owed layout.size layout.align result };
 
-    /// Takes an allocation back, which is owed no more.
+    /// Takes an allocation back. It is then no longer outstanding.
     ///
-    /// The address with this layout is owed.
+    /// The address with this layout is outstanding.
     fn dealloc(&mut self, addr: Addr, layout: Layout)
         requires { (before : List Allocation) × (after : List Allocation) × owes self.old (before ++ allocation_at (non_zero_usize_get addr) layout.size layout.align ∷ after) }
         ensures leads { leads self.old (deallocate (allocation_at (non_zero_usize_get addr) layout.size layout.align)) self.new }
@@ -43,13 +43,13 @@ pub trait GlobalAlloc {
     ghost constant: { (x y : Self) (n : HeapNote) → leads x n y → space y ≡ space x };
 }
 
-/// An allocator as a source of memory, whose ranges start at multiples of `ALIGN`, and of 32 at least.
+/// An allocator as a source of memory, whose ranges start at multiples of `ALIGN`, and of at least 32.
 ///
-/// It asks the allocator for each range, with the greater of `ALIGN` and 32 as the alignment and the size rounded up to a
-/// multiple of that; where no layout has that size, it answers none without asking. It takes ranges back and can't grow them,
-/// so an allocator over it may come to hold many small pools.
+/// It asks the allocator for each range. The alignment is the greater of `ALIGN` and 32, and the size is rounded up to a multiple of that.
+/// If no layout has that size, it returns `None` without asking. It takes ranges back and can't grow them, so an allocator over it may have
+/// many small pools.
 ///
-/// `ALIGN` is a power of two. With any other above 32 no layout is valid, and it answers none.
+/// `ALIGN` is a power of two. With any other value above 32 no layout is valid, and every request returns `None`.
 #[derive(Default, Debug, Copy, Clone)]
 pub struct GlobalAllocAsFlexSource<T, const ALIGN: usize>(
     /// The allocator that is asked.

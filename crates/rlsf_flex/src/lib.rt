@@ -17,11 +17,13 @@ pub use flex::FlexTlsf;
 pub use heap::{GlobalAlloc, GlobalAllocAsFlexSource};
 pub use source::{FlexSource, SourceChange};
 
-/// Does nothing. Its contract states the laws of the states that an allocator over a source stands for, so that a check proves them.
+/// Does nothing. Its contract states the laws of the states that an allocator over a source represents, so that a check proves them.
 ///
-/// The state of every allocator is well-formed with its ranges and its kept pool, so what `laws` of `rlsf_tlsf` says of the machine
-/// over a source holds of it. What is said of the words inside the pools, of the class table and of the footers reads no usable byte
-/// of a live payload: a memory that differs in such bytes alone stands for the state with these bytes.
+/// The state of every allocator is well-formed, with its ranges and its kept pool. So the laws of the reference model over a source, which
+/// `laws` of `rlsf_tlsf` states, hold of it.
+///
+/// The in-band layout, the class table and the footers depend on no usable byte of a live payload. A memory that differs only in such bytes
+/// represents the state with these bytes.
 pub fn laws<S: FlexSource>()
     ensures well_formed { FlexStatesAreWellFormed S.terms S.owes }
     ensures words { FlexWordsReadNoPayload S.terms S.owes }

@@ -8,7 +8,7 @@ ghost use Rattle.rlsf_machine.specs.Growth.{longer};
 use rlsf_base::memory::Range;
 use std::marker::{Model, Send, Sync};
 
-/// The ranges, the newest first.
+/// The outstanding ranges, the newest first.
 #[derive(Drop)]
 pub(crate) struct GhostRanges {
     pub(crate) ghost ranges: { List Range },
@@ -25,34 +25,34 @@ unsafe impl Send for GhostRanges {}
 unsafe impl Sync for GhostRanges {}
 
 impl GhostRanges {
-    /// None is outstanding.
+    /// Returns the list without a range.
     pub(crate) fn new() -> GhostRanges
         ensures { result.ranges ≡ [] }
     {
         GhostRanges {}
     }
 
-    /// Moves on to ranges that are told of those before and two numbers.
+    /// Replaces the ranges by others, which are a function of two numbers and the old ones.
     fn advance(&mut self, x: usize, y: usize)
         ghost to: { ℕ → ℕ → List Range → List Range }
         ensures { self.new.ranges ≡ to x y self.old.ranges }
     {}
 
-    /// A range is outstanding that is newer than all others.
+    /// Adds an outstanding range, as the newest.
     pub(crate) fn give(&mut self, range: Range)
         ensures { self.new.ranges ≡ range ∷ self.old.ranges }
     {
         self.advance(range.start, range.len);
     }
 
-    /// The newest range is outstanding no more.
+    /// Removes the newest range.
     pub(crate) fn drop_newest(&mut self)
         ensures { self.new.ranges ≡ older self.old.ranges }
     {
         self.advance(0, 0);
     }
 
-    /// The newest range has grown to a length.
+    /// Sets the length of the newest range, which has grown.
     pub(crate) fn grow(&mut self, len: usize)
         ensures { self.new.ranges ≡ longer len self.old.ranges }
     {

@@ -7,11 +7,16 @@ ghost use Rattle.rlsf_machine.specs.Terms.{IsGiven, OwesGrown, Terms};
 
 use rlsf_base::memory::Range;
 
-/// A source of memory: it hands out ranges of its space, and may grow them or take them back.
+/// A source of memory: it provides ranges of its space, and may grow them or take them back.
 ///
-/// Its meaning is what it keeps to, `terms`: its space and its capabilities, which never change; which lists of ranges may be
-/// those that are outstanding, `owes`; and where a question with its answer leads, `leads`. An answer of none leaves the
-/// outstanding ranges as they were. Whatever length a source gives and whenever it refuses, an allocator over it is right.
+/// Its meaning has three parts:
+///
+/// - `terms` is its space and its capabilities, which never change.
+/// - `owes` holds of the lists of ranges that may be outstanding.
+/// - `leads` relates a question and its answer to the source before and after.
+///
+/// If the answer is `None`, the outstanding ranges are unchanged. An allocator over the source is correct whatever length the source
+/// provides, and whenever it refuses.
 pub trait FlexSource {
     ghost terms: { Self → Terms };
 
@@ -19,8 +24,8 @@ pub trait FlexSource {
 
     ghost leads: { Self → Note → Self → Type 0 };
 
-    /// A new range of `min_size` bytes or more, which overlaps no outstanding one and starts at a multiple of `min_align`. It is
-    /// outstanding then.
+    /// Returns a new range of at least `min_size` bytes. It overlaps no outstanding range, and starts at a multiple of `min_align`. It is
+    /// then outstanding.
     ///
     /// `min_size` is a multiple of 32 and not 0.
     fn alloc(&mut self, min_size: usize) -> Option<Range>
@@ -29,7 +34,7 @@ pub trait FlexSource {
         ensures owes { (owed : List Range) → owes self.old owed
             → MatchOption result (owes self.new owed) (λ r. IsGiven (terms self.old) owed min_size r × owes self.new (r ∷ owed)) };
 
-    /// The new length of a range that grows where it is, `min_new_len` bytes or more: its new bytes overlap no other outstanding
+    /// Grows a range where it is, and returns its new length of at least `min_new_len` bytes. Its new bytes overlap no other outstanding
     /// range.
     ///
     /// The source can grow ranges, the range is outstanding, and `min_new_len` isn't below its length.
@@ -41,7 +46,7 @@ pub trait FlexSource {
         ensures owes { (before after : List Range) → owes self.old (before ++ range ∷ after)
             → OwesGrown (terms self.old) (owes self.new) before range after min_new_len result };
 
-    /// Takes a range back, which is outstanding no more.
+    /// Takes a range back. It is then no longer outstanding.
     ///
     /// The source takes ranges back, and the range is outstanding.
     fn dealloc(&mut self, range: Range)
@@ -50,19 +55,20 @@ pub trait FlexSource {
         ensures leads { leads self.old (dealloc range) self.new }
         ensures owes { (before after : List Range) → owes self.old (before ++ range ∷ after) → owes self.new (before ++ after) };
 
-    /// Whether the source takes ranges back.
+    /// Returns whether the source takes ranges back.
     fn supports_dealloc(&self) -> bool
         ensures { result ≡ (terms self.now).dealloc };
 
-    /// Whether the source can grow a range where it is.
+    /// Returns whether the source can grow a range where it is.
     fn supports_realloc_inplace_grow(&self) -> bool
         ensures { result ≡ (terms self.now).grow };
 
-    /// Whether the source's memory is one range that grows, so that no other is asked for where a growth was refused.
+    /// Returns whether the source is contiguous: its memory is one range that grows. Then no other range is asked for after a refused
+    /// growth.
     fn is_contiguous_growable(&self) -> bool
         ensures { result ≡ (terms self.now).contiguous };
 
-    /// What the starts of the source's ranges are multiples of: a power of two.
+    /// Returns the alignment of the starts of the ranges: a power of two.
     fn min_align(&self) -> usize
         ensures { result ≡ (terms self.now).min_align };
 
@@ -70,17 +76,16 @@ pub trait FlexSource {
     ghost constant: { (x y : Self) (n : Note) → leads x n y → terms y ≡ terms x };
 }
 
-/// A change of a source that its owner makes. It keeps the space, the capabilities and every list of ranges that may be
-/// outstanding.
+/// A change of a source that its owner makes. It preserves the space, the capabilities and every list of ranges that may be outstanding.
 ///
 /// Its meaning is a relation of the change, the source before, the result and the source after.
 pub trait SourceChange<S: FlexSource> {
-    /// What the change answers.
+    /// The result of the change.
     type Out;
 
     ghost changes: { Self → S → Self.Out → S → Type 0 };
 
-    /// Makes the change.
+    /// Makes the change, and returns its result.
     fn change(self, source: &mut S) -> Self::Out
         ensures changes { changes self source.old result source.new }
         ensures terms { S.terms source.new ≡ S.terms source.old }

@@ -1,4 +1,4 @@
-//! Trim: the newest ranges, as far as they hold no used block, go back to their source.
+//! Trim: returns the newest ranges without a used block to their source.
 
 ghost use Rattle.std.specs.Prelude.{◌≡◌, ◌↔◌, ◌≤◌, ◌<◌, ◌+◌, ◌*◌, ◌^◌, ℕ, List, Some, None, true, false, length, MatchOption, IfSome};
 ghost use Rattle.rlsf_base.specs.Range.{end_of};
@@ -23,7 +23,7 @@ use crate::source::FlexSource;
 use rlsf_base::memory::Range;
 use rlsf_tlsf::Tlsf;
 
-/// Whether no block of a row of chunks is used.
+/// Returns whether no block of some contiguous chunks is used.
 fn is_idle<const FLLEN: usize, const SLLEN: usize>(
     tlsf: &Tlsf<u128, u128, FLLEN, SLLEN>,
     row: Range,
@@ -41,7 +41,7 @@ fn is_idle<const FLLEN: usize, const SLLEN: usize>(
     true
 }
 
-/// How many bytes there are from a range's start to the end of its last chunk: its chunks are walked while there is room for
+/// Returns the number of bytes from the start of a range to the end of its last chunk. It iterates over the chunks while there is room for
 /// one.
 fn pool_len<const FLLEN: usize, const SLLEN: usize>(
     tlsf: &Tlsf<u128, u128, FLLEN, SLLEN>,
@@ -59,7 +59,7 @@ fn pool_len<const FLLEN: usize, const SLLEN: usize>(
     end - range.start
 }
 
-/// The pool that a range has, if there is a range.
+/// Returns the pool of a range, if there is a range.
 fn pool_of<const FLLEN: usize, const SLLEN: usize>(
     tlsf: &Tlsf<u128, u128, FLLEN, SLLEN>,
     range: Option<Range>,
@@ -77,8 +77,8 @@ fn pool_of<const FLLEN: usize, const SLLEN: usize>(
     }
 }
 
-/// Gives the newest range back, if there is one and it holds no used block. The range before it is the newest then. Answers
-/// whether one went.
+/// Returns the newest range to the source, if there is one and it holds no used block. The range before it is then the newest. Returns
+/// whether a range was returned.
 fn give_newest_back<S: FlexSource, const FLLEN: usize, const SLLEN: usize>(
     source: &mut S,
     tlsf: &mut Tlsf<u128, u128, FLLEN, SLLEN>,
@@ -117,7 +117,7 @@ fn give_newest_back<S: FlexSource, const FLLEN: usize, const SLLEN: usize>(
     true
 }
 
-/// Gives the newest ranges back, as far as they hold no used block, and answers how many went.
+/// Returns the newest range to the source, as long as that holds no used block. The result is the number of these ranges.
 pub(crate) fn give_idle_back<S: FlexSource, const FLLEN: usize, const SLLEN: usize>(
     tlsf: &mut Tlsf<u128, u128, FLLEN, SLLEN>,
     kept: &mut Option<Pool>,
