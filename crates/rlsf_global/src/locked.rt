@@ -1,4 +1,4 @@
-//! The value under the lock: an allocator over pages, and the table of its live addresses.
+//! The value behind the lock: an allocator over pages, and the table of its live addresses.
 
 ghost use Rattle.std.specs.Prelude.{◌≡◌, ◌≢◌, ◌↔◌, ℕ, ◌+◌, ◌≤◌, length, min, nat_le, IfOk, IsErrOf, IsSome, None, OnErr, OnOk, Some, drop, false, take, true};
 ghost use Rattle.std.specs.List.{splice};
@@ -24,8 +24,8 @@ use rlsf_sources::{GlobalTlsfOptions, Source};
 use std::alloc::Global;
 use std::marker::Model;
 
-/// The value under the lock: an allocator over the page source, and the table of its live addresses with the layout that was last
-/// asked for each. Its type keeps that the table lists exactly the live payloads, in the order of their addresses.
+/// The value behind the lock: an allocator over the page source, and the table of its live addresses. An entry of the table is a live
+/// address and its last layout. By an invariant of the type, the table lists exactly the live payloads, in the order of their addresses.
 #[derive(Drop)]
 pub struct Locked<Options: GlobalTlsfOptions> {
     flex: PagedTlsf<Options>,
@@ -45,7 +45,7 @@ impl<Options: GlobalTlsfOptions> Model for Locked<Options> {
 impl<Options: GlobalTlsfOptions> Locked<Options> {
     ghost use Rattle.rlsf_global.specs.Locked.{LockedStands};
 
-    /// An allocator whose source's space is the whole memory. Nothing is live.
+    /// Creates an allocator whose source has the whole memory as its space. Nothing is live.
     pub fn new(alloc: Global, memory: Memory) -> Self
         ensures heap { result.heap ≡ beginning (range_of memory) Options.COALESCE_POOLS }
         ensures memory { result.memory ≡ memory }
@@ -61,7 +61,7 @@ impl<Options: GlobalTlsfOptions> Locked<Options> {
         }
     }
 
-    /// The memory, to read.
+    /// Returns the memory, for reading.
     pub fn memory_ref(&self) -> &Memory
         ensures memory { result.now ≡ self.now.memory }
         ensures stands { LockedStands self.now }
@@ -69,10 +69,12 @@ impl<Options: GlobalTlsfOptions> Locked<Options> {
         self.flex.memory_ref()
     }
 
-    /// Allocates a payload for a layout.
+    /// Allocates a payload for a layout. Returns its address.
     ///
-    /// `TableMemory` where the system refused room for a row, and then nothing else was tried; else `NoRoom` exactly where there
-    /// is no room and no memory came. Then nothing changes.
+    /// Refuses, and changes nothing:
+    ///
+    /// - `TableMemory` if the system is out of memory for an entry of the table. Then nothing else was tried.
+    /// - else `NoRoom` exactly if there is no room and no memory came.
     pub fn allocate(&mut self, layout: Layout) -> Result<Addr, GlobalError>
         ensures step { HeapAllocates self.old.heap layout result self.new.heap }
         ensures refused { OnErr result (self.new.memory.bytes ≡ self.old.memory.bytes) }
@@ -95,10 +97,12 @@ impl<Options: GlobalTlsfOptions> Locked<Options> {
         Ok(addr)
     }
 
-    /// Allocates a payload for a layout, which is then the one that was last asked for it.
+    /// Allocates a payload for a layout, which becomes its last layout. Returns its address.
     ///
-    /// `TableMemory` where the system refused room for a row, and then nothing else was tried; else `NoRoom` exactly where there
-    /// is no room and no memory came. Then nothing changes.
+    /// Refuses, and changes nothing:
+    ///
+    /// - `TableMemory` if the system is out of memory for an entry of the table. Then nothing else was tried.
+    /// - else `NoRoom` exactly if there is no room and no memory came.
     pub fn alloc(&mut self, layout: Layout) -> Result<Addr, GlobalError>
         ensures step { HeapAllocates self.old.heap layout result self.new.heap }
         ensures refused { OnErr result (self.new.memory.bytes ≡ self.old.memory.bytes) }
@@ -114,9 +118,9 @@ impl<Options: GlobalTlsfOptions> Locked<Options> {
         self.allocate(layout)
     }
 
-    /// Gives a payload back. `UnknownAddress` exactly where the address isn't live, and then nothing changes.
+    /// Deallocates a payload. Returns `UnknownAddress` exactly if the address isn't live. Then nothing changes.
     ///
-    /// An address that was given back and handed out again is live, so a call with it can't be refused.
+    /// An address that was deallocated and allocated again is live, so a call with it can't be refused.
     pub fn deallocate(&mut self, addr: Addr) -> Result<(), GlobalError>
         ensures step { HeapDeallocates self.old.heap (at addr) result self.new.heap }
         ensures refused { OnErr result (self.new.memory ≡ self.old.memory) }
@@ -137,10 +141,14 @@ impl<Options: GlobalTlsfOptions> Locked<Options> {
         Ok(())
     }
 
-    /// Gives a payload back whose layout is the one that was last asked. `UnknownAddress` exactly where the address isn't live,
-    /// else `WrongLayout` exactly where the layout is another. Then nothing changes.
+    /// Deallocates a payload whose last layout is `layout`.
     ///
-    /// An address that was given back and handed out again with the same layout is live, so a call with it can't be refused.
+    /// Refuses, and changes nothing:
+    ///
+    /// - `UnknownAddress` exactly if the address isn't live.
+    /// - else `WrongLayout` exactly if `layout` isn't the last layout of the payload.
+    ///
+    /// An address that was deallocated and allocated again with the same layout is live, so a call with it can't be refused.
     pub fn dealloc(&mut self, addr: Addr, layout: Layout) -> Result<(), GlobalError>
         ensures step { HeapDeallocatesAs self.old.heap (at addr) layout result self.new.heap }
         ensures refused { OnErr result (self.new.memory ≡ self.old.memory) }
@@ -164,14 +172,21 @@ impl<Options: GlobalTlsfOptions> Locked<Options> {
         Ok(())
     }
 
-    /// Gives a payload whose layout is the one that was last asked another size, with the same alignment. With `ENABLE_REALLOCATION`
-    /// it is the allocator's reallocation, which leaves the payload where it stands if that can be; without, the payload moves into one
-    /// that is allocated while the old one stands. The bytes that both sizes have are kept.
+    /// Changes the size of a payload whose last layout is `layout`, and keeps its alignment. Returns its address. The first bytes, as many
+    /// as both sizes have, are kept.
     ///
-    /// `UnknownAddress` exactly where the address isn't live, else `WrongLayout` exactly where the layout is another, else `NoRoom`
-    /// exactly where there is no room and no memory came. Then nothing changes. The table needs no room.
+    /// With `ENABLE_REALLOCATION`, the allocator reallocates the payload, which doesn't move if that is possible. Without it, the payload
+    /// moves into a new one, which is allocated while the old one is still live.
     ///
-    /// The new size is one of a layout with that alignment.
+    /// Refuses, and changes nothing:
+    ///
+    /// - `UnknownAddress` exactly if the address isn't live.
+    /// - else `WrongLayout` exactly if `layout` isn't the last layout of the payload.
+    /// - else `NoRoom` exactly if there is no room and no memory came.
+    ///
+    /// The table needs no memory.
+    ///
+    /// `new_size` is the size of a layout with that alignment.
     pub fn realloc(
         &mut self,
         addr: Addr,
@@ -211,9 +226,15 @@ impl<Options: GlobalTlsfOptions> Locked<Options> {
         Ok(moved)
     }
 
-    /// Moves a payload into one that is allocated for another layout while the old one stands, with as many of its first bytes as
-    /// both have. The alignment may be another. `UnknownAddress` exactly where the address isn't live, else `NoRoom` exactly where
-    /// there is no room and no memory came. Then nothing changes. The table needs no room.
+    /// Moves a payload into a new one, which is allocated for another layout while the old one is still live. Returns its address. As many
+    /// of its first bytes as both have are kept. The alignment may be another.
+    ///
+    /// Refuses, and changes nothing:
+    ///
+    /// - `UnknownAddress` exactly if the address isn't live.
+    /// - else `NoRoom` exactly if there is no room and no memory came.
+    ///
+    /// The table needs no memory.
     pub fn reallocate(&mut self, addr: Addr, layout: Layout) -> Result<Addr, GlobalError>
         ensures step { HeapReallocates self.old.heap (at addr) layout result self.new.heap }
         ensures refused { OnErr result (self.new.memory.bytes ≡ self.old.memory.bytes) }
@@ -241,11 +262,16 @@ impl<Options: GlobalTlsfOptions> Locked<Options> {
         Ok(to)
     }
 
-    /// Gives a payload whose layout is the one that was last asked another size where it stands, with the same alignment. The bytes
-    /// that both sizes have stay. `UnknownAddress` exactly where the address isn't live, else `WrongLayout` exactly where the layout is
-    /// another, else `NoRoom` exactly where the bytes there don't suffice. Then nothing changes.
+    /// Changes the size of a payload whose last layout is `layout` without moving it, and keeps its alignment. Returns its address. The
+    /// first bytes, as many as both sizes have, are kept.
     ///
-    /// The new size is one of a layout with that alignment.
+    /// Refuses, and changes nothing:
+    ///
+    /// - `UnknownAddress` exactly if the address isn't live.
+    /// - else `WrongLayout` exactly if `layout` isn't the last layout of the payload.
+    /// - else `NoRoom` exactly if the bytes there don't suffice.
+    ///
+    /// `new_size` is the size of a layout with that alignment.
     pub fn reallocate_no_move(
         &mut self,
         addr: Addr,
@@ -279,8 +305,9 @@ impl<Options: GlobalTlsfOptions> Locked<Options> {
         Ok(to)
     }
 
-    /// How many bytes the caller of a payload may use: those that were asked for, and less than 32 more. `UnknownAddress` exactly
-    /// where the address isn't live.
+    /// Returns the number of usable bytes of a payload: those requested, and less than 32 more.
+    ///
+    /// Returns `UnknownAddress` exactly if the address isn't live.
     pub fn allocation_usable_size(&self, addr: Addr) -> Result<usize, GlobalError>
         ensures step { HeapUsable self.now.heap (at addr) result }
         ensures unknown { IsErrOf result UnknownAddress ↔ (layout_at self.now.heap (at addr) ≡ None) }
@@ -292,8 +319,10 @@ impl<Options: GlobalTlsfOptions> Locked<Options> {
         Ok(self.flex.allocation_usable_size(addr))
     }
 
-    /// Reads the bytes of a payload from an offset on, as many as `bytes` has. `UnknownAddress` exactly where the address isn't
-    /// live, else `OutOfRange` exactly where the bytes go past the usable ones. Then `bytes` stays.
+    /// Reads `bytes.len()` bytes of a payload into `bytes`, from an offset on.
+    ///
+    /// Returns `UnknownAddress` exactly if the address isn't live, else `OutOfRange` exactly if the bytes go past the usable ones. Then
+    /// `bytes` is unchanged.
     pub fn read_payload(
         &self,
         addr: Addr,
@@ -316,9 +345,10 @@ impl<Options: GlobalTlsfOptions> Locked<Options> {
         Ok(())
     }
 
-    /// Writes bytes over those of a payload from an offset on. Its other bytes stay, and so does all else. `UnknownAddress`
-    /// exactly where the address isn't live, else `OutOfRange` exactly where the bytes go past the usable ones. Then nothing
-    /// changes.
+    /// Overwrites bytes of a payload, from an offset on. Its other bytes are unchanged, and so is everything else.
+    ///
+    /// Returns `UnknownAddress` exactly if the address isn't live, else `OutOfRange` exactly if the bytes go past the usable ones. Then
+    /// nothing changes.
     pub fn write_payload(
         &mut self,
         addr: Addr,
@@ -348,7 +378,7 @@ impl<Options: GlobalTlsfOptions> Locked<Options> {
 }
 
 impl<Options: GlobalTlsfOptions> Locked<Options> {
-    /// The live addresses with the layouts that were last asked, in the order of the addresses. The memory is dropped.
+    /// Returns the live addresses with their last layouts, in the order of the addresses. The memory is dropped.
     pub fn into_rows(self) -> Vec<(Addr, Layout)>
         ensures rows { result.items ≡ self.heap.asked }
         ensures sorted { IsSorted result.items }
@@ -358,14 +388,14 @@ impl<Options: GlobalTlsfOptions> Locked<Options> {
     }
 }
 
-/// Whether `len` bytes from an offset on are among the first `usable`.
+/// Returns whether `len` bytes from an offset on are among the first `usable`.
 fn fits(offset: usize, len: usize, usable: usize) -> bool
     ensures { result ≡ nat_le (offset + len) usable }
 {
     offset <= usable && len <= usable - offset
 }
 
-/// Writes bytes over those of a payload, from an offset on.
+/// Overwrites bytes of a payload, from an offset on.
 fn write_at(payload: &mut [u8], offset: usize, bytes: &[u8])
     requires { offset + length bytes.now ≤ length payload.old }
     ensures bytes { payload.new ≡ splice payload.old offset (offset + length bytes.now) bytes.now }

@@ -1,4 +1,4 @@
-//! Payloads that get another size, where they stand or elsewhere.
+//! Reallocation of payloads, with and without a move.
 
 ghost use Rattle.std.specs.Prelude.{◌≡◌, ◌≤◌, ◌+◌, ℕ, List, Ok, Err, Some, IfNone, IfSome, IsSome, false, length, true};
 ghost use Rattle.rlsf_base.specs.Addr.{at};
@@ -21,8 +21,8 @@ use rlsf_sources::{GlobalTlsfOptions, Source};
 /// The allocator over the page source.
 pub(crate) type PagedTlsf<Options> = FlexTlsf<Source<Options>, usize, usize, 64, 64>;
 
-/// Moves a payload into one that is allocated for a layout while the old one stands, with its first `keep` bytes, and gives the old
-/// one back.
+/// Moves a payload, with its first `keep` bytes, into a new one, which is allocated for a layout while the old one is still live. Then
+/// deallocates the old one.
 pub(crate) fn move_away<Options: GlobalTlsfOptions>(
     flex: &mut PagedTlsf<Options>,
     addr: Addr,
@@ -47,7 +47,7 @@ pub(crate) fn move_away<Options: GlobalTlsfOptions>(
     Some(to)
 }
 
-/// Gives a payload of a layout another size: as the allocator does, or, where that isn't enabled, in another payload.
+/// Changes the size of a payload of a layout. The allocator reallocates it, or, if that isn't enabled, it moves into a new payload.
 pub(crate) fn resize<Options: GlobalTlsfOptions>(
     flex: &mut PagedTlsf<Options>,
     addr: Addr,

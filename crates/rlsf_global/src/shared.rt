@@ -12,29 +12,32 @@ use rlsf_sources::{GlobalTlsfOptions, SmallGlobalTlsfOptions};
 use std::alloc::Global;
 use std::sync::{Mutex, Wait};
 
-/// An allocator that many callers share. Each call but `new` takes the lock once, and makes one call of `Locked` while it has it.
-/// The contract of that call says what becomes of the value; no clause can say it here, since others may have the lock before and
-/// after.
+/// An allocator that many callers share. Each call but `new` takes the lock once, and makes one call of `Locked` while it holds the lock.
+///
+/// The contract of that call describes the change of the value. No clause here can state it, since other callers may hold the lock before
+/// and after.
 #[derive(Drop)]
 pub struct GlobalTlsf<Options: GlobalTlsfOptions = ()> {
     locked: Mutex<Locked<Options>>,
 }
 
-/// The same with less code: each reallocation moves, and pools stay apart.
+/// A `GlobalTlsf` with less code: each reallocation moves the payload, and pools are not joined.
 pub type SmallGlobalTlsf = GlobalTlsf<SmallGlobalTlsfOptions>;
 
 impl<Options: GlobalTlsfOptions> GlobalTlsf<Options> {
-    /// An allocator whose source's space is the whole memory. Nothing is live.
+    /// Creates an allocator whose source has the whole memory as its space. Nothing is live.
     pub fn new(alloc: Global, memory: Memory) -> Self {
         GlobalTlsf {
             locked: Mutex::new(Locked::new(alloc, memory)),
         }
     }
 
-    /// Allocates a payload for a layout, as `Locked::alloc` does.
+    /// Allocates a payload for a layout, as `Locked::alloc` does. Returns its address.
     ///
-    /// `TableMemory` where the system refused room for a row of the table, and then nothing else was tried; else `NoRoom` exactly
-    /// where there is no room and no memory came. Then nothing changes.
+    /// Refuses, and changes nothing:
+    ///
+    /// - `TableMemory` if the system is out of memory for an entry of the table. Then nothing else was tried.
+    /// - else `NoRoom` exactly if there is no room and no memory came.
     #[tactic(auto, using(crate::proofs::Refusals::allocates_refuses))]
     pub fn alloc<R: Wait>(&self, rt: &R, layout: Layout) -> Result<Addr, GlobalError>
         ensures refusals { RefusesOnlyBy (NoRoom ∷ TableMemory ∷ []) result }
@@ -42,10 +45,14 @@ impl<Options: GlobalTlsfOptions> GlobalTlsf<Options> {
         self.locked.lock(rt).alloc(layout)
     }
 
-    /// Gives a payload back whose layout is the one that was last asked, as `Locked::dealloc` does. `UnknownAddress` exactly where the
-    /// address isn't live, else `WrongLayout` exactly where the layout is another. Then nothing changes.
+    /// Deallocates a payload whose last layout is `layout`, as `Locked::dealloc` does.
     ///
-    /// An address that was given back and handed out again with the same layout is live, so a call with it can't be refused.
+    /// Refuses, and changes nothing:
+    ///
+    /// - `UnknownAddress` exactly if the address isn't live.
+    /// - else `WrongLayout` exactly if `layout` isn't the last layout of the payload.
+    ///
+    /// An address that was deallocated and allocated again with the same layout is live, so a call with it can't be refused.
     #[tactic(auto, using(crate::proofs::Refusals::deallocates_as_refuses))]
     pub fn dealloc<R: Wait>(&self, rt: &R, addr: Addr, layout: Layout) -> Result<(), GlobalError>
         ensures refusals { RefusesOnlyBy (UnknownAddress ∷ WrongLayout ∷ []) result }
@@ -53,11 +60,16 @@ impl<Options: GlobalTlsfOptions> GlobalTlsf<Options> {
         self.locked.lock(rt).dealloc(addr, layout)
     }
 
-    /// Gives a payload whose layout is the one that was last asked another size, with the same alignment, as `Locked::realloc` does.
-    /// The bytes that both sizes have stay. `UnknownAddress` exactly where the address isn't live, else `WrongLayout` exactly where the
-    /// layout is another, else `NoRoom` exactly where there is no room and no memory came. Then nothing changes.
+    /// Changes the size of a payload whose last layout is `layout`, and keeps its alignment, as `Locked::realloc` does. Returns its
+    /// address. The first bytes, as many as both sizes have, are kept.
     ///
-    /// The new size is one of a layout with that alignment.
+    /// Refuses, and changes nothing:
+    ///
+    /// - `UnknownAddress` exactly if the address isn't live.
+    /// - else `WrongLayout` exactly if `layout` isn't the last layout of the payload.
+    /// - else `NoRoom` exactly if there is no room and no memory came.
+    ///
+    /// `new_size` is the size of a layout with that alignment.
     #[tactic(auto, using(crate::proofs::Refusals::reallocates_as_refuses))]
     pub fn realloc<R: Wait>(
         &self,
@@ -72,11 +84,16 @@ impl<Options: GlobalTlsfOptions> GlobalTlsf<Options> {
         self.locked.lock(rt).realloc(addr, layout, new_size)
     }
 
-    /// Gives a payload whose layout is the one that was last asked another size where it stands, with the same alignment, as
-    /// `Locked::reallocate_no_move` does. `UnknownAddress` exactly where the address isn't live, else `WrongLayout` exactly where the
-    /// layout is another, else `NoRoom` exactly where the bytes there don't suffice. Then nothing changes.
+    /// Changes the size of a payload whose last layout is `layout` without moving it, and keeps its alignment, as
+    /// `Locked::reallocate_no_move` does. Returns its address.
     ///
-    /// The new size is one of a layout with that alignment.
+    /// Refuses, and changes nothing:
+    ///
+    /// - `UnknownAddress` exactly if the address isn't live.
+    /// - else `WrongLayout` exactly if `layout` isn't the last layout of the payload.
+    /// - else `NoRoom` exactly if the bytes there don't suffice.
+    ///
+    /// `new_size` is the size of a layout with that alignment.
     #[tactic(auto, using(crate::proofs::Refusals::reallocates_there_refuses))]
     pub fn reallocate_no_move<R: Wait>(
         &self,
@@ -93,8 +110,10 @@ impl<Options: GlobalTlsfOptions> GlobalTlsf<Options> {
             .reallocate_no_move(addr, layout, new_size)
     }
 
-    /// Reads the bytes of a payload from an offset on, as many as `bytes` has, as `Locked::read_payload` does. `UnknownAddress` exactly
-    /// where the address isn't live, else `OutOfRange` exactly where the bytes go past the usable ones. Then `bytes` stays.
+    /// Reads `bytes.len()` bytes of a payload into `bytes`, from an offset on, as `Locked::read_payload` does.
+    ///
+    /// Returns `UnknownAddress` exactly if the address isn't live, else `OutOfRange` exactly if the bytes go past the usable ones. Then
+    /// `bytes` is unchanged.
     #[tactic(auto, using(crate::proofs::Refusals::reads_refuses, crate::proofs::Refusals::refused_read_leaves))]
     pub fn read_payload<R: Wait>(
         &self,
@@ -109,9 +128,11 @@ impl<Options: GlobalTlsfOptions> GlobalTlsf<Options> {
         self.locked.lock(rt).read_payload(addr, offset, bytes)
     }
 
-    /// Writes bytes over those of a payload from an offset on, as `Locked::write_payload` does. Its other bytes stay, and so does all
-    /// else. `UnknownAddress` exactly where the address isn't live, else `OutOfRange` exactly where the bytes go past the usable ones.
-    /// Then nothing changes.
+    /// Overwrites bytes of a payload, from an offset on, as `Locked::write_payload` does. Its other bytes are unchanged, and so is
+    /// everything else.
+    ///
+    /// Returns `UnknownAddress` exactly if the address isn't live, else `OutOfRange` exactly if the bytes go past the usable ones. Then
+    /// nothing changes.
     #[tactic(auto, using(crate::proofs::Refusals::writes_refuses))]
     pub fn write_payload<R: Wait>(
         &self,
@@ -128,22 +149,28 @@ impl<Options: GlobalTlsfOptions> GlobalTlsf<Options> {
 
 /// The calls of C's allocation functions, through a shared reference.
 pub trait CAlloc {
-    /// Allocates a payload for a layout.
+    /// Allocates a payload for a layout. Returns its address.
     ///
-    /// `TableMemory` where the system refused room for a row of the table, and then nothing else was tried; else `NoRoom` exactly
-    /// where there is no room and no memory came. Then nothing changes.
+    /// Refuses, and changes nothing:
+    ///
+    /// - `TableMemory` if the system is out of memory for an entry of the table. Then nothing else was tried.
+    /// - else `NoRoom` exactly if there is no room and no memory came.
     fn allocate<R: Wait>(&self, rt: &R, layout: Layout) -> Result<Addr, GlobalError>
         ensures refusals { RefusesOnlyBy (NoRoom ∷ TableMemory ∷ []) result };
 
-    /// Gives a payload back. `UnknownAddress` exactly where the address isn't live, and then nothing changes.
+    /// Deallocates a payload. Returns `UnknownAddress` exactly if the address isn't live. Then nothing changes.
     ///
-    /// An address that was given back and handed out again is live, so a call with it can't be refused.
+    /// An address that was deallocated and allocated again is live, so a call with it can't be refused.
     fn deallocate<R: Wait>(&self, rt: &R, addr: Addr) -> Result<(), GlobalError>
         ensures refusals { RefusesOnlyBy (UnknownAddress ∷ []) result };
 
-    /// Moves a payload into one that is allocated for another layout while the old one stands, with as many of its first bytes as both
-    /// sizes have, and gives the old one back. `UnknownAddress` exactly where the address isn't live, else `NoRoom` exactly where there
-    /// is no room and no memory came. Then nothing changes.
+    /// Moves a payload into a new one, which is allocated for another layout while the old one is still live. Then deallocates the old one.
+    /// Returns the new address. As many of the first bytes as both sizes have are kept.
+    ///
+    /// Refuses, and changes nothing:
+    ///
+    /// - `UnknownAddress` exactly if the address isn't live.
+    /// - else `NoRoom` exactly if there is no room and no memory came.
     fn reallocate<R: Wait>(
         &self,
         rt: &R,
@@ -152,13 +179,14 @@ pub trait CAlloc {
     ) -> Result<Addr, GlobalError>
         ensures refusals { RefusesOnlyBy (UnknownAddress ∷ NoRoom ∷ []) result };
 
-    /// How many bytes the caller of a payload may use: those that were asked for, and less than 32 more. `UnknownAddress` exactly
-    /// where the address isn't live.
+    /// Returns the number of usable bytes of a payload: those requested, and less than 32 more.
+    ///
+    /// Returns `UnknownAddress` exactly if the address isn't live.
     fn allocation_usable_size<R: Wait>(&self, rt: &R, addr: Addr) -> Result<usize, GlobalError>
         ensures refusals { RefusesOnlyBy (UnknownAddress ∷ []) result };
 }
 
-/// Each call takes the lock once, and makes the call of `Locked` of that name.
+/// Each call takes the lock once, and makes the call of `Locked` with the same name.
 impl<Options: GlobalTlsfOptions> CAlloc for GlobalTlsf<Options> {
     #[tactic(auto, using(crate::proofs::Refusals::allocates_refuses))]
     fn allocate<R: Wait>(&self, rt: &R, layout: Layout) -> Result<Addr, GlobalError> {

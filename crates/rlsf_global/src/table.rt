@@ -1,4 +1,4 @@
-//! The table of live addresses: rows sorted by address.
+//! The table of live addresses: entries sorted by address.
 
 ghost use Rattle.std.specs.Prelude.{◌≡◌, ◌<◌, IfOk, IfErr, None};
 ghost use Rattle.std.specs.Vec.{vec_len, vec_capacity};
@@ -8,7 +8,7 @@ ghost use Rattle.rlsf_placement.specs.Rows.{key, put, row_at, without_row, IsSor
 
 use rlsf_base::memory::{Addr, Layout};
 
-/// Where the row of the address is, or where it would go.
+/// Returns the index of the entry of an address, or else the index at which it would be inserted.
 pub(crate) fn search(rows: &[(Addr, Layout)], addr: Addr) -> Result<usize, usize>
     requires { IsSorted rows.now }
     ensures found { IfOk result (IsFound rows.now (at addr)) }
@@ -17,7 +17,7 @@ pub(crate) fn search(rows: &[(Addr, Layout)], addr: Addr) -> Result<usize, usize
     rows.binary_search_by_key(&addr.get(), |row| row.0.get())
 }
 
-/// Puts a row in its place. There is room for it.
+/// Inserts an entry. The table has room for it.
 pub(crate) fn place(rows: &mut Vec<(Addr, Layout)>, row: (Addr, Layout))
     requires sorted { IsSorted rows.old.items }
     requires room { vec_len rows.old < vec_capacity rows.old }
@@ -32,7 +32,7 @@ pub(crate) fn place(rows: &mut Vec<(Addr, Layout)>, row: (Addr, Layout))
     }
 }
 
-/// Puts a row in the place of the one at `index`, which has the same address.
+/// Replaces the entry at `index` by one with the same address.
 pub(crate) fn replace(rows: &mut Vec<(Addr, Layout)>, index: usize, row: (Addr, Layout))
     requires { IsFound rows.old.items (key row) index }
     ensures { rows.new.items ≡ put row (without_row (key row) rows.old.items) }
@@ -40,8 +40,8 @@ pub(crate) fn replace(rows: &mut Vec<(Addr, Layout)>, index: usize, row: (Addr, 
     rows[index] = row;
 }
 
-/// Puts a row in the place of the one at `index`, whose address is `addr`: over it if the row's address is the same, else where the
-/// row's own address goes, where none is.
+/// Replaces the entry at `index`, whose address is `addr`. If the new entry has the same address, it overwrites the old one. Else the old
+/// one is removed, and the new one is inserted at its own place. No other entry has its address.
 pub(crate) fn move_row(
     rows: &mut Vec<(Addr, Layout)>,
     addr: Addr,
