@@ -21,8 +21,10 @@ use rlsf_global::{GlobalError, Locked};
 use std::alloc::Global;
 use std::marker::Model;
 
-/// An allocator with a journal of its placement calls. Its type keeps that the placement is what the journal replays to, from nothing
-/// placed on, over a source whose newest range grows.
+/// An allocator with a journal of its placement calls.
+///
+/// By an invariant of the type, the journal replays to the placement. The replay starts with nothing placed, over a source whose newest
+/// range grows.
 #[derive(Drop)]
 pub struct Book {
     locked: Locked<()>,
@@ -40,7 +42,7 @@ impl Model for Book {
 }
 
 impl Book {
-    /// An allocator whose source's space is the whole memory, with an empty journal. Nothing is live.
+    /// Creates an allocator whose source has the whole memory as its space, with an empty journal. Nothing is live.
     pub fn new(alloc: Global, memory: Memory) -> Book
         ensures heap { result.locked.heap ≡ beginning (range_of memory) true }
         ensures memory { result.locked.memory ≡ memory }
@@ -53,18 +55,24 @@ impl Book {
         }
     }
 
-    /// How many entries there are.
+    /// Returns the number of entries of the journal.
     pub fn len(&self) -> usize
         ensures { result ≡ length self.now.journal }
     {
         self.journal.len()
     }
 
-    /// Makes one step, and one entry of it.
+    /// Makes one placement call, and adds its entry to the journal.
     ///
-    /// `JournalMemory` where the system refused room for an entry, and then nothing was tried; else `TableMemory` where it refused
-    /// room for a row of an allocation. Then nothing changes, and no entry is made. Else `UnknownAddress` exactly where the address
-    /// isn't live, and `NoRoom` exactly where there is no room and no memory came. Then nothing changes but for the entry.
+    /// Refuses without an entry, and changes nothing:
+    ///
+    /// - `JournalMemory` if the system is out of memory for an entry. Then nothing was tried.
+    /// - else `TableMemory` if the system is out of memory for an entry of the table of live addresses, in an allocation.
+    ///
+    /// Refuses with an entry, and changes nothing else:
+    ///
+    /// - `UnknownAddress` exactly if the address isn't live.
+    /// - `NoRoom` exactly if there is no room and no memory came.
     pub fn step(&mut self, caller: usize, call: Call) -> Reply
         ensures step { LeadsOrRefused self.old.locked.heap call result self.new.locked.heap }
         ensures entry { self.new.journal ≡ self.old.journal ++ entries_of caller call result }
@@ -85,8 +93,10 @@ impl Book {
         reply
     }
 
-    /// Reads the bytes of a payload from an offset on, as many as `bytes` has. `UnknownAddress` exactly where the address isn't
-    /// live, else `OutOfRange` exactly where the bytes go past the usable ones. Then `bytes` stays. No entry is made.
+    /// Reads `bytes.len()` bytes of a payload into `bytes`, from an offset on.
+    ///
+    /// Returns `UnknownAddress` exactly if the address isn't live, else `OutOfRange` exactly if the bytes go past the usable ones. Then
+    /// `bytes` is unchanged. No entry is made.
     pub fn read_payload(
         &self,
         addr: Addr,
@@ -100,9 +110,10 @@ impl Book {
         self.locked.read_payload(addr, offset, bytes)
     }
 
-    /// Writes bytes over those of a payload from an offset on. Its other bytes stay, and so does all else. `UnknownAddress`
-    /// exactly where the address isn't live, else `OutOfRange` exactly where the bytes go past the usable ones. Then nothing
-    /// changes. No entry is made.
+    /// Overwrites bytes of a payload, from an offset on. Its other bytes are unchanged, and so is everything else.
+    ///
+    /// Returns `UnknownAddress` exactly if the address isn't live, else `OutOfRange` exactly if the bytes go past the usable ones. Then
+    /// nothing changes. No entry is made.
     pub fn write_payload(
         &mut self,
         addr: Addr,
@@ -118,13 +129,18 @@ impl Book {
         self.locked.write_payload(addr, offset, bytes)
     }
 
-    /// Ends the book. Where the passes of the numbers below `callers` agree with the journal, it gives the journal out with what is
-    /// live. The journal is one run of the machine from nothing placed to the end, and each caller's entries are exactly the receipts
-    /// of its pass, in their order.
+    /// Ends the book. If the passes of the numbers below `callers` agree with the journal, returns the journal and the live addresses.
     ///
-    /// `StrangePass` exactly where a pass has a number that isn't below `callers`, or one that another has too; else `MissingPass`
-    /// exactly where a number below `callers` has no pass; else `Mismatch` exactly where they don't agree. The memory is dropped, and
-    /// on an error journal and passes are dropped too. No memory is asked for.
+    /// The journal is then one run of the reference model, from nothing placed to the end. The entries of each caller are exactly the
+    /// receipts of its pass, in their order.
+    ///
+    /// Refuses:
+    ///
+    /// - `StrangePass` exactly if a pass has a number that isn't below `callers`, or the number of another pass.
+    /// - else `MissingPass` exactly if a number below `callers` has no pass.
+    /// - else `Mismatch` exactly if passes and journal don't agree.
+    ///
+    /// The memory is dropped. On an error, the journal and the passes are dropped, too. The call requests no memory.
     pub fn close(self, callers: usize, passes: Vec<Pass>) -> Result<Closed, CloseError>
         ensures strange { IsErrOf result StrangePass ↔ (is_strange callers passes.items ≡ true) }
         ensures missing { IsErrOf result MissingPass ↔ LacksOne callers passes.items }
@@ -151,7 +167,7 @@ impl Book {
     }
 }
 
-/// The step of a call.
+/// Makes a placement call, and returns its reply.
 fn answer(locked: &mut Locked<()>, call: Call) -> Reply
     ensures step { LeadsOrRefused locked.old.heap call result locked.new.heap }
     ensures not_journal { result ≢ JournalMemory }

@@ -1,4 +1,4 @@
-//! What closing tests.
+//! The tests that closing a book makes.
 
 ghost use Rattle.std.specs.Prelude.{◌≡◌, ◌↔◌, ℕ, ◌<◌, MatchBool, IsTrue, All, false};
 ghost use Rattle.rlsf_journal.specs.Close.{has_pass, is_strange, HasEach, Agree};
@@ -8,7 +8,7 @@ use crate::entry::Entry;
 use crate::pass::Pass;
 use crate::receipts::agrees;
 
-/// Whether some pass has the number.
+/// Returns whether some pass has the number.
 fn has_pass(caller: usize, passes: &[Pass]) -> bool
     ensures { result ≡ has_pass caller passes.now }
 {
@@ -20,7 +20,7 @@ fn has_pass(caller: usize, passes: &[Pass]) -> bool
     false
 }
 
-/// Whether some pass has a number that isn't below the bound, or one that a later pass has too.
+/// Returns whether some pass has a number that isn't below the bound, or the number of a later pass.
 pub(crate) fn is_strange(callers: usize, passes: &[Pass]) -> bool
     ensures { result ≡ is_strange callers passes.now }
 {
@@ -33,7 +33,7 @@ pub(crate) fn is_strange(callers: usize, passes: &[Pass]) -> bool
     false
 }
 
-/// Whether a number below the bound has no pass.
+/// Returns whether a number below the bound has no pass.
 pub(crate) fn is_missing(callers: usize, passes: &[Pass]) -> bool
     ensures { MatchBool result ((c : ℕ) × (c < callers) × (has_pass c passes.now ≡ false)) (HasEach callers passes.now) }
 {
@@ -45,7 +45,7 @@ pub(crate) fn is_missing(callers: usize, passes: &[Pass]) -> bool
     false
 }
 
-/// Whether each entry's caller is below the bound.
+/// Returns whether the caller of each entry is below the bound.
 fn all_known(callers: usize, journal: &[Entry]) -> bool
     ensures { IsTrue result ↔ All (λ e. e.caller < callers) journal.now }
 {
@@ -57,7 +57,7 @@ fn all_known(callers: usize, journal: &[Entry]) -> bool
     true
 }
 
-/// Whether each pass has exactly the receipts of its caller's entries.
+/// Returns whether each pass has exactly the receipts of its caller's entries.
 fn all_agree(passes: &[Pass], journal: &[Entry]) -> bool
     ensures { IsTrue result ↔ All (λ p. p.receipts ≡ receipts_of p.caller 0 journal.now) passes.now }
 {
@@ -70,7 +70,7 @@ fn all_agree(passes: &[Pass], journal: &[Entry]) -> bool
     true
 }
 
-/// Whether passes and journal agree.
+/// Returns whether passes and journal agree.
 pub(crate) fn agree(callers: usize, passes: &[Pass], journal: &[Entry]) -> bool
     ensures { IsTrue result ↔ Agree callers passes.now journal.now }
 {

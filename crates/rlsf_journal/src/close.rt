@@ -1,14 +1,14 @@
-//! What a closed book leaves.
+//! The results of closing a book.
 
 use crate::entry::Entry;
 use rlsf_base::memory::{Addr, Layout};
 
-/// What a closed book leaves: its journal, and what is live at its end.
+/// The result of closing a book: its journal, and the live addresses at its end.
 #[derive(Drop)]
 pub struct Closed {
-    /// The entries, in the order of their steps.
+    /// The entries, in the order of their calls.
     pub journal: Vec<Entry>,
-    /// The live addresses with the layouts that were last asked, in the order of the addresses.
+    /// The live addresses with their last layouts, in the order of the addresses.
     pub live: Vec<(Addr, Layout)>,
 }
 
@@ -17,8 +17,8 @@ pub struct Closed {
 pub enum CloseError {
     /// A number below the bound has no pass.
     MissingPass = 1,
-    /// A pass has a number that isn't below the bound, or one that another pass has too.
+    /// A pass has a number that isn't below the bound, or the number of another pass.
     StrangePass = 2,
-    /// The entries of some caller aren't exactly the receipts of its pass in their order, or an entry's caller isn't below the bound.
+    /// The entries of some caller aren't exactly the receipts of its pass in their order, or the caller of an entry isn't below the bound.
     Mismatch = 3,
 }

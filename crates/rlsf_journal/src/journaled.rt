@@ -22,9 +22,10 @@ use rlsf_global::GlobalError;
 use std::alloc::Global;
 use std::sync::{Mutex, Wait};
 
-/// An allocator with a journal of its placement calls, for callers in threads. Each call takes one lock, once, for the whole step.
+/// An allocator with a journal of its placement calls, for callers in threads. Each call takes one lock once, and holds it for the complete
+/// step.
 ///
-/// A caller calls with its pass, which gets a receipt of each call that was answered.
+/// A caller calls with its pass. The pass gets a receipt of each call that has an entry.
 #[derive(Drop)]
 pub struct Journaled {
     book: Mutex<Book>,
@@ -32,8 +33,10 @@ pub struct Journaled {
 }
 
 impl Journaled {
-    /// An allocator whose source's space is the whole memory, with the passes of the numbers below `callers`, in order. Nothing is
-    /// live, and no pass has a receipt. `JournalMemory` where the system refused room for the passes; then the memory is dropped.
+    /// Creates an allocator whose source has the whole memory as its space, with the passes of the numbers below `callers`, in order.
+    /// Nothing is live, and no pass has a receipt.
+    ///
+    /// Returns `JournalMemory` if the system is out of memory for the passes. Then the memory is dropped.
     pub fn new(
         alloc: Global,
         memory: Memory,
@@ -48,18 +51,21 @@ impl Journaled {
         Ok((Journaled { book, callers }, passes))
     }
 
-    /// How many callers there are: the bound of their numbers. It doesn't take the lock.
+    /// Returns the number of callers: the bound of their numbers. It doesn't take the lock.
     pub fn callers(&self) -> usize
         ensures { result ≡ self.now.callers }
     {
         self.callers
     }
 
-    /// Allocates a payload for a layout. The pass, whose number is below `callers`, gets a receipt.
+    /// Allocates a payload for a layout, and returns its address. The pass, whose number is below `callers`, gets a receipt.
     ///
-    /// `JournalMemory` where the system refused room for a receipt or an entry, and `TableMemory` where it refused room for a row
-    /// of the table of live addresses: then nothing changes, and there is no entry and no receipt. Else `NoRoom` where there is no room
-    /// and no memory came.
+    /// Refuses without an entry or a receipt, and changes nothing:
+    ///
+    /// - `JournalMemory` if the system is out of memory for a receipt or an entry.
+    /// - `TableMemory` if the system is out of memory for an entry of the table of live addresses.
+    ///
+    /// Else returns `NoRoom` if there is no room and no memory came.
     pub fn allocate(
         &self,
         rt: &impl Wait,
@@ -72,11 +78,14 @@ impl Journaled {
         placed(self.step(rt, pass, Call::Allocate(layout)))
     }
 
-    /// Gives a payload back. The pass, whose number is below `callers`, gets a receipt.
+    /// Deallocates a payload. The pass, whose number is below `callers`, gets a receipt.
     ///
-    /// `JournalMemory` where the system refused room for a receipt or an entry: then nothing changes, and there is no entry and no
-    /// receipt. Else `UnknownAddress` where the address isn't live. An address that was given back and handed out again is live, so a
-    /// call with it can't be refused.
+    /// Returns `JournalMemory` if the system is out of memory for a receipt or an entry. Then nothing changes, and there is no entry and no
+    /// receipt.
+    ///
+    /// Else returns `UnknownAddress` if the address isn't live.
+    ///
+    /// An address that was deallocated and allocated again is live, so a call with it can't be refused.
     pub fn deallocate(&self, rt: &impl Wait, pass: &mut Pass, addr: Addr) -> Result<(), GlobalError>
         requires { pass.old.caller < self.now.callers }
         ensures { Receipted done_by (Deallocate addr) result pass.old pass.new }
@@ -84,11 +93,13 @@ impl Journaled {
         done(self.step(rt, pass, Call::Deallocate(addr)))
     }
 
-    /// Moves a payload into one that is allocated for another layout while the old one stands, with as many of its first bytes as
-    /// both have. The alignment may be another. The pass, whose number is below `callers`, gets a receipt.
+    /// Moves a payload into a new one, which is allocated for another layout while the old one is still live. Returns its address. As many
+    /// of its first bytes as both have are kept. The alignment may be another. The pass, whose number is below `callers`, gets a receipt.
     ///
-    /// `JournalMemory` where the system refused room for a receipt or an entry: then nothing changes, and there is no entry and no
-    /// receipt. Else `UnknownAddress` where the address isn't live, else `NoRoom` where there is no room and no memory came.
+    /// Returns `JournalMemory` if the system is out of memory for a receipt or an entry. Then nothing changes, and there is no entry and no
+    /// receipt.
+    ///
+    /// Else returns `UnknownAddress` if the address isn't live, else `NoRoom` if there is no room and no memory came.
     pub fn reallocate(
         &self,
         rt: &impl Wait,
@@ -102,8 +113,10 @@ impl Journaled {
         placed(self.step(rt, pass, Call::Reallocate(addr, layout)))
     }
 
-    /// Reads the bytes of a payload from an offset on, as many as `bytes` has. `UnknownAddress` where the address isn't live, else
-    /// `OutOfRange` where the bytes go past the usable ones. Then `bytes` stays. No entry is made.
+    /// Reads `bytes.len()` bytes of a payload into `bytes`, from an offset on.
+    ///
+    /// Returns `UnknownAddress` if the address isn't live, else `OutOfRange` if the bytes go past the usable ones. Then `bytes` is
+    /// unchanged. No entry is made.
     pub fn read_payload(
         &self,
         rt: &impl Wait,
@@ -117,8 +130,10 @@ impl Journaled {
         self.book.lock(rt).read_payload(addr, offset, bytes)
     }
 
-    /// Writes bytes over those of a payload from an offset on. Its other bytes stay, and so does all else. `UnknownAddress` where
-    /// the address isn't live, else `OutOfRange` where the bytes go past the usable ones. Then nothing changes. No entry is made.
+    /// Overwrites bytes of a payload, from an offset on. Its other bytes are unchanged, and so is everything else.
+    ///
+    /// Returns `UnknownAddress` if the address isn't live, else `OutOfRange` if the bytes go past the usable ones. Then nothing changes. No
+    /// entry is made.
     pub fn write_payload(
         &self,
         rt: &impl Wait,
@@ -131,13 +146,18 @@ impl Journaled {
         self.book.lock(rt).write_payload(addr, offset, bytes)
     }
 
-    /// Ends it. Where the passes of the numbers below `callers` agree with the journal, it gives the journal out with what is live.
-    /// The journal is one run of the machine from nothing placed to the end, and each caller's entries are exactly the receipts of
-    /// its pass, in their order.
+    /// Ends the allocator. If the passes of the numbers below `callers` agree with the journal, returns the journal and the live addresses.
     ///
-    /// `StrangePass` exactly where a pass has a number that isn't below `callers`, or one that another has too; else `MissingPass`
-    /// exactly where a number below `callers` has no pass; else `Mismatch` where they don't agree. The memory is dropped, and on an
-    /// error journal and passes are dropped too. No memory is asked for.
+    /// The journal is then one run of the reference model, from nothing placed to the end. The entries of each caller are exactly the
+    /// receipts of its pass, in their order.
+    ///
+    /// Refuses:
+    ///
+    /// - `StrangePass` exactly if a pass has a number that isn't below `callers`, or the number of another pass.
+    /// - else `MissingPass` exactly if a number below `callers` has no pass.
+    /// - else `Mismatch` if passes and journal don't agree.
+    ///
+    /// The memory is dropped. On an error, the journal and the passes are dropped, too. The call requests no memory.
     pub fn close(self, passes: Vec<Pass>) -> Result<Closed, CloseError>
         ensures strange { IsErrOf result StrangePass ↔ (is_strange self.callers passes.items ≡ true) }
         ensures missing { IsErrOf result MissingPass ↔ LacksOne self.callers passes.items }
@@ -149,7 +169,7 @@ impl Journaled {
         book.into_inner().close(callers, passes)
     }
 
-    /// The step of a call. Room for its receipt is reserved before the lock is taken.
+    /// Makes a placement call, and returns its reply. Memory for its receipt is reserved before the lock is taken.
     fn step(&self, rt: &impl Wait, pass: &mut Pass, call: Call) -> Reply
         ensures fits { IsReplyTo call result }
         ensures receipt { (number : ℕ) × (pass.new.receipts ≡ pass.old.receipts ++ receipts_for number call result) }
@@ -173,7 +193,7 @@ impl Journaled {
     }
 }
 
-/// What a call that gives an address answers by a reply.
+/// Returns the result that a reply gives for a call that returns an address.
 fn placed(reply: Reply) -> Result<Addr, GlobalError>
     ensures { result ≡ placed_by reply }
 {
@@ -186,7 +206,7 @@ fn placed(reply: Reply) -> Result<Addr, GlobalError>
     }
 }
 
-/// What a deallocation answers by a reply.
+/// Returns the result that a reply gives for a deallocation.
 fn done(reply: Reply) -> Result<(), GlobalError>
     ensures { result ≡ done_by reply }
 {
@@ -199,7 +219,7 @@ fn done(reply: Reply) -> Result<(), GlobalError>
     }
 }
 
-/// The passes of the numbers below `callers`, in order, none used; none where the system refused room for them.
+/// Returns the unused passes of the numbers below `callers`, in order, or `None` if the system is out of memory for them.
 fn first_passes(alloc: Global, callers: usize) -> Option<Vec<Pass>>
     ensures { IfSome result (λ passes. AreFirst callers passes.items) }
 {

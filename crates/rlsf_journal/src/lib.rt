@@ -1,8 +1,9 @@
-//! A journal of what callers of one allocator were told.
+//! A journal of the replies that callers of one allocator received.
 //!
-//! A `Book` is an allocator with a journal of its placement calls; a `Journaled` is a book behind a lock, for callers in threads. Each
-//! caller has a `Pass`, which collects a receipt of each of its calls. `close` takes the passes back, and gives the journal out where
-//! they agree with it: then it is one history that explains every answer.
+//! A `Book` is an allocator with a journal of its placement calls. A `Journaled` is a book behind a lock, for callers in threads. Each
+//! caller has a `Pass`, which collects a receipt of each of its calls.
+//!
+//! `close` takes the passes, and returns the journal if they agree with it. The journal is then one history that explains every reply.
 //!
 //! Read `specs/` in this order: `Entries`, `Passes`, `Replay`, `Close`, `Laws`.
 #![tactic(auto)]
@@ -26,10 +27,10 @@ pub use pass::Pass;
 
 /// Does nothing. Its contract states the laws of journals, so that a check proves them.
 ///
-/// A receipt names its entry: the entry at the receipt's number is the caller's, with that call and that reply. The calls of a journal,
-/// in their order, determine their replies and the placement at the end, whatever was read and written meanwhile: so who has the
-/// calls of a closed journal can compute its replies, and what is live. Of the runs that closing gives it holds wherever their spaces
-/// are the same.
+/// - A receipt names its entry: the entry at the receipt's number is the caller's, with that call and that reply.
+/// - The calls of a journal, in their order, determine their replies and the placement at the end. This holds for any reads and writes
+///   between them. So the calls of a closed journal suffice to compute its replies and its live addresses.
+/// - Two runs that closing returns have this property, too, if their spaces are the same.
 pub fn laws()
     ensures receipts { ReceiptsAreEntries }
     ensures replies { CallsDetermineReplies }

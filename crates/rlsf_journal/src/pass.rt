@@ -1,11 +1,11 @@
-//! What one caller was told.
+//! The receipts of one caller.
 
 ghost use Rattle.std.specs.Prelude.{◌≡◌};
 
 use crate::entry::Receipt;
 use std::marker::Model;
 
-/// A caller's number, and a receipt of each of its calls. It can't be copied, so no two callers go by one number.
+/// A caller's number, and a receipt of each of its calls. It can't be copied, so no two callers have the same number.
 #[derive(Drop)]
 pub struct Pass {
     pub(crate) caller: usize,
@@ -21,14 +21,14 @@ impl Model for Pass {
 }
 
 impl Pass {
-    /// The caller's number.
+    /// Returns the caller's number.
     pub fn caller(&self) -> usize
         ensures { result ≡ self.now.caller }
     {
         self.caller
     }
 
-    /// A receipt of each call that was answered, in the order of the calls. None was made where the system refused memory.
+    /// Returns a receipt of each call that has an entry, in the order of the calls. A call for which the system is out of memory has none.
     pub fn receipts(&self) -> &[Receipt]
         ensures { result.now ≡ self.now.receipts }
     {

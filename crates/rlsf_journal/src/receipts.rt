@@ -1,11 +1,11 @@
-//! A caller's receipts against the journal.
+//! Comparison of a caller's receipts with the journal.
 
 ghost use Rattle.std.specs.Prelude.{◌≡◌, ◌↔◌, IsTrue};
 ghost use Rattle.rlsf_journal.specs.Entries.{receipts_of};
 
 use crate::entry::{Call, Entry, Receipt, Reply};
 
-/// Whether these are exactly the receipts of the caller's entries, in their order.
+/// Returns whether these are exactly the receipts of the caller's entries, in their order.
 pub(crate) fn agrees(caller: usize, receipts: &[Receipt], journal: &[Entry]) -> bool
     ensures { IsTrue result ↔ (receipts.now ≡ receipts_of caller 0 journal.now) }
 {
@@ -30,14 +30,14 @@ pub(crate) fn agrees(caller: usize, receipts: &[Receipt], journal: &[Entry]) -> 
     rest.is_empty()
 }
 
-/// Whether two receipts are equal.
+/// Returns whether two receipts are equal.
 fn is_same(a: &Receipt, b: &Receipt) -> bool
     ensures { IsTrue result ↔ (a.now ≡ b.now) }
 {
     a.number == b.number && is_same_call(a.call, b.call) && is_same_reply(a.reply, b.reply)
 }
 
-/// Whether two calls are equal.
+/// Returns whether two calls are equal.
 fn is_same_call(a: Call, b: Call) -> bool
     ensures { IsTrue result ↔ (a ≡ b) }
 {
@@ -49,7 +49,7 @@ fn is_same_call(a: Call, b: Call) -> bool
     }
 }
 
-/// Whether two replies are equal.
+/// Returns whether two replies are equal.
 fn is_same_reply(a: Reply, b: Reply) -> bool
     ensures { IsTrue result ↔ (a ≡ b) }
 {

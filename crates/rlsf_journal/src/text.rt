@@ -1,10 +1,10 @@
-//! The text of a journal, one line an entry.
+//! The text of a journal, with one line for each entry.
 
 use crate::close::Closed;
 use crate::entry::{Call, Entry, Reply};
 use std::fmt;
 
-/// As `allocate 8 align 16`, `deallocate 65552` and `reallocate 65552 to 8 align 16`. Numbers are in bytes.
+/// Writes `allocate 8 align 16`, `deallocate 65552` or `reallocate 65552 to 8 align 16`, for example. Numbers are in bytes.
 impl fmt::Display for Call {
     fn fmt<W: fmt::Write>(&self, f: &mut fmt::Formatter<W>) -> fmt::Result {
         match *self {
@@ -24,7 +24,7 @@ impl fmt::Display for Call {
     }
 }
 
-/// As `placed at 65552`, `freed`, `no room` and `unknown address`.
+/// Writes `placed at 65552`, `freed`, `no room` or `unknown address`, for example.
 impl fmt::Display for Reply {
     fn fmt<W: fmt::Write>(&self, f: &mut fmt::Formatter<W>) -> fmt::Result {
         match *self {
@@ -41,7 +41,7 @@ impl fmt::Display for Reply {
     }
 }
 
-/// The caller, the call and what it was answered, as `caller 0: allocate 8 align 16: placed at 65552`.
+/// Writes the caller, the call and the reply, for example `caller 0: allocate 8 align 16: placed at 65552`.
 impl fmt::Display for Entry {
     fn fmt<W: fmt::Write>(&self, f: &mut fmt::Formatter<W>) -> fmt::Result {
         let Entry {
@@ -53,8 +53,8 @@ impl fmt::Display for Entry {
     }
 }
 
-/// A line for each entry with its number, as `0 caller 0: deallocate 7: unknown address`; then a line for each live address, as
-/// `live 65552: 8 align 16`.
+/// Writes a line for each entry with its number, for example `0 caller 0: deallocate 7: unknown address`. Then writes a line for each live
+/// address, for example `live 65552: 8 align 16`.
 impl fmt::Display for Closed {
     fn fmt<W: fmt::Write>(&self, f: &mut fmt::Formatter<W>) -> fmt::Result {
         for number in 0..self.journal.len() {
