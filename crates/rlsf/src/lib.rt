@@ -1,8 +1,9 @@
 //! A real-time memory allocator: two-level segregated fit over memory that the caller provides.
 //!
-//! This crate has no code of its own. It re-exports what a user of `Tlsf` or `FlexTlsf` needs, so that a crate of callers lists it
-//! alone. `specs/` and `proofs/` re-export the definitions and the lemmas that callers cite. The allocator behind a lock is in
-//! `rlsf_global`, and the journal of its calls in `rlsf_journal`.
+//! This crate has no code of its own. It re-exports what a user of `Tlsf` or `FlexTlsf` needs, so that a caller's crate depends on it
+//! alone. `specs/` and `proofs/` re-export the definitions and the lemmas that callers cite.
+//!
+//! The allocator behind a lock is in `rlsf_global`, and the journal of its calls in `rlsf_journal`.
 #![tactic(auto)]
 
 pub use rlsf_base::memory::{Addr, Layout, LayoutError, Memory, MemoryError, Range};
