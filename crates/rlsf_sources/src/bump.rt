@@ -1,4 +1,4 @@
-//! The bump source: it hands out exactly what is asked for, from a cursor on.
+//! The bump source: it provides exactly the requested bytes, from a cursor on.
 
 ghost use Rattle.std.specs.Prelude.{◌≡◌, ◌<◌, ◌≤◌, ◌+◌, ◌^◌, ◌++◌, ◌∷◌, List, [], MatchOption, min};
 ghost use Rattle.rlsf_base.specs.declared.memory.range.Range.{Range};
@@ -12,8 +12,7 @@ use rlsf_base::memory::Range;
 use rlsf_flex::FlexSource;
 use std::marker::Model;
 
-/// A source of one range of its space, which begins at a multiple of 32 and grows by exactly the bytes that are asked for. Nothing is
-/// taken back.
+/// A source of one range of its space, which begins at a multiple of 32 and grows by exactly the requested bytes. It takes no range back.
 #[derive(Drop)]
 pub struct BumpSource {
     space: Range,
@@ -31,9 +30,9 @@ impl Model for BumpSource {
 }
 
 impl BumpSource {
-    /// A source of the space, which has handed out nothing yet.
+    /// Creates a source of the space, which has not provided anything yet.
     ///
-    /// The space's end isn't past the greatest address.
+    /// The end of the space isn't past the greatest address.
     pub fn new(space: Range) -> BumpSource
         requires { end_of space < 2 ^ 64 }
         ensures value { result ≡ bump_in space space.start }
@@ -45,7 +44,7 @@ impl BumpSource {
         }
     }
 
-    /// The end of `len` bytes from an address on, if the space has them.
+    /// Returns the end of `len` bytes from an address on, if the space contains them.
     fn end_in_space(&self, start: usize, len: usize) -> Option<usize>
         ensures { MatchOption result (end_of self.now.space < start + len) (λ end. (end ≡ start + len) × (end ≤ end_of self.now.space)) }
     {
@@ -55,9 +54,13 @@ impl BumpSource {
     }
 }
 
-/// `alloc` hands out exactly the bytes that are asked for, from the first multiple of 32 behind the cursor on, and moves the cursor to
-/// their end. It returns `None` exactly if the space ends before that. A range grows to exactly the length that is asked for if it ends
-/// at the cursor and the space has the bytes. Where the answer is `None`, nothing changes.
+/// `alloc` provides exactly the requested bytes, from the first multiple of 32 at or behind the cursor on, and moves the cursor to their
+/// end. It returns `None` exactly if the space ends before that.
+///
+/// A range grows to exactly the requested length if it ends at the cursor and the space contains the bytes. The cursor is then at its new
+/// end.
+///
+/// If a call returns `None`, nothing changes.
 impl FlexSource for BumpSource {
     ghost terms = { bump_terms };
 

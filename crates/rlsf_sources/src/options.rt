@@ -1,14 +1,14 @@
-//! What an allocator behind the lock is built with.
+//! The options of an allocator behind the lock.
 
 ghost use Rattle.std.specs.Prelude.{Bool, true, false};
 
-/// What an allocator behind the lock is built with. Both constants are stated by each implementation.
+/// The options of an allocator behind the lock. Each implementation states both constants.
 pub trait GlobalTlsfOptions {
-    /// Whether `realloc` is the allocator's own, which leaves a payload where it stands if that can be. Without it, `realloc`
-    /// allocates anew, copies, and gives the old payload back.
+    /// Whether `realloc` is the reallocation of the allocator itself, which doesn't move a payload if that is possible. Without it,
+    /// `realloc` allocates a new payload, copies, and deallocates the old one.
     const ENABLE_REALLOCATION: bool;
 
-    /// Whether the newest range of the page source grows, so that pools that lie side by side become one.
+    /// Whether the newest range of the page source grows, so that adjacent pools become one.
     const COALESCE_POOLS: bool;
 
     ghost ENABLE_REALLOCATION: { Bool };
@@ -16,7 +16,7 @@ pub trait GlobalTlsfOptions {
     ghost COALESCE_POOLS: { Bool };
 }
 
-/// Both.
+/// Both options.
 impl GlobalTlsfOptions for () {
     const ENABLE_REALLOCATION: bool = true;
 
@@ -27,7 +27,7 @@ impl GlobalTlsfOptions for () {
     ghost COALESCE_POOLS = { true };
 }
 
-/// Neither: less code, and pools that stay apart.
+/// Neither option: less code, and pools that are not joined.
 #[derive(Debug)]
 pub struct SmallGlobalTlsfOptions;
 

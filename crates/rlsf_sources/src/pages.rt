@@ -1,4 +1,4 @@
-//! The page source: it hands out whole pages of its space, from a cursor on.
+//! The page source: it provides complete pages of its space, from a cursor on.
 
 ghost use Rattle.std.specs.Prelude.{◌≡◌, ◌<◌, ◌≤◌, ◌+◌, ◌^◌, ◌++◌, ◌∷◌, List, [], MatchOption};
 ghost use Rattle.rlsf_base.specs.declared.memory.range.Range.{Range};
@@ -13,11 +13,13 @@ use rlsf_base::memory::Range;
 use rlsf_flex::FlexSource;
 use std::marker::{Model, PhantomData};
 
-/// The unit of pages, in bytes.
+/// The length of a page in bytes.
 const PAGE: usize = 65536;
 
-/// A source of whole pages of its space, 65536 bytes each. A cursor begins at the space's start rounded up to 32, and all that is
-/// handed out lies before it. The range that ends at the cursor can grow if `COALESCE_POOLS` is true. Nothing is taken back.
+/// A source of complete pages of its space, 65,536 bytes each. It takes no range back.
+///
+/// A cursor begins at the start of the space, rounded up to a multiple of 32. All ranges that were provided lie before the cursor. The
+/// range that ends at the cursor can grow if `COALESCE_POOLS` is true.
 #[derive(Drop)]
 pub struct Source<Options: GlobalTlsfOptions> {
     space: Range,
@@ -37,10 +39,10 @@ impl<Options: GlobalTlsfOptions> Model for Source<Options> {
 }
 
 impl<Options: GlobalTlsfOptions> Source<Options> {
-    /// A source of the space, which has handed out nothing yet. Where the space ends before its start rounded up to 32, it refuses
-    /// always.
+    /// Creates a source of the space, which has not provided anything yet. If the space ends before its start rounded up to a multiple of
+    /// 32, the source always refuses.
     ///
-    /// The space's end isn't past the greatest address.
+    /// The end of the space isn't past the greatest address.
     pub fn new(space: Range) -> Self
         requires { end_of space < 2 ^ 64 }
         ensures value { result ≡ page_cursor space (first_page space) Options.COALESCE_POOLS }
@@ -58,7 +60,7 @@ impl<Options: GlobalTlsfOptions> Source<Options> {
         }
     }
 
-    /// The end of so many whole pages from an address on as hold `len` bytes, if the space has them.
+    /// Returns the end of the least number of complete pages, from an address on, that hold `len` bytes, if the space contains them.
     fn end_of_pages(&self, start: usize, len: usize) -> Option<usize>
         ensures { MatchOption result (end_of self.now.space < start + pages len) (λ end. (end ≡ start + pages len) × (end ≤ end_of self.now.space)) }
     {
@@ -69,9 +71,13 @@ impl<Options: GlobalTlsfOptions> Source<Options> {
     }
 }
 
-/// `alloc` rounds the size up to whole pages, hands out the range at the cursor and moves the cursor to its end, or answers none
-/// exactly where the space ends before that. A range grows, to a length rounded likewise, exactly if it ends at the cursor and the
-/// space has the bytes; the cursor is at its new end then. Where the answer is none, nothing changes.
+/// `alloc` rounds the size up to complete pages, provides the range at the cursor, and moves the cursor to its end. It returns `None`
+/// exactly if the space ends before that.
+///
+/// A range grows exactly if it ends at the cursor and the space contains the bytes. Its new length is rounded up to complete pages, too,
+/// and the cursor is then at its new end.
+///
+/// If a call returns `None`, nothing changes.
 impl<Options: GlobalTlsfOptions> FlexSource for Source<Options> {
     ghost terms = { terms_of };
 
