@@ -72,8 +72,10 @@ typedef struct {
 /* Returns the size of a handle in bytes: malloc(rlsf_size()) has room for one. It is about 33 KiB for each kind. */
 size_t rlsf_size(void);
 
-/* Returns the length in bytes of a range in which a pool of the kind refuses no payload of up to `size` bytes and an alignment of up to
- * `align`. This holds for every order of calls in which at most `count` payloads are live before each rlsf_allocate and each rlsf_realloc.
+/* Returns the length in bytes of a range in which a pool of the kind refuses no payload within some bounds. Each payload has up to `size`
+ * bytes and an alignment of up to `align`. At most `count` are live before each rlsf_allocate and each rlsf_realloc. The order of the calls
+ * doesn't matter.
+ *
  * Insert the range at a multiple of 32, before the first payload. If `align` is at most 16, it is the least such length. docs/SIZING.md has
  * the formula.
  *
