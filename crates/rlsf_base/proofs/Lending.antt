@@ -2,3 +2,6 @@
 pub mod Copied
 pub mod Lent
 pub mod Replaced
+pub mod Present
+pub mod Here
+pub mod Whole

@@ -1,3 +1,4 @@
+pub mod Changes
 pub mod Layouts
 pub mod Lending
 pub mod Numbers

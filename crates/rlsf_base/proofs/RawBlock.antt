@@ -1,7 +1,13 @@
 -- The raw block of a memory: what the walks by hand rest on.
+pub mod Copies
 pub mod Crosses
+pub mod Fills
+pub mod Grid
 pub mod Rooms
 pub mod Rows
 pub mod Sharing
+pub mod Tickets
+pub mod Units
 pub mod Values
 pub mod Walks
+pub mod Ways

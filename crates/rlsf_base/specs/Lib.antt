@@ -1,9 +1,16 @@
 pub mod Addr
+pub mod Changes
 pub mod ClassLaws
 pub mod Layout
+pub mod Ledger
 pub mod Lends
+pub mod LendsPiece
+pub mod OpenSpace
+pub mod Out
+pub mod Piece
 pub mod PowerOfTwo
 pub mod Range
+pub mod RawParts
 pub mod Rounding
 pub mod SizeClass
 pub mod Sizes

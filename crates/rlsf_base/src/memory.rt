@@ -1,8 +1,8 @@
 //! Addresses, ranges and layouts, and the one block of bytes that they refer to.
-ghost use Rattle.std.specs.Prelude.{◌≡◌, ◌+◌, ◌-◌, ◌%◌, ◌^◌, ◌<◌, ◌≤◌, ◌↔◌, length, replicate, IfOk, IsOk, IsErrOf};
+ghost use Rattle.std.specs.Prelude.{◌≡◌, ◌+◌, ◌^◌, ◌<◌, ◌≤◌, ◌↔◌, length, replicate, IfOk, IsOk, IsErrOf};
 ghost use Rattle.std.specs.Borrow.{sem};
 ghost use Rattle.rlsf_base.specs.Range.{range_at, LiesIn};
-ghost use Rattle.rlsf_base.specs.Space.{bytes_in, word_range, IsWord, word_at, with_word, with_bytes};
+ghost use Rattle.rlsf_base.specs.Space.{bytes_in, IsWord, word_at, with_word, with_bytes};
 
 use std::alloc::Global;
 use std::marker::Model;
@@ -12,17 +12,20 @@ pub(crate) mod block;
 pub(crate) mod copying;
 pub(crate) mod counters;
 mod layout;
+pub mod ledger;
+mod open_memory;
+mod part;
 mod range;
+mod raw_parts;
 mod view;
 pub(crate) mod zeroed;
 
-use block::{Base, Bytes};
-use copying::copy_bytes;
-use counters::Counters;
+pub use block::RawParts;
 pub use layout::{Layout, LayoutError};
+pub use open_memory::OpenMemory;
+pub use part::{Part, UnitPart};
 pub use range::{Addr, Range};
 pub use view::View;
-use zeroed::{Supplier, take_zeroed};
 
 /// The reason why a `Memory` was not created. Each error has a number.
 #[derive(Clone, Copy, Debug, PartialEq, Eq)]
@@ -40,44 +43,27 @@ pub enum MemoryError {
 /// It is one block of the system, aligned so that each multiple of 8 is the address of an aligned word. For contracts
 /// alone, it counts word accesses (touches) and copied bytes. It is as large as a `Vec<u8>`.
 pub struct Memory {
-    base: Base,
-    // What is added to an address to get its place in the block: the multiple of 8 below the first byte's address, negated.
-    shift: usize,
-    // Eight times the length, and the place of the first byte in the block, which is below 8.
-    len_and_skip: usize,
-    bytes: Bytes,
-    counters: Counters,
-    // Out of reach of every call here but `new`, which makes it, and `drop`, which uses it up.
-    supplier: Supplier,
+    /// The same memory, for code that takes bytes out of it. They are back whenever the `Memory` is used as a whole.
+    pub inner: OpenMemory,
 }
 
 const _: () = prove!(size_of::<Memory>() == size_of::<Vec<u8>>());
 
 impl Model for Memory {
+    ghost use Rattle.std.specs.Prelude.{◌≡◌, []};
     ghost use Rattle.rlsf_base.specs.Space.{Space};
 
     ghost Value = { Space };
 
-    ghost use Rattle.rlsf_base.specs.Steps.Block.{IsMemory, start_of, view_of};
+    ghost view = { λ m. m.inner };
 
-    ghost view = { λ m. record { start = start_of m.shift m.len_and_skip; bytes = m.bytes.bytes; touches = m.counters.touches; copied = m.counters.copied; view = view_of m.base m.shift } };
-
-    ghost invariant = { λ m. IsMemory m.base m.shift m.len_and_skip m.bytes m.supplier };
+    ghost invariant = { λ m. m.inner.out ≡ [] };
 }
 
 impl Drop for Memory {
-    // Out of line, since it runs once in a memory's life: so the compiler keeps the block's base in a register in the other calls.
-    #[inline(never)]
     fn drop(self) {
-        let Memory {
-            base,
-            shift: _,
-            len_and_skip,
-            bytes,
-            counters: _,
-            supplier,
-        } = self;
-        supplier.give_back(base, len_and_skip % 8, len_and_skip / 8, bytes);
+        let Memory { inner } = self;
+        inner.free();
     }
 }
 
@@ -99,23 +85,9 @@ impl Memory {
         ensures bytes { IfOk result (λ m. m.bytes ≡ replicate len 0) }
         ensures counts { IfOk result (λ m. (m.touches ≡ 0) × (m.copied ≡ 0)) }
     {
-        if start == 0 {
-            return Err(MemoryError::ZeroStart);
-        }
-        if usize::MAX - start < len {
-            return Err(MemoryError::TooLong);
-        }
-        match take_zeroed(alloc, start % 8, len) {
-            Some((base, bytes, supplier)) => Ok(Memory {
-                base,
-                shift: (start - start % 8).wrapping_neg(),
-                len_and_skip: len * 8 + start % 8,
-                bytes,
-                counters: Counters::new(),
-                supplier,
-            }),
-            None => Err(MemoryError::OutOfMemory),
-        }
+        Ok(Memory {
+            inner: OpenMemory::new(alloc, start, len)?,
+        })
     }
 
     /// Returns the address of the first byte.
@@ -123,7 +95,7 @@ impl Memory {
         ensures value { result ≡ self.now.start }
         ensures bounds { (0 < self.now.start) × (self.now.start + length self.now.bytes < 2 ^ 64) }
     {
-        self.shift.wrapping_neg() + self.len_and_skip % 8
+        self.inner.start()
     }
 
     /// Returns the number of bytes.
@@ -131,14 +103,14 @@ impl Memory {
         ensures value { result ≡ length self.now.bytes }
         ensures bounds { (0 < self.now.start) × (self.now.start + length self.now.bytes < 2 ^ 64) }
     {
-        self.len_and_skip / 8
+        self.inner.len()
     }
 
     /// Returns a view of the memory. It stays a view of this memory, whatever is written there.
     pub fn view(&self) -> View
         ensures { result ≡ self.now.view }
     {
-        View::new(self.base, self.shift)
+        self.inner.view()
     }
 
     /// Returns the bytes of `range`, which must lie in the memory.
@@ -146,18 +118,7 @@ impl Memory {
         requires { LiesIn range self.now.start (length self.now.bytes) }
         ensures { result.now ≡ bytes_in self.now range }
     {
-        self.slice_at(self.view(), range)
-    }
-
-    // The same, by a view.
-    #[inline(always)]
-    fn slice_at(&self, view: View, range: Range) -> &[u8]
-        requires place { LiesIn range self.now.start (length self.now.bytes) }
-        requires view { view ≡ self.now.view }
-        ensures { result.now ≡ bytes_in self.now range }
-    {
-        self.bytes
-            .slice(view.base, view.place(range.start), range.len)
+        self.inner.slice(range)
     }
 
     /// Returns the bytes of `range`, for reading and writing. When the borrow ends, the memory has the bytes that were
@@ -169,20 +130,7 @@ impl Memory {
         ensures* writes_back { sem 𝓛 (LendsBytes self.entry range.start range.len result) }
         ensures value { result.now ≡ bytes_in self.old range }
     {
-        let view = self.view();
-        self.slice_mut_at(view, range)
-    }
-
-    // The same, by a view.
-    #[inline(always)]
-    fn slice_mut_at(&mut self, view: View, range: Range) -> &mut [u8]
-        requires place { LiesIn range self.old.start (length self.old.bytes) }
-        requires view { view ≡ self.old.view }
-        ensures* writes_back { sem 𝓛 (LendsBytes self.entry range.start range.len result) }
-        ensures value { result.now ≡ bytes_in self.old range }
-    {
-        self.bytes
-            .slice_mut(view.base, view.place(range.start), range.len)
+        self.inner.slice_mut(range)
     }
 
     /// Returns the word at `addr`: the 8 bytes there, the least significant byte first.
@@ -192,23 +140,7 @@ impl Memory {
         requires { IsWord self.now addr }
         ensures { result ≡ word_at self.now addr }
     {
-        self.word_at(self.view(), addr)
-    }
-
-    // The same, by a view.
-    #[inline(always)]
-    fn word_at(&self, view: View, addr: usize) -> u64
-        requires place { IsWord self.now addr }
-        requires view { view ≡ self.now.view }
-        ensures { result ≡ word_at self.now addr }
-    {
-        let b = self.slice_at(view, word_range(addr));
-        // As one array, which LLVM reads at once: of eight bytes it would read some alone, where a caller asks for part of the word.
-        // There are eight, so `None` doesn't come.
-        match b.first_chunk::<8>() {
-            Some(chunk) => u64::from_le_bytes(*chunk),
-            None => 0,
-        }
+        self.inner.word(addr)
     }
 
     /// Returns the word at `addr`, as `word` does, and counts one touch. Nothing else changes.
@@ -223,8 +155,7 @@ impl Memory {
         ensures copied { self.new.copied ≡ self.old.copied }
         ensures view { self.new.view ≡ self.old.view }
     {
-        let view = self.view();
-        self.load_at(view, addr)
+        self.inner.load(addr)
     }
 
     /// Returns the word at `addr` by a view of the memory, as `load` does, and counts one touch. Nothing else changes.
@@ -241,9 +172,7 @@ impl Memory {
         ensures copied { self.new.copied ≡ self.old.copied }
         ensures view { self.new.view ≡ self.old.view }
     {
-        let word = self.word_at(view, addr);
-        self.touch();
-        word
+        self.inner.load_at(view, addr)
     }
 
     /// Writes `word` to the 8 bytes at `addr`, the least significant byte first, and counts one touch. No other byte
@@ -259,8 +188,7 @@ impl Memory {
         ensures copied { self.new.copied ≡ self.old.copied }
         ensures view { self.new.view ≡ self.old.view }
     {
-        let view = self.view();
-        self.set_word_at(view, addr, word);
+        self.inner.set_word(addr, word);
     }
 
     /// Writes `word` to the 8 bytes at `addr` by a view of the memory, as `set_word` does, and counts one touch. No other
@@ -278,11 +206,7 @@ impl Memory {
         ensures copied { self.new.copied ≡ self.old.copied }
         ensures view { self.new.view ≡ self.old.view }
     {
-        let b = self.slice_mut_at(view, word_range(addr));
-        if let Some(chunk) = b.first_chunk_mut::<8>() {
-            *chunk = word.to_le_bytes();
-        }
-        self.touch();
+        self.inner.set_word_at(view, addr, word);
     }
 
     /// Counts one touch. Nothing else changes.
@@ -293,7 +217,7 @@ impl Memory {
         ensures copied { self.new.copied ≡ self.old.copied }
         ensures view { self.new.view ≡ self.old.view }
     {
-        self.counters.count_touch();
+        self.inner.touch();
     }
 
     /// Copies the bytes of `range` to the same number of bytes from `to` on, and adds this number to the copied bytes.
@@ -310,20 +234,6 @@ impl Memory {
         ensures copied { self.new.copied ≡ self.old.copied + range.len }
         ensures view { self.new.view ≡ self.old.view }
     {
-        let start = self.start();
-        let (base, first, len) = (self.base, self.len_and_skip % 8, self.len());
-        let bytes = self.bytes.slice_mut(base, first, len);
-        let from = range.start - start;
-        copy_bytes(bytes, from, range.len, to - start);
-        self.counters.count_copy(range.len);
-    }
-}
-
-fn word_range(addr: usize) -> Range
-    ensures { result ≡ word_range addr }
-{
-    Range {
-        start: addr,
-        len: 8,
+        self.inner.copy_within_whole(range, to);
     }
 }

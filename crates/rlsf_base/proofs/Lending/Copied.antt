@@ -1,13 +1,19 @@
--- What a copy leaves: the bytes there, and every other word and byte as it was.
-use Rattle.std.proofs.Common.{◌≡◌, ℕ, ◌+◌, ◌-◌, ◌≤◌, ◌⊎◌, length, drop, arith, ap, ◌∙◌, length-drop, length-take}
+-- What a copy leaves: the bytes there, which are here, and every other word and byte as it was.
+use Rattle.std.proofs.Common.{◌≡◌, ℕ, ◌+◌, ◌-◌, ◌<◌, ◌≤◌, ◌⊎◌, [], length, drop, arith, inl, inr, ap, sym, ◌∙◌, length-drop, length-take}
+use Rattle.std.proofs.lemmas.Bool.{cases_lt}
 use Rattle.std.specs.List.{splice}
 use Rattle.rlsf_base.specs.declared.memory.range.Range.{Range}
+use Rattle.rlsf_base.specs.Out.{here, is_own, kept_at}
 use Rattle.rlsf_base.specs.Range.{end_of, LiesIn, range_at}
-use Rattle.rlsf_base.specs.Space.{Space, bytes_in, word_at, with_bytes}
-use Rattle.rlsf_base.proofs.Lending.Replaced.{length-with, bytes_in-with, word_at-with, bytes_in-there}
+use Rattle.rlsf_base.specs.Space.{Space, bytes_in, out_at, word_at, word_range, with_bytes}
+use Rattle.rlsf_base.specs.OpenSpace.{IsOwned, SameOwn, StaysHere, out_with}
+use Rattle.rlsf_base.proofs.Changes.{back-there, back-before, back-behind}
+use Rattle.rlsf_base.proofs.Lending.Here.{word_at-kept}
+use Rattle.rlsf_base.proofs.Lending.Replaced.{length-with, bytes_in-with, bytes_in-there}
+use Rattle.rlsf_base.proofs.Lending.Whole.{none-with}
 
 module _ (m n : Space) (from : Range) (to : ℕ) (placed : LiesIn from m.start (length m.bytes)) (room-there : (m.start ≤ to) × (to + from.len ≤ m.start + length m.bytes)) (start : n.start ≡ m.start)
-    (bytes : n.bytes ≡ with_bytes m to (bytes_in m from)) where
+    (bytes : n.bytes ≡ with_bytes m to (bytes_in m from)) (out : n.out ≡ out_with m (range_at to from.len)) where
   abbrev there : Range
   there = range_at to from.len
 
@@ -23,8 +29,41 @@ module _ (m n : Space) (from : Range) (to : ℕ) (placed : LiesIn from m.start (
   pub bytes_in-with_bytes : (r : Range) → m.start ≤ r.start → (end_of r ≤ to) ⊎ (to + from.len ≤ r.start) → bytes_in n r ≡ bytes_in m r
   bytes_in-with_bytes = bytes_in-with m n there (bytes_in m from) room-there full start spliced
 
+  -- each byte of the copy is here, and what any other is stays
+  out_at-there : (k : ℕ) → to ≤ k → k < to + from.len → out_at n k ≡ here
+  out_at-there k lo hi = (λ i. kept_at (out i) (k - start i)) ∙ back-there m.out (to - m.start) from.len (k - m.start) (omega (arith, room-there)) (omega (arith, room-there, hi))
+
+  pub out_at-copied : (k : ℕ) → m.start ≤ k → (k < to) ⊎ (to + from.len ≤ k) → out_at n k ≡ out_at m k
+  out_at-copied k inside side = (λ i. kept_at (out i) (k - start i)) ∙ elim side [
+    | inl before ↦ back-before m.out (to - m.start) from.len (k - m.start) (omega (arith, room-there, inside))
+    | inr past ↦ back-behind m.out (to - m.start) from.len (k - m.start) (omega (arith, room-there, inside))
+  ]
+
+  pub none-copied : m.out ≡ [] → n.out ≡ []
+  none-copied = none-with m n there out
+
+  pub is_own-copied : IsOwned m there → SameOwn m n
+  is_own-copied own k inside = elim (cases_lt k to) [
+    | inl before ↦ ap is_own (out_at-copied k inside (inl before))
+    | inr behind ↦ elim (cases_lt k (to + from.len)) [
+      | inl within ↦ ap is_own (out_at-there k behind within) ∙ sym (own k behind within)
+      | inr past ↦ ap is_own (out_at-copied k inside (inr past))
+    ]
+  ]
+
+  pub here-copied : StaysHere m n
+  here-copied k inside was = elim (cases_lt k to) [
+    | inl before ↦ out_at-copied k inside (inl before) ∙ was
+    | inr behind ↦ elim (cases_lt k (to + from.len)) [
+      | inl within ↦ out_at-there k behind within
+      | inr past ↦ out_at-copied k inside (inr past) ∙ was
+    ]
+  ]
+
   pub word_at-with_bytes : (a : ℕ) → m.start ≤ a → (a + 8 ≤ to) ⊎ (to + from.len ≤ a) → word_at n a ≡ word_at m a
-  word_at-with_bytes = word_at-with m n there (bytes_in m from) room-there full start spliced
+  word_at-with_bytes a inside side =
+      word_at-kept m n a start inside (bytes_in-with_bytes (word_range a) inside side)
+      (λ k lo hi. out_at-copied k (omega arith) (elim side [ inl before ↦ inl (omega (arith, before)) | inr past ↦ inr (omega (arith, past)) ]))
 
   -- the copy is what was copied
   pub bytes_in-copied : bytes_in n there ≡ bytes_in m from

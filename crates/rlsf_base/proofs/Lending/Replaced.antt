@@ -1,10 +1,11 @@
 -- Bytes that stand in the place of others: they are there, and every other word and byte is as it was.
-use Rattle.std.proofs.Common.{◌≡◌, ℕ, ◌+◌, ◌-◌, ◌≤◌, ◌⊎◌, List, length, take, drop, slice_index, arith, inl, inr, sym, ap, ◌∙◌, get_or-take, get_or-drop, w64}
-use Rattle.std.specs.Int.{from_le_bytes}
+use Rattle.std.proofs.Common.{◌≡◌, ℕ, ◌+◌, ◌-◌, ◌≤◌, ◌⊎◌, List, length, take, drop, slice_index, arith, inl, inr, sym, ap, ◌∙◌, get_or-take, get_or-drop}
 use Rattle.std.specs.List.{splice}
 use Rattle.rlsf_base.specs.declared.memory.range.Range.{Range}
 use Rattle.rlsf_base.specs.Range.{end_of, LiesIn}
 use Rattle.rlsf_base.specs.Space.{Space, byte_at, byte_range, bytes_in, word_range, word_at}
+use Rattle.rlsf_base.proofs.Lending.Here.{word_at-kept}
+use Rattle.rlsf_base.proofs.Lending.Present.{out-same}
 use Rattle.rlsf_base.proofs.Words.Splices.{length-splice, splice-inside, splice-before, splice-after}
 
 -- the bytes ys stand in the place of those of the range p
@@ -23,9 +24,8 @@ module _ (m n : Space) (p : Range) (ys : List ℕ) (placed : LiesIn p m.start (l
         | inr after ↦ ap (take r.len) (splice-after m.bytes ys (p.start - m.start) p.len room full (r.start - m.start) (omega (arith, placed, after)))
       ]
 
-  pub word_at-with : (a : ℕ) → m.start ≤ a → (a + 8 ≤ p.start) ⊎ (end_of p ≤ a) → word_at n a ≡ word_at m a
-  unfolding word_at
-  word_at-with a inside side = ap (from_le_bytes w64) (bytes_in-with (word_range a) inside side)
+  pub word_at-with : n.out ≡ m.out → (a : ℕ) → m.start ≤ a → (a + 8 ≤ p.start) ⊎ (end_of p ≤ a) → word_at n a ≡ word_at m a
+  word_at-with out a inside side = word_at-kept m n a start inside (bytes_in-with (word_range a) inside side) (λ k lo hi. out-same m n k start out)
 
   pub bytes_in-there : bytes_in n p ≡ ys
   bytes_in-there = (λ i. take p.len (drop (p.start - start i) (bytes i))) ∙ splice-inside m.bytes ys (p.start - m.start) p.len room full

@@ -1,32 +1,35 @@
 -- How the parts of a memory belong together.
 use Rattle.std.specs.Prelude.{◌≡◌, ℕ, ◌+◌, ◌-◌, ◌/◌, ◌%◌, ◌^◌, ◌<◌, ◌≤◌, length}
 use denote.RawPtr.{null_ptr}
+use Rattle.rlsf_base.specs.Steps.Ownership.{units_for, units_in}
 use Rattle.rlsf_base.specs.declared.memory.block.Base.{Base}
 use Rattle.rlsf_base.specs.declared.memory.view.View.{View}
 use Rattle.rlsf_base.specs.declared.memory.block.Bytes.{Bytes}
 use Rattle.rlsf_base.specs.declared.memory.zeroed.Supplier.{Supplier}
 
--- the words that hold len bytes after the first skip
-abbrev pub words_for : ℕ → ℕ → ℕ
-words_for skip len = (skip + len + 7) / 8
-
 -- the supplier of the block of len bytes from its byte skip on, and of no block where len is zero
 pub record IsSupplierOf (base : Base) (skip len : ℕ) (supplier : Supplier) : Type 0 where
   pub none : len ≡ 0 → supplier.deed.at ≡ null_ptr
-  pub block : 0 < len → (supplier.deed.at ≡ base.ptr) × (supplier.deed.words ≡ words_for skip len) × (supplier.deed.skip ≡ skip) × (supplier.deed.len ≡ len) × (supplier.deed.alloc ≡ supplier.alloc)
+  pub block : 0 < len → (supplier.deed.at ≡ base.ptr) × (supplier.deed.units ≡ units_for skip len) × (supplier.deed.skip ≡ skip) × (supplier.deed.len ≡ len) × (supplier.deed.alloc ≡ supplier.alloc)
 
 -- the address of the first byte, of two numbers that a memory keeps: what is added to an address, with what passes a word cut off, to
--- get its place in the block; and eight times the length, and the place of the first byte
+-- get its place in the block; and 32 times the length, 16 where the block is the caller's, and the place of the first byte
 abbrev pub start_of : ℕ → ℕ → ℕ
-start_of shift len_and_skip = (2 ^ 64 - shift) % 2 ^ 64 + len_and_skip % 8
+start_of shift len_and_skip = (2 ^ 64 - shift) % 2 ^ 64 + len_and_skip % 16
 
 abbrev pub view_of : Base → ℕ → View
 view_of base shift = record { base = base; shift = shift }
 
+-- one where the block is the caller's, and zero where it is the system's
+abbrev pub handed_in : ℕ → ℕ
+handed_in len_and_skip = len_and_skip / 16 % 2
+
 -- the parts of a memory, by these numbers: its bytes lie in the block from the place of the first byte on
 pub record IsMemory (base : Base) (shift len_and_skip : ℕ) (bytes : Bytes) (supplier : Supplier) : Type 0 where
-  pub lies : (base.ptr ≡ bytes.at) × (bytes.skip ≡ len_and_skip % 8)
+  pub lies : (base.ptr ≡ bytes.at) × (bytes.skip ≡ len_and_skip % 16) × (bytes.units ≡ units_in shift (len_and_skip % 16) (len_and_skip / 32))
   pub aligned : shift % 8 ≡ 0
-  pub whole : (length bytes.bytes ≡ len_and_skip / 8) × (bytes.left ≡ 0)
-  pub bounds : (1 ≤ start_of shift len_and_skip) × (start_of shift len_and_skip + len_and_skip / 8 < 2 ^ 64) × (len_and_skip % 8 + len_and_skip / 8 ≤ 2 ^ 61 - 8)
-  pub returns : IsSupplierOf base (len_and_skip % 8) (len_and_skip / 8) supplier
+  pub grid : handed_in len_and_skip ≡ 0 → shift % 16 ≡ 0
+  pub whole : length bytes.bytes ≡ len_and_skip / 32
+  pub bounds : (1 ≤ start_of shift len_and_skip) × (start_of shift len_and_skip + len_and_skip / 32 < 2 ^ 64) × (len_and_skip / 32 < 2 ^ 59)
+  pub returns : handed_in len_and_skip ≡ 0 → IsSupplierOf base (len_and_skip % 16) (len_and_skip / 32) supplier
+  pub keeps : handed_in len_and_skip ≡ 1 → (supplier.deed.at ≡ null_ptr) × (len_and_skip % 16 ≡ 0)

@@ -7,7 +7,7 @@ use Rattle.rlsf_base.specs.Lends.{refilled}
 
 -- the owner, with these bytes
 abbrev pub owner_with : Bytes → List ℕ → Bytes
-owner_with b bs = record { mark = b.mark; at = b.at; skip = b.skip; bytes = bs; left = b.left }
+owner_with b bs = record { mark = b.mark; at = b.at; skip = b.skip; bytes = bs; out = b.out; of = b.of; units = b.units }
 
 -- the owner ends with what r leaves in its len bytes from the index i on
 abbrev pub lends_part : MutBor Bytes → ℕ → ℕ → MutBor (List ℕ) → Fml

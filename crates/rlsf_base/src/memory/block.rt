@@ -1,9 +1,12 @@
 //! The block of a memory: its address, the owner of its bytes, and the right to deallocate it.
-ghost use Rattle.std.specs.Prelude.{◌≡◌, ℕ, ◌+◌, ◌-◌, ◌*◌, ◌^◌, ◌<◌, ◌≤◌, suc, List, [], ◌∷◌, ◌++◌, length, take, drop, IfSome};
+ghost use Rattle.std.specs.Prelude.{◌≡◌, ℕ, ◌+◌, ◌-◌, ◌*◌, ◌^◌, ◌<◌, ◌≤◌, eqb, if◌then◌else◌, List, [], ◌∷◌, length, take, drop, IfSome};
+ghost use Rattle.std.specs.List.{splice};
 ghost use Rattle.std.specs.Borrow.{sem};
 ghost use base.Fml.{ftrue};
-ghost use denote.RawPtr.{Ptr, null_ptr};
-ghost use Rattle.rlsf_base.specs.Steps.Ownership.{bytes_own, bytes_lent, deed_owns};
+ghost use denote.RawPtr.{Ptr, null_ptr, ◌+ₚ◌};
+ghost use Rattle.rlsf_base.specs.Out.{Change, kept_at};
+ghost use Rattle.rlsf_base.specs.Changes.{IsIn, IsOut, IsOwn, left, came_back, came_raw};
+ghost use Rattle.rlsf_base.specs.Steps.Ownership.{bytes_at, bytes_own, bytes_lent, deed_owns, room_at, units_for, units_from, units_own};
 
 use std::alloc::Allocator;
 use std::marker::{Model, PhantomData, Send, Sync};
@@ -26,32 +29,52 @@ pub(crate) struct Bytes {
     ghost at: { Ptr },
     ghost skip: { ℕ },
     ghost bytes: { List ℕ },
-    ghost left: { ℕ },
+    ghost out: { List Change },
+    // Of bytes that were taken out: where the owner's begin from which they were taken, and how many it has.
+    ghost of: { ℕ × ℕ },
+    // The number of the block's units of 16 bytes: none where the block isn't aligned to 16.
+    ghost units: { ℕ },
 }
 
 impl Model for Bytes {
-    ghost also_owns = { λ b. bytes_own b.at b.skip b.bytes b.left };
+    ghost also_owns = { λ b. bytes_own b.at b.skip b.bytes b.out b.units };
 
-    ghost also_shares = { λ b _ κ. bytes_lent b.at b.skip b.bytes b.left κ };
+    ghost also_shares = { λ b _ κ. bytes_lent b.at b.skip b.bytes b.out κ };
 }
 
 unsafe impl Send for Bytes {}
 
 unsafe impl Sync for Bytes {}
 
-/// The right to deallocate, with `alloc`, the block of `words` words at `at`, for the `len` bytes from `skip` on. It
+/// Room for `count` units of 16 bytes of the block, aligned to 16, from its unit `first` on. It takes no space.
+pub(crate) struct Units {
+    mark: PhantomData<*const u8>,
+    ghost at: { Ptr },
+    ghost first: { ℕ },
+    ghost count: { ℕ },
+    // Where the bytes of the owner begin from which they were taken, and how many it has.
+    ghost of: { ℕ × ℕ },
+}
+
+impl Model for Units {
+    ghost also_owns = { λ u. units_own u.at u.first u.count };
+}
+
+unsafe impl Send for Units {}
+
+/// The right to deallocate, with `alloc`, the block of `units` units of 16 bytes at `at`, for the `len` bytes from `skip` on. It
 /// takes no space.
 pub(crate) struct Deed<A: Allocator> {
     mark: PhantomData<*const A>,
     ghost at: { Ptr },
-    ghost words: { ℕ },
+    ghost units: { ℕ },
     ghost skip: { ℕ },
     ghost len: { ℕ },
     ghost alloc: { A },
 }
 
 impl<A: Allocator> Model for Deed<A> {
-    ghost also_owns = { λ d. deed_owns (A.dealloc_token d.alloc) d.at d.words d.skip d.len };
+    ghost also_owns = { λ d. deed_owns (A.dealloc_token d.alloc) d.at d.units d.skip d.len };
 
     ghost also_shares = { λ _ _ _. ftrue };
 }
@@ -61,18 +84,18 @@ unsafe impl<A: Allocator + Send> Send for Deed<A> {}
 // A `&` to it holds nothing.
 unsafe impl<A: Allocator> Sync for Deed<A> {}
 
-/// Allocates a block of `words` words, and keeps the `len` bytes from the byte `skip` on. Returns `None` if the allocator
-/// refuses.
+/// Allocates a block of `units` units of 16 bytes, aligned to 16, and keeps the `len` bytes from the byte `skip` on, which are raw. Returns `None` if the
+/// allocator refuses.
 pub(crate) fn allocate<A: Allocator>(
     alloc: &A,
-    words: usize,
+    units: usize,
     skip: usize,
     len: usize,
 ) -> Option<(Base, Bytes, Deed<A>)>
-    requires { (words * 8 < 2 ^ 63) × (skip + len ≤ words * 8) }
-    ensures { IfSome result (λ r. (r.1.at ≡ r.0.ptr) × (r.1.skip ≡ skip) × (r.1.bytes ≡ []) × (r.1.left ≡ len) × (r.2.at ≡ r.0.ptr) × (r.2.words ≡ words) × (r.2.skip ≡ skip) × (r.2.len ≡ len) × (r.2.alloc ≡ alloc.now)) }
+    requires { (units * 16 < 2 ^ 63) × (skip + len ≤ units * 16) }
+    ensures { IfSome result (λ r. (r.1.at ≡ r.0.ptr) × (r.1.skip ≡ skip) × (length r.1.bytes ≡ len) × (r.2.at ≡ r.0.ptr) × (r.2.units ≡ units) × (r.2.skip ≡ skip) × (r.2.len ≡ len) × (r.2.alloc ≡ alloc.now) × (r.1.out ≡ came_raw 0 len []) × (r.1.units ≡ units)) }
 {
-    match alloc.allocate(words * 8, 8) {
+    match alloc.allocate(units * 16, 16) {
         Ok(ptr) => Some((
             Base { ptr },
             Bytes { mark: PhantomData },
@@ -86,20 +109,20 @@ pub(crate) fn allocate<A: Allocator>(
 pub(crate) fn deallocate<A: Allocator>(
     alloc: &A,
     base: Base,
-    words: usize,
+    units: usize,
     bytes: Bytes,
     deed: Deed<A>,
 )
-    requires { (bytes.at ≡ base.ptr) × (bytes.left ≡ 0) × (deed.at ≡ base.ptr) × (deed.words ≡ words) × (deed.skip ≡ bytes.skip) × (deed.len ≡ length bytes.bytes) × (deed.alloc ≡ alloc.now) × (words * 8 < 2 ^ 63) }
+    requires { (bytes.at ≡ base.ptr) × (deed.at ≡ base.ptr) × (deed.units ≡ units) × (deed.skip ≡ bytes.skip) × (deed.len ≡ length bytes.bytes) × (deed.alloc ≡ alloc.now) × (units * 16 < 2 ^ 63) × IsOwn bytes.out 0 (length bytes.bytes) × (bytes.units ≡ units) }
 {
     let Bytes { mark: _ } = bytes;
     let Deed { mark: _ } = deed;
-    unsafe { alloc.deallocate(base.ptr, words * 8, 8) }
+    unsafe { alloc.deallocate(base.ptr, units * 16, 16) }
 }
 
 /// Returns the parts of no block: there is no byte, and nothing to deallocate.
 pub(crate) fn no_block<A: Allocator>(_alloc: &A, skip: usize) -> (Base, Bytes, Deed<A>)
-    ensures { (result.1.at ≡ result.0.ptr) × (result.1.skip ≡ skip) × (result.1.bytes ≡ []) × (result.1.left ≡ 0) × (result.2.at ≡ null_ptr) }
+    ensures { (result.1.at ≡ result.0.ptr) × (result.1.skip ≡ skip) × (result.1.bytes ≡ []) × (result.2.at ≡ null_ptr) × (result.1.out ≡ []) × (result.1.units ≡ units_for skip 0) }
 {
     let none: [u8; 0] = [];
     let ptr = &raw const none as *mut u8;
@@ -110,41 +133,230 @@ pub(crate) fn no_block<A: Allocator>(_alloc: &A, skip: usize) -> (Base, Bytes, D
     )
 }
 
-/// Consumes what `no_block` returned.
+/// Consumes bytes of which no block is to be deallocated.
 pub(crate) fn forget<A: Allocator>(bytes: Bytes, deed: Deed<A>)
-    requires { (bytes.bytes ≡ []) × (bytes.left ≡ 0) × (deed.at ≡ null_ptr) }
+    requires { deed.at ≡ null_ptr }
 {
     let Bytes { mark: _ } = bytes;
     let Deed { mark: _ } = deed;
 }
 
+/// Returns the owner of the caller's bytes at `block`, which are to have the addresses from `start` on.
+pub(crate) unsafe fn adopt(block: *mut u8, start: usize) -> Bytes
+    ghost bytes: { List ℕ }
+    requires* { sem 𝓛 (bytes_at block start bytes) }
+    ensures { (result.at ≡ block) × (result.skip ≡ 0) × (result.bytes ≡ bytes) × (result.out ≡ []) × (result.units ≡ units_from start (length bytes)) }
+{
+    let _ = block;
+    let _ = start;
+    Bytes { mark: PhantomData }
+}
+
+/// Returns the owner of the caller's room for `len` bytes at `block`, which are to have the addresses from `start` on. They
+/// are raw.
+pub(crate) unsafe fn adopt_room(block: *mut u8, start: usize, len: usize) -> Bytes
+    requires* { sem 𝓛 (room_at block start len) ∗ ⌜ len < 2 ^ 63 ⌝ }
+    ensures { (result.at ≡ block) × (result.skip ≡ 0) × (length result.bytes ≡ len) × (result.out ≡ came_raw 0 len []) × (result.units ≡ units_from start len) }
+{
+    let _ = block;
+    let _ = start;
+    let _ = len;
+    Bytes { mark: PhantomData }
+}
+
+/// What a memory was made of: its block, its addresses and its bytes. It owns the bytes, and `release` or `release_room`
+/// hands them to the caller.
+pub struct RawParts {
+    pub(crate) base: Base,
+    /// The address of the first byte.
+    pub start: usize,
+    /// The number of bytes.
+    pub len: usize,
+    pub(crate) bytes: Bytes,
+}
+
+impl RawParts {
+    /// Returns the block. Its `len` bytes are the caller's from now on, with the values that they have.
+    ///
+    /// Each byte must be here.
+    pub fn release(self) -> *mut u8
+        requires { (self.bytes.at ≡ self.base.ptr) × (self.bytes.skip ≡ 0) × (self.bytes.out ≡ []) × (self.bytes.units ≡ units_from self.start (length self.bytes.bytes)) }
+        ensures* handed { sem 𝓛 (bytes_at result self.start self.bytes.bytes) }
+        ensures block { result ≡ self.base.ptr }
+    {
+        let RawParts {
+            base,
+            start: _,
+            len: _,
+            bytes,
+        } = self;
+        let Bytes { mark: _ } = bytes;
+        base.ptr
+    }
+
+    /// Returns the block. Its room for `len` bytes is the caller's from now on. The bytes have no values.
+    ///
+    /// No byte may be out.
+    pub fn release_room(self) -> *mut u8
+        requires place { (self.bytes.at ≡ self.base.ptr) × (self.bytes.skip ≡ 0) × (length self.bytes.bytes ≡ self.len) × (self.bytes.units ≡ units_from self.start (length self.bytes.bytes)) }
+        requires own { IsOwn self.bytes.out 0 self.len }
+        ensures* handed { sem 𝓛 (room_at result self.start self.len) }
+        ensures block { result ≡ self.base.ptr }
+    {
+        let RawParts {
+            base,
+            start: _,
+            len: _,
+            bytes,
+        } = self;
+        let Bytes { mark: _ } = bytes;
+        base.ptr
+    }
+}
+
+impl Base {
+    /// Returns the place that `ptr` points to.
+    pub(crate) fn at(ptr: *mut u8) -> Base
+        ensures { result.ptr ≡ ptr }
+    {
+        Base { ptr }
+    }
+}
+
+impl<A: Allocator> Deed<A> {
+    /// Gives the right up: the block is never deallocated.
+    pub(crate) fn end(self) {
+        let Deed { mark: _ } = self;
+    }
+}
+
 impl Bytes {
     ghost use Rattle.rlsf_base.specs.Steps.LentParts.{lends_part};
 
-    /// Writes the first byte that has no value yet. Its place in the block is `place`.
-    pub(crate) fn push(&mut self, base: Base, place: usize, byte: u8)
-        requires { (base.ptr ≡ self.old.at) × (place ≡ self.old.skip + length self.old.bytes) × (0 < self.old.left) }
-        ensures { (self.new.at ≡ self.old.at) × (self.new.skip ≡ self.old.skip) × (self.new.bytes ≡ self.old.bytes ++ byte ∷ []) × (suc self.new.left ≡ self.old.left) }
+    /// Consumes the owner: the bytes are nobody's.
+    pub(crate) fn end(self) {
+        let Bytes { mark: _ } = self;
+    }
+
+    /// Returns the place of the first byte as that at which the block begins, and the owner of the same bytes there. It has
+    /// the units only if the block began there before.
+    pub(crate) fn from_first(self, base: Base, skip: usize) -> (Base, Bytes)
+        requires { (base.ptr ≡ self.at) × (self.skip ≡ skip) }
+        ensures { (result.0.ptr ≡ base.ptr +ₚ skip) × (result.1.at ≡ result.0.ptr) × (result.1.skip ≡ 0) × (result.1.bytes ≡ self.bytes) × (result.1.out ≡ self.out) × (result.1.units ≡ if eqb skip 0 then self.units else 0) }
+    {
+        let Bytes { mark: _ } = self;
+        let ptr = unsafe { base.ptr.add(skip) };
+        (Base { ptr }, Bytes { mark: PhantomData })
+    }
+
+    /// Writes the byte at the place `place` of the block. It may not be out, and is then here. No other byte changes.
+    pub(crate) fn write(&mut self, base: Base, place: usize, byte: u8)
+        requires { (base.ptr ≡ self.old.at) × (self.old.skip ≤ place) × (place < self.old.skip + length self.old.bytes) × IsOwn self.old.out (place - self.old.skip) 1 }
+        ensures { (self.new.at ≡ self.old.at) × (self.new.skip ≡ self.old.skip) × (self.new.bytes ≡ splice self.old.bytes (place - self.old.skip) (place - self.old.skip + 1) (byte ∷ [])) × (self.new.out ≡ came_back (place - self.old.skip) 1 self.old.out) × (self.new.units ≡ self.old.units) }
     {
         unsafe { base.ptr.add(place).write(byte) }
     }
 
-    /// Returns the `len` bytes from the place `place` of the block on.
+    /// Writes the eight bytes from the place `place` of the block on. None may be out, and they are then here. No other byte
+    /// changes.
+    #[inline(always)]
+    pub(crate) fn write_word(&mut self, base: Base, place: usize, word: [u8; 8])
+        requires { (base.ptr ≡ self.old.at) × (self.old.skip ≤ place) × (place + 8 ≤ self.old.skip + length self.old.bytes) × IsOwn self.old.out (place - self.old.skip) 8 }
+        ensures { (self.new.at ≡ self.old.at) × (self.new.skip ≡ self.old.skip) × (self.new.bytes ≡ splice self.old.bytes (place - self.old.skip) (place - self.old.skip + 8) word) × (self.new.out ≡ came_back (place - self.old.skip) 8 self.old.out) × (self.new.units ≡ self.old.units) }
+    {
+        unsafe { (base.ptr.add(place) as *mut [u8; 8]).write(word) }
+    }
+
+    /// Replaces the list of changes by `out`. Each byte must have the same state by both. No byte changes.
+    #[inline(always)]
+    pub(crate) fn recount(&mut self)
+        ghost out: { List Change }
+        requires { (k : ℕ) → k < length self.old.bytes → kept_at self.old.out k ≡ kept_at out k }
+        ensures { (self.new.at ≡ self.old.at) × (self.new.skip ≡ self.old.skip) × (self.new.bytes ≡ self.old.bytes) × (self.new.out ≡ out) × (self.new.units ≡ self.old.units) }
+    {}
+
+    /// Empties the list of changes. Each byte must be here. No byte changes.
+    #[inline(always)]
+    pub(crate) fn settle(&mut self)
+        requires { IsIn self.old.out 0 (length self.old.bytes) }
+        ensures { (self.new.at ≡ self.old.at) × (self.new.skip ≡ self.old.skip) × (self.new.bytes ≡ self.old.bytes) × (self.new.out ≡ []) × (self.new.units ≡ self.old.units) }
+    {
+        self.recount();
+    }
+
+    /// Returns the `len` bytes from the place `place` of the block on. They must be here.
     #[inline(always)]
     pub(crate) fn slice(&self, base: Base, place: usize, len: usize) -> &[u8]
-        requires { (base.ptr ≡ self.now.at) × (self.now.skip ≤ place) × (place + len ≤ self.now.skip + length self.now.bytes) }
+        requires { (base.ptr ≡ self.now.at) × (self.now.skip ≤ place) × (place + len ≤ self.now.skip + length self.now.bytes) × IsIn self.now.out (place - self.now.skip) len }
         ensures { result.now ≡ take len (drop (place - self.now.skip) self.now.bytes) }
     {
         unsafe { slice::from_raw_parts(base.ptr.add(place), len) }
     }
 
-    /// Returns the `len` bytes from the place `place` of the block on, for reading and writing.
+    /// Returns the `len` bytes from the place `place` of the block on, for reading and writing. They must be here.
     #[inline(always)]
     pub(crate) fn slice_mut(&mut self, base: Base, place: usize, len: usize) -> &mut [u8]
-        requires { (base.ptr ≡ self.old.at) × (self.old.skip ≤ place) × (place + len ≤ self.old.skip + length self.old.bytes) }
+        requires { (base.ptr ≡ self.old.at) × (self.old.skip ≤ place) × (place + len ≤ self.old.skip + length self.old.bytes) × IsIn self.old.out (place - self.old.skip) len }
         ensures* writes_back { sem 𝓛 (lends_part self.entry (place - self.old.skip) len result) }
         ensures value { result.now ≡ take len (drop (place - self.old.skip) self.old.bytes) }
     {
         unsafe { slice::from_raw_parts_mut(base.ptr.add(place), len) }
+    }
+
+    /// Takes the `len` bytes from the place `place` of the block on out of this owner, and returns their owner. They must be
+    /// here, and keep their values.
+    #[inline(always)]
+    pub(crate) fn take_out(&mut self, place: usize, len: usize) -> Bytes
+        requires { (self.old.skip ≤ place) × (place + len ≤ self.old.skip + length self.old.bytes) × IsIn self.old.out (place - self.old.skip) len }
+        ensures { (result.at ≡ self.old.at) × (result.skip ≡ place) × (result.bytes ≡ take len (drop (place - self.old.skip) self.old.bytes)) × (result.out ≡ []) × (result.of ≡ (self.old.skip, length self.old.bytes)) × (self.new.at ≡ self.old.at) × (self.new.skip ≡ self.old.skip) × (self.new.bytes ≡ self.old.bytes) × (self.new.out ≡ left (place - self.old.skip) len self.old.out) × (self.new.units ≡ self.old.units) × (result.units ≡ self.old.units) }
+    {
+        Bytes { mark: PhantomData }
+    }
+
+    /// Takes the `len` bytes from the place `place` of the block on out of this owner, and returns their owner. None may be
+    /// out. They are then raw.
+    #[inline(always)]
+    pub(crate) fn take_room(&mut self, place: usize, len: usize) -> Bytes
+        requires { (self.old.skip ≤ place) × (place + len ≤ self.old.skip + length self.old.bytes) × IsOwn self.old.out (place - self.old.skip) len }
+        ensures { (result.at ≡ self.old.at) × (result.skip ≡ place) × (length result.bytes ≡ len) × (result.out ≡ came_raw 0 len []) × (result.of ≡ (self.old.skip, length self.old.bytes)) × (self.new.at ≡ self.old.at) × (self.new.skip ≡ self.old.skip) × (self.new.bytes ≡ self.old.bytes) × (self.new.out ≡ left (place - self.old.skip) len self.old.out) × (self.new.units ≡ self.old.units) × (result.units ≡ self.old.units) }
+    {
+        Bytes { mark: PhantomData }
+    }
+
+    /// Puts bytes of this block back, which are here, with the values that they have in `part`. They were out.
+    #[inline(always)]
+    pub(crate) fn put_back(&mut self, part: Bytes)
+        requires { (part.at ≡ self.old.at) × (self.old.skip ≤ part.skip) × (part.skip + length part.bytes ≤ self.old.skip + length self.old.bytes) × IsIn part.out 0 (length part.bytes) × (part.units ≡ self.old.units) }
+        ensures { IsOut self.old.out (part.skip - self.old.skip) (length part.bytes) × (self.new.at ≡ self.old.at) × (self.new.skip ≡ self.old.skip) × (self.new.bytes ≡ splice self.old.bytes (part.skip - self.old.skip) (part.skip - self.old.skip + length part.bytes) part.bytes) × (self.new.out ≡ came_back (part.skip - self.old.skip) (length part.bytes) self.old.out) × (self.new.units ≡ self.old.units) }
+    {
+        let Bytes { mark: _ } = part;
+    }
+
+    /// Puts bytes of this block back. They were out, and are then raw.
+    #[inline(always)]
+    pub(crate) fn put_room(&mut self, part: Bytes)
+        requires { (part.at ≡ self.old.at) × (self.old.skip ≤ part.skip) × (part.skip + length part.bytes ≤ self.old.skip + length self.old.bytes) × IsOwn part.out 0 (length part.bytes) × (part.units ≡ self.old.units) }
+        ensures { IsOut self.old.out (part.skip - self.old.skip) (length part.bytes) × (self.new.at ≡ self.old.at) × (self.new.skip ≡ self.old.skip) × (self.new.bytes ≡ self.old.bytes) × (self.new.out ≡ came_raw (part.skip - self.old.skip) (length part.bytes) self.old.out) × (self.new.units ≡ self.old.units) }
+    {
+        let Bytes { mark: _ } = part;
+    }
+
+    /// Takes the `count` units from the unit `first` of the block on out of this owner, as room that is aligned to 16. Their bytes may
+    /// be raw.
+    #[inline(always)]
+    pub(crate) fn take_units(&mut self, first: usize, count: usize) -> Units
+        requires { (self.old.skip ≤ first * 16) × (first * 16 + count * 16 ≤ self.old.skip + length self.old.bytes) × (first + count ≤ self.old.units) × IsOwn self.old.out (first * 16 - self.old.skip) (count * 16) }
+        ensures { (result.at ≡ self.old.at) × (result.first ≡ first) × (result.count ≡ count) × (result.of ≡ (self.old.skip, length self.old.bytes)) × (self.new.at ≡ self.old.at) × (self.new.skip ≡ self.old.skip) × (self.new.bytes ≡ self.old.bytes) × (self.new.out ≡ left (first * 16 - self.old.skip) (count * 16) self.old.out) × (self.new.units ≡ self.old.units) }
+    {
+        Units { mark: PhantomData }
+    }
+
+    /// Takes units of the block back that were taken out of this owner: their bytes are raw from now on.
+    #[inline(always)]
+    pub(crate) fn put_units(&mut self, units: Units)
+        requires { (units.at ≡ self.old.at) × (self.old.skip ≤ units.first * 16) × (units.first * 16 + units.count * 16 ≤ self.old.skip + length self.old.bytes) × (units.first + units.count ≤ self.old.units) }
+        ensures { IsOut self.old.out (units.first * 16 - self.old.skip) (units.count * 16) × (self.new.at ≡ self.old.at) × (self.new.skip ≡ self.old.skip) × (self.new.bytes ≡ self.old.bytes) × (self.new.out ≡ came_raw (units.first * 16 - self.old.skip) (units.count * 16) self.old.out) × (self.new.units ≡ self.old.units) }
+    {
+        let Units { mark: _ } = units;
     }
 }

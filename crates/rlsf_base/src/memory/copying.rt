@@ -1,13 +1,96 @@
-//! Copies within a slice of bytes.
+//! Copies within a block's bytes.
 
-ghost use Rattle.std.specs.Prelude.{◌≡◌, ◌+◌, ◌≤◌, length};
+ghost use Rattle.std.specs.Prelude.{◌≡◌, ℕ, ◌+◌, ◌-◌, ◌^◌, ◌<◌, ◌≤◌, ◌⊎◌, List, length, take, drop};
 ghost use Rattle.core.specs.List.{copy_within};
+ghost use Rattle.std.specs.List.{splice};
+ghost use Rattle.rlsf_base.specs.Out.{Change, kept_at};
+ghost use Rattle.rlsf_base.specs.Changes.{IsIn, IsOwn, came_back};
+
+use super::block::{Base, Bytes};
+
+/// Copies the `len` bytes from the place `from` of the block on, all here, to the `len` bytes from the place `to` on,
+/// which may be raw. The bytes written are those before the call.
+#[inline(always)]
+pub(crate) fn copy_bytes(bytes: &mut Bytes, base: Base, from: usize, to: usize, len: usize)
+    ghost out: { List Change }
+    requires lies { (base.ptr ≡ bytes.old.at) × (bytes.old.skip ≤ from) × (from + len ≤ bytes.old.skip + length bytes.old.bytes) × (bytes.old.skip ≤ to) × (to + len ≤ bytes.old.skip + length bytes.old.bytes) × (bytes.old.skip + length bytes.old.bytes < 2 ^ 64) }
+    requires kept { IsIn bytes.old.out (from - bytes.old.skip) len × IsOwn bytes.old.out (to - bytes.old.skip) len }
+    requires out { out ≡ came_back (to - bytes.old.skip) len bytes.old.out }
+    ensures { (bytes.new.at ≡ bytes.old.at) × (bytes.new.skip ≡ bytes.old.skip) × (bytes.new.bytes ≡ splice bytes.old.bytes (to - bytes.old.skip) (to - bytes.old.skip + len) (take len (drop (from - bytes.old.skip) bytes.old.bytes))) × (bytes.new.out ≡ out) × (bytes.new.units ≡ bytes.old.units) }
+{
+    copy(bytes, base, from, to, len);
+    bytes.recount();
+}
+
+// The same. What became of the bytes is as if they were written, but for how it is counted.
+#[inline(always)]
+fn copy(bytes: &mut Bytes, base: Base, from: usize, to: usize, len: usize)
+    requires lies { (base.ptr ≡ bytes.old.at) × (bytes.old.skip ≤ from) × (from + len ≤ bytes.old.skip + length bytes.old.bytes) × (bytes.old.skip ≤ to) × (to + len ≤ bytes.old.skip + length bytes.old.bytes) × (bytes.old.skip + length bytes.old.bytes < 2 ^ 64) }
+    requires kept { IsIn bytes.old.out (from - bytes.old.skip) len × IsOwn bytes.old.out (to - bytes.old.skip) len }
+    ensures bytes { (bytes.new.at ≡ bytes.old.at) × (bytes.new.skip ≡ bytes.old.skip) × (bytes.new.bytes ≡ splice bytes.old.bytes (to - bytes.old.skip) (to - bytes.old.skip + len) (take len (drop (from - bytes.old.skip) bytes.old.bytes))) × (bytes.new.units ≡ bytes.old.units) }
+    ensures out { (k : ℕ) → kept_at bytes.new.out k ≡ kept_at (came_back (to - bytes.old.skip) len bytes.old.out) k }
+{
+    if from + len <= to || to + len <= from {
+        copy_apart(bytes, base, from, to, len);
+    } else if from < to {
+        copy_up(bytes, base, from, to - from, len);
+    } else if to < from {
+        copy_down(bytes, base, to, from - to, len);
+    }
+}
+
+// To bytes that overlap those copied, `by` places above. The last of them may be raw: they are written first.
+fn copy_up(bytes: &mut Bytes, base: Base, from: usize, by: usize, len: usize)
+    requires lies { (base.ptr ≡ bytes.old.at) × (bytes.old.skip ≤ from) × (by < len) × (from + by + len ≤ bytes.old.skip + length bytes.old.bytes) × (bytes.old.skip + length bytes.old.bytes < 2 ^ 64) }
+    requires kept { IsIn bytes.old.out (from - bytes.old.skip) len × IsOwn bytes.old.out (from - bytes.old.skip + len) by }
+    ensures bytes { (bytes.new.at ≡ bytes.old.at) × (bytes.new.skip ≡ bytes.old.skip) × (bytes.new.bytes ≡ splice bytes.old.bytes (from - bytes.old.skip + by) (from - bytes.old.skip + by + len) (take len (drop (from - bytes.old.skip) bytes.old.bytes))) × (bytes.new.units ≡ bytes.old.units) }
+    ensures out { (k : ℕ) → kept_at bytes.new.out k ≡ kept_at (came_back (from - bytes.old.skip + by) len bytes.old.out) k }
+{
+    copy_apart(bytes, base, from + len - by, from + len, by);
+    let rest = bytes.slice_mut(base, from, len);
+    rest.copy_within(0..len - by, by);
+}
+
+// To bytes that overlap those copied, `by` places below. The first of them may be raw: they are written first.
+fn copy_down(bytes: &mut Bytes, base: Base, to: usize, by: usize, len: usize)
+    requires lies { (base.ptr ≡ bytes.old.at) × (bytes.old.skip ≤ to) × (by < len) × (to + by + len ≤ bytes.old.skip + length bytes.old.bytes) × (bytes.old.skip + length bytes.old.bytes < 2 ^ 64) }
+    requires kept { IsIn bytes.old.out (to - bytes.old.skip + by) len × IsOwn bytes.old.out (to - bytes.old.skip) by }
+    ensures bytes { (bytes.new.at ≡ bytes.old.at) × (bytes.new.skip ≡ bytes.old.skip) × (bytes.new.bytes ≡ splice bytes.old.bytes (to - bytes.old.skip) (to - bytes.old.skip + len) (take len (drop (to - bytes.old.skip + by) bytes.old.bytes))) × (bytes.new.units ≡ bytes.old.units) }
+    ensures out { (k : ℕ) → kept_at bytes.new.out k ≡ kept_at (came_back (to - bytes.old.skip) len bytes.old.out) k }
+{
+    copy_apart(bytes, base, to + by, to, by);
+    let rest = bytes.slice_mut(base, to + by, len);
+    rest.copy_within(by..len, 0);
+}
+
+// To bytes that don't overlap those copied.
+fn copy_apart(bytes: &mut Bytes, base: Base, from: usize, to: usize, len: usize)
+    requires lies { (base.ptr ≡ bytes.old.at) × (bytes.old.skip ≤ from) × (from + len ≤ bytes.old.skip + length bytes.old.bytes) × (bytes.old.skip ≤ to) × (to + len ≤ bytes.old.skip + length bytes.old.bytes) × (bytes.old.skip + length bytes.old.bytes < 2 ^ 64) }
+    requires kept { IsIn bytes.old.out (from - bytes.old.skip) len × IsOwn bytes.old.out (to - bytes.old.skip) len }
+    requires apart { (from + len ≤ to) ⊎ (to + len ≤ from) }
+    ensures bytes { (bytes.new.at ≡ bytes.old.at) × (bytes.new.skip ≡ bytes.old.skip) × (bytes.new.bytes ≡ splice bytes.old.bytes (to - bytes.old.skip) (to - bytes.old.skip + len) (take len (drop (from - bytes.old.skip) bytes.old.bytes))) × (bytes.new.units ≡ bytes.old.units) }
+    ensures out { (k : ℕ) → kept_at bytes.new.out k ≡ kept_at (came_back (to - bytes.old.skip) len bytes.old.out) k }
+{
+    let mut part = bytes.take_room(to, len);
+    write_bytes(&mut part, base, to, bytes.slice(base, from, len));
+    bytes.put_back(part);
+}
+
+// LLVM makes one call of `memcpy` of it.
+fn write_bytes(bytes: &mut Bytes, base: Base, place: usize, from: &[u8])
+    requires { (base.ptr ≡ bytes.old.at) × (bytes.old.skip ≡ place) × (length bytes.old.bytes ≡ length from.now) × IsOwn bytes.old.out 0 (length from.now) × (place + length from.now < 2 ^ 64) }
+    ensures { (bytes.new.at ≡ bytes.old.at) × (bytes.new.skip ≡ bytes.old.skip) × (bytes.new.bytes ≡ from.now) × IsIn bytes.new.out 0 (length from.now) × (bytes.new.units ≡ bytes.old.units) }
+{
+    for index in 0..from.len() {
+        bytes.write(base, place + index, from[index]);
+    }
+}
 
 /// Copies the `len` bytes from `from` on to the `len` bytes from `to` on. The bytes written are those before the call.
 // Parts that don't overlap are two slices, between which the compiler copies by `memmove`. A slice's own `copy_within` goes byte by
 // byte in one direction, and the compiler makes a loop of 32 bytes a turn of it.
 #[inline(always)]
-pub(crate) fn copy_bytes(bytes: &mut [u8], from: usize, len: usize, to: usize)
+pub(crate) fn copy_in_slice(bytes: &mut [u8], from: usize, len: usize, to: usize)
     requires { (from + len ≤ length bytes.old) × (to + len ≤ length bytes.old) }
     ensures { bytes.new ≡ copy_within bytes.old from (from + len) to }
 {

@@ -1,14 +1,15 @@
-//! The place of a memory's words in the system's block.
+//! The place of a memory's words in its block.
 ghost use Rattle.std.specs.Prelude.{◌≡◌, ◌+◌, ◌%◌, ◌^◌};
 ghost use Rattle.rlsf_base.specs.Steps.Block.{view_of};
 
 use super::block::Base;
 
-/// The place of a memory's bytes in the system's block, made once for many word accesses. It owns nothing.
+/// The place of a memory's bytes in its block, made once for many word accesses. It owns nothing.
 #[derive(Clone, Copy)]
 pub struct View {
     pub(crate) base: Base,
-    // What is added to an address to get its place in the block, where what passes a word is cut off: a multiple of 8.
+    // What is added to an address to get its place in the block, where what passes a word is cut off: a multiple of 8, and of
+    // 16 if the block is the system's.
     shift: usize,
 }
 

@@ -1,6 +1,9 @@
 //! The block of a memory, zeroed when it is allocated, and the system's allocator, which deallocates it.
 ghost use Rattle.std.specs.Prelude.{◌≡◌, ◌+◌, ◌-◌, ◌/◌, ◌^◌, ◌≤◌, [], length, replicate, IfSome, IsSome};
-ghost use Rattle.rlsf_base.specs.Steps.Block.{IsSupplierOf, words_for};
+ghost use denote.RawPtr.{null_ptr};
+ghost use Rattle.rlsf_base.specs.Changes.{IsAllOwn, IsOwn};
+ghost use Rattle.rlsf_base.specs.Steps.Block.{IsSupplierOf};
+ghost use Rattle.rlsf_base.specs.Steps.Ownership.{units_for};
 
 use super::block::{Base, Bytes, Deed, allocate, deallocate, forget, no_block};
 use std::alloc::Global;
@@ -14,31 +17,31 @@ pub(crate) struct Supplier {
     alloc: Global,
 }
 
-/// The most bytes of a block: no system has so many. They are whole words, and their number times 8 fits in a `usize`.
-const MAX_LEN: usize = 0x1fff_ffff_ffff_fff8;
+/// The most bytes of a block: no system has so many. They are whole units of 16 bytes, and their number times 32 fits in a `usize`.
+const MAX_LEN: usize = 0x07ff_ffff_ffff_fff0;
 
-fn words(skip: usize, len: usize) -> usize
-    requires { skip + len ≤ 2 ^ 63 - 8 }
-    ensures { result ≡ words_for skip len }
+fn units(skip: usize, len: usize) -> usize
+    requires { skip + len ≤ 2 ^ 63 - 16 }
+    ensures { result ≡ units_for skip len }
 {
-    (skip + len + 7) / 8
+    (skip + len + 15) / 16
 }
 
 // LLVM makes one call of `memset` of it.
 fn fill_zero(bytes: &mut Bytes, base: Base, skip: usize, len: usize)
-    requires { (base.ptr ≡ bytes.old.at) × (bytes.old.skip ≡ skip) × (bytes.old.bytes ≡ []) × (bytes.old.left ≡ len) × (skip + len ≤ 2 ^ 63 - 8) }
-    ensures { (bytes.new.at ≡ bytes.old.at) × (bytes.new.skip ≡ skip) × (bytes.new.bytes ≡ replicate len 0) × (bytes.new.left ≡ 0) }
+    requires { (base.ptr ≡ bytes.old.at) × (bytes.old.skip ≡ skip) × (length bytes.old.bytes ≡ len) × IsOwn bytes.old.out 0 len × (skip + len ≤ 2 ^ 63 - 16) }
+    ensures { (bytes.new.at ≡ bytes.old.at) × (bytes.new.skip ≡ skip) × (bytes.new.bytes ≡ replicate len 0) × (bytes.new.out ≡ []) × (bytes.new.units ≡ bytes.old.units) }
 {
     for index in 0..len {
-        bytes.push(base, skip + index, 0);
+        bytes.write(base, skip + index, 0);
     }
+    bytes.settle();
 }
 
-/// Allocates a block, and returns its `len` bytes from the byte `skip` on, all zero. If `len` is zero, no block is
-/// allocated.
-pub(crate) fn take_zeroed(alloc: Global, skip: usize, len: usize) -> Option<(Base, Bytes, Supplier)>
-    requires { skip ≤ 7 }
-    ensures bytes { IfSome result (λ r. (r.0.ptr ≡ r.1.at) × (r.1.skip ≡ skip) × (r.1.bytes ≡ replicate len 0) × (r.1.left ≡ 0) × (skip + len ≤ 2 ^ 61 - 8)) }
+/// Allocates a block, and returns its `len` bytes from the byte `skip` on, all raw. If `len` is zero, no block is allocated.
+pub(crate) fn take_raw(alloc: Global, skip: usize, len: usize) -> Option<(Base, Bytes, Supplier)>
+    requires { skip ≤ 15 }
+    ensures bytes { IfSome result (λ r. (r.0.ptr ≡ r.1.at) × (r.1.skip ≡ skip) × (length r.1.bytes ≡ len) × (skip + len ≤ 2 ^ 59 - 16) × IsAllOwn r.1.out × (r.1.units ≡ units_for skip len)) }
     ensures supplier { IfSome result (λ r. IsSupplierOf r.0 skip len r.2) }
     ensures empty { len ≡ 0 → IsSome result }
 {
@@ -49,22 +52,56 @@ pub(crate) fn take_zeroed(alloc: Global, skip: usize, len: usize) -> Option<(Bas
     if MAX_LEN - skip < len {
         return None;
     }
-    let (base, mut bytes, deed) = allocate(&alloc, words(skip, len), skip, len)?;
-    fill_zero(&mut bytes, base, skip, len);
+    let (base, bytes, deed) = allocate(&alloc, units(skip, len), skip, len)?;
     Some((base, bytes, Supplier { deed, alloc }))
 }
 
+/// The same, all zero.
+pub(crate) fn take_zeroed(alloc: Global, skip: usize, len: usize) -> Option<(Base, Bytes, Supplier)>
+    requires { skip ≤ 15 }
+    ensures bytes { IfSome result (λ r. (r.0.ptr ≡ r.1.at) × (r.1.skip ≡ skip) × (r.1.bytes ≡ replicate len 0) × (skip + len ≤ 2 ^ 59 - 16) × (r.1.out ≡ []) × (r.1.units ≡ units_for skip len)) }
+    ensures supplier { IfSome result (λ r. IsSupplierOf r.0 skip len r.2) }
+    ensures empty { len ≡ 0 → IsSome result }
+{
+    let (base, mut bytes, supplier) = take_raw(alloc, skip, len)?;
+    fill_zero(&mut bytes, base, skip, len);
+    Some((base, bytes, supplier))
+}
+
+/// Returns the supplier of no block.
+pub(crate) fn no_supplier(alloc: Global) -> Supplier
+    ensures { result.deed.at ≡ null_ptr }
+{
+    let (_, none, deed) = no_block(&alloc, 0);
+    none.end();
+    Supplier { deed, alloc }
+}
+
 impl Supplier {
+    /// Drops the right to deallocate: the block is never deallocated.
+    pub(crate) fn end(self) {
+        let Supplier { deed, alloc: _ } = self;
+        deed.end();
+    }
+
+    /// Consumes bytes of which no block is to be deallocated.
+    pub(crate) fn let_go(self, bytes: Bytes)
+        requires { self.deed.at ≡ null_ptr }
+    {
+        let Supplier { deed, alloc: _ } = self;
+        forget(bytes, deed);
+    }
+
     /// Deallocates the block, if there is one.
     pub(crate) fn give_back(self, base: Base, skip: usize, len: usize, bytes: Bytes)
-        requires bytes { (base.ptr ≡ bytes.at) × (bytes.skip ≡ skip) × (length bytes.bytes ≡ len) × (bytes.left ≡ 0) × (skip + len ≤ 2 ^ 63 - 8) }
+        requires bytes { (base.ptr ≡ bytes.at) × (bytes.skip ≡ skip) × (length bytes.bytes ≡ len) × (skip + len ≤ 2 ^ 63 - 16) × IsOwn bytes.out 0 (length bytes.bytes) × (bytes.units ≡ units_for skip len) }
         requires supplier { IsSupplierOf base skip len self }
     {
         let Supplier { deed, alloc } = self;
         if len == 0 {
             forget(bytes, deed);
         } else {
-            deallocate(&alloc, base, words(skip, len), bytes, deed);
+            deallocate(&alloc, base, units(skip, len), bytes, deed);
         }
     }
 }

@@ -1,6 +1,9 @@
-use Rattle.std.proofs.Common.{arith}
-use Rattle.std.proofs.lemmas.Grind.{common_steps}
+use Rattle.rlsf_base.specs.Space.{word_range}
+use Rattle.rlsf_base.proofs.Lending.Whole.{writable, none-with}
 use Rattle.rlsf_base.proofs.memory.Memory.set_word_at.Goals as goal
 
-pub returns-clause-bytes : goal.returns-clause-bytes
-returns-clause-bytes c = grind (arith, common_steps)
+pub set_word_at-requires-clause-place : goal.set_word_at-requires-clause-place
+set_word_at-requires-clause-place c = writable c.self.view_is c.self.invariant c.requires.place
+
+pub invariant_of-self : goal.invariant_of-self
+invariant_of-self c = none-with c.self.inside.inner c.set_word_at.new.self (word_range c.args.addr) c.set_word_at.ensures.out c.self.invariant

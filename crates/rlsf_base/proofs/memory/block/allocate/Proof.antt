@@ -1,10 +1,10 @@
--- Shows that `allocate` asks for words, and keeps of their room the bytes after the first, with the way back. Assumes `Logic`.
+-- Shows that `allocate` asks for units, and keeps of their room the bytes after the first, with the ways of the units and the way back. Assumes `Logic`.
 use Rattle.std.proofs.Common.{◌≡◌, ℕ, ◌+◌, ◌*◌, ◌^◌, ◌<◌, ◌≤◌, List, [], ◌∷◌, ◌++◌, length, refl, arith, lit<, w64, Some, None}
 use mir.Syntax.{Ty, Fn, Args, a_type, dcons, dnil}
 use mir.Val.{Val, vint, vptr, vcons, vnil}
 use mir.MapTy.{inst_fn}
 use base.Logic.{SProp, emp, id⊢}
-use base.Fml.{Lft, Share, ftrue, flft, froom, fwand}
+use base.Fml.{Lft, Share, Fml, ftrue, flft, froom, fwand}
 use prog.Capped.{capped_is}
 use prog.Wp.{Env, WpFn}
 use contract.BorrowLft.{◌⊑◌, ⊑_trans}
@@ -29,8 +29,15 @@ use Rattle.core.proofs.alloc.Shapes.{after, head, arm_body}
 use Rattle.core.proofs.atomic.Steps.{fm}
 use Rattle.core.proofs.option.Made.{Some-of, none_of}
 use Rattle.std.proofs.raw_atomic.Walks.{proved_at, leaves}
-use Rattle.rlsf_base.specs.Steps.Ownership.{bytes_ty, words_ty}
+use Rattle.rlsf_base.specs.Steps.Ownership.{bytes_ty, units_ty, held, ways_of, begins_in, own_unit}
+use Rattle.rlsf_base.specs.Out.{Change, raw as raw', kept_at}
+use Rattle.rlsf_base.specs.Changes.{came_raw}
 use Rattle.rlsf_base.proofs.RawBlock.Rooms.{retypes}
+use Rattle.rlsf_base.proofs.RawBlock.Rows.{room-held}
+use Rattle.rlsf_base.proofs.Changes.{changed-there, raw-own}
+use Rattle.std.proofs.Common.{replicate, sym, ap, ◌∙◌}
+use Rattle.std.proofs.lemmas.List.{length-replicate}
+use Rattle.rlsf_base.proofs.RawBlock.Units.{ways-same, unit-all}
 use Rattle.rlsf_base.proofs.RawBlock.Values.{base_val, base_own, base_made, mark_val, mark_own, mark_made, three_val, three_of}
 use Rattle.rlsf_base.proofs.RawBlock.Walks.{slot_at, then_runs}
 use Rattle.rlsf_base.specs.contracts.memory.block.Base as base_type
@@ -69,23 +76,23 @@ allocate_spec 𝓤 𝓛 𝓜 𝓡 wired A L g d dd met md =
     let Y : Al = record { row = A; laws = L; g = g; d = d; drops = dd } in
     let κ : Lft = z.0.0.0 in let q : Share = z.0.1.0 in let Z : RattleType = param 0 A in
     let h = a.0.now in let at = a.0.ref_ptr in
-    let words = a.1.0 in let skip = a.1.1.0 in let len = a.1.1.1.0 in
-    let τ : Ty = words_ty words in
-    let y = at_takes Y 𝓛 𝓜.mem 𝓡.returns κ q at h (words * 8) 8 τ in
+    let units = a.1.0 in let skip = a.1.1.0 in let len = a.1.1.1.0 in
+    let τ : Ty = units_ty units in
+    let y = at_takes Y 𝓛 𝓜.mem 𝓡.returns κ q at h (units * 16) 16 τ in
     let Out : RattleType = type_at En₀.signature.result z.0.0 in
     let Three : RattleType = Tuple (base_type.the_row ∷ owner.the_row ∷ deed.the_row Z g ∷ []) in
-    let Asked : Type 0 = (words * 8 < 2 ^ 63) × (skip + len ≤ words * 8) in
+    let Asked : Type 0 = (units * 16 < 2 ^ 63) × (skip + len ≤ units * 16) in
     qed 𝓛 ((raw (alive 𝓛 En₀.signature z.0.0 z.0.1) ⊛ ‵ (owns (types_at En₀.signature.params z.0.0) a vss)) ∷ (raw (fact 𝓤 (z.0.0.1.0 ⊑ A.lives)) ⊛ raw (fact 𝓤 Asked)) ∷ []) ∵
     move ! (1 ∷ []) $ split ! $ heard ! (z.0.0.1.0 ⊑ A.lives) (λ le. heard ! Asked (λ asked. split ! $ move ! (1 ∷ []) $
     fsplit ! $ fsplit ! $ skips ! $ move ! (1 ∷ []) $ skips ! $ use1 𝓛 (‵ (seen Y κ at h)) (id⊢ 𝓤 _) $ move ! (1 ∷ []) $ use1 𝓛 (‵ (flft κ q) ⊛ ‵ (flft z.0.0.1.0 z.0.1.1.0) ⊛ ‵ ftrue) (id⊢ 𝓤 _) $ split ! $ move ! (2 ∷ 0 ∷ []) $
-    let small : words * 8 < 2 ^ 64 = omega (arith, asked.0) in
+    let small : units * 16 < 2 ^ 64 = omega (arith, asked.0) in
     regoal ! (λ (us : List Val). prop (WpFn 𝓤 H C Λ fn us Post)) (λ i. are.0.0 i ++ (are.1.0.0 i ++ (are.1.1.0.0 i ++ (are.1.1.1.0.0 i ++ [])))) refl $
-    enter ! C Λ fn (vptr at.0 at.1 ∷ vint w64 words ∷ vint w64 skip ∷ vint w64 len ∷ []) Post $
+    enter ! C Λ fn (vptr at.0 at.1 ∷ vint w64 units ∷ vint w64 skip ∷ vint w64 len ∷ []) Post $
     alloc_all ! (λ l. pass_all ! refl ((tt, tt), ((tt, record { fits = are.1.0.1 }), ((tt, record { fits = are.1.1.0.1 }), ((tt, record { fits = are.1.1.1.0.1 }), tt)))) $ let En : Env 𝓤 𝓛.H = env fn.locals l in
     sets ! (bin ! (get ! refl) (lit ! tt) (record { fits = small })) refl (tt, record { fits = small }) $
-    use2 𝓛 (raw ((Takes Y 𝓛 𝓜.mem 𝓡.returns).pre y)) (Takes-goes Y 𝓛 𝓜.mem 𝓡.returns κ q at h (⊑_trans κ z.0.0.1.0 A.lives z.0.2.0 le) (words * 8) 8 τ (capped_is (words * 8) small) refl small (lit< tt)) $
+    use2 𝓛 (raw ((Takes Y 𝓛 𝓜.mem 𝓡.returns).pre y)) (Takes-goes Y 𝓛 𝓜.mem 𝓡.returns κ q at h (⊑_trans κ z.0.0.1.0 A.lives z.0.2.0 le) (units * 16) 16 τ (capped_is (units * 16) small) refl small (lit< tt)) $
     calls_at ! (fm 𝓛 𝓜 𝓡) (Takes Y 𝓛 𝓜.mem 𝓡.returns) (met.allocate dd) y (and_then ! (get ! refl) (and_then ! (get ! refl) (and_then ! (lit ! tt) (no_more !)))) (λ v.
-    use1 𝓛 (later (raw (Answered Y 𝓛 𝓜.mem 𝓡.returns h τ v) ⊛ ‵ (flft κ q))) (Takes-gives Y 𝓛 𝓜.mem 𝓡.returns κ q at h (words * 8) 8 τ v) $ await ! tt $ split ! $
+    use1 𝓛 (later (raw (Answered Y 𝓛 𝓜.mem 𝓡.returns h τ v) ⊛ ‵ (flft κ q))) (Takes-gives Y 𝓛 𝓜.mem 𝓡.returns κ q at h (units * 16) 16 τ v) $ await ! tt $ split ! $
     answers Y ! 𝓜.mem 𝓡.returns h τ v
     (λ b o e. move ! (2 ∷ 3 ∷ []) $ join ! $ move ! (1 ∷ 2 ∷ []) $ lands_as ! (e) refl (tt, (record { fits = lit< tt }, (tt, tt))) $
     first ! $ switches_on ! (get_tag ! (vrt ! refl (fld ! refl (stop !))) (whole !)) $ exec ! C Λ En (arm_body 0 (head (after 2 fn.body))) (then_runs 𝓛 C Λ En (after 3 fn.body) (at_ret En Post)) $
@@ -101,18 +108,23 @@ allocate_spec 𝓤 𝓛 𝓜 𝓡 wired A L g d dd met md =
     -- [the room; the allocator's token; the tokens]
     let p : Ptr = block_ptr b o in
     let x : (base_type.the_row).Denot = record { ptr = p } in
-    let bytes : (owner.the_row).Denot = record { mark = record {}; at = p; skip = skip; bytes = []; left = len } in
-    let right : (deed.the_row Z g).Denot = record { mark = record {}; at = p; words = words; skip = skip; len = len; alloc = h } in
+    let bs : List ℕ = replicate len 0 in let no_changes : List Change = [] in let cs = came_raw 0 len no_changes in let as_many : length bs ≡ len = length-replicate len 0 in
+    let bytes : (owner.the_row).Denot = record { mark = record {}; at = p; skip = skip; bytes = bs; out = cs; of = (0, 0); units = units } in
+    let right : (deed.the_row Z g).Denot = record { mark = record {}; at = p; units = units; skip = skip; len = len; alloc = h } in
     let v : Val = three_val (base_val p) mark_val mark_val in
-    let none : List ℕ = [] in let here : skip + o ≡ length none + (skip + o) = omega arith in
-    use1 𝓛 (‵ (froom (bytes_ty len) b (skip + o)) ⊛ ‵ (fwand (froom (bytes_ty len) b (skip + o)) (froom τ b o))) (retypes 𝓛 b words skip len o asked.1) $ split ! $
-    move ! (2 ∷ 1 ∷ []) $ fjoin ! $ use0 𝓛 (‵ (mark_own (mark_val ∷ []))) (mark_made 𝓛) $ fjoin ! $ move ! (1 ∷ []) $
-    rewrite ! 0 (λ (k : ℕ). ‵ (froom (bytes_ty len) b k)) here refl $ nothing ! $ fjoin ! $ flt_i ! (length none + len) (2 ^ 63) (omega (arith, asked.0, asked.1)) $ fjoin ! $
+    let back : Fml = fwand (froom (bytes_ty len) b (skip + o)) (fwand (ways_of (begins_in skip len) 0 units b o) (froom τ b o)) in
+    use1 𝓛 (‵ (froom (bytes_ty len) b (skip + o)) ⊛ ‵ (ways_of (begins_in skip len) 0 units b o) ⊛ ‵ back) (retypes 𝓛 b units skip len o asked.1) $ split ! $ move ! (1 ∷ []) $ split ! $
+    -- [the ways; the way back; the room; the allocator's token; the tokens]
+    move ! (3 ∷ 1 ∷ []) $ fjoin ! $ use0 𝓛 (‵ (mark_own (mark_val ∷ []))) (mark_made 𝓛) $ fjoin ! $ move ! (2 ∷ 1 ∷ []) $
+    rewrite ! 0 (λ (k : ℕ). ‵ (froom (bytes_ty k) b (skip + o))) (sym as_many) refl $
+    use1 𝓛 (‵ (held (kept_at cs) 0 bs b (skip + o))) (room-held 𝓛 b (kept_at cs) 0 bs (skip + o) (λ j lo hi. changed-there raw' no_changes 0 len j lo (omega (arith, hi, as_many)))) $
+    rewrite ! 1 (λ (F : Fml). ‵ F) (sym (ways-same 𝓛 b (own_unit cs skip (length bs)) (begins_in skip len) 0 units o (λ u. ap (λ k. own_unit cs skip k u) as_many ∙ unit-all cs skip len u (raw-own no_changes 0 len)))) refl $ fjoin ! $
+    flt_i ! (length bs) (2 ^ 63) (omega (arith, asked.0, asked.1, as_many)) $ fjoin ! $
     use0 𝓛 (‵ (mark_own (mark_val ∷ []))) (mark_made 𝓛) $ fjoin ! $ use0 𝓛 (‵ (base_own p (base_val p ∷ []))) (base_made 𝓛 p) $
     use3 𝓛 (‵ (Three.own_val (x, bytes, right) (v ∷ []))) (three_of 𝓛 base_type.the_row owner.the_row (deed.the_row Z g) x bytes right (base_val p) mark_val mark_val) $
     use1 𝓛 (‵ (Out.own_val (Some (x, bytes, right)) (live 1 (vcons v vnil) ∷ []))) (Some-of 𝓛 Three (x, bytes, right) v) $
-    let Told : Type 0 = (p ≡ p) × (skip ≡ skip) × (none ≡ none) × (len ≡ len) × (p ≡ p) × (words ≡ words) × (skip ≡ skip) × (len ≡ len) × (h ≡ h) in
-    use0 𝓛 (raw (fact 𝓤 Told)) (fact_i 𝓤 Told (emp 𝓤) (refl, refl, refl, refl, refl, refl, refl, refl, refl)) $
+    let Told : Type 0 = (p ≡ p) × (skip ≡ skip) × (length bs ≡ len) × (p ≡ p) × (units ≡ units) × (skip ≡ skip) × (len ≡ len) × (h ≡ h) × (cs ≡ cs) × (units ≡ units) in
+    use0 𝓛 (raw (fact 𝓤 Told)) (fact_i 𝓤 Told (emp 𝓤) (refl, refl, as_many, refl, refl, refl, refl, refl, refl, refl)) $
     nothing ! $ nothing ! $ fjoin ! $ nothing ! $ fjoin ! $ nothing ! $ fjoin ! $ nothing ! $ fjoin ! $ move ! (3 ∷ 0 ∷ 2 ∷ 1 ∷ []) $
     by ! (leaves 𝓛 En₀ stays c z (live 1 (vcons v vnil)) (Some (x, bytes, right)) (tt, (tt, (tt, (tt, tt)))) (tt, (tt, (tt, (tt, tt))))))
     (λ e. join ! $ lands_as ! (e) refl (tt, (record { fits = lit< tt }, (tt, tt))) $

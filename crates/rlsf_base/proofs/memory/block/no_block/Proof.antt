@@ -1,10 +1,10 @@
 -- Shows that `no_block` points to an array of no bytes, and owns nothing. Assumes `Logic`.
-use Rattle.std.proofs.Common.{◌≡◌, ℕ, ◌+◌, ◌^◌, List, [], ◌∷◌, ◌++◌, length, refl, lit<, w8, w64}
-use mir.Syntax.{Fn, Args, a_type, dcons, dnil, ty_int}
+use Rattle.std.proofs.Common.{◌≡◌, ℕ, ◌^◌, List, [], ◌∷◌, ◌++◌, length, refl, lit<, w64}
+use mir.Syntax.{Fn, Args, a_type, dcons, dnil}
 use mir.Val.{Val, vint, vptr}
 use mir.MapTy.{inst_fn}
 use base.Logic.{SProp, emp}
-use base.Fml.{ftrue, froom}
+use base.Fml.{ftrue}
 use prog.Wp.{WpFn}
 use contract.BorrowLft.{◌⊑◌}
 use contract.Monad.{fact, fact_i}
@@ -22,7 +22,9 @@ use denote.Struct.Tuple.{Tuple}
 use denote.Triple.Entry.{alive}
 use denote.Triple.Walked.{Stays, stay_dropped, walk_of, Goes-dropped}
 use Rattle.std.proofs.raw_atomic.Walks.{proved_at, leaves}
-use Rattle.rlsf_base.specs.Steps.Ownership.{bytes_ty}
+use Rattle.rlsf_base.specs.Out.{Change}
+use Rattle.rlsf_base.specs.Steps.Ownership.{units_for, ways_of, own_unit}
+use Rattle.rlsf_base.proofs.RawBlock.Units.{unit-nowhere, ways_none}
 use Rattle.rlsf_base.proofs.RawBlock.Values.{base_val, base_own, base_made, mark_val, mark_own, mark_made, three_val, three_of}
 use Rattle.rlsf_base.proofs.RawBlock.Walks.{slot_at}
 use Rattle.rlsf_base.specs.contracts.memory.block.Base as base_type
@@ -60,16 +62,16 @@ no_block_spec 𝓤 𝓛 𝓜 𝓡 wired A L g d dd met md =
     sets ! (agg ! (no_more !)) refl (tt, tt) $ sets ! (agg ! (and_then ! (get ! refl) (no_more !))) refl (tt, (tt, tt)) $
     sets ! (agg ! (and_then ! (get ! refl) (and_then ! (get ! refl) (and_then ! (get ! refl) (no_more !))))) refl (tt, ((tt, tt), ((tt, tt), ((tt, tt), tt)))) $
     returns ! (look_at ! 0 refl) $ free_all ! refl $
-    let p : Ptr = block_ptr (l 3) 0 in let none : List ℕ = [] in let here = length none + (skip + 0) in
+    let p : Ptr = block_ptr (l 3) 0 in let none : List ℕ = [] in let no_changes : List Change = [] in let units : ℕ = units_for skip 0 in
     let x : (base_type.the_row).Denot = record { ptr = p } in
-    let bytes : (owner.the_row).Denot = record { mark = record {}; at = p; skip = skip; bytes = none; left = 0 } in
-    let right : (deed.the_row Z g).Denot = record { mark = record {}; at = null_ptr; words = 0; skip = skip; len = 0; alloc = a.0.now } in
+    let bytes : (owner.the_row).Denot = record { mark = record {}; at = p; skip = skip; bytes = none; out = no_changes; of = (0, 0); units = units } in
+    let right : (deed.the_row Z g).Denot = record { mark = record {}; at = null_ptr; units = 0; skip = skip; len = 0; alloc = a.0.now } in
     let v : Val = three_val (base_val p) mark_val mark_val in
     nothing ! $ use0 𝓛 (‵ (mark_own (mark_val ∷ []))) (mark_made 𝓛) $ fjoin ! $
-    use0 𝓛 (‵ (froom (bytes_ty 0) (l 3) here)) (𝓛.laws.room_nil (ty_int w8) (l 3) here) $ nothing ! $ fjoin ! $ flt_i ! (length none + 0) (2 ^ 63) (lit< tt) $ fjoin ! $
+    use0 𝓛 (‵ (ways_of (own_unit no_changes skip 0) 0 units (l 3) 0)) (ways_none 𝓛 (l 3) (own_unit no_changes skip 0) 0 units 0 (λ u lo hi. unit-nowhere no_changes skip u)) $ nothing ! $ fjoin ! $ flt_i ! (length none) (2 ^ 63) (lit< tt) $ fjoin ! $
     use0 𝓛 (‵ (mark_own (mark_val ∷ []))) (mark_made 𝓛) $ fjoin ! $ use0 𝓛 (‵ (base_own p (base_val p ∷ []))) (base_made 𝓛 p) $
     use3 𝓛 (‵ (Three.own_val (x, bytes, right) (v ∷ []))) (three_of 𝓛 base_type.the_row owner.the_row (deed.the_row Z g) x bytes right (base_val p) mark_val mark_val) $
-    let Told : Type 0 = (p ≡ p) × (skip ≡ skip) × (none ≡ none) × (0 ≡ 0) × (null_ptr ≡ null_ptr) in
-    use0 𝓛 (raw (fact 𝓤 Told)) (fact_i 𝓤 Told (emp 𝓤) (refl, refl, refl, refl, refl)) $
+    let Told : Type 0 = (p ≡ p) × (skip ≡ skip) × (none ≡ none) × (null_ptr ≡ null_ptr) × (no_changes ≡ no_changes) × (units ≡ units) in
+    use0 𝓛 (raw (fact 𝓤 Told)) (fact_i 𝓤 Told (emp 𝓤) (refl, refl, refl, refl, refl, refl)) $
     nothing ! $ nothing ! $ fjoin ! $ nothing ! $ fjoin ! $ move ! (3 ∷ 0 ∷ 2 ∷ 1 ∷ []) $
     by ! (leaves 𝓛 En₀ stays c z v (x, bytes, right) (tt, (tt, tt)) (tt, (tt, tt)))))

@@ -1,9 +1,10 @@
-use Rattle.std.proofs.Common.{◌-◌, ◌≡◌, ◌+◌, ◌≤◌, replicate}
+use Rattle.std.proofs.Common.{◌-◌, ◌≡◌, ◌≤◌, ◌++◌, replicate, drop}
+use Rattle.rlsf_base.specs.Changes.{IsIn, IsOwn}
 use Rattle.rlsf_base.proofs.memory.zeroed.fill_zero.Given as goal
 
 abbrev pub invariant-loop-index : goal.invariant-loop-index
 invariant-loop-index l =
-    (l.index ≤ l.len) × (l.bytes.at ≡ l.fn.bytes.at) × (l.bytes.skip ≡ l.fn.skip) × (l.bytes.bytes ≡ replicate l.index 0) × (l.bytes.left + l.index ≡ l.len)
+    (l.index ≤ l.len) × (l.bytes.at ≡ l.fn.bytes.at) × (l.bytes.skip ≡ l.fn.skip) × (l.bytes.bytes ≡ replicate l.index 0 ++ drop l.index l.fn.bytes.bytes) × IsIn l.bytes.out 0 l.index × IsOwn l.bytes.out 0 l.len × (l.bytes.units ≡ l.fn.bytes.units)
 
 abbrev pub decreases-loop-index : goal.decreases-loop-index
 decreases-loop-index l = l.len - l.index

@@ -12,5 +12,5 @@ use Rattle.rlsf_base.proofs.RawBlock.Sharing.{bytes_lent_laws, Lends-bytes}
 
 pub shares : statement
 shares = of_Lends C.struct (C.the_codes (marker.the_row RawPtr).coded) C.the_heap C.the_lent
-    (λ d p. bytes_lent_laws d.at d.skip d.bytes d.left) (copy_shared (marker.the_field RawPtr) (field_copy (marker.the_type RawPtr) tt), tt)
-    (λ M 𝓤 𝓛 d p. Lends-bytes 𝓛 (C.the_row).lives (Incl-refl []) d.at d.skip d.bytes d.left)
+    (λ d p. bytes_lent_laws d.at d.skip d.bytes d.out) (copy_shared (marker.the_field RawPtr) (field_copy (marker.the_type RawPtr) tt), tt)
+    (λ M 𝓤 𝓛 d p. Lends-bytes 𝓛 (C.the_row).lives (Incl-refl []) d.at d.skip d.bytes d.out d.units)

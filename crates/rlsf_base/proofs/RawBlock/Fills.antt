@@ -1,0 +1,41 @@
+-- A run of bytes that grows by one, and what each byte is then.
+use Rattle.std.proofs.Common.{◌≡◌, ℕ, ◌+◌, ◌<◌, inl, inr, List, [], ◌∷◌, ◌++◌, length, take, drop, slice_index, replicate, arith, ap, ◌∙◌}
+use Rattle.std.proofs.lemmas.Bool.{cases_lt}
+use Rattle.std.proofs.lemmas.Grind.{common_steps}
+use Rattle.std.specs.List.{splice}
+use Rattle.rlsf_base.specs.Out.{Change, raw, is_own}
+use Rattle.rlsf_base.specs.Changes.{IsIn, IsOwn, IsAllOwn, came_back, came_raw}
+use Rattle.rlsf_base.proofs.Changes.{changed-there, changed-before, changed-behind, back-there, back-before, back-behind, none-out}
+
+pub all_own : (cs : List Change) (i n : ℕ) → IsAllOwn cs → IsAllOwn (came_raw i n cs)
+all_own cs i n was k = elim (cases_lt k i) [
+  | inl before ↦ ap is_own (changed-before raw cs i n k before) ∙ was k
+  | inr behind ↦ elim (cases_lt k (i + n)) [
+    | inl inside ↦ ap is_own (changed-there raw cs i n k behind inside)
+    | inr past ↦ ap is_own (changed-behind raw cs i n k past) ∙ was k
+  ]
+]
+
+pub none_own : IsAllOwn []
+none_own k = ap is_own (none-out k)
+
+pub filled : (old : List ℕ) (i : ℕ) → i < length old → splice (replicate i 0 ++ drop i old) i (i + 1) (0 ∷ []) ≡ replicate (i + 1) 0 ++ drop (i + 1) old
+filled old i in_row = grind (arith, common_steps)
+
+pub grows : (cs : List Change) (i : ℕ) → IsIn cs 0 i → IsIn (came_back i 1 cs) 0 (i + 1)
+grows cs i was k lo hi = elim (cases_lt k i) [
+  | inl before ↦ back-before cs i 1 k before ∙ was k lo (omega (arith, before))
+  | inr behind ↦ back-there cs i 1 k behind (omega (arith, hi))
+]
+
+pub own-written : (cs : List Change) (i n j m : ℕ) → IsOwn cs j m → IsOwn (came_back i n cs) j m
+own-written cs i n j m was k lo hi = elim (cases_lt k i) [
+  | inl before ↦ ap is_own (back-before cs i n k before) ∙ was k lo hi
+  | inr behind ↦ elim (cases_lt k (i + n)) [
+    | inl inside ↦ ap is_own (back-there cs i n k behind inside)
+    | inr past ↦ ap is_own (back-behind cs i n k past) ∙ was k lo hi
+  ]
+]
+
+pub one_more : (old new : List ℕ) (i : ℕ) → i < length new → length old ≡ length new → splice (take i new ++ drop i old) i (i + 1) (slice_index new i ∷ []) ≡ take (i + 1) new ++ drop (i + 1) old
+one_more old new i in_row long = grind (arith, common_steps)

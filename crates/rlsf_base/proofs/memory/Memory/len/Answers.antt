@@ -1,6 +1,0 @@
-use Rattle.std.proofs.Common.{◌∙◌, ap, length, sym}
-use Rattle.rlsf_base.specs.Space.{Space}
-use Rattle.rlsf_base.proofs.memory.Memory.len.Goals as goal
-
-pub returns-clause-value : goal.returns-clause-value
-returns-clause-value c = sym c.self.invariant.whole.0 ∙ ap (λ (s : Space). length s.bytes) c.self.view_is

@@ -1,0 +1,35 @@
+use Rattle.std.proofs.Common.{◌≡◌, ◌+◌, ◌-◌, ◌≤◌, ◌⊎◌, ◌∙◌, ap, arith, drop, inl, inr, length, length-drop, length-take, sym, []}
+use Rattle.rlsf_base.specs.Out.{is_own, kept_at, out}
+use Rattle.rlsf_base.specs.Changes.{came_back}
+use Rattle.rlsf_base.proofs.Changes.{back-over, here-beside, raw-own}
+use Rattle.rlsf_base.proofs.memory.copying.copy_apart.Goals as goal
+
+pub slice-requires : goal.slice-requires
+slice-requires c =
+    let e = c.take_room-part.ensures in let d = c.args.bytes.now in let lies = c.requires.lies in
+    let side : (c.args.from - d.skip + c.args.len ≤ c.args.to - d.skip) ⊎ (c.args.to - d.skip + c.args.len ≤ c.args.from - d.skip) = elim c.requires.apart [
+      | inl below ↦ inl (omega (arith, below, lies))
+      | inr above ↦ inr (omega (arith, above, lies))
+    ] in (
+      lies.0 ∙ sym e.5,
+      omega (arith, e.6, lies),
+      omega (arith, e.6, ap length e.7, lies),
+      λ k lo hi. ap (λ cs. kept_at cs k) e.8
+          ∙ here-beside out d.out (c.args.to - d.skip) c.args.len (c.args.from - d.skip) c.args.len side c.requires.kept.0 k (omega (arith, lo, e.6)) (omega (arith, hi, e.6)),
+    )
+
+pub write_bytes-requires : goal.write_bytes-requires
+write_bytes-requires c =
+    let e = c.take_room-part.ensures in let lies = c.requires.lies in
+    let long : length c.slice.result.now ≡ c.args.len =
+    omega (arith, lies, e.6, ap length e.7, ap length c.slice.ensures, length-take c.args.len (drop (c.args.from - c.take_room-part.new.self.skip) c.take_room-part.new.self.bytes), length-drop (c.args.from - c.take_room-part.new.self.skip) c.take_room-part.new.self.bytes) in
+    (lies.0 ∙ sym e.0, e.1, e.2 ∙ sym long, λ k lo hi. ap (λ cs. is_own (kept_at cs k)) e.3 ∙ raw-own [] 0 c.args.len k lo (omega (arith, hi, long)), omega (arith, lies, long))
+
+pub returns-clause-out : goal.returns-clause-out
+returns-clause-out c k =
+    let e = c.take_room-part.ensures in let w = c.write_bytes.ensures in let lies = c.requires.lies in let d = c.args.bytes.now in
+    let long : length c.slice.result.now ≡ c.args.len =
+    omega (arith, lies, e.6, ap length e.7, ap length c.slice.ensures, length-take c.args.len (drop (c.args.from - c.take_room-part.new.self.skip) c.take_room-part.new.self.bytes), length-drop (c.args.from - c.take_room-part.new.self.skip) c.take_room-part.new.self.bytes) in
+    let i : c.write_bytes.new.bytes.skip - c.take_room-part.new.self.skip ≡ c.args.to - d.skip = omega (arith, w.1, e.1, e.6) in
+    let n : length c.write_bytes.new.bytes.bytes ≡ c.args.len = ap length w.2 ∙ long in
+    ap (λ cs. kept_at cs k) c.put_back.ensures.4 ∙ (λ j. kept_at (came_back (i j) (n j) (e.8 j)) k) ∙ back-over out d.out (c.args.to - d.skip) c.args.len k

@@ -1,0 +1,21 @@
+use Rattle.std.proofs.Common.{◌≡◌, ◌+◌, ◌-◌, ◌∙◌, ap, arith, length, List, [], ◌∷◌, slice_index, subst, sym}
+use Rattle.std.specs.List.{splice}
+use Rattle.rlsf_base.specs.Out.{Change}
+use Rattle.rlsf_base.specs.Changes.{IsIn, IsOwn, came_back}
+use Rattle.rlsf_base.proofs.RawBlock.Fills.{grows, one_more, own-written}
+use Rattle.rlsf_base.proofs.memory.copying.write_bytes.Goals as goal
+
+pub loop-index-preserved : goal.loop-index-preserved
+loop-index-preserved c =
+    let i = c.loop-index.index in let old = c.args.bytes.now.bytes in let is = c.loop-index.invariant in let e = c.write.ensures in
+    let at : c.args.place + i - c.loop-index.bytes.skip ≡ i = omega (arith, is.2) in
+    let cs : c.write.new.self.out ≡ came_back i 1 c.loop-index.bytes.out = e.3 ∙ ap (λ k. came_back k 1 c.loop-index.bytes.out) at in
+    let bytes = e.2 ∙ (λ j. splice (is.3 j) (at j) (at j + 1) (slice_index c.args.from.now i ∷ [])) ∙ one_more old c.args.from.now i (omega (arith, c.loop-index-test.true)) c.requires.2 in (
+      omega (arith, c.loop-index-test.true),
+      e.0 ∙ is.1,
+      e.1 ∙ is.2,
+      bytes,
+      subst (λ (u : List Change). IsIn u 0 (i + 1)) (sym cs) (grows c.loop-index.bytes.out i is.4),
+      subst (λ (u : List Change). IsOwn u 0 (length c.args.from.now)) (sym cs) (own-written c.loop-index.bytes.out i 1 0 (length c.args.from.now) is.5),
+      e.4 ∙ is.6,
+    )

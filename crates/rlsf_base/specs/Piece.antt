@@ -1,0 +1,60 @@
+-- Bytes that left a memory, as contracts see them.
+use Rattle.std.specs.Prelude.{◌≡◌, ℕ, ◌+◌, ◌*◌, ◌%◌, ◌^◌, ◌<◌, ◌≤◌, List, length}
+use Rattle.rlsf_base.specs.declared.memory.range.Range.{Range}
+use Rattle.rlsf_base.specs.declared.memory.view.View.{View}
+use Rattle.rlsf_base.specs.declared.memory.block.Bytes.{Bytes}
+use Rattle.rlsf_base.specs.declared.memory.block.Units.{Units}
+use Rattle.rlsf_base.specs.Out.{Change}
+use Rattle.rlsf_base.specs.Changes.{IsIn, IsOwn}
+use Rattle.rlsf_base.specs.Range.{LiesIn, range_at}
+use Rattle.rlsf_base.specs.OpenSpace.{Home}
+use Rattle.rlsf_base.specs.Steps.Block.{start_of}
+use Rattle.rlsf_base.specs.Steps.Ownership.{units_in}
+
+-- a part: the memory that it left, where it begins there, its bytes, and the changes of their states
+pub record Piece : Type 0 where
+  pub home : Home
+  pub start : ℕ
+  pub bytes : List ℕ
+  pub out : List Change
+
+-- the addresses of a part
+abbrev pub piece_range : Piece → Range
+piece_range p = range_at p.start (length p.bytes)
+
+-- which memory it is, by the view of it, the place of its first byte in the block, and its length
+abbrev pub home_from : View → ℕ × ℕ → Home
+home_from view of = record { start = start_of view.shift of.0; len = of.1; view = view }
+
+-- each byte of a part is here
+abbrev pub IsFull : Piece → Type 0
+IsFull p = IsIn p.out 0 (length p.bytes)
+
+-- what the fields of a part say of each other
+pub record IsPiece (view : View) (range : Range) (bytes : Bytes) : Type 0 where
+  pub lies : LiesIn range (home_from view bytes.of).start bytes.of.1
+  pub first : bytes.of.0 ≤ 15
+  pub place : (view.base.ptr ≡ bytes.at) × (bytes.skip ≡ (view.shift + range.start) % 2 ^ 64) × (bytes.units ≡ units_in view.shift bytes.of.0 bytes.of.1)
+  pub whole : (length bytes.bytes ≡ range.len) × IsOwn bytes.out 0 (length bytes.bytes)
+  pub small : bytes.skip + range.len < 2 ^ 63
+
+-- whole units of 16 bytes that left a memory: the memory, where they begin there, and how many bytes they have
+pub record UnitPiece : Type 0 where
+  pub home : Home
+  pub start : ℕ
+  pub len : ℕ
+
+abbrev pub unit_range : UnitPiece → Range
+unit_range p = range_at p.start p.len
+
+-- a range begins and ends at a multiple of 16
+abbrev pub IsUnits : Range → Type 0
+IsUnits r = (r.start % 16 ≡ 0) × (r.len % 16 ≡ 0)
+
+-- the parts of such units
+pub record IsUnitPiece (view : View) (range : Range) (units : Units) : Type 0 where
+  pub lies : LiesIn range (home_from view units.of).start units.of.1
+  pub first : units.of.0 ≤ 15
+  pub place : (view.base.ptr ≡ units.at) × (units.first * 16 ≡ (view.shift + range.start) % 2 ^ 64)
+  pub aligned : view.shift % 16 ≡ 0
+  pub whole : units.count * 16 ≡ range.len

@@ -1,0 +1,250 @@
+//! Bytes of a memory that left it: how they leave, and come back.
+ghost use Rattle.std.specs.Prelude.{◌≡◌, [], length};
+ghost use Rattle.std.specs.Borrow.{sem};
+ghost use Rattle.rlsf_base.specs.Changes.{came_raw};
+ghost use Rattle.rlsf_base.specs.OpenSpace.{HasUnits, home_of, IsAway, IsHere, IsOwned, out_raw, out_with, out_without};
+ghost use Rattle.rlsf_base.specs.Piece.{piece_range, unit_range, IsFull, IsUnits};
+ghost use Rattle.rlsf_base.specs.Range.{LiesIn};
+ghost use Rattle.rlsf_base.specs.Space.{bytes_in, with_bytes};
+
+use super::block::{Bytes, Units};
+use super::open_memory::OpenMemory;
+use super::range::Range;
+use super::view::View;
+use std::marker::Model;
+
+/// Bytes that left an `OpenMemory`: the part owns them. Each is here, with a value, or raw, without one.
+///
+/// A part is `Send`, so it can cross to another thread. `put_back` and `put_room` of its memory take it back. It has no
+/// `Drop`.
+pub struct Part {
+    pub(crate) view: View,
+    pub(crate) range: Range,
+    pub(crate) bytes: Bytes,
+}
+
+impl Model for Part {
+    ghost use Rattle.rlsf_base.specs.Piece.{Piece, IsPiece, home_from};
+
+    ghost Value = { Piece };
+
+    ghost view = { λ p. record { home = home_from p.view p.bytes.of; start = p.range.start; bytes = p.bytes.bytes; out = p.bytes.out } };
+
+    ghost invariant = { λ p. IsPiece p.view p.range p.bytes };
+}
+
+impl Part {
+    ghost use Rattle.rlsf_base.specs.LendsPiece.{LendsPiece};
+    ghost use Rattle.rlsf_base.specs.Piece.{IsFull};
+
+    /// Returns the address of the first byte.
+    pub fn start(&self) -> usize
+        ensures { result ≡ self.now.start }
+    {
+        self.range.start
+    }
+
+    /// Returns the number of bytes.
+    pub fn len(&self) -> usize
+        ensures { result ≡ length self.now.bytes }
+    {
+        self.range.len
+    }
+
+    /// Returns the bytes. They must be here.
+    pub fn as_slice(&self) -> &[u8]
+        requires { IsFull self.now }
+        ensures { result.now ≡ self.now.bytes }
+    {
+        self.bytes.slice(
+            self.view.base,
+            self.view.place(self.range.start),
+            self.range.len,
+        )
+    }
+
+    /// Returns the bytes, for reading and writing. They must be here. When the borrow ends, the part has the bytes that
+    /// were written. Nothing else changes.
+    pub fn as_mut_slice(&mut self) -> &mut [u8]
+        requires { IsFull self.old }
+        ensures* writes_back { sem 𝓛 (LendsPiece self.entry result) }
+        ensures value { result.now ≡ self.old.bytes }
+    {
+        let view = self.view;
+        let start = self.range.start;
+        let len = self.range.len;
+        self.bytes.slice_mut(view.base, view.place(start), len)
+    }
+}
+
+/// Units of 16 bytes that left a memory: the value owns their room, which is aligned to 16. It can go to another thread, and
+/// back into that memory.
+pub struct UnitPart {
+    pub(crate) view: View,
+    pub(crate) range: Range,
+    pub(crate) units: Units,
+}
+
+impl Model for UnitPart {
+    ghost use Rattle.rlsf_base.specs.Piece.{UnitPiece, IsUnitPiece, home_from};
+
+    ghost Value = { UnitPiece };
+
+    ghost view = { λ p. record { home = home_from p.view p.units.of; start = p.range.start; len = p.range.len } };
+
+    ghost invariant = { λ p. IsUnitPiece p.view p.range p.units };
+}
+
+impl UnitPart {
+    /// Returns the address of the first byte.
+    pub fn start(&self) -> usize
+        ensures { result ≡ self.now.start }
+    {
+        self.range.start
+    }
+
+    /// Returns the number of bytes.
+    pub fn len(&self) -> usize
+        ensures { result ≡ self.now.len }
+    {
+        self.range.len
+    }
+}
+
+impl OpenMemory {
+    /// Takes the bytes of `range` out of the memory, and returns the part that owns them. They keep their values. Nothing
+    /// else changes.
+    ///
+    /// `range` must lie in the memory, and its bytes must be here.
+    #[inline(always)]
+    pub fn take_out(&mut self, range: Range) -> Part
+        requires place { LiesIn range self.old.start (length self.old.bytes) }
+        requires here { IsHere self.old range }
+        ensures part { (result.home ≡ home_of self.old) × (result.start ≡ range.start) × (result.bytes ≡ bytes_in self.old range) × (result.out ≡ []) }
+        ensures start { self.new.start ≡ self.old.start }
+        ensures bytes { self.new.bytes ≡ self.old.bytes }
+        ensures touches { self.new.touches ≡ self.old.touches }
+        ensures copied { self.new.copied ≡ self.old.copied }
+        ensures view { self.new.view ≡ self.old.view }
+        ensures out { self.new.out ≡ out_without self.old range }
+    {
+        let view = self.view();
+        let bytes = self.bytes.take_out(view.place(range.start), range.len);
+        Part { view, range, bytes }
+    }
+
+    /// Takes the bytes of `range` out of the memory, and returns the part that owns them. They are raw. Nothing else changes.
+    ///
+    /// `range` must lie in the memory, and no byte of it may be out.
+    #[inline(always)]
+    pub fn take_room(&mut self, range: Range) -> Part
+        requires place { LiesIn range self.old.start (length self.old.bytes) }
+        requires own { IsOwned self.old range }
+        ensures part { (result.home ≡ home_of self.old) × (result.start ≡ range.start) × (length result.bytes ≡ range.len) × (result.out ≡ came_raw 0 range.len []) }
+        ensures start { self.new.start ≡ self.old.start }
+        ensures bytes { self.new.bytes ≡ self.old.bytes }
+        ensures touches { self.new.touches ≡ self.old.touches }
+        ensures copied { self.new.copied ≡ self.old.copied }
+        ensures view { self.new.view ≡ self.old.view }
+        ensures out { self.new.out ≡ out_without self.old range }
+    {
+        let view = self.view();
+        let bytes = self.bytes.take_room(view.place(range.start), range.len);
+        Part { view, range, bytes }
+    }
+
+    /// Puts the bytes of `part` back. They are then here, with the values that they have in the part. Nothing else changes.
+    ///
+    /// `part` must come from this memory, and its bytes must be here.
+    #[inline(always)]
+    pub fn put_back(&mut self, part: Part)
+        requires home { part.home ≡ home_of self.old }
+        requires full { IsFull part }
+        ensures away { IsAway self.old (piece_range part) }
+        ensures start { self.new.start ≡ self.old.start }
+        ensures bytes { self.new.bytes ≡ with_bytes self.old part.start part.bytes }
+        ensures len { length self.new.bytes ≡ length self.old.bytes }
+        ensures touches { self.new.touches ≡ self.old.touches }
+        ensures copied { self.new.copied ≡ self.old.copied }
+        ensures view { self.new.view ≡ self.old.view }
+        ensures out { self.new.out ≡ out_with self.old (piece_range part) }
+    {
+        let Part {
+            view: _,
+            range: _,
+            bytes,
+        } = part;
+        self.bytes.put_back(bytes);
+    }
+
+    /// Puts the bytes of `part` back. They are then raw. Nothing else changes.
+    ///
+    /// `part` must come from this memory.
+    #[inline(always)]
+    pub fn put_room(&mut self, part: Part)
+        requires { part.home ≡ home_of self.old }
+        ensures away { IsAway self.old (piece_range part) }
+        ensures start { self.new.start ≡ self.old.start }
+        ensures bytes { self.new.bytes ≡ self.old.bytes }
+        ensures touches { self.new.touches ≡ self.old.touches }
+        ensures copied { self.new.copied ≡ self.old.copied }
+        ensures view { self.new.view ≡ self.old.view }
+        ensures out { self.new.out ≡ out_raw self.old (piece_range part) }
+    {
+        let Part {
+            view: _,
+            range: _,
+            bytes,
+        } = part;
+        self.bytes.put_room(bytes);
+    }
+
+    /// Takes the units of 16 bytes of `range` out of the memory, as room that is aligned to 16. Their bytes may be raw. The bytes of
+    /// the memory, as contracts see them, and its counts don't change.
+    ///
+    /// The memory must have units: its block is the system's, or begins at a multiple of 16. `range` must lie in the memory,
+    /// begin and end at multiples of 16, and have no byte that is out.
+    #[inline(always)]
+    pub fn take_units(&mut self, range: Range) -> UnitPart
+        requires place { LiesIn range self.old.start (length self.old.bytes) }
+        requires units { IsUnits range }
+        requires aligned { HasUnits self.old }
+        requires own { IsOwned self.old range }
+        ensures part { (result.home ≡ home_of self.old) × (result.start ≡ range.start) × (result.len ≡ range.len) }
+        ensures start { self.new.start ≡ self.old.start }
+        ensures bytes { self.new.bytes ≡ self.old.bytes }
+        ensures touches { self.new.touches ≡ self.old.touches }
+        ensures copied { self.new.copied ≡ self.old.copied }
+        ensures view { self.new.view ≡ self.old.view }
+        ensures out { self.new.out ≡ out_without self.old range }
+    {
+        let view = self.view();
+        let units = self
+            .bytes
+            .take_units(view.place(range.start) / 16, range.len / 16);
+        UnitPart { view, range, units }
+    }
+
+    /// Takes units of the memory back: their bytes are raw from now on. They were out before, since the part owned them. The bytes
+    /// of the memory, as contracts see them, and its counts don't change.
+    ///
+    /// The part must be one of this memory.
+    #[inline(always)]
+    pub fn put_units(&mut self, part: UnitPart)
+        requires { part.home ≡ home_of self.old }
+        ensures away { IsAway self.old (unit_range part) }
+        ensures start { self.new.start ≡ self.old.start }
+        ensures bytes { self.new.bytes ≡ self.old.bytes }
+        ensures touches { self.new.touches ≡ self.old.touches }
+        ensures copied { self.new.copied ≡ self.old.copied }
+        ensures view { self.new.view ≡ self.old.view }
+        ensures out { self.new.out ≡ out_raw self.old (unit_range part) }
+    {
+        let UnitPart {
+            view: _,
+            range: _,
+            units,
+        } = part;
+        self.bytes.put_units(units);
+    }
+}
