@@ -3,3 +3,4 @@ pub mod Apart
 pub mod Frames
 pub mod NonZeroNumbers
 pub mod Refilled
+pub mod Here

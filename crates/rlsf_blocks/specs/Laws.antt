@@ -1,21 +1,17 @@
 -- Statements about the words that stand inside the pools, which `laws` of `rlsf_tlsf` proves; and the state with the bytes of a memory.
-use Rattle.std.specs.Prelude.{◌≡◌, ℕ, ◌+◌, ◌-◌, ◌<◌, ◌≤◌, ◌⊎◌, ◌==◌, length, map, nat_lt, if◌then◌else◌}
-use Rattle.rlsf_base.specs.Range.{end_of}
-use Rattle.rlsf_base.specs.Space.{Space, byte_at, bytes_in, word_at}
+use Rattle.std.specs.Prelude.{◌≡◌, ℕ, ◌+◌, ◌-◌, ◌≤◌, ◌==◌, length, map, nat_lt, if◌then◌else◌}
+use Rattle.rlsf_base.specs.Space.{Space, out_at, byte_at, bytes_in, word_at}
 use Rattle.rlsf_machine.specs.Lists.{IsIn}
 use Rattle.rlsf_machine.specs.State.{State, Used, usable, with_bytes}
 use Rattle.rlsf_table.specs.Table.{Table}
-use Rattle.rlsf_blocks.specs.StandsFor.{Contents, contents, StandsFor}
-
--- an address that no caller may use: outside the usable bytes of each live payload
-abbrev pub IsUnlent : State → ℕ → Type 0
-IsUnlent s a = (u : Used) → IsIn u s.used → (a < u.payload) ⊎ (end_of u.block ≤ a)
+use Rattle.rlsf_blocks.specs.StandsFor.{Contents, contents, IsUnlent, StandsFor}
 
 -- a memory differs from another one at most in the usable bytes of live payloads
 pub record DiffersInPayloads (m n : Space) (s : State) : Type 0 where
   pub start : n.start ≡ m.start
   pub length : length n.bytes ≡ length m.bytes
   pub bytes : (a : ℕ) → m.start ≤ a → IsUnlent s a → byte_at n a ≡ byte_at m a
+  pub out : (a : ℕ) → m.start ≤ a → IsUnlent s a → out_at n a ≡ out_at m a
 
 -- the used block with the bytes that a memory has in its payload
 abbrev pub with_bytes_of : Space → Used → Used

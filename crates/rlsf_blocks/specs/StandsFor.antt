@@ -1,9 +1,12 @@
 -- What a value of the allocator stands for.
-use Rattle.std.specs.Prelude.{ℕ, ◌<◌}
-use Rattle.rlsf_base.specs.Space.{Space, range_of}
+use Rattle.std.specs.Prelude.{◌≡◌, ℕ, ◌<◌, ◌≤◌, ◌⊎◌, true}
+use Rattle.rlsf_base.specs.Out.{is_own}
+use Rattle.rlsf_base.specs.Range.{end_of}
+use Rattle.rlsf_base.specs.Space.{Space, out_at, range_of}
+use Rattle.rlsf_machine.specs.Lists.{IsIn}
 use Rattle.rlsf_table.specs.Table.{Table, HasTable}
 use Rattle.rlsf_blocks.specs.InBand.{HasSizes, HasPrevious, HasPayloads}
-use Rattle.rlsf_machine.specs.State.{State}
+use Rattle.rlsf_machine.specs.State.{State, Used}
 use Rattle.rlsf_machine.specs.WellFormed.{IsWellFormed}
 
 -- the allocator as contracts see it: its memory and its class table
@@ -15,7 +18,11 @@ pub record Contents : Type 0 where
 abbrev pub contents : Space → Table → Contents
 contents m t = record { memory = m; table = t }
 
--- the state is well-formed, and the words in the memory and the class table spell it; no byte has the address 0
+-- an address that no caller may use: outside the usable bytes of each live payload
+abbrev pub IsUnlent : State → ℕ → Type 0
+IsUnlent s a = (u : Used) → IsIn u s.used → (a < u.payload) ⊎ (end_of u.block ≤ a)
+
+-- the state is well-formed, no byte is out but usable bytes of live payloads, and the words in the memory and the class table spell it; no byte has the address 0
 pub record StandsFor (fllen sllen : ℕ) (v : Contents) (s : State) : Type 0 where
   pub nonzero : 0 < v.memory.start
   pub well_formed : IsWellFormed fllen sllen (range_of v.memory) s
@@ -23,3 +30,4 @@ pub record StandsFor (fllen sllen : ℕ) (v : Contents) (s : State) : Type 0 whe
   pub previous : HasPrevious v.memory s
   pub payloads : HasPayloads v.memory s
   pub table : HasTable fllen sllen v.memory v.table s.free
+  pub own : (a : ℕ) → v.memory.start ≤ a → IsUnlent s a → is_own (out_at v.memory a) ≡ true

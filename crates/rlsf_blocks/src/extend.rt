@@ -1,13 +1,14 @@
 //! Appends: ranges that are handed in behind a chunk.
 
-ghost use Rattle.std.specs.Prelude.{◌≡◌, ◌+◌, ◌*◌, ◌≤◌, ℕ, is_some, length, if◌then◌else◌};
+ghost use Rattle.std.specs.Prelude.{◌≡◌, ◌+◌, ◌*◌, is_some, length, if◌then◌else◌};
 ghost use Rattle.rlsf_base.specs.declared.memory.range.Range.{Range};
 ghost use Rattle.rlsf_base.specs.Range.{end_of};
 ghost use Rattle.rlsf_base.specs.SizeClass.{IsValid};
 ghost use Rattle.rlsf_base.specs.Sizes.{max_pool_size};
-ghost use Rattle.rlsf_base.specs.Space.{range_of, SamePlace};
+ghost use Rattle.rlsf_base.specs.Space.{range_of};
 ghost use Rattle.rlsf_machine.specs.Insert.{Appends, IsNext, aligned_part, cut, grown};
 ghost use Rattle.rlsf_machine.specs.State.{State};
+ghost use Rattle.rlsf_table.specs.Counts.{Costs};
 ghost use Rattle.rlsf_blocks.specs.StandsFor.{contents, StandsFor};
 ghost use Rattle.rlsf_blocks.specs.Steps.Standing.{InEach, StandsAfter, StepsTo};
 ghost use Rattle.rlsf_blocks.specs.Steps.Extension.{AtEachExtensible, IsExtensible};
@@ -16,13 +17,13 @@ use crate::GRANULARITY;
 use crate::free::deallocate_block;
 use crate::pool::{SENTINEL, insert_chunks};
 use rlsf_base::classes;
-use rlsf_base::memory::{Memory, Range};
+use rlsf_base::memory::{OpenMemory, Range};
 use rlsf_table::{ClassTable, PREVIOUS_BLOCK, used_size_word};
 
 /// Makes the chunk that ends at `end` longer by `len` bytes. Its old sentinel and the new bytes but those of a new
 /// sentinel become free: joined with a free block before them, they are the newest free block.
 fn extend_chunk<const FLLEN: usize, const SLLEN: usize>(
-    memory: &mut Memory,
+    memory: &mut OpenMemory,
     table: &mut ClassTable<FLLEN, SLLEN>,
     end: usize,
     len: usize,
@@ -30,10 +31,7 @@ fn extend_chunk<const FLLEN: usize, const SLLEN: usize>(
     requires parameters { IsValid 128 128 FLLEN SLLEN }
     requires extensible { (s : State) × (c : Range) × StandsFor FLLEN SLLEN (contents memory.old table.old) s × IsExtensible FLLEN (range_of memory.old) s c len × (end_of c ≡ end) }
     ensures step { AtEachExtensible FLLEN SLLEN memory.old table.old end len (λ s c. StandsAfter FLLEN SLLEN memory.old memory.new table.new s (grown c len s)) }
-    ensures place { SamePlace memory.old memory.new }
-    ensures touches { memory.new.touches ≤ memory.old.touches + 34 }
-    ensures grow { memory.old.touches ≤ memory.new.touches }
-    ensures copied { memory.new.copied ≡ memory.old.copied }
+    ensures costs { Costs memory.old memory.new 34 0 }
 {
     // The word that names the block before the old sentinel stays: it names the one before the new block.
     let block = end - GRANULARITY;
@@ -48,7 +46,7 @@ fn extend_chunk<const FLLEN: usize, const SLLEN: usize>(
 /// Hands in a range that begins where a chunk ends. Where chunks have a greatest length, the range becomes chunks of its
 /// own; else the chunk grows by the range's length rounded down to a multiple of 32. Answers how many bytes are taken.
 pub fn append_chunks<const FLLEN: usize, const SLLEN: usize>(
-    memory: &mut Memory,
+    memory: &mut OpenMemory,
     table: &mut ClassTable<FLLEN, SLLEN>,
     range: Range,
 ) -> usize
@@ -56,10 +54,7 @@ pub fn append_chunks<const FLLEN: usize, const SLLEN: usize>(
     requires next { (s : State) × StandsFor FLLEN SLLEN (contents memory.old table.old) s × IsNext (range_of memory.old) s range }
     ensures step { InEach FLLEN SLLEN memory.old table.old (λ s. IsNext (range_of memory.old) s range → StepsTo FLLEN SLLEN memory.old memory.new table.new s (Appends FLLEN s range result)) }
     ensures unchanged { result ≡ 0 → memory.new.bytes ≡ memory.old.bytes }
-    ensures place { SamePlace memory.old memory.new }
-    ensures touches { memory.new.touches ≤ memory.old.touches + (if is_some (max_pool_size FLLEN) then 13 * length (cut (max_pool_size FLLEN) (aligned_part range)) else 34) }
-    ensures grow { memory.old.touches ≤ memory.new.touches }
-    ensures copied { memory.new.copied ≡ memory.old.copied }
+    ensures costs { Costs memory.old memory.new (if is_some (max_pool_size FLLEN) then 13 * length (cut (max_pool_size FLLEN) (aligned_part range)) else 34) 0 }
 {
     if classes::max_pool_size::<u128, u128, FLLEN, SLLEN>().is_some() {
         return match insert_chunks(memory, table, range) {

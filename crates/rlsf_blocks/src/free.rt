@@ -1,13 +1,13 @@
 //! A used block becomes free.
 
-ghost use Rattle.std.specs.Prelude.{◌≡◌, ◌+◌, ◌<◌, ◌≤◌, ℕ, List, IfSome, unwrap_or};
+ghost use Rattle.std.specs.Prelude.{◌≡◌, ◌+◌, ◌<◌, ℕ, List, IfSome, unwrap_or};
 ghost use Rattle.rlsf_base.specs.declared.memory.range.Range.{Range};
 ghost use Rattle.rlsf_base.specs.SizeClass.{IsValid};
-ghost use Rattle.rlsf_base.specs.Space.{SamePlace};
+ghost use Rattle.rlsf_base.specs.OpenSpace.{IsOwned};
 ghost use Rattle.rlsf_machine.specs.Lists.{IsIn};
 ghost use Rattle.rlsf_machine.specs.Release.{released};
-ghost use Rattle.rlsf_machine.specs.State.{State, Used, IsLive};
-ghost use Rattle.rlsf_table.specs.Counts.{Counts};
+ghost use Rattle.rlsf_machine.specs.State.{State, Used, IsLive, usable};
+ghost use Rattle.rlsf_table.specs.Counts.{Costs, Counts};
 ghost use Rattle.rlsf_table.specs.FreeTable.{IsFreeTable};
 ghost use Rattle.rlsf_table.specs.Table.{Table};
 ghost use Rattle.rlsf_blocks.specs.StandsFor.{contents, StandsFor};
@@ -17,14 +17,14 @@ ghost use Rattle.rlsf_blocks.specs.Steps.Rest.{IsInnerRoom};
 ghost use Rattle.rlsf_blocks.specs.Steps.Standing.{AtEachUsed, StandsAfter};
 
 use crate::{GRANULARITY, HEADER};
-use rlsf_base::memory::{Memory, View};
+use rlsf_base::memory::{OpenMemory, View};
 use rlsf_table::{
     ClassTable, PAD, PREVIOUS_BLOCK, is_free, link_free_block, unlink_free_block, used_end,
 };
 
 /// The used block whose payload at `payload` was allocated with that alignment.
 #[inline(always)]
-pub fn used_block(memory: &mut Memory, view: View, payload: usize, align: usize) -> usize
+pub fn used_block(memory: &mut OpenMemory, view: View, payload: usize, align: usize) -> usize
     requires live { (fllen : ℕ) × (sllen : ℕ) × (t : Table) × (s : State) × StandsFor fllen sllen (contents memory.old t) s × IsLive s payload align }
     requires view { view ≡ memory.old.view }
     ensures block { (fllen sllen : ℕ) (t : Table) (s : State) → StandsFor fllen sllen (contents memory.old t) s → IsLive s payload align → IsBlockOf s payload align result }
@@ -40,7 +40,7 @@ pub fn used_block(memory: &mut Memory, view: View, payload: usize, align: usize)
 /// Takes the block at `block` out of its list, if it is free. Answers the bytes of the block that was taken out.
 #[inline(always)]
 fn take_free<const FLLEN: usize, const SLLEN: usize>(
-    memory: &mut Memory,
+    memory: &mut OpenMemory,
     view: View,
     table: &mut ClassTable<FLLEN, SLLEN>,
     block: usize,
@@ -50,10 +50,7 @@ fn take_free<const FLLEN: usize, const SLLEN: usize>(
     requires view { view ≡ memory.old.view }
     ensures step { (free : List Range) → IsFreeTable FLLEN SLLEN memory.old table.old free → IsMarked memory.old free block → IsNextOut FLLEN SLLEN memory.old memory.new table.new free block (unwrap_or result 0) }
     ensures some { IfSome result (λ len. 0 < len) }
-    ensures touches { memory.new.touches ≤ memory.old.touches + 9 }
-    ensures grow { memory.old.touches ≤ memory.new.touches }
-    ensures copied { memory.new.copied ≡ memory.old.copied }
-    ensures view { memory.new.view ≡ memory.old.view }
+    ensures costs { Costs memory.old memory.new 9 0 }
 {
     let size = memory.load_at(view, block);
     if is_free(size) {
@@ -67,7 +64,7 @@ fn take_free<const FLLEN: usize, const SLLEN: usize>(
 /// Takes the block at `block` out of its list, if it is free. Answers the bytes of the block that was taken out, or 0.
 #[inline(always)]
 pub fn take_if_free<const FLLEN: usize, const SLLEN: usize>(
-    memory: &mut Memory,
+    memory: &mut OpenMemory,
     view: View,
     table: &mut ClassTable<FLLEN, SLLEN>,
     block: usize,
@@ -76,10 +73,7 @@ pub fn take_if_free<const FLLEN: usize, const SLLEN: usize>(
     requires marked { (free : List Range) × IsFreeTable FLLEN SLLEN memory.old table.old free × IsMarked memory.old free block }
     requires view { view ≡ memory.old.view }
     ensures step { (free : List Range) → IsFreeTable FLLEN SLLEN memory.old table.old free → IsMarked memory.old free block → IsNextOut FLLEN SLLEN memory.old memory.new table.new free block result }
-    ensures touches { memory.new.touches ≤ memory.old.touches + 9 }
-    ensures grow { memory.old.touches ≤ memory.new.touches }
-    ensures copied { memory.new.copied ≡ memory.old.copied }
-    ensures view { memory.new.view ≡ memory.old.view }
+    ensures costs { Costs memory.old memory.new 9 0 }
 {
     match take_free(memory, view, table, block) {
         Some(len) => len,
@@ -91,7 +85,7 @@ pub fn take_if_free<const FLLEN: usize, const SLLEN: usize>(
 /// out begins, or `block`.
 #[inline(always)]
 pub fn take_previous<const FLLEN: usize, const SLLEN: usize>(
-    memory: &mut Memory,
+    memory: &mut OpenMemory,
     view: View,
     table: &mut ClassTable<FLLEN, SLLEN>,
     block: usize,
@@ -100,10 +94,7 @@ pub fn take_previous<const FLLEN: usize, const SLLEN: usize>(
     requires used { (s : State) × (u : Used) × StandsFor FLLEN SLLEN (contents memory.old table.old) s × IsIn u s.used × (u.block.start ≡ block) }
     requires view { view ≡ memory.old.view }
     ensures step { AtEachUsed FLLEN SLLEN memory.old table.old block (λ s u. IsPreviousOut FLLEN SLLEN memory.old memory.new table.new s.free block result) }
-    ensures touches { memory.new.touches ≤ memory.old.touches + 10 }
-    ensures grow { memory.old.touches ≤ memory.new.touches }
-    ensures copied { memory.new.copied ≡ memory.old.copied }
-    ensures view { memory.new.view ≡ memory.old.view }
+    ensures costs { Costs memory.old memory.new 10 0 }
 {
     let previous = memory.load_at(view, block + PREVIOUS_BLOCK) as usize;
     if previous == 0 {
@@ -118,7 +109,7 @@ pub fn take_previous<const FLLEN: usize, const SLLEN: usize>(
 /// Makes a free block of the `len` bytes at `block`. The word that names the block before it stays.
 #[inline(always)]
 fn put<const FLLEN: usize, const SLLEN: usize>(
-    memory: &mut Memory,
+    memory: &mut OpenMemory,
     view: View,
     table: &mut ClassTable<FLLEN, SLLEN>,
     block: usize,
@@ -128,10 +119,7 @@ fn put<const FLLEN: usize, const SLLEN: usize>(
     requires room { (free : List Range) × (r : Range) × (r.start ≡ block) × (r.len ≡ len) × IsInnerRoom FLLEN SLLEN memory.old table.old free r }
     requires view { view ≡ memory.old.view }
     ensures step { (free : List Range) (r : Range) → r.start ≡ block → r.len ≡ len → IsInnerRoom FLLEN SLLEN memory.old table.old free r → IsNewFreeBlock FLLEN SLLEN memory.old memory.new table.new free r }
-    ensures touches { memory.new.touches ≤ memory.old.touches + 11 }
-    ensures grow { memory.old.touches ≤ memory.new.touches }
-    ensures copied { memory.new.copied ≡ memory.old.copied }
-    ensures view { memory.new.view ≡ memory.old.view }
+    ensures costs { Costs memory.old memory.new 11 0 }
 {
     memory.set_word_at(view, block, len as u64);
     memory.set_word_at(view, block + len + PREVIOUS_BLOCK, block as u64);
@@ -142,20 +130,16 @@ fn put<const FLLEN: usize, const SLLEN: usize>(
 /// newest.
 #[inline(always)]
 pub fn deallocate_block<const FLLEN: usize, const SLLEN: usize>(
-    memory: &mut Memory,
+    memory: &mut OpenMemory,
     view: View,
     table: &mut ClassTable<FLLEN, SLLEN>,
     block: usize,
 )
     requires parameters { IsValid 128 128 FLLEN SLLEN }
-    requires used { (s : State) × (u : Used) × StandsFor FLLEN SLLEN (contents memory.old table.old) s × IsIn u s.used × (u.block.start ≡ block) }
+    requires used { (s : State) × (u : Used) × StandsFor FLLEN SLLEN (contents memory.old table.old) s × IsIn u s.used × (u.block.start ≡ block) × IsOwned memory.old (usable u) }
     requires view { view ≡ memory.old.view }
-    ensures step { AtEachUsed FLLEN SLLEN memory.old table.old block (λ s u. StandsAfter FLLEN SLLEN memory.old memory.new table.new s (released s u)) }
-    ensures place { SamePlace memory.old memory.new }
-    ensures touches { memory.new.touches ≤ memory.old.touches + 31 }
-    ensures grow { memory.old.touches ≤ memory.new.touches }
-    ensures copied { memory.new.copied ≡ memory.old.copied }
-    ensures view { memory.new.view ≡ memory.old.view }
+    ensures step { AtEachUsed FLLEN SLLEN memory.old table.old block (λ s u. IsOwned memory.old (usable u) → StandsAfter FLLEN SLLEN memory.old memory.new table.new s (released s u)) }
+    ensures costs { Costs memory.old memory.new 31 0 }
 {
     let end = used_end(block, memory.load_at(view, block));
     let start = take_previous(memory, view, table, block);

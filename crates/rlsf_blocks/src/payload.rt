@@ -5,14 +5,14 @@ ghost use Rattle.rlsf_machine.specs.State.{usable};
 ghost use Rattle.rlsf_blocks.specs.Steps.LiveBlock.{IsLiveIn, AtEachBlock};
 
 use crate::HEADER;
-use rlsf_base::memory::{Memory, Range};
+use rlsf_base::memory::{OpenMemory, Range};
 use rlsf_table::{PAD, used_end};
 
 /// Where the block of the live payload at `payload` begins, whatever alignment it was allocated with.
 ///
 /// The word before a payload names its block, or, for an alignment below 32, the block before its block, which ends 16
 /// bytes before the payload; a chunk's first block has none before it.
-pub fn block_of(memory: &Memory, payload: usize) -> usize
+pub fn block_of(memory: &OpenMemory, payload: usize) -> usize
     requires { IsLiveIn memory.now payload }
     ensures { AtEachBlock memory.now payload (λ u. result ≡ u.block.start) }
 {
@@ -28,7 +28,7 @@ pub fn block_of(memory: &Memory, payload: usize) -> usize
 }
 
 /// The bytes from the live payload at `payload` to its block's end, whatever alignment it was allocated with.
-pub fn usable_bytes(memory: &Memory, payload: usize) -> Range
+pub fn usable_bytes(memory: &OpenMemory, payload: usize) -> Range
     requires { IsLiveIn memory.now payload }
     ensures { AtEachBlock memory.now payload (λ u. result ≡ usable u) }
 {
@@ -41,7 +41,7 @@ pub fn usable_bytes(memory: &Memory, payload: usize) -> Range
 }
 
 /// The same as `block_of`, by words that are counted: two touches, whatever the words say.
-pub fn load_block_of(memory: &mut Memory, payload: usize) -> usize
+pub fn load_block_of(memory: &mut OpenMemory, payload: usize) -> usize
     requires { IsLiveIn memory.old payload }
     ensures block { AtEachBlock memory.old payload (λ u. result ≡ u.block.start) }
     ensures memory { memory.new ≡ record memory.old { touches = memory.old.touches + 2 } }
@@ -58,7 +58,7 @@ pub fn load_block_of(memory: &mut Memory, payload: usize) -> usize
 }
 
 /// The same as `usable_bytes`, by words that are counted: three touches, whatever the words say.
-pub fn load_usable_bytes(memory: &mut Memory, payload: usize) -> Range
+pub fn load_usable_bytes(memory: &mut OpenMemory, payload: usize) -> Range
     requires { IsLiveIn memory.old payload }
     ensures range { AtEachBlock memory.old payload (λ u. result ≡ usable u) }
     ensures memory { memory.new ≡ record memory.old { touches = memory.old.touches + 3 } }

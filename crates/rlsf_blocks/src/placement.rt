@@ -1,15 +1,16 @@
 //! A free block becomes a used block, whole or its front.
 
-ghost use Rattle.std.specs.Prelude.{◌≡◌, ◌+◌, ◌-◌, ◌%◌, ◌^◌, ◌≤◌, ◌<◌, ℕ, List, Some, IfNone};
+ghost use Rattle.std.specs.Prelude.{◌≡◌, ◌+◌, ◌-◌, ◌%◌, ◌^◌, ◌<◌, List, Some, IfNone};
 ghost use Rattle.rlsf_base.specs.declared.memory.range.Range.{Range};
 ghost use Rattle.rlsf_base.specs.Range.{range_at};
 ghost use Rattle.rlsf_base.specs.SizeClass.{IsValid};
 ghost use Rattle.rlsf_base.specs.Sizes.{request_size};
-ghost use Rattle.rlsf_base.specs.Space.{SamePlace, word_at};
+ghost use Rattle.rlsf_base.specs.Space.{word_at};
+ghost use Rattle.rlsf_base.specs.OpenSpace.{SameOwn, StaysHere};
 ghost use Rattle.rlsf_machine.specs.Allocate.{Allocates, choice, Places};
 ghost use Rattle.rlsf_machine.specs.Payload.{block_length, payload_of};
 ghost use Rattle.rlsf_machine.specs.State.{State};
-ghost use Rattle.rlsf_table.specs.Counts.{Counts};
+ghost use Rattle.rlsf_table.specs.Counts.{Costs, Counts};
 ghost use Rattle.rlsf_table.specs.Table.{IsClassAt};
 ghost use Rattle.rlsf_blocks.specs.Steps.Rest.{AtEachChosen, AtEachRest, AtEachTaken, IsInnerRoom, IsFreeBlockBehind, IsOpened, IsTaken};
 ghost use Rattle.rlsf_blocks.specs.Steps.Standing.{InEach, StepsTo};
@@ -17,7 +18,7 @@ ghost use Rattle.rlsf_blocks.specs.StandsFor.{contents, StandsFor};
 
 use crate::{GRANULARITY, HEADER};
 use rlsf_base::classes;
-use rlsf_base::memory::{Layout, Memory, View};
+use rlsf_base::memory::{Layout, OpenMemory, View};
 use rlsf_base::rounding::next_multiple_of_32;
 use rlsf_table::{
     ClassIndex, ClassTable, FoundBlock, PAD, PREVIOUS_BLOCK, first_fit, link_free_block,
@@ -27,7 +28,7 @@ use rlsf_table::{
 /// Makes a free block of what is left behind the first `taken` of the `len` bytes at `block`.
 #[inline(always)]
 pub fn leave_rest<const FLLEN: usize, const SLLEN: usize>(
-    memory: &mut Memory,
+    memory: &mut OpenMemory,
     view: View,
     table: &mut ClassTable<FLLEN, SLLEN>,
     block: usize,
@@ -38,10 +39,7 @@ pub fn leave_rest<const FLLEN: usize, const SLLEN: usize>(
     requires room { (free : List Range) × (r : Range) × (r.start ≡ block + taken) × (r.len + taken ≡ len) × IsInnerRoom FLLEN SLLEN memory.old table.old free r }
     requires view { view ≡ memory.old.view }
     ensures step { AtEachRest FLLEN SLLEN memory.old table.old block len taken (λ free r. IsFreeBlockBehind FLLEN SLLEN memory.old memory.new table.new free block r) }
-    ensures touches { memory.new.touches ≤ memory.old.touches + 12 }
-    ensures grow { memory.old.touches ≤ memory.new.touches }
-    ensures copied { memory.new.copied ≡ memory.old.copied }
-    ensures view { memory.new.view ≡ memory.old.view }
+    ensures costs { Costs memory.old memory.new 12 0 }
 {
     let rest = block + taken;
     memory.set_word_at(view, rest, (len - taken) as u64);
@@ -54,7 +52,7 @@ pub fn leave_rest<const FLLEN: usize, const SLLEN: usize>(
 /// rest becomes a free block.
 #[inline(always)]
 fn take_out<const FLLEN: usize, const SLLEN: usize>(
-    memory: &mut Memory,
+    memory: &mut OpenMemory,
     view: View,
     table: &mut ClassTable<FLLEN, SLLEN>,
     block: usize,
@@ -67,10 +65,7 @@ fn take_out<const FLLEN: usize, const SLLEN: usize>(
     requires taken { (s : State) × (f : Range) × StandsFor FLLEN SLLEN (contents memory.old table.old) s × IsTaken SLLEN s f block len taken }
     requires view { view ≡ memory.old.view }
     ensures step { AtEachTaken FLLEN SLLEN memory.old table.old block len taken (λ s f. IsOpened FLLEN SLLEN memory.old memory.new table.new s f (range_at block taken)) }
-    ensures touches { memory.new.touches ≤ memory.old.touches + 20 }
-    ensures grow { memory.old.touches ≤ memory.new.touches }
-    ensures copied { memory.new.copied ≡ memory.old.copied }
-    ensures view { memory.new.view ≡ memory.old.view }
+    ensures costs { Costs memory.old memory.new 20 0 }
 {
     unlink_newest_block(memory, view, table, block, class);
     let longer = taken < len;
@@ -104,7 +99,7 @@ fn front(block: usize, layout: Layout) -> (usize, usize)
 /// Makes a used block for a layout of the front of a free block, the choice for it. Answers the payload's address.
 #[inline(always)]
 fn place<const FLLEN: usize, const SLLEN: usize>(
-    memory: &mut Memory,
+    memory: &mut OpenMemory,
     view: View,
     table: &mut ClassTable<FLLEN, SLLEN>,
     found: FoundBlock,
@@ -115,11 +110,9 @@ fn place<const FLLEN: usize, const SLLEN: usize>(
     requires chosen { (s : State) × (f : Range) × StandsFor FLLEN SLLEN (contents memory.old table.old) s × (choice SLLEN (request_size layout.size layout.align) s.free ≡ Some f) × (f.start ≡ found.start) }
     requires view { view ≡ memory.old.view }
     ensures step { AtEachChosen FLLEN SLLEN memory.old table.old layout found.start (λ s f. StepsTo FLLEN SLLEN memory.old memory.new table.new s (Places SLLEN s layout.size layout.align result)) }
-    ensures place { SamePlace memory.old memory.new }
-    ensures touches { memory.new.touches ≤ memory.old.touches + 23 }
-    ensures grow { memory.old.touches ≤ memory.new.touches }
-    ensures copied { memory.new.copied ≡ memory.old.copied }
-    ensures view { memory.new.view ≡ memory.old.view }
+    ensures costs { Costs memory.old memory.new 23 0 }
+    ensures own { SameOwn memory.old memory.new }
+    ensures here { StaysHere memory.old memory.new }
 {
     let block = found.start;
     let len = memory.load_at(view, block) as usize;
@@ -137,7 +130,7 @@ fn place<const FLLEN: usize, const SLLEN: usize>(
 /// sought. Answers the payload's address, or `None` exactly where no free block's class reaches, and then nothing changes.
 #[inline(always)]
 pub fn allocate_block<const FLLEN: usize, const SLLEN: usize>(
-    memory: &mut Memory,
+    memory: &mut OpenMemory,
     view: View,
     table: &mut ClassTable<FLLEN, SLLEN>,
     layout: Layout,
@@ -147,11 +140,9 @@ pub fn allocate_block<const FLLEN: usize, const SLLEN: usize>(
     requires view { view ≡ memory.old.view }
     ensures step { InEach FLLEN SLLEN memory.old table.old (λ s. StepsTo FLLEN SLLEN memory.old memory.new table.new s (Allocates SLLEN s layout.size layout.align result)) }
     ensures unchanged { IfNone result (Counts memory.old memory.new 4 × (table.new ≡ table.old)) }
-    ensures place { SamePlace memory.old memory.new }
-    ensures touches { memory.new.touches ≤ memory.old.touches + 27 }
-    ensures grow { memory.old.touches ≤ memory.new.touches }
-    ensures copied { memory.new.copied ≡ memory.old.copied }
-    ensures view { memory.new.view ≡ memory.old.view }
+    ensures costs { Costs memory.old memory.new 27 0 }
+    ensures own { SameOwn memory.old memory.new }
+    ensures here { StaysHere memory.old memory.new }
 {
     let found = first_fit(memory, table, classes::request_size(layout))?;
     Some(place(memory, view, table, found, layout))

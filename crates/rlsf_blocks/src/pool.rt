@@ -1,20 +1,21 @@
 //! Pools: ranges of the memory that are made into chunks.
 
-ghost use Rattle.std.specs.Prelude.{◌≡◌, ◌+◌, ◌*◌, ◌≤◌, ℕ, IfNone, length};
+ghost use Rattle.std.specs.Prelude.{◌≡◌, ◌+◌, ◌*◌, ◌≤◌, IfNone, length};
 ghost use Rattle.rlsf_base.specs.Addr.{reply};
 ghost use Rattle.rlsf_base.specs.SizeClass.{IsValid};
 ghost use Rattle.rlsf_base.specs.Sizes.{max_pool_size};
-ghost use Rattle.rlsf_base.specs.Space.{range_of, SamePlace};
+ghost use Rattle.rlsf_base.specs.Space.{range_of};
 ghost use Rattle.rlsf_machine.specs.Insert.{Inserts, IsFresh, aligned_part, cut};
 ghost use Rattle.rlsf_machine.specs.Laws.{first_length};
 ghost use Rattle.rlsf_machine.specs.State.{State};
+ghost use Rattle.rlsf_table.specs.Counts.{Costs};
 ghost use Rattle.rlsf_blocks.specs.Steps.Pool.{IsAdded, IsNewChunk};
 ghost use Rattle.rlsf_blocks.specs.Steps.Standing.{InEach, StepsTo};
 ghost use Rattle.rlsf_blocks.specs.StandsFor.{contents, StandsFor};
 
 use crate::GRANULARITY;
 use rlsf_base::classes;
-use rlsf_base::memory::{Memory, Range};
+use rlsf_base::memory::{OpenMemory, Range};
 use rlsf_table::{ClassTable, PREVIOUS_BLOCK, SIZE_SENTINEL, SIZE_USED, link_free_block};
 use std::num::NonZeroUsize;
 
@@ -23,16 +24,14 @@ pub(crate) const SENTINEL: u64 = GRANULARITY as u64 + SIZE_USED + SIZE_SENTINEL;
 
 /// Makes a chunk of a range: one free block and a sentinel in the last 32 bytes.
 pub fn add_chunk<const FLLEN: usize, const SLLEN: usize>(
-    memory: &mut Memory,
+    memory: &mut OpenMemory,
     table: &mut ClassTable<FLLEN, SLLEN>,
     chunk: Range,
 )
     requires parameters { IsValid 128 128 FLLEN SLLEN }
     requires fresh { (s : State) × StandsFor FLLEN SLLEN (contents memory.old table.old) s × IsNewChunk FLLEN SLLEN memory.old s chunk }
     ensures step { (s : State) → StandsFor FLLEN SLLEN (contents memory.old table.old) s → IsNewChunk FLLEN SLLEN memory.old s chunk → IsAdded FLLEN SLLEN memory.old memory.new table.new s.free chunk }
-    ensures touches { memory.new.touches ≤ memory.old.touches + 13 }
-    ensures grow { memory.old.touches ≤ memory.new.touches }
-    ensures copied { memory.new.copied ≡ memory.old.copied }
+    ensures costs { Costs memory.old memory.new 13 0 }
 {
     let block = chunk.start;
     let len = chunk.len - GRANULARITY;
@@ -63,7 +62,7 @@ fn chunk_length<const FLLEN: usize, const SLLEN: usize>(left: usize) -> usize
 // Out of line, since pools are rare: so the compiler keeps the memory's base in a register in the frequent calls.
 #[inline(never)]
 pub fn insert_chunks<const FLLEN: usize, const SLLEN: usize>(
-    memory: &mut Memory,
+    memory: &mut OpenMemory,
     table: &mut ClassTable<FLLEN, SLLEN>,
     range: Range,
 ) -> Option<NonZeroUsize>
@@ -71,10 +70,7 @@ pub fn insert_chunks<const FLLEN: usize, const SLLEN: usize>(
     requires fresh { (s : State) × StandsFor FLLEN SLLEN (contents memory.old table.old) s × IsFresh (range_of memory.old) s range }
     ensures step { InEach FLLEN SLLEN memory.old table.old (λ s. IsFresh (range_of memory.old) s range → StepsTo FLLEN SLLEN memory.old memory.new table.new s (Inserts FLLEN s range (reply result))) }
     ensures refused { IfNone result (memory.new.bytes ≡ memory.old.bytes) }
-    ensures place { SamePlace memory.old memory.new }
-    ensures touches { memory.new.touches ≤ memory.old.touches + 13 * length (cut (max_pool_size FLLEN) (aligned_part range)) }
-    ensures grow { memory.old.touches ≤ memory.new.touches }
-    ensures copied { memory.new.copied ≡ memory.old.copied }
+    ensures costs { Costs memory.old memory.new (13 * length (cut (max_pool_size FLLEN) (aligned_part range))) 0 }
 {
     let end = range.start + range.len;
     let first = match range.start.checked_next_multiple_of(GRANULARITY) {

@@ -7,6 +7,7 @@ ghost use Rattle.rlsf_base.specs.Space.{SamePlace};
 ghost use Rattle.rlsf_machine.specs.ChunkRows.{IsRow};
 ghost use Rattle.rlsf_machine.specs.Remove.{IsIdle};
 ghost use Rattle.rlsf_machine.specs.State.{State};
+ghost use Rattle.rlsf_table.specs.Counts.{Costs};
 ghost use Rattle.rlsf_blocks.specs.Blocks.{walked};
 ghost use Rattle.rlsf_blocks.specs.StandsFor.{contents, StandsFor};
 ghost use Rattle.rlsf_blocks.specs.Steps.Removal.{AreRemoved, CountsRemoved, IsIdleChunk, IsRemoved};
@@ -15,23 +16,20 @@ ghost use Rattle.rlsf_blocks.specs.Steps.Standing.{InEach};
 use crate::GRANULARITY;
 use crate::free::take_if_free;
 use crate::walks::span;
-use rlsf_base::memory::{Memory, Range};
+use rlsf_base::memory::{OpenMemory, Range};
 use rlsf_table::ClassTable;
 
 /// Takes out the chunk at `start`, of which no block is in use: its one free block leaves its list. Answers where the
 /// chunk ends.
 fn remove_chunk<const FLLEN: usize, const SLLEN: usize>(
-    memory: &mut Memory,
+    memory: &mut OpenMemory,
     table: &mut ClassTable<FLLEN, SLLEN>,
     start: usize,
 ) -> usize
     requires parameters { IsValid 128 128 FLLEN SLLEN }
     requires idle { (s : State) × (c : Range) × StandsFor FLLEN SLLEN (contents memory.old table.old) s × IsIdleChunk s c start }
     ensures step { (s : State) (c : Range) → StandsFor FLLEN SLLEN (contents memory.old table.old) s → IsIdleChunk s c start → IsRemoved FLLEN SLLEN memory.old memory.new table.new s c result }
-    ensures place { SamePlace memory.old memory.new }
-    ensures touches { memory.new.touches ≤ memory.old.touches + 9 }
-    ensures grow { memory.old.touches ≤ memory.new.touches }
-    ensures copied { memory.new.copied ≡ memory.old.copied }
+    ensures costs { Costs memory.old memory.new 9 0 }
 {
     let view = memory.view();
     let free = take_if_free(memory, view, table, start);
@@ -45,7 +43,7 @@ fn remove_chunk<const FLLEN: usize, const SLLEN: usize>(
 // Out of line, since pools are rare: so the compiler keeps the memory's base in a register in the frequent calls.
 #[inline(never)]
 pub fn remove_chunks<const FLLEN: usize, const SLLEN: usize>(
-    memory: &mut Memory,
+    memory: &mut OpenMemory,
     table: &mut ClassTable<FLLEN, SLLEN>,
     range: Range,
 )

@@ -17,7 +17,7 @@ ghost use Rattle.rlsf_table.specs.Table.{Table};
 
 use crate::pool::SENTINEL;
 use crate::{GRANULARITY, HEADER};
-use rlsf_base::memory::{Memory, Range};
+use rlsf_base::memory::{OpenMemory, Range};
 use std::fmt;
 use std::iter::FusedIterator;
 use std::marker::Model;
@@ -87,7 +87,7 @@ impl fmt::Debug for BlockInfo {
 /// The blocks of a row of chunks but for the sentinels, in address order.
 #[derive(Drop)]
 pub struct Blocks<'a> {
-    memory: &'a Memory,
+    memory: &'a OpenMemory,
     // Where the next block begins, or the end.
     start: usize,
     end: usize,
@@ -123,7 +123,7 @@ pub(crate) fn span(range: Range) -> (usize, usize)
 ///
 /// From there to there it is a row of whole adjacent chunks, or empty, in some state for which the memory and a class
 /// table stand.
-pub fn walk_blocks(memory: &Memory, range: Range) -> Blocks<'_>
+pub fn walk_blocks(memory: &OpenMemory, range: Range) -> Blocks<'_>
     requires { (fllen : ℕ) × (sllen : ℕ) × (t : Table) × (s : State) × StandsFor fllen sllen (contents memory.now t) s × IsRow s (walked range) }
     ensures blocks { (fllen sllen : ℕ) (t : Table) (s : State) → StandsFor fllen sllen (contents memory.now t) s → IsRow s (walked range) → AreBlocks s (walked range) result }
     ensures runs { GivesInOrder BlockInfo }
@@ -133,7 +133,7 @@ pub fn walk_blocks(memory: &Memory, range: Range) -> Blocks<'_>
 }
 
 /// Where the chunk ends that begins at `start`: a walk over its blocks comes to its sentinel.
-pub fn chunk_end(memory: &Memory, start: usize) -> usize
+pub fn chunk_end(memory: &OpenMemory, start: usize) -> usize
     requires { (fllen : ℕ) × (sllen : ℕ) × (t : Table) × (s : State) × (c : Range) × StandsFor fllen sllen (contents memory.now t) s × IsIn c s.chunks × (c.start ≡ start) }
     ensures { (fllen sllen : ℕ) (t : Table) (s : State) (c : Range) → StandsFor fllen sllen (contents memory.now t) s → IsIn c s.chunks → c.start ≡ start → result ≡ end_of c }
 {

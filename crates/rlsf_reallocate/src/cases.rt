@@ -1,8 +1,9 @@
-//! A used block gets another size, where it stands if that can be.
+//! A used block gets another size, without moving if possible.
 
-ghost use Rattle.std.specs.Prelude.{◌≡◌, ◌+◌, ◌≤◌, Some, IfNone};
+ghost use Rattle.std.specs.Prelude.{◌≡◌, ◌+◌, ◌≤◌, Some, IfNone, []};
 ghost use Rattle.rlsf_base.specs.SizeClass.{IsValid};
 ghost use Rattle.rlsf_base.specs.Space.{SamePlace};
+ghost use Rattle.rlsf_base.specs.OpenSpace.{IsHere};
 ghost use Rattle.rlsf_machine.specs.NoMove.{unmoved_plan};
 ghost use Rattle.rlsf_machine.specs.Reallocate.{Plan};
 ghost use Rattle.rlsf_machine.specs.State.{State, Used, usable};
@@ -12,16 +13,20 @@ ghost use Rattle.rlsf_reallocate.specs.Steps.Resize.{AtEachPayload, IsReallocate
 use crate::elsewhere::move_elsewhere;
 use crate::previous::move_into_previous;
 use crate::resize::resize_block;
-use rlsf_base::memory::{Layout, Memory, View};
+use rlsf_base::memory::{Layout, OpenMemory, View};
 use rlsf_table::ClassTable;
 
-/// Gives the payload at `payload`, in the used block at `block`, the layout's size: where it stands, else in the free
-/// block before it, else elsewhere. Answers its address, or `None` exactly where the allocation is refused, and then
-/// nothing changes.
+/// Gives the payload at `payload`, in the used block at `block`, the size of `layout` in bytes: in place, else in the
+/// free block before its own, else in a newly allocated block.
+///
+/// `layout` must have the alignment of the payload. All usable bytes of the payload must be here:
+/// none is raw or out. `WHOLE` is 1 for a memory of which no byte is raw or out: its bytes are copied faster.
+///
+/// Returns the address of the payload. If the allocation is refused, returns `None`, and no byte and no block changes.
 // Out of line, since it is long: so the compiler keeps the memory's base in a register in the short calls.
 #[inline(never)]
-pub fn reallocate_block<const FLLEN: usize, const SLLEN: usize>(
-    memory: &mut Memory,
+pub fn reallocate_block<const FLLEN: usize, const SLLEN: usize, const WHOLE: usize>(
+    memory: &mut OpenMemory,
     view: View,
     table: &mut ClassTable<FLLEN, SLLEN>,
     block: usize,
@@ -29,9 +34,10 @@ pub fn reallocate_block<const FLLEN: usize, const SLLEN: usize>(
     layout: Layout,
 ) -> Option<usize>
     requires parameters { IsValid 128 128 FLLEN SLLEN }
-    requires used { (s : State) × (u : Used) × StandsFor FLLEN SLLEN (contents memory.old table.old) s × IsUsedAt s u block payload layout.align }
+    requires used { (s : State) × (u : Used) × StandsFor FLLEN SLLEN (contents memory.old table.old) s × IsUsedAt s u block payload layout.align × IsHere memory.old (usable u) }
     requires view { view ≡ memory.old.view }
-    ensures step { AtEachPayload FLLEN SLLEN memory.old table.old block payload layout (λ s u. IsReallocated FLLEN SLLEN memory.old memory.new table.new s u layout.size result) }
+    requires whole { WHOLE ≡ 1 → memory.old.out ≡ [] }
+    ensures step { AtEachPayload FLLEN SLLEN memory.old table.old block payload layout (λ s u. IsHere memory.old (usable u) → IsReallocated FLLEN SLLEN memory.old memory.new table.new s u layout.size result) }
     ensures refused { IfNone result (memory.new.bytes ≡ memory.old.bytes) }
     ensures place { SamePlace memory.old memory.new }
     ensures touches { memory.new.touches ≤ memory.old.touches + 65 }
@@ -43,8 +49,10 @@ pub fn reallocate_block<const FLLEN: usize, const SLLEN: usize>(
     if resize_block(memory, view, table, block, payload, layout) {
         return Some(payload);
     }
-    if let Some(moved) = move_into_previous(memory, view, table, block, payload, layout) {
+    if let Some(moved) = move_into_previous::<FLLEN, SLLEN, WHOLE>(
+        memory, view, table, block, payload, layout,
+    ) {
         return Some(moved);
     }
-    move_elsewhere(memory, view, table, block, payload, layout)
+    move_elsewhere::<FLLEN, SLLEN, WHOLE>(memory, view, table, block, payload, layout)
 }

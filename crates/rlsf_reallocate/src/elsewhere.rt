@@ -1,25 +1,29 @@
 //! A payload moves into a block that is allocated for it.
 
-ghost use Rattle.std.specs.Prelude.{◌≡◌, ◌+◌, ◌≤◌, None, IfNone};
+ghost use Rattle.std.specs.Prelude.{◌≡◌, ◌+◌, ◌≤◌, None, IfNone, []};
 ghost use Rattle.rlsf_base.specs.SizeClass.{IsValid};
 ghost use Rattle.rlsf_base.specs.Space.{SamePlace};
+ghost use Rattle.rlsf_base.specs.OpenSpace.{IsHere};
 ghost use Rattle.rlsf_machine.specs.Reallocate.{in_place};
 ghost use Rattle.rlsf_machine.specs.State.{State, Used, usable};
 ghost use Rattle.rlsf_blocks.specs.StandsFor.{contents, StandsFor};
 ghost use Rattle.rlsf_table.specs.Counts.{Counts};
 ghost use Rattle.rlsf_reallocate.specs.Steps.Resize.{AtEachPayload, AtEachShort, IsElsewhere, IsUsedAt};
 
-use rlsf_base::memory::{Layout, Memory, Range, View};
+use crate::copying::copy_payload;
+use rlsf_base::memory::{Layout, OpenMemory, Range, View};
 use rlsf_blocks::{allocate_block, deallocate_block};
 use rlsf_table::{ClassTable, used_end};
 
-/// Allocates a payload for the layout, moves the bytes of the payload at `payload` there, whose used block is at
-/// `block`, and gives the old block back. Answers the new address, or `None` exactly where an allocation is refused, and then nothing
-/// changes.
+/// Allocates a payload for `layout`, copies the bytes of the payload at `payload` there, and deallocates its used block
+/// at `block`.
 ///
-/// The old block is too short for the layout.
-pub fn move_elsewhere<const FLLEN: usize, const SLLEN: usize>(
-    memory: &mut Memory,
+/// The old block must be too short for the size of `layout`, and `layout` must have the alignment of the payload. All
+/// usable bytes of the payload must be here: none is raw or out.
+///
+/// Returns the new address. If the allocation is refused, returns `None`, and no byte and no block changes.
+pub fn move_elsewhere<const FLLEN: usize, const SLLEN: usize, const WHOLE: usize>(
+    memory: &mut OpenMemory,
     view: View,
     table: &mut ClassTable<FLLEN, SLLEN>,
     block: usize,
@@ -28,8 +32,9 @@ pub fn move_elsewhere<const FLLEN: usize, const SLLEN: usize>(
 ) -> Option<usize>
     requires parameters { IsValid 128 128 FLLEN SLLEN }
     requires view { view ≡ memory.old.view }
-    requires used { (s : State) × (u : Used) × StandsFor FLLEN SLLEN (contents memory.old table.old) s × IsUsedAt s u block payload layout.align × (in_place s u layout.size ≡ None) }
-    ensures step { AtEachShort FLLEN SLLEN memory.old table.old block payload layout (λ s u. IsElsewhere FLLEN SLLEN memory.old memory.new table.new s u layout.size result) }
+    requires used { (s : State) × (u : Used) × StandsFor FLLEN SLLEN (contents memory.old table.old) s × IsUsedAt s u block payload layout.align × (in_place s u layout.size ≡ None) × IsHere memory.old (usable u) }
+    requires whole { WHOLE ≡ 1 → memory.old.out ≡ [] }
+    ensures step { AtEachShort FLLEN SLLEN memory.old table.old block payload layout (λ s u. IsHere memory.old (usable u) → IsElsewhere FLLEN SLLEN memory.old memory.new table.new s u layout.size result) }
     ensures unchanged { IfNone result (Counts memory.old memory.new 5 × (table.new ≡ table.old)) }
     ensures place { SamePlace memory.old memory.new }
     ensures touches { memory.new.touches ≤ memory.old.touches + 59 }
@@ -39,7 +44,8 @@ pub fn move_elsewhere<const FLLEN: usize, const SLLEN: usize>(
 {
     let end = used_end(block, memory.load_at(view, block));
     let moved = allocate_block(memory, view, table, layout)?;
-    memory.copy_within(
+    copy_payload::<WHOLE>(
+        memory,
         Range {
             start: payload,
             len: end - payload,

@@ -2,6 +2,7 @@
 #![tactic(auto)]
 
 mod cases;
+mod copying;
 mod elsewhere;
 mod previous;
 mod resize;

@@ -1,8 +1,9 @@
 //! A payload moves into the free block before its own.
 
-ghost use Rattle.std.specs.Prelude.{◌≡◌, ◌+◌, ◌≤◌, ℕ, None, find, IfNone, IfSome};
+ghost use Rattle.std.specs.Prelude.{◌≡◌, ◌+◌, ◌≤◌, ℕ, None, find, IfNone, IfSome, []};
 ghost use Rattle.rlsf_base.specs.SizeClass.{IsValid};
 ghost use Rattle.rlsf_base.specs.Space.{SamePlace};
+ghost use Rattle.rlsf_base.specs.OpenSpace.{IsHere};
 ghost use Rattle.rlsf_machine.specs.Join.{ends_at, start_or};
 ghost use Rattle.rlsf_machine.specs.Lists.{IsIn};
 ghost use Rattle.rlsf_machine.specs.Reallocate.{in_place, into_previous};
@@ -14,14 +15,15 @@ ghost use Rattle.rlsf_reallocate.specs.Steps.Previous.{IsUsedBlock, IsPlaceBefor
 ghost use Rattle.rlsf_reallocate.specs.Steps.Resize.{AtEachPayload, AtEachShort, IsPlanned, IsUsedAt};
 ghost use Rattle.rlsf_table.specs.Table.{Table};
 
+use crate::copying::copy_payload;
 use crate::resize::{free_length, occupy};
-use rlsf_base::memory::{Layout, Memory, Range, View};
+use rlsf_base::memory::{Layout, OpenMemory, Range, View};
 use rlsf_base::rounding::next_multiple_of_32;
 use rlsf_blocks::{GRANULARITY, HEADER, take_if_free, take_previous};
 use rlsf_table::{ClassTable, PAD, PREVIOUS_BLOCK, used_end};
 
 /// Where the free block before the used one at `block` begins, or `block` where none is before it.
-fn start_before(memory: &mut Memory, view: View, block: usize) -> usize
+fn start_before(memory: &mut OpenMemory, view: View, block: usize) -> usize
     requires used { (fllen : ℕ) × (sllen : ℕ) × (t : Table) × (s : State) × (u : Used) × StandsFor fllen sllen (contents memory.old t) s × IsIn u s.used × (u.block.start ≡ block) }
     requires view { view ≡ memory.old.view }
     ensures start { (fllen sllen : ℕ) (t : Table) → AtEachUsed fllen sllen memory.old t block (λ s u. result ≡ start_or block (find (ends_at block) s.free)) }
@@ -39,7 +41,7 @@ fn start_before(memory: &mut Memory, view: View, block: usize) -> usize
 /// `end` began where the free block before it does. `None` if no free block is before it, or if the bytes of both and those
 /// of a free block behind it don't suffice.
 fn place_before(
-    memory: &mut Memory,
+    memory: &mut OpenMemory,
     view: View,
     block: usize,
     end: usize,
@@ -63,13 +65,16 @@ fn place_before(
     Some((payload, taken))
 }
 
-/// Moves the payload at `payload`, in the used block at `block`, into the free block before it, if that and the block's own bytes
-/// and those of a free block behind it suffice for the layout. Answers the payload's new address. What is left becomes a
-/// free block; all bytes of the payload are kept.
+/// Moves the payload at `payload`, in the used block at `block`, into the free block before its own, if the bytes of both
+/// and of a free block behind them suffice for `layout`. All bytes of the payload are kept. The rest becomes a free block.
 ///
-/// The block is too short for the layout where it stands.
-pub(crate) fn move_into_previous<const FLLEN: usize, const SLLEN: usize>(
-    memory: &mut Memory,
+/// The used block must be too short for the size of `layout`, and `layout` must have the alignment of the payload. All
+/// usable bytes of the payload must be here: none is raw or out.
+///
+/// Returns the new address. If there is no free block before it, or the bytes don't suffice, returns `None`, and no byte
+/// and no block changes.
+pub(crate) fn move_into_previous<const FLLEN: usize, const SLLEN: usize, const WHOLE: usize>(
+    memory: &mut OpenMemory,
     view: View,
     table: &mut ClassTable<FLLEN, SLLEN>,
     block: usize,
@@ -77,10 +82,11 @@ pub(crate) fn move_into_previous<const FLLEN: usize, const SLLEN: usize>(
     layout: Layout,
 ) -> Option<usize>
     requires parameters { IsValid 128 128 FLLEN SLLEN }
-    requires used { (s : State) × (u : Used) × StandsFor FLLEN SLLEN (contents memory.old table.old) s × IsUsedAt s u block payload layout.align × (in_place s u layout.size ≡ None) }
+    requires used { (s : State) × (u : Used) × StandsFor FLLEN SLLEN (contents memory.old table.old) s × IsUsedAt s u block payload layout.align × (in_place s u layout.size ≡ None) × IsHere memory.old (usable u) }
     requires view { view ≡ memory.old.view }
+    requires whole { WHOLE ≡ 1 → memory.old.out ≡ [] }
     ensures moved { AtEachShort FLLEN SLLEN memory.old table.old block payload layout
-        (λ s u. IfSome result (IsPlanned FLLEN SLLEN memory.old memory.new table.new s u (into_previous s u layout.size))) }
+        (λ s u. IsHere memory.old (usable u) → IfSome result (IsPlanned FLLEN SLLEN memory.old memory.new table.new s u (into_previous s u layout.size))) }
     ensures refused { AtEachShort FLLEN SLLEN memory.old table.old block payload layout (λ s u. IfNone result (into_previous s u layout.size ≡ None)) }
     ensures unchanged { IfNone result (Counts memory.old memory.new 4 × (table.new ≡ table.old)) }
     ensures place { SamePlace memory.old memory.new }
@@ -94,7 +100,8 @@ pub(crate) fn move_into_previous<const FLLEN: usize, const SLLEN: usize>(
     let start = take_previous(memory, view, table, block);
     let next = take_if_free(memory, view, table, end);
     // Before any header is written: the bytes may lie where one will stand.
-    memory.copy_within(
+    copy_payload::<WHOLE>(
+        memory,
         Range {
             start: payload,
             len: end - payload,

@@ -1,27 +1,27 @@
-//! A used block gets another size where it stands.
+//! A used block gets another size in place.
 
 ghost use Rattle.std.specs.Prelude.{◌≡◌, ◌+◌, ◌%◌, ◌≤◌, ◌<◌, ℕ, List, None, true, false};
 ghost use Rattle.rlsf_base.specs.declared.memory.range.Range.{Range};
 ghost use Rattle.rlsf_base.specs.Range.{range_at};
 ghost use Rattle.rlsf_base.specs.SizeClass.{IsValid};
-ghost use Rattle.rlsf_base.specs.Space.{SamePlace};
+ghost use Rattle.rlsf_base.specs.OpenSpace.{IsOwned};
 ghost use Rattle.rlsf_machine.specs.NoMove.{unmoved_plan};
-ghost use Rattle.rlsf_machine.specs.State.{State, Used};
+ghost use Rattle.rlsf_machine.specs.State.{State, Used, usable};
 ghost use Rattle.rlsf_blocks.specs.StandsFor.{contents, StandsFor};
-ghost use Rattle.rlsf_table.specs.Counts.{Counts};
+ghost use Rattle.rlsf_table.specs.Counts.{Costs, Counts};
 ghost use Rattle.rlsf_table.specs.FreeTable.{IsFreeTable};
 ghost use Rattle.rlsf_blocks.specs.Steps.Join.{IsMarked};
 ghost use Rattle.rlsf_reallocate.specs.Steps.Resize.{AtEachPayload, IsFreeLength, IsOccupied, IsResized, IsUsedAt};
 ghost use Rattle.rlsf_blocks.specs.Steps.Rest.{AtEachInnerRoom, IsInnerRoom};
 ghost use Rattle.rlsf_table.specs.Table.{Table};
 
-use rlsf_base::memory::{Layout, Memory, View};
+use rlsf_base::memory::{Layout, OpenMemory, View};
 use rlsf_base::rounding::next_multiple_of_32;
 use rlsf_blocks::{leave_rest, take_if_free};
 use rlsf_table::{ClassTable, PREVIOUS_BLOCK, is_free, len_of_used, used_size_word};
 
 /// The bytes of the free block at `block`, or 0 where no free block begins.
-pub(crate) fn free_length(memory: &mut Memory, view: View, block: usize) -> usize
+pub(crate) fn free_length(memory: &mut OpenMemory, view: View, block: usize) -> usize
     requires marked { (fllen : ℕ) × (sllen : ℕ) × (t : Table) × (free : List Range) × IsFreeTable fllen sllen memory.old t free × IsMarked memory.old free block }
     requires view { view ≡ memory.old.view }
     ensures length { (fllen sllen : ℕ) (t : Table) (free : List Range) → IsFreeTable fllen sllen memory.old t free → IsMarked memory.old free block → IsFreeLength free block result }
@@ -34,7 +34,7 @@ pub(crate) fn free_length(memory: &mut Memory, view: View, block: usize) -> usiz
 /// Makes a used block of the first `taken` of the `total` bytes at `block`, which are no block's; a rest becomes a free
 /// block. The word that names the block before it stays, and so do the bytes of the used block behind its first 16.
 pub(crate) fn occupy<const FLLEN: usize, const SLLEN: usize>(
-    memory: &mut Memory,
+    memory: &mut OpenMemory,
     view: View,
     table: &mut ClassTable<FLLEN, SLLEN>,
     block: usize,
@@ -46,10 +46,7 @@ pub(crate) fn occupy<const FLLEN: usize, const SLLEN: usize>(
     requires part { (taken % 32 ≡ 0) × (0 < taken) × (taken ≤ total) }
     requires view { view ≡ memory.old.view }
     ensures step { AtEachInnerRoom FLLEN SLLEN memory.old table.old block total (λ free span. IsOccupied FLLEN SLLEN memory.old memory.new table.new free span (range_at block taken)) }
-    ensures touches { memory.new.touches ≤ memory.old.touches + 13 }
-    ensures grow { memory.old.touches ≤ memory.new.touches }
-    ensures copied { memory.new.copied ≡ memory.old.copied }
-    ensures view { memory.new.view ≡ memory.old.view }
+    ensures costs { Costs memory.old memory.new 13 0 }
 {
     memory.set_word_at(view, block, used_size_word(taken));
     if taken < total {
@@ -59,11 +56,14 @@ pub(crate) fn occupy<const FLLEN: usize, const SLLEN: usize>(
     }
 }
 
-/// Gives the used block at `block` another size where it stands, if its own bytes and those of a free block behind it
-/// suffice, and answers whether they do. What is left of them becomes a free block; if nothing is left over and nothing
-/// more is taken, nothing changes.
+/// Gives the payload at `payload`, in the used block at `block`, the size of `layout` in bytes without moving it, if the
+/// bytes of the block and of a free block behind it suffice. The rest of them becomes a free block.
+///
+/// `layout` must have the alignment of the payload. No usable byte of the payload may be out.
+///
+/// Returns whether the bytes suffice. If not, no byte and no block changes.
 pub fn resize_block<const FLLEN: usize, const SLLEN: usize>(
-    memory: &mut Memory,
+    memory: &mut OpenMemory,
     view: View,
     table: &mut ClassTable<FLLEN, SLLEN>,
     block: usize,
@@ -71,16 +71,13 @@ pub fn resize_block<const FLLEN: usize, const SLLEN: usize>(
     layout: Layout,
 ) -> bool
     requires parameters { IsValid 128 128 FLLEN SLLEN }
-    requires used { (s : State) × (u : Used) × StandsFor FLLEN SLLEN (contents memory.old table.old) s × IsUsedAt s u block payload layout.align }
+    requires used { (s : State) × (u : Used) × StandsFor FLLEN SLLEN (contents memory.old table.old) s × IsUsedAt s u block payload layout.align × IsOwned memory.old (usable u) }
     requires view { view ≡ memory.old.view }
     ensures done { AtEachPayload FLLEN SLLEN memory.old table.old block payload layout
-        (λ s u. result ≡ true → IsResized FLLEN SLLEN memory.old memory.new table.new s u layout.size payload) }
+        (λ s u. IsOwned memory.old (usable u) → result ≡ true → IsResized FLLEN SLLEN memory.old memory.new table.new s u layout.size payload) }
     ensures refused { AtEachPayload FLLEN SLLEN memory.old table.old block payload layout (λ s u. result ≡ false → unmoved_plan s u layout.size ≡ None) }
     ensures unchanged { result ≡ false → Counts memory.old memory.new 2 × (table.new ≡ table.old) }
-    ensures place { SamePlace memory.old memory.new }
-    ensures touches { memory.new.touches ≤ memory.old.touches + 24 }
-    ensures grow { memory.old.touches ≤ memory.new.touches }
-    ensures copied { memory.new.copied ≡ memory.old.copied }
+    ensures costs { Costs memory.old memory.new 24 0 }
 {
     let len = len_of_used(memory.load_at(view, block));
     let taken = next_multiple_of_32(payload - block + layout.size());

@@ -6,5 +6,6 @@ pub mod Found
 pub mod Front
 pub mod Indices
 pub mod OtherClasses
+pub mod Read
 pub mod Removal
 pub mod Touches

@@ -1,3 +1,4 @@
+pub mod Costs
 pub mod FreeLists
 pub mod Parameters
 pub mod Tables

@@ -8,7 +8,7 @@ use Rattle.rlsf_machine.specs.Lists.{IsIn}
 use Rattle.rlsf_machine.specs.WellFormed.{coverage, itself, IsFree}
 use Rattle.rlsf_table.specs.declared.fit.FoundBlock.{FoundBlock}
 use Rattle.rlsf_table.specs.declared.table.ClassIndex.{ClassIndex}
-use Rattle.rlsf_table.specs.FreeList.{IsLink, CanBeBlock, Rewrites}
+use Rattle.rlsf_table.specs.Rewrites.{IsLink, CanBeBlock, Rewrites}
 use Rattle.rlsf_table.specs.Table.{Table, HasBits, HasTable, IsClassAt, IsHeadOf, IsNewestAt, class_at}
 
 -- the free blocks are those of a list, none of which overlap, each of a valid class and with its size word; and addresses fit in a word

@@ -9,7 +9,7 @@ ghost use Rattle.rlsf_table.specs.FreeTable.{IsFirstFit, IsFreeTable};
 
 use crate::table::{ClassIndex, ClassTable};
 use rlsf_base::classes::map_ceil;
-use rlsf_base::memory::Memory;
+use rlsf_base::memory::OpenMemory;
 
 /// A free block that a search found.
 #[derive(Clone, Copy)]
@@ -25,7 +25,7 @@ pub struct FoundBlock {
 ///
 /// The size is a multiple of 32 that is not 0; table and memory are those of some free blocks.
 pub fn first_fit<const FLLEN: usize, const SLLEN: usize>(
-    memory: &mut Memory,
+    memory: &mut OpenMemory,
     table: &ClassTable<FLLEN, SLLEN>,
     size: usize,
 ) -> Option<FoundBlock>

@@ -1,11 +1,12 @@
 //! The lists of free blocks of one class, newest first, through the words at +16 and +24 of each.
 
-ghost use Rattle.std.specs.Prelude.{◌≡◌, ℕ, ◌+◌, ◌≤◌, List, ◌∷◌, ◌++◌, unwrap_or};
+ghost use Rattle.std.specs.Prelude.{◌≡◌, ℕ, ◌≤◌, List, ◌∷◌, ◌++◌, unwrap_or};
 ghost use Rattle.rlsf_base.specs.declared.memory.range.Range.{Range};
 ghost use Rattle.rlsf_base.specs.SizeClass.{IsValid};
 ghost use Rattle.rlsf_machine.specs.Lists.{IsIn};
 ghost use Rattle.rlsf_machine.specs.WellFormed.{coverage, itself};
-ghost use Rattle.rlsf_table.specs.FreeList.{CanBeBlock};
+ghost use Rattle.rlsf_table.specs.Counts.{Costs};
+ghost use Rattle.rlsf_table.specs.Rewrites.{CanBeBlock};
 ghost use Rattle.rlsf_table.specs.Steps.ClassList.{unlinking_touches, AtEachFront, AtEachPlace, IsFirstOrOwn, IsFreeList, IsRelinked};
 ghost use Rattle.rlsf_table.specs.FreeTable.{AtEachListed, AtEachNewest, AtEachRoom, IsFreeTable, IsLinked, IsRoom, IsUnlinked};
 ghost use Rattle.rlsf_table.specs.Table.{IsNewestAt};
@@ -13,7 +14,7 @@ ghost use Rattle.rlsf_table.specs.Table.{IsNewestAt};
 use crate::block_words::{NEXT_FREE, PREVIOUS_FREE};
 use crate::table::{ClassIndex, ClassTable};
 use rlsf_base::classes::class_of;
-use rlsf_base::memory::{Memory, View};
+use rlsf_base::memory::{OpenMemory, View};
 
 /// Where the link to the block before lies that is written when the list from `first` on gets another front: in its first
 /// block, or where it has none, in the block at `block`, which isn't in it. So the word is written in either case: whether
@@ -26,14 +27,11 @@ fn first_or_own(first: usize, block: usize) -> usize
 
 /// Links the block at `block` in front of the blocks from `newest` on.
 #[inline(always)]
-fn link_front(memory: &mut Memory, view: View, newest: usize, block: usize)
+fn link_front(memory: &mut OpenMemory, view: View, newest: usize, block: usize)
     requires place { (r : Range) × (free : List Range) × (r.start ≡ block) × IsFreeList memory.old newest free × CanBeBlock memory.old r × ((a : ℕ) → coverage itself (r ∷ free) a ≤ 1) }
     requires view { view ≡ memory.old.view }
     ensures step { AtEachFront memory.old newest block (λ r free. IsRelinked memory.old memory.new (r ∷ free) (r ∷ free) block) }
-    ensures touches { memory.new.touches ≤ memory.old.touches + 3 }
-    ensures grow { memory.old.touches ≤ memory.new.touches }
-    ensures copied { memory.new.copied ≡ memory.old.copied }
-    ensures view { memory.new.view ≡ memory.old.view }
+    ensures costs { Costs memory.old memory.new 3 0 }
 {
     memory.set_word_at(view, block + NEXT_FREE, newest as u64);
     memory.set_word_at(
@@ -47,14 +45,11 @@ fn link_front(memory: &mut Memory, view: View, newest: usize, block: usize)
 /// Takes the block at `block`, the first of its list, out of it. Answers the next one, which is the first then, or 0. The link to
 /// the block before isn't read: there is none.
 #[inline(always)]
-fn unlink_front(memory: &mut Memory, view: View, block: usize) -> usize
+fn unlink_front(memory: &mut OpenMemory, view: View, block: usize) -> usize
     requires front { (r : Range) × (after : List Range) × (newest : ℕ) × (r.start ≡ block) × IsFreeList memory.old newest (r ∷ after) }
     requires view { view ≡ memory.old.view }
     ensures step { (newest : ℕ) (r : Range) (after : List Range) → r.start ≡ block → IsFreeList memory.old newest (r ∷ after) → IsRelinked memory.old memory.new (r ∷ after) after result }
-    ensures touches { memory.new.touches ≤ memory.old.touches + 2 }
-    ensures grow { memory.old.touches ≤ memory.new.touches }
-    ensures copied { memory.new.copied ≡ memory.old.copied }
-    ensures view { memory.new.view ≡ memory.old.view }
+    ensures costs { Costs memory.old memory.new 2 0 }
 {
     let next = memory.load_at(view, block + NEXT_FREE) as usize;
     memory.set_word_at(view, first_or_own(next, block) + PREVIOUS_FREE, 0);
@@ -64,14 +59,11 @@ fn unlink_front(memory: &mut Memory, view: View, block: usize) -> usize
 /// Takes the block at `block` out from between the two that its links name. If none is before it, answers the one
 /// behind it, which is the newest then, or 0.
 #[inline(always)]
-fn unlink_between(memory: &mut Memory, view: View, block: usize) -> Option<usize>
+fn unlink_between(memory: &mut OpenMemory, view: View, block: usize) -> Option<usize>
     requires listed { (r : Range) × (free : List Range) × (newest : ℕ) × (r.start ≡ block) × IsIn r free × IsFreeList memory.old newest free }
     requires view { view ≡ memory.old.view }
     ensures step { AtEachPlace memory.old block (λ newest r before after. IsRelinked memory.old memory.new (before ++ r ∷ after) (before ++ after) (unwrap_or result newest)) }
-    ensures touches { memory.new.touches ≤ memory.old.touches + unlinking_touches result }
-    ensures grow { memory.old.touches ≤ memory.new.touches }
-    ensures copied { memory.new.copied ≡ memory.old.copied }
-    ensures view { memory.new.view ≡ memory.old.view }
+    ensures costs { Costs memory.old memory.new (unlinking_touches result) 0 }
 {
     let next = memory.load_at(view, block + NEXT_FREE) as usize;
     let previous = memory.load_at(view, block + PREVIOUS_FREE) as usize;
@@ -93,7 +85,7 @@ fn unlink_between(memory: &mut Memory, view: View, block: usize) -> Option<usize
 /// block can be one beside them.
 #[inline(always)]
 pub fn link_free_block<const FLLEN: usize, const SLLEN: usize>(
-    memory: &mut Memory,
+    memory: &mut OpenMemory,
     view: View,
     table: &mut ClassTable<FLLEN, SLLEN>,
     block: usize,
@@ -103,10 +95,7 @@ pub fn link_free_block<const FLLEN: usize, const SLLEN: usize>(
     requires room { (r : Range) × (free : List Range) × (r.start ≡ block) × (r.len ≡ len) × IsRoom FLLEN SLLEN memory.old table.old free r }
     requires view { view ≡ memory.old.view }
     ensures step { AtEachRoom FLLEN SLLEN memory.old table.old block len (IsLinked FLLEN SLLEN memory.old memory.new table.new) }
-    ensures touches { memory.new.touches ≤ memory.old.touches + 9 }
-    ensures grow { memory.old.touches ≤ memory.new.touches }
-    ensures copied { memory.new.copied ≡ memory.old.copied }
-    ensures view { memory.new.view ≡ memory.old.view }
+    ensures costs { Costs memory.old memory.new 9 0 }
 {
     let (fl, sl) = class_of::<SLLEN>(len);
     let newest = table.head(memory, fl, sl);
@@ -121,7 +110,7 @@ pub fn link_free_block<const FLLEN: usize, const SLLEN: usize>(
 /// block is one of them.
 #[inline(always)]
 pub fn unlink_free_block<const FLLEN: usize, const SLLEN: usize>(
-    memory: &mut Memory,
+    memory: &mut OpenMemory,
     view: View,
     table: &mut ClassTable<FLLEN, SLLEN>,
     block: usize,
@@ -131,10 +120,7 @@ pub fn unlink_free_block<const FLLEN: usize, const SLLEN: usize>(
     requires listed { (r : Range) × (free : List Range) × (r.start ≡ block) × (r.len ≡ len) × IsIn r free × IsFreeTable FLLEN SLLEN memory.old table.old free }
     requires view { view ≡ memory.old.view }
     ensures step { AtEachListed FLLEN SLLEN memory.old table.old block len (IsUnlinked FLLEN SLLEN memory.old memory.new table.new) }
-    ensures touches { memory.new.touches ≤ memory.old.touches + 8 }
-    ensures grow { memory.old.touches ≤ memory.new.touches }
-    ensures copied { memory.new.copied ≡ memory.old.copied }
-    ensures view { memory.new.view ≡ memory.old.view }
+    ensures costs { Costs memory.old memory.new 8 0 }
 {
     let newest = unlink_between(memory, view, block);
     if let Some(next) = newest {
@@ -150,7 +136,7 @@ pub fn unlink_free_block<const FLLEN: usize, const SLLEN: usize>(
 /// one of them, has that class, and none before it has.
 #[inline(always)]
 pub fn unlink_newest_block<const FLLEN: usize, const SLLEN: usize>(
-    memory: &mut Memory,
+    memory: &mut OpenMemory,
     view: View,
     table: &mut ClassTable<FLLEN, SLLEN>,
     block: usize,
@@ -160,10 +146,7 @@ pub fn unlink_newest_block<const FLLEN: usize, const SLLEN: usize>(
     requires newest { (r : Range) × (before after : List Range) × (r.start ≡ block) × IsNewestAt FLLEN SLLEN r before class.fl class.sl × IsFreeTable FLLEN SLLEN memory.old table.old (before ++ r ∷ after) }
     requires view { view ≡ memory.old.view }
     ensures step { AtEachNewest FLLEN SLLEN memory.old table.old block class.fl class.sl (IsUnlinked FLLEN SLLEN memory.old memory.new table.new) }
-    ensures touches { memory.new.touches ≤ memory.old.touches + 8 }
-    ensures grow { memory.old.touches ≤ memory.new.touches }
-    ensures copied { memory.new.copied ≡ memory.old.copied }
-    ensures view { memory.new.view ≡ memory.old.view }
+    ensures costs { Costs memory.old memory.new 8 0 }
 {
     let next = unlink_front(memory, view, block);
     table.take(memory, class.fl, class.sl, next);

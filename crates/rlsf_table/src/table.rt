@@ -12,7 +12,7 @@ ghost use Rattle.rlsf_table.specs.FreeTable.{HasBitsWithout, IsLeastFrom};
 ghost use Rattle.rlsf_table.specs.Table.{IsHeadSet, class_at, head_at, HasBits, HasTable};
 
 use crate::rows::Rows;
-use rlsf_base::memory::Memory;
+use rlsf_base::memory::OpenMemory;
 use rlsf_int::Bitmap;
 use std::marker::Model;
 
@@ -102,7 +102,7 @@ impl<const FLLEN: usize, const SLLEN: usize> ClassTable<FLLEN, SLLEN> {
     /// The address of the newest free block of a class, or 0 if none is free. At most one touch.
     ///
     /// The row is below `FLLEN`, and the place below `SLLEN`.
-    pub fn head(&self, memory: &mut Memory, fl: usize, sl: usize) -> usize
+    pub fn head(&self, memory: &mut OpenMemory, fl: usize, sl: usize) -> usize
         requires { (fl < FLLEN) × (sl < SLLEN) }
         ensures value { result ≡ head_at self.now fl sl }
         ensures counts { Counts memory.old memory.new 1 }
@@ -114,7 +114,7 @@ impl<const FLLEN: usize, const SLLEN: usize> ClassTable<FLLEN, SLLEN> {
     /// Makes the block at the address `block` the newest one of a class, which has a free block then. At most five touches.
     ///
     /// The row is below `FLLEN`, and the place below `SLLEN`.
-    pub fn put(&mut self, memory: &mut Memory, fl: usize, sl: usize, block: usize)
+    pub fn put(&mut self, memory: &mut OpenMemory, fl: usize, sl: usize, block: usize)
         requires parameters { IsValid 128 128 FLLEN SLLEN }
         requires class { (fl < FLLEN) × (sl < SLLEN) }
         ensures heads { IsHeadSet FLLEN SLLEN self.old self.new fl sl block }
@@ -135,7 +135,7 @@ impl<const FLLEN: usize, const SLLEN: usize> ClassTable<FLLEN, SLLEN> {
     /// is left. At most one touch, and at most six where none is left.
     ///
     /// The row is below `FLLEN`, and the place below `SLLEN`.
-    pub fn take(&mut self, memory: &mut Memory, fl: usize, sl: usize, next: usize)
+    pub fn take(&mut self, memory: &mut OpenMemory, fl: usize, sl: usize, next: usize)
         requires parameters { IsValid 128 128 FLLEN SLLEN }
         requires class { (fl < FLLEN) × (sl < SLLEN) }
         ensures heads { IsHeadSet FLLEN SLLEN self.old self.new fl sl next }
@@ -160,7 +160,7 @@ impl<const FLLEN: usize, const SLLEN: usize> ClassTable<FLLEN, SLLEN> {
     /// The first class from a row and place on that has a free block; `None` exactly if none has. At most three touches.
     ///
     /// The row is below `FLLEN`, and the place below `SLLEN`.
-    pub fn first_from(&self, memory: &mut Memory, fl: usize, sl: usize) -> Option<ClassIndex>
+    pub fn first_from(&self, memory: &mut OpenMemory, fl: usize, sl: usize) -> Option<ClassIndex>
         requires parameters { IsValid 128 128 FLLEN SLLEN }
         requires class { (fl < FLLEN) × (sl < SLLEN) }
         ensures first { (free : List Range) → HasBits FLLEN SLLEN self.now free → ((f : Range) → IsIn f free → IsFree FLLEN SLLEN f) → IsLeastFrom FLLEN SLLEN fl sl free result }

@@ -1,5 +1,10 @@
 -- A used block is made of the front of the free block that is the choice for a layout.
-use Rattle.std.proofs.Common.{◌≡◌, ℕ, ◌+◌, ◌-◌, ◌%◌, ◌^◌, ◌<◌, ◌≤◌, ◌⊎◌, ◌++◌, length, drop, Some, arith, inl, inr, refl, sym, ◌∙◌, ap, subst}
+use Rattle.rlsf_base.proofs.Lending.Present.{own-there}
+use Rattle.rlsf_base.specs.OpenSpace.{IsWritable, SameOwn, out_with}
+use Rattle.rlsf_base.proofs.Lending.Present.{own-word, own-inside}
+use Rattle.rlsf_base.specs.Space.{word_range}
+use Rattle.rlsf_blocks.proofs.Words.Here.{here_free}
+use Rattle.std.proofs.Common.{[], ◌≡◌, ℕ, ◌+◌, ◌-◌, ◌%◌, ◌^◌, ◌<◌, ◌≤◌, ◌⊎◌, ◌++◌, length, drop, Some, arith, inl, inr, refl, sym, ◌∙◌, ap, subst}
 use mathlib.Core.Path.{ap₂}
 use Rattle.std.proofs.lemmas.List.{length-drop, length-take-le}
 use Rattle.std.specs.Int.{next_multiple_of}
@@ -8,8 +13,8 @@ use Rattle.rlsf_base.specs.PowerOfTwo.{IsPowerOfTwo}
 use Rattle.rlsf_base.specs.Range.{end_of, LiesIn, range_at}
 use Rattle.rlsf_base.specs.SizeClass.{class_of}
 use Rattle.rlsf_base.specs.Sizes.{request_size}
-use Rattle.rlsf_base.specs.Space.{Space, bytes_in, range_of, IsWord, SamePlace, with_word, word_at}
-use Rattle.rlsf_table.specs.FreeList.{CanBeBlock, Rewrites}
+use Rattle.rlsf_base.specs.Space.{Space, bytes_in, range_of, with_word, word_at}
+use Rattle.rlsf_table.specs.Rewrites.{CanBeBlock, Rewrites}
 use Rattle.rlsf_table.specs.Table.{Table}
 use Rattle.rlsf_table.proofs.Tables.FreeTables.{HasTable-Rewrites}
 use Rattle.rlsf_table.proofs.Words.Writes.{CanBeBlock-Rewrites, Rewrites-trans, Rewrites-weaken, Writes}
@@ -171,6 +176,7 @@ module _ {fllen sllen : ℕ} {m : Space} {table : Table} {s : State} (v : Stands
                   whole = omega (arith, fit.whole, fit.granules);
                   room = omega (arith, fit.whole, fit.granules, is.whole.len);
                   lies_in = (omega (arith, place.0), omega (arith, place.1, opened.rewrites.length));
+                  own = own-there m n1 (between (f.start + block_length f.start (payload_of f.start align) size) (end_of f)) (omega arith) opened.rewrites.own (own-inside m f (between (f.start + block_length f.start (payload_of f.start align) size) (end_of f)) (omega arith) (omega (arith, short)) (here_free v f is_free));
                 }
 
         no_link : (g : Range) → IsIn g (rest_behind (range_at f.start (block_length f.start (payload_of f.start align) size)) (end_of f) ++ without (has_class sllen (class_of sllen f.len)) s.free)
@@ -247,33 +253,33 @@ module _ {fllen sllen : ℕ} {m : Space} {table : Table} {s : State} {v : Stands
       record { found = (choice-some sllen (request_size size align) s.free f chosen).found; start = are.start; length = sym are.length; whole = ap (λ n. n % 32) are.taken ∙ fits.granules; some = omega (arith, are.taken, fits.long); fits = omega (arith, are.taken, are.length, placed-fits v.well_formed f size align power chosen) }
 
   -- the block's first word lies in the memory, or in another one of its place and length
-  pub IsWord-block : (n : Space) → n.start ≡ m.start → length n.bytes ≡ length m.bytes → IsWord n block
-  IsWord-block n start long =
+  pub IsWritable-block : (n : Space) → n.start ≡ m.start → length n.bytes ≡ length m.bytes → SameOwn m n → IsWritable n block
+  IsWritable-block n start long own =
       let fits = fit in
       let place = free_in_memory v.well_formed f free in
-      (omega (arith, are.start, fits.whole), (omega (arith, are.start, place.0), omega (arith, are.start, place.1)))
+      (omega (arith, are.start, fits.whole), (omega (arith, are.start, place.0), omega (arith, are.start, place.1)), own-there m n (word_range block) (omega (arith, are.start, place.0)) own (own-word m f block (here_free v f free) (omega (arith, are.start)) (omega (arith, are.start, (v.well_formed.free f free).some, (v.well_formed.free f free).whole.len))))
 
   -- the block was taken out of the list, and then its size word was written
   pub record IsSized (n1 n2 : Space) (changed : Table) : Type 0 where
     pub opened : IsOpened fllen sllen m n1 changed s f (range_at block bytes)
     pub sized : IsWrite n1 n2 block (bytes + 1)
 
-  pub IsSized-from : {n1 n2 : Space} {changed : Table} → IsOpened fllen sllen m n1 changed s f (range_at block bytes) → n2.start ≡ n1.start → n2.bytes ≡ with_word n1 block (bytes + 1) → bytes + 1 < 2 ^ 64 → IsSized n1 n2 changed
-  IsSized-from {n1} opened start written fits = record { opened = opened; sized = write (IsWord-block n1 opened.rewrites.start opened.rewrites.length) start written fits }
+  pub IsSized-from : {n1 n2 : Space} {changed : Table} → IsOpened fllen sllen m n1 changed s f (range_at block bytes) → n2.start ≡ n1.start → n2.bytes ≡ with_word n1 block (bytes + 1) → bytes + 1 < 2 ^ 64 → n2.out ≡ out_with n1 (word_range block) → IsSized n1 n2 changed
+  IsSized-from {n1} opened start written fits out = record { opened = opened; sized = write (IsWritable-block n1 opened.rewrites.start opened.rewrites.length opened.rewrites.own) start written fits out }
 
   module _ {n1 n2 : Space} {changed : Table} (is : IsSized n1 n2 changed) where
-    pub SamePlace-sized : SamePlace m n2
-    SamePlace-sized =
+    place-sized : (n2.start ≡ m.start) × (length n2.bytes ≡ length m.bytes) × (m.out ≡ [] → n2.out ≡ [])
+    place-sized =
         let size = rewrites_of is.sized in
-        (size.start ∙ is.opened.rewrites.start, size.length ∙ is.opened.rewrites.length)
+        (size.start ∙ is.opened.rewrites.start, size.length ∙ is.opened.rewrites.length, λ none. size.none (is.opened.rewrites.none none))
 
     -- the word before the payload lies in the memory
-    pub IsWord-pad : 32 ≤ align → IsWord n2 (address - 8)
-    IsWord-pad wide =
+    pub IsWritable-pad : 32 ≤ align → IsWritable n2 (address - 8)
+    IsWritable-pad wide =
         let fits = fit in
         let place = free_in_memory v.well_formed f free in
-        let same = SamePlace-sized in
-        (omega (arith, are.payload, fits.wide wide, fits.after_start), (omega (arith, are.payload, fits.after_start, place.0, same.0), omega (arith, are.payload, fits.after_start, fits.before_end, placed-fits v.well_formed f size align power chosen, place.1, same.0, same.1)))
+        let same = place-sized in
+        (omega (arith, are.payload, fits.wide wide, fits.after_start), (omega (arith, are.payload, fits.after_start, place.0, same.0), omega (arith, are.payload, fits.after_start, fits.before_end, placed-fits v.well_formed f size align power chosen, place.1, same.0, same.1)), own-there m n2 (word_range (address - 8)) (omega (arith, are.payload, fits.after_start, place.0)) (λ a inside. (rewrites_of is.sized).own a (omega (arith, is.opened.rewrites.start)) ∙ is.opened.rewrites.own a inside) (own-word m f (address - 8) (here_free v f free) (omega (arith, are.payload, fits.after_start)) (omega (arith, are.payload, fits.after_start, fits.before_end, placed-fits v.well_formed f size align power chosen))))
 
     -- with that word, where it is wanted, the block stands in the memory
     pub Places-sized : {n : Space} → Writes n2 n (32 ≤ align) (address - 8) block → (t : State) × Places sllen s size align address t × StandsFor fllen sllen (contents n changed) t × KeepsSpare m s n t

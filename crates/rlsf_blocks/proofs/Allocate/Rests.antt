@@ -1,9 +1,15 @@
 -- The writes that leave a rest.
+use Rattle.rlsf_base.proofs.Lending.Present.{own-there}
+use Rattle.rlsf_base.specs.OpenSpace.{out_with}
+use Rattle.rlsf_base.specs.Range.{range_at}
+use Rattle.rlsf_base.proofs.Lending.Present.{own-word}
+use Rattle.rlsf_base.specs.Space.{word_range}
+use Rattle.rlsf_base.specs.OpenSpace.{IsOwned}
 use Rattle.std.proofs.Common.{◌≡◌, ◌≢◌, ℕ, ◌+◌, ◌-◌, ◌%◌, ◌^◌, ◌<◌, ◌≤◌, ◌⊎◌, List, ◌∷◌, arith, inl, inr, sym, ◌∙◌, ap, subst}
 use Rattle.rlsf_base.specs.declared.memory.range.Range.{Range}
 use Rattle.rlsf_base.specs.Range.{end_of}
 use Rattle.rlsf_base.specs.Space.{Space, word_at, with_word}
-use Rattle.rlsf_table.specs.FreeList.{IsLink, Rewrites}
+use Rattle.rlsf_table.specs.Rewrites.{IsLink, Rewrites}
 use Rattle.rlsf_table.specs.FreeTable.{IsRoom}
 use Rattle.rlsf_table.specs.Table.{Table, HasTable}
 use Rattle.rlsf_table.proofs.Tables.FreeTables.{IsFreeTable-Rewrites}
@@ -22,8 +28,8 @@ pub record AreLeft (m m1 m2 m3 : Space) (block : ℕ) (r : Range) : Type 0 where
   pub three : IsWrite m2 m3 (end_of r + 8) r.start
 
 pub AreLeft-from : {fllen sllen : ℕ} {m m1 m2 m3 : Space} {table : Table} {free : List Range} (block len taken : ℕ) (r : Range) → IsInnerRoom fllen sllen m table free r → r.start ≡ block + taken → r.len + taken ≡ len → block < 2 ^ 64
-    → (m1.start ≡ m.start) × (m1.bytes ≡ with_word m (block + taken) (len - taken)) → (m2.start ≡ m1.start) × (m2.bytes ≡ with_word m1 (block + taken + 8) block)
-    → (m3.start ≡ m2.start) × (m3.bytes ≡ with_word m2 (block + len + 8) (block + taken)) → AreLeft m m1 m2 m3 block r
+    → (m1.start ≡ m.start) × (m1.bytes ≡ with_word m (block + taken) (len - taken)) × (m1.out ≡ out_with m (word_range (block + taken))) → (m2.start ≡ m1.start) × (m2.bytes ≡ with_word m1 (block + taken + 8) block) × (m2.out ≡ out_with m1 (word_range (block + taken + 8)))
+    → (m3.start ≡ m2.start) × (m3.bytes ≡ with_word m2 (block + len + 8) (block + taken)) × (m3.out ≡ out_with m2 (word_range (block + len + 8))) → AreLeft m m1 m2 m3 block r
 AreLeft-from {m = m} {m1 = m1} {m2 = m2} {m3 = m3} block len taken r room start_is len_is fits e1 e2 e3 =
     let inside = room.room.placed.lies_in in
     let whole = room.room.block.whole in
@@ -32,11 +38,15 @@ AreLeft-from {m = m} {m1 = m1} {m2 = m2} {m3 = m3} block len taken r room start_
     let start : block + taken ≡ r.start = sym start_is in
     let size : len - taken ≡ r.len = omega arith in
     let end : block + len ≡ end_of r = omega arith in
-    let w1 : IsWrite m m1 (block + taken) (len - taken) = write (omega arith, (omega arith, omega arith)) e1.0 e1.1 (omega arith) in
-    let l1 = (Rewrites-word m m1 (block + taken) (len - taken) w1.placed w1.start w1.bytes).length in
-    let w2 : IsWrite m1 m2 (block + taken + 8) block = write (omega arith, (omega arith, omega arith)) e2.0 e2.1 fits in
-    let l2 = (Rewrites-word m1 m2 (block + taken + 8) block w2.placed w2.start w2.bytes).length in
-    let w3 : IsWrite m2 m3 (block + len + 8) (block + taken) = write (omega arith, (omega arith, omega arith)) e3.0 e3.1 (omega arith) in
+    let long = room.room.placed.room in
+    let h1 : IsOwned m (word_range (block + taken)) = own-word m r (block + taken) room.room.placed.own (omega arith) (omega (arith, long)) in
+    let w1 : IsWrite m m1 (block + taken) (len - taken) = write (omega arith, (omega arith, omega arith), h1) e1.0 e1.1 (omega arith) e1.2 in
+    let l1 = (Rewrites-word m m1 (block + taken) (len - taken) w1.placed w1.start w1.bytes w1.out).length in
+    let h2 : IsOwned m1 (word_range (block + taken + 8)) = own-there m m1 (word_range (block + taken + 8)) (omega arith) (rewrites_of w1).own (own-word m r (block + taken + 8) room.room.placed.own (omega arith) (omega (arith, long))) in
+    let w2 : IsWrite m1 m2 (block + taken + 8) block = write (omega arith, (omega arith, omega arith), h2) e2.0 e2.1 fits e2.2 in
+    let l2 = (Rewrites-word m1 m2 (block + taken + 8) block w2.placed w2.start w2.bytes w2.out).length in
+    let h3 : IsOwned m2 (word_range (block + len + 8)) = own-there m1 m2 (word_range (block + len + 8)) (omega arith) (rewrites_of w2).own (own-there m m1 (word_range (block + len + 8)) (omega arith) (rewrites_of w1).own (own-word m (range_at (end_of r) 16) (block + len + 8) room.behind (omega arith) (omega arith))) in
+    let w3 : IsWrite m2 m3 (block + len + 8) (block + taken) = write (omega arith, (omega arith, omega arith), h3) e3.0 e3.1 (omega arith) e3.2 in
     record {
       one = subst (λ a. IsWrite m m1 a r.len) start (subst (λ n. IsWrite m m1 (block + taken) n) size w1);
       two = subst (λ a. IsWrite m1 m2 (a + 8) block) start w2;

@@ -1,11 +1,15 @@
 -- A free block is taken out of the list, and what is left of it behind its front is put in.
+use Rattle.rlsf_base.proofs.Lending.Present.{own-there}
+use Rattle.rlsf_base.proofs.Lending.Present.{own-inside}
+use Rattle.rlsf_blocks.proofs.Words.Here.{here_free, here_behind_free}
 use Rattle.std.proofs.Common.{◌≡◌, ℕ, ◌+◌, ◌-◌, ◌%◌, ◌<◌, ◌≤◌, ◌⊎◌, List, [], ◌∷◌, ◌++◌, cond, filter, arith, inl, inr, sym, ◌∙◌, ap, subst}
 use Rattle.std.proofs.lemmas.Bool.{le-ltb, lt-ltb}
 use Rattle.rlsf_base.specs.declared.memory.range.Range.{Range}
 use Rattle.rlsf_base.specs.Range.{end_of, range_at}
 use Rattle.rlsf_base.specs.SizeClass.{class_of}
 use Rattle.rlsf_base.specs.Space.{Space, word_at}
-use Rattle.rlsf_table.specs.FreeList.{IsLink, Rewrites}
+use Rattle.rlsf_base.specs.OpenSpace.{IsOwned}
+use Rattle.rlsf_table.specs.Rewrites.{IsLink, Rewrites}
 use Rattle.rlsf_table.specs.FreeTable.{IsFreeTable}
 use Rattle.rlsf_table.specs.Table.{IsClassAt, IsNewestAt, Table, HasTable}
 use Rattle.rlsf_table.proofs.Tables.FreeTables.{IsFreeTable-removal}
@@ -98,10 +102,11 @@ module _ {fllen sllen : ℕ} {m : Space} {table : Table} {s : State} {f : Range}
               some = some;
               valid = IsValidClass-le fllen sllen (end_of f - (block + taken)) f.len some shorter is.valid;
             };
-            placed = record { some = omega (arith, take.some); whole = omega (arith, is.whole.start); room = omega (arith, is.whole.start, is.whole.len); lies_in = (omega (arith, moved.start, place.0), omega (arith, moved.start, moved.length, place.1)) };
+            placed = record { own = own-there m m1 (between (block + taken) (end_of f)) (omega (arith, place.0)) moved.own (own-inside m f (between (block + taken) (end_of f)) (omega arith) (omega (arith, short)) (here_free v f is_free)); some = omega (arith, take.some); whole = omega (arith, is.whole.start); room = omega (arith, is.whole.start, is.whole.len); lies_in = (omega (arith, moved.start, place.0), omega (arith, moved.start, moved.length, place.1)) };
             apart = λ a. omega (arith, split_list.apart a, coverage-append itself ahead (f ∷ later) a, coverage-append itself ahead later a, covers-part (between (end_of (range_at block taken)) (end_of f)) f a (omega arith) (omega arith));
           };
           not_last = omega (arith, moved.start, moved.length, place.1);
+          behind = (let e : end_of f ≡ end_of rest = omega arith in subst (λ k. IsOwned m1 (range_at k 16)) e (own-there m m1 (range_at (end_of f) 16) (omega (arith, place.0)) moved.own (here_behind_free v f is_free)));
         }
 
     -- nothing is left

@@ -5,7 +5,7 @@ use Rattle.rlsf_base.specs.declared.memory.range.Range.{Range}
 use Rattle.rlsf_base.specs.Range.{end_of}
 use Rattle.rlsf_base.specs.SizeClass.{class_of}
 use Rattle.rlsf_base.specs.Space.{Space, bytes_in, range_of, word_at}
-use Rattle.rlsf_table.specs.FreeList.{Rewrites}
+use Rattle.rlsf_table.specs.Rewrites.{Rewrites}
 use Rattle.rlsf_table.specs.Table.{Table, HasTable}
 use Rattle.rlsf_blocks.specs.Steps.Touched.{Touched}
 use Rattle.rlsf_blocks.specs.InBand.{sentinel_of}
@@ -140,4 +140,5 @@ module _ {fllen sllen : ℕ} {m n : Space} {table changed : Table} {s : State} (
     previous = record { used = previous_used; free = previous_free; first = previous_first };
     payloads = record { bytes = payload_bytes; pad = payload_pad };
     table = carved.listed;
+    own = λ a from unlent. carved.rewrites.own a (omega (arith, carved.rewrites.start, from)) ∙ old.own a (omega (arith, carved.rewrites.start, from)) (λ x i. unlent x (inr i));
   }

@@ -1,8 +1,13 @@
 -- The writes that make a chunk.
+use Rattle.rlsf_base.proofs.Lending.Present.{own-there}
+use Rattle.rlsf_base.specs.OpenSpace.{out_with}
+use Rattle.rlsf_base.proofs.Lending.Present.{own-word, own-inside}
+use Rattle.rlsf_base.specs.Space.{word_range}
+use Rattle.rlsf_base.specs.OpenSpace.{IsOwned}
 use Rattle.std.proofs.Common.{◌≡◌, ℕ, ◌+◌, ◌-◌, ◌%◌, ◌^◌, ◌<◌, ◌≤◌, ◌⊎◌, ◌∷◌, length, arith, inl, inr, ◌∙◌, ap, subst}
 use Rattle.rlsf_base.specs.declared.memory.range.Range.{Range}
 use Rattle.rlsf_base.specs.Space.{Space, word_at, with_word}
-use Rattle.rlsf_table.specs.FreeList.{IsLink, CanBeBlock, Rewrites}
+use Rattle.rlsf_table.specs.Rewrites.{IsLink, CanBeBlock, Rewrites}
 use Rattle.rlsf_table.specs.FreeTable.{IsFreeTable, IsRoom}
 use Rattle.rlsf_table.specs.Table.{Table, HasTable}
 use Rattle.rlsf_table.proofs.Tables.FreeTables.{HasTable-Rewrites}
@@ -30,20 +35,24 @@ pub record AreWrites (m m1 m2 m3 m4 : Space) (c : Range) : Type 0 where
   pub four : IsWrite m3 m4 (sentinel_of c + 8) c.start
 
 pub AreWrites-from : {fllen sllen : ℕ} {m m1 m2 m3 m4 : Space} {s : State} (c : Range) (len sentinel : ℕ) → IsNewChunk fllen sllen m s c → m.start + length m.bytes < 2 ^ 64 → len ≡ c.len - 32 → sentinel ≡ c.start + len
-    → (m1.start ≡ m.start) × (m1.bytes ≡ with_word m c.start len) → (m2.start ≡ m1.start) × (m2.bytes ≡ with_word m1 (c.start + 8) 0)
-    → (m3.start ≡ m2.start) × (m3.bytes ≡ with_word m2 sentinel 35) → (m4.start ≡ m3.start) × (m4.bytes ≡ with_word m3 (sentinel + 8) c.start) → AreWrites m m1 m2 m3 m4 c
+    → (m1.start ≡ m.start) × (m1.bytes ≡ with_word m c.start len) × (m1.out ≡ out_with m (word_range c.start)) → (m2.start ≡ m1.start) × (m2.bytes ≡ with_word m1 (c.start + 8) 0) × (m2.out ≡ out_with m1 (word_range (c.start + 8)))
+    → (m3.start ≡ m2.start) × (m3.bytes ≡ with_word m2 sentinel 35) × (m3.out ≡ out_with m2 (word_range sentinel)) → (m4.start ≡ m3.start) × (m4.bytes ≡ with_word m3 (sentinel + 8) c.start) × (m4.out ≡ out_with m3 (word_range (sentinel + 8))) → AreWrites m m1 m2 m3 m4 c
 AreWrites-from {m = m} {m1 = m1} {m2 = m2} {m3 = m3} {m4 = m4} c len sentinel new addressable len_is sentinel_is e1 e2 e3 e4 =
     let whole = new.whole in
     let room = new.room in
     let inside = new.lies_in in
     let place : sentinel ≡ sentinel_of c = omega arith in
-    let w1 : IsWrite m m1 c.start len = write (omega arith, (omega arith, omega arith)) e1.0 e1.1 (omega arith) in
-    let l1 = (Rewrites-word m m1 c.start len w1.placed w1.start w1.bytes).length in
-    let w2 : IsWrite m1 m2 (c.start + 8) 0 = write (omega arith, (omega arith, omega arith)) e2.0 e2.1 (omega arith) in
-    let l2 = (Rewrites-word m1 m2 (c.start + 8) 0 w2.placed w2.start w2.bytes).length in
-    let w3 : IsWrite m2 m3 sentinel 35 = write (omega arith, (omega arith, omega arith)) e3.0 e3.1 (omega arith) in
-    let l3 = (Rewrites-word m2 m3 sentinel 35 w3.placed w3.start w3.bytes).length in
-    let w4 : IsWrite m3 m4 (sentinel + 8) c.start = write (omega arith, (omega arith, omega arith)) e4.0 e4.1 (omega arith) in
+    let h1 : IsOwned m (word_range c.start) = own-word m c c.start new.own (omega arith) (omega arith) in
+    let w1 : IsWrite m m1 c.start len = write (omega arith, (omega arith, omega arith), h1) e1.0 e1.1 (omega arith) e1.2 in
+    let l1 = (Rewrites-word m m1 c.start len w1.placed w1.start w1.bytes w1.out).length in
+    let h2 : IsOwned m1 (word_range (c.start + 8)) = own-there m m1 (word_range (c.start + 8)) (omega arith) (rewrites_of w1).own (own-word m c (c.start + 8) new.own (omega arith) (omega arith)) in
+    let w2 : IsWrite m1 m2 (c.start + 8) 0 = write (omega arith, (omega arith, omega arith), h2) e2.0 e2.1 (omega arith) e2.2 in
+    let l2 = (Rewrites-word m1 m2 (c.start + 8) 0 w2.placed w2.start w2.bytes w2.out).length in
+    let h3 : IsOwned m2 (word_range sentinel) = own-there m1 m2 (word_range sentinel) (omega arith) (rewrites_of w2).own (own-there m m1 (word_range sentinel) (omega arith) (rewrites_of w1).own (own-word m c sentinel new.own (omega arith) (omega arith))) in
+    let w3 : IsWrite m2 m3 sentinel 35 = write (omega arith, (omega arith, omega arith), h3) e3.0 e3.1 (omega arith) e3.2 in
+    let l3 = (Rewrites-word m2 m3 sentinel 35 w3.placed w3.start w3.bytes w3.out).length in
+    let h4 : IsOwned m3 (word_range (sentinel + 8)) = own-there m2 m3 (word_range (sentinel + 8)) (omega arith) (rewrites_of w3).own (own-there m1 m2 (word_range (sentinel + 8)) (omega arith) (rewrites_of w2).own (own-there m m1 (word_range (sentinel + 8)) (omega arith) (rewrites_of w1).own (own-word m c (sentinel + 8) new.own (omega arith) (omega arith)))) in
+    let w4 : IsWrite m3 m4 (sentinel + 8) c.start = write (omega arith, (omega arith, omega arith), h4) e4.0 e4.1 (omega arith) e4.2 in
     record {
       one = subst (λ n. IsWrite m m1 c.start n) len_is w1;
       two = w2;
@@ -98,7 +107,7 @@ module _ {fllen sllen : ℕ} {m m1 m2 m3 m4 : Space} {table : Table} {s : State}
       unmet f i a hf hc = omega (arith, new.fresh a hc.from (omega (arith, hc.to)), v.well_formed.tiled a, coverage-IsIn itself f s.free a i, covers-inside f a hf.from hf.to)
 
   placed_body : CanBeBlock m4 (body c)
-  placed_body = record { some = new.some; whole = new.whole.start; room = omega (arith, new.room); lies_in = (omega (arith, new.lies_in, sized.start), omega (arith, new.lies_in, new.room, sized.start, sized.length)) }
+  placed_body = record { own = own-there m m4 (body c) (omega (arith, new.lies_in)) sized.own (own-inside m c (body c) (omega arith) (omega (arith, new.room)) new.own); some = new.some; whole = new.whole.start; room = omega (arith, new.room); lies_in = (omega (arith, new.lies_in, sized.start), omega (arith, new.lies_in, new.room, sized.start, sized.length)) }
 
   apart_body : (a : ℕ) → coverage itself (body c ∷ s.free) a ≤ 1
   apart_body a = elim (where_is (body c) a) [

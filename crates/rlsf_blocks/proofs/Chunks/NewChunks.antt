@@ -56,6 +56,7 @@ module _ {fllen sllen : ℕ} {m n : Space} {table changed : Table} {s : State} (
       previous = record { used = previous_used; free = previous_free; first = previous_first };
       payloads = record { bytes = payload_bytes; pad = payload_pad };
       table = added.table;
+      own = λ a from unlent. added.rewrites.own a (omega (arith, added.rewrites.start, from)) ∙ old.own a (omega (arith, added.rewrites.start, from)) unlent;
     }
       where
         some : 0 < c.len - 16

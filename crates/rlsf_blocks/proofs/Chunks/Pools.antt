@@ -1,4 +1,5 @@
 -- The chunks of an inserted range are made one after another.
+use Rattle.rlsf_blocks.proofs.Words.Here.{here_clear}
 use Rattle.std.proofs.Common.{◌≡◌, ◌≢◌, ℕ, suc, ◌+◌, ◌-◌, ◌<◌, ◌≤◌, ◌⊎◌, List, [], ◌∷◌, ◌*◌, length, drop, get_or, Option, Some, None, arith, inl, inr, refl, sym, ◌∙◌, ap, subst}
 use mathlib.Core.Path.{ap₂}
 use Rattle.std.proofs.lemmas.Bool.{cases_lt}
@@ -7,7 +8,8 @@ use Rattle.rlsf_base.specs.declared.memory.range.Range.{Range}
 use Rattle.rlsf_base.specs.Range.{end_of, range_at}
 use Rattle.rlsf_base.specs.Sizes.{max_pool_size}
 use Rattle.rlsf_base.specs.Space.{Space, byte_at, bytes_in, range_of}
-use Rattle.rlsf_table.specs.FreeList.{Rewrites}
+use Rattle.rlsf_table.specs.Counts.{Costs}
+use Rattle.rlsf_table.specs.Rewrites.{Rewrites}
 use Rattle.rlsf_table.specs.Table.{Table}
 use Rattle.rlsf_blocks.specs.Steps.Touched.{Touched, at_link, in_hole, at_other}
 use Rattle.rlsf_machine.specs.Insert.{aligned_part, body, bytes_taken, cut, end_of_last, Inserts, IsFresh, with_chunk, with_chunks}
@@ -83,6 +85,8 @@ pub record IsFilled (fllen sllen : ℕ) (m0 : Space) (s : State) (r : Range) (m 
   pub stands : StandsFor fllen sllen (contents m table) now
   pub spare : KeepsSpare m0 s m now
   pub place : range_of m ≡ range_of m0
+  pub view : m.view ≡ m0.view
+  pub none : m0.out ≡ [] → m.out ≡ []
   pub untouched : start ≡ (aligned_part r).start → m.bytes ≡ m0.bytes
   pub touches : m.touches + 13 * length (cut (max_pool_size fllen) (range_at start left)) ≤ m0.touches + 13 * length (cut (max_pool_size fllen) (aligned_part r))
   pub grow : m0.touches ≤ m.touches
@@ -102,6 +106,8 @@ module _ {fllen sllen : ℕ} {m0 : Space} {table0 : Table} {s : State} (v : Stan
         stands = v;
         spare = λ a from to spare_s spare_t. refl;
         place = refl;
+        view = refl;
+        none = λ none. none;
         untouched = λ at. refl;
         touches = (let count = ap length same in omega arith);
         grow = omega arith;
@@ -132,11 +138,12 @@ module _ {fllen sllen : ℕ} {m0 : Space} {table0 : Table} {s : State} (v : Stan
           lies_in = chunk.lies_in;
           fresh = λ a low high. omega (arith, new.apart a, covers-inside c a low high);
           block = IsFree-body c chunk;
+          own = here_clear filled.stands c chunk.lies_in.0 (λ a low high. omega (arith, new.apart a, covers-inside c a low high));
         }
 
-    pub IsFilled-next : (n : Space) (changed : Table) → IsAdded fllen sllen m n changed filled.now.free (range_at start (first_length (max_pool_size fllen) left)) → n.touches ≤ m.touches + 13 → m.touches ≤ n.touches → n.copied ≡ m.copied
+    pub IsFilled-next : (n : Space) (changed : Table) → IsAdded fllen sllen m n changed filled.now.free (range_at start (first_length (max_pool_size fllen) left)) → Costs m n 13 0
         → IsFilled fllen sllen m0 s r n changed (start + first_length (max_pool_size fllen) left) (left - first_length (max_pool_size fllen) left)
-    IsFilled-next n changed added touches grow copied =
+    IsFilled-next n changed added costs =
         let c = range_at start (first_length (max_pool_size fllen) left) in
         let rest = cut (max_pool_size fllen) (range_at (start + first_length (max_pool_size fllen) left) (left - first_length (max_pool_size fllen) left)) in
         let chunk = new.chunk c (inl refl) in
@@ -155,10 +162,12 @@ module _ {fllen sllen : ℕ} {m0 : Space} {table0 : Table} {s : State} (v : Stan
               let spare_now : IsSpare filled.now a = λ d i. spare_t d (inr i) in
               KeepsSpare-Touched filled.stands.well_formed (with_chunk c filled.now) (opened c) (c.start + 8) added.rewrites no_hole no_other a (omega (arith, from, ap (λ p. p.start) filled.place)) (omega (arith, to, ap (λ p. p.start) filled.place, ap (λ p. p.len) filled.place)) spare_now spare_t ∙ filled.spare a from to spare_s spare_now;
           place = place ∙ filled.place;
+          view = costs.view ∙ filled.view;
+          none = λ none. costs.none (filled.none none);
           untouched = λ at. absurd (omega (arith, filled.from, chunk.has_room));
-          touches = (let count : length (cut (max_pool_size fllen) (range_at start left)) ≡ suc (length rest) = ap length more in omega (arith, filled.touches));
-          grow = omega (arith, grow, filled.grow);
-          copied = copied ∙ filled.copied;
+          touches = (let count : length (cut (max_pool_size fllen) (range_at start left)) ≡ suc (length rest) = ap length more in omega (arith, filled.touches, costs.touches));
+          grow = omega (arith, costs.grow, filled.grow);
+          copied = omega (arith, costs.copied, filled.copied);
           from = omega (arith, filled.from);
           to = omega (arith, filled.to, shorter);
         }

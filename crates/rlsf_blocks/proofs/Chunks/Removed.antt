@@ -1,11 +1,15 @@
 -- A chunk without a used block is taken out: its one free block leaves its list.
+use Rattle.std.proofs.Common.{◌<◌, ◌^◌}
+use Rattle.rlsf_base.proofs.Lending.Here.{is_word}
+use Rattle.rlsf_base.proofs.Lending.Present.{own-word}
+use Rattle.rlsf_blocks.proofs.Words.Here.{here_free}
 use Rattle.std.proofs.Common.{◌≡◌, ℕ, ◌+◌, ◌%◌, true, false, true≢false, List, ◌∷◌, ◌++◌, Some, find, arith, inl, inr, refl, sym, ◌∙◌, ap, subst}
 use mathlib.Core.Path.{ap₂}
 use Rattle.std.proofs.lemmas.Bool.{cases_eq, cases_lt, false_from_ne_true}
 use Rattle.rlsf_base.specs.declared.memory.range.Range.{Range}
 use Rattle.rlsf_base.specs.Range.{end_of}
 use Rattle.rlsf_base.specs.Space.{Space, range_of, word_at}
-use Rattle.rlsf_table.specs.FreeList.{IsLink}
+use Rattle.rlsf_table.specs.Rewrites.{IsLink}
 use Rattle.rlsf_table.specs.Table.{Table, HasTable}
 use Rattle.rlsf_table.proofs.FreeLists.Found.{find-start}
 use Rattle.rlsf_table.proofs.Words.Writes.{Rewrites-weaken}
@@ -42,7 +46,7 @@ module _ {fllen sllen : ℕ} {m : Space} {t : Table} {s : State} (v : StandsFor 
       let whole = (w.free (body c) is_free).whole.start in
       let place = free_in_memory w (body c) is_free in
       record {
-        word = (omega (arith, at, whole), (omega (arith, at, place.0), omega (arith, at, place.1)));
+        word = is_word m start (omega (arith, at, whole), (omega (arith, at, place.0), omega (arith, at, place.1)), own-word m (body c) start (here_free v (body c) is_free) (omega (arith, at)) (omega (arith, at, (w.free (body c) is_free).some, (w.free (body c) is_free).whole.len))) (subst (λ a. word_at m a < 2 ^ 64) at (omega (arith, v.sizes.free (body c) is_free, place.1, w.addressable)));
         mark = (λ _. (body c, is_free, at), λ _. subst (λ a. word_at m a % 2 ≡ 0) at (free_even v (body c) is_free));
       }
 
@@ -129,6 +133,7 @@ module _ {fllen sllen : ℕ} {m : Space} {t : Table} {s : State} (v : StandsFor 
               let same = free_free w f (body c) a k is_free hf hb in
               true≢false (sym (ap (lies_within c) same ∙ lies_within-le c (body c) (omega arith) (omega arith)) ∙ outside)));
           table = subst (HasTable fllen sllen n x) (sym left) out.list.table;
+          own = v.own;
         }
       where
         no_link : IsLink s.free (c.start + 8) → ⊥

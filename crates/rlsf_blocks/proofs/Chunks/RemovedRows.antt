@@ -5,6 +5,7 @@ use Rattle.std.proofs.lemmas.Bool.{cases_lt, false_from_ne_true}
 use Rattle.rlsf_base.specs.declared.memory.range.Range.{Range}
 use Rattle.rlsf_base.specs.Range.{end_of}
 use Rattle.rlsf_base.specs.Space.{Space, SamePlace}
+use Rattle.rlsf_table.specs.Counts.{Costs}
 use Rattle.rlsf_table.specs.Table.{Table}
 use Rattle.rlsf_blocks.specs.Spare.{KeepsSpare}
 use Rattle.rlsf_blocks.specs.StandsFor.{contents, StandsFor}
@@ -82,7 +83,7 @@ module _ {fllen sllen : ℕ} {m0 : Space} {t0 : Table} {s : State} (v : StandsFo
                 let is = chunk_chunk v.well_formed c d q.start i j (record { from = omega arith; to = past }) (record { from = at; to = high }) in
                 absurd (omega (arith, ap (λ x. x.start) is, low))
           ];
-          place = (refl, refl);
+          place = (refl, refl, refl, λ none. none);
           touches = omega (arith, ap (λ (x : State). length x.chunks) same);
           grow = omega arith;
           copied = refl;
@@ -146,8 +147,8 @@ module _ {fllen sllen : ℕ} {m0 : Space} {t0 : Table} {s : State} (v : StandsFo
       -- it was taken out
       pub IsRemovedTo-next : {n : Space} {other : Table} {end : ℕ}
           → StandsFor fllen sllen (contents n other) (removed chunk (removed (between q.start start) s)) × KeepsSpare m (removed (between q.start start) s) n (removed (between q.start start) s) × (end_of chunk ≡ end)
-          → SamePlace m n → n.touches ≤ m.touches + 9 → m.touches ≤ n.touches → n.copied ≡ m.copied → IsRemovedTo fllen sllen m0 s q n other end
-      IsRemovedTo-next {n} {other} {end} (stands, spare, at) place touches grow copied =
+          → Costs m n 9 0 → IsRemovedTo fllen sllen m0 s q n other end
+      IsRemovedTo-next {n} {other} {end} (stands, spare, at) costs =
           let next = removed-next end at in
           record {
             from = omega (arith, is.from, at, past);
@@ -163,16 +164,16 @@ module _ {fllen sllen : ℕ} {m0 : Space} {t0 : Table} {s : State} (v : StandsFo
                   let same = chunk_chunk v.well_formed c chunk c.start i is_chunk (record { from = omega arith; to = omega arith }) (record { from = omega (arith, begins); to = omega (arith, at) }) in
                   omega (arith, ap (λ x. end_of x) same, at)
             ];
-            place = (place.0 ∙ is.place.0, place.1 ∙ is.place.1);
+            place = (costs.start ∙ is.place.0, costs.length ∙ is.place.1, costs.view ∙ is.place.2, λ none. costs.none (is.place.3 none));
             touches = omega (
               arith,
-              touches,
+              costs.touches,
               is.touches,
               ap (λ (x : State). length x.chunks) next,
               length-outside_of_one chunk chunk (outside_of (between q.start start) s.chunks) still_there (lies_within-le chunk chunk (omega arith) (omega arith)),
             );
-            grow = omega (arith, is.grow, grow);
-            copied = copied ∙ is.copied;
+            grow = omega (arith, is.grow, costs.grow);
+            copied = omega (arith, is.copied, costs.copied);
           }
 
     -- at the end all are taken out

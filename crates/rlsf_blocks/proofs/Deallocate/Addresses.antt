@@ -1,11 +1,15 @@
 -- Where the block of a payload begins, by its alignment.
+use Rattle.rlsf_base.proofs.Lending.Here.{is_word}
+use Rattle.rlsf_base.proofs.Lending.Present.{own-word}
+use Rattle.rlsf_blocks.proofs.Words.Here.{here_front}
 use Rattle.std.proofs.Common.{◌≡◌, ℕ, ◌+◌, ◌-◌, ◌^◌, ◌<◌, ◌≤◌, arith, sym, ◌∙◌, ap}
-use Rattle.rlsf_base.specs.Space.{Space, IsWord, word_at}
+use Rattle.rlsf_base.specs.Space.{Space, word_at}
+use Rattle.rlsf_base.specs.OpenSpace.{IsReadable}
 use Rattle.rlsf_base.proofs.Numbers.PowersOfTwo.{IsPowerOfTwo-le}
 use Rattle.rlsf_table.specs.Table.{Table}
 use Rattle.rlsf_blocks.specs.StandsFor.{contents, StandsFor}
 use Rattle.rlsf_machine.specs.Lists.{IsIn}
-use Rattle.rlsf_machine.specs.State.{State, Used}
+use Rattle.rlsf_machine.specs.State.{State, Used, between}
 use Rattle.rlsf_machine.proofs.Payloads.{payload_of-le, IsUsed-aligned, IsUsed-after_start}
 use Rattle.rlsf_blocks.proofs.Words.Apart.{used_in_memory}
 use Rattle.rlsf_blocks.proofs.Words.Frames.{wide_whole}
@@ -22,10 +26,11 @@ module _ {fllen sllen : ℕ} {m : Space} {t : Table} {s : State} (v : StandsFor 
   wide_start wide = ap (λ p. word_at m (p - 8)) (sym at) ∙ v.payloads.pad u i (omega arith)
 
   -- the word before the payload lies in the memory
-  pub IsWord-before : 32 ≤ align → IsWord m (payload - 8)
-  IsWord-before wide =
+  pub IsReadable-before : 32 ≤ align → IsReadable m (payload - 8)
+  IsReadable-before wide =
       let used = v.well_formed.used u i in
       let place = used_in_memory v.well_formed u i in
       let granule = wide_whole u.payload u.align used.power (omega arith) (IsUsed-aligned u used) in
       let after_start = IsUsed-after_start u used in
-      (omega (arith, granule), (omega (arith, place.0), omega (arith, place.1, used.within)))
+      let bound : word_at m (payload - 8) < 2 ^ 64 = omega (arith, wide_start wide, place.1, v.well_formed.addressable, used.within) in
+      is_word m (payload - 8) (omega (arith, granule), (omega (arith, place.0), omega (arith, place.1, used.within)), own-word m (between u.block.start u.payload) (payload - 8) (here_front v u i) (omega (arith, at, after_start)) (omega (arith, at, after_start))) bound

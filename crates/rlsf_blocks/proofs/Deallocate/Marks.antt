@@ -1,10 +1,19 @@
 -- The words at the neighbours of a used block tell if they are free.
+use Rattle.rlsf_base.proofs.Lending.Here.{is_word}
+use Rattle.rlsf_base.proofs.Lending.Present.{own-there}
+use Rattle.std.proofs.Common.{◌<◌, ◌^◌}
+use Rattle.rlsf_base.proofs.Lending.Present.{own-word}
+use Rattle.rlsf_base.specs.Range.{range_at}
+use Rattle.rlsf_base.specs.Space.{word_range}
+use Rattle.rlsf_machine.specs.State.{between}
+use Rattle.rlsf_machine.proofs.Payloads.{IsUsed-after_start}
+use Rattle.rlsf_blocks.proofs.Words.Here.{here_free, here_front, here_behind_used}
 use Rattle.std.proofs.Common.{◌≡◌, ◌≢◌, ◌↔◌, ℕ, eqb, false, ◌+◌, ◌-◌, ◌%◌, ◌<◌, ◌≤◌, Some, None, find, arith, inl, inr, sym, ◌∙◌, ap, subst}
 use Rattle.std.proofs.lemmas.Bool.{eq-eqb, eqb-true, ne_eqb}
 use Rattle.rlsf_base.specs.declared.memory.range.Range.{Range}
 use Rattle.rlsf_base.specs.Range.{end_of}
 use Rattle.rlsf_base.specs.Space.{Space, word_at}
-use Rattle.rlsf_table.specs.FreeList.{IsLink}
+use Rattle.rlsf_table.specs.Rewrites.{IsLink}
 use Rattle.rlsf_table.specs.FreeTable.{IsFreeTable}
 use Rattle.rlsf_table.specs.Table.{Table}
 use Rattle.rlsf_table.proofs.FreeLists.Found.{find-one, find-no, find-start, find-no_start, without-same}
@@ -84,6 +93,15 @@ module _ {fllen sllen : ℕ} {m : Space} {t : Table} {s : State} (v : StandsFor 
         go (used_before x j end) = names_used x j (is ∙ ap (λ a. word_at m (a + 8)) (sym end) ∙ v.previous.used x j) (no_other_end x j end)
         go (none_before c j start) = names_none (is ∙ ap (λ a. word_at m (a + 8)) (sym start) ∙ v.previous.first c j) (no_end_before c j start)
 
+    -- the word that tells it is one
+    pub previous-fits : word_at m (b + 8) < 2 ^ 64
+    previous-fits = subst (λ n. n < 2 ^ 64) is (go named)
+      where
+        go : Named m s b previous → previous < 2 ^ 64
+        go (names_free f j end same found) = omega (arith, same, (free_in_memory v.well_formed f j).1, v.well_formed.addressable)
+        go (names_used x j same e) = omega (arith, same, (used_in_memory v.well_formed x j).1, v.well_formed.addressable)
+        go (names_none zero e) = omega (arith, zero)
+
     some_previous : (f : Range) → IsIn f s.free → previous ≡ f.start → previous ≢ 0
     some_previous f j same none = omega (arith, (free_in_memory v.well_formed f j).0, v.nonzero)
 
@@ -91,13 +109,13 @@ module _ {fllen sllen : ℕ} {m : Space} {t : Table} {s : State} (v : StandsFor 
     some_used x j same none = omega (arith, (used_in_memory v.well_formed x j).0, v.nonzero)
 
     -- no block is before it
-    pub IsPreviousOut-none : (n : Space) → n.start ≡ m.start → n.bytes ≡ m.bytes → previous ≡ 0 → IsPreviousOut fllen sllen m n t s.free b b
-    IsPreviousOut-none n start bytes none = go named
+    pub IsPreviousOut-none : (n : Space) → n.start ≡ m.start → n.bytes ≡ m.bytes → n.out ≡ m.out → previous ≡ 0 → IsPreviousOut fllen sllen m n t s.free b b
+    IsPreviousOut-none n start bytes out none = go named
       where
         missing : find (ends_at b) s.free ≡ None → IsPreviousOut fllen sllen m n t s.free b b
         missing e = record {
-          rewrites = Rewrites-counted m n start bytes (IsLink s.free);
-          list = subst (IsFreeTable fllen sllen n t) (sym (without-none (ends_at b) s.free e)) (IsFreeTable-counted m n start bytes (IsFreeTable-free v));
+          rewrites = Rewrites-counted m n start bytes out (IsLink s.free);
+          list = subst (IsFreeTable fllen sllen n t) (sym (without-none (ends_at b) s.free e)) (IsFreeTable-counted m n start bytes out (IsFreeTable-free v));
           begins = sym (ap (start_or b) e);
         }
 
@@ -115,7 +133,7 @@ module _ {fllen sllen : ℕ} {m : Space} {t : Table} {s : State} (v : StandsFor 
             let is = v.well_formed.free f j in
             let place = free_in_memory v.well_formed f j in
             record {
-              word = (omega (arith, is.whole.start), (omega (arith, place.0), omega (arith, place.1)));
+              word = is_word m previous (omega (arith, is.whole.start), (omega (arith, place.0), omega (arith, place.1)), own-word m f previous (here_free v f j) (omega (arith, same)) (omega (arith, same, is.some, is.whole.len))) (subst (λ a. word_at m a < 2 ^ 64) (sym same) (omega (arith, v.sizes.free f j, place.1, v.well_formed.addressable)));
               mark = (λ even. (f, j, sym same), λ begins. ap (λ a. word_at m a % 2) same ∙ free_even f j);
             }
         go (names_used x j same e) =
@@ -123,7 +141,7 @@ module _ {fllen sllen : ℕ} {m : Space} {t : Table} {s : State} (v : StandsFor 
             let place = used_in_memory v.well_formed x j in
             let odd = ap (λ a. word_at m a % 2) same ∙ used_odd x j in
             record {
-              word = (omega (arith, is.whole.start), (omega (arith, place.0), omega (arith, place.1)));
+              word = is_word m previous (omega (arith, is.whole.start), (omega (arith, place.0), omega (arith, place.1)), own-word m (between x.block.start x.payload) previous (here_front v x j) (omega (arith, same)) (omega (arith, same, IsUsed-after_start x is))) (subst (λ a. word_at m a < 2 ^ 64) (sym same) (omega (arith, v.sizes.used x j, place.1, v.well_formed.addressable)));
               mark = (λ even. absurd (omega (arith, odd, even)), λ begins. absurd (used_begins x j previous (sym same) begins));
             }
         go (names_none none e) = absurd (some none)
@@ -192,6 +210,12 @@ module _ {fllen sllen : ℕ} {m : Space} {t : Table} {s : State} (v : StandsFor 
     still : (a : ℕ) → FreeBlockBegins (without (ends_at b) s.free) a → FreeBlockBegins s.free a
     still a (f, j, same) = (f, IsIn-without (ends_at b) f s.free j, same)
 
+    -- the word there is one
+    behind-fits : (e : ℕ) → Behind s e → word_at m e < 2 ^ 64
+    behind-fits e (free_behind f j begin) = subst (λ a. word_at m a < 2 ^ 64) begin (omega (arith, v.sizes.free f j, (free_in_memory v.well_formed f j).1, v.well_formed.addressable))
+    behind-fits e (used_behind x j begin) = subst (λ a. word_at m a < 2 ^ 64) begin (omega (arith, v.sizes.used x j, (used_in_memory v.well_formed x j).1, v.well_formed.addressable))
+    behind-fits e (last_behind c j begin) = subst (λ a. word_at m a < 2 ^ 64) begin (omega (arith, v.sizes.sentinel c j))
+
     -- the block behind it is marked
     pub IsMarked-behind : (e : ℕ) → end_of u.block ≡ e → IsMarked n (without (ends_at b) s.free) e
     IsMarked-behind e end =
@@ -199,7 +223,7 @@ module _ {fllen sllen : ℕ} {m : Space} {t : Table} {s : State} (v : StandsFor 
         let place = used_in_memory v.well_formed u i in
         let whole : e % 32 ≡ 0 = omega (arith, end, is.whole.start, is.whole.len) in
         record {
-          word = (omega (arith, whole), (omega (arith, end, place.0, out.rewrites.start), omega (arith, end, place.1, out.rewrites.start, out.rewrites.length)));
+          word = is_word n e (omega (arith, whole), (omega (arith, end, place.0, out.rewrites.start), omega (arith, end, place.1, out.rewrites.start, out.rewrites.length)), own-there m n (word_range e) (omega (arith, end, place.0)) out.rewrites.own (own-word m (range_at (end_of u.block) 16) e (here_behind_used v u i) (omega (arith, end)) (omega (arith, end)))) (subst (λ a. a < 2 ^ 64) (sym (kept e whole (omega (arith, end, place.0)))) (behind-fits e (subst (Behind s) end (behind_used v.well_formed u i))));
           mark = go (kept e whole (omega (arith, end, place.0))) (subst (Behind s) end (behind_used v.well_formed u i));
         }
       where

@@ -2,7 +2,7 @@
 use Rattle.std.proofs.Common.{◌≡◌, ◌≢◌, ◌↔◌, ℕ, ◌%◌, Bool, false, true≢false, IsTrue, List, ◌∷◌, ◌++◌, arith, sym, ◌∙◌, ap, subst}
 use Rattle.rlsf_base.specs.declared.memory.range.Range.{Range}
 use Rattle.rlsf_base.specs.Space.{Space, word_at}
-use Rattle.rlsf_table.specs.FreeList.{IsLink, Rewrites}
+use Rattle.rlsf_table.specs.Rewrites.{IsLink, Rewrites}
 use Rattle.rlsf_table.specs.FreeTable.{IsFreeTable}
 use Rattle.rlsf_table.specs.Table.{Table, HasTable}
 use Rattle.rlsf_table.proofs.FreeLists.Chains.{find-split}
@@ -44,11 +44,11 @@ module _ {fllen sllen : ℕ} {m : Space} {t : Table} {block : ℕ} {free : List 
       }
 
   -- no free block begins there
-  pub IsNextOut-none : (n : Space) → n.start ≡ m.start → n.bytes ≡ m.bytes → {size : ℕ} → size ≡ word_at m block → size % 2 ≡ 1 → IsNextOut fllen sllen m n t free block 0
-  IsNextOut-none n start bytes {size} is odd =
+  pub IsNextOut-none : (n : Space) → n.start ≡ m.start → n.bytes ≡ m.bytes → n.out ≡ m.out → {size : ℕ} → size ≡ word_at m block → size % 2 ≡ 1 → IsNextOut fllen sllen m n t free block 0
+  IsNextOut-none n start bytes out {size} is odd =
       let none = find-no_start free block (λ f i at. omega (arith, ap (λ w. w % 2) is, marked.mark.1 (f, i, at))) in
       record {
-        rewrites = Rewrites-counted m n start bytes (IsLink free);
-        list = subst (IsFreeTable fllen sllen n t) (sym (without-none (starts_at block) free none)) (IsFreeTable-counted m n start bytes list);
+        rewrites = Rewrites-counted m n start bytes out (IsLink free);
+        list = subst (IsFreeTable fllen sllen n t) (sym (without-none (starts_at block) free none)) (IsFreeTable-counted m n start bytes out list);
         end = omega arith ∙ sym (ap (end_or block) none);
       }

@@ -1,9 +1,15 @@
 -- The writes that put a free block in front of its class.
+use Rattle.rlsf_base.proofs.Lending.Present.{own-there}
+use Rattle.rlsf_base.specs.OpenSpace.{out_with}
+use Rattle.rlsf_base.specs.Range.{range_at}
+use Rattle.rlsf_base.proofs.Lending.Present.{own-word}
+use Rattle.rlsf_base.specs.Space.{word_range}
+use Rattle.rlsf_base.specs.OpenSpace.{IsOwned}
 use Rattle.std.proofs.Common.{◌≡◌, ◌≢◌, ℕ, ◌+◌, ◌%◌, ◌<◌, ◌≤◌, ◌⊎◌, List, ◌∷◌, arith, inl, inr, sym, ◌∙◌, ap, subst}
 use Rattle.rlsf_base.specs.declared.memory.range.Range.{Range}
 use Rattle.rlsf_base.specs.Range.{end_of}
 use Rattle.rlsf_base.specs.Space.{Space, word_at, with_word}
-use Rattle.rlsf_table.specs.FreeList.{IsLink, Rewrites}
+use Rattle.rlsf_table.specs.Rewrites.{IsLink, Rewrites}
 use Rattle.rlsf_table.specs.FreeTable.{IsFreeTable, IsRoom}
 use Rattle.rlsf_table.specs.Table.{Table, HasTable}
 use Rattle.rlsf_table.proofs.Tables.FreeTables.{IsFreeTable-Rewrites}
@@ -22,16 +28,19 @@ pub record ArePut (m m1 m2 : Space) (r : Range) : Type 0 where
   pub two : IsWrite m1 m2 (end_of r + 8) r.start
 
 pub ArePut-from : {fllen sllen : ℕ} {m m1 m2 : Space} {t : Table} {free : List Range} (block len : ℕ) (r : Range) → IsInnerRoom fllen sllen m t free r → r.start ≡ block → r.len ≡ len
-    → (m1.start ≡ m.start) × (m1.bytes ≡ with_word m block len) → (m2.start ≡ m1.start) × (m2.bytes ≡ with_word m1 (block + len + 8) block) → ArePut m m1 m2 r
+    → (m1.start ≡ m.start) × (m1.bytes ≡ with_word m block len) × (m1.out ≡ out_with m (word_range block)) → (m2.start ≡ m1.start) × (m2.bytes ≡ with_word m1 (block + len + 8) block) × (m2.out ≡ out_with m1 (word_range (block + len + 8))) → ArePut m m1 m2 r
 ArePut-from {m = m} {m1 = m1} {m2 = m2} block len r inner start length e1 e2 =
     let inside = inner.room.placed.lies_in in
     let whole = inner.room.block.whole in
     let not_last = inner.not_last in
     let addressable = inner.room.list.addressable in
     let end : block + len ≡ end_of r = omega arith in
-    let w1 : IsWrite m m1 block len = write (omega arith, (omega arith, omega arith)) e1.0 e1.1 (omega arith) in
-    let l1 = (Rewrites-word m m1 block len w1.placed w1.start w1.bytes).length in
-    let w2 : IsWrite m1 m2 (block + len + 8) block = write (omega arith, (omega arith, omega arith)) e2.0 e2.1 (omega arith) in
+    let large = inner.room.placed.room in
+    let h1 : IsOwned m (word_range block) = own-word m r block inner.room.placed.own (omega arith) (omega (arith, large)) in
+    let w1 : IsWrite m m1 block len = write (omega arith, (omega arith, omega arith), h1) e1.0 e1.1 (omega arith) e1.2 in
+    let l1 = (Rewrites-word m m1 block len w1.placed w1.start w1.bytes w1.out).length in
+    let h2 : IsOwned m1 (word_range (block + len + 8)) = own-there m m1 (word_range (block + len + 8)) (omega arith) (rewrites_of w1).own (own-word m (range_at (end_of r) 16) (block + len + 8) inner.behind (omega arith) (omega arith)) in
+    let w2 : IsWrite m1 m2 (block + len + 8) block = write (omega arith, (omega arith, omega arith), h2) e2.0 e2.1 (omega arith) e2.2 in
     record {
       one = subst (λ a. IsWrite m m1 a r.len) (sym start) (subst (λ n. IsWrite m m1 block n) (sym length) w1);
       two = subst (λ a. IsWrite m1 m2 (end_of r + 8) a) (sym start) (subst (λ a. IsWrite m1 m2 (a + 8) block) end w2);

@@ -1,10 +1,13 @@
 -- A used block was joined with its free neighbours: the value stands for the state without it.
+use Rattle.rlsf_base.proofs.Lending.Present.{own-there}
+use Rattle.rlsf_blocks.proofs.Words.Here.{here_free-in, here_behind_free-in, here_released}
 use Rattle.std.proofs.Common.{◌≡◌, ℕ, ◌+◌, ◌-◌, ◌≤◌, ◌⊎◌, length, arith, inl, inr, refl, sym, ◌∙◌, ap, subst}
 use mathlib.Core.Path.{ap₂}
 use Rattle.rlsf_base.specs.declared.memory.range.Range.{Range}
-use Rattle.rlsf_base.specs.Range.{end_of}
+use Rattle.rlsf_base.specs.Range.{end_of, range_at}
 use Rattle.rlsf_base.specs.Space.{Space, range_of, word_at}
-use Rattle.rlsf_table.specs.FreeList.{IsLink, Rewrites}
+use Rattle.rlsf_base.specs.OpenSpace.{IsOwned}
+use Rattle.rlsf_table.specs.Rewrites.{IsLink, Rewrites}
 use Rattle.rlsf_table.specs.Table.{Table}
 use Rattle.rlsf_table.proofs.Words.Writes.{Rewrites-trans, Rewrites-weaken}
 use Rattle.rlsf_blocks.specs.Spare.{KeepsSpare}
@@ -15,7 +18,7 @@ use Rattle.rlsf_blocks.specs.Steps.Rest.{IsInnerRoom}
 use Rattle.rlsf_machine.specs.Join.{ends_at, starts_at, join}
 use Rattle.rlsf_machine.specs.Lists.{IsIn, without}
 use Rattle.rlsf_machine.specs.Release.{released}
-use Rattle.rlsf_machine.specs.State.{State, Used, others}
+use Rattle.rlsf_machine.specs.State.{State, Used, others, usable}
 use Rattle.rlsf_machine.specs.WellFormed.{itself, IsFree, IsWellFormed}
 use Rattle.rlsf_machine.proofs.Changes.{IsIn-others}
 use Rattle.rlsf_machine.proofs.Coverage.{covers-inside, coverage-IsIn, IsIn-without}
@@ -76,8 +79,8 @@ module _ {fllen sllen : ℕ} {m : Space} {t : Table} {s : State} (v : StandsFor 
         among a (inl l) = l
         among a (inr (f, j, at)) = (f, IsIn-without (ends_at u.block.start) f s.free j, at)
 
-    pub IsInnerRoom-union : IsInnerRoom fllen sllen m2 t2 (untouched u.block s.free) (union u.block s.free)
-    IsInnerRoom-union =
+    pub IsInnerRoom-union : IsOwned m (usable u) → IsInnerRoom fllen sllen m2 t2 (untouched u.block s.free) (union u.block s.free)
+    IsInnerRoom-union own =
         let is = is_free in
         let place = free_in_memory t_well_formed (union u.block s.free) (inl refl) in
         let moved = gone in
@@ -90,10 +93,12 @@ module _ {fllen sllen : ℕ} {m : Space} {t : Table} {s : State} (v : StandsFor 
               whole = is.whole.start;
               room = omega (arith, is.some, is.whole.len);
               lies_in = (omega (arith, place.0, moved.start), omega (arith, place.1, moved.start, moved.length));
+              own = own-there m m2 (union u.block s.free) (omega arith) moved.own (here_free-in m t_well_formed (here_released v u i own) (union u.block s.free) (inl refl));
             };
             apart = λ a. free-le (released s u) (tiling_of t_well_formed) a;
           };
           not_last = omega (arith, place.1, moved.start, moved.length);
+          behind = own-there m m2 (range_at (end_of (union u.block s.free)) 16) (omega arith) moved.own (here_behind_free-in m t_well_formed (here_released v u i own) (union u.block s.free) (inl refl));
         }
 
     -- and their union with it was put in front
@@ -101,8 +106,8 @@ module _ {fllen sllen : ℕ} {m : Space} {t : Table} {s : State} (v : StandsFor 
       was_free : (f : Range) → IsIn f (untouched u.block s.free) → IsIn f s.free
       was_free f j = IsIn-without (ends_at u.block.start) f s.free (IsIn-without (starts_at (end_of u.block)) f (without (ends_at u.block.start) s.free) j)
 
-      pub IsRefilled-released : IsRefilled fllen sllen m n x s (others u.payload s.used) (join u.block s.free) (union u.block s.free)
-      IsRefilled-released =
+      pub IsRefilled-released : IsOwned m (usable u) → IsRefilled fllen sllen m n x s (others u.payload s.used) (join u.block s.free) (union u.block s.free)
+      IsRefilled-released own =
           let is = is_free in
           let place = free_in_memory t_well_formed (union u.block s.free) (inl refl) in
           record {
@@ -111,6 +116,7 @@ module _ {fllen sllen : ℕ} {m : Space} {t : Table} {s : State} (v : StandsFor 
             used_still = λ y j. old_used (IsIn-others u.payload y s.used j).0 (λ a hy hu. used_free t_well_formed y (union u.block s.free) a j (inl refl) hy hu);
             free_still = still;
             table = put.table;
+            own = here_released v u i own;
           }
         where
           joined : (a : ℕ) → IsLink s.free a ⊎ Touched (untouched u.block s.free) (union u.block s.free) (end_of (union u.block s.free) + 8) a → Touched s.free (union u.block s.free) (end_of (union u.block s.free) + 8) a
@@ -129,10 +135,10 @@ module _ {fllen sllen : ℕ} {m : Space} {t : Table} {s : State} (v : StandsFor 
               old_free (was_free f j)
               (λ a hf hu. omega (arith, free-le (released s u) (tiling_of t_well_formed) a, covers-inside (union u.block s.free) a hu.from hu.to, covers-inside f a hf.from hf.to, coverage-IsIn itself f (untouched u.block s.free) a j))
 
-      pub released_stands : StandsFor fllen sllen (contents n x) (released s u) × KeepsSpare m s n (released s u)
-      released_stands =
+      pub released_stands : IsOwned m (usable u) → StandsFor fllen sllen (contents n x) (released s u) × KeepsSpare m s n (released s u)
+      released_stands own =
           let is = is_free in
-          let refilled = IsRefilled-released in
+          let refilled = IsRefilled-released own in
           let same : range_of n ≡ range_of m = ap₂ (λ a l. record { start = a; len = l }) refilled.rewrites.start refilled.rewrites.length in
           let well_formed = subst (λ p. IsWellFormed fllen sllen p (released s u)) (sym same) t_well_formed in (
             StandsFor-refilled v (union u.block s.free) is.whole is.some home refilled well_formed,

@@ -1,11 +1,13 @@
 -- What an append does, by the greatest length of a chunk.
-use Rattle.std.proofs.Common.{◌≡◌, ℕ, zero, suc, ◌+◌, ◌*◌, ◌/◌, ◌^◌, ◌<◌, ◌≤◌, true, false, List, [], ◌∷◌, length, Option, Some, None, find, true≢false, arith, refl, sym, ◌∙◌, ap, subst, inl, inr}
+use Rattle.std.proofs.Common.{◌≡◌, ℕ, zero, suc, ◌+◌, ◌*◌, ◌/◌, ◌^◌, ◌<◌, true, false, List, [], ◌∷◌, length, Option, Some, None, find, true≢false, arith, refl, sym, ◌∙◌, ap, subst, inl, inr}
 use Rattle.std.proofs.lemmas.Bool.{eq-eqb, eqb-true}
 use Rattle.std.specs.Option.{is_some}
 use Rattle.std.specs.Prelude.{if◌then◌else◌}
 use Rattle.rlsf_base.specs.declared.memory.range.Range.{Range}
 use Rattle.rlsf_base.specs.Range.{end_of}
 use Rattle.rlsf_base.specs.Sizes.{max_pool_size}
+use Rattle.rlsf_base.specs.Space.{Space}
+use Rattle.rlsf_table.specs.Counts.{Costs}
 use Rattle.rlsf_machine.specs.Insert.{aligned_part, appended, appended_bytes, bytes_taken, cut, extended, grown, grown_if, total_length, with_chunks, Appends, Inserts, IsNext}
 use Rattle.rlsf_machine.specs.Join.{ends_at}
 use Rattle.rlsf_machine.specs.State.{State}
@@ -21,15 +23,15 @@ some_most fllen is = elim (max_pool-cases fllen) [ inl some ↦ some | inr (none
 pub no_most : (fllen : ℕ) → is_some (max_pool_size fllen) ≡ false → max_pool_size fllen ≡ None
 no_most fllen is = elim (max_pool-cases fllen) [ inl some ↦ absurd (true≢false (sym (ap is_some some) ∙ is)) | inr (none, large) ↦ none ]
 
--- the touches of an append, where the range becomes chunks of its own
-pub touches-cut : (fllen : ℕ) (r : Range) (old new : ℕ) → is_some (max_pool_size fllen) ≡ true → new ≤ old + 13 * length (cut (max_pool_size fllen) (aligned_part r))
-    → new ≤ old + (if is_some (max_pool_size fllen) then 13 * length (cut (max_pool_size fllen) (aligned_part r)) else 34)
-touches-cut fllen r old new is few = let of = 13 * length (cut (max_pool_size fllen) (aligned_part r)) in subst (λ b. new ≤ old + (if b then of else 34)) (sym is) few
+-- what an append costs, where the range becomes chunks of its own
+pub Costs-cut : (fllen : ℕ) (r : Range) {m n : Space} → is_some (max_pool_size fllen) ≡ true → Costs m n (13 * length (cut (max_pool_size fllen) (aligned_part r))) 0
+    → Costs m n (if is_some (max_pool_size fllen) then 13 * length (cut (max_pool_size fllen) (aligned_part r)) else 34) 0
+Costs-cut fllen r {m} {n} is costs = let of = 13 * length (cut (max_pool_size fllen) (aligned_part r)) in subst (λ b. Costs m n (if b then of else 34) 0) (sym is) costs
 
 -- and where a chunk grows
-pub touches-grown : (fllen : ℕ) (r : Range) (old new : ℕ) → is_some (max_pool_size fllen) ≡ false → new ≤ old + 34
-    → new ≤ old + (if is_some (max_pool_size fllen) then 13 * length (cut (max_pool_size fllen) (aligned_part r)) else 34)
-touches-grown fllen r old new is few = let of = 13 * length (cut (max_pool_size fllen) (aligned_part r)) in subst (λ b. new ≤ old + (if b then of else 34)) (sym is) few
+pub Costs-grown : (fllen : ℕ) (r : Range) {m n : Space} → is_some (max_pool_size fllen) ≡ false → Costs m n 34 0
+    → Costs m n (if is_some (max_pool_size fllen) then 13 * length (cut (max_pool_size fllen) (aligned_part r)) else 34) 0
+Costs-grown fllen r {m} {n} is costs = let of = 13 * length (cut (max_pool_size fllen) (aligned_part r)) in subst (λ b. Costs m n (if b then of else 34) 0) (sym is) costs
 
 -- ---- chunks of their own
 

@@ -1,4 +1,10 @@
 -- The writes that make a chunk longer: the value stands for the state with a used block more, and then for that of the grown chunk.
+use Rattle.rlsf_base.proofs.Lending.Present.{own-there}
+use Rattle.rlsf_base.specs.OpenSpace.{out_with}
+use Rattle.rlsf_base.proofs.Lending.Present.{own-word, own-inside}
+use Rattle.rlsf_base.specs.Space.{word_range}
+use Rattle.rlsf_base.specs.OpenSpace.{IsOwned}
+use Rattle.rlsf_blocks.proofs.Words.Here.{here_longer}
 use Rattle.std.proofs.Common.{◌≡◌, ℕ, ◌+◌, ◌-◌, ◌%◌, ◌^◌, ◌<◌, ◌≤◌, ◌⊎◌, List, ◌∷◌, length, arith, inl, inr, refl, sym, ◌∙◌, ap, subst}
 use mathlib.Core.Path.{ap₂}
 use Rattle.std.proofs.lemmas.Bool.{cases_eq, cases_lt}
@@ -16,7 +22,7 @@ use Rattle.rlsf_blocks.specs.InBand.{sentinel_of}
 use Rattle.rlsf_blocks.specs.Spare.{IsSpare, KeepsSpare}
 use Rattle.rlsf_blocks.specs.StandsFor.{contents, StandsFor}
 use Rattle.rlsf_blocks.specs.Steps.Extension.{IsExtensible, lengthened, more_block}
-use Rattle.rlsf_table.specs.FreeList.{Rewrites}
+use Rattle.rlsf_table.specs.Rewrites.{Rewrites}
 use Rattle.rlsf_blocks.specs.Steps.Touched.{Touched, in_hole}
 use Rattle.rlsf_table.specs.Table.{Table}
 use Rattle.rlsf_blocks.proofs.Allocate.Placements.{length-bytes_in}
@@ -65,9 +71,16 @@ module _ {fllen sllen : ℕ} {m : Space} {table : Table} {s : State} (v : Stands
         addressable = v.well_formed.addressable;
       }
 
+  -- what the chunk has more, from its old last bytes on
+  abbrev pub extension : Range
+  extension = range_at (end_of c - 32) (32 + len)
+
+  pub here_extension : IsOwned m extension
+  here_extension = here_longer v c (is_chunk v.well_formed c len is) len is.fresh.apart
+
   pub AreExtended-from : {m1 m2 m3 : Space} {end : ℕ} → end_of c ≡ end
-      → (m1.start ≡ m.start) × (m1.bytes ≡ with_word m (end - 32) (len + 1)) → (m2.start ≡ m1.start) × (m2.bytes ≡ with_word m1 (end - 32 + len) 35)
-      → (m3.start ≡ m2.start) × (m3.bytes ≡ with_word m2 (end - 32 + len + 8) (end - 32)) → AreExtended m m1 m2 m3 c len
+      → (m1.start ≡ m.start) × (m1.bytes ≡ with_word m (end - 32) (len + 1)) × (m1.out ≡ out_with m (word_range (end - 32))) → (m2.start ≡ m1.start) × (m2.bytes ≡ with_word m1 (end - 32 + len) 35) × (m2.out ≡ out_with m1 (word_range (end - 32 + len)))
+      → (m3.start ≡ m2.start) × (m3.bytes ≡ with_word m2 (end - 32 + len + 8) (end - 32)) × (m3.out ≡ out_with m2 (word_range (end - 32 + len + 8))) → AreExtended m m1 m2 m3 c len
   AreExtended-from {m1} {m2} {m3} {end} at e1 e2 e3 =
       let start = placed.start in
       let granules = placed.length in
@@ -77,11 +90,14 @@ module _ {fllen sllen : ℕ} {m : Space} {table : Table} {s : State} (v : Stands
       let more = placed.more in
       let some = placed.some in
       let addressable = placed.addressable in
-      let w1 : IsWrite m m1 (end - 32) (len + 1) = write (omega arith, (omega arith, omega arith)) e1.0 e1.1 (omega arith) in
-      let l1 = (Rewrites-word m m1 (end - 32) (len + 1) w1.placed w1.start w1.bytes).length in
-      let w2 : IsWrite m1 m2 (end - 32 + len) 35 = write (omega arith, (omega arith, omega arith)) e2.0 e2.1 (omega arith) in
-      let l2 = (Rewrites-word m1 m2 (end - 32 + len) 35 w2.placed w2.start w2.bytes).length in
-      let w3 : IsWrite m2 m3 (end - 32 + len + 8) (end - 32) = write (omega arith, (omega arith, omega arith)) e3.0 e3.1 (omega arith) in
+      let h1 : IsOwned m (word_range (end - 32)) = own-word m extension (end - 32) here_extension (omega (arith, at)) (omega (arith, at)) in
+      let w1 : IsWrite m m1 (end - 32) (len + 1) = write (omega arith, (omega arith, omega arith), h1) e1.0 e1.1 (omega arith) e1.2 in
+      let l1 = (Rewrites-word m m1 (end - 32) (len + 1) w1.placed w1.start w1.bytes w1.out).length in
+      let h2 : IsOwned m1 (word_range (end - 32 + len)) = own-there m m1 (word_range (end - 32 + len)) (omega arith) (rewrites_of w1).own (own-word m extension (end - 32 + len) here_extension (omega (arith, at)) (omega (arith, at))) in
+      let w2 : IsWrite m1 m2 (end - 32 + len) 35 = write (omega arith, (omega arith, omega arith), h2) e2.0 e2.1 (omega arith) e2.2 in
+      let l2 = (Rewrites-word m1 m2 (end - 32 + len) 35 w2.placed w2.start w2.bytes w2.out).length in
+      let h3 : IsOwned m2 (word_range (end - 32 + len + 8)) = own-there m1 m2 (word_range (end - 32 + len + 8)) (omega arith) (rewrites_of w2).own (own-there m m1 (word_range (end - 32 + len + 8)) (omega arith) (rewrites_of w1).own (own-word m extension (end - 32 + len + 8) here_extension (omega (arith, at)) (omega (arith, at)))) in
+      let w3 : IsWrite m2 m3 (end - 32 + len + 8) (end - 32) = write (omega arith, (omega arith, omega arith), h3) e3.0 e3.1 (omega arith) e3.2 in
       let writes = λ (e : ℕ). IsWrite m m1 (e - 32) (len + 1) × IsWrite m1 m2 (e - 32 + len) 35 × IsWrite m2 m3 (e - 32 + len + 8) (e - 32) in
       let (one, two, three) = subst writes (sym at) (w1, w2, w3) in
       record { one = one; two = two; three = three }
@@ -90,6 +106,10 @@ module _ {fllen sllen : ℕ} {m : Space} {table : Table} {s : State} (v : Stands
   module _ {m1 m2 n : Space} (writes : AreExtended m m1 m2 n c len) where
     written : Rewrites m n (λ a. ((a ≡ sentinel_of c) ⊎ (a ≡ sentinel_of c + len)) ⊎ (a ≡ sentinel_of c + len + 8))
     written = Rewrites-trans (Rewrites-trans (rewrites_of writes.one) (rewrites_of writes.two)) (rewrites_of writes.three)
+
+    -- the new block's payload is here
+    pub here_more : IsOwned n (usable (more_block c len (more_bytes n c len)))
+    here_more = own-there m n (usable (more_block c len (more_bytes n c len))) (omega arith) written.own (own-inside m extension (usable (more_block c len (more_bytes n c len))) (omega arith) (omega (arith, placed.some)) here_extension)
 
     -- they stand in a hole from the old sentinel on
     abbrev hole : Range
@@ -208,6 +228,7 @@ module _ {fllen sllen : ℕ} {m : Space} {table : Table} {s : State} (v : Stands
       previous = record { used = previous_used; free = λ f i. free_way_back f i ∙ v.previous.free f i; first = previous_first };
       payloads = record { bytes = payload_bytes; pad = payload_pad };
       table = HasTable-Rewrites written (CanBeBlock-free v) (λ f i. (no_link f i 16 refl (omega arith), no_link f i 24 refl (omega arith))) v.table;
+      own = λ a from unlent. written.own a (omega (arith, written.start, from)) ∙ v.own a (omega (arith, written.start, from)) (λ x i. unlent x (inr i));
     }
       where
         no_link : (f : Range) → IsIn f s.free → (i : ℕ) → i % 32 ≡ i → 16 ≤ i → (((f.start + i ≡ sentinel_of c) ⊎ (f.start + i ≡ sentinel_of c + len)) ⊎ (f.start + i ≡ sentinel_of c + len + 8)) → ⊥

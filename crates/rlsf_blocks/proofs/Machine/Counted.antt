@@ -1,4 +1,5 @@
 -- The states that stand in a memory in which nothing but the counts has changed.
+use Rattle.rlsf_base.proofs.Lending.Present.{own-same}
 use Rattle.std.proofs.Common.{◌≡◌, ℕ, ◌+◌, arith, sym, ◌∙◌, ap, subst}
 use Rattle.rlsf_base.specs.Space.{Space}
 use Rattle.rlsf_machine.specs.State.{State, usable}
@@ -8,42 +9,43 @@ use Rattle.rlsf_table.proofs.FreeLists.Counted.{byte_at-counted, bytes_in-counte
 use Rattle.rlsf_blocks.specs.Spare.{KeepsSpare}
 use Rattle.rlsf_blocks.specs.StandsFor.{contents, StandsFor}
 
-module _ (m n : Space) (start : n.start ≡ m.start) (bytes : n.bytes ≡ m.bytes) where
+module _ (m n : Space) (start : n.start ≡ m.start) (bytes : n.bytes ≡ m.bytes) (out : n.out ≡ m.out) where
   -- ---- the states that stand in it
 
   pub StandsFor-counted : {fllen sllen : ℕ} {t : Table} {s : State} → StandsFor fllen sllen (contents m t) s → StandsFor fllen sllen (contents n t) s
   StandsFor-counted {fllen} {sllen} {t} {s} v = record {
     nonzero = omega (arith, start, v.nonzero);
-    well_formed = subst (λ memory. IsWellFormed fllen sllen memory s) (sym (range_of-counted m n start bytes)) v.well_formed;
+    well_formed = subst (λ memory. IsWellFormed fllen sllen memory s) (sym (range_of-counted m n start bytes out)) v.well_formed;
     sizes = record {
-      used = λ u i. word_at-counted m n start bytes _ ∙ v.sizes.used u i;
-      free = λ f i. word_at-counted m n start bytes _ ∙ v.sizes.free f i;
-      sentinel = λ c i. word_at-counted m n start bytes _ ∙ v.sizes.sentinel c i;
+      used = λ u i. word_at-counted m n start bytes out _ ∙ v.sizes.used u i;
+      free = λ f i. word_at-counted m n start bytes out _ ∙ v.sizes.free f i;
+      sentinel = λ c i. word_at-counted m n start bytes out _ ∙ v.sizes.sentinel c i;
     };
     previous = record {
-      used = λ u i. word_at-counted m n start bytes _ ∙ v.previous.used u i;
-      free = λ f i. word_at-counted m n start bytes _ ∙ v.previous.free f i;
-      first = λ c i. word_at-counted m n start bytes _ ∙ v.previous.first c i;
+      used = λ u i. word_at-counted m n start bytes out _ ∙ v.previous.used u i;
+      free = λ f i. word_at-counted m n start bytes out _ ∙ v.previous.free f i;
+      first = λ c i. word_at-counted m n start bytes out _ ∙ v.previous.first c i;
     };
-    payloads = record { bytes = λ u i. bytes_in-counted m n start bytes (usable u) ∙ v.payloads.bytes u i; pad = λ u i wide. word_at-counted m n start bytes _ ∙ v.payloads.pad u i wide };
-    table = HasTable-counted m n start bytes v.table;
+    payloads = record { bytes = λ u i. bytes_in-counted m n start bytes out (usable u) ∙ v.payloads.bytes u i; pad = λ u i wide. word_at-counted m n start bytes out _ ∙ v.payloads.pad u i wide };
+    table = HasTable-counted m n start bytes out v.table;
+    own = λ a from unlent. own-same m n start out a (omega (arith, start, from)) ∙ v.own a (omega (arith, start, from)) unlent;
   }
 
   -- ---- the spare bytes
 
   pub KeepsSpare-counted : (s t : State) → KeepsSpare m s n t
-  KeepsSpare-counted s t a from to before after = byte_at-counted m n start bytes a
+  KeepsSpare-counted s t a from to before after = byte_at-counted m n start bytes out a
 
   pub KeepsSpare-counted_first : (s t : State) (o : Space) → KeepsSpare n s o t → KeepsSpare m s o t
-  KeepsSpare-counted_first s t o h a from to before after = h a (omega (arith, start)) (omega (arith, start, length-counted m n start bytes)) before after ∙ byte_at-counted m n start bytes a
+  KeepsSpare-counted_first s t o h a from to before after = h a (omega (arith, start)) (omega (arith, start, length-counted m n start bytes out)) before after ∙ byte_at-counted m n start bytes out a
 
   pub KeepsSpare-counted_last : (s t : State) (o : Space) → KeepsSpare o s m t → KeepsSpare o s n t
-  KeepsSpare-counted_last s t o h a from to before after = byte_at-counted m n start bytes a ∙ h a from to before after
+  KeepsSpare-counted_last s t o h a from to before after = byte_at-counted m n start bytes out a ∙ h a from to before after
 
 module _ (m n : Space) (more : ℕ) (touched : n ≡ record m { touches = m.touches + more }) where
   -- more touches alone were counted
   pub StandsFor-touched : {fllen sllen : ℕ} {t : Table} {s : State} → StandsFor fllen sllen (contents m t) s → StandsFor fllen sllen (contents n t) s
-  StandsFor-touched = StandsFor-counted m n (ap (λ o. o.start) touched) (ap (λ o. o.bytes) touched)
+  StandsFor-touched = StandsFor-counted m n (ap (λ o. o.start) touched) (ap (λ o. o.bytes) touched) (ap (λ o. o.out) touched)
 
   pub KeepsSpare-touched_first : (s t : State) (o : Space) → KeepsSpare n s o t → KeepsSpare m s o t
-  KeepsSpare-touched_first = KeepsSpare-counted_first m n (ap (λ o. o.start) touched) (ap (λ o. o.bytes) touched)
+  KeepsSpare-touched_first = KeepsSpare-counted_first m n (ap (λ o. o.start) touched) (ap (λ o. o.bytes) touched) (ap (λ o. o.out) touched)

@@ -1,11 +1,12 @@
 -- The free blocks of a state that stands in a memory.
+use Rattle.rlsf_blocks.proofs.Words.Here.{here_free}
 use Rattle.std.proofs.Common.{ℕ, arith}
 use Rattle.rlsf_base.specs.declared.memory.range.Range.{Range}
 use Rattle.rlsf_base.specs.Space.{Space}
 use Rattle.rlsf_machine.specs.Lists.{IsIn}
 use Rattle.rlsf_machine.specs.State.{State}
 use Rattle.rlsf_machine.proofs.Tiling.{free-le, tiling_of}
-use Rattle.rlsf_table.specs.FreeList.{CanBeBlock}
+use Rattle.rlsf_table.specs.Rewrites.{CanBeBlock}
 use Rattle.rlsf_table.specs.FreeTable.{IsFreeTable}
 use Rattle.rlsf_table.specs.Table.{Table}
 use Rattle.rlsf_blocks.specs.StandsFor.{contents, StandsFor}
@@ -16,7 +17,7 @@ module _ {fllen sllen : ℕ} {m : Space} {t : Table} {s : State} (v : StandsFor 
   CanBeBlock-free f i =
       let is = v.well_formed.free f i in
       let place = free_in_memory v.well_formed f i in
-      record { some = omega (arith, v.nonzero, place.0); whole = is.whole.start; room = omega (arith, is.some, is.whole.len); lies_in = (place.0, omega (arith, place.1)) }
+      record { own = here_free v f i; some = omega (arith, v.nonzero, place.0); whole = is.whole.start; room = omega (arith, is.some, is.whole.len); lies_in = (place.0, omega (arith, place.1)) }
 
   pub IsFreeTable-free : IsFreeTable fllen sllen m t s.free
   IsFreeTable-free = record {

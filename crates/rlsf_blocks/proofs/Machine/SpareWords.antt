@@ -3,30 +3,31 @@ use Rattle.std.proofs.Common.{◌≡◌, ◌≢◌, ℕ, ◌+◌, ◌-◌, ◌%�
 use Rattle.std.proofs.lemmas.Bool.{cases_lt}
 use Rattle.rlsf_base.specs.declared.memory.range.Range.{Range}
 use Rattle.rlsf_base.specs.Range.{end_of}
-use Rattle.rlsf_base.specs.Space.{Space, bytes_in, range_of, with_word, word_at}
+use Rattle.rlsf_base.specs.Space.{Space, bytes_in, range_of, word_range, with_word, word_at}
+use Rattle.rlsf_base.specs.OpenSpace.{IsOwned, out_with}
 use Rattle.rlsf_machine.specs.Lists.{IsIn}
 use Rattle.rlsf_machine.specs.State.{State, Used, usable}
 use Rattle.rlsf_machine.specs.WellFormed.{IsWellFormed}
 use Rattle.rlsf_machine.proofs.Payloads.{IsUsed-after_start}
 use Rattle.rlsf_machine.proofs.Tiling.{LiesInChunk}
-use Rattle.rlsf_table.specs.FreeList.{Rewrites}
+use Rattle.rlsf_table.specs.Rewrites.{Rewrites}
 use Rattle.rlsf_table.proofs.Tables.FreeTables.{HasTable-Rewrites}
 use Rattle.rlsf_table.proofs.Words.Writes.{Rewrites-word}
 use Rattle.rlsf_blocks.specs.InBand.{sentinel_of}
 use Rattle.rlsf_blocks.specs.Spare.{IsSpareWord}
 use Rattle.rlsf_blocks.specs.StandsFor.{contents, StandsFor}
 use Rattle.rlsf_table.specs.Table.{Table}
-use Rattle.rlsf_blocks.proofs.Deallocate.Addresses.{IsWord-before}
+use Rattle.rlsf_blocks.proofs.Deallocate.Addresses.{IsReadable-before}
 use Rattle.rlsf_blocks.proofs.Machine.FreeBlocks.{CanBeBlock-free}
 use Rattle.rlsf_blocks.proofs.Words.Apart.{home_of_free, home_of_used, used_in_memory}
 
-module _ {fllen sllen : ℕ} {m : Space} {t : Table} {s : State} (old : StandsFor fllen sllen (contents m t) s) (addr word : ℕ) (is : IsSpareWord m s addr)
-    (n : Space) (start : n.start ≡ m.start) (bytes : n.bytes ≡ with_word m addr word) where
+module _ {fllen sllen : ℕ} {m : Space} {t : Table} {s : State} (old : StandsFor fllen sllen (contents m t) s) (addr word : ℕ) (is : IsSpareWord m s addr) (mine : IsOwned m (word_range addr))
+    (n : Space) (start : n.start ≡ m.start) (bytes : n.bytes ≡ with_word m addr word) (out : n.out ≡ out_with m (word_range addr)) where
   w : IsWellFormed fllen sllen (range_of m) s
   w = old.well_formed
 
   rewrites : Rewrites m n (λ a. a ≡ addr)
-  rewrites = Rewrites-word m n addr word is.0 start bytes
+  rewrites = Rewrites-word m n addr word (is.0.0, is.0.1, mine) start bytes out
 
   -- no byte of a chunk is spare before its last 16
   apart : (c : Range) → IsIn c s.chunks → (a : ℕ) → c.start ≤ a → a + 16 < end_of c → a ≢ addr
@@ -62,7 +63,7 @@ module _ {fllen sllen : ℕ} {m : Space} {t : Table} {s : State} (old : StandsFo
   pad u i wide =
       let used = w.used u i in
       let after_start = IsUsed-after_start u used in
-      word_of_used u i (u.payload - 8) (IsWord-before old u i refl refl wide).0 (omega arith) (omega (arith, used.within))
+      word_of_used u i (u.payload - 8) (IsReadable-before old u i refl refl wide).0 (omega arith) (omega (arith, used.within))
 
   -- nor does a free block's third or fourth word
   links : (f : Range) → IsIn f s.free → (f.start + 16 ≢ addr) × (f.start + 24 ≢ addr)
@@ -92,4 +93,5 @@ module _ {fllen sllen : ℕ} {m : Space} {t : Table} {s : State} (old : StandsFo
         };
         payloads = record { bytes = λ u i. payload u i ∙ old.payloads.bytes u i; pad = λ u i wide. pad u i wide ∙ old.payloads.pad u i wide };
         table = HasTable-Rewrites rewrites (CanBeBlock-free old) links old.table;
+        own = λ a from unlent. rewrites.own a (omega (arith, start, from)) ∙ old.own a (omega (arith, start, from)) unlent;
       }

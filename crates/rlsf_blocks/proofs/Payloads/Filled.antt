@@ -1,9 +1,9 @@
 -- The bytes of one payload change, and no other byte: the allocator stands for the state with these bytes in that payload.
-use Rattle.std.proofs.Common.{◌≡◌, ◌≢◌, ℕ, ◌≤◌, ◌⊎◌, length, arith, inl, inr, sym, ◌∙◌, ap}
+use Rattle.std.proofs.Common.{◌≡◌, ◌≢◌, ℕ, ◌<◌, ◌≤◌, ◌⊎◌, length, arith, inl, inr, sym, ◌∙◌, ap}
 use Rattle.std.proofs.lemmas.Bool.{cases_eq, cases_lt}
 use Rattle.rlsf_base.specs.declared.memory.range.Range.{Range}
 use Rattle.rlsf_base.specs.Range.{end_of}
-use Rattle.rlsf_base.specs.Space.{Space, byte_range, bytes_in, range_of}
+use Rattle.rlsf_base.specs.Space.{Space, byte_range, bytes_in, out_at, range_of}
 use Rattle.rlsf_base.proofs.Lending.Replaced.{byte_at-same}
 use Rattle.rlsf_machine.specs.Lists.{IsIn}
 use Rattle.rlsf_machine.specs.Run.{Fills}
@@ -20,11 +20,12 @@ use Rattle.rlsf_blocks.proofs.Payloads.Unlent.{stands_unlent}
 use Rattle.rlsf_blocks.proofs.Words.Apart.{used_used, home_of_used, used_in_memory}
 use Rattle.rlsf_blocks.proofs.Words.Frames.{sides}
 
--- the memory stays where it is, and the bytes of what has no address in common with a range are as they were
+-- the memory stays where it is, and the bytes of what has no address in common with a range, and what they are, stay
 pub record IsSameOutside (m n : Space) (r : Range) : Type 0 where
   pub start : n.start ≡ m.start
   pub length : length n.bytes ≡ length m.bytes
   pub bytes : (q : Range) → m.start ≤ q.start → (end_of q ≤ r.start) ⊎ (end_of r ≤ q.start) → bytes_in n q ≡ bytes_in m q
+  pub out : (a : ℕ) → m.start ≤ a → (a < r.start) ⊎ (end_of r ≤ a) → out_at n a ≡ out_at m a
 
 module _ {fllen sllen : ℕ} {v : Contents} {s : State} (old : StandsFor fllen sllen v s) (addr : ℕ) (u : Used) (holds : Holds s addr u) (n : Space) (same : IsSameOutside v.memory n (usable u)) where
   w : IsWellFormed fllen sllen (range_of v.memory) s
@@ -38,6 +39,7 @@ module _ {fllen sllen : ℕ} {v : Contents} {s : State} (old : StandsFor fllen s
     start = same.start;
     length = same.length;
     bytes = λ a from unlent. byte_at-same v.memory n a (same.bytes (byte_range a) from (elim (unlent u holds.0) [ inl before ↦ inl (omega (arith, before)) | inr behind ↦ inr (omega (arith, behind, is.within)) ]));
+    out = λ a from unlent. same.out a from (elim (unlent u holds.0) [ inl before ↦ inl before | inr behind ↦ inr (omega (arith, behind, is.within)) ]);
   }
 
   all : StandsFor fllen sllen (record v { memory = n }) (read_from n s)

@@ -6,6 +6,7 @@ use Rattle.std.proofs.lemmas.List.{drop-drop, drop-take, drop_at, length-take-le
 use Rattle.std.specs.List.{splice}
 use Rattle.rlsf_base.specs.Range.{LiesIn, range_at}
 use Rattle.rlsf_base.specs.Space.{Space, bytes_in, with_bytes}
+use Rattle.rlsf_base.proofs.Lending.Present.{out-same}
 use Rattle.rlsf_base.proofs.Lending.Replaced.{bytes_in-with, length-with}
 use Rattle.rlsf_machine.specs.Run.{Fills}
 use Rattle.rlsf_machine.specs.State.{State, Used, usable, Holds, with_front}
@@ -30,7 +31,7 @@ module _ {fllen sllen : ℕ} {v : Contents} {s : State} (old : StandsFor fllen s
   LiesIn-front addr u holds enough = let lies = LiesIn-usable (IsPayloadOf-holds u refl old holds) in (omega (arith, lies.0, holds.1), omega (arith, lies.1, holds.1, enough))
 
   module _ (from to : ℕ) (u w : Used) (source : Holds s from u) (target : Holds s to w) (enough : len ≤ (usable u).len) (room : len ≤ (usable w).len)
-      (n : Space) (start : n.start ≡ v.memory.start) (copied : n.bytes ≡ with_bytes v.memory to (bytes_in v.memory (range_at from len))) where
+      (n : Space) (start : n.start ≡ v.memory.start) (copied : n.bytes ≡ with_bytes v.memory to (bytes_in v.memory (range_at from len))) (out : n.out ≡ v.memory.out) where
     abbrev m : Space
     m = v.memory
 
@@ -54,6 +55,7 @@ module _ {fllen sllen : ℕ} {v : Contents} {s : State} (old : StandsFor fllen s
     IsSameOutside-front : IsSameOutside m n (usable w)
     IsSameOutside-front = record {
       start = start;
+      out = λ a inside side. out-same m n a start out;
       length = length-with m n (range_at to len) front placed full start spliced;
       bytes = λ q inside side. bytes_in-with m n (range_at to len) front placed full start spliced q inside (elim side [
         | inl before ↦ inl (omega (arith, before, target.1))

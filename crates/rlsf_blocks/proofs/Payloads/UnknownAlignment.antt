@@ -1,16 +1,21 @@
 -- What the word before a payload says of its block, whatever its alignment.
+use Rattle.rlsf_base.proofs.Lending.Here.{is_word}
+use Rattle.rlsf_base.proofs.Lending.Present.{own-word}
+use Rattle.rlsf_machine.specs.State.{between}
+use Rattle.rlsf_blocks.proofs.Words.Here.{here_free, here_front}
 use Rattle.std.proofs.Common.{◌≡◌, ◌≢◌, ℕ, ◌+◌, ◌-◌, ◌^◌, ◌<◌, ◌≤◌, length, arith, inl, inr, refl, sym, ◌∙◌, ap, subst}
 use Rattle.std.proofs.lemmas.Bool.{cases_lt, cond-false, cond-true, le-ltb, lt-ltb}
 use Rattle.std.proofs.lemmas.Bool.Decides.{eqb_tells}
 use Rattle.rlsf_base.specs.declared.memory.range.Range.{Range}
 use Rattle.rlsf_base.specs.Range.{end_of, LiesIn}
-use Rattle.rlsf_base.specs.Space.{Space, IsWord, word_at}
+use Rattle.rlsf_base.specs.Space.{Space, word_at}
+use Rattle.rlsf_base.specs.OpenSpace.{IsReadable}
 use Rattle.rlsf_machine.specs.Lists.{IsIn}
 use Rattle.rlsf_machine.specs.State.{State, Used, usable, Holds}
 use Rattle.rlsf_machine.proofs.Payloads.{IsUsed-after_start}
 use Rattle.rlsf_blocks.specs.Laws.{WordsGiveBlock}
 use Rattle.rlsf_blocks.specs.StandsFor.{Contents, StandsFor}
-use Rattle.rlsf_blocks.proofs.Deallocate.Addresses.{IsWord-before, narrow_start, wide_start}
+use Rattle.rlsf_blocks.proofs.Deallocate.Addresses.{IsReadable-before, narrow_start, wide_start}
 use Rattle.rlsf_blocks.proofs.Machine.Neighbours.{before_used, free_before, none_before, used_before}
 use Rattle.rlsf_blocks.proofs.Words.Apart.{free_in_memory, used_in_memory}
 
@@ -18,7 +23,7 @@ use Rattle.rlsf_blocks.proofs.Words.Apart.{free_in_memory, used_in_memory}
 -- and in both cases the payload lies 16 bytes into its block; or where u's block begins
 pub data Says (m : Space) (u : Used) (word : ℕ) : Type 0 where
   nothing : word ≡ 0 → u.payload ≡ u.block.start + 16 → Says m u word
-  another : IsWord m word → word + word_at m word ≤ u.block.start + 1 → u.payload ≡ u.block.start + 16 → Says m u word
+  another : IsReadable m word → word + word_at m word ≤ u.block.start + 1 → u.payload ≡ u.block.start + 16 → Says m u word
   its_own : word ≡ u.block.start → Says m u word
 
 -- what the words in a memory are around the payload of u, which is at the address
@@ -30,9 +35,9 @@ pub record IsPayloadOf (m : Space) (addr : ℕ) (u : Used) : Type 0 where
   pub to_end : end_of u.block + 32 ≤ m.start + length m.bytes
   pub some : 0 < u.block.start
   pub ends : end_of u.block + 32 < 2 ^ 64
-  pub word : IsWord m (addr - 8)
+  pub word : IsReadable m (addr - 8)
   pub says : Says m u (word_at m (addr - 8))
-  pub own_word : IsWord m u.block.start
+  pub own_word : IsReadable m u.block.start
   pub size : word_at m u.block.start ≡ u.block.len + 1
 
 module _ {fllen sllen : ℕ} {v : Contents} {s : State} (stands : StandsFor fllen sllen v s) (u : Used) (i : IsIn u s.used) where
@@ -48,23 +53,34 @@ module _ {fllen sllen : ℕ} {v : Contents} {s : State} (stands : StandsFor flle
             let place : u.payload - 8 ≡ end_of x.block + 8 = omega arith in
             let names = ap (word_at v.memory) place ∙ stands.previous.used x j in
             let inside = used_in_memory w x j in
-            subst (Says v.memory u) (sym names) (another (omega (arith, (w.used x j).whole.start), (inside.0, omega (arith, inside.1))) (omega (arith, stands.sizes.used x j)) at)
+            subst (Says v.memory u) (sym names) (another (is_word v.memory x.block.start (omega (arith, (w.used x j).whole.start), (inside.0, omega (arith, inside.1)), own-word v.memory (between x.block.start x.payload) x.block.start (here_front stands x j) (omega arith) (omega (arith, IsUsed-after_start x (w.used x j)))) (omega (arith, stands.sizes.used x j, inside.1, w.addressable))) (omega (arith, stands.sizes.used x j)) at)
         | free_before f j ends ↦
             let place : u.payload - 8 ≡ end_of f + 8 = omega arith in
             let names = ap (word_at v.memory) place ∙ stands.previous.free f j in
             let inside = free_in_memory w f j in
-            subst (Says v.memory u) (sym names) (another (omega (arith, (w.free f j).whole.start), (inside.0, omega (arith, inside.1))) (omega (arith, stands.sizes.free f j)) at)
+            subst (Says v.memory u) (sym names) (another (is_word v.memory f.start (omega (arith, (w.free f j).whole.start), (inside.0, omega (arith, inside.1)), own-word v.memory f f.start (here_free stands f j) (omega arith) (omega (arith, (w.free f j).some, (w.free f j).whole.len))) (omega (arith, stands.sizes.free f j, inside.1, w.addressable))) (omega (arith, stands.sizes.free f j)) at)
+      ]
+
+  -- it is a word
+  narrow-fits : u.payload ≡ u.block.start + 16 → word_at v.memory (u.payload - 8) < 2 ^ 64
+  narrow-fits at =
+      let w = stands.well_formed in
+      let mine = used_in_memory w u i in
+      elim (before_used w u i) [
+        | none_before c j begins ↦ let place : u.payload - 8 ≡ c.start + 8 = omega arith in let is = ap (word_at v.memory) place ∙ stands.previous.first c j in omega (arith, is)
+        | used_before x j ends ↦ let place : u.payload - 8 ≡ end_of x.block + 8 = omega arith in let is = ap (word_at v.memory) place ∙ stands.previous.used x j in omega (arith, is, ends, mine.1, w.addressable)
+        | free_before f j ends ↦ let place : u.payload - 8 ≡ end_of f + 8 = omega arith in let is = ap (word_at v.memory) place ∙ stands.previous.free f j in omega (arith, is, ends, mine.1, w.addressable)
       ]
 
   -- that word, at any alignment
-  before_payload : IsWord v.memory (u.payload - 8) × Says v.memory u (word_at v.memory (u.payload - 8))
+  before_payload : IsReadable v.memory (u.payload - 8) × Says v.memory u (word_at v.memory (u.payload - 8))
   before_payload = elim (cases_lt u.align 32) [
-    | inr wide ↦ (IsWord-before stands u i refl refl wide, its_own (wide_start stands u i refl refl wide))
+    | inr wide ↦ (IsReadable-before stands u i refl refl wide, its_own (wide_start stands u i refl refl wide))
     | inl few ↦
         let at : u.block.start + 16 ≡ u.payload = narrow_start stands u i refl refl few in
         let is = stands.well_formed.used u i in
         let place = used_in_memory stands.well_formed u i in
-        ((omega (arith, is.whole.start), (omega (arith, place.0), omega (arith, place.1, is.within))), says_narrow (sym at))
+        (is_word v.memory (u.payload - 8) (omega (arith, is.whole.start), (omega (arith, place.0), omega (arith, place.1, is.within)), own-word v.memory (between u.block.start u.payload) (u.payload - 8) (here_front stands u i) (omega (arith, at)) (omega (arith, at))) (narrow-fits (sym at)), says_narrow (sym at))
   ]
 
   is_payload : IsPayloadOf v.memory u.payload u
@@ -84,7 +100,7 @@ module _ {fllen sllen : ℕ} {v : Contents} {s : State} (stands : StandsFor flle
         ends = omega (arith, place.1, w.addressable);
         word = word;
         says = says;
-        own_word = (omega (arith, is.whole.start), (place.0, omega (arith, place.1)));
+        own_word = is_word v.memory u.block.start (omega (arith, is.whole.start), (place.0, omega (arith, place.1)), own-word v.memory (between u.block.start u.payload) u.block.start (here_front stands u i) (omega arith) (omega (arith, after_start))) (omega (arith, stands.sizes.used u i, place.1, w.addressable));
         size = stands.sizes.used u i;
       }
 
@@ -101,11 +117,11 @@ module _ {m : Space} {addr : ℕ} {u : Used} (is : IsPayloadOf m addr u) where
     said = subst (Says m u) (sym read) is.says
 
     -- a word that isn't 0 is the address of a size word
-    pub IsWord-named : word ≢ 0 → IsWord m word
-    IsWord-named some = elim said [
+    pub IsReadable-named : word ≢ 0 → IsReadable m word
+    IsReadable-named some = elim said [
       | nothing none at ↦ absurd (some none)
       | another placed before at ↦ placed
-      | its_own own ↦ subst (IsWord m) (sym own) is.own_word
+      | its_own own ↦ subst (IsReadable m) (sym own) is.own_word
     ]
 
     -- the end of the block there, with the flag of its size word, fits in a word
@@ -143,8 +159,8 @@ module _ {m : Space} {addr : ℕ} {u : Used} (is : IsPayloadOf m addr u) where
   -- ---- the bytes from the payload to the block's end
 
   module _ (block : ℕ) (begins : block ≡ u.block.start) where
-    pub IsWord-block : IsWord m block
-    IsWord-block = subst (IsWord m) (sym begins) is.own_word
+    pub IsReadable-block : IsReadable m block
+    IsReadable-block = subst (IsReadable m) (sym begins) is.own_word
 
     -- its size word is the number of its bytes, with the flag
     pub sized : (size : ℕ) → size ≡ word_at m block → size ≡ u.block.len + 1

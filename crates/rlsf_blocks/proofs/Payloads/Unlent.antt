@@ -1,6 +1,5 @@
 -- Usable bytes of live payloads change, and no other byte: the words and the class table spell the state with the bytes that are there.
-use Rattle.std.proofs.Common.{◌≡◌, ℕ, ◌+◌, ◌-◌, ◌%◌, ◌<◌, ◌≤◌, ◌⊎◌, List, [], ◌∷◌, length, drop, map, slice_index, arith, inl, inr, refl, sym, ◌∙◌, ap, subst, get_or-drop, get_or-take, length-drop, length-take, w64}
-use Rattle.std.specs.Int.{from_le_bytes}
+use Rattle.std.proofs.Common.{◌≡◌, ℕ, ◌+◌, ◌-◌, ◌%◌, ◌<◌, ◌≤◌, ◌⊎◌, List, [], ◌∷◌, length, drop, map, slice_index, arith, inl, inr, refl, sym, ◌∙◌, ap, subst, get_or-drop, get_or-take, length-drop, length-take}
 use Rattle.std.proofs.lemmas.Bool.{cases_lt}
 use Rattle.std.proofs.lemmas.List.{ext_get_or}
 use Rattle.rlsf_base.specs.declared.memory.range.Range.{Range}
@@ -9,7 +8,10 @@ use Rattle.rlsf_base.specs.Space.{Space, byte_at, bytes_in, range_of, word_at, w
 use Rattle.rlsf_machine.specs.Lists.{IsIn}
 use Rattle.rlsf_machine.specs.State.{State, Used, usable}
 use Rattle.rlsf_machine.specs.WellFormed.{coverage, covers, IsUsed, IsWellFormed}
-use Rattle.rlsf_machine.proofs.Coverage.{IsIn-map_from}
+use Rattle.rlsf_blocks.specs.StandsFor.{IsUnlent}
+use Rattle.rlsf_base.specs.Out.{is_own}
+use Rattle.rlsf_base.proofs.Lending.Here.{word_at-kept}
+use Rattle.rlsf_machine.proofs.Coverage.{IsIn-map, IsIn-map_from}
 use Rattle.rlsf_machine.proofs.Payloads.{IsUsed-after_start}
 use Rattle.rlsf_machine.proofs.Tiling.{block_of}
 use Rattle.rlsf_table.specs.Table.{Table, head_at, of_class, HasTable}
@@ -52,10 +54,9 @@ module _ {fllen sllen : ℕ} {m n : Space} {t : Table} {s : State} (old : Stands
 
   -- a word outside the usable bytes of each payload
   word_at-unlent : (a : ℕ) → m.start ≤ a → ((u : Used) → IsIn u s.used → (a + 8 ≤ u.payload) ⊎ (end_of u.block ≤ a)) → word_at n a ≡ word_at m a
-  unfolding word_at
   word_at-unlent a inside outside =
-      ap (from_le_bytes w64) (bytes_in-same m n (word_range a) differs.start differs.length inside (λ b from to.
-      differs.bytes b (omega arith) (λ u i. elim (outside u i) [ inl before ↦ inl (omega (arith, before)) | inr behind ↦ inr (omega (arith, behind)) ])))
+      let apart : (b : ℕ) → a ≤ b → b < a + 8 → IsUnlent s b = λ b from to u i. elim (outside u i) [ inl before ↦ inl (omega (arith, before)) | inr behind ↦ inr (omega (arith, behind)) ] in
+      word_at-kept m n a differs.start inside (bytes_in-same m n (word_range a) differs.start differs.length inside (λ b from to. differs.bytes b (omega arith) (apart b from to))) (λ b from to. differs.out b (omega arith) (apart b from to))
 
   -- a word that begins in no used block but before its payload
   word_at-apart : (a : ℕ) → m.start ≤ a → ((u : Used) → IsIn u s.used → Has u.block a → a + 8 ≤ u.payload) → word_at n a ≡ word_at m a
@@ -202,6 +203,7 @@ module _ {fllen sllen : ℕ} {m n : Space} {t : Table} {s : State} (old : Stands
         previous = previous;
         payloads = payloads;
         table = table;
+        own = λ a from unlent. (let apart : IsUnlent s a = λ u i. unlent (with_bytes_of n u) (IsIn-map (with_bytes_of n) u s.used i) in ap is_own (differs.out a (omega (arith, differs.start, from)) apart) ∙ old.own a (omega (arith, differs.start, from)) apart);
       }
 
 -- the words inside the pools and the class table read no usable byte of a live payload

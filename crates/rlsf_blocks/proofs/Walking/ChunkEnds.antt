@@ -1,8 +1,11 @@
 -- A walk over the blocks of one chunk, up to its sentinel.
+use Rattle.rlsf_base.proofs.Lending.Here.{is_word}
+use Rattle.rlsf_blocks.proofs.Words.Here.{here_walk, walk-fits}
 use Rattle.std.proofs.Common.{◌≡◌, ◌≢◌, ℕ, ◌+◌, ◌*◌, ◌/◌, ◌%◌, ◌<◌, ◌≤◌, arith, sym, ◌∙◌, ap, subst}
 use Rattle.rlsf_base.specs.declared.memory.range.Range.{Range}
 use Rattle.rlsf_base.specs.Range.{end_of}
-use Rattle.rlsf_base.specs.Space.{Space, IsWord, word_at}
+use Rattle.rlsf_base.specs.Space.{Space, word_at}
+use Rattle.rlsf_base.specs.OpenSpace.{IsReadable}
 use Rattle.rlsf_machine.specs.Lists.{IsIn}
 use Rattle.rlsf_machine.specs.State.{State}
 use Rattle.rlsf_table.specs.Table.{Table}
@@ -29,8 +32,8 @@ module _ {fllen sllen : ℕ} {m : Space} {t : Table} {s : State} (v : StandsFor 
 
   module _ {a : ℕ} (is : IsInChunk s c a) where
     -- a word stands there
-    pub IsWord-chunk : IsWord m a
-    IsWord-chunk = let placed = (v.well_formed.chunks c i).lies_in in (omega (arith, is.whole), (omega (arith, is.from, placed.0), omega (arith, is.to, placed.1)))
+    pub IsReadable-chunk : IsReadable m a
+    IsReadable-chunk = let placed = (v.well_formed.chunks c i).lies_in in is_word m a (omega (arith, is.whole), (omega (arith, is.from, placed.0), omega (arith, is.to, placed.1)), here_walk v a (end_of c) is.at) (walk-fits v a (end_of c) is.at)
 
     -- which is that of the chunk's sentinel, where the walk is at the chunk's end
     pub end_there : {word : ℕ} → word ≡ word_at m a → word ≡ 35 → a + 32 ≡ end_of c

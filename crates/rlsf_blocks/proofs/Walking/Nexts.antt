@@ -1,8 +1,13 @@
 -- A walk that is underway and not at its end.
+use Rattle.rlsf_blocks.proofs.Walking.Begins.{behind_block}
+use Rattle.rlsf_base.proofs.Lending.Here.{is_word}
+use Rattle.rlsf_base.proofs.Lending.Present.{own-word}
+use Rattle.rlsf_blocks.proofs.Words.Here.{here_block, here_behind_block, block-fits, walk-fits}
 use Rattle.std.proofs.Common.{◌≡◌, ◌≢◌, ℕ, cond, eqb, ◌+◌, ◌*◌, ◌/◌, ◌%◌, ◌^◌, ◌<◌, ◌∷◌, arith, inl, inr, sym, ◌∙◌, ap, subst}
 use Rattle.std.proofs.lemmas.Bool.{cases_lt, eq-eqb, ne_eqb}
-use Rattle.rlsf_base.specs.Range.{range_at}
-use Rattle.rlsf_base.specs.Space.{Space, IsWord, word_at}
+use Rattle.rlsf_base.specs.Range.{range_at, end_of}
+use Rattle.rlsf_base.specs.Space.{Space, word_range, word_at}
+use Rattle.rlsf_base.specs.OpenSpace.{IsOwned, IsReadable}
 use Rattle.rlsf_blocks.specs.Blocks.{Block, IsBlock}
 use Rattle.rlsf_blocks.specs.Steps.Walk.{IsUnderway, blocks_between, next_start}
 use Rattle.rlsf_blocks.proofs.Walking.Blocks.{IsWhole-block, block-some, home_of_block}
@@ -15,8 +20,8 @@ block_by start word = record { range = range_at start (word / 32 * 32); is_occup
 
 -- the first block of a walk, by its size word: its words lie in the memory, which goes on for 32 bytes behind it
 pub record IsFirst (m : Space) (start end word : ℕ) : Type 0 where
-  pub size : IsWord m start
-  pub behind : IsWord m (start + word / 32 * 32)
+  pub size : IsReadable m start
+  pub behind : IsReadable m (start + word / 32 * 32)
   pub past : start + word / 32 * 32 + 32 < 2 ^ 64
   pub block : IsBlock (block_by start word)
   pub next : IsUnderway m (next_start m (start + word / 32 * 32)) end
@@ -33,11 +38,12 @@ IsFirst-underway m start end (fllen, sllen, t, s, v, is) more =
     let placed = (w.chunks home.chunk home.is_chunk).lies_in in
     let len : word_at m start / 32 * 32 ≡ step.block.range.len = ap (λ (b : Block). b.range.len) step.at in
     record {
-      size = (omega (arith, step.begins, whole.start), (omega (arith, step.begins, home.from, placed.0), omega (arith, step.begins, some, whole.len, home.to, placed.1)));
-      behind = (
+      size = is_word m start (omega (arith, step.begins, whole.start), (omega (arith, step.begins, home.from, placed.0), omega (arith, step.begins, some, whole.len, home.to, placed.1)), subst (λ a. IsOwned m (word_range a)) step.begins (here_block v step.block step.has)) (subst (λ a. word_at m a < 2 ^ 64) step.begins (block-fits v step.block step.has));
+      behind = is_word m (start + word_at m start / 32 * 32) (
         omega (arith, step.begins, whole.start, len, whole.len),
         (omega (arith, step.begins, home.from, placed.0), omega (arith, step.begins, len, home.to, placed.1)),
-      );
+        own-word m (range_at (end_of step.block.range) 16) (start + word_at m start / 32 * 32) (here_behind_block v step.block step.has) (omega (arith, step.begins, len)) (omega (arith, step.begins, len)),
+      ) (subst (λ a. word_at m a < 2 ^ 64) (let e : end_of step.block.range ≡ start + word_at m start / 32 * 32 = omega (arith, step.begins, len) in e) (walk-fits v (end_of step.block.range) (end_of home.chunk) (behind_block w step.block step.has home.chunk home.is_chunk (record { from = home.from; to = omega (arith, home.to, some) }))));
       past = omega (arith, step.begins, len, home.to, placed.1, w.addressable);
       block = record {
         len = omega (arith, len, whole.len);

@@ -9,7 +9,7 @@ use Rattle.rlsf_base.proofs.Numbers.PowersOfTwo.{floor_log2-lt, pow-between}
 use Rattle.rlsf_base.specs.declared.memory.range.Range.{Range}
 use Rattle.rlsf_base.specs.Range.{end_of}
 use Rattle.rlsf_base.specs.Space.{Space, bytes_in, range_of, word_at}
-use Rattle.rlsf_table.specs.FreeList.{Rewrites}
+use Rattle.rlsf_table.specs.Rewrites.{Rewrites}
 use Rattle.rlsf_table.proofs.Words.Writes.{link_place}
 use Rattle.rlsf_blocks.specs.Steps.Touched.{Touched, at_link, in_hole, at_other}
 use Rattle.rlsf_blocks.specs.InBand.{sentinel_of}

@@ -1,10 +1,11 @@
 -- A hole in a chunk was written over: the value stands for the state whose new blocks have their words.
-use Rattle.std.proofs.Common.{◌≡◌, ◌≢◌, ℕ, ◌+◌, ◌-◌, ◌%◌, ◌<◌, ◌≤◌, List, arith, inl, inr, sym, ◌∙◌, ap}
+use Rattle.std.proofs.Common.{◌≡◌, ◌≢◌, ℕ, ◌+◌, ◌-◌, ◌%◌, ◌<◌, ◌≤◌, ◌⊎◌, true, List, arith, inl, inr, sym, ◌∙◌, ap}
 use Rattle.std.proofs.lemmas.Bool.{cases_eq}
 use Rattle.rlsf_base.specs.declared.memory.range.Range.{Range}
+use Rattle.rlsf_base.specs.Out.{is_own}
 use Rattle.rlsf_base.specs.Range.{end_of}
-use Rattle.rlsf_base.specs.Space.{Space, bytes_in, range_of, word_at}
-use Rattle.rlsf_table.specs.FreeList.{Rewrites}
+use Rattle.rlsf_base.specs.Space.{Space, out_at, bytes_in, range_of, word_at}
+use Rattle.rlsf_table.specs.Rewrites.{Rewrites}
 use Rattle.rlsf_table.specs.Table.{Table, HasTable}
 use Rattle.rlsf_blocks.specs.Steps.Touched.{Touched}
 use Rattle.rlsf_blocks.specs.InBand.{sentinel_of}
@@ -37,6 +38,8 @@ pub record IsRefilled (fllen sllen : ℕ) (m n : Space) (t : Table) (s : State) 
   pub used_still : (u : Used) → IsIn u used → IsUsedStill n s hole u
   pub free_still : (f : Range) → IsIn f free → IsFreeStill n s hole f
   pub table : HasTable fllen sllen n t free
+  -- nothing is out but usable bytes of the new used blocks
+  pub own : (a : ℕ) → m.start ≤ a → ((u : Used) → IsIn u used → (a < u.payload) ⊎ (end_of u.block ≤ a)) → is_own (out_at m a) ≡ true
 
 module _ {fllen sllen : ℕ} {m n : Space} {table changed : Table} {s : State} (old : StandsFor fllen sllen (contents m table) s) {used : List Used} {free : List Range}
     (hole : Range) (whole : IsWhole hole) (some : 0 < hole.len) (home : LiesInChunk s hole) (is : IsRefilled fllen sllen m n changed s used free hole) where
@@ -115,6 +118,7 @@ module _ {fllen sllen : ℕ} {m n : Space} {table changed : Table} {s : State} (
     previous = record { used = λ u i. previous_used u (is.used_still u i); free = λ f i. previous_free f (is.free_still f i); first = λ d i. previous_first d (still d i) };
     payloads = record { bytes = λ u i. payload_bytes u (is.used_still u i); pad = λ u i. payload_pad u (is.used_still u i) };
     table = is.table;
+    own = λ a from unlent. is.rewrites.own a (omega (arith, is.rewrites.start, from)) ∙ is.own a (omega (arith, is.rewrites.start, from)) unlent;
   }
 
   pub StandsFor-refilled : IsWellFormed fllen sllen (range_of n) (record { chunks = s.chunks; used = used; free = free }) → StandsFor fllen sllen (contents n changed) (record { chunks = s.chunks; used = used; free = free })

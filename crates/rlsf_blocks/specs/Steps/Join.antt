@@ -2,8 +2,9 @@
 use Rattle.std.specs.Prelude.{◌≡◌, ◌↔◌, ℕ, ◌+◌, ◌%◌, List, ◌∷◌, find}
 use Rattle.rlsf_base.specs.declared.memory.range.Range.{Range}
 use Rattle.rlsf_base.specs.Range.{end_of}
-use Rattle.rlsf_base.specs.Space.{Space, IsWord, word_at}
-use Rattle.rlsf_table.specs.FreeList.{IsLink, Rewrites}
+use Rattle.rlsf_base.specs.Space.{Space, word_at}
+use Rattle.rlsf_base.specs.OpenSpace.{IsReadable}
+use Rattle.rlsf_table.specs.Rewrites.{IsLink, Rewrites}
 use Rattle.rlsf_table.specs.FreeTable.{IsFreeTable}
 use Rattle.rlsf_table.specs.Table.{Table, HasTable}
 use Rattle.rlsf_blocks.specs.Steps.Touched.{Touched}
@@ -17,7 +18,7 @@ FreeBlockBegins free a = (f : Range) × IsIn f free × (f.start ≡ a)
 
 -- the word at the address is even exactly if a free block begins there
 pub record IsMarked (m : Space) (free : List Range) (a : ℕ) : Type 0 where
-  pub word : IsWord m a
+  pub word : IsReadable m a
   pub mark : (word_at m a % 2 ≡ 0) ↔ FreeBlockBegins free a
 
 -- the table without the block that begins at an address, if there is one, and its length, or 0

@@ -3,7 +3,8 @@ use Rattle.std.specs.Prelude.{◌≡◌, ℕ, ◌+◌, ◌-◌, ◌<◌, ◌≤�
 use Rattle.rlsf_base.specs.declared.memory.range.Range.{Range}
 use Rattle.rlsf_base.specs.Range.{LiesIn, range_at}
 use Rattle.rlsf_base.specs.Space.{Space, word_at}
-use Rattle.rlsf_table.specs.FreeList.{Rewrites}
+use Rattle.rlsf_base.specs.OpenSpace.{IsOwned}
+use Rattle.rlsf_table.specs.Rewrites.{Rewrites}
 use Rattle.rlsf_table.specs.Table.{Table, HasTable}
 use Rattle.rlsf_blocks.specs.Steps.Touched.{Touched}
 use Rattle.rlsf_blocks.specs.InBand.{sentinel_of}
@@ -19,6 +20,7 @@ pub record IsNewChunk (fllen sllen : ℕ) (m : Space) (s : State) (c : Range) : 
   pub lies_in : LiesIn c m.start (length m.bytes)
   pub fresh : IsClear c s.chunks
   pub block : IsFree fllen sllen (body c)
+  pub own : IsOwned m c
 
 -- a chunk but for the last 16 bytes of its sentinel
 abbrev pub opened : Range → Range

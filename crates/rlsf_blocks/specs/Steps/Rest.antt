@@ -2,11 +2,12 @@
 use Rattle.std.specs.Prelude.{◌≡◌, ℕ, ◌+◌, ◌%◌, ◌<◌, ◌≤◌, List, ◌∷◌, ◌++◌, length, Some, find}
 use Rattle.rlsf_base.specs.declared.memory.layout.Layout.{Layout}
 use Rattle.rlsf_base.specs.declared.memory.range.Range.{Range}
-use Rattle.rlsf_base.specs.Range.{end_of}
+use Rattle.rlsf_base.specs.Range.{end_of, range_at}
 use Rattle.rlsf_base.specs.SizeClass.{class_of}
 use Rattle.rlsf_base.specs.Sizes.{request_size}
 use Rattle.rlsf_base.specs.Space.{Space, word_at}
-use Rattle.rlsf_table.specs.FreeList.{Rewrites}
+use Rattle.rlsf_base.specs.OpenSpace.{IsOwned}
+use Rattle.rlsf_table.specs.Rewrites.{Rewrites}
 use Rattle.rlsf_table.specs.FreeTable.{IsRoom}
 use Rattle.rlsf_table.specs.Table.{Table, HasTable}
 use Rattle.rlsf_blocks.specs.StandsFor.{contents, StandsFor}
@@ -19,6 +20,7 @@ use Rattle.rlsf_machine.specs.State.{State}
 pub record IsInnerRoom (fllen sllen : ℕ) (m : Space) (t : Table) (free : List Range) (r : Range) : Type 0 where
   pub room : IsRoom fllen sllen m t free r
   pub not_last : end_of r + 16 ≤ m.start + length m.bytes
+  pub behind : IsOwned m (range_at (end_of r) 16)
 
 -- this is true of each list of free blocks beside which so many bytes at the address can become one, and of these bytes
 abbrev pub AtEachInnerRoom : ℕ → ℕ → Space → Table → ℕ → ℕ → (List Range → Range → Type 0) → Type 0

@@ -2,7 +2,7 @@
 use Rattle.std.specs.Prelude.{◌≡◌, ℕ, ◌+◌, ◌≤◌, List}
 use Rattle.rlsf_base.specs.declared.memory.range.Range.{Range}
 use Rattle.rlsf_base.specs.Range.{end_of}
-use Rattle.rlsf_table.specs.FreeList.{IsLink}
+use Rattle.rlsf_table.specs.Rewrites.{IsLink}
 
 -- the address is that of a word which may be written while a hole is: a link of a free block, a word inside the
 -- hole, or one other word

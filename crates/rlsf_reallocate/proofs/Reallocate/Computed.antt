@@ -1,9 +1,11 @@
 -- A used block moves into the free block before it: what is computed on the way is as the machine's plan has it.
-use Rattle.std.proofs.Common.{◌≡◌, ℕ, ◌+◌, ◌-◌, ◌%◌, ◌^◌, ◌≤◌, ◌<◌, List, Some, None, length, arith, sym, ◌∙◌, ap, subst}
+use Rattle.std.proofs.Common.{◌≡◌, ℕ, ◌+◌, ◌-◌, ◌%◌, ◌^◌, ◌≤◌, ◌<◌, List, Some, None, [], length, arith, sym, ◌∙◌, ap, subst}
 use mathlib.Core.Path.{ap₂}
 use Rattle.rlsf_base.specs.declared.memory.range.Range.{Range}
 use Rattle.rlsf_base.specs.Range.{end_of, LiesIn, range_at}
-use Rattle.rlsf_base.specs.Space.{Space, bytes_in, IsWord, with_bytes}
+use Rattle.rlsf_base.specs.Space.{Space, bytes_in, with_bytes, word_range}
+use Rattle.rlsf_base.specs.OpenSpace.{IsHere, IsOwned, IsWritable, SameOwn, out_with}
+use Rattle.rlsf_base.proofs.Lending.Present.{own-here, own-inside, own-there, own-word}
 use Rattle.rlsf_machine.specs.Join.{ends_at, start_or}
 use Rattle.rlsf_machine.specs.Lists.{IsIn, without}
 use Rattle.rlsf_machine.specs.Payload.{block_length, payload_of}
@@ -18,7 +20,7 @@ use Rattle.rlsf_table.specs.Table.{Table}
 use Rattle.rlsf_blocks.proofs.Deallocate.Releases.{before_at, behind_at, gone, IsInnerRoom-union, start_before, union_len, union_start}
 use Rattle.rlsf_table.proofs.Words.Writes.{Writes}
 use Rattle.rlsf_reallocate.proofs.Reallocate.Copies.{IsCopied, IsInnerRoom-copied, Rewrites-copied}
-use Rattle.rlsf_reallocate.proofs.Reallocate.Moves.{IsSpan, span, payload_placed, IsCarriedOut-moved}
+use Rattle.rlsf_reallocate.proofs.Reallocate.Moves.{IsSpan, span, payload_here, payload_placed, IsCarriedOut-moved}
 use Rattle.rlsf_reallocate.proofs.Reallocate.Previous.{into_previous-fits, planned, reach}
 
 -- the used block by its start and its end
@@ -31,6 +33,7 @@ pub record AreOut (fllen sllen : ℕ) (m : Space) (t : Table) (s : State) (u : U
   pub used : IsUsedAt s u block payload align
   pub is_end : end_of u.block ≡ end
   pub short : in_place s u size ≡ None
+  pub here : IsHere m (usable u)
   pub plan : FitsBefore s u size to taken
   pub out : IsPreviousOut fllen sllen m m1 t1 s.free block start
   pub more : IsNextOut fllen sllen m1 m2 t2 (without (ends_at block) s.free) end next
@@ -42,6 +45,9 @@ module _ {fllen sllen : ℕ} {m : Space} {t : Table} {s : State} {u : Used} {blo
 
   i : IsIn u s.used
   i = are.used.is_used
+
+  own : IsOwned m (usable u)
+  own = own-here m (usable u) are.here
 
   length_of : taken ≡ block_length are.plan.previous.start (payload_of are.plan.previous.start u.align) size
   length_of = are.plan.long ∙ ap (λ p. block_length are.plan.previous.start p size) are.plan.placed
@@ -71,7 +77,7 @@ module _ {fllen sllen : ℕ} {m : Space} {t : Table} {s : State} {u : Used} {blo
   begins = before.begins ∙ ap (start_or u.block.start) are.plan.found
 
   inner : IsInnerRoom fllen sllen m2 t2 (untouched u.block s.free) (union u.block s.free)
-  inner = IsInnerRoom-union v u i before behind
+  inner = IsInnerRoom-union v u i before behind own
 
   placed : LiesIn (usable u) m2.start (length m2.bytes)
   placed = payload_placed v u i size are.plan.previous are.plan.found fits are.short before behind
@@ -81,12 +87,21 @@ module _ {fllen sllen : ℕ} {m : Space} {t : Table} {s : State} {u : Used} {blo
   pub LiesIn-payload : LiesIn (range_at payload (end - payload)) m2.start (length m2.bytes)
   LiesIn-payload = subst (λ q. LiesIn q m2.start (length m2.bytes)) (sym usable_is) placed
 
+  pub IsHere-payload : IsHere m2 (range_at payload (end - payload))
+  IsHere-payload = subst (IsHere m2) (sym usable_is) (payload_here v u i size are.plan.previous are.plan.found fits are.short before behind are.here)
+
   pub LiesIn-moved : LiesIn (range_at to (end - payload)) m2.start (length m2.bytes)
   LiesIn-moved =
       let is = spans in
       let inside = inner.room.placed.lies_in in
       let same : end - payload ≡ (usable u).len = ap (λ q. q.len) usable_is in
       (omega (arith, inside.0, are.plan.placed, is.start, is.after_start), omega (arith, inside.1, same, are.plan.placed, is.end, is.enough, fits))
+
+  pub IsOwned-moved : IsOwned m2 (range_at to (end - payload))
+  IsOwned-moved =
+      let is = spans in
+      let same : end - payload ≡ (usable u).len = ap (λ q. q.len) usable_is in
+      own-inside m2 (union u.block s.free) (range_at to (end - payload)) (omega (arith, are.plan.placed, is.start, is.after_start)) (omega (arith, same, are.plan.placed, is.end, is.enough, fits)) inner.room.placed.own
 
   -- ---- the bytes of all that was taken out
 
@@ -109,7 +124,7 @@ module _ {fllen sllen : ℕ} {m : Space} {t : Table} {s : State} {u : Used} {blo
 
   -- ---- the payload was copied
 
-  module _ {m3 : Space} (same_start : m3.start ≡ m2.start) (copied : m3.bytes ≡ with_bytes m2 to (bytes_in m2 (range_at payload (end - payload)))) where
+  module _ {m3 : Space} (same_start : m3.start ≡ m2.start) (copied : m3.bytes ≡ with_bytes m2 to (bytes_in m2 (range_at payload (end - payload)))) (out : m3.out ≡ out_with m2 (range_at to (end - payload))) where
     IsCopied-computed : IsCopied m2 m3 (union u.block s.free) (usable u) (payload_of are.plan.previous.start u.align)
     IsCopied-computed =
         let is = spans in
@@ -119,6 +134,7 @@ module _ {fllen sllen : ℕ} {m : Space} {t : Table} {s : State} {u : Used} {blo
           high = omega (arith, is.end, is.enough, fits);
           start = same_start;
           bytes = copied ∙ ap₂ (λ a q. with_bytes m2 a (bytes_in m2 q)) are.plan.placed usable_is;
+          out = out ∙ ap₂ (λ a q. out_with m2 (range_at a q.len)) are.plan.placed usable_is;
         }
 
     pub room : IsInnerRoom fllen sllen m3 t2 (untouched u.block s.free) (union u.block s.free)
@@ -130,26 +146,38 @@ module _ {fllen sllen : ℕ} {m : Space} {t : Table} {s : State} {u : Used} {blo
       occupied : IsOccupied fllen sllen m3 m4 t4 (untouched u.block s.free) (union u.block s.free) (range_at start taken)
       occupied = made (untouched u.block s.free) (union u.block s.free) union_begins total_is.1 room
 
-      -- start and length of the memory stay
-      pub SamePlace-occupied : (m4.start ≡ m.start) × (length m4.bytes ≡ length m.bytes)
-      SamePlace-occupied =
+      -- start and length of the memory stay, and what is its own; and where nothing was out, nothing is
+      place-occupied : (m4.start ≡ m.start) × (length m4.bytes ≡ length m.bytes) × (m.out ≡ [] → m4.out ≡ []) × SameOwn m m4
+      place-occupied =
           let first = gone v u i before behind in
           let second = Rewrites-copied (union u.block s.free) inner (usable u) (payload_of are.plan.previous.start u.align) IsCopied-computed in
-          (occupied.rewrites.start ∙ second.start ∙ first.start, occupied.rewrites.length ∙ second.length ∙ first.length)
+          let third = occupied.rewrites in (
+            third.start ∙ second.start ∙ first.start,
+            third.length ∙ second.length ∙ first.length,
+            λ none. third.none (second.none (first.none none)),
+            λ a inside. third.own a (omega (arith, second.start, first.start)) ∙ second.own a (omega (arith, first.start)) ∙ first.own a inside,
+          )
 
-      -- the word before the payload lies in the memory
-      pub IsWord-pad : 32 ≤ align → IsWord m4 (to - 8)
-      IsWord-pad wide =
+      -- the word before the payload can be written
+      pub IsWritable-pad : 32 ≤ align → IsWritable m4 (to - 8)
+      IsWritable-pad wide =
           let is = spans in
           let inside = inner.room.placed.lies_in in
           let first = gone v u i before behind in
-          let same = SamePlace-occupied in
+          let same = place-occupied in
+          let second = Rewrites-copied (union u.block s.free) inner (usable u) (payload_of are.plan.previous.start u.align) IsCopied-computed in
+          let third = occupied.rewrites in
+          let span = union u.block s.free in
+          let low : span.start ≤ to - 8 = omega (arith, are.plan.placed, is.after_start, is.start) in
+          let high : to - 8 + 8 ≤ end_of span = omega (arith, are.plan.placed, is.after_start, is.end, is.enough, fits) in
+          let own_there = own-there m2 m4 (word_range (to - 8)) (omega (arith, low, inside.0)) (λ a from. third.own a (omega (arith, second.start)) ∙ second.own a from) (own-word m2 span (to - 8) inner.room.placed.own low high) in
           let whole = is.wide (omega (arith, are.used.alignment)) in (
             omega (arith, are.plan.placed, whole, is.after_start),
             (
               omega (arith, are.plan.placed, is.after_start, is.start, inside.0, same.0, first.start),
               omega (arith, are.plan.placed, is.after_start, is.end, is.enough, fits, inside.1, same.0, same.1, first.start, first.length),
             ),
+            own_there,
           )
 
       -- with that word, where it is wanted, the plan is carried out
@@ -164,5 +192,5 @@ module _ {fllen sllen : ℕ} {m : Space} {t : Table} {s : State} {u : Used} {blo
             planned s u size f,
             into_previous-fits s u size f are.plan.found fits,
             sym are.plan.placed,
-            IsCarriedOut-moved v u i size f are.plan.found fits are.short before behind IsCopied-computed block named,
+            IsCarriedOut-moved v u i size f are.plan.found fits are.short before behind own IsCopied-computed block named,
           )

@@ -4,7 +4,11 @@ use Rattle.std.proofs.lemmas.List.{take-take, take_all}
 use Rattle.std.specs.List.{splice}
 use Rattle.rlsf_base.specs.declared.memory.range.Range.{Range}
 use Rattle.rlsf_base.specs.Range.{end_of, range_at, LiesIn}
-use Rattle.rlsf_base.specs.Space.{Space, bytes_in, with_bytes, SamePlace}
+use Rattle.rlsf_base.specs.Sizes.{request_size}
+use Rattle.rlsf_base.specs.Space.{Space, bytes_in, with_bytes}
+use Rattle.rlsf_base.specs.OpenSpace.{IsOwned, SameOwn, out_with}
+use Rattle.rlsf_base.proofs.Lending.Copied.{out_at-copied, is_own-copied}
+use Rattle.rlsf_base.proofs.Lending.Present.{own-inside, own-there}
 use Rattle.rlsf_base.proofs.Lending.Replaced.{length-with, bytes_in-with, bytes_in-there}
 use Rattle.rlsf_machine.specs.Allocate.{given, placed, Places}
 use Rattle.rlsf_machine.specs.Lists.{IsIn}
@@ -13,13 +17,16 @@ use Rattle.rlsf_machine.specs.Release.{released}
 use Rattle.rlsf_machine.specs.State.{State, Used, usable, Holds}
 use Rattle.rlsf_machine.specs.WellFormed.{IsWellFormed}
 use Rattle.rlsf_machine.proofs.Changes.{Holds-unique}
+use Rattle.rlsf_machine.proofs.Allocations.{placed-fits}
+use Rattle.rlsf_machine.proofs.Choices.{choice-some}
 use Rattle.rlsf_machine.proofs.Live.{allocated_filled}
 use Rattle.rlsf_machine.proofs.Payloads.{payload_of-after, usable-short, IsUsed-after_start}
 use Rattle.rlsf_blocks.specs.Spare.{IsSpare, KeepsSpare}
 use Rattle.rlsf_blocks.specs.StandsFor.{contents, StandsFor}
 use Rattle.rlsf_table.specs.Table.{Table}
 use Rattle.rlsf_blocks.proofs.Payloads.Filled.{IsSameOutside, stands_filled}
-use Rattle.rlsf_blocks.proofs.Words.Apart.{used_in_memory}
+use Rattle.rlsf_blocks.proofs.Words.Apart.{free_in_memory, used_in_memory}
+use Rattle.rlsf_blocks.proofs.Words.Here.{here_free}
 
 module _ {fllen sllen : ℕ} {memory : Range} {m : Space} {table : Table} {s t : State} (w : IsWellFormed fllen sllen memory s) (u : Used) (i : IsIn u s.used) (size : ℕ) (short : in_place s u size ≡ None)
     {addr : ℕ} (places : Places sllen s size u.align addr t) (v : StandsFor fllen sllen (contents m table) t) where
@@ -55,29 +62,52 @@ module _ {fllen sllen : ℕ} {memory : Range} {m : Space} {table : Table} {s t :
       let place = used_in_memory v.well_formed new Holds-new.0 in
       (omega (arith, places.answer, place.0, payload_of-after places.range.start u.align), omega (arith, places.answer, place.1, shorter, payload_of-after places.range.start u.align))
 
+  -- which were a free block's, and so are the memory's own
+  pub IsOwned-new : (l : Space) (old : Table) → StandsFor fllen sllen (contents l old) s → SameOwn l m → IsOwned m (range_at addr (usable u).len)
+  IsOwned-new l old first same =
+      let f = places.range in
+      let is_in = (choice-some sllen (request_size size u.align) s.free f places.chosen).is_in in
+      let after = payload_of-after f.start u.align in
+      let fits = placed-fits w f size u.align (w.used u i).power places.chosen in
+      let target = range_at addr (usable u).len in
+      own-there l m target (omega (arith, places.answer, after, (free_in_memory first.well_formed f is_in).0)) same
+      (own-inside l f target (omega (arith, places.answer, after)) (omega (arith, places.answer, shorter, fits)) (here_free first f is_in))
+
   -- the bytes of the old payload were copied to the new one
   pub record IsCopied (n : Space) (bytes : List ℕ) : Type 0 where
+    pub place : (n.start ≡ m.start) × (length n.bytes ≡ length m.bytes)
+    pub own : SameOwn m n
     pub length : length bytes ≡ end_of new.block - addr
     pub kept : Keeps u.bytes bytes
     pub stands : StandsFor fllen sllen (contents n table) (both bytes)
     pub spare : KeepsSpare m t n (both bytes)
-    pub place : SamePlace m n
 
-  module _ {r : Range} (is : r ≡ usable u) (n : Space) (start : n.start ≡ m.start) (copied : n.bytes ≡ with_bytes m addr (bytes_in m r)) where
+  module _ {r : Range} (is : r ≡ usable u) (n : Space) (start : n.start ≡ m.start) (copied : n.bytes ≡ with_bytes m addr (bytes_in m r)) (out : n.out ≡ out_with m (range_at addr r.len))
+      (own : IsOwned m (range_at addr (usable u).len)) where
     abbrev target : Range
     target = range_at addr (usable u).len
+
+    copied_there : n.bytes ≡ with_bytes m addr (bytes_in m (usable u))
+    copied_there = copied ∙ ap (λ q. with_bytes m addr (bytes_in m q)) is
+
+    out_there : n.out ≡ out_with m target
+    out_there = out ∙ ap (λ q. out_with m (range_at addr q.len)) is
 
     long : length u.bytes ≡ (usable u).len
     long = (w.used u i).bytes
 
     spliced : n.bytes ≡ splice m.bytes (addr - m.start) (addr - m.start + (usable u).len) u.bytes
-    spliced = copied ∙ ap (with_bytes m addr) (ap (bytes_in m) is ∙ v.payloads.bytes u old_stays) ∙ ap (λ k. splice m.bytes (addr - m.start) (addr - m.start + k) u.bytes) long
+    spliced = copied_there ∙ ap (with_bytes m addr) (v.payloads.bytes u old_stays) ∙ ap (λ k. splice m.bytes (addr - m.start) (addr - m.start + k) u.bytes) long
 
     IsSameOutside-copied : IsSameOutside m n (usable new)
     IsSameOutside-copied = record {
       start = start;
       length = length-with m n target u.bytes LiesIn-new long start spliced;
       bytes = λ q from side. bytes_in-with m n target u.bytes LiesIn-new long start spliced q from (elim side [
+        | inl before ↦ inl (omega (arith, before, places.answer))
+        | inr behind ↦ inr (omega (arith, behind, places.answer, shorter, payload_of-after places.range.start u.align))
+      ]);
+      out = λ a inside side. out_at-copied m n (usable u) addr LiesIn-old LiesIn-new start copied_there out_there a inside (elim side [
         | inl before ↦ inl (omega (arith, before, places.answer))
         | inr behind ↦ inr (omega (arith, behind, places.answer, shorter, payload_of-after places.range.start u.align))
       ]);
@@ -107,6 +137,7 @@ module _ {fllen sllen : ℕ} {memory : Range} {m : Space} {table : Table} {s t :
             stands = subst (StandsFor fllen sllen (contents n table)) is_both stands;
             spare = subst (KeepsSpare m t n) is_both spare;
             place = (start, IsSameOutside-copied.length);
+            own = is_own-copied m n (usable u) addr LiesIn-old LiesIn-new start copied_there out_there own;
           },
         )
 
@@ -122,7 +153,7 @@ module _ {fllen sllen : ℕ} {memory : Range} {m : Space} {table : Table} {s t :
       released = record { block = u; holds = (inr i, refl); after = refl };
     }
 
-    pub KeepsSpare-copied : (l o : Space) → SamePlace l m → KeepsSpare l s m t → KeepsSpare n (both bytes) o (released (both bytes) u) → KeepsSpare l s o (released (both bytes) u)
+    pub KeepsSpare-copied : (l o : Space) → (m.start ≡ l.start) × (length m.bytes ≡ length l.bytes) → KeepsSpare l s m t → KeepsSpare n (both bytes) o (released (both bytes) u) → KeepsSpare l s o (released (both bytes) u)
     KeepsSpare-copied l o place first last a from to before after =
         let between : IsSpare t a = subst (λ x. IsSpare x a) (sym places.after) before in
         last a (omega (arith, place.0, is.place.0)) (omega (arith, place.0, place.1, is.place.0, is.place.1)) before after

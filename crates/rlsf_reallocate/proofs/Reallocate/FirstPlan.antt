@@ -42,7 +42,7 @@ module _ (s : State) (u : Used) (size : ℕ) where
 module _ {fllen sllen : ℕ} (m n : Space) (table changed : Table) (s : State) where
   -- what was refused changed nothing
   pub StandsFor-unchanged : (most : ℕ) → Counts m n most × (changed ≡ table) → StandsFor fllen sllen (contents m table) s → StandsFor fllen sllen (contents n changed) s
-  StandsFor-unchanged most (counts, same) v = subst (λ x. StandsFor fllen sllen (contents n x) s) (sym same) (StandsFor-counted m n counts.start counts.bytes v)
+  StandsFor-unchanged most (counts, same) v = subst (λ x. StandsFor fllen sllen (contents n x) s) (sym same) (StandsFor-counted m n counts.start counts.bytes counts.out v)
 
   module _ (u : Used) (size : ℕ) where
     -- a plan was carried out
@@ -58,10 +58,10 @@ module _ {fllen sllen : ℕ} (m n : Space) (table changed : Table) (s : State) w
       s,
       subst (λ o. ReallocatesBy sllen s u size o None s) (sym none) refused,
       StandsFor-unchanged most unchanged v,
-      KeepsSpare-counted m n unchanged.0.start unchanged.0.bytes s s,
+      KeepsSpare-counted m n unchanged.0.start unchanged.0.bytes unchanged.0.out s s,
     )
     IsReallocated-elsewhere (Some addr) most none v unchanged (t, moves, stands, spare) = (t, subst (λ o. ReallocatesBy sllen s u size o (Some addr) t) (sym none) moves, stands, spare)
 
     -- something was refused before that
     pub IsReallocated-counted_first : (l : Space) (most : ℕ) (reply : Option ℕ) → Counts l m most → IsReallocated fllen sllen m n changed s u size reply → IsReallocated fllen sllen l n changed s u size reply
-    IsReallocated-counted_first l most reply counts (t, step, stands, spare) = (t, step, stands, KeepsSpare-counted_first l m counts.start counts.bytes s t n spare)
+    IsReallocated-counted_first l most reply counts (t, step, stands, spare) = (t, step, stands, KeepsSpare-counted_first l m counts.start counts.bytes counts.out s t n spare)

@@ -1,12 +1,15 @@
 -- A used block moved into the free block before it: the value stands for the planned state.
-use Rattle.std.proofs.Common.{◌≡◌, ◌≢◌, ℕ, cond, leb, ◌+◌, ◌-◌, ◌%◌, ◌≤◌, ◌<◌, ◌⊎◌, List, ◌++◌, Some, None, find, length, take, drop, min, arith, inl, inr, refl, sym, ◌∙◌, ap, subst}
+use Rattle.std.proofs.Common.{◌≡◌, ◌≢◌, ℕ, cond, leb, ◌+◌, ◌-◌, ◌%◌, ◌≤◌, ◌<◌, ◌⊎◌, List, ◌++◌, Some, None, find, true, length, take, drop, min, arith, inl, inr, refl, sym, ◌∙◌, ap, subst}
 use mathlib.Core.Path.{ap₂}
 use Rattle.std.proofs.lemmas.Bool.{leb-false}
 use Rattle.std.proofs.lemmas.List.{take-take, take_all}
 use Rattle.std.proofs.Math.Nat.{min-eq_left}
 use Rattle.rlsf_base.specs.declared.memory.range.Range.{Range}
 use Rattle.rlsf_base.specs.Range.{end_of, LiesIn, range_at}
-use Rattle.rlsf_base.specs.Space.{Space, bytes_in, range_of, word_at}
+use Rattle.rlsf_base.specs.Out.{is_own}
+use Rattle.rlsf_base.specs.Space.{Space, bytes_in, out_at, range_of, word_at}
+use Rattle.rlsf_base.specs.OpenSpace.{IsHere, IsOwned}
+use Rattle.rlsf_base.proofs.Lending.Present.{own-there}
 use Rattle.rlsf_base.proofs.Lending.Copied.{bytes_in-copied, word_at-with_bytes}
 use Rattle.rlsf_machine.specs.Allocate.{rest_behind}
 use Rattle.rlsf_machine.specs.Join.{ends_at, starts_at, start_or}
@@ -23,8 +26,8 @@ use Rattle.rlsf_machine.proofs.Payloads.{IsUsed-after_start, IsUsed-some, payloa
 use Rattle.rlsf_machine.proofs.Plans.{IsSoundPlan, IsSound-into_previous, IsWellFormed-replanned}
 use Rattle.rlsf_machine.proofs.Releases.{IsSound-free, IsWellFormed-released}
 use Rattle.rlsf_machine.proofs.Tiling.{free-le, tiling_of}
-use Rattle.rlsf_blocks.specs.StandsFor.{contents, StandsFor}
-use Rattle.rlsf_table.specs.FreeList.{IsLink, CanBeBlock, Rewrites}
+use Rattle.rlsf_blocks.specs.StandsFor.{contents, IsUnlent, StandsFor}
+use Rattle.rlsf_table.specs.Rewrites.{IsLink, CanBeBlock, Rewrites}
 use Rattle.rlsf_blocks.specs.Steps.Touched.{Touched, at_link, in_hole, at_other}
 use Rattle.rlsf_blocks.specs.Steps.Join.{IsNextOut, IsPreviousOut, union, untouched}
 use Rattle.rlsf_reallocate.specs.Steps.Resize.{IsCarriedOut, IsOccupied}
@@ -37,6 +40,7 @@ use Rattle.rlsf_reallocate.proofs.Reallocate.Copies.{IsCopied, IsInside, LiesIn-
 use Rattle.rlsf_reallocate.proofs.Reallocate.Previous.{into_previous-fits, planned, reach}
 use Rattle.rlsf_blocks.proofs.Words.Apart.{used_free, free_in_memory, used_in_memory}
 use Rattle.rlsf_blocks.proofs.Words.Frames.{sides, wide_whole}
+use Rattle.rlsf_blocks.proofs.Words.Here.{here_free-in, here_released}
 use Rattle.rlsf_blocks.proofs.Words.Refilled.{IsUsedStill, old_used, new_used, IsFreeStill, old_free, new_free, IsRefilled, StandsFor-refilled, KeepsSpare-refilled}
 
 -- a block that is too short where it stands has fewer bytes than its payload is to have
@@ -94,6 +98,10 @@ module _ {fllen sllen : ℕ} {m : Space} {t : Table} {s : State} (v : StandsFor 
         let same = gone v u i before behind in
         (omega (arith, place.0, same.start, IsUsed-after_start u (v.well_formed.used u i)), omega (arith, place.1, same.start, same.length, (v.well_formed.used u i).within))
 
+    -- which are here
+    pub payload_here : IsHere m (usable u) → IsHere m2 (usable u)
+    payload_here here a lo hi = (gone v u i before behind).here a (omega (arith, (used_in_memory v.well_formed u i).0, IsUsed-after_start u (v.well_formed.used u i))) (here a lo hi)
+
     payload_kept : bytes_in m2 (usable u) ≡ u.bytes
     payload_kept =
         let is = v.well_formed.used u i in
@@ -110,12 +118,12 @@ module _ {fllen sllen : ℕ} {m : Space} {t : Table} {s : State} (v : StandsFor 
             ]
 
     -- the payload was copied, and the block's words were written
-    module _ {m3 m4 n : Space} {t4 : Table} (copied : IsCopied m2 m3 (union u.block s.free) (usable u) (payload_of f.start u.align))
+    module _ {m3 m4 n : Space} {t4 : Table} (own : IsOwned m (usable u)) (copied : IsCopied m2 m3 (union u.block s.free) (usable u) (payload_of f.start u.align))
         (occupied : IsOccupied fllen sllen m3 m4 t4 (untouched u.block s.free) (union u.block s.free) (planned s u size f).block)
         (padded : Writes m4 n (32 ≤ u.align) (payload_of f.start u.align - 8) f.start) where
       rewrites : Rewrites m n (Touched s.free (union u.block s.free) (end_of (union u.block s.free) + 8))
       rewrites =
-          let copy = Rewrites-copied (union u.block s.free) (IsInnerRoom-union v u i before behind) (usable u) (payload_of f.start u.align) copied in
+          let copy = Rewrites-copied (union u.block s.free) (IsInnerRoom-union v u i before behind own) (usable u) (payload_of f.start u.align) copied in
           Rewrites-weaken joined (Rewrites-trans (gone v u i before behind) (Rewrites-trans copy (Rewrites-trans occupied.rewrites padded.rewrites)))
         where
           joined : (a : ℕ) → IsLink s.free a ⊎ (IsInside (union u.block s.free) a
@@ -144,10 +152,10 @@ module _ {fllen sllen : ℕ} {m : Space} {t : Table} {s : State} (v : StandsFor 
           let same = gone v u i before behind in
           let a = (union u.block s.free).start + 8 in
           let to = payload_of f.start u.align in
-          let there = LiesIn-copied (union u.block s.free) (IsInnerRoom-union v u i before behind) (usable u) to copied in
+          let there = LiesIn-copied (union u.block s.free) (IsInnerRoom-union v u i before behind own) (usable u) to copied in
           last a (omega (arith, is.start, is.whole)) (omega (arith, is.start)) (λ w at. omega (arith, is.start, is.wide w, is.whole, is.after_start))
           ∙ occupied.first
-          ∙ word_at-with_bytes m2 m3 (usable u) to copied.placed there copied.start copied.bytes a (omega (arith, is.start, same.start)) (inl (omega (arith, is.start, is.after_start)))
+          ∙ word_at-with_bytes m2 m3 (usable u) to copied.placed there copied.start copied.bytes copied.out a (omega (arith, is.start, same.start)) (inl (omega (arith, is.start, is.after_start)))
           ∙ same.words a (omega (arith, is.start, is.whole)) (omega (arith, is.start)) no_link
         where
           no_link : IsLink s.free ((union u.block s.free).start + 8) → ⊥
@@ -166,6 +174,10 @@ module _ {fllen sllen : ℕ} {m : Space} {t : Table} {s : State} (v : StandsFor 
           length-bytes_in n (between (payload_of f.start u.align) (end_of (planned s u size f).block))
           (omega (arith, rewrites.start, place.0, is.start, is.after_start), omega (arith, rewrites.start, rewrites.length, place.1, is.end, is.enough, fits))
 
+      -- nothing is out but usable bytes of the other payloads
+      own_replanned : (a : ℕ) → m.start ≤ a → IsUnlent (replanned s u (planned s u size f) bytes) a → is_own (out_at m a) ≡ true
+      own_replanned a from unlent = here_released v u i own a from (λ x j. unlent x (inr j))
+
       t_well_formed : IsWellFormed fllen sllen (range_of m) (replanned s u (planned s u size f) bytes)
       t_well_formed = IsWellFormed-replanned v.well_formed u i size (planned s u size f) sound bytes long
 
@@ -176,10 +188,10 @@ module _ {fllen sllen : ℕ} {m : Space} {t : Table} {s : State} (v : StandsFor 
           let base = from_memory in
           let same = gone v u i before behind in
           let to = payload_of f.start u.align in
-          let there = LiesIn-copied (union u.block s.free) (IsInnerRoom-union v u i before behind) (usable u) to copied in
+          let there = LiesIn-copied (union u.block s.free) (IsInnerRoom-union v u i before behind own) (usable u) to copied in
           padded.rewrites.bytes (range_at to (usable u).len) (omega (arith, occupied.rewrites.start, copied.start, same.start, is.after_start)) (λ a (w, at). inr (omega (arith, is.after_start)))
           ∙ occupied.kept (range_at to (usable u).len) (omega (arith, is.start, is.after_start)) (omega (arith, is.enough))
-          ∙ bytes_in-copied m2 m3 (usable u) to copied.placed there copied.start copied.bytes
+          ∙ bytes_in-copied m2 m3 (usable u) to copied.placed there copied.start copied.bytes copied.out
           ∙ payload_kept
 
       keeps : Keeps u.bytes bytes
@@ -245,7 +257,14 @@ module _ {fllen sllen : ℕ} {m : Space} {t : Table} {s : State} (v : StandsFor 
               let all = rewrites in
               let start : m4.start ≡ m.start = sym padded.rewrites.start ∙ all.start in
               let length_is : length m4.bytes ≡ length m.bytes = sym padded.rewrites.length ∙ all.length in
-              record { some = omega (arith, v.nonzero, place.0); whole = is.whole.start; room = omega (arith, is.some, is.whole.len); lies_in = (omega (arith, place.0), omega (arith, place.1)) }
+              let before_pad = λ (a : ℕ) (from : m.start ≤ a). sym (padded.rewrites.own a (omega (arith, start))) ∙ all.own a from in
+              record {
+                some = omega (arith, v.nonzero, place.0);
+                whole = is.whole.start;
+                room = omega (arith, is.some, is.whole.len);
+                lies_in = (omega (arith, place.0), omega (arith, place.1));
+                own = own-there m m4 g place.0 before_pad (here_free-in m t_well_formed own_replanned g k);
+              }
 
           none : (g : Range) → IsIn g (planned s u size f).free → (k : ℕ) → k + 8 ≤ 32 → (32 ≤ u.align) × (g.start + k ≡ payload_of f.start u.align - 8) → ⊥
           none g j k early (w, at) =
@@ -262,7 +281,7 @@ module _ {fllen sllen : ℕ} {m : Space} {t : Table} {s : State} (v : StandsFor 
           let is = is_free v u i in
           let all = rewrites in
           let refilled : IsRefilled fllen sllen m n t4 s (replanned s u (planned s u size f) bytes).used (planned s u size f).free (union u.block s.free) =
-          record { rewrites = all; first = first; used_still = used_still; free_still = free_still; table = table } in
+          record { rewrites = all; first = first; used_still = used_still; free_still = free_still; table = table; own = own_replanned } in
           let same : range_of n ≡ range_of m = ap₂ (λ a l. range_at a l) all.start all.length in
           let well_formed = subst (λ p. IsWellFormed fllen sllen p (replanned s u (planned s u size f) bytes)) (sym same) t_well_formed in (
             replanned s u (planned s u size f) bytes,

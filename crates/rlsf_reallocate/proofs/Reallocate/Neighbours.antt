@@ -1,9 +1,11 @@
 -- The free blocks before a used one and behind it, by the words that tell their lengths.
-use Rattle.std.proofs.Common.{◌≡◌, ◌≢◌, ◌↔◌, ℕ, Bool, true, false, cond, List, [], ◌∷◌, ◌+◌, ◌-◌, ◌%◌, ◌≤◌, ◌<◌, Option, Some, None, find, arith, inl, inr, refl, sym, ◌∙◌, ap, subst}
+use Rattle.std.proofs.Common.{◌≡◌, ◌≢◌, ◌↔◌, ℕ, Bool, true, false, cond, List, [], ◌∷◌, ◌+◌, ◌-◌, ◌%◌, ◌^◌, ◌≤◌, ◌<◌, Option, Some, None, find, arith, inl, inr, refl, sym, ◌∙◌, ap, subst}
 use Rattle.std.proofs.lemmas.Bool.{eqb-true, ne_eqb}
 use Rattle.rlsf_base.specs.declared.memory.range.Range.{Range}
-use Rattle.rlsf_base.specs.Range.{end_of}
+use Rattle.rlsf_base.specs.Range.{end_of, range_at}
 use Rattle.rlsf_base.specs.Space.{Space, word_at}
+use Rattle.rlsf_base.proofs.Lending.Here.{is_word}
+use Rattle.rlsf_base.proofs.Lending.Present.{own-word}
 use Rattle.rlsf_blocks.specs.StandsFor.{contents, StandsFor}
 use Rattle.rlsf_blocks.specs.Steps.Join.{FreeBlockBegins, IsMarked}
 use Rattle.rlsf_table.specs.Table.{Table}
@@ -17,6 +19,7 @@ use Rattle.rlsf_table.proofs.FreeLists.Found.{find-start, find-no_start}
 use Rattle.rlsf_blocks.proofs.Machine.FreeBlocks.{IsFreeTable-free}
 use Rattle.rlsf_blocks.proofs.Machine.Neighbours.{Behind, free_behind, used_behind, last_behind, behind_used}
 use Rattle.rlsf_blocks.proofs.Words.Apart.{used_in_memory, free_in_memory}
+use Rattle.rlsf_blocks.proofs.Words.Here.{here_behind_used}
 
 -- an element that fails a test is no answer to it, so it isn't missed
 find-without : {A : Type 0} (p q : A → Bool) (xs : List A) → ((x : A) → IsIn x xs → q x ≡ true → p x ≡ false) → find p (without q xs) ≡ find p xs
@@ -89,11 +92,15 @@ module _ {fllen sllen : ℕ} {m : Space} {t : Table} {s : State} (v : StandsFor 
   IsMarked-end e end =
       let is = v.well_formed.used u i in
       let place = used_in_memory v.well_formed u i in
-      record {
-        word = (omega (arith, end, is.whole.start, is.whole.len), (omega (arith, end, place.0), omega (arith, end, place.1)));
-        mark = go (subst (Behind s) end (behind_used v.well_formed u i));
-      }
+      let behind = subst (Behind s) end (behind_used v.well_formed u i) in
+      let own = own-word m (range_at (end_of u.block) 16) e (here_behind_used v u i) (omega (arith, end)) (omega (arith, end)) in
+      record { word = is_word m e (omega (arith, end, is.whole.start, is.whole.len), (omega (arith, end, place.0), omega (arith, end, place.1)), own) (fits behind); mark = go behind }
     where
+      fits : Behind s e → word_at m e < 2 ^ 64
+      fits (free_behind f j begin) = subst (λ a. word_at m a < 2 ^ 64) begin (omega (arith, v.sizes.free f j, (free_in_memory v.well_formed f j).1, v.well_formed.addressable))
+      fits (used_behind x j begin) = subst (λ a. word_at m a < 2 ^ 64) begin (omega (arith, v.sizes.used x j, (used_in_memory v.well_formed x j).1, v.well_formed.addressable))
+      fits (last_behind c j begin) = subst (λ a. word_at m a < 2 ^ 64) begin (omega (arith, v.sizes.sentinel c j))
+
       odd : word_at m e % 2 ≡ 1 → (FreeBlockBegins s.free e → ⊥) → (word_at m e % 2 ≡ 0) ↔ FreeBlockBegins s.free e
       odd is_odd none = (λ even. absurd (omega (arith, even, is_odd)), λ begins. absurd (none begins))
 

@@ -3,7 +3,9 @@ use Rattle.std.proofs.Common.{◌≡◌, ◌≢◌, ℕ, ◌+◌, ◌-◌, ◌%�
 use Rattle.std.proofs.lemmas.Bool.{le-ltb, lt-ltb}
 use Rattle.rlsf_base.specs.declared.memory.range.Range.{Range}
 use Rattle.rlsf_base.specs.Range.{end_of, range_at}
-use Rattle.rlsf_base.specs.Space.{Space, word_at, with_word}
+use Rattle.rlsf_base.specs.Space.{Space, word_at, word_range, with_word}
+use Rattle.rlsf_base.specs.OpenSpace.{out_with}
+use Rattle.rlsf_base.proofs.Lending.Present.{own-inside, own-there, own-word}
 use Rattle.rlsf_machine.specs.Allocate.{rest_behind}
 use Rattle.rlsf_machine.specs.Lists.{IsIn}
 use Rattle.rlsf_machine.specs.State.{between}
@@ -11,7 +13,7 @@ use Rattle.rlsf_machine.specs.WellFormed.{itself}
 use Rattle.rlsf_machine.proofs.Changes.{IsIn-rest_behind}
 use Rattle.rlsf_machine.proofs.Coverage.{covers-inside, coverage-IsIn}
 use Rattle.rlsf_machine.proofs.Tiling.{IsValidClass-le}
-use Rattle.rlsf_table.specs.FreeList.{IsLink}
+use Rattle.rlsf_table.specs.Rewrites.{IsLink}
 use Rattle.rlsf_blocks.specs.Steps.Touched.{Touched, at_link, in_hole, at_other}
 use Rattle.rlsf_table.specs.FreeTable.{IsFreeTable}
 use Rattle.rlsf_reallocate.specs.Steps.Resize.{IsOccupied}
@@ -32,12 +34,13 @@ module _ {fllen sllen : ℕ} {m : Space} {table : Table} {free : List Range} {bl
     (span : Range) (start : span.start ≡ block) (long : span.len ≡ total) (inner : IsInnerRoom fllen sllen m table free span)
     (part : (taken % 32 ≡ 0) × (0 < taken) × (taken ≤ total)) where
   -- the size word was written
-  pub sized_from : {m1 : Space} → m1.start ≡ m.start → m1.bytes ≡ with_word m block (taken + 1) → IsWrite m m1 block (taken + 1)
-  sized_from same written =
+  pub sized_from : {m1 : Space} → m1.start ≡ m.start → m1.bytes ≡ with_word m block (taken + 1) → m1.out ≡ out_with m (word_range block) → IsWrite m m1 block (taken + 1)
+  sized_from same written out =
       let placed = inner.room.placed in
       let inside = placed.lies_in in
       let addressable = inner.room.list.addressable in
-      write (omega (arith, placed.whole), (omega arith, omega (arith, placed.room))) same written (omega (arith, placed.room, placed.some, part.2))
+      let own = own-word m span block placed.own (omega (arith, start)) (omega (arith, start, placed.room)) in
+      write (omega (arith, placed.whole), (omega arith, omega (arith, placed.room)), own) same written (omega (arith, placed.room, placed.some, part.2)) out
 
   -- no free block has an address of the span
   apart : (g : Range) → IsIn g free → (a : ℕ) → Has span a → Has g a → ⊥
@@ -93,10 +96,13 @@ module _ {fllen sllen : ℕ} {m : Space} {table : Table} {free : List Range} {bl
               whole = omega (arith, is.whole.start);
               room = omega (arith, is.whole.start, is.whole.len);
               lies_in = (omega (arith, moved.start, inside.0), omega (arith, moved.start, moved.length, inside.1));
+              own = own-there m m1 (rest_of block taken span) (omega (arith, inside.0)) moved.own (own-inside m span (rest_of block taken span) (omega arith) (omega arith) placed.own);
             };
             apart = λ a. omega (arith, inner.room.apart a, covers-part (rest_of block taken span) span a (omega arith) (omega arith));
           };
           not_last = omega (arith, moved.start, moved.length, inner.not_last);
+          behind = own-there m m1 (range_at (end_of (rest_of block taken span)) 16) (omega (arith, inside.0)) moved.own
+              (own-inside m (range_at (end_of span) 16) (range_at (end_of (rest_of block taken span)) 16) (omega arith) (omega arith) inner.behind);
         }
 
     pub IsOccupied-rest : {n : Space} {changed : Table} → taken < total → IsFreeBlockBehind fllen sllen m1 n changed free block (rest_of block taken span)
@@ -141,13 +147,15 @@ module _ {fllen sllen : ℕ} {m : Space} {table : Table} {free : List Range} {bl
     -- ---- nothing is left
 
     -- the word behind it was written
-    pub named_from : {n : Space} → n.start ≡ m1.start → n.bytes ≡ with_word m1 (block + total + 8) block → IsWrite m1 n (block + total + 8) block
-    named_from same written =
+    pub named_from : {n : Space} → n.start ≡ m1.start → n.bytes ≡ with_word m1 (block + total + 8) block → n.out ≡ out_with m1 (word_range (block + total + 8)) → IsWrite m1 n (block + total + 8) block
+    named_from same written out =
         let whole = inner.room.block.whole in
         let inside = inner.room.placed.lies_in in
         let moved = rewrites_of sized in
         let addressable = inner.room.list.addressable in
-        write (omega (arith, whole.start, whole.len), (omega (arith, moved.start), omega (arith, moved.start, moved.length, inner.not_last))) same written (omega arith)
+        let own = own-word m (range_at (end_of span) 16) (block + total + 8) inner.behind (omega arith) (omega arith) in
+        let there = own-there m m1 (word_range (block + total + 8)) (omega arith) moved.own own in
+        write (omega (arith, whole.start, whole.len), (omega (arith, moved.start), omega (arith, moved.start, moved.length, inner.not_last)), there) same written (omega arith) out
 
     module _ {n : Space} (all : total ≤ taken) (named : IsWrite m1 n (block + total + 8) block) where
       pub IsOccupied-whole_span : IsOccupied fllen sllen m n table free span (range_at block taken)

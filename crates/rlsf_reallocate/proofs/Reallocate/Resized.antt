@@ -1,22 +1,25 @@
 -- A used block got another size where it stands: the value stands for the state with it.
-use Rattle.std.proofs.Common.{◌≡◌, ℕ, ◌+◌, ◌-◌, ◌%◌, ◌≤◌, ◌⊎◌, List, ◌∷◌, ◌++◌, length, drop, min, arith, inl, inr, refl, sym, ◌∙◌, ap, subst}
+use Rattle.std.proofs.Common.{◌≡◌, ℕ, ◌+◌, ◌-◌, ◌%◌, ◌^◌, ◌<◌, ◌≤◌, ◌⊎◌, true, List, ◌∷◌, ◌++◌, length, drop, min, arith, inl, inr, refl, sym, ◌∙◌, ap, subst}
 use mathlib.Core.Path.{ap₂}
 use Rattle.std.proofs.lemmas.List.{take-take}
 use Rattle.std.specs.Int.{w64, from_le_bytes}
 use Rattle.rlsf_base.specs.declared.memory.range.Range.{Range}
+use Rattle.rlsf_base.specs.Out.{is_own}
 use Rattle.rlsf_base.specs.Range.{end_of, range_at, LiesIn}
-use Rattle.rlsf_base.specs.Space.{Space, bytes_in, range_of, word_at, word_range}
+use Rattle.rlsf_base.specs.Space.{Space, bytes_in, out_at, range_of, word_at, word_range}
+use Rattle.rlsf_base.specs.OpenSpace.{IsOwned}
+use Rattle.rlsf_base.proofs.Lending.Here.{is_here-word, word_at-is}
 use Rattle.rlsf_machine.specs.Allocate.{rest_behind}
 use Rattle.rlsf_machine.specs.Lists.{IsIn}
-use Rattle.rlsf_machine.specs.Reallocate.{resized, Keeps, moved, replanned}
-use Rattle.rlsf_machine.specs.State.{State, Used, between, others}
+use Rattle.rlsf_machine.specs.Reallocate.{Plan, resized, Keeps, moved, replanned}
+use Rattle.rlsf_machine.specs.State.{State, Used, between, others, usable}
 use Rattle.rlsf_machine.specs.WellFormed.{IsWellFormed}
 use Rattle.rlsf_machine.proofs.Changes.{IsIn-others}
 use Rattle.rlsf_machine.proofs.Coverage.{IsIn-append}
 use Rattle.rlsf_machine.proofs.Payloads.{IsUsed-after_start, IsUsed-aligned, IsUsed-some}
 use Rattle.rlsf_machine.proofs.Plans.{IsSoundPlan, IsWellFormed-replanned}
-use Rattle.rlsf_blocks.specs.StandsFor.{contents, StandsFor}
-use Rattle.rlsf_table.specs.FreeList.{IsLink}
+use Rattle.rlsf_blocks.specs.StandsFor.{contents, IsUnlent, StandsFor}
+use Rattle.rlsf_table.specs.Rewrites.{IsLink}
 use Rattle.rlsf_blocks.specs.Steps.Touched.{Touched, at_link, in_hole, at_other}
 use Rattle.rlsf_blocks.specs.Steps.Join.{IsNextOut}
 use Rattle.rlsf_reallocate.specs.Steps.Resize.{IsCarriedOut, IsOccupied}
@@ -28,6 +31,7 @@ use Rattle.rlsf_reallocate.proofs.Reallocate.NextPlans.{stretched, kept_whole, t
 use Rattle.rlsf_reallocate.proofs.Reallocate.Spans.{reach, span_of, staying, end_of-span, home, IsWhole-span, free_apart, used_apart, span-some, span_in_memory, was_free}
 use Rattle.rlsf_blocks.proofs.Words.Apart.{used_free, used_in_memory}
 use Rattle.rlsf_blocks.proofs.Words.Frames.{sides, wide_whole}
+use Rattle.rlsf_blocks.proofs.Words.Here.{here_released}
 use Rattle.rlsf_blocks.proofs.Words.Refilled.{IsUsedStill, old_used, new_used, IsFreeStill, old_free, new_free, IsRefilled, StandsFor-refilled, KeepsSpare-refilled}
 
 -- as many first bytes of two ranges at one address as both have are the same, if they are the same in both memories
@@ -48,13 +52,18 @@ Keeps-bytes_in m n at old new inside also same from to =
 abbrev pub resized_bytes : Space → Used → ℕ → List ℕ
 resized_bytes n u size = bytes_in n (between u.payload (end_of (resized u size)))
 
-module _ {fllen sllen : ℕ} {m : Space} {t : Table} {s : State} (v : StandsFor fllen sllen (contents m t) s) (u : Used) (i : IsIn u s.used) (size : ℕ) where
+module _ {fllen sllen : ℕ} {m : Space} {t : Table} {s : State} (v : StandsFor fllen sllen (contents m t) s) (u : Used) (i : IsIn u s.used) (size : ℕ) (own : IsOwned m (usable u)) where
+  -- nothing is out but usable bytes of the other payloads
+  own_replanned : (p : Plan) (bytes : List ℕ) (a : ℕ) → m.start ≤ a → IsUnlent (replanned s u p bytes) a → is_own (out_at m a) ≡ true
+  own_replanned p bytes a from unlent = here_released v u i own a from (λ x j. unlent x (inr j))
+
   -- ---- its length is as it was
 
   -- the value stands for the state with the used blocks in another order
   StandsFor-reordered : (used : List Used) (free : List Range) → ((x : Used) → IsIn x used → IsIn x s.used) → free ≡ s.free
+      → ((a : ℕ) → m.start ≤ a → IsUnlent (record { chunks = s.chunks; used = used; free = free }) a → is_own (out_at m a) ≡ true)
       → IsWellFormed fllen sllen (range_of m) (record { chunks = s.chunks; used = used; free = free }) → StandsFor fllen sllen (contents m t) (record { chunks = s.chunks; used = used; free = free })
-  StandsFor-reordered used free among same well_formed =
+  StandsFor-reordered used free among same own_after well_formed =
       let was_free = λ (f : Range) (j : IsIn f free). subst (IsIn f) same j in
       record {
         nonzero = v.nonzero;
@@ -63,11 +72,12 @@ module _ {fllen sllen : ℕ} {m : Space} {t : Table} {s : State} (v : StandsFor 
         previous = record { used = λ x j. v.previous.used x (among x j); free = λ f j. v.previous.free f (was_free f j); first = v.previous.first };
         payloads = record { bytes = λ x j. v.payloads.bytes x (among x j); pad = λ x j wide. v.payloads.pad x (among x j) wide };
         table = subst (HasTable fllen sllen m t) (sym same) v.table;
+        own = own_after;
       }
 
-  pub IsCarriedOut-kept : {n : Space} → n.start ≡ m.start → n.bytes ≡ m.bytes → end_of (resized u size) ≡ end_of u.block
+  pub IsCarriedOut-kept : {n : Space} → n.start ≡ m.start → n.bytes ≡ m.bytes → n.out ≡ m.out → end_of (resized u size) ≡ end_of u.block
       → IsCarriedOut fllen sllen (contents m t) (contents n t) s u (kept_whole s u size)
-  IsCarriedOut-kept {n} start bytes same =
+  IsCarriedOut-kept {n} start bytes out same =
       let p = kept_whole s u size in
       let after = replanned s u p u.bytes in
       let is = v.well_formed.used u i in
@@ -79,8 +89,8 @@ module _ {fllen sllen : ℕ} {m : Space} {t : Table} {s : State} (v : StandsFor 
       λ x. elim [ inl e ↦ subst (λ y. IsIn y s.used) (sym (e ∙ unchanged)) i | inr j ↦ (IsIn-others u.payload x s.used j).0 ] in (
         after,
         record { bytes = u.bytes; answer = refl; length = long; kept = refl; after = refl },
-        StandsFor-counted m n start bytes (StandsFor-reordered (moved u p u.bytes ∷ others u.payload s.used) p.free among (tail_joined-same s u size same) well_formed),
-        KeepsSpare-counted m n start bytes s after,
+        StandsFor-counted m n start bytes out (StandsFor-reordered (moved u p u.bytes ∷ others u.payload s.used) p.free among (tail_joined-same s u size same) (own_replanned p u.bytes) well_formed),
+        KeepsSpare-counted m n start bytes out s after,
       )
 
   -- ---- it has another length
@@ -108,13 +118,22 @@ module _ {fllen sllen : ℕ} {m : Space} {t : Table} {s : State} (v : StandsFor 
 
     -- the word before the payload names the block still
     pad : 32 ≤ u.align → word_at n (u.payload - 8) ≡ u.block.start
-    unfolding word_at
     pad wide =
         let is = v.well_formed.used u i in
         let after_start = IsUsed-after_start u is in
         let granule : u.payload % 32 ≡ 0 = wide_whole u.payload u.align is.power wide (IsUsed-aligned u is) in
         let whole = is.whole.start in
-        ap (from_le_bytes w64) (stays (word_range (u.payload - 8)) (omega arith) (omega (arith, is.within)) (omega (arith, sound.within))) ∙ v.payloads.pad u i wide
+        let place = used_in_memory v.well_formed u i in
+        let one = out.rewrites in
+        let two = occupied.rewrites in
+        let a = u.payload - 8 in
+        let inside : m.start ≤ a = omega (arith, place.0) in
+        let fits : word_at m a < 2 ^ 64 = omega (arith, v.payloads.pad u i wide, place.1, v.well_formed.addressable) in
+        let there = is_here-word m a inside fits in
+        word_at-is n a (omega (arith, one.start, two.start)) (λ k lo hi. two.here k (omega (arith, one.start)) (one.here k (omega arith) (there k lo hi)))
+        ∙ ap (from_le_bytes w64) (stays (word_range a) (omega arith) (omega (arith, is.within)) (omega (arith, sound.within)))
+        ∙ sym (word_at-is m a inside there)
+        ∙ v.payloads.pad u i wide
 
     inside : LiesIn (between u.payload (end_of (resized u size))) n.start (length n.bytes)
     inside =
@@ -147,6 +166,7 @@ module _ {fllen sllen : ℕ} {m : Space} {t : Table} {s : State} (v : StandsFor 
           used_still = still_used;
           free_still = still_free;
           table = subst (λ l. HasTable fllen sllen n x (l ++ staying s u)) listed occupied.table;
+          own = own_replanned (stretched s u size) (resized_bytes n u size);
         }
       where
         listed : rest_behind (resized u size) (end_of (span_of s u)) ≡ rest_behind (resized u size) (reach s u)

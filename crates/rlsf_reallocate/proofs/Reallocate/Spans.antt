@@ -1,23 +1,28 @@
 -- A used block and the free block behind it, if there is one: the span of both.
-use Rattle.std.proofs.Common.{◌≡◌, ℕ, ◌+◌, ◌<◌, ◌≤◌, ◌-◌, List, find, length, arith, refl}
+use Rattle.std.proofs.Common.{◌≡◌, ℕ, ◌+◌, ◌<◌, ◌≤◌, ◌-◌, List, find, length, arith, inl, inr, refl}
+use Rattle.std.proofs.lemmas.Bool.{cases_lt}
 use Rattle.rlsf_base.specs.declared.memory.range.Range.{Range}
-use Rattle.rlsf_base.specs.Range.{end_of}
-use Rattle.rlsf_base.specs.Space.{Space}
+use Rattle.rlsf_base.specs.Range.{end_of, range_at}
+use Rattle.rlsf_base.specs.Space.{Space, range_of}
+use Rattle.rlsf_base.specs.OpenSpace.{IsOwned}
+use Rattle.rlsf_base.proofs.Lending.Present.{own-there}
 use Rattle.rlsf_machine.specs.Join.{starts_at, end_or}
 use Rattle.rlsf_machine.specs.Lists.{IsIn, without}
-use Rattle.rlsf_machine.specs.State.{State, Used, between, others}
-use Rattle.rlsf_machine.specs.WellFormed.{covers, coverage, itself, IsFree, IsWhole}
-use Rattle.rlsf_machine.proofs.Changes.{coverage-others}
+use Rattle.rlsf_machine.specs.Release.{released}
+use Rattle.rlsf_machine.specs.State.{State, Used, between, others, usable}
+use Rattle.rlsf_machine.specs.WellFormed.{covers, coverage, itself, IsFree, IsWellFormed, IsWhole}
+use Rattle.rlsf_machine.proofs.Changes.{coverage-others, IsIn-others}
 use Rattle.rlsf_machine.proofs.Coverage.{covers-inside, covers-split, coverage-IsIn, IsIn-without}
 use Rattle.rlsf_machine.proofs.Joins.{IsRight, right_of}
-use Rattle.rlsf_machine.proofs.Payloads.{IsUsed-some}
-use Rattle.rlsf_machine.proofs.Releases.{IsSound-free}
+use Rattle.rlsf_machine.proofs.Payloads.{IsUsed-after_start, IsUsed-some}
+use Rattle.rlsf_machine.proofs.Releases.{IsSound-free, IsWellFormed-released}
 use Rattle.rlsf_machine.proofs.Tiling.{block_of, blocks, blocks-le, tiling_of, IsValidClass-le, LiesInChunk, lies_in_chunk}
 use Rattle.rlsf_blocks.specs.StandsFor.{contents, StandsFor}
 use Rattle.rlsf_blocks.specs.Steps.Join.{IsNextOut}
 use Rattle.rlsf_blocks.specs.Steps.Rest.{IsInnerRoom}
 use Rattle.rlsf_table.specs.Table.{Table}
 use Rattle.rlsf_blocks.proofs.Words.Apart.{Has}
+use Rattle.rlsf_blocks.proofs.Words.Here.{here_apart-in, here_released}
 
 -- where the free block behind a used one ends, or where that ends itself
 abbrev pub reach : State → Used → ℕ
@@ -88,14 +93,34 @@ module _ {fllen sllen : ℕ} {m : Space} {t : Table} {s : State} (v : StandsFor 
       let shorter : (span_of s u).len ≤ here.chunk.len - 32 = omega (arith, here.from, here.to, chunk.has_room) in
       record { whole = IsWhole-span; some = span-some; valid = IsValidClass-le fllen sllen (span_of s u).len (here.chunk.len - 32) span-some shorter chunk.valid }
 
+  -- ---- its bytes are the memory's own, if those of the payload are, and so are the 16 behind it
+
+  released_well : IsWellFormed fllen sllen (range_of m) (released s u)
+  released_well = IsWellFormed-released v.well_formed u i
+
+  deep : (y : Used) → IsIn y (others u.payload s.used) → y.block.start + 16 ≤ y.payload
+  deep y j = IsUsed-after_start y (v.well_formed.used y (IsIn-others u.payload y s.used j).0)
+
+  pub IsOwned-span : IsOwned m (usable u) → IsOwned m (span_of s u)
+  IsOwned-span own =
+      here_apart-in m released_well (here_released v u i own) (span_of s u) span_in_memory.0 (λ y j a low high h. used_apart y j a (record { from = omega (arith, deep y j); to = high }) h)
+
+  pub IsOwned-behind_span : IsOwned m (usable u) → IsOwned m (range_at (end_of (span_of s u)) 16)
+  IsOwned-behind_span own =
+      let long = span-some in
+      here_apart-in m released_well (here_released v u i own) (range_at (end_of (span_of s u)) 16) (omega (arith, span_in_memory.0)) (λ y j a low high h. elim (cases_lt y.block.start (end_of (span_of s u))) [
+        | inl before ↦ used_apart y j (end_of (span_of s u) - 1) (record { from = omega arith; to = omega (arith, h.from) }) (record { from = omega arith; to = omega arith })
+        | inr past ↦ omega (arith, h.to, deep y j)
+      ])
+
   -- ---- the block behind it was taken out
 
   module _ {m1 : Space} {t1 : Table} {next : ℕ} (out : IsNextOut fllen sllen m m1 t1 s.free (end_of u.block) next) where
     pub span_len : (span_of s u).len ≡ u.block.len + next
     span_len = omega (arith, out.end)
 
-    pub IsInnerRoom-span : IsInnerRoom fllen sllen m1 t1 (staying s u) (span_of s u)
-    IsInnerRoom-span =
+    pub IsInnerRoom-span : IsOwned m (usable u) → IsInnerRoom fllen sllen m1 t1 (staying s u) (span_of s u)
+    IsInnerRoom-span own =
         let place = span_in_memory in
         let whole = IsWhole-span in
         let moved = out.rewrites in
@@ -108,8 +133,10 @@ module _ {fllen sllen : ℕ} {m : Space} {t : Table} {s : State} (v : StandsFor 
               whole = whole.start;
               room = omega (arith, span-some, whole.len);
               lies_in = (omega (arith, place.0, moved.start), omega (arith, place.1, end_of-span, moved.start, moved.length));
+              own = own-there m m1 (span_of s u) place.0 moved.own (IsOwned-span own);
             };
             apart = λ a. omega (arith, span_alone a);
           };
           not_last = omega (arith, place.1, end_of-span, moved.start, moved.length);
+          behind = own-there m m1 (range_at (end_of (span_of s u)) 16) (omega (arith, place.0)) moved.own (IsOwned-behind_span own);
         }

@@ -13,7 +13,7 @@ use Rattle.rlsf_machine.specs.State.{State, Used}
 use Rattle.rlsf_blocks.specs.Spare.{KeepsSpare}
 use Rattle.rlsf_blocks.specs.StandsFor.{Contents, contents, StandsFor}
 use Rattle.rlsf_blocks.specs.Steps.Standing.{StepsTo}
-use Rattle.rlsf_table.specs.FreeList.{Rewrites}
+use Rattle.rlsf_table.specs.Rewrites.{Rewrites}
 use Rattle.rlsf_blocks.specs.Steps.Touched.{Touched}
 use Rattle.rlsf_table.specs.Table.{Table, HasTable}
 

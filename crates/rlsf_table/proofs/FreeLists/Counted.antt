@@ -1,17 +1,21 @@
 -- What stands in a memory in which nothing but the counts has changed.
-use Rattle.std.proofs.Common.{◌≡◌, ℕ, ◌+◌, ◌-◌, List, length, slice_index, take, drop, arith, ◌∙◌, ap}
+use Rattle.std.proofs.Common.{◌≡◌, ℕ, ◌+◌, ◌-◌, ◌^◌, List, length, slice_index, take, drop, arith, ◌∙◌, ap}
 use mathlib.Core.Path.{ap₂}
 use Rattle.std.specs.Int.{w64, from_le_bytes}
 use Rattle.rlsf_base.specs.declared.memory.range.Range.{Range}
 use Rattle.rlsf_base.specs.Range.{range_at}
+use Rattle.std.specs.Prelude.{if◌then◌else◌}
+use Rattle.rlsf_base.specs.Out.{all_here}
 use Rattle.rlsf_base.specs.Space.{Space, byte_at, bytes_in, range_of, word_at}
-use Rattle.rlsf_table.specs.FreeList.{Links, CanBeBlock, Rewrites}
+use Rattle.rlsf_base.proofs.Lending.Present.{own-same, own-there, out-same}
+use Rattle.rlsf_table.specs.FreeList.{Links}
+use Rattle.rlsf_table.specs.Rewrites.{CanBeBlock, Rewrites}
 use Rattle.rlsf_table.specs.Steps.ClassList.{IsFreeList}
 use Rattle.rlsf_table.specs.FreeTable.{IsFreeTable, IsRoom}
 use Rattle.rlsf_table.specs.Table.{Table, head_at, of_class, HasTable}
 use Rattle.rlsf_table.proofs.FreeLists.Chains.{Links-same}
 
-module _ (m n : Space) (start : n.start ≡ m.start) (bytes : n.bytes ≡ m.bytes) where
+module _ (m n : Space) (start : n.start ≡ m.start) (bytes : n.bytes ≡ m.bytes) (out : n.out ≡ m.out) where
   -- ---- bytes and words
 
   pub byte_at-counted : (a : ℕ) → byte_at n a ≡ byte_at m a
@@ -22,7 +26,7 @@ module _ (m n : Space) (start : n.start ≡ m.start) (bytes : n.bytes ≡ m.byte
 
   pub word_at-counted : (a : ℕ) → word_at n a ≡ word_at m a
   unfolding word_at
-  word_at-counted a = ap₂ (λ s bs. from_le_bytes w64 (take 8 (drop (a - s) bs))) start bytes
+  word_at-counted a = λ i. if all_here (out i) (a - start i) 8 then from_le_bytes w64 (take 8 (drop (a - start i) (bytes i))) else 2 ^ 64
 
   pub length-counted : length n.bytes ≡ length m.bytes
   length-counted = ap length bytes
@@ -30,43 +34,10 @@ module _ (m n : Space) (start : n.start ≡ m.start) (bytes : n.bytes ≡ m.byte
   pub range_of-counted : range_of n ≡ range_of m
   range_of-counted = ap₂ (λ s bs. range_at s (length bs)) start bytes
 
-  -- no word was written
-  pub Rewrites-counted : (at : ℕ → Type 0) → Rewrites m n at
-  Rewrites-counted at = record { start = start; length = length-counted; words = λ a whole inside other. word_at-counted a; bytes = λ r inside apart. bytes_in-counted r }
-
-  -- words were written after that, or before
-  pub Rewrites-counted_first : {o : Space} {at : ℕ → Type 0} → Rewrites n o at → Rewrites m o at
-  Rewrites-counted_first h = record {
-    start = h.start ∙ start;
-    length = h.length ∙ length-counted;
-    words = λ a whole inside other. h.words a whole (omega (arith, start)) other ∙ word_at-counted a;
-    bytes = λ r inside apart. h.bytes r (omega (arith, start)) apart ∙ bytes_in-counted r;
-  }
-
-  pub Rewrites-counted_last : {o : Space} {at : ℕ → Type 0} → Rewrites o m at → Rewrites o n at
-  Rewrites-counted_last h = record {
-    start = start ∙ h.start;
-    length = length-counted ∙ h.length;
-    words = λ a whole inside other. word_at-counted a ∙ h.words a whole inside other;
-    bytes = λ r inside apart. bytes_in-counted r ∙ h.bytes r inside apart;
-  }
-
-  -- ---- the free blocks
-
-  pub CanBeBlock-counted : {f : Range} → CanBeBlock m f → CanBeBlock n f
-  CanBeBlock-counted p = record { some = p.some; whole = p.whole; room = p.room; lies_in = (omega (arith, start, p.lies_in), omega (arith, start, length-counted, p.lies_in)) }
+  -- ---- lists
 
   pub Links-counted : (previous : ℕ) (free : List Range) (head : ℕ) → Links m previous free head → Links n previous free head
   Links-counted previous free head links = Links-same m n previous free head (λ f i. (word_at-counted (f.start + 16), word_at-counted (f.start + 24))) links
-
-  pub IsFreeList-counted : {head : ℕ} {free : List Range} → IsFreeList m head free → IsFreeList n head free
-  IsFreeList-counted {head} {free} h = record {
-    links = Links-counted 0 free head h.links;
-    placed = λ f i. CanBeBlock-counted (h.placed f i);
-    apart = h.apart;
-    sizes = λ f i. word_at-counted f.start ∙ h.sizes f i;
-    addressable = omega (arith, start, length-counted, h.addressable);
-  }
 
   pub HasTable-counted : {fllen sllen : ℕ} {t : Table} {free : List Range} → HasTable fllen sllen m t free → HasTable fllen sllen n t free
   HasTable-counted {fllen} {sllen} {t} {free} h = record {
@@ -76,6 +47,49 @@ module _ (m n : Space) (start : n.start ≡ m.start) (bytes : n.bytes ≡ m.byte
       places = h.lists.places;
       links = λ fl sl row place. Links-counted 0 (of_class sllen fl sl free) (head_at t fl sl) (h.lists.links fl sl row place);
     };
+  }
+
+  -- no word was written
+  pub Rewrites-counted : (at : ℕ → Type 0) → Rewrites m n at
+  Rewrites-counted at = record { start = start; length = length-counted; none = λ is. out ∙ is; own = own-same m n start out; here = λ a inside is. out-same m n a start out ∙ is; kept = λ a inside apart. out-same m n a start out; words = λ a whole inside other. word_at-counted a; bytes = λ r inside apart. bytes_in-counted r }
+
+  -- words were written after that, or before
+  pub Rewrites-counted_first : {o : Space} {at : ℕ → Type 0} → Rewrites n o at → Rewrites m o at
+  Rewrites-counted_first h = record {
+    start = h.start ∙ start;
+    none = λ is. h.none (out ∙ is);
+    own = λ a inside. h.own a (omega (arith, start)) ∙ own-same m n start out a inside;
+    here = λ a inside is. h.here a (omega (arith, start)) (out-same m n a start out ∙ is);
+    kept = λ a inside apart. h.kept a (omega (arith, start)) apart ∙ out-same m n a start out;
+    length = h.length ∙ length-counted;
+    words = λ a whole inside other. h.words a whole (omega (arith, start)) other ∙ word_at-counted a;
+    bytes = λ r inside apart. h.bytes r (omega (arith, start)) apart ∙ bytes_in-counted r;
+  }
+
+  pub Rewrites-counted_last : {o : Space} {at : ℕ → Type 0} → Rewrites o m at → Rewrites o n at
+  Rewrites-counted_last h = record {
+    start = start ∙ h.start;
+    none = λ is. out ∙ h.none is;
+    own = λ a inside. own-same m n start out a (omega (arith, h.start)) ∙ h.own a inside;
+    here = λ a inside is. out-same m n a start out ∙ h.here a inside is;
+    kept = λ a inside apart. out-same m n a start out ∙ h.kept a inside apart;
+    length = length-counted ∙ h.length;
+    words = λ a whole inside other. word_at-counted a ∙ h.words a whole inside other;
+    bytes = λ r inside apart. bytes_in-counted r ∙ h.bytes r inside apart;
+  }
+
+  -- ---- the free blocks
+
+  pub CanBeBlock-counted : {f : Range} → CanBeBlock m f → CanBeBlock n f
+  CanBeBlock-counted {f} p = record { own = own-there m n f p.lies_in.0 (own-same m n start out) p.own; some = p.some; whole = p.whole; room = p.room; lies_in = (omega (arith, start, p.lies_in), omega (arith, start, length-counted, p.lies_in)) }
+
+  pub IsFreeList-counted : {head : ℕ} {free : List Range} → IsFreeList m head free → IsFreeList n head free
+  IsFreeList-counted {head} {free} h = record {
+    links = Links-counted 0 free head h.links;
+    placed = λ f i. CanBeBlock-counted (h.placed f i);
+    apart = h.apart;
+    sizes = λ f i. word_at-counted f.start ∙ h.sizes f i;
+    addressable = omega (arith, start, length-counted, h.addressable);
   }
 
   pub IsFreeTable-counted : {fllen sllen : ℕ} {t : Table} {free : List Range} → IsFreeTable fllen sllen m t free → IsFreeTable fllen sllen n t free

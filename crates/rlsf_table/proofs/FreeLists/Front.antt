@@ -4,7 +4,8 @@ use Rattle.std.proofs.lemmas.Bool.{cases_eq}
 use Rattle.rlsf_base.specs.declared.memory.range.Range.{Range}
 use Rattle.rlsf_base.specs.Space.{Space, word_at}
 use Rattle.rlsf_table.specs.Steps.ClassList.{IsFirstOrOwn, IsFreeList}
-use Rattle.rlsf_table.specs.FreeList.{IsLink, CanBeBlock, Rewrites, Links}
+use Rattle.rlsf_table.specs.FreeList.{Links}
+use Rattle.rlsf_table.specs.Rewrites.{IsLink, CanBeBlock, Rewrites}
 use Rattle.rlsf_machine.specs.Lists.{IsIn}
 use Rattle.rlsf_machine.specs.WellFormed.{coverage, itself}
 use Rattle.rlsf_table.proofs.Words.Writes.{Rewrites-trans, Rewrites-weaken, Writes}

@@ -7,7 +7,8 @@ use Rattle.rlsf_base.specs.Space.{Space}
 use Rattle.rlsf_machine.specs.Lists.{IsIn}
 use Rattle.rlsf_machine.specs.WellFormed.{coverage, itself}
 use Rattle.rlsf_machine.proofs.Choices.{has_class-true}
-use Rattle.rlsf_table.specs.FreeList.{Links, IsLink, CanBeBlock, Rewrites}
+use Rattle.rlsf_table.specs.FreeList.{Links}
+use Rattle.rlsf_table.specs.Rewrites.{IsLink, CanBeBlock, Rewrites}
 use Rattle.rlsf_table.specs.Table.{class_at, of_class}
 use Rattle.rlsf_table.proofs.FreeLists.Chains.{Links-Rewrites, starts_apart}
 use Rattle.rlsf_table.proofs.FreeLists.Classes.{IsIn-of_class}

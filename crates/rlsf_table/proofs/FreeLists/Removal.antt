@@ -1,13 +1,16 @@
 -- A block taken out of the list.
 use Rattle.std.proofs.Common.{◌≡◌, ◌≢◌, ℕ, ◌+◌, ◌%◌, ◌^◌, ◌<◌, ◌≤◌, ◌⊎◌, List, [], ◌∷◌, ◌++◌, arith, inl, inr, refl, sym, ◌∙◌, ap, subst}
 use Rattle.rlsf_base.specs.declared.memory.range.Range.{Range}
-use Rattle.rlsf_base.specs.Space.{Space, word_at, with_word}
+use Rattle.rlsf_base.specs.Space.{Space, word_at, with_word, word_range}
+use Rattle.rlsf_base.specs.OpenSpace.{out_with}
+use Rattle.rlsf_base.proofs.Lending.Present.{own-same}
 use Rattle.rlsf_table.specs.Steps.ClassList.{IsFreeList}
-use Rattle.rlsf_table.specs.FreeList.{IsLink, CanBeBlock, Rewrites, Links}
+use Rattle.rlsf_table.specs.FreeList.{Links}
+use Rattle.rlsf_table.specs.Rewrites.{IsLink, CanBeBlock, Rewrites}
 use Rattle.rlsf_machine.specs.Lists.{IsIn}
 use Rattle.rlsf_machine.specs.WellFormed.{coverage, itself}
 use Rattle.rlsf_machine.proofs.Coverage.{coverage-append, IsIn-append_left, IsIn-append_right}
-use Rattle.rlsf_table.proofs.Words.Writes.{IsWord-at, Rewrites-trans, Rewrites-weaken, Writes, Writes-some}
+use Rattle.rlsf_table.proofs.Words.Writes.{IsWritable-at, Rewrites-trans, Rewrites-weaken, Writes, Writes-some}
 use Rattle.rlsf_table.proofs.FreeLists.Chains.{first_of, head-whole, IsIn-split, Links-behind, Links-hung, previous_in, previous_of, starts_differ}
 
 -- a list from which the block r is cut out: the block before it names the next one
@@ -175,16 +178,16 @@ module _ {m : Space} {newest block : ℕ} {free : List Range} (r : Range) (place
       ]
 
   -- the write of the next one's word
-  pub Writes-back : (n o : Space) {next previous : ℕ} → next ≡ word_at m (block + 16) → next ≢ 0 → previous < 2 ^ 64 → n ≡ o → o.start ≡ m.start → o.bytes ≡ with_word m (next + 24) previous
+  pub Writes-back : (n o : Space) {next previous : ℕ} → next ≡ word_at m (block + 16) → next ≢ 0 → previous < 2 ^ 64 → n ≡ o → o.start ≡ m.start → o.bytes ≡ with_word m (next + 24) previous → o.out ≡ out_with m (word_range (next + 24))
       → Writes m n (next ≢ 0) (next + 24) previous
-  Writes-back n o {next} {previous} is some fits same start bytes =
+  Writes-back n o {next} {previous} is some fits same start bytes out =
       let found = next_placed is some in
       subst (λ x. Writes m x (next ≢ 0) (next + 24) previous) (sym same)
-      (Writes-some (next ≢ 0) some (IsWord-at 24 (omega arith) refl found.1 found.2 m refl refl) fits start bytes)
+      (Writes-some (next ≢ 0) some (IsWritable-at 24 (omega arith) refl found.1 found.2 m refl refl (own-same m m refl refl)) fits start bytes out)
 
   -- the write of the word of the one before it, after that
-  pub Writes-forth : (n o : Space) {next previous : ℕ} → previous ≡ word_at m (block + 24) → previous ≢ 0 → next < 2 ^ 64 → Writes m n (next ≢ 0) (next + 24) previous → o.start ≡ n.start → o.bytes ≡ with_word n (previous + 16) next
+  pub Writes-forth : (n o : Space) {next previous : ℕ} → previous ≡ word_at m (block + 24) → previous ≢ 0 → next < 2 ^ 64 → Writes m n (next ≢ 0) (next + 24) previous → o.start ≡ n.start → o.bytes ≡ with_word n (previous + 16) next → o.out ≡ out_with n (word_range (previous + 16))
       → Writes n o (previous ≢ 0) (previous + 16) next
-  Writes-forth n o {next} {previous} is some fits back start bytes =
+  Writes-forth n o {next} {previous} is some fits back start bytes out =
       let found = previous_placed is some in
-      Writes-some (previous ≢ 0) some (IsWord-at 16 (omega arith) refl found.1 found.2 n back.rewrites.start back.rewrites.length) fits start bytes
+      Writes-some (previous ≢ 0) some (IsWritable-at 16 (omega arith) refl found.1 found.2 n back.rewrites.start back.rewrites.length back.rewrites.own) fits start bytes out

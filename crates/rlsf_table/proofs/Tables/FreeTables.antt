@@ -5,7 +5,7 @@ use Rattle.rlsf_base.specs.Space.{Space, word_at}
 use Rattle.rlsf_machine.specs.Lists.{IsIn}
 use Rattle.rlsf_machine.specs.WellFormed.{coverage, itself, IsFree}
 use Rattle.rlsf_machine.proofs.Coverage.{coverage-append}
-use Rattle.rlsf_table.specs.FreeList.{IsLink, CanBeBlock, Rewrites}
+use Rattle.rlsf_table.specs.Rewrites.{IsLink, CanBeBlock, Rewrites}
 use Rattle.rlsf_table.specs.FreeTable.{IsFreeTable, IsRoom}
 use Rattle.rlsf_table.specs.Table.{Table, head_at, of_class, HasTable}
 use Rattle.rlsf_table.proofs.FreeLists.Chains.{IsIn-removal, Links-Rewrites}

@@ -9,7 +9,8 @@ use Rattle.rlsf_machine.specs.Lists.{IsIn}
 use Rattle.rlsf_machine.specs.WellFormed.{coverage, itself}
 use Rattle.rlsf_machine.proofs.Choices.{has_class-from, has_class-true}
 use Rattle.rlsf_machine.proofs.Coverage.{IsIn-append_right}
-use Rattle.rlsf_table.specs.FreeList.{Links, IsLink, CanBeBlock, Rewrites}
+use Rattle.rlsf_table.specs.FreeList.{Links}
+use Rattle.rlsf_table.specs.Rewrites.{IsLink, CanBeBlock, Rewrites}
 use Rattle.rlsf_table.specs.Steps.ClassList.{IsFreeList}
 use Rattle.rlsf_table.specs.FreeTable.{IsFreeTable, IsRoom}
 use Rattle.rlsf_table.specs.Table.{IsClassAt, IsHeadOf, IsHeadSet, Table, class_at, head_at, of_class, HasBits, HasTable}

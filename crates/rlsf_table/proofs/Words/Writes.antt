@@ -1,26 +1,36 @@
 -- Words that were written, one after another, and the words of placed blocks.
 use Rattle.std.proofs.Common.{◌≡◌, ℕ, ◌+◌, ◌%◌, ◌^◌, ◌<◌, ◌≤◌, ◌⊎◌, List, length, arith, inl, inr, refl, sym, ◌∙◌, subst}
 use Rattle.rlsf_base.specs.declared.memory.range.Range.{Range}
-use Rattle.rlsf_base.specs.Space.{Space, IsWord, word_at, with_word}
-use Rattle.rlsf_base.proofs.Words.Written.{bytes_in-with_word, length-with_word, word_at-other, word_at-same}
-use Rattle.rlsf_table.specs.FreeList.{IsLink, CanBeBlock, Rewrites}
+use Rattle.rlsf_base.specs.Space.{Space, word_range, word_at, with_word}
+use Rattle.rlsf_base.specs.OpenSpace.{IsWritable, SameOwn, out_with}
+use Rattle.rlsf_base.proofs.Lending.Present.{own-there, own-inside}
+use Rattle.rlsf_base.proofs.Words.Written.{here-written, none-written, is_own-written, out_at-other, bytes_in-with_word, length-with_word, word_at-other, word_at-same}
+use Rattle.rlsf_table.specs.Rewrites.{IsLink, CanBeBlock, Rewrites}
 use Rattle.rlsf_machine.specs.Lists.{IsIn}
 
 pub Rewrites-refl : (m : Space) (at : ℕ → Type 0) → Rewrites m m at
-Rewrites-refl m at = record { start = refl; length = refl; words = λ a whole inside other. refl; bytes = λ r inside apart. refl }
+Rewrites-refl m at = record { start = refl; length = refl; none = λ is. is; own = λ a inside. refl; here = λ a inside is. is; kept = λ a inside apart. refl; words = λ a whole inside other. refl; bytes = λ r inside apart. refl }
 
 -- one word was written
-pub Rewrites-word : (m n : Space) (addr word : ℕ) → IsWord m addr → n.start ≡ m.start → n.bytes ≡ with_word m addr word → Rewrites m n (λ a. a ≡ addr)
-Rewrites-word m n addr word placed start bytes = record {
+pub Rewrites-word : (m n : Space) (addr word : ℕ) → IsWritable m addr → n.start ≡ m.start → n.bytes ≡ with_word m addr word → n.out ≡ out_with m (word_range addr) → Rewrites m n (λ a. a ≡ addr)
+Rewrites-word m n addr word placed start bytes out = record {
   start = start;
-  length = length-with_word m n addr word placed start bytes;
-  words = λ a whole inside other. word_at-other m n addr word placed start bytes a whole inside other;
-  bytes = λ r inside apart. bytes_in-with_word m n addr word placed start bytes r inside (apart addr refl);
+  none = none-written m n addr word placed start bytes out;
+  own = is_own-written m n addr word placed start bytes out;
+  here = here-written m n addr word placed start bytes out;
+  kept = λ a inside apart. out_at-other m n addr word placed start bytes out a inside (apart addr refl);
+  length = length-with_word m n addr word placed start bytes out;
+  words = λ a whole inside other. word_at-other m n addr word placed start bytes out a whole inside other;
+  bytes = λ r inside apart. bytes_in-with_word m n addr word placed start bytes out r inside (apart addr refl);
 }
 
 pub Rewrites-weaken : {m n : Space} {P Q : ℕ → Type 0} → ((a : ℕ) → P a → Q a) → Rewrites m n P → Rewrites m n Q
 Rewrites-weaken more h = record {
   start = h.start;
+  none = h.none;
+  own = h.own;
+  here = h.here;
+  kept = λ a inside apart. h.kept a inside (λ b p. apart b (more b p));
   length = h.length;
   words = λ a whole inside other. h.words a whole inside (λ p. other (more a p));
   bytes = λ r inside apart. h.bytes r inside (λ a p. apart a (more a p));
@@ -31,6 +41,10 @@ Rewrites-trans {m} {n} h k =
     let same : n.start ≡ m.start = h.start in
     record {
       start = k.start ∙ h.start;
+      none = λ is. k.none (h.none is);
+      own = λ a inside. k.own a (omega arith) ∙ h.own a inside;
+      here = λ a inside is. k.here a (omega arith) (h.here a inside is);
+      kept = λ a inside apart. k.kept a (omega arith) (λ b q. apart b (inr q)) ∙ h.kept a inside (λ b p. apart b (inl p));
       length = k.length ∙ h.length;
       words = λ a whole inside other. k.words a whole (omega arith) (λ q. other (inr q)) ∙ h.words a whole inside (λ p. other (inl p));
       bytes = λ r inside apart. k.bytes r (omega arith) (λ a q. apart a (inr q)) ∙ h.bytes r inside (λ a p. apart a (inl p));
@@ -61,10 +75,10 @@ pub record Writes (m n : Space) (some : Type 0) (addr word : ℕ) : Type 0 where
   pub rewrites : Rewrites m n (λ a. some × (a ≡ addr))
   pub reads : some → word_at n addr ≡ word
 
-pub Writes-some : {m n : Space} {addr word : ℕ} (some : Type 0) → some → IsWord m addr → word < 2 ^ 64 → n.start ≡ m.start → n.bytes ≡ with_word m addr word → Writes m n some addr word
-Writes-some {m} {n} {addr} {word} some holds placed fits start bytes = record {
-  rewrites = Rewrites-weaken (λ a e. (holds, e)) (Rewrites-word m n addr word placed start bytes);
-  reads = λ s. word_at-same m n addr word placed start bytes fits;
+pub Writes-some : {m n : Space} {addr word : ℕ} (some : Type 0) → some → IsWritable m addr → word < 2 ^ 64 → n.start ≡ m.start → n.bytes ≡ with_word m addr word → n.out ≡ out_with m (word_range addr) → Writes m n some addr word
+Writes-some {m} {n} {addr} {word} some holds placed fits start bytes out = record {
+  rewrites = Rewrites-weaken (λ a e. (holds, e)) (Rewrites-word m n addr word placed start bytes out);
+  reads = λ s. word_at-same m n addr word placed start bytes out fits;
 }
 
 pub Writes-none : (m n : Space) (some : Type 0) (addr word : ℕ) → n ≡ m → ¬ some → Writes m n some addr word
@@ -74,12 +88,16 @@ Writes-none m n some addr word same none =
 -- ---- placed blocks
 
 pub CanBeBlock-Rewrites : {m n : Space} {at : ℕ → Type 0} {f : Range} → Rewrites m n at → CanBeBlock m f → CanBeBlock n f
-CanBeBlock-Rewrites h p = record { some = p.some; whole = p.whole; room = p.room; lies_in = (omega (arith, h.start, p.lies_in), omega (arith, h.start, h.length, p.lies_in)) }
+CanBeBlock-Rewrites {m} {n} {f = f} h p = record { own = own-there m n f p.lies_in.0 h.own p.own; some = p.some; whole = p.whole; room = p.room; lies_in = (omega (arith, h.start, p.lies_in), omega (arith, h.start, h.length, p.lies_in)) }
 
 -- the word at `block + i` of the block at `block`, in the memory or in another one of the same place and length; its address fits in a word
 module _ {m : Space} {f : Range} {block : ℕ} (i : ℕ) (within : i + 8 ≤ 32) (whole : i % 8 ≡ 0) (place : f.start ≡ block) (p : CanBeBlock m f) where
-  pub IsWord-at : (n : Space) → n.start ≡ m.start → length n.bytes ≡ length m.bytes → IsWord n (block + i)
-  IsWord-at n start same = (omega (arith, p.whole), (omega (arith, p.lies_in), omega (arith, p.lies_in, p.room)))
+  pub IsWritable-at : (n : Space) → n.start ≡ m.start → length n.bytes ≡ length m.bytes → SameOwn m n → IsWritable n (block + i)
+  IsWritable-at n start same own = (
+    omega (arith, p.whole),
+    (omega (arith, p.lies_in), omega (arith, p.lies_in, p.room)),
+    own-there m n (word_range (block + i)) (omega (arith, place, p.lies_in)) own (own-inside m f (word_range (block + i)) (omega (arith, place)) (omega (arith, place, p.room)) p.own),
+  )
 
   pub fits_at : m.start + length m.bytes < 2 ^ 64 → block + i < 2 ^ 64
   fits_at addressable = omega (arith, p.lies_in, p.room)

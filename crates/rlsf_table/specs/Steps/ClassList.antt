@@ -4,7 +4,8 @@ use Rattle.rlsf_base.specs.declared.memory.range.Range.{Range}
 use Rattle.rlsf_base.specs.Space.{Space, word_at}
 use Rattle.rlsf_machine.specs.Lists.{IsIn}
 use Rattle.rlsf_machine.specs.WellFormed.{coverage, itself}
-use Rattle.rlsf_table.specs.FreeList.{Links, IsLink, CanBeBlock, Rewrites}
+use Rattle.rlsf_table.specs.FreeList.{Links}
+use Rattle.rlsf_table.specs.Rewrites.{IsLink, CanBeBlock, Rewrites}
 
 -- the free blocks from `head` on are those of a list, none of which overlap, each with its size word; and addresses fit in a word
 pub record IsFreeList (m : Space) (head : ℕ) (free : List Range) : Type 0 where

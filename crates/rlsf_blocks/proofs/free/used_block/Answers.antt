@@ -1,5 +1,5 @@
 use Rattle.std.proofs.Common.{rules, arith, sym, ◌∙◌}
-use Rattle.rlsf_blocks.proofs.Deallocate.Addresses.{IsWord-before, narrow_start, wide_start}
+use Rattle.rlsf_blocks.proofs.Deallocate.Addresses.{IsReadable-before, narrow_start, wide_start}
 use Rattle.rlsf_machine.proofs.Payloads.{IsUsed-after_start}
 use Rattle.rlsf_blocks.proofs.free.used_block.Goals as goal
 
@@ -16,7 +16,7 @@ overflow_sub-payload c =
 pub load_at-requires-clause-place : goal.load_at-requires-clause-place
 load_at-requires-clause-place c =
     let (fllen, sllen, t, s, v, (u, (i, at), is)) = c.requires.live in
-    IsWord-before v u i at is c.if-align-lt-GRANULARITY.false
+    IsReadable-before v u i at is c.if-align-lt-GRANULARITY.false
 
 pub returns-then-align-lt-GRANULARITY : goal.returns-then-align-lt-GRANULARITY
 returns-then-align-lt-GRANULARITY c = record {

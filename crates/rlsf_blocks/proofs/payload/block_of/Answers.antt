@@ -1,5 +1,5 @@
 use Rattle.std.proofs.Common.{arith}
-use Rattle.rlsf_blocks.proofs.Payloads.UnknownAlignment.{IsPayloadOf-holds, IsWord-named, fits_named, begins_first, begins_behind, begins_there}
+use Rattle.rlsf_blocks.proofs.Payloads.UnknownAlignment.{IsPayloadOf-holds, IsReadable-named, fits_named, begins_first, begins_behind, begins_there}
 use Rattle.rlsf_blocks.proofs.payload.block_of.Goals as goal
 
 pub overflow_sub-payload : goal.overflow_sub-payload
@@ -26,7 +26,7 @@ returns-then-named-eq0 c = λ fllen sllen v s u same stands holds.
 pub word-requires : goal.word-requires
 word-requires c =
     let (fllen, sllen, v, s, same, stands, live) = c.requires in
-    IsWord-named (IsPayloadOf-holds live.0 same stands live.1) c.word-named.result c.word-named.ensures c.if-named-eq0.false
+    IsReadable-named (IsPayloadOf-holds live.0 same stands live.1) c.word-named.result c.word-named.ensures c.if-named-eq0.false
 
 pub overflow_add-end : goal.overflow_add-end
 overflow_add-end c =

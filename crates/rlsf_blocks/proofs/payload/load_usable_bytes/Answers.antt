@@ -1,7 +1,7 @@
 use Rattle.std.proofs.Common.{rules, ◌-◌, arith, ap, refl, ◌∙◌}
 use Rattle.rlsf_base.specs.Space.{Space}
-use Rattle.rlsf_blocks.proofs.Deallocate.Loaded.{IsWord-loaded, word_at-touched}
-use Rattle.rlsf_blocks.proofs.Payloads.UnknownAlignment.{IsPayloadOf-holds, IsWord-block, sized, usable-sized}
+use Rattle.rlsf_blocks.proofs.Deallocate.Loaded.{IsReadable-loaded, word_at-touched}
+use Rattle.rlsf_blocks.proofs.Payloads.UnknownAlignment.{IsPayloadOf-holds, IsReadable-block, sized, usable-sized}
 use Rattle.rlsf_blocks.proofs.payload.load_usable_bytes.Goals as goal
 
 pub load-requires : goal.load-requires
@@ -10,7 +10,7 @@ load-requires c =
     let is = IsPayloadOf-holds live.0 same stands live.1 in
     let begins = c.load_block_of-block.ensures.block fllen sllen v s live.0 same stands live.1 in
     let touched = c.load_block_of-block.ensures.memory in
-    IsWord-loaded c.args.memory.now c.load_block_of-block.new.memory (ap (λ (m : Space). m.start) touched) (ap (λ (m : Space). m.bytes) touched) (IsWord-block is c.load_block_of-block.result begins)
+    IsReadable-loaded c.args.memory.now c.load_block_of-block.new.memory (ap (λ (m : Space). m.start) touched) (ap (λ (m : Space). m.bytes) touched) (ap (λ (m : Space). m.out) touched) (IsReadable-block is c.load_block_of-block.result begins)
 
 pub used_end-end-requires-clause-used : goal.used_end-end-requires-clause-used
 used_end-end-requires-clause-used c =

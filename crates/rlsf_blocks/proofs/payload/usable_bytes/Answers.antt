@@ -1,11 +1,11 @@
 use Rattle.std.proofs.Common.{◌-◌, arith, refl, ap}
-use Rattle.rlsf_blocks.proofs.Payloads.UnknownAlignment.{IsPayloadOf-holds, IsWord-block, sized, usable-sized}
+use Rattle.rlsf_blocks.proofs.Payloads.UnknownAlignment.{IsPayloadOf-holds, IsReadable-block, sized, usable-sized}
 use Rattle.rlsf_blocks.proofs.payload.usable_bytes.Goals as goal
 
 pub word-requires : goal.word-requires
 word-requires c =
     let (fllen, sllen, v, s, same, stands, live) = c.requires in
-    IsWord-block (IsPayloadOf-holds live.0 same stands live.1) c.block_of-block.result (c.block_of-block.ensures fllen sllen v s live.0 same stands live.1)
+    IsReadable-block (IsPayloadOf-holds live.0 same stands live.1) c.block_of-block.result (c.block_of-block.ensures fllen sllen v s live.0 same stands live.1)
 
 pub used_end-end-requires-clause-used : goal.used_end-end-requires-clause-used
 used_end-end-requires-clause-used c =

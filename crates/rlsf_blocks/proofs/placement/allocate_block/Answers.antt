@@ -1,4 +1,6 @@
 -- What the search finds is the choice for the layout, and gives its front to the payload.
+use Rattle.rlsf_base.proofs.Lending.Present.{own-same, out-same}
+use Rattle.std.proofs.Common.{arith}
 use Rattle.std.proofs.Common.{◌≡◌, Option, arith, refl, sym, ◌∙◌, ap, subst, rules}
 use Rattle.rlsf_base.specs.declared.memory.range.Range.{Range}
 use Rattle.rlsf_base.specs.Sizes.{request_size}
@@ -9,10 +11,10 @@ use Rattle.rlsf_machine.proofs.Choices.{choice-some}
 use Rattle.rlsf_table.specs.Table.{IsClassAt}
 use Rattle.rlsf_table.proofs.FreeLists.Counted.{word_at-counted}
 use Rattle.rlsf_blocks.specs.StandsFor.{contents, StandsFor}
-use Rattle.rlsf_blocks.proofs.Counting.{SamePlace-counted, SamePlace-counted_first, copied-counted_first, grow-counted_first, touches-counted, touches-counted_first}
 use Rattle.rlsf_blocks.proofs.Machine.Counted.{KeepsSpare-counted, KeepsSpare-counted_first, StandsFor-counted}
 use Rattle.rlsf_blocks.proofs.Machine.FreeBlocks.{IsFreeTable-free}
 use Rattle.rlsf_blocks.proofs.Refused.{none_none}
+use Rattle.rlsf_table.proofs.Costs.{Costs-counted, Costs-then, Costs-within}
 use Rattle.rlsf_blocks.proofs.placement.allocate_block.Given as given
 use Rattle.rlsf_blocks.proofs.placement.allocate_block.Goals as goal
 use Rattle.rlsf_blocks.proofs.placement.allocate_block.Goals.{After-first_fit}
@@ -24,31 +26,33 @@ sought g c s {o} = subst (λ n. choice g.row.SLLEN n s.free ≡ o) c.request_siz
 -- the memory in which the search was counted stands for the same states
 searched : (g : given.Over) (c : After-first_fit g) {s : State} → StandsFor g.row.FLLEN g.row.SLLEN (contents c.args.memory.now c.args.table.now) s
     → StandsFor g.row.FLLEN g.row.SLLEN (contents c.first_fit.new.memory c.args.table.now) s
-searched g c v = StandsFor-counted c.args.memory.now c.first_fit.new.memory c.first_fit.ensures.counts.start c.first_fit.ensures.counts.bytes v
+searched g c v = StandsFor-counted c.args.memory.now c.first_fit.new.memory c.first_fit.ensures.counts.start c.first_fit.ensures.counts.bytes c.first_fit.ensures.counts.out v
 
 pub first_fit-requires : goal.first_fit-requires
 first_fit-requires g c =
     let (s, v) = c.requires.stands in
     (omega arith, (c.requires.parameters, (c.request_size.ensures.size, (s.free, IsFreeTable-free v))))
 
-pub returns-in_err-found : goal.returns-in_err-found
-returns-in_err-found g c = record {
-  step = λ s v.
-      let at = (goal.at.returns-in_err-found g c).After-first_fit in
-      let counts = c.first_fit.ensures.counts in
-      let none = sought g at s (c.in_err-found.ensures.choice s.free (IsFreeTable-free v)) in (
-        s,
-        subst (λ o. Allocates g.row.SLLEN s c.args.layout.size c.args.layout.align o s) (sym c.from_residual.ensures) (none, refl),
-        searched g at v,
-        KeepsSpare-counted c.args.memory.now c.first_fit.new.memory counts.start counts.bytes s s,
-      );
-  unchanged = none_none c.from_residual.result (c.first_fit.ensures.counts, refl);
-  place = SamePlace-counted c.args.memory.now c.first_fit.new.memory 4 c.first_fit.ensures.counts;
-  touches = touches-counted c.args.memory.now c.first_fit.new.memory 4 c.first_fit.ensures.counts 23;
-  grow = search rules;
-  copied = search rules;
-  view = search rules;
-}
+pub returns-in_err-found-clause-step : goal.returns-in_err-found-clause-step
+returns-in_err-found-clause-step g c =
+    λ s v.
+    let at = (goal.at.returns-in_err-found-clause-step g c).After-first_fit in
+    let counts = c.first_fit.ensures.counts in
+    let none = sought g at s (c.in_err-found.ensures.choice s.free (IsFreeTable-free v)) in (
+      s,
+      subst (λ o. Allocates g.row.SLLEN s c.args.layout.size c.args.layout.align o s) (sym c.from_residual.ensures) (none, refl),
+      searched g at v,
+      KeepsSpare-counted c.args.memory.now c.first_fit.new.memory counts.start counts.bytes counts.out s s,
+    )
+
+pub returns-in_err-found-clause-unchanged : goal.returns-in_err-found-clause-unchanged
+returns-in_err-found-clause-unchanged g c = none_none c.from_residual.result (c.first_fit.ensures.counts, refl)
+
+pub returns-in_err-found-clause-own : goal.returns-in_err-found-clause-own
+returns-in_err-found-clause-own g c = own-same c.args.memory.now c.first_fit.new.memory c.first_fit.ensures.counts.start c.first_fit.ensures.counts.out
+
+pub returns-in_err-found-clause-here : goal.returns-in_err-found-clause-here
+returns-in_err-found-clause-here g c = λ a inside was. out-same c.args.memory.now c.first_fit.new.memory a c.first_fit.ensures.counts.start c.first_fit.ensures.counts.out ∙ was
 
 pub place-requires : goal.place-requires
 place-requires g c =
@@ -57,22 +61,31 @@ place-requires g c =
     let (f, chosen, start, class) = c.in_ok-found.ensures.choice s.free (IsFreeTable-free v) in
     let counts = c.first_fit.ensures.counts in
     let own = (choice-some g.row.SLLEN c.request_size.result s.free f chosen).is_in in
-    let size = word_at-counted c.args.memory.now c.first_fit.new.memory counts.start counts.bytes c.in_ok-found.found.start ∙ ap (word_at c.args.memory.now) (sym start) ∙ (IsFreeTable-free v).sizes f own in
+    let size = word_at-counted c.args.memory.now c.first_fit.new.memory counts.start counts.bytes counts.out c.in_ok-found.found.start ∙ ap (word_at c.args.memory.now) (sym start) ∙ (IsFreeTable-free v).sizes f own in
     let at_class = subst (λ n. IsClassAt g.row.FLLEN g.row.SLLEN n c.in_ok-found.found.class.fl c.in_ok-found.found.class.sl) (sym size) class in
     (omega arith, (c.requires.parameters, (at_class, ((s, f, searched g at v, sought g at s chosen, start), search rules))))
 
-pub returns : goal.returns
-returns g c = record {
-  step = λ s v.
-      let at = (goal.at.returns g c).After-first_fit in
-      let counts = c.first_fit.ensures.counts in
-      let (f, chosen, start, _) = c.in_ok-found.ensures.choice s.free (IsFreeTable-free v) in
-      let (t, places, now, spare) = c.place.ensures.step s f (searched g at v) (sought g at s chosen) start in
-      (t, places, now, KeepsSpare-counted_first c.args.memory.now c.first_fit.new.memory counts.start counts.bytes s t c.place.new.memory spare);
-  unchanged = search rules;
-  place = SamePlace-counted_first c.args.memory.now c.first_fit.new.memory 4 c.first_fit.ensures.counts c.place.new.memory c.place.ensures.place;
-  touches = touches-counted_first c.args.memory.now c.first_fit.new.memory 4 c.first_fit.ensures.counts c.place.new.memory 23 c.place.ensures.touches;
-  grow = grow-counted_first c.args.memory.now c.first_fit.new.memory 4 c.first_fit.ensures.counts c.place.new.memory c.place.ensures.grow;
-  copied = copied-counted_first c.args.memory.now c.first_fit.new.memory 4 c.first_fit.ensures.counts c.place.new.memory c.place.ensures.copied;
-  view = search rules;
-}
+pub returns-clause-step : goal.returns-clause-step
+returns-clause-step g c =
+    λ s v.
+    let at = (goal.at.returns-clause-step g c).After-first_fit in
+    let counts = c.first_fit.ensures.counts in
+    let (f, chosen, start, _) = c.in_ok-found.ensures.choice s.free (IsFreeTable-free v) in
+    let (t, places, now, spare) = c.place.ensures.step s f (searched g at v) (sought g at s chosen) start in
+    (t, places, now, KeepsSpare-counted_first c.args.memory.now c.first_fit.new.memory counts.start counts.bytes counts.out s t c.place.new.memory spare)
+
+pub returns-clause-own : goal.returns-clause-own
+returns-clause-own g c =
+    λ a inside. c.place.ensures.own a (omega (arith, c.first_fit.ensures.counts.start)) ∙ own-same c.args.memory.now c.first_fit.new.memory c.first_fit.ensures.counts.start c.first_fit.ensures.counts.out a inside
+
+pub returns-clause-here : goal.returns-clause-here
+returns-clause-here g c =
+    λ a inside was. c.place.ensures.here a (omega (arith, c.first_fit.ensures.counts.start)) (out-same c.args.memory.now c.first_fit.new.memory a c.first_fit.ensures.counts.start c.first_fit.ensures.counts.out ∙ was)
+
+pub returns-in_err-found-clause-costs : goal.returns-in_err-found-clause-costs
+returns-in_err-found-clause-costs g c =
+    Costs-within (omega arith) (Costs-counted c.first_fit.ensures.counts)
+
+pub returns-clause-costs : goal.returns-clause-costs
+returns-clause-costs g c =
+    Costs-then (Costs-counted c.first_fit.ensures.counts) c.place.ensures.costs

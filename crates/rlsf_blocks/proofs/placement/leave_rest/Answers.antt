@@ -1,8 +1,12 @@
+use Rattle.rlsf_base.specs.Range.{range_at, end_of}
+use Rattle.rlsf_base.specs.Space.{word_range}
+use Rattle.rlsf_base.proofs.Lending.Present.{own-there, own-word}
 use Rattle.std.proofs.Common.{◌≡◌, ◌+◌, ◌-◌, List, arith, rules}
 use Rattle.rlsf_base.specs.declared.memory.range.Range.{Range}
-use Rattle.rlsf_table.proofs.Words.Writing.{wrote}
+use Rattle.rlsf_table.proofs.Words.Writing.{wrote, wrote_there}
 use Rattle.rlsf_blocks.specs.Steps.Rest.{IsInnerRoom}
 use Rattle.rlsf_blocks.proofs.Allocate.Rests.{AreLeft, AreLeft-from, IsFreeBlockBehind-written, IsRoom-written}
+use Rattle.rlsf_table.proofs.Costs.{Costs-then, Costs-written}
 use Rattle.rlsf_blocks.proofs.placement.leave_rest.Given as given
 use Rattle.rlsf_blocks.proofs.placement.leave_rest.Goals as goal
 use Rattle.rlsf_blocks.proofs.placement.leave_rest.Goals.{After-set_word_at-3}
@@ -16,7 +20,33 @@ written g c r room start len =
     let one = wrote c.args.memory.now c.set_word_at.new.self rest (c.args.len - c.args.taken) c.set_word_at.ensures.bytes (omega arith) (omega arith) in
     let two = wrote c.set_word_at.new.self c.set_word_at-2.new.self (rest + 8) block c.set_word_at-2.ensures.bytes (omega arith) (omega arith) in
     let three = wrote c.set_word_at-2.new.self c.set_word_at-3.new.self (block + c.args.len + 8) rest c.set_word_at-3.ensures.bytes (omega arith) (omega arith) in
-    AreLeft-from block c.args.len c.args.taken r room start len (omega arith) (c.set_word_at.ensures.start, one) (c.set_word_at-2.ensures.start, two) (c.set_word_at-3.ensures.start, three)
+    AreLeft-from block c.args.len c.args.taken r room start len (omega arith) (c.set_word_at.ensures.start, one, wrote_there c.args.memory.now c.set_word_at.new.self rest c.set_word_at.ensures.out (omega arith)) (c.set_word_at-2.ensures.start, two, wrote_there c.set_word_at.new.self c.set_word_at-2.new.self (rest + 8) c.set_word_at-2.ensures.out (omega arith)) (c.set_word_at-3.ensures.start, three, wrote_there c.set_word_at-2.new.self c.set_word_at-3.new.self (block + c.args.len + 8) c.set_word_at-3.ensures.out (omega arith))
+
+pub set_word_at-requires-2-clause-place : goal.set_word_at-requires-2-clause-place
+set_word_at-requires-2-clause-place g c =
+    let (free, r, start, len, room) = c.requires.room in
+    let m = c.args.memory.now in
+    let large = room.room.placed.room in
+    let inside = room.room.placed.lies_in in
+    let whole = room.room.block.whole in
+    let not_last = room.not_last in
+    let a = c.args.block + c.args.taken + 8 in
+    (omega arith, (omega (arith, c.set_word_at.ensures.start), omega (arith, c.set_word_at.ensures.start, c.set_word_at.ensures.len)), own-there m c.set_word_at.new.self (word_range a) (omega arith) c.set_word_at.ensures.own (own-word m r a room.room.placed.own (omega arith) (omega (arith, large))))
+
+pub set_word_at-requires-3-clause-place : goal.set_word_at-requires-3-clause-place
+set_word_at-requires-3-clause-place g c =
+    let (free, r, start, len, room) = c.requires.room in
+    let m = c.args.memory.now in
+    let one = c.set_word_at.new.self in
+    let large = room.room.placed.room in
+    let inside = room.room.placed.lies_in in
+    let whole = room.room.block.whole in
+    let not_last = room.not_last in
+    let a = c.args.block + c.args.len + 8 in (
+      omega arith,
+      (omega (arith, c.set_word_at.ensures.start, c.set_word_at-2.ensures.start), omega (arith, c.set_word_at.ensures.start, c.set_word_at.ensures.len, c.set_word_at-2.ensures.start, c.set_word_at-2.ensures.len)),
+      own-there one c.set_word_at-2.new.self (word_range a) (omega (arith, c.set_word_at.ensures.start)) c.set_word_at-2.ensures.own (own-there m one (word_range a) (omega arith) c.set_word_at.ensures.own (own-word m (range_at (end_of r) 16) a room.behind (omega arith) (omega arith))),
+    )
 
 pub link_free_block-requires : goal.link_free_block-requires
 link_free_block-requires g c =
@@ -24,13 +54,18 @@ link_free_block-requires g c =
     let writes = written g (goal.at.link_free_block-requires g c).After-set_word_at-3 r room start len in
     (omega arith, (c.requires.parameters, ((r, free, start, omega (arith, len), IsRoom-written r room writes), search rules)))
 
-pub returns : goal.returns
-returns g c = record {
-  step = λ free r start len room.
-      let writes = written g (goal.at.returns g c).After-set_word_at-3 r room start len in
-      IsFreeBlockBehind-written r room writes (c.link_free_block.ensures.step r free start (omega (arith, len)) (IsRoom-written r room writes));
-  touches = search rules;
-  grow = search rules;
-  copied = search rules;
-  view = search rules;
-}
+pub returns-clause-step : goal.returns-clause-step
+returns-clause-step g c =
+    λ free r start len room.
+    let writes = written g (goal.at.returns-clause-step g c).After-set_word_at-3 r room start len in
+    IsFreeBlockBehind-written r room writes (c.link_free_block.ensures.step r free start (omega (arith, len)) (IsRoom-written r room writes))
+
+pub returns-clause-costs : goal.returns-clause-costs
+returns-clause-costs g c =
+    let one = c.set_word_at in
+    let two = c.set_word_at-2 in
+    let three = c.set_word_at-3 in
+    let first = Costs-written c.args.memory.now one.new.self (c.args.block + c.args.taken) one.ensures.start one.ensures.len one.ensures.touches one.ensures.copied one.ensures.view one.ensures.out in
+    let second = Costs-written one.new.self two.new.self (c.args.block + c.args.taken + 8) two.ensures.start two.ensures.len two.ensures.touches two.ensures.copied two.ensures.view two.ensures.out in
+    let third = Costs-written two.new.self three.new.self (c.args.block + c.args.len + 8) three.ensures.start three.ensures.len three.ensures.touches three.ensures.copied three.ensures.view three.ensures.out in
+    Costs-then (Costs-then (Costs-then first second) third) c.link_free_block.ensures.costs

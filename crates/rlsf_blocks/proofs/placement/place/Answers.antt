@@ -1,18 +1,26 @@
-use Rattle.std.proofs.Common.{◌≡◌, ◌+◌, ◌-◌, ◌^◌, ◌<◌, ◌≤◌, length, Some, arith, refl, sym, ◌∙◌, ap, rules, subst}
+use Rattle.rlsf_base.proofs.Lending.Here.{is_word}
+use Rattle.rlsf_base.proofs.Lending.Present.{own-same, out-same}
+use Rattle.std.proofs.Common.{◌<◌, ◌^◌}
+use Rattle.rlsf_base.specs.Space.{word_at}
+use Rattle.std.proofs.Common.{◌≡◌, ◌+◌, ◌-◌, ◌^◌, ◌<◌, ◌≤◌, Some, arith, refl, sym, ◌∙◌, rules, subst}
+use Rattle.rlsf_base.proofs.Lending.Present.{own-word}
+use Rattle.rlsf_blocks.proofs.Words.Here.{here_free}
 use Rattle.rlsf_base.specs.declared.memory.range.Range.{Range}
 use Rattle.rlsf_base.specs.Sizes.{request_size}
 use Rattle.rlsf_machine.specs.Allocate.{choice}
 use Rattle.rlsf_machine.specs.Payload.{block_length, payload_of}
 use Rattle.rlsf_machine.specs.State.{State}
 use Rattle.rlsf_table.proofs.FreeLists.Counted.{word_at-counted}
-use Rattle.rlsf_table.proofs.Words.Writes.{Writes-none, Writes-some}
-use Rattle.rlsf_table.proofs.Words.Writing.{wrote}
+use Rattle.rlsf_table.proofs.Words.Writes.{Writes, Writes-none, Writes-some}
+use Rattle.rlsf_table.proofs.Words.Writing.{wrote, wrote_there, rewrites_of}
 use Rattle.rlsf_blocks.specs.StandsFor.{contents, StandsFor}
+use Rattle.rlsf_table.specs.Counts.{Costs}
 use Rattle.rlsf_table.specs.Table.{IsClassAt}
 use Rattle.rlsf_blocks.proofs.Words.Apart.{free_in_memory}
 use Rattle.rlsf_blocks.proofs.Machine.Counted.{KeepsSpare-counted_first, StandsFor-counted}
-use Rattle.rlsf_blocks.proofs.Allocate.Placements.{AreComputed, AreComputed-from, fitting, is_free, IsSized, IsSized-from, IsTaken-computed, IsWord-block, IsWord-pad, Places-sized, SamePlace-sized}
+use Rattle.rlsf_blocks.proofs.Allocate.Placements.{AreComputed, AreComputed-from, fitting, is_free, IsSized, IsSized-from, IsTaken-computed, IsWritable-block, IsWritable-pad, Places-sized}
 use Rattle.rlsf_machine.proofs.Allocations.{placed-fits}
+use Rattle.rlsf_table.proofs.Costs.{Costs-loaded, Costs-then, Costs-within, Costs-written}
 use Rattle.rlsf_blocks.proofs.placement.place.Given as given
 use Rattle.rlsf_blocks.proofs.placement.place.Goals as goal
 use Rattle.rlsf_blocks.proofs.placement.place.Goals.{After-load_at-len, After-front-payload, After-set_word_at}
@@ -23,7 +31,8 @@ load_at-len-requires-clause-place g c =
     let layout = c.args.layout in
     let place = free_in_memory v.well_formed f (is_free v f layout.size layout.align layout.valid.aligned chosen) in
     let fit = fitting v f layout.size layout.align layout.valid.aligned chosen in
-    (omega (arith, fit.whole), (omega (arith, place.0), omega (arith, place.1)))
+    let free = is_free v f layout.size layout.align layout.valid.aligned chosen in
+    is_word c.args.memory.now c.args.found.start (omega (arith, fit.whole), (omega (arith, place.0), omega (arith, place.1)), own-word c.args.memory.now f c.args.found.start (here_free v f free) (omega (arith, start)) (omega (arith, start, (v.well_formed.free f free).some, (v.well_formed.free f free).whole.len))) (subst (λ a. word_at c.args.memory.now a < 2 ^ 64) start (omega (arith, v.sizes.free f free, place.1, v.well_formed.addressable)))
 
 pub front-payload-requires-clause-whole : goal.front-payload-requires-clause-whole
 front-payload-requires-clause-whole g c =
@@ -51,14 +60,14 @@ front-payload-requires-clause-length g c =
 -- the memory whose word was read stands for the same states
 loaded : (g : given.Over) (c : After-load_at-len g) {s : State} → StandsFor g.row.FLLEN g.row.SLLEN (contents c.args.memory.now c.args.table.now) s
     → StandsFor g.row.FLLEN g.row.SLLEN (contents c.load_at-len.new.self c.args.table.now) s
-loaded g c v = StandsFor-counted c.args.memory.now c.load_at-len.new.self c.load_at-len.ensures.start c.load_at-len.ensures.bytes v
+loaded g c v = StandsFor-counted c.args.memory.now c.load_at-len.new.self c.load_at-len.ensures.start c.load_at-len.ensures.bytes c.load_at-len.ensures.out v
 
 -- for each state and the choice in it, what is computed is as the definitions have it
 computed : (g : given.Over) (c : After-front-payload g) {s : State} (v : StandsFor g.row.FLLEN g.row.SLLEN (contents c.load_at-len.new.self c.args.table.now) s) (f : Range)
     (chosen : choice g.row.SLLEN (request_size c.args.layout.size c.args.layout.align) s.free ≡ Some f) → f.start ≡ c.args.found.start
     → AreComputed v f c.args.layout.size c.args.layout.align c.args.layout.valid.aligned chosen c.args.found.start c.load_at-len.result c.front-payload.result.0 c.front-payload.result.1
 computed g c v f chosen start =
-    let word = c.load_at-len.ensures.word ∙ sym (word_at-counted c.args.memory.now c.load_at-len.new.self c.load_at-len.ensures.start c.load_at-len.ensures.bytes c.args.found.start) in
+    let word = c.load_at-len.ensures.word ∙ sym (word_at-counted c.args.memory.now c.load_at-len.new.self c.load_at-len.ensures.start c.load_at-len.ensures.bytes c.load_at-len.ensures.out c.args.found.start) in
     AreComputed-from v f c.args.layout.size c.args.layout.align c.args.layout.valid.aligned chosen _ _ _ _ _ _ start word refl c.front-payload.ensures.payload refl c.front-payload.ensures.length
 
 -- and once the block is taken out, its size word is written
@@ -67,7 +76,7 @@ sized : (g : given.Over) (c : After-set_word_at g) {s : State} {v : StandsFor g.
     (are : AreComputed v f c.args.layout.size c.args.layout.align c.args.layout.valid.aligned chosen c.args.found.start c.load_at-len.result c.front-payload.result.0 c.front-payload.result.1)
     → IsSized are c.take_out.new.memory c.set_word_at.new.self c.take_out.new.table
 sized g c {s} {v} {f} are =
-    IsSized-from are (c.take_out.ensures.step s f v (IsTaken-computed are)) c.set_word_at.ensures.start (wrote c.take_out.new.memory c.set_word_at.new.self c.args.found.start (c.front-payload.result.1 + 1) c.set_word_at.ensures.bytes (omega arith) (omega arith)) (omega arith)
+    IsSized-from are (c.take_out.ensures.step s f v (IsTaken-computed are)) c.set_word_at.ensures.start (wrote c.take_out.new.memory c.set_word_at.new.self c.args.found.start (c.front-payload.result.1 + 1) c.set_word_at.ensures.bytes (omega arith) (omega arith)) (omega arith) (wrote_there c.take_out.new.memory c.set_word_at.new.self c.args.found.start c.set_word_at.ensures.out (omega arith))
 
 pub take_out-requires : goal.take_out-requires
 take_out-requires g c =
@@ -84,53 +93,83 @@ set_word_at-requires-clause-place g c =
     let stands = loaded g at.After-load_at-len v in
     let are = computed g at.After-front-payload stands f chosen start in
     let opened = c.take_out.ensures.step s f stands (IsTaken-computed are) in
-    IsWord-block are c.take_out.new.memory opened.rewrites.start opened.rewrites.length
+    IsWritable-block are c.take_out.new.memory opened.rewrites.start opened.rewrites.length opened.rewrites.own
 
 pub set_word_at-requires-then-wide-clause-place : goal.set_word_at-requires-then-wide-clause-place
 set_word_at-requires-then-wide-clause-place g c =
     let (s, f, v, chosen, start) = c.requires.chosen in
     let at = goal.at.set_word_at-requires-then-wide-clause-place g c in
     let are = computed g at.After-front-payload (loaded g at.After-load_at-len v) f chosen start in
-    IsWord-pad are (sized g at.After-set_word_at are) (omega arith)
+    IsWritable-pad are (sized g at.After-set_word_at are) (omega arith)
 
-pub returns-then-wide : goal.returns-then-wide
-returns-then-wide g c = record {
-  step = λ s f v chosen start.
-      let at = goal.at.returns-then-wide g c in
-      let are = computed g at.After-front-payload (loaded g at.After-load_at-len v) f chosen start in
-      let is = sized g at.After-set_word_at are in
-      let wide : 32 ≤ c.args.layout.align = omega arith in
-      let (t, places, stands, spare) =
-      Places-sized are is (Writes-some (32 ≤ c.args.layout.align) wide (IsWord-pad are is wide) (omega arith) c.set_word_at-then-wide.ensures.start (wrote c.set_word_at.new.self c.set_word_at-then-wide.new.self (c.front-payload.result.0 - 8) c.args.found.start c.set_word_at-then-wide.ensures.bytes (omega arith) (omega arith))) in
-      (t, places, stands, KeepsSpare-counted_first c.args.memory.now c.load_at-len.new.self c.load_at-len.ensures.start c.load_at-len.ensures.bytes s t c.set_word_at-then-wide.new.self spare);
-  place =
-      let (s, f, v, chosen, start) = c.requires.chosen in
-      let at = goal.at.returns-then-wide g c in
-      let are = computed g at.After-front-payload (loaded g at.After-load_at-len v) f chosen start in
-      let same = SamePlace-sized are (sized g at.After-set_word_at are) in
-      (omega arith, omega (arith, ap length c.load_at-len.ensures.bytes));
-  touches = search rules;
-  grow = search rules;
-  copied = search rules;
-  view = search rules;
-}
+-- what it costs until the size word is written
+so_far : (g : given.Over) (c : After-set_word_at g) → Costs c.args.memory.now c.set_word_at.new.self 22 0
+so_far g c =
+    let read = c.load_at-len.ensures in
+    let write = c.set_word_at.ensures in
+    let loaded = Costs-loaded c.args.memory.now c.load_at-len.new.self read.start read.bytes read.touches read.copied read.view read.out in
+    Costs-then (Costs-then loaded c.take_out.ensures.costs) (Costs-written c.take_out.new.memory c.set_word_at.new.self c.args.found.start write.start write.len write.touches write.copied write.view write.out)
 
-pub returns-else-wide : goal.returns-else-wide
-returns-else-wide g c = record {
-  step = λ s f v chosen start.
-      let at = goal.at.returns-else-wide g c in
-      let are = computed g at.After-front-payload (loaded g at.After-load_at-len v) f chosen start in
-      let narrow : ¬ (32 ≤ c.args.layout.align) = λ wide. omega arith in
-      let (t, places, stands, spare) = Places-sized are (sized g at.After-set_word_at are) (Writes-none c.set_word_at.new.self c.set_word_at.new.self (32 ≤ c.args.layout.align) (c.front-payload.result.0 - 8) c.args.found.start refl narrow) in
-      (t, places, stands, KeepsSpare-counted_first c.args.memory.now c.load_at-len.new.self c.load_at-len.ensures.start c.load_at-len.ensures.bytes s t c.set_word_at.new.self spare);
-  place =
-      let (s, f, v, chosen, start) = c.requires.chosen in
-      let at = goal.at.returns-else-wide g c in
-      let are = computed g at.After-front-payload (loaded g at.After-load_at-len v) f chosen start in
-      let same = SamePlace-sized are (sized g at.After-set_word_at are) in
-      (omega arith, omega (arith, ap length c.load_at-len.ensures.bytes));
-  touches = search rules;
-  grow = search rules;
-  copied = search rules;
-  view = search rules;
-}
+pub returns-then-wide-clause-step : goal.returns-then-wide-clause-step
+returns-then-wide-clause-step g c =
+    λ s f v chosen start.
+    let at = goal.at.returns-then-wide-clause-step g c in
+    let are = computed g at.After-front-payload (loaded g at.After-load_at-len v) f chosen start in
+    let is = sized g at.After-set_word_at are in
+    let wide : 32 ≤ c.args.layout.align = omega arith in
+    let (t, places, stands, spare) =
+    Places-sized are is (Writes-some (32 ≤ c.args.layout.align) wide (IsWritable-pad are is wide) (omega arith) c.set_word_at-then-wide.ensures.start (wrote c.set_word_at.new.self c.set_word_at-then-wide.new.self (c.front-payload.result.0 - 8) c.args.found.start c.set_word_at-then-wide.ensures.bytes (omega arith) (omega arith)) (wrote_there c.set_word_at.new.self c.set_word_at-then-wide.new.self (c.front-payload.result.0 - 8) c.set_word_at-then-wide.ensures.out (omega arith))) in
+    (t, places, stands, KeepsSpare-counted_first c.args.memory.now c.load_at-len.new.self c.load_at-len.ensures.start c.load_at-len.ensures.bytes c.load_at-len.ensures.out s t c.set_word_at-then-wide.new.self spare)
+
+pub returns-then-wide-clause-own : goal.returns-then-wide-clause-own
+returns-then-wide-clause-own g c =
+    let (s, f, v, chosen, start) = c.requires.chosen in
+    let at = goal.at.returns-then-wide-clause-own g c in
+    let are = computed g at.After-front-payload (loaded g at.After-load_at-len v) f chosen start in
+    let is = sized g at.After-set_word_at are in
+    let wide : 32 ≤ c.args.layout.align = omega arith in
+    let padded : Writes c.set_word_at.new.self c.set_word_at-then-wide.new.self (32 ≤ c.args.layout.align) (c.front-payload.result.0 - 8) c.args.found.start = Writes-some (32 ≤ c.args.layout.align) wide (IsWritable-pad are is wide) (omega arith) c.set_word_at-then-wide.ensures.start (wrote c.set_word_at.new.self c.set_word_at-then-wide.new.self (c.front-payload.result.0 - 8) c.args.found.start c.set_word_at-then-wide.ensures.bytes (omega arith) (omega arith)) (wrote_there c.set_word_at.new.self c.set_word_at-then-wide.new.self (c.front-payload.result.0 - 8) c.set_word_at-then-wide.ensures.out (omega arith)) in
+    λ a inside. padded.rewrites.own a (omega (arith, is.sized.start, is.opened.rewrites.start, c.load_at-len.ensures.start)) ∙ (rewrites_of is.sized).own a (omega (arith, is.opened.rewrites.start, c.load_at-len.ensures.start)) ∙ is.opened.rewrites.own a (omega (arith, c.load_at-len.ensures.start)) ∙ own-same c.args.memory.now c.load_at-len.new.self c.load_at-len.ensures.start c.load_at-len.ensures.out a inside
+
+pub returns-then-wide-clause-here : goal.returns-then-wide-clause-here
+returns-then-wide-clause-here g c =
+    let (s, f, v, chosen, start) = c.requires.chosen in
+    let at = goal.at.returns-then-wide-clause-here g c in
+    let are = computed g at.After-front-payload (loaded g at.After-load_at-len v) f chosen start in
+    let is = sized g at.After-set_word_at are in
+    let wide : 32 ≤ c.args.layout.align = omega arith in
+    let padded : Writes c.set_word_at.new.self c.set_word_at-then-wide.new.self (32 ≤ c.args.layout.align) (c.front-payload.result.0 - 8) c.args.found.start = Writes-some (32 ≤ c.args.layout.align) wide (IsWritable-pad are is wide) (omega arith) c.set_word_at-then-wide.ensures.start (wrote c.set_word_at.new.self c.set_word_at-then-wide.new.self (c.front-payload.result.0 - 8) c.args.found.start c.set_word_at-then-wide.ensures.bytes (omega arith) (omega arith)) (wrote_there c.set_word_at.new.self c.set_word_at-then-wide.new.self (c.front-payload.result.0 - 8) c.set_word_at-then-wide.ensures.out (omega arith)) in
+    λ a inside was. padded.rewrites.here a (omega (arith, is.sized.start, is.opened.rewrites.start, c.load_at-len.ensures.start)) ((rewrites_of is.sized).here a (omega (arith, is.opened.rewrites.start, c.load_at-len.ensures.start)) (is.opened.rewrites.here a (omega (arith, c.load_at-len.ensures.start)) (out-same c.args.memory.now c.load_at-len.new.self a c.load_at-len.ensures.start c.load_at-len.ensures.out ∙ was)))
+
+pub returns-else-wide-clause-step : goal.returns-else-wide-clause-step
+returns-else-wide-clause-step g c =
+    λ s f v chosen start.
+    let at = goal.at.returns-else-wide-clause-step g c in
+    let are = computed g at.After-front-payload (loaded g at.After-load_at-len v) f chosen start in
+    let narrow : ¬ (32 ≤ c.args.layout.align) = λ wide. omega arith in
+    let (t, places, stands, spare) = Places-sized are (sized g at.After-set_word_at are) (Writes-none c.set_word_at.new.self c.set_word_at.new.self (32 ≤ c.args.layout.align) (c.front-payload.result.0 - 8) c.args.found.start refl narrow) in
+    (t, places, stands, KeepsSpare-counted_first c.args.memory.now c.load_at-len.new.self c.load_at-len.ensures.start c.load_at-len.ensures.bytes c.load_at-len.ensures.out s t c.set_word_at.new.self spare)
+
+pub returns-else-wide-clause-own : goal.returns-else-wide-clause-own
+returns-else-wide-clause-own g c =
+    let (s, f, v, chosen, start) = c.requires.chosen in
+    let at = goal.at.returns-else-wide-clause-own g c in
+    let are = computed g at.After-front-payload (loaded g at.After-load_at-len v) f chosen start in
+    let is = sized g at.After-set_word_at are in
+    λ a inside. (rewrites_of is.sized).own a (omega (arith, is.opened.rewrites.start, c.load_at-len.ensures.start)) ∙ is.opened.rewrites.own a (omega (arith, c.load_at-len.ensures.start)) ∙ own-same c.args.memory.now c.load_at-len.new.self c.load_at-len.ensures.start c.load_at-len.ensures.out a inside
+
+pub returns-else-wide-clause-here : goal.returns-else-wide-clause-here
+returns-else-wide-clause-here g c =
+    let (s, f, v, chosen, start) = c.requires.chosen in
+    let at = goal.at.returns-else-wide-clause-here g c in
+    let are = computed g at.After-front-payload (loaded g at.After-load_at-len v) f chosen start in
+    let is = sized g at.After-set_word_at are in
+    λ a inside was. (rewrites_of is.sized).here a (omega (arith, is.opened.rewrites.start, c.load_at-len.ensures.start)) (is.opened.rewrites.here a (omega (arith, c.load_at-len.ensures.start)) (out-same c.args.memory.now c.load_at-len.new.self a c.load_at-len.ensures.start c.load_at-len.ensures.out ∙ was))
+
+pub returns-then-wide-clause-costs : goal.returns-then-wide-clause-costs
+returns-then-wide-clause-costs g c =
+    let write = c.set_word_at-then-wide.ensures in
+    Costs-then (so_far g (goal.at.returns-then-wide-clause-costs g c).After-set_word_at) (Costs-written c.set_word_at.new.self c.set_word_at-then-wide.new.self (c.front-payload.result.0 - 8) write.start write.len write.touches write.copied write.view write.out)
+
+pub returns-else-wide-clause-costs : goal.returns-else-wide-clause-costs
+returns-else-wide-clause-costs g c = Costs-within (omega arith) (so_far g (goal.at.returns-else-wide-clause-costs g c).After-set_word_at)

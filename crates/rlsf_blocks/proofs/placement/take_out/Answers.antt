@@ -4,6 +4,7 @@ use Rattle.rlsf_machine.specs.State.{State}
 use Rattle.rlsf_table.specs.Table.{IsClassAt}
 use Rattle.rlsf_blocks.specs.Steps.Rest.{IsTaken}
 use Rattle.rlsf_blocks.proofs.Allocate.TakenOut.{ahead, later, is_newest, IsInnerRoom-rest, IsOpened-rest, IsOpened-whole, rest, split_list}
+use Rattle.rlsf_table.proofs.Costs.{Costs-then, Costs-within}
 use Rattle.rlsf_blocks.proofs.placement.take_out.Goals as goal
 
 -- the free block has the class at the indices of its length
@@ -21,26 +22,24 @@ leave_rest-requires g c =
     let unlinked = c.unlink_newest_block.ensures.step f (ahead v take) (later v take) take.start (is_newest v take (at_class c.requires.class take)) (split_list v take) in
     (omega arith, (c.requires.parameters, ((ahead v take ++ later v take, rest v take, refl, omega (arith, take.start, take.length, take.fits), IsInnerRoom-rest v take unlinked (omega (arith, take.fits))), search rules)))
 
-pub returns-then-longer : goal.returns-then-longer
-returns-then-longer g c = record {
-  step = λ s f v take.
-      let unlinked = c.unlink_newest_block.ensures.step f (ahead v take) (later v take) take.start (is_newest v take (at_class c.requires.class take)) (split_list v take) in
-      let short : c.args.taken < c.args.len = omega (arith, take.fits) in
-      let room = IsInnerRoom-rest v take unlinked short in
-      IsOpened-rest v take unlinked short (c.leave_rest.ensures.step (ahead v take ++ later v take) (rest v take) refl (omega (arith, take.start, take.length, take.fits)) room);
-  touches = search rules;
-  grow = search rules;
-  copied = search rules;
-  view = search rules;
-}
+pub returns-then-longer-clause-step : goal.returns-then-longer-clause-step
+returns-then-longer-clause-step g c =
+    λ s f v take.
+    let unlinked = c.unlink_newest_block.ensures.step f (ahead v take) (later v take) take.start (is_newest v take (at_class c.requires.class take)) (split_list v take) in
+    let short : c.args.taken < c.args.len = omega (arith, take.fits) in
+    let room = IsInnerRoom-rest v take unlinked short in
+    IsOpened-rest v take unlinked short (c.leave_rest.ensures.step (ahead v take ++ later v take) (rest v take) refl (omega (arith, take.start, take.length, take.fits)) room)
 
-pub returns-else-longer : goal.returns-else-longer
-returns-else-longer g c = record {
-  step = λ s f v take.
-      let unlinked = c.unlink_newest_block.ensures.step f (ahead v take) (later v take) take.start (is_newest v take (at_class c.requires.class take)) (split_list v take) in
-      IsOpened-whole v take unlinked (omega (arith, take.fits));
-  touches = search rules;
-  grow = search rules;
-  copied = search rules;
-  view = search rules;
-}
+pub returns-else-longer-clause-step : goal.returns-else-longer-clause-step
+returns-else-longer-clause-step g c =
+    λ s f v take.
+    let unlinked = c.unlink_newest_block.ensures.step f (ahead v take) (later v take) take.start (is_newest v take (at_class c.requires.class take)) (split_list v take) in
+    IsOpened-whole v take unlinked (omega (arith, take.fits))
+
+pub returns-then-longer-clause-costs : goal.returns-then-longer-clause-costs
+returns-then-longer-clause-costs g c =
+    Costs-then c.unlink_newest_block.ensures.costs c.leave_rest.ensures.costs
+
+pub returns-else-longer-clause-costs : goal.returns-else-longer-clause-costs
+returns-else-longer-clause-costs g c =
+    Costs-within (omega arith) c.unlink_newest_block.ensures.costs

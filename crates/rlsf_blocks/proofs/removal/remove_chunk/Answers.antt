@@ -1,6 +1,7 @@
 use Rattle.std.proofs.Common.{arith, rules}
 use Rattle.rlsf_blocks.proofs.Chunks.Removed.{IsMarked-idle, end_is, KeepsSpare-removed, StandsFor-removed}
 use Rattle.rlsf_blocks.proofs.Machine.FreeBlocks.{IsFreeTable-free}
+use Rattle.rlsf_table.proofs.Costs.{}
 use Rattle.rlsf_blocks.proofs.removal.remove_chunk.Goals as goal
 
 pub take_if_free-free-requires : goal.take_if_free-free-requires
@@ -22,16 +23,12 @@ overflow_add-result-2 g c =
     let end = end_is v k is.is_chunk is.idle is.begins out in
     record { fits = omega (arith, end, (v.well_formed.chunks k is.is_chunk).lies_in.1, v.well_formed.addressable) }
 
-pub returns : goal.returns
-returns g c = record {
-  step = λ s k v is.
-      let out = c.take_if_free-free.ensures.step s.free (IsFreeTable-free v) (IsMarked-idle v k is.is_chunk is.idle c.args.start is.begins) in
-      (StandsFor-removed v k is.is_chunk is.idle is.begins out, KeepsSpare-removed v k is.is_chunk is.idle is.begins out, end_is v k is.is_chunk is.idle is.begins out);
-  place =
-      let (s, k, v, is) = c.requires.idle in
-      let out = c.take_if_free-free.ensures.step s.free (IsFreeTable-free v) (IsMarked-idle v k is.is_chunk is.idle c.args.start is.begins) in
-      (out.rewrites.start, out.rewrites.length);
-  touches = search rules;
-  grow = search rules;
-  copied = search rules;
-}
+pub returns-clause-step : goal.returns-clause-step
+returns-clause-step g c =
+    λ s k v is.
+    let out = c.take_if_free-free.ensures.step s.free (IsFreeTable-free v) (IsMarked-idle v k is.is_chunk is.idle c.args.start is.begins) in
+    (StandsFor-removed v k is.is_chunk is.idle is.begins out, KeepsSpare-removed v k is.is_chunk is.idle is.begins out, end_is v k is.is_chunk is.idle is.begins out)
+
+pub returns-clause-costs : goal.returns-clause-costs
+returns-clause-costs g c =
+    c.take_if_free-free.ensures.costs

@@ -43,7 +43,7 @@ loop-start-preserved g c = λ s v row idle.
     let q = between c.span-start.result.0 c.span-start.result.1 in
     let more : c.loop-start.start < end_of q = omega (arith, c.loop-start-test.true, span.within) in
     let step = c.remove_chunk-start.ensures.step (removed (between q.start c.loop-start.start) s) (chunk v q rowed idles is more) is.stands (IsIdleChunk-next v q rowed idles is more) in
-    (span, IsRemovedTo-next v q rowed idles is more step c.remove_chunk-start.ensures.place c.remove_chunk-start.ensures.touches c.remove_chunk-start.ensures.grow c.remove_chunk-start.ensures.copied)
+    (span, IsRemovedTo-next v q rowed idles is more step c.remove_chunk-start.ensures.costs)
 
 pub returns : goal.returns
 returns g c = record {

@@ -1,11 +1,11 @@
 use Rattle.std.proofs.Common.{arith}
-use Rattle.rlsf_blocks.proofs.Walking.ChunkEnds.{IsInChunk-next, IsInChunk-start, IsWord-chunk, end_there}
+use Rattle.rlsf_blocks.proofs.Walking.ChunkEnds.{IsInChunk-next, IsInChunk-start, IsReadable-chunk, end_there}
 use Rattle.rlsf_blocks.proofs.walks.chunk_end.Goals as goal
 
 pub word-word-requires : goal.word-word-requires
 word-word-requires c =
     let (fllen, sllen, t, s, k, v, i, at) = c.requires in
-    IsWord-chunk v k i (IsInChunk-start v k i c.args.start at)
+    IsReadable-chunk v k i (IsInChunk-start v k i c.args.start at)
 
 pub loop-word-init : goal.loop-word-init
 loop-word-init c = (c.word-word.ensures, λ fllen sllen t s k v i at. IsInChunk-start v k i c.args.start at)
@@ -19,7 +19,7 @@ overflow_add-block c =
 pub word-word-requires-in-loop-word : goal.word-word-requires-in-loop-word
 word-word-requires-in-loop-word c =
     let (fllen, sllen, t, s, k, v, i, at) = c.requires in
-    IsWord-chunk v k i (IsInChunk-next v k i (c.loop-word.invariant.1 fllen sllen t s k v i at) c.loop-word.invariant.0 c.loop-word-test.true).0
+    IsReadable-chunk v k i (IsInChunk-next v k i (c.loop-word.invariant.1 fllen sllen t s k v i at) c.loop-word.invariant.0 c.loop-word-test.true).0
 
 pub loop-word-smaller : goal.loop-word-smaller
 loop-word-smaller c =

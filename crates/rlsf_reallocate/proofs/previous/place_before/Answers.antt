@@ -34,7 +34,7 @@ pub free_length-requires-clause-marked : goal.free_length-requires-clause-marked
 free_length-requires-clause-marked c =
     let (fllen, sllen, t, s, u, v, is) = c.requires.used in
     let counts = c.start_before-start.ensures.counts in
-    let v0 = StandsFor-counted c.args.memory.now c.start_before-start.new.memory counts.start counts.bytes v in
+    let v0 = StandsFor-counted c.args.memory.now c.start_before-start.new.memory counts.start counts.bytes counts.out v in
     (fllen, sllen, t, s.free, IsFreeTable-free v0, IsMarked-end v0 u is.is_used c.args.end is.end_is)
 
 pub overflow_add-room : goal.overflow_add-room
@@ -42,7 +42,7 @@ overflow_add-room c =
     let (fllen, sllen, t, s, u, v, is) = c.requires.used in
     let begins = c.start_before-start.ensures.start fllen sllen t s u v is.is_used is.start in
     let counts = c.start_before-start.ensures.counts in
-    let v0 = StandsFor-counted c.args.memory.now c.start_before-start.new.memory counts.start counts.bytes v in
+    let v0 = StandsFor-counted c.args.memory.now c.start_before-start.new.memory counts.start counts.bytes counts.out v in
     let long = c.free_length.ensures.length fllen sllen t s.free (IsFreeTable-free v0) (IsMarked-end v0 u is.is_used c.args.end is.end_is) in
     record { fits = omega (arith, room_behind v.well_formed u is begins c.free_length.result long, v.well_formed.addressable) }
 
@@ -51,7 +51,7 @@ returns-then-taken-room c = record {
   place = λ fllen sllen t s u v is.
       let begins = c.start_before-start.ensures.start fllen sllen t s u v is.is_used is.start in
       let counts = c.start_before-start.ensures.counts in
-      let v0 = StandsFor-counted c.args.memory.now c.start_before-start.new.memory counts.start counts.bytes v in
+      let v0 = StandsFor-counted c.args.memory.now c.start_before-start.new.memory counts.start counts.bytes counts.out v in
       let long = c.free_length.ensures.length fllen sllen t s.free (IsFreeTable-free v0) (IsMarked-end v0 u is.is_used c.args.end is.end_is) in
       into_previous-refused v.well_formed u is begins c.if-start-block.false c.free_length.result long
       refl c.size.ensures.value c.align_up-payload.ensures.value c.next_multiple_of_32-taken.ensures.value c.if-taken-room.true;
@@ -63,7 +63,7 @@ returns c = record {
   place = λ fllen sllen t s u v is.
       let begins = c.start_before-start.ensures.start fllen sllen t s u v is.is_used is.start in
       let counts = c.start_before-start.ensures.counts in
-      let v0 = StandsFor-counted c.args.memory.now c.start_before-start.new.memory counts.start counts.bytes v in
+      let v0 = StandsFor-counted c.args.memory.now c.start_before-start.new.memory counts.start counts.bytes counts.out v in
       let long = c.free_length.ensures.length fllen sllen t s.free (IsFreeTable-free v0) (IsMarked-end v0 u is.is_used c.args.end is.end_is) in
       FitsBefore-computed v.well_formed u is begins c.if-start-block.false c.free_length.result long
       refl c.size.ensures.value c.align_up-payload.ensures.value c.next_multiple_of_32-taken.ensures.value (omega (arith, c.if-taken-room.false));

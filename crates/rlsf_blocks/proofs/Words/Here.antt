@@ -1,0 +1,153 @@
+-- What isn't out, since it is no usable byte of a payload: free blocks, the first words of each block, and a chunk's last bytes.
+use Rattle.std.proofs.Common.{true, subst, sym, ◌≡◌, ℕ, ◌+◌, ◌-◌, ◌^◌, ◌<◌, ◌≤◌, arith, ap, inl, inr}
+use Rattle.std.proofs.lemmas.Bool.{cases_eq, cases_lt}
+use Rattle.rlsf_machine.specs.Release.{released}
+use Rattle.rlsf_machine.proofs.Changes.{IsIn-others_from}
+use Rattle.rlsf_base.specs.declared.memory.range.Range.{Range}
+use Rattle.rlsf_base.specs.Out.{is_own}
+use Rattle.rlsf_base.specs.Range.{end_of, range_at}
+use Rattle.rlsf_base.specs.Space.{Space, out_at, range_of, word_at, word_range}
+use Rattle.rlsf_base.specs.OpenSpace.{IsOwned}
+use Rattle.rlsf_machine.specs.Lists.{IsIn}
+use Rattle.rlsf_machine.specs.State.{State, Used, between, usable}
+use Rattle.rlsf_machine.specs.WellFormed.{IsWellFormed, coverage, itself, last_bytes}
+use Rattle.rlsf_machine.proofs.Coverage.{covers-inside, coverage-IsIn}
+use Rattle.rlsf_machine.proofs.Payloads.{IsUsed-after_start}
+use Rattle.rlsf_table.specs.Table.{Table}
+use Rattle.rlsf_blocks.specs.StandsFor.{contents, IsUnlent, StandsFor}
+use Rattle.rlsf_base.proofs.Lending.Present.{own-word}
+use Rattle.rlsf_blocks.specs.Blocks.{Block, HasBlock, used, free}
+use Rattle.rlsf_blocks.proofs.Walking.Begins.{BehindBlock, block_behind, end_behind}
+use Rattle.rlsf_blocks.proofs.Words.Apart.{Has, used_free, used_used, used_last, free_in_memory, used_in_memory, home_of_used}
+
+-- of a memory of which nothing is out but usable bytes of a state's payloads
+module _ {fllen sllen : ℕ} (m : Space) {s : State} (w : IsWellFormed fllen sllen (range_of m) s) (here : (a : ℕ) → m.start ≤ a → IsUnlent s a → is_own (out_at m a) ≡ true) where
+  pub here_apart-in : (r : Range) → m.start ≤ r.start → ((u : Used) → IsIn u s.used → (a : ℕ) → u.payload ≤ a → a < end_of u.block → Has r a → ⊥) → IsOwned m r
+  here_apart-in r from apart a lo hi = here a (omega arith) (λ u i. elim (cases_lt a u.payload) [
+    | inl before ↦ inl before
+    | inr behind ↦ elim (cases_lt a (end_of u.block)) [
+      | inl within ↦ absurd (apart u i a behind within (record { from = lo; to = hi }))
+      | inr past ↦ inr past
+    ]
+  ])
+
+  pub here_free-in : (f : Range) → IsIn f s.free → IsOwned m f
+  here_free-in f i = here_apart-in f (free_in_memory w f i).0 (λ u j a low high h. used_free w u f a j i (record { from = omega (arith, IsUsed-after_start u (w.used u j)); to = high }) h)
+
+  pub here_behind_free-in : (f : Range) → IsIn f s.free → IsOwned m (range_at (end_of f) 16)
+  here_behind_free-in f i =
+      let some = (w.free f i).some in
+      here_apart-in (range_at (end_of f) 16) (omega (arith, (free_in_memory w f i).0)) (λ u j a low high h. elim (cases_lt u.block.start (end_of f)) [
+        | inl before ↦ used_free w u f (end_of f - 1) j i (record { from = omega arith; to = omega (arith, h.from) }) (record { from = omega arith; to = omega arith })
+        | inr past ↦ omega (arith, h.to, IsUsed-after_start u (w.used u j))
+      ])
+
+module _ {fllen sllen : ℕ} {m : Space} {t : Table} {s : State} (v : StandsFor fllen sllen (contents m t) s) where
+  -- a range that has no usable byte of a payload
+  pub here_apart : (r : Range) → m.start ≤ r.start → ((u : Used) → IsIn u s.used → (a : ℕ) → u.payload ≤ a → a < end_of u.block → Has r a → ⊥) → IsOwned m r
+  here_apart r from apart a lo hi = v.own a (omega arith) (λ u i. elim (cases_lt a u.payload) [
+    | inl before ↦ inl before
+    | inr behind ↦ elim (cases_lt a (end_of u.block)) [
+      | inl within ↦ absurd (apart u i a behind within (record { from = lo; to = hi }))
+      | inr past ↦ inr past
+    ]
+  ])
+
+  after : (u : Used) → IsIn u s.used → u.block.start + 16 ≤ u.payload
+  after u i = IsUsed-after_start u (v.well_formed.used u i)
+
+  pub here_free : (f : Range) → IsIn f s.free → IsOwned m f
+  here_free f i = here_apart f (free_in_memory v.well_formed f i).0 (λ u j a low high h. used_free v.well_formed u f a j i (record { from = omega (arith, after u j); to = high }) h)
+
+  -- the bytes of a used block before its payload
+  pub here_front : (u : Used) → IsIn u s.used → IsOwned m (between u.block.start u.payload)
+  here_front u i = here_apart (between u.block.start u.payload) (used_in_memory v.well_formed u i).0 (λ x j a low high h.
+      let in_block : Has u.block a = record { from = h.from; to = omega (arith, h.to, after u i, (v.well_formed.used u i).within) } in
+      let same = used_used v.well_formed x u a j i (record { from = omega (arith, after x j); to = high }) in_block in
+      omega (arith, ap (λ (y : Used). y.payload) same, h.to, after u i))
+
+  pub here_last : (c : Range) → IsIn c s.chunks → IsOwned m (last_bytes c)
+  here_last c i =
+      let chunk = v.well_formed.chunks c i in
+      here_apart (last_bytes c) (omega (arith, chunk.lies_in, chunk.has_room)) (λ u j a low high h. used_last v.well_formed u c a j i (record { from = omega (arith, after u j); to = high }) (omega (arith, h.from, chunk.has_room)) (omega (arith, h.to, chunk.has_room)))
+
+  -- the 16 bytes behind a range, where no used block goes past its end
+  pub here_behind : (r : Range) → 0 < r.len → m.start ≤ r.start → ((u : Used) → IsIn u s.used → Has u.block (end_of r - 1) → end_of u.block ≤ end_of r) → IsOwned m (range_at (end_of r) 16)
+  here_behind r some from ends = here_apart (range_at (end_of r) 16) (omega arith) (λ u j a low high h. elim (cases_lt u.block.start (end_of r)) [
+    | inl before ↦ omega (arith, h.from, ends u j (record { from = omega arith; to = omega (arith, h.from) }))
+    | inr past ↦ omega (arith, h.to, after u j)
+  ])
+
+  pub here_behind_free : (f : Range) → IsIn f s.free → IsOwned m (range_at (end_of f) 16)
+  here_behind_free f i =
+      let some = (v.well_formed.free f i).some in
+      here_behind f some (free_in_memory v.well_formed f i).0 (λ u j h. absurd (used_free v.well_formed u f (end_of f - 1) j i h (record { from = omega arith; to = omega arith })))
+
+  pub here_behind_used : (u : Used) → IsIn u s.used → IsOwned m (range_at (end_of u.block) 16)
+  here_behind_used u i =
+      let some = after u i in
+      let within = (v.well_formed.used u i).within in
+      here_behind u.block (omega arith) (used_in_memory v.well_formed u i).0 (λ x j h. let same = used_used v.well_formed x u (end_of u.block - 1) j i h (record { from = omega arith; to = omega arith }) in omega (arith, ap (λ (y : Used). end_of y.block) same))
+
+  -- a range that no chunk has a byte of
+  pub here_clear : (r : Range) → m.start ≤ r.start → ((a : ℕ) → r.start ≤ a → a < end_of r → coverage itself s.chunks a ≡ 0) → IsOwned m r
+  here_clear r from clear = here_apart r from (λ u j a low high h.
+      let home = home_of_used v.well_formed u j in
+      omega (arith, clear a h.from h.to, coverage-IsIn itself home.chunk s.chunks a home.is_chunk, covers-inside home.chunk a (omega (arith, home.from, after u j)) (omega (arith, home.to))))
+
+  -- the last bytes of a chunk, and such a range behind it
+  pub here_longer : (c : Range) → IsIn c s.chunks → (len : ℕ) → ((a : ℕ) → end_of c ≤ a → a < end_of c + len → coverage itself s.chunks a ≡ 0) → IsOwned m (range_at (end_of c - 32) (32 + len))
+  here_longer c i len clear a lo hi =
+      let chunk = v.well_formed.chunks c i in
+      elim (cases_lt a (end_of c)) [
+        | inl inside ↦ here_last c i a (omega arith) (omega (arith, chunk.has_room))
+        | inr past ↦ here_clear (range_at (end_of c) len) (omega (arith, chunk.lies_in)) clear a past (omega (arith, hi, chunk.has_room))
+      ]
+
+  -- a block's first word, the words behind it, and what stands where a walk goes on
+  pub here_block : (b : Block) → HasBlock s b → IsOwned m (word_range b.range.start)
+  here_block b (used u i same occupied) =
+      let start = ap (λ (r : Range). r.start) same in
+      own-word m (between u.block.start u.payload) b.range.start (here_front u i) (omega (arith, start)) (omega (arith, start, after u i))
+  here_block b (free i vacant) =
+      let is = v.well_formed.free b.range i in
+      own-word m b.range b.range.start (here_free b.range i) (omega arith) (omega (arith, is.some, is.whole.len))
+
+  pub here_behind_block : (b : Block) → HasBlock s b → IsOwned m (range_at (end_of b.range) 16)
+  here_behind_block b (used u i same occupied) = subst (λ r. IsOwned m (range_at (end_of r) 16)) (sym same) (here_behind_used u i)
+  here_behind_block b (free i vacant) = here_behind_free b.range i
+
+  pub here_walk : (a end : ℕ) → BehindBlock s a end → IsOwned m (word_range a)
+  here_walk a end (block_behind (b, has, begins)) = subst (λ k. IsOwned m (word_range k)) begins (here_block b has)
+  here_walk a end (end_behind c i begins ends) =
+      let chunk = v.well_formed.chunks c i in
+      own-word m (last_bytes c) a (here_last c i) (omega (arith, begins)) (omega (arith, begins, chunk.has_room))
+
+  -- a used block's bytes are here: then nothing is out but usable bytes of the other payloads
+  pub here_released : (u : Used) → IsIn u s.used → IsOwned m (usable u) → (a : ℕ) → m.start ≤ a → IsUnlent (released s u) a → is_own (out_at m a) ≡ true
+  here_released u i own a from unlent = elim (cases_lt a u.payload) [
+    | inl before ↦ v.own a from (λ x j. elim (cases_eq x.payload u.payload) [
+      | inl same ↦ inl (omega arith)
+      | inr other ↦ unlent x (IsIn-others_from u.payload x s.used j other)
+    ])
+    | inr behind ↦ elim (cases_lt a (end_of u.block)) [
+      | inl within ↦ own a behind (omega (arith, within))
+      | inr past ↦ v.own a from (λ x j. elim (cases_eq x.payload u.payload) [
+        | inl same ↦
+            let has_u : Has u.block (u.payload - 1) = record { from = omega (arith, after u i); to = omega (arith, after u i, (v.well_formed.used u i).within) } in
+            let has_x : Has x.block (u.payload - 1) = record { from = omega (arith, after x j, same); to = omega (arith, after x j, same, (v.well_formed.used x j).within) } in
+            let one = used_used v.well_formed x u (u.payload - 1) j i has_x has_u in
+            inr (subst (λ (y : Used). end_of y.block ≤ a) (sym one) past)
+        | inr other ↦ unlent x (IsIn-others_from u.payload x s.used j other)
+      ])
+    ]
+  ]
+
+  -- a block's first word is one, and so is the word where a walk goes on
+  pub block-fits : (b : Block) → HasBlock s b → word_at m b.range.start < 2 ^ 64
+  block-fits b (used u i same occupied) = subst (λ (r : Range). word_at m r.start < 2 ^ 64) (sym same) (omega (arith, v.sizes.used u i, (used_in_memory v.well_formed u i).1, v.well_formed.addressable))
+  block-fits b (free i vacant) = omega (arith, v.sizes.free b.range i, (free_in_memory v.well_formed b.range i).1, v.well_formed.addressable)
+
+  pub walk-fits : (a end : ℕ) → BehindBlock s a end → word_at m a < 2 ^ 64
+  walk-fits a end (block_behind (b, has, begins)) = subst (λ k. word_at m k < 2 ^ 64) begins (block-fits b has)
+  walk-fits a end (end_behind c i begins ends) = subst (λ k. word_at m k < 2 ^ 64) begins (omega (arith, v.sizes.sentinel c i))
