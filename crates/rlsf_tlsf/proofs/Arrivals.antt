@@ -14,7 +14,7 @@ use Rattle.rlsf_table.specs.Table.{Table}
 use Rattle.rlsf_blocks.specs.Laws.{read_from, with_bytes_of}
 use Rattle.rlsf_blocks.specs.Spare.{KeepsSpare}
 use Rattle.rlsf_blocks.specs.StandsFor.{contents, StandsFor}
-use Rattle.rlsf_tlsf.specs.Allocator.{Allocator, allocator, IsAllocator, Stands, Steps}
+use Rattle.rlsf_tlsf.specs.Allocator.{Allocator, allocator, IsAllocator, IsStanding, Stands, Steps}
 use Rattle.rlsf_tlsf.specs.Steps.Moves.{bare, bare_used, deallocated}
 use Rattle.rlsf_tlsf.proofs.Moved.{bare-bare, deallocated-bare}
 
@@ -55,29 +55,33 @@ module _ {fllen sllen : ℕ} {n : Space} {x : Table} {t : State} (v : StandsFor 
   pub arrived : read_from n reached ≡ t
   arrived = ap (read_from n) e ∙ read_from-bare n t ∙ read_from-stands v
 
-  pub IsAllocator-arrived : {fl_bits sl_bits : ℕ} → IsValid fl_bits sl_bits fllen sllen → IsAllocator fl_bits sl_bits fllen sllen n x reached
-  IsAllocator-arrived valid = record { valid = valid; stands = subst (StandsFor fllen sllen (contents n x)) (sym arrived) v; is_bare = ap bare e ∙ bare-bare t ∙ sym e }
+  stands : StandsFor fllen sllen (contents n x) (read_from n reached)
+  stands = subst (StandsFor fllen sllen (contents n x)) (sym arrived) v
 
-  pub Stands-arrived : Stands fllen sllen (allocator n x reached)
-  unfolding Stands
-  Stands-arrived = subst (StandsFor fllen sllen (contents n x)) (sym arrived) v
+  module _ (whole : n.out ≡ []) where
+    pub IsAllocator-arrived : {fl_bits sl_bits : ℕ} → IsValid fl_bits sl_bits fllen sllen → IsAllocator fl_bits sl_bits fllen sllen n x reached
+    IsAllocator-arrived valid = record { valid = valid; stands = stands; whole = whole; is_bare = ap bare e ∙ bare-bare t ∙ sym e }
 
-  -- a step to it is the step that the call says
-  pub Steps-arrived : (old : Allocator) (m : Space) (y : Table) (s : State) → allocator m y s ≡ old → (step : State → State → Type 0) → step (read_from m s) t → KeepsSpare m (read_from m s) n t
-      → Steps fllen sllen old (allocator n x reached) (step old.state)
-  unfolding Steps
-  Steps-arrived old m y s view step is spare =
-      subst (λ (o : Allocator). step o.state (read_from n reached) × Stands fllen sllen (allocator n x reached) × KeepsSpare o.memory o.state n (read_from n reached)) view
-      (subst (step (read_from m s)) (sym arrived) is, Stands-arrived, subst (KeepsSpare m (read_from m s) n) (sym arrived) spare)
+    pub Stands-arrived : Stands fllen sllen (allocator n x reached)
+    unfolding Stands
+    Stands-arrived = record { stands = stands; whole = whole }
+
+    -- a step to it is the step that the call says
+    pub Steps-arrived : (old : Allocator) (m : Space) (y : Table) (s : State) → allocator m y s ≡ old → (step : State → State → Type 0) → step (read_from m s) t → KeepsSpare m (read_from m s) n t
+        → Steps fllen sllen old (allocator n x reached) (step old.state)
+    unfolding Steps
+    Steps-arrived old m y s view step is spare =
+        subst (λ (o : Allocator). step o.state (read_from n reached) × Stands fllen sllen (allocator n x reached) × KeepsSpare o.memory o.state n (read_from n reached)) view
+        (subst (step (read_from m s)) (sym arrived) is, Stands-arrived, subst (KeepsSpare m (read_from m s) n) (sym arrived) spare)
 
 -- what stands is well-formed
 pub well_formed : {fllen sllen : ℕ} (v : Allocator) → Stands fllen sllen v → IsWellFormed fllen sllen (range_of v.memory) v.state
 unfolding Stands
-well_formed v is = is.well_formed
+well_formed v is = is.stands.well_formed
 
-pub Stands-view : {fllen sllen : ℕ} (m : Space) (x : Table) (s : State) (v : Allocator) → allocator m x s ≡ v → StandsFor fllen sllen (contents m x) (read_from m s) → Stands fllen sllen v
+pub Stands-view : {fllen sllen : ℕ} (m : Space) (x : Table) (s : State) (v : Allocator) → allocator m x s ≡ v → StandsFor fllen sllen (contents m x) (read_from m s) → m.out ≡ [] → Stands fllen sllen v
 unfolding Stands
-Stands-view {fllen} {sllen} m x s v view is = subst (λ (o : Allocator). StandsFor fllen sllen (contents o.memory o.table) o.state) view is
+Stands-view {fllen} {sllen} m x s v view is whole = subst (λ (o : Allocator). IsStanding fllen sllen o.memory o.table o.state) view (record { stands = is; whole = whole })
 
 -- what a step says
 pub opened : (fllen sllen : ℕ) (before after : Allocator) (step : State → Type 0) → Steps fllen sllen before after step
@@ -90,7 +94,7 @@ opened fllen sllen before after step is = is
 module _ {fl_bits sl_bits fllen sllen : ℕ} {m : Space} {x : Table} {s : State} (is : IsAllocator fl_bits sl_bits fllen sllen m x s) (v : Allocator) (view : allocator m x s ≡ v) where
   -- the state is well-formed
   pub view_well_formed : IsWellFormed fllen sllen (range_of v.memory) v.state
-  view_well_formed = well_formed v (Stands-view m x s v view is.stands)
+  view_well_formed = well_formed v (Stands-view m x s v view is.stands is.whole)
 
   -- a payload with an alignment is one of the fields' state
   pub live_inside : (addr align : ℕ) → align_at v.state addr ≡ Some align → IsLive (read_from m s) addr align

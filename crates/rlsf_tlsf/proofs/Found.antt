@@ -36,5 +36,5 @@ module _ {fllen sllen : ℕ} {m : Space} {t : Table} {s : State} {addr payload a
         used = u;
         holds = holds;
         used_at = record { is_used = holds.0; start = ap (λ y. y.block.start) one ∙ start; caller = holds.1 ∙ sym same; alignment = is };
-        stands = StandsFor-counted m n counts.start counts.bytes v;
+        stands = StandsFor-counted m n counts.start counts.bytes counts.out v;
       }

@@ -17,7 +17,7 @@ use Rattle.rlsf_blocks.specs.Spare.{KeepsSpare}
 use Rattle.rlsf_blocks.specs.StandsFor.{contents, StandsFor}
 use Rattle.rlsf_blocks.proofs.Payloads.Filled.{IsSameOutside, filled_in}
 use Rattle.rlsf_blocks.proofs.Payloads.UnknownAlignment.{IsPayloadOf-holds, LiesIn-usable}
-use Rattle.rlsf_tlsf.specs.Allocator.{Allocator, allocator, IsAllocator, Stands, Steps}
+use Rattle.rlsf_tlsf.specs.Allocator.{Allocator, allocator, IsAllocator, IsStanding, Stands, Steps}
 use Rattle.rlsf_tlsf.specs.Lending.{LeavesRest, touched, written}
 use Rattle.rlsf_tlsf.proofs.Arrivals.{IsAllocator-arrived, bare-reread, read_from-read_from}
 
@@ -25,7 +25,7 @@ use Rattle.rlsf_tlsf.proofs.Arrivals.{IsAllocator-arrived, bare-reread, read_fro
 pub IsSameOutside-lent : (m : Space) (more : ℕ) (r : Range) (w : List ℕ) → LiesIn r m.start (length m.bytes) → IsSameOutside m (lent_space (touched m more) r.start r.len w) r
 IsSameOutside-lent m more r w placed =
     let n = touched m more in
-    record { start = refl; length = length-lent_space n r w placed; bytes = bytes_in-lent_space n r w placed }
+    record { start = refl; length = length-lent_space n r w placed; bytes = bytes_in-lent_space n r w placed; out = λ a from side. refl }
 
 -- a range is that of u's payload, which is at the address, and the list is what stood there
 pub record IsLent (addr : ℕ) (u : Used) (r : Range) (lent : List ℕ) : Type 0 where
@@ -67,7 +67,7 @@ module _ {fl_bits sl_bits fllen sllen : ℕ} {m : Space} {x : Table} {kept : Sta
   IsAllocator-lent n read r place w =
       subst (λ k. IsAllocator fl_bits sl_bits fllen sllen (lent_space k r.start r.len w) x kept) (sym read)
       (subst (λ q. IsAllocator fl_bits sl_bits fllen sllen (lent_space (touched m 3) q.start q.len w) x kept) (sym place)
-      (IsAllocator-arrived (filling w).1 kept (bare-reread (left_in w) is) is.valid))
+      (IsAllocator-arrived (filling w).1 kept (bare-reread (left_in w) is) is.whole is.valid))
 
   pub is_lent : (r : Range) → r ≡ usable u → (lent : List ℕ) → lent ≡ bytes_in m r → IsLent addr u r lent
   is_lent r place lent read =
@@ -86,17 +86,18 @@ module _ {fl_bits sl_bits fllen sllen : ℕ} {m : Space} {x : Table} {kept : Sta
   unfolding Stands Steps
   left w =
       let (fills, stands, spare) = filling w in
+      let standing : IsStanding fllen sllen (left_in w) x (read_from (left_in w) s) = record { stands = stands; whole = is.whole } in
       let seen = filled_seen is.stands.well_formed (read_from (left_in w) s) addr (bytes_in (left_in w) (usable u)) fills in
       let read : length w ≡ (usable u).len → bytes_in (left_in w) (usable u) ≡ w = λ long. bytes_in-lent (touched m 3) (usable u) w lies long in
       record {
-        meaning = λ long. (subst (λ bytes. Fills s addr bytes (read_from (left_in w) s)) (read long) fills, stands, spare);
+        meaning = λ long. (subst (λ bytes. Fills s addr bytes (read_from (left_in w) s)) (read long) fills, standing, spare);
         filled = λ long. seen.here ∙ read long;
         bytes = seen.bytes;
         aligns = λ i a. seen.aligns a i;
         count = count_filled is.stands.well_formed (read_from (left_in w) s) addr (bytes_in (left_in w) (usable u)) (u, holds) fills;
         bounds = λ count size align sized. sized_filled is.stands.well_formed (read_from (left_in w) s) count size align sized addr (bytes_in (left_in w) (usable u)) (u, holds) fills;
         lengths = seen.lengths addr;
-        rest = (refl, (refl, length-lent_space (touched m 3) (usable u) w lies), stands, refl, refl);
+        rest = (refl, (refl, length-lent_space (touched m 3) (usable u) w lies, refl, λ none. none), standing, refl, refl);
       }
 
   pub is_left : (len : ℕ) → len ≡ (usable u).len → (w : List ℕ) → IsLeft fllen sllen (allocator m x kept) addr len w (written (allocator m x kept) addr len w)

@@ -1,7 +1,10 @@
 mod Crossing
 mod Found
 pub mod Arrivals
+pub mod InPlace
 pub mod Lent
 pub mod Moved
+pub mod OnePayload
+mod Opened
 pub mod Removed
 pub mod Standing

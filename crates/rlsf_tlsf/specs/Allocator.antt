@@ -1,5 +1,5 @@
 -- The allocator as contracts see it, and the steps that its calls make.
-use Rattle.std.specs.Prelude.{◌≡◌, ℕ}
+use Rattle.std.specs.Prelude.{◌≡◌, ℕ, []}
 use Rattle.rlsf_base.specs.SizeClass.{IsValid}
 use Rattle.rlsf_base.specs.Space.{Space}
 use Rattle.rlsf_machine.specs.State.{State}
@@ -19,15 +19,21 @@ pub record Allocator : Type 0 where
 abbrev pub allocator : Space → Table → State → Allocator
 allocator m t s = record { memory = m; table = t; state = read_from m s }
 
--- the words in the memory and the class table spell the state, which is well-formed
-unfoldable pub Stands : ℕ → ℕ → Allocator → Type 0
-Stands fllen sllen v = StandsFor fllen sllen (contents v.memory v.table) v.state
+-- memory and table stand for the state, and no byte of the memory is out
+pub record IsStanding (fllen sllen : ℕ) (m : Space) (t : Table) (s : State) : Type 0 where
+  pub stands : StandsFor fllen sllen (contents m t) s
+  pub whole : m.out ≡ []
 
--- what is true of every allocator's fields: the parameters are valid, memory and table stand for the state, and what is kept of it
--- has no bytes
+-- the words in the memory and the class table spell the state, which is well-formed, and no byte is out
+unfoldable pub Stands : ℕ → ℕ → Allocator → Type 0
+Stands fllen sllen v = IsStanding fllen sllen v.memory v.table v.state
+
+-- what is true of every allocator's fields: the parameters are valid, memory and table stand for the state, no byte is out, and what
+-- is kept of the state has no bytes
 pub record IsAllocator (fl_bits sl_bits fllen sllen : ℕ) (m : Space) (t : Table) (s : State) : Type 0 where
   pub valid : IsValid fl_bits sl_bits fllen sllen
   pub stands : StandsFor fllen sllen (contents m t) (read_from m s)
+  pub whole : m.out ≡ []
   pub is_bare : bare s ≡ s
 
 -- The machine's step leads to the state after. Memory and table stand for that state, and each byte that no block is made of, before
@@ -35,7 +41,8 @@ pub record IsAllocator (fl_bits sl_bits fllen sllen : ℕ) (m : Space) (t : Tabl
 unfoldable pub Steps : ℕ → ℕ → Allocator → Allocator → (State → Type 0) → Type 0
 Steps fllen sllen before after step = step after.state × Stands fllen sllen after × KeepsSpare before.memory before.state after.memory after.state
 
--- the allocator is in the state, and its memory and its class table stand for it
+-- the allocator is in the state, its memory and its class table stand for it, and no byte is out
 pub record IsInState (fllen sllen : ℕ) (v : Allocator) (s : State) : Type 0 where
   pub state : v.state ≡ s
   pub stands : StandsFor fllen sllen (contents v.memory v.table) s
+  pub whole : v.memory.out ≡ []

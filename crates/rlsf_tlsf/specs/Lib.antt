@@ -1,3 +1,4 @@
 pub mod Allocator
+pub mod InPlace
 pub mod Lending
 pub mod Steps

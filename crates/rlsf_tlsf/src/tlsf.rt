@@ -86,7 +86,7 @@ impl<FLBitmap: BitPattern, SLBitmap: BitPattern, const FLLEN: usize, const SLLEN
         ensures memory { result.memory ≡ memory }
     {
         // What `start` says of every memory: no address is 0, and each fits in a word.
-        let _ = memory.start();
+        let _ = memory.inner.start();
         Tlsf {
             memory,
             table: ClassTable::new(),
@@ -130,7 +130,7 @@ impl<FLBitmap: BitPattern, SLBitmap: BitPattern, const FLLEN: usize, const SLLEN
         ensures grow { self.old.memory.touches ≤ self.new.memory.touches }
         ensures copied { self.new.memory.copied ≡ self.old.memory.copied }
     {
-        let taken = insert_chunks(&mut self.memory, &mut self.table, range);
+        let taken = insert_chunks(&mut self.memory.inner, &mut self.table, range);
         self.state.insert(FLLEN, range.start, range.len);
         taken
     }
@@ -183,7 +183,7 @@ impl<FLBitmap: BitPattern, SLBitmap: BitPattern, const FLLEN: usize, const SLLEN
         ensures grow { self.old.memory.touches ≤ self.new.memory.touches }
         ensures copied { self.new.memory.copied ≡ self.old.memory.copied }
     {
-        let taken = append_chunks(&mut self.memory, &mut self.table, range);
+        let taken = append_chunks(&mut self.memory.inner, &mut self.table, range);
         self.state.append(FLLEN, range.start, range.len);
         taken
     }
@@ -207,7 +207,7 @@ impl<FLBitmap: BitPattern, SLBitmap: BitPattern, const FLLEN: usize, const SLLEN
         ensures grow { self.old.memory.touches ≤ self.new.memory.touches }
         ensures copied { self.new.memory.copied ≡ self.old.memory.copied }
     {
-        remove_chunks(&mut self.memory, &mut self.table, range);
+        remove_chunks(&mut self.memory.inner, &mut self.table, range);
         self.state.remove(range.start, range.len);
     }
 
@@ -219,7 +219,7 @@ impl<FLBitmap: BitPattern, SLBitmap: BitPattern, const FLLEN: usize, const SLLEN
         requires { (c : Range) × IsIn c self.now.state.chunks × (c.start ≡ addr) }
         ensures { (c : Range) → IsIn c self.now.state.chunks → c.start ≡ addr → result ≡ end_of c }
     {
-        chunk_end(&self.memory, addr)
+        chunk_end(&self.memory.inner, addr)
     }
 
     /// Allocates a payload for `layout`, and returns its address, a multiple of the alignment. Its block is the front of
@@ -246,8 +246,8 @@ impl<FLBitmap: BitPattern, SLBitmap: BitPattern, const FLLEN: usize, const SLLEN
         ensures grow { self.old.memory.touches ≤ self.new.memory.touches }
         ensures copied { self.new.memory.copied ≡ self.old.memory.copied }
     {
-        let view = self.memory.view();
-        let payload = allocate_block(&mut self.memory, view, &mut self.table, layout)?;
+        let view = self.memory.inner.view();
+        let payload = allocate_block(&mut self.memory.inner, view, &mut self.table, layout)?;
         self.state.allocate(SLLEN, layout.size(), layout.align());
         NonZeroUsize::new(payload)
     }
@@ -270,9 +270,9 @@ impl<FLBitmap: BitPattern, SLBitmap: BitPattern, const FLLEN: usize, const SLLEN
         ensures grow { self.old.memory.touches ≤ self.new.memory.touches }
         ensures copied { self.new.memory.copied ≡ self.old.memory.copied }
     {
-        let view = self.memory.view();
-        let block = used_block(&mut self.memory, view, addr.get(), align);
-        deallocate_block(&mut self.memory, view, &mut self.table, block);
+        let view = self.memory.inner.view();
+        let block = used_block(&mut self.memory.inner, view, addr.get(), align);
+        deallocate_block(&mut self.memory.inner, view, &mut self.table, block);
         self.state.deallocate(addr.get());
     }
 
@@ -294,9 +294,9 @@ impl<FLBitmap: BitPattern, SLBitmap: BitPattern, const FLLEN: usize, const SLLEN
         ensures grow { self.old.memory.touches ≤ self.new.memory.touches }
         ensures copied { self.new.memory.copied ≡ self.old.memory.copied }
     {
-        let block = load_block_of(&mut self.memory, addr.get());
-        let view = self.memory.view();
-        deallocate_block(&mut self.memory, view, &mut self.table, block);
+        let block = load_block_of(&mut self.memory.inner, addr.get());
+        let view = self.memory.inner.view();
+        deallocate_block(&mut self.memory.inner, view, &mut self.table, block);
         self.state.deallocate(addr.get());
     }
 
@@ -335,10 +335,10 @@ impl<FLBitmap: BitPattern, SLBitmap: BitPattern, const FLLEN: usize, const SLLEN
         ensures stays { HasRoomToStay self.old.state (at addr) layout.size → self.new.memory.copied ≡ self.old.memory.copied }
     {
         let payload = addr.get();
-        let view = self.memory.view();
-        let block = used_block(&mut self.memory, view, payload, layout.align());
-        let moved = reallocate_block(
-            &mut self.memory,
+        let view = self.memory.inner.view();
+        let block = used_block(&mut self.memory.inner, view, payload, layout.align());
+        let moved = reallocate_block::<FLLEN, SLLEN, 1>(
+            &mut self.memory.inner,
             view,
             &mut self.table,
             block,
@@ -377,10 +377,10 @@ impl<FLBitmap: BitPattern, SLBitmap: BitPattern, const FLLEN: usize, const SLLEN
         ensures copied { self.new.memory.copied ≡ self.old.memory.copied }
     {
         let payload = addr.get();
-        let view = self.memory.view();
-        let block = used_block(&mut self.memory, view, payload, layout.align());
+        let view = self.memory.inner.view();
+        let block = used_block(&mut self.memory.inner, view, payload, layout.align());
         if !resize_block(
-            &mut self.memory,
+            &mut self.memory.inner,
             view,
             &mut self.table,
             block,
@@ -401,7 +401,7 @@ impl<FLBitmap: BitPattern, SLBitmap: BitPattern, const FLLEN: usize, const SLLEN
         requires { IsSome (align_at self.now.state (at addr)) }
         ensures { result ≡ length (bytes_at self.now.state (at addr)) }
     {
-        usable_bytes(&self.memory, addr.get()).len
+        usable_bytes(&self.memory.inner, addr.get()).len
     }
 
     /// Returns all usable bytes of the payload at `addr`: those from `addr` to the end of its block.
@@ -411,7 +411,9 @@ impl<FLBitmap: BitPattern, SLBitmap: BitPattern, const FLLEN: usize, const SLLEN
         requires { IsSome (align_at self.now.state (at addr)) }
         ensures { result.now ≡ bytes_at self.now.state (at addr) }
     {
-        self.memory.slice(usable_bytes(&self.memory, addr.get()))
+        self.memory
+            .inner
+            .slice(usable_bytes(&self.memory.inner, addr.get()))
     }
 
     /// Returns all usable bytes of the payload at `addr`, for reading and writing: those from `addr` to the end of its
@@ -432,7 +434,7 @@ impl<FLBitmap: BitPattern, SLBitmap: BitPattern, const FLLEN: usize, const SLLEN
         ensures lengths { (w : List ℕ) → length (bytes_at (written self.old (at addr) (length result.now) w).state (at addr)) ≡ length result.now }
         ensures rest { (w : List ℕ) → LeavesRest FLLEN SLLEN self.old (written self.old (at addr) (length result.now) w) }
     {
-        let range = load_usable_bytes(&mut self.memory, addr.get());
+        let range = load_usable_bytes(&mut self.memory.inner, addr.get());
         self.memory.slice_mut(range)
     }
 
@@ -455,7 +457,7 @@ impl<FLBitmap: BitPattern, SLBitmap: BitPattern, const FLLEN: usize, const SLLEN
         ensures touches { self.new.memory.touches ≡ self.old.memory.touches }
         ensures copied { self.new.memory.copied ≡ self.old.memory.copied + len }
     {
-        self.memory.copy_within(
+        self.memory.inner.copy_within(
             Range {
                 start: from.get(),
                 len,
@@ -478,7 +480,7 @@ impl<FLBitmap: BitPattern, SLBitmap: BitPattern, const FLLEN: usize, const SLLEN
         ensures touches { self.new.memory.touches ≡ self.old.memory.touches + 1 }
         ensures copied { self.new.memory.copied ≡ self.old.memory.copied }
     {
-        self.memory.set_word(addr, word);
+        self.memory.inner.set_word(addr, word);
     }
 
     /// Returns an iterator over the blocks of a range, used and free, in address order. It begins at the range's start,
@@ -490,7 +492,7 @@ impl<FLBitmap: BitPattern, SLBitmap: BitPattern, const FLLEN: usize, const SLLEN
         ensures blocks { AreBlocks self.now.state (walked range) result }
         ensures runs { GivesInOrder BlockInfo }
     {
-        walk_blocks(&self.memory, range)
+        walk_blocks(&self.memory.inner, range)
     }
 
     /// Returns the address of the newest free block of a class, given by its row `fl` and its index `sl` in the row.

@@ -1,4 +1,4 @@
-use Rattle.std.proofs.Common.{◌≡◌, ◌≢◌, ◌+◌, ◌<◌, ◌≤◌, ℕ, length, Option, Some, None, IsSome, arith, refl, sym, ◌∙◌, ap, subst, rules}
+use Rattle.std.proofs.Common.{[], ◌≡◌, ◌≢◌, ◌+◌, ◌<◌, ◌≤◌, ℕ, length, Option, Some, None, IsSome, arith, refl, sym, ◌∙◌, ap, subst, rules}
 use Rattle.std.proofs.lemmas.Option.{none-some}
 use Rattle.std.specs.declared.num.NonZeroUsize.{NonZeroUsize}
 use Rattle.rlsf_base.specs.Addr.{at, reply}
@@ -6,7 +6,7 @@ use Rattle.rlsf_machine.specs.Callers.{align_at, bytes_at}
 use Rattle.rlsf_machine.specs.Reallocate.{Keeps, Plan, Reallocates, in_place, into_next, or_else}
 use Rattle.rlsf_machine.specs.Run.{reallocate, IsSomeLive}
 use Rattle.rlsf_machine.specs.Sized.{IsSizedFor, live_count}
-use Rattle.rlsf_machine.specs.State.{State, Used, Holds}
+use Rattle.rlsf_machine.specs.State.{State, Used, usable, Holds}
 use Rattle.rlsf_machine.proofs.CallerWords.{SeesResized, align_at-live, resized_seen}
 use Rattle.rlsf_machine.proofs.Changes.{Holds-unique}
 use Rattle.rlsf_machine.proofs.Chunks.{chunks-reallocated}
@@ -24,56 +24,78 @@ use Rattle.rlsf_tlsf.specs.Steps.Moves.{bare, reallocated}
 use Rattle.rlsf_tlsf.proofs.Arrivals.{IsAllocator-arrived, Steps-arrived, bare-kept, bytes_inside, live_inside, opened, view_well_formed, well_formed, arrived}
 use Rattle.rlsf_tlsf.proofs.Found.{Found, live_in, payload_found}
 use Rattle.rlsf_tlsf.proofs.Moved.{reallocated-bare}
-use Rattle.rlsf_base.specs.Space.{SamePlace}
+use Rattle.rlsf_base.specs.Space.{Space, SamePlace}
+use Rattle.rlsf_base.specs.OpenSpace.{IsHere}
+use Rattle.rlsf_base.proofs.Lending.Present.{here-none}
 use Rattle.rlsf_blocks.proofs.Counting.{SamePlace-counted_first, grow-counted_first, grow_copied-counted_first, touches-counted_first}
 use Rattle.rlsf_blocks.proofs.Refused.{none_none, none_some}
+use Rattle.rlsf_tlsf.proofs.Opened.{IsAllocator-opened, view-opened}
 use Rattle.rlsf_tlsf.proofs.tlsf.Tlsf.reallocate.Given as given
 use Rattle.rlsf_tlsf.proofs.tlsf.Tlsf.reallocate.Goals as goal
-use Rattle.rlsf_tlsf.proofs.tlsf.Tlsf.reallocate.Goals.{After-from_residual, After-used_block-block, After-new}
+use Rattle.rlsf_tlsf.proofs.tlsf.Tlsf.reallocate.Goals.{After-from_residual, After-new, After-reallocate, After-used_block-block, In_err-moved}
 
 -- the allocator's state as the call begins
 abbrev state : (g : given.Over) (c : After-used_block-block g) → State
-state g c = read_from c.self.inside.memory c.self.inside.state.state
+state g c = read_from c.self-inside.inside.0.0.inner c.self-inside.inside.0.1.1.0.state
 
 -- the payload's block, once it was found
-found : (g : given.Over) (c : After-used_block-block g) → Found g.row.FLLEN g.row.SLLEN (contents c.used_block-block.new.memory c.self.inside.table) (state g c) (at c.args.addr) c.used_block-block.result c.get-payload.result c.args.layout.align
+found : (g : given.Over) (c : After-used_block-block g) → Found g.row.FLLEN g.row.SLLEN (contents c.used_block-block.new.memory c.self-inside.inside.0.1.0) (state g c) (at c.args.addr) c.used_block-block.result c.get-payload.result c.args.layout.align
 found g c =
-    let live = live_inside c.self.invariant c.args.self.now c.self.view_is (at c.args.addr) c.args.layout.align c.requires in
-    payload_found c.self.invariant.stands c.get-payload.ensures.value c.align.ensures.value live c.used_block-block.ensures.counts c.used_block-block.ensures.block
+    let is = IsAllocator-opened c.self-inside.view_is c.self.invariant in
+    let live = live_inside is c.args.self.now (view-opened c.self-inside.view_is c.self.view_is) (at c.args.addr) c.args.layout.align c.requires in
+    payload_found is.stands c.get-payload.ensures.value c.align.ensures.value live c.used_block-block.ensures.counts c.used_block-block.ensures.block
+
+-- nothing is out of it
+whole : (g : given.Over) (c : After-used_block-block g) → c.used_block-block.new.memory.out ≡ []
+whole g c = c.used_block-block.ensures.counts.out ∙ (IsAllocator-opened c.self-inside.view_is c.self.invariant).whole
+
+-- so the payload's usable bytes are here
+here : (g : given.Over) (c : After-used_block-block g) (u : Used) → IsHere c.used_block-block.new.memory (usable u)
+here g c u = here-none c.used_block-block.new.memory (usable u) (whole g c)
 
 pub used_block-block-requires-clause-live : goal.used_block-block-requires-clause-live
 used_block-block-requires-clause-live g c =
-    live_in c.self.invariant.stands c.get-payload.ensures.value c.align.ensures.value (live_inside c.self.invariant c.args.self.now c.self.view_is (at c.args.addr) c.args.layout.align c.requires)
+    live_in (IsAllocator-opened c.self-inside.view_is c.self.invariant).stands c.get-payload.ensures.value c.align.ensures.value (live_inside (IsAllocator-opened c.self-inside.view_is c.self.invariant) c.args.self.now (view-opened c.self-inside.view_is c.self.view_is) (at c.args.addr) c.args.layout.align c.requires)
 
 pub reallocate_block-requires : goal.reallocate_block-requires
 reallocate_block-requires g c =
     let before = (goal.at.reallocate_block-requires g c).After-used_block-block in
     let f = found g before in
-    (omega arith, (IsValid-widest g.FLBitmap.BitPattern.width_limit c.self.invariant.valid, ((state g before, f.used, f.stands, f.used_at), search rules)))
+    (omega arith, (IsValid-widest g.FLBitmap.BitPattern.width_limit (IsAllocator-opened c.self-inside.view_is c.self.invariant).valid, ((state g before, f.used, f.stands, f.used_at, here g before f.used), (search rules, λ one. whole g before))))
 
 -- ---- the refusal
 
 -- where it is refused, the state stays
-module _ (g : given.Over) (c : After-from_residual g) where
+module _ (g : given.Over) (c : In_err-moved g) where
   abbrev before : After-used_block-block g
-  before = (goal.at.returns-in_err-moved g c).After-used_block-block
+  before = (goal.at.invariant_of-self g c).After-used_block-block
 
   staying : Reallocates g.row.SLLEN (state g before) (at c.args.addr) c.args.layout.size None (state g before)
       × StandsFor g.row.FLLEN g.row.SLLEN (contents c.reallocate_block.new.memory c.reallocate_block.new.table) (state g before)
-      × KeepsSpare c.self.inside.memory (state g before) c.reallocate_block.new.memory (state g before)
+      × KeepsSpare c.self-inside.inside.0.0.inner (state g before) c.reallocate_block.new.memory (state g before)
   staying =
       let f = found g before in
       let s = state g before in
       let counts = c.used_block-block.ensures.counts in
-      let (t, step, stands, spare) = c.in_err-moved.ensures.step s f.used f.stands f.used_at in
+      let (t, step, stands, spare) = c.in_err-moved.ensures.step s f.used f.stands f.used_at (here g before f.used) in
       let told : Reallocates g.row.SLLEN s (at c.args.addr) c.args.layout.size None t = record { block = f.used; holds = f.holds; step = step } in
       let same : t ≡ s = refusal_changes_nothing g.row.FLLEN g.row.SLLEN s t (reallocate (at c.args.addr) c.args.layout.size None) told refl in
       subst (λ (x : State). Reallocates g.row.SLLEN s (at c.args.addr) c.args.layout.size None x
-      × StandsFor g.row.FLLEN g.row.SLLEN (contents c.reallocate_block.new.memory c.reallocate_block.new.table) x × KeepsSpare c.self.inside.memory s c.reallocate_block.new.memory x) same
-      (told, stands, KeepsSpare-counted_first c.self.inside.memory c.used_block-block.new.memory counts.start counts.bytes s t c.reallocate_block.new.memory spare)
+      × StandsFor g.row.FLLEN g.row.SLLEN (contents c.reallocate_block.new.memory c.reallocate_block.new.table) x × KeepsSpare c.self-inside.inside.0.0.inner s c.reallocate_block.new.memory x) same
+      (told, stands, KeepsSpare-counted_first c.self-inside.inside.0.0.inner c.used_block-block.new.memory counts.start counts.bytes counts.out s t c.reallocate_block.new.memory spare)
+
+-- nothing is out after it
+none : (g : given.Over) (c : After-used_block-block g) (n : Space) → SamePlace c.used_block-block.new.memory n → n.out ≡ []
+none g c n place = place.3 (whole g c)
+
+none_refused : (g : given.Over) (c : In_err-moved g) → c.reallocate_block.new.memory.out ≡ []
+none_refused g c = none g (before g c) c.reallocate_block.new.memory c.reallocate_block.ensures.place
+
+pub invariant_of-self-inside : goal.invariant_of-self-inside
+invariant_of-self-inside = none_refused
 
 pub invariant_of-self : goal.invariant_of-self
-invariant_of-self g c = IsAllocator-arrived (staying g c).1 c.self.inside.state.state (sym (bare-kept c.self.invariant)) c.self.invariant.valid
+invariant_of-self g c = IsAllocator-arrived (staying g c).1 c.self-inside.inside.0.1.1.0.state (sym (bare-kept (IsAllocator-opened c.self-inside.view_is c.self.invariant))) (none_refused g c) c.self.invariant.valid
 
 -- ---- the bytes that are copied
 
@@ -82,41 +104,51 @@ stays : (g : given.Over) (c : After-used_block-block g) (u : Used) (p : Plan) �
     → or_else (in_place c.args.self.now.state u c.args.layout.size) (into_next c.args.self.now.state u c.args.layout.size) ≡ Some p
     → or_else (in_place (state g c) (found g c).used c.args.layout.size) (into_next (state g c) (found g c).used c.args.layout.size) ≡ Some p
 stays g c u p held first =
+    let view = view-opened c.self-inside.view_is c.self.view_is in
     let f = found g c in
-    let inside : Holds (state g c) (at c.args.addr) u = subst (λ (o : Allocator). Holds o.state (at c.args.addr) u) (sym c.self.view_is) held in
-    let one : u ≡ f.used = Holds-unique c.self.invariant.stands.well_formed (at c.args.addr) u f.used inside f.holds in
+    let inside : Holds (state g c) (at c.args.addr) u = subst (λ (o : Allocator). Holds o.state (at c.args.addr) u) (sym view) held in
+    let one : u ≡ f.used = Holds-unique (IsAllocator-opened c.self-inside.view_is c.self.invariant).stands.well_formed (at c.args.addr) u f.used inside f.holds in
     subst (λ (y : Used). or_else (in_place (state g c) y c.args.layout.size) (into_next (state g c) y c.args.layout.size) ≡ Some p) one
-    (subst (λ (o : Allocator). or_else (in_place o.state u c.args.layout.size) (into_next o.state u c.args.layout.size) ≡ Some p) (sym c.self.view_is) first)
+    (subst (λ (o : Allocator). or_else (in_place o.state u c.args.layout.size) (into_next o.state u c.args.layout.size) ≡ Some p) (sym view) first)
 
 -- ---- the payload with another size
 
-module _ (g : given.Over) (c : After-new g) where
+module _ (g : given.Over) (c : After-reallocate g) where
   abbrev early : After-used_block-block g
-  early = (goal.at.returns g c).After-used_block-block
+  early = (goal.at.invariant_of-self-2 g c).After-used_block-block
 
   moving : (t : State) × Reallocates g.row.SLLEN (state g early) (at c.args.addr) c.args.layout.size (Some c.in_ok-moved.moved) t
       × StandsFor g.row.FLLEN g.row.SLLEN (contents c.reallocate_block.new.memory c.reallocate_block.new.table) t
-      × KeepsSpare c.self.inside.memory (state g early) c.reallocate_block.new.memory t
+      × KeepsSpare c.self-inside.inside.0.0.inner (state g early) c.reallocate_block.new.memory t
   moving =
       let f = found g early in
       let s = state g early in
       let counts = c.used_block-block.ensures.counts in
-      let (t, step, stands, spare) = c.in_ok-moved.ensures.step s f.used f.stands f.used_at in
-      (t, record { block = f.used; holds = f.holds; step = step }, stands, KeepsSpare-counted_first c.self.inside.memory c.used_block-block.new.memory counts.start counts.bytes s t c.reallocate_block.new.memory spare)
+      let (t, step, stands, spare) = c.in_ok-moved.ensures.step s f.used f.stands f.used_at (here g early f.used) in
+      (t, record { block = f.used; holds = f.holds; step = step }, stands, KeepsSpare-counted_first c.self-inside.inside.0.0.inner c.used_block-block.new.memory counts.start counts.bytes counts.out s t c.reallocate_block.new.memory spare)
 
   -- what is kept of the state is the one after
   kept : (t : State) → Reallocates g.row.SLLEN (state g early) (at c.args.addr) c.args.layout.size (Some c.in_ok-moved.moved) t → c.reallocate.new.self.state ≡ bare t
   kept t step =
-      c.reallocate.ensures ∙ (λ i. reallocated g.row.SLLEN (c.get-payload.ensures.value i) (c.size.ensures.value i) (sym (bare-kept c.self.invariant) i))
-      ∙ reallocated-bare c.self.invariant.stands.well_formed t (at c.args.addr) c.args.layout.size c.in_ok-moved.moved step
+      let is = IsAllocator-opened c.self-inside.view_is c.self.invariant in
+      c.reallocate.ensures ∙ (λ i. reallocated g.row.SLLEN (c.get-payload.ensures.value i) (c.size.ensures.value i) (sym (bare-kept is) i))
+      ∙ reallocated-bare is.stands.well_formed t (at c.args.addr) c.args.layout.size c.in_ok-moved.moved step
+
+  -- nothing is out after it
+  none_moved : c.reallocate_block.new.memory.out ≡ []
+  none_moved = none g early c.reallocate_block.new.memory c.reallocate_block.ensures.place
+
+module _ (g : given.Over) (c : After-new g) where
+  abbrev before_new : After-reallocate g
+  before_new = (goal.at.returns g c).After-reallocate
 
   abbrev after : Allocator
   after = allocator c.reallocate_block.new.memory c.reallocate_block.new.table c.reallocate.new.self.state
 
   done : Steps g.row.FLLEN g.row.SLLEN c.args.self.now after (Reallocates g.row.SLLEN c.args.self.now.state (at c.args.addr) c.args.layout.size (Some c.in_ok-moved.moved))
   done =
-      let (t, step, stands, spare) = moving in
-      Steps-arrived stands c.reallocate.new.self.state (kept t step) c.args.self.now c.self.inside.memory c.self.inside.table c.self.inside.state.state c.self.view_is
+      let (t, step, stands, spare) = moving g before_new in
+      Steps-arrived stands c.reallocate.new.self.state (kept g before_new t step) (none_moved g before_new) c.args.self.now c.self-inside.inside.0.0.inner c.self-inside.inside.0.1.0 c.self-inside.inside.0.1.1.0.state (view-opened c.self-inside.view_is c.self.view_is)
       (λ old. Reallocates g.row.SLLEN old (at c.args.addr) c.args.layout.size (Some c.in_ok-moved.moved)) step spare
 
   seen : SeesResized c.args.self.now.state after.state (at c.args.addr) c.args.layout.size c.args.layout.align c.in_ok-moved.moved
@@ -132,51 +164,60 @@ module _ (g : given.Over) (c : After-new g) where
       let (u, (i, here), is) = align_at-live after.state c.in_ok-moved.moved c.args.layout.align seen.live in
       omega (arith, here, IsUsed-after_start u ((well_formed after stood).used u i))
 
+pub invariant_of-self-inside-2 : goal.invariant_of-self-inside-2
+invariant_of-self-inside-2 = none_moved
+
 pub invariant_of-self-2 : goal.invariant_of-self-2
-invariant_of-self-2 g c = let (t, step, stands, spare) = moving g c in IsAllocator-arrived stands c.reallocate.new.self.state (kept g c t step) c.self.invariant.valid
+invariant_of-self-2 g c = let (t, step, stands, spare) = moving g c in IsAllocator-arrived stands c.reallocate.new.self.state (kept g c t step) (none_moved g c) c.self.invariant.valid
 
 -- ---- what stays where it is refused
 
+abbrev refused : (g : given.Over) (c : After-from_residual g) → In_err-moved g
+refused g c = (goal.at.returns-in_err-moved g c).In_err-moved
+
 pub returns-in_err-moved : goal.returns-in_err-moved
-returns-in_err-moved g c = record {
-  step =
-      Steps-arrived (staying g c).1 c.self.inside.state.state (sym (bare-kept c.self.invariant)) c.args.self.now c.self.inside.memory c.self.inside.table c.self.inside.state.state c.self.view_is
-      (λ old. Reallocates g.row.SLLEN old (at c.args.addr) c.args.layout.size (reply c.from_residual.result))
-      (subst (λ o. Reallocates g.row.SLLEN (read_from c.self.inside.memory c.self.inside.state.state) (at c.args.addr) c.args.layout.size (reply o) (read_from c.self.inside.memory c.self.inside.state.state)) (sym c.from_residual.ensures) (staying g c).0)
-      (staying g c).2;
-  live = none_some _ c.from_residual.result c.from_residual.ensures;
-  sized = none_some _ c.from_residual.result c.from_residual.ensures;
-  few = none_some _ c.from_residual.result c.from_residual.ensures;
-  kept = none_some _ c.from_residual.result c.from_residual.ensures;
-  new = none_some _ c.from_residual.result c.from_residual.ensures;
-  aligns = none_some _ c.from_residual.result c.from_residual.ensures;
-  bytes = none_some _ c.from_residual.result c.from_residual.ensures;
-  room = λ count size align sized few short fits.
-      absurd (never_refused_again (view_well_formed c.self.invariant c.args.self.now c.self.view_is) c.args.self.now.state count size align sized (at c.args.addr) c.args.layout.size c.args.layout.align c.requires few short fits
-      (subst (λ (o : Allocator). Reallocates g.row.SLLEN o.state (at c.args.addr) c.args.layout.size None o.state) c.self.view_is (staying g c).0));
-  count = ap live_count (arrived (staying g c).1 c.self.inside.state.state (sym (bare-kept c.self.invariant)) ∙ ap (λ (o : Allocator). o.state) c.self.view_is);
-  bounds = λ count size align sized short fits.
-      subst (IsSizedFor g.row.SLLEN count size align) (sym (arrived (staying g c).1 c.self.inside.state.state (sym (bare-kept c.self.invariant)) ∙ ap (λ (o : Allocator). o.state) c.self.view_is)) sized;
-  chunks = ap (λ (o : Allocator). o.state.chunks) c.self.view_is;
-  same = none_none c.from_residual.result (arrived (staying g c).1 c.self.inside.state.state (sym (bare-kept c.self.invariant)) ∙ ap (λ (o : Allocator). o.state) c.self.view_is);
-  refused = none_none c.from_residual.result (c.in_err-moved.ensures.refused ∙ c.used_block-block.ensures.counts.bytes ∙ ap (λ (o : Allocator). o.memory.bytes) c.self.view_is);
-  place = subst (λ (o : Allocator). SamePlace o.memory c.reallocate_block.new.memory) c.self.view_is (SamePlace-counted_first c.self.inside.memory c.used_block-block.new.memory 1 c.used_block-block.ensures.counts c.reallocate_block.new.memory c.reallocate_block.ensures.place);
-  touches = subst (λ (o : Allocator). c.reallocate_block.new.memory.touches ≤ o.memory.touches + 66) c.self.view_is (touches-counted_first c.self.inside.memory c.used_block-block.new.memory 1 c.used_block-block.ensures.counts c.reallocate_block.new.memory 65 c.reallocate_block.ensures.touches);
-  grow = subst (λ (o : Allocator). o.memory.touches ≤ c.reallocate_block.new.memory.touches) c.self.view_is (grow-counted_first c.self.inside.memory c.used_block-block.new.memory 1 c.used_block-block.ensures.counts c.reallocate_block.new.memory c.reallocate_block.ensures.grow);
-  copied =
-      let before = (goal.at.returns-in_err-moved g c).After-used_block-block in
-      let f = found g before in
-      let counted = ap (λ (o : Allocator). o.memory.copied) c.self.view_is in
-      let least = c.reallocate_block.ensures.copied (state g before) f.used f.stands f.used_at in
-      let long = ap length (bytes_inside c.self.invariant c.args.self.now c.self.view_is (at c.args.addr) f.used f.holds) ∙ (c.self.invariant.stands.well_formed.used f.used f.holds.0).bytes in
-      omega (arith, c.used_block-block.ensures.counts.copied, least, long, counted);
-  grow_copied = subst (λ (o : Allocator). o.memory.copied ≤ c.reallocate_block.new.memory.copied) c.self.view_is (grow_copied-counted_first c.self.inside.memory c.used_block-block.new.memory 1 c.used_block-block.ensures.counts c.reallocate_block.new.memory c.reallocate_block.ensures.grow_copied);
-  stays = λ room.
-      let (u, p, held, first) = room in
-      let before = (goal.at.returns-in_err-moved g c).After-used_block-block in
-      let f = found g before in
-      c.reallocate_block.ensures.stays (state g before) f.used f.stands f.used_at p (stays g before u p held first) ∙ c.used_block-block.ensures.counts.copied ∙ ap (λ (o : Allocator). o.memory.copied) c.self.view_is;
-}
+returns-in_err-moved g c =
+    let is = IsAllocator-opened c.self-inside.view_is c.self.invariant in
+    let view = view-opened c.self-inside.view_is c.self.view_is in
+    record {
+      step =
+          Steps-arrived (staying g (refused g c)).1 c.self-inside.inside.0.1.1.0.state (sym (bare-kept is)) (none_refused g (refused g c)) c.args.self.now c.self-inside.inside.0.0.inner c.self-inside.inside.0.1.0 c.self-inside.inside.0.1.1.0.state view
+          (λ old. Reallocates g.row.SLLEN old (at c.args.addr) c.args.layout.size (reply c.from_residual.result))
+          (subst (λ o. Reallocates g.row.SLLEN (read_from c.self-inside.inside.0.0.inner c.self-inside.inside.0.1.1.0.state) (at c.args.addr) c.args.layout.size (reply o) (read_from c.self-inside.inside.0.0.inner c.self-inside.inside.0.1.1.0.state)) (sym c.from_residual.ensures) (staying g (refused g c)).0)
+          (staying g (refused g c)).2;
+      live = none_some _ c.from_residual.result c.from_residual.ensures;
+      sized = none_some _ c.from_residual.result c.from_residual.ensures;
+      few = none_some _ c.from_residual.result c.from_residual.ensures;
+      kept = none_some _ c.from_residual.result c.from_residual.ensures;
+      new = none_some _ c.from_residual.result c.from_residual.ensures;
+      aligns = none_some _ c.from_residual.result c.from_residual.ensures;
+      bytes = none_some _ c.from_residual.result c.from_residual.ensures;
+      room = λ count size align sized few short fits.
+          absurd (never_refused_again (view_well_formed c.self.invariant c.args.self.now c.self.view_is) c.args.self.now.state count size align sized (at c.args.addr) c.args.layout.size c.args.layout.align c.requires few short fits
+          (subst (λ (o : Allocator). Reallocates g.row.SLLEN o.state (at c.args.addr) c.args.layout.size None o.state) view (staying g (refused g c)).0));
+      count = ap live_count (arrived (staying g (refused g c)).1 c.self-inside.inside.0.1.1.0.state (sym (bare-kept is)) ∙ ap (λ (o : Allocator). o.state) view);
+      bounds = λ count size align sized short fits.
+          subst (IsSizedFor g.row.SLLEN count size align) (sym (arrived (staying g (refused g c)).1 c.self-inside.inside.0.1.1.0.state (sym (bare-kept is)) ∙ ap (λ (o : Allocator). o.state) view)) sized;
+      chunks = ap (λ (o : Allocator). o.state.chunks) view;
+      same = none_none c.from_residual.result (arrived (staying g (refused g c)).1 c.self-inside.inside.0.1.1.0.state (sym (bare-kept is)) ∙ ap (λ (o : Allocator). o.state) view);
+      refused = none_none c.from_residual.result (c.in_err-moved.ensures.refused ∙ c.used_block-block.ensures.counts.bytes ∙ ap (λ (o : Allocator). o.memory.bytes) view);
+      place = subst (λ (o : Allocator). SamePlace o.memory c.reallocate_block.new.memory) view (SamePlace-counted_first c.self-inside.inside.0.0.inner c.used_block-block.new.memory 1 c.used_block-block.ensures.counts c.reallocate_block.new.memory c.reallocate_block.ensures.place);
+      touches = subst (λ (o : Allocator). c.reallocate_block.new.memory.touches ≤ o.memory.touches + 66) view (touches-counted_first c.self-inside.inside.0.0.inner c.used_block-block.new.memory 1 c.used_block-block.ensures.counts c.reallocate_block.new.memory 65 c.reallocate_block.ensures.touches);
+      grow = subst (λ (o : Allocator). o.memory.touches ≤ c.reallocate_block.new.memory.touches) view (grow-counted_first c.self-inside.inside.0.0.inner c.used_block-block.new.memory 1 c.used_block-block.ensures.counts c.reallocate_block.new.memory c.reallocate_block.ensures.grow);
+      copied =
+          let before = (goal.at.returns-in_err-moved g c).After-used_block-block in
+          let f = found g before in
+          let counted = ap (λ (o : Allocator). o.memory.copied) view in
+          let least = c.reallocate_block.ensures.copied (state g before) f.used f.stands f.used_at in
+          let long = ap length (bytes_inside is c.args.self.now view (at c.args.addr) f.used f.holds) ∙ (is.stands.well_formed.used f.used f.holds.0).bytes in
+          omega (arith, c.used_block-block.ensures.counts.copied, least, long, counted);
+      grow_copied = subst (λ (o : Allocator). o.memory.copied ≤ c.reallocate_block.new.memory.copied) view (grow_copied-counted_first c.self-inside.inside.0.0.inner c.used_block-block.new.memory 1 c.used_block-block.ensures.counts c.reallocate_block.new.memory c.reallocate_block.ensures.grow_copied);
+      stays = λ room.
+          let (u, p, held, first) = room in
+          let before = (goal.at.returns-in_err-moved g c).After-used_block-block in
+          let f = found g before in
+          c.reallocate_block.ensures.stays (state g before) f.used f.stands f.used_at p (stays g before u p held first) ∙ c.used_block-block.ensures.counts.copied ∙ ap (λ (o : Allocator). o.memory.copied) view;
+    }
 
 -- ---- the counts of a payload with another size
 
@@ -188,43 +229,46 @@ some_answer None n e = absurd (none-some n e)
 some_answer (Some x) n e = refl
 
 pub returns : goal.returns
-returns g c = record {
-  step =
-      subst (λ o. Steps g.row.FLLEN g.row.SLLEN c.args.self.now (after g c) (Reallocates g.row.SLLEN c.args.self.now.state (at c.args.addr) c.args.layout.size o))
-      (sym ((number c.new.result c.in_ok-moved.moved c.new.ensures).1 (positive g c))) (done g c);
-  live = on_some (λ to. align_at (after g c).state to ≡ Some c.args.layout.align) c.new.result c.in_ok-moved.moved c.new.ensures (seen g c).live;
-  sized = on_some (λ to. c.args.layout.size ≤ length (bytes_at (after g c).state to)) c.new.result c.in_ok-moved.moved c.new.ensures (seen g c).sized;
-  few = on_some (λ to. length (bytes_at (after g c).state to) < c.args.layout.size + 32) c.new.result c.in_ok-moved.moved c.new.ensures (seen g c).few;
-  kept = on_some (λ to. Keeps (bytes_at c.args.self.now.state (at c.args.addr)) (bytes_at (after g c).state to)) c.new.result c.in_ok-moved.moved c.new.ensures (seen g c).kept;
-  new = on_some (λ to. to ≢ at c.args.addr → align_at c.args.self.now.state to ≡ None) c.new.result c.in_ok-moved.moved c.new.ensures (seen g c).new;
-  aligns = on_some (λ to. (a : ℕ) → a ≢ at c.args.addr → a ≢ to → align_at (after g c).state a ≡ align_at c.args.self.now.state a) c.new.result c.in_ok-moved.moved c.new.ensures (seen g c).aligns;
-  bytes = on_some (λ to. (a : ℕ) → a ≢ at c.args.addr → a ≢ to → bytes_at (after g c).state a ≡ bytes_at c.args.self.now.state a) c.new.result c.in_ok-moved.moved c.new.ensures (seen g c).bytes;
-  room = λ count size align sized few short fits. some_answer c.new.result c.in_ok-moved.moved ((number c.new.result c.in_ok-moved.moved c.new.ensures).1 (positive g c));
-  count =
-      count_resized (view_well_formed c.self.invariant c.args.self.now c.self.view_is) (after g c).state (at c.args.addr) c.args.layout.size (Some c.in_ok-moved.moved) (some_live g c)
-      (opened g.row.FLLEN g.row.SLLEN c.args.self.now (after g c) (Reallocates g.row.SLLEN c.args.self.now.state (at c.args.addr) c.args.layout.size (Some c.in_ok-moved.moved)) (done g c)).0;
-  bounds = λ count size align sized short fits.
-      sized_resized (view_well_formed c.self.invariant c.args.self.now c.self.view_is) (after g c).state count size align sized (at c.args.addr) c.args.layout.size c.args.layout.align (Some c.in_ok-moved.moved) c.requires short fits
-      (opened g.row.FLLEN g.row.SLLEN c.args.self.now (after g c) (Reallocates g.row.SLLEN c.args.self.now.state (at c.args.addr) c.args.layout.size (Some c.in_ok-moved.moved)) (done g c)).0;
-  chunks =
-      chunks-reallocated g.row.SLLEN c.args.self.now.state (after g c).state (at c.args.addr) c.args.layout.size (Some c.in_ok-moved.moved)
-      (opened g.row.FLLEN g.row.SLLEN c.args.self.now (after g c) (Reallocates g.row.SLLEN c.args.self.now.state (at c.args.addr) c.args.layout.size (Some c.in_ok-moved.moved)) (done g c)).0;
-  same = let some = positive g c in on_none c.new.result c.in_ok-moved.moved c.new.ensures (λ zero. absurd (omega arith));
-  refused = let some = positive g c in on_none c.new.result c.in_ok-moved.moved c.new.ensures (λ zero. absurd (omega arith));
-  place = subst (λ (o : Allocator). SamePlace o.memory c.reallocate_block.new.memory) c.self.view_is (SamePlace-counted_first c.self.inside.memory c.used_block-block.new.memory 1 c.used_block-block.ensures.counts c.reallocate_block.new.memory c.reallocate_block.ensures.place);
-  touches = subst (λ (o : Allocator). c.reallocate_block.new.memory.touches ≤ o.memory.touches + 66) c.self.view_is (touches-counted_first c.self.inside.memory c.used_block-block.new.memory 1 c.used_block-block.ensures.counts c.reallocate_block.new.memory 65 c.reallocate_block.ensures.touches);
-  grow = subst (λ (o : Allocator). o.memory.touches ≤ c.reallocate_block.new.memory.touches) c.self.view_is (grow-counted_first c.self.inside.memory c.used_block-block.new.memory 1 c.used_block-block.ensures.counts c.reallocate_block.new.memory c.reallocate_block.ensures.grow);
-  copied =
-      let before = (goal.at.returns g c).After-used_block-block in
-      let f = found g before in
-      let counted = ap (λ (o : Allocator). o.memory.copied) c.self.view_is in
-      let least = c.reallocate_block.ensures.copied (state g before) f.used f.stands f.used_at in
-      let long = ap length (bytes_inside c.self.invariant c.args.self.now c.self.view_is (at c.args.addr) f.used f.holds) ∙ (c.self.invariant.stands.well_formed.used f.used f.holds.0).bytes in
-      omega (arith, c.used_block-block.ensures.counts.copied, least, long, counted);
-  grow_copied = subst (λ (o : Allocator). o.memory.copied ≤ c.reallocate_block.new.memory.copied) c.self.view_is (grow_copied-counted_first c.self.inside.memory c.used_block-block.new.memory 1 c.used_block-block.ensures.counts c.reallocate_block.new.memory c.reallocate_block.ensures.grow_copied);
-  stays = λ room.
-      let (u, p, held, first) = room in
-      let before = (goal.at.returns g c).After-used_block-block in
-      let f = found g before in
-      c.reallocate_block.ensures.stays (state g before) f.used f.stands f.used_at p (stays g before u p held first) ∙ c.used_block-block.ensures.counts.copied ∙ ap (λ (o : Allocator). o.memory.copied) c.self.view_is;
-}
+returns g c =
+    let is = IsAllocator-opened c.self-inside.view_is c.self.invariant in
+    let view = view-opened c.self-inside.view_is c.self.view_is in
+    record {
+      step =
+          subst (λ o. Steps g.row.FLLEN g.row.SLLEN c.args.self.now (after g c) (Reallocates g.row.SLLEN c.args.self.now.state (at c.args.addr) c.args.layout.size o))
+          (sym ((number c.new.result c.in_ok-moved.moved c.new.ensures).1 (positive g c))) (done g c);
+      live = on_some (λ to. align_at (after g c).state to ≡ Some c.args.layout.align) c.new.result c.in_ok-moved.moved c.new.ensures (seen g c).live;
+      sized = on_some (λ to. c.args.layout.size ≤ length (bytes_at (after g c).state to)) c.new.result c.in_ok-moved.moved c.new.ensures (seen g c).sized;
+      few = on_some (λ to. length (bytes_at (after g c).state to) < c.args.layout.size + 32) c.new.result c.in_ok-moved.moved c.new.ensures (seen g c).few;
+      kept = on_some (λ to. Keeps (bytes_at c.args.self.now.state (at c.args.addr)) (bytes_at (after g c).state to)) c.new.result c.in_ok-moved.moved c.new.ensures (seen g c).kept;
+      new = on_some (λ to. to ≢ at c.args.addr → align_at c.args.self.now.state to ≡ None) c.new.result c.in_ok-moved.moved c.new.ensures (seen g c).new;
+      aligns = on_some (λ to. (a : ℕ) → a ≢ at c.args.addr → a ≢ to → align_at (after g c).state a ≡ align_at c.args.self.now.state a) c.new.result c.in_ok-moved.moved c.new.ensures (seen g c).aligns;
+      bytes = on_some (λ to. (a : ℕ) → a ≢ at c.args.addr → a ≢ to → bytes_at (after g c).state a ≡ bytes_at c.args.self.now.state a) c.new.result c.in_ok-moved.moved c.new.ensures (seen g c).bytes;
+      room = λ count size align sized few short fits. some_answer c.new.result c.in_ok-moved.moved ((number c.new.result c.in_ok-moved.moved c.new.ensures).1 (positive g c));
+      count =
+          count_resized (view_well_formed c.self.invariant c.args.self.now c.self.view_is) (after g c).state (at c.args.addr) c.args.layout.size (Some c.in_ok-moved.moved) (some_live g c)
+          (opened g.row.FLLEN g.row.SLLEN c.args.self.now (after g c) (Reallocates g.row.SLLEN c.args.self.now.state (at c.args.addr) c.args.layout.size (Some c.in_ok-moved.moved)) (done g c)).0;
+      bounds = λ count size align sized short fits.
+          sized_resized (view_well_formed c.self.invariant c.args.self.now c.self.view_is) (after g c).state count size align sized (at c.args.addr) c.args.layout.size c.args.layout.align (Some c.in_ok-moved.moved) c.requires short fits
+          (opened g.row.FLLEN g.row.SLLEN c.args.self.now (after g c) (Reallocates g.row.SLLEN c.args.self.now.state (at c.args.addr) c.args.layout.size (Some c.in_ok-moved.moved)) (done g c)).0;
+      chunks =
+          chunks-reallocated g.row.SLLEN c.args.self.now.state (after g c).state (at c.args.addr) c.args.layout.size (Some c.in_ok-moved.moved)
+          (opened g.row.FLLEN g.row.SLLEN c.args.self.now (after g c) (Reallocates g.row.SLLEN c.args.self.now.state (at c.args.addr) c.args.layout.size (Some c.in_ok-moved.moved)) (done g c)).0;
+      same = let some = positive g c in on_none c.new.result c.in_ok-moved.moved c.new.ensures (λ zero. absurd (omega arith));
+      refused = let some = positive g c in on_none c.new.result c.in_ok-moved.moved c.new.ensures (λ zero. absurd (omega arith));
+      place = subst (λ (o : Allocator). SamePlace o.memory c.reallocate_block.new.memory) view (SamePlace-counted_first c.self-inside.inside.0.0.inner c.used_block-block.new.memory 1 c.used_block-block.ensures.counts c.reallocate_block.new.memory c.reallocate_block.ensures.place);
+      touches = subst (λ (o : Allocator). c.reallocate_block.new.memory.touches ≤ o.memory.touches + 66) view (touches-counted_first c.self-inside.inside.0.0.inner c.used_block-block.new.memory 1 c.used_block-block.ensures.counts c.reallocate_block.new.memory 65 c.reallocate_block.ensures.touches);
+      grow = subst (λ (o : Allocator). o.memory.touches ≤ c.reallocate_block.new.memory.touches) view (grow-counted_first c.self-inside.inside.0.0.inner c.used_block-block.new.memory 1 c.used_block-block.ensures.counts c.reallocate_block.new.memory c.reallocate_block.ensures.grow);
+      copied =
+          let before = (goal.at.returns g c).After-used_block-block in
+          let f = found g before in
+          let counted = ap (λ (o : Allocator). o.memory.copied) view in
+          let least = c.reallocate_block.ensures.copied (state g before) f.used f.stands f.used_at in
+          let long = ap length (bytes_inside is c.args.self.now view (at c.args.addr) f.used f.holds) ∙ (is.stands.well_formed.used f.used f.holds.0).bytes in
+          omega (arith, c.used_block-block.ensures.counts.copied, least, long, counted);
+      grow_copied = subst (λ (o : Allocator). o.memory.copied ≤ c.reallocate_block.new.memory.copied) view (grow_copied-counted_first c.self-inside.inside.0.0.inner c.used_block-block.new.memory 1 c.used_block-block.ensures.counts c.reallocate_block.new.memory c.reallocate_block.ensures.grow_copied);
+      stays = λ room.
+          let (u, p, held, first) = room in
+          let before = (goal.at.returns g c).After-used_block-block in
+          let f = found g before in
+          c.reallocate_block.ensures.stays (state g before) f.used f.stands f.used_at p (stays g before u p held first) ∙ c.used_block-block.ensures.counts.copied ∙ ap (λ (o : Allocator). o.memory.copied) view;
+    }

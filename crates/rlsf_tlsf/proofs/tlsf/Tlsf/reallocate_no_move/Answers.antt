@@ -1,11 +1,11 @@
-use Rattle.std.proofs.Common.{arith, ◌≡◌, ℕ, eqb, Some, None, refl, sym, ◌∙◌, ap, subst, ◌≤◌, ◌+◌, rules}
+use Rattle.std.proofs.Common.{[], arith, ◌≡◌, ℕ, eqb, Some, None, refl, sym, ◌∙◌, ap, subst, ◌≤◌, ◌+◌, rules}
 use Rattle.std.proofs.lemmas.Bool.{eqb-true, eqb-false}
 use Rattle.rlsf_base.specs.Addr.{at}
 use Rattle.rlsf_machine.specs.Callers.{align_at, bytes_at}
 use Rattle.rlsf_machine.specs.NoMove.{ReallocatesUnmovedBy, ReallocatesWithoutMove}
 use Rattle.rlsf_machine.specs.Reallocate.{Reallocates, Replans}
 use Rattle.rlsf_machine.specs.Sized.{IsSizedFor, live_count}
-use Rattle.rlsf_machine.specs.State.{State}
+use Rattle.rlsf_machine.specs.State.{State, Used, usable}
 use Rattle.rlsf_machine.proofs.CallerWords.{SeesResized, align_at-live, resized_seen}
 use Rattle.rlsf_machine.proofs.Coverage.{by_test}
 use Rattle.rlsf_machine.proofs.NoMove.{unmoved_is_reallocated}
@@ -21,32 +21,45 @@ use Rattle.rlsf_tlsf.specs.Steps.Moves.{bare, reallocated}
 use Rattle.rlsf_tlsf.proofs.Arrivals.{IsAllocator-arrived, Steps-arrived, arrived, bare-kept, live_inside, opened, view_well_formed}
 use Rattle.rlsf_tlsf.proofs.Found.{Found, live_in, payload_found}
 use Rattle.rlsf_tlsf.proofs.Moved.{reallocated-bare}
-use Rattle.rlsf_base.specs.Space.{SamePlace}
+use Rattle.rlsf_base.specs.Space.{Space, SamePlace}
+use Rattle.rlsf_base.specs.OpenSpace.{IsOwned}
+use Rattle.rlsf_base.proofs.Lending.Present.{own-none}
 use Rattle.rlsf_machine.proofs.Chunks.{chunks-reallocated}
 use Rattle.rlsf_blocks.proofs.Counting.{SamePlace-counted_first, copied-counted_first, grow-counted_first, touches-counted_first}
+use Rattle.rlsf_tlsf.proofs.Opened.{IsAllocator-opened, view-opened}
+use Rattle.rlsf_table.proofs.Costs.{SamePlace-costs, copied_none}
 use Rattle.rlsf_tlsf.proofs.tlsf.Tlsf.reallocate_no_move.Given as given
 use Rattle.rlsf_tlsf.proofs.tlsf.Tlsf.reallocate_no_move.Goals as goal
 use Rattle.rlsf_tlsf.proofs.tlsf.Tlsf.reallocate_no_move.Goals.{After-used_block-block, After-reallocate, Then-not-resize_block}
 
 -- the allocator's state as the call begins
 abbrev state : (g : given.Over) (c : After-used_block-block g) → State
-state g c = read_from c.self.inside.memory c.self.inside.state.state
+state g c = read_from c.self-inside.inside.0.0.inner c.self-inside.inside.0.1.1.0.state
 
 -- the payload's block, once it was found
-found : (g : given.Over) (c : After-used_block-block g) → Found g.row.FLLEN g.row.SLLEN (contents c.used_block-block.new.memory c.self.inside.table) (state g c) (at c.args.addr) c.used_block-block.result c.get-payload.result c.args.layout.align
+found : (g : given.Over) (c : After-used_block-block g) → Found g.row.FLLEN g.row.SLLEN (contents c.used_block-block.new.memory c.self-inside.inside.0.1.0) (state g c) (at c.args.addr) c.used_block-block.result c.get-payload.result c.args.layout.align
 found g c =
-    let live = live_inside c.self.invariant c.args.self.now c.self.view_is (at c.args.addr) c.args.layout.align c.requires in
-    payload_found c.self.invariant.stands c.get-payload.ensures.value c.align.ensures.value live c.used_block-block.ensures.counts c.used_block-block.ensures.block
+    let is = IsAllocator-opened c.self-inside.view_is c.self.invariant in
+    let live = live_inside is c.args.self.now (view-opened c.self-inside.view_is c.self.view_is) (at c.args.addr) c.args.layout.align c.requires in
+    payload_found is.stands c.get-payload.ensures.value c.align.ensures.value live c.used_block-block.ensures.counts c.used_block-block.ensures.block
+
+-- nothing is out of it
+whole : (g : given.Over) (c : After-used_block-block g) → c.used_block-block.new.memory.out ≡ []
+whole g c = c.used_block-block.ensures.counts.out ∙ (IsAllocator-opened c.self-inside.view_is c.self.invariant).whole
+
+-- so the payload's usable bytes are the memory's own
+own : (g : given.Over) (c : After-used_block-block g) (u : Used) → IsOwned c.used_block-block.new.memory (usable u)
+own g c u = own-none c.used_block-block.new.memory (usable u) (whole g c)
 
 pub used_block-block-requires-clause-live : goal.used_block-block-requires-clause-live
 used_block-block-requires-clause-live g c =
-    live_in c.self.invariant.stands c.get-payload.ensures.value c.align.ensures.value (live_inside c.self.invariant c.args.self.now c.self.view_is (at c.args.addr) c.args.layout.align c.requires)
+    live_in (IsAllocator-opened c.self-inside.view_is c.self.invariant).stands c.get-payload.ensures.value c.align.ensures.value (live_inside (IsAllocator-opened c.self-inside.view_is c.self.invariant) c.args.self.now (view-opened c.self-inside.view_is c.self.view_is) (at c.args.addr) c.args.layout.align c.requires)
 
 pub resize_block-requires : goal.resize_block-requires
 resize_block-requires g c =
     let before = (goal.at.resize_block-requires g c).After-used_block-block in
     let f = found g before in
-    (omega arith, (IsValid-widest g.FLBitmap.BitPattern.width_limit c.self.invariant.valid, ((state g before, f.used, f.stands, f.used_at), search rules)))
+    (omega arith, (IsValid-widest g.FLBitmap.BitPattern.width_limit (IsAllocator-opened c.self-inside.view_is c.self.invariant).valid, ((state g before, f.used, f.stands, f.used_at, own g before f.used), search rules)))
 
 -- ---- the refusal
 
@@ -56,13 +69,13 @@ module _ (g : given.Over) (c : Then-not-resize_block g) where
   before = (goal.at.returns-then-not-resize_block g c).After-used_block-block
 
   stands : StandsFor g.row.FLLEN g.row.SLLEN (contents c.resize_block.new.memory c.resize_block.new.table) (state g before)
-  stands = StandsFor-unchanged c.used_block-block.new.memory c.resize_block.new.memory c.self.inside.table c.resize_block.new.table (state g before) 2 (c.resize_block.ensures.unchanged c.if-not-resize_block.true) (found g before).stands
+  stands = StandsFor-unchanged c.used_block-block.new.memory c.resize_block.new.memory c.self-inside.inside.0.1.0 c.resize_block.new.table (state g before) 2 (c.resize_block.ensures.unchanged c.if-not-resize_block.true) (found g before).stands
 
-  keeps : KeepsSpare c.self.inside.memory (state g before) c.resize_block.new.memory (state g before)
+  keeps : KeepsSpare c.self-inside.inside.0.0.inner (state g before) c.resize_block.new.memory (state g before)
   keeps =
       let counts = c.used_block-block.ensures.counts in
       let more = (c.resize_block.ensures.unchanged c.if-not-resize_block.true).0 in
-      KeepsSpare-counted c.self.inside.memory c.resize_block.new.memory (more.start ∙ counts.start) (more.bytes ∙ counts.bytes) (state g before) (state g before)
+      KeepsSpare-counted c.self-inside.inside.0.0.inner c.resize_block.new.memory (more.start ∙ counts.start) (more.bytes ∙ counts.bytes) (more.out ∙ counts.out) (state g before) (state g before)
 
   refused : ReallocatesWithoutMove (state g before) (at c.args.addr) c.args.layout.size None (state g before)
   refused =
@@ -70,8 +83,18 @@ module _ (g : given.Over) (c : Then-not-resize_block g) where
       let none = c.resize_block.ensures.refused (state g before) f.used f.stands f.used_at c.if-not-resize_block.true in
       record { block = f.used; holds = f.holds; step = subst (λ o. ReallocatesUnmovedBy (state g before) f.used o None (state g before)) (sym none) refl }
 
+-- nothing is out after it
+none : (g : given.Over) (c : After-used_block-block g) (n : Space) → SamePlace c.used_block-block.new.memory n → n.out ≡ []
+none g c n place = place.3 (whole g c)
+
+none_refused : (g : given.Over) (c : Then-not-resize_block g) → c.resize_block.new.memory.out ≡ []
+none_refused g c = none g (before g c) c.resize_block.new.memory (SamePlace-costs c.resize_block.ensures.costs)
+
+pub invariant_of-self-inside : goal.invariant_of-self-inside
+invariant_of-self-inside = none_refused
+
 pub invariant_of-self : goal.invariant_of-self
-invariant_of-self g c = IsAllocator-arrived (stands g c) c.self.inside.state.state (sym (bare-kept c.self.invariant)) c.self.invariant.valid
+invariant_of-self g c = IsAllocator-arrived (stands g c) c.self-inside.inside.0.1.1.0.state (sym (bare-kept (IsAllocator-opened c.self-inside.view_is c.self.invariant))) (none_refused g c) c.self.invariant.valid
 
 -- ---- the payload with another size
 
@@ -81,31 +104,36 @@ module _ (g : given.Over) (c : After-reallocate g) where
 
   resized : (t : State) × ReallocatesWithoutMove (state g early) (at c.args.addr) c.args.layout.size (Some (at c.args.addr)) t
       × StandsFor g.row.FLLEN g.row.SLLEN (contents c.resize_block.new.memory c.resize_block.new.table) t
-      × KeepsSpare c.self.inside.memory (state g early) c.resize_block.new.memory t
+      × KeepsSpare c.self-inside.inside.0.0.inner (state g early) c.resize_block.new.memory t
   resized =
       let f = found g early in
       let s = state g early in
       let counts = c.used_block-block.ensures.counts in
-      let (p, first, there, carried) = c.resize_block.ensures.done s f.used f.stands f.used_at c.if-not-resize_block.false in
+      let (p, first, there, carried) = c.resize_block.ensures.done s f.used f.stands f.used_at (own g early f.used) c.if-not-resize_block.false in
       let (t, replans, stands, spare) = carried in
       let by = subst (λ a. Replans s f.used p a t) (there ∙ c.get-payload.ensures.value) replans in
       let told : ReallocatesWithoutMove s (at c.args.addr) c.args.layout.size (Some (at c.args.addr)) t =
       record { block = f.used; holds = f.holds; step = subst (λ o. ReallocatesUnmovedBy s f.used o (Some (at c.args.addr)) t) (sym first) by } in
-      (t, told, stands, KeepsSpare-counted_first c.self.inside.memory c.used_block-block.new.memory counts.start counts.bytes s t c.resize_block.new.memory spare)
+      (t, told, stands, KeepsSpare-counted_first c.self-inside.inside.0.0.inner c.used_block-block.new.memory counts.start counts.bytes counts.out s t c.resize_block.new.memory spare)
 
   -- what is kept of the state is the one after
   kept : (t : State) → ReallocatesWithoutMove (state g early) (at c.args.addr) c.args.layout.size (Some (at c.args.addr)) t → c.reallocate.new.self.state ≡ bare t
   kept t step =
-      c.reallocate.ensures ∙ (λ i. reallocated g.row.SLLEN (c.get-payload.ensures.value i) (c.size.ensures.value i) (sym (bare-kept c.self.invariant) i))
-      ∙ reallocated-bare c.self.invariant.stands.well_formed t (at c.args.addr) c.args.layout.size (at c.args.addr) (unmoved_is_reallocated g.row.SLLEN (state g early) t (at c.args.addr) c.args.layout.size (Some (at c.args.addr)) step).0.1
+      let is = IsAllocator-opened c.self-inside.view_is c.self.invariant in
+      c.reallocate.ensures ∙ (λ i. reallocated g.row.SLLEN (c.get-payload.ensures.value i) (c.size.ensures.value i) (sym (bare-kept is) i))
+      ∙ reallocated-bare is.stands.well_formed t (at c.args.addr) c.args.layout.size (at c.args.addr) (unmoved_is_reallocated g.row.SLLEN (state g early) t (at c.args.addr) c.args.layout.size (Some (at c.args.addr)) step).0.1
 
   abbrev after : Allocator
   after = allocator c.resize_block.new.memory c.resize_block.new.table c.reallocate.new.self.state
 
+  -- nothing is out after it
+  none_resized : c.resize_block.new.memory.out ≡ []
+  none_resized = none g early c.resize_block.new.memory (SamePlace-costs c.resize_block.ensures.costs)
+
   done : Steps g.row.FLLEN g.row.SLLEN c.args.self.now after (ReallocatesWithoutMove c.args.self.now.state (at c.args.addr) c.args.layout.size (Some (at c.args.addr)))
   done =
       let (t, step, stands, spare) = resized in
-      Steps-arrived stands c.reallocate.new.self.state (kept t step) c.args.self.now c.self.inside.memory c.self.inside.table c.self.inside.state.state c.self.view_is
+      Steps-arrived stands c.reallocate.new.self.state (kept t step) none_resized c.args.self.now c.self-inside.inside.0.0.inner c.self-inside.inside.0.1.0 c.self-inside.inside.0.1.1.0.state (view-opened c.self-inside.view_is c.self.view_is)
       (λ old. ReallocatesWithoutMove old (at c.args.addr) c.args.layout.size (Some (at c.args.addr))) step spare
 
   reached : Reallocates g.row.SLLEN c.args.self.now.state (at c.args.addr) c.args.layout.size (Some (at c.args.addr)) after.state
@@ -124,57 +152,65 @@ module _ (g : given.Over) (c : After-reallocate g) where
       (λ e. let here = eqb-true a (at c.args.addr) e in ap (align_at after.state) here ∙ seen.live ∙ sym c.requires ∙ ap (align_at c.args.self.now.state) (sym here))
       (λ e. let apart = eqb-false a (at c.args.addr) e in seen.aligns a apart apart)
 
+pub invariant_of-self-inside-2 : goal.invariant_of-self-inside-2
+invariant_of-self-inside-2 = none_resized
+
 pub invariant_of-self-2 : goal.invariant_of-self-2
-invariant_of-self-2 g c = let (t, step, stands, spare) = resized g c in IsAllocator-arrived stands c.reallocate.new.self.state (kept g c t step) c.self.invariant.valid
+invariant_of-self-2 g c = let (t, step, stands, spare) = resized g c in IsAllocator-arrived stands c.reallocate.new.self.state (kept g c t step) (none_resized g c) c.self.invariant.valid
 
 -- ---- what stays where it is refused
 
-same : (g : given.Over) (c : Then-not-resize_block g) → read_from c.resize_block.new.memory c.self.inside.state.state ≡ c.args.self.now.state
-same g c = arrived (stands g c) c.self.inside.state.state (sym (bare-kept c.self.invariant)) ∙ ap (λ (o : Allocator). o.state) c.self.view_is
+same : (g : given.Over) (c : Then-not-resize_block g) → read_from c.resize_block.new.memory c.self-inside.inside.0.1.1.0.state ≡ c.args.self.now.state
+same g c = arrived (stands g c) c.self-inside.inside.0.1.1.0.state (sym (bare-kept (IsAllocator-opened c.self-inside.view_is c.self.invariant))) ∙ ap (λ (o : Allocator). o.state) (view-opened c.self-inside.view_is c.self.view_is)
 
 pub returns-then-not-resize_block : goal.returns-then-not-resize_block
-returns-then-not-resize_block g c = record {
-  step =
-      Steps-arrived (stands g c) c.self.inside.state.state (sym (bare-kept c.self.invariant)) c.args.self.now c.self.inside.memory c.self.inside.table c.self.inside.state.state c.self.view_is
-      (λ old. ReallocatesWithoutMove old (at c.args.addr) c.args.layout.size None) (refused g c) (keeps g c);
-  there = tt;
-  live = ap (λ s. align_at s (at c.args.addr)) (same g c) ∙ c.requires;
-  sized = tt;
-  few = tt;
-  kept = tt;
-  aligns = ap align_at (arrived (stands g c) c.self.inside.state.state (sym (bare-kept c.self.invariant)) ∙ ap (λ (o : Allocator). o.state) c.self.view_is);
-  bytes = λ a apart. ap (λ s. bytes_at s a) (same g c);
-  count = ap live_count (same g c);
-  bounds = λ count size align sized short fits. subst (IsSizedFor g.row.SLLEN count size align) (sym (same g c)) sized;
-  chunks = ap (λ (o : Allocator). o.state.chunks) c.self.view_is;
-  same = same g c;
-  refused = (c.resize_block.ensures.unchanged c.if-not-resize_block.true).0.bytes ∙ c.used_block-block.ensures.counts.bytes ∙ ap (λ (o : Allocator). o.memory.bytes) c.self.view_is;
-  place = subst (λ (o : Allocator). SamePlace o.memory c.resize_block.new.memory) c.self.view_is (SamePlace-counted_first c.self.inside.memory c.used_block-block.new.memory 1 c.used_block-block.ensures.counts c.resize_block.new.memory c.resize_block.ensures.place);
-  touches = subst (λ (o : Allocator). c.resize_block.new.memory.touches ≤ o.memory.touches + 25) c.self.view_is (touches-counted_first c.self.inside.memory c.used_block-block.new.memory 1 c.used_block-block.ensures.counts c.resize_block.new.memory 24 c.resize_block.ensures.touches);
-  grow = subst (λ (o : Allocator). o.memory.touches ≤ c.resize_block.new.memory.touches) c.self.view_is (grow-counted_first c.self.inside.memory c.used_block-block.new.memory 1 c.used_block-block.ensures.counts c.resize_block.new.memory c.resize_block.ensures.grow);
-  copied = copied-counted_first c.self.inside.memory c.used_block-block.new.memory 1 c.used_block-block.ensures.counts c.resize_block.new.memory c.resize_block.ensures.copied ∙ ap (λ (o : Allocator). o.memory.copied) c.self.view_is;
-}
+returns-then-not-resize_block g c =
+    let is = IsAllocator-opened c.self-inside.view_is c.self.invariant in
+    let view = view-opened c.self-inside.view_is c.self.view_is in
+    record {
+      step =
+          Steps-arrived (stands g c) c.self-inside.inside.0.1.1.0.state (sym (bare-kept is)) (none_refused g c) c.args.self.now c.self-inside.inside.0.0.inner c.self-inside.inside.0.1.0 c.self-inside.inside.0.1.1.0.state view
+          (λ old. ReallocatesWithoutMove old (at c.args.addr) c.args.layout.size None) (refused g c) (keeps g c);
+      there = tt;
+      live = ap (λ s. align_at s (at c.args.addr)) (same g c) ∙ c.requires;
+      sized = tt;
+      few = tt;
+      kept = tt;
+      aligns = ap align_at (arrived (stands g c) c.self-inside.inside.0.1.1.0.state (sym (bare-kept is)) ∙ ap (λ (o : Allocator). o.state) view);
+      bytes = λ a apart. ap (λ s. bytes_at s a) (same g c);
+      count = ap live_count (same g c);
+      bounds = λ count size align sized short fits. subst (IsSizedFor g.row.SLLEN count size align) (sym (same g c)) sized;
+      chunks = ap (λ (o : Allocator). o.state.chunks) view;
+      same = same g c;
+      refused = (c.resize_block.ensures.unchanged c.if-not-resize_block.true).0.bytes ∙ c.used_block-block.ensures.counts.bytes ∙ ap (λ (o : Allocator). o.memory.bytes) view;
+      place = subst (λ (o : Allocator). SamePlace o.memory c.resize_block.new.memory) view (SamePlace-counted_first c.self-inside.inside.0.0.inner c.used_block-block.new.memory 1 c.used_block-block.ensures.counts c.resize_block.new.memory (SamePlace-costs c.resize_block.ensures.costs));
+      touches = subst (λ (o : Allocator). c.resize_block.new.memory.touches ≤ o.memory.touches + 25) view (touches-counted_first c.self-inside.inside.0.0.inner c.used_block-block.new.memory 1 c.used_block-block.ensures.counts c.resize_block.new.memory 24 c.resize_block.ensures.costs.touches);
+      grow = subst (λ (o : Allocator). o.memory.touches ≤ c.resize_block.new.memory.touches) view (grow-counted_first c.self-inside.inside.0.0.inner c.used_block-block.new.memory 1 c.used_block-block.ensures.counts c.resize_block.new.memory c.resize_block.ensures.costs.grow);
+      copied = copied-counted_first c.self-inside.inside.0.0.inner c.used_block-block.new.memory 1 c.used_block-block.ensures.counts c.resize_block.new.memory (copied_none c.resize_block.ensures.costs) ∙ ap (λ (o : Allocator). o.memory.copied) view;
+    }
 
 -- ---- the counts of a payload with another size
 
 pub returns : goal.returns
-returns g c = record {
-  step = done g c;
-  there = refl;
-  live = (seen g c).live;
-  sized = (seen g c).sized;
-  few = (seen g c).few;
-  kept = (seen g c).kept;
-  aligns = λ i a. aligned g c a i;
-  bytes = λ a apart. (seen g c).bytes a apart apart;
-  count = let r = reached g c in count_resized (view_well_formed c.self.invariant c.args.self.now c.self.view_is) (after g c).state (at c.args.addr) c.args.layout.size (Some (at c.args.addr)) (r.block, r.holds) r;
-  bounds = λ count size align sized short fits.
-      sized_resized (view_well_formed c.self.invariant c.args.self.now c.self.view_is) (after g c).state count size align sized (at c.args.addr) c.args.layout.size c.args.layout.align (Some (at c.args.addr)) c.requires short fits (reached g c);
-  chunks = chunks-reallocated g.row.SLLEN c.args.self.now.state (after g c).state (at c.args.addr) c.args.layout.size (Some (at c.args.addr)) (reached g c);
-  same = tt;
-  refused = tt;
-  place = subst (λ (o : Allocator). SamePlace o.memory c.resize_block.new.memory) c.self.view_is (SamePlace-counted_first c.self.inside.memory c.used_block-block.new.memory 1 c.used_block-block.ensures.counts c.resize_block.new.memory c.resize_block.ensures.place);
-  touches = subst (λ (o : Allocator). c.resize_block.new.memory.touches ≤ o.memory.touches + 25) c.self.view_is (touches-counted_first c.self.inside.memory c.used_block-block.new.memory 1 c.used_block-block.ensures.counts c.resize_block.new.memory 24 c.resize_block.ensures.touches);
-  grow = subst (λ (o : Allocator). o.memory.touches ≤ c.resize_block.new.memory.touches) c.self.view_is (grow-counted_first c.self.inside.memory c.used_block-block.new.memory 1 c.used_block-block.ensures.counts c.resize_block.new.memory c.resize_block.ensures.grow);
-  copied = copied-counted_first c.self.inside.memory c.used_block-block.new.memory 1 c.used_block-block.ensures.counts c.resize_block.new.memory c.resize_block.ensures.copied ∙ ap (λ (o : Allocator). o.memory.copied) c.self.view_is;
-}
+returns g c =
+    let view = view-opened c.self-inside.view_is c.self.view_is in
+    record {
+      step = done g c;
+      there = refl;
+      live = (seen g c).live;
+      sized = (seen g c).sized;
+      few = (seen g c).few;
+      kept = (seen g c).kept;
+      aligns = λ i a. aligned g c a i;
+      bytes = λ a apart. (seen g c).bytes a apart apart;
+      count = let r = reached g c in count_resized (view_well_formed c.self.invariant c.args.self.now c.self.view_is) (after g c).state (at c.args.addr) c.args.layout.size (Some (at c.args.addr)) (r.block, r.holds) r;
+      bounds = λ count size align sized short fits.
+          sized_resized (view_well_formed c.self.invariant c.args.self.now c.self.view_is) (after g c).state count size align sized (at c.args.addr) c.args.layout.size c.args.layout.align (Some (at c.args.addr)) c.requires short fits (reached g c);
+      chunks = chunks-reallocated g.row.SLLEN c.args.self.now.state (after g c).state (at c.args.addr) c.args.layout.size (Some (at c.args.addr)) (reached g c);
+      same = tt;
+      refused = tt;
+      place = subst (λ (o : Allocator). SamePlace o.memory c.resize_block.new.memory) view (SamePlace-counted_first c.self-inside.inside.0.0.inner c.used_block-block.new.memory 1 c.used_block-block.ensures.counts c.resize_block.new.memory (SamePlace-costs c.resize_block.ensures.costs));
+      touches = subst (λ (o : Allocator). c.resize_block.new.memory.touches ≤ o.memory.touches + 25) view (touches-counted_first c.self-inside.inside.0.0.inner c.used_block-block.new.memory 1 c.used_block-block.ensures.counts c.resize_block.new.memory 24 c.resize_block.ensures.costs.touches);
+      grow = subst (λ (o : Allocator). o.memory.touches ≤ c.resize_block.new.memory.touches) view (grow-counted_first c.self-inside.inside.0.0.inner c.used_block-block.new.memory 1 c.used_block-block.ensures.counts c.resize_block.new.memory c.resize_block.ensures.costs.grow);
+      copied = copied-counted_first c.self-inside.inside.0.0.inner c.used_block-block.new.memory 1 c.used_block-block.ensures.counts c.resize_block.new.memory (copied_none c.resize_block.ensures.costs) ∙ ap (λ (o : Allocator). o.memory.copied) view;
+    }
