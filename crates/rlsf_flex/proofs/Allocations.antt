@@ -65,10 +65,10 @@ pub record Tried {S : Type 0} (fllen sllen : ℕ) (terms : S → Terms) (owes : 
 
 module _ {S : Type 0} {fllen sllen : ℕ} {terms : S → Terms} {owes : S → List Range → Type 0} (size align : ℕ) where
   -- what a step of the machine over a source is, once its allocation was made
-  module _ {v : FlexContents S} (new : Allocator) (place : SamePlace v.memory new.memory) (h : FlexStandsFor fllen sllen terms owes v) where
+  module _ {v : FlexContents S} (new : Allocator) (place : SamePlace v.memory new.memory) (h : FlexStandsFor fllen sllen terms owes v) (whole : v.memory.out ≡ []) where
     module _ (reply : Option ℕ) (did : Steps fllen sllen (allocator_of v) new (Allocates sllen v.state.machine size align reply)) where
       pub allocated_stands : FlexStandsFor fllen sllen terms owes (with_allocator v new)
-      allocated_stands = stands_alone h new _ place (chunks-allocated sllen v.state.machine new.state size align reply (opened _ _ _ did).0) did
+      allocated_stands = stands_alone h new _ place whole (chunks-allocated sllen v.state.machine new.state size align reply (opened _ _ _ did).0) did
 
       pub allocated_outside : KeepsOutsideNow v.memory v.state.pools new.memory v.state.pools
       allocated_outside = KeepsOutsideNow-stands h allocated_stands place (opened _ _ _ did).2
@@ -155,16 +155,16 @@ module _ {S : Type 0} {fllen sllen : ℕ} {terms : S → Terms} {owes : S → Li
         pub more_is_found : {t : State} → Allocates sllen after.state.machine size align None t → ⊥
         more_is_found none = pool_has_a_choice fl_bits sl_bits fllen sllen size align e after.state.machine valid wanted (h.room came) none.0
 
-        pub allocated_in_more : (last : Allocator) → SamePlace after.memory last.memory → (reply : Option ℕ) → Steps fllen sllen (allocator_of after) last (Allocates sllen after.state.machine size align reply)
+        pub allocated_in_more : (last : Allocator) → SamePlace after.memory last.memory → v.memory.out ≡ [] → (reply : Option ℕ) → Steps fllen sllen (allocator_of after) last (Allocates sllen after.state.machine size align reply)
             → FlexSteps fllen sllen terms owes leads v (with_allocator after last) (FlexAllocates fllen sllen (terms v.source) v.state size align reply)
         unfolding FlexSteps
-        allocated_in_more last place None did = absurd (more_is_found (opened _ _ _ did).0)
-        allocated_in_more last place (Some addr) did = (
+        allocated_in_more last place whole None did = absurd (more_is_found (opened _ _ _ did).0)
+        allocated_in_more last place whole (Some addr) did = (
           h.notes,
           inr (record { outcome = h.outcome; meanwhile = after.state; asks = asks; more = came; machine = last.state; allocates = (opened _ _ _ did).0; after = refl }),
           asked_by,
           asked_answers,
-          asked_noted last.memory (KeepsOutsideNow-then v.memory after.memory last.memory v.state.pools after.state.pools after.state.pools asked_outside (allocated_outside last place h.stands (Some addr) did)),
-          allocated_stands last place h.stands (Some addr) did,
+          asked_noted last.memory (KeepsOutsideNow-then v.memory after.memory last.memory v.state.pools after.state.pools after.state.pools asked_outside (allocated_outside last place h.stands (asked_outside.place.3 whole) (Some addr) did)),
+          allocated_stands last place h.stands (asked_outside.place.3 whole) (Some addr) did,
           KeepsSpareButFooter-before (terms v.source) v.memory after.memory last.memory v.state after.state asked_outside.place asked_spare last.state (chunks-allocated sllen after.state.machine last.state size align (Some addr) (opened _ _ _ did).0) (opened _ _ _ did).2,
         )

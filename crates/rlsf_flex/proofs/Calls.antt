@@ -1,5 +1,5 @@
 -- The calls of the allocator over pools that leave the chunks, as calls of the one over a source.
-use Rattle.std.proofs.Common.{◌≡◌, ℕ, List, refl, ◌∙◌, subst}
+use Rattle.std.proofs.Common.{◌≡◌, ℕ, List, [], refl, ◌∙◌, subst}
 use Rattle.rlsf_base.specs.declared.memory.range.Range.{Range}
 use Rattle.rlsf_base.specs.Space.{SamePlace}
 use Rattle.rlsf_blocks.specs.StandsFor.{contents, StandsFor}
@@ -13,13 +13,13 @@ use Rattle.rlsf_flex.proofs.Standing.{opened}
 -- what leaves the state stands for it
 pub stays_in : {fllen sllen : ℕ} {v : Allocator} {s : State} → IsInState fllen sllen v s → (new : Allocator) → new.state ≡ v.state → Stands fllen sllen new → IsInState fllen sllen new s
 unfolding Stands
-stays_in {fllen} {sllen} is new same stands = record { state = same ∙ is.state; stands = subst (StandsFor fllen sllen (contents new.memory new.table)) (same ∙ is.state) stands }
+stays_in {fllen} {sllen} is new same stands = record { state = same ∙ is.state; stands = subst (StandsFor fllen sllen (contents new.memory new.table)) (same ∙ is.state) stands.stands; whole = stands.whole }
 
-module _ {S : Type 0} {fllen sllen : ℕ} {terms : S → Terms} {owes : S → List Range → Type 0} {v : FlexContents S} (h : FlexStandsFor fllen sllen terms owes v) (new : Allocator) (step : State → Type 0) (place : SamePlace v.memory new.memory)
+module _ {S : Type 0} {fllen sllen : ℕ} {terms : S → Terms} {owes : S → List Range → Type 0} {v : FlexContents S} (h : FlexStandsFor fllen sllen terms owes v) (new : Allocator) (step : State → Type 0) (place : SamePlace v.memory new.memory) (none : v.memory.out ≡ [])
     (chunks : new.state.chunks ≡ v.state.machine.chunks) (did : Steps fllen sllen (allocator_of v) new step) where
   -- a step of the one over pools asks the source nothing
   pub stands_alone : FlexStandsFor fllen sllen terms owes (with_allocator v new)
-  stands_alone = let (is, stands, spare) = opened _ new step did in stands_stepped h new stands chunks spare place
+  stands_alone = let (is, stands, spare) = opened _ new step did in stands_stepped h new stands chunks spare place none
 
   pub steps_alone : StepsAlone fllen sllen terms owes v (with_allocator v new) step
   unfolding StepsAlone

@@ -1,5 +1,5 @@
 -- The kept range has grown, and the new bytes are handed in, over plain values.
-use Rattle.std.proofs.Common.{◌≡◌, ℕ, ◌+◌, ◌^◌, ◌<◌, ◌≤◌, true, List, ◌∷◌, length, Some, arith, refl, sym, ◌∙◌, ap, subst, inl, inr}
+use Rattle.std.proofs.Common.{◌≡◌, ℕ, ◌+◌, ◌^◌, ◌<◌, ◌≤◌, true, List, [], ◌∷◌, length, Some, arith, refl, sym, ◌∙◌, ap, subst, inl, inr}
 use Rattle.std.proofs.lemmas.Option.{same_Some}
 use Rattle.rlsf_base.specs.declared.memory.range.Range.{Range}
 use Rattle.rlsf_base.specs.Range.{end_of, LiesIn}
@@ -8,6 +8,7 @@ use Rattle.rlsf_base.specs.Space.{Space, range_of, SamePlace}
 use Rattle.rlsf_blocks.specs.Spare.{KeepsSpare}
 use Rattle.rlsf_tlsf.specs.Allocator.{Allocator, IsInState}
 use Rattle.rlsf_flex.specs.Footers.{first_len, first_start, Footers}
+use Rattle.rlsf_flex.specs.Steps.Footing.{IsFooted}
 use Rattle.rlsf_flex.specs.Outside.{IsOutside}
 use Rattle.rlsf_flex.specs.Steps.Outside.{KeepsOutsideNow}
 use Rattle.rlsf_flex.specs.StandsFor.{FlexContents, FlexStandsFor}
@@ -29,12 +30,14 @@ use Rattle.rlsf_machine.proofs.TakenPools.{appended_pool, IsTaken, pool_size_is}
 use Rattle.rlsf_flex.proofs.Frames.{Footers-kept, HasSpareFooter, footer_ends, outstanding_in, range_of-same, spare_footer, spare_here}
 use Rattle.rlsf_flex.proofs.Outcomes.{FlexStandsFor-answered}
 use Rattle.rlsf_flex.proofs.OutsideNow.{KeepsOutsideNow-footed, KeepsOutsideNow-spare, KeepsOutsideNow-then}
-use Rattle.rlsf_flex.proofs.Rewritten.{Footers-written, IsFooted}
+use Rattle.rlsf_flex.proofs.Places.{SamePlace-refl, SamePlace-then, out_at-place}
+use Rattle.rlsf_flex.proofs.Rewritten.{Footers-written}
 use Rattle.rlsf_flex.proofs.Standing.{contents_at}
 
 -- a growth came that a source was asked for, in a state of an allocator over it
 pub record Grew {S : Type 0} (fllen sllen e : ℕ) (terms : S → Terms) (owes : S → List Range → Type 0) (v : FlexContents S) (y : S) (k : KeptPool) (asked len : ℕ) : Type 0 where
   pub before : FlexStandsFor fllen sllen terms owes v
+  pub whole : v.memory.out ≡ []
   pub size : IsPoolSize fllen sllen e
   pub was : v.state.kept ≡ Some k
   pub kept : IsKeptPool (terms v.source) k v.state.pools v.state.machine.chunks
@@ -69,13 +72,13 @@ module _ {S : Type 0} {fl_bits sl_bits fllen sllen e : ℕ} (valid : IsValid fl_
 
   -- what is behind the kept pool may be appended
   pub Grew-next : (m : Space) → SamePlace v.memory m → IsNext (range_of m) v.state.machine (behind k len)
-  Grew-next m place = subst (λ r. IsNext r v.state.machine (behind k len)) (range_of-same v.memory m place) (behind_next c.before.well_formed c.was asked len c.kept c.is_grown more)
+  Grew-next m place = subst (λ r. IsNext r v.state.machine (behind k len)) (range_of-same v.memory m place.0 place.1) (behind_next c.before.well_formed c.was asked len c.kept c.is_grown more)
 
   -- a pool of it is taken
   pub Grew-taken : (t : State) (n : ℕ) → Appends fllen v.state.machine (behind k len) n t → HasPool e t × IsTaken v.state.machine (behind k len) n t
   Grew-taken t n step =
       let (room, whole, short) = pool_size_is fl_bits sl_bits fllen sllen e valid c.size in
-      let (taken, pool) = appended_pool fllen sllen e (range_of v.memory) v.state.machine t (behind k len) n c.before.machine.well_formed (Grew-next v.memory (refl, refl)) room whole short (omega (arith, Grew-longer.0)) step in
+      let (taken, pool) = appended_pool fllen sllen e (range_of v.memory) v.state.machine t (behind k len) n c.before.machine.well_formed (Grew-next v.memory (SamePlace-refl v.memory)) room whole short (omega (arith, Grew-longer.0)) step in
       (pool, taken)
 
   -- then the state is well-formed
@@ -83,7 +86,7 @@ module _ {S : Type 0} {fl_bits sl_bits fllen sllen e : ℕ} (valid : IsValid fl_
       → IsFlexWellFormed fllen sllen (range_of m) (terms v.source) (record { machine = t; pools = with_len k.range len ∷ c.kept.rest; kept = Some (record { range = with_len k.range len; len = k.len + n }) })
   Grew-well_formed m t n step place =
       let s : FlexState = record { machine = t; pools = with_len k.range len ∷ c.kept.rest; kept = Some (record { range = with_len k.range len; len = k.len + n }) } in
-      subst (λ p. IsFlexWellFormed fllen sllen p (terms v.source) s) (range_of-same v.memory m place)
+      subst (λ p. IsFlexWellFormed fllen sllen p (terms v.source) s) (range_of-same v.memory m place.0 place.1)
       (grown_keeps c.before.well_formed c.was asked len c.kept c.is_grown more n s step (sym (ap (longer len) c.kept.split)) refl)
 
   -- The footer comes first, from v to d, and behind it the new bytes, from d to b.
@@ -93,7 +96,7 @@ module _ {S : Type 0} {fl_bits sl_bits fllen sllen e : ℕ} (valid : IsValid fl_
       → Took fllen sllen terms owes v (contents_at b y (record { machine = t; pools = with_len k.range len ∷ c.kept.rest; kept = Some (record { range = with_len k.range len; len = k.len + n }) })) e (growth_came len)
   Grew-took d b t n same footed_stands foot step stands spare place =
       let now = with_len k.range len in
-      let after = Grew-well_formed b.memory t n step (place.0 ∙ foot.place.0, place.1 ∙ foot.place.1) in
+      let after = Grew-well_formed b.memory t n step (SamePlace-then v.memory d.memory b.memory foot.place place) in
       record {
         takes = (k, n, c.was, step, sym (ap (longer len) c.kept.split), refl);
         may = λ j was. subst (λ j. MayAnswer (terms v.source) v.state.pools (grow j.range (j.len + e) (Some len))) (same_Some k j (sym c.was ∙ was))
@@ -103,7 +106,7 @@ module _ {S : Type 0} {fl_bits sl_bits fllen sllen e : ℕ} (valid : IsValid fl_
             spare a (omega (arith, foot.place.0, low)) (omega (arith, foot.place.0, foot.place.1, high)) one two
             ∙ foot.bytes a low high (λ takes from to. none (record { takes_back = takes; came = is_new; newest = now; rest = c.kept.rest; split = refl; from = from; to = to }));
         stands = FlexStandsFor-answered v.source y b (record { machine = t; pools = now ∷ c.kept.rest; kept = Some (record { range = now; len = k.len + n }) }) stands.stands after same c.owed
-            (λ takes. Footers-kept d.memory b.memory v.state.machine t (now ∷ c.kept.rest) spare place (λ p i. ((Grew-footers d.memory footed_stands.stands.well_formed foot.place p i).1, spare_here b.memory after p i)) (footers takes));
+            (λ takes. Footers-kept d.memory b.memory v.state.machine t (now ∷ c.kept.rest) spare (λ a from one two. out_at-place d.memory b.memory place (foot.place.3 c.whole) a) place.0 place.1 (λ p i. ((Grew-footers d.memory footed_stands.stands.well_formed foot.place p i).1, spare_here b.memory after p i)) (footers takes));
         room = λ came. (Grew-taken t n step).0;
       }
     where
@@ -138,4 +141,4 @@ module _ {S : Type 0} {fl_bits sl_bits fllen sllen e : ℕ} (valid : IsValid fl_
           let old = subst (Footers v.memory) c.kept.split (c.before.footers takes) in
           let placed : (p : Range) → IsIn p c.kept.rest → (64 ≤ p.len) × LiesIn p v.memory.start (length v.memory.bytes) =
           λ p i. (outstanding.long p (inr i), (outstanding_in v.memory (terms v.source).space (with_len k.range len ∷ c.kept.rest) c.before.well_formed.space outstanding).in_space p (inr i)) in
-          (w.reads_start, w.reads_len, Footers-written v.memory d.memory (with_len k.range len) (first_start c.kept.rest) (first_len c.kept.rest) c.kept.rest w (omega arith) c.is_grown.apart placed old.2)
+          (w.reads_start, w.reads_len, Footers-written v.memory d.memory (with_len k.range len) (first_start c.kept.rest) (first_len c.kept.rest) c.kept.rest c.whole w (omega arith) c.is_grown.apart placed old.2)

@@ -5,10 +5,11 @@ use Rattle.rlsf_machine.specs.Callers.{align_at, bytes_at}
 use Rattle.rlsf_machine.specs.Sized.{IsSizedFor, live_count}
 use Rattle.rlsf_tlsf.specs.Allocator.{Allocator}
 use Rattle.rlsf_flex.specs.Steps.Growth.{KeepsPayloads}
+use Rattle.rlsf_flex.proofs.Places.{SamePlace-refl, SamePlace-then}
 
 -- nothing was done
 pub KeepsPayloads-refl : {sllen : ℕ} (v : Allocator) → KeepsPayloads sllen v v
-KeepsPayloads-refl v = record { aligns = refl; bytes = refl; count = refl; bounds = λ count size align sized. sized; place = (refl, refl); grow = omega arith; copied = refl }
+KeepsPayloads-refl v = record { aligns = refl; bytes = refl; count = refl; bounds = λ count size align sized. sized; place = SamePlace-refl v.memory; grow = omega arith; copied = refl }
 
 -- the state stayed
 pub KeepsPayloads-same : {sllen : ℕ} (v w : Allocator) → w.state ≡ v.state → SamePlace v.memory w.memory → v.memory.touches ≤ w.memory.touches → w.memory.copied ≡ v.memory.copied → KeepsPayloads sllen v w
@@ -29,7 +30,7 @@ KeepsPayloads-trans u v w first second = record {
   bytes = second.bytes ∙ first.bytes;
   count = second.count ∙ first.count;
   bounds = λ count size align sized. second.bounds count size align (first.bounds count size align sized);
-  place = (second.place.0 ∙ first.place.0, second.place.1 ∙ first.place.1);
+  place = SamePlace-then u.memory v.memory w.memory first.place second.place;
   grow = omega (arith, first.grow, second.grow);
   copied = second.copied ∙ first.copied;
 }

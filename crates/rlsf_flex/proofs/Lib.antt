@@ -18,6 +18,7 @@ pub mod NewestRange
 pub mod Outcomes
 pub mod Outside
 pub mod OutsideNow
+pub mod Places
 pub mod RangeLengths
 pub mod RangeRows
 pub mod Reallocations

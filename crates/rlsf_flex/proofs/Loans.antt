@@ -1,5 +1,5 @@
 -- Bytes are left in a payload that was lent: whatever is left, the allocator over a source stands for its state.
-use Rattle.std.proofs.Common.{◌≡◌, ℕ, List, length, IsSome, refl, sym, ◌∙◌, ap, subst}
+use Rattle.std.proofs.Common.{◌≡◌, ℕ, List, [], length, IsSome, refl, sym, ◌∙◌, ap, subst}
 use Rattle.rlsf_base.specs.declared.memory.range.Range.{Range}
 use Rattle.rlsf_base.specs.Lends.{lent_space}
 use Rattle.rlsf_base.specs.Range.{LiesIn}
@@ -32,10 +32,11 @@ module _ {S : Type 0} {fllen sllen : ℕ} {terms : S → Terms} {owes : S → Li
       (stands, spare)
 
   -- what was left is the payload's, cut to it or filled up
-  pub left : IsSome (align_at v.state.machine addr) → (len : ℕ) → len ≡ length (bytes_at v.state.machine addr) → SamePlace v.memory (tlsf.written (allocator_of v) addr len w).memory → FlexStandsFor fllen sllen terms owes (written v addr len w)
+  pub left : IsSome (align_at v.state.machine addr) → (len : ℕ) → len ≡ length (bytes_at v.state.machine addr) → SamePlace v.memory (tlsf.written (allocator_of v) addr len w).memory → v.memory.out ≡ []
+      → FlexStandsFor fllen sllen terms owes (written v addr len w)
   unfolding tlsf.written
-  left live len whole place =
+  left live len whole place none =
       let (u, holds) = align_at-some v.state.machine addr live in
       let is : len ≡ (usable u).len = whole ∙ ap length (bytes_at-held h.machine.well_formed addr u holds) ∙ (h.machine.well_formed.used u holds.0).bytes in
       let (stands, spare) = subst Left (λ i. lent_space (touched v.memory 3) (holds.1 i) (sym is i) w) (left_in u holds) in
-      stands_stepped h (tlsf.written (allocator_of v) addr len w) stands refl spare place
+      stands_stepped h (tlsf.written (allocator_of v) addr len w) stands refl spare place none

@@ -17,6 +17,7 @@ use Rattle.rlsf_machine.proofs.CallerWords.{bytes_at-held}
 use Rattle.rlsf_machine.proofs.Changes.{Holds-unique}
 use Rattle.rlsf_machine.proofs.Live.{allocated_filled, allocation_has_size, other_payloads_stay}
 use Rattle.rlsf_blocks.proofs.Machine.SpareBytes.{KeepsSpare-trans}
+use Rattle.rlsf_flex.proofs.Places.{SamePlace-then}
 
 -- a list with the whole of a shorter one in front keeps it
 pub Keeps-front : (n : ℕ) (old new : List ℕ) → length old ≡ n → n ≤ length new → Keeps old (with_front n old new)
@@ -96,5 +97,5 @@ module _ {fllen sllen : ℕ} {v w : Allocator} {s t : State} (stands : IsInState
     pub KeepsSpare-copied : SamePlace v.memory w.memory → SamePlace w.memory x.memory → KeepsSpare v.memory s w.memory t → KeepsSpare w.memory t x.memory r → KeepsSpare x.memory r y.memory q
         → KeepsSpare v.memory s y.memory q
     KeepsSpare-copied first second one two three =
-        KeepsSpare-trans fllen sllen v.memory x.memory y.memory s r q (deallocate addr) (λ bad. bad) (second.0 ∙ first.0, second.1 ∙ first.1) gone
+        KeepsSpare-trans fllen sllen v.memory x.memory y.memory s r q (deallocate addr) (λ bad. bad) (SamePlace-then v.memory w.memory x.memory first second) gone
         (KeepsSpare-trans fllen sllen v.memory w.memory x.memory s t r (fill to (with_front (usable u).len u.bytes step.bytes)) (λ bad. bad) first fills one two) three

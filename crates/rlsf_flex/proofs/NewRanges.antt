@@ -1,5 +1,5 @@
 -- A new range that came is handed in, over plain values.
-use Rattle.std.proofs.Common.{◌≡◌, ℕ, ◌^◌, ◌<◌, ◌≤◌, true, List, ◌∷◌, length, Option, Some, arith, refl, sym, ◌∙◌, ap, subst, inl, inr}
+use Rattle.std.proofs.Common.{◌≡◌, ℕ, ◌^◌, ◌<◌, ◌≤◌, true, List, [], ◌∷◌, length, Option, Some, arith, refl, sym, ◌∙◌, ap, subst, inl, inr}
 use Rattle.std.specs.Bool.{then_some}
 use Rattle.std.proofs.lemmas.Option.{same_Some}
 use Rattle.rlsf_base.specs.declared.memory.range.Range.{Range}
@@ -10,6 +10,7 @@ use Rattle.rlsf_blocks.specs.Spare.{KeepsSpare}
 use Rattle.rlsf_tlsf.specs.Allocator.{Allocator, IsInState}
 use Rattle.rlsf_flex.specs.declared.pool.Pool.{Pool}
 use Rattle.rlsf_flex.specs.Footers.{Footers}
+use Rattle.rlsf_flex.specs.Steps.Footing.{IsFooted}
 use Rattle.rlsf_flex.specs.Steps.Outside.{KeepsOutsideNow}
 use Rattle.rlsf_flex.specs.StandsFor.{FlexContents, FlexStandsFor, kept_of}
 use Rattle.rlsf_flex.specs.Steps.Growth.{kept_len, kept_start, Took}
@@ -28,12 +29,14 @@ use Rattle.rlsf_flex.proofs.Frames.{Footers-kept, HasSpareFooter, ends_here, out
 use Rattle.rlsf_flex.proofs.Kept.{keeps-dealloc, words-first}
 use Rattle.rlsf_flex.proofs.Outcomes.{FlexStandsFor-answered}
 use Rattle.rlsf_flex.proofs.OutsideNow.{KeepsOutsideNow-footed, KeepsOutsideNow-spare, KeepsOutsideNow-then}
-use Rattle.rlsf_flex.proofs.Rewritten.{Footers-written, IsFooted}
+use Rattle.rlsf_flex.proofs.Places.{SamePlace-then, out_at-place}
+use Rattle.rlsf_flex.proofs.Rewritten.{Footers-written}
 use Rattle.rlsf_flex.proofs.Standing.{contents_at}
 
 -- a range came that a source was asked for, in a state of an allocator over it
 pub record Came {S : Type 0} (fllen sllen e : ℕ) (terms : S → Terms) (owes : S → List Range → Type 0) (v : FlexContents S) (y : S) (len : ℕ) (r : Range) : Type 0 where
   pub before : FlexStandsFor fllen sllen terms owes v
+  pub whole : v.memory.out ≡ []
   pub size : IsPoolSize fllen sllen e
   pub told : range_length (terms v.source) e ≡ Some len
   pub is_given : IsGiven (terms v.source) v.state.pools len r
@@ -50,7 +53,7 @@ module _ {S : Type 0} {fl_bits sl_bits fllen sllen e : ℕ} (valid : IsValid fl_
   -- then the state is well-formed
   Came-well_formed : (m : Space) (t : State) (n : ℕ) (later : Option KeptPool) → Inserts fllen v.state.machine r (Some n) t → SamePlace v.memory m → later ≡ then_some (keeps (terms v.source)) (record { range = r; len = n })
       → IsFlexWellFormed fllen sllen (range_of m) (terms v.source) (record { machine = t; pools = r ∷ v.state.pools; kept = later })
-  Came-well_formed m t n later step place is = subst (λ p. IsFlexWellFormed fllen sllen p (terms v.source) (record { machine = t; pools = r ∷ v.state.pools; kept = later })) (range_of-same v.memory m place)
+  Came-well_formed m t n later step place is = subst (λ p. IsFlexWellFormed fllen sllen p (terms v.source) (record { machine = t; pools = r ∷ v.state.pools; kept = later })) (range_of-same v.memory m place.0 place.1)
       (given_keeps c.before.well_formed len n r (record { machine = t; pools = r ∷ v.state.pools; kept = later }) c.is_given step refl is)
 
   -- and the footer can be written
@@ -70,7 +73,7 @@ module _ {S : Type 0} {fl_bits sl_bits fllen sllen e : ℕ} (valid : IsValid fl_
       let (n, is, is_taken, pool) = Came-taken t taken step in
       let inserted = subst (λ o. Inserts fllen v.state.machine r o t) is step in
       let middle = Came-well_formed b.memory t n later inserted place (told n is) in
-      let after = Came-well_formed d.memory t n later inserted (foot.place.0 ∙ place.0, foot.place.1 ∙ place.1) (told n is) in
+      let after = Came-well_formed d.memory t n later inserted (SamePlace-then v.memory b.memory d.memory place foot.place) (told n is) in
       record {
         takes = (n, inserted, refl, told n is);
         may = λ n asked. subst (λ o. IsGiven (terms v.source) v.state.pools o r) (same_Some len n (sym c.told ∙ asked)) c.is_given;
@@ -93,7 +96,7 @@ module _ {S : Type 0} {fl_bits sl_bits fllen sllen e : ℕ} (valid : IsValid fl_
           let w = foot.written takes in
           let before = subst (λ k. IsNewest (terms v.source) k v.state.pools v.state.machine.chunks) was c.before.well_formed.newest in
           let words = words-first (terms v.source) kept v.state.pools v.state.machine.chunks before (keeps-dealloc (terms v.source) takes) in
-          let old = Footers-kept v.memory b.memory v.state.machine t v.state.pools spare place (λ p i. (spare_here v.memory c.before.well_formed p i, spare_here b.memory middle p (inr i))) (c.before.footers takes) in
+          let old = Footers-kept v.memory b.memory v.state.machine t v.state.pools spare (λ a from one two. out_at-place v.memory b.memory place c.whole a) place.0 place.1 (λ p i. (spare_here v.memory c.before.well_formed p i, spare_here b.memory middle p (inr i))) (c.before.footers takes) in
           let placed : (p : Range) → IsIn p v.state.pools → (64 ≤ p.len) × LiesIn p b.memory.start (length b.memory.bytes) =
           λ p i. (middle.pools.long p (inr i), (outstanding_in b.memory (terms v.source).space (r ∷ v.state.pools) middle.space middle.pools).in_space p (inr i)) in
-          (w.reads_start ∙ words.0, w.reads_len ∙ words.1, Footers-written b.memory d.memory r (kept_start kept) (kept_len kept) v.state.pools w (middle.pools.long r (inl refl)) c.is_given.apart placed old)
+          (w.reads_start ∙ words.0, w.reads_len ∙ words.1, Footers-written b.memory d.memory r (kept_start kept) (kept_len kept) v.state.pools (place.3 c.whole) w (middle.pools.long r (inl refl)) c.is_given.apart placed old)

@@ -26,6 +26,7 @@ use Rattle.rlsf_machine.proofs.Trims.{IsOver, IsOver-all_removed, IsOver-flex}
 use Rattle.rlsf_flex.proofs.Frames.{Footers-kept, ends_here, outstanding_in, range_of-same, spare_here}
 use Rattle.rlsf_flex.proofs.Kept.{IsKeptPool-known, keeps-dealloc}
 use Rattle.rlsf_flex.proofs.Outcomes.{FlexStandsFor-answered}
+use Rattle.rlsf_flex.proofs.Places.{out_at-place}
 use Rattle.rlsf_flex.proofs.RangeRows.{idle_range, idle_row, removed-row, row_of}
 
 -- the newest of ranges that have pools has one
@@ -111,13 +112,13 @@ module _ {S : Type 0} {fllen sllen : ℕ} {terms : S → Terms} {owes : S → Li
     pub next_pool : IfSome (first others) (λ r. HasRoomForChunk r × ((len : ℕ) × IsPool b.state r len))
     next_pool = first_pool b.state others v.well_formed.space v.machine.well_formed.addressable over
 
-    module _ (stands : StandsFor fllen sllen (contents b.memory b.table) b.state) (spare : KeepsSpare a.memory a.state b.memory b.state) (place : SamePlace a.memory b.memory) (takes : (terms x).dealloc ≡ true)
+    module _ (stands : StandsFor fllen sllen (contents b.memory b.table) b.state) (spare : KeepsSpare a.memory a.state b.memory b.state) (place : SamePlace a.memory b.memory) (none : a.memory.out ≡ []) (takes : (terms x).dealloc ≡ true)
         (later : Option Pool) (told : MatchOption (first others) (later ≡ None) (λ r. (len : ℕ) → IsPool b.state r len → later ≡ Some (record { range = r; len = len }))) where
       abbrev after : FlexState
       after = record { machine = b.state; pools = others; kept = kept_of later }
 
       left : IsFlexWellFormed fllen sllen (range_of b.memory) (terms x) after
-      left = subst (λ m. IsFlexWellFormed fllen sllen m (terms x) after) (range_of-same a.memory b.memory place) (record {
+      left = subst (λ m. IsFlexWellFormed fllen sllen m (terms x) after) (range_of-same a.memory b.memory place.0 place.1) (record {
         machine = over.machine;
         space = v.well_formed.space;
         pools = over.outstanding;
@@ -142,6 +143,6 @@ module _ {S : Type 0} {fllen sllen : ℕ} {terms : S → Terms} {owes : S → Li
             place = place;
             spare = spare;
             stands = FlexStandsFor-answered x y b after stands left same owed
-                (λ back. Footers-kept a.memory b.memory a.state b.state others spare place (λ p i. (spare_here a.memory v.well_formed p (is_other p i), spare_here b.memory left p i)) (newest_footers back).2);
+                (λ back. Footers-kept a.memory b.memory a.state b.state others spare (λ c from one two. out_at-place a.memory b.memory place none c) place.0 place.1 (λ p i. (spare_here a.memory v.well_formed p (is_other p i), spare_here b.memory left p i)) (newest_footers back).2);
           } in
           subst (λ ps. GaveNewest fllen sllen terms owes leads (flex_contents a kept x ranges) (flex_contents b later y ps)) (sym path) all

@@ -16,6 +16,7 @@ use Rattle.rlsf_machine.specs.Terms.{Terms, with_len}
 use Rattle.rlsf_machine.specs.WellFormed.{coverage, itself}
 use Rattle.rlsf_machine.proofs.Coverage.{IsIn-append_left, IsIn-append_right, coverage-append}
 use Rattle.rlsf_flex.proofs.OutsideNow.{KeepsOutsideNow-spare}
+use Rattle.rlsf_flex.proofs.Places.{SamePlace-refl, SamePlace-then}
 
 -- ---- the ranges that ever were outstanding
 
@@ -40,7 +41,7 @@ NothingGoesBack-parts ms ns none = (λ r i. none r (IsIn-append_left (dealloc r)
 -- nothing is done
 pub KeepsOutside-refl : (m : Space) (pools : List Range) → KeepsOutside m pools [] m pools
 KeepsOutside-refl m pools = record {
-  place = (refl, refl);
+  place = SamePlace-refl m;
   among = λ a none. omega (arith, ever_owed-coverage pools [] a, none);
   all_owed = λ kept a none. omega (arith, ever_owed-coverage pools [] a, none);
   bytes = λ a low high none. refl;
@@ -49,7 +50,7 @@ KeepsOutside-refl m pools = record {
 -- one after the other
 pub KeepsOutside-then : (m n o : Space) (first second third : List Range) (notes more : List Note) → KeepsOutside m first notes n second → KeepsOutside n second more o third → KeepsOutside m first (notes ++ more) o third
 KeepsOutside-then m n o first second third notes more one two = record {
-  place = (two.place.0 ∙ one.place.0, two.place.1 ∙ one.place.1);
+  place = SamePlace-then m n o one.place two.place;
   among = λ a none. two.among a (middle a none);
   all_owed = λ kept a none.
       let (before, behind) = NothingGoesBack-parts notes more kept in

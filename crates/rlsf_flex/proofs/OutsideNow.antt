@@ -3,6 +3,7 @@ use Rattle.std.proofs.Common.{ℕ, ◌≤◌, Bool, List, arith, refl, ◌∙◌
 use Rattle.rlsf_base.specs.declared.memory.range.Range.{Range}
 use Rattle.rlsf_base.specs.Space.{Space, SamePlace}
 use Rattle.rlsf_blocks.specs.Spare.{IsSpare, KeepsSpare}
+use Rattle.rlsf_flex.specs.Steps.Footing.{IsFooted}
 use Rattle.rlsf_flex.specs.Outside.{IsOutside}
 use Rattle.rlsf_flex.specs.StandsFor.{FlexContents, FlexStandsFor, with_allocator}
 use Rattle.rlsf_flex.specs.Steps.Outside.{KeepsOutsideNow}
@@ -12,7 +13,7 @@ use Rattle.rlsf_machine.specs.Lists.{IsIn}
 use Rattle.rlsf_machine.specs.State.{State}
 use Rattle.rlsf_machine.specs.Terms.{Terms}
 use Rattle.rlsf_machine.proofs.Housing.{coverage-in}
-use Rattle.rlsf_flex.proofs.Rewritten.{IsFooted}
+use Rattle.rlsf_flex.proofs.Places.{SamePlace-refl, SamePlace-then}
 
 -- a byte outside of the ranges that house all chunks is spare
 pub outside_spare : (pools : List Range) (s : State) → AreHoused pools s.chunks → (a : ℕ) → IsOutside pools a → IsSpare s a
@@ -21,7 +22,7 @@ outside_spare pools s housed a none c i from to =
     omega (arith, coverage-in p pools a j (omega arith) (omega arith), none)
 
 pub KeepsOutsideNow-refl : (m : Space) (pools : List Range) → KeepsOutsideNow m pools m pools
-KeepsOutsideNow-refl m pools = record { place = (refl, refl); only_more = λ a none. none; bytes = λ a low high none. refl }
+KeepsOutsideNow-refl m pools = record { place = SamePlace-refl m; only_more = λ a none. none; bytes = λ a low high none. refl }
 
 -- what keeps spare bytes keeps those outside of the ranges that house all chunks
 pub KeepsOutsideNow-spare : (m n : Space) (s t : State) (before after : List Range) → AreHoused before s.chunks → AreHoused after t.chunks → ((a : ℕ) → IsOutside after a → IsOutside before a)
@@ -42,7 +43,7 @@ KeepsOutsideNow-stands {v = v} {new = new} before after place keeps =
 -- one after the other
 pub KeepsOutsideNow-then : (m n o : Space) (first second third : List Range) → KeepsOutsideNow m first n second → KeepsOutsideNow n second o third → KeepsOutsideNow m first o third
 KeepsOutsideNow-then m n o first second third one two = record {
-  place = (two.place.0 ∙ one.place.0, two.place.1 ∙ one.place.1);
+  place = SamePlace-then m n o one.place two.place;
   only_more = λ a none. one.only_more a (two.only_more a none);
   bytes = λ a low high none. two.bytes a (omega (arith, one.place.0, low)) (omega (arith, one.place.0, one.place.1, high)) none ∙ one.bytes a low high (two.only_more a none);
 }

@@ -80,10 +80,10 @@ refused_too fllen sllen terms owes leads v after addr size align {u} stuck is (n
     (notes, record { block = u; stuck = stuck; asks = subst (λ a. Asks fllen sllen (terms v.source) v.state size a refused notes after.state) (sym is) step }, leads_by, answers, outside, stands, spare)
 
 module _ {S : Type 0} {fllen sllen : ℕ} {terms : S → Terms} {owes : S → List Range → Type 0} (addr size align : ℕ) where
-  module _ {v : FlexContents S} (new : Allocator) (place : SamePlace v.memory new.memory) (h : FlexStandsFor fllen sllen terms owes v) where
+  module _ {v : FlexContents S} (new : Allocator) (place : SamePlace v.memory new.memory) (h : FlexStandsFor fllen sllen terms owes v) (whole : v.memory.out ≡ []) where
     module _ (reply : Option ℕ) (did : Steps fllen sllen (allocator_of v) new (Reallocates sllen v.state.machine addr size reply)) where
       pub reallocated_stands : FlexStandsFor fllen sllen terms owes (with_allocator v new)
-      reallocated_stands = stands_alone h new _ place (chunks-reallocated sllen v.state.machine new.state addr size reply (opened _ _ _ did).0) did
+      reallocated_stands = stands_alone h new _ place whole (chunks-reallocated sllen v.state.machine new.state addr size reply (opened _ _ _ did).0) did
 
       reallocated_outside : KeepsOutsideNow v.memory v.state.pools new.memory v.state.pools
       reallocated_outside = KeepsOutsideNow-stands h reallocated_stands place (opened _ _ _ did).2
@@ -131,7 +131,7 @@ module _ {S : Type 0} {fllen sllen : ℕ} {terms : S → Terms} {owes : S → Li
       pub Holds-came : Holds after.state.machine addr u
       Holds-came = Holds-same w.state.machine after.state.machine addr u (used-taken fllen (terms w.source) w.state after.state h.outcome h.extends.after) (subst (λ (s : FlexState). Holds s.machine addr u) (sym tried.same) stuck.holds)
 
-      module _ (last : Allocator) (came : more ≡ true) (place : SamePlace after.memory last.memory) {to : ℕ} (moved : MovesTo fllen sllen (allocator_of after) last addr size to) where
+      module _ (last : Allocator) (came : more ≡ true) (place : SamePlace after.memory last.memory) (whole : v.memory.out ≡ []) {to : ℕ} (moved : MovesTo fllen sllen (allocator_of after) last addr size to) where
         moves : MovesAway sllen after.state.machine u size to last.state
         moves = subst (λ x. MovesAway sllen after.state.machine x size to last.state) (Holds-unique h.stands.machine.well_formed addr moved.block u moved.holds Holds-came) moved.moves
 
@@ -140,7 +140,7 @@ module _ {S : Type 0} {fllen sllen : ℕ} {terms : S → Terms} {owes : S → Li
         moved_chunks = chunks-deallocated moves.meanwhile last.state u.payload moves.released ∙ chunks-allocated sllen after.state.machine moves.meanwhile size u.align (Some to) moves.allocated
 
         pub moved_stands : FlexStandsFor fllen sllen terms owes (with_allocator after last)
-        moved_stands = stands_stepped h.stands last (stood moved.stands) moved_chunks moved.spare place
+        moved_stands = stands_stepped h.stands last (stood moved.stands) moved_chunks moved.spare place ((asked_outside size align tried wanted h).place.3 whole)
 
         -- the payload moved into what came
         pub reallocated_in_more : FlexSteps fllen sllen terms owes leads v (with_allocator after last) (FlexReallocates fllen sllen (terms v.source) v.state addr size (Some to))

@@ -1,5 +1,5 @@
 -- An allocator over a source, and the one over pools that it has.
-use Rattle.std.proofs.Common.{◌≡◌, ℕ, List, refl}
+use Rattle.std.proofs.Common.{◌≡◌, ℕ, List, [], refl}
 use Rattle.rlsf_base.specs.declared.memory.range.Range.{Range}
 use Rattle.rlsf_blocks.specs.Spare.{KeepsSpare}
 use Rattle.rlsf_blocks.specs.StandsFor.{contents, StandsFor}
@@ -14,23 +14,28 @@ use Rattle.rlsf_machine.specs.State.{State}
 use Rattle.rlsf_machine.specs.Terms.{Terms}
 
 -- the one over pools is in the machine's state
-pub inner_in : {S : Type 0} {fllen sllen : ℕ} {terms : S → Terms} {owes : S → List Range → Type 0} {v : FlexContents S} → FlexStandsFor fllen sllen terms owes v → IsInState fllen sllen (allocator_of v) v.state.machine
-inner_in h = record { state = refl; stands = h.machine }
+pub inner_in : {S : Type 0} {fllen sllen : ℕ} {terms : S → Terms} {owes : S → List Range → Type 0} {v : FlexContents S} → FlexStandsFor fllen sllen terms owes v → v.memory.out ≡ [] → IsInState fllen sllen (allocator_of v) v.state.machine
+inner_in h whole = record { state = refl; stands = h.machine; whole = whole }
 
 -- what a step of the allocator over pools says
 pub opened : {fllen sllen : ℕ} (old new : Allocator) (step : State → Type 0) → Steps fllen sllen old new step
     → step new.state × StandsFor fllen sllen (contents new.memory new.table) new.state × KeepsSpare old.memory old.state new.memory new.state
 unfolding Steps Stands
-opened old new step did = did
+opened old new step (is, standing, spare) = (is, standing.stands, spare)
+
+-- and that no byte is out after it
+pub opened_whole : (fllen sllen : ℕ) (old new : Allocator) (step : State → Type 0) → Steps fllen sllen old new step → new.memory.out ≡ []
+unfolding Steps Stands
+opened_whole fllen sllen old new step (is, standing, spare) = standing.whole
 
 -- what stands of it
 pub stood : {fllen sllen : ℕ} {v : Allocator} → Stands fllen sllen v → StandsFor fllen sllen (contents v.memory v.table) v.state
 unfolding Stands
-stood is = is
+stood is = is.stands
 
-pub stood_at : {fllen sllen : ℕ} {v : Allocator} → StandsFor fllen sllen (contents v.memory v.table) v.state → Stands fllen sllen v
+pub stood_at : {fllen sllen : ℕ} {v : Allocator} → StandsFor fllen sllen (contents v.memory v.table) v.state → v.memory.out ≡ [] → Stands fllen sllen v
 unfolding Stands
-stood_at is = is
+stood_at is whole = record { stands = is; whole = whole }
 
 -- the parts of an allocator over a source stand for its state
 pub flex_stood_at : {S : Type 0} {fllen sllen : ℕ} {terms : S → Terms} {owes : S → List Range → Type 0} {v : FlexContents S} → FlexStandsFor fllen sllen terms owes v → FlexStands fllen sllen terms owes v

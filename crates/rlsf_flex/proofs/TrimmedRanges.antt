@@ -28,6 +28,7 @@ use Rattle.rlsf_flex.proofs.Frames.{outstanding_in}
 use Rattle.rlsf_flex.proofs.Kept.{keeps-dealloc}
 use Rattle.rlsf_flex.proofs.Outside.{KeepsOutside-refl, ever_owed-coverage}
 use Rattle.rlsf_flex.proofs.OutsideNow.{outside_spare}
+use Rattle.rlsf_flex.proofs.Places.{SamePlace-refl, SamePlace-then}
 use Rattle.rlsf_flex.proofs.SpareBytes.{KeepsSpareButFooter-all}
 
 -- ---- the machine's state
@@ -86,7 +87,7 @@ module _ {S : Type 0} {fllen sllen : ℕ} {terms : S → Terms} {owes : S → Li
     counted = refl;
     led = refl;
     machine = refl;
-    place = (refl, refl);
+    place = SamePlace-refl v.memory;
     spare = λ a low high one two. refl;
     stands = stands;
   }
@@ -106,7 +107,7 @@ module _ {S : Type 0} {fllen sllen : ℕ} {terms : S → Terms} {owes : S → Li
         led = subst (λ ns. LeadsBy leads v.source ns x.source) (sym (map-append dealloc h.gone (one.newest ∷ [])))
             (LeadsBy-append leads v.source w.source x.source (map dealloc h.gone) (dealloc one.newest ∷ []) h.led (x.source, one.led, refl));
         machine = one.machine ∙ ap (removed one.newest) h.machine ∙ sym (all_removed-more h.gone one.newest v.state.machine);
-        place = (one.place.0 ∙ h.place.0, one.place.1 ∙ h.place.1);
+        place = SamePlace-then v.memory w.memory x.memory h.place one.place;
         spare = λ a low high first last.
             let middle = all_removed-spare h.gone v.state.machine w.state.machine a h.machine first in
             one.spare a (omega (arith, h.place.0, low)) (omega (arith, h.place.0, h.place.1, high)) middle last ∙ h.spare a low high first middle;

@@ -3,12 +3,13 @@ use Rattle.std.proofs.Common.{ℕ, List, arith, inl, inr, refl}
 use Rattle.std.proofs.lemmas.Bool.{cases_lt}
 use Rattle.rlsf_base.specs.declared.memory.range.Range.{Range}
 use Rattle.rlsf_base.specs.Range.{end_of}
-use Rattle.rlsf_blocks.specs.Laws.{IsUnlent, read_from}
+use Rattle.rlsf_blocks.specs.Laws.{read_from}
 use Rattle.rlsf_blocks.specs.Spare.{IsSpare}
+use Rattle.rlsf_blocks.specs.StandsFor.{IsUnlent}
 use Rattle.rlsf_blocks.proofs.Payloads.Unlent.{words_read_no_payload}
 use Rattle.rlsf_blocks.proofs.Words.Apart.{home_of_used}
 use Rattle.rlsf_flex.specs.Laws.{FlexStatesAreWellFormed, FlexWordsReadNoPayload}
-use Rattle.rlsf_flex.proofs.Frames.{stands_stepped}
+use Rattle.rlsf_flex.proofs.Frames.{stands_kept}
 use Rattle.rlsf_flex.proofs.Standing.{flex_stood}
 use Rattle.rlsf_machine.specs.State.{State}
 use Rattle.rlsf_machine.specs.Terms.{Terms}
@@ -34,5 +35,5 @@ module _ {S : Type 0} (terms : S → Terms) (owes : S → List Range → Type 0)
 
   pub flex_words_read_no_payload : FlexWordsReadNoPayload terms owes
   flex_words_read_no_payload fllen sllen v n h differs =
-      stands_stepped h (record { memory = n; table = v.table; state = read_from n v.state.machine }) (words_read_no_payload fllen sllen v.memory n v.table v.state.machine h.machine differs) refl
-      (λ a low high spare again. differs.bytes a low (spare_unlent h.machine.well_formed a spare)) (differs.start, differs.length)
+      stands_kept h (record { memory = n; table = v.table; state = read_from n v.state.machine }) (words_read_no_payload fllen sllen v.memory n v.table v.state.machine h.machine differs) refl
+      (λ a low high spare again. differs.bytes a low (spare_unlent h.machine.well_formed a spare)) (λ a low spare again. differs.out a low (spare_unlent h.machine.well_formed a spare)) differs.start differs.length

@@ -1,5 +1,5 @@
 -- What an allocator over a source stands for.
-use Rattle.std.specs.Prelude.{◌≡◌, ℕ, true, List, Option}
+use Rattle.std.specs.Prelude.{◌≡◌, ℕ, true, List, [], Option}
 use Rattle.std.specs.Option.{option_map}
 use Rattle.rlsf_base.specs.declared.memory.range.Range.{Range}
 use Rattle.rlsf_base.specs.SizeClass.{IsValid}
@@ -56,10 +56,11 @@ pub record FlexStandsFor {S : Type 0} (fllen sllen : ℕ) (terms : S → Terms) 
   pub owed : owes v.source v.state.pools
   pub footers : (terms v.source).dealloc ≡ true → Footers v.memory v.state.pools
 
--- what is true of every allocator's fields: the parameters are valid, and they stand for its state
+-- what is true of every allocator's fields: the parameters are valid, the fields stand for its state, and no byte of its memory is out
 pub record IsFlexTlsf {S : Type 0} (fl_bits sl_bits fllen sllen : ℕ) (terms : S → Terms) (owes : S → List Range → Type 0) (v : FlexContents S) : Type 0 where
   pub valid : IsValid fl_bits sl_bits fllen sllen
   pub stands : FlexStandsFor fllen sllen terms owes v
+  pub whole : v.memory.out ≡ []
 
 -- the allocator's parts stand for its state
 unfoldable pub FlexStands : {S : Type 0} → ℕ → ℕ → (S → Terms) → (S → List Range → Type 0) → FlexContents S → Type 0

@@ -1,4 +1,5 @@
 -- What private functions' contracts cite.
+pub mod Footing
 pub mod Growth
 pub mod Outside
 pub mod Parts

@@ -23,11 +23,10 @@ ghost use Rattle.rlsf_machine.specs.Sized.{IsSizedFor, live_count};
 ghost use Rattle.rlsf_machine.specs.Trim.{Trims};
 
 use crate::end::{give_back, newest_range};
-use crate::growth::{extend, move_payload};
-use crate::pool::Pool;
+use crate::growth::move_payload;
+use crate::parts::Parts;
 use crate::ranges::GhostRanges;
 use crate::source::{FlexSource, SourceChange};
-use crate::trim::give_idle_back;
 use rlsf_base::classes::pool_size_to_contain_allocation;
 use rlsf_base::memory::{Addr, Layout, Memory};
 use rlsf_int::BitPattern;
@@ -42,11 +41,7 @@ pub struct FlexTlsf<
     const FLLEN: usize,
     const SLLEN: usize,
 > {
-    // No call here answers one of its bitmaps, so it has the widest ones: what works on it knows the lengths alone.
-    tlsf: Tlsf<u128, u128, FLLEN, SLLEN>,
-    kept: Option<Pool>,
-    source: S,
-    owed: GhostRanges,
+    parts: Parts<S, FLLEN, SLLEN>,
     // Of no element: the types bound the lengths, and nothing is kept of them.
     bitmaps: [PhantomData<(FLBitmap, SLBitmap)>; 0],
 }
@@ -62,9 +57,9 @@ impl<
 
     ghost Value = { FlexContents S };
 
-    ghost view = { λ f. flex_contents f.tlsf f.kept f.source f.owed.ranges };
+    ghost view = { λ f. flex_contents f.parts.tlsf f.parts.kept f.parts.source f.parts.owed.ranges };
 
-    ghost invariant = { λ f. IsFlexTlsf FLBitmap.width SLBitmap.width FLLEN SLLEN S.terms S.owes (flex_contents f.tlsf f.kept f.source f.owed.ranges) };
+    ghost invariant = { λ f. IsFlexTlsf FLBitmap.width SLBitmap.width FLLEN SLLEN S.terms S.owes (flex_contents f.parts.tlsf f.parts.kept f.parts.source f.parts.owed.ranges) };
 }
 
 impl<
@@ -92,10 +87,12 @@ impl<
         ensures memory { result.memory ≡ memory }
     {
         FlexTlsf {
-            tlsf: Tlsf::new(memory),
-            kept: None,
-            source,
-            owed: GhostRanges::new(),
+            parts: Parts {
+                tlsf: Tlsf::new(memory),
+                kept: None,
+                source,
+                owed: GhostRanges::new(),
+            },
             bitmaps: [],
         }
     }
@@ -105,7 +102,7 @@ impl<
         ensures source { result.now ≡ self.now.source }
         ensures stands { FlexStands FLLEN SLLEN S.terms S.owes self.now }
     {
-        &self.source
+        &self.parts.source
     }
 
     /// Returns the memory, for reading.
@@ -113,7 +110,7 @@ impl<
         ensures memory { result.now ≡ self.now.memory }
         ensures stands { FlexStands FLLEN SLLEN S.terms S.owes self.now }
     {
-        self.tlsf.memory_ref()
+        self.parts.tlsf.memory_ref()
     }
 
     /// Makes a change of the source once, and returns its result. Nothing else changes.
@@ -125,7 +122,7 @@ impl<
         ensures table { self.new.table ≡ self.old.table }
         ensures stands { FlexStands FLLEN SLLEN S.terms S.owes self.new }
     {
-        change.change(&mut self.source)
+        change.change(&mut self.parts.source)
     }
 
     /// Allocates a payload for a layout, as `Tlsf::allocate` does. If there is no room, the source is asked for more memory:
@@ -165,18 +162,12 @@ impl<
         ensures grow { self.old.memory.touches ≤ self.new.memory.touches }
         ensures copied { self.new.memory.copied ≡ self.old.memory.copied }
     {
-        if let Some(addr) = self.tlsf.allocate(layout) {
+        if let Some(addr) = self.parts.tlsf.allocate(layout) {
             return Some(addr);
         }
         let wanted = pool_size_to_contain_allocation::<FLBitmap, SLBitmap, FLLEN, SLLEN>(layout)?;
-        if extend(
-            wanted,
-            &mut self.tlsf,
-            &mut self.kept,
-            &mut self.source,
-            &mut self.owed,
-        ) {
-            self.tlsf.allocate(layout)
+        if self.parts.extend(wanted) {
+            self.parts.tlsf.allocate(layout)
         } else {
             None
         }
@@ -206,7 +197,7 @@ impl<
         ensures grow { self.old.memory.touches ≤ self.new.memory.touches }
         ensures copied { self.new.memory.copied ≡ self.old.memory.copied }
     {
-        self.tlsf.deallocate(addr, align);
+        self.parts.tlsf.deallocate(addr, align);
     }
 
     /// Deallocates a payload, as `deallocate` does, for a caller that doesn't know its alignment. The state afterwards is the same.
@@ -229,7 +220,7 @@ impl<
         ensures grow { self.old.memory.touches ≤ self.new.memory.touches }
         ensures copied { self.new.memory.copied ≡ self.old.memory.copied }
     {
-        self.tlsf.deallocate_unknown_align(addr);
+        self.parts.tlsf.deallocate_unknown_align(addr);
     }
 
     /// Changes the size of a payload, as `Tlsf::reallocate` does if there is room. Else the source is asked for more memory, as `allocate`
@@ -273,18 +264,12 @@ impl<
         ensures grow_copied { self.old.memory.copied ≤ self.new.memory.copied }
         ensures stays { HasRoomToStay self.old.state.machine (at addr) layout.size → self.new.memory.copied ≡ self.old.memory.copied }
     {
-        if let Some(moved) = self.tlsf.reallocate(addr, layout) {
+        if let Some(moved) = self.parts.tlsf.reallocate(addr, layout) {
             return Some(moved);
         }
         let wanted = pool_size_to_contain_allocation::<FLBitmap, SLBitmap, FLLEN, SLLEN>(layout)?;
-        if extend(
-            wanted,
-            &mut self.tlsf,
-            &mut self.kept,
-            &mut self.source,
-            &mut self.owed,
-        ) {
-            move_payload(&mut self.tlsf, addr, layout)
+        if self.parts.extend(wanted) {
+            move_payload(&mut self.parts.tlsf, addr, layout)
         } else {
             None
         }
@@ -317,7 +302,7 @@ impl<
         ensures grow { self.old.memory.touches ≤ self.new.memory.touches }
         ensures copied { self.new.memory.copied ≡ self.old.memory.copied }
     {
-        self.tlsf.reallocate_no_move(addr, layout)
+        self.parts.tlsf.reallocate_no_move(addr, layout)
     }
 
     /// Returns the number of usable bytes of the payload at `addr`: those from `addr` to the end of its block. They are at least those
@@ -328,7 +313,7 @@ impl<
         requires { IsSome (align_at self.now.state.machine (at addr)) }
         ensures { result ≡ length (bytes_at self.now.state.machine (at addr)) }
     {
-        self.tlsf.allocation_usable_size(addr)
+        self.parts.tlsf.allocation_usable_size(addr)
     }
 
     /// Returns all usable bytes of the payload at `addr`: those from `addr` to the end of its block.
@@ -338,7 +323,7 @@ impl<
         requires { IsSome (align_at self.now.state.machine (at addr)) }
         ensures { result.now ≡ bytes_at self.now.state.machine (at addr) }
     {
-        self.tlsf.payload(addr)
+        self.parts.tlsf.payload(addr)
     }
 
     /// Returns all usable bytes of the payload at `addr`, for writing: those from `addr` to the end of its block. The payload then holds
@@ -360,7 +345,7 @@ impl<
         ensures lengths { (w : List ℕ) → length (bytes_at (written self.old (at addr) (length result.now) w).state.machine (at addr)) ≡ length result.now }
         ensures rest { (w : List ℕ) → LeavesRest FLLEN SLLEN S.terms S.owes self.old (written self.old (at addr) (length result.now) w) }
     {
-        self.tlsf.payload_mut(addr)
+        self.parts.tlsf.payload_mut(addr)
     }
 
     /// Copies the first `len` bytes of the payload at `from` over the first bytes of the payload at `to`. The other bytes of `to` are
@@ -382,7 +367,7 @@ impl<
         ensures touches { self.new.memory.touches ≡ self.old.memory.touches }
         ensures copied { self.new.memory.copied ≡ self.old.memory.copied + len }
     {
-        self.tlsf.copy_payload(from, to, len);
+        self.parts.tlsf.copy_payload(from, to, len);
     }
 
     /// Returns the newest range to the source, as long as that holds no used block. Each range is returned once, with its chunks and free
@@ -407,13 +392,8 @@ impl<
         ensures grow { self.old.memory.touches ≤ self.new.memory.touches }
         ensures copied { self.new.memory.copied ≡ self.old.memory.copied }
     {
-        if self.source.supports_dealloc() {
-            give_idle_back(
-                &mut self.tlsf,
-                &mut self.kept,
-                &mut self.source,
-                &mut self.owed,
-            )
+        if self.parts.source.supports_dealloc() {
+            self.parts.give_idle_back()
         } else {
             0
         }
@@ -427,12 +407,15 @@ impl<
         ensures owes { S.owes result.1 (owed_at_end (S.terms self.source) self.state.pools) }
     {
         let FlexTlsf {
+            parts,
+            bitmaps: _bitmaps,
+        } = self;
+        let Parts {
             tlsf,
             kept,
             mut source,
             owed: _owed,
-            bitmaps: _bitmaps,
-        } = self;
+        } = parts;
         let memory = tlsf.into_memory();
         if source.supports_dealloc() {
             give_back(&memory, &mut source, newest_range(kept));

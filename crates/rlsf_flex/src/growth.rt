@@ -1,6 +1,6 @@
 //! Growth: asks a source for more memory, and inserts the memory that comes.
 
-ghost use Rattle.std.specs.Prelude.{◌≡◌, ◌≢◌, ◌≤◌, ◌<◌, ◌+◌, ℕ, false, None, Some, IfNone, IfSome, length};
+ghost use Rattle.std.specs.Prelude.{◌≡◌, ◌≢◌, ◌≤◌, ◌<◌, ◌+◌, ℕ, [], false, None, Some, IfNone, IfSome, length};
 ghost use Rattle.rlsf_base.specs.Addr.{at};
 ghost use Rattle.rlsf_base.specs.SizeClass.{IsValid};
 ghost use Rattle.rlsf_base.specs.Space.{SamePlace};
@@ -15,9 +15,9 @@ ghost use Rattle.rlsf_machine.specs.PoolLength.{IsPoolSize};
 ghost use Rattle.rlsf_machine.specs.Reallocate.{Keeps};
 ghost use Rattle.rlsf_machine.specs.Sized.{IsSizedFor, live_count};
 
-use crate::footers::{read_footer, write_footer};
+use crate::footers::{read_footer, write_footer, write_footer_if};
+use crate::parts::Parts;
 use crate::pool::Pool;
-use crate::ranges::GhostRanges;
 use crate::source::FlexSource;
 use rlsf_base::memory::{Addr, Layout, Range};
 use rlsf_tlsf::Tlsf;
@@ -51,113 +51,100 @@ fn range_len<S: FlexSource>(source: &S, wanted: usize) -> Option<usize>
     }
 }
 
-/// Asks for a range that is sure to contain `wanted` bytes from a multiple of 32 on, if there is a length for one. Inserts the range.
-fn ask_range<S: FlexSource, const FLLEN: usize, const SLLEN: usize>(
-    source: &mut S,
-    wanted: usize,
-    tlsf: &mut Tlsf<u128, u128, FLLEN, SLLEN>,
-    kept: &mut Option<Pool>,
-    owed: &mut GhostRanges,
-) -> Option<Range>
-    requires valid { IsValid 128 128 FLLEN SLLEN }
-    requires wanted { IsPoolSize FLLEN SLLEN wanted }
-    requires stands { FlexStandsFor FLLEN SLLEN S.terms S.owes (flex_over tlsf.old kept.old source.old owed.old) }
-    ensures step { AskedRange FLLEN SLLEN S.terms S.owes S.leads (flex_over tlsf.old kept.old source.old owed.old)
-        (flex_over tlsf.new kept.new source.new owed.new) wanted result }
-    ensures payloads { KeepsPayloads SLLEN tlsf.old tlsf.new }
-    ensures refused { IfNone result (IsAsBefore tlsf.old tlsf.new) }
-{
-    let len = range_len(source, wanted)?;
-    let range = source.alloc(len)?;
-    let taken = tlsf
-        .insert_free_block_ptr(range)
-        .map_or(0, NonZeroUsize::get);
-    let takes_back = source.supports_dealloc();
-    if takes_back {
-        let (start, len) = words_of(*kept);
-        write_footer(tlsf, range, start, len);
+impl<S: FlexSource, const FLLEN: usize, const SLLEN: usize> Parts<S, FLLEN, SLLEN> {
+    /// Asks for a range that is sure to contain `wanted` bytes from a multiple of 32 on, if there is a length for one. Inserts the range.
+    fn ask_range(&mut self, wanted: usize) -> Option<Range>
+        requires valid { IsValid 128 128 FLLEN SLLEN }
+        requires wanted { IsPoolSize FLLEN SLLEN wanted }
+        requires stands { FlexStandsFor FLLEN SLLEN S.terms S.owes (flex_over self.old) }
+        requires whole { self.old.tlsf.memory.out ≡ [] }
+        ensures step { AskedRange FLLEN SLLEN S.terms S.owes S.leads (flex_over self.old) (flex_over self.new) wanted result }
+        ensures payloads { KeepsPayloads SLLEN self.old.tlsf self.new.tlsf }
+        ensures refused { IfNone result (IsAsBefore self.old.tlsf self.new.tlsf) }
+    {
+        let len = range_len(&self.source, wanted)?;
+        let range = self.source.alloc(len)?;
+        let taken = self
+            .tlsf
+            .insert_free_block_ptr(range)
+            .map_or(0, NonZeroUsize::get);
+        let takes_back = self.source.supports_dealloc();
+        let (start, len) = words_of(self.kept);
+        write_footer_if(takes_back, &mut self.tlsf, range, start, len);
+        self.kept = keeps_pool(&self.source).then_some(Pool { range, len: taken });
+        self.owed.give(range);
+        Some(range)
     }
-    *kept = keeps_pool(source).then_some(Pool { range, len: taken });
-    owed.give(range);
-    Some(range)
-}
 
-/// Asks for growth of the kept range to `len` bytes, if the source can grow it. Appends the new bytes, after the footer has moved.
-fn ask_growth<S: FlexSource, const FLLEN: usize, const SLLEN: usize>(
-    source: &mut S,
-    pool: Pool,
-    wanted: usize,
-    len: usize,
-    tlsf: &mut Tlsf<u128, u128, FLLEN, SLLEN>,
-    kept: &mut Option<Pool>,
-    owed: &mut GhostRanges,
-) -> Option<usize>
-    requires kept { kept.old ≡ Some pool }
-    requires valid { IsValid 128 128 FLLEN SLLEN }
-    requires wanted { IsPoolSize FLLEN SLLEN wanted }
-    requires len { len ≡ pool.len + wanted }
-    requires stands { FlexStandsFor FLLEN SLLEN S.terms S.owes (flex_over tlsf.old kept.old source.old owed.old) }
-    ensures step { AskedGrowth FLLEN SLLEN S.terms S.owes S.leads (flex_over tlsf.old kept.old source.old owed.old)
-        (flex_over tlsf.new kept.new source.new owed.new) (kept_pool pool) len wanted result }
-    ensures payloads { KeepsPayloads SLLEN tlsf.old tlsf.new }
-    ensures refused { IfNone result (IsAsBefore tlsf.old tlsf.new) }
-{
-    let grows = source.supports_realloc_inplace_grow();
-    if !grows {
-        return None;
+    /// Asks for growth of the kept range to `len` bytes, if the source can grow it. Appends the new bytes, after the footer has moved.
+    fn ask_growth(&mut self, pool: Pool, wanted: usize, len: usize) -> Option<usize>
+        requires kept { self.old.kept ≡ Some pool }
+        requires valid { IsValid 128 128 FLLEN SLLEN }
+        requires wanted { IsPoolSize FLLEN SLLEN wanted }
+        requires len { len ≡ pool.len + wanted }
+        requires stands { FlexStandsFor FLLEN SLLEN S.terms S.owes (flex_over self.old) }
+        requires whole { self.old.tlsf.memory.out ≡ [] }
+        ensures step { AskedGrowth FLLEN SLLEN S.terms S.owes S.leads (flex_over self.old) (flex_over self.new) (kept_pool pool) len wanted result }
+        ensures payloads { KeepsPayloads SLLEN self.old.tlsf self.new.tlsf }
+        ensures refused { IfNone result (IsAsBefore self.old.tlsf self.new.tlsf) }
+    {
+        let Parts {
+            tlsf,
+            kept,
+            source,
+            owed,
+        } = self;
+        let grows = source.supports_realloc_inplace_grow();
+        if !grows {
+            return None;
+        }
+        let grown = source.realloc_inplace_grow(pool.range, len)?;
+        let range = Range {
+            start: pool.range.start,
+            len: grown,
+        };
+        if source.supports_dealloc() {
+            let (start, before) = read_footer(tlsf.memory_ref(), pool.range);
+            write_footer(tlsf, range, start, before);
+        }
+        let taken = tlsf.append_free_block_ptr(Range {
+            start: pool.range.start + pool.len,
+            len: grown - pool.len,
+        });
+        *kept = Some(Pool {
+            range,
+            len: pool.len + taken,
+        });
+        owed.grow(grown);
+        Some(grown)
     }
-    let grown = source.realloc_inplace_grow(pool.range, len)?;
-    let range = Range {
-        start: pool.range.start,
-        len: grown,
-    };
-    if source.supports_dealloc() {
-        let (start, before) = read_footer(tlsf.memory_ref(), pool.range);
-        write_footer(tlsf, range, start, before);
-    }
-    let taken = tlsf.append_free_block_ptr(Range {
-        start: pool.range.start + pool.len,
-        len: grown - pool.len,
-    });
-    *kept = Some(Pool {
-        range,
-        len: pool.len + taken,
-    });
-    owed.grow(grown);
-    Some(grown)
-}
 
-/// Asks for `wanted` more bytes: first for growth of the kept range, if there is one. If no growth came, asks for a new range, unless a
-/// pool is kept and the source is contiguous. Returns whether memory came.
-pub(crate) fn extend<S: FlexSource, const FLLEN: usize, const SLLEN: usize>(
-    wanted: usize,
-    tlsf: &mut Tlsf<u128, u128, FLLEN, SLLEN>,
-    kept: &mut Option<Pool>,
-    source: &mut S,
-    owed: &mut GhostRanges,
-) -> bool
-    requires valid { IsValid 128 128 FLLEN SLLEN }
-    requires wanted { IsPoolSize FLLEN SLLEN wanted }
-    requires stands { FlexStandsFor FLLEN SLLEN S.terms S.owes (flex_over tlsf.old kept.old source.old owed.old) }
-    ensures step { Extended FLLEN SLLEN S.terms S.owes S.leads (flex_over tlsf.old kept.old source.old owed.old)
-        (flex_over tlsf.new kept.new source.new owed.new) wanted result }
-    ensures payloads { KeepsPayloads SLLEN tlsf.old tlsf.new }
-    ensures refused { result ≡ false → IsAsBefore tlsf.old tlsf.new }
-{
-    let Some(pool) = *kept else {
-        return ask_range(source, wanted, tlsf, kept, owed).is_some();
-    };
-    let Some(len) = pool.len.checked_add(wanted) else {
-        return false;
-    };
-    if ask_growth(source, pool, wanted, len, tlsf, kept, owed).is_some() {
-        return true;
+    /// Asks for `wanted` more bytes: first for growth of the kept range, if there is one. If no growth came, asks for a new range, unless a
+    /// pool is kept and the source is contiguous. Returns whether memory came.
+    pub(crate) fn extend(&mut self, wanted: usize) -> bool
+        requires valid { IsValid 128 128 FLLEN SLLEN }
+        requires wanted { IsPoolSize FLLEN SLLEN wanted }
+        requires stands { FlexStandsFor FLLEN SLLEN S.terms S.owes (flex_over self.old) }
+        requires whole { self.old.tlsf.memory.out ≡ [] }
+        ensures step { Extended FLLEN SLLEN S.terms S.owes S.leads (flex_over self.old) (flex_over self.new) wanted result }
+        ensures payloads { KeepsPayloads SLLEN self.old.tlsf self.new.tlsf }
+        ensures refused { result ≡ false → IsAsBefore self.old.tlsf self.new.tlsf }
+    {
+        let Some(pool) = self.kept else {
+            return self.ask_range(wanted).is_some();
+        };
+        let Some(len) = pool.len.checked_add(wanted) else {
+            return false;
+        };
+        if self.ask_growth(pool, wanted, len).is_some() {
+            return true;
+        }
+        let is_contiguous = self.source.is_contiguous_growable();
+        if is_contiguous {
+            return false;
+        }
+        self.ask_range(wanted).is_some()
     }
-    let is_contiguous = source.is_contiguous_growable();
-    if is_contiguous {
-        return false;
-    }
-    ask_range(source, wanted, tlsf, kept, owed).is_some()
 }
 
 /// Moves a payload, with all its bytes, into a block that is allocated for it, if there is room for one.

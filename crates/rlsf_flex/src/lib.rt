@@ -8,6 +8,7 @@ mod flex;
 mod footers;
 mod growth;
 mod heap;
+mod parts;
 mod pool;
 mod ranges;
 mod source;

@@ -1,6 +1,6 @@
 //! Trim: returns the newest ranges without a used block to their source.
 
-ghost use Rattle.std.specs.Prelude.{◌≡◌, ◌↔◌, ◌≤◌, ◌<◌, ◌+◌, ◌*◌, ◌^◌, ℕ, List, Some, None, true, false, length, MatchOption, IfSome};
+ghost use Rattle.std.specs.Prelude.{◌≡◌, ◌↔◌, ◌≤◌, ◌<◌, ◌+◌, ◌*◌, ◌^◌, ℕ, List, [], Some, None, true, false, length, MatchOption, IfSome};
 ghost use Rattle.rlsf_base.specs.Range.{end_of};
 ghost use Rattle.rlsf_base.specs.SizeClass.{IsValid};
 ghost use Rattle.rlsf_base.specs.Space.{SamePlace};
@@ -17,8 +17,8 @@ ghost use Rattle.rlsf_machine.specs.Trim.{IsNewestHeld};
 ghost use Rattle.rlsf_tlsf.specs.Allocator.{Stands};
 
 use crate::end::range_before;
+use crate::parts::Parts;
 use crate::pool::Pool;
-use crate::ranges::GhostRanges;
 use crate::source::FlexSource;
 use rlsf_base::memory::Range;
 use rlsf_tlsf::Tlsf;
@@ -77,69 +77,62 @@ fn pool_of<const FLLEN: usize, const SLLEN: usize>(
     }
 }
 
-/// Returns the newest range to the source, if there is one and it holds no used block. The range before it is then the newest. Returns
-/// whether a range was returned.
-fn give_newest_back<S: FlexSource, const FLLEN: usize, const SLLEN: usize>(
-    source: &mut S,
-    tlsf: &mut Tlsf<u128, u128, FLLEN, SLLEN>,
-    kept: &mut Option<Pool>,
-    owed: &mut GhostRanges,
-) -> bool
-    requires supported { (S.terms source.old).dealloc ≡ true }
-    requires stands { FlexStandsFor FLLEN SLLEN S.terms S.owes (flex_over tlsf.old kept.old source.old owed.old) }
-    ensures gone { result ≡ true → GaveNewest FLLEN SLLEN S.terms S.owes S.leads (flex_over tlsf.old kept.old source.old owed.old)
-        (flex_over tlsf.new kept.new source.new owed.new) }
-    ensures held { result ≡ false → IsNewestHeld tlsf.old.state owed.old.ranges }
-    ensures same { result ≡ false → flex_over tlsf.new kept.new source.new owed.new ≡ flex_over tlsf.old kept.old source.old owed.old }
-    ensures live { live_count tlsf.new.state ≡ live_count tlsf.old.state }
-    ensures aligns { align_at tlsf.new.state ≡ align_at tlsf.old.state }
-    ensures bytes { bytes_at tlsf.new.state ≡ bytes_at tlsf.old.state }
-    ensures touches { tlsf.new.memory.touches + 9 * length tlsf.new.state.chunks ≤ tlsf.old.memory.touches + 9 * length tlsf.old.state.chunks }
-    ensures grow { tlsf.old.memory.touches ≤ tlsf.new.memory.touches }
-    ensures copied { tlsf.new.memory.copied ≡ tlsf.old.memory.copied }
-{
-    let Some(pool) = *kept else {
-        return false;
-    };
-    let row = Range {
-        start: pool.range.start,
-        len: pool.len,
-    };
-    if !is_idle(tlsf, row) {
-        return false;
+impl<S: FlexSource, const FLLEN: usize, const SLLEN: usize> Parts<S, FLLEN, SLLEN> {
+    /// Returns the newest range to the source, if there is one and it holds no used block. The range before it is then the newest. Returns
+    /// whether a range was returned.
+    fn give_newest_back(&mut self) -> bool
+        requires supported { (S.terms self.old.source).dealloc ≡ true }
+        requires stands { FlexStandsFor FLLEN SLLEN S.terms S.owes (flex_over self.old) }
+        requires whole { self.old.tlsf.memory.out ≡ [] }
+        ensures gone { result ≡ true → GaveNewest FLLEN SLLEN S.terms S.owes S.leads (flex_over self.old) (flex_over self.new) }
+        ensures held { result ≡ false → IsNewestHeld self.old.tlsf.state self.old.owed.ranges }
+        ensures same { result ≡ false → self.new ≡ self.old }
+        ensures live { live_count self.new.tlsf.state ≡ live_count self.old.tlsf.state }
+        ensures aligns { align_at self.new.tlsf.state ≡ align_at self.old.tlsf.state }
+        ensures bytes { bytes_at self.new.tlsf.state ≡ bytes_at self.old.tlsf.state }
+        ensures touches { self.new.tlsf.memory.touches + 9 * length self.new.tlsf.state.chunks ≤ self.old.tlsf.memory.touches + 9 * length self.old.tlsf.state.chunks }
+        ensures grow { self.old.tlsf.memory.touches ≤ self.new.tlsf.memory.touches }
+        ensures copied { self.new.tlsf.memory.copied ≡ self.old.tlsf.memory.copied }
+    {
+        let Some(pool) = self.kept else {
+            return false;
+        };
+        let row = Range {
+            start: pool.range.start,
+            len: pool.len,
+        };
+        if !is_idle(&self.tlsf, row) {
+            return false;
+        }
+        // The footer goes with its range.
+        let before = range_before(self.tlsf.memory_ref(), pool.range);
+        self.tlsf.remove_pool(row);
+        self.source.dealloc(pool.range);
+        self.owed.drop_newest();
+        let next = pool_of(&self.tlsf, before);
+        self.kept = next;
+        true
     }
-    // The footer goes with its range.
-    let before = range_before(tlsf.memory_ref(), pool.range);
-    tlsf.remove_pool(row);
-    source.dealloc(pool.range);
-    owed.drop_newest();
-    *kept = pool_of(tlsf, before);
-    true
-}
 
-/// Returns the newest range to the source, as long as that holds no used block. The result is the number of these ranges.
-pub(crate) fn give_idle_back<S: FlexSource, const FLLEN: usize, const SLLEN: usize>(
-    tlsf: &mut Tlsf<u128, u128, FLLEN, SLLEN>,
-    kept: &mut Option<Pool>,
-    source: &mut S,
-    owed: &mut GhostRanges,
-) -> usize
-    requires supported { (S.terms source.old).dealloc ≡ true }
-    requires stands { FlexStandsFor FLLEN SLLEN S.terms S.owes (flex_over tlsf.old kept.old source.old owed.old) }
-    ensures gone { GaveBack FLLEN SLLEN S.terms S.owes S.leads (flex_over tlsf.old kept.old source.old owed.old)
-        (flex_over tlsf.new kept.new source.new owed.new) result }
-    ensures held { IsNewestHeld tlsf.new.state owed.new.ranges }
-    ensures same { result ≡ 0 → flex_over tlsf.new kept.new source.new owed.new ≡ flex_over tlsf.old kept.old source.old owed.old }
-    ensures live { live_count tlsf.new.state ≡ live_count tlsf.old.state }
-    ensures aligns { align_at tlsf.new.state ≡ align_at tlsf.old.state }
-    ensures bytes { bytes_at tlsf.new.state ≡ bytes_at tlsf.old.state }
-    ensures touches { tlsf.new.memory.touches + 9 * length tlsf.new.state.chunks ≤ tlsf.old.memory.touches + 9 * length tlsf.old.state.chunks }
-    ensures grow { tlsf.old.memory.touches ≤ tlsf.new.memory.touches }
-    ensures copied { tlsf.new.memory.copied ≡ tlsf.old.memory.copied }
-{
-    let mut count = 0;
-    while give_newest_back(source, tlsf, kept, owed) {
-        count += 1;
+    /// Returns the newest range to the source, as long as that holds no used block. The result is the number of these ranges.
+    pub(crate) fn give_idle_back(&mut self) -> usize
+        requires supported { (S.terms self.old.source).dealloc ≡ true }
+        requires stands { FlexStandsFor FLLEN SLLEN S.terms S.owes (flex_over self.old) }
+        requires whole { self.old.tlsf.memory.out ≡ [] }
+        ensures gone { GaveBack FLLEN SLLEN S.terms S.owes S.leads (flex_over self.old) (flex_over self.new) result }
+        ensures held { IsNewestHeld self.new.tlsf.state self.new.owed.ranges }
+        ensures same { result ≡ 0 → self.new ≡ self.old }
+        ensures live { live_count self.new.tlsf.state ≡ live_count self.old.tlsf.state }
+        ensures aligns { align_at self.new.tlsf.state ≡ align_at self.old.tlsf.state }
+        ensures bytes { bytes_at self.new.tlsf.state ≡ bytes_at self.old.tlsf.state }
+        ensures touches { self.new.tlsf.memory.touches + 9 * length self.new.tlsf.state.chunks ≤ self.old.tlsf.memory.touches + 9 * length self.old.tlsf.state.chunks }
+        ensures grow { self.old.tlsf.memory.touches ≤ self.new.tlsf.memory.touches }
+        ensures copied { self.new.tlsf.memory.copied ≡ self.old.tlsf.memory.copied }
+    {
+        let mut count = 0;
+        while self.give_newest_back() {
+            count += 1;
+        }
+        count
     }
-    count
 }

@@ -1,12 +1,11 @@
-use Rattle.std.proofs.Common.{◌+◌, arith, ap, refl, sym, ◌∙◌, subst}
+use Rattle.std.proofs.Common.{◌+◌, arith, ap, sym, ◌∙◌, subst}
 use Rattle.rlsf_blocks.specs.Spare.{IsSpareWord}
 use Rattle.rlsf_flex.proofs.FooterWords.{IsSpareWord-place, writes_footer}
 use Rattle.rlsf_flex.proofs.footers.write_footer.Goals as goal
 
 pub set_spare_word-requires : goal.set_spare_word-requires
 set_spare_word-requires g c =
-    let old = c.args.tlsf.now.memory in
-    (omega arith, IsSpareWord-place old old c.args.tlsf.now.state _ _ (refl, refl) c.footer_at-footer.ensures c.requires.spare.0)
+    (omega arith, subst (IsSpareWord c.args.tlsf.now.memory c.args.tlsf.now.state) (sym c.footer_at-footer.ensures) c.requires.spare.0)
 
 pub set_spare_word-requires-2 : goal.set_spare_word-requires-2
 set_spare_word-requires-2 g c =
@@ -23,7 +22,7 @@ returns g c = record {
       let one = c.set_spare_word.ensures in
       let two = c.set_spare_word-2.ensures in
       let (start, len) = c.requires.spare in
-      writes_footer c.args.tlsf.now.memory c.set_spare_word.new.self.memory c.set_spare_word-2.new.self.memory c.args.range c.footer_at-footer.result c.args.start c.args.len c.footer_at-footer.ensures start.0 len.0 c.ranges.start.fits c.ranges.len.fits
+      writes_footer c.args.tlsf.now.memory c.set_spare_word.new.self.memory c.set_spare_word-2.new.self.memory c.args.range c.footer_at-footer.result c.args.start c.args.len c.footer_at-footer.ensures c.requires.whole start.0 len.0 c.ranges.start.fits c.ranges.len.fits
       one.place one.bytes two.place two.bytes;
   state = c.set_spare_word-2.ensures.state ∙ c.set_spare_word.ensures.state;
   stands = c.set_spare_word-2.ensures.stands;

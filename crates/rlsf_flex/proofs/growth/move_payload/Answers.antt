@@ -11,7 +11,8 @@ use Rattle.rlsf_tlsf.specs.Allocator.{IsInState}
 use Rattle.rlsf_tlsf.proofs.Standing.{in_state}
 use Rattle.rlsf_flex.specs.Steps.Growth.{MovesTo}
 use Rattle.rlsf_flex.proofs.Moves.{new, Fills-copied, Holds-new, Holds-old, Keeps-front, KeepsSpare-copied, length-front, MovesAway-copied}
-use Rattle.rlsf_flex.proofs.Standing.{opened, stood_at}
+use Rattle.rlsf_flex.proofs.Places.{SamePlace-then}
+use Rattle.rlsf_flex.proofs.Standing.{opened, opened_whole, stood_at}
 use Rattle.rlsf_flex.proofs.growth.move_payload.Given as given
 use Rattle.rlsf_flex.proofs.growth.move_payload.Goals as goal
 use Rattle.rlsf_flex.proofs.growth.move_payload.Goals.{After-deallocate, In_ok-to}
@@ -89,7 +90,7 @@ moves g c =
     let (step, stands, spare) = opened _ _ _ c.in_ok-to.ensures.step in
     let (fills, stands_copied, spare_copied) = opened _ _ _ c.copy_payload.ensures.step in
     let (gone, last, spare_last) = opened _ _ _ c.deallocate.ensures.step in
-    let now : IsInState g.row.FLLEN g.row.SLLEN c.allocate.new.self c.allocate.new.self.state = record { state = refl; stands = stands } in
+    let now : IsInState g.row.FLLEN g.row.SLLEN c.allocate.new.self c.allocate.new.self.state = record { state = refl; stands = stands; whole = opened_whole _ _ _ _ _ c.in_ok-to.ensures.step } in
     let old = Holds-old v addr u holds size align to is short step now in
     let there = Holds-new v addr u holds size align to is short step now in
     let t = c.allocate.new.self.state in
@@ -101,7 +102,7 @@ moves g c =
       block = u;
       holds = holds;
       moves = MovesAway-copied v addr u holds size align to is short step now c.copy_payload.new.self c.deallocate.new.self r c.deallocate.new.self.state filled gone;
-      stands = stood_at last;
+      stands = stood_at last (opened_whole _ _ _ _ _ c.deallocate.ensures.step);
       spare = KeepsSpare-copied v addr u holds size align to is short step now c.copy_payload.new.self c.deallocate.new.self r c.deallocate.new.self.state filled gone c.in_ok-to.ensures.place c.copy_payload.ensures.place spare spare_copied spare_last;
     }
 
@@ -125,7 +126,7 @@ returns g c =
       bytes = λ a from to. three.bytes a from ∙ two.bytes a to ∙ one.bytes a to;
       count = omega (arith, one.count, two.count, three.count);
       bounds = λ count size align sized short fits. three.bounds count size align (two.bounds count size align (one.bounds count size align sized short fits));
-      place = (three.place.0 ∙ two.place.0 ∙ one.place.0, three.place.1 ∙ two.place.1 ∙ one.place.1);
+      place = SamePlace-then c.args.tlsf.now.memory c.copy_payload.new.self.memory c.deallocate.new.self.memory (SamePlace-then c.args.tlsf.now.memory c.allocate.new.self.memory c.copy_payload.new.self.memory one.place two.place) three.place;
       grow = omega (arith, one.grow, two.touches, three.grow);
       grow_copied = omega (arith, one.copied, two.copied, three.copied);
     }

@@ -1,6 +1,7 @@
 use Rattle.std.proofs.Common.{rules, ◌≡◌, ◌≢◌, ◌≤◌, ◌+◌, ℕ, List, true≢false, Option, None, Some, IsSome, IfNone, IfSome, arith, refl, sym, ◌∙◌, ap, subst}
 use Rattle.rlsf_base.specs.Addr.{at, reply}
 use Rattle.rlsf_flex.specs.StandsFor.{flex_contents, FlexSteps}
+use Rattle.rlsf_flex.specs.Steps.Parts.{flex_over}
 use Rattle.rlsf_machine.specs.Allocate.{Allocates}
 use Rattle.rlsf_machine.specs.Callers.{align_at, bytes_at}
 use Rattle.rlsf_machine.specs.FlexAllocate.{FlexAllocates}
@@ -8,6 +9,7 @@ use Rattle.rlsf_machine.specs.Sized.{IsSizedFor, live_count}
 use Rattle.rlsf_table.proofs.Parameters.{IsValid-widest}
 use Rattle.rlsf_tlsf.specs.Allocator.{Allocator, Steps}
 use Rattle.rlsf_flex.proofs.Allocations.{Tried, allocated_in_more, allocated_in_room, allocated_stands, extended_none, more_is_found, no_room, not_none, nothing_asked, nothing_more}
+use Rattle.rlsf_flex.proofs.Places.{SamePlace-then}
 use Rattle.rlsf_flex.proofs.Standing.{flex_opened, opened}
 use Rattle.rlsf_flex.proofs.flex.FlexTlsf.allocate.Given as given
 use Rattle.rlsf_flex.proofs.flex.FlexTlsf.allocate.Goals as goal
@@ -16,14 +18,15 @@ use Rattle.rlsf_flex.proofs.flex.FlexTlsf.allocate.Goals.{In_default, After-allo
 pub invariant_of-self : goal.invariant_of-self
 invariant_of-self g c = record {
   valid = c.self.invariant.valid;
-  stands = allocated_stands c.args.layout.size c.args.layout.align c.allocate.new.self c.in-Some.ensures.place c.self.invariant.stands (Some (at c.in-Some.addr)) c.in-Some.ensures.step;
+  stands = allocated_stands c.args.layout.size c.args.layout.align c.allocate.new.self c.in-Some.ensures.place c.self.invariant.stands c.self.invariant.whole (Some (at c.in-Some.addr)) c.in-Some.ensures.step;
+  whole = c.in-Some.ensures.place.3 c.self.invariant.whole;
 }
 
 pub returns-in-Some : goal.returns-in-Some
 returns-in-Some g c =
     let is = c.in-Some.ensures in
     rw (← c.self.view_is) (record {
-      step = allocated_in_room c.args.layout.size c.args.layout.align c.allocate.new.self is.place c.self.invariant.stands g.S.FlexSource.leads (at c.in-Some.addr) is.step;
+      step = allocated_in_room c.args.layout.size c.args.layout.align c.allocate.new.self is.place c.self.invariant.stands c.self.invariant.whole g.S.FlexSource.leads (at c.in-Some.addr) is.step;
       live = is.live;
       sized = is.sized;
       few = is.few;
@@ -44,27 +47,27 @@ returns-in-Some g c =
 
 -- the first try found no room
 tried : (g : given.Over) (c : In_default g) → Tried g.row.FLLEN g.row.SLLEN g.S.FlexSource.terms g.S.FlexSource.owes c.args.layout.size c.args.layout.align
-    (flex_contents c.self.inside.tlsf c.self.inside.kept c.self.inside.source c.self.inside.owed.ranges) (flex_contents c.allocate.new.self c.self.inside.kept c.self.inside.source c.self.inside.owed.ranges)
+    (flex_over c.self.inside.parts) (flex_contents c.allocate.new.self c.self.inside.parts.kept c.self.inside.parts.source c.self.inside.parts.owed.ranges)
 tried g c =
     let none : c.allocate.result ≡ None = search rules in
-    no_room c.args.layout.size c.args.layout.align c.allocate.new.self c.allocate.ensures.place c.self.invariant.stands
-    (subst (λ o. Steps g.row.FLLEN g.row.SLLEN c.self.inside.tlsf c.allocate.new.self (Allocates g.row.SLLEN c.self.inside.tlsf.state c.args.layout.size c.args.layout.align (reply o))) none c.allocate.ensures.step)
+    no_room c.args.layout.size c.args.layout.align c.allocate.new.self c.allocate.ensures.place c.self.invariant.stands c.self.invariant.whole
+    (subst (λ o. Steps g.row.FLLEN g.row.SLLEN c.self.inside.parts.tlsf c.allocate.new.self (Allocates g.row.SLLEN c.self.inside.parts.tlsf.state c.args.layout.size c.args.layout.align (reply o))) none c.allocate.ensures.step)
 
 -- which isn't so within bounds
-sure : (g : given.Over) (c : In_default g) (count size align : ℕ) → IsSizedFor g.row.SLLEN count size align c.self.inside.tlsf.state → live_count c.self.inside.tlsf.state ≤ count → c.args.layout.size ≤ size
+sure : (g : given.Over) (c : In_default g) (count size align : ℕ) → IsSizedFor g.row.SLLEN count size align c.self.inside.parts.tlsf.state → live_count c.self.inside.parts.tlsf.state ≤ count → c.args.layout.size ≤ size
     → c.args.layout.align ≤ align → ⊥
 sure g c count size align sized few short fits =
     let none : c.allocate.result ≡ None = search rules in
     true≢false (sym (subst IsSome none (c.allocate.ensures.room count size align sized few short fits)))
 
 -- and left each byte
-bytes_stay : (g : given.Over) (c : In_default g) → c.allocate.new.self.memory.bytes ≡ c.self.inside.tlsf.memory.bytes
+bytes_stay : (g : given.Over) (c : In_default g) → c.allocate.new.self.memory.bytes ≡ c.self.inside.parts.tlsf.memory.bytes
 bytes_stay g c =
     let none : c.allocate.result ≡ None = search rules in
-    subst (λ o. IfNone o (c.allocate.new.self.memory.bytes ≡ c.self.inside.tlsf.memory.bytes)) none c.allocate.ensures.refused
+    subst (λ o. IfNone o (c.allocate.new.self.memory.bytes ≡ c.self.inside.parts.tlsf.memory.bytes)) none c.allocate.ensures.refused
 
 pub invariant_of-self-in_err-wanted : goal.invariant_of-self-in_err-wanted
-invariant_of-self-in_err-wanted g c = record { valid = c.self.invariant.valid; stands = (tried g (goal.at.invariant_of-self-in_err-wanted g c).In_default).stands }
+invariant_of-self-in_err-wanted g c = record { valid = c.self.invariant.valid; stands = (tried g (goal.at.invariant_of-self-in_err-wanted g c).In_default).stands; whole = c.allocate.ensures.place.3 c.self.invariant.whole }
 
 pub returns-in_err-wanted : goal.returns-in_err-wanted
 returns-in_err-wanted g c =
@@ -94,34 +97,34 @@ returns-in_err-wanted g c =
 pub extend-requires : goal.extend-requires
 extend-requires g c =
     let stands = (tried g (goal.at.extend-requires g c).In_default).stands in
-    (omega arith, ((IsValid-widest g.FLBitmap.BitPattern.width_limit c.self.invariant.valid), (record { size = c.args.layout.size; align = c.args.layout.align; is = sym c.in_ok-wanted.ensures }, stands)))
+    (omega arith, ((IsValid-widest g.FLBitmap.BitPattern.width_limit c.self.invariant.valid), (record { size = c.args.layout.size; align = c.args.layout.align; is = sym c.in_ok-wanted.ensures }, (stands, c.allocate.ensures.place.3 c.self.invariant.whole))))
 
 -- the first try, as the second sees it
 abbrev HasTried : (g : given.Over) → After-allocate-then-extend g → Type 0
 HasTried g c = Tried g.row.FLLEN g.row.SLLEN g.S.FlexSource.terms g.S.FlexSource.owes c.args.layout.size c.args.layout.align
-    (flex_contents c.self.inside.tlsf c.self.inside.kept c.self.inside.source c.self.inside.owed.ranges) (flex_contents c.allocate.new.self c.self.inside.kept c.self.inside.source c.self.inside.owed.ranges)
+    (flex_over c.self.inside.parts) (flex_contents c.allocate.new.self c.self.inside.parts.kept c.self.inside.parts.source c.self.inside.parts.owed.ranges)
 
 -- the second try is the machine's step in what came
 in_more : (g : given.Over) (c : After-allocate-then-extend g) → HasTried g c
-    → FlexSteps g.row.FLLEN g.row.SLLEN g.S.FlexSource.terms g.S.FlexSource.owes g.S.FlexSource.leads (flex_contents c.self.inside.tlsf c.self.inside.kept c.self.inside.source c.self.inside.owed.ranges)
-    (flex_contents c.allocate-then-extend.new.self c.extend.new.kept c.extend.new.source c.extend.new.owed.ranges)
-    (FlexAllocates g.row.FLLEN g.row.SLLEN (g.S.FlexSource.terms c.self.inside.source) (flex_contents c.self.inside.tlsf c.self.inside.kept c.self.inside.source c.self.inside.owed.ranges).state
+    → FlexSteps g.row.FLLEN g.row.SLLEN g.S.FlexSource.terms g.S.FlexSource.owes g.S.FlexSource.leads (flex_over c.self.inside.parts)
+    (flex_contents c.allocate-then-extend.new.self c.extend.new.self.kept c.extend.new.self.source c.extend.new.self.owed.ranges)
+    (FlexAllocates g.row.FLLEN g.row.SLLEN (g.S.FlexSource.terms c.self.inside.parts.source) (flex_over c.self.inside.parts).state
     c.args.layout.size c.args.layout.align (reply c.allocate-then-extend.result))
 in_more g c tried =
     allocated_in_more c.args.layout.size c.args.layout.align tried (sym c.in_ok-wanted.ensures) c.if-extend.ensures.step c.self.invariant.valid refl
-    c.allocate-then-extend.new.self c.allocate-then-extend.ensures.place (reply c.allocate-then-extend.result) c.allocate-then-extend.ensures.step
+    c.allocate-then-extend.new.self c.allocate-then-extend.ensures.place c.self.invariant.whole (reply c.allocate-then-extend.result) c.allocate-then-extend.ensures.step
 
 pub invariant_of-self-then-extend : goal.invariant_of-self-then-extend
 invariant_of-self-then-extend g c =
     let at = goal.at.invariant_of-self-then-extend g c in
     let (notes, step, leads_by, outside, stands) = flex_opened _ _ _ (in_more g at.After-allocate-then-extend (tried g at.In_default)) in
-    record { valid = c.self.invariant.valid; stands = stands }
+    record { valid = c.self.invariant.valid; stands = stands; whole = c.allocate-then-extend.ensures.place.3 (c.extend.ensures.payloads.place.3 (c.allocate.ensures.place.3 c.self.invariant.whole)) }
 
 -- callers see in what came what they saw before
-aligns_before : (g : given.Over) (c : After-allocate-then-extend g) → HasTried g c → align_at c.extend.new.tlsf.state ≡ align_at c.self.inside.tlsf.state
+aligns_before : (g : given.Over) (c : After-allocate-then-extend g) → HasTried g c → align_at c.extend.new.self.tlsf.state ≡ align_at c.self.inside.parts.tlsf.state
 aligns_before g c tried = c.extend.ensures.payloads.aligns ∙ ap (λ s. align_at s.machine) tried.same
 
-bytes_before : (g : given.Over) (c : After-allocate-then-extend g) → HasTried g c → bytes_at c.extend.new.tlsf.state ≡ bytes_at c.self.inside.tlsf.state
+bytes_before : (g : given.Over) (c : After-allocate-then-extend g) → HasTried g c → bytes_at c.extend.new.self.tlsf.state ≡ bytes_at c.self.inside.parts.tlsf.state
 bytes_before g c tried = c.extend.ensures.payloads.bytes ∙ ap (λ s. bytes_at s.machine) tried.same
 
 -- what came has room, so the second try isn't refused
@@ -129,7 +132,7 @@ found : (g : given.Over) (c : After-allocate-then-extend g) → HasTried g c →
 found g c tried is =
     let (step, stands, spare) = opened _ _ _ c.allocate-then-extend.ensures.step in
     more_is_found c.args.layout.size c.args.layout.align tried (sym c.in_ok-wanted.ensures) c.if-extend.ensures.step c.self.invariant.valid refl
-    (subst (λ o. Allocates g.row.SLLEN c.extend.new.tlsf.state c.args.layout.size c.args.layout.align (reply o) c.allocate-then-extend.new.self.state) is step)
+    (subst (λ o. Allocates g.row.SLLEN c.extend.new.self.tlsf.state c.args.layout.size c.args.layout.align (reply o) c.allocate-then-extend.new.self.state) is step)
 
 pub returns-then-extend : goal.returns-then-extend
 returns-then-extend g c =
@@ -139,6 +142,10 @@ returns-then-extend g c =
     let did = c.allocate.ensures in
     let came = c.extend.ensures.payloads in
     let is = c.allocate-then-extend.ensures in
+    let m = c.self.inside.parts.tlsf.memory in
+    let l = c.allocate.new.self.memory in
+    let k = c.extend.new.self.tlsf.memory in
+    let n = c.allocate-then-extend.new.self.memory in
     rw (← c.self.view_is) (record {
       step = in_more g second first;
       live = is.live;
@@ -153,14 +160,14 @@ returns-then-extend g c =
       bounds = λ count size align sized short fits. is.bounds count size align (came.bounds count size align (did.bounds count size align sized short fits)) short fits;
       same = not_none _ c.allocate-then-extend.result (found g second first);
       refused = not_none _ c.allocate-then-extend.result (found g second first);
-      place = (is.place.0 ∙ came.place.0 ∙ did.place.0, is.place.1 ∙ came.place.1 ∙ did.place.1);
+      place = SamePlace-then m k n (SamePlace-then m l k did.place came.place) is.place;
       touches = λ room. absurd (true≢false (sym (subst IsSome first.full.0 room)));
       grow = omega (arith, did.grow, came.grow, is.grow);
       copied = is.copied ∙ came.copied ∙ did.copied;
     })
 
 pub invariant_of-self-else-extend : goal.invariant_of-self-else-extend
-invariant_of-self-else-extend g c = record { valid = c.self.invariant.valid; stands = c.if-extend.ensures.step.stands }
+invariant_of-self-else-extend g c = record { valid = c.self.invariant.valid; stands = c.if-extend.ensures.step.stands; whole = c.extend.ensures.payloads.place.3 (c.allocate.ensures.place.3 c.self.invariant.whole) }
 
 pub returns-else-extend : goal.returns-else-extend
 returns-else-extend g c =
@@ -183,7 +190,7 @@ returns-else-extend g c =
       bounds = λ count size align sized short fits. came.bounds count size align (did.bounds count size align sized short fits);
       same = extended_none h refl ∙ first.same;
       refused = ap (λ (a : Allocator). a.memory.bytes) (c.if-extend.ensures.refused refl).same ∙ bytes_stay g here;
-      place = (came.place.0 ∙ did.place.0, came.place.1 ∙ did.place.1);
+      place = SamePlace-then c.self.inside.parts.tlsf.memory c.allocate.new.self.memory c.extend.new.self.tlsf.memory did.place came.place;
       touches = λ room. absurd (true≢false (sym (subst IsSome first.full.0 room)));
       grow = omega (arith, did.grow, came.grow);
       copied = came.copied ∙ did.copied;

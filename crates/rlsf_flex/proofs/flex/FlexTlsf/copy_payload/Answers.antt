@@ -8,7 +8,7 @@ use Rattle.rlsf_flex.proofs.flex.FlexTlsf.copy_payload.Goals as goal
 pub invariant_of-self : goal.invariant_of-self
 invariant_of-self g c =
     let is = c.copy_payload.ensures in
-    record { valid = c.self.invariant.valid; stands = stands_alone c.self.invariant.stands c.copy_payload.new.self _ is.place is.chunks is.step }
+    record { valid = c.self.invariant.valid; stands = stands_alone c.self.invariant.stands c.copy_payload.new.self _ is.place c.self.invariant.whole is.chunks is.step; whole = is.place.3 c.self.invariant.whole }
 
 pub copy_payload-requires : goal.copy_payload-requires
 copy_payload-requires g c =
@@ -20,7 +20,7 @@ pub returns : goal.returns
 returns g c =
     let is = c.copy_payload.ensures in
     rw (← c.self.view_is) (record {
-      step = steps_alone c.self.invariant.stands c.copy_payload.new.self _ is.place is.chunks is.step;
+      step = steps_alone c.self.invariant.stands c.copy_payload.new.self _ is.place c.self.invariant.whole is.chunks is.step;
       filled = is.filled;
       bytes = is.bytes;
       count = is.count;

@@ -1,6 +1,7 @@
 use Rattle.std.proofs.Common.{◌≡◌, None, refl, sym, subst}
 use Rattle.rlsf_flex.specs.StandsFor.{FlexStandsFor, flex_contents}
 use Rattle.rlsf_machine.specs.FlexState.{FlexState, empty}
+use Rattle.rlsf_tlsf.proofs.Standing.{in_state}
 use Rattle.rlsf_flex.proofs.EmptyFlex.{FlexStandsFor-empty}
 use Rattle.rlsf_flex.proofs.Standing.{contents_at, flex_stood_at}
 use Rattle.rlsf_flex.proofs.flex.FlexTlsf.new.Given as given
@@ -15,7 +16,11 @@ stands g c =
     (FlexStandsFor-empty g.row.FLLEN g.row.SLLEN g.S.FlexSource.terms g.S.FlexSource.owes c.new.result c.args.memory c.args.source c.new.ensures.state c.new.ensures.stands c.new.ensures.memory c.requires.nothing_owed c.requires.space)
 
 pub invariant_of-result : goal.invariant_of-result
-invariant_of-result g c = record { valid = c.requires.valid; stands = stands g (goal.at.invariant_of-result g c).After-new-2 }
+invariant_of-result g c = record {
+  valid = c.requires.valid;
+  stands = stands g (goal.at.invariant_of-result g c).After-new-2;
+  whole = (in_state g.row.FLLEN g.row.SLLEN c.new.result c.new.ensures.stands).whole;
+}
 
 pub returns : goal.returns
 returns g c = record {

@@ -13,8 +13,10 @@ pub invariant_of-self-lent : goal.invariant_of-self-lent
 invariant_of-self-lent g c = λ w.
     let addr = at c.args.addr in
     let live = subst (λ (old : FlexContents g.row.S.Denot). IsSome (align_at old.state.machine addr)) (sym c.self.view_is) c.requires in
-    let stands = left c.self.invariant.stands addr w live (length c.payload_mut.result.now) (ap length c.payload_mut.ensures.value) (c.payload_mut.ensures.rest w).1 in
-    record { valid = c.self.invariant.valid; stands = stands }
+    let whole = c.self.invariant.whole in
+    let place = (c.payload_mut.ensures.rest w).1 in
+    let stands = left c.self.invariant.stands addr w live (length c.payload_mut.result.now) (ap length c.payload_mut.ensures.value) place whole in
+    record { valid = c.self.invariant.valid; stands = stands; whole = place.3 whole }
 
 pub returns : goal.returns
 returns g c =
@@ -27,7 +29,7 @@ returns g c =
       record {
         writes_back = tt;
         value = is.value;
-        meaning = λ w long. steps_alone stands (written c.self.inside.tlsf addr (length c.payload_mut.result.now) w) _ (is.rest w).1 (is.rest w).0 (is.meaning w long);
+        meaning = λ w long. steps_alone stands (written c.self.inside.parts.tlsf addr (length c.payload_mut.result.now) w) _ (is.rest w).1 c.self.invariant.whole (is.rest w).0 (is.meaning w long);
         filled = is.filled;
         bytes = is.bytes;
         aligns = is.aligns;
@@ -36,6 +38,6 @@ returns g c =
         lengths = is.lengths;
         rest = λ w.
             let (chunks, place, stood, touches, copied) = is.rest w in
-            (chunks, refl, refl, place, flex_stood_at (left stands addr w live (length c.payload_mut.result.now) (ap length is.value) place), touches, copied);
+            (chunks, refl, refl, place, flex_stood_at (left stands addr w live (length c.payload_mut.result.now) (ap length is.value) place c.self.invariant.whole), touches, copied);
       },
     )

@@ -2,6 +2,7 @@ use Rattle.std.specs.declared.num.NonZeroUsize.{NonZeroUsize}
 use Rattle.std.proofs.Common.{rules, ◌≡◌, ◌≢◌, ◌≤◌, ℕ, List, true≢false, Option, Some, None, IfNone, IfSome, IsSome, length, arith, refl, sym, ◌∙◌, ap, subst}
 use Rattle.rlsf_base.specs.Addr.{at, reply}
 use Rattle.rlsf_flex.specs.StandsFor.{FlexContents, flex_contents, FlexSteps}
+use Rattle.rlsf_flex.specs.Steps.Parts.{flex_over}
 use Rattle.rlsf_flex.specs.Steps.Growth.{MovesTo}
 use Rattle.rlsf_machine.specs.Allocate.{Allocates}
 use Rattle.rlsf_machine.specs.Callers.{align_at, bytes_at}
@@ -14,6 +15,7 @@ use Rattle.rlsf_table.proofs.Parameters.{IsValid-widest}
 use Rattle.rlsf_tlsf.specs.Allocator.{Allocator, Steps}
 use Rattle.rlsf_flex.proofs.Allocations.{Tried, extended_none, for_some, more_is_found, not_none, nothing_asked, nothing_more}
 use Rattle.rlsf_flex.proofs.Reallocations.{no_room_to_move, reallocated_in_more, reallocated_in_room, reallocated_stands, refused_move_alone, refused_too, stuck_moves, stuck_short}
+use Rattle.rlsf_flex.proofs.Places.{SamePlace-then}
 use Rattle.rlsf_flex.proofs.Standing.{flex_opened, stood_at}
 use Rattle.rlsf_flex.proofs.flex.FlexTlsf.reallocate.Given as given
 use Rattle.rlsf_flex.proofs.flex.FlexTlsf.reallocate.Goals as goal
@@ -22,14 +24,15 @@ use Rattle.rlsf_flex.proofs.flex.FlexTlsf.reallocate.Goals.{In_default, After-ex
 pub invariant_of-self : goal.invariant_of-self
 invariant_of-self g c = record {
   valid = c.self.invariant.valid;
-  stands = reallocated_stands (at c.args.addr) c.args.layout.size c.args.layout.align c.reallocate.new.self c.in-Some.ensures.place c.self.invariant.stands (Some (at c.in-Some.moved)) c.in-Some.ensures.step;
+  stands = reallocated_stands (at c.args.addr) c.args.layout.size c.args.layout.align c.reallocate.new.self c.in-Some.ensures.place c.self.invariant.stands c.self.invariant.whole (Some (at c.in-Some.moved)) c.in-Some.ensures.step;
+  whole = c.in-Some.ensures.place.3 c.self.invariant.whole;
 }
 
 pub returns-in-Some : goal.returns-in-Some
 returns-in-Some g c =
     let is = c.in-Some.ensures in
     rw (← c.self.view_is) (record {
-      step = reallocated_in_room (at c.args.addr) c.args.layout.size c.args.layout.align c.reallocate.new.self is.place c.self.invariant.stands g.S.FlexSource.leads (at c.in-Some.moved) is.step;
+      step = reallocated_in_room (at c.args.addr) c.args.layout.size c.args.layout.align c.reallocate.new.self is.place c.self.invariant.stands c.self.invariant.whole g.S.FlexSource.leads (at c.in-Some.moved) is.step;
       live = is.live;
       sized = is.sized;
       few = is.few;
@@ -52,37 +55,37 @@ returns-in-Some g c =
     })
 
 -- the first try found no room
-tried : (g : given.Over) (c : In_default g) → (u : Used) × IsStuck c.self.inside.tlsf.state (at c.args.addr) c.args.layout.size u × (u.align ≡ c.args.layout.align)
+tried : (g : given.Over) (c : In_default g) → (u : Used) × IsStuck c.self.inside.parts.tlsf.state (at c.args.addr) c.args.layout.size u × (u.align ≡ c.args.layout.align)
     × Tried g.row.FLLEN g.row.SLLEN g.S.FlexSource.terms g.S.FlexSource.owes c.args.layout.size c.args.layout.align
-    (flex_contents c.self.inside.tlsf c.self.inside.kept c.self.inside.source c.self.inside.owed.ranges) (flex_contents c.reallocate.new.self c.self.inside.kept c.self.inside.source c.self.inside.owed.ranges)
+    (flex_over c.self.inside.parts) (flex_contents c.reallocate.new.self c.self.inside.parts.kept c.self.inside.parts.source c.self.inside.parts.owed.ranges)
 tried g c =
     let addr = at c.args.addr in
     let none : c.reallocate.result ≡ None = search rules in
     let live = subst (λ (old : FlexContents g.row.S.Denot). align_at old.state.machine addr ≡ Some c.args.layout.align) (sym c.self.view_is) c.requires in
-    no_room_to_move addr c.args.layout.size c.args.layout.align c.reallocate.new.self c.reallocate.ensures.place c.self.invariant.stands (align_at-live c.self.inside.tlsf.state addr c.args.layout.align live)
-    (subst (λ o. Steps g.row.FLLEN g.row.SLLEN c.self.inside.tlsf c.reallocate.new.self (Reallocates g.row.SLLEN c.self.inside.tlsf.state addr c.args.layout.size (reply o))) none c.reallocate.ensures.step)
+    no_room_to_move addr c.args.layout.size c.args.layout.align c.reallocate.new.self c.reallocate.ensures.place c.self.invariant.stands c.self.invariant.whole (align_at-live c.self.inside.parts.tlsf.state addr c.args.layout.align live)
+    (subst (λ o. Steps g.row.FLLEN g.row.SLLEN c.self.inside.parts.tlsf c.reallocate.new.self (Reallocates g.row.SLLEN c.self.inside.parts.tlsf.state addr c.args.layout.size (reply o))) none c.reallocate.ensures.step)
 
 -- which isn't so within bounds
-sure : (g : given.Over) (c : In_default g) (count size align : ℕ) → IsSizedFor g.row.SLLEN count size align c.self.inside.tlsf.state → live_count c.self.inside.tlsf.state ≤ count → c.args.layout.size ≤ size
+sure : (g : given.Over) (c : In_default g) (count size align : ℕ) → IsSizedFor g.row.SLLEN count size align c.self.inside.parts.tlsf.state → live_count c.self.inside.parts.tlsf.state ≤ count → c.args.layout.size ≤ size
     → c.args.layout.align ≤ align → ⊥
 sure g c count size align sized few short fits =
     let none : c.reallocate.result ≡ None = search rules in
     true≢false (sym (subst IsSome none (c.reallocate.ensures.room count size align sized few short fits)))
 
 -- and left each byte
-bytes_stay : (g : given.Over) (c : In_default g) → c.reallocate.new.self.memory.bytes ≡ c.self.inside.tlsf.memory.bytes
+bytes_stay : (g : given.Over) (c : In_default g) → c.reallocate.new.self.memory.bytes ≡ c.self.inside.parts.tlsf.memory.bytes
 bytes_stay g c =
     let none : c.reallocate.result ≡ None = search rules in
-    subst (λ o. IfNone o (c.reallocate.new.self.memory.bytes ≡ c.self.inside.tlsf.memory.bytes)) none c.reallocate.ensures.refused
+    subst (λ o. IfNone o (c.reallocate.new.self.memory.bytes ≡ c.self.inside.parts.tlsf.memory.bytes)) none c.reallocate.ensures.refused
 
 -- so the machine's reallocation is refused in the room that there was
-refused_in : (g : given.Over) (c : In_default g) → HasRoomToResize g.row.SLLEN c.self.inside.tlsf.state (at c.args.addr) c.args.layout.size → ⊥
+refused_in : (g : given.Over) (c : In_default g) → HasRoomToResize g.row.SLLEN c.self.inside.parts.tlsf.state (at c.args.addr) c.args.layout.size → ⊥
 refused_in g c (to, m, some) =
     let (u, stuck, is, first) = tried g c in
     refused_move_alone c.self.invariant.stands.machine.well_formed (at c.args.addr) c.args.layout.size c.args.layout.align to u m stuck is first.full some
 
 -- nor would it stay, or take from the block behind
-moves_in : (g : given.Over) (c : In_default g) → HasRoomToStay c.self.inside.tlsf.state (at c.args.addr) c.args.layout.size → ⊥
+moves_in : (g : given.Over) (c : In_default g) → HasRoomToStay c.self.inside.parts.tlsf.state (at c.args.addr) c.args.layout.size → ⊥
 moves_in g c (u, p, holds, some) =
     let (v, stuck, is, first) = tried g c in
     stuck_moves c.self.invariant.stands.machine.well_formed (at c.args.addr) c.args.layout.size u v p stuck holds some
@@ -90,12 +93,12 @@ moves_in g c (u, p, holds, some) =
 pub invariant_of-self-in_err-wanted : goal.invariant_of-self-in_err-wanted
 invariant_of-self-in_err-wanted g c =
     let (u, stuck, is, first) = tried g (goal.at.invariant_of-self-in_err-wanted g c).In_default in
-    record { valid = c.self.invariant.valid; stands = first.stands }
+    record { valid = c.self.invariant.valid; stands = first.stands; whole = c.reallocate.ensures.place.3 c.self.invariant.whole }
 
 pub returns-in_err-wanted : goal.returns-in_err-wanted
 returns-in_err-wanted g c =
-    let now = flex_contents c.self.inside.tlsf c.self.inside.kept c.self.inside.source c.self.inside.owed.ranges in
-    let new = flex_contents c.reallocate.new.self c.self.inside.kept c.self.inside.source c.self.inside.owed.ranges in
+    let now = flex_over c.self.inside.parts in
+    let new = flex_contents c.reallocate.new.self c.self.inside.parts.kept c.self.inside.parts.source c.self.inside.parts.owed.ranges in
     let here = (goal.at.returns-in_err-wanted g c).In_default in
     let (u, stuck, is, first) = tried g here in
     let did = c.reallocate.ensures in
@@ -126,19 +129,19 @@ returns-in_err-wanted g c =
 pub extend-requires : goal.extend-requires
 extend-requires g c =
     let (u, stuck, is, first) = tried g (goal.at.extend-requires g c).In_default in
-    (omega arith, ((IsValid-widest g.FLBitmap.BitPattern.width_limit c.self.invariant.valid), (record { size = c.args.layout.size; align = c.args.layout.align; is = sym c.in_ok-wanted.ensures }, first.stands)))
+    (omega arith, ((IsValid-widest g.FLBitmap.BitPattern.width_limit c.self.invariant.valid), (record { size = c.args.layout.size; align = c.args.layout.align; is = sym c.in_ok-wanted.ensures }, (first.stands, c.reallocate.ensures.place.3 c.self.invariant.whole))))
 
 -- the first try, as what follows sees it
 abbrev HasTried : (g : given.Over) → After-extend g → Type 0
-HasTried g c = (u : Used) × IsStuck c.self.inside.tlsf.state (at c.args.addr) c.args.layout.size u × (u.align ≡ c.args.layout.align)
+HasTried g c = (u : Used) × IsStuck c.self.inside.parts.tlsf.state (at c.args.addr) c.args.layout.size u × (u.align ≡ c.args.layout.align)
     × Tried g.row.FLLEN g.row.SLLEN g.S.FlexSource.terms g.S.FlexSource.owes c.args.layout.size c.args.layout.align
-    (flex_contents c.self.inside.tlsf c.self.inside.kept c.self.inside.source c.self.inside.owed.ranges) (flex_contents c.reallocate.new.self c.self.inside.kept c.self.inside.source c.self.inside.owed.ranges)
+    (flex_over c.self.inside.parts) (flex_contents c.reallocate.new.self c.self.inside.parts.kept c.self.inside.parts.source c.self.inside.parts.owed.ranges)
 
 -- callers see in what came what they saw before
-aligns_before : (g : given.Over) (c : After-extend g) → HasTried g c → align_at c.extend.new.tlsf.state ≡ align_at c.self.inside.tlsf.state
+aligns_before : (g : given.Over) (c : After-extend g) → HasTried g c → align_at c.extend.new.self.tlsf.state ≡ align_at c.self.inside.parts.tlsf.state
 aligns_before g c (u, stuck, is, first) = c.extend.ensures.payloads.aligns ∙ ap (λ s. align_at s.machine) first.same
 
-bytes_before : (g : given.Over) (c : After-extend g) → HasTried g c → bytes_at c.extend.new.tlsf.state ≡ bytes_at c.self.inside.tlsf.state
+bytes_before : (g : given.Over) (c : After-extend g) → HasTried g c → bytes_at c.extend.new.self.tlsf.state ≡ bytes_at c.self.inside.parts.tlsf.state
 bytes_before g c (u, stuck, is, first) = c.extend.ensures.payloads.bytes ∙ ap (λ s. bytes_at s.machine) first.same
 
 pub move_payload-requires : goal.move_payload-requires
@@ -150,38 +153,38 @@ move_payload-requires g c =
     let bytes = bytes_before g here.After-extend (u, stuck, is, first) in
     let well_formed = c.self.invariant.stands.machine.well_formed in
     let live = subst (λ (old : FlexContents g.row.S.Denot). align_at old.state.machine addr ≡ Some c.args.layout.align) (sym c.self.view_is) c.requires in
-    let len : length (bytes_at c.extend.new.tlsf.state addr) ≡ (usable u).len = (λ i. length (bytes i addr)) ∙ ap length (bytes_at-held well_formed addr u stuck.holds) ∙ (well_formed.used u stuck.holds.0).bytes in
-    (omega arith, (stood_at c.if-extend.ensures.step.stands.machine, ((λ i. aligns i addr) ∙ live, omega (arith, len, stuck_short well_formed addr c.args.layout.size u stuck))))
+    let len : length (bytes_at c.extend.new.self.tlsf.state addr) ≡ (usable u).len = (λ i. length (bytes i addr)) ∙ ap length (bytes_at-held well_formed addr u stuck.holds) ∙ (well_formed.used u stuck.holds.0).bytes in
+    (omega arith, (stood_at c.if-extend.ensures.step.stands.machine (c.extend.ensures.payloads.place.3 (c.reallocate.ensures.place.3 c.self.invariant.whole)), ((λ i. aligns i addr) ∙ live, omega (arith, len, stuck_short well_formed addr c.args.layout.size u stuck))))
 
 -- the payload isn't refused what came for it
 found : (g : given.Over) (c : After-move_payload g) → Tried g.row.FLLEN g.row.SLLEN g.S.FlexSource.terms g.S.FlexSource.owes c.args.layout.size c.args.layout.align
-    (flex_contents c.self.inside.tlsf c.self.inside.kept c.self.inside.source c.self.inside.owed.ranges) (flex_contents c.reallocate.new.self c.self.inside.kept c.self.inside.source c.self.inside.owed.ranges)
+    (flex_over c.self.inside.parts) (flex_contents c.reallocate.new.self c.self.inside.parts.kept c.self.inside.parts.source c.self.inside.parts.owed.ranges)
     → c.move_payload.result ≡ None → ⊥
 found g c first none =
-    let m = c.extend.new.tlsf.state in
+    let m = c.extend.new.self.tlsf.state in
     more_is_found c.args.layout.size c.args.layout.align first (sym c.in_ok-wanted.ensures) c.if-extend.ensures.step c.self.invariant.valid refl
     (subst (λ o. IfNone o (Allocates g.row.SLLEN m c.args.layout.size c.args.layout.align None m)) none c.move_payload.ensures.refused)
 
 -- it moves there, which is the machine's step
-in_more : (g : given.Over) (c : After-move_payload g) (u : Used) → IsStuck c.self.inside.tlsf.state (at c.args.addr) c.args.layout.size u → u.align ≡ c.args.layout.align
+in_more : (g : given.Over) (c : After-move_payload g) (u : Used) → IsStuck c.self.inside.parts.tlsf.state (at c.args.addr) c.args.layout.size u → u.align ≡ c.args.layout.align
     → Tried g.row.FLLEN g.row.SLLEN g.S.FlexSource.terms g.S.FlexSource.owes c.args.layout.size c.args.layout.align
-    (flex_contents c.self.inside.tlsf c.self.inside.kept c.self.inside.source c.self.inside.owed.ranges) (flex_contents c.reallocate.new.self c.self.inside.kept c.self.inside.source c.self.inside.owed.ranges)
+    (flex_over c.self.inside.parts) (flex_contents c.reallocate.new.self c.self.inside.parts.kept c.self.inside.parts.source c.self.inside.parts.owed.ranges)
     → (o : Option NonZeroUsize) → c.move_payload.result ≡ o
-    → FlexSteps g.row.FLLEN g.row.SLLEN g.S.FlexSource.terms g.S.FlexSource.owes g.S.FlexSource.leads (flex_contents c.self.inside.tlsf c.self.inside.kept c.self.inside.source c.self.inside.owed.ranges)
-    (flex_contents c.move_payload.new.tlsf c.extend.new.kept c.extend.new.source c.extend.new.owed.ranges)
-    (FlexReallocates g.row.FLLEN g.row.SLLEN (g.S.FlexSource.terms c.self.inside.source) (flex_contents c.self.inside.tlsf c.self.inside.kept c.self.inside.source c.self.inside.owed.ranges).state (at c.args.addr) c.args.layout.size (reply o))
+    → FlexSteps g.row.FLLEN g.row.SLLEN g.S.FlexSource.terms g.S.FlexSource.owes g.S.FlexSource.leads (flex_over c.self.inside.parts)
+    (flex_contents c.move_payload.new.tlsf c.extend.new.self.kept c.extend.new.self.source c.extend.new.self.owed.ranges)
+    (FlexReallocates g.row.FLLEN g.row.SLLEN (g.S.FlexSource.terms c.self.inside.parts.source) (flex_over c.self.inside.parts).state (at c.args.addr) c.args.layout.size (reply o))
 in_more g c u stuck is first None e = absurd (found g c first e)
 in_more g c u stuck is first (Some to) e =
-    let now = flex_contents c.self.inside.tlsf c.self.inside.kept c.self.inside.source c.self.inside.owed.ranges in
-    let moved = subst (λ o. IfSome o (λ to. MovesTo g.row.FLLEN g.row.SLLEN c.extend.new.tlsf c.move_payload.new.tlsf (at c.args.addr) c.args.layout.size (at to))) e c.move_payload.ensures.step in
-    reallocated_in_more (at c.args.addr) c.args.layout.size c.args.layout.align g.S.FlexSource.leads now stuck is first (sym c.in_ok-wanted.ensures) c.if-extend.ensures.step c.move_payload.new.tlsf refl c.move_payload.ensures.place moved
+    let now = flex_over c.self.inside.parts in
+    let moved = subst (λ o. IfSome o (λ to. MovesTo g.row.FLLEN g.row.SLLEN c.extend.new.self.tlsf c.move_payload.new.tlsf (at c.args.addr) c.args.layout.size (at to))) e c.move_payload.ensures.step in
+    reallocated_in_more (at c.args.addr) c.args.layout.size c.args.layout.align g.S.FlexSource.leads now stuck is first (sym c.in_ok-wanted.ensures) c.if-extend.ensures.step c.move_payload.new.tlsf refl c.move_payload.ensures.place c.self.invariant.whole moved
 
 pub invariant_of-self-then-extend : goal.invariant_of-self-then-extend
 invariant_of-self-then-extend g c =
     let here = goal.at.invariant_of-self-then-extend g c in
     let (u, stuck, is, first) = tried g here.In_default in
     let (notes, step, leads_by, outside, stands) = flex_opened _ _ _ (in_more g here.After-move_payload u stuck is first c.move_payload.result refl) in
-    record { valid = c.self.invariant.valid; stands = stands }
+    record { valid = c.self.invariant.valid; stands = stands; whole = c.move_payload.ensures.place.3 (c.extend.ensures.payloads.place.3 (c.reallocate.ensures.place.3 c.self.invariant.whole)) }
 
 pub returns-then-extend : goal.returns-then-extend
 returns-then-extend g c =
@@ -191,6 +194,10 @@ returns-then-extend g c =
     let did = c.reallocate.ensures in
     let came = c.extend.ensures.payloads in
     let is = c.move_payload.ensures in
+    let m = c.self.inside.parts.tlsf.memory in
+    let l = c.reallocate.new.self.memory in
+    let k = c.extend.new.self.tlsf.memory in
+    let n = c.move_payload.new.tlsf.memory in
     let aligns = aligns_before g here.After-extend had in
     let bytes = bytes_before g here.After-extend had in
     rw (← c.self.view_is) (record {
@@ -201,7 +208,7 @@ returns-then-extend g c =
       kept = subst (λ (before : ℕ → List ℕ). IfSome c.move_payload.result (λ to. Keeps (before (at c.args.addr)) (bytes_at c.move_payload.new.tlsf.state (at to)))) bytes is.kept;
       new =
           let new = subst (λ (before : ℕ → Option ℕ). IfSome c.move_payload.result (λ to. before (at to) ≡ None)) aligns is.new in
-          for_some c.move_payload.result (λ to some. λ off. subst (λ o. IfSome o (λ to. align_at c.self.inside.tlsf.state (at to) ≡ None)) some new);
+          for_some c.move_payload.result (λ to some. λ off. subst (λ o. IfSome o (λ to. align_at c.self.inside.parts.tlsf.state (at to) ≡ None)) some new);
       aligns = subst (λ (before : ℕ → Option ℕ). IfSome c.move_payload.result (λ to. (a : ℕ) → a ≢ at c.args.addr → a ≢ at to → align_at c.move_payload.new.tlsf.state a ≡ before a)) aligns is.aligns;
       bytes = subst (λ (before : ℕ → List ℕ). IfSome c.move_payload.result (λ to. (a : ℕ) → a ≢ at c.args.addr → a ≢ at to → bytes_at c.move_payload.new.tlsf.state a ≡ before a)) bytes is.bytes;
       room = λ count size align sized few short fits. absurd (sure g here.In_default count size align sized few short fits);
@@ -210,7 +217,7 @@ returns-then-extend g c =
       bounds = λ count size align sized short fits. is.bounds count size align (came.bounds count size align (did.bounds count size align sized short fits)) short fits;
       same = not_none _ c.move_payload.result (found g here.After-move_payload first);
       refused = not_none _ c.move_payload.result (found g here.After-move_payload first);
-      place = (is.place.0 ∙ came.place.0 ∙ did.place.0, is.place.1 ∙ came.place.1 ∙ did.place.1);
+      place = SamePlace-then m k n (SamePlace-then m l k did.place came.place) is.place;
       touches = λ room. absurd (refused_in g here.In_default room);
       grow = omega (arith, did.grow, came.grow, is.grow);
       copied = λ room. absurd (refused_in g here.In_default room);
@@ -219,12 +226,12 @@ returns-then-extend g c =
     })
 
 pub invariant_of-self-else-extend : goal.invariant_of-self-else-extend
-invariant_of-self-else-extend g c = record { valid = c.self.invariant.valid; stands = c.if-extend.ensures.step.stands }
+invariant_of-self-else-extend g c = record { valid = c.self.invariant.valid; stands = c.if-extend.ensures.step.stands; whole = c.extend.ensures.payloads.place.3 (c.reallocate.ensures.place.3 c.self.invariant.whole) }
 
 pub returns-else-extend : goal.returns-else-extend
 returns-else-extend g c =
-    let now = flex_contents c.self.inside.tlsf c.self.inside.kept c.self.inside.source c.self.inside.owed.ranges in
-    let new = flex_contents c.extend.new.tlsf c.extend.new.kept c.extend.new.source c.extend.new.owed.ranges in
+    let now = flex_over c.self.inside.parts in
+    let new = flex_over c.extend.new.self in
     let here = (goal.at.returns-else-extend g c).In_default in
     let (u, stuck, is, first) = tried g here in
     let did = c.reallocate.ensures in
@@ -246,7 +253,7 @@ returns-else-extend g c =
       bounds = λ count size align sized short fits. came.bounds count size align (did.bounds count size align sized short fits);
       same = extended_none h refl ∙ first.same;
       refused = ap (λ (a : Allocator). a.memory.bytes) (c.if-extend.ensures.refused refl).same ∙ bytes_stay g here;
-      place = (came.place.0 ∙ did.place.0, came.place.1 ∙ did.place.1);
+      place = SamePlace-then c.self.inside.parts.tlsf.memory c.reallocate.new.self.memory c.extend.new.self.tlsf.memory did.place came.place;
       touches = λ room. absurd (refused_in g here room);
       grow = omega (arith, did.grow, came.grow);
       copied = λ room. absurd (refused_in g here room);

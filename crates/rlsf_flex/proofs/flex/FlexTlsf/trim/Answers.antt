@@ -1,15 +1,16 @@
-use Rattle.std.proofs.Common.{arith, refl, sym, ◌∙◌}
-use Rattle.rlsf_flex.specs.StandsFor.{flex_contents}
+use Rattle.std.proofs.Common.{ap, arith, refl, sym, ◌∙◌}
+use Rattle.rlsf_flex.specs.Steps.Parts.{flex_over}
+use Rattle.rlsf_flex.proofs.Places.{SamePlace-refl}
 use Rattle.rlsf_flex.proofs.TrimmedRanges.{not_trimmed, trimmed}
 use Rattle.rlsf_flex.proofs.flex.FlexTlsf.trim.Goals as goal
 
 pub invariant_of-self : goal.invariant_of-self
-invariant_of-self g c = record { valid = c.self.invariant.valid; stands = c.give_idle_back.ensures.gone.stands }
+invariant_of-self g c = record { valid = c.self.invariant.valid; stands = c.give_idle_back.ensures.gone.stands; whole = c.give_idle_back.ensures.gone.place.3 c.self.invariant.whole }
 
 pub returns-then-supports_dealloc : goal.returns-then-supports_dealloc
 returns-then-supports_dealloc g c =
-    let now = flex_contents c.self.inside.tlsf c.self.inside.kept c.self.inside.source c.self.inside.owed.ranges in
-    let new = flex_contents c.give_idle_back.new.tlsf c.give_idle_back.new.kept c.give_idle_back.new.source c.give_idle_back.new.owed.ranges in
+    let now = flex_over c.self.inside.parts in
+    let new = flex_over c.give_idle_back.new.self in
     let takes = sym c.supports_dealloc.ensures ∙ c.if-supports_dealloc.true in
     let is = c.give_idle_back.ensures in
     rw (← c.self.view_is) (record {
@@ -18,7 +19,7 @@ returns-then-supports_dealloc g c =
       aligns = is.aligns;
       count = is.live;
       bytes = is.bytes;
-      same = is.same;
+      same = λ none. ap flex_over (is.same none);
       place = is.gone.place;
       touches = is.touches;
       grow = is.grow;
@@ -27,7 +28,7 @@ returns-then-supports_dealloc g c =
 
 pub returns-else-supports_dealloc : goal.returns-else-supports_dealloc
 returns-else-supports_dealloc g c =
-    let now = flex_contents c.self.inside.tlsf c.self.inside.kept c.self.inside.source c.self.inside.owed.ranges in
+    let now = flex_over c.self.inside.parts in
     let lacks = sym c.supports_dealloc.ensures ∙ c.if-supports_dealloc.false in
     rw (← c.self.view_is) (record {
       step = not_trimmed g.S.FlexSource.leads now c.self.invariant.stands lacks;
@@ -36,7 +37,7 @@ returns-else-supports_dealloc g c =
       count = refl;
       bytes = refl;
       same = λ none. refl;
-      place = (refl, refl);
+      place = SamePlace-refl c.self.inside.parts.tlsf.memory;
       touches = omega arith;
       grow = omega arith;
       copied = refl;

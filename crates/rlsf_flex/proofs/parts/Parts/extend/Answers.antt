@@ -2,12 +2,12 @@ use Rattle.std.proofs.Common.{rules, ◌≡◌, ◌+◌, None, true, false, true
 use Rattle.rlsf_flex.specs.StandsFor.{kept_of}
 use Rattle.rlsf_flex.proofs.Asks.{extended_first, extended_grown, extended_past, extended_refused, extended_second, if_none, sum_fits, sum_past, terms_stay}
 use Rattle.rlsf_flex.proofs.KeptPayloads.{KeepsPayloads-refl, KeepsPayloads-trans}
-use Rattle.rlsf_flex.proofs.growth.extend.Goals as goal
+use Rattle.rlsf_flex.proofs.parts.Parts.extend.Goals as goal
 
 pub returns-in_default : goal.returns-in_default
 returns-in_default g c = record {
   step =
-      let none : c.args.kept.now ≡ None = search rules in
+      let none : c.args.self.now.kept ≡ None = search rules in
       extended_first (ap kept_of none) c.is_some.ensures c.ask_range.ensures.step;
   payloads = c.ask_range.ensures.payloads;
   refused = λ none. if_none c.ask_range.result c.ask_range.ensures.refused (sym c.is_some.ensures ∙ none);
@@ -17,7 +17,7 @@ pub returns-in_default-checked_add : goal.returns-in_default-checked_add
 returns-in_default-checked_add g c = record {
   step =
       extended_past (ap kept_of c.in-Some.is) (sum_past c.checked_add.result (c.in-Some.pool.len + c.args.wanted) c.checked_add.ensures c.in_default-checked_add.is) c.requires.stands;
-  payloads = KeepsPayloads-refl c.args.tlsf.now;
+  payloads = KeepsPayloads-refl c.args.self.now.tlsf;
   refused = λ none. record { same = refl };
 }
 
@@ -33,7 +33,7 @@ returns-then-is_some g c = record {
 pub returns-then-is_contiguous : goal.returns-then-is_contiguous
 returns-then-is_contiguous g c = record {
   step =
-      let one_range : (g.S.FlexSource.terms c.ask_growth.new.source).contiguous ≡ true = sym c.is_contiguous_growable-is_contiguous.ensures ∙ c.if-is_contiguous.true in
+      let one_range : (g.S.FlexSource.terms c.ask_growth.new.self.source).contiguous ≡ true = sym c.is_contiguous_growable-is_contiguous.ensures ∙ c.if-is_contiguous.true in
       let fits = sum_fits c.checked_add.result (c.in-Some.pool.len + c.args.wanted) c.in-Some-checked_add.len c.checked_add.ensures c.in-Some-checked_add.is in
       let kept = ap kept_of c.in-Some.is in
       let h = c.ask_growth.ensures.step in
@@ -46,7 +46,7 @@ returns-then-is_contiguous g c = record {
 pub returns : goal.returns
 returns g c = record {
   step =
-      let many_ranges : (g.S.FlexSource.terms c.ask_growth.new.source).contiguous ≡ false = sym c.is_contiguous_growable-is_contiguous.ensures ∙ c.if-is_contiguous.false in
+      let many_ranges : (g.S.FlexSource.terms c.ask_growth.new.self.source).contiguous ≡ false = sym c.is_contiguous_growable-is_contiguous.ensures ∙ c.if-is_contiguous.false in
       let fits = sum_fits c.checked_add.result (c.in-Some.pool.len + c.args.wanted) c.in-Some-checked_add.len c.checked_add.ensures c.in-Some-checked_add.is in
       let kept = ap kept_of c.in-Some.is in
       let h = c.ask_growth.ensures.step in
