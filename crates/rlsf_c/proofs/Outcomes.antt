@@ -60,7 +60,7 @@ addr_in-same (Err e) = sym (addr_in-refused e)
 -- ---- what is seen
 
 pub same_range : (m n : Space) → SamePlace m n → range_of n ≡ range_of m
-same_range m n (start, len) = ap₂ range_at start len
+same_range m n place = ap₂ range_at place.0 place.1
 
 abbrev seen_at : ℕ → State → Range → Range → Seen
 seen_at classes state memory pool = record { classes = classes; state = state; memory = memory; pool = pool }

@@ -116,7 +116,7 @@ made heap m stands none zeros covers = record {
 -- every address of what was handed in last fits in a word
 pub pool_fits : {fllen sllen : ℕ} {v : Allocator} {m : Marks} {pool : Range} → IsChecked fllen sllen v m pool → end_of pool < 2 ^ 64
 unfolding Stands
-pool_fits is = omega (arith, is.high, is.stands.well_formed.addressable)
+pool_fits is = omega (arith, is.high, is.stands.stands.well_formed.addressable)
 
 -- where nothing is taken, nothing changes
 pub none_taken : (fllen : ℕ) (s t : State) (r : Range) → Inserts fllen s r None t → t ≡ s
@@ -229,7 +229,7 @@ module _ {fllen sllen : ℕ} {v : Allocator} {m : Marks} {pool : Range} (is : Is
   unfolding Stands
   whole_start =
       let (c, i, ends) = last_chunk is some in
-      let whole = (is.stands.well_formed.chunks c i).whole in
+      let whole = (is.stands.stands.well_formed.chunks c i).whole in
       omega (arith, whole.start, whole.len, ends, next)
 
   longer_row : (w : Allocator) (n : ℕ) → Appends fllen v.state r n w.state → IsRow w.state (walked (range_at pool.start (pool.len + n)))
@@ -239,7 +239,7 @@ module _ {fllen sllen : ℕ} {v : Allocator} {m : Marks} {pool : Range} (is : Is
       let p = walked pool in
       let ends : end_of p ≡ r.start = omega (arith, room, next) in
       let long : p.len + n ≡ pool.start + (pool.len + n) - p.start = omega (arith, room) in
-      subst (λ l. IsRow w.state (range_at p.start l)) long (IsRow-appended is.stands.well_formed r p ends (omega (arith, room)) is.row n w.state step)
+      subst (λ l. IsRow w.state (range_at p.start l)) long (IsRow-appended is.stands.stands.well_formed r p ends (omega (arith, room)) is.row n w.state step)
 
   -- what was handed in last is longer by what was taken
   pub handed_on : (w : Allocator) → Stands fllen sllen w → SamePlace v.memory w.memory → align_at w.state ≡ align_at v.state → (n : ℕ) → Appends fllen v.state r n w.state

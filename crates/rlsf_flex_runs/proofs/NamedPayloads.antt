@@ -11,7 +11,6 @@ use Rattle.rlsf_blocks.specs.Spare.{KeepsSpare}
 use Rattle.rlsf_flex.specs.Outside.{KeepsOutside}
 use Rattle.rlsf_flex.specs.StandsFor.{FlexContents, FlexStandsFor, StepsAlone}
 use Rattle.rlsf_flex.proofs.Outside.{KeepsOutside-refl, KeepsOutside-spare}
-use Rattle.rlsf_flex.proofs.Standing.{inner_in}
 use Rattle.rlsf_flex_runs.specs.FlexRuns.{DoesFlex, with_run, without_source}
 use Rattle.rlsf_flex_runs.specs.Steps.Names.{IsFlexAt, LeadsOn, MakesFlex, named_in, no_call, run_of}
 use Rattle.rlsf_flex_runs.proofs.FlexEvents.{made-deallocate, made-fill, made-unmoved}
@@ -22,9 +21,9 @@ use Rattle.rlsf_machine.specs.NoMove.{ReallocatesWithoutMove}
 use Rattle.rlsf_machine.specs.Note.{Note, LeadsBy}
 use Rattle.rlsf_machine.specs.Release.{Deallocates}
 use Rattle.rlsf_machine.specs.Run.{deallocate, fill, Fills}
-use Rattle.rlsf_machine.specs.State.{State, Used, Holds, usable}
+use Rattle.rlsf_machine.specs.State.{State, Used, Holds, IsLive, usable}
 use Rattle.rlsf_machine.specs.Terms.{Terms}
-use Rattle.rlsf_machine.proofs.CallerWords.{align_at-live}
+use Rattle.rlsf_machine.proofs.CallerWords.{align_at-held, align_at-live, bytes_at-held}
 use Rattle.rlsf_runs.specs.declared.names.Payload.{Payload}
 use Rattle.rlsf_runs.specs.Events.{IsDoneBy}
 use Rattle.rlsf_runs.specs.Names.{address, AreNamed, NameTable}
@@ -35,7 +34,6 @@ use Rattle.rlsf_text.specs.declared.op.Answer.TheVariants.{Done, Placed, Refused
 use Rattle.rlsf_text.specs.declared.op.Op.{Op}
 use Rattle.rlsf_text.specs.declared.op.Op.TheVariants.{Insert, Append, ReallocNoMove, Block as OpBlock}
 use Rattle.rlsf_text.specs.declared.op.TraceError.TheVariants.{NotForFlex}
-use Rattle.rlsf_tlsf.proofs.Standing.{bytes_in, live_in, some_live_in}
 
 -- names whose payloads a table has are the table's
 pub named-in : {s : State} {table : NameTable} {named : ℕ → Option ℕ} → AreNamed s table named → named ≡ named_in table
@@ -75,15 +73,18 @@ module _ {S : Type 0} {fllen sllen : ℕ} {terms : S → Terms} {owes : S → Li
       → (u : Used) × Owns (without_source (run_of v table)) name u × Holds v.state.machine (address p) u × (bytes_at v.state.machine (address p) ≡ u.bytes) × (length u.bytes ≡ (usable u).len)
   owned name p is =
       let (u, owns, holds, _) = owned_live at.are_named name p is in
-      (u, owns, holds, bytes_in (inner_in at.stands) (address p) u holds, (at.stands.machine.well_formed.used u owns.0).bytes)
+      (u, owns, holds, bytes_at-held at.stands.machine.well_formed (address p) u holds, (at.stands.machine.well_formed.used u owns.0).bytes)
+
+  live_in : (addr align : ℕ) → IsLive v.state.machine addr align → align_at v.state.machine addr ≡ Some align
+  live_in addr align (u, held, same) = subst (λ a. align_at v.state.machine addr ≡ Some a) same (align_at-held at.stands.machine.well_formed addr u held)
 
   -- it is live with its alignment
   pub live : (name : ℕ) (p : Payload) → get nat_eq table name ≡ Some p → align_at v.state.machine (address p) ≡ Some p.align
-  live name p is = live_in (inner_in at.stands) (address p) p.align (at.are_named.live name p is)
+  live name p is = live_in (address p) p.align (at.are_named.live name p is)
 
   -- and so with some
   pub some_live : (name : ℕ) (p : Payload) → get nat_eq table name ≡ Some p → IsSome (align_at v.state.machine (address p))
-  some_live name p is = let (u, _, holds, _, _) = owned name p is in some_live_in (inner_in at.stands) (address p) (u, holds)
+  some_live name p is = let (u, _, holds, _, _) = owned name p is in subst IsSome (sym (align_at-held at.stands.machine.well_formed (address p) u holds)) refl
 
   module _ {leads : S → Note → S → Type 0} where
     -- an op that changes nothing
@@ -145,7 +146,7 @@ module _ {S : Type 0} {fllen sllen : ℕ} {terms : S → Terms} {owes : S → Li
             ),
             made-unmoved (address p) size said (address p, refl) step same,
             AreNamed-kept at.are_named w.state.machine
-                (λ a align live. align_at-live w.state.machine a align (ap (λ f. f a) aligns ∙ live_in (inner_in at.stands) a align live)),
+                (λ a align live. align_at-live w.state.machine a align (ap (λ f. f a) aligns ∙ live_in a align live)),
           ))
 
       -- the bytes of a payload were written

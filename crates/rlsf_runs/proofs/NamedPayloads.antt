@@ -88,7 +88,7 @@ module _ {fllen sllen : ℕ} {v : Allocator} {tables : Tables} {s : RunState} (a
   pub not_freed : {new : Tables} (name : ℕ) → get nat_eq tables.names name ≡ None → new.pools ≡ tables.pools → IsSetAt name None tables.names new.names
       → (r : RunState) × ((s.named name ≡ None) × (r ≡ s)) × IsAt fllen sllen v new r × KeepsSpare v.memory s.machine v.memory r.machine
   not_freed name none same taken =
-      (s, (unnamed at.named name none, refl), IsAt-named (refl, refl) s.machine at.stands refl same (AreNamed-untaken at.named name none taken), λ a from to was is. refl)
+      (s, (unnamed at.named name none, refl), IsAt-named (refl, refl, refl, λ none. none) s.machine at.stands refl same (AreNamed-untaken at.named name none taken), λ a from to was is. refl)
 
   -- the payload of a name was given back
   pub freed : {w : Allocator} {new : Tables} → SamePlace v.memory w.memory → (t : State) → IsInState fllen sllen w t → KeepsSpare v.memory s.machine w.memory t → (name : ℕ) (p : Payload)

@@ -35,7 +35,7 @@ module _ {fllen sllen : ℕ} {m : Space} {ops : List Op} {v : Allocator} {tables
     at = at;
     leads = λ more t runs. runs;
     events = λ more t runs. runs;
-    place = (sym (ap (λ x. x.start) same), sym (ap (λ x. length x.bytes) same));
+    place = (sym (ap (λ x. x.start) same), sym (ap (λ x. length x.bytes) same), sym (ap (λ x. x.view) same), λ none. sym (ap (λ x. x.out) same) ∙ none);
     spare = λ a from to was is. sym (ap (λ x. byte_at x a) same);
     room = subst (HasRoom tables) whole room;
   }
@@ -60,7 +60,7 @@ module _ {fllen sllen : ℕ} {m : Space} {ops : List Op} {v : Allocator} {tables
         events = λ more u runs. subst (λ l. RunsByEvents fllen sllen (range_of m) empty ops l u) (sym (append_assoc given (answer ∷ []) more))
             (w.events (answer ∷ more) u (subst (λ l. RunsByEvents fllen sllen (range_of m) w.state.machine l (answer ∷ more) u) (sym left_ops)
             (one_more (subst (λ r. Makes fllen sllen r w.state.machine op answer t.machine) same makes) (drop (done + 1) ops) more u runs)));
-        place = (place.0 ∙ w.place.0, place.1 ∙ w.place.1);
+        place = (place.0 ∙ w.place.0, place.1 ∙ w.place.1, place.2 ∙ w.place.2, λ none. place.3 (w.place.3 none));
         spare = KeepsSpare-op fllen sllen (range_of v.memory) m v.memory w2.memory empty w.state.machine t.machine op answer w.place makes w.spare keeps;
         room = room (length ops - (done + 1)) (subst (HasRoom tables) left w.room);
       }

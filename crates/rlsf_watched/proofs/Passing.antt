@@ -47,7 +47,7 @@ module _ {fllen sllen : ℕ} {m : Space} {ops : List Op} {v : Allocator} {tables
     now = now;
     leads = λ more us passes. passes;
     moments = refl;
-    place = (sym (ap (λ x. x.start) same), sym (ap (λ x. length x.bytes) same));
+    place = (sym (ap (λ x. x.start) same), sym (ap (λ x. length x.bytes) same), sym (ap (λ x. x.view) same), λ none. sym (ap (λ x. x.out) same) ∙ none);
     room = subst (HasRoom tables) whole room;
   }
     where
@@ -74,7 +74,7 @@ module _ {fllen sllen : ℕ} {m : Space} {ops : List Op} {v : Allocator} {tables
             (subst (λ l. Passes fllen sllen (range_of m) beginning ops (given ++ answer ∷ more) l) (sym (append_assoc w.states (t ∷ []) us))
             (w.leads (answer ∷ more) (t ∷ us) (subst (λ l. Passes fllen sllen (range_of m) w.state l (answer ∷ more) (t ∷ us)) (sym left_ops) (here, passes))));
         moments = ap₂ (λ l x. l ++ x ∷ []) w.moments now ∙ sym (map-push w.states t);
-        place = (place.0 ∙ w.place.0, place.1 ∙ w.place.1);
+        place = (place.0 ∙ w.place.0, place.1 ∙ w.place.1, place.2 ∙ w.place.2, λ none. place.3 (w.place.3 none));
         room = room (length ops - (done + 1)) (subst (HasRoom tables) left w.room);
       }
     where

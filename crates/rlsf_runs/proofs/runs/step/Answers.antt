@@ -94,7 +94,7 @@ returns-in-Get g c = record {
       subst (λ op. (s : RunState) → IsAt g.row.FLLEN g.row.SLLEN c.args.tlsf.now c.args.tables.now s → LeadsOn g.row.FLLEN g.row.SLLEN c.args.tlsf.now s op c.get.result c.args.tlsf.now c.args.tables.now)
       (sym c.in-Get.is) c.get.ensures;
   room = room_left c.args.tables.now;
-  place = (refl, refl);
+  place = (refl, refl, refl, λ none. none);
 }
 
 pub returns-in-Usable : goal.returns-in-Usable
@@ -103,7 +103,7 @@ returns-in-Usable g c = record {
       subst (λ op. (s : RunState) → IsAt g.row.FLLEN g.row.SLLEN c.args.tlsf.now c.args.tables.now s → LeadsOn g.row.FLLEN g.row.SLLEN c.args.tlsf.now s op c.usable.result c.args.tlsf.now c.args.tables.now)
       (sym c.in-Usable.is) c.usable.ensures;
   room = room_left c.args.tables.now;
-  place = (refl, refl);
+  place = (refl, refl, refl, λ none. none);
 }
 
 pub returns-in-Block : goal.returns-in-Block
@@ -112,7 +112,7 @@ returns-in-Block g c = record {
       subst (λ op. (s : RunState) → IsAt g.row.FLLEN g.row.SLLEN c.args.tlsf.now c.args.tables.now s → LeadsOn g.row.FLLEN g.row.SLLEN c.args.tlsf.now s op c.block.result c.args.tlsf.now c.args.tables.now)
       (sym c.in-Block.is) c.block.ensures;
   room = room_left c.args.tables.now;
-  place = (refl, refl);
+  place = (refl, refl, refl, λ none. none);
 }
 
 pub returns-in-Trim : goal.returns-in-Trim
@@ -120,5 +120,5 @@ returns-in-Trim g c = record {
   does = λ s at.
       subst (λ op. LeadsOn g.row.FLLEN g.row.SLLEN c.args.tlsf.now s op (Refused NotForTlsf) c.args.tlsf.now c.args.tables.now) (sym c.in-Trim.is) (LeadsOn-nothing at Trim (Refused NotForTlsf) (tt, refl));
   room = room_left c.args.tables.now;
-  place = (refl, refl);
+  place = (refl, refl, refl, λ none. none);
 }

@@ -9,7 +9,7 @@ use Rattle.rlsf_checked.proofs.checked.CheckedTlsf.deallocate.Goals as goal
 pub set-requires : goal.set-requires
 set-requires g c =
     let live : align_at c.self.inside.heap.state (at c.args.addr) ≡ Some c.in-Some.align = sym (rw (← c.self.view_is) at c.in-Some.ensures.value) in
-    subst (HasMark c.self.inside.marks) (sym c.get.ensures.value) (has_mark c.self.invariant c.self.inside.heap c.self.invariant.stands (refl, refl) (at c.args.addr) c.in-Some.align live)
+    subst (HasMark c.self.inside.marks) (sym c.get.ensures.value) (has_mark c.self.invariant c.self.inside.heap c.self.invariant.stands (refl, refl, refl, λ none. none) (at c.args.addr) c.in-Some.align live)
 
 pub invariant_of-self : goal.invariant_of-self
 invariant_of-self g c =

@@ -36,7 +36,7 @@ kept : (c : goal.After-from_residual) → Shows c.self.inside.store c.self.insid
 kept c =
     let added = c.in-Some.ensures.stored _ c.self.invariant in
     let back = HasSame-given_back _ added (c.in_err-handle.ensures.given_back _ _ added.places refl refl) in
-    same_items c.self.inside.handles c.self.invariant c.keep.new.store c.keep.new.handles (c.keep.ensures.place.0 ∙ c.add_zeros.ensures.place.0, c.keep.ensures.place.1 ∙ c.add_zeros.ensures.place.1) back
+    same_items c.self.inside.handles c.self.invariant c.keep.new.store c.keep.new.handles (c.keep.ensures.place.0 ∙ c.add_zeros.ensures.place.0, c.keep.ensures.place.1 ∙ c.add_zeros.ensures.place.1, c.keep.ensures.place.2 ∙ c.add_zeros.ensures.place.2, λ none. c.keep.ensures.place.3 (c.add_zeros.ensures.place.3 none)) back
     (ap (λ h. h.rows) c.in_err-handle.ensures.refused) (ap (λ h. h.next) c.in_err-handle.ensures.refused)
 
 pub invariant_of-self-in_err-handle : goal.invariant_of-self-in_err-handle
@@ -51,7 +51,7 @@ more c =
     let added = c.in-Some.ensures.stored places c.self.invariant in
     let now = subst (λ w. HasAmong v w places [] (place addr c.args.layout.align c.args.layout.size) (replicate c.args.layout.size 0)) (sym c.in_ok-handle.ensures.kept.0) added in
     let there = subst (λ a. HasAmong v c.keep.new.store places [] (place addr a c.args.layout.size) (replicate c.args.layout.size 0)) (sym (ap (λ h. h.align) c.self.view_is ∙ c.requires)) now in
-    one_more c.self.inside.handles c.self.invariant c.keep.new.store c.keep.new.handles (c.keep.ensures.place.0 ∙ c.add_zeros.ensures.place.0, c.keep.ensures.place.1 ∙ c.add_zeros.ensures.place.1) c.in_ok-handle.handle _ (replicate c.args.layout.size 0) there
+    one_more c.self.inside.handles c.self.invariant c.keep.new.store c.keep.new.handles (c.keep.ensures.place.0 ∙ c.add_zeros.ensures.place.0, c.keep.ensures.place.1 ∙ c.add_zeros.ensures.place.1, c.keep.ensures.place.2 ∙ c.add_zeros.ensures.place.2, λ none. c.keep.ensures.place.3 (c.add_zeros.ensures.place.3 none)) c.in_ok-handle.handle _ (replicate c.args.layout.size 0) there
     (ap (λ h. h.rows) c.in_ok-handle.ensures.kept.2) (ap (λ h. h.next) c.in_ok-handle.ensures.kept.2)
 
 pub invariant_of-self-2 : goal.invariant_of-self-2

@@ -60,7 +60,7 @@ returns c = record {
       let first = c.in_ok-addr.ensures.place in
       let then = (c.payload_mut.ensures.rest c.write_at.new.payload).1 in
       subst (λ (old : StoreContents). SamePlace old.heap.memory (written c.allocate.new.self (non_zero_usize_get c.in_ok-addr.addr) (length c.payload_mut.result.now) c.write_at.new.payload).memory) c.self.view_is
-      (then.0 ∙ first.0, then.1 ∙ first.1);
+      (then.0 ∙ first.0, then.1 ∙ first.1, then.2 ∙ first.2, λ none. then.3 (first.3 none));
   touches =
       subst (λ (old : StoreContents). (written c.allocate.new.self (non_zero_usize_get c.in_ok-addr.addr) (length c.payload_mut.result.now) c.write_at.new.payload).memory.touches ≤ old.heap.memory.touches + 30) c.self.view_is
       (omega (arith, c.in_ok-addr.ensures.touches, (c.payload_mut.ensures.rest c.write_at.new.payload).3));
