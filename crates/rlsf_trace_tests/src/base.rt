@@ -5,4 +5,5 @@ mod classes;
 mod integers;
 mod layouts;
 mod memory;
+mod open_memory;
 mod pools;

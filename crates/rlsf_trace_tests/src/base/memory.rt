@@ -1,9 +1,10 @@
-ghost use Rattle.std.specs.Prelude.{◌≡◌, ◌%◌, length, IsTrue};
+ghost use Rattle.std.specs.Prelude.{◌≡◌, ◌%◌, ◌^◌, ◌<◌, ◌≤◌, [], length, IsTrue};
 ghost use Rattle.rlsf_base.specs.Range.{LiesIn};
+ghost use Rattle.rlsf_base.specs.RawParts.{CanStart, LiesAtBlock};
 ghost use Rattle.rlsf_base.specs.Space.{IsWord};
 
 use crate::base::answers::{all, passes};
-use rlsf_base::memory::{Memory, MemoryError, Range};
+use rlsf_base::memory::{Memory, MemoryError, Range, RawParts};
 use std::alloc::Global;
 use std::mem::size_of;
 use std::rt::Files;
@@ -295,6 +296,54 @@ fn dropped_memories_are_given_back(rt: HostRuntime) {
         let then = mapped(&rt).expect(&rt, "a number");
         all(&rt, &[is_so, then.saturating_sub(before) < 1 << 31]);
     }
+}
+
+/// A memory of the bytes that another memory left, at the addresses from `start` on.
+fn readdressed(alloc: Global, start: usize, len: usize, parts: RawParts) -> Memory
+    requires { LiesAtBlock parts × (parts.bytes.out ≡ []) × (parts.len ≡ len) × (parts.start % 16 ≡ start % 16) × CanStart start len }
+    ensures start { result.start ≡ start }
+    ensures bytes { result.bytes ≡ parts.bytes.bytes }
+{
+    let block = parts.release();
+    unsafe { Memory::from_raw_parts(alloc, block, start, len) }
+}
+
+const MOVED: &[Step] = &[
+    Step::SetWord(8192, 3),
+    Step::Bytes(
+        Range {
+            start: 8192,
+            len: 17,
+        },
+        &[3, 0, 0, 0, 0, 0, 0, 0, 1, 2, 3, 4, 5, 6, 7, 8, 0],
+    ),
+];
+
+/// Whether a block keeps its bytes from one memory to the next. The second is dropped before the answer.
+fn block_keeps_its_bytes(first: Global, second: Global, len: usize) -> bool
+    requires { (24 ≤ len) × (len < 2 ^ 32) }
+{
+    let Ok(mut memory) = Memory::new(first, 4096, len) else {
+        return false;
+    };
+    let before = first_wrong(&mut memory, &[Step::SetWord(4104, 0x0807060504030201)]);
+    if memory.start() != 4096 || memory.len() != len {
+        return false;
+    }
+    let parts = memory.into_raw_parts();
+    let is_told = parts.start == 4096 && parts.len == len;
+    let mut moved = readdressed(second, 8192, len, parts);
+    let is_placed = moved.start() == 8192 && moved.len() == len;
+    before == None && is_told && is_placed && first_wrong(&mut moved, MOVED) == None
+}
+
+// The block has 96 MiB, so a process that has 64 MiB more than before hasn't given it back.
+#[test]
+fn dropped_memory_leaves_the_block_of_its_caller(rt: HostRuntime) {
+    let before = mapped(&rt).expect(&rt, "a number");
+    let is_kept = block_keeps_its_bytes(rt.alloc(), rt.alloc(), 3 << 25);
+    let then = mapped(&rt).expect(&rt, "a number");
+    all(&rt, &[is_kept, then.saturating_sub(before) > 1 << 26]);
 }
 
 const WRITTEN: &[Step] = &[
