@@ -1,0 +1,75 @@
+-- A call arrives at the state that its step leads to: the bytes of payloads are read from the memory.
+use Rattle.std.proofs.Common.{◌≡◌, ℕ, ◌+◌, ◌-◌, ◌≤◌, true, map, List, [], ◌∷◌, length, refl, sym, ◌∙◌, ap, subst, arith}
+use Rattle.rlsf_base.specs.Ledger.{Entry}
+use Rattle.rlsf_base.specs.Changes.{IsAllOwn}
+use Rattle.rlsf_base.specs.Out.{is_own, kept_at}
+use Rattle.rlsf_base.specs.SizeClass.{IsValid}
+use Rattle.rlsf_base.specs.Space.{Space, range_of}
+use Rattle.rlsf_machine.specs.Lists.{IsIn}
+use Rattle.rlsf_machine.specs.Release.{released}
+use Rattle.rlsf_machine.specs.Sized.{live_count}
+use Rattle.rlsf_machine.specs.State.{State, Used, Holds}
+use Rattle.rlsf_machine.specs.WellFormed.{IsWellFormed}
+use Rattle.rlsf_table.specs.Table.{Table}
+use Rattle.rlsf_blocks.specs.Laws.{read_from, with_bytes_of}
+use Rattle.rlsf_blocks.specs.StandsFor.{contents, StandsFor}
+use Rattle.rlsf_tlsf.specs.Steps.Moves.{bare, bare_used, deallocated}
+use Rattle.rlsf_tlsf.proofs.Arrivals.{arrived}
+use Rattle.rlsf_tlsf.proofs.Moved.{bare-bare, deallocated-bare}
+use Rattle.rlsf_heap.specs.Heap.{AreIssued, HeapView, IsHeap, Stands, Steps, heap_view}
+
+bare-read_from : (m : Space) (s : State) → bare (read_from m s) ≡ bare s
+bare-read_from m s = ap (λ (used : List Used). record { chunks = s.chunks; used = used; free = s.free }) (go s.used)
+  where
+    go : (used : List Used) → map bare_used (map (with_bytes_of m) used) ≡ map bare_used used
+    go [] = refl
+    go (u ∷ us) = ap (λ l. bare_used u ∷ l) (go us)
+
+-- where no payload is live, no block is used
+no_used : (t : State) (u : Used) → live_count t ≡ 0 → IsIn u t.used → ⊥
+unfolding live_count
+no_used t u none i = go t.used none i
+  where
+    go : (us : List Used) → length us ≡ 0 → IsIn u us → ⊥
+    go [] e i = i
+    go (w ∷ ws) e i = omega (arith, e)
+
+module _ {fl_bits sl_bits fllen sllen : ℕ} {m : Space} {x : Table} {s : State} {es : List Entry} (is : IsHeap fl_bits sl_bits fllen sllen m x s es) where
+  -- what is kept of a heap's state is the state without bytes
+  pub bare-kept : bare (read_from m s) ≡ s
+  bare-kept = bare-read_from m s ∙ is.is_bare
+
+  -- what is kept once a payload is gone is the state without it
+  pub kept_without : (addr : ℕ) {payload : ℕ} (u : Used) → Holds (read_from m s) addr u → payload ≡ addr → deallocated payload s ≡ bare (released (read_from m s) u)
+  kept_without addr u holds same =
+      (λ i. deallocated (same i) (sym bare-kept i)) ∙ deallocated-bare is.stands.well_formed (released (read_from m s) u) addr (record { block = u; holds = holds; after = refl })
+
+  -- the state that contracts see is well-formed
+  pub view_well_formed : {ledger : ℕ} (v : HeapView) → heap_view m x s ledger ≡ v → IsWellFormed fllen sllen (range_of v.memory) v.state
+  view_well_formed v view = subst (λ (o : HeapView). IsWellFormed fllen sllen (range_of o.memory) o.state) view is.stands.well_formed
+
+  -- where no payload is live, no byte is out
+  pub none_out : {ledger : ℕ} (v : HeapView) → heap_view m x s ledger ≡ v → live_count v.state ≡ 0 → IsAllOwn m.out
+  none_out v view none k =
+      let there : m.start ≤ k + m.start = omega arith in
+      subst (λ j. is_own (kept_at m.out j) ≡ true) (let e : k + m.start - m.start ≡ k = omega arith in e)
+      (is.stands.own (k + m.start) there (λ u i. absurd (no_used (read_from m s) u (ap (λ (o : HeapView). live_count o.state) view ∙ none) i)))
+
+module _ {fllen sllen : ℕ} {n : Space} {x : Table} {t : State} (v : StandsFor fllen sllen (contents n x) t) (reached : State) (e : reached ≡ bare t) where
+  stands : StandsFor fllen sllen (contents n x) (read_from n reached)
+  stands = subst (StandsFor fllen sllen (contents n x)) (sym (arrived v reached e)) v
+
+  pub IsHeap-arrived : {fl_bits sl_bits : ℕ} → IsValid fl_bits sl_bits fllen sllen → (es : List Entry) → AreIssued t es → IsHeap fl_bits sl_bits fllen sllen n x reached es
+  IsHeap-arrived valid es tickets = record { valid = valid; stands = stands; is_bare = ap bare e ∙ bare-bare t ∙ sym e; tickets = subst (λ (o : State). AreIssued o es) (sym (arrived v reached e)) tickets }
+
+  pub Stands-arrived : (ledger : ℕ) → Stands fllen sllen (heap_view n x reached ledger)
+  unfolding Stands
+  Stands-arrived ledger = stands
+
+  -- a step to it, from the state that contracts see
+  pub stepped : (m : Space) (s : State) (old : HeapView) {y : Table} {ledger : ℕ} → heap_view m y s ledger ≡ old → (step : State → State → Type 0) → step (read_from m s) t → step old.state (read_from n reached)
+  stepped m s old view step is = subst (λ (o : HeapView). step o.state (read_from n reached)) view (subst (step (read_from m s)) (sym (arrived v reached e)) is)
+
+  pub Steps-arrived : (ledger : ℕ) (step : State → Type 0) → step (read_from n reached) → Steps fllen sllen (heap_view n x reached ledger) step
+  unfolding Steps
+  Steps-arrived ledger step is = (is, Stands-arrived ledger)

@@ -1,0 +1,63 @@
+-- The state that is read from a memory, where its bytes or the bytes that are out of it change.
+use Rattle.std.proofs.Common.{◌≡◌, ℕ, ◌-◌, ◌<◌, ◌≤◌, ◌⊎◌, List, length, map, take, drop, [], ◌∷◌, Option, refl, inl, inr, ap, sym, ◌∙◌, slice_index, subst, arith}
+use Rattle.rlsf_base.specs.declared.memory.range.Range.{Range}
+use Rattle.rlsf_base.specs.Out.{out, raw, kept_at}
+use Rattle.rlsf_base.specs.OpenSpace.{out_raw, out_without}
+use Rattle.rlsf_base.specs.Range.{end_of}
+use Rattle.rlsf_base.specs.Space.{Space, out_at}
+use Rattle.rlsf_base.proofs.Changes.{changed-before, changed-behind}
+use Rattle.rlsf_base.specs.Ledger.{Entry}
+use Rattle.rlsf_base.specs.Sizes.{max_pool_size}
+use Rattle.rlsf_machine.specs.Insert.{Inserts, aligned_part, cut, with_chunk, with_chunks}
+use Rattle.rlsf_machine.specs.Lists.{IsIn}
+use Rattle.rlsf_machine.specs.State.{State, Used, usable, with_bytes}
+use Rattle.rlsf_table.specs.Table.{Table}
+use Rattle.rlsf_blocks.specs.Laws.{read_from}
+use Rattle.rlsf_blocks.specs.StandsFor.{contents, StandsFor, IsUnlent}
+use Rattle.rlsf_blocks.proofs.Payloads.Unlent.{words_read_no_payload}
+use Rattle.rlsf_heap.specs.Heap.{AreIssued}
+use Rattle.rlsf_tlsf.proofs.Arrivals.{read_from-stands}
+
+-- the same start and the same bytes: the same state
+read_from-same : (m n : Space) (s : State) → n.start ≡ m.start → n.bytes ≡ m.bytes → read_from n s ≡ read_from m s
+read_from-same m n s start bytes = λ i. record {
+  chunks = s.chunks;
+  used = map (λ (u : Used). with_bytes u (take (usable u).len (drop ((usable u).start - start i) (bytes i)))) s.used;
+  free = s.free;
+}
+
+-- what is out of a memory, once a range has left it
+pub out-left : (m n : Space) (r : Range) (a : ℕ) → n.start ≡ m.start → n.out ≡ out_without m r → m.start ≤ r.start → m.start ≤ a → (a < r.start) ⊎ (end_of r ≤ a) → out_at n a ≡ out_at m a
+out-left m n r a start gone inside from side =
+    (λ i. kept_at (gone i) (a - start i)) ∙ elim side [
+      | inl before ↦ changed-before out m.out (r.start - m.start) r.len (a - m.start) (omega (arith, before, inside, from))
+      | inr behind ↦ changed-behind out m.out (r.start - m.start) r.len (a - m.start) (omega (arith, behind, inside, from))
+    ]
+
+-- what is out of a memory, once a range has come back
+pub out-back : (m n : Space) (r : Range) (a : ℕ) → n.start ≡ m.start → n.out ≡ out_raw m r → m.start ≤ r.start → m.start ≤ a → (a < r.start) ⊎ (end_of r ≤ a) → out_at n a ≡ out_at m a
+out-back m n r a start back inside from side =
+    (λ i. kept_at (back i) (a - start i)) ∙ elim side [
+      | inl before ↦ changed-before raw m.out (r.start - m.start) r.len (a - m.start) (omega (arith, before, inside, from))
+      | inr behind ↦ changed-behind raw m.out (r.start - m.start) r.len (a - m.start) (omega (arith, behind, inside, from))
+    ]
+
+-- where only usable bytes of live payloads leave or come back, the memory stands for the same state
+pub stands_same : {fllen sllen : ℕ} (m n : Space) {t : Table} {s : State} → StandsFor fllen sllen (contents m t) s → n.start ≡ m.start → n.bytes ≡ m.bytes
+    → ((a : ℕ) → m.start ≤ a → IsUnlent s a → out_at n a ≡ out_at m a) → StandsFor fllen sllen (contents n t) s
+stands_same {fllen} {sllen} m n {t} {s} v start bytes kept =
+    subst (StandsFor fllen sllen (contents n t)) (read_from-same m n s start bytes ∙ read_from-stands v)
+    (words_read_no_payload fllen sllen m n t s v (record { start = start; length = ap length bytes; bytes = λ a from unlent. (λ i. slice_index (bytes i) (a - start i)); out = kept }))
+
+-- an insert changes no used block
+used-with_chunks : (cs : List Range) (s : State) → (with_chunks cs s).used ≡ s.used
+used-with_chunks [] s = refl
+used-with_chunks (c ∷ cs) s = used-with_chunks cs (with_chunk c s)
+
+pub issued-inserted : (fllen : ℕ) (s t : State) (r : Range) (reply : Option ℕ) → Inserts fllen s r reply t → (es : List Entry) → AreIssued s es → AreIssued t es
+issued-inserted fllen s t r reply step es tickets =
+    let used : s.used ≡ t.used = sym (ap (λ (x : State). x.used) step.after ∙ used-with_chunks (cut (max_pool_size fllen) (aligned_part r)) s) in
+    record {
+      issued = λ k v is. subst (λ (us : List Used). (u : Used) × IsIn u us × (u.payload ≡ v.0) × ((usable u).len ≡ v.1)) used (tickets.issued k v is);
+      apart = tickets.apart;
+    }

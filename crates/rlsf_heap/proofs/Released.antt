@@ -1,0 +1,67 @@
+-- A payload came back: its bytes are in the memory again, and its block is released.
+use Rattle.std.proofs.Common.{◌≡◌, ◌≢◌, ℕ, ◌-◌, ◌<◌, ◌≤◌, ◌⊎◌, false, true≢false, List, length, get_or, set, arith, inl, inr, sym, ap, ◌∙◌}
+use Rattle.std.proofs.lemmas.Bool.{cases_eq}
+use Rattle.std.proofs.lemmas.List.{get_or-set_same, get_or-set_other, length-set}
+use Rattle.rlsf_base.specs.Ledger.{Entry, entry_of, IsIssued}
+use Rattle.rlsf_base.specs.Out.{raw, is_own, kept_at}
+use Rattle.rlsf_base.specs.OpenSpace.{IsOwned, out_raw}
+use Rattle.rlsf_base.specs.Piece.{Piece, piece_range}
+use Rattle.rlsf_base.specs.Range.{LiesIn, end_of}
+use Rattle.rlsf_base.specs.Space.{Space}
+use Rattle.rlsf_base.proofs.Changes.{changed-there}
+use Rattle.rlsf_machine.specs.Release.{released}
+use Rattle.rlsf_machine.specs.State.{State, Used, Holds, usable}
+use Rattle.rlsf_machine.proofs.Changes.{IsIn-others_from}
+use Rattle.rlsf_machine.proofs.Payloads.{IsUsed-after_start}
+use Rattle.rlsf_table.specs.Table.{Table}
+use Rattle.rlsf_blocks.specs.StandsFor.{contents, StandsFor}
+use Rattle.rlsf_blocks.proofs.Words.Apart.{used_in_memory}
+use Rattle.rlsf_heap.specs.Heap.{AreIssued, IsPayload}
+use Rattle.rlsf_heap.proofs.Read.{out-back, stands_same}
+
+module _ {fllen sllen : ℕ} {m : Space} {table : Table} {s : State} {entries : List Entry} (v : StandsFor fllen sllen (contents m table) s) (tickets : AreIssued s entries) (k : ℕ) (p : Piece) (is : IsIssued entries k (p.start, length p.bytes)) where
+  -- the payload
+  pub found : IsPayload s (p.start, length p.bytes)
+  found = tickets.issued k (p.start, length p.bytes) is
+
+  abbrev pub u : Used
+  u = found.0
+
+  pub holds : Holds s p.start u
+  holds = (found.1, found.2)
+
+  lies : LiesIn (piece_range p) m.start (length m.bytes)
+  lies =
+      let of = v.well_formed.used u found.1 in let place = used_in_memory v.well_formed u found.1 in
+      (omega (arith, place.0, IsUsed-after_start u of, found.2), omega (arith, place.1, of.within, found.2, found.3))
+
+  module _ (n : Space) (start : n.start ≡ m.start) (bytes : n.bytes ≡ m.bytes) (back : n.out ≡ out_raw m (piece_range p)) where
+    side : (a : ℕ) → (a < u.payload) ⊎ (end_of u.block ≤ a) → (a < p.start) ⊎ (end_of (piece_range p) ≤ a)
+    side a (inl before) = inl (omega (arith, before, found.2))
+    side a (inr behind) = inr (omega (arith, behind, found.2, found.3, (v.well_formed.used u found.1).within))
+
+    pub stands-back : StandsFor fllen sllen (contents n table) s
+    stands-back = stands_same m n v start bytes (λ a from unlent. out-back m n (piece_range p) a start back lies.0 from (side a (unlent u found.1)))
+
+    pub back-here : IsOwned n (usable u)
+    back-here a lo hi = (λ i. is_own (kept_at (back i) (a - start i))) ∙ ap is_own (changed-there raw m.out (p.start - m.start) (length p.bytes) (a - m.start) (omega (arith, lo, found.2, lies.0)) (omega (arith, hi, found.2, found.3, lies.0)))
+
+  -- its ticket is redeemed
+  other : (j : ℕ) (w : ℕ × ℕ) → IsIssued (set entries k (entry_of (p.start, length p.bytes) false)) j w → (j ≢ k) × IsIssued entries j w
+  other j w was = elim (cases_eq j k) [
+    | inl same ↦
+        let here = get_or-set_same entries k (entry_of (p.start, length p.bytes) false) (entry_of (0, 0) false) is.0 in
+        let there = ap (λ i. get_or (set entries k (entry_of (p.start, length p.bytes) false)) i (entry_of (0, 0) false)) (sym same) in
+        absurd (true≢false (ap (λ (e : Entry). e.live) (sym was.1 ∙ sym there ∙ here)))
+    | inr apart ↦ (apart, (omega (arith, was.0, length-set entries k (entry_of (p.start, length p.bytes) false)), sym (get_or-set_other entries k j (entry_of (p.start, length p.bytes) false) (entry_of (0, 0) false) apart) ∙ was.1))
+  ]
+
+  pub issued-released : AreIssued (released s u) (set entries k (entry_of (p.start, length p.bytes) false))
+  issued-released = record {
+    issued = λ j w was.
+        let (apart, old) = other j w was in
+        let (x, i, at, len) = tickets.issued j w old in
+        let differ : x.payload ≢ u.payload = λ same. apart (tickets.apart j k w (p.start, length p.bytes) old is (sym at ∙ same ∙ found.2)) in
+        (x, IsIn-others_from u.payload x s.used i differ, at, len);
+    apart = λ i j w x one two at. tickets.apart i j w x (other i w one).1 (other j x two).1 at;
+  }

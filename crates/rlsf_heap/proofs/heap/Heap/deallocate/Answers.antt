@@ -1,0 +1,130 @@
+use Rattle.std.proofs.Common.{◌≡◌, ℕ, ◌+◌, set, false, length, rules, arith, refl, sym, ap, subst, ◌∙◌}
+use Rattle.rlsf_base.specs.Ledger.{IsIssued, entry_of}
+use Rattle.rlsf_base.specs.OpenSpace.{IsOwned}
+use Rattle.rlsf_base.specs.Space.{Space, range_of}
+use Rattle.rlsf_base.proofs.Lending.Present.{owned-same}
+use Rattle.rlsf_machine.specs.Release.{Deallocates, released}
+use Rattle.rlsf_machine.specs.Run.{IsSomeLive}
+use Rattle.rlsf_machine.specs.State.{State, Used, Holds, usable}
+use Rattle.rlsf_machine.specs.WellFormed.{IsWellFormed}
+use Rattle.rlsf_machine.proofs.CallerWords.{gone_seen}
+use Rattle.rlsf_machine.proofs.SizedWords.{count_gone, sized_gone}
+use Rattle.rlsf_table.proofs.Parameters.{IsValid-widest}
+use Rattle.rlsf_blocks.specs.Steps.LiveBlock.{AtEachBlock}
+use Rattle.rlsf_blocks.specs.Laws.{read_from}
+use Rattle.rlsf_blocks.specs.StandsFor.{contents, StandsFor}
+use Rattle.rlsf_blocks.proofs.Machine.Counted.{StandsFor-touched}
+use Rattle.rlsf_tlsf.specs.Steps.Moves.{bare}
+use Rattle.rlsf_heap.specs.Heap.{AreIssued, PayloadView}
+use Rattle.rlsf_heap.proofs.Arrivals.{IsHeap-arrived, Steps-arrived, kept_without, stepped, view_well_formed}
+use Rattle.rlsf_heap.proofs.Released.{back-here, holds, issued-released, stands-back, u}
+use Rattle.rlsf_heap.proofs.heap.Heap.deallocate.Given as given
+use Rattle.rlsf_heap.proofs.heap.Heap.deallocate.Goals as goal
+use Rattle.rlsf_heap.proofs.heap.Heap.deallocate.Goals.{After-put_room, After-deallocate}
+
+-- the heap's state as the call begins
+abbrev before : (g : given.Over) (c : After-put_room g) → State
+before g c = read_from c.self.inside.memory c.self.inside.state.state
+
+-- the ticket is that of the part
+known : (g : given.Over) (c : After-put_room g) → IsIssued c.self.inside.ledger.entries c.payload.inside.ticket.key (c.payload.inside.part.start, length c.payload.inside.part.bytes)
+known g c = subst (IsIssued c.self.inside.ledger.entries c.payload.inside.ticket.key) (λ i. (sym c.payload.invariant.0 i, sym c.payload.invariant.1 i)) c.redeem.ensures.0
+
+-- the payload's block
+abbrev block : (g : given.Over) (c : After-put_room g) → Used
+block g c = u c.self.invariant.stands c.self.invariant.tickets c.payload.inside.ticket.key c.payload.inside.part (known g c)
+
+held : (g : given.Over) (c : After-put_room g) → Holds (before g c) c.start-addr.result (block g c)
+held g c = let h = holds c.self.invariant.stands c.self.invariant.tickets c.payload.inside.ticket.key c.payload.inside.part (known g c) in (h.0, h.1 ∙ sym c.start-addr.ensures)
+
+-- with its bytes back, the memory stands for the same state
+back : (g : given.Over) (c : After-put_room g) → StandsFor g.row.FLLEN g.row.SLLEN (contents c.put_room.new.self c.self.inside.table) (before g c)
+back g c =
+    let e = c.put_room.ensures in
+    stands-back c.self.invariant.stands c.self.invariant.tickets c.payload.inside.ticket.key c.payload.inside.part (known g c) c.put_room.new.self e.start e.bytes e.out
+
+pub load_block_of-block-requires : goal.load_block_of-block-requires
+load_block_of-block-requires g c =
+    let d = (goal.at.load_block_of-block-requires g c).After-put_room in
+    (g.row.FLLEN, g.row.SLLEN, contents c.put_room.new.self c.self.inside.table, before g d, refl, back g d, (block g d, held g d))
+
+-- its bytes are the memory's own again, once more touches were counted
+own : (g : given.Over) (d : After-put_room g) (n : Space) → n ≡ record d.put_room.new.self { touches = d.put_room.new.self.touches + 2 } → IsOwned n (usable (block g d))
+own g d n touched =
+    let e = d.put_room.ensures in
+    owned-same d.put_room.new.self n (usable (block g d)) (ap (λ (o : Space). o.start) touched) (ap (λ (o : Space). o.out) touched)
+    (back-here d.self.invariant.stands d.self.invariant.tickets d.payload.inside.ticket.key d.payload.inside.part (known g d) d.put_room.new.self e.start e.bytes e.out)
+
+-- its block is the one that was found
+starts : (g : given.Over) (d : After-put_room g) (start : ℕ) → AtEachBlock d.put_room.new.self d.start-addr.result (λ u. start ≡ u.block.start) → (block g d).block.start ≡ start
+starts g d start each = sym (each g.row.FLLEN g.row.SLLEN (contents d.put_room.new.self d.self.inside.table) (before g d) (block g d) refl (back g d) (held g d))
+
+pub deallocate_block-requires : goal.deallocate_block-requires
+deallocate_block-requires g c =
+    let d = (goal.at.deallocate_block-requires g c).After-put_room in
+    let n = c.load_block_of-block.new.memory in
+    let touched = c.load_block_of-block.ensures.memory in
+    let stands = StandsFor-touched c.put_room.new.self n 2 touched (back g d) in
+    (omega arith, (IsValid-widest g.FLBitmap.BitPattern.width_limit c.self.invariant.valid, ((before g d, block g d, stands, (held g d).0, starts g d c.load_block_of-block.result c.load_block_of-block.ensures.block, own g d n touched), search rules)))
+
+-- the block is released
+abbrev first : (g : given.Over) → After-deallocate g → After-put_room g
+first g c = (goal.at.invariant_of-self g c).After-put_room
+
+abbrev after : (g : given.Over) → After-deallocate g → State
+after g c = released (before g (first g c)) (block g (first g c))
+
+standing : (g : given.Over) (c : After-deallocate g) → StandsFor g.row.FLLEN g.row.SLLEN (contents c.deallocate_block.new.memory c.deallocate_block.new.table) (after g c)
+standing g c =
+    let d = first g c in
+    let n = c.load_block_of-block.new.memory in
+    let touched = c.load_block_of-block.ensures.memory in
+    (c.deallocate_block.ensures.step (before g d) (block g d) (StandsFor-touched c.put_room.new.self n 2 touched (back g d)) (held g d).0 (starts g d c.load_block_of-block.result c.load_block_of-block.ensures.block) (own g d n touched)).0
+
+-- what is kept of the state is the one without the payload
+kept : (g : given.Over) (c : After-deallocate g) → c.deallocate.new.self.state ≡ bare (after g c)
+kept g c = c.deallocate.ensures ∙ kept_without c.self.invariant c.start-addr.result (block g (first g c)) (held g (first g c)) refl
+
+pub invariant_of-self : goal.invariant_of-self
+invariant_of-self g c =
+    let d = first g c in
+    let k = c.payload.inside.ticket.key in
+    let gone : set c.self.inside.ledger.entries k (entry_of (c.payload.inside.part.start, length c.payload.inside.part.bytes) false) ≡ c.redeem.new.self.entries =
+    (λ i. set c.self.inside.ledger.entries k (entry_of (c.payload.invariant.0 i, c.payload.invariant.1 i) false)) ∙ sym c.redeem.ensures.2 in
+    IsHeap-arrived (standing g c) c.deallocate.new.self.state (kept g c) c.self.invariant.valid c.redeem.new.self.entries
+    (subst (AreIssued (after g c)) gone (issued-released c.self.invariant.stands c.self.invariant.tickets k c.payload.inside.part (known g d)))
+
+-- the state that contracts see
+abbrev now : (g : given.Over) → After-deallocate g → State
+now g c = read_from c.deallocate_block.new.memory c.deallocate.new.self.state
+
+-- the address is the payload's
+at : (g : given.Over) (c : After-deallocate g) → c.start-addr.result ≡ c.args.payload.start
+at g c = c.start-addr.ensures ∙ ap (λ (p : PayloadView). p.start) c.payload.view_is
+
+did : (g : given.Over) (c : After-deallocate g) → Deallocates c.args.self.now.state c.args.payload.start (now g c)
+did g c =
+    let d = first g c in
+    subst (λ addr. Deallocates c.args.self.now.state addr (now g c)) (at g c)
+    (stepped (standing g c) c.deallocate.new.self.state (kept g c) c.self.inside.memory c.self.inside.state.state c.args.self.now c.self.view_is (λ old. Deallocates old c.start-addr.result) (record { block = block g d; holds = held g d; after = refl }))
+
+well : (g : given.Over) (c : After-deallocate g) → IsWellFormed g.row.FLLEN g.row.SLLEN (range_of c.args.self.now.memory) c.args.self.now.state
+well g c = view_well_formed c.self.invariant c.args.self.now c.self.view_is
+
+live : (g : given.Over) (c : After-deallocate g) → IsSomeLive c.args.self.now.state c.args.payload.start
+live g c = ((did g c).block, (did g c).holds)
+
+pub returns-clause-step : goal.returns-clause-step
+returns-clause-step g c = Steps-arrived (standing g c) c.deallocate.new.self.state (kept g c) c.redeem.new.self.name (Deallocates c.args.self.now.state c.args.payload.start) (did g c)
+
+pub returns-clause-count : goal.returns-clause-count
+returns-clause-count g c = count_gone (well g c) (now g c) c.args.payload.start (live g c) (did g c)
+
+pub returns-clause-bounds : goal.returns-clause-bounds
+returns-clause-bounds g c = λ count size align sized. sized_gone (well g c) (now g c) count size align sized c.args.payload.start (live g c) (did g c)
+
+pub returns-clause-gone : goal.returns-clause-gone
+returns-clause-gone g c = (gone_seen (well g c) (now g c) c.args.payload.start (live g c) (did g c)).gone
+
+pub returns-clause-aligns : goal.returns-clause-aligns
+returns-clause-aligns g c = (gone_seen (well g c) (now g c) c.args.payload.start (live g c) (did g c)).aligns

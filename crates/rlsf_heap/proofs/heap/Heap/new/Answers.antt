@@ -1,0 +1,34 @@
+use Rattle.std.proofs.Common.{ℕ, ◌-◌, ◌<◌, length, arith, ◌∙◌, ap, sym, subst}
+use Rattle.rlsf_machine.specs.Insert.{IsUntouched}
+use Rattle.rlsf_machine.specs.Sized.{live_count}
+use Rattle.rlsf_machine.specs.State.{State, empty}
+use Rattle.rlsf_machine.proofs.SizedWords.{live_count-empty}
+use Rattle.rlsf_machine.proofs.Untouched.{untouched_empty}
+use Rattle.rlsf_blocks.specs.Laws.{read_from}
+use Rattle.rlsf_blocks.specs.StandsFor.{contents, StandsFor}
+use Rattle.rlsf_blocks.proofs.Machine.EmptyState.{StandsFor-empty}
+use Rattle.rlsf_heap.specs.Heap.{AreIssued}
+use Rattle.rlsf_heap.proofs.Arrivals.{IsHeap-arrived, Stands-arrived}
+use Rattle.rlsf_heap.proofs.heap.Heap.new.Given as given
+use Rattle.rlsf_heap.proofs.heap.Heap.new.Goals as goal
+
+-- the empty state stands in the memory
+standing : (g : given.Over) (c : goal.After-new-3 g) → StandsFor g.row.FLLEN g.row.SLLEN (contents c.args.memory c.new.result) empty
+standing g c = StandsFor-empty c.requires.valid c.start.ensures.bounds (c.new.ensures c.args.memory) (λ a from. c.requires.own (a - c.args.memory.start))
+
+none_issued : (g : given.Over) (c : goal.After-new-3 g) → AreIssued empty c.new-3.result.entries
+none_issued g c =
+    let none : (k : ℕ) → k < length c.new-3.result.entries → ⊥ = λ k lt. omega (arith, lt, ap length c.new-3.ensures) in
+    record { issued = λ k v is. absurd (none k is.0); apart = λ j k v w is js at. absurd (none j is.0) }
+
+pub invariant_of-result : goal.invariant_of-result
+invariant_of-result g c = IsHeap-arrived (standing g c) c.new-2.result.state c.new-2.ensures c.requires.valid c.new-3.result.entries (none_issued g c)
+
+pub returns-clause-untouched : goal.returns-clause-untouched
+returns-clause-untouched g c = λ r. subst (λ (s : State). IsUntouched s.chunks r) (sym c.new-2.ensures) (untouched_empty r)
+
+pub returns-clause-stands : goal.returns-clause-stands
+returns-clause-stands g c = Stands-arrived (standing g c) c.new-2.result.state c.new-2.ensures c.new-3.result.name
+
+pub returns-clause-count : goal.returns-clause-count
+returns-clause-count g c = ap (λ (s : State). live_count (read_from c.args.memory s)) c.new-2.ensures ∙ live_count-empty

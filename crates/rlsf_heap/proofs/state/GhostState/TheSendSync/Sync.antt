@@ -1,0 +1,7 @@
+-- A `&` to the state may go to another thread.
+use denote.Param.Send.{IsSync}
+use Rattle.rlsf_heap.proofs.Crossing.{GhostState-sync}
+use Rattle.rlsf_heap.specs.contracts.state.GhostState.{the_row}
+
+pub sync : IsSync the_row
+sync = GhostState-sync

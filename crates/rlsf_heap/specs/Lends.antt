@@ -1,0 +1,14 @@
+-- What a payload ends as, once a `&mut` to its bytes has ended.
+use Rattle.std.specs.Prelude.{ℕ, List, length}
+use Rattle.std.specs.Borrow.{Fml, MutBor, Array, Lends, u8}
+use Rattle.rlsf_base.specs.Lends.{refilled}
+use Rattle.rlsf_heap.specs.Heap.{PayloadView}
+use Rattle.rlsf_heap.specs.contracts.payload.Payload as payload
+
+-- a payload with the bytes w, which are cut to its length, or filled up from the old ones
+unfoldable pub rewritten : PayloadView → List ℕ → PayloadView
+rewritten p w = record { identity = p.identity; start = p.start; bytes = refilled p.bytes 0 (length p.bytes) w; out = p.out }
+
+-- the payload ends with the bytes that r leaves, and else as it was
+abbrev pub LendsPayload : MutBor PayloadView → MutBor (List ℕ) → Fml
+LendsPayload p r = Lends payload.the_row (Array u8 0) p r (rewritten p.now)

@@ -1,0 +1,3 @@
+pub mod Heap
+pub mod Lends
+pub mod Zeroed

@@ -1,0 +1,82 @@
+//! Payloads that left the memory of a heap.
+ghost use Rattle.std.specs.Prelude.{◌≡◌, ℕ, List, length};
+ghost use Rattle.std.specs.Borrow.{sem};
+ghost use Rattle.rlsf_heap.specs.Heap.{IsWritten};
+
+use rlsf_base::memory::Part;
+use rlsf_base::memory::ledger::Ticket;
+use std::marker::Model;
+
+/// A payload that left the memory of its heap. It owns its bytes, and the right to deallocate them.
+///
+/// Each byte is here, with a value, or raw, without one. A payload is `Send`, so it can cross to another thread.
+/// `deallocate` of its heap takes it back. It has no `Drop`.
+pub struct Payload {
+    pub(crate) part: Part,
+    pub(crate) ticket: Ticket,
+}
+
+impl Model for Payload {
+    ghost use Rattle.rlsf_heap.specs.Heap.{PayloadView, payload_view, IsTicketOf};
+
+    ghost Value = { PayloadView };
+
+    ghost view = { λ p. payload_view p.part p.ticket.name };
+
+    ghost invariant = { λ p. IsTicketOf p.part p.ticket.addr p.ticket.len };
+}
+
+impl Payload {
+    ghost use Rattle.rlsf_heap.specs.Lends.{LendsPayload, rewritten};
+
+    /// Returns the address of the first byte.
+    pub fn addr(&self) -> usize
+        ensures { result ≡ self.now.start }
+    {
+        self.part.start()
+    }
+
+    /// Returns the number of bytes. All of them may be used.
+    pub fn len(&self) -> usize
+        ensures { result ≡ length self.now.bytes }
+    {
+        self.part.len()
+    }
+
+    /// Returns the bytes. They must be here.
+    pub fn as_slice(&self) -> &[u8]
+        requires { IsWritten self.now }
+        ensures { result.now ≡ self.now.bytes }
+    {
+        self.part.as_slice()
+    }
+
+    /// Returns the bytes, for reading and writing. They must be here. When the borrow ends, the payload has the bytes that
+    /// were written. Nothing else changes.
+    pub fn as_mut_slice(&mut self) -> &mut [u8]
+        requires { IsWritten self.old }
+        ensures* writes_back { sem 𝓛 (LendsPayload self.entry result) }
+        ensures value { result.now ≡ self.old.bytes }
+        ensures filled { (w : List ℕ) → length w ≡ length result.now → (rewritten self.old w).bytes ≡ w }
+        ensures lengths { (w : List ℕ) → length (rewritten self.old w).bytes ≡ length self.old.bytes }
+        ensures written { (w : List ℕ) → IsWritten (rewritten self.old w) }
+        ensures identity { (w : List ℕ) → (rewritten self.old w).identity ≡ self.old.identity }
+        ensures start { (w : List ℕ) → (rewritten self.old w).start ≡ self.old.start }
+    {
+        self.part.as_mut_slice()
+    }
+}
+
+// A payload can cross to another thread: this is proved of its type.
+fn crosses<T: Send>(value: T) -> T
+    ensures { result ≡ value }
+{
+    value
+}
+
+// That this call is proved shows that a payload is `Send`.
+fn crossed(payload: Payload) -> Payload
+    ensures { result ≡ payload }
+{
+    crosses(payload)
+}

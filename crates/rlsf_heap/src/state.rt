@@ -1,0 +1,60 @@
+//! The state of the reference model, as ghost data: it takes no bytes and no time.
+ghost use Rattle.std.specs.Prelude.{◌≡◌, ℕ};
+ghost use Rattle.std.specs.Borrow.{ftrue};
+ghost use Rattle.rlsf_base.specs.Range.{range_at};
+ghost use Rattle.rlsf_machine.specs.State.{State, empty};
+ghost use Rattle.rlsf_tlsf.specs.Steps.Moves.{allocated, deallocated, inserted};
+
+use std::marker::{Model, Send, Sync};
+
+/// The state of the reference model without the bytes of payloads, which are in the memory.
+#[derive(Drop)]
+pub(crate) struct GhostState {
+    pub(crate) ghost state: { State },
+}
+
+const _: () = prove!(size_of::<GhostState>() == 0);
+
+impl Model for GhostState {
+    ghost also_owns = { λ _. ftrue };
+}
+
+unsafe impl Send for GhostState {}
+
+unsafe impl Sync for GhostState {}
+
+impl GhostState {
+    /// Returns the empty state, into which no range was inserted.
+    pub(crate) fn new() -> GhostState
+        ensures { result.state ≡ empty }
+    {
+        GhostState {}
+    }
+
+    /// Replaces the state by one that the state before and three numbers determine.
+    fn advance(&mut self, x: usize, y: usize, z: usize)
+        ghost to: { ℕ → ℕ → ℕ → State → State }
+        ensures { self.new.state ≡ to x y z self.old.state }
+    {}
+
+    /// Updates the state as an insert does.
+    pub(crate) fn insert(&mut self, fllen: usize, start: usize, len: usize)
+        ensures { self.new.state ≡ inserted fllen (range_at start len) self.old.state }
+    {
+        self.advance(fllen, start, len);
+    }
+
+    /// Updates the state as an allocation does that isn't refused.
+    pub(crate) fn allocate(&mut self, sllen: usize, size: usize, align: usize)
+        ensures { self.new.state ≡ allocated sllen size align self.old.state }
+    {
+        self.advance(sllen, size, align);
+    }
+
+    /// Updates the state as a deallocation does.
+    pub(crate) fn deallocate(&mut self, addr: usize)
+        ensures { self.new.state ≡ deallocated addr self.old.state }
+    {
+        self.advance(addr, 0, 0);
+    }
+}
