@@ -9,8 +9,8 @@ use std::marker::Model;
 
 /// A payload that left the memory of its heap. It owns its bytes, and the right to deallocate them.
 ///
-/// Each byte is here, with a value, or raw, without one. A payload is `Send`, so it can cross to another thread.
-/// `deallocate` of its heap takes it back. It has no `Drop`.
+/// Each byte is here, with a value, or raw, without one. `deallocate` of its heap takes it back. It is `Send`, but it has no
+/// `Drop`, so no closure can take it by value: a program lends `as_mut_slice` to a thread instead.
 pub struct Payload {
     pub(crate) part: Part,
     pub(crate) ticket: Ticket,
@@ -67,7 +67,7 @@ impl Payload {
     }
 }
 
-// A payload can cross to another thread: this is proved of its type.
+// Takes only values that are `Send`.
 fn crosses<T: Send>(value: T) -> T
     ensures { result ≡ value }
 {
