@@ -1,12 +1,12 @@
 -- What the bytes of a memory are after a change of some of them.
-use Rattle.std.proofs.Common.{◌≡◌, ℕ, zero, suc, ◌+◌, ◌<◌, ◌≤◌, ◌⊎◌, Bool, true, false, List, [], ◌∷◌, ap, refl, subst, sym, ◌∙◌, arith, inl, inr, le-leb, lt-ltb, le-ltb}
+use Rattle.std.proofs.Common.{◌≡◌, ℕ, zero, suc, ◌+◌, ◌-◌, ◌<◌, ◌≤◌, ◌⊎◌, Bool, true, false, List, [], ◌∷◌, ap, refl, subst, sym, ◌∙◌, arith, inl, inr, le-leb, lt-ltb, le-ltb}
 use mathlib.Core.Path.{ap₂}
 use borrow.Author.Tests.{lt-leb}
 use Rattle.std.specs.Prelude.{leb, ltb, ◌&&◌, if◌then◌else◌}
 use Rattle.std.proofs.lemmas.Bool.{cases_lt, false≢true}
 use Rattle.std.proofs.Math.Nat.{eq-or-lt_of_le}
 use Rattle.rlsf_base.specs.Out.{Change, Kept, here, raw, out, is_here, is_own, all_here, in_run, kept_at}
-use Rattle.rlsf_base.specs.Changes.{change, IsIn, IsOwn, came_back, came_raw}
+use Rattle.rlsf_base.specs.Changes.{change, IsIn, IsOwn, came_back, came_raw, shifted}
 
 pub and-false : (t : Bool) → (t && false) ≡ false
 and-false true = refl
@@ -42,6 +42,25 @@ own-in cs i n h k lo hi = ap is_own (h k lo hi)
 
 pub raw-own : (cs : List Change) (i n : ℕ) → IsOwn (came_raw i n cs) i n
 raw-own cs i n k lo hi = ap is_own (changed-there raw cs i n k lo hi)
+
+-- ---- bytes whose places are counted from one of them on
+
+run-shifted : (i start len k : ℕ) → in_run (start - i) (start + len - i - (start - i)) k ≡ in_run start len (i + k)
+run-shifted i start len k = elim (cases_lt (i + k) start) [
+  | inl before ↦ in_run-before (start - i) (start + len - i - (start - i)) k (omega arith) ∙ sym (in_run-before start len (i + k) before)
+  | inr behind ↦ elim (cases_lt (i + k) (start + len)) [
+    | inl inside ↦ in_run-yes (start - i) (start + len - i - (start - i)) k (omega arith) (omega arith) ∙ sym (in_run-yes start len (i + k) behind inside)
+    | inr past ↦ in_run-behind (start - i) (start + len - i - (start - i)) k (omega arith) ∙ sym (in_run-behind start len (i + k) past)
+  ]
+]
+
+pub shifted-at : (i : ℕ) (cs : List Change) (k : ℕ) → kept_at (shifted i cs) k ≡ kept_at cs (i + k)
+unfolding kept_at
+shifted-at i [] k = refl
+shifted-at i (c ∷ cs) k = λ j. if run-shifted i c.start c.len k j then c.kept else shifted-at i cs k j
+
+pub shifted-own : (i : ℕ) (cs : List Change) (n : ℕ) → IsOwn cs i n → IsOwn (shifted i cs) 0 n
+shifted-own i cs n own k lo hi = ap is_own (shifted-at i cs k) ∙ own (i + k) (omega arith) (omega (arith, hi))
 
 -- ---- bytes that are all here
 

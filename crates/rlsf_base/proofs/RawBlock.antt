@@ -6,6 +6,7 @@ pub mod Grid
 pub mod Rooms
 pub mod Rows
 pub mod Sharing
+pub mod Spots
 pub mod Tickets
 pub mod Units
 pub mod Values

@@ -1,5 +1,5 @@
 -- Runs of bytes of one state, and what leaves, comes back or is written.
-use Rattle.std.specs.Prelude.{◌≡◌, ℕ, ◌+◌, ◌<◌, ◌≤◌, true, List, ◌∷◌, if◌then◌else◌}
+use Rattle.std.specs.Prelude.{◌≡◌, ℕ, ◌+◌, ◌-◌, ◌<◌, ◌≤◌, true, List, [], ◌∷◌, if◌then◌else◌}
 use Rattle.rlsf_base.specs.Out.{Change, Kept, here, raw, out, is_own, all_here, kept_at}
 
 -- the change of n bytes from the place i on to the state t
@@ -37,3 +37,8 @@ came_back i n cs = if all_here cs i n then cs else change here i n ∷ cs
 -- the changes, once n bytes from the place i on came back without values
 abbrev pub came_raw : ℕ → ℕ → List Change → List Change
 came_raw i n cs = change raw i n ∷ cs
+
+-- the changes of the bytes from the place i on, whose places are counted from there
+abbrev pub shifted : ℕ → List Change → List Change
+shifted i [] = []
+shifted i (c ∷ cs) = change c.kept (c.start - i) (c.start + c.len - i - (c.start - i)) ∷ shifted i cs

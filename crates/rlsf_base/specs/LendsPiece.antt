@@ -6,7 +6,7 @@ use Rattle.rlsf_base.specs.Lends.{refilled}
 use Rattle.rlsf_base.specs.Piece.{Piece}
 
 -- a part with the bytes w, which are cut to its length, or filled up from the old ones
-abbrev pub lent_piece : Piece → List ℕ → Piece
+unfoldable pub lent_piece : Piece → List ℕ → Piece
 lent_piece p w = record { home = p.home; start = p.start; bytes = refilled p.bytes 0 (length p.bytes) w; out = p.out }
 
 -- the part ends with the bytes that r leaves, and else as it was

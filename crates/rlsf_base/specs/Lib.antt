@@ -16,3 +16,4 @@ pub mod SizeClass
 pub mod Sizes
 pub mod Space
 pub mod Steps
+pub mod UnitPayload

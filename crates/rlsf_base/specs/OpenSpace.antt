@@ -1,5 +1,5 @@
 -- A memory from which bytes can leave, as contracts see it.
-use Rattle.std.specs.Prelude.{◌≡◌, ℕ, ◌+◌, ◌-◌, ◌%◌, ◌^◌, ◌<◌, ◌≤◌, true, List, length}
+use Rattle.std.specs.Prelude.{◌≡◌, ℕ, ◌+◌, ◌-◌, ◌%◌, ◌^◌, ◌<◌, ◌≤◌, ◌⊎◌, true, List, length}
 use Rattle.rlsf_base.specs.declared.memory.range.Range.{Range}
 use Rattle.rlsf_base.specs.declared.memory.view.View.{View}
 use Rattle.rlsf_base.specs.Changes.{left, came_back, came_raw}
@@ -26,6 +26,21 @@ SameOwn m n = (a : ℕ) → m.start ≤ a → is_own (out_at n a) ≡ is_own (ou
 -- each byte that is here in a memory is here in another
 abbrev pub StaysHere : Space → Space → Type 0
 StaysHere m n = (a : ℕ) → m.start ≤ a → out_at m a ≡ here → out_at n a ≡ here
+
+-- each byte that is a memory's own is another's own
+abbrev pub StaysOwn : Space → Space → Type 0
+StaysOwn m n = (a : ℕ) → m.start ≤ a → is_own (out_at m a) ≡ true → is_own (out_at n a) ≡ true
+
+-- an address that isn't in a range
+abbrev pub IsBeside : Range → ℕ → Type 0
+IsBeside r a = (a < r.start) ⊎ (end_of r ≤ a)
+
+-- each byte beside a range that is here in a memory is here in another, and each that is a memory's own is the other's
+abbrev pub StaysHereBeside : Space → Space → Range → Type 0
+StaysHereBeside m n r = (a : ℕ) → m.start ≤ a → IsBeside r a → out_at m a ≡ here → out_at n a ≡ here
+
+abbrev pub StaysOwnBeside : Space → Space → Range → Type 0
+StaysOwnBeside m n r = (a : ℕ) → m.start ≤ a → IsBeside r a → is_own (out_at m a) ≡ true → is_own (out_at n a) ≡ true
 
 -- the changes, once a range left
 abbrev pub out_without : Space → Range → List Change

@@ -4,10 +4,11 @@ use Rattle.rlsf_base.specs.declared.memory.range.Range.{Range}
 use Rattle.rlsf_base.specs.declared.memory.view.View.{View}
 use Rattle.rlsf_base.specs.declared.memory.block.Bytes.{Bytes}
 use Rattle.rlsf_base.specs.declared.memory.block.Units.{Units}
-use Rattle.rlsf_base.specs.Out.{Change}
+use Rattle.rlsf_base.specs.Out.{Change, kept_at}
 use Rattle.rlsf_base.specs.Changes.{IsIn, IsOwn}
 use Rattle.rlsf_base.specs.Range.{LiesIn, range_at}
 use Rattle.rlsf_base.specs.OpenSpace.{Home}
+use Rattle.rlsf_base.specs.Space.{Space, out_at}
 use Rattle.rlsf_base.specs.Steps.Block.{start_of}
 use Rattle.rlsf_base.specs.Steps.Ownership.{units_in}
 
@@ -30,6 +31,10 @@ home_from view of = record { start = start_of view.shift of.0; len = of.1; view 
 abbrev pub IsFull : Piece → Type 0
 IsFull p = IsIn p.out 0 (length p.bytes)
 
+-- each byte of a part has the state that it has in a memory, from the range's start on
+unfoldable pub HasStatesOf : Space → Range → Piece → Type 0
+HasStatesOf m r p = (k : ℕ) → k < r.len → kept_at p.out k ≡ out_at m (r.start + k)
+
 -- what the fields of a part say of each other
 pub record IsPiece (view : View) (range : Range) (bytes : Bytes) : Type 0 where
   pub lies : LiesIn range (home_from view bytes.of).start bytes.of.1
@@ -37,6 +42,10 @@ pub record IsPiece (view : View) (range : Range) (bytes : Bytes) : Type 0 where
   pub place : (view.base.ptr ≡ bytes.at) × (bytes.skip ≡ (view.shift + range.start) % 2 ^ 64) × (bytes.units ≡ units_in view.shift bytes.of.0 bytes.of.1)
   pub whole : (length bytes.bytes ≡ range.len) × IsOwn bytes.out 0 (length bytes.bytes)
   pub small : bytes.skip + range.len < 2 ^ 63
+
+-- the owner of a part's bytes
+abbrev pub HasBytes : Piece → Bytes → Type 0
+HasBytes p b = IsPiece p.home.view (piece_range p) b × (home_from p.home.view b.of ≡ p.home) × (b.bytes ≡ p.bytes) × (b.out ≡ p.out)
 
 -- whole units of 16 bytes that left a memory: the memory, where they begin there, and how many bytes they have
 pub record UnitPiece : Type 0 where
@@ -58,3 +67,7 @@ pub record IsUnitPiece (view : View) (range : Range) (units : Units) : Type 0 wh
   pub place : (view.base.ptr ≡ units.at) × (units.first * 16 ≡ (view.shift + range.start) % 2 ^ 64)
   pub aligned : view.shift % 16 ≡ 0
   pub whole : units.count * 16 ≡ range.len
+
+-- the owner of such units
+abbrev pub HasUnitsOf : UnitPiece → Units → Type 0
+HasUnitsOf p u = IsUnitPiece p.home.view (unit_range p) u × (home_from p.home.view u.of ≡ p.home)

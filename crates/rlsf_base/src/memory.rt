@@ -11,12 +11,14 @@ use std::mem::size_of;
 pub(crate) mod block;
 pub(crate) mod copying;
 pub(crate) mod counters;
+pub(crate) mod filling;
 mod layout;
 pub mod ledger;
 mod open_memory;
 mod part;
 mod range;
 mod raw_parts;
+mod unit_payload;
 mod view;
 pub(crate) mod zeroed;
 
@@ -25,6 +27,7 @@ pub use layout::{Layout, LayoutError};
 pub use open_memory::OpenMemory;
 pub use part::{Part, UnitPart};
 pub use range::{Addr, Range};
+pub use unit_payload::UnitPayload;
 pub use view::View;
 
 /// The reason why a `Memory` was not created. Each error has a number.

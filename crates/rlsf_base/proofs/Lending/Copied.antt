@@ -8,7 +8,7 @@ use Rattle.rlsf_base.specs.Range.{end_of, LiesIn, range_at}
 use Rattle.rlsf_base.specs.Space.{Space, bytes_in, out_at, word_at, word_range, with_bytes}
 use Rattle.rlsf_base.specs.OpenSpace.{IsOwned, SameOwn, StaysHere, out_with}
 use Rattle.rlsf_base.proofs.Changes.{back-there, back-before, back-behind}
-use Rattle.rlsf_base.proofs.Lending.Here.{word_at-kept}
+use Rattle.rlsf_base.proofs.Lending.WordIsHere.{word_at-kept}
 use Rattle.rlsf_base.proofs.Lending.Replaced.{length-with, bytes_in-with, bytes_in-there}
 use Rattle.rlsf_base.proofs.Lending.Whole.{none-with}
 
@@ -30,7 +30,7 @@ module _ (m n : Space) (from : Range) (to : ℕ) (placed : LiesIn from m.start (
   bytes_in-with_bytes = bytes_in-with m n there (bytes_in m from) room-there full start spliced
 
   -- each byte of the copy is here, and what any other is stays
-  out_at-there : (k : ℕ) → to ≤ k → k < to + from.len → out_at n k ≡ here
+  pub out_at-there : (k : ℕ) → to ≤ k → k < to + from.len → out_at n k ≡ here
   out_at-there k lo hi = (λ i. kept_at (out i) (k - start i)) ∙ back-there m.out (to - m.start) from.len (k - m.start) (omega (arith, room-there)) (omega (arith, room-there, hi))
 
   pub out_at-copied : (k : ℕ) → m.start ≤ k → (k < to) ⊎ (to + from.len ≤ k) → out_at n k ≡ out_at m k

@@ -4,7 +4,7 @@ use Rattle.std.specs.List.{splice}
 use Rattle.rlsf_base.specs.declared.memory.range.Range.{Range}
 use Rattle.rlsf_base.specs.Range.{end_of, LiesIn}
 use Rattle.rlsf_base.specs.Space.{Space, byte_at, byte_range, bytes_in, word_range, word_at}
-use Rattle.rlsf_base.proofs.Lending.Here.{word_at-kept}
+use Rattle.rlsf_base.proofs.Lending.WordIsHere.{word_at-kept}
 use Rattle.rlsf_base.proofs.Lending.Present.{out-same}
 use Rattle.rlsf_base.proofs.Words.Splices.{length-splice, splice-inside, splice-before, splice-after}
 

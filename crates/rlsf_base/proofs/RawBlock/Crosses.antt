@@ -1,7 +1,7 @@
 -- The parts of a memory may cross threads.
 use base.Share.{quarter, three_quarters}
 use types.Keyed.{entry_keyless, entries_keyless}
-use Rattle.rlsf_base.specs.Ledger.{Entry, entry_shares, entry_owns, ledger_owns}
+use Rattle.rlsf_base.specs.Ledger.{Entry, Extent, entry_shares, entry_owns, extent, ledger_owns, nowhere, shown_by}
 use Rattle.rlsf_base.specs.contracts.memory.ledger.Ledger as Ledger
 use Rattle.rlsf_base.specs.contracts.memory.ledger.Ticket as Ticket
 use Rattle.std.proofs.Common.{ℕ, zero, suc, ◌+◌, ◌*◌, length, Bool, true, false, List, [], ◌∷◌}
@@ -100,13 +100,13 @@ Counters-send =
 pub Counters-sync : IsSync Counters.the_row
 Counters-sync = record { shared = λ d b o κ q. part_keyless Counters.the_row Counters-send q d b o }
 
-entry-Keyless : (δ k : ℕ) (t : Bool) (v : ℕ × ℕ) → Keyless (entry_owns δ k t v)
+entry-Keyless : (δ k : ℕ) (t : Bool) (v : Extent) → Keyless (entry_owns δ k t v)
 entry-Keyless δ k true v = entry_keyless entry_shares δ k (quarter, v)
 entry-Keyless δ k false v = entry_keyless entry_shares δ k (full_share, v)
 
 ledger-Keyless : (δ k : ℕ) (es : List Entry) → Keyless (ledger_owns δ k es)
-ledger-Keyless δ k [] = entries_keyless entry_shares δ k (λ _. (full_share, (0, 0)))
-ledger-Keyless δ k (e ∷ es) = (entry-Keyless δ k e.live (e.addr, e.len), ledger-Keyless δ (suc k) es)
+ledger-Keyless δ k [] = entries_keyless entry_shares δ k (λ _. (full_share, nowhere))
+ledger-Keyless δ k (e ∷ es) = (entry-Keyless δ k e.live (shown_by e), ledger-Keyless δ (suc k) es)
 
 pub Ledger-send : IsSend Ledger.the_row
 Ledger-send =
@@ -116,4 +116,4 @@ Ledger-send =
 pub Ticket-send : IsSend Ticket.the_row
 Ticket-send =
     let O = Ticket.the_type in let all : AllSend (fields O) = (search sendable, tt) in
-    owning_send O all (λ d. entry_keyless entry_shares d.name d.key (three_quarters, (d.addr, d.len))) (λ k. quiet (to O) (exits_of k (fields O)) ((struct_send (shape O) all).leaving k))
+    owning_send O all (λ d. entry_keyless entry_shares d.name d.key (three_quarters, extent d.addr d.len d.align)) (λ k. quiet (to O) (exits_of k (fields O)) ((struct_send (shape O) all).leaving k))

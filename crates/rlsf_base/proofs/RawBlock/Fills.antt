@@ -19,8 +19,8 @@ all_own cs i n was k = elim (cases_lt k i) [
 pub none_own : IsAllOwn []
 none_own k = ap is_own (none-out k)
 
-pub filled : (old : List ℕ) (i : ℕ) → i < length old → splice (replicate i 0 ++ drop i old) i (i + 1) (0 ∷ []) ≡ replicate (i + 1) 0 ++ drop (i + 1) old
-filled old i in_row = grind (arith, common_steps)
+pub filled : (old : List ℕ) (i value : ℕ) → i < length old → splice (replicate i value ++ drop i old) i (i + 1) (value ∷ []) ≡ replicate (i + 1) value ++ drop (i + 1) old
+filled old i value in_row = grind (arith, common_steps)
 
 pub grows : (cs : List Change) (i : ℕ) → IsIn cs 0 i → IsIn (came_back i 1 cs) 0 (i + 1)
 grows cs i was k lo hi = elim (cases_lt k i) [

@@ -26,9 +26,9 @@ use Rattle.std.proofs.Common.{inl, inr}
 use Rattle.std.proofs.lemmas.Bool.{false≢true}
 use Rattle.std.proofs.Math.Nat.{eq-or-lt_of_le}
 use Rattle.rlsf_base.specs.Out.{Change, Kept, here, raw, out, is_own, kept_at}
-use Rattle.rlsf_base.specs.Changes.{change, IsIn, IsOut, IsOwn, left, came_back, came_raw}
+use Rattle.rlsf_base.specs.Changes.{change, IsIn, IsOut, IsOwn, left, came_back, came_raw, shifted}
 use Rattle.rlsf_base.specs.Steps.Ownership.{bytes_ty, byte_in, held, byte_shown, shown}
-use Rattle.rlsf_base.proofs.Changes.{changed-there, changed-before, changed-behind, back-at}
+use Rattle.rlsf_base.proofs.Changes.{changed-there, changed-before, changed-behind, back-at, shifted-at}
 
 -- what holds at k and from there on holds from k on
 or-first : (is : ℕ → Kept) (k j : ℕ) → is k ≡ out → (suc k ≤ j → is j ≡ out) → k ≤ j → is j ≡ out
@@ -71,6 +71,15 @@ module _ {M : Type 1} {𝓤 : Ura M} (𝓛 : Logic 𝓤) (b : ℕ) where
   pub held-same : (is is' : ℕ → Kept) (k : ℕ) (xs : List ℕ) (o : ℕ) → ((j : ℕ) → k ≤ j → j < k + length xs → is j ≡ is' j) → held is k xs b o ≡ held is' k xs b o
   held-same is is' k [] o h = refl
   held-same is is' k (x ∷ xs) o h = λ i. fsep (byte_in (h k (omega arith) (omega arith) i) x b o) (held-same is is' (suc k) xs (o + 1) (λ j lo hi. h j (omega arith) (omega arith)) i)
+
+  -- the same bytes by places that are counted from another one on
+  held-counted : (is is' : ℕ → Kept) (k k' : ℕ) (xs : List ℕ) (o : ℕ) → ((j : ℕ) → j < length xs → is (k + j) ≡ is' (k' + j)) → held is k xs b o ≡ held is' k' xs b o
+  held-counted is is' k k' [] o h = refl
+  held-counted is is' k k' (x ∷ xs) o h =
+      let first : is k ≡ is' k' = (λ l. is (let e : k ≡ k + 0 = omega arith in e l)) ∙ h 0 (omega arith) ∙ (λ l. is' (let e : k' + 0 ≡ k' = omega arith in e l)) in
+      let others = held-counted is is' (suc k) (suc k') xs (o + 1)
+      (λ j lo. (λ l. is (let e : suc k + j ≡ k + suc j = omega arith in e l)) ∙ h (suc j) (omega arith) ∙ (λ l. is' (let e : k' + suc j ≡ suc k' + j = omega arith in e l))) in
+      λ i. fsep (byte_in (first i) x b o) (others i)
 
   -- of bytes that are all out, nothing is held
   held-gone : (is : ℕ → Kept) (k : ℕ) (xs : List ℕ) (o : ℕ) → ((j : ℕ) → k ≤ j → j < k + length xs → is j ≡ out) → ent 𝓤 (emp 𝓤) (sem 𝓛 (held is k xs b o))
@@ -144,6 +153,13 @@ module _ {M : Type 1} {𝓤 : Ura M} (𝓛 : Logic 𝓤) (b : ℕ) where
     run_in le inside ws long = qed 𝓛 (‵ (Row (i + o) ws) ∷ ‵ (Around (kept_at cs) o xs i n) ∷ []) ∵
         rewrite ! 0 (λ (F : Fml). ‵ F) (sym (held-in (kept_at cs) i ws (i + o) (λ j lo hi. inside j lo (omega (arith, long))))) refl $
         by ! (together (kept_at cs) o xs i n le ws long)
+
+    -- the run is taken out as it is
+    pub part_out : i + n ≤ length xs → ent 𝓤 (sem 𝓛 (held (kept_at cs) 0 xs b o)) (sep 𝓤 (sem 𝓛 (held (kept_at (shifted i cs)) 0 (take n (drop i xs)) b (i + o))) (sem 𝓛 (Around (kept_at cs) o xs i n)))
+    part_out le =
+        let run = take n (drop i xs) in
+        qed 𝓛 (‵ (held (kept_at cs) 0 xs b o) ∷ []) ∵ use1 𝓛 (‵ (held (kept_at cs) i run b (i + o)) ⊛ ‵ (Around (kept_at cs) o xs i n)) (apart (kept_at cs) o xs i n le) $ split ! $
+        rewrite ! 0 (λ (F : Fml). ‵ F) (held-counted (kept_at cs) (kept_at (shifted i cs)) i 0 run (i + o) (λ j lo. sym ((λ l. kept_at (shifted i cs) (let e : 0 + j ≡ j = omega arith in e l)) ∙ shifted-at i cs j))) refl $ done !
 
     -- the run is taken out as room
     pub room_out : i + n ≤ length xs → IsOwn cs i n → ent 𝓤 (sem 𝓛 (held (kept_at cs) 0 xs b o)) (sep 𝓤 (𝓛.H.room (bytes_ty n) b (i + o)) (sem 𝓛 (Around (kept_at cs) o xs i n)))

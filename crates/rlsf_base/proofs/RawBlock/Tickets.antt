@@ -10,7 +10,6 @@ use base.Fraction.{full_share}
 use base.Share.{quarter, three_quarters}
 use base.FractionLaws.{not-OpDef-full_share}
 use base.Share
-use base.Stored.{coded_ℕ, coded×}
 use base.SetCodes.{coded, SetCoded-set}
 use base.Algebras.{pcs, shares}
 use base.Logic.{SProp, ent, sep, ex, guard, upd, via, ex_e, guard_e, guard_i, upd_mono}
@@ -19,11 +18,11 @@ use types.Logic.{Logic, sem}
 use types.Keyed.{entry, entries_take, entries_beside, entry_cut, entry_glue, entry_set}
 use types.Owned.{basic}
 use types.Kit.{‵, ◌⊛◌, given, later, ◌$◌, ◌∵◌, !, qed, move, split, learn, check, fjoin, fsplit, done, use1, use2, rewrite, await, updating, now}
-use Rattle.rlsf_base.specs.Ledger.{Entry, entry_of, entry_shares, entry_share, entry_owns, ledger_owns, IsIssued}
+use Rattle.rlsf_base.specs.Ledger.{Entry, Extent, coded_extent, entry_of, nowhere, shown_by, entry_shares, entry_share, entry_owns, ledger_owns, IsIssued}
 
 module _ {M : Type 1} {𝓤 : Ura M} (𝓛 : Logic 𝓤) (δ : ℕ) where
   abbrev V : Type 0
-  V = ℕ × ℕ
+  V = Extent
 
   abbrev Pr : Type 2
   Pr = SProp 𝓤
@@ -49,7 +48,7 @@ module _ {M : Type 1} {𝓤 : Ura M} (𝓛 : Logic 𝓤) (δ : ℕ) where
   W k v = entry_share δ k full_share v
 
   whole : (v : V) → ◌∈◌ {α = Share × V} (full_share, v) (entry_shares.op (quarter, v) (three_quarters, v))
-  whole v = Prod.mk-mem-op Share.op (Ag.op (SetCoded-set (coded (coded× coded_ℕ coded_ℕ)))) {a = quarter} {a' = three_quarters} {x = full_share} {b = v} {b' = v} {y = v} Share.quarters (Ag.idem (SetCoded-set (coded (coded× coded_ℕ coded_ℕ))) v)
+  whole v = Prod.mk-mem-op Share.op (Ag.op (SetCoded-set (coded coded_extent))) {a = quarter} {a' = three_quarters} {x = full_share} {b = v} {b' = v} {y = v} Share.quarters (Ag.idem (SetCoded-set (coded coded_extent)) v)
 
   -- whoever has the whole of an entry sets it, and has its two parts
   resets : (k : ℕ) (v u : V) → ⟦ W k v ⟧ ⊢ upd 𝓤 (⟦ L k u ⟧ ∗ ⟦ R k u ⟧)
@@ -77,18 +76,18 @@ module _ {M : Type 1} {𝓤 : Ura M} (𝓛 : Logic 𝓤) (δ : ℕ) where
 
   pub redeems : (es : List Entry) (k i j : ℕ) (v : V) → j ≡ k + i → ⟦ ledger_owns δ k es ⟧ ∗ ⟦ R j v ⟧ ⊢ guard 𝓤 (IsIssued es i v) ⟦ ledger_owns δ k (set es i (entry_of v false)) ⟧
   redeems [] k i j v e = qed 𝓛 (‵ (ledger_owns δ k []) ∷ ‵ (R j v) ∷ []) ∵ move ! (1 ∷ 0 ∷ []) $
-      use2 𝓛 (given (OpDef entry_shares.op (three_quarters, v) (full_share, (0, 0))) (‵ (R j v) ⊛ ‵ (ledger_owns δ k []))) (entries_beside entry_shares 𝓛 δ k j (λ _. (full_share, (0, 0))) (three_quarters, v) (omega (arith, e))) $
+      use2 𝓛 (given (OpDef entry_shares.op (three_quarters, v) (full_share, nowhere)) (‵ (R j v) ⊛ ‵ (ledger_owns δ k []))) (entries_beside entry_shares 𝓛 δ k j (λ _. (full_share, nowhere)) (three_quarters, v) (omega (arith, e))) $
       learn ! (λ x. absurd (not-OpDef-full_share three_quarters ((OpDef-comm (pcs shares) {a = three_quarters} {b = full_share}).0 x.0)))
   redeems (c ∷ cs) k zero j v e = let is : j ≡ k = omega (arith, e) in qed 𝓛 (‵ (ledger_owns δ k (c ∷ cs)) ∷ ‵ (R j v) ∷ []) ∵ fsplit ! $ rewrite ! 2 (λ (m : ℕ). ‵ (R m v)) is refl $ move ! (0 ∷ 2 ∷ []) $
-      use2 𝓛 (given (Same c.live (c.addr, c.len) v) (‵ (W k (c.addr, c.len)))) (one c.live k (c.addr, c.len) v) $ learn ! (λ same.
-      check ! ((let r : zero < suc (length cs) = omega arith in r), (λ i. record { addr = (same.1 i).0; len = (same.1 i).1; live = same.0 i })) $
+      use2 𝓛 (given (Same c.live (shown_by c) v) (‵ (W k (shown_by c)))) (one c.live k (shown_by c) v) $ learn ! (λ same.
+      check ! ((let r : zero < suc (length cs) = omega arith in r), (λ i. record { addr = (same.1 i).addr; len = (same.1 i).len; align = (same.1 i).align; live = same.0 i })) $
       rewrite ! 0 (λ (u : V). ‵ (W k u)) same.1 refl $ fjoin ! $ done !)
   redeems (c ∷ cs) k (suc i) j v e = qed 𝓛 (‵ (ledger_owns δ k (c ∷ cs)) ∷ ‵ (R j v) ∷ []) ∵ fsplit ! $ move ! (1 ∷ 2 ∷ []) $
       use2 𝓛 (given (IsIssued cs i v) (‵ (ledger_owns δ (suc k) (set cs i (entry_of v false))))) (redeems cs (suc k) i j v (omega (arith, e))) $ learn ! (λ out.
       let l : i < length cs = out.0 in check ! ((let r : suc i < suc (length cs) = omega arith in r), out.1) $ move ! (1 ∷ 0 ∷ []) $ fjoin ! $ done !)
 
   pub issues : (es : List Entry) (k j : ℕ) (v : V) → j ≡ k + length es → ⟦ ledger_owns δ k es ⟧ ⊢ 𝓛.H.⇛ (⟦ ledger_owns δ k (es ++ entry_of v true ∷ []) ⟧ ∗ ⟦ R j v ⟧)
-  issues [] k j v e = let is : k ≡ j = omega (arith, e) in qed 𝓛 (‵ (ledger_owns δ k []) ∷ []) ∵ updating ! $ use1 𝓛 (‵ (W k (0, 0)) ⊛ ‵ (ledger_owns δ (suc k) [])) (entries_take entry_shares 𝓛 δ k (λ _. (full_share, (0, 0)))) $ split ! $
-      use1 𝓛 (later (‵ (L k v) ⊛ ‵ (R k v))) (via 𝓤 _ (resets k (0, 0) v) (basic 𝓛 _)) $ await ! tt $ split ! $ move ! (0 ∷ 2 ∷ []) $ fjoin ! $ rewrite ! 1 (λ (m : ℕ). ‵ (R m v)) is refl $ now ! $ done !
+  issues [] k j v e = let is : k ≡ j = omega (arith, e) in qed 𝓛 (‵ (ledger_owns δ k []) ∷ []) ∵ updating ! $ use1 𝓛 (‵ (W k nowhere) ⊛ ‵ (ledger_owns δ (suc k) [])) (entries_take entry_shares 𝓛 δ k (λ _. (full_share, nowhere))) $ split ! $
+      use1 𝓛 (later (‵ (L k v) ⊛ ‵ (R k v))) (via 𝓤 _ (resets k nowhere v) (basic 𝓛 _)) $ await ! tt $ split ! $ move ! (0 ∷ 2 ∷ []) $ fjoin ! $ rewrite ! 1 (λ (m : ℕ). ‵ (R m v)) is refl $ now ! $ done !
   issues (c ∷ cs) k j v e = qed 𝓛 (‵ (ledger_owns δ k (c ∷ cs)) ∷ []) ∵ updating ! $ fsplit ! $ move ! (1 ∷ []) $
       use1 𝓛 (later (‵ (ledger_owns δ (suc k) (cs ++ entry_of v true ∷ [])) ⊛ ‵ (R j v))) (issues cs (suc k) j v (omega (arith, e))) $ await ! tt $ split ! $ move ! (2 ∷ 0 ∷ []) $ fjoin ! $ now ! $ done !

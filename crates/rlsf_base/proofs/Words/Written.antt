@@ -8,7 +8,7 @@ use Rattle.rlsf_base.specs.Range.{end_of}
 use Rattle.rlsf_base.specs.Out.{here, is_own, kept_at}
 use Rattle.rlsf_base.specs.Space.{Space, bytes_in, word_range, out_at, word_at, with_word}
 use Rattle.rlsf_base.specs.OpenSpace.{IsWritable, out_with}
-use Rattle.rlsf_base.proofs.Lending.Here.{word_at-is, word_at-kept}
+use Rattle.rlsf_base.proofs.Lending.WordIsHere.{word_at-is, word_at-kept}
 use Rattle.rlsf_base.proofs.Changes.{back-there, back-before, back-behind, back-none}
 use Rattle.rlsf_base.proofs.Words.Splices.{length-splice, splice-inside, splice-before, splice-after}
 

@@ -5,7 +5,7 @@ ghost use Rattle.std.specs.Borrow.{sem};
 ghost use base.Fml.{ftrue};
 ghost use denote.RawPtr.{Ptr, null_ptr, ◌+ₚ◌};
 ghost use Rattle.rlsf_base.specs.Out.{Change, kept_at};
-ghost use Rattle.rlsf_base.specs.Changes.{IsIn, IsOut, IsOwn, left, came_back, came_raw};
+ghost use Rattle.rlsf_base.specs.Changes.{IsIn, IsOut, IsOwn, left, came_back, came_raw, shifted};
 ghost use Rattle.rlsf_base.specs.Steps.Ownership.{bytes_at, bytes_own, bytes_lent, deed_owns, room_at, units_for, units_from, units_own};
 
 use std::alloc::Allocator;
@@ -15,7 +15,7 @@ use std::slice;
 /// The place at which the block begins. It owns nothing.
 #[derive(Clone, Copy)]
 pub(crate) struct Base {
-    ptr: *mut u8,
+    pub(crate) ptr: *mut u8,
 }
 
 unsafe impl Send for Base {}
@@ -25,7 +25,7 @@ unsafe impl Sync for Base {}
 /// The owner of the block's bytes from its place `skip` on. It takes no space: the memory holds the pointer and the
 /// length.
 pub(crate) struct Bytes {
-    mark: PhantomData<*const u8>,
+    pub(crate) mark: PhantomData<*const u8>,
     ghost at: { Ptr },
     ghost skip: { ℕ },
     ghost bytes: { List ℕ },
@@ -48,7 +48,7 @@ unsafe impl Sync for Bytes {}
 
 /// Room for `count` units of 16 bytes of the block, aligned to 16, from its unit `first` on. It takes no space.
 pub(crate) struct Units {
-    mark: PhantomData<*const u8>,
+    pub(crate) mark: PhantomData<*const u8>,
     ghost at: { Ptr },
     ghost first: { ℕ },
     ghost count: { ℕ },
@@ -230,6 +230,13 @@ impl<A: Allocator> Deed<A> {
     }
 }
 
+impl Units {
+    /// Consumes the owner: the units are nobody's.
+    pub(crate) fn end(self) {
+        let Units { mark: _ } = self;
+    }
+}
+
 impl Bytes {
     ghost use Rattle.rlsf_base.specs.Steps.LentParts.{lends_part};
 
@@ -252,7 +259,7 @@ impl Bytes {
     /// Writes the byte at the place `place` of the block. It may not be out, and is then here. No other byte changes.
     pub(crate) fn write(&mut self, base: Base, place: usize, byte: u8)
         requires { (base.ptr ≡ self.old.at) × (self.old.skip ≤ place) × (place < self.old.skip + length self.old.bytes) × IsOwn self.old.out (place - self.old.skip) 1 }
-        ensures { (self.new.at ≡ self.old.at) × (self.new.skip ≡ self.old.skip) × (self.new.bytes ≡ splice self.old.bytes (place - self.old.skip) (place - self.old.skip + 1) (byte ∷ [])) × (self.new.out ≡ came_back (place - self.old.skip) 1 self.old.out) × (self.new.units ≡ self.old.units) }
+        ensures { (self.new.at ≡ self.old.at) × (self.new.skip ≡ self.old.skip) × (self.new.bytes ≡ splice self.old.bytes (place - self.old.skip) (place - self.old.skip + 1) (byte ∷ [])) × (self.new.out ≡ came_back (place - self.old.skip) 1 self.old.out) × (self.new.units ≡ self.old.units) × (self.new.of ≡ self.old.of) }
     {
         unsafe { base.ptr.add(place).write(byte) }
     }
@@ -272,14 +279,14 @@ impl Bytes {
     pub(crate) fn recount(&mut self)
         ghost out: { List Change }
         requires { (k : ℕ) → k < length self.old.bytes → kept_at self.old.out k ≡ kept_at out k }
-        ensures { (self.new.at ≡ self.old.at) × (self.new.skip ≡ self.old.skip) × (self.new.bytes ≡ self.old.bytes) × (self.new.out ≡ out) × (self.new.units ≡ self.old.units) }
+        ensures { (self.new.at ≡ self.old.at) × (self.new.skip ≡ self.old.skip) × (self.new.bytes ≡ self.old.bytes) × (self.new.out ≡ out) × (self.new.units ≡ self.old.units) × (self.new.of ≡ self.old.of) }
     {}
 
     /// Empties the list of changes. Each byte must be here. No byte changes.
     #[inline(always)]
     pub(crate) fn settle(&mut self)
         requires { IsIn self.old.out 0 (length self.old.bytes) }
-        ensures { (self.new.at ≡ self.old.at) × (self.new.skip ≡ self.old.skip) × (self.new.bytes ≡ self.old.bytes) × (self.new.out ≡ []) × (self.new.units ≡ self.old.units) }
+        ensures { (self.new.at ≡ self.old.at) × (self.new.skip ≡ self.old.skip) × (self.new.bytes ≡ self.old.bytes) × (self.new.out ≡ []) × (self.new.units ≡ self.old.units) × (self.new.of ≡ self.old.of) }
     {
         self.recount();
     }
@@ -293,6 +300,16 @@ impl Bytes {
         unsafe { slice::from_raw_parts(base.ptr.add(place), len) }
     }
 
+    /// Returns the `len` bytes that begin `ahead` bytes behind the first of `units`, to which `from` points. They must be here.
+    #[inline(always)]
+    pub(crate) fn slice_ahead(&self, from: Base, units: &Units, ahead: usize, len: usize) -> &[u8]
+        requires { (from.ptr ≡ self.now.at +ₚ units.now.first * 16) × (self.now.skip ≤ units.now.first * 16 + ahead) × (units.now.first * 16 + ahead + len ≤ self.now.skip + length self.now.bytes) × IsIn self.now.out (units.now.first * 16 + ahead - self.now.skip) len }
+        ensures { result.now ≡ take len (drop (units.now.first * 16 + ahead - self.now.skip) self.now.bytes) }
+    {
+        let _ = units;
+        unsafe { slice::from_raw_parts(from.ptr.add(ahead), len) }
+    }
+
     /// Returns the `len` bytes from the place `place` of the block on, for reading and writing. They must be here.
     #[inline(always)]
     pub(crate) fn slice_mut(&mut self, base: Base, place: usize, len: usize) -> &mut [u8]
@@ -303,22 +320,12 @@ impl Bytes {
         unsafe { slice::from_raw_parts_mut(base.ptr.add(place), len) }
     }
 
-    /// Takes the `len` bytes from the place `place` of the block on out of this owner, and returns their owner. They must be
-    /// here, and keep their values.
+    /// Takes the `len` bytes from the place `place` of the block on out of this owner, and returns their owner. None may be
+    /// out. Each keeps its state, and its value.
     #[inline(always)]
     pub(crate) fn take_out(&mut self, place: usize, len: usize) -> Bytes
-        requires { (self.old.skip ≤ place) × (place + len ≤ self.old.skip + length self.old.bytes) × IsIn self.old.out (place - self.old.skip) len }
-        ensures { (result.at ≡ self.old.at) × (result.skip ≡ place) × (result.bytes ≡ take len (drop (place - self.old.skip) self.old.bytes)) × (result.out ≡ []) × (result.of ≡ (self.old.skip, length self.old.bytes)) × (self.new.at ≡ self.old.at) × (self.new.skip ≡ self.old.skip) × (self.new.bytes ≡ self.old.bytes) × (self.new.out ≡ left (place - self.old.skip) len self.old.out) × (self.new.units ≡ self.old.units) × (result.units ≡ self.old.units) }
-    {
-        Bytes { mark: PhantomData }
-    }
-
-    /// Takes the `len` bytes from the place `place` of the block on out of this owner, and returns their owner. None may be
-    /// out. They are then raw.
-    #[inline(always)]
-    pub(crate) fn take_room(&mut self, place: usize, len: usize) -> Bytes
         requires { (self.old.skip ≤ place) × (place + len ≤ self.old.skip + length self.old.bytes) × IsOwn self.old.out (place - self.old.skip) len }
-        ensures { (result.at ≡ self.old.at) × (result.skip ≡ place) × (length result.bytes ≡ len) × (result.out ≡ came_raw 0 len []) × (result.of ≡ (self.old.skip, length self.old.bytes)) × (self.new.at ≡ self.old.at) × (self.new.skip ≡ self.old.skip) × (self.new.bytes ≡ self.old.bytes) × (self.new.out ≡ left (place - self.old.skip) len self.old.out) × (self.new.units ≡ self.old.units) × (result.units ≡ self.old.units) }
+        ensures { (result.at ≡ self.old.at) × (result.skip ≡ place) × (result.bytes ≡ take len (drop (place - self.old.skip) self.old.bytes)) × (result.out ≡ shifted (place - self.old.skip) self.old.out) × (result.of ≡ (self.old.skip, length self.old.bytes)) × (self.new.at ≡ self.old.at) × (self.new.skip ≡ self.old.skip) × (self.new.bytes ≡ self.old.bytes) × (self.new.out ≡ left (place - self.old.skip) len self.old.out) × (self.new.units ≡ self.old.units) × (result.units ≡ self.old.units) }
     {
         Bytes { mark: PhantomData }
     }
@@ -346,7 +353,7 @@ impl Bytes {
     #[inline(always)]
     pub(crate) fn take_units(&mut self, first: usize, count: usize) -> Units
         requires { (self.old.skip ≤ first * 16) × (first * 16 + count * 16 ≤ self.old.skip + length self.old.bytes) × (first + count ≤ self.old.units) × IsOwn self.old.out (first * 16 - self.old.skip) (count * 16) }
-        ensures { (result.at ≡ self.old.at) × (result.first ≡ first) × (result.count ≡ count) × (result.of ≡ (self.old.skip, length self.old.bytes)) × (self.new.at ≡ self.old.at) × (self.new.skip ≡ self.old.skip) × (self.new.bytes ≡ self.old.bytes) × (self.new.out ≡ left (first * 16 - self.old.skip) (count * 16) self.old.out) × (self.new.units ≡ self.old.units) }
+        ensures { (result.at ≡ self.old.at) × (result.first ≡ first) × (result.count ≡ count) × (result.of ≡ (self.old.skip, length self.old.bytes)) × (self.new.at ≡ self.old.at) × (self.new.skip ≡ self.old.skip) × (self.new.bytes ≡ self.old.bytes) × (self.new.out ≡ left (first * 16 - self.old.skip) (count * 16) self.old.out) × (self.new.units ≡ self.old.units) × (self.new.of ≡ self.old.of) }
     {
         Units { mark: PhantomData }
     }

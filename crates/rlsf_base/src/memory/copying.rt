@@ -71,7 +71,7 @@ fn copy_apart(bytes: &mut Bytes, base: Base, from: usize, to: usize, len: usize)
     ensures bytes { (bytes.new.at ≡ bytes.old.at) × (bytes.new.skip ≡ bytes.old.skip) × (bytes.new.bytes ≡ splice bytes.old.bytes (to - bytes.old.skip) (to - bytes.old.skip + len) (take len (drop (from - bytes.old.skip) bytes.old.bytes))) × (bytes.new.units ≡ bytes.old.units) }
     ensures out { (k : ℕ) → kept_at bytes.new.out k ≡ kept_at (came_back (to - bytes.old.skip) len bytes.old.out) k }
 {
-    let mut part = bytes.take_room(to, len);
+    let mut part = bytes.take_out(to, len);
     write_bytes(&mut part, base, to, bytes.slice(base, from, len));
     bytes.put_back(part);
 }

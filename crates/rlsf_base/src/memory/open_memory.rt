@@ -2,7 +2,7 @@
 ghost use Rattle.std.specs.Prelude.{◌≡◌, ◌+◌, ◌-◌, ◌%◌, ◌^◌, ◌<◌, ◌≤◌, ◌↔◌, [], length, replicate, IfOk, IsOk, IsErrOf};
 ghost use Rattle.std.specs.Borrow.{sem};
 ghost use Rattle.rlsf_base.specs.Changes.{IsAllOwn};
-ghost use Rattle.rlsf_base.specs.OpenSpace.{HasUnits, IsHere, IsOwned, IsReadable, IsWritable, SameOwn, out_with};
+ghost use Rattle.rlsf_base.specs.OpenSpace.{HasUnits, IsHere, IsOwned, IsReadable, IsWritable, SameOwn, StaysHere, out_with};
 ghost use Rattle.rlsf_base.specs.Range.{range_at, LiesIn};
 ghost use Rattle.rlsf_base.specs.Space.{bytes_in, word_range, range_of, word_at, with_word, with_bytes};
 
@@ -71,6 +71,8 @@ impl OpenMemory {
         ensures bytes { IfOk result (λ m. m.bytes ≡ replicate len 0) }
         ensures counts { IfOk result (λ m. (m.touches ≡ 0) × (m.copied ≡ 0)) }
         ensures out { IfOk result (λ m. m.out ≡ []) }
+        ensures here { IfOk result (λ m. IsHere m (range_of m)) }
+        ensures own { IfOk result (λ m. IsAllOwn m.out) }
         ensures units { IfOk result (λ m. HasUnits m) }
     {
         addressed(start, len)?;
@@ -284,6 +286,8 @@ impl OpenMemory {
         ensures view { self.new.view ≡ self.old.view }
         ensures out { self.new.out ≡ out_with self.old (word_range addr) }
         ensures own { SameOwn self.old self.new }
+        ensures here { IsHere self.new (word_range addr) }
+        ensures stays { StaysHere self.old self.new }
     {
         let view = self.view();
         self.set_word_at(view, addr, word);
@@ -306,6 +310,8 @@ impl OpenMemory {
         ensures view { self.new.view ≡ self.old.view }
         ensures out { self.new.out ≡ out_with self.old (word_range addr) }
         ensures own { SameOwn self.old self.new }
+        ensures here { IsHere self.new (word_range addr) }
+        ensures stays { StaysHere self.old self.new }
     {
         self.bytes
             .write_word(view.base, view.place(addr), word.to_le_bytes());
@@ -341,6 +347,9 @@ impl OpenMemory {
         ensures copied { self.new.copied ≡ self.old.copied + range.len }
         ensures view { self.new.view ≡ self.old.view }
         ensures out { self.new.out ≡ out_with self.old (range_at to range.len) }
+        ensures own { SameOwn self.old self.new }
+        ensures here { IsHere self.new (range_at to range.len) }
+        ensures stays { StaysHere self.old self.new }
     {
         let view = self.view();
         let (from, place) = (view.place(range.start), view.place(to));

@@ -1,13 +1,14 @@
 //! Bytes of a memory that left it: how they leave, and come back.
-ghost use Rattle.std.specs.Prelude.{◌≡◌, [], length};
+ghost use Rattle.std.specs.Prelude.{◌≡◌, ◌≤◌, ℕ, List, length, replicate};
 ghost use Rattle.std.specs.Borrow.{sem};
-ghost use Rattle.rlsf_base.specs.Changes.{came_raw};
-ghost use Rattle.rlsf_base.specs.OpenSpace.{HasUnits, home_of, IsAway, IsHere, IsOwned, out_raw, out_with, out_without};
-ghost use Rattle.rlsf_base.specs.Piece.{piece_range, unit_range, IsFull, IsUnits};
-ghost use Rattle.rlsf_base.specs.Range.{LiesIn};
+ghost use Rattle.rlsf_base.specs.OpenSpace.{HasUnits, home_of, IsAway, IsHere, IsOwned, StaysHere, StaysHereBeside, StaysOwnBeside, out_raw, out_with, out_without};
+ghost use Rattle.rlsf_base.specs.Piece.{piece_range, unit_range, HasStatesOf, IsFull, IsUnits};
+ghost use Rattle.rlsf_base.specs.declared.memory.range.Range.{Range};
+ghost use Rattle.rlsf_base.specs.Range.{AreApart, LiesIn};
 ghost use Rattle.rlsf_base.specs.Space.{bytes_in, with_bytes};
 
 use super::block::{Bytes, Units};
+use super::filling::fill_bytes;
 use super::open_memory::OpenMemory;
 use super::range::Range;
 use super::view::View;
@@ -15,8 +16,8 @@ use std::marker::Model;
 
 /// Bytes that left an `OpenMemory`: the part owns them. Each is here, with a value, or raw, without one.
 ///
-/// A part is `Send`, so it can cross to another thread. `put_back` and `put_room` of its memory take it back. It has no
-/// `Drop`.
+/// A part is `Send`, so it can cross to another thread. `put_back` and `put_room` of its memory take it back. Dropping a
+/// part leaks it: its bytes stay out, and `free` can't deallocate the memory any more.
 pub struct Part {
     pub(crate) view: View,
     pub(crate) range: Range,
@@ -33,9 +34,28 @@ impl Model for Part {
     ghost invariant = { λ p. IsPiece p.view p.range p.bytes };
 }
 
+impl Drop for Part {
+    fn drop(self) {
+        self.into_bytes().end();
+    }
+}
+
 impl Part {
-    ghost use Rattle.rlsf_base.specs.LendsPiece.{LendsPiece};
-    ghost use Rattle.rlsf_base.specs.Piece.{IsFull};
+    ghost use Rattle.rlsf_base.specs.LendsPiece.{LendsPiece, lent_piece};
+    ghost use Rattle.rlsf_base.specs.Piece.{HasBytes, IsFull};
+
+    // Consumes the part and returns the owner of its bytes. Only a method can take a part apart.
+    #[inline(always)]
+    pub(crate) fn into_bytes(self) -> Bytes
+        ensures { HasBytes self result }
+    {
+        let Part {
+            view: _,
+            range: _,
+            bytes,
+        } = self;
+        bytes
+    }
 
     /// Returns the address of the first byte.
     pub fn start(&self) -> usize
@@ -69,16 +89,33 @@ impl Part {
         requires { IsFull self.old }
         ensures* writes_back { sem 𝓛 (LendsPiece self.entry result) }
         ensures value { result.now ≡ self.old.bytes }
+        ensures filled { (w : List ℕ) → length w ≡ length result.now → (lent_piece self.old w).bytes ≡ w }
+        ensures lengths { (w : List ℕ) → length (lent_piece self.old w).bytes ≡ length self.old.bytes }
+        ensures full { (w : List ℕ) → IsFull (lent_piece self.old w) }
+        ensures home { (w : List ℕ) → (lent_piece self.old w).home ≡ self.old.home }
+        ensures start { (w : List ℕ) → (lent_piece self.old w).start ≡ self.old.start }
     {
         let view = self.view;
         let start = self.range.start;
         let len = self.range.len;
         self.bytes.slice_mut(view.base, view.place(start), len)
     }
+
+    /// Writes `value` to each byte. All are then here. The address and the length don't change.
+    pub fn fill(&mut self, value: u8)
+        ensures bytes { self.new.bytes ≡ replicate (length self.old.bytes) value }
+        ensures full { IsFull self.new }
+        ensures home { self.new.home ≡ self.old.home }
+        ensures start { self.new.start ≡ self.old.start }
+    {
+        let view = self.view;
+        let place = view.place(self.range.start);
+        fill_bytes(&mut self.bytes, view.base, place, self.range.len, value);
+    }
 }
 
 /// Units of 16 bytes that left a memory: the value owns their room, which is aligned to 16. It can go to another thread, and
-/// back into that memory.
+/// back into that memory. Dropping it leaks it, as with a `Part`.
 pub struct UnitPart {
     pub(crate) view: View,
     pub(crate) range: Range,
@@ -95,7 +132,28 @@ impl Model for UnitPart {
     ghost invariant = { λ p. IsUnitPiece p.view p.range p.units };
 }
 
+impl Drop for UnitPart {
+    fn drop(self) {
+        self.into_units().end();
+    }
+}
+
 impl UnitPart {
+    ghost use Rattle.rlsf_base.specs.Piece.{HasUnitsOf};
+
+    // Consumes the part and returns the owner of its units. Only a method can take a part apart.
+    #[inline(always)]
+    fn into_units(self) -> Units
+        ensures { HasUnitsOf self result }
+    {
+        let UnitPart {
+            view: _,
+            range: _,
+            units,
+        } = self;
+        units
+    }
+
     /// Returns the address of the first byte.
     pub fn start(&self) -> usize
         ensures { result ≡ self.now.start }
@@ -112,44 +170,29 @@ impl UnitPart {
 }
 
 impl OpenMemory {
-    /// Takes the bytes of `range` out of the memory, and returns the part that owns them. They keep their values. Nothing
-    /// else changes.
-    ///
-    /// `range` must lie in the memory, and its bytes must be here.
-    #[inline(always)]
-    pub fn take_out(&mut self, range: Range) -> Part
-        requires place { LiesIn range self.old.start (length self.old.bytes) }
-        requires here { IsHere self.old range }
-        ensures part { (result.home ≡ home_of self.old) × (result.start ≡ range.start) × (result.bytes ≡ bytes_in self.old range) × (result.out ≡ []) }
-        ensures start { self.new.start ≡ self.old.start }
-        ensures bytes { self.new.bytes ≡ self.old.bytes }
-        ensures touches { self.new.touches ≡ self.old.touches }
-        ensures copied { self.new.copied ≡ self.old.copied }
-        ensures view { self.new.view ≡ self.old.view }
-        ensures out { self.new.out ≡ out_without self.old range }
-    {
-        let view = self.view();
-        let bytes = self.bytes.take_out(view.place(range.start), range.len);
-        Part { view, range, bytes }
-    }
-
-    /// Takes the bytes of `range` out of the memory, and returns the part that owns them. They are raw. Nothing else changes.
+    /// Takes the bytes of `range` out of the memory, and returns the part that owns them. Each is here or raw, as it was, and
+    /// keeps its value. Nothing else changes.
     ///
     /// `range` must lie in the memory, and no byte of it may be out.
     #[inline(always)]
-    pub fn take_room(&mut self, range: Range) -> Part
+    pub fn take_out(&mut self, range: Range) -> Part
         requires place { LiesIn range self.old.start (length self.old.bytes) }
         requires own { IsOwned self.old range }
-        ensures part { (result.home ≡ home_of self.old) × (result.start ≡ range.start) × (length result.bytes ≡ range.len) × (result.out ≡ came_raw 0 range.len []) }
+        ensures part { (result.home ≡ home_of self.old) × (result.start ≡ range.start) × (result.bytes ≡ bytes_in self.old range) }
+        ensures len { length result.bytes ≡ range.len }
+        ensures kept { HasStatesOf self.old range result }
+        ensures full { IsHere self.old range → IsFull result }
         ensures start { self.new.start ≡ self.old.start }
         ensures bytes { self.new.bytes ≡ self.old.bytes }
         ensures touches { self.new.touches ≡ self.old.touches }
         ensures copied { self.new.copied ≡ self.old.copied }
         ensures view { self.new.view ≡ self.old.view }
         ensures out { self.new.out ≡ out_without self.old range }
+        ensures beside { StaysHereBeside self.old self.new range }
+        ensures own_beside { StaysOwnBeside self.old self.new range }
     {
         let view = self.view();
-        let bytes = self.bytes.take_room(view.place(range.start), range.len);
+        let bytes = self.bytes.take_out(view.place(range.start), range.len);
         Part { view, range, bytes }
     }
 
@@ -168,13 +211,14 @@ impl OpenMemory {
         ensures copied { self.new.copied ≡ self.old.copied }
         ensures view { self.new.view ≡ self.old.view }
         ensures out { self.new.out ≡ out_with self.old (piece_range part) }
+        ensures here { IsHere self.new (piece_range part) }
+        ensures stays { StaysHere self.old self.new }
+        ensures own { IsOwned self.new (piece_range part) }
+        ensures own_beside { StaysOwnBeside self.old self.new (piece_range part) }
+        ensures values { bytes_in self.new (piece_range part) ≡ part.bytes }
+        ensures others { (q : Range) → self.old.start ≤ q.start → AreApart (piece_range part) q → bytes_in self.new q ≡ bytes_in self.old q }
     {
-        let Part {
-            view: _,
-            range: _,
-            bytes,
-        } = part;
-        self.bytes.put_back(bytes);
+        self.bytes.put_back(part.into_bytes());
     }
 
     /// Puts the bytes of `part` back. They are then raw. Nothing else changes.
@@ -190,13 +234,11 @@ impl OpenMemory {
         ensures copied { self.new.copied ≡ self.old.copied }
         ensures view { self.new.view ≡ self.old.view }
         ensures out { self.new.out ≡ out_raw self.old (piece_range part) }
+        ensures own { IsOwned self.new (piece_range part) }
+        ensures beside { StaysHereBeside self.old self.new (piece_range part) }
+        ensures own_beside { StaysOwnBeside self.old self.new (piece_range part) }
     {
-        let Part {
-            view: _,
-            range: _,
-            bytes,
-        } = part;
-        self.bytes.put_room(bytes);
+        self.bytes.put_room(part.into_bytes());
     }
 
     /// Takes the units of 16 bytes of `range` out of the memory, as room that is aligned to 16. Their bytes may be raw. The bytes of
@@ -240,11 +282,6 @@ impl OpenMemory {
         ensures view { self.new.view ≡ self.old.view }
         ensures out { self.new.out ≡ out_raw self.old (unit_range part) }
     {
-        let UnitPart {
-            view: _,
-            range: _,
-            units,
-        } = part;
-        self.bytes.put_units(units);
+        self.bytes.put_units(part.into_units());
     }
 }

@@ -6,6 +6,7 @@ ghost use Rattle.rlsf_base.specs.Steps.Block.{IsSupplierOf};
 ghost use Rattle.rlsf_base.specs.Steps.Ownership.{units_for};
 
 use super::block::{Base, Bytes, Deed, allocate, deallocate, forget, no_block};
+use super::filling::fill_bytes;
 use std::alloc::Global;
 
 /// The system's allocator, with which a block was allocated, and the right to deallocate that block. It takes no space.
@@ -25,17 +26,6 @@ fn units(skip: usize, len: usize) -> usize
     ensures { result ≡ units_for skip len }
 {
     (skip + len + 15) / 16
-}
-
-// LLVM makes one call of `memset` of it.
-fn fill_zero(bytes: &mut Bytes, base: Base, skip: usize, len: usize)
-    requires { (base.ptr ≡ bytes.old.at) × (bytes.old.skip ≡ skip) × (length bytes.old.bytes ≡ len) × IsOwn bytes.old.out 0 len × (skip + len ≤ 2 ^ 63 - 16) }
-    ensures { (bytes.new.at ≡ bytes.old.at) × (bytes.new.skip ≡ skip) × (bytes.new.bytes ≡ replicate len 0) × (bytes.new.out ≡ []) × (bytes.new.units ≡ bytes.old.units) }
-{
-    for index in 0..len {
-        bytes.write(base, skip + index, 0);
-    }
-    bytes.settle();
 }
 
 /// Allocates a block, and returns its `len` bytes from the byte `skip` on, all raw. If `len` is zero, no block is allocated.
@@ -64,7 +54,7 @@ pub(crate) fn take_zeroed(alloc: Global, skip: usize, len: usize) -> Option<(Bas
     ensures empty { len ≡ 0 → IsSome result }
 {
     let (base, mut bytes, supplier) = take_raw(alloc, skip, len)?;
-    fill_zero(&mut bytes, base, skip, len);
+    fill_bytes(&mut bytes, base, skip, len, 0);
     Some((base, bytes, supplier))
 }
 

@@ -3,7 +3,7 @@ use Rattle.std.proofs.Common.{◌≡◌, ℕ, ◌+◌, ◌-◌, ◌^◌, ◌≤�
 use mir.Syntax.{named}
 use mir.Val.{Val}
 use base.Logic.{never, id⊢}
-use base.Fml.{Fml, ftrue, flft}
+use base.Fml.{ftrue, flft}
 use contract.Monad.{fact}
 use contract.Running.{tables}
 use types.Kit.{‵, raw, ◌⊛◌, ◌$◌, ◌∵◌, !, qed, move, keep, use0, use1, split, join, rewrite, suffices, frame, fsplit, fsplit3, fjoin, fjoin3, flt_i, flt_l, done}
@@ -19,12 +19,12 @@ use denote.Signature.{plain, types_at}
 use denote.Steps.{nothing, heard, opens, closes}
 use denote.Triple.Walked.{says, Stays, stay_ref, stay_dropped, walk_of, Goes-ref, Goes-dropped, ends_at}
 use Rattle.std.proofs.raw_atomic.Walks.{proved}
-use Rattle.rlsf_base.specs.Out.{Change, kept_at}
-use Rattle.rlsf_base.specs.Changes.{IsIn, left}
+use Rattle.rlsf_base.specs.Out.{kept_at}
+use Rattle.rlsf_base.specs.Changes.{IsOwn, left, shifted}
 use Rattle.rlsf_base.specs.Steps.Ownership.{held, bytes_own, ways_of, own_unit}
-use Rattle.rlsf_base.proofs.RawBlock.Rows.{Row, Around, run_out, goes, held-in}
-use Rattle.rlsf_base.proofs.Changes.{none-out, own-in}
-use Rattle.rlsf_base.proofs.RawBlock.Units.{Shares, parted, left-out, around-left, ways_part, none-own}
+use Rattle.rlsf_base.proofs.RawBlock.Rows.{Around, part_out, goes}
+use Rattle.rlsf_base.proofs.Changes.{shifted-own}
+use Rattle.rlsf_base.proofs.RawBlock.Units.{Shares, parted, left-out, around-left, ways_part}
 use Rattle.rlsf_base.proofs.RawBlock.Values.{mark_val, mark_own, mark_made}
 use Rattle.rlsf_base.specs.contracts.memory.block.Bytes as owner
 use Rattle.rlsf_base.specs.contracts.memory.block.Bytes.take_out as f
@@ -43,7 +43,7 @@ take_out_spec 𝓤 𝓛 𝓜 𝓡 wired =
     (λ κs. (mut_vals, (uint_vals w64, (uint_vals w64, tt)))) (λ κs. (mut_Tells (named 0) κs.0 owner.the_row, (uint_Tells w64, (uint_Tells w64, tt)))) (λ κs qs bounds a g are.
     let rb = a.0.ref_ptr.0 in let ro = a.0.ref_ptr.1 in let d = a.0.now in let place = a.1.0 in let len = a.1.1.0 in
     let vss : List Val × (List Val × (List Val × Unit {0})) = (mut_vals a.0, (uint_vals w64 place, (uint_vals w64 len, tt))) in
-    let Asked : Type 0 = (d.skip ≤ place) × (place + len ≤ d.skip + length d.bytes) × IsIn d.out (place - d.skip) len in
+    let Asked : Type 0 = (d.skip ≤ place) × (place + len ≤ d.skip + length d.bytes) × IsOwn d.out (place - d.skip) len in
     let y : W.Ghost = ((κs, qs, bounds, a, vss), g) in
     qed 𝓛 (((‵ (flft κs.0 qs.0) ⊛ ‵ ftrue) ⊛ ‵ (owns (types_at f.signature.params κs) a vss)) ∷ raw (fact 𝓤 Asked) ∷ []) ∵
     move ! (1 ∷ []) $ heard ! Asked (λ asked. split ! $ split ! $ move ! (2 ∷ []) $ fsplit ! $ keep ! (0 ∷ 2 ∷ []) $
@@ -57,25 +57,24 @@ take_out_spec 𝓤 𝓛 𝓜 𝓡 wired =
     let long : length xs ≡ len = omega (arith, length-take len (skip i d.bytes), length-drop i d.bytes, within) in
     let there : i + (d.skip + o) ≡ place + o = omega (arith, asked.0) in
     let new : (owner.the_row).Denot = record { mark = d.mark; at = d.at; skip = d.skip; bytes = d.bytes; out = cs; of = d.of; units = d.units } in
-    let none : List Change = [] in
-    let part : (owner.the_row).Denot = record { mark = record {}; at = d.at; skip = place; bytes = xs; out = none; of = (d.skip, length d.bytes); units = d.units } in
-    let go : (u : ℕ) → Shares (own_unit d.out d.skip (length d.bytes) u) (own_unit cs d.skip (length d.bytes) u) (own_unit none place len u)
-    = λ u. parted d.out cs none d.skip (length d.bytes) place len u asked.0 asked.1 (own-in d.out i len asked.2) (left-out d.out i len) (λ k side. around-left d.out i len k side) (none-own 0 len) in
-    use1 𝓛 (‵ (Row 𝓛 b (i + (d.skip + o)) xs) ⊛ ‵ (Around 𝓛 b (kept_at d.out) (d.skip + o) d.bytes i len)) (run_out 𝓛 b d.out (d.skip + o) d.bytes i len within asked.2) $ split ! $ move ! (1 ∷ []) $
+    let taken = shifted i d.out in
+    let part : (owner.the_row).Denot = record { mark = record {}; at = d.at; skip = place; bytes = xs; out = taken; of = (d.skip, length d.bytes); units = d.units } in
+    let go : (u : ℕ) → Shares (own_unit d.out d.skip (length d.bytes) u) (own_unit cs d.skip (length d.bytes) u) (own_unit taken place len u)
+    = λ u. parted d.out cs taken d.skip (length d.bytes) place len u asked.0 asked.1 asked.2 (left-out d.out i len) (λ k side. around-left d.out i len k side) (shifted-own i d.out len asked.2) in
+    use1 𝓛 (‵ (held (kept_at taken) 0 xs b (i + (d.skip + o))) ⊛ ‵ (Around 𝓛 b (kept_at d.out) (d.skip + o) d.bytes i len)) (part_out 𝓛 b d.out (d.skip + o) d.bytes i len within) $ split ! $ move ! (1 ∷ []) $
     use1 𝓛 (‵ (held (kept_at cs) 0 d.bytes b (d.skip + o))) (goes 𝓛 b d.out (d.skip + o) d.bytes i len within) $
     -- [the bytes; the run; the ways with the mark; ..]
-    move ! (2 ∷ []) $ fsplit ! $ use1 𝓛 (‵ (ways_of (own_unit none place len) 0 d.units b o) ⊛ ‵ (ways_of (own_unit cs d.skip (length d.bytes)) 0 d.units b o)) (ways_part 𝓛 b (own_unit d.out d.skip (length d.bytes)) (own_unit cs d.skip (length d.bytes)) (own_unit none place len) 0 d.units o go) $ split ! $
+    move ! (2 ∷ []) $ fsplit ! $ use1 𝓛 (‵ (ways_of (own_unit taken place len) 0 d.units b o) ⊛ ‵ (ways_of (own_unit cs d.skip (length d.bytes)) 0 d.units b o)) (ways_part 𝓛 b (own_unit d.out d.skip (length d.bytes)) (own_unit cs d.skip (length d.bytes)) (own_unit taken place len) 0 d.units o go) $ split ! $
     -- [the run's ways; the others; the mark; the bytes; the run; ..]
     move ! (4 ∷ 0 ∷ []) $ fjoin ! $ move ! (3 ∷ 1 ∷ []) $ fjoin ! $
     flt_i ! (length d.bytes) (2 ^ 63) small $ fjoin ! $
     rewrite ! 0 (λ (p : Ptr). ‵ (bytes_own p d.skip d.bytes cs d.units)) (sym e) refl $ move ! (2 ∷ 0 ∷ []) $ fjoin ! $ move ! (2 ∷ 0 ∷ 3 ∷ 4 ∷ 5 ∷ []) $ closes ! tt owner.the_row new us rb ro $
     sets ! (agg ! (no_more !)) refl (tt, tt) $ sets ! (agg ! (and_then ! (get ! refl) (no_more !))) refl (tt, (tt, tt)) $
     returns ! (look_at ! 0 refl) $ free_all ! refl $ move ! (3 ∷ []) $ fsplit ! $
-    rewrite ! 0 (λ (k : ℕ). ‵ (Row 𝓛 b k xs)) there refl $
-    rewrite ! 0 (λ (F : Fml). ‵ F) (sym (held-in 𝓛 b (kept_at none) 0 xs (place + o) (λ j lo hi. none-out j))) refl $
-    rewrite ! 1 (λ (k : ℕ). ‵ (ways_of (own_unit none place k) 0 d.units b o)) (sym long) refl $ fjoin ! $
+    rewrite ! 0 (λ (k : ℕ). ‵ (held (kept_at taken) 0 xs b k)) there refl $
+    rewrite ! 1 (λ (k : ℕ). ‵ (ways_of (own_unit taken place k) 0 d.units b o)) (sym long) refl $ fjoin ! $
     flt_i ! (length xs) (2 ^ 63) (omega (arith, small, long, within)) $ fjoin ! $
-    rewrite ! 0 (λ (p : Ptr). ‵ (bytes_own p place xs none d.units)) (sym e) refl $
+    rewrite ! 0 (λ (p : Ptr). ‵ (bytes_own p place xs taken d.units)) (sym e) refl $
     use0 𝓛 (‵ (mark_own (mark_val ∷ []))) (mark_made 𝓛) $ fjoin ! $ move ! (1 ∷ 2 ∷ 3 ∷ 0 ∷ 4 ∷ []) $
     suffices ! _ (ends_at 𝓛 f.ended stayed c y mark_val part (new, (tt, (tt, tt))) (tt, (tt, (tt, tt)))) $ says ! (refl, refl, refl, refl, refl, refl, refl, refl, refl, refl, refl) $
     nothing ! $ move ! (3 ∷ 0 ∷ []) $ join ! $ frame ! $ move ! (3 ∷ 0 ∷ 1 ∷ []) $ fjoin3 ! $ nothing ! $ nothing ! $ fjoin ! $ nothing ! $ fjoin ! $ move ! (1 ∷ 0 ∷ []) $ fjoin ! $ done !))))))

@@ -12,7 +12,7 @@ use types.ByLocal.{alloc_all, pass_all, free_all, look_at, get, sets}
 use denote.Steps.{nothing}
 use denote.Triple.Walked.{says, Stays, walk_of, ends_at}
 use Rattle.std.proofs.raw_atomic.Walks.{proved}
-use Rattle.rlsf_base.specs.Ledger.{entry_shares, ledger_owns}
+use Rattle.rlsf_base.specs.Ledger.{entry_shares, ledger_owns, nowhere}
 use Rattle.rlsf_base.proofs.RawBlock.Values.{mark_val, mark_own, mark_made}
 use Rattle.rlsf_base.specs.contracts.memory.ledger.Ledger as ledger
 use Rattle.rlsf_base.specs.contracts.memory.ledger.Ledger.new as f
@@ -29,7 +29,7 @@ new_spec 𝓤 𝓛 𝓜 𝓡 wired =
     let y : W.Ghost = ((κs, qs, bounds, a, tt), g) in
     qed 𝓛 ((‵ ftrue ⊛ ‵ ftrue) ∷ ‵ ftrue ∷ []) ∵ keep ! [] $
     enter ! _ _ _ _ _ $ alloc_all ! (λ l. pass_all ! refl tt $
-    use0 𝓛 (later (some (λ (δ : ℕ). ‵ (ledger_owns δ 0 [])))) (via 𝓤 _ (entries_new entry_shares 𝓛 0 (λ _. (full_share, (0, 0)))) (basic 𝓛 _)) $ await ! tt $ pick ! (λ δ.
+    use0 𝓛 (later (some (λ (δ : ℕ). ‵ (ledger_owns δ 0 [])))) (via 𝓤 _ (entries_new entry_shares 𝓛 0 (λ _. (full_share, nowhere))) (basic 𝓛 _)) $ await ! tt $ pick ! (λ δ.
     let none : (ledger.the_row).Denot = record { mark = record {}; name = δ; entries = [] } in
     sets ! (agg ! (no_more !)) refl (tt, tt) $ sets ! (agg ! (and_then ! (get ! refl) (no_more !))) refl (tt, (tt, tt)) $ returns ! (look_at ! 0 refl) $ free_all ! refl $
     suffices ! _ (ends_at 𝓛 f.ended stayed c y mark_val none tt tt) $ says ! refl $

@@ -1,22 +1,79 @@
-use Rattle.std.proofs.Common.{◌≡◌, ◌/◌, ◌%◌, ◌∙◌, ap, arith, length, sym}
+use Rattle.std.proofs.Common.{rules, ◌≡◌, List, ◌/◌, ◌%◌, ◌∙◌, ap, arith, inl, inr, length, refl, sym}
 use Rattle.rlsf_base.specs.declared.memory.view.View.{View}
-use Rattle.rlsf_base.specs.Out.{kept_at}
-use Rattle.rlsf_base.specs.Piece.{Piece}
-use Rattle.rlsf_base.specs.Space.{Space}
-use Rattle.rlsf_base.specs.OpenSpace.{Home}
+use Rattle.rlsf_base.specs.Out.{Change, is_own, kept_at}
+use Rattle.rlsf_base.specs.Piece.{piece_range}
+use Rattle.rlsf_base.specs.Range.{LiesIn}
+use Rattle.rlsf_base.specs.Space.{Space, with_bytes}
+use Rattle.rlsf_base.proofs.Lending.Beside.{with-here, with-own, with-stays}
+use Rattle.rlsf_base.proofs.Lending.Replaced.{bytes_in-there, bytes_in-with}
+use Rattle.rlsf_base.specs.OpenSpace.{Home, out_with}
 use Rattle.rlsf_base.specs.Steps.Block.{start_of, view_of}
 use Rattle.rlsf_base.specs.Steps.Ownership.{units_in}
 use Rattle.rlsf_base.proofs.memory.open_memory.OpenMemory.put_back.Goals as goal
 
 pub put_back-requires : goal.put_back-requires
 put_back-requires c =
-    let m = c.self.inside in let p = c.part.inside in let now = c.args.self.now in
-    let view : p.view ≡ view_of m.base m.shift = ap (λ (q : Piece). q.home.view) c.part.view_is ∙ ap (λ (h : Home). h.view) c.requires.home ∙ sym (ap (λ (s : Space). s.view) c.self.view_is) in
-    let shift : p.view.shift ≡ m.shift = ap (λ (v : View). v.shift) view in
+    let m = c.self.inside in let p = c.args.part in let b = c.into_bytes.result in let now = c.args.self.now in
+    let (is, of, bytes, out) = c.into_bytes.ensures in
+    let view : p.home.view ≡ view_of m.base m.shift = ap (λ (h : Home). h.view) c.requires.home ∙ sym (ap (λ (s : Space). s.view) c.self.view_is) in
+    let shift : p.home.view.shift ≡ m.shift = ap (λ (v : View). v.shift) view in
     let start : start_of m.shift m.len_and_skip ≡ now.start = ap (λ (s : Space). s.start) c.self.view_is in
     let long : length m.bytes.bytes ≡ length now.bytes = ap (λ (s : Space). length s.bytes) c.self.view_is in
-    let home : start_of p.view.shift p.bytes.of.0 ≡ now.start = ap (λ (q : Piece). q.home.start) c.part.view_is ∙ ap (λ (h : Home). h.start) c.requires.home in
-    let size : p.bytes.of.1 ≡ length now.bytes = ap (λ (q : Piece). q.home.len) c.part.view_is ∙ ap (λ (h : Home). h.len) c.requires.home in
-    let skip : p.bytes.of.0 ≡ m.len_and_skip % 16 = omega (arith, home, start, shift, c.part.invariant.first) in let all : p.bytes.of.1 ≡ m.len_and_skip / 32 = size ∙ sym long ∙ c.self.invariant.whole in
-    let units : p.bytes.units ≡ m.bytes.units = c.part.invariant.place.2 ∙ (λ i. units_in (shift i) (skip i) (all i)) ∙ sym c.self.invariant.lies.2 in
-    (sym c.part.invariant.place.0 ∙ ap (λ (v : View). v.base.ptr) view ∙ c.self.invariant.lies.0, omega arith, omega arith, λ k lo hi. ap (λ (q : Piece). kept_at q.out k) c.part.view_is ∙ c.requires.full k lo (omega (arith, hi, ap (λ (q : Piece). length q.bytes) c.part.view_is)), units)
+    let home : start_of p.home.view.shift b.of.0 ≡ now.start = ap (λ (h : Home). h.start) (of ∙ c.requires.home) in
+    let size : b.of.1 ≡ length now.bytes = ap (λ (h : Home). h.len) (of ∙ c.requires.home) in
+    let skip : b.of.0 ≡ m.len_and_skip % 16 = omega (arith, home, start, shift, is.first) in let all : b.of.1 ≡ m.len_and_skip / 32 = size ∙ sym long ∙ c.self.invariant.whole in
+    let units : b.units ≡ m.bytes.units = is.place.2 ∙ (λ i. units_in (shift i) (skip i) (all i)) ∙ sym c.self.invariant.lies.2 in (
+      sym is.place.0 ∙ ap (λ (v : View). v.base.ptr) view ∙ c.self.invariant.lies.0,
+      omega (arith, is.place, is.lies, home, size, start, long, shift, is.whole, c.self.invariant.lies, c.self.invariant.whole, is.first, is.small),
+      omega (arith, is.place, is.lies, home, size, start, long, shift, is.whole, c.self.invariant.lies, c.self.invariant.whole, is.first, is.small),
+      λ k lo hi. ap (λ (cs : List Change). kept_at cs k) out ∙ c.requires.full k lo (omega (arith, hi, ap length bytes)),
+      units,
+    )
+
+pub returns-clause-here : goal.returns-clause-here
+returns-clause-here c =
+    let m = c.self.inside in let p = c.args.part in let now = c.args.self.now in
+    let n : Space = record { start = start_of m.shift m.len_and_skip; bytes = c.put_back.new.self.bytes; touches = m.counters.touches; copied = m.counters.copied; view = view_of m.base m.shift; out = c.put_back.new.self.out } in
+    let start : n.start ≡ now.start = ap (λ (s : Space). s.start) c.self.view_is in
+    let out : n.out ≡ out_with now (piece_range p) = search rules in
+    let lies : LiesIn (piece_range p) now.start (length now.bytes) = search rules in
+    with-here now n (piece_range p) lies.0 start out
+
+pub returns-clause-stays : goal.returns-clause-stays
+returns-clause-stays c =
+    let m = c.self.inside in let p = c.args.part in let now = c.args.self.now in
+    let n : Space = record { start = start_of m.shift m.len_and_skip; bytes = c.put_back.new.self.bytes; touches = m.counters.touches; copied = m.counters.copied; view = view_of m.base m.shift; out = c.put_back.new.self.out } in
+    let start : n.start ≡ now.start = ap (λ (s : Space). s.start) c.self.view_is in
+    let out : n.out ≡ out_with now (piece_range p) = search rules in
+    let lies : LiesIn (piece_range p) now.start (length now.bytes) = search rules in
+    with-stays now n (piece_range p) lies.0 start out
+
+pub returns-clause-own : goal.returns-clause-own
+returns-clause-own c a lo hi = ap is_own (returns-clause-here c a lo hi)
+
+pub returns-clause-own_beside : goal.returns-clause-own_beside
+returns-clause-own_beside c =
+    let m = c.self.inside in let p = c.args.part in let now = c.args.self.now in
+    let n : Space = record { start = start_of m.shift m.len_and_skip; bytes = c.put_back.new.self.bytes; touches = m.counters.touches; copied = m.counters.copied; view = view_of m.base m.shift; out = c.put_back.new.self.out } in
+    let start : n.start ≡ now.start = ap (λ (s : Space). s.start) c.self.view_is in
+    let out : n.out ≡ out_with now (piece_range p) = search rules in
+    let lies : LiesIn (piece_range p) now.start (length now.bytes) = search rules in
+    λ a from side. with-own now n (piece_range p) lies.0 start out a from
+
+pub returns-clause-values : goal.returns-clause-values
+returns-clause-values c =
+    let m = c.self.inside in let p = c.args.part in let now = c.args.self.now in
+    let n : Space = record { start = start_of m.shift m.len_and_skip; bytes = c.put_back.new.self.bytes; touches = m.counters.touches; copied = m.counters.copied; view = view_of m.base m.shift; out = c.put_back.new.self.out } in
+    let start : n.start ≡ now.start = ap (λ (s : Space). s.start) c.self.view_is in
+    let lies : LiesIn (piece_range p) now.start (length now.bytes) = search rules in
+    let bytes : n.bytes ≡ with_bytes now p.start p.bytes = search rules in
+    bytes_in-there now n (piece_range p) p.bytes lies refl start bytes
+
+pub returns-clause-others : goal.returns-clause-others
+returns-clause-others c q from side =
+    let m = c.self.inside in let p = c.args.part in let now = c.args.self.now in
+    let n : Space = record { start = start_of m.shift m.len_and_skip; bytes = c.put_back.new.self.bytes; touches = m.counters.touches; copied = m.counters.copied; view = view_of m.base m.shift; out = c.put_back.new.self.out } in
+    let start : n.start ≡ now.start = ap (λ (s : Space). s.start) c.self.view_is in
+    let lies : LiesIn (piece_range p) now.start (length now.bytes) = search rules in
+    let bytes : n.bytes ≡ with_bytes now p.start p.bytes = search rules in
+    bytes_in-with now n (piece_range p) p.bytes lies refl start bytes q from (elim side [ inl before ↦ inr before | inr behind ↦ inl behind ])

@@ -2,6 +2,7 @@ use Rattle.std.proofs.Common.{rules, ◌≡◌, ◌-◌, ◌∙◌, ap, arith, l
 use Rattle.rlsf_base.specs.declared.memory.view.View.{View}
 use Rattle.rlsf_base.specs.Space.{Space, with_word, word_range}
 use Rattle.rlsf_base.specs.OpenSpace.{out_with}
+use Rattle.rlsf_base.proofs.Lending.Beside.{with-here, with-stays}
 use Rattle.rlsf_base.proofs.Words.Written.{is_own-written}
 use Rattle.std.proofs.lemmas.Grind.{common_steps}
 use Rattle.rlsf_base.specs.Steps.Block.{start_of}
@@ -30,3 +31,19 @@ returns-clause-own c =
     let bytes : n.bytes ≡ with_word m c.args.addr c.args.word = grind (arith, common_steps) in
     let out : n.out ≡ out_with m (word_range c.args.addr) = grind (arith, common_steps) in
     is_own-written m n c.args.addr c.args.word c.requires.place start bytes out
+
+pub returns-clause-here : goal.returns-clause-here
+returns-clause-here c =
+    let m = c.args.self.now in
+    let n = c.touch.new.self in
+    let start : n.start ≡ m.start = search rules in
+    let out : n.out ≡ out_with m (word_range c.args.addr) = grind (arith, common_steps) in
+    with-here m n (word_range c.args.addr) c.requires.place.1.0 start out
+
+pub returns-clause-stays : goal.returns-clause-stays
+returns-clause-stays c =
+    let m = c.args.self.now in
+    let n = c.touch.new.self in
+    let start : n.start ≡ m.start = search rules in
+    let out : n.out ≡ out_with m (word_range c.args.addr) = grind (arith, common_steps) in
+    with-stays m n (word_range c.args.addr) c.requires.place.1.0 start out

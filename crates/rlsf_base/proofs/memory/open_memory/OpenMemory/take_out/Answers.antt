@@ -1,11 +1,14 @@
-use Rattle.std.proofs.Common.{◌≡◌, ℕ, ◌-◌, ◌∙◌, ap, arith, drop, length, length-drop, length-take, sym}
+use Rattle.std.proofs.Common.{rules, ◌≡◌, ℕ, ◌+◌, ◌-◌, ◌∙◌, ap, arith, drop, length, length-drop, length-take, sym}
 use Rattle.rlsf_base.specs.declared.memory.view.View.{View}
+use Rattle.rlsf_base.specs.Piece.{HasStatesOf}
 use Rattle.rlsf_base.specs.Space.{Space}
 use Rattle.rlsf_base.specs.Steps.Block.{start_of, view_of}
 use Rattle.rlsf_base.specs.Steps.Ownership.{units_in}
-use Rattle.rlsf_base.specs.Out.{is_own, kept_at}
-use Rattle.rlsf_base.proofs.Changes.{none-out}
-use Rattle.rlsf_base.proofs.Lending.Present.{here-in}
+use Rattle.rlsf_base.specs.OpenSpace.{out_without}
+use Rattle.rlsf_base.specs.Out.{is_own, kept_at, out as gone}
+use Rattle.rlsf_base.proofs.Changes.{shifted-at, shifted-own}
+use Rattle.rlsf_base.proofs.Lending.Beside.{changed-own_stays, changed-stays}
+use Rattle.rlsf_base.proofs.Lending.Present.{own-in}
 use Rattle.rlsf_base.proofs.memory.open_memory.OpenMemory.take_out.Goals as goal
 
 pub take_out-bytes-requires : goal.take_out-bytes-requires
@@ -15,7 +18,7 @@ take_out-bytes-requires c =
     let shift : c.view-view.result.shift ≡ m.shift = ap (λ (v : View). v.shift) (c.view-view.ensures ∙ sym (ap (λ (s : Space). s.view) c.self.view_is)) in
     let long : length m.bytes.bytes ≡ length c.args.self.now.bytes = ap (λ (s : Space). length s.bytes) c.self.view_is in
     let place : c.place.result - m.bytes.skip ≡ c.args.range.start - c.args.self.now.start = omega arith in
-    (omega arith, omega arith, here-in m.bytes.out c.args.self.now c.args.range (c.place.result - m.bytes.skip) (ap (λ (s : Space). s.out) c.self.view_is) c.requires.place.0 place c.requires.here)
+    (omega arith, omega arith, own-in m.bytes.out c.args.self.now c.args.range (c.place.result - m.bytes.skip) (ap (λ (s : Space). s.out) c.self.view_is) c.requires.place.0 place c.requires.own)
 
 pub invariant_of-result : goal.invariant_of-result
 invariant_of-result c =
@@ -25,11 +28,54 @@ invariant_of-result c =
     let start : start_of m.shift m.len_and_skip ≡ c.args.self.now.start = ap (λ (s : Space). s.start) c.self.view_is in
     let long : length m.bytes.bytes ≡ length c.args.self.now.bytes = ap (λ (s : Space). length s.bytes) c.self.view_is in
     let b = c.take_out-bytes.result in let e = c.take_out-bytes.ensures in
+    let i = c.place.result - m.bytes.skip in let place : i ≡ c.args.range.start - c.args.self.now.start = omega arith in
+    let taken : length b.bytes ≡ c.args.range.len = ap length e.2 ∙ omega (arith, length-take c.args.range.len (drop i m.bytes.bytes), length-drop i m.bytes.bytes) in
+    let own = own-in m.bytes.out c.args.self.now c.args.range i (ap (λ (s : Space). s.out) c.self.view_is) c.requires.place.0 place c.requires.own in
     let skip : b.of.0 ≡ m.bytes.skip = ap (λ (u : ℕ × ℕ). u.0) e.4 in let size : b.of.1 ≡ length m.bytes.bytes = ap (λ (u : ℕ × ℕ). u.1) e.4 in
     record {
       lies = (omega arith, omega arith);
       first = omega arith;
       place = (ap (λ (v : View). v.base.ptr) view ∙ c.self.invariant.lies.0 ∙ sym e.0, e.1 ∙ c.place.ensures, e.10 ∙ c.self.invariant.lies.2 ∙ (λ i. units_in (sym shift i) (sym (skip ∙ c.self.invariant.lies.1) i) (sym (size ∙ c.self.invariant.whole) i)));
-      whole = (ap length e.2 ∙ omega (arith, length-take c.args.range.len (drop (c.place.result - m.bytes.skip) m.bytes.bytes), length-drop (c.place.result - m.bytes.skip) m.bytes.bytes), λ k lo hi. ap (λ cs. is_own (kept_at cs k)) e.3 ∙ ap is_own (none-out k));
+      whole = (taken, λ k lo hi. ap (λ cs. is_own (kept_at cs k)) e.3 ∙ shifted-own i m.bytes.out c.args.range.len own k lo (omega (arith, hi, taken)));
       small = omega arith;
     }
+
+pub returns-clause-len : goal.returns-clause-len
+returns-clause-len c =
+    let m = c.self.inside in let i = c.place.result - m.bytes.skip in
+    let start : start_of m.shift m.len_and_skip ≡ c.args.self.now.start = ap (λ (s : Space). s.start) c.self.view_is in
+    let shift : c.view-view.result.shift ≡ m.shift = ap (λ (v : View). v.shift) (c.view-view.ensures ∙ sym (ap (λ (s : Space). s.view) c.self.view_is)) in
+    let long : length m.bytes.bytes ≡ length c.args.self.now.bytes = ap (λ (s : Space). length s.bytes) c.self.view_is in
+    ap length c.take_out-bytes.ensures.2 ∙ omega (arith, length-take c.args.range.len (drop i m.bytes.bytes), length-drop i m.bytes.bytes)
+
+pub returns-clause-kept : goal.returns-clause-kept
+unfolding HasStatesOf
+returns-clause-kept c k lo =
+    let m = c.self.inside in let now = c.args.self.now in
+    let start : start_of m.shift m.len_and_skip ≡ now.start = ap (λ (s : Space). s.start) c.self.view_is in
+    let shift : c.view-view.result.shift ≡ m.shift = ap (λ (v : View). v.shift) (c.view-view.ensures ∙ sym (ap (λ (s : Space). s.view) c.self.view_is)) in
+    let long : length m.bytes.bytes ≡ length now.bytes = ap (λ (s : Space). length s.bytes) c.self.view_is in
+    let place : c.place.result - m.bytes.skip + k ≡ c.args.range.start + k - now.start = omega arith in
+    ap (λ cs. kept_at cs k) c.take_out-bytes.ensures.3 ∙ shifted-at (c.place.result - m.bytes.skip) m.bytes.out k ∙ (λ i. kept_at (c.self.view_is i).out (place i))
+
+pub returns-clause-full : goal.returns-clause-full
+unfolding HasStatesOf
+returns-clause-full c here k lo hi =
+    let taken : length c.take_out-bytes.result.bytes ≡ c.args.range.len = returns-clause-len c in
+    returns-clause-kept c k (omega (arith, hi, taken)) ∙ here (c.args.range.start + k) (omega arith) (omega (arith, hi, taken))
+
+pub returns-clause-beside : goal.returns-clause-beside
+returns-clause-beside c =
+    let m = c.self.inside in let now = c.args.self.now in let new = c.take_out-bytes.new.self in
+    let n : Space = record { start = start_of m.shift m.len_and_skip; bytes = new.bytes; touches = m.counters.touches; copied = m.counters.copied; view = view_of m.base m.shift; out = new.out } in
+    let start : n.start ≡ now.start = ap (λ (s : Space). s.start) c.self.view_is in
+    let out : n.out ≡ out_without now c.args.range = search rules in
+    changed-stays gone now n c.args.range c.requires.place.0 start out
+
+pub returns-clause-own_beside : goal.returns-clause-own_beside
+returns-clause-own_beside c =
+    let m = c.self.inside in let now = c.args.self.now in let new = c.take_out-bytes.new.self in
+    let n : Space = record { start = start_of m.shift m.len_and_skip; bytes = new.bytes; touches = m.counters.touches; copied = m.counters.copied; view = view_of m.base m.shift; out = new.out } in
+    let start : n.start ≡ now.start = ap (λ (s : Space). s.start) c.self.view_is in
+    let out : n.out ≡ out_without now c.args.range = search rules in
+    changed-own_stays gone now n c.args.range c.requires.place.0 start out

@@ -2,7 +2,7 @@
 use Rattle.std.proofs.Common.{◌≡◌, ◌-◌, sym, w64, ap, arith, drop, length, length-drop, length-take, ◌∙◌, rules}
 use Rattle.rlsf_base.specs.Space.{bytes_in, word_range}
 use Rattle.std.specs.Int.{from_le_bytes}
-use Rattle.rlsf_base.proofs.Lending.Here.{word_at-is}
+use Rattle.rlsf_base.proofs.Lending.WordIsHere.{word_at-is}
 use Rattle.rlsf_base.proofs.memory.open_memory.OpenMemory.word_at.Goals as goal
 
 pub returns-in-Some : goal.returns-in-Some

@@ -1,4 +1,4 @@
--- Shows that `redeem` takes a ticket, which agrees with an entry that is out. Assumes `Logic`.
+-- Shows that `redeem_in` takes a ticket, which agrees with an entry that is out. Assumes `Logic`.
 use Rattle.std.proofs.Common.{◌≡◌, ℕ, List, [], ◌∷◌, set, false, refl, arith}
 use mir.Syntax.{named}
 use mir.Val.{Val, vunit}
@@ -13,18 +13,19 @@ use denote.Laws.{Tells, Is}
 use denote.Ref.{mut_vals, mut_Tells}
 use denote.Signature.{plain, types_at}
 use denote.Steps.{nothing, heard, opens, closes}
-use denote.Triple.Walked.{says, Stays, stay_ref, stay_dropped, walk_of, Goes-ref, ends_at}
+use denote.Triple.Walked.{Stays, stay_ref, stay_dropped, walk_of, Goes-ref, ends_at}
 use Rattle.core.proofs.alloc.Calls.{Goes-blank}
+use Rattle.core.proofs.mem.Facts.{says_three}
 use Rattle.std.proofs.raw_atomic.Walks.{proved}
-use Rattle.rlsf_base.specs.Ledger.{entry_of, ledger_owns, ticket_owns, IsIssued}
+use Rattle.rlsf_base.specs.Ledger.{Extent, entry_of, extent, ledger_owns, ticket_owns, IsIssued}
 use Rattle.rlsf_base.proofs.RawBlock.Tickets.{redeems}
 use Rattle.rlsf_base.proofs.RawBlock.Values.{mark_val}
 use Rattle.rlsf_base.proofs.memory.ledger.Ticket.TheLaws.{lowers}
 use Rattle.rlsf_base.specs.contracts.memory.ledger.Ledger as ledger
 use Rattle.rlsf_base.specs.contracts.memory.ledger.Ticket as ticket
-use Rattle.rlsf_base.specs.contracts.memory.ledger.Ledger.redeem as f
-use Rattle.rlsf_base.proofs.memory.ledger.Ledger.redeem.Statement.{statement}
-use Rattle.rlsf_base.proofs.memory.ledger.Ledger.redeem.Code as code
+use Rattle.rlsf_base.specs.contracts.memory.ledger.Ticket.redeem_in as f
+use Rattle.rlsf_base.proofs.memory.ledger.Ticket.redeem_in.Statement.{statement}
+use Rattle.rlsf_base.proofs.memory.ledger.Ticket.redeem_in.Code as code
 
 abbrev ticket_vals : (ticket.the_row).Denot → List Val
 ticket_vals d = mark_val ∷ []
@@ -33,25 +34,25 @@ ticket_Tells : Tells ticket.the_row (Is ticket.the_row) ticket_vals
 ticket_Tells = lowers.val_is
 
 abbrev stayed : Stays f.ended.signature.params f.ended.kept
-stayed = (stay_ref (0 ∷ []) tt (plain (λ _. ledger.the_row)), (stay_dropped (plain (λ _. ticket.the_row)) f.ended.kept.1.0, tt))
+stayed = (stay_dropped (plain (λ _. ticket.the_row)) f.ended.kept.0, (stay_ref (0 ∷ []) tt (plain (λ _. ledger.the_row)), tt))
 
-pub redeem_spec : {M : Type 1} → statement M
-redeem_spec 𝓤 𝓛 𝓜 𝓡 wired =
+pub redeem_in_spec : {M : Type 1} → statement M
+redeem_in_spec 𝓤 𝓛 𝓜 𝓡 wired =
     let c = f.clauses 𝓛 𝓜.mem 𝓡.returns in let W = walk_of 𝓛 f.ended stayed c in let 𝓣 = tables 𝓤 𝓛.H 𝓜 𝓡 𝓡.env in
     proved 𝓛 f.ended stayed c 𝓜 𝓡
-    (Goes-ref 𝓛 1 0 tt (plain (λ _. ledger.the_row)), (Goes-blank 𝓛 1 (plain (λ _. ticket.the_row)) f.ended.kept.1.0 (λ κs x w. tt), tt))
+    (Goes-blank 𝓛 1 (plain (λ _. ticket.the_row)) f.ended.kept.0 (λ κs x w. tt), (Goes-ref 𝓛 1 0 tt (plain (λ _. ledger.the_row)), tt))
     f.Key.name code.function (code.unfolded 𝓤 𝓛.H 𝓜 𝓡 wired)
-    (λ κs. (mut_vals, (ticket_vals, tt))) (λ κs. (mut_Tells (named 0) κs.0 ledger.the_row, (ticket_Tells, tt))) (λ κs qs bounds a g are.
-    let rb = a.0.ref_ptr.0 in let ro = a.0.ref_ptr.1 in let d = a.0.now in let t = a.1.0 in
-    let vss : List Val × (List Val × Unit {0}) = (mut_vals a.0, (mark_val ∷ [], tt)) in
-    let v : ℕ × ℕ = (t.addr, t.len) in
+    (λ κs. (ticket_vals, (mut_vals, tt))) (λ κs. (ticket_Tells, (mut_Tells (named 0) κs.0 ledger.the_row, tt))) (λ κs qs bounds a g are.
+    let rb = a.1.0.ref_ptr.0 in let ro = a.1.0.ref_ptr.1 in let d = a.1.0.now in let t = a.0 in
+    let vss : List Val × (List Val × Unit {0}) = (mark_val ∷ [], (mut_vals a.1.0, tt)) in
+    let v : Extent = extent t.addr t.len t.align in
     let Asked : Type 0 = t.name ≡ d.name in
     let y : W.Ghost = ((κs, qs, bounds, a, vss), g) in
     let new : (ledger.the_row).Denot = record { mark = d.mark; name = d.name; entries = set d.entries t.key (entry_of v false) } in
     qed 𝓛 (((‵ (flft κs.0 qs.0) ⊛ ‵ ftrue) ⊛ ‵ (owns (types_at f.signature.params κs) a vss)) ∷ raw (fact 𝓤 Asked) ∷ []) ∵
-    move ! (1 ∷ []) $ heard ! Asked (λ asked. split ! $ split ! $ move ! (2 ∷ []) $ fsplit ! $ move ! (1 ∷ []) $ fsplit ! $ fsplit ! $ keep ! (3 ∷ 4 ∷ 1 ∷ []) $
+    move ! (1 ∷ []) $ heard ! Asked (λ asked. split ! $ split ! $ move ! (2 ∷ []) $ fsplit ! $ move ! (1 ∷ []) $ fsplit ! $ move ! (2 ∷ []) $ fsplit ! $ keep ! (2 ∷ 4 ∷ 1 ∷ []) $
     -- [self; its token; the ticket]
-    enter ! _ _ _ _ _ $ alloc_all ! (λ l. pass_all ! refl ((tt, tt), ((tt, (tt, tt)), tt)) $
+    enter ! _ _ _ _ _ $ alloc_all ! (λ l. pass_all ! refl ((tt, (tt, tt)), ((tt, tt), tt)) $
     fsplit3 ! $ move ! (1 ∷ 2 ∷ 3 ∷ []) $ opens ! tt ledger.the_row rb ro (λ us. move ! (1 ∷ []) $ fsplit ! $ move ! (1 ∷ []) $
     -- [the entries; the mark; its cell; the open borrow; self's first part; the ticket; ..]
     move ! (7 ∷ []) $ rewrite ! 0 (λ (n : ℕ). ‵ (ticket_owns n t.key v)) asked refl $ move ! (1 ∷ 0 ∷ []) $
@@ -59,5 +60,5 @@ redeem_spec 𝓤 𝓛 𝓜 𝓡 wired =
     move ! (1 ∷ 0 ∷ []) $ fjoin ! $ move ! (1 ∷ 0 ∷ []) $ closes ! tt ledger.the_row new us rb ro $
     sets ! (of_opd ! (unit_lit !)) refl (tt, tt) $
     returns ! (look_at ! 0 refl) $ free_all ! refl $ keep ! (0 ∷ 1 ∷ 2 ∷ 3 ∷ []) $ feq_i ! (List Val) (vunit ∷ []) (vunit ∷ []) refl $ move ! (1 ∷ 2 ∷ 3 ∷ 0 ∷ 4 ∷ []) $
-    suffices ! _ (ends_at 𝓛 f.ended stayed c y vunit tt (new, (tt, tt)) (tt, (tt, tt))) $ says ! (was, refl, refl) $
-    nothing ! $ move ! (3 ∷ 0 ∷ []) $ join ! $ frame ! $ move ! (3 ∷ 0 ∷ 1 ∷ []) $ fjoin3 ! $ nothing ! $ nothing ! $ fjoin ! $ move ! (1 ∷ 0 ∷ []) $ fjoin ! $ done !)))))
+    suffices ! _ (ends_at 𝓛 f.ended stayed c y vunit tt (tt, (new, tt)) (tt, (tt, tt))) $ says_three ! (was, refl, refl) $
+    nothing ! $ move ! (3 ∷ 0 ∷ []) $ join ! $ frame ! $ move ! (3 ∷ 0 ∷ 1 ∷ []) $ fjoin3 ! $ nothing ! $ move ! (1 ∷ 0 ∷ []) $ fjoin ! $ nothing ! $ fjoin ! $ done !)))))

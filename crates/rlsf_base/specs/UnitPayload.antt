@@ -1,0 +1,24 @@
+-- Whole units that left a memory, by a pointer to them, with their ticket.
+use Rattle.std.specs.Prelude.{◌≡◌, ℕ, ◌/◌, ◌%◌}
+use base.Fml.{Fml, fsep}
+use denote.RawPtr.{Ptr, room_for, ◌+ₚ◌}
+use Rattle.rlsf_base.specs.declared.memory.view.View.{View}
+use Rattle.rlsf_base.specs.Ledger.{extent, ticket_owns}
+use Rattle.rlsf_base.specs.OpenSpace.{Home, place_in}
+use Rattle.rlsf_base.specs.Range.{LiesIn, range_at}
+use Rattle.rlsf_base.specs.Steps.Ownership.{units_ty}
+
+-- the pointer to the byte at an address
+abbrev pub pointer_to : View → ℕ → Ptr
+pointer_to v addr = v.base.ptr +ₚ place_in v addr
+
+-- a pointer to the units of so many bytes at an address of a memory, whose block is aligned to 16
+pub record IsPlaced (home : Home) (ptr : Ptr) (start len : ℕ) : Type 0 where
+  pub at : ptr ≡ pointer_to home.view start
+  pub lies : LiesIn (range_at start len) home.start home.len
+  pub grid : home.view.shift % 16 ≡ 0
+  pub aligned : (start % 16 ≡ 0) × (len % 16 ≡ 0)
+
+-- the ticket for so many bytes at an address, of the alignment 16, and room for their units at a pointer
+abbrev pub unit_payload_owns : ℕ → ℕ → ℕ → Ptr → ℕ → Fml
+unit_payload_owns name key start ptr len = fsep (ticket_owns name key (extent start len 16)) (room_for (units_ty (len / 16)) ptr)

@@ -1,0 +1,17 @@
+//! Fills a block's bytes with one value.
+ghost use Rattle.std.specs.Prelude.{◌≡◌, ◌+◌, ◌^◌, ◌<◌, [], length, replicate};
+ghost use Rattle.rlsf_base.specs.Changes.{IsOwn};
+
+use super::block::{Base, Bytes};
+
+/// Writes `value` to each of the `len` bytes, which begin at the place `place` of the block. None may be out, and all are then here.
+// LLVM makes one call of `memset` of it.
+pub(crate) fn fill_bytes(bytes: &mut Bytes, base: Base, place: usize, len: usize, value: u8)
+    requires { (base.ptr ≡ bytes.old.at) × (bytes.old.skip ≡ place) × (length bytes.old.bytes ≡ len) × IsOwn bytes.old.out 0 len × (place + len < 2 ^ 63) }
+    ensures { (bytes.new.at ≡ bytes.old.at) × (bytes.new.skip ≡ place) × (bytes.new.bytes ≡ replicate len value) × (bytes.new.out ≡ []) × (bytes.new.units ≡ bytes.old.units) × (bytes.new.of ≡ bytes.old.of) }
+{
+    for index in 0..len {
+        bytes.write(base, place + index, value);
+    }
+    bytes.settle();
+}
