@@ -2,6 +2,6 @@
 pub mod Addresses
 pub mod Loaded
 pub mod Marks
-pub mod Outs
-pub mod Puts
+pub mod TakenIfFree
+pub mod FreeBlockWrites
 pub mod Releases

@@ -3,7 +3,7 @@ pub mod Begins
 pub mod Blocks
 pub mod ChunkEnds
 pub mod Listed
-pub mod Nexts
+pub mod UnfinishedWalk
 pub mod Places
 pub mod Rows
 pub mod Sizes

@@ -3,4 +3,5 @@ pub mod Apart
 pub mod Frames
 pub mod NonZeroNumbers
 pub mod Refilled
-pub mod Here
+pub mod NeverOut
+pub mod Stays

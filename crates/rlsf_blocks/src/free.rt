@@ -3,7 +3,7 @@
 ghost use Rattle.std.specs.Prelude.{◌≡◌, ◌+◌, ◌<◌, ℕ, List, IfSome, unwrap_or};
 ghost use Rattle.rlsf_base.specs.declared.memory.range.Range.{Range};
 ghost use Rattle.rlsf_base.specs.SizeClass.{IsValid};
-ghost use Rattle.rlsf_base.specs.OpenSpace.{IsOwned};
+ghost use Rattle.rlsf_base.specs.OpenSpace.{IsOwned, SameOwn, StaysHere};
 ghost use Rattle.rlsf_machine.specs.Lists.{IsIn};
 ghost use Rattle.rlsf_machine.specs.Release.{released};
 ghost use Rattle.rlsf_machine.specs.State.{State, Used, IsLive, usable};
@@ -140,6 +140,8 @@ pub fn deallocate_block<const FLLEN: usize, const SLLEN: usize>(
     requires view { view ≡ memory.old.view }
     ensures step { AtEachUsed FLLEN SLLEN memory.old table.old block (λ s u. IsOwned memory.old (usable u) → StandsAfter FLLEN SLLEN memory.old memory.new table.new s (released s u)) }
     ensures costs { Costs memory.old memory.new 31 0 }
+    ensures own { SameOwn memory.old memory.new }
+    ensures here { StaysHere memory.old memory.new }
 {
     let end = used_end(block, memory.load_at(view, block));
     let start = take_previous(memory, view, table, block);

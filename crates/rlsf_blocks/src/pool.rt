@@ -2,6 +2,7 @@
 
 ghost use Rattle.std.specs.Prelude.{◌≡◌, ◌+◌, ◌*◌, ◌≤◌, IfNone, length};
 ghost use Rattle.rlsf_base.specs.Addr.{reply};
+ghost use Rattle.rlsf_base.specs.OpenSpace.{SameOwn, StaysHere};
 ghost use Rattle.rlsf_base.specs.SizeClass.{IsValid};
 ghost use Rattle.rlsf_base.specs.Sizes.{max_pool_size};
 ghost use Rattle.rlsf_base.specs.Space.{range_of};
@@ -70,6 +71,8 @@ pub fn insert_chunks<const FLLEN: usize, const SLLEN: usize>(
     requires fresh { (s : State) × StandsFor FLLEN SLLEN (contents memory.old table.old) s × IsFresh (range_of memory.old) s range }
     ensures step { InEach FLLEN SLLEN memory.old table.old (λ s. IsFresh (range_of memory.old) s range → StepsTo FLLEN SLLEN memory.old memory.new table.new s (Inserts FLLEN s range (reply result))) }
     ensures refused { IfNone result (memory.new.bytes ≡ memory.old.bytes) }
+    ensures own { SameOwn memory.old memory.new }
+    ensures here { StaysHere memory.old memory.new }
     ensures costs { Costs memory.old memory.new (13 * length (cut (max_pool_size FLLEN) (aligned_part range))) 0 }
 {
     let end = range.start + range.len;

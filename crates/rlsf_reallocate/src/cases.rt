@@ -3,12 +3,12 @@
 ghost use Rattle.std.specs.Prelude.{◌≡◌, ◌+◌, ◌≤◌, Some, IfNone, []};
 ghost use Rattle.rlsf_base.specs.SizeClass.{IsValid};
 ghost use Rattle.rlsf_base.specs.Space.{SamePlace};
-ghost use Rattle.rlsf_base.specs.OpenSpace.{IsHere};
+ghost use Rattle.rlsf_base.specs.OpenSpace.{IsHere, SameOwn, StaysHere};
 ghost use Rattle.rlsf_machine.specs.NoMove.{unmoved_plan};
 ghost use Rattle.rlsf_machine.specs.Reallocate.{Plan};
 ghost use Rattle.rlsf_machine.specs.State.{State, Used, usable};
 ghost use Rattle.rlsf_blocks.specs.StandsFor.{contents, StandsFor};
-ghost use Rattle.rlsf_reallocate.specs.Steps.Resize.{AtEachPayload, IsReallocated, IsUsedAt};
+ghost use Rattle.rlsf_reallocate.specs.Steps.Resize.{AtEachPayload, IsHereStill, IsReallocated, IsUsedAt};
 
 use crate::elsewhere::move_elsewhere;
 use crate::previous::move_into_previous;
@@ -22,7 +22,10 @@ use rlsf_table::ClassTable;
 /// `layout` must have the alignment of the payload. All usable bytes of the payload must be here:
 /// none is raw or out. `WHOLE` is 1 for a memory of which no byte is raw or out: its bytes are copied faster.
 ///
-/// Returns the address of the payload. If the allocation is refused, returns `None`, and no byte and no block changes.
+/// Returns the address of the payload. From there on, as many bytes are here as the old payload has. If the allocation is
+/// refused, returns `None`, and no byte and no block changes.
+///
+/// No byte leaves or comes back, and each byte that was here is here.
 // Out of line, since it is long: so the compiler keeps the memory's base in a register in the short calls.
 #[inline(never)]
 pub fn reallocate_block<const FLLEN: usize, const SLLEN: usize, const WHOLE: usize>(
@@ -44,6 +47,9 @@ pub fn reallocate_block<const FLLEN: usize, const SLLEN: usize, const WHOLE: usi
     ensures grow { memory.old.touches ≤ memory.new.touches }
     ensures copied { AtEachPayload FLLEN SLLEN memory.old table.old block payload layout (λ s u. memory.new.copied ≤ memory.old.copied + (usable u).len) }
     ensures grow_copied { memory.old.copied ≤ memory.new.copied }
+    ensures own { SameOwn memory.old memory.new }
+    ensures here { StaysHere memory.old memory.new }
+    ensures kept_here { AtEachPayload FLLEN SLLEN memory.old table.old block payload layout (λ s u. IsHereStill memory.old memory.new u result) }
     ensures stays { AtEachPayload FLLEN SLLEN memory.old table.old block payload layout (λ s u. (p : Plan) → unmoved_plan s u layout.size ≡ Some p → memory.new.copied ≡ memory.old.copied) }
 {
     if resize_block(memory, view, table, block, payload, layout) {

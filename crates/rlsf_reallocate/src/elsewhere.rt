@@ -3,12 +3,12 @@
 ghost use Rattle.std.specs.Prelude.{◌≡◌, ◌+◌, ◌≤◌, None, IfNone, []};
 ghost use Rattle.rlsf_base.specs.SizeClass.{IsValid};
 ghost use Rattle.rlsf_base.specs.Space.{SamePlace};
-ghost use Rattle.rlsf_base.specs.OpenSpace.{IsHere};
+ghost use Rattle.rlsf_base.specs.OpenSpace.{IsHere, SameOwn, StaysHere};
 ghost use Rattle.rlsf_machine.specs.Reallocate.{in_place};
 ghost use Rattle.rlsf_machine.specs.State.{State, Used, usable};
 ghost use Rattle.rlsf_blocks.specs.StandsFor.{contents, StandsFor};
 ghost use Rattle.rlsf_table.specs.Counts.{Counts};
-ghost use Rattle.rlsf_reallocate.specs.Steps.Resize.{AtEachPayload, AtEachShort, IsElsewhere, IsUsedAt};
+ghost use Rattle.rlsf_reallocate.specs.Steps.Resize.{AtEachPayload, AtEachShort, IsElsewhere, IsHereStill, IsUsedAt};
 
 use crate::copying::copy_payload;
 use rlsf_base::memory::{Layout, OpenMemory, Range, View};
@@ -41,6 +41,9 @@ pub fn move_elsewhere<const FLLEN: usize, const SLLEN: usize, const WHOLE: usize
     ensures grow { memory.old.touches ≤ memory.new.touches }
     ensures copied { AtEachPayload FLLEN SLLEN memory.old table.old block payload layout (λ s u. memory.new.copied ≤ memory.old.copied + (usable u).len) }
     ensures grow_copied { memory.old.copied ≤ memory.new.copied }
+    ensures own { SameOwn memory.old memory.new }
+    ensures here { StaysHere memory.old memory.new }
+    ensures kept_here { AtEachShort FLLEN SLLEN memory.old table.old block payload layout (λ s u. IsHereStill memory.old memory.new u result) }
 {
     let end = used_end(block, memory.load_at(view, block));
     let moved = allocate_block(memory, view, table, layout)?;

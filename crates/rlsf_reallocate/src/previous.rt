@@ -3,7 +3,7 @@
 ghost use Rattle.std.specs.Prelude.{◌≡◌, ◌+◌, ◌≤◌, ℕ, None, find, IfNone, IfSome, []};
 ghost use Rattle.rlsf_base.specs.SizeClass.{IsValid};
 ghost use Rattle.rlsf_base.specs.Space.{SamePlace};
-ghost use Rattle.rlsf_base.specs.OpenSpace.{IsHere};
+ghost use Rattle.rlsf_base.specs.OpenSpace.{IsHere, SameOwn, StaysHere};
 ghost use Rattle.rlsf_machine.specs.Join.{ends_at, start_or};
 ghost use Rattle.rlsf_machine.specs.Lists.{IsIn};
 ghost use Rattle.rlsf_machine.specs.Reallocate.{in_place, into_previous};
@@ -12,7 +12,7 @@ ghost use Rattle.rlsf_blocks.specs.StandsFor.{contents, StandsFor};
 ghost use Rattle.rlsf_blocks.specs.Steps.Standing.{AtEachUsed};
 ghost use Rattle.rlsf_table.specs.Counts.{Counts};
 ghost use Rattle.rlsf_reallocate.specs.Steps.Previous.{IsUsedBlock, IsPlaceBefore};
-ghost use Rattle.rlsf_reallocate.specs.Steps.Resize.{AtEachPayload, AtEachShort, IsPlanned, IsUsedAt};
+ghost use Rattle.rlsf_reallocate.specs.Steps.Resize.{AtEachPayload, AtEachShort, IsHereStill, IsPlanned, IsUsedAt};
 ghost use Rattle.rlsf_table.specs.Table.{Table};
 
 use crate::copying::copy_payload;
@@ -94,6 +94,9 @@ pub(crate) fn move_into_previous<const FLLEN: usize, const SLLEN: usize, const W
     ensures grow { memory.old.touches ≤ memory.new.touches }
     ensures copied { AtEachPayload FLLEN SLLEN memory.old table.old block payload layout (λ s u. memory.new.copied ≤ memory.old.copied + (usable u).len) }
     ensures grow_copied { memory.old.copied ≤ memory.new.copied }
+    ensures own { SameOwn memory.old memory.new }
+    ensures here { StaysHere memory.old memory.new }
+    ensures kept_here { AtEachShort FLLEN SLLEN memory.old table.old block payload layout (λ s u. IsHereStill memory.old memory.new u result) }
 {
     let end = used_end(block, memory.load_at(view, block));
     let (moved, taken) = place_before(memory, view, block, end, layout)?;

@@ -4,7 +4,7 @@ ghost use Rattle.std.specs.Prelude.{◌≡◌, ◌+◌, ◌%◌, ◌≤◌, ◌<
 ghost use Rattle.rlsf_base.specs.declared.memory.range.Range.{Range};
 ghost use Rattle.rlsf_base.specs.Range.{range_at};
 ghost use Rattle.rlsf_base.specs.SizeClass.{IsValid};
-ghost use Rattle.rlsf_base.specs.OpenSpace.{IsOwned};
+ghost use Rattle.rlsf_base.specs.OpenSpace.{IsOwned, SameOwn, StaysHere};
 ghost use Rattle.rlsf_machine.specs.NoMove.{unmoved_plan};
 ghost use Rattle.rlsf_machine.specs.State.{State, Used, usable};
 ghost use Rattle.rlsf_blocks.specs.StandsFor.{contents, StandsFor};
@@ -78,6 +78,8 @@ pub fn resize_block<const FLLEN: usize, const SLLEN: usize>(
     ensures refused { AtEachPayload FLLEN SLLEN memory.old table.old block payload layout (λ s u. result ≡ false → unmoved_plan s u layout.size ≡ None) }
     ensures unchanged { result ≡ false → Counts memory.old memory.new 2 × (table.new ≡ table.old) }
     ensures costs { Costs memory.old memory.new 24 0 }
+    ensures own { SameOwn memory.old memory.new }
+    ensures here { StaysHere memory.old memory.new }
 {
     let len = len_of_used(memory.load_at(view, block));
     let taken = next_multiple_of_32(payload - block + layout.size());

@@ -3,7 +3,7 @@ use Rattle.rlsf_base.proofs.Lending.Present.{own-there}
 use Rattle.rlsf_base.specs.OpenSpace.{IsWritable, SameOwn, out_with}
 use Rattle.rlsf_base.proofs.Lending.Present.{own-word, own-inside}
 use Rattle.rlsf_base.specs.Space.{word_range}
-use Rattle.rlsf_blocks.proofs.Words.Here.{here_free}
+use Rattle.rlsf_blocks.proofs.Words.NeverOut.{here_free}
 use Rattle.std.proofs.Common.{[], ◌≡◌, ℕ, ◌+◌, ◌-◌, ◌%◌, ◌^◌, ◌<◌, ◌≤◌, ◌⊎◌, ◌++◌, length, drop, Some, arith, inl, inr, refl, sym, ◌∙◌, ap, subst}
 use mathlib.Core.Path.{ap₂}
 use Rattle.std.proofs.lemmas.List.{length-drop, length-take-le}

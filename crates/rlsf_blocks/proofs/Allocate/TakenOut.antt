@@ -1,7 +1,7 @@
 -- A free block is taken out of the list, and what is left of it behind its front is put in.
 use Rattle.rlsf_base.proofs.Lending.Present.{own-there}
 use Rattle.rlsf_base.proofs.Lending.Present.{own-inside}
-use Rattle.rlsf_blocks.proofs.Words.Here.{here_free, here_behind_free}
+use Rattle.rlsf_blocks.proofs.Words.NeverOut.{here_free, here_behind_free}
 use Rattle.std.proofs.Common.{◌≡◌, ℕ, ◌+◌, ◌-◌, ◌%◌, ◌<◌, ◌≤◌, ◌⊎◌, List, [], ◌∷◌, ◌++◌, cond, filter, arith, inl, inr, sym, ◌∙◌, ap, subst}
 use Rattle.std.proofs.lemmas.Bool.{le-ltb, lt-ltb}
 use Rattle.rlsf_base.specs.declared.memory.range.Range.{Range}

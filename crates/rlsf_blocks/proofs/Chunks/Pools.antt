@@ -1,5 +1,5 @@
 -- The chunks of an inserted range are made one after another.
-use Rattle.rlsf_blocks.proofs.Words.Here.{here_clear}
+use Rattle.rlsf_blocks.proofs.Words.NeverOut.{here_clear}
 use Rattle.std.proofs.Common.{◌≡◌, ◌≢◌, ℕ, suc, ◌+◌, ◌-◌, ◌<◌, ◌≤◌, ◌⊎◌, List, [], ◌∷◌, ◌*◌, length, drop, get_or, Option, Some, None, arith, inl, inr, refl, sym, ◌∙◌, ap, subst}
 use mathlib.Core.Path.{ap₂}
 use Rattle.std.proofs.lemmas.Bool.{cases_lt}
@@ -22,6 +22,7 @@ use Rattle.rlsf_blocks.specs.Spare.{IsSpare, KeepsSpare}
 use Rattle.rlsf_blocks.specs.StandsFor.{contents, StandsFor}
 use Rattle.rlsf_blocks.proofs.Chunks.NewChunks.{StandsFor-added}
 use Rattle.rlsf_blocks.proofs.Words.Apart.{Has, home_of_free}
+use Rattle.rlsf_blocks.proofs.Words.Stays.{Stays, Stays-rewrites, Stays-same, Stays-then}
 use Rattle.rlsf_machine.proofs.Coverage.{covers-inside}
 use Rattle.rlsf_machine.proofs.Cuts.{chunks_are_cut_off_the_front}
 use Rattle.rlsf_machine.proofs.Insertions.{AreNew, AreNew-cut, IsWellFormed-with_chunk}
@@ -87,6 +88,7 @@ pub record IsFilled (fllen sllen : ℕ) (m0 : Space) (s : State) (r : Range) (m 
   pub place : range_of m ≡ range_of m0
   pub view : m.view ≡ m0.view
   pub none : m0.out ≡ [] → m.out ≡ []
+  pub stays : Stays m0 m
   pub untouched : start ≡ (aligned_part r).start → m.bytes ≡ m0.bytes
   pub touches : m.touches + 13 * length (cut (max_pool_size fllen) (range_at start left)) ≤ m0.touches + 13 * length (cut (max_pool_size fllen) (aligned_part r))
   pub grow : m0.touches ≤ m.touches
@@ -108,6 +110,7 @@ module _ {fllen sllen : ℕ} {m0 : Space} {table0 : Table} {s : State} (v : Stan
         place = refl;
         view = refl;
         none = λ none. none;
+        stays = Stays-same m0 m0 refl refl;
         untouched = λ at. refl;
         touches = (let count = ap length same in omega arith);
         grow = omega arith;
@@ -164,6 +167,7 @@ module _ {fllen sllen : ℕ} {m0 : Space} {table0 : Table} {s : State} (v : Stan
           place = place ∙ filled.place;
           view = costs.view ∙ filled.view;
           none = λ none. costs.none (filled.none none);
+          stays = Stays-then filled.stays (Stays-rewrites added.rewrites);
           untouched = λ at. absurd (omega (arith, filled.from, chunk.has_room));
           touches = (let count : length (cut (max_pool_size fllen) (range_at start left)) ≡ suc (length rest) = ap length more in omega (arith, filled.touches, costs.touches));
           grow = omega (arith, costs.grow, filled.grow);

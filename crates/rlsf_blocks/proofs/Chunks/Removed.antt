@@ -1,8 +1,8 @@
 -- A chunk without a used block is taken out: its one free block leaves its list.
 use Rattle.std.proofs.Common.{◌<◌, ◌^◌}
-use Rattle.rlsf_base.proofs.Lending.Here.{is_word}
+use Rattle.rlsf_base.proofs.Lending.WordIsHere.{is_word}
 use Rattle.rlsf_base.proofs.Lending.Present.{own-word}
-use Rattle.rlsf_blocks.proofs.Words.Here.{here_free}
+use Rattle.rlsf_blocks.proofs.Words.NeverOut.{here_free}
 use Rattle.std.proofs.Common.{◌≡◌, ℕ, ◌+◌, ◌%◌, true, false, true≢false, List, ◌∷◌, ◌++◌, Some, find, arith, inl, inr, refl, sym, ◌∙◌, ap, subst}
 use mathlib.Core.Path.{ap₂}
 use Rattle.std.proofs.lemmas.Bool.{cases_eq, cases_lt, false_from_ne_true}

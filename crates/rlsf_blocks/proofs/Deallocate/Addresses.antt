@@ -1,7 +1,7 @@
 -- Where the block of a payload begins, by its alignment.
-use Rattle.rlsf_base.proofs.Lending.Here.{is_word}
+use Rattle.rlsf_base.proofs.Lending.WordIsHere.{is_word}
 use Rattle.rlsf_base.proofs.Lending.Present.{own-word}
-use Rattle.rlsf_blocks.proofs.Words.Here.{here_front}
+use Rattle.rlsf_blocks.proofs.Words.NeverOut.{here_front}
 use Rattle.std.proofs.Common.{◌≡◌, ℕ, ◌+◌, ◌-◌, ◌^◌, ◌<◌, ◌≤◌, arith, sym, ◌∙◌, ap}
 use Rattle.rlsf_base.specs.Space.{Space, word_at}
 use Rattle.rlsf_base.specs.OpenSpace.{IsReadable}

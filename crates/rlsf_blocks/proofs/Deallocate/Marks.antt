@@ -1,5 +1,5 @@
 -- The words at the neighbours of a used block tell if they are free.
-use Rattle.rlsf_base.proofs.Lending.Here.{is_word}
+use Rattle.rlsf_base.proofs.Lending.WordIsHere.{is_word}
 use Rattle.rlsf_base.proofs.Lending.Present.{own-there}
 use Rattle.std.proofs.Common.{◌<◌, ◌^◌}
 use Rattle.rlsf_base.proofs.Lending.Present.{own-word}
@@ -7,7 +7,7 @@ use Rattle.rlsf_base.specs.Range.{range_at}
 use Rattle.rlsf_base.specs.Space.{word_range}
 use Rattle.rlsf_machine.specs.State.{between}
 use Rattle.rlsf_machine.proofs.Payloads.{IsUsed-after_start}
-use Rattle.rlsf_blocks.proofs.Words.Here.{here_free, here_front, here_behind_used}
+use Rattle.rlsf_blocks.proofs.Words.NeverOut.{here_free, here_front, here_behind_used}
 use Rattle.std.proofs.Common.{◌≡◌, ◌≢◌, ◌↔◌, ℕ, eqb, false, ◌+◌, ◌-◌, ◌%◌, ◌<◌, ◌≤◌, Some, None, find, arith, inl, inr, sym, ◌∙◌, ap, subst}
 use Rattle.std.proofs.lemmas.Bool.{eq-eqb, eqb-true, ne_eqb}
 use Rattle.rlsf_base.specs.declared.memory.range.Range.{Range}

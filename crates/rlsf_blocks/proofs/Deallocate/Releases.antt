@@ -1,6 +1,6 @@
 -- A used block was joined with its free neighbours: the value stands for the state without it.
 use Rattle.rlsf_base.proofs.Lending.Present.{own-there}
-use Rattle.rlsf_blocks.proofs.Words.Here.{here_free-in, here_behind_free-in, here_released}
+use Rattle.rlsf_blocks.proofs.Words.NeverOut.{here_free-in, here_behind_free-in, here_released}
 use Rattle.std.proofs.Common.{◌≡◌, ℕ, ◌+◌, ◌-◌, ◌≤◌, ◌⊎◌, length, arith, inl, inr, refl, sym, ◌∙◌, ap, subst}
 use mathlib.Core.Path.{ap₂}
 use Rattle.rlsf_base.specs.declared.memory.range.Range.{Range}

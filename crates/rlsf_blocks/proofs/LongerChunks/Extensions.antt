@@ -4,7 +4,7 @@ use Rattle.rlsf_base.specs.OpenSpace.{out_with}
 use Rattle.rlsf_base.proofs.Lending.Present.{own-word, own-inside}
 use Rattle.rlsf_base.specs.Space.{word_range}
 use Rattle.rlsf_base.specs.OpenSpace.{IsOwned}
-use Rattle.rlsf_blocks.proofs.Words.Here.{here_longer}
+use Rattle.rlsf_blocks.proofs.Words.NeverOut.{here_longer}
 use Rattle.std.proofs.Common.{◌≡◌, ℕ, ◌+◌, ◌-◌, ◌%◌, ◌^◌, ◌<◌, ◌≤◌, ◌⊎◌, List, ◌∷◌, length, arith, inl, inr, refl, sym, ◌∙◌, ap, subst}
 use mathlib.Core.Path.{ap₂}
 use Rattle.std.proofs.lemmas.Bool.{cases_eq, cases_lt}

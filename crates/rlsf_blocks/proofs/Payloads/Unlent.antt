@@ -10,7 +10,7 @@ use Rattle.rlsf_machine.specs.State.{State, Used, usable}
 use Rattle.rlsf_machine.specs.WellFormed.{coverage, covers, IsUsed, IsWellFormed}
 use Rattle.rlsf_blocks.specs.StandsFor.{IsUnlent}
 use Rattle.rlsf_base.specs.Out.{is_own}
-use Rattle.rlsf_base.proofs.Lending.Here.{word_at-kept}
+use Rattle.rlsf_base.proofs.Lending.WordIsHere.{word_at-kept}
 use Rattle.rlsf_machine.proofs.Coverage.{IsIn-map, IsIn-map_from}
 use Rattle.rlsf_machine.proofs.Payloads.{IsUsed-after_start}
 use Rattle.rlsf_machine.proofs.Tiling.{block_of}

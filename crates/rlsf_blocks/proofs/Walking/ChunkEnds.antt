@@ -1,6 +1,6 @@
 -- A walk over the blocks of one chunk, up to its sentinel.
-use Rattle.rlsf_base.proofs.Lending.Here.{is_word}
-use Rattle.rlsf_blocks.proofs.Words.Here.{here_walk, walk-fits}
+use Rattle.rlsf_base.proofs.Lending.WordIsHere.{is_word}
+use Rattle.rlsf_blocks.proofs.Words.NeverOut.{here_walk, walk-fits}
 use Rattle.std.proofs.Common.{◌≡◌, ◌≢◌, ℕ, ◌+◌, ◌*◌, ◌/◌, ◌%◌, ◌<◌, ◌≤◌, arith, sym, ◌∙◌, ap, subst}
 use Rattle.rlsf_base.specs.declared.memory.range.Range.{Range}
 use Rattle.rlsf_base.specs.Range.{end_of}

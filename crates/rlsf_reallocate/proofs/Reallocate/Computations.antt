@@ -5,7 +5,7 @@ use Rattle.std.specs.Int.{next_multiple_of}
 use Rattle.rlsf_base.specs.Range.{end_of}
 use Rattle.rlsf_base.specs.Space.{Space, word_at}
 use Rattle.rlsf_base.specs.OpenSpace.{IsReadable}
-use Rattle.rlsf_base.proofs.Lending.Here.{is_word}
+use Rattle.rlsf_base.proofs.Lending.WordIsHere.{is_word}
 use Rattle.rlsf_base.proofs.Lending.Present.{own-word}
 use Rattle.rlsf_machine.specs.Join.{starts_at, end_or}
 use Rattle.rlsf_machine.specs.Reallocate.{resized}
@@ -20,7 +20,7 @@ use Rattle.rlsf_blocks.proofs.Deallocate.Releases.{end_computed}
 use Rattle.rlsf_reallocate.proofs.Reallocate.Neighbours.{IsMarked-end}
 use Rattle.rlsf_reallocate.proofs.Reallocate.Spans.{reach}
 use Rattle.rlsf_blocks.proofs.Words.Apart.{used_in_memory}
-use Rattle.rlsf_blocks.proofs.Words.Here.{here_front}
+use Rattle.rlsf_blocks.proofs.Words.NeverOut.{here_front}
 
 module _ {fllen sllen : ℕ} {m : Space} {t : Table} {s : State} (v : StandsFor fllen sllen (contents m t) s) (u : Used) {block payload align : ℕ} (at : IsUsedAt s u block payload align) where
   -- its size word can be read

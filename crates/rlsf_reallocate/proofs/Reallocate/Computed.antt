@@ -5,6 +5,7 @@ use Rattle.rlsf_base.specs.declared.memory.range.Range.{Range}
 use Rattle.rlsf_base.specs.Range.{end_of, LiesIn, range_at}
 use Rattle.rlsf_base.specs.Space.{Space, bytes_in, with_bytes, word_range}
 use Rattle.rlsf_base.specs.OpenSpace.{IsHere, IsOwned, IsWritable, SameOwn, out_with}
+use Rattle.rlsf_base.proofs.Lending.Copied.{out_at-there}
 use Rattle.rlsf_base.proofs.Lending.Present.{own-here, own-inside, own-there, own-word}
 use Rattle.rlsf_machine.specs.Join.{ends_at, start_or}
 use Rattle.rlsf_machine.specs.Lists.{IsIn, without}
@@ -19,7 +20,8 @@ use Rattle.rlsf_blocks.specs.Steps.Rest.{IsInnerRoom}
 use Rattle.rlsf_table.specs.Table.{Table}
 use Rattle.rlsf_blocks.proofs.Deallocate.Releases.{before_at, behind_at, gone, IsInnerRoom-union, start_before, union_len, union_start}
 use Rattle.rlsf_table.proofs.Words.Writes.{Writes}
-use Rattle.rlsf_reallocate.proofs.Reallocate.Copies.{IsCopied, IsInnerRoom-copied, Rewrites-copied}
+use Rattle.rlsf_blocks.proofs.Words.Stays.{Stays, Stays-rewrites, Stays-then}
+use Rattle.rlsf_reallocate.proofs.Reallocate.Copies.{IsCopied, IsInnerRoom-copied, LiesIn-copied, Rewrites-copied}
 use Rattle.rlsf_reallocate.proofs.Reallocate.Moves.{IsSpan, span, payload_here, payload_placed, IsCarriedOut-moved}
 use Rattle.rlsf_reallocate.proofs.Reallocate.Previous.{into_previous-fits, planned, reach}
 
@@ -157,6 +159,21 @@ module _ {fllen sllen : ℕ} {m : Space} {t : Table} {s : State} {u : Used} {blo
             λ none. third.none (second.none (first.none none)),
             λ a inside. third.own a (omega (arith, second.start, first.start)) ∙ second.own a (omega (arith, first.start)) ∙ first.own a inside,
           )
+
+      -- and what is here
+      pub stays-occupied : Stays m m4
+      stays-occupied =
+          let copy = Rewrites-copied (union u.block s.free) inner (usable u) (payload_of are.plan.previous.start u.align) IsCopied-computed in
+          Stays-then (Stays-rewrites (gone v u i before behind)) (Stays-then (Stays-rewrites copy) (Stays-rewrites occupied.rewrites))
+
+      -- and as many bytes as the payload has are here at its new place
+      pub here-occupied : IsHere m4 (range_at to (usable u).len)
+      here-occupied =
+          let target = payload_of are.plan.previous.start u.align in
+          let is = IsCopied-computed in
+          let there = LiesIn-copied (union u.block s.free) inner (usable u) target is in
+          λ a lo hi. occupied.rewrites.here a (omega (arith, same_start, there, are.plan.placed))
+          (out_at-there m2 m3 (usable u) target is.placed there is.start is.bytes is.out a (omega (arith, are.plan.placed)) (omega (arith, are.plan.placed)))
 
       -- the word before the payload can be written
       pub IsWritable-pad : 32 ≤ align → IsWritable m4 (to - 8)

@@ -6,8 +6,8 @@ use Rattle.rlsf_base.specs.declared.memory.range.Range.{Range}
 use Rattle.rlsf_base.specs.Range.{end_of, range_at, LiesIn}
 use Rattle.rlsf_base.specs.Sizes.{request_size}
 use Rattle.rlsf_base.specs.Space.{Space, bytes_in, with_bytes}
-use Rattle.rlsf_base.specs.OpenSpace.{IsOwned, SameOwn, out_with}
-use Rattle.rlsf_base.proofs.Lending.Copied.{out_at-copied, is_own-copied}
+use Rattle.rlsf_base.specs.OpenSpace.{IsHere, IsOwned, SameOwn, StaysHere, out_with}
+use Rattle.rlsf_base.proofs.Lending.Copied.{out_at-copied, out_at-there, here-copied, is_own-copied}
 use Rattle.rlsf_base.proofs.Lending.Present.{own-inside, own-there}
 use Rattle.rlsf_base.proofs.Lending.Replaced.{length-with, bytes_in-with, bytes_in-there}
 use Rattle.rlsf_machine.specs.Allocate.{given, placed, Places}
@@ -26,7 +26,7 @@ use Rattle.rlsf_blocks.specs.StandsFor.{contents, StandsFor}
 use Rattle.rlsf_table.specs.Table.{Table}
 use Rattle.rlsf_blocks.proofs.Payloads.Filled.{IsSameOutside, stands_filled}
 use Rattle.rlsf_blocks.proofs.Words.Apart.{free_in_memory, used_in_memory}
-use Rattle.rlsf_blocks.proofs.Words.Here.{here_free}
+use Rattle.rlsf_blocks.proofs.Words.NeverOut.{here_free}
 
 module _ {fllen sllen : ℕ} {memory : Range} {m : Space} {table : Table} {s t : State} (w : IsWellFormed fllen sllen memory s) (u : Used) (i : IsIn u s.used) (size : ℕ) (short : in_place s u size ≡ None)
     {addr : ℕ} (places : Places sllen s size u.align addr t) (v : StandsFor fllen sllen (contents m table) t) where
@@ -77,6 +77,8 @@ module _ {fllen sllen : ℕ} {memory : Range} {m : Space} {table : Table} {s t :
   pub record IsCopied (n : Space) (bytes : List ℕ) : Type 0 where
     pub place : (n.start ≡ m.start) × (length n.bytes ≡ length m.bytes)
     pub own : SameOwn m n
+    pub here : StaysHere m n
+    pub there : IsHere n (range_at addr (usable u).len)
     pub length : length bytes ≡ end_of new.block - addr
     pub kept : Keeps u.bytes bytes
     pub stands : StandsFor fllen sllen (contents n table) (both bytes)
@@ -138,6 +140,8 @@ module _ {fllen sllen : ℕ} {memory : Range} {m : Space} {table : Table} {s t :
             spare = subst (KeepsSpare m t n) is_both spare;
             place = (start, IsSameOutside-copied.length);
             own = is_own-copied m n (usable u) addr LiesIn-old LiesIn-new start copied_there out_there own;
+            here = here-copied m n (usable u) addr LiesIn-old LiesIn-new start copied_there out_there;
+            there = out_at-there m n (usable u) addr LiesIn-old LiesIn-new start copied_there out_there;
           },
         )
 

@@ -40,7 +40,7 @@ use Rattle.rlsf_reallocate.proofs.Reallocate.Copies.{IsCopied, IsInside, LiesIn-
 use Rattle.rlsf_reallocate.proofs.Reallocate.Previous.{into_previous-fits, planned, reach}
 use Rattle.rlsf_blocks.proofs.Words.Apart.{used_free, free_in_memory, used_in_memory}
 use Rattle.rlsf_blocks.proofs.Words.Frames.{sides, wide_whole}
-use Rattle.rlsf_blocks.proofs.Words.Here.{here_free-in, here_released}
+use Rattle.rlsf_blocks.proofs.Words.NeverOut.{here_free-in, here_released}
 use Rattle.rlsf_blocks.proofs.Words.Refilled.{IsUsedStill, old_used, new_used, IsFreeStill, old_free, new_free, IsRefilled, StandsFor-refilled, KeepsSpare-refilled}
 
 -- a block that is too short where it stands has fewer bytes than its payload is to have

@@ -4,7 +4,7 @@ use Rattle.std.proofs.lemmas.Bool.{eqb-true, ne_eqb}
 use Rattle.rlsf_base.specs.declared.memory.range.Range.{Range}
 use Rattle.rlsf_base.specs.Range.{end_of, range_at}
 use Rattle.rlsf_base.specs.Space.{Space, word_at}
-use Rattle.rlsf_base.proofs.Lending.Here.{is_word}
+use Rattle.rlsf_base.proofs.Lending.WordIsHere.{is_word}
 use Rattle.rlsf_base.proofs.Lending.Present.{own-word}
 use Rattle.rlsf_blocks.specs.StandsFor.{contents, StandsFor}
 use Rattle.rlsf_blocks.specs.Steps.Join.{FreeBlockBegins, IsMarked}
@@ -19,7 +19,7 @@ use Rattle.rlsf_table.proofs.FreeLists.Found.{find-start, find-no_start}
 use Rattle.rlsf_blocks.proofs.Machine.FreeBlocks.{IsFreeTable-free}
 use Rattle.rlsf_blocks.proofs.Machine.Neighbours.{Behind, free_behind, used_behind, last_behind, behind_used}
 use Rattle.rlsf_blocks.proofs.Words.Apart.{used_in_memory, free_in_memory}
-use Rattle.rlsf_blocks.proofs.Words.Here.{here_behind_used}
+use Rattle.rlsf_blocks.proofs.Words.NeverOut.{here_behind_used}
 
 -- an element that fails a test is no answer to it, so it isn't missed
 find-without : {A : Type 0} (p q : A → Bool) (xs : List A) → ((x : A) → IsIn x xs → q x ≡ true → p x ≡ false) → find p (without q xs) ≡ find p xs

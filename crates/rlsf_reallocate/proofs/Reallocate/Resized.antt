@@ -8,7 +8,7 @@ use Rattle.rlsf_base.specs.Out.{is_own}
 use Rattle.rlsf_base.specs.Range.{end_of, range_at, LiesIn}
 use Rattle.rlsf_base.specs.Space.{Space, bytes_in, out_at, range_of, word_at, word_range}
 use Rattle.rlsf_base.specs.OpenSpace.{IsOwned}
-use Rattle.rlsf_base.proofs.Lending.Here.{is_here-word, word_at-is}
+use Rattle.rlsf_base.proofs.Lending.WordIsHere.{is_here-word, word_at-is}
 use Rattle.rlsf_machine.specs.Allocate.{rest_behind}
 use Rattle.rlsf_machine.specs.Lists.{IsIn}
 use Rattle.rlsf_machine.specs.Reallocate.{Plan, resized, Keeps, moved, replanned}
@@ -31,7 +31,7 @@ use Rattle.rlsf_reallocate.proofs.Reallocate.NextPlans.{stretched, kept_whole, t
 use Rattle.rlsf_reallocate.proofs.Reallocate.Spans.{reach, span_of, staying, end_of-span, home, IsWhole-span, free_apart, used_apart, span-some, span_in_memory, was_free}
 use Rattle.rlsf_blocks.proofs.Words.Apart.{used_free, used_in_memory}
 use Rattle.rlsf_blocks.proofs.Words.Frames.{sides, wide_whole}
-use Rattle.rlsf_blocks.proofs.Words.Here.{here_released}
+use Rattle.rlsf_blocks.proofs.Words.NeverOut.{here_released}
 use Rattle.rlsf_blocks.proofs.Words.Refilled.{IsUsedStill, old_used, new_used, IsFreeStill, old_free, new_free, IsRefilled, StandsFor-refilled, KeepsSpare-refilled}
 
 -- as many first bytes of two ranges at one address as both have are the same, if they are the same in both memories

@@ -22,7 +22,7 @@ use Rattle.rlsf_blocks.specs.Steps.Join.{IsNextOut}
 use Rattle.rlsf_blocks.specs.Steps.Rest.{IsInnerRoom}
 use Rattle.rlsf_table.specs.Table.{Table}
 use Rattle.rlsf_blocks.proofs.Words.Apart.{Has}
-use Rattle.rlsf_blocks.proofs.Words.Here.{here_apart-in, here_released}
+use Rattle.rlsf_blocks.proofs.Words.NeverOut.{here_apart-in, here_released}
 
 -- where the free block behind a used one ends, or where that ends itself
 abbrev pub reach : State → Used → ℕ

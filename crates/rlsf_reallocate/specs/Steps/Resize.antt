@@ -1,15 +1,16 @@
 -- A used block gets another size, where it stands or at another place.
-use Rattle.std.specs.Prelude.{◌≡◌, ℕ, ◌+◌, ◌≤◌, List, ◌++◌, Option, None, Some, MatchOption, find}
+use Rattle.std.specs.Prelude.{◌≡◌, ℕ, ◌+◌, ◌≤◌, List, ◌++◌, Option, None, Some, IfSome, MatchOption, find}
 use Rattle.rlsf_base.specs.declared.memory.layout.Layout.{Layout}
 use Rattle.rlsf_base.specs.declared.memory.range.Range.{Range}
-use Rattle.rlsf_base.specs.Range.{end_of}
+use Rattle.rlsf_base.specs.Range.{end_of, range_at}
+use Rattle.rlsf_base.specs.OpenSpace.{IsHere}
 use Rattle.rlsf_base.specs.Space.{Space, bytes_in, word_at}
 use Rattle.rlsf_machine.specs.Allocate.{Allocates, rest_behind}
 use Rattle.rlsf_machine.specs.Join.{end_or, starts_at}
 use Rattle.rlsf_machine.specs.Lists.{IsIn}
 use Rattle.rlsf_machine.specs.NoMove.{unmoved_plan}
 use Rattle.rlsf_machine.specs.Reallocate.{MovesAway, Plan, ReallocatesBy, Replans, in_place, plan}
-use Rattle.rlsf_machine.specs.State.{State, Used}
+use Rattle.rlsf_machine.specs.State.{State, Used, usable}
 use Rattle.rlsf_blocks.specs.Spare.{KeepsSpare}
 use Rattle.rlsf_blocks.specs.StandsFor.{Contents, contents, StandsFor}
 use Rattle.rlsf_blocks.specs.Steps.Standing.{StepsTo}
@@ -67,3 +68,7 @@ IsReallocated fllen sllen m n t s u size reply = StepsTo fllen sllen m n t s (Re
 -- the payload lies in a block that was allocated for it, and its old block is given back; or the allocation is refused
 abbrev pub IsElsewhere : ℕ → ℕ → Space → Space → Table → State → Used → ℕ → Option ℕ → Type 0
 IsElsewhere fllen sllen m n t s u size reply = MatchOption reply (Allocates sllen s size u.align None s) (λ addr. StepsTo fllen sllen m n t s (MovesAway sllen s u size addr))
+
+-- where the usable bytes of the used block were here, as many bytes are here from the address that answers the call, if it is answered
+abbrev pub IsHereStill : Space → Space → Used → Option ℕ → Type 0
+IsHereStill m n u reply = IsHere m (usable u) → IfSome reply (λ addr. IsHere n (range_at addr (usable u).len))

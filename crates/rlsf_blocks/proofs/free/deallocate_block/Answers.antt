@@ -1,21 +1,24 @@
-use Rattle.rlsf_base.proofs.Lending.Here.{is_word}
+use Rattle.rlsf_base.proofs.Lending.WordIsHere.{is_word}
 use Rattle.std.proofs.Common.{subst, ◌<◌, ◌^◌}
 use Rattle.rlsf_base.specs.Space.{word_at}
 use Rattle.std.proofs.Common.{arith, rules, sym, ◌∙◌}
 use Rattle.rlsf_base.proofs.Lending.Present.{owned-same, own-word}
 use Rattle.rlsf_machine.specs.State.{between, usable}
 use Rattle.rlsf_machine.proofs.Payloads.{IsUsed-after_start}
-use Rattle.rlsf_blocks.proofs.Words.Here.{here_front}
+use Rattle.rlsf_blocks.proofs.Words.NeverOut.{here_front}
 use Rattle.rlsf_blocks.specs.Steps.Join.{union, untouched}
 use Rattle.rlsf_machine.specs.Join.{ends_at}
 use Rattle.rlsf_machine.specs.Lists.{without}
 use Rattle.rlsf_machine.specs.Release.{released}
 use Rattle.rlsf_blocks.proofs.Deallocate.Marks.{IsMarked-behind}
-use Rattle.rlsf_blocks.proofs.Deallocate.Releases.{before_at, behind_at, end_computed, IsInnerRoom-union, released_stands, start_before, union_end, union_len, union_start, word_computed}
+use Rattle.rlsf_blocks.proofs.Deallocate.Releases.{before_at, behind_at, end_computed, gone, IsInnerRoom-union, released_stands, start_before, union_end, union_len, union_start, word_computed}
 use Rattle.rlsf_blocks.proofs.Machine.Counted.{KeepsSpare-counted_first, StandsFor-counted}
 use Rattle.rlsf_blocks.proofs.Words.Apart.{used_in_memory}
 use Rattle.rlsf_table.proofs.Costs.{Costs-loaded, Costs-then}
+use Rattle.rlsf_blocks.proofs.Words.Stays.{Stays, Stays-rewrites, Stays-same, Stays-then}
+use Rattle.rlsf_blocks.proofs.free.deallocate_block.Given as given
 use Rattle.rlsf_blocks.proofs.free.deallocate_block.Goals as goal
+use Rattle.rlsf_blocks.proofs.free.deallocate_block.Goals.{After-put}
 
 pub load_at-requires-clause-place : goal.load_at-requires-clause-place
 load_at-requires-clause-place g c =
@@ -91,3 +94,21 @@ returns-clause-step g c =
 pub returns-clause-costs : goal.returns-clause-costs
 returns-clause-costs g c =
     Costs-then (Costs-then (Costs-then (Costs-loaded c.args.memory.now c.load_at.new.self c.load_at.ensures.start c.load_at.ensures.bytes c.load_at.ensures.touches c.load_at.ensures.copied c.load_at.ensures.view c.load_at.ensures.out) c.take_previous-start.ensures.costs) c.take_if_free-next.ensures.costs) c.put.ensures.costs
+
+-- no byte leaves, and none that is here becomes raw
+stays : (g : given.Over) (c : After-put g) → Stays c.args.memory.now c.put.new.memory
+stays g c =
+    let (s, u, v, i, at, own) = c.requires.used in
+    let v0 = StandsFor-counted c.args.memory.now c.load_at.new.self c.load_at.ensures.start c.load_at.ensures.bytes c.load_at.ensures.out v in
+    let previous = c.take_previous-start.ensures.step s u v0 i at in
+    let end = end_computed v u i at c.load_at.ensures.word ∙ sym c.used_end-end.ensures in
+    let behind = behind_at v0 u i at end (c.take_if_free-next.ensures.step (without (ends_at c.args.block) s.free) previous.list (IsMarked-behind v0 u i at previous _ end)) in
+    let before = before_at v0 u i at previous in
+    let put = c.put.ensures.step (untouched u.block s.free) (union u.block s.free) (union_start v0 u i before behind) (omega (arith, end, union_len v0 u i before behind)) (IsInnerRoom-union v0 u i before behind (owned-same c.args.memory.now c.load_at.new.self (usable u) c.load_at.ensures.start c.load_at.ensures.out own)) in
+    Stays-then (Stays-same c.args.memory.now c.load_at.new.self c.load_at.ensures.start c.load_at.ensures.out) (Stays-then (Stays-rewrites (gone v0 u i before behind)) (Stays-rewrites put.rewrites))
+
+pub returns-clause-own : goal.returns-clause-own
+returns-clause-own g c = (stays g (goal.at.returns-clause-own g c).After-put).own
+
+pub returns-clause-here : goal.returns-clause-here
+returns-clause-here g c = (stays g (goal.at.returns-clause-here g c).After-put).here

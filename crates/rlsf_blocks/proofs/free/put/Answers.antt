@@ -3,7 +3,7 @@ use Rattle.rlsf_base.specs.Space.{word_range}
 use Rattle.rlsf_base.proofs.Lending.Present.{own-there, own-word}
 use Rattle.std.proofs.Common.{◌+◌}
 use Rattle.std.proofs.Common.{arith, rules}
-use Rattle.rlsf_blocks.proofs.Deallocate.Puts.{ArePut-from, IsNewFreeBlock-written, room_written}
+use Rattle.rlsf_blocks.proofs.Deallocate.FreeBlockWrites.{ArePut-from, IsNewFreeBlock-written, room_written}
 use Rattle.rlsf_table.proofs.Costs.{Costs-then, Costs-written}
 use Rattle.rlsf_blocks.proofs.free.put.Goals as goal
 

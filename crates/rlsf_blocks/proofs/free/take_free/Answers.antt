@@ -1,7 +1,7 @@
 use Rattle.std.proofs.Common.{arith, rules}
 use Rattle.rlsf_table.proofs.FreeLists.Counted.{IsFreeTable-counted}
 use Rattle.rlsf_blocks.proofs.Deallocate.Loaded.{IsMarked-loaded, IsNextOut-loaded, word_at-loaded}
-use Rattle.rlsf_blocks.proofs.Deallocate.Outs.{block_there, IsNextOut-none, IsNextOut-unlinked, odd_from}
+use Rattle.rlsf_blocks.proofs.Deallocate.TakenIfFree.{block_there, IsNextOut-none, IsNextOut-unlinked, odd_from}
 use Rattle.rlsf_table.proofs.Costs.{Costs-loaded, Costs-then, Costs-within}
 use Rattle.rlsf_blocks.proofs.free.take_free.Goals as goal
 

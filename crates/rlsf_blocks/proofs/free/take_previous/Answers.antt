@@ -1,4 +1,4 @@
-use Rattle.rlsf_base.proofs.Lending.Here.{is_word}
+use Rattle.rlsf_base.proofs.Lending.WordIsHere.{is_word}
 use Rattle.std.proofs.Common.{refl}
 use Rattle.rlsf_blocks.proofs.Deallocate.Marks.{previous-fits}
 use Rattle.std.proofs.Common.{arith, rules}
@@ -6,7 +6,7 @@ use Rattle.std.proofs.Common.{◌+◌}
 use Rattle.rlsf_base.proofs.Lending.Present.{own-word}
 use Rattle.rlsf_machine.specs.State.{between}
 use Rattle.rlsf_machine.proofs.Payloads.{IsUsed-after_start}
-use Rattle.rlsf_blocks.proofs.Words.Here.{here_front}
+use Rattle.rlsf_blocks.proofs.Words.NeverOut.{here_front}
 use Rattle.rlsf_table.proofs.FreeLists.Counted.{IsFreeTable-counted}
 use Rattle.rlsf_blocks.proofs.Deallocate.Loaded.{IsMarked-loaded, IsNextOut-loaded}
 use Rattle.rlsf_blocks.proofs.Deallocate.Marks.{IsMarked-previous, IsPreviousOut-none, previous_begins, previous_out}

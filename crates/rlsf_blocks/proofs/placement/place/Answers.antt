@@ -1,10 +1,10 @@
-use Rattle.rlsf_base.proofs.Lending.Here.{is_word}
+use Rattle.rlsf_base.proofs.Lending.WordIsHere.{is_word}
 use Rattle.rlsf_base.proofs.Lending.Present.{own-same, out-same}
 use Rattle.std.proofs.Common.{◌<◌, ◌^◌}
 use Rattle.rlsf_base.specs.Space.{word_at}
 use Rattle.std.proofs.Common.{◌≡◌, ◌+◌, ◌-◌, ◌^◌, ◌<◌, ◌≤◌, Some, arith, refl, sym, ◌∙◌, rules, subst}
 use Rattle.rlsf_base.proofs.Lending.Present.{own-word}
-use Rattle.rlsf_blocks.proofs.Words.Here.{here_free}
+use Rattle.rlsf_blocks.proofs.Words.NeverOut.{here_free}
 use Rattle.rlsf_base.specs.declared.memory.range.Range.{Range}
 use Rattle.rlsf_base.specs.Sizes.{request_size}
 use Rattle.rlsf_machine.specs.Allocate.{choice}

@@ -10,6 +10,7 @@ use Rattle.rlsf_blocks.specs.Steps.Pool.{IsAdded, IsNewChunk}
 use Rattle.rlsf_blocks.proofs.Words.NonZeroNumbers.{number, on_none}
 use Rattle.rlsf_blocks.proofs.Chunks.Pools.{IsFilled, IsFilled-end, IsFilled-init, IsFilled-next, IsNewChunk-next, nothing_inserted}
 use Rattle.rlsf_table.proofs.Costs.{Costs-same, Costs-within}
+use Rattle.rlsf_blocks.proofs.Words.Stays.{Stays-same}
 use Rattle.rlsf_blocks.proofs.pool.insert_chunks.Goals as goal
 use Rattle.rlsf_blocks.proofs.pool.insert_chunks.Goals.{then-start-first, else-start-first}
 
@@ -110,3 +111,21 @@ returns-clause-costs g c =
       view = filled.view;
       none = filled.none;
     }
+
+pub returns-in_default-clause-own : goal.returns-in_default-clause-own
+returns-in_default-clause-own g c = (Stays-same c.args.memory.now c.args.memory.now refl refl).own
+
+pub returns-in_default-2-clause-own : goal.returns-in_default-2-clause-own
+returns-in_default-2-clause-own g c = (Stays-same c.args.memory.now c.args.memory.now refl refl).own
+
+pub returns-clause-own : goal.returns-clause-own
+returns-clause-own g c = let (s, v, fresh) = c.requires.fresh in (c.loop-left.invariant s v fresh).stays.own
+
+pub returns-in_default-clause-here : goal.returns-in_default-clause-here
+returns-in_default-clause-here g c = (Stays-same c.args.memory.now c.args.memory.now refl refl).here
+
+pub returns-in_default-2-clause-here : goal.returns-in_default-2-clause-here
+returns-in_default-2-clause-here g c = (Stays-same c.args.memory.now c.args.memory.now refl refl).here
+
+pub returns-clause-here : goal.returns-clause-here
+returns-clause-here g c = let (s, v, fresh) = c.requires.fresh in (c.loop-left.invariant s v fresh).stays.here

@@ -5,8 +5,13 @@ use Rattle.rlsf_reallocate.proofs.Reallocate.FirstPlan.{in_place-none, IsRealloc
 use Rattle.std.proofs.lemmas.Option.{none-some}
 use Rattle.rlsf_blocks.proofs.Counting.{SamePlace-counted_first, copied-more, grow-counted_first, grow_copied-counted_first, grow_copied-same, touches-counted_first, touches-more}
 use Rattle.rlsf_blocks.proofs.Refused.{none_more}
+use Rattle.rlsf_blocks.proofs.Words.Apart.{used_in_memory}
+use Rattle.rlsf_blocks.proofs.Words.Stays.{Stays, Stays-same, Stays-then}
 use Rattle.rlsf_table.proofs.Costs.{SamePlace-costs, copied_none}
+use Rattle.rlsf_machine.proofs.Payloads.{IsUsed-after_start}
+use Rattle.rlsf_reallocate.proofs.cases.reallocate_block.Given as given
 use Rattle.rlsf_reallocate.proofs.cases.reallocate_block.Goals as goal
+use Rattle.rlsf_reallocate.proofs.cases.reallocate_block.Goals.{After-resize_block}
 
 pub move_into_previous-requires : goal.move_into_previous-requires
 move_into_previous-requires g c =
@@ -158,3 +163,70 @@ pub resize_block-requires : goal.resize_block-requires
 resize_block-requires g c =
     let (s, u, v, is, here) = c.requires.used in
     (omega arith, (c.requires.parameters, ((s, u, v, is, own-here c.args.memory.now (usable u) here), search rules)))
+
+-- ---- no byte leaves, and none that is here becomes raw
+
+pub returns-then-resize_block-clause-own : goal.returns-then-resize_block-clause-own
+returns-then-resize_block-clause-own g c = c.resize_block.ensures.own
+
+pub returns-then-resize_block-clause-here : goal.returns-then-resize_block-clause-here
+returns-then-resize_block-clause-here g c = c.resize_block.ensures.here
+
+first_stays : (g : given.Over) (c : After-resize_block g) → Stays c.args.memory.now c.resize_block.new.memory
+first_stays g c = record { start = c.resize_block.ensures.costs.start; own = c.resize_block.ensures.own; here = c.resize_block.ensures.here }
+
+pub returns-in-Some-clause-own : goal.returns-in-Some-clause-own
+returns-in-Some-clause-own g c =
+    let first = first_stays g (goal.at.returns-in-Some-clause-own g c).After-resize_block in
+    let moves = c.move_into_previous.ensures in
+    let second : Stays c.resize_block.new.memory c.move_into_previous.new.memory = record { start = moves.place.0; own = moves.own; here = moves.here } in
+    (Stays-then first second).own
+
+pub returns-clause-own : goal.returns-clause-own
+returns-clause-own g c =
+    let first = first_stays g (goal.at.returns-clause-own g c).After-resize_block in
+    let same = c.in_default.ensures.unchanged in
+    let moves = c.move_elsewhere.ensures in
+    let third : Stays c.move_into_previous.new.memory c.move_elsewhere.new.memory = record { start = moves.place.0; own = moves.own; here = moves.here } in
+    (Stays-then first (Stays-then (Stays-same c.resize_block.new.memory c.move_into_previous.new.memory same.0.start same.0.out) third)).own
+
+pub returns-in-Some-clause-here : goal.returns-in-Some-clause-here
+returns-in-Some-clause-here g c =
+    let first = first_stays g (goal.at.returns-in-Some-clause-here g c).After-resize_block in
+    let moves = c.move_into_previous.ensures in
+    let second : Stays c.resize_block.new.memory c.move_into_previous.new.memory = record { start = moves.place.0; own = moves.own; here = moves.here } in
+    (Stays-then first second).here
+
+pub returns-clause-here : goal.returns-clause-here
+returns-clause-here g c =
+    let first = first_stays g (goal.at.returns-clause-here g c).After-resize_block in
+    let same = c.in_default.ensures.unchanged in
+    let moves = c.move_elsewhere.ensures in
+    let third : Stays c.move_into_previous.new.memory c.move_elsewhere.new.memory = record { start = moves.place.0; own = moves.own; here = moves.here } in
+    (Stays-then first (Stays-then (Stays-same c.resize_block.new.memory c.move_into_previous.new.memory same.0.start same.0.out) third)).here
+
+-- ---- as many bytes as the payload has are here at its new place
+
+pub returns-then-resize_block-clause-kept_here : goal.returns-then-resize_block-clause-kept_here
+returns-then-resize_block-clause-kept_here g c =
+    λ s u v is here a lo hi.
+    let place = used_in_memory v.well_formed u is.is_used in
+    c.resize_block.ensures.here a (omega (arith, is.caller, place.0, IsUsed-after_start u (v.well_formed.used u is.is_used))) (here a (omega (arith, is.caller)) (omega (arith, is.caller)))
+
+pub returns-in-Some-clause-kept_here : goal.returns-in-Some-clause-kept_here
+returns-in-Some-clause-kept_here g c =
+    λ s u v is here.
+    let same = c.resize_block.ensures.unchanged c.if-resize_block.false in
+    let v1 = StandsFor-unchanged c.args.memory.now c.resize_block.new.memory c.args.table.now c.resize_block.new.table s 2 same v in
+    let none = in_place-none s u c.args.layout.size (c.resize_block.ensures.refused s u v is c.if-resize_block.false) in
+    c.in-Some.ensures.kept_here s u v1 is none (here-same c.args.memory.now c.resize_block.new.memory (usable u) same.0.start same.0.out here)
+
+pub returns-clause-kept_here : goal.returns-clause-kept_here
+returns-clause-kept_here g c =
+    λ s u v is here.
+    let same = c.resize_block.ensures.unchanged c.if-resize_block.false in
+    let v1 = StandsFor-unchanged c.args.memory.now c.resize_block.new.memory c.args.table.now c.resize_block.new.table s 2 same v in
+    let none = in_place-none s u c.args.layout.size (c.resize_block.ensures.refused s u v is c.if-resize_block.false) in
+    let same_still = c.in_default.ensures.unchanged in
+    let v2 = StandsFor-unchanged c.resize_block.new.memory c.move_into_previous.new.memory c.resize_block.new.table c.move_into_previous.new.table s 4 same_still v1 in
+    c.move_elsewhere.ensures.kept_here s u v2 is none (here-same c.resize_block.new.memory c.move_into_previous.new.memory (usable u) same_still.0.start same_still.0.out (here-same c.args.memory.now c.resize_block.new.memory (usable u) same.0.start same.0.out here))

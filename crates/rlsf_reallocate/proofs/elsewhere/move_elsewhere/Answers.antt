@@ -20,10 +20,11 @@ use Rattle.rlsf_blocks.proofs.Machine.Counted.{KeepsSpare-counted_first, StandsF
 use Rattle.rlsf_reallocate.proofs.Reallocate.Computations.{IsReadable-size}
 use Rattle.rlsf_reallocate.proofs.Reallocate.Elsewhere.{both, copied_stands, IsOwned-new, KeepsSpare-copied, LiesIn-new, LiesIn-old, MovesAway-copied}
 use Rattle.rlsf_blocks.proofs.Words.Apart.{used_in_memory}
+use Rattle.rlsf_blocks.proofs.Words.Stays.{Stays, Stays-same, Stays-then}
 use Rattle.rlsf_table.specs.Counts.{Costs, Counts}
 use Rattle.rlsf_blocks.proofs.Counting.{Counts-counted_first, Counts-loaded, SamePlace-counted, copied-more, grow_copied-same, touches-counted}
 use Rattle.rlsf_table.proofs.Costs.{Costs-loaded, Costs-then, SamePlace-costs}
-use Rattle.rlsf_blocks.proofs.Refused.{none_none}
+use Rattle.rlsf_blocks.proofs.Refused.{none_none, none_some}
 use Rattle.rlsf_reallocate.proofs.Reallocate.Copies.{Costs-copied, Costs-moving, copied-costs, grow_copied-costs}
 use Rattle.rlsf_reallocate.proofs.elsewhere.move_elsewhere.Given as given
 use Rattle.rlsf_reallocate.proofs.elsewhere.move_elsewhere.Goals as goal
@@ -229,3 +230,55 @@ returns-clause-copied g c = λ s u v is. copied-costs (moving g (goal.at.returns
 
 pub returns-clause-grow_copied : goal.returns-clause-grow_copied
 returns-clause-grow_copied g c = grow_copied-costs (moving g (goal.at.returns-clause-grow_copied g c).After-deallocate_block c.in_ok-moved.ensures.costs)
+
+-- ---- no byte leaves, and none that is here becomes raw
+
+pub returns-in_err-moved-clause-own : goal.returns-in_err-moved-clause-own
+returns-in_err-moved-clause-own g c =
+    let counts = counted g (goal.at.returns-in_err-moved-clause-own g c).After-load_at c.in_err-moved.ensures.unchanged.0 in
+    (Stays-same c.args.memory.now c.allocate_block.new.memory counts.start counts.out).own
+
+pub returns-in_err-moved-clause-here : goal.returns-in_err-moved-clause-here
+returns-in_err-moved-clause-here g c =
+    let counts = counted g (goal.at.returns-in_err-moved-clause-here g c).After-load_at c.in_err-moved.ensures.unchanged.0 in
+    (Stays-same c.args.memory.now c.allocate_block.new.memory counts.start counts.out).here
+
+-- until the old block is given back
+moved_stays : (g : given.Over) (c : After-deallocate_block g) → SameOwn c.args.memory.now c.allocate_block.new.memory × StaysHere c.args.memory.now c.allocate_block.new.memory
+    → SameOwn c.allocate_block.new.memory c.copy_payload.new.memory → StaysHere c.allocate_block.new.memory c.copy_payload.new.memory → c.allocate_block.new.memory.start ≡ c.args.memory.now.start
+    → Stays c.args.memory.now c.deallocate_block.new.memory
+moved_stays g c first own here start =
+    let one : Stays c.args.memory.now c.allocate_block.new.memory = record { start = start; own = first.0; here = first.1 } in
+    let two : Stays c.allocate_block.new.memory c.copy_payload.new.memory = record { start = c.copy_payload.ensures.start; own = own; here = here } in
+    let three : Stays c.copy_payload.new.memory c.deallocate_block.new.memory = record { start = c.deallocate_block.ensures.costs.start; own = c.deallocate_block.ensures.own; here = c.deallocate_block.ensures.here } in
+    Stays-then (Stays-then one two) three
+
+pub returns-clause-own : goal.returns-clause-own
+returns-clause-own g c =
+    let (s, u, v, is, short, here) = c.requires.used in
+    let at = (goal.at.returns-clause-own g c).In_ok-moved in
+    let (t, places, now, spare) = placing g at s u v is in
+    let (bytes, copied) = copied_stands v.well_formed u is.is_used c.args.layout.size short places now (old_payload g at u v is) c.copy_payload.new.memory c.copy_payload.ensures.start c.copy_payload.ensures.bytes c.copy_payload.ensures.out (new_own g at u v is short) in
+    (moved_stays g (goal.at.returns-clause-own g c).After-deallocate_block (still g at) copied.own copied.here (c.in_ok-moved.ensures.costs.start ∙ c.load_at.ensures.start)).own
+
+pub returns-clause-here : goal.returns-clause-here
+returns-clause-here g c =
+    let (s, u, v, is, short, here) = c.requires.used in
+    let at = (goal.at.returns-clause-here g c).In_ok-moved in
+    let (t, places, now, spare) = placing g at s u v is in
+    let (bytes, copied) = copied_stands v.well_formed u is.is_used c.args.layout.size short places now (old_payload g at u v is) c.copy_payload.new.memory c.copy_payload.ensures.start c.copy_payload.ensures.bytes c.copy_payload.ensures.out (new_own g at u v is short) in
+    (moved_stays g (goal.at.returns-clause-here g c).After-deallocate_block (still g at) copied.own copied.here (c.in_ok-moved.ensures.costs.start ∙ c.load_at.ensures.start)).here
+
+-- ---- as many bytes as the payload has are here at its new place
+
+pub returns-in_err-moved-clause-kept_here : goal.returns-in_err-moved-clause-kept_here
+returns-in_err-moved-clause-kept_here g c = λ s u v is short here. none_some _ c.from_residual.result c.from_residual.ensures
+
+pub returns-clause-kept_here : goal.returns-clause-kept_here
+returns-clause-kept_here g c =
+    λ s u v is short here.
+    let at = (goal.at.returns-clause-kept_here g c).In_ok-moved in
+    let (t, places, now, spare) = placing g at s u v is in
+    let (bytes, copied) = copied_stands v.well_formed u is.is_used c.args.layout.size short places now (old_payload g at u v is) c.copy_payload.new.memory c.copy_payload.ensures.start c.copy_payload.ensures.bytes c.copy_payload.ensures.out (new_own g at u v is short) in
+    let there = LiesIn-new v.well_formed u is.is_used c.args.layout.size short places now in
+    λ a lo hi. c.deallocate_block.ensures.here a (omega (arith, there, c.copy_payload.ensures.start)) (copied.there a lo hi)

@@ -14,8 +14,9 @@ use Rattle.rlsf_blocks.proofs.Deallocate.Releases.{end_computed, word_computed}
 use Rattle.rlsf_blocks.proofs.Machine.Counted.{KeepsSpare-counted_first, StandsFor-counted}
 use Rattle.rlsf_table.proofs.Words.Writes.{Writes-none, Writes-some}
 use Rattle.rlsf_reallocate.proofs.Reallocate.Computations.{IsReadable-size}
-use Rattle.rlsf_reallocate.proofs.Reallocate.Computed.{AreOut, IsHere-payload, IsOwned-moved, IsUsedBlock-from, IsWritable-pad, LiesIn-moved, LiesIn-payload, moved_to, part, payload_within, room, sixteen-le, start-fits, total_is, total-fits, union_begins}
+use Rattle.rlsf_reallocate.proofs.Reallocate.Computed.{AreOut, here-occupied, IsHere-payload, IsOwned-moved, IsUsedBlock-from, IsWritable-pad, LiesIn-moved, LiesIn-payload, moved_to, part, payload_within, room, sixteen-le, start-fits, stays-occupied, total_is, total-fits, union_begins}
 use Rattle.rlsf_blocks.proofs.Words.Apart.{used_in_memory}
+use Rattle.rlsf_blocks.proofs.Words.Stays.{Stays, Stays-same, Stays-then, Stays-written}
 use Rattle.rlsf_table.proofs.Words.Writing.{wrote, wrote_there}
 use Rattle.rlsf_blocks.proofs.Refused.{none_none, none_some}
 use mathlib.Core.Path.{ap₂}
@@ -309,3 +310,76 @@ returns-else-wide-clause-copied g c = λ s u v used. copied-costs (occupied g (g
 
 pub returns-else-wide-clause-grow_copied : goal.returns-else-wide-clause-grow_copied
 returns-else-wide-clause-grow_copied g c = grow_copied-costs (occupied g (goal.at.returns-else-wide-clause-grow_copied g c).After-occupy)
+
+-- ---- no byte leaves, and none that is here becomes raw
+
+searched : (g : given.Over) (c : After-place_before g) → Stays c.args.memory.now c.place_before.new.memory
+searched g c = let counts = sought g c in Stays-same c.args.memory.now c.place_before.new.memory counts.start counts.out
+
+pub returns-in_err-moved-clause-own : goal.returns-in_err-moved-clause-own
+returns-in_err-moved-clause-own g c = (searched g (goal.at.returns-in_err-moved-clause-own g c).After-place_before).own
+
+pub returns-else-wide-clause-own : goal.returns-else-wide-clause-own
+returns-else-wide-clause-own g c =
+    let (s, u, v, used, short, here) = c.requires.used in
+    let at = goal.at.returns-else-wide-clause-own g c in
+    let are = outs g at.After-take_if_free-next v used short here in
+    (Stays-then (searched g at.After-place_before) (stays-occupied are c.copy_payload.ensures.start c.copy_payload.ensures.bytes c.copy_payload.ensures.out c.occupy.ensures.step)).own
+
+pub returns-then-wide-clause-own : goal.returns-then-wide-clause-own
+returns-then-wide-clause-own g c =
+    let (s, u, v, used, short, here) = c.requires.used in
+    let at = goal.at.returns-then-wide-clause-own g c in
+    let are = outs g at.After-take_if_free-next v used short here in
+    let wide : 32 ≤ c.args.layout.align = omega (arith, c.align-wide.ensures.value, c.if-wide.true) in
+    let place = IsWritable-pad are c.copy_payload.ensures.start c.copy_payload.ensures.bytes c.copy_payload.ensures.out c.occupy.ensures.step wide in
+    let written = wrote c.occupy.new.memory c.set_word_at.new.self (c.in_ok-moved.moved - 8) c.take_previous-start.result c.set_word_at.ensures.bytes (omega arith) (omega arith) in
+    let there = wrote_there c.occupy.new.memory c.set_word_at.new.self (c.in_ok-moved.moved - 8) c.set_word_at.ensures.out (omega arith) in
+    let padded = Stays-written c.occupy.new.memory c.set_word_at.new.self (c.in_ok-moved.moved - 8) c.take_previous-start.result place c.set_word_at.ensures.start written there in
+    (Stays-then (searched g at.After-place_before) (Stays-then (stays-occupied are c.copy_payload.ensures.start c.copy_payload.ensures.bytes c.copy_payload.ensures.out c.occupy.ensures.step) padded)).own
+
+pub returns-in_err-moved-clause-here : goal.returns-in_err-moved-clause-here
+returns-in_err-moved-clause-here g c = (searched g (goal.at.returns-in_err-moved-clause-here g c).After-place_before).here
+
+pub returns-else-wide-clause-here : goal.returns-else-wide-clause-here
+returns-else-wide-clause-here g c =
+    let (s, u, v, used, short, here) = c.requires.used in
+    let at = goal.at.returns-else-wide-clause-here g c in
+    let are = outs g at.After-take_if_free-next v used short here in
+    (Stays-then (searched g at.After-place_before) (stays-occupied are c.copy_payload.ensures.start c.copy_payload.ensures.bytes c.copy_payload.ensures.out c.occupy.ensures.step)).here
+
+pub returns-then-wide-clause-here : goal.returns-then-wide-clause-here
+returns-then-wide-clause-here g c =
+    let (s, u, v, used, short, here) = c.requires.used in
+    let at = goal.at.returns-then-wide-clause-here g c in
+    let are = outs g at.After-take_if_free-next v used short here in
+    let wide : 32 ≤ c.args.layout.align = omega (arith, c.align-wide.ensures.value, c.if-wide.true) in
+    let place = IsWritable-pad are c.copy_payload.ensures.start c.copy_payload.ensures.bytes c.copy_payload.ensures.out c.occupy.ensures.step wide in
+    let written = wrote c.occupy.new.memory c.set_word_at.new.self (c.in_ok-moved.moved - 8) c.take_previous-start.result c.set_word_at.ensures.bytes (omega arith) (omega arith) in
+    let there = wrote_there c.occupy.new.memory c.set_word_at.new.self (c.in_ok-moved.moved - 8) c.set_word_at.ensures.out (omega arith) in
+    let padded = Stays-written c.occupy.new.memory c.set_word_at.new.self (c.in_ok-moved.moved - 8) c.take_previous-start.result place c.set_word_at.ensures.start written there in
+    (Stays-then (searched g at.After-place_before) (Stays-then (stays-occupied are c.copy_payload.ensures.start c.copy_payload.ensures.bytes c.copy_payload.ensures.out c.occupy.ensures.step) padded)).here
+
+-- ---- as many bytes as the payload has are here at its new place
+
+pub returns-in_err-moved-clause-kept_here : goal.returns-in_err-moved-clause-kept_here
+returns-in_err-moved-clause-kept_here g c = λ s u v used short here. none_some _ c.from_residual.result c.from_residual.ensures
+
+pub returns-else-wide-clause-kept_here : goal.returns-else-wide-clause-kept_here
+returns-else-wide-clause-kept_here g c =
+    λ s u v used short here.
+    let at = goal.at.returns-else-wide-clause-kept_here g c in
+    let are = outs g at.After-take_if_free-next v used short here in
+    here-occupied are c.copy_payload.ensures.start c.copy_payload.ensures.bytes c.copy_payload.ensures.out c.occupy.ensures.step
+
+pub returns-then-wide-clause-kept_here : goal.returns-then-wide-clause-kept_here
+returns-then-wide-clause-kept_here g c =
+    λ s u v used short here.
+    let at = goal.at.returns-then-wide-clause-kept_here g c in
+    let are = outs g at.After-take_if_free-next v used short here in
+    let wide : 32 ≤ c.args.layout.align = omega (arith, c.align-wide.ensures.value, c.if-wide.true) in
+    let place = IsWritable-pad are c.copy_payload.ensures.start c.copy_payload.ensures.bytes c.copy_payload.ensures.out c.occupy.ensures.step wide in
+    let written = wrote c.occupy.new.memory c.set_word_at.new.self (c.in_ok-moved.moved - 8) c.take_previous-start.result c.set_word_at.ensures.bytes (omega arith) (omega arith) in
+    let there = wrote_there c.occupy.new.memory c.set_word_at.new.self (c.in_ok-moved.moved - 8) c.set_word_at.ensures.out (omega arith) in
+    let padded = Stays-written c.occupy.new.memory c.set_word_at.new.self (c.in_ok-moved.moved - 8) c.take_previous-start.result place c.set_word_at.ensures.start written there in
+    λ a lo hi. padded.here a (omega (arith, place.1.0)) (here-occupied are c.copy_payload.ensures.start c.copy_payload.ensures.bytes c.copy_payload.ensures.out c.occupy.ensures.step a lo hi)

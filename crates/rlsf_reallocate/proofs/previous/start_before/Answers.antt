@@ -1,5 +1,5 @@
 use Rattle.std.proofs.Common.{◌+◌, rules, arith, refl}
-use Rattle.rlsf_base.proofs.Lending.Here.{is_word}
+use Rattle.rlsf_base.proofs.Lending.WordIsHere.{is_word}
 use Rattle.rlsf_base.proofs.Lending.Present.{own-word}
 use Rattle.rlsf_machine.specs.State.{between}
 use Rattle.rlsf_machine.proofs.Payloads.{IsUsed-after_start}
@@ -9,7 +9,7 @@ use Rattle.rlsf_table.proofs.FreeLists.Counted.{IsFreeTable-counted}
 use Rattle.rlsf_blocks.proofs.Machine.FreeBlocks.{IsFreeTable-free}
 use Rattle.rlsf_reallocate.proofs.Reallocate.Neighbours.{start_or-length}
 use Rattle.rlsf_blocks.proofs.Words.Apart.{used_in_memory}
-use Rattle.rlsf_blocks.proofs.Words.Here.{here_front}
+use Rattle.rlsf_blocks.proofs.Words.NeverOut.{here_front}
 use Rattle.rlsf_reallocate.proofs.previous.start_before.Goals as goal
 
 pub overflow_add-block : goal.overflow_add-block

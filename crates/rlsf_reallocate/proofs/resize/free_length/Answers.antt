@@ -1,5 +1,5 @@
 use Rattle.std.proofs.Common.{rules}
-use Rattle.rlsf_blocks.proofs.Deallocate.Outs.{odd_from}
+use Rattle.rlsf_blocks.proofs.Deallocate.TakenIfFree.{odd_from}
 use Rattle.rlsf_reallocate.proofs.Reallocate.Lengths.{end_free, end_used}
 use Rattle.rlsf_reallocate.proofs.resize.free_length.Goals as goal
 

@@ -15,6 +15,7 @@ use Rattle.rlsf_reallocate.proofs.Reallocate.Spans.{IsInnerRoom-span, reach, rea
 use Rattle.rlsf_table.specs.Counts.{Counts}
 use Rattle.rlsf_table.proofs.Costs.{Costs-counted, Costs-loaded, Costs-then, Costs-within}
 use Rattle.rlsf_blocks.proofs.Counting.{Counts-counted_first, Counts-loaded}
+use Rattle.rlsf_blocks.proofs.Words.Stays.{Stays, Stays-rewrites, Stays-same, Stays-then}
 use Rattle.rlsf_reallocate.proofs.resize.resize_block.Given as given
 use Rattle.rlsf_reallocate.proofs.resize.resize_block.Goals as goal
 use Rattle.rlsf_reallocate.proofs.resize.resize_block.Goals.{After-next_multiple_of_32-taken, After-free_length, After-take_if_free-next}
@@ -171,3 +172,38 @@ returns-then-taken-len-2-clause-costs g c = Costs-within (omega arith) (Costs-co
 
 pub returns-clause-costs : goal.returns-clause-costs
 returns-clause-costs g c = Costs-then (Costs-then (Costs-counted (read g (goal.at.returns-clause-costs g c).After-free_length)) c.take_if_free-next.ensures.costs) c.occupy.ensures.costs
+
+-- ---- no byte leaves, and none that is here becomes raw
+
+pub returns-then-taken-len-clause-own : goal.returns-then-taken-len-clause-own
+returns-then-taken-len-clause-own g c = (Stays-same c.args.memory.now c.load_at.new.self c.load_at.ensures.start c.load_at.ensures.out).own
+
+pub returns-then-taken-len-clause-here : goal.returns-then-taken-len-clause-here
+returns-then-taken-len-clause-here g c = (Stays-same c.args.memory.now c.load_at.new.self c.load_at.ensures.start c.load_at.ensures.out).here
+
+loaded : (g : given.Over) (c : After-free_length g) → Stays c.args.memory.now c.free_length.new.memory
+loaded g c = let counts = read g c in Stays-same c.args.memory.now c.free_length.new.memory counts.start counts.out
+
+pub returns-then-taken-len-2-clause-own : goal.returns-then-taken-len-2-clause-own
+returns-then-taken-len-2-clause-own g c = (loaded g (goal.at.returns-then-taken-len-2-clause-own g c).After-free_length).own
+
+pub returns-then-taken-len-2-clause-here : goal.returns-then-taken-len-2-clause-here
+returns-then-taken-len-2-clause-here g c = (loaded g (goal.at.returns-then-taken-len-2-clause-here g c).After-free_length).here
+
+pub returns-clause-own : goal.returns-clause-own
+returns-clause-own g c =
+    let (s, u, v, at, own) = c.requires.used in
+    let gone = out g (goal.at.returns-clause-own g c).After-take_if_free-next v u at in
+    let end = end_is v u at c.load_at.ensures.word c.len_of_used-len.ensures in
+    let start = at.start in
+    let words = c.occupy.ensures.step (staying s u) (span_of s u) at.start (omega (arith, span_len v u at.is_used gone)) (IsInnerRoom-span v u at.is_used gone own) in
+    (Stays-then (Stays-rewrites gone.rewrites) (Stays-rewrites words.rewrites)).own
+
+pub returns-clause-here : goal.returns-clause-here
+returns-clause-here g c =
+    let (s, u, v, at, own) = c.requires.used in
+    let gone = out g (goal.at.returns-clause-here g c).After-take_if_free-next v u at in
+    let end = end_is v u at c.load_at.ensures.word c.len_of_used-len.ensures in
+    let start = at.start in
+    let words = c.occupy.ensures.step (staying s u) (span_of s u) at.start (omega (arith, span_len v u at.is_used gone)) (IsInnerRoom-span v u at.is_used gone own) in
+    (Stays-then (Stays-rewrites gone.rewrites) (Stays-rewrites words.rewrites)).here

@@ -1,7 +1,7 @@
 use Rattle.std.proofs.Common.{◌≡◌, ◌+◌, ◌*◌, ◌/◌, ◌∷◌, Some, arith, sym, ◌∙◌, ap, subst}
 use Rattle.std_collections.proofs.IterRuns.{first_progress}
 use Rattle.rlsf_blocks.specs.Steps.Walk.{IsUnderway, blocks_between, next_start}
-use Rattle.rlsf_blocks.proofs.Walking.Nexts.{IsFirst-underway, IsFirst-word, block_by, next_start-then, next_start-else}
+use Rattle.rlsf_blocks.proofs.Walking.UnfinishedWalk.{IsFirst-underway, IsFirst-word, block_by, next_start-then, next_start-else}
 use Rattle.rlsf_blocks.proofs.walks.BlocksIterator.next.Goals as goal
 use Rattle.rlsf_blocks.proofs.walks.BlocksIterator.next.Goals.{then-is_last, else-is_last}
 

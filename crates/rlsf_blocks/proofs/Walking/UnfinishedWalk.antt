@@ -1,8 +1,8 @@
 -- A walk that is underway and not at its end.
 use Rattle.rlsf_blocks.proofs.Walking.Begins.{behind_block}
-use Rattle.rlsf_base.proofs.Lending.Here.{is_word}
+use Rattle.rlsf_base.proofs.Lending.WordIsHere.{is_word}
 use Rattle.rlsf_base.proofs.Lending.Present.{own-word}
-use Rattle.rlsf_blocks.proofs.Words.Here.{here_block, here_behind_block, block-fits, walk-fits}
+use Rattle.rlsf_blocks.proofs.Words.NeverOut.{here_block, here_behind_block, block-fits, walk-fits}
 use Rattle.std.proofs.Common.{◌≡◌, ◌≢◌, ℕ, cond, eqb, ◌+◌, ◌*◌, ◌/◌, ◌%◌, ◌^◌, ◌<◌, ◌∷◌, arith, inl, inr, sym, ◌∙◌, ap, subst}
 use Rattle.std.proofs.lemmas.Bool.{cases_lt, eq-eqb, ne_eqb}
 use Rattle.rlsf_base.specs.Range.{range_at, end_of}
