@@ -1,8 +1,6 @@
 -- A payload was allocated, and its bytes leave the memory.
-use Rattle.std.proofs.Common.{◌≡◌, ℕ, ◌+◌, ◌-◌, ◌%◌, ◌⊎◌, true, false, List, [], ◌∷◌, ◌++◌, length, get_or, arith, inl, inr, refl, sym, ap, subst, ◌∙◌}
-use Rattle.std.proofs.lemmas.Bool.{cases_lt}
-use Rattle.std.proofs.lemmas.List.{get_or_append_left, get_or-append_right}
-use Rattle.rlsf_base.specs.Ledger.{Entry, entry_of, IsIssued}
+use Rattle.std.proofs.Common.{◌≡◌, ℕ, ◌+◌, ◌-◌, ◌%◌, ◌^◌, ◌<◌, ◌⊎◌, true, false, List, [], ◌∷◌, ◌++◌, length, get_or, arith, inl, inr, refl, sym, ap, subst, ◌∙◌}
+use Rattle.rlsf_base.specs.Ledger.{Entry, Extent, entry_of, nowhere, IsIssued}
 use Rattle.rlsf_base.specs.OpenSpace.{IsOwned, SameOwn, out_without}
 use Rattle.rlsf_base.specs.PowerOfTwo.{IsPowerOfTwo}
 use Rattle.rlsf_base.specs.Range.{LiesIn}
@@ -10,10 +8,12 @@ use Rattle.rlsf_base.specs.Space.{Space}
 use Rattle.rlsf_base.proofs.Lending.Present.{own-there, own-inside, own-same}
 use Rattle.rlsf_machine.specs.Allocate.{Places, placed}
 use Rattle.rlsf_machine.specs.Lists.{IsIn}
+use Rattle.rlsf_machine.specs.Sized.{live_count}
 use Rattle.rlsf_machine.specs.State.{State, Used, usable}
 use Rattle.rlsf_machine.proofs.Allocations.{placed-fits}
 use Rattle.rlsf_machine.proofs.Payloads.{IsUsed-after_start}
 use Rattle.rlsf_machine.proofs.CallerWords.{bytes_at-held}
+use Rattle.rlsf_machine.proofs.SizedWords.{count_new}
 use Rattle.rlsf_machine.specs.Callers.{bytes_at}
 use Rattle.rlsf_table.specs.Table.{Table}
 use Rattle.rlsf_blocks.specs.StandsFor.{contents, StandsFor}
@@ -21,9 +21,11 @@ use Rattle.rlsf_blocks.proofs.Allocate.Placements.{IsFitting, fitting, is_free}
 use Rattle.rlsf_blocks.proofs.Machine.Counted.{StandsFor-touched}
 use Rattle.rlsf_blocks.proofs.Payloads.UnknownAlignment.{IsPayloadOf-holds}
 use Rattle.rlsf_blocks.proofs.Words.Apart.{used_free, free_in_memory, used_in_memory}
-use Rattle.rlsf_blocks.proofs.Words.Here.{here_free}
+use Rattle.rlsf_blocks.proofs.Words.NeverOut.{here_free}
 use Rattle.rlsf_heap.specs.Heap.{AreIssued}
+use Rattle.rlsf_heap.proofs.LiveCounts.{live_fits}
 use Rattle.rlsf_heap.proofs.Read.{out-left, stands_same}
+use Rattle.rlsf_heap.proofs.Tickets.{issued-more}
 
 -- a payload was placed: which states memory and table stood for, before and after, and that the memory has the same bytes as its own
 pub record Placing (fllen sllen : ℕ) (m n : Space) (table changed : Table) (s t : State) (size align addr : ℕ) : Type 0 where
@@ -93,6 +95,13 @@ module _ {fllen sllen : ℕ} {m n : Space} {table changed : Table} {s t : State}
       (record { from = omega (arith, at, IsUsed-after_start u is); to = omega (arith, at, is.within, IsUsed-after_start u is) })
       (record { from = omega (arith, fit.after_start); to = omega (arith, fit.after_start, fit.before_end, placed-fits v.well_formed f size align power places.chosen) })
 
+  -- it is one payload more, and their number fits in a word
+  pub one_more : (count : ℕ) → count ≡ live_count s → (count + 1 ≡ live_count t) × (count + 1 < 2 ^ 64)
+  one_more count counted =
+      let more = count_new v.well_formed t size align addr power places in
+      let fits = live_fits now.well_formed in
+      (omega (arith, counted, more), omega (arith, counted, more, fits))
+
   -- the bytes leave
   pub stands-left : (o : Space) → o.start ≡ n.start → o.bytes ≡ n.bytes → o.out ≡ out_without n (usable new) → StandsFor fllen sllen (contents o changed) t
   stands-left o start bytes gone = stands_same n o now start bytes (λ a from unlent. out-left n o (usable new) a start gone new-lies.0 from (elim (unlent new is_new) [
@@ -101,43 +110,9 @@ module _ {fllen sllen : ℕ} {m n : Space} {table changed : Table} {s t : State}
   ]))
 
   -- and a ticket is issued for them
-  module _ (entries : List Entry) (tickets : AreIssued s entries) (name : ℕ × ℕ) (address : name.0 ≡ addr) (long : name.1 ≡ (usable new).len) where
-    abbrev Sorted : ℕ → ℕ × ℕ → Type 0
-    Sorted k w = IsIssued entries k w ⊎ ((k ≡ length entries) × (w ≡ name))
-
-    sorted : (k : ℕ) (w : ℕ × ℕ) → IsIssued (entries ++ entry_of name true ∷ []) k w → Sorted k w
-    sorted k w is = elim (cases_lt k (length entries)) [
-      | inl old ↦ inl (old, sym (get_or_append_left entries (entry_of name true ∷ []) (entry_of (0, 0) false) k old) ∙ is.1)
-      | inr high ↦
-          let last : k ≡ length entries = omega (arith, high, is.0, length-append1 entries (entry_of name true)) in
-          let there : get_or (entries ++ entry_of name true ∷ []) k (entry_of (0, 0) false) ≡ entry_of name true =
-          ap (λ j. get_or (entries ++ entry_of name true ∷ []) j (entry_of (0, 0) false)) last ∙ get_or-append_right entries (entry_of name true ∷ []) (length entries) (length entries) (entry_of (0, 0) false) refl (omega arith)
-          ∙ ap (λ j. get_or (entry_of name true ∷ []) j (entry_of (0, 0) false)) (zero-of (length entries)) in
-          let same_entry : entry_of w true ≡ entry_of name true = sym is.1 ∙ there in
-          inr (last, λ i. ((same_entry i).addr, (same_entry i).len))
-    ]
-      where
-        length-append1 : (xs : List Entry) (x : Entry) → length (xs ++ x ∷ []) ≡ length xs + 1
-        length-append1 [] x = refl
-        length-append1 (y ∷ ys) x = omega (arith, length-append1 ys x)
-
-        zero-of : (k : ℕ) → k - k ≡ 0
-        zero-of k = omega arith
-
-    pub issued-new : AreIssued t (entries ++ entry_of name true ∷ [])
-    issued-new = record {
-      issued = λ k w is. elim (sorted k w is) [
-        | inl old ↦ let (u, i, at, len) = tickets.issued k w old in (u, still u i, at, len)
-        | inr (last, one) ↦ (new, is_new, at_new ∙ sym address ∙ ap (λ x. x.0) (sym one), sym long ∙ ap (λ x. x.1) (sym one))
-      ];
-      apart = λ j k w x is js at. elim (sorted j w is) [
-        | inl old ↦ elim (sorted k x js) [
-          | inl other ↦ tickets.apart j k w x old other at
-          | inr (last, one) ↦ let (u, i, place, len) = tickets.issued j w old in absurd (new-apart u i (place ∙ at ∙ ap (λ x. x.0) one ∙ address ∙ sym at_new))
-        ]
-        | inr (last, one) ↦ elim (sorted k x js) [
-          | inl other ↦ let (u, i, place, len) = tickets.issued k x other in absurd (new-apart u i (place ∙ sym at ∙ ap (λ x. x.0) one ∙ address ∙ sym at_new))
-          | inr (again, two) ↦ last ∙ sym again
-        ]
-      ];
-    }
+  module _ (entries : List Entry) (tickets : AreIssued s entries) (shown : Extent) (address : shown.addr ≡ addr) (long : shown.len ≡ (usable new).len) (aligned : shown.align ≡ align) where
+    pub issued-new : AreIssued t (entries ++ entry_of shown true ∷ [])
+    issued-new =
+        let old : AreIssued t entries = record { issued = λ k w is. let (u, i, at, len, wide) = tickets.issued k w is in (u, still u i, at, len, wide); apart = tickets.apart } in
+        issued-more entries shown t old (new, is_new, at_new ∙ sym address, sym long, sym aligned)
+        (λ k w is same. let (u, i, at, len, wide) = tickets.issued k w is in new-apart u i (at ∙ same ∙ address ∙ sym at_new))

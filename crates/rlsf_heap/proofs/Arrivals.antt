@@ -34,7 +34,7 @@ no_used t u none i = go t.used none i
     go [] e i = i
     go (w ∷ ws) e i = omega (arith, e)
 
-module _ {fl_bits sl_bits fllen sllen : ℕ} {m : Space} {x : Table} {s : State} {es : List Entry} (is : IsHeap fl_bits sl_bits fllen sllen m x s es) where
+module _ {fl_bits sl_bits fllen sllen : ℕ} {m : Space} {x : Table} {s : State} {es : List Entry} {count : ℕ} (is : IsHeap fl_bits sl_bits fllen sllen m x s es count) where
   -- what is kept of a heap's state is the state without bytes
   pub bare-kept : bare (read_from m s) ≡ s
   bare-kept = bare-read_from m s ∙ is.is_bare
@@ -48,19 +48,33 @@ module _ {fl_bits sl_bits fllen sllen : ℕ} {m : Space} {x : Table} {s : State}
   pub view_well_formed : {ledger : ℕ} (v : HeapView) → heap_view m x s ledger ≡ v → IsWellFormed fllen sllen (range_of v.memory) v.state
   view_well_formed v view = subst (λ (o : HeapView). IsWellFormed fllen sllen (range_of o.memory) o.state) view is.stands.well_formed
 
+  -- memory and class table stand for it
+  pub Stands-view : {ledger : ℕ} (v : HeapView) → heap_view m x s ledger ≡ v → Stands fllen sllen v
+  unfolding Stands
+  Stands-view v view = subst (λ (o : HeapView). StandsFor fllen sllen (contents o.memory o.table) o.state) view is.stands
+
   -- where no payload is live, no byte is out
-  pub none_out : {ledger : ℕ} (v : HeapView) → heap_view m x s ledger ≡ v → live_count v.state ≡ 0 → IsAllOwn m.out
-  none_out v view none k =
+  pub none_inside : live_count (read_from m s) ≡ 0 → IsAllOwn m.out
+  none_inside none k =
       let there : m.start ≤ k + m.start = omega arith in
       subst (λ j. is_own (kept_at m.out j) ≡ true) (let e : k + m.start - m.start ≡ k = omega arith in e)
-      (is.stands.own (k + m.start) there (λ u i. absurd (no_used (read_from m s) u (ap (λ (o : HeapView). live_count o.state) view ∙ none) i)))
+      (is.stands.own (k + m.start) there (λ u i. absurd (no_used (read_from m s) u none i)))
+
+  pub none_out : {ledger : ℕ} (v : HeapView) → heap_view m x s ledger ≡ v → live_count v.state ≡ 0 → IsAllOwn m.out
+  none_out v view none = none_inside (ap (λ (o : HeapView). live_count o.state) view ∙ none)
 
 module _ {fllen sllen : ℕ} {n : Space} {x : Table} {t : State} (v : StandsFor fllen sllen (contents n x) t) (reached : State) (e : reached ≡ bare t) where
   stands : StandsFor fllen sllen (contents n x) (read_from n reached)
   stands = subst (StandsFor fllen sllen (contents n x)) (sym (arrived v reached e)) v
 
-  pub IsHeap-arrived : {fl_bits sl_bits : ℕ} → IsValid fl_bits sl_bits fllen sllen → (es : List Entry) → AreIssued t es → IsHeap fl_bits sl_bits fllen sllen n x reached es
-  IsHeap-arrived valid es tickets = record { valid = valid; stands = stands; is_bare = ap bare e ∙ bare-bare t ∙ sym e; tickets = subst (λ (o : State). AreIssued o es) (sym (arrived v reached e)) tickets }
+  pub IsHeap-arrived : {fl_bits sl_bits : ℕ} → IsValid fl_bits sl_bits fllen sllen → (es : List Entry) → AreIssued t es → (count : ℕ) → count ≡ live_count t → IsHeap fl_bits sl_bits fllen sllen n x reached es count
+  IsHeap-arrived valid es tickets count counted = record {
+    valid = valid;
+    stands = stands;
+    is_bare = ap bare e ∙ bare-bare t ∙ sym e;
+    tickets = subst (λ (o : State). AreIssued o es) (sym (arrived v reached e)) tickets;
+    counted = counted ∙ ap live_count (sym (arrived v reached e));
+  }
 
   pub Stands-arrived : (ledger : ℕ) → Stands fllen sllen (heap_view n x reached ledger)
   unfolding Stands

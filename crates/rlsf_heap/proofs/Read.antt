@@ -1,5 +1,5 @@
 -- The state that is read from a memory, where its bytes or the bytes that are out of it change.
-use Rattle.std.proofs.Common.{◌≡◌, ℕ, ◌-◌, ◌<◌, ◌≤◌, ◌⊎◌, List, length, map, take, drop, [], ◌∷◌, Option, refl, inl, inr, ap, sym, ◌∙◌, slice_index, subst, arith}
+use Rattle.std.proofs.Common.{◌≡◌, ℕ, ◌-◌, ◌<◌, ◌≤◌, ◌⊎◌, List, length, map, take, drop, [], ◌∷◌, refl, inl, inr, ap, sym, ◌∙◌, slice_index, subst, arith}
 use Rattle.rlsf_base.specs.declared.memory.range.Range.{Range}
 use Rattle.rlsf_base.specs.Out.{out, raw, kept_at}
 use Rattle.rlsf_base.specs.OpenSpace.{out_raw, out_without}
@@ -7,8 +7,6 @@ use Rattle.rlsf_base.specs.Range.{end_of}
 use Rattle.rlsf_base.specs.Space.{Space, out_at}
 use Rattle.rlsf_base.proofs.Changes.{changed-before, changed-behind}
 use Rattle.rlsf_base.specs.Ledger.{Entry}
-use Rattle.rlsf_base.specs.Sizes.{max_pool_size}
-use Rattle.rlsf_machine.specs.Insert.{Inserts, aligned_part, cut, with_chunk, with_chunks}
 use Rattle.rlsf_machine.specs.Lists.{IsIn}
 use Rattle.rlsf_machine.specs.State.{State, Used, usable, with_bytes}
 use Rattle.rlsf_table.specs.Table.{Table}
@@ -49,15 +47,9 @@ stands_same {fllen} {sllen} m n {t} {s} v start bytes kept =
     subst (StandsFor fllen sllen (contents n t)) (read_from-same m n s start bytes ∙ read_from-stands v)
     (words_read_no_payload fllen sllen m n t s v (record { start = start; length = ap length bytes; bytes = λ a from unlent. (λ i. slice_index (bytes i) (a - start i)); out = kept }))
 
--- an insert changes no used block
-used-with_chunks : (cs : List Range) (s : State) → (with_chunks cs s).used ≡ s.used
-used-with_chunks [] s = refl
-used-with_chunks (c ∷ cs) s = used-with_chunks cs (with_chunk c s)
-
-pub issued-inserted : (fllen : ℕ) (s t : State) (r : Range) (reply : Option ℕ) → Inserts fllen s r reply t → (es : List Entry) → AreIssued s es → AreIssued t es
-issued-inserted fllen s t r reply step es tickets =
-    let used : s.used ≡ t.used = sym (ap (λ (x : State). x.used) step.after ∙ used-with_chunks (cut (max_pool_size fllen) (aligned_part r)) s) in
-    record {
-      issued = λ k v is. subst (λ (us : List Used). (u : Used) × IsIn u us × (u.payload ≡ v.0) × ((usable u).len ≡ v.1)) used (tickets.issued k v is);
-      apart = tickets.apart;
-    }
+-- where no used block changes, the live entries are those of live payloads as before
+pub issued-same : (s t : State) {es : List Entry} → t.used ≡ s.used → AreIssued s es → AreIssued t es
+issued-same s t used tickets = record {
+  issued = λ k v is. subst (λ (us : List Used). (u : Used) × IsIn u us × (u.payload ≡ v.addr) × ((usable u).len ≡ v.len) × (u.align ≡ v.align)) (sym used) (tickets.issued k v is);
+  apart = tickets.apart;
+}

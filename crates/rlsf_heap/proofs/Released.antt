@@ -2,7 +2,7 @@
 use Rattle.std.proofs.Common.{◌≡◌, ◌≢◌, ℕ, ◌-◌, ◌<◌, ◌≤◌, ◌⊎◌, false, true≢false, List, length, get_or, set, arith, inl, inr, sym, ap, ◌∙◌}
 use Rattle.std.proofs.lemmas.Bool.{cases_eq}
 use Rattle.std.proofs.lemmas.List.{get_or-set_same, get_or-set_other, length-set}
-use Rattle.rlsf_base.specs.Ledger.{Entry, entry_of, IsIssued}
+use Rattle.rlsf_base.specs.Ledger.{Entry, Extent, entry_of, extent, nowhere, IsIssued}
 use Rattle.rlsf_base.specs.Out.{raw, is_own, kept_at}
 use Rattle.rlsf_base.specs.OpenSpace.{IsOwned, out_raw}
 use Rattle.rlsf_base.specs.Piece.{Piece, piece_range}
@@ -18,11 +18,12 @@ use Rattle.rlsf_blocks.specs.StandsFor.{contents, StandsFor}
 use Rattle.rlsf_blocks.proofs.Words.Apart.{used_in_memory}
 use Rattle.rlsf_heap.specs.Heap.{AreIssued, IsPayload}
 use Rattle.rlsf_heap.proofs.Read.{out-back, stands_same}
+use Rattle.rlsf_heap.proofs.Tickets.{redeemed_other}
 
-module _ {fllen sllen : ℕ} {m : Space} {table : Table} {s : State} {entries : List Entry} (v : StandsFor fllen sllen (contents m table) s) (tickets : AreIssued s entries) (k : ℕ) (p : Piece) (is : IsIssued entries k (p.start, length p.bytes)) where
+module _ {fllen sllen : ℕ} {m : Space} {table : Table} {s : State} {entries : List Entry} (v : StandsFor fllen sllen (contents m table) s) (tickets : AreIssued s entries) (k : ℕ) (p : Piece) (align : ℕ) (is : IsIssued entries k (extent p.start (length p.bytes) align)) where
   -- the payload
-  pub found : IsPayload s (p.start, length p.bytes)
-  found = tickets.issued k (p.start, length p.bytes) is
+  pub found : IsPayload s (extent p.start (length p.bytes) align)
+  found = tickets.issued k (extent p.start (length p.bytes) align) is
 
   abbrev pub u : Used
   u = found.0
@@ -47,21 +48,12 @@ module _ {fllen sllen : ℕ} {m : Space} {table : Table} {s : State} {entries : 
     back-here a lo hi = (λ i. is_own (kept_at (back i) (a - start i))) ∙ ap is_own (changed-there raw m.out (p.start - m.start) (length p.bytes) (a - m.start) (omega (arith, lo, found.2, lies.0)) (omega (arith, hi, found.2, found.3, lies.0)))
 
   -- its ticket is redeemed
-  other : (j : ℕ) (w : ℕ × ℕ) → IsIssued (set entries k (entry_of (p.start, length p.bytes) false)) j w → (j ≢ k) × IsIssued entries j w
-  other j w was = elim (cases_eq j k) [
-    | inl same ↦
-        let here = get_or-set_same entries k (entry_of (p.start, length p.bytes) false) (entry_of (0, 0) false) is.0 in
-        let there = ap (λ i. get_or (set entries k (entry_of (p.start, length p.bytes) false)) i (entry_of (0, 0) false)) (sym same) in
-        absurd (true≢false (ap (λ (e : Entry). e.live) (sym was.1 ∙ sym there ∙ here)))
-    | inr apart ↦ (apart, (omega (arith, was.0, length-set entries k (entry_of (p.start, length p.bytes) false)), sym (get_or-set_other entries k j (entry_of (p.start, length p.bytes) false) (entry_of (0, 0) false) apart) ∙ was.1))
-  ]
-
-  pub issued-released : AreIssued (released s u) (set entries k (entry_of (p.start, length p.bytes) false))
+  pub issued-released : AreIssued (released s u) (set entries k (entry_of (extent p.start (length p.bytes) align) false))
   issued-released = record {
     issued = λ j w was.
-        let (apart, old) = other j w was in
-        let (x, i, at, len) = tickets.issued j w old in
-        let differ : x.payload ≢ u.payload = λ same. apart (tickets.apart j k w (p.start, length p.bytes) old is (sym at ∙ same ∙ found.2)) in
-        (x, IsIn-others_from u.payload x s.used i differ, at, len);
-    apart = λ i j w x one two at. tickets.apart i j w x (other i w one).1 (other j x two).1 at;
+        let (apart, old) = redeemed_other entries k (extent p.start (length p.bytes) align) is j w was in
+        let (x, i, at, len, wide) = tickets.issued j w old in
+        let differ : x.payload ≢ u.payload = λ same. apart (tickets.apart j k w (extent p.start (length p.bytes) align) old is (sym at ∙ same ∙ found.2)) in
+        (x, IsIn-others_from u.payload x s.used i differ, at, len, wide);
+    apart = λ i j w x one two at. tickets.apart i j w x (redeemed_other entries k (extent p.start (length p.bytes) align) is i w one).1 (redeemed_other entries k (extent p.start (length p.bytes) align) is j x two).1 at;
   }

@@ -1,13 +1,16 @@
 -- The heap and its payloads as contracts see them, and the steps that the calls make.
-use Rattle.std.specs.Prelude.{◌≡◌, ℕ, List, length, Option, Some, None}
-use Rattle.rlsf_base.specs.Ledger.{Entry, IsIssued}
+use Rattle.std.specs.Prelude.{◌≡◌, ◌+◌, ◌≤◌, ℕ, List, length, Option, Some, None}
+use Rattle.rlsf_base.specs.Ledger.{Entry, Extent, IsIssued}
 use Rattle.rlsf_base.specs.Changes.{IsIn}
-use Rattle.rlsf_base.specs.OpenSpace.{Home, home_of}
+use Rattle.rlsf_base.specs.OpenSpace.{Home, home_of, IsAway}
 use Rattle.rlsf_base.specs.Out.{Change}
 use Rattle.rlsf_base.specs.Piece.{Piece}
+use Rattle.rlsf_base.specs.declared.memory.range.Range.{Range}
+use Rattle.rlsf_base.specs.Range.{end_of, range_at}
 use Rattle.rlsf_base.specs.SizeClass.{IsValid}
 use Rattle.rlsf_base.specs.Space.{Space}
 use Rattle.rlsf_machine.specs.Lists.{IsIn as IsListed}
+use Rattle.rlsf_machine.specs.Sized.{live_count}
 use Rattle.rlsf_machine.specs.State.{State, Used, usable}
 use Rattle.rlsf_table.specs.Table.{Table}
 use Rattle.rlsf_blocks.specs.Laws.{read_from}
@@ -19,7 +22,7 @@ pub record Identity : Type 0 where
   pub home : Home
   pub ledger : ℕ
 
--- a heap: which one it is, its memory, its class table, and the state of the list machine that it is in; the bytes of a payload
+-- a heap: which one it is, its memory, its class table, and its state of the reference model; the bytes of a payload
 -- that is out are those that the memory had there last
 pub record HeapView : Type 0 where
   pub identity : Identity
@@ -31,51 +34,65 @@ pub record HeapView : Type 0 where
 abbrev pub heap_view : Space → Table → State → ℕ → HeapView
 heap_view m t s ledger = record { identity = record { home = home_of m; ledger = ledger }; memory = m; table = t; state = read_from m s }
 
--- a payload that is out: its heap, its address, its bytes, and the changes of their states
+-- a payload that is out: its heap, its address, its alignment, its bytes, and the changes of their states
 pub record PayloadView : Type 0 where
   pub identity : Identity
   pub start : ℕ
+  pub align : ℕ
   pub bytes : List ℕ
   pub out : List Change
 
 -- the payload by its fields
-abbrev pub payload_view : Piece → ℕ → PayloadView
-payload_view p ledger = record { identity = record { home = p.home; ledger = ledger }; start = p.start; bytes = p.bytes; out = p.out }
+abbrev pub payload_view : Piece → ℕ → ℕ → PayloadView
+payload_view p align ledger = record { identity = record { home = p.home; ledger = ledger }; start = p.start; align = align; bytes = p.bytes; out = p.out }
 
--- a part has the address and the length of a ticket
-abbrev pub IsTicketOf : Piece → ℕ → ℕ → Type 0
-IsTicketOf p addr len = (p.start ≡ addr) × (length p.bytes ≡ len)
+-- what a ticket shows: the address and the length of a part, and an alignment
+abbrev pub IsTicketOf : Piece → ℕ → Extent → Type 0
+IsTicketOf p align shown = (p.start ≡ shown.addr) × (length p.bytes ≡ shown.len) × (align ≡ shown.align)
 
 -- each byte of a payload is here
 abbrev pub IsWritten : PayloadView → Type 0
 IsWritten p = IsIn p.out 0 (length p.bytes)
+
+-- the addresses of a payload's bytes
+abbrev pub payload_range : PayloadView → Range
+payload_range p = range_at p.start (length p.bytes)
 
 -- the address of a payload, if there is one
 abbrev pub addr_of : Option PayloadView → Option ℕ
 addr_of None = None
 addr_of (Some p) = Some p.start
 
--- the payload of a state that lies at an address, and has so many bytes
-abbrev pub IsPayload : State → ℕ × ℕ → Type 0
-IsPayload s v = (u : Used) × IsListed u s.used × (u.payload ≡ v.0) × ((usable u).len ≡ v.1)
+-- the payload of a state that a ticket shows: its address, how many bytes it has, and the alignment that was asked for
+abbrev pub IsPayload : State → Extent → Type 0
+IsPayload s v = (u : Used) × IsListed u s.used × (u.payload ≡ v.addr) × ((usable u).len ≡ v.len) × (u.align ≡ v.align)
 
 -- each live entry is that of a live payload, and no two are at one address
 pub record AreIssued (s : State) (es : List Entry) : Type 0 where
-  pub issued : (k : ℕ) (v : ℕ × ℕ) → IsIssued es k v → IsPayload s v
-  pub apart : (j k : ℕ) (v w : ℕ × ℕ) → IsIssued es j v → IsIssued es k w → v.0 ≡ w.0 → j ≡ k
+  pub issued : (k : ℕ) (v : Extent) → IsIssued es k v → IsPayload s v
+  pub apart : (j k : ℕ) (v w : Extent) → IsIssued es j v → IsIssued es k w → v.addr ≡ w.addr → j ≡ k
 
--- what is true of every heap's fields: the parameters are valid, memory and table stand for the state, what is kept of the state
--- has no bytes, and the live entries of the ledger are live payloads
-pub record IsHeap (fl_bits sl_bits fllen sllen : ℕ) (m : Space) (t : Table) (s : State) (es : List Entry) : Type 0 where
+-- what is true of every heap's fields: the parameters are valid, memory and table represent the state, what is kept of the state
+-- has no bytes, the live entries of the ledger are live payloads, and the count is that of the live payloads
+pub record IsHeap (fl_bits sl_bits fllen sllen : ℕ) (m : Space) (t : Table) (s : State) (es : List Entry) (count : ℕ) : Type 0 where
   pub valid : IsValid fl_bits sl_bits fllen sllen
   pub stands : StandsFor fllen sllen (contents m t) (read_from m s)
   pub is_bare : bare s ≡ s
   pub tickets : AreIssued (read_from m s) es
+  pub counted : count ≡ live_count (read_from m s)
 
--- memory and class table stand for the state, which is well-formed
+-- memory and class table represent the state, which is well-formed
 unfoldable pub Stands : ℕ → ℕ → HeapView → Type 0
 Stands fllen sllen v = StandsFor fllen sllen (contents v.memory v.table) v.state
 
--- the machine's step leads to the state after, for which memory and table stand
+-- the model's step leads to the state after, which memory and table represent
 unfoldable pub Steps : ℕ → ℕ → HeapView → (State → Type 0) → Type 0
 Steps fllen sllen after step = step after.state × Stands fllen sllen after
+
+-- the range lies in one chunk, behind 16 bytes or more and before the 32 bytes of the sentinel
+unfoldable pub LiesInChunk : State → Range → Type 0
+LiesInChunk s r = (c : Range) × IsListed c s.chunks × (c.start + 16 ≤ r.start) × (end_of r + 32 ≤ end_of c)
+
+-- each byte of a payload is its owner's: it is out of the heap's memory
+unfoldable pub IsOwners : HeapView → PayloadView → Type 0
+IsOwners v p = IsAway v.memory (payload_range p)

@@ -7,7 +7,7 @@ use Rattle.rlsf_heap.specs.contracts.payload.Payload as payload
 
 -- a payload with the bytes w, which are cut to its length, or filled up from the old ones
 unfoldable pub rewritten : PayloadView → List ℕ → PayloadView
-rewritten p w = record { identity = p.identity; start = p.start; bytes = refilled p.bytes 0 (length p.bytes) w; out = p.out }
+rewritten p w = record { identity = p.identity; start = p.start; align = p.align; bytes = refilled p.bytes 0 (length p.bytes) w; out = p.out }
 
 -- the payload ends with the bytes that r leaves, and else as it was
 abbrev pub LendsPayload : MutBor PayloadView → MutBor (List ℕ) → Fml

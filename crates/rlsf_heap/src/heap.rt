@@ -1,48 +1,45 @@
 //! The heap: an allocator whose payloads leave its memory.
-ghost use Rattle.std.specs.Prelude.{◌≡◌, ◌≢◌, ◌≤◌, ◌<◌, ◌+◌, ◌*◌, ◌/◌, ◌%◌, ℕ, Some, None, length, replicate, IfNone, IfSome, IsSome};
-ghost use Rattle.rlsf_base.specs.Addr.{reply};
+ghost use Rattle.std.specs.Prelude.{[], ◌≡◌, ◌≢◌, ◌≤◌, ◌<◌, ◌+◌, ◌/◌, ◌%◌, ◌↔◌, ℕ, Some, None, length, replicate, IfErr, IfNone, IfOk, IfSome, IsOk, IsSome};
 ghost use Rattle.rlsf_base.specs.Changes.{IsAllOwn};
 ghost use Rattle.rlsf_base.specs.OpenSpace.{home_of, IsOwned};
 ghost use Rattle.rlsf_base.specs.declared.memory.range.Range.{Range};
-ghost use Rattle.rlsf_base.specs.Range.{AreApart, LiesIn};
 ghost use Rattle.rlsf_base.specs.SizeClass.{IsValid};
-ghost use Rattle.rlsf_base.specs.Sizes.{max_pool_size, pool_size_for_payloads};
 ghost use Rattle.rlsf_base.specs.Space.{range_of};
 ghost use Rattle.rlsf_machine.specs.Allocate.{Allocates};
 ghost use Rattle.rlsf_machine.specs.Callers.{align_at, bytes_at};
-ghost use Rattle.rlsf_machine.specs.Insert.{Inserts, IsUntouched, aligned_part, cut};
+ghost use Rattle.rlsf_machine.specs.Insert.{IsUntouched};
 ghost use Rattle.rlsf_machine.specs.Release.{Deallocates};
 ghost use Rattle.rlsf_machine.specs.Sized.{IsSizedFor, live_count};
 ghost use Rattle.rlsf_machine.specs.State.{empty};
-ghost use Rattle.rlsf_heap.specs.Heap.{addr_of, IsWritten};
+ghost use Rattle.rlsf_heap.specs.Heap.{addr_of, IsOwners, IsWritten};
+ghost use Rattle.rlsf_heap.specs.Settled.{IsSettled};
 
 use crate::payload::Payload;
 use crate::state::GhostState;
 use crate::zeroed::fill_zero;
 use rlsf_base::memory::ledger::Ledger;
-use rlsf_base::memory::{Layout, OpenMemory, Range};
-use rlsf_blocks::{
-    allocate_block, deallocate_block, insert_chunks, load_block_of, load_usable_bytes,
-};
+use rlsf_base::memory::{Layout, OpenMemory};
+use rlsf_blocks::{allocate_block, deallocate_block, load_block_of, load_usable_bytes};
 use rlsf_int::BitPattern;
 use rlsf_table::ClassTable;
 use std::marker::{Model, PhantomData};
 use std::mem::ManuallyDrop;
-use std::num::NonZeroUsize;
 
 /// An allocator over the pools of one memory, which it owns. Its payloads leave the memory: each owns its bytes.
 ///
-/// It has no `Drop`: `into_memory` returns the memory once no payload is live.
+/// Dropping a heap deallocates its memory if no payload is live. Otherwise the memory leaks, so that no byte that a payload
+/// owns is deallocated.
 pub struct Heap<
     FLBitmap: BitPattern,
     SLBitmap: BitPattern,
     const FLLEN: usize,
     const SLLEN: usize,
 > {
-    memory: OpenMemory,
-    table: ClassTable<FLLEN, SLLEN>,
-    state: GhostState,
-    ledger: Ledger,
+    pub(crate) memory: OpenMemory,
+    pub(crate) table: ClassTable<FLLEN, SLLEN>,
+    pub(crate) state: GhostState,
+    pub(crate) ledger: Ledger,
+    pub(crate) live: usize,
     // Of no element. A type that has an array beside a type parameter is known to be below 2^63 bytes, whatever else it holds.
     bitmaps: [PhantomData<(FLBitmap, SLBitmap)>; 0],
 }
@@ -55,7 +52,7 @@ impl<FLBitmap: BitPattern, SLBitmap: BitPattern, const FLLEN: usize, const SLLEN
 
     ghost view = { λ h. heap_view h.memory h.table h.state.state h.ledger.name };
 
-    ghost invariant = { λ h. IsHeap FLBitmap.width SLBitmap.width FLLEN SLLEN h.memory h.table h.state.state h.ledger.entries };
+    ghost invariant = { λ h. IsHeap FLBitmap.width SLBitmap.width FLLEN SLLEN h.memory h.table h.state.state h.ledger.entries h.live };
 }
 
 impl<FLBitmap: BitPattern, SLBitmap: BitPattern, const FLLEN: usize, const SLLEN: usize> Heap<
@@ -79,6 +76,8 @@ impl<FLBitmap: BitPattern, SLBitmap: BitPattern, const FLLEN: usize, const SLLEN
         ensures stands { Stands FLLEN SLLEN result }
         ensures count { live_count result.state ≡ 0 }
         ensures memory { result.memory ≡ memory }
+        ensures home { result.identity.home ≡ home_of memory }
+        ensures settled { memory.out ≡ [] → IsSettled result.memory }
     {
         // What `start` says of every memory: no address is 0, and each fits in a word.
         let _ = memory.start();
@@ -87,6 +86,7 @@ impl<FLBitmap: BitPattern, SLBitmap: BitPattern, const FLLEN: usize, const SLLEN
             table: ClassTable::new(),
             state: GhostState::new(),
             ledger: Ledger::new(),
+            live: 0,
             bitmaps: [],
         }
     }
@@ -97,6 +97,7 @@ impl<FLBitmap: BitPattern, SLBitmap: BitPattern, const FLLEN: usize, const SLLEN
     pub fn into_memory(self) -> OpenMemory
         requires { live_count self.state ≡ 0 }
         ensures memory { result ≡ self.memory }
+        ensures home { home_of result ≡ self.identity.home }
         ensures own { IsAllOwn result.out }
         ensures free { IsOwned result (range_of result) }
     {
@@ -104,48 +105,31 @@ impl<FLBitmap: BitPattern, SLBitmap: BitPattern, const FLLEN: usize, const SLLEN
             memory,
             table: _,
             state: _,
-            ledger,
+            ledger: _,
+            live: _,
             bitmaps: _,
         } = self;
-        // The ledger takes no space, and has no live ticket.
-        let _ended = unsafe { ManuallyDrop::new_unchecked(ledger) };
         memory
     }
 
-    /// Inserts a range of the memory as a pool, and makes free chunks of its aligned part. No chunk has fewer than 64
-    /// bytes.
-    ///
-    /// Returns the number of bytes from the range's start to the end of its last chunk. Returns `None` if the range makes
-    /// no chunk; then nothing changes.
-    ///
-    /// Suppose that no payload is live and that the range starts at a multiple of 32. If its length is at least what
-    /// `pool_size_for_payloads` returns for some bounds, the heap is then sized for them (`IsSizedFor`).
-    ///
-    /// The range must lie in the memory and overlap no chunk.
-    pub fn insert_free_block_ptr(&mut self, range: Range) -> Option<NonZeroUsize>
-        requires lies_in { LiesIn range self.old.memory.start (length self.old.memory.bytes) }
-        requires untouched { IsUntouched self.old.state.chunks range }
-        ensures step { Steps FLLEN SLLEN self.new (Inserts FLLEN self.old.state range (reply result)) }
-        ensures identity { self.new.identity ≡ self.old.identity }
-        ensures place { (self.new.memory.start ≡ self.old.memory.start) × (length self.new.memory.bytes ≡ length self.old.memory.bytes) }
-        ensures untouched { (r : Range) → IsUntouched self.old.state.chunks r → AreApart range r → IsUntouched self.new.state.chunks r }
-        ensures aligns { align_at self.new.state ≡ align_at self.old.state }
-        ensures count { live_count self.new.state ≡ live_count self.old.state }
-        ensures bounds { (count size align : ℕ) → IsSizedFor SLLEN count size align self.old.state → IsSizedFor SLLEN count size align self.new.state }
-        ensures pool { (count size align len : ℕ) → pool_size_for_payloads FLLEN SLLEN count size align ≡ Some len → range.start % 32 ≡ 0 → len ≤ range.len
-            → live_count self.old.state ≡ 0 → IsSizedFor SLLEN count size align self.new.state }
-        ensures refused { IfNone result (self.new.memory.bytes ≡ self.old.memory.bytes) }
-        ensures touches { self.new.memory.touches ≤ self.old.memory.touches + 13 * length (cut (max_pool_size FLLEN) (aligned_part range)) }
-        ensures grow { self.old.memory.touches ≤ self.new.memory.touches }
-        ensures copied { self.new.memory.copied ≡ self.old.memory.copied }
+    /// Consumes the heap and returns its memory, as `into_memory` does, if no payload is live. Otherwise returns the heap
+    /// unchanged.
+    pub fn try_into_memory(self) -> Result<OpenMemory, Self>
+        ensures which { IsOk result ↔ (live_count self.state ≡ 0) }
+        ensures memory { IfOk result (λ m. m ≡ self.memory) }
+        ensures own { IfOk result (λ m. IsAllOwn m.out) }
+        ensures free { IfOk result (λ m. IsOwned m (range_of m)) }
+        ensures same { IfErr result (λ h. h ≡ self) }
     {
-        let taken = insert_chunks(&mut self.memory, &mut self.table, range);
-        self.state.insert(FLLEN, range.start, range.len);
-        taken
+        if self.live == 0 {
+            Ok(self.into_memory())
+        } else {
+            Err(self)
+        }
     }
 
-    /// Allocates a payload for `layout`. It leaves the memory, and its bytes are raw. Its address is a multiple of the
-    /// alignment. Its block is the front of the newest free block of the first class that has a free block and reaches the
+    /// Allocates a payload for `layout`. It leaves the memory. Its bytes may be raw; if no byte of the memory is raw, none of
+    /// them is. Its address is a multiple of the alignment. Its block is the front of the newest free block of the first class that has a free block and reaches the
     /// sought size.
     ///
     /// Returns `None` if and only if no free block has a class that reaches the sought size; then nothing changes. Within
@@ -154,8 +138,11 @@ impl<FLBitmap: BitPattern, SLBitmap: BitPattern, const FLLEN: usize, const SLLEN
         ensures step { Steps FLLEN SLLEN self.new (Allocates SLLEN self.old.state layout.size layout.align (addr_of result)) }
         ensures identity { self.new.identity ≡ self.old.identity }
         ensures place { (self.new.memory.start ≡ self.old.memory.start) × (length self.new.memory.bytes ≡ length self.old.memory.bytes) }
+        ensures settled { IsSettled self.old.memory → IsSettled self.new.memory }
+        ensures written { IsSettled self.old.memory → IfSome result (λ p. IsWritten p) }
         ensures payload { IfSome result (λ p. p.identity ≡ self.old.identity) }
         ensures live { IfSome result (λ p. align_at self.new.state p.start ≡ Some layout.align) }
+        ensures align { IfSome result (λ p. p.align ≡ layout.align) }
         ensures long { IfSome result (λ p. length p.bytes ≡ length (bytes_at self.new.state p.start)) }
         ensures aligned { IfSome result (λ p. p.start % layout.align ≡ 0) }
         ensures sized { IfSome result (λ p. layout.size ≤ length p.bytes) }
@@ -174,11 +161,17 @@ impl<FLBitmap: BitPattern, SLBitmap: BitPattern, const FLLEN: usize, const SLLEN
     {
         let view = self.memory.view();
         let addr = allocate_block(&mut self.memory, view, &mut self.table, layout)?;
-        self.state.allocate(SLLEN, layout.size(), layout.align());
+        let align = layout.align();
+        self.live += 1;
+        self.state.allocate(SLLEN, layout.size(), align);
         let range = load_usable_bytes(&mut self.memory, addr);
-        let part = self.memory.take_room(range);
-        let ticket = self.ledger.issue(range.start, range.len);
-        Some(Payload { part, ticket })
+        let part = self.memory.take_out(range);
+        let ticket = self.ledger.issue(range.start, range.len, align);
+        Some(Payload {
+            part,
+            align,
+            ticket,
+        })
     }
 
     /// Allocates a payload for `layout`, as `allocate` does, and fills it with zeros: its bytes are here. One word access
@@ -189,10 +182,12 @@ impl<FLBitmap: BitPattern, SLBitmap: BitPattern, const FLLEN: usize, const SLLEN
         ensures step { Steps FLLEN SLLEN self.new (Allocates SLLEN self.old.state layout.size layout.align (addr_of result)) }
         ensures identity { self.new.identity ≡ self.old.identity }
         ensures place { (self.new.memory.start ≡ self.old.memory.start) × (length self.new.memory.bytes ≡ length self.old.memory.bytes) }
+        ensures settled { IsSettled self.old.memory → IsSettled self.new.memory }
         ensures payload { IfSome result (λ p. p.identity ≡ self.old.identity) }
         ensures written { IfSome result (λ p. IsWritten p) }
         ensures zeros { IfSome result (λ p. p.bytes ≡ replicate (length p.bytes) 0) }
         ensures live { IfSome result (λ p. align_at self.new.state p.start ≡ Some layout.align) }
+        ensures align { IfSome result (λ p. p.align ≡ layout.align) }
         ensures long { IfSome result (λ p. length p.bytes ≡ length (bytes_at self.new.state p.start)) }
         ensures aligned { IfSome result (λ p. p.start % layout.align ≡ 0) }
         ensures sized { IfSome result (λ p. layout.size ≤ length p.bytes) }
@@ -212,16 +207,24 @@ impl<FLBitmap: BitPattern, SLBitmap: BitPattern, const FLLEN: usize, const SLLEN
     {
         let view = self.memory.view();
         let addr = allocate_block(&mut self.memory, view, &mut self.table, layout)?;
-        self.state.allocate(SLLEN, layout.size(), layout.align());
+        let align = layout.align();
+        self.live += 1;
+        self.state.allocate(SLLEN, layout.size(), align);
         let range = load_usable_bytes(&mut self.memory, addr);
         fill_zero(&mut self.memory, range);
-        let part = self.memory.take_out(range);
-        let ticket = self.ledger.issue(range.start, range.len);
-        Some(Payload { part, ticket })
+        let zeros = self.memory.take_out(range);
+        let ticket = self.ledger.issue(range.start, range.len, align);
+        Some(Payload {
+            part: zeros,
+            align,
+            ticket,
+        })
     }
 
     /// Deallocates a payload. Its block becomes free, and is joined with the free block before it and the free block
     /// behind it, if they exist. The joined block is the newest free block.
+    ///
+    /// Until the call, each byte of the payload was its owner's, and none was the memory's (`owner`).
     ///
     /// The payload must be one of this heap.
     pub fn deallocate(&mut self, payload: Payload)
@@ -229,6 +232,7 @@ impl<FLBitmap: BitPattern, SLBitmap: BitPattern, const FLLEN: usize, const SLLEN
         ensures step { Steps FLLEN SLLEN self.new (Deallocates self.old.state payload.start) }
         ensures identity { self.new.identity ≡ self.old.identity }
         ensures place { (self.new.memory.start ≡ self.old.memory.start) × (length self.new.memory.bytes ≡ length self.old.memory.bytes) }
+        ensures owner { IsOwners self.old payload }
         ensures count { live_count self.old.state ≡ live_count self.new.state + 1 }
         ensures bounds { (count size align : ℕ) → IsSizedFor SLLEN count size align self.old.state → IsSizedFor SLLEN count size align self.new.state }
         ensures chunks { self.new.state.chunks ≡ self.old.state.chunks }
@@ -238,13 +242,33 @@ impl<FLBitmap: BitPattern, SLBitmap: BitPattern, const FLLEN: usize, const SLLEN
         ensures grow { self.old.memory.touches ≤ self.new.memory.touches }
         ensures copied { self.new.memory.copied ≡ self.old.memory.copied }
     {
-        let Payload { part, ticket } = payload;
+        let (part, ticket) = payload.into_parts();
         let addr = part.start();
         self.ledger.redeem(ticket);
         self.memory.put_room(part);
         let block = load_block_of(&mut self.memory, addr);
         let view = self.memory.view();
         deallocate_block(&mut self.memory, view, &mut self.table, block);
+        self.live -= 1;
         self.state.deallocate(addr);
+    }
+}
+
+impl<FLBitmap: BitPattern, SLBitmap: BitPattern, const FLLEN: usize, const SLLEN: usize> Drop
+    for Heap<FLBitmap, SLBitmap, FLLEN, SLLEN> {
+    fn drop(self) {
+        let Heap {
+            memory,
+            table: _,
+            state: _,
+            ledger: _,
+            live,
+            bitmaps: _,
+        } = self;
+        if live == 0 {
+            memory.free();
+        } else {
+            let _leaked = unsafe { ManuallyDrop::new_unchecked(memory) };
+        }
     }
 }

@@ -1,11 +1,15 @@
 //! An allocator whose payloads leave its memory: each owns its bytes.
 #![tactic(auto)]
 
+mod apart;
+mod deallocation;
 mod heap;
-#[cfg(test)]
-mod pair;
 mod payload;
+mod pools;
+mod reading;
+mod reallocation;
 mod state;
+mod units;
 mod zeroed;
 
 pub use heap::Heap;

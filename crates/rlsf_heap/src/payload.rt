@@ -1,5 +1,5 @@
 //! Payloads that left the memory of a heap.
-ghost use Rattle.std.specs.Prelude.{◌≡◌, ℕ, List, length};
+ghost use Rattle.std.specs.Prelude.{◌≡◌, ℕ, List, length, replicate};
 ghost use Rattle.std.specs.Borrow.{sem};
 ghost use Rattle.rlsf_heap.specs.Heap.{IsWritten};
 
@@ -9,25 +9,49 @@ use std::marker::Model;
 
 /// A payload that left the memory of its heap. It owns its bytes, and the right to deallocate them.
 ///
-/// Each byte is here, with a value, or raw, without one. `deallocate` of its heap takes it back. It is `Send`, but it has no
-/// `Drop`, so no closure can take it by value: a program lends `as_mut_slice` to a thread instead.
+/// Each byte is here, with a value, or raw, without one. `deallocate` of its heap takes it back. It is `Send`, so it can
+/// cross to another thread. Dropping a payload leaks it: it stays live, and its bytes are never deallocated.
 pub struct Payload {
     pub(crate) part: Part,
+    pub(crate) align: usize,
     pub(crate) ticket: Ticket,
 }
 
 impl Model for Payload {
+    ghost use Rattle.rlsf_base.specs.Ledger.{extent};
     ghost use Rattle.rlsf_heap.specs.Heap.{PayloadView, payload_view, IsTicketOf};
 
     ghost Value = { PayloadView };
 
-    ghost view = { λ p. payload_view p.part p.ticket.name };
+    ghost view = { λ p. payload_view p.part p.align p.ticket.name };
 
-    ghost invariant = { λ p. IsTicketOf p.part p.ticket.addr p.ticket.len };
+    ghost invariant = { λ p. IsTicketOf p.part p.align (extent p.ticket.addr p.ticket.len p.ticket.align) };
+}
+
+impl Drop for Payload {
+    fn drop(self) {
+        let _ = self.into_parts();
+    }
 }
 
 impl Payload {
+    ghost use Rattle.rlsf_base.specs.Ledger.{extent};
+    ghost use Rattle.rlsf_heap.specs.Heap.{payload_view, IsTicketOf};
     ghost use Rattle.rlsf_heap.specs.Lends.{LendsPayload, rewritten};
+
+    // Consumes the payload and returns its part and its ticket. Only a method can take a payload apart.
+    #[inline(always)]
+    pub(crate) fn into_parts(self) -> (Part, Ticket)
+        ensures parts { payload_view result.0 self.align result.1.name ≡ self }
+        ensures ticket { IsTicketOf result.0 self.align (extent result.1.addr result.1.len result.1.align) }
+    {
+        let Payload {
+            part,
+            align: _,
+            ticket,
+        } = self;
+        (part, ticket)
+    }
 
     /// Returns the address of the first byte.
     pub fn addr(&self) -> usize
@@ -41,6 +65,13 @@ impl Payload {
         ensures { result ≡ length self.now.bytes }
     {
         self.part.len()
+    }
+
+    /// Returns the alignment that was requested. The address is a multiple of it.
+    pub fn align(&self) -> usize
+        ensures { result ≡ self.now.align }
+    {
+        self.align
     }
 
     /// Returns the bytes. They must be here.
@@ -62,8 +93,20 @@ impl Payload {
         ensures written { (w : List ℕ) → IsWritten (rewritten self.old w) }
         ensures identity { (w : List ℕ) → (rewritten self.old w).identity ≡ self.old.identity }
         ensures start { (w : List ℕ) → (rewritten self.old w).start ≡ self.old.start }
+        ensures align { (w : List ℕ) → (rewritten self.old w).align ≡ self.old.align }
     {
         self.part.as_mut_slice()
+    }
+
+    /// Writes `value` to each byte. All are then here. Nothing else changes.
+    pub fn fill(&mut self, value: u8)
+        ensures bytes { self.new.bytes ≡ replicate (length self.old.bytes) value }
+        ensures written { IsWritten self.new }
+        ensures identity { self.new.identity ≡ self.old.identity }
+        ensures start { self.new.start ≡ self.old.start }
+        ensures align { self.new.align ≡ self.old.align }
+    {
+        self.part.fill(value);
     }
 }
 

@@ -2,8 +2,10 @@
 ghost use Rattle.std.specs.Prelude.{◌≡◌, ℕ};
 ghost use Rattle.std.specs.Borrow.{ftrue};
 ghost use Rattle.rlsf_base.specs.Range.{range_at};
+ghost use Rattle.rlsf_machine.specs.Remove.{removed};
 ghost use Rattle.rlsf_machine.specs.State.{State, empty};
-ghost use Rattle.rlsf_tlsf.specs.Steps.Moves.{allocated, deallocated, inserted};
+ghost use Rattle.rlsf_blocks.specs.Blocks.{walked};
+ghost use Rattle.rlsf_tlsf.specs.Steps.Moves.{allocated, appended_to, deallocated, inserted, reallocated};
 
 use std::marker::{Model, Send, Sync};
 
@@ -44,6 +46,13 @@ impl GhostState {
         self.advance(fllen, start, len);
     }
 
+    /// Updates the state as an append does.
+    pub(crate) fn append(&mut self, fllen: usize, start: usize, len: usize)
+        ensures { self.new.state ≡ appended_to fllen (range_at start len) self.old.state }
+    {
+        self.advance(fllen, start, len);
+    }
+
     /// Updates the state as an allocation does that isn't refused.
     pub(crate) fn allocate(&mut self, sllen: usize, size: usize, align: usize)
         ensures { self.new.state ≡ allocated sllen size align self.old.state }
@@ -56,5 +65,19 @@ impl GhostState {
         ensures { self.new.state ≡ deallocated addr self.old.state }
     {
         self.advance(addr, 0, 0);
+    }
+
+    /// Updates the state as a reallocation does that isn't refused.
+    pub(crate) fn reallocate(&mut self, sllen: usize, addr: usize, size: usize)
+        ensures { self.new.state ≡ reallocated sllen addr size self.old.state }
+    {
+        self.advance(sllen, addr, size);
+    }
+
+    /// Updates the state as a removal of the chunks of a range does.
+    pub(crate) fn remove(&mut self, start: usize, len: usize)
+        ensures { self.new.state ≡ removed (walked (range_at start len)) self.old.state }
+    {
+        self.advance(start, len, 0);
     }
 }

@@ -1,8 +1,8 @@
 use Rattle.std.proofs.Common.{◌≡◌, ◌+◌, ◌%◌, ◌<◌, ◌≤◌, List, length, None, Some, refl, sym, ap, subst, ◌∙◌, arith}
 use Rattle.std.proofs.lemmas.List.{length-replicate}
-use Rattle.rlsf_base.specs.Out.{Change, kept_at}
-use Rattle.rlsf_base.proofs.Changes.{none-out}
+use Rattle.rlsf_base.proofs.Lending.Present.{own-here}
 use Rattle.rlsf_base.specs.declared.memory.range.Range.{Range}
+use Rattle.rlsf_base.specs.Ledger.{extent}
 use Rattle.rlsf_base.specs.OpenSpace.{IsOwned, out_without}
 use Rattle.rlsf_base.specs.Range.{LiesIn}
 use Rattle.rlsf_base.specs.Space.{Space, range_of}
@@ -20,10 +20,13 @@ use Rattle.rlsf_tlsf.specs.Steps.Moves.{allocated, bare}
 use Rattle.rlsf_tlsf.proofs.Arrivals.{arrived}
 use Rattle.rlsf_tlsf.proofs.Moved.{allocated-bare}
 use Rattle.rlsf_heap.specs.Heap.{AreIssued, addr_of}
-use Rattle.rlsf_heap.proofs.Allocated.{Placing, at_new, is_new, issued-new, new, new-here, new-lies, new-long, new-whole, placing-touched, stands-left}
+use Rattle.rlsf_heap.proofs.Allocated.{Placing, at_new, is_new, issued-new, new, one_more, new-here, new-lies, new-long, new-whole, placing-touched, stands-left}
 use Rattle.rlsf_heap.specs.Zeroed.{IsZeroed}
 use Rattle.rlsf_heap.proofs.ZeroedPayloads.{placing-zeroed, usable-zeroed}
 use Rattle.rlsf_heap.proofs.Arrivals.{IsHeap-arrived, Steps-arrived, bare-kept, stepped, view_well_formed}
+use Rattle.rlsf_blocks.proofs.Words.Stays.{Stays, Stays-same, Stays-then}
+use Rattle.rlsf_heap.specs.Settled.{IsSettled}
+use Rattle.rlsf_heap.proofs.Settled.{settled-inside, settled-left, settled-stays, settled-zeroed}
 use Rattle.rlsf_heap.proofs.heap.Heap.allocate_zeroed.Given as given
 use Rattle.rlsf_heap.proofs.heap.Heap.allocate_zeroed.Goals as goal
 use Rattle.rlsf_heap.proofs.heap.Heap.allocate_zeroed.Goals.{After-issue-ticket, After-load_usable_bytes-range, In_err-addr, In_ok-addr}
@@ -42,7 +45,7 @@ refusing g c =
 pub invariant_of-self : goal.invariant_of-self
 invariant_of-self g c =
     let d = (goal.at.invariant_of-self g c).In_err-addr in
-    IsHeap-arrived (refusing g d).1 c.self.inside.state.state (sym (bare-kept c.self.invariant)) c.self.invariant.valid c.self.inside.ledger.entries c.self.invariant.tickets
+    IsHeap-arrived (refusing g d).1 c.self.inside.state.state (sym (bare-kept c.self.invariant)) c.self.invariant.valid c.self.inside.ledger.entries c.self.invariant.tickets c.self.inside.live c.self.invariant.counted
 
 refused : (g : given.Over) (c : In_err-addr g) → Allocates g.row.SLLEN c.args.self.now.state c.args.layout.size c.args.layout.align None (read_from c.allocate_block.new.memory c.self.inside.state.state)
 refused g c = stepped (refusing g c).1 c.self.inside.state.state (sym (bare-kept c.self.invariant)) c.self.inside.memory c.self.inside.state.state c.args.self.now c.self.view_is (λ old. Allocates g.row.SLLEN old c.args.layout.size c.args.layout.align None) (refusing g c).0
@@ -70,6 +73,11 @@ placing_first : (g : given.Over) (c : In_ok-addr g) → (t : State) × Placing g
 placing_first g c =
     let is = c.in_ok-addr.ensures.step (read_from c.self.inside.memory c.self.inside.state.state) c.self.invariant.stands in
     (is.0, record { old = c.self.invariant.stands; power = c.args.layout.valid.aligned; places = is.1; now = is.2; own = c.in_ok-addr.ensures.own })
+
+pub overflow_add-self : goal.overflow_add-self
+overflow_add-self g c =
+    let (t, p) = placing_first g (goal.at.overflow_add-self g c).In_ok-addr in
+    omega (arith, (one_more p c.self.inside.live c.self.invariant.counted).1)
 
 pub load_usable_bytes-range-requires : goal.load_usable_bytes-range-requires
 load_usable_bytes-range-requires g c =
@@ -116,13 +124,16 @@ fill_zero-requires-clause-own g c =
     let d = (goal.at.fill_zero-requires-clause-own g c).After-load_usable_bytes-range in
     subst (IsOwned c.load_usable_bytes-range.new.memory) (sym (range g d)) (new-here (reading g d))
 
-pub take_out-part-requires-clause-place : goal.take_out-part-requires-clause-place
-take_out-part-requires-clause-place g c =
-    let d = (goal.at.take_out-part-requires-clause-place g c).After-load_usable_bytes-range in
+pub take_out-zeros-requires-clause-place : goal.take_out-zeros-requires-clause-place
+take_out-zeros-requires-clause-place g c =
+    let d = (goal.at.take_out-zeros-requires-clause-place g c).After-load_usable_bytes-range in
     let m = c.load_usable_bytes-range.new.memory in
     let z = c.fill_zero.ensures in
     let lies : LiesIn c.load_usable_bytes-range.result m.start (length m.bytes) = subst (λ (r : Range). LiesIn r m.start (length m.bytes)) (sym (range g d)) (new-lies (reading g d)) in
     (omega (arith, lies, z.start, z.length), omega (arith, lies, z.start, z.length))
+
+pub take_out-zeros-requires-clause-own : goal.take_out-zeros-requires-clause-own
+take_out-zeros-requires-clause-own g c = own-here c.fill_zero.new.memory c.load_usable_bytes-range.result c.fill_zero.ensures.here
 
 -- ---- its bytes are filled, and leave
 
@@ -146,16 +157,16 @@ filled : (g : given.Over) (c : After-issue-ticket g) → c.load_usable_bytes-ran
 unfolding filling
 filled g c = range g (read g c) ∙ sym (usable-zeroed (reading g (read g c)) c.fill_zero.new.memory (first g c) (zeros g c))
 
-standing : (g : given.Over) (c : After-issue-ticket g) → StandsFor g.row.FLLEN g.row.SLLEN (contents c.take_out-part.new.self c.allocate_block.new.table) (reached g c)
+standing : (g : given.Over) (c : After-issue-ticket g) → StandsFor g.row.FLLEN g.row.SLLEN (contents c.take_out-zeros.new.self c.allocate_block.new.table) (reached g c)
 standing g c =
-    let e = c.take_out-part.ensures in
-    stands-left (filling g c) c.take_out-part.new.self e.start e.bytes (e.out ∙ ap (out_without c.fill_zero.new.memory) (filled g c))
+    let e = c.take_out-zeros.ensures in
+    stands-left (filling g c) c.take_out-zeros.new.self e.start e.bytes (e.out ∙ ap (out_without c.fill_zero.new.memory) (filled g c))
 
 -- what is kept of the state is the one that the payload leads to
 kept : (g : given.Over) (c : After-issue-ticket g) → c.allocate.new.self.state ≡ bare (reached g c)
 kept g c =
     let p = filling g c in
-    c.allocate.ensures ∙ (λ i. allocated g.row.SLLEN (c.size.ensures.value i) (c.align.ensures.value i) (sym (bare-kept c.self.invariant) i))
+    c.allocate.ensures ∙ (λ i. allocated g.row.SLLEN (c.size.ensures.value i) (c.align-align.ensures.value i) (sym (bare-kept c.self.invariant) i))
     ∙ allocated-bare g.row.SLLEN (before g (read g c)) (reached g c) c.args.layout.size c.args.layout.align c.in_ok-addr.addr p.places
 
 -- the address that the ticket is issued for
@@ -167,19 +178,20 @@ invariant_of-self-2 g c =
     let d = (goal.at.invariant_of-self-2 g c).After-issue-ticket in
     let r = c.load_usable_bytes-range.result in
     IsHeap-arrived (standing g d) c.allocate.new.self.state (kept g d) c.self.invariant.valid c.issue-ticket.new.self.entries
-    (subst (AreIssued (reached g d)) (sym c.issue-ticket.ensures.5)
-    (issued-new (filling g d) c.self.inside.ledger.entries c.self.invariant.tickets (r.start, r.len) (address g d) (ap (λ (q : Range). q.len) (filled g d))))
+    (subst (AreIssued (reached g d)) (sym c.issue-ticket.ensures.entries)
+    (issued-new (filling g d) c.self.inside.ledger.entries c.self.invariant.tickets (extent r.start r.len c.align-align.result) (address g d) (ap (λ (q : Range). q.len) (filled g d)) c.align-align.ensures.value))
+    (c.self.inside.live + 1) (one_more (filling g d) c.self.inside.live c.self.invariant.counted).0
 
 -- ---- what contracts see
 
 abbrev now : (g : given.Over) → After-issue-ticket g → State
-now g c = read_from c.take_out-part.new.self c.allocate.new.self.state
+now g c = read_from c.take_out-zeros.new.self c.allocate.new.self.state
 
 -- the address is the part's
-at : (g : given.Over) (c : After-issue-ticket g) → c.in_ok-addr.addr ≡ c.take_out-part.result.start
-at g c = sym (address g c) ∙ sym c.take_out-part.ensures.part.1
+at : (g : given.Over) (c : After-issue-ticket g) → c.in_ok-addr.addr ≡ c.take_out-zeros.result.start
+at g c = sym (address g c) ∙ sym c.take_out-zeros.ensures.part.1
 
-did : (g : given.Over) (c : After-issue-ticket g) → Places g.row.SLLEN c.args.self.now.state c.args.layout.size c.args.layout.align c.take_out-part.result.start (now g c)
+did : (g : given.Over) (c : After-issue-ticket g) → Places g.row.SLLEN c.args.self.now.state c.args.layout.size c.args.layout.align c.take_out-zeros.result.start (now g c)
 did g c =
     let p = filling g c in
     subst (λ addr. Places g.row.SLLEN c.args.self.now.state c.args.layout.size c.args.layout.align addr (now g c)) (at g c)
@@ -188,22 +200,22 @@ did g c =
 well : (g : given.Over) (c : After-issue-ticket g) → IsWellFormed g.row.FLLEN g.row.SLLEN (range_of c.args.self.now.memory) c.args.self.now.state
 well g c = view_well_formed c.self.invariant c.args.self.now c.self.view_is
 
-seen : (g : given.Over) (c : After-issue-ticket g) → SeesNew c.args.self.now.state (now g c) c.args.layout.size c.args.layout.align c.take_out-part.result.start
-seen g c = new_seen (well g c) (now g c) c.args.layout.size c.args.layout.align c.take_out-part.result.start c.args.layout.valid.aligned (did g c)
+seen : (g : given.Over) (c : After-issue-ticket g) → SeesNew c.args.self.now.state (now g c) c.args.layout.size c.args.layout.align c.take_out-zeros.result.start
+seen g c = new_seen (well g c) (now g c) c.args.layout.size c.args.layout.align c.take_out-zeros.result.start c.args.layout.valid.aligned (did g c)
 
 -- the part is as long as the machine's payload
-long : (g : given.Over) (c : After-issue-ticket g) → length c.take_out-part.result.bytes ≡ length (bytes_at (now g c) c.take_out-part.result.start)
+long : (g : given.Over) (c : After-issue-ticket g) → length c.take_out-zeros.result.bytes ≡ length (bytes_at (now g c) c.take_out-zeros.result.start)
 long g c =
-    let e = c.take_out-part.ensures.part in
+    let e = c.take_out-zeros.ensures.part in
     ap length (e.2 ∙ c.fill_zero.ensures.zeros) ∙ length-replicate c.load_usable_bytes-range.result.len 0
     ∙ ap (λ (r : Range). r.len) (filled g c) ∙ sym (new-long (filling g c))
     ∙ (λ i. length (bytes_at (sym (arrived (standing g c) c.allocate.new.self.state (kept g c)) i) (at g c i)))
 
 pub returns-clause-written : goal.returns-clause-written
-returns-clause-written g c = λ k lo hi. ap (λ (l : List Change). kept_at l k) c.take_out-part.ensures.part.3 ∙ none-out k
+returns-clause-written g c = c.take_out-zeros.ensures.full c.fill_zero.ensures.here
 
 pub returns-clause-step : goal.returns-clause-step
-returns-clause-step g c = Steps-arrived (standing g c) c.allocate.new.self.state (kept g c) c.issue-ticket.new.self.name (Allocates g.row.SLLEN c.args.self.now.state c.args.layout.size c.args.layout.align (Some c.take_out-part.result.start)) (did g c)
+returns-clause-step g c = Steps-arrived (standing g c) c.allocate.new.self.state (kept g c) c.issue-ticket.new.self.name (Allocates g.row.SLLEN c.args.self.now.state c.args.layout.size c.args.layout.align (Some c.take_out-zeros.result.start)) (did g c)
 
 pub returns-clause-live : goal.returns-clause-live
 returns-clause-live g c = (seen g c).live
@@ -227,8 +239,34 @@ pub returns-clause-aligns : goal.returns-clause-aligns
 returns-clause-aligns g c = (seen g c).aligns
 
 pub returns-clause-count : goal.returns-clause-count
-returns-clause-count g c = count_new (well g c) (now g c) c.args.layout.size c.args.layout.align c.take_out-part.result.start c.args.layout.valid.aligned (did g c)
+returns-clause-count g c = count_new (well g c) (now g c) c.args.layout.size c.args.layout.align c.take_out-zeros.result.start c.args.layout.valid.aligned (did g c)
 
 pub returns-clause-bounds : goal.returns-clause-bounds
 returns-clause-bounds g c = λ count size align sized short fits.
-    sized_new (well g c) (now g c) count size align sized c.args.layout.size c.args.layout.align (Some c.take_out-part.result.start) c.args.layout.valid.aligned short fits (did g c)
+    sized_new (well g c) (now g c) count size align sized c.args.layout.size c.args.layout.align (Some c.take_out-zeros.result.start) c.args.layout.valid.aligned short fits (did g c)
+
+-- ---- no byte is raw, if none was
+
+pub returns-in_err-addr-clause-settled : goal.returns-in_err-addr-clause-settled
+returns-in_err-addr-clause-settled g c = λ settled.
+    let e = c.in_err-addr.ensures in
+    let stays : Stays c.self.inside.memory c.allocate_block.new.memory = record { start = e.costs.start; own = e.own; here = e.here } in
+    settled-stays stays (settled-inside c.self.inside.state.state c.args.self.now c.self.view_is settled)
+
+-- before its bytes leave
+settled_read : (g : given.Over) (c : After-issue-ticket g) → IsSettled c.args.self.now.memory → IsSettled c.load_usable_bytes-range.new.memory
+settled_read g c settled =
+    let e = c.in_ok-addr.ensures in
+    let touched = c.load_usable_bytes-range.ensures.memory in
+    let stays : Stays c.self.inside.memory c.allocate_block.new.memory = record { start = e.costs.start; own = e.own; here = e.here } in
+    let counted = Stays-same c.allocate_block.new.memory c.load_usable_bytes-range.new.memory (ap (λ (o : Space). o.start) touched) (ap (λ (o : Space). o.out) touched) in
+    settled-stays (Stays-then stays counted) (settled-inside c.self.inside.state.state c.args.self.now c.self.view_is settled)
+
+low_range : (g : given.Over) (c : After-issue-ticket g) → c.load_usable_bytes-range.new.memory.start ≤ c.load_usable_bytes-range.result.start
+low_range g c = subst (λ (r : Range). c.load_usable_bytes-range.new.memory.start ≤ r.start) (sym (range g (read g c))) (new-lies (reading g (read g c))).0
+
+pub returns-clause-settled : goal.returns-clause-settled
+returns-clause-settled g c = λ settled.
+    let z = c.fill_zero.ensures in
+    settled-left c.fill_zero.new.memory c.take_out-zeros.new.self c.load_usable_bytes-range.result c.take_out-zeros.ensures.start (omega (arith, low_range g c, z.start)) c.take_out-zeros.ensures.out
+    (settled-zeroed c.load_usable_bytes-range.new.memory c.fill_zero.new.memory c.load_usable_bytes-range.result z (settled_read g c settled))

@@ -1,21 +1,24 @@
-use Rattle.std.proofs.Common.{◌≡◌, ℕ, ◌+◌, set, false, length, rules, arith, refl, sym, ap, subst, ◌∙◌}
-use Rattle.rlsf_base.specs.Ledger.{IsIssued, entry_of}
-use Rattle.rlsf_base.specs.OpenSpace.{IsOwned}
+use Rattle.std.proofs.Common.{◌≡◌, ℕ, ◌+◌, ◌-◌, set, false, length, rules, arith, refl, sym, ap, subst, ◌∙◌}
+use Rattle.rlsf_base.specs.Ledger.{IsIssued, entry_of, extent}
+use Rattle.rlsf_base.specs.declared.memory.range.Range.{Range}
+use Rattle.rlsf_base.specs.OpenSpace.{IsAway, IsOwned}
 use Rattle.rlsf_base.specs.Space.{Space, range_of}
 use Rattle.rlsf_base.proofs.Lending.Present.{owned-same}
 use Rattle.rlsf_machine.specs.Release.{Deallocates, released}
 use Rattle.rlsf_machine.specs.Run.{IsSomeLive}
+use Rattle.rlsf_machine.specs.Sized.{live_count}
 use Rattle.rlsf_machine.specs.State.{State, Used, Holds, usable}
 use Rattle.rlsf_machine.specs.WellFormed.{IsWellFormed}
 use Rattle.rlsf_machine.proofs.CallerWords.{gone_seen}
 use Rattle.rlsf_machine.proofs.SizedWords.{count_gone, sized_gone}
 use Rattle.rlsf_table.proofs.Parameters.{IsValid-widest}
+use Rattle.rlsf_table.specs.Table.{Table}
 use Rattle.rlsf_blocks.specs.Steps.LiveBlock.{AtEachBlock}
 use Rattle.rlsf_blocks.specs.Laws.{read_from}
 use Rattle.rlsf_blocks.specs.StandsFor.{contents, StandsFor}
 use Rattle.rlsf_blocks.proofs.Machine.Counted.{StandsFor-touched}
 use Rattle.rlsf_tlsf.specs.Steps.Moves.{bare}
-use Rattle.rlsf_heap.specs.Heap.{AreIssued, PayloadView}
+use Rattle.rlsf_heap.specs.Heap.{AreIssued, HeapView, IsOwners, PayloadView, heap_view, payload_range}
 use Rattle.rlsf_heap.proofs.Arrivals.{IsHeap-arrived, Steps-arrived, kept_without, stepped, view_well_formed}
 use Rattle.rlsf_heap.proofs.Released.{back-here, holds, issued-released, stands-back, u}
 use Rattle.rlsf_heap.proofs.heap.Heap.deallocate.Given as given
@@ -27,21 +30,21 @@ abbrev before : (g : given.Over) (c : After-put_room g) → State
 before g c = read_from c.self.inside.memory c.self.inside.state.state
 
 -- the ticket is that of the part
-known : (g : given.Over) (c : After-put_room g) → IsIssued c.self.inside.ledger.entries c.payload.inside.ticket.key (c.payload.inside.part.start, length c.payload.inside.part.bytes)
-known g c = subst (IsIssued c.self.inside.ledger.entries c.payload.inside.ticket.key) (λ i. (sym c.payload.invariant.0 i, sym c.payload.invariant.1 i)) c.redeem.ensures.0
+known : (g : given.Over) (c : After-put_room g) → IsIssued c.self.inside.ledger.entries c.into_parts-part.result.1.key (extent c.into_parts-part.result.0.start (length c.into_parts-part.result.0.bytes) c.args.payload.align)
+known g c = subst (IsIssued c.self.inside.ledger.entries c.into_parts-part.result.1.key) (λ i. extent (sym c.into_parts-part.ensures.ticket.0 i) (sym c.into_parts-part.ensures.ticket.1 i) (sym c.into_parts-part.ensures.ticket.2 i)) c.redeem.ensures.issued
 
 -- the payload's block
 abbrev block : (g : given.Over) (c : After-put_room g) → Used
-block g c = u c.self.invariant.stands c.self.invariant.tickets c.payload.inside.ticket.key c.payload.inside.part (known g c)
+block g c = u c.self.invariant.stands c.self.invariant.tickets c.into_parts-part.result.1.key c.into_parts-part.result.0 c.args.payload.align (known g c)
 
 held : (g : given.Over) (c : After-put_room g) → Holds (before g c) c.start-addr.result (block g c)
-held g c = let h = holds c.self.invariant.stands c.self.invariant.tickets c.payload.inside.ticket.key c.payload.inside.part (known g c) in (h.0, h.1 ∙ sym c.start-addr.ensures)
+held g c = let h = holds c.self.invariant.stands c.self.invariant.tickets c.into_parts-part.result.1.key c.into_parts-part.result.0 c.args.payload.align (known g c) in (h.0, h.1 ∙ sym c.start-addr.ensures)
 
 -- with its bytes back, the memory stands for the same state
 back : (g : given.Over) (c : After-put_room g) → StandsFor g.row.FLLEN g.row.SLLEN (contents c.put_room.new.self c.self.inside.table) (before g c)
 back g c =
     let e = c.put_room.ensures in
-    stands-back c.self.invariant.stands c.self.invariant.tickets c.payload.inside.ticket.key c.payload.inside.part (known g c) c.put_room.new.self e.start e.bytes e.out
+    stands-back c.self.invariant.stands c.self.invariant.tickets c.into_parts-part.result.1.key c.into_parts-part.result.0 c.args.payload.align (known g c) c.put_room.new.self e.start e.bytes e.out
 
 pub load_block_of-block-requires : goal.load_block_of-block-requires
 load_block_of-block-requires g c =
@@ -53,7 +56,7 @@ own : (g : given.Over) (d : After-put_room g) (n : Space) → n ≡ record d.put
 own g d n touched =
     let e = d.put_room.ensures in
     owned-same d.put_room.new.self n (usable (block g d)) (ap (λ (o : Space). o.start) touched) (ap (λ (o : Space). o.out) touched)
-    (back-here d.self.invariant.stands d.self.invariant.tickets d.payload.inside.ticket.key d.payload.inside.part (known g d) d.put_room.new.self e.start e.bytes e.out)
+    (back-here d.self.invariant.stands d.self.invariant.tickets d.into_parts-part.result.1.key d.into_parts-part.result.0 d.args.payload.align (known g d) d.put_room.new.self e.start e.bytes e.out)
 
 -- its block is the one that was found
 starts : (g : given.Over) (d : After-put_room g) (start : ℕ) → AtEachBlock d.put_room.new.self d.start-addr.result (λ u. start ≡ u.block.start) → (block g d).block.start ≡ start
@@ -66,6 +69,15 @@ deallocate_block-requires g c =
     let touched = c.load_block_of-block.ensures.memory in
     let stands = StandsFor-touched c.put_room.new.self n 2 touched (back g d) in
     (omega arith, (IsValid-widest g.FLBitmap.BitPattern.width_limit c.self.invariant.valid, ((before g d, block g d, stands, (held g d).0, starts g d c.load_block_of-block.result c.load_block_of-block.ensures.block, own g d n touched), search rules)))
+
+-- it is one payload less
+less : (g : given.Over) (d : After-put_room g) → live_count (before g d) ≡ live_count (released (before g d) (block g d)) + 1
+less g d =
+    count_gone d.self.invariant.stands.well_formed (released (before g d) (block g d)) d.start-addr.result (block g d, held g d)
+    (record { block = block g d; holds = held g d; after = refl })
+
+pub overflow_sub-self : goal.overflow_sub-self
+overflow_sub-self g c = let d = (goal.at.overflow_sub-self g c).After-put_room in omega (arith, c.self.invariant.counted, less g d)
 
 -- the block is released
 abbrev first : (g : given.Over) → After-deallocate g → After-put_room g
@@ -88,11 +100,17 @@ kept g c = c.deallocate.ensures ∙ kept_without c.self.invariant c.start-addr.r
 pub invariant_of-self : goal.invariant_of-self
 invariant_of-self g c =
     let d = first g c in
-    let k = c.payload.inside.ticket.key in
-    let gone : set c.self.inside.ledger.entries k (entry_of (c.payload.inside.part.start, length c.payload.inside.part.bytes) false) ≡ c.redeem.new.self.entries =
-    (λ i. set c.self.inside.ledger.entries k (entry_of (c.payload.invariant.0 i, c.payload.invariant.1 i) false)) ∙ sym c.redeem.ensures.2 in
+    let k = c.into_parts-part.result.1.key in
+    let gone : set c.self.inside.ledger.entries k (entry_of (extent c.into_parts-part.result.0.start (length c.into_parts-part.result.0.bytes) c.args.payload.align) false) ≡ c.redeem.new.self.entries =
+    (λ i. set c.self.inside.ledger.entries k (entry_of (extent (c.into_parts-part.ensures.ticket.0 i) (c.into_parts-part.ensures.ticket.1 i) (c.into_parts-part.ensures.ticket.2 i)) false)) ∙ sym c.redeem.ensures.entries in
     IsHeap-arrived (standing g c) c.deallocate.new.self.state (kept g c) c.self.invariant.valid c.redeem.new.self.entries
-    (subst (AreIssued (after g c)) gone (issued-released c.self.invariant.stands c.self.invariant.tickets k c.payload.inside.part (known g d)))
+    (subst (AreIssued (after g c)) gone (issued-released c.self.invariant.stands c.self.invariant.tickets k c.into_parts-part.result.0 c.args.payload.align (known g d)))
+    (c.self.inside.live - 1) (omega (arith, c.self.invariant.counted, less g d))
+
+-- the bytes of a payload that comes back were out
+owners : (m : Space) (t : Table) (s : State) (ledger : ℕ) (v : HeapView) (r : Range) (p : PayloadView) → heap_view m t s ledger ≡ v → r ≡ payload_range p → IsAway m r → IsOwners v p
+unfolding IsOwners
+owners m t s ledger v r p view same away = subst (λ (o : HeapView). IsAway o.memory (payload_range p)) view (subst (IsAway m) same away)
 
 -- the state that contracts see
 abbrev now : (g : given.Over) → After-deallocate g → State
@@ -100,7 +118,7 @@ now g c = read_from c.deallocate_block.new.memory c.deallocate.new.self.state
 
 -- the address is the payload's
 at : (g : given.Over) (c : After-deallocate g) → c.start-addr.result ≡ c.args.payload.start
-at g c = c.start-addr.ensures ∙ ap (λ (p : PayloadView). p.start) c.payload.view_is
+at g c = c.start-addr.ensures ∙ ap (λ (p : PayloadView). p.start) c.into_parts-part.ensures.parts
 
 did : (g : given.Over) (c : After-deallocate g) → Deallocates c.args.self.now.state c.args.payload.start (now g c)
 did g c =
@@ -116,6 +134,9 @@ live g c = ((did g c).block, (did g c).holds)
 
 pub returns-clause-step : goal.returns-clause-step
 returns-clause-step g c = Steps-arrived (standing g c) c.deallocate.new.self.state (kept g c) c.redeem.new.self.name (Deallocates c.args.self.now.state c.args.payload.start) (did g c)
+
+pub returns-clause-owner : goal.returns-clause-owner
+returns-clause-owner g c = owners c.self.inside.memory c.self.inside.table c.self.inside.state.state c.self.inside.ledger.name c.args.self.now _ c.args.payload c.self.view_is (ap (λ (p : PayloadView). payload_range p) c.into_parts-part.ensures.parts) c.put_room.ensures.away
 
 pub returns-clause-count : goal.returns-clause-count
 returns-clause-count g c = count_gone (well g c) (now g c) c.args.payload.start (live g c) (did g c)

@@ -7,6 +7,7 @@ use Rattle.rlsf_machine.specs.State.{State}
 use Rattle.rlsf_machine.specs.WellFormed.{IsWellFormed}
 use Rattle.rlsf_machine.proofs.CallerWords.{same_seen}
 use Rattle.rlsf_machine.proofs.Callers.{callers_see_map}
+use Rattle.rlsf_machine.proofs.Chunks.{used-inserted}
 use Rattle.rlsf_machine.proofs.SizedWords.{count_inserted, sized_inserted, sized_pool}
 use Rattle.rlsf_machine.proofs.Untouched.{IsFresh-untouched, untouched_inserted}
 use Rattle.rlsf_table.proofs.Parameters.{IsValid-widest}
@@ -16,7 +17,10 @@ use Rattle.rlsf_tlsf.specs.Steps.Moves.{bare, inserted}
 use Rattle.rlsf_tlsf.proofs.Moved.{inserted-bare}
 use Rattle.rlsf_heap.specs.Heap.{HeapView}
 use Rattle.rlsf_heap.proofs.Arrivals.{IsHeap-arrived, Steps-arrived, bare-kept, stepped, view_well_formed}
-use Rattle.rlsf_heap.proofs.Read.{issued-inserted}
+use Rattle.rlsf_heap.proofs.LiveCounts.{live_count-same}
+use Rattle.rlsf_heap.proofs.Read.{issued-same}
+use Rattle.rlsf_blocks.proofs.Words.Stays.{Stays}
+use Rattle.rlsf_heap.proofs.Settled.{settled-inside, settled-stays}
 use Rattle.rlsf_heap.proofs.heap.Heap.insert_free_block_ptr.Given as given
 use Rattle.rlsf_heap.proofs.heap.Heap.insert_free_block_ptr.Goals as goal
 use Rattle.rlsf_heap.proofs.heap.Heap.insert_free_block_ptr.Goals.{After-insert}
@@ -51,8 +55,10 @@ kept : (g : given.Over) (c : After-insert g) → c.insert.new.self.state ≡ bar
 kept g c = c.insert.ensures ∙ ap (inserted g.row.FLLEN c.args.range) (sym (bare-kept c.self.invariant)) ∙ inserted-bare g.row.FLLEN (before g c) (after g c) c.args.range (reply c.insert_chunks-taken.result) (inserting g c)
 
 pub invariant_of-self : goal.invariant_of-self
-invariant_of-self g c = IsHeap-arrived (standing g c) c.insert.new.self.state (kept g c) c.self.invariant.valid c.self.inside.ledger.entries
-    (issued-inserted g.row.FLLEN (before g c) (after g c) c.args.range (reply c.insert_chunks-taken.result) (inserting g c) c.self.inside.ledger.entries c.self.invariant.tickets)
+invariant_of-self g c =
+    let used = used-inserted g.row.FLLEN (before g c) (after g c) c.args.range (reply c.insert_chunks-taken.result) (inserting g c) in
+    IsHeap-arrived (standing g c) c.insert.new.self.state (kept g c) c.self.invariant.valid c.self.inside.ledger.entries
+    (issued-same (before g c) (after g c) used c.self.invariant.tickets) c.self.inside.live (c.self.invariant.counted ∙ live_count-same (before g c) (after g c) (sym used))
 
 did : (g : given.Over) (c : After-insert g) → Inserts g.row.FLLEN c.args.self.now.state c.args.range (reply c.insert_chunks-taken.result) (read_from c.insert_chunks-taken.new.memory c.insert.new.self.state)
 did g c = stepped (standing g c) c.insert.new.self.state (kept g c) c.self.inside.memory c.self.inside.state.state c.args.self.now c.self.view_is (λ old. Inserts g.row.FLLEN old c.args.range (reply c.insert_chunks-taken.result)) (inserting g c)
@@ -82,3 +88,9 @@ returns-clause-bounds g c = λ count size align sized. sized_inserted (well g c)
 pub returns-clause-pool : goal.returns-clause-pool
 returns-clause-pool g c = λ count size align len told at32 long idle.
     sized_pool g.FLBitmap.BitPattern.width g.SLBitmap.BitPattern.width g.row.FLLEN g.row.SLLEN count size align len c.args.self.now.state (now g c) c.args.range (reply c.insert_chunks-taken.result) c.self.invariant.valid told at32 long idle (did g c)
+
+pub returns-clause-settled : goal.returns-clause-settled
+returns-clause-settled g c = λ settled.
+    let e = c.insert_chunks-taken.ensures in
+    let stays : Stays c.self.inside.memory c.insert_chunks-taken.new.memory = record { start = e.costs.start; own = e.own; here = e.here } in
+    settled-stays stays (settled-inside c.self.inside.state.state c.args.self.now c.self.view_is settled)

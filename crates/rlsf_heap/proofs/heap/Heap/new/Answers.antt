@@ -9,6 +9,7 @@ use Rattle.rlsf_blocks.specs.StandsFor.{contents, StandsFor}
 use Rattle.rlsf_blocks.proofs.Machine.EmptyState.{StandsFor-empty}
 use Rattle.rlsf_heap.specs.Heap.{AreIssued}
 use Rattle.rlsf_heap.proofs.Arrivals.{IsHeap-arrived, Stands-arrived}
+use Rattle.rlsf_heap.proofs.Settled.{settled-none}
 use Rattle.rlsf_heap.proofs.heap.Heap.new.Given as given
 use Rattle.rlsf_heap.proofs.heap.Heap.new.Goals as goal
 
@@ -22,7 +23,7 @@ none_issued g c =
     record { issued = λ k v is. absurd (none k is.0); apart = λ j k v w is js at. absurd (none j is.0) }
 
 pub invariant_of-result : goal.invariant_of-result
-invariant_of-result g c = IsHeap-arrived (standing g c) c.new-2.result.state c.new-2.ensures c.requires.valid c.new-3.result.entries (none_issued g c)
+invariant_of-result g c = IsHeap-arrived (standing g c) c.new-2.result.state c.new-2.ensures c.requires.valid c.new-3.result.entries (none_issued g c) 0 (sym live_count-empty)
 
 pub returns-clause-untouched : goal.returns-clause-untouched
 returns-clause-untouched g c = λ r. subst (λ (s : State). IsUntouched s.chunks r) (sym c.new-2.ensures) (untouched_empty r)
@@ -32,3 +33,6 @@ returns-clause-stands g c = Stands-arrived (standing g c) c.new-2.result.state c
 
 pub returns-clause-count : goal.returns-clause-count
 returns-clause-count g c = ap (λ (s : State). live_count (read_from c.args.memory s)) c.new-2.ensures ∙ live_count-empty
+
+pub returns-clause-settled : goal.returns-clause-settled
+returns-clause-settled g c = λ none. settled-none c.args.memory none

@@ -1,13 +1,13 @@
 use Rattle.std.proofs.Common.{length, refl, ap, ◌∙◌}
 use Rattle.rlsf_heap.specs.Heap.{PayloadView}
-use Rattle.rlsf_heap.proofs.Rewritten.{rewritten-identity, rewritten-left, rewritten-long, rewritten-part, rewritten-start, rewritten-written}
+use Rattle.rlsf_heap.proofs.Rewritten.{rewritten-align, rewritten-identity, rewritten-left, rewritten-long, rewritten-part, rewritten-start, rewritten-written}
 use Rattle.rlsf_heap.proofs.payload.Payload.as_mut_slice.Goals as goal
 
 pub returns : goal.returns
 returns c =
     let p = c.args.self.now in
     let value = c.as_mut_slice.ensures.value ∙ ap (λ (v : PayloadView). v.bytes) c.self.view_is in (
-      (refl, λ w. rewritten-part c.self.inside.part c.self.inside.ticket.name p c.self.view_is w),
+      (refl, λ w. rewritten-part c.self.inside.part c.self.inside.align c.self.inside.ticket.name p c.self.view_is w),
       record {
         writes_back = tt;
         value = value;
@@ -16,5 +16,6 @@ returns c =
         written = λ w. rewritten-written p w c.requires;
         identity = λ w. rewritten-identity p w;
         start = λ w. rewritten-start p w;
+        align = λ w. rewritten-align p w;
       },
     )

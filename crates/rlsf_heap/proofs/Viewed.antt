@@ -1,0 +1,75 @@
+-- A payload came back, and gets another size or stays as it is: what contracts see of it.
+use Rattle.std.proofs.Common.{◌≡◌, ℕ, List, Option, Some, None, refl, sym, ap, subst, ◌∙◌}
+use Rattle.rlsf_base.specs.Ledger.{Entry}
+use Rattle.rlsf_base.specs.Piece.{Piece}
+use Rattle.rlsf_base.specs.Space.{Space, range_of}
+use Rattle.rlsf_machine.specs.Callers.{align_at}
+use Rattle.rlsf_machine.specs.NoMove.{ReallocatesWithoutMove, unmoved_plan}
+use Rattle.rlsf_machine.specs.Reallocate.{HasRoomToStay, Plan, Reallocates, in_place, into_next, or_else}
+use Rattle.rlsf_machine.specs.Run.{Fills}
+use Rattle.rlsf_machine.specs.State.{State, Used, AreAlike, filled}
+use Rattle.rlsf_machine.specs.WellFormed.{IsWellFormed}
+use Rattle.rlsf_machine.proofs.CallerWords.{align_at-held, filled_seen}
+use Rattle.rlsf_machine.proofs.Changes.{Holds-unique}
+use Rattle.rlsf_machine.specs.Sized.{IsSizedFor, live_count}
+use Rattle.rlsf_machine.proofs.Fillings.{AreAlike-filled}
+use Rattle.rlsf_machine.proofs.SizedWords.{count_filled, sized_filled}
+use Rattle.rlsf_table.specs.Table.{Table}
+use Rattle.rlsf_blocks.specs.Laws.{read_from}
+use Rattle.rlsf_heap.specs.Heap.{HeapView, PayloadView, heap_view, payload_view}
+use Rattle.rlsf_heap.specs.Reallocation.{owned_by}
+use Rattle.rlsf_heap.proofs.Reallocating.{IsBackIn, block, fills, held, held_before, is_state, old_block, state, wide_before}
+
+module _ {fllen sllen : ℕ} {m n : Space} {x : Table} (k : State) {es : List Entry} {key align : ℕ} {p : Piece} (b : IsBackIn fllen sllen m n x (read_from m k) es key p align)
+    (old : HeapView) {ledger : ℕ} (view : heap_view m x k ledger ≡ old) (pay : PayloadView) {mark : ℕ} (is : payload_view p align mark ≡ pay) where
+  pub well : IsWellFormed fllen sllen (range_of old.memory) old.state
+  well = subst (λ (o : HeapView). IsWellFormed fllen sllen (range_of o.memory) o.state) view b.old.well_formed
+
+  -- the payload's bytes are filled in
+  pub fills_view : Fills old.state pay.start pay.bytes (filled old.state pay.start pay.bytes)
+  fills_view = subst (λ (o : HeapView × PayloadView). Fills o.0.state o.1.start o.1.bytes (filled o.0.state o.1.start o.1.bytes)) (λ i. (view i, is i)) (fills b)
+
+  -- it is live with its alignment
+  pub live_view : align_at old.state pay.start ≡ Some pay.align
+  live_view =
+      subst (λ (o : HeapView × PayloadView). align_at o.0.state o.1.start ≡ Some o.1.align) (λ i. (view i, is i))
+      (align_at-held b.old.well_formed p.start (old_block b) (held_before b) ∙ ap Some (wide_before b))
+
+  state_view : state b ≡ owned_by old.state pay
+  state_view = is_state b ∙ (λ i. filled (view i).state (is i).start (is i).bytes)
+
+  -- a reallocation of its block is one of it
+  pub did_view : {size : ℕ} {reply : Option ℕ} {t : State} → Reallocates sllen (state b) (block b).payload size reply t → Reallocates sllen (owned_by old.state pay) pay.start size reply t
+  did_view {size} {reply} {t} step =
+      let place : (block b).payload ≡ pay.start = (held b).1 ∙ ap (λ (q : PayloadView). q.start) is in
+      subst (λ (o : State × ℕ). Reallocates sllen o.0 o.1 size reply t) (λ i. (state_view i, place i)) step
+
+  pub stayed_view : {size : ℕ} {reply : Option ℕ} {t : State} → ReallocatesWithoutMove (state b) (block b).payload size reply t → ReallocatesWithoutMove (owned_by old.state pay) pay.start size reply t
+  stayed_view {size} {reply} {t} step =
+      let place : (block b).payload ≡ pay.start = (held b).1 ∙ ap (λ (q : PayloadView). q.start) is in
+      subst (λ (o : State × ℕ). ReallocatesWithoutMove o.0 o.1 size reply t) (λ i. (state_view i, place i)) step
+
+  -- where it has room to stay, its block has a plan that doesn't move it
+  pub room_view : (size : ℕ) → HasRoomToStay old.state pay.start size → (q : Plan) × (unmoved_plan (state b) (block b) size ≡ Some q)
+  room_view size room =
+      let (u, q, holds, first) = subst (λ (o : HeapView × PayloadView). HasRoomToStay o.0.state o.1.start size) (λ i. (sym view i, sym is i)) room in
+      let one : u ≡ old_block b = Holds-unique b.old.well_formed p.start u (old_block b) holds (held_before b) in
+      (q, subst (λ (y : Used). or_else (in_place (read_from m k) y size) (into_next (read_from m k) y size) ≡ Some q) one first)
+
+  -- ---- where it stays as it is
+
+  module _ (now : State) (same : now ≡ state b) where
+    now_is : now ≡ owned_by old.state pay
+    now_is = same ∙ state_view
+
+    pub alike_view : AreAlike old.state now
+    alike_view = subst (AreAlike old.state) (sym now_is) (AreAlike-filled fills_view)
+
+    pub aligns_view : align_at now ≡ align_at old.state
+    aligns_view = ap align_at now_is ∙ (λ i a. (filled_seen well (owned_by old.state pay) pay.start pay.bytes fills_view).aligns a i)
+
+    pub count_view : live_count now ≡ live_count old.state
+    count_view = ap live_count now_is ∙ count_filled well (owned_by old.state pay) pay.start pay.bytes (fills_view.block, fills_view.holds) fills_view
+
+    pub sized_view : (count most wide : ℕ) → IsSizedFor sllen count most wide old.state → IsSizedFor sllen count most wide now
+    sized_view count most wide sized = subst (IsSizedFor sllen count most wide) (sym now_is) (sized_filled well (owned_by old.state pay) count most wide sized pay.start pay.bytes (fills_view.block, fills_view.holds) fills_view)

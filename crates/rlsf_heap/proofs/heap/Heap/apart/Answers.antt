@@ -1,0 +1,91 @@
+use Rattle.std.proofs.Common.{◌≡◌, ◌≢◌, ℕ, ◌%◌, ◌++◌, ◌∷◌, [], List, length, set, Some, true, false, sym, ap, subst, ◌∙◌}
+use Rattle.rlsf_base.specs.Ledger.{Entry, Extent, entry_of, extent, IsIssued}
+use Rattle.rlsf_machine.specs.Callers.{align_at, bytes_at}
+use Rattle.rlsf_machine.specs.State.{State}
+use Rattle.rlsf_blocks.specs.Laws.{read_from}
+use Rattle.rlsf_heap.specs.Heap.{AreIssued, HeapView, IsPayload, LiesInChunk, PayloadView, payload_range}
+use Rattle.rlsf_heap.proofs.PayloadsApart.{redeemed_ticket, shown_aligned, shown_apart, shown_inside, shown_live, shown_long}
+use Rattle.rlsf_heap.proofs.Tickets.{both_apart, both_issued, issued-again}
+use Rattle.rlsf_heap.proofs.heap.Heap.apart.Given as given
+use Rattle.rlsf_heap.proofs.heap.Heap.apart.Goals as goal
+use Rattle.rlsf_heap.proofs.heap.Heap.apart.Goals.{After-issued-second}
+
+-- what the tickets of the two payloads show
+abbrev shown : PayloadView → Extent
+shown p = extent p.start (length p.bytes) p.align
+
+abbrev state : (g : given.Over) → After-issued-second g → State
+state g c = read_from c.self.inside.memory c.self.inside.state.state
+
+abbrev entries : (g : given.Over) → After-issued-second g → List Entry
+entries g c = c.self.inside.ledger.entries
+
+-- the first ticket's entry
+first : (g : given.Over) (c : After-issued-second g)
+    → (k : ℕ) × IsIssued (entries g c) k (shown c.args.first) × (c.redeemed-part.new.ledger.entries ≡ set (entries g c) k (entry_of (shown c.args.first) false))
+first g c = redeemed_ticket c.args.first (entries g c) c.redeemed-part.new.ledger.entries c.redeemed-part.ensures.entries
+
+-- the second one's, once the first is redeemed
+second : (g : given.Over) (c : After-issued-second g)
+    → (k : ℕ) × IsIssued (set (entries g c) (first g c).0 (entry_of (shown c.args.first) false)) k (shown c.args.second)
+    × (c.redeemed-other.new.ledger.entries ≡ set (set (entries g c) (first g c).0 (entry_of (shown c.args.first) false)) k (entry_of (shown c.args.second) false))
+second g c =
+    let (k, is, after) = redeemed_ticket c.args.second c.redeemed-part.new.ledger.entries c.redeemed-other.new.ledger.entries c.redeemed-other.ensures.entries in
+    let old = (first g c).2 in
+    (k, subst (λ (es : List Entry). IsIssued es k (shown c.args.second)) old is, after ∙ ap (λ (es : List Entry). set es k (entry_of (shown c.args.second) false)) old)
+
+one : (g : given.Over) (c : After-issued-second g) → IsPayload (state g c) (shown c.args.first)
+one g c = c.self.invariant.tickets.issued (first g c).0 (shown c.args.first) (first g c).1
+
+other : (g : given.Over) (c : After-issued-second g) → IsPayload (state g c) (shown c.args.second)
+other g c =
+    c.self.invariant.tickets.issued (second g c).0 (shown c.args.second)
+    (both_issued (entries g c) (state g c) c.self.invariant.tickets (first g c).0 (second g c).0 (shown c.args.first) (shown c.args.second) (first g c).1 (second g c).1)
+
+differ : (g : given.Over) (c : After-issued-second g) → c.args.first.start ≢ c.args.second.start
+differ g c = both_apart (entries g c) (state g c) c.self.invariant.tickets (first g c).0 (second g c).0 (shown c.args.first) (shown c.args.second) (first g c).1 (second g c).1
+
+pub invariant_of-self : goal.invariant_of-self
+invariant_of-self g c =
+    let v = ap shown c.redeemed-part.ensures.parts in
+    let w = ap shown c.redeemed-other.ensures.parts in
+    let all = c.issued-second.ensures.entries
+    ∙ (λ i. c.issued-first.ensures.entries i ++ entry_of (w i) true ∷ [])
+    ∙ (λ i. ((second g c).2 i ++ entry_of (v i) true ∷ []) ++ entry_of (shown c.args.second) true ∷ []) in
+    record {
+      valid = c.self.invariant.valid;
+      stands = c.self.invariant.stands;
+      is_bare = c.self.invariant.is_bare;
+      tickets = subst (AreIssued (state g c)) (sym all)
+          (issued-again (entries g c) (state g c) c.self.invariant.tickets (first g c).0 (second g c).0 (shown c.args.first) (shown c.args.second) (first g c).1 (second g c).1);
+      counted = c.self.invariant.counted;
+    }
+
+pub returns-clause-differ : goal.returns-clause-differ
+returns-clause-differ g c = differ g c
+
+pub returns-clause-apart : goal.returns-clause-apart
+returns-clause-apart g c = shown_apart c.self.invariant.stands.well_formed (shown c.args.first) (shown c.args.second) (one g c) (other g c) (differ g c)
+
+pub returns-clause-live : goal.returns-clause-live
+returns-clause-live g c =
+    let w = c.self.invariant.stands.well_formed in
+    subst (λ (o : HeapView). (align_at o.state c.args.first.start ≡ Some c.args.first.align) × (align_at o.state c.args.second.start ≡ Some c.args.second.align)) c.self.view_is
+    (shown_live w (shown c.args.first) (one g c), shown_live w (shown c.args.second) (other g c))
+
+pub returns-clause-long : goal.returns-clause-long
+returns-clause-long g c =
+    let w = c.self.invariant.stands.well_formed in
+    subst (λ (o : HeapView). (length c.args.first.bytes ≡ length (bytes_at o.state c.args.first.start)) × (length c.args.second.bytes ≡ length (bytes_at o.state c.args.second.start))) c.self.view_is
+    (shown_long w (shown c.args.first) (one g c), shown_long w (shown c.args.second) (other g c))
+
+pub returns-clause-aligned : goal.returns-clause-aligned
+returns-clause-aligned g c =
+    let w = c.self.invariant.stands.well_formed in
+    (shown_aligned w (shown c.args.first) (one g c), shown_aligned w (shown c.args.second) (other g c))
+
+pub returns-clause-inside : goal.returns-clause-inside
+returns-clause-inside g c =
+    let w = c.self.invariant.stands.well_formed in
+    subst (λ (o : HeapView). LiesInChunk o.state (payload_range c.args.first) × LiesInChunk o.state (payload_range c.args.second)) c.self.view_is
+    (shown_inside w (shown c.args.first) (one g c), shown_inside w (shown c.args.second) (other g c))

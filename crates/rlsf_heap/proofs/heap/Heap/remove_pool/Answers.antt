@@ -1,0 +1,78 @@
+use Rattle.std.proofs.Common.{◌≡◌, arith, refl, sym, ◌∙◌, ap, subst}
+use Rattle.rlsf_base.specs.Space.{range_of}
+use Rattle.rlsf_machine.specs.ChunkRows.{IsRow}
+use Rattle.rlsf_machine.specs.Remove.{IsIdle, Removes, removed}
+use Rattle.rlsf_machine.specs.Run.{remove}
+use Rattle.rlsf_machine.specs.State.{State}
+use Rattle.rlsf_machine.specs.WellFormed.{IsWellFormed}
+use Rattle.rlsf_machine.proofs.CallerWords.{same_seen}
+use Rattle.rlsf_machine.proofs.Callers.{callers_see_map}
+use Rattle.rlsf_machine.proofs.SizedWords.{count_removed}
+use Rattle.rlsf_table.proofs.Parameters.{IsValid-widest}
+use Rattle.rlsf_blocks.specs.Blocks.{walked}
+use Rattle.rlsf_blocks.specs.Laws.{read_from}
+use Rattle.rlsf_blocks.specs.StandsFor.{contents, StandsFor}
+use Rattle.rlsf_tlsf.specs.Steps.Moves.{bare}
+use Rattle.rlsf_tlsf.proofs.Removed.{IsRemovable-row, untouched_gone, untouched_removed}
+use Rattle.rlsf_heap.specs.Heap.{HeapView}
+use Rattle.rlsf_heap.proofs.Arrivals.{IsHeap-arrived, Steps-arrived, bare-kept, stepped, view_well_formed}
+use Rattle.rlsf_heap.proofs.LiveCounts.{live_count-same}
+use Rattle.rlsf_heap.proofs.Read.{issued-same}
+use Rattle.rlsf_heap.proofs.heap.Heap.remove_pool.Given as given
+use Rattle.rlsf_heap.proofs.heap.Heap.remove_pool.Goals as goal
+use Rattle.rlsf_heap.proofs.heap.Heap.remove_pool.Goals.{After-remove}
+
+pub remove_chunks-requires : goal.remove_chunks-requires
+remove_chunks-requires g c =
+    let is = c.self.invariant in
+    let row = subst (λ (o : HeapView). IsRow o.state (walked c.args.range)) (sym c.self.view_is) c.requires.row in
+    let idle = subst (λ (o : HeapView). IsIdle o.state (walked c.args.range)) (sym c.self.view_is) c.requires.idle in
+    (omega arith, (IsValid-widest g.FLBitmap.BitPattern.width_limit is.valid, (_, is.stands, row, idle)))
+
+-- the heap's state as the call begins, and without the chunks
+abbrev before : (g : given.Over) (c : After-remove g) → State
+before g c = read_from c.self.inside.memory c.self.inside.state.state
+
+abbrev after : (g : given.Over) (c : After-remove g) → State
+after g c = removed (walked c.args.range) (before g c)
+
+standing : (g : given.Over) (c : After-remove g) → StandsFor g.row.FLLEN g.row.SLLEN (contents c.remove_chunks.new.memory c.remove_chunks.new.table) (after g c)
+standing g c =
+    let row = subst (λ (o : HeapView). IsRow o.state (walked c.args.range)) (sym c.self.view_is) c.requires.row in
+    let idle = subst (λ (o : HeapView). IsIdle o.state (walked c.args.range)) (sym c.self.view_is) c.requires.idle in
+    (c.remove_chunks.ensures.step (before g c) c.self.invariant.stands row idle).0
+
+-- what is kept of the state is the one without them
+kept : (g : given.Over) (c : After-remove g) → c.remove.new.self.state ≡ bare (after g c)
+kept g c = c.remove.ensures ∙ ap (removed (walked c.args.range)) (sym (bare-kept c.self.invariant))
+
+pub invariant_of-self : goal.invariant_of-self
+invariant_of-self g c =
+    IsHeap-arrived (standing g c) c.remove.new.self.state (kept g c) c.self.invariant.valid c.self.inside.ledger.entries
+    (issued-same (before g c) (after g c) refl c.self.invariant.tickets) c.self.inside.live (c.self.invariant.counted ∙ live_count-same (before g c) (after g c) refl)
+
+abbrev now : (g : given.Over) (c : After-remove g) → State
+now g c = read_from c.remove_chunks.new.memory c.remove.new.self.state
+
+did : (g : given.Over) (c : After-remove g) → Removes c.args.self.now.state (walked c.args.range) (now g c)
+did g c = stepped (standing g c) c.remove.new.self.state (kept g c) c.self.inside.memory c.self.inside.state.state c.args.self.now c.self.view_is (λ old. Removes old (walked c.args.range)) refl
+
+well : (g : given.Over) (c : After-remove g) → IsWellFormed g.row.FLLEN g.row.SLLEN (range_of c.args.self.now.memory) c.args.self.now.state
+well g c = view_well_formed c.self.invariant c.args.self.now c.self.view_is
+
+pub returns-clause-step : goal.returns-clause-step
+returns-clause-step g c = Steps-arrived (standing g c) c.remove.new.self.state (kept g c) c.self.inside.ledger.name (Removes c.args.self.now.state (walked c.args.range)) (did g c)
+
+pub returns-clause-untouched : goal.returns-clause-untouched
+returns-clause-untouched g c = untouched_removed (well g c) (walked c.args.range) c.requires.row c.requires.idle (now g c) (did g c)
+
+pub returns-clause-gone : goal.returns-clause-gone
+returns-clause-gone g c = untouched_gone (well g c) (walked c.args.range) c.requires.row c.requires.idle (now g c) (did g c)
+
+pub returns-clause-aligns : goal.returns-clause-aligns
+returns-clause-aligns g c = (same_seen c.args.self.now.state (now g c)
+    (callers_see_map g.row.FLLEN g.row.SLLEN (range_of c.args.self.now.memory) c.args.self.now.state (now g c) (remove (walked c.args.range)) (well g c)
+    (IsRemovable-row (well g c) (walked c.args.range) c.requires.row c.requires.idle) (did g c))).aligns
+
+pub returns-clause-count : goal.returns-clause-count
+returns-clause-count g c = count_removed (well g c) (now g c) (walked c.args.range) (IsRemovable-row (well g c) (walked c.args.range) c.requires.row c.requires.idle) (did g c)

@@ -1,0 +1,77 @@
+//! What is true of any two payloads that are out at the same time.
+ghost use Rattle.std.specs.Prelude.{◌≡◌, ◌≢◌, ◌%◌, ◌++◌, ◌∷◌, [], Some, length, true};
+ghost use Rattle.rlsf_base.specs.Ledger.{entry_of, extent};
+ghost use Rattle.rlsf_base.specs.Range.{AreApart};
+ghost use Rattle.rlsf_machine.specs.Callers.{align_at, bytes_at};
+ghost use Rattle.rlsf_heap.specs.Heap.{LiesInChunk, payload_range, payload_view};
+ghost use Rattle.rlsf_heap.specs.Renewed.{IsRedeemed};
+
+use crate::heap::Heap;
+use crate::payload::Payload;
+use rlsf_base::memory::Part;
+use rlsf_base::memory::ledger::Ledger;
+use rlsf_int::BitPattern;
+
+impl<FLBitmap: BitPattern, SLBitmap: BitPattern, const FLLEN: usize, const SLLEN: usize> Heap<
+    FLBitmap,
+    SLBitmap,
+    FLLEN,
+    SLLEN,
+> {
+    /// Returns two payloads unchanged, and does nothing. Its contract states the laws of payloads that are out at the same
+    /// time, so that a check proves them:
+    ///
+    /// - Their addresses differ, and they have no byte in common.
+    /// - Each is live, with its alignment, and as long as the state says.
+    /// - The address of each is a multiple of its alignment.
+    /// - The bytes of each lie in one chunk, behind 16 or more bytes of it and before its sentinel.
+    ///
+    /// Both must be payloads of this heap.
+    pub fn apart(&mut self, first: Payload, second: Payload) -> (Payload, Payload)
+        requires first { first.identity ≡ self.old.identity }
+        requires second { second.identity ≡ self.old.identity }
+        ensures heap { self.new ≡ self.old }
+        ensures payloads { (result.0 ≡ first) × (result.1 ≡ second) }
+        ensures differ { first.start ≢ second.start }
+        ensures apart { AreApart (payload_range first) (payload_range second) }
+        ensures live { (align_at self.old.state first.start ≡ Some first.align) × (align_at self.old.state second.start ≡ Some second.align) }
+        ensures long { (length first.bytes ≡ length (bytes_at self.old.state first.start)) × (length second.bytes ≡ length (bytes_at self.old.state second.start)) }
+        ensures aligned { (first.start % first.align ≡ 0) × (second.start % second.align ≡ 0) }
+        ensures inside { LiesInChunk self.old.state (payload_range first) × LiesInChunk self.old.state (payload_range second) }
+    {
+        let (part, align) = first.redeemed(&mut self.ledger);
+        let (other, wide) = second.redeemed(&mut self.ledger);
+        let first = Payload::issued(part, align, &mut self.ledger);
+        let second = Payload::issued(other, wide, &mut self.ledger);
+        (first, second)
+    }
+}
+
+impl Payload {
+    // Redeems the payload's ticket. Returns its bytes and its alignment.
+    fn redeemed(self, ledger: &mut Ledger) -> (Part, usize)
+        requires { self.identity.ledger ≡ ledger.old.name }
+        ensures parts { payload_view result.0 result.1 self.identity.ledger ≡ self }
+        ensures name { ledger.new.name ≡ ledger.old.name }
+        ensures entries { IsRedeemed self ledger.old.entries ledger.new.entries }
+    {
+        let align = self.align();
+        let (part, ticket) = self.into_parts();
+        ledger.redeem(ticket);
+        (part, align)
+    }
+
+    // Makes a payload of bytes that have no ticket.
+    fn issued(part: Part, align: usize, ledger: &mut Ledger) -> Payload
+        ensures payload { result ≡ payload_view part align ledger.old.name }
+        ensures name { ledger.new.name ≡ ledger.old.name }
+        ensures entries { ledger.new.entries ≡ ledger.old.entries ++ entry_of (extent part.start (length part.bytes) align) true ∷ [] }
+    {
+        let ticket = ledger.issue(part.start(), part.len(), align);
+        Payload {
+            part,
+            align,
+            ticket,
+        }
+    }
+}

@@ -1,0 +1,56 @@
+//! Deallocation of payloads whose bytes are here.
+ghost use Rattle.std.specs.Prelude.{◌≡◌, ◌≢◌, ◌≤◌, ◌+◌, ℕ, None, length};
+ghost use Rattle.rlsf_machine.specs.Callers.{align_at};
+ghost use Rattle.rlsf_machine.specs.Release.{Deallocates};
+ghost use Rattle.rlsf_machine.specs.Sized.{IsSizedFor, live_count};
+ghost use Rattle.rlsf_heap.specs.Heap.{IsOwners, IsWritten};
+ghost use Rattle.rlsf_heap.specs.Settled.{IsSettled};
+
+use crate::heap::Heap;
+use crate::payload::Payload;
+use rlsf_blocks::{deallocate_block, load_block_of};
+use rlsf_int::BitPattern;
+
+impl<FLBitmap: BitPattern, SLBitmap: BitPattern, const FLLEN: usize, const SLLEN: usize> Heap<
+    FLBitmap,
+    SLBitmap,
+    FLLEN,
+    SLLEN,
+> {
+    ghost use Rattle.rlsf_heap.specs.Heap.{Steps};
+
+    /// Deallocates a payload, as `deallocate` does. Its block becomes free, and is joined with the free block before it and the free block
+    /// behind it, if they exist. The joined block is the newest free block.
+    ///
+    /// No byte becomes raw: if no byte of the memory was raw, none is (`settled`). The allocator's words overwrite some of
+    /// the payload's bytes. After `deallocate`, the others are raw.
+    ///
+    /// The payload must be one of this heap, and its bytes must be here.
+    pub fn deallocate_written(&mut self, payload: Payload)
+        requires identity { payload.identity ≡ self.old.identity }
+        requires written { IsWritten payload }
+        ensures step { Steps FLLEN SLLEN self.new (Deallocates self.old.state payload.start) }
+        ensures identity { self.new.identity ≡ self.old.identity }
+        ensures place { (self.new.memory.start ≡ self.old.memory.start) × (length self.new.memory.bytes ≡ length self.old.memory.bytes) }
+        ensures owner { IsOwners self.old payload }
+        ensures count { live_count self.old.state ≡ live_count self.new.state + 1 }
+        ensures bounds { (count size align : ℕ) → IsSizedFor SLLEN count size align self.old.state → IsSizedFor SLLEN count size align self.new.state }
+        ensures chunks { self.new.state.chunks ≡ self.old.state.chunks }
+        ensures gone { align_at self.new.state payload.start ≡ None }
+        ensures aligns { (a : ℕ) → a ≢ payload.start → align_at self.new.state a ≡ align_at self.old.state a }
+        ensures settled { IsSettled self.old.memory → IsSettled self.new.memory }
+        ensures touches { self.new.memory.touches ≤ self.old.memory.touches + 33 }
+        ensures grow { self.old.memory.touches ≤ self.new.memory.touches }
+        ensures copied { self.new.memory.copied ≡ self.old.memory.copied }
+    {
+        let (part, ticket) = payload.into_parts();
+        let addr = part.start();
+        self.ledger.redeem(ticket);
+        self.memory.put_back(part);
+        let block = load_block_of(&mut self.memory, addr);
+        let view = self.memory.view();
+        deallocate_block(&mut self.memory, view, &mut self.table, block);
+        self.live -= 1;
+        self.state.deallocate(addr);
+    }
+}

@@ -1,0 +1,180 @@
+//! Pools of a heap: ranges of its memory that are inserted, appended and removed.
+ghost use Rattle.std.specs.Prelude.{◌≡◌, ◌≤◌, ◌+◌, ◌*◌, ◌%◌, ℕ, [], Option, Some, true, false, length, is_some, IfNone, if◌then◌else◌};
+ghost use Rattle.rlsf_base.specs.Addr.{reply};
+ghost use Rattle.rlsf_base.specs.declared.memory.range.Range.{Range};
+ghost use Rattle.rlsf_base.specs.Range.{AreApart, LiesIn};
+ghost use Rattle.rlsf_base.specs.Sizes.{max_pool_size, pool_size_for_payloads};
+ghost use Rattle.rlsf_base.specs.Space.{range_of};
+ghost use Rattle.rlsf_machine.specs.Callers.{align_at};
+ghost use Rattle.rlsf_machine.specs.ChunkRows.{IsRow};
+ghost use Rattle.rlsf_machine.specs.Insert.{Appends, Inserts, IsNext, IsUntouched, aligned_part, cut};
+ghost use Rattle.rlsf_machine.specs.Remove.{IsIdle, Removes};
+ghost use Rattle.rlsf_machine.specs.Sized.{IsSizedFor, live_count};
+ghost use Rattle.rlsf_blocks.specs.Blocks.{walked};
+ghost use Rattle.rlsf_heap.specs.Pools.{has_used};
+ghost use Rattle.rlsf_heap.specs.Settled.{IsSettled};
+
+use crate::heap::Heap;
+use rlsf_base::memory::Range;
+use rlsf_blocks::{Blocks, append_chunks, insert_chunks, remove_chunks};
+use rlsf_int::BitPattern;
+use std::num::NonZeroUsize;
+
+impl<FLBitmap: BitPattern, SLBitmap: BitPattern, const FLLEN: usize, const SLLEN: usize> Heap<
+    FLBitmap,
+    SLBitmap,
+    FLLEN,
+    SLLEN,
+> {
+    ghost use Rattle.rlsf_heap.specs.Heap.{Steps};
+    ghost use Rattle.rlsf_heap.specs.Pools.{RemovesIfIdle};
+
+    /// Inserts a range of the memory as a pool, and makes free chunks of its aligned part. No chunk has fewer than 64
+    /// bytes.
+    ///
+    /// Returns the number of bytes from the range's start to the end of its last chunk. Returns `None` if the range makes
+    /// no chunk; then nothing changes.
+    ///
+    /// Suppose that no payload is live and that the range starts at a multiple of 32. If its length is at least what
+    /// `pool_size_for_payloads` returns for some bounds, the heap is then sized for them (`IsSizedFor`).
+    ///
+    /// The range must lie in the memory and overlap no chunk.
+    pub fn insert_free_block_ptr(&mut self, range: Range) -> Option<NonZeroUsize>
+        requires lies_in { LiesIn range self.old.memory.start (length self.old.memory.bytes) }
+        requires untouched { IsUntouched self.old.state.chunks range }
+        ensures step { Steps FLLEN SLLEN self.new (Inserts FLLEN self.old.state range (reply result)) }
+        ensures identity { self.new.identity ≡ self.old.identity }
+        ensures place { (self.new.memory.start ≡ self.old.memory.start) × (length self.new.memory.bytes ≡ length self.old.memory.bytes) }
+        ensures untouched { (r : Range) → IsUntouched self.old.state.chunks r → AreApart range r → IsUntouched self.new.state.chunks r }
+        ensures aligns { align_at self.new.state ≡ align_at self.old.state }
+        ensures count { live_count self.new.state ≡ live_count self.old.state }
+        ensures bounds { (count size align : ℕ) → IsSizedFor SLLEN count size align self.old.state → IsSizedFor SLLEN count size align self.new.state }
+        ensures pool { (count size align len : ℕ) → pool_size_for_payloads FLLEN SLLEN count size align ≡ Some len → range.start % 32 ≡ 0 → len ≤ range.len
+            → live_count self.old.state ≡ 0 → IsSizedFor SLLEN count size align self.new.state }
+        ensures refused { IfNone result (self.new.memory.bytes ≡ self.old.memory.bytes) }
+        ensures settled { IsSettled self.old.memory → IsSettled self.new.memory }
+        ensures touches { self.new.memory.touches ≤ self.old.memory.touches + 13 * length (cut (max_pool_size FLLEN) (aligned_part range)) }
+        ensures grow { self.old.memory.touches ≤ self.new.memory.touches }
+        ensures copied { self.new.memory.copied ≡ self.old.memory.copied }
+    {
+        let taken = insert_chunks(&mut self.memory, &mut self.table, range);
+        self.state.insert(FLLEN, range.start, range.len);
+        taken
+    }
+
+    /// Inserts a range of the memory as a pool, as `insert_free_block_ptr` does, but does not return the number of bytes
+    /// taken.
+    ///
+    /// The range must lie in the memory and overlap no chunk.
+    pub fn insert_free_block(&mut self, range: Range)
+        requires lies_in { LiesIn range self.old.memory.start (length self.old.memory.bytes) }
+        requires untouched { IsUntouched self.old.state.chunks range }
+        ensures step { Steps FLLEN SLLEN self.new (λ t. (taken : Option ℕ) × Inserts FLLEN self.old.state range taken t) }
+        ensures identity { self.new.identity ≡ self.old.identity }
+        ensures place { (self.new.memory.start ≡ self.old.memory.start) × (length self.new.memory.bytes ≡ length self.old.memory.bytes) }
+        ensures untouched { (r : Range) → IsUntouched self.old.state.chunks r → AreApart range r → IsUntouched self.new.state.chunks r }
+        ensures aligns { align_at self.new.state ≡ align_at self.old.state }
+        ensures count { live_count self.new.state ≡ live_count self.old.state }
+        ensures bounds { (count size align : ℕ) → IsSizedFor SLLEN count size align self.old.state → IsSizedFor SLLEN count size align self.new.state }
+        ensures pool { (count size align len : ℕ) → pool_size_for_payloads FLLEN SLLEN count size align ≡ Some len → range.start % 32 ≡ 0 → len ≤ range.len
+            → live_count self.old.state ≡ 0 → IsSizedFor SLLEN count size align self.new.state }
+        ensures unchanged { cut (max_pool_size FLLEN) (aligned_part range) ≡ [] → self.new.memory.bytes ≡ self.old.memory.bytes }
+        ensures settled { IsSettled self.old.memory → IsSettled self.new.memory }
+        ensures touches { self.new.memory.touches ≤ self.old.memory.touches + 13 * length (cut (max_pool_size FLLEN) (aligned_part range)) }
+        ensures grow { self.old.memory.touches ≤ self.new.memory.touches }
+        ensures copied { self.new.memory.copied ≡ self.old.memory.copied }
+    {
+        let _ = self.insert_free_block_ptr(range);
+    }
+
+    /// Appends a range of the memory that begins at the end of a chunk, and returns the number of bytes taken. If it
+    /// returns 0, nothing changes.
+    ///
+    /// - If there is a longest chunk (`FLLEN` is below 59), the range becomes chunks of its own, as
+    ///   `insert_free_block_ptr` makes them.
+    /// - Otherwise the chunk grows by the range's length, rounded down to a multiple of 32. Its old sentinel, any free
+    ///   block directly before that, and the new bytes except a new sentinel become one free block. This is the newest of
+    ///   all free blocks.
+    ///
+    /// The range must lie in the memory, overlap no chunk, and begin where a chunk ends.
+    pub fn append_free_block_ptr(&mut self, range: Range) -> usize
+        requires { IsNext (range_of self.old.memory) self.old.state range }
+        ensures step { Steps FLLEN SLLEN self.new (Appends FLLEN self.old.state range result) }
+        ensures identity { self.new.identity ≡ self.old.identity }
+        ensures place { (self.new.memory.start ≡ self.old.memory.start) × (length self.new.memory.bytes ≡ length self.old.memory.bytes) }
+        ensures untouched { (r : Range) → IsUntouched self.old.state.chunks r → AreApart range r → IsUntouched self.new.state.chunks r }
+        ensures aligns { align_at self.new.state ≡ align_at self.old.state }
+        ensures count { live_count self.new.state ≡ live_count self.old.state }
+        ensures bounds { (count size align : ℕ) → IsSizedFor SLLEN count size align self.old.state → IsSizedFor SLLEN count size align self.new.state }
+        ensures unchanged { result ≡ 0 → self.new.memory.bytes ≡ self.old.memory.bytes }
+        ensures touches { self.new.memory.touches ≤ self.old.memory.touches + (if is_some (max_pool_size FLLEN) then 13 * length (cut (max_pool_size FLLEN) (aligned_part range)) else 34) }
+        ensures grow { self.old.memory.touches ≤ self.new.memory.touches }
+        ensures copied { self.new.memory.copied ≡ self.old.memory.copied }
+    {
+        let taken = append_chunks(&mut self.memory, &mut self.table, range);
+        self.state.append(FLLEN, range.start, range.len);
+        taken
+    }
+
+    /// Removes an inserted range: its chunks, and the free blocks in them. The removed part is the range from its start,
+    /// rounded up to a multiple of 32, to its end. The other free blocks keep their order, and every used block is
+    /// unchanged. Afterwards no chunk overlaps the removed part.
+    ///
+    /// The removed part must be contiguous whole chunks, or empty. No block in it may be used, so none of its payloads is
+    /// live.
+    pub fn remove_pool(&mut self, range: Range)
+        requires row { IsRow self.old.state (walked range) }
+        requires idle { IsIdle self.old.state (walked range) }
+        ensures step { Steps FLLEN SLLEN self.new (Removes self.old.state (walked range)) }
+        ensures identity { self.new.identity ≡ self.old.identity }
+        ensures place { (self.new.memory.start ≡ self.old.memory.start) × (length self.new.memory.bytes ≡ length self.old.memory.bytes) }
+        ensures untouched { (r : Range) → IsUntouched self.old.state.chunks r → IsUntouched self.new.state.chunks r }
+        ensures gone { IsUntouched self.new.state.chunks (walked range) }
+        ensures aligns { align_at self.new.state ≡ align_at self.old.state }
+        ensures count { live_count self.new.state ≡ live_count self.old.state }
+        ensures touches { self.new.memory.touches + 9 * length self.new.state.chunks ≤ self.old.memory.touches + 9 * length self.old.state.chunks }
+        ensures grow { self.old.memory.touches ≤ self.new.memory.touches }
+        ensures copied { self.new.memory.copied ≡ self.old.memory.copied }
+    {
+        remove_chunks(&mut self.memory, &mut self.table, range);
+        self.state.remove(range.start, range.len);
+    }
+    /// Removes an inserted range, as `remove_pool` does, if no block in it is used, and returns whether it did. Otherwise
+    /// nothing changes.
+    ///
+    /// The range from its start, rounded up to a multiple of 32, to its end must be contiguous whole chunks, or empty.
+    pub fn try_remove_pool(&mut self, range: Range) -> bool
+        requires { IsRow self.old.state (walked range) }
+        ensures step { Steps FLLEN SLLEN self.new (RemovesIfIdle self.old.state (walked range) result) }
+        ensures identity { self.new.identity ≡ self.old.identity }
+        ensures place { (self.new.memory.start ≡ self.old.memory.start) × (length self.new.memory.bytes ≡ length self.old.memory.bytes) }
+        ensures untouched { (r : Range) → IsUntouched self.old.state.chunks r → IsUntouched self.new.state.chunks r }
+        ensures gone { result ≡ true → IsUntouched self.new.state.chunks (walked range) }
+        ensures same { result ≡ false → self.new ≡ self.old }
+        ensures aligns { align_at self.new.state ≡ align_at self.old.state }
+        ensures count { live_count self.new.state ≡ live_count self.old.state }
+        ensures grow { self.old.memory.touches ≤ self.new.memory.touches }
+        ensures copied { self.new.memory.copied ≡ self.old.memory.copied }
+    {
+        // What `memory_ref` says of every heap: its state is well-formed.
+        let _ = self.memory_ref();
+        if any_used(self.iter_blocks(range)) {
+            return false;
+        }
+        self.remove_pool(range);
+        true
+    }
+}
+
+/// Returns whether one of some blocks is used.
+fn any_used(blocks: Blocks<'_>) -> bool
+    ensures { result ≡ has_used blocks.entry }
+{
+    let mut blocks = blocks;
+    while let Some(block) = blocks.next() {
+        if block.is_occupied() {
+            return true;
+        }
+    }
+    false
+}

@@ -1,0 +1,107 @@
+//! What can be read of a heap: its blocks, its class table, and its memory.
+ghost use Rattle.std.specs.Prelude.{◌≡◌, ◌<◌, ℕ};
+ghost use Rattle.std.specs.List.{list_any};
+ghost use Rattle.std.specs.Map.Iter.{GivesInOrder};
+ghost use Rattle.rlsf_int.specs.Bits.{bit};
+ghost use Rattle.rlsf_base.specs.Addr.{reply};
+ghost use Rattle.rlsf_base.specs.declared.memory.range.Range.{Range};
+ghost use Rattle.rlsf_base.specs.Range.{end_of};
+ghost use Rattle.rlsf_machine.specs.Allocate.{has_class};
+ghost use Rattle.rlsf_machine.specs.ChunkRows.{IsRow};
+ghost use Rattle.rlsf_machine.specs.Lists.{IsIn};
+ghost use Rattle.rlsf_machine.specs.Sized.{live_count};
+ghost use Rattle.rlsf_table.specs.Table.{class_at, is_in_row, newest_of, of_class};
+ghost use Rattle.rlsf_blocks.specs.Blocks.{AreBlocks, walked};
+
+use crate::heap::Heap;
+use rlsf_base::memory::{Addr, OpenMemory, Range};
+use rlsf_blocks::{BlockInfo, Blocks, chunk_end, walk_blocks};
+use rlsf_int::{BitPattern, Bitmap};
+use std::num::NonZeroUsize;
+
+impl<FLBitmap: BitPattern, SLBitmap: BitPattern, const FLLEN: usize, const SLLEN: usize> Heap<
+    FLBitmap,
+    SLBitmap,
+    FLLEN,
+    SLLEN,
+> {
+    ghost use Rattle.rlsf_heap.specs.Heap.{Stands};
+
+    /// Returns the number of live payloads: those that were allocated and not yet deallocated.
+    pub fn live(&self) -> usize
+        ensures { result ≡ live_count self.now.state }
+    {
+        self.live
+    }
+
+    /// Returns the address of the end of the chunk that begins at `addr`. This is the address just past its sentinel. The
+    /// iteration over the chunk's blocks is not counted as word accesses.
+    ///
+    /// A chunk must begin at `addr`.
+    pub fn chunk_end(&self, addr: usize) -> usize
+        requires { (c : Range) × IsIn c self.now.state.chunks × (c.start ≡ addr) }
+        ensures { (c : Range) → IsIn c self.now.state.chunks → c.start ≡ addr → result ≡ end_of c }
+    {
+        chunk_end(&self.memory, addr)
+    }
+
+    /// Returns an iterator over the blocks of a range, used and free, in address order. It begins at the range's start,
+    /// rounded up to a multiple of 32, and stops at the range's end. It skips the sentinels at the ends of chunks. It
+    /// reads no byte of a payload.
+    ///
+    /// This part of the range must be contiguous whole chunks, or empty.
+    pub fn iter_blocks(&self, range: Range) -> Blocks<'_>
+        requires { IsRow self.now.state (walked range) }
+        ensures blocks { AreBlocks self.now.state (walked range) result }
+        ensures runs { GivesInOrder BlockInfo }
+    {
+        walk_blocks(&self.memory, range)
+    }
+
+    /// Returns the address of the newest free block of a class, given by its row `fl` and its index `sl` in the row.
+    /// Returns `None` if and only if no block of the class is free. An allocation that uses a block of the class uses
+    /// this one.
+    ///
+    /// `fl` must be below `FLLEN`, and `sl` below `SLLEN`.
+    pub fn first_free(&self, fl: usize, sl: usize) -> Option<Addr>
+        requires { (fl < FLLEN) × (sl < SLLEN) }
+        ensures { reply result ≡ newest_of (of_class SLLEN fl sl self.now.state.free) }
+    {
+        NonZeroUsize::new(self.table.newest(fl, sl))
+    }
+
+    /// Returns the memory, for reading. Its words and the class table represent the state. The bytes of live payloads are
+    /// out of it.
+    pub fn memory_ref(&self) -> &OpenMemory
+        ensures memory { result.now ≡ self.now.memory }
+        ensures stands { Stands FLLEN SLLEN self.now }
+    {
+        &self.memory
+    }
+}
+
+impl<FLBitmap: Bitmap, SLBitmap: Bitmap, const FLLEN: usize, const SLLEN: usize> Heap<
+    FLBitmap,
+    SLBitmap,
+    FLLEN,
+    SLLEN,
+> {
+    /// Returns the first-level bitmap. The bit of a row is set if and only if there is a free block whose class is in the
+    /// row.
+    pub fn fl_bitmap(&self) -> FLBitmap
+        ensures { (fl : ℕ) → bit (FLBitmap.pattern result) fl ≡ list_any (is_in_row SLLEN fl) self.now.state.free }
+    {
+        self.table.fl_bitmap()
+    }
+
+    /// Returns the second-level bitmap of the row `fl`. The bit of a class is set if and only if there is a free block of
+    /// the class.
+    ///
+    /// `fl` must be below `FLLEN`.
+    pub fn sl_bitmap(&self, fl: usize) -> SLBitmap
+        requires { fl < FLLEN }
+        ensures { (sl : ℕ) → bit (SLBitmap.pattern result) sl ≡ list_any (has_class SLLEN (class_at fl sl)) self.now.state.free }
+    {
+        self.table.sl_bitmap(fl)
+    }
+}

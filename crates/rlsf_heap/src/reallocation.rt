@@ -1,0 +1,186 @@
+//! Reallocations: a payload gets another size.
+ghost use Rattle.std.specs.Prelude.{◌≡◌, ◌≢◌, ◌≤◌, ◌<◌, ◌+◌, ◌%◌, ℕ, Some, None, length, slice_index, IfErr, IfOk, IsErr, IsOk, MatchResult};
+ghost use Rattle.rlsf_base.specs.Layout.{IsLayout};
+ghost use Rattle.rlsf_machine.specs.Callers.{align_at, bytes_at};
+ghost use Rattle.rlsf_machine.specs.NoMove.{ReallocatesWithoutMove};
+ghost use Rattle.rlsf_machine.specs.Reallocate.{HasRoomToStay, Keeps, Reallocates};
+ghost use Rattle.rlsf_machine.specs.Sized.{IsSizedFor, live_count};
+ghost use Rattle.rlsf_machine.specs.State.{AreAlike, State};
+ghost use Rattle.rlsf_heap.specs.Heap.{IsWritten};
+ghost use Rattle.rlsf_heap.specs.Reallocation.{IsKeptHere, moved_to, owned_by};
+ghost use Rattle.rlsf_heap.specs.Settled.{IsSettled};
+
+use crate::heap::Heap;
+use crate::payload::Payload;
+use rlsf_base::memory::{Layout, Range};
+use rlsf_blocks::{load_usable_bytes, used_block};
+use rlsf_int::BitPattern;
+use rlsf_reallocate::{reallocate_block, resize_block};
+
+impl<FLBitmap: BitPattern, SLBitmap: BitPattern, const FLLEN: usize, const SLLEN: usize> Heap<
+    FLBitmap,
+    SLBitmap,
+    FLLEN,
+    SLLEN,
+> {
+    ghost use Rattle.rlsf_heap.specs.Heap.{Steps};
+
+    /// Changes the size of a payload to `size` bytes, and returns it with its alignment. The first bytes are kept, as many
+    /// as both sizes have, and are here. The payload takes the first of these places that is large enough:
+    /// - It stays at its address, with the bytes of its block and of a free block behind it.
+    /// - It moves into the free block before it, joined with those bytes.
+    /// - It moves into a newly allocated block, and the old block is deallocated.
+    ///
+    /// The bytes behind the kept ones are as the memory has them, here or raw. If no byte of the memory is raw, all are here.
+    ///
+    /// Returns the payload as it was, as the error, if and only if no layout has this size and alignment, or this allocation
+    /// is refused; then nothing changes. Within bounds that the heap is sized for (`IsSizedFor`), a reallocation is never
+    /// refused.
+    ///
+    /// The payload must be one of this heap, and its bytes must be here.
+    pub fn reallocate(&mut self, payload: Payload, size: usize) -> Result<Payload, Payload>
+        requires identity { payload.identity ≡ self.old.identity }
+        requires written { IsWritten payload }
+        ensures step { Steps FLLEN SLLEN self.new (λ t. IsLayout size payload.align → Reallocates SLLEN (owned_by self.old.state payload) payload.start size (moved_to result) t) }
+        ensures layout { IsOk result → IsLayout size payload.align }
+        ensures identity { self.new.identity ≡ self.old.identity }
+        ensures place { (self.new.memory.start ≡ self.old.memory.start) × (length self.new.memory.bytes ≡ length self.old.memory.bytes) }
+        ensures payload { MatchResult result (λ p. p.identity ≡ self.old.identity) (λ p. p.identity ≡ self.old.identity) }
+        ensures align { MatchResult result (λ p. p.align ≡ payload.align) (λ p. p.align ≡ payload.align) }
+        ensures back { IfErr result (λ p. (p.start ≡ payload.start) × (p.bytes ≡ payload.bytes) × IsWritten p) }
+        ensures live { IfOk result (λ p. align_at self.new.state p.start ≡ Some payload.align) }
+        ensures long { IfOk result (λ p. length p.bytes ≡ length (bytes_at self.new.state p.start)) }
+        ensures aligned { IfOk result (λ p. p.start % payload.align ≡ 0) }
+        ensures sized { IfOk result (λ p. size ≤ length p.bytes) }
+        ensures few { IfOk result (λ p. length p.bytes < size + 32) }
+        ensures kept { IfOk result (λ p. Keeps payload.bytes p.bytes) }
+        ensures each { IfOk result (λ p. (k : ℕ) → k < length payload.bytes → k < length p.bytes → slice_index p.bytes k ≡ slice_index payload.bytes k) }
+        ensures here { IfOk result (λ p. IsKeptHere payload p) }
+        ensures shrunk { IfOk result (λ p. length p.bytes ≤ length payload.bytes → IsWritten p) }
+        ensures written { IsSettled self.old.memory → IfOk result (λ p. IsWritten p) }
+        ensures settled { IsSettled self.old.memory → IsSettled self.new.memory }
+        ensures new { IfOk result (λ p. p.start ≢ payload.start → align_at self.old.state p.start ≡ None) }
+        ensures aligns { IfOk result (λ p. (a : ℕ) → a ≢ payload.start → a ≢ p.start → align_at self.new.state a ≡ align_at self.old.state a) }
+        ensures room { (count most align : ℕ) → IsSizedFor SLLEN count most align self.old.state → live_count self.old.state ≤ count → size ≤ most → payload.align ≤ align → IsLayout size payload.align → IsOk result }
+        ensures count { live_count self.new.state ≡ live_count self.old.state }
+        ensures bounds { (count most align : ℕ) → IsSizedFor SLLEN count most align self.old.state → size ≤ most → payload.align ≤ align → IsSizedFor SLLEN count most align self.new.state }
+        ensures chunks { self.new.state.chunks ≡ self.old.state.chunks }
+        ensures same { IfErr result (λ p. AreAlike self.old.state self.new.state) }
+        ensures same_aligns { IfErr result (λ p. align_at self.new.state ≡ align_at self.old.state) }
+        ensures touches { self.new.memory.touches ≤ self.old.memory.touches + 69 }
+        ensures grow { self.old.memory.touches ≤ self.new.memory.touches }
+        ensures copied { self.new.memory.copied ≤ self.old.memory.copied + length payload.bytes }
+        ensures grow_copied { self.old.memory.copied ≤ self.new.memory.copied }
+        ensures stays { HasRoomToStay self.old.state payload.start size → self.new.memory.copied ≡ self.old.memory.copied }
+    {
+        let view = self.memory.view();
+        let align = payload.align();
+        let Ok(layout) = Layout::from_size_align(size, align) else {
+            return Err(payload);
+        };
+        let (part, ticket) = payload.into_parts();
+        let addr = part.start();
+        let len = part.len();
+        self.ledger.redeem(ticket);
+        self.memory.put_back(part);
+        let block = used_block(&mut self.memory, view, addr, align);
+        let moved = reallocate_block::<FLLEN, SLLEN, 0>(
+            &mut self.memory,
+            view,
+            &mut self.table,
+            block,
+            addr,
+            layout,
+        );
+        let Some(to) = moved else {
+            let part = self.memory.take_out(Range { start: addr, len });
+            let ticket = self.ledger.issue(addr, len, align);
+            return Err(Payload {
+                part,
+                align,
+                ticket,
+            });
+        };
+        self.state.reallocate(SLLEN, addr, size);
+        let range = load_usable_bytes(&mut self.memory, to);
+        let part = self.memory.take_out(range);
+        let ticket = self.ledger.issue(range.start, range.len, align);
+        Ok(Payload {
+            part,
+            align,
+            ticket,
+        })
+    }
+
+    /// Changes the size of a payload to `size` bytes without moving it, and returns it with its alignment. It uses the bytes
+    /// of the payload's block and of a free block behind it. The first bytes are kept, as many as both sizes have, and are
+    /// here. No byte is copied.
+    ///
+    /// The bytes behind the kept ones are as the memory has them, here or raw. If no byte of the memory is raw, all are here.
+    ///
+    /// Returns the payload as it was, as the error, if and only if no layout has this size and alignment, or these bytes
+    /// don't suffice; then nothing changes.
+    ///
+    /// The payload must be one of this heap, and its bytes must be here.
+    pub fn reallocate_no_move(&mut self, payload: Payload, size: usize) -> Result<Payload, Payload>
+        requires identity { payload.identity ≡ self.old.identity }
+        requires written { IsWritten payload }
+        ensures step { Steps FLLEN SLLEN self.new (λ t. IsLayout size payload.align → ReallocatesWithoutMove (owned_by self.old.state payload) payload.start size (moved_to result) t) }
+        ensures layout { IsOk result → IsLayout size payload.align }
+        ensures identity { self.new.identity ≡ self.old.identity }
+        ensures place { (self.new.memory.start ≡ self.old.memory.start) × (length self.new.memory.bytes ≡ length self.old.memory.bytes) }
+        ensures payload { MatchResult result (λ p. p.identity ≡ self.old.identity) (λ p. p.identity ≡ self.old.identity) }
+        ensures align { MatchResult result (λ p. p.align ≡ payload.align) (λ p. p.align ≡ payload.align) }
+        ensures there { MatchResult result (λ p. p.start ≡ payload.start) (λ p. p.start ≡ payload.start) }
+        ensures back { IfErr result (λ p. (p.bytes ≡ payload.bytes) × IsWritten p) }
+        ensures live { IfOk result (λ p. align_at self.new.state p.start ≡ Some payload.align) }
+        ensures long { IfOk result (λ p. length p.bytes ≡ length (bytes_at self.new.state p.start)) }
+        ensures aligned { IfOk result (λ p. p.start % payload.align ≡ 0) }
+        ensures sized { IfOk result (λ p. size ≤ length p.bytes) }
+        ensures few { IfOk result (λ p. length p.bytes < size + 32) }
+        ensures kept { IfOk result (λ p. Keeps payload.bytes p.bytes) }
+        ensures each { IfOk result (λ p. (k : ℕ) → k < length payload.bytes → k < length p.bytes → slice_index p.bytes k ≡ slice_index payload.bytes k) }
+        ensures here { IfOk result (λ p. IsKeptHere payload p) }
+        ensures shrunk { IfOk result (λ p. length p.bytes ≤ length payload.bytes → IsWritten p) }
+        ensures written { IsSettled self.old.memory → IfOk result (λ p. IsWritten p) }
+        ensures settled { IsSettled self.old.memory → IsSettled self.new.memory }
+        ensures aligns { align_at self.new.state ≡ align_at self.old.state }
+        ensures count { live_count self.new.state ≡ live_count self.old.state }
+        ensures bounds { (count most align : ℕ) → IsSizedFor SLLEN count most align self.old.state → size ≤ most → payload.align ≤ align → IsSizedFor SLLEN count most align self.new.state }
+        ensures chunks { self.new.state.chunks ≡ self.old.state.chunks }
+        ensures same { IfErr result (λ p. AreAlike self.old.state self.new.state) }
+        ensures touches { self.new.memory.touches ≤ self.old.memory.touches + 28 }
+        ensures grow { self.old.memory.touches ≤ self.new.memory.touches }
+        ensures copied { self.new.memory.copied ≡ self.old.memory.copied }
+    {
+        let view = self.memory.view();
+        let align = payload.align();
+        let Ok(layout) = Layout::from_size_align(size, align) else {
+            return Err(payload);
+        };
+        let (part, ticket) = payload.into_parts();
+        let addr = part.start();
+        let len = part.len();
+        self.ledger.redeem(ticket);
+        self.memory.put_back(part);
+        let block = used_block(&mut self.memory, view, addr, align);
+        if !resize_block(&mut self.memory, view, &mut self.table, block, addr, layout) {
+            let part = self.memory.take_out(Range { start: addr, len });
+            let ticket = self.ledger.issue(addr, len, align);
+            return Err(Payload {
+                part,
+                align,
+                ticket,
+            });
+        }
+        self.state.reallocate(SLLEN, addr, size);
+        let range = load_usable_bytes(&mut self.memory, addr);
+        let part = self.memory.take_out(range);
+        let ticket = self.ledger.issue(range.start, range.len, align);
+        Ok(Payload {
+            part,
+            align,
+            ticket,
+        })
+    }
+}
