@@ -1,10 +1,9 @@
 //! The run: payloads are allocated into slots and freed, through the lock.
 
-use crate::error::BenchError;
 use crate::random::Xorshift;
 use rlsf_base::memory::{Addr, Layout};
 use rlsf_global::GlobalTlsf;
-use std::alloc::Global;
+use std::alloc::{AllocError, Global};
 use std::num::NonZeroUsize;
 use std::sync::Wait;
 
@@ -17,6 +16,24 @@ pub(crate) struct Tally {
     pub(crate) refused: u64,
     /// How many payloads are live.
     pub(crate) live: u64,
+}
+
+impl Tally {
+    /// Before the first step.
+    pub(crate) fn new() -> Tally {
+        Tally {
+            placed: 0,
+            refused: 0,
+            live: 0,
+        }
+    }
+
+    /// Adds what came of other steps.
+    pub(crate) fn add(&mut self, other: Tally) {
+        self.placed = self.placed.wrapping_add(other.placed);
+        self.refused = self.refused.wrapping_add(other.refused);
+        self.live = self.live.wrapping_add(other.live);
+    }
 }
 
 /// A payload, and the layout that was asked for it.
@@ -64,14 +81,10 @@ pub(crate) fn run<R: Wait>(
     shared: &GlobalTlsf,
     slots: NonZeroUsize,
     steps: u64,
-) -> Result<Tally, BenchError> {
+) -> Result<Tally, AllocError> {
     let mut live: Vec<Option<Payload>> = vec![in alloc; None; slots.get()]?;
     let mut draws = Xorshift::new();
-    let mut tally = Tally {
-        placed: 0,
-        refused: 0,
-        live: 0,
-    };
+    let mut tally = Tally::new();
     for _ in 0..steps {
         let draw = draws.next();
         let slot = (draw >> 32) as usize % slots.get();

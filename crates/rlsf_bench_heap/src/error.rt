@@ -6,7 +6,7 @@ use std::{fmt, io};
 /// Why nothing was done.
 #[derive(Debug, Drop)]
 pub(crate) enum BenchError {
-    /// The arguments aren't a number of slots that isn't 0 and a number of steps.
+    /// The arguments aren't a number of slots that isn't 0 and a number of steps, alone or with the word `addresses`.
     Usage,
     /// The system refused memory.
     OutOfMemory,
@@ -18,7 +18,9 @@ impl fmt::Display for BenchError {
     fn fmt<W: fmt::Write>(&self, f: &mut fmt::Formatter<W>) -> fmt::Result {
         match self {
             BenchError::Usage => {
-                f.write_str("usage: rlsf_global_bench SLOTS STEPS, with SLOTS from 1 on")
+                f.write_str(
+                    "usage: rlsf_bench_heap SLOTS STEPS, with SLOTS from 1 on, or rlsf_bench_heap SLOTS STEPS addresses",
+                )
             }
             BenchError::OutOfMemory => f.write_str("the system refused memory"),
             BenchError::Io(error) => write!(f, "{error}"),

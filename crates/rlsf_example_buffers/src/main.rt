@@ -1,0 +1,57 @@
+//! Payloads that own their bytes: two in one struct, and buffers that two threads fill.
+#![tactic(auto)]
+
+ghost use Rattle.std.specs.Prelude.{◌≡◌, IfSome};
+ghost use Rattle.rlsf_machine.specs.Sized.{live_count};
+
+mod buffers;
+mod pair;
+
+use buffers::filled_by_threads;
+use pair::pair_of_bytes;
+use rlsf_base::memory::{Layout, OpenMemory, Range};
+use rlsf_heap::Heap;
+use std::alloc::Global;
+use std::io;
+use std::thread::Threads;
+
+/// Chunks of up to 131,072 bytes, in 12 rows of 16 classes.
+type Small = Heap<u16, u16, 12, 16>;
+
+/// Returns a heap with one pool of 4096 bytes.
+fn with_pool(alloc: Global) -> Option<Small>
+    ensures { IfSome result (λ heap. live_count heap.state ≡ 0) }
+{
+    let memory = OpenMemory::reserve(alloc, 4096, 4096).ok()?;
+    let mut heap = Small::new(memory);
+    heap.insert_free_block_ptr(Range {
+        start: 4096,
+        len: 4096,
+    });
+    Some(heap)
+}
+
+/// What both users of one heap return.
+#[derive(Clone, Copy)]
+struct Seen {
+    pair: Option<[u8; 2]>,
+    buffers: Option<[u8; 2]>,
+}
+
+/// Runs both users over one heap, and deallocates its memory. Returns `None` if the system is out of memory.
+fn run<R: Threads>(rt: &R, alloc: Global) -> Option<Seen> {
+    let layout = Layout::from_size_align(100, 64).ok()?;
+    let mut heap = with_pool(alloc)?;
+    let pair = pair_of_bytes(&mut heap, layout);
+    let buffers = filled_by_threads(rt, &mut heap, layout);
+    heap.into_memory().free();
+    Some(Seen { pair, buffers })
+}
+
+fn main(rt: HostRuntime) -> io::Result<()> {
+    let Some(seen) = run(&rt, rt.alloc()) else {
+        return println!(rt; "out of memory");
+    };
+    println!(rt; "a pair: {:?}", seen.pair)?;
+    println!(rt; "from two threads: {:?}", seen.buffers)
+}

@@ -1,0 +1,123 @@
+//! The heap behind the lock.
+ghost use Rattle.std.specs.Prelude.{◌≡◌, ◌+◌, ◌%◌, ◌<◌, ◌≤◌, length, replicate, IfErr, IfOk, IfSome, MatchResult};
+ghost use Rattle.rlsf_machine.specs.Reallocate.{Keeps};
+ghost use Rattle.rlsf_heap.specs.Heap.{IsWritten};
+ghost use Rattle.rlsf_heap.specs.Reallocation.{IsKeptHere};
+
+use crate::calls;
+use crate::lock::Lock;
+use rlsf_base::memory::Layout;
+use rlsf_heap::{Heap, Payload};
+use rlsf_int::BitPattern;
+use std::marker::{Brand, Model};
+use std::sync::Wait;
+
+/// A `Heap` that threads share. Each call takes one lock. Besides, it does what the call of `Heap` does.
+///
+/// A payload owns its bytes, so its thread reads and writes them without the lock. Dropping a shared heap drops its heap.
+#[derive(Drop)]
+pub struct SharedHeap<
+    FLBitmap: BitPattern,
+    SLBitmap: BitPattern,
+    const FLLEN: usize,
+    const SLLEN: usize,
+> {
+    lock: Lock<Heap<FLBitmap, SLBitmap, FLLEN, SLLEN>>,
+}
+
+impl<FLBitmap: BitPattern, SLBitmap: BitPattern, const FLLEN: usize, const SLLEN: usize> Model
+    for SharedHeap<FLBitmap, SLBitmap, FLLEN, SLLEN> {
+    ghost use Rattle.rlsf_shared_heap.specs.Shared.{SharedView};
+
+    ghost Value = { SharedView };
+
+    ghost view = { λ s. record { identity = s.lock } };
+}
+
+impl<FLBitmap: BitPattern, SLBitmap: BitPattern, const FLLEN: usize, const SLLEN: usize> SharedHeap<
+    FLBitmap,
+    SLBitmap,
+    FLLEN,
+    SLLEN,
+> {
+    /// Creates a shared heap of `heap`, whose payloads it takes back.
+    pub fn new(heap: Heap<FLBitmap, SLBitmap, FLLEN, SLLEN>) -> Self
+        ensures identity { result.identity ≡ heap.identity }
+    {
+        SharedHeap {
+            lock: Lock::new(heap),
+        }
+    }
+
+    /// Consumes the shared heap, and returns its heap.
+    pub fn into_inner(self) -> Heap<FLBitmap, SLBitmap, FLLEN, SLLEN>
+        ensures identity { result.identity ≡ self.identity }
+    {
+        let SharedHeap { lock } = self;
+        lock.into_inner()
+    }
+
+    /// Allocates a payload for `layout`, as `Heap::allocate` does. Its bytes may be raw. Returns `None` if the heap refuses. No
+    /// clause says when: other threads may change the heap at any moment.
+    pub fn allocate<R: Wait>(&self, rt: &R, layout: Layout) -> Option<Payload>
+        ensures payload { IfSome result (λ p. p.identity ≡ self.now.identity) }
+        ensures align { IfSome result (λ p. p.align ≡ layout.align) }
+        ensures aligned { IfSome result (λ p. p.start % layout.align ≡ 0) }
+        ensures sized { IfSome result (λ p. layout.size ≤ length p.bytes) }
+        ensures few { IfSome result (λ p. length p.bytes < layout.size + 32) }
+    {
+        calls::allocate::<Heap<FLBitmap, SLBitmap, FLLEN, SLLEN>, Brand, R>(&self.lock, rt, layout)
+    }
+
+    /// Allocates a payload for `layout`, as `Heap::allocate_zeroed` does. Its bytes are zeros. Returns `None` if the heap refuses.
+    /// No clause says when.
+    pub fn allocate_zeroed<R: Wait>(&self, rt: &R, layout: Layout) -> Option<Payload>
+        ensures payload { IfSome result (λ p. p.identity ≡ self.now.identity) }
+        ensures written { IfSome result (λ p. IsWritten p) }
+        ensures zeros { IfSome result (λ p. p.bytes ≡ replicate (length p.bytes) 0) }
+        ensures align { IfSome result (λ p. p.align ≡ layout.align) }
+        ensures aligned { IfSome result (λ p. p.start % layout.align ≡ 0) }
+        ensures sized { IfSome result (λ p. layout.size ≤ length p.bytes) }
+        ensures few { IfSome result (λ p. length p.bytes < layout.size + 32) }
+    {
+        calls::allocate_zeroed::<Heap<FLBitmap, SLBitmap, FLLEN, SLLEN>, Brand, R>(
+            &self.lock, rt, layout,
+        )
+    }
+
+    /// Deallocates a payload of this heap, as `Heap::deallocate` does.
+    pub fn deallocate<R: Wait>(&self, rt: &R, payload: Payload)
+        requires { payload.identity ≡ self.now.identity }
+    {
+        calls::deallocate::<Heap<FLBitmap, SLBitmap, FLLEN, SLLEN>, Brand, R>(
+            &self.lock, rt, payload,
+        );
+    }
+
+    /// Changes the size of a payload of this heap to `size` bytes, as `Heap::reallocate` does. Returns it with its alignment. The
+    /// first bytes are kept, as many as both sizes have, and are here. The address may be another.
+    ///
+    /// Returns the payload as it was, as the error, if the heap refuses. No clause says when.
+    pub fn reallocate<R: Wait>(
+        &self,
+        rt: &R,
+        payload: Payload,
+        size: usize,
+    ) -> Result<Payload, Payload>
+        requires own { payload.identity ≡ self.now.identity }
+        requires written { IsWritten payload }
+        ensures payload { MatchResult result (λ p. p.identity ≡ self.now.identity) (λ p. p.identity ≡ self.now.identity) }
+        ensures align { MatchResult result (λ p. p.align ≡ payload.align) (λ p. p.align ≡ payload.align) }
+        ensures aligned { IfOk result (λ p. p.start % payload.align ≡ 0) }
+        ensures sized { IfOk result (λ p. size ≤ length p.bytes) }
+        ensures few { IfOk result (λ p. length p.bytes < size + 32) }
+        ensures kept { IfOk result (λ p. Keeps payload.bytes p.bytes) }
+        ensures here { IfOk result (λ p. IsKeptHere payload p) }
+        ensures shrunk { IfOk result (λ p. length p.bytes ≤ length payload.bytes → IsWritten p) }
+        ensures back { IfErr result (λ p. (p.start ≡ payload.start) × (p.bytes ≡ payload.bytes) × IsWritten p) }
+    {
+        calls::reallocate::<Heap<FLBitmap, SLBitmap, FLLEN, SLLEN>, Brand, R>(
+            &self.lock, rt, payload, size,
+        )
+    }
+}
