@@ -1,0 +1,4 @@
+pub mod RoomForTypes
+pub mod SlotContents
+pub mod Taken
+pub mod Walks
