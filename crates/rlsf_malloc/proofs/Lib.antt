@@ -1,0 +1,8 @@
+-- Lemmas, and what the manual proofs cite.
+pub mod Alignments
+pub mod Laws
+pub mod Lending
+pub mod Outcomes
+pub mod Sums
+pub mod Walking
+pub mod WidePayloads

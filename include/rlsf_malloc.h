@@ -1,0 +1,224 @@
+/* An allocator (version 0.1.0) over memory that the caller provides. A payload is used in place: its address is a pointer.
+ * docs/C.md shows how to link it. The archive is librlsf_malloc.a. It needs only memmove and memset.
+ *
+ * Conditions on the caller. No call tests them:
+ *   - `heap` is a heap that rlsf_heap_init or rlsf_heap_begin returned. rlsf_heap_end wasn't called on it since, and only the library
+ *     writes to its handle.
+ *   - `payload` is NULL, or a pointer that a call on this heap returned. It is live: it wasn't freed since, and no rlsf_realloc or
+ *     rlsf_aligned_realloc of it succeeded since.
+ *   - Only the library writes to the heap's memory, except to the bytes of live payloads: rlsf_usable_size of them from the pointer on.
+ *   - One call on a heap runs at a time. A lock orders the calls of several threads.
+ *
+ * The crate crates/rlsf_malloc proves what each call does, under these conditions. Its law says that payloads may be read and written in
+ * place between two calls (rlsf_large_payloads, rlsf_small_payloads): during a call the heap owns the bytes of all payloads. So the proof
+ * doesn't cover a thread that reads or writes its payload while another thread's call runs. Such programs are tested.
+ *
+ * The inline functions below aren't proved. They do this and no more:
+ *   - They pass a pointer to an exported function as the number (size_t)pointer, and cast the returned number back.
+ *   - They store the kind at the start of the handle, and choose the exported function by it. Behind it they store the last pool, for
+ *     rlsf_heap_stats.
+ *   - rlsf_heap_begin leaves out the bytes before the first multiple of 16, and rlsf_heap_init also adds all bytes as a pool. */
+#ifndef RLSF_MALLOC_H
+#define RLSF_MALLOC_H
+
+#ifdef RLSF_H
+#error "rlsf.h and rlsf_malloc.h declare calls of the same names: include them in different files"
+#endif
+
+#include <stddef.h>
+
+#ifdef __cplusplus
+extern "C" {
+#endif
+
+#define RLSF_MALLOC_VERSION "0.1.0"
+
+/* Kinds of heaps. A small heap has 12 first-level rows of 16 size classes, for payloads of at most 126,960 bytes. A large heap has 64 rows of 64
+ * classes, for payloads of all sizes; its choice of blocks is finer. */
+#define RLSF_SMALL ((size_t)1)
+#define RLSF_LARGE ((size_t)2)
+
+/* The size of a handle of each kind in bytes. A handle is aligned to 8. */
+#define RLSF_SMALL_HEAP_SIZE 1792
+#define RLSF_LARGE_HEAP_SIZE 33856
+
+/* The totals of some blocks. */
+typedef struct {
+    size_t payloads; /* the number of live payloads, one in each used block */
+    size_t used;     /* the bytes of all used blocks, with their headers */
+    size_t free;     /* the bytes of all free blocks */
+    size_t longest;  /* the bytes of the longest free block, or 0 if there is none */
+} rlsf_totals;
+
+/* The exported functions. Each takes the handle's bytes behind an rlsf_heap. */
+#define RLSF_KIND_DECLARES(KIND)                                                                      \
+    size_t rlsf_##KIND##_size(void);                                                                  \
+    void rlsf_##KIND##_init(void *heap, void *block, size_t start, size_t len);                       \
+    void rlsf_##KIND##_end(void *heap);                                                               \
+    void rlsf_##KIND##_payloads(void *heap);                                                          \
+    size_t rlsf_##KIND##_add(void *heap, size_t start, size_t len);                                   \
+    size_t rlsf_##KIND##_malloc(void *heap, size_t size);                                             \
+    size_t rlsf_##KIND##_allocate(void *heap, size_t size, size_t align);                             \
+    size_t rlsf_##KIND##_allocate_zeroed(void *heap, size_t count, size_t size);                      \
+    size_t rlsf_##KIND##_reallocate(void *heap, size_t payload, size_t size);                         \
+    size_t rlsf_##KIND##_reallocate_aligned(void *heap, size_t payload, size_t size, size_t align);   \
+    size_t rlsf_##KIND##_reallocate_in_place(void *heap, size_t payload, size_t size);                \
+    void rlsf_##KIND##_free(void *heap, size_t payload);                                              \
+    size_t rlsf_##KIND##_usable(void *heap, size_t payload);                                          \
+    rlsf_totals rlsf_##KIND##_stats(void *heap, size_t start, size_t len);
+RLSF_KIND_DECLARES(small)
+RLSF_KIND_DECLARES(large)
+#undef RLSF_KIND_DECLARES
+
+/* A heap at its handle, and behind it what the exported functions use. */
+typedef struct rlsf_heap {
+    size_t kind;
+    size_t start; /* the last pool */
+    size_t len;
+} rlsf_heap;
+
+/* Handles of each kind, for a handle that is static or on the stack. */
+typedef union {
+    rlsf_heap heap;
+    unsigned char bytes[RLSF_SMALL_HEAP_SIZE];
+} rlsf_small_handle;
+typedef union {
+    rlsf_heap heap;
+    unsigned char bytes[RLSF_LARGE_HEAP_SIZE];
+} rlsf_large_handle;
+
+/* Returns the size of a handle of a kind in bytes, or 0 if there is no such kind. */
+static inline size_t rlsf_heap_size(size_t kind) {
+    return kind == RLSF_SMALL ? RLSF_SMALL_HEAP_SIZE : kind == RLSF_LARGE ? RLSF_LARGE_HEAP_SIZE : 0;
+}
+
+/* Adds the `len` bytes at `memory` as a pool, in a time that doesn't depend on them. In a small heap, the time grows by a few word
+ * accesses for each 128 KiB. Returns the number of bytes from `memory` to the end of the pool, or 0 if there are too few bytes.
+ *
+ * The bytes must lie in the heap's memory, and no byte may be one that was added before. */
+static inline size_t rlsf_heap_add(rlsf_heap *heap, void *memory, size_t len) {
+    size_t taken = heap->kind == RLSF_SMALL ? rlsf_small_add(heap + 1, (size_t)memory, len) : rlsf_large_add(heap + 1, (size_t)memory, len);
+    if (taken) {
+        heap->start = (size_t)memory;
+        heap->len = taken;
+    }
+    return taken;
+}
+
+/* Creates a heap at a handle, over the `len` bytes at `memory`. No pool is added yet: rlsf_heap_add adds parts of these bytes. They belong
+ * to the heap until rlsf_heap_end. The call takes constant time, and doesn't access them.
+ *
+ * Returns NULL exactly if there is no such kind or `len` is below 16; then nothing changes. The handle has rlsf_heap_size(kind) bytes and
+ * is aligned to 8. `memory` isn't NULL, and `len` is below 2^59. */
+static inline rlsf_heap *rlsf_heap_begin(void *handle, size_t kind, void *memory, size_t len) {
+    rlsf_heap *heap = (rlsf_heap *)handle;
+    size_t skipped = (0 - (size_t)memory) % 16;
+    if (len < 16) return NULL;
+    if (kind == RLSF_SMALL)
+        rlsf_small_init(heap + 1, (char *)memory + skipped, (size_t)memory + skipped, len - skipped);
+    else if (kind == RLSF_LARGE)
+        rlsf_large_init(heap + 1, (char *)memory + skipped, (size_t)memory + skipped, len - skipped);
+    else
+        return NULL;
+    heap->kind = kind;
+    heap->start = (size_t)memory + skipped;
+    heap->len = 0;
+    return heap;
+}
+
+/* Creates a heap at a handle, over the `len` bytes at `memory`, which become a pool, but for some bytes at both ends. It is rlsf_heap_begin and rlsf_heap_add.
+ * Returns NULL exactly if rlsf_heap_begin does. */
+static inline rlsf_heap *rlsf_heap_init(void *handle, size_t kind, void *memory, size_t len) {
+    rlsf_heap *heap = rlsf_heap_begin(handle, kind, memory, len);
+    size_t skipped = (0 - (size_t)memory) % 16;
+    if (heap) rlsf_heap_add(heap, (char *)memory + skipped, len - skipped);
+    return heap;
+}
+
+/* Ends a heap. Its memory and its handle are the caller's again. The bytes of payloads keep their values. */
+static inline void rlsf_heap_end(rlsf_heap *heap) {
+    if (heap->kind == RLSF_SMALL)
+        rlsf_small_end(heap + 1);
+    else
+        rlsf_large_end(heap + 1);
+}
+
+/* Allocates a payload of `size` bytes and less than 32 more, at a multiple of `align`. An alignment below 16 counts as 16. Its bytes may
+ * have any values. All other payloads and their bytes are unchanged.
+ *
+ * Returns NULL exactly in these cases, and then nothing changes:
+ *   - `align` is above 16 and no power of two, or `size` is above 2^63 - align.
+ *   - No free block has a class that reaches the sought size (docs/SIZING.md). */
+static inline void *rlsf_aligned_alloc(rlsf_heap *heap, size_t align, size_t size) {
+    return (void *)(heap->kind == RLSF_SMALL ? rlsf_small_allocate(heap + 1, size, align) : rlsf_large_allocate(heap + 1, size, align));
+}
+
+/* Allocates a payload, as rlsf_aligned_alloc does with an alignment of 16. */
+static inline void *rlsf_malloc(rlsf_heap *heap, size_t size) {
+    return (void *)(heap->kind == RLSF_SMALL ? rlsf_small_malloc(heap + 1, size) : rlsf_large_malloc(heap + 1, size));
+}
+
+/* Allocates a payload of `count * size` bytes and less than 32 more, at a multiple of 16. All of them are zeros.
+ *
+ * Returns NULL exactly if rlsf_malloc of `count * size` bytes does, and if that product is no size_t. */
+static inline void *rlsf_calloc(rlsf_heap *heap, size_t count, size_t size) {
+    return (void *)(heap->kind == RLSF_SMALL ? rlsf_small_allocate_zeroed(heap + 1, count, size)
+                                             : rlsf_large_allocate_zeroed(heap + 1, count, size));
+}
+
+/* Deallocates a payload. All other payloads and their bytes are unchanged. Does nothing if `payload` is NULL. */
+static inline void rlsf_free(rlsf_heap *heap, void *payload) {
+    if (heap->kind == RLSF_SMALL)
+        rlsf_small_free(heap + 1, (size_t)payload);
+    else
+        rlsf_large_free(heap + 1, (size_t)payload);
+}
+
+/* Changes the size of a payload to `size` bytes and less than 32 more, and returns its address, at which it may be new. As many of its
+ * first bytes as both sizes have are kept. All other payloads and their bytes are unchanged. Allocates a payload if `payload` is NULL, as
+ * rlsf_malloc does.
+ *
+ * The library doesn't store alignments. So a payload that was requested with an alignment above 16 stays as it is if its usable bytes
+ * suffice, also if `size` is less. Otherwise it moves, and its new alignment is 16. rlsf_aligned_realloc keeps the alignment.
+ *
+ * Returns NULL exactly if `size` is above 2^63 - 16 or there is no room. Then nothing changes, and `payload` is still live. */
+static inline void *rlsf_realloc(rlsf_heap *heap, void *payload, size_t size) {
+    return (void *)(heap->kind == RLSF_SMALL ? rlsf_small_reallocate(heap + 1, (size_t)payload, size)
+                                             : rlsf_large_reallocate(heap + 1, (size_t)payload, size));
+}
+
+/* Changes the size of a payload as rlsf_realloc does, and keeps its alignment. Allocates a payload if `payload` is NULL, as
+ * rlsf_aligned_alloc does. `payload` must have the alignment `align`: the requested one, or 16 if it moved by rlsf_realloc. An alignment
+ * below 16 counts as 16.
+ *
+ * Returns NULL exactly if `size` is above 2^63 - align or there is no room. Then nothing changes, and `payload` is still live. */
+static inline void *rlsf_aligned_realloc(rlsf_heap *heap, void *payload, size_t align, size_t size) {
+    return (void *)(heap->kind == RLSF_SMALL ? rlsf_small_reallocate_aligned(heap + 1, (size_t)payload, size, align)
+                                             : rlsf_large_reallocate_aligned(heap + 1, (size_t)payload, size, align));
+}
+
+/* Changes the size of a payload as rlsf_realloc does, without moving it. Returns `payload`.
+ *
+ * Returns NULL exactly if rlsf_realloc would move it or return NULL, or if `payload` is NULL. Then nothing changes. */
+static inline void *rlsf_realloc_in_place(rlsf_heap *heap, void *payload, size_t size) {
+    return (void *)(heap->kind == RLSF_SMALL ? rlsf_small_reallocate_in_place(heap + 1, (size_t)payload, size)
+                                             : rlsf_large_reallocate_in_place(heap + 1, (size_t)payload, size));
+}
+
+/* Returns the number of bytes of a payload, from its pointer on, that may be read and written; or 0 if `payload` is NULL. */
+static inline size_t rlsf_usable_size(const rlsf_heap *heap, const void *payload) {
+    return heap->kind == RLSF_SMALL ? rlsf_small_usable((void *)(heap + 1), (size_t)payload) : rlsf_large_usable((void *)(heap + 1), (size_t)payload);
+}
+
+/* Returns the totals of the blocks of the last pool: the one that rlsf_heap_init or the last successful rlsf_heap_add made. The time grows
+ * with the number of these blocks. */
+static inline rlsf_totals rlsf_heap_stats(const rlsf_heap *heap) {
+    return heap->kind == RLSF_SMALL ? rlsf_small_stats((void *)(heap + 1), heap->start, heap->len)
+                                    : rlsf_large_stats((void *)(heap + 1), heap->start, heap->len);
+}
+
+#ifdef __cplusplus
+}
+#endif
+
+#endif
