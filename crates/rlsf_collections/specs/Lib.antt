@@ -3,6 +3,7 @@ pub mod Budgets
 pub mod Capacities
 pub mod Handled
 pub mod Objects
+pub mod Owned
 pub mod Picture
 pub mod Queue
 pub mod Stored

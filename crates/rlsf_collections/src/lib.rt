@@ -8,11 +8,13 @@ mod handles;
 mod items;
 mod messages;
 mod objects;
+mod owned;
 mod store;
 mod strings;
 
 pub use drawing::picture;
 pub use messages::{LongestError, Messages, PopError, PushError};
 pub use objects::{Objects, SetError, TakeError, UnknownHandle};
+pub use owned::OwnedObjects;
 pub use store::Heap;
 pub use strings::{StringError, Strings};
