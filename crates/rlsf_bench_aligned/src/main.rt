@@ -1,7 +1,7 @@
 //! Times the allocator as `rlsf_bench` does, with payloads of seven alignments, from 1 to 64.
 #![tactic(auto)]
 
-use rlsf_bench_steps::bench;
+use rlsf_bench_steps::main_of;
 use std::process::ExitCode;
 
 /// Whether each call has a function of its own.
@@ -11,12 +11,5 @@ const CALLED: bool = false;
 const ALIGNS: usize = 7;
 
 fn main(rt: HostRuntime) -> ExitCode {
-    match bench::<_, CALLED, ALIGNS>(&rt) {
-        Ok(()) => ExitCode::SUCCESS,
-        Err(error) => {
-            // Where standard error fails too, only the status tells of the error.
-            let _ = eprintln!(rt; "{error}");
-            ExitCode::FAILURE
-        }
-    }
+    main_of::<_, CALLED, ALIGNS>(&rt)
 }

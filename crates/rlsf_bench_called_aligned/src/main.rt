@@ -2,7 +2,7 @@
 //! that is never inlined.
 #![tactic(auto)]
 
-use rlsf_bench_steps::bench;
+use rlsf_bench_steps::main_of;
 use std::process::ExitCode;
 
 /// Whether each call has a function of its own.
@@ -12,12 +12,5 @@ const CALLED: bool = true;
 const ALIGNS: usize = 7;
 
 fn main(rt: HostRuntime) -> ExitCode {
-    match bench::<_, CALLED, ALIGNS>(&rt) {
-        Ok(()) => ExitCode::SUCCESS,
-        Err(error) => {
-            // Where standard error fails too, only the status tells of the error.
-            let _ = eprintln!(rt; "{error}");
-            ExitCode::FAILURE
-        }
-    }
+    main_of::<_, CALLED, ALIGNS>(&rt)
 }

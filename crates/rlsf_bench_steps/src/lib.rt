@@ -14,11 +14,13 @@ mod steps;
 mod tally;
 
 use arguments::{Arguments, Configuration};
-pub use error::BenchError;
+use error::BenchError;
+pub use random::Xorshift;
 use rlsf_base::memory::Range;
 use rlsf_tlsf::Tlsf;
 use std::alloc::Global;
 use std::env;
+use std::process::ExitCode;
 use std::rt::Env;
 use steps::{memory_of, run};
 use tally::Tally;
@@ -36,8 +38,26 @@ const MEMORY: Range = Range {
     len: (1 << 25) + 48,
 };
 
+/// Reads the command line, does what it asks for on slots of so many alignments, and prints what came of it. An error is printed to standard error.
+///
+/// Returns the exit status of the program: a failure exactly for an error.
+pub fn main_of<R: Env + Print + Eprint + AllocGlobal, const CALLED: bool, const ALIGNS: usize>(
+    rt: &R,
+) -> ExitCode
+    requires { (0 < ALIGNS) × (ALIGNS < 64) }
+{
+    match bench::<R, CALLED, ALIGNS>(rt) {
+        Ok(()) => ExitCode::SUCCESS,
+        Err(error) => {
+            // Where standard error fails too, only the status tells of the error.
+            let _ = eprintln!(rt; "{error}");
+            ExitCode::FAILURE
+        }
+    }
+}
+
 /// Reads the command line, does what it asks for on slots of so many alignments, and prints what came of it.
-pub fn bench<R: Env + Print + AllocGlobal, const CALLED: bool, const ALIGNS: usize>(
+fn bench<R: Env + Print + AllocGlobal, const CALLED: bool, const ALIGNS: usize>(
     rt: &R,
 ) -> Result<(), BenchError>
     requires { (0 < ALIGNS) × (ALIGNS < 64) }

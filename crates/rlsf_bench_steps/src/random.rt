@@ -4,13 +4,13 @@ ghost use Rattle.rlsf_bench_steps.specs.Draws.{next_state, seed};
 /// A generator of numbers that seem random: each follows from the one before by shifts and exclusive ors, and is
 /// multiplied by a constant on its way out.
 #[derive(Drop)]
-pub(crate) struct Xorshift {
-    state: u64,
+pub struct Xorshift {
+    pub(crate) state: u64,
 }
 
 impl Xorshift {
     /// The generator at its beginning, which is always the same.
-    pub(crate) fn new() -> Xorshift
+    pub fn new() -> Xorshift
         ensures { result.state ≡ seed }
     {
         Xorshift {
@@ -19,7 +19,7 @@ impl Xorshift {
     }
 
     /// The next number.
-    pub(crate) fn next(&mut self) -> u64
+    pub fn next(&mut self) -> u64
         ensures state { self.new.state ≡ next_state self.old.state }
         ensures number { result ≡ self.new.state * 0x2545f4914f6cdd1d % 2 ^ 64 }
     {
