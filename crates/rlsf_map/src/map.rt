@@ -2,7 +2,7 @@
 
 ghost use Rattle.std.specs.Prelude.{◌≡◌, ◌≢◌, ◌⊎◌, IfErr, IfSome, OnOk};
 ghost use Rattle.std.specs.Io.KnownBytes.{IsAtEnd};
-ghost use Rattle.rlsf_text.specs.Faults.{out_of_memory};
+ghost use Rattle.rlsf_trace_text.specs.Faults.{out_of_memory};
 ghost use Rattle.rlsf_trace.specs.Replays.{not_read, IsOutputFault, IsReplayFault, IsTrace};
 
 use crate::boxes::boxes_of;
@@ -10,9 +10,9 @@ use crate::draw::drawing;
 use crate::legend::legend_of;
 use crate::pools::pools_of;
 use crate::window::{Lines, Window};
-use rlsf_text::{Fault, ReplayFault, Trace};
 use rlsf_trace::{read_input, write_text};
-use rlsf_watched::{Watched, watch_trace};
+use rlsf_trace_text::{Fault, ReplayFault, Trace};
+use rlsf_trace_watch::{Watched, watch_trace};
 use std::alloc::{AllocError, Global};
 use std::io::{Read, Write};
 

@@ -1,6 +1,6 @@
 //! Which memory the allocator has.
 
-use rlsf_text::{Answer, Op};
+use rlsf_trace_text::{Answer, Op};
 use std::alloc::{AllocError, Global};
 
 /// A range that was handed in.

@@ -19,8 +19,8 @@ use Rattle.rlsf_placement.specs.Moves.{MovesAway, ReallocatesAsAt, ReallocatesAt
 use Rattle.rlsf_placement.specs.Rows.{Row, put, row_at, without_row}
 use Rattle.rlsf_placement.specs.Standing.{IsHeap}
 use Rattle.rlsf_placement.specs.Steps.{DeallocatesAsAt, DeallocatesAt, Done, Placed, Releases, WritesAt, WritesIn, fits, is_same}
-use Rattle.rlsf_placement.proofs.FlexGoing.{flex_goes}
-use Rattle.rlsf_placement.proofs.Going.{Goes, Stays, allocated, live_row, released, replaced, resized, stays_all, written}
+use Rattle.rlsf_placement.proofs.StepLeavesFlex.{flex_goes}
+use Rattle.rlsf_placement.proofs.StepLeavesHeap.{Goes, Stays, allocated, live_row, released, replaced, resized, stays_all, written}
 
 -- by what a test tells
 pub either : (A B C : Type 0) (b : Bool) → (b ≡ true → A → C) → (b ≡ false → B → C) → MatchBool b A B → C

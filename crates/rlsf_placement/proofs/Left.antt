@@ -20,8 +20,8 @@ use Rattle.rlsf_placement.specs.Left.{AllocationLeaves, DeallocationLeaves, HasB
 use Rattle.rlsf_placement.specs.Rows.{Row, put, row_at}
 use Rattle.rlsf_placement.specs.Steps.{DeallocatesAt, DeallocatesAsAt, Done, ReadsAt, Releases, WritesAt, WritesIn, fits, is_same}
 use Rattle.rlsf_placement.specs.declared.error.GlobalError.TheVariants.{OutOfRange, WrongLayout}
-use Rattle.rlsf_placement.proofs.FlexGoing.{flex_goes}
-use Rattle.rlsf_placement.proofs.Going.{no_row}
+use Rattle.rlsf_placement.proofs.StepLeavesFlex.{flex_goes}
+use Rattle.rlsf_placement.proofs.StepLeavesHeap.{no_row}
 use Rattle.rlsf_placement.proofs.Histories.{either}
 use Rattle.rlsf_placement.proofs.Maps.{row_at-put_here, row_at-without_here}
 

@@ -1,7 +1,7 @@
 pub mod Apart
 pub mod Cursors
-pub mod FlexGoing
-pub mod Going
+pub mod StepLeavesFlex
+pub mod StepLeavesHeap
 pub mod Histories
 pub mod Isolated
 pub mod Journals
@@ -9,7 +9,7 @@ pub mod Left
 pub mod Maps
 pub mod Replayed
 pub mod Rows
-pub mod Sames
+pub mod EqualNumbers
 pub mod Similars
 pub mod Moved
 pub mod PageAnswers

@@ -23,8 +23,8 @@ use Rattle.rlsf_placement.specs.Rows.{Row, put, row_at, without_row}
 use Rattle.rlsf_placement.specs.Standing.{IsHeap}
 use Rattle.rlsf_placement.specs.Steps.{Placed, is_same}
 use Rattle.rlsf_placement.specs.declared.error.GlobalError.TheVariants.{WrongLayout}
-use Rattle.rlsf_placement.proofs.FlexGoing.{FlexGoes, flex_goes}
-use Rattle.rlsf_placement.proofs.Going.{live_row, replacement}
+use Rattle.rlsf_placement.proofs.StepLeavesFlex.{FlexGoes, flex_goes}
+use Rattle.rlsf_placement.proofs.StepLeavesHeap.{live_row, replacement}
 use Rattle.rlsf_placement.proofs.Histories.{either}
 use Rattle.rlsf_placement.proofs.Left.{no_layout, put_layout, refused_not}
 use Rattle.rlsf_placement.proofs.Maps.{row_at-put_other, row_at-without_here}

@@ -27,9 +27,9 @@ use Rattle.rlsf_placement.specs.Replays.{LacksMemory, PlacementDetermines}
 use Rattle.rlsf_placement.specs.Rows.{Row, put, row_at, without_row}
 use Rattle.rlsf_placement.specs.Standing.{IsHeap}
 use Rattle.rlsf_placement.specs.Steps.{DeallocatesAsAt, DeallocatesAt, Done, HeapAllocates, Placed, ReadsAt, Releases, Takes, UsableAt, WritesAt, WritesIn, fits, is_same}
-use Rattle.rlsf_placement.proofs.FlexGoing.{flex_goes}
-use Rattle.rlsf_placement.proofs.Going.{live_row}
-use Rattle.rlsf_placement.proofs.Sames.{same_address, same_layout}
+use Rattle.rlsf_placement.proofs.StepLeavesFlex.{flex_goes}
+use Rattle.rlsf_placement.proofs.StepLeavesHeap.{live_row}
+use Rattle.rlsf_placement.proofs.EqualNumbers.{same_address, same_layout}
 use Rattle.rlsf_placement.proofs.Similars.{AreSimilar-sym, AreSimilar-trans, flex_determined, lengths-same, same_placement-at, unmoved-similar}
 
 -- by what a test tells of both

@@ -1,14 +1,14 @@
 //! How long the pool of a trace has to be.
 
 ghost use Rattle.std.specs.Prelude.{◌≡◌, ◌⊎◌, IfErr};
-ghost use Rattle.rlsf_text.specs.Faults.{out_of_memory};
+ghost use Rattle.rlsf_trace_text.specs.Faults.{out_of_memory};
 ghost use Rattle.rlsf_trace.specs.Replays.{no_memory};
 
 use crate::summary::most_live;
 use rlsf_base::classes::pool_size_for_payloads;
 use rlsf_base::memory::{Layout, Range};
-use rlsf_text::{Answer, Configuration, Op, ReplayFault, Trace};
-use rlsf_watched::{Watched, watch_ops};
+use rlsf_trace_text::{Answer, Configuration, Op, ReplayFault, Trace};
+use rlsf_trace_watch::{Watched, watch_ops};
 use std::alloc::{AllocError, Global};
 
 /// What is told of a trace that inserts one range.

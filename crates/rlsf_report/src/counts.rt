@@ -1,7 +1,7 @@
 //! How many calls there are of each kind, and how they ended.
 
 use crate::kinds::{KINDS, Kind};
-use rlsf_text::{Answer, Op};
+use rlsf_trace_text::{Answer, Op};
 use std::alloc::{AllocError, Global};
 
 /// The calls of a kind.

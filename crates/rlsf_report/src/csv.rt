@@ -2,8 +2,8 @@
 
 use crate::counts::Outcome;
 use crate::kinds::Kind;
-use rlsf_text::{Answer, Op};
-use rlsf_watched::{Moment, Watched};
+use rlsf_trace_text::{Answer, Op};
+use rlsf_trace_watch::{Moment, Watched};
 use std::alloc::{AllocError, Global};
 
 /// A line for each call, behind a line of names: the number of its line in the trace, its command, how it ended, and how many

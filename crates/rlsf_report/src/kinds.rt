@@ -1,6 +1,6 @@
 //! Kinds of calls.
 
-use rlsf_text::Op;
+use rlsf_trace_text::Op;
 use std::fmt;
 
 /// A kind of calls: a command of the trace's text.

@@ -2,7 +2,7 @@
 
 ghost use Rattle.std.specs.Prelude.{◌≡◌, ◌≢◌, ◌⊎◌, IfErr, IfSome, OnOk};
 ghost use Rattle.std.specs.Io.KnownBytes.{IsAtEnd};
-ghost use Rattle.rlsf_text.specs.Faults.{out_of_memory};
+ghost use Rattle.rlsf_trace_text.specs.Faults.{out_of_memory};
 ghost use Rattle.rlsf_trace.specs.Replays.{no_memory, not_read, IsOutputFault, IsReplayFault, IsTrace};
 
 use crate::advice::advice_of;
@@ -11,9 +11,9 @@ use crate::csv::csv_of;
 use crate::sizes::asked_bytes;
 use crate::summary::summary_of;
 use crate::table::table_of;
-use rlsf_text::{Fault, ReplayFault, Trace};
 use rlsf_trace::{read_input, write_text};
-use rlsf_watched::{Watched, watch_trace};
+use rlsf_trace_text::{Fault, ReplayFault, Trace};
+use rlsf_trace_watch::{Watched, watch_trace};
 use std::alloc::Global;
 use std::io::{Read, Write};
 

@@ -1,6 +1,6 @@
 //! What was asked for.
 
-use rlsf_text::{Answer, Op};
+use rlsf_trace_text::{Answer, Op};
 use std::alloc::{AllocError, Global};
 use std::collections::HashMap;
 

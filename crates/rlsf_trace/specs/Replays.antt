@@ -3,18 +3,18 @@ use Rattle.std.specs.Prelude.{◌≡◌, ℕ, List, ◌⊎◌, map, Option, Ok, 
 use Rattle.std.specs.Io.KnownBytes.{Appends}
 use Rattle.rlsf_base.specs.declared.memory.range.Range.{Range}
 use Rattle.rlsf_base.specs.Range.{range_at}
-use Rattle.rlsf_text.specs.declared.configuration.Configuration.{Configuration}
-use Rattle.rlsf_text.specs.declared.configuration.Configuration.TheVariants.{EightByEight, TwelveBySixteen, FiftyNineByEight, OneByOne, EightByOne}
-use Rattle.rlsf_text.specs.declared.fault.Fault.TheVariants.{OutOfMemory, Read, Write}
-use Rattle.rlsf_text.specs.declared.fault.ReplayFault.{ReplayFault}
-use Rattle.rlsf_text.specs.declared.op.Answer.{Answer}
-use Rattle.rlsf_text.specs.declared.op.Op.{Op}
-use Rattle.rlsf_text.specs.Commands.{command_of}
-use Rattle.rlsf_text.specs.Faults.{out_of_memory}
+use Rattle.rlsf_trace_text.specs.declared.configuration.Configuration.{Configuration}
+use Rattle.rlsf_trace_text.specs.declared.configuration.Configuration.TheVariants.{EightByEight, TwelveBySixteen, FiftyNineByEight, OneByOne, EightByOne}
+use Rattle.rlsf_trace_text.specs.declared.fault.Fault.TheVariants.{OutOfMemory, Read, Write}
+use Rattle.rlsf_trace_text.specs.declared.fault.ReplayFault.{ReplayFault}
+use Rattle.rlsf_trace_text.specs.declared.op.Answer.{Answer}
+use Rattle.rlsf_trace_text.specs.declared.op.Op.{Op}
+use Rattle.rlsf_trace_text.specs.Commands.{command_of}
+use Rattle.rlsf_trace_text.specs.Faults.{out_of_memory}
 use Rattle.rlsf_trace.specs.Output.{AppendsBeginning}
-use Rattle.rlsf_text.specs.Printing.{text_of}
-use Rattle.rlsf_text.specs.Reading.{TraceText, trace_in}
-use Rattle.rlsf_runs.specs.Runs.{RunState, beginning, RunsOps}
+use Rattle.rlsf_trace_text.specs.Printing.{text_of}
+use Rattle.rlsf_trace_text.specs.Reading.{TraceText, trace_in}
+use Rattle.rlsf_trace_runs.specs.Runs.{RunState, beginning, RunsOps}
 
 -- how many rows of size classes a configuration has
 abbrev pub rows_of : Configuration → ℕ

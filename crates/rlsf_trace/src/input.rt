@@ -1,7 +1,7 @@
 ghost use Rattle.std.specs.Prelude.{◌≡◌, ◌⊎◌, IfOk, IfSome, OnOk, IfErr};
 ghost use Rattle.std.specs.Io.KnownBytes.{IsAtEnd};
 
-use rlsf_text::Fault;
+use rlsf_trace_text::Fault;
 use std::alloc::Global;
 use std::io::{ErrorKind, Read};
 

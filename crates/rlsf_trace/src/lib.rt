@@ -8,7 +8,7 @@ mod replays;
 pub use input::read_input;
 pub use output::write_text;
 pub use replays::replay;
-pub use rlsf_runs::{RunError, run};
-pub use rlsf_text::{
+pub use rlsf_trace_runs::{RunError, run};
+pub use rlsf_trace_text::{
     Answer, Configuration, Fault, Op, ReplayFault, Trace, TraceError, status, text_of,
 };

@@ -2,7 +2,7 @@ ghost use Rattle.std.specs.Prelude.{◌≡◌, OnOk, OnErr, IfErr};
 ghost use Rattle.std.specs.Io.KnownBytes.{Appends};
 ghost use Rattle.rlsf_trace.specs.Output.{AppendsBeginning};
 
-use rlsf_text::Fault;
+use rlsf_trace_text::Fault;
 use std::io::{ErrorKind, Write};
 
 /// Writes a text. Where that fails, with `Write`, a beginning of it may have been written.

@@ -5,7 +5,7 @@ ghost use Rattle.std.specs.Io.KnownBytes.{IsAtEnd};
 ghost use Rattle.rlsf_base.specs.Range.{range_at};
 ghost use Rattle.rlsf_machine.specs.State.{empty};
 ghost use Rattle.rlsf_base.specs.Space.{range_of};
-ghost use Rattle.rlsf_text.specs.Faults.{out_of_memory};
+ghost use Rattle.rlsf_trace_text.specs.Faults.{out_of_memory};
 ghost use Rattle.rlsf_trace.specs.Replays.{rows_of, classes_of, IsRun, IsOutput};
 ghost use Rattle.rlsf_trace.specs.Replays.{AppendsReplay, AppendsCutReplay, no_memory, not_read, IsOutputFault, IsReplayFault};
 
@@ -13,9 +13,9 @@ use crate::input::read_input;
 use crate::output::write_text;
 use rlsf_base::memory::Memory;
 use rlsf_int::BitPattern;
-use rlsf_runs::run;
-use rlsf_text::{Answer, Configuration, Fault, Op, ReplayFault, Trace, text_of};
 use rlsf_tlsf::Tlsf;
+use rlsf_trace_runs::run;
+use rlsf_trace_text::{Answer, Configuration, Fault, Op, ReplayFault, Trace, text_of};
 use std::alloc::Global;
 use std::io::{Read, Write};
 

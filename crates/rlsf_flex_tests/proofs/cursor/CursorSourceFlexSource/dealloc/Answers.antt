@@ -1,7 +1,0 @@
-use Rattle.std.proofs.Common.{◌++◌, sym, subst}
-use Rattle.rlsf_flex_tests.specs.Cursor.{MayOwe}
-use Rattle.rlsf_flex_tests.proofs.Cursors.{gone_range}
-use Rattle.rlsf_flex_tests.proofs.cursor.CursorSourceFlexSource.dealloc.Goals as goal
-
-pub returns-clause-owes : goal.returns-clause-owes
-returns-clause-owes c before after may = subst (λ v. MayOwe v (before ++ after)) (sym c.remember.ensures) (gone_range c.args.self.now c.args.range before after may)

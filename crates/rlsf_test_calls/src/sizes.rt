@@ -1,0 +1,340 @@
+//! Runs in pools of computed lengths: the first allocation that is refused is the one that has to be, and none is refused in a
+//! pool that is long enough.
+//!
+//! Lengths are worked out by hand. The last 32 bytes of a pool end its chunk. With SLLEN classes a row, objects of L bytes with
+//! the 16 before them need `32 + 100 * L`, where L is rounded up to a multiple of 32 and then of one SLLENth of the power of two
+//! below it. Payloads in blocks of up to S bytes, of which n are live before each call, need `(m + 32) + n * (S + m - 32)`, where
+//! m is the least size whose class reaches S.
+
+ghost use Rattle.rlsf_base.specs.SizeClass.{IsValid};
+
+use super::pools::{layout_of, zeros};
+use super::words::next;
+use rlsf::classes::{pool_size_for_objects, pool_size_for_payloads};
+use rlsf::int::BitPattern;
+use rlsf::{Layout, Range, Tlsf};
+use rlsf_trace_runs::run;
+use rlsf_trace_text::{Answer, Op};
+use std::process::Abort;
+
+/// Ops, and whether each has to be granted.
+#[derive(Drop)]
+struct Script {
+    ops: Vec<Op>,
+    granted: Vec<bool>,
+}
+
+/// Names from 0 on, in one order.
+#[derive(Clone, Copy)]
+enum Order {
+    Ascending,
+    Descending,
+    /// First every other one, and then those between them.
+    Alternating,
+}
+
+/// The name at a place of an order of `count` names.
+fn name_at(order: Order, count: usize, place: usize) -> usize {
+    match order {
+        Order::Ascending => place,
+        Order::Descending => count.wrapping_sub(place).wrapping_sub(1),
+        Order::Alternating => {
+            let double = place.wrapping_mul(2);
+            if double < count {
+                double
+            } else {
+                double.wrapping_sub(count) | 1
+            }
+        }
+    }
+}
+
+impl Script {
+    /// A pool of so many bytes.
+    fn new(rt: &(impl Abort + AllocGlobal), len: usize) -> Script {
+        let mut script = Script {
+            ops: Vec::new(rt.alloc()),
+            granted: Vec::new(rt.alloc()),
+        };
+        let start = 4096;
+        script.add(rt, Op::Insert(Range { start, len }), true);
+        script
+    }
+
+    fn add(&mut self, rt: &(impl Abort + AllocGlobal), op: Op, granted: bool) {
+        self.ops.push(op).expect(rt, "memory");
+        self.granted.push(granted).expect(rt, "memory");
+    }
+
+    /// Payloads for the names at these places of an order, all of `count` then, and one for one more name, which has to be refused.
+    fn fill(
+        &mut self,
+        rt: &(impl Abort + AllocGlobal),
+        order: Order,
+        count: usize,
+        places: (usize, usize),
+        layout: Layout,
+    ) {
+        for place in places.0..places.1 {
+            self.add(rt, Op::Alloc(name_at(order, count, place), layout), true);
+        }
+        self.add(rt, Op::Alloc(count, layout), false);
+    }
+
+    /// The payloads of the names at these places of an order are given back.
+    fn give_back(
+        &mut self,
+        rt: &(impl Abort + AllocGlobal),
+        order: Order,
+        count: usize,
+        places: (usize, usize),
+    ) {
+        for place in places.0..places.1 {
+            self.add(rt, Op::Free(name_at(order, count, place)), true);
+        }
+    }
+
+    /// The index of the first op that is answered otherwise.
+    fn first_wrong(&self, answers: &[Answer]) -> Option<usize> {
+        for (index, granted) in self.granted.iter().enumerate() {
+            if answers.get(index).copied().and_then(is_granted) != Some(*granted) {
+                return Some(index);
+            }
+        }
+        None
+    }
+}
+
+/// Whether an op was granted, by its answer; nothing where it was refused before any call of the allocator.
+fn is_granted(answer: Answer) -> Option<bool> {
+    match answer {
+        Answer::Inserted(_) | Answer::Done => Some(true),
+        Answer::Placed(placed) => Some(placed.is_some()),
+        _ => None,
+    }
+}
+
+/// Names the type of an allocator, whose bitmaps are of one type. A proof knows that it fits in memory where a caller names it.
+type Shape<'a, Bits, const FLLEN: usize, const SLLEN: usize> = Option<
+    &'a Tlsf<Bits, Bits, FLLEN, SLLEN>,
+>;
+
+/// The index of the first op that is answered otherwise in a memory of so many bytes.
+fn wrong_in<Bits: BitPattern, const FLLEN: usize, const SLLEN: usize>(
+    rt: &(impl Abort + AllocGlobal),
+    script: &Script,
+    len: usize,
+    _shape: Shape<'_, Bits, FLLEN, SLLEN>,
+) -> Option<usize>
+    requires { IsValid Bits.width Bits.width FLLEN SLLEN }
+{
+    let mut tlsf = Tlsf::<Bits, Bits, FLLEN, SLLEN>::new(zeros(rt, 4096, len));
+    let mut answers = Vec::new(rt.alloc());
+    run(rt.alloc(), &mut tlsf, script.ops.as_slice(), &mut answers).expect(rt, "memory");
+    script.first_wrong(answers.as_slice())
+}
+
+/// A pool of so many bytes holds `count` payloads: they are taken and given back in an order, all of them and each half of them,
+/// and whenever all are taken one more is refused.
+fn filled_in_order(
+    rt: &(impl Abort + AllocGlobal),
+    order: Order,
+    count: usize,
+    layout: Layout,
+    len: usize,
+) -> Script {
+    let half = count / 2;
+    let mut script = Script::new(rt, len);
+    script.fill(rt, order, count, (0, count), layout);
+    for places in [(0, half), (half, count), (0, count)] {
+        script.give_back(rt, order, count, places);
+        script.fill(rt, order, count, places, layout);
+    }
+    script
+}
+
+static ORDERS: [Order; 3] = [Order::Ascending, Order::Descending, Order::Alternating];
+
+/// Whether a pool of so many bytes holds `count` payloads and no more, in each of the three orders.
+fn holds<Bits: BitPattern, const FLLEN: usize, const SLLEN: usize>(
+    rt: &(impl Abort + AllocGlobal),
+    count: usize,
+    layout: Layout,
+    len: usize,
+    shape: Shape<'_, Bits, FLLEN, SLLEN>,
+) -> bool
+    requires { IsValid Bits.width Bits.width FLLEN SLLEN }
+{
+    for order in &ORDERS {
+        let script = filled_in_order(rt, *order, count, layout, len);
+        if wrong_in(rt, &script, len, shape).is_some() {
+            return false;
+        }
+    }
+    true
+}
+
+/// The length of a pool for 100 objects of a size, and the size to ask for, where the pool holds 100 and one that is 32 bytes
+/// shorter holds 99, in each order.
+fn pool_of_100<Bits: BitPattern, const FLLEN: usize, const SLLEN: usize>(
+    rt: &(impl Abort + AllocGlobal),
+    size: usize,
+    shape: Shape<'_, Bits, FLLEN, SLLEN>,
+) -> Option<(usize, usize)>
+    requires { IsValid Bits.width Bits.width FLLEN SLLEN }
+{
+    let found = pool_size_for_objects::<Bits, Bits, FLLEN, SLLEN>(100, size);
+    let Some((len, size)) = found else {
+        return None;
+    };
+    let object = layout_of(rt, size, 16);
+    let shorter = len.saturating_sub(32);
+    if holds(rt, 100, object, len, shape) && holds(rt, 99, object, shorter, shape) {
+        Some((len, size))
+    } else {
+        None
+    }
+}
+
+/// The same for objects of 40, of 700 and of 1100 bytes.
+fn pools_of_100<Bits: BitPattern, const FLLEN: usize, const SLLEN: usize>(
+    rt: &(impl Abort + AllocGlobal),
+    shape: Shape<'_, Bits, FLLEN, SLLEN>,
+) -> [Option<(usize, usize)>; 3]
+    requires { IsValid Bits.width Bits.width FLLEN SLLEN }
+{
+    [
+        pool_of_100(rt, 40, shape),
+        pool_of_100(rt, 700, shape),
+        pool_of_100(rt, 1100, shape),
+    ]
+}
+
+#[test]
+fn pools_of_100_objects(rt: HostRuntime) {
+    let found = [
+        pools_of_100::<u16, 12, 16>(&rt, None),
+        pools_of_100::<u64, 59, 8>(&rt, None),
+        pools_of_100::<u64, 64, 64>(&rt, None),
+    ];
+    let expected = [
+        [Some((6432, 48)), Some((73632, 720)), Some((115232, 1136))],
+        [Some((6432, 48)), Some((76832, 752)), Some((115232, 1136))],
+        [Some((6432, 48)), Some((73632, 720)), Some((112032, 1104))],
+    ];
+    assert_eq!(rt; found, expected);
+}
+
+/// How many payloads are live at most in the random run.
+const NAMES: usize = 50;
+
+/// What a word does to the payload of a name: one that isn't live is allocated, and a live one gets another size, or is given
+/// back, in one of eight times. Sizes go up to 700 bytes, alignments up to 64.
+fn random_op(rt: &impl Abort, word: u64, live: &mut [bool; NAMES]) -> Op {
+    let [name, kind, high, low, shift, ..] = word.to_be_bytes();
+    let name = name as usize % NAMES;
+    let size = u16::from_be_bytes([high, low]) as usize % 701;
+    if !live[name] {
+        live[name] = true;
+        Op::Alloc(name, layout_of(rt, size, 1 << (shift % 7)))
+    } else if kind % 8 == 0 {
+        live[name] = false;
+        Op::Free(name)
+    } else {
+        Op::Realloc(name, size)
+    }
+}
+
+/// 100,000 random ops in a pool of so many bytes, each of which has to be granted, and for how many of them all names were live.
+fn random_script(rt: &(impl Abort + AllocGlobal), len: usize) -> (Script, usize) {
+    let mut script = Script::new(rt, len);
+    let mut live = [false; NAMES];
+    let mut full: usize = 0;
+    let mut word = 0x9e3779b97f4a7c15;
+    for _ in 0..100_000 {
+        word = next(word);
+        if live == [true; NAMES] {
+            full = full.wrapping_add(1);
+        }
+        script.add(rt, random_op(rt, word, &mut live), true);
+    }
+    (script, full)
+}
+
+/// The length of a pool for as many payloads as may be live before an op of the random run, where none of its ops is refused.
+fn pool_of_random_run<Bits: BitPattern, const FLLEN: usize, const SLLEN: usize>(
+    rt: &(impl Abort + AllocGlobal),
+    shape: Shape<'_, Bits, FLLEN, SLLEN>,
+) -> Option<usize>
+    requires { IsValid Bits.width Bits.width FLLEN SLLEN }
+{
+    let greatest = layout_of(rt, 700, 64);
+    let len = pool_size_for_payloads::<Bits, Bits, FLLEN, SLLEN>(NAMES, greatest)?;
+    let (script, full) = random_script(rt, len);
+    let wrong = wrong_in(rt, &script, len, shape);
+    if full == 0 || wrong.is_some() {
+        return None;
+    }
+    Some(len)
+}
+
+#[test]
+fn random_run_without_a_refusal(rt: HostRuntime) {
+    // A payload of 700 bytes at a multiple of 64 needs a block of up to 768, at which a class begins: 800 bytes, and 50 times
+    // 1,504.
+    let found = [
+        pool_of_random_run::<u16, 12, 16>(&rt, None),
+        pool_of_random_run::<u64, 59, 8>(&rt, None),
+        pool_of_random_run::<u64, 64, 64>(&rt, None),
+    ];
+    assert_eq!(rt; found, [Some(76000), Some(76000), Some(76000)]);
+}
+
+/// How many payloads are live at most before a call of the run that leaves fragments.
+const FRAGMENTS: usize = 15;
+
+/// Fifteen times a payload shrinks in place to a block of 992 bytes, one with a block of 1024 is allocated behind it, and the first
+/// is given back: so fifteen free blocks are left that are 32 bytes too short for the last allocation, which is granted or not.
+fn fragments(rt: &(impl Abort + AllocGlobal), len: usize, granted: bool) -> Script {
+    let mut script = Script::new(rt, len);
+    let greatest = layout_of(rt, 1008, 1);
+    for name in 0..FRAGMENTS {
+        let fragment = FRAGMENTS + 1;
+        script.add(rt, Op::Alloc(fragment, greatest), true);
+        script.add(rt, Op::Realloc(fragment, 976), true);
+        script.add(rt, Op::Alloc(name, greatest), true);
+        script.add(rt, Op::Free(fragment), true);
+    }
+    script.add(rt, Op::Alloc(FRAGMENTS, greatest), granted);
+    script
+}
+
+/// The length of a pool that never refuses while so many payloads are live, where the last allocation is granted beside the
+/// fragments, and refused in a pool that is 32 bytes shorter.
+fn pool_of_fragments<Bits: BitPattern, const FLLEN: usize, const SLLEN: usize>(
+    rt: &(impl Abort + AllocGlobal),
+    shape: Shape<'_, Bits, FLLEN, SLLEN>,
+) -> Option<usize>
+    requires { IsValid Bits.width Bits.width FLLEN SLLEN }
+{
+    let greatest = layout_of(rt, 1008, 1);
+    let len = pool_size_for_payloads::<Bits, Bits, FLLEN, SLLEN>(FRAGMENTS, greatest)?;
+    let shorter = len.saturating_sub(32);
+    let enough = wrong_in(rt, &fragments(rt, len, true), len, shape);
+    let refused = wrong_in(rt, &fragments(rt, shorter, false), shorter, shape);
+    if enough.is_some() || refused.is_some() {
+        return None;
+    }
+    Some(len)
+}
+
+#[test]
+fn greatest_beside_fragments(rt: HostRuntime) {
+    // The greatest payload needs a block of 1,024 bytes, at which a class begins: 1,056 bytes, and 15 times 2,016.
+    let found = [
+        pool_of_fragments::<u16, 12, 16>(&rt, None),
+        pool_of_fragments::<u64, 59, 8>(&rt, None),
+        pool_of_fragments::<u64, 64, 64>(&rt, None),
+    ];
+    assert_eq!(rt; found, [Some(31296), Some(31296), Some(31296)]);
+}

@@ -1,0 +1,20 @@
+-- What a source is asked for two payloads of one byte.
+use Rattle.std.specs.Prelude.{◌≡◌, ◌<◌, ◌≤◌, ◌⊎◌, false, List, [], ◌∷◌, Option, Some, None}
+use Rattle.rlsf_base.specs.declared.memory.range.Range.{Range}
+use Rattle.rlsf_test_source.specs.declared.listed.Question.{Question}
+use Rattle.rlsf_test_source.specs.declared.listed.Question.TheVariants.{Alloc}
+use Rattle.rlsf_machine.specs.Terms.{Terms}
+
+-- a source of a space that neither grows a range nor takes one back, and whose ranges start at multiples of 32
+abbrev pub plain : Range → Terms
+plain space = record { space = space; dealloc = false; grow = false; contiguous = false; min_align = 32 }
+
+-- What was asked for two allocations of one byte from the empty state, as they reply: the first one asks for a range of 64 bytes. Where
+-- that was refused, the second one asks for the same again. Else it has room if the range that came has 96 bytes or more, and asks for
+-- another if it has fewer.
+abbrev pub IsAskedForTwo : {A : Type 0} → Option A → Option A → List Question → Type 0
+IsAskedForTwo None None asked = asked ≡ Alloc 64 None ∷ Alloc 64 None ∷ []
+IsAskedForTwo None (Some b) asked = (r : Range) × (asked ≡ Alloc 64 None ∷ Alloc 64 (Some r) ∷ [])
+IsAskedForTwo (Some a) None asked = (r : Range) × (r.len < 96) × (asked ≡ Alloc 64 (Some r) ∷ Alloc 64 None ∷ [])
+IsAskedForTwo (Some a) (Some b) asked =
+    (r : Range) × (((96 ≤ r.len) × (asked ≡ Alloc 64 (Some r) ∷ [])) ⊎ ((r.len < 96) × (q : Range) × (asked ≡ Alloc 64 (Some r) ∷ Alloc 64 (Some q) ∷ [])))

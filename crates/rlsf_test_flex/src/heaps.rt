@@ -1,0 +1,179 @@
+//! The allocators that the tests are about, what they are asked, and what must come of it.
+
+ghost use Rattle.std.specs.Prelude.{◌≡◌, [], length, IfSome};
+ghost use Rattle.rlsf_base.specs.Range.{LiesIn};
+ghost use Rattle.rlsf_test_flex.specs.Cursor.{MayOwe};
+
+use crate::cursor::{CursorSource, Habits, Question, Questions};
+use rlsf_base::memory::{Addr, Layout, Memory, Range};
+use rlsf_flex::{FlexSource, FlexTlsf};
+use std::alloc::Global;
+use std::cell::Cell;
+use std::process::Abort;
+
+/// The shape of most tests, over any source: chunks up to 8160 bytes.
+pub type Shaped<S> = FlexTlsf<S, u8, u8, 8, 8>;
+
+/// The same over a source with a cursor.
+pub type Small<'a> = Shaped<CursorSource<'a>>;
+
+/// A step of a test, and what it answers.
+#[derive(Clone, Copy)]
+pub enum Step {
+    /// Allocates for so many bytes: the payload's address, or 0.
+    Allocate(u32, usize),
+    /// The same, and gives the payload back.
+    GiveBack(u32, usize),
+    /// Trims: how many ranges went.
+    Trim(usize),
+    /// Reads the footer at an address.
+    Footer(usize, (u64, u64)),
+}
+
+/// An allocator over a source, and what must come of its steps.
+#[derive(Clone, Copy)]
+pub struct Case {
+    /// The space of the source, a part of the memory of 4096 bytes from the address 4096 on.
+    pub space: Range,
+    pub habits: Habits,
+    pub steps: &'static [Step],
+    /// What the source is asked, up to the end.
+    pub asked: &'static [Question],
+    /// A footer that stands after the end.
+    pub left: Option<(usize, (u64, u64))>,
+}
+
+/// The index of the first step that went otherwise, and what the source was asked.
+pub type Outcome = (Option<usize>, [Question; 8]);
+
+/// Passes where no step went otherwise, and the source was asked so.
+pub fn is_right(rt: &impl Abort, outcome: Outcome, asked: &[Question]) {
+    assert_eq!(rt; outcome, (None, only(asked)));
+}
+
+/// A memory of 4096 bytes from the address 4096 on, and a source of a part of it; nothing where it is no part of it, or the system
+/// refuses memory.
+pub fn parts<'a>(
+    alloc: Global,
+    space: Range,
+    habits: Habits,
+    seen: &'a Cell<Questions>,
+) -> Option<(Memory, CursorSource<'a>)>
+    ensures { IfSome result (λ r. (r.0.start ≡ 4096) × (length r.0.bytes ≡ 4096) × LiesIn r.1.terms.space 4096 4096 × MayOwe r.1 []) }
+{
+    if space.start < 4096 || space.start > 8192 || space.len > 8192 - space.start {
+        return None;
+    }
+    let min_align = Layout::from_size_align(1, habits.min_align).ok()?.align();
+    let memory = Memory::new(alloc, 4096, 4096).ok()?;
+    let habits = Habits {
+        min_align,
+        ..habits
+    };
+    Some((memory, CursorSource::new(space, habits, seen)))
+}
+
+/// An allocator over such a source.
+pub fn small<'a>(
+    rt: &(impl Abort + AllocGlobal),
+    space: Range,
+    habits: Habits,
+    seen: &'a Cell<Questions>,
+) -> Small<'a> {
+    let (memory, source) = parts(rt.alloc(), space, habits, seen).expect(
+        rt,
+        "a memory and a source",
+    );
+    FlexTlsf::new(memory, source)
+}
+
+/// An address as a number, 0 if there is none.
+pub fn number(addr: Option<Addr>) -> usize {
+    match addr {
+        Some(addr) => addr.get(),
+        None => 0,
+    }
+}
+
+/// The layout of so many bytes at any address.
+pub fn bytes(size: u32) -> Layout
+    ensures { (result.size ≡ size) × (result.align ≡ 1) }
+{
+    Layout::from_size_align_unchecked(size as usize, 1)
+}
+
+/// The address that is allocated for so many bytes, or 0. The payload is given back.
+fn given_back<S: FlexSource>(flex: &mut Shaped<S>, size: u32) -> usize {
+    match flex.allocate(bytes(size)) {
+        Some(addr) => {
+            flex.deallocate(addr, 1);
+            addr.get()
+        }
+        None => 0,
+    }
+}
+
+/// The two words of a footer, where the memory has them.
+pub fn footer(memory: &Memory, addr: usize) -> Option<(u64, u64)> {
+    let offset = addr.checked_sub(memory.start())?;
+    if addr % 8 == 0 && offset < memory.len() && memory.len() - offset >= 16 {
+        Some((memory.word(addr), memory.word(addr + 8)))
+    } else {
+        None
+    }
+}
+
+/// Whether the allocator answers a step as it has to.
+fn goes_so<S: FlexSource>(flex: &mut Shaped<S>, step: Step) -> bool {
+    match step {
+        Step::Allocate(size, addr) => number(flex.allocate(bytes(size))) == addr,
+        Step::GiveBack(size, addr) => given_back(flex, size) == addr,
+        Step::Trim(count) => flex.trim() == count,
+        Step::Footer(addr, words) => footer(flex.memory_ref(), addr) == Some(words),
+    }
+}
+
+/// The index of the first step that the allocator answers otherwise.
+pub fn first_wrong<S: FlexSource>(flex: &mut Shaped<S>, steps: &[Step]) -> Option<usize> {
+    for (index, step) in steps.iter().enumerate() {
+        if !goes_so(flex, *step) {
+            return Some(index);
+        }
+    }
+    None
+}
+
+/// What comes of a case up to its end. A source that takes nothing back must be asked nothing in the end.
+pub fn outcome(rt: &(impl Abort + AllocGlobal), case: Case) -> Outcome {
+    let seen = Cell::new(Questions::new());
+    let mut flex = small(rt, case.space, case.habits, &seen);
+    let wrong = first_wrong(&mut flex, case.steps);
+    let before = flex.source_ref().asked();
+    let (memory, source) = flex.into_parts();
+    let asked = source.asked();
+    let is_left = match case.left {
+        Some((addr, words)) => footer(&memory, addr) == Some(words),
+        None => true,
+    };
+    if is_left && (case.habits.dealloc || before == asked) {
+        (wrong, asked)
+    } else {
+        (Some(case.steps.len()), asked)
+    }
+}
+
+/// Passes where what must comes of each case.
+pub fn are_right(rt: &(impl Abort + AllocGlobal), cases: &[Case]) {
+    for case in cases {
+        is_right(rt, outcome(rt, *case), case.asked);
+    }
+}
+
+/// These questions, and no others.
+fn only(asked: &[Question]) -> [Question; 8] {
+    let mut all = Questions::new();
+    for question in asked {
+        all = all.with(*question);
+    }
+    all.asked()
+}

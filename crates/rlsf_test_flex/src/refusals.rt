@@ -1,0 +1,225 @@
+//! Sources that answer from a list, as it is and with each answer replaced by none in turn: after each call that is refused, all
+//! bytes and the source's outstanding ranges are as before, and the run goes on.
+
+mod tables;
+
+ghost use Rattle.rlsf_base.specs.PowerOfTwo.{IsPowerOfTwo};
+
+use self::tables::{CLAIMS_CONTIGUITY, GROWS_AND_TAKES_BACK, TAKES_BACK};
+use crate::sources::parts;
+use rlsf_base::memory::{Memory, Range};
+use rlsf_flex::FlexTlsf;
+use rlsf_test_source::{Capabilities, ListedSource, Question, SourceAnswer};
+use rlsf_trace_flex_runs::run_flex;
+use rlsf_trace_text::{Answer, Op, Trace, text_of};
+use std::alloc::AllocError;
+use std::process::Abort;
+
+/// The answers of a source, the calls of its runs, and what each run answers and asks: first with the answers as they are, and then
+/// with each of them replaced by none.
+struct List {
+    answers: &'static [SourceAnswer],
+    trace: &'static str,
+    runs: &'static [&'static str],
+}
+
+/// What calls leave at the end: what they answered, the memory and the source.
+#[derive(Drop)]
+struct Left {
+    answers: Vec<Answer>,
+    memory: Memory,
+    source: ListedSource,
+}
+
+/// What ops leave over a source with these answers.
+fn left_by(
+    rt: &(impl Abort + AllocGlobal),
+    capabilities: Capabilities,
+    given: &[SourceAnswer],
+    ops: &[Op],
+) -> Left
+    requires { IsPowerOfTwo capabilities.min_align }
+{
+    let (first, fresh) = parts(rt.alloc(), capabilities, given).expect(rt, "memory");
+    let mut flex = FlexTlsf::<_, u8, u8, 8, 8>::new(first, fresh);
+    let mut answers = Vec::new(rt.alloc());
+    run_flex(rt.alloc(), &mut flex, ops, &mut answers).expect(rt, "memory");
+    let (memory, source) = flex.into_parts();
+    Left {
+        answers,
+        memory,
+        source,
+    }
+}
+
+/// The questions up to the end, and those at the end: the ranges that were outstanding then.
+fn up_to_end(asked: &[Question]) -> (&[Question], &[Question]) {
+    for (end, question) in asked.iter().enumerate() {
+        if let Question::Dealloc(_) = question {
+            return asked.split_at(end);
+        }
+    }
+    (asked, &[])
+}
+
+/// Whether a question was answered with none.
+fn is_refused(question: &Question) -> bool {
+    matches!(
+        question,
+        Question::Alloc(_, None) | Question::Grow(_, _, None)
+    )
+}
+
+/// All bytes of a memory.
+fn bytes(memory: &Memory) -> &[u8] {
+    memory.slice(Range {
+        start: memory.start(),
+        len: memory.len(),
+    })
+}
+
+/// Whether a call that was refused left the bytes and the outstanding ranges as they were, and got no memory.
+fn is_unchanged(before: &Left, after: &Left) -> bool {
+    let (asked, outstanding) = up_to_end(before.source.asked());
+    let (asked_then, outstanding_then) = up_to_end(after.source.asked());
+    let Some(new) = asked_then.strip_prefix(asked) else {
+        return false;
+    };
+    bytes(&before.memory) == bytes(&after.memory)
+        && outstanding == outstanding_then
+        && new.iter().all(is_refused)
+}
+
+/// Whether one more op adds one answer, and leaves all as it was where that is a refusal.
+fn follows(before: &Left, after: &Left) -> bool {
+    match after.answers.strip_prefix(before.answers.as_slice()) {
+        Some([Answer::Placed(None)]) => is_unchanged(before, after),
+        Some([_]) => true,
+        _ => false,
+    }
+}
+
+/// What the ops leave; nothing where one of them, done as the last one, doesn't answer what it answers among all of them, or is refused and
+/// leaves something else than was there.
+fn left_by_each(
+    rt: &(impl Abort + AllocGlobal),
+    capabilities: Capabilities,
+    given: &[SourceAnswer],
+    ops: &[Op],
+) -> Option<Left>
+    requires { IsPowerOfTwo capabilities.min_align }
+{
+    let mut before = left_by(rt, capabilities, given, &[]);
+    for (place, _) in ops.iter().enumerate() {
+        let after = left_by(rt, capabilities, given, &ops[..=place]);
+        if !follows(&before, &after) {
+            return None;
+        }
+        before = after;
+    }
+    Some(before)
+}
+
+/// The answers of a list, one of which is replaced by none if the run isn't the first.
+fn replaced(
+    rt: &(impl Abort + AllocGlobal),
+    given: &[SourceAnswer],
+    run: usize,
+) -> Vec<SourceAnswer> {
+    let mut answers = given.to_vec(rt.alloc()).expect(rt, "memory");
+    if 0 < run && run <= answers.len() {
+        answers[run - 1] = SourceAnswer::None;
+    }
+    answers
+}
+
+/// A line for a question.
+fn tell(text: &mut String, question: Question) -> Result<(), AllocError> {
+    match question {
+        Question::Alloc(size, Some(Range { start, len })) => {
+            write!(text, "asked {size} got {start} {len}\n")
+        }
+        Question::Alloc(size, None) => write!(text, "asked {size} got none\n"),
+        Question::Grow(Range { start, len }, wanted, Some(given)) => {
+            write!(
+                text,
+                "asked {start} {len} to grow to {wanted} got {given}\n"
+            )
+        }
+        Question::Grow(Range { start, len }, wanted, None) => {
+            write!(text, "asked {start} {len} to grow to {wanted} got none\n")
+        }
+        Question::Dealloc(Range { start, len }) => write!(text, "given back {start} {len}\n"),
+    }
+}
+
+/// What a run answers and asks; nothing where a refused call changes something.
+fn told(
+    rt: &(impl Abort + AllocGlobal),
+    capabilities: Capabilities,
+    list: &List,
+    run: usize,
+) -> Option<String>
+    requires { IsPowerOfTwo capabilities.min_align }
+{
+    let trace = Trace::parse(rt.alloc(), list.trace.as_bytes()).expect(rt, "a trace");
+    let given = replaced(rt, list.answers, run);
+    let left = left_by_each(rt, capabilities, &given, &trace.ops)?;
+    let mut text = text_of(rt.alloc(), &trace.ops, &left.answers).expect(rt, "memory");
+    for question in left.source.asked() {
+        tell(&mut text, *question).expect(rt, "memory");
+    }
+    Some(text)
+}
+
+/// The first run that goes otherwise, or 0 where there isn't a run for each answer and one more.
+fn first_wrong(
+    rt: &(impl Abort + AllocGlobal),
+    capabilities: Capabilities,
+    list: &List,
+) -> Option<usize>
+    requires { IsPowerOfTwo capabilities.min_align }
+{
+    if list.answers.len().checked_add(1) != Some(list.runs.len()) {
+        return Some(0);
+    }
+    for (run, wanted) in list.runs.iter().enumerate() {
+        match told(rt, capabilities, list, run) {
+            Some(text) if text.as_str() == *wanted => {}
+            _ => return Some(run),
+        }
+    }
+    None
+}
+
+/// A source that grows its ranges and takes them back, one that claims to be one range, and one that only takes its ranges back.
+const GROWS: Capabilities = Capabilities {
+    dealloc: true,
+    grow: true,
+    contiguous: false,
+    min_align: 1,
+};
+
+const CLAIMS: Capabilities = Capabilities {
+    dealloc: false,
+    grow: true,
+    contiguous: true,
+    min_align: 1,
+};
+
+const TAKES: Capabilities = Capabilities {
+    dealloc: true,
+    grow: false,
+    contiguous: false,
+    min_align: 64,
+};
+
+#[test]
+fn each_answer_refused(rt: HostRuntime) {
+    let found = [
+        first_wrong(&rt, GROWS, &GROWS_AND_TAKES_BACK),
+        first_wrong(&rt, CLAIMS, &CLAIMS_CONTIGUITY),
+        first_wrong(&rt, TAKES, &TAKES_BACK),
+    ];
+    assert_eq!(rt; found, [None; 3]);
+}

@@ -1,0 +1,114 @@
+//! Replays: what is written for texts, what is told of their faults, and the status.
+
+mod examples;
+mod faults;
+mod streams;
+
+use rlsf_trace::replay;
+use rlsf_trace_text::status;
+use std::process::Abort;
+
+const FIRST_RUN: &[u8] = b"8x8 4096 4096\ninsert 4096 96\nalloc 1 0 1\nalloc 2 0 1\nalloc 3 0 1\n";
+
+/// What is written for a text, and what is told of its fault and the status.
+fn replayed(rt: &(impl Abort + AllocGlobal), text: &[u8]) -> String {
+    let mut reader = text;
+    let mut written = Vec::new(rt.alloc());
+    let outcome = replay(rt.alloc(), &mut reader, &mut written);
+    let mut told = String::from_utf8(written).expect(rt, "a text");
+    if let Err(fault) = outcome {
+        write!(told, "{fault}, ").expect(rt, "memory");
+    }
+    let code = status(&outcome);
+    write!(told, "status {code}").expect(rt, "memory");
+    told
+}
+
+/// Passes where for each text is written, and told of its fault and the status, what stands beside it.
+pub fn replays(rt: &(impl Abort + AllocGlobal), cases: &[(&[u8], &str)]) {
+    for (text, wanted) in cases {
+        assert_eq!(rt; replayed(rt, text).as_str(), *wanted);
+    }
+}
+
+static TEXTS: [(&[u8], &str); 17] = [
+    // A first run.
+    (
+        FIRST_RUN,
+        "insert some 96\nalloc 1 at 4112\nalloc 2 at 4144\nalloc 3 none\nstatus 0",
+    ),
+    // A first line alone.
+    (b"8x8 4096 96", "status 0"),
+    // Memory that the machine lacks.
+    (
+        b"8x8 1 18446744073709551614\nalloc 1 0 1\n",
+        "line 1: OutOfMemory, status 1",
+    ),
+    // The text's own faults come first.
+    (
+        b"8x8 1 18446744073709551614\nfoo 1\n",
+        "line 2: UnknownOp, status 1",
+    ),
+    // Refused ops.
+    (b"8x8 4096 96\ninsert 1 1\n", "refused 3 BadRange\nstatus 0"),
+    (
+        b"8x8 4096 4096\ninsert 4096 96\nalloc 1 0 1\nalloc 1 0 1\n",
+        "insert some 96\nalloc 1 at 4112\nrefused 2 NameTaken\nstatus 0",
+    ),
+    (
+        b"8x8 4096 4096\ninsert 4096 96\nalloc 1 17 1\nput 1 48 0\nget 1 48\nget 1 18446744073709551615\n",
+        "insert some 96\nalloc 1 at 4112\nrefused 4 BadOffset\nrefused 4 BadOffset\nrefused 4 BadOffset\nstatus 0",
+    ),
+    (
+        b"8x8 4096 4096\ninsert 4096 96\nfree 1\nfill 1 0\nput 1 0 0\nget 1 0\nalloc 1 0 1\nfree 1\nfree 1\n",
+        "insert some 96\nrefused 1 UnknownName\nrefused 1 UnknownName\nrefused 1 UnknownName\nrefused 1 UnknownName\nalloc 1 at 4112\nfree 1 done\nrefused 1 UnknownName\nstatus 0",
+    ),
+    // Named payloads.
+    // 48 bytes are usable.
+    (
+        b"8x8 4096 4096\ninsert 4096 96\nalloc 1 17 1\nfill 1 7\nget 1 47\nput 1 47 200\nget 1 47\nget 1 46\nfree 1\nalloc 1 0 1\n",
+        "insert some 96\nalloc 1 at 4112\nfill 1 done\nget 1 7\nput 1 done\nget 1 200\nget 1 7\nfree 1 done\nalloc 1 at 4112\nstatus 0",
+    ),
+    // Pools and payloads grow.
+    (
+        b"59x8 4096 4096\ninsert 4096 256\nalloc 1 384 1\nappend 4352 256\nalloc 1 384 1\nappend 4097 0\n",
+        "insert some 256\nalloc 1 none\nappend 256\nalloc 1 at 4112\nrefused 3 BadRange\nstatus 0",
+    ),
+    (
+        b"8x8 4096 4096\ninsert 4096 96\nalloc 1 17 1\nrealloc 1 0\nrealloc 9 0\nrealloc 1 9223372036854775808\nrealloc 1 9223372036854775807\nalloc 2 0 1\n",
+        "insert some 96\nalloc 1 at 4112\nrealloc 1 at 4112\nrefused 1 UnknownName\nrefused 5 BadLayout\nrealloc 1 none\nalloc 2 at 4144\nstatus 0",
+    ),
+    // The stored run of the program.
+    (
+        b"8x8 4096 4096\ninsert 4096 96\nalloc 1 17 1\nusable 1\nrealloc 1 0\nfree 9\nalloc 1 0 1\nalloc 2 0 1\nblock 4096 96 1\nblock 4096 96 2\n",
+        "insert some 96\nalloc 1 at 4112\nusable 1 48\nrealloc 1 at 4112\nrefused 1 UnknownName\nrefused 2 NameTaken\nalloc 2 at 4144\nblock 4128 32 used\nblock none\nstatus 0",
+    ),
+    // Configurations.
+    // One row of one class makes chunks of 64 bytes.
+    (
+        b"1x1 4096 4096\ninsert 4096 200\nalloc 1 0 1\n",
+        "insert some 192\nalloc 1 at 4240\nstatus 0",
+    ),
+    // A free block of 96 bytes is in the class from 64 bytes on where a row has one class, which does not reach 96.
+    (
+        b"8x1 4096 128\ninsert 4096 128\nalloc 1 66 1\n",
+        "insert some 128\nalloc 1 none\nstatus 0",
+    ),
+    (
+        b"8x8 4096 128\ninsert 4096 128\nalloc 1 66 1\n",
+        "insert some 128\nalloc 1 at 4112\nstatus 0",
+    ),
+    (
+        b"12x16 4096 128\ninsert 4096 128\nalloc 1 66 1\n",
+        "insert some 128\nalloc 1 at 4112\nstatus 0",
+    ),
+    (
+        b"59x8 4096 128\ninsert 4096 128\nalloc 1 66 1\n",
+        "insert some 128\nalloc 1 at 4112\nstatus 0",
+    ),
+];
+
+#[test]
+fn texts(rt: HostRuntime) {
+    replays(&rt, &TEXTS);
+}

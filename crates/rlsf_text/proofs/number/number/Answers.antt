@@ -1,7 +1,0 @@
-use Rattle.std.proofs.Common.{rules}
-use Rattle.rlsf_text.specs.Numbers.{number_of}
-use Rattle.rlsf_text.proofs.number.number.Goals as goal
-
-pub returns : goal.returns
-unfolding number_of
-returns c = search rules

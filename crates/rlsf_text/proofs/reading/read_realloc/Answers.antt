@@ -1,7 +1,0 @@
-use Rattle.std.proofs.Common.{rules}
-use Rattle.rlsf_text.specs.Reading.{realloc_in}
-use Rattle.rlsf_text.proofs.reading.read_realloc.Goals as goal
-
-pub returns : goal.returns
-unfolding realloc_in
-returns c = search rules

@@ -1,0 +1,22 @@
+-- What a whole run of ops leaves of the allocator over a source that it began with.
+use Rattle.std.specs.Prelude.{◌≡◌, ℕ, List, []}
+use Rattle.rlsf_base.specs.Space.{range_of}
+use Rattle.rlsf_flex.specs.Outside.{KeepsOutside}
+use Rattle.rlsf_flex.specs.StandsFor.{FlexContents}
+use Rattle.rlsf_trace_flex_runs.specs.FlexEvents.{RunsFlexByEvents}
+use Rattle.rlsf_trace_flex_runs.specs.FlexRuns.{FlexRunState, RunsFlex, beginning}
+use Rattle.rlsf_machine.specs.FlexState.{empty}
+use Rattle.rlsf_machine.specs.Note.{Note, LeadsBy}
+use Rattle.rlsf_machine.specs.Terms.{Terms}
+use Rattle.rlsf_trace_text.specs.declared.op.Op.{Op}
+use Rattle.rlsf_trace_text.specs.declared.op.Answer.{Answer}
+
+-- From no chunk, no range and no name the ops lead, with these answers and with notes that lead the source on, to the state in the
+-- allocator after them, which a run of the machine's calls with the same notes reaches. Bytes outside of all ranges that the source
+-- ever gave are as they were.
+abbrev pub RunsFlexTo : {S : Type 0} → ℕ → ℕ → (S → Terms) → (S → Note → S → Type 0) → FlexContents S → List Op → List Answer → FlexContents S → Type 0
+RunsFlexTo fllen sllen terms leads before ops answers after =
+    (notes : List Note) × (t : FlexRunState)
+    × RunsFlex fllen sllen (terms before.source) beginning ops answers notes t × LeadsBy leads before.source notes after.source
+    × (after.state ≡ t.flex) × KeepsOutside before.memory [] notes after.memory t.flex.pools
+    × RunsFlexByEvents fllen sllen (range_of before.memory) (terms before.source) empty ops answers notes after.state

@@ -1,0 +1,126 @@
+-- What an op on a named payload leaves of the run's tables.
+use Rattle.std.proofs.Common.{◌≡◌, ℕ, ◌+◌, ◌≤◌, nat_eq, true, false, true≢false, Option, Some, None, IsSome, List, length, refl, sym, ◌∙◌, ap, subst, arith}
+use Rattle.std.specs.HashMap.{get}
+use Rattle.std.specs.Prelude.{IsPermutation}
+use Rattle.std.specs.Option.{is_some, option_map}
+use Rattle.rlsf_base.specs.declared.memory.range.Range.{Range}
+use Rattle.rlsf_base.specs.Range.{LiesIn}
+use Rattle.rlsf_base.specs.Space.{range_of, SamePlace}
+use Rattle.rlsf_machine.specs.Allocate.{Allocates}
+use Rattle.rlsf_machine.specs.Lists.{IsIn}
+use Rattle.rlsf_machine.specs.Reallocate.{Plan, plan, Reallocates, ReallocatesBy}
+use Rattle.rlsf_machine.specs.Release.{Deallocates}
+use Rattle.rlsf_machine.specs.State.{State, Used, Holds, IsLive, usable}
+use Rattle.rlsf_machine.specs.WellFormed.{coverage, itself}
+use Rattle.rlsf_machine.specs.Callers.{align_at}
+use Rattle.rlsf_machine.proofs.CallerWords.{align_at-live}
+use Rattle.rlsf_machine.proofs.ChunkRows.{IsRow-same}
+use Rattle.rlsf_machine.proofs.Live.{deallocation_leaves_others, fill_leaves_others}
+use Rattle.rlsf_machine.specs.Run.{Fills}
+use Rattle.rlsf_blocks.specs.Spare.{KeepsSpare}
+use Rattle.rlsf_tlsf.specs.Allocator.{Allocator, IsInState}
+use Rattle.rlsf_tlsf.proofs.Standing.{live_in}
+use Rattle.rlsf_trace_text.specs.declared.op.Answer.{Answer}
+use Rattle.rlsf_trace_text.specs.declared.op.Op.{Op}
+use Rattle.rlsf_trace_runs.specs.declared.names.Payload.{Payload}
+use Rattle.rlsf_trace_runs.specs.declared.tables.Tables.{Tables}
+use Rattle.rlsf_trace_runs.specs.Names.{address, AreNamed}
+use Rattle.rlsf_trace_runs.specs.Runs.{Does, Frees, Owns, RunState, with_machine}
+use Rattle.rlsf_trace_runs.specs.Steps.Tables.{HasRoom, IsAt, IsInOrder, LeadsOn}
+use Rattle.rlsf_trace_runs.proofs.Named.{AreNamed-filled, AreNamed-freed, AreNamed-kept, AreNamed-untaken, IsSetAt, owned_live, unnamed}
+
+-- what a test for a payload didn't find
+pub none_is : {A : Type 0} (o : Option A) → is_some o ≡ false → o ≡ None
+none_is None e = refl
+none_is (Some x) e = absurd (true≢false e)
+
+-- what it found is some payload, whatever is read of it
+pub some_is : {A B : Type 0} (f : A → B) (o : Option A) → is_some o ≡ true → IsSome (option_map f o)
+some_is f None e = absurd (true≢false (sym e))
+some_is f (Some x) e = refl
+
+-- tables with room for one op more have it for the others
+pub room_left : (tables : Tables) (ops : ℕ) → HasRoom tables (ops + 1) → HasRoom tables ops
+room_left tables ops room = record { names = omega (arith, room.names); pools = omega (arith, room.pools) }
+
+module _ {fllen sllen : ℕ} {v : Allocator} {tables : Tables} {s : RunState} (at : IsAt fllen sllen v tables s) where
+  -- a payload of the table has a block that its name owns, which has as many bytes as are usable
+  pub owned : (name : ℕ) (p : Payload) → get nat_eq tables.names name ≡ Some p → (u : Used) × Owns s name u × Holds s.machine (address p) u × (length u.bytes ≡ (usable u).len)
+  owned name p is =
+      let (u, owns, holds, _) = owned_live at.named name p is in
+      (u, owns, holds, (at.stands.stands.well_formed.used u owns.0).bytes)
+
+  -- an op that changes nothing
+  pub LeadsOn-nothing : (op : Op) (answer : Answer) → Does fllen sllen (range_of v.memory) s op answer s → LeadsOn fllen sllen v s op answer v tables
+  LeadsOn-nothing op answer does = (s, does, at, λ a from to was is. refl)
+
+  -- where other payloads may be named, but the chunks stay
+  pub IsAt-named : {w : Allocator} {new : Tables} {named : ℕ → Option ℕ} → SamePlace v.memory w.memory → (t : State) → IsInState fllen sllen w t → t.chunks ≡ s.machine.chunks → new.pools ≡ tables.pools
+      → AreNamed t new.names named → IsAt fllen sllen w new (record { machine = t; named = named; pools = s.pools })
+  IsAt-named {w} {new} place t stands chunks same are = record {
+    stands = stands;
+    named = are;
+    pools = subst (λ p. IsPermutation s.pools p.items) (sym same) at.pools;
+    in_order = subst (λ p. IsInOrder p.items) (sym same) at.in_order;
+    inside = λ p i. moved p (at.inside p (subst (λ table. IsIn p table.items) same i));
+    covered = λ a. subst (λ cs. coverage itself cs a ≤ coverage itself s.pools a) (sym chunks) (at.covered a);
+    rows = λ p i. IsRow-same s.machine t p chunks (at.rows p i);
+  }
+    where
+      moved : (p : Range) → LiesIn p v.memory.start (length v.memory.bytes) → LiesIn p w.memory.start (length w.memory.bytes)
+      moved p (from, to) = (omega (arith, from, place.0), omega (arith, to, place))
+
+  -- after a fill
+  pub IsAt-filled : {w : Allocator} → SamePlace v.memory w.memory → (t : State) → IsInState fllen sllen w t → (addr : ℕ) (bytes : List ℕ) → Fills s.machine addr bytes t → IsAt fllen sllen w tables (with_machine s t)
+  IsAt-filled place t stands addr bytes step = IsAt-named place t stands (fill_leaves_others s.machine t addr bytes step).0 refl (AreNamed-filled at.named fllen sllen (range_of v.memory) t addr bytes at.stands.stands.well_formed step)
+
+  -- after a step that leaves the chunks and every alignment
+  pub IsAt-aligned : {w : Allocator} → SamePlace v.memory w.memory → (t : State) → IsInState fllen sllen w t → w.state.chunks ≡ v.state.chunks → align_at w.state ≡ align_at v.state → IsAt fllen sllen w tables (with_machine s t)
+  IsAt-aligned {w} place t stands chunks aligns =
+      IsAt-named place t stands (ap (λ x. x.chunks) (sym stands.state) ∙ chunks ∙ ap (λ x. x.chunks) at.stands.state) refl
+      (AreNamed-kept at.named t (λ addr align live. subst (λ x. IsLive x addr align) stands.state (align_at-live w.state addr align (ap (λ f. f addr) aligns ∙ live_in at.stands addr align live))))
+
+  -- after a step that changed nothing
+  pub IsAt-unmoved : {w : Allocator} → SamePlace v.memory w.memory → (t : State) → IsInState fllen sllen w t → t ≡ s.machine → IsAt fllen sllen w tables (record { machine = t; named = s.named; pools = s.pools })
+  IsAt-unmoved place t stands is = IsAt-named place t stands (ap (λ u. u.chunks) is) refl (subst (λ u. AreNamed u tables.names s.named) (sym is) at.named)
+
+  -- a name that no payload has isn't freed
+  pub not_freed : {new : Tables} (name : ℕ) → get nat_eq tables.names name ≡ None → new.pools ≡ tables.pools → IsSetAt name None tables.names new.names
+      → (r : RunState) × ((s.named name ≡ None) × (r ≡ s)) × IsAt fllen sllen v new r × KeepsSpare v.memory s.machine v.memory r.machine
+  not_freed name none same taken =
+      (s, (unnamed at.named name none, refl), IsAt-named (refl, refl, refl, λ none. none) s.machine at.stands refl same (AreNamed-untaken at.named name none taken), λ a from to was is. refl)
+
+  -- the payload of a name was given back
+  pub freed : {w : Allocator} {new : Tables} → SamePlace v.memory w.memory → (t : State) → IsInState fllen sllen w t → KeepsSpare v.memory s.machine w.memory t → (name : ℕ) (p : Payload)
+      → get nat_eq tables.names name ≡ Some p → Deallocates s.machine (address p) t → new.pools ≡ tables.pools → IsSetAt name None tables.names new.names
+      → (r : RunState) × Frees s name r × IsAt fllen sllen w new r × KeepsSpare v.memory s.machine w.memory r.machine
+  freed place t stands keeps name p there step same taken =
+      let (u, owns, holds, _) = owned name p there in (
+        _,
+        (u, owns, t, subst (λ a. Deallocates s.machine a t) (sym holds.1) step, refl),
+        IsAt-named place t stands (deallocation_leaves_others s.machine t (address p) step).0 same (AreNamed-freed at.named t name (address p) (owns.1 ∙ ap Some holds.1) step taken),
+        keeps,
+      )
+
+-- the chunks stay over an allocation
+pub allocation_keeps_chunks : (sllen : ℕ) (s t : State) (size align : ℕ) (reply : Option ℕ) → Allocates sllen s size align reply t → t.chunks ≡ s.chunks
+allocation_keeps_chunks sllen s t size align None step = ap (λ u. u.chunks) step.1
+allocation_keeps_chunks sllen s t size align (Some addr) step = ap (λ u. u.chunks) step.after
+
+-- and over a reallocation
+pub reallocation_keeps_chunks : (sllen : ℕ) (s t : State) (addr size : ℕ) (reply : Option ℕ) → Reallocates sllen s addr size reply t → t.chunks ≡ s.chunks
+reallocation_keeps_chunks sllen s t addr size reply step = by_plan (plan s step.block size) reply step.step
+  where
+    by_plan : (o : Option Plan) (reply : Option ℕ) → ReallocatesBy sllen s step.block size o reply t → t.chunks ≡ s.chunks
+    by_plan (Some p) None way = absurd way
+    by_plan (Some p) (Some to) way = ap (λ u. u.chunks) way.after
+    by_plan None None way = ap (λ u. u.chunks) way.1
+    by_plan None (Some to) way = ap (λ u. u.chunks) way.released.after ∙ ap (λ u. u.chunks) way.allocated.after
+
+-- one that is refused changes nothing
+pub reallocation_refused : (sllen : ℕ) (s t : State) (addr size : ℕ) → Reallocates sllen s addr size None t → t ≡ s
+reallocation_refused sllen s t addr size step = by_plan (plan s step.block size) step.step
+  where
+    by_plan : (o : Option Plan) → ReallocatesBy sllen s step.block size o None t → t ≡ s
+    by_plan (Some p) way = absurd way
+    by_plan None way = way.1

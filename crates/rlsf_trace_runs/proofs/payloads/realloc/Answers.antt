@@ -1,0 +1,91 @@
+use Rattle.std.proofs.Common.{arith, ◌≡◌, Some, None, refl, ap, sym, ◌∙◌, subst, rules, true≢false}
+use Rattle.std.specs.Int.NonZero.{non_zero_usize_get}
+use Rattle.rlsf_base.specs.Addr.{reply}
+use Rattle.rlsf_base.specs.Layout.{IsLayout}
+use Rattle.rlsf_machine.specs.Reallocate.{Reallocates}
+use Rattle.rlsf_machine.specs.State.{State, Used, IsLive}
+use Rattle.rlsf_blocks.specs.Spare.{KeepsSpare}
+use Rattle.rlsf_tlsf.proofs.Standing.{live_in, stepped}
+use Rattle.rlsf_trace_runs.specs.Names.{address}
+use Rattle.rlsf_trace_runs.specs.Runs.{Owns, RunState, with_name}
+use Rattle.rlsf_trace_runs.specs.Steps.Tables.{IsAt}
+use Rattle.rlsf_trace_runs.proofs.Named.{AreNamed-reallocated, owned_live, unnamed}
+use Rattle.rlsf_trace_runs.proofs.NamedPayloads.{IsAt-named, IsAt-unmoved, reallocation_keeps_chunks, reallocation_refused, LeadsOn-nothing, room_left}
+use Rattle.rlsf_trace_text.specs.declared.op.Answer.TheVariants.{Refused}
+use Rattle.rlsf_trace_text.specs.declared.op.Op.TheVariants.{Realloc}
+use Rattle.rlsf_trace_text.specs.declared.op.TraceError.TheVariants.{BadLayout, UnknownName}
+use Rattle.rlsf_trace_runs.proofs.payloads.realloc.Goals as goal
+
+pub returns-in-Some-placed : goal.returns-in-Some-placed
+returns-in-Some-placed g c = record {
+  does = λ s at.
+      let p = c.in-Some.old in
+      let there = sym c.payload.ensures ∙ c.in-Some.is in
+      let live = at.named.live c.args.name p there in
+      let to = non_zero_usize_get c.in-Some-placed.addr in
+      let (size, _) = c.in-Ok.ensures.layout in
+      let (t, moved, stands, keeps) = stepped at.stands c.reallocate-placed.new.self (λ x. Reallocates g.row.SLLEN x (address p) c.in-Ok.layout.size (Some to)) c.in-Some-placed.ensures.step in
+      let step = subst (λ n. Reallocates g.row.SLLEN s.machine (address p) n (Some to) t) size moved in
+      let (u, owns, holds, its) = owned_live at.named c.args.name p there in
+      let valid = subst (IsLayout c.args.size) (sym its) (c.in-Ok.ensures.succeeds.0 refl) in
+      let named = AreNamed-reallocated at.named g.row.FLLEN g.row.SLLEN _ t c.args.name c.args.size (address p) to _ at.stands.stands.well_formed (owns.1 ∙ ap Some holds.1) live step refl c.add_name.ensures.names in (
+        _,
+        (u, owns, valid, t, subst (λ a. Reallocates g.row.SLLEN s.machine a c.args.size (Some to) t) (sym holds.1) step, refl),
+        IsAt-named at c.in-Some-placed.ensures.place t stands (reallocation_keeps_chunks g.row.SLLEN s.machine t (address p) c.args.size (Some to) step) c.add_name.ensures.pools named,
+        keeps,
+      );
+  room = search rules;
+  place = search rules;
+}
+
+pub returns-in_default : goal.returns-in_default
+returns-in_default g c = record {
+  does = λ s at.
+      LeadsOn-nothing at (Realloc c.args.name c.args.size) (Refused UnknownName) (unnamed at.named c.args.name (sym c.payload.ensures ∙ c.in_default.is), refl);
+  room = room_left c.args.tables.now;
+  place = search rules;
+}
+
+pub reallocate-placed-requires : goal.reallocate-placed-requires
+reallocate-placed-requires g c =
+    let (s, at) = c.requires.state in
+    let p = c.in-Some.old in
+    let live = at.named.live c.args.name p (sym c.payload.ensures ∙ c.in-Some.is) in
+    let (size, align) = c.in-Ok.ensures.layout in
+    (omega arith, live_in at.stands (address p) c.in-Ok.layout.align (subst (IsLive s.machine (address p)) (sym align) live))
+
+pub add_name-requires : goal.add_name-requires
+add_name-requires g c = c.requires.room
+
+pub returns-in_default-placed : goal.returns-in_default-placed
+returns-in_default-placed g c = record {
+  does = λ s at.
+      let p = c.in-Some.old in
+      let there = sym c.payload.ensures ∙ c.in-Some.is in
+      let (size, _) = c.in-Ok.ensures.layout in
+      let (t, moved, stands, keeps) = stepped at.stands c.reallocate-placed.new.self (λ x. Reallocates g.row.SLLEN x (address p) c.in-Ok.layout.size (reply c.reallocate-placed.result)) c.reallocate-placed.ensures.step in
+      let none : reply c.reallocate-placed.result ≡ None = ap reply c.in_default-placed.is in
+      let step = subst (λ o. Reallocates g.row.SLLEN s.machine (address p) c.args.size o t) none (subst (λ n. Reallocates g.row.SLLEN s.machine (address p) n (reply c.reallocate-placed.result) t) size moved) in
+      let (u, owns, holds, its) = owned_live at.named c.args.name p there in
+      let valid = subst (IsLayout c.args.size) (sym its) (c.in-Ok.ensures.succeeds.0 refl) in
+      subst (λ o. (x : RunState) × ((v : Used) × Owns s c.args.name v × IsLayout c.args.size v.align × (machine : State) × Reallocates g.row.SLLEN s.machine v.payload c.args.size o machine
+      × (x ≡ record { machine = machine; named = with_name c.args.name o s.named; pools = s.pools }))
+      × IsAt g.row.FLLEN g.row.SLLEN c.reallocate-placed.new.self c.args.tables.now x × KeepsSpare c.args.tlsf.now.memory s.machine c.reallocate-placed.new.self.memory x.machine) (sym none) (
+        _,
+        (u, owns, valid, t, subst (λ a. Reallocates g.row.SLLEN s.machine a c.args.size None t) (sym holds.1) step, refl),
+        IsAt-unmoved at c.reallocate-placed.ensures.place t stands (reallocation_refused g.row.SLLEN s.machine t (address p) c.args.size step),
+        keeps,
+      );
+  room = room_left c.args.tables.now;
+  place = search rules;
+}
+
+pub returns-in_default-from_size_align : goal.returns-in_default-from_size_align
+returns-in_default-from_size_align g c = record {
+  does = λ s at.
+      let p = c.in-Some.old in
+      let (u, owns, holds, its) = owned_live at.named c.args.name p (sym c.payload.ensures ∙ c.in-Some.is) in
+      LeadsOn-nothing at (Realloc c.args.name c.args.size) (Refused BadLayout) ((u, owns, λ valid. true≢false (sym (c.in_default-from_size_align.ensures.succeeds.1 (subst (IsLayout c.args.size) its valid)))), refl);
+  room = room_left c.args.tables.now;
+  place = search rules;
+}

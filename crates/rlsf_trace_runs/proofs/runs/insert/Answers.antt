@@ -1,0 +1,94 @@
+use Rattle.std.proofs.Common.{rules, ◌≡◌, ◌+◌, length, Some, None, true≢false, arith, refl, sym, ◌∙◌, ap, subst, ◌<◌, ◌^◌}
+use Rattle.std.specs.Int.NonZero.{non_zero_usize_get}
+use Rattle.rlsf_base.specs.Addr.{reply}
+use Rattle.rlsf_base.specs.Range.{LiesIn, end_of}
+use Rattle.rlsf_base.specs.Rounding.{round32}
+use Rattle.rlsf_base.specs.Space.{range_of}
+use Rattle.rlsf_machine.specs.Insert.{Inserts, IsFresh}
+use Rattle.rlsf_machine.specs.State.{State, between}
+use Rattle.rlsf_machine.proofs.Untouched.{parts_of-IsFresh}
+use Rattle.rlsf_trace_text.specs.declared.op.Answer.TheVariants.{Refused}
+use Rattle.rlsf_trace_text.specs.declared.op.Op.TheVariants.{Insert}
+use Rattle.rlsf_trace_text.specs.declared.op.TraceError.TheVariants.{BadRange}
+use Rattle.rlsf_blocks.specs.Spare.{KeepsSpare}
+use Rattle.rlsf_tlsf.proofs.Standing.{of_state, stepped}
+use Rattle.rlsf_trace_runs.specs.Runs.{MayInsert, RunState, with_pool}
+use Rattle.rlsf_trace_runs.specs.Steps.Tables.{IsAt}
+use Rattle.rlsf_trace_runs.proofs.NewPools.{pool_bounds}
+use Rattle.rlsf_trace_runs.proofs.NamedPayloads.{LeadsOn-nothing, room_left}
+use Rattle.rlsf_trace_runs.proofs.RunStates.{IsAt-inserted, IsAt-not_inserted, IsFresh-MayInsert, IsVacant-tables, MayInsert-tested, new_pool}
+use Rattle.rlsf_trace_runs.proofs.runs.insert.Goals as goal
+
+pub is_vacant-requires-clause-inside : goal.is_vacant-requires-clause-inside
+is_vacant-requires-clause-inside g c =
+    let (s, at) = c.requires.state in
+    λ p i. subst (λ m. LiesIn p m.start (length m.bytes)) (sym c.memory_ref.ensures.memory) (at.inside p i)
+
+pub insert_free_block_ptr-taken-requires : goal.insert_free_block_ptr-taken-requires
+insert_free_block_ptr-taken-requires g c =
+    let (s, at) = c.requires.state in
+    let may = MayInsert-tested at c.args.range c.memory_ref.ensures.memory (c.is_vacant.ensures.0 c.if-not-is_vacant.false) in
+    let fresh = of_state at.stands (λ x. IsFresh (range_of c.args.tlsf.now.memory) x c.args.range) (IsFresh-MayInsert at c.args.range may) in
+    (omega arith, parts_of-IsFresh (range_of c.args.tlsf.now.memory) c.args.tlsf.now.state c.args.range fresh)
+
+pub pool_of-requires : goal.pool_of-requires
+pool_of-requires g c =
+    let (s, at) = c.requires.state in
+    let may = MayInsert-tested at c.args.range c.memory_ref.ensures.memory (c.is_vacant.ensures.0 c.if-not-is_vacant.false) in
+    let (t, step, stands, _) = stepped at.stands c.insert_free_block_ptr-taken.new.self (λ x. Inserts g.row.FLLEN x c.args.range (Some (non_zero_usize_get c.in-Some.len))) c.in-Some.ensures.step in
+    let bounds = pool_bounds g.row.FLLEN s.machine c.args.range (non_zero_usize_get c.in-Some.len) t step stands.stands.well_formed in
+    (omega (arith, bounds, c.get.ensures.value), omega (arith, bounds, c.get.ensures.value, may.lies_in.1, at.stands.stands.well_formed.addressable))
+
+pub add_pool-requires : goal.add_pool-requires
+add_pool-requires g c =
+    let (s, at) = c.requires.state in
+    let may = MayInsert-tested at c.args.range c.memory_ref.ensures.memory (c.is_vacant.ensures.0 c.if-not-is_vacant.false) in
+    let (t, step, stands, _) = stepped at.stands c.insert_free_block_ptr-taken.new.self (λ x. Inserts g.row.FLLEN x c.args.range (Some (non_zero_usize_get c.in-Some.len))) c.in-Some.ensures.step in
+    let pool = subst (λ n. c.pool_of.result ≡ between (round32 c.args.range.start) (c.args.range.start + n)) c.get.ensures.value c.pool_of.ensures in
+    let (some, apart) = new_pool at c.args.range c.pool_of.result (non_zero_usize_get c.in-Some.len) t may step stands.stands.well_formed pool in
+    record { room = c.requires.room; in_order = at.in_order; some = some; apart = apart }
+
+pub returns-in-Some : goal.returns-in-Some
+returns-in-Some g c = record {
+  does = λ s at.
+      let may = MayInsert-tested at c.args.range c.memory_ref.ensures.memory (c.is_vacant.ensures.0 c.if-not-is_vacant.false) in
+      let (t, step, stands, keeps) = stepped at.stands c.insert_free_block_ptr-taken.new.self (λ x. Inserts g.row.FLLEN x c.args.range (Some (non_zero_usize_get c.in-Some.len))) c.in-Some.ensures.step in
+      let pool = subst (λ n. c.pool_of.result ≡ between (round32 c.args.range.start) (c.args.range.start + n)) c.get.ensures.value c.pool_of.ensures in
+      (_, (may, t, step, refl), IsAt-inserted at c.in-Some.ensures.place t stands c.args.range c.pool_of.result (non_zero_usize_get c.in-Some.len) step may.lies_in pool c.add_pool.ensures.names c.add_pool.ensures.pools c.add_pool.ensures.in_order, keeps);
+  room = search rules;
+  place = search rules;
+}
+
+pub is_vacant-requires-clause-in_order : goal.is_vacant-requires-clause-in_order
+is_vacant-requires-clause-in_order g c =
+    let (s, at) = c.requires.state in
+    at.in_order
+
+pub is_vacant-requires-clause-addressable : goal.is_vacant-requires-clause-addressable
+is_vacant-requires-clause-addressable g c =
+    let (s, at) = c.requires.state in
+    subst (λ m. end_of (range_of m) < 2 ^ 64) (sym c.memory_ref.ensures.memory) at.stands.stands.well_formed.addressable
+
+pub returns-then-not-is_vacant : goal.returns-then-not-is_vacant
+returns-then-not-is_vacant g c = record {
+  does = λ s at.
+      LeadsOn-nothing at (Insert c.args.range) (Refused BadRange)
+      (λ may. true≢false (sym (c.is_vacant.ensures.1 (IsVacant-tables at c.args.range c.memory_ref.ensures.memory may)) ∙ c.if-not-is_vacant.true), refl);
+  room = room_left c.args.tables.now;
+  place = search rules;
+}
+
+pub returns-in_default : goal.returns-in_default
+returns-in_default g c = record {
+  does = λ s at.
+      let may = MayInsert-tested at c.args.range c.memory_ref.ensures.memory (c.is_vacant.ensures.0 c.if-not-is_vacant.false) in
+      let (t, step, stands, keeps) = stepped at.stands c.insert_free_block_ptr-taken.new.self (λ x. Inserts g.row.FLLEN x c.args.range (reply c.insert_free_block_ptr-taken.result)) c.insert_free_block_ptr-taken.ensures.step in
+      let none : reply c.insert_free_block_ptr-taken.result ≡ None = ap reply c.in_default.is in
+      let refused = subst (λ o. Inserts g.row.FLLEN s.machine c.args.range o t) none step in
+      subst (λ o. (x : RunState) × (MayInsert (range_of c.args.tlsf.now.memory) s.pools c.args.range × (machine : State) × Inserts g.row.FLLEN s.machine c.args.range o machine
+      × (x ≡ record { machine = machine; named = s.named; pools = with_pool c.args.range o s.pools }))
+      × IsAt g.row.FLLEN g.row.SLLEN c.insert_free_block_ptr-taken.new.self c.args.tables.now x × KeepsSpare c.args.tlsf.now.memory s.machine c.insert_free_block_ptr-taken.new.self.memory x.machine) (sym none)
+      (_, (may, t, refused, refl), IsAt-not_inserted at c.insert_free_block_ptr-taken.ensures.place t stands c.args.range refused, keeps);
+  room = room_left c.args.tables.now;
+  place = search rules;
+}

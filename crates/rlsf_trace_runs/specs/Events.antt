@@ -1,0 +1,41 @@
+-- The calls of the list machine by which the ops of a run are done.
+use Rattle.std.specs.Prelude.{◌≡◌, ℕ, List, [], ◌∷◌, ◌++◌, Option, Some, None}
+use Rattle.rlsf_base.specs.Addr.{reply}
+use Rattle.rlsf_base.specs.declared.memory.range.Range.{Range}
+use Rattle.rlsf_machine.specs.Run.{Event, insert, append, allocate, deallocate, reallocate, fill, trim, Runs}
+use Rattle.rlsf_machine.specs.State.{State}
+use Rattle.rlsf_trace_text.specs.declared.op.Op.{Op}
+use Rattle.rlsf_trace_text.specs.declared.op.Op.TheVariants.{Insert, Append, Alloc, Free, FreeUnknown, Realloc, ReallocNoMove, Fill, Put, Trim}
+use Rattle.rlsf_trace_text.specs.declared.op.Answer.{Answer}
+use Rattle.rlsf_trace_text.specs.declared.op.Answer.TheVariants.{Inserted, Appended, Placed, Done, Trimmed}
+
+-- a reallocation without a move is the machine's reallocation, with the payload's own address for a reply; one that found no room is no call
+abbrev pub unmoved_calls : ℕ → ℕ → Option ℕ → List Event
+unmoved_calls old size None = []
+unmoved_calls old size (Some addr) = reallocate old size (Some addr) ∷ []
+
+-- The calls of the machine by which an op with its answer is done: one, or none if it is refused or reads, or may not move and finds
+-- no room. An op that sets one byte or all is a fill. A trim that isn't refused is one over a source.
+abbrev pub IsDoneBy : Op → Answer → List Event → Type 0
+IsDoneBy (Insert r) (Inserted len) es = es ≡ insert r (reply len) ∷ []
+IsDoneBy (Append r) (Appended more) es = es ≡ append r more ∷ []
+IsDoneBy (Alloc name layout) (Placed addr) es = es ≡ allocate layout.size layout.align (reply addr) ∷ []
+IsDoneBy (Free name) Done es = (addr : ℕ) × (es ≡ deallocate addr ∷ [])
+IsDoneBy (FreeUnknown name) Done es = (addr : ℕ) × (es ≡ deallocate addr ∷ [])
+IsDoneBy (Realloc name size) (Placed addr) es = (old : ℕ) × (es ≡ reallocate old size (reply addr) ∷ [])
+IsDoneBy (ReallocNoMove name size) (Placed addr) es = (old : ℕ) × (es ≡ unmoved_calls old size (reply addr))
+IsDoneBy (Fill name byte) Done es = (addr : ℕ) × (bytes : List ℕ) × (es ≡ fill addr bytes ∷ [])
+IsDoneBy (Put name offset byte) Done es = (addr : ℕ) × (bytes : List ℕ) × (es ≡ fill addr bytes ∷ [])
+IsDoneBy Trim (Trimmed count) es = es ≡ trim count ∷ []
+IsDoneBy op answer es = es ≡ []
+
+-- so for ops, one after another, each with one answer
+abbrev pub AreDoneBy : List Op → List Answer → List Event → Type 0
+AreDoneBy [] [] es = es ≡ []
+AreDoneBy [] (answer ∷ answers) es = ⊥
+AreDoneBy (op ∷ ops) [] es = ⊥
+AreDoneBy (op ∷ ops) (answer ∷ answers) es = (now : List Event) × (later : List Event) × (es ≡ now ++ later) × IsDoneBy op answer now × AreDoneBy ops answers later
+
+-- the ops with their answers are done by a run of the machine's calls, each of which its caller may make, from one state to another
+abbrev pub RunsByEvents : ℕ → ℕ → Range → State → List Op → List Answer → State → Type 0
+RunsByEvents fllen sllen memory s ops answers t = (es : List Event) × AreDoneBy ops answers es × Runs fllen sllen memory s es t

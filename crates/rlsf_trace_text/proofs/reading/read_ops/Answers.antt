@@ -1,0 +1,5 @@
+use Rattle.std.proofs.Common.{rules}
+use Rattle.rlsf_trace_text.proofs.reading.read_ops.Goals as goal
+
+pub returns-in-Err : goal.returns-in-Err
+returns-in-Err c = search rules

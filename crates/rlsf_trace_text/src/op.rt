@@ -1,0 +1,111 @@
+use rlsf_base::memory::{Addr, Layout, Range};
+use std::fmt;
+use std::num::NonZeroUsize;
+
+/// One op of a trace. Payloads are named by whole numbers of 64 bits.
+#[derive(Clone, Copy, Debug, PartialEq, Eq)]
+pub enum Op {
+    /// Gives the allocator the range as a pool.
+    Insert(Range),
+    /// Gives the allocator the range, which begins where a pool ends, to lengthen that pool.
+    Append(Range),
+    /// Allocates a payload with the layout, and names it.
+    Alloc(usize, Layout),
+    /// Gives the payload of this name back. The name is free again.
+    Free(usize),
+    /// Gives the payload of this name back without telling its alignment. The name is free again.
+    FreeUnknown(usize),
+    /// Gives the payload of this name another size, with the alignment that it was allocated with.
+    Realloc(usize, usize),
+    /// Gives the payload of this name another size where it stands, with the alignment that it was allocated with.
+    ReallocNoMove(usize, usize),
+    /// Sets every usable byte of the payload to the byte.
+    Fill(usize, u8),
+    /// Sets the byte at an offset of the payload.
+    Put(usize, usize, u8),
+    /// Reads the byte at an offset of the payload.
+    Get(usize, usize),
+    /// Asks how many bytes of the payload of this name are usable.
+    Usable(usize),
+    /// Asks for the block at an index, from 0, of the pool that is the range.
+    Block(Range, usize),
+    /// Gives the newest ranges back to the source, as far as they hold no payload. The text of traces has no line for it.
+    Trim,
+}
+
+/// What an op of a trace answers.
+#[derive(Clone, Copy, Debug, PartialEq, Eq)]
+pub enum Answer {
+    /// How many bytes there are from the range's start up to the end of the pool that was made of it, what was skipped in front
+    /// included; none where it was too short for one.
+    Inserted(Option<NonZeroUsize>),
+    /// How many bytes of the range the pool took.
+    Appended(usize),
+    /// The address of the payload, or that there was no room for it.
+    Placed(Option<Addr>),
+    /// The op was done, and there is nothing to tell of it.
+    Done,
+    /// The byte that was read.
+    Byte(u8),
+    /// How many bytes of the payload are usable.
+    Usable(usize),
+    /// The block's range with its header, and whether it is used; none past the last one.
+    Block(Option<(Range, bool)>),
+    /// How many ranges went back to the source.
+    Trimmed(usize),
+    /// The op was refused, and changed nothing.
+    Refused(TraceError),
+}
+
+/// Why an op of a trace is refused. Each error has a number, which printed answers show.
+#[derive(Clone, Copy, Debug, PartialEq, Eq)]
+pub enum TraceError {
+    /// No live payload has the name.
+    UnknownName = 1,
+    /// The name of a new payload is that of a live one.
+    NameTaken = 2,
+    /// The range doesn't lie in the memory; or it is to be inserted or appended, and overlaps a pool; or it is to be appended, and
+    /// no pool ends where it begins; or its blocks are asked for, and its start rounded up to 32 and its end aren't those of one
+    /// pool.
+    BadRange = 3,
+    /// The offset isn't below the usable size of the payload.
+    BadOffset = 4,
+    /// No layout has the new size and the alignment of the payload.
+    BadLayout = 5,
+    /// A range is inserted, appended or walked in a run over a source: there the source's ranges are the pools.
+    NotForFlex = 6,
+    /// A trim in a run without a source: nobody takes ranges back.
+    NotForTlsf = 7,
+}
+
+impl TraceError {
+    ghost use Rattle.std.specs.Prelude.{◌≡◌};
+    ghost use Rattle.rlsf_trace_text.specs.Printing.{error_number};
+
+    /// The error's number.
+    pub fn number(self) -> u8
+        ensures { result ≡ error_number self }
+    {
+        self as u8
+    }
+}
+
+/// The error's word.
+impl fmt::Display for TraceError {
+    ghost use Rattle.std.specs.Prelude.{Some};
+    ghost use Rattle.rlsf_trace_text.specs.Printing.{error_word};
+
+    ghost output = { λ error. Some (error_word error) };
+
+    fn fmt<W: fmt::Write>(&self, f: &mut fmt::Formatter<W>) -> fmt::Result {
+        f.write_str(match self {
+            TraceError::UnknownName => "UnknownName",
+            TraceError::NameTaken => "NameTaken",
+            TraceError::BadRange => "BadRange",
+            TraceError::BadOffset => "BadOffset",
+            TraceError::BadLayout => "BadLayout",
+            TraceError::NotForFlex => "NotForFlex",
+            TraceError::NotForTlsf => "NotForTlsf",
+        })
+    }
+}

@@ -1,0 +1,35 @@
+//! All blocks of an allocator.
+
+ghost use Rattle.std.specs.Prelude.{IfOk};
+ghost use Rattle.rlsf_base.specs.Space.{range_of};
+ghost use Rattle.rlsf_blocks.specs.Blocks.{AreBlocks};
+ghost use Rattle.rlsf_trace_runs.specs.Runs.{RunState};
+ghost use Rattle.rlsf_trace_runs.specs.Steps.Tables.{IsAt};
+
+use rlsf_blocks::BlockInfo;
+use rlsf_int::BitPattern;
+use rlsf_tlsf::Tlsf;
+use rlsf_trace_runs::{RunError, Tables};
+use std::alloc::Global;
+
+/// The blocks of all pools, used and free, in the order of their addresses.
+pub(crate) fn all_blocks<
+    FLBitmap: BitPattern,
+    SLBitmap: BitPattern,
+    const FLLEN: usize,
+    const SLLEN: usize,
+>(
+    alloc: Global,
+    tlsf: &Tlsf<FLBitmap, SLBitmap, FLLEN, SLLEN>,
+    tables: &Tables,
+) -> Result<Vec<BlockInfo>, RunError>
+    requires { (s : RunState) × IsAt FLLEN SLLEN tlsf.now tables.now s }
+    ensures { IfOk result (λ bs. AreBlocks tlsf.now.state (range_of tlsf.now.memory) bs.items) }
+{
+    let mut all = Vec::new(alloc);
+    for place in 0..tables.pools.len() {
+        let blocks: Vec<BlockInfo> = tlsf.iter_blocks(tables.pools[place]).collect(alloc)?;
+        all.extend_from_slice(&blocks)?;
+    }
+    Ok(all)
+}
