@@ -2,6 +2,7 @@ pub mod Changes
 pub mod Layouts
 pub mod Lending
 pub mod Numbers
+pub mod Pieces
 pub mod RawBlock
 pub mod SizeClasses
 pub mod SizeMaps

@@ -1,5 +1,5 @@
 -- Bytes that left a memory, as contracts see them.
-use Rattle.std.specs.Prelude.{◌≡◌, ℕ, ◌+◌, ◌*◌, ◌%◌, ◌^◌, ◌<◌, ◌≤◌, List, length}
+use Rattle.std.specs.Prelude.{◌≡◌, ℕ, ◌+◌, ◌-◌, ◌*◌, ◌%◌, ◌^◌, ◌<◌, ◌≤◌, List, length}
 use Rattle.rlsf_base.specs.declared.memory.range.Range.{Range}
 use Rattle.rlsf_base.specs.declared.memory.view.View.{View}
 use Rattle.rlsf_base.specs.declared.memory.block.Bytes.{Bytes}
@@ -7,10 +7,11 @@ use Rattle.rlsf_base.specs.declared.memory.block.Units.{Units}
 use Rattle.rlsf_base.specs.Out.{Change, kept_at}
 use Rattle.rlsf_base.specs.Changes.{IsIn, IsOwn}
 use Rattle.rlsf_base.specs.Range.{LiesIn, range_at}
-use Rattle.rlsf_base.specs.OpenSpace.{Home}
+use Rattle.rlsf_base.specs.OpenSpace.{Home, place_in}
 use Rattle.rlsf_base.specs.Space.{Space, out_at}
 use Rattle.rlsf_base.specs.Steps.Block.{start_of}
-use Rattle.rlsf_base.specs.Steps.Ownership.{units_in}
+use Rattle.rlsf_base.specs.Steps.Ownership.{bytes_own, units_in}
+use Rattle.std.specs.Borrow.{Fml}
 
 -- a part: the memory that it left, where it begins there, its bytes, and the changes of their states
 pub record Piece : Type 0 where
@@ -46,6 +47,27 @@ pub record IsPiece (view : View) (range : Range) (bytes : Bytes) : Type 0 where
 -- the owner of a part's bytes
 abbrev pub HasBytes : Piece → Bytes → Type 0
 HasBytes p b = IsPiece p.home.view (piece_range p) b × (home_from p.home.view b.of ≡ p.home) × (b.bytes ≡ p.bytes) × (b.out ≡ p.out)
+
+-- the part with these fields
+abbrev pub IsPieceOf : View → Range → Bytes → Piece → Type 0
+IsPieceOf view range b p = p ≡ record { home = home_from view b.of; start = range.start; bytes = b.bytes; out = b.out }
+
+-- the place in the block of a memory's first byte
+abbrev pub first_place : Home → ℕ
+first_place h = h.start - (2 ^ 64 - h.view.shift) % 2 ^ 64
+
+-- what a part owns: its bytes, each as it is kept, and the ways of their units
+abbrev pub piece_owns : Piece → Fml
+piece_owns p = bytes_own p.home.view.base.ptr (place_in p.home.view p.start) p.bytes p.out (units_in p.home.view.shift (first_place p.home) p.home.len)
+
+-- what a part owned can be made a part again, by a view of the memory and its addresses
+pub record CanCome (p : Piece) (view : View) (range : Range) : Type 0 where
+  pub viewed : p.home.view ≡ view
+  pub placed : piece_range p ≡ range
+  pub lies : LiesIn (piece_range p) p.home.start p.home.len
+  pub first : (first_place p.home ≤ 15) × (p.home.start ≡ start_of p.home.view.shift (first_place p.home))
+  pub owned : IsOwn p.out 0 (length p.bytes)
+  pub small : place_in p.home.view p.start + length p.bytes < 2 ^ 63
 
 -- whole units of 16 bytes that left a memory: the memory, where they begin there, and how many bytes they have
 pub record UnitPiece : Type 0 where

@@ -245,6 +245,22 @@ impl Bytes {
         let Bytes { mark: _ } = self;
     }
 
+    /// Consumes the owner. What it owns is the caller's from now on.
+    pub(crate) fn into_raw(self)
+        ensures* handed { sem 𝓛 (bytes_own self.at self.skip self.bytes self.out self.units) }
+    {
+        let Bytes { mark: _ } = self;
+    }
+
+    /// Returns the owner of what `into_raw` passed to the caller.
+    pub(crate) unsafe fn from_raw() -> Bytes
+        ghost of: { Ptr × ℕ × List ℕ × List Change × (ℕ × ℕ) × ℕ }
+        requires* { sem 𝓛 (bytes_own of.0 of.1 of.2 of.3 of.5) }
+        ensures { (result.at ≡ of.0) × (result.skip ≡ of.1) × (result.bytes ≡ of.2) × (result.out ≡ of.3) × (result.of ≡ of.4) × (result.units ≡ of.5) }
+    {
+        Bytes { mark: PhantomData }
+    }
+
     /// Returns the place of the first byte as that at which the block begins, and the owner of the same bytes there. It has
     /// the units only if the block began there before.
     pub(crate) fn from_first(self, base: Base, skip: usize) -> (Base, Bytes)

@@ -42,7 +42,7 @@ impl Drop for Part {
 
 impl Part {
     ghost use Rattle.rlsf_base.specs.LendsPiece.{LendsPiece, lent_piece};
-    ghost use Rattle.rlsf_base.specs.Piece.{HasBytes, IsFull};
+    ghost use Rattle.rlsf_base.specs.Piece.{CanCome, HasBytes, IsFull, IsPiece, IsPieceOf, Piece, piece_owns};
 
     // Consumes the part and returns the owner of its bytes. Only a method can take a part apart.
     #[inline(always)]
@@ -55,6 +55,35 @@ impl Part {
             bytes,
         } = self;
         bytes
+    }
+
+    /// Consumes the part. What it owns, its bytes and the ways of their units, is the caller's from now on.
+    pub fn into_raw(self)
+        ensures* handed { sem 𝓛 (piece_owns self) }
+    {
+        self.into_bytes().into_raw();
+    }
+
+    // The part with these fields.
+    fn of(view: View, range: Range, bytes: Bytes) -> Part
+        requires { IsPiece view range bytes }
+        ensures { IsPieceOf view range bytes result }
+    {
+        Part { view, range, bytes }
+    }
+
+    /// Returns the part of what `into_raw` passed to the caller.
+    ///
+    /// # Safety
+    ///
+    /// The caller must own what the part owned, and gives it up. `view` must be a view of the memory that it left, and `range`
+    /// its addresses.
+    pub unsafe fn from_raw(view: View, range: Range) -> Part
+        ghost piece: { Piece }
+        requires* { sem 𝓛 (piece_owns piece) ∗ ⌜ CanCome piece view range ⌝ }
+        ensures { result ≡ piece }
+    {
+        Part::of(view, range, Bytes::from_raw())
     }
 
     /// Returns the address of the first byte.
