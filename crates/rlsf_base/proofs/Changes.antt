@@ -1,5 +1,6 @@
 -- What the bytes of a memory are after a change of some of them.
-use Rattle.std.proofs.Common.{◌≡◌, ℕ, zero, suc, ◌+◌, ◌-◌, ◌<◌, ◌≤◌, ◌⊎◌, Bool, true, false, List, [], ◌∷◌, ap, refl, subst, sym, ◌∙◌, arith, inl, inr, le-leb, lt-ltb, le-ltb}
+use Rattle.std.proofs.Common.{◌≡◌, ℕ, zero, suc, ◌+◌, ◌-◌, ◌<◌, ◌≤◌, ◌⊎◌, Bool, true, false, List, [], ◌∷◌, ap, refl, subst, sym, ◌∙◌}
+use Rattle.std.proofs.Common.{arith, inl, inr, le-leb, lt-ltb, le-ltb}
 use mathlib.Core.Path.{ap₂}
 use borrow.Author.Tests.{lt-leb}
 use Rattle.std.specs.Prelude.{leb, ltb, ◌&&◌, if◌then◌else◌}
@@ -90,7 +91,8 @@ of-all cs i (suc n) e k lo hi = elim (eq-or-lt_of_le lo) [
 
 -- ---- bytes that were written, or came back
 
-back-if : (t : Bool) (cs : List Change) (i n k : ℕ) → (t ≡ true → IsIn cs i n) → kept_at (if t then cs else change here i n ∷ cs) k ≡ kept_at (change here i n ∷ cs) k
+back-if : (t : Bool) (cs : List Change) (i n k : ℕ) → (t ≡ true → IsIn cs i n)
+    → kept_at (if t then cs else change here i n ∷ cs) k ≡ kept_at (change here i n ∷ cs) k
 back-if false cs i n k are = refl
 back-if true cs i n k are = elim (cases_lt k i) [
   | inl before ↦ sym (changed-before here cs i n k before)

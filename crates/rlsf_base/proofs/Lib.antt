@@ -1,3 +1,4 @@
+-- Lemmas on memories and size classes. `RawBlock` is for the manual proofs of `src/memory/block.rt`.
 pub mod Changes
 pub mod Layouts
 pub mod Lending

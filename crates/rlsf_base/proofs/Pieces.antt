@@ -1,9 +1,11 @@
 -- What a part owned is that part again.
-use Rattle.std.proofs.Common.{◌≡◌, ℕ, ◌+◌, ◌%◌, ◌^◌, List, length, refl, sym, ◌∙◌, subst}
+use Rattle.std.proofs.Common.{◌≡◌, ℕ, ◌+◌, ◌%◌, ◌^◌, List, length, arith, refl, sym, ap, ◌∙◌, subst}
+use Rattle.rlsf_base.specs.Changes.{IsOwn}
 use Rattle.rlsf_base.specs.Out.{Change}
 use Rattle.rlsf_base.specs.OpenSpace.{Home, place_in}
 use Rattle.rlsf_base.specs.Piece.{CanCome, IsPiece, IsPieceOf, Piece, first_place, home_from, piece_range}
 use Rattle.rlsf_base.specs.Range.{LiesIn, range_at}
+use Rattle.rlsf_base.specs.Steps.Block.{start_of}
 use Rattle.rlsf_base.specs.Steps.Ownership.{units_in}
 use Rattle.rlsf_base.specs.declared.memory.block.Bytes.{Bytes}
 use Rattle.rlsf_base.specs.declared.memory.range.Range.{Range}
@@ -11,11 +13,22 @@ use Rattle.rlsf_base.specs.declared.memory.view.View.{View}
 
 -- the owner of what a part owns
 abbrev pub IsOwnerOf : Piece → Bytes → Type 0
-IsOwnerOf p e = (e.at ≡ p.home.view.base.ptr) × (e.skip ≡ place_in p.home.view p.start) × (e.bytes ≡ p.bytes) × (e.out ≡ p.out) × (e.of ≡ (first_place p.home, p.home.len)) × (e.units ≡ units_in p.home.view.shift (first_place p.home) p.home.len)
+IsOwnerOf p e =
+    (e.at ≡ p.home.view.base.ptr) × (e.skip ≡ place_in p.home.view p.start) × (e.bytes ≡ p.bytes) × (e.out ≡ p.out) × (e.of ≡ (first_place p.home, p.home.len))
+    × (e.units ≡ units_in p.home.view.shift (first_place p.home) p.home.len)
 
 module _ (p : Piece) (view : View) (range : Range) (can : CanCome p view range) (e : Bytes) (is : IsOwnerOf p e) where
   abbrev owner : Bytes
-  owner = record { mark = e.mark; at = p.home.view.base.ptr; skip = place_in p.home.view p.start; bytes = p.bytes; out = p.out; of = (first_place p.home, p.home.len); units = units_in p.home.view.shift (first_place p.home) p.home.len }
+  owner =
+      record {
+        mark = e.mark;
+        at = p.home.view.base.ptr;
+        skip = place_in p.home.view p.start;
+        bytes = p.bytes;
+        out = p.out;
+        of = (first_place p.home, p.home.len);
+        units = units_in p.home.view.shift (first_place p.home) p.home.len;
+      }
 
   by_itself : IsPiece p.home.view (piece_range p) owner
   by_itself = record {
@@ -27,9 +40,29 @@ module _ (p : Piece) (view : View) (range : Range) (can : CanCome p view range) 
   }
 
   pub is_piece : IsPiece view range e
-  is_piece = subst (λ (u : View × Range × Bytes). IsPiece u.0 u.1 u.2) (λ i. (can.viewed i, can.placed i, record { mark = e.mark; at = sym is.0 i; skip = sym is.1 i; bytes = sym is.2 i; out = sym is.3 i; of = sym is.4 i; units = sym is.5 i })) by_itself
+  is_piece =
+      subst (λ (u : View × Range × Bytes). IsPiece u.0 u.1 u.2)
+      (λ i. (
+        can.viewed i,
+        can.placed i,
+        record { mark = e.mark; at = sym is.0 i; skip = sym is.1 i; bytes = sym is.2 i; out = sym is.3 i; of = sym is.4 i; units = sym is.5 i },
+      )) by_itself
 
   pub same_piece : (q : Piece) → IsPieceOf view range e q → q ≡ p
   same_piece q made =
       made ∙ (λ i. record { home = home_from (sym can.viewed i) (is.4 i); start = (sym can.placed i).start; bytes = is.2 i; out = is.3 i })
       ∙ (λ i. record { home = record { start = sym can.first.1 i; len = p.home.len; view = p.home.view }; start = p.start; bytes = p.bytes; out = p.out })
+
+-- and can be made one again
+pub can_come : (p : Piece) (e : Bytes) → IsPiece p.home.view (piece_range p) e → home_from p.home.view e.of ≡ p.home → e.bytes ≡ p.bytes → e.out ≡ p.out
+    → CanCome p p.home.view (piece_range p)
+can_come p e is home bytes out =
+    let first : e.of.0 ≡ first_place p.home = omega (arith, ap (λ (h : Home). h.start) home) in
+    record {
+      viewed = refl;
+      placed = refl;
+      lies = subst (λ (h : Home). LiesIn (piece_range p) h.start h.len) home is.lies;
+      first = (omega (arith, first, is.first), sym (ap (λ (h : Home). h.start) home) ∙ ap (start_of p.home.view.shift) first);
+      owned = subst (λ (u : List Change × List ℕ). IsOwn u.0 0 (length u.1)) (λ i. (out i, bytes i)) is.whole.1;
+      small = omega (arith, is.place.1, is.small);
+    }

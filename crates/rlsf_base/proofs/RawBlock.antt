@@ -1,4 +1,4 @@
--- The raw block of a memory: what the walks by hand rest on.
+-- The raw block of a memory: lemmas for the manual proofs.
 pub mod Copies
 pub mod Crosses
 pub mod Fills

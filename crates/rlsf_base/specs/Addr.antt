@@ -8,6 +8,6 @@ use Rattle.std.specs.Option.{option_map}
 abbrev pub at : NonZeroUsize → ℕ
 at addr = non_zero_usize_get addr
 
--- the number that is answered, if there is one
+-- the number that is returned, if there is one
 abbrev pub reply : Option NonZeroUsize → Option ℕ
 reply answer = option_map non_zero_usize_get answer

@@ -31,10 +31,12 @@ LongestBlockHasAClass = (fl_bits sl_bits fllen sllen p : ℕ) → IsValid fl_bit
 
 -- a pool that is made for an allocation is no longer than the longest chunk, so it is one chunk
 abbrev pub PoolIsOneChunk : Type 0
-PoolIsOneChunk = (fl_bits sl_bits fllen sllen size align e p : ℕ) → IsValid fl_bits sl_bits fllen sllen → pool_size_to_contain_allocation fllen sllen size align ≡ Some e → max_pool_size fllen ≡ Some p
+PoolIsOneChunk = (fl_bits sl_bits fllen sllen size align e p : ℕ) → IsValid fl_bits sl_bits fllen sllen → pool_size_to_contain_allocation fllen sllen size align ≡ Some e
+    → max_pool_size fllen ≡ Some p
     → e ≤ p
 
 -- its one block, 32 bytes shorter, has a class that reaches what is sought for the allocation
 abbrev pub PoolContainsItsAllocation : Type 0
-PoolContainsItsAllocation = (fl_bits sl_bits fllen sllen size align e : ℕ) → IsValid fl_bits sl_bits fllen sllen → pool_size_to_contain_allocation fllen sllen size align ≡ Some e
+PoolContainsItsAllocation = (fl_bits sl_bits fllen sllen size align e : ℕ) → IsValid fl_bits sl_bits fllen sllen
+    → pool_size_to_contain_allocation fllen sllen size align ≡ Some e
     → (64 ≤ e) × IsSize e × IsValidClass fllen (class_of sllen (e - 32)) × Reaches sllen (class_of sllen (e - 32)) (request_size size align)

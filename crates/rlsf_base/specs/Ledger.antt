@@ -40,7 +40,8 @@ nowhere = extent 0 0 0
 
 -- three numbers as a ghost value
 abbrev pub coded_extent : Coded Extent
-coded_extent = coded_via (coded× coded_ℕ (coded× coded_ℕ coded_ℕ)) (λ v. (v.addr, (v.len, v.align))) (λ v w e i. record { addr = (e i).0; len = (e i).1.0; align = (e i).1.1 })
+coded_extent =
+    coded_via (coded× coded_ℕ (coded× coded_ℕ coded_ℕ)) (λ v. (v.addr, (v.len, v.align))) (λ v w e i. record { addr = (e i).0; len = (e i).1.0; align = (e i).1.1 })
 
 -- shares of an entry, all of which agree on what its ticket shows
 abbrev pub entry_shares : Algebra

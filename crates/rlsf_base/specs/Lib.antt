@@ -1,3 +1,4 @@
+-- Definitions for memories, ranges, layouts and size classes. Read `Range` and `Space` first.
 pub mod Addr
 pub mod Changes
 pub mod ClassLaws

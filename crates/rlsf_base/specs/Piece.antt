@@ -69,7 +69,7 @@ pub record CanCome (p : Piece) (view : View) (range : Range) : Type 0 where
   pub owned : IsOwn p.out 0 (length p.bytes)
   pub small : place_in p.home.view p.start + length p.bytes < 2 ^ 63
 
--- whole units of 16 bytes that left a memory: the memory, where they begin there, and how many bytes they have
+-- complete units of 16 bytes that left a memory: the memory, where they begin there, and how many bytes they have
 pub record UnitPiece : Type 0 where
   pub home : Home
   pub start : ℕ

@@ -1,4 +1,4 @@
--- Rounding to whole blocks.
+-- Rounding to complete blocks.
 use Rattle.std.specs.Prelude.{ℕ}
 use Rattle.std.specs.Int.{next_multiple_of}
 

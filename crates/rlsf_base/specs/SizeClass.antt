@@ -1,6 +1,7 @@
 -- Size classes (Masmano and others, ECRTS 2004): the sizes from one power of two up to the next are a row,
 -- and SLLEN classes of equal width cut each row. All arithmetic is that of whole numbers without bound.
-use Rattle.std.specs.Prelude.{◌≡◌, ℕ, ◌+◌, ◌-◌, ◌*◌, ◌/◌, ◌^◌, ◌<◌, ◌≤◌, ◌⊎◌, Bool, ◌||◌, ◌==◌, IsTrue, nat_le, nat_lt, if◌then◌else◌}
+use Rattle.std.specs.Prelude.{◌≡◌, ℕ, ◌+◌, ◌-◌, ◌*◌, ◌/◌, ◌^◌, ◌<◌, ◌≤◌, ◌⊎◌, Bool, ◌||◌, ◌==◌, IsTrue, nat_le, nat_lt}
+use Rattle.std.specs.Prelude.{if◌then◌else◌}
 use Rattle.rlsf_base.specs.PowerOfTwo.{floor_log2}
 
 -- a row, named by the exponent of the power of two that it begins at, and a place in it, counted from 0

@@ -46,8 +46,8 @@ pool_size_to_contain_allocation fllen sllen size align = option_map (λ n. n + 3
 abbrev pub chunk_length : ℕ → ℕ → Option ℕ
 chunk_length fllen len = if nat_lt len (2 ^ 64) then (if nat_le len (2 ^ (5 + fllen)) then Some len else None) else None
 
--- the length of a chunk that has, beside `count` used blocks of a size, as many free ranges that are 32 bytes shorter than
--- the least that is taken for that size, one range that is taken, and a sentinel of 32 bytes
+-- the length of a chunk with `count` used blocks of a size, a range that is taken, and a sentinel of 32 bytes. It also has `count`
+-- free ranges, each 32 bytes shorter than the least that is taken for that size
 abbrev pub payloads_length : ℕ → ℕ → ℕ → ℕ
 payloads_length count size least = count * size + count * (least - 32) + (least + 32)
 

@@ -1,4 +1,4 @@
--- What the parts of a memory say to each other: no public contract cites these.
+-- Definitions that the private functions of a memory share. No public contract cites these.
 pub mod Block
 pub mod LentParts
 pub mod Ownership

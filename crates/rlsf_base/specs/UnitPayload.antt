@@ -1,4 +1,4 @@
--- Whole units that left a memory, by a pointer to them, with their ticket.
+-- Complete units that left a memory, by a pointer to them, with their ticket.
 use Rattle.std.specs.Prelude.{◌≡◌, ℕ, ◌/◌, ◌%◌}
 use base.Fml.{Fml, fsep}
 use denote.RawPtr.{Ptr, room_for, ◌+ₚ◌}

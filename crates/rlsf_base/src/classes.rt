@@ -227,7 +227,7 @@ pub fn class_of<const SLLEN: usize>(size: usize) -> (usize, usize)
     (row as usize - 5, parts - SLLEN)
 }
 
-// The first class that reaches a size: what stands below the leading ones counts them up. At 2 * SLLEN the next row
+// The first class that reaches a size: what is below the leading ones counts them up. At 2 * SLLEN the next row
 // begins, at its first place. There is no branch here, since nothing foretells which way it would go.
 fn reaching_class<const SLLEN: usize>(size: usize) -> (usize, usize)
     requires parameters { IsTrue (is_row_length SLLEN) }

@@ -7,7 +7,15 @@ use Rattle.rlsf_table.specs.Counts.{Counts}
 pub Counts-touched : (m n : Space) (more : ℕ) → n ≡ record m { touches = m.touches + more } → Counts m n more
 Counts-touched m n more touched =
     let now : n.touches ≡ m.touches + more = ap (λ (o : Space). o.touches) touched in
-    record { start = ap (λ (o : Space). o.start) touched; bytes = ap (λ (o : Space). o.bytes) touched; touches = omega arith; grow = omega arith; copied = ap (λ (o : Space). o.copied) touched; view = ap (λ (o : Space). o.view) touched; out = ap (λ (o : Space). o.out) touched }
+    record {
+      start = ap (λ (o : Space). o.start) touched;
+      bytes = ap (λ (o : Space). o.bytes) touched;
+      touches = omega arith;
+      grow = omega arith;
+      copied = ap (λ (o : Space). o.copied) touched;
+      view = ap (λ (o : Space). o.view) touched;
+      out = ap (λ (o : Space). o.out) touched;
+    }
 
 module _ (m n : Space) (most : ℕ) (counts : Counts m n most) where
   pub SamePlace-counted : SamePlace m n
@@ -33,7 +41,8 @@ module _ (m n : Space) (most : ℕ) (counts : Counts m n most) where
     grow_copied-counted_first least = subst (λ x. x ≤ o.copied) counts.copied least
 
 -- a word alone was read
-pub Counts-loaded : (m n : Space) → n.start ≡ m.start → n.bytes ≡ m.bytes → n.touches ≡ m.touches + 1 → n.copied ≡ m.copied → n.view ≡ m.view → n.out ≡ m.out → Counts m n 1
+pub Counts-loaded : (m n : Space) → n.start ≡ m.start → n.bytes ≡ m.bytes → n.touches ≡ m.touches + 1 → n.copied ≡ m.copied → n.view ≡ m.view
+    → n.out ≡ m.out → Counts m n 1
 Counts-loaded m n start bytes touches copied view out = record { out = out; start = start; bytes = bytes; touches = omega arith; grow = omega arith; copied = copied; view = view }
 
 pub Counts-counted_first : (m n o : Space) (most more : ℕ) → Counts m n most → Counts n o more → Counts m o (most + more)

@@ -1,3 +1,4 @@
+-- Lemmas on the in-band layout of blocks, one folder for each kind of call.
 pub mod Allocate
 pub mod Chunks
 pub mod Counting

@@ -1,4 +1,4 @@
--- A range is handed in behind a chunk.
+-- A range is inserted behind a chunk.
 pub mod Appended
 pub mod Extensions
 pub mod Lengthened

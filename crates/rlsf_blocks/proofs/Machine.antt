@@ -1,4 +1,4 @@
--- States that values of the allocator stand for.
+-- States that values of the allocator represent.
 pub mod Counted
 pub mod EmptyState
 pub mod FreeBlocks

@@ -1,4 +1,4 @@
--- A walk from block to block.
+-- An iteration from block to block.
 pub mod Begins
 pub mod Blocks
 pub mod ChunkEnds

@@ -1,4 +1,4 @@
--- What a walk over the blocks of a range gives.
+-- The blocks that an iteration over a range returns.
 use Rattle.std.specs.Prelude.{◌≡◌, ◌↔◌, ◌%◌, ◌^◌, ◌<◌, ◌≤◌, Bool, true, false, List, [], ◌∷◌, ⊤}
 use Rattle.rlsf_base.specs.declared.memory.range.Range.{Range}
 use Rattle.rlsf_base.specs.Range.{end_of}
@@ -22,7 +22,7 @@ pub data HasBlock (s : State) (b : Block) : Type 0 where
   used : (u : Used) → IsIn u s.used → b.range ≡ u.block → b.is_occupied ≡ true → HasBlock s b
   free : IsIn b.range s.free → b.is_occupied ≡ false → HasBlock s b
 
--- what is walked of a range: from its start rounded up to a multiple of 32 to its end
+-- the part of a range that is iterated over: from its start rounded up to a multiple of 32 to its end
 abbrev pub walked : Range → Range
 walked r = between (round32 r.start) (end_of r)
 

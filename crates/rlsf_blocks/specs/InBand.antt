@@ -1,4 +1,4 @@
--- The words that stand inside the pools. Each block begins with its size word and a word that names the block
+-- The words inside the pools. Each block begins with its size word and a word that names the block
 -- before it; the addresses of blocks are multiples of 32, and the address 0 means none.
 use Rattle.std.specs.Prelude.{◌≡◌, ℕ, ◌+◌, ◌-◌, ◌≤◌}
 use Rattle.rlsf_base.specs.declared.memory.range.Range.{Range}
@@ -7,12 +7,12 @@ use Rattle.rlsf_base.specs.Space.{Space, bytes_in, word_at}
 use Rattle.rlsf_machine.specs.Lists.{IsIn}
 use Rattle.rlsf_machine.specs.State.{State, Used, usable}
 
--- where the sentinel of a chunk stands: its last 32 bytes
+-- where the sentinel of a chunk is: its last 32 bytes
 abbrev pub sentinel_of : Range → ℕ
 sentinel_of c = end_of c - 32
 
--- the size word of a used block is its length with the lowest bit set, of a free one its length, and of a
--- sentinel 32 with the two lowest bits set
+-- The size word of a used block is its length with the lowest bit set. That of a free block is its length. That of a
+-- sentinel is 32 with the two lowest bits set
 pub record HasSizes (m : Space) (s : State) : Type 0 where
   pub used : (u : Used) → IsIn u s.used → word_at m u.block.start ≡ u.block.len + 1
   pub free : (f : Range) → IsIn f s.free → word_at m f.start ≡ f.len

@@ -1,4 +1,4 @@
--- Statements about the words that stand inside the pools, which `laws` of `rlsf_tlsf` proves; and the state with the bytes of a memory.
+-- Statements about the words inside the pools, which `laws` of `rlsf_tlsf` proves; and the state with the bytes of a memory.
 use Rattle.std.specs.Prelude.{◌≡◌, ℕ, ◌+◌, ◌-◌, ◌≤◌, ◌==◌, length, map, nat_lt, if◌then◌else◌}
 use Rattle.rlsf_base.specs.Space.{Space, out_at, byte_at, bytes_in, word_at}
 use Rattle.rlsf_machine.specs.Lists.{IsIn}
@@ -21,18 +21,19 @@ with_bytes_of n u = with_bytes u (bytes_in n (usable u))
 abbrev pub read_from : Space → State → State
 read_from n s = record { chunks = s.chunks; used = map (with_bytes_of n) s.used; free = s.free }
 
--- What is said of the words inside the pools, and of the class table, reads no usable byte of a live payload: whatever
--- callers write there, it holds of the state with these bytes.
+-- The definitions of the in-band layout and of the class table read no usable byte of a live payload. Whatever callers write there, the
+-- memory represents the state with these bytes.
 abbrev pub WordsReadNoPayload : Type 0
-WordsReadNoPayload = (fllen sllen : ℕ) (m n : Space) (t : Table) (s : State) → StandsFor fllen sllen (contents m t) s → DiffersInPayloads m n s → StandsFor fllen sllen (contents n t) (read_from n s)
+WordsReadNoPayload = (fllen sllen : ℕ) (m n : Space) (t : Table) (s : State) → StandsFor fllen sllen (contents m t) s → DiffersInPayloads m n s
+    → StandsFor fllen sllen (contents n t) (read_from n s)
 
--- where the block of the live payload at an address begins, by the word before the payload and one size word: 16 bytes before the
--- payload, where that word is 0, or names a block that ends before the payload, with its size word's flag added; else where it names
+-- The start of the block of the live payload at an address, by the word before the payload and one size word. It is 16 bytes before the
+-- payload if the word is 0, or if the named block ends before the payload by its size word. Otherwise it is the named address
 abbrev pub block_by_words : Space → ℕ → ℕ
 block_by_words m addr =
     let named = word_at m (addr - 8) in
     if named == 0 then addr - 16 else if nat_lt (named + word_at m named) addr then addr - 16 else named
 
--- By these two words every live address gives its block, whatever alignment it was allocated with.
+-- These two words determine the block of every live address, whatever alignment it was allocated with.
 abbrev pub WordsGiveBlock : Type 0
 WordsGiveBlock = (fllen sllen : ℕ) (v : Contents) (s : State) (u : Used) → StandsFor fllen sllen v s → IsIn u s.used → block_by_words v.memory u.payload ≡ u.block.start

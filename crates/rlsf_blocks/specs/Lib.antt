@@ -1,3 +1,4 @@
+-- Definitions for the in-band layout of blocks. Read `InBand` and `StandsFor` first.
 pub mod Blocks
 pub mod InBand
 pub mod Laws

@@ -1,4 +1,4 @@
--- What a value of the allocator stands for.
+-- What a value of the allocator represents.
 use Rattle.std.specs.Prelude.{◌≡◌, ℕ, ◌<◌, ◌≤◌, ◌⊎◌, true}
 use Rattle.rlsf_base.specs.Out.{is_own}
 use Rattle.rlsf_base.specs.Range.{end_of}
@@ -22,7 +22,8 @@ contents m t = record { memory = m; table = t }
 abbrev pub IsUnlent : State → ℕ → Type 0
 IsUnlent s a = (u : Used) → IsIn u s.used → (a < u.payload) ⊎ (end_of u.block ≤ a)
 
--- the state is well-formed, no byte is out but usable bytes of live payloads, and the words in the memory and the class table spell it; no byte has the address 0
+-- The state is well-formed, and only usable bytes of live payloads may be out. The words in the memory and the class table encode the
+-- state. No byte has the address 0
 pub record StandsFor (fllen sllen : ℕ) (v : Contents) (s : State) : Type 0 where
   pub nonzero : 0 < v.memory.start
   pub well_formed : IsWellFormed fllen sllen (range_of v.memory) s

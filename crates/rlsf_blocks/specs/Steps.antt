@@ -1,4 +1,4 @@
--- What the calls on a memory and its class table say to those who build on them: no contract of the allocator cites these.
+-- Definitions for the calls on a memory and its class table. No contract of the allocator cites these.
 pub mod Extension
 pub mod Join
 pub mod LiveBlock

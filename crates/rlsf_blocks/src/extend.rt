@@ -1,4 +1,4 @@
-//! Appends: ranges that are handed in behind a chunk.
+//! Appends: a range is inserted behind a chunk.
 
 ghost use Rattle.std.specs.Prelude.{◌≡◌, ◌+◌, ◌*◌, is_some, length, if◌then◌else◌};
 ghost use Rattle.rlsf_base.specs.declared.memory.range.Range.{Range};
@@ -20,8 +20,8 @@ use rlsf_base::classes;
 use rlsf_base::memory::{OpenMemory, Range};
 use rlsf_table::{ClassTable, PREVIOUS_BLOCK, used_size_word};
 
-/// Makes the chunk that ends at `end` longer by `len` bytes. Its old sentinel and the new bytes but those of a new
-/// sentinel become free: joined with a free block before them, they are the newest free block.
+/// Makes the chunk that ends at `end` longer by `len` bytes. Its old sentinel and the new bytes, except those of the new
+/// sentinel, become free. Joined with a free block before them, they are the newest free block.
 fn extend_chunk<const FLLEN: usize, const SLLEN: usize>(
     memory: &mut OpenMemory,
     table: &mut ClassTable<FLLEN, SLLEN>,
@@ -43,8 +43,8 @@ fn extend_chunk<const FLLEN: usize, const SLLEN: usize>(
     deallocate_block(memory, view, table, block);
 }
 
-/// Hands in a range that begins where a chunk ends. Where chunks have a greatest length, the range becomes chunks of its
-/// own; else the chunk grows by the range's length rounded down to a multiple of 32. Answers how many bytes are taken.
+/// Inserts a range that begins where a chunk ends. If chunks have a greatest length, the range becomes chunks of its own.
+/// Otherwise the chunk grows by the range's length rounded down to a multiple of 32. Returns the number of taken bytes.
 pub fn append_chunks<const FLLEN: usize, const SLLEN: usize>(
     memory: &mut OpenMemory,
     table: &mut ClassTable<FLLEN, SLLEN>,

@@ -22,7 +22,7 @@ use rlsf_table::{
     ClassTable, PAD, PREVIOUS_BLOCK, is_free, link_free_block, unlink_free_block, used_end,
 };
 
-/// The used block whose payload at `payload` was allocated with that alignment.
+/// Returns the used block whose payload at `payload` was allocated with that alignment.
 #[inline(always)]
 pub fn used_block(memory: &mut OpenMemory, view: View, payload: usize, align: usize) -> usize
     requires live { (fllen : ℕ) × (sllen : ℕ) × (t : Table) × (s : State) × StandsFor fllen sllen (contents memory.old t) s × IsLive s payload align }
@@ -37,7 +37,7 @@ pub fn used_block(memory: &mut OpenMemory, view: View, payload: usize, align: us
     }
 }
 
-/// Takes the block at `block` out of its list, if it is free. Answers the bytes of the block that was taken out.
+/// Takes the block at `block` out of its list, if it is free. Returns the bytes of the block that was taken out.
 #[inline(always)]
 fn take_free<const FLLEN: usize, const SLLEN: usize>(
     memory: &mut OpenMemory,
@@ -61,7 +61,7 @@ fn take_free<const FLLEN: usize, const SLLEN: usize>(
     }
 }
 
-/// Takes the block at `block` out of its list, if it is free. Answers the bytes of the block that was taken out, or 0.
+/// Takes the block at `block` out of its list, if it is free. Returns the bytes of the block that was taken out, or 0.
 #[inline(always)]
 pub fn take_if_free<const FLLEN: usize, const SLLEN: usize>(
     memory: &mut OpenMemory,
@@ -81,8 +81,8 @@ pub fn take_if_free<const FLLEN: usize, const SLLEN: usize>(
     }
 }
 
-/// Takes the block before the used one at `block` out of its list, if it is free. Answers where the block that was taken
-/// out begins, or `block`.
+/// Takes the block before the used one at `block` out of its list, if it is free. Returns the start of the removed block,
+/// or `block` if none was removed.
 #[inline(always)]
 pub fn take_previous<const FLLEN: usize, const SLLEN: usize>(
     memory: &mut OpenMemory,
@@ -126,7 +126,7 @@ fn put<const FLLEN: usize, const SLLEN: usize>(
     link_free_block(memory, view, table, block, len);
 }
 
-/// Makes the used block at `block` free: joined with a free block before it and a free block behind it, it becomes the
+/// Makes the used block at `block` free. Joined with a free block before it and a free block behind it, it becomes the
 /// newest.
 #[inline(always)]
 pub fn deallocate_block<const FLLEN: usize, const SLLEN: usize>(

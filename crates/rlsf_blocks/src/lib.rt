@@ -1,5 +1,8 @@
-//! Blocks: the words that stand in the pools of a memory, and what makes blocks used or free, over a memory and its class
-//! table. The allocator is made of these calls; what each does to the list machine's state is in its contract.
+//! Blocks: the in-band layout of the pools of a memory, and the calls that make blocks used or free.
+//!
+//! A call takes a memory and its class table. Its contract says what it does to the state of the reference model. Read `specs/InBand` (the
+//! words of a block), `specs/StandsFor` (the represented state) and `specs/Spare` first. Then `src/pool` and `src/extend` (chunks),
+//! `src/placement` and `src/free` (blocks), `src/payload`, `src/walks` (iteration) and `src/removal`. `specs/Laws` is proved in `rlsf_tlsf`.
 #![tactic(auto)]
 
 mod extend;
@@ -21,7 +24,7 @@ pub use walks::{BlockInfo, Blocks, chunk_end, walk_blocks};
 /// The unit of sizes and addresses of blocks, in bytes.
 pub const GRANULARITY: usize = 32;
 
-// The words in memory, and what contracts say of them, are those of this unit.
+// The words in memory, and the definitions that contracts cite, have this unit.
 const _: () = prove!(GRANULARITY == 32);
 
 /// The bytes of a used block before its payload, at the least.

@@ -8,10 +8,10 @@ use crate::HEADER;
 use rlsf_base::memory::{OpenMemory, Range};
 use rlsf_table::{PAD, used_end};
 
-/// Where the block of the live payload at `payload` begins, whatever alignment it was allocated with.
+/// Returns the start of the block of the live payload at `payload`, whatever alignment it was allocated with.
 ///
-/// The word before a payload names its block, or, for an alignment below 32, the block before its block, which ends 16
-/// bytes before the payload; a chunk's first block has none before it.
+/// The word before a payload names its block. For an alignment below 32 it names the block before its block instead, which ends 16
+/// bytes before the payload. The first block of a chunk has none before it.
 pub fn block_of(memory: &OpenMemory, payload: usize) -> usize
     requires { IsLiveIn memory.now payload }
     ensures { AtEachBlock memory.now payload (λ u. result ≡ u.block.start) }
@@ -27,7 +27,7 @@ pub fn block_of(memory: &OpenMemory, payload: usize) -> usize
     if payload > end { nearest } else { named }
 }
 
-/// The bytes from the live payload at `payload` to its block's end, whatever alignment it was allocated with.
+/// Returns the number of bytes from the live payload at `payload` to its block's end, whatever alignment it was allocated with.
 pub fn usable_bytes(memory: &OpenMemory, payload: usize) -> Range
     requires { IsLiveIn memory.now payload }
     ensures { AtEachBlock memory.now payload (λ u. result ≡ usable u) }
@@ -40,7 +40,7 @@ pub fn usable_bytes(memory: &OpenMemory, payload: usize) -> Range
     }
 }
 
-/// The same as `block_of`, by words that are counted: two touches, whatever the words say.
+/// Returns the same as `block_of`, and counts the words that it reads: two touches, whatever the words are.
 pub fn load_block_of(memory: &mut OpenMemory, payload: usize) -> usize
     requires { IsLiveIn memory.old payload }
     ensures block { AtEachBlock memory.old payload (λ u. result ≡ u.block.start) }
@@ -49,7 +49,7 @@ pub fn load_block_of(memory: &mut OpenMemory, payload: usize) -> usize
     let named = memory.load(payload - PAD) as usize;
     let nearest = payload - HEADER;
     if named == 0 {
-        // Counted as the second word is, so that the count does not depend on the words.
+        // Counted like the second word, so that the count does not depend on the words.
         memory.touch();
         return nearest;
     }
@@ -57,7 +57,7 @@ pub fn load_block_of(memory: &mut OpenMemory, payload: usize) -> usize
     if payload > end { nearest } else { named }
 }
 
-/// The same as `usable_bytes`, by words that are counted: three touches, whatever the words say.
+/// Returns the same as `usable_bytes`, and counts the words that it reads: three touches, whatever the words are.
 pub fn load_usable_bytes(memory: &mut OpenMemory, payload: usize) -> Range
     requires { IsLiveIn memory.old payload }
     ensures range { AtEachBlock memory.old payload (λ u. result ≡ usable u) }

@@ -1,4 +1,4 @@
-//! A free block becomes a used block, whole or its front.
+//! A free block, or its front, becomes a used block.
 
 ghost use Rattle.std.specs.Prelude.{◌≡◌, ◌+◌, ◌-◌, ◌%◌, ◌^◌, ◌<◌, List, Some, IfNone};
 ghost use Rattle.rlsf_base.specs.declared.memory.range.Range.{Range};
@@ -48,7 +48,7 @@ pub fn leave_rest<const FLLEN: usize, const SLLEN: usize>(
     link_free_block(memory, view, table, rest, len - taken);
 }
 
-/// Takes the free block of `len` bytes at `block` out of the list of its class `class`, for a block of its first `taken` bytes; a
+/// Takes the free block of `len` bytes at `block` out of the list of its class `class`, for a block of its first `taken` bytes. The
 /// rest becomes a free block.
 #[inline(always)]
 fn take_out<const FLLEN: usize, const SLLEN: usize>(
@@ -74,9 +74,9 @@ fn take_out<const FLLEN: usize, const SLLEN: usize>(
     }
 }
 
-/// Where the payload of a layout lies in the block at `block`, and the length of that block.
+/// Returns the address of the payload of a layout in the block at `block`, and the length of that block.
 ///
-/// An alignment of 16 or less rounds nothing: the payload lies 16 bytes into the block, which is as long as what was sought.
+/// An alignment of 16 or less needs no rounding: the payload lies 16 bytes into the block, and the block has the sought size.
 #[inline(always)]
 fn front(block: usize, layout: Layout) -> (usize, usize)
     requires whole { block % 32 ≡ 0 }
@@ -96,7 +96,7 @@ fn front(block: usize, layout: Layout) -> (usize, usize)
     }
 }
 
-/// Makes a used block for a layout of the front of a free block, the choice for it. Answers the payload's address.
+/// Makes a used block for a layout from the front of the free block that was chosen for it. Returns the payload's address.
 #[inline(always)]
 fn place<const FLLEN: usize, const SLLEN: usize>(
     memory: &mut OpenMemory,
@@ -126,8 +126,8 @@ fn place<const FLLEN: usize, const SLLEN: usize>(
     payload
 }
 
-/// Makes a used block for a layout, of the front of the newest free block of the first class that reaches the size that is
-/// sought. Answers the payload's address, or `None` exactly where no free block's class reaches, and then nothing changes.
+/// Makes a used block for a layout from the front of a free block: the newest one of the first class that reaches the sought size.
+/// Returns the payload's address. If no free block's class reaches that size, returns `None`, and nothing changes.
 #[inline(always)]
 pub fn allocate_block<const FLLEN: usize, const SLLEN: usize>(
     memory: &mut OpenMemory,

@@ -45,7 +45,7 @@ pub fn add_chunk<const FLLEN: usize, const SLLEN: usize>(
     link_free_block(memory, view, table, block, len);
 }
 
-// The length of the chunk that begins what is left of a range.
+// Returns the length of the next chunk of the rest of a range.
 fn chunk_length<const FLLEN: usize, const SLLEN: usize>(left: usize) -> usize
     requires parameters { IsValid 128 128 FLLEN SLLEN }
     requires room { 64 ≤ left }
@@ -58,9 +58,9 @@ fn chunk_length<const FLLEN: usize, const SLLEN: usize>(left: usize) -> usize
     }
 }
 
-/// Makes chunks of a range, from its first multiple of 32 on and while 64 bytes or more are left. Answers the bytes from
-/// the range's start up to the last chunk's end, or `None` without a chunk.
-// Out of line, since pools are rare: so the compiler keeps the memory's base in a register in the frequent calls.
+/// Makes chunks of a range, from its first multiple of 32 on, as long as 64 bytes or more are left. Returns the number of bytes
+/// from the range's start to the last chunk's end, or `None` if no chunk is made.
+// Out of line, since pools are rare. So the compiler keeps the memory's base in a register in the frequent calls.
 #[inline(never)]
 pub fn insert_chunks<const FLLEN: usize, const SLLEN: usize>(
     memory: &mut OpenMemory,

@@ -1,4 +1,4 @@
-//! Removals: chunks of which no block is in use are taken out.
+//! Removals: chunks without a used block are removed.
 
 ghost use Rattle.std.specs.Prelude.{◌≡◌, ◌+◌, ◌≤◌};
 ghost use Rattle.rlsf_base.specs.declared.memory.range.Range.{Range};
@@ -19,8 +19,7 @@ use crate::walks::span;
 use rlsf_base::memory::{OpenMemory, Range};
 use rlsf_table::ClassTable;
 
-/// Takes out the chunk at `start`, of which no block is in use: its one free block leaves its list. Answers where the
-/// chunk ends.
+/// Removes the chunk at `start`, which has no used block: its one free block leaves its list. Returns the chunk's end.
 fn remove_chunk<const FLLEN: usize, const SLLEN: usize>(
     memory: &mut OpenMemory,
     table: &mut ClassTable<FLLEN, SLLEN>,
@@ -36,11 +35,11 @@ fn remove_chunk<const FLLEN: usize, const SLLEN: usize>(
     start + free + GRANULARITY
 }
 
-/// Takes out the chunks of a range, from its start rounded up to 32 to its end, of which no block is in use. The free blocks
+/// Removes the chunks of a range, from its start rounded up to 32 to its end. None of them may have a used block. The free blocks
 /// there leave their lists.
 ///
-/// From there to there the range is a row of whole adjacent chunks, or empty.
-// Out of line, since pools are rare: so the compiler keeps the memory's base in a register in the frequent calls.
+/// That part of the range must be complete contiguous chunks, or empty.
+// Out of line, since pools are rare. So the compiler keeps the memory's base in a register in the frequent calls.
 #[inline(never)]
 pub fn remove_chunks<const FLLEN: usize, const SLLEN: usize>(
     memory: &mut OpenMemory,

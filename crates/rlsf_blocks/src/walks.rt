@@ -1,4 +1,4 @@
-//! The walk over the blocks of a row of chunks.
+//! The iteration over the blocks of contiguous chunks.
 
 ghost use Rattle.std.specs.Prelude.{◌≡◌, ◌+◌, ◌≤◌, ◌↔◌, ℕ, length};
 ghost use Rattle.std.specs.Iterator.{at_most};
@@ -22,7 +22,7 @@ use std::fmt;
 use std::iter::FusedIterator;
 use std::marker::Model;
 
-/// A block of a pool, used or free, as a walk gives it.
+/// A block of a pool, used or free, as an iteration returns it.
 #[derive(Clone, Copy)]
 pub struct BlockInfo {
     range: Range,
@@ -42,14 +42,14 @@ impl Model for BlockInfo {
 }
 
 impl BlockInfo {
-    /// The bytes of the block, with its header.
+    /// Returns the length of the block in bytes, with its header.
     pub fn size(&self) -> usize
         ensures { result ≡ self.now.range.len }
     {
         self.range.len
     }
 
-    /// The bytes of the block but for a header of 16: the greatest size that fits in it, for an alignment below 32.
+    /// Returns the length of the block in bytes without a header of 16. This is the greatest size that fits, for an alignment below 32.
     pub fn max_payload_size(&self) -> usize
         ensures value { result + 16 ≡ self.now.range.len }
         ensures fits { (size : ℕ) → (round32 (16 + size) ≤ self.now.range.len) ↔ (size ≤ result) }
@@ -57,14 +57,14 @@ impl BlockInfo {
         self.range.len - HEADER
     }
 
-    /// The whole block, with its header.
+    /// Returns the range of the complete block, with its header.
     pub fn as_ptr(&self) -> Range
         ensures { result ≡ self.now.range }
     {
         self.range
     }
 
-    /// Whether the block is used.
+    /// Returns whether the block is used.
     pub fn is_occupied(&self) -> bool
         ensures { result ≡ self.now.is_occupied }
     {
@@ -84,11 +84,11 @@ impl fmt::Debug for BlockInfo {
     }
 }
 
-/// The blocks of a row of chunks but for the sentinels, in address order.
+/// The blocks of contiguous chunks except the sentinels, in address order.
 #[derive(Drop)]
 pub struct Blocks<'a> {
     memory: &'a OpenMemory,
-    // Where the next block begins, or the end.
+    // The start of the next block, or the end.
     start: usize,
     end: usize,
 }
@@ -105,8 +105,8 @@ impl<'a> Model for Blocks<'a> {
     ghost invariant = { λ b. IsUnderway b.memory.now b.start b.end };
 }
 
-/// Where a walk over a range begins and ends: at its start rounded up to 32 and at its end, or at one address, if nothing lies
-/// between these.
+/// Returns the start and the end of an iteration over a range: its start rounded up to 32, and its end. If nothing lies between
+/// these, both are one address.
 pub(crate) fn span(range: Range) -> (usize, usize)
     ensures { (fllen sllen : ℕ) (m : Space) (t : Table) (s : State) → StandsFor fllen sllen (contents m t) s → IsRow s (walked range) → IsSpan (walked range) result.0 result.1 }
 {
@@ -119,10 +119,10 @@ pub(crate) fn span(range: Range) -> (usize, usize)
     (start, end)
 }
 
-/// The blocks of a range, from its start rounded up to 32 to its end, but for the sentinels, in address order.
+/// Returns the blocks of a range, from its start rounded up to 32 to its end, except the sentinels, in address order.
 ///
-/// From there to there it is a row of whole adjacent chunks, or empty, in some state for which the memory and a class
-/// table stand.
+/// That part of the range must be complete contiguous chunks, or empty, in some state that the memory and a class table
+/// represent.
 pub fn walk_blocks(memory: &OpenMemory, range: Range) -> Blocks<'_>
     requires { (fllen : ℕ) × (sllen : ℕ) × (t : Table) × (s : State) × StandsFor fllen sllen (contents memory.now t) s × IsRow s (walked range) }
     ensures blocks { (fllen sllen : ℕ) (t : Table) (s : State) → StandsFor fllen sllen (contents memory.now t) s → IsRow s (walked range) → AreBlocks s (walked range) result }
@@ -132,7 +132,7 @@ pub fn walk_blocks(memory: &OpenMemory, range: Range) -> Blocks<'_>
     Blocks { memory, start, end }
 }
 
-/// Where the chunk ends that begins at `start`: a walk over its blocks comes to its sentinel.
+/// Returns the end of the chunk that begins at `start`. An iteration over its blocks arrives at its sentinel.
 pub fn chunk_end(memory: &OpenMemory, start: usize) -> usize
     requires { (fllen : ℕ) × (sllen : ℕ) × (t : Table) × (s : State) × (c : Range) × StandsFor fllen sllen (contents memory.now t) s × IsIn c s.chunks × (c.start ≡ start) }
     ensures { (fllen sllen : ℕ) (t : Table) (s : State) (c : Range) → StandsFor fllen sllen (contents memory.now t) s → IsIn c s.chunks → c.start ≡ start → result ≡ end_of c }

@@ -1,5 +1,6 @@
--- Where the ones of a number stand after an operation, at any number.
-use Rattle.std.proofs.Common.{◌≡◌, ℕ, ◌+◌, ◌-◌, ◌/◌, ◌%◌, ◌^◌, ◌<◌, ◌≤◌, true, false, ◌&&◌, ◌||◌, ◌==◌, nat_le, nat_lt, min, bit_and, bit_or, refl, sym, ap, subst, ◌∙◌, arith, inl, inr}
+-- The positions of the ones of a number after an operation, at any number.
+use Rattle.std.proofs.Common.{◌≡◌, ℕ, ◌+◌, ◌-◌, ◌/◌, ◌%◌, ◌^◌, ◌<◌, ◌≤◌, true, false, ◌&&◌, ◌||◌, ◌==◌, nat_le, nat_lt, min}
+use Rattle.std.proofs.Common.{bit_and, bit_or, refl, sym, ap, subst, ◌∙◌, arith, inl, inr}
 use Rattle.std.proofs.lemmas.Bool.{cases_eq, cases_lt, eq-eqb, lt-ltb, ne_eqb}
 use Rattle.std.proofs.lemmas.Bool.Decides.{nat_tests}
 use Rattle.std.proofs.lemmas.Nat.{shr-shr}
@@ -44,7 +45,7 @@ pub same_from_ones : (a b : ℕ) → ((i : ℕ) → bit a i ≡ bit b i) → a �
 unfolding bit
 same_from_ones a b ones = same_from_bits a b (λ i. let same = ones i in grind (arith, nat_tests, bit_at-lt a i, bit_at-lt b i))
 
--- the first one from a position on stands there exactly if there is a one at the position
+-- the first one from a position on is there exactly if there is a one at the position
 pub first_one_is_here : (width n i answer : ℕ) → i < width → IsFirstOne width n i answer → (answer == i) ≡ (bit n i && nat_lt i width)
 first_one_is_here width n i answer within first = elim (cases_eq answer i) [
   | inl here ↦

@@ -1,5 +1,6 @@
 -- Rounding up to a multiple of a power of two, as the integers' code does it.
-use Rattle.std.proofs.Common.{◌≡◌, ℕ, suc, ◌+◌, ◌-◌, ◌*◌, ◌/◌, ◌%◌, ◌^◌, ◌<◌, ◌≤◌, bit_and, sym, ap, ◌∙◌, subst, arith, inl, inr, None, Some, pow-add}
+use Rattle.std.proofs.Common.{◌≡◌, ℕ, suc, ◌+◌, ◌-◌, ◌*◌, ◌/◌, ◌%◌, ◌^◌, ◌<◌, ◌≤◌, bit_and, sym, ap, ◌∙◌, subst, arith, inl, inr}
+use Rattle.std.proofs.Common.{None, Some, pow-add}
 use Rattle.std.specs.Prelude.{ℤ, pos, negsuc, ◌+ℤ◌, ◌≤ℤ◌, ◌<ℤ◌, FitsSigned}
 use Rattle.std.proofs.Math.Nat.{add-mul, dvd-sub, zero-mod}
 use Rattle.std.proofs.lemmas.Bool.{cases_lt}
@@ -20,7 +21,8 @@ apart step x y mx my less =
     let ex : x / step * step + x % step ≡ x = div-add-mod' x step in
     let ey : y / step * step + y % step ≡ y = div-add-mod' y step in
     elim (cases_lt (x / step) (y / step)) [
-      | inl more ↦ let up : (x / step + 1) * step ≤ y / step * step = mul-le (x / step + 1) step (y / step) step (omega arith) (omega arith) in omega (arith, add-mul (x / step) 1 step)
+      | inl more ↦ let up : (x / step + 1) * step ≤ y / step * step = mul-le (x / step + 1) step (y / step) step (omega arith) (omega arith) in
+          omega (arith, add-mul (x / step) 1 step)
       | inr less' ↦ let down : y / step * step ≤ x / step * step = mul-le (y / step) step (x / step) step less' (omega arith) in absurd (omega arith)
     ]
 
@@ -49,7 +51,7 @@ floor-multiple n step some = let same : n / step * step ≡ n / step * step + 0 
 
 -- ---- rounding up
 
--- the code's mask, whose ones stand from k on
+-- the code's mask, whose ones are from k on
 mask_is : (w : Width) (k : ℕ) → k < bits w → 2 ^ bits w - 1 - (1 * 2 ^ k % 2 ^ bits w - 1) ≡ 2 ^ bits w - 2 ^ k
 mask_is w k within = let one = one_shl k (bits w) within in omega (arith, pow_pos k, pow_below k (bits w) within)
 
@@ -140,7 +142,7 @@ module _ (w : Width) (k : ℕ) (fraction : ℤ) (within : k < bits w) (is : frac
         near = omega (arith, ints);
       })
 
-  -- the sum as the code computes it, of what the places of value and fraction give back
+  -- the sum as the code computes it, from the numbers at the places of value and fraction
   sum_is : (value : ℤ) → FitsSigned w value
       → cast_signed w (cast_unsigned w value) +ℤ cast_signed w (cast_unsigned w fraction) ≡ value +ℤ pos (2 ^ k - 1)
   sum_is value real =

@@ -1,4 +1,4 @@
--- Where the ones stand in what a signed type of width w computes. Its values go to the unsigned type and back.
+-- The positions of the ones in what a signed type of width w computes. Its values go to the unsigned type and back.
 use Rattle.std.proofs.Common.{◌≡◌, ℕ, ◌-◌, ◌*◌, ◌%◌, ◌^◌, ◌<◌, not, ◌&&◌, ◌||◌, ◌==◌, nat_lt, bit_and, bit_or, ap, ◌∙◌, arith}
 use Rattle.std.specs.Prelude.{ℤ, FitsSigned}
 use Rattle.std.proofs.lemmas.Int.{of_z-to_z, to_z-of_z}
@@ -9,7 +9,7 @@ use Rattle.rlsf_int.proofs.Unsigned.{bit-clear_tested, bit-set}
 use mir.Val.{bits}
 
 module _ (w : Width) where
-  -- what a place of the signed type gives back of the pattern n that was cast
+  -- the number at a place of the signed type after a cast of the pattern n
   kept : (r : ℤ) (n : ℕ) → n < 2 ^ bits w → r ≡ cast_signed w n → cast_unsigned w (cast_signed w (cast_unsigned w r)) ≡ n
   kept r n fits is =
       let back = of_z-to_z w n fits in
@@ -20,11 +20,13 @@ module _ (w : Width) where
   pattern_is z n real old = old ∙ ap (cast_unsigned w) (to_z-of_z w z real)
 
   -- `(n | 1 << k).cast_signed()`, where n is the old value's pattern
-  pub set_signed : (z : ℤ) (n k : ℕ) (r : ℤ) → FitsSigned w z → n < 2 ^ bits w → k < bits w → n ≡ cast_unsigned w (cast_signed w (cast_unsigned w z)) → r ≡ cast_signed w (bit_or n (1 * 2 ^ k % 2 ^ bits w))
+  pub set_signed : (z : ℤ) (n k : ℕ) (r : ℤ) → FitsSigned w z → n < 2 ^ bits w → k < bits w → n ≡ cast_unsigned w (cast_signed w (cast_unsigned w z))
+      → r ≡ cast_signed w (bit_or n (1 * 2 ^ k % 2 ^ bits w))
       → (i : ℕ) → bit (cast_unsigned w (cast_signed w (cast_unsigned w r))) i ≡ (bit (cast_unsigned w z) i || (i == k))
   set_signed z n k r real fits within old new i =
       let one_fits : 1 * 2 ^ k % 2 ^ bits w < 2 ^ bits w = omega (arith, one_shl k (bits w) within, pow_below k (bits w) within) in
-      ap (λ m. bit m i) (kept r _ (or_lt (bits w) n _ fits one_fits) new) ∙ bit-set w n k within i ∙ ap (λ m. bit m i || (i == k)) (old ∙ ap (cast_unsigned w) (to_z-of_z w z real))
+      ap (λ m. bit m i) (kept r _ (or_lt (bits w) n _ fits one_fits) new) ∙ bit-set w n k within i
+      ∙ ap (λ m. bit m i || (i == k)) (old ∙ ap (cast_unsigned w) (to_z-of_z w z real))
 
   -- `(n & !(1 << k)).cast_signed()`
   pub clear_signed : (z : ℤ) (n k : ℕ) (r : ℤ) → FitsSigned w z → n < 2 ^ bits w → k < bits w → n ≡ cast_unsigned w (cast_signed w (cast_unsigned w z))
@@ -32,4 +34,5 @@ module _ (w : Width) where
       → (i : ℕ) → bit (cast_unsigned w (cast_signed w (cast_unsigned w r))) i ≡ (bit (cast_unsigned w z) i && not (i == k && nat_lt k (bits w)))
   clear_signed z n k r real fits within old new i =
       let less = and_le_l n (2 ^ bits w - 1 - 1 * 2 ^ k % 2 ^ bits w) in
-      ap (λ m. bit m i) (kept r _ (omega arith) new) ∙ bit-clear_tested w n k fits within i ∙ ap (λ m. bit m i && not (i == k && nat_lt k (bits w))) (old ∙ ap (cast_unsigned w) (to_z-of_z w z real))
+      ap (λ m. bit m i) (kept r _ (omega arith) new) ∙ bit-clear_tested w n k fits within i
+      ∙ ap (λ m. bit m i && not (i == k && nat_lt k (bits w))) (old ∙ ap (cast_unsigned w) (to_z-of_z w z real))

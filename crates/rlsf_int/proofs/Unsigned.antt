@@ -1,5 +1,6 @@
--- Where the ones stand in what an unsigned type of width w computes.
-use Rattle.std.proofs.Common.{◌≡◌, ℕ, zero, suc, ◌+◌, ◌-◌, ◌*◌, ◌/◌, ◌%◌, ◌^◌, ◌<◌, ◌≤◌, Bool, true, not, ◌&&◌, ◌||◌, ◌==◌, nat_lt, nat_le, bit_and, bit_or, refl, sym, ap, ◌∙◌, subst, arith, inl, inr, add-one}
+-- The positions of the ones in what an unsigned type of width w computes.
+use Rattle.std.proofs.Common.{◌≡◌, ℕ, zero, suc, ◌+◌, ◌-◌, ◌*◌, ◌/◌, ◌%◌, ◌^◌, ◌<◌, ◌≤◌, Bool, true, not, ◌&&◌, ◌||◌, ◌==◌}
+use Rattle.std.proofs.Common.{nat_lt, nat_le, bit_and, bit_or, refl, sym, ap, ◌∙◌, subst, arith, inl, inr, add-one}
 use Rattle.std.proofs.Math.Bool.{and-true}
 use Rattle.std.proofs.Math.Nat.{pow-suc}
 use lib.Count.{ones-ones}
@@ -50,7 +51,8 @@ module _ (w : Width) where
   unfolding bit
   first_from_0 n fits = elim (cases_eq n 0) [
     | inl empty ↦ subst (λ m. IsFirstOne (bits w) m 0 (trailing_zeros w m)) (sym empty)
-        (subst (IsFirstOne (bits w) 0 0) (sym (trailing_of_zero (bits w))) (record { none_before = λ i above below. bit-zero i; within = omega arith; found = λ below. absurd (omega arith) }))
+        (subst (IsFirstOne (bits w) 0 0) (sym (trailing_of_zero (bits w)))
+        (record { none_before = λ i above below. bit-zero i; within = omega arith; found = λ below. absurd (omega arith) }))
     | inr some ↦
         let lowest = bit_at-trailing_zeros w n (omega arith) fits in
         let low = lowest.0 in
@@ -100,7 +102,8 @@ module _ (w : Width) where
       let answer = trailing_zeros w (from n start) in
       record {
         none_before = λ i above below.
-            sym (and-true (bit n i)) ∙ ap (λ t. bit n i && t) (sym (le-leb start i above)) ∙ sym (bit-from n start i within (omega (arith, first.within))) ∙ first.none_before i (omega arith) below;
+            sym (and-true (bit n i)) ∙ ap (λ t. bit n i && t) (sym (le-leb start i above)) ∙ sym (bit-from n start i within (omega (arith, first.within)))
+            ∙ first.none_before i (omega arith) below;
         within = first.within;
         found = λ below.
             let both = and_parts (bit n answer) (nat_le start answer) (sym (bit-from n start answer within below) ∙ (first.found below).1) in
@@ -179,7 +182,7 @@ nothing_past w n start end i fits past =
     let none = bit-above (bits w) n (start + i) fits (omega arith) in
     bit-zero i ∙ ap (λ t. t && (nat_lt (start + i) end && nat_lt i 32)) (sym none)
 
--- t tells of position i of m, which is `n >> start`, cut to the range's length
+-- t is the test of position i of m, which is `n >> start`, cut to the range's length
 pub moved : (n m start end i : ℕ) (t : Bool) → start ≤ end → m ≡ n / 2 ^ start → t ≡ (bit m i && (nat_lt i (end - start) && nat_lt i 32))
     → t ≡ (bit n (start + i) && (nat_lt (start + i) end && nat_lt i 32))
 moved n m start end i t ordered is cut =
@@ -194,7 +197,8 @@ pub moved_low : (n start end i : ℕ) (t : Bool) → start ≤ end → t ≡ (bi
 moved_low n start end i t ordered cut =
     let low : bit (bit_and (n / 2 ^ start) 4294967295) i ≡ (bit (n / 2 ^ start) i && nat_lt i 32) =
     bit-and (n / 2 ^ start) 4294967295 i ∙ ap (λ s. bit (n / 2 ^ start) i && s) (bit-low_ones 32 i) in
-    let once : (bit (bit_and (n / 2 ^ start) 4294967295) i && (nat_lt i (end - start) && nat_lt i 32)) ≡ (bit (n / 2 ^ start) i && (nat_lt i (end - start) && nat_lt i 32)) = grind (arith, nat_tests) in
+    let once : (bit (bit_and (n / 2 ^ start) 4294967295) i && (nat_lt i (end - start) && nat_lt i 32)) ≡ (bit (n / 2 ^ start) i && (nat_lt i (end - start) && nat_lt i 32)) =
+    grind (arith, nat_tests) in
     moved n (n / 2 ^ start) start end i t ordered refl (cut ∙ once)
 
 -- `lowest`

@@ -12,8 +12,8 @@ pub record IsCeiling (step : ℕ) (value answer : ℤ) : Type 0 where
   pub above : value ≤ℤ answer
   pub least : (m : ℤ) → IsMultiple step m → value ≤ℤ m → answer ≤ℤ m
 
--- the value of a type of `width` bits is rounded up to a multiple of `2 ^ digits`, or is refused where that is above the
--- type's greatest. From `width` digits on, 0 alone isn't refused
+-- the value of a type of `width` bits is rounded up to a multiple of `2 ^ digits`, or refused if that is above the type's
+-- greatest. If `digits` is at least `width`, every value but 0 is refused
 pub record IsCheckedCeiling (width greatest digits : ℕ) (value : ℤ) (answer : Option ℤ) : Type 0 where
   pub inside : digits < width → MatchOption answer
       ((m : ℤ) → IsCeiling (2 ^ digits) value m → pos greatest <ℤ m)

@@ -1,4 +1,4 @@
--- Which members of a type's logical reading are its values, and what the numbers tell that stand for them.
+-- Which members of a type's logical reading are its values, and which numbers represent them.
 use Rattle.std.specs.Prelude.{◌≡◌, ℕ, ◌+◌, ◌<◌, ◌^◌, ℤ, pos, ◌+ℤ◌, ◌≤ℤ◌, ◌⊎◌, List}
 use denote.RattleType.{RattleType}
 use denote.Laws.{Is}

@@ -16,7 +16,7 @@ mod u64;
 mod u8;
 mod usize;
 
-/// The lowest `len` positions of a number.
+/// Returns the lowest `len` positions of a number.
 fn lowest(n: u32, len: u32) -> u32
     ensures { (i : ℕ) → bit result i ≡ (bit n i && (nat_lt i len && nat_lt i 32)) }
 {

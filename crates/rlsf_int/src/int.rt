@@ -9,18 +9,18 @@ use crate::private::Sealed;
 use std::ops::Range;
 use std::{fmt, ops};
 
-/// What a value means: the set of the positions of its ones in two's complement. The lowest
+/// The meaning of a value: the set of the positions of its ones in two's complement. The lowest
 /// position is 0.
 ///
-/// It has no code and no parent. It is a trait below `BinInteger` for structs that know their bitmaps by their widths alone, whose proofs
-/// carry every parent of the trait that bounds them.
+/// It has no code and no parent. It is a trait below `BinInteger` for structs that know their bitmaps by their widths alone.
+/// A proof over a bound carries every parent of the trait, so a trait without parents keeps the proofs of these structs short.
 pub trait BitPattern {
-    // How many positions there are.
+    // The number of positions.
     ghost width: { ℕ };
 
     ghost width_limit: { width ≤ 128 };
 
-    // The number whose ones, in binary, stand at the positions of the value's ones.
+    // The number whose ones, in binary, are at the positions of the value's ones.
     ghost pattern: { Self → ℕ };
 
     // The pattern is below `2 ^ width`, two values with one pattern are equal, and every number
@@ -28,29 +28,29 @@ pub trait BitPattern {
     ghost one_to_one: { IsOneToOne (IsValue Self.row) width pattern };
 }
 
-/// What the allocator asks of its bitmaps, in the words of sets of positions.
+/// What the allocator needs of its bitmaps, as operations on sets of positions.
 ///
-/// `BinInteger` has all of it under the original's names. It is a trait of its own for the functions that are generic over
-/// bitmaps, whose proofs carry every parent of the trait that bounds them.
+/// `BinInteger` has all of it under the original's names. It is a trait of its own for functions that are generic over
+/// bitmaps: a proof over a bound carries every parent of the trait.
 pub trait Bitmap: BitPattern + Copy + Sealed {
-    /// The value without a one.
+    /// Returns the value without a one.
     fn empty() -> Self
         ensures { Self.pattern result ≡ 0 };
 
-    /// Puts a one at the position, which is below the number of positions. It tests no bound.
+    /// Sets the position, which must be below the number of positions. It tests no bound.
     fn insert_within(&mut self, i: u32)
         requires { i < Self.width }
         ensures { (j : ℕ) → bit (Self.pattern self.new) j ≡ (bit (Self.pattern self.old) j || nat_eq j i) };
 
-    /// The least position of a one that isn't below `start`, or the number of positions where there is none.
+    /// Returns the least position of a one from `start` on, or the number of positions if there is none.
     fn first_from(&self, start: u32) -> u32
         ensures { IsFirstOne Self.width (Self.pattern self.now) start result };
 }
 
 /// The integer types that serve as bitmaps: operations on the positions of a value's ones, under the original's names.
 ///
-/// A position is that of a binary digit, from 0 for the lowest on. A range of positions has its
-/// start and not its end.
+/// A position is that of a binary digit; the lowest is 0. A range of positions has its start and
+/// not its end.
 pub trait BinInteger: Bitmap
     + Clone
     + Copy
@@ -74,30 +74,31 @@ pub trait BinInteger: Bitmap
     + Sync
     + 'static
     + Sealed {
-    /// The value that has no one.
+    /// Returns the value that has no one.
     const ZERO: Self;
 
     ghost ZERO: { Self };
 
-    /// How many positions a value has, which is the size of the type in bits.
+    /// The number of positions of a value, which is the size of the type in bits.
     const BITS: u32;
 
     ghost BITS: { ℕ };
 
-    // The value as a number, below 0 where the type is signed and the highest position has a one.
+    // The value as a number. It is below 0 if the type is signed and the highest position has a one.
     ghost number: { Self → ℤ };
 
     // The greatest number of the type.
     ghost greatest: { ℕ };
 
-    /// The value whose ones stand at the positions of the range, which the caller keeps in order
-    /// and not past `BITS`.
+    /// Returns the value whose ones are at the positions of the range. The range must be in order and
+    /// not past `BITS`.
     fn ones(range: Range<u32>) -> Self
         requires ordered { range.start ≤ range.end }
         requires within { range.end ≤ BITS }
         ensures { (i : ℕ) → bit (Self.pattern result) i ≡ (nat_le range.start i && nat_lt i range.end) };
 
-    /// The same for any range in order: its positions from `BITS` on are dropped.
+    /// Returns the value whose ones are at the positions of the range. The range must be in order; its
+    /// positions from `BITS` on are dropped.
     fn ones_truncated(range: Range<u32>) -> Self
         requires { range.start ≤ range.end }
         ensures { (i : ℕ) → bit (Self.pattern result) i ≡ (nat_le range.start i && (nat_lt i range.end && nat_lt i BITS)) }
@@ -105,49 +106,49 @@ pub trait BinInteger: Bitmap
         Self::ones(range.start.min(Self::BITS)..range.end.min(Self::BITS))
     }
 
-    /// The least position of a one, or `BITS` where there is none.
+    /// Returns the least position of a one, or `BITS` if there is none.
     fn trailing_zeros(&self) -> u32
         ensures { IsFirstOne BITS (Self.pattern self.now) 0 result };
 
-    /// How many positions lie above the greatest position of a one, which is `BITS` where there is
+    /// Returns the number of positions above the greatest position of a one, which is `BITS` if there is
     /// none.
     fn leading_zeros(&self) -> u32
         ensures { IsLeadingZeros BITS (Self.pattern self.now) result };
 
-    /// How many ones there are.
+    /// Returns the number of ones.
     fn count_ones(&self) -> u32
         ensures count { result ≡ ones_below (Self.pattern self.now) BITS }
-        // What the law of `BitPattern` asks of a value.
+        // The condition on a value in the law of `BitPattern`.
         ensures value { IsValue Self.row self.now };
 
-    /// The least position of a one that isn't below `start`, or `BITS` where there is none.
+    /// Returns the least position of a one from `start` on, or `BITS` if there is none.
     fn bit_scan_forward(&self, start: u32) -> u32
         ensures { IsFirstOne BITS (Self.pattern self.now) start result };
 
-    /// The ones at the positions of the range, moved down by the range's start. Of these the lowest
-    /// 32 are kept. The caller keeps the range in order; it may pass `BITS`, where no ones are.
+    /// Returns the ones at the positions of the range, moved down by the range's start. Of these the
+    /// lowest 32 are kept. The range must be in order; it may pass `BITS`, where no ones are.
     fn extract_u32(&self, range: Range<u32>) -> u32
         requires { range.start ≤ range.end }
         ensures { (i : ℕ) → bit result i ≡ (bit (Self.pattern self.now) (range.start + i) && (nat_lt (range.start + i) range.end && nat_lt i 32)) };
 
-    /// Whether there is a one at the position, which is false from `BITS` on.
+    /// Returns whether there is a one at the position. From `BITS` on there is none.
     fn get_bit(&self, i: u32) -> bool
         ensures { result ≡ (bit (Self.pattern self.now) i && nat_lt i BITS) }
     {
         i < Self::BITS && self.bit_scan_forward(i) == i
     }
 
-    /// Puts a one at the position. From `BITS` on nothing changes.
+    /// Sets the position. From `BITS` on nothing changes.
     fn set_bit(&mut self, i: u32)
         ensures { (j : ℕ) → bit (Self.pattern self.new) j ≡ (bit (Self.pattern self.old) j || (nat_eq j i && nat_lt i BITS)) };
 
-    /// Takes the one at the position away, if there is one. From `BITS` on nothing changes.
+    /// Clears the position, which may be clear already. From `BITS` on nothing changes.
     fn clear_bit(&mut self, i: u32)
         ensures { (j : ℕ) → bit (Self.pattern self.new) j ≡ (bit (Self.pattern self.old) j && not (nat_eq j i && nat_lt i BITS)) };
 
-    /// Rounds up, where the value is a fixed-point number whose lowest `fp` digits are its fraction:
-    /// the least multiple of `2 ^ fp` that isn't below the value, and `None` exactly if that isn't a
-    /// number of the type. For an `fp` of `BITS` or more it is 0 for 0, and else `None`.
+    /// Rounds up a fixed-point number whose lowest `fp` digits are its fraction. Returns the least
+    /// multiple of `2 ^ fp` that isn't below the value, and `None` exactly if that isn't a number of the
+    /// type. If `fp` is at least `BITS`, it returns 0 for 0, and otherwise `None`.
     fn checked_ceil_fix(self, fp: u32) -> Option<Self>
         ensures { IsCheckedCeiling BITS greatest fp (number self) (option_map number result) };
 
@@ -155,7 +156,7 @@ pub trait BinInteger: Bitmap
 
     ghost bits_is_width: { BITS ≡ Self.width };
 
-    // The numbers of the type end at `greatest`, and each is its pattern's, less `2 ^ BITS` where
+    // The numbers of the type end at `greatest`. Each is its pattern's number, less `2 ^ BITS` if
     // that is above `greatest`.
     ghost number_is: { (x : Self) → IsValue Self.row x → IsSpelled Self.width greatest (Self.pattern x) (number x) };
 }

@@ -1,4 +1,8 @@
-//! Integers as bitmaps: a value stands for the set of the positions of its ones.
+//! Integers as bitmaps: a value represents the set of the positions of its ones.
+//!
+//! Read `specs/Bits` (positions of a number) and `specs/Values` (numbers of a type) first. `src/int` has the traits `BitPattern`, `Bitmap`
+//! and `BinInteger`. `src/impls` implements them for each integer type, by the proofs of `specs/Laws` and `specs/Ceilings`. `src/private`
+//! closes the traits to other crates.
 #![tactic(auto)]
 
 mod impls;

@@ -1,4 +1,4 @@
-//! What closes the traits of this crate: no other crate can name it, so none can implement them.
+//! Closes the traits of this crate: no other crate can name `private`, so none can implement them.
 
 /// An integer type of this crate's own choice.
 pub trait Sealed {}

@@ -45,7 +45,8 @@ first_length-long : (o : Option ℕ) (e len : ℕ) → ((p : ℕ) → o ≡ Some
 first_length-long None e len short long = long
 first_length-long (Some p) e len short long = let most = short p refl in omega arith
 
-pub AreCutFrom-cut : (fllen e : ℕ) (part : Range) → 0 < fllen → 64 ≤ e → ((p : ℕ) → max_pool_size fllen ≡ Some p → e ≤ p) → part.len % 32 ≡ 0 → e ≤ part.len
+pub AreCutFrom-cut : (fllen e : ℕ) (part : Range) → 0 < fllen → 64 ≤ e → ((p : ℕ) → max_pool_size fllen ≡ Some p → e ≤ p) → part.len % 32 ≡ 0
+    → e ≤ part.len
     → AreCutFrom e part (end_of_last part.start (cut (max_pool_size fllen) part)) (cut (max_pool_size fllen) part)
 AreCutFrom-cut fllen e part rows room short whole long =
     let o = max_pool_size fllen in

@@ -51,12 +51,16 @@ module _ {fllen sllen : ℕ} {memory : Range} {s : State} (w : IsWellFormed flle
       let some = IsUsed-some u u_used in
       let out = λ (a : ℕ). coverage-without itself (has_class sllen (class_of sllen f.len)) f s.free a is.found in
       let cut = λ (a : ℕ). coverage-rest_behind u.block (end_of f) f a (omega arith) refl refl in
-      let either_order : (g : Range) → IsIn g (given sllen s f u).free → IsIn g (rest_behind u.block (end_of f) ++ rest) = λ g h. first_of (assumption, search IsIn-append_swap) in
+      let either_order : (g : Range) → IsIn g (given sllen s f u).free → IsIn g (rest_behind u.block (end_of f) ++ rest) =
+      λ g h. first_of (assumption, search IsIn-append_swap) in
       reblocked w (u ∷ s.used) (given sllen s f u).free
       (λ v. elim [ inl same ↦ subst IsUsed (sym same) u_used | inr i ↦ w.used v i ])
       (λ g h. elim (IsIn-append g (rest_behind u.block (end_of f)) rest (either_order g h)) [
         | inl i ↦ let (g_is, less) = IsIn-rest_behind u.block (end_of f) g i in
-            subst (λ x. IsWhole x × (0 < x.len)) (sym g_is) (record { start = omega (arith, u_used.whole.start, u_used.whole.len); len = omega (arith, u_used.whole.start, u_used.whole.len, f_whole.start, f_whole.len) }, omega arith)
+            subst (λ x. IsWhole x × (0 < x.len)) (sym g_is) (
+              record { start = omega (arith, u_used.whole.start, u_used.whole.len); len = omega (arith, u_used.whole.start, u_used.whole.len, f_whole.start, f_whole.len) },
+              omega arith,
+            )
         | inr j ↦ let free = w.free g (IsIn-without test g s.free j) in (free.whole, free.some)
       ])
       (λ a. omega (arith, out a, cut a, coverage-append itself (rest_behind u.block (end_of f)) rest a, coverage-append itself rest (rest_behind u.block (end_of f)) a))
@@ -66,8 +70,9 @@ module _ {fllen sllen : ℕ} {memory : Range} {s : State} (w : IsWellFormed flle
       (λ g i. w.apart f g is.is_in (IsIn-without test g s.free i))
       (λ a low high. omega (arith, out a, free-le s (tiling_of w) a, covers-inside f a low high))))
 
--- an allocation keeps a state well-formed, whatever it answers
-pub Allocates-keeps : {fllen sllen : ℕ} {memory : Range} {s : State} → IsWellFormed fllen sllen memory s → (size align : ℕ) (reply : Option ℕ) (t : State) → IsPowerOfTwo align
+-- an allocation keeps a state well-formed, whatever its reply
+pub Allocates-keeps : {fllen sllen : ℕ} {memory : Range} {s : State} → IsWellFormed fllen sllen memory s → (size align : ℕ) (reply : Option ℕ) (t : State)
+    → IsPowerOfTwo align
     → Allocates sllen s size align reply t → IsWellFormed fllen sllen memory t
 Allocates-keeps {fllen} {sllen} {memory} w size align None t power step = subst (IsWellFormed fllen sllen memory) (sym step.1) w
 Allocates-keeps {fllen} {sllen} {memory} w size align (Some addr) t power step =

@@ -29,7 +29,8 @@ coverage-extended at (suc n) s a = go (find (ends_at at) s.chunks) refl
         )
 
 -- a range that an append's doesn't overlap stays untouched
-pub untouched_appended : (fllen : ℕ) (s t : State) (r : Range) (reply : ℕ) → Appends fllen s r reply t → (q : Range) → IsUntouched s.chunks q → AreApart r q → IsUntouched t.chunks q
+pub untouched_appended : (fllen : ℕ) (s t : State) (r : Range) (reply : ℕ) → Appends fllen s r reply t → (q : Range) → IsUntouched s.chunks q → AreApart r q
+    → IsUntouched t.chunks q
 unfolding IsUntouched
 untouched_appended fllen s t r reply step q clear apart = by (max_pool_size fllen) refl
   where

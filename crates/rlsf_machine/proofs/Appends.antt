@@ -1,5 +1,6 @@
--- Handing in memory behind a chunk leaves a state well-formed.
-use Rattle.std.proofs.Common.{◌≡◌, ℕ, zero, suc, ◌+◌, ◌-◌, ◌*◌, ◌/◌, ◌%◌, ◌^◌, ◌<◌, ◌≤◌, Option, Some, None, find, arith, refl, sym, ◌∙◌, subst, inl, inr}
+-- Inserting memory behind a chunk leaves a state well-formed.
+use Rattle.std.proofs.Common.{◌≡◌, ℕ, zero, suc, ◌+◌, ◌-◌, ◌*◌, ◌/◌, ◌%◌, ◌^◌, ◌<◌, ◌≤◌, Option, Some, None, find, arith, refl, sym}
+use Rattle.std.proofs.Common.{◌∙◌, subst, inl, inr}
 use Rattle.std.proofs.lemmas.Bool.{eqb-true}
 use Rattle.std.proofs.Math.Pow.{pow_mono}
 use Rattle.rlsf_base.specs.declared.memory.range.Range.{Range}
@@ -20,7 +21,8 @@ use Rattle.rlsf_machine.proofs.Tiling.{IsWellFormed-from}
 
 module _ {fllen sllen : ℕ} {memory : Range} {s : State} (w : IsWellFormed fllen sllen memory s) (r : Range) (fresh : IsFresh memory s r) where
   -- a chunk that ends where a fresh range begins grows into it
-  pub IsWellFormed-grown : (c : Range) (n : ℕ) → 64 ≤ 5 + fllen → 0 < n → n % 32 ≡ 0 → n ≤ r.len → end_of c ≡ r.start → find (ends_at (end_of c)) s.chunks ≡ Some c → IsWellFormed fllen sllen memory (grown c n s)
+  pub IsWellFormed-grown : (c : Range) (n : ℕ) → 64 ≤ 5 + fllen → 0 < n → n % 32 ≡ 0 → n ≤ r.len → end_of c ≡ r.start
+      → find (ends_at (end_of c)) s.chunks ≡ Some c → IsWellFormed fllen sllen memory (grown c n s)
   IsWellFormed-grown c n large some n32 fits ends found =
       let is = find-some (ends_at (end_of c)) c s.chunks found in
       let chunk = w.chunks c is.0 in
@@ -46,8 +48,12 @@ module _ {fllen sllen : ℕ} {memory : Range} {s : State} (w : IsWellFormed flle
       let chunks_out = λ (a : ℕ). coverage-without itself (ends_at (end_of c)) c s.chunks a found in
       let last_out = λ (a : ℕ). coverage-without last_bytes (ends_at (end_of c)) c s.chunks a found in
       let span = range_at (end_of c - 32) (n + 32) in
-      let span_old = λ (a : ℕ). covers-split (end_of c - 32) (end_of c) (end_of c + n) a (omega arith) (omega arith) span (last_bytes c) added refl (omega arith) refl (omega arith) refl refl in
-      let span_new = λ (a : ℕ). covers-split (end_of c - 32) (end_of c' - 32) (end_of c + n) a (omega arith) (omega arith) span more (last_bytes c') refl (omega arith) refl (omega arith) refl (omega arith) in
+      let span_old =
+      λ (a : ℕ). covers-split (end_of c - 32) (end_of c) (end_of c + n) a (omega arith) (omega arith) span (last_bytes c) added refl (omega arith) refl (omega arith) refl
+      refl in
+      let span_new =
+      λ (a : ℕ). covers-split (end_of c - 32) (end_of c' - 32) (end_of c + n) a (omega arith) (omega arith) span more (last_bytes c') refl (omega arith) refl (omega arith)
+      refl (omega arith) in
       let clear : (a : ℕ) → covers added a + coverage itself s.chunks a ≤ 1 = λ a. elim (where_is added a) [
         | inside one low high ↦ omega (arith, fresh.apart a (omega arith) (omega arith))
         | before none low ↦ omega (arith, w.disjoint a)
@@ -80,7 +86,9 @@ module _ {fllen sllen : ℕ} {memory : Range} {s : State} (w : IsWellFormed flle
     | inl some ↦ let bad : Some (2 ^ (5 + fllen)) ≡ None = sym some ∙ e in absurd (cc)
     | inr (none, large) ↦ IsWellFormed-extended (r.len / 32 * 32) large (omega arith) (omega arith)
   ]
-  IsWellFormed-appended (Some most) e = subst (λ o. IsWellFormed fllen sllen memory (with_chunks (cut o (aligned_part r)) s)) e (IsWellFormed-with_chunks (cut (max_pool_size fllen) (aligned_part r)) s w (AreNew-cut w r fresh))
+  IsWellFormed-appended (Some most) e =
+      subst (λ o. IsWellFormed fllen sllen memory (with_chunks (cut o (aligned_part r)) s)) e
+      (IsWellFormed-with_chunks (cut (max_pool_size fllen) (aligned_part r)) s w (AreNew-cut w r fresh))
 
   -- an append keeps a state well-formed
   pub Appends-keeps : (reply : ℕ) (t : State) → Appends fllen s r reply t → IsWellFormed fllen sllen memory t

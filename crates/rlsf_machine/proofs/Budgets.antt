@@ -1,5 +1,6 @@
 -- Runs whose calls ask for little enough that none is refused.
-use Rattle.std.proofs.Common.{◌≡◌, ℕ, ◌+◌, ◌-◌, ◌*◌, ◌<◌, ◌≤◌, eqb, not, filter, List, [], ◌∷◌, Option, Some, None, length, arith, refl, sym, ◌∙◌, ap, subst, inl, inr}
+use Rattle.std.proofs.Common.{◌≡◌, ℕ, ◌+◌, ◌-◌, ◌*◌, ◌<◌, ◌≤◌, eqb, not, filter, List, [], ◌∷◌, Option, Some, None, length, arith, refl, sym}
+use Rattle.std.proofs.Common.{◌∙◌, ap, subst, inl, inr}
 use Rattle.std.proofs.lemmas.List.{length-map}
 use Rattle.std.proofs.lemmas.List.Sums.{sum_by-cons}
 use Rattle.std.proofs.lemmas.List.Filters.{length-filter_both}
@@ -39,8 +40,10 @@ used_bytes-le most [] small = omega arith
 used_bytes-le most (u ∷ us) small = omega (arith, sum_by-cons (λ v. v.block.len) u us, small u (inl refl), used_bytes-le most us (λ v i. small v (inr i)))
 
 -- within the budget an allocation is not refused
-pub not_denied : (live most : ℕ) {fllen sllen : ℕ} {memory : Range} {s : State} → IsWellFormed fllen sllen memory s → (fronts : List Range) → AreFronts s.chunks fronts → AreAtMost most s.used
-    → HasBudget live most sllen fronts → length s.used ≤ live → (size align : ℕ) → request_size size align ≤ most → (t : State) → Allocates sllen s size align None t → ⊥
+pub not_denied : (live most : ℕ) {fllen sllen : ℕ} {memory : Range} {s : State} → IsWellFormed fllen sllen memory s → (fronts : List Range) → AreFronts s.chunks fronts
+    → AreAtMost most s.used
+    → HasBudget live most sllen fronts → length s.used ≤ live → (size align : ℕ) → request_size size align ≤ most → (t : State)
+    → Allocates sllen s size align None t → ⊥
 not_denied live most {fllen} {sllen} {memory} {s} w fronts are small budget few size align fits t step =
     let have = have_chunks s.chunks w.disjoint fronts are.each are.disjoint in
     let cs = have.whole in
@@ -71,7 +74,8 @@ IsModest-stays live most s (remove r) modest removal = modest
 IsModest-stays live most s (trim n) modest removal = modest
 
 -- each step that takes no memory away keeps the fronts of chunks
-pub AreFronts-kept : (fllen sllen : ℕ) (s : State) (fronts : List Range) → AreFronts s.chunks fronts → (t : State) (e : Event) → (IsRemoval e → ⊥) → Leads fllen sllen s e t → AreFronts t.chunks fronts
+pub AreFronts-kept : (fllen sllen : ℕ) (s : State) (fronts : List Range) → AreFronts s.chunks fronts → (t : State) (e : Event) → (IsRemoval e → ⊥)
+    → Leads fllen sllen s e t → AreFronts t.chunks fronts
 AreFronts-kept fllen sllen s fronts are t e left step = record {
   each = λ r i.
       let (c, j, start, long, some) = are.each r i in
@@ -92,7 +96,8 @@ filled_modest most used addr bytes small v i =
     subst (λ b. b.len ≤ most) (sym (ap (λ h. h.block) same)) (small u j)
 
 module _ (most : ℕ) {fllen sllen : ℕ} {memory : Range} {s : State} (w : IsWellFormed fllen sllen memory s) (small : AreAtMost most s.used) where
-  allocate_modest : (size align : ℕ) (reply : Option ℕ) (t : State) → IsPowerOfTwo align → request_size size align ≤ most → Allocates sllen s size align reply t → AreAtMost most t.used
+  allocate_modest : (size align : ℕ) (reply : Option ℕ) (t : State) → IsPowerOfTwo align → request_size size align ≤ most → Allocates sllen s size align reply t
+      → AreAtMost most t.used
   allocate_modest size align None t power fits step = still step.1 small
   allocate_modest size align (Some addr) t power fits step =
       let f = step.range in
@@ -107,7 +112,8 @@ module _ (most : ℕ) {fllen sllen : ℕ} {memory : Range} {s : State} (w : IsWe
       omega (arith, sound.placed, sound.within, sound.few, whole.len, payload_of-le p.block.start u.align whole.start power)
 
 module _ (most : ℕ) {fllen sllen : ℕ} {memory : Range} {s : State} (w : IsWellFormed fllen sllen memory s) (small : AreAtMost most s.used) where
-  reallocate_modest : (u : Used) → IsIn u s.used → (size : ℕ) → request_size size u.align ≤ most → (o : Option Plan) → plan s u size ≡ o → (reply : Option ℕ) (t : State) → ReallocatesBy sllen s u size o reply t → AreAtMost most t.used
+  reallocate_modest : (u : Used) → IsIn u s.used → (size : ℕ) → request_size size u.align ≤ most → (o : Option Plan) → plan s u size ≡ o
+      → (reply : Option ℕ) (t : State) → ReallocatesBy sllen s u size o reply t → AreAtMost most t.used
   reallocate_modest u h size fits (Some p) e None t step = absurd step
   reallocate_modest u h size fits (Some p) e (Some addr) t step =
       let p_len = plan_modest most w small u size p (w.used u h).power (IsSound-plan w u h size p e) fits in
@@ -128,7 +134,8 @@ module _ (most : ℕ) {fllen sllen : ℕ} {memory : Range} {s : State} (w : IsWe
   step_modest live t (trim n) may modest step = absurd modest
 
   -- and the call is not refused
-  step_not_denied : (live : ℕ) (fronts : List Range) (t : State) (e : Event) → AreFronts s.chunks fronts → HasBudget live most sllen fronts → IsModest live most s e → Leads fllen sllen s e t → IsDenied e → ⊥
+  step_not_denied : (live : ℕ) (fronts : List Range) (t : State) (e : Event) → AreFronts s.chunks fronts → HasBudget live most sllen fronts → IsModest live most s e
+      → Leads fllen sllen s e t → IsDenied e → ⊥
   step_not_denied live fronts t (insert r reply) are budget modest step denied = absurd denied
   step_not_denied live fronts t (append r reply) are budget modest step denied = absurd denied
   step_not_denied live fronts t (allocate size align reply) are budget modest step denied =
@@ -158,18 +165,21 @@ modest_runs_are_not_denied live most fllen sllen memory s t fronts (d ∷ es) w 
 
 -- ---- how many payloads are live
 
-length-others : {fllen sllen : ℕ} {memory : Range} {s : State} → IsWellFormed fllen sllen memory s → (addr : ℕ) (u : Used) → Holds s addr u → length s.used ≡ length (others addr s.used) + 1
+length-others : {fllen sllen : ℕ} {memory : Range} {s : State} → IsWellFormed fllen sllen memory s → (addr : ℕ) (u : Used) → Holds s addr u
+    → length s.used ≡ length (others addr s.used) + 1
 length-others {fllen} {sllen} {memory} {s} w addr u h =
     let one : length (filter (λ v. eqb v.payload addr) s.used) ≡ 1 = ap length (live_address_has_one_block fllen sllen memory s addr u w h) in
     let both = length-filter_both (λ (v : Used). eqb v.payload addr) (λ v. not (eqb v.payload addr)) (λ v. refl) s.used in
     omega arith
 
-length-deallocated : {fllen sllen : ℕ} {memory : Range} {s : State} → IsWellFormed fllen sllen memory s → (addr : ℕ) (t : State) → Deallocates s addr t → length s.used ≡ length t.used + 1
+length-deallocated : {fllen sllen : ℕ} {memory : Range} {s : State} → IsWellFormed fllen sllen memory s → (addr : ℕ) (t : State) → Deallocates s addr t
+    → length s.used ≡ length t.used + 1
 length-deallocated {s = s} w addr t step =
     let left : length t.used ≡ length (others step.block.payload s.used) = ap (λ x. length x.used) step.after in
     omega (arith, length-others w step.block.payload step.block (step.holds.0, refl))
 
-length-reallocated : {fllen sllen : ℕ} {memory : Range} {s : State} → IsWellFormed fllen sllen memory s → (u : Used) → IsIn u s.used → (size : ℕ) (o : Option Plan) (reply : Option ℕ) (t : State) → ReallocatesBy sllen s u size o reply t → length t.used ≡ length s.used
+length-reallocated : {fllen sllen : ℕ} {memory : Range} {s : State} → IsWellFormed fllen sllen memory s → (u : Used) → IsIn u s.used
+    → (size : ℕ) (o : Option Plan) (reply : Option ℕ) (t : State) → ReallocatesBy sllen s u size o reply t → length t.used ≡ length s.used
 length-reallocated w u h size (Some p) None t step = absurd step
 length-reallocated {s = s} w u h size (Some p) (Some addr) t step =
     let now : length t.used ≡ length (others u.payload s.used) + 1 = ap (λ x. length x.used) step.after ∙ omega arith in
@@ -224,18 +234,23 @@ module _ (most : ℕ) where
   unfolding AreAligned
   aligned_none used is u i = absurd (subst (IsIn u) is i)
 
-  allocate_aligned : (sllen size align : ℕ) (reply : Option ℕ) (s t : State) → align ≤ most → AreAligned most s.used → Allocates sllen s size align reply t → AreAligned most t.used
+  allocate_aligned : (sllen size align : ℕ) (reply : Option ℕ) (s t : State) → align ≤ most → AreAligned most s.used → Allocates sllen s size align reply t
+      → AreAligned most t.used
   allocate_aligned sllen size align None s t fits small step = aligned_by step.1 small
   allocate_aligned sllen size align (Some addr) s t fits small step = aligned_by step.after (aligned_cons (placed step.range size align step.bytes) s.used fits small)
 
-  reallocate_aligned : (sllen size : ℕ) (u : Used) (o : Option Plan) (reply : Option ℕ) (s t : State) → u.align ≤ most → AreAligned most s.used → ReallocatesBy sllen s u size o reply t → AreAligned most t.used
+  reallocate_aligned : (sllen size : ℕ) (u : Used) (o : Option Plan) (reply : Option ℕ) (s t : State) → u.align ≤ most → AreAligned most s.used
+      → ReallocatesBy sllen s u size o reply t → AreAligned most t.used
   reallocate_aligned sllen size u (Some p) None s t fits small step = absurd step
-  reallocate_aligned sllen size u (Some p) (Some addr) s t fits small step = aligned_by step.after (aligned_cons (moved u p step.bytes) (others u.payload s.used) fits (aligned_others u.payload s.used small))
+  reallocate_aligned sllen size u (Some p) (Some addr) s t fits small step =
+      aligned_by step.after (aligned_cons (moved u p step.bytes) (others u.payload s.used) fits (aligned_others u.payload s.used small))
   reallocate_aligned sllen size u None None s t fits small step = aligned_by step.1 small
   reallocate_aligned sllen size u None (Some addr) s t fits small step =
-      aligned_by step.released.after (aligned_others step.released.block.payload step.meanwhile.used (allocate_aligned sllen size u.align (Some addr) s step.meanwhile fits small step.allocated))
+      aligned_by step.released.after
+      (aligned_others step.released.block.payload step.meanwhile.used (allocate_aligned sllen size u.align (Some addr) s step.meanwhile fits small step.allocated))
 
-  pub step_aligned : (live size n fllen sllen : ℕ) (s t : State) (e : Event) → AsksWithin live size most n e → AreAligned most s.used → Leads fllen sllen s e t → AreAligned most t.used
+  pub step_aligned : (live size n fllen sllen : ℕ) (s t : State) (e : Event) → AsksWithin live size most n e → AreAligned most s.used → Leads fllen sllen s e t
+      → AreAligned most t.used
   step_aligned live size n fllen sllen s t (insert r reply) within small step = subst (AreAligned most) (sym (used-inserted fllen s t r reply step)) small
   step_aligned live size n fllen sllen s t (append r reply) within small step = subst (AreAligned most) (sym (used-appended fllen s t r reply step)) small
   step_aligned live size n fllen sllen s t (allocate z align reply) (few, short, fits) small step = allocate_aligned sllen z align reply s t fits small step
@@ -252,7 +267,8 @@ module _ (most : ℕ) where
 pub request_size-mono : (size align most_size most_align : ℕ) → size ≤ most_size → align ≤ most_align → request_size size align ≤ request_size most_size most_align
 request_size-mono size align most_size most_align short fits = round32-mono (size + (align - 16) + 16) (most_size + (most_align - 16) + 16) (omega arith)
 
-pub modest_by : (live size align n : ℕ) (s : State) (e : Event) → length s.used ≡ n → AreAligned align s.used → AsksWithin live size align n e → IsModest live (request_size size align) s e
+pub modest_by : (live size align n : ℕ) (s : State) (e : Event) → length s.used ≡ n → AreAligned align s.used → AsksWithin live size align n e
+    → IsModest live (request_size size align) s e
 modest_by live size align n s (insert r reply) count small within = tt
 modest_by live size align n s (append r reply) count small within = tt
 modest_by live size align n s (allocate z a reply) count small (few, short, fits) = (omega arith, request_size-mono z a size align short fits)
@@ -263,7 +279,8 @@ modest_by live size align n s (fill addr bytes) count small within = tt
 modest_by live size align n s (remove r) count small within = absurd within
 modest_by live size align n s (trim k) count small within = absurd within
 
-runs_modestly : (live size align n fllen sllen : ℕ) (memory : Range) (s t : State) (es : List Event) → IsWellFormed fllen sllen memory s → length s.used ≡ n → AreAligned align s.used
+runs_modestly : (live size align n fllen sllen : ℕ) (memory : Range) (s t : State) (es : List Event) → IsWellFormed fllen sllen memory s → length s.used ≡ n
+    → AreAligned align s.used
     → Runs fllen sllen memory s es t → AreWithin live size align n es → RunsModestly live (request_size size align) fllen sllen memory s es t
 runs_modestly live size align n fllen sllen memory s t [] w count small run within = run
 runs_modestly live size align n fllen sllen memory s t (e ∷ es) w count small (u, may, step, rest) (asks, within) = (
@@ -302,7 +319,8 @@ AreFronts-chunks s w = record {
 
 -- a chunk of 384 bytes has room for four payloads of 48 bytes or fewer, whatever was allocated and freed before, and
 -- whatever memory came
-four_payloads : (t : State) (es : List Event) → Runs 8 8 (range_at 4096 8192) (with_chunk (range_at 4096 384) empty) es t → AreWithin 3 48 16 0 es → (e : Event) → IsIn e es → IsDenied e → ⊥
+four_payloads : (t : State) (es : List Event) → Runs 8 8 (range_at 4096 8192) (with_chunk (range_at 4096 384) empty) es t → AreWithin 3 48 16 0 es → (e : Event) → IsIn e es
+    → IsDenied e → ⊥
 four_payloads t es run within =
     let memory = range_at 4096 8192 in
     let c = range_at 4096 384 in

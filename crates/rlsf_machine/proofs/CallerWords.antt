@@ -135,11 +135,13 @@ module _ {fllen sllen : ℕ} {memory : Range} {s : State} (w : IsWellFormed flle
       record {
         here = filled;
         aligns = λ a. by_test (eqb a addr)
-            (λ e. let at = eqb-true a addr e in ap (align_at t) at ∙ align_at-told t addr (record { align = p.align; bytes = bytes }) is.here ∙ sym (align_at-told s addr p was) ∙ ap (align_at s) (sym at))
+            (λ e. let at = eqb-true a addr e in
+            ap (align_at t) at ∙ align_at-told t addr (record { align = p.align; bytes = bytes }) is.here ∙ sym (align_at-told s addr p was) ∙ ap (align_at s) (sym at))
             (λ e. align_at-map s t a a (is.others a (λ at. true≢false (sym (eq-eqb a addr at) ∙ e))));
         bytes = others;
         lengths = λ a. by_test (eqb a addr)
-            (λ e. let at = eqb-true a addr e in ap (λ x. length (bytes_at t x)) at ∙ ap length filled ∙ long ∙ ap length (sym (bytes_at-told s addr p was)) ∙ ap (λ x. length (bytes_at s x)) (sym at))
+            (λ e. let at = eqb-true a addr e in
+            ap (λ x. length (bytes_at t x)) at ∙ ap length filled ∙ long ∙ ap length (sym (bytes_at-told s addr p was)) ∙ ap (λ x. length (bytes_at s x)) (sym at))
             (λ e. ap length (others a (λ at. true≢false (sym (eq-eqb a addr at) ∙ e))));
       }
 

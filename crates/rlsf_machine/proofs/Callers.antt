@@ -1,4 +1,4 @@
--- What callers see of the machine: a map from addresses to payloads.
+-- What callers see of the reference model: a map from addresses to payloads.
 use Rattle.std.proofs.Common.{◌≡◌, ◌≢◌, ◌⊎◌, ℕ, eqb, length, Option, Some, None, find, true≢false, arith, refl, sym, ◌∙◌, ap, subst, inl, inr}
 use Rattle.std.proofs.lemmas.Bool.{eq-eqb, eqb-true}
 use Rattle.std.proofs.lemmas.Option.{none-some}
@@ -15,7 +15,8 @@ use Rattle.rlsf_machine.proofs.Changes.{Holds-unique, IsIn-others}
 use Rattle.rlsf_machine.proofs.Coverage.{find-some, find-none}
 use Rattle.rlsf_machine.proofs.Determined.{refusal_changes_nothing}
 use Rattle.rlsf_machine.proofs.Fillings.{filled_holds}
-use Rattle.rlsf_machine.proofs.Live.{allocation_has_size, handed_out_is_new, other_payloads_stay, reallocated_is_live, reallocation_keeps_bytes, released_is_not_live, used_was_used}
+use Rattle.rlsf_machine.proofs.Live.{allocation_has_size, handed_out_is_new, other_payloads_stay, reallocated_is_live, reallocation_keeps_bytes, released_is_not_live}
+use Rattle.rlsf_machine.proofs.Live.{used_was_used}
 use Rattle.rlsf_machine.proofs.Steps.{steps_keep_well_formed}
 
 -- a used block whose caller has the address, with that payload
@@ -50,7 +51,8 @@ payload_at-none s addr none = go (payload_at s addr) refl
 pub payload_is_in_block : PayloadIsInBlock
 payload_is_in_block fllen sllen memory s addr p w = (payload_at-has s addr p, λ (u, held, is). payload_at-held w addr u held ∙ ap Some is)
 
-module _ {fllen sllen : ℕ} {memory : Range} {s : State} (w : IsWellFormed fllen sllen memory s) (t : State) (e : Event) (may : MayCall memory s e) (step : Leads fllen sllen s e t) where
+module _ {fllen sllen : ℕ} {memory : Range} {s : State} (w : IsWellFormed fllen sllen memory s) (t : State) (e : Event) (may : MayCall memory s e)
+    (step : Leads fllen sllen s e t) where
   after : IsWellFormed fllen sllen memory t
   after = steps_keep_well_formed fllen sllen memory s t e w may step
 
@@ -68,8 +70,10 @@ module _ {fllen sllen : ℕ} {memory : Range} {s : State} (w : IsWellFormed flle
           none-some (payload_in v) (sym told ∙ payload_at-held w a v (was, held.1)))
 
 -- what changes at one address alone
-changed : {fllen sllen : ℕ} {memory : Range} {s : State} → IsWellFormed fllen sllen memory s → (t : State) (e : Event) → MayCall memory s e → Leads fllen sllen s e t → (addr : ℕ) (now : Option Payload)
-    → payload_at t addr ≡ now → ((a : ℕ) → a ≢ addr → Names e a → ⊥) → ((a : ℕ) → a ≢ addr → Gives e a → ⊥) → IsSet (payload_at s) addr now (payload_at t)
+changed : {fllen sllen : ℕ} {memory : Range} {s : State} → IsWellFormed fllen sllen memory s → (t : State) (e : Event) → MayCall memory s e → Leads fllen sllen s e t
+    → (addr : ℕ) (now : Option Payload)
+    → payload_at t addr ≡ now → ((a : ℕ) → a ≢ addr → Names e a → ⊥) → ((a : ℕ) → a ≢ addr → Gives e a → ⊥)
+    → IsSet (payload_at s) addr now (payload_at t)
 changed {s = s} w t e may step addr now here other new = record { here = here; others = λ a apart. payload_at-unnamed w t e may step a (other a apart) (new a apart) }
 
 -- a payload that moved is not at its old address
@@ -107,7 +111,8 @@ callers_see_map fllen sllen memory s t (deallocate addr) w may step =
     let (u, held) = may in (
       payload_in u,
       payload_at-held w addr u held,
-      changed w t (deallocate addr) may step addr None (payload_at-none t addr (λ v gone. released_is_not_live s t addr v.align step (v, gone, refl))) (λ a apart names. apart (sym names)) (λ a apart bad. bad),
+      changed w t (deallocate addr) may step addr None (payload_at-none t addr (λ v gone. released_is_not_live s t addr v.align step (v, gone, refl)))
+          (λ a apart names. apart (sym names)) (λ a apart bad. bad),
     )
 callers_see_map fllen sllen memory s t (reallocate addr size None) w may step = unchanged (refusal_changes_nothing fllen sllen s t (reallocate addr size None) step refl)
 callers_see_map fllen sllen memory s t (reallocate addr size (Some to)) w may step =

@@ -1,5 +1,6 @@
 -- Changes of the blocks of a state that leave it well-formed.
-use Rattle.std.proofs.Common.{◌≡◌, ◌≢◌, ℕ, ◌+◌, ◌-◌, ◌<◌, ◌≤◌, ◌⊎◌, cond, not, eqb, List, [], ◌∷◌, ◌++◌, true≢false, arith, refl, sym, ◌∙◌, ap, subst, inl, inr}
+use Rattle.std.proofs.Common.{◌≡◌, ◌≢◌, ℕ, ◌+◌, ◌-◌, ◌<◌, ◌≤◌, ◌⊎◌, cond, not, eqb, List, [], ◌∷◌, ◌++◌, true≢false, arith, refl}
+use Rattle.std.proofs.Common.{sym, ◌∙◌, ap, subst, inl, inr}
 use Rattle.std.proofs.lemmas.Bool.{cases_lt, lt-ltb, le-ltb, eq-eqb, eqb-true, ne_eqb}
 use Rattle.rlsf_base.specs.declared.memory.range.Range.{Range}
 use Rattle.rlsf_base.specs.Range.{end_of}
@@ -31,7 +32,8 @@ reblocked {s = s} w used free is_used whole same apart = IsWellFormed-from (reco
 -- ---- a used block is taken out
 
 -- two used blocks whose callers have one address are one
-pub Holds-unique : {fllen sllen : ℕ} {memory : Range} {s : State} → IsWellFormed fllen sllen memory s → (addr : ℕ) (u v : Used) → Holds s addr u → Holds s addr v → u ≡ v
+pub Holds-unique : {fllen sllen : ℕ} {memory : Range} {s : State} → IsWellFormed fllen sllen memory s → (addr : ℕ) (u v : Used) → Holds s addr u → Holds s addr v
+    → u ≡ v
 Holds-unique {s = s} w addr u v hu hv =
     let iu = w.used u hu.0 in
     let iv = w.used v hv.0 in
@@ -63,13 +65,14 @@ IsIn-others_from addr v (x ∷ xs) h apart = by_test (eqb x.payload addr)
     ]))
 
 -- every used block but those at the address
-coverage-no_others : (addr : ℕ) (used : List Used) (a : ℕ) → ((v : Used) → IsIn v used → v.payload ≢ addr) → coverage block_of (others addr used) a ≡ coverage block_of used a
+coverage-no_others : (addr : ℕ) (used : List Used) (a : ℕ) → ((v : Used) → IsIn v used → v.payload ≢ addr)
+    → coverage block_of (others addr used) a ≡ coverage block_of used a
 coverage-no_others addr [] a none = refl
 coverage-no_others addr (x ∷ xs) a none =
     ap (λ b. coverage block_of (cond (not b) (x ∷ others addr xs) (others addr xs)) a) (ne_eqb x.payload addr (none x (inl refl)))
     ∙ ap (λ n. covers x.block a + n) (coverage-no_others addr xs a (λ v i. none v (inr i)))
 
--- a list in which one element alone has the address, and stands once
+-- a list in which one element alone has the address, and occurs once
 coverage-others_list : (addr : ℕ) (u : Used) (used : List Used) (a b : ℕ) → IsIn u used → u.payload ≡ addr
     → ((v : Used) → IsIn v used → v.payload ≡ addr → covers v.block b ≡ 1) → coverage block_of used b ≤ 1
     → coverage block_of used a ≡ covers u.block a + coverage block_of (others addr used) a
@@ -79,7 +82,8 @@ coverage-others_list addr u (x ∷ xs) a b h at one few = by_test (eqb x.payload
     let none : (v : Used) → IsIn v xs → v.payload ≢ addr = λ v i same. absurd (omega (arith, one v (inr i) same, coverage-IsIn block_of v xs b i)) in
     elim h [
       | inl same ↦
-          ap (λ b. covers x.block a + b) (sym (coverage-no_others addr xs a none)) ∙ ap (λ b. covers x.block a + coverage block_of (cond (not b) (x ∷ others addr xs) (others addr xs)) a) (sym e)
+          ap (λ b. covers x.block a + b) (sym (coverage-no_others addr xs a none))
+          ∙ ap (λ b. covers x.block a + coverage block_of (cond (not b) (x ∷ others addr xs) (others addr xs)) a) (sym e)
           ∙ ap (λ v. covers v.block a + coverage block_of (others addr (x ∷ xs)) a) (sym same)
       | inr i ↦ absurd (none u i at)
     ])
@@ -87,7 +91,8 @@ coverage-others_list addr u (x ∷ xs) a b h at one few = by_test (eqb x.payload
       | inl same ↦ absurd (true≢false (sym (eq-eqb x.payload addr (ap (λ v. v.payload) (sym same) ∙ at)) ∙ e))
       | inr i ↦
           let rest = coverage-others_list addr u xs a b i at (λ v j. one v (inr j)) (omega arith) in
-          let kept : coverage block_of (others addr (x ∷ xs)) a ≡ covers x.block a + coverage block_of (others addr xs) a = ap (λ b. coverage block_of (cond (not b) (x ∷ others addr xs) (others addr xs)) a) e in
+          let kept : coverage block_of (others addr (x ∷ xs)) a ≡ covers x.block a + coverage block_of (others addr xs) a =
+          ap (λ b. coverage block_of (cond (not b) (x ∷ others addr xs) (others addr xs)) a) e in
           omega arith
     ])
 
@@ -114,17 +119,21 @@ IsIn-rest_behind block end g h = elim (cases_lt (end_of block) end) [
 pub coverage-rest_behind : (block : Range) (end : ℕ) (span : Range) (a : ℕ) → end_of block ≤ end → span.start ≡ block.start → end_of span ≡ end
     → covers span a ≡ covers block a + coverage itself (rest_behind block end) a
 coverage-rest_behind block end span a within same_start same_end =
-    let cut : covers span a ≡ covers block a + covers (between (end_of block) end) a = covers-split block.start (end_of block) end a (omega arith) within span block (between (end_of block) end) same_start same_end refl refl refl (omega arith) in
+    let cut : covers span a ≡ covers block a + covers (between (end_of block) end) a =
+    covers-split block.start (end_of block) end a (omega arith) within span block (between (end_of block) end) same_start same_end refl refl refl (omega arith) in
     elim (cases_lt (end_of block) end) [
-      | inl less ↦ let rest : coverage itself (rest_behind block end) a ≡ covers (between (end_of block) end) a + 0 = ap (λ b. coverage itself (cond b (between (end_of block) end ∷ []) []) a) (lt-ltb (end_of block) end less) in omega arith
+      | inl less ↦ let rest : coverage itself (rest_behind block end) a ≡ covers (between (end_of block) end) a + 0 =
+          ap (λ b. coverage itself (cond b (between (end_of block) end ∷ []) []) a) (lt-ltb (end_of block) end less) in omega arith
       | inr all ↦
-          let rest : coverage itself (rest_behind block end) a ≡ 0 = ap (λ b. coverage itself (cond b (between (end_of block) end ∷ []) []) a) (le-ltb (end_of block) end all) in
+          let rest : coverage itself (rest_behind block end) a ≡ 0 =
+          ap (λ b. coverage itself (cond b (between (end_of block) end ∷ []) []) a) (le-ltb (end_of block) end all) in
           let none : covers (between (end_of block) end) a ≡ 0 = covers-empty (between (end_of block) end) a (omega arith) in
           omega arith
     ]
 
 -- the rest that a block leaves in front of free ranges that the span doesn't adjoin
-pub IsApart-rest_behind : (block : Range) (end : ℕ) (rest : List Range) → 0 < block.len → IsApart rest → ((g : Range) → IsIn g rest → 0 < g.len) → ((g : Range) → IsIn g rest → end ≢ g.start)
+pub IsApart-rest_behind : (block : Range) (end : ℕ) (rest : List Range) → 0 < block.len → IsApart rest → ((g : Range) → IsIn g rest → 0 < g.len)
+    → ((g : Range) → IsIn g rest → end ≢ g.start)
     → ((a : ℕ) → block.start ≤ a → a < end → coverage itself rest a ≡ 0) → IsApart (rest_behind block end ++ rest)
 IsApart-rest_behind block end rest some base full starts clear f g hf hg touch =
     elim (IsIn-append f (rest_behind block end) rest hf) [

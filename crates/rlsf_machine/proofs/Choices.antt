@@ -1,6 +1,7 @@
 -- The range that an allocation takes.
 use mathlib.Core.Path.{ap₂}
-use Rattle.std.proofs.Common.{false, ◌≡◌, ℕ, ◌*◌, true, cond, ◌&&◌, ◌||◌, leb, eqb, true≢false, List, [], ◌∷◌, Option, Some, None, find, option_and_then, arith, refl, sym, ◌∙◌, ap, subst, inl, inr, ◌≢◌, ◌++◌}
+use Rattle.std.proofs.Common.{false, ◌≡◌, ℕ, ◌*◌, true, cond, ◌&&◌, ◌||◌, leb, eqb, true≢false, List, [], ◌∷◌, Option, Some, None, find}
+use Rattle.std.proofs.Common.{option_and_then, arith, refl, sym, ◌∙◌, ap, subst, inl, inr, ◌≢◌, ◌++◌}
 use Rattle.std.proofs.lemmas.Bool.{cases_lt, leb-true, le-leb, lt-ltb, le-ltb, eqb-true, eq-eqb, and_parts, and_from, false_from_ne_true}
 use Rattle.rlsf_base.specs.declared.memory.range.Range.{Range}
 use Rattle.rlsf_base.specs.SizeClass.{SizeClass, class_of, class_start, reaches, Reaches, IsAtMost}
@@ -13,7 +14,9 @@ pub is_at_most-true : (c d : SizeClass) → is_at_most c d ≡ true → IsAtMost
 is_at_most-true c d h = elim (cases_lt c.exponent d.exponent) [
   | inl less ↦ inl less
   | inr from ↦
-      let rest = and_parts (eqb c.exponent d.exponent) (leb c.division d.division) (sym (ap (λ b. b || (eqb c.exponent d.exponent && leb c.division d.division)) (le-ltb c.exponent d.exponent from)) ∙ h) in
+      let rest =
+      and_parts (eqb c.exponent d.exponent) (leb c.division d.division)
+      (sym (ap (λ b. b || (eqb c.exponent d.exponent && leb c.division d.division)) (le-ltb c.exponent d.exponent from)) ∙ h) in
       inr (eqb-true c.exponent d.exponent rest.0, leb-true c.division d.division rest.1)
 ]
 
@@ -32,7 +35,8 @@ has_class-true sllen c f h =
 pub has_class-from : (sllen : ℕ) (c : SizeClass) (f : Range) → class_of sllen f.len ≡ c → has_class sllen c f ≡ true
 has_class-from sllen c f e =
     let d = class_of sllen f.len in
-    and_from (eqb d.exponent c.exponent) (eqb d.division c.division) (eq-eqb d.exponent c.exponent (ap (λ x. x.exponent) e)) (eq-eqb d.division c.division (ap (λ x. x.division) e))
+    and_from (eqb d.exponent c.exponent) (eqb d.division c.division) (eq-eqb d.exponent c.exponent (ap (λ x. x.exponent) e))
+    (eq-eqb d.division c.division (ap (λ x. x.division) e))
 
 -- c is the least class that reaches a size among those of some ranges
 pub record IsLeast (sllen size : ℕ) (free : List Range) (c : SizeClass) : Type 0 where
@@ -75,7 +79,8 @@ module _ (sllen size : ℕ) where
                 | inr i ↦ IsAtMost-trans c d (class_of sllen g.len) (is_at_most-true c d first) (l.least g i r)
               ];
             }))
-            (λ later. let order : IsAtMost d c = elim (IsAtMost-total c d) [ inl back ↦ absurd (true≢false (sym (is_at_most-from c d back) ∙ later)) | inr order ↦ order ] in
+            (λ later. let order : IsAtMost d c =
+            elim (IsAtMost-total c d) [ inl back ↦ absurd (true≢false (sym (is_at_most-from c d back) ∙ later)) | inr order ↦ order ] in
             one_reaches d (is ∙ ap (λ o. Some (earlier c o)) e ∙ ap (λ b. Some (cond b c d)) later) (record {
               range = l.range;
               is_in = inr l.is_in;
@@ -87,7 +92,8 @@ module _ (sllen size : ℕ) where
       (λ fails. let is : least_reaching sllen size (f ∷ fs) ≡ least = ap (λ b. cond b (Some (earlier c least)) least) fails in
       let short : Reaches sllen c size → ⊥ = λ r. true≢false (sym (le-leb (size * sllen) (class_start sllen c) r) ∙ fails) in
       elim (least_of fs) [
-        | none_reaches e none ↦ none_reaches (is ∙ e) (λ g h r. elim h [ inl same ↦ absurd (short (subst (λ x. Reaches sllen (class_of sllen x.len) size) same r)) | inr i ↦ none g i r ])
+        | none_reaches e none ↦ none_reaches (is ∙ e)
+            (λ g h r. elim h [ inl same ↦ absurd (short (subst (λ x. Reaches sllen (class_of sllen x.len) size) same r)) | inr i ↦ none g i r ])
         | one_reaches d e l ↦ one_reaches d (is ∙ e) (record {
           range = l.range;
           is_in = inr l.is_in;
@@ -142,11 +148,13 @@ module _ (sllen size : ℕ) (free : List Range) where
     | none_reaches e none ↦ absurd (none f is.is_in is.reached)
     | one_reaches c e l ↦
         let below : IsAtMost c (class_of sllen f.len) = l.least f is.is_in is.reached in
-        let above : IsAtMost (class_of sllen f.len) c = subst (IsAtMost (class_of sllen f.len)) l.has (is.least l.range l.is_in (subst (λ d. Reaches sllen d size) (sym l.has) l.reached)) in
-        ap (λ o. option_and_then (λ c. find (has_class sllen c) free) o) e ∙ ap (λ d. find (has_class sllen d) free) (IsAtMost-antisymm c (class_of sllen f.len) below above) ∙ is.found
+        let above : IsAtMost (class_of sllen f.len) c =
+        subst (IsAtMost (class_of sllen f.len)) l.has (is.least l.range l.is_in (subst (λ d. Reaches sllen d size) (sym l.has) l.reached)) in
+        ap (λ o. option_and_then (λ c. find (has_class sllen c) free) o) e ∙ ap (λ d. find (has_class sllen d) free) (IsAtMost-antisymm c (class_of sllen f.len) below above)
+        ∙ is.found
   ]
 
--- the choice, from where it stands in the list
+-- the choice, from its place in the list on
 pub choice-from_split : (sllen size : ℕ) (front : List Range) (f : Range) (back : List Range) → ((g : Range) → IsIn g front → class_of sllen g.len ≢ class_of sllen f.len)
     → Reaches sllen (class_of sllen f.len) size
     → ((g : Range) → IsIn g (front ++ f ∷ back) → Reaches sllen (class_of sllen g.len) size → IsAtMost (class_of sllen f.len) (class_of sllen g.len))
@@ -154,5 +162,7 @@ pub choice-from_split : (sllen size : ℕ) (front : List Range) (f : Range) (bac
 choice-from_split sllen size front f back apart reached least =
     let c = class_of sllen f.len in
     let fails : (g : Range) → IsIn g front → has_class sllen c g ≡ false = λ g i. false_from_ne_true (has_class sllen c g) (λ e. apart g i (has_class-true sllen c g e)) in
-    let found = find-at (has_class sllen c) front f back fails (has_class-from sllen c f refl) in
-    (choice-from sllen size (front ++ f ∷ back) f (record { is_in = IsIn-append_right f front (f ∷ back) (inl refl); found = found.0; reached = reached; least = least }), found.1)
+    let found = find-at (has_class sllen c) front f back fails (has_class-from sllen c f refl) in (
+      choice-from sllen size (front ++ f ∷ back) f (record { is_in = IsIn-append_right f front (f ∷ back) (inl refl); found = found.0; reached = reached; least = least }),
+      found.1,
+    )

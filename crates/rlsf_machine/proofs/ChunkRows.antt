@@ -1,12 +1,14 @@
 -- Rows of chunks over the steps.
-use Rattle.std.proofs.Common.{◌≡◌, ◌≢◌, ℕ, zero, suc, ◌+◌, ◌-◌, ◌*◌, ◌/◌, ◌<◌, ◌≤◌, List, [], ◌∷◌, ◌++◌, Option, Some, None, find, true≢false, arith, refl, sym, ◌∙◌, ap, subst, inl, inr}
+use Rattle.std.proofs.Common.{◌≡◌, ◌≢◌, ℕ, zero, suc, ◌+◌, ◌-◌, ◌*◌, ◌/◌, ◌<◌, ◌≤◌, List, [], ◌∷◌, ◌++◌, Option, Some, None, find}
+use Rattle.std.proofs.Common.{true≢false, arith, refl, sym, ◌∙◌, ap, subst, inl, inr}
 use Rattle.std.proofs.lemmas.Bool.{cases_lt, eq-eqb, eqb-true}
 use Rattle.rlsf_base.specs.declared.memory.range.Range.{Range}
 use Rattle.rlsf_base.specs.Range.{end_of, range_at}
 use Rattle.rlsf_base.specs.Rounding.{round32}
 use Rattle.rlsf_base.specs.Sizes.{max_pool_size}
 use Rattle.rlsf_machine.specs.ChunkRows.{IsRow}
-use Rattle.rlsf_machine.specs.Insert.{adjacent, remainder, cut, aligned_part, with_chunk, with_chunks, end_of_last, bytes_taken, grown_if, extended, appended, appended_bytes, IsClear, Inserts, Appends}
+use Rattle.rlsf_machine.specs.Insert.{adjacent, remainder, cut, aligned_part, with_chunk, with_chunks, end_of_last, bytes_taken, grown_if, extended, appended, appended_bytes}
+use Rattle.rlsf_machine.specs.Insert.{IsClear, Inserts, Appends}
 use Rattle.rlsf_machine.specs.Join.{ends_at}
 use Rattle.rlsf_machine.specs.Lists.{IsIn}
 use Rattle.rlsf_machine.specs.State.{State, between}
@@ -18,7 +20,7 @@ use Rattle.rlsf_machine.proofs.Orders.{one_ends}
 
 -- ---- chunks one behind another
 
--- the ranges stand one behind another, the first one at the address
+-- the ranges are one behind another, the first one at the address
 IsAdjacent : ℕ → List Range → Type 0
 IsAdjacent at [] = Unit {0}
 IsAdjacent at (c ∷ cs) = (c.start ≡ at) × IsAdjacent (end_of c) cs
@@ -85,7 +87,7 @@ IsRow-with_chunks s cs p = IsRow-with s (with_chunks cs s) p (λ c i. IsIn-with_
 pub IsRow-kept : (fllen : ℕ) (s t : State) (r p : Range) (reply : Option ℕ) → Inserts fllen s r reply t → IsRow s p → IsRow t p
 IsRow-kept fllen s t r p reply step row = subst (λ x. IsRow x p) (sym step.after) (IsRow-with_chunks s (cut (max_pool_size fllen) (aligned_part r)) p row)
 
--- ---- the row of what is handed in
+-- ---- the row of what is inserted
 
 -- the chunks of an aligned part, up to the last one's end
 IsRow-cut : (s : State) (o : Option ℕ) (part : Range) (a : ℕ) → part.start ≤ a → a < end_of_last part.start (cut o part)
@@ -148,7 +150,8 @@ module _ (s : State) (r p : Range) (clear : IsClear r s.chunks) (apart : end_of 
   pub IsRow-kept_apart : (fllen reply : ℕ) (t : State) → Appends fllen s r reply t → IsRow t p
   IsRow-kept_apart fllen reply t step = subst (λ x. IsRow x p) (sym step.after) (appended-row (max_pool_size fllen))
 
-module _ {fllen sllen : ℕ} {memory : Range} {s : State} (w : IsWellFormed fllen sllen memory s) (r p : Range) (ends : end_of p ≡ r.start) (some : 0 < p.len) (row : IsRow s p) where
+module _ {fllen sllen : ℕ} {memory : Range} {s : State} (w : IsWellFormed fllen sllen memory s) (r p : Range) (ends : end_of p ≡ r.start) (some : 0 < p.len)
+    (row : IsRow s p) where
   -- the row's last chunk ends where the range begins
   last_chunk : (c : Range) × IsIn c s.chunks × (p.start ≤ c.start) × (end_of c ≡ r.start)
   last_chunk = let (c, i, from, low, high, to) = row (end_of p - 1) (omega arith) (omega arith) in (c, i, from, omega arith)

@@ -1,5 +1,6 @@
 -- What a step leaves of the chunks.
-use Rattle.std.proofs.Common.{◌≡◌, ℕ, zero, suc, ◌+◌, ◌*◌, ◌/◌, ◌%◌, ◌≤◌, ◌⊎◌, Bool, cond, List, [], ◌∷◌, Option, Some, None, find, arith, refl, sym, ◌∙◌, ap, subst, inl, inr}
+use Rattle.std.proofs.Common.{◌≡◌, ℕ, zero, suc, ◌+◌, ◌*◌, ◌/◌, ◌%◌, ◌≤◌, ◌⊎◌, Bool, cond, List, [], ◌∷◌, Option, Some, None, find, arith}
+use Rattle.std.proofs.Common.{refl, sym, ◌∙◌, ap, subst, inl, inr}
 use Rattle.std.proofs.lemmas.Bool.{eqb-true}
 use Rattle.rlsf_base.specs.declared.memory.range.Range.{Range}
 use Rattle.rlsf_base.specs.Range.{end_of, range_at}
@@ -117,7 +118,7 @@ inserted_chunks_lie_in_range fllen s t r reply c step i =
       | inr old ↦ inl old
     ]
 
--- ---- memory that is handed in leaves the used blocks
+-- ---- inserted memory leaves the used blocks
 
 used-with_chunks : (cs : List Range) (s : State) → (with_chunks cs s).used ≡ s.used
 used-with_chunks [] s = refl

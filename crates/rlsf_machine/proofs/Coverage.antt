@@ -1,5 +1,6 @@
 -- How many ranges of a list have an address.
-use Rattle.std.proofs.Common.{◌≡◌, ℕ, ◌+◌, ◌<◌, ◌≤◌, ◌⊎◌, Bool, true, false, cond, ◌&&◌, ltb, filter, find, map, true≢false, List, [], ◌∷◌, ◌++◌, Some, None, arith, refl, sym, ◌∙◌, ap, subst, inl, inr}
+use Rattle.std.proofs.Common.{◌≡◌, ℕ, ◌+◌, ◌<◌, ◌≤◌, ◌⊎◌, Bool, true, false, cond, ◌&&◌, ltb, filter, find, map, true≢false, List, [], ◌∷◌}
+use Rattle.std.proofs.Common.{◌++◌, Some, None, arith, refl, sym, ◌∙◌, ap, subst, inl, inr}
 use Rattle.std.proofs.lemmas.Bool.{cases_lt, le-leb, lt-leb, lt-ltb, le-ltb}
 use Rattle.rlsf_base.specs.declared.memory.range.Range.{Range}
 use Rattle.rlsf_base.specs.Range.{end_of}
@@ -52,7 +53,8 @@ covers-le r a = elim (where_is r a) [
 ]
 
 -- a range is cut in two at any address in it
-pub covers-split : (low mid high a : ℕ) → low ≤ mid → mid ≤ high → (r s t : Range) → r.start ≡ low → end_of r ≡ high → s.start ≡ low → end_of s ≡ mid → t.start ≡ mid → end_of t ≡ high
+pub covers-split : (low mid high a : ℕ) → low ≤ mid → mid ≤ high → (r s t : Range) → r.start ≡ low → end_of r ≡ high → s.start ≡ low → end_of s ≡ mid
+    → t.start ≡ mid → end_of t ≡ high
     → covers r a ≡ covers s a + covers t a
 covers-split low mid high a first second r s t r0 r1 s0 s1 t0 t1 = elim (where_is r a) [
   | inside one l h ↦ elim (where_is s a) [
@@ -203,13 +205,16 @@ module _ {A : Type 0} (range : A → Range) where
   coverage-none (x ∷ xs) a none = omega (arith, none x (inl refl), coverage-none xs a (λ y i. none y (inr i)))
 
   -- without elements whose ranges don't have the address
-  pub coverage-filter : (p : A → Bool) (xs : List A) (a : ℕ) → ((x : A) → IsIn x xs → p x ≡ false → covers (range x) a ≡ 0) → coverage range (filter p xs) a ≡ coverage range xs a
+  pub coverage-filter : (p : A → Bool) (xs : List A) (a : ℕ) → ((x : A) → IsIn x xs → p x ≡ false → covers (range x) a ≡ 0)
+      → coverage range (filter p xs) a ≡ coverage range xs a
   coverage-filter p [] a none = refl
   coverage-filter p (x ∷ xs) a none =
       let rest = coverage-filter p xs a (λ y i. none y (inr i)) in
       by_test (p x)
-      (λ e. let kept : coverage range (filter p (x ∷ xs)) a ≡ covers (range x) a + coverage range (filter p xs) a = ap (λ b. coverage range (cond b (x ∷ filter p xs) (filter p xs)) a) e in omega arith)
-      (λ e. let gone : coverage range (filter p (x ∷ xs)) a ≡ coverage range (filter p xs) a = ap (λ b. coverage range (cond b (x ∷ filter p xs) (filter p xs)) a) e in omega (arith, none x (inl refl) e))
+      (λ e. let kept : coverage range (filter p (x ∷ xs)) a
+      ≡ covers (range x) a + coverage range (filter p xs) a = ap (λ b. coverage range (cond b (x ∷ filter p xs) (filter p xs)) a) e in omega arith)
+      (λ e. let gone : coverage range (filter p (x ∷ xs)) a ≡ coverage range (filter p xs) a = ap (λ b. coverage range (cond b (x ∷ filter p xs) (filter p xs)) a) e in
+      omega (arith, none x (inl refl) e))
 
   -- an address that some range has
   pub coverage-some : (xs : List A) (a : ℕ) → 1 ≤ coverage range xs a → (x : A) × IsIn x xs × ((range x).start ≤ a) × (a < end_of (range x))
@@ -224,7 +229,8 @@ module _ {A : Type 0} (range : A → Range) where
       more (y, h, low, high) = (y, inr h, low, high)
 
   -- an address that at most one range has is in one element's range alone
-  pub coverage-unique : (x y : A) (xs : List A) (a : ℕ) → coverage range xs a ≤ 1 → IsIn x xs → IsIn y xs → covers (range x) a ≡ 1 → covers (range y) a ≡ 1 → x ≡ y
+  pub coverage-unique : (x y : A) (xs : List A) (a : ℕ) → coverage range xs a ≤ 1 → IsIn x xs → IsIn y xs → covers (range x) a ≡ 1 → covers (range y) a ≡ 1
+      → x ≡ y
   coverage-unique x y [] a one i j cx cy = absurd i
   coverage-unique x y (z ∷ xs) a one (inl e) (inl f) cx cy = e ∙ sym f
   coverage-unique x y (z ∷ xs) a one (inl e) (inr j) cx cy =

@@ -1,6 +1,7 @@
 -- The chunks that an aligned part is cut into.
 use mathlib.Core.Path.{ap₂}
-use Rattle.std.proofs.Common.{◌≡◌, ℕ, zero, suc, ◌+◌, ◌-◌, ◌*◌, ◌/◌, ◌%◌, ◌^◌, ◌<◌, ◌≤◌, ◌⊎◌, cond, List, [], ◌∷◌, ◌++◌, Option, Some, None, arith, refl, sym, ap, subst, inl, inr, min, ◌∙◌}
+use Rattle.std.proofs.Common.{◌≡◌, ℕ, zero, suc, ◌+◌, ◌-◌, ◌*◌, ◌/◌, ◌%◌, ◌^◌, ◌<◌, ◌≤◌, ◌⊎◌, cond, List, [], ◌∷◌, ◌++◌}
+use Rattle.std.proofs.Common.{Option, Some, None, arith, refl, sym, ap, subst, inl, inr, min, ◌∙◌}
 use Rattle.std.proofs.lemmas.Bool.{cases_lt, lt-ltb, le-ltb, le-leb, lt-leb}
 use Rattle.std.proofs.lemmas.Nat.{div_below, le-div, mod_below, div-add-mod', pow_pos, pow-add}
 use Rattle.std.proofs.Math.Nat.{div-mul-le_self}
@@ -25,7 +26,8 @@ pub record IsPiece (most : ℕ) (part c : Range) : Type 0 where
 IsIn-adjacent : (n at len : ℕ) → at % 32 ≡ 0 → len % 32 ≡ 0 → 64 ≤ len → (c : Range) → IsIn c (adjacent at len n) → IsPiece len (range_at at (n * len)) c
 IsIn-adjacent zero at len at32 len32 room c h = absurd h
 IsIn-adjacent (suc n) at len at32 len32 room c (inl same) =
-    subst (IsPiece len (range_at at (suc n * len))) (sym same) (record { whole = record { start = at32; len = len32 }; from = omega arith; to = omega arith; room = room; short = omega arith })
+    subst (IsPiece len (range_at at (suc n * len))) (sym same)
+    (record { whole = record { start = at32; len = len32 }; from = omega arith; to = omega arith; room = room; short = omega arith })
 IsIn-adjacent (suc n) at len at32 len32 room c (inr h) =
     let rest = IsIn-adjacent n (at + len) len (omega arith) len32 room c h in
     record { whole = rest.whole; from = omega (arith, rest.from); to = omega (arith, rest.to); room = rest.room; short = rest.short }
@@ -33,7 +35,12 @@ IsIn-adjacent (suc n) at len at32 len32 room c (inr h) =
 coverage-adjacent : (n at len a : ℕ) → coverage itself (adjacent at len n) a ≡ covers (range_at at (n * len)) a
 coverage-adjacent zero at len a = sym (covers-empty (range_at at (zero * len)) a (omega arith))
 coverage-adjacent (suc n) at len a =
-    omega (arith, coverage-adjacent n (at + len) len a, covers-split at (at + len) (at + suc n * len) a (omega arith) (omega arith) (range_at at (suc n * len)) (range_at at len) (range_at (at + len) (n * len)) refl refl refl refl refl (omega arith))
+    omega (
+      arith,
+      coverage-adjacent n (at + len) len a,
+      covers-split at (at + len) (at + suc n * len) a (omega arith) (omega arith) (range_at at (suc n * len)) (range_at at len) (range_at (at + len) (n * len)) refl refl refl
+          refl refl (omega arith),
+    )
 
 IsIn-remainder : (at len : ℕ) (c : Range) → IsIn c (remainder at len) → (c ≡ range_at at len) × (64 ≤ len)
 IsIn-remainder at len c h = elim (cases_lt len 64) [
@@ -46,7 +53,8 @@ IsIn-remainder at len c h = elim (cases_lt len 64) [
 coverage-remainder : (at len a : ℕ) → coverage itself (remainder at len) a ≤ covers (range_at at len) a
 coverage-remainder at len a = elim (cases_lt len 64) [
   | inl short ↦ let none : coverage itself (remainder at len) a ≡ 0 = ap (λ b. coverage itself (cond b (range_at at len ∷ []) []) a) (lt-leb 64 len short) in omega arith
-  | inr room ↦ let one : coverage itself (remainder at len) a ≡ covers (range_at at len) a + 0 = ap (λ b. coverage itself (cond b (range_at at len ∷ []) []) a) (le-leb 64 len room) in omega arith
+  | inr room ↦ let one : coverage itself (remainder at len) a ≡ covers (range_at at len) a + 0 =
+      ap (λ b. coverage itself (cond b (range_at at len ∷ []) []) a) (le-leb 64 len room) in omega arith
 ]
 
 pub max_pool-cases : (fllen : ℕ) → (max_pool_size fllen ≡ Some (2 ^ (5 + fllen))) ⊎ ((max_pool_size fllen ≡ None) × (64 ≤ 5 + fllen))
@@ -96,7 +104,8 @@ module _ (part : Range) (part_whole : IsWhole part) where
         coverage-append itself (adjacent part.start most n) (remainder (part.start + n * most) (part.len - n * most)) a,
         coverage-adjacent n part.start most a,
         coverage-remainder (part.start + n * most) (part.len - n * most) a,
-        covers-split part.start (part.start + n * most) (end_of part) a (omega arith) (omega arith) part (range_at part.start (n * most)) (range_at (part.start + n * most) (part.len - n * most)) refl refl refl refl refl (omega arith),
+        covers-split part.start (part.start + n * most) (end_of part) a (omega arith) (omega arith) part (range_at part.start (n * most))
+            (range_at (part.start + n * most) (part.len - n * most)) refl refl refl refl refl (omega arith),
       )
 
   pub coverage-cut : (o : Option ℕ) (a : ℕ) → coverage itself (cut o part) a ≤ covers part a
@@ -104,7 +113,8 @@ module _ (part : Range) (part_whole : IsWhole part) where
   coverage-cut (Some most) a = coverage-cut_most most a
 
   -- the chunks are pieces, and less their last 32 bytes they aren't too long
-  pub IsIn-cut : (fllen : ℕ) → 0 < fllen → (0 < part.len → end_of part < 2 ^ 64) → (c : Range) → IsIn c (cut (max_pool_size fllen) part) → IsPiece (2 ^ (5 + fllen)) part c
+  pub IsIn-cut : (fllen : ℕ) → 0 < fllen → (0 < part.len → end_of part < 2 ^ 64) → (c : Range) → IsIn c (cut (max_pool_size fllen) part)
+      → IsPiece (2 ^ (5 + fllen)) part c
   IsIn-cut fllen rows limit c h = elim (max_pool-cases fllen) [
     | inl some ↦ let most = most_whole fllen rows in IsIn-cut_most (2 ^ (5 + fllen)) most.0 most.1 c (subst (λ o. IsIn c (cut o part)) some h)
     | inr (none, large) ↦
@@ -173,7 +183,9 @@ remainder-one at len room = ap (λ b. cond b (range_at at len ∷ []) []) (le-le
 
 module _ (at len most : ℕ) (wide : 64 ≤ most) where
   cut_most-none : len < 64 → cut (Some most) (range_at at len) ≡ []
-  cut_most-none short = ap (λ q. adjacent at most q ++ remainder (at + q * most) (len - q * most)) (div-none len most (omega arith) (omega arith)) ∙ remainder-none (at + 0 * most) (len - 0 * most) (omega arith)
+  cut_most-none short =
+      ap (λ q. adjacent at most q ++ remainder (at + q * most) (len - q * most)) (div-none len most (omega arith) (omega arith))
+      ∙ remainder-none (at + 0 * most) (len - 0 * most) (omega arith)
 
   cut_most-short : 64 ≤ len → len < most → cut (Some most) (range_at at len) ≡ range_at at len ∷ []
   cut_most-short room short =
@@ -197,7 +209,8 @@ module _ (at len most : ℕ) (wide : 64 ≤ most) where
 pub chunks_are_cut_off_the_front : ChunksAreCutOffTheFront
 chunks_are_cut_off_the_front fllen at len rows = elim (max_pool-cases fllen) [
   | inl some ↦ subst (IsCutOff at len) (sym some) (by_most (2 ^ (5 + fllen)) (most_whole fllen rows).1)
-  | inr (none, large) ↦ subst (IsCutOff at len) (sym none) (remainder-none at len, λ room. remainder-one at len room ∙ ap (λ l. range_at at len ∷ l) (sym (remainder-none (at + len) (len - len) (omega arith))))
+  | inr (none, large) ↦ subst (IsCutOff at len) (sym none)
+      (remainder-none at len, λ room. remainder-one at len room ∙ ap (λ l. range_at at len ∷ l) (sym (remainder-none (at + len) (len - len) (omega arith))))
 ]
   where
     by_most : (most : ℕ) → 64 ≤ most → IsCutOff at len (Some most)
@@ -250,12 +263,14 @@ coverage-cut_last (Some most) part a =
     let rest = coverage-remainder_last behind (part.len - n * most) a in
     let end = end_of_last behind left in
     let from : behind ≤ end = rest.0 in
-    subst (λ e. coverage itself (adjacent part.start most n ++ left) a ≤ covers (range_at part.start (e - part.start)) a) (sym (end_of_last-adjacent n part.start most left)) (omega (
+    subst (λ e. coverage itself (adjacent part.start most n ++ left) a ≤ covers (range_at part.start (e - part.start)) a) (sym (end_of_last-adjacent n part.start most left))
+    (omega (
       arith,
       coverage-append itself (adjacent part.start most n) left a,
       coverage-adjacent n part.start most a,
       rest.1,
-      covers-split part.start behind end a (omega arith) from (range_at part.start (end - part.start)) (range_at part.start (n * most)) (range_at behind (end - behind)) refl (omega arith) refl refl refl (omega arith),
+      covers-split part.start behind end a (omega arith) from (range_at part.start (end - part.start)) (range_at part.start (n * most)) (range_at behind (end - behind)) refl
+          (omega arith) refl refl refl (omega arith),
     ))
 
 -- the last chunk ends where the part does, or 32 bytes before

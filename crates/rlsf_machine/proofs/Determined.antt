@@ -44,26 +44,35 @@ AreAlike-released s t u a = record {
 AreAlike-at : {s s' t t' : State} → s ≡ s' → t ≡ t' → AreAlike s' t' → AreAlike s t
 AreAlike-at {s} {s'} {t} {t'} e f a = subst (λ x. AreAlike x t) (sym e) (subst (λ y. AreAlike s' y) (sym f) a)
 
-Allocates-determined : (sllen : ℕ) (s t t' : State) (size align : ℕ) (m n : Option ℕ) → Allocates sllen s size align m t → Allocates sllen s size align n t' → (m ≡ n) × AreAlike t t'
+Allocates-determined : (sllen : ℕ) (s t t' : State) (size align : ℕ) (m n : Option ℕ) → Allocates sllen s size align m t → Allocates sllen s size align n t'
+    → (m ≡ n) × AreAlike t t'
 Allocates-determined sllen s t t' size align None None a b = (refl, alike (a.1 ∙ sym b.1))
 Allocates-determined sllen s t t' size align None (Some y) a b = let bad : None ≡ Some b.range = sym a.0 ∙ b.chosen in absurd (cc)
 Allocates-determined sllen s t t' size align (Some x) None a b = let bad : None ≡ Some a.range = sym b.0 ∙ a.chosen in absurd (cc)
 Allocates-determined sllen s t t' size align (Some x) (Some y) a b =
     let found : Some a.range ≡ Some b.range = sym a.chosen ∙ b.chosen in
-    let same : a.range ≡ b.range = cc in
-    (ap Some (a.answer ∙ ap (λ f. payload_of f.start align) same ∙ sym b.answer), AreAlike-at a.after b.after (subst (λ f. AreAlike (given sllen s a.range (placed a.range size align a.bytes)) (given sllen s f (placed f size align b.bytes))) same (record { chunks = refl; used = refl; free = refl })))
+    let same : a.range ≡ b.range = cc in (
+      ap Some (a.answer ∙ ap (λ f. payload_of f.start align) same ∙ sym b.answer),
+      AreAlike-at a.after b.after
+          (subst (λ f. AreAlike (given sllen s a.range (placed a.range size align a.bytes)) (given sllen s f (placed f size align b.bytes))) same
+          (record { chunks = refl; used = refl; free = refl })),
+    )
 
 module _ {fllen sllen : ℕ} {memory : Range} {s : State} (w : IsWellFormed fllen sllen memory s) where
   Deallocates-determined : (t t' : State) (addr : ℕ) → Deallocates s addr t → Deallocates s addr t' → t ≡ t'
   Deallocates-determined t t' addr a b = a.after ∙ ap (released s) (Holds-unique w addr a.block b.block a.holds b.holds) ∙ sym b.after
 
-  ReallocatesBy-determined : (t t' : State) (u : Used) → IsIn u s.used → (size : ℕ) (o : Option Plan) (m n : Option ℕ) → ReallocatesBy sllen s u size o m t → ReallocatesBy sllen s u size o n t' → (m ≡ n) × AreAlike t t'
+  ReallocatesBy-determined : (t t' : State) (u : Used) → IsIn u s.used → (size : ℕ) (o : Option Plan) (m n : Option ℕ) → ReallocatesBy sllen s u size o m t
+      → ReallocatesBy sllen s u size o n t' → (m ≡ n) × AreAlike t t'
   ReallocatesBy-determined t t' u h size (Some p) None n a b = absurd a
   ReallocatesBy-determined t t' u h size (Some p) (Some x) None a b = absurd b
-  ReallocatesBy-determined t t' u h size (Some p) (Some x) (Some y) a b = (ap Some (a.answer ∙ sym b.answer), AreAlike-at a.after b.after (record { chunks = refl; used = refl; free = refl }))
+  ReallocatesBy-determined t t' u h size (Some p) (Some x) (Some y) a b =
+      (ap Some (a.answer ∙ sym b.answer), AreAlike-at a.after b.after (record { chunks = refl; used = refl; free = refl }))
   ReallocatesBy-determined t t' u h size None None None a b = (refl, alike (a.1 ∙ sym b.1))
-  ReallocatesBy-determined t t' u h size None None (Some y) a b = let bad : None ≡ Some y = (Allocates-determined sllen s t b.meanwhile size u.align None (Some y) a b.allocated).0 in absurd (cc)
-  ReallocatesBy-determined t t' u h size None (Some x) None a b = let bad : Some x ≡ None = (Allocates-determined sllen s a.meanwhile t' size u.align (Some x) None a.allocated b).0 in absurd (cc)
+  ReallocatesBy-determined t t' u h size None None (Some y) a b = let bad : None ≡ Some y =
+      (Allocates-determined sllen s t b.meanwhile size u.align None (Some y) a b.allocated).0 in absurd (cc)
+  ReallocatesBy-determined t t' u h size None (Some x) None a b = let bad : Some x ≡ None =
+      (Allocates-determined sllen s a.meanwhile t' size u.align (Some x) None a.allocated b).0 in absurd (cc)
   ReallocatesBy-determined t t' u h size None (Some x) (Some y) a b =
       let (same, near) = Allocates-determined sllen s a.meanwhile b.meanwhile size u.align (Some x) (Some y) a.allocated b.allocated in
       (same, AreAlike-at (gone a.meanwhile t x a.allocated a.released) (gone b.meanwhile t' y b.allocated b.released) (AreAlike-released a.meanwhile b.meanwhile u near))
@@ -74,7 +83,8 @@ module _ {fllen sllen : ℕ} {memory : Range} {s : State} (w : IsWellFormed flle
           let stays : IsIn u r.used = subst (λ x. IsIn u x.used) (sym step.after) (inr h) in
           d.after ∙ ap (released r) (Holds-unique kept u.payload d.block u d.holds (stays, refl))
 
-  Reallocates-determined : (t t' : State) (addr size : ℕ) (m n : Option ℕ) → Reallocates sllen s addr size m t → Reallocates sllen s addr size n t' → (m ≡ n) × AreAlike t t'
+  Reallocates-determined : (t t' : State) (addr size : ℕ) (m n : Option ℕ) → Reallocates sllen s addr size m t → Reallocates sllen s addr size n t'
+      → (m ≡ n) × AreAlike t t'
   Reallocates-determined t t' addr size m n a b =
       let same : b.block ≡ a.block = Holds-unique w addr b.block a.block b.holds a.holds in
       ReallocatesBy-determined t t' a.block a.holds.0 size (plan s a.block size) m n a.step (subst (λ u. ReallocatesBy sllen s u size (plan s u size) n t') same b.step)
@@ -87,12 +97,14 @@ steps_are_determined fllen sllen memory s t t' (append r m) (append q n) w a b s
     let b' = subst (λ x. Appends fllen s x n t') (sym same) b in
     (ap₂ append same (a.answer ∙ sym b'.answer), alike (a.after ∙ sym b'.after))
 steps_are_determined fllen sllen memory s t t' (allocate size align m) (allocate size' align' n) w a b (same, same') =
-    let d = Allocates-determined sllen s t t' size align m n a (subst (λ x. Allocates sllen s x align n t') (sym same) (subst (λ y. Allocates sllen s size' y n t') (sym same') b)) in
+    let d =
+    Allocates-determined sllen s t t' size align m n a (subst (λ x. Allocates sllen s x align n t') (sym same) (subst (λ y. Allocates sllen s size' y n t') (sym same') b)) in
     (ap₂ (λ x y. allocate x y m) same same' ∙ ap (allocate size' align') d.0, d.1)
 steps_are_determined fllen sllen memory s t t' (deallocate addr) (deallocate addr') w a b same =
     (ap deallocate same, alike (Deallocates-determined w t t' addr a (subst (λ x. Deallocates s x t') (sym same) b)))
 steps_are_determined fllen sllen memory s t t' (reallocate addr size m) (reallocate addr' size' n) w a b (same, same') =
-    let d = Reallocates-determined w t t' addr size m n a (subst (λ x. Reallocates sllen s x size n t') (sym same) (subst (λ y. Reallocates sllen s addr' y n t') (sym same') b)) in
+    let d =
+    Reallocates-determined w t t' addr size m n a (subst (λ x. Reallocates sllen s x size n t') (sym same) (subst (λ y. Reallocates sllen s addr' y n t') (sym same') b)) in
     (ap₂ (λ x y. reallocate x y m) same same' ∙ ap (reallocate addr' size') d.0, d.1)
 steps_are_determined fllen sllen memory s t t' (fill addr bytes) (fill addr' bytes') w a b (same, same') =
     let b' = subst (λ x. Fills s x bytes t') (sym same) (subst (λ y. Fills s addr' y t') (sym same') b) in
@@ -113,7 +125,8 @@ refusal_changes_nothing fllen sllen s t (insert r reply) step is =
 refusal_changes_nothing fllen sllen s t (append r reply) step is = absurd is
 refusal_changes_nothing fllen sllen s t (allocate size align reply) step is = (subst (λ x. Allocates sllen s size align x t) is step).1
 refusal_changes_nothing fllen sllen s t (deallocate addr) step is = absurd is
-refusal_changes_nothing fllen sllen s t (reallocate addr size reply) step is = refused (plan s step.block size) (subst (λ x. ReallocatesBy sllen s step.block size (plan s step.block size) x t) is step.step)
+refusal_changes_nothing fllen sllen s t (reallocate addr size reply) step is =
+    refused (plan s step.block size) (subst (λ x. ReallocatesBy sllen s step.block size (plan s step.block size) x t) is step.step)
   where
     refused : (o : Option Plan) → ReallocatesBy sllen s step.block size o None t → t ≡ s
     refused None a = a.1

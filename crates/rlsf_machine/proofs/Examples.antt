@@ -1,5 +1,6 @@
--- A machine whose fresh bytes are all zero: what it answers, computed, and that it is a run.
-use Rattle.std.proofs.Common.{◌≡◌, ℕ, ◌-◌, ◌^◌, ◌<◌, ◌≤◌, Bool, true, ◌&&◌, ◌||◌, leb, eqb, List, [], ◌∷◌, ◌++◌, length, take, replicate, min, Option, Some, None, find, true≢false, arith, refl, sym, ◌∙◌, inl, inr, length-append, length-take}
+-- The reference model, if its fresh bytes are all zero: its replies, computed, and that it is a run.
+use Rattle.std.proofs.Common.{◌≡◌, ℕ, ◌-◌, ◌^◌, ◌<◌, ◌≤◌, Bool, true, ◌&&◌, ◌||◌, leb, eqb, List, [], ◌∷◌, ◌++◌, length, take}
+use Rattle.std.proofs.Common.{replicate, min, Option, Some, None, find, true≢false, arith, refl, sym, ◌∙◌, inl, inr, length-append, length-take}
 use Rattle.std.specs.Option.{is_some}
 use Rattle.std.proofs.lemmas.Bool.{and_parts, or_cases, leb-true, eqb-true}
 use Rattle.std.proofs.lemmas.List.{length-replicate, take-append-le, take-take}
@@ -49,7 +50,7 @@ abbrev pub seen : List Used → List Block
 seen [] = []
 seen (u ∷ us) = block u.block.start u.block.len u.payload ∷ seen us
 
--- ---- what it answers, and the state after it
+-- ---- its replies, and the state after it
 
 abbrev pub new_bytes : Range → ℕ → ℕ → List ℕ → List ℕ
 new_bytes f size align old = refilled (end_of (block_for f.start (payload_of f.start align) size) - payload_of f.start align) old
@@ -160,11 +161,19 @@ IsVacant-from memory taken r e =
     let (to, apart) = and_parts (leb (end_of r) (end_of memory)) (is_apart r taken) rest in
     record { lies_in = (leb-true memory.start r.start from, leb-true (end_of r) (end_of memory) to); apart = may_apart r taken apart }
 
-pub allocate_step : (sllen : ℕ) (s : State) (size align : ℕ) (old : List ℕ) (o : Option Range) → choice sllen (request_size size align) s.free ≡ o → Allocates sllen s size align (address align o) (allocate_after sllen s size align old o)
+pub allocate_step : (sllen : ℕ) (s : State) (size align : ℕ) (old : List ℕ) (o : Option Range) → choice sllen (request_size size align) s.free ≡ o
+    → Allocates sllen s size align (address align o) (allocate_after sllen s size align old o)
 allocate_step sllen s size align old None e = (e, refl)
 allocate_step sllen s size align old (Some f) e =
     let bytes = new_bytes f size align old in
-    record { range = f; bytes = bytes; chosen = e; answer = refl; length = length-refilled (end_of (block_for f.start (payload_of f.start align) size) - payload_of f.start align) old; after = refl }
+    record {
+      range = f;
+      bytes = bytes;
+      chosen = e;
+      answer = refl;
+      length = length-refilled (end_of (block_for f.start (payload_of f.start align) size) - payload_of f.start align) old;
+      after = refl;
+    }
 
 module _ (fllen sllen : ℕ) (memory : Range) (s : State) where
   held : (addr : ℕ) (u : Used) → find (at addr) s.used ≡ Some u → Holds s addr u
@@ -174,7 +183,8 @@ module _ (fllen sllen : ℕ) (memory : Range) (s : State) where
   deallocate_step addr None e some = absurd (true≢false (sym some))
   deallocate_step addr (Some u) e some = record { block = u; holds = held addr u e; after = refl }
 
-  move_step : (u : Used) → IsIn u s.used → (size : ℕ) (o : Option Range) → choice sllen (request_size size u.align) s.free ≡ o → ReallocatesBy sllen s u size None (address u.align o) (move_after sllen s u size o)
+  move_step : (u : Used) → IsIn u s.used → (size : ℕ) (o : Option Range) → choice sllen (request_size size u.align) s.free ≡ o
+      → ReallocatesBy sllen s u size None (address u.align o) (move_after sllen s u size o)
   move_step u h size None e = (e, refl)
   move_step u h size (Some f) e =
       let bytes = new_bytes f size u.align u.bytes in
@@ -188,11 +198,20 @@ module _ (fllen sllen : ℕ) (memory : Range) (s : State) where
         released = record { block = u; holds = (inr h, refl); after = refl };
       }
 
-  pub planned_step : (u : Used) → IsIn u s.used → (size : ℕ) (o : Option Plan) → ReallocatesBy sllen s u size o (planned_reply sllen s u size o) (planned_after sllen s u size o)
-  planned_step u h size (Some p) = record { bytes = refilled (end_of p.block - p.payload) u.bytes; answer = refl; length = length-refilled (end_of p.block - p.payload) u.bytes; kept = Keeps-refilled (end_of p.block - p.payload) u.bytes; after = refl }
+  pub planned_step : (u : Used) → IsIn u s.used → (size : ℕ) (o : Option Plan)
+      → ReallocatesBy sllen s u size o (planned_reply sllen s u size o) (planned_after sllen s u size o)
+  planned_step u h size (Some p) =
+      record {
+        bytes = refilled (end_of p.block - p.payload) u.bytes;
+        answer = refl;
+        length = length-refilled (end_of p.block - p.payload) u.bytes;
+        kept = Keeps-refilled (end_of p.block - p.payload) u.bytes;
+        after = refl;
+      }
   planned_step u h size None = move_step u h size (choice sllen (request_size size u.align) s.free) refl
 
-  reallocate_step : (addr size : ℕ) (o : Option Used) → find (at addr) s.used ≡ o → is_some o ≡ true → Reallocates sllen s addr size (reallocate_reply sllen s size o) (reallocate_after sllen s size o)
+  reallocate_step : (addr size : ℕ) (o : Option Used) → find (at addr) s.used ≡ o → is_some o ≡ true
+      → Reallocates sllen s addr size (reallocate_reply sllen s size o) (reallocate_after sllen s size o)
   reallocate_step addr size None e some = absurd (true≢false (sym some))
   reallocate_step addr size (Some u) e some = record { block = u; holds = held addr u e; step = planned_step u (held addr u e).0 size (plan s u size) }
 
@@ -204,12 +223,14 @@ module _ (fllen sllen : ℕ) (memory : Range) (s : State) where
     where
       next : (r : Range) → IsFresh memory s r → (o : Option Range) → find (ends_at r.start) s.chunks ≡ o → is_some o ≡ true → IsNext memory s r
       next r fresh None e some = absurd (true≢false (sym some))
-      next r fresh (Some c) e some = let is = find-some (ends_at r.start) c s.chunks e in record { fresh = fresh; chunk = c; is_chunk = is.0; ends = eqb-true (end_of c) r.start is.1 }
+      next r fresh (Some c) e some = let is = find-some (ends_at r.start) c s.chunks e in
+          record { fresh = fresh; chunk = c; is_chunk = is.0; ends = eqb-true (end_of c) r.start is.1 }
   step (allocate_layout size align) may = (eqb-true align (2 ^ floor_log2 align) may, allocate_step sllen s size align [] (choice sllen (request_size size align) s.free) refl)
   step (deallocate_at addr) may = let d = deallocate_step addr (find (at addr) s.used) refl may in ((d.block, d.holds), d)
   step (reallocate_at addr size) may = let d = reallocate_step addr size (find (at addr) s.used) refl may in ((d.block, d.holds), d)
 
-pub Runs-all : (fllen sllen : ℕ) (memory : Range) (s : State) (cs : List Call) → may_call_all fllen sllen memory s cs ≡ true → Runs fllen sllen memory s (all_events fllen sllen s cs) (all_after fllen sllen s cs)
+pub Runs-all : (fllen sllen : ℕ) (memory : Range) (s : State) (cs : List Call) → may_call_all fllen sllen memory s cs ≡ true
+    → Runs fllen sllen memory s (all_events fllen sllen s cs) (all_after fllen sllen s cs)
 Runs-all fllen sllen memory s [] may = refl
 Runs-all fllen sllen memory s (c ∷ cs) may =
     let (here, rest) = and_parts (may_call memory s c) (may_call_all fllen sllen memory (after fllen sllen s c) cs) may in

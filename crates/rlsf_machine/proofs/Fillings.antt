@@ -49,7 +49,7 @@ module _ (addr : ℕ) (bytes : List ℕ) where
   filled_at-none [] none = refl
   filled_at-none (u ∷ us) none = λ k. filled_if-other u (none u (inl refl)) k ∷ filled_at-none us (λ v i. none v (inr i)) k
 
-  -- ---- but for the bytes nothing changes
+  -- ---- except for the bytes nothing changes
 
   shape-filled_if : (u : Used) → shape_of (filled_if addr bytes u) ≡ shape_of u
   shape-filled_if u = by_test (eqb u.payload addr)

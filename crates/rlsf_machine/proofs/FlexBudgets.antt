@@ -14,7 +14,8 @@ use Rattle.rlsf_machine.specs.Run.{Event, insert, append, allocate, deallocate, 
 use Rattle.rlsf_machine.specs.Sizing.{FlexNeverAsked}
 use Rattle.rlsf_machine.specs.Terms.{Terms}
 use Rattle.rlsf_machine.specs.WellFormed.{IsWellFormed}
-use Rattle.rlsf_machine.proofs.Budgets.{AreAligned, AreFronts-kept, IsModest-stays, aligned_none, bounded_runs_are_not_denied, live_is_counted, modest_by, not_denied, step_aligned, step_modest}
+use Rattle.rlsf_machine.proofs.Budgets.{AreAligned, AreFronts-kept, IsModest-stays, aligned_none, bounded_runs_are_not_denied, live_is_counted, modest_by, not_denied, step_aligned}
+use Rattle.rlsf_machine.proofs.Budgets.{step_modest}
 use Rattle.rlsf_machine.proofs.Steps.{steps_keep_well_formed}
 
 -- ---- one call
@@ -48,7 +49,7 @@ module _ (live most : ℕ) {fllen sllen : ℕ} {memory : Range} (t : Terms) (s :
 
 -- ---- runs
 
--- what its caller owes at a call within a budget is what it owes of the machine alone
+-- what its caller owes at a call within a budget is what it owes of the reference model alone
 may_modest : (live most : ℕ) (memory : Range) (s : State) (e : Event) → IsModest live most s e → FlexMayCall memory s e → MayCall memory s e
 may_modest live most memory s (insert r reply) modest may = may
 may_modest live most memory s (append r reply) modest may = may
@@ -59,7 +60,8 @@ may_modest live most memory s (fill addr bytes) modest may = may
 may_modest live most memory s (remove r) modest may = may
 may_modest live most memory s (trim n) modest may = absurd modest
 
-never_asked_from : (live size align n fllen sllen : ℕ) (memory : Range) (t : Terms) (s u : FlexState) (fronts : List Range) (cs : List FlexEvent) → IsWellFormed fllen sllen memory s.machine
+never_asked_from : (live size align n fllen sllen : ℕ) (memory : Range) (t : Terms) (s u : FlexState) (fronts : List Range) (cs : List FlexEvent)
+    → IsWellFormed fllen sllen memory s.machine
     → length s.machine.used ≡ n → AreAligned align s.machine.used → AreAtMost (request_size size align) s.machine.used → AreFronts s.machine.chunks fronts
     → HasBudget live (request_size size align) sllen fronts → IsFlexRun fllen sllen memory t s cs u → AreWithin live size align n (events_in cs)
     → (notes_in cs ≡ []) × Runs fllen sllen memory s.machine (events_in cs) u.machine

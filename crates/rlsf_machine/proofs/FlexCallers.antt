@@ -1,5 +1,6 @@
--- What callers see of the machine that asks a source for memory: a map from addresses to payloads too.
-use Rattle.std.proofs.Common.{◌≡◌, ◌≢◌, ℕ, ◌+◌, ◌-◌, ◌≤◌, eqb, cond, not, true, List, [], ◌∷◌, Some, None, find, arith, refl, sym, ◌∙◌, ap, subst, inl, inr}
+-- What callers see of the reference model that asks a source for memory: a map from addresses to payloads too.
+use Rattle.std.proofs.Common.{◌≡◌, ◌≢◌, ℕ, ◌+◌, ◌-◌, ◌≤◌, eqb, cond, not, true, List, [], ◌∷◌, Some, None, find, arith, refl, sym, ◌∙◌, ap}
+use Rattle.std.proofs.Common.{subst, inl, inr}
 use Rattle.std.proofs.lemmas.Bool.{ne_eqb}
 use Rattle.std.proofs.lemmas.Bool.Decides.{eqb_tells}
 use Rattle.std.specs.Option.{option_map}
@@ -23,7 +24,8 @@ use Rattle.rlsf_machine.proofs.Trims.{used-trimmed}
 use Rattle.rlsf_machine.proofs.Tiling.{block_of, tiling_of, used-le}
 
 -- behind the first used block of a well-formed state none has its address
-pub first_alone : {fllen sllen : ℕ} {memory : Range} {t : State} → IsWellFormed fllen sllen memory t → (v u : Used) (rest : List Used) → t.used ≡ v ∷ rest → IsIn u rest → u.payload ≢ v.payload
+pub first_alone : {fllen sllen : ℕ} {memory : Range} {t : State} → IsWellFormed fllen sllen memory t → (v u : Used) (rest : List Used) → t.used ≡ v ∷ rest
+    → IsIn u rest → u.payload ≢ v.payload
 first_alone {t = t} whole v u rest is i at =
     let iv = whole.used v (subst (IsIn v) (sym is) (inl refl)) in
     let iu = whole.used u (subst (IsIn u) (sym is) (inr i)) in
@@ -39,7 +41,7 @@ first_alone {t = t} whole v u rest is i at =
 found-other : (v : Used) (rest : List Used) (a : ℕ) → a ≢ v.payload → find (λ u. eqb u.payload a) (v ∷ rest) ≡ find (λ u. eqb u.payload a) rest
 found-other v rest a other = ap (λ b. cond b (Some v) (find (λ u. eqb u.payload a) rest)) (ne_eqb v.payload a (λ same. other (sym same)))
 
--- what is found at an address among the blocks but for those of another one
+-- what is found at an address among the blocks except for those of another one
 found-others : (addr a : ℕ) (used : List Used) → a ≢ addr → find (λ u. eqb u.payload a) (others addr used) ≡ find (λ u. eqb u.payload a) used
 found-others addr a [] other = refl
 found-others addr a (v ∷ used) other =
@@ -83,10 +85,13 @@ module _ {fllen sllen : ℕ} {memory : Range} {t : State} (whole : IsWellFormed 
           }
 
       others_same : (a : ℕ) → a ≢ addr → payload_at t a ≡ payload_at s a
-      others_same a other = ap (λ (l : List Used). option_map payload_in (find (λ u. eqb u.payload a) l)) is ∙ ap (option_map payload_in) (found-other b s.used a (λ same. other (same ∙ sym step.answer)))
+      others_same a other =
+          ap (λ (l : List Used). option_map payload_in (find (λ u. eqb u.payload a) l)) is
+          ∙ ap (option_map payload_in) (found-other b s.used a (λ same. other (same ∙ sym step.answer)))
 
   -- a payload that moves away, seen from a well-formed state after it
-  moved_changes : (s m : State) (u : Used) (addr size to : ℕ) → IsIn u s.used → u.payload ≡ addr → payload_at s addr ≡ Some (payload_in u) → m.used ≡ s.used → to ≢ addr → MovesAway sllen m u size to t
+  moved_changes : (s m : State) (u : Used) (addr size to : ℕ) → IsIn u s.used → u.payload ≡ addr → payload_at s addr ≡ Some (payload_in u) → m.used ≡ s.used
+      → to ≢ addr → MovesAway sllen m u size to t
       → IsResized (payload_at s) addr size to (payload_at t)
   moved_changes s m u addr size to held_in at was same elsewhere step = record {
     old = payload_in u;
@@ -98,7 +103,9 @@ module _ {fllen sllen : ℕ} {memory : Range} {t : State} (whole : IsWellFormed 
       few = omega (arith, first.length, first.answer, after_start, block_length-lt first.range.start b.payload size);
     };
     kept = subst (λ (x : Used). Keeps u.bytes x.bytes) is_new step.kept;
-    new = λ other. payload_at-none s to (λ v (i, v_at). first_alone whole b v (others addr s.used) is (IsIn-others_from addr v s.used i (λ here. elsewhere (sym v_at ∙ here))) (v_at ∙ first.answer));
+    new =
+        λ other. payload_at-none s to
+        (λ v (i, v_at). first_alone whole b v (others addr s.used) is (IsIn-others_from addr v s.used i (λ here. elsewhere (sym v_at ∙ here))) (v_at ∙ first.answer));
     here = payload_at-held whole to b (subst (IsIn b) (sym is) (inl refl), sym first.answer);
     left = λ other. payload_at-none t addr gone;
     others = unnamed;
@@ -123,8 +130,11 @@ module _ {fllen sllen : ℕ} {memory : Range} {t : State} (whole : IsWellFormed 
       is = is_others ∙ ap (λ x. cond (not x) (b ∷ others addr s.used) (others addr s.used)) (ne_eqb b.payload addr (λ here. elsewhere (first.answer ∙ here)))
 
       is_new : step.block ≡ b
-      is_new = Holds-unique whole to step.block b
-          (subst (IsIn step.block) (sym is_others) (IsIn-others_from addr step.block (b ∷ s.used) (subst (IsIn step.block) is_meanwhile step.holds.0) (λ here. elsewhere (sym step.holds.1 ∙ here))), step.holds.1)
+      is_new = Holds-unique whole to step.block b (
+        subst (IsIn step.block) (sym is_others)
+            (IsIn-others_from addr step.block (b ∷ s.used) (subst (IsIn step.block) is_meanwhile step.holds.0) (λ here. elsewhere (sym step.holds.1 ∙ here))),
+        step.holds.1,
+      )
           (subst (IsIn b) (sym is) (inl refl), sym first.answer)
 
       gone : (v : Used) → Holds t addr v → ⊥
@@ -144,18 +154,24 @@ flex_callers_see_map fllen sllen terms before after s u (allocate size align (So
     placed_changes w' s.machine size align addr (subst (λ (x : FlexState). Places sllen s.machine size align addr x.machine) (sym room.after) room.allocates)
 flex_callers_see_map fllen sllen terms before after s u (allocate size align (Some addr)) notes w w' may (inr more) =
     let m = more.meanwhile in
-    let (p, fresh, serves, set) = placed_changes w' m.machine size align addr (subst (λ (x : FlexState). Places sllen m.machine size align addr x.machine) (sym more.after) more.allocates) in
+    let (p, fresh, serves, set) =
+    placed_changes w' m.machine size align addr (subst (λ (x : FlexState). Places sllen m.machine size align addr x.machine) (sym more.after) more.allocates) in
     let same = payload_at-same s.machine m.machine (used-taken fllen terms s m more.outcome more.asks.extends.after) in
     (p, sym (same addr) ∙ fresh, serves, record { here = set.here; others = λ a other. set.others a other ∙ same a })
 flex_callers_see_map fllen sllen terms before after s u (deallocate addr) notes w w' may step =
-    callers_see_map fllen sllen before s.machine u.machine (deallocate addr) w may (subst (λ (x : FlexState). Leads fllen sllen s.machine (deallocate addr) x.machine) (sym step.after) step.leads)
-flex_callers_see_map fllen sllen terms before after s u (reallocate addr size None) notes w w' may step = λ a. ap (λ (x : FlexState). payload_at x.machine a) step.asks.extends.after
+    callers_see_map fllen sllen before s.machine u.machine (deallocate addr) w may
+    (subst (λ (x : FlexState). Leads fllen sllen s.machine (deallocate addr) x.machine) (sym step.after) step.leads)
+flex_callers_see_map fllen sllen terms before after s u (reallocate addr size None) notes w w' may step =
+    λ a. ap (λ (x : FlexState). payload_at x.machine a) step.asks.extends.after
 flex_callers_see_map fllen sllen terms before after s u (reallocate addr size (Some to)) notes w w' may (inl room) =
-    callers_see_map fllen sllen before s.machine u.machine (reallocate addr size (Some to)) w may (subst (λ (x : FlexState). Reallocates sllen s.machine addr size (Some to) x.machine) (sym room.after) room.reallocates)
+    callers_see_map fllen sllen before s.machine u.machine (reallocate addr size (Some to)) w may
+    (subst (λ (x : FlexState). Reallocates sllen s.machine addr size (Some to) x.machine) (sym room.after) room.reallocates)
 flex_callers_see_map fllen sllen terms before after s u (reallocate addr size (Some to)) notes w w' may (inr more) =
     let m = more.meanwhile in
     let (is_used, at) = more.stuck.holds in
-    moved_changes w' s.machine m.machine more.block addr size to is_used at (payload_at-held w addr more.block more.stuck.holds) (used-taken fllen terms s m more.outcome more.asks.extends.after) more.elsewhere
+    moved_changes w' s.machine m.machine more.block addr size to is_used at (payload_at-held w addr more.block more.stuck.holds)
+    (used-taken fllen terms s m more.outcome more.asks.extends.after) more.elsewhere
     (subst (λ (x : FlexState). MovesAway sllen m.machine more.block size to x.machine) (sym more.after) more.moves)
 flex_callers_see_map fllen sllen terms before after s u (fill addr bytes) notes w w' may step =
-    callers_see_map fllen sllen before s.machine u.machine (fill addr bytes) w may (subst (λ (x : FlexState). Leads fllen sllen s.machine (fill addr bytes) x.machine) (sym step.after) step.leads)
+    callers_see_map fllen sllen before s.machine u.machine (fill addr bytes) w may
+    (subst (λ (x : FlexState). Leads fllen sllen s.machine (fill addr bytes) x.machine) (sym step.after) step.leads)

@@ -1,5 +1,6 @@
--- A machine that asks a source for memory and is handed the answers: what it replies to allocations, computed, and that they are a run.
-use Rattle.std.proofs.Common.{◌≡◌, ℕ, ◌%◌, ◌^◌, ◌+◌, Bool, true, ◌&&◌, leb, eqb, List, [], ◌∷◌, Option, Some, None, drop, true≢false, refl, sym, ap, ◌∙◌, inl, inr}
+-- The reference model that asks a source for memory and is given the answers: its replies to allocations, computed, and that they are a run.
+use Rattle.std.proofs.Common.{◌≡◌, ℕ, ◌%◌, ◌^◌, ◌+◌, Bool, true, ◌&&◌, leb, eqb, List, [], ◌∷◌, Option, Some, None, drop, true≢false, refl, sym, ap}
+use Rattle.std.proofs.Common.{◌∙◌, inl, inr}
 use Rattle.std.specs.Bool.{then_some}
 use Rattle.std.specs.Option.{is_some, IfSome}
 use Rattle.std.proofs.lemmas.Bool.{and_parts, leb-true, eqb-true}
@@ -77,13 +78,13 @@ with_growth fllen s len (Some k) = record {
   kept = Some (record { range = with_len k.range len; len = k.len + appended_bytes (max_pool_size fllen) (behind k len) });
 }
 
--- what came is handed in
+-- what came is inserted
 abbrev pub with_outcome : ℕ → Terms → FlexState → Outcome → FlexState
 with_outcome fllen t s refused = s
 with_outcome fllen t s (growth_came len) = with_growth fllen s len s.kept
 with_outcome fllen t s (range_came r) = with_range fllen t s r (taken_of fllen r)
 
--- the state in which an allocation is placed: where there is no room, what came is handed in first
+-- the state in which an allocation is placed: where there is no room, what came is inserted first
 abbrev pub meanwhile : ℕ → Terms → FlexState → Outcome → Option Range → FlexState
 meanwhile fllen t s outcome (Some f) = s
 meanwhile fllen t s outcome None = with_outcome fllen t s outcome
@@ -230,13 +231,15 @@ module _ (fllen sllen : ℕ) (t : Terms) (s : FlexState) where
 
   module _ (size align : ℕ) where
     -- where there is no room, the source is asked
-    Asks-so : room sllen s size align ≡ None → (outcome : Outcome) → IsPossible (asked fllen sllen t s size align) outcome → TakesIn fllen t s outcome (with_outcome fllen t s outcome)
+    Asks-so : room sllen s size align ≡ None → (outcome : Outcome) → IsPossible (asked fllen sllen t s size align) outcome
+        → TakesIn fllen t s outcome (with_outcome fllen t s outcome)
         → Asks fllen sllen t s size align outcome (notes_of (asked fllen sllen t s size align) outcome) (with_outcome fllen t s outcome)
     Asks-so none outcome possible takes = record { full = (none, refl); extends = record { possible = possible; asked = refl; after = takes } }
 
     -- an allocation that has a range in what came
     allocates_in_more : (outcome : Outcome) (notes : List Note) (m : FlexState) → is_more outcome ≡ true → Asks fllen sllen t s size align outcome notes m
-        → (p : Option Range) → room sllen m size align ≡ p → is_some p ≡ true → FlexAllocates fllen sllen t s size align (address align p) notes (placed_in sllen m size align p)
+        → (p : Option Range) → room sllen m size align ≡ p → is_some p ≡ true
+        → FlexAllocates fllen sllen t s size align (address align p) notes (placed_in sllen m size align p)
     allocates_in_more outcome notes m more asks None e some = absurd (true≢false (sym some))
     allocates_in_more outcome notes m more asks (Some f) e some = inr (record {
       outcome = outcome;
@@ -251,7 +254,8 @@ module _ (fllen sllen : ℕ) (t : Terms) (s : FlexState) where
     -- an allocation where there is no room: in what came, or refused
     allocates_or_asks : room sllen s size align ≡ None → (outcome : Outcome) (p : Option Range) → room sllen (with_outcome fllen t s outcome) size align ≡ p
         → can_come fllen (asked fllen sllen t s size align) s outcome p ≡ true
-        → FlexAllocates fllen sllen t s size align (address align p) (notes_of (asked fllen sllen t s size align) outcome) (placed_in sllen (with_outcome fllen t s outcome) size align p)
+        → FlexAllocates fllen sllen t s size align (address align p) (notes_of (asked fllen sllen t s size align) outcome)
+        (placed_in sllen (with_outcome fllen t s outcome) size align p)
     allocates_or_asks none refused (Some f) e may = absurd (is_some_of (room sllen s size align) f e none)
     allocates_or_asks none refused None e may = Asks-so none refused tt refl
     allocates_or_asks none (growth_came len) p e may =
@@ -268,10 +272,16 @@ module _ (fllen sllen : ℕ) (t : Terms) (s : FlexState) where
     -- an allocation, in room or not
     pub FlexAllocates-so : (outcome : Outcome) (o p : Option Range) → room sllen s size align ≡ o → room sllen (meanwhile fllen t s outcome o) size align ≡ p
         → may_come fllen (asked fllen sllen t s size align) s outcome o p ≡ true
-        → FlexAllocates fllen sllen t s size align (address align p) (notes_for (asked fllen sllen t s size align) outcome o) (placed_in sllen (meanwhile fllen t s outcome o) size align p)
+        → FlexAllocates fllen sllen t s size align (address align p) (notes_for (asked fllen sllen t s size align) outcome o)
+        (placed_in sllen (meanwhile fllen t s outcome o) size align p)
     FlexAllocates-so outcome (Some f) None some e may = absurd (is_some_of (room sllen s size align) f some e)
     FlexAllocates-so outcome (Some f) (Some g) some e may =
-        inl (record { machine = allocate_after sllen s.machine size align [] (Some g); allocates = allocate_step sllen s.machine size align [] (Some g) e; none = refl; after = refl })
+        inl (record {
+          machine = allocate_after sllen s.machine size align [] (Some g);
+          allocates = allocate_step sllen s.machine size align [] (Some g) e;
+          none = refl;
+          after = refl;
+        })
     FlexAllocates-so outcome None p none e may = allocates_or_asks none outcome p e may
 
 -- attempts that may be are a run

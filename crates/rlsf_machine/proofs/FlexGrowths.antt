@@ -35,8 +35,10 @@ use Rattle.rlsf_machine.proofs.RangeLengths.{HasAlignedPart-given, range_asked}
 use Rattle.rlsf_machine.proofs.TakenPools.{IsTaken, appended_pool, appended_taken, inserted_pool, inserted_taken, longer as wider, new, old, pool_has_a_choice, pool_size_is}
 
 -- a state by its parts
-IsFlexWellFormed-at : {fllen sllen : ℕ} {memory : Range} {t : Terms} {s : FlexState} → IsFlexWellFormed fllen sllen memory t s → (u : FlexState) (pools : List Range) (kept : Option KeptPool) → u.pools ≡ pools → u.kept ≡ kept
-    → IsWellFormed fllen sllen memory u.machine → AreOutstanding t.space pools → AreHoused pools u.machine.chunks → IsNewest t kept pools u.machine.chunks → ArePools u.machine pools → IsFlexWellFormed fllen sllen memory t u
+IsFlexWellFormed-at : {fllen sllen : ℕ} {memory : Range} {t : Terms} {s : FlexState} → IsFlexWellFormed fllen sllen memory t s
+    → (u : FlexState) (pools : List Range) (kept : Option KeptPool) → u.pools ≡ pools → u.kept ≡ kept
+    → IsWellFormed fllen sllen memory u.machine → AreOutstanding t.space pools → AreHoused pools u.machine.chunks → IsNewest t kept pools u.machine.chunks
+    → ArePools u.machine pools → IsFlexWellFormed fllen sllen memory t u
 IsFlexWellFormed-at {t = t} w u pools kept is_pools is_kept machine outstanding housed newest pooled = record {
   machine = machine;
   space = w.space;
@@ -47,7 +49,8 @@ IsFlexWellFormed-at {t = t} w u pools kept is_pools is_kept machine outstanding 
 }
 
 -- a range whose last bytes r were taken, n of them, is kept up to there
-IsKeptPool-taken : (t : Terms) (range : Range) (len : ℕ) (rest : List Range) (s u : State) (r : Range) (n : ℕ) → keeps t ≡ true → range.start ≤ r.start → end_of r ≡ end_of range
+IsKeptPool-taken : (t : Terms) (range : Range) (len : ℕ) (rest : List Range) (s u : State) (r : Range) (n : ℕ) → keeps t ≡ true → range.start ≤ r.start
+    → end_of r ≡ end_of range
     → range.start + len ≡ r.start + n → IsClear r s.chunks → IsTaken s r n u → IsKeptPool t (record { range = range; len = len }) (range ∷ rest) u.chunks
 IsKeptPool-taken t range len rest s u r n keep from ends at clear taken =
     let (c, is_chunk, c_ends) = taken.last in
@@ -68,15 +71,16 @@ IsKeptPool-taken t range len rest s u r n keep from ends at clear taken =
 module _ {fllen sllen : ℕ} {memory : Range} {t : Terms} {s : FlexState} (w : IsFlexWellFormed fllen sllen memory t s) where
   -- ---- a range
 
-  -- a range that a source may give may be handed in
+  -- a range that a source may give may be inserted
   pub given_fresh : (n : ℕ) (r : Range) → IsGiven t s.pools n r → IsFresh memory s.machine r
   given_fresh n r g = record {
     lies_in = (omega (arith, g.lies_in, w.space), omega (arith, g.lies_in, w.space));
     apart = IsClear-housed r s.pools s.machine.chunks w.housed g.apart;
   }
 
-  -- a range that came and was handed in leaves a well-formed state
-  pub given_keeps : (n len : ℕ) (r : Range) (u : FlexState) → IsGiven t s.pools n r → Inserts fllen s.machine r (Some len) u.machine → u.pools ≡ r ∷ s.pools → u.kept ≡ then_some (keeps t) (record { range = r; len = len })
+  -- a range that came and was inserted leaves a well-formed state
+  pub given_keeps : (n len : ℕ) (r : Range) (u : FlexState) → IsGiven t s.pools n r → Inserts fllen s.machine r (Some len) u.machine → u.pools ≡ r ∷ s.pools
+      → u.kept ≡ then_some (keeps t) (record { range = r; len = len })
       → IsFlexWellFormed fllen sllen memory t u
   given_keeps n len r u g step is_pools is_kept =
       let (long, taken) = inserted_taken fllen s.machine u.machine r len w.machine.rows step in
@@ -87,17 +91,20 @@ module _ {fllen sllen : ℕ} {memory : Range} {t : Terms} {s : FlexState} (w : I
       (AreHoused-inserted fllen s.machine u.machine r (Some len) s.pools w.housed step)
       (newest_by fresh taken (keeps t) refl)
       (λ p. elim [
-        | inl same ↦ subst (λ (q : Range). (m : ℕ) × IsPool u.machine q m) (sym same) (len, IsPool-inserted fllen s.machine u.machine r len long fresh.apart (Inserts-keeps w.machine r fresh (Some len) u.machine step) taken step)
+        | inl same ↦ subst (λ (q : Range). (m : ℕ) × IsPool u.machine q m) (sym same)
+            (len, IsPool-inserted fllen s.machine u.machine r len long fresh.apart (Inserts-keeps w.machine r fresh (Some len) u.machine step) taken step)
         | inr i ↦ let (m, is) = w.pooled p i in (m, IsPool-inserted_other fllen s.machine u.machine r p m (Some len) s.pools i g.apart step is)
       ])
     where
-      newest_by : IsFresh memory s.machine r → IsTaken s.machine r len u.machine → (k : Bool) → keeps t ≡ k → IsNewest t (then_some k (record { range = r; len = len })) (r ∷ s.pools) u.machine.chunks
+      newest_by : IsFresh memory s.machine r → IsTaken s.machine r len u.machine → (k : Bool) → keeps t ≡ k
+          → IsNewest t (then_some k (record { range = r; len = len })) (r ∷ s.pools) u.machine.chunks
       newest_by fresh taken true keep = IsKeptPool-taken t r len s.pools s.machine u.machine r len keep (omega arith) refl refl fresh.apart taken
       newest_by fresh taken false none = λ keep. absurd (false≢true (sym none ∙ keep))
 
   -- ---- a growth
 
-  module _ {k : KeptPool} (was : s.kept ≡ Some k) (asked len : ℕ) (kept : IsKeptPool t k s.pools s.machine.chunks) (g : IsGrown t kept.rest k.range asked len) (more : k.len + 64 ≤ asked) where
+  module _ {k : KeptPool} (was : s.kept ≡ Some k) (asked len : ℕ) (kept : IsKeptPool t k s.pools s.machine.chunks) (g : IsGrown t kept.rest k.range asked len)
+      (more : k.len + 64 ≤ asked) where
     -- the ranges before, with the kept one in front
     pub old_pools : AreOutstanding t.space (k.range ∷ kept.rest)
     old_pools = subst (AreOutstanding t.space) kept.split w.pools
@@ -161,9 +168,11 @@ module _ {fllen sllen : ℕ} {memory : Range} {t : Terms} {s : FlexState} (w : I
 
     -- the kept range's pool reaches as far as it is kept
     pool_before : IsPool s.machine k.range k.len
-    pool_before = let (m, is) = w.pooled k.range (subst (IsIn k.range) (sym kept.split) (inl refl)) in subst (IsPool s.machine k.range) (IsPool-kept t k s.machine s.pools m (λ c i. (w.machine.chunks c i).has_room) kept is) is
+    pool_before = let (m, is) = w.pooled k.range (subst (IsIn k.range) (sym kept.split) (inl refl)) in
+        subst (IsPool s.machine k.range) (IsPool-kept t k s.machine s.pools m (λ c i. (w.machine.chunks c i).has_room) kept is) is
 
-    kept_after : (u : State) (n : ℕ) → IsTaken s.machine (behind k len) n u → IsKeptPool t (record { range = with_len k.range len; len = k.len + n }) (with_len k.range len ∷ kept.rest) u.chunks
+    kept_after : (u : State) (n : ℕ) → IsTaken s.machine (behind k len) n u
+        → IsKeptPool t (record { range = with_len k.range len; len = k.len + n }) (with_len k.range len ∷ kept.rest) u.chunks
     kept_after u n taken =
         let (room, wide, long) = is_longer in
         IsKeptPool-taken t (with_len k.range len) (k.len + n) kept.rest s.machine u (behind k len) n kept.keeping (omega arith) (omega arith) (omega arith) behind_clear taken
@@ -179,12 +188,15 @@ module _ {fllen sllen : ℕ} {memory : Range} {t : Terms} {s : FlexState} (w : I
           some = omega arith;
           within = after.within;
           nearly = after.nearly;
-          row = subst (λ m. IsRow u (range_at (round32 k.range.start) m)) same (IsRow-appended w.machine (behind k len) its_row (omega arith) (omega arith) pool_before.row n u step);
+          row =
+              subst (λ m. IsRow u (range_at (round32 k.range.start) m)) same
+              (IsRow-appended w.machine (behind k len) its_row (omega arith) (omega arith) pool_before.row n u step);
           unused = after.unused;
         }
 
     -- the pools of the other ranges stay
-    other_pool : (u : State) (n : ℕ) (p : Range) (m : ℕ) → IsIn p kept.rest → Appends fllen s.machine (behind k len) n u → IsTaken s.machine (behind k len) n u → IsPool s.machine p m → IsPool u p m
+    other_pool : (u : State) (n : ℕ) (p : Range) (m : ℕ) → IsIn p kept.rest → Appends fllen s.machine (behind k len) n u → IsTaken s.machine (behind k len) n u
+        → IsPool s.machine p m → IsPool u p m
     other_pool u n p m i step taken is =
         let (room, wide, long) = is_longer in
         let some = is.some in
@@ -219,7 +231,8 @@ module _ {fllen sllen : ℕ} {memory : Range} {t : Terms} {s : FlexState} (w : I
         }
 
     -- a growth that came and was appended leaves a well-formed state
-    pub grown_keeps : (n : ℕ) (u : FlexState) → Appends fllen s.machine (behind k len) n u.machine → u.pools ≡ longer len s.pools → u.kept ≡ Some (record { range = with_len k.range len; len = k.len + n })
+    pub grown_keeps : (n : ℕ) (u : FlexState) → Appends fllen s.machine (behind k len) n u.machine → u.pools ≡ longer len s.pools
+        → u.kept ≡ Some (record { range = with_len k.range len; len = k.len + n })
         → IsFlexWellFormed fllen sllen memory t u
     grown_keeps n u step is_pools is_kept =
         let (room, wide, long) = is_longer in
@@ -245,18 +258,25 @@ module _ {fllen sllen : ℕ} {memory : Range} {t : Terms} {s : FlexState} (w : I
     pub is_grown : IsGrown t kept.rest k.range (k.len + e) len
     pub room : k.len + 64 ≤ k.len + e
 
-  pub has_grown : (fl_bits sl_bits size align len : ℕ) (k : KeptPool) → IsValid fl_bits sl_bits fllen sllen → s.kept ≡ Some k → IsPossible (questions t s.kept (pool_size_to_contain_allocation fllen sllen size align)) (growth_came len)
-      → MayAnswerAll t s.pools (notes_of (questions t s.kept (pool_size_to_contain_allocation fllen sllen size align)) (growth_came len)) → HasGrown (pool_size_to_contain_allocation fllen sllen size align) k len
+  pub has_grown : (fl_bits sl_bits size align len : ℕ) (k : KeptPool) → IsValid fl_bits sl_bits fllen sllen → s.kept ≡ Some k
+      → IsPossible (questions t s.kept (pool_size_to_contain_allocation fllen sllen size align)) (growth_came len)
+      → MayAnswerAll t s.pools (notes_of (questions t s.kept (pool_size_to_contain_allocation fllen sllen size align)) (growth_came len))
+      → HasGrown (pool_size_to_contain_allocation fllen sllen size align) k len
   has_grown fl_bits sl_bits size align len k valid was possible answers =
       let (e, wanted) = more_wanted t s.kept (pool_size_to_contain_allocation fllen sllen size align) (growth_came len) refl possible in
-      let is_asked : questions t s.kept (pool_size_to_contain_allocation fllen sllen size align) ≡ questions_for t (Some k) e = ap (λ o. questions t s.kept o) wanted ∙ ap (λ o. questions_for t o e) was in
+      let is_asked : questions t s.kept (pool_size_to_contain_allocation fllen sllen size align) ≡ questions_for t (Some k) e =
+      ap (λ o. questions t s.kept o) wanted ∙ ap (λ o. questions_for t o e) was in
       let kept = subst (λ o. IsNewest t o s.pools s.machine.chunks) was w.newest in
       let room = (pool_size_is fl_bits sl_bits fllen sllen e valid (record { size = size; align = align; is = wanted })).0 in
-      let answer = grown_answer t s.pools k e len (subst (λ q. IsPossible q (growth_came len)) is_asked possible) (subst (λ q. MayAnswerAll t s.pools (notes_of q (growth_came len))) is_asked answers) in
+      let answer =
+      grown_answer t s.pools k e len (subst (λ q. IsPossible q (growth_came len)) is_asked possible)
+      (subst (λ q. MayAnswerAll t s.pools (notes_of q (growth_came len))) is_asked answers) in
       record { e = e; is_wanted = wanted; kept = kept; is_grown = answer [] kept.rest kept.split; room = omega (arith, room) }
 
-  taken_keeps : (fl_bits sl_bits size align : ℕ) → IsValid fl_bits sl_bits fllen sllen → (outcome : Outcome) (u : FlexState) → IsPossible (questions t s.kept (pool_size_to_contain_allocation fllen sllen size align)) outcome
-      → MayAnswerAll t s.pools (notes_of (questions t s.kept (pool_size_to_contain_allocation fllen sllen size align)) outcome) → TakesIn fllen t s outcome u → IsFlexWellFormed fllen sllen memory t u
+  taken_keeps : (fl_bits sl_bits size align : ℕ) → IsValid fl_bits sl_bits fllen sllen → (outcome : Outcome) (u : FlexState)
+      → IsPossible (questions t s.kept (pool_size_to_contain_allocation fllen sllen size align)) outcome
+      → MayAnswerAll t s.pools (notes_of (questions t s.kept (pool_size_to_contain_allocation fllen sllen size align)) outcome) → TakesIn fllen t s outcome u
+      → IsFlexWellFormed fllen sllen memory t u
   taken_keeps fl_bits sl_bits size align valid refused u possible answers takes = subst (IsFlexWellFormed fllen sllen memory t) (sym takes) w
   taken_keeps fl_bits sl_bits size align valid (range_came r) u possible answers (len, step, pools, kept) =
       let (n, asked, g) = given_answer t s.pools (questions t s.kept (pool_size_to_contain_allocation fllen sllen size align)) r possible answers in
@@ -265,9 +285,11 @@ module _ {fllen sllen : ℕ} {memory : Range} {t : Terms} {s : FlexState} (w : I
       let g = has_grown fl_bits sl_bits size align len k valid was possible answers in
       grown_keeps was (k.len + g.e) len g.kept g.is_grown g.room n u step pools is_kept
 
-  -- the machine's callers might hand it in
-  pub taken_handed_in : (fl_bits sl_bits size align : ℕ) → IsValid fl_bits sl_bits fllen sllen → (outcome : Outcome) (u : FlexState) → IsPossible (questions t s.kept (pool_size_to_contain_allocation fllen sllen size align)) outcome
-      → MayAnswerAll t s.pools (notes_of (questions t s.kept (pool_size_to_contain_allocation fllen sllen size align)) outcome) → TakesIn fllen t s outcome u → is_more outcome ≡ true
+  -- the reference model's callers might insert it
+  pub taken_handed_in : (fl_bits sl_bits size align : ℕ) → IsValid fl_bits sl_bits fllen sllen → (outcome : Outcome) (u : FlexState)
+      → IsPossible (questions t s.kept (pool_size_to_contain_allocation fllen sllen size align)) outcome
+      → MayAnswerAll t s.pools (notes_of (questions t s.kept (pool_size_to_contain_allocation fllen sllen size align)) outcome) → TakesIn fllen t s outcome u
+      → is_more outcome ≡ true
       → (h : Event) × HandsIn h × MayCall memory s.machine h × Leads fllen sllen s.machine h u.machine
   taken_handed_in fl_bits sl_bits size align valid refused u possible answers takes more = absurd (false≢true more)
   taken_handed_in fl_bits sl_bits size align valid (range_came r) u possible answers (len, step, pools, kept) more =
@@ -278,8 +300,10 @@ module _ {fllen sllen : ℕ} {memory : Range} {t : Terms} {s : FlexState} (w : I
       (append (behind k len) n, tt, behind_next was (k.len + g.e) len g.kept g.is_grown g.room, step)
 
   -- it has a pool as long as wanted
-  taken_has_pool : (fl_bits sl_bits size align e : ℕ) → IsValid fl_bits sl_bits fllen sllen → (outcome : Outcome) (u : FlexState) → IsPossible (questions t s.kept (pool_size_to_contain_allocation fllen sllen size align)) outcome
-      → MayAnswerAll t s.pools (notes_of (questions t s.kept (pool_size_to_contain_allocation fllen sllen size align)) outcome) → TakesIn fllen t s outcome u → is_more outcome ≡ true
+  taken_has_pool : (fl_bits sl_bits size align e : ℕ) → IsValid fl_bits sl_bits fllen sllen → (outcome : Outcome) (u : FlexState)
+      → IsPossible (questions t s.kept (pool_size_to_contain_allocation fllen sllen size align)) outcome
+      → MayAnswerAll t s.pools (notes_of (questions t s.kept (pool_size_to_contain_allocation fllen sllen size align)) outcome) → TakesIn fllen t s outcome u
+      → is_more outcome ≡ true
       → pool_size_to_contain_allocation fllen sllen size align ≡ Some e → HasPool e u.machine
   taken_has_pool fl_bits sl_bits size align e valid refused u possible answers takes more wanted = absurd (false≢true more)
   taken_has_pool fl_bits sl_bits size align e valid (range_came r) u possible answers (len, step, pools, kept) more wanted =
@@ -292,7 +316,8 @@ module _ {fllen sllen : ℕ} {memory : Range} {t : Terms} {s : FlexState} (w : I
       let g = has_grown fl_bits sl_bits size align len k valid was possible answers in
       let (room, whole, short) = pool_size_is fl_bits sl_bits fllen sllen e valid (record { size = size; align = align; is = wanted }) in
       let same : g.e ≡ e = same_Some g.e e (sym g.is_wanted ∙ wanted) in
-      (appended_pool fllen sllen e memory s.machine u.machine (behind k len) n w.machine (behind_next was (k.len + g.e) len g.kept g.is_grown g.room) room whole short (omega (arith, g.is_grown.long, same)) step).1
+      (appended_pool fllen sllen e memory s.machine u.machine (behind k len) n w.machine (behind_next was (k.len + g.e) len g.kept g.is_grown g.room) room whole short
+      (omega (arith, g.is_grown.long, same)) step).1
 
 pub growth_keeps_well_formed : GrowthKeepsWellFormed
 growth_keeps_well_formed fl_bits sl_bits fllen sllen memory t s u size align outcome notes valid w answers step =

@@ -4,7 +4,8 @@ use Rattle.std.proofs.lemmas.Option.{same_Some}
 use Rattle.rlsf_base.specs.declared.memory.range.Range.{Range}
 use Rattle.rlsf_machine.specs.Callers.{Payload, Serves, payload_at, payload_in}
 use Rattle.rlsf_machine.specs.FlexState.{FlexState}
-use Rattle.rlsf_machine.specs.Laws.{FlexStepsChangeMap, FlexRunsChangeMap, FlexPayloadsAreApart, FlexAllocationHasSize, FlexReallocationHasSize, FlexReallocationKeepsBytes, FlexOtherPayloadsStay, FlexOthersStayInRuns, FlexUsedWasUsed, FlexUsedWasUsedInRuns, HasSize}
+use Rattle.rlsf_machine.specs.Laws.{FlexStepsChangeMap, FlexRunsChangeMap, FlexPayloadsAreApart, FlexAllocationHasSize, FlexReallocationHasSize, FlexReallocationKeepsBytes}
+use Rattle.rlsf_machine.specs.Laws.{FlexOtherPayloadsStay, FlexOthersStayInRuns, FlexUsedWasUsed, FlexUsedWasUsedInRuns, HasSize}
 use Rattle.rlsf_machine.specs.Lists.{IsIn}
 use Rattle.rlsf_machine.specs.Reallocate.{Keeps}
 use Rattle.rlsf_machine.specs.Run.{insert, append, allocate, deallocate, reallocate, fill, remove, trim}
@@ -15,11 +16,13 @@ use Rattle.rlsf_machine.proofs.FlexCallers.{flex_callers_see_map}
 use Rattle.rlsf_machine.proofs.FlexSteps.{flex_steps_keep_well_formed, flex_runs_keep_well_formed}
 use Rattle.rlsf_machine.proofs.Growths.{Holds-same, used-taken}
 use Rattle.rlsf_machine.proofs.Trims.{used-trimmed}
-use Rattle.rlsf_machine.proofs.Live.{live_addresses_are_aligned, live_address_has_one_block, payloads_are_disjoint, payload_lies_in_one_chunk, other_payloads_stay, reallocate_from, reallocate_stays, used_was_used}
+use Rattle.rlsf_machine.proofs.Live.{live_addresses_are_aligned, live_address_has_one_block, payloads_are_disjoint, payload_lies_in_one_chunk, other_payloads_stay, reallocate_from}
+use Rattle.rlsf_machine.proofs.Live.{reallocate_stays, used_was_used}
 
 pub flex_steps_change_map : FlexStepsChangeMap
 flex_steps_change_map fl_bits sl_bits fllen sllen memory t s u e notes valid w step =
-    flex_callers_see_map fllen sllen t memory memory s u e notes w.machine (flex_steps_keep_well_formed fl_bits sl_bits fllen sllen memory t s u e notes valid w step).machine step.may step.leads
+    flex_callers_see_map fllen sllen t memory memory s u e notes w.machine (flex_steps_keep_well_formed fl_bits sl_bits fllen sllen memory t s u e notes valid w step).machine
+    step.may step.leads
 
 pub flex_runs_change_map : FlexRunsChangeMap
 flex_runs_change_map fl_bits sl_bits fllen sllen memory t s u [] valid w run = λ a. ap (λ (y : FlexState). payload_at y.machine a) run
@@ -42,7 +45,8 @@ flex_payloads_are_apart fl_bits sl_bits fllen sllen memory t s u cs valid w run 
 -- ---- sizes and bytes
 
 -- the used block of a payload that serves a layout
-HasSize-serves : {fllen sllen : ℕ} {memory : Range} {m : State} → IsWellFormed fllen sllen memory m → (size align addr : ℕ) (p : Payload) → payload_at m addr ≡ Some p → Serves size align p → HasSize m size addr
+HasSize-serves : {fllen sllen : ℕ} {memory : Range} {m : State} → IsWellFormed fllen sllen memory m → (size align addr : ℕ) (p : Payload) → payload_at m addr ≡ Some p
+    → Serves size align p → HasSize m size addr
 HasSize-serves {m = m} w size align addr p told serves =
     let (v, holds, is) = payload_at-has m addr p told in
     let long : length p.bytes ≡ (usable v).len = ap (λ (q : Payload). length q.bytes) (sym is) ∙ (w.used v holds.0).bytes in
@@ -52,13 +56,15 @@ pub flex_allocation_has_size : FlexAllocationHasSize
 flex_allocation_has_size fl_bits sl_bits fllen sllen memory t s u size align None notes valid w step = tt
 flex_allocation_has_size fl_bits sl_bits fllen sllen memory t s u size align (Some addr) notes valid w step =
     let (p, fresh, serves, set) = flex_steps_change_map fl_bits sl_bits fllen sllen memory t s u (allocate size align (Some addr)) notes valid w step in
-    HasSize-serves (flex_steps_keep_well_formed fl_bits sl_bits fllen sllen memory t s u (allocate size align (Some addr)) notes valid w step).machine size align addr p set.here serves
+    HasSize-serves (flex_steps_keep_well_formed fl_bits sl_bits fllen sllen memory t s u (allocate size align (Some addr)) notes valid w step).machine size align addr p set.here
+    serves
 
 pub flex_reallocation_has_size : FlexReallocationHasSize
 flex_reallocation_has_size fl_bits sl_bits fllen sllen memory t s u addr size None notes valid w step = tt
 flex_reallocation_has_size fl_bits sl_bits fllen sllen memory t s u addr size (Some to) notes valid w step =
     let r = flex_steps_change_map fl_bits sl_bits fllen sllen memory t s u (reallocate addr size (Some to)) notes valid w step in
-    HasSize-serves (flex_steps_keep_well_formed fl_bits sl_bits fllen sllen memory t s u (reallocate addr size (Some to)) notes valid w step).machine size r.old.align to r.now r.here r.serves
+    HasSize-serves (flex_steps_keep_well_formed fl_bits sl_bits fllen sllen memory t s u (reallocate addr size (Some to)) notes valid w step).machine size r.old.align to r.now
+    r.here r.serves
 
 pub flex_reallocation_keeps_bytes : FlexReallocationKeepsBytes
 flex_reallocation_keeps_bytes fl_bits sl_bits fllen sllen memory t s u addr size to notes x valid w step holds =
@@ -80,16 +86,19 @@ flex_other_payloads_stay fllen sllen t s u (remove r) notes x step i apart = abs
 flex_other_payloads_stay fllen sllen t s u (trim count) notes x step i apart = subst (IsIn x) (sym (used-trimmed t s u count notes step)) i
 flex_other_payloads_stay fllen sllen t s u (allocate size align None) notes x step i apart = subst (λ (y : FlexState). IsIn x y.machine.used) (sym step.extends.after) i
 flex_other_payloads_stay fllen sllen t s u (allocate size align (Some addr)) notes x (inl room) i apart =
-    subst (λ (y : FlexState). IsIn x y.machine.used) (sym room.after) (other_payloads_stay fllen sllen s.machine room.machine (allocate size align (Some addr)) x room.allocates i apart)
+    subst (λ (y : FlexState). IsIn x y.machine.used) (sym room.after)
+    (other_payloads_stay fllen sllen s.machine room.machine (allocate size align (Some addr)) x room.allocates i apart)
 flex_other_payloads_stay fllen sllen t s u (allocate size align (Some addr)) notes x (inr more) i apart =
     let m = more.meanwhile in
     let j = subst (IsIn x) (sym (used-taken fllen t s m more.outcome more.asks.extends.after)) i in
-    subst (λ (y : FlexState). IsIn x y.machine.used) (sym more.after) (other_payloads_stay fllen sllen m.machine more.machine (allocate size align (Some addr)) x more.allocates j apart)
+    subst (λ (y : FlexState). IsIn x y.machine.used) (sym more.after)
+    (other_payloads_stay fllen sllen m.machine more.machine (allocate size align (Some addr)) x more.allocates j apart)
 flex_other_payloads_stay fllen sllen t s u (deallocate addr) notes x step i apart =
     subst (λ (y : FlexState). IsIn x y.machine.used) (sym step.after) (other_payloads_stay fllen sllen s.machine step.machine (deallocate addr) x step.leads i apart)
 flex_other_payloads_stay fllen sllen t s u (reallocate addr size None) notes x step i apart = subst (λ (y : FlexState). IsIn x y.machine.used) (sym step.asks.extends.after) i
 flex_other_payloads_stay fllen sllen t s u (reallocate addr size (Some to)) notes x (inl room) i apart =
-    subst (λ (y : FlexState). IsIn x y.machine.used) (sym room.after) (other_payloads_stay fllen sllen s.machine room.machine (reallocate addr size (Some to)) x room.reallocates i apart)
+    subst (λ (y : FlexState). IsIn x y.machine.used) (sym room.after)
+    (other_payloads_stay fllen sllen s.machine room.machine (reallocate addr size (Some to)) x room.reallocates i apart)
 flex_other_payloads_stay fllen sllen t s u (reallocate addr size (Some to)) notes x (inr more) i apart =
     let m = more.meanwhile in
     let same = used-taken fllen t s m more.outcome more.asks.extends.after in

@@ -33,11 +33,13 @@ use Rattle.rlsf_machine.proofs.Room.{allocation_answers}
 use Rattle.rlsf_machine.proofs.Trims.{trim_answers}
 use Rattle.rlsf_machine.proofs.TakenPools.{inserted_pool, pool_size_is}
 
-module _ {fl_bits sl_bits fllen sllen : ℕ} {memory : Range} {t : Terms} {s : FlexState} (valid : IsValid fl_bits sl_bits fllen sllen) (w : IsFlexWellFormed fllen sllen memory t s) where
+module _ {fl_bits sl_bits fllen sllen : ℕ} {memory : Range} {t : Terms} {s : FlexState} (valid : IsValid fl_bits sl_bits fllen sllen)
+    (w : IsFlexWellFormed fllen sllen memory t s) where
   -- ---- what came is taken in
 
   given_taken : (size align : ℕ) (r : Range) → IsPossible (questions t s.kept (pool_size_to_contain_allocation fllen sllen size align)) (range_came r)
-      → MayAnswerAll t s.pools (notes_of (questions t s.kept (pool_size_to_contain_allocation fllen sllen size align)) (range_came r)) → (u : FlexState) × TakesIn fllen t s (range_came r) u
+      → MayAnswerAll t s.pools (notes_of (questions t s.kept (pool_size_to_contain_allocation fllen sllen size align)) (range_came r))
+      → (u : FlexState) × TakesIn fllen t s (range_came r) u
   given_taken size align r possible answers =
       let (e, wanted) = more_wanted t s.kept (pool_size_to_contain_allocation fllen sllen size align) (range_came r) refl possible in
       let (n, asked, g) = given_answer t s.pools (questions t s.kept (pool_size_to_contain_allocation fllen sllen size align)) r possible answers in
@@ -46,12 +48,14 @@ module _ {fl_bits sl_bits fllen sllen : ℕ} {memory : Range} {t : Terms} {s : F
       let cs = cut (max_pool_size fllen) (aligned_part r) in
       let m = with_chunks cs s.machine in
       let step : Inserts fllen s.machine r (bytes_taken r.start cs) m = record { answer = refl; after = refl } in
-      let (len, is, taken, pool) = inserted_pool fllen sllen e s.machine m r (bytes_taken r.start cs) w.machine.rows room whole short (HasAlignedPart-given t s.pools e n r told g) step in (
+      let (len, is, taken, pool) =
+      inserted_pool fllen sllen e s.machine m r (bytes_taken r.start cs) w.machine.rows room whole short (HasAlignedPart-given t s.pools e n r told g) step in (
         record { machine = m; pools = r ∷ s.pools; kept = then_some (keeps t) (record { range = r; len = len }) },
         (len, subst (λ o. Inserts fllen s.machine r o m) is step, refl, refl),
       )
 
-  grown_taken : (size align len : ℕ) (kept : Option KeptPool) → s.kept ≡ kept → IsPossible (questions t kept (pool_size_to_contain_allocation fllen sllen size align)) (growth_came len) → (u : FlexState) × TakesIn fllen t s (growth_came len) u
+  grown_taken : (size align len : ℕ) (kept : Option KeptPool) → s.kept ≡ kept
+      → IsPossible (questions t kept (pool_size_to_contain_allocation fllen sllen size align)) (growth_came len) → (u : FlexState) × TakesIn fllen t s (growth_came len) u
   grown_taken size align len None is possible =
       let (e, wanted) = more_wanted t None (pool_size_to_contain_allocation fllen sllen size align) (growth_came len) refl possible in
       absurd (true≢false (sym (subst (λ o. IsPossible (questions t None o) (growth_came len)) wanted possible)))
@@ -87,7 +91,8 @@ module _ {fl_bits sl_bits fllen sllen : ℕ} {memory : Range} {t : Terms} {s : F
 
     -- ---- an allocation
 
-    allocated_more : (size align : ℕ) (reply : Option ℕ) (o : Outcome) (m : FlexState) → IsPowerOfTwo align → is_more o ≡ true → Asks fllen sllen t s size align o notes m → Replies (allocate size align reply)
+    allocated_more : (size align : ℕ) (reply : Option ℕ) (o : Outcome) (m : FlexState) → IsPowerOfTwo align → is_more o ≡ true
+        → Asks fllen sllen t s size align o notes m → Replies (allocate size align reply)
     allocated_more size align reply o m power more asks = go (allocation_answers sllen m.machine size align)
       where
         go : (r : Option ℕ) × (x : State) × Allocates sllen m.machine size align r x → Replies (allocate size align reply)
@@ -99,7 +104,8 @@ module _ {fl_bits sl_bits fllen sllen : ℕ} {memory : Range} {t : Terms} {s : F
           record { may = power; answers = answers; leads = inr (record { outcome = o; meanwhile = m; asks = asks; more = more; machine = x; allocates = step; after = refl }) },
         )
 
-    pub allocated_asked : (size align : ℕ) (reply : Option ℕ) (o : Outcome) (m : FlexState) → IsPowerOfTwo align → Asks fllen sllen t s size align o notes m → Replies (allocate size align reply)
+    pub allocated_asked : (size align : ℕ) (reply : Option ℕ) (o : Outcome) (m : FlexState) → IsPowerOfTwo align → Asks fllen sllen t s size align o notes m
+        → Replies (allocate size align reply)
     allocated_asked size align reply refused m power asks = (allocate size align None, m, (refl, refl), record { may = power; answers = answers; leads = asks })
     allocated_asked size align reply (range_came r) m power asks = allocated_more size align reply (range_came r) m power refl asks
     allocated_asked size align reply (growth_came len) m power asks = allocated_more size align reply (growth_came len) m power refl asks
@@ -108,7 +114,8 @@ module _ {fl_bits sl_bits fllen sllen : ℕ} {memory : Range} {t : Terms} {s : F
 
     module _ (addr size : ℕ) (reply : Option ℕ) (v : Used) (holds : Holds s.machine addr v) (none : plan s.machine v size ≡ None) where
       moved_more : (o : Outcome) (m : FlexState) → is_more o ≡ true → Asks fllen sllen t s size v.align o notes m → Replies (reallocate addr size reply)
-      moved_more o m more asks = go (planned_reply sllen m.machine v size None) (planned_after sllen m.machine v size None) (planned_step fllen sllen memory m.machine v is_used size None)
+      moved_more o m more asks =
+          go (planned_reply sllen m.machine v size None) (planned_after sllen m.machine v size None) (planned_step fllen sllen memory m.machine v is_used size None)
         where
           is_used : IsIn v m.machine.used
           is_used = subst (IsIn v) (sym (used-taken fllen t s m o asks.extends.after)) holds.0
@@ -125,7 +132,19 @@ module _ {fl_bits sl_bits fllen sllen : ℕ} {memory : Range} {t : Terms} {s : F
                 record {
                   may = (v, holds);
                   answers = answers;
-                  leads = inr (record { block = v; stuck = record { holds = holds; no_plan = none }; outcome = o; meanwhile = m; asks = asks; more = more; machine = x; moves = step; elsewhere = elsewhere; after = refl });
+                  leads =
+                      inr (record {
+                        block = v;
+                        stuck = record { holds = holds; no_plan = none };
+                        outcome = o;
+                        meanwhile = m;
+                        asks = asks;
+                        more = more;
+                        machine = x;
+                        moves = step;
+                        elsewhere = elsewhere;
+                        after = refl;
+                      });
                 },
               )
 
@@ -144,7 +163,8 @@ abbrev Answers : ℕ → ℕ → Range → Terms → FlexState → (Questions �
 Answers fllen sllen memory t s respond e =
     (e' : Event) × (notes : List Note) × (u : FlexState) × IsSameCall e e' × IsAnswered respond notes × IsFlexStep fllen sllen memory t s e' notes u
 
-module _ {fl_bits sl_bits fllen sllen : ℕ} {memory : Range} {t : Terms} {s : FlexState} (respond : Questions → Outcome) (valid : IsValid fl_bits sl_bits fllen sllen) (w : IsFlexWellFormed fllen sllen memory t s)
+module _ {fl_bits sl_bits fllen sllen : ℕ} {memory : Range} {t : Terms} {s : FlexState} (respond : Questions → Outcome) (valid : IsValid fl_bits sl_bits fllen sllen)
+    (w : IsFlexWellFormed fllen sllen memory t s)
     (may : MayRespond t s.pools respond) where
   allocate_answers : (size align : ℕ) (reply : Option ℕ) → IsPowerOfTwo align → Answers fllen sllen memory t s respond (allocate size align reply)
   allocate_answers size align reply power = go (allocation_answers sllen s.machine size align)
@@ -164,10 +184,12 @@ module _ {fl_bits sl_bits fllen sllen : ℕ} {memory : Range} {t : Terms} {s : F
           (e', notes_of q (respond q), u, same, inr (inl (q, refl)), is)
 
   reallocate_answers : (addr size : ℕ) (reply : Option ℕ) (v : Used) → Holds s.machine addr v → Answers fllen sllen memory t s respond (reallocate addr size reply)
-  reallocate_answers addr size reply v holds = go (plan s.machine v size) refl (planned_reply sllen s.machine v size (plan s.machine v size)) (planned_after sllen s.machine v size (plan s.machine v size))
+  reallocate_answers addr size reply v holds =
+      go (plan s.machine v size) refl (planned_reply sllen s.machine v size (plan s.machine v size)) (planned_after sllen s.machine v size (plan s.machine v size))
       (planned_step fllen sllen memory s.machine v holds.0 size (plan s.machine v size))
     where
-      go : (o : Option Plan) → plan s.machine v size ≡ o → (r : Option ℕ) (x : State) → ReallocatesBy sllen s.machine v size o r x → Answers fllen sllen memory t s respond (reallocate addr size reply)
+      go : (o : Option Plan) → plan s.machine v size ≡ o → (r : Option ℕ) (x : State) → ReallocatesBy sllen s.machine v size o r x
+          → Answers fllen sllen memory t s respond (reallocate addr size reply)
       go o is (Some to) x step = (
         reallocate addr size (Some to),
         [],
@@ -177,7 +199,13 @@ module _ {fl_bits sl_bits fllen sllen : ℕ} {memory : Range} {t : Terms} {s : F
         record {
           may = (v, holds);
           answers = λ n i. absurd i;
-          leads = inl (record { machine = x; reallocates = record { block = v; holds = holds; step = subst (λ p. ReallocatesBy sllen s.machine v size p (Some to) x) (sym is) step }; none = refl; after = refl });
+          leads =
+              inl (record {
+                machine = x;
+                reallocates = record { block = v; holds = holds; step = subst (λ p. ReallocatesBy sllen s.machine v size p (Some to) x) (sym is) step };
+                none = refl;
+                after = refl;
+              });
         },
       )
       go (Some p) is None x step = absurd step
@@ -186,7 +214,7 @@ module _ {fl_bits sl_bits fllen sllen : ℕ} {memory : Range} {t : Terms} {s : F
           let (e', u, same, does) = moved_asked valid w (notes_of q (respond q)) answers addr size reply v holds is (respond q) m asks in
           (e', notes_of q (respond q), u, same, inr (inl (q, refl)), does)
 
--- a source may answer what gives ranges back
+-- a source may answer what returns ranges
 answers_back : (t : Terms) (owed : List Range) (gone : List Range) (m : Note) → IsIn m (map dealloc gone) → MayAnswer t owed m
 answers_back t owed gone m i = let (r, j, is) = IsIn-map_from dealloc m gone i in subst (MayAnswer t owed) (sym is) tt
 
@@ -197,7 +225,8 @@ flex_each_call_answers fl_bits sl_bits fllen sllen memory t s (remove r) respond
 flex_each_call_answers fl_bits sl_bits fllen sllen memory t s (trim count) respond valid w may whole calls lasts responds =
     let (n, gone, u, step) = trim_answers w in
     (trim n, map dealloc gone, u, tt, inr (inr (gone, refl)), record { may = tt; answers = λ m i. answers_back t s.pools gone m i; leads = step })
-flex_each_call_answers fl_bits sl_bits fllen sllen memory t s (allocate size align reply) respond valid w may whole calls lasts responds = allocate_answers respond valid w responds size align reply may
+flex_each_call_answers fl_bits sl_bits fllen sllen memory t s (allocate size align reply) respond valid w may whole calls lasts responds =
+    allocate_answers respond valid w responds size align reply may
 flex_each_call_answers fl_bits sl_bits fllen sllen memory t s (deallocate addr) respond valid w (v, holds) whole calls lasts responds =
     let m = released s.machine v in (
       deallocate addr,
@@ -207,7 +236,8 @@ flex_each_call_answers fl_bits sl_bits fllen sllen memory t s (deallocate addr) 
       inl refl,
       record { may = (v, holds); answers = λ n i. absurd i; leads = record { machine = m; leads = record { block = v; holds = holds; after = refl }; none = refl; after = refl } },
     )
-flex_each_call_answers fl_bits sl_bits fllen sllen memory t s (reallocate addr size reply) respond valid w (v, holds) whole calls lasts responds = reallocate_answers respond valid w responds addr size reply v holds
+flex_each_call_answers fl_bits sl_bits fllen sllen memory t s (reallocate addr size reply) respond valid w (v, holds) whole calls lasts responds =
+    reallocate_answers respond valid w responds addr size reply v holds
 flex_each_call_answers fl_bits sl_bits fllen sllen memory t s (fill addr bytes) respond valid w may (v, holds, length) calls lasts responds =
     let m = filled s.machine addr bytes in (
       fill addr bytes,
@@ -215,5 +245,9 @@ flex_each_call_answers fl_bits sl_bits fllen sllen memory t s (fill addr bytes) 
       with_machine s m,
       (refl, refl),
       inl refl,
-      record { may = may; answers = λ n i. absurd i; leads = record { machine = m; leads = record { block = v; holds = holds; length = length; after = refl }; none = refl; after = refl } },
+      record {
+        may = may;
+        answers = λ n i. absurd i;
+        leads = record { machine = m; leads = record { block = v; holds = holds; length = length; after = refl }; none = refl; after = refl };
+      },
     )

@@ -1,4 +1,4 @@
--- The machine that asks a source for memory, on literals: what it replies, what it asks, and the blocks, the free ranges and the ranges of the source that it has then.
+-- The reference model that asks a source for memory, on literals: what it replies, what it asks, and the blocks, the free ranges and the ranges of the source that it has then.
 use Rattle.std.proofs.Common.{◌≡◌, ℕ, Bool, true, false, List, [], ◌∷◌, Option, Some, None, refl}
 use Rattle.rlsf_base.specs.declared.memory.range.Range.{Range}
 use Rattle.rlsf_base.specs.Range.{range_at}
@@ -19,8 +19,8 @@ allocation size align reply notes = record { size = size; align = align; reply =
 abbrev pub attempt : ℕ → Outcome → Attempt
 attempt size outcome = record { size = size; align = 1; outcome = outcome }
 
--- these allocations with these replies, questions and answers lead from the empty machine to these used blocks, the newest first,
--- these free ranges and these ranges of the source; at the end the source is told so
+-- These allocations with these replies, questions and answers lead from the empty state to a state. It has these used blocks, the
+-- newest first, these free ranges and these ranges of the source. At the end the source is passed these ranges
 record GivesOver (fllen sllen : ℕ) (t : Terms) (allocations : List Allocation) (used : List Block) (free pools : List Range) (at_end : List Note) : Type 0 where
   after : FlexState
   run : RunsOver fllen sllen t empty allocations after
@@ -31,7 +31,8 @@ record GivesOver (fllen sllen : ℕ) (t : Terms) (allocations : List Allocation)
 
 -- what attempts give, computed
 gives_over : (fllen sllen : ℕ) (t : Terms) (attempts : List Attempt) → may_attempt_all fllen sllen t empty attempts ≡ true
-    → GivesOver fllen sllen t (all_done fllen sllen t empty attempts) (seen (all_after fllen sllen t empty attempts).machine.used) (all_after fllen sllen t empty attempts).machine.free
+    → GivesOver fllen sllen t (all_done fllen sllen t empty attempts) (seen (all_after fllen sllen t empty attempts).machine.used)
+    (all_after fllen sllen t empty attempts).machine.free
     (all_after fllen sllen t empty attempts).pools (notes_at_end t (all_after fllen sllen t empty attempts).pools)
 gives_over fllen sllen t attempts may =
     record { after = all_after fllen sllen t empty attempts; run = RunsOver-all fllen sllen t empty attempts may; used_is = refl; free_is = refl; pools_are = refl; end_is = refl }
@@ -62,7 +63,7 @@ growth_joins_the_chunk = gives_over 59 8 one_growing_range (attempt 1 (range_cam
 abbrev pub pages : Terms
 pages = record { space = range_at 4096 4096; dealloc = true; grow = false; contiguous = false; min_align = 1024 }
 
--- it isn't asked for growth, and the ranges go back, the newest first
+-- it isn't asked for growth, and the ranges are returned, the newest first
 ranges_go_back : GivesOver 8 8 pages
     (allocation 1 1 (Some 4112) (alloc 64 (Some (range_at 4096 1024)) ∷ []) ∷ allocation 2000 1 (Some 5136) (alloc 2080 (Some (range_at 5120 3072)) ∷ []) ∷ [])
     (block 5120 2016 5136 ∷ block 4096 32 4112 ∷ [])
@@ -75,7 +76,7 @@ ranges_go_back = gives_over 8 8 pages (attempt 1 (range_came (range_at 4096 1024
 abbrev pub growing_and_taking_back : Terms
 growing_and_taking_back = record { space = range_at 4097 4096; dealloc = true; grow = true; contiguous = false; min_align = 1 }
 
--- a range goes back once, as long as it grew
+-- a range is returned once, as long as it grew
 grown_range_goes_back : GivesOver 8 8 growing_and_taking_back
     (allocation 1 1 (Some 4144) (alloc 96 (Some (range_at 4097 96)) ∷ []) ∷ allocation 1 1 (Some 4208) (grow (range_at 4097 96) 159 (Some 159) ∷ []) ∷ [])
     (block 4192 32 4208 ∷ block 4128 32 4144 ∷ [])
@@ -121,7 +122,8 @@ generous = record { space = range_at 4096 4096; dealloc = true; grow = false; co
 
 -- the room that came beside what was asked serves the next allocation, for which nothing is asked
 more_than_asked : GivesOver 8 8 generous
-    (allocation 1 1 (Some 4112) (alloc 64 (Some (range_at 4096 101)) ∷ []) ∷ allocation 1 1 (Some 4144) [] ∷ allocation 1 1 (Some 4240) (alloc 64 (Some (range_at 4224 101)) ∷ []) ∷ [])
+    (allocation 1 1 (Some 4112) (alloc 64 (Some (range_at 4096 101)) ∷ []) ∷ allocation 1 1 (Some 4144) []
+    ∷ allocation 1 1 (Some 4240) (alloc 64 (Some (range_at 4224 101)) ∷ []) ∷ [])
     (block 4224 32 4240 ∷ block 4128 32 4144 ∷ block 4096 32 4112 ∷ [])
     (range_at 4256 32 ∷ [])
     (range_at 4224 101 ∷ range_at 4096 101 ∷ [])

@@ -1,4 +1,4 @@
--- A run over a source is one of the machine alone.
+-- A run over a source is one of the reference model alone.
 use Rattle.std.proofs.Common.{◌≡◌, ℕ, true, map, List, [], ◌∷◌, ◌++◌, Option, Some, None, refl, sym, ◌∙◌, ap, subst, inl, inr}
 use Rattle.rlsf_base.specs.declared.memory.range.Range.{Range}
 use Rattle.rlsf_base.specs.PowerOfTwo.{IsPowerOfTwo}
@@ -22,11 +22,12 @@ use Rattle.rlsf_machine.proofs.Trims.{AreRemovals, IsOver, IsOver-flex, Runs-all
 use Rattle.rlsf_machine.proofs.FlexSteps.{flex_steps_keep_well_formed}
 
 -- where a run leads, another goes on
-pub Runs-append : (fllen sllen : ℕ) (memory : Range) (s t u : State) (es fs : List Event) → Runs fllen sllen memory s es t → Runs fllen sllen memory t fs u → Runs fllen sllen memory s (es ++ fs) u
+pub Runs-append : (fllen sllen : ℕ) (memory : Range) (s t u : State) (es fs : List Event) → Runs fllen sllen memory s es t → Runs fllen sllen memory t fs u
+    → Runs fllen sllen memory s (es ++ fs) u
 Runs-append fllen sllen memory s t u [] fs first second = subst (λ x. Runs fllen sllen memory x fs u) first second
 Runs-append fllen sllen memory s t u (e ∷ es) fs (m, may, step, rest) second = (m, may, step, Runs-append fllen sllen memory m t u es fs rest second)
 
--- calls of the machine alone that a call over a source comes to lead from one state to another
+-- the calls of the reference model alone that a call over a source consists of lead from one state to another
 abbrev pub IsDone : ℕ → ℕ → Range → State → Event → State → Type 0
 IsDone fllen sllen memory s e t = (es : List Event) × ComesTo e es × Runs fllen sllen memory s es t
 
@@ -42,28 +43,33 @@ module _ {fllen sllen : ℕ} {memory : Range} where
   done_refused : (s m : State) (e : Event) → ComesTo e [] → m ≡ s → IsDone fllen sllen memory s e m
   done_refused s m e refuses same = ([], refuses, same)
 
-module _ {fl_bits sl_bits fllen sllen : ℕ} {memory : Range} {t : Terms} {s : FlexState} (valid : IsValid fl_bits sl_bits fllen sllen) (w : IsFlexWellFormed fllen sllen memory t s) (u : FlexState) (notes : List Note) (answers : MayAnswerAll t s.pools notes) where
-  -- what came for an allocation is handed in
+module _ {fl_bits sl_bits fllen sllen : ℕ} {memory : Range} {t : Terms} {s : FlexState} (valid : IsValid fl_bits sl_bits fllen sllen)
+    (w : IsFlexWellFormed fllen sllen memory t s) (u : FlexState) (notes : List Note) (answers : MayAnswerAll t s.pools notes) where
+  -- what came for an allocation is inserted
   asked_handed_in : (size align : ℕ) (outcome : Outcome) (m : FlexState) → is_more outcome ≡ true → Asks fllen sllen t s size align outcome notes m
       → (h : Event) × HandsIn h × MayCall memory s.machine h × Leads fllen sllen s.machine h m.machine
   asked_handed_in size align outcome m more asks =
       taken_handed_in w fl_bits sl_bits size align valid outcome m asks.extends.possible (subst (MayAnswerAll t s.pools) asks.extends.asked answers) asks.extends.after more
 
-  allocated_done : (size align : ℕ) (reply : Option ℕ) → IsPowerOfTwo align → FlexAllocates fllen sllen t s size align reply notes u → IsDone fllen sllen memory s.machine (allocate size align reply) u.machine
+  allocated_done : (size align : ℕ) (reply : Option ℕ) → IsPowerOfTwo align → FlexAllocates fllen sllen t s size align reply notes u
+      → IsDone fllen sllen memory s.machine (allocate size align reply) u.machine
   allocated_done size align None power asks = done_refused s.machine u.machine (allocate size align None) refl (ap (λ (x : FlexState). x.machine) asks.extends.after)
   allocated_done size align (Some addr) power (inl room) =
-      done_at s.machine (allocate size align (Some addr)) (with_machine s room.machine) u room.after (done_itself s.machine (allocate size align (Some addr)) room.machine refl power room.allocates)
+      done_at s.machine (allocate size align (Some addr)) (with_machine s room.machine) u room.after
+      (done_itself s.machine (allocate size align (Some addr)) room.machine refl power room.allocates)
   allocated_done size align (Some addr) power (inr more) =
       let m = more.meanwhile in
       let e = allocate size align (Some addr) in
       let (h, hands, may, step) = asked_handed_in size align more.outcome m more.more more.asks in
       done_at s.machine e (with_machine m more.machine) u more.after (h ∷ e ∷ [], (hands, refl), (m.machine, may, step, (more.machine, power, more.allocates, refl)))
 
-  reallocated_done : (addr size : ℕ) (reply : Option ℕ) → FlexReallocates fllen sllen t s addr size reply notes u → IsDone fllen sllen memory s.machine (reallocate addr size reply) u.machine
+  reallocated_done : (addr size : ℕ) (reply : Option ℕ) → FlexReallocates fllen sllen t s addr size reply notes u
+      → IsDone fllen sllen memory s.machine (reallocate addr size reply) u.machine
   reallocated_done addr size None refuses = done_refused s.machine u.machine (reallocate addr size None) refl (ap (λ (x : FlexState). x.machine) refuses.asks.extends.after)
   reallocated_done addr size (Some to) (inl room) =
       let step = room.reallocates in
-      done_at s.machine (reallocate addr size (Some to)) (with_machine s room.machine) u room.after (done_itself s.machine (reallocate addr size (Some to)) room.machine refl (step.block, step.holds) step)
+      done_at s.machine (reallocate addr size (Some to)) (with_machine s room.machine) u room.after
+      (done_itself s.machine (reallocate addr size (Some to)) room.machine refl (step.block, step.holds) step)
   reallocated_done addr size (Some to) (inr more) =
       let m = more.meanwhile in
       let v = more.block in
@@ -76,7 +82,8 @@ module _ {fl_bits sl_bits fllen sllen : ℕ} {memory : Range} {t : Terms} {s : F
       )
 
 -- a trim is done by removals
-trimmed_done : {fllen sllen : ℕ} {memory : Range} {t : Terms} {s : FlexState} (w : IsFlexWellFormed fllen sllen memory t s) (u : FlexState) (notes : List Note) (count : ℕ) → Trims t s count notes u
+trimmed_done : {fllen sllen : ℕ} {memory : Range} {t : Terms} {s : FlexState} (w : IsFlexWellFormed fllen sllen memory t s) (u : FlexState) (notes : List Note) (count : ℕ)
+    → Trims t s count notes u
     → IsDone fllen sllen memory s.machine (trim count) u.machine
 trimmed_done w u notes count (inr (_, none, _, same)) = ([], (sym none, λ e i. absurd i), ap (λ (x : FlexState). x.machine) same)
 trimmed_done {fllen} {sllen} {memory} {t} {s} w u notes count (inl (takes, g)) =
@@ -87,8 +94,9 @@ trimmed_done {fllen} {sllen} {memory} {t} {s} w u notes count (inl (takes, g)) =
           (Runs-all_removed g.gone g.left s.machine (subst (IsOver fllen sllen memory t.space s.machine) g.split (IsOver-flex w)) g.idle),
     )
 
--- a step over a source is a run of the calls that it comes to
-step_done : (fl_bits sl_bits fllen sllen : ℕ) (memory : Range) (t : Terms) (s u : FlexState) (e : Event) (notes : List Note) → IsValid fl_bits sl_bits fllen sllen → IsFlexWellFormed fllen sllen memory t s
+-- a step over a source is a run of the calls that it consists of
+step_done : (fl_bits sl_bits fllen sllen : ℕ) (memory : Range) (t : Terms) (s u : FlexState) (e : Event) (notes : List Note) → IsValid fl_bits sl_bits fllen sllen
+    → IsFlexWellFormed fllen sllen memory t s
     → IsFlexStep fllen sllen memory t s e notes u → IsDone fllen sllen memory s.machine e u.machine
 step_done fl_bits sl_bits fllen sllen memory t s u (insert r reply) notes valid w step = absurd step.leads
 step_done fl_bits sl_bits fllen sllen memory t s u (append r reply) notes valid w step = absurd step.leads

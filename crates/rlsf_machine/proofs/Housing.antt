@@ -26,7 +26,8 @@ coverage-none rs a none = elim (cases_lt 0 (coverage itself rs a)) [
 -- ---- outstanding ranges
 
 -- one more range that is outstanding
-pub AreOutstanding-more : (space r : Range) (pools : List Range) → AreOutstanding space pools → LiesIn r space.start space.len → IsClear r pools → 64 ≤ r.len → AreOutstanding space (r ∷ pools)
+pub AreOutstanding-more : (space r : Range) (pools : List Range) → AreOutstanding space pools → LiesIn r space.start space.len → IsClear r pools → 64 ≤ r.len
+    → AreOutstanding space (r ∷ pools)
 AreOutstanding-more space r pools are lies clear long = record {
   in_space = λ p. elim [ inl same ↦ subst (λ (q : Range). LiesIn q space.start space.len) (sym same) lies | inr i ↦ are.in_space p i ];
   long = λ p. elim [ inl same ↦ subst (λ (q : Range). 64 ≤ q.len) (sym same) long | inr i ↦ are.long p i ];
@@ -58,7 +59,8 @@ IsHoused-more : (r c : Range) (pools : List Range) → IsHoused pools c → IsHo
 IsHoused-more r c pools (p, i, from, to) = (p, inr i, from, to)
 
 -- a range that is inserted houses what it becomes
-pub AreHoused-inserted : (fllen : ℕ) (s t : State) (r : Range) (reply : Option ℕ) (pools : List Range) → AreHoused pools s.chunks → Inserts fllen s r reply t → AreHoused (r ∷ pools) t.chunks
+pub AreHoused-inserted : (fllen : ℕ) (s t : State) (r : Range) (reply : Option ℕ) (pools : List Range) → AreHoused pools s.chunks → Inserts fllen s r reply t
+    → AreHoused (r ∷ pools) t.chunks
 AreHoused-inserted fllen s t r reply pools housed step c i = elim (inserted_chunks_lie_in_range fllen s t r reply c step i) [
   | inl old ↦ IsHoused-more r c pools (housed c old)
   | inr new ↦ (r, inl refl, new.0, new.1)

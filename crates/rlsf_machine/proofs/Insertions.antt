@@ -1,4 +1,4 @@
--- Handing in memory as chunks of its own leaves a state well-formed.
+-- Inserting memory as chunks of its own leaves a state well-formed.
 use Rattle.std.proofs.Common.{◌≡◌, ℕ, ◌+◌, ◌-◌, ◌<◌, ◌≤◌, List, Option, arith, sym, ◌∙◌, ap, subst, inl, inr, [], ◌∷◌, refl}
 use Rattle.rlsf_base.specs.declared.memory.range.Range.{Range}
 use Rattle.rlsf_base.specs.Range.{end_of}
@@ -26,7 +26,8 @@ pub IsWellFormed-with_chunk : {fllen sllen : ℕ} {memory : Range} {s : State} �
 IsWellFormed-with_chunk {fllen} {sllen} {memory} {s} w c chunk clear =
     let t = with_chunk c s in
     let room = chunk.has_room in
-    let chunks : (d : Range) → IsIn d (c ∷ s.chunks) → IsChunk fllen sllen memory d = λ d. elim [ inl same ↦ subst (IsChunk fllen sllen memory) (sym same) chunk | inr i ↦ w.chunks d i ] in
+    let chunks : (d : Range) → IsIn d (c ∷ s.chunks) → IsChunk fllen sllen memory d =
+    λ d. elim [ inl same ↦ subst (IsChunk fllen sllen memory) (sym same) chunk | inr i ↦ w.chunks d i ] in
     let tiled : (a : ℕ) → blocks t a + coverage last_bytes (c ∷ s.chunks) a ≡ coverage itself (c ∷ s.chunks) a = λ a. omega (arith, covers-body c a room, w.tiled a) in
     let tiles : IsTiled t = record { room = λ d h. (chunks d h).has_room; disjoint = clear; tiled = tiled } in
     let whole : (f : Range) → IsIn f (body c ∷ s.free) → IsWhole f × (0 < f.len) = λ f. elim [
@@ -66,7 +67,8 @@ IsWellFormed-with_chunk {fllen} {sllen} {memory} {s} w c chunk clear =
           ];
     })
 
-pub IsWellFormed-with_chunks : {fllen sllen : ℕ} {memory : Range} (cs : List Range) (s : State) → IsWellFormed fllen sllen memory s → AreNew fllen sllen memory s cs → IsWellFormed fllen sllen memory (with_chunks cs s)
+pub IsWellFormed-with_chunks : {fllen sllen : ℕ} {memory : Range} (cs : List Range) (s : State) → IsWellFormed fllen sllen memory s → AreNew fllen sllen memory s cs
+    → IsWellFormed fllen sllen memory (with_chunks cs s)
 IsWellFormed-with_chunks [] s w new = w
 IsWellFormed-with_chunks (c ∷ cs) s w new =
     IsWellFormed-with_chunks cs (with_chunk c s) (IsWellFormed-with_chunk w c (new.chunk c (inl refl)) (λ a. omega (arith, new.apart a)))

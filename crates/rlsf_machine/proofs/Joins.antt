@@ -1,5 +1,6 @@
 -- The range that a join makes, side by side.
-use Rattle.std.proofs.Common.{◌≡◌, ◌≢◌, ℕ, ◌+◌, ◌%◌, ◌<◌, ◌≤◌, Bool, List, Option, Some, None, find, true≢false, arith, refl, sym, ◌∙◌, ap, subst, inl, inr}
+use Rattle.std.proofs.Common.{◌≡◌, ◌≢◌, ℕ, ◌+◌, ◌%◌, ◌<◌, ◌≤◌, Bool, List, Option, Some, None, find, true≢false, arith, refl, sym, ◌∙◌, ap}
+use Rattle.std.proofs.Common.{subst, inl, inr}
 use Rattle.std.proofs.lemmas.Bool.{eq-eqb, eqb-true}
 use Rattle.rlsf_base.specs.declared.memory.range.Range.{Range}
 use Rattle.rlsf_base.specs.Range.{end_of}
@@ -50,7 +51,9 @@ left_of at free whole sound = go (find (ends_at at) free) refl
         record {
           order = omega arith;
           whole = f_whole.0.start;
-          cover = λ a. coverage-without itself (ends_at at) f free a e ∙ ap (λ n. n + coverage itself (without (ends_at at) free) a) (covers-same f (between f.start at) a refl (omega arith));
+          cover =
+              λ a. coverage-without itself (ends_at at) f free a e
+              ∙ ap (λ n. n + coverage itself (without (ends_at at) free) a) (covers-same f (between f.start at) a refl (omega arith));
           ends = λ g h. sound.apart g f (IsIn-without (ends_at at) g free h) is.0;
         }
 
@@ -78,7 +81,9 @@ right_of at free whole sound = go (find (starts_at at) free) refl
         record {
           order = omega arith;
           whole = omega (arith, f_whole.start, f_whole.len);
-          cover = λ a. coverage-without itself (starts_at at) f free a e ∙ ap (λ n. n + coverage itself (without (starts_at at) free) a) (covers-same f (between at (end_of f)) a f_start (omega arith));
+          cover =
+              λ a. coverage-without itself (starts_at at) f free a e
+              ∙ ap (λ n. n + coverage itself (without (starts_at at) free) a) (covers-same f (between at (end_of f)) a f_start (omega arith));
           starts = λ g h. sound.apart f g is.0 (IsIn-without (starts_at at) g free h);
         }
 
@@ -101,8 +106,11 @@ module _ (r : Range) (free : List Range) (r_whole : IsWhole r) (some : 0 < r.len
       let high = end_or (end_of r) (find (starts_at (end_of r)) (without (ends_at r.start) free)) in
       let l = left in
       let h = right in
-      let first : covers (between low high) a ≡ covers (between low (end_of r)) a + covers (between (end_of r) high) a = covers-split low (end_of r) high a (omega arith) h.order (between low high) (between low (end_of r)) (between (end_of r) high) refl (omega arith) refl (omega arith) refl (omega arith) in
-      let second : covers (between low (end_of r)) a ≡ covers (between low r.start) a + covers r a = covers-split low r.start (end_of r) a l.order (omega arith) (between low (end_of r)) (between low r.start) r refl (omega arith) refl (omega arith) refl refl in
+      let first : covers (between low high) a ≡ covers (between low (end_of r)) a + covers (between (end_of r) high) a =
+      covers-split low (end_of r) high a (omega arith) h.order (between low high) (between low (end_of r)) (between (end_of r) high) refl (omega arith) refl (omega arith) refl
+      (omega arith) in
+      let second : covers (between low (end_of r)) a ≡ covers (between low r.start) a + covers r a =
+      covers-split low r.start (end_of r) a l.order (omega arith) (between low (end_of r)) (between low r.start) r refl (omega arith) refl (omega arith) refl refl in
       omega (arith, l.cover a, h.cover a, first, second)
 
   -- and is no shorter than the range
@@ -122,7 +130,8 @@ module _ (r : Range) (free : List Range) (r_whole : IsWhole r) (some : 0 < r.len
       let union_end : end_of (between low high) ≡ high = omega (arith, l.order, h.order) in
       record {
         whole = λ f. elim [
-          | inl same ↦ subst (λ g. IsWhole g × (0 < g.len)) (sym same) (record { start = l.whole; len = omega (arith, l.whole, h.whole, l.order, h.order) }, omega (arith, l.order, h.order))
+          | inl same ↦ subst (λ g. IsWhole g × (0 < g.len)) (sym same)
+              (record { start = l.whole; len = omega (arith, l.whole, h.whole, l.order, h.order) }, omega (arith, l.order, h.order))
           | inr i ↦ others.whole f i
         ];
         apart = λ f g hf hg touch. elim hf [

@@ -1,4 +1,4 @@
--- The laws of the list machine, proved.
+-- The laws of the reference model, proved.
 pub mod AddedChunks
 pub mod Allocations
 pub mod AppendedRanges

@@ -1,12 +1,15 @@
 -- The laws of live payloads.
-use Rattle.std.proofs.Common.{◌≡◌, ◌≢◌, ◌⊎◌, ℕ, ◌+◌, ◌-◌, ◌%◌, ◌<◌, ◌≤◌, cond, eqb, filter, List, [], ◌∷◌, Option, Some, None, true≢false, arith, refl, sym, ◌∙◌, ap, subst, inl, inr}
+use Rattle.std.proofs.Common.{◌≡◌, ◌≢◌, ◌⊎◌, ℕ, ◌+◌, ◌-◌, ◌%◌, ◌<◌, ◌≤◌, cond, eqb, filter, List, [], ◌∷◌, Option, Some, None}
+use Rattle.std.proofs.Common.{true≢false, arith, refl, sym, ◌∙◌, ap, subst, inl, inr}
 use Rattle.std.proofs.lemmas.Bool.{eq-eqb, eqb-true, ne_eqb}
 use Rattle.rlsf_base.specs.declared.memory.range.Range.{Range}
 use Rattle.rlsf_base.specs.PowerOfTwo.{IsPowerOfTwo}
 use Rattle.rlsf_base.specs.Range.{end_of}
 use Rattle.rlsf_base.specs.Sizes.{request_size}
 use Rattle.rlsf_machine.specs.Allocate.{placed, given, Places, Allocates}
-use Rattle.rlsf_machine.specs.Laws.{LiveAddressesAreAligned, LiveAddressHasOneBlock, PayloadsAreDisjoint, PayloadLiesInOneChunk, HasSize, AllocationHasSize, ReallocationHasSize, ReallocationKeepsBytes, OtherPayloadsStay, UsedWasUsed, HandedOutIsNew, ReallocatedIsLive, LiveStays, ReleasedIsNotLive, FilledHasBytes, FillLeavesOthers, DeallocationLeavesOthers}
+use Rattle.rlsf_machine.specs.Laws.{LiveAddressesAreAligned, LiveAddressHasOneBlock, PayloadsAreDisjoint, PayloadLiesInOneChunk, HasSize, AllocationHasSize, ReallocationHasSize}
+use Rattle.rlsf_machine.specs.Laws.{ReallocationKeepsBytes, OtherPayloadsStay, UsedWasUsed, HandedOutIsNew, ReallocatedIsLive, LiveStays, ReleasedIsNotLive, FilledHasBytes}
+use Rattle.rlsf_machine.specs.Laws.{FillLeavesOthers, DeallocationLeavesOthers}
 use Rattle.rlsf_machine.specs.Lists.{IsIn}
 use Rattle.rlsf_machine.specs.Reallocate.{Keeps, Plan, plan, moved, ReallocatesBy, Reallocates}
 use Rattle.rlsf_machine.specs.Run.{insert, append, allocate, deallocate, reallocate, fill, remove, trim, Fills, Names}
@@ -32,7 +35,9 @@ live_addresses_are_aligned fllen sllen memory s addr align w (u, (i, at), is) =
 -- no used block of the list has the address
 filter-none : (addr : ℕ) (used : List Used) → ((v : Used) → IsIn v used → v.payload ≢ addr) → filter (λ v. eqb v.payload addr) used ≡ []
 filter-none addr [] none = refl
-filter-none addr (x ∷ xs) none = ap (λ b. cond b (x ∷ filter (λ v. eqb v.payload addr) xs) (filter (λ v. eqb v.payload addr) xs)) (ne_eqb x.payload addr (none x (inl refl))) ∙ filter-none addr xs (λ v i. none v (inr i))
+filter-none addr (x ∷ xs) none =
+    ap (λ b. cond b (x ∷ filter (λ v. eqb v.payload addr) xs) (filter (λ v. eqb v.payload addr) xs)) (ne_eqb x.payload addr (none x (inl refl)))
+    ∙ filter-none addr xs (λ v i. none v (inr i))
 
 filter-one : (addr : ℕ) (u : Used) (used : List Used) (b : ℕ) → IsIn u used → u.payload ≡ addr
     → ((v : Used) → IsIn v used → v.payload ≡ addr → covers v.block b ≡ 1) → coverage block_of used b ≤ 1
@@ -42,12 +47,14 @@ filter-one addr u (x ∷ xs) b h at one few = by_test (eqb x.payload addr)
     (λ e. let here = one x (inl refl) (eqb-true x.payload addr e) in
     let none : (v : Used) → IsIn v xs → v.payload ≢ addr = λ v i same. absurd (omega (arith, one v (inr i) same, coverage-IsIn block_of v xs b i)) in
     elim h [
-      | inl same ↦ ap (λ b. cond b (x ∷ filter (λ v. eqb v.payload addr) xs) (filter (λ v. eqb v.payload addr) xs)) e ∙ ap (λ l. x ∷ l) (filter-none addr xs none) ∙ ap (λ v. v ∷ []) (sym same)
+      | inl same ↦ ap (λ b. cond b (x ∷ filter (λ v. eqb v.payload addr) xs) (filter (λ v. eqb v.payload addr) xs)) e ∙ ap (λ l. x ∷ l) (filter-none addr xs none)
+          ∙ ap (λ v. v ∷ []) (sym same)
       | inr i ↦ absurd (none u i at)
     ])
     (λ e. elim h [
       | inl same ↦ absurd (true≢false (sym (eq-eqb x.payload addr (ap (λ v. v.payload) (sym same) ∙ at)) ∙ e))
-      | inr i ↦ ap (λ b. cond b (x ∷ filter (λ v. eqb v.payload addr) xs) (filter (λ v. eqb v.payload addr) xs)) e ∙ filter-one addr u xs b i at (λ v j. one v (inr j)) (omega arith)
+      | inr i ↦ ap (λ b. cond b (x ∷ filter (λ v. eqb v.payload addr) xs) (filter (λ v. eqb v.payload addr) xs)) e
+          ∙ filter-one addr u xs b i at (λ v j. one v (inr j)) (omega arith)
     ])
 
 pub live_address_has_one_block : LiveAddressHasOneBlock
@@ -73,7 +80,9 @@ pub payloads_are_disjoint : PayloadsAreDisjoint
 payloads_are_disjoint fllen sllen memory s u v a w iu iv apart =
     elim (where_is (usable u) a) [
       | inside one low high ↦ elim (where_is (usable v) a) [
-        | inside two low' high' ↦ absurd (apart (ap (λ x. x.payload) (coverage-unique block_of u v s.used a (used-le s (tiling_of w) a) iu iv (usable-inside u (w.used u iu) a one) (usable-inside v (w.used v iv) a two))))
+        | inside two low' high' ↦
+            absurd (apart (ap (λ x. x.payload)
+            (coverage-unique block_of u v s.used a (used-le s (tiling_of w) a) iu iv (usable-inside u (w.used u iu) a one) (usable-inside v (w.used v iv) a two))))
         | before none low' ↦ omega arith
         | behind none high' ↦ omega arith
       ]
@@ -101,9 +110,10 @@ payload_lies_in_one_chunk fllen sllen memory s u w i =
     some_of : (r : Range) (a : ℕ) → covers r a ≡ 1 → (r.start ≤ a) × (a < end_of r)
     some_of r a one = elim (where_is r a) [ inside e low high ↦ (low, high) | before none low ↦ absurd (omega arith) | behind none high ↦ absurd (omega arith) ]
 
--- ---- what an allocation hands out
+-- ---- what an allocation returns
 
-module _ {fllen sllen : ℕ} {memory : Range} {s : State} (w : IsWellFormed fllen sllen memory s) (size align addr : ℕ) (t : State) (power : IsPowerOfTwo align) (step : Places sllen s size align addr t) where
+module _ {fllen sllen : ℕ} {memory : Range} {s : State} (w : IsWellFormed fllen sllen memory s) (size align addr : ℕ) (t : State) (power : IsPowerOfTwo align)
+    (step : Places sllen s size align addr t) where
   Holds-placed : Holds t addr (placed step.range size align step.bytes)
   Holds-placed = subst (λ x. Holds x addr (placed step.range size align step.bytes)) (sym step.after) (inl refl, sym step.answer)
 
@@ -140,18 +150,20 @@ handed_out_is_new fllen sllen memory s t size align addr w power step = (
   (placed step.range size align step.bytes, Holds-placed w size align addr t power step, refl),
 )
 
--- a fill of a payload that was just handed out is an allocation with other bytes
+-- a fill of a payload that was just allocated is an allocation with other bytes
 pub allocated_filled : {fllen sllen : ℕ} {memory : Range} {s t x : State} {size align addr : ℕ} {bytes : List ℕ} → IsWellFormed fllen sllen memory s → IsPowerOfTwo align
     → (places : Places sllen s size align addr t) → Fills t addr bytes x → x ≡ given sllen s places.range (placed places.range size align bytes)
 allocated_filled {sllen = sllen} {s = s} {t = t} {size = size} {align = align} {addr = addr} {bytes = bytes} w power places step =
     let now = given sllen s places.range (placed places.range size align bytes) in
     step.after ∙ ap (λ y. filled y addr bytes) places.after ∙ (λ k. record {
       chunks = now.chunks;
-      used = filled_if-here addr bytes (placed places.range size align places.bytes) (sym places.answer) k ∷ filled_at-none addr bytes s.used (new_address w size align addr t power places) k;
+      used =
+          filled_if-here addr bytes (placed places.range size align places.bytes) (sym places.answer) k
+          ∷ filled_at-none addr bytes s.used (new_address w size align addr t power places) k;
       free = now.free;
     })
 
--- ---- what a reallocation hands out
+-- ---- what a reallocation returns
 
 module _ {fllen sllen : ℕ} {memory : Range} {s : State} (w : IsWellFormed fllen sllen memory s) (u : Used) (h : IsIn u s.used) (size addr : ℕ) (t : State) where
   -- the block that it leaves: its alignment, its bytes, its size, and that its address is the old one or new
@@ -206,7 +218,11 @@ module _ {fllen sllen : ℕ} {memory : Range} {s : State} (w : IsWellFormed flle
       let meanwhile_used : (step.block ≡ v) ⊎ IsIn step.block s.used = subst (λ x. IsIn step.block x.used) placing.after i in
       record {
         block = v;
-        holds = (subst (λ x. IsIn v x.used) (sym gone.after) (IsIn-others_from gone.block.payload v step.meanwhile.used held.0 (λ at. new u h (sym gone.holds.1 ∙ sym at ∙ held.1))), held.1);
+        holds = (
+          subst (λ x. IsIn v x.used) (sym gone.after)
+              (IsIn-others_from gone.block.payload v step.meanwhile.used held.0 (λ at. new u h (sym gone.holds.1 ∙ sym at ∙ held.1))),
+          held.1,
+        );
         same = refl;
         kept = elim meanwhile_used [ inl is ↦ subst (λ x. Keeps u.bytes x.bytes) is step.kept | inr j ↦ absurd (new step.block j at) ];
         enough = omega arith;
@@ -214,7 +230,8 @@ module _ {fllen sllen : ℕ} {memory : Range} {s : State} (w : IsWellFormed flle
         new = λ x i at. absurd (new x i at);
       }
 
-module _ {fllen sllen : ℕ} {memory : Range} {s : State} (w : IsWellFormed fllen sllen memory s) (addr size to : ℕ) (t : State) (step : Reallocates sllen s addr size (Some to) t) where
+module _ {fllen sllen : ℕ} {memory : Range} {s : State} (w : IsWellFormed fllen sllen memory s) (addr size to : ℕ) (t : State)
+    (step : Reallocates sllen s addr size (Some to) t) where
   moved_block : IsMoved w step.block step.holds.0 size to t
   moved_block = moved_by w step.block step.holds.0 size to t (plan s step.block size) refl step.step
 
@@ -229,7 +246,8 @@ module _ {fllen sllen : ℕ} {memory : Range} {s : State} (w : IsWellFormed flle
         (λ other (x, (i, at), _). m.new x i at ∙ step.holds.1),
       )
 
-  pub IsMoved-kept : (u : Used) → Holds s addr u → (v : Used) × Holds t to v × (v.align ≡ u.align) × Keeps u.bytes v.bytes × (size ≤ (usable v).len) × ((usable v).len < size + 32)
+  pub IsMoved-kept : (u : Used) → Holds s addr u
+      → (v : Used) × Holds t to v × (v.align ≡ u.align) × Keeps u.bytes v.bytes × (size ≤ (usable v).len) × ((usable v).len < size + 32)
   IsMoved-kept u holds =
       let m = moved_block in
       let same : step.block ≡ u = Holds-unique w addr step.block u step.holds holds in
@@ -258,7 +276,8 @@ module _ (u : Used) (s t : State) (i : IsIn u s.used) where
   others_stay : (addr : ℕ) (v : Used) → Holds s addr v → (addr ≡ u.payload → ⊥) → IsIn u (others v.payload s.used)
   others_stay addr v holds apart = IsIn-others_from v.payload u s.used i (λ at. apart (sym holds.1 ∙ sym at))
 
-  pub reallocate_stays : (sllen addr size : ℕ) (v : Used) → Holds s addr v → (addr ≡ u.payload → ⊥) → (o : Option Plan) (reply : Option ℕ) → ReallocatesBy sllen s v size o reply t → IsIn u t.used
+  pub reallocate_stays : (sllen addr size : ℕ) (v : Used) → Holds s addr v → (addr ≡ u.payload → ⊥) → (o : Option Plan) (reply : Option ℕ)
+      → ReallocatesBy sllen s v size o reply t → IsIn u t.used
   reallocate_stays sllen addr size v holds apart (Some p) None step = absurd step
   reallocate_stays sllen addr size v holds apart (Some p) (Some to) step = stays_at step.after (inr (others_stay addr v holds apart))
   reallocate_stays sllen addr size v holds apart None None step = stays_at step.1 i
@@ -272,7 +291,8 @@ other_payloads_stay fllen sllen s t (insert r reply) u step i apart = subst (IsI
 other_payloads_stay fllen sllen s t (append r reply) u step i apart = subst (IsIn u) (sym (used-appended fllen s t r reply step)) i
 other_payloads_stay fllen sllen s t (allocate size align reply) u step i apart = allocate_stays u s t i sllen size align reply step
 other_payloads_stay fllen sllen s t (deallocate addr) u step i apart = stays_at u s t i step.after (others_stay u s t i addr step.block step.holds apart)
-other_payloads_stay fllen sllen s t (reallocate addr size reply) u step i apart = reallocate_stays u s t i sllen addr size step.block step.holds apart (plan s step.block size) reply step.step
+other_payloads_stay fllen sllen s t (reallocate addr size reply) u step i apart =
+    reallocate_stays u s t i sllen addr size step.block step.holds apart (plan s step.block size) reply step.step
 other_payloads_stay fllen sllen s t (fill addr bytes) u step i apart = stays_at u s t i step.after (IsIn-filled_other addr bytes u s.used i (λ at. apart (sym at)))
 other_payloads_stay fllen sllen s t (remove r) u step i apart = stays_at u s t i step i
 other_payloads_stay fllen sllen s t (trim count) u step i apart = absurd step
@@ -295,17 +315,21 @@ module _ (u : Used) (s t : State) (i : IsIn u t.used) where
 
   allocate_from : (sllen size align : ℕ) (reply : Option ℕ) → (reply ≡ Some u.payload → ⊥) → Allocates sllen s size align reply t → IsIn u s.used
   allocate_from sllen size align None new step = subst (λ x. IsIn u x.used) step.1 i
-  allocate_from sllen size align (Some addr) new step = from_rest (placed step.range size align step.bytes) s.used (ap (λ x. x.used) step.after) (λ at. new (ap Some (step.answer ∙ at)))
+  allocate_from sllen size align (Some addr) new step =
+      from_rest (placed step.range size align step.bytes) s.used (ap (λ x. x.used) step.after) (λ at. new (ap Some (step.answer ∙ at)))
 
 module _ (u : Used) (s t : State) (i : IsIn u t.used) where
-  pub reallocate_from : (sllen size : ℕ) (v : Used) (o : Option Plan) (reply : Option ℕ) → (reply ≡ Some u.payload → ⊥) → ReallocatesBy sllen s v size o reply t → IsIn u s.used
+  pub reallocate_from : (sllen size : ℕ) (v : Used) (o : Option Plan) (reply : Option ℕ) → (reply ≡ Some u.payload → ⊥) → ReallocatesBy sllen s v size o reply t
+      → IsIn u s.used
   reallocate_from sllen size v (Some p) None new step = absurd step
   reallocate_from sllen size v (Some p) (Some to) new step =
-      (IsIn-others v.payload u s.used (from_rest u s t i (moved v p step.bytes) (others v.payload s.used) (ap (λ x. x.used) step.after) (λ at. new (ap Some (step.answer ∙ at))))).0
+      (IsIn-others v.payload u s.used
+      (from_rest u s t i (moved v p step.bytes) (others v.payload s.used) (ap (λ x. x.used) step.after) (λ at. new (ap Some (step.answer ∙ at))))).0
   reallocate_from sllen size v None None new step = subst (λ x. IsIn u x.used) step.1 i
   reallocate_from sllen size v None (Some to) new step =
       let gone = step.released in
-      allocate_from u s step.meanwhile (IsIn-others gone.block.payload u step.meanwhile.used (subst (λ x. IsIn u x.used) gone.after i)).0 sllen size v.align (Some to) new step.allocated
+      allocate_from u s step.meanwhile (IsIn-others gone.block.payload u step.meanwhile.used (subst (λ x. IsIn u x.used) gone.after i)).0 sllen size v.align (Some to) new
+      step.allocated
 
 pub used_was_used : UsedWasUsed
 used_was_used fllen sllen s t (insert r reply) u step i other new = subst (IsIn u) (used-inserted fllen s t r reply step) i

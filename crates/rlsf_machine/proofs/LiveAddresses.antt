@@ -1,5 +1,5 @@
--- What a loop over a list of live addresses needs: it may be empty, it gets longer by an allocation and shorter by a deallocation, and
--- each of its addresses is live and is no other's.
+-- What a loop over a list of live addresses needs. It may be empty, an allocation makes it longer and a deallocation shorter. Each of
+-- its addresses is live and occurs once.
 use Rattle.std.proofs.Common.{◌≡◌, ◌≢◌, ℕ, suc, zero, ◌<◌, List, [], ◌∷◌, ◌++◌, Some, None, length, get_or, drop, refl, sym, ◌∙◌, ap, arith}
 use Rattle.std.proofs.lemmas.Option.{none-some}
 use Rattle.std.specs.List.{AllByRecursion}
@@ -25,14 +25,16 @@ live_last s align [] a live = live.0
 live_last s align (x ∷ xs) a live = live_last s align xs a live.2
 
 -- each is live, by its index
-pub live_at : (s : State) (align : ℕ) (all : List NonZeroUsize) (k : ℕ) (a : NonZeroUsize) → AreLive s align all → k < length all → a ≡ get_or all k a → align_at s (at a) ≡ Some align
+pub live_at : (s : State) (align : ℕ) (all : List NonZeroUsize) (k : ℕ) (a : NonZeroUsize) → AreLive s align all → k < length all → a ≡ get_or all k a
+    → align_at s (at a) ≡ Some align
 unfolding AreLive
 live_at s align [] k a live below is = absurd (omega arith)
 live_at s align (x ∷ xs) zero a live below is = ap (λ b. align_at s (at b)) is ∙ live.0
 live_at s align (x ∷ xs) (suc k) a live below is = live_at s align xs k a live.2 (omega arith) is
 
 -- an address that is none of them isn't one of them by any index
-other_at : (x : NonZeroUsize) (xs : List NonZeroUsize) (k : ℕ) (a : NonZeroUsize) → AllByRecursion (λ b. at b ≢ at x) xs → k < length xs → a ≡ get_or xs k a → at a ≢ at x
+other_at : (x : NonZeroUsize) (xs : List NonZeroUsize) (k : ℕ) (a : NonZeroUsize) → AllByRecursion (λ b. at b ≢ at x) xs → k < length xs → a ≡ get_or xs k a
+    → at a ≢ at x
 other_at x [] k a others below is = absurd (omega arith)
 other_at x (y ∷ ys) zero a (off, offs) below is = λ e. off (ap at (sym is) ∙ e)
 other_at x (y ∷ ys) (suc k) a (off, offs) below is = other_at x ys k a offs (omega arith) is
@@ -45,21 +47,25 @@ live_apart s align [] j k a b live low high other is_a is_b = absurd (omega arit
 live_apart s align (x ∷ xs) zero zero a b live low high other is_a is_b = absurd (other refl)
 live_apart s align (x ∷ xs) zero (suc k) a b live low high other is_a is_b = λ e. other_at x xs k b live.1 (omega arith) is_b (sym e ∙ ap at is_a)
 live_apart s align (x ∷ xs) (suc j) zero a b live low high other is_a is_b = λ e. other_at x xs j a live.1 (omega arith) is_a (e ∙ ap at is_b)
-live_apart s align (x ∷ xs) (suc j) (suc k) a b live low high other is_a is_b = live_apart s align xs j k a b live.2 (omega arith) (omega arith) (λ e. other (ap suc e)) is_a is_b
+live_apart s align (x ∷ xs) (suc j) (suc k) a b live low high other is_a is_b =
+    live_apart s align xs j k a b live.2 (omega arith) (omega arith) (λ e. other (ap suc e)) is_a is_b
 
 -- they stay live where the calls meanwhile left their alignments
-kept_where : (s t : State) (align : ℕ) (a : NonZeroUsize) (xs : List NonZeroUsize) → ((b : ℕ) → b ≢ at a → align_at t b ≡ align_at s b) → AllByRecursion (λ b. at b ≢ at a) xs → AreLive s align xs → AreLive t align xs
+kept_where : (s t : State) (align : ℕ) (a : NonZeroUsize) (xs : List NonZeroUsize) → ((b : ℕ) → b ≢ at a → align_at t b ≡ align_at s b)
+    → AllByRecursion (λ b. at b ≢ at a) xs → AreLive s align xs → AreLive t align xs
 unfolding AreLive
 kept_where s t align a [] same others live = tt
 kept_where s t align a (x ∷ xs) same (off, offs) (here, apart, rest) = (same (at x) off ∙ here, apart, kept_where s t align a xs same offs rest)
 
--- the others stay live where the first is given back
-pub live_rest : (s t : State) (align : ℕ) (a : NonZeroUsize) (rest : List NonZeroUsize) → AreLive s align (a ∷ rest) → ((b : ℕ) → b ≢ at a → align_at t b ≡ align_at s b) → AreLive t align rest
+-- the others stay live where the first is deallocated
+pub live_rest : (s t : State) (align : ℕ) (a : NonZeroUsize) (rest : List NonZeroUsize) → AreLive s align (a ∷ rest)
+    → ((b : ℕ) → b ≢ at a → align_at t b ≡ align_at s b) → AreLive t align rest
 unfolding AreLive
 live_rest s t align a rest live same = kept_where s t align a rest same live.1 live.2
 
 -- the others are apart from the last
-front_apart : (s : State) (align : ℕ) (front : List NonZeroUsize) (a : NonZeroUsize) → AreLive s align (front ++ a ∷ []) → AllByRecursion (λ b. at b ≢ at a) front × AreLive s align front
+front_apart : (s : State) (align : ℕ) (front : List NonZeroUsize) (a : NonZeroUsize) → AreLive s align (front ++ a ∷ [])
+    → AllByRecursion (λ b. at b ≢ at a) front × AreLive s align front
 unfolding AreLive
 front_apart s align [] a live = (tt, tt)
 front_apart s align (x ∷ xs) a (here, apart, rest) =
@@ -71,8 +77,9 @@ front_apart s align (x ∷ xs) a (here, apart, rest) =
     split [] (off, none) = (tt, off)
     split (y ∷ ys) (off, offs) = let (left, last) = split ys offs in ((off, left), last)
 
--- the others stay live where the last is given back
-pub live_front : (s t : State) (align : ℕ) (front : List NonZeroUsize) (a : NonZeroUsize) → AreLive s align (front ++ a ∷ []) → ((b : ℕ) → b ≢ at a → align_at t b ≡ align_at s b) → AreLive t align front
+-- the others stay live where the last is deallocated
+pub live_front : (s t : State) (align : ℕ) (front : List NonZeroUsize) (a : NonZeroUsize) → AreLive s align (front ++ a ∷ [])
+    → ((b : ℕ) → b ≢ at a → align_at t b ≡ align_at s b) → AreLive t align front
 live_front s t align front a live same =
     let (others, stay) = front_apart s align front a live in
     kept_where s t align a front same others stay
@@ -107,13 +114,15 @@ payloads_len s [] = refl
 payloads_len s (a ∷ rest) = omega (arith, payloads_len s rest)
 
 -- those at other addresses stay
-payloads_kept : (s t : State) (a : NonZeroUsize) (xs : List NonZeroUsize) → ((b : ℕ) → b ≢ at a → bytes_at t b ≡ bytes_at s b) → AllByRecursion (λ b. at b ≢ at a) xs → payloads_at t xs ≡ payloads_at s xs
+payloads_kept : (s t : State) (a : NonZeroUsize) (xs : List NonZeroUsize) → ((b : ℕ) → b ≢ at a → bytes_at t b ≡ bytes_at s b)
+    → AllByRecursion (λ b. at b ≢ at a) xs → payloads_at t xs ≡ payloads_at s xs
 unfolding payloads_at
 payloads_kept s t a [] same others = refl
 payloads_kept s t a (x ∷ xs) same (off, offs) = λ i. same (at x) off i ∷ payloads_kept s t a xs same offs i
 
 -- the oldest is freed
-pub payloads_rest : (s t : State) (align : ℕ) (a : NonZeroUsize) (rest : List NonZeroUsize) → AreLive s align (a ∷ rest) → ((b : ℕ) → b ≢ at a → bytes_at t b ≡ bytes_at s b)
+pub payloads_rest : (s t : State) (align : ℕ) (a : NonZeroUsize) (rest : List NonZeroUsize) → AreLive s align (a ∷ rest)
+    → ((b : ℕ) → b ≢ at a → bytes_at t b ≡ bytes_at s b)
     → payloads_at t rest ≡ drop 1 (payloads_at s (a ∷ rest))
 unfolding payloads_at AreLive
 payloads_rest s t align a rest live same = payloads_kept s t a rest same live.1

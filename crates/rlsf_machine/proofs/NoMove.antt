@@ -27,14 +27,18 @@ module _ (s : State) (u : Used) (size : ℕ) where
   payload-unmoved p is = go (in_place s u size) (into_next s u size) first second is
     where
       first : (q : Plan) → in_place s u size ≡ Some q → q.payload ≡ u.payload
-      first q = tested (leb (end_of (resized u size)) (end_of u.block)) (record { block = resized u size; payload = u.payload; free = tail_joined (resized u size) (end_of u.block) s.free }) q refl
+      first q =
+          tested (leb (end_of (resized u size)) (end_of u.block))
+          (record { block = resized u size; payload = u.payload; free = tail_joined (resized u size) (end_of u.block) s.free }) q refl
 
       second : (q : Plan) → into_next s u size ≡ Some q → q.payload ≡ u.payload
       second q =
           let end = end_or (end_of u.block) (find (starts_at (end_of u.block)) s.free) in
-          tested (leb (end_of (resized u size)) end) (record { block = resized u size; payload = u.payload; free = rest_behind (resized u size) end ++ without (starts_at (end_of u.block)) s.free }) q refl
+          tested (leb (end_of (resized u size)) end)
+          (record { block = resized u size; payload = u.payload; free = rest_behind (resized u size) end ++ without (starts_at (end_of u.block)) s.free }) q refl
 
-      go : (o r : Option Plan) → ((q : Plan) → o ≡ Some q → q.payload ≡ u.payload) → ((q : Plan) → r ≡ Some q → q.payload ≡ u.payload) → or_else o r ≡ Some p → p.payload ≡ u.payload
+      go : (o r : Option Plan) → ((q : Plan) → o ≡ Some q → q.payload ≡ u.payload) → ((q : Plan) → r ≡ Some q → q.payload ≡ u.payload)
+          → or_else o r ≡ Some p → p.payload ≡ u.payload
       go None r one two e = two p e
       go (Some q) r one two e = one p e
 

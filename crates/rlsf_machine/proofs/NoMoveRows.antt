@@ -9,9 +9,10 @@ use Rattle.rlsf_machine.specs.Reallocate.{Plan, replanned}
 use Rattle.rlsf_machine.specs.Run.{Event, insert, allocate, deallocate, Runs}
 use Rattle.rlsf_machine.specs.State.{State, Used, empty}
 use Rattle.rlsf_machine.proofs.Coverage.{find-some}
-use Rattle.rlsf_machine.proofs.Examples.{Block, block, seen, at, refilled, length-refilled, Keeps-refilled, Call, insert_range, allocate_layout, deallocate_at, all_after, all_events, may_call_all, Runs-all}
+use Rattle.rlsf_machine.proofs.Examples.{Block, block, seen, at, refilled, length-refilled, Keeps-refilled, Call, insert_range, allocate_layout, deallocate_at, all_after}
+use Rattle.rlsf_machine.proofs.Examples.{all_events, may_call_all, Runs-all}
 
--- the payload at an address is to have a size where it stands
+-- the payload at an address is to have a size in place
 pub record Resize : Type 0 where
   pub addr : ℕ
   pub size : ℕ
@@ -36,7 +37,7 @@ abbrev pub ResizesAll : State → List Resized → Type 0
 ResizesAll s [] = Unit {0}
 ResizesAll s (r ∷ rs) = (t : State) × ReallocatesWithoutMove s r.resize.addr r.resize.size r.reply t × (seen t.used ≡ r.used) × (t.free ≡ r.free) × ResizesAll t rs
 
--- these calls with these replies lead from the empty machine to a state from which the resizes have their replies, and leave their
+-- These calls with these replies lead from the empty state to a state. From there the resizes have their replies, and leave their
 -- blocks and ranges
 record GivesUnmoved (fllen sllen : ℕ) (memory : Range) (events : List Event) (resizes : List Resized) : Type 0 where
   before : State
@@ -77,9 +78,17 @@ may_resize_all s (r ∷ rs) = is_some (find (at r.addr) s.used) && may_resize_al
 
 planned_step : (s : State) (u : Used) (o : Option Plan) → ReallocatesUnmovedBy s u o (planned_reply o) (planned_after s u o)
 planned_step s u None = refl
-planned_step s u (Some p) = record { bytes = refilled (end_of p.block - p.payload) u.bytes; answer = refl; length = length-refilled (end_of p.block - p.payload) u.bytes; kept = Keeps-refilled (end_of p.block - p.payload) u.bytes; after = refl }
+planned_step s u (Some p) =
+    record {
+      bytes = refilled (end_of p.block - p.payload) u.bytes;
+      answer = refl;
+      length = length-refilled (end_of p.block - p.payload) u.bytes;
+      kept = Keeps-refilled (end_of p.block - p.payload) u.bytes;
+      after = refl;
+    }
 
-resize_step : (s : State) (addr size : ℕ) (o : Option Used) → find (at addr) s.used ≡ o → is_some o ≡ true → ReallocatesWithoutMove s addr size (resize_reply s size o) (resize_after s size o)
+resize_step : (s : State) (addr size : ℕ) (o : Option Used) → find (at addr) s.used ≡ o → is_some o ≡ true
+    → ReallocatesWithoutMove s addr size (resize_reply s size o) (resize_after s size o)
 resize_step s addr size None e some = absurd (true≢false (sym some))
 resize_step s addr size (Some u) e some =
     let is = find-some (at addr) u s.used e in
@@ -95,7 +104,11 @@ gives_unmoved : (fllen sllen : ℕ) (memory : Range) (calls : List Call) (rs : L
     → may_resize_all (all_after fllen sllen empty calls) rs ≡ true
     → GivesUnmoved fllen sllen memory (all_events fllen sllen empty calls) (all_resized (all_after fllen sllen empty calls) rs)
 gives_unmoved fllen sllen memory calls rs may may_resize =
-    record { before = all_after fllen sllen empty calls; run = Runs-all fllen sllen memory empty calls may; resizes_so = ResizesAll-all (all_after fllen sllen empty calls) rs may_resize }
+    record {
+      before = all_after fllen sllen empty calls;
+      run = Runs-all fllen sllen memory empty calls may;
+      resizes_so = ResizesAll-all (all_after fllen sllen empty calls) rs may_resize;
+    }
 
 -- ---- rows
 
@@ -115,5 +128,7 @@ takes_the_next_range_alone = gives_unmoved 8 8 (range_at 4096 4096) (insert_rang
 leaves_the_previous_range : GivesUnmoved 8 8 (range_at 4096 4096)
     (insert (range_at 4096 256) (Some 256) ∷ allocate 0 1 (Some 4112) ∷ allocate 40 1 (Some 4144) ∷ allocate 100 1 (Some 4208) ∷ deallocate 4112 ∷ [])
     (resized (resize 4144 70) None (block 4192 128 4208 ∷ block 4128 64 4144 ∷ []) (range_at 4096 32 ∷ []) ∷ [])
-leaves_the_previous_range = gives_unmoved 8 8 (range_at 4096 4096) (insert_range (range_at 4096 256) ∷ allocate_layout 0 1 ∷ allocate_layout 40 1 ∷ allocate_layout 100 1 ∷ deallocate_at 4112 ∷ [])
+leaves_the_previous_range =
+    gives_unmoved 8 8 (range_at 4096 4096)
+    (insert_range (range_at 4096 256) ∷ allocate_layout 0 1 ∷ allocate_layout 40 1 ∷ allocate_layout 100 1 ∷ deallocate_at 4112 ∷ [])
     (resize 4144 70 ∷ []) refl refl

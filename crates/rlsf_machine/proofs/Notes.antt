@@ -4,7 +4,8 @@ use Rattle.rlsf_machine.specs.Note.{Note, alloc, grow, dealloc, LeadsBy, IsSameQ
 use Rattle.rlsf_machine.specs.Terms.{Terms}
 
 -- where some notes lead, more notes go on from
-pub LeadsBy-append : {S : Type 0} (leads : S → Note → S → Type 0) (x y z : S) (ms ns : List Note) → LeadsBy leads x ms y → LeadsBy leads y ns z → LeadsBy leads x (ms ++ ns) z
+pub LeadsBy-append : {S : Type 0} (leads : S → Note → S → Type 0) (x y z : S) (ms ns : List Note) → LeadsBy leads x ms y → LeadsBy leads y ns z
+    → LeadsBy leads x (ms ++ ns) z
 LeadsBy-append leads x y z [] ns first second = subst (λ v. LeadsBy leads v ns z) first second
 LeadsBy-append leads x y z (m ∷ ms) ns (v, step, rest) second = (v, step, LeadsBy-append leads v y z ms ns rest second)
 
@@ -21,17 +22,20 @@ IsSameQuestion-refl (grow r n answer) = (refl, refl)
 IsSameQuestion-refl (dealloc r) = refl
 
 -- a source whose answer and whose value after a question are determined by its value before answers the same questions the same
-pub AnswersAgree-led : {S : Type 0} (leads : S → Note → S → Type 0) → ((x y z : S) (m n : Note) → IsSameQuestion m n → leads x m y → leads x n z → (m ≡ n) × (y ≡ z))
+pub AnswersAgree-led : {S : Type 0} (leads : S → Note → S → Type 0)
+    → ((x y z : S) (m n : Note) → IsSameQuestion m n → leads x m y → leads x n z → (m ≡ n) × (y ≡ z))
     → (x y z : S) (ms ns : List Note) → LeadsBy leads x ms y → LeadsBy leads x ns z → AnswersAgree ms ns
 AnswersAgree-led leads steady x y z [] ns first second = tt
 AnswersAgree-led leads steady x y z (m ∷ ms) [] first second = tt
 AnswersAgree-led leads steady x y z (m ∷ ms) (n ∷ ns) (v, a, rest) (v', b, rest') = (
   λ same. (steady x v v' m n same a b).0,
-  λ is. AnswersAgree-led leads steady v y z ms ns rest (subst (λ q. LeadsBy leads q ns z) (sym (steady x v v' m n (subst (IsSameQuestion m) is (IsSameQuestion-refl m)) a b).1) rest'),
+  λ is. AnswersAgree-led leads steady v y z ms ns rest
+      (subst (λ q. LeadsBy leads q ns z) (sym (steady x v v' m n (subst (IsSameQuestion m) is (IsSameQuestion-refl m)) a b).1) rest'),
 )
 
 -- the same notes lead such a source to the same value
-pub led-determined : {S : Type 0} (leads : S → Note → S → Type 0) → ((x y z : S) (m n : Note) → IsSameQuestion m n → leads x m y → leads x n z → (m ≡ n) × (y ≡ z))
+pub led-determined : {S : Type 0} (leads : S → Note → S → Type 0)
+    → ((x y z : S) (m n : Note) → IsSameQuestion m n → leads x m y → leads x n z → (m ≡ n) × (y ≡ z))
     → (x y z : S) (ns : List Note) → LeadsBy leads x ns y → LeadsBy leads x ns z → y ≡ z
 led-determined leads steady x y z [] first second = first ∙ sym second
 led-determined leads steady x y z (n ∷ ns) (v, a, rest) (v', b, rest') =

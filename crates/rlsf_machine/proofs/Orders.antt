@@ -1,5 +1,6 @@
 -- The order of chunks and of used blocks means nothing.
-use Rattle.std.proofs.Common.{◌≡◌, ◌↔◌, ℕ, zero, suc, ◌+◌, ◌-◌, ◌*◌, ◌/◌, Bool, true, false, cond, not, eqb, filter, map, List, [], ◌∷◌, Option, Some, None, find, true≢false, arith, refl, sym, ◌∙◌, ap, subst, inl, inr}
+use Rattle.std.proofs.Common.{◌≡◌, ◌↔◌, ℕ, zero, suc, ◌+◌, ◌-◌, ◌*◌, ◌/◌, Bool, true, false, cond, not, eqb, filter, map, List, [], ◌∷◌, Option}
+use Rattle.std.proofs.Common.{Some, None, find, true≢false, arith, refl, sym, ◌∙◌, ap, subst, inl, inr}
 use Rattle.std.proofs.lemmas.Bool.{eqb-true}
 use Rattle.rlsf_base.specs.declared.memory.range.Range.{Range}
 use Rattle.rlsf_base.specs.Range.{end_of, range_at}
@@ -17,7 +18,8 @@ use Rattle.rlsf_machine.specs.State.{State, Used, IsReordered, others, filled_if
 use Rattle.rlsf_machine.specs.WellFormed.{covers, itself, IsWellFormed}
 use Rattle.rlsf_machine.proofs.Allocations.{Allocates-keeps}
 use Rattle.rlsf_machine.proofs.Chunks.{used-inserted, used-appended}
-use Rattle.rlsf_machine.proofs.Coverage.{by_test, covers-inside, coverage-IsIn, coverage-unique, coverage-without, find-some, find-none, IsIn-filter, IsIn-filter_from, IsIn-map, IsIn-map_from, IsIn-without, IsIn-without_other}
+use Rattle.rlsf_machine.proofs.Coverage.{by_test, covers-inside, coverage-IsIn, coverage-unique, coverage-without, find-some, find-none, IsIn-filter, IsIn-filter_from, IsIn-map}
+use Rattle.rlsf_machine.proofs.Coverage.{IsIn-map_from, IsIn-without, IsIn-without_other}
 
 -- ---- lists with the same elements
 
@@ -48,7 +50,8 @@ find-from_none p [] fails = refl
 find-from_none p (x ∷ xs) fails = ap (λ b. cond b (Some x) (find p xs)) (fails x (inl refl)) ∙ find-from_none p xs (λ y i. fails y (inr i))
 
 -- where one element at most passes a test, what is found doesn't depend on the order
-find-same : {A : Type 0} (p : A → Bool) (xs ys : List A) → HasSame xs ys → ((x y : A) → IsIn x xs → IsIn y xs → p x ≡ true → p y ≡ true → x ≡ y) → find p xs ≡ find p ys
+find-same : {A : Type 0} (p : A → Bool) (xs ys : List A) → HasSame xs ys → ((x y : A) → IsIn x xs → IsIn y xs → p x ≡ true → p y ≡ true → x ≡ y)
+    → find p xs ≡ find p ys
 find-same {A} p xs ys same one = go (find p xs) (find p ys) refl refl
   where
     go : (o q : Option A) → find p xs ≡ o → find p ys ≡ q → find p xs ≡ find p ys
@@ -69,7 +72,8 @@ module _ {fllen sllen : ℕ} {memory : Range} {s : State} (w : IsWellFormed flle
       let room' = (w.chunks d j).has_room in
       let c_end = eqb-true (end_of c) at e in
       let d_end = eqb-true (end_of d) at f in
-      coverage-unique itself c d s.chunks (at - 1) (w.disjoint (at - 1)) i j (covers-inside c (at - 1) (omega arith) (omega arith)) (covers-inside d (at - 1) (omega arith) (omega arith))
+      coverage-unique itself c d s.chunks (at - 1) (w.disjoint (at - 1)) i j (covers-inside c (at - 1) (omega arith) (omega arith))
+      (covers-inside d (at - 1) (omega arith) (omega arith))
 
   -- once it is taken out, none does
   none_ends : (x : Range) → IsIn x (without (ends_at at) s.chunks) → IsIn x s.chunks × (ends_at at x ≡ false)
@@ -125,7 +129,7 @@ module _ {fllen sllen : ℕ} {memory : Range} {s s' : State} (w : IsWellFormed f
   HasSameRanges-at : {t t' u u' : State} → t ≡ u → t' ≡ u' → HasSameRanges u u' → HasSameRanges t t'
   HasSameRanges-at {t} {t'} {u} e e' q = subst (λ x. HasSameRanges x t') (sym e) (subst (HasSameRanges u) (sym e') q)
 
-  -- from states with the same ranges, memory that is handed in leads to such states
+  -- from states with the same ranges, inserted memory leads to such states
   pub HasSameRanges-inserted : (q : Range) (m n : Option ℕ) (t t' : State) → Inserts fllen s q m t → Inserts fllen s' q n t' → HasSameRanges t t'
   HasSameRanges-inserted q m n t t' a b = HasSameRanges-at a.after b.after (with_chunks-same (cut (max_pool_size fllen) (aligned_part q)) s s' r)
 
@@ -161,8 +165,20 @@ module _ {fllen sllen : ℕ} {memory : Range} {s s' : State} (w : IsWellFormed f
       let f = step.range in
       let u = placed f size align step.bytes in (
         given sllen s' f u,
-        record { range = f; bytes = step.bytes; chosen = subst (λ l. choice sllen (request_size size align) l ≡ Some f) r.free step.chosen; answer = step.answer; length = step.length; after = refl },
-        at_first step.after (given sllen s' f u) (record { chunks = r.chunks; used = HasSame-cons u s.used s'.used r.used; free = ap (λ l. (given sllen (record { chunks = s.chunks; used = s.used; free = l }) f u).free) r.free }),
+        record {
+          range = f;
+          bytes = step.bytes;
+          chosen = subst (λ l. choice sllen (request_size size align) l ≡ Some f) r.free step.chosen;
+          answer = step.answer;
+          length = step.length;
+          after = refl;
+        },
+        at_first step.after (given sllen s' f u)
+            (record {
+              chunks = r.chunks;
+              used = HasSame-cons u s.used s'.used r.used;
+              free = ap (λ l. (given sllen (record { chunks = s.chunks; used = s.used; free = l }) f u).free) r.free;
+            }),
       )
 
   deallocate-reordered : (addr : ℕ) (t : State) → Deallocates s addr t → Also (Deallocates s' addr) t
@@ -181,19 +197,27 @@ module _ {fllen sllen : ℕ} {memory : Range} {s s' : State} (w : IsWellFormed f
   )
 
 module _ {fllen sllen : ℕ} {memory : Range} {s s' : State} (w : IsWellFormed fllen sllen memory s) (w' : IsWellFormed fllen sllen memory s') (r : IsReordered s s') where
-  reallocate-reordered : (u : Used) → IsIn u s.used → (size : ℕ) (o : Option Plan) (n : Option ℕ) (t : State) → ReallocatesBy sllen s u size o n t → (t' : State) × ReallocatesBy sllen s' u size o n t' × IsReordered t t'
+  reallocate-reordered : (u : Used) → IsIn u s.used → (size : ℕ) (o : Option Plan) (n : Option ℕ) (t : State) → ReallocatesBy sllen s u size o n t
+      → (t' : State) × ReallocatesBy sllen s' u size o n t' × IsReordered t t'
   reallocate-reordered u h size (Some p) None t step = absurd step
   reallocate-reordered u h size (Some p) (Some addr) t step =
       let v = moved u p step.bytes in (
         replanned s' u p step.bytes,
         record { bytes = step.bytes; answer = step.answer; length = step.length; kept = step.kept; after = refl },
-        at_first w w' r step.after (replanned s' u p step.bytes) (record { chunks = r.chunks; used = HasSame-cons v (others u.payload s.used) (others u.payload s'.used) (HasSame-others u.payload s.used s'.used r.used); free = refl }),
+        at_first w w' r step.after (replanned s' u p step.bytes)
+            (record {
+              chunks = r.chunks;
+              used = HasSame-cons v (others u.payload s.used) (others u.payload s'.used) (HasSame-others u.payload s.used s'.used r.used);
+              free = refl;
+            }),
       )
   reallocate-reordered u h size None None t step = allocate-reordered w w' r size u.align None t step
   reallocate-reordered u h size None (Some addr) t step =
       let power = (w.used u h).power in
       let (m, a, q) = allocate-reordered w w' r size u.align (Some addr) step.meanwhile step.allocated in
-      let (t', d, q') = deallocate-reordered (Allocates-keeps w size u.align (Some addr) step.meanwhile power step.allocated) (Allocates-keeps w' size u.align (Some addr) m power a) q u.payload t step.released in
+      let (t', d, q') =
+      deallocate-reordered (Allocates-keeps w size u.align (Some addr) step.meanwhile power step.allocated) (Allocates-keeps w' size u.align (Some addr) m power a) q u.payload
+      t step.released in
       (t', record { meanwhile = m; allocated = a; block = step.block; holds = ((q.used step.block).0 step.holds.0, step.holds.1); kept = step.kept; released = d }, q')
 
 pub order_means_nothing : OrderMeansNothing

@@ -1,5 +1,6 @@
 -- The ranges that are outstanding are those that the source's answers leave outstanding.
-use Rattle.std.proofs.Common.{◌≡◌, ℕ, ◌+◌, true, false, Bool, cond, map, List, [], ◌∷◌, ◌++◌, Option, Some, None, true≢false, refl, sym, ◌∙◌, ap, subst, inl, inr}
+use Rattle.std.proofs.Common.{◌≡◌, ℕ, ◌+◌, true, false, Bool, cond, map, List, [], ◌∷◌, ◌++◌, Option, Some, None, true≢false, refl, sym, ◌∙◌, ap}
+use Rattle.std.proofs.Common.{subst, inl, inr}
 use Rattle.std.proofs.lemmas.Option.{none-some, same_Some}
 use Rattle.std.specs.Option.{is_some}
 use Rattle.rlsf_base.specs.declared.memory.range.Range.{Range}
@@ -23,7 +24,7 @@ OwesAfterAll-append : (xs ys zs : List Range) (ms ns : List Note) → OwesAfterA
 OwesAfterAll-append xs ys zs [] ns first second = subst (λ l. OwesAfterAll l ns zs) first second
 OwesAfterAll-append xs ys zs (m ∷ ms) ns (mid, now, rest) second = (mid, now, OwesAfterAll-append mid ys zs ms ns rest second)
 
--- ranges that go back, the newest first, are outstanding no more
+-- ranges that are returned, the newest first, are outstanding no more
 owed-gone : (gone left : List Range) → OwesAfterAll (gone ++ left) (map dealloc gone) left
 owed-gone [] left = refl
 owed-gone (r ∷ gone) left = (gone ++ left, ([], gone ++ left, refl, refl), owed-gone gone left)
@@ -40,7 +41,8 @@ owed-at_end t pools = go t.dealloc
     go false = refl
 
 -- what was refused leaves them
-owed-growth_refused : (growth : Option (Range × ℕ)) (owed now : List Range) (ns : List Note) → OwesAfterAll owed ns now → OwesAfterAll owed (growth_note growth None ++ ns) now
+owed-growth_refused : (growth : Option (Range × ℕ)) (owed now : List Range) (ns : List Note) → OwesAfterAll owed ns now
+    → OwesAfterAll owed (growth_note growth None ++ ns) now
 owed-growth_refused None owed now ns rest = rest
 owed-growth_refused (Some (r, n)) owed now ns rest = (owed, refl, rest)
 
@@ -65,7 +67,8 @@ growth_of_kept t k (Some e) r n is = by_length (if_fits (k.len + e)) is
     by_length None same = absurd (none-some (r, n) same)
     by_length (Some m) same = by_terms t.grow m same
 
-owed-growth : (k : KeptPool) (growth : Option (Range × ℕ)) (rest now : List Range) (len : ℕ) → is_some growth ≡ true → ((r : Range) (n : ℕ) → growth ≡ Some (r, n) → r ≡ k.range) → now ≡ with_len k.range len ∷ rest
+owed-growth : (k : KeptPool) (growth : Option (Range × ℕ)) (rest now : List Range) (len : ℕ) → is_some growth ≡ true
+    → ((r : Range) (n : ℕ) → growth ≡ Some (r, n) → r ≡ k.range) → now ≡ with_len k.range len ∷ rest
     → OwesAfterAll (k.range ∷ rest) (growth_note growth (Some len)) now
 owed-growth k None rest now len some of_kept is = absurd (true≢false (sym some))
 owed-growth k (Some (r, n)) rest now len some of_kept is =
@@ -78,7 +81,8 @@ module _ {fllen sllen : ℕ} {memory : Range} {t : Terms} {s : FlexState} (w : I
   owed-extended wanted refused notes u step =
       let q = questions t s.kept wanted in
       subst (λ ns. OwesAfterAll s.pools ns u.pools) (sym step.asked)
-      (subst (OwesAfterAll s.pools (notes_of q refused)) (sym (ap (λ (x : FlexState). x.pools) step.after)) (owed-growth_refused q.growth s.pools s.pools (range_note q.range None) (owed-range_refused q.range s.pools)))
+      (subst (OwesAfterAll s.pools (notes_of q refused)) (sym (ap (λ (x : FlexState). x.pools) step.after))
+      (owed-growth_refused q.growth s.pools s.pools (range_note q.range None) (owed-range_refused q.range s.pools)))
   owed-extended wanted (range_came r) notes u step =
       let q = questions t s.kept wanted in
       let (len, inserted, pools, kept) = step.after in
@@ -88,7 +92,8 @@ module _ {fllen sllen : ℕ} {memory : Range} {t : Terms} {s : FlexState} (w : I
       let q = questions t s.kept wanted in
       let (k, taken, was, appended, pools, kept) = step.after in
       let newest = subst (λ o. IsNewest t o s.pools s.machine.chunks) was w.newest in
-      let of_kept : (r : Range) (n : ℕ) → q.growth ≡ Some (r, n) → r ≡ k.range = λ r n is. growth_of_kept t k wanted r n (ap (λ o. (questions t o wanted).growth) (sym was) ∙ is) in
+      let of_kept : (r : Range) (n : ℕ) → q.growth ≡ Some (r, n) → r ≡ k.range =
+      λ r n is. growth_of_kept t k wanted r n (ap (λ o. (questions t o wanted).growth) (sym was) ∙ is) in
       subst (λ ns. OwesAfterAll s.pools ns u.pools) (sym step.asked)
       (subst (λ ps. OwesAfterAll ps (growth_note q.growth (Some len)) u.pools) (sym newest.split)
       (owed-growth k q.growth newest.rest u.pools len step.possible of_kept (pools ∙ ap (longer len) newest.split)))
@@ -97,13 +102,16 @@ module _ {fllen sllen : ℕ} {memory : Range} {t : Terms} {s : FlexState} (w : I
   owed-same : (notes : List Note) (u : FlexState) → notes ≡ [] → u.pools ≡ s.pools → OwesAfterAll s.pools notes u.pools
   owed-same notes u none same = subst (λ ns. OwesAfterAll s.pools ns u.pools) (sym none) same
 
-  owed-allocated : (size align : ℕ) (reply : Option ℕ) (notes : List Note) (u : FlexState) → FlexAllocates fllen sllen t s size align reply notes u → OwesAfterAll s.pools notes u.pools
+  owed-allocated : (size align : ℕ) (reply : Option ℕ) (notes : List Note) (u : FlexState) → FlexAllocates fllen sllen t s size align reply notes u
+      → OwesAfterAll s.pools notes u.pools
   owed-allocated size align None notes u asks = owed-extended (pool_size_to_contain_allocation fllen sllen size align) refused notes u asks.extends
   owed-allocated size align (Some addr) notes u (inl room) = owed-same notes u room.none (ap (λ (x : FlexState). x.pools) room.after)
   owed-allocated size align (Some addr) notes u (inr more) =
-      subst (OwesAfterAll s.pools notes) (sym (ap (λ (x : FlexState). x.pools) more.after)) (owed-extended (pool_size_to_contain_allocation fllen sllen size align) more.outcome notes more.meanwhile more.asks.extends)
+      subst (OwesAfterAll s.pools notes) (sym (ap (λ (x : FlexState). x.pools) more.after))
+      (owed-extended (pool_size_to_contain_allocation fllen sllen size align) more.outcome notes more.meanwhile more.asks.extends)
 
-  owed-reallocated : (addr size : ℕ) (reply : Option ℕ) (notes : List Note) (u : FlexState) → FlexReallocates fllen sllen t s addr size reply notes u → OwesAfterAll s.pools notes u.pools
+  owed-reallocated : (addr size : ℕ) (reply : Option ℕ) (notes : List Note) (u : FlexState) → FlexReallocates fllen sllen t s addr size reply notes u
+      → OwesAfterAll s.pools notes u.pools
   owed-reallocated addr size None notes u refuses = owed-extended (pool_size_to_contain_allocation fllen sllen size refuses.block.align) refused notes u refuses.asks.extends
   owed-reallocated addr size (Some to) notes u (inl room) = owed-same notes u room.none (ap (λ (x : FlexState). x.pools) room.after)
   owed-reallocated addr size (Some to) notes u (inr more) =
@@ -114,7 +122,8 @@ module _ {fllen sllen : ℕ} {memory : Range} {t : Terms} {s : FlexState} (w : I
   owed-trimmed count notes u (inr (_, _, none, same)) = owed-same notes u none (ap (λ (x : FlexState). x.pools) same)
   owed-trimmed count notes u (inl (takes, g)) =
       subst (λ ps. OwesAfterAll ps notes u.pools) (sym g.split)
-      (subst (λ ns. OwesAfterAll (g.gone ++ g.left) ns u.pools) (sym g.noted) (subst (OwesAfterAll (g.gone ++ g.left) (map dealloc g.gone)) (sym g.pools) (owed-gone g.gone g.left)))
+      (subst (λ ns. OwesAfterAll (g.gone ++ g.left) ns u.pools) (sym g.noted)
+      (subst (OwesAfterAll (g.gone ++ g.left) (map dealloc g.gone)) (sym g.pools) (owed-gone g.gone g.left)))
 
   owed-stepped : (e : Event) (notes : List Note) (u : FlexState) → IsFlexStep fllen sllen memory t s e notes u → OwesAfterAll s.pools notes u.pools
   owed-stepped (insert r reply) notes u step = absurd step.leads

@@ -1,5 +1,6 @@
 -- A part of a state: some of its chunks, with the blocks in them.
-use Rattle.std.proofs.Common.{◌≡◌, ℕ, suc, ◌+◌, ◌<◌, ◌≤◌, ◌⊎◌, Bool, cond, filter, ltb, List, [], ◌∷◌, length, arith, refl, sym, ap, subst, inl, inr}
+use Rattle.std.proofs.Common.{◌≡◌, ℕ, suc, ◌+◌, ◌<◌, ◌≤◌, ◌⊎◌, Bool, cond, filter, ltb, List, [], ◌∷◌, length, arith, refl, sym, ap, subst, inl}
+use Rattle.std.proofs.Common.{inr}
 use Rattle.std.proofs.lemmas.Bool.{cases_lt, lt-ltb, le-ltb}
 use Rattle.std.proofs.lemmas.List.Sums.{sum_by-cons}
 use Rattle.rlsf_base.specs.declared.memory.range.Range.{Range}
@@ -32,24 +33,28 @@ IsIn-filter p x (y ∷ xs) i = by_test (p y)
 pub length-filter_le : {A : Type 0} (p : A → Bool) (xs : List A) → length (filter p xs) ≤ length xs
 length-filter_le p [] = omega arith
 length-filter_le p (y ∷ xs) = by_test (p y)
-    (λ e. let is : length (filter p (y ∷ xs)) ≡ suc (length (filter p xs)) = ap (λ b. length (cond b (y ∷ filter p xs) (filter p xs))) e in omega (arith, length-filter_le p xs))
+    (λ e. let is : length (filter p (y ∷ xs)) ≡ suc (length (filter p xs)) = ap (λ b. length (cond b (y ∷ filter p xs) (filter p xs))) e in
+    omega (arith, length-filter_le p xs))
     (λ e. let is : length (filter p (y ∷ xs)) ≡ length (filter p xs) = ap (λ b. length (cond b (y ∷ filter p xs) (filter p xs))) e in omega (arith, length-filter_le p xs))
 
 module _ {fllen sllen : ℕ} {memory : Range} {s : State} (w : IsWellFormed fllen sllen memory s) (cs : List Range) (are : (c : Range) → IsIn c cs → IsIn c s.chunks) where
   -- where one address of a block is in the chunks, each is
-  same_part : (r : Range) → LiesInChunk s r → (a b : ℕ) → r.start ≤ a → a < end_of r → r.start ≤ b → b < end_of r → 1 ≤ coverage itself cs a → 1 ≤ coverage itself cs b
+  same_part : (r : Range) → LiesInChunk s r → (a b : ℕ) → r.start ≤ a → a < end_of r → r.start ≤ b → b < end_of r → 1 ≤ coverage itself cs a
+      → 1 ≤ coverage itself cs b
   same_part r home a b a_low a_high b_low b_high some =
       let c = home.chunk in
       let from = home.from in
       let to = home.to in
       let (d, i, low, high) = coverage-some itself cs a some in
-      let same : c ≡ d = coverage-unique itself c d s.chunks a (w.disjoint a) home.is_chunk (are d i) (covers-inside c a (omega arith) (omega arith)) (covers-inside d a low high) in
+      let same : c ≡ d =
+      coverage-unique itself c d s.chunks a (w.disjoint a) home.is_chunk (are d i) (covers-inside c a (omega arith) (omega arith)) (covers-inside d a low high) in
       let has : covers d b ≡ 1 = subst (λ x. covers x b ≡ 1) same (covers-inside c b (omega arith) (omega arith)) in
       omega (arith, coverage-IsIn itself d cs b i)
 
   -- at an address in the chunks the part has all of the blocks, and elsewhere none
   coverage-part : {A : Type 0} (range : A → Range) (xs : List A) (a : ℕ) → ((x : A) → IsIn x xs → LiesInChunk s (range x))
-      → (1 ≤ coverage itself cs a → coverage range (filter (λ x. begins_in cs (range x)) xs) a ≡ coverage range xs a) × (coverage itself cs a ≡ 0 → coverage range (filter (λ x. begins_in cs (range x)) xs) a ≡ 0)
+      → (1 ≤ coverage itself cs a → coverage range (filter (λ x. begins_in cs (range x)) xs) a ≡ coverage range xs a)
+      × (coverage itself cs a ≡ 0 → coverage range (filter (λ x. begins_in cs (range x)) xs) a ≡ 0)
   coverage-part range [] a lies = (λ some. refl, λ none. refl)
   coverage-part {A = A} range (x ∷ xs) a lies =
       let p : A → Bool = λ y. begins_in cs (range y) in
@@ -57,7 +62,8 @@ module _ {fllen sllen : ℕ} {memory : Range} {s : State} (w : IsWellFormed flle
       let home = lies x (inl refl) in
       elim (cases_lt 0 (coverage itself cs (range x).start)) [
         | inl starts ↦
-            let is : coverage range (filter p (x ∷ xs)) a ≡ covers (range x) a + coverage range (filter p xs) a = ap (λ b. coverage range (cond b (x ∷ filter p xs) (filter p xs)) a) (lt-ltb 0 (coverage itself cs (range x).start) starts) in (
+            let is : coverage range (filter p (x ∷ xs)) a ≡ covers (range x) a + coverage range (filter p xs) a =
+            ap (λ b. coverage range (cond b (x ∷ filter p xs) (filter p xs)) a) (lt-ltb 0 (coverage itself cs (range x).start) starts) in (
               λ some. omega (arith, rest.0 some),
               λ none. elim (where_is (range x) a) [
                 | inside one low high ↦ absurd (omega (arith, same_part (range x) home (range x).start a (omega arith) (omega arith) low high starts))
@@ -66,7 +72,8 @@ module _ {fllen sllen : ℕ} {memory : Range} {s : State} (w : IsWellFormed flle
               ],
             )
         | inr not_there ↦
-            let is : coverage range (filter p (x ∷ xs)) a ≡ coverage range (filter p xs) a = ap (λ b. coverage range (cond b (x ∷ filter p xs) (filter p xs)) a) (le-ltb 0 (coverage itself cs (range x).start) not_there) in (
+            let is : coverage range (filter p (x ∷ xs)) a ≡ coverage range (filter p xs) a =
+            ap (λ b. coverage range (cond b (x ∷ filter p xs) (filter p xs)) a) (le-ltb 0 (coverage itself cs (range x).start) not_there) in (
               λ some. elim (where_is (range x) a) [
                 | inside one low high ↦ absurd (omega (arith, same_part (range x) home a (range x).start low high (omega arith) (omega arith) some))
                 | before miss low ↦ omega (arith, rest.0 some)
@@ -112,7 +119,17 @@ module _ {fllen sllen : ℕ} {memory : Range} {s : State} (w : IsWellFormed flle
       elim (cases_lt 0 (coverage itself cs a)) [
         | inl some ↦
             let (d, i, low, high) = coverage-some itself cs a some in
-            omega (arith, used.0 some, free.0 some, coverage-last disjoint a some, w.tiled a, w.disjoint a, disjoint a, coverage-IsIn itself d s.chunks a (are d i), covers-inside d a low high)
+            omega (
+              arith,
+              used.0 some,
+              free.0 some,
+              coverage-last disjoint a some,
+              w.tiled a,
+              w.disjoint a,
+              disjoint a,
+              coverage-IsIn itself d s.chunks a (are d i),
+              covers-inside d a low high,
+            )
         | inr none ↦
             let nothing : coverage itself cs a ≡ 0 = omega arith in
             omega (arith, used.1 nothing, free.1 nothing, coverage-le last_bytes itself a a cs (λ c j. last-le c ((w.chunks c (are c j)).has_room) a))
@@ -163,7 +180,13 @@ module _ (chunks : List Range) (disjoint : (a : ℕ) → coverage itself chunks 
                 let (q, j, at) = rest.begin d i in
                 let d_start : d.start ≡ c.start = ap (λ x. x.start) same in
                 let (e, e_in, e_start, e_long, q_some) = each q (inr j) in
-                absurd (omega (arith, apart r.start, covers-inside r r.start (omega arith) (omega arith), covers-inside q r.start (omega arith) (omega arith), coverage-IsIn itself q fronts r.start j))
+                absurd (omega (
+                  arith,
+                  apart r.start,
+                  covers-inside r r.start (omega arith) (omega arith),
+                  covers-inside q r.start (omega arith) (omega arith),
+                  coverage-IsIn itself q fronts r.start j,
+                ))
             | inr none ↦ omega arith
           ]
           | before none low ↦ omega (arith, rest.disjoint a)

@@ -1,5 +1,6 @@
 -- Where a payload lies in its block, and how long the block is.
-use Rattle.std.proofs.Common.{◌≡◌, ◌≢◌, ℕ, zero, suc, ◌+◌, ◌-◌, ◌*◌, ◌/◌, ◌%◌, ◌^◌, ◌<◌, ◌≤◌, List, [], ◌∷◌, Some, None, cond, not, arith, inl, inr, refl, sym, ◌∙◌, ap, subst}
+use Rattle.std.proofs.Common.{◌≡◌, ◌≢◌, ℕ, zero, suc, ◌+◌, ◌-◌, ◌*◌, ◌/◌, ◌%◌, ◌^◌, ◌<◌, ◌≤◌, List, [], ◌∷◌, Some, None, cond}
+use Rattle.std.proofs.Common.{not, arith, inl, inr, refl, sym, ◌∙◌, ap, subst}
 use Rattle.std.proofs.lemmas.Bool.{cases_lt, le-leb, ne_eqb}
 use Rattle.std.proofs.lemmas.Nat.{pow_pos, pow-add}
 use Rattle.std.proofs.Math.Nat.{div-add-mod'}
@@ -77,10 +78,12 @@ block_length-request b size align whole power =
 pub others-none : (addr : ℕ) (used : List Used) → ((v : Used) → IsIn v used → v.payload ≢ addr) → others addr used ≡ used
 others-none addr [] none = refl
 others-none addr (x ∷ xs) none =
-    ap (λ b. cond (not b) (x ∷ others addr xs) (others addr xs)) (ne_eqb x.payload addr (none x (inl refl))) ∙ ap (λ l. x ∷ l) (others-none addr xs (λ v i. none v (inr i)))
+    ap (λ b. cond (not b) (x ∷ others addr xs) (others addr xs)) (ne_eqb x.payload addr (none x (inl refl)))
+    ∙ ap (λ l. x ∷ l) (others-none addr xs (λ v i. none v (inr i)))
 
--- a block that can't have the size where it stands has fewer usable bytes
-pub usable-short : {fllen sllen : ℕ} {memory : Range} {s : State} → IsWellFormed fllen sllen memory s → (u : Used) → IsIn u s.used → (size : ℕ) → in_place s u size ≡ None → (usable u).len < size
+-- a block that can't have the size in place has fewer usable bytes
+pub usable-short : {fllen sllen : ℕ} {memory : Range} {s : State} → IsWellFormed fllen sllen memory s → (u : Used) → IsIn u s.used → (size : ℕ)
+    → in_place s u size ≡ None → (usable u).len < size
 usable-short {s = s} w u i size short =
     let is = w.used u i in
     elim (cases_lt (end_of u.block) (end_of (resized u size))) [

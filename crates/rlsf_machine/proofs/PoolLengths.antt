@@ -29,7 +29,8 @@ use Rattle.rlsf_machine.proofs.Uniform.{uniform_runs_answer}
 gaps : (count size n len : ℕ) → count * size + count * n + (n + 64) ≤ len → 32 * 1 + count * size + (count + 1) * n < len
 gaps count size n len short = omega arith
 
-pub HasBudget-reached : (count size sllen least : ℕ) (c : Range) → IsSize least → Reaches sllen (class_of sllen least) size → payloads_length count size least ≤ c.len → HasBudget count size sllen (c ∷ [])
+pub HasBudget-reached : (count size sllen least : ℕ) (c : Range) → IsSize least → Reaches sllen (class_of sllen least) size → payloads_length count size least ≤ c.len
+    → HasBudget count size sllen (c ∷ [])
 HasBudget-reached count size sllen least c is reaches long =
     let all : c.len ≡ total_len (c ∷ []) = omega (arith, sum_by-cons (λ (r : Range). r.len) c []) in
     record { least = least; taken = record { is = is; reaches = reaches }; enough = gaps count size (least - 32) (total_len (c ∷ [])) (omega (arith, long, all, is.0, is.1)) }
@@ -47,7 +48,8 @@ payload_pool_is_enough fl_bits sl_bits fllen sllen count size align len memory s
 
 -- ---- objects of one size
 
-IsUniform-idle : {fllen sllen : ℕ} {memory : Range} {s : State} → IsWellFormed fllen sllen memory s → (c : Range) (len : ℕ) → s.used ≡ [] → s.chunks ≡ c ∷ [] → IsUniform len c s
+IsUniform-idle : {fllen sllen : ℕ} {memory : Range} {s : State} → IsWellFormed fllen sllen memory s → (c : Range) (len : ℕ) → s.used ≡ [] → s.chunks ≡ c ∷ []
+    → IsUniform len c s
 IsUniform-idle {fllen} {sllen} {memory} {s} w c len idle alone = record {
   chunks = alone;
   used = λ u i. absurd (subst (IsIn u) idle i);
@@ -57,7 +59,9 @@ IsUniform-idle {fllen} {sllen} {memory} {s} w c len idle alone = record {
       let to = home.to in
       let some = (w.free f i).some in
       let d = home.chunk in
-      let is : f ≡ body d = (idle_chunk_is_one_range fllen sllen memory s d w (λ a low high. ap (λ l. coverage (λ u. u.block) l a) idle) home.is_chunk).1 f i (covers-inside d f.start (omega arith) (omega arith)) in
+      let is : f ≡ body d =
+      (idle_chunk_is_one_range fllen sllen memory s d w (λ a low high. ap (λ l. coverage (λ u. u.block) l a) idle) home.is_chunk).1 f i
+      (covers-inside d f.start (omega arith) (omega arith)) in
       elim (subst (IsIn d) alone home.is_chunk) [
         | inl same ↦ (0, ap (λ r. r.start) is ∙ ap (λ r. r.start) same ∙ omega arith)
         | inr none ↦ absurd none

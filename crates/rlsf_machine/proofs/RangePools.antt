@@ -46,7 +46,8 @@ IsPool-no_later s p c len is i some to = elim (cases_lt (p.start + len) (end_of 
 ]
 
 -- the kept pool reaches as far as its range's
-pub IsPool-kept : (t : Terms) (k : KeptPool) (s : State) (pools : List Range) (len : ℕ) → ((c : Range) → IsIn c s.chunks → 64 ≤ c.len) → IsKeptPool t k pools s.chunks → IsPool s k.range len → len ≡ k.len
+pub IsPool-kept : (t : Terms) (k : KeptPool) (s : State) (pools : List Range) (len : ℕ) → ((c : Range) → IsIn c s.chunks → 64 ≤ c.len) → IsKeptPool t k pools s.chunks
+    → IsPool s k.range len → len ≡ k.len
 IsPool-kept t k s pools len room kept is =
     let (c, i, from, ends) = IsPool-last s k.range len is in
     let (d, j, d_ends) = kept.last in
@@ -72,7 +73,8 @@ IsPool-kept t k s pools len room kept is =
         omega (arith, is.unused a (omega arith) (omega arith), coverage-in d s.chunks a j (omega arith) (omega arith))
 
 -- an insert makes a pool of its range
-pub IsPool-inserted : {sllen : ℕ} {memory : Range} (fllen : ℕ) (s t : State) (r : Range) (len : ℕ) → 64 ≤ r.len → IsClear r s.chunks → IsWellFormed fllen sllen memory t → IsTaken s r len t → Inserts fllen s r (Some len) t → IsPool t r len
+pub IsPool-inserted : {sllen : ℕ} {memory : Range} (fllen : ℕ) (s t : State) (r : Range) (len : ℕ) → 64 ≤ r.len → IsClear r s.chunks
+    → IsWellFormed fllen sllen memory t → IsTaken s r len t → Inserts fllen s r (Some len) t → IsPool t r len
 IsPool-inserted fllen s t r len long clear w taken step =
     let within = taken.within in
     let (c, i, ends) = taken.last in
@@ -82,7 +84,12 @@ IsPool-inserted fllen s t r len long clear w taken step =
       some = elim (inserted_chunks_lie_in_range fllen s t r (Some len) c step i) [
         | inl before ↦
             let a = r.start + len - 1 in
-            absurd (omega (arith, taken.nearly, clear a (omega (arith, taken.nearly)) (omega (arith, taken.nearly)), coverage-in c s.chunks a before (omega arith) (omega (arith, taken.nearly))))
+            absurd (omega (
+              arith,
+              taken.nearly,
+              clear a (omega (arith, taken.nearly)) (omega (arith, taken.nearly)),
+              coverage-in c s.chunks a before (omega arith) (omega (arith, taken.nearly)),
+            ))
         | inr (from, to) ↦ omega (arith, round32-least r.start c.start chunk.whole.start from)
       ];
       within = within;
@@ -96,7 +103,8 @@ IsPool-inserted fllen s t r len long clear w taken step =
     }
 
 -- and leaves those of the others
-pub IsPool-inserted_other : (fllen : ℕ) (s t : State) (r p : Range) (len : ℕ) (reply : Option ℕ) (pools : List Range) → IsIn p pools → IsClear r pools → Inserts fllen s r reply t → IsPool s p len → IsPool t p len
+pub IsPool-inserted_other : (fllen : ℕ) (s t : State) (r p : Range) (len : ℕ) (reply : Option ℕ) (pools : List Range) → IsIn p pools → IsClear r pools
+    → Inserts fllen s r reply t → IsPool s p len → IsPool t p len
 IsPool-inserted_other fllen s t r p len reply pools i apart step is = record {
   some = is.some;
   within = is.within;

@@ -10,7 +10,8 @@ use Rattle.rlsf_machine.proofs.Plans.{IsSound-plan, IsWellFormed-replanned}
 use Rattle.rlsf_machine.proofs.Releases.{Deallocates-keeps}
 
 module _ {fllen sllen : ℕ} {memory : Range} {s : State} (w : IsWellFormed fllen sllen memory s) where
-  ReallocatesBy-keeps : (u : Used) → IsIn u s.used → (size : ℕ) (o : Option Plan) → plan s u size ≡ o → (reply : Option ℕ) (t : State) → ReallocatesBy sllen s u size o reply t → IsWellFormed fllen sllen memory t
+  ReallocatesBy-keeps : (u : Used) → IsIn u s.used → (size : ℕ) (o : Option Plan) → plan s u size ≡ o → (reply : Option ℕ) (t : State)
+      → ReallocatesBy sllen s u size o reply t → IsWellFormed fllen sllen memory t
   ReallocatesBy-keeps u h size (Some p) e None t step = absurd step
   ReallocatesBy-keeps u h size (Some p) e (Some addr) t step =
       subst (IsWellFormed fllen sllen memory) (sym step.after) (IsWellFormed-replanned w u h size p (IsSound-plan w u h size p e) step.bytes step.length)
@@ -19,6 +20,6 @@ module _ {fllen sllen : ℕ} {memory : Range} {s : State} (w : IsWellFormed flle
       let kept = Allocates-keeps w size u.align (Some addr) step.meanwhile (w.used u h).power step.allocated in
       Deallocates-keeps kept u.payload t step.released
 
-  -- a reallocation keeps a state well-formed, whatever it answers
+  -- a reallocation keeps a state well-formed, whatever its reply
   pub Reallocates-keeps : (addr size : ℕ) (reply : Option ℕ) (t : State) → Reallocates sllen s addr size reply t → IsWellFormed fllen sllen memory t
   Reallocates-keeps addr size reply t step = ReallocatesBy-keeps step.block step.holds.0 size (plan s step.block size) refl reply t step.step

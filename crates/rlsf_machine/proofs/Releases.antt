@@ -13,7 +13,8 @@ use Rattle.rlsf_machine.proofs.Payloads.{IsUsed-some}
 pub IsSound-free : {fllen sllen : ℕ} {memory : Range} {s : State} → IsWellFormed fllen sllen memory s → IsSound s.free
 IsSound-free w = record { whole = λ f h. let free = w.free f h in (free.whole, free.some); apart = w.apart }
 
-pub IsWellFormed-released : {fllen sllen : ℕ} {memory : Range} {s : State} → IsWellFormed fllen sllen memory s → (u : Used) → IsIn u s.used → IsWellFormed fllen sllen memory (released s u)
+pub IsWellFormed-released : {fllen sllen : ℕ} {memory : Range} {s : State} → IsWellFormed fllen sllen memory s → (u : Used) → IsIn u s.used
+    → IsWellFormed fllen sllen memory (released s u)
 IsWellFormed-released {s = s} w u h =
     let is = w.used u h in
     let some = IsUsed-some u is in
@@ -26,5 +27,6 @@ IsWellFormed-released {s = s} w u h =
     joined.apart
 
 -- a deallocation keeps a state well-formed
-pub Deallocates-keeps : {fllen sllen : ℕ} {memory : Range} {s : State} → IsWellFormed fllen sllen memory s → (addr : ℕ) (t : State) → Deallocates s addr t → IsWellFormed fllen sllen memory t
+pub Deallocates-keeps : {fllen sllen : ℕ} {memory : Range} {s : State} → IsWellFormed fllen sllen memory s → (addr : ℕ) (t : State) → Deallocates s addr t
+    → IsWellFormed fllen sllen memory t
 Deallocates-keeps {fllen} {sllen} {memory} w addr t step = subst (IsWellFormed fllen sllen memory) (sym step.after) (IsWellFormed-released w step.block step.holds.0)

@@ -1,5 +1,6 @@
 -- What a removal leaves.
-use Rattle.std.proofs.Common.{◌≡◌, ◌⊎◌, ℕ, ◌+◌, ◌≤◌, ◌<◌, true, false, not, ◌&&◌, leb, List, true≢false, arith, refl, sym, ◌∙◌, ap, subst, inl, inr}
+use Rattle.std.proofs.Common.{◌≡◌, ◌⊎◌, ℕ, ◌+◌, ◌≤◌, ◌<◌, true, false, not, ◌&&◌, leb, List, true≢false, arith, refl, sym, ◌∙◌, ap, subst}
+use Rattle.std.proofs.Common.{inl, inr}
 use Rattle.std.proofs.lemmas.Bool.{cases_lt, le-leb, lt-leb}
 use Rattle.rlsf_base.specs.declared.memory.range.Range.{Range}
 use Rattle.rlsf_base.specs.Range.{end_of}
@@ -52,7 +53,8 @@ coverage-outside range r xs a part off = coverage-filter range (λ c. not (lies_
 
 module _ {fllen sllen : ℕ} {memory : Range} {s : State} (w : IsWellFormed fllen sllen memory s) (r : Range) (may : IsRemovable s r) where
   -- a chunk that has a byte of the range lies in it
-  chunk_within : (c : Range) (a : ℕ) → IsIn c s.chunks → r.start ≤ a → a < end_of r → c.start ≤ a → a < end_of c → (r.start ≤ c.start) × (end_of c ≤ end_of r)
+  chunk_within : (c : Range) (a : ℕ) → IsIn c s.chunks → r.start ≤ a → a < end_of r → c.start ≤ a → a < end_of c
+      → (r.start ≤ c.start) × (end_of c ≤ end_of r)
   chunk_within c a i low high from to = elim (may.whole c i) [
     | inl lies ↦ lies
     | inr off ↦ absurd (omega (arith, off a, covers-inside r a low high, covers-inside c a from to))
@@ -68,7 +70,8 @@ module _ {fllen sllen : ℕ} {memory : Range} {s : State} (w : IsWellFormed flle
       (omega (arith, lies.0), omega (arith, lies.1))
 
   -- no byte of the range is in a chunk that is left
-  chunks_clear : (range : Range → Range) → ((c : Range) (a : ℕ) → IsIn c s.chunks → covers (range c) a ≤ covers c a) → (a : ℕ) → r.start ≤ a → a < end_of r → coverage range (outside_of r s.chunks) a ≡ 0
+  chunks_clear : (range : Range → Range) → ((c : Range) (a : ℕ) → IsIn c s.chunks → covers (range c) a ≤ covers c a) → (a : ℕ) → r.start ≤ a → a < end_of r
+      → coverage range (outside_of r s.chunks) a ≡ 0
   chunks_clear range part a low high = coverage-none range (outside_of r s.chunks) a (λ c h.
       let (i, off) = IsIn-outside r c s.chunks h in
       elim (where_is c a) [
@@ -97,12 +100,21 @@ module _ {fllen sllen : ℕ} {memory : Range} {s : State} (w : IsWellFormed flle
         | behind none to ↦ omega arith
       ]
 
-  tiled_after : (a : ℕ) → coverage block_of s.used a + coverage itself (outside_of r s.free) a + coverage last_bytes (outside_of r s.chunks) a ≡ coverage itself (outside_of r s.chunks) a
+  tiled_after : (a : ℕ) → coverage block_of s.used a + coverage itself (outside_of r s.free) a + coverage last_bytes (outside_of r s.chunks) a
+      ≡ coverage itself (outside_of r s.chunks) a
   tiled_after a =
-      let off : covers r a ≡ 0 → coverage block_of s.used a + coverage itself (outside_of r s.free) a + coverage last_bytes (outside_of r s.chunks) a ≡ coverage itself (outside_of r s.chunks) a =
-      λ none. omega (arith, w.tiled a, coverage-outside itself r s.free a (λ x i. omega arith) none, coverage-outside itself r s.chunks a (λ x i. omega arith) none, coverage-outside last_bytes r s.chunks a (λ x i. last_within x a i) none) in
+      let off : covers r a ≡ 0
+      → coverage block_of s.used a + coverage itself (outside_of r s.free) a + coverage last_bytes (outside_of r s.chunks) a ≡ coverage itself (outside_of r s.chunks) a =
+      λ none. omega (
+        arith,
+        w.tiled a,
+        coverage-outside itself r s.free a (λ x i. omega arith) none,
+        coverage-outside itself r s.chunks a (λ x i. omega arith) none,
+        coverage-outside last_bytes r s.chunks a (λ x i. last_within x a i) none,
+      ) in
       elim (where_is r a) [
-        | inside one low high ↦ omega (arith, may.idle a low high, free_clear a low high, chunks_clear last_bytes last_within a low high, chunks_clear itself (λ c b i. omega arith) a low high)
+        | inside one low high ↦ omega
+            (arith, may.idle a low high, free_clear a low high, chunks_clear last_bytes last_within a low high, chunks_clear itself (λ c b i. omega arith) a low high)
         | before none low ↦ off none
         | behind none high ↦ off none
       ]
@@ -129,8 +141,9 @@ module _ {fllen sllen : ℕ} {memory : Range} {s : State} (w : IsWellFormed flle
   }))
 
 pub removal_leaves_others : RemovalLeavesOthers
-removal_leaves_others fllen sllen memory s t r w may step = subst (λ (x : State). LeavesOthers r s.chunks x.chunks × LeavesOthers r s.free x.free × (x.used ≡ s.used)) (sym step) (
-  record { clear = chunks_clear w r may itself (λ c a i. omega arith); left = λ x. IsIn-outside_from r x s.chunks; were = λ x i. (IsIn-outside r x s.chunks i).0 },
-  record { clear = free_clear w r may; left = λ x. IsIn-outside_from r x s.free; were = λ x i. (IsIn-outside r x s.free i).0 },
-  refl,
-)
+removal_leaves_others fllen sllen memory s t r w may step =
+    subst (λ (x : State). LeavesOthers r s.chunks x.chunks × LeavesOthers r s.free x.free × (x.used ≡ s.used)) (sym step) (
+      record { clear = chunks_clear w r may itself (λ c a i. omega arith); left = λ x. IsIn-outside_from r x s.chunks; were = λ x i. (IsIn-outside r x s.chunks i).0 },
+      record { clear = free_clear w r may; left = λ x. IsIn-outside_from r x s.free; were = λ x i. (IsIn-outside r x s.free i).0 },
+      refl,
+    )

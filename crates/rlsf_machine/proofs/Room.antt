@@ -1,5 +1,6 @@
 -- The laws of free ranges.
-use Rattle.std.proofs.Common.{◌≡◌, ℕ, ◌+◌, ◌-◌, ◌<◌, ◌≤◌, Bool, false, cond, List, [], ◌∷◌, ◌++◌, Some, None, find, true≢false, arith, refl, sym, ◌∙◌, ap, subst, inl, inr}
+use Rattle.std.proofs.Common.{◌≡◌, ℕ, ◌+◌, ◌-◌, ◌<◌, ◌≤◌, Bool, false, cond, List, [], ◌∷◌, ◌++◌, Some, None, find, true≢false, arith, refl}
+use Rattle.std.proofs.Common.{sym, ◌∙◌, ap, subst, inl, inr}
 use Rattle.std.proofs.lemmas.Bool.{cases_lt}
 use Rattle.rlsf_base.specs.declared.memory.range.Range.{Range}
 use Rattle.rlsf_base.specs.Range.{end_of}
@@ -26,7 +27,7 @@ room_is_found fllen sllen memory s t size align reply f w i slack step is =
 pub refused_without_reach : RefusedWithoutReach
 refused_without_reach sllen size free = (choice-none sllen size free, choice-from_none sllen size free)
 
--- what a test finds stands behind elements that fail it
+-- what a test finds is behind elements that fail it
 find-split : (p : Range → Bool) (f : Range) (xs : List Range) → find p xs ≡ Some f
     → (before : List Range) × (after : List Range) × (xs ≡ before ++ f ∷ after) × ((g : Range) → IsIn g before → p g ≡ false) × (without p xs ≡ before ++ after)
 find-split p f [] e = absurd (cc)
@@ -78,7 +79,8 @@ module _ {fllen sllen : ℕ} {memory : Range} {s : State} (w : IsWellFormed flle
       let home = lies_in_chunk s (tiling_of w) f some (IsPart-free s (tiling_of w) f i) in
       let from = home.from in
       let to = home.to in
-      let same : home.chunk ≡ c = coverage-unique itself home.chunk c s.chunks f.start (w.disjoint f.start) home.is_chunk h (covers-inside home.chunk f.start from (omega arith)) begins in
+      let same : home.chunk ≡ c =
+      coverage-unique itself home.chunk c s.chunks f.start (w.disjoint f.start) home.is_chunk h (covers-inside home.chunk f.start from (omega arith)) begins in
       let start : home.chunk.start ≡ c.start = ap (λ r. r.start) same in
       let len : home.chunk.len ≡ c.len = ap (λ r. r.len) same in
       (omega arith, omega arith)
@@ -91,7 +93,9 @@ module _ {fllen sllen : ℕ} {memory : Range} {s : State} (w : IsWellFormed flle
       let home = lies_in_chunk s (tiling_of w) f some (IsPart-free s (tiling_of w) f i) in
       let from = home.from in
       let to = home.to in
-      let same : home.chunk ≡ c = coverage-unique itself home.chunk c s.chunks c.start (w.disjoint c.start) home.is_chunk h (covers-inside home.chunk c.start (omega arith) (omega arith)) (covers-inside c c.start (omega arith) (omega arith)) in
+      let same : home.chunk ≡ c =
+      coverage-unique itself home.chunk c s.chunks c.start (w.disjoint c.start) home.is_chunk h (covers-inside home.chunk c.start (omega arith) (omega arith))
+      (covers-inside c c.start (omega arith) (omega arith)) in
       let start : home.chunk.start ≡ c.start = ap (λ r. r.start) same in
       let len : home.chunk.len ≡ c.len = ap (λ r. r.len) same in
       let begins : f.start ≡ c.start = omega arith in
@@ -103,8 +107,10 @@ module _ {fllen sllen : ℕ} {memory : Range} {s : State} (w : IsWellFormed flle
               | inl overlaps ↦
                   let g_some = (w.free g j).some in
                   let both : g ≡ f = elim (cases_lt g.start f.start) [
-                    | inl earlier ↦ coverage-unique itself g f s.free f.start (free-le s (tiling_of w) f.start) j i (covers-inside g f.start (omega arith) (omega arith)) (covers-inside f f.start (omega arith) (omega arith))
-                    | inr later ↦ coverage-unique itself g f s.free g.start (free-le s (tiling_of w) g.start) j i (covers-inside g g.start (omega arith) (omega arith)) (covers-inside f g.start (omega arith) (omega arith))
+                    | inl earlier ↦ coverage-unique itself g f s.free f.start (free-le s (tiling_of w) f.start) j i (covers-inside g f.start (omega arith) (omega arith))
+                        (covers-inside f f.start (omega arith) (omega arith))
+                    | inr later ↦ coverage-unique itself g f s.free g.start (free-le s (tiling_of w) g.start) j i (covers-inside g g.start (omega arith) (omega arith))
+                        (covers-inside f g.start (omega arith) (omega arith))
                   ] in
                   let g_end : end_of g ≡ end_of f = ap end_of both in
                   absurd (omega arith)

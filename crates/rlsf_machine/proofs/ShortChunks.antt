@@ -1,5 +1,6 @@
 -- Lists of calls that are refused in a chunk that is 32 bytes shorter than what is computed for many payloads.
-use Rattle.std.proofs.Common.{◌≡◌, ◌≢◌, ℕ, zero, suc, ◌+◌, ◌-◌, ◌*◌, ◌%◌, ◌<◌, ◌≤◌, List, [], ◌∷◌, length, Option, Some, None, arith, refl, sym, ◌∙◌, ap, subst, inl, inr}
+use Rattle.std.proofs.Common.{◌≡◌, ◌≢◌, ℕ, zero, suc, ◌+◌, ◌-◌, ◌*◌, ◌%◌, ◌<◌, ◌≤◌, List, [], ◌∷◌, length, Option, Some, None, arith}
+use Rattle.std.proofs.Common.{refl, sym, ◌∙◌, ap, subst, inl, inr}
 use Rattle.std.proofs.lemmas.Bool.{cases_lt}
 use Rattle.std.proofs.lemmas.Option.{none-some}
 use Rattle.std.proofs.Math.Nat.{le_of_mul-le-mul_right, mul-le-mul_left}
@@ -48,7 +49,8 @@ record Ends (live most size align fllen sllen : ℕ) (memory : Range) (s : State
   is_call : IsIn refused calls
   denied : IsDenied refused
 
-module _ (live fllen sllen most gap size align : ℕ) (asks : ℕ → ℕ) (memory c : Range) (most_is : IsSize most) (are : AreAsked most size asks) (some_align : 1 ≤ align) (gap32 : gap % 32 ≡ 0) (twice : gap ≤ 2 * most)
+module _ (live fllen sllen most gap size align : ℕ) (asks : ℕ → ℕ) (memory c : Range) (most_is : IsSize most) (are : AreAsked most size asks) (some_align : 1 ≤ align)
+    (gap32 : gap % 32 ≡ 0) (twice : gap ≤ 2 * most)
     (unreach : (n : ℕ) → 0 < n → n ≤ gap → Reaches sllen (class_of sllen n) most → ⊥)
     (short_is : end_of c - 32 ≤ c.start + live * (most + gap) + gap) where
   abbrev At : ℕ → ℕ → State → Type 0
@@ -64,7 +66,8 @@ module _ (live fllen sllen most gap size align : ℕ) (asks : ℕ → ℕ) (memo
   seeks : round32 (z + 16) ≡ most
   seeks = are.seeks most most_is (omega arith)
 
-  first : (s : State) (e : Event) (u : State) → IsWellFormed fllen sllen memory s → MayCall memory s e → IsModest live most s e → AsksWithin live size align (length s.used) e → Leads fllen sllen s e u → Refuses u → Refuses s
+  first : (s : State) (e : Event) (u : State) → IsWellFormed fllen sllen memory s → MayCall memory s e → IsModest live most s e
+      → AsksWithin live size align (length s.used) e → Leads fllen sllen s e u → Refuses u → Refuses s
   first s e u w may modest within step rest = record {
     calls = e ∷ rest.calls;
     after = rest.after;
@@ -97,8 +100,9 @@ module _ (live fllen sllen most gap size align : ℕ) (asks : ℕ → ℕ) (memo
             (rest g (at_given most_is seeks unreach is g) (ap length g.used))
       ]
 
-  -- a block is given back that begins behind the gaps
-  releasing : {i p : ℕ} {s : State} → At i p s → (x u : Used) → IsIn x s.used → c.start + i * (most + gap) ≤ x.block.start → IsIn u s.used → end_of u.block ≡ p → u.payload ≢ x.payload
+  -- a block is deallocated that begins behind the gaps
+  releasing : {i p : ℕ} {s : State} → At i p s → (x u : Used) → IsIn x s.used → c.start + i * (most + gap) ≤ x.block.start → IsIn u s.used → end_of u.block ≡ p
+      → u.payload ≢ x.payload
       → (At i p (released s x) → length (released s x).used ≡ length s.used - 1 → Refuses (released s x)) → Refuses s
   releasing {i} {p} {s} is x u h behind k end apart rest =
       let t = released s x in
@@ -113,7 +117,8 @@ module _ (live fllen sllen most gap size align : ℕ) (asks : ℕ → ℕ) (memo
 
   -- the last block is made shorter
   shrinking : {i p q old : ℕ} {s : State} → At i p s → (x : Used) → IsIn x s.used → IsPlain q old x → c.start + i * (most + gap) ≤ q
-      → ((u : Used) → IsIn u s.used → u.payload ≢ q + 16 → end_of u.block ≤ q) → (len : ℕ) → IsSize len → len ≤ old → len ≤ most → length s.used ≤ live
+      → ((u : Used) → IsIn u s.used → u.payload ≢ q + 16 → end_of u.block ≤ q) → (len : ℕ) → IsSize len → len ≤ old → len ≤ most
+      → length s.used ≤ live
       → ((h : Shrunk sllen s q len (asks len)) → At i (q + len) h.after → length h.after.used ≡ length s.used → Refuses h.after) → Refuses s
   shrinking {i} {p} {q} {old} {s} is x k plain behind others_end len len_is less fits few rest =
       let seeks_len : round32 (asks len + 16) ≡ len = are.seeks len len_is fits in
@@ -153,8 +158,9 @@ module _ (live fllen sllen most gap size align : ℕ) (asks : ℕ → ℕ) (memo
     stop = is.stop;
   }
 
-  -- behind a gap in which a block stands, one is allocated, and that one is given back
-  closing : {i : ℕ} {s : State} → At i (c.start + i * (most + gap) + gap) s → (x : Used) (q len : ℕ) → IsIn x s.used → IsPlain q len x → c.start + i * (most + gap) ≤ q → q < c.start + i * (most + gap) + gap
+  -- behind a gap in which a block is, one is allocated, and that one is deallocated
+  closing : {i : ℕ} {s : State} → At i (c.start + i * (most + gap) + gap) s → (x : Used) (q len : ℕ) → IsIn x s.used → IsPlain q len x
+      → c.start + i * (most + gap) ≤ q → q < c.start + i * (most + gap) + gap
       → length s.used ≡ suc i → suc i ≤ live
       → ((t : State) → At (suc i) (c.start + suc i * (most + gap)) t → length t.used ≡ suc i → Refuses t) → Refuses s
   closing {i} {s} is x q len k plain behind before count few rest =
@@ -167,7 +173,8 @@ module _ (live fllen sllen most gap size align : ℕ) (asks : ℕ → ℕ) (memo
       let apart : g.new.payload ≢ x.payload = λ same. absurd (omega (arith, same, g.plain.payload, plain.payload, before)) in
       releasing at x g.new old (omega (arith, start, behind)) new new_end apart (λ left counted'.
       rest (released g.after x)
-      (subst (λ n. At (suc i) n (released g.after x)) (next_place c.start i (most + gap) gap most refl) (more left g.new (IsIn-others_from x.payload g.new g.after.used new apart) g.plain.block))
+      (subst (λ n. At (suc i) n (released g.after x)) (next_place c.start i (most + gap) gap most refl)
+      (more left g.new (IsIn-others_from x.payload g.new g.after.used new apart) g.plain.block))
       (omega (arith, counted', counted, count))))
 
   -- ---- rounds
@@ -207,7 +214,8 @@ module _ (live fllen sllen most gap size align : ℕ) (asks : ℕ → ℕ) (memo
               shrinking at g.new (subst (IsIn g.new) (sym g.used) (inl refl)) g.plain (omega arith)
               (λ u h apart. elim (subst (IsIn u) g.used h) [ inl same ↦ absurd (apart (ap (λ v. v.payload) same ∙ g.plain.payload)) | inr old ↦ is.ends u old ])
               gap (some, gap32) fits fits (omega (arith, counted, count)) (λ h shrunk counted'.
-              closing shrunk h.new p gap (subst (IsIn h.new) (sym h.used) (inl refl)) h.plain (omega arith) (omega arith) (omega (arith, counted', counted, count)) (omega arith) later))
+              closing shrunk h.new p gap (subst (IsIn h.new) (sym h.used) (inl refl)) h.plain (omega arith) (omega arith) (omega (arith, counted', counted, count)) (omega arith)
+              later))
           | inl long ↦
               allocating is (omega arith) (omega arith) (omega arith) (λ g at counted.
               allocating at (omega arith) (omega arith) (omega (arith, counted, count)) (λ g' at' counted'.
@@ -219,9 +227,13 @@ module _ (live fllen sllen most gap size align : ℕ) (asks : ℕ → ℕ) (memo
               releasing at' x y x_in (omega (arith, ap (λ r. r.start) g.plain.block)) y_in (ap end_of g'.plain.block) apart (λ left counted''.
               let y_left : IsIn y (released g'.after x).used = IsIn-others_from x.payload y g'.after.used y_in apart in
               shrinking left y y_left g'.plain (omega arith)
-              (λ u h off. elim (subst (IsIn u) g'.used (IsIn-others x.payload u g'.after.used h).0) [ inl same ↦ absurd (off (ap (λ v. v.payload) same ∙ g'.plain.payload)) | inr old ↦ at.ends u old ])
+              (λ u h off. elim (subst (IsIn u) g'.used (IsIn-others x.payload u g'.after.used h).0) [
+                | inl same ↦ absurd (off (ap (λ v. v.payload) same ∙ g'.plain.payload))
+                | inr old ↦ at.ends u old
+              ])
               (gap - most) (omega arith, omega (arith, gap32, most_is.1)) (omega arith) (omega arith) (omega (arith, counted'', counted', counted, count)) (λ h shrunk counted'''.
-              closing (subst (λ n. At i n h.after) (omega arith) shrunk) h.new (p + most) (gap - most) (subst (IsIn h.new) (sym h.used) (inl refl)) h.plain (omega arith) (omega arith)
+              closing (subst (λ n. At i n h.after) (omega arith) shrunk) h.new (p + most) (gap - most) (subst (IsIn h.new) (sym h.used) (inl refl)) h.plain (omega arith)
+              (omega arith)
               (omega (arith, counted''', counted'', counted', counted, count)) (omega arith) later))))
         ]
       ]
@@ -231,7 +243,8 @@ module _ (live fllen sllen most gap size align : ℕ) (asks : ℕ → ℕ) (memo
 
 -- ---- the law
 
-end_is : (n most gap a len : ℕ) → len < n * most + n * gap + (gap + 64) → len % 32 ≡ 0 → gap % 32 ≡ 0 → most % 32 ≡ 0 → a + len - 32 ≤ a + n * (most + gap) + gap
+end_is : (n most gap a len : ℕ) → len < n * most + n * gap + (gap + 64) → len % 32 ≡ 0 → gap % 32 ≡ 0 → most % 32 ≡ 0
+    → a + len - 32 ≤ a + n * (most + gap) + gap
 end_is n most gap a len less len32 gap32 most32 =
     let whole : n * (most + gap) % 32 ≡ 0 = whole_product (most + gap) n (omega arith) in
     let sum : n * (most + gap) ≡ n * most + n * gap = omega arith in
@@ -244,8 +257,10 @@ slack : (m n : ℕ) → 0 < n → m * (n + 1) ≤ 2 * m * n
 slack m n some = let times : m * 1 ≤ m * n = mul-le-mul_left m some in omega arith
 
 -- a chunk alone, in which nothing lives, that is shorter than what is computed ends refused
-ends_refused : (fl_bits sl_bits fllen sllen live most least size align : ℕ) (asks : ℕ → ℕ) (memory : Range) (s : State) (c : Range) → IsValid fl_bits sl_bits fllen sllen → IsWellFormed fllen sllen memory s → IsSize most
-    → AreAsked most size asks → 1 ≤ align → map_ceil_and_unmap fllen sllen most ≡ Some least → s.used ≡ [] → s.chunks ≡ c ∷ [] → c.len < payloads_length live most least → Ends live most size align fllen sllen memory s
+ends_refused : (fl_bits sl_bits fllen sllen live most least size align : ℕ) (asks : ℕ → ℕ) (memory : Range) (s : State) (c : Range) → IsValid fl_bits sl_bits fllen sllen
+    → IsWellFormed fllen sllen memory s → IsSize most
+    → AreAsked most size asks → 1 ≤ align → map_ceil_and_unmap fllen sllen most ≡ Some least → s.used ≡ [] → s.chunks ≡ c ∷ []
+    → c.len < payloads_length live most least → Ends live most size align fllen sllen memory s
 ends_refused fl_bits sl_bits fllen sllen live most least size align asks memory s c valid w most_is are some_align told idle alone shorter =
     let row = valid.power_of_two in
     let start = (IsUnmapped-some fllen sllen most least row most_is told).start in
@@ -258,7 +273,8 @@ ends_refused fl_bits sl_bits fllen sllen live most least size align asks memory 
     le_of_mul-le-mul_right {k = sllen} (omega (arith, order, start.begins, class_start-le sllen n n_some)) some in
     let twice : least ≤ 2 * most = minimal (2 * most) (omega (arith, most_is.0)) (Reaches-from_slack sllen (2 * most) (omega (arith, most_is.0)) most (slack most sllen some)) in
     let is_chunk : IsIn c s.chunks = subst (IsIn c) (sym alone) (inl refl) in
-    rounds live fllen sllen most gap size align asks memory c most_is are some_align (omega (arith, start.multiple)) (omega arith) (λ n n_some fewer reached. absurd (omega (arith, minimal n n_some reached)))
+    rounds live fllen sllen most gap size align asks memory c most_is are some_align (omega (arith, start.multiple)) (omega arith)
+    (λ n n_some fewer reached. absurd (omega (arith, minimal n n_some reached)))
     (end_is live most gap c.start c.len (omega arith) (w.chunks c is_chunk).whole.len (omega (arith, start.multiple)) most_is.1) live 0 s (omega arith)
     (record {
       w = w;
@@ -277,7 +293,8 @@ payload_pool_is_exact fl_bits sl_bits fllen sllen live most least memory s c val
     never long es t e run i denied =
         let is_chunk : IsIn c s.chunks = subst (IsIn c) (sym alone) (inl refl) in
         let room = (w.chunks c is_chunk).has_room in
-        modest_runs_are_not_denied live most fllen sllen memory s t (c ∷ []) es w (AreFronts-one c s.chunks is_chunk (omega arith)) (subst (AreAtMost most) (sym idle) (λ u j. absurd j))
+        modest_runs_are_not_denied live most fllen sllen memory s t (c ∷ []) es w (AreFronts-one c s.chunks is_chunk (omega arith))
+        (subst (AreAtMost most) (sym idle) (λ u j. absurd j))
         (let taken = least_is_taken fllen sllen most least valid.power_of_two most_is told in HasBudget-reached live most sllen least c taken.0 taken.1 long) run e i denied
 
     ends : c.len < payloads_length live most least → EndsRefused live most fllen sllen memory s
@@ -311,7 +328,8 @@ unmapped : (fllen sllen count size align len : ℕ) → pool_size_for_payloads f
     → (least : ℕ) × (map_ceil_and_unmap fllen sllen (request_size size align) ≡ Some least) × (payloads_length count (request_size size align) least ≡ len)
 unmapped fllen sllen count size align len told = go (map_ceil_and_unmap fllen sllen (request_size size align)) refl told
   where
-    go : (o : Option ℕ) → map_ceil_and_unmap fllen sllen (request_size size align) ≡ o → option_and_then (λ least. chunk_length fllen (payloads_length count (request_size size align) least)) o ≡ Some len
+    go : (o : Option ℕ) → map_ceil_and_unmap fllen sllen (request_size size align) ≡ o
+        → option_and_then (λ least. chunk_length fllen (payloads_length count (request_size size align) least)) o ≡ Some len
         → (least : ℕ) × (map_ceil_and_unmap fllen sllen (request_size size align) ≡ Some least) × (payloads_length count (request_size size align) least ≡ len)
     go None e none = absurd (none-some len none)
     go (Some least) e some = (least, e, chunk_length-is fllen (payloads_length count (request_size size align) least) len some)
@@ -328,7 +346,9 @@ layout_pool_is_exact fl_bits sl_bits fllen sllen count size align len memory s c
     ends shorter =
         let (least, is, length_is) = unmapped fllen sllen count size align len told in
         let asks : ℕ → ℕ = λ l. size - (size - (l - 16)) in
-        let list = ends_refused fl_bits sl_bits fllen sllen count (request_size size align) least size align asks memory s c valid w (IsSize-request_size size align) (layout_is_asked size align small) (IsPowerOfTwo-positive align power) is idle alone
+        let list =
+        ends_refused fl_bits sl_bits fllen sllen count (request_size size align) least size align asks memory s c valid w (IsSize-request_size size align)
+        (layout_is_asked size align small) (IsPowerOfTwo-positive align power) is idle alone
         (omega (arith, shorter, length_is)) in
         record {
           calls = list.calls;
@@ -349,7 +369,8 @@ not_four_payloads =
     let c = range_at 4096 352 in
     let w = steps_keep_well_formed 8 8 memory empty (with_chunk c empty) (insert c (Some 352)) (empty_is_well_formed 8 8 memory (omega arith) (omega arith) (omega arith))
     (record { lies_in = (omega arith, omega arith); apart = λ a low high. refl }) (record { answer = refl; after = refl }) in
-    (payload_pool_is_exact 8 8 8 8 3 64 64 memory (with_chunk c empty) c (record { some_rows = omega arith; rows_fit = omega arith; power_of_two = refl; classes_fit = omega arith }) w (omega arith, omega arith) refl refl refl).1 (omega arith)
+    (payload_pool_is_exact 8 8 8 8 3 64 64 memory (with_chunk c empty) c
+    (record { some_rows = omega arith; rows_fit = omega arith; power_of_two = refl; classes_fit = omega arith }) w (omega arith, omega arith) refl refl refl).1 (omega arith)
 
 -- nor is a chunk of 352 bytes long enough for layouts of up to 40 bytes, three of which are live before the last call
 not_four_layouts : EndsRefusedWithin 3 40 8 8 8 (range_at 4096 8192) (with_chunk (range_at 4096 352) empty)
@@ -358,4 +379,5 @@ not_four_layouts =
     let c = range_at 4096 352 in
     let w = steps_keep_well_formed 8 8 memory empty (with_chunk c empty) (insert c (Some 352)) (empty_is_well_formed 8 8 memory (omega arith) (omega arith) (omega arith))
     (record { lies_in = (omega arith, omega arith); apart = λ a low high. refl }) (record { answer = refl; after = refl }) in
-    (layout_pool_is_exact 8 8 8 8 3 40 8 384 memory (with_chunk c empty) c (record { some_rows = omega arith; rows_fit = omega arith; power_of_two = refl; classes_fit = omega arith }) w refl (omega arith) refl refl refl).1 (omega arith)
+    (layout_pool_is_exact 8 8 8 8 3 40 8 384 memory (with_chunk c empty) c
+    (record { some_rows = omega arith; rows_fit = omega arith; power_of_two = refl; classes_fit = omega arith }) w refl (omega arith) refl refl refl).1 (omega arith)

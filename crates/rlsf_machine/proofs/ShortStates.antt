@@ -1,5 +1,6 @@
 -- States on the way to a refusal in a chunk that is too short, and the steps between them.
-use Rattle.std.proofs.Common.{◌≡◌, ℕ, ◌+◌, ◌-◌, ◌*◌, ◌/◌, ◌%◌, ◌<◌, ◌≤◌, ◌⊎◌, [], ◌∷◌, Option, Some, None, cond, arith, refl, sym, ◌∙◌, ap, subst, inl, inr}
+use Rattle.std.proofs.Common.{◌≡◌, ℕ, ◌+◌, ◌-◌, ◌*◌, ◌/◌, ◌%◌, ◌<◌, ◌≤◌, ◌⊎◌, [], ◌∷◌, Option, Some, None, cond, arith, refl, sym}
+use Rattle.std.proofs.Common.{◌∙◌, ap, subst, inl, inr}
 use Rattle.std.proofs.lemmas.Bool.{cases_lt, le-leb}
 use Rattle.std.proofs.Math.Nat.{div-add-mod', mod-lt, mul-le-mul_right}
 use Rattle.rlsf_base.specs.declared.memory.range.Range.{Range}
@@ -102,7 +103,9 @@ module _ {fllen sllen most gap : ℕ} {memory c : Range} {i p : ℕ} {s : State}
             elim (cases_lt g.start (end_of f)) [
               | inr at ↦ absurd (is.w.apart f g j k (omega arith))
               | inl overlaps ↦
-                  let both : f ≡ g = coverage-unique itself f g s.free (end_of f - 1) (free-le s t (end_of f - 1)) j k (covers-inside f (end_of f - 1) (omega arith) (omega arith)) (covers-inside g (end_of f - 1) (omega arith) (omega arith)) in
+                  let both : f ≡ g =
+                  coverage-unique itself f g s.free (end_of f - 1) (free-le s t (end_of f - 1)) j k (covers-inside f (end_of f - 1) (omega arith) (omega arith))
+                  (covers-inside g (end_of f - 1) (omega arith) (omega arith)) in
                   let same : end_of f ≡ end_of g = ap end_of both in
                   absurd (omega arith)
             ]
@@ -116,7 +119,8 @@ module _ {fllen sllen most gap : ℕ} {memory c : Range} {i p : ℕ} {s : State}
       let rest = range_at p (end_of c - 32 - p) in
       let (f_from, f_to, f_some) = within f j in
       let a = end_of f - 1 in
-      coverage-unique itself f rest s.free a (free-le s (tiling_of is.w) a) j (rest_is_free from below) (covers-inside f a (omega arith) (omega arith)) (covers-inside rest a (omega arith) (omega arith))
+      coverage-unique itself f rest s.free a (free-le s (tiling_of is.w) a) j (rest_is_free from below) (covers-inside f a (omega arith) (omega arith))
+      (covers-inside rest a (omega arith) (omega arith))
 
   -- and each other one is no longer than the gap
   pub short : 0 < most → p ≤ c.start + i * (most + gap) + gap → (f : Range) → IsIn f s.free → end_of f ≤ p → f.len ≤ gap
@@ -145,7 +149,14 @@ module _ {fllen sllen most gap : ℕ} {memory c : Range} {i p : ℕ} {s : State}
     where
       apart : (f : Range) (u : Used) → IsIn f s.free → IsIn u s.used → (a : ℕ) → f.start ≤ a → a < end_of f → u.block.start ≤ a → a < end_of u.block → ⊥
       apart f u j h a f_low f_high u_low u_high =
-          omega (arith, blocks-le s (tiling_of is.w) a, coverage-IsIn itself f s.free a j, coverage-IsIn block_of u s.used a h, covers-inside f a f_low f_high, covers-inside u.block a u_low u_high)
+          omega (
+            arith,
+            blocks-le s (tiling_of is.w) a,
+            coverage-IsIn itself f s.free a j,
+            coverage-IsIn block_of u s.used a h,
+            covers-inside f a f_low f_high,
+            covers-inside u.block a u_low u_high,
+          )
 
   -- the used blocks behind the gaps stay where another is taken away that begins behind them
   pub blocks_others : (addr : ℕ) (x : Used) → Holds s addr x → c.start + i * (most + gap) ≤ x.block.start → 0 < most → (k : ℕ) → k < i
@@ -166,7 +177,7 @@ module _ {fllen sllen most gap : ℕ} {memory c : Range} {i p : ℕ} {s : State}
 
 -- ---- steps
 
--- for each block there is a size that is asked for at an alignment of 1, so that it is sought, and none is above the given size
+-- for each block there is a requested size whose sought size at an alignment of 1 is its length; and none is above the given size
 pub record AreAsked (most size : ℕ) (asks : ℕ → ℕ) : Type 0 where
   pub seeks : (len : ℕ) → IsSize len → len ≤ most → round32 (asks len + 16) ≡ len
   pub small : (len : ℕ) → IsSize len → len ≤ most → asks len ≤ size
@@ -195,7 +206,8 @@ pub record Gave (sllen : ℕ) (s : State) (from len z : ℕ) : Type 0 where
 module _ {fllen sllen most gap z : ℕ} {memory c : Range} (most_is : IsSize most) (seeks : round32 (z + 16) ≡ most)
     (unreach : (n : ℕ) → 0 < n → n ≤ gap → Reaches sllen (class_of sllen n) most → ⊥) where
   -- a block is taken from the front of the rest, or none is
-  pub gives : {i p : ℕ} {s : State} → IsAt fllen sllen most gap memory c i p s → c.start ≤ p → p ≤ c.start + i * (most + gap) + gap → Allocates sllen s z 1 None s ⊎ Gave sllen s p most z
+  pub gives : {i p : ℕ} {s : State} → IsAt fllen sllen most gap memory c i p s → c.start ≤ p → p ≤ c.start + i * (most + gap) + gap
+      → Allocates sllen s z 1 None s ⊎ Gave sllen s p most z
   gives {i} {p} {s} is from near =
       let (reply, t, step) = allocation_answers sllen s z 1 in
       go reply t step
@@ -239,7 +251,7 @@ module _ {fllen sllen most gap z : ℕ} {memory c : Range} (most_is : IsSize mos
         stop = inr (g.new, subst (IsIn g.new) (sym g.used) (inl refl), new_end);
       }
 
--- a plain block is made shorter where it stands, for the size z
+-- a plain block is made shorter in place, for the size z
 pub record Shrunk (sllen : ℕ) (s : State) (from len z : ℕ) : Type 0 where
   pub after : State
   pub addr : ℕ
@@ -249,7 +261,8 @@ pub record Shrunk (sllen : ℕ) (s : State) (from len z : ℕ) : Type 0 where
   pub used : after.used ≡ new ∷ others (from + 16) s.used
   pub plain : IsPlain from len new
 
-pub shrinks : (fllen sllen : ℕ) (memory : Range) (s : State) (u : Used) (from old len z : ℕ) → IsIn u s.used → IsPlain from old u → round32 (z + 16) ≡ len → len ≤ old → Shrunk sllen s from len z
+pub shrinks : (fllen sllen : ℕ) (memory : Range) (s : State) (u : Used) (from old len z : ℕ) → IsIn u s.used → IsPlain from old u → round32 (z + 16) ≡ len
+    → len ≤ old → Shrunk sllen s from len z
 shrinks fllen sllen memory s u from old len z h plain seeks less =
     let start : u.block.start ≡ from = ap (λ r. r.start) plain.block in
     let end : end_of u.block ≡ from + old = ap end_of plain.block in
@@ -258,13 +271,19 @@ shrinks fllen sllen memory s u from old len z h plain seeks less =
     let block : resized u z ≡ range_at from len = λ k. record { start = start k; len = long k } in
     let fits : end_of (resized u z) ≤ end_of u.block = omega (arith, start, end, long, less) in
     let p : Plan = record { block = resized u z; payload = u.payload; free = tail_joined (resized u z) (end_of u.block) s.free } in
-    let planned : plan s u z ≡ Some p = ap (λ b. or_else (cond b (Some p) None) (or_else (into_next s u z) (into_previous s u z))) (le-leb (end_of (resized u z)) (end_of u.block) fits) in
+    let planned : plan s u z ≡ Some p =
+    ap (λ b. or_else (cond b (Some p) None) (or_else (into_next s u z) (into_previous s u z))) (le-leb (end_of (resized u z)) (end_of u.block) fits) in
     let t = planned_after sllen s u z (Some p) in
     record {
       after = t;
       addr = u.payload;
       new = moved u p (refilled (end_of p.block - p.payload) u.bytes);
-      step = record { block = u; holds = (h, plain.payload); step = subst (λ o. ReallocatesBy sllen s u z o (Some u.payload) t) (sym planned) (planned_step fllen sllen memory s u h z (Some p)) };
+      step =
+          record {
+            block = u;
+            holds = (h, plain.payload);
+            step = subst (λ o. ReallocatesBy sllen s u z o (Some u.payload) t) (sym planned) (planned_step fllen sllen memory s u h z (Some p));
+          };
       chunks = refl;
       used = ap (λ a. moved u p (refilled (end_of p.block - p.payload) u.bytes) ∷ others a s.used) plain.payload;
       plain = record { block = block; payload = plain.payload; align = plain.align };

@@ -66,7 +66,8 @@ module _ {s s' : State} (r : AreSimilar s s') where
       let same : a.range ≡ b.range = cc in (
         ap Some (a.answer ∙ ap (λ f. payload_of f.start align) same ∙ sym b.answer),
         AreSimilar-at a.after b.after
-            (subst (λ f. AreSimilar (given sllen s a.range (placed a.range size align a.bytes)) (given sllen s' f (placed f size align b.bytes))) same (given_similar a.range a.bytes b.bytes)),
+            (subst (λ f. AreSimilar (given sllen s a.range (placed a.range size align a.bytes)) (given sllen s' f (placed f size align b.bytes))) same
+            (given_similar a.range a.bytes b.bytes)),
       )
     where
       given_similar : (f : Range) (old new : List ℕ) → AreSimilar (given sllen s f (placed f size align old)) (given sllen s' f (placed f size align new))
@@ -120,7 +121,8 @@ module _ {fllen sllen : ℕ} {memory : Range} {s s' : State} (w' : IsWellFormed 
   moved_similar p old new =
       let h = shape_of (moved u p old) in
       let apart = HasSameShapes-others u.payload s.used s'.used r.used in
-      subst (λ x. HasSame (h ∷ map shape_of (others u.payload s.used)) (record { block = p.block; payload = p.payload; align = x.align } ∷ map shape_of (others x.payload s'.used))) same
+      subst (λ x. HasSame (h ∷ map shape_of (others u.payload s.used))
+      (record { block = p.block; payload = p.payload; align = x.align } ∷ map shape_of (others x.payload s'.used))) same
       (HasSame-cons h (map shape_of (others u.payload s.used)) (map shape_of (others u.payload s'.used)) apart)
 
   pub reallocate-similar : (size : ℕ) (o : Option Plan) (m n : Option ℕ) (t t' : State)
@@ -175,4 +177,6 @@ similar_states_agree fllen sllen memory s s' t t' (trim m) e' w w' r a b same = 
 similar_states_agree fllen sllen memory s s' t t' e e' w w' r a b same = absurd same
 
 pub fill_is_similar : FillIsSimilar
-fill_is_similar s t addr bytes step = AreSimilar-alike (record { chunks = λ c. (λ i. i, λ i. i); used = λ h. (λ i. i, λ i. i); free = refl }) (record { chunks = refl; used = refl; free = refl }) (AreAlike-filled step)
+fill_is_similar s t addr bytes step =
+    AreSimilar-alike (record { chunks = λ c. (λ i. i, λ i. i); used = λ h. (λ i. i, λ i. i); free = refl }) (record { chunks = refl; used = refl; free = refl })
+    (AreAlike-filled step)

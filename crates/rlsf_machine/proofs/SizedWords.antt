@@ -1,5 +1,6 @@
 -- How much room callers are sure to find.
-use Rattle.std.proofs.Common.{◌≡◌, ℕ, ◌+◌, ◌-◌, ◌%◌, ◌<◌, ◌≤◌, List, [], ◌∷◌, length, Option, Some, None, arith, refl, sym, ◌∙◌, ap, subst, inl, inr}
+use Rattle.std.proofs.Common.{◌≡◌, ℕ, ◌+◌, ◌-◌, ◌%◌, ◌<◌, ◌≤◌, List, [], ◌∷◌, length, Option, Some, None, arith, refl, sym, ◌∙◌, ap}
+use Rattle.std.proofs.Common.{subst, inl, inr}
 use Rattle.rlsf_base.specs.declared.memory.range.Range.{Range}
 use Rattle.rlsf_base.specs.PowerOfTwo.{IsPowerOfTwo}
 use Rattle.rlsf_base.specs.Range.{range_at}
@@ -34,7 +35,8 @@ unfolding live_count
 live_count-empty = refl
 
 -- the alignment that is found at an address is that of the block there
-aligned : {fllen sllen : ℕ} {memory : Range} {s : State} → IsWellFormed fllen sllen memory s → (addr a : ℕ) → align_at s addr ≡ Some a → (u : Used) → Holds s addr u → u.align ≡ a
+aligned : {fllen sllen : ℕ} {memory : Range} {s : State} → IsWellFormed fllen sllen memory s → (addr a : ℕ) → align_at s addr ≡ Some a → (u : Used) → Holds s addr u
+    → u.align ≡ a
 aligned w addr a live u holds = same (sym (align_at-held w addr u holds) ∙ live)
   where
     same : {m n : ℕ} → Some m ≡ Some n → m ≡ n
@@ -87,21 +89,27 @@ module _ {fllen sllen : ℕ} {memory : Range} {s : State} (w : IsWellFormed flle
     kept : (e : Event) → MayCall memory s e → IsModest (length s.used) (request_size size align) s e → Leads fllen sllen s e t → IsSizedFor sllen count size align t
     unfolding IsSizedFor
     kept e may modest step =
-        let (fronts, are, budget, small) = sized in
-        (fronts, AreFronts-kept fllen sllen s fronts are t e (IsModest-stays (length s.used) (request_size size align) s e modest) step, budget, step_modest (request_size size align) w small (length s.used) t e may modest step)
+        let (fronts, are, budget, small) = sized in (
+          fronts,
+          AreFronts-kept fllen sllen s fronts are t e (IsModest-stays (length s.used) (request_size size align) s e modest) step,
+          budget,
+          step_modest (request_size size align) w small (length s.used) t e may modest step,
+        )
 
     pub sized_new : (z a : ℕ) (reply : Option ℕ) → IsPowerOfTwo a → z ≤ size → a ≤ align → Allocates sllen s z a reply t → IsSizedFor sllen count size align t
     sized_new z a reply power short fits step = kept (allocate z a reply) power (omega arith, request_size-mono z a size align short fits) step
 
     -- nor is a reallocation of a payload with this alignment
-    pub never_refused_again : (addr z a : ℕ) → align_at s addr ≡ Some a → live_count s ≤ count → z ≤ size → a ≤ align → Reallocates sllen s addr z None t → ⊥
+    pub never_refused_again : (addr z a : ℕ) → align_at s addr ≡ Some a → live_count s ≤ count → z ≤ size → a ≤ align → Reallocates sllen s addr z None t
+        → ⊥
     never_refused_again addr z a live few short fits step = go (plan s step.block z) step.step
       where
         go : (o : Option Plan) → ReallocatesBy sllen s step.block z o None t → ⊥
         go (Some p) impossible = impossible
         go None full = never_refused z step.block.align few short (subst (λ n. n ≤ align) (sym (aligned w addr a live step.block step.holds)) fits) full
 
-    pub sized_resized : (addr z a : ℕ) (reply : Option ℕ) → align_at s addr ≡ Some a → z ≤ size → a ≤ align → Reallocates sllen s addr z reply t → IsSizedFor sllen count size align t
+    pub sized_resized : (addr z a : ℕ) (reply : Option ℕ) → align_at s addr ≡ Some a → z ≤ size → a ≤ align → Reallocates sllen s addr z reply t
+        → IsSizedFor sllen count size align t
     sized_resized addr z a reply live short fits step =
         kept (reallocate addr z reply) (step.block, step.holds)
         (omega arith, λ u holds. request_size-mono z u.align size align short (subst (λ n. n ≤ align) (sym (aligned w addr a live u holds)) fits)) step
@@ -128,7 +136,8 @@ module _ {fllen sllen count size len : ℕ} (is : IsSize size) (pool : IsPayload
       (omega (arith, used, free, pool.length, pool.is.1), omega (arith, pool.length, pool.is.0, pool.is.1))
 
 -- a chunk that is as long, where nothing lives, is enough
-pub sized_chunk : (fl_bits sl_bits fllen sllen count size align len : ℕ) (s : State) (c : Range) → IsValid fl_bits sl_bits fllen sllen → pool_size_for_payloads fllen sllen count size align ≡ Some len
+pub sized_chunk : (fl_bits sl_bits fllen sllen count size align len : ℕ) (s : State) (c : Range) → IsValid fl_bits sl_bits fllen sllen
+    → pool_size_for_payloads fllen sllen count size align ≡ Some len
     → IsIn c s.chunks → len ≤ c.len → live_count s ≡ 0 → IsSizedFor sllen count size align s
 unfolding live_count IsSizedFor
 sized_chunk fl_bits sl_bits fllen sllen count size align len s c valid told is_chunk long idle =
@@ -151,7 +160,8 @@ sized_chunk fl_bits sl_bits fllen sllen count size align len s c valid told is_c
 
 -- so is a range that is inserted
 pub sized_pool : (fl_bits sl_bits fllen sllen count size align len : ℕ) (s t : State) (r : Range) (reply : Option ℕ) → IsValid fl_bits sl_bits fllen sllen
-    → pool_size_for_payloads fllen sllen count size align ≡ Some len → r.start % 32 ≡ 0 → len ≤ r.len → live_count s ≡ 0 → Inserts fllen s r reply t → IsSizedFor sllen count size align t
+    → pool_size_for_payloads fllen sllen count size align ≡ Some len → r.start % 32 ≡ 0 → len ≤ r.len → live_count s ≡ 0 → Inserts fllen s r reply t
+    → IsSizedFor sllen count size align t
 unfolding live_count
 sized_pool fl_bits sl_bits fllen sllen count size align len s t r reply valid told at32 long idle step =
     let sought = request_size size align in
@@ -159,6 +169,7 @@ sized_pool fl_bits sl_bits fllen sllen count size align len s t r reply valid to
     let (whole, some) = pool_len (IsSize-request_size size align) pool in
     let part = aligned_part r in
     let starts = round32-same r.start at32 in
-    let (c, i, wide) = (AreCutFrom-cut fllen len part valid.some_rows some (λ p is. omega (arith, (max_pool_size-some fllen p is).1, pool.short)) (omega arith) (omega (arith, starts))).wide in
+    let (c, i, wide) =
+    (AreCutFrom-cut fllen len part valid.some_rows some (λ p is. omega (arith, (max_pool_size-some fllen p is).1, pool.short)) (omega arith) (omega (arith, starts))).wide in
     let is_chunk : IsIn c t.chunks = subst (λ x. IsIn c x.chunks) (sym step.after) (IsIn-with_chunks_new c (cut (max_pool_size fllen) part) s i).0 in
     sized_chunk fl_bits sl_bits fllen sllen count size align len t c valid told is_chunk wide (ap length (used-inserted fllen s t r reply step) ∙ idle)

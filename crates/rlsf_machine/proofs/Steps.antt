@@ -29,7 +29,8 @@ empty_is_well_formed fllen sllen memory rows row_length addressable = record {
 }
 
 -- other bytes in a payload keep a state well-formed
-pub Fills-keeps : {fllen sllen : ℕ} {memory : Range} {s : State} → IsWellFormed fllen sllen memory s → (addr : ℕ) (bytes : List ℕ) (t : State) → Fills s addr bytes t → IsWellFormed fllen sllen memory t
+pub Fills-keeps : {fllen sllen : ℕ} {memory : Range} {s : State} → IsWellFormed fllen sllen memory s → (addr : ℕ) (bytes : List ℕ) (t : State) → Fills s addr bytes t
+    → IsWellFormed fllen sllen memory t
 Fills-keeps {fllen} {sllen} {memory} {s} w addr bytes t step =
     subst (IsWellFormed fllen sllen memory) (sym step.after)
     (reblocked w (filled_at addr bytes s.used) s.free

@@ -1,5 +1,6 @@
 -- Numbers of ranges and of bytes, counted address by address.
-use Rattle.std.proofs.Common.{◌≡◌, ℕ, zero, None, suc, ◌+◌, ◌-◌, ◌*◌, ◌<◌, ◌≤◌, ◌⊎◌, List, [], ◌∷◌, length, arith, refl, ap, subst, inl, inr}
+use Rattle.std.proofs.Common.{◌≡◌, ℕ, zero, None, suc, ◌+◌, ◌-◌, ◌*◌, ◌<◌, ◌≤◌, ◌⊎◌, List, [], ◌∷◌, length, arith, refl, ap, subst, inl}
+use Rattle.std.proofs.Common.{inr}
 use Rattle.std.specs.Prelude.{sum_by}
 use Rattle.std.proofs.lemmas.Bool.{cases_lt}
 use Rattle.std.proofs.lemmas.List.Sums.{sum_by-cons}
@@ -56,7 +57,14 @@ module _ {A : Type 0} (range : A → Range) where
   total-coverage : (n : ℕ) (xs : List A) → ((x : A) → IsIn x xs → end_of (range x) ≤ n) → total n (coverage range xs) ≡ sum_by (λ x. (range x).len) xs
   total-coverage n [] below = total-zero n
   total-coverage n (x ∷ xs) below =
-      omega (arith, total-add n (covers (range x)) (coverage range xs), total-covers n (range x), below x (inl refl), total-coverage n xs (λ y i. below y (inr i)), sum_by-cons (λ y. (range y).len) x xs)
+      omega (
+        arith,
+        total-add n (covers (range x)) (coverage range xs),
+        total-covers n (range x),
+        below x (inl refl),
+        total-coverage n xs (λ y i. below y (inr i)),
+        sum_by-cons (λ y. (range y).len) x xs,
+      )
 
   -- and ranges of one byte as many as there are ranges, and elsewhere no more
   total-ones : (n : ℕ) (xs : List A) → ((x : A) → (range x).len ≡ 1) → ((x : A) → IsIn x xs → end_of (range x) ≤ n) → total n (coverage range xs) ≡ length xs
@@ -70,7 +78,8 @@ module _ {A : Type 0} (range : A → Range) where
       omega (arith, total-add n (covers (range x)) (coverage range xs), total-covers n (range x), one x, total-ones-le n xs one)
 
   -- where each range has an address only if another one has another address, so do all together
-  pub coverage-le : (other : A → Range) (a b : ℕ) (xs : List A) → ((x : A) → IsIn x xs → covers (range x) a ≤ covers (other x) b) → coverage range xs a ≤ coverage other xs b
+  pub coverage-le : (other : A → Range) (a b : ℕ) (xs : List A) → ((x : A) → IsIn x xs → covers (range x) a ≤ covers (other x) b)
+      → coverage range xs a ≤ coverage other xs b
   coverage-le other a b [] h = omega arith
   coverage-le other a b (x ∷ xs) h = omega (arith, h x (inl refl), coverage-le other a b xs (λ y i. h y (inr i)))
 
@@ -139,13 +148,26 @@ module _ {fllen sllen : ℕ} {memory : Range} {s : State} (w : IsWellFormed flle
           | inl used ↦
               let (u, j, low, high) = coverage-some block_of s.used a used in
               elim (cases_lt u.block.start a) [
-                | inl earlier ↦ absurd (omega (arith, blocks-le s t (a - 1), coverage-IsIn itself f s.free (a - 1) i, coverage-IsIn block_of u s.used (a - 1) j, covers-inside u.block (a - 1) (omega arith) (omega arith)))
+                | inl earlier ↦ absurd (omega (
+                  arith,
+                  blocks-le s t (a - 1),
+                  coverage-IsIn itself f s.free (a - 1) i,
+                  coverage-IsIn block_of u s.used (a - 1) j,
+                  covers-inside u.block (a - 1) (omega arith) (omega arith),
+                ))
                 | inr at ↦ omega (arith, coverage-IsIn first u s.used a j, covers-inside (first u) a (omega arith) (omega arith))
               ]
           | inr no_used ↦
               let (d, j, low, high) = coverage-some last_bytes s.chunks a (omega (arith, t.tiled a, coverage-IsIn itself c s.chunks a home.is_chunk)) in
               elim (cases_lt (end_of d - 32) a) [
-                | inl earlier ↦ absurd (omega (arith, t.tiled (a - 1), t.disjoint (a - 1), coverage-IsIn itself f s.free (a - 1) i, coverage-IsIn last_bytes d s.chunks (a - 1) j, covers-inside (last_bytes d) (a - 1) (omega arith) (omega arith)))
+                | inl earlier ↦ absurd (omega (
+                  arith,
+                  t.tiled (a - 1),
+                  t.disjoint (a - 1),
+                  coverage-IsIn itself f s.free (a - 1) i,
+                  coverage-IsIn last_bytes d s.chunks (a - 1) j,
+                  covers-inside (last_bytes d) (a - 1) (omega arith) (omega arith),
+                ))
                 | inr at ↦ omega (arith, coverage-IsIn last d s.chunks a j, covers-inside (last d) a (omega arith) (omega arith))
               ]
         ]
@@ -216,7 +238,8 @@ long_free {fllen} {sllen} {memory} s w k enough = elim (long_or_short k s.free) 
 ]
 
 -- and so it is taken for a size
-pub taken_free : {fllen sllen : ℕ} {memory : Range} (s : State) → IsWellFormed fllen sllen memory s → (most least size : ℕ) → IsTakenFor sllen most least → size ≤ most
+pub taken_free : {fllen sllen : ℕ} {memory : Range} (s : State) → IsWellFormed fllen sllen memory s → (most least size : ℕ) → IsTakenFor sllen most least
+    → size ≤ most
     → (length s.used + length s.chunks) * (least - 32) < total_len s.free → (f : Range) × IsIn f s.free × Reaches sllen (class_of sllen f.len) size
 taken_free {sllen = sllen} s w most least size taken fits enough =
     let (f, i, long) = long_free s w (least - 32) enough in

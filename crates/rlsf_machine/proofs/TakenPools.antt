@@ -1,5 +1,6 @@
--- A range that was handed in, whole but for some bytes at its ends, makes the awaited allocation succeed.
-use Rattle.std.proofs.Common.{◌≡◌, ℕ, zero, suc, ◌+◌, ◌-◌, ◌*◌, ◌/◌, ◌%◌, ◌<◌, ◌≤◌, List, Option, Some, None, find, true≢false, arith, refl, sym, ◌∙◌, ap, subst, inl, inr}
+-- An inserted range, complete except for some bytes at its ends, makes the awaited allocation succeed.
+use Rattle.std.proofs.Common.{◌≡◌, ℕ, zero, suc, ◌+◌, ◌-◌, ◌*◌, ◌/◌, ◌%◌, ◌<◌, ◌≤◌, List, Option, Some, None, find, true≢false, arith, refl}
+use Rattle.std.proofs.Common.{sym, ◌∙◌, ap, subst, inl, inr}
 use Rattle.std.proofs.lemmas.Bool.{cases_lt, eq-eqb, eqb-true}
 use Rattle.std.proofs.lemmas.Option.{none-some, same_Some}
 use Rattle.rlsf_base.specs.declared.memory.range.Range.{Range}
@@ -26,7 +27,7 @@ use Rattle.rlsf_machine.proofs.Cuts.{chunks_are_cut_off_the_front, most_whole}
 use Rattle.rlsf_machine.proofs.Joins.{IsIn-join}
 use Rattle.rlsf_machine.proofs.Releases.{IsSound-free}
 
--- a chunk of the state after is one of the state before, or lies in what was handed in, or is one that ended there and goes on
+-- a chunk of the state after was one before, lies in the inserted range, or is one that ended there and is longer now
 pub data Origin (s : State) (r : Range) (n : ℕ) (c : Range) : Type 0 where
   old : IsIn c s.chunks → Origin s r n c
   new : r.start ≤ c.start → end_of c ≤ r.start + n → Origin s r n c
@@ -55,7 +56,9 @@ pool_has_a_choice fl_bits sl_bits fllen sllen size align e t valid told pool non
     let some = (IsPower-row_length sllen valid.power_of_two).some in
     let less : 0 < e - 32 = omega (arith, room) in
     let order : e - 32 ≤ f.len = omega (arith, pool.long) in
-    let longer = Reaches-IsAtMost sllen (class_of sllen (e - 32)) (class_of sllen f.len) (request_size size align) (division-lt sllen (e - 32) less some) (IsAtMost-class_of sllen (e - 32) f.len some less order) reached in
+    let longer =
+    Reaches-IsAtMost sllen (class_of sllen (e - 32)) (class_of sllen f.len) (request_size size align) (division-lt sllen (e - 32) less some)
+    (IsAtMost-class_of sllen (e - 32) f.len some less order) reached in
     choice-none sllen (request_size size align) t.free none f pool.is_free longer
 
 -- so that it isn't refused
@@ -77,7 +80,8 @@ IsPartOf-aligned_part e r room whole has =
     let long : e ≤ (aligned_part r).len = elim has [ inl spare ↦ omega arith | inr (begins, enough) ↦ omega arith ] in
     record { from = omega arith; to = omega arith; nearly = omega arith; long = long }
 
-cut_pool : (e end : ℕ) (s : State) (r part : Range) (cs : List Range) → IsPartOf e r part → AreCutFrom e part end cs → IsTaken s r (end - r.start) (with_chunks cs s) × HasPool e (with_chunks cs s)
+cut_pool : (e end : ℕ) (s : State) (r part : Range) (cs : List Range) → IsPartOf e r part → AreCutFrom e part end cs
+    → IsTaken s r (end - r.start) (with_chunks cs s) × HasPool e (with_chunks cs s)
 cut_pool e end s r part cs is are =
     let (c, c_in, c_long) = are.wide in
     let (d, d_in, d_end) = are.last in
@@ -95,7 +99,8 @@ cut_pool e end s r part cs is are =
     )
 
 -- a range that is inserted is taken, and has a pool
-pub inserted_pool : (fllen sllen e : ℕ) (s t : State) (r : Range) (taken : Option ℕ) → 0 < fllen → 64 ≤ e → e % 32 ≡ 0 → ((p : ℕ) → max_pool_size fllen ≡ Some p → e ≤ p)
+pub inserted_pool : (fllen sllen e : ℕ) (s t : State) (r : Range) (taken : Option ℕ) → 0 < fllen → 64 ≤ e → e % 32 ≡ 0
+    → ((p : ℕ) → max_pool_size fllen ≡ Some p → e ≤ p)
     → HasAlignedPart r e → Inserts fllen s r taken t → (n : ℕ) × (taken ≡ Some n) × IsTaken s r n t × HasPool e t
 inserted_pool fllen sllen e s t r taken rows room whole short has step =
     let part = aligned_part r in
@@ -132,7 +137,8 @@ inserted_taken fllen s t r n rows step =
 
 -- ---- a chunk goes on
 
-module _ {fllen sllen : ℕ} {memory : Range} {s : State} (w : IsWellFormed fllen sllen memory s) (e m : ℕ) (r : Range) (some : 0 < m) (m32 : m % 32 ≡ 0) (long : e ≤ m) (within : m ≤ r.len) (nearly : r.len < m + 64) where
+module _ {fllen sllen : ℕ} {memory : Range} {s : State} (w : IsWellFormed fllen sllen memory s) (e m : ℕ) (r : Range) (some : 0 < m) (m32 : m % 32 ≡ 0) (long : e ≤ m)
+    (within : m ≤ r.len) (nearly : r.len < m + 64) where
   grown_pool : (c : Range) → IsIn c s.chunks → end_of c ≡ r.start → IsTaken s r m (grown c m s) × HasPool e (grown c m s)
   grown_pool c is_chunk ends =
       let chunk = w.chunks c is_chunk in
@@ -153,7 +159,8 @@ module _ {fllen sllen : ℕ} {memory : Range} {s : State} (w : IsWellFormed flle
       )
 
   -- the chunk that ends there is found
-  grown_if_pool : (c : Range) → IsIn c s.chunks → end_of c ≡ r.start → (o : Option Range) → find (ends_at r.start) s.chunks ≡ o → IsTaken s r m (grown_if o m s) × HasPool e (grown_if o m s)
+  grown_if_pool : (c : Range) → IsIn c s.chunks → end_of c ≡ r.start → (o : Option Range) → find (ends_at r.start) s.chunks ≡ o
+      → IsTaken s r m (grown_if o m s) × HasPool e (grown_if o m s)
   grown_if_pool c is_chunk ends None none = absurd (true≢false (sym (eq-eqb (end_of c) r.start ends) ∙ find-none (ends_at r.start) c s.chunks none is_chunk))
   grown_if_pool c is_chunk ends (Some d) found =
       let (is_in, passes) = find-some (ends_at r.start) d s.chunks found in
@@ -164,7 +171,8 @@ extended-some at zero s some = absurd (omega arith)
 extended-some at (suc n) s some = refl
 
 -- a range that is appended is taken, and has a pool
-pub appended_pool : (fllen sllen e : ℕ) (memory : Range) (s t : State) (r : Range) (n : ℕ) → IsWellFormed fllen sllen memory s → IsNext memory s r → 64 ≤ e → e % 32 ≡ 0
+pub appended_pool : (fllen sllen e : ℕ) (memory : Range) (s t : State) (r : Range) (n : ℕ) → IsWellFormed fllen sllen memory s → IsNext memory s r → 64 ≤ e
+    → e % 32 ≡ 0
     → ((p : ℕ) → max_pool_size fllen ≡ Some p → e ≤ p) → e ≤ r.len → Appends fllen s r n t → IsTaken s r n t × HasPool e t
 appended_pool fllen sllen e memory s t r n w next room whole short long step =
     let chunk = w.chunks next.chunk next.is_chunk in
@@ -188,6 +196,7 @@ appended_pool fllen sllen e memory s t r n w next room whole short long step =
         (subst (λ o. IsTaken s r (end_of_last part.start (cut o part) - r.start) (with_chunks (cut o part) s) × HasPool e (with_chunks (cut o part) s)) is pool)
 
 -- 64 bytes or more that are appended are taken
-pub appended_taken : (fllen sllen : ℕ) (memory : Range) (s t : State) (r : Range) (n : ℕ) → IsWellFormed fllen sllen memory s → IsNext memory s r → 64 ≤ r.len → Appends fllen s r n t → IsTaken s r n t
+pub appended_taken : (fllen sllen : ℕ) (memory : Range) (s t : State) (r : Range) (n : ℕ) → IsWellFormed fllen sllen memory s → IsNext memory s r → 64 ≤ r.len
+    → Appends fllen s r n t → IsTaken s r n t
 appended_taken fllen sllen memory s t r n w next long step =
     (appended_pool fllen sllen 64 memory s t r n w next (omega arith) refl (λ p most. most_long fllen p w.rows most) long step).0

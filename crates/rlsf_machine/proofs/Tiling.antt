@@ -84,10 +84,15 @@ IsValidClass-le fllen sllen m n some order valid =
     (IsValidClass-class_of sllen m some fllen).1 (omega (arith, (IsValidClass-class_of sllen n more fllen).0 valid))
 
 -- the tiling bounds the free lengths
-pub IsFree-from : (fllen sllen : ℕ) (memory : Range) (s : State) → ((c : Range) → IsIn c s.chunks → IsChunk fllen sllen memory c) → IsTiled s → (f : Range) → IsIn f s.free → IsWhole f → 0 < f.len → IsFree fllen sllen f
+pub IsFree-from : (fllen sllen : ℕ) (memory : Range) (s : State) → ((c : Range) → IsIn c s.chunks → IsChunk fllen sllen memory c) → IsTiled s → (f : Range)
+    → IsIn f s.free → IsWhole f → 0 < f.len → IsFree fllen sllen f
 IsFree-from fllen sllen memory s chunks t f h whole some =
     let within = lies_in_chunk s t f some (IsPart-free s t f h) in
-    record { whole = whole; some = some; valid = IsValidClass-le fllen sllen f.len (within.chunk.len - 32) some (omega (arith, within.from, within.to)) (chunks within.chunk within.is_chunk).valid }
+    record {
+      whole = whole;
+      some = some;
+      valid = IsValidClass-le fllen sllen f.len (within.chunk.len - 32) some (omega (arith, within.from, within.to)) (chunks within.chunk within.is_chunk).valid;
+    }
 
 -- what has to be shown of a state
 pub record Fits (fllen sllen : ℕ) (memory : Range) (s : State) : Type 0 where

@@ -1,5 +1,6 @@
--- A machine over a source with trims: what it replies to calls and gives back, computed, and that they are a run.
-use Rattle.std.proofs.Common.{◌≡◌, ℕ, ◌+◌, ◌-◌, ◌<◌, ◌≤◌, Bool, true, false, ◌&&◌, ◌||◌, cond, leb, eqb, length, map, max, List, [], ◌∷◌, ◌++◌, Option, Some, None, find, take, drop, true≢false, arith, refl, sym, ◌∙◌, ap, subst, inl, inr}
+-- The reference model over a source with trims: its replies and the ranges that it returns, computed, and that they are a run.
+use Rattle.std.proofs.Common.{◌≡◌, ℕ, ◌+◌, ◌-◌, ◌<◌, ◌≤◌, Bool, true, false, ◌&&◌, ◌||◌, cond, leb, eqb, length, map, max, List, [], ◌∷◌}
+use Rattle.std.proofs.Common.{◌++◌, Option, Some, None, find, take, drop, true≢false, arith, refl, sym, ◌∙◌, ap, subst, inl, inr}
 use Rattle.std.specs.Option.{is_some}
 use Rattle.std.proofs.lemmas.Bool.{and_parts, eqb-true, leb-true}
 use Rattle.std.proofs.lemmas.List.{take-append-drop}
@@ -17,11 +18,12 @@ use Rattle.rlsf_machine.specs.Terms.{Terms}
 use Rattle.rlsf_machine.specs.Trim.{all_removed, IsKeptToLast, IsNewestHeld}
 use Rattle.rlsf_machine.specs.WellFormed.{covers, coverage}
 use Rattle.rlsf_machine.proofs.Coverage.{by_test, find-some, covers-before, covers-behind, covers-inside}
-use Rattle.rlsf_machine.proofs.FlexExamples.{Attempt, AreAnswers, AreAnswers-from, FlexAllocates-so, are_answers, after, asked, done, is_power_of_two, may_attempt, may_come, ready, room}
+use Rattle.rlsf_machine.proofs.FlexExamples.{Attempt, AreAnswers, AreAnswers-from, FlexAllocates-so, are_answers, after, asked, done, is_power_of_two, may_attempt, may_come, ready}
+use Rattle.rlsf_machine.proofs.FlexExamples.{room}
 use Rattle.rlsf_machine.proofs.Removals.{lies_within-le, lies_within-true}
 use Rattle.rlsf_machine.proofs.Tiling.{block_of}
 
--- an allocation without its reply, a deallocation, or a trim by which so many ranges go back
+-- an allocation without its reply, a deallocation, or a trim by which so many ranges are returned
 pub data Move : Type 0 where
   allocates : Attempt → Move
   frees : ℕ → Move
@@ -32,7 +34,7 @@ abbrev pub RunsWith : ℕ → ℕ → Terms → FlexState → List FlexEvent →
 RunsWith fllen sllen t s [] u = u ≡ s
 RunsWith fllen sllen t s (c ∷ cs) u = (m : FlexState) × AreAnswers t s.pools c.notes × FlexLeads fllen sllen t s c.event c.notes m × RunsWith fllen sllen t m cs u
 
--- ---- what a trim gives back and keeps
+-- ---- what a trim returns and keeps
 
 -- whether no used block has a byte of a range
 abbrev pub is_idle : Range → List Used → Bool
@@ -85,7 +87,7 @@ without_block s (Some u) = with_machine s (released s.machine u)
 abbrev pub block_at : FlexState → ℕ → Option Used
 block_at s addr = find (λ u. eqb u.payload addr) s.machine.used
 
--- the state once so many of the newest ranges went back
+-- the state once so many of the newest ranges were returned
 abbrev pub trimmed : ℕ → FlexState → FlexState
 trimmed n s =
     let m = all_removed (take n s.pools) s.machine in
@@ -173,7 +175,8 @@ last_end-le r (d ∷ cs) c i low high = by_test (lies_within r d)
       | inr j ↦ omega (arith, last_end-le r cs c j low high)
     ])
 
-ends_in-from : (r : Range) (a : ℕ) (cs : List Range) → ends_in r a cs ≡ true → (c : Range) × IsIn c cs × (r.start ≤ c.start) × (end_of c ≤ end_of r) × (end_of c ≡ a)
+ends_in-from : (r : Range) (a : ℕ) (cs : List Range) → ends_in r a cs ≡ true
+    → (c : Range) × IsIn c cs × (r.start ≤ c.start) × (end_of c ≤ end_of r) × (end_of c ≡ a)
 ends_in-from r a [] e = absurd (true≢false (sym e))
 ends_in-from r a (c ∷ cs) e = or_parts (lies_within r c && eqb (end_of c) a) (ends_in r a cs) e
     (λ f. let (lies, at) = and_parts (lies_within r c) (eqb (end_of c) a) f in let (low, high) = lies_within-true r c lies in (c, inl refl, low, high, eqb-true (end_of c) a at))
@@ -229,7 +232,8 @@ module _ (fllen sllen : ℕ) (t : Terms) (s : FlexState) where
       )
 
   move_leads : (m : Move) → may_move fllen sllen t s m ≡ true
-      → AreAnswers t s.pools (moved_by fllen sllen t s m).notes × FlexLeads fllen sllen t s (moved_by fllen sllen t s m).event (moved_by fllen sllen t s m).notes (moved_to fllen sllen t s m)
+      → AreAnswers t s.pools (moved_by fllen sllen t s m).notes
+      × FlexLeads fllen sllen t s (moved_by fllen sllen t s m).event (moved_by fllen sllen t s m).notes (moved_to fllen sllen t s m)
   move_leads (allocates a) e =
       let first = room sllen s a.size a.align in
       let second = room sllen (ready fllen sllen t s a) a.size a.align in

@@ -25,7 +25,8 @@ idle-similar {s} {s'} r q idle a low high = coverage-none block_of s'.used a (λ
     omega (arith, coverage-IsIn block_of y s.used a j, idle a low high))
 
 -- the newest ranges that hold none are the same ones
-gone-same : {s s' : State} → AreSimilar s s' → (gone left gone' left' : List Range) → gone ++ left ≡ gone' ++ left' → ((q : Range) → IsIn q gone → IsIdle s q) → ((q : Range) → IsIn q gone' → IsIdle s' q)
+gone-same : {s s' : State} → AreSimilar s s' → (gone left gone' left' : List Range) → gone ++ left ≡ gone' ++ left' → ((q : Range) → IsIn q gone → IsIdle s q)
+    → ((q : Range) → IsIn q gone' → IsIdle s' q)
     → IsNewestHeld s left → IsNewestHeld s' left' → (gone ≡ gone') × (left ≡ left')
 gone-same r [] left [] left' e idle idle' held held' = (refl, e)
 gone-same {s} r [] left (q ∷ gone') left' e idle idle' held held' =
@@ -63,7 +64,8 @@ trims-similar t s s' u u' m n notes notes' r (inl (takes, a)) (inl (_, b)) =
     let (gone, left) = gone-same r.machine a.gone a.left b.gone b.left (sym a.split ∙ r.pools ∙ b.split) a.idle b.idle a.held b.held in
     let near = all_removed-similar a.gone s.machine s'.machine r.machine in
     let b_machine : u'.machine ≡ all_removed a.gone s'.machine = b.machine ∙ ap (λ l. all_removed l s'.machine) (sym gone) in
-    let machine : AreSimilar u.machine u'.machine = subst (λ x. AreSimilar x u'.machine) (sym a.machine) (subst (AreSimilar (all_removed a.gone s.machine)) (sym b_machine) near) in (
+    let machine : AreSimilar u.machine u'.machine =
+    subst (λ x. AreSimilar x u'.machine) (sym a.machine) (subst (AreSimilar (all_removed a.gone s.machine)) (sym b_machine) near) in (
       a.counted ∙ ap length gone ∙ sym b.counted,
       a.noted ∙ ap (map dealloc) gone ∙ sym b.noted,
       record {

@@ -1,5 +1,6 @@
 -- A trim leaves a state well-formed, and is a run of removals.
-use Rattle.std.proofs.Common.{◌≡◌, ◌⊎◌, ℕ, ◌+◌, ◌<◌, ◌≤◌, zero, suc, Bool, true, false, true≢false, ◌||◌, List, [], ◌∷◌, ◌++◌, length, map, Option, Some, None, arith, refl, sym, ◌∙◌, ap, subst, inl, inr}
+use Rattle.std.proofs.Common.{◌≡◌, ◌⊎◌, ℕ, ◌+◌, ◌<◌, ◌≤◌, zero, suc, Bool, true, false, true≢false, ◌||◌, List, [], ◌∷◌, ◌++◌, length}
+use Rattle.std.proofs.Common.{map, Option, Some, None, arith, refl, sym, ◌∙◌, ap, subst, inl, inr}
 use Rattle.std.proofs.lemmas.Bool.{cases_lt}
 use Rattle.rlsf_base.specs.declared.memory.range.Range.{Range}
 use Rattle.rlsf_base.specs.Range.{end_of}
@@ -25,7 +26,7 @@ pub used-all_removed : (gone : List Range) (s : State) → (all_removed gone s).
 used-all_removed [] s = refl
 used-all_removed (r ∷ gone) s = used-all_removed gone (removed r s)
 
--- the machine's own state is well-formed, and has its chunks as pools in outstanding ranges
+-- the reference model's own state is well-formed, and has its chunks as pools in outstanding ranges
 pub record IsOver (fllen sllen : ℕ) (memory space : Range) (s : State) (pools : List Range) : Type 0 where
   pub machine : IsWellFormed fllen sllen memory s
   pub outstanding : AreOutstanding space pools
@@ -44,7 +45,8 @@ module _ {fllen sllen : ℕ} {memory space : Range} where
       idle = idle;
       whole = λ c i. let (p, j, from, to) = w.housed c i in
           elim j [
-            | inl same ↦ let start : p.start ≡ r.start = ap (λ q. q.start) {x = p} same in let end : end_of p ≡ end_of r = ap end_of {x = p} same in inl (omega arith, omega arith)
+            | inl same ↦ let start : p.start ≡ r.start = ap (λ q. q.start) {x = p} same in let end : end_of p ≡ end_of r = ap end_of {x = p} same in
+                inl (omega arith, omega arith)
             | inr k ↦ inr (λ a. elim (where_is c a) [
               | inside one low high ↦ omega (arith, off_newest p a k (omega arith) (omega arith))
               | before none low ↦ omega (arith, covers-le r a)
@@ -96,12 +98,14 @@ module _ {fllen sllen : ℕ} {memory space : Range} where
     }
 
   -- so without some of them
-  pub IsOver-all_removed : (gone left : List Range) (s : State) → IsOver fllen sllen memory space s (gone ++ left) → ((r : Range) → IsIn r gone → IsIdle s r) → IsOver fllen sllen memory space (all_removed gone s) left
+  pub IsOver-all_removed : (gone left : List Range) (s : State) → IsOver fllen sllen memory space s (gone ++ left) → ((r : Range) → IsIn r gone → IsIdle s r)
+      → IsOver fllen sllen memory space (all_removed gone s) left
   IsOver-all_removed [] left s w idle = w
   IsOver-all_removed (r ∷ gone) left s w idle = IsOver-all_removed gone left (removed r s) (IsOver-removed w (idle r (inl refl))) (λ q i. idle q (inr i))
 
   -- they are taken away one after another
-  pub Runs-all_removed : (gone left : List Range) (s : State) → IsOver fllen sllen memory space s (gone ++ left) → ((r : Range) → IsIn r gone → IsIdle s r) → Runs fllen sllen memory s (map remove gone) (all_removed gone s)
+  pub Runs-all_removed : (gone left : List Range) (s : State) → IsOver fllen sllen memory space s (gone ++ left) → ((r : Range) → IsIn r gone → IsIdle s r)
+      → Runs fllen sllen memory s (map remove gone) (all_removed gone s)
   Runs-all_removed [] left s w idle = refl
   Runs-all_removed (r ∷ gone) left s w idle =
       let now = idle r (inl refl) in
@@ -115,7 +119,8 @@ AreRemovals (r ∷ gone) = let (long, all) = AreRemovals gone in (ap suc long, �
 -- ---- the kept pool
 
 -- a pool ends where the range's last chunk does
-pub EndsLast-pool : {fllen sllen : ℕ} {memory : Range} {s : State} → IsWellFormed fllen sllen memory s → (r : Range) (len : ℕ) → IsPool s r len → EndsLast s.chunks r len
+pub EndsLast-pool : {fllen sllen : ℕ} {memory : Range} {s : State} → IsWellFormed fllen sllen memory s → (r : Range) (len : ℕ) → IsPool s r len
+    → EndsLast s.chunks r len
 EndsLast-pool {s = s} w r len is =
     let (c, i, from, ends) = IsPool-last s r len is in
     record {
@@ -124,7 +129,8 @@ EndsLast-pool {s = s} w r len is =
     }
 
 -- with the same chunks, the last ends at one address
-pub EndsLast-same : (cs ds : List Range) (r : Range) (m n : ℕ) → ((c : Range) → IsIn c cs → IsIn c ds) → ((c : Range) → IsIn c ds → IsIn c cs) → EndsLast cs r m → EndsLast ds r n → m ≡ n
+pub EndsLast-same : (cs ds : List Range) (r : Range) (m n : ℕ) → ((c : Range) → IsIn c cs → IsIn c ds) → ((c : Range) → IsIn c ds → IsIn c cs) → EndsLast cs r m
+    → EndsLast ds r n → m ≡ n
 EndsLast-same cs ds r m n to from a b =
     let (c, i, low, high, ends) = a.last in
     let (d, j, low', high', ends') = b.last in
@@ -132,7 +138,8 @@ EndsLast-same cs ds r m n to from a b =
 
 -- ---- a trim over a source
 
-pub IsOver-flex : {fllen sllen : ℕ} {memory : Range} {t : Terms} {s : FlexState} → IsFlexWellFormed fllen sllen memory t s → IsOver fllen sllen memory t.space s.machine s.pools
+pub IsOver-flex : {fllen sllen : ℕ} {memory : Range} {t : Terms} {s : FlexState} → IsFlexWellFormed fllen sllen memory t s
+    → IsOver fllen sllen memory t.space s.machine s.pools
 IsOver-flex w = record { machine = w.machine; outstanding = w.pools; housed = w.housed; pooled = w.pooled }
 
 module _ {fllen sllen : ℕ} {memory : Range} {t : Terms} {s : FlexState} (w : IsFlexWellFormed fllen sllen memory t s) where
@@ -143,7 +150,8 @@ module _ {fllen sllen : ℕ} {memory : Range} {t : Terms} {s : FlexState} (w : I
       (IsOver-all_removed g.gone g.left s.machine (subst (IsOver fllen sllen memory t.space s.machine) g.split (IsOver-flex w)) g.idle))
 
   -- the newest range that is left is a kept pool
-  newest_left : t.dealloc ≡ true → (m : State) (left : List Range) (kept : Option KeptPool) → IsOver fllen sllen memory t.space m left → IsKeptToLast m.chunks left kept → IsNewest t kept left m.chunks
+  newest_left : t.dealloc ≡ true → (m : State) (left : List Range) (kept : Option KeptPool) → IsOver fllen sllen memory t.space m left → IsKeptToLast m.chunks left kept
+      → IsNewest t kept left m.chunks
   newest_left takes m [] kept over is = subst (λ k. IsNewest t k [] m.chunks) (sym is) (λ keep. refl)
   newest_left takes m (r ∷ left) kept over (len, ends, is) =
       let (n, pool) = over.pooled r (inl refl) in
@@ -226,13 +234,14 @@ split_off s (r ∷ pools) = elim (idle_or_held s r) [
 ]
 
 -- what is kept of ranges that have pools
-kept_of_left : {fllen sllen : ℕ} {memory space : Range} (m : State) (left : List Range) → IsOver fllen sllen memory space m left → (kept : Option KeptPool) × IsKeptToLast m.chunks left kept
+kept_of_left : {fllen sllen : ℕ} {memory space : Range} (m : State) (left : List Range) → IsOver fllen sllen memory space m left
+    → (kept : Option KeptPool) × IsKeptToLast m.chunks left kept
 kept_of_left m [] over = (None, refl)
 kept_of_left m (r ∷ left) over =
     let (len, pool) = over.pooled r (inl refl) in
     (Some (record { range = r; len = len }), (len, EndsLast-pool over.machine r len pool, refl))
 
--- every trim can be answered
+-- every trim has a reply
 pub trim_answers : {fllen sllen : ℕ} {memory : Range} {t : Terms} {s : FlexState} → IsFlexWellFormed fllen sllen memory t s
     → (count : ℕ) × (gone : List Range) × (u : FlexState) × Trims t s count (map dealloc gone) u
 trim_answers {t = t} {s = s} w = go t.dealloc refl
@@ -247,5 +256,19 @@ trim_answers {t = t} {s = s} w = go t.dealloc refl
           length x.gone,
           x.gone,
           record { machine = m; pools = x.left; kept = kept },
-          inl (takes, record { gone = x.gone; left = x.left; split = x.split; idle = x.idle; held = x.held; counted = refl; noted = refl; machine = refl; pools = refl; kept = is }),
+          inl (
+            takes,
+            record {
+              gone = x.gone;
+              left = x.left;
+              split = x.split;
+              idle = x.idle;
+              held = x.held;
+              counted = refl;
+              noted = refl;
+              machine = refl;
+              pools = refl;
+              kept = is;
+            },
+          ),
         )

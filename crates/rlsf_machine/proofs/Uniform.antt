@@ -1,5 +1,6 @@
 -- States whose blocks all have one length.
-use Rattle.std.proofs.Common.{◌≡◌, ℕ, zero, suc, ◌+◌, ◌-◌, ◌*◌, ◌/◌, ◌%◌, ◌^◌, ◌<◌, ◌≤◌, ◌⊎◌, ◌↔◌, List, [], ◌∷◌, Option, Some, None, find, length, arith, refl, sym, ◌∙◌, ap, subst, inl, inr}
+use Rattle.std.proofs.Common.{◌≡◌, ℕ, zero, suc, ◌+◌, ◌-◌, ◌*◌, ◌/◌, ◌%◌, ◌^◌, ◌<◌, ◌≤◌, ◌⊎◌, ◌↔◌, List, [], ◌∷◌}
+use Rattle.std.proofs.Common.{Option, Some, None, find, length, arith, refl, sym, ◌∙◌, ap, subst, inl, inr}
 use Rattle.std.specs.Prelude.{sum_by}
 use Rattle.std.proofs.lemmas.Bool.{cases_lt}
 use Rattle.std.proofs.lemmas.List.Sums.{sum_by-cons}
@@ -45,7 +46,8 @@ sum-used len [] same = omega arith
 sum-used len (u ∷ us) same = omega (arith, sum_by-cons (λ v. v.block.len) u us, same u (inl refl), sum-used len us (λ v i. same v (inr i)))
 
 -- short ranges that all end at one address
-sum-short : (end len : ℕ) (fs : List Range) → ((f : Range) → IsIn f fs → (end_of f ≡ end) × (f.len < len)) → sum_by (λ f. f.len) fs + coverage past fs end ≤ coverage past fs end * len
+sum-short : (end len : ℕ) (fs : List Range) → ((f : Range) → IsIn f fs → (end_of f ≡ end) × (f.len < len))
+    → sum_by (λ f. f.len) fs + coverage past fs end ≤ coverage past fs end * len
 sum-short end len [] short = omega arith
 sum-short end len (f ∷ fs) short =
     let (at, less) = short f (inl refl) in
@@ -111,7 +113,8 @@ uniform_is_full fllen sllen memory s t c size align reply w is begins step =
             | inr long ↦
                 let full = (w.free f i).some in
                 absurd (choice-none sllen len s.free refused.0 f i
-                (Reaches-IsAtMost sllen (class_of sllen len) (class_of sllen f.len) len (division-lt sllen len some w.row_length) (IsAtMost-class_of sllen len f.len w.row_length some long) begins))
+                (Reaches-IsAtMost sllen (class_of sllen len) (class_of sllen f.len) len (division-lt sllen len some w.row_length)
+                (IsAtMost-class_of sllen len f.len w.row_length some long) begins))
           ] in
           omega (arith, full_if_short w c len some is short, total_is w c len some is)),
       (λ full. given_up reply step full),
@@ -186,7 +189,8 @@ deallocation_keeps_uniform len s t c addr is step =
     low None e = (is.used step.block step.holds.0).1
     low (Some f) e = is.free f (find-some (ends_at step.block.block.start) f s.free e).0
 
-step_uniform : (len fllen sllen : ℕ) (memory : Range) (s t : State) (c : Range) (e : Event) → IsWellFormed fllen sllen memory s → IsUniform len c s → MayCall memory s e → AsksUniformly len e → Leads fllen sllen s e t → IsUniform len c t
+step_uniform : (len fllen sllen : ℕ) (memory : Range) (s t : State) (c : Range) (e : Event) → IsWellFormed fllen sllen memory s → IsUniform len c s → MayCall memory s e
+    → AsksUniformly len e → Leads fllen sllen s e t → IsUniform len c t
 step_uniform len fllen sllen memory s t c (insert r reply) w is may asks step = absurd asks
 step_uniform len fllen sllen memory s t c (append r reply) w is may asks step = absurd asks
 step_uniform len fllen sllen memory s t c (allocate size align reply) w is may (same, small) step =
@@ -212,8 +216,10 @@ runs_keep_uniform len fllen sllen memory s t c (e ∷ es) w is (u, may, step, re
 
 -- ---- replies
 
-allocation_answers : {fllen sllen : ℕ} {memory : Range} (s t : State) (c : Range) (size align : ℕ) (reply : Option ℕ) → IsWellFormed fllen sllen memory s → IsUniform (request_size size align) c s
-    → Reaches sllen (class_of sllen (request_size size align)) (request_size size align) → Allocates sllen s size align reply t → (reply ≡ None) ↔ (length s.used ≡ blocks_in (request_size size align) c)
+allocation_answers : {fllen sllen : ℕ} {memory : Range} (s t : State) (c : Range) (size align : ℕ) (reply : Option ℕ) → IsWellFormed fllen sllen memory s
+    → IsUniform (request_size size align) c s
+    → Reaches sllen (class_of sllen (request_size size align)) (request_size size align) → Allocates sllen s size align reply t
+    → (reply ≡ None) ↔ (length s.used ≡ blocks_in (request_size size align) c)
 allocation_answers {fllen} {sllen} {memory} s t c size align reply w is begins step =
     let len = request_size size align in
     let n = length s.used in
@@ -230,7 +236,8 @@ allocation_answers {fllen} {sllen} {memory} s t c size align reply w is begins s
       ],
     )
 
-event_answers : (len : ℕ) {fllen sllen : ℕ} {memory : Range} (s t : State) (c : Range) (e : Event) → IsWellFormed fllen sllen memory s → IsUniform len c s → Reaches sllen (class_of sllen len) len
+event_answers : (len : ℕ) {fllen sllen : ℕ} {memory : Range} (s t : State) (c : Range) (e : Event) → IsWellFormed fllen sllen memory s → IsUniform len c s
+    → Reaches sllen (class_of sllen len) len
     → AsksUniformly len e → Leads fllen sllen s e t → IsDeniedOnlyAt (blocks_in len c) (length s.used) e
 event_answers len s t c (insert r reply) w is begins asks step = tt
 event_answers len s t c (append r reply) w is begins asks step = tt
@@ -249,13 +256,15 @@ uniform_runs_answer len fllen sllen memory s t c (e ∷ es) w is some begins (u,
     let kept = steps_keep_well_formed fllen sllen memory s u e w may step in (
       event_answers len s u c e w is begins (asks e (inl refl)) step,
       subst (λ n. AreDeniedOnlyAt (blocks_in len c) n es) (live_is_counted fllen sllen memory s u e w may step)
-          (uniform_runs_answer len fllen sllen memory u t c es kept (step_uniform len fllen sllen memory s u c e w is may (asks e (inl refl)) step) some begins rest (λ d i. asks d (inr i))),
+          (uniform_runs_answer len fllen sllen memory u t c es kept (step_uniform len fllen sllen memory s u c e w is may (asks e (inl refl)) step) some begins rest
+          (λ d i. asks d (inr i))),
     )
 
 -- ---- an example
 
 -- seven blocks of 64 bytes and no eighth, whatever was allocated and freed before, in a chunk of 480 and 32 bytes
-seven_blocks : (t v : State) (es : List Event) (reply : Option ℕ) → Runs 8 8 (range_at 4096 512) (with_chunk (range_at 4096 512) empty) es t → ((e : Event) → IsIn e es → AsksUniformly 64 e)
+seven_blocks : (t v : State) (es : List Event) (reply : Option ℕ) → Runs 8 8 (range_at 4096 512) (with_chunk (range_at 4096 512) empty) es t
+    → ((e : Event) → IsIn e es → AsksUniformly 64 e)
     → Allocates 8 t 48 16 reply v → (reply ≡ None) ↔ (512 < (length t.used + 1) * 64 + 32)
 seven_blocks t v es reply run asks step =
     let memory = range_at 4096 512 in

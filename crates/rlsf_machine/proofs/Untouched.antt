@@ -17,12 +17,12 @@ pub untouched_empty : (r : Range) → IsUntouched empty.chunks r
 unfolding IsUntouched
 untouched_empty r a from to = refl
 
--- a range in the memory that overlaps no chunk may be handed in
+-- a range in the memory that overlaps no chunk may be inserted
 pub IsFresh-untouched : (memory : Range) (s : State) (r : Range) → LiesIn r memory.start memory.len → IsUntouched s.chunks r → IsFresh memory s r
 unfolding IsUntouched
 IsFresh-untouched memory s r lies clear = record { lies_in = lies; apart = clear }
 
--- and one that may be handed in lies in the memory and overlaps no chunk
+-- and one that may be inserted lies in the memory and overlaps no chunk
 pub parts_of-IsFresh : (memory : Range) (s : State) (r : Range) → IsFresh memory s r → LiesIn r memory.start memory.len × IsUntouched s.chunks r
 unfolding IsUntouched
 parts_of-IsFresh memory s r fresh = (fresh.lies_in, fresh.apart)
@@ -42,7 +42,8 @@ covers-aligned r a none = elim (cases_lt a (aligned_part r).start) [
 ]
 
 -- a range that an insert's doesn't overlap stays untouched
-pub untouched_inserted : (fllen : ℕ) (s t : State) (r : Range) (reply : Option ℕ) → Inserts fllen s r reply t → (q : Range) → IsUntouched s.chunks q → AreApart r q → IsUntouched t.chunks q
+pub untouched_inserted : (fllen : ℕ) (s t : State) (r : Range) (reply : Option ℕ) → Inserts fllen s r reply t → (q : Range) → IsUntouched s.chunks q → AreApart r q
+    → IsUntouched t.chunks q
 unfolding IsUntouched
 untouched_inserted fllen s t r reply step q clear apart a from to =
     let cs = cut (max_pool_size fllen) (aligned_part r) in

@@ -1,5 +1,6 @@
 -- A free range gives its front to a new used block.
-use Rattle.std.specs.Prelude.{◌≡◌, ℕ, ◌-◌, Bool, ◌&&◌, ◌||◌, List, [], ◌∷◌, ◌++◌, length, Option, Some, None, IsSome, find, option_and_then, nat_le, nat_lt, ◌==◌, if◌then◌else◌}
+use Rattle.std.specs.Prelude.{◌≡◌, ℕ, ◌-◌, Bool, ◌&&◌, ◌||◌, List, [], ◌∷◌, ◌++◌, length, Option, Some, None, IsSome, find, option_and_then, nat_le}
+use Rattle.std.specs.Prelude.{nat_lt, ◌==◌, if◌then◌else◌}
 use Rattle.rlsf_base.specs.declared.memory.range.Range.{Range}
 use Rattle.rlsf_base.specs.Range.{end_of}
 use Rattle.rlsf_base.specs.SizeClass.{SizeClass, class_of, reaches}
@@ -8,7 +9,7 @@ use Rattle.rlsf_machine.specs.Lists.{without}
 use Rattle.rlsf_machine.specs.Payload.{payload_of, block_for}
 use Rattle.rlsf_machine.specs.State.{State, Used, between}
 
--- whether a class is another one or comes before it
+-- whether a class is the other one or comes before it
 abbrev pub is_at_most : SizeClass → SizeClass → Bool
 is_at_most c d = nat_lt c.exponent d.exponent || (c.exponent == d.exponent && nat_le c.division d.division)
 

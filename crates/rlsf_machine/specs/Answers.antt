@@ -6,7 +6,7 @@ use Rattle.rlsf_machine.specs.Note.{Note, alloc, grow, dealloc}
 use Rattle.rlsf_machine.specs.Terms.{Terms, IsGiven, IsGrown}
 
 -- the answer is one that a source may give while these ranges are outstanding: none at any time; a range that is given; a length to
--- which a range has grown, wherever it stands among them
+-- which a range has grown, wherever it is among them
 abbrev pub MayAnswer : Terms → List Range → Note → Type 0
 MayAnswer t owed (alloc n None) = Unit {0}
 MayAnswer t owed (alloc n (Some r)) = IsGiven t owed n r
@@ -15,6 +15,6 @@ MayAnswer t owed (grow r n (Some len)) = (before after : List Range) → owed �
 MayAnswer t owed (dealloc r) = Unit {0}
 
 -- all answers to the questions of one call are such. Of an allocation or a reallocation no question follows an answer that isn't none, so the
--- same ranges are outstanding at each; a trim only gives ranges back, which any source takes
+-- same ranges are outstanding at each; a trim only returns ranges, which any source takes
 abbrev pub MayAnswerAll : Terms → List Range → List Note → Type 0
 MayAnswerAll t owed notes = (n : Note) → IsIn n notes → MayAnswer t owed n

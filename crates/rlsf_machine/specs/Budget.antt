@@ -1,4 +1,4 @@
--- Runs whose calls ask for so few bytes, and chunks that are so long, that none of them is refused.
+-- Runs of which no call is refused, since their calls request few bytes and the chunks are long.
 use Rattle.std.specs.Prelude.{◌≡◌, ℕ, ◌+◌, ◌*◌, ◌<◌, ◌≤◌, List, [], ◌∷◌, length, sum_by, Some, None, ◌-◌}
 use Rattle.rlsf_base.specs.declared.memory.range.Range.{Range}
 use Rattle.rlsf_base.specs.SizeClass.{Reaches, class_of}
@@ -30,8 +30,8 @@ pub record IsTakenFor (sllen size least : ℕ) : Type 0 where
   pub is : IsSize least
   pub reaches : Reaches sllen (class_of sllen least) size
 
--- some ranges are together longer than 32 bytes of each, `live` blocks of `most` bytes, and for each of these blocks and of
--- the ranges a free one that is 32 bytes too short to be taken
+-- Some ranges are long enough for `live` blocks of `most` bytes. Their total length is above a sum: 32 bytes for each range,
+-- `most` for each block, and `least - 32` for each block and each range. A free range of `least` bytes can be taken
 pub record HasBudget (live most sllen : ℕ) (ranges : List Range) : Type 0 where
   pub least : ℕ
   pub taken : IsTakenFor sllen most least
@@ -41,8 +41,8 @@ pub record HasBudget (live most sllen : ℕ) (ranges : List Range) : Type 0 wher
 abbrev pub AreAtMost : ℕ → List Used → Type 0
 AreAtMost most used = (u : Used) → IsIn u used → u.block.len ≤ most
 
--- where the call asks for bytes, `live` payloads or fewer are live before it, and the block that is sought is `most`
--- bytes long or less; and it takes no memory away
+-- If the call requests bytes, at most `live` payloads are live before it, and the sought block is at most `most` bytes long. The
+-- call takes no memory away
 abbrev pub IsModest : ℕ → ℕ → State → Event → Type 0
 IsModest live most s (insert r reply) = Unit {0}
 IsModest live most s (append r reply) = Unit {0}
@@ -59,7 +59,7 @@ RunsModestly live most fllen sllen memory s [] t = t ≡ s
 RunsModestly live most fllen sllen memory s (e ∷ es) t =
     (u : State) × MayCall memory s e × IsModest live most s e × Leads fllen sllen s e u × RunsModestly live most fllen sllen memory u es t
 
--- the call asks for bytes and has none: an allocation or a reallocation is refused
+-- the call requests bytes and gets none: an allocation or a reallocation is refused
 abbrev pub IsDenied : Event → Type 0
 IsDenied (insert r reply) = ⊥
 IsDenied (append r reply) = ⊥

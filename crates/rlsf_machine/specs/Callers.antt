@@ -1,4 +1,4 @@
--- What callers see of the machine: a map from addresses to payloads, and nothing of chunks, blocks or free ranges.
+-- What callers see of the reference model: a map from addresses to payloads, and nothing of chunks, blocks or free ranges.
 use Rattle.std.specs.Prelude.{◌≡◌, ◌≢◌, ℕ, ◌+◌, ◌<◌, ◌≤◌, ◌==◌, List, [], ◌∷◌, length, Option, Some, None, find}
 use Rattle.std.specs.List.{splice}
 use Rattle.std.specs.Option.{option_map}
@@ -6,7 +6,7 @@ use Rattle.rlsf_machine.specs.Reallocate.{Keeps}
 use Rattle.rlsf_machine.specs.Run.{Event, insert, append, allocate, deallocate, reallocate, fill, remove, trim}
 use Rattle.rlsf_machine.specs.State.{State, Used, with_front}
 
--- a payload: the alignment that was asked for, and its bytes, all that its caller may use
+-- a payload: the requested alignment, and its bytes, all that its caller may use
 pub record Payload : Type 0 where
   pub align : ℕ
   pub bytes : List ℕ
@@ -40,7 +40,7 @@ copied_over s from to len = with_front len (bytes_at s from) (bytes_at s to)
 abbrev pub written_over : State → ℕ → ℕ → List ℕ → List ℕ
 written_over s addr offset bytes = splice (bytes_at s addr) offset (offset + length bytes) bytes
 
--- a payload that serves a layout: it has the alignment, the bytes that were asked for, and less than 32 more
+-- a payload that serves a layout: it has the alignment, the requested bytes, and less than 32 more
 pub record Serves (size align : ℕ) (p : Payload) : Type 0 where
   pub aligned : p.align ≡ align
   pub enough : size ≤ length p.bytes
@@ -77,7 +77,8 @@ Changes before (allocate size align (Some addr)) after = (p : Payload) × (befor
 Changes before (deallocate addr) after = (p : Payload) × (before addr ≡ Some p) × IsSet before addr None after
 Changes before (reallocate addr size None) after = IsUnchanged before after
 Changes before (reallocate addr size (Some to)) after = IsResized before addr size to after
-Changes before (fill addr bytes) after = (p : Payload) × (before addr ≡ Some p) × (length bytes ≡ length p.bytes) × IsSet before addr (Some (record { align = p.align; bytes = bytes })) after
+Changes before (fill addr bytes) after =
+    (p : Payload) × (before addr ≡ Some p) × (length bytes ≡ length p.bytes) × IsSet before addr (Some (record { align = p.align; bytes = bytes })) after
 Changes before (remove r) after = IsUnchanged before after
 Changes before (trim count) after = IsUnchanged before after
 

@@ -4,7 +4,7 @@ use Rattle.rlsf_base.specs.declared.memory.range.Range.{Range}
 use Rattle.rlsf_machine.specs.Note.{Note, dealloc}
 use Rattle.rlsf_machine.specs.Terms.{Terms}
 
--- each range goes back once, as grown, the newest first, where the source takes ranges back; else none does
+-- each range is returned once, as grown, the newest first, if the source takes ranges back; else none is
 abbrev pub notes_at_end : Terms → List Range → List Note
 notes_at_end t pools = if t.dealloc then map dealloc pools else []
 

@@ -1,4 +1,4 @@
--- An allocation of the machine that asks a source for memory.
+-- An allocation of the reference model that asks a source for memory.
 use Rattle.std.specs.Prelude.{◌≡◌, ◌⊎◌, ℕ, true, List, [], Option, Some, None}
 use Rattle.rlsf_base.specs.Sizes.{pool_size_to_contain_allocation}
 use Rattle.rlsf_machine.specs.Allocate.{Allocates}
@@ -8,7 +8,7 @@ use Rattle.rlsf_machine.specs.Note.{Note}
 use Rattle.rlsf_machine.specs.State.{State}
 use Rattle.rlsf_machine.specs.Terms.{Terms}
 
--- the machine has no room for a layout, and the source is asked for the pool that the allocation wants
+-- the reference model has no room for a layout, and the source is asked for the pool that the allocation wants
 pub record Asks (fllen sllen : ℕ) (t : Terms) (s : FlexState) (size align : ℕ) (outcome : Outcome) (notes : List Note) (u : FlexState) : Type 0 where
   pub full : Allocates sllen s.machine size align None s.machine
   pub extends : Extends fllen t s (pool_size_to_contain_allocation fllen sllen size align) outcome notes u

@@ -1,4 +1,4 @@
--- A used block of the machine that asks a source for memory gets another size.
+-- A used block of the reference model that asks a source for memory gets another size.
 use Rattle.std.specs.Prelude.{◌≡◌, ◌≢◌, ◌⊎◌, ℕ, true, List, [], Option, Some, None}
 use Rattle.rlsf_machine.specs.FlexAllocate.{Asks}
 use Rattle.rlsf_machine.specs.FlexState.{FlexState, with_machine}

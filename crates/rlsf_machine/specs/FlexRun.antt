@@ -1,4 +1,4 @@
--- Calls to the machine that asks a source for memory, with their replies and notes, and where they lead.
+-- Calls to the reference model that asks a source for memory, with their replies and notes, and where they lead.
 use Rattle.std.specs.Prelude.{◌≡◌, ℕ, List, [], ◌∷◌, ◌++◌, length, Some}
 use Rattle.rlsf_base.specs.declared.memory.range.Range.{Range}
 use Rattle.rlsf_machine.specs.Answers.{MayAnswerAll}
@@ -19,8 +19,8 @@ pub record AsksNothing (fllen sllen : ℕ) (s : FlexState) (e : Event) (notes : 
   pub none : notes ≡ []
   pub after : u ≡ with_machine s machine
 
--- A call with its reply, and the questions to the source with their answers, leads from one state to another. Ranges are handed
--- in for an allocation or a reallocation alone, by the machine itself, and taken away by a trim alone.
+-- A call with its reply, and the questions to the source with their answers, leads from one state to another. Ranges are inserted
+-- by an allocation or a reallocation only, by the reference model itself, and removed by a trim only.
 abbrev pub FlexLeads : ℕ → ℕ → Terms → FlexState → Event → List Note → FlexState → Type 0
 FlexLeads fllen sllen t s (insert r reply) notes u = ⊥
 FlexLeads fllen sllen t s (append r reply) notes u = ⊥
@@ -69,15 +69,15 @@ AreSameCalls [] (d ∷ ds) = ⊥
 AreSameCalls (c ∷ cs) [] = ⊥
 AreSameCalls (c ∷ cs) (d ∷ ds) = IsSameCall c.event d.event × AreSameCalls cs ds
 
--- memory is handed in by the call
+-- the call inserts or appends memory
 abbrev pub HandsIn : Event → Type 0
 HandsIn (insert r reply) = Unit {0}
 HandsIn (append r reply) = Unit {0}
 HandsIn e = ⊥
 
--- The calls of the machine alone that a call over a source comes to. There are none if it is refused. Else it is the call
--- itself; or memory is handed in, and then the call is made; or memory is handed in, a payload is allocated there for one that
--- moves, and the old one is given back. A trim is one removal for each range that goes back.
+-- The calls of the reference model alone that a call over a source consists of. There are none if it is refused. Otherwise it is the
+-- call itself; or memory is inserted, and then the call is made; or memory is inserted, a payload is allocated there for one that
+-- moves, and the old one is deallocated. A trim is one removal for each range that is returned.
 abbrev pub ComesTo : Event → List Event → Type 0
 ComesTo (trim count) es = (length es ≡ count) × ((e : Event) → IsIn e es → IsRemoval e)
 ComesTo e [] = IsRefused e

@@ -1,4 +1,4 @@
--- What is true of every state that the machine comes to that asks a source for memory.
+-- What is true of every reachable state of the reference model that asks a source for memory.
 use Rattle.std.specs.Prelude.{◌≡◌, ℕ, ◌+◌, ◌≤◌, ◌<◌, true, List, [], ◌∷◌, Option, Some, None}
 use Rattle.rlsf_base.specs.declared.memory.range.Range.{Range}
 use Rattle.rlsf_base.specs.Range.{end_of, LiesIn}
@@ -55,8 +55,8 @@ abbrev pub IsNewest : Terms → Option KeptPool → List Range → List Range �
 IsNewest t None pools chunks = keeps t ≡ true → pools ≡ []
 IsNewest t (Some k) pools chunks = IsKeptPool t k pools chunks
 
--- The machine's own state is well-formed. The source's space lies in the memory, the ranges are outstanding there and house all
--- chunks, each as a pool of its own, and the kept pool is the newest range.
+-- The reference model's own state is well-formed. The source's space lies in the memory. The ranges are outstanding there and house
+-- all chunks, each as a pool of its own. The kept pool is the newest range.
 pub record IsFlexWellFormed (fllen sllen : ℕ) (memory : Range) (t : Terms) (s : FlexState) : Type 0 where
   pub machine : IsWellFormed fllen sllen memory s.machine
   pub space : LiesIn t.space memory.start memory.len

@@ -1,5 +1,6 @@
--- How the machine comes by more memory: what it asks a source, and what becomes of the answers.
-use Rattle.std.specs.Prelude.{◌≡◌, ℕ, ◌+◌, ◌-◌, ◌^◌, Bool, true, false, ◌||◌, List, [], ◌∷◌, ◌++◌, Option, Some, None, IsSome, nat_lt, if◌then◌else◌}
+-- How the reference model obtains more memory: its questions to a source, and what the answers lead to.
+use Rattle.std.specs.Prelude.{◌≡◌, ℕ, ◌+◌, ◌-◌, ◌^◌, Bool, true, false, ◌||◌, List, [], ◌∷◌, ◌++◌, Option, Some, None, IsSome, nat_lt}
+use Rattle.std.specs.Prelude.{if◌then◌else◌}
 use Rattle.std.specs.Bool.{then_some}
 use Rattle.rlsf_base.specs.declared.memory.range.Range.{Range}
 use Rattle.rlsf_base.specs.Range.{range_at}
@@ -26,7 +27,7 @@ if_fits n = if nat_lt n (2 ^ 64) then Some n else None
 abbrev pub range_length : Terms → ℕ → Option ℕ
 range_length t e = if nat_lt t.min_align 32 then if_fits (e + 32) else Some e
 
--- the growth that is asked for, where the source can grow what it handed out
+-- the growth that is asked for, where the source can grow what it provided
 abbrev pub growth_question : Terms → KeptPool → ℕ → Option (Range × ℕ)
 growth_question t k n = if t.grow then Some (k.range, n) else None
 
@@ -90,7 +91,7 @@ abbrev pub longer : ℕ → List Range → List Range
 longer len [] = []
 longer len (p ∷ ps) = with_len p len ∷ ps
 
--- what came is handed in: a range is inserted, and the bytes that a growth gave are appended
+-- what came becomes part of the state: a range is inserted, and the bytes that a growth gave are appended
 abbrev pub TakesIn : ℕ → Terms → FlexState → Outcome → FlexState → Type 0
 TakesIn fllen t s refused u = u ≡ s
 TakesIn fllen t s (range_came r) u =

@@ -1,5 +1,6 @@
--- Memory is handed to the machine: as chunks of their own, or behind a chunk that ends there.
-use Rattle.std.specs.Prelude.{◌≡◌, ℕ, zero, suc, ◌+◌, ◌-◌, ◌*◌, ◌/◌, ◌≤◌, ◌<◌, List, [], ◌∷◌, ◌++◌, Option, Some, None, find, nat_le, if◌then◌else◌}
+-- Memory is inserted into the reference model: as chunks of their own, or behind a chunk that ends there.
+use Rattle.std.specs.Prelude.{◌≡◌, ℕ, zero, suc, ◌+◌, ◌-◌, ◌*◌, ◌/◌, ◌≤◌, ◌<◌, List, [], ◌∷◌, ◌++◌, Option, Some, None, find, nat_le}
+use Rattle.std.specs.Prelude.{if◌then◌else◌}
 use Rattle.rlsf_base.specs.declared.memory.range.Range.{Range}
 use Rattle.rlsf_base.specs.Range.{end_of, LiesIn, range_at}
 use Rattle.rlsf_base.specs.Rounding.{round32}
@@ -18,12 +19,12 @@ abbrev pub adjacent : ℕ → ℕ → ℕ → List Range
 adjacent at len zero = []
 adjacent at len (suc n) = range_at at len ∷ adjacent (at + len) len n
 
--- a chunk of what is left, if that is 64 bytes or more
+-- a chunk of the rest, if that has 64 bytes or more
 abbrev pub remainder : ℕ → ℕ → List Range
 remainder at len = if nat_le 64 len then range_at at len ∷ [] else []
 
--- the chunks that an aligned part is cut into, in address order: where a chunk has a greatest length, as
--- many of that length as there are, and then one of what is left
+-- The chunks that an aligned part is cut into, in address order. If a chunk has a greatest length, they are as many chunks of that
+-- length as fit, and then one of the rest
 abbrev pub cut : Option ℕ → Range → List Range
 cut None part = remainder part.start part.len
 cut (Some most) part =
@@ -48,7 +49,7 @@ abbrev pub end_of_last : ℕ → List Range → ℕ
 end_of_last at [] = at
 end_of_last at (c ∷ cs) = end_of_last (end_of c) cs
 
--- the bytes from the given start up to the last chunk's end, or None without a chunk
+-- the number of bytes from the given start to the last chunk's end, or None without a chunk
 abbrev pub bytes_taken : ℕ → List Range → Option ℕ
 bytes_taken start [] = None
 bytes_taken start (c ∷ cs) = Some (end_of_last (end_of c) cs - start)
@@ -66,11 +67,11 @@ pub record IsVacant (memory : Range) (taken : List Range) (r : Range) : Type 0 w
   pub lies_in : LiesIn r memory.start memory.len
   pub apart : IsClear r taken
 
--- the range may be handed in: it lies in the memory and overlaps no chunk
+-- the range may be inserted: it lies in the memory and overlaps no chunk
 abbrev pub IsFresh : Range → State → Range → Type 0
 IsFresh memory s r = IsVacant memory s.chunks r
 
--- the range's aligned part becomes chunks; the answer counts the skipped front too
+-- the range's aligned part becomes chunks; the reply counts the skipped front too
 pub record Inserts (fllen : ℕ) (s : State) (r : Range) (reply : Option ℕ) (t : State) : Type 0 where
   pub answer : reply ≡ bytes_taken r.start (cut (max_pool_size fllen) (aligned_part r))
   pub after : t ≡ with_chunks (cut (max_pool_size fllen) (aligned_part r)) s
@@ -104,18 +105,18 @@ pub record IsNext (memory : Range) (s : State) (r : Range) : Type 0 where
   pub is_chunk : IsIn chunk s.chunks
   pub ends : end_of chunk ≡ r.start
 
--- the state with a range appended: where chunks have a greatest length, the range becomes chunks of its own; else
--- the chunk that ends where it begins grows by the length rounded down to 32
+-- The state with a range appended. If chunks have a greatest length, the range becomes chunks of its own. Otherwise the chunk that ends
+-- where it begins grows by the length rounded down to a multiple of 32
 abbrev pub appended : Option ℕ → Range → State → State
 appended (Some most) r s = with_chunks (cut (Some most) (aligned_part r)) s
 appended None r s = extended r.start (r.len / 32 * 32) s
 
--- how many bytes of it are taken
+-- the number of its bytes that are taken
 abbrev pub appended_bytes : Option ℕ → Range → ℕ
 appended_bytes (Some most) r = total_length r.start (cut (Some most) (aligned_part r))
 appended_bytes None r = r.len / 32 * 32
 
--- the range is handed in behind a chunk that ends there
+-- the range is inserted behind a chunk that ends there
 pub record Appends (fllen : ℕ) (s : State) (r : Range) (reply : ℕ) (t : State) : Type 0 where
   pub answer : reply ≡ appended_bytes (max_pool_size fllen) r
   pub after : t ≡ appended (max_pool_size fllen) r s

@@ -23,8 +23,7 @@ abbrev pub end_or : ℕ → Option Range → ℕ
 end_or a None = a
 end_or a (Some f) = end_of f
 
--- the ranges that end where r begins, or begin where r ends, are taken out of the list, and their union
--- with r is put in front
+-- Ranges that end where r begins, or begin where r ends, are removed from the list. Their union with r is put in front
 abbrev pub join : Range → List Range → List Range
 join r free =
     let rest = without (ends_at r.start) free in

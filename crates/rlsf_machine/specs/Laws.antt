@@ -1,5 +1,6 @@
--- What holds of the machine's states and steps.
-use Rattle.std.specs.Prelude.{◌≡◌, ◌≢◌, true, ◌↔◌, ◌⊎◌, ℕ, ◌+◌, ◌*◌, ◌%◌, ◌^◌, ◌<◌, ◌≤◌, List, [], ◌∷◌, ◌++◌, filter, length, Option, Some, None, IfNone, IfSome, ◌==◌, min, ◌-◌, map}
+-- What holds of the reference model's states and steps.
+use Rattle.std.specs.Prelude.{◌≡◌, ◌≢◌, true, ◌↔◌, ◌⊎◌, ℕ, ◌+◌, ◌*◌, ◌%◌, ◌^◌, ◌<◌, ◌≤◌, List, [], ◌∷◌, ◌++◌, filter}
+use Rattle.std.specs.Prelude.{length, Option, Some, None, IfNone, IfSome, ◌==◌, min, ◌-◌, map}
 use Rattle.rlsf_base.specs.declared.memory.range.Range.{Range}
 use Rattle.rlsf_base.specs.PowerOfTwo.{IsPowerOfTwo}
 use Rattle.rlsf_base.specs.Range.{end_of, range_at, LiesIn}
@@ -21,12 +22,13 @@ use Rattle.rlsf_machine.specs.Owed.{OwesAfterAll}
 use Rattle.rlsf_machine.specs.Reallocate.{Keeps, Reallocates}
 use Rattle.rlsf_machine.specs.Release.{Deallocates}
 use Rattle.rlsf_machine.specs.Remove.{IsIdle, IsRemovable, Removes}
-use Rattle.rlsf_machine.specs.Run.{Event, insert, append, allocate, deallocate, reallocate, fill, remove, trim, Fills, Leads, MayCall, Names, Runs, IsRemoval, IsSameCall, IsRefused}
+use Rattle.rlsf_machine.specs.Run.{Event, insert, append, allocate, deallocate, reallocate, fill, remove, trim, Fills, Leads, MayCall, Names, Runs, IsRemoval, IsSameCall}
+use Rattle.rlsf_machine.specs.Run.{IsRefused}
 use Rattle.rlsf_machine.specs.State.{State, Used, empty, usable, Holds, HasBytes, IsLive, AreAlike, IsReordered, AreSimilar}
 use Rattle.rlsf_machine.specs.Terms.{Terms}
 use Rattle.rlsf_machine.specs.WellFormed.{covers, IsWellFormed}
 
--- the machine to which nothing was handed is well-formed
+-- the state before any range is inserted is well-formed
 abbrev pub EmptyIsWellFormed : Type 0
 EmptyIsWellFormed = (fllen sllen : ℕ) (memory : Range) → 0 < fllen → 0 < sllen → end_of memory < 2 ^ 64 → IsWellFormed fllen sllen memory empty
 
@@ -41,16 +43,16 @@ RunsKeepWellFormed = (fllen sllen : ℕ) (memory : Range) (s t : State) (es : Li
     → IsWellFormed fllen sllen memory s → Runs fllen sllen memory s es t → IsWellFormed fllen sllen memory t
 
 -- a step's only freedom is what fresh bytes hold: the call and the state before it determine the reply, and the
--- state after it but for bytes
+-- state after it except for bytes
 abbrev pub StepsAreDetermined : Type 0
 StepsAreDetermined = (fllen sllen : ℕ) (memory : Range) (s t t' : State) (e e' : Event) → IsWellFormed fllen sllen memory s
     → Leads fllen sllen s e t → Leads fllen sllen s e' t' → IsSameCall e e' → (e ≡ e') × AreAlike t t'
 
--- the order of chunks and of used blocks means nothing: a step that can be made in one order can be made in
--- another, with the same reply, and leads to states that differ in this order alone
+-- The order of chunks and of used blocks means nothing. A step that can be made in one order can be made in another with the same
+-- reply. Both lead to states that differ in this order alone
 abbrev pub OrderMeansNothing : Type 0
-OrderMeansNothing = (fllen sllen : ℕ) (memory : Range) (s s' t : State) (e : Event) → IsWellFormed fllen sllen memory s → IsWellFormed fllen sllen memory s' → IsReordered s s'
-    → Leads fllen sllen s e t → (t' : State) × Leads fllen sllen s' e t' × IsReordered t t'
+OrderMeansNothing = (fllen sllen : ℕ) (memory : Range) (s s' t : State) (e : Event) → IsWellFormed fllen sllen memory s → IsWellFormed fllen sllen memory s'
+    → IsReordered s s' → Leads fllen sllen s e t → (t' : State) × Leads fllen sllen s' e t' × IsReordered t t'
 
 -- a refused call changes nothing
 abbrev pub RefusalChangesNothing : Type 0
@@ -76,14 +78,15 @@ ChunksAreCutOffTheFront = (fllen at len : ℕ) → 0 < fllen → IsCutOff at len
 abbrev pub LiveAddressesAreAligned : Type 0
 LiveAddressesAreAligned = (fllen sllen : ℕ) (memory : Range) (s : State) (addr align : ℕ) → IsWellFormed fllen sllen memory s → IsLive s addr align → addr % align ≡ 0
 
--- a live address has one used block, which stands once among them
+-- a live address has one used block, which occurs once among them
 abbrev pub LiveAddressHasOneBlock : Type 0
-LiveAddressHasOneBlock = (fllen sllen : ℕ) (memory : Range) (s : State) (addr : ℕ) (u : Used) → IsWellFormed fllen sllen memory s → Holds s addr u → filter (λ v. v.payload == addr) s.used ≡ u ∷ []
+LiveAddressHasOneBlock = (fllen sllen : ℕ) (memory : Range) (s : State) (addr : ℕ) (u : Used) → IsWellFormed fllen sllen memory s → Holds s addr u
+    → filter (λ v. v.payload == addr) s.used ≡ u ∷ []
 
 -- the usable ranges of different live payloads have no byte in common
 abbrev pub PayloadsAreDisjoint : Type 0
-PayloadsAreDisjoint = (fllen sllen : ℕ) (memory : Range) (s : State) (u v : Used) (a : ℕ) → IsWellFormed fllen sllen memory s → IsIn u s.used → IsIn v s.used → u.payload ≢ v.payload
-    → covers (usable u) a + covers (usable v) a ≤ 1
+PayloadsAreDisjoint = (fllen sllen : ℕ) (memory : Range) (s : State) (u v : Used) (a : ℕ) → IsWellFormed fllen sllen memory s → IsIn u s.used → IsIn v s.used
+    → u.payload ≢ v.payload → covers (usable u) a + covers (usable v) a ≤ 1
 
 -- a live payload's usable range lies in one chunk: there is a chunk that has it, and no byte of it is in another
 abbrev pub PayloadLiesInOneChunk : Type 0
@@ -91,11 +94,11 @@ PayloadLiesInOneChunk = (fllen sllen : ℕ) (memory : Range) (s : State) (u : Us
     → (c : Range) × IsIn c s.chunks × (c.start ≤ (usable u).start) × (end_of (usable u) ≤ end_of c)
     × ((d : Range) (a : ℕ) → IsIn d s.chunks → covers (usable u) a ≡ 1 → covers d a ≡ 1 → d ≡ c)
 
--- a used block with the size that was asked for, and less than 32 bytes more
+-- a used block with the requested size, and less than 32 bytes more
 abbrev pub HasSize : State → ℕ → ℕ → Type 0
 HasSize t size addr = (u : Used) × Holds t addr u × (size ≤ (usable u).len) × ((usable u).len < size + 32)
 
--- an allocation gives as many usable bytes as were asked for, and less than 32 more
+-- an allocation returns as many usable bytes as requested, and less than 32 more
 abbrev pub AllocationHasSize : Type 0
 AllocationHasSize = (fllen sllen : ℕ) (memory : Range) (s t : State) (size align : ℕ) (reply : Option ℕ) → IsWellFormed fllen sllen memory s → IsPowerOfTwo align
     → Allocates sllen s size align reply t → IfSome reply (HasSize t size)
@@ -110,22 +113,22 @@ abbrev pub RoomIsFound : Type 0
 RoomIsFound = (fllen sllen : ℕ) (memory : Range) (s t : State) (size align : ℕ) (reply : Option ℕ) (f : Range) → IsWellFormed fllen sllen memory s → IsIn f s.free
     → request_size size align * (sllen + 1) ≤ f.len * sllen → Allocates sllen s size align reply t → reply ≢ None
 
--- a pool of the length that is computed for an allocation, at a multiple of 32, makes the allocation succeed from
--- whatever state it is handed to
+-- an inserted pool of the length that is computed for an allocation, at a multiple of 32, makes the allocation succeed from every state
 abbrev pub PoolHasRoom : Type 0
 PoolHasRoom = (fl_bits sl_bits fllen sllen size align e at : ℕ) (s t u : State) (taken reply : Option ℕ) → IsValid fl_bits sl_bits fllen sllen
     → pool_size_to_contain_allocation fllen sllen size align ≡ Some e → at % 32 ≡ 0
     → Inserts fllen s (range_at at e) taken t → Allocates sllen t size align reply u → reply ≢ None
 
--- every allocation can be answered, from every state
+-- every allocation has a reply, from every state
 abbrev pub AllocationAnswers : Type 0
 AllocationAnswers = (sllen : ℕ) (s : State) (size align : ℕ) → (reply : Option ℕ) × (t : State) × Allocates sllen s size align reply t
 
 -- an allocation is refused exactly where no free range's class reaches what is sought
 abbrev pub RefusedWithoutReach : Type 0
-RefusedWithoutReach = (sllen size : ℕ) (free : List Range) → (choice sllen size free ≡ None) ↔ ((f : Range) → IsIn f free → Reaches sllen (class_of sllen f.len) size → ⊥)
+RefusedWithoutReach = (sllen size : ℕ) (free : List Range)
+    → (choice sllen size free ≡ None) ↔ ((f : Range) → IsIn f free → Reaches sllen (class_of sllen f.len) size → ⊥)
 
--- the range f stands in the list, behind ranges of other classes alone; without it the others are left in their order
+-- the range f is in the list, behind ranges of other classes alone; without it the others are left in their order
 pub record IsFirstOfClass (sllen : ℕ) (free : List Range) (f : Range) : Type 0 where
   pub before : List Range
   pub after : List Range
@@ -167,7 +170,7 @@ RemovalLeavesOthers = (fllen sllen : ℕ) (memory : Range) (s t : State) (r : Ra
 abbrev pub OtherPayloadsStay : Type 0
 OtherPayloadsStay = (fllen sllen : ℕ) (s t : State) (e : Event) (u : Used) → Leads fllen sllen s e t → IsIn u s.used → (Names e u.payload → ⊥) → IsIn u t.used
 
--- what an allocation hands out was not live, and is live with the alignment asked for
+-- the address that an allocation returns was not live, and is live with the requested alignment
 abbrev pub HandedOutIsNew : Type 0
 HandedOutIsNew = (fllen sllen : ℕ) (memory : Range) (s t : State) (size align addr : ℕ) → IsWellFormed fllen sllen memory s → IsPowerOfTwo align
     → Allocates sllen s size align (Some addr) t → ((old : ℕ) → IsLive s addr old → ⊥) × IsLive t addr align
@@ -200,12 +203,12 @@ abbrev pub DeallocationLeavesOthers : Type 0
 DeallocationLeavesOthers = (s t : State) (addr : ℕ) → Deallocates s addr t
     → (t.chunks ≡ s.chunks) × ((u : Used) → IsIn u t.used ↔ (IsIn u s.used × (u.payload ≢ addr)))
 
--- a chunk that an insert makes lies in the range that was handed in
+-- a chunk that an insert makes lies in the inserted range
 abbrev pub InsertedChunksLieInRange : Type 0
 InsertedChunksLieInRange = (fllen : ℕ) (s t : State) (r : Range) (reply : Option ℕ) (c : Range) → Inserts fllen s r reply t → IsIn c t.chunks
     → IsIn c s.chunks ⊎ ((r.start ≤ c.start) × (end_of c ≤ end_of r))
 
--- the reply hands out the address
+-- the call returns the address
 abbrev pub Gives : Event → ℕ → Type 0
 Gives (insert r reply) addr = ⊥
 Gives (append r reply) addr = ⊥
@@ -236,8 +239,7 @@ abbrev pub EachCallAnswers : Type 0
 EachCallAnswers = (fllen sllen : ℕ) (memory : Range) (s : State) (e : Event) → MayCall memory s e → FillsWhole s e
     → (e' : Event) × (t : State) × IsSameCall e e' × Leads fllen sllen s e' t
 
--- a payload that gets another size is one used block with its alignment, the bytes that both sizes have, and the size
--- that was asked for
+-- a payload that gets another size is one used block with its alignment and the requested size, and keeps the bytes that both sizes have
 abbrev pub ReallocationKeepsBytes : Type 0
 ReallocationKeepsBytes = (fllen sllen : ℕ) (memory : Range) (s t : State) (addr size to : ℕ) (u : Used) → IsWellFormed fllen sllen memory s → Holds s addr u
     → Reallocates sllen s addr size (Some to) t
@@ -248,7 +250,7 @@ abbrev pub PayloadIsInBlock : Type 0
 PayloadIsInBlock = (fllen sllen : ℕ) (memory : Range) (s : State) (addr : ℕ) (p : Payload) → IsWellFormed fllen sllen memory s
     → (payload_at s addr ≡ Some p) ↔ ((u : Used) × Holds s addr u × (payload_in u ≡ p))
 
--- to its callers the machine is a map from addresses to payloads: each step changes it as the call and its reply say
+-- to its callers the reference model is a map from addresses to payloads: each step changes it as the call and its reply say
 abbrev pub CallersSeeMap : Type 0
 CallersSeeMap = (fllen sllen : ℕ) (memory : Range) (s t : State) (e : Event) → IsWellFormed fllen sllen memory s → MayCall memory s e
     → Leads fllen sllen s e t → Changes (payload_at s) e (payload_at t)
@@ -271,28 +273,31 @@ UnmovedIsReallocated = (sllen : ℕ) (s t : State) (addr size : ℕ) (reply : Op
 
 -- ---- over a source of memory
 
--- over a source too, the machine is a map from addresses to payloads to its callers: whatever was asked, each step between
+-- over a source too, the reference model is a map from addresses to payloads to its callers: whatever was asked, each step between
 -- well-formed states changes it as the call and its reply say
 abbrev pub FlexCallersSeeMap : Type 0
 FlexCallersSeeMap = (fllen sllen : ℕ) (terms : Terms) (before after : Range) (s u : FlexState) (e : Event) (notes : List Note) → IsWellFormed fllen sllen before s.machine
-    → IsWellFormed fllen sllen after u.machine → FlexMayCall before s.machine e → FlexLeads fllen sllen terms s e notes u → Changes (payload_at s.machine) e (payload_at u.machine)
+    → IsWellFormed fllen sllen after u.machine → FlexMayCall before s.machine e → FlexLeads fllen sllen terms s e notes u
+    → Changes (payload_at s.machine) e (payload_at u.machine)
 
--- the machine over a source to which nothing came yet is well-formed
+-- the reference model over a source to which nothing came yet is well-formed
 abbrev pub FlexEmptyIsWellFormed : Type 0
 FlexEmptyIsWellFormed = (fllen sllen : ℕ) (memory : Range) (t : Terms) → 0 < fllen → 0 < sllen → end_of memory < 2 ^ 64 → LiesIn t.space memory.start memory.len
     → IsFlexWellFormed fllen sllen memory t flex_empty
 
 -- memory that comes for an allocation leaves a well-formed state, whatever of what it may answer the source answers
 abbrev pub GrowthKeepsWellFormed : Type 0
-GrowthKeepsWellFormed = (fl_bits sl_bits fllen sllen : ℕ) (memory : Range) (t : Terms) (s u : FlexState) (size align : ℕ) (outcome : Outcome) (notes : List Note) → IsValid fl_bits sl_bits fllen sllen
-    → IsFlexWellFormed fllen sllen memory t s → MayAnswerAll t s.pools notes → Extends fllen t s (pool_size_to_contain_allocation fllen sllen size align) outcome notes u
-    → IsFlexWellFormed fllen sllen memory t u
+GrowthKeepsWellFormed = (fl_bits sl_bits fllen sllen : ℕ) (memory : Range) (t : Terms) (s u : FlexState) (size align : ℕ) (outcome : Outcome) (notes : List Note)
+    → IsValid fl_bits sl_bits fllen sllen → IsFlexWellFormed fllen sllen memory t s → MayAnswerAll t s.pools notes
+    → Extends fllen t s (pool_size_to_contain_allocation fllen sllen size align) outcome notes u → IsFlexWellFormed fllen sllen memory t u
 
 -- memory that comes for an allocation has room for it, however much comes: it isn't refused then
 abbrev pub GrowthHasRoom : Type 0
-GrowthHasRoom = (fl_bits sl_bits fllen sllen : ℕ) (memory : Range) (t : Terms) (s u : FlexState) (size align : ℕ) (outcome : Outcome) (notes : List Note) (reply : Option ℕ) (m : State)
+GrowthHasRoom =
+    (fl_bits sl_bits fllen sllen : ℕ) (memory : Range) (t : Terms) (s u : FlexState) (size align : ℕ) (outcome : Outcome) (notes : List Note) (reply : Option ℕ) (m : State)
     → IsValid fl_bits sl_bits fllen sllen → IsFlexWellFormed fllen sllen memory t s → MayAnswerAll t s.pools notes
-    → Extends fllen t s (pool_size_to_contain_allocation fllen sllen size align) outcome notes u → is_more outcome ≡ true → Allocates sllen u.machine size align reply m → reply ≢ None
+    → Extends fllen t s (pool_size_to_contain_allocation fllen sllen size align) outcome notes u → is_more outcome ≡ true → Allocates sllen u.machine size align reply m
+    → reply ≢ None
 
 -- each step over a source keeps a state well-formed
 abbrev pub FlexStepsKeepWellFormed : Type 0
@@ -305,7 +310,8 @@ FlexRunsKeepWellFormed = (fl_bits sl_bits fllen sllen : ℕ) (memory : Range) (t
     → IsFlexWellFormed fllen sllen memory t s → IsFlexRun fllen sllen memory t s cs u → IsFlexWellFormed fllen sllen memory t u
 
 -- one call of a run: a step between two well-formed states, to which the calls before it led and from which those behind it lead
-pub record IsCallOfRun (fllen sllen : ℕ) (memory : Range) (t : Terms) (s : FlexState) (before : List FlexEvent) (c : FlexEvent) (after : List FlexEvent) (u : FlexState) : Type 0 where
+pub record IsCallOfRun (fllen sllen : ℕ) (memory : Range) (t : Terms) (s : FlexState) (before : List FlexEvent) (c : FlexEvent) (after : List FlexEvent)
+    (u : FlexState) : Type 0 where
   pub old : FlexState
   pub now : FlexState
   pub led : IsFlexRun fllen sllen memory t s before old
@@ -316,23 +322,25 @@ pub record IsCallOfRun (fllen sllen : ℕ) (memory : Range) (t : Terms) (s : Fle
 
 -- each call of a run over a source is such a step, so what is said of steps holds of it
 abbrev pub FlexRunsAreSteps : Type 0
-FlexRunsAreSteps = (fl_bits sl_bits fllen sllen : ℕ) (memory : Range) (t : Terms) (s u : FlexState) (before after : List FlexEvent) (c : FlexEvent) → IsValid fl_bits sl_bits fllen sllen
+FlexRunsAreSteps = (fl_bits sl_bits fllen sllen : ℕ) (memory : Range) (t : Terms) (s u : FlexState) (before after : List FlexEvent) (c : FlexEvent)
+    → IsValid fl_bits sl_bits fllen sllen
     → IsFlexWellFormed fllen sllen memory t s → IsFlexRun fllen sllen memory t s (before ++ c ∷ after) u → IsCallOfRun fllen sllen memory t s before c after u
 
--- steps over a source are determined: from similar states the same call asks the same questions, has the same reply, and leads to
--- similar states, where the source gives the same answers to the same questions
+-- Steps over a source are determined, if the source gives the same answers to the same questions. From similar states the same call
+-- asks the same questions, has the same reply, and leads to similar states
 abbrev pub FlexSimilarStatesAgree : Type 0
-FlexSimilarStatesAgree = (fl_bits sl_bits fllen sllen : ℕ) (memory : Range) (t : Terms) (s s' u u' : FlexState) (e e' : Event) (notes notes' : List Note) → IsValid fl_bits sl_bits fllen sllen
-    → IsFlexWellFormed fllen sllen memory t s → IsFlexWellFormed fllen sllen memory t s' → AreFlexSimilar s s' → MayAnswerAll t s.pools notes
-    → FlexLeads fllen sllen t s e notes u → FlexLeads fllen sllen t s' e' notes' u' → IsSameCall e e' → AnswersAgree notes notes' → (e ≡ e') × (notes ≡ notes') × AreFlexSimilar u u'
+FlexSimilarStatesAgree = (fl_bits sl_bits fllen sllen : ℕ) (memory : Range) (t : Terms) (s s' u u' : FlexState) (e e' : Event) (notes notes' : List Note)
+    → IsValid fl_bits sl_bits fllen sllen → IsFlexWellFormed fllen sllen memory t s → IsFlexWellFormed fllen sllen memory t s' → AreFlexSimilar s s'
+    → MayAnswerAll t s.pools notes → FlexLeads fllen sllen t s e notes u → FlexLeads fllen sllen t s' e' notes' u' → IsSameCall e e' → AnswersAgree notes notes'
+    → (e ≡ e') × (notes ≡ notes') × AreFlexSimilar u u'
 
 -- and so are runs: the same calls with the same answers to the same questions have the same replies
 abbrev pub FlexSimilarRunsAgree : Type 0
 FlexSimilarRunsAgree = (fl_bits sl_bits fllen sllen : ℕ) (memory : Range) (t : Terms) (s s' u u' : FlexState) (cs cs' : List FlexEvent) → IsValid fl_bits sl_bits fllen sllen
-    → IsFlexWellFormed fllen sllen memory t s → IsFlexWellFormed fllen sllen memory t s' → AreFlexSimilar s s' → IsFlexRun fllen sllen memory t s cs u → IsFlexRun fllen sllen memory t s' cs' u'
-    → AreSameCalls cs cs' → AnswersAgree (notes_in cs) (notes_in cs') → (cs ≡ cs') × AreFlexSimilar u u'
+    → IsFlexWellFormed fllen sllen memory t s → IsFlexWellFormed fllen sllen memory t s' → AreFlexSimilar s s' → IsFlexRun fllen sllen memory t s cs u
+    → IsFlexRun fllen sllen memory t s' cs' u' → AreSameCalls cs cs' → AnswersAgree (notes_in cs) (notes_in cs') → (cs ≡ cs') × AreFlexSimilar u u'
 
--- a run over a source is one of the machine alone, in which the memory that comes is handed in
+-- a run over a source is one of the reference model alone, in which the memory that comes is inserted
 abbrev pub FlexRunsAreRuns : Type 0
 FlexRunsAreRuns = (fl_bits sl_bits fllen sllen : ℕ) (memory : Range) (t : Terms) (s u : FlexState) (cs : List FlexEvent) → IsValid fl_bits sl_bits fllen sllen
     → IsFlexWellFormed fllen sllen memory t s → IsFlexRun fllen sllen memory t s cs u → (es : List Event) × AllComeTo cs es × Runs fllen sllen memory s.machine es u.machine
@@ -342,7 +350,7 @@ abbrev pub FlexStepsChangeMap : Type 0
 FlexStepsChangeMap = (fl_bits sl_bits fllen sllen : ℕ) (memory : Range) (t : Terms) (s u : FlexState) (e : Event) (notes : List Note) → IsValid fl_bits sl_bits fllen sllen
     → IsFlexWellFormed fllen sllen memory t s → IsFlexStep fllen sllen memory t s e notes u → Changes (payload_at s.machine) e (payload_at u.machine)
 
--- where payloads lie: each at a multiple of its alignment in one used block, which stands once; the usable ranges of different
+-- where payloads lie: each at a multiple of its alignment in one used block, which occurs once; the usable ranges of different
 -- ones have no byte in common, and each lies in one chunk
 pub record PayloadsAreApart (s : State) : Type 0 where
   pub aligned : (addr align : ℕ) → IsLive s addr align → addr % align ≡ 0
@@ -358,19 +366,21 @@ FlexPayloadsAreApart = (fl_bits sl_bits fllen sllen : ℕ) (memory : Range) (t :
 
 -- over a source too an allocation gives as many usable bytes as were asked for, and less than 32 more
 abbrev pub FlexAllocationHasSize : Type 0
-FlexAllocationHasSize = (fl_bits sl_bits fllen sllen : ℕ) (memory : Range) (t : Terms) (s u : FlexState) (size align : ℕ) (reply : Option ℕ) (notes : List Note) → IsValid fl_bits sl_bits fllen sllen
+FlexAllocationHasSize = (fl_bits sl_bits fllen sllen : ℕ) (memory : Range) (t : Terms) (s u : FlexState) (size align : ℕ) (reply : Option ℕ) (notes : List Note)
+    → IsValid fl_bits sl_bits fllen sllen
     → IsFlexWellFormed fllen sllen memory t s → IsFlexStep fllen sllen memory t s (allocate size align reply) notes u → IfSome reply (HasSize u.machine size)
 
 -- and so does a reallocation
 abbrev pub FlexReallocationHasSize : Type 0
-FlexReallocationHasSize = (fl_bits sl_bits fllen sllen : ℕ) (memory : Range) (t : Terms) (s u : FlexState) (addr size : ℕ) (reply : Option ℕ) (notes : List Note) → IsValid fl_bits sl_bits fllen sllen
+FlexReallocationHasSize = (fl_bits sl_bits fllen sllen : ℕ) (memory : Range) (t : Terms) (s u : FlexState) (addr size : ℕ) (reply : Option ℕ) (notes : List Note)
+    → IsValid fl_bits sl_bits fllen sllen
     → IsFlexWellFormed fllen sllen memory t s → IsFlexStep fllen sllen memory t s (reallocate addr size reply) notes u → IfSome reply (HasSize u.machine size)
 
 -- a payload that gets another size over a source is one used block with its alignment and the bytes that both sizes have
 abbrev pub FlexReallocationKeepsBytes : Type 0
-FlexReallocationKeepsBytes = (fl_bits sl_bits fllen sllen : ℕ) (memory : Range) (t : Terms) (s u : FlexState) (addr size to : ℕ) (notes : List Note) (x : Used) → IsValid fl_bits sl_bits fllen sllen
-    → IsFlexWellFormed fllen sllen memory t s → IsFlexStep fllen sllen memory t s (reallocate addr size (Some to)) notes u → Holds s.machine addr x
-    → (v : Used) × Holds u.machine to v × (v.align ≡ x.align) × Keeps x.bytes v.bytes
+FlexReallocationKeepsBytes = (fl_bits sl_bits fllen sllen : ℕ) (memory : Range) (t : Terms) (s u : FlexState) (addr size to : ℕ) (notes : List Note) (x : Used)
+    → IsValid fl_bits sl_bits fllen sllen → IsFlexWellFormed fllen sllen memory t s → IsFlexStep fllen sllen memory t s (reallocate addr size (Some to)) notes u
+    → Holds s.machine addr x → (v : Used) × Holds u.machine to v × (v.align ≡ x.align) × Keeps x.bytes v.bytes
 
 -- a step over a source that doesn't name a payload leaves its block with its bytes as it was
 abbrev pub FlexOtherPayloadsStay : Type 0
@@ -395,25 +405,26 @@ FlexOthersStayInRuns = (fllen sllen : ℕ) (memory : Range) (t : Terms) (s u : F
 -- a used block that a run over a source names in none of its calls and replies was there before, with the same bytes
 abbrev pub FlexUsedWasUsedInRuns : Type 0
 FlexUsedWasUsedInRuns = (fllen sllen : ℕ) (memory : Range) (t : Terms) (s u : FlexState) (cs : List FlexEvent) (x : Used) → IsFlexRun fllen sllen memory t s cs u
-    → IsIn x u.machine.used → ((e : Event) → IsIn e (events_in cs) → Names e x.payload → ⊥) → ((e : Event) → IsIn e (events_in cs) → Gives e x.payload → ⊥) → IsIn x s.machine.used
+    → IsIn x u.machine.used → ((e : Event) → IsIn e (events_in cs) → Names e x.payload → ⊥) → ((e : Event) → IsIn e (events_in cs) → Gives e x.payload → ⊥)
+    → IsIn x s.machine.used
 
 -- to whatever it is asked a source gives answers that it may give while these ranges are outstanding, and this comes of them
 abbrev pub MayRespond : Terms → List Range → (Questions → Outcome) → Type 0
 MayRespond t owed respond = (q : Questions) → IsPossible q (respond q) × MayAnswerAll t owed (notes_of q (respond q))
 
--- nothing was asked, or something, to which the source gave its answers, or ranges went back
+-- nothing was asked, or something, to which the source gave its answers, or ranges were returned
 abbrev pub IsAnswered : (Questions → Outcome) → List Note → Type 0
 IsAnswered respond notes = (notes ≡ []) ⊎ ((q : Questions) × (notes ≡ notes_of q (respond q))) ⊎ ((gone : List Range) × (notes ≡ map dealloc gone))
 
--- over a source too each call that its caller may make has a reply and a state after, whatever of what it may answer the source
--- answers
+-- over a source, too, each call that its caller may make has a reply and a state after, for every answer that the source may give
 abbrev pub FlexEachCallAnswers : Type 0
-FlexEachCallAnswers = (fl_bits sl_bits fllen sllen : ℕ) (memory : Range) (t : Terms) (s : FlexState) (e : Event) (respond : Questions → Outcome) → IsValid fl_bits sl_bits fllen sllen
-    → IsFlexWellFormed fllen sllen memory t s → FlexMayCall memory s.machine e → FillsWhole s.machine e → (HandsIn e → ⊥) → (IsRemoval e → ⊥) → MayRespond t s.pools respond
+FlexEachCallAnswers = (fl_bits sl_bits fllen sllen : ℕ) (memory : Range) (t : Terms) (s : FlexState) (e : Event) (respond : Questions → Outcome)
+    → IsValid fl_bits sl_bits fllen sllen → IsFlexWellFormed fllen sllen memory t s → FlexMayCall memory s.machine e → FillsWhole s.machine e → (HandsIn e → ⊥)
+    → (IsRemoval e → ⊥) → MayRespond t s.pools respond
     → (e' : Event) × (notes : List Note) × (u : FlexState) × IsSameCall e e' × IsAnswered respond notes × IsFlexStep fllen sllen memory t s e' notes u
 
 -- the ranges that are outstanding after a run are those that its answers leave outstanding; and so it is at the end: where the source
--- takes ranges back, each range that came goes back once, by a trim or at the end, and none is outstanding then
+-- takes ranges back, each range that came is returned once, by a trim or at the end, and none is outstanding then
 abbrev pub EachGoesBack : Type 0
 EachGoesBack = (fl_bits sl_bits fllen sllen : ℕ) (memory : Range) (t : Terms) (s u : FlexState) (cs : List FlexEvent) → IsValid fl_bits sl_bits fllen sllen
     → IsFlexWellFormed fllen sllen memory t s → IsFlexRun fllen sllen memory t s cs u
@@ -461,7 +472,7 @@ pub record StepLaws : Type 0 where
   pub removal : RemovalLeavesOthers
   pub without_move : UnmovedIsReallocated
 
--- the laws of the machine that asks a source for memory, by name
+-- the laws of the reference model that asks a source for memory, by name
 pub record SourceLaws : Type 0 where
   pub flex_callers : FlexCallersSeeMap
   pub flex_empty : FlexEmptyIsWellFormed

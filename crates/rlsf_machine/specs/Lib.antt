@@ -1,6 +1,6 @@
--- The list machine: what an allocator does to lists of ranges. Every promise of this crate is about it.
--- It knows the chunks of memory that were handed to it, the blocks that are in use, and one list of the
--- ranges that are free, the newest first. All arithmetic is that of whole numbers without bound.
+-- The reference model: what an allocator does to lists of ranges. Every promise of this crate is about it.
+-- It knows the chunks of memory that were inserted, the used blocks, and one list of the free ranges, the newest
+-- first. All arithmetic is that of whole numbers without bound.
 pub mod Allocate
 pub mod Answers
 pub mod Budget

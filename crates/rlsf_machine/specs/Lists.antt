@@ -1,4 +1,4 @@
--- Words on lists that the machine's definitions share.
+-- Definitions on lists that the other files share.
 use Rattle.std.specs.Prelude.{◌≡◌, ◌⊎◌, Bool, List, [], ◌∷◌, if◌then◌else◌}
 
 -- x is an element of the list

@@ -1,4 +1,4 @@
--- A used block gets another size where its payload stands, or the call is refused.
+-- A used block gets another size without moving its payload, or the call is refused.
 use Rattle.std.specs.Prelude.{◌≡◌, ℕ, Option, Some, None}
 use Rattle.rlsf_machine.specs.Reallocate.{Plan, Replans, in_place, into_next, or_else}
 use Rattle.rlsf_machine.specs.State.{State, Used, Holds}

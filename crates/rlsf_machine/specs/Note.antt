@@ -2,7 +2,7 @@
 use Rattle.std.specs.Prelude.{◌≡◌, ℕ, List, [], ◌∷◌, Option}
 use Rattle.rlsf_base.specs.declared.memory.range.Range.{Range}
 
--- a range of so many bytes or more is asked for; a range is to be so long or longer; a range is given back
+-- a range of at least so many bytes is requested; a range is to be at least so long; or a range is returned to the source
 pub data Note : Type 0 where
   alloc : ℕ → Option Range → Note
   grow : Range → ℕ → Option ℕ → Note

@@ -4,8 +4,8 @@ use Rattle.rlsf_base.specs.declared.memory.range.Range.{Range}
 use Rattle.rlsf_machine.specs.Note.{Note, alloc, grow, dealloc}
 use Rattle.rlsf_machine.specs.Terms.{with_len}
 
--- what is outstanding after an answer: a range that was given is one more, one that grew is longer, and one that was given back,
--- which was outstanding, is one less
+-- what is outstanding after an answer: a range that was given is one more, one that grew is longer, and one that was returned
+-- to the source, which was outstanding, is one less
 abbrev pub OwesAfter : List Range → Note → List Range → Type 0
 OwesAfter owed (alloc n None) now = now ≡ owed
 OwesAfter owed (alloc n (Some r)) now = now ≡ r ∷ owed

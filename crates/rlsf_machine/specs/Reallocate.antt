@@ -1,4 +1,4 @@
--- A used block gets another size, where it stands if that can be.
+-- A used block gets another size, in place if possible.
 use Rattle.std.specs.Prelude.{◌≡◌, ℕ, ◌-◌, List, ◌∷◌, ◌++◌, length, take, min, Option, Some, None, find, nat_le, nat_lt, if◌then◌else◌}
 use Rattle.rlsf_base.specs.declared.memory.range.Range.{Range}
 use Rattle.rlsf_base.specs.Range.{end_of}
@@ -9,7 +9,7 @@ use Rattle.rlsf_machine.specs.Payload.{payload_of, block_for}
 use Rattle.rlsf_machine.specs.Release.{Deallocates}
 use Rattle.rlsf_machine.specs.State.{State, Used, Holds, between, others}
 
--- where a block and its payload go, and what is free then
+-- a plan: where a block and its payload go, and the free ranges then
 pub record Plan : Type 0 where
   pub block : Range
   pub payload : ℕ
@@ -40,8 +40,8 @@ into_next s u size =
     then Some (record { block = block; payload = u.payload; free = rest_behind block end ++ without (starts_at (end_of u.block)) s.free })
     else None
 
--- into the previous range: the free range before the block and one behind it are taken out, the block moves to
--- the start of all three with its payload where an allocation would put it, and the rest is put in front
+-- Into the previous range: the free range before the block and one behind it are removed. The block moves to the start of all
+-- three, with its payload where an allocation would put it, and the rest is put in front
 abbrev pub into_previous_at : State → Used → ℕ → Option Range → Option Plan
 into_previous_at s u size None = None
 into_previous_at s u size (Some previous) =
@@ -53,7 +53,7 @@ into_previous_at s u size (Some previous) =
     then Some (record { block = block; payload = payload; free = rest_behind block end ++ without (starts_at (end_of u.block)) rest })
     else None
 
--- the same, with the free range before the block that there is, if any
+-- into the previous range, with the free range before the block, if there is one
 abbrev pub into_previous : State → Used → ℕ → Option Plan
 into_previous s u size = into_previous_at s u size (find (ends_at u.block.start) s.free)
 
@@ -62,7 +62,7 @@ abbrev pub or_else : Option Plan → Option Plan → Option Plan
 or_else None q = q
 or_else (Some p) q = Some p
 
--- the first of the three that can be
+-- the first possible one of the three plans
 abbrev pub plan : State → Used → ℕ → Option Plan
 plan s u size = or_else (in_place s u size) (or_else (into_next s u size) (into_previous s u size))
 
@@ -86,7 +86,7 @@ pub record Replans (s : State) (u : Used) (p : Plan) (addr : ℕ) (t : State) : 
   pub kept : Keeps u.bytes bytes
   pub after : t ≡ replanned s u p bytes
 
--- elsewhere: an allocation while the old block stands, into which the bytes are copied, and then the old
+-- elsewhere: an allocation while the old block is live, into which the bytes are copied, and then the old
 -- block is released
 pub record MovesAway (sllen : ℕ) (s : State) (u : Used) (size addr : ℕ) (t : State) : Type 0 where
   pub meanwhile : State
@@ -96,8 +96,8 @@ pub record MovesAway (sllen : ℕ) (s : State) (u : Used) (size addr : ℕ) (t :
   pub kept : Keeps u.bytes block.bytes
   pub released : Deallocates meanwhile u.payload t
 
--- the used block u gets another size: by the first plan that can be, else elsewhere. With a plan it is never refused; without one, exactly
--- where an allocation of the new size is, and then nothing changes
+-- The used block u gets another size: by the first possible plan, or else elsewhere. With a plan it is never refused. Without one it is
+-- refused exactly if an allocation of the new size is, and then nothing changes
 abbrev pub ReallocatesBy : ℕ → State → Used → ℕ → Option Plan → Option ℕ → State → Type 0
 ReallocatesBy sllen s u size (Some p) None t = ⊥
 ReallocatesBy sllen s u size (Some p) (Some addr) t = Replans s u p addr t
@@ -110,7 +110,7 @@ pub record Reallocates (sllen : ℕ) (s : State) (addr size : ℕ) (reply : Opti
   pub holds : Holds s addr block
   pub step : ReallocatesBy sllen s block size (plan s block size) reply t
 
--- the payload at the address can have the size where it stands: in its own block, or with the free range behind it
+-- the payload at the address can have the size in place: in its own block, or with the free range behind it
 abbrev pub HasRoomToStay : State → ℕ → ℕ → Type 0
 HasRoomToStay s addr size = (u : Used) × (p : Plan) × Holds s addr u × (or_else (in_place s u size) (into_next s u size) ≡ Some p)
 

@@ -1,4 +1,4 @@
--- Memory is taken away from the machine: the chunks in a range leave it, and with them their free ranges.
+-- Memory is removed from the reference model: the chunks in a range, and with them their free ranges.
 use Rattle.std.specs.Prelude.{◌≡◌, ◌⊎◌, ℕ, ◌+◌, ◌≤◌, ◌<◌, Bool, ◌&&◌, List, filter, nat_le, not}
 use Rattle.rlsf_base.specs.declared.memory.range.Range.{Range}
 use Rattle.rlsf_base.specs.Range.{end_of}
@@ -10,7 +10,7 @@ use Rattle.rlsf_machine.specs.WellFormed.{covers, coverage}
 abbrev pub lies_within : Range → Range → Bool
 lies_within r c = nat_le r.start c.start && nat_le (end_of c) (end_of r)
 
--- those of some ranges that don't lie in the range r, in their order
+-- the ranges of a list that don't lie in the range r, in their order
 abbrev pub outside_of : Range → List Range → List Range
 outside_of r ranges = filter (λ c. not (lies_within r c)) ranges
 
@@ -22,7 +22,7 @@ IsIdle s r = (a : ℕ) → r.start ≤ a → a < end_of r → coverage (λ u. u.
 abbrev pub IsWithinOrOff : Range → Range → Type 0
 IsWithinOrOff r c = ((r.start ≤ c.start) × (end_of c ≤ end_of r)) ⊎ ((a : ℕ) → covers r a + covers c a ≤ 1)
 
--- the range may be taken away: no used block has a byte of it, and it parts no chunk
+-- the range may be removed: no used block has a byte of it, and each chunk lies in it or outside of it
 pub record IsRemovable (s : State) (r : Range) : Type 0 where
   pub idle : IsIdle s r
   pub whole : (c : Range) → IsIn c s.chunks → IsWithinOrOff r c
@@ -31,6 +31,6 @@ pub record IsRemovable (s : State) (r : Range) : Type 0 where
 abbrev pub removed : Range → State → State
 removed r s = record { chunks = outside_of r s.chunks; used = s.used; free = outside_of r s.free }
 
--- the range is taken away
+-- the range is removed
 abbrev pub Removes : State → Range → State → Type 0
 Removes s r t = t ≡ removed r s

@@ -16,9 +16,9 @@ pub record Fills (s : State) (addr : ℕ) (bytes : List ℕ) (t : State) : Type 
   pub length : length bytes ≡ length block.bytes
   pub after : t ≡ filled s addr bytes
 
--- a call with its reply: a range is handed in, or handed in behind a chunk; a layout, by its size and its
--- alignment, is allocated; a payload is deallocated, gets another size, or is written; a range is taken away; over a source, so many
--- ranges go back
+-- A call with its reply: a range is inserted, or appended to a chunk; a layout, by its size and its alignment, is allocated; a
+-- payload is deallocated, gets another size, or is written; a range is removed; or, over a source, so many of the newest ranges are
+-- returned
 pub data Event : Type 0 where
   insert : Range → Option ℕ → Event
   append : Range → ℕ → Event
@@ -44,7 +44,7 @@ Leads fllen sllen s (trim count) t = ⊥
 abbrev pub IsSomeLive : State → ℕ → Type 0
 IsSomeLive s addr = (u : Used) × Holds s addr u
 
--- what the caller of a call owes
+-- what a call requires of its caller
 abbrev pub MayCall : Range → State → Event → Type 0
 MayCall memory s (insert r reply) = IsFresh memory s r
 MayCall memory s (append r reply) = IsNext memory s r
@@ -67,7 +67,7 @@ IsSameCall (remove r) (remove q) = r ≡ q
 IsSameCall (trim m) (trim n) = Unit {0}
 IsSameCall e e' = ⊥
 
--- the call refused: it had no room, or no chunk to make
+-- the call was refused: it had no room, or no chunk to make
 abbrev pub IsRefused : Event → Type 0
 IsRefused (insert r reply) = reply ≡ None
 IsRefused (append r reply) = ⊥
@@ -89,7 +89,7 @@ Names (fill at bytes) addr = at ≡ addr
 Names (remove r) addr = ⊥
 Names (trim count) addr = ⊥
 
--- the call takes memory away
+-- the call removes memory
 abbrev pub IsRemoval : Event → Type 0
 IsRemoval (remove r) = Unit {0}
 IsRemoval e = ⊥

@@ -1,4 +1,4 @@
--- How much room callers are sure to find. The definitions don't unfold by themselves.
+-- How much room callers are sure to have. The definitions don't unfold by themselves.
 use Rattle.std.specs.Prelude.{ℕ, List, length}
 use Rattle.rlsf_base.specs.declared.memory.range.Range.{Range}
 use Rattle.rlsf_base.specs.Sizes.{request_size}

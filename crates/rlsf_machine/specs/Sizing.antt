@@ -28,7 +28,8 @@ BytesAddUp = (fllen sllen : ℕ) (memory : Range) (s : State) → IsWellFormed f
 -- an allocation is not refused where the free bytes are so many that one of so few free ranges has room for it
 abbrev pub BudgetIsEnough : Type 0
 BudgetIsEnough = (fllen sllen least : ℕ) (memory : Range) (s t : State) (size align : ℕ) (reply : Option ℕ) → IsWellFormed fllen sllen memory s
-    → IsTakenFor sllen (request_size size align) least → (length s.used + length s.chunks) * (least - 32) < total_len s.free → Allocates sllen s size align reply t → reply ≢ None
+    → IsTakenFor sllen (request_size size align) least → (length s.used + length s.chunks) * (least - 32) < total_len s.free → Allocates sllen s size align reply t
+    → reply ≢ None
 
 -- in a run whose calls keep to a budget that fronts of the chunks have, no allocation or reallocation is refused, whatever
 -- memory comes meanwhile
@@ -42,15 +43,15 @@ abbrev pub LiveIsCounted : Type 0
 LiveIsCounted = (fllen sllen : ℕ) (memory : Range) (s t : State) (e : Event) → IsWellFormed fllen sllen memory s → MayCall memory s e → Leads fllen sllen s e t
     → length t.used ≡ live_after e (length s.used)
 
--- from a state with nothing live, no allocation or reallocation is refused in a run whose sizes, alignments and live
--- payloads stay within bounds for which fronts of the chunks have a budget, whatever memory comes meanwhile
+-- From a state with nothing live, a run refuses no allocation or reallocation if it stays within bounds. The bounds are on its sizes,
+-- its alignments and its live payloads, and fronts of the chunks have a budget for them. This holds whatever memory comes meanwhile
 abbrev pub BoundedRunsAreNotDenied : Type 0
 BoundedRunsAreNotDenied = (live size align fllen sllen : ℕ) (memory : Range) (s t : State) (fronts : List Range) (es : List Event) → IsWellFormed fllen sllen memory s
     → s.used ≡ [] → AreFronts s.chunks fronts → HasBudget live (request_size size align) sllen fronts
     → Runs fllen sllen memory s es t → AreWithin live size align 0 es → (e : Event) → IsIn e es → IsDenied e → ⊥
 
--- where blocks of one length, at which a class begins, fill a chunk from its start, an allocation is refused exactly
--- where the chunk is not long enough for one more
+-- Blocks of one length, at which a class begins, fill a chunk from its start. Then an allocation is refused exactly if the chunk is
+-- not long enough for one more
 abbrev pub UniformIsFull : Type 0
 UniformIsFull = (fllen sllen : ℕ) (memory : Range) (s t : State) (c : Range) (size align : ℕ) (reply : Option ℕ) → IsWellFormed fllen sllen memory s
     → IsUniform (request_size size align) c s → Reaches sllen (class_of sllen (request_size size align)) (request_size size align) → Allocates sllen s size align reply t
@@ -80,7 +81,8 @@ UniformRunsAnswer = (len fllen sllen : ℕ) (memory : Range) (s t : State) (c : 
 
 -- with nothing live, a chunk of the length that is computed for so many payloads up to a layout refuses none of them
 abbrev pub PayloadPoolIsEnough : Type 0
-PayloadPoolIsEnough = (fl_bits sl_bits fllen sllen count size align len : ℕ) (memory : Range) (s t : State) (c : Range) (es : List Event) → IsValid fl_bits sl_bits fllen sllen → IsWellFormed fllen sllen memory s
+PayloadPoolIsEnough = (fl_bits sl_bits fllen sllen count size align len : ℕ) (memory : Range) (s t : State) (c : Range) (es : List Event) → IsValid fl_bits sl_bits fllen sllen
+    → IsWellFormed fllen sllen memory s
     → pool_size_for_payloads fllen sllen count size align ≡ Some len → s.used ≡ [] → IsIn c s.chunks → len ≤ c.len
     → Runs fllen sllen memory s es t → AreWithin count size align 0 es → (e : Event) → IsIn e es → IsDenied e → ⊥
 
@@ -98,12 +100,13 @@ abbrev pub NeverRefuses : ℕ → ℕ → ℕ → ℕ → Range → State → Ty
 NeverRefuses live most fllen sllen memory s =
     (es : List Event) (t : State) (e : Event) → RunsModestly live most fllen sllen memory s es t → IsIn e es → IsDenied e → ⊥
 
--- that length is exact: a chunk alone, with nothing live, never refuses a block of up to `most` bytes while `live` or fewer are
--- live exactly if it is as long or longer, and else some list of calls is refused
+-- That length is exact for blocks of up to `most` bytes, with `live` or fewer live at a time. A chunk alone, with nothing live, refuses
+-- none of them exactly if it is at least that long. For a shorter chunk some list of calls is refused
 abbrev pub PayloadPoolIsExact : Type 0
 PayloadPoolIsExact = (fl_bits sl_bits fllen sllen live most least : ℕ) (memory : Range) (s : State) (c : Range) → IsValid fl_bits sl_bits fllen sllen
     → IsWellFormed fllen sllen memory s → IsSize most → map_ceil_and_unmap fllen sllen most ≡ Some least → s.used ≡ [] → s.chunks ≡ c ∷ []
-    → (payloads_length live most least ≤ c.len → NeverRefuses live most fllen sllen memory s) × (c.len < payloads_length live most least → EndsRefused live most fllen sllen memory s)
+    → (payloads_length live most least ≤ c.len → NeverRefuses live most fllen sllen memory s)
+    × (c.len < payloads_length live most least → EndsRefused live most fllen sllen memory s)
 
 -- in some run whose calls stay within the bounds of a count, a size and an alignment one is refused
 pub record EndsRefusedWithin (count size align fllen sllen : ℕ) (memory : Range) (s : State) : Type 0 where
@@ -120,15 +123,17 @@ abbrev pub NeverRefusesWithin : ℕ → ℕ → ℕ → ℕ → ℕ → Range �
 NeverRefusesWithin count size align fllen sllen memory s =
     (es : List Event) (t : State) (e : Event) → Runs fllen sllen memory s es t → AreWithin count size align 0 es → IsIn e es → IsDenied e → ⊥
 
--- so it is for layouts, where the alignment is 16 or less: a chunk alone, with nothing live, never refuses a payload of up to a layout
--- while `count` or fewer are live exactly if it is as long or longer, and else some list of calls is refused. Above 16 the length is enough
+-- It is exact for layouts with an alignment of at most 16, with `count` or fewer payloads live at a time. A chunk alone, with nothing
+-- live, refuses no payload of up to a layout exactly if it is at least that long. For a shorter one some list of calls is refused. Above
+-- 16 the length is enough
 abbrev pub LayoutPoolIsExact : Type 0
 LayoutPoolIsExact = (fl_bits sl_bits fllen sllen count size align len : ℕ) (memory : Range) (s : State) (c : Range) → IsValid fl_bits sl_bits fllen sllen
-    → IsWellFormed fllen sllen memory s → IsPowerOfTwo align → align ≤ 16 → pool_size_for_payloads fllen sllen count size align ≡ Some len → s.used ≡ [] → s.chunks ≡ c ∷ []
+    → IsWellFormed fllen sllen memory s → IsPowerOfTwo align → align ≤ 16 → pool_size_for_payloads fllen sllen count size align ≡ Some len → s.used ≡ []
+    → s.chunks ≡ c ∷ []
     → (len ≤ c.len → NeverRefusesWithin count size align fllen sllen memory s) × (c.len < len → EndsRefusedWithin count size align fllen sllen memory s)
 
--- with nothing live, a chunk of the length that is computed for so many objects of a size, alone, has room for exactly as
--- many, where all ask for the size that is computed: and that is as great as theirs, or greater
+-- A chunk alone, with nothing live, of the length that is computed for so many objects of a size has room for exactly as many. All
+-- of them request the size that is computed, which is at least theirs
 abbrev pub ObjectPoolIsExact : Type 0
 ObjectPoolIsExact = (fl_bits sl_bits fllen sllen count size len asked : ℕ) (memory : Range) (s t : State) (c : Range) (es : List Event) → IsValid fl_bits sl_bits fllen sllen
     → IsWellFormed fllen sllen memory s → pool_size_for_objects fllen sllen count size ≡ Some (len, asked) → s.used ≡ [] → s.chunks ≡ c ∷ [] → c.len ≡ len
@@ -136,12 +141,14 @@ ObjectPoolIsExact = (fl_bits sl_bits fllen sllen count size len asked : ℕ) (me
 
 -- ---- over a source of memory
 
--- within such bounds a source is never asked: a run over it is a run of the machine alone by the same calls with the same
+-- within such bounds a source is never asked: a run over it is a run of the reference model alone by the same calls with the same
 -- replies, none of which refuses bytes
 abbrev pub FlexNeverAsked : Type 0
-FlexNeverAsked = (live size align fllen sllen : ℕ) (memory : Range) (t : Terms) (s u : FlexState) (fronts : List Range) (cs : List FlexEvent) → IsWellFormed fllen sllen memory s.machine
+FlexNeverAsked = (live size align fllen sllen : ℕ) (memory : Range) (t : Terms) (s u : FlexState) (fronts : List Range) (cs : List FlexEvent)
+    → IsWellFormed fllen sllen memory s.machine
     → s.machine.used ≡ [] → AreFronts s.machine.chunks fronts → HasBudget live (request_size size align) sllen fronts → IsFlexRun fllen sllen memory t s cs u
-    → AreWithin live size align 0 (events_in cs) → (notes_in cs ≡ []) × Runs fllen sllen memory s.machine (events_in cs) u.machine × ((e : Event) → IsIn e (events_in cs) → IsDenied e → ⊥)
+    → AreWithin live size align 0 (events_in cs)
+    → (notes_in cs ≡ []) × Runs fllen sllen memory s.machine (events_in cs) u.machine × ((e : Event) → IsIn e (events_in cs) → IsDenied e → ⊥)
 
 -- the laws of how much memory is enough, by name
 pub record SizingLaws : Type 0 where

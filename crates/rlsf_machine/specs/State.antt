@@ -1,26 +1,26 @@
--- The state of the machine.
+-- The state of the reference model.
 use Rattle.std.specs.Prelude.{◌≡◌, ◌↔◌, ℕ, ◌-◌, ◌≤◌, List, [], ◌++◌, ◌==◌, if◌then◌else◌, not, drop, filter, map, take}
 use Rattle.rlsf_base.specs.declared.memory.range.Range.{Range}
 use Rattle.rlsf_base.specs.Range.{end_of, range_at}
 use Rattle.rlsf_machine.specs.Lists.{IsIn}
 
--- a block in use: its range, the address that its caller has, the alignment that was asked for, and the
--- bytes from that address up to the block's end
+-- a used block: its range, the address that its caller has, the requested alignment, and the bytes from that address to the
+-- block's end
 pub record Used : Type 0 where
   pub block : Range
   pub payload : ℕ
   pub align : ℕ
   pub bytes : List ℕ
 
--- the chunks, the blocks in use, and the free ranges with the newest first.
--- The order of `chunks` and of `used` means nothing: the definitions ask which elements these lists have and how
--- many of their ranges have an address, and where they seek an element, a well-formed state has only one.
+-- The chunks, the used blocks, and the free ranges with the newest first.
+-- The order of `chunks` and of `used` means nothing. The definitions only ask which elements these lists have, and how many of
+-- their ranges have an address. Where they seek an element, a well-formed state has only one.
 pub record State : Type 0 where
   pub chunks : List Range
   pub used : List Used
   pub free : List Range
 
--- the machine to which nothing was handed yet
+-- the state before any range is inserted
 abbrev pub empty : State
 empty = record { chunks = []; used = []; free = [] }
 
@@ -48,7 +48,7 @@ IsPlaced s addr size align = (u : Used) × Holds s addr u × (u.align ≡ align)
 abbrev pub HasBytes : State → ℕ → List ℕ → Type 0
 HasBytes s addr bytes = (u : Used) × Holds s addr u × (u.bytes ≡ bytes)
 
--- some used block has the address, and its caller may use so many bytes from there on, or more
+-- some used block has the address, and its caller may use at least so many bytes from there on
 abbrev pub HasFront : State → ℕ → ℕ → Type 0
 HasFront s addr len = (u : Used) × Holds s addr u × (len ≤ (usable u).len)
 
@@ -56,7 +56,7 @@ HasFront s addr len = (u : Used) × Holds s addr u × (len ≤ (usable u).len)
 abbrev pub with_front : ℕ → List ℕ → List ℕ → List ℕ
 with_front len new old = take len new ++ drop len old
 
--- the used blocks but for the one at an address
+-- the used blocks except for the one at an address
 abbrev pub others : ℕ → List Used → List Used
 others addr used = filter (λ u. not (u.payload == addr)) used
 
@@ -82,11 +82,11 @@ pub record Shape : Type 0 where
   pub payload : ℕ
   pub align : ℕ
 
--- what a used block is but for its bytes
+-- a used block without its bytes
 abbrev pub shape_of : Used → Shape
 shape_of u = record { block = u.block; payload = u.payload; align = u.align }
 
--- two states are alike but for the bytes in used blocks
+-- two states are alike except for the bytes in used blocks
 pub record AreAlike (s t : State) : Type 0 where
   pub chunks : s.chunks ≡ t.chunks
   pub used : map shape_of s.used ≡ map shape_of t.used
@@ -98,7 +98,7 @@ pub record IsReordered (s t : State) : Type 0 where
   pub used : (u : Used) → IsIn u s.used ↔ IsIn u t.used
   pub free : s.free ≡ t.free
 
--- two states are alike but for bytes and for the order of their chunks and of their used blocks
+-- two states are alike except for bytes and for the order of their chunks and of their used blocks
 pub record AreSimilar (s t : State) : Type 0 where
   pub chunks : (c : Range) → IsIn c s.chunks ↔ IsIn c t.chunks
   pub used : (h : Shape) → IsIn h (map shape_of s.used) ↔ IsIn h (map shape_of t.used)

@@ -1,12 +1,12 @@
--- What a source of memory keeps to.
+-- The terms that a source of memory keeps.
 use Rattle.std.specs.Prelude.{◌≡◌, ℕ, ◌%◌, ◌≤◌, Bool, List, ◌∷◌, ◌++◌, Option, MatchOption}
 use Rattle.rlsf_base.specs.declared.memory.range.Range.{Range}
 use Rattle.rlsf_base.specs.PowerOfTwo.{IsPowerOfTwo}
 use Rattle.rlsf_base.specs.Range.{range_at, LiesIn}
 use Rattle.rlsf_machine.specs.Insert.{IsClear}
 
--- in which range a source hands out memory, whether it takes memory back, whether it grows what it handed out, and whether it is asked for
--- no other range while one is kept; and what the starts of its ranges are multiples of
+-- The terms of a source: the range in which it provides memory, whether it takes memory back, and whether it grows what it provided.
+-- Also whether it is asked for no other range while one is kept, and a number of which the starts of its ranges are multiples
 pub record Terms : Type 0 where
   pub space : Range
   pub dealloc : Bool
@@ -32,8 +32,8 @@ pub record IsGrown (t : Terms) (others : List Range) (r : Range) (min_new_len le
   pub apart : IsClear (with_len r len) others
   pub long : min_new_len ≤ len
 
--- what is owed after a question for growth: the same ranges where none came; else the range with the length that came, which may
--- be answered under these terms
+-- What is owed after a question for growth: the same ranges if none came; otherwise the range has the length that came, which is a
+-- possible answer under these terms
 abbrev pub OwesGrown : Terms → (List Range → Type 0) → List Range → Range → List Range → ℕ → Option ℕ → Type 0
 OwesGrown terms owes before range after min_len reply =
     MatchOption reply (owes (before ++ range ∷ after)) (λ len. IsGrown terms (before ++ after) range min_len len × owes (before ++ with_len range len ∷ after))

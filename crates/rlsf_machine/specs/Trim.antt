@@ -1,4 +1,4 @@
--- Trim: the newest ranges, as far as they hold no used block, go back to the source.
+-- Trim: the newest ranges, as far as they hold no used block, are returned to the source.
 use Rattle.std.specs.Prelude.{◌≡◌, ◌⊎◌, ℕ, ◌+◌, ◌≤◌, true, false, List, [], ◌∷◌, ◌++◌, length, map, Option, Some, None}
 use Rattle.rlsf_base.specs.declared.memory.range.Range.{Range}
 use Rattle.rlsf_base.specs.Range.{end_of}
@@ -29,7 +29,7 @@ abbrev pub IsKeptToLast : List Range → List Range → Option KeptPool → Type
 IsKeptToLast chunks [] kept = kept ≡ None
 IsKeptToLast chunks (r ∷ ranges) kept = (len : ℕ) × EndsLast chunks r len × (kept ≡ Some (record { range = r; len = len }))
 
--- The newest ranges that hold no used block go back, each once and the newest first, with their chunks and free ranges. The newest
+-- The newest ranges that hold no used block are returned, each once and the newest first, with their chunks and free ranges. The newest
 -- of those that are left holds one, and is the kept one.
 pub record GivesBack (s : FlexState) (count : ℕ) (notes : List Note) (u : FlexState) : Type 0 where
   pub gone : List Range
@@ -43,6 +43,6 @@ pub record GivesBack (s : FlexState) (count : ℕ) (notes : List Note) (u : Flex
   pub pools : u.pools ≡ left
   pub kept : IsKeptToLast u.machine.chunks left u.kept
 
--- so many ranges go back where the source takes ranges back; else none does, and the state is as it was
+-- so many ranges are returned if the source takes ranges back; else none is, and the state is as it was
 abbrev pub Trims : Terms → FlexState → ℕ → List Note → FlexState → Type 0
 Trims t s count notes u = ((t.dealloc ≡ true) × GivesBack s count notes u) ⊎ ((t.dealloc ≡ false) × (count ≡ 0) × (notes ≡ []) × (u ≡ s))

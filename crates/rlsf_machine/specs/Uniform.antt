@@ -11,14 +11,14 @@ use Rattle.rlsf_machine.specs.State.{State, Used}
 abbrev pub IsTimes : ℕ → ℕ → ℕ → Type 0
 IsTimes from len a = (k : ℕ) × (a ≡ from + k * len)
 
--- c is the only chunk, each used block has the length, and blocks and free ranges begin whole numbers of that length behind
--- the chunk's start
+-- c is the only chunk, and each used block has the length. Blocks and free ranges begin at whole multiples of that length behind the
+-- chunk's start
 pub record IsUniform (len : ℕ) (c : Range) (s : State) : Type 0 where
   pub chunks : s.chunks ≡ c ∷ []
   pub used : (u : Used) → IsIn u s.used → (u.block.len ≡ len) × IsTimes c.start len u.block.start
   pub free : (f : Range) → IsIn f s.free → IsTimes c.start len f.start
 
--- the call asks for a block of that length at an alignment of 32 or less, or gives one back, or writes one
+-- the call requests a block of that length at an alignment of 32 or less, deallocates one, or writes one
 abbrev pub AsksUniformly : ℕ → Event → Type 0
 AsksUniformly len (insert r reply) = ⊥
 AsksUniformly len (append r reply) = ⊥
@@ -29,7 +29,7 @@ AsksUniformly len (fill addr bytes) = Unit {0}
 AsksUniformly len (remove r) = ⊥
 AsksUniformly len (trim n) = ⊥
 
--- the call asks for a payload of that size at an alignment of 16 or less, or gives one back, or writes one
+-- the call requests a payload of that size at an alignment of 16 or less, deallocates one, or writes one
 abbrev pub AsksForObject : ℕ → Event → Type 0
 AsksForObject asked (insert r reply) = ⊥
 AsksForObject asked (append r reply) = ⊥

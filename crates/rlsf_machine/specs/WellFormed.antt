@@ -1,5 +1,6 @@
--- What is true of every state that the machine comes to.
-use Rattle.std.specs.Prelude.{◌≡◌, ℕ, ◌+◌, ◌-◌, ◌%◌, ◌^◌, ◌<◌, ◌≤◌, ◌≢◌, ◌&&◌, List, [], ◌∷◌, length, nat_le, nat_lt, if◌then◌else◌}
+-- What is true of every reachable state of the reference model.
+use Rattle.std.specs.Prelude.{◌≡◌, ℕ, ◌+◌, ◌-◌, ◌%◌, ◌^◌, ◌<◌, ◌≤◌, ◌≢◌, ◌&&◌, List, [], ◌∷◌, length, nat_le, nat_lt}
+use Rattle.std.specs.Prelude.{if◌then◌else◌}
 use Rattle.rlsf_base.specs.declared.memory.range.Range.{Range}
 use Rattle.rlsf_base.specs.PowerOfTwo.{IsPowerOfTwo}
 use Rattle.rlsf_base.specs.Range.{end_of, LiesIn}
@@ -43,8 +44,8 @@ pub record IsFree (fllen sllen : ℕ) (f : Range) : Type 0 where
   pub some : 0 < f.len
   pub valid : IsValidClass fllen (class_of sllen f.len)
 
--- a used block's payload lies where an allocation puts it and not past the block's end, and its bytes are those
--- from there to the end
+-- A used block's payload lies where an allocation puts it, and not past the block's end. Its bytes are those from there to the
+-- end
 pub record IsUsed (u : Used) : Type 0 where
   pub whole : IsWhole u.block
   pub power : IsPowerOfTwo u.align

@@ -79,7 +79,12 @@ module _ {from to : ℕ} where
         low q i = elim (IsIn-grown q r len xs ys i) [ inl old ↦ h.low q old | inr e ↦ subst (λ (q : Range). from ≤ q.start) (sym e) (h.low r here) ]
 
         high : (q : Range) → IsIn q (xs ++ with_len r len ∷ ys) → end_of q ≤ r.start + len
-        high q i = elim (IsIn-grown q r len xs ys i) [ inl old ↦ omega (arith, h.high q old, last, longer) | inr e ↦ subst (λ (q : Range). end_of q ≤ r.start + len) (sym e) (omega arith) ]
+        high q i =
+            elim (IsIn-grown q r len xs ys i) [
+              | inl old ↦ omega (arith, h.high q old, last, longer)
+              | inr e ↦
+                  subst (λ (q : Range). end_of q ≤ r.start + len) (sym e) (omega arith)
+            ]
 
         disjoint : (a : ℕ) → coverage itself (xs ++ with_len r len ∷ ys) a ≤ 1
         disjoint a = elim (where_is (with_len r len) a) [

@@ -16,7 +16,8 @@ valid_prop size align = hlevel props
 pub same_layout : (a b : Layout) → a.size ≡ b.size → a.align ≡ b.align → a ≡ b
 unfolding layout
 same_layout a b s t =
-    subst (λ (n : ℕ). (v : IsLayout n b.align) → a ≡ layout n b.align v) s (subst (λ (m : ℕ). (v : IsLayout a.size m) → a ≡ layout a.size m v) t (λ v. ap (layout a.size a.align) (valid_prop a.size a.align a.valid v))) b.valid
+    subst (λ (n : ℕ). (v : IsLayout n b.align) → a ≡ layout n b.align v) s
+    (subst (λ (m : ℕ). (v : IsLayout a.size m) → a ≡ layout a.size m v) t (λ v. ap (layout a.size a.align) (valid_prop a.size a.align a.valid v))) b.valid
 
 -- an address by its number
 address : (n : ℕ) → 0 < n → NonZeroUsize

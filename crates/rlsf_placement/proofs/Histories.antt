@@ -1,5 +1,6 @@
 -- Each step of a heap, and each list of them, leaves a heap and what it doesn't name.
-use Rattle.std.proofs.Common.{◌≡◌, ◌⊎◌, ℕ, Bool, true, false, MatchBool, IsSome, eqb, min, length, List, [], ◌∷◌, Option, Some, None, Ok, Err, refl, sym, ◌∙◌, ap, subst, inl, inr}
+use Rattle.std.proofs.Common.{◌≡◌, ◌⊎◌, ℕ, Bool, true, false, MatchBool, IsSome, eqb, min, length, List, [], ◌∷◌, Option, Some, None, Ok, Err, refl, sym}
+use Rattle.std.proofs.Common.{◌∙◌, ap, subst, inl, inr}
 use Rattle.std.proofs.lemmas.Bool.{and_parts, eqb-true}
 use Rattle.std.specs.Option.{option_map}
 use Rattle.rlsf_base.specs.Addr.{at}
@@ -22,7 +23,7 @@ use Rattle.rlsf_placement.specs.Steps.{DeallocatesAsAt, DeallocatesAt, Done, Pla
 use Rattle.rlsf_placement.proofs.StepLeavesFlex.{flex_goes}
 use Rattle.rlsf_placement.proofs.StepLeavesHeap.{Goes, Stays, allocated, live_row, released, replaced, resized, stays_all, written}
 
--- by what a test tells
+-- by what a test shows
 pub either : (A B C : Type 0) (b : Bool) → (b ≡ true → A → C) → (b ≡ false → B → C) → MatchBool b A B → C
 either A B C true f g x = f refl x
 either A B C false f g x = g refl x
@@ -32,7 +33,7 @@ pub is_same-align : (a b : Layout) → is_same a b ≡ true → a.align ≡ b.al
 is_same-align a b e = eqb-true a.align b.align (and_parts (eqb a.size b.size) (eqb a.align b.align) e).1
 
 module _ {memory : Range} (h : Heap) (w : IsHeap memory h) (g : Heap) where
-  -- ---- a payload that is allocated, given back or written
+  -- ---- a payload that is allocated, deallocated or written
 
   allocation_goes : (layout : Layout) (result : Placed) → LeadsTo h (allocate layout result) g → Goes memory h g (Gives result)
   allocation_goes layout (Ok addr) step = allocated h w g addr layout step.0 step.1
@@ -53,7 +54,8 @@ module _ {memory : Range} (h : Heap) (w : IsHeap memory h) (g : Heap) where
   write_goes : (addr offset : ℕ) (bytes : List ℕ) (o : Option Row) (result : Done) → WritesAt h addr offset bytes o result g → Goes memory h g (λ a. addr ≡ a)
   write_goes addr offset bytes None result step = stays_all h w (λ a. addr ≡ a) g step.1
   write_goes addr offset bytes (Some row) result step =
-      either ((result ≡ Ok tt) × WritesIn h addr offset bytes g) ((result ≡ Err OutOfRange) × (g ≡ h)) (Goes memory h g (λ a. addr ≡ a)) (fits h addr offset (length bytes))
+      either ((result ≡ Ok tt) × WritesIn h addr offset bytes g) ((result ≡ Err OutOfRange) × (g ≡ h)) (Goes memory h g (λ a. addr ≡ a))
+      (fits h addr offset (length bytes))
       (λ within did. written h w g addr offset bytes did.1) (λ past did. stays_all h w (λ a. addr ≡ a) g did.1) step
 
   -- ---- a payload that gets another size
@@ -85,27 +87,35 @@ module _ {memory : Range} (h : Heap) (w : IsHeap memory h) (g : Heap) where
     unmoved_goes aligned (Err NoRoom) step = stays_all h w (λ a. (addr ≡ a) ⊎ Gives (Err NoRoom) a) g step.1
     unmoved_goes aligned (Err e) step = absurd step
 
-  reallocation_as_goes : (enabled : Bool) (addr : ℕ) (layout : Layout) (n : ℕ) (o : Option Row) (result : Placed) → row_at addr h.asked ≡ o → ReallocatesAsAt enabled h addr layout n o result g
+  reallocation_as_goes : (enabled : Bool) (addr : ℕ) (layout : Layout) (n : ℕ) (o : Option Row) (result : Placed) → row_at addr h.asked ≡ o
+      → ReallocatesAsAt enabled h addr layout n o result g
       → Goes memory h g (λ a. (addr ≡ a) ⊎ Gives result a)
   reallocation_as_goes enabled addr layout n None result there step = stays_all h w (λ a. (addr ≡ a) ⊎ Gives result a) g step.1
   reallocation_as_goes enabled addr layout n (Some row) result there step =
-      either (Wanted n layout.align (λ wanted. ReallocatesTo enabled h addr layout wanted result g)) ((result ≡ Err WrongLayout) × (g ≡ h)) (Goes memory h g (λ a. (addr ≡ a) ⊎ Gives result a)) (is_same row.1 layout)
-      (λ same did. made enabled did.layout (is_same-align row.1 layout same ∙ sym did.align) did.made) (λ differs did. stays_all h w (λ a. (addr ≡ a) ⊎ Gives result a) g did.1) step
+      either (Wanted n layout.align (λ wanted. ReallocatesTo enabled h addr layout wanted result g)) ((result ≡ Err WrongLayout) × (g ≡ h))
+      (Goes memory h g (λ a. (addr ≡ a) ⊎ Gives result a)) (is_same row.1 layout)
+      (λ same did. made enabled did.layout (is_same-align row.1 layout same ∙ sym did.align) did.made)
+      (λ differs did. stays_all h w (λ a. (addr ≡ a) ⊎ Gives result a) g did.1) step
     where
-      made : (b : Bool) (wanted : Layout) → row.1.align ≡ wanted.align → ReallocatesTo b h addr layout wanted result g → Goes memory h g (λ a. (addr ≡ a) ⊎ Gives result a)
+      made : (b : Bool) (wanted : Layout) → row.1.align ≡ wanted.align → ReallocatesTo b h addr layout wanted result g
+          → Goes memory h g (λ a. (addr ≡ a) ⊎ Gives result a)
       made true wanted aligned did = resizing_goes addr row there wanted aligned result did
       made false wanted aligned did = moving_goes addr row there wanted (min layout.size wanted.size) result did
 
-  reallocation_goes : (addr : ℕ) (wanted : Layout) (o : Option Row) (result : Placed) → row_at addr h.asked ≡ o → ReallocatesAt h addr wanted o result g → Goes memory h g (λ a. (addr ≡ a) ⊎ Gives result a)
+  reallocation_goes : (addr : ℕ) (wanted : Layout) (o : Option Row) (result : Placed) → row_at addr h.asked ≡ o → ReallocatesAt h addr wanted o result g
+      → Goes memory h g (λ a. (addr ≡ a) ⊎ Gives result a)
   reallocation_goes addr wanted None result there step = stays_all h w (λ a. (addr ≡ a) ⊎ Gives result a) g step.1
   reallocation_goes addr wanted (Some row) result there step = moving_goes addr row there wanted (min wanted.size (length (bytes_at h.flex.machine addr))) result step
 
-  reallocation_there_goes : (addr : ℕ) (layout : Layout) (n : ℕ) (o : Option Row) (result : Placed) → row_at addr h.asked ≡ o → ReallocatesThereAt h addr layout n o result g
+  reallocation_there_goes : (addr : ℕ) (layout : Layout) (n : ℕ) (o : Option Row) (result : Placed) → row_at addr h.asked ≡ o
+      → ReallocatesThereAt h addr layout n o result g
       → Goes memory h g (λ a. (addr ≡ a) ⊎ Gives result a)
   reallocation_there_goes addr layout n None result there step = stays_all h w (λ a. (addr ≡ a) ⊎ Gives result a) g step.1
   reallocation_there_goes addr layout n (Some row) result there step =
-      either (Wanted n layout.align (λ wanted. ResizesThere h addr wanted result g)) ((result ≡ Err WrongLayout) × (g ≡ h)) (Goes memory h g (λ a. (addr ≡ a) ⊎ Gives result a)) (is_same row.1 layout)
-      (λ same did. unmoved_goes addr row there did.layout (is_same-align row.1 layout same ∙ sym did.align) result did.made) (λ differs did. stays_all h w (λ a. (addr ≡ a) ⊎ Gives result a) g did.1) step
+      either (Wanted n layout.align (λ wanted. ResizesThere h addr wanted result g)) ((result ≡ Err WrongLayout) × (g ≡ h))
+      (Goes memory h g (λ a. (addr ≡ a) ⊎ Gives result a)) (is_same row.1 layout)
+      (λ same did. unmoved_goes addr row there did.layout (is_same-align row.1 layout same ∙ sym did.align) result did.made)
+      (λ differs did. stays_all h w (λ a. (addr ≡ a) ⊎ Gives result a) g did.1) step
 
   -- ---- each step
 

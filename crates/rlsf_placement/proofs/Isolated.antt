@@ -7,7 +7,8 @@ use Rattle.rlsf_base.specs.declared.memory.range.Range.{Range}
 use Rattle.rlsf_machine.proofs.FlexSteps.{flex_empty_is_well_formed}
 use Rattle.rlsf_placement.specs.Cursor.{first_page, page_cursor, terms_of}
 use Rattle.rlsf_placement.specs.Heap.{Heap, beginning, layout_at}
-use Rattle.rlsf_placement.specs.History.{Gives, IsHistory, Names, NoneNames, Step, allocate, deallocate, deallocate_as, reallocate, reallocate_as, reallocate_there, read, usable, write}
+use Rattle.rlsf_placement.specs.History.{Gives, IsHistory, Names, NoneNames, Step, allocate, deallocate, deallocate_as, reallocate, reallocate_as, reallocate_there, read, usable}
+use Rattle.rlsf_placement.specs.History.{write}
 use Rattle.rlsf_placement.specs.Isolation.{BeginningIsHeap, HistoriesListPayloads, IsLeftBy, PayloadsAreIsolated}
 use Rattle.rlsf_placement.specs.Standing.{IsHeap}
 use Rattle.rlsf_placement.specs.Steps.{Placed}
@@ -105,6 +106,7 @@ pub payloads_are_isolated : PayloadsAreIsolated
 payloads_are_isolated space grows steps end a layout addressable run lives =
     let w = beginning_is_heap space grows addressable in
     elim (last_or space (beginning space grows) end steps a w run) [
-      | inl none ↦ absurd (none-some layout (sym (nothing_at space grows a) ∙ sym (unnamed_stays_throughout space (beginning space grows) end steps a w run none).layout ∙ lives))
+      | inl none ↦ absurd (none-some layout
+          (sym (nothing_at space grows a) ∙ sym (unnamed_stays_throughout space (beginning space grows) end steps a w run none).layout ∙ lives))
       | inr left ↦ left
     ]

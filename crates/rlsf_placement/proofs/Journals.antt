@@ -1,11 +1,13 @@
 -- The journal of some steps determines its answers and the placement.
-use Rattle.std.proofs.Common.{◌≡◌, Bool, true, false, if◌then◌else◌, true≢false, length, ℕ, List, [], ◌∷◌, ◌++◌, Option, Some, None, Ok, Err, refl, sym, ◌∙◌, ap, subst}
+use Rattle.std.proofs.Common.{◌≡◌, Bool, true, false, if◌then◌else◌, true≢false, length, ℕ, List, [], ◌∷◌, ◌++◌, Option, Some, None, Ok, Err, refl, sym}
+use Rattle.std.proofs.Common.{◌∙◌, ap, subst}
 use Rattle.rlsf_base.specs.declared.memory.range.Range.{Range}
 use Rattle.rlsf_machine.proofs.Similar.{fill_is_similar}
 use Rattle.rlsf_placement.specs.declared.error.GlobalError.TheVariants.{OutOfRange, TableMemory}
 use Rattle.rlsf_placement.specs.Heap.{HaveSamePlacement, Heap, beginning}
 use Rattle.rlsf_placement.specs.History.{IsHistory, LeadsTo, Step, allocate, deallocate, deallocate_as, reallocate, reallocate_as, reallocate_there, read, usable, write}
-use Rattle.rlsf_placement.specs.Replays.{AreSameAnswers, AreSameCalls, IsSameCall, JournalDetermines, LacksMemory, OthersKeepPlacement, ReplayBegins, ReplayDetermines, ReplayGoesOn, is_entry, journal_of}
+use Rattle.rlsf_placement.specs.Replays.{AreSameAnswers, AreSameCalls, IsSameCall, JournalDetermines, LacksMemory, OthersKeepPlacement, ReplayBegins, ReplayDetermines}
+use Rattle.rlsf_placement.specs.Replays.{ReplayGoesOn, is_entry, journal_of}
 use Rattle.rlsf_placement.specs.Rows.{Row, row_at}
 use Rattle.rlsf_placement.specs.Standing.{IsHeap}
 use Rattle.rlsf_placement.specs.Steps.{Done, WritesAt, WritesIn, fits}
@@ -59,7 +61,8 @@ replayed memory h g (s ∷ steps) w (m, step, rest) = by (is_entry s) refl (repl
     by false other next = replay_from memory h m g (journal_of steps) (others_keep_placement h m s step other) next
 
 -- replays of the same calls agree
-replays_agree : (memory : Range) (h h' g g' : Heap) (steps steps' : List Step) → HaveSamePlacement h h' → LeadsOn memory h steps g → LeadsOn memory h' steps' g' → AreSameCalls steps steps'
+replays_agree : (memory : Range) (h h' g g' : Heap) (steps steps' : List Step) → HaveSamePlacement h h' → LeadsOn memory h steps g → LeadsOn memory h' steps' g'
+    → AreSameCalls steps steps'
     → AreSameAnswers steps steps' × HaveSamePlacement g g'
 replays_agree memory h h' g g' [] [] near run run' same = (tt, same_placement-trans (same_placement-sym run) (same_placement-trans near run'))
 replays_agree memory h h' g g' [] (s' ∷ steps') near run run' same = absurd same
@@ -102,7 +105,8 @@ journal_of-append : (steps more : List Step) → journal_of (steps ++ more) ≡ 
 journal_of-append [] more = refl
 journal_of-append (s ∷ steps) more = by (is_entry s) (journal_of-append steps more)
   where
-    by : (b : Bool) → journal_of (steps ++ more) ≡ journal_of steps ++ journal_of more → (if b then s ∷ journal_of (steps ++ more) else journal_of (steps ++ more)) ≡ (if b then s ∷ journal_of steps else journal_of steps) ++ journal_of more
+    by : (b : Bool) → journal_of (steps ++ more) ≡ journal_of steps ++ journal_of more
+        → (if b then s ∷ journal_of (steps ++ more) else journal_of (steps ++ more)) ≡ (if b then s ∷ journal_of steps else journal_of steps) ++ journal_of more
     by true rest = ap (λ l. s ∷ l) rest
     by false rest = rest
 
@@ -117,4 +121,5 @@ pub replay_determines : ReplayDetermines
 replay_determines space grows journal h g addressable (steps, run, same) (steps', run', same') =
     let start = beginning space grows in
     let w = beginning_is_heap space grows addressable in
-    (journal_determines space start start h g steps steps' w w (same_placement-refl start start refl) run run' (subst (AreSameCalls (journal_of steps)) (same ∙ sym same') (AreSameCalls-refl (journal_of steps)))).1
+    (journal_determines space start start h g steps steps' w w (same_placement-refl start start refl) run run'
+    (subst (AreSameCalls (journal_of steps)) (same ∙ sym same') (AreSameCalls-refl (journal_of steps)))).1

@@ -1,5 +1,6 @@
 -- What steps leave at the addresses that they name.
-use Rattle.std.proofs.Common.{◌≡◌, ℕ, ◌+◌, ◌%◌, ◌<◌, ◌≤◌, length, take, drop, List, Option, Some, None, Result, Ok, Err, arith, refl, sym, ◌∙◌, ap, subst, inl, inr}
+use Rattle.std.proofs.Common.{◌≡◌, ℕ, ◌+◌, ◌%◌, ◌<◌, ◌≤◌, length, take, drop, List, Option, Some, None, Result, Ok, Err, arith, refl, sym, ◌∙◌, ap}
+use Rattle.std.proofs.Common.{subst, inl, inr}
 use Rattle.std.proofs.lemmas.Bool.{cases_eq}
 use Rattle.std.proofs.lemmas.Option.{none-some, same_Some}
 use Rattle.std.specs.List.{splice}
@@ -27,7 +28,7 @@ use Rattle.rlsf_placement.proofs.Maps.{row_at-put_here, row_at-without_here}
 
 -- ---- what lives in a heap
 
--- a row is where a layout is listed
+-- an entry is where a layout is listed
 listed_row : (h : Heap) (a : ℕ) (layout : Layout) → layout_at h a ≡ Some layout → (row : Row) × (row_at a h.asked ≡ Some row) × (row.1 ≡ layout)
 unfolding layout_at
 listed_row h a layout is = go (row_at a h.asked) refl is
@@ -53,7 +54,8 @@ block_of_byte : (h : Heap) (a x : ℕ) → HasByte h a x → (u : Used) × Holds
 unfolding content_at bytes_at
 block_of_byte h a x has = go (payload_at h.flex.machine a) refl has
   where
-    go : (o : Option Payload) → payload_at h.flex.machine a ≡ o → (a ≤ x) × (x < a + length (bytes_of (payload_at h.flex.machine a))) → (u : Used) × Holds h.flex.machine a u × (length u.bytes ≡ length (bytes_of (payload_at h.flex.machine a)))
+    go : (o : Option Payload) → payload_at h.flex.machine a ≡ o → (a ≤ x) × (x < a + length (bytes_of (payload_at h.flex.machine a)))
+        → (u : Used) × Holds h.flex.machine a u × (length u.bytes ≡ length (bytes_of (payload_at h.flex.machine a)))
     go None told (low, high) = let none : length (bytes_of (payload_at h.flex.machine a)) ≡ 0 = ap (λ o. length (bytes_of o)) told in absurd (omega arith)
     go (Some p) told has =
         let (u, held, is) = payload_at-has h.flex.machine a p told in
@@ -67,7 +69,8 @@ payloads_are_apart memory h a b x w has has' = elim (cases_eq a b) [
       let (v, held', long') = block_of_byte h b x has' in
       let once = payloads_are_disjoint 64 64 memory h.flex.machine u v x w.flex.machine held.0 held'.0 (λ same. apart (sym held.1 ∙ same ∙ held'.1)) in
       let one : covers (usable u) x ≡ 1 = covers-inside (usable u) x (omega (arith, has.0, held.1)) (omega (arith, has.1, held.1, long, (w.flex.machine.used u held.0).bytes)) in
-      let two : covers (usable v) x ≡ 1 = covers-inside (usable v) x (omega (arith, has'.0, held'.1)) (omega (arith, has'.1, held'.1, long', (w.flex.machine.used v held'.0).bytes)) in
+      let two : covers (usable v) x ≡ 1 =
+      covers-inside (usable v) x (omega (arith, has'.0, held'.1)) (omega (arith, has'.1, held'.1, long', (w.flex.machine.used v held'.0).bytes)) in
       absurd (omega (arith, once, one, two))
 ]
 
@@ -78,14 +81,16 @@ pub no_layout : (h : Heap) (a : ℕ) → Lists h.asked h.flex.machine → payloa
 unfolding layout_at
 no_layout h a lists none = ap (option_map row_layout) (no_row h a lists none)
 
--- the layout of a row that was put
+-- the layout of an entry that was put
 pub put_layout : (g : Heap) (to : NonZeroUsize) (wanted : Layout) (rows : List Row) → g.asked ≡ put (to, wanted) rows → layout_at g (at to) ≡ Some wanted
 unfolding layout_at
 put_layout g to wanted rows asked = ap (option_map row_layout) (ap (row_at (at to)) asked ∙ row_at-put_here (to, wanted) rows)
 
 pub allocation_leaves : AllocationLeaves
 allocation_leaves memory h g layout addr w ((notes, step, led), asked) =
-    let is = flex_goes h.source g.source w.owed.cursor h.flex w.flex w.owed g.flex notes led (machine_allocates layout.size layout.align (Some (at addr))) tt layout.valid.aligned step in
+    let is =
+    flex_goes h.source g.source w.owed.cursor h.flex w.flex w.owed g.flex notes led (machine_allocates layout.size layout.align (Some (at addr))) tt layout.valid.aligned
+    step in
     (no_layout h (at addr) w.lists is.changes.1, put_layout g addr layout h.asked asked)
 
 released_leaves : (h g : Heap) (addr : ℕ) → Releases h addr g → layout_at g addr ≡ None
@@ -120,17 +125,20 @@ write_leaves memory h g addr offset bytes w step = go (row_at addr h.asked) step
     now : List ℕ
     now = splice (bytes_at h.flex.machine addr) offset (offset + length bytes) bytes
 
-    wrote : WritesIn h addr offset bytes g → (bytes_at g.flex.machine addr ≡ now) × (option_map row_layout (row_at addr g.asked) ≡ option_map row_layout (row_at addr h.asked))
+    wrote : WritesIn h addr offset bytes g
+        → (bytes_at g.flex.machine addr ≡ now) × (option_map row_layout (row_at addr g.asked) ≡ option_map row_layout (row_at addr h.asked))
     wrote (m, fills, after) = (
       ap (λ (x : Heap). bytes_at x.flex.machine addr) after ∙ (filled_seen w.flex.machine m addr now fills).here,
       ap (λ (x : Heap). option_map row_layout (row_at addr x.asked)) after,
     )
 
-    go : (o : Option Row) → WritesAt h addr offset bytes o (Ok tt) g → (bytes_at g.flex.machine addr ≡ now) × (option_map row_layout (row_at addr g.asked) ≡ option_map row_layout (row_at addr h.asked))
+    go : (o : Option Row) → WritesAt h addr offset bytes o (Ok tt) g
+        → (bytes_at g.flex.machine addr ≡ now) × (option_map row_layout (row_at addr g.asked) ≡ option_map row_layout (row_at addr h.asked))
     go None step = refused_not tt _ step.0
     go (Some row) step =
         either (AreSame (Ok tt) (Ok tt) × WritesIn h addr offset bytes g) (AreSame (Ok tt) (Err OutOfRange) × (g ≡ h))
-        ((bytes_at g.flex.machine addr ≡ now) × (option_map row_layout (row_at addr g.asked) ≡ option_map row_layout (row_at addr h.asked))) (fits h addr offset (length bytes))
+        ((bytes_at g.flex.machine addr ≡ now) × (option_map row_layout (row_at addr g.asked) ≡ option_map row_layout (row_at addr h.asked)))
+        (fits h addr offset (length bytes))
         (λ e did. wrote did.1) (λ e did. refused_not tt OutOfRange did.0) step
 
 pub read_tells : ReadTells

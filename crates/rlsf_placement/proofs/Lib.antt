@@ -1,3 +1,4 @@
+-- The laws of the reference model behind the lock, proved.
 pub mod Apart
 pub mod Cursors
 pub mod StepLeavesFlex

@@ -1,5 +1,6 @@
 -- What reallocations leave.
-use Rattle.std.proofs.Common.{◌≡◌, ◌≢◌, ℕ, ◌≤◌, Bool, true, false, cond, eqb, length, min, take, drop, List, [], Option, Some, None, IsSome, Ok, Err, arith, refl, sym, ◌∙◌, ap, subst, inl}
+use Rattle.std.proofs.Common.{◌≡◌, ◌≢◌, ℕ, ◌≤◌, Bool, true, false, cond, eqb, length, min, take, drop, List, [], Option, Some, None, IsSome, Ok, Err, arith}
+use Rattle.std.proofs.Common.{refl, sym, ◌∙◌, ap, subst, inl}
 use Rattle.std.proofs.lemmas.Bool.{and_parts, eqb-true}
 use Rattle.std.proofs.lemmas.List.{length-take-le, take_at}
 use Rattle.std.specs.Option.{option_map}
@@ -34,12 +35,13 @@ take-with_front : (n : ℕ) (new old : List ℕ) → n ≤ length new → take n
 take-with_front n new old short = take_at (take n new) (drop n old) n (length-take-le n new short)
 
 -- where a payload moved from, no layout is listed
-left_layout : (g : Heap) (addr : ℕ) (to : NonZeroUsize) (wanted : Layout) (rows : List Row) → g.asked ≡ put (to, wanted) (without_row addr rows) → at to ≢ addr → layout_at g addr ≡ None
+left_layout : (g : Heap) (addr : ℕ) (to : NonZeroUsize) (wanted : Layout) (rows : List Row) → g.asked ≡ put (to, wanted) (without_row addr rows) → at to ≢ addr
+    → layout_at g addr ≡ None
 unfolding layout_at
 left_layout g addr to wanted rows asked off =
     ap (option_map row_layout) (ap (row_at addr) asked ∙ row_at-put_other (to, wanted) (without_row addr rows) addr (λ same. off (sym same)) ∙ row_at-without_here addr rows)
 
--- the row's size is usable
+-- the entry's size is usable
 row_size : (h : Heap) (addr : ℕ) (row : Row) → Lists h.asked h.flex.machine → row_at addr h.asked ≡ Some row → row.1.size ≤ length (bytes_at h.flex.machine addr)
 row_size h addr row lists there = (subst (λ o. Agrees o (align_at h.flex.machine addr) (bytes_at h.flex.machine addr)) there (lists addr)).1
 
@@ -50,8 +52,9 @@ module _ {memory : Range} (h : Heap) (w : IsHeap memory h) (addr : ℕ) (row : R
   lives : IsSomeLive h.flex.machine addr
   lives = align_at-some h.flex.machine addr (subst IsSome (sym (live_row h addr row w.lists there)) refl)
 
-  -- by the machine
-  resized_moved : (g : Heap) → g.asked ≡ put (to, wanted) (without_row addr h.asked) → (notes : List Note) → FlexGoes memory h.source h.flex (machine_reallocates addr wanted.size (Some (at to))) notes g.source g.flex
+  -- by the reference model
+  resized_moved : (g : Heap) → g.asked ≡ put (to, wanted) (without_row addr h.asked) → (notes : List Note)
+      → FlexGoes memory h.source h.flex (machine_reallocates addr wanted.size (Some (at to))) notes g.source g.flex
       → IsMoved h g addr (at to) (in_both h g addr (at to)) wanted
   unfolding content_at
   resized_moved g asked notes is =
@@ -65,8 +68,9 @@ module _ {memory : Range} (h : Heap) (w : IsHeap memory h) (addr : ℕ) (row : R
         gone = left_layout g addr to wanted h.asked asked;
       }
 
-  -- into a payload that was allocated while the old one stood
-  replaced_moved : (g : Heap) → g.asked ≡ put (to, wanted) (without_row addr h.asked) → (keep : ℕ) → keep ≤ length (bytes_at h.flex.machine addr) → Replaces h addr keep wanted.size wanted.align (at to) g.flex g.source
+  -- into a payload that was allocated while the old one is live
+  replaced_moved : (g : Heap) → g.asked ≡ put (to, wanted) (without_row addr h.asked) → (keep : ℕ) → keep ≤ length (bytes_at h.flex.machine addr)
+      → Replaces h addr keep wanted.size wanted.align (at to) g.flex g.source
       → (at to ≢ addr) × IsMoved h g addr (at to) keep wanted
   unfolding content_at
   replaced_moved g asked keep short step =
@@ -81,7 +85,7 @@ module _ {memory : Range} (h : Heap) (w : IsHeap memory h) (addr : ℕ) (row : R
         },
       )
 
-  -- where it stands
+  -- in place
   there_moved : (g : Heap) → ResizesThere h addr wanted (Ok to) g → (at to ≡ addr) × IsMoved h g addr (at to) (in_both h g addr (at to)) wanted
   there_moved g (m, did, after) =
       let u = with_machine h.flex m in
@@ -90,7 +94,8 @@ module _ {memory : Range} (h : Heap) (w : IsHeap memory h) (addr : ℕ) (row : R
       let x = with_state h m (put (to, wanted) (without_row addr h.asked)) in (
         same,
         subst (λ (y : Heap). IsMoved h y addr (at to) (in_both h y addr (at to)) wanted) (sym after)
-            (resized_moved x refl [] (flex_goes h.source h.source w.owed.cursor h.flex w.flex w.owed u [] refl (machine_reallocates addr wanted.size (Some (at to))) tt lives (inl room))),
+            (resized_moved x refl []
+            (flex_goes h.source h.source w.owed.cursor h.flex w.flex w.owed u [] refl (machine_reallocates addr wanted.size (Some (at to))) tt lives (inl room))),
       )
 
 -- two answers are the same
@@ -111,27 +116,34 @@ reallocation_leaves memory h g addr wanted to w step = go (row_at addr h.asked) 
 pub reallocation_there_leaves : ReallocationThereLeaves
 reallocation_there_leaves memory h g addr layout n to w step = go (row_at addr h.asked) refl step
   where
-    go : (o : Option Row) → row_at addr h.asked ≡ o → ReallocatesThereAt h addr layout n o (Ok to) g → (at to ≡ addr) × IsMovedTo h g addr (at to) (in_both h g addr (at to)) layout n
+    go : (o : Option Row) → row_at addr h.asked ≡ o → ReallocatesThereAt h addr layout n o (Ok to) g
+        → (at to ≡ addr) × IsMovedTo h g addr (at to) (in_both h g addr (at to)) layout n
     go None there step = refused_not to _ step.0
     go (Some row) there step =
-        either (Wanted n layout.align (λ wanted. ResizesThere h addr wanted (Ok to) g)) (AreSamePlaces (Ok to) (Err WrongLayout) × (g ≡ h)) ((at to ≡ addr) × IsMovedTo h g addr (at to) (in_both h g addr (at to)) layout n) (is_same row.1 layout)
-        (λ e did. let (same, moved) = there_moved h w addr row there to did.layout g did.made in (same, (did.layout, did.size, did.align, moved))) (λ e did. refused_not to WrongLayout did.0) step
+        either (Wanted n layout.align (λ wanted. ResizesThere h addr wanted (Ok to) g)) (AreSamePlaces (Ok to) (Err WrongLayout) × (g ≡ h))
+        ((at to ≡ addr) × IsMovedTo h g addr (at to) (in_both h g addr (at to)) layout n) (is_same row.1 layout)
+        (λ e did. let (same, moved) = there_moved h w addr row there to did.layout g did.made in (same, (did.layout, did.size, did.align, moved)))
+        (λ e did. refused_not to WrongLayout did.0) step
 
 pub reallocation_as_leaves : ReallocationAsLeaves
 reallocation_as_leaves memory enabled h g addr layout n to w step = go (row_at addr h.asked) refl step
   where
-    made : (b : Bool) (row : Row) → row_at addr h.asked ≡ Some row → row.1.size ≡ layout.size → (wanted : Layout) → wanted.size ≡ n → ReallocatesTo b h addr layout wanted (Ok to) g
+    made : (b : Bool) (row : Row) → row_at addr h.asked ≡ Some row → row.1.size ≡ layout.size → (wanted : Layout) → wanted.size ≡ n
+        → ReallocatesTo b h addr layout wanted (Ok to) g
         → IsMoved h g addr (at to) (cond b (in_both h g addr (at to)) (min layout.size n)) wanted
     made true row there same wanted size ((notes, step, led), asked) =
         resized_moved h w addr row there to wanted g asked notes
-        (flex_goes h.source g.source w.owed.cursor h.flex w.flex w.owed g.flex notes led (machine_reallocates addr wanted.size (Some (at to))) tt (lives h w addr row there to wanted) step)
+        (flex_goes h.source g.source w.owed.cursor h.flex w.flex w.owed g.flex notes led (machine_reallocates addr wanted.size (Some (at to))) tt
+        (lives h w addr row there to wanted) step)
     made false row there same wanted size (step, asked) =
         subst (λ i. IsMoved h g addr (at to) (min layout.size i) wanted) size
         (replaced_moved h w addr row there to wanted g asked (min layout.size wanted.size) (omega (arith, row_size h addr row w.lists there, same)) step).1
 
-    go : (o : Option Row) → row_at addr h.asked ≡ o → ReallocatesAsAt enabled h addr layout n o (Ok to) g → IsMovedTo h g addr (at to) (cond enabled (in_both h g addr (at to)) (min layout.size n)) layout n
+    go : (o : Option Row) → row_at addr h.asked ≡ o → ReallocatesAsAt enabled h addr layout n o (Ok to) g
+        → IsMovedTo h g addr (at to) (cond enabled (in_both h g addr (at to)) (min layout.size n)) layout n
     go None there step = refused_not to _ step.0
     go (Some row) there step =
         either (Wanted n layout.align (λ wanted. ReallocatesTo enabled h addr layout wanted (Ok to) g)) (AreSamePlaces (Ok to) (Err WrongLayout) × (g ≡ h))
         (IsMovedTo h g addr (at to) (cond enabled (in_both h g addr (at to)) (min layout.size n)) layout n) (is_same row.1 layout)
-        (λ e did. (did.layout, did.size, did.align, made enabled row there (is_same-size row.1 layout e) did.layout did.size did.made)) (λ e did. refused_not to WrongLayout did.0) step
+        (λ e did. (did.layout, did.size, did.align, made enabled row there (is_same-size row.1 layout e) did.layout did.size did.made))
+        (λ e did. refused_not to WrongLayout did.0) step

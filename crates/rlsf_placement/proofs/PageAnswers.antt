@@ -1,5 +1,6 @@
--- The page source answers what a source may answer, and its cursor stands behind what is outstanding then.
-use Rattle.std.proofs.Common.{◌≡◌, ℕ, ◌+◌, ◌<◌, ◌≤◌, Bool, true, false, true≢false, cond, List, [], ◌∷◌, ◌++◌, Option, Some, None, arith, lit<, refl, sym, ◌∙◌, ap, subst, inl, inr}
+-- The page source answers what a source may answer, and its cursor is behind what is outstanding then.
+use Rattle.std.proofs.Common.{◌≡◌, ℕ, ◌+◌, ◌<◌, ◌≤◌, Bool, true, false, true≢false, cond, List, [], ◌∷◌, ◌++◌, Option, Some, None, arith, lit<}
+use Rattle.std.proofs.Common.{refl, sym, ◌∙◌, ap, subst, inl, inr}
 use Rattle.std.proofs.lemmas.Option.{none-some, some_pair_parts}
 use Rattle.std.specs.Option.{is_some}
 use Rattle.rlsf_base.specs.declared.memory.range.Range.{Range}
@@ -9,7 +10,8 @@ use Rattle.rlsf_base.specs.Sizes.{pool_size_to_contain_allocation}
 use Rattle.rlsf_machine.specs.Answers.{MayAnswer, MayAnswerAll}
 use Rattle.rlsf_machine.specs.FlexState.{FlexState, KeptPool}
 use Rattle.rlsf_machine.specs.FlexWellFormed.{IsFlexWellFormed, IsKeptPool, IsNewest}
-use Rattle.rlsf_machine.specs.Growth.{Extends, IsPossible, Outcome, range_came, growth_came, growth_note, if_fits, is_more, longer, notes_of, questions, questions_for, questions_kept, range_note, refused, TakesIn}
+use Rattle.rlsf_machine.specs.Growth.{Extends, IsPossible, Outcome, range_came, growth_came, growth_note, if_fits, is_more, longer, notes_of, questions, questions_for}
+use Rattle.rlsf_machine.specs.Growth.{questions_kept, range_note, refused, TakesIn}
 use Rattle.rlsf_machine.specs.Note.{LeadsBy, Note, alloc, grow}
 use Rattle.rlsf_machine.specs.Terms.{Terms, with_len}
 use Rattle.rlsf_machine.proofs.GivenAnswers.{more_wanted}
@@ -70,7 +72,8 @@ module _ (x y : PageCursor) (is : IsPageCursor x) (owed : List Range) (may : May
   pub nothing_asked : y ≡ x → IsAnswered x owed [] y owed
   nothing_asked same = record { answers = λ n i. absurd i; cursor = subst IsPageCursor (sym same) is; owes = subst (λ (z : PageCursor). MayOwe z owed) (sym same) may }
 
-  refused_answered : (g : Option (Range × ℕ)) (r : Option ℕ) → LeadsBy PageLeads x (growth_note g None ++ range_note r None) y → IsAnswered x owed (growth_note g None ++ range_note r None) y owed
+  refused_answered : (g : Option (Range × ℕ)) (r : Option ℕ) → LeadsBy PageLeads x (growth_note g None ++ range_note r None) y
+      → IsAnswered x owed (growth_note g None ++ range_note r None) y owed
   refused_answered g r led =
       let same = refused_notes x y g r led in
       record { answers = refused_answers (terms_of x) owed g r; cursor = subst IsPageCursor (sym same) is; owes = subst (λ (z : PageCursor). MayOwe z owed) (sym same) may }
@@ -89,7 +92,8 @@ module _ (x y : PageCursor) (is : IsPageCursor x) (owed : List Range) (may : May
         owes = subst (λ (w : PageCursor). MayOwe w (r ∷ owed)) (sym (last ∙ goes)) (subst (λ (q : Range). MayOwe next (q ∷ owed)) (sym at) now);
       }
 
-  given_answered : (g : Option (Range × ℕ)) (n : ℕ) (r : Range) → 0 < n → LeadsBy PageLeads x (growth_note g None ++ range_note (Some n) (Some r)) y → IsAnswered x owed (growth_note g None ++ range_note (Some n) (Some r)) y (r ∷ owed)
+  given_answered : (g : Option (Range × ℕ)) (n : ℕ) (r : Range) → 0 < n → LeadsBy PageLeads x (growth_note g None ++ range_note (Some n) (Some r)) y
+      → IsAnswered x owed (growth_note g None ++ range_note (Some n) (Some r)) y (r ∷ owed)
   given_answered None n r some led = page_answered n r some led
   given_answered (Some (q, l)) n r some (w, first, rest) =
       let again = page_answered n r some (subst (λ (v : PageCursor). LeadsBy PageLeads v (alloc n (Some r) ∷ []) y) first.1 rest) in
@@ -102,10 +106,12 @@ module _ (x y : PageCursor) (is : IsPageCursor x) (owed : List Range) (may : May
         owes = again.owes;
       }
 
-  grown_answered : (r : Range) (n len : ℕ) (rest : List Range) → r.len ≤ n → owed ≡ r ∷ rest → LeadsBy PageLeads x (grow r n (Some len) ∷ []) y → IsAnswered x owed (grow r n (Some len) ∷ []) y (with_len r len ∷ rest)
+  grown_answered : (r : Range) (n len : ℕ) (rest : List Range) → r.len ≤ n → owed ≡ r ∷ rest → LeadsBy PageLeads x (grow r n (Some len) ∷ []) y
+      → IsAnswered x owed (grow r n (Some len) ∷ []) y (with_len r len ∷ rest)
   grown_answered r n len rest short split (z, (last, fits, whole, goes), end) =
       let within : r.start + len ≤ end_of x.space = omega (arith, fits, whole) in
-      let told : MayAnswer (terms_of x) owed (grow r n (Some len)) = λ before after parts. (grown_range x is r n len last whole short within before after (subst (MayOwe x) parts may)).0 in
+      let told : MayAnswer (terms_of x) owed (grow r n (Some len)) =
+      λ before after parts. (grown_range x is r n len last whole short within before after (subst (MayOwe x) parts may)).0 in
       let first : MayOwe x ([] ++ r ∷ rest) = subst (MayOwe x) split may in
       let to : y ≡ moved_to x (r.start + len) = end ∙ goes ∙ ap (λ m. moved_to x (r.start + m)) (sym whole) in
       record {
@@ -116,10 +122,12 @@ module _ (x y : PageCursor) (is : IsPageCursor x) (owed : List Range) (may : May
 
 module _ {memory : Range} (x y : PageCursor) (is : IsPageCursor x) (s u : FlexState) (w : IsFlexWellFormed 64 64 memory (terms_of x) s) (may : MayOwe x s.pools) where
   -- the pool that an allocation wants was asked for
-  pub extended_answered : (size align : ℕ) (outcome : Outcome) (notes : List Note) → Extends 64 (terms_of x) s (pool_size_to_contain_allocation 64 64 size align) outcome notes u → LeadsBy PageLeads x notes y → IsAnswered x s.pools notes y u.pools
+  pub extended_answered : (size align : ℕ) (outcome : Outcome) (notes : List Note)
+      → Extends 64 (terms_of x) s (pool_size_to_contain_allocation 64 64 size align) outcome notes u → LeadsBy PageLeads x notes y → IsAnswered x s.pools notes y u.pools
   extended_answered size align outcome notes step led =
       let q = questions (terms_of x) s.kept (pool_size_to_contain_allocation 64 64 size align) in
-      subst (λ ns. IsAnswered x s.pools ns y u.pools) (sym step.asked) (go outcome q.growth q.range refl refl step.possible step.after (subst (λ ns. LeadsBy PageLeads x ns y) step.asked led))
+      subst (λ ns. IsAnswered x s.pools ns y u.pools) (sym step.asked)
+      (go outcome q.growth q.range refl refl step.possible step.after (subst (λ ns. LeadsBy PageLeads x ns y) step.asked led))
     where
       t : Terms
       t = terms_of x
@@ -133,9 +141,11 @@ module _ {memory : Range} (x y : PageCursor) (is : IsPageCursor x) (s u : FlexSt
           let (e, is_wanted) = more_wanted t s.kept wanted o more possible in
           (e, is_wanted, (pool_size_is 64 64 64 64 e valid64 (record { size = size; align = align; is = is_wanted })).0)
 
-      go : (o : Outcome) (g : Option (Range × ℕ)) (r : Option ℕ) → (questions t s.kept wanted).growth ≡ g → (questions t s.kept wanted).range ≡ r → IsPossible (record { growth = g; range = r }) o → TakesIn 64 t s o u
+      go : (o : Outcome) (g : Option (Range × ℕ)) (r : Option ℕ) → (questions t s.kept wanted).growth ≡ g → (questions t s.kept wanted).range ≡ r
+          → IsPossible (record { growth = g; range = r }) o → TakesIn 64 t s o u
           → LeadsBy PageLeads x (notes_of (record { growth = g; range = r }) o) y → IsAnswered x s.pools (notes_of (record { growth = g; range = r }) o) y u.pools
-      go refused g r is_g is_r possible takes led = subst (IsAnswered x s.pools (growth_note g None ++ range_note r None) y) (sym (ap (λ (v : FlexState). v.pools) takes)) (refused_answered x y is s.pools may g r led)
+      go refused g r is_g is_r possible takes led =
+          subst (IsAnswered x s.pools (growth_note g None ++ range_note r None) y) (sym (ap (λ (v : FlexState). v.pools) takes)) (refused_answered x y is s.pools may g r led)
       go (range_came c) g None is_g is_r possible takes led = absurd (true≢false (sym possible))
       go (range_came c) g (Some n) is_g is_r possible (len, inserted, pools, kept) led =
           let (e, is_wanted, long) = pool_of (range_came c) refl (subst (λ o. is_some o ≡ true) (sym is_r) possible) in
@@ -149,4 +159,5 @@ module _ {memory : Range} (x y : PageCursor) (is : IsPageCursor x) (s u : FlexSt
           let newest : IsKeptPool t k s.pools s.machine.chunks = subst (λ o. IsNewest t o s.pools s.machine.chunks) was w.newest in
           let split : s.pools ≡ c ∷ newest.rest = newest.split ∙ ap (λ (p : Range). p ∷ newest.rest) (sym same) in
           let short : c.len ≤ n = omega (arith, newest.nearly, long, sum, ap (λ (p : Range). p.len) same) in
-          subst (IsAnswered x s.pools (grow c n (Some len) ∷ []) y) (sym (pools ∙ ap (longer len) split)) (grown_answered x y is s.pools may c n len newest.rest short split led)
+          subst (IsAnswered x s.pools (grow c n (Some len) ∷ []) y) (sym (pools ∙ ap (longer len) split))
+          (grown_answered x y is s.pools may c n len newest.rest short split led)

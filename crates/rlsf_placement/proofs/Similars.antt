@@ -1,4 +1,4 @@
--- From the same placement the machine over the page source goes on the same.
+-- From the same placement the reference model over the page source goes on the same.
 use mathlib.Core.Path.{ap₂}
 use Rattle.std.proofs.Common.{◌≡◌, ℕ, length, List, [], Option, Some, None, arith, refl, sym, ◌∙◌, ap, subst, inl, inr}
 use Rattle.rlsf_base.specs.declared.memory.range.Range.{Range}
@@ -41,7 +41,8 @@ pub same_placement-refl : (h g : Heap) → g ≡ h → HaveSamePlacement h g
 same_placement-refl h g same = subst (HaveSamePlacement h) (sym same) (record { machine = AreSimilar-refl h.flex.machine; pools = refl; kept = refl; source = refl; asked = refl })
 
 pub same_placement-trans : {h g k : Heap} → HaveSamePlacement h g → HaveSamePlacement g k → HaveSamePlacement h k
-same_placement-trans r q = record { machine = AreSimilar-trans r.machine q.machine; pools = r.pools ∙ q.pools; kept = r.kept ∙ q.kept; source = r.source ∙ q.source; asked = r.asked ∙ q.asked }
+same_placement-trans r q =
+    record { machine = AreSimilar-trans r.machine q.machine; pools = r.pools ∙ q.pools; kept = r.kept ∙ q.kept; source = r.source ∙ q.source; asked = r.asked ∙ q.asked }
 
 pub same_placement-sym : {h g : Heap} → HaveSamePlacement h g → HaveSamePlacement g h
 same_placement-sym r = record { machine = AreSimilar-sym r.machine; pools = sym r.pools; kept = sym r.kept; source = sym r.source; asked = sym r.asked }
@@ -74,10 +75,12 @@ pages-determined x y z (grow r i a) (grow q j b) (range, same) l k =
 pages-determined x y z (dealloc r) (dealloc q) same l k = (ap dealloc same, l ∙ sym k)
 pages-determined x y z m n same l k = absurd same
 
--- ---- the machine's steps
+-- ---- the reference model's steps
 
-pub flex_determined : {memory : Range} (x y y' : PageCursor) (s s' u u' : FlexState) → IsFlexWellFormed 64 64 memory (terms_of x) s → IsFlexWellFormed 64 64 memory (terms_of x) s' → AreFlexSimilar s s'
-    → (e e' : Event) (notes notes' : List Note) → MayAnswerAll (terms_of x) s.pools notes → LeadsBy PageLeads x notes y → LeadsBy PageLeads x notes' y' → FlexLeads 64 64 (terms_of x) s e notes u
+pub flex_determined : {memory : Range} (x y y' : PageCursor) (s s' u u' : FlexState) → IsFlexWellFormed 64 64 memory (terms_of x) s
+    → IsFlexWellFormed 64 64 memory (terms_of x) s' → AreFlexSimilar s s'
+    → (e e' : Event) (notes notes' : List Note) → MayAnswerAll (terms_of x) s.pools notes → LeadsBy PageLeads x notes y → LeadsBy PageLeads x notes' y'
+    → FlexLeads 64 64 (terms_of x) s e notes u
     → FlexLeads 64 64 (terms_of x) s' e' notes' u' → IsSameCall e e' → (e ≡ e') × AreFlexSimilar u u' × (y ≡ y')
 flex_determined {memory} x y y' s s' u u' w w' r e e' notes notes' answers led led' step step' same =
     let agree = AnswersAgree-led PageLeads pages-determined x y y' notes notes' led led' in
@@ -93,13 +96,16 @@ module _ {memory : Range} {s s' : State} (w : IsWellFormed 64 64 memory s) (w' :
   unfolding plan_at
   plan-same u v same size = ap₂ (λ free x. plan_at free x size) r.free same
 
-  -- a payload gets another size where it stands, or in neither state
-  pub unmoved-similar : (addr size : ℕ) (m n : Option ℕ) (t t' : State) → ReallocatesWithoutMove s addr size m t → ReallocatesWithoutMove s' addr size n t' → (m ≡ n) × AreSimilar t t'
+  -- a payload gets another size in place, or in neither state
+  pub unmoved-similar : (addr size : ℕ) (m n : Option ℕ) (t t' : State) → ReallocatesWithoutMove s addr size m t → ReallocatesWithoutMove s' addr size n t'
+      → (m ≡ n) × AreSimilar t t'
   unmoved-similar addr size m n t t' p q =
       let shape = shape-held w' r addr p.block q.block p.holds q.holds in
-      go p.block q.block q.holds shape (unmoved_plan s p.block size) m n p.step (subst (λ o. ReallocatesUnmovedBy s' q.block o n t') (sym (plan-same p.block q.block shape size)) q.step)
+      go p.block q.block q.holds shape (unmoved_plan s p.block size) m n p.step
+      (subst (λ o. ReallocatesUnmovedBy s' q.block o n t') (sym (plan-same p.block q.block shape size)) q.step)
     where
-      go : (u v : Used) → Holds s' addr v → shape_of u ≡ shape_of v → (o : Option Plan) (m n : Option ℕ) → ReallocatesUnmovedBy s u o m t → ReallocatesUnmovedBy s' v o n t' → (m ≡ n) × AreSimilar t t'
+      go : (u v : Used) → Holds s' addr v → shape_of u ≡ shape_of v → (o : Option Plan) (m n : Option ℕ) → ReallocatesUnmovedBy s u o m t
+          → ReallocatesUnmovedBy s' v o n t' → (m ≡ n) × AreSimilar t t'
       go u v held shape (Some x) None n a b = absurd a
       go u v held shape (Some x) (Some i) None a b = absurd b
       go u v held shape (Some x) (Some i) (Some j) a b = reallocate-similar w' r u v held.0 shape size (Some x) (Some i) (Some j) t t' a b
@@ -111,4 +117,5 @@ module _ {memory : Range} {s s' : State} (w : IsWellFormed 64 64 memory s) (w' :
   pub lengths-same : (addr : ℕ) (u v : Used) → Holds s addr u → Holds s' addr v → length (bytes_at s addr) ≡ length (bytes_at s' addr)
   lengths-same addr u v held held' =
       let shape = shape-held w' r addr u v held held' in
-      ap length (bytes_at-held w addr u held) ∙ (w.used u held.0).bytes ∙ ap (λ (x : Shape). (between x.payload (end_of x.block)).len) shape ∙ sym (w'.used v held'.0).bytes ∙ ap length (sym (bytes_at-held w' addr v held'))
+      ap length (bytes_at-held w addr u held) ∙ (w.used u held.0).bytes ∙ ap (λ (x : Shape). (between x.payload (end_of x.block)).len) shape ∙ sym (w'.used v held'.0).bytes
+      ∙ ap length (sym (bytes_at-held w' addr v held'))

@@ -1,4 +1,4 @@
--- What a step of the machine over the page source leaves.
+-- What a step of the reference model over the page source leaves.
 use Rattle.std.proofs.Common.{◌≡◌, List, [], Some, None, sym, ap, subst, inl, inr}
 use Rattle.rlsf_base.specs.declared.memory.range.Range.{Range}
 use Rattle.rlsf_machine.specs.Answers.{MayAnswerAll}
@@ -19,7 +19,7 @@ use Rattle.rlsf_placement.specs.Cursor.{PageCursor, PageLeads, terms_of}
 use Rattle.rlsf_placement.specs.Pages.{IsPageCursor, MayOwe}
 use Rattle.rlsf_placement.proofs.PageAnswers.{IsAnswered, extended_answered, nothing_asked, valid64}
 
--- the machine's steps that a heap makes: no trim
+-- the reference model's steps that a heap makes: no trim
 abbrev IsHeaps : Event → Type 0
 IsHeaps (trim count) = ⊥
 IsHeaps e = Unit {0}
@@ -32,8 +32,9 @@ pub record FlexGoes (memory : Range) (x : PageCursor) (s : FlexState) (e : Event
   pub owed : MayOwe y u.pools
   pub changes : Changes (payload_at s.machine) e (payload_at u.machine)
 
-module _ {memory : Range} (x y : PageCursor) (is : IsPageCursor x) (s : FlexState) (w : IsFlexWellFormed 64 64 memory (terms_of x) s) (may : MayOwe x s.pools) (u : FlexState) (notes : List Note) (led : LeadsBy PageLeads x notes y) where
-  -- with other states of the machine the same is outstanding
+module _ {memory : Range} (x y : PageCursor) (is : IsPageCursor x) (s : FlexState) (w : IsFlexWellFormed 64 64 memory (terms_of x) s) (may : MayOwe x s.pools) (u : FlexState)
+    (notes : List Note) (led : LeadsBy PageLeads x notes y) where
+  -- with other states of the reference model the same is outstanding
   at_machine : (t v : FlexState) (m : State) → v ≡ with_machine t m → IsAnswered x s.pools notes y t.pools → IsAnswered x s.pools notes y v.pools
   at_machine t v m after = subst (IsAnswered x s.pools notes y) (sym (ap (λ (z : FlexState). z.pools) after))
 

@@ -1,4 +1,4 @@
--- The page source as the machine sees it: it hands out whole pages of its space, from a cursor on.
+-- The page source as the reference model sees it: it provides complete pages of its space, from a cursor on.
 use Rattle.std.specs.Prelude.{◌≡◌, ◌≢◌, ℕ, ◌+◌, ◌≤◌, ◌<◌, ◌⊎◌, Bool, false, Some, None, min}
 use Rattle.std.specs.Int.{next_multiple_of}
 use Rattle.rlsf_base.specs.declared.memory.range.Range.{Range}
@@ -7,7 +7,7 @@ use Rattle.rlsf_base.specs.Rounding.{round32}
 use Rattle.rlsf_machine.specs.Note.{Note, alloc, dealloc, grow}
 use Rattle.rlsf_machine.specs.Terms.{Terms}
 
--- the space, the address from which on nothing was handed out yet, and whether the last range grows
+-- the space, the address from which on nothing was provided yet, and whether the last range grows
 pub record PageCursor : Type 0 where
   pub space : Range
   pub at : ℕ
@@ -17,7 +17,7 @@ pub record PageCursor : Type 0 where
 abbrev pub page_cursor : Range → ℕ → Bool → PageCursor
 page_cursor space at grows = record { space = space; at = at; grows = grows }
 
--- a length rounded up to whole pages of 65536 bytes
+-- a length rounded up to complete pages of 65536 bytes
 abbrev pub pages : ℕ → ℕ
 pages n = next_multiple_of n 65536
 
@@ -33,7 +33,7 @@ moved_to c at = record { space = c.space; at = at; grows = c.grows }
 abbrev pub terms_of : PageCursor → Terms
 terms_of c = record { space = c.space; dealloc = false; grow = c.grows; contiguous = false; min_align = 32 }
 
--- whole pages are handed out at the cursor, which moves to their end; the range that ends at the cursor grows in the same
+-- complete pages are provided at the cursor, which moves to their end; the range that ends at the cursor grows in the same
 -- way; what doesn't fit is refused, and then nothing changes
 abbrev pub PageLeads : PageCursor → Note → PageCursor → Type 0
 PageLeads x (alloc size None) y = (end_of x.space < x.at + pages size) × (y ≡ x)

@@ -8,9 +8,9 @@ use Rattle.rlsf_placement.specs.Heap.{Heap}
 use Rattle.rlsf_placement.specs.Moves.{HeapReallocates, HeapReallocatesAs, HeapReallocatesThere}
 use Rattle.rlsf_placement.specs.Steps.{Done, HeapAllocates, HeapDeallocates, HeapDeallocatesAs, HeapReads, HeapUsable, HeapWrites, Placed}
 
--- a call with what it answers. A payload is allocated, or given back, as one of a layout or not; it gets another size as one of a
--- layout, by the machine if that is enabled, or another layout, or another size where it stands; its bytes from an offset on are
--- read into what was lent, which leaves something there, or written; and its usable length is told
+-- A call with its reply. A payload is allocated, or deallocated, with a layout or without. It gets another size with a layout, by the
+-- reference model if that is enabled, or another layout, or another size without a move. Its bytes from an offset on are read into a
+-- lent slice, which leaves something there, or written. Its usable length is returned
 pub data Step : Type 0 where
   allocate : Layout → Placed → Step
   deallocate : ℕ → Done → Step
@@ -39,7 +39,7 @@ abbrev pub Gives : Placed → ℕ → Type 0
 Gives (Ok to) a = at to ≡ a
 Gives (Err e) a = ⊥
 
--- the step names the address, in its call or in what it answers
+-- the step names the address, in its call or in its reply
 abbrev pub Names : Step → ℕ → Type 0
 Names (allocate layout result) a = Gives result a
 Names (deallocate addr result) a = addr ≡ a

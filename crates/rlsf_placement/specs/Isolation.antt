@@ -8,7 +8,7 @@ use Rattle.rlsf_placement.specs.History.{IsHistory, LeadsTo, Names, NoneNames, S
 use Rattle.rlsf_placement.specs.Rows.{IsSorted}
 use Rattle.rlsf_placement.specs.Standing.{IsHeap}
 
--- what lives at the address is the same in both heaps: its bytes, and the layout that was last asked for it; or nothing lives there
+-- what lives at the address is the same in both heaps: its bytes, and its last requested layout; or nothing lives there
 pub record IsSameAt (a : ℕ) (h g : Heap) : Type 0 where
   pub content : content_at g a ≡ content_at h a
   pub layout : layout_at g a ≡ layout_at h a
@@ -33,8 +33,8 @@ UnnamedStays = (memory : Range) (h g : Heap) (s : Step) (a : ℕ) → IsHeap mem
 abbrev pub UnnamedStaysThroughout : Type 0
 UnnamedStaysThroughout = (memory : Range) (h g : Heap) (steps : List Step) (a : ℕ) → IsHeap memory h → IsHistory h steps g → NoneNames steps a → IsSameAt a h g
 
--- the last of some steps that names the address, between the steps before it and those after it, with the heap that it left, in which
--- the address had what it has at the end
+-- The last of some steps that names the address, between the steps before it and those after it. With it comes the heap that it left,
+-- in which the address had what it has at the end
 pub record IsLeftBy (start : Heap) (steps : List Step) (end : Heap) (a : ℕ) : Type 0 where
   pub before : List Step
   pub step : Step
@@ -55,8 +55,8 @@ abbrev pub PayloadsAreIsolated : Type 0
 PayloadsAreIsolated = (space : Range) (grows : Bool) (steps : List Step) (end : Heap) (a : ℕ) (layout : Layout) → end_of space < 2 ^ 64
     → IsHistory (beginning space grows) steps end → layout_at end a ≡ Some layout → IsLeftBy (beginning space grows) steps end a
 
--- and what lives is exactly what is listed, in the order of addresses, with the alignment of its layout, the bytes that were asked
--- for, and less than 32 more
+-- The live payloads are exactly the listed ones, in the order of addresses. Each has the alignment of its layout, the requested bytes,
+-- and less than 32 more
 abbrev pub HistoriesListPayloads : Type 0
 HistoriesListPayloads = (space : Range) (grows : Bool) (steps : List Step) (end : Heap) → end_of space < 2 ^ 64 → IsHistory (beginning space grows) steps end
     → IsSorted end.asked × Lists end.asked end.flex.machine

@@ -9,7 +9,7 @@ use Rattle.rlsf_placement.specs.Heap.{Heap, content_at, layout_at}
 use Rattle.rlsf_placement.specs.History.{LeadsTo, allocate, deallocate, deallocate_as, reallocate, reallocate_as, reallocate_there, read, write}
 use Rattle.rlsf_placement.specs.Standing.{IsHeap}
 
--- a payload has the bytes that were asked for and less than 32 more, at a multiple of the alignment that was asked for
+-- a payload has the requested bytes and less than 32 more, at a multiple of the requested alignment
 pub record Serves (h : Heap) (a : ℕ) (layout : Layout) : Type 0 where
   pub enough : layout.size ≤ length (content_at h a)
   pub few : length (content_at h a) < layout.size + 32
@@ -42,11 +42,12 @@ abbrev pub WriteLeaves : Type 0
 WriteLeaves = (memory : Range) (h g : Heap) (addr offset : ℕ) (bytes : List ℕ) → IsHeap memory h → LeadsTo h (write addr offset bytes (Ok tt)) g
     → (content_at g addr ≡ splice (content_at h addr) offset (offset + length bytes) bytes) × (layout_at g addr ≡ layout_at h addr)
 
--- a read tells the payload's own bytes
+-- a read returns the payload's own bytes
 abbrev pub ReadTells : Type 0
-ReadTells = (h g : Heap) (addr offset : ℕ) (lent left : List ℕ) → LeadsTo h (read addr offset lent (Ok tt) left) g → left ≡ take (length lent) (drop offset (content_at h addr))
+ReadTells = (h g : Heap) (addr offset : ℕ) (lent left : List ℕ) → LeadsTo h (read addr offset lent (Ok tt) left) g
+    → left ≡ take (length lent) (drop offset (content_at h addr))
 
--- a payload of another layout stands at `to`, with the first bytes that it had at `addr`: so many as are kept. If it moved, nothing lived
+-- a payload of another layout is at `to`, with the first bytes that it had at `addr`: so many as are kept. If it moved, nothing lived
 -- there before, and nothing lives where it was
 pub record IsMoved (h g : Heap) (addr to kept : ℕ) (wanted : Layout) : Type 0 where
   pub layout : layout_at g to ≡ Some wanted
@@ -62,18 +63,19 @@ in_both h g addr to = min (length (content_at h addr)) (length (content_at g to)
 abbrev pub IsMovedTo : Heap → Heap → ℕ → ℕ → ℕ → Layout → ℕ → Type 0
 IsMovedTo h g addr to kept layout new_size = (wanted : Layout) × (wanted.size ≡ new_size) × (wanted.align ≡ layout.align) × IsMoved h g addr to kept wanted
 
--- another size for a payload of a layout keeps the bytes that are usable before and after; or, where the machine isn't enabled to, the bytes
+-- another size for a payload of a layout keeps the bytes that are usable before and after; or, where the reference model isn't enabled to, the bytes
 -- that were asked for before and after
 abbrev pub ReallocationAsLeaves : Type 0
 ReallocationAsLeaves = (memory : Range) (enabled : Bool) (h g : Heap) (addr : ℕ) (layout : Layout) (new_size : ℕ) (to : NonZeroUsize) → IsHeap memory h
-    → LeadsTo h (reallocate_as enabled addr layout new_size (Ok to)) g → IsMovedTo h g addr (at to) (if enabled then in_both h g addr (at to) else min layout.size new_size) layout new_size
+    → LeadsTo h (reallocate_as enabled addr layout new_size (Ok to)) g
+    → IsMovedTo h g addr (at to) (if enabled then in_both h g addr (at to) else min layout.size new_size) layout new_size
 
 -- another layout keeps the bytes that were usable, up to the new size, and the payload is elsewhere
 abbrev pub ReallocationLeaves : Type 0
 ReallocationLeaves = (memory : Range) (h g : Heap) (addr : ℕ) (wanted : Layout) (to : NonZeroUsize) → IsHeap memory h → LeadsTo h (reallocate addr wanted (Ok to)) g
     → (at to ≢ addr) × IsMoved h g addr (at to) (min wanted.size (length (content_at h addr))) wanted
 
--- another size where the payload stands keeps its address, and the bytes that are usable before and after
+-- another size in place keeps its address, and the bytes that are usable before and after
 abbrev pub ReallocationThereLeaves : Type 0
 ReallocationThereLeaves = (memory : Range) (h g : Heap) (addr : ℕ) (layout : Layout) (new_size : ℕ) (to : NonZeroUsize) → IsHeap memory h
     → LeadsTo h (reallocate_there addr layout new_size (Ok to)) g → (at to ≡ addr) × IsMovedTo h g addr (at to) (in_both h g addr (at to)) layout new_size

@@ -1,3 +1,4 @@
+-- Definitions and laws of the reference model behind the lock. Read `Cursor`, `Rows` and `Heap` first.
 pub mod Constant
 pub mod Cursor
 pub mod Heap

@@ -16,7 +16,7 @@ use Rattle.rlsf_placement.specs.Heap.{Heap, with_state}
 use Rattle.rlsf_placement.specs.Rows.{Row, put, row_at, without_row}
 use Rattle.rlsf_placement.specs.Steps.{Placed, Takes, is_same}
 
--- a payload is allocated while an old one stands, gets its first bytes, and the old one is given back
+-- a payload is allocated while an old one is live, gets its first bytes, and the old one is deallocated
 pub record Replaces (h : Heap) (addr keep size align to : ℕ) (flex : FlexState) (source : PageCursor) : Type 0 where
   pub meanwhile : FlexState
   pub takes : Takes h size align (Some to) meanwhile source
@@ -26,25 +26,26 @@ pub record Replaces (h : Heap) (addr keep size align to : ℕ) (flex : FlexState
   pub frees : Deallocates copied addr freed
   pub after : flex ≡ with_machine meanwhile freed
 
--- the machine reallocates, and its questions lead the cursor on
+-- the reference model reallocates, and its questions lead the cursor on
 abbrev pub Resizes : Heap → ℕ → ℕ → Option ℕ → FlexState → PageCursor → Type 0
-Resizes h addr size reply flex source = (notes : List Note) × FlexReallocates 64 64 (terms_of h.source) h.flex addr size reply notes flex × LeadsBy PageLeads h.source notes source
+Resizes h addr size reply flex source =
+    (notes : List Note) × FlexReallocates 64 64 (terms_of h.source) h.flex addr size reply notes flex × LeadsBy PageLeads h.source notes source
 
--- the payload moves into another, with a row for it in the place of the old one's; where there is no room and no memory came, nothing
+-- the payload moves into another, with an entry for it in the place of the old one's; where there is no room and no memory came, nothing
 -- changes
 abbrev pub MovesAway : Heap → ℕ → ℕ → Layout → Placed → Heap → Type 0
 MovesAway h addr keep wanted (Ok to) g = Replaces h addr keep wanted.size wanted.align (at to) g.flex g.source × (g.asked ≡ put (to, wanted) (without_row addr h.asked))
 MovesAway h addr keep wanted (Err NoRoom) g = Takes h wanted.size wanted.align None h.flex h.source × (g ≡ h)
 MovesAway h addr keep wanted (Err e) g = ⊥
 
--- the payload gets another size by the machine, with a row for it in the place of the old one's; where there is no room and no memory
+-- the payload gets another size by the reference model, with an entry for it in the place of the old one's; where there is no room and no memory
 -- came, nothing changes
 abbrev pub ResizesTo : Heap → ℕ → Layout → Placed → Heap → Type 0
 ResizesTo h addr wanted (Ok to) g = Resizes h addr wanted.size (Some (at to)) g.flex g.source × (g.asked ≡ put (to, wanted) (without_row addr h.asked))
 ResizesTo h addr wanted (Err NoRoom) g = Resizes h addr wanted.size None h.flex h.source × (g ≡ h)
 ResizesTo h addr wanted (Err e) g = ⊥
 
--- the payload gets another size where it stands, and its row another layout; where the bytes there don't suffice, nothing changes
+-- the payload gets another size in place, and its entry another layout; where the bytes there don't suffice, nothing changes
 abbrev pub ResizesThere : Heap → ℕ → Layout → Placed → Heap → Type 0
 ResizesThere h addr wanted (Ok to) g =
     (m : State) × ReallocatesWithoutMove h.flex.machine addr wanted.size (Some (at to)) m × (g ≡ with_state h m (put (to, wanted) (without_row addr h.asked)))
@@ -58,12 +59,12 @@ pub record Wanted (n a : ℕ) (step : Layout → Type 0) : Type 0 where
   pub align : layout.align ≡ a
   pub made : step layout
 
--- the payload of a row gets another size: by the machine, or, where that isn't enabled, in a new payload
+-- the payload of an entry gets another size: by the reference model, or, where that isn't enabled, in a new payload
 abbrev pub ReallocatesTo : Bool → Heap → ℕ → Layout → Layout → Placed → Heap → Type 0
 ReallocatesTo true h addr old wanted result g = ResizesTo h addr wanted result g
 ReallocatesTo false h addr old wanted result g = MovesAway h addr (min old.size wanted.size) wanted result g
 
--- the row decides: none, or one of another layout, is refused
+-- the entry decides: none, or one of another layout, is refused
 abbrev pub ReallocatesAsAt : Bool → Heap → ℕ → Layout → ℕ → Option Row → Placed → Heap → Type 0
 ReallocatesAsAt enabled h addr layout new_size None result g = (result ≡ Err UnknownAddress) × (g ≡ h)
 ReallocatesAsAt enabled h addr layout new_size (Some row) result g =
@@ -73,7 +74,7 @@ ReallocatesAsAt enabled h addr layout new_size (Some row) result g =
 abbrev pub HeapReallocatesAs : Bool → Heap → ℕ → Layout → ℕ → Placed → Heap → Type 0
 HeapReallocatesAs enabled h addr layout new_size result g = ReallocatesAsAt enabled h addr layout new_size (row_at addr h.asked) result g
 
--- the row decides: none is refused; else the payload moves, with as many of its first bytes as both sizes have
+-- the entry decides: none is refused; else the payload moves, with as many of its first bytes as both sizes have
 abbrev pub ReallocatesAt : Heap → ℕ → Layout → Option Row → Placed → Heap → Type 0
 ReallocatesAt h addr wanted None result g = (result ≡ Err UnknownAddress) × (g ≡ h)
 ReallocatesAt h addr wanted (Some row) result g = MovesAway h addr (min wanted.size (length (bytes_at h.flex.machine addr))) wanted result g
@@ -82,12 +83,12 @@ ReallocatesAt h addr wanted (Some row) result g = MovesAway h addr (min wanted.s
 abbrev pub HeapReallocates : Heap → ℕ → Layout → Placed → Heap → Type 0
 HeapReallocates h addr wanted result g = ReallocatesAt h addr wanted (row_at addr h.asked) result g
 
--- the row decides: none, or one of another layout, is refused
+-- the entry decides: none, or one of another layout, is refused
 abbrev pub ReallocatesThereAt : Heap → ℕ → Layout → ℕ → Option Row → Placed → Heap → Type 0
 ReallocatesThereAt h addr layout new_size None result g = (result ≡ Err UnknownAddress) × (g ≡ h)
 ReallocatesThereAt h addr layout new_size (Some row) result g =
     MatchBool (is_same row.1 layout) (Wanted new_size layout.align (λ wanted. ResizesThere h addr wanted result g)) ((result ≡ Err WrongLayout) × (g ≡ h))
 
--- another size for a payload of a layout, where it stands
+-- another size for a payload of a layout, in place
 abbrev pub HeapReallocatesThere : Heap → ℕ → Layout → ℕ → Placed → Heap → Type 0
 HeapReallocatesThere h addr layout new_size result g = ReallocatesThereAt h addr layout new_size (row_at addr h.asked) result g

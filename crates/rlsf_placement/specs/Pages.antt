@@ -1,4 +1,4 @@
--- The page source: where its cursor stands, and what may be outstanding.
+-- The page source: where its cursor is, and what may be outstanding.
 use Rattle.std.specs.Prelude.{◌≡◌, ℕ, ◌%◌, ◌^◌, ◌≤◌, ◌<◌, ◌⊎◌, List}
 use Rattle.rlsf_base.specs.declared.memory.range.Range.{Range}
 use Rattle.rlsf_base.specs.Range.{end_of}
@@ -6,7 +6,7 @@ use Rattle.rlsf_machine.specs.Lists.{IsIn}
 use Rattle.rlsf_machine.specs.WellFormed.{coverage, itself}
 use Rattle.rlsf_placement.specs.Cursor.{PageCursor}
 
--- the cursor stands in the space, at its end or at a multiple of 32, and addresses fit in a word
+-- the cursor is in the space, at its end or at a multiple of 32, and addresses fit in a word
 pub record IsPageCursor (c : PageCursor) : Type 0 where
   pub after_start : c.space.start ≤ c.at
   pub before_end : c.at ≤ end_of c.space

@@ -12,7 +12,8 @@ abbrev pub IsSameCall : Step → Step → Type 0
 IsSameCall (allocate layout m) (allocate layout' n) = layout ≡ layout'
 IsSameCall (deallocate addr m) (deallocate addr' n) = addr ≡ addr'
 IsSameCall (deallocate_as addr layout m) (deallocate_as addr' layout' n) = (addr ≡ addr') × (layout ≡ layout')
-IsSameCall (reallocate_as enabled addr layout size m) (reallocate_as enabled' addr' layout' size' n) = (enabled ≡ enabled') × (addr ≡ addr') × (layout ≡ layout') × (size ≡ size')
+IsSameCall (reallocate_as enabled addr layout size m) (reallocate_as enabled' addr' layout' size' n) =
+    (enabled ≡ enabled') × (addr ≡ addr') × (layout ≡ layout') × (size ≡ size')
 IsSameCall (reallocate addr wanted m) (reallocate addr' wanted' n) = (addr ≡ addr') × (wanted ≡ wanted')
 IsSameCall (reallocate_there addr layout size m) (reallocate_there addr' layout' size' n) = (addr ≡ addr') × (layout ≡ layout') × (size ≡ size')
 IsSameCall (read addr offset lent m left) (read addr' offset' lent' n left') = (addr ≡ addr') × (offset ≡ offset') × (length lent ≡ length lent')
@@ -33,17 +34,18 @@ IsSameAnswer (write addr offset bytes m) (write addr' offset' bytes' n) = m ≡ 
 IsSameAnswer (usable addr m) (usable addr' n) = m ≡ n
 IsSameAnswer s s' = ⊥
 
--- the system refused room for a row, which is no matter of the placement
+-- the system was out of memory for a table entry, which is no matter of the placement
 abbrev pub LacksMemory : Step → Type 0
 LacksMemory (allocate layout (Err TableMemory)) = Unit {0}
 LacksMemory s = ⊥
 
 -- from the same placement, the same call has the same answer, unless the system refused, and leads to the same placement
 abbrev pub PlacementDetermines : Type 0
-PlacementDetermines = (memory : Range) (h h' g g' : Heap) (s s' : Step) → IsHeap memory h → IsHeap memory h' → HaveSamePlacement h h' → LeadsTo h s g → LeadsTo h' s' g' → IsSameCall s s'
+PlacementDetermines = (memory : Range) (h h' g g' : Heap) (s s' : Step) → IsHeap memory h → IsHeap memory h' → HaveSamePlacement h h' → LeadsTo h s g → LeadsTo h' s' g'
+    → IsSameCall s s'
     → (LacksMemory s → ⊥) → (LacksMemory s' → ⊥) → IsSameAnswer s s' × HaveSamePlacement g g'
 
--- a step that a journal has: no read, no write, no question for a length, and none for which the system refused room
+-- a step that a journal has: no read, no write, no question for a length, and no step that was out of memory for a table entry
 abbrev pub is_entry : Step → Bool
 is_entry (allocate layout (Err TableMemory)) = false
 is_entry (read addr offset lent result left) = false
@@ -76,7 +78,8 @@ AreSameAnswers (s ∷ steps) (s' ∷ steps') = IsSameAnswer s s' × AreSameAnswe
 
 -- The calls in the journal determine its answers and the placement, whatever was read and written meanwhile.
 abbrev pub JournalDetermines : Type 0
-JournalDetermines = (memory : Range) (h h' g g' : Heap) (steps steps' : List Step) → IsHeap memory h → IsHeap memory h' → HaveSamePlacement h h' → IsHistory h steps g → IsHistory h' steps' g'
+JournalDetermines = (memory : Range) (h h' g g' : Heap) (steps steps' : List Step) → IsHeap memory h → IsHeap memory h' → HaveSamePlacement h h' → IsHistory h steps g
+    → IsHistory h' steps' g'
     → AreSameCalls (journal_of steps) (journal_of steps') → AreSameAnswers (journal_of steps) (journal_of steps') × HaveSamePlacement g g'
 
 -- a journal replays to a heap: steps that have it lead there from the beginning, whatever was read and written meanwhile

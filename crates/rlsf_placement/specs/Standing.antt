@@ -6,7 +6,7 @@ use Rattle.rlsf_placement.specs.Heap.{Heap, Lists}
 use Rattle.rlsf_placement.specs.Pages.{MayOwe}
 use Rattle.rlsf_placement.specs.Rows.{IsSorted}
 
--- The machine's state is well-formed over the page source, whose cursor stands behind what it handed out; and the rows list exactly
+-- The reference model's state is well-formed over the page source, whose cursor is behind what it provided; and the entries list exactly
 -- the live payloads, in the order of their addresses.
 pub record IsHeap (memory : Range) (h : Heap) : Type 0 where
   pub flex : IsFlexWellFormed 64 64 memory (terms_of h.source) h.flex

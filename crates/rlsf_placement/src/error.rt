@@ -1,6 +1,6 @@
 //! Refusals.
 
-/// Why a call of the allocator behind the lock was refused. Each error has a number. Where more than one holds, a call answers
+/// The reason why a call of the allocator behind the lock was refused. Each error has a number. If more than one holds, a call returns
 /// `JournalMemory` first, then `UnknownAddress`, `WrongLayout`, `OutOfRange`, `TableMemory` and `NoRoom`.
 #[derive(Clone, Copy, Debug, PartialEq, Eq)]
 pub enum GlobalError {
@@ -8,12 +8,12 @@ pub enum GlobalError {
     NoRoom = 1,
     /// The address isn't live.
     UnknownAddress = 2,
-    /// The layout isn't the one that was last asked for the address.
+    /// The layout isn't the one that was last requested for the address.
     WrongLayout = 3,
-    /// The system refused room for one more row of the table of live addresses.
+    /// The system is out of memory for one more entry of the table of live addresses.
     TableMemory = 4,
     /// The bytes go past the usable ones.
     OutOfRange = 5,
-    /// The system refused room for the journal, a receipt or the passes.
+    /// The system is out of memory for the journal, a receipt or the passes.
     JournalMemory = 6,
 }

@@ -46,17 +46,43 @@ pub Costs-same : (m n : Space) → n ≡ m → Costs m n 0 0
 Costs-same m n same =
     let touches : n.touches ≡ m.touches = ap (λ (o : Space). o.touches) same in
     let copied : n.copied ≡ m.copied = ap (λ (o : Space). o.copied) same in
-    record { start = ap (λ (o : Space). o.start) same; length = ap (λ (o : Space). length o.bytes) same; touches = omega arith; grow = omega arith; copied = omega arith; view = ap (λ (o : Space). o.view) same; none = λ none. ap (λ (o : Space). o.out) same ∙ none }
+    record {
+      start = ap (λ (o : Space). o.start) same;
+      length = ap (λ (o : Space). length o.bytes) same;
+      touches = omega arith;
+      grow = omega arith;
+      copied = omega arith;
+      view = ap (λ (o : Space). o.view) same;
+      none = λ none. ap (λ (o : Space). o.out) same ∙ none;
+    }
 
 -- a word that is read
-pub Costs-loaded : (m n : Space) → n.start ≡ m.start → n.bytes ≡ m.bytes → n.touches ≡ m.touches + 1 → n.copied ≡ m.copied → n.view ≡ m.view → n.out ≡ m.out → Costs m n 1 0
+pub Costs-loaded : (m n : Space) → n.start ≡ m.start → n.bytes ≡ m.bytes → n.touches ≡ m.touches + 1 → n.copied ≡ m.copied → n.view ≡ m.view → n.out ≡ m.out
+    → Costs m n 1 0
 Costs-loaded m n start bytes touches copied view out =
-    record { start = start; length = ap length bytes; touches = omega (arith, touches); grow = omega (arith, touches); copied = omega (arith, copied); view = view; none = λ none. out ∙ none }
+    record {
+      start = start;
+      length = ap length bytes;
+      touches = omega (arith, touches);
+      grow = omega (arith, touches);
+      copied = omega (arith, copied);
+      view = view;
+      none = λ none. out ∙ none;
+    }
 
 -- a word that is written
-pub Costs-written : (m n : Space) (a : ℕ) → n.start ≡ m.start → length n.bytes ≡ length m.bytes → n.touches ≡ m.touches + 1 → n.copied ≡ m.copied → n.view ≡ m.view → n.out ≡ out_with m (word_range a) → Costs m n 1 0
+pub Costs-written : (m n : Space) (a : ℕ) → n.start ≡ m.start → length n.bytes ≡ length m.bytes → n.touches ≡ m.touches + 1 → n.copied ≡ m.copied
+    → n.view ≡ m.view → n.out ≡ out_with m (word_range a) → Costs m n 1 0
 Costs-written m n a start len touches copied view out =
-    record { start = start; length = len; touches = omega (arith, touches); grow = omega (arith, touches); copied = omega (arith, copied); view = view; none = none-with m n (word_range a) out }
+    record {
+      start = start;
+      length = len;
+      touches = omega (arith, touches);
+      grow = omega (arith, touches);
+      copied = omega (arith, copied);
+      view = view;
+      none = none-with m n (word_range a) out;
+    }
 
 -- the memory stays where it is
 pub SamePlace-costs : {m n : Space} {a b : ℕ} → Costs m n a b → SamePlace m n

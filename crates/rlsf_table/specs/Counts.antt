@@ -1,4 +1,4 @@
--- What a function that reads counted words, or touches the class table, does to the memory.
+-- The effect on the memory of a function that reads counted words, or accesses the class table.
 use Rattle.std.specs.Prelude.{◌≡◌, ℕ, ◌+◌, ◌≤◌, [], length}
 use Rattle.rlsf_base.specs.Space.{Space}
 

@@ -1,4 +1,4 @@
--- The list of free blocks, as its words stand in a memory.
+-- The list of free blocks, as its words are in a memory.
 use Rattle.std.specs.Prelude.{◌≡◌, ℕ, ◌+◌, List, [], ◌∷◌}
 use Rattle.rlsf_base.specs.declared.memory.range.Range.{Range}
 use Rattle.rlsf_base.specs.Space.{Space, word_at}

@@ -33,11 +33,13 @@ AtEachRoom fllen sllen m t block len P = (r : Range) (free : List Range) → r.s
 
 -- this is true of each list of free blocks that has one of so many bytes at the address: of that block, those before it and those behind it
 abbrev pub AtEachListed : ℕ → ℕ → Space → Table → ℕ → ℕ → (Range → List Range → List Range → Type 0) → Type 0
-AtEachListed fllen sllen m t block len P = (r : Range) (before after : List Range) → r.start ≡ block → r.len ≡ len → IsFreeTable fllen sllen m t (before ++ (r ∷ after)) → P r before after
+AtEachListed fllen sllen m t block len P = (r : Range) (before after : List Range) → r.start ≡ block → r.len ≡ len → IsFreeTable fllen sllen m t (before ++ (r ∷ after))
+    → P r before after
 
 -- the same where the block at the address is the newest of the class at two indices
 abbrev pub AtEachNewest : ℕ → ℕ → Space → Table → ℕ → ℕ → ℕ → (Range → List Range → List Range → Type 0) → Type 0
-AtEachNewest fllen sllen m t block fl sl P = (r : Range) (before after : List Range) → r.start ≡ block → IsNewestAt fllen sllen r before fl sl → IsFreeTable fllen sllen m t (before ++ (r ∷ after)) → P r before after
+AtEachNewest fllen sllen m t block fl sl P = (r : Range) (before after : List Range) → r.start ≡ block → IsNewestAt fllen sllen r before fl sl
+    → IsFreeTable fllen sllen m t (before ++ (r ∷ after)) → P r before after
 
 -- the block is the newest free one, and no words were written but links of free blocks
 abbrev pub IsLinked : ℕ → ℕ → Space → Space → Table → Range → List Range → Type 0
@@ -47,13 +49,13 @@ IsLinked fllen sllen m n t r free = HasTable fllen sllen n t (r ∷ free) × Rew
 abbrev pub IsUnlinked : ℕ → ℕ → Space → Space → Table → Range → List Range → List Range → Type 0
 IsUnlinked fllen sllen m n t r before after = HasTable fllen sllen n t (before ++ after) × Rewrites m n (IsLink (before ++ (r ∷ after)))
 
--- a list's bits were those of the table t: those of the table u are the bits of the list without a range of the class at two indices,
--- where the class's head is set
+-- The bits of a list were those of the table t. Those of the table u are the bits without a range of the class at two
+-- indices, where the class's head is set
 abbrev pub HasBitsWithout : ℕ → ℕ → Table → Table → ℕ → ℕ → ℕ → Type 0
 HasBitsWithout fllen sllen t u fl sl head = (r : Range) (before after : List Range) → class_of sllen r.len ≡ class_at fl sl → IsHeadOf sllen fl sl head (before ++ after)
     → HasBits fllen sllen t (before ++ (r ∷ after)) → HasBits fllen sllen u (before ++ after)
 
--- what a search for a size answers: where the choice begins, and its class, or nothing if there is no choice
+-- what a search for a size returns: where the choice begins, and its class, or nothing if there is no choice
 abbrev pub IsFirstFit : ℕ → ℕ → ℕ → List Range → Option FoundBlock → Type 0
 IsFirstFit fllen sllen size free answer = MatchOption answer (choice sllen size free ≡ None)
     (λ found. (f : Range) × (choice sllen size free ≡ Some f) × (f.start ≡ found.start) × IsClassAt fllen sllen f.len found.class.fl found.class.sl)

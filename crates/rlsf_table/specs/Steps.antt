@@ -1,3 +1,3 @@
--- What functions that only this crate calls say: no public contract cites these.
+-- Definitions for private functions. No public contract cites these.
 pub mod ClassList
 pub mod Places

@@ -51,30 +51,30 @@ HasPlaces fllen sllen heads = (fl : ℕ) → fl < fllen → length (slice_index_
 abbrev pub head_at : Table → ℕ → ℕ → ℕ
 head_at t fl sl = slice_index (slice_index_or t.heads fl []) sl
 
--- a bit of the first level is set exactly where a row has a free range, and one of the second exactly where a class has
+-- A bit of the first level is set exactly if a row has a free range. A bit of the second level is set exactly if a class has one
 pub record HasBits (fllen sllen : ℕ) (t : Table) (free : List Range) : Type 0 where
   pub rows : length t.second_level ≡ fllen
   pub first : (fl : ℕ) → bit t.first_level fl ≡ list_any (is_in_row sllen fl) free
   pub second : (fl sl : ℕ) → fl < fllen → bit (slice_index t.second_level fl) sl ≡ list_any (has_class sllen (class_at fl sl)) free
 
--- each class has a head, from which on the links of its free ranges spell them in their order, in both directions
+-- each class has a head, from which the links of its free ranges encode them in their order, in both directions
 pub record HasLists (fllen sllen : ℕ) (m : Space) (t : Table) (free : List Range) : Type 0 where
   pub rows : length t.heads ≡ fllen
   pub places : HasPlaces fllen sllen t.heads
   pub links : (fl sl : ℕ) → fl < fllen → sl < sllen → Links m 0 (of_class sllen fl sl free) (head_at t fl sl)
 
--- the table is that of a list of free ranges, whose blocks stand in a memory
+-- the table is that of a list of free ranges, whose blocks are in a memory
 pub record HasTable (fllen sllen : ℕ) (m : Space) (t : Table) (free : List Range) : Type 0 where
   pub bits : HasBits fllen sllen t free
   pub lists : HasLists fllen sllen m t free
 
--- the table t, but for the head at two indices
+-- the table t, except for the head at two indices
 pub record IsHeadSet (fllen sllen : ℕ) (t u : Table) (fl sl head : ℕ) : Type 0 where
   pub rows : length u.heads ≡ fllen
   pub places : HasPlaces fllen sllen u.heads
   pub set : head_at u fl sl ≡ head
   pub others : (i j : ℕ) → i < fllen → j < sllen → ¬ ((i ≡ fl) × (j ≡ sl)) → head_at u i j ≡ head_at t i j
 
--- the head answers whether ranges of a class are left: it is 0 exactly if none is
+-- the head shows whether ranges of a class are left: it is 0 exactly if none is
 abbrev pub IsHeadOf : ℕ → ℕ → ℕ → ℕ → List Range → Type 0
 IsHeadOf sllen fl sl head free = (head ≡ 0) ↔ (of_class sllen fl sl free ≡ [])

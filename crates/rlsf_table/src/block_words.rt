@@ -1,4 +1,4 @@
-//! The words of a block: where each lies, in bytes from where the block begins, and what a size word says.
+//! The words of a block: the offset of each in bytes, and the meaning of a size word.
 //!
 //! The first word of a block is its size word: its length, which is a multiple of 32, and two flags below.
 
@@ -13,23 +13,23 @@ pub const NEXT_FREE: usize = 16;
 /// In a free block, the link to the one before it in its list, or 0.
 pub const PREVIOUS_FREE: usize = 24;
 
-/// How far before a payload whose alignment is 32 or more the word lies that names its block.
+/// The distance in bytes from the word that names the block to its payload, for a payload with an alignment of 32 or more.
 pub const PAD: usize = 8;
 
-/// The flag in a size word that the block is in use.
+/// The flag in a size word of a used block.
 pub const SIZE_USED: u64 = 1;
 
-/// The flag in a size word that the block is a sentinel, the last one of its chunk. It is in use, too.
+/// The flag in a size word of a sentinel, the last block of its chunk. A sentinel has the flag of a used block, too.
 pub const SIZE_SENTINEL: u64 = 2;
 
-/// Whether the block with this size word is free.
+/// Returns whether the block with this size word is free.
 pub fn is_free(size: u64) -> bool
     ensures { IsTrue result ↔ (size % 2 ≡ 0) }
 {
     size % 2 == 0
 }
 
-/// The size word of a used block of `len` bytes.
+/// Returns the size word of a used block of `len` bytes.
 pub fn used_size_word(len: usize) -> u64
     requires { len + 1 < 2 ^ 64 }
     ensures { result ≡ len + 1 }
@@ -37,7 +37,7 @@ pub fn used_size_word(len: usize) -> u64
     len as u64 + SIZE_USED
 }
 
-/// The length of the used block with this size word, which is not a sentinel's.
+/// Returns the length of the used block with this size word, which must not be a sentinel's.
 pub fn len_of_used(size: u64) -> usize
     requires { 1 ≤ size }
     ensures { result ≡ size - 1 }
@@ -45,7 +45,7 @@ pub fn len_of_used(size: u64) -> usize
     (size - SIZE_USED) as usize
 }
 
-/// Where the used block at `block` with this size word ends.
+/// Returns the end of the used block at `block` with this size word.
 pub fn used_end(block: usize, size: u64) -> usize
     requires used { 1 ≤ size }
     requires fits { block + (size - 1) < 2 ^ 64 }

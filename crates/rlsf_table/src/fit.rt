@@ -14,16 +14,16 @@ use rlsf_base::memory::OpenMemory;
 /// A free block that a search found.
 #[derive(Clone, Copy)]
 pub struct FoundBlock {
-    /// The address where it begins.
+    /// The address at which it begins.
     pub start: usize,
     /// Its class.
     pub class: ClassIndex,
 }
 
-/// The newest of the free blocks of the first class that reaches a size, in bytes; `None` exactly where no block's class
+/// Returns the newest free block of the first class that reaches a size in bytes. Returns `None` exactly if no block's class
 /// reaches it. At most 4 touches.
 ///
-/// The size is a multiple of 32 that is not 0; table and memory are those of some free blocks.
+/// The size must be a multiple of 32 and not 0. Table and memory must encode a list of free blocks.
 pub fn first_fit<const FLLEN: usize, const SLLEN: usize>(
     memory: &mut OpenMemory,
     table: &ClassTable<FLLEN, SLLEN>,

@@ -1,9 +1,9 @@
-//! The class table of two-level segregated fit, and the lists of free blocks that it begins.
+//! The class table of two-level segregated fit, and the lists of free blocks that begin in it.
 //!
-//! A free block has a class, by its length: a row of the table and a place in it. The table keeps the newest block of each class
-//! and which classes have one; from there on, the blocks of a class are linked through the words at +16 and +24 of each. The
-//! functions are handed the memory that the blocks are in beside the table, and no invariant holds of the two while blocks are
-//! rewritten: `IsFreeTable` says that table and words spell a list of free blocks.
+//! The length of a free block determines its class: a first-level row of the table and a place in it. The table keeps the newest block of
+//! each class. The words at +16 and +24 of a free block link it to the others of its class. Functions take the table and the memory of
+//! the blocks. `IsFreeTable` (`specs/FreeTable`) says that both encode a list of free blocks; it need not hold while blocks are rewritten.
+//! Read `specs/Table`, `specs/FreeList` and `specs/FreeTable` first, then `src/block_words`, `rows`, `table`, `fit`, `list`.
 #![tactic(auto)]
 
 mod block_words;

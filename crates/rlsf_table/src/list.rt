@@ -16,9 +16,9 @@ use crate::table::{ClassIndex, ClassTable};
 use rlsf_base::classes::class_of;
 use rlsf_base::memory::{OpenMemory, View};
 
-/// Where the link to the block before lies that is written when the list from `first` on gets another front: in its first
-/// block, or where it has none, in the block at `block`, which isn't in it. So the word is written in either case: whether
-/// there is a block can't be foretold, and a wrong guess costs the processor more than a word.
+/// Returns the address of the link to the block before, which is written when the list from `first` on gets another front. It is in
+/// the first block. If there is none, it is in the block at `block`, which isn't in the list. So a word is written in either case:
+/// whether there is a first block can't be foretold, and a wrong guess costs the processor more than a word.
 fn first_or_own(first: usize, block: usize) -> usize
     ensures { IsFirstOrOwn first block result }
 {
@@ -42,8 +42,8 @@ fn link_front(memory: &mut OpenMemory, view: View, newest: usize, block: usize)
     memory.set_word_at(view, block + PREVIOUS_FREE, 0);
 }
 
-/// Takes the block at `block`, the first of its list, out of it. Answers the next one, which is the first then, or 0. The link to
-/// the block before isn't read: there is none.
+/// Takes the block at `block`, the first of its list, out of it. Returns the next one, which is the first then, or 0. The link to
+/// the block before isn't read, since there is none.
 #[inline(always)]
 fn unlink_front(memory: &mut OpenMemory, view: View, block: usize) -> usize
     requires front { (r : Range) × (after : List Range) × (newest : ℕ) × (r.start ≡ block) × IsFreeList memory.old newest (r ∷ after) }
@@ -56,7 +56,7 @@ fn unlink_front(memory: &mut OpenMemory, view: View, block: usize) -> usize
     next
 }
 
-/// Takes the block at `block` out from between the two that its links name. If none is before it, answers the one
+/// Takes the block at `block` out from between the two that its links name. If none is before it, returns the one
 /// behind it, which is the newest then, or 0.
 #[inline(always)]
 fn unlink_between(memory: &mut OpenMemory, view: View, block: usize) -> Option<usize>
@@ -79,10 +79,10 @@ fn unlink_between(memory: &mut OpenMemory, view: View, block: usize) -> Option<u
 }
 
 /// Puts the block of `len` bytes at the address `block` in front of the list of its class. Writes links of free blocks and the
-/// table alone: the size word of the block is its caller's. At most 9 touches.
+/// table alone: the caller writes the size word of the block. At most 9 touches.
 ///
-/// Table and memory are those of some free blocks, of valid classes, with their size words, none of which overlap, and the
-/// block can be one beside them.
+/// Table and memory must encode a list of free blocks of valid classes, with their size words. No two of them overlap, and the
+/// block must be able to join them.
 #[inline(always)]
 pub fn link_free_block<const FLLEN: usize, const SLLEN: usize>(
     memory: &mut OpenMemory,
@@ -103,11 +103,11 @@ pub fn link_free_block<const FLLEN: usize, const SLLEN: usize>(
     table.put(memory, fl, sl, block);
 }
 
-/// Takes the block of `len` bytes at the address `block` out of the list of its class, whichever place it has there. Writes links
+/// Takes the block of `len` bytes at the address `block` out of the list of its class, at any place of it. Writes links
 /// of free blocks and the table alone. At most 8 touches.
 ///
-/// Table and memory are those of some free blocks, of valid classes, with their size words, none of which overlap, and the
-/// block is one of them.
+/// Table and memory must encode a list of free blocks of valid classes, with their size words. No two of them overlap, and the
+/// block must be one of them.
 #[inline(always)]
 pub fn unlink_free_block<const FLLEN: usize, const SLLEN: usize>(
     memory: &mut OpenMemory,
@@ -132,8 +132,8 @@ pub fn unlink_free_block<const FLLEN: usize, const SLLEN: usize>(
 /// Takes the newest block of a class, at the address `block`, out of its list. Writes links of free blocks and the table alone. At
 /// most 8 touches.
 ///
-/// Table and memory are those of some free blocks, of valid classes, with their size words, none of which overlap; the block is
-/// one of them, has that class, and none before it has.
+/// Table and memory must encode a list of free blocks of valid classes, with their size words. No two of them overlap. The block
+/// must be one of them and have that class, and no block before it may have that class.
 #[inline(always)]
 pub fn unlink_newest_block<const FLLEN: usize, const SLLEN: usize>(
     memory: &mut OpenMemory,

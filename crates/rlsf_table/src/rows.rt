@@ -1,4 +1,4 @@
-//! Rows of places that have a one or none: the two levels of a class table.
+//! Rows of places that are set or not: the two levels of a class table.
 
 ghost use Rattle.std.specs.Prelude.{◌≡◌, ◌≢◌, ℕ, ◌+◌, ◌<◌, ◌≤◌, ◌↔◌, ◌||◌, ◌==◌, false, IsTrue, slice_index};
 ghost use Rattle.rlsf_int.specs.Bits.{bit, IsFirstOne};
@@ -6,20 +6,20 @@ ghost use Rattle.rlsf_table.specs.Steps.Places.{joined, row_word, scanned_places
 
 use rlsf_int::{BinInteger, Bitmap};
 
-/// Which places of each row have a one. A row of 64 places or fewer is one word, and its scan one of that word; a longer
-/// one is two words.
+/// The places of each row that are set. A row of at most 64 places is one word, and a search of it reads that word. A longer row
+/// is two words.
 ///
-/// A row is below `ROWS`, and a place below `PLACES`, which is at most 128.
+/// A row is below `ROWS`. A place is below `PLACES`, which is at most 128.
 #[derive(Drop)]
 pub(crate) struct Rows<const ROWS: usize, const PLACES: usize> {
     // The first 64 places of each row.
     low: [u64; ROWS],
-    // The places behind them. Where rows have none, it is neither read nor written.
+    // The places behind them. If rows have none, it is neither read nor written.
     high: [u64; ROWS],
 }
 
 impl<const ROWS: usize, const PLACES: usize> Rows<ROWS, PLACES> {
-    /// Rows without a one.
+    /// Returns rows without a set place.
     pub(crate) fn new() -> Self
         ensures { (fl : ℕ) → fl < ROWS → row_word PLACES result.low result.high fl ≡ 0 }
     {
@@ -29,7 +29,7 @@ impl<const ROWS: usize, const PLACES: usize> Rows<ROWS, PLACES> {
         }
     }
 
-    /// Whether a place has a one.
+    /// Returns whether a place is set.
     pub(crate) fn has(&self, fl: usize, place: usize) -> bool
         requires { (fl < ROWS) × (place < PLACES) × (PLACES ≤ 128) }
         ensures { result ≡ bit (row_word PLACES self.now.low self.now.high fl) place }
@@ -41,7 +41,7 @@ impl<const ROWS: usize, const PLACES: usize> Rows<ROWS, PLACES> {
         }
     }
 
-    /// Puts a one at a place.
+    /// Sets a place.
     pub(crate) fn insert(&mut self, fl: usize, place: usize)
         requires { (fl < ROWS) × (place < PLACES) × (PLACES ≤ 128) }
         ensures own { (k : ℕ) → bit (row_word PLACES self.new.low self.new.high fl) k ≡ (bit (row_word PLACES self.old.low self.old.high fl) k || k == place) }
@@ -54,7 +54,7 @@ impl<const ROWS: usize, const PLACES: usize> Rows<ROWS, PLACES> {
         }
     }
 
-    /// Takes the one at a place away, if there is one.
+    /// Clears a place, which may be clear already.
     pub(crate) fn remove(&mut self, fl: usize, place: usize)
         requires { (fl < ROWS) × (place < PLACES) × (PLACES ≤ 128) }
         ensures gone { bit (row_word PLACES self.new.low self.new.high fl) place ≡ false }
@@ -68,7 +68,7 @@ impl<const ROWS: usize, const PLACES: usize> Rows<ROWS, PLACES> {
         }
     }
 
-    /// Whether a row has no one.
+    /// Returns whether no place of a row is set.
     pub(crate) fn is_empty(&self, fl: usize) -> bool
         requires { fl < ROWS }
         ensures { IsTrue result ↔ (row_word PLACES self.now.low self.now.high fl ≡ 0) }
@@ -80,7 +80,7 @@ impl<const ROWS: usize, const PLACES: usize> Rows<ROWS, PLACES> {
         }
     }
 
-    /// The least place of a row from `start` on that has a one, if one has.
+    /// Returns the least set place of a row from `start` on, if there is one.
     pub(crate) fn first_from(&self, fl: usize, start: usize) -> Option<usize>
         requires { (fl < ROWS) × (start < PLACES) × (PLACES ≤ 128) }
         ensures { IsFirstFrom PLACES (row_word PLACES self.now.low self.now.high fl) start result }
@@ -102,7 +102,7 @@ impl<const ROWS: usize, const PLACES: usize> Rows<ROWS, PLACES> {
         }
     }
 
-    /// The least place of a row behind `place` that has a one, or the number of scanned places where none has.
+    /// Returns the least set place of a row behind `place`, or the number of scanned places if there is none.
     pub(crate) fn first_behind(&self, fl: usize, place: usize) -> usize
         requires { (fl < ROWS) × (place < PLACES) × (PLACES ≤ 128) }
         ensures { IsFirstOne (scanned_places PLACES) (row_word PLACES self.now.low self.now.high fl) (place + 1) result }
@@ -115,7 +115,7 @@ impl<const ROWS: usize, const PLACES: usize> Rows<ROWS, PLACES> {
         }
     }
 
-    /// The least place of a row that has a one, or the number of scanned places where none has.
+    /// Returns the least set place of a row, or the number of scanned places if there is none.
     pub(crate) fn first(&self, fl: usize) -> usize
         requires { fl < ROWS }
         ensures { IsFirstOne (scanned_places PLACES) (row_word PLACES self.now.low self.now.high fl) 0 result }
@@ -127,7 +127,7 @@ impl<const ROWS: usize, const PLACES: usize> Rows<ROWS, PLACES> {
         }
     }
 
-    /// The bitmap of a row: a place's position has a one exactly where the place has.
+    /// Returns the bitmap of a row: a position has a one exactly if that place is set.
     pub(crate) fn bitmap<B: Bitmap>(&self, fl: usize) -> B
         requires { (fl < ROWS) × (PLACES ≤ B.width) }
         ensures within { (place : ℕ) → place < PLACES → bit (B.pattern result) place ≡ bit (row_word PLACES self.now.low self.now.high fl) place }

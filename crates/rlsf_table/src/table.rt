@@ -16,7 +16,7 @@ use rlsf_base::memory::OpenMemory;
 use rlsf_int::Bitmap;
 use std::marker::Model;
 
-/// Where a class stands in a table: its row, below `FLLEN`, and its place in the row, below `SLLEN`.
+/// The indices of a class in a table: its row, below `FLLEN`, and its place in the row, below `SLLEN`.
 #[derive(Clone, Copy)]
 pub struct ClassIndex {
     /// The row.
@@ -25,17 +25,17 @@ pub struct ClassIndex {
     pub sl: usize,
 }
 
-/// Which classes have free blocks, and where the list of each begins.
+/// The classes that have free blocks, and the head of each class.
 ///
-/// A class is named by its row, below `FLLEN`, and its place in the row, below `SLLEN`; a block by its address, and 0 means none.
-/// The parameters are valid: from 1 to 128 rows, of a power of two of classes that is at most 128.
-/// Each read or write of a word of the table counts as a touch of the memory that it is handed; `newest`, `fl_bitmap` and
-/// `sl_bitmap`, which are handed none, count nothing.
+/// A class is named by its row, below `FLLEN`, and its place in the row, below `SLLEN`. A block is named by its address; 0 means none.
+/// The parameters must be valid: from 1 to 128 rows, with a power of two of classes that is at most 128.
+/// Each read or write of a word of the table counts as a touch of the memory that is passed. `newest`, `fl_bitmap` and
+/// `sl_bitmap` take no memory and count nothing.
 #[derive(Drop)]
 pub struct ClassTable<const FLLEN: usize, const SLLEN: usize> {
-    // Which rows have a free block, as the places of one row.
+    // The rows that have a free block, as the places of one row.
     first_level: Rows<1, FLLEN>,
-    // The classes of each row that have one.
+    // The classes of each row that have a free block.
     rows: Rows<FLLEN, SLLEN>,
     // The newest free block of each class, or 0.
     heads: [[usize; SLLEN]; FLLEN],
@@ -54,7 +54,7 @@ impl<const FLLEN: usize, const SLLEN: usize> Model for ClassTable<FLLEN, SLLEN> 
 }
 
 impl<const FLLEN: usize, const SLLEN: usize> ClassTable<FLLEN, SLLEN> {
-    /// A table of no blocks, of any memory.
+    /// Returns a table without blocks, for any memory.
     pub fn new() -> Self
         ensures { (m : Space) → HasTable FLLEN SLLEN m result [] }
     {
@@ -65,7 +65,7 @@ impl<const FLLEN: usize, const SLLEN: usize> ClassTable<FLLEN, SLLEN> {
         }
     }
 
-    /// The address of the newest free block of a class, or 0 if none is free. Not counted.
+    /// Returns the address of the newest free block of a class, or 0 if none is free. Not counted.
     ///
     /// The row is below `FLLEN`, and the place below `SLLEN`.
     pub fn newest(&self, fl: usize, sl: usize) -> usize
@@ -76,7 +76,7 @@ impl<const FLLEN: usize, const SLLEN: usize> ClassTable<FLLEN, SLLEN> {
         row[sl]
     }
 
-    /// The first-level bitmap: a row's position has a one exactly where a block of the row is free. Not counted.
+    /// Returns the first-level bitmap: the position of a row has a one exactly if a block of the row is free. Not counted.
     ///
     /// It has a position for each row.
     pub fn fl_bitmap<FLBitmap: Bitmap>(&self) -> FLBitmap
@@ -87,7 +87,7 @@ impl<const FLLEN: usize, const SLLEN: usize> ClassTable<FLLEN, SLLEN> {
         self.first_level.bitmap(0)
     }
 
-    /// The second-level bitmap of a row: a place's position has a one exactly where a block of that class is free. Not counted.
+    /// Returns the second-level bitmap of a row: a position has a one exactly if a block of that class is free. Not counted.
     ///
     /// The row is below `FLLEN`. The bitmap has a position for each place.
     pub fn sl_bitmap<SLBitmap: Bitmap>(&self, fl: usize) -> SLBitmap
@@ -99,7 +99,7 @@ impl<const FLLEN: usize, const SLLEN: usize> ClassTable<FLLEN, SLLEN> {
         self.rows.bitmap(fl)
     }
 
-    /// The address of the newest free block of a class, or 0 if none is free. At most one touch.
+    /// Returns the address of the newest free block of a class, or 0 if none is free. At most one touch.
     ///
     /// The row is below `FLLEN`, and the place below `SLLEN`.
     pub fn head(&self, memory: &mut OpenMemory, fl: usize, sl: usize) -> usize
@@ -131,8 +131,8 @@ impl<const FLLEN: usize, const SLLEN: usize> ClassTable<FLLEN, SLLEN> {
         self.first_level.insert(0, fl);
     }
 
-    /// Makes the block at the address `next` the newest one of a class whose newest one was taken out; 0 if no block of the class
-    /// is left. At most one touch, and at most six where none is left.
+    /// Makes the block at the address `next` the newest one of a class whose newest one was removed. If no block of the class is left,
+    /// `next` is 0. At most one touch, and at most six if none is left.
     ///
     /// The row is below `FLLEN`, and the place below `SLLEN`.
     pub fn take(&mut self, memory: &mut OpenMemory, fl: usize, sl: usize, next: usize)
@@ -157,7 +157,7 @@ impl<const FLLEN: usize, const SLLEN: usize> ClassTable<FLLEN, SLLEN> {
         }
     }
 
-    /// The first class from a row and place on that has a free block; `None` exactly if none has. At most three touches.
+    /// Returns the first class from a row and place on that has a free block, or `None` exactly if none has. At most three touches.
     ///
     /// The row is below `FLLEN`, and the place below `SLLEN`.
     pub fn first_from(&self, memory: &mut OpenMemory, fl: usize, sl: usize) -> Option<ClassIndex>

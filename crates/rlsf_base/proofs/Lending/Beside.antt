@@ -44,7 +44,9 @@ module _ (m n : Space) (r : Range) (inside : m.start ≤ r.start) (start : n.sta
 -- a range leaves, or comes back without values
 module _ (t : Kept) (m n : Space) (r : Range) (inside : m.start ≤ r.start) (start : n.start ≡ m.start) (out : n.out ≡ change t (r.start - m.start) r.len ∷ m.out) where
   pub changed-own : is_own t ≡ true → IsOwned n r
-  changed-own own a lo hi = ap is_own ((λ i. kept_at (out i) (a - start i)) ∙ changed-there t m.out (r.start - m.start) r.len (a - m.start) (omega (arith, inside, lo)) (omega (arith, inside, lo, hi))) ∙ own
+  changed-own own a lo hi =
+      ap is_own ((λ i. kept_at (out i) (a - start i))
+      ∙ changed-there t m.out (r.start - m.start) r.len (a - m.start) (omega (arith, inside, lo)) (omega (arith, inside, lo, hi))) ∙ own
 
   pub changed-stays : StaysHereBeside m n r
   changed-stays a from side was = (λ i. kept_at (out i) (a - start i)) ∙ elim side [

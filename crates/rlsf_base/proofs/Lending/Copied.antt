@@ -12,7 +12,8 @@ use Rattle.rlsf_base.proofs.Lending.WordIsHere.{word_at-kept}
 use Rattle.rlsf_base.proofs.Lending.Replaced.{length-with, bytes_in-with, bytes_in-there}
 use Rattle.rlsf_base.proofs.Lending.Whole.{none-with}
 
-module _ (m n : Space) (from : Range) (to : ℕ) (placed : LiesIn from m.start (length m.bytes)) (room-there : (m.start ≤ to) × (to + from.len ≤ m.start + length m.bytes)) (start : n.start ≡ m.start)
+module _ (m n : Space) (from : Range) (to : ℕ) (placed : LiesIn from m.start (length m.bytes)) (room-there : (m.start ≤ to) × (to + from.len ≤ m.start + length m.bytes))
+    (start : n.start ≡ m.start)
     (bytes : n.bytes ≡ with_bytes m to (bytes_in m from)) (out : n.out ≡ out_with m (range_at to from.len)) where
   abbrev there : Range
   there = range_at to from.len
@@ -31,7 +32,8 @@ module _ (m n : Space) (from : Range) (to : ℕ) (placed : LiesIn from m.start (
 
   -- each byte of the copy is here, and what any other is stays
   pub out_at-there : (k : ℕ) → to ≤ k → k < to + from.len → out_at n k ≡ here
-  out_at-there k lo hi = (λ i. kept_at (out i) (k - start i)) ∙ back-there m.out (to - m.start) from.len (k - m.start) (omega (arith, room-there)) (omega (arith, room-there, hi))
+  out_at-there k lo hi =
+      (λ i. kept_at (out i) (k - start i)) ∙ back-there m.out (to - m.start) from.len (k - m.start) (omega (arith, room-there)) (omega (arith, room-there, hi))
 
   pub out_at-copied : (k : ℕ) → m.start ≤ k → (k < to) ⊎ (to + from.len ≤ k) → out_at n k ≡ out_at m k
   out_at-copied k inside side = (λ i. kept_at (out i) (k - start i)) ∙ elim side [

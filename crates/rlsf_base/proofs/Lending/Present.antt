@@ -15,7 +15,8 @@ here-in out m r i same inside place here k lo hi =
 pub own-in : (out : List Change) (m : Space) (r : Range) (i : ℕ) → out ≡ m.out → m.start ≤ r.start → i ≡ r.start - m.start → IsOwned m r → IsOwn out i r.len
 own-in out m r i same inside place own k lo hi =
     let a = k + m.start in let back : k ≡ a - m.start = omega arith in
-    ap (λ (u : List Change). is_own (kept_at u k)) same ∙ ap (λ (j : ℕ). is_own (kept_at m.out j)) back ∙ own a (omega (arith, place, lo)) (omega (arith, place, hi, inside))
+    ap (λ (u : List Change). is_own (kept_at u k)) same ∙ ap (λ (j : ℕ). is_own (kept_at m.out j)) back
+    ∙ own a (omega (arith, place, lo)) (omega (arith, place, hi, inside))
 
 -- a range is here in a memory in which as much is out
 pub here-same : (m n : Space) (r : Range) → n.start ≡ m.start → n.out ≡ m.out → IsHere m r → IsHere n r

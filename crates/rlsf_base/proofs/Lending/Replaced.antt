@@ -1,5 +1,6 @@
--- Bytes that stand in the place of others: they are there, and every other word and byte is as it was.
-use Rattle.std.proofs.Common.{◌≡◌, ℕ, ◌+◌, ◌-◌, ◌≤◌, ◌⊎◌, List, length, take, drop, slice_index, arith, inl, inr, sym, ap, ◌∙◌, get_or-take, get_or-drop}
+-- Bytes in the place of others: they are there, and every other word and byte is as it was.
+use Rattle.std.proofs.Common.{◌≡◌, ℕ, ◌+◌, ◌-◌, ◌≤◌, ◌⊎◌, List, length, take, drop, slice_index, arith, inl, inr, sym, ap, ◌∙◌, get_or-take}
+use Rattle.std.proofs.Common.{get_or-drop}
 use Rattle.std.specs.List.{splice}
 use Rattle.rlsf_base.specs.declared.memory.range.Range.{Range}
 use Rattle.rlsf_base.specs.Range.{end_of, LiesIn}
@@ -8,7 +9,7 @@ use Rattle.rlsf_base.proofs.Lending.WordIsHere.{word_at-kept}
 use Rattle.rlsf_base.proofs.Lending.Present.{out-same}
 use Rattle.rlsf_base.proofs.Words.Splices.{length-splice, splice-inside, splice-before, splice-after}
 
--- the bytes ys stand in the place of those of the range p
+-- the bytes ys are in the place of those of the range p
 module _ (m n : Space) (p : Range) (ys : List ℕ) (placed : LiesIn p m.start (length m.bytes)) (full : length ys ≡ p.len) (start : n.start ≡ m.start)
     (bytes : n.bytes ≡ splice m.bytes (p.start - m.start) (p.start - m.start + p.len) ys) where
   room : p.start - m.start + p.len ≤ length m.bytes

@@ -1,5 +1,6 @@
 -- The laws of logarithms and powers of two.
-use Rattle.std.proofs.Common.{◌≡◌, ℕ, zero, suc, ◌+◌, ◌-◌, ◌*◌, ◌/◌, ◌^◌, ◌<◌, ◌≤◌, ◌↔◌, IsTrue, arith, eq-eqb, inl, inr, sym, ◌∙◌, ap}
+use Rattle.std.proofs.Common.{◌≡◌, ℕ, zero, suc, ◌+◌, ◌-◌, ◌*◌, ◌/◌, ◌^◌, ◌<◌, ◌≤◌, ◌↔◌, IsTrue, arith, eq-eqb, inl, inr, sym}
+use Rattle.std.proofs.Common.{◌∙◌, ap}
 use Rattle.std.proofs.lemmas.Nat.{ones_cat, ones_le_self, pow_below, pow_pos, zero_from_ones}
 use Rattle.std.proofs.lemmas.Bool.{cases_lt, eqb-true}
 use Rattle.std.proofs.Math.Nat.{pow-suc}
@@ -83,7 +84,7 @@ count_ones-one (suc n) =
       (λ power. let none : suc n - 2 ^ floor_log2 (suc n) ≡ 0 = omega arith in split ∙ ap (λ r. 1 + count_ones r) none ∙ ap (λ r. 1 + r) (ones-ones 0)),
     )
 
--- what `is_power_of_two` of an unsigned type answers
+-- what `is_power_of_two` of an unsigned type returns
 pub is_power_of_two-iff : (n : ℕ) → IsTrue (is_power_of_two n) ↔ IsPowerOfTwo n
 is_power_of_two-iff n =
     ((λ one. (count_ones-one n).0 (eqb-true _ _ one)), (λ power. eq-eqb _ _ ((count_ones-one n).1 power)))

@@ -37,13 +37,25 @@ module _ (xs ys : List ℕ) (at by len : ℕ) (less : by ≤ len) (room : at + b
       let whole : length (take len run) ≡ len = length-take-le len run (omega (arith, room, length-drop at xs)) in
       let front : take at ys ≡ take at xs = ap (take at) first ∙ splice-before xs part (at + len) by fits full 0 at (omega arith) in
       let before : take len (drop at ys) ≡ take len run = ap (λ l. take len (drop at l)) first ∙ splice-before xs part (at + len) by fits full at len (omega arith) in
-      let behind : drop (at + len) ys ≡ part ++ drop (at + len + by) xs = ap (drop (at + len)) first ∙ drop_at (take (at + len) xs) (part ++ drop (at + len + by) xs) (at + len) (length-take-le (at + len) xs (omega (arith, room))) in
+      let behind : drop (at + len) ys ≡ part ++ drop (at + len + by) xs =
+      ap (drop (at + len)) first ∙ drop_at (take (at + len) xs) (part ++ drop (at + len + by) xs) (at + len) (length-take-le (at + len) xs (omega (arith, room))) in
       let less' : len - by ≤ len = omega arith in
       let moved : copy_within (take len (drop at ys)) 0 (len - by) by ≡ take by run ++ take (len - by) run =
-      ap (λ l. copy_within l 0 (len - by) by) before ∙ up-within (take len run) by len less whole ∙ (λ i. take-take by len run less i ++ take-take (len - by) len run less' i) in
-      let last : part ≡ take by (drop (len - by) run) = let e : at + len - by ≡ at + (len - by) = omega (arith, less) in ap (λ k. take by (drop k xs)) e ∙ ap (take by) (sym (drop-drop (len - by) at xs)) in
+      ap (λ l. copy_within l 0 (len - by) by) before ∙ up-within (take len run) by len less whole
+      ∙ (λ i. take-take by len run less i ++ take-take (len - by) len run less' i) in
+      let last : part ≡ take by (drop (len - by) run) = let e : at + len - by ≡ at + (len - by) = omega (arith, less) in
+      ap (λ k. take by (drop k xs)) e ∙ ap (take by) (sym (drop-drop (len - by) at xs)) in
       let long : length (copy_within (take len (drop at ys)) 0 (len - by) by) ≡ len =
-      omega (arith, less, less', room, ap length moved, length-append (take by run) (take (len - by) run), length-take-le by run (omega (arith, room, less, length-drop at xs)), length-take-le (len - by) run (omega (arith, room, less, length-drop at xs))) in
+      omega (
+        arith,
+        less,
+        less',
+        room,
+        ap length moved,
+        length-append (take by run) (take (len - by) run),
+        length-take-le by run (omega (arith, room, less, length-drop at xs)),
+        length-take-le (len - by) run (omega (arith, room, less, length-drop at xs)),
+      ) in
       let end : at + len + by ≡ at + by + len = omega arith in
       filled ys at len (copy_within (take len (drop at ys)) 0 (len - by) by) long
       ∙ (λ i. front i ++ (moved i ++ behind i))
@@ -65,12 +77,23 @@ module _ (xs ys : List ℕ) (at by len : ℕ) (less : by ≤ len) (room : at + b
       let after : drop (at + by) ys ≡ run = ap (drop (at + by)) first ∙ splice-after xs part at by fits full (at + by) (omega arith) in
       let behind : drop (at + by + len) ys ≡ drop (at + by + len) xs = ap (drop (at + by + len)) first ∙ splice-after xs part at by fits full (at + by + len) (omega arith) in
       let less' : len - by ≤ len = omega arith in
-      let inner : drop by (take len run) ≡ take (len - by) (drop by run) = let e : len ≡ by + (len - by) = omega (arith, less) in ap (λ k. drop by (take k run)) e ∙ drop-take by (len - by) run in
+      let inner : drop by (take len run) ≡ take (len - by) (drop by run) = let e : len ≡ by + (len - by) = omega (arith, less) in
+      ap (λ k. drop by (take k run)) e ∙ drop-take by (len - by) run in
       let moved : copy_within (take len (drop (at + by) ys)) by len 0 ≡ take (len - by) (drop by run) ++ drop (len - by) (take len run) =
       ap (λ l. copy_within (take len l) by len 0) after ∙ down-within (take len run) by len less whole
       ∙ ap (λ l. l ++ drop (len - by) (take len run)) (ap (take (len - by)) inner ∙ take-take (len - by) (len - by) (drop by run) (omega arith)) in
       let long : length (copy_within (take len (drop (at + by) ys)) by len 0) ≡ len =
-      omega (arith, less, room, many, whole, ap length moved, length-append (take (len - by) (drop by run)) (drop (len - by) (take len run)), length-drop (len - by) (take len run), length-take-le (len - by) (drop by run) (omega (arith, room, less, many, length-drop by run))) in
+      omega (
+        arith,
+        less,
+        room,
+        many,
+        whole,
+        ap length moved,
+        length-append (take (len - by) (drop by run)) (drop (len - by) (take len run)),
+        length-drop (len - by) (take len run),
+        length-take-le (len - by) (drop by run) (omega (arith, room, less, many, length-drop by run)),
+      ) in
       let rest : drop (at + len) xs ≡ drop (len - by) (take len run) ++ drop (at + by + len) xs =
       let e : at + len ≡ at + by + (len - by) = omega (arith, less) in
       ap (λ k. drop k xs) e ∙ sym (drop-drop (len - by) (at + by) xs) ∙ ap (drop (len - by)) (sym (take-append-drop len run))

@@ -77,7 +77,8 @@ Units-send =
     owning_send O all (λ d. units-Keyless d.at d.first d.count) (λ k. quiet (to O) (exits_of k (fields O)) ((struct_send (shape O) all).leaving k))
 
 pub Bytes-sync : IsSync Bytes.the_row
-Bytes-sync = let O = Bytes.the_type in record { shared = λ d b o κ. ((struct_sync (shape O) (search sendable, tt)).shared (to O d) b o κ, bytes_lent-Common d.at d.skip d.bytes d.out κ) }
+Bytes-sync = let O = Bytes.the_type in
+    record { shared = λ d b o κ. ((struct_sync (shape O) (search sendable, tt)).shared (to O d) b o κ, bytes_lent-Common d.at d.skip d.bytes d.out κ) }
 
 module _ (A : RattleType) (g : Ghosts A.Denot) where
   deed-Keyless : FreesAnywhere A.Denot g → (a : A.Denot) (p : Ptr) (units skip len : ℕ) → Keyless (deed_owns (g.dealloc_token a) p units skip len)
@@ -116,4 +117,5 @@ Ledger-send =
 pub Ticket-send : IsSend Ticket.the_row
 Ticket-send =
     let O = Ticket.the_type in let all : AllSend (fields O) = (search sendable, tt) in
-    owning_send O all (λ d. entry_keyless entry_shares d.name d.key (three_quarters, extent d.addr d.len d.align)) (λ k. quiet (to O) (exits_of k (fields O)) ((struct_send (shape O) all).leaving k))
+    owning_send O all (λ d. entry_keyless entry_shares d.name d.key (three_quarters, extent d.addr d.len d.align))
+    (λ k. quiet (to O) (exits_of k (fields O)) ((struct_send (shape O) all).leaving k))

@@ -19,7 +19,8 @@ all_own cs i n was k = elim (cases_lt k i) [
 pub none_own : IsAllOwn []
 none_own k = ap is_own (none-out k)
 
-pub filled : (old : List ℕ) (i value : ℕ) → i < length old → splice (replicate i value ++ drop i old) i (i + 1) (value ∷ []) ≡ replicate (i + 1) value ++ drop (i + 1) old
+pub filled : (old : List ℕ) (i value : ℕ) → i < length old
+    → splice (replicate i value ++ drop i old) i (i + 1) (value ∷ []) ≡ replicate (i + 1) value ++ drop (i + 1) old
 filled old i value in_row = grind (arith, common_steps)
 
 pub grows : (cs : List Change) (i : ℕ) → IsIn cs 0 i → IsIn (came_back i 1 cs) 0 (i + 1)
@@ -37,5 +38,6 @@ own-written cs i n j m was k lo hi = elim (cases_lt k i) [
   ]
 ]
 
-pub one_more : (old new : List ℕ) (i : ℕ) → i < length new → length old ≡ length new → splice (take i new ++ drop i old) i (i + 1) (slice_index new i ∷ []) ≡ take (i + 1) new ++ drop (i + 1) old
+pub one_more : (old new : List ℕ) (i : ℕ) → i < length new → length old ≡ length new
+    → splice (take i new ++ drop i old) i (i + 1) (slice_index new i ∷ []) ≡ take (i + 1) new ++ drop (i + 1) old
 one_more old new i in_row long = grind (arith, common_steps)

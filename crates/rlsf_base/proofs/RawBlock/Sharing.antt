@@ -51,7 +51,8 @@ module _ {M : Type 1} {𝓤 : Ura M} (𝓛 : Logic 𝓤) (l : Lft) (inc : Incl l
   -- the ways show nothing
   pub Lends-bytes : (p : Ptr) (skip : ℕ) (bs : List ℕ) (cs : List Change) (units : ℕ) → Lends 𝓛 (bytes_own p skip bs cs units) (bytes_lent p skip bs cs) l
   Lends-bytes (block_ptr b o) skip bs cs units =
-      let small : Fml = flt (length bs) (2 ^ 63) in let bytes : Fml = held (kept_at cs) 0 bs b (skip + o) in let the_ways : Fml = ways_of (own_unit cs skip (length bs)) 0 units b o in
+      let small : Fml = flt (length bs) (2 ^ 63) in let bytes : Fml = held (kept_at cs) 0 bs b (skip + o) in let the_ways : Fml =
+      ways_of (own_unit cs skip (length bs)) 0 units b o in
       Lends-both 𝓛 small (fsep bytes the_ways) (said small) (shown (kept_at cs) 0 bs b (skip + o)) l (Lends-said 𝓛 small tt l)
       (Lends-first 𝓛 bytes the_ways (shown (kept_at cs) 0 bs b (skip + o)) l (Lends-held (kept_at cs) 0 b (skip + o) bs))
   Lends-bytes null_ptr skip bs cs units = Lends-false 𝓛 (said ffalse) l

@@ -1,4 +1,4 @@
--- A pointer and a length as machine values: what is owned tells them, and is made of nothing. And room at a pointer as units of its block. Assumes `Logic`.
+-- A pointer and a length as machine values: what is owned determines them, and is made of nothing. And room at a pointer as units of its block. Assumes `Logic`.
 use Rattle.std.proofs.Common.{◌≡◌, ℕ, ◌+◌, ◌*◌, ◌^◌, ◌<◌, List, [], ◌∷◌, ◌++◌, refl, subst, ◌∙◌, arith, lit<, w64}
 use seplogic.Ra.Ura.{Ura}
 use mir.Syntax.{ty_int, ty_ptr, ty_struct, tcons, tnil}
@@ -29,7 +29,8 @@ pub spot_told : (p : Ptr) (n : ℕ) (vs : List Val) → shadow (spot_own p n vs)
 spot_told p n vs s = (s.1.0 ∙ (λ i. vstruct (of_list (s.1.1.0 i ++ (s.1.1.1.0.0 i ++ []))) ∷ []), s.1.1.1.0.1)
 
 pub spot_made : {M : Type 1} {𝓤 : Ura M} (𝓛 : Logic 𝓤) (p : Ptr) (n : ℕ) → (n < 2 ^ 64) → ent 𝓤 (emp 𝓤) (sem 𝓛 (spot_own p n (spot_val p n ∷ [])))
-spot_made 𝓛 p n f = makes_shadow 𝓛 (spot_own p n (spot_val p n ∷ [])) (λ _. (tt, (tt, ((tt, tt), tt)))) ((ptr_val p ∷ [], (vint w64 n ∷ [], tt)), (refl, (refl, ((refl, f), tt))))
+spot_made 𝓛 p n f =
+    makes_shadow 𝓛 (spot_own p n (spot_val p n ∷ [])) (λ _. (tt, (tt, ((tt, tt), tt)))) ((ptr_val p ∷ [], (vint w64 n ∷ [], tt)), (refl, (refl, ((refl, f), tt))))
 
 pub spot_typed : (p : Ptr) (n : ℕ) → (n < 2 ^ 64) → Good (ty_struct [] (tcons ty_ptr (tcons (ty_int w64) tnil))) (spot_val p n)
 spot_typed (block_ptr b o) n f = (tt, (tt, (record { fits = f }, tt)))
@@ -40,13 +41,17 @@ ptr_typed (block_ptr b o) = (tt, tt)
 ptr_typed null_ptr = (tt, record { fits = lit< tt })
 
 -- room at a place of a block is that of the units there
-pub units_at : {M : Type 1} {𝓤 : Ura M} (𝓛 : Logic 𝓤) (at : Ptr) (first count k : ℕ) → first * 16 ≡ k → ent 𝓤 (sem 𝓛 (room_for (units_ty count) (at +ₚ k))) (sem 𝓛 (units_own at first count))
+pub units_at : {M : Type 1} {𝓤 : Ura M} (𝓛 : Logic 𝓤) (at : Ptr) (first count k : ℕ) → first * 16 ≡ k
+    → ent 𝓤 (sem 𝓛 (room_for (units_ty count) (at +ₚ k))) (sem 𝓛 (units_own at first count))
 units_at {𝓤 = 𝓤} 𝓛 (block_ptr b o) first count k e =
-    let same : o + k ≡ first * 16 + o = omega (arith, e) in subst (λ (n : ℕ). ent 𝓤 (sem 𝓛 (froom (units_ty count) b (o + k))) (sem 𝓛 (froom (units_ty count) b n))) same (id⊢ 𝓤 _)
+    let same : o + k ≡ first * 16 + o = omega (arith, e) in
+    subst (λ (n : ℕ). ent 𝓤 (sem 𝓛 (froom (units_ty count) b (o + k))) (sem 𝓛 (froom (units_ty count) b n))) same (id⊢ 𝓤 _)
 units_at {𝓤 = 𝓤} 𝓛 null_ptr first count k e = id⊢ 𝓤 _
 
 -- a tuple of a pointer with a length and two owners that take no bytes
-pub three_typed : (p : Ptr) (n : ℕ) → (n < 2 ^ 64) → Good (ty_struct [] (tcons (ty_struct [] (tcons ty_ptr (tcons (ty_int w64) tnil))) (tcons (ty_struct [] (tcons (ty_struct [] tnil) tnil)) (tcons (ty_struct [] (tcons (ty_struct [] tnil) tnil)) tnil)))) (three_val (spot_val p n) mark_val mark_val)
+pub three_typed : (p : Ptr) (n : ℕ) → (n < 2 ^ 64)
+    → Good (ty_struct [] (tcons (ty_struct [] (tcons ty_ptr (tcons (ty_int w64) tnil)))
+    (tcons (ty_struct [] (tcons (ty_struct [] tnil) tnil)) (tcons (ty_struct [] (tcons (ty_struct [] tnil) tnil)) tnil)))) (three_val (spot_val p n) mark_val mark_val)
 three_typed (block_ptr b o) n f = (tt, ((tt, (record { fits = f }, tt)), ((tt, tt), ((tt, tt), tt))))
 three_typed null_ptr n f = (tt, ((record { fits = lit< tt }, (record { fits = f }, tt)), ((tt, tt), ((tt, tt), tt))))
 

@@ -1,8 +1,10 @@
--- The units of 16 bytes of a block: the ways of those whose first byte is the owner's go with the bytes that leave, and come back with them. Assumes `Logic`.
+-- The units of 16 bytes of a block. A unit has a way if its first byte is the owner's. Ways leave with the bytes, and come back
+-- with them. Assumes `Logic`.
 --     ways-same             the same units have theirs
 --     ways_part, ways_join  the ways of some units are parted from the others', and joined
 --     parted                which they are, when a run of bytes leaves or comes back
-use Rattle.std.proofs.Common.{◌≡◌, ℕ, zero, suc, ◌+◌, ◌-◌, ◌*◌, ◌<◌, ◌≤◌, ◌⊎◌, Bool, true, false, List, [], ◌∷◌, refl, sym, ap, subst, ◌∙◌, arith, inl, inr}
+use Rattle.std.proofs.Common.{◌≡◌, ℕ, zero, suc, ◌+◌, ◌-◌, ◌*◌, ◌<◌, ◌≤◌, ◌⊎◌, Bool, true, false, List, [], ◌∷◌, refl, sym, ap, subst}
+use Rattle.std.proofs.Common.{◌∙◌, arith, inl, inr}
 use Rattle.std.specs.Prelude.{◌%◌, ◌&&◌, eqb, if◌then◌else◌}
 use seplogic.Ra.Ura.{Ura}
 use base.Logic.{ent, sep, emp, id⊢}
@@ -17,7 +19,8 @@ use Rattle.rlsf_base.specs.Out.{Change, raw, out, is_own, kept_at}
 use Rattle.rlsf_base.specs.Changes.{IsOut, IsOwn, left, came_back, came_raw}
 use Rattle.rlsf_base.specs.Steps.Ownership.{units_for, units_in, units_from, way_if, ways_of, begins_in, own_unit}
 use Rattle.rlsf_base.proofs.RawBlock.Ways.{ways}
-use Rattle.rlsf_base.proofs.Changes.{and-false, in_run-yes, in_run-before, in_run-behind, changed-there, changed-before, changed-behind, back-there, back-before, back-behind, none-out}
+use Rattle.rlsf_base.proofs.Changes.{and-false, in_run-yes, in_run-before, in_run-behind, changed-there, changed-before, changed-behind, back-there, back-before, back-behind}
+use Rattle.rlsf_base.proofs.Changes.{none-out}
 
 -- where a block is aligned to 16, these are all of its units
 pub units_in-aligned : (shift skip len : ℕ) → shift % 16 ≡ 0 → units_in shift skip len ≡ units_for skip len
@@ -32,7 +35,7 @@ not-zero (suc n) p = eqb-suc-zero n
 pub units_in-elsewhere : (shift skip len : ℕ) → 0 < shift % 16 → units_in shift skip len ≡ 0
 units_in-elsewhere shift skip len p = ap (λ t. if t then units_for skip len else 0) (not-zero (shift % 16) p)
 
--- where the first byte is the block's first, its address tells them
+-- where the first byte is the block's first, its address determines them
 pub units_in-first : (shift start len : ℕ) → (shift + start) % 16 ≡ 0 → units_in shift 0 len ≡ units_from start len
 units_in-first shift start len e = elim (cases_lt 0 (start % 16)) [
   | inl off ↦ units_in-elsewhere shift 0 len (omega (arith, off, e)) ∙ sym (units_in-elsewhere start 0 len off)
@@ -48,8 +51,10 @@ Shares whole rest part = ((rest ≡ false) × (part ≡ whole)) ⊎ ((rest ≡ w
 no-and : (t u : Bool) → t ≡ false → (t && u) ≡ false
 no-and t u e = ap (λ s. s && u) e
 
--- it is told by what its first byte is
-pub unit-same : (cs ds : List Change) (skip len u : ℕ) → (skip ≤ u * 16 → u * 16 < skip + len → is_own (kept_at cs (u * 16 - skip)) ≡ is_own (kept_at ds (u * 16 - skip))) → own_unit cs skip len u ≡ own_unit ds skip len u
+-- its first byte determines it
+pub unit-same : (cs ds : List Change) (skip len u : ℕ)
+    → (skip ≤ u * 16 → u * 16 < skip + len → is_own (kept_at cs (u * 16 - skip)) ≡ is_own (kept_at ds (u * 16 - skip)))
+    → own_unit cs skip len u ≡ own_unit ds skip len u
 unit-same cs ds skip len u same = elim (cases_lt (u * 16) skip) [
   | inl before ↦ no-and _ _ (in_run-before skip len (u * 16) before) ∙ sym (no-and _ _ (in_run-before skip len (u * 16) before))
   | inr behind ↦ elim (cases_lt (u * 16) (skip + len)) [
@@ -88,7 +93,7 @@ unit-written cs skip len i n u own = unit-same cs (came_back i n cs) skip len u 
   ]
 ])
 
--- of the changes cs by which a run of n from the place p on is the owner's, ds by which it isn't, and ps, the changes of the run alone
+-- the changes cs by which a run of n from the place p on is the owner's; ds by which it isn't; and ps, those of the run alone
 pub parted : (cs ds ps : List Change) (skip len p n u : ℕ) → skip ≤ p → p + n ≤ skip + len → IsOwn cs (p - skip) n → IsOut ds (p - skip) n
     → ((k : ℕ) → (k < p - skip) ⊎ (p - skip + n ≤ k) → is_own (kept_at ds k) ≡ is_own (kept_at cs k)) → IsOwn ps 0 n
     → Shares (own_unit cs skip len u) (own_unit ds skip len u) (own_unit ps p n u)
@@ -104,7 +109,7 @@ parted cs ds ps skip len p n u from to own gone same all = let k = u * 16 - skip
   ]
 ]
 
--- what is told of bytes around a run that leaves, or comes back
+-- what holds of bytes around a run that leaves, or comes back
 pub around-left : (cs : List Change) (i n k : ℕ) → (k < i) ⊎ (i + n ≤ k) → is_own (kept_at (left i n cs) k) ≡ is_own (kept_at cs k)
 around-left cs i n k side = elim side [ inl before ↦ ap is_own (changed-before out cs i n k before) | inr past ↦ ap is_own (changed-behind out cs i n k past) ]
 
@@ -135,7 +140,8 @@ module _ {M : Type 1} {𝓤 : Ura M} (𝓛 : Logic 𝓤) (b : ℕ) where
   ways-same is is' u zero o h = refl
   ways-same is is' u (suc n) o h = λ i. fsep (way_if (h u i) b (u * 16 + o)) (ways-same is is' (suc u) n o h i)
 
-  way_part : (whole rest part : Bool) (o : ℕ) → Shares whole rest part → ent 𝓤 (sem 𝓛 (way_if whole b o)) (sep 𝓤 (sem 𝓛 (way_if part b o)) (sem 𝓛 (way_if rest b o)))
+  way_part : (whole rest part : Bool) (o : ℕ) → Shares whole rest part
+      → ent 𝓤 (sem 𝓛 (way_if whole b o)) (sep 𝓤 (sem 𝓛 (way_if part b o)) (sem 𝓛 (way_if rest b o)))
   way_part whole rest part o shares = elim shares [
     | inl e ↦ qed 𝓛 (‵ (way_if whole b o) ∷ []) ∵ rewrite ! 0 (λ (t : Bool). ‵ (way_if t b o)) (sym e.1) refl $ nothing ! $
         rewrite ! 0 (λ (t : Bool). ‵ (way_if t b o)) {x = rest} {y = false} (sym e.0) refl $ move ! (1 ∷ []) $ done !
@@ -143,21 +149,26 @@ module _ {M : Type 1} {𝓤 : Ura M} (𝓛 : Logic 𝓤) (b : ℕ) where
         rewrite ! 0 (λ (t : Bool). ‵ (way_if t b o)) {x = part} {y = false} (sym e.1) refl $ done !
   ]
 
-  way_join : (whole rest part : Bool) (o : ℕ) → Shares whole rest part → ent 𝓤 (sep 𝓤 (sem 𝓛 (way_if part b o)) (sem 𝓛 (way_if rest b o))) (sem 𝓛 (way_if whole b o))
+  way_join : (whole rest part : Bool) (o : ℕ) → Shares whole rest part
+      → ent 𝓤 (sep 𝓤 (sem 𝓛 (way_if part b o)) (sem 𝓛 (way_if rest b o))) (sem 𝓛 (way_if whole b o))
   way_join whole rest part o shares = elim shares [
-    | inl e ↦ qed 𝓛 (‵ (way_if part b o) ∷ ‵ (way_if rest b o) ∷ []) ∵ rewrite ! 0 (λ (t : Bool). ‵ (way_if t b o)) e.1 refl $ move ! (1 ∷ []) $ skip' ! $ done !
+    | inl e ↦ qed 𝓛 (‵ (way_if part b o) ∷ ‵ (way_if rest b o) ∷ []) ∵ rewrite ! 0 (λ (t : Bool). ‵ (way_if t b o)) e.1 refl $ move ! (1 ∷ []) $ skip' ! $
+        done !
     | inr e ↦ qed 𝓛 (‵ (way_if part b o) ∷ ‵ (way_if rest b o) ∷ []) ∵ skip' ! $ rewrite ! 0 (λ (t : Bool). ‵ (way_if t b o)) e.0 refl $ done !
   ]
 
-  pub ways_part : (whole rest part : ℕ → Bool) (u n o : ℕ) → ((v : ℕ) → Shares (whole v) (rest v) (part v)) → ent 𝓤 (sem 𝓛 (ways_of whole u n b o)) (sep 𝓤 (sem 𝓛 (ways_of part u n b o)) (sem 𝓛 (ways_of rest u n b o)))
+  pub ways_part : (whole rest part : ℕ → Bool) (u n o : ℕ) → ((v : ℕ) → Shares (whole v) (rest v) (part v))
+      → ent 𝓤 (sem 𝓛 (ways_of whole u n b o)) (sep 𝓤 (sem 𝓛 (ways_of part u n b o)) (sem 𝓛 (ways_of rest u n b o)))
   ways_part whole rest part u zero o h = qed 𝓛 (‵ (ways_of whole u zero b o) ∷ []) ∵ nothing ! $ done !
   ways_part whole rest part u (suc n) o h = let at = u * 16 + o in
-      qed 𝓛 (‵ (ways_of whole u (suc n) b o) ∷ []) ∵ fsplit ! $ use1 𝓛 (‵ (way_if (part u) b at) ⊛ ‵ (way_if (rest u) b at)) (way_part (whole u) (rest u) (part u) at (h u)) $ split ! $ move ! (2 ∷ []) $
+      qed 𝓛 (‵ (ways_of whole u (suc n) b o) ∷ []) ∵ fsplit ! $ use1 𝓛 (‵ (way_if (part u) b at) ⊛ ‵ (way_if (rest u) b at))
+      (way_part (whole u) (rest u) (part u) at (h u)) $ split ! $ move ! (2 ∷ []) $
       use1 𝓛 (‵ (ways_of part (suc u) n b o) ⊛ ‵ (ways_of rest (suc u) n b o)) (ways_part whole rest part (suc u) n o h) $ split ! $
       -- [the part's ways; the rest's; the part's way; the rest's]
       move ! (2 ∷ 0 ∷ []) $ fjoin ! $ move ! (2 ∷ 1 ∷ []) $ fjoin ! $ move ! (1 ∷ []) $ done !
 
-  pub ways_join : (whole rest part : ℕ → Bool) (u n o : ℕ) → ((v : ℕ) → Shares (whole v) (rest v) (part v)) → ent 𝓤 (sep 𝓤 (sem 𝓛 (ways_of part u n b o)) (sem 𝓛 (ways_of rest u n b o))) (sem 𝓛 (ways_of whole u n b o))
+  pub ways_join : (whole rest part : ℕ → Bool) (u n o : ℕ) → ((v : ℕ) → Shares (whole v) (rest v) (part v))
+      → ent 𝓤 (sep 𝓤 (sem 𝓛 (ways_of part u n b o)) (sem 𝓛 (ways_of rest u n b o))) (sem 𝓛 (ways_of whole u n b o))
   ways_join whole rest part u zero o h = qed 𝓛 (‵ (ways_of part u zero b o) ∷ ‵ (ways_of rest u zero b o) ∷ []) ∵ skip' ! $ done !
   ways_join whole rest part u (suc n) o h = let at = u * 16 + o in
       qed 𝓛 (‵ (ways_of part u (suc n) b o) ∷ ‵ (ways_of rest u (suc n) b o) ∷ []) ∵ fsplit ! $ move ! (2 ∷ []) $ fsplit ! $
@@ -168,7 +179,8 @@ module _ {M : Type 1} {𝓤 : Ura M} (𝓛 : Logic 𝓤) (b : ℕ) where
   -- ways that are all there
   pub ways_all : (is : ℕ → Bool) (u n o at : ℕ) → at ≡ u * 16 + o → ((v : ℕ) → u ≤ v → v < u + n → is v ≡ true) → ways_of is u n b o ≡ ways n b at
   ways_all is u zero o at e h = refl
-  ways_all is u (suc n) o at e h = λ i. fsep (way_if (h u (omega arith) (omega arith) i) b (sym e i)) (ways_all is (suc u) n o (at + 16) (omega (arith, e)) (λ v lo hi. h v (omega arith) (omega arith)) i)
+  ways_all is u (suc n) o at e h =
+      λ i. fsep (way_if (h u (omega arith) (omega arith) i) b (sym e i)) (ways_all is (suc u) n o (at + 16) (omega (arith, e)) (λ v lo hi. h v (omega arith) (omega arith)) i)
 
   -- ways of which none is there
   pub ways_none : (own : ℕ → Bool) (u n o : ℕ) → ((v : ℕ) → u ≤ v → v < u + n → own v ≡ false) → ent 𝓤 (emp 𝓤) (sem 𝓛 (ways_of own u n b o))
@@ -177,7 +189,9 @@ module _ {M : Type 1} {𝓤 : Ura M} (𝓛 : Logic 𝓤) (b : ℕ) where
       rewrite ! 0 (λ (t : Bool). ‵ (way_if t b (u * 16 + o))) {x = own u} {y = false} (sym (h u (omega arith) (omega arith))) refl $ fjoin ! $ done !
 
   -- the ways by the place of the first byte: the same where that is the block's first, and else none
-  pub ways_first : (cs : List Change) (skip len units o at : ℕ) → skip + o ≡ at → ent 𝓤 (sem 𝓛 (ways_of (own_unit cs skip len) 0 units b o)) (sem 𝓛 (ways_of (own_unit cs 0 len) 0 (if eqb skip 0 then units else 0) b at))
-  ways_first cs zero len units o at e = let same : o ≡ at = omega (arith, e) in subst (λ (k : ℕ). ent 𝓤 (sem 𝓛 (ways_of (own_unit cs 0 len) 0 units b o)) (sem 𝓛 (ways_of (own_unit cs 0 len) 0 units b k))) same (id⊢ 𝓤 _)
+  pub ways_first : (cs : List Change) (skip len units o at : ℕ) → skip + o ≡ at
+      → ent 𝓤 (sem 𝓛 (ways_of (own_unit cs skip len) 0 units b o)) (sem 𝓛 (ways_of (own_unit cs 0 len) 0 (if eqb skip 0 then units else 0) b at))
+  ways_first cs zero len units o at e = let same : o ≡ at = omega (arith, e) in
+      subst (λ (k : ℕ). ent 𝓤 (sem 𝓛 (ways_of (own_unit cs 0 len) 0 units b o)) (sem 𝓛 (ways_of (own_unit cs 0 len) 0 units b k))) same (id⊢ 𝓤 _)
   ways_first cs (suc skip) len units o at e = qed 𝓛 (‵ (ways_of (own_unit cs (suc skip) len) 0 units b o) ∷ []) ∵ skip' ! $ nothing ! $
       rewrite ! 0 (λ (t : Bool). ‵ (ways_of (own_unit cs 0 len) 0 (if t then units else 0) b at)) {x = eqb (suc skip) 0} {y = false} (sym (eqb-suc-zero skip)) refl $ done !

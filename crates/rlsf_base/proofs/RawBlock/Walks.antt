@@ -1,4 +1,4 @@
--- What the walks over a call of the allocator share.
+-- What the manual proofs about a call of the allocator share.
 use Rattle.std.proofs.Common.{ℕ, zero, suc, List, [], ◌∷◌, take, drop, take-append-drop, subst}
 use base.Logic.{ent, via, fst∗}
 use contract.Monad.{fact, fact_use}

@@ -30,11 +30,13 @@ module _ {M : Type 1} {𝓤 : Ura M} (𝓛 : Logic 𝓤) (b : ℕ) where
   opened (suc n) o =
       qed 𝓛 (raw (H.room (units_ty (suc n)) b o) ∷ []) ∵
       use1 𝓛 (raw (H.room (ty_int w128) b o) ⊛ raw (H.room (units_ty n) b (o + 16))) (𝓛.laws.room_uncons (ty_int w128) n b o) $ split ! $
-      use1 𝓛 (raw (Room 16 o) ⊛ ‵ (fwand (froom (bytes_ty 16) b o) (froom (ty_int w128) b o))) (𝓛.laws.room_as (ty_int w128) (bytes_ty 16) b o refl (dv_one 16)) $ split ! $ move ! (2 ∷ []) $
+      use1 𝓛 (raw (Room 16 o) ⊛ ‵ (fwand (froom (bytes_ty 16) b o) (froom (ty_int w128) b o))) (𝓛.laws.room_as (ty_int w128) (bytes_ty 16) b o refl (dv_one 16)) $ split !
+      $ move ! (2 ∷ []) $
       use1 𝓛 (raw (Room (n * 16) (o + 16)) ⊛ ‵ (ways n b (o + 16))) (opened n (o + 16)) $ split ! $ move ! (2 ∷ 0 ∷ []) $
       rewrite ! 1 (λ (k : ℕ). raw (Room (n * 16) k)) {x = past (ty_int w8) 16 o} {y = o + 16} (let e : o + 16 ≡ past (ty_int w8) 16 o = omega (arith, behind 16 o) in e) refl $
       use2 𝓛 (raw (Room (16 + n * 16) o)) (room_glue 𝓛 (ty_int w8) 16 (n * 16) b o) $
-      rewrite ! 0 (λ (k : ℕ). raw (Room k o)) {x = suc n * 16} {y = 16 + n * 16} (let e : 16 + n * 16 ≡ suc n * 16 = omega arith in e) refl $ move ! (2 ∷ 1 ∷ []) $ fjoin ! $ move ! (1 ∷ 0 ∷ []) $ done !
+      rewrite ! 0 (λ (k : ℕ). raw (Room k o)) {x = suc n * 16} {y = 16 + n * 16} (let e : 16 + n * 16 ≡ suc n * 16 = omega arith in e) refl $ move ! (2 ∷ 1 ∷ []) $ fjoin !
+      $ move ! (1 ∷ 0 ∷ []) $ done !
 
   pub closed : (n o : ℕ) → ent 𝓤 (sep 𝓤 (Room (n * 16) o) (sem 𝓛 (ways n b o))) (H.room (units_ty n) b o)
   closed zero o = qed 𝓛 (raw (Room (zero * 16) o) ∷ ‵ (ways zero b o) ∷ []) ∵ drop ! $ drop ! $ by ! (𝓛.laws.room_nil (ty_int w128) b o)

@@ -89,7 +89,8 @@ IsAtMost-class_of sllen m n any some order = elim (IsAtMost-or_before (class_of 
 ]
 
 -- the class of a longer block reaches what that of a shorter one does, and less
-pub Reaches-longer : (sllen m n wanted size : ℕ) → 0 < sllen → 0 < m → m ≤ n → size ≤ wanted → Reaches sllen (class_of sllen m) wanted → Reaches sllen (class_of sllen n) size
+pub Reaches-longer : (sllen m n wanted size : ℕ) → 0 < sllen → 0 < m → m ≤ n → size ≤ wanted → Reaches sllen (class_of sllen m) wanted
+    → Reaches sllen (class_of sllen n) size
 Reaches-longer sllen m n wanted size any some order less reached =
     let times : size * sllen ≤ wanted * sllen = mul-le-mul_right sllen less in
     omega (arith, times, class_start-mono sllen (class_of sllen m) (class_of sllen n) (division-lt sllen m some any) (IsAtMost-class_of sllen m n any some order))
@@ -98,12 +99,14 @@ Reaches-longer sllen m n wanted size any some order less reached =
 
 -- what the next class is, inside a row and at its end
 next_class-within : (sllen : ℕ) (c : SizeClass) → c.division + 1 < sllen → next_class sllen c ≡ record { exponent = c.exponent; division = c.division + 1 }
-next_class-within sllen c within = ap (λ b. cond b (record { exponent = c.exponent; division = c.division + 1 }) (record { exponent = c.exponent + 1; division = 0 })) (lt-ltb (c.division + 1) sllen within)
+next_class-within sllen c within =
+    ap (λ b. cond b (record { exponent = c.exponent; division = c.division + 1 }) (record { exponent = c.exponent + 1; division = 0 })) (lt-ltb (c.division + 1) sllen within)
 
 next_class-at_end : (sllen : ℕ) (c : SizeClass) → sllen ≤ c.division + 1 → next_class sllen c ≡ record { exponent = c.exponent + 1; division = 0 }
-next_class-at_end sllen c end = ap (λ b. cond b (record { exponent = c.exponent; division = c.division + 1 }) (record { exponent = c.exponent + 1; division = 0 })) (le-ltb (c.division + 1) sllen end)
+next_class-at_end sllen c end =
+    ap (λ b. cond b (record { exponent = c.exponent; division = c.division + 1 }) (record { exponent = c.exponent + 1; division = 0 })) (le-ltb (c.division + 1) sllen end)
 
--- n is the class after c: it begins where c ends, and no class stands between them
+-- n is the class after c: it begins where c ends, and no class is between them
 record IsNext (sllen : ℕ) (c n : SizeClass) : Type 0 where
   in_row : n.division < sllen
   starts : class_start sllen n ≡ class_start sllen c + 2 ^ c.exponent

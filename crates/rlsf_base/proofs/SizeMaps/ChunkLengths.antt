@@ -1,5 +1,6 @@
 -- Lengths of chunks that are computed for many payloads.
-use Rattle.std.proofs.Common.{◌≡◌, ℕ, ◌+◌, ◌-◌, ◌*◌, ◌/◌, ◌%◌, ◌^◌, ◌<◌, ◌≤◌, Option, Some, None, IsTrue, arith, cond, leb, inl, inr, refl, sym, ◌∙◌, ap, subst}
+use Rattle.std.proofs.Common.{◌≡◌, ℕ, ◌+◌, ◌-◌, ◌*◌, ◌/◌, ◌%◌, ◌^◌, ◌<◌, ◌≤◌, Option, Some, None, IsTrue, arith, cond, leb, inl, inr}
+use Rattle.std.proofs.Common.{refl, sym, ◌∙◌, ap, subst}
 use Rattle.std.specs.Int.{div_ceil}
 use Rattle.std.specs.Option.{option_and_then, option_map}
 use Rattle.std.proofs.lemmas.Bool.{cases_lt, cond-true, cond-false, le-leb, lt-ltb, lt-leb, le-ltb}
@@ -60,7 +61,8 @@ object_length-enough fllen sllen size len row told =
 pub chunk_length-is : (fllen n len : ℕ) → chunk_length fllen n ≡ Some len → n ≡ len
 chunk_length-is fllen n len told = elim (cases_lt n (2 ^ 64)) [
   | inl word ↦ elim (cases_lt (2 ^ (5 + fllen)) n) [
-    | inl long ↦ absurd (none-some len (sym (cond-true _ (cond (leb n (2 ^ (5 + fllen))) (Some n) None) None (lt-ltb n (2 ^ 64) word) ∙ cond-false _ (Some n) None (lt-leb n (2 ^ (5 + fllen)) long)) ∙ told))
+    | inl long ↦ absurd (none-some len
+        (sym (cond-true _ (cond (leb n (2 ^ (5 + fllen))) (Some n) None) None (lt-ltb n (2 ^ 64) word) ∙ cond-false _ (Some n) None (lt-leb n (2 ^ (5 + fllen)) long)) ∙ told))
     | inr short ↦ same_Some n len (chunk_length-some fllen n word short ∙ told)
   ]
   | inr past ↦ absurd (none-some len (sym (cond-false _ (cond (leb n (2 ^ (5 + fllen))) (Some n) None) None (le-ltb n (2 ^ 64) past)) ∙ told))
@@ -70,14 +72,16 @@ chunk_length-is fllen n len told = elim (cases_lt n (2 ^ 64)) [
 chunk_length-short : (fllen n len : ℕ) → chunk_length fllen n ≡ Some len → n ≤ 2 ^ (5 + fllen)
 chunk_length-short fllen n len told = elim (cases_lt n (2 ^ 64)) [
   | inl word ↦ elim (cases_lt (2 ^ (5 + fllen)) n) [
-    | inl long ↦ absurd (none-some len (sym (cond-true _ (cond (leb n (2 ^ (5 + fllen))) (Some n) None) None (lt-ltb n (2 ^ 64) word) ∙ cond-false _ (Some n) None (lt-leb n (2 ^ (5 + fllen)) long)) ∙ told))
+    | inl long ↦ absurd (none-some len
+        (sym (cond-true _ (cond (leb n (2 ^ (5 + fllen))) (Some n) None) None (lt-ltb n (2 ^ 64) word) ∙ cond-false _ (Some n) None (lt-leb n (2 ^ (5 + fllen)) long)) ∙ told))
     | inr short ↦ short
   ]
   | inr past ↦ absurd (none-some len (sym (cond-false _ (cond (leb n (2 ^ (5 + fllen))) (Some n) None) None (le-ltb n (2 ^ 64) past)) ∙ told))
 ]
 
 -- the least size of the class that is taken for a size is taken for it
-pub least_is_taken : (fllen sllen size least : ℕ) → IsTrue (is_row_length sllen) → IsSize size → map_ceil_and_unmap fllen sllen size ≡ Some least → IsSize least × Reaches sllen (class_of sllen least) size
+pub least_is_taken : (fllen sllen size least : ℕ) → IsTrue (is_row_length sllen) → IsSize size → map_ceil_and_unmap fllen sllen size ≡ Some least
+    → IsSize least × Reaches sllen (class_of sllen least) size
 least_is_taken fllen sllen size least row size_is told =
     let start = (IsUnmapped-some fllen sllen size least row size_is told).start in
     let some = (IsPower-row_length sllen row).some in
@@ -94,7 +98,8 @@ pub record IsPayloadPool (fllen sllen count size len : ℕ) : Type 0 where
   pub short : len ≤ 2 ^ (5 + fllen)
 
 module _ (fllen sllen count size len : ℕ) (row : IsTrue (is_row_length sllen)) (size_is : IsSize size) where
-  payload_pool_from : (o : Option ℕ) → map_ceil_and_unmap fllen sllen size ≡ o → option_and_then (λ least. chunk_length fllen (payloads_length count size least)) o ≡ Some len → IsPayloadPool fllen sllen count size len
+  payload_pool_from : (o : Option ℕ) → map_ceil_and_unmap fllen sllen size ≡ o
+      → option_and_then (λ least. chunk_length fllen (payloads_length count size least)) o ≡ Some len → IsPayloadPool fllen sllen count size len
   payload_pool_from None e told = absurd (none-some len told)
   payload_pool_from (Some least) e told =
       let taken = least_is_taken fllen sllen size least row size_is e in
@@ -106,7 +111,8 @@ module _ (fllen sllen count size len : ℕ) (row : IsTrue (is_row_length sllen))
         short = omega (arith, chunk_length-is fllen (payloads_length count size least) len told, chunk_length-short fllen (payloads_length count size least) len told);
       }
 
-  pub IsPayloadPool-some : option_and_then (λ least. chunk_length fllen (payloads_length count size least)) (map_ceil_and_unmap fllen sllen size) ≡ Some len → IsPayloadPool fllen sllen count size len
+  pub IsPayloadPool-some : option_and_then (λ least. chunk_length fllen (payloads_length count size least)) (map_ceil_and_unmap fllen sllen size) ≡ Some len
+      → IsPayloadPool fllen sllen count size len
   IsPayloadPool-some told = payload_pool_from (map_ceil_and_unmap fllen sllen size) refl told
 
 -- a pool for objects has room for so many blocks, each of which begins a class
@@ -119,14 +125,16 @@ pub record IsObjectPool (sllen count size len asked : ℕ) : Type 0 where
   pub asks : asked ≡ block - 16
 
 module _ (fllen sllen count size len asked : ℕ) (row : IsTrue (is_row_length sllen)) where
-  object_pool : (block : ℕ) → object_length fllen sllen size ≡ Some block → (o : Option ℕ) → chunk_length fllen (count * block + 32) ≡ o → option_map {U = ℕ × ℕ} (λ n. (n, block - 16)) o ≡ Some (len, asked) → IsObjectPool sllen count size len asked
+  object_pool : (block : ℕ) → object_length fllen sllen size ≡ Some block → (o : Option ℕ) → chunk_length fllen (count * block + 32) ≡ o
+      → option_map {U = ℕ × ℕ} (λ n. (n, block - 16)) o ≡ Some (len, asked) → IsObjectPool sllen count size len asked
   object_pool block object None e told = absurd (none-some (len, asked) told)
   object_pool block object (Some n) e told =
       let n0 = round32 (size + 16) in
       let is = IsUnmapped-some fllen sllen n0 block row (IsSize-object size) object in
       let some = (IsPower-row_length sllen row).some in
       let any = (IsSize-object size).0 in
-      let own : class_of sllen block ≡ reaching_class sllen n0 = class_of-start sllen block (reaching_class sllen n0) some (IsFirstReaching-reaching_class sllen n0 some any).in_row is.start.begins in
+      let own : class_of sllen block ≡ reaching_class sllen n0 =
+      class_of-start sllen block (reaching_class sllen n0) some (IsFirstReaching-reaching_class sllen n0 some any).in_row is.start.begins in
       let start : block * sllen ≡ class_start sllen (class_of sllen block) = is.start.begins ∙ ap (class_start sllen) (sym own) in
       let enough = object_length-enough fllen sllen size block row object in
       let pair : (n, block - 16) ≡ (len, asked) = same_Some (n, block - 16) (len, asked) told in
@@ -139,7 +147,8 @@ module _ (fllen sllen count size len asked : ℕ) (row : IsTrue (is_row_length s
         asks = sym (ap (λ p. p.1) pair);
       }
 
-  object_pool_from : (o : Option ℕ) → object_length fllen sllen size ≡ o → option_and_then (objects_in fllen count) o ≡ Some (len, asked) → IsObjectPool sllen count size len asked
+  object_pool_from : (o : Option ℕ) → object_length fllen sllen size ≡ o → option_and_then (objects_in fllen count) o ≡ Some (len, asked)
+      → IsObjectPool sllen count size len asked
   object_pool_from None e told = absurd (none-some (len, asked) told)
   object_pool_from (Some block) e told = object_pool block e (chunk_length fllen (count * block + 32)) refl told
 

@@ -1,5 +1,6 @@
 -- The laws of size classes, proved.
-use Rattle.std.proofs.Common.{◌≡◌, ℕ, ◌+◌, ◌-◌, ◌*◌, ◌/◌, ◌%◌, ◌^◌, ◌<◌, ◌≤◌, Option, Some, None, IsSome, IsTrue, arith, inl, inr, refl, sym, ◌∙◌, ap, cond, ltb, subst, w64}
+use Rattle.std.proofs.Common.{◌≡◌, ℕ, ◌+◌, ◌-◌, ◌*◌, ◌/◌, ◌%◌, ◌^◌, ◌<◌, ◌≤◌, Option, Some, None, IsSome, IsTrue, arith, inl, inr, refl}
+use Rattle.std.proofs.Common.{sym, ◌∙◌, ap, cond, ltb, subst, w64}
 use Rattle.std.specs.Int.{trailing_zeros}
 use Rattle.std.specs.Option.{option_map}
 use Rattle.std.proofs.lemmas.Bool.{cases_lt, cond-true, cond-false, le-leb, lt-ltb, le-ltb}
@@ -7,7 +8,8 @@ use Rattle.std.proofs.lemmas.Nat.{pow_pos, pow-add}
 use Rattle.std.proofs.lemmas.Option.{none-some, same_Some}
 use Rattle.std.proofs.Math.Nat.{div-eq_of_eq-mul_left, le_of_mul-le-mul_right, lt_of_mul-lt-mul_right, mul-le-mul_right, mul-mod_left, pow-suc}
 use Rattle.std.proofs.Math.Pow.{pow_mono}
-use Rattle.rlsf_base.specs.ClassLaws.{MappedIsFirstReaching, UnmappedIsEnough, UnmappedBeginsItsClass, UnreachedIsNotUnmapped, LongestBlockHasAClass, PoolIsOneChunk, PoolContainsItsAllocation}
+use Rattle.rlsf_base.specs.ClassLaws.{MappedIsFirstReaching, UnmappedIsEnough, UnmappedBeginsItsClass, UnreachedIsNotUnmapped, LongestBlockHasAClass, PoolIsOneChunk}
+use Rattle.rlsf_base.specs.ClassLaws.{PoolContainsItsAllocation}
 use Rattle.rlsf_base.specs.PowerOfTwo.{floor_log2}
 use Rattle.rlsf_base.specs.SizeClass.{class_of, class_start, is_row_length, IsValidClass, least_size, next_class, reaching_class, Reaches}
 use Rattle.rlsf_base.specs.Sizes.{IsSize, map_ceil_and_unmap, request_size, valid_indices}
@@ -77,13 +79,18 @@ pub record IsUnmapped (fllen sllen size n : ℕ) : Type 0 where
 from_conds : (a b : ℕ) (c d x n : ℕ) → cond (ltb a b) (cond (ltb c d) (Some x) None) None ≡ Some n → (a < b) × (c < d) × (x ≡ n)
 from_conds a b c d x n is = elim (cases_lt a b) [
   | inl first ↦ elim (cases_lt c d) [
-    | inl second ↦ (first, second, same_Some x n (sym (cond-true _ (Some x) None (lt-ltb c d second)) ∙ sym (cond-true _ (cond (ltb c d) (Some x) None) None (lt-ltb a b first)) ∙ is))
+    | inl second ↦ (
+      first,
+      second,
+      same_Some x n (sym (cond-true _ (Some x) None (lt-ltb c d second)) ∙ sym (cond-true _ (cond (ltb c d) (Some x) None) None (lt-ltb a b first)) ∙ is),
+    )
     | inr past ↦ absurd (none-some n (sym (cond-false _ (Some x) None (le-ltb c d past)) ∙ sym (cond-true _ (cond (ltb c d) (Some x) None) None (lt-ltb a b first)) ∙ is))
   ]
   | inr past ↦ absurd (none-some n (sym (cond-false _ (cond (ltb c d) (Some x) None) None (le-ltb a b past)) ∙ is))
 ]
 
-pub IsUnmapped-some : (fllen sllen size n : ℕ) → IsTrue (is_row_length sllen) → IsSize size → map_ceil_and_unmap fllen sllen size ≡ Some n → IsUnmapped fllen sllen size n
+pub IsUnmapped-some : (fllen sllen size n : ℕ) → IsTrue (is_row_length sllen) → IsSize size → map_ceil_and_unmap fllen sllen size ≡ Some n
+    → IsUnmapped fllen sllen size n
 IsUnmapped-some fllen sllen size n row is told =
     let c = reaching_class sllen size in
     let parts : (c.exponent < 5 + fllen) × (c.exponent < 64) × (least_size sllen c ≡ n) = from_conds c.exponent (5 + fllen) c.exponent 64 (least_size sllen c) n told in

@@ -43,7 +43,8 @@ module _ (fllen sllen size : ℕ) (some : 0 < sllen) (any : 0 < size) where
   in_row : (reaching_class sllen size).division < sllen
   in_row = (IsFirstReaching-reaching_class sllen size some any).in_row
 
-  pub unmapped-within : (n : ℕ) → n * sllen ≡ class_start sllen (reaching_class sllen size) → n < 2 ^ 64 → n < 2 ^ (5 + fllen) → Some n ≡ map_ceil_and_unmap fllen sllen size
+  pub unmapped-within : (n : ℕ) → n * sllen ≡ class_start sllen (reaching_class sllen size) → n < 2 ^ 64 → n < 2 ^ (5 + fllen)
+      → Some n ≡ map_ceil_and_unmap fllen sllen size
   unmapped-within n start word below =
       let c = reaching_class sllen size in
       let least : least_size sllen c ≡ n = div-eq_of_eq-mul_left some (sym start) in

@@ -1,5 +1,6 @@
 -- What a written word leaves: it reads back, and every other word and byte is as it was.
-use Rattle.std.proofs.Common.{◌≡◌, ◌≢◌, ℕ, ◌+◌, ◌-◌, ◌%◌, ◌^◌, ◌<◌, ◌≤◌, ◌⊎◌, [], length, take, drop, arith, inl, inr, refl, sym, ◌∙◌, ap}
+use Rattle.std.proofs.Common.{◌≡◌, ◌≢◌, ℕ, ◌+◌, ◌-◌, ◌%◌, ◌^◌, ◌<◌, ◌≤◌, ◌⊎◌, [], length, take, drop, arith, inl, inr, refl, sym}
+use Rattle.std.proofs.Common.{◌∙◌, ap}
 use Rattle.std.proofs.lemmas.Bool.{cases_lt}
 use Rattle.std.proofs.lemmas.Nat.{from_le_bytes-to_le_bytes_8}
 use Rattle.std.specs.Int.{w64, from_le_bytes, to_le_bytes}
@@ -12,7 +13,8 @@ use Rattle.rlsf_base.proofs.Lending.WordIsHere.{word_at-is, word_at-kept}
 use Rattle.rlsf_base.proofs.Changes.{back-there, back-before, back-behind, back-none}
 use Rattle.rlsf_base.proofs.Words.Splices.{length-splice, splice-inside, splice-before, splice-after}
 
-module _ (m n : Space) (addr word : ℕ) (placed : IsWritable m addr) (start : n.start ≡ m.start) (bytes : n.bytes ≡ with_word m addr word) (out : n.out ≡ out_with m (word_range addr)) where
+module _ (m n : Space) (addr word : ℕ) (placed : IsWritable m addr) (start : n.start ≡ m.start) (bytes : n.bytes ≡ with_word m addr word)
+    (out : n.out ≡ out_with m (word_range addr)) where
   room : addr - m.start + 8 ≤ length m.bytes
   room = omega (arith, placed.1)
 
@@ -75,4 +77,5 @@ module _ (m n : Space) (addr word : ℕ) (placed : IsWritable m addr) (start : n
   pub word_at-other : (a : ℕ) → a % 8 ≡ 0 → m.start ≤ a → a ≢ addr → word_at n a ≡ word_at m a
   word_at-other a whole inside apart =
       let side : (a + 8 ≤ addr) ⊎ (addr + 8 ≤ a) = elim (cases_lt a addr) [ inl below ↦ inl (omega (arith, placed.0)) | inr above ↦ inr (omega (arith, placed.0)) ] in
-      word_at-kept m n a start inside (bytes_in-with_word (word_range a) inside side) (λ k lo hi. out_at-other k (omega arith) (elim side [ inl below ↦ inl (omega (arith, below)) | inr above ↦ inr (omega (arith, above)) ]))
+      word_at-kept m n a start inside (bytes_in-with_word (word_range a) inside side)
+      (λ k lo hi. out_at-other k (omega arith) (elim side [ inl below ↦ inl (omega (arith, below)) | inr above ↦ inr (omega (arith, above)) ]))

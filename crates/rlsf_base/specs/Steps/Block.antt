@@ -10,7 +10,8 @@ use Rattle.rlsf_base.specs.declared.memory.zeroed.Supplier.{Supplier}
 -- the supplier of the block of len bytes from its byte skip on, and of no block where len is zero
 pub record IsSupplierOf (base : Base) (skip len : ℕ) (supplier : Supplier) : Type 0 where
   pub none : len ≡ 0 → supplier.deed.at ≡ null_ptr
-  pub block : 0 < len → (supplier.deed.at ≡ base.ptr) × (supplier.deed.units ≡ units_for skip len) × (supplier.deed.skip ≡ skip) × (supplier.deed.len ≡ len) × (supplier.deed.alloc ≡ supplier.alloc)
+  pub block : 0 < len → (supplier.deed.at ≡ base.ptr) × (supplier.deed.units ≡ units_for skip len) × (supplier.deed.skip ≡ skip) × (supplier.deed.len ≡ len)
+      × (supplier.deed.alloc ≡ supplier.alloc)
 
 -- the address of the first byte, of two numbers that a memory keeps: what is added to an address, with what passes a word cut off, to
 -- get its place in the block; and 32 times the length, 16 where the block is the caller's, and the place of the first byte

@@ -1,5 +1,6 @@
 -- What the parts of a memory own and lend.
-use Rattle.std.specs.Prelude.{ℕ, zero, suc, ◌+◌, ◌-◌, ◌*◌, ◌/◌, ◌%◌, ◌^◌, Bool, true, false, ◌&&◌, eqb, if◌then◌else◌, List, [], ◌∷◌, length}
+use Rattle.std.specs.Prelude.{ℕ, zero, suc, ◌+◌, ◌-◌, ◌*◌, ◌/◌, ◌%◌, ◌^◌, Bool, true, false, ◌&&◌, eqb, if◌then◌else◌, List, [], ◌∷◌}
+use Rattle.std.specs.Prelude.{length}
 use base.Fraction.{full_share}
 use base.Fml.{Lft, Fml, ftrue, ffalse, fsep, fwand, flt, froom}
 use mir.Syntax.{Ty, w8, w128, ty_int, ty_array}
@@ -74,8 +75,8 @@ abbrev pub bytes_lent : Ptr → ℕ → List ℕ → List Change → Lft → Fml
 bytes_lent (block_ptr b o) skip bs cs = beside (said (flt (length bs) (2 ^ 63))) (shown (kept_at cs) 0 bs b (skip + o))
 bytes_lent null_ptr skip bs cs = said ffalse
 
--- the allocator's token for a block of units, and the way back to the units from room for the bytes and the ways of the units that begin in
--- them. At null there is no block
+-- the allocator's token for a block of units, and the way back to the units. The way back takes room for the bytes and the ways of
+-- the units that begin in them. At null there is no block
 abbrev pub deed_owns : (Ty → Ptr → Fml) → Ptr → ℕ → ℕ → ℕ → Fml
 deed_owns token (block_ptr b o) units skip len =
     fsep (token (units_ty units) (block_ptr b o))

@@ -8,8 +8,8 @@ ghost use Rattle.rlsf_base.specs.Changes.{IsIn, IsOwn, came_back};
 
 use super::block::{Base, Bytes};
 
-/// Copies the `len` bytes from the place `from` of the block on, all here, to the `len` bytes from the place `to` on,
-/// which may be raw. The bytes written are those before the call.
+/// Copies `len` bytes, all here, from the place `from` of the block on to the place `to` on. The bytes at `to` may be raw. The
+/// bytes written are those before the call.
 #[inline(always)]
 pub(crate) fn copy_bytes(bytes: &mut Bytes, base: Base, from: usize, to: usize, len: usize)
     ghost out: { List Change }
@@ -22,7 +22,7 @@ pub(crate) fn copy_bytes(bytes: &mut Bytes, base: Base, from: usize, to: usize, 
     bytes.recount();
 }
 
-// The same. What became of the bytes is as if they were written, but for how it is counted.
+// The same. What became of the bytes is as if they were written, except for how it is counted.
 #[inline(always)]
 fn copy(bytes: &mut Bytes, base: Base, from: usize, to: usize, len: usize)
     requires lies { (base.ptr ≡ bytes.old.at) × (bytes.old.skip ≤ from) × (from + len ≤ bytes.old.skip + length bytes.old.bytes) × (bytes.old.skip ≤ to) × (to + len ≤ bytes.old.skip + length bytes.old.bytes) × (bytes.old.skip + length bytes.old.bytes < 2 ^ 64) }

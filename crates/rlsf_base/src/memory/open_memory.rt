@@ -23,8 +23,8 @@ use std::mem::size_of;
 /// - raw: the memory owns it, and it has no value before it is written
 /// - out: a `Part` owns it
 ///
-/// It is one block of the system, aligned so that each multiple of 8 is the address of an aligned word, and each multiple of
-/// 16 that of a unit of 16 bytes, which can leave as aligned room. `from_raw_parts` makes a memory of the caller's block
+/// It is one block of the system. Each multiple of 8 is the address of an aligned word. Each multiple of 16 is the address of an
+/// aligned unit of 16 bytes, which can leave as aligned room. `from_raw_parts` makes a memory of the caller's block
 /// instead. For contracts alone, it counts word accesses (touches) and copied bytes. It is as large as a `Vec<u8>`. It has
 /// no `Drop`: `free` deallocates it.
 pub struct OpenMemory {

@@ -57,9 +57,11 @@ impl Part {
         bytes
     }
 
-    /// Consumes the part. What it owns, its bytes and the ways of their units, is the caller's from now on.
+    /// Consumes the part. What it owns, its bytes and the ways of their units, is the caller's from now on. `from_raw` can make
+    /// it a part again.
     pub fn into_raw(self)
         ensures* handed { sem 𝓛 (piece_owns self) }
+        ensures can { CanCome self self.home.view (piece_range self) }
     {
         self.into_bytes().into_raw();
     }

@@ -1,4 +1,4 @@
-//! Payloads of whole units that are known by a pointer alone.
+//! Payloads of complete units that are known by a pointer alone.
 ghost use Rattle.std.specs.Prelude.{◌≡◌, ℕ, ◌+◌, ◌-◌, ◌*◌, ◌/◌, ◌%◌, ◌^◌, ◌≤◌, ◌↔◌, IsTrue, false, length, set};
 ghost use Rattle.std.specs.Int.{w64, from_le_bytes};
 ghost use Rattle.rlsf_base.specs.Ledger.{IsIssued, entry_of, extent};
@@ -14,7 +14,7 @@ use super::open_memory::OpenMemory;
 use super::part::Part;
 use std::marker::{Model, PhantomData};
 
-/// Whole units of 16 bytes that left a memory, by a pointer to them. It owns their room, which is aligned to 16, and the
+/// Complete units of 16 bytes that left a memory, by a pointer to them. It owns their room, which is aligned to 16, and the
 /// ticket for them. It takes two words: their address is that of the ticket, which takes no space.
 pub struct UnitPayload {
     /// Points to the first byte.

@@ -18,7 +18,7 @@ pub(crate) struct Supplier {
     alloc: Global,
 }
 
-/// The most bytes of a block: no system has so many. They are whole units of 16 bytes, and their number times 32 fits in a `usize`.
+/// The most bytes of a block: no system has so many. They are complete units of 16 bytes, and their number times 32 fits in a `usize`.
 const MAX_LEN: usize = 0x07ff_ffff_ffff_fff0;
 
 fn units(skip: usize, len: usize) -> usize

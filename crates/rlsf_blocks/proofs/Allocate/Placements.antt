@@ -4,7 +4,8 @@ use Rattle.rlsf_base.specs.OpenSpace.{IsWritable, SameOwn, out_with}
 use Rattle.rlsf_base.proofs.Lending.Present.{own-word, own-inside}
 use Rattle.rlsf_base.specs.Space.{word_range}
 use Rattle.rlsf_blocks.proofs.Words.NeverOut.{here_free}
-use Rattle.std.proofs.Common.{[], ◌≡◌, ℕ, ◌+◌, ◌-◌, ◌%◌, ◌^◌, ◌<◌, ◌≤◌, ◌⊎◌, ◌++◌, length, drop, Some, arith, inl, inr, refl, sym, ◌∙◌, ap, subst}
+use Rattle.std.proofs.Common.{[], ◌≡◌, ℕ, ◌+◌, ◌-◌, ◌%◌, ◌^◌, ◌<◌, ◌≤◌, ◌⊎◌, ◌++◌, length, drop, Some, arith, inl, inr, refl, sym}
+use Rattle.std.proofs.Common.{◌∙◌, ap, subst}
 use mathlib.Core.Path.{ap₂}
 use Rattle.std.proofs.lemmas.List.{length-drop, length-take-le}
 use Rattle.std.specs.Int.{next_multiple_of}
@@ -81,7 +82,14 @@ module _ {fllen sllen : ℕ} {m : Space} {table : Table} {s : State} (v : Stands
   pub IsTaken-chosen : IsTaken sllen s f f.start f.len (block_length f.start (payload_of f.start align) size)
   IsTaken-chosen =
       let fit = fitting in
-      record { found = (choice-some sllen (request_size size align) s.free f chosen).found; start = refl; length = refl; whole = fit.granules; some = omega (arith, fit.long); fits = placed-fits v.well_formed f size align power chosen }
+      record {
+        found = (choice-some sllen (request_size size align) s.free f chosen).found;
+        start = refl;
+        length = refl;
+        whole = fit.granules;
+        some = omega (arith, fit.long);
+        fits = placed-fits v.well_formed f size align power chosen;
+      }
 
   -- the used block's words were written
   module _ {n1 n2 n : Space} {changed : Table} (opened : IsOpened fllen sllen m n1 changed s f (range_at f.start (block_length f.start (payload_of f.start align) size)))
@@ -99,10 +107,12 @@ module _ {fllen sllen : ℕ} {m : Space} {table : Table} {s : State} (v : Stands
     rewrites : Rewrites m n (Touched s.free f (end_of f + 8))
     rewrites = Rewrites-weaken joined (Rewrites-trans opened.rewrites last)
       where
-        joined : (a : ℕ) → Touched s.free f (end_of f + 8) a ⊎ ((a ≡ f.start) ⊎ ((32 ≤ align) × (a ≡ payload_of f.start align - 8))) → Touched s.free f (end_of f + 8) a
+        joined : (a : ℕ) → Touched s.free f (end_of f + 8) a ⊎ ((a ≡ f.start) ⊎ ((32 ≤ align) × (a ≡ payload_of f.start align - 8)))
+            → Touched s.free f (end_of f + 8) a
         joined a (inl t) = t
         joined a (inr (inl at)) = in_hole (omega arith) (omega (arith, fitting.long, placed-fits v.well_formed f size align power chosen))
-        joined a (inr (inr (w, at))) = in_hole (omega (arith, fitting.after_start)) (omega (arith, fitting.after_start, fitting.before_end, placed-fits v.well_formed f size align power chosen))
+        joined a (inr (inr (w, at))) =
+            in_hole (omega (arith, fitting.after_start)) (omega (arith, fitting.after_start, fitting.before_end, placed-fits v.well_formed f size align power chosen))
 
     -- a second word is as it was when the block was opened
     second : (a : ℕ) → a % 32 ≡ 8 → m.start ≤ a → word_at n a ≡ word_at n1 a
@@ -112,7 +122,8 @@ module _ {fllen sllen : ℕ} {m : Space} {table : Table} {s : State} (v : Stands
         go (inl at) = omega (arith, fitting.whole)
         go (inr (w, at)) = omega (arith, fitting.wide w, fitting.after_start)
 
-    pub IsCarved-written : IsCarved fllen sllen m n changed s f (placed f size align (bytes_in n (between (payload_of f.start align) (end_of (block_for f.start (payload_of f.start align) size)))))
+    pub IsCarved-written : IsCarved fllen sllen m n changed s f
+        (placed f size align (bytes_in n (between (payload_of f.start align) (end_of (block_for f.start (payload_of f.start align) size)))))
     IsCarved-written =
         let fit = fitting in
         let place = free_in_memory v.well_formed f is_free in
@@ -131,18 +142,21 @@ module _ {fllen sllen : ℕ} {m : Space} {table : Table} {s : State} (v : Stands
         size_apart : (32 ≤ align) × (f.start ≡ payload_of f.start align - 8) → ⊥
         size_apart (w, at) = omega (arith, fitting.after_start)
 
-        rest_size : (g : Range) → IsIn g (rest_behind (range_at f.start (block_length f.start (payload_of f.start align) size)) (end_of f)) → word_at n g.start ≡ word_at n1 g.start
+        rest_size : (g : Range) → IsIn g (rest_behind (range_at f.start (block_length f.start (payload_of f.start align) size)) (end_of f))
+            → word_at n g.start ≡ word_at n1 g.start
         rest_size g i =
             let (same, short) = IsIn-rest_behind (range_at f.start (block_length f.start (payload_of f.start align) size)) (end_of f) g i in
             let start : g.start ≡ f.start + block_length f.start (payload_of f.start align) size = ap (λ q. q.start) same in
             let place = free_in_memory v.well_formed f is_free in
             last.words g.start (omega (arith, fitting.whole, fitting.granules)) (omega (arith, same_start, place.0)) (apart start)
           where
-            apart : g.start ≡ f.start + block_length f.start (payload_of f.start align) size → (g.start ≡ f.start) ⊎ ((32 ≤ align) × (g.start ≡ payload_of f.start align - 8)) → ⊥
+            apart : g.start ≡ f.start + block_length f.start (payload_of f.start align) size
+                → (g.start ≡ f.start) ⊎ ((32 ≤ align) × (g.start ≡ payload_of f.start align - 8)) → ⊥
             apart start (inl at) = omega (arith, fitting.long)
             apart start (inr (w, at)) = omega (arith, fitting.before_end, fitting.after_start)
 
-        rest_previous : (g : Range) → IsIn g (rest_behind (range_at f.start (block_length f.start (payload_of f.start align) size)) (end_of f)) → word_at n (end_of g + 8) ≡ word_at n1 (end_of g + 8)
+        rest_previous : (g : Range) → IsIn g (rest_behind (range_at f.start (block_length f.start (payload_of f.start align) size)) (end_of f))
+            → word_at n (end_of g + 8) ≡ word_at n1 (end_of g + 8)
         rest_previous g i =
             let (same, short) = IsIn-rest_behind (range_at f.start (block_length f.start (payload_of f.start align) size)) (end_of f) g i in
             let end : end_of g ≡ end_of f = ap end_of same ∙ omega arith in
@@ -151,21 +165,28 @@ module _ {fllen sllen : ℕ} {m : Space} {table : Table} {s : State} (v : Stands
             second (end_of g + 8) (omega (arith, is.whole.start, is.whole.len)) (omega (arith, place.0))
 
         -- a block of the list lies behind the front of f, or apart from f
-        sorted : (g : Range) → IsIn g (rest_behind (range_at f.start (block_length f.start (payload_of f.start align) size)) (end_of f) ++ without (has_class sllen (class_of sllen f.len)) s.free)
-            → (g ≡ between (f.start + block_length f.start (payload_of f.start align) size) (end_of f)) × (f.start + block_length f.start (payload_of f.start align) size < end_of f)
+        sorted : (g : Range) → IsIn g
+            (rest_behind (range_at f.start (block_length f.start (payload_of f.start align) size)) (end_of f) ++ without (has_class sllen (class_of sllen f.len)) s.free)
+            → (g ≡ between (f.start + block_length f.start (payload_of f.start align) size) (end_of f))
+            × (f.start + block_length f.start (payload_of f.start align) size < end_of f)
             ⊎ IsIn g (without (has_class sllen (class_of sllen f.len)) s.free)
-        sorted g i = elim (IsIn-append g (rest_behind (range_at f.start (block_length f.start (payload_of f.start align) size)) (end_of f)) (without (has_class sllen (class_of sllen f.len)) s.free) i) [
-          | inl j ↦ inl (IsIn-rest_behind (range_at f.start (block_length f.start (payload_of f.start align) size)) (end_of f) g j)
-          | inr j ↦ inr j
-        ]
+        sorted g i =
+            elim (IsIn-append g (rest_behind (range_at f.start (block_length f.start (payload_of f.start align) size)) (end_of f))
+            (without (has_class sllen (class_of sllen f.len)) s.free) i) [
+              | inl j ↦ inl (IsIn-rest_behind (range_at f.start (block_length f.start (payload_of f.start align) size)) (end_of f) g j)
+              | inr j ↦ inr j
+            ]
 
-        linked : (g : Range) → IsIn g (rest_behind (range_at f.start (block_length f.start (payload_of f.start align) size)) (end_of f) ++ without (has_class sllen (class_of sllen f.len)) s.free) → CanBeBlock n1 g
+        linked : (g : Range) → IsIn g
+            (rest_behind (range_at f.start (block_length f.start (payload_of f.start align) size)) (end_of f) ++ without (has_class sllen (class_of sllen f.len)) s.free)
+            → CanBeBlock n1 g
         linked g i = elim (sorted g i) [
           | inl (same, short) ↦ subst (CanBeBlock n1) (sym same) (rest_placed short)
           | inr j ↦ CanBeBlock-Rewrites opened.rewrites (CanBeBlock-free v g (IsIn-without (has_class sllen (class_of sllen f.len)) g s.free j))
         ]
           where
-            rest_placed : f.start + block_length f.start (payload_of f.start align) size < end_of f → CanBeBlock n1 (between (f.start + block_length f.start (payload_of f.start align) size) (end_of f))
+            rest_placed : f.start + block_length f.start (payload_of f.start align) size < end_of f
+                → CanBeBlock n1 (between (f.start + block_length f.start (payload_of f.start align) size) (end_of f))
             rest_placed short =
                 let fit = fitting in
                 let place = free_in_memory v.well_formed f is_free in
@@ -176,38 +197,57 @@ module _ {fllen sllen : ℕ} {m : Space} {table : Table} {s : State} (v : Stands
                   whole = omega (arith, fit.whole, fit.granules);
                   room = omega (arith, fit.whole, fit.granules, is.whole.len);
                   lies_in = (omega (arith, place.0), omega (arith, place.1, opened.rewrites.length));
-                  own = own-there m n1 (between (f.start + block_length f.start (payload_of f.start align) size) (end_of f)) (omega arith) opened.rewrites.own (own-inside m f (between (f.start + block_length f.start (payload_of f.start align) size) (end_of f)) (omega arith) (omega (arith, short)) (here_free v f is_free));
+                  own =
+                      own-there m n1 (between (f.start + block_length f.start (payload_of f.start align) size) (end_of f)) (omega arith) opened.rewrites.own
+                      (own-inside m f (between (f.start + block_length f.start (payload_of f.start align) size) (end_of f)) (omega arith) (omega (arith, short))
+                      (here_free v f is_free));
                 }
 
-        no_link : (g : Range) → IsIn g (rest_behind (range_at f.start (block_length f.start (payload_of f.start align) size)) (end_of f) ++ without (has_class sllen (class_of sllen f.len)) s.free)
+        no_link : (g : Range) → IsIn g
+            (rest_behind (range_at f.start (block_length f.start (payload_of f.start align) size)) (end_of f) ++ without (has_class sllen (class_of sllen f.len)) s.free)
             → (i : ℕ) → i % 8 ≡ 0 → 8 ≤ i → i + 8 ≤ 32 → (g.start + i ≡ f.start) ⊎ ((32 ≤ align) × (g.start + i ≡ payload_of f.start align - 8)) → ⊥
         no_link g among i whole some within (inl at) = omega (arith, (linked g among).whole, fitting.whole)
         no_link g among i whole some within (inr (w, at)) = elim (sorted g among) [
-          | inl (same, short) ↦ let start : g.start ≡ f.start + block_length f.start (payload_of f.start align) size = ap (λ q. q.start) same in omega (arith, fitting.before_end, fitting.after_start)
+          | inl (same, short) ↦ let start : g.start ≡ f.start + block_length f.start (payload_of f.start align) size = ap (λ q. q.start) same in
+              omega (arith, fitting.before_end, fitting.after_start)
           | inr j ↦
               let fit = fitting in
               let p = linked g among in
-              left_apart v IsTaken-chosen g j (g.start + i) (omega arith) (omega (arith, p.room)) (omega (arith, fit.after_start)) (omega (arith, fit.after_start, fit.before_end, placed-fits v.well_formed f size align power chosen))
+              left_apart v IsTaken-chosen g j (g.start + i) (omega arith) (omega (arith, p.room)) (omega (arith, fit.after_start))
+              (omega (arith, fit.after_start, fit.before_end, placed-fits v.well_formed f size align power chosen))
         ]
 
-        other : (g : Range) → IsIn g (rest_behind (range_at f.start (block_length f.start (payload_of f.start align) size)) (end_of f) ++ without (has_class sllen (class_of sllen f.len)) s.free)
-            → ¬ ((g.start + 16 ≡ f.start) ⊎ ((32 ≤ align) × (g.start + 16 ≡ payload_of f.start align - 8))) × ¬ ((g.start + 24 ≡ f.start) ⊎ ((32 ≤ align) × (g.start + 24 ≡ payload_of f.start align - 8)))
+        other : (g : Range) → IsIn g
+            (rest_behind (range_at f.start (block_length f.start (payload_of f.start align) size)) (end_of f) ++ without (has_class sllen (class_of sllen f.len)) s.free)
+            → ¬ ((g.start + 16 ≡ f.start) ⊎ ((32 ≤ align) × (g.start + 16 ≡ payload_of f.start align - 8)))
+            × ¬ ((g.start + 24 ≡ f.start) ⊎ ((32 ≤ align) × (g.start + 24 ≡ payload_of f.start align - 8)))
         other g i = (no_link g i 16 refl (omega arith) (omega arith), no_link g i 24 refl (omega arith) (omega arith))
 
-    -- the state with the block stands in the memory, and no spare byte has changed
-    pub Places-written : (addr : ℕ) → addr ≡ payload_of f.start align → (t : State) × Places sllen s size align addr t × StandsFor fllen sllen (contents n changed) t × KeepsSpare m s n t
+    -- the state with the block is in the memory, and no spare byte has changed
+    pub Places-written : (addr : ℕ) → addr ≡ payload_of f.start align
+        → (t : State) × Places sllen s size align addr t × StandsFor fllen sllen (contents n changed) t × KeepsSpare m s n t
     Places-written addr is =
         let fit = fitting in
         let place = free_in_memory v.well_formed f is_free in
         let bytes = bytes_in n (between (payload_of f.start align) (end_of (block_for f.start (payload_of f.start align) size))) in
-        let inside : LiesIn (between (payload_of f.start align) (end_of (block_for f.start (payload_of f.start align) size))) n.start (length n.bytes) =
-        (omega (arith, rewrites.start, place.0, fit.after_start), omega (arith, rewrites.start, rewrites.length, place.1, fit.before_end, placed-fits v.well_formed f size align power chosen)) in
-        let long : length bytes ≡ end_of (block_for f.start (payload_of f.start align) size) - payload_of f.start align = length-bytes_in n (between (payload_of f.start align) (end_of (block_for f.start (payload_of f.start align) size))) inside in
+        let inside : LiesIn (between (payload_of f.start align) (end_of (block_for f.start (payload_of f.start align) size))) n.start (length n.bytes) = (
+          omega (arith, rewrites.start, place.0, fit.after_start),
+          omega (arith, rewrites.start, rewrites.length, place.1, fit.before_end, placed-fits v.well_formed f size align power chosen),
+        ) in
+        let long : length bytes ≡ end_of (block_for f.start (payload_of f.start align) size) - payload_of f.start align =
+        length-bytes_in n (between (payload_of f.start align) (end_of (block_for f.start (payload_of f.start align) size))) inside in
         let well_formed = IsWellFormed-given v.well_formed f size align power chosen bytes long in
         let same : range_of n ≡ range_of m = ap₂ (λ a l. range_at a l) rewrites.start rewrites.length in
         let t_well_formed = subst (λ p. IsWellFormed fllen sllen p (given sllen s f (placed f size align bytes))) (sym same) well_formed in (
           given sllen s f (placed f size align bytes),
-          record { range = f; bytes = bytes; chosen = chosen; answer = is; length = long ∙ ap (λ p. end_of (block_for f.start (payload_of f.start align) size) - p) (sym is); after = refl },
+          record {
+            range = f;
+            bytes = bytes;
+            chosen = chosen;
+            answer = is;
+            length = long ∙ ap (λ p. end_of (block_for f.start (payload_of f.start align) size) - p) (sym is);
+            after = refl;
+          },
           StandsFor-carved v f is_free (placed f size align bytes) refl (omega (arith, fit.long)) IsCarved-written t_well_formed,
           KeepsSpare-Touched v.well_formed (given sllen s f (placed f size align bytes)) f (end_of f + 8) rewrites no_hole no_other,
         )
@@ -217,7 +257,8 @@ module _ {fllen sllen : ℕ} {m : Space} {table : Table} {s : State} (v : Stands
             let home = home_of_free v.well_formed f is_free in
             omega (arith, spare home.chunk home.is_chunk (omega (arith, home.from, h.from)) (omega (arith, home.to, h.to)), home.to, h.to)
 
-        no_other : (a : ℕ) → ((c : Range) → IsIn c s.chunks → c.start ≤ a → a < end_of c → sentinel_of c + 16 ≤ a) → end_of f + 8 ≤ a → a < end_of f + 8 + 8 → ⊥
+        no_other : (a : ℕ) → ((c : Range) → IsIn c s.chunks → c.start ≤ a → a < end_of c → sentinel_of c + 16 ≤ a) → end_of f + 8 ≤ a → a < end_of f + 8 + 8
+            → ⊥
         no_other a spare low high =
             let home = home_of_free v.well_formed f is_free in
             omega (arith, spare home.chunk home.is_chunk (omega (arith, home.from)) (omega (arith, home.to)), home.to)
@@ -229,7 +270,8 @@ module _ {fllen sllen : ℕ} {m : Space} {table : Table} {s : State} (v : Stands
     pub payload : address ≡ payload_of f.start align
     pub taken : bytes ≡ block_length f.start (payload_of f.start align) size
 
-  pub AreComputed-from : (block len to address wanted bytes : ℕ) → f.start ≡ block → len ≡ word_at m block → to ≡ align → address ≡ next_multiple_of (block + 16) to → wanted ≡ size → bytes ≡ next_multiple_of (address - block + wanted) 32 → AreComputed block len address bytes
+  pub AreComputed-from : (block len to address wanted bytes : ℕ) → f.start ≡ block → len ≡ word_at m block → to ≡ align
+      → address ≡ next_multiple_of (block + 16) to → wanted ≡ size → bytes ≡ next_multiple_of (address - block + wanted) 32 → AreComputed block len address bytes
   AreComputed-from block len to address wanted bytes start word same_to is_address same_wanted is_bytes =
       let at : address ≡ payload_of f.start align = is_address ∙ ap₂ (λ b a. next_multiple_of (b + 16) a) (sym start) same_to in
       record {
@@ -240,7 +282,8 @@ module _ {fllen sllen : ℕ} {m : Space} {table : Table} {s : State} (v : Stands
       }
 
 module _ {fllen sllen : ℕ} {m : Space} {table : Table} {s : State} {v : StandsFor fllen sllen (contents m table) s} {f : Range} {size align : ℕ} {power : IsPowerOfTwo align}
-    {chosen : choice sllen (request_size size align) s.free ≡ Some f} {block len address bytes : ℕ} (are : AreComputed v f size align power chosen block len address bytes) where
+    {chosen : choice sllen (request_size size align) s.free ≡ Some f} {block len address bytes : ℕ}
+    (are : AreComputed v f size align power chosen block len address bytes) where
   fit : IsFitting v f size align power chosen
   fit = fitting v f size align power chosen
 
@@ -250,22 +293,37 @@ module _ {fllen sllen : ℕ} {m : Space} {table : Table} {s : State} {v : Stands
   pub IsTaken-computed : IsTaken sllen s f block len bytes
   IsTaken-computed =
       let fits = fit in
-      record { found = (choice-some sllen (request_size size align) s.free f chosen).found; start = are.start; length = sym are.length; whole = ap (λ n. n % 32) are.taken ∙ fits.granules; some = omega (arith, are.taken, fits.long); fits = omega (arith, are.taken, are.length, placed-fits v.well_formed f size align power chosen) }
+      record {
+        found = (choice-some sllen (request_size size align) s.free f chosen).found;
+        start = are.start;
+        length = sym are.length;
+        whole = ap (λ n. n % 32) are.taken ∙ fits.granules;
+        some = omega (arith, are.taken, fits.long);
+        fits =
+            omega (arith, are.taken, are.length, placed-fits v.well_formed f size align power chosen);
+      }
 
   -- the block's first word lies in the memory, or in another one of its place and length
   pub IsWritable-block : (n : Space) → n.start ≡ m.start → length n.bytes ≡ length m.bytes → SameOwn m n → IsWritable n block
   IsWritable-block n start long own =
       let fits = fit in
-      let place = free_in_memory v.well_formed f free in
-      (omega (arith, are.start, fits.whole), (omega (arith, are.start, place.0), omega (arith, are.start, place.1)), own-there m n (word_range block) (omega (arith, are.start, place.0)) own (own-word m f block (here_free v f free) (omega (arith, are.start)) (omega (arith, are.start, (v.well_formed.free f free).some, (v.well_formed.free f free).whole.len))))
+      let place = free_in_memory v.well_formed f free in (
+        omega (arith, are.start, fits.whole),
+        (omega (arith, are.start, place.0), omega (arith, are.start, place.1)),
+        own-there m n (word_range block) (omega (arith, are.start, place.0)) own
+            (own-word m f block (here_free v f free) (omega (arith, are.start))
+            (omega (arith, are.start, (v.well_formed.free f free).some, (v.well_formed.free f free).whole.len))),
+      )
 
   -- the block was taken out of the list, and then its size word was written
   pub record IsSized (n1 n2 : Space) (changed : Table) : Type 0 where
     pub opened : IsOpened fllen sllen m n1 changed s f (range_at block bytes)
     pub sized : IsWrite n1 n2 block (bytes + 1)
 
-  pub IsSized-from : {n1 n2 : Space} {changed : Table} → IsOpened fllen sllen m n1 changed s f (range_at block bytes) → n2.start ≡ n1.start → n2.bytes ≡ with_word n1 block (bytes + 1) → bytes + 1 < 2 ^ 64 → n2.out ≡ out_with n1 (word_range block) → IsSized n1 n2 changed
-  IsSized-from {n1} opened start written fits out = record { opened = opened; sized = write (IsWritable-block n1 opened.rewrites.start opened.rewrites.length opened.rewrites.own) start written fits out }
+  pub IsSized-from : {n1 n2 : Space} {changed : Table} → IsOpened fllen sllen m n1 changed s f (range_at block bytes) → n2.start ≡ n1.start
+      → n2.bytes ≡ with_word n1 block (bytes + 1) → bytes + 1 < 2 ^ 64 → n2.out ≡ out_with n1 (word_range block) → IsSized n1 n2 changed
+  IsSized-from {n1} opened start written fits out =
+      record { opened = opened; sized = write (IsWritable-block n1 opened.rewrites.start opened.rewrites.length opened.rewrites.own) start written fits out }
 
   module _ {n1 n2 : Space} {changed : Table} (is : IsSized n1 n2 changed) where
     place-sized : (n2.start ≡ m.start) × (length n2.bytes ≡ length m.bytes) × (m.out ≡ [] → n2.out ≡ [])
@@ -278,11 +336,21 @@ module _ {fllen sllen : ℕ} {m : Space} {table : Table} {s : State} {v : Stands
     IsWritable-pad wide =
         let fits = fit in
         let place = free_in_memory v.well_formed f free in
-        let same = place-sized in
-        (omega (arith, are.payload, fits.wide wide, fits.after_start), (omega (arith, are.payload, fits.after_start, place.0, same.0), omega (arith, are.payload, fits.after_start, fits.before_end, placed-fits v.well_formed f size align power chosen, place.1, same.0, same.1)), own-there m n2 (word_range (address - 8)) (omega (arith, are.payload, fits.after_start, place.0)) (λ a inside. (rewrites_of is.sized).own a (omega (arith, is.opened.rewrites.start)) ∙ is.opened.rewrites.own a inside) (own-word m f (address - 8) (here_free v f free) (omega (arith, are.payload, fits.after_start)) (omega (arith, are.payload, fits.after_start, fits.before_end, placed-fits v.well_formed f size align power chosen))))
+        let same = place-sized in (
+          omega (arith, are.payload, fits.wide wide, fits.after_start),
+          (
+            omega (arith, are.payload, fits.after_start, place.0, same.0),
+            omega (arith, are.payload, fits.after_start, fits.before_end, placed-fits v.well_formed f size align power chosen, place.1, same.0, same.1),
+          ),
+          own-there m n2 (word_range (address - 8)) (omega (arith, are.payload, fits.after_start, place.0))
+              (λ a inside. (rewrites_of is.sized).own a (omega (arith, is.opened.rewrites.start)) ∙ is.opened.rewrites.own a inside)
+              (own-word m f (address - 8) (here_free v f free) (omega (arith, are.payload, fits.after_start))
+              (omega (arith, are.payload, fits.after_start, fits.before_end, placed-fits v.well_formed f size align power chosen))),
+        )
 
-    -- with that word, where it is wanted, the block stands in the memory
-    pub Places-sized : {n : Space} → Writes n2 n (32 ≤ align) (address - 8) block → (t : State) × Places sllen s size align address t × StandsFor fllen sllen (contents n changed) t × KeepsSpare m s n t
+    -- with that word, where it is wanted, the block is in the memory
+    pub Places-sized : {n : Space} → Writes n2 n (32 ≤ align) (address - 8) block
+        → (t : State) × Places sllen s size align address t × StandsFor fllen sllen (contents n changed) t × KeepsSpare m s n t
     Places-sized {n} padded =
         Places-written v f size align power chosen (subst (λ q. IsOpened fllen sllen m n1 changed s f q) (ap₂ (λ b t. range_at b t) (sym are.start) are.taken) is.opened)
         (subst (λ b. IsWrite n1 n2 b (block_length f.start (payload_of f.start align) size + 1)) (sym are.start) (subst (λ t. IsWrite n1 n2 block (t + 1)) are.taken is.sized))

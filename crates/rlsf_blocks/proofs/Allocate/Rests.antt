@@ -5,7 +5,8 @@ use Rattle.rlsf_base.specs.Range.{range_at}
 use Rattle.rlsf_base.proofs.Lending.Present.{own-word}
 use Rattle.rlsf_base.specs.Space.{word_range}
 use Rattle.rlsf_base.specs.OpenSpace.{IsOwned}
-use Rattle.std.proofs.Common.{◌≡◌, ◌≢◌, ℕ, ◌+◌, ◌-◌, ◌%◌, ◌^◌, ◌<◌, ◌≤◌, ◌⊎◌, List, ◌∷◌, arith, inl, inr, sym, ◌∙◌, ap, subst}
+use Rattle.std.proofs.Common.{◌≡◌, ◌≢◌, ℕ, ◌+◌, ◌-◌, ◌%◌, ◌^◌, ◌<◌, ◌≤◌, ◌⊎◌, List, ◌∷◌, arith, inl, inr, sym, ◌∙◌, ap}
+use Rattle.std.proofs.Common.{subst}
 use Rattle.rlsf_base.specs.declared.memory.range.Range.{Range}
 use Rattle.rlsf_base.specs.Range.{end_of}
 use Rattle.rlsf_base.specs.Space.{Space, word_at, with_word}
@@ -27,9 +28,12 @@ pub record AreLeft (m m1 m2 m3 : Space) (block : ℕ) (r : Range) : Type 0 where
   pub two : IsWrite m1 m2 (r.start + 8) block
   pub three : IsWrite m2 m3 (end_of r + 8) r.start
 
-pub AreLeft-from : {fllen sllen : ℕ} {m m1 m2 m3 : Space} {table : Table} {free : List Range} (block len taken : ℕ) (r : Range) → IsInnerRoom fllen sllen m table free r → r.start ≡ block + taken → r.len + taken ≡ len → block < 2 ^ 64
-    → (m1.start ≡ m.start) × (m1.bytes ≡ with_word m (block + taken) (len - taken)) × (m1.out ≡ out_with m (word_range (block + taken))) → (m2.start ≡ m1.start) × (m2.bytes ≡ with_word m1 (block + taken + 8) block) × (m2.out ≡ out_with m1 (word_range (block + taken + 8)))
-    → (m3.start ≡ m2.start) × (m3.bytes ≡ with_word m2 (block + len + 8) (block + taken)) × (m3.out ≡ out_with m2 (word_range (block + len + 8))) → AreLeft m m1 m2 m3 block r
+pub AreLeft-from : {fllen sllen : ℕ} {m m1 m2 m3 : Space} {table : Table} {free : List Range} (block len taken : ℕ) (r : Range) → IsInnerRoom fllen sllen m table free r
+    → r.start ≡ block + taken → r.len + taken ≡ len → block < 2 ^ 64
+    → (m1.start ≡ m.start) × (m1.bytes ≡ with_word m (block + taken) (len - taken)) × (m1.out ≡ out_with m (word_range (block + taken)))
+    → (m2.start ≡ m1.start) × (m2.bytes ≡ with_word m1 (block + taken + 8) block) × (m2.out ≡ out_with m1 (word_range (block + taken + 8)))
+    → (m3.start ≡ m2.start) × (m3.bytes ≡ with_word m2 (block + len + 8) (block + taken)) × (m3.out ≡ out_with m2 (word_range (block + len + 8)))
+    → AreLeft m m1 m2 m3 block r
 AreLeft-from {m = m} {m1 = m1} {m2 = m2} {m3 = m3} block len taken r room start_is len_is fits e1 e2 e3 =
     let inside = room.room.placed.lies_in in
     let whole = room.room.block.whole in
@@ -42,10 +46,15 @@ AreLeft-from {m = m} {m1 = m1} {m2 = m2} {m3 = m3} block len taken r room start_
     let h1 : IsOwned m (word_range (block + taken)) = own-word m r (block + taken) room.room.placed.own (omega arith) (omega (arith, long)) in
     let w1 : IsWrite m m1 (block + taken) (len - taken) = write (omega arith, (omega arith, omega arith), h1) e1.0 e1.1 (omega arith) e1.2 in
     let l1 = (Rewrites-word m m1 (block + taken) (len - taken) w1.placed w1.start w1.bytes w1.out).length in
-    let h2 : IsOwned m1 (word_range (block + taken + 8)) = own-there m m1 (word_range (block + taken + 8)) (omega arith) (rewrites_of w1).own (own-word m r (block + taken + 8) room.room.placed.own (omega arith) (omega (arith, long))) in
+    let h2 : IsOwned m1 (word_range (block + taken + 8)) =
+    own-there m m1 (word_range (block + taken + 8)) (omega arith) (rewrites_of w1).own
+    (own-word m r (block + taken + 8) room.room.placed.own (omega arith) (omega (arith, long))) in
     let w2 : IsWrite m1 m2 (block + taken + 8) block = write (omega arith, (omega arith, omega arith), h2) e2.0 e2.1 fits e2.2 in
     let l2 = (Rewrites-word m1 m2 (block + taken + 8) block w2.placed w2.start w2.bytes w2.out).length in
-    let h3 : IsOwned m2 (word_range (block + len + 8)) = own-there m1 m2 (word_range (block + len + 8)) (omega arith) (rewrites_of w2).own (own-there m m1 (word_range (block + len + 8)) (omega arith) (rewrites_of w1).own (own-word m (range_at (end_of r) 16) (block + len + 8) room.behind (omega arith) (omega arith))) in
+    let h3 : IsOwned m2 (word_range (block + len + 8)) =
+    own-there m1 m2 (word_range (block + len + 8)) (omega arith) (rewrites_of w2).own
+    (own-there m m1 (word_range (block + len + 8)) (omega arith) (rewrites_of w1).own
+    (own-word m (range_at (end_of r) 16) (block + len + 8) room.behind (omega arith) (omega arith))) in
     let w3 : IsWrite m2 m3 (block + len + 8) (block + taken) = write (omega arith, (omega arith, omega arith), h3) e3.0 e3.1 (omega arith) e3.2 in
     record {
       one = subst (λ a. IsWrite m m1 a r.len) start (subst (λ n. IsWrite m m1 (block + taken) n) size w1);
@@ -53,7 +62,8 @@ AreLeft-from {m = m} {m1 = m1} {m2 = m2} {m3 = m3} block len taken r room start_
       three = subst (λ a. IsWrite m2 m3 (end_of r + 8) a) start (subst (λ a. IsWrite m2 m3 (a + 8) (block + taken)) end w3);
     }
 
-module _ {fllen sllen : ℕ} {m m1 m2 m3 : Space} {table : Table} {block : ℕ} {free : List Range} (r : Range) (inner : IsInnerRoom fllen sllen m table free r) (writes : AreLeft m m1 m2 m3 block r) where
+module _ {fllen sllen : ℕ} {m m1 m2 m3 : Space} {table : Table} {block : ℕ} {free : List Range} (r : Range) (inner : IsInnerRoom fllen sllen m table free r)
+    (writes : AreLeft m m1 m2 m3 block r) where
   -- the words were written at the rest and at the second word behind it
   written : Rewrites m m3 (λ a. (a ≡ r.start) ⊎ ((a ≡ r.start + 8) ⊎ (a ≡ end_of r + 8)))
   written = Rewrites-trans (rewrites_of writes.one) (Rewrites-trans (rewrites_of writes.two) (rewrites_of writes.three))
@@ -72,7 +82,14 @@ module _ {fllen sllen : ℕ} {m m1 m2 m3 : Space} {table : Table} {block : ℕ} 
           let mine = room.placed.whole in
           let long = room.placed.room in
           let whole = room.block.whole in
-          let apart : f.start ≢ r.start = λ same. omega (arith, room.apart r.start, covers-inside r r.start (omega arith) (omega arith), coverage-IsIn itself f free r.start i, covers-inside f r.start (omega arith) (omega (arith, placed.room))) in (
+          let apart : f.start ≢ r.start =
+          λ same. omega (
+            arith,
+            room.apart r.start,
+            covers-inside r r.start (omega arith) (omega arith),
+            coverage-IsIn itself f free r.start i,
+            covers-inside f r.start (omega arith) (omega (arith, placed.room)),
+          ) in (
             (elim [ inl e ↦ apart e | inr (inl e) ↦ omega (arith, placed.whole) | inr (inr e) ↦ omega (arith, placed.whole) ]),
             (elim [ inl e ↦ omega (arith, placed.whole) | inr (inl e) ↦ omega (arith, placed.whole) | inr (inr e) ↦ omega (arith, placed.whole) ]),
             (elim [ inl e ↦ omega (arith, placed.whole) | inr (inl e) ↦ omega (arith, placed.whole) | inr (inr e) ↦ omega (arith, placed.whole) ]),

@@ -2,7 +2,8 @@
 use Rattle.rlsf_base.proofs.Lending.Present.{own-there}
 use Rattle.rlsf_base.proofs.Lending.Present.{own-inside}
 use Rattle.rlsf_blocks.proofs.Words.NeverOut.{here_free, here_behind_free}
-use Rattle.std.proofs.Common.{◌≡◌, ℕ, ◌+◌, ◌-◌, ◌%◌, ◌<◌, ◌≤◌, ◌⊎◌, List, [], ◌∷◌, ◌++◌, cond, filter, arith, inl, inr, sym, ◌∙◌, ap, subst}
+use Rattle.std.proofs.Common.{◌≡◌, ℕ, ◌+◌, ◌-◌, ◌%◌, ◌<◌, ◌≤◌, ◌⊎◌, List, [], ◌∷◌, ◌++◌, cond, filter, arith, inl, inr, sym}
+use Rattle.std.proofs.Common.{◌∙◌, ap, subst}
 use Rattle.std.proofs.lemmas.Bool.{le-ltb, lt-ltb}
 use Rattle.rlsf_base.specs.declared.memory.range.Range.{Range}
 use Rattle.rlsf_base.specs.Range.{end_of, range_at}
@@ -26,7 +27,8 @@ use Rattle.rlsf_blocks.proofs.Words.Apart.{free_in_memory}
 use Rattle.rlsf_blocks.proofs.Machine.FreeBlocks.{IsFreeTable-free}
 use Rattle.rlsf_machine.proofs.Changes.{IsIn-rest_behind}
 use Rattle.rlsf_machine.proofs.Tiling.{IsValidClass-le}
-use Rattle.rlsf_machine.proofs.Coverage.{inside, before, behind, where_is, covers-inside, coverage-append, coverage-IsIn, find-some, IsIn-append, IsIn-append_left, IsIn-append_right}
+use Rattle.rlsf_machine.proofs.Coverage.{inside, before, behind, where_is, covers-inside, coverage-append, coverage-IsIn, find-some, IsIn-append, IsIn-append_left}
+use Rattle.rlsf_machine.proofs.Coverage.{IsIn-append_right}
 
 -- a part of a range has no address that the range doesn't have
 pub covers-part : (r f : Range) (a : ℕ) → f.start ≤ r.start → end_of r ≤ end_of f → covers r a ≤ covers f a
@@ -36,12 +38,14 @@ covers-part r f a from to = elim (where_is r a) [
   | behind none high ↦ omega arith
 ]
 
-module _ {fllen sllen : ℕ} {m : Space} {table : Table} {s : State} {f : Range} {block len taken : ℕ} (v : StandsFor fllen sllen (contents m table) s) (take : IsTaken sllen s f block len taken) where
+module _ {fllen sllen : ℕ} {m : Space} {table : Table} {s : State} {f : Range} {block len taken : ℕ} (v : StandsFor fllen sllen (contents m table) s)
+    (take : IsTaken sllen s f block len taken) where
   pub is_free : IsIn f s.free
   is_free = (find-some (has_class sllen (class_of sllen f.len)) f s.free take.found).0
 
   -- the list without the block
-  parts : (ahead : List Range) × (later : List Range) × (s.free ≡ ahead ++ (f ∷ later)) × (without (has_class sllen (class_of sllen f.len)) s.free ≡ ahead ++ later) × (filter (has_class sllen (class_of sllen f.len)) ahead ≡ [])
+  parts : (ahead : List Range) × (later : List Range) × (s.free ≡ ahead ++ (f ∷ later)) × (without (has_class sllen (class_of sllen f.len)) s.free ≡ ahead ++ later)
+      × (filter (has_class sllen (class_of sllen f.len)) ahead ≡ [])
   parts = find-split (has_class sllen (class_of sllen f.len)) f s.free take.found
 
   pub ahead : List Range
@@ -63,11 +67,20 @@ module _ {fllen sllen : ℕ} {m : Space} {table : Table} {s : State} {f : Range}
   rest = between (end_of (range_at block taken)) (end_of f)
 
   -- what is left in the list has no address in common with the block
-  pub left_apart : (g : Range) → IsIn g (without (has_class sllen (class_of sllen f.len)) s.free) → (a : ℕ) → g.start ≤ a → a < end_of g → f.start ≤ a → a < end_of f → ⊥
+  pub left_apart : (g : Range) → IsIn g (without (has_class sllen (class_of sllen f.len)) s.free) → (a : ℕ) → g.start ≤ a → a < end_of g → f.start ≤ a
+      → a < end_of f → ⊥
   unfolding ahead later
   left_apart g i a from to low high =
       let among = subst (IsIn g) parts.3 i in
-      omega (arith, split_list.apart a, coverage-append itself parts.0 (f ∷ parts.1) a, coverage-append itself parts.0 parts.1 a, coverage-IsIn itself g (parts.0 ++ parts.1) a among, covers-inside g a from to, covers-inside f a low high)
+      omega (
+        arith,
+        split_list.apart a,
+        coverage-append itself parts.0 (f ∷ parts.1) a,
+        coverage-append itself parts.0 parts.1 a,
+        coverage-IsIn itself g (parts.0 ++ parts.1) a among,
+        covers-inside g a from to,
+        covers-inside f a low high,
+      )
 
   -- the block was unlinked
   module _ {m1 : Space} {others : Table} (unlinked : HasTable fllen sllen m1 others (ahead ++ later) × Rewrites m m1 (IsLink (ahead ++ (f ∷ later)))) where
@@ -102,11 +115,31 @@ module _ {fllen sllen : ℕ} {m : Space} {table : Table} {s : State} {f : Range}
               some = some;
               valid = IsValidClass-le fllen sllen (end_of f - (block + taken)) f.len some shorter is.valid;
             };
-            placed = record { own = own-there m m1 (between (block + taken) (end_of f)) (omega (arith, place.0)) moved.own (own-inside m f (between (block + taken) (end_of f)) (omega arith) (omega (arith, short)) (here_free v f is_free)); some = omega (arith, take.some); whole = omega (arith, is.whole.start); room = omega (arith, is.whole.start, is.whole.len); lies_in = (omega (arith, moved.start, place.0), omega (arith, moved.start, moved.length, place.1)) };
-            apart = λ a. omega (arith, split_list.apart a, coverage-append itself ahead (f ∷ later) a, coverage-append itself ahead later a, covers-part (between (end_of (range_at block taken)) (end_of f)) f a (omega arith) (omega arith));
+            placed =
+                record {
+                  own =
+                      own-there m m1 (between (block + taken) (end_of f)) (omega (arith, place.0)) moved.own
+                      (own-inside m f (between (block + taken) (end_of f)) (omega arith) (omega (arith, short)) (here_free v f is_free));
+                  some = omega (arith, take.some);
+                  whole =
+                      omega (arith, is.whole.start);
+                  room = omega (arith, is.whole.start, is.whole.len);
+                  lies_in =
+                      (omega (arith, moved.start, place.0), omega (arith, moved.start, moved.length, place.1));
+                };
+            apart =
+                λ a. omega (
+                  arith,
+                  split_list.apart a,
+                  coverage-append itself ahead (f ∷ later) a,
+                  coverage-append itself ahead later a,
+                  covers-part (between (end_of (range_at block taken)) (end_of f)) f a (omega arith) (omega arith),
+                );
           };
           not_last = omega (arith, moved.start, moved.length, place.1);
-          behind = (let e : end_of f ≡ end_of rest = omega arith in subst (λ k. IsOwned m1 (range_at k 16)) e (own-there m m1 (range_at (end_of f) 16) (omega (arith, place.0)) moved.own (here_behind_free v f is_free)));
+          behind =
+              (let e : end_of f ≡ end_of rest = omega arith in
+              subst (λ k. IsOwned m1 (range_at k 16)) e (own-there m m1 (range_at (end_of f) 16) (omega (arith, place.0)) moved.own (here_behind_free v f is_free)));
         }
 
     -- nothing is left
@@ -119,17 +152,22 @@ module _ {fllen sllen : ℕ} {m : Space} {table : Table} {s : State} {f : Range}
         let long = take.length in
         let fits = take.fits in
         let end : end_of (range_at block taken) ≡ end_of f = omega arith in
-        let none : rest_behind (range_at block taken) (end_of f) ≡ [] = ap (λ b. cond b (between (end_of (range_at block taken)) (end_of f) ∷ []) []) (le-ltb (end_of (range_at block taken)) (end_of f) (omega arith)) in
+        let none : rest_behind (range_at block taken) (end_of f) ≡ [] =
+        ap (λ b. cond b (between (end_of (range_at block taken)) (end_of f) ∷ []) []) (le-ltb (end_of (range_at block taken)) (end_of f) (omega arith)) in
         record {
           rewrites = Rewrites-weaken (λ a l. at_link l) unlinked_rewrites;
           first = second_word (f.start + 8) (omega (arith, is.whole.start)) (omega (arith, place.0));
-          behind = ap (λ a. word_at m1 (a + 8)) end ∙ second_word (end_of f + 8) (omega (arith, is.whole.start, is.whole.len)) (omega (arith, place.0)) ∙ v.previous.free f is_free;
+          behind =
+              ap (λ a. word_at m1 (a + 8)) end ∙ second_word (end_of f + 8) (omega (arith, is.whole.start, is.whole.len)) (omega (arith, place.0)) ∙ v.previous.free f is_free;
           rest = λ g i. absurd (subst (λ l. IsIn g l) none i);
-          table = subst (λ l. HasTable fllen sllen m1 others (l ++ without (has_class sllen (class_of sllen f.len)) s.free)) (sym none) (subst (HasTable fllen sllen m1 others) (sym parts.3) unlinked.0);
+          table =
+              subst (λ l. HasTable fllen sllen m1 others (l ++ without (has_class sllen (class_of sllen f.len)) s.free)) (sym none)
+              (subst (HasTable fllen sllen m1 others) (sym parts.3) unlinked.0);
         }
 
     -- a rest is left
-    pub IsOpened-rest : {n : Space} {changed : Table} → taken < len → IsFreeBlockBehind fllen sllen m1 n changed (ahead ++ later) block rest → IsOpened fllen sllen m n changed s f (range_at block taken)
+    pub IsOpened-rest : {n : Space} {changed : Table} → taken < len → IsFreeBlockBehind fllen sllen m1 n changed (ahead ++ later) block rest
+        → IsOpened fllen sllen m n changed s f (range_at block taken)
     unfolding ahead later
     IsOpened-rest {n} {changed} short left =
         let is = v.well_formed.free f is_free in
@@ -138,26 +176,36 @@ module _ {fllen sllen : ℕ} {m : Space} {table : Table} {s : State} {f : Range}
         let long = take.length in
         let granules = take.whole in
         let moved = unlinked.1 in
-        let some : rest_behind (range_at block taken) (end_of f) ≡ between (end_of (range_at block taken)) (end_of f) ∷ [] = ap (λ b. cond b (between (end_of (range_at block taken)) (end_of f) ∷ []) []) (lt-ltb (end_of (range_at block taken)) (end_of f) (omega arith)) in
+        let some : rest_behind (range_at block taken) (end_of f) ≡ between (end_of (range_at block taken)) (end_of f) ∷ [] =
+        ap (λ b. cond b (between (end_of (range_at block taken)) (end_of f) ∷ []) []) (lt-ltb (end_of (range_at block taken)) (end_of f) (omega arith)) in
         record {
           rewrites = Rewrites-weaken joined (Rewrites-trans unlinked_rewrites left.rewrites);
-          first = left.rewrites.words (f.start + 8) (omega (arith, is.whole.start)) (omega (arith, moved.start, place.0)) not_first ∙ second_word (f.start + 8) (omega (arith, is.whole.start)) (omega (arith, place.0));
+          first =
+              left.rewrites.words (f.start + 8) (omega (arith, is.whole.start)) (omega (arith, moved.start, place.0)) not_first
+              ∙ second_word (f.start + 8) (omega (arith, is.whole.start)) (omega (arith, place.0));
           behind = left.previous ∙ sym start;
-          rest = λ g i. (let same = (IsIn-rest_behind (range_at block taken) (end_of f) g i).0 in subst (λ q. (word_at n q.start ≡ q.len) × (word_at n (end_of q + 8) ≡ q.start)) (sym same) (left.size, left.behind));
+          rest =
+              λ g i. (let same = (IsIn-rest_behind (range_at block taken) (end_of f) g i).0 in
+              subst (λ q. (word_at n q.start ≡ q.len) × (word_at n (end_of q + 8) ≡ q.start)) (sym same) (left.size, left.behind));
           table = subst (λ l. HasTable fllen sllen n changed (l ++ without (has_class sllen (class_of sllen f.len)) s.free)) (sym some)
               (subst (λ l. HasTable fllen sllen n changed (between (end_of (range_at block taken)) (end_of f) ∷ l)) (sym parts.3) left.table);
         }
       where
         was_free : (g : Range) → IsIn g (parts.0 ++ parts.1) → IsIn g s.free
-        was_free g i = subst (IsIn g) (sym parts.2) (elim (IsIn-append g parts.0 parts.1 i) [ inl j ↦ IsIn-append_left g parts.0 (f ∷ parts.1) j | inr j ↦ IsIn-append_right g parts.0 (f ∷ parts.1) (inr j) ])
+        was_free g i =
+            subst (IsIn g) (sym parts.2)
+            (elim (IsIn-append g parts.0 parts.1 i) [ inl j ↦ IsIn-append_left g parts.0 (f ∷ parts.1) j | inr j ↦ IsIn-append_right g parts.0 (f ∷ parts.1) (inr j) ])
 
-        joined : (a : ℕ) → IsLink s.free a ⊎ Touched (parts.0 ++ parts.1) (between (end_of (range_at block taken)) (end_of f)) (end_of (between (end_of (range_at block taken)) (end_of f)) + 8) a → Touched s.free f (end_of f + 8) a
+        joined : (a : ℕ) → IsLink s.free a
+            ⊎ Touched (parts.0 ++ parts.1) (between (end_of (range_at block taken)) (end_of f)) (end_of (between (end_of (range_at block taken)) (end_of f)) + 8) a
+            → Touched s.free f (end_of f + 8) a
         joined a (inl l) = at_link l
         joined a (inr (at_link (g, i, at))) = at_link (g, was_free g i, at)
         joined a (inr (in_hole low high)) = in_hole (omega (arith, take.start)) (omega (arith, take.start, take.length))
         joined a (inr (at_other at)) = at_other (omega (arith, take.start, take.length))
 
-        not_first : Touched (parts.0 ++ parts.1) (between (end_of (range_at block taken)) (end_of f)) (end_of (between (end_of (range_at block taken)) (end_of f)) + 8) (f.start + 8) → ⊥
+        not_first : Touched (parts.0 ++ parts.1) (between (end_of (range_at block taken)) (end_of f)) (end_of (between (end_of (range_at block taken)) (end_of f)) + 8)
+            (f.start + 8) → ⊥
         not_first (at_link (g, i, inl at)) = omega (arith, (v.well_formed.free g (was_free g i)).whole.start, (v.well_formed.free f is_free).whole.start)
         not_first (at_link (g, i, inr at)) = omega (arith, (v.well_formed.free g (was_free g i)).whole.start, (v.well_formed.free f is_free).whole.start)
         not_first (in_hole low high) = omega (arith, take.start, take.whole, take.some)

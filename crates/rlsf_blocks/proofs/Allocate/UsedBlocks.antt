@@ -1,4 +1,4 @@
--- The words of a free block whose front became a used block: the value stands for the state with that block.
+-- The words of a free block whose front became a used block: the value represents the state with that block.
 use Rattle.std.proofs.Common.{◌≡◌, ◌≢◌, ℕ, ◌+◌, ◌-◌, ◌%◌, ◌<◌, ◌≤◌, ◌∷◌, arith, inl, inr, refl, sym, ◌∙◌, ap, subst}
 use Rattle.std.proofs.lemmas.Bool.{cases_eq}
 use Rattle.rlsf_base.specs.declared.memory.range.Range.{Range}
@@ -19,7 +19,7 @@ use Rattle.rlsf_blocks.proofs.Words.Frames.{used_size, used_previous, used_bytes
 use Rattle.rlsf_machine.proofs.Coverage.{IsIn-append, IsIn-without}
 use Rattle.rlsf_machine.proofs.Payloads.{IsUsed-some}
 
--- the words of the used block u at the front of the free block f, of the rest behind it, and of the table without f
+-- the words of the used block u at the front of the free block f; those of the rest behind it; and the table without f
 pub record IsCarved (fllen sllen : ℕ) (m n : Space) (table : Table) (s : State) (f : Range) (u : Used) : Type 0 where
   pub rewrites : Rewrites m n (Touched s.free f (end_of f + 8))
   pub size : word_at n f.start ≡ u.block.len + 1
@@ -63,7 +63,9 @@ module _ {fllen sllen : ℕ} {m n : Space} {table changed : Table} {s : State} (
   starts_there d i low high =
       let home = home_of_free w f f_free in
       let long = (w.chunks d i).has_room in
-      let same : home.chunk ≡ d = chunk_chunk w home.chunk d d.start home.is_chunk i (record { from = omega (arith, home.from); to = omega (arith, home.to) }) (record { from = omega arith; to = omega arith }) in
+      let same : home.chunk ≡ d =
+      chunk_chunk w home.chunk d d.start home.is_chunk i (record { from = omega (arith, home.from); to = omega (arith, home.to) })
+      (record { from = omega arith; to = omega arith }) in
       let start : home.chunk.start ≡ d.start = ap (λ r. r.start) same in
       omega (arith, home.from)
 
@@ -85,7 +87,8 @@ module _ {fllen sllen : ℕ} {m n : Space} {table changed : Table} {s : State} (
   old_end : (v : Used) → IsIn v s.used → end_of v.block + 8 ≢ end_of f + 8
   old_end v i e =
       let some = IsUsed-some v (w.used v i) in
-      old_apart v i (end_of f - 1) (record { from = omega (arith, some); to = omega (arith, some, hole_some) }) (record { from = omega (arith, hole_some); to = omega (arith, hole_some) })
+      old_apart v i (end_of f - 1) (record { from = omega (arith, some); to = omega (arith, some, hole_some) })
+      (record { from = omega (arith, hole_some); to = omega (arith, hole_some) })
 
   sizes_used : (v : Used) → IsIn v (u ∷ s.used) → word_at n v.block.start ≡ v.block.len + 1
   sizes_used v (inl is) = subst (λ x. word_at n x.block.start ≡ x.block.len + 1) (sym is) (ap (word_at n) front ∙ carved.size)
@@ -94,19 +97,22 @@ module _ {fllen sllen : ℕ} {m n : Space} {table changed : Table} {s : State} (
   sizes_free : (g : Range) → IsIn g (given sllen s f u).free → word_at n g.start ≡ g.len
   sizes_free g in_t = elim (IsIn-append g (rest_behind u.block (end_of f)) (without (has_class sllen (class_of sllen f.len)) s.free) in_t) [
     | inl i ↦ (carved.rest g i).0
-    | inr i ↦ free_size w f hole_start hole_some (end_of f + 8) second (omega arith) (omega arith) carved.rewrites g (was_free g i in_t) (parted g i in_t) ∙ old.sizes.free g (was_free g i in_t)
+    | inr i ↦ free_size w f hole_start hole_some (end_of f + 8) second (omega arith) (omega arith) carved.rewrites g (was_free g i in_t) (parted g i in_t)
+        ∙ old.sizes.free g (was_free g i in_t)
   ]
 
   sizes_sentinel : (d : Range) → IsIn d s.chunks → word_at n (sentinel_of d) ≡ 35
   sizes_sentinel d i =
       let long = (w.chunks d i).has_room in
-      chunk_sentinel w f hole_start hole_some (end_of f + 8) second (omega arith) (omega arith) carved.rewrites d i (λ h. free_last w f d (sentinel_of d) f_free i h (omega arith) (omega arith)) ∙ old.sizes.sentinel d i
+      chunk_sentinel w f hole_start hole_some (end_of f + 8) second (omega arith) (omega arith) carved.rewrites d i
+      (λ h. free_last w f d (sentinel_of d) f_free i h (omega arith) (omega arith)) ∙ old.sizes.sentinel d i
 
   previous_used : (v : Used) → IsIn v (u ∷ s.used) → word_at n (end_of v.block + 8) ≡ v.block.start
   previous_used v (inl is) = subst (λ x. word_at n (end_of x.block + 8) ≡ x.block.start) (sym is) (carved.behind ∙ sym front)
   previous_used v (inr i) = elim (cases_eq (end_of v.block) f.start) [
     | inl at ↦ ap (λ a. word_at n (a + 8)) at ∙ carved.first ∙ ap (λ a. word_at m (a + 8)) (sym at) ∙ old.previous.used v i
-    | inr off ↦ used_previous w f hole_start hole_some (end_of f + 8) second (omega arith) (omega arith) carved.rewrites v i (old_apart v i) off (old_end v i) ∙ old.previous.used v i
+    | inr off ↦ used_previous w f hole_start hole_some (end_of f + 8) second (omega arith) (omega arith) carved.rewrites v i (old_apart v i) off (old_end v i)
+        ∙ old.previous.used v i
   ]
 
   previous_free : (g : Range) → IsIn g (given sllen s f u).free → word_at n (end_of g + 8) ≡ g.start
@@ -114,7 +120,8 @@ module _ {fllen sllen : ℕ} {m n : Space} {table changed : Table} {s : State} (
     | inl i ↦ (carved.rest g i).1
     | inr i ↦
         let was = was_free g i in_t in
-        free_previous w f hole_start hole_some (end_of f + 8) second (omega arith) (omega arith) carved.rewrites g was (parted g i in_t) (w.apart g f was f_free) (λ e. ends_elsewhere g i in_t (omega arith)) ∙ old.previous.free g was
+        free_previous w f hole_start hole_some (end_of f + 8) second (omega arith) (omega arith) carved.rewrites g was (parted g i in_t) (w.apart g f was f_free)
+        (λ e. ends_elsewhere g i in_t (omega arith)) ∙ old.previous.free g was
   ]
 
   previous_first : (d : Range) → IsIn d s.chunks → word_at n (d.start + 8) ≡ 0
@@ -130,7 +137,8 @@ module _ {fllen sllen : ℕ} {m n : Space} {table changed : Table} {s : State} (
 
   payload_pad : (v : Used) → IsIn v (u ∷ s.used) → 32 ≤ v.align → word_at n (v.payload - 8) ≡ v.block.start
   payload_pad v (inl is) = subst (λ x. 32 ≤ x.align → word_at n (x.payload - 8) ≡ x.block.start) (sym is) (λ wide. carved.pad wide ∙ sym front)
-  payload_pad v (inr i) = λ wide. used_pad w f hole_start hole_some (end_of f + 8) second (omega arith) (omega arith) carved.rewrites v i (old_apart v i) wide ∙ old.payloads.pad v i wide
+  payload_pad v (inr i) =
+      λ wide. used_pad w f hole_start hole_some (end_of f + 8) second (omega arith) (omega arith) carved.rewrites v i (old_apart v i) wide ∙ old.payloads.pad v i wide
 
   pub StandsFor-carved : StandsFor fllen sllen (contents n changed) (given sllen s f u)
   StandsFor-carved = record {
@@ -140,5 +148,6 @@ module _ {fllen sllen : ℕ} {m n : Space} {table changed : Table} {s : State} (
     previous = record { used = previous_used; free = previous_free; first = previous_first };
     payloads = record { bytes = payload_bytes; pad = payload_pad };
     table = carved.listed;
-    own = λ a from unlent. carved.rewrites.own a (omega (arith, carved.rewrites.start, from)) ∙ old.own a (omega (arith, carved.rewrites.start, from)) (λ x i. unlent x (inr i));
+    own =
+        λ a from unlent. carved.rewrites.own a (omega (arith, carved.rewrites.start, from)) ∙ old.own a (omega (arith, carved.rewrites.start, from)) (λ x i. unlent x (inr i));
   }

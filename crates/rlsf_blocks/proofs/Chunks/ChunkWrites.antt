@@ -34,9 +34,12 @@ pub record AreWrites (m m1 m2 m3 m4 : Space) (c : Range) : Type 0 where
   pub three : IsWrite m2 m3 (sentinel_of c) 35
   pub four : IsWrite m3 m4 (sentinel_of c + 8) c.start
 
-pub AreWrites-from : {fllen sllen : ℕ} {m m1 m2 m3 m4 : Space} {s : State} (c : Range) (len sentinel : ℕ) → IsNewChunk fllen sllen m s c → m.start + length m.bytes < 2 ^ 64 → len ≡ c.len - 32 → sentinel ≡ c.start + len
-    → (m1.start ≡ m.start) × (m1.bytes ≡ with_word m c.start len) × (m1.out ≡ out_with m (word_range c.start)) → (m2.start ≡ m1.start) × (m2.bytes ≡ with_word m1 (c.start + 8) 0) × (m2.out ≡ out_with m1 (word_range (c.start + 8)))
-    → (m3.start ≡ m2.start) × (m3.bytes ≡ with_word m2 sentinel 35) × (m3.out ≡ out_with m2 (word_range sentinel)) → (m4.start ≡ m3.start) × (m4.bytes ≡ with_word m3 (sentinel + 8) c.start) × (m4.out ≡ out_with m3 (word_range (sentinel + 8))) → AreWrites m m1 m2 m3 m4 c
+pub AreWrites-from : {fllen sllen : ℕ} {m m1 m2 m3 m4 : Space} {s : State} (c : Range) (len sentinel : ℕ) → IsNewChunk fllen sllen m s c → m.start + length m.bytes < 2 ^ 64
+    → len ≡ c.len - 32 → sentinel ≡ c.start + len
+    → (m1.start ≡ m.start) × (m1.bytes ≡ with_word m c.start len) × (m1.out ≡ out_with m (word_range c.start))
+    → (m2.start ≡ m1.start) × (m2.bytes ≡ with_word m1 (c.start + 8) 0) × (m2.out ≡ out_with m1 (word_range (c.start + 8)))
+    → (m3.start ≡ m2.start) × (m3.bytes ≡ with_word m2 sentinel 35) × (m3.out ≡ out_with m2 (word_range sentinel))
+    → (m4.start ≡ m3.start) × (m4.bytes ≡ with_word m3 (sentinel + 8) c.start) × (m4.out ≡ out_with m3 (word_range (sentinel + 8))) → AreWrites m m1 m2 m3 m4 c
 AreWrites-from {m = m} {m1 = m1} {m2 = m2} {m3 = m3} {m4 = m4} c len sentinel new addressable len_is sentinel_is e1 e2 e3 e4 =
     let whole = new.whole in
     let room = new.room in
@@ -45,13 +48,19 @@ AreWrites-from {m = m} {m1 = m1} {m2 = m2} {m3 = m3} {m4 = m4} c len sentinel ne
     let h1 : IsOwned m (word_range c.start) = own-word m c c.start new.own (omega arith) (omega arith) in
     let w1 : IsWrite m m1 c.start len = write (omega arith, (omega arith, omega arith), h1) e1.0 e1.1 (omega arith) e1.2 in
     let l1 = (Rewrites-word m m1 c.start len w1.placed w1.start w1.bytes w1.out).length in
-    let h2 : IsOwned m1 (word_range (c.start + 8)) = own-there m m1 (word_range (c.start + 8)) (omega arith) (rewrites_of w1).own (own-word m c (c.start + 8) new.own (omega arith) (omega arith)) in
+    let h2 : IsOwned m1 (word_range (c.start + 8)) =
+    own-there m m1 (word_range (c.start + 8)) (omega arith) (rewrites_of w1).own (own-word m c (c.start + 8) new.own (omega arith) (omega arith)) in
     let w2 : IsWrite m1 m2 (c.start + 8) 0 = write (omega arith, (omega arith, omega arith), h2) e2.0 e2.1 (omega arith) e2.2 in
     let l2 = (Rewrites-word m1 m2 (c.start + 8) 0 w2.placed w2.start w2.bytes w2.out).length in
-    let h3 : IsOwned m2 (word_range sentinel) = own-there m1 m2 (word_range sentinel) (omega arith) (rewrites_of w2).own (own-there m m1 (word_range sentinel) (omega arith) (rewrites_of w1).own (own-word m c sentinel new.own (omega arith) (omega arith))) in
+    let h3 : IsOwned m2 (word_range sentinel) =
+    own-there m1 m2 (word_range sentinel) (omega arith) (rewrites_of w2).own
+    (own-there m m1 (word_range sentinel) (omega arith) (rewrites_of w1).own (own-word m c sentinel new.own (omega arith) (omega arith))) in
     let w3 : IsWrite m2 m3 sentinel 35 = write (omega arith, (omega arith, omega arith), h3) e3.0 e3.1 (omega arith) e3.2 in
     let l3 = (Rewrites-word m2 m3 sentinel 35 w3.placed w3.start w3.bytes w3.out).length in
-    let h4 : IsOwned m3 (word_range (sentinel + 8)) = own-there m2 m3 (word_range (sentinel + 8)) (omega arith) (rewrites_of w3).own (own-there m1 m2 (word_range (sentinel + 8)) (omega arith) (rewrites_of w2).own (own-there m m1 (word_range (sentinel + 8)) (omega arith) (rewrites_of w1).own (own-word m c (sentinel + 8) new.own (omega arith) (omega arith)))) in
+    let h4 : IsOwned m3 (word_range (sentinel + 8)) =
+    own-there m2 m3 (word_range (sentinel + 8)) (omega arith) (rewrites_of w3).own
+    (own-there m1 m2 (word_range (sentinel + 8)) (omega arith) (rewrites_of w2).own
+    (own-there m m1 (word_range (sentinel + 8)) (omega arith) (rewrites_of w1).own (own-word m c (sentinel + 8) new.own (omega arith) (omega arith)))) in
     let w4 : IsWrite m3 m4 (sentinel + 8) c.start = write (omega arith, (omega arith, omega arith), h4) e4.0 e4.1 (omega arith) e4.2 in
     record {
       one = subst (λ n. IsWrite m m1 c.start n) len_is w1;
@@ -60,8 +69,9 @@ AreWrites-from {m = m} {m1 = m1} {m2 = m2} {m3 = m3} {m4 = m4} c len sentinel ne
       four = subst (λ a. IsWrite m3 m4 (a + 8) c.start) place w4;
     }
 
-module _ {fllen sllen : ℕ} {m m1 m2 m3 m4 : Space} {table : Table} {s : State} (v : StandsFor fllen sllen (contents m table) s) (c : Range) (new : IsNewChunk fllen sllen m s c) (writes : AreWrites m m1 m2 m3 m4 c) where
-  -- each of the four words stands in the chunk
+module _ {fllen sllen : ℕ} {m m1 m2 m3 m4 : Space} {table : Table} {s : State} (v : StandsFor fllen sllen (contents m table) s) (c : Range) (new : IsNewChunk fllen sllen m s c)
+    (writes : AreWrites m m1 m2 m3 m4 c) where
+  -- each of the four words is in the chunk
   rewrites : Rewrites m m4 (Touched s.free (opened c) (c.start + 8))
   rewrites =
       let room = new.room in
@@ -74,7 +84,8 @@ module _ {fllen sllen : ℕ} {m m1 m2 m3 m4 : Space} {table : Table} {s : State}
       go a (inr at) = in_hole (omega arith) (omega (arith, new.room))
 
   sized : Rewrites m m4 (λ a. (a % 32 ≡ 0) ⊎ (a % 32 ≡ 8))
-  sized = Rewrites-weaken go (Rewrites-trans (Rewrites-trans (Rewrites-trans (rewrites_of writes.one) (rewrites_of writes.two)) (rewrites_of writes.three)) (rewrites_of writes.four))
+  sized =
+      Rewrites-weaken go (Rewrites-trans (Rewrites-trans (Rewrites-trans (rewrites_of writes.one) (rewrites_of writes.two)) (rewrites_of writes.three)) (rewrites_of writes.four))
     where
       go : (a : ℕ) → ((((a ≡ c.start) ⊎ (a ≡ c.start + 8)) ⊎ (a ≡ sentinel_of c)) ⊎ (a ≡ sentinel_of c + 8)) → (a % 32 ≡ 0) ⊎ (a % 32 ≡ 8)
       go a (inl (inl (inl at))) = inl (omega (arith, new.whole.start))
@@ -82,7 +93,7 @@ module _ {fllen sllen : ℕ} {m m1 m2 m3 m4 : Space} {table : Table} {s : State}
       go a (inl (inr at)) = inl (omega (arith, new.whole.start, new.whole.len))
       go a (inr at) = inr (omega (arith, new.whole.start, new.whole.len))
 
-  -- the table of free blocks stands as it did
+  -- the table of free blocks is as it was
   free_table : IsFreeTable fllen sllen m4 table s.free
   free_table =
       let list = IsFreeTable-free v in
@@ -91,7 +102,9 @@ module _ {fllen sllen : ℕ} {m m1 m2 m3 m4 : Space} {table : Table} {s : State}
         blocks = list.blocks;
         placed = λ f i. CanBeBlock-Rewrites sized (list.placed f i);
         apart = list.apart;
-        sizes = λ f i. free_size v.well_formed (opened c) new.whole.start (omega (arith, new.room)) (c.start + 8) (omega (arith, new.whole.start)) (omega arith) (omega (arith, new.room)) rewrites f i (unmet f i) ∙ list.sizes f i;
+        sizes =
+            λ f i. free_size v.well_formed (opened c) new.whole.start (omega (arith, new.room)) (c.start + 8) (omega (arith, new.whole.start)) (omega arith)
+            (omega (arith, new.room)) rewrites f i (unmet f i) ∙ list.sizes f i;
         addressable = omega (arith, list.addressable, sized.start, sized.length);
       }
     where
@@ -107,7 +120,15 @@ module _ {fllen sllen : ℕ} {m m1 m2 m3 m4 : Space} {table : Table} {s : State}
       unmet f i a hf hc = omega (arith, new.fresh a hc.from (omega (arith, hc.to)), v.well_formed.tiled a, coverage-IsIn itself f s.free a i, covers-inside f a hf.from hf.to)
 
   placed_body : CanBeBlock m4 (body c)
-  placed_body = record { own = own-there m m4 (body c) (omega (arith, new.lies_in)) sized.own (own-inside m c (body c) (omega arith) (omega (arith, new.room)) new.own); some = new.some; whole = new.whole.start; room = omega (arith, new.room); lies_in = (omega (arith, new.lies_in, sized.start), omega (arith, new.lies_in, new.room, sized.start, sized.length)) }
+  placed_body =
+      record {
+        own = own-there m m4 (body c) (omega (arith, new.lies_in)) sized.own (own-inside m c (body c) (omega arith) (omega (arith, new.room)) new.own);
+        some = new.some;
+        whole = new.whole.start;
+        room = omega (arith, new.room);
+        lies_in =
+            (omega (arith, new.lies_in, sized.start), omega (arith, new.lies_in, new.room, sized.start, sized.length));
+      }
 
   apart_body : (a : ℕ) → coverage itself (body c ∷ s.free) a ≤ 1
   apart_body a = elim (where_is (body c) a) [
@@ -144,7 +165,9 @@ module _ {fllen sllen : ℕ} {m m1 m2 m3 m4 : Space} {table : Table} {s : State}
         record {
           rewrites = Rewrites-weaken joined (Rewrites-trans rewrites linked.1);
           size = kept c.start (inl whole.start) (omega arith) ∙ r14.words c.start (omega (arith, whole.start)) inside1 size_apart ∙ reads_of writes.one;
-          first = kept (c.start + 8) (inr (omega (arith, whole.start))) (omega arith) ∙ r24.words (c.start + 8) (omega (arith, whole.start)) (omega (arith, inside2)) first_apart ∙ reads_of writes.two;
+          first =
+              kept (c.start + 8) (inr (omega (arith, whole.start))) (omega arith) ∙ r24.words (c.start + 8) (omega (arith, whole.start)) (omega (arith, inside2)) first_apart
+              ∙ reads_of writes.two;
           sentinel = kept (sentinel_of c) (inl granule) (omega arith) ∙ r34.words (sentinel_of c) (omega arith) (omega arith) (λ e. omega arith) ∙ reads_of writes.three;
           previous = kept (sentinel_of c + 8) (inr (omega arith)) (omega arith) ∙ reads_of writes.four;
           table = linked.0;

@@ -1,5 +1,6 @@
 -- Lists of ranges without those that lie in a range.
-use Rattle.std.proofs.Common.{◌≡◌, ℕ, ◌+◌, ◌<◌, ◌≤◌, ◌||◌, Bool, true, false, true≢false, not, cond, List, [], ◌∷◌, ◌++◌, Some, find, length, arith, inl, inr, refl, sym, ◌∙◌, ap}
+use Rattle.std.proofs.Common.{◌≡◌, ℕ, ◌+◌, ◌<◌, ◌≤◌, ◌||◌, Bool, true, false, true≢false, not, cond, List, [], ◌∷◌, ◌++◌, Some, find, length}
+use Rattle.std.proofs.Common.{arith, inl, inr, refl, sym, ◌∙◌, ap}
 use Rattle.std.proofs.lemmas.Bool.{cases_lt, false_from_ne_true, or_from}
 use Rattle.std.proofs.lemmas.List.Elements.{filter-append}
 use Rattle.rlsf_base.specs.declared.memory.range.Range.{Range}
@@ -14,10 +15,12 @@ use Rattle.rlsf_table.proofs.FreeLists.Chains.{find-split}
 -- where none lies in the range, all are left
 pub outside_of-none : (r : Range) (xs : List Range) → ((x : Range) → IsIn x xs → lies_within r x ≡ false) → outside_of r xs ≡ xs
 outside_of-none r [] none = refl
-outside_of-none r (x ∷ xs) none = ap (λ b. cond (not b) (x ∷ outside_of r xs) (outside_of r xs)) (none x (inl refl)) ∙ ap (λ l. x ∷ l) (outside_of-none r xs (λ y i. none y (inr i)))
+outside_of-none r (x ∷ xs) none =
+    ap (λ b. cond (not b) (x ∷ outside_of r xs) (outside_of r xs)) (none x (inl refl)) ∙ ap (λ l. x ∷ l) (outside_of-none r xs (λ y i. none y (inr i)))
 
 -- first those in one range go, and then those in another: so go those in both
-pub outside_of-twice : (r q p : Range) (xs : List Range) → ((x : Range) → IsIn x xs → lies_within p x ≡ (lies_within r x || lies_within q x)) → outside_of q (outside_of r xs) ≡ outside_of p xs
+pub outside_of-twice : (r q p : Range) (xs : List Range) → ((x : Range) → IsIn x xs → lies_within p x ≡ (lies_within r x || lies_within q x))
+    → outside_of q (outside_of r xs) ≡ outside_of p xs
 outside_of-twice r q p [] both = refl
 outside_of-twice r q p (x ∷ xs) both =
     let rest = outside_of-twice r q p xs (λ y i. both y (inr i)) in
@@ -30,7 +33,8 @@ outside_of-twice r q p (x ∷ xs) both =
 
 -- the list without the one that a test finds is the list without those in a range, if that one alone lies there, once
 pub outside_of-found : (r f : Range) (test : Range → Bool) (xs : List Range) → find test xs ≡ Some f → lies_within r f ≡ true
-    → ((before after : List Range) → xs ≡ before ++ (f ∷ after) → (x : Range) → IsIn x (before ++ after) → lies_within r x ≡ false) → outside_of r xs ≡ without test xs
+    → ((before after : List Range) → xs ≡ before ++ (f ∷ after) → (x : Range) → IsIn x (before ++ after) → lies_within r x ≡ false)
+    → outside_of r xs ≡ without test xs
 outside_of-found r f test xs found lies others =
     let (before, after, parts, left, ahead) = find-split test f xs found in
     let outside = others before after parts in
@@ -46,17 +50,21 @@ pub lies_within-split : (first mid end : ℕ) (x : Range) → first ≤ mid → 
     → lies_within (between first end) x ≡ (lies_within (between first mid) x || lies_within (between mid end) x)
 lies_within-split first mid end x from to some edge = elim (cases_lt x.start mid) [
   | inl before ↦
-      let not_behind : lies_within (between mid end) x ≡ false = false_from_ne_true (lies_within (between mid end) x) (λ e. omega (arith, lies_within-true (between mid end) x e)) in
+      let not_behind : lies_within (between mid end) x ≡ false =
+      false_from_ne_true (lies_within (between mid end) x) (λ e. omega (arith, lies_within-true (between mid end) x e)) in
       by_test (lies_within (between first mid) x)
-      (λ e. lies_within-le (between first end) x (omega (arith, lies_within-true (between first mid) x e)) (omega (arith, lies_within-true (between first mid) x e)) ∙ sym (ap (λ b. b || lies_within (between mid end) x) e))
+      (λ e. lies_within-le (between first end) x (omega (arith, lies_within-true (between first mid) x e)) (omega (arith, lies_within-true (between first mid) x e))
+      ∙ sym (ap (λ b. b || lies_within (between mid end) x) e))
       (λ e. false_from_ne_true (lies_within (between first end) x) (λ lies.
       let ends = lies_within-true (between first end) x lies in
       true≢false (sym (lies_within-le (between first mid) x (omega (arith, ends)) (omega (arith, edge before))) ∙ e))
       ∙ sym (or_from (lies_within (between first mid) x) (lies_within (between mid end) x) e not_behind))
   | inr behind ↦
-      let not_before : lies_within (between first mid) x ≡ false = false_from_ne_true (lies_within (between first mid) x) (λ e. omega (arith, lies_within-true (between first mid) x e)) in
+      let not_before : lies_within (between first mid) x ≡ false =
+      false_from_ne_true (lies_within (between first mid) x) (λ e. omega (arith, lies_within-true (between first mid) x e)) in
       by_test (lies_within (between mid end) x)
-      (λ e. lies_within-le (between first end) x (omega (arith, lies_within-true (between mid end) x e)) (omega (arith, lies_within-true (between mid end) x e)) ∙ sym (ap (λ b. b || lies_within (between mid end) x) not_before ∙ e))
+      (λ e. lies_within-le (between first end) x (omega (arith, lies_within-true (between mid end) x e)) (omega (arith, lies_within-true (between mid end) x e))
+      ∙ sym (ap (λ b. b || lies_within (between mid end) x) not_before ∙ e))
       (λ e. false_from_ne_true (lies_within (between first end) x) (λ lies.
       let ends = lies_within-true (between first end) x lies in
       true≢false (sym (lies_within-le (between mid end) x (omega (arith, behind)) (omega (arith, ends))) ∙ e))

@@ -1,6 +1,7 @@
 -- The chunks of an inserted range are made one after another.
 use Rattle.rlsf_blocks.proofs.Words.NeverOut.{here_clear}
-use Rattle.std.proofs.Common.{◌≡◌, ◌≢◌, ℕ, suc, ◌+◌, ◌-◌, ◌<◌, ◌≤◌, ◌⊎◌, List, [], ◌∷◌, ◌*◌, length, drop, get_or, Option, Some, None, arith, inl, inr, refl, sym, ◌∙◌, ap, subst}
+use Rattle.std.proofs.Common.{◌≡◌, ◌≢◌, ℕ, suc, ◌+◌, ◌-◌, ◌<◌, ◌≤◌, ◌⊎◌, List, [], ◌∷◌, ◌*◌, length, drop, get_or, Option, Some}
+use Rattle.std.proofs.Common.{None, arith, inl, inr, refl, sym, ◌∙◌, ap, subst}
 use mathlib.Core.Path.{ap₂}
 use Rattle.std.proofs.lemmas.Bool.{cases_lt}
 use Rattle.std.proofs.lemmas.List.{get_or-drop, get_or-take}
@@ -31,10 +32,12 @@ use Rattle.rlsf_machine.proofs.Insertions.{AreNew, AreNew-cut, IsWellFormed-with
 
 -- a byte is the one byte of a range
 byte_at-bytes_in : (m : Space) (a : ℕ) → byte_at m a ≡ get_or (bytes_in m (range_at a 1)) 0 0
-byte_at-bytes_in m a = let some : 0 < 1 = omega arith in sym (get_or-take 1 (drop (a - m.start) m.bytes) 0 0 some ∙ get_or-drop (a - m.start) m.bytes 0 0 ∙ ap (λ i. get_or m.bytes i 0) (omega arith))
+byte_at-bytes_in m a = let some : 0 < 1 = omega arith in
+    sym (get_or-take 1 (drop (a - m.start) m.bytes) 0 0 some ∙ get_or-drop (a - m.start) m.bytes 0 0 ∙ ap (λ i. get_or m.bytes i 0) (omega arith))
 
 -- the words that are written while a hole is hold no spare byte, where the hole doesn't
-pub KeepsSpare-Touched : {fllen sllen : ℕ} {memory : Range} {m n : Space} {s : State} → IsWellFormed fllen sllen memory s → (t : State) (hole : Range) (other : ℕ) → Rewrites m n (Touched s.free hole other)
+pub KeepsSpare-Touched : {fllen sllen : ℕ} {memory : Range} {m n : Space} {s : State} → IsWellFormed fllen sllen memory s → (t : State) (hole : Range) (other : ℕ)
+    → Rewrites m n (Touched s.free hole other)
     → ((a : ℕ) → IsSpare t a → Has hole a → ⊥) → ((a : ℕ) → IsSpare t a → other ≤ a → a < other + 8 → ⊥) → KeepsSpare m s n t
 KeepsSpare-Touched {m = m} {n = n} {s = s} w t hole other rewrites no_hole no_other a from to spare_s spare_t =
     byte_at-bytes_in n a ∙ ap (λ bs. get_or bs 0 0) (rewrites.bytes (range_at a 1) from apart) ∙ sym (byte_at-bytes_in m a)
@@ -66,13 +69,14 @@ KeepsSpare-Touched {m = m} {n = n} {s = s} w t hole other rewrites no_hole no_ot
 
 -- all but the last 32 bytes of a chunk can be free
 IsFree-body : {fllen sllen : ℕ} {memory : Range} (c : Range) → IsChunk fllen sllen memory c → IsFree fllen sllen (body c)
-IsFree-body c chunk = let room = chunk.has_room in record { whole = record { start = chunk.whole.start; len = omega (arith, chunk.whole.len) }; some = omega arith; valid = chunk.valid }
+IsFree-body c chunk = let room = chunk.has_room in
+    record { whole = record { start = chunk.whole.start; len = omega (arith, chunk.whole.len) }; some = omega arith; valid = chunk.valid }
 
 first_length-le : (o : Option ℕ) (left : ℕ) → first_length o left ≤ left
 first_length-le None left = omega arith
 first_length-le (Some most) left = omega arith
 
--- what is answered once chunks were made up to `start`, with so much left
+-- what is returned once chunks were made up to `start`, with so much left
 pub data Answers (r : Range) (all left : List Range) (start : ℕ) : Type 0 where
   no_chunk : all ≡ left → start ≡ (aligned_part r).start → Answers r all left start
   some_chunk : (aligned_part r).start < start → bytes_taken r.start all ≡ Some (end_of_last start left - r.start) → Answers r all left start
@@ -97,9 +101,11 @@ pub record IsFilled (fllen sllen : ℕ) (m0 : Space) (s : State) (r : Range) (m 
   pub to : start + left ≤ end_of r
 
 module _ {fllen sllen : ℕ} {m0 : Space} {table0 : Table} {s : State} (v : StandsFor fllen sllen (contents m0 table0) s) (r : Range) (fresh : IsFresh (range_of m0) s r) where
-  pub IsFilled-init : (start left : ℕ) → start ≡ (aligned_part r).start → left ≡ (aligned_part r).len → start ≤ end_of r → IsFilled fllen sllen m0 s r m0 table0 start left
+  pub IsFilled-init : (start left : ℕ) → start ≡ (aligned_part r).start → left ≡ (aligned_part r).len → start ≤ end_of r
+      → IsFilled fllen sllen m0 s r m0 table0 start left
   IsFilled-init start left begin whole inside =
-      let same : cut (max_pool_size fllen) (range_at start left) ≡ cut (max_pool_size fllen) (aligned_part r) = ap₂ (λ a n. cut (max_pool_size fllen) (range_at a n)) begin whole in
+      let same : cut (max_pool_size fllen) (range_at start left) ≡ cut (max_pool_size fllen) (aligned_part r) =
+      ap₂ (λ a n. cut (max_pool_size fllen) (range_at a n)) begin whole in
       record {
         now = s;
         parts = ap (λ cs. with_chunks cs s) same;
@@ -144,7 +150,8 @@ module _ {fllen sllen : ℕ} {m0 : Space} {table0 : Table} {s : State} (v : Stan
           own = here_clear filled.stands c chunk.lies_in.0 (λ a low high. omega (arith, new.apart a, covers-inside c a low high));
         }
 
-    pub IsFilled-next : (n : Space) (changed : Table) → IsAdded fllen sllen m n changed filled.now.free (range_at start (first_length (max_pool_size fllen) left)) → Costs m n 13 0
+    pub IsFilled-next : (n : Space) (changed : Table) → IsAdded fllen sllen m n changed filled.now.free (range_at start (first_length (max_pool_size fllen) left))
+        → Costs m n 13 0
         → IsFilled fllen sllen m0 s r n changed (start + first_length (max_pool_size fllen) left) (left - first_length (max_pool_size fllen) left)
     IsFilled-next n changed added costs =
         let c = range_at start (first_length (max_pool_size fllen) left) in
@@ -157,13 +164,17 @@ module _ {fllen sllen : ℕ} {m0 : Space} {table0 : Table} {s : State} (v : Stan
         record {
           now = with_chunk c filled.now;
           parts = ap (λ cs. with_chunks cs filled.now) (sym more) ∙ filled.parts;
-          new = subst (λ p. AreNew fllen sllen p (with_chunk c filled.now) rest) (sym place) (record { chunk = λ d i. new.chunk d (inr i); apart = λ a. omega (arith, new.apart a) });
+          new =
+              subst (λ p. AreNew fllen sllen p (with_chunk c filled.now) rest) (sym place)
+              (record { chunk = λ d i. new.chunk d (inr i); apart = λ a. omega (arith, new.apart a) });
           answer = answered filled.answer;
           stands = StandsFor-added filled.stands c chunk.whole chunk.has_room (λ a h. fresh_now.fresh a h.from h.to) added (c ∷ filled.now.chunks)
               (subst (λ p. IsWellFormed fllen sllen p (with_chunk c filled.now)) (sym place) t_well_formed) (λ d i. i);
           spare = λ a from to spare_s spare_t.
               let spare_now : IsSpare filled.now a = λ d i. spare_t d (inr i) in
-              KeepsSpare-Touched filled.stands.well_formed (with_chunk c filled.now) (opened c) (c.start + 8) added.rewrites no_hole no_other a (omega (arith, from, ap (λ p. p.start) filled.place)) (omega (arith, to, ap (λ p. p.start) filled.place, ap (λ p. p.len) filled.place)) spare_now spare_t ∙ filled.spare a from to spare_s spare_now;
+              KeepsSpare-Touched filled.stands.well_formed (with_chunk c filled.now) (opened c) (c.start + 8) added.rewrites no_hole no_other a
+              (omega (arith, from, ap (λ p. p.start) filled.place)) (omega (arith, to, ap (λ p. p.start) filled.place, ap (λ p. p.len) filled.place)) spare_now spare_t
+              ∙ filled.spare a from to spare_s spare_now;
           place = place ∙ filled.place;
           view = costs.view ∙ filled.view;
           none = λ none. costs.none (filled.none none);
@@ -177,7 +188,9 @@ module _ {fllen sllen : ℕ} {m0 : Space} {table0 : Table} {s : State} (v : Stan
         }
       where
         answered : Answers r (cut (max_pool_size fllen) (aligned_part r)) (cut (max_pool_size fllen) (range_at start left)) start
-            → Answers r (cut (max_pool_size fllen) (aligned_part r)) (cut (max_pool_size fllen) (range_at (start + first_length (max_pool_size fllen) left) (left - first_length (max_pool_size fllen) left))) (start + first_length (max_pool_size fllen) left)
+            → Answers r (cut (max_pool_size fllen) (aligned_part r))
+            (cut (max_pool_size fllen) (range_at (start + first_length (max_pool_size fllen) left) (left - first_length (max_pool_size fllen) left)))
+            (start + first_length (max_pool_size fllen) left)
         answered (no_chunk same at) =
             let room = (new.chunk (range_at start (first_length (max_pool_size fllen) left)) (inl refl)).has_room in
             some_chunk (omega arith) (ap (bytes_taken r.start) (same ∙ more))
@@ -185,7 +198,8 @@ module _ {fllen sllen : ℕ} {m0 : Space} {table0 : Table} {s : State} (v : Stan
             let room = (new.chunk (range_at start (first_length (max_pool_size fllen) left)) (inl refl)).has_room in
             some_chunk (omega arith) (is ∙ ap (λ cs. Some (end_of_last start cs - r.start)) more)
 
-        no_hole : (a : ℕ) → IsSpare (with_chunk (range_at start (first_length (max_pool_size fllen) left)) filled.now) a → Has (opened (range_at start (first_length (max_pool_size fllen) left))) a → ⊥
+        no_hole : (a : ℕ) → IsSpare (with_chunk (range_at start (first_length (max_pool_size fllen) left)) filled.now) a
+            → Has (opened (range_at start (first_length (max_pool_size fllen) left))) a → ⊥
         no_hole a spare h =
             let c = range_at start (first_length (max_pool_size fllen) left) in
             let room = (new.chunk c (inl refl)).has_room in
@@ -204,7 +218,8 @@ module _ {fllen sllen : ℕ} {m0 : Space} {table0 : Table} {s : State} (v : Stan
       let no_more : cut (max_pool_size fllen) (range_at start left) ≡ [] = (chunks_are_cut_off_the_front fllen start left v.well_formed.rows).0 short in
       (filled.now, record { answer = answered no_more filled.answer; after = sym (ap (λ cs. with_chunks cs filled.now) no_more) ∙ filled.parts }, filled.stands, filled.spare)
     where
-      answered : cut (max_pool_size fllen) (range_at start left) ≡ [] → Answers r (cut (max_pool_size fllen) (aligned_part r)) (cut (max_pool_size fllen) (range_at start left)) start
+      answered : cut (max_pool_size fllen) (range_at start left) ≡ []
+          → Answers r (cut (max_pool_size fllen) (aligned_part r)) (cut (max_pool_size fllen) (range_at start left)) start
           → reply ≡ bytes_taken r.start (cut (max_pool_size fllen) (aligned_part r))
       answered no_more (no_chunk same at) = none at ∙ sym (ap (bytes_taken r.start) (same ∙ no_more))
       answered no_more (some_chunk after is) = some (λ at. omega arith) ∙ sym (is ∙ ap (λ cs. Some (end_of_last start cs - r.start)) no_more)
@@ -212,5 +227,6 @@ module _ {fllen sllen : ℕ} {m0 : Space} {table0 : Table} {s : State} (v : Stan
   -- a range with no aligned byte is no chunk
   pub nothing_inserted : (aligned_part r).len ≡ 0 → (t : State) × Inserts fllen s r None t × StandsFor fllen sllen (contents m0 table0) t × KeepsSpare m0 s m0 t
   nothing_inserted none =
-      let no_chunk_left : cut (max_pool_size fllen) (aligned_part r) ≡ [] = (chunks_are_cut_off_the_front fllen (aligned_part r).start (aligned_part r).len v.well_formed.rows).0 (omega arith) in
+      let no_chunk_left : cut (max_pool_size fllen) (aligned_part r) ≡ [] =
+      (chunks_are_cut_off_the_front fllen (aligned_part r).start (aligned_part r).len v.well_formed.rows).0 (omega arith) in
       (s, record { answer = sym (ap (bytes_taken r.start) no_chunk_left); after = sym (ap (λ cs. with_chunks cs s) no_chunk_left) }, v, λ a from to spare_s spare_t. refl)

@@ -46,7 +46,14 @@ module _ {fllen sllen : ℕ} {m : Space} {t : Table} {s : State} (v : StandsFor 
       let whole = (w.free (body c) is_free).whole.start in
       let place = free_in_memory w (body c) is_free in
       record {
-        word = is_word m start (omega (arith, at, whole), (omega (arith, at, place.0), omega (arith, at, place.1)), own-word m (body c) start (here_free v (body c) is_free) (omega (arith, at)) (omega (arith, at, (w.free (body c) is_free).some, (w.free (body c) is_free).whole.len))) (subst (λ a. word_at m a < 2 ^ 64) at (omega (arith, v.sizes.free (body c) is_free, place.1, w.addressable)));
+        word =
+            is_word m start (
+              omega (arith, at, whole),
+              (omega (arith, at, place.0), omega (arith, at, place.1)),
+              own-word m (body c) start (here_free v (body c) is_free) (omega (arith, at))
+                  (omega (arith, at, (w.free (body c) is_free).some, (w.free (body c) is_free).whole.len)),
+            )
+            (subst (λ a. word_at m a < 2 ^ 64) at (omega (arith, v.sizes.free (body c) is_free, place.1, w.addressable)));
         mark = (λ _. (body c, is_free, at), λ _. subst (λ a. word_at m a % 2 ≡ 0) at (free_even v (body c) is_free));
       }
 
@@ -98,7 +105,13 @@ module _ {fllen sllen : ℕ} {m : Space} {t : Table} {s : State} (v : StandsFor 
     -- no other free block lies in the chunk
     others : (before after : List Range) → s.free ≡ before ++ (body c ∷ after) → (f : Range) → IsIn f (before ++ after) → lies_within c f ≡ false
     others before after parts f j = false_from_ne_true (lies_within c f) (λ lies.
-        let among : IsIn f s.free = subst (IsIn f) (sym parts) (elim (IsIn-append f before after j) [ inl k ↦ IsIn-append_left f before (body c ∷ after) k | inr k ↦ IsIn-append_right f before (body c ∷ after) (inr k) ]) in
+        let among : IsIn f s.free =
+        subst (IsIn f) (sym parts)
+        (elim (IsIn-append f before after j) [
+          | inl k ↦ IsIn-append_left f before (body c ∷ after) k
+          | inr k ↦
+              IsIn-append_right f before (body c ∷ after) (inr k)
+        ]) in
         let same = only f among lies in
         let some = (w.free (body c) is_free).some in
         let one : covers (body c) c.start ≡ 1 = covers-inside (body c) c.start (omega arith) (omega arith) in

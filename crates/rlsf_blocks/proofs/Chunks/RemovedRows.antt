@@ -39,7 +39,7 @@ module _ {fllen sllen : ℕ} {m0 : Space} {t0 : Table} {s : State} (v : StandsFo
       let free = outside_of-none q s.free (λ f i. false_from_ne_true (lies_within q f) (λ e. omega (arith, lies_within-true q f e, (v.well_formed.free f i).some))) in
       ap₂ (λ x y. record { chunks = x; used = s.used; free = y }) chunks free
 
-  -- what is walked of a range is what lies between where the walk begins and ends
+  -- the iterated part of a range lies between the start and the end of the iteration
   pub IsRow-span : (r : Range) (start end : ℕ) → IsSpan r start end → IsRow s r → IsRow s (between start end)
   IsRow-span r start end span row a from to = elim (cases_lt 0 r.len) [
     | inl some ↦
@@ -94,7 +94,8 @@ module _ {fllen sllen : ℕ} {m0 : Space} {t0 : Table} {s : State} (v : StandsFo
       next_chunk : (c : Range) × IsIn c s.chunks × (c.start ≡ start) × (end_of c ≤ end_of q) × (start < end_of c)
       next_chunk =
           let (c, i, low, at, high, up) = row start is.from more in
-          let begins : c.start ≡ start = elim (cases_lt c.start start) [ inl before ↦ absurd (omega (arith, is.edge more c i before, high)) | inr from ↦ omega (arith, from, at) ] in
+          let begins : c.start ≡ start =
+          elim (cases_lt c.start start) [ inl before ↦ absurd (omega (arith, is.edge more c i before, high)) | inr from ↦ omega (arith, from, at) ] in
           (c, i, begins, up, high)
 
       pub chunk : Range
@@ -146,7 +147,8 @@ module _ {fllen sllen : ℕ} {m0 : Space} {t0 : Table} {s : State} (v : StandsFo
 
       -- it was taken out
       pub IsRemovedTo-next : {n : Space} {other : Table} {end : ℕ}
-          → StandsFor fllen sllen (contents n other) (removed chunk (removed (between q.start start) s)) × KeepsSpare m (removed (between q.start start) s) n (removed (between q.start start) s) × (end_of chunk ≡ end)
+          → StandsFor fllen sllen (contents n other) (removed chunk (removed (between q.start start) s))
+          × KeepsSpare m (removed (between q.start start) s) n (removed (between q.start start) s) × (end_of chunk ≡ end)
           → Costs m n 9 0 → IsRemovedTo fllen sllen m0 s q n other end
       IsRemovedTo-next {n} {other} {end} (stands, spare, at) costs =
           let next = removed-next end at in
@@ -155,13 +157,17 @@ module _ {fllen sllen : ℕ} {m0 : Space} {t0 : Table} {s : State} (v : StandsFo
             to = omega (arith, at, ends);
             stands = subst (StandsFor fllen sllen (contents n other)) next stands;
             spare = λ a from to here there.
-                let left : (c : Range) → IsIn c (outside_of (between q.start start) s.chunks) → IsIn c s.chunks = λ c i. (IsIn-outside (between q.start start) c s.chunks i).0 in
-                spare a (omega (arith, is.place.0, from)) (omega (arith, is.place.0, is.place.1, to)) (λ c i. here c (left c i)) (λ c i. here c (left c i)) ∙ is.spare a from to here here;
+                let left : (c : Range) → IsIn c (outside_of (between q.start start) s.chunks) → IsIn c s.chunks =
+                λ c i. (IsIn-outside (between q.start start) c s.chunks i).0 in
+                spare a (omega (arith, is.place.0, from)) (omega (arith, is.place.0, is.place.1, to)) (λ c i. here c (left c i)) (λ c i. here c (left c i))
+                ∙ is.spare a from to here here;
             edge = λ lt c i before. elim (cases_lt c.start start) [
               | inl low ↦ omega (arith, is.edge more c i low, at, past)
               | inr from ↦
                   let room = (v.well_formed.chunks c i).has_room in
-                  let same = chunk_chunk v.well_formed c chunk c.start i is_chunk (record { from = omega arith; to = omega arith }) (record { from = omega (arith, begins); to = omega (arith, at) }) in
+                  let same =
+                  chunk_chunk v.well_formed c chunk c.start i is_chunk (record { from = omega arith; to = omega arith })
+                  (record { from = omega (arith, begins); to = omega (arith, at) }) in
                   omega (arith, ap (λ x. end_of x) same, at)
             ];
             place = (costs.start ∙ is.place.0, costs.length ∙ is.place.1, costs.view ∙ is.place.2, λ none. costs.none (is.place.3 none));
@@ -177,5 +183,6 @@ module _ {fllen sllen : ℕ} {m0 : Space} {t0 : Table} {s : State} (v : StandsFo
           }
 
     -- at the end all are taken out
-    pub IsRemovedTo-end : {m : Space} {table : Table} {start : ℕ} → IsRemovedTo fllen sllen m0 s q m table start → end_of q ≤ start → IsRemovedTo fllen sllen m0 s q m table (end_of q)
+    pub IsRemovedTo-end : {m : Space} {table : Table} {start : ℕ} → IsRemovedTo fllen sllen m0 s q m table start → end_of q ≤ start
+        → IsRemovedTo fllen sllen m0 s q m table (end_of q)
     IsRemovedTo-end {m} {table} {start} is over = subst (IsRemovedTo fllen sllen m0 s q m table) (omega (arith, is.to, over)) is

@@ -14,7 +14,8 @@ use Rattle.rlsf_machine.proofs.Payloads.{payload_of-le, IsUsed-aligned, IsUsed-a
 use Rattle.rlsf_blocks.proofs.Words.Apart.{used_in_memory}
 use Rattle.rlsf_blocks.proofs.Words.Frames.{wide_whole}
 
-module _ {fllen sllen : ℕ} {m : Space} {t : Table} {s : State} (v : StandsFor fllen sllen (contents m t) s) (u : Used) (i : IsIn u s.used) {payload align : ℕ} (at : u.payload ≡ payload) (is : u.align ≡ align) where
+module _ {fllen sllen : ℕ} {m : Space} {t : Table} {s : State} (v : StandsFor fllen sllen (contents m t) s) (u : Used) (i : IsIn u s.used) {payload align : ℕ}
+    (at : u.payload ≡ payload) (is : u.align ≡ align) where
   pub narrow_start : align < 32 → u.block.start + 16 ≡ payload
   narrow_start narrow =
       let used = v.well_formed.used u i in
@@ -33,4 +34,8 @@ module _ {fllen sllen : ℕ} {m : Space} {t : Table} {s : State} (v : StandsFor 
       let granule = wide_whole u.payload u.align used.power (omega arith) (IsUsed-aligned u used) in
       let after_start = IsUsed-after_start u used in
       let bound : word_at m (payload - 8) < 2 ^ 64 = omega (arith, wide_start wide, place.1, v.well_formed.addressable, used.within) in
-      is_word m (payload - 8) (omega (arith, granule), (omega (arith, place.0), omega (arith, place.1, used.within)), own-word m (between u.block.start u.payload) (payload - 8) (here_front v u i) (omega (arith, at, after_start)) (omega (arith, at, after_start))) bound
+      is_word m (payload - 8) (
+        omega (arith, granule),
+        (omega (arith, place.0), omega (arith, place.1, used.within)),
+        own-word m (between u.block.start u.payload) (payload - 8) (here_front v u i) (omega (arith, at, after_start)) (omega (arith, at, after_start)),
+      ) bound

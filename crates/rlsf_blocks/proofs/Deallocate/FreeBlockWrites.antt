@@ -27,8 +27,10 @@ pub record ArePut (m m1 m2 : Space) (r : Range) : Type 0 where
   pub one : IsWrite m m1 r.start r.len
   pub two : IsWrite m1 m2 (end_of r + 8) r.start
 
-pub ArePut-from : {fllen sllen : ℕ} {m m1 m2 : Space} {t : Table} {free : List Range} (block len : ℕ) (r : Range) → IsInnerRoom fllen sllen m t free r → r.start ≡ block → r.len ≡ len
-    → (m1.start ≡ m.start) × (m1.bytes ≡ with_word m block len) × (m1.out ≡ out_with m (word_range block)) → (m2.start ≡ m1.start) × (m2.bytes ≡ with_word m1 (block + len + 8) block) × (m2.out ≡ out_with m1 (word_range (block + len + 8))) → ArePut m m1 m2 r
+pub ArePut-from : {fllen sllen : ℕ} {m m1 m2 : Space} {t : Table} {free : List Range} (block len : ℕ) (r : Range) → IsInnerRoom fllen sllen m t free r → r.start ≡ block
+    → r.len ≡ len
+    → (m1.start ≡ m.start) × (m1.bytes ≡ with_word m block len) × (m1.out ≡ out_with m (word_range block))
+    → (m2.start ≡ m1.start) × (m2.bytes ≡ with_word m1 (block + len + 8) block) × (m2.out ≡ out_with m1 (word_range (block + len + 8))) → ArePut m m1 m2 r
 ArePut-from {m = m} {m1 = m1} {m2 = m2} block len r inner start length e1 e2 =
     let inside = inner.room.placed.lies_in in
     let whole = inner.room.block.whole in
@@ -39,7 +41,9 @@ ArePut-from {m = m} {m1 = m1} {m2 = m2} block len r inner start length e1 e2 =
     let h1 : IsOwned m (word_range block) = own-word m r block inner.room.placed.own (omega arith) (omega (arith, large)) in
     let w1 : IsWrite m m1 block len = write (omega arith, (omega arith, omega arith), h1) e1.0 e1.1 (omega arith) e1.2 in
     let l1 = (Rewrites-word m m1 block len w1.placed w1.start w1.bytes w1.out).length in
-    let h2 : IsOwned m1 (word_range (block + len + 8)) = own-there m m1 (word_range (block + len + 8)) (omega arith) (rewrites_of w1).own (own-word m (range_at (end_of r) 16) (block + len + 8) inner.behind (omega arith) (omega arith)) in
+    let h2 : IsOwned m1 (word_range (block + len + 8)) =
+    own-there m m1 (word_range (block + len + 8)) (omega arith) (rewrites_of w1).own
+    (own-word m (range_at (end_of r) 16) (block + len + 8) inner.behind (omega arith) (omega arith)) in
     let w2 : IsWrite m1 m2 (block + len + 8) block = write (omega arith, (omega arith, omega arith), h2) e2.0 e2.1 (omega arith) e2.2 in
     record {
       one = subst (λ a. IsWrite m m1 a r.len) (sym start) (subst (λ n. IsWrite m m1 block n) (sym length) w1);
@@ -53,12 +57,21 @@ module _ {fllen sllen : ℕ} {m m1 m2 : Space} {t : Table} {free : List Range} (
   list_written : IsFreeTable fllen sllen m2 t free
   list_written = IsFreeTable-Rewrites written other inner.room.list
     where
-      other : (f : Range) → IsIn f free → ¬ ((f.start ≡ r.start) ⊎ (f.start ≡ end_of r + 8)) × ¬ ((f.start + 16 ≡ r.start) ⊎ (f.start + 16 ≡ end_of r + 8)) × ¬ ((f.start + 24 ≡ r.start) ⊎ (f.start + 24 ≡ end_of r + 8))
+      other : (f : Range) → IsIn f free
+          → ¬ ((f.start ≡ r.start) ⊎ (f.start ≡ end_of r + 8)) × ¬ ((f.start + 16 ≡ r.start) ⊎ (f.start + 16 ≡ end_of r + 8))
+          × ¬ ((f.start + 24 ≡ r.start) ⊎ (f.start + 24 ≡ end_of r + 8))
       other f i =
           let placed = inner.room.list.placed f i in
           let whole = inner.room.block.whole in
           let long = inner.room.placed.room in
-          let apart : f.start ≢ r.start = λ same. omega (arith, inner.room.apart r.start, covers-inside r r.start (omega arith) (omega arith), coverage-IsIn itself f free r.start i, covers-inside f r.start (omega arith) (omega (arith, placed.room))) in (
+          let apart : f.start ≢ r.start =
+          λ same. omega (
+            arith,
+            inner.room.apart r.start,
+            covers-inside r r.start (omega arith) (omega arith),
+            coverage-IsIn itself f free r.start i,
+            covers-inside f r.start (omega arith) (omega (arith, placed.room)),
+          ) in (
             (elim [ inl e ↦ apart e | inr e ↦ omega (arith, placed.whole) ]),
             (elim [ inl e ↦ omega (arith, placed.whole) | inr e ↦ omega (arith, placed.whole) ]),
             (elim [ inl e ↦ omega (arith, placed.whole) | inr e ↦ omega (arith, placed.whole) ]),
@@ -90,8 +103,12 @@ module _ {fllen sllen : ℕ} {m m1 m2 : Space} {t : Table} {free : List Range} (
         let place = writes.one.start in
         record {
           rewrites = Rewrites-weaken joined (Rewrites-trans written linked.1);
-          size = kept r.start (omega (arith, whole.start)) (omega (arith, whole.start)) inside.0 ∙ second.words r.start (omega (arith, whole.start)) (omega arith) (λ e. omega arith) ∙ reads_of writes.one;
-          first = kept (r.start + 8) (omega (arith, whole.start)) (omega (arith, whole.start)) (omega arith) ∙ written.words (r.start + 8) (omega (arith, whole.start)) (omega arith) first_apart;
+          size =
+              kept r.start (omega (arith, whole.start)) (omega (arith, whole.start)) inside.0
+              ∙ second.words r.start (omega (arith, whole.start)) (omega arith) (λ e. omega arith) ∙ reads_of writes.one;
+          first =
+              kept (r.start + 8) (omega (arith, whole.start)) (omega (arith, whole.start)) (omega arith)
+              ∙ written.words (r.start + 8) (omega (arith, whole.start)) (omega arith) first_apart;
           behind = kept (end_of r + 8) (omega (arith, whole.start, whole.len)) (omega (arith, whole.start, whole.len)) (omega arith) ∙ reads_of writes.two;
           table = linked.0;
         }

@@ -22,9 +22,10 @@ module _ (m n : Space) (start : n.start ≡ m.start) (bytes : n.bytes ≡ m.byte
       record { word = IsReadable-loaded marked.word; mark = (λ even. marked.mark.0 (sym same ∙ even), λ begins. same ∙ marked.mark.1 begins) }
 
   -- a block was taken out after that
-  pub IsNextOut-loaded : {fllen sllen : ℕ} {o : Space} {t : Table} {free : List Range} {a len : ℕ} → IsNextOut fllen sllen n o t free a len → IsNextOut fllen sllen m o t free a len
+  pub IsNextOut-loaded : {fllen sllen : ℕ} {o : Space} {t : Table} {free : List Range} {a len : ℕ} → IsNextOut fllen sllen n o t free a len
+      → IsNextOut fllen sllen m o t free a len
   IsNextOut-loaded next = record { rewrites = Rewrites-counted_first m n start bytes out next.rewrites; list = next.list; end = next.end }
 
--- the same words stand in a memory with more touches
+-- the same words are in a memory with more touches
 pub word_at-touched : (m n : Space) (more : ℕ) → n ≡ record m { touches = m.touches + more } → (a : ℕ) → word_at n a ≡ word_at m a
 word_at-touched m n more same a = word_at-counted m n (ap (λ (o : Space). o.start) same) (ap (λ (o : Space). o.bytes) same) (ap (λ (o : Space). o.out) same) a

@@ -1,4 +1,4 @@
--- The words at the neighbours of a used block tell if they are free.
+-- The words at the neighbours of a used block show whether they are free.
 use Rattle.rlsf_base.proofs.Lending.WordIsHere.{is_word}
 use Rattle.rlsf_base.proofs.Lending.Present.{own-there}
 use Rattle.std.proofs.Common.{◌<◌, ◌^◌}
@@ -8,7 +8,8 @@ use Rattle.rlsf_base.specs.Space.{word_range}
 use Rattle.rlsf_machine.specs.State.{between}
 use Rattle.rlsf_machine.proofs.Payloads.{IsUsed-after_start}
 use Rattle.rlsf_blocks.proofs.Words.NeverOut.{here_free, here_front, here_behind_used}
-use Rattle.std.proofs.Common.{◌≡◌, ◌≢◌, ◌↔◌, ℕ, eqb, false, ◌+◌, ◌-◌, ◌%◌, ◌<◌, ◌≤◌, Some, None, find, arith, inl, inr, sym, ◌∙◌, ap, subst}
+use Rattle.std.proofs.Common.{◌≡◌, ◌≢◌, ◌↔◌, ℕ, eqb, false, ◌+◌, ◌-◌, ◌%◌, ◌<◌, ◌≤◌, Some, None, find, arith, inl, inr, sym, ◌∙◌}
+use Rattle.std.proofs.Common.{ap, subst}
 use Rattle.std.proofs.lemmas.Bool.{eq-eqb, eqb-true, ne_eqb}
 use Rattle.rlsf_base.specs.declared.memory.range.Range.{Range}
 use Rattle.rlsf_base.specs.Range.{end_of}
@@ -30,7 +31,7 @@ use Rattle.rlsf_blocks.proofs.Machine.FreeBlocks.{IsFreeTable-free}
 use Rattle.rlsf_blocks.proofs.Machine.Neighbours.{Before, free_before, used_before, none_before, Behind, free_behind, used_behind, last_behind, before_used, behind_used}
 use Rattle.rlsf_blocks.proofs.Words.Apart.{used_free, free_free, free_last, chunk_chunk, home_of_free, used_in_memory, free_in_memory}
 
--- what the word names that tells the block before an address: a free block, a used one, or none
+-- what the word names that shows the block before an address: a free block, a used one, or none
 pub data Named (m : Space) (s : State) (b previous : ℕ) : Type 0 where
   names_free : (f : Range) → IsIn f s.free → end_of f ≡ b → previous ≡ f.start → find (ends_at b) s.free ≡ Some f → Named m s b previous
   names_used : (x : Used) → IsIn x s.used → previous ≡ x.block.start → find (ends_at b) s.free ≡ None → Named m s b previous
@@ -76,7 +77,9 @@ module _ {fllen sllen : ℕ} {m : Space} {t : Table} {s : State} (v : StandsFor 
         let more = (v.well_formed.free f k).some in
         let room = (v.well_formed.chunks c j).has_room in
         let home = home_of_free v.well_formed f k in
-        let same = chunk_chunk v.well_formed home.chunk c b home.is_chunk j (record { from = omega (arith, home.from); to = omega (arith, home.to) }) (record { from = omega arith; to = omega arith }) in
+        let same =
+        chunk_chunk v.well_formed home.chunk c b home.is_chunk j (record { from = omega (arith, home.from); to = omega (arith, home.to) })
+        (record { from = omega arith; to = omega arith }) in
         omega (arith, home.from, ap (λ r. r.start) same))
 
     pub named : Named m s b previous
@@ -93,7 +96,7 @@ module _ {fllen sllen : ℕ} {m : Space} {t : Table} {s : State} (v : StandsFor 
         go (used_before x j end) = names_used x j (is ∙ ap (λ a. word_at m (a + 8)) (sym end) ∙ v.previous.used x j) (no_other_end x j end)
         go (none_before c j start) = names_none (is ∙ ap (λ a. word_at m (a + 8)) (sym start) ∙ v.previous.first c j) (no_end_before c j start)
 
-    -- the word that tells it is one
+    -- the word that shows it is one
     pub previous-fits : word_at m (b + 8) < 2 ^ 64
     previous-fits = subst (λ n. n < 2 ^ 64) is (go named)
       where
@@ -133,7 +136,13 @@ module _ {fllen sllen : ℕ} {m : Space} {t : Table} {s : State} (v : StandsFor 
             let is = v.well_formed.free f j in
             let place = free_in_memory v.well_formed f j in
             record {
-              word = is_word m previous (omega (arith, is.whole.start), (omega (arith, place.0), omega (arith, place.1)), own-word m f previous (here_free v f j) (omega (arith, same)) (omega (arith, same, is.some, is.whole.len))) (subst (λ a. word_at m a < 2 ^ 64) (sym same) (omega (arith, v.sizes.free f j, place.1, v.well_formed.addressable)));
+              word =
+                  is_word m previous (
+                    omega (arith, is.whole.start),
+                    (omega (arith, place.0), omega (arith, place.1)),
+                    own-word m f previous (here_free v f j) (omega (arith, same)) (omega (arith, same, is.some, is.whole.len)),
+                  )
+                  (subst (λ a. word_at m a < 2 ^ 64) (sym same) (omega (arith, v.sizes.free f j, place.1, v.well_formed.addressable)));
               mark = (λ even. (f, j, sym same), λ begins. ap (λ a. word_at m a % 2) same ∙ free_even f j);
             }
         go (names_used x j same e) =
@@ -141,19 +150,27 @@ module _ {fllen sllen : ℕ} {m : Space} {t : Table} {s : State} (v : StandsFor 
             let place = used_in_memory v.well_formed x j in
             let odd = ap (λ a. word_at m a % 2) same ∙ used_odd x j in
             record {
-              word = is_word m previous (omega (arith, is.whole.start), (omega (arith, place.0), omega (arith, place.1)), own-word m (between x.block.start x.payload) previous (here_front v x j) (omega (arith, same)) (omega (arith, same, IsUsed-after_start x is))) (subst (λ a. word_at m a < 2 ^ 64) (sym same) (omega (arith, v.sizes.used x j, place.1, v.well_formed.addressable)));
+              word =
+                  is_word m previous (
+                    omega (arith, is.whole.start),
+                    (omega (arith, place.0), omega (arith, place.1)),
+                    own-word m (between x.block.start x.payload) previous (here_front v x j) (omega (arith, same)) (omega (arith, same, IsUsed-after_start x is)),
+                  )
+                  (subst (λ a. word_at m a < 2 ^ 64) (sym same) (omega (arith, v.sizes.used x j, place.1, v.well_formed.addressable)));
               mark = (λ even. absurd (omega (arith, odd, even)), λ begins. absurd (used_begins x j previous (sym same) begins));
             }
         go (names_none none e) = absurd (some none)
 
     -- and was taken out, if it is free
-    pub previous_out : {n : Space} {x : Table} {len : ℕ} → previous ≢ 0 → IsNextOut fllen sllen m n x s.free previous len → (len ≤ b) × IsPreviousOut fllen sllen m n x s.free b (b - len)
+    pub previous_out : {n : Space} {x : Table} {len : ℕ} → previous ≢ 0 → IsNextOut fllen sllen m n x s.free previous len
+        → (len ≤ b) × IsPreviousOut fllen sllen m n x s.free b (b - len)
     previous_out {n} {x} {len} some out = go named
       where
         missing : (FreeBlockBegins s.free previous → ⊥) → find (ends_at b) s.free ≡ None → (len ≤ b) × IsPreviousOut fllen sllen m n x s.free b (b - len)
         missing none e =
             let no_start = find-no_start s.free previous (λ f j same. none (f, j, same)) in
-            let left : without (starts_at previous) s.free ≡ without (ends_at b) s.free = without-none (starts_at previous) s.free no_start ∙ sym (without-none (ends_at b) s.free e) in
+            let left : without (starts_at previous) s.free ≡ without (ends_at b) s.free =
+            without-none (starts_at previous) s.free no_start ∙ sym (without-none (ends_at b) s.free e) in
             let end : previous + len ≡ previous = out.end ∙ ap (end_or previous) no_start in (
               omega (arith, end),
               record {
@@ -206,14 +223,16 @@ module _ {fllen sllen : ℕ} {m : Space} {t : Table} {s : State} (v : StandsFor 
         no_link (g, j, inl at_link) = omega (arith, (v.well_formed.free g j).whole.start)
         no_link (g, j, inr at_link) = omega (arith, (v.well_formed.free g j).whole.start)
 
-    -- what begins in the list without the block before began in the whole list
+    -- what begins in the list without the block before began in the complete list
     still : (a : ℕ) → FreeBlockBegins (without (ends_at b) s.free) a → FreeBlockBegins s.free a
     still a (f, j, same) = (f, IsIn-without (ends_at b) f s.free j, same)
 
     -- the word there is one
     behind-fits : (e : ℕ) → Behind s e → word_at m e < 2 ^ 64
-    behind-fits e (free_behind f j begin) = subst (λ a. word_at m a < 2 ^ 64) begin (omega (arith, v.sizes.free f j, (free_in_memory v.well_formed f j).1, v.well_formed.addressable))
-    behind-fits e (used_behind x j begin) = subst (λ a. word_at m a < 2 ^ 64) begin (omega (arith, v.sizes.used x j, (used_in_memory v.well_formed x j).1, v.well_formed.addressable))
+    behind-fits e (free_behind f j begin) =
+        subst (λ a. word_at m a < 2 ^ 64) begin (omega (arith, v.sizes.free f j, (free_in_memory v.well_formed f j).1, v.well_formed.addressable))
+    behind-fits e (used_behind x j begin) =
+        subst (λ a. word_at m a < 2 ^ 64) begin (omega (arith, v.sizes.used x j, (used_in_memory v.well_formed x j).1, v.well_formed.addressable))
     behind-fits e (last_behind c j begin) = subst (λ a. word_at m a < 2 ^ 64) begin (omega (arith, v.sizes.sentinel c j))
 
     -- the block behind it is marked
@@ -223,7 +242,14 @@ module _ {fllen sllen : ℕ} {m : Space} {t : Table} {s : State} (v : StandsFor 
         let place = used_in_memory v.well_formed u i in
         let whole : e % 32 ≡ 0 = omega (arith, end, is.whole.start, is.whole.len) in
         record {
-          word = is_word n e (omega (arith, whole), (omega (arith, end, place.0, out.rewrites.start), omega (arith, end, place.1, out.rewrites.start, out.rewrites.length)), own-there m n (word_range e) (omega (arith, end, place.0)) out.rewrites.own (own-word m (range_at (end_of u.block) 16) e (here_behind_used v u i) (omega (arith, end)) (omega (arith, end)))) (subst (λ a. a < 2 ^ 64) (sym (kept e whole (omega (arith, end, place.0)))) (behind-fits e (subst (Behind s) end (behind_used v.well_formed u i))));
+          word =
+              is_word n e (
+                omega (arith, whole),
+                (omega (arith, end, place.0, out.rewrites.start), omega (arith, end, place.1, out.rewrites.start, out.rewrites.length)),
+                own-there m n (word_range e) (omega (arith, end, place.0)) out.rewrites.own
+                    (own-word m (range_at (end_of u.block) 16) e (here_behind_used v u i) (omega (arith, end)) (omega (arith, end))),
+              )
+              (subst (λ a. a < 2 ^ 64) (sym (kept e whole (omega (arith, end, place.0)))) (behind-fits e (subst (Behind s) end (behind_used v.well_formed u i))));
           mark = go (kept e whole (omega (arith, end, place.0))) (subst (Behind s) end (behind_used v.well_formed u i));
         }
       where

@@ -1,4 +1,4 @@
--- A used block was joined with its free neighbours: the value stands for the state without it.
+-- A used block was joined with its free neighbours: the value represents the state without it.
 use Rattle.rlsf_base.proofs.Lending.Present.{own-there}
 use Rattle.rlsf_blocks.proofs.Words.NeverOut.{here_free-in, here_behind_free-in, here_released}
 use Rattle.std.proofs.Common.{◌≡◌, ℕ, ◌+◌, ◌-◌, ◌≤◌, ◌⊎◌, length, arith, inl, inr, refl, sym, ◌∙◌, ap, subst}
@@ -48,13 +48,16 @@ module _ {fllen sllen : ℕ} {m : Space} {t : Table} {s : State} (v : StandsFor 
   end_computed {block} {word} at is = omega (arith, at, is ∙ ap (word_at m) (sym at) ∙ v.sizes.used u i)
 
   -- what was taken out, at the block's own start and end
-  pub before_at : {m1 : Space} {x : Table} {block start : ℕ} → u.block.start ≡ block → IsPreviousOut fllen sllen m m1 x s.free block start → IsPreviousOut fllen sllen m m1 x s.free u.block.start start
+  pub before_at : {m1 : Space} {x : Table} {block start : ℕ} → u.block.start ≡ block → IsPreviousOut fllen sllen m m1 x s.free block start
+      → IsPreviousOut fllen sllen m m1 x s.free u.block.start start
   before_at {m1} {x} {block} {start} at out = subst (λ b. IsPreviousOut fllen sllen m m1 x s.free b start) (sym at) out
 
-  pub behind_at : {m1 m2 : Space} {x : Table} {block end next : ℕ} → u.block.start ≡ block → end_of u.block ≡ end → IsNextOut fllen sllen m1 m2 x (without (ends_at block) s.free) end next
+  pub behind_at : {m1 m2 : Space} {x : Table} {block end next : ℕ} → u.block.start ≡ block → end_of u.block ≡ end
+      → IsNextOut fllen sllen m1 m2 x (without (ends_at block) s.free) end next
       → IsNextOut fllen sllen m1 m2 x (without (ends_at u.block.start) s.free) (end_of u.block) next
   behind_at {m1} {m2} {x} {block} {end} {next} at is out =
-      subst (λ b. IsNextOut fllen sllen m1 m2 x (without (ends_at b) s.free) (end_of u.block) next) (sym at) (subst (λ e. IsNextOut fllen sllen m1 m2 x (without (ends_at block) s.free) e next) (sym is) out)
+      subst (λ b. IsNextOut fllen sllen m1 m2 x (without (ends_at b) s.free) (end_of u.block) next) (sym at)
+      (subst (λ e. IsNextOut fllen sllen m1 m2 x (without (ends_at block) s.free) e next) (sym is) out)
 
   -- the free blocks before it and behind it were taken out
   module _ {m1 m2 : Space} {t1 t2 : Table} {start next : ℕ} (before : IsPreviousOut fllen sllen m m1 t1 s.free u.block.start start)
@@ -98,7 +101,9 @@ module _ {fllen sllen : ℕ} {m : Space} {t : Table} {s : State} (v : StandsFor 
             apart = λ a. free-le (released s u) (tiling_of t_well_formed) a;
           };
           not_last = omega (arith, place.1, moved.start, moved.length);
-          behind = own-there m m2 (range_at (end_of (union u.block s.free)) 16) (omega arith) moved.own (here_behind_free-in m t_well_formed (here_released v u i own) (union u.block s.free) (inl refl));
+          behind =
+              own-there m m2 (range_at (end_of (union u.block s.free)) 16) (omega arith) moved.own
+              (here_behind_free-in m t_well_formed (here_released v u i own) (union u.block s.free) (inl refl));
         }
 
     -- and their union with it was put in front
@@ -119,7 +124,8 @@ module _ {fllen sllen : ℕ} {m : Space} {t : Table} {s : State} (v : StandsFor 
             own = here_released v u i own;
           }
         where
-          joined : (a : ℕ) → IsLink s.free a ⊎ Touched (untouched u.block s.free) (union u.block s.free) (end_of (union u.block s.free) + 8) a → Touched s.free (union u.block s.free) (end_of (union u.block s.free) + 8) a
+          joined : (a : ℕ) → IsLink s.free a ⊎ Touched (untouched u.block s.free) (union u.block s.free) (end_of (union u.block s.free) + 8) a
+              → Touched s.free (union u.block s.free) (end_of (union u.block s.free) + 8) a
           joined a (inl l) = at_link l
           joined a (inr (at_link (f, j, at))) = at_link (f, was_free f j, at)
           joined a (inr (in_hole low high)) = in_hole low high
@@ -133,7 +139,13 @@ module _ {fllen sllen : ℕ} {m : Space} {t : Table} {s : State} (v : StandsFor 
           still f (inl same) = subst (IsFreeStill n s (union u.block s.free)) (sym same) (new_free put.size put.behind)
           still f (inr j) =
               old_free (was_free f j)
-              (λ a hf hu. omega (arith, free-le (released s u) (tiling_of t_well_formed) a, covers-inside (union u.block s.free) a hu.from hu.to, covers-inside f a hf.from hf.to, coverage-IsIn itself f (untouched u.block s.free) a j))
+              (λ a hf hu. omega (
+                arith,
+                free-le (released s u) (tiling_of t_well_formed) a,
+                covers-inside (union u.block s.free) a hu.from hu.to,
+                covers-inside f a hf.from hf.to,
+                coverage-IsIn itself f (untouched u.block s.free) a j,
+              ))
 
       pub released_stands : IsOwned m (usable u) → StandsFor fllen sllen (contents n x) (released s u) × KeepsSpare m s n (released s u)
       released_stands own =

@@ -29,7 +29,8 @@ module _ {fllen sllen : ℕ} {m : Space} {t : Table} {block : ℕ} {free : List 
 
   -- it was unlinked
   pub IsNextOut-unlinked : {n : Space} {u : Table} {len : ℕ} → len ≡ word_at m block → len % 2 ≡ 0
-      → ((r : Range) (before after : List Range) → r.start ≡ block → r.len ≡ len → IsFreeTable fllen sllen m t (before ++ (r ∷ after)) → HasTable fllen sllen n u (before ++ after) × Rewrites m n (IsLink (before ++ (r ∷ after))))
+      → ((r : Range) (before after : List Range) → r.start ≡ block → r.len ≡ len → IsFreeTable fllen sllen m t (before ++ (r ∷ after))
+      → HasTable fllen sllen n u (before ++ after) × Rewrites m n (IsLink (before ++ (r ∷ after))))
       → IsNextOut fllen sllen m n u free block len
   IsNextOut-unlinked {n} {u} {len} is even unlinked =
       let (f, i, at, long) = block_there is even in
@@ -44,7 +45,8 @@ module _ {fllen sllen : ℕ} {m : Space} {t : Table} {block : ℕ} {free : List 
       }
 
   -- no free block begins there
-  pub IsNextOut-none : (n : Space) → n.start ≡ m.start → n.bytes ≡ m.bytes → n.out ≡ m.out → {size : ℕ} → size ≡ word_at m block → size % 2 ≡ 1 → IsNextOut fllen sllen m n t free block 0
+  pub IsNextOut-none : (n : Space) → n.start ≡ m.start → n.bytes ≡ m.bytes → n.out ≡ m.out → {size : ℕ} → size ≡ word_at m block → size % 2 ≡ 1
+      → IsNextOut fllen sllen m n t free block 0
   IsNextOut-none n start bytes out {size} is odd =
       let none = find-no_start free block (λ f i at. omega (arith, ap (λ w. w % 2) is, marked.mark.1 (f, i, at))) in
       record {

@@ -1,5 +1,6 @@
 -- What an append does, by the greatest length of a chunk.
-use Rattle.std.proofs.Common.{◌≡◌, ℕ, zero, suc, ◌+◌, ◌*◌, ◌/◌, ◌^◌, ◌<◌, true, false, List, [], ◌∷◌, length, Option, Some, None, find, true≢false, arith, refl, sym, ◌∙◌, ap, subst, inl, inr}
+use Rattle.std.proofs.Common.{◌≡◌, ℕ, zero, suc, ◌+◌, ◌*◌, ◌/◌, ◌^◌, ◌<◌, true, false, List, [], ◌∷◌, length, Option, Some, None, find}
+use Rattle.std.proofs.Common.{true≢false, arith, refl, sym, ◌∙◌, ap, subst, inl, inr}
 use Rattle.std.proofs.lemmas.Bool.{eq-eqb, eqb-true}
 use Rattle.std.specs.Option.{is_some}
 use Rattle.std.specs.Prelude.{if◌then◌else◌}
@@ -45,10 +46,12 @@ bytes_taken-total at [] = omega arith
 bytes_taken-total at (c ∷ cs) = refl
 
 -- where chunks have a greatest length, an append is an insertion
-pub Appends-inserted : (fllen most : ℕ) (s : State) (r : Range) (reply : Option ℕ) (number : ℕ) (t : State) → max_pool_size fllen ≡ Some most → number ≡ or_zero reply → Inserts fllen s r reply t → Appends fllen s r number t
+pub Appends-inserted : (fllen most : ℕ) (s : State) (r : Range) (reply : Option ℕ) (number : ℕ) (t : State) → max_pool_size fllen ≡ Some most → number ≡ or_zero reply
+    → Inserts fllen s r reply t → Appends fllen s r number t
 Appends-inserted fllen most s r reply number t limited same step =
     let of = aligned_part r in
-    let answer : number ≡ total_length r.start (cut (Some most) of) = same ∙ ap or_zero step.answer ∙ bytes_taken-total r.start (cut (max_pool_size fllen) of) ∙ ap (λ o. total_length r.start (cut o of)) limited in
+    let answer : number ≡ total_length r.start (cut (Some most) of) =
+    same ∙ ap or_zero step.answer ∙ bytes_taken-total r.start (cut (max_pool_size fllen) of) ∙ ap (λ o. total_length r.start (cut o of)) limited in
     let after : t ≡ appended (Some most) r s = step.after ∙ ap (λ o. with_chunks (cut o of) s) limited in
     record { answer = answer ∙ ap (λ o. appended_bytes o r) (sym limited); after = after ∙ ap (λ o. appended o r s) (sym limited) }
 
@@ -82,7 +85,8 @@ module _ (fllen : ℕ) (s : State) (r : Range) (unlimited : max_pool_size fllen 
             ends,
           )
 
-  pub Appends-grown : {memory : Range} (len : ℕ) (c : Range) → len ≡ r.len / 32 * 32 → IsExtensible fllen memory s c len → end_of c ≡ r.start → Appends fllen s r len (grown c len s)
+  pub Appends-grown : {memory : Range} (len : ℕ) (c : Range) → len ≡ r.len / 32 * 32 → IsExtensible fllen memory s c len → end_of c ≡ r.start
+      → Appends fllen s r len (grown c len s)
   Appends-grown len c whole is ends =
       let found : find (ends_at r.start) s.chunks ≡ Some c = subst (λ a. find (ends_at a) s.chunks ≡ Some c) ends is.found in
       grows len (grown c len s) whole (by_length len is.some found ∙ ap (λ n. extended r.start n s) whole)

@@ -1,11 +1,12 @@
--- The writes that make a chunk longer: the value stands for the state with a used block more, and then for that of the grown chunk.
+-- The writes that make a chunk longer: the value represents the state with a used block more, and then for that of the grown chunk.
 use Rattle.rlsf_base.proofs.Lending.Present.{own-there}
 use Rattle.rlsf_base.specs.OpenSpace.{out_with}
 use Rattle.rlsf_base.proofs.Lending.Present.{own-word, own-inside}
 use Rattle.rlsf_base.specs.Space.{word_range}
 use Rattle.rlsf_base.specs.OpenSpace.{IsOwned}
 use Rattle.rlsf_blocks.proofs.Words.NeverOut.{here_longer}
-use Rattle.std.proofs.Common.{◌≡◌, ℕ, ◌+◌, ◌-◌, ◌%◌, ◌^◌, ◌<◌, ◌≤◌, ◌⊎◌, List, ◌∷◌, length, arith, inl, inr, refl, sym, ◌∙◌, ap, subst}
+use Rattle.std.proofs.Common.{◌≡◌, ℕ, ◌+◌, ◌-◌, ◌%◌, ◌^◌, ◌<◌, ◌≤◌, ◌⊎◌, List, ◌∷◌, length, arith, inl, inr, refl, sym, ◌∙◌, ap}
+use Rattle.std.proofs.Common.{subst}
 use mathlib.Core.Path.{ap₂}
 use Rattle.std.proofs.lemmas.Bool.{cases_eq, cases_lt}
 use Rattle.rlsf_base.specs.declared.memory.range.Range.{Range}
@@ -45,8 +46,9 @@ pub record AreExtended (m m1 m2 m3 : Space) (c : Range) (len : ℕ) : Type 0 whe
 abbrev pub more_bytes : Space → Range → ℕ → List ℕ
 more_bytes n c len = bytes_in n (between (end_of c - 16) (end_of (range_at (end_of c - 32) len)))
 
-module _ {fllen sllen : ℕ} {m : Space} {table : Table} {s : State} (v : StandsFor fllen sllen (contents m table) s) (c : Range) (len : ℕ) (is : IsExtensible fllen (range_of m) s c len) where
-  -- where the words stand
+module _ {fllen sllen : ℕ} {m : Space} {table : Table} {s : State} (v : StandsFor fllen sllen (contents m table) s) (c : Range) (len : ℕ)
+    (is : IsExtensible fllen (range_of m) s c len) where
+  -- where the words are
   pub record IsBehind : Type 0 where
     pub start : c.start % 32 ≡ 0
     pub length : c.len % 32 ≡ 0
@@ -79,8 +81,10 @@ module _ {fllen sllen : ℕ} {m : Space} {table : Table} {s : State} (v : Stands
   here_extension = here_longer v c (is_chunk v.well_formed c len is) len is.fresh.apart
 
   pub AreExtended-from : {m1 m2 m3 : Space} {end : ℕ} → end_of c ≡ end
-      → (m1.start ≡ m.start) × (m1.bytes ≡ with_word m (end - 32) (len + 1)) × (m1.out ≡ out_with m (word_range (end - 32))) → (m2.start ≡ m1.start) × (m2.bytes ≡ with_word m1 (end - 32 + len) 35) × (m2.out ≡ out_with m1 (word_range (end - 32 + len)))
-      → (m3.start ≡ m2.start) × (m3.bytes ≡ with_word m2 (end - 32 + len + 8) (end - 32)) × (m3.out ≡ out_with m2 (word_range (end - 32 + len + 8))) → AreExtended m m1 m2 m3 c len
+      → (m1.start ≡ m.start) × (m1.bytes ≡ with_word m (end - 32) (len + 1)) × (m1.out ≡ out_with m (word_range (end - 32)))
+      → (m2.start ≡ m1.start) × (m2.bytes ≡ with_word m1 (end - 32 + len) 35) × (m2.out ≡ out_with m1 (word_range (end - 32 + len)))
+      → (m3.start ≡ m2.start) × (m3.bytes ≡ with_word m2 (end - 32 + len + 8) (end - 32)) × (m3.out ≡ out_with m2 (word_range (end - 32 + len + 8)))
+      → AreExtended m m1 m2 m3 c len
   AreExtended-from {m1} {m2} {m3} {end} at e1 e2 e3 =
       let start = placed.start in
       let granules = placed.length in
@@ -93,10 +97,15 @@ module _ {fllen sllen : ℕ} {m : Space} {table : Table} {s : State} (v : Stands
       let h1 : IsOwned m (word_range (end - 32)) = own-word m extension (end - 32) here_extension (omega (arith, at)) (omega (arith, at)) in
       let w1 : IsWrite m m1 (end - 32) (len + 1) = write (omega arith, (omega arith, omega arith), h1) e1.0 e1.1 (omega arith) e1.2 in
       let l1 = (Rewrites-word m m1 (end - 32) (len + 1) w1.placed w1.start w1.bytes w1.out).length in
-      let h2 : IsOwned m1 (word_range (end - 32 + len)) = own-there m m1 (word_range (end - 32 + len)) (omega arith) (rewrites_of w1).own (own-word m extension (end - 32 + len) here_extension (omega (arith, at)) (omega (arith, at))) in
+      let h2 : IsOwned m1 (word_range (end - 32 + len)) =
+      own-there m m1 (word_range (end - 32 + len)) (omega arith) (rewrites_of w1).own
+      (own-word m extension (end - 32 + len) here_extension (omega (arith, at)) (omega (arith, at))) in
       let w2 : IsWrite m1 m2 (end - 32 + len) 35 = write (omega arith, (omega arith, omega arith), h2) e2.0 e2.1 (omega arith) e2.2 in
       let l2 = (Rewrites-word m1 m2 (end - 32 + len) 35 w2.placed w2.start w2.bytes w2.out).length in
-      let h3 : IsOwned m2 (word_range (end - 32 + len + 8)) = own-there m1 m2 (word_range (end - 32 + len + 8)) (omega arith) (rewrites_of w2).own (own-there m m1 (word_range (end - 32 + len + 8)) (omega arith) (rewrites_of w1).own (own-word m extension (end - 32 + len + 8) here_extension (omega (arith, at)) (omega (arith, at)))) in
+      let h3 : IsOwned m2 (word_range (end - 32 + len + 8)) =
+      own-there m1 m2 (word_range (end - 32 + len + 8)) (omega arith) (rewrites_of w2).own
+      (own-there m m1 (word_range (end - 32 + len + 8)) (omega arith) (rewrites_of w1).own
+      (own-word m extension (end - 32 + len + 8) here_extension (omega (arith, at)) (omega (arith, at)))) in
       let w3 : IsWrite m2 m3 (end - 32 + len + 8) (end - 32) = write (omega arith, (omega arith, omega arith), h3) e3.0 e3.1 (omega arith) e3.2 in
       let writes = λ (e : ℕ). IsWrite m m1 (e - 32) (len + 1) × IsWrite m1 m2 (e - 32 + len) 35 × IsWrite m2 m3 (e - 32 + len + 8) (e - 32) in
       let (one, two, three) = subst writes (sym at) (w1, w2, w3) in
@@ -109,9 +118,11 @@ module _ {fllen sllen : ℕ} {m : Space} {table : Table} {s : State} (v : Stands
 
     -- the new block's payload is here
     pub here_more : IsOwned n (usable (more_block c len (more_bytes n c len)))
-    here_more = own-there m n (usable (more_block c len (more_bytes n c len))) (omega arith) written.own (own-inside m extension (usable (more_block c len (more_bytes n c len))) (omega arith) (omega (arith, placed.some)) here_extension)
+    here_more =
+        own-there m n (usable (more_block c len (more_bytes n c len))) (omega arith) written.own
+        (own-inside m extension (usable (more_block c len (more_bytes n c len))) (omega arith) (omega (arith, placed.some)) here_extension)
 
-    -- they stand in a hole from the old sentinel on
+    -- they are in a hole from the old sentinel on
     abbrev hole : Range
     hole = range_at (sentinel_of c) (len + 16)
 
@@ -145,7 +156,8 @@ module _ {fllen sllen : ℕ} {m : Space} {table : Table} {s : State} (v : Stands
 
     sentinel : word_at n (sentinel_of c + len) ≡ 35
     sentinel =
-        (rewrites_of writes.three).words (sentinel_of c + len) (omega (arith, placed.start, placed.length, placed.more)) (omega (arith, placed.from, placed.room, writes.one.start, writes.two.start)) (λ at. omega arith)
+        (rewrites_of writes.three).words (sentinel_of c + len) (omega (arith, placed.start, placed.length, placed.more))
+        (omega (arith, placed.from, placed.room, writes.one.start, writes.two.start)) (λ at. omega arith)
         ∙ reads_of writes.two
 
     stays : word_at n (sentinel_of c + 8) ≡ word_at m (sentinel_of c + 8)
@@ -173,7 +185,8 @@ module _ {fllen sllen : ℕ} {m : Space} {table : Table} {s : State} (v : Stands
         let home = home_of_used w u i in
         elim (cases_lt a (end_of c)) [
           | inl low ↦ used_last w u c a i is_c hu (omega (arith, hh.from)) low
-          | inr high ↦ chunk_apart home.chunk a home.is_chunk (record { from = omega (arith, home.from, hu.from); to = omega (arith, home.to, hu.to) }) high (omega (arith, hh.to))
+          | inr high ↦ chunk_apart home.chunk a home.is_chunk (record { from = omega (arith, home.from, hu.from); to = omega (arith, home.to, hu.to) }) high
+              (omega (arith, hh.to))
         ]
 
     free_apart : (f : Range) → IsIn f s.free → (a : ℕ) → Has f a → Has hole a → ⊥
@@ -181,7 +194,8 @@ module _ {fllen sllen : ℕ} {m : Space} {table : Table} {s : State} (v : Stands
         let home = home_of_free w f i in
         elim (cases_lt a (end_of c)) [
           | inl low ↦ free_last w f c a i is_c hf (omega (arith, hh.from)) low
-          | inr high ↦ chunk_apart home.chunk a home.is_chunk (record { from = omega (arith, home.from, hf.from); to = omega (arith, home.to, hf.to) }) high (omega (arith, hh.to))
+          | inr high ↦ chunk_apart home.chunk a home.is_chunk (record { from = omega (arith, home.from, hf.from); to = omega (arith, home.to, hf.to) }) high
+              (omega (arith, hh.to))
         ]
 
     -- the word that names the block before the old sentinel, and others like it
@@ -206,7 +220,8 @@ module _ {fllen sllen : ℕ} {m : Space} {table : Table} {s : State} (v : Stands
     long =
         let room = placed.room in
         let more = placed.some in
-        length-bytes_in n (between (end_of c - 16) (end_of (range_at (end_of c - 32) len))) (omega (arith, placed.from, written.start), omega (arith, placed.to, written.start, written.length)) ∙ omega arith
+        length-bytes_in n (between (end_of c - 16) (end_of (range_at (end_of c - 32) len)))
+        (omega (arith, placed.from, written.start), omega (arith, placed.to, written.start, written.length)) ∙ omega arith
 
     t_well_formed : IsWellFormed fllen sllen (range_of m) (lengthened c len (more_bytes n c len) s)
     t_well_formed = IsWellFormed-lengthened w c len is (more_bytes n c len) long
@@ -223,7 +238,9 @@ module _ {fllen sllen : ℕ} {m : Space} {table : Table} {s : State} (v : Stands
     pub StandsFor-lengthened : StandsFor fllen sllen (contents n table) (lengthened c len (more_bytes n c len) s)
     StandsFor-lengthened = record {
       nonzero = omega (arith, v.nonzero, written.start);
-      well_formed = (let same : range_of n ≡ range_of m = ap₂ (λ a l. record { start = a; len = l }) written.start written.length in subst (λ p. IsWellFormed fllen sllen p (lengthened c len (more_bytes n c len) s)) (sym same) t_well_formed);
+      well_formed =
+          (let same : range_of n ≡ range_of m = ap₂ (λ a l. record { start = a; len = l }) written.start written.length in
+          subst (λ p. IsWellFormed fllen sllen p (lengthened c len (more_bytes n c len) s)) (sym same) t_well_formed);
       sizes = record { used = sizes_used; free = sizes_free; sentinel = sizes_sentinel };
       previous = record { used = previous_used; free = λ f i. free_way_back f i ∙ v.previous.free f i; first = previous_first };
       payloads = record { bytes = payload_bytes; pad = payload_pad };
@@ -231,7 +248,8 @@ module _ {fllen sllen : ℕ} {m : Space} {table : Table} {s : State} (v : Stands
       own = λ a from unlent. written.own a (omega (arith, written.start, from)) ∙ v.own a (omega (arith, written.start, from)) (λ x i. unlent x (inr i));
     }
       where
-        no_link : (f : Range) → IsIn f s.free → (i : ℕ) → i % 32 ≡ i → 16 ≤ i → (((f.start + i ≡ sentinel_of c) ⊎ (f.start + i ≡ sentinel_of c + len)) ⊎ (f.start + i ≡ sentinel_of c + len + 8)) → ⊥
+        no_link : (f : Range) → IsIn f s.free → (i : ℕ) → i % 32 ≡ i → 16 ≤ i
+            → (((f.start + i ≡ sentinel_of c) ⊎ (f.start + i ≡ sentinel_of c + len)) ⊎ (f.start + i ≡ sentinel_of c + len + 8)) → ⊥
         no_link f j i inner late at =
             let start = (w.free f j).whole.start in
             let more = placed.more in
@@ -250,7 +268,9 @@ module _ {fllen sllen : ℕ} {m : Space} {table : Table} {s : State} (v : Stands
         sizes_sentinel d (inr j) =
             let i = IsIn-without (ends_at (end_of c)) d s.chunks j in
             let room = (w.chunks d i).has_room in
-            let apart : Has hole (sentinel_of d) → ⊥ = λ h. other_apart d (sentinel_of d) j (record { from = omega arith; to = omega arith }) (record { from = omega (arith, h.from, placed.room); to = omega (arith, h.to) }) in
+            let apart : Has hole (sentinel_of d) → ⊥ =
+            λ h. other_apart d (sentinel_of d) j (record { from = omega arith; to = omega arith })
+            (record { from = omega (arith, h.from, placed.room); to = omega (arith, h.to) }) in
             chunk_sentinel w hole granule some (sentinel_of c + 8) second (omega arith) (omega arith) rewrites d i apart ∙ v.sizes.sentinel d i
 
         previous_used : (u : Used) → IsIn u (more_block c len (more_bytes n c len) ∷ s.used) → word_at n (end_of u.block + 8) ≡ u.block.start
@@ -258,14 +278,17 @@ module _ {fllen sllen : ℕ} {m : Space} {table : Table} {s : State} (v : Stands
         previous_used u (inr i) = used_way_back u i ∙ v.previous.used u i
 
         first_word : (d : Range) → IsIn d s.chunks → (Has hole d.start → ⊥) → word_at n (d.start + 8) ≡ 0
-        first_word d i apart = chunk_first w hole granule some (sentinel_of c + 8) second (omega arith) (omega arith) rewrites d i apart (λ e. apart (record { from = omega arith; to = omega arith })) ∙ v.previous.first d i
+        first_word d i apart =
+            chunk_first w hole granule some (sentinel_of c + 8) second (omega arith) (omega arith) rewrites d i apart
+            (λ e. apart (record { from = omega arith; to = omega arith })) ∙ v.previous.first d i
 
         previous_first : (d : Range) → IsIn d (range_at c.start (c.len + len) ∷ without (ends_at (end_of c)) s.chunks) → word_at n (d.start + 8) ≡ 0
         previous_first d (inl same) = ap (λ (e : Range). word_at n (e.start + 8)) same ∙ first_word c is_c (λ h. omega (arith, h.from, placed.room))
         previous_first d (inr j) =
             let i = IsIn-without (ends_at (end_of c)) d s.chunks j in
             let room = (w.chunks d i).has_room in
-            first_word d i (λ h. other_apart d d.start j (record { from = omega arith; to = omega arith }) (record { from = omega (arith, h.from, placed.room); to = omega (arith, h.to) }))
+            first_word d i (λ h. other_apart d d.start j (record { from = omega arith; to = omega arith })
+            (record { from = omega (arith, h.from, placed.room); to = omega (arith, h.to) }))
 
         payload_bytes : (u : Used) → IsIn u (more_block c len (more_bytes n c len) ∷ s.used) → bytes_in n (usable u) ≡ u.bytes
         payload_bytes u (inl same) = subst (λ (x : Used). bytes_in n (usable x) ≡ x.bytes) (sym same) refl
@@ -273,7 +296,8 @@ module _ {fllen sllen : ℕ} {m : Space} {table : Table} {s : State} (v : Stands
 
         payload_pad : (u : Used) → IsIn u (more_block c len (more_bytes n c len) ∷ s.used) → 32 ≤ u.align → word_at n (u.payload - 8) ≡ u.block.start
         payload_pad u (inl same) wide = absurd (omega (arith, ap (λ (x : Used). x.align) same))
-        payload_pad u (inr i) wide = used_pad w hole granule some (sentinel_of c + 8) second (omega arith) (omega arith) rewrites u i (used_apart u i) wide ∙ v.payloads.pad u i wide
+        payload_pad u (inr i) wide =
+            used_pad w hole granule some (sentinel_of c + 8) second (omega arith) (omega arith) rewrites u i (used_apart u i) wide ∙ v.payloads.pad u i wide
 
     -- no spare byte has changed
     KeepsSpare-lengthened : KeepsSpare m s n (lengthened c len (more_bytes n c len) s)
@@ -291,8 +315,9 @@ module _ {fllen sllen : ℕ} {m : Space} {table : Table} {s : State} (v : Stands
         no_other : (a : ℕ) → IsSpare (lengthened c len (more_bytes n c len) s) a → sentinel_of c + 8 ≤ a → a < sentinel_of c + 8 + 8 → ⊥
         no_other a spare low high = beyond a spare (omega arith) (omega arith)
 
-    -- once the block is released, the value stands for the state with the grown chunk
-    pub grown_stands : {o : Space} {changed : Table} → StandsFor fllen sllen (contents o changed) (released (lengthened c len (more_bytes n c len) s) (more_block c len (more_bytes n c len)))
+    -- once the block is released, the value represents the state with the grown chunk
+    pub grown_stands : {o : Space} {changed : Table}
+        → StandsFor fllen sllen (contents o changed) (released (lengthened c len (more_bytes n c len) s) (more_block c len (more_bytes n c len)))
         × KeepsSpare n (lengthened c len (more_bytes n c len) s) o (released (lengthened c len (more_bytes n c len) s) (more_block c len (more_bytes n c len)))
         → StandsFor fllen sllen (contents o changed) (grown c len s) × KeepsSpare m s o (grown c len s)
     grown_stands {o} {changed} (stands, spare) =

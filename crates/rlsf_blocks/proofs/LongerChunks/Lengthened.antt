@@ -1,5 +1,6 @@
 -- The state in which what a chunk has more is a used block: it is well-formed, and the chunk has grown once the block is released.
-use Rattle.std.proofs.Common.{◌≡◌, ◌≢◌, ℕ, ◌+◌, ◌-◌, ◌^◌, ◌<◌, ◌≤◌, cond, not, List, ◌∷◌, length, arith, refl, sym, ◌∙◌, ap, subst, inl, inr}
+use Rattle.std.proofs.Common.{◌≡◌, ◌≢◌, ℕ, ◌+◌, ◌-◌, ◌^◌, ◌<◌, ◌≤◌, cond, not, List, ◌∷◌, length, arith, refl, sym, ◌∙◌, ap, subst}
+use Rattle.std.proofs.Common.{inl, inr}
 use Rattle.std.proofs.lemmas.Bool.{eq-eqb}
 use Rattle.std.proofs.Math.Pow.{pow_mono}
 use Rattle.rlsf_base.specs.declared.memory.range.Range.{Range}
@@ -68,8 +69,12 @@ module _ {fllen sllen : ℕ} {memory : Range} {s : State} (w : IsWellFormed flle
         let added = range_at (end_of c) len in
         let longer = λ (a : ℕ). covers-split c.start (end_of c) (end_of c') a (omega arith) (omega arith) c' c added refl refl refl refl refl (omega arith) in
         let span = range_at (end_of c - 32) (len + 32) in
-        let span_old = λ (a : ℕ). covers-split (end_of c - 32) (end_of c) (end_of c + len) a (omega arith) (omega arith) span (last_bytes c) added refl (omega arith) refl (omega arith) refl refl in
-        let span_new = λ (a : ℕ). covers-split (end_of c - 32) (end_of c' - 32) (end_of c + len) a (omega arith) (omega arith) span more (last_bytes c') refl (omega arith) refl (omega arith) refl (omega arith) in
+        let span_old =
+        λ (a : ℕ). covers-split (end_of c - 32) (end_of c) (end_of c + len) a (omega arith) (omega arith) span (last_bytes c) added refl (omega arith) refl (omega arith)
+        refl refl in
+        let span_new =
+        λ (a : ℕ). covers-split (end_of c - 32) (end_of c' - 32) (end_of c + len) a (omega arith) (omega arith) span more (last_bytes c') refl (omega arith) refl
+        (omega arith) refl (omega arith) in
         let clear : (a : ℕ) → covers added a + coverage itself s.chunks a ≤ 1 = λ a. elim (where_is added a) [
           | inside one low high ↦ omega (arith, is.fresh.apart a (omega arith) (omega arith))
           | before none low ↦ omega (arith, w.disjoint a)
@@ -105,6 +110,7 @@ module _ {fllen sllen : ℕ} {memory : Range} {s : State} (w : IsWellFormed flle
     pub released-lengthened : released (lengthened c len bytes s) (more_block c len bytes) ≡ grown c len s
     released-lengthened =
         let v = more_block c len bytes in
-        let first : others v.payload (v ∷ s.used) ≡ others v.payload s.used = ap (λ b. cond (not b) (v ∷ others v.payload s.used) (others v.payload s.used)) (eq-eqb v.payload v.payload refl) in
+        let first : others v.payload (v ∷ s.used) ≡ others v.payload s.used =
+        ap (λ b. cond (not b) (v ∷ others v.payload s.used) (others v.payload s.used)) (eq-eqb v.payload v.payload refl) in
         ap (λ us. record { chunks = range_at c.start (c.len + len) ∷ without (ends_at (end_of c)) s.chunks; used = us; free = join (range_at (end_of c - 32) len) s.free })
         (first ∙ others-none v.payload s.used payload_apart)

@@ -1,4 +1,4 @@
--- The states that stand in a memory in which nothing but the counts has changed.
+-- The states that a memory represents in which nothing but the counts has changed.
 use Rattle.rlsf_base.proofs.Lending.Present.{own-same}
 use Rattle.std.proofs.Common.{◌≡◌, ℕ, ◌+◌, arith, sym, ◌∙◌, ap, subst}
 use Rattle.rlsf_base.specs.Space.{Space}
@@ -10,7 +10,7 @@ use Rattle.rlsf_blocks.specs.Spare.{KeepsSpare}
 use Rattle.rlsf_blocks.specs.StandsFor.{contents, StandsFor}
 
 module _ (m n : Space) (start : n.start ≡ m.start) (bytes : n.bytes ≡ m.bytes) (out : n.out ≡ m.out) where
-  -- ---- the states that stand in it
+  -- ---- the states that it represents
 
   pub StandsFor-counted : {fllen sllen : ℕ} {t : Table} {s : State} → StandsFor fllen sllen (contents m t) s → StandsFor fllen sllen (contents n t) s
   StandsFor-counted {fllen} {sllen} {t} {s} v = record {
@@ -26,7 +26,11 @@ module _ (m n : Space) (start : n.start ≡ m.start) (bytes : n.bytes ≡ m.byte
       free = λ f i. word_at-counted m n start bytes out _ ∙ v.previous.free f i;
       first = λ c i. word_at-counted m n start bytes out _ ∙ v.previous.first c i;
     };
-    payloads = record { bytes = λ u i. bytes_in-counted m n start bytes out (usable u) ∙ v.payloads.bytes u i; pad = λ u i wide. word_at-counted m n start bytes out _ ∙ v.payloads.pad u i wide };
+    payloads =
+        record {
+          bytes = λ u i. bytes_in-counted m n start bytes out (usable u) ∙ v.payloads.bytes u i;
+          pad = λ u i wide. word_at-counted m n start bytes out _ ∙ v.payloads.pad u i wide;
+        };
     table = HasTable-counted m n start bytes out v.table;
     own = λ a from unlent. own-same m n start out a (omega (arith, start, from)) ∙ v.own a (omega (arith, start, from)) unlent;
   }
@@ -37,7 +41,8 @@ module _ (m n : Space) (start : n.start ≡ m.start) (bytes : n.bytes ≡ m.byte
   KeepsSpare-counted s t a from to before after = byte_at-counted m n start bytes out a
 
   pub KeepsSpare-counted_first : (s t : State) (o : Space) → KeepsSpare n s o t → KeepsSpare m s o t
-  KeepsSpare-counted_first s t o h a from to before after = h a (omega (arith, start)) (omega (arith, start, length-counted m n start bytes out)) before after ∙ byte_at-counted m n start bytes out a
+  KeepsSpare-counted_first s t o h a from to before after =
+      h a (omega (arith, start)) (omega (arith, start, length-counted m n start bytes out)) before after ∙ byte_at-counted m n start bytes out a
 
   pub KeepsSpare-counted_last : (s t : State) (o : Space) → KeepsSpare o s m t → KeepsSpare o s n t
   KeepsSpare-counted_last s t o h a from to before after = byte_at-counted m n start bytes out a ∙ h a from to before after

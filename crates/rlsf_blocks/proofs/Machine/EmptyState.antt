@@ -1,4 +1,4 @@
--- A new value stands for the empty state.
+-- A new value represents the empty state.
 use Rattle.std.proofs.Common.{◌≡◌}
 use Rattle.rlsf_base.specs.Out.{is_own}
 use Rattle.rlsf_base.specs.Space.{out_at}
@@ -12,7 +12,8 @@ use Rattle.rlsf_table.proofs.Tables.RowLengths.{row_length-bounds}
 use Rattle.rlsf_blocks.specs.StandsFor.{contents, StandsFor}
 use Rattle.rlsf_machine.proofs.Steps.{empty_is_well_formed}
 
-pub StandsFor-empty : {fl_bits sl_bits fllen sllen : ℕ} {m : Space} {t : Table} → IsValid fl_bits sl_bits fllen sllen → (0 < m.start) × (m.start + length m.bytes < 2 ^ 64) → HasTable fllen sllen m t [] → ((a : ℕ) → m.start ≤ a → is_own (out_at m a) ≡ true) → StandsFor fllen sllen (contents m t) empty
+pub StandsFor-empty : {fl_bits sl_bits fllen sllen : ℕ} {m : Space} {t : Table} → IsValid fl_bits sl_bits fllen sllen → (0 < m.start) × (m.start + length m.bytes < 2 ^ 64)
+    → HasTable fllen sllen m t [] → ((a : ℕ) → m.start ≤ a → is_own (out_at m a) ≡ true) → StandsFor fllen sllen (contents m t) empty
 StandsFor-empty {fllen = fllen} {sllen = sllen} {m = m} valid bounds table none = record {
   nonzero = bounds.0;
   well_formed = empty_is_well_formed fllen sllen (range_of m) valid.some_rows (row_length-bounds sllen valid.power_of_two).0 bounds.1;

@@ -1,4 +1,4 @@
--- The free blocks of a state that stands in a memory.
+-- The free blocks of a state that a memory represents.
 use Rattle.rlsf_blocks.proofs.Words.NeverOut.{here_free}
 use Rattle.std.proofs.Common.{ℕ, arith}
 use Rattle.rlsf_base.specs.declared.memory.range.Range.{Range}
@@ -17,7 +17,13 @@ module _ {fllen sllen : ℕ} {m : Space} {t : Table} {s : State} (v : StandsFor 
   CanBeBlock-free f i =
       let is = v.well_formed.free f i in
       let place = free_in_memory v.well_formed f i in
-      record { own = here_free v f i; some = omega (arith, v.nonzero, place.0); whole = is.whole.start; room = omega (arith, is.some, is.whole.len); lies_in = (place.0, omega (arith, place.1)) }
+      record {
+        own = here_free v f i;
+        some = omega (arith, v.nonzero, place.0);
+        whole = is.whole.start;
+        room = omega (arith, is.some, is.whole.len);
+        lies_in = (place.0, omega (arith, place.1));
+      }
 
   pub IsFreeTable-free : IsFreeTable fllen sllen m t s.free
   IsFreeTable-free = record {

@@ -1,4 +1,4 @@
--- What stands behind a used block, and before it.
+-- What is behind a used block, and before it.
 use Rattle.std.proofs.Common.{◌≡◌, ℕ, ◌-◌, ◌<◌, arith, inl, inr, ap}
 use Rattle.std.proofs.lemmas.Bool.{cases_lt}
 use Rattle.rlsf_base.specs.declared.memory.range.Range.{Range}
@@ -91,7 +91,9 @@ module _ {fllen sllen : ℕ} {memory : Range} {s : State} (w : IsWellFormed flle
                 ])
             | in_last c j h ↦
                 let room = (w.chunks c j).has_room in
-                let same = chunk_chunk w home.chunk c (u.block.start - 1) home.is_chunk j (record { from = omega arith; to = omega (arith, home.to) }) (record { from = omega (arith, h.from); to = omega (arith, h.to) }) in
+                let same =
+                chunk_chunk w home.chunk c (u.block.start - 1) home.is_chunk j (record { from = omega arith; to = omega (arith, home.to) })
+                (record { from = omega (arith, h.from); to = omega (arith, h.to) }) in
                 absurd (omega (arith, h.from, home.to, ap (λ r. end_of r) same))
           ]
         ]

@@ -1,5 +1,6 @@
--- What is read of the class table of a value, in the words of the state that it stands for.
-use Rattle.std.proofs.Common.{◌≡◌, ℕ, ◌+◌, ◌<◌, ◌≤◌, false, List, [], ◌∷◌, Option, Some, MatchOption, option_map, slice_index, arith, refl, sym, ◌∙◌, ap, subst, inl, inr}
+-- What is read of the class table of a value, in terms of the state that it represents.
+use Rattle.std.proofs.Common.{◌≡◌, ℕ, ◌+◌, ◌<◌, ◌≤◌, false, List, [], ◌∷◌, Option, Some, MatchOption, option_map, slice_index, arith, refl, sym}
+use Rattle.std.proofs.Common.{◌∙◌, ap, subst, inl, inr}
 use Rattle.std.specs.Int.NonZero.{non_zero_usize_get}
 use Rattle.std.specs.List.{list_any}
 use Rattle.std.specs.declared.num.NonZeroUsize.{NonZeroUsize}
@@ -21,7 +22,8 @@ use Rattle.rlsf_blocks.proofs.Words.Apart.{free_in_memory}
 use Rattle.rlsf_blocks.proofs.Words.NonZeroNumbers.{number}
 
 -- the address of the first of some ranges that are linked, as a number that is not 0
-newest_of-Links : (m : Space) (xs : List Range) (head : ℕ) (o : Option NonZeroUsize) → MatchOption o (head ≡ 0) (λ x. non_zero_usize_get x ≡ head) → Links m 0 xs head → ((f : Range) → IsIn f xs → 0 < f.start)
+newest_of-Links : (m : Space) (xs : List Range) (head : ℕ) (o : Option NonZeroUsize) → MatchOption o (head ≡ 0) (λ x. non_zero_usize_get x ≡ head) → Links m 0 xs head
+    → ((f : Range) → IsIn f xs → 0 < f.start)
     → option_map non_zero_usize_get o ≡ newest_of xs
 newest_of-Links m [] head o is links some = (number o head is).0 links
 newest_of-Links m (f ∷ fs) head o is links some = (number o head is).1 (omega (arith, links.0, some f (inl refl))) ∙ ap (λ n. Some n) links.0
@@ -46,7 +48,8 @@ module _ (fllen sllen : ℕ) (v : Contents) (s : State) (stands : StandsFor flle
   some f i = omega (arith, stands.nonzero, (free_in_memory stands.well_formed f i).0)
 
   -- the head of a class is where its newest free range begins
-  pub newest_of-head : (sl : ℕ) → sl < sllen → (o : Option NonZeroUsize) (head : ℕ) → head ≡ head_at v.table fl sl → MatchOption o (head ≡ 0) (λ x. non_zero_usize_get x ≡ head)
+  pub newest_of-head : (sl : ℕ) → sl < sllen → (o : Option NonZeroUsize) (head : ℕ) → head ≡ head_at v.table fl sl
+      → MatchOption o (head ≡ 0) (λ x. non_zero_usize_get x ≡ head)
       → option_map non_zero_usize_get o ≡ newest_of (of_class sllen fl sl s.free)
   newest_of-head sl place o head same is =
       let ranges = of_class sllen fl sl s.free in
@@ -56,10 +59,12 @@ module _ (fllen sllen : ℕ) (v : Contents) (s : State) (stands : StandsFor flle
   -- no range has a place past the row
   past_row : (sl : ℕ) → sllen ≤ sl → list_any (has_class sllen (class_at fl sl)) s.free ≡ false
   past_row sl past = list_any-false (has_class sllen (class_at fl sl)) s.free (λ f i. and_right _ _
-      (ne_eqb (class_of sllen f.len).division sl (λ same. let within = division-lt sllen f.len (stands.well_formed.free f i).some stands.well_formed.row_length in omega (arith, within, same))))
+      (ne_eqb (class_of sllen f.len).division sl
+      (λ same. let within = division-lt sllen f.len (stands.well_formed.free f i).some stands.well_formed.row_length in omega (arith, within, same))))
 
   -- the row's word, read place by place
-  pub places_of-row : (read : ℕ) → ((sl : ℕ) → sl < sllen → bit read sl ≡ bit (slice_index v.table.second_level fl) sl) → ((sl : ℕ) → sllen ≤ sl → bit read sl ≡ false)
+  pub places_of-row : (read : ℕ) → ((sl : ℕ) → sl < sllen → bit read sl ≡ bit (slice_index v.table.second_level fl) sl)
+      → ((sl : ℕ) → sllen ≤ sl → bit read sl ≡ false)
       → (sl : ℕ) → bit read sl ≡ list_any (has_class sllen (class_at fl sl)) s.free
   places_of-row read within past sl = elim (cases_lt sl sllen) [
     | inl place ↦ within sl place ∙ stands.table.bits.second fl sl row

@@ -20,13 +20,15 @@ IsSpare-before fllen sllen s t e a lasts step spare c i from to =
     ]
 
 -- nor does a run of steps
-pub IsSpare-before_run : (fllen sllen : ℕ) (memory : Range) (s t : State) (es : List Event) (a : ℕ) → ((e : Event) → IsIn e es → IsRemoval e → ⊥) → Runs fllen sllen memory s es t → IsSpare t a → IsSpare s a
+pub IsSpare-before_run : (fllen sllen : ℕ) (memory : Range) (s t : State) (es : List Event) (a : ℕ) → ((e : Event) → IsIn e es → IsRemoval e → ⊥)
+    → Runs fllen sllen memory s es t → IsSpare t a → IsSpare s a
 IsSpare-before_run fllen sllen memory s t [] a lasts run spare = subst (λ x. IsSpare x a) run spare
 IsSpare-before_run fllen sllen memory s t (e ∷ es) a lasts (u, may, step, rest) spare =
     IsSpare-before fllen sllen s u e a (lasts e (inl refl)) step (IsSpare-before_run fllen sllen memory u t es a (λ f i. lasts f (inr i)) rest spare)
 
 -- what is kept over what leads from s to t, and then over a step from t to u, is kept over both
-pub KeepsSpare-trans : (fllen sllen : ℕ) (m n o : Space) (s t u : State) (e : Event) → (IsRemoval e → ⊥) → SamePlace m n → Leads fllen sllen t e u → KeepsSpare m s n t → KeepsSpare n t o u → KeepsSpare m s o u
+pub KeepsSpare-trans : (fllen sllen : ℕ) (m n o : Space) (s t u : State) (e : Event) → (IsRemoval e → ⊥) → SamePlace m n → Leads fllen sllen t e u
+    → KeepsSpare m s n t → KeepsSpare n t o u → KeepsSpare m s o u
 KeepsSpare-trans fllen sllen m n o s t u e lasts place step first second a from to spare_s spare_u =
     let spare_t = IsSpare-before fllen sllen t u e a lasts step spare_u in
     second a (omega (arith, place.0)) (omega (arith, place.0, place.1)) spare_t spare_u ∙ first a from to spare_s spare_t

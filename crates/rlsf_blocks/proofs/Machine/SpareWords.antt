@@ -1,4 +1,4 @@
--- A word that no block is made of was written: the allocator stands for the states that it stood for.
+-- A word that no block is made of was written: the allocator represents the states that it represented.
 use Rattle.std.proofs.Common.{◌≡◌, ◌≢◌, ℕ, ◌+◌, ◌-◌, ◌%◌, ◌<◌, ◌≤◌, arith, inl, inr, refl, sym, ◌∙◌, subst}
 use Rattle.std.proofs.lemmas.Bool.{cases_lt}
 use Rattle.rlsf_base.specs.declared.memory.range.Range.{Range}
@@ -21,7 +21,8 @@ use Rattle.rlsf_blocks.proofs.Deallocate.Addresses.{IsReadable-before}
 use Rattle.rlsf_blocks.proofs.Machine.FreeBlocks.{CanBeBlock-free}
 use Rattle.rlsf_blocks.proofs.Words.Apart.{home_of_free, home_of_used, used_in_memory}
 
-module _ {fllen sllen : ℕ} {m : Space} {t : Table} {s : State} (old : StandsFor fllen sllen (contents m t) s) (addr word : ℕ) (is : IsSpareWord m s addr) (mine : IsOwned m (word_range addr))
+module _ {fllen sllen : ℕ} {m : Space} {t : Table} {s : State} (old : StandsFor fllen sllen (contents m t) s) (addr word : ℕ) (is : IsSpareWord m s addr)
+    (mine : IsOwned m (word_range addr))
     (n : Space) (start : n.start ≡ m.start) (bytes : n.bytes ≡ with_word m addr word) (out : n.out ≡ out_with m (word_range addr)) where
   w : IsWellFormed fllen sllen (range_of m) s
   w = old.well_formed
@@ -84,12 +85,19 @@ module _ {fllen sllen : ℕ} {m : Space} {t : Table} {s : State} (old : StandsFo
           used = λ u i. word_of_used u i u.block.start (omega (arith, (w.used u i).whole.start)) (omega arith) (omega arith) ∙ old.sizes.used u i;
           free = λ f i. word_of_free f i f.start (omega (arith, (w.free f i).whole.start)) (omega arith) (omega arith) ∙ old.sizes.free f i;
           sentinel = λ c i. (let chunk = w.chunks c i in
-              word_in_chunk c i (sentinel_of c) (omega (arith, chunk.whole.start, chunk.whole.len, chunk.has_room)) (omega (arith, chunk.has_room)) (omega (arith, chunk.has_room))) ∙ old.sizes.sentinel c i;
+              word_in_chunk c i (sentinel_of c) (omega (arith, chunk.whole.start, chunk.whole.len, chunk.has_room)) (omega (arith, chunk.has_room)) (omega (arith, chunk.has_room)))
+              ∙ old.sizes.sentinel c i;
         };
         previous = record {
-          used = λ u i. (let whole = (w.used u i).whole in word_of_used u i (end_of u.block + 8) (omega (arith, whole.start, whole.len)) (omega arith) (omega arith)) ∙ old.previous.used u i;
-          free = λ f i. (let whole = (w.free f i).whole in word_of_free f i (end_of f + 8) (omega (arith, whole.start, whole.len)) (omega arith) (omega arith)) ∙ old.previous.free f i;
-          first = λ c i. (let chunk = w.chunks c i in word_in_chunk c i (c.start + 8) (omega (arith, chunk.whole.start)) (omega arith) (omega (arith, chunk.has_room))) ∙ old.previous.first c i;
+          used =
+              λ u i. (let whole = (w.used u i).whole in word_of_used u i (end_of u.block + 8) (omega (arith, whole.start, whole.len)) (omega arith) (omega arith))
+              ∙ old.previous.used u i;
+          free =
+              λ f i. (let whole = (w.free f i).whole in word_of_free f i (end_of f + 8) (omega (arith, whole.start, whole.len)) (omega arith) (omega arith))
+              ∙ old.previous.free f i;
+          first =
+              λ c i. (let chunk = w.chunks c i in word_in_chunk c i (c.start + 8) (omega (arith, chunk.whole.start)) (omega arith) (omega (arith, chunk.has_room)))
+              ∙ old.previous.first c i;
         };
         payloads = record { bytes = λ u i. payload u i ∙ old.payloads.bytes u i; pad = λ u i wide. pad u i wide ∙ old.payloads.pad u i wide };
         table = HasTable-Rewrites rewrites (CanBeBlock-free old) links old.table;

@@ -1,4 +1,4 @@
--- The bytes of one payload change, and no other byte: the allocator stands for the state with these bytes in that payload.
+-- The bytes of one payload change, and no other byte: the allocator represents the state with these bytes in that payload.
 use Rattle.std.proofs.Common.{◌≡◌, ◌≢◌, ℕ, ◌<◌, ◌≤◌, ◌⊎◌, length, arith, inl, inr, sym, ◌∙◌, ap}
 use Rattle.std.proofs.lemmas.Bool.{cases_eq, cases_lt}
 use Rattle.rlsf_base.specs.declared.memory.range.Range.{Range}
@@ -27,7 +27,8 @@ pub record IsSameOutside (m n : Space) (r : Range) : Type 0 where
   pub bytes : (q : Range) → m.start ≤ q.start → (end_of q ≤ r.start) ⊎ (end_of r ≤ q.start) → bytes_in n q ≡ bytes_in m q
   pub out : (a : ℕ) → m.start ≤ a → (a < r.start) ⊎ (end_of r ≤ a) → out_at n a ≡ out_at m a
 
-module _ {fllen sllen : ℕ} {v : Contents} {s : State} (old : StandsFor fllen sllen v s) (addr : ℕ) (u : Used) (holds : Holds s addr u) (n : Space) (same : IsSameOutside v.memory n (usable u)) where
+module _ {fllen sllen : ℕ} {v : Contents} {s : State} (old : StandsFor fllen sllen v s) (addr : ℕ) (u : Used) (holds : Holds s addr u) (n : Space)
+    (same : IsSameOutside v.memory n (usable u)) where
   w : IsWellFormed fllen sllen (range_of v.memory) s
   w = old.well_formed
 
@@ -38,7 +39,9 @@ module _ {fllen sllen : ℕ} {v : Contents} {s : State} (old : StandsFor fllen s
   differs = record {
     start = same.start;
     length = same.length;
-    bytes = λ a from unlent. byte_at-same v.memory n a (same.bytes (byte_range a) from (elim (unlent u holds.0) [ inl before ↦ inl (omega (arith, before)) | inr behind ↦ inr (omega (arith, behind, is.within)) ]));
+    bytes =
+        λ a from unlent. byte_at-same v.memory n a
+        (same.bytes (byte_range a) from (elim (unlent u holds.0) [ inl before ↦ inl (omega (arith, before)) | inr behind ↦ inr (omega (arith, behind, is.within)) ]));
     out = λ a from unlent. same.out a from (elim (unlent u holds.0) [ inl before ↦ inl before | inr behind ↦ inr (omega (arith, behind, is.within)) ]);
   }
 

@@ -1,4 +1,4 @@
--- The first bytes of a payload are copied over those of another, or over themselves: the allocator stands for the state
+-- The first bytes of a payload are copied over those of another, or over themselves: the allocator represents the state
 -- with these bytes there.
 use Rattle.std.proofs.Common.{◌≡◌, ℕ, ◌+◌, ◌-◌, ◌≤◌, List, ◌++◌, length, take, drop, arith, inl, inr, refl, sym, ◌∙◌, ap, subst}
 use Rattle.std.proofs.Math.Seq.{take-append-add}
@@ -15,14 +15,16 @@ use Rattle.rlsf_blocks.specs.StandsFor.{Contents, StandsFor}
 use Rattle.rlsf_blocks.proofs.Payloads.Filled.{IsSameOutside, stands_filled}
 use Rattle.rlsf_blocks.proofs.Payloads.UnknownAlignment.{IsPayloadOf-holds, LiesIn-usable}
 
--- n elements of a list, the first k of which were replaced: what was put there, and behind it what stood there
-front-splice : (xs ys : List ℕ) (i k n : ℕ) → i + n ≤ length xs → length ys ≡ k → k ≤ n → take n (drop i (splice xs i (i + k) ys)) ≡ ys ++ drop k (take n (drop i xs))
+-- n elements of a list, the first k of which were replaced: what was put there, and behind it what was there
+front-splice : (xs ys : List ℕ) (i k n : ℕ) → i + n ≤ length xs → length ys ≡ k → k ≤ n
+    → take n (drop i (splice xs i (i + k) ys)) ≡ ys ++ drop k (take n (drop i xs))
 front-splice xs ys i k n room full within =
     let front : length (take i xs) ≡ i = length-take-le i xs (omega arith) in
     let rest = drop (i + k) xs in
     let parts : n ≡ length ys + (n - k) = omega arith in
     let split : n ≡ k + (n - k) = omega arith in
-    let behind : drop k (take n (drop i xs)) ≡ take (n - k) rest = ap (λ e. drop k (take e (drop i xs))) split ∙ drop-take k (n - k) (drop i xs) ∙ ap (take (n - k)) (drop-drop k i xs) in
+    let behind : drop k (take n (drop i xs)) ≡ take (n - k) rest =
+    ap (λ e. drop k (take e (drop i xs))) split ∙ drop-take k (n - k) (drop i xs) ∙ ap (take (n - k)) (drop-drop k i xs) in
     ap (take n) (drop_at (take i xs) (ys ++ rest) i front) ∙ ap (λ e. take e (ys ++ rest)) parts ∙ take-append-add ys rest (n - k) ∙ ap (λ zs. ys ++ zs) (sym behind)
 
 module _ {fllen sllen : ℕ} {v : Contents} {s : State} (old : StandsFor fllen sllen v s) (len : ℕ) where

@@ -19,8 +19,8 @@ use Rattle.rlsf_blocks.proofs.Deallocate.Addresses.{IsReadable-before, narrow_st
 use Rattle.rlsf_blocks.proofs.Machine.Neighbours.{before_used, free_before, none_before, used_before}
 use Rattle.rlsf_blocks.proofs.Words.Apart.{free_in_memory, used_in_memory}
 
--- the word before the payload of u: 0, or where the block before u's block begins, which ends where u's block begins,
--- and in both cases the payload lies 16 bytes into its block; or where u's block begins
+-- The word before the payload of u. It is 0, or the start of the block before u's block, which ends where u's block begins: then the
+-- payload lies 16 bytes into its block. Or it is the start of u's block
 pub data Says (m : Space) (u : Used) (word : ℕ) : Type 0 where
   nothing : word ≡ 0 → u.payload ≡ u.block.start + 16 → Says m u word
   another : IsReadable m word → word + word_at m word ≤ u.block.start + 1 → u.payload ≡ u.block.start + 16 → Says m u word
@@ -53,12 +53,24 @@ module _ {fllen sllen : ℕ} {v : Contents} {s : State} (stands : StandsFor flle
             let place : u.payload - 8 ≡ end_of x.block + 8 = omega arith in
             let names = ap (word_at v.memory) place ∙ stands.previous.used x j in
             let inside = used_in_memory w x j in
-            subst (Says v.memory u) (sym names) (another (is_word v.memory x.block.start (omega (arith, (w.used x j).whole.start), (inside.0, omega (arith, inside.1)), own-word v.memory (between x.block.start x.payload) x.block.start (here_front stands x j) (omega arith) (omega (arith, IsUsed-after_start x (w.used x j)))) (omega (arith, stands.sizes.used x j, inside.1, w.addressable))) (omega (arith, stands.sizes.used x j)) at)
+            subst (Says v.memory u) (sym names)
+            (another (is_word v.memory x.block.start (
+              omega (arith, (w.used x j).whole.start),
+              (inside.0, omega (arith, inside.1)),
+              own-word v.memory (between x.block.start x.payload) x.block.start (here_front stands x j) (omega arith) (omega (arith, IsUsed-after_start x (w.used x j))),
+            )
+            (omega (arith, stands.sizes.used x j, inside.1, w.addressable))) (omega (arith, stands.sizes.used x j)) at)
         | free_before f j ends ↦
             let place : u.payload - 8 ≡ end_of f + 8 = omega arith in
             let names = ap (word_at v.memory) place ∙ stands.previous.free f j in
             let inside = free_in_memory w f j in
-            subst (Says v.memory u) (sym names) (another (is_word v.memory f.start (omega (arith, (w.free f j).whole.start), (inside.0, omega (arith, inside.1)), own-word v.memory f f.start (here_free stands f j) (omega arith) (omega (arith, (w.free f j).some, (w.free f j).whole.len))) (omega (arith, stands.sizes.free f j, inside.1, w.addressable))) (omega (arith, stands.sizes.free f j)) at)
+            subst (Says v.memory u) (sym names)
+            (another (is_word v.memory f.start (
+              omega (arith, (w.free f j).whole.start),
+              (inside.0, omega (arith, inside.1)),
+              own-word v.memory f f.start (here_free stands f j) (omega arith) (omega (arith, (w.free f j).some, (w.free f j).whole.len)),
+            )
+            (omega (arith, stands.sizes.free f j, inside.1, w.addressable))) (omega (arith, stands.sizes.free f j)) at)
       ]
 
   -- it is a word
@@ -67,9 +79,12 @@ module _ {fllen sllen : ℕ} {v : Contents} {s : State} (stands : StandsFor flle
       let w = stands.well_formed in
       let mine = used_in_memory w u i in
       elim (before_used w u i) [
-        | none_before c j begins ↦ let place : u.payload - 8 ≡ c.start + 8 = omega arith in let is = ap (word_at v.memory) place ∙ stands.previous.first c j in omega (arith, is)
-        | used_before x j ends ↦ let place : u.payload - 8 ≡ end_of x.block + 8 = omega arith in let is = ap (word_at v.memory) place ∙ stands.previous.used x j in omega (arith, is, ends, mine.1, w.addressable)
-        | free_before f j ends ↦ let place : u.payload - 8 ≡ end_of f + 8 = omega arith in let is = ap (word_at v.memory) place ∙ stands.previous.free f j in omega (arith, is, ends, mine.1, w.addressable)
+        | none_before c j begins ↦ let place : u.payload - 8 ≡ c.start + 8 = omega arith in let is = ap (word_at v.memory) place ∙ stands.previous.first c j in
+            omega (arith, is)
+        | used_before x j ends ↦ let place : u.payload - 8 ≡ end_of x.block + 8 = omega arith in let is = ap (word_at v.memory) place ∙ stands.previous.used x j in
+            omega (arith, is, ends, mine.1, w.addressable)
+        | free_before f j ends ↦ let place : u.payload - 8 ≡ end_of f + 8 = omega arith in let is = ap (word_at v.memory) place ∙ stands.previous.free f j in
+            omega (arith, is, ends, mine.1, w.addressable)
       ]
 
   -- that word, at any alignment
@@ -79,8 +94,14 @@ module _ {fllen sllen : ℕ} {v : Contents} {s : State} (stands : StandsFor flle
     | inl few ↦
         let at : u.block.start + 16 ≡ u.payload = narrow_start stands u i refl refl few in
         let is = stands.well_formed.used u i in
-        let place = used_in_memory stands.well_formed u i in
-        (is_word v.memory (u.payload - 8) (omega (arith, is.whole.start), (omega (arith, place.0), omega (arith, place.1, is.within)), own-word v.memory (between u.block.start u.payload) (u.payload - 8) (here_front stands u i) (omega (arith, at)) (omega (arith, at))) (narrow-fits (sym at)), says_narrow (sym at))
+        let place = used_in_memory stands.well_formed u i in (
+          is_word v.memory (u.payload - 8) (
+            omega (arith, is.whole.start),
+            (omega (arith, place.0), omega (arith, place.1, is.within)),
+            own-word v.memory (between u.block.start u.payload) (u.payload - 8) (here_front stands u i) (omega (arith, at)) (omega (arith, at)),
+          ) (narrow-fits (sym at)),
+          says_narrow (sym at),
+        )
   ]
 
   is_payload : IsPayloadOf v.memory u.payload u
@@ -100,12 +121,19 @@ module _ {fllen sllen : ℕ} {v : Contents} {s : State} (stands : StandsFor flle
         ends = omega (arith, place.1, w.addressable);
         word = word;
         says = says;
-        own_word = is_word v.memory u.block.start (omega (arith, is.whole.start), (place.0, omega (arith, place.1)), own-word v.memory (between u.block.start u.payload) u.block.start (here_front stands u i) (omega arith) (omega (arith, after_start))) (omega (arith, stands.sizes.used u i, place.1, w.addressable));
+        own_word =
+            is_word v.memory u.block.start (
+              omega (arith, is.whole.start),
+              (place.0, omega (arith, place.1)),
+              own-word v.memory (between u.block.start u.payload) u.block.start (here_front stands u i) (omega arith) (omega (arith, after_start)),
+            )
+            (omega (arith, stands.sizes.used u i, place.1, w.addressable));
         size = stands.sizes.used u i;
       }
 
--- so it is for each state that stands in the memory
-pub IsPayloadOf-holds : {fllen sllen : ℕ} {v : Contents} {s : State} {m : Space} {addr : ℕ} (u : Used) → v.memory ≡ m → StandsFor fllen sllen v s → Holds s addr u → IsPayloadOf m addr u
+-- so it is for each state that the memory represents
+pub IsPayloadOf-holds : {fllen sllen : ℕ} {v : Contents} {s : State} {m : Space} {addr : ℕ} (u : Used) → v.memory ≡ m → StandsFor fllen sllen v s → Holds s addr u
+    → IsPayloadOf m addr u
 IsPayloadOf-holds {v = v} {m = m} {addr = addr} u same stands holds =
     subst (λ n. IsPayloadOf n addr u) same (subst (λ a. IsPayloadOf v.memory a u) holds.1 (is_payload stands u holds.0))
 

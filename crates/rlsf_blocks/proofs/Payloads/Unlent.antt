@@ -1,5 +1,6 @@
 -- Usable bytes of live payloads change, and no other byte: the words and the class table spell the state with the bytes that are there.
-use Rattle.std.proofs.Common.{◌≡◌, ℕ, ◌+◌, ◌-◌, ◌%◌, ◌<◌, ◌≤◌, ◌⊎◌, List, [], ◌∷◌, length, drop, map, slice_index, arith, inl, inr, refl, sym, ◌∙◌, ap, subst, get_or-drop, get_or-take, length-drop, length-take}
+use Rattle.std.proofs.Common.{◌≡◌, ℕ, ◌+◌, ◌-◌, ◌%◌, ◌<◌, ◌≤◌, ◌⊎◌, List, [], ◌∷◌, length, drop, map, slice_index, arith, inl, inr, refl}
+use Rattle.std.proofs.Common.{sym, ◌∙◌, ap, subst, get_or-drop, get_or-take, length-drop, length-take}
 use Rattle.std.proofs.lemmas.Bool.{cases_lt}
 use Rattle.std.proofs.lemmas.List.{ext_get_or}
 use Rattle.rlsf_base.specs.declared.memory.range.Range.{Range}
@@ -34,7 +35,13 @@ bytes_in-same : (m n : Space) (r : Range) → n.start ≡ m.start → length n.b
     → ((a : ℕ) → r.start ≤ a → a < end_of r → byte_at n a ≡ byte_at m a) → bytes_in n r ≡ bytes_in m r
 bytes_in-same m n r start long inside same =
     let as_long : length (bytes_in n r) ≡ length (bytes_in m r) =
-    omega (arith, length-take r.len (drop (r.start - n.start) n.bytes), length-drop (r.start - n.start) n.bytes, length-take r.len (drop (r.start - m.start) m.bytes), length-drop (r.start - m.start) m.bytes) in
+    omega (
+      arith,
+      length-take r.len (drop (r.start - n.start) n.bytes),
+      length-drop (r.start - n.start) n.bytes,
+      length-take r.len (drop (r.start - m.start) m.bytes),
+      length-drop (r.start - m.start) m.bytes,
+    ) in
     ext_get_or 0 (bytes_in n r) (bytes_in m r) as_long (λ i below.
     let less : i < r.len = omega (arith, length-take r.len (drop (r.start - n.start) n.bytes)) in
     slice_index-bytes_in n r i less (omega arith) ∙ same (r.start + i) (omega arith) (omega arith) ∙ sym (slice_index-bytes_in m r i less inside))
@@ -55,8 +62,10 @@ module _ {fllen sllen : ℕ} {m n : Space} {t : Table} {s : State} (old : Stands
   -- a word outside the usable bytes of each payload
   word_at-unlent : (a : ℕ) → m.start ≤ a → ((u : Used) → IsIn u s.used → (a + 8 ≤ u.payload) ⊎ (end_of u.block ≤ a)) → word_at n a ≡ word_at m a
   word_at-unlent a inside outside =
-      let apart : (b : ℕ) → a ≤ b → b < a + 8 → IsUnlent s b = λ b from to u i. elim (outside u i) [ inl before ↦ inl (omega (arith, before)) | inr behind ↦ inr (omega (arith, behind)) ] in
-      word_at-kept m n a differs.start inside (bytes_in-same m n (word_range a) differs.start differs.length inside (λ b from to. differs.bytes b (omega arith) (apart b from to))) (λ b from to. differs.out b (omega arith) (apart b from to))
+      let apart : (b : ℕ) → a ≤ b → b < a + 8 → IsUnlent s b =
+      λ b from to u i. elim (outside u i) [ inl before ↦ inl (omega (arith, before)) | inr behind ↦ inr (omega (arith, behind)) ] in
+      word_at-kept m n a differs.start inside (bytes_in-same m n (word_range a) differs.start differs.length inside (λ b from to. differs.bytes b (omega arith) (apart b from to)))
+      (λ b from to. differs.out b (omega arith) (apart b from to))
 
   -- a word that begins in no used block but before its payload
   word_at-apart : (a : ℕ) → m.start ≤ a → ((u : Used) → IsIn u s.used → Has u.block a → a + 8 ≤ u.payload) → word_at n a ≡ word_at m a
@@ -69,7 +78,8 @@ module _ {fllen sllen : ℕ} {m n : Space} {t : Table} {s : State} (old : Stands
   ])
 
   -- the second word from an address on at which a used block begins, if it has that address
-  word_at-second : (b : ℕ) → b % 32 ≡ 0 → m.start ≤ b → ((u : Used) → IsIn u s.used → Has u.block b → u.block.start ≡ b) → word_at n (b + 8) ≡ word_at m (b + 8)
+  word_at-second : (b : ℕ) → b % 32 ≡ 0 → m.start ≤ b → ((u : Used) → IsIn u s.used → Has u.block b → u.block.start ≡ b)
+      → word_at n (b + 8) ≡ word_at m (b + 8)
   word_at-second b whole inside begins = word_at-apart (b + 8) (omega arith) (λ u i has.
       let is = w.used u i in
       let first : u.block.start ≡ b = begins u i (record { from = omega (arith, has.from, is.whole.start); to = omega (arith, has.to) }) in
@@ -102,7 +112,9 @@ module _ {fllen sllen : ℕ} {m n : Space} {t : Table} {s : State} (old : Stands
       elim (cases_lt u.block.start (end_of x.block)) [
         | inr from ↦ omega (arith, from, has.from)
         | inl low ↦
-            let same : u ≡ x = used_used w u x (end_of x.block - 1) j i (record { from = omega arith; to = omega (arith, has.to) }) (record { from = omega (arith, is.within); to = omega (arith, is.within) }) in
+            let same : u ≡ x =
+            used_used w u x (end_of x.block - 1) j i (record { from = omega arith; to = omega (arith, has.to) })
+            (record { from = omega (arith, is.within); to = omega (arith, is.within) }) in
             absurd (omega (arith, has.to, ap (λ y. end_of y.block) same))
       ])
 
@@ -117,7 +129,8 @@ module _ {fllen sllen : ℕ} {m n : Space} {t : Table} {s : State} (old : Stands
       word_at-second (end_of f) (omega (arith, is.whole.start, is.whole.len)) (omega (arith, (free_in_memory w f i).0)) (λ u j has.
       elim (cases_lt u.block.start (end_of f)) [
         | inr from ↦ omega (arith, from, has.from)
-        | inl low ↦ absurd (used_free w u f (end_of f - 1) j i (record { from = omega arith; to = omega (arith, has.to) }) (record { from = omega (arith, is.some); to = omega (arith, is.some) }))
+        | inl low ↦ absurd (used_free w u f (end_of f - 1) j i (record { from = omega arith; to = omega (arith, has.to) })
+            (record { from = omega (arith, is.some); to = omega (arith, is.some) }))
       ])
 
   chunk_sentinel : (c : Range) → IsIn c s.chunks → word_at n (sentinel_of c) ≡ word_at m (sentinel_of c)
@@ -137,14 +150,16 @@ module _ {fllen sllen : ℕ} {m n : Space} {t : Table} {s : State} (old : Stands
 
   sizes : HasSizes n now
   sizes = record {
-    used = λ x i. let (u, j, same) = IsIn-map_from (with_bytes_of n) x s.used i in subst (λ y. word_at n y.block.start ≡ y.block.len + 1) (sym same) (used_size u j ∙ old.sizes.used u j);
+    used = λ x i. let (u, j, same) = IsIn-map_from (with_bytes_of n) x s.used i in
+        subst (λ y. word_at n y.block.start ≡ y.block.len + 1) (sym same) (used_size u j ∙ old.sizes.used u j);
     free = λ f i. free_word f i f.start (omega arith) (omega arith) ∙ old.sizes.free f i;
     sentinel = λ c i. chunk_sentinel c i ∙ old.sizes.sentinel c i;
   }
 
   previous : HasPrevious n now
   previous = record {
-    used = λ x i. let (u, j, same) = IsIn-map_from (with_bytes_of n) x s.used i in subst (λ y. word_at n (end_of y.block + 8) ≡ y.block.start) (sym same) (used_previous u j ∙ old.previous.used u j);
+    used = λ x i. let (u, j, same) = IsIn-map_from (with_bytes_of n) x s.used i in
+        subst (λ y. word_at n (end_of y.block + 8) ≡ y.block.start) (sym same) (used_previous u j ∙ old.previous.used u j);
     free = λ f i. free_previous f i ∙ old.previous.free f i;
     first = λ c i. chunk_first c i ∙ old.previous.first c i;
   }
@@ -152,7 +167,8 @@ module _ {fllen sllen : ℕ} {m n : Space} {t : Table} {s : State} (old : Stands
   payloads : HasPayloads n now
   payloads = record {
     bytes = λ x i. let (u, j, same) = IsIn-map_from (with_bytes_of n) x s.used i in subst (λ y. bytes_in n (usable y) ≡ y.bytes) (sym same) refl;
-    pad = λ x i. let (u, j, same) = IsIn-map_from (with_bytes_of n) x s.used i in subst (λ y. 32 ≤ y.align → word_at n (y.payload - 8) ≡ y.block.start) (sym same) (λ wide. used_pad u j ∙ old.payloads.pad u j wide);
+    pad = λ x i. let (u, j, same) = IsIn-map_from (with_bytes_of n) x s.used i in
+        subst (λ y. 32 ≤ y.align → word_at n (y.payload - 8) ≡ y.block.start) (sym same) (λ wide. used_pad u j ∙ old.payloads.pad u j wide);
   }
 
   table : HasTable fllen sllen n t s.free
@@ -162,12 +178,13 @@ module _ {fllen sllen : ℕ} {m n : Space} {t : Table} {s : State} (old : Stands
       rows = old.table.lists.rows;
       places = old.table.lists.places;
       links = λ fl sl row place. Links-same m n 0 (of_class sllen fl sl s.free) (head_at t fl sl)
-          (λ f i. let free = (IsIn-of_class sllen fl sl f s.free i).0 in (free_word f free (f.start + 16) (omega arith) (omega arith), free_word f free (f.start + 24) (omega arith) (omega arith)))
+          (λ f i. let free = (IsIn-of_class sllen fl sl f s.free i).0 in
+          (free_word f free (f.start + 16) (omega arith) (omega arith), free_word f free (f.start + 24) (omega arith) (omega arith)))
           (old.table.lists.links fl sl row place);
     };
   }
 
-  -- as many bytes stand in a payload as before
+  -- as many bytes are in a payload as before
   IsUsed-with_bytes_of : (u : Used) → IsIn u s.used → IsUsed (with_bytes_of n u)
   IsUsed-with_bytes_of u i =
       let is = w.used u i in
@@ -177,7 +194,18 @@ module _ {fllen sllen : ℕ} {m n : Space} {t : Table} {s : State} (old : Stands
         power = is.power;
         placed = is.placed;
         within = is.within;
-        bytes = omega (arith, place.0, place.1, is.within, IsUsed-after_start u is, differs.start, differs.length, length-take (usable u).len (drop (u.payload - n.start) n.bytes), length-drop (u.payload - n.start) n.bytes);
+        bytes =
+            omega (
+              arith,
+              place.0,
+              place.1,
+              is.within,
+              IsUsed-after_start u is,
+              differs.start,
+              differs.length,
+              length-take (usable u).len (drop (u.payload - n.start) n.bytes),
+              length-drop (u.payload - n.start) n.bytes,
+            );
       }
 
   well_formed : IsWellFormed fllen sllen (range_of m) now
@@ -203,7 +231,9 @@ module _ {fllen sllen : ℕ} {m n : Space} {t : Table} {s : State} (old : Stands
         previous = previous;
         payloads = payloads;
         table = table;
-        own = λ a from unlent. (let apart : IsUnlent s a = λ u i. unlent (with_bytes_of n u) (IsIn-map (with_bytes_of n) u s.used i) in ap is_own (differs.out a (omega (arith, differs.start, from)) apart) ∙ old.own a (omega (arith, differs.start, from)) apart);
+        own =
+            λ a from unlent. (let apart : IsUnlent s a = λ u i. unlent (with_bytes_of n u) (IsIn-map (with_bytes_of n) u s.used i) in
+            ap is_own (differs.out a (omega (arith, differs.start, from)) apart) ∙ old.own a (omega (arith, differs.start, from)) apart);
       }
 
 -- the words inside the pools and the class table read no usable byte of a live payload

@@ -20,7 +20,8 @@ pub data BehindBlock (s : State) (a end : ℕ) : Type 0 where
 
 module _ {fllen sllen : ℕ} {memory : Range} {s : State} (w : IsWellFormed fllen sllen memory s) where
   -- a block that has an address of a chunk lies in it, before its last 32 bytes
-  pub lies_in_same_chunk : (b : Block) → HasBlock s b → (c : Range) → IsIn c s.chunks → (a : ℕ) → Has b.range a → Has c a → (c.start ≤ b.range.start) × (end_of b.range + 32 ≤ end_of c)
+  pub lies_in_same_chunk : (b : Block) → HasBlock s b → (c : Range) → IsIn c s.chunks → (a : ℕ) → Has b.range a → Has c a
+      → (c.start ≤ b.range.start) × (end_of b.range + 32 ≤ end_of c)
   lies_in_same_chunk b i c j a hb hc =
       let home = home_of_block w b i in
       let same = chunk_chunk w home.chunk c a home.is_chunk j (record { from = omega (arith, home.from, hb.from); to = omega (arith, home.to, hb.to) }) hc in

@@ -1,4 +1,4 @@
--- A walk over the blocks of one chunk, up to its sentinel.
+-- An iteration over the blocks of one chunk, up to its sentinel.
 use Rattle.rlsf_base.proofs.Lending.WordIsHere.{is_word}
 use Rattle.rlsf_blocks.proofs.Words.NeverOut.{here_walk, walk-fits}
 use Rattle.std.proofs.Common.{◌≡◌, ◌≢◌, ℕ, ◌+◌, ◌*◌, ◌/◌, ◌%◌, ◌<◌, ◌≤◌, arith, sym, ◌∙◌, ap, subst}
@@ -16,7 +16,7 @@ use Rattle.rlsf_blocks.proofs.Walking.Begins.{BehindBlock, block_behind, end_beh
 use Rattle.rlsf_blocks.proofs.Walking.Blocks.{IsWhole-block, block-some}
 use Rattle.rlsf_blocks.proofs.Walking.Sizes.{block_at-block, block_word}
 
--- the walk stands at a block of the chunk, or at its sentinel
+-- the iteration is at a block of the chunk, or at its sentinel
 pub record IsInChunk (s : State) (c : Range) (a : ℕ) : Type 0 where
   pub at : BehindBlock s a (end_of c)
   pub whole : a % 32 ≡ 0
@@ -31,11 +31,12 @@ module _ {fllen sllen : ℕ} {m : Space} {t : Table} {s : State} (v : StandsFor 
       subst (IsInChunk s c) at (record { at = block_behind (begins_at_chunk v.well_formed c i); whole = chunk.whole.start; from = omega arith; to = omega (arith, chunk.has_room) })
 
   module _ {a : ℕ} (is : IsInChunk s c a) where
-    -- a word stands there
+    -- a word is there
     pub IsReadable-chunk : IsReadable m a
-    IsReadable-chunk = let placed = (v.well_formed.chunks c i).lies_in in is_word m a (omega (arith, is.whole), (omega (arith, is.from, placed.0), omega (arith, is.to, placed.1)), here_walk v a (end_of c) is.at) (walk-fits v a (end_of c) is.at)
+    IsReadable-chunk = let placed = (v.well_formed.chunks c i).lies_in in
+        is_word m a (omega (arith, is.whole), (omega (arith, is.from, placed.0), omega (arith, is.to, placed.1)), here_walk v a (end_of c) is.at) (walk-fits v a (end_of c) is.at)
 
-    -- which is that of the chunk's sentinel, where the walk is at the chunk's end
+    -- which is that of the chunk's sentinel, where the iteration is at the chunk's end
     pub end_there : {word : ℕ} → word ≡ word_at m a → word ≡ 35 → a + 32 ≡ end_of c
     end_there {word} read sentinel = elim is.at [
       | block_behind (b, j, begins) ↦ absurd (block_word v b j (ap (word_at m) begins ∙ sym read ∙ sentinel))
@@ -49,7 +50,7 @@ module _ {fllen sllen : ℕ} {m : Space} {t : Table} {s : State} (v : StandsFor 
       | end_behind d j begins ends ↦ absurd (other (read ∙ ap (word_at m) (sym begins) ∙ v.sizes.sentinel d j))
     ]
 
-    -- and the walk goes on behind it
+    -- and the iteration goes on behind it
     pub IsInChunk-next : {word : ℕ} → word ≡ word_at m a → word ≢ 35 → IsInChunk s c (a + word / 32 * 32) × (a < a + word / 32 * 32)
     IsInChunk-next {word} read other =
         let (b, j, begins) = begins_there read other in
@@ -58,8 +59,15 @@ module _ {fllen sllen : ℕ} {m : Space} {t : Table} {s : State} (v : StandsFor 
         let whole = IsWhole-block w b j in
         let len : word / 32 * 32 ≡ b.range.len = ap (λ n. n / 32 * 32) (read ∙ ap (word_at m) (sym begins)) ∙ ap (λ (x : Block). x.range.len) (block_at-block v b j) in
         let end : end_of b.range ≡ a + word / 32 * 32 = omega (arith, begins, len) in
-        let inside = lies_in_same_chunk w b j c i b.range.start (record { from = omega arith; to = omega arith }) (record { from = omega (arith, begins, is.from); to = omega (arith, begins, is.to) }) in
+        let inside =
+        lies_in_same_chunk w b j c i b.range.start (record { from = omega arith; to = omega arith })
+        (record { from = omega (arith, begins, is.from); to = omega (arith, begins, is.to) }) in
         let behind = behind_block w b j c i (record { from = inside.0; to = omega (arith, inside.1) }) in (
-          record { at = subst (λ x. BehindBlock s x (end_of c)) end behind; whole = omega (arith, end, whole.start, whole.len); from = omega (arith, is.from); to = omega (arith, end, inside.1) },
+          record {
+            at = subst (λ x. BehindBlock s x (end_of c)) end behind;
+            whole = omega (arith, end, whole.start, whole.len);
+            from = omega (arith, is.from);
+            to = omega (arith, end, inside.1);
+          },
           omega (arith, len, some),
         )

@@ -1,4 +1,4 @@
--- The blocks that a walk gives.
+-- The blocks that an iteration gives.
 use Rattle.std.proofs.Common.{◌≡◌, ℕ, zero, suc, cond, ◌+◌, ◌-◌, ◌<◌, ◌≤◌, List, [], ◌∷◌, arith, inl, inr, refl, sym, ◌∙◌, ap, subst}
 use Rattle.std.proofs.lemmas.Bool.{cases_lt, lt-ltb, le-ltb}
 use Rattle.rlsf_base.specs.Range.{end_of}
@@ -12,7 +12,7 @@ use Rattle.rlsf_blocks.specs.Steps.Walk.{IsAtBlock, block_at, blocks_between, bl
 use Rattle.rlsf_blocks.proofs.Walking.Blocks.{block-some, block_block}
 use Rattle.rlsf_blocks.proofs.Walking.Steps.{IsStep, step_of}
 
--- where the walk goes on from a block
+-- where the iteration goes on from a block
 abbrev next_of : Space → ℕ → ℕ
 next_of m start = next_start m (end_of (block_at m start).range)
 
@@ -20,7 +20,8 @@ pub blocks_within-end : (m : Space) (most start end : ℕ) → end ≤ start →
 blocks_within-end m zero start end over = refl
 blocks_within-end m (suc most) start end over = ap (λ t. cond t (block_at m start ∷ blocks_within m most (next_of m start) end) []) (le-ltb start end over)
 
-pub blocks_within-more : (m : Space) (most start end : ℕ) → start < end → blocks_within m (suc most) start end ≡ block_at m start ∷ blocks_within m most (next_of m start) end
+pub blocks_within-more : (m : Space) (most start end : ℕ) → start < end
+    → blocks_within m (suc most) start end ≡ block_at m start ∷ blocks_within m most (next_of m start) end
 blocks_within-more m most start end lt = ap (λ t. cond t (block_at m start ∷ blocks_within m most (next_of m start) end) []) (lt-ltb start end lt)
 
 -- the blocks of a list are those of the state from one address up to another, in order
@@ -31,7 +32,8 @@ pub record AreFrom (s : State) (start end : ℕ) (bs : List Block) : Type 0 wher
 
 module _ {fllen sllen : ℕ} {m : Space} {t : Table} {s : State} (v : StandsFor fllen sllen (contents m t) s) where
   -- how many more there are at most doesn't matter, if they suffice
-  pub blocks_within-enough : (p q start end : ℕ) → IsAtBlock s start end → end ≤ start + p → end ≤ start + q → blocks_within m p start end ≡ blocks_within m q start end
+  pub blocks_within-enough : (p q start end : ℕ) → IsAtBlock s start end → end ≤ start + p → end ≤ start + q
+      → blocks_within m p start end ≡ blocks_within m q start end
   blocks_within-enough zero q start end is p_enough q_enough = sym (blocks_within-end m q start end (omega (arith, p_enough)))
   blocks_within-enough (suc p) zero start end is p_enough q_enough = blocks_within-end m (suc p) start end (omega (arith, q_enough))
   blocks_within-enough (suc p) (suc q) start end is p_enough q_enough = elim (cases_lt start end) [
@@ -39,12 +41,14 @@ module _ {fllen sllen : ℕ} {m : Space} {t : Table} {s : State} (v : StandsFor 
     | inl lt ↦
         let step = step_of v start end is lt in
         let some = block-some v.well_formed step.block step.has in
-        let rest = blocks_within-enough p q (next_of m start) end step.rest (omega (arith, p_enough, step.begins, step.onward)) (omega (arith, q_enough, step.begins, step.onward)) in
+        let rest =
+        blocks_within-enough p q (next_of m start) end step.rest (omega (arith, p_enough, step.begins, step.onward)) (omega (arith, q_enough, step.begins, step.onward)) in
         blocks_within-more m p start end lt ∙ ap (λ bs. block_at m start ∷ bs) rest ∙ sym (blocks_within-more m q start end lt)
   ]
 
   -- the first block, and those from the next one on
-  pub blocks_between-more : (start end : ℕ) → IsAtBlock s start end → start < end → blocks_between m start end ≡ block_at m start ∷ blocks_between m (next_of m start) end
+  pub blocks_between-more : (start end : ℕ) → IsAtBlock s start end → start < end
+      → blocks_between m start end ≡ block_at m start ∷ blocks_between m (next_of m start) end
   blocks_between-more start end is lt =
       let step = step_of v start end is lt in
       let some = block-some v.well_formed step.block step.has in
@@ -76,7 +80,8 @@ module _ {fllen sllen : ℕ} {m : Space} {t : Table} {s : State} (v : StandsFor 
           | inr behind ↦ inr (rest.complete b has (step.nothing_between b has behind) to)
           | inl over ↦
               let more = block-some v.well_formed b has in
-              inl (block_block v.well_formed b step.block b.range.start has step.has (record { from = omega arith; to = omega arith }) (record { from = omega (arith, from, step.begins); to = over }))
+              inl (block_block v.well_formed b step.block b.range.start has step.has (record { from = omega arith; to = omega arith })
+              (record { from = omega (arith, from, step.begins); to = over }))
         ];
         in_order = (λ c i. omega (arith, step.onward, (rest.sound c i).1), rest.in_order);
       }

@@ -1,4 +1,4 @@
--- A walk over a row of chunks stands at a block, or at its end.
+-- An iteration over contiguous chunks is at a block, or at its end.
 use Rattle.std.proofs.Common.{◌≡◌, ℕ, ◌-◌, ◌^◌, ◌<◌, ◌≤◌, min, arith, inl, inr, refl, subst}
 use Rattle.std.proofs.lemmas.Bool.{cases_lt}
 use Rattle.rlsf_base.specs.declared.memory.range.Range.{Range}
@@ -68,7 +68,7 @@ module _ {fllen sllen : ℕ} {m : Space} {t : Table} {s : State} (v : StandsFor 
       let (c, i, inside, at, before, up_to) = row (end_of r - 1) (omega (arith, some)) (omega (arith, some)) in
       omega (arith, before, (v.well_formed.chunks c i).lies_in.1, v.well_formed.addressable)
 
-  -- the walk begins at the rounded start, if that is before the end, and the end is not cut off
+  -- the iteration begins at the rounded start, if that is before the end, and the end is not cut off
   pub IsSpan-some : (r : Range) (end : ℕ) → end ≡ min (end_of r) (2 ^ 64 - 1) → round32 r.start < end → IsRow s (walked r) → IsSpan (walked r) (round32 r.start) end
   IsSpan-some r end cut lt row =
       let top = row_addressable (walked r) row (omega (arith, cut, lt)) in

@@ -1,4 +1,4 @@
--- A walk goes from a block to the next one.
+-- An iteration goes from a block to the next one.
 use Rattle.std.proofs.Common.{◌≡◌, ℕ, ◌+◌, ◌<◌, ◌≤◌, arith, inl, inr, sym, ◌∙◌, ap, subst}
 use Rattle.std.proofs.lemmas.Bool.{cases_lt}
 use Rattle.rlsf_base.specs.Range.{end_of}
@@ -13,7 +13,7 @@ use Rattle.rlsf_blocks.proofs.Walking.Blocks.{block-some, block_last}
 use Rattle.rlsf_blocks.proofs.Walking.Sizes.{block_at-block, next_start-block, next_start-sentinel}
 use Rattle.rlsf_blocks.proofs.Words.Apart.{Has}
 
--- a block where a walk stands, and where the walk goes from there
+-- a block where an iteration is, and where the iteration goes from there
 pub record IsStep (m : Space) (s : State) (start end next : ℕ) : Type 0 where
   pub block : Block
   pub has : HasBlock s block
@@ -21,12 +21,12 @@ pub record IsStep (m : Space) (s : State) (start end next : ℕ) : Type 0 where
   pub at : block_at m start ≡ block
   pub onward : end_of block.range ≤ next
   pub past : end_of block.range + 32 ≤ end
-  -- no block begins between its end and where the walk goes
+  -- no block begins between its end and where the iteration goes
   pub nothing_between : (b : Block) → HasBlock s b → end_of block.range ≤ b.range.start → next ≤ b.range.start
   pub rest : IsAtBlock s next end
 
 module _ {fllen sllen : ℕ} {m : Space} {t : Table} {s : State} (v : StandsFor fllen sllen (contents m t) s) where
-  -- from a later address on, where a block begins, a walk goes on to the same end
+  -- from a later address on, where a block begins, an iteration goes on to the same end
   later : (start next end : ℕ) → IsAtBlock s start end → start ≤ next → next ≤ end → (next < end → BlockBegins s next) → IsAtBlock s next end
   later start next end is after within begins = record {
     within = within;

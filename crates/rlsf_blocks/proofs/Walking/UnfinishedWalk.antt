@@ -1,4 +1,4 @@
--- A walk that is underway and not at its end.
+-- An iteration that is underway and not at its end.
 use Rattle.rlsf_blocks.proofs.Walking.Begins.{behind_block}
 use Rattle.rlsf_base.proofs.Lending.WordIsHere.{is_word}
 use Rattle.rlsf_base.proofs.Lending.Present.{own-word}
@@ -18,7 +18,7 @@ use Rattle.rlsf_blocks.proofs.Walking.Steps.{step_of}
 abbrev pub block_by : ℕ → ℕ → Block
 block_by start word = record { range = range_at start (word / 32 * 32); is_occupied = eqb (word % 2) 1 }
 
--- the first block of a walk, by its size word: its words lie in the memory, which goes on for 32 bytes behind it
+-- the first block of an iteration, by its size word: its words lie in the memory, which goes on for 32 bytes behind it
 pub record IsFirst (m : Space) (start end word : ℕ) : Type 0 where
   pub size : IsReadable m start
   pub behind : IsReadable m (start + word / 32 * 32)
@@ -38,12 +38,21 @@ IsFirst-underway m start end (fllen, sllen, t, s, v, is) more =
     let placed = (w.chunks home.chunk home.is_chunk).lies_in in
     let len : word_at m start / 32 * 32 ≡ step.block.range.len = ap (λ (b : Block). b.range.len) step.at in
     record {
-      size = is_word m start (omega (arith, step.begins, whole.start), (omega (arith, step.begins, home.from, placed.0), omega (arith, step.begins, some, whole.len, home.to, placed.1)), subst (λ a. IsOwned m (word_range a)) step.begins (here_block v step.block step.has)) (subst (λ a. word_at m a < 2 ^ 64) step.begins (block-fits v step.block step.has));
+      size =
+          is_word m start (
+            omega (arith, step.begins, whole.start),
+            (omega (arith, step.begins, home.from, placed.0), omega (arith, step.begins, some, whole.len, home.to, placed.1)),
+            subst (λ a. IsOwned m (word_range a)) step.begins (here_block v step.block step.has),
+          )
+          (subst (λ a. word_at m a < 2 ^ 64) step.begins (block-fits v step.block step.has));
       behind = is_word m (start + word_at m start / 32 * 32) (
         omega (arith, step.begins, whole.start, len, whole.len),
         (omega (arith, step.begins, home.from, placed.0), omega (arith, step.begins, len, home.to, placed.1)),
-        own-word m (range_at (end_of step.block.range) 16) (start + word_at m start / 32 * 32) (here_behind_block v step.block step.has) (omega (arith, step.begins, len)) (omega (arith, step.begins, len)),
-      ) (subst (λ a. word_at m a < 2 ^ 64) (let e : end_of step.block.range ≡ start + word_at m start / 32 * 32 = omega (arith, step.begins, len) in e) (walk-fits v (end_of step.block.range) (end_of home.chunk) (behind_block w step.block step.has home.chunk home.is_chunk (record { from = home.from; to = omega (arith, home.to, some) }))));
+        own-word m (range_at (end_of step.block.range) 16) (start + word_at m start / 32 * 32) (here_behind_block v step.block step.has) (omega (arith, step.begins, len))
+            (omega (arith, step.begins, len)),
+      ) (subst (λ a. word_at m a < 2 ^ 64) (let e : end_of step.block.range ≡ start + word_at m start / 32 * 32 = omega (arith, step.begins, len) in e)
+          (walk-fits v (end_of step.block.range) (end_of home.chunk)
+          (behind_block w step.block step.has home.chunk home.is_chunk (record { from = home.from; to = omega (arith, home.to, some) }))));
       past = omega (arith, step.begins, len, home.to, placed.1, w.addressable);
       block = record {
         len = omega (arith, len, whole.len);

@@ -17,13 +17,21 @@ pub record Has (r : Range) (a : ℕ) : Type 0 where
 module _ {fllen sllen : ℕ} {memory : Range} {s : State} (w : IsWellFormed fllen sllen memory s) where
   pub used_free : (u : Used) (f : Range) (a : ℕ) → IsIn u s.used → IsIn f s.free → Has u.block a → Has f a → ⊥
   used_free u f a iu if hu hf =
-      omega (arith, blocks-le s (tiling_of w) a, coverage-IsIn block_of u s.used a iu, coverage-IsIn itself f s.free a if, covers-inside u.block a hu.from hu.to, covers-inside f a hf.from hf.to)
+      omega (
+        arith,
+        blocks-le s (tiling_of w) a,
+        coverage-IsIn block_of u s.used a iu,
+        coverage-IsIn itself f s.free a if,
+        covers-inside u.block a hu.from hu.to,
+        covers-inside f a hf.from hf.to,
+      )
 
   pub free_free : (f g : Range) (a : ℕ) → IsIn f s.free → IsIn g s.free → Has f a → Has g a → f ≡ g
   free_free f g a if ig hf hg = coverage-unique itself f g s.free a (free-le s (tiling_of w) a) if ig (covers-inside f a hf.from hf.to) (covers-inside g a hg.from hg.to)
 
   pub used_used : (u v : Used) (a : ℕ) → IsIn u s.used → IsIn v s.used → Has u.block a → Has v.block a → u ≡ v
-  used_used u v a iu iv hu hv = coverage-unique block_of u v s.used a (used-le s (tiling_of w) a) iu iv (covers-inside u.block a hu.from hu.to) (covers-inside v.block a hv.from hv.to)
+  used_used u v a iu iv hu hv =
+      coverage-unique block_of u v s.used a (used-le s (tiling_of w) a) iu iv (covers-inside u.block a hu.from hu.to) (covers-inside v.block a hv.from hv.to)
 
   pub chunk_chunk : (c d : Range) (a : ℕ) → IsIn c s.chunks → IsIn d s.chunks → Has c a → Has d a → c ≡ d
   chunk_chunk c d a ic id hc hd = coverage-unique itself c d s.chunks a (w.disjoint a) ic id (covers-inside c a hc.from hc.to) (covers-inside d a hd.from hd.to)
@@ -43,7 +51,9 @@ module _ {fllen sllen : ℕ} {memory : Range} {s : State} (w : IsWellFormed flle
 
   -- they begin in the memory, and end 32 bytes or more before its end
   pub free_in_memory : (f : Range) → IsIn f s.free → (memory.start ≤ f.start) × (end_of f + 32 ≤ end_of memory)
-  free_in_memory f i = let home = home_of_free f i in let placed = (w.chunks home.chunk home.is_chunk).lies_in in (omega (arith, home.from, placed.0), omega (arith, home.to, placed.1))
+  free_in_memory f i = let home = home_of_free f i in let placed = (w.chunks home.chunk home.is_chunk).lies_in in
+      (omega (arith, home.from, placed.0), omega (arith, home.to, placed.1))
 
   pub used_in_memory : (u : Used) → IsIn u s.used → (memory.start ≤ u.block.start) × (end_of u.block + 32 ≤ end_of memory)
-  used_in_memory u i = let home = home_of_used u i in let placed = (w.chunks home.chunk home.is_chunk).lies_in in (omega (arith, home.from, placed.0), omega (arith, home.to, placed.1))
+  used_in_memory u i = let home = home_of_used u i in let placed = (w.chunks home.chunk home.is_chunk).lies_in in
+      (omega (arith, home.from, placed.0), omega (arith, home.to, placed.1))

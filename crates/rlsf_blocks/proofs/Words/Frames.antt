@@ -1,5 +1,5 @@
--- What the words of the old blocks are, once a hole has been written over, with one word behind it and the links
--- of the free blocks. All that is not in the hole is as it was.
+-- The words of the old blocks after a hole has been written over, with one word behind it and the links of the free blocks. All
+-- that is not in the hole is as it was.
 use Rattle.std.proofs.Common.{◌≡◌, ◌≢◌, ℕ, ◌+◌, ◌-◌, ◌*◌, ◌/◌, ◌%◌, ◌^◌, ◌<◌, ◌≤◌, ◌⊎◌, arith, inl, inr, sym, ◌∙◌, ap}
 use Rattle.std.proofs.lemmas.Bool.{cases_lt}
 use Rattle.std.proofs.lemmas.Nat.{pow-add}
@@ -32,7 +32,7 @@ sides r q some more apart = elim (cases_lt q.start (end_of r)) [
   ]
 ]
 
--- two blocks of whole granules that have no address in common: one ends in the other only where that begins
+-- two blocks of complete granules that have no address in common: one ends in the other only where that begins
 pub begins_there : (r q : Range) → 0 < q.len → ((a : ℕ) → Has r a → Has q a → ⊥) → Has r (end_of q) → r.start ≡ end_of q
 begins_there r q some apart at = elim (cases_lt r.start (end_of q)) [
   | inl before ↦ absurd (apart (end_of q - 1) (record { from = omega arith; to = omega (arith, at.to) }) (record { from = omega arith; to = omega arith }))
@@ -90,12 +90,15 @@ module _ {fllen sllen : ℕ} {m n : Space} {s : State} (w : IsWellFormed fllen s
         long : 0 < u.block.len
         long = let is = w.used u i in IsUsed-some u is
 
-        outside : (r : Range) → 0 < r.len → ((b : ℕ) → Has u.block b → Has r b → ⊥) → r.start ≤ a → a + 8 ≤ end_of r → (end_of u.block ≤ a) ⊎ (a + 8 ≤ low)
+        outside : (r : Range) → 0 < r.len → ((b : ℕ) → Has u.block b → Has r b → ⊥) → r.start ≤ a → a + 8 ≤ end_of r
+            → (end_of u.block ≤ a) ⊎ (a + 8 ≤ low)
         outside r some parted from to = elim (sides u.block r long some parted) [ inl before ↦ inl (omega arith) | inr behind ↦ inr (omega arith) ]
 
         go : Touched s.free hole past a → (end_of u.block ≤ a) ⊎ (a + 8 ≤ low)
-        go (at_link (g, gi, inl at)) = let free = w.free g gi in outside g free.some (λ b hu hg. used_free w u g b i gi hu hg) (omega arith) (omega (arith, free.some, free.whole.len))
-        go (at_link (g, gi, inr at)) = let free = w.free g gi in outside g free.some (λ b hu hg. used_free w u g b i gi hu hg) (omega arith) (omega (arith, free.some, free.whole.len))
+        go (at_link (g, gi, inl at)) = let free = w.free g gi in
+            outside g free.some (λ b hu hg. used_free w u g b i gi hu hg) (omega arith) (omega (arith, free.some, free.whole.len))
+        go (at_link (g, gi, inr at)) = let free = w.free g gi in
+            outside g free.some (λ b hu hg. used_free w u g b i gi hu hg) (omega arith) (omega (arith, free.some, free.whole.len))
         go (in_hole from to) = outside hole (omega arith) apart from to
         go (at_other at) = elim (sides u.block hole long room apart) [ inl before ↦ inl (omega arith) | inr behind ↦ inr (omega arith) ]
 
@@ -103,7 +106,8 @@ module _ {fllen sllen : ℕ} {m n : Space} {s : State} (w : IsWellFormed fllen s
     used_bytes =
         let is = w.used u i in
         let place = used_in_memory w u i in
-        rewrites.bytes (usable u) (omega (arith, place.0, IsUsed-after_start u is)) (λ a t. elim (used_rest a t u.payload (IsUsed-after_start u is)) [ inl past ↦ inl (omega (arith, past, is.within)) | inr below ↦ inr below ])
+        rewrites.bytes (usable u) (omega (arith, place.0, IsUsed-after_start u is))
+        (λ a t. elim (used_rest a t u.payload (IsUsed-after_start u is)) [ inl past ↦ inl (omega (arith, past, is.within)) | inr below ↦ inr below ])
 
     pub used_pad : 32 ≤ u.align → word_at n (u.payload - 8) ≡ word_at m (u.payload - 8)
     used_pad wide =
@@ -116,7 +120,8 @@ module _ {fllen sllen : ℕ} {m n : Space} {s : State} (w : IsWellFormed fllen s
 
   module _ (g : Range) (i : IsIn g s.free) (apart : (a : ℕ) → Has g a → Has hole a → ⊥) where
     pub free_size : word_at n g.start ≡ word_at m g.start
-    free_size = let is = w.free g i in first_word g.start is.whole.start (free_in_memory w g i).0 (λ h. apart g.start (record { from = omega arith; to = omega (arith, is.some) }) h)
+    free_size = let is = w.free g i in
+        first_word g.start is.whole.start (free_in_memory w g i).0 (λ h. apart g.start (record { from = omega arith; to = omega (arith, is.some) }) h)
 
     pub free_previous : end_of g ≢ hole.start → end_of g + 8 ≢ past → word_at n (end_of g + 8) ≡ word_at m (end_of g + 8)
     free_previous start other =
@@ -130,4 +135,5 @@ module _ {fllen sllen : ℕ} {m n : Space} {s : State} (w : IsWellFormed fllen s
     chunk_first apart other = let is = w.chunks c i in second_word c.start is.whole.start is.lies_in.0 apart other
 
     pub chunk_sentinel : (Has hole (sentinel_of c) → ⊥) → word_at n (sentinel_of c) ≡ word_at m (sentinel_of c)
-    chunk_sentinel apart = let is = w.chunks c i in first_word (sentinel_of c) (omega (arith, is.whole.start, is.whole.len, is.has_room)) (omega (arith, is.lies_in.0, is.has_room)) apart
+    chunk_sentinel apart = let is = w.chunks c i in
+        first_word (sentinel_of c) (omega (arith, is.whole.start, is.whole.len, is.has_room)) (omega (arith, is.lies_in.0, is.has_room)) apart

@@ -21,8 +21,10 @@ use Rattle.rlsf_blocks.proofs.Walking.Begins.{BehindBlock, block_behind, end_beh
 use Rattle.rlsf_blocks.proofs.Words.Apart.{Has, used_free, used_used, used_last, free_in_memory, used_in_memory, home_of_used}
 
 -- of a memory of which nothing is out but usable bytes of a state's payloads
-module _ {fllen sllen : ℕ} (m : Space) {s : State} (w : IsWellFormed fllen sllen (range_of m) s) (here : (a : ℕ) → m.start ≤ a → IsUnlent s a → is_own (out_at m a) ≡ true) where
-  pub here_apart-in : (r : Range) → m.start ≤ r.start → ((u : Used) → IsIn u s.used → (a : ℕ) → u.payload ≤ a → a < end_of u.block → Has r a → ⊥) → IsOwned m r
+module _ {fllen sllen : ℕ} (m : Space) {s : State} (w : IsWellFormed fllen sllen (range_of m) s)
+    (here : (a : ℕ) → m.start ≤ a → IsUnlent s a → is_own (out_at m a) ≡ true) where
+  pub here_apart-in : (r : Range) → m.start ≤ r.start → ((u : Used) → IsIn u s.used → (a : ℕ) → u.payload ≤ a → a < end_of u.block → Has r a → ⊥)
+      → IsOwned m r
   here_apart-in r from apart a lo hi = here a (omega arith) (λ u i. elim (cases_lt a u.payload) [
     | inl before ↦ inl before
     | inr behind ↦ elim (cases_lt a (end_of u.block)) [
@@ -32,7 +34,8 @@ module _ {fllen sllen : ℕ} (m : Space) {s : State} (w : IsWellFormed fllen sll
   ])
 
   pub here_free-in : (f : Range) → IsIn f s.free → IsOwned m f
-  here_free-in f i = here_apart-in f (free_in_memory w f i).0 (λ u j a low high h. used_free w u f a j i (record { from = omega (arith, IsUsed-after_start u (w.used u j)); to = high }) h)
+  here_free-in f i =
+      here_apart-in f (free_in_memory w f i).0 (λ u j a low high h. used_free w u f a j i (record { from = omega (arith, IsUsed-after_start u (w.used u j)); to = high }) h)
 
   pub here_behind_free-in : (f : Range) → IsIn f s.free → IsOwned m (range_at (end_of f) 16)
   here_behind_free-in f i =
@@ -44,7 +47,8 @@ module _ {fllen sllen : ℕ} (m : Space) {s : State} (w : IsWellFormed fllen sll
 
 module _ {fllen sllen : ℕ} {m : Space} {t : Table} {s : State} (v : StandsFor fllen sllen (contents m t) s) where
   -- a range that has no usable byte of a payload
-  pub here_apart : (r : Range) → m.start ≤ r.start → ((u : Used) → IsIn u s.used → (a : ℕ) → u.payload ≤ a → a < end_of u.block → Has r a → ⊥) → IsOwned m r
+  pub here_apart : (r : Range) → m.start ≤ r.start → ((u : Used) → IsIn u s.used → (a : ℕ) → u.payload ≤ a → a < end_of u.block → Has r a → ⊥)
+      → IsOwned m r
   here_apart r from apart a lo hi = v.own a (omega arith) (λ u i. elim (cases_lt a u.payload) [
     | inl before ↦ inl before
     | inr behind ↦ elim (cases_lt a (end_of u.block)) [
@@ -57,7 +61,8 @@ module _ {fllen sllen : ℕ} {m : Space} {t : Table} {s : State} (v : StandsFor 
   after u i = IsUsed-after_start u (v.well_formed.used u i)
 
   pub here_free : (f : Range) → IsIn f s.free → IsOwned m f
-  here_free f i = here_apart f (free_in_memory v.well_formed f i).0 (λ u j a low high h. used_free v.well_formed u f a j i (record { from = omega (arith, after u j); to = high }) h)
+  here_free f i =
+      here_apart f (free_in_memory v.well_formed f i).0 (λ u j a low high h. used_free v.well_formed u f a j i (record { from = omega (arith, after u j); to = high }) h)
 
   -- the bytes of a used block before its payload
   pub here_front : (u : Used) → IsIn u s.used → IsOwned m (between u.block.start u.payload)
@@ -69,10 +74,13 @@ module _ {fllen sllen : ℕ} {m : Space} {t : Table} {s : State} (v : StandsFor 
   pub here_last : (c : Range) → IsIn c s.chunks → IsOwned m (last_bytes c)
   here_last c i =
       let chunk = v.well_formed.chunks c i in
-      here_apart (last_bytes c) (omega (arith, chunk.lies_in, chunk.has_room)) (λ u j a low high h. used_last v.well_formed u c a j i (record { from = omega (arith, after u j); to = high }) (omega (arith, h.from, chunk.has_room)) (omega (arith, h.to, chunk.has_room)))
+      here_apart (last_bytes c) (omega (arith, chunk.lies_in, chunk.has_room))
+      (λ u j a low high h. used_last v.well_formed u c a j i (record { from = omega (arith, after u j); to = high }) (omega (arith, h.from, chunk.has_room))
+      (omega (arith, h.to, chunk.has_room)))
 
   -- the 16 bytes behind a range, where no used block goes past its end
-  pub here_behind : (r : Range) → 0 < r.len → m.start ≤ r.start → ((u : Used) → IsIn u s.used → Has u.block (end_of r - 1) → end_of u.block ≤ end_of r) → IsOwned m (range_at (end_of r) 16)
+  pub here_behind : (r : Range) → 0 < r.len → m.start ≤ r.start → ((u : Used) → IsIn u s.used → Has u.block (end_of r - 1) → end_of u.block ≤ end_of r)
+      → IsOwned m (range_at (end_of r) 16)
   here_behind r some from ends = here_apart (range_at (end_of r) 16) (omega arith) (λ u j a low high h. elim (cases_lt u.block.start (end_of r)) [
     | inl before ↦ omega (arith, h.from, ends u j (record { from = omega arith; to = omega (arith, h.from) }))
     | inr past ↦ omega (arith, h.to, after u j)
@@ -81,22 +89,31 @@ module _ {fllen sllen : ℕ} {m : Space} {t : Table} {s : State} (v : StandsFor 
   pub here_behind_free : (f : Range) → IsIn f s.free → IsOwned m (range_at (end_of f) 16)
   here_behind_free f i =
       let some = (v.well_formed.free f i).some in
-      here_behind f some (free_in_memory v.well_formed f i).0 (λ u j h. absurd (used_free v.well_formed u f (end_of f - 1) j i h (record { from = omega arith; to = omega arith })))
+      here_behind f some (free_in_memory v.well_formed f i).0
+      (λ u j h. absurd (used_free v.well_formed u f (end_of f - 1) j i h (record { from = omega arith; to = omega arith })))
 
   pub here_behind_used : (u : Used) → IsIn u s.used → IsOwned m (range_at (end_of u.block) 16)
   here_behind_used u i =
       let some = after u i in
       let within = (v.well_formed.used u i).within in
-      here_behind u.block (omega arith) (used_in_memory v.well_formed u i).0 (λ x j h. let same = used_used v.well_formed x u (end_of u.block - 1) j i h (record { from = omega arith; to = omega arith }) in omega (arith, ap (λ (y : Used). end_of y.block) same))
+      here_behind u.block (omega arith) (used_in_memory v.well_formed u i).0
+      (λ x j h. let same = used_used v.well_formed x u (end_of u.block - 1) j i h (record { from = omega arith; to = omega arith }) in
+      omega (arith, ap (λ (y : Used). end_of y.block) same))
 
   -- a range that no chunk has a byte of
   pub here_clear : (r : Range) → m.start ≤ r.start → ((a : ℕ) → r.start ≤ a → a < end_of r → coverage itself s.chunks a ≡ 0) → IsOwned m r
   here_clear r from clear = here_apart r from (λ u j a low high h.
       let home = home_of_used v.well_formed u j in
-      omega (arith, clear a h.from h.to, coverage-IsIn itself home.chunk s.chunks a home.is_chunk, covers-inside home.chunk a (omega (arith, home.from, after u j)) (omega (arith, home.to))))
+      omega (
+        arith,
+        clear a h.from h.to,
+        coverage-IsIn itself home.chunk s.chunks a home.is_chunk,
+        covers-inside home.chunk a (omega (arith, home.from, after u j)) (omega (arith, home.to)),
+      ))
 
   -- the last bytes of a chunk, and such a range behind it
-  pub here_longer : (c : Range) → IsIn c s.chunks → (len : ℕ) → ((a : ℕ) → end_of c ≤ a → a < end_of c + len → coverage itself s.chunks a ≡ 0) → IsOwned m (range_at (end_of c - 32) (32 + len))
+  pub here_longer : (c : Range) → IsIn c s.chunks → (len : ℕ) → ((a : ℕ) → end_of c ≤ a → a < end_of c + len → coverage itself s.chunks a ≡ 0)
+      → IsOwned m (range_at (end_of c - 32) (32 + len))
   here_longer c i len clear a lo hi =
       let chunk = v.well_formed.chunks c i in
       elim (cases_lt a (end_of c)) [
@@ -104,7 +121,7 @@ module _ {fllen sllen : ℕ} {m : Space} {t : Table} {s : State} (v : StandsFor 
         | inr past ↦ here_clear (range_at (end_of c) len) (omega (arith, chunk.lies_in)) clear a past (omega (arith, hi, chunk.has_room))
       ]
 
-  -- a block's first word, the words behind it, and what stands where a walk goes on
+  -- a block's first word, the words behind it, and the word where an iteration goes on
   pub here_block : (b : Block) → HasBlock s b → IsOwned m (word_range b.range.start)
   here_block b (used u i same occupied) =
       let start = ap (λ (r : Range). r.start) same in
@@ -143,9 +160,10 @@ module _ {fllen sllen : ℕ} {m : Space} {t : Table} {s : State} (v : StandsFor 
     ]
   ]
 
-  -- a block's first word is one, and so is the word where a walk goes on
+  -- a block's first word is one, and so is the word where an iteration goes on
   pub block-fits : (b : Block) → HasBlock s b → word_at m b.range.start < 2 ^ 64
-  block-fits b (used u i same occupied) = subst (λ (r : Range). word_at m r.start < 2 ^ 64) (sym same) (omega (arith, v.sizes.used u i, (used_in_memory v.well_formed u i).1, v.well_formed.addressable))
+  block-fits b (used u i same occupied) =
+      subst (λ (r : Range). word_at m r.start < 2 ^ 64) (sym same) (omega (arith, v.sizes.used u i, (used_in_memory v.well_formed u i).1, v.well_formed.addressable))
   block-fits b (free i vacant) = omega (arith, v.sizes.free b.range i, (free_in_memory v.well_formed b.range i).1, v.well_formed.addressable)
 
   pub walk-fits : (a end : ℕ) → BehindBlock s a end → word_at m a < 2 ^ 64

@@ -1,4 +1,4 @@
--- A hole in a chunk was written over: the value stands for the state whose new blocks have their words.
+-- A hole in a chunk was written over: the value represents the state whose new blocks have their words.
 use Rattle.std.proofs.Common.{◌≡◌, ◌≢◌, ℕ, ◌+◌, ◌-◌, ◌%◌, ◌<◌, ◌≤◌, ◌⊎◌, true, List, arith, inl, inr, sym, ◌∙◌, ap}
 use Rattle.std.proofs.lemmas.Bool.{cases_eq}
 use Rattle.rlsf_base.specs.declared.memory.range.Range.{Range}
@@ -53,14 +53,18 @@ module _ {fllen sllen : ℕ} {m n : Space} {table changed : Table} {s : State} (
   starts_there : (d : Range) → IsIn d s.chunks → hole.start ≤ d.start → d.start ≤ end_of hole → d.start ≡ hole.start
   starts_there d i low high =
       let long = (w.chunks d i).has_room in
-      let same : home.chunk ≡ d = chunk_chunk w home.chunk d d.start home.is_chunk i (record { from = omega (arith, home.from); to = omega (arith, home.to) }) (record { from = omega arith; to = omega arith }) in
+      let same : home.chunk ≡ d =
+      chunk_chunk w home.chunk d d.start home.is_chunk i (record { from = omega (arith, home.from); to = omega (arith, home.to) })
+      (record { from = omega arith; to = omega arith }) in
       omega (arith, home.from, ap (λ r. r.start) same)
 
   -- no chunk's last bytes begin in the hole
   last_apart : (d : Range) → IsIn d s.chunks → Has hole (sentinel_of d) → ⊥
   last_apart d i h =
       let long = (w.chunks d i).has_room in
-      let same : home.chunk ≡ d = chunk_chunk w home.chunk d (sentinel_of d) home.is_chunk i (record { from = omega (arith, home.from, h.from); to = omega (arith, home.to, h.to) }) (record { from = omega arith; to = omega arith }) in
+      let same : home.chunk ≡ d =
+      chunk_chunk w home.chunk d (sentinel_of d) home.is_chunk i (record { from = omega (arith, home.from, h.from); to = omega (arith, home.to, h.to) })
+      (record { from = omega arith; to = omega arith }) in
       omega (arith, home.to, h.to, ap (λ r. end_of r) same)
 
   -- a block outside the hole doesn't end with it
@@ -78,14 +82,16 @@ module _ {fllen sllen : ℕ} {m n : Space} {table changed : Table} {s : State} (
   previous_used : (u : Used) → IsUsedStill n s hole u → word_at n (end_of u.block + 8) ≡ u.block.start
   previous_used u (old_used i apart) = elim (cases_eq (end_of u.block) hole.start) [
     | inl at ↦ ap (λ a. word_at n (a + 8)) at ∙ is.first ∙ ap (λ a. word_at m (a + 8)) (sym at) ∙ old.previous.used u i
-    | inr off ↦ used_previous w hole whole.start some (end_of hole + 8) second (omega arith) (omega arith) is.rewrites u i apart off (ends_elsewhere u.block (IsUsed-some u (w.used u i)) apart) ∙ old.previous.used u i
+    | inr off ↦ used_previous w hole whole.start some (end_of hole + 8) second (omega arith) (omega arith) is.rewrites u i apart off
+        (ends_elsewhere u.block (IsUsed-some u (w.used u i)) apart) ∙ old.previous.used u i
   ]
   previous_used u (new_used size previous bytes pad) = previous
 
   previous_free : (f : Range) → IsFreeStill n s hole f → word_at n (end_of f + 8) ≡ f.start
   previous_free f (old_free i apart) = elim (cases_eq (end_of f) hole.start) [
     | inl at ↦ ap (λ a. word_at n (a + 8)) at ∙ is.first ∙ ap (λ a. word_at m (a + 8)) (sym at) ∙ old.previous.free f i
-    | inr off ↦ free_previous w hole whole.start some (end_of hole + 8) second (omega arith) (omega arith) is.rewrites f i apart off (ends_elsewhere f (w.free f i).some apart) ∙ old.previous.free f i
+    | inr off ↦ free_previous w hole whole.start some (end_of hole + 8) second (omega arith) (omega arith) is.rewrites f i apart off (ends_elsewhere f (w.free f i).some apart)
+        ∙ old.previous.free f i
   ]
   previous_free f (new_free size previous) = previous
 
@@ -101,19 +107,23 @@ module _ {fllen sllen : ℕ} {m n : Space} {table changed : Table} {s : State} (
   payload_bytes u (new_used size previous bytes pad) = bytes
 
   payload_pad : (u : Used) → IsUsedStill n s hole u → 32 ≤ u.align → word_at n (u.payload - 8) ≡ u.block.start
-  payload_pad u (old_used i apart) wide = used_pad w hole whole.start some (end_of hole + 8) second (omega arith) (omega arith) is.rewrites u i apart wide ∙ old.payloads.pad u i wide
+  payload_pad u (old_used i apart) wide =
+      used_pad w hole whole.start some (end_of hole + 8) second (omega arith) (omega arith) is.rewrites u i apart wide ∙ old.payloads.pad u i wide
   payload_pad u (new_used size previous bytes pad) wide = pad wide
 
-  -- the value stands for the state with some of the chunks
+  -- the value represents the state with some of the chunks
   pub StandsFor-refilled_in : (chunks : List Range) → ((d : Range) → IsIn d chunks → IsIn d s.chunks)
-      → IsWellFormed fllen sllen (range_of n) (record { chunks = chunks; used = used; free = free }) → StandsFor fllen sllen (contents n changed) (record { chunks = chunks; used = used; free = free })
+      → IsWellFormed fllen sllen (range_of n) (record { chunks = chunks; used = used; free = free })
+      → StandsFor fllen sllen (contents n changed) (record { chunks = chunks; used = used; free = free })
   StandsFor-refilled_in chunks still well_formed = record {
     nonzero = omega (arith, old.nonzero, is.rewrites.start);
     well_formed = well_formed;
     sizes = record {
       used = λ u i. size_used u (is.used_still u i);
       free = λ f i. size_free f (is.free_still f i);
-      sentinel = λ d i. chunk_sentinel w hole whole.start some (end_of hole + 8) second (omega arith) (omega arith) is.rewrites d (still d i) (last_apart d (still d i)) ∙ old.sizes.sentinel d (still d i);
+      sentinel =
+          λ d i. chunk_sentinel w hole whole.start some (end_of hole + 8) second (omega arith) (omega arith) is.rewrites d (still d i) (last_apart d (still d i))
+          ∙ old.sizes.sentinel d (still d i);
     };
     previous = record { used = λ u i. previous_used u (is.used_still u i); free = λ f i. previous_free f (is.free_still f i); first = λ d i. previous_first d (still d i) };
     payloads = record { bytes = λ u i. payload_bytes u (is.used_still u i); pad = λ u i. payload_pad u (is.used_still u i) };
@@ -121,7 +131,8 @@ module _ {fllen sllen : ℕ} {m n : Space} {table changed : Table} {s : State} (
     own = λ a from unlent. is.rewrites.own a (omega (arith, is.rewrites.start, from)) ∙ is.own a (omega (arith, is.rewrites.start, from)) unlent;
   }
 
-  pub StandsFor-refilled : IsWellFormed fllen sllen (range_of n) (record { chunks = s.chunks; used = used; free = free }) → StandsFor fllen sllen (contents n changed) (record { chunks = s.chunks; used = used; free = free })
+  pub StandsFor-refilled : IsWellFormed fllen sllen (range_of n) (record { chunks = s.chunks; used = used; free = free })
+      → StandsFor fllen sllen (contents n changed) (record { chunks = s.chunks; used = used; free = free })
   StandsFor-refilled well_formed = StandsFor-refilled_in s.chunks (λ d i. i) well_formed
 
   -- and no spare byte has changed
@@ -131,5 +142,6 @@ module _ {fllen sllen : ℕ} {m n : Space} {table changed : Table} {s : State} (
       no_hole : (a : ℕ) → ((c : Range) → IsIn c s.chunks → c.start ≤ a → a < end_of c → sentinel_of c + 16 ≤ a) → Has hole a → ⊥
       no_hole a spare h = omega (arith, spare home.chunk home.is_chunk (omega (arith, home.from, h.from)) (omega (arith, home.to, h.to)), home.to, h.to)
 
-      no_other : (a : ℕ) → ((c : Range) → IsIn c s.chunks → c.start ≤ a → a < end_of c → sentinel_of c + 16 ≤ a) → end_of hole + 8 ≤ a → a < end_of hole + 8 + 8 → ⊥
+      no_other : (a : ℕ) → ((c : Range) → IsIn c s.chunks → c.start ≤ a → a < end_of c → sentinel_of c + 16 ≤ a) → end_of hole + 8 ≤ a
+          → a < end_of hole + 8 + 8 → ⊥
       no_other a spare low high = omega (arith, spare home.chunk home.is_chunk (omega (arith, home.from)) (omega (arith, home.to)), home.to)

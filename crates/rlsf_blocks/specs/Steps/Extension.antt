@@ -19,9 +19,10 @@ pub record IsExtensible (fllen : ℕ) (memory : Range) (s : State) (c : Range) (
   pub whole : n % 32 ≡ 0
   pub fresh : IsFresh memory s (range_at (end_of c) n)
 
--- this is true of the chunk that ends at the address and can grow by so many bytes, in each state that memory and table stand for
+-- this is true of the chunk that ends at the address and can grow by so many bytes, in each represented state
 abbrev pub AtEachExtensible : ℕ → ℕ → Space → Table → ℕ → ℕ → (State → Range → Type 0) → Type 0
-AtEachExtensible fllen sllen m t end n P = (s : State) (c : Range) → StandsFor fllen sllen (contents m t) s → IsExtensible fllen (range_of m) s c n → end_of c ≡ end → P s c
+AtEachExtensible fllen sllen m t end n P = (s : State) (c : Range) → StandsFor fllen sllen (contents m t) s → IsExtensible fllen (range_of m) s c n → end_of c ≡ end
+    → P s c
 
 -- the used block of n bytes from a chunk's last 32 bytes on
 abbrev pub more_block : Range → ℕ → List ℕ → Used

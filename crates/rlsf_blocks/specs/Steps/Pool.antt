@@ -22,7 +22,7 @@ pub record IsNewChunk (fllen sllen : ℕ) (m : Space) (s : State) (c : Range) : 
   pub block : IsFree fllen sllen (body c)
   pub own : IsOwned m c
 
--- a chunk but for the last 16 bytes of its sentinel
+-- a chunk except for the last 16 bytes of its sentinel
 abbrev pub opened : Range → Range
 opened c = range_at c.start (c.len - 16)
 

@@ -16,7 +16,7 @@ pub record IsIdleChunk (s : State) (c : Range) (start : ℕ) : Type 0 where
   pub begins : c.start ≡ start
   pub idle : IsIdle s c
 
--- the chunks in a range are gone: memory and table stand for the state without them, and no byte has changed that no block was made of
+-- the chunks in a range are gone: memory and table represent the state without them, and no byte has changed that no block was made of
 abbrev pub AreRemoved : ℕ → ℕ → Space → Space → Table → State → Range → Type 0
 AreRemoved fllen sllen m n t s r = StandsFor fllen sllen (contents n t) (removed r s) × KeepsSpare m s n s
 

@@ -26,9 +26,11 @@ pub record IsInnerRoom (fllen sllen : ℕ) (m : Space) (t : Table) (free : List 
 abbrev pub AtEachInnerRoom : ℕ → ℕ → Space → Table → ℕ → ℕ → (List Range → Range → Type 0) → Type 0
 AtEachInnerRoom fllen sllen m t block len P = (free : List Range) (r : Range) → r.start ≡ block → r.len ≡ len → IsInnerRoom fllen sllen m t free r → P free r
 
--- this is true of each list of free blocks beside which what is behind the first `taken` of the `len` bytes at the address can become one
+-- This is true of each list of free blocks that a further block can join. That block is what is behind the first `taken` of the `len`
+-- bytes at the address
 abbrev pub AtEachRest : ℕ → ℕ → Space → Table → ℕ → ℕ → ℕ → (List Range → Range → Type 0) → Type 0
-AtEachRest fllen sllen m t block len taken P = (free : List Range) (r : Range) → r.start ≡ block + taken → r.len + taken ≡ len → IsInnerRoom fllen sllen m t free r → P free r
+AtEachRest fllen sllen m t block len taken P = (free : List Range) (r : Range) → r.start ≡ block + taken → r.len + taken ≡ len → IsInnerRoom fllen sllen m t free r
+    → P free r
 
 -- the words of a new free block behind the block at `block`, put in front of its class
 pub record IsFreeBlockBehind (fllen sllen : ℕ) (m n : Space) (t : Table) (free : List Range) (block : ℕ) (r : Range) : Type 0 where
@@ -47,11 +49,11 @@ pub record IsTaken (sllen : ℕ) (s : State) (f : Range) (block len taken : ℕ)
   pub some : 0 < taken
   pub fits : taken ≤ len
 
--- this is true of each such range, in each state that memory and table stand for
+-- this is true of each such range, in each state that memory and table represent
 abbrev pub AtEachTaken : ℕ → ℕ → Space → Table → ℕ → ℕ → ℕ → (State → Range → Type 0) → Type 0
 AtEachTaken fllen sllen m t block len taken P = (s : State) (f : Range) → StandsFor fllen sllen (contents m t) s → IsTaken sllen s f block len taken → P s f
 
--- this is true of the free range at the address, if it is chosen for the layout, in each state that memory and table stand for
+-- this is true of the free range at the address, if it is chosen for the layout, in each state that memory and table represent
 abbrev pub AtEachChosen : ℕ → ℕ → Space → Table → Layout → ℕ → (State → Range → Type 0) → Type 0
 AtEachChosen fllen sllen m t layout block P = (s : State) (f : Range) → StandsFor fllen sllen (contents m t) s
     → choice sllen (request_size layout.size layout.align) s.free ≡ Some f → f.start ≡ block → P s f

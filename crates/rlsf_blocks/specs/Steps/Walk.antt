@@ -1,4 +1,4 @@
--- A walk from block to block, by the words in memory.
+-- An iteration from block to block, by the words in memory.
 use Rattle.std.specs.Prelude.{◌≡◌, ℕ, ◌+◌, ◌-◌, ◌*◌, ◌/◌, ◌%◌, ◌<◌, ◌≤◌, List, [], ◌∷◌, zero, suc, nat_lt, nat_eq, if◌then◌else◌}
 use Rattle.rlsf_base.specs.declared.memory.range.Range.{Range}
 use Rattle.rlsf_base.specs.Range.{end_of, range_at}
@@ -9,11 +9,11 @@ use Rattle.rlsf_machine.specs.Lists.{IsIn}
 use Rattle.rlsf_machine.specs.State.{State}
 use Rattle.rlsf_table.specs.Table.{Table}
 
--- the block whose size word stands at an address
+-- the block whose size word is at an address
 abbrev pub block_at : Space → ℕ → Block
 block_at m a = record { range = range_at a (word_at m a / 32 * 32); is_occupied = nat_eq (word_at m a % 2) 1 }
 
--- where the next block begins behind one that ends at an address: behind a sentinel, if one stands there
+-- where the next block begins behind one that ends at an address: behind a sentinel, if one is there
 abbrev pub next_start : Space → ℕ → ℕ
 next_start m a = if nat_eq (word_at m a) 35 then a + 32 else a
 
@@ -30,17 +30,17 @@ blocks_between m start end = blocks_within m (end - start) start end
 abbrev pub BlockBegins : State → ℕ → Type 0
 BlockBegins s a = (b : Block) × HasBlock s b × (b.range.start ≡ a)
 
--- where a walk stands: at its end, or at a block, from which each address up to the end is in a chunk that ends there or before
+-- where an iteration is: at its end, or at a block, from which each address up to the end is in a chunk that ends there or before
 pub record IsAtBlock (s : State) (start end : ℕ) : Type 0 where
   pub within : start ≤ end
   pub begins : start < end → BlockBegins s start
   pub chunks : (a : ℕ) → start ≤ a → a < end → (c : Range) × IsIn c s.chunks × (c.start ≤ a) × (a < end_of c) × (end_of c ≤ end)
 
--- a walk that is underway in a memory which stands for some state
+-- an iteration that is underway in a memory which represents some state
 abbrev pub IsUnderway : Space → ℕ → ℕ → Type 0
 IsUnderway m start end = (fllen : ℕ) × (sllen : ℕ) × (t : Table) × (s : State) × StandsFor fllen sllen (contents m t) s × IsAtBlock s start end
 
--- where a walk over the range begins and ends: where the range does, if it has a byte
+-- where an iteration over the range begins and ends: where the range does, if it has a byte
 pub record IsSpan (r : Range) (start end : ℕ) : Type 0 where
   pub within : start ≤ end
   pub some : 0 < r.len → (start ≡ r.start) × (end ≡ end_of r)

@@ -6,12 +6,15 @@ use Rattle.rlsf_machine.proofs.Determined.{steps_are_determined, refusal_changes
 use Rattle.rlsf_machine.proofs.FlexBudgets.{flex_never_asked}
 use Rattle.rlsf_machine.proofs.FlexCallers.{flex_callers_see_map}
 use Rattle.rlsf_machine.proofs.FlexGrowths.{growth_has_room, growth_keeps_well_formed}
-use Rattle.rlsf_machine.proofs.FlexPayloads.{flex_steps_change_map, flex_runs_change_map, flex_payloads_are_apart, flex_allocation_has_size, flex_reallocation_has_size, flex_reallocation_keeps_bytes, flex_other_payloads_stay, flex_others_stay_in_runs, flex_used_was_used, flex_used_was_used_in_runs}
+use Rattle.rlsf_machine.proofs.FlexPayloads.{flex_steps_change_map, flex_runs_change_map, flex_payloads_are_apart, flex_allocation_has_size, flex_reallocation_has_size}
+use Rattle.rlsf_machine.proofs.FlexPayloads.{flex_reallocation_keeps_bytes, flex_other_payloads_stay, flex_others_stay_in_runs, flex_used_was_used, flex_used_was_used_in_runs}
 use Rattle.rlsf_machine.proofs.FlexReplies.{flex_each_call_answers}
 use Rattle.rlsf_machine.proofs.FlexRuns.{flex_runs_are_runs}
 use Rattle.rlsf_machine.proofs.FlexSimilar.{flex_similar_states_agree, flex_similar_runs_agree}
 use Rattle.rlsf_machine.proofs.FlexSteps.{flex_empty_is_well_formed, flex_steps_keep_well_formed, flex_runs_keep_well_formed, flex_runs_are_steps}
-use Rattle.rlsf_machine.proofs.Live.{live_addresses_are_aligned, live_address_has_one_block, payloads_are_disjoint, payload_lies_in_one_chunk, allocation_has_size, reallocation_has_size, reallocation_keeps_bytes, other_payloads_stay, used_was_used, handed_out_is_new, reallocated_is_live, live_stays, released_is_not_live, filled_has_bytes, fill_leaves_others, deallocation_leaves_others}
+use Rattle.rlsf_machine.proofs.Live.{live_addresses_are_aligned, live_address_has_one_block, payloads_are_disjoint, payload_lies_in_one_chunk, allocation_has_size}
+use Rattle.rlsf_machine.proofs.Live.{reallocation_has_size, reallocation_keeps_bytes, other_payloads_stay, used_was_used, handed_out_is_new, reallocated_is_live, live_stays}
+use Rattle.rlsf_machine.proofs.Live.{released_is_not_live, filled_has_bytes, fill_leaves_others, deallocation_leaves_others}
 use Rattle.rlsf_machine.proofs.NoMove.{unmoved_is_reallocated}
 use Rattle.rlsf_machine.proofs.Orders.{order_means_nothing}
 use Rattle.rlsf_machine.proofs.PoolLengths.{payload_pool_is_enough, object_pool_is_exact}

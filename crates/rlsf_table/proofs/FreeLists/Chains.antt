@@ -1,5 +1,6 @@
 -- What the links of a list of blocks say of each of them, and which words they rest on.
-use Rattle.std.proofs.Common.{◌≡◌, ◌≢◌, ℕ, ◌+◌, ◌%◌, ◌<◌, ◌≤◌, ◌⊎◌, Bool, cond, filter, find, List, [], ◌∷◌, ◌++◌, Some, arith, inl, inr, refl, sym, ◌∙◌, ap, subst}
+use Rattle.std.proofs.Common.{◌≡◌, ◌≢◌, ℕ, ◌+◌, ◌%◌, ◌<◌, ◌≤◌, ◌⊎◌, Bool, cond, filter, find, List, [], ◌∷◌, ◌++◌, Some, arith, inl}
+use Rattle.std.proofs.Common.{inr, refl, sym, ◌∙◌, ap, subst}
 use Rattle.rlsf_base.specs.declared.memory.range.Range.{Range}
 use Rattle.rlsf_base.specs.Space.{Space, word_at}
 use Rattle.rlsf_table.specs.FreeList.{Links}
@@ -11,7 +12,8 @@ use Rattle.rlsf_machine.proofs.Coverage.{by_test, covers-inside, coverage-append
 -- ---- blocks that begin at different addresses
 
 -- the addresses of blocks of two parts of a list whose ranges don't overlap
-pub starts_differ : (xs ys : List Range) (f g : Range) → ((a : ℕ) → coverage itself (xs ++ ys) a ≤ 1) → IsIn f xs → IsIn g ys → 0 < f.len → 0 < g.len → f.start ≢ g.start
+pub starts_differ : (xs ys : List Range) (f g : Range) → ((a : ℕ) → coverage itself (xs ++ ys) a ≤ 1) → IsIn f xs → IsIn g ys → 0 < f.len → 0 < g.len
+    → f.start ≢ g.start
 starts_differ xs ys f g apart i j some_f some_g same =
     let one : covers f f.start ≡ 1 = covers-inside f f.start (omega arith) (omega arith) in
     let two : covers g f.start ≡ 1 = covers-inside g f.start (omega arith) (omega arith) in
@@ -22,7 +24,8 @@ starts_differ xs ys f g apart i j some_f some_g same =
     absurd (omega arith)
 
 -- two ranges of a list that begin at one address are one
-pub starts_apart : (xs : List Range) (f g : Range) → ((a : ℕ) → coverage itself xs a ≤ 1) → IsIn f xs → IsIn g xs → 0 < f.len → 0 < g.len → f.start ≡ g.start → f ≡ g
+pub starts_apart : (xs : List Range) (f g : Range) → ((a : ℕ) → coverage itself xs a ≤ 1) → IsIn f xs → IsIn g xs → 0 < f.len → 0 < g.len → f.start ≡ g.start
+    → f ≡ g
 starts_apart xs f g apart i j some_f some_g same =
     coverage-unique itself f g xs f.start (apart f.start) i j (covers-inside f f.start (omega arith) (omega arith)) (covers-inside g f.start (omega arith) (omega arith))
 
@@ -75,27 +78,33 @@ head-whole m p (f ∷ fs) head placed links = ap (λ a. a % 32) links.0 ∙ (pla
 
 -- ---- a block in the middle of a list
 
--- an element stands between the ones before it and the ones behind it
+-- an element is between the ones before it and the ones behind it
 pub IsIn-split : {A : Type 0} (x : A) (xs : List A) → IsIn x xs → (before : List A) × (after : List A) × (xs ≡ before ++ (x ∷ after))
 IsIn-split x [] i = absurd i
 IsIn-split x (y ∷ ys) (inl e) = ([], ys, ap (λ z. z ∷ ys) (sym e))
 IsIn-split x (y ∷ ys) (inr i) = let rest = IsIn-split x ys i in (y ∷ rest.0, rest.1, ap (λ l. y ∷ l) rest.2)
 
--- the ranges but for one are ranges of the list
+-- the ranges except for one are ranges of the list
 pub IsIn-removal : (before : List Range) (r : Range) (after : List Range) (f : Range) → IsIn f (before ++ after) → IsIn f (before ++ (r ∷ after))
 IsIn-removal before r after f i = elim (IsIn-append f before after i) [
   | inl j ↦ IsIn-append_left f before (r ∷ after) j
   | inr j ↦ IsIn-append_right f before (r ∷ after) (inr j)
 ]
 
--- the range that was found is taken out where it stands, and none before it passes the test
-pub find-split : {A : Type 0} (p : A → Bool) (x : A) (xs : List A) → find p xs ≡ Some x → (before : List A) × (after : List A) × (xs ≡ before ++ (x ∷ after)) × (without p xs ≡ before ++ after) × (filter p before ≡ [])
+-- the range that was found is taken out at its place, and none before it passes the test
+pub find-split : {A : Type 0} (p : A → Bool) (x : A) (xs : List A) → find p xs ≡ Some x
+    → (before : List A) × (after : List A) × (xs ≡ before ++ (x ∷ after)) × (without p xs ≡ before ++ after) × (filter p before ≡ [])
 find-split p x [] h = absurd (cc)
 find-split p x (y ∷ ys) h = by_test (p y)
     (λ e. let same : Some y ≡ Some x = sym (ap (λ b. cond b (Some y) (find p ys)) e) ∙ h in let is : y ≡ x = cc in
     ([], ys, ap (λ z. z ∷ ys) is, ap (λ b. cond b ys (y ∷ without p ys)) e, refl))
-    (λ e. let rest = find-split p x ys (sym (ap (λ b. cond b (Some y) (find p ys)) e) ∙ h) in
-    (y ∷ rest.0, rest.1, ap (λ l. y ∷ l) rest.2, ap (λ b. cond b ys (y ∷ without p ys)) e ∙ ap (λ l. y ∷ l) rest.3, ap (λ b. cond b (y ∷ filter p rest.0) (filter p rest.0)) e ∙ rest.4))
+    (λ e. let rest = find-split p x ys (sym (ap (λ b. cond b (Some y) (find p ys)) e) ∙ h) in (
+      y ∷ rest.0,
+      rest.1,
+      ap (λ l. y ∷ l) rest.2,
+      ap (λ b. cond b ys (y ∷ without p ys)) e ∙ ap (λ l. y ∷ l) rest.3,
+      ap (λ b. cond b (y ∷ filter p rest.0) (filter p rest.0)) e ∙ rest.4,
+    ))
 
 -- the blocks behind one are linked from it on
 pub Links-behind : (m : Space) (p : ℕ) (before : List Range) (r : Range) (after : List Range) (head : ℕ) → Links m p (before ++ (r ∷ after)) head

@@ -51,7 +51,8 @@ module _ (sllen fl sl : ℕ) where
   coverage-of_class free a = coverage-filter (has_class sllen (class_at fl sl)) free a
 
   -- a range in front, of that class or of another one
-  pub of_class-front_same : (r : Range) (free : List Range) → has_class sllen (class_at fl sl) r ≡ true → of_class sllen fl sl (r ∷ free) ≡ r ∷ of_class sllen fl sl free
+  pub of_class-front_same : (r : Range) (free : List Range) → has_class sllen (class_at fl sl) r ≡ true
+      → of_class sllen fl sl (r ∷ free) ≡ r ∷ of_class sllen fl sl free
   of_class-front_same r free e = filter-yes (has_class sllen (class_at fl sl)) r free e
 
   pub of_class-front_other : (r : Range) (free : List Range) → has_class sllen (class_at fl sl) r ≡ false → of_class sllen fl sl (r ∷ free) ≡ of_class sllen fl sl free

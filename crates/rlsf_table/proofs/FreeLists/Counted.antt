@@ -1,4 +1,4 @@
--- What stands in a memory in which nothing but the counts has changed.
+-- The contents of a memory in which nothing but the counts has changed.
 use Rattle.std.proofs.Common.{◌≡◌, ℕ, ◌+◌, ◌-◌, ◌^◌, List, length, slice_index, take, drop, arith, ◌∙◌, ap}
 use mathlib.Core.Path.{ap₂}
 use Rattle.std.specs.Int.{w64, from_le_bytes}
@@ -51,7 +51,17 @@ module _ (m n : Space) (start : n.start ≡ m.start) (bytes : n.bytes ≡ m.byte
 
   -- no word was written
   pub Rewrites-counted : (at : ℕ → Type 0) → Rewrites m n at
-  Rewrites-counted at = record { start = start; length = length-counted; none = λ is. out ∙ is; own = own-same m n start out; here = λ a inside is. out-same m n a start out ∙ is; kept = λ a inside apart. out-same m n a start out; words = λ a whole inside other. word_at-counted a; bytes = λ r inside apart. bytes_in-counted r }
+  Rewrites-counted at =
+      record {
+        start = start;
+        length = length-counted;
+        none = λ is. out ∙ is;
+        own = own-same m n start out;
+        here = λ a inside is. out-same m n a start out ∙ is;
+        kept = λ a inside apart. out-same m n a start out;
+        words = λ a whole inside other. word_at-counted a;
+        bytes = λ r inside apart. bytes_in-counted r;
+      }
 
   -- words were written after that, or before
   pub Rewrites-counted_first : {o : Space} {at : ℕ → Type 0} → Rewrites n o at → Rewrites m o at
@@ -81,7 +91,14 @@ module _ (m n : Space) (start : n.start ≡ m.start) (bytes : n.bytes ≡ m.byte
   -- ---- the free blocks
 
   pub CanBeBlock-counted : {f : Range} → CanBeBlock m f → CanBeBlock n f
-  CanBeBlock-counted {f} p = record { own = own-there m n f p.lies_in.0 (own-same m n start out) p.own; some = p.some; whole = p.whole; room = p.room; lies_in = (omega (arith, start, p.lies_in), omega (arith, start, length-counted, p.lies_in)) }
+  CanBeBlock-counted {f} p =
+      record {
+        own = own-there m n f p.lies_in.0 (own-same m n start out) p.own;
+        some = p.some;
+        whole = p.whole;
+        room = p.room;
+        lies_in = (omega (arith, start, p.lies_in), omega (arith, start, length-counted, p.lies_in));
+      }
 
   pub IsFreeList-counted : {head : ℕ} {free : List Range} → IsFreeList m head free → IsFreeList n head free
   IsFreeList-counted {head} {free} h = record {

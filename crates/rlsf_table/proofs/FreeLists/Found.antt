@@ -40,7 +40,8 @@ without-same p q x (y ∷ ys) found also = by_test (p y)
     ∙ sym (ap (λ b. cond b ys (y ∷ without q ys)) f)))
 
 -- of blocks that don't overlap, the one that begins at an address is found
-pub find-start : (free : List Range) (f : Range) (a : ℕ) → ((b : ℕ) → coverage itself free b ≤ 1) → ((g : Range) → IsIn g free → 0 < g.len) → IsIn f free → f.start ≡ a → find (starts_at a) free ≡ Some f
+pub find-start : (free : List Range) (f : Range) (a : ℕ) → ((b : ℕ) → coverage itself free b ≤ 1) → ((g : Range) → IsIn g free → 0 < g.len) → IsIn f free
+    → f.start ≡ a → find (starts_at a) free ≡ Some f
 find-start free f a apart some i at =
     find-one (starts_at a) f free i (eq-eqb f.start a at) (λ g j passes. starts_apart free g f apart j i (some g j) (some f i) (eqb-true g.start a passes ∙ sym at))
 

@@ -33,7 +33,8 @@ pub newest_placed : {m : Space} {newest : ℕ} {free : List Range} → IsFreeLis
 newest_placed {m} {newest} {free} list some = let first = first_of m 0 free newest list.links some in (first.0, sym first.2, list.placed first.0 first.1)
 
 -- so is the one whose link is written
-pub own_placed : {m : Space} {newest block at : ℕ} {r : Range} {free : List Range} → IsFreeList m newest free → r.start ≡ block → CanBeBlock m r → IsFirstOrOwn newest block at → (f : Range) × (f.start ≡ at) × CanBeBlock m f
+pub own_placed : {m : Space} {newest block at : ℕ} {r : Range} {free : List Range} → IsFreeList m newest free → r.start ≡ block → CanBeBlock m r
+    → IsFirstOrOwn newest block at → (f : Range) × (f.start ≡ at) × CanBeBlock m f
 own_placed {newest = newest} {r = r} list place placed own = elim (cases_eq newest 0) [
   | inl none ↦ (r, place ∙ sym (own.none none), placed)
   | inr some ↦ let first = newest_placed list some in (first.0, first.1 ∙ sym (own.some some), first.2)
@@ -45,7 +46,8 @@ module _ (m n : Space) (newest block at : ℕ) (r : Range) (free : List Range) (
   newest-other : newest ≢ 0 → newest ≢ block
   newest-other some same =
       let first = first_of m 0 free newest list.links some in
-      starts_differ (r ∷ []) free r first.0 apart (inl refl) first.1 (omega (arith, placed.room)) (omega (arith, (list.placed first.0 first.1).room)) (place ∙ sym same ∙ first.2)
+      starts_differ (r ∷ []) free r first.0 apart (inl refl) first.1 (omega (arith, placed.room)) (omega (arith, (list.placed first.0 first.1).room))
+      (place ∙ sym same ∙ first.2)
 
   newest-whole : newest % 32 ≡ 0
   newest-whole = head-whole m 0 free newest list.placed list.links
@@ -160,7 +162,8 @@ module _ (m n : Space) (newest next at : ℕ) (r : Range) (after : List Range) (
           | inl none ↦ differs f i (omega (arith, h.1, own.none none))
           | inr some ↦ other (omega (arith, h.1, own.some some))
         ]) in
-        Links-hung m n r.start 0 after next placed-behind (λ a. omega (arith, list.apart a)) (λ some. ap (λ b. word_at n (b + 24)) (sym (own.some some)) ∙ cut.reads tt) nexts others behind
+        Links-hung m n r.start 0 after next placed-behind (λ a. omega (arith, list.apart a)) (λ some. ap (λ b. word_at n (b + 24)) (sym (own.some some)) ∙ cut.reads tt) nexts
+        others behind
 
     -- and nothing but links was written
     pub Rewrites-rest : Rewrites m n (IsLink (r ∷ after))

@@ -30,7 +30,7 @@ module _ {fl_bits sl_bits fllen sllen : ℕ} {r : Range} (valid : IsValid fl_bit
         class = ap₂ (λ k j. record { exponent = k; division = j }) exponent (sym sl_is);
       }
 
-  -- they are told of the block's length
+  -- the block's length determines them
   pub IsClassAt-told : (len : ℕ) (told : ℕ × ℕ) → r.len ≡ len → told ≡ indices (class_of sllen len) → IsClassAt fllen sllen r.len told.0 told.1
   IsClassAt-told len told same is =
       let pair = is ∙ ap (λ n. indices (class_of sllen n)) (sym same) in

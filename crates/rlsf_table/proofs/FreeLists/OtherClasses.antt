@@ -30,7 +30,8 @@ each_class P fl sl here other i j = elim (cases_eq i fl) [
 module _ {m n : Space} (sllen fl sl : ℕ) (all written : List Range) (placed : (f : Range) → IsIn f all → CanBeBlock m f) (apart : (a : ℕ) → coverage itself all a ≤ 1)
     (among : (f : Range) → IsIn f written → IsIn f all × (class_of sllen f.len ≡ class_at fl sl)) (rewrites : Rewrites m n (IsLink written)) where
   -- a block of another class has no link of theirs
-  no_link : (i j : ℕ) → ¬ ((i ≡ fl) × (j ≡ sl)) → (f : Range) → IsIn f all → class_of sllen f.len ≡ class_at i j → ¬ IsLink written (f.start + 16) × ¬ IsLink written (f.start + 24)
+  no_link : (i j : ℕ) → ¬ ((i ≡ fl) × (j ≡ sl)) → (f : Range) → IsIn f all → class_of sllen f.len ≡ class_at i j
+      → ¬ IsLink written (f.start + 16) × ¬ IsLink written (f.start + 24)
   no_link i j other f in_all class =
       let here = placed f in_all in
       let differ : (g : Range) → IsIn g written → f.start ≡ g.start → ⊥ = λ g k start.

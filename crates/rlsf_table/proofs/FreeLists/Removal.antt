@@ -1,5 +1,6 @@
 -- A block taken out of the list.
-use Rattle.std.proofs.Common.{◌≡◌, ◌≢◌, ℕ, ◌+◌, ◌%◌, ◌^◌, ◌<◌, ◌≤◌, ◌⊎◌, List, [], ◌∷◌, ◌++◌, arith, inl, inr, refl, sym, ◌∙◌, ap, subst}
+use Rattle.std.proofs.Common.{◌≡◌, ◌≢◌, ℕ, ◌+◌, ◌%◌, ◌^◌, ◌<◌, ◌≤◌, ◌⊎◌, List, [], ◌∷◌, ◌++◌, arith, inl, inr, refl, sym}
+use Rattle.std.proofs.Common.{◌∙◌, ap, subst}
 use Rattle.rlsf_base.specs.declared.memory.range.Range.{Range}
 use Rattle.rlsf_base.specs.Space.{Space, word_at, with_word, word_range}
 use Rattle.rlsf_base.specs.OpenSpace.{out_with}
@@ -178,7 +179,8 @@ module _ {m : Space} {newest block : ℕ} {free : List Range} (r : Range) (place
       ]
 
   -- the write of the next one's word
-  pub Writes-back : (n o : Space) {next previous : ℕ} → next ≡ word_at m (block + 16) → next ≢ 0 → previous < 2 ^ 64 → n ≡ o → o.start ≡ m.start → o.bytes ≡ with_word m (next + 24) previous → o.out ≡ out_with m (word_range (next + 24))
+  pub Writes-back : (n o : Space) {next previous : ℕ} → next ≡ word_at m (block + 16) → next ≢ 0 → previous < 2 ^ 64 → n ≡ o → o.start ≡ m.start
+      → o.bytes ≡ with_word m (next + 24) previous → o.out ≡ out_with m (word_range (next + 24))
       → Writes m n (next ≢ 0) (next + 24) previous
   Writes-back n o {next} {previous} is some fits same start bytes out =
       let found = next_placed is some in
@@ -186,7 +188,9 @@ module _ {m : Space} {newest block : ℕ} {free : List Range} (r : Range) (place
       (Writes-some (next ≢ 0) some (IsWritable-at 24 (omega arith) refl found.1 found.2 m refl refl (own-same m m refl refl)) fits start bytes out)
 
   -- the write of the word of the one before it, after that
-  pub Writes-forth : (n o : Space) {next previous : ℕ} → previous ≡ word_at m (block + 24) → previous ≢ 0 → next < 2 ^ 64 → Writes m n (next ≢ 0) (next + 24) previous → o.start ≡ n.start → o.bytes ≡ with_word n (previous + 16) next → o.out ≡ out_with n (word_range (previous + 16))
+  pub Writes-forth : (n o : Space) {next previous : ℕ} → previous ≡ word_at m (block + 24) → previous ≢ 0 → next < 2 ^ 64
+      → Writes m n (next ≢ 0) (next + 24) previous → o.start ≡ n.start → o.bytes ≡ with_word n (previous + 16) next
+      → o.out ≡ out_with n (word_range (previous + 16))
       → Writes n o (previous ≢ 0) (previous + 16) next
   Writes-forth n o {next} {previous} is some fits back start bytes out =
       let found = previous_placed is some in

@@ -1,5 +1,6 @@
 -- The bits of the class table, where a range is put in front of the free ones, or taken out from among them.
-use Rattle.std.proofs.Common.{◌≡◌, ◌≢◌, ℕ, ◌+◌, ◌<◌, ◌==◌, Bool, true, false, ◌&&◌, ◌||◌, not, true≢false, List, ◌∷◌, ◌++◌, length, slice_index, arith, refl, sym, ◌∙◌, ap, subst, inl, inr}
+use Rattle.std.proofs.Common.{◌≡◌, ◌≢◌, ℕ, ◌+◌, ◌<◌, ◌==◌, Bool, true, false, ◌&&◌, ◌||◌, not, true≢false, List, ◌∷◌, ◌++◌, length}
+use Rattle.std.proofs.Common.{slice_index, arith, refl, sym, ◌∙◌, ap, subst, inl, inr}
 use Rattle.std.specs.List.{list_any}
 use Rattle.std.proofs.Math.Bool.{or_comm, and-true}
 use Rattle.std.proofs.lemmas.Bool.{cases_eq, eq-eqb, ne_eqb, and_from, and_left, and_right}
@@ -50,7 +51,8 @@ module _ (sllen fl sl : ℕ) (r : Range) (class : class_of sllen r.len ≡ class
   has_class-other_row i k apart = and_left (is_in_row sllen i r) ((class_of sllen r.len).division == k) (is_in_row-other i apart)
 
   pub has_class-other_place : (i k : ℕ) → k ≢ sl → has_class sllen (class_at i k) r ≡ false
-  has_class-other_place i k apart = and_right (is_in_row sllen i r) ((class_of sllen r.len).division == k) (ne_eqb (class_of sllen r.len).division k (λ e. apart (sym e ∙ place_is)))
+  has_class-other_place i k apart =
+      and_right (is_in_row sllen i r) ((class_of sllen r.len).division == k) (ne_eqb (class_of sllen r.len).division k (λ e. apart (sym e ∙ place_is)))
 
 -- a range in a row has the class at its own place there
 pub has_class-in_row : (sllen fl : ℕ) (r : Range) → is_in_row sllen fl r ≡ true → has_class sllen (class_at fl (class_of sllen r.len).division) r ≡ true
@@ -64,17 +66,20 @@ in_row-from_class sllen fl sl free h =
 
 -- where they are not in a row, they have no class of it
 no_class : (sllen fl sl : ℕ) (free : List Range) → list_any (is_in_row sllen fl) free ≡ false → list_any (has_class sllen (class_at fl sl)) free ≡ false
-no_class sllen fl sl free none = by_test (list_any (has_class sllen (class_at fl sl)) free) (λ e. absurd (true≢false (sym (in_row-from_class sllen fl sl free e) ∙ none))) (λ e. e)
+no_class sllen fl sl free none =
+    by_test (list_any (has_class sllen (class_at fl sl)) free) (λ e. absurd (true≢false (sym (in_row-from_class sllen fl sl free e) ∙ none))) (λ e. e)
 
 -- where they have no class of a row, they are not in it
-pub in_row-none : (sllen fl : ℕ) (free : List Range) → ((sl : ℕ) → list_any (has_class sllen (class_at fl sl)) free ≡ false) → list_any (is_in_row sllen fl) free ≡ false
+pub in_row-none : (sllen fl : ℕ) (free : List Range) → ((sl : ℕ) → list_any (has_class sllen (class_at fl sl)) free ≡ false)
+    → list_any (is_in_row sllen fl) free ≡ false
 in_row-none sllen fl free none = list_any-false (is_in_row sllen fl) free (λ r i. by_test (is_in_row sllen fl r)
-    (λ e. absurd (true≢false (sym (list_any-true (has_class sllen (class_at fl (class_of sllen r.len).division)) free r i (has_class-in_row sllen fl r e)) ∙ none (class_of sllen r.len).division)))
+    (λ e. absurd (true≢false
+    (sym (list_any-true (has_class sllen (class_at fl (class_of sllen r.len).division)) free r i (has_class-in_row sllen fl r e)) ∙ none (class_of sllen r.len).division)))
     (λ e. e))
 
 -- ---- a range put in front
 
--- the table t, but for a bit of each level that is set
+-- the table t, except for a bit of each level that is set
 pub record IsClassSet (fllen : ℕ) (t u : Table) (fl sl : ℕ) : Type 0 where
   pub rows : length u.second_level ≡ fllen
   pub first : (i : ℕ) → bit u.first_level i ≡ (bit t.first_level i || i == fl)
@@ -82,7 +87,8 @@ pub record IsClassSet (fllen : ℕ) (t u : Table) (fl sl : ℕ) : Type 0 where
   pub others : (i : ℕ) → i < fllen → i ≢ fl → slice_index u.second_level i ≡ slice_index t.second_level i
 
 -- the table u of a range and the others
-module _ (fllen sllen fl sl : ℕ) (t u : Table) (r : Range) (free : List Range) (class : class_of sllen r.len ≡ class_at fl sl) (set : IsClassSet fllen t u fl sl) (bits : HasBits fllen sllen t free) where
+module _ (fllen sllen fl sl : ℕ) (t u : Table) (r : Range) (free : List Range) (class : class_of sllen r.len ≡ class_at fl sl) (set : IsClassSet fllen t u fl sl)
+    (bits : HasBits fllen sllen t free) where
   -- the row and the place of the range are those whose bits are set
   put_row : (i : ℕ) → (i == fl) ≡ is_in_row sllen i r
   put_row i = elim (cases_eq i fl) [
@@ -105,9 +111,11 @@ module _ (fllen sllen fl sl : ℕ) (t u : Table) (r : Range) (free : List Range)
   pub HasBits-put : HasBits fllen sllen u (r ∷ free)
   HasBits-put = record {
     rows = set.rows;
-    first = λ i. let rest = list_any (is_in_row sllen i) free in set.first i ∙ ap (λ b. b || i == fl) (bits.first i) ∙ or_comm rest (i == fl) ∙ ap (λ b. b || rest) (put_row i);
+    first = λ i. let rest = list_any (is_in_row sllen i) free in
+        set.first i ∙ ap (λ b. b || i == fl) (bits.first i) ∙ or_comm rest (i == fl) ∙ ap (λ b. b || rest) (put_row i);
     second = λ i k within. elim (cases_eq i fl) [
-      | inl same ↦ subst (λ j. bit (slice_index u.second_level j) k ≡ list_any (has_class sllen (class_at j k)) (r ∷ free)) (sym same) (put_own k (subst (λ j. j < fllen) same within))
+      | inl same ↦ subst (λ j. bit (slice_index u.second_level j) k ≡ list_any (has_class sllen (class_at j k)) (r ∷ free)) (sym same)
+          (put_own k (subst (λ j. j < fllen) same within))
       | inr apart ↦
           ap (λ n. bit n k) (set.others i within apart) ∙ bits.second i k within
           ∙ sym (ap (λ b. b || list_any (has_class sllen (class_at i k)) free) (has_class-other_row sllen fl sl r class i k apart))
@@ -116,7 +124,7 @@ module _ (fllen sllen fl sl : ℕ) (t u : Table) (r : Range) (free : List Range)
 
 -- ---- a range taken out
 
--- the table t, but for the bits of a row and of a class in it
+-- the table t, except for the bits of a row and of a class in it
 pub record IsClassCleared (fllen : ℕ) (t u : Table) (fl sl : ℕ) : Type 0 where
   pub rows : length u.second_level ≡ fllen
   pub first : (i : ℕ) → i ≢ fl → bit u.first_level i ≡ bit t.first_level i
@@ -124,13 +132,17 @@ pub record IsClassCleared (fllen : ℕ) (t u : Table) (fl sl : ℕ) : Type 0 whe
   pub others : (i : ℕ) → i < fllen → i ≢ fl → slice_index u.second_level i ≡ slice_index t.second_level i
 
 -- the table u of the others than r, if it is right of r's row and class
-module _ (fllen sllen fl sl : ℕ) (t u : Table) (r : Range) (before after : List Range) (class : class_of sllen r.len ≡ class_at fl sl) (bits : HasBits fllen sllen t (before ++ r ∷ after)) (within : fl < fllen)
+module _ (fllen sllen fl sl : ℕ) (t u : Table) (r : Range) (before after : List Range) (class : class_of sllen r.len ≡ class_at fl sl)
+    (bits : HasBits fllen sllen t (before ++ r ∷ after)) (within : fl < fllen)
     (cleared : IsClassCleared fllen t u fl sl) where
   -- the bits of the row's other classes, and then all, if those of the class and its row are right
   taken_place : (k : ℕ) → k ≢ sl → bit (slice_index u.second_level fl) k ≡ list_any (has_class sllen (class_at fl k)) (before ++ after)
-  taken_place k apart = cleared.places k apart ∙ bits.second fl k within ∙ list_any-less_one (has_class sllen (class_at fl k)) before r after (has_class-other_place sllen fl sl r class fl k apart)
+  taken_place k apart =
+      cleared.places k apart ∙ bits.second fl k within
+      ∙ list_any-less_one (has_class sllen (class_at fl k)) before r after (has_class-other_place sllen fl sl r class fl k apart)
 
-  HasBits-taken : bit u.first_level fl ≡ list_any (is_in_row sllen fl) (before ++ after) → bit (slice_index u.second_level fl) sl ≡ list_any (has_class sllen (class_at fl sl)) (before ++ after)
+  HasBits-taken : bit u.first_level fl ≡ list_any (is_in_row sllen fl) (before ++ after)
+      → bit (slice_index u.second_level fl) sl ≡ list_any (has_class sllen (class_at fl sl)) (before ++ after)
       → HasBits fllen sllen u (before ++ after)
   HasBits-taken row place = record {
     rows = cleared.rows;
@@ -143,20 +155,25 @@ module _ (fllen sllen fl sl : ℕ) (t u : Table) (r : Range) (before after : Lis
         | inl here ↦ subst (λ j. bit (slice_index u.second_level fl) j ≡ list_any (has_class sllen (class_at fl j)) (before ++ after)) (sym here) place
         | inr apart ↦ taken_place k apart
       ])
-      | inr apart ↦ ap (λ n. bit n k) (cleared.others i in_rows apart) ∙ bits.second i k in_rows ∙ list_any-less_one (has_class sllen (class_at i k)) before r after (has_class-other_row sllen fl sl r class i k apart)
+      | inr apart ↦ ap (λ n. bit n k) (cleared.others i in_rows apart) ∙ bits.second i k in_rows
+          ∙ list_any-less_one (has_class sllen (class_at i k)) before r after (has_class-other_row sllen fl sl r class i k apart)
     ];
   }
 
   -- the bits of the range that was taken out were set
   taken_row : bit t.first_level fl ≡ true
-  taken_row = bits.first fl ∙ list_any-true (is_in_row sllen fl) (before ++ r ∷ after) r (IsIn-append_right r before (r ∷ after) (inl refl)) (is_in_row-own sllen fl sl r class)
+  taken_row =
+      bits.first fl ∙ list_any-true (is_in_row sllen fl) (before ++ r ∷ after) r (IsIn-append_right r before (r ∷ after) (inl refl)) (is_in_row-own sllen fl sl r class)
 
   taken_class : bit (slice_index t.second_level fl) sl ≡ true
-  taken_class = bits.second fl sl within ∙ list_any-true (has_class sllen (class_at fl sl)) (before ++ r ∷ after) r (IsIn-append_right r before (r ∷ after) (inl refl)) (has_class-own sllen fl sl r class)
+  taken_class =
+      bits.second fl sl within
+      ∙ list_any-true (has_class sllen (class_at fl sl)) (before ++ r ∷ after) r (IsIn-append_right r before (r ∷ after) (inl refl)) (has_class-own sllen fl sl r class)
 
   module _ (head : ℕ) (is_head : IsHeadOf sllen fl sl head (before ++ after)) where
     -- where ranges of the class are left, its bits stay
-    pub HasBits-some_left : head ≢ 0 → bit u.first_level fl ≡ bit t.first_level fl → bit (slice_index u.second_level fl) sl ≡ bit (slice_index t.second_level fl) sl → HasBits fllen sllen u (before ++ after)
+    pub HasBits-some_left : head ≢ 0 → bit u.first_level fl ≡ bit t.first_level fl → bit (slice_index u.second_level fl) sl ≡ bit (slice_index t.second_level fl) sl
+        → HasBits fllen sllen u (before ++ after)
     HasBits-some_left some row place =
         let left : list_any (has_class sllen (class_at fl sl)) (before ++ after) ≡ true = by_test (list_any (has_class sllen (class_at fl sl)) (before ++ after))
         (λ e. e) (λ e. absurd (some (is_head.1 (filter-none (has_class sllen (class_at fl sl)) (before ++ after) e)))) in
@@ -189,10 +206,13 @@ module _ (fllen sllen fl sl : ℕ) (t u : Table) (r : Range) (before after : Lis
 -- ---- a range taken out, while its class has another one
 
 -- where a range of the same class is left, the bits are those of the ranges that are left
-pub HasBits-amid : {fllen sllen : ℕ} {t : Table} (before : List Range) (r : Range) (after : List Range) (g : Range) → IsIn g (before ++ after) → class_of sllen g.len ≡ class_of sllen r.len
+pub HasBits-amid : {fllen sllen : ℕ} {t : Table} (before : List Range) (r : Range) (after : List Range) (g : Range) → IsIn g (before ++ after)
+    → class_of sllen g.len ≡ class_of sllen r.len
     → HasBits fllen sllen t (before ++ (r ∷ after)) → HasBits fllen sllen t (before ++ after)
 HasBits-amid {fllen} {sllen} {t} before r after g i class bits = record {
   rows = bits.rows;
   first = λ fl. bits.first fl ∙ list_any-amid (is_in_row sllen fl) before r after g i (ap (λ c. c.exponent == 5 + fl) class);
-  second = λ fl sl row. bits.second fl sl row ∙ list_any-amid (has_class sllen (class_at fl sl)) before r after g i (ap (λ (c : SizeClass). (c.exponent == 5 + fl && c.division == sl)) class);
+  second =
+      λ fl sl row. bits.second fl sl row
+      ∙ list_any-amid (has_class sllen (class_at fl sl)) before r after g i (ap (λ (c : SizeClass). (c.exponent == 5 + fl && c.division == sl)) class);
 }

@@ -1,6 +1,7 @@
 -- The newest block of the first class that reaches a size is the one that an allocation takes.
 use mathlib.Core.Path.{ap₂}
-use Rattle.std.proofs.Common.{◌≡◌, ℕ, ◌+◌, ◌-◌, ◌*◌, ◌^◌, ◌<◌, ◌≤◌, true≢false, List, [], ◌∷◌, Some, None, find, arith, refl, sym, ◌∙◌, ap, subst, inl, inr}
+use Rattle.std.proofs.Common.{◌≡◌, ℕ, ◌+◌, ◌-◌, ◌*◌, ◌^◌, ◌<◌, ◌≤◌, true≢false, List, [], ◌∷◌, Some, None, find, arith, refl, sym}
+use Rattle.std.proofs.Common.{◌∙◌, ap, subst, inl, inr}
 use Rattle.std.proofs.lemmas.Bool.{cases_lt, cond-true, cond-false, lt-ltb, le-ltb}
 use Rattle.std.proofs.Math.Nat.{mul-le-mul_right}
 use Rattle.rlsf_base.specs.declared.memory.range.Range.{Range}
@@ -85,7 +86,8 @@ module _ (fllen sllen size : ℕ) (any : 0 < sllen) (is : IsSize size) where
       -- and else the newest of the least class is chosen
       module _ (to : ClassIndex) (least : IsLeastFrom fllen sllen at.0 at.1 free (Some to)) where
         -- the class's list isn't empty, and its first range is found
-        chosen : (m : Space) (head : ℕ) (xs : List Range) → of_class sllen to.fl to.sl free ≡ xs → Links m 0 xs head → (f : Range) × (choice sllen size free ≡ Some f) × (f.start ≡ head) × (class_of sllen f.len ≡ class_at to.fl to.sl)
+        chosen : (m : Space) (head : ℕ) (xs : List Range) → of_class sllen to.fl to.sl free ≡ xs → Links m 0 xs head
+            → (f : Range) × (choice sllen size free ≡ Some f) × (f.start ≡ head) × (class_of sllen f.len ≡ class_at to.fl to.sl)
         chosen m head [] none links =
             let (f, i, class) = least.3 in
             let c = class_at to.fl to.sl in
@@ -106,5 +108,6 @@ module _ (fllen sllen size : ℕ) (any : 0 < sllen) (is : IsSize size) where
               sym class,
             )
 
-        pub choice-head : (m : Space) (t : Table) → HasLists fllen sllen m t free → (f : Range) × (choice sllen size free ≡ Some f) × (f.start ≡ head_at t to.fl to.sl) × (class_of sllen f.len ≡ class_at to.fl to.sl)
+        pub choice-head : (m : Space) (t : Table) → HasLists fllen sllen m t free
+            → (f : Range) × (choice sllen size free ≡ Some f) × (f.start ≡ head_at t to.fl to.sl) × (class_of sllen f.len ≡ class_at to.fl to.sl)
         choice-head m t lists = chosen m (head_at t to.fl to.sl) (of_class sllen to.fl to.sl free) refl (lists.links to.fl to.sl least.0 least.1)

@@ -9,7 +9,8 @@ use Rattle.rlsf_table.specs.Table.{Table, HasPlaces, HasTable}
 pub HasPlaces-empty : (fllen sllen : ℕ) → HasPlaces fllen sllen (replicate fllen (replicate sllen 0))
 HasPlaces-empty fllen sllen i within = ap length (get_or-replicate fllen i (replicate sllen 0) [] within) ∙ length-replicate sllen 0
 
-module _ {fllen sllen : ℕ} (t : Table) (no_row : (i : ℕ) → bit t.first_level i ≡ false) (rows : length t.second_level ≡ fllen) (no_place : (i : ℕ) → i < fllen → slice_index t.second_level i ≡ 0) (no_head : t.heads ≡ replicate fllen (replicate sllen 0)) where
+module _ {fllen sllen : ℕ} (t : Table) (no_row : (i : ℕ) → bit t.first_level i ≡ false) (rows : length t.second_level ≡ fllen)
+    (no_place : (i : ℕ) → i < fllen → slice_index t.second_level i ≡ 0) (no_head : t.heads ≡ replicate fllen (replicate sllen 0)) where
   -- no bit of it is set, and each head is 0
   pub HasTable-empty : (m : Space) → HasTable fllen sllen m t []
   HasTable-empty m = record {
@@ -21,6 +22,8 @@ module _ {fllen sllen : ℕ} (t : Table) (no_row : (i : ℕ) → bit t.first_lev
     lists = record {
       rows = ap length no_head ∙ length-replicate fllen (replicate sllen 0);
       places = λ i within. ap length (ap (λ l. slice_index_or l i []) no_head) ∙ HasPlaces-empty fllen sllen i within;
-      links = λ i k within within_row. ap (λ l. slice_index (slice_index_or l i []) k) no_head ∙ ap (λ l. slice_index l k) (get_or-replicate fllen i (replicate sllen 0) [] within) ∙ get_or-replicate sllen k 0 0 within_row;
+      links =
+          λ i k within within_row. ap (λ l. slice_index (slice_index_or l i []) k) no_head ∙ ap (λ l. slice_index l k) (get_or-replicate fllen i (replicate sllen 0) [] within)
+          ∙ get_or-replicate sllen k 0 0 within_row;
     };
   }

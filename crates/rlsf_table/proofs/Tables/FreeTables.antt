@@ -23,7 +23,8 @@ IsFreeTable-IsLink links free placed rewrites among blocks apart sizes addressab
   blocks = blocks;
   placed = λ f i. CanBeBlock-Rewrites rewrites (placed f (among f i));
   apart = apart;
-  sizes = λ f i. (let here = placed f (among f i) in before_links links (λ g j. (placed g j).whole) rewrites f.start (inl here.whole) (omega (arith, here.lies_in))) ∙ sizes f i;
+  sizes =
+      λ f i. (let here = placed f (among f i) in before_links links (λ g j. (placed g j).whole) rewrites f.start (inl here.whole) (omega (arith, here.lies_in))) ∙ sizes f i;
   addressable = omega (arith, rewrites.start, rewrites.length, addressable);
 }
 
@@ -40,7 +41,8 @@ IsFreeTable-front {fllen} {sllen} {m} r free room size table rewrites =
     (front {P = λ f. word_at m f.start ≡ f.len} r free size room.list.sizes) room.list.addressable table
 
 -- the table without a block
-pub IsFreeTable-removal : {fllen sllen : ℕ} {m n : Space} {t u : Table} (before : List Range) (r : Range) (after : List Range) → IsFreeTable fllen sllen m t (before ++ (r ∷ after))
+pub IsFreeTable-removal : {fllen sllen : ℕ} {m n : Space} {t u : Table} (before : List Range) (r : Range) (after : List Range)
+    → IsFreeTable fllen sllen m t (before ++ (r ∷ after))
     → HasTable fllen sllen n u (before ++ after) → Rewrites m n (IsLink (before ++ (r ∷ after))) → IsFreeTable fllen sllen n u (before ++ after)
 IsFreeTable-removal before r after list table rewrites =
     let among = IsIn-removal before r after in
@@ -51,7 +53,8 @@ IsFreeTable-removal before r after list table rewrites =
 -- ---- other words were written
 
 -- the table where none of the links was written
-pub HasTable-Rewrites : {fllen sllen : ℕ} {m n : Space} {t : Table} {at : ℕ → Type 0} {free : List Range} → Rewrites m n at → ((f : Range) → IsIn f free → CanBeBlock m f)
+pub HasTable-Rewrites : {fllen sllen : ℕ} {m n : Space} {t : Table} {at : ℕ → Type 0} {free : List Range} → Rewrites m n at
+    → ((f : Range) → IsIn f free → CanBeBlock m f)
     → ((f : Range) → IsIn f free → ¬ at (f.start + 16) × ¬ at (f.start + 24)) → HasTable fllen sllen m t free → HasTable fllen sllen n t free
 HasTable-Rewrites {fllen} {sllen} {m} {n} {t} {at} {free} rewrites placed other table = record {
   bits = table.bits;

@@ -1,5 +1,6 @@
 -- The heads of the class table, one of which is written.
-use Rattle.std.proofs.Common.{◌≡◌, ◌≢◌, ℕ, ◌<◌, List, [], length, slice_index, slice_index_or, slice_set, get_or-set_same, get_or-set_other, length-set, arith, ◌∙◌, ap, refl, subst, inl, inr}
+use Rattle.std.proofs.Common.{◌≡◌, ◌≢◌, ℕ, ◌<◌, List, [], length, slice_index, slice_index_or, slice_set, get_or-set_same, get_or-set_other, length-set, arith}
+use Rattle.std.proofs.Common.{◌∙◌, ap, refl, subst, inl, inr}
 use Rattle.std.proofs.lemmas.Bool.{cases_eq}
 use Rattle.rlsf_table.specs.Table.{Table, HasPlaces, IsHeadSet}
 
@@ -30,8 +31,9 @@ module _ (fllen sllen fl sl head : ℕ) (t u : Table) (row_within : fl < fllen) 
     ];
   }
 
--- the same of the table that a value stood for when it was opened
-pub IsHeadSet-opened : (fllen sllen fl sl head : ℕ) (inside t u : Table) → inside ≡ t → fl < fllen → sl < sllen → length inside.heads ≡ fllen → HasPlaces fllen sllen inside.heads
+-- the same of the table that a value represented when it was opened
+pub IsHeadSet-opened : (fllen sllen fl sl head : ℕ) (inside t u : Table) → inside ≡ t → fl < fllen → sl < sllen → length inside.heads ≡ fllen
+    → HasPlaces fllen sllen inside.heads
     → u.heads ≡ slice_set inside.heads fl (slice_set (slice_index_or inside.heads fl []) sl head) → IsHeadSet fllen sllen t u fl sl head
 IsHeadSet-opened fllen sllen fl sl head inside t u same row place rows places written =
     subst (λ v. IsHeadSet fllen sllen v u fl sl head) same (IsHeadSet-written fllen sllen fl sl head inside u row place rows places written)
@@ -40,4 +42,5 @@ IsHeadSet-opened fllen sllen fl sl head inside t u same row place rows places wr
 pub HasPlaces-written : (fllen sllen fl sl head : ℕ) (heads : List (List ℕ)) → fl < fllen → sl < sllen → length heads ≡ fllen → HasPlaces fllen sllen heads
     → HasPlaces fllen sllen (slice_set heads fl (slice_set (slice_index_or heads fl []) sl head))
 HasPlaces-written fllen sllen fl sl head heads row place rows places =
-    (IsHeadSet-written fllen sllen fl sl head (record { first_level = 0; second_level = []; heads = heads }) (record { first_level = 0; second_level = []; heads = _ }) row place rows places refl).places
+    (IsHeadSet-written fllen sllen fl sl head (record { first_level = 0; second_level = []; heads = heads }) (record { first_level = 0; second_level = []; heads = _ }) row place
+    rows places refl).places

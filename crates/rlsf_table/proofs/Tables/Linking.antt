@@ -15,7 +15,8 @@ use Rattle.rlsf_table.specs.Steps.ClassList.{IsFreeList}
 use Rattle.rlsf_table.specs.FreeTable.{IsFreeTable, IsRoom}
 use Rattle.rlsf_table.specs.Table.{IsClassAt, IsHeadOf, IsHeadSet, Table, class_at, head_at, of_class, HasBits, HasTable}
 use Rattle.rlsf_table.proofs.FreeLists.Chains.{first_of, IsIn-removal}
-use Rattle.rlsf_table.proofs.FreeLists.Classes.{coverage-of_class, IsIn-of_class, of_class-append, of_class-front_same, of_class-front_other, of_class-amid_same, of_class-amid_other}
+use Rattle.rlsf_table.proofs.FreeLists.Classes.{coverage-of_class, IsIn-of_class, of_class-append, of_class-front_same, of_class-front_other, of_class-amid_same}
+use Rattle.rlsf_table.proofs.FreeLists.Classes.{of_class-amid_other}
 use Rattle.rlsf_table.proofs.FreeLists.OtherClasses.{class_at-injective, each_class, Links-other_class}
 use Rattle.rlsf_table.proofs.Tables.Bits.{HasBits-amid}
 use Rattle.rlsf_table.proofs.Words.Writes.{Rewrites-weaken}
@@ -44,7 +45,8 @@ has_class-other sllen fl sl i j r class other =
 
 -- ---- a block in front
 
-module _ {fllen sllen : ℕ} {m : Space} {t : Table} {r : Range} {free : List Range} (fl sl : ℕ) (room : IsRoom fllen sllen m t free r) (at : IsClassAt fllen sllen r.len fl sl) where
+module _ {fllen sllen : ℕ} {m : Space} {t : Table} {r : Range} {free : List Range} (fl sl : ℕ) (room : IsRoom fllen sllen m t free r)
+    (at : IsClassAt fllen sllen r.len fl sl) where
   -- the block overlaps none of its class
   pub coverage-front_class : (a : ℕ) → coverage itself (r ∷ of_class sllen fl sl free) a ≤ 1
   coverage-front_class a = omega (arith, room.apart a, coverage-of_class sllen fl sl free a)
@@ -64,7 +66,8 @@ module _ {fllen sllen : ℕ} {m : Space} {t : Table} {r : Range} {free : List Ra
   Rewrites-front_class rewrites = Rewrites-weaken (λ a link. (link.0, (among-front link.0 link.1).0, link.2)) rewrites
 
   -- the table, once the head of the class is where the block begins
-  HasTable-front_start : {n : Space} {u : Table} → IsHeadSet fllen sllen t u fl sl r.start → HasBits fllen sllen u (r ∷ free) → Links n 0 (r ∷ of_class sllen fl sl free) r.start
+  HasTable-front_start : {n : Space} {u : Table} → IsHeadSet fllen sllen t u fl sl r.start → HasBits fllen sllen u (r ∷ free)
+      → Links n 0 (r ∷ of_class sllen fl sl free) r.start
       → Rewrites m n (IsLink (r ∷ of_class sllen fl sl free)) → HasTable fllen sllen n u (r ∷ free)
   HasTable-front_start {n} {u} set bits linked rewrites =
       let spelled : Links n 0 (of_class sllen fl sl (r ∷ free)) r.start =
@@ -81,7 +84,9 @@ module _ {fllen sllen : ℕ} {m : Space} {t : Table} {r : Range} {free : List Ra
     where
       elsewhere : (i j : ℕ) → ¬ ((i ≡ fl) × (j ≡ sl)) → i < fllen → j < sllen → Links n 0 (of_class sllen i j (r ∷ free)) (head_at u i j)
       elsewhere i j other row place =
-          let kept = Links-other_class sllen fl sl (r ∷ free) (r ∷ of_class sllen fl sl free) placed-front room.apart among-front rewrites i j other free (λ f k. inr k) (head_at t i j)
+          let kept =
+          Links-other_class sllen fl sl (r ∷ free) (r ∷ of_class sllen fl sl free) placed-front room.apart among-front rewrites i j other free (λ f k. inr k)
+          (head_at t i j)
           (room.list.table.lists.links i j row place) in
           let same : Links n 0 (of_class sllen i j free) (head_at u i j) = subst (λ h. Links n 0 (of_class sllen i j free) h) (sym (set.others i j row place other)) kept in
           subst (λ l. Links n 0 l (head_at u i j)) (sym (of_class-front_other sllen i j r free (has_class-other sllen fl sl i j r at.class other))) same
@@ -99,7 +104,8 @@ head-zero : (m : Space) (p : ℕ) (free : List Range) (head : ℕ) → ((f : Ran
 head-zero m p [] head some links = ((λ zero. refl), (λ none. links))
 head-zero m p (f ∷ fs) head some links = ((λ zero. absurd (omega (arith, links.0, some f (inl refl)))), (λ none. absurd (cc)))
 
-module _ {fllen sllen : ℕ} {m : Space} {t : Table} (before : List Range) (r : Range) (after : List Range) (fl sl : ℕ) (list : IsFreeTable fllen sllen m t (before ++ (r ∷ after)))
+module _ {fllen sllen : ℕ} {m : Space} {t : Table} (before : List Range) (r : Range) (after : List Range) (fl sl : ℕ)
+    (list : IsFreeTable fllen sllen m t (before ++ (r ∷ after)))
     (at : IsClassAt fllen sllen r.len fl sl) where
   -- the list of the class, with the block in its midst
   spelled : of_class sllen fl sl (before ++ (r ∷ after)) ≡ of_class sllen fl sl before ++ (r ∷ of_class sllen fl sl after)
@@ -110,13 +116,15 @@ module _ {fllen sllen : ℕ} {m : Space} {t : Table} (before : List Range) (r : 
   IsFreeList-amid = subst (IsFreeList m (head_at t fl sl)) spelled (IsFreeList-of_class list fl sl at.row at.place)
 
   -- its blocks are free blocks, and of that class
-  among-amid : (f : Range) → IsIn f (of_class sllen fl sl before ++ (r ∷ of_class sllen fl sl after)) → IsIn f (before ++ (r ∷ after)) × (class_of sllen f.len ≡ class_at fl sl)
+  among-amid : (f : Range) → IsIn f (of_class sllen fl sl before ++ (r ∷ of_class sllen fl sl after))
+      → IsIn f (before ++ (r ∷ after)) × (class_of sllen f.len ≡ class_at fl sl)
   among-amid f i =
       let is = IsIn-of_class sllen fl sl f (before ++ (r ∷ after)) (subst (IsIn f) (sym spelled) i) in
       (is.0, has_class-true sllen (class_at fl sl) f is.1)
 
   -- the links of the class are links of free blocks
-  pub Rewrites-amid_class : {n : Space} → Rewrites m n (IsLink (of_class sllen fl sl before ++ (r ∷ of_class sllen fl sl after))) → Rewrites m n (IsLink (before ++ (r ∷ after)))
+  pub Rewrites-amid_class : {n : Space} → Rewrites m n (IsLink (of_class sllen fl sl before ++ (r ∷ of_class sllen fl sl after)))
+      → Rewrites m n (IsLink (before ++ (r ∷ after)))
   Rewrites-amid_class rewrites = Rewrites-weaken (λ a link. (link.0, (among-amid link.0 link.1).0, link.2)) rewrites
 
   module _ {n : Space} (head : ℕ) (linked : Links n 0 (of_class sllen fl sl before ++ of_class sllen fl sl after) head)
@@ -125,10 +133,11 @@ module _ {fllen sllen : ℕ} {m : Space} {t : Table} (before : List Range) (r : 
     left : Links n 0 (of_class sllen fl sl (before ++ after)) head
     left = subst (λ l. Links n 0 l head) (sym (of_class-append sllen fl sl before after)) linked
 
-    -- the head tells whether a block is left
+    -- whether the head shows that a block is left
     pub IsHeadOf-removal : IsHeadOf sllen fl sl head (before ++ after)
     IsHeadOf-removal =
-        head-zero n 0 (of_class sllen fl sl (before ++ after)) head (λ f i. (list.placed f (IsIn-removal before r after f (IsIn-of_class sllen fl sl f (before ++ after) i).0)).some) left
+        head-zero n 0 (of_class sllen fl sl (before ++ after)) head
+        (λ f i. (list.placed f (IsIn-removal before r after f (IsIn-of_class sllen fl sl f (before ++ after) i).0)).some) left
 
     -- its head is set
     pub HasTable-removal : {u : Table} → IsHeadSet fllen sllen t u fl sl head → HasBits fllen sllen u (before ++ after) → HasTable fllen sllen n u (before ++ after)
@@ -146,8 +155,11 @@ module _ {fllen sllen : ℕ} {m : Space} {t : Table} (before : List Range) (r : 
         elsewhere : (i j : ℕ) → ¬ ((i ≡ fl) × (j ≡ sl)) → i < fllen → j < sllen → Links n 0 (of_class sllen i j (before ++ after)) (head_at u i j)
         elsewhere i j other row place =
             let old : Links m 0 (of_class sllen i j (before ++ after)) (head_at t i j) =
-            subst (λ l. Links m 0 l (head_at t i j)) (of_class-amid_other sllen i j before r after (has_class-other sllen fl sl i j r at.class other)) (list.table.lists.links i j row place) in
-            let kept = Links-other_class sllen fl sl (before ++ (r ∷ after)) (of_class sllen fl sl before ++ (r ∷ of_class sllen fl sl after)) list.placed list.apart among-amid rewrites
+            subst (λ l. Links m 0 l (head_at t i j)) (of_class-amid_other sllen i j before r after (has_class-other sllen fl sl i j r at.class other))
+            (list.table.lists.links i j row place) in
+            let kept =
+            Links-other_class sllen fl sl (before ++ (r ∷ after)) (of_class sllen fl sl before ++ (r ∷ of_class sllen fl sl after)) list.placed list.apart among-amid
+            rewrites
             i j other (before ++ after) (IsIn-removal before r after) (head_at t i j) old in
             subst (λ h. Links n 0 (of_class sllen i j (before ++ after)) h) (sym (set.others i j row place other)) kept
 
@@ -157,7 +169,9 @@ module _ {fllen sllen : ℕ} {m : Space} {t : Table} (before : List Range) (r : 
         let lists = list.table.lists in
         let set : IsHeadSet fllen sllen t t fl sl head = record { rows = lists.rows; places = lists.places; set = sym same; others = λ i j row place other. refl } in
         let some : head ≢ 0 = λ zero.
-        let none = (head-zero m 0 (of_class sllen fl sl before ++ (r ∷ of_class sllen fl sl after)) (head_at t fl sl) (λ f i. (IsFreeList-amid.placed f i).some) IsFreeList-amid.links).0 (sym same ∙ zero) in
+        let none =
+        (head-zero m 0 (of_class sllen fl sl before ++ (r ∷ of_class sllen fl sl after)) (head_at t fl sl) (λ f i. (IsFreeList-amid.placed f i).some)
+        IsFreeList-amid.links).0 (sym same ∙ zero) in
         subst (IsIn r) none (IsIn-append_right r (of_class sllen fl sl before) (r ∷ of_class sllen fl sl after) (inl refl)) in
         let g = first_of n 0 (of_class sllen fl sl (before ++ after)) head left some in
         let is = IsIn-of_class sllen fl sl g.0 (before ++ after) g.1 in

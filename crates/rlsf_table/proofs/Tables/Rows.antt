@@ -1,5 +1,6 @@
 -- The words of a table's rows: those of rows of 64 places or fewer, and those of longer rows.
-use Rattle.std.proofs.Common.{◌≡◌, ◌≢◌, ℕ, ◌-◌, ◌*◌, ◌%◌, ◌^◌, ◌<◌, ◌≤◌, bit_and, bit_or, ◌==◌, false, ◌||◌, List, Some, None, slice_index, slice_set, length, get_or-set_same, nat_le, arith, ◌∙◌, ap, sym, subst}
+use Rattle.std.proofs.Common.{◌≡◌, ◌≢◌, ℕ, ◌-◌, ◌*◌, ◌%◌, ◌^◌, ◌<◌, ◌≤◌, bit_and, bit_or, ◌==◌, false, ◌||◌, List, Some, None}
+use Rattle.std.proofs.Common.{slice_index, slice_set, length, get_or-set_same, nat_le, arith, ◌∙◌, ap, sym, subst}
 use Rattle.std.specs.Int.{Width, w64, w128, trailing_zeros}
 use mir.Val.{bits}
 use Rattle.std.specs.Int.Count.{trailing_of_zero}
@@ -29,17 +30,22 @@ row_words-length fllen sllen low high = length-map-range_with_len (row_word slle
 
 -- what is known of the words of a row before and after, is known of the row
 module _ (fllen sllen : ℕ) (low high low2 high2 : List ℕ) (fl : ℕ) (within : fl < fllen) where
-  pub rows-bit_set : (k sl : ℕ) → bit (row_word sllen low2 high2 fl) k ≡ (bit (row_word sllen low high fl) k || k == sl) → bit (slice_index (row_words fllen sllen low2 high2) fl) k ≡ (bit (slice_index (row_words fllen sllen low high) fl) k || k == sl)
-  rows-bit_set k sl set = ap (λ n. bit n k) (row_words-at fllen sllen low2 high2 fl within) ∙ set ∙ ap (λ n. bit n k || k == sl) (sym (row_words-at fllen sllen low high fl within))
+  pub rows-bit_set : (k sl : ℕ) → bit (row_word sllen low2 high2 fl) k ≡ (bit (row_word sllen low high fl) k || k == sl)
+      → bit (slice_index (row_words fllen sllen low2 high2) fl) k ≡ (bit (slice_index (row_words fllen sllen low high) fl) k || k == sl)
+  rows-bit_set k sl set =
+      ap (λ n. bit n k) (row_words-at fllen sllen low2 high2 fl within) ∙ set ∙ ap (λ n. bit n k || k == sl) (sym (row_words-at fllen sllen low high fl within))
 
-  pub rows-bit_same : (k : ℕ) → bit (row_word sllen low2 high2 fl) k ≡ bit (row_word sllen low high fl) k → bit (slice_index (row_words fllen sllen low2 high2) fl) k ≡ bit (slice_index (row_words fllen sllen low high) fl) k
+  pub rows-bit_same : (k : ℕ) → bit (row_word sllen low2 high2 fl) k ≡ bit (row_word sllen low high fl) k
+      → bit (slice_index (row_words fllen sllen low2 high2) fl) k ≡ bit (slice_index (row_words fllen sllen low high) fl) k
   rows-bit_same k same = ap (λ n. bit n k) (row_words-at fllen sllen low2 high2 fl within) ∙ same ∙ ap (λ n. bit n k) (sym (row_words-at fllen sllen low high fl within))
 
-  pub rows-same : row_word sllen low2 high2 fl ≡ row_word sllen low high fl → slice_index (row_words fllen sllen low2 high2) fl ≡ slice_index (row_words fllen sllen low high) fl
+  pub rows-same : row_word sllen low2 high2 fl ≡ row_word sllen low high fl
+      → slice_index (row_words fllen sllen low2 high2) fl ≡ slice_index (row_words fllen sllen low high) fl
   rows-same same = row_words-at fllen sllen low2 high2 fl within ∙ same ∙ sym (row_words-at fllen sllen low high fl within)
 
 -- a scan of a row's word is one of the row
-pub IsFirstOne-row : (fllen sllen : ℕ) (low high : List ℕ) (fl : ℕ) → fl < fllen → {width start place : ℕ} → IsFirstOne width (row_word sllen low high fl) start place → IsFirstOne width (slice_index (row_words fllen sllen low high) fl) start place
+pub IsFirstOne-row : (fllen sllen : ℕ) (low high : List ℕ) (fl : ℕ) → fl < fllen → {width start place : ℕ} → IsFirstOne width (row_word sllen low high fl) start place
+    → IsFirstOne width (slice_index (row_words fllen sllen low high) fl) start place
 IsFirstOne-row fllen sllen low high fl within {width} {start} {place} scan = subst (λ n. IsFirstOne width n start place) (sym (row_words-at fllen sllen low high fl within)) scan
 
 -- a word with one less, `n & !(1 << i)`: none is there, and the others stay
@@ -64,7 +70,8 @@ module _ (sllen : ℕ) (low high : List ℕ) (fl : ℕ) (few : sllen ≤ 64) whe
   pub inserted-few : (place : ℕ) → place < 64 → fl < length low → (k : ℕ)
       → bit (row_word sllen (slice_set low fl (bit_or (slice_index low fl) (1 * 2 ^ place % 2 ^ 64))) high fl) k ≡ (bit (row_word sllen low high fl) k || k == place)
   inserted-few place below within k =
-      ap (λ n. bit n k) (row_word-few sllen _ high fl few ∙ get_or-set_same low fl _ 0 within) ∙ unsigned.bit-set w64 (slice_index low fl) place below k ∙ ap (λ n. bit n k || k == place) (sym (row_word-few sllen low high fl few))
+      ap (λ n. bit n k) (row_word-few sllen _ high fl few ∙ get_or-set_same low fl _ 0 within) ∙ unsigned.bit-set w64 (slice_index low fl) place below k
+      ∙ ap (λ n. bit n k || k == place) (sym (row_word-few sllen low high fl few))
 
   module _ (fits : slice_index low fl < 2 ^ 64) where
     -- and taken away
@@ -72,7 +79,8 @@ module _ (sllen : ℕ) (low high : List ℕ) (fl : ℕ) (few : sllen ≤ 64) whe
       pub removed-few : bit (row_word sllen (slice_set low fl (bit_and (slice_index low fl) (2 ^ 64 - 1 - 1 * 2 ^ place % 2 ^ 64))) high fl) place ≡ false
       removed-few = ap (λ n. bit n place) (row_word-few sllen _ high fl few ∙ get_or-set_same low fl _ 0 within) ∙ bit-without w64 (slice_index low fl) place fits below
 
-      pub kept-few : (k : ℕ) → k ≢ place → bit (row_word sllen (slice_set low fl (bit_and (slice_index low fl) (2 ^ 64 - 1 - 1 * 2 ^ place % 2 ^ 64))) high fl) k ≡ bit (row_word sllen low high fl) k
+      pub kept-few : (k : ℕ) → k ≢ place
+          → bit (row_word sllen (slice_set low fl (bit_and (slice_index low fl) (2 ^ 64 - 1 - 1 * 2 ^ place % 2 ^ 64))) high fl) k ≡ bit (row_word sllen low high fl) k
       kept-few k apart =
           ap (λ n. bit n k) (row_word-few sllen _ high fl few ∙ get_or-set_same low fl _ 0 within) ∙ bit-without_other w64 (slice_index low fl) place fits below k apart
           ∙ ap (λ n. bit n k) (sym (row_word-few sllen low high fl few))
@@ -80,7 +88,8 @@ module _ (sllen : ℕ) (low high : List ℕ) (fl : ℕ) (few : sllen ≤ 64) whe
     -- the scan of the word is one of the row
     scanned-few : (start place : ℕ) → IsFirstOne 64 (slice_index low fl) start place → IsFirstOne (scanned_places sllen) (row_word sllen low high fl) start place
     scanned-few start place scan =
-        subst (λ n. IsFirstOne (scanned_places sllen) n start place) (sym (row_word-few sllen low high fl few)) (subst (λ w. IsFirstOne w (slice_index low fl) start place) (sym (scanned_places-few sllen few)) scan)
+        subst (λ n. IsFirstOne (scanned_places sllen) n start place) (sym (row_word-few sllen low high fl few))
+        (subst (λ w. IsFirstOne w (slice_index low fl) start place) (sym (scanned_places-few sllen few)) scan)
 
     pub first-few : IsFirstOne (scanned_places sllen) (row_word sllen low high fl) 0 (trailing_zeros w64 (slice_index low fl))
     first-few = scanned-few 0 _ (unsigned.first_from_0 w64 (slice_index low fl) fits)
@@ -92,7 +101,9 @@ module _ (sllen : ℕ) (low high : List ℕ) (fl : ℕ) (few : sllen ≤ 64) whe
       pub first_from-few : bit_and (slice_index low fl) ((2 ^ 64 - 1) * 2 ^ start % 2 ^ 64) ≢ 0
           → IsFirstFrom sllen (row_word sllen low high fl) start (Some (trailing_zeros w64 (bit_and (slice_index low fl) ((2 ^ 64 - 1) * 2 ^ start % 2 ^ 64))))
       first_from-few some =
-          let below = trailing-some w64 (bit_and (slice_index low fl) ((2 ^ 64 - 1) * 2 ^ start % 2 ^ 64)) some (omega (arith, and_le_l (slice_index low fl) ((2 ^ 64 - 1) * 2 ^ start % 2 ^ 64))) in
+          let below =
+          trailing-some w64 (bit_and (slice_index low fl) ((2 ^ 64 - 1) * 2 ^ start % 2 ^ 64)) some
+          (omega (arith, and_le_l (slice_index low fl) ((2 ^ 64 - 1) * 2 ^ start % 2 ^ 64))) in
           (omega (arith, below, scanned_places-few sllen few), scan)
 
       pub first_from-few_none : bit_and (slice_index low fl) ((2 ^ 64 - 1) * 2 ^ start % 2 ^ 64) ≡ 0 → IsFirstFrom sllen (row_word sllen low high fl) start None
@@ -104,8 +115,11 @@ module _ (sllen : ℕ) (low high : List ℕ) (fl : ℕ) (few : sllen ≤ 64) whe
 module _ (sllen : ℕ) (low high : List ℕ) (fl : ℕ) (many : 64 < sllen) (word : ℕ) (is : word ≡ joined (slice_index low fl) (slice_index high fl)) where
   module _ (low2 high2 : List ℕ) (place : ℕ) (below : place < 128) where
     -- a one is put at a place
-    pub inserted-many : joined (slice_index low2 fl) (slice_index high2 fl) ≡ bit_or word (1 * 2 ^ place % 2 ^ 128) → (k : ℕ) → bit (row_word sllen low2 high2 fl) k ≡ (bit (row_word sllen low high fl) k || k == place)
-    inserted-many set k = ap (λ n. bit n k) (row_word-many sllen low2 high2 fl many ∙ set) ∙ unsigned.bit-set w128 word place below k ∙ ap (λ n. bit n k || k == place) (is ∙ sym (row_word-many sllen low high fl many))
+    pub inserted-many : joined (slice_index low2 fl) (slice_index high2 fl) ≡ bit_or word (1 * 2 ^ place % 2 ^ 128) → (k : ℕ)
+        → bit (row_word sllen low2 high2 fl) k ≡ (bit (row_word sllen low high fl) k || k == place)
+    inserted-many set k =
+        ap (λ n. bit n k) (row_word-many sllen low2 high2 fl many ∙ set) ∙ unsigned.bit-set w128 word place below k
+        ∙ ap (λ n. bit n k || k == place) (is ∙ sym (row_word-many sllen low high fl many))
 
     -- and taken away
     module _ (fits : word < 2 ^ 128) (set : joined (slice_index low2 fl) (slice_index high2 fl) ≡ bit_and word (2 ^ 128 - 1 - 1 * 2 ^ place % 2 ^ 128)) where
@@ -113,7 +127,9 @@ module _ (sllen : ℕ) (low high : List ℕ) (fl : ℕ) (many : 64 < sllen) (wor
       removed-many = ap (λ n. bit n place) (row_word-many sllen low2 high2 fl many ∙ set) ∙ bit-without w128 word place fits below
 
       pub kept-many : (k : ℕ) → k ≢ place → bit (row_word sllen low2 high2 fl) k ≡ bit (row_word sllen low high fl) k
-      kept-many k apart = ap (λ n. bit n k) (row_word-many sllen low2 high2 fl many ∙ set) ∙ bit-without_other w128 word place fits below k apart ∙ ap (λ n. bit n k) (is ∙ sym (row_word-many sllen low high fl many))
+      kept-many k apart =
+          ap (λ n. bit n k) (row_word-many sllen low2 high2 fl many ∙ set) ∙ bit-without_other w128 word place fits below k apart
+          ∙ ap (λ n. bit n k) (is ∙ sym (row_word-many sllen low high fl many))
 
   -- the scan of them is one of the row
   pub first-many : word < 2 ^ 128 → IsFirstOne (scanned_places sllen) (row_word sllen low high fl) 0 (trailing_zeros w128 word)

@@ -1,5 +1,6 @@
 -- The search for the first class that has free ranges, from a class on, by the bits of the class table.
-use Rattle.std.proofs.Common.{◌≡◌, ℕ, ◌+◌, ◌-◌, ◌^◌, ◌<◌, ◌≤◌, true, nat_le, true≢false, List, Some, None, slice_index, arith, refl, sym, ◌∙◌, ap, inl, inr}
+use Rattle.std.proofs.Common.{◌≡◌, ℕ, ◌+◌, ◌-◌, ◌^◌, ◌<◌, ◌≤◌, true, nat_le, true≢false, List, Some, None, slice_index, arith, refl, sym, ◌∙◌}
+use Rattle.std.proofs.Common.{ap, inl, inr}
 use Rattle.std.proofs.lemmas.Bool.{cases_eq, cases_lt, cond-true, cond-false, eq-eqb, eqb-true, le-leb, lt-leb}
 use Rattle.rlsf_base.specs.declared.memory.range.Range.{Range}
 use Rattle.rlsf_base.specs.PowerOfTwo.{floor_log2}
@@ -20,7 +21,8 @@ use Rattle.rlsf_table.proofs.Tables.Tests.{list_any-true, list_any-some}
 pub row_from : {fllen sllen : ℕ} {f : Range} → IsFree fllen sllen f → 5 ≤ (class_of sllen f.len).exponent
 row_from {f = f} is = let long : 2 ^ 5 ≤ f.len = omega (arith, is.some, is.whole.len) in pow-between f.len 5 (floor_log2 f.len) long (floor_log2-lt f.len is.some)
 
-module _ {fllen sllen : ℕ} {t : Table} {free : List Range} (any : 0 < sllen) (bits : HasBits fllen sllen t free) (blocks : (f : Range) → IsIn f free → IsFree fllen sllen f) where
+module _ {fllen sllen : ℕ} {t : Table} {free : List Range} (any : 0 < sllen) (bits : HasBits fllen sllen t free)
+    (blocks : (f : Range) → IsIn f free → IsFree fllen sllen f) where
   -- the place of a free range in its row
   pub place_lt : (f : Range) → IsIn f free → (class_of sllen f.len).division < sllen
   place_lt f i = division-lt sllen f.len (blocks f i).some any
@@ -29,14 +31,16 @@ module _ {fllen sllen : ℕ} {t : Table} {free : List Range} (any : 0 < sllen) (
   pub row_bit : (f : Range) → IsIn f free → (row : ℕ) → (class_of sllen f.len).exponent ≡ 5 + row → bit t.first_level row ≡ true
   row_bit f i row at = bits.first row ∙ list_any-true (is_in_row sllen row) free f i (eq-eqb (class_of sllen f.len).exponent (5 + row) at)
 
-  pub place_bit : (f : Range) → IsIn f free → (row : ℕ) → row < fllen → (class_of sllen f.len).exponent ≡ 5 + row → bit (slice_index t.second_level row) (class_of sllen f.len).division ≡ true
+  pub place_bit : (f : Range) → IsIn f free → (row : ℕ) → row < fllen → (class_of sllen f.len).exponent ≡ 5 + row
+      → bit (slice_index t.second_level row) (class_of sllen f.len).division ≡ true
   place_bit f i row within at =
       let place = (class_of sllen f.len).division in
       let class : class_of sllen f.len ≡ class_at row place = ap (λ k. record { exponent = k; division = place }) at in
       bits.second row place within ∙ list_any-true (has_class sllen (class_at row place)) free f i (has_class-from sllen (class_at row place) f class)
 
   -- a range of a class whose bit is set
-  pub range_of_place : (row place : ℕ) → row < fllen → bit (slice_index t.second_level row) place ≡ true → (f : Range) × IsIn f free × (class_of sllen f.len ≡ class_at row place)
+  pub range_of_place : (row place : ℕ) → row < fllen → bit (slice_index t.second_level row) place ≡ true
+      → (f : Range) × IsIn f free × (class_of sllen f.len ≡ class_at row place)
   range_of_place row place within set =
       let (f, i, has) = list_any-some (has_class sllen (class_at row place)) free (sym (bits.second row place within) ∙ set) in
       (f, i, has_class-true sllen (class_at row place) f has)
@@ -52,7 +56,8 @@ module _ {fllen sllen : ℕ} {t : Table} {free : List Range} (any : 0 < sllen) (
       (f, i, eqb-true (class_of sllen f.len).exponent (5 + row) has)
 
   -- the scan of a row passed no free range
-  pub place_from : {width start place : ℕ} (row : ℕ) → row < fllen → IsFirstOne width (slice_index t.second_level row) start place → (f : Range) → IsIn f free → (class_of sllen f.len).exponent ≡ 5 + row → start ≤ (class_of sllen f.len).division
+  pub place_from : {width start place : ℕ} (row : ℕ) → row < fllen → IsFirstOne width (slice_index t.second_level row) start place → (f : Range) → IsIn f free
+      → (class_of sllen f.len).exponent ≡ 5 + row → start ≤ (class_of sllen f.len).division
       → place ≤ (class_of sllen f.len).division
   place_from {width} {start} {place} row within scan f i at from = elim (cases_lt (class_of sllen f.len).division place) [
     | inl passed ↦ absurd (true≢false (sym (place_bit f i row within at) ∙ scan.none_before (class_of sllen f.len).division from passed))
@@ -60,7 +65,8 @@ module _ {fllen sllen : ℕ} {t : Table} {free : List Range} (any : 0 < sllen) (
   ]
 
   -- nor did the scan of the rows
-  pub row_behind : {width start row : ℕ} → IsFirstOne width t.first_level start row → (f : Range) → IsIn f free → 5 + start ≤ (class_of sllen f.len).exponent → 5 + row ≤ (class_of sllen f.len).exponent
+  pub row_behind : {width start row : ℕ} → IsFirstOne width t.first_level start row → (f : Range) → IsIn f free → 5 + start ≤ (class_of sllen f.len).exponent
+      → 5 + row ≤ (class_of sllen f.len).exponent
   row_behind {width} {start} {row} scan f i from =
       let own = (class_of sllen f.len).exponent - 5 in
       let at : (class_of sllen f.len).exponent ≡ 5 + own = omega arith in
@@ -97,7 +103,8 @@ module _ {fllen sllen : ℕ} {t : Table} {free : List Range} (any : 0 < sllen) (
         IsLeastFrom-none past f i order = let valid = (blocks f i).valid in let behind = row_behind rows f i (row_after f i order) in omega arith
 
         -- the scan of the rows found one, and that of it a class
-        pub IsLeastFrom-row_behind : row < fllen → fllen ≤ width → {first : ℕ} → IsFirstOne scanned (slice_index t.second_level row) 0 first → IsLeastFrom fllen sllen fl sl free (Some (record { fl = row; sl = first }))
+        pub IsLeastFrom-row_behind : row < fllen → fllen ≤ width → {first : ℕ} → IsFirstOne scanned (slice_index t.second_level row) 0 first
+            → IsLeastFrom fllen sllen fl sl free (Some (record { fl = row; sl = first }))
         IsLeastFrom-row_behind in_rows fit {first} places =
             let one = rows.found (omega arith) in
             let (f, i, at) = range_of_row row one.1 in

@@ -1,5 +1,6 @@
 -- Whether some range of a list passes a test.
-use Rattle.std.proofs.Common.{◌≡◌, ◌⊎◌, Bool, true, false, cond, ◌||◌, true≢false, List, [], ◌∷◌, ◌++◌, Some, find, filter, refl, sym, ◌∙◌, ap, subst, inl, inr}
+use Rattle.std.proofs.Common.{◌≡◌, ◌⊎◌, Bool, true, false, cond, ◌||◌, true≢false, List, [], ◌∷◌, ◌++◌, Some, find, filter, refl, sym, ◌∙◌, ap}
+use Rattle.std.proofs.Common.{subst, inl, inr}
 use Rattle.std.specs.List.{list_any}
 use Rattle.rlsf_base.specs.declared.memory.range.Range.{Range}
 use Rattle.rlsf_machine.specs.Lists.{IsIn}
@@ -50,7 +51,8 @@ module _ (p : Range → Bool) where
   pub find-filtered : (xs : List Range) (f : Range) (fs : List Range) → filter p xs ≡ f ∷ fs → find p xs ≡ Some f
   find-filtered [] f fs h = absurd (cc)
   find-filtered (y ∷ ys) f fs h = by_test (p y)
-      (λ e. let first : y ∷ filter p ys ≡ f ∷ fs = sym (ap (λ b. cond b (y ∷ filter p ys) (filter p ys)) e) ∙ h in let same : y ≡ f = cc in ap (λ b. cond b (Some y) (find p ys)) e ∙ ap (λ x. Some x) same)
+      (λ e. let first : y ∷ filter p ys ≡ f ∷ fs = sym (ap (λ b. cond b (y ∷ filter p ys) (filter p ys)) e) ∙ h in let same : y ≡ f = cc in
+      ap (λ b. cond b (Some y) (find p ys)) e ∙ ap (λ x. Some x) same)
       (λ e. ap (λ b. cond b (Some y) (find p ys)) e ∙ find-filtered ys f fs (sym (ap (λ b. cond b (y ∷ filter p ys) (filter p ys)) e) ∙ h))
 
 -- ---- a range in the midst of others

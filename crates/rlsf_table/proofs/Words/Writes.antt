@@ -9,10 +9,21 @@ use Rattle.rlsf_table.specs.Rewrites.{IsLink, CanBeBlock, Rewrites}
 use Rattle.rlsf_machine.specs.Lists.{IsIn}
 
 pub Rewrites-refl : (m : Space) (at : ℕ → Type 0) → Rewrites m m at
-Rewrites-refl m at = record { start = refl; length = refl; none = λ is. is; own = λ a inside. refl; here = λ a inside is. is; kept = λ a inside apart. refl; words = λ a whole inside other. refl; bytes = λ r inside apart. refl }
+Rewrites-refl m at =
+    record {
+      start = refl;
+      length = refl;
+      none = λ is. is;
+      own = λ a inside. refl;
+      here = λ a inside is. is;
+      kept = λ a inside apart. refl;
+      words = λ a whole inside other. refl;
+      bytes = λ r inside apart. refl;
+    }
 
 -- one word was written
-pub Rewrites-word : (m n : Space) (addr word : ℕ) → IsWritable m addr → n.start ≡ m.start → n.bytes ≡ with_word m addr word → n.out ≡ out_with m (word_range addr) → Rewrites m n (λ a. a ≡ addr)
+pub Rewrites-word : (m n : Space) (addr word : ℕ) → IsWritable m addr → n.start ≡ m.start → n.bytes ≡ with_word m addr word → n.out ≡ out_with m (word_range addr)
+    → Rewrites m n (λ a. a ≡ addr)
 Rewrites-word m n addr word placed start bytes out = record {
   start = start;
   none = none-written m n addr word placed start bytes out;
@@ -50,7 +61,7 @@ Rewrites-trans {m} {n} h k =
       bytes = λ r inside apart. k.bytes r (omega arith) (λ a q. apart a (inr q)) ∙ h.bytes r inside (λ a p. apart a (inl p));
     }
 
--- a link stands 16 or 24 bytes into a block
+-- a link is 16 or 24 bytes into a block
 pub link_place : (free : List Range) → ((f : Range) → IsIn f free → f.start % 32 ≡ 0) → (a : ℕ) → IsLink free a → (a % 32 ≡ 16) ⊎ (a % 32 ≡ 24)
 link_place free whole a (f, i, inl at) = inl (omega (arith, whole f i))
 link_place free whole a (f, i, inr at) = inr (omega (arith, whole f i))
@@ -75,7 +86,8 @@ pub record Writes (m n : Space) (some : Type 0) (addr word : ℕ) : Type 0 where
   pub rewrites : Rewrites m n (λ a. some × (a ≡ addr))
   pub reads : some → word_at n addr ≡ word
 
-pub Writes-some : {m n : Space} {addr word : ℕ} (some : Type 0) → some → IsWritable m addr → word < 2 ^ 64 → n.start ≡ m.start → n.bytes ≡ with_word m addr word → n.out ≡ out_with m (word_range addr) → Writes m n some addr word
+pub Writes-some : {m n : Space} {addr word : ℕ} (some : Type 0) → some → IsWritable m addr → word < 2 ^ 64 → n.start ≡ m.start → n.bytes ≡ with_word m addr word
+    → n.out ≡ out_with m (word_range addr) → Writes m n some addr word
 Writes-some {m} {n} {addr} {word} some holds placed fits start bytes out = record {
   rewrites = Rewrites-weaken (λ a e. (holds, e)) (Rewrites-word m n addr word placed start bytes out);
   reads = λ s. word_at-same m n addr word placed start bytes out fits;
@@ -88,7 +100,14 @@ Writes-none m n some addr word same none =
 -- ---- placed blocks
 
 pub CanBeBlock-Rewrites : {m n : Space} {at : ℕ → Type 0} {f : Range} → Rewrites m n at → CanBeBlock m f → CanBeBlock n f
-CanBeBlock-Rewrites {m} {n} {f = f} h p = record { own = own-there m n f p.lies_in.0 h.own p.own; some = p.some; whole = p.whole; room = p.room; lies_in = (omega (arith, h.start, p.lies_in), omega (arith, h.start, h.length, p.lies_in)) }
+CanBeBlock-Rewrites {m} {n} {f = f} h p =
+    record {
+      own = own-there m n f p.lies_in.0 h.own p.own;
+      some = p.some;
+      whole = p.whole;
+      room = p.room;
+      lies_in = (omega (arith, h.start, p.lies_in), omega (arith, h.start, h.length, p.lies_in));
+    }
 
 -- the word at `block + i` of the block at `block`, in the memory or in another one of the same place and length; its address fits in a word
 module _ {m : Space} {f : Range} {block : ℕ} (i : ℕ) (within : i + 8 ≤ 32) (whole : i % 8 ≡ 0) (place : f.start ≡ block) (p : CanBeBlock m f) where
@@ -96,7 +115,8 @@ module _ {m : Space} {f : Range} {block : ℕ} (i : ℕ) (within : i + 8 ≤ 32)
   IsWritable-at n start same own = (
     omega (arith, p.whole),
     (omega (arith, p.lies_in), omega (arith, p.lies_in, p.room)),
-    own-there m n (word_range (block + i)) (omega (arith, place, p.lies_in)) own (own-inside m f (word_range (block + i)) (omega (arith, place)) (omega (arith, place, p.room)) p.own),
+    own-there m n (word_range (block + i)) (omega (arith, place, p.lies_in)) own
+        (own-inside m f (word_range (block + i)) (omega (arith, place)) (omega (arith, place, p.room)) p.own),
   )
 
   pub fits_at : m.start + length m.bytes < 2 ^ 64 → block + i < 2 ^ 64

@@ -22,7 +22,8 @@ wrote m n addr word written here same = written ∙ ap₂ (with_word m) here sam
 pub wrote_there : (m n : Space) (addr : ℕ) {at : ℕ} → n.out ≡ out_with m (word_range at) → at ≡ addr → n.out ≡ out_with m (word_range addr)
 wrote_there m n addr written same = written ∙ ap (λ a. out_with m (word_range a)) same
 
-pub write : {m n : Space} {addr word : ℕ} → IsWritable m addr → n.start ≡ m.start → n.bytes ≡ with_word m addr word → word < 2 ^ 64 → n.out ≡ out_with m (word_range addr) → IsWrite m n addr word
+pub write : {m n : Space} {addr word : ℕ} → IsWritable m addr → n.start ≡ m.start → n.bytes ≡ with_word m addr word → word < 2 ^ 64
+    → n.out ≡ out_with m (word_range addr) → IsWrite m n addr word
 write placed start bytes fits out = record { out = out; placed = placed; start = start; bytes = bytes; fits = fits }
 
 pub rewrites_of : {m n : Space} {addr word : ℕ} → IsWrite m n addr word → Rewrites m n (λ a. a ≡ addr)

@@ -15,9 +15,10 @@ pub record IsFreeList (m : Space) (head : ℕ) (free : List Range) : Type 0 wher
   pub sizes : (f : Range) → IsIn f free → word_at m f.start ≡ f.len
   pub addressable : m.start + length m.bytes < 2 ^ 64
 
--- this is true of each list of the blocks from `head` on, and of a range at the address which can be a block beside them
+-- this is true of each list of the blocks from `head` on, and of a range at the address that can be added to them
 abbrev pub AtEachFront : Space → ℕ → ℕ → (Range → List Range → Type 0) → Type 0
-AtEachFront m head block P = (r : Range) (free : List Range) → r.start ≡ block → IsFreeList m head free → CanBeBlock m r → ((a : ℕ) → coverage itself (r ∷ free) a ≤ 1) → P r free
+AtEachFront m head block P = (r : Range) (free : List Range) → r.start ≡ block → IsFreeList m head free → CanBeBlock m r
+    → ((a : ℕ) → coverage itself (r ∷ free) a ≤ 1) → P r free
 
 -- this is true of each list that has a block at the address: of where it begins, that block, those before it and those behind it
 abbrev pub AtEachPlace : Space → ℕ → (ℕ → Range → List Range → List Range → Type 0) → Type 0

@@ -7,17 +7,20 @@ use Rattle.rlsf_base.proofs.classes.pool_size_for_objects.Goals as goal
 
 pub returns-in_err-checked_add : goal.returns-in_err-checked_add
 returns-in_err-checked_add g c =
-    c.from_residual.ensures ∙ ap (option_and_then (objects_in g.row.FLLEN c.args.count)) (object_length-past g.row.FLLEN g.row.SLLEN c.args.size c.requires.parameters.power_of_two (omega (arith, c.in_err-checked_add.ensures)))
+    c.from_residual.ensures ∙ ap (option_and_then (objects_in g.row.FLLEN c.args.count))
+    (object_length-past g.row.FLLEN g.row.SLLEN c.args.size c.requires.parameters.power_of_two (omega (arith, c.in_err-checked_add.ensures)))
 
 pub returns-in_err-block : goal.returns-in_err-block
 returns-in_err-block g c =
     let sought : c.next_multiple_of-sought.result ≡ round32 (c.args.size + 16) = c.next_multiple_of-sought.ensures.value ∙ ap round32 (omega arith) in
-    c.from_residual-in_err-block.ensures ∙ ap (option_and_then (objects_in g.row.FLLEN c.args.count)) (c.in_err-block.ensures ∙ ap (map_ceil_and_unmap g.row.FLLEN g.row.SLLEN) sought)
+    c.from_residual-in_err-block.ensures
+    ∙ ap (option_and_then (objects_in g.row.FLLEN c.args.count)) (c.in_err-block.ensures ∙ ap (map_ceil_and_unmap g.row.FLLEN g.row.SLLEN) sought)
 
 pub overflow_sub-result : goal.overflow_sub-result
 overflow_sub-result g c =
     let sought : c.next_multiple_of-sought.result ≡ round32 (c.args.size + 16) = c.next_multiple_of-sought.ensures.value ∙ ap round32 (omega arith) in
-    let object : Some c.in_ok-block.block ≡ object_length g.row.FLLEN g.row.SLLEN c.args.size = c.in_ok-block.ensures ∙ ap (map_ceil_and_unmap g.row.FLLEN g.row.SLLEN) sought in
+    let object : Some c.in_ok-block.block ≡ object_length g.row.FLLEN g.row.SLLEN c.args.size =
+    c.in_ok-block.ensures ∙ ap (map_ceil_and_unmap g.row.FLLEN g.row.SLLEN) sought in
     omega (arith, object_length-enough g.row.FLLEN g.row.SLLEN c.args.size c.in_ok-block.block c.requires.parameters.power_of_two (sym object))
 
 pub returns : goal.returns

@@ -76,7 +76,11 @@ overflow_add-result g c =
 pub overflow_sub-result : goal.overflow_sub-result
 overflow_sub-result g c =
     let row = c.ilog2-row.ensures in
-    omega (arith, later c.args.size c.ilog2-row.result c.requires.size row.next_power_gt, (quotient g.row.SLLEN c.args.size c.ilog2-row.result c.requires.parameters row.power_le row.next_power_gt row.bound).0)
+    omega (
+      arith,
+      later c.args.size c.ilog2-row.result c.requires.size row.next_power_gt,
+      (quotient g.row.SLLEN c.args.size c.ilog2-row.result c.requires.parameters row.power_le row.next_power_gt row.bound).0,
+    )
 
 pub returns : goal.returns
 returns g c =

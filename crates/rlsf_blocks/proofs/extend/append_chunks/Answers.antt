@@ -25,8 +25,13 @@ returns-in-None-clause-step g c =
     let is = c.is_some.ensures in
     let true = c.if-is_some.true in
     let limited = some_most fllen (cc) in
-    let (t, step, stands, spare) = c.insert_chunks.ensures.step s v next.fresh in
-    (t, Appends-inserted fllen (2 ^ (5 + fllen)) s c.args.range (option_map non_zero_usize_get c.insert_chunks.result) 0 t limited (sym (ap (λ o. or_zero (option_map non_zero_usize_get o)) c.in-None.is)) step, stands, spare)
+    let (t, step, stands, spare) = c.insert_chunks.ensures.step s v next.fresh in (
+      t,
+      Appends-inserted fllen (2 ^ (5 + fllen)) s c.args.range (option_map non_zero_usize_get c.insert_chunks.result) 0 t limited
+          (sym (ap (λ o. or_zero (option_map non_zero_usize_get o)) c.in-None.is)) step,
+      stands,
+      spare,
+    )
 
 pub returns-then-len-eq0-clause-unchanged : goal.returns-then-len-eq0-clause-unchanged
 returns-then-len-eq0-clause-unchanged g c = λ none. refl
@@ -39,8 +44,13 @@ returns-in-Some-clause-step g c =
     let is = c.is_some.ensures in
     let true = c.if-is_some.true in
     let limited = some_most fllen (cc) in
-    let (t, step, stands, spare) = c.insert_chunks.ensures.step s v next.fresh in
-    (t, Appends-inserted fllen (2 ^ (5 + fllen)) s c.args.range (option_map non_zero_usize_get c.insert_chunks.result) c.get.result t limited (c.get.ensures.value ∙ sym (ap (λ o. or_zero (option_map non_zero_usize_get o)) c.in-Some.is)) step, stands, spare)
+    let (t, step, stands, spare) = c.insert_chunks.ensures.step s v next.fresh in (
+      t,
+      Appends-inserted fllen (2 ^ (5 + fllen)) s c.args.range (option_map non_zero_usize_get c.insert_chunks.result) c.get.result t limited
+          (c.get.ensures.value ∙ sym (ap (λ o. or_zero (option_map non_zero_usize_get o)) c.in-Some.is)) step,
+      stands,
+      spare,
+    )
 
 pub returns-in-Some-clause-unchanged : goal.returns-in-Some-clause-unchanged
 returns-in-Some-clause-unchanged g c = λ none. absurd (omega (arith, none, c.get.ensures.nonzero))

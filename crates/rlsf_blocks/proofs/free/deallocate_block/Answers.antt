@@ -11,7 +11,8 @@ use Rattle.rlsf_machine.specs.Join.{ends_at}
 use Rattle.rlsf_machine.specs.Lists.{without}
 use Rattle.rlsf_machine.specs.Release.{released}
 use Rattle.rlsf_blocks.proofs.Deallocate.Marks.{IsMarked-behind}
-use Rattle.rlsf_blocks.proofs.Deallocate.Releases.{before_at, behind_at, end_computed, gone, IsInnerRoom-union, released_stands, start_before, union_end, union_len, union_start, word_computed}
+use Rattle.rlsf_blocks.proofs.Deallocate.Releases.{before_at, behind_at, end_computed, gone, IsInnerRoom-union, released_stands, start_before, union_end, union_len, union_start}
+use Rattle.rlsf_blocks.proofs.Deallocate.Releases.{word_computed}
 use Rattle.rlsf_blocks.proofs.Machine.Counted.{KeepsSpare-counted_first, StandsFor-counted}
 use Rattle.rlsf_blocks.proofs.Words.Apart.{used_in_memory}
 use Rattle.rlsf_table.proofs.Costs.{Costs-loaded, Costs-then}
@@ -24,7 +25,13 @@ pub load_at-requires-clause-place : goal.load_at-requires-clause-place
 load_at-requires-clause-place g c =
     let (s, u, v, i, at, own) = c.requires.used in
     let place = used_in_memory v.well_formed u i in
-    is_word c.args.memory.now c.args.block (omega (arith, at, (v.well_formed.used u i).whole.start), (omega (arith, at, place.0), omega (arith, at, place.1)), own-word c.args.memory.now (between u.block.start u.payload) c.args.block (here_front v u i) (omega (arith, at)) (omega (arith, at, IsUsed-after_start u (v.well_formed.used u i)))) (subst (λ a. word_at c.args.memory.now a < 2 ^ 64) at (omega (arith, v.sizes.used u i, place.1, v.well_formed.addressable)))
+    is_word c.args.memory.now c.args.block (
+      omega (arith, at, (v.well_formed.used u i).whole.start),
+      (omega (arith, at, place.0), omega (arith, at, place.1)),
+      own-word c.args.memory.now (between u.block.start u.payload) c.args.block (here_front v u i) (omega (arith, at))
+          (omega (arith, at, IsUsed-after_start u (v.well_formed.used u i))),
+    )
+    (subst (λ a. word_at c.args.memory.now a < 2 ^ 64) at (omega (arith, v.sizes.used u i, place.1, v.well_formed.addressable)))
 
 pub used_end-end-requires-clause-used : goal.used_end-end-requires-clause-used
 used_end-end-requires-clause-used g c =
@@ -38,8 +45,13 @@ used_end-end-requires-clause-fits g c =
 
 pub take_previous-start-requires : goal.take_previous-start-requires
 take_previous-start-requires g c =
-    let (s, u, v, i, at, own) = c.requires.used in
-    (omega arith, (c.requires.parameters, ((s, u, StandsFor-counted c.args.memory.now c.load_at.new.self c.load_at.ensures.start c.load_at.ensures.bytes c.load_at.ensures.out v, i, at), search rules)))
+    let (s, u, v, i, at, own) = c.requires.used in (
+      omega arith,
+      (
+        c.requires.parameters,
+        ((s, u, StandsFor-counted c.args.memory.now c.load_at.new.self c.load_at.ensures.start c.load_at.ensures.bytes c.load_at.ensures.out v, i, at), search rules),
+      ),
+    )
 
 pub take_if_free-next-requires : goal.take_if_free-next-requires
 take_if_free-next-requires g c =
@@ -76,8 +88,22 @@ put-requires g c =
     let previous = c.take_previous-start.ensures.step s u v0 i at in
     let end = end_computed v u i at c.load_at.ensures.word ∙ sym c.used_end-end.ensures in
     let behind = behind_at v0 u i at end (c.take_if_free-next.ensures.step (without (ends_at c.args.block) s.free) previous.list (IsMarked-behind v0 u i at previous _ end)) in
-    let before = before_at v0 u i at previous in
-    (omega arith, (c.requires.parameters, ((untouched u.block s.free, union u.block s.free, union_start v0 u i before behind, omega (arith, end, union_len v0 u i before behind), IsInnerRoom-union v0 u i before behind (owned-same c.args.memory.now c.load_at.new.self (usable u) c.load_at.ensures.start c.load_at.ensures.out own)), search rules)))
+    let before = before_at v0 u i at previous in (
+      omega arith,
+      (
+        c.requires.parameters,
+        (
+          (
+            untouched u.block s.free,
+            union u.block s.free,
+            union_start v0 u i before behind,
+            omega (arith, end, union_len v0 u i before behind),
+            IsInnerRoom-union v0 u i before behind (owned-same c.args.memory.now c.load_at.new.self (usable u) c.load_at.ensures.start c.load_at.ensures.out own),
+          ),
+          search rules,
+        ),
+      ),
+    )
 
 pub returns-clause-step : goal.returns-clause-step
 returns-clause-step g c =
@@ -87,13 +113,21 @@ returns-clause-step g c =
     let end = end_computed v u i at c.load_at.ensures.word ∙ sym c.used_end-end.ensures in
     let behind = behind_at v0 u i at end (c.take_if_free-next.ensures.step (without (ends_at c.args.block) s.free) previous.list (IsMarked-behind v0 u i at previous _ end)) in
     let before = before_at v0 u i at previous in
-    let put = c.put.ensures.step (untouched u.block s.free) (union u.block s.free) (union_start v0 u i before behind) (omega (arith, end, union_len v0 u i before behind)) (IsInnerRoom-union v0 u i before behind (owned-same c.args.memory.now c.load_at.new.self (usable u) c.load_at.ensures.start c.load_at.ensures.out own)) in
-    let (stands, spare) = released_stands v0 u i before behind put (owned-same c.args.memory.now c.load_at.new.self (usable u) c.load_at.ensures.start c.load_at.ensures.out own) in
-    (stands, KeepsSpare-counted_first c.args.memory.now c.load_at.new.self c.load_at.ensures.start c.load_at.ensures.bytes c.load_at.ensures.out s (released s u) c.put.new.memory spare)
+    let put =
+    c.put.ensures.step (untouched u.block s.free) (union u.block s.free) (union_start v0 u i before behind) (omega (arith, end, union_len v0 u i before behind))
+    (IsInnerRoom-union v0 u i before behind (owned-same c.args.memory.now c.load_at.new.self (usable u) c.load_at.ensures.start c.load_at.ensures.out own)) in
+    let (stands, spare) =
+    released_stands v0 u i before behind put (owned-same c.args.memory.now c.load_at.new.self (usable u) c.load_at.ensures.start c.load_at.ensures.out own) in (
+      stands,
+      KeepsSpare-counted_first c.args.memory.now c.load_at.new.self c.load_at.ensures.start c.load_at.ensures.bytes c.load_at.ensures.out s (released s u) c.put.new.memory
+          spare,
+    )
 
 pub returns-clause-costs : goal.returns-clause-costs
 returns-clause-costs g c =
-    Costs-then (Costs-then (Costs-then (Costs-loaded c.args.memory.now c.load_at.new.self c.load_at.ensures.start c.load_at.ensures.bytes c.load_at.ensures.touches c.load_at.ensures.copied c.load_at.ensures.view c.load_at.ensures.out) c.take_previous-start.ensures.costs) c.take_if_free-next.ensures.costs) c.put.ensures.costs
+    Costs-then (Costs-then (Costs-then
+    (Costs-loaded c.args.memory.now c.load_at.new.self c.load_at.ensures.start c.load_at.ensures.bytes c.load_at.ensures.touches c.load_at.ensures.copied c.load_at.ensures.view
+    c.load_at.ensures.out) c.take_previous-start.ensures.costs) c.take_if_free-next.ensures.costs) c.put.ensures.costs
 
 -- no byte leaves, and none that is here becomes raw
 stays : (g : given.Over) (c : After-put g) → Stays c.args.memory.now c.put.new.memory
@@ -104,8 +138,11 @@ stays g c =
     let end = end_computed v u i at c.load_at.ensures.word ∙ sym c.used_end-end.ensures in
     let behind = behind_at v0 u i at end (c.take_if_free-next.ensures.step (without (ends_at c.args.block) s.free) previous.list (IsMarked-behind v0 u i at previous _ end)) in
     let before = before_at v0 u i at previous in
-    let put = c.put.ensures.step (untouched u.block s.free) (union u.block s.free) (union_start v0 u i before behind) (omega (arith, end, union_len v0 u i before behind)) (IsInnerRoom-union v0 u i before behind (owned-same c.args.memory.now c.load_at.new.self (usable u) c.load_at.ensures.start c.load_at.ensures.out own)) in
-    Stays-then (Stays-same c.args.memory.now c.load_at.new.self c.load_at.ensures.start c.load_at.ensures.out) (Stays-then (Stays-rewrites (gone v0 u i before behind)) (Stays-rewrites put.rewrites))
+    let put =
+    c.put.ensures.step (untouched u.block s.free) (union u.block s.free) (union_start v0 u i before behind) (omega (arith, end, union_len v0 u i before behind))
+    (IsInnerRoom-union v0 u i before behind (owned-same c.args.memory.now c.load_at.new.self (usable u) c.load_at.ensures.start c.load_at.ensures.out own)) in
+    Stays-then (Stays-same c.args.memory.now c.load_at.new.self c.load_at.ensures.start c.load_at.ensures.out)
+    (Stays-then (Stays-rewrites (gone v0 u i before behind)) (Stays-rewrites put.rewrites))
 
 pub returns-clause-own : goal.returns-clause-own
 returns-clause-own g c = (stays g (goal.at.returns-clause-own g c).After-put).own

@@ -15,7 +15,8 @@ unlink_free_block-requires g c =
 pub returns-else-is_free-clause-step : goal.returns-else-is_free-clause-step
 returns-else-is_free-clause-step g c =
     λ free list marked.
-    IsNextOut-none list marked c.load_at-size.new.self c.load_at-size.ensures.start c.load_at-size.ensures.bytes c.load_at-size.ensures.out c.load_at-size.ensures.word (odd_from c.load_at-size.result c.is_free.ensures c.if-is_free.false)
+    IsNextOut-none list marked c.load_at-size.new.self c.load_at-size.ensures.start c.load_at-size.ensures.bytes c.load_at-size.ensures.out c.load_at-size.ensures.word
+    (odd_from c.load_at-size.result c.is_free.ensures c.if-is_free.false)
 
 pub returns-then-is_free-clause-step : goal.returns-then-is_free-clause-step
 returns-then-is_free-clause-step g c =
@@ -26,7 +27,9 @@ returns-then-is_free-clause-step g c =
     let bytes = c.load_at-size.ensures.bytes in
     let out = c.load_at-size.ensures.out in
     let size = word_at-loaded m n start bytes out c.args.block c.load_at-size.result c.load_at-size.ensures.word in
-    IsNextOut-loaded m n start bytes out (IsNextOut-unlinked (IsFreeTable-counted m n start bytes out list) (IsMarked-loaded m n start bytes out marked) size (c.is_free.ensures.0 c.if-is_free.true) c.unlink_free_block.ensures.step)
+    IsNextOut-loaded m n start bytes out
+    (IsNextOut-unlinked (IsFreeTable-counted m n start bytes out list) (IsMarked-loaded m n start bytes out marked) size (c.is_free.ensures.0 c.if-is_free.true)
+    c.unlink_free_block.ensures.step)
 
 pub returns-then-is_free-clause-some : goal.returns-then-is_free-clause-some
 returns-then-is_free-clause-some g c =
@@ -36,8 +39,11 @@ returns-then-is_free-clause-some g c =
 
 pub returns-else-is_free-clause-costs : goal.returns-else-is_free-clause-costs
 returns-else-is_free-clause-costs g c =
-    Costs-within (omega arith) (Costs-loaded c.args.memory.now c.load_at-size.new.self c.load_at-size.ensures.start c.load_at-size.ensures.bytes c.load_at-size.ensures.touches c.load_at-size.ensures.copied c.load_at-size.ensures.view c.load_at-size.ensures.out)
+    Costs-within (omega arith)
+    (Costs-loaded c.args.memory.now c.load_at-size.new.self c.load_at-size.ensures.start c.load_at-size.ensures.bytes c.load_at-size.ensures.touches
+    c.load_at-size.ensures.copied c.load_at-size.ensures.view c.load_at-size.ensures.out)
 
 pub returns-then-is_free-clause-costs : goal.returns-then-is_free-clause-costs
 returns-then-is_free-clause-costs g c =
-    Costs-then (Costs-loaded c.args.memory.now c.load_at-size.new.self c.load_at-size.ensures.start c.load_at-size.ensures.bytes c.load_at-size.ensures.touches c.load_at-size.ensures.copied c.load_at-size.ensures.view c.load_at-size.ensures.out) c.unlink_free_block.ensures.costs
+    Costs-then (Costs-loaded c.args.memory.now c.load_at-size.new.self c.load_at-size.ensures.start c.load_at-size.ensures.bytes c.load_at-size.ensures.touches
+    c.load_at-size.ensures.copied c.load_at-size.ensures.view c.load_at-size.ensures.out) c.unlink_free_block.ensures.costs

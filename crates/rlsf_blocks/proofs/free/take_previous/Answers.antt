@@ -24,7 +24,12 @@ pub load_at-previous-requires-clause-place : goal.load_at-previous-requires-clau
 load_at-previous-requires-clause-place g c =
     let (s, u, v, i, at) = c.requires.used in
     let place = used_in_memory v.well_formed u i in
-    is_word c.args.memory.now (c.args.block + 8) (omega (arith, at, (v.well_formed.used u i).whole.start), (omega (arith, at, place.0), omega (arith, at, place.1)), own-word c.args.memory.now (between u.block.start u.payload) (c.args.block + 8) (here_front v u i) (omega (arith, at)) (omega (arith, at, IsUsed-after_start u (v.well_formed.used u i)))) (previous-fits v u i at refl)
+    is_word c.args.memory.now (c.args.block + 8) (
+      omega (arith, at, (v.well_formed.used u i).whole.start),
+      (omega (arith, at, place.0), omega (arith, at, place.1)),
+      own-word c.args.memory.now (between u.block.start u.payload) (c.args.block + 8) (here_front v u i) (omega (arith, at))
+          (omega (arith, at, IsUsed-after_start u (v.well_formed.used u i))),
+    ) (previous-fits v u i at refl)
 
 pub take_free-requires : goal.take_free-requires
 take_free-requires g c =
@@ -40,7 +45,8 @@ take_free-requires g c =
 pub returns-then-previous-eq0-clause-step : goal.returns-then-previous-eq0-clause-step
 returns-then-previous-eq0-clause-step g c =
     λ s u v i at.
-    IsPreviousOut-none v u i at c.load_at-previous.ensures.word c.load_at-previous.new.self c.load_at-previous.ensures.start c.load_at-previous.ensures.bytes c.load_at-previous.ensures.out c.if-previous-eq0.true
+    IsPreviousOut-none v u i at c.load_at-previous.ensures.word c.load_at-previous.new.self c.load_at-previous.ensures.start c.load_at-previous.ensures.bytes
+    c.load_at-previous.ensures.out c.if-previous-eq0.true
 
 pub returns-in-Some-clause-step : goal.returns-in-Some-clause-step
 returns-in-Some-clause-step g c =
@@ -72,12 +78,16 @@ returns-in-None-clause-step g c =
 
 pub returns-then-previous-eq0-clause-costs : goal.returns-then-previous-eq0-clause-costs
 returns-then-previous-eq0-clause-costs g c =
-    Costs-within (omega arith) (Costs-loaded c.args.memory.now c.load_at-previous.new.self c.load_at-previous.ensures.start c.load_at-previous.ensures.bytes c.load_at-previous.ensures.touches c.load_at-previous.ensures.copied c.load_at-previous.ensures.view c.load_at-previous.ensures.out)
+    Costs-within (omega arith)
+    (Costs-loaded c.args.memory.now c.load_at-previous.new.self c.load_at-previous.ensures.start c.load_at-previous.ensures.bytes c.load_at-previous.ensures.touches
+    c.load_at-previous.ensures.copied c.load_at-previous.ensures.view c.load_at-previous.ensures.out)
 
 pub returns-in-Some-clause-costs : goal.returns-in-Some-clause-costs
 returns-in-Some-clause-costs g c =
-    Costs-then (Costs-loaded c.args.memory.now c.load_at-previous.new.self c.load_at-previous.ensures.start c.load_at-previous.ensures.bytes c.load_at-previous.ensures.touches c.load_at-previous.ensures.copied c.load_at-previous.ensures.view c.load_at-previous.ensures.out) c.in-Some.ensures.costs
+    Costs-then (Costs-loaded c.args.memory.now c.load_at-previous.new.self c.load_at-previous.ensures.start c.load_at-previous.ensures.bytes c.load_at-previous.ensures.touches
+    c.load_at-previous.ensures.copied c.load_at-previous.ensures.view c.load_at-previous.ensures.out) c.in-Some.ensures.costs
 
 pub returns-in-None-clause-costs : goal.returns-in-None-clause-costs
 returns-in-None-clause-costs g c =
-    Costs-then (Costs-loaded c.args.memory.now c.load_at-previous.new.self c.load_at-previous.ensures.start c.load_at-previous.ensures.bytes c.load_at-previous.ensures.touches c.load_at-previous.ensures.copied c.load_at-previous.ensures.view c.load_at-previous.ensures.out) c.in-None.ensures.costs
+    Costs-then (Costs-loaded c.args.memory.now c.load_at-previous.new.self c.load_at-previous.ensures.start c.load_at-previous.ensures.bytes c.load_at-previous.ensures.touches
+    c.load_at-previous.ensures.copied c.load_at-previous.ensures.view c.load_at-previous.ensures.out) c.in-None.ensures.costs

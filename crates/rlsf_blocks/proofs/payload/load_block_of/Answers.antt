@@ -37,13 +37,17 @@ load-requires c =
 pub overflow_add-end : goal.overflow_add-end
 overflow_add-end c =
     let (fllen, sllen, v, s, same, stands, live) = c.requires in
-    let size = c.load.ensures.word ∙ word_at-counted c.args.memory.now c.load-named.new.self c.load-named.ensures.start c.load-named.ensures.bytes c.load-named.ensures.out c.load-named.result in
+    let size =
+    c.load.ensures.word ∙ word_at-counted c.args.memory.now c.load-named.new.self c.load-named.ensures.start c.load-named.ensures.bytes c.load-named.ensures.out
+    c.load-named.result in
     record { fits = omega (arith, fits_named (IsPayloadOf-holds live.0 same stands live.1) c.load-named.result c.load-named.ensures.word c.load.result c.if-named-eq0.false size) }
 
 pub returns-then-payload-end : goal.returns-then-payload-end
 returns-then-payload-end c = record {
   block = λ fllen sllen v s u same stands holds.
-      let size = c.load.ensures.word ∙ word_at-counted c.args.memory.now c.load-named.new.self c.load-named.ensures.start c.load-named.ensures.bytes c.load-named.ensures.out c.load-named.result in
+      let size =
+      c.load.ensures.word ∙ word_at-counted c.args.memory.now c.load-named.new.self c.load-named.ensures.start c.load-named.ensures.bytes c.load-named.ensures.out
+      c.load-named.result in
       begins_behind (IsPayloadOf-holds u same stands holds) c.load-named.result c.load-named.ensures.word c.load.result size c.if-payload-end.true;
   memory = search rules;
 }
@@ -51,7 +55,9 @@ returns-then-payload-end c = record {
 pub returns-else-payload-end : goal.returns-else-payload-end
 returns-else-payload-end c = record {
   block = λ fllen sllen v s u same stands holds.
-      let size = c.load.ensures.word ∙ word_at-counted c.args.memory.now c.load-named.new.self c.load-named.ensures.start c.load-named.ensures.bytes c.load-named.ensures.out c.load-named.result in
+      let size =
+      c.load.ensures.word ∙ word_at-counted c.args.memory.now c.load-named.new.self c.load-named.ensures.start c.load-named.ensures.bytes c.load-named.ensures.out
+      c.load-named.result in
       begins_there (IsPayloadOf-holds u same stands holds) c.load-named.result c.load-named.ensures.word c.load.result c.if-named-eq0.false size c.if-payload-end.false;
   memory = search rules;
 }

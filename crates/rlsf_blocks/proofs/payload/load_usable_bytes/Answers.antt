@@ -10,7 +10,8 @@ load-requires c =
     let is = IsPayloadOf-holds live.0 same stands live.1 in
     let begins = c.load_block_of-block.ensures.block fllen sllen v s live.0 same stands live.1 in
     let touched = c.load_block_of-block.ensures.memory in
-    IsReadable-loaded c.args.memory.now c.load_block_of-block.new.memory (ap (λ (m : Space). m.start) touched) (ap (λ (m : Space). m.bytes) touched) (ap (λ (m : Space). m.out) touched) (IsReadable-block is c.load_block_of-block.result begins)
+    IsReadable-loaded c.args.memory.now c.load_block_of-block.new.memory (ap (λ (m : Space). m.start) touched) (ap (λ (m : Space). m.bytes) touched)
+    (ap (λ (m : Space). m.out) touched) (IsReadable-block is c.load_block_of-block.result begins)
 
 pub used_end-end-requires-clause-used : goal.used_end-end-requires-clause-used
 used_end-end-requires-clause-used c =
@@ -40,6 +41,7 @@ pub returns : goal.returns
 returns c = record {
   range = λ fllen sllen v s u same stands holds.
       let size = c.load.ensures.word ∙ word_at-touched c.args.memory.now c.load_block_of-block.new.memory 2 c.load_block_of-block.ensures.memory c.load_block_of-block.result in
-      usable-sized (IsPayloadOf-holds u same stands holds) c.load_block_of-block.result (c.load_block_of-block.ensures.block fllen sllen v s u same stands holds) c.load.result size _ refl (ap (λ e. e - c.args.payload) c.used_end-end.ensures);
+      usable-sized (IsPayloadOf-holds u same stands holds) c.load_block_of-block.result (c.load_block_of-block.ensures.block fllen sllen v s u same stands holds) c.load.result size
+      _ refl (ap (λ e. e - c.args.payload) c.used_end-end.ensures);
   memory = search rules;
 }

@@ -30,4 +30,5 @@ overflow_sub-result c =
 
 pub returns : goal.returns
 returns c = λ fllen sllen v s u same stands holds.
-    usable-sized (IsPayloadOf-holds u same stands holds) c.block_of-block.result (c.block_of-block.ensures fllen sllen v s u same stands holds) c.word.result c.word.ensures _ refl (ap (λ e. e - c.args.payload) c.used_end-end.ensures)
+    usable-sized (IsPayloadOf-holds u same stands holds) c.block_of-block.result (c.block_of-block.ensures fllen sllen v s u same stands holds) c.word.result c.word.ensures _ refl
+    (ap (λ e. e - c.args.payload) c.used_end-end.ensures)

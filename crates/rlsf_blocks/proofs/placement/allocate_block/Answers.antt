@@ -20,10 +20,11 @@ use Rattle.rlsf_blocks.proofs.placement.allocate_block.Goals as goal
 use Rattle.rlsf_blocks.proofs.placement.allocate_block.Goals.{After-first_fit}
 
 -- what is computed for the layout is what is sought
-sought : (g : given.Over) (c : After-first_fit g) (s : State) {o : Option Range} → choice g.row.SLLEN c.request_size.result s.free ≡ o → choice g.row.SLLEN (request_size c.args.layout.size c.args.layout.align) s.free ≡ o
+sought : (g : given.Over) (c : After-first_fit g) (s : State) {o : Option Range} → choice g.row.SLLEN c.request_size.result s.free ≡ o
+    → choice g.row.SLLEN (request_size c.args.layout.size c.args.layout.align) s.free ≡ o
 sought g c s {o} = subst (λ n. choice g.row.SLLEN n s.free ≡ o) c.request_size.ensures.value
 
--- the memory in which the search was counted stands for the same states
+-- the memory in which the search was counted represents the same states
 searched : (g : given.Over) (c : After-first_fit g) {s : State} → StandsFor g.row.FLLEN g.row.SLLEN (contents c.args.memory.now c.args.table.now) s
     → StandsFor g.row.FLLEN g.row.SLLEN (contents c.first_fit.new.memory c.args.table.now) s
 searched g c v = StandsFor-counted c.args.memory.now c.first_fit.new.memory c.first_fit.ensures.counts.start c.first_fit.ensures.counts.bytes c.first_fit.ensures.counts.out v
@@ -61,7 +62,9 @@ place-requires g c =
     let (f, chosen, start, class) = c.in_ok-found.ensures.choice s.free (IsFreeTable-free v) in
     let counts = c.first_fit.ensures.counts in
     let own = (choice-some g.row.SLLEN c.request_size.result s.free f chosen).is_in in
-    let size = word_at-counted c.args.memory.now c.first_fit.new.memory counts.start counts.bytes counts.out c.in_ok-found.found.start ∙ ap (word_at c.args.memory.now) (sym start) ∙ (IsFreeTable-free v).sizes f own in
+    let size =
+    word_at-counted c.args.memory.now c.first_fit.new.memory counts.start counts.bytes counts.out c.in_ok-found.found.start ∙ ap (word_at c.args.memory.now) (sym start)
+    ∙ (IsFreeTable-free v).sizes f own in
     let at_class = subst (λ n. IsClassAt g.row.FLLEN g.row.SLLEN n c.in_ok-found.found.class.fl c.in_ok-found.found.class.sl) (sym size) class in
     (omega arith, (c.requires.parameters, (at_class, ((s, f, searched g at v, sought g at s chosen, start), search rules))))
 
@@ -76,11 +79,13 @@ returns-clause-step g c =
 
 pub returns-clause-own : goal.returns-clause-own
 returns-clause-own g c =
-    λ a inside. c.place.ensures.own a (omega (arith, c.first_fit.ensures.counts.start)) ∙ own-same c.args.memory.now c.first_fit.new.memory c.first_fit.ensures.counts.start c.first_fit.ensures.counts.out a inside
+    λ a inside. c.place.ensures.own a (omega (arith, c.first_fit.ensures.counts.start))
+    ∙ own-same c.args.memory.now c.first_fit.new.memory c.first_fit.ensures.counts.start c.first_fit.ensures.counts.out a inside
 
 pub returns-clause-here : goal.returns-clause-here
 returns-clause-here g c =
-    λ a inside was. c.place.ensures.here a (omega (arith, c.first_fit.ensures.counts.start)) (out-same c.args.memory.now c.first_fit.new.memory a c.first_fit.ensures.counts.start c.first_fit.ensures.counts.out ∙ was)
+    λ a inside was. c.place.ensures.here a (omega (arith, c.first_fit.ensures.counts.start))
+    (out-same c.args.memory.now c.first_fit.new.memory a c.first_fit.ensures.counts.start c.first_fit.ensures.counts.out ∙ was)
 
 pub returns-in_err-found-clause-costs : goal.returns-in_err-found-clause-costs
 returns-in_err-found-clause-costs g c =

@@ -12,7 +12,8 @@ use Rattle.rlsf_blocks.proofs.placement.leave_rest.Goals as goal
 use Rattle.rlsf_blocks.proofs.placement.leave_rest.Goals.{After-set_word_at-3}
 
 -- the three words of the rest are written
-written : (g : given.Over) (c : After-set_word_at-3 g) {free : List Range} (r : Range) → IsInnerRoom g.row.FLLEN g.row.SLLEN c.args.memory.now c.args.table.now free r → r.start ≡ c.args.block + c.args.taken → r.len + c.args.taken ≡ c.args.len
+written : (g : given.Over) (c : After-set_word_at-3 g) {free : List Range} (r : Range) → IsInnerRoom g.row.FLLEN g.row.SLLEN c.args.memory.now c.args.table.now free r
+    → r.start ≡ c.args.block + c.args.taken → r.len + c.args.taken ≡ c.args.len
     → AreLeft c.args.memory.now c.set_word_at.new.self c.set_word_at-2.new.self c.set_word_at-3.new.self c.args.block r
 written g c r room start len =
     let block = c.args.block in
@@ -20,7 +21,10 @@ written g c r room start len =
     let one = wrote c.args.memory.now c.set_word_at.new.self rest (c.args.len - c.args.taken) c.set_word_at.ensures.bytes (omega arith) (omega arith) in
     let two = wrote c.set_word_at.new.self c.set_word_at-2.new.self (rest + 8) block c.set_word_at-2.ensures.bytes (omega arith) (omega arith) in
     let three = wrote c.set_word_at-2.new.self c.set_word_at-3.new.self (block + c.args.len + 8) rest c.set_word_at-3.ensures.bytes (omega arith) (omega arith) in
-    AreLeft-from block c.args.len c.args.taken r room start len (omega arith) (c.set_word_at.ensures.start, one, wrote_there c.args.memory.now c.set_word_at.new.self rest c.set_word_at.ensures.out (omega arith)) (c.set_word_at-2.ensures.start, two, wrote_there c.set_word_at.new.self c.set_word_at-2.new.self (rest + 8) c.set_word_at-2.ensures.out (omega arith)) (c.set_word_at-3.ensures.start, three, wrote_there c.set_word_at-2.new.self c.set_word_at-3.new.self (block + c.args.len + 8) c.set_word_at-3.ensures.out (omega arith))
+    AreLeft-from block c.args.len c.args.taken r room start len (omega arith)
+    (c.set_word_at.ensures.start, one, wrote_there c.args.memory.now c.set_word_at.new.self rest c.set_word_at.ensures.out (omega arith))
+    (c.set_word_at-2.ensures.start, two, wrote_there c.set_word_at.new.self c.set_word_at-2.new.self (rest + 8) c.set_word_at-2.ensures.out (omega arith))
+    (c.set_word_at-3.ensures.start, three, wrote_there c.set_word_at-2.new.self c.set_word_at-3.new.self (block + c.args.len + 8) c.set_word_at-3.ensures.out (omega arith))
 
 pub set_word_at-requires-2-clause-place : goal.set_word_at-requires-2-clause-place
 set_word_at-requires-2-clause-place g c =
@@ -30,8 +34,11 @@ set_word_at-requires-2-clause-place g c =
     let inside = room.room.placed.lies_in in
     let whole = room.room.block.whole in
     let not_last = room.not_last in
-    let a = c.args.block + c.args.taken + 8 in
-    (omega arith, (omega (arith, c.set_word_at.ensures.start), omega (arith, c.set_word_at.ensures.start, c.set_word_at.ensures.len)), own-there m c.set_word_at.new.self (word_range a) (omega arith) c.set_word_at.ensures.own (own-word m r a room.room.placed.own (omega arith) (omega (arith, large))))
+    let a = c.args.block + c.args.taken + 8 in (
+      omega arith,
+      (omega (arith, c.set_word_at.ensures.start), omega (arith, c.set_word_at.ensures.start, c.set_word_at.ensures.len)),
+      own-there m c.set_word_at.new.self (word_range a) (omega arith) c.set_word_at.ensures.own (own-word m r a room.room.placed.own (omega arith) (omega (arith, large))),
+    )
 
 pub set_word_at-requires-3-clause-place : goal.set_word_at-requires-3-clause-place
 set_word_at-requires-3-clause-place g c =
@@ -44,8 +51,12 @@ set_word_at-requires-3-clause-place g c =
     let not_last = room.not_last in
     let a = c.args.block + c.args.len + 8 in (
       omega arith,
-      (omega (arith, c.set_word_at.ensures.start, c.set_word_at-2.ensures.start), omega (arith, c.set_word_at.ensures.start, c.set_word_at.ensures.len, c.set_word_at-2.ensures.start, c.set_word_at-2.ensures.len)),
-      own-there one c.set_word_at-2.new.self (word_range a) (omega (arith, c.set_word_at.ensures.start)) c.set_word_at-2.ensures.own (own-there m one (word_range a) (omega arith) c.set_word_at.ensures.own (own-word m (range_at (end_of r) 16) a room.behind (omega arith) (omega arith))),
+      (
+        omega (arith, c.set_word_at.ensures.start, c.set_word_at-2.ensures.start),
+        omega (arith, c.set_word_at.ensures.start, c.set_word_at.ensures.len, c.set_word_at-2.ensures.start, c.set_word_at-2.ensures.len),
+      ),
+      own-there one c.set_word_at-2.new.self (word_range a) (omega (arith, c.set_word_at.ensures.start)) c.set_word_at-2.ensures.own
+          (own-there m one (word_range a) (omega arith) c.set_word_at.ensures.own (own-word m (range_at (end_of r) 16) a room.behind (omega arith) (omega arith))),
     )
 
 pub link_free_block-requires : goal.link_free_block-requires
@@ -65,7 +76,13 @@ returns-clause-costs g c =
     let one = c.set_word_at in
     let two = c.set_word_at-2 in
     let three = c.set_word_at-3 in
-    let first = Costs-written c.args.memory.now one.new.self (c.args.block + c.args.taken) one.ensures.start one.ensures.len one.ensures.touches one.ensures.copied one.ensures.view one.ensures.out in
-    let second = Costs-written one.new.self two.new.self (c.args.block + c.args.taken + 8) two.ensures.start two.ensures.len two.ensures.touches two.ensures.copied two.ensures.view two.ensures.out in
-    let third = Costs-written two.new.self three.new.self (c.args.block + c.args.len + 8) three.ensures.start three.ensures.len three.ensures.touches three.ensures.copied three.ensures.view three.ensures.out in
+    let first =
+    Costs-written c.args.memory.now one.new.self (c.args.block + c.args.taken) one.ensures.start one.ensures.len one.ensures.touches one.ensures.copied one.ensures.view
+    one.ensures.out in
+    let second =
+    Costs-written one.new.self two.new.self (c.args.block + c.args.taken + 8) two.ensures.start two.ensures.len two.ensures.touches two.ensures.copied two.ensures.view
+    two.ensures.out in
+    let third =
+    Costs-written two.new.self three.new.self (c.args.block + c.args.len + 8) three.ensures.start three.ensures.len three.ensures.touches three.ensures.copied
+    three.ensures.view three.ensures.out in
     Costs-then (Costs-then (Costs-then first second) third) c.link_free_block.ensures.costs

@@ -18,7 +18,8 @@ use Rattle.rlsf_table.specs.Counts.{Costs}
 use Rattle.rlsf_table.specs.Table.{IsClassAt}
 use Rattle.rlsf_blocks.proofs.Words.Apart.{free_in_memory}
 use Rattle.rlsf_blocks.proofs.Machine.Counted.{KeepsSpare-counted_first, StandsFor-counted}
-use Rattle.rlsf_blocks.proofs.Allocate.Placements.{AreComputed, AreComputed-from, fitting, is_free, IsSized, IsSized-from, IsTaken-computed, IsWritable-block, IsWritable-pad, Places-sized}
+use Rattle.rlsf_blocks.proofs.Allocate.Placements.{AreComputed, AreComputed-from, fitting, is_free, IsSized, IsSized-from, IsTaken-computed, IsWritable-block, IsWritable-pad}
+use Rattle.rlsf_blocks.proofs.Allocate.Placements.{Places-sized}
 use Rattle.rlsf_machine.proofs.Allocations.{placed-fits}
 use Rattle.rlsf_table.proofs.Costs.{Costs-loaded, Costs-then, Costs-within, Costs-written}
 use Rattle.rlsf_blocks.proofs.placement.place.Given as given
@@ -32,7 +33,13 @@ load_at-len-requires-clause-place g c =
     let place = free_in_memory v.well_formed f (is_free v f layout.size layout.align layout.valid.aligned chosen) in
     let fit = fitting v f layout.size layout.align layout.valid.aligned chosen in
     let free = is_free v f layout.size layout.align layout.valid.aligned chosen in
-    is_word c.args.memory.now c.args.found.start (omega (arith, fit.whole), (omega (arith, place.0), omega (arith, place.1)), own-word c.args.memory.now f c.args.found.start (here_free v f free) (omega (arith, start)) (omega (arith, start, (v.well_formed.free f free).some, (v.well_formed.free f free).whole.len))) (subst (λ a. word_at c.args.memory.now a < 2 ^ 64) start (omega (arith, v.sizes.free f free, place.1, v.well_formed.addressable)))
+    is_word c.args.memory.now c.args.found.start (
+      omega (arith, fit.whole),
+      (omega (arith, place.0), omega (arith, place.1)),
+      own-word c.args.memory.now f c.args.found.start (here_free v f free) (omega (arith, start))
+          (omega (arith, start, (v.well_formed.free f free).some, (v.well_formed.free f free).whole.len)),
+    )
+    (subst (λ a. word_at c.args.memory.now a < 2 ^ 64) start (omega (arith, v.sizes.free f free, place.1, v.well_formed.addressable)))
 
 pub front-payload-requires-clause-whole : goal.front-payload-requires-clause-whole
 front-payload-requires-clause-whole g c =
@@ -46,7 +53,8 @@ front-payload-requires-clause-address g c =
     let layout = c.args.layout in
     let place = free_in_memory v.well_formed f (is_free v f layout.size layout.align layout.valid.aligned chosen) in
     let fit = fitting v f layout.size layout.align layout.valid.aligned chosen in
-    let below : payload_of f.start layout.align < 2 ^ 64 = omega (arith, fit.before_end, placed-fits v.well_formed f layout.size layout.align layout.valid.aligned chosen, place.1, v.well_formed.addressable) in
+    let below : payload_of f.start layout.align < 2 ^ 64 =
+    omega (arith, fit.before_end, placed-fits v.well_formed f layout.size layout.align layout.valid.aligned chosen, place.1, v.well_formed.addressable) in
     subst (λ b. payload_of b layout.align < 2 ^ 64) start below
 
 pub front-payload-requires-clause-length : goal.front-payload-requires-clause-length
@@ -54,10 +62,11 @@ front-payload-requires-clause-length g c =
     let (s, f, v, chosen, start) = c.requires.chosen in
     let layout = c.args.layout in
     let place = free_in_memory v.well_formed f (is_free v f layout.size layout.align layout.valid.aligned chosen) in
-    let below : block_length f.start (payload_of f.start layout.align) layout.size < 2 ^ 64 = omega (arith, placed-fits v.well_formed f layout.size layout.align layout.valid.aligned chosen, place.1, v.well_formed.addressable) in
+    let below : block_length f.start (payload_of f.start layout.align) layout.size < 2 ^ 64 =
+    omega (arith, placed-fits v.well_formed f layout.size layout.align layout.valid.aligned chosen, place.1, v.well_formed.addressable) in
     subst (λ b. block_length b (payload_of b layout.align) layout.size < 2 ^ 64) start below
 
--- the memory whose word was read stands for the same states
+-- the memory whose word was read represents the same states
 loaded : (g : given.Over) (c : After-load_at-len g) {s : State} → StandsFor g.row.FLLEN g.row.SLLEN (contents c.args.memory.now c.args.table.now) s
     → StandsFor g.row.FLLEN g.row.SLLEN (contents c.load_at-len.new.self c.args.table.now) s
 loaded g c v = StandsFor-counted c.args.memory.now c.load_at-len.new.self c.load_at-len.ensures.start c.load_at-len.ensures.bytes c.load_at-len.ensures.out v
@@ -65,18 +74,26 @@ loaded g c v = StandsFor-counted c.args.memory.now c.load_at-len.new.self c.load
 -- for each state and the choice in it, what is computed is as the definitions have it
 computed : (g : given.Over) (c : After-front-payload g) {s : State} (v : StandsFor g.row.FLLEN g.row.SLLEN (contents c.load_at-len.new.self c.args.table.now) s) (f : Range)
     (chosen : choice g.row.SLLEN (request_size c.args.layout.size c.args.layout.align) s.free ≡ Some f) → f.start ≡ c.args.found.start
-    → AreComputed v f c.args.layout.size c.args.layout.align c.args.layout.valid.aligned chosen c.args.found.start c.load_at-len.result c.front-payload.result.0 c.front-payload.result.1
+    → AreComputed v f c.args.layout.size c.args.layout.align c.args.layout.valid.aligned chosen c.args.found.start c.load_at-len.result c.front-payload.result.0
+    c.front-payload.result.1
 computed g c v f chosen start =
-    let word = c.load_at-len.ensures.word ∙ sym (word_at-counted c.args.memory.now c.load_at-len.new.self c.load_at-len.ensures.start c.load_at-len.ensures.bytes c.load_at-len.ensures.out c.args.found.start) in
-    AreComputed-from v f c.args.layout.size c.args.layout.align c.args.layout.valid.aligned chosen _ _ _ _ _ _ start word refl c.front-payload.ensures.payload refl c.front-payload.ensures.length
+    let word =
+    c.load_at-len.ensures.word
+    ∙ sym (word_at-counted c.args.memory.now c.load_at-len.new.self c.load_at-len.ensures.start c.load_at-len.ensures.bytes c.load_at-len.ensures.out
+    c.args.found.start) in
+    AreComputed-from v f c.args.layout.size c.args.layout.align c.args.layout.valid.aligned chosen _ _ _ _ _ _ start word refl c.front-payload.ensures.payload refl
+    c.front-payload.ensures.length
 
 -- and once the block is taken out, its size word is written
 sized : (g : given.Over) (c : After-set_word_at g) {s : State} {v : StandsFor g.row.FLLEN g.row.SLLEN (contents c.load_at-len.new.self c.args.table.now) s} {f : Range}
     {chosen : choice g.row.SLLEN (request_size c.args.layout.size c.args.layout.align) s.free ≡ Some f}
-    (are : AreComputed v f c.args.layout.size c.args.layout.align c.args.layout.valid.aligned chosen c.args.found.start c.load_at-len.result c.front-payload.result.0 c.front-payload.result.1)
+    (are : AreComputed v f c.args.layout.size c.args.layout.align c.args.layout.valid.aligned chosen c.args.found.start c.load_at-len.result c.front-payload.result.0
+    c.front-payload.result.1)
     → IsSized are c.take_out.new.memory c.set_word_at.new.self c.take_out.new.table
 sized g c {s} {v} {f} are =
-    IsSized-from are (c.take_out.ensures.step s f v (IsTaken-computed are)) c.set_word_at.ensures.start (wrote c.take_out.new.memory c.set_word_at.new.self c.args.found.start (c.front-payload.result.1 + 1) c.set_word_at.ensures.bytes (omega arith) (omega arith)) (omega arith) (wrote_there c.take_out.new.memory c.set_word_at.new.self c.args.found.start c.set_word_at.ensures.out (omega arith))
+    IsSized-from are (c.take_out.ensures.step s f v (IsTaken-computed are)) c.set_word_at.ensures.start
+    (wrote c.take_out.new.memory c.set_word_at.new.self c.args.found.start (c.front-payload.result.1 + 1) c.set_word_at.ensures.bytes (omega arith) (omega arith)) (omega arith)
+    (wrote_there c.take_out.new.memory c.set_word_at.new.self c.args.found.start c.set_word_at.ensures.out (omega arith))
 
 pub take_out-requires : goal.take_out-requires
 take_out-requires g c =
@@ -108,7 +125,8 @@ so_far g c =
     let read = c.load_at-len.ensures in
     let write = c.set_word_at.ensures in
     let loaded = Costs-loaded c.args.memory.now c.load_at-len.new.self read.start read.bytes read.touches read.copied read.view read.out in
-    Costs-then (Costs-then loaded c.take_out.ensures.costs) (Costs-written c.take_out.new.memory c.set_word_at.new.self c.args.found.start write.start write.len write.touches write.copied write.view write.out)
+    Costs-then (Costs-then loaded c.take_out.ensures.costs)
+    (Costs-written c.take_out.new.memory c.set_word_at.new.self c.args.found.start write.start write.len write.touches write.copied write.view write.out)
 
 pub returns-then-wide-clause-step : goal.returns-then-wide-clause-step
 returns-then-wide-clause-step g c =
@@ -118,8 +136,16 @@ returns-then-wide-clause-step g c =
     let is = sized g at.After-set_word_at are in
     let wide : 32 ≤ c.args.layout.align = omega arith in
     let (t, places, stands, spare) =
-    Places-sized are is (Writes-some (32 ≤ c.args.layout.align) wide (IsWritable-pad are is wide) (omega arith) c.set_word_at-then-wide.ensures.start (wrote c.set_word_at.new.self c.set_word_at-then-wide.new.self (c.front-payload.result.0 - 8) c.args.found.start c.set_word_at-then-wide.ensures.bytes (omega arith) (omega arith)) (wrote_there c.set_word_at.new.self c.set_word_at-then-wide.new.self (c.front-payload.result.0 - 8) c.set_word_at-then-wide.ensures.out (omega arith))) in
-    (t, places, stands, KeepsSpare-counted_first c.args.memory.now c.load_at-len.new.self c.load_at-len.ensures.start c.load_at-len.ensures.bytes c.load_at-len.ensures.out s t c.set_word_at-then-wide.new.self spare)
+    Places-sized are is (Writes-some (32 ≤ c.args.layout.align) wide (IsWritable-pad are is wide) (omega arith) c.set_word_at-then-wide.ensures.start
+    (wrote c.set_word_at.new.self c.set_word_at-then-wide.new.self (c.front-payload.result.0 - 8) c.args.found.start c.set_word_at-then-wide.ensures.bytes (omega arith)
+    (omega arith)) (wrote_there c.set_word_at.new.self c.set_word_at-then-wide.new.self (c.front-payload.result.0 - 8) c.set_word_at-then-wide.ensures.out
+    (omega arith))) in (
+      t,
+      places,
+      stands,
+      KeepsSpare-counted_first c.args.memory.now c.load_at-len.new.self c.load_at-len.ensures.start c.load_at-len.ensures.bytes c.load_at-len.ensures.out s t
+          c.set_word_at-then-wide.new.self spare,
+    )
 
 pub returns-then-wide-clause-own : goal.returns-then-wide-clause-own
 returns-then-wide-clause-own g c =
@@ -128,8 +154,15 @@ returns-then-wide-clause-own g c =
     let are = computed g at.After-front-payload (loaded g at.After-load_at-len v) f chosen start in
     let is = sized g at.After-set_word_at are in
     let wide : 32 ≤ c.args.layout.align = omega arith in
-    let padded : Writes c.set_word_at.new.self c.set_word_at-then-wide.new.self (32 ≤ c.args.layout.align) (c.front-payload.result.0 - 8) c.args.found.start = Writes-some (32 ≤ c.args.layout.align) wide (IsWritable-pad are is wide) (omega arith) c.set_word_at-then-wide.ensures.start (wrote c.set_word_at.new.self c.set_word_at-then-wide.new.self (c.front-payload.result.0 - 8) c.args.found.start c.set_word_at-then-wide.ensures.bytes (omega arith) (omega arith)) (wrote_there c.set_word_at.new.self c.set_word_at-then-wide.new.self (c.front-payload.result.0 - 8) c.set_word_at-then-wide.ensures.out (omega arith)) in
-    λ a inside. padded.rewrites.own a (omega (arith, is.sized.start, is.opened.rewrites.start, c.load_at-len.ensures.start)) ∙ (rewrites_of is.sized).own a (omega (arith, is.opened.rewrites.start, c.load_at-len.ensures.start)) ∙ is.opened.rewrites.own a (omega (arith, c.load_at-len.ensures.start)) ∙ own-same c.args.memory.now c.load_at-len.new.self c.load_at-len.ensures.start c.load_at-len.ensures.out a inside
+    let padded : Writes c.set_word_at.new.self c.set_word_at-then-wide.new.self (32 ≤ c.args.layout.align) (c.front-payload.result.0 - 8) c.args.found.start =
+    Writes-some (32 ≤ c.args.layout.align) wide (IsWritable-pad are is wide) (omega arith) c.set_word_at-then-wide.ensures.start
+    (wrote c.set_word_at.new.self c.set_word_at-then-wide.new.self (c.front-payload.result.0 - 8) c.args.found.start c.set_word_at-then-wide.ensures.bytes (omega arith)
+    (omega arith)) (wrote_there c.set_word_at.new.self c.set_word_at-then-wide.new.self (c.front-payload.result.0 - 8) c.set_word_at-then-wide.ensures.out
+    (omega arith)) in
+    λ a inside. padded.rewrites.own a (omega (arith, is.sized.start, is.opened.rewrites.start, c.load_at-len.ensures.start))
+    ∙ (rewrites_of is.sized).own a (omega (arith, is.opened.rewrites.start, c.load_at-len.ensures.start))
+    ∙ is.opened.rewrites.own a (omega (arith, c.load_at-len.ensures.start))
+    ∙ own-same c.args.memory.now c.load_at-len.new.self c.load_at-len.ensures.start c.load_at-len.ensures.out a inside
 
 pub returns-then-wide-clause-here : goal.returns-then-wide-clause-here
 returns-then-wide-clause-here g c =
@@ -138,8 +171,15 @@ returns-then-wide-clause-here g c =
     let are = computed g at.After-front-payload (loaded g at.After-load_at-len v) f chosen start in
     let is = sized g at.After-set_word_at are in
     let wide : 32 ≤ c.args.layout.align = omega arith in
-    let padded : Writes c.set_word_at.new.self c.set_word_at-then-wide.new.self (32 ≤ c.args.layout.align) (c.front-payload.result.0 - 8) c.args.found.start = Writes-some (32 ≤ c.args.layout.align) wide (IsWritable-pad are is wide) (omega arith) c.set_word_at-then-wide.ensures.start (wrote c.set_word_at.new.self c.set_word_at-then-wide.new.self (c.front-payload.result.0 - 8) c.args.found.start c.set_word_at-then-wide.ensures.bytes (omega arith) (omega arith)) (wrote_there c.set_word_at.new.self c.set_word_at-then-wide.new.self (c.front-payload.result.0 - 8) c.set_word_at-then-wide.ensures.out (omega arith)) in
-    λ a inside was. padded.rewrites.here a (omega (arith, is.sized.start, is.opened.rewrites.start, c.load_at-len.ensures.start)) ((rewrites_of is.sized).here a (omega (arith, is.opened.rewrites.start, c.load_at-len.ensures.start)) (is.opened.rewrites.here a (omega (arith, c.load_at-len.ensures.start)) (out-same c.args.memory.now c.load_at-len.new.self a c.load_at-len.ensures.start c.load_at-len.ensures.out ∙ was)))
+    let padded : Writes c.set_word_at.new.self c.set_word_at-then-wide.new.self (32 ≤ c.args.layout.align) (c.front-payload.result.0 - 8) c.args.found.start =
+    Writes-some (32 ≤ c.args.layout.align) wide (IsWritable-pad are is wide) (omega arith) c.set_word_at-then-wide.ensures.start
+    (wrote c.set_word_at.new.self c.set_word_at-then-wide.new.self (c.front-payload.result.0 - 8) c.args.found.start c.set_word_at-then-wide.ensures.bytes (omega arith)
+    (omega arith)) (wrote_there c.set_word_at.new.self c.set_word_at-then-wide.new.self (c.front-payload.result.0 - 8) c.set_word_at-then-wide.ensures.out
+    (omega arith)) in
+    λ a inside was. padded.rewrites.here a (omega (arith, is.sized.start, is.opened.rewrites.start, c.load_at-len.ensures.start))
+    ((rewrites_of is.sized).here a (omega (arith, is.opened.rewrites.start, c.load_at-len.ensures.start))
+    (is.opened.rewrites.here a (omega (arith, c.load_at-len.ensures.start))
+    (out-same c.args.memory.now c.load_at-len.new.self a c.load_at-len.ensures.start c.load_at-len.ensures.out ∙ was)))
 
 pub returns-else-wide-clause-step : goal.returns-else-wide-clause-step
 returns-else-wide-clause-step g c =
@@ -147,8 +187,15 @@ returns-else-wide-clause-step g c =
     let at = goal.at.returns-else-wide-clause-step g c in
     let are = computed g at.After-front-payload (loaded g at.After-load_at-len v) f chosen start in
     let narrow : ¬ (32 ≤ c.args.layout.align) = λ wide. omega arith in
-    let (t, places, stands, spare) = Places-sized are (sized g at.After-set_word_at are) (Writes-none c.set_word_at.new.self c.set_word_at.new.self (32 ≤ c.args.layout.align) (c.front-payload.result.0 - 8) c.args.found.start refl narrow) in
-    (t, places, stands, KeepsSpare-counted_first c.args.memory.now c.load_at-len.new.self c.load_at-len.ensures.start c.load_at-len.ensures.bytes c.load_at-len.ensures.out s t c.set_word_at.new.self spare)
+    let (t, places, stands, spare) =
+    Places-sized are (sized g at.After-set_word_at are)
+    (Writes-none c.set_word_at.new.self c.set_word_at.new.self (32 ≤ c.args.layout.align) (c.front-payload.result.0 - 8) c.args.found.start refl narrow) in (
+      t,
+      places,
+      stands,
+      KeepsSpare-counted_first c.args.memory.now c.load_at-len.new.self c.load_at-len.ensures.start c.load_at-len.ensures.bytes c.load_at-len.ensures.out s t
+          c.set_word_at.new.self spare,
+    )
 
 pub returns-else-wide-clause-own : goal.returns-else-wide-clause-own
 returns-else-wide-clause-own g c =
@@ -156,7 +203,9 @@ returns-else-wide-clause-own g c =
     let at = goal.at.returns-else-wide-clause-own g c in
     let are = computed g at.After-front-payload (loaded g at.After-load_at-len v) f chosen start in
     let is = sized g at.After-set_word_at are in
-    λ a inside. (rewrites_of is.sized).own a (omega (arith, is.opened.rewrites.start, c.load_at-len.ensures.start)) ∙ is.opened.rewrites.own a (omega (arith, c.load_at-len.ensures.start)) ∙ own-same c.args.memory.now c.load_at-len.new.self c.load_at-len.ensures.start c.load_at-len.ensures.out a inside
+    λ a inside. (rewrites_of is.sized).own a (omega (arith, is.opened.rewrites.start, c.load_at-len.ensures.start))
+    ∙ is.opened.rewrites.own a (omega (arith, c.load_at-len.ensures.start))
+    ∙ own-same c.args.memory.now c.load_at-len.new.self c.load_at-len.ensures.start c.load_at-len.ensures.out a inside
 
 pub returns-else-wide-clause-here : goal.returns-else-wide-clause-here
 returns-else-wide-clause-here g c =
@@ -164,12 +213,15 @@ returns-else-wide-clause-here g c =
     let at = goal.at.returns-else-wide-clause-here g c in
     let are = computed g at.After-front-payload (loaded g at.After-load_at-len v) f chosen start in
     let is = sized g at.After-set_word_at are in
-    λ a inside was. (rewrites_of is.sized).here a (omega (arith, is.opened.rewrites.start, c.load_at-len.ensures.start)) (is.opened.rewrites.here a (omega (arith, c.load_at-len.ensures.start)) (out-same c.args.memory.now c.load_at-len.new.self a c.load_at-len.ensures.start c.load_at-len.ensures.out ∙ was))
+    λ a inside was. (rewrites_of is.sized).here a (omega (arith, is.opened.rewrites.start, c.load_at-len.ensures.start))
+    (is.opened.rewrites.here a (omega (arith, c.load_at-len.ensures.start))
+    (out-same c.args.memory.now c.load_at-len.new.self a c.load_at-len.ensures.start c.load_at-len.ensures.out ∙ was))
 
 pub returns-then-wide-clause-costs : goal.returns-then-wide-clause-costs
 returns-then-wide-clause-costs g c =
     let write = c.set_word_at-then-wide.ensures in
-    Costs-then (so_far g (goal.at.returns-then-wide-clause-costs g c).After-set_word_at) (Costs-written c.set_word_at.new.self c.set_word_at-then-wide.new.self (c.front-payload.result.0 - 8) write.start write.len write.touches write.copied write.view write.out)
+    Costs-then (so_far g (goal.at.returns-then-wide-clause-costs g c).After-set_word_at)
+    (Costs-written c.set_word_at.new.self c.set_word_at-then-wide.new.self (c.front-payload.result.0 - 8) write.start write.len write.touches write.copied write.view write.out)
 
 pub returns-else-wide-clause-costs : goal.returns-else-wide-clause-costs
 returns-else-wide-clause-costs g c = Costs-within (omega arith) (so_far g (goal.at.returns-else-wide-clause-costs g c).After-set_word_at)

@@ -8,7 +8,8 @@ use Rattle.rlsf_table.proofs.Costs.{Costs-then, Costs-within}
 use Rattle.rlsf_blocks.proofs.placement.take_out.Goals as goal
 
 -- the free block has the class at the indices of its length
-at_class : {fllen sllen : ℕ} {s : State} {f : Range} {block len taken fl sl : ℕ} → IsClassAt fllen sllen len fl sl → IsTaken sllen s f block len taken → IsClassAt fllen sllen f.len fl sl
+at_class : {fllen sllen : ℕ} {s : State} {f : Range} {block len taken fl sl : ℕ} → IsClassAt fllen sllen len fl sl → IsTaken sllen s f block len taken
+    → IsClassAt fllen sllen f.len fl sl
 at_class {fllen} {sllen} {fl = fl} {sl = sl} at take = subst (λ n. IsClassAt fllen sllen n fl sl) (sym take.length) at
 
 pub unlink_newest_block-requires : goal.unlink_newest_block-requires
@@ -19,8 +20,16 @@ unlink_newest_block-requires g c =
 pub leave_rest-requires : goal.leave_rest-requires
 leave_rest-requires g c =
     let (s, f, v, take) = c.requires.taken in
-    let unlinked = c.unlink_newest_block.ensures.step f (ahead v take) (later v take) take.start (is_newest v take (at_class c.requires.class take)) (split_list v take) in
-    (omega arith, (c.requires.parameters, ((ahead v take ++ later v take, rest v take, refl, omega (arith, take.start, take.length, take.fits), IsInnerRoom-rest v take unlinked (omega (arith, take.fits))), search rules)))
+    let unlinked = c.unlink_newest_block.ensures.step f (ahead v take) (later v take) take.start (is_newest v take (at_class c.requires.class take)) (split_list v take) in (
+      omega arith,
+      (
+        c.requires.parameters,
+        (
+          (ahead v take ++ later v take, rest v take, refl, omega (arith, take.start, take.length, take.fits), IsInnerRoom-rest v take unlinked (omega (arith, take.fits))),
+          search rules,
+        ),
+      ),
+    )
 
 pub returns-then-longer-clause-step : goal.returns-then-longer-clause-step
 returns-then-longer-clause-step g c =

@@ -13,7 +13,8 @@ use Rattle.rlsf_blocks.proofs.pool.add_chunk.Goals as goal
 use Rattle.rlsf_blocks.proofs.pool.add_chunk.Goals.{After-set_word-4}
 
 -- the four words of the chunk are written
-written : (g : given.Over) (c : After-set_word-4 g) {s : State} → StandsFor g.row.FLLEN g.row.SLLEN (contents c.args.memory.now c.args.table.now) s → IsNewChunk g.row.FLLEN g.row.SLLEN c.args.memory.now s c.args.chunk
+written : (g : given.Over) (c : After-set_word-4 g) {s : State} → StandsFor g.row.FLLEN g.row.SLLEN (contents c.args.memory.now c.args.table.now) s
+    → IsNewChunk g.row.FLLEN g.row.SLLEN c.args.memory.now s c.args.chunk
     → AreWrites c.args.memory.now c.set_word.new.self c.set_word-2.new.self c.set_word-3.new.self c.set_word-4.new.self c.args.chunk
 written g c v new =
     let start = c.args.chunk.start in
@@ -22,7 +23,11 @@ written g c v new =
     let one = wrote c.args.memory.now c.set_word.new.self start len c.set_word.ensures.bytes (omega arith) (omega arith) in
     let three = wrote c.set_word-2.new.self c.set_word-3.new.self sentinel 35 {put = 35} c.set_word-3.ensures.bytes (omega arith) (omega arith) in
     let four = wrote c.set_word-3.new.self c.set_word-4.new.self (sentinel + 8) start c.set_word-4.ensures.bytes (omega arith) (omega arith) in
-    AreWrites-from c.args.chunk len sentinel new v.well_formed.addressable refl refl (c.set_word.ensures.start, one, wrote_there c.args.memory.now c.set_word.new.self start c.set_word.ensures.out (omega arith)) (c.set_word-2.ensures.start, c.set_word-2.ensures.bytes, c.set_word-2.ensures.out) (c.set_word-3.ensures.start, three, wrote_there c.set_word-2.new.self c.set_word-3.new.self sentinel c.set_word-3.ensures.out (omega arith)) (c.set_word-4.ensures.start, four, wrote_there c.set_word-3.new.self c.set_word-4.new.self (sentinel + 8) c.set_word-4.ensures.out (omega arith))
+    AreWrites-from c.args.chunk len sentinel new v.well_formed.addressable refl refl
+    (c.set_word.ensures.start, one, wrote_there c.args.memory.now c.set_word.new.self start c.set_word.ensures.out (omega arith))
+    (c.set_word-2.ensures.start, c.set_word-2.ensures.bytes, c.set_word-2.ensures.out)
+    (c.set_word-3.ensures.start, three, wrote_there c.set_word-2.new.self c.set_word-3.new.self sentinel c.set_word-3.ensures.out (omega arith))
+    (c.set_word-4.ensures.start, four, wrote_there c.set_word-3.new.self c.set_word-4.new.self (sentinel + 8) c.set_word-4.ensures.out (omega arith))
 
 pub set_word-requires-2 : goal.set_word-requires-2
 set_word-requires-2 g c =
@@ -31,8 +36,12 @@ set_word-requires-2 g c =
     let lies = new.lies_in in
     let room = new.room in
     let whole = new.whole in
-    let a = chunk.start + 8 in
-    (omega arith, (omega (arith, c.set_word.ensures.start, c.set_word.ensures.len), omega (arith, c.set_word.ensures.start, c.set_word.ensures.len)), own-there c.args.memory.now c.set_word.new.self (word_range a) (omega arith) c.set_word.ensures.own (own-word c.args.memory.now chunk a new.own (omega arith) (omega arith)))
+    let a = chunk.start + 8 in (
+      omega arith,
+      (omega (arith, c.set_word.ensures.start, c.set_word.ensures.len), omega (arith, c.set_word.ensures.start, c.set_word.ensures.len)),
+      own-there c.args.memory.now c.set_word.new.self (word_range a) (omega arith) c.set_word.ensures.own
+          (own-word c.args.memory.now chunk a new.own (omega arith) (omega arith)),
+    )
 
 pub set_word-requires-3 : goal.set_word-requires-3
 set_word-requires-3 g c =
@@ -41,8 +50,16 @@ set_word-requires-3 g c =
     let lies = new.lies_in in
     let room = new.room in
     let whole = new.whole in
-    let a = chunk.start + (chunk.len - 32) in
-    (omega arith, (omega (arith, c.set_word.ensures.start, c.set_word.ensures.len, c.set_word-2.ensures.start, c.set_word-2.ensures.len), omega (arith, c.set_word.ensures.start, c.set_word.ensures.len, c.set_word-2.ensures.start, c.set_word-2.ensures.len)), own-there c.set_word.new.self c.set_word-2.new.self (word_range a) (omega (arith, c.set_word.ensures.start)) c.set_word-2.ensures.own (own-there c.args.memory.now c.set_word.new.self (word_range a) (omega arith) c.set_word.ensures.own (own-word c.args.memory.now chunk a new.own (omega arith) (omega arith))))
+    let a = chunk.start + (chunk.len - 32) in (
+      omega arith,
+      (
+        omega (arith, c.set_word.ensures.start, c.set_word.ensures.len, c.set_word-2.ensures.start, c.set_word-2.ensures.len),
+        omega (arith, c.set_word.ensures.start, c.set_word.ensures.len, c.set_word-2.ensures.start, c.set_word-2.ensures.len),
+      ),
+      own-there c.set_word.new.self c.set_word-2.new.self (word_range a) (omega (arith, c.set_word.ensures.start)) c.set_word-2.ensures.own
+          (own-there c.args.memory.now c.set_word.new.self (word_range a) (omega arith) c.set_word.ensures.own
+          (own-word c.args.memory.now chunk a new.own (omega arith) (omega arith))),
+    )
 
 pub set_word-requires-4 : goal.set_word-requires-4
 set_word-requires-4 g c =
@@ -51,8 +68,33 @@ set_word-requires-4 g c =
     let lies = new.lies_in in
     let room = new.room in
     let whole = new.whole in
-    let a = chunk.start + (chunk.len - 32) + 8 in
-    (omega arith, (omega (arith, c.set_word.ensures.start, c.set_word.ensures.len, c.set_word-2.ensures.start, c.set_word-2.ensures.len, c.set_word-3.ensures.start, c.set_word-3.ensures.len), omega (arith, c.set_word.ensures.start, c.set_word.ensures.len, c.set_word-2.ensures.start, c.set_word-2.ensures.len, c.set_word-3.ensures.start, c.set_word-3.ensures.len)), own-there c.set_word-2.new.self c.set_word-3.new.self (word_range a) (omega (arith, c.set_word.ensures.start, c.set_word-2.ensures.start)) c.set_word-3.ensures.own (own-there c.set_word.new.self c.set_word-2.new.self (word_range a) (omega (arith, c.set_word.ensures.start)) c.set_word-2.ensures.own (own-there c.args.memory.now c.set_word.new.self (word_range a) (omega arith) c.set_word.ensures.own (own-word c.args.memory.now chunk a new.own (omega arith) (omega arith)))))
+    let a = chunk.start + (chunk.len - 32) + 8 in (
+      omega arith,
+      (
+        omega (
+          arith,
+          c.set_word.ensures.start,
+          c.set_word.ensures.len,
+          c.set_word-2.ensures.start,
+          c.set_word-2.ensures.len,
+          c.set_word-3.ensures.start,
+          c.set_word-3.ensures.len,
+        ),
+        omega (
+          arith,
+          c.set_word.ensures.start,
+          c.set_word.ensures.len,
+          c.set_word-2.ensures.start,
+          c.set_word-2.ensures.len,
+          c.set_word-3.ensures.start,
+          c.set_word-3.ensures.len,
+        ),
+      ),
+      own-there c.set_word-2.new.self c.set_word-3.new.self (word_range a) (omega (arith, c.set_word.ensures.start, c.set_word-2.ensures.start)) c.set_word-3.ensures.own
+          (own-there c.set_word.new.self c.set_word-2.new.self (word_range a) (omega (arith, c.set_word.ensures.start)) c.set_word-2.ensures.own
+          (own-there c.args.memory.now c.set_word.new.self (word_range a) (omega arith) c.set_word.ensures.own
+          (own-word c.args.memory.now chunk a new.own (omega arith) (omega arith)))),
+    )
 
 pub link_free_block-requires : goal.link_free_block-requires
 link_free_block-requires g c =
@@ -74,8 +116,15 @@ returns-clause-costs g c =
     let two = c.set_word-2 in
     let three = c.set_word-3 in
     let four = c.set_word-4 in
-    let first = Costs-written c.args.memory.now one.new.self c.args.chunk.start one.ensures.start one.ensures.len one.ensures.touches one.ensures.copied one.ensures.view one.ensures.out in
-    let second = Costs-written one.new.self two.new.self (c.args.chunk.start + 8) two.ensures.start two.ensures.len two.ensures.touches two.ensures.copied two.ensures.view two.ensures.out in
-    let third = Costs-written two.new.self three.new.self (c.args.chunk.start + (c.args.chunk.len - 32)) three.ensures.start three.ensures.len three.ensures.touches three.ensures.copied three.ensures.view three.ensures.out in
-    let fourth = Costs-written three.new.self four.new.self (c.args.chunk.start + (c.args.chunk.len - 32) + 8) four.ensures.start four.ensures.len four.ensures.touches four.ensures.copied four.ensures.view four.ensures.out in
+    let first =
+    Costs-written c.args.memory.now one.new.self c.args.chunk.start one.ensures.start one.ensures.len one.ensures.touches one.ensures.copied one.ensures.view one.ensures.out in
+    let second =
+    Costs-written one.new.self two.new.self (c.args.chunk.start + 8) two.ensures.start two.ensures.len two.ensures.touches two.ensures.copied two.ensures.view
+    two.ensures.out in
+    let third =
+    Costs-written two.new.self three.new.self (c.args.chunk.start + (c.args.chunk.len - 32)) three.ensures.start three.ensures.len three.ensures.touches three.ensures.copied
+    three.ensures.view three.ensures.out in
+    let fourth =
+    Costs-written three.new.self four.new.self (c.args.chunk.start + (c.args.chunk.len - 32) + 8) four.ensures.start four.ensures.len four.ensures.touches four.ensures.copied
+    four.ensures.view four.ensures.out in
     Costs-then (Costs-then (Costs-then (Costs-then first second) third) fourth) c.link_free_block.ensures.costs

@@ -9,8 +9,11 @@ use Rattle.rlsf_blocks.proofs.removal.remove_chunks.Goals as goal
 
 pub loop-start-init : goal.loop-start-init
 loop-start-init g c = λ s v row idle.
-    let span = c.span-start.ensures g.row.FLLEN g.row.SLLEN c.args.memory.now c.args.table.now s v row in
-    (span, IsRemovedTo-start v (between c.span-start.result.0 c.span-start.result.1) (IsRow-span v (walked c.args.range) _ _ span row) (IsIdle-span v (walked c.args.range) _ _ span idle))
+    let span = c.span-start.ensures g.row.FLLEN g.row.SLLEN c.args.memory.now c.args.table.now s v row in (
+      span,
+      IsRemovedTo-start v (between c.span-start.result.0 c.span-start.result.1) (IsRow-span v (walked c.args.range) _ _ span row)
+          (IsIdle-span v (walked c.args.range) _ _ span idle),
+    )
 
 pub remove_chunk-start-requires : goal.remove_chunk-start-requires
 remove_chunk-start-requires g c =
@@ -42,7 +45,8 @@ loop-start-preserved g c = λ s v row idle.
     let idles = IsIdle-span v (walked c.args.range) _ _ span idle in
     let q = between c.span-start.result.0 c.span-start.result.1 in
     let more : c.loop-start.start < end_of q = omega (arith, c.loop-start-test.true, span.within) in
-    let step = c.remove_chunk-start.ensures.step (removed (between q.start c.loop-start.start) s) (chunk v q rowed idles is more) is.stands (IsIdleChunk-next v q rowed idles is more) in
+    let step =
+    c.remove_chunk-start.ensures.step (removed (between q.start c.loop-start.start) s) (chunk v q rowed idles is more) is.stands (IsIdleChunk-next v q rowed idles is more) in
     (span, IsRemovedTo-next v q rowed idles is more step c.remove_chunk-start.ensures.costs)
 
 pub returns : goal.returns

@@ -11,7 +11,8 @@ use Rattle.rlsf_blocks.proofs.walks.chunk_end.Given as goal
 abbrev pub invariant-loop-word : goal.invariant-loop-word
 invariant-loop-word l =
     (l.word ≡ word_at l.memory l.block)
-    × ((fllen sllen : ℕ) (t : Table) (s : State) (c : Range) → StandsFor fllen sllen (contents l.memory t) s → IsIn c s.chunks → c.start ≡ l.fn.start → IsInChunk s c l.block)
+    × ((fllen sllen : ℕ) (t : Table) (s : State) (c : Range) → StandsFor fllen sllen (contents l.memory t) s → IsIn c s.chunks → c.start ≡ l.fn.start
+    → IsInChunk s c l.block)
 
 abbrev pub decreases-loop-word : goal.decreases-loop-word
 decreases-loop-word l = 2 ^ 64 - l.block

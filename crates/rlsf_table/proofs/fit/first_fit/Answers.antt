@@ -12,7 +12,9 @@ returns-in_err-fl g c = record {
   choice = λ free is.
       let some = row_length-bounds g.row.SLLEN c.requires.parameters.power_of_two in
       let none = choice-past_rows g.row.FLLEN g.row.SLLEN c.args.size some.0 c.requires.size free is.blocks (sym c.map_ceil.ensures ∙ c.in_err-fl.was) in
-      subst (λ o. MatchOption o (choice g.row.SLLEN c.args.size free ≡ None) (λ found. (f : Range) × (choice g.row.SLLEN c.args.size free ≡ Some f) × (f.start ≡ found.start) × IsClassAt g.row.FLLEN g.row.SLLEN f.len found.class.fl found.class.sl)) (sym c.from_residual.ensures) none;
+      subst (λ o. MatchOption o (choice g.row.SLLEN c.args.size free ≡ None)
+      (λ found. (f : Range) × (choice g.row.SLLEN c.args.size free ≡ Some f) × (f.start ≡ found.start)
+      × IsClassAt g.row.FLLEN g.row.SLLEN f.len found.class.fl found.class.sl)) (sym c.from_residual.ensures) none;
   counts = search rules;
 }
 
@@ -27,8 +29,12 @@ returns-in_err-class g c = record {
   choice = λ free is.
       let some = row_length-bounds g.row.SLLEN c.requires.parameters.power_of_two in
       let at = IsReaching-map_ceil g.row.FLLEN g.row.SLLEN c.args.size some.0 c.requires.size (c.in_ok-fl.fl, c.in_ok-fl.sl) (sym c.map_ceil.ensures ∙ c.in_ok-fl.was) in
-      let none = choice-none_from g.row.FLLEN g.row.SLLEN c.args.size some.0 c.requires.size free is.blocks (c.in_ok-fl.fl, c.in_ok-fl.sl) at (c.in_err-class.ensures.first free is.table.bits is.blocks) in
-      subst (λ o. MatchOption o (choice g.row.SLLEN c.args.size free ≡ None) (λ found. (f : Range) × (choice g.row.SLLEN c.args.size free ≡ Some f) × (f.start ≡ found.start) × IsClassAt g.row.FLLEN g.row.SLLEN f.len found.class.fl found.class.sl)) (sym c.from_residual-in_err-class.ensures) none;
+      let none =
+      choice-none_from g.row.FLLEN g.row.SLLEN c.args.size some.0 c.requires.size free is.blocks (c.in_ok-fl.fl, c.in_ok-fl.sl) at
+      (c.in_err-class.ensures.first free is.table.bits is.blocks) in
+      subst (λ o. MatchOption o (choice g.row.SLLEN c.args.size free ≡ None)
+      (λ found. (f : Range) × (choice g.row.SLLEN c.args.size free ≡ Some f) × (f.start ≡ found.start)
+      × IsClassAt g.row.FLLEN g.row.SLLEN f.len found.class.fl found.class.sl)) (sym c.from_residual-in_err-class.ensures) none;
   counts = search rules;
 }
 

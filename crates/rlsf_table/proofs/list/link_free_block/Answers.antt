@@ -51,7 +51,8 @@ returns-clause-step g c =
     let bits = c.put.ensures.bits r free at.class beside.list.table.bits in
     let counts = c.put.ensures.counts in (
       HasTable-counted o c.put.new.memory counts.start counts.bytes counts.out (HasTable-front fl sl kept at c.args.block place c.put.ensures.heads bits linked rewrites),
-      Rewrites-counted_first m n read.start read.bytes read.out (Rewrites-counted_last o c.put.new.memory counts.start counts.bytes counts.out (Rewrites-front_class fl sl kept at rewrites)),
+      Rewrites-counted_first m n read.start read.bytes read.out
+          (Rewrites-counted_last o c.put.new.memory counts.start counts.bytes counts.out (Rewrites-front_class fl sl kept at rewrites)),
     )
 
 pub returns-clause-costs : goal.returns-clause-costs

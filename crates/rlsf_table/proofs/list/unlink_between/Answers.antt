@@ -34,10 +34,12 @@ reads c =
       bytes = bytes;
       out = c.load_at-previous.ensures.out ∙ c.load_at-next.ensures.out;
       is_next = c.load_at-next.ensures.word ∙ sym (word_at-counted m two start bytes (c.load_at-previous.ensures.out ∙ c.load_at-next.ensures.out) (c.args.block + 16));
-      is_previous = c.load_at-previous.ensures.word ∙ sym (word_at-counted one two c.load_at-previous.ensures.start c.load_at-previous.ensures.bytes c.load_at-previous.ensures.out (c.args.block + 24));
+      is_previous =
+          c.load_at-previous.ensures.word
+          ∙ sym (word_at-counted one two c.load_at-previous.ensures.start c.load_at-previous.ensures.bytes c.load_at-previous.ensures.out (c.args.block + 24));
     }
 
--- the list as it stands then
+-- the list as it is then
 list_of : {m n : Space} {block next previous newest : ℕ} {free : List Range} → IsRead m n block next previous → IsFreeList m newest free → IsFreeList n newest free
 list_of {m} {n} is list = IsFreeList-counted m n is.start is.bytes is.out list
 
@@ -47,26 +49,34 @@ so_far c =
     let m = c.args.memory.now in
     let one = c.load_at-next in
     let two = c.load_at-previous in
-    let reads : Costs m two.new.self 2 0 = Costs-then (Costs-loaded m one.new.self one.ensures.start one.ensures.bytes one.ensures.touches one.ensures.copied one.ensures.view one.ensures.out) (Costs-loaded one.new.self two.new.self two.ensures.start two.ensures.bytes two.ensures.touches two.ensures.copied two.ensures.view two.ensures.out) in
+    let reads : Costs m two.new.self 2 0 =
+    Costs-then (Costs-loaded m one.new.self one.ensures.start one.ensures.bytes one.ensures.touches one.ensures.copied one.ensures.view one.ensures.out)
+    (Costs-loaded one.new.self two.new.self two.ensures.start two.ensures.bytes two.ensures.touches two.ensures.copied two.ensures.view two.ensures.out) in
     elim c.if-next-ne0.branch [
       | then-next-ne0 w ↦
-          let write = Costs-written two.new.self w.set_word_at.new.self (c.load_at-next.result + 24) w.set_word_at.ensures.start w.set_word_at.ensures.len w.set_word_at.ensures.touches w.set_word_at.ensures.copied w.set_word_at.ensures.view w.set_word_at.ensures.out in
+          let write =
+          Costs-written two.new.self w.set_word_at.new.self (c.load_at-next.result + 24) w.set_word_at.ensures.start w.set_word_at.ensures.len w.set_word_at.ensures.touches
+          w.set_word_at.ensures.copied w.set_word_at.ensures.view w.set_word_at.ensures.out in
           Costs-within (behind_touches c.load_at-next.result w.if-next-ne0.true) (Costs-then (Costs-then reads write) (Costs-same _ _ w.memory-is))
       | else-next-ne0 w ↦ Costs-within (least_touches c.load_at-next.result) (Costs-then reads (Costs-same _ _ w.memory-is))
     ]
 
 pub overflow_add-block : goal.overflow_add-block
-overflow_add-block c = record { fits = fits_at 16 (omega arith) refl c.requires.listed.3 (c.requires.listed.5.placed c.requires.listed.0 c.requires.listed.4) c.requires.listed.5.addressable }
+overflow_add-block c =
+    record { fits = fits_at 16 (omega arith) refl c.requires.listed.3 (c.requires.listed.5.placed c.requires.listed.0 c.requires.listed.4) c.requires.listed.5.addressable }
 
 pub load_at-next-requires-clause-place : goal.load_at-next-requires-clause-place
 load_at-next-requires-clause-place c = next_word c.requires.listed.0 c.requires.listed.4 c.requires.listed.5 c.requires.listed.3
 
 pub overflow_add-block-2 : goal.overflow_add-block-2
-overflow_add-block-2 c = record { fits = fits_at 24 (omega arith) refl c.requires.listed.3 (c.requires.listed.5.placed c.requires.listed.0 c.requires.listed.4) c.requires.listed.5.addressable }
+overflow_add-block-2 c =
+    record { fits = fits_at 24 (omega arith) refl c.requires.listed.3 (c.requires.listed.5.placed c.requires.listed.0 c.requires.listed.4) c.requires.listed.5.addressable }
 
 pub load_at-previous-requires-clause-place : goal.load_at-previous-requires-clause-place
 load_at-previous-requires-clause-place c =
-    previous_word c.requires.listed.0 c.requires.listed.4 (IsFreeList-counted c.args.memory.now c.load_at-next.new.self c.load_at-next.ensures.start c.load_at-next.ensures.bytes c.load_at-next.ensures.out c.requires.listed.5) c.requires.listed.3
+    previous_word c.requires.listed.0 c.requires.listed.4
+    (IsFreeList-counted c.args.memory.now c.load_at-next.new.self c.load_at-next.ensures.start c.load_at-next.ensures.bytes c.load_at-next.ensures.out c.requires.listed.5)
+    c.requires.listed.3
 
 pub overflow_add-next : goal.overflow_add-next
 overflow_add-next c =
@@ -95,7 +105,8 @@ set_word_at-requires-else-previous-eq0-clause-place c =
     let list = list_of is c.requires.listed.5 in
     let found = previous_placed c.requires.listed.0 c.requires.listed.3 c.requires.listed.4 list is.is_previous c.if-previous-eq0.false in
     let back : Writes n c.if-next-ne0.memory (c.load_at-next.result ≢ 0) (c.load_at-next.result + 24) c.load_at-previous.result = elim c.if-next-ne0.branch [
-      | then-next-ne0 w ↦ Writes-back c.requires.listed.0 c.requires.listed.3 c.requires.listed.4 list c.if-next-ne0.memory w.set_word_at.new.self is.is_next w.if-next-ne0.true c.load_at-previous.type_inv w.memory-is w.set_word_at.ensures.start w.set_word_at.ensures.bytes w.set_word_at.ensures.out
+      | then-next-ne0 w ↦ Writes-back c.requires.listed.0 c.requires.listed.3 c.requires.listed.4 list c.if-next-ne0.memory w.set_word_at.new.self is.is_next w.if-next-ne0.true
+          c.load_at-previous.type_inv w.memory-is w.set_word_at.ensures.start w.set_word_at.ensures.bytes w.set_word_at.ensures.out
       | else-next-ne0 w ↦ Writes-none _ _ _ _ _ w.memory-is (λ some. some w.if-next-ne0.false)
     ] in
     IsWritable-at 16 (omega arith) refl found.1 found.2 c.if-next-ne0.memory back.rewrites.start back.rewrites.length back.rewrites.own
@@ -110,7 +121,8 @@ returns-then-previous-eq0-clause-step c =
     let is = reads (goal.at.returns-then-previous-eq0-clause-step c).After-load_at-previous in
     let list = list_of is listed in
     let back : Writes m n (next ≢ 0) (next + 24) previous = elim c.if-next-ne0.branch [
-      | then-next-ne0 w ↦ Writes-back r place (IsIn-append_right r before (r ∷ after) (inl refl)) list n w.set_word_at.new.self is.is_next w.if-next-ne0.true c.load_at-previous.type_inv w.memory-is w.set_word_at.ensures.start w.set_word_at.ensures.bytes w.set_word_at.ensures.out
+      | then-next-ne0 w ↦ Writes-back r place (IsIn-append_right r before (r ∷ after) (inl refl)) list n w.set_word_at.new.self is.is_next w.if-next-ne0.true
+          c.load_at-previous.type_inv w.memory-is w.set_word_at.ensures.start w.set_word_at.ensures.bytes w.set_word_at.ensures.out
       | else-next-ne0 w ↦ Writes-none _ _ _ _ _ w.memory-is (λ some. some w.if-next-ne0.false)
     ] in
     let cuts : Cuts m n next previous = record {
@@ -119,7 +131,8 @@ returns-then-previous-eq0-clause-step c =
       forth = Writes-none n n (previous ≢ 0) (previous + 16) next refl (λ some. some c.if-previous-eq0.true);
     } in (
       Links-out m n newest c.args.block next previous r before after place list is.is_next is.is_previous cuts next (λ none. refl) (λ some. absurd (some c.if-previous-eq0.true)),
-      Rewrites-counted_first c.args.memory.now m is.start is.bytes is.out (Rewrites-out m n newest c.args.block next previous r before after place list is.is_next is.is_previous cuts),
+      Rewrites-counted_first c.args.memory.now m is.start is.bytes is.out
+          (Rewrites-out m n newest c.args.block next previous r before after place list is.is_next is.is_previous cuts),
     )
 
 pub returns-else-previous-eq0-clause-step : goal.returns-else-previous-eq0-clause-step
@@ -133,16 +146,21 @@ returns-else-previous-eq0-clause-step c =
     let list = list_of is listed in
     let there = IsIn-append_right r before (r ∷ after) (inl refl) in
     let back : Writes m c.if-next-ne0.memory (next ≢ 0) (next + 24) previous = elim c.if-next-ne0.branch [
-      | then-next-ne0 w ↦ Writes-back r place there list c.if-next-ne0.memory w.set_word_at.new.self is.is_next w.if-next-ne0.true c.load_at-previous.type_inv w.memory-is w.set_word_at.ensures.start w.set_word_at.ensures.bytes w.set_word_at.ensures.out
+      | then-next-ne0 w ↦ Writes-back r place there list c.if-next-ne0.memory w.set_word_at.new.self is.is_next w.if-next-ne0.true c.load_at-previous.type_inv w.memory-is
+          w.set_word_at.ensures.start w.set_word_at.ensures.bytes w.set_word_at.ensures.out
       | else-next-ne0 w ↦ Writes-none _ _ _ _ _ w.memory-is (λ some. some w.if-next-ne0.false)
     ] in
     let cuts : Cuts m n next previous = record {
       one = c.if-next-ne0.memory;
       back = back;
-      forth = Writes-forth r place there list c.if-next-ne0.memory n is.is_previous c.if-previous-eq0.false c.load_at-next.type_inv back c.set_word_at-else-previous-eq0.ensures.start c.set_word_at-else-previous-eq0.ensures.bytes c.set_word_at-else-previous-eq0.ensures.out;
+      forth =
+          Writes-forth r place there list c.if-next-ne0.memory n is.is_previous c.if-previous-eq0.false c.load_at-next.type_inv back c.set_word_at-else-previous-eq0.ensures.start
+          c.set_word_at-else-previous-eq0.ensures.bytes c.set_word_at-else-previous-eq0.ensures.out;
     } in (
-      Links-out m n newest c.args.block next previous r before after place list is.is_next is.is_previous cuts newest (λ none. absurd (c.if-previous-eq0.false none)) (λ some. refl),
-      Rewrites-counted_first c.args.memory.now m is.start is.bytes is.out (Rewrites-out m n newest c.args.block next previous r before after place list is.is_next is.is_previous cuts),
+      Links-out m n newest c.args.block next previous r before after place list is.is_next is.is_previous cuts newest (λ none. absurd (c.if-previous-eq0.false none))
+          (λ some. refl),
+      Rewrites-counted_first c.args.memory.now m is.start is.bytes is.out
+          (Rewrites-out m n newest c.args.block next previous r before after place list is.is_next is.is_previous cuts),
     )
 
 pub returns-then-previous-eq0-clause-costs : goal.returns-then-previous-eq0-clause-costs
@@ -151,4 +169,7 @@ returns-then-previous-eq0-clause-costs c = so_far (goal.at.returns-then-previous
 pub returns-else-previous-eq0-clause-costs : goal.returns-else-previous-eq0-clause-costs
 returns-else-previous-eq0-clause-costs c =
     let last = c.set_word_at-else-previous-eq0 in
-    Costs-within (between_touches c.load_at-next.result) (Costs-then (so_far (goal.at.returns-else-previous-eq0-clause-costs c).Joined-next-ne0) (Costs-written c.if-next-ne0.memory last.new.self (c.load_at-previous.result + 16) last.ensures.start last.ensures.len last.ensures.touches last.ensures.copied last.ensures.view last.ensures.out))
+    Costs-within (between_touches c.load_at-next.result)
+    (Costs-then (so_far (goal.at.returns-else-previous-eq0-clause-costs c).Joined-next-ne0)
+    (Costs-written c.if-next-ne0.memory last.new.self (c.load_at-previous.result + 16) last.ensures.start last.ensures.len last.ensures.touches last.ensures.copied
+    last.ensures.view last.ensures.out))

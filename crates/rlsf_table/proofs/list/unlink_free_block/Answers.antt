@@ -15,8 +15,14 @@ pub unlink_between-newest-requires-clause-listed : goal.unlink_between-newest-re
 unlink_between-newest-requires-clause-listed g c =
     let sllen = g.row.SLLEN in
     let (r, free, place, len, i, list) = c.requires.listed in
-    let (fl, sl, at) = indices_of c.requires.parameters (list.blocks r i) in
-    (r, of_class sllen fl sl free, head_at c.args.table.now fl sl, place, IsIn-of_class_from sllen fl sl r free i (has_class-from sllen (class_at fl sl) r at.class), IsFreeList-of_class list fl sl at.row at.place)
+    let (fl, sl, at) = indices_of c.requires.parameters (list.blocks r i) in (
+      r,
+      of_class sllen fl sl free,
+      head_at c.args.table.now fl sl,
+      place,
+      IsIn-of_class_from sllen fl sl r free i (has_class-from sllen (class_at fl sl) r at.class),
+      IsFreeList-of_class list fl sl at.row at.place,
+    )
 
 pub class_of-fl-requires-clause-size : goal.class_of-fl-requires-clause-size
 class_of-fl-requires-clause-size g c =
@@ -52,7 +58,8 @@ returns-in-Some-clause-step g c =
     let next = c.in-Some.next in
     let block = list.blocks r (IsIn-append_right r before (r ∷ after) (inl refl)) in
     let at = IsClassAt-told c.requires.parameters block c.args.len c.class_of-fl.result len c.class_of-fl.ensures in
-    let (linked, rewrites) = c.in-Some.ensures.step (head_at c.args.table.now fl sl) r (of_class sllen fl sl before) (of_class sllen fl sl after) place (IsFreeList-amid before r after fl sl list at) in
+    let (linked, rewrites) =
+    c.in-Some.ensures.step (head_at c.args.table.now fl sl) r (of_class sllen fl sl before) (of_class sllen fl sl after) place (IsFreeList-amid before r after fl sl list at) in
     let is_head = IsHeadOf-removal before r after fl sl list at next linked rewrites in
     let bits = c.take.ensures.bits r before after at.class is_head list.table.bits in
     let counts = c.take.ensures.counts in (

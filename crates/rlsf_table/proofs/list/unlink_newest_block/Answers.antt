@@ -14,7 +14,8 @@ use Rattle.rlsf_table.proofs.FreeLists.Touches.{front_touches}
 use Rattle.rlsf_table.proofs.list.unlink_newest_block.Goals as goal
 
 -- the list of the class begins with the block
-list_from : {fllen sllen : ℕ} {m : Space} {t : Table} (r : Range) (before after : List Range) {fl sl : ℕ} → IsNewestAt fllen sllen r before fl sl → IsFreeTable fllen sllen m t (before ++ (r ∷ after))
+list_from : {fllen sllen : ℕ} {m : Space} {t : Table} (r : Range) (before after : List Range) {fl sl : ℕ} → IsNewestAt fllen sllen r before fl sl
+    → IsFreeTable fllen sllen m t (before ++ (r ∷ after))
     → IsFreeList m (head_at t fl sl) (r ∷ of_class sllen fl sl after)
 list_from {fllen} {sllen} {m} {t} r before after {fl} {sl} newest list =
     subst (λ l. IsFreeList m (head_at t fl sl) (l ++ (r ∷ of_class sllen fl sl after))) newest.first (IsFreeList-amid before r after fl sl list newest.at)
@@ -34,7 +35,8 @@ returns-clause-step g c =
     let sl = c.args.class.sl in
     let next = c.unlink_front-next.result in
     let (joined, rewritten) = c.unlink_front-next.ensures.step (head_at c.args.table.now fl sl) r (of_class sllen fl sl after) place (list_from r before after newest list) in
-    let linked : Links n 0 (of_class sllen fl sl before ++ of_class sllen fl sl after) next = subst (λ l. Links n 0 (l ++ of_class sllen fl sl after) next) (sym newest.first) joined in
+    let linked : Links n 0 (of_class sllen fl sl before ++ of_class sllen fl sl after) next =
+    subst (λ l. Links n 0 (l ++ of_class sllen fl sl after) next) (sym newest.first) joined in
     let rewrites : Rewrites c.args.memory.now n (IsLink (of_class sllen fl sl before ++ (r ∷ of_class sllen fl sl after))) =
     subst (λ l. Rewrites c.args.memory.now n (IsLink (l ++ (r ∷ of_class sllen fl sl after)))) (sym newest.first) rewritten in
     let is_head = IsHeadOf-removal before r after fl sl list newest.at next linked rewrites in

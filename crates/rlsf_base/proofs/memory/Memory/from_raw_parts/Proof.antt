@@ -46,23 +46,28 @@ pub from_raw_parts_spec : {M : Type 1} → statement M
 from_raw_parts_spec 𝓤 𝓛 𝓜 𝓡 wired =
     let c = f.clauses 𝓛 𝓜.mem 𝓡.returns in let W = walk_of 𝓛 f.ended stayed c in
     let goes = Goes-dropped 𝓛 0 (plain (λ _. usize)) yes (λ κs x w. refl) in
-    proved 𝓛 f.ended stayed c 𝓜 𝓡 (Goes-dropped 𝓛 0 (plain (λ _. Heap)) yes (λ κs x w. refl), (Goes-dropped 𝓛 0 (plain (λ _. RawPtr)) yes (λ κs x w. refl), (goes, (goes, tt))))
+    proved 𝓛 f.ended stayed c 𝓜 𝓡
+    (Goes-dropped 𝓛 0 (plain (λ _. Heap)) yes (λ κs x w. refl), (Goes-dropped 𝓛 0 (plain (λ _. RawPtr)) yes (λ κs x w. refl), (goes, (goes, tt))))
     f.Key.name code.function (code.unfolded 𝓤 𝓛.H 𝓜 𝓡 wired)
-    (λ κs. ((λ _. heap_val ∷ []), (rawptr_vals, (uint_vals w64, (uint_vals w64, tt))))) (λ κs. (heap_Tells, (rawptr_Tells, (uint_Tells w64, (uint_Tells w64, tt))))) (λ κs qs bounds a bytes are.
+    (λ κs. ((λ _. heap_val ∷ []), (rawptr_vals, (uint_vals w64, (uint_vals w64, tt))))) (λ κs. (heap_Tells, (rawptr_Tells, (uint_Tells w64, (uint_Tells w64, tt)))))
+    (λ κs qs bounds a bytes are.
     let h = a.0 in let p = a.1.0 in let start = a.1.1.0 in let len = a.1.1.1.0 in
     let y : W.Ghost = ((κs, qs, bounds, a, (heap_val ∷ [], (rawptr_vals p, (uint_vals w64 start, (uint_vals w64 len, tt))))), bytes) in
     let Asked : Type 0 = (length bytes ≡ len) × CanStart start len in
     qed 𝓛 ((‵ ftrue ⊛ ‵ (owns (Heap ∷ RawPtr ∷ usize ∷ usize ∷ []) a y.0.4)) ∷ (‵ (bytes_at p start bytes) ⊛ raw (fact 𝓤 Asked)) ∷ []) ∵
     move ! (1 ∷ []) $ split ! $ move ! (1 ∷ []) $ heard ! Asked (λ asked. move ! (1 ∷ []) $ split ! $ drop ! $ fsplit ! $ keep ! (0 ∷ 2 ∷ []) $
     -- [the heap's handle; the bytes]
-    enter ! _ _ _ _ _ $ alloc_all ! (λ l. pass_all ! refl ((tt, ((tt, tt), tt)), (((rawptr_Lawful 𝓛).typed p _ refl).0, ((tt, record { fits = are.1.1.0.1 }), ((tt, record { fits = are.1.1.1.0.1 }), tt)))) $
+    enter ! _ _ _ _ _ $ alloc_all !
+    (λ l. pass_all ! refl ((tt, ((tt, tt), tt)), (((rawptr_Lawful 𝓛).typed p _ refl).0, ((tt, record { fits = are.1.1.0.1 }), ((tt, record { fits = are.1.1.1.0.1 }), tt)))) $
     let G = triple_of 𝓛 g.signature (g.spec 𝓛 𝓜.mem 𝓡.returns) in
     let z : G.Ghost = ((tt, tt, tt, (p, (start, tt)), (rawptr_vals p, (uint_vals w64 start, tt))), bytes) in
-    move ! (1 ∷ []) $ nothing ! $ owned ! usize _ (uint_Makes 𝓛 w64) start _ (refl, are.1.1.0.1) $ join ! $ owned ! RawPtr _ (rawptr_Makes 𝓛) p _ refl $ join ! $ nothing ! $ join ! $ join ! $ use1 𝓛 (raw (G.pre z)) (id⊢ 𝓤 _) $
+    move ! (1 ∷ []) $ nothing ! $ owned ! usize _ (uint_Makes 𝓛 w64) start _ (refl, are.1.1.0.1) $ join ! $ owned ! RawPtr _ (rawptr_Makes 𝓛) p _ refl $ join ! $ nothing !
+    $ join ! $ join ! $ use1 𝓛 (raw (G.pre z)) (id⊢ 𝓤 _) $
     calls_at ! (framed 𝓤 𝓛.H 𝓜 (tables 𝓤 𝓛.H 𝓜 𝓡 𝓡.env)) G (adopt_met 𝓤 𝓛 𝓜 𝓡 (code.calls-rlsf_base::memory::block::adopt 𝓡.env wired)) z
     (and_then ! (get ! refl) (and_then ! (get ! refl) (no_more !))) (λ v.
     use1 𝓛 (later (some (λ (d : (owner.the_row).Denot). (‵ ftrue ⊛ ‵ ((owner.the_row).own_val d (v ∷ []))) ⊛
-    some (λ (ws : Unit {0} × (Unit {0} × Unit {0})). ‵ (lasts g.ended z.0.0 z.0.3 ws) ⊛ raw (fact 𝓤 ((d.at ≡ p) × (d.skip ≡ 0) × (d.bytes ≡ bytes) × (d.out ≡ []) × (d.units ≡ units_from start (length bytes)))))))) (id⊢ 𝓤 _) $
+    some (λ (ws : Unit {0} × (Unit {0} × Unit {0})). ‵ (lasts g.ended z.0.0 z.0.3 ws) ⊛ raw
+    (fact 𝓤 ((d.at ≡ p) × (d.skip ≡ 0) × (d.bytes ≡ bytes) × (d.out ≡ []) × (d.units ≡ units_from start (length bytes)))))))) (id⊢ 𝓤 _) $
     await ! tt $ pick ! (λ d. split ! $ split ! $ drop ! $
     peeks ! owner.the_row (Is owner.the_row) (shows 𝓛 owner.the_row) d (v ∷ []) (λ is. lands_as ! refl refl ((owner_laws.the_row_laws.lawful 𝓛).typed d _ is).0 $
     move ! (1 ∷ []) $ pick ! (λ ws. split ! $ drop ! $ heard ! _ (λ did.
@@ -70,24 +75,31 @@ from_raw_parts_spec 𝓤 𝓛 𝓜 𝓡 wired =
     sets ! (of_opd ! (get ! refl)) refl ((owner_laws.the_row_laws.lawful 𝓛).typed d _ is).0 $
     let K = triple_of 𝓛 k.signature (k.spec 𝓛 𝓜.mem 𝓡.returns) in
     let m : K.Ghost = ((tt, tt, tt, (h, (p, (start, (len, (d, tt))))), (heap_val ∷ [], (rawptr_vals p, (uint_vals w64 start, (uint_vals w64 len, (v ∷ [], tt)))))), tt) in
-    nothing ! $ move ! (1 ∷ 0 ∷ []) $ join ! $ owned ! usize _ (uint_Makes 𝓛 w64) len _ (refl, are.1.1.1.0.1) $ join ! $ owned ! usize _ (uint_Makes 𝓛 w64) start _ (refl, are.1.1.0.1) $ join ! $ owned ! RawPtr _ (rawptr_Makes 𝓛) p _ refl $ join ! $ move ! (1 ∷ 0 ∷ []) $ join ! $ nothing ! $ join ! $
+    nothing ! $ move ! (1 ∷ 0 ∷ []) $ join ! $ owned ! usize _ (uint_Makes 𝓛 w64) len _ (refl, are.1.1.1.0.1) $ join ! $ owned ! usize _ (uint_Makes 𝓛 w64) start _
+    (refl, are.1.1.0.1) $ join ! $ owned ! RawPtr _ (rawptr_Makes 𝓛) p _ refl $ join ! $ move ! (1 ∷ 0 ∷ []) $ join ! $ nothing ! $ join ! $
     let Owed1 : Type 0 = (d.at ≡ p) × (d.skip ≡ 0) × (length d.bytes ≡ len) × (d.out ≡ []) × (d.units ≡ units_from start len) in
     let Owed2 : Type 0 = CanStart start len in
     use0 𝓛 (raw (fact 𝓤 Owed2)) (fact_i 𝓤 Owed2 (emp 𝓤) asked.1) $
-    use0 𝓛 (raw (fact 𝓤 Owed1)) (fact_i 𝓤 Owed1 (emp 𝓤) (did.0, did.1, ap length did.2 ∙ asked.0, did.3, did.4 ∙ ap (λ (n : ℕ). units_from start n) asked.0)) $ join ! $ move ! (1 ∷ 0 ∷ []) $
+    use0 𝓛 (raw (fact 𝓤 Owed1)) (fact_i 𝓤 Owed1 (emp 𝓤) (did.0, did.1, ap length did.2 ∙ asked.0, did.3, did.4 ∙ ap (λ (n : ℕ). units_from start n) asked.0)) $
+    join ! $ move ! (1 ∷ 0 ∷ []) $
     use2 𝓛 (raw (K.pre m)) (id⊢ 𝓤 _) $
     calls_at ! (framed 𝓤 𝓛.H 𝓜 (tables 𝓤 𝓛.H 𝓜 𝓡 𝓡.env)) K (over_met 𝓤 𝓛 𝓜 𝓡 (code.calls-rlsf_base::memory::Memory::over 𝓡.env wired)) m
     (and_then ! (get ! refl) (and_then ! (get ! refl) (and_then ! (get ! refl) (and_then ! (get ! refl) (and_then ! (get ! refl) (no_more !)))))) (λ u.
     use1 𝓛 (later (some (λ (r : (memory.the_row).Denot). (‵ ftrue ⊛ ‵ ((memory.the_row).own_val r (u ∷ []))) ⊛
     some (λ (ws' : Unit {0} × (Unit {0} × (Unit {0} × (Unit {0} × (Unit {0} × Unit {0}))))). ‵ (lasts k.ended m.0.0 m.0.3 ws') ⊛
-    (raw (fact 𝓤 (r.start ≡ start)) ⊛ (raw (fact 𝓤 (r.bytes ≡ d.bytes)) ⊛ (raw (fact 𝓤 ((r.touches ≡ 0) × (r.copied ≡ 0))) ⊛ raw (fact 𝓤 ((r.view.base.ptr ≡ p) × (place_in r.view start ≡ 0)))))))))) (id⊢ 𝓤 _) $
+    (raw (fact 𝓤 (r.start ≡ start)) ⊛
+    (raw (fact 𝓤 (r.bytes ≡ d.bytes)) ⊛
+    (raw (fact 𝓤 ((r.touches ≡ 0) × (r.copied ≡ 0))) ⊛ raw (fact 𝓤 ((r.view.base.ptr ≡ p) × (place_in r.view start ≡ 0)))))))))) (id⊢ 𝓤 _) $
     await ! tt $ pick ! (λ r. split ! $ split ! $ drop ! $
-    peeks ! memory.the_row (Is memory.the_row) (shows 𝓛 memory.the_row) r (u ∷ []) (λ is_memory. lands_as ! refl refl ((memory_laws.the_row_laws.lawful 𝓛).typed r _ is_memory).0 $
-    move ! (1 ∷ []) $ pick ! (λ ws'. split ! $ drop ! $ split ! $ heard ! _ (λ its_start. split ! $ heard ! _ (λ its_bytes. split ! $ heard ! _ (λ its_counts. heard ! _ (λ its_block.
+    peeks ! memory.the_row (Is memory.the_row) (shows 𝓛 memory.the_row) r (u ∷ [])
+    (λ is_memory. lands_as ! refl refl ((memory_laws.the_row_laws.lawful 𝓛).typed r _ is_memory).0 $
+    move ! (1 ∷ []) $ pick !
+    (λ ws'. split ! $ drop ! $ split ! $ heard ! _ (λ its_start. split ! $ heard ! _ (λ its_bytes. split ! $ heard ! _ (λ its_counts. heard ! _ (λ its_block.
     returns ! (look_at ! 0 refl) $ free_all ! refl $
     suffices ! _ (ends_at 𝓛 f.ended stayed c y u r (tt, (tt, (tt, (tt, tt)))) (tt, (tt, (tt, (tt, tt))))) $
     nothing ! $ nothing ! $ join ! $ nothing ! $ join ! $ nothing ! $ join ! $ nothing ! $ join ! $ nothing ! $ group ! 3 $
-    use0 𝓛 (raw (fact 𝓤 ((r.view.base.ptr ≡ p) × (place_in r.view start ≡ 0)))) (fact_i 𝓤 ((r.view.base.ptr ≡ p) × (place_in r.view start ≡ 0)) (emp 𝓤) its_block) $
+    use0 𝓛 (raw (fact 𝓤 ((r.view.base.ptr ≡ p) × (place_in r.view start ≡ 0))))
+    (fact_i 𝓤 ((r.view.base.ptr ≡ p) × (place_in r.view start ≡ 0)) (emp 𝓤) its_block) $
     use0 𝓛 (raw (fact 𝓤 ((r.touches ≡ 0) × (r.copied ≡ 0)))) (fact_i 𝓤 ((r.touches ≡ 0) × (r.copied ≡ 0)) (emp 𝓤) its_counts) $ join ! $
     use0 𝓛 (raw (fact 𝓤 (r.bytes ≡ bytes))) (fact_i 𝓤 (r.bytes ≡ bytes) (emp 𝓤) (its_bytes ∙ did.2)) $ join ! $
     use0 𝓛 (raw (fact 𝓤 (r.start ≡ start))) (fact_i 𝓤 (r.start ≡ start) (emp 𝓤) its_start) $ join ! $ move ! (1 ∷ 0 ∷ []) $ done !))))))))))))))))

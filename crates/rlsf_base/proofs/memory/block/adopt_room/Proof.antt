@@ -43,16 +43,21 @@ adopt_room_spec 𝓤 𝓛 𝓜 𝓡 wired =
     let y : W.Ghost = ((κs, qs, bounds, a, (rawptr_vals a.0, (uint_vals w64 start, (uint_vals w64 len, tt)))), g) in
     let bs : List ℕ = replicate len 0 in let no_changes : List Change = [] in let cs = came_raw 0 len no_changes in let as_many : length bs ≡ len = length-replicate len 0 in
     let made : (owner.the_row).Denot = record { mark = record {}; at = a.0; skip = 0; bytes = bs; out = cs; of = (0, 0); units = units } in
-    qed 𝓛 (raw (on_entry 𝓛 f.signature κs qs a y.0.4) ∷ (‵ (room_at a.0 start len) ⊛ raw (fact 𝓤 (len < 2 ^ 63))) ∷ []) ∵ drop ! $ split ! $ move ! (1 ∷ []) $ heard ! (len < 2 ^ 63) (λ small.
+    qed 𝓛 (raw (on_entry 𝓛 f.signature κs qs a y.0.4) ∷ (‵ (room_at a.0 start len) ⊛ raw (fact 𝓤 (len < 2 ^ 63))) ∷ []) ∵ drop ! $ split ! $ move ! (1 ∷ []) $
+    heard ! (len < 2 ^ 63) (λ small.
     in_a_block ! a.0 (λ p. room_at p start len) (id⊢ 𝓤 (never 𝓤)) (λ b o e.
-    enter ! _ _ _ _ _ $ alloc_all ! (λ l. pass_all ! refl (((rawptr_Lawful 𝓛).typed a.0 _ refl).0, ((tt, record { fits = are.1.0.1 }), ((tt, record { fits = are.1.1.0.1 }), tt))) $
+    enter ! _ _ _ _ _ $ alloc_all !
+    (λ l. pass_all ! refl (((rawptr_Lawful 𝓛).typed a.0 _ refl).0, ((tt, record { fits = are.1.0.1 }), ((tt, record { fits = are.1.1.0.1 }), tt))) $
     sets ! (agg ! (no_more !)) refl (tt, tt) $ sets ! (agg ! (and_then ! (get ! refl) (no_more !))) refl (tt, (tt, tt)) $
     returns ! (look_at ! 0 refl) $ free_all ! refl $
     -- [the room; the ways of its units]
     fsplit ! $ let first : o ≡ 0 + o = omega arith in
     rewrite ! 0 (λ (u : ℕ × ℕ). ‵ (froom (bytes_ty u.0) b u.1)) {x = (length bs, 0 + o)} {y = (len, o)} (λ i. (sym as_many i, first i)) refl $
-    use1 𝓛 (‵ (held (kept_at cs) 0 bs b (0 + o))) (room-held 𝓛 b (kept_at cs) 0 bs (0 + o) (λ j lo hi. changed-there raw' no_changes 0 len j lo (omega (arith, hi, as_many)))) $
-    rewrite ! 1 (λ (F : Fml). ‵ F) (sym (ways-same 𝓛 b (own_unit cs 0 (length bs)) (begins_in 0 len) 0 units o (λ u. ap (λ k. own_unit cs 0 k u) as_many ∙ unit-all cs 0 len u (raw-own no_changes 0 len)))) refl $ fjoin ! $
+    use1 𝓛 (‵ (held (kept_at cs) 0 bs b (0 + o)))
+    (room-held 𝓛 b (kept_at cs) 0 bs (0 + o) (λ j lo hi. changed-there raw' no_changes 0 len j lo (omega (arith, hi, as_many)))) $
+    rewrite ! 1 (λ (F : Fml). ‵ F)
+    (sym (ways-same 𝓛 b (own_unit cs 0 (length bs)) (begins_in 0 len) 0 units o
+    (λ u. ap (λ k. own_unit cs 0 k u) as_many ∙ unit-all cs 0 len u (raw-own no_changes 0 len)))) refl $ fjoin ! $
     flt_i ! (length bs) (2 ^ 63) (omega (arith, small, as_many)) $ fjoin ! $
     rewrite ! 0 (λ (p : Ptr). ‵ (bytes_own p 0 bs cs units)) (sym e) refl $
     suffices ! _ (ends_at 𝓛 f.ended stayed c y mark_val made (tt, (tt, (tt, tt))) (tt, (tt, (tt, tt)))) $ says ! (refl, refl, as_many, refl, refl) $

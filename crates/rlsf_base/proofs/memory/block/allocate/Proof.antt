@@ -1,4 +1,4 @@
--- Shows that `allocate` asks for units, and keeps of their room the bytes after the first, with the ways of the units and the way back. Assumes `Logic`.
+-- Shows that `allocate` requests units. It keeps the bytes after the first, with the ways of the units and the way back. Assumes `Logic`.
 use Rattle.std.proofs.Common.{◌≡◌, ℕ, ◌+◌, ◌*◌, ◌^◌, ◌<◌, ◌≤◌, List, [], ◌∷◌, ◌++◌, length, refl, arith, lit<, w64, Some, None}
 use mir.Syntax.{Ty, Fn, Args, a_type, dcons, dnil}
 use mir.Val.{Val, vint, vptr, vcons, vnil}
@@ -10,7 +10,8 @@ use prog.Wp.{Env, WpFn}
 use contract.BorrowLft.{◌⊑◌, ⊑_trans}
 use contract.Monad.{fact, fact_i}
 use contract.Running.{tables}
-use types.Kit.{‵, raw, ◌⊛◌, later, prop, at_ret, ◌$◌, ◌∵◌, !, qed, by, move, drop as skips, use0, use1, use2, use3, split, join, regoal, rewrite, fsplit, fjoin, flt_i, await}
+use types.Kit.{‵, raw, ◌⊛◌, later, prop, at_ret, ◌$◌, ◌∵◌, !, qed, by, move, drop as skips, use0, use1, use2, use3, split, join, regoal, rewrite, fsplit, fjoin}
+use types.Kit.{flt_i, await}
 use types.Part.{whole, agg}
 use types.Match.{live, vrt, in_variant}
 use types.Run.{stop, fld, lit, of_opd, bin, no_more, and_then, first, switches_on, exec, returns, enter}
@@ -68,7 +69,10 @@ allocate_spec 𝓤 𝓛 𝓜 𝓡 wired A L g d dd met md =
       Goes-dropped 𝓛 2 (slot_at 0 En₀.signature.params) En₀.kept.0 (λ κs x f. refl),
       (
         Goes-dropped 𝓛 2 (slot_at 1 En₀.signature.params) En₀.kept.1.0 (λ κs x f. refl),
-        (Goes-dropped 𝓛 2 (slot_at 2 En₀.signature.params) En₀.kept.1.1.0 (λ κs x f. refl), (Goes-dropped 𝓛 2 (slot_at 3 En₀.signature.params) En₀.kept.1.1.1.0 (λ κs x f. refl), tt)),
+        (
+          Goes-dropped 𝓛 2 (slot_at 2 En₀.signature.params) En₀.kept.1.1.0 (λ κs x f. refl),
+          (Goes-dropped 𝓛 2 (slot_at 3 En₀.signature.params) En₀.kept.1.1.1.0 (λ κs x f. refl), tt),
+        ),
       ),
     ) (#self args) fn (compiled.unfolded 𝓤 H 𝓜 𝓡 wired (A, tt) d dd) (λ z are.
     let Post : Val → SProp 𝓤 = (walk_of 𝓛 En₀ stays c).post z in
@@ -82,20 +86,27 @@ allocate_spec 𝓤 𝓛 𝓜 𝓡 wired A L g d dd met md =
     let Out : RattleType = type_at En₀.signature.result z.0.0 in
     let Three : RattleType = Tuple (base_type.the_row ∷ owner.the_row ∷ deed.the_row Z g ∷ []) in
     let Asked : Type 0 = (units * 16 < 2 ^ 63) × (skip + len ≤ units * 16) in
-    qed 𝓛 ((raw (alive 𝓛 En₀.signature z.0.0 z.0.1) ⊛ ‵ (owns (types_at En₀.signature.params z.0.0) a vss)) ∷ (raw (fact 𝓤 (z.0.0.1.0 ⊑ A.lives)) ⊛ raw (fact 𝓤 Asked)) ∷ []) ∵
+    qed 𝓛 ((raw (alive 𝓛 En₀.signature z.0.0 z.0.1) ⊛ ‵ (owns (types_at En₀.signature.params z.0.0) a vss))
+    ∷ (raw (fact 𝓤 (z.0.0.1.0 ⊑ A.lives)) ⊛ raw (fact 𝓤 Asked)) ∷ []) ∵
     move ! (1 ∷ []) $ split ! $ heard ! (z.0.0.1.0 ⊑ A.lives) (λ le. heard ! Asked (λ asked. split ! $ move ! (1 ∷ []) $
-    fsplit ! $ fsplit ! $ skips ! $ move ! (1 ∷ []) $ skips ! $ use1 𝓛 (‵ (seen Y κ at h)) (id⊢ 𝓤 _) $ move ! (1 ∷ []) $ use1 𝓛 (‵ (flft κ q) ⊛ ‵ (flft z.0.0.1.0 z.0.1.1.0) ⊛ ‵ ftrue) (id⊢ 𝓤 _) $ split ! $ move ! (2 ∷ 0 ∷ []) $
+    fsplit ! $ fsplit ! $ skips ! $ move ! (1 ∷ []) $ skips ! $ use1 𝓛 (‵ (seen Y κ at h)) (id⊢ 𝓤 _) $ move ! (1 ∷ []) $ use1 𝓛
+    (‵ (flft κ q) ⊛ ‵ (flft z.0.0.1.0 z.0.1.1.0) ⊛ ‵ ftrue) (id⊢ 𝓤 _) $ split ! $ move ! (2 ∷ 0 ∷ []) $
     let small : units * 16 < 2 ^ 64 = omega (arith, asked.0) in
     regoal ! (λ (us : List Val). prop (WpFn 𝓤 H C Λ fn us Post)) (λ i. are.0.0 i ++ (are.1.0.0 i ++ (are.1.1.0.0 i ++ (are.1.1.1.0.0 i ++ [])))) refl $
     enter ! C Λ fn (vptr at.0 at.1 ∷ vint w64 units ∷ vint w64 skip ∷ vint w64 len ∷ []) Post $
-    alloc_all ! (λ l. pass_all ! refl ((tt, tt), ((tt, record { fits = are.1.0.1 }), ((tt, record { fits = are.1.1.0.1 }), ((tt, record { fits = are.1.1.1.0.1 }), tt)))) $ let En : Env 𝓤 𝓛.H = env fn.locals l in
+    alloc_all ! (λ l. pass_all ! refl ((tt, tt), ((tt, record { fits = are.1.0.1 }), ((tt, record { fits = are.1.1.0.1 }), ((tt, record { fits = are.1.1.1.0.1 }), tt)))) $
+    let En : Env 𝓤 𝓛.H = env fn.locals l in
     sets ! (bin ! (get ! refl) (lit ! tt) (record { fits = small })) refl (tt, record { fits = small }) $
-    use2 𝓛 (raw ((Takes Y 𝓛 𝓜.mem 𝓡.returns).pre y)) (Takes-goes Y 𝓛 𝓜.mem 𝓡.returns κ q at h (⊑_trans κ z.0.0.1.0 A.lives z.0.2.0 le) (units * 16) 16 τ (capped_is (units * 16) small) refl small (lit< tt)) $
-    calls_at ! (fm 𝓛 𝓜 𝓡) (Takes Y 𝓛 𝓜.mem 𝓡.returns) (met.allocate dd) y (and_then ! (get ! refl) (and_then ! (get ! refl) (and_then ! (lit ! tt) (no_more !)))) (λ v.
-    use1 𝓛 (later (raw (Answered Y 𝓛 𝓜.mem 𝓡.returns h τ v) ⊛ ‵ (flft κ q))) (Takes-gives Y 𝓛 𝓜.mem 𝓡.returns κ q at h (units * 16) 16 τ v) $ await ! tt $ split ! $
+    use2 𝓛 (raw ((Takes Y 𝓛 𝓜.mem 𝓡.returns).pre y))
+    (Takes-goes Y 𝓛 𝓜.mem 𝓡.returns κ q at h (⊑_trans κ z.0.0.1.0 A.lives z.0.2.0 le) (units * 16) 16 τ (capped_is (units * 16) small) refl small (lit< tt)) $
+    calls_at ! (fm 𝓛 𝓜 𝓡) (Takes Y 𝓛 𝓜.mem 𝓡.returns) (met.allocate dd) y (and_then ! (get ! refl) (and_then ! (get ! refl) (and_then ! (lit ! tt) (no_more !))))
+    (λ v.
+    use1 𝓛 (later (raw (Answered Y 𝓛 𝓜.mem 𝓡.returns h τ v) ⊛ ‵ (flft κ q))) (Takes-gives Y 𝓛 𝓜.mem 𝓡.returns κ q at h (units * 16) 16 τ v) $ await !
+    tt $ split ! $
     answers Y ! 𝓜.mem 𝓡.returns h τ v
     (λ b o e. move ! (2 ∷ 3 ∷ []) $ join ! $ move ! (1 ∷ 2 ∷ []) $ lands_as ! (e) refl (tt, (record { fits = lit< tt }, (tt, tt))) $
-    first ! $ switches_on ! (get_tag ! (vrt ! refl (fld ! refl (stop !))) (whole !)) $ exec ! C Λ En (arm_body 0 (head (after 2 fn.body))) (then_runs 𝓛 C Λ En (after 3 fn.body) (at_ret En Post)) $
+    first ! $ switches_on ! (get_tag ! (vrt ! refl (fld ! refl (stop !))) (whole !)) $ exec ! C Λ En (arm_body 0 (head (after 2 fn.body)))
+    (then_runs 𝓛 C Λ En (after 3 fn.body) (at_ret En Post)) $
     sets ! (of_opd ! (get_in ! (vrt ! refl (fld ! refl (stop !))) (in_variant ! 0 0 refl refl (whole !)))) refl (tt, tt) $
     sets ! (agg ! (and_then ! (get ! refl) (no_more !))) refl (tt, (tt, tt)) $
     sets ! (agg ! (no_more !)) refl (tt, tt) $ sets ! (agg ! (and_then ! (get ! refl) (no_more !))) refl (tt, (tt, tt)) $
@@ -113,22 +124,29 @@ allocate_spec 𝓤 𝓛 𝓜 𝓡 wired A L g d dd met md =
     let right : (deed.the_row Z g).Denot = record { mark = record {}; at = p; units = units; skip = skip; len = len; alloc = h } in
     let v : Val = three_val (base_val p) mark_val mark_val in
     let back : Fml = fwand (froom (bytes_ty len) b (skip + o)) (fwand (ways_of (begins_in skip len) 0 units b o) (froom τ b o)) in
-    use1 𝓛 (‵ (froom (bytes_ty len) b (skip + o)) ⊛ ‵ (ways_of (begins_in skip len) 0 units b o) ⊛ ‵ back) (retypes 𝓛 b units skip len o asked.1) $ split ! $ move ! (1 ∷ []) $ split ! $
+    use1 𝓛 (‵ (froom (bytes_ty len) b (skip + o)) ⊛ ‵ (ways_of (begins_in skip len) 0 units b o) ⊛ ‵ back) (retypes 𝓛 b units skip len o asked.1) $ split ! $ move !
+    (1 ∷ []) $ split ! $
     -- [the ways; the way back; the room; the allocator's token; the tokens]
     move ! (3 ∷ 1 ∷ []) $ fjoin ! $ use0 𝓛 (‵ (mark_own (mark_val ∷ []))) (mark_made 𝓛) $ fjoin ! $ move ! (2 ∷ 1 ∷ []) $
     rewrite ! 0 (λ (k : ℕ). ‵ (froom (bytes_ty k) b (skip + o))) (sym as_many) refl $
-    use1 𝓛 (‵ (held (kept_at cs) 0 bs b (skip + o))) (room-held 𝓛 b (kept_at cs) 0 bs (skip + o) (λ j lo hi. changed-there raw' no_changes 0 len j lo (omega (arith, hi, as_many)))) $
-    rewrite ! 1 (λ (F : Fml). ‵ F) (sym (ways-same 𝓛 b (own_unit cs skip (length bs)) (begins_in skip len) 0 units o (λ u. ap (λ k. own_unit cs skip k u) as_many ∙ unit-all cs skip len u (raw-own no_changes 0 len)))) refl $ fjoin ! $
+    use1 𝓛 (‵ (held (kept_at cs) 0 bs b (skip + o)))
+    (room-held 𝓛 b (kept_at cs) 0 bs (skip + o) (λ j lo hi. changed-there raw' no_changes 0 len j lo (omega (arith, hi, as_many)))) $
+    rewrite ! 1 (λ (F : Fml). ‵ F)
+    (sym (ways-same 𝓛 b (own_unit cs skip (length bs)) (begins_in skip len) 0 units o
+    (λ u. ap (λ k. own_unit cs skip k u) as_many ∙ unit-all cs skip len u (raw-own no_changes 0 len)))) refl $ fjoin ! $
     flt_i ! (length bs) (2 ^ 63) (omega (arith, asked.0, asked.1, as_many)) $ fjoin ! $
     use0 𝓛 (‵ (mark_own (mark_val ∷ []))) (mark_made 𝓛) $ fjoin ! $ use0 𝓛 (‵ (base_own p (base_val p ∷ []))) (base_made 𝓛 p) $
     use3 𝓛 (‵ (Three.own_val (x, bytes, right) (v ∷ []))) (three_of 𝓛 base_type.the_row owner.the_row (deed.the_row Z g) x bytes right (base_val p) mark_val mark_val) $
     use1 𝓛 (‵ (Out.own_val (Some (x, bytes, right)) (live 1 (vcons v vnil) ∷ []))) (Some-of 𝓛 Three (x, bytes, right) v) $
-    let Told : Type 0 = (p ≡ p) × (skip ≡ skip) × (length bs ≡ len) × (p ≡ p) × (units ≡ units) × (skip ≡ skip) × (len ≡ len) × (h ≡ h) × (cs ≡ cs) × (units ≡ units) in
+    let Told : Type 0 =
+    (p ≡ p) × (skip ≡ skip) × (length bs ≡ len) × (p ≡ p) × (units ≡ units) × (skip ≡ skip) × (len ≡ len) × (h ≡ h) × (cs ≡ cs)
+    × (units ≡ units) in
     use0 𝓛 (raw (fact 𝓤 Told)) (fact_i 𝓤 Told (emp 𝓤) (refl, refl, as_many, refl, refl, refl, refl, refl, refl, refl)) $
     nothing ! $ nothing ! $ fjoin ! $ nothing ! $ fjoin ! $ nothing ! $ fjoin ! $ nothing ! $ fjoin ! $ move ! (3 ∷ 0 ∷ 2 ∷ 1 ∷ []) $
     by ! (leaves 𝓛 En₀ stays c z (live 1 (vcons v vnil)) (Some (x, bytes, right)) (tt, (tt, (tt, (tt, tt)))) (tt, (tt, (tt, (tt, tt))))))
     (λ e. join ! $ lands_as ! (e) refl (tt, (record { fits = lit< tt }, (tt, tt))) $
-    first ! $ switches_on ! (get_tag ! (vrt ! refl (fld ! refl (stop !))) (whole !)) $ exec ! C Λ En (arm_body 1 (head (after 2 fn.body))) (then_runs 𝓛 C Λ En (after 3 fn.body) (at_ret En Post)) $
+    first ! $ switches_on ! (get_tag ! (vrt ! refl (fld ! refl (stop !))) (whole !)) $ exec ! C Λ En (arm_body 1 (head (after 2 fn.body)))
+    (then_runs 𝓛 C Λ En (after 3 fn.body) (at_ret En Post)) $
     sets_last ! (agg ! (and_then ! (lit ! tt) (no_more !))) refl (tt, (record { fits = lit< tt }, tt)) $
     exec ! C Λ En (after 3 fn.body) (at_ret En Post) $ sets ! (of_opd ! (get ! refl)) refl (tt, (record { fits = lit< tt }, tt)) $
     returns ! (look_at ! 0 refl) $ free_all ! refl $

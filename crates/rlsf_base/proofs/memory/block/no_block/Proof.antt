@@ -42,16 +42,21 @@ no_block_spec 𝓤 𝓛 𝓜 𝓡 wired A L g d dd met md =
     let c = clauses A g d dd 𝓛 𝓜.mem 𝓡.returns in
     let args : Args = bounded (a_type ∷ []) (A, tt) (dcons d (dcons dd dnil)) in
     let fn : Fn = inst_fn args compiled.function in
-    let stays : Stays En₀.signature.params En₀.kept = (stay_dropped (slot_at 0 En₀.signature.params) En₀.kept.0, (stay_dropped (slot_at 1 En₀.signature.params) En₀.kept.1.0, tt)) in
+    let stays : Stays En₀.signature.params En₀.kept =
+    (stay_dropped (slot_at 0 En₀.signature.params) En₀.kept.0, (stay_dropped (slot_at 1 En₀.signature.params) En₀.kept.1.0, tt)) in
     let C = (tables 𝓤 H 𝓜 𝓡 𝓡.env).C in
     let Λ = (tables 𝓤 H 𝓜 𝓡 𝓡.env).Λ in
-    proved_at 𝓛 En₀ stays c 𝓜 𝓡 (Goes-dropped 𝓛 2 (slot_at 0 En₀.signature.params) En₀.kept.0 (λ κs x f. refl), (Goes-dropped 𝓛 2 (slot_at 1 En₀.signature.params) En₀.kept.1.0 (λ κs x f. refl), tt))
+    proved_at 𝓛 En₀ stays c 𝓜 𝓡 (
+      Goes-dropped 𝓛 2 (slot_at 0 En₀.signature.params) En₀.kept.0 (λ κs x f. refl),
+      (Goes-dropped 𝓛 2 (slot_at 1 En₀.signature.params) En₀.kept.1.0 (λ κs x f. refl), tt),
+    )
     (#self args) fn (compiled.unfolded 𝓤 H 𝓜 𝓡 wired (A, tt) d dd) (λ z are.
     let Post : Val → SProp 𝓤 = (walk_of 𝓛 En₀ stays c).post z in
     let a = z.0.3 in let vss = z.0.4 in let Z : RattleType = param 0 A in
     let at = a.0.ref_ptr in let skip = a.1.0 in
     let Three : RattleType = Tuple (base_type.the_row ∷ owner.the_row ∷ deed.the_row Z g ∷ []) in
-    qed 𝓛 ((raw (alive 𝓛 En₀.signature z.0.0 z.0.1) ⊛ ‵ (owns (types_at En₀.signature.params z.0.0) a vss)) ∷ (raw (fact 𝓤 (z.0.0.1.0 ⊑ A.lives)) ⊛ ‵ ftrue) ∷ []) ∵
+    qed 𝓛 ((raw (alive 𝓛 En₀.signature z.0.0 z.0.1) ⊛ ‵ (owns (types_at En₀.signature.params z.0.0) a vss))
+    ∷ (raw (fact 𝓤 (z.0.0.1.0 ⊑ A.lives)) ⊛ ‵ ftrue) ∷ []) ∵
     move ! (1 ∷ []) $ skips ! $ split ! $ move ! (1 ∷ []) $ skips ! $
     regoal ! (λ (us : List Val). prop (WpFn 𝓤 H C Λ fn us Post)) (λ i. are.0.0 i ++ (are.1.0.0 i ++ [])) refl $
     enter ! C Λ fn (vptr at.0 at.1 ∷ vint w64 skip ∷ []) Post $
@@ -68,7 +73,9 @@ no_block_spec 𝓤 𝓛 𝓜 𝓡 wired A L g d dd met md =
     let right : (deed.the_row Z g).Denot = record { mark = record {}; at = null_ptr; units = 0; skip = skip; len = 0; alloc = a.0.now } in
     let v : Val = three_val (base_val p) mark_val mark_val in
     nothing ! $ use0 𝓛 (‵ (mark_own (mark_val ∷ []))) (mark_made 𝓛) $ fjoin ! $
-    use0 𝓛 (‵ (ways_of (own_unit no_changes skip 0) 0 units (l 3) 0)) (ways_none 𝓛 (l 3) (own_unit no_changes skip 0) 0 units 0 (λ u lo hi. unit-nowhere no_changes skip u)) $ nothing ! $ fjoin ! $ flt_i ! (length none) (2 ^ 63) (lit< tt) $ fjoin ! $
+    use0 𝓛 (‵ (ways_of (own_unit no_changes skip 0) 0 units (l 3) 0))
+    (ways_none 𝓛 (l 3) (own_unit no_changes skip 0) 0 units 0 (λ u lo hi. unit-nowhere no_changes skip u)) $ nothing ! $ fjoin ! $ flt_i ! (length none) (2 ^ 63) (lit< tt)
+    $ fjoin ! $
     use0 𝓛 (‵ (mark_own (mark_val ∷ []))) (mark_made 𝓛) $ fjoin ! $ use0 𝓛 (‵ (base_own p (base_val p ∷ []))) (base_made 𝓛 p) $
     use3 𝓛 (‵ (Three.own_val (x, bytes, right) (v ∷ []))) (three_of 𝓛 base_type.the_row owner.the_row (deed.the_row Z g) x bytes right (base_val p) mark_val mark_val) $
     let Told : Type 0 = (p ≡ p) × (skip ≡ skip) × (none ≡ none) × (null_ptr ≡ null_ptr) × (no_changes ≡ no_changes) × (units ≡ units) in

@@ -29,7 +29,8 @@ returns-clause-bytes c =
     let now = c.copy_apart.new.bytes in
     let to : c.args.from + len - d.skip ≡ at + len = omega (arith, lies) in
     let from : c.args.from + len - by - d.skip ≡ at + len - by = omega (arith, lies) in
-    let first : now.bytes ≡ splice d.bytes (at + len) (at + len + by) (take by (drop (at + len - by) d.bytes)) = e.2 ∙ (λ i. splice d.bytes (to i) (to i + by) (take by (drop (from i) d.bytes))) in
+    let first : now.bytes ≡ splice d.bytes (at + len) (at + len + by) (take by (drop (at + len - by) d.bytes)) =
+    e.2 ∙ (λ i. splice d.bytes (to i) (to i + by) (take by (drop (from i) d.bytes))) in
     let place : c.args.from - now.skip ≡ at = ap (λ k. c.args.from - k) e.1 in
     let moved : c.copy_within.new.self ≡ copy_within (take len (drop at now.bytes)) 0 (len - by) by =
     c.copy_within.ensures.after ∙ (λ i. copy_within ((c.slice_mut-rest.ensures.value ∙ ap (λ k. take len (drop k now.bytes)) place) i) 0 (len - by) by) in

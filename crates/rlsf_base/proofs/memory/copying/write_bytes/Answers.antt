@@ -10,7 +10,9 @@ loop-index-preserved c =
     let i = c.loop-index.index in let old = c.args.bytes.now.bytes in let is = c.loop-index.invariant in let e = c.write.ensures in
     let at : c.args.place + i - c.loop-index.bytes.skip ≡ i = omega (arith, is.2) in
     let cs : c.write.new.self.out ≡ came_back i 1 c.loop-index.bytes.out = e.3 ∙ ap (λ k. came_back k 1 c.loop-index.bytes.out) at in
-    let bytes = e.2 ∙ (λ j. splice (is.3 j) (at j) (at j + 1) (slice_index c.args.from.now i ∷ [])) ∙ one_more old c.args.from.now i (omega (arith, c.loop-index-test.true)) c.requires.2 in (
+    let bytes =
+    e.2 ∙ (λ j. splice (is.3 j) (at j) (at j + 1) (slice_index c.args.from.now i ∷ []))
+    ∙ one_more old c.args.from.now i (omega (arith, c.loop-index-test.true)) c.requires.2 in (
       omega (arith, c.loop-index-test.true),
       e.0 ∙ is.1,
       e.1 ∙ is.2,

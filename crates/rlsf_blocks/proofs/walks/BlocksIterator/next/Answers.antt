@@ -14,7 +14,8 @@ overflow_add-behind c =
     record { fits = omega (arith, is.past) }
 
 pub word-is_last-requires : goal.word-is_last-requires
-word-is_last-requires c = (IsFirst-word c.self.inside.memory.now c.self.inside.start c.self.inside.end c.word-word.result c.word-word.ensures c.self.invariant c.if-self.false).behind
+word-is_last-requires c =
+    (IsFirst-word c.self.inside.memory.now c.self.inside.start c.self.inside.end c.word-word.result c.word-word.ensures c.self.invariant c.if-self.false).behind
 
 pub overflow_add-self : goal.overflow_add-self
 overflow_add-self c =

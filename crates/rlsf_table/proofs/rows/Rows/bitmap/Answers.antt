@@ -7,7 +7,8 @@ use Rattle.rlsf_table.proofs.rows.Rows.bitmap.Goals as goal
 use Rattle.rlsf_table.proofs.rows.Rows.bitmap.Goals.{then-has, else-has}
 
 pub loop-place-init : goal.loop-place-init
-loop-place-init g c k = ap (λ n. bit n k) c.empty-places.ensures ∙ bit-zero k ∙ copied-nothing (λ j. bit (row_word g.row.PLACES c.args.self.now.low c.args.self.now.high c.args.fl) j) k
+loop-place-init g c k =
+    ap (λ n. bit n k) c.empty-places.ensures ∙ bit-zero k ∙ copied-nothing (λ j. bit (row_word g.row.PLACES c.args.self.now.low c.args.self.now.high c.args.fl) j) k
 
 pub loop-place-preserved : goal.loop-place-preserved
 loop-place-preserved g c k =

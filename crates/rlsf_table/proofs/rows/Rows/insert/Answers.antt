@@ -10,6 +10,8 @@ returns-then-this-le64 g c = record {
 
 pub returns-else-this-le64 : goal.returns-else-this-le64
 returns-else-this-le64 g c = record {
-  own = inserted-many g.row.PLACES c.args.self.now.low c.args.self.now.high c.args.fl c.if-this-le64.false c.both.result c.both.ensures c.set_both.new.self.low c.set_both.new.self.high c.args.place (omega arith) c.set_both.ensures.own;
+  own =
+      inserted-many g.row.PLACES c.args.self.now.low c.args.self.now.high c.args.fl c.if-this-le64.false c.both.result c.both.ensures c.set_both.new.self.low
+      c.set_both.new.self.high c.args.place (omega arith) c.set_both.ensures.own;
   others = search rules;
 }

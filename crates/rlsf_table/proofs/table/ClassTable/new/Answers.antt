@@ -10,4 +10,5 @@ invariant_of-result g c = HasPlaces-empty g.row.FLLEN g.row.SLLEN
 
 pub returns : goal.returns
 returns g c m =
-    HasTable-empty _ (λ i. ap (λ n. bit n i) (c.new.ensures 0 (omega arith)) ∙ bit-zero i) (row_words-length g.row.FLLEN g.row.SLLEN _ _) (λ i within. row_words-at g.row.FLLEN g.row.SLLEN _ _ i within ∙ c.new-2.ensures i within) refl m
+    HasTable-empty _ (λ i. ap (λ n. bit n i) (c.new.ensures 0 (omega arith)) ∙ bit-zero i) (row_words-length g.row.FLLEN g.row.SLLEN _ _)
+    (λ i within. row_words-at g.row.FLLEN g.row.SLLEN _ _ i within ∙ c.new-2.ensures i within) refl m

@@ -8,7 +8,8 @@ use Rattle.rlsf_table.proofs.table.ClassTable.put.Goals as goal
 
 pub invariant_of-self : goal.invariant_of-self
 invariant_of-self g c =
-    (IsHeadSet-written g.row.FLLEN g.row.SLLEN c.args.fl c.args.sl c.args.block (record { first_level = 0; second_level = []; heads = c.self.inside.heads }) (record { first_level = 0; second_level = []; heads = _ })
+    (IsHeadSet-written g.row.FLLEN g.row.SLLEN c.args.fl c.args.sl c.args.block (record { first_level = 0; second_level = []; heads = c.self.inside.heads })
+    (record { first_level = 0; second_level = []; heads = _ })
     c.requires.class.0 c.requires.class.1 c.self.told c.self.invariant refl).places
 
 pub returns : goal.returns

@@ -56,10 +56,13 @@ returns-else-next-eq0 g c = record {
 }
 
 pub invariant_of-self : goal.invariant_of-self
-invariant_of-self g c = HasPlaces-written g.row.FLLEN g.row.SLLEN c.args.fl c.args.sl c.args.next c.self.inside.heads c.requires.class.0 c.requires.class.1 c.self.told c.self.invariant
+invariant_of-self g c =
+    HasPlaces-written g.row.FLLEN g.row.SLLEN c.args.fl c.args.sl c.args.next c.self.inside.heads c.requires.class.0 c.requires.class.1 c.self.told c.self.invariant
 
 pub invariant_of-self-else-is_empty : goal.invariant_of-self-else-is_empty
-invariant_of-self-else-is_empty g c = HasPlaces-written g.row.FLLEN g.row.SLLEN c.args.fl c.args.sl c.args.next c.self.inside.heads c.requires.class.0 c.requires.class.1 c.self.told c.self.invariant
+invariant_of-self-else-is_empty g c =
+    HasPlaces-written g.row.FLLEN g.row.SLLEN c.args.fl c.args.sl c.args.next c.self.inside.heads c.requires.class.0 c.requires.class.1 c.self.told c.self.invariant
 
 pub invariant_of-self-else-next-eq0 : goal.invariant_of-self-else-next-eq0
-invariant_of-self-else-next-eq0 g c = HasPlaces-written g.row.FLLEN g.row.SLLEN c.args.fl c.args.sl c.args.next c.self.inside.heads c.requires.class.0 c.requires.class.1 c.self.told c.self.invariant
+invariant_of-self-else-next-eq0 g c =
+    HasPlaces-written g.row.FLLEN g.row.SLLEN c.args.fl c.args.sl c.args.next c.self.inside.heads c.requires.class.0 c.requires.class.1 c.self.told c.self.invariant

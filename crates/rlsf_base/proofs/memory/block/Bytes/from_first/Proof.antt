@@ -42,13 +42,21 @@ owner_Tells : Tells owner.the_row (Is owner.the_row) owner_vals
 owner_Tells = lowers.val_is
 
 abbrev stayed : Stays f.ended.signature.params f.ended.kept
-stayed = (stay_dropped (plain (λ _. owner.the_row)) f.ended.kept.0, (stay_dropped (plain (λ _. base_type.the_row)) f.ended.kept.1.0, (stay_dropped (plain (λ _. usize)) f.ended.kept.1.1.0, tt)))
+stayed = (
+  stay_dropped (plain (λ _. owner.the_row)) f.ended.kept.0,
+  (stay_dropped (plain (λ _. base_type.the_row)) f.ended.kept.1.0, (stay_dropped (plain (λ _. usize)) f.ended.kept.1.1.0, tt)),
+)
 
 pub from_first_spec : {M : Type 1} → statement M
 from_first_spec 𝓤 𝓛 𝓜 𝓡 wired =
     let c = f.clauses 𝓛 𝓜.mem 𝓡.returns in let W = walk_of 𝓛 f.ended stayed c in let 𝓣 = tables 𝓤 𝓛.H 𝓜 𝓡 𝓡.env in
-    proved 𝓛 f.ended stayed c 𝓜 𝓡
-    (Goes-blank 𝓛 0 (plain (λ _. owner.the_row)) f.ended.kept.0 (λ κs x w. tt), (Goes-dropped 𝓛 0 (plain (λ _. base_type.the_row)) f.ended.kept.1.0 (λ κs x w. refl), (Goes-dropped 𝓛 0 (plain (λ _. usize)) f.ended.kept.1.1.0 (λ κs x w. refl), tt)))
+    proved 𝓛 f.ended stayed c 𝓜 𝓡 (
+      Goes-blank 𝓛 0 (plain (λ _. owner.the_row)) f.ended.kept.0 (λ κs x w. tt),
+      (
+        Goes-dropped 𝓛 0 (plain (λ _. base_type.the_row)) f.ended.kept.1.0 (λ κs x w. refl),
+        (Goes-dropped 𝓛 0 (plain (λ _. usize)) f.ended.kept.1.1.0 (λ κs x w. refl), tt),
+      ),
+    )
     f.Key.name code.function (code.unfolded 𝓤 𝓛.H 𝓜 𝓡 wired)
     (λ κs. (owner_vals, (base_vals, (uint_vals w64, tt)))) (λ κs. (owner_Tells, (base_Tells, (uint_Tells w64, tt)))) (λ κs qs bounds a g are.
     let d = a.0 in let base = a.1.0 in let skip = a.1.1.0 in
@@ -67,7 +75,8 @@ from_first_spec 𝓤 𝓛 𝓜 𝓡 wired =
     sets ! (agg ! (no_more !)) refl (tt, tt) $ sets ! (agg ! (and_then ! (get ! refl) (no_more !))) refl (tt, (tt, tt)) $
     sets ! (agg ! (and_then ! (get ! refl) (and_then ! (get ! refl) (no_more !)))) refl (tt, ((tt, tt), ((tt, tt), tt))) $
     returns ! (look_at ! 0 refl) $ free_all ! refl $
-    let p : Ptr = block_ptr b (skip + o) in let units : ℕ = if eqb skip 0 then d.units else 0 in let there : d.skip + o ≡ 0 + (skip + o) = omega (arith, asked.1) in let swapped : skip + o ≡ o + skip = omega arith in
+    let p : Ptr = block_ptr b (skip + o) in let units : ℕ = if eqb skip 0 then d.units else 0 in let there : d.skip + o ≡ 0 + (skip + o) = omega (arith, asked.1) in
+    let swapped : skip + o ≡ o + skip = omega arith in
     let x : (base_type.the_row).Denot = record { ptr = p } in
     let bytes : (owner.the_row).Denot = record { mark = record {}; at = p; skip = 0; bytes = d.bytes; out = d.out; of = (0, 0); units = units } in
     let v : Val = two_val (base_val p) mark_val in let Two : RattleType = Tuple (base_type.the_row ∷ owner.the_row ∷ []) in
@@ -76,5 +85,6 @@ from_first_spec 𝓤 𝓛 𝓜 𝓡 wired =
     move ! (1 ∷ []) $ rewrite ! 0 (λ (k : ℕ). ‵ (held (kept_at d.out) 0 d.bytes b k)) there refl $ fjoin ! $ flt_i ! (length d.bytes) (2 ^ 63) small $ fjoin ! $
     use0 𝓛 (‵ (mark_own (mark_val ∷ []))) (mark_made 𝓛) $ fjoin ! $ use0 𝓛 (‵ (base_own p (base_val p ∷ []))) (base_made 𝓛 p) $
     use2 𝓛 (‵ (Two.own_val (x, bytes) (v ∷ []))) (two_of 𝓛 base_type.the_row owner.the_row x bytes (base_val p) mark_val) $
-    suffices ! _ (ends_at 𝓛 f.ended stayed c y v (x, bytes) (tt, (tt, (tt, tt))) (tt, (tt, (tt, tt)))) $ says ! (ap (λ (k : ℕ). block_ptr b k) swapped ∙ sym (ap (λ (q : Ptr). q +ₚ skip) (asked.0 ∙ e)), refl, refl, refl, refl, refl) $
+    suffices ! _ (ends_at 𝓛 f.ended stayed c y v (x, bytes) (tt, (tt, (tt, tt))) (tt, (tt, (tt, tt)))) $ says !
+    (ap (λ (k : ℕ). block_ptr b k) swapped ∙ sym (ap (λ (q : Ptr). q +ₚ skip) (asked.0 ∙ e)), refl, refl, refl, refl, refl) $
     nothing ! $ nothing ! $ join ! $ nothing ! $ join ! $ nothing ! $ join ! $ nothing ! $ done !)))))

@@ -1,5 +1,6 @@
 -- Shows that `put_back` gives the owner a run of its bytes back, as they are now. None of them was the owner's before, since they are another's. Assumes `Logic`.
-use Rattle.std.proofs.Common.{◌≡◌, ℕ, ◌+◌, ◌-◌, ◌^◌, ◌≤◌, List, [], ◌∷◌, ◌++◌, length, take, drop as behind, refl, sym, ◌∙◌, arith, length-take, length-drop, length-append}
+use Rattle.std.proofs.Common.{◌≡◌, ℕ, ◌+◌, ◌-◌, ◌^◌, ◌≤◌, List, [], ◌∷◌, ◌++◌, length, take, drop as behind, refl, sym, ◌∙◌, arith}
+use Rattle.std.proofs.Common.{length-take, length-drop, length-append}
 use Rattle.std.specs.List.{splice}
 use mir.Syntax.{named}
 use mir.Val.{Val, vunit}
@@ -52,7 +53,9 @@ put_back_spec 𝓤 𝓛 𝓜 𝓡 wired =
     let rb = a.0.ref_ptr.0 in let ro = a.0.ref_ptr.1 in let d = a.0.now in let part = a.1.0 in
     let vss : List Val × (List Val × Unit {0}) = (mut_vals a.0, (mark_val ∷ [], tt)) in
     let ws = part.bytes in let i = part.skip - d.skip in let n = length ws in
-    let Asked : Type 0 = (part.at ≡ d.at) × (d.skip ≤ part.skip) × (part.skip + length part.bytes ≤ d.skip + length d.bytes) × IsIn part.out 0 (length part.bytes) × (part.units ≡ d.units) in
+    let Asked : Type 0 =
+    (part.at ≡ d.at) × (d.skip ≤ part.skip) × (part.skip + length part.bytes ≤ d.skip + length d.bytes) × IsIn part.out 0 (length part.bytes)
+    × (part.units ≡ d.units) in
     let y : W.Ghost = ((κs, qs, bounds, a, vss), g) in
     qed 𝓛 (((‵ (flft κs.0 qs.0) ⊛ ‵ ftrue) ⊛ ‵ (owns (types_at f.signature.params κs) a vss)) ∷ raw (fact 𝓤 Asked) ∷ []) ∵
     move ! (1 ∷ []) $ heard ! Asked (λ asked. split ! $ split ! $ move ! (2 ∷ []) $ fsplit ! $ move ! (1 ∷ []) $ fsplit ! $ fsplit ! $ keep ! (3 ∷ 4 ∷ 1 ∷ []) $
@@ -65,10 +68,20 @@ put_back_spec 𝓤 𝓛 𝓜 𝓡 wired =
     let within : i + n ≤ length d.bytes = omega (arith, asked.1, asked.2) in
     let there : part.skip + o ≡ i + (d.skip + o) = omega (arith, asked.1) in
     let cs = came_back i n d.out in let bs = splice d.bytes i (i + n) ws in
-    let long : length bs ≡ length d.bytes = omega (arith, within, length-append (take i d.bytes) (ws ++ behind (i + n) d.bytes), length-append ws (behind (i + n) d.bytes), length-take i d.bytes, length-drop (i + n) d.bytes) in
+    let long : length bs ≡ length d.bytes =
+    omega (
+      arith,
+      within,
+      length-append (take i d.bytes) (ws ++ behind (i + n) d.bytes),
+      length-append ws (behind (i + n) d.bytes),
+      length-take i d.bytes,
+      length-drop (i + n) d.bytes,
+    ) in
     let new : (owner.the_row).Denot = record { mark = d.mark; at = d.at; skip = d.skip; bytes = bs; out = cs; of = d.of; units = d.units } in
     let come : IsOut d.out i n → (u : ℕ) → Shares (own_unit cs d.skip (length d.bytes) u) (own_unit d.out d.skip (length d.bytes) u) (own_unit part.out part.skip n u)
-    = λ was u. parted cs d.out part.out d.skip (length d.bytes) part.skip n u asked.1 asked.2 (back-own d.out i n) was (λ k side. around-back d.out i n k side) (own-in part.out 0 n asked.3) in
+    =
+    λ was u. parted cs d.out part.out d.skip (length d.bytes) part.skip n u asked.1 asked.2 (back-own d.out i n) was (λ k side. around-back d.out i n k side)
+    (own-in part.out 0 n asked.3) in
     move ! (7 ∷ []) $ rewrite ! 0 (λ (p : Ptr). ‵ (bytes_own p part.skip part.bytes part.out part.units)) (asked.0 ∙ e) refl $ fsplit ! $ flt_l ! (λ small'. fsplit ! $
     -- [the part's bytes; its ways; the bytes; the ways with the mark; ..]
     move ! (0 ∷ 2 ∷ 1 ∷ []) $
@@ -77,13 +90,17 @@ put_back_spec 𝓤 𝓛 𝓜 𝓡 wired =
     use2 𝓛 (‵ (held (kept_at cs) 0 bs b (d.skip + o))) (comes 𝓛 b d.out (d.skip + o) d.bytes i n within ws refl) $
     -- [the bytes; the part's ways; the ways with the mark; ..]
     move ! (2 ∷ []) $ fsplit ! $ move ! (3 ∷ 0 ∷ []) $ rewrite ! 0 (λ (k : ℕ). ‵ (ways_of (own_unit part.out part.skip n) 0 k b o)) asked.4 refl $
-    use2 𝓛 (‵ (ways_of (own_unit cs d.skip (length d.bytes)) 0 d.units b o)) (ways_join 𝓛 b (own_unit cs d.skip (length d.bytes)) (own_unit d.out d.skip (length d.bytes)) (own_unit part.out part.skip n) 0 d.units o (come was)) $
+    use2 𝓛 (‵ (ways_of (own_unit cs d.skip (length d.bytes)) 0 d.units b o))
+    (ways_join 𝓛 b (own_unit cs d.skip (length d.bytes)) (own_unit d.out d.skip (length d.bytes)) (own_unit part.out part.skip n) 0 d.units o (come was)) $
     rewrite ! 0 (λ (k : ℕ). ‵ (ways_of (own_unit cs d.skip k) 0 d.units b o)) (sym long) refl $
     -- [the ways; the mark; the bytes; ..]
     move ! (2 ∷ 0 ∷ []) $ fjoin ! $
     flt_i ! (length bs) (2 ^ 63) (omega (arith, small, long)) $ fjoin ! $
-    rewrite ! 0 (λ (p : Ptr). ‵ (bytes_own p d.skip bs cs d.units)) (sym e) refl $ move ! (1 ∷ 0 ∷ []) $ fjoin ! $ move ! (1 ∷ 0 ∷ []) $ closes ! tt owner.the_row new us rb ro $
+    rewrite ! 0 (λ (p : Ptr). ‵ (bytes_own p d.skip bs cs d.units)) (sym e) refl $ move ! (1 ∷ 0 ∷ []) $ fjoin ! $ move ! (1 ∷ 0 ∷ []) $ closes ! tt owner.the_row new us
+    rb ro $
     sets ! (of_opd ! (unit_lit !)) refl (tt, tt) $
-    returns ! (look_at ! 0 refl) $ free_all ! refl $ keep ! (0 ∷ 1 ∷ 2 ∷ 3 ∷ []) $ feq_i ! (List Val) (vunit ∷ []) (vunit ∷ []) refl $ move ! (1 ∷ 2 ∷ 3 ∷ 0 ∷ 4 ∷ []) $
+    returns ! (look_at ! 0 refl) $ free_all ! refl $ keep ! (0 ∷ 1 ∷ 2 ∷ 3 ∷ []) $ feq_i ! (List Val) (vunit ∷ []) (vunit ∷ []) refl $ move !
+    (1 ∷ 2 ∷ 3 ∷ 0 ∷ 4 ∷ []) $
     suffices ! _ (ends_at 𝓛 f.ended stayed c y vunit tt (new, (tt, tt)) (tt, (tt, tt))) $ says ! (was, refl, refl, refl, refl, refl) $
-    nothing ! $ move ! (3 ∷ 0 ∷ []) $ join ! $ frame ! $ move ! (3 ∷ 0 ∷ 1 ∷ []) $ fjoin3 ! $ nothing ! $ nothing ! $ fjoin ! $ move ! (1 ∷ 0 ∷ []) $ fjoin ! $ done !))))))))
+    nothing ! $ move ! (3 ∷ 0 ∷ []) $ join ! $ frame ! $ move ! (3 ∷ 0 ∷ 1 ∷ []) $ fjoin3 ! $ nothing ! $ nothing ! $ fjoin ! $ move ! (1 ∷ 0 ∷ []) $ fjoin ! $
+    done !))))))))

@@ -6,7 +6,8 @@ use base.Logic.{never, id⊢}
 use base.Fml.{ftrue, froom, flft}
 use contract.Monad.{fact}
 use contract.Running.{tables}
-use types.Kit.{‵, raw, ◌⊛◌, ◌$◌, ◌∵◌, !, qed, move, keep, use1, use2, split, join, rewrite, suffices, frame, fsplit, fsplit3, fjoin, fjoin3, feq_i, flt_i, flt_l, done}
+use types.Kit.{‵, raw, ◌⊛◌, ◌$◌, ◌∵◌, !, qed, move, keep, use1, use2, split, join, rewrite, suffices, frame, fsplit, fsplit3, fjoin, fjoin3, feq_i, flt_i, flt_l}
+use types.Kit.{done}
 use types.Run.{unit_lit, of_opd, returns, enter}
 use types.ByLocal.{alloc_all, pass_all, free_all, look_at, sets}
 use denote.RattleType.{owns}
@@ -51,7 +52,9 @@ put_room_spec 𝓤 𝓛 𝓜 𝓡 wired =
     let rb = a.0.ref_ptr.0 in let ro = a.0.ref_ptr.1 in let d = a.0.now in let part = a.1.0 in
     let vss : List Val × (List Val × Unit {0}) = (mut_vals a.0, (mark_val ∷ [], tt)) in
     let ws = part.bytes in let i = part.skip - d.skip in let n = length ws in
-    let Asked : Type 0 = (part.at ≡ d.at) × (d.skip ≤ part.skip) × (part.skip + length part.bytes ≤ d.skip + length d.bytes) × IsOwn part.out 0 (length part.bytes) × (part.units ≡ d.units) in
+    let Asked : Type 0 =
+    (part.at ≡ d.at) × (d.skip ≤ part.skip) × (part.skip + length part.bytes ≤ d.skip + length d.bytes) × IsOwn part.out 0 (length part.bytes)
+    × (part.units ≡ d.units) in
     let y : W.Ghost = ((κs, qs, bounds, a, vss), g) in
     qed 𝓛 (((‵ (flft κs.0 qs.0) ⊛ ‵ ftrue) ⊛ ‵ (owns (types_at f.signature.params κs) a vss)) ∷ raw (fact 𝓤 Asked) ∷ []) ∵
     move ! (1 ∷ []) $ heard ! Asked (λ asked. split ! $ split ! $ move ! (2 ∷ []) $ fsplit ! $ move ! (1 ∷ []) $ fsplit ! $ fsplit ! $ keep ! (3 ∷ 4 ∷ 1 ∷ []) $
@@ -70,17 +73,22 @@ put_room_spec 𝓤 𝓛 𝓜 𝓡 wired =
     move ! (7 ∷ []) $ rewrite ! 0 (λ (p : Ptr). ‵ (bytes_own p part.skip part.bytes part.out part.units)) (asked.0 ∙ e) refl $ fsplit ! $ flt_l ! (λ small'. fsplit ! $
     -- [the part's bytes; its ways; the bytes; the ways with the mark; ..]
     move ! (0 ∷ 2 ∷ 1 ∷ []) $
-    use1 𝓛 (‵ (froom (bytes_ty n) b (part.skip + o))) (held-room 𝓛 b (kept_at part.out) 0 ws (part.skip + o) asked.3) $ rewrite ! 0 (λ (k : ℕ). ‵ (froom (bytes_ty n) b k)) there refl $
+    use1 𝓛 (‵ (froom (bytes_ty n) b (part.skip + o))) (held-room 𝓛 b (kept_at part.out) 0 ws (part.skip + o) asked.3) $ rewrite ! 0
+    (λ (k : ℕ). ‵ (froom (bytes_ty n) b k)) there refl $
     learns ! 2 (IsOut d.out i n) (clash 𝓛 b 𝓜 d.out (d.skip + o) d.bytes i n within) (λ was.
     use2 𝓛 (‵ (held (kept_at cs) 0 d.bytes b (d.skip + o))) (comes_raw 𝓛 b d.out (d.skip + o) d.bytes i n within) $
     -- [the bytes; the part's ways; the ways with the mark; ..]
     move ! (2 ∷ []) $ fsplit ! $ move ! (3 ∷ 0 ∷ []) $ rewrite ! 0 (λ (k : ℕ). ‵ (ways_of (own_unit part.out part.skip n) 0 k b o)) asked.4 refl $
-    use2 𝓛 (‵ (ways_of (own_unit cs d.skip (length d.bytes)) 0 d.units b o)) (ways_join 𝓛 b (own_unit cs d.skip (length d.bytes)) (own_unit d.out d.skip (length d.bytes)) (own_unit part.out part.skip n) 0 d.units o (come was)) $
+    use2 𝓛 (‵ (ways_of (own_unit cs d.skip (length d.bytes)) 0 d.units b o))
+    (ways_join 𝓛 b (own_unit cs d.skip (length d.bytes)) (own_unit d.out d.skip (length d.bytes)) (own_unit part.out part.skip n) 0 d.units o (come was)) $
     -- [the ways; the mark; the bytes; ..]
     move ! (2 ∷ 0 ∷ []) $ fjoin ! $
     flt_i ! (length d.bytes) (2 ^ 63) small $ fjoin ! $
-    rewrite ! 0 (λ (p : Ptr). ‵ (bytes_own p d.skip d.bytes cs d.units)) (sym e) refl $ move ! (1 ∷ 0 ∷ []) $ fjoin ! $ move ! (1 ∷ 0 ∷ []) $ closes ! tt owner.the_row new us rb ro $
+    rewrite ! 0 (λ (p : Ptr). ‵ (bytes_own p d.skip d.bytes cs d.units)) (sym e) refl $ move ! (1 ∷ 0 ∷ []) $ fjoin ! $ move ! (1 ∷ 0 ∷ []) $ closes ! tt owner.the_row
+    new us rb ro $
     sets ! (of_opd ! (unit_lit !)) refl (tt, tt) $
-    returns ! (look_at ! 0 refl) $ free_all ! refl $ keep ! (0 ∷ 1 ∷ 2 ∷ 3 ∷ []) $ feq_i ! (List Val) (vunit ∷ []) (vunit ∷ []) refl $ move ! (1 ∷ 2 ∷ 3 ∷ 0 ∷ 4 ∷ []) $
+    returns ! (look_at ! 0 refl) $ free_all ! refl $ keep ! (0 ∷ 1 ∷ 2 ∷ 3 ∷ []) $ feq_i ! (List Val) (vunit ∷ []) (vunit ∷ []) refl $ move !
+    (1 ∷ 2 ∷ 3 ∷ 0 ∷ 4 ∷ []) $
     suffices ! _ (ends_at 𝓛 f.ended stayed c y vunit tt (new, (tt, tt)) (tt, (tt, tt))) $ says ! (was, refl, refl, refl, refl, refl) $
-    nothing ! $ move ! (3 ∷ 0 ∷ []) $ join ! $ frame ! $ move ! (3 ∷ 0 ∷ 1 ∷ []) $ fjoin3 ! $ nothing ! $ nothing ! $ fjoin ! $ move ! (1 ∷ 0 ∷ []) $ fjoin ! $ done !))))))))
+    nothing ! $ move ! (3 ∷ 0 ∷ []) $ join ! $ frame ! $ move ! (3 ∷ 0 ∷ 1 ∷ []) $ fjoin3 ! $ nothing ! $ nothing ! $ fjoin ! $ move ! (1 ∷ 0 ∷ []) $ fjoin ! $
+    done !))))))))

@@ -66,10 +66,14 @@ put_units_spec 𝓤 𝓛 𝓜 𝓡 wired =
     learns ! 2 (IsOut d.out i n) (clash_units 𝓛 b o d.units first count asked.3 d.out d.skip d.bytes asked.1 asked.2 𝓜) (λ was.
     -- [the units; the bytes; the ways with the mark; ..]
     move ! (2 ∷ []) $ fsplit ! $ move ! (2 ∷ 3 ∷ 0 ∷ []) $
-    use3 𝓛 (‵ (held (kept_at cs) 0 d.bytes b (d.skip + o)) ⊛ ‵ (ways_of (own_unit cs d.skip (length d.bytes)) 0 d.units b o)) (puts_units 𝓛 b o d.units first count asked.3 d.out d.skip d.bytes asked.1 asked.2 was) $ split ! $ fjoin ! $
+    use3 𝓛 (‵ (held (kept_at cs) 0 d.bytes b (d.skip + o)) ⊛ ‵ (ways_of (own_unit cs d.skip (length d.bytes)) 0 d.units b o))
+    (puts_units 𝓛 b o d.units first count asked.3 d.out d.skip d.bytes asked.1 asked.2 was) $ split ! $ fjoin ! $
     flt_i ! (length d.bytes) (2 ^ 63) small $ fjoin ! $
-    rewrite ! 0 (λ (p : Ptr). ‵ (bytes_own p d.skip d.bytes cs d.units)) (sym e) refl $ move ! (1 ∷ 0 ∷ []) $ fjoin ! $ move ! (1 ∷ 0 ∷ []) $ closes ! tt owner.the_row new us rb ro $
+    rewrite ! 0 (λ (p : Ptr). ‵ (bytes_own p d.skip d.bytes cs d.units)) (sym e) refl $ move ! (1 ∷ 0 ∷ []) $ fjoin ! $ move ! (1 ∷ 0 ∷ []) $ closes ! tt owner.the_row
+    new us rb ro $
     sets ! (of_opd ! (unit_lit !)) refl (tt, tt) $
-    returns ! (look_at ! 0 refl) $ free_all ! refl $ keep ! (0 ∷ 1 ∷ 2 ∷ 3 ∷ []) $ feq_i ! (List Val) (vunit ∷ []) (vunit ∷ []) refl $ move ! (1 ∷ 2 ∷ 3 ∷ 0 ∷ 4 ∷ []) $
+    returns ! (look_at ! 0 refl) $ free_all ! refl $ keep ! (0 ∷ 1 ∷ 2 ∷ 3 ∷ []) $ feq_i ! (List Val) (vunit ∷ []) (vunit ∷ []) refl $ move !
+    (1 ∷ 2 ∷ 3 ∷ 0 ∷ 4 ∷ []) $
     suffices ! _ (ends_at 𝓛 f.ended stayed c y vunit tt (new, (tt, tt)) (tt, (tt, tt))) $ says ! (was, refl, refl, refl, refl, refl) $
-    nothing ! $ move ! (3 ∷ 0 ∷ []) $ join ! $ frame ! $ move ! (3 ∷ 0 ∷ 1 ∷ []) $ fjoin3 ! $ nothing ! $ nothing ! $ fjoin ! $ move ! (1 ∷ 0 ∷ []) $ fjoin ! $ done !)))))))
+    nothing ! $ move ! (3 ∷ 0 ∷ []) $ join ! $ frame ! $ move ! (3 ∷ 0 ∷ 1 ∷ []) $ fjoin3 ! $ nothing ! $ nothing ! $ fjoin ! $ move ! (1 ∷ 0 ∷ []) $ fjoin ! $
+    done !)))))))

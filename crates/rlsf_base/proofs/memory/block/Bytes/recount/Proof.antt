@@ -49,11 +49,15 @@ recount_spec 𝓤 𝓛 𝓜 𝓡 wired =
     let new : (owner.the_row).Denot = record { mark = d.mark; at = d.at; skip = d.skip; bytes = d.bytes; out = cs; of = d.of; units = d.units } in
     rewrite ! 0 (λ (F : Fml). ‵ F) (held-same 𝓛 b (kept_at d.out) (kept_at cs) 0 d.bytes (d.skip + o) (λ j lo hi. asked j (omega (arith, hi)))) refl $
     move ! (1 ∷ []) $ fsplit ! $
-    rewrite ! 0 (λ (F : Fml). ‵ F) (ways-same 𝓛 b (own_unit d.out d.skip (length d.bytes)) (own_unit cs d.skip (length d.bytes)) 0 d.units o (λ u. unit-same d.out cs d.skip (length d.bytes) u (λ lo hi. ap is_own (asked (u * 16 - d.skip) (omega (arith, lo, hi)))))) refl $
+    rewrite ! 0 (λ (F : Fml). ‵ F)
+    (ways-same 𝓛 b (own_unit d.out d.skip (length d.bytes)) (own_unit cs d.skip (length d.bytes)) 0 d.units o
+    (λ u. unit-same d.out cs d.skip (length d.bytes) u (λ lo hi. ap is_own (asked (u * 16 - d.skip) (omega (arith, lo, hi)))))) refl $
     move ! (2 ∷ 0 ∷ []) $ fjoin ! $
     flt_i ! (length d.bytes) (2 ^ 63) small $ fjoin ! $
-    rewrite ! 0 (λ (p : Ptr). ‵ (bytes_own p d.skip d.bytes cs d.units)) (sym e) refl $ move ! (1 ∷ 0 ∷ []) $ fjoin ! $ move ! (1 ∷ 0 ∷ []) $ closes ! tt owner.the_row new us rb ro $
+    rewrite ! 0 (λ (p : Ptr). ‵ (bytes_own p d.skip d.bytes cs d.units)) (sym e) refl $ move ! (1 ∷ 0 ∷ []) $ fjoin ! $ move ! (1 ∷ 0 ∷ []) $ closes ! tt owner.the_row
+    new us rb ro $
     sets ! (of_opd ! (unit_lit !)) refl (tt, tt) $
-    returns ! (look_at ! 0 refl) $ free_all ! refl $ keep ! (0 ∷ 1 ∷ 2 ∷ 3 ∷ []) $ feq_i ! (List Val) (vunit ∷ []) (vunit ∷ []) refl $ move ! (1 ∷ 2 ∷ 3 ∷ 0 ∷ 4 ∷ []) $
+    returns ! (look_at ! 0 refl) $ free_all ! refl $ keep ! (0 ∷ 1 ∷ 2 ∷ 3 ∷ []) $ feq_i ! (List Val) (vunit ∷ []) (vunit ∷ []) refl $ move !
+    (1 ∷ 2 ∷ 3 ∷ 0 ∷ 4 ∷ []) $
     suffices ! _ (ends_at 𝓛 f.ended stayed c y vunit tt (new, tt) (tt, tt)) $ says ! (refl, refl, refl, refl, refl, refl) $
     nothing ! $ move ! (3 ∷ 0 ∷ []) $ join ! $ frame ! $ move ! (3 ∷ 0 ∷ 1 ∷ []) $ fjoin3 ! $ nothing ! $ move ! (1 ∷ 0 ∷ []) $ fjoin ! $ done !))))))

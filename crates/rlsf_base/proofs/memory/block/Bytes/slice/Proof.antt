@@ -1,5 +1,6 @@
 -- Shows that `slice` lends the run of bytes that a `&` to the owner sees. Assumes `Logic`.
-use Rattle.std.proofs.Common.{◌≡◌, ℕ, ◌+◌, ◌-◌, ◌*◌, ◌^◌, ◌≤◌, List, [], ◌∷◌, length, take, drop, refl, sym, ap, ◌∙◌, arith, length-take, length-drop, w64}
+use Rattle.std.proofs.Common.{◌≡◌, ℕ, ◌+◌, ◌-◌, ◌*◌, ◌^◌, ◌≤◌, List, [], ◌∷◌, length, take, drop, refl, sym, ap, ◌∙◌, arith, length-take}
+use Rattle.std.proofs.Common.{length-drop, w64}
 use base.Fraction.{full_share}
 use mir.Syntax.{named}
 use mir.Val.{Val}
@@ -7,7 +8,8 @@ use base.Logic.{never, id⊢}
 use base.Fml.{ftrue, fat, flft}
 use contract.Monad.{fact}
 use contract.Running.{tables}
-use types.Kit.{‵, raw, ◌⊛◌, at_ret, ◌$◌, ◌∵◌, !, qed, move, keep, drop as skip, use1, split, join, rewrite, suffices, frame, fsplit, fjoin, feq_i, flt_i, flt_l, done}
+use types.Kit.{‵, raw, ◌⊛◌, at_ret, ◌$◌, ◌∵◌, !, qed, move, keep, drop as skip, use1, split, join, rewrite, suffices, frame, fsplit, fjoin, feq_i, flt_i, flt_l}
+use types.Kit.{done}
 use types.Part.{whole, sub, agg}
 use types.Run.{stop, fld, of_opd, and_then, no_more, bin, first, blocks, exec, returns, enter}
 use types.ByLocal.{alloc_all, pass_all, free_all, look_at, get, get_in, sets, sets_last, take_at, give_at, env}
@@ -35,15 +37,30 @@ use Rattle.rlsf_base.proofs.memory.block.Bytes.slice.Statement.{statement}
 use Rattle.rlsf_base.proofs.memory.block.Bytes.slice.Code as code
 
 abbrev stayed : Stays f.ended.signature.params f.ended.kept
-stayed = (stay_dropped (RefOf (0 ∷ []) tt (plain (λ _. owner.the_row)) (λ _. tt)) f.ended.kept.0, (stay_dropped (plain (λ _. base_type.the_row)) f.ended.kept.1.0, (stay_dropped (plain (λ _. usize)) f.ended.kept.1.1.0, (stay_dropped (plain (λ _. usize)) f.ended.kept.1.1.1.0, tt))))
+stayed = (
+  stay_dropped (RefOf (0 ∷ []) tt (plain (λ _. owner.the_row)) (λ _. tt)) f.ended.kept.0,
+  (
+    stay_dropped (plain (λ _. base_type.the_row)) f.ended.kept.1.0,
+    (stay_dropped (plain (λ _. usize)) f.ended.kept.1.1.0, (stay_dropped (plain (λ _. usize)) f.ended.kept.1.1.1.0, tt)),
+  ),
+)
 
 pub slice_spec : {M : Type 1} → statement M
 slice_spec 𝓤 𝓛 𝓜 𝓡 wired =
     let c = f.clauses 𝓛 𝓜.mem 𝓡.returns in let W = walk_of 𝓛 f.ended stayed c in let 𝓣 = tables 𝓤 𝓛.H 𝓜 𝓡 𝓡.env in
-    proved 𝓛 f.ended stayed c 𝓜 𝓡
-    (Goes-dropped 𝓛 1 (RefOf (0 ∷ []) tt (plain (λ _. owner.the_row)) (λ _. tt)) f.ended.kept.0 (λ κs x w. refl), (Goes-dropped 𝓛 1 (plain (λ _. base_type.the_row)) f.ended.kept.1.0 (λ κs x w. refl), (Goes-dropped 𝓛 1 (plain (λ _. usize)) f.ended.kept.1.1.0 (λ κs x w. refl), (Goes-dropped 𝓛 1 (plain (λ _. usize)) f.ended.kept.1.1.1.0 (λ κs x w. refl), tt))))
+    proved 𝓛 f.ended stayed c 𝓜 𝓡 (
+      Goes-dropped 𝓛 1 (RefOf (0 ∷ []) tt (plain (λ _. owner.the_row)) (λ _. tt)) f.ended.kept.0 (λ κs x w. refl),
+      (
+        Goes-dropped 𝓛 1 (plain (λ _. base_type.the_row)) f.ended.kept.1.0 (λ κs x w. refl),
+        (
+          Goes-dropped 𝓛 1 (plain (λ _. usize)) f.ended.kept.1.1.0 (λ κs x w. refl),
+          (Goes-dropped 𝓛 1 (plain (λ _. usize)) f.ended.kept.1.1.1.0 (λ κs x w. refl), tt),
+        ),
+      ),
+    )
     f.Key.name code.function (code.unfolded 𝓤 𝓛.H 𝓜 𝓡 wired)
-    (λ κs. (shr_vals, (base_vals, (uint_vals w64, (uint_vals w64, tt))))) (λ κs. (shr_Tells (named 0) κs.0 owner.the_row, (base_Tells, (uint_Tells w64, (uint_Tells w64, tt))))) (λ κs qs bounds a g are.
+    (λ κs. (shr_vals, (base_vals, (uint_vals w64, (uint_vals w64, tt)))))
+    (λ κs. (shr_Tells (named 0) κs.0 owner.the_row, (base_Tells, (uint_Tells w64, (uint_Tells w64, tt))))) (λ κs qs bounds a g are.
     let κ = κs.0 in let d = a.0.now in let base = a.1.0 in let place = a.1.1.0 in let len = a.1.1.1.0 in
     let vss : List Val × (List Val × (List Val × (List Val × Unit {0}))) = (shr_vals a.0, (base_vals base, (uint_vals w64 place, (uint_vals w64 len, tt)))) in
     let Asked : Type 0 = (base.ptr ≡ d.at) × (d.skip ≤ place) × (place + len ≤ d.skip + length d.bytes) × IsIn d.out (place - d.skip) len in
@@ -61,7 +78,8 @@ slice_spec 𝓤 𝓛 𝓜 𝓡 wired =
     use1 𝓛 (‵ (elements_shared u8 xs b (i + (d.skip + o)) κ)) (run_seen 𝓛 b κ d.out (d.skip + o) d.bytes i len (omega (arith, asked.1, asked.2)) asked.3) $
     rewrite ! 0 (λ (k : ℕ). ‵ (elements_shared u8 xs b k κ)) there refl $ hide ! $
     sets_last ! (agg ! (and_then ! (get ! refl) (and_then ! (get ! refl) (no_more !)))) refl (tt, (tt, (record { fits = are.1.1.1.0.1 }, tt))) $
-    exec ! 𝓣.C 𝓣.Λ (env code.Mir.locals l) (after 1 (code.function).body) (at_ret _ (W.post y)) $ sets ! (of_opd ! (get ! refl)) refl (tt, (tt, (record { fits = are.1.1.1.0.1 }, tt))) $
+    exec ! 𝓣.C 𝓣.Λ (env code.Mir.locals l) (after 1 (code.function).body) (at_ret _ (W.post y)) $ sets ! (of_opd ! (get ! refl)) refl
+    (tt, (tt, (record { fits = are.1.1.1.0.1 }, tt))) $
     flt_i ! (length xs * 1) (2 ^ 63) (omega (arith, small, long, asked.1, asked.2)) $ flt_i ! (length xs) (2 ^ 64) (omega (arith, small, long, asked.1, asked.2)) $ fjoin ! $
     feq_i ! (List Val) (slice_val at len ∷ []) (slice_val at (length xs) ∷ []) (ap (λ k. slice_val at k ∷ []) (sym long)) $ fjoin ! $ fjoin ! $
     returns ! (look_at ! 0 refl) $ free_all ! refl $ keep ! (1 ∷ 0 ∷ []) $

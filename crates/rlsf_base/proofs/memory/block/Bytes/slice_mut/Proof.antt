@@ -1,5 +1,6 @@
 -- Shows that `slice_mut` lends a run of the bytes, and that the owner's bytes follow what is written there. Assumes `Logic`.
-use Rattle.std.proofs.Common.{◌≡◌, ℕ, ◌+◌, ◌-◌, ◌*◌, ◌^◌, ◌<◌, ◌≤◌, List, [], ◌∷◌, ◌++◌, length, take, drop, refl, sym, ap, subst, ◌∙◌, arith, length-take, length-drop, length-append, take_at, w64}
+use Rattle.std.proofs.Common.{◌≡◌, ℕ, ◌+◌, ◌-◌, ◌*◌, ◌^◌, ◌<◌, ◌≤◌, List, [], ◌∷◌, ◌++◌, length, take, drop, refl, sym, ap, subst}
+use Rattle.std.proofs.Common.{◌∙◌, arith, length-take, length-drop, length-append, take_at, w64}
 use seplogic.Ra.Ura.{Ura}
 use base.Fraction.{full_share}
 use mir.Syntax.{named}
@@ -9,7 +10,8 @@ use base.Fml.{Fml, GName, ftrue, fsep, fat, flft}
 use contract.Monad.{fact}
 use contract.Running.{tables}
 use types.Logic.{Logic, sem}
-use types.Kit.{‵, raw, ◌⊛◌, some, later, await, pick, at_ret, ◌$◌, ◌∵◌, !, qed, by, move, keep, use1, use2, split, join, group, rewrite, suffices, frame, fsplit, fsplit3, fjoin, fpack, flt_i, flt_l, done}
+use types.Kit.{‵, raw, ◌⊛◌, some, later, await, pick, at_ret, ◌$◌, ◌∵◌, !, qed, by, move, keep, use1, use2, split, join, group, rewrite, suffices, frame, fsplit}
+use types.Kit.{fsplit3, fjoin, fpack, flt_i, flt_l, done}
 use types.Part.{whole, sub, agg}
 use types.Run.{stop, fld, of_opd, and_then, no_more, bin, first, blocks, exec, returns, enter}
 use types.ByLocal.{alloc_all, pass_all, free_all, look_at, get, get_in, is, sets, sets_last, take_at as lift_at, give_at, env}
@@ -47,7 +49,13 @@ use Rattle.rlsf_base.proofs.memory.block.Bytes.slice_mut.Code as code
 use Rattle.std.specs.List.{refill}
 
 abbrev stayed : Stays f.ended.signature.params f.ended.kept
-stayed = (stay_dropped (mut_ref_to (0 ∷ []) tt (plain (λ _. owner.the_row))) f.ended.kept.0, (stay_dropped (plain (λ _. base_type.the_row)) f.ended.kept.1.0, (stay_dropped (plain (λ _. usize)) f.ended.kept.1.1.0, (stay_dropped (plain (λ _. usize)) f.ended.kept.1.1.1.0, tt))))
+stayed = (
+  stay_dropped (mut_ref_to (0 ∷ []) tt (plain (λ _. owner.the_row))) f.ended.kept.0,
+  (
+    stay_dropped (plain (λ _. base_type.the_row)) f.ended.kept.1.0,
+    (stay_dropped (plain (λ _. usize)) f.ended.kept.1.1.0, (stay_dropped (plain (λ _. usize)) f.ended.kept.1.1.1.0, tt)),
+  ),
+)
 
 module _ {M : Type 1} {𝓤 : Ura M} (𝓛 : Logic 𝓤) (rb ro b o : ℕ) (d : (owner.the_row).Denot) (i len : ℕ) (vs : List Val) where
   abbrev the_ways : Fml
@@ -55,7 +63,9 @@ module _ {M : Type 1} {𝓤 : Ura M} (𝓛 : Logic 𝓤) (rb ro b o : ℕ) (d : 
 
   -- all but the run
   abbrev Rest : Fml
-  Rest = fsep (Around 𝓛 b (kept_at d.out) (d.skip + o) d.bytes i len) (fsep (fsep the_ways ((Struct (shape owner.the_type)).own_val (tt, tt) vs)) (cell_at full_share (owner.the_row).mir vs rb ro))
+  Rest =
+      fsep (Around 𝓛 b (kept_at d.out) (d.skip + o) d.bytes i len)
+      (fsep (fsep the_ways ((Struct (shape owner.the_type)).own_val (tt, tt) vs)) (cell_at full_share (owner.the_row).mir vs rb ro))
 
   abbrev new : List ℕ → (owner.the_row).Denot
   new ws = owner_with d (refilled d.bytes i len ws)
@@ -66,7 +76,9 @@ module _ {M : Type 1} {𝓤 : Ura M} (𝓛 : Logic 𝓤) (rb ro b o : ℕ) (d : 
   back e within inside small ws same =
       let old = drop i d.bytes in let bs = refilled d.bytes i len ws in let end = drop (i + len) d.bytes in
       let all : refill len old ws ≡ ws = take_at ws (drop (length ws) old) len same in
-      let long : length bs ≡ length d.bytes = ap (λ l. length (take i d.bytes ++ (l ++ end))) all ∙ omega (arith, length-append (take i d.bytes) (ws ++ end), length-append ws end, length-take i d.bytes, length-drop (i + len) d.bytes) in
+      let long : length bs ≡ length d.bytes =
+      ap (λ l. length (take i d.bytes ++ (l ++ end))) all
+      ∙ omega (arith, length-append (take i d.bytes) (ws ++ end), length-append ws end, length-take i d.bytes, length-drop (i + len) d.bytes) in
       qed 𝓛 (‵ (cells (mem u8) ws b (i + (d.skip + o))) ∷ ‵ Rest ∷ []) ∵ move ! (1 ∷ []) $ fsplit ! $ move ! (2 ∷ 0 ∷ []) $
       use2 𝓛 (‵ (held (kept_at d.out) 0 (take i d.bytes ++ (ws ++ end)) b (d.skip + o))) (run_in 𝓛 b d.out (d.skip + o) d.bytes i len within inside ws (sym same)) $
       rewrite ! 0 (λ (l : List ℕ). ‵ (held (kept_at d.out) 0 (take i d.bytes ++ (l ++ end)) b (d.skip + o))) (sym all) refl $ move ! (1 ∷ []) $ fsplit ! $ fsplit ! $
@@ -79,11 +91,21 @@ module _ {M : Type 1} {𝓤 : Ura M} (𝓛 : Logic 𝓤) (rb ro b o : ℕ) (d : 
 pub slice_mut_spec : {M : Type 1} → statement M
 slice_mut_spec 𝓤 𝓛 𝓜 𝓡 wired =
     let c = f.clauses 𝓛 𝓜.mem 𝓡.returns in let W = walk_of 𝓛 f.ended stayed c in let 𝓣 = tables 𝓤 𝓛.H 𝓜 𝓡 𝓡.env in
-    proved 𝓛 f.ended stayed c 𝓜 𝓡
-    (Goes-spent_ref 𝓛 1 (0 ∷ []) tt (plain (λ _. owner.the_row)), (Goes-dropped 𝓛 1 (plain (λ _. base_type.the_row)) f.ended.kept.1.0 (λ κs x w. refl), (Goes-dropped 𝓛 1 (plain (λ _. usize)) f.ended.kept.1.1.0 (λ κs x w. refl), (Goes-dropped 𝓛 1 (plain (λ _. usize)) f.ended.kept.1.1.1.0 (λ κs x w. refl), tt))))
+    proved 𝓛 f.ended stayed c 𝓜 𝓡 (
+      Goes-spent_ref 𝓛 1 (0 ∷ []) tt (plain (λ _. owner.the_row)),
+      (
+        Goes-dropped 𝓛 1 (plain (λ _. base_type.the_row)) f.ended.kept.1.0 (λ κs x w. refl),
+        (
+          Goes-dropped 𝓛 1 (plain (λ _. usize)) f.ended.kept.1.1.0 (λ κs x w. refl),
+          (Goes-dropped 𝓛 1 (plain (λ _. usize)) f.ended.kept.1.1.1.0 (λ κs x w. refl), tt),
+        ),
+      ),
+    )
     f.Key.name code.function (code.unfolded 𝓤 𝓛.H 𝓜 𝓡 wired)
-    (λ κs. (mut_vals, (base_vals, (uint_vals w64, (uint_vals w64, tt))))) (λ κs. (mut_Tells (named 0) κs.0 owner.the_row, (base_Tells, (uint_Tells w64, (uint_Tells w64, tt))))) (λ κs qs bounds a g are.
-    let κ = κs.0 in let q = qs.0 in let rb = a.0.ref_ptr.0 in let ro = a.0.ref_ptr.1 in let γ = a.0.ghost_name in let d = a.0.now in let base = a.1.0 in let place = a.1.1.0 in let len = a.1.1.1.0 in
+    (λ κs. (mut_vals, (base_vals, (uint_vals w64, (uint_vals w64, tt)))))
+    (λ κs. (mut_Tells (named 0) κs.0 owner.the_row, (base_Tells, (uint_Tells w64, (uint_Tells w64, tt))))) (λ κs qs bounds a g are.
+    let κ = κs.0 in let q = qs.0 in let rb = a.0.ref_ptr.0 in let ro = a.0.ref_ptr.1 in let γ = a.0.ghost_name in let d = a.0.now in let base = a.1.0 in let place = a.1.1.0 in
+    let len = a.1.1.1.0 in
     let vss : List Val × (List Val × (List Val × (List Val × Unit {0}))) = (mut_vals a.0, (base_vals base, (uint_vals w64 place, (uint_vals w64 len, tt)))) in
     let Asked : Type 0 = (base.ptr ≡ d.at) × (d.skip ≤ place) × (place + len ≤ d.skip + length d.bytes) × IsIn d.out (place - d.skip) len in
     let y : W.Ghost = ((κs, qs, bounds, a, vss), g) in
@@ -98,13 +120,17 @@ slice_mut_spec 𝓤 𝓛 𝓜 𝓡 wired =
     let within : i + len ≤ length d.bytes = omega (arith, asked.1, asked.2) in
     let long : length xs ≡ len = omega (arith, length-take len (drop i d.bytes), length-drop i d.bytes, within) in
     let there : place + o ≡ at = omega (arith, asked.1) in
-    let way : (ws : List ℕ) → length ws ≡ length xs → ent 𝓤 (sep 𝓤 (sem 𝓛 (cells (mem u8) ws b at)) (sem 𝓛 (Rest 𝓛 rb ro b o d i len vs))) (sem 𝓛 ((mem owner.the_row).own_at (new 𝓛 rb ro b o d i len vs ws) rb ro))
+    let way : (ws : List ℕ) → length ws ≡ length xs
+    → ent 𝓤 (sep 𝓤 (sem 𝓛 (cells (mem u8) ws b at)) (sem 𝓛 (Rest 𝓛 rb ro b o d i len vs)))
+    (sem 𝓛 ((mem owner.the_row).own_at (new 𝓛 rb ro b o d i len vs ws) rb ro))
     = λ ws same. back 𝓛 rb ro b o d i len vs e within asked.3 small ws (same ∙ long) in
     lift_at ! 2 $ rewrite ! 0 (λ (p : Ptr). ‵ (fat full_share (layout base_type.the_row) (l 2) 0 (base_val p))) (asked.0 ∙ e) refl $ give_at ! 2 $
     first ! $ blocks ! $ sets ! (is ! (bin ! (get_in ! (fld ! refl (stop !)) (sub ! 0 refl (whole !))) (get ! refl) tt) (ap (λ (k : ℕ). vptr b k) there)) refl (tt, tt) $
-    use1 𝓛 (‵ (Row 𝓛 b at xs) ⊛ ‵ (Around 𝓛 b (kept_at d.out) (d.skip + o) d.bytes i len)) (run_out 𝓛 b d.out (d.skip + o) d.bytes i len within asked.3) $ split ! $
+    use1 𝓛 (‵ (Row 𝓛 b at xs) ⊛ ‵ (Around 𝓛 b (kept_at d.out) (d.skip + o) d.bytes i len)) (run_out 𝓛 b d.out (d.skip + o) d.bytes i len within asked.3) $ split !
+    $
     sets_last ! (agg ! (and_then ! (get ! refl) (and_then ! (get ! refl) (no_more !)))) refl (tt, (tt, (record { fits = are.1.1.1.0.1 }, tt))) $
-    exec ! 𝓣.C 𝓣.Λ (env code.Mir.locals l) (after 1 (code.function).body) (at_ret _ (W.post y)) $ sets ! (of_opd ! (get ! refl)) refl (tt, (tt, (record { fits = are.1.1.1.0.1 }, tt))) $
+    exec ! 𝓣.C 𝓣.Λ (env code.Mir.locals l) (after 1 (code.function).body) (at_ret _ (W.post y)) $ sets ! (of_opd ! (get ! refl)) refl
+    (tt, (tt, (record { fits = are.1.1.1.0.1 }, tt))) $
     move ! (2 ∷ 3 ∷ []) $ fjoin ! $ move ! (2 ∷ 0 ∷ []) $ fjoin ! $ move ! (2 ∷ 3 ∷ 4 ∷ 1 ∷ 0 ∷ []) $ group ! 5 $
     let roomy : length xs < 2 ^ 64 = omega (arith, small, long, within) in let fitting : length xs * 1 < 2 ^ 63 = omega (arith, small, long, within) in
     let left_over = sem 𝓛 (Rest 𝓛 rb ro b o d i len vs) in let written = new 𝓛 rb ro b o d i len vs in let coded = (owner.the_row).coded.code d in
@@ -115,7 +141,9 @@ slice_mut_spec 𝓤 𝓛 𝓜 𝓡 wired =
     let exits : ent 𝓤 (Elements 𝓛 owner.the_row u8 written (named 0) κ q rb ro b at γ xs (roomy, fitting) left_over way δ) (W.post y v)
     = qed 𝓛 (‵ ((MutSlice (named 0) κ u8).own_val r (v ∷ [])) ∷ ‵ (flft κ q) ∷ ‵ (follows owner.the_row (Array u8 0) γ δ written) ∷ []) ∵
     suffices ! _ (ends_at 𝓛 f.ended stayed c y v r (tt, (tt, (tt, (tt, tt)))) (tt, (tt, (tt, (tt, tt))))) $
-    nothing ! $ nothing ! $ fjoin ! $ nothing ! $ fjoin ! $ nothing ! $ fjoin ! $ nothing ! $ fjoin ! $ join ! $ nothing ! $ move ! (2 ∷ 0 ∷ []) $ join ! $ join ! $ frame ! $ says ! refl $ done ! in
+    nothing ! $ nothing ! $ fjoin ! $ nothing ! $ fjoin ! $ nothing ! $ fjoin ! $ nothing ! $ fjoin ! $ join ! $ nothing ! $ move ! (2 ∷ 0 ∷ []) $ join ! $ join ! $ frame ! $
+    says ! refl $ done ! in
     returns ! (look_at ! 0 refl) $ free_all ! refl $ keep ! (0 ∷ []) $
-    by ! (subst (λ (k : ℕ). ent 𝓤 (Elements 𝓛 owner.the_row u8 written (named 0) κ q rb ro b at γ xs (roomy, fitting) left_over way δ) (W.post y (slice_val (b, at) k))) long
+    by ! (subst (λ (k : ℕ). ent 𝓤 (Elements 𝓛 owner.the_row u8 written (named 0) κ q rb ro b at γ xs (roomy, fitting) left_over way δ) (W.post y (slice_val (b, at) k)))
+    long
     exits))))))))

@@ -1,5 +1,6 @@
 -- Shows that `take_out` parts the owner from a run of its bytes, which the answer owns. Assumes `Logic`.
-use Rattle.std.proofs.Common.{◌≡◌, ℕ, ◌+◌, ◌-◌, ◌^◌, ◌≤◌, List, [], ◌∷◌, length, take, drop as skip, refl, sym, arith, length-take, length-drop, w64}
+use Rattle.std.proofs.Common.{◌≡◌, ℕ, ◌+◌, ◌-◌, ◌^◌, ◌≤◌, List, [], ◌∷◌, length, take, drop as skip, refl, sym, arith, length-take, length-drop}
+use Rattle.std.proofs.Common.{w64}
 use mir.Syntax.{named}
 use mir.Val.{Val}
 use base.Logic.{never, id⊢}
@@ -37,10 +38,13 @@ stayed = (stay_ref (0 ∷ []) tt (plain (λ _. owner.the_row)), (stay_dropped (p
 pub take_out_spec : {M : Type 1} → statement M
 take_out_spec 𝓤 𝓛 𝓜 𝓡 wired =
     let c = f.clauses 𝓛 𝓜.mem 𝓡.returns in let W = walk_of 𝓛 f.ended stayed c in let 𝓣 = tables 𝓤 𝓛.H 𝓜 𝓡 𝓡.env in
-    proved 𝓛 f.ended stayed c 𝓜 𝓡
-    (Goes-ref 𝓛 1 0 tt (plain (λ _. owner.the_row)), (Goes-dropped 𝓛 1 (plain (λ _. usize)) f.ended.kept.1.0 (λ κs x w. refl), (Goes-dropped 𝓛 1 (plain (λ _. usize)) f.ended.kept.1.1.0 (λ κs x w. refl), tt)))
+    proved 𝓛 f.ended stayed c 𝓜 𝓡 (
+      Goes-ref 𝓛 1 0 tt (plain (λ _. owner.the_row)),
+      (Goes-dropped 𝓛 1 (plain (λ _. usize)) f.ended.kept.1.0 (λ κs x w. refl), (Goes-dropped 𝓛 1 (plain (λ _. usize)) f.ended.kept.1.1.0 (λ κs x w. refl), tt)),
+    )
     f.Key.name code.function (code.unfolded 𝓤 𝓛.H 𝓜 𝓡 wired)
-    (λ κs. (mut_vals, (uint_vals w64, (uint_vals w64, tt)))) (λ κs. (mut_Tells (named 0) κs.0 owner.the_row, (uint_Tells w64, (uint_Tells w64, tt)))) (λ κs qs bounds a g are.
+    (λ κs. (mut_vals, (uint_vals w64, (uint_vals w64, tt)))) (λ κs. (mut_Tells (named 0) κs.0 owner.the_row, (uint_Tells w64, (uint_Tells w64, tt))))
+    (λ κs qs bounds a g are.
     let rb = a.0.ref_ptr.0 in let ro = a.0.ref_ptr.1 in let d = a.0.now in let place = a.1.0 in let len = a.1.1.0 in
     let vss : List Val × (List Val × (List Val × Unit {0})) = (mut_vals a.0, (uint_vals w64 place, (uint_vals w64 len, tt))) in
     let Asked : Type 0 = (d.skip ≤ place) × (place + len ≤ d.skip + length d.bytes) × IsOwn d.out (place - d.skip) len in
@@ -60,15 +64,20 @@ take_out_spec 𝓤 𝓛 𝓜 𝓡 wired =
     let taken = shifted i d.out in
     let part : (owner.the_row).Denot = record { mark = record {}; at = d.at; skip = place; bytes = xs; out = taken; of = (d.skip, length d.bytes); units = d.units } in
     let go : (u : ℕ) → Shares (own_unit d.out d.skip (length d.bytes) u) (own_unit cs d.skip (length d.bytes) u) (own_unit taken place len u)
-    = λ u. parted d.out cs taken d.skip (length d.bytes) place len u asked.0 asked.1 asked.2 (left-out d.out i len) (λ k side. around-left d.out i len k side) (shifted-own i d.out len asked.2) in
-    use1 𝓛 (‵ (held (kept_at taken) 0 xs b (i + (d.skip + o))) ⊛ ‵ (Around 𝓛 b (kept_at d.out) (d.skip + o) d.bytes i len)) (part_out 𝓛 b d.out (d.skip + o) d.bytes i len within) $ split ! $ move ! (1 ∷ []) $
+    =
+    λ u. parted d.out cs taken d.skip (length d.bytes) place len u asked.0 asked.1 asked.2 (left-out d.out i len) (λ k side. around-left d.out i len k side)
+    (shifted-own i d.out len asked.2) in
+    use1 𝓛 (‵ (held (kept_at taken) 0 xs b (i + (d.skip + o))) ⊛ ‵ (Around 𝓛 b (kept_at d.out) (d.skip + o) d.bytes i len))
+    (part_out 𝓛 b d.out (d.skip + o) d.bytes i len within) $ split ! $ move ! (1 ∷ []) $
     use1 𝓛 (‵ (held (kept_at cs) 0 d.bytes b (d.skip + o))) (goes 𝓛 b d.out (d.skip + o) d.bytes i len within) $
     -- [the bytes; the run; the ways with the mark; ..]
-    move ! (2 ∷ []) $ fsplit ! $ use1 𝓛 (‵ (ways_of (own_unit taken place len) 0 d.units b o) ⊛ ‵ (ways_of (own_unit cs d.skip (length d.bytes)) 0 d.units b o)) (ways_part 𝓛 b (own_unit d.out d.skip (length d.bytes)) (own_unit cs d.skip (length d.bytes)) (own_unit taken place len) 0 d.units o go) $ split ! $
+    move ! (2 ∷ []) $ fsplit ! $ use1 𝓛 (‵ (ways_of (own_unit taken place len) 0 d.units b o) ⊛ ‵ (ways_of (own_unit cs d.skip (length d.bytes)) 0 d.units b o))
+    (ways_part 𝓛 b (own_unit d.out d.skip (length d.bytes)) (own_unit cs d.skip (length d.bytes)) (own_unit taken place len) 0 d.units o go) $ split ! $
     -- [the run's ways; the others; the mark; the bytes; the run; ..]
     move ! (4 ∷ 0 ∷ []) $ fjoin ! $ move ! (3 ∷ 1 ∷ []) $ fjoin ! $
     flt_i ! (length d.bytes) (2 ^ 63) small $ fjoin ! $
-    rewrite ! 0 (λ (p : Ptr). ‵ (bytes_own p d.skip d.bytes cs d.units)) (sym e) refl $ move ! (2 ∷ 0 ∷ []) $ fjoin ! $ move ! (2 ∷ 0 ∷ 3 ∷ 4 ∷ 5 ∷ []) $ closes ! tt owner.the_row new us rb ro $
+    rewrite ! 0 (λ (p : Ptr). ‵ (bytes_own p d.skip d.bytes cs d.units)) (sym e) refl $ move ! (2 ∷ 0 ∷ []) $ fjoin ! $ move ! (2 ∷ 0 ∷ 3 ∷ 4 ∷ 5 ∷ []) $ closes !
+    tt owner.the_row new us rb ro $
     sets ! (agg ! (no_more !)) refl (tt, tt) $ sets ! (agg ! (and_then ! (get ! refl) (no_more !))) refl (tt, (tt, tt)) $
     returns ! (look_at ! 0 refl) $ free_all ! refl $ move ! (3 ∷ []) $ fsplit ! $
     rewrite ! 0 (λ (k : ℕ). ‵ (held (kept_at taken) 0 xs b k)) there refl $
@@ -76,5 +85,7 @@ take_out_spec 𝓤 𝓛 𝓜 𝓡 wired =
     flt_i ! (length xs) (2 ^ 63) (omega (arith, small, long, within)) $ fjoin ! $
     rewrite ! 0 (λ (p : Ptr). ‵ (bytes_own p place xs taken d.units)) (sym e) refl $
     use0 𝓛 (‵ (mark_own (mark_val ∷ []))) (mark_made 𝓛) $ fjoin ! $ move ! (1 ∷ 2 ∷ 3 ∷ 0 ∷ 4 ∷ []) $
-    suffices ! _ (ends_at 𝓛 f.ended stayed c y mark_val part (new, (tt, (tt, tt))) (tt, (tt, (tt, tt)))) $ says ! (refl, refl, refl, refl, refl, refl, refl, refl, refl, refl, refl) $
-    nothing ! $ move ! (3 ∷ 0 ∷ []) $ join ! $ frame ! $ move ! (3 ∷ 0 ∷ 1 ∷ []) $ fjoin3 ! $ nothing ! $ nothing ! $ fjoin ! $ nothing ! $ fjoin ! $ move ! (1 ∷ 0 ∷ []) $ fjoin ! $ done !))))))
+    suffices ! _ (ends_at 𝓛 f.ended stayed c y mark_val part (new, (tt, (tt, tt))) (tt, (tt, (tt, tt)))) $ says !
+    (refl, refl, refl, refl, refl, refl, refl, refl, refl, refl, refl) $
+    nothing ! $ move ! (3 ∷ 0 ∷ []) $ join ! $ frame ! $ move ! (3 ∷ 0 ∷ 1 ∷ []) $ fjoin3 ! $ nothing ! $ nothing ! $ fjoin ! $ nothing ! $ fjoin ! $ move !
+    (1 ∷ 0 ∷ []) $ fjoin ! $ done !))))))

@@ -36,13 +36,17 @@ stayed = (stay_ref (0 ∷ []) tt (plain (λ _. owner.the_row)), (stay_dropped (p
 pub take_units_spec : {M : Type 1} → statement M
 take_units_spec 𝓤 𝓛 𝓜 𝓡 wired =
     let c = f.clauses 𝓛 𝓜.mem 𝓡.returns in let W = walk_of 𝓛 f.ended stayed c in let 𝓣 = tables 𝓤 𝓛.H 𝓜 𝓡 𝓡.env in
-    proved 𝓛 f.ended stayed c 𝓜 𝓡
-    (Goes-ref 𝓛 1 0 tt (plain (λ _. owner.the_row)), (Goes-dropped 𝓛 1 (plain (λ _. usize)) f.ended.kept.1.0 (λ κs x w. refl), (Goes-dropped 𝓛 1 (plain (λ _. usize)) f.ended.kept.1.1.0 (λ κs x w. refl), tt)))
+    proved 𝓛 f.ended stayed c 𝓜 𝓡 (
+      Goes-ref 𝓛 1 0 tt (plain (λ _. owner.the_row)),
+      (Goes-dropped 𝓛 1 (plain (λ _. usize)) f.ended.kept.1.0 (λ κs x w. refl), (Goes-dropped 𝓛 1 (plain (λ _. usize)) f.ended.kept.1.1.0 (λ κs x w. refl), tt)),
+    )
     f.Key.name code.function (code.unfolded 𝓤 𝓛.H 𝓜 𝓡 wired)
-    (λ κs. (mut_vals, (uint_vals w64, (uint_vals w64, tt)))) (λ κs. (mut_Tells (named 0) κs.0 owner.the_row, (uint_Tells w64, (uint_Tells w64, tt)))) (λ κs qs bounds a g are.
+    (λ κs. (mut_vals, (uint_vals w64, (uint_vals w64, tt)))) (λ κs. (mut_Tells (named 0) κs.0 owner.the_row, (uint_Tells w64, (uint_Tells w64, tt))))
+    (λ κs qs bounds a g are.
     let rb = a.0.ref_ptr.0 in let ro = a.0.ref_ptr.1 in let d = a.0.now in let first = a.1.0 in let count = a.1.1.0 in
     let vss : List Val × (List Val × (List Val × Unit {0})) = (mut_vals a.0, (uint_vals w64 first, (uint_vals w64 count, tt))) in
-    let Asked : Type 0 = (d.skip ≤ first * 16) × (first * 16 + count * 16 ≤ d.skip + length d.bytes) × (first + count ≤ d.units) × IsOwn d.out (first * 16 - d.skip) (count * 16) in
+    let Asked : Type 0 =
+    (d.skip ≤ first * 16) × (first * 16 + count * 16 ≤ d.skip + length d.bytes) × (first + count ≤ d.units) × IsOwn d.out (first * 16 - d.skip) (count * 16) in
     let y : W.Ghost = ((κs, qs, bounds, a, vss), g) in
     qed 𝓛 (((‵ (flft κs.0 qs.0) ⊛ ‵ ftrue) ⊛ ‵ (owns (types_at f.signature.params κs) a vss)) ∷ raw (fact 𝓤 Asked) ∷ []) ∵
     move ! (1 ∷ []) $ heard ! Asked (λ asked. split ! $ split ! $ move ! (2 ∷ []) $ fsplit ! $ keep ! (0 ∷ 2 ∷ []) $
@@ -53,13 +57,16 @@ take_units_spec 𝓤 𝓛 𝓜 𝓡 wired =
     let new : (owner.the_row).Denot = record { mark = d.mark; at = d.at; skip = d.skip; bytes = d.bytes; out = cs; of = d.of; units = d.units } in
     let run : (units.the_row).Denot = record { mark = record {}; at = d.at; first = first; count = count; of = (d.skip, length d.bytes) } in
     -- [the bytes; the ways; the mark; its cell; the open borrow; ..]
-    fsplit ! $ use2 𝓛 (‵ (froom (units_ty count) b (first * 16 + o)) ⊛ ‵ (held (kept_at cs) 0 d.bytes b (d.skip + o)) ⊛ ‵ (ways_of (own_unit cs d.skip (length d.bytes)) 0 d.units b o))
+    fsplit ! $ use2 𝓛 (‵ (froom (units_ty count) b (first * 16 + o)) ⊛ ‵ (held (kept_at cs) 0 d.bytes b (d.skip + o)) ⊛ ‵
+    (ways_of (own_unit cs d.skip (length d.bytes)) 0 d.units b o))
     (takes_units 𝓛 b o d.units first count asked.2 d.out d.skip d.bytes asked.0 asked.1 asked.3) $ split ! $ move ! (1 ∷ []) $ split ! $ fjoin ! $
     flt_i ! (length d.bytes) (2 ^ 63) small $ fjoin ! $
-    rewrite ! 0 (λ (p : Ptr). ‵ (bytes_own p d.skip d.bytes cs d.units)) (sym e) refl $ move ! (2 ∷ 0 ∷ []) $ fjoin ! $ move ! (2 ∷ 0 ∷ 3 ∷ 4 ∷ 5 ∷ []) $ closes ! tt owner.the_row new us rb ro $
+    rewrite ! 0 (λ (p : Ptr). ‵ (bytes_own p d.skip d.bytes cs d.units)) (sym e) refl $ move ! (2 ∷ 0 ∷ []) $ fjoin ! $ move ! (2 ∷ 0 ∷ 3 ∷ 4 ∷ 5 ∷ []) $ closes !
+    tt owner.the_row new us rb ro $
     sets ! (agg ! (no_more !)) refl (tt, tt) $ sets ! (agg ! (and_then ! (get ! refl) (no_more !))) refl (tt, (tt, tt)) $
     returns ! (look_at ! 0 refl) $ free_all ! refl $ move ! (3 ∷ []) $
     rewrite ! 0 (λ (p : Ptr). ‵ (units_own p first count)) (sym e) refl $
     use0 𝓛 (‵ (mark_own (mark_val ∷ []))) (mark_made 𝓛) $ fjoin ! $ move ! (1 ∷ 2 ∷ 3 ∷ 0 ∷ 4 ∷ []) $
     suffices ! _ (ends_at 𝓛 f.ended stayed c y mark_val run (new, (tt, (tt, tt))) (tt, (tt, (tt, tt)))) $ says ! (refl, refl, refl, refl, refl, refl, refl, refl, refl, refl) $
-    nothing ! $ move ! (3 ∷ 0 ∷ []) $ join ! $ frame ! $ move ! (3 ∷ 0 ∷ 1 ∷ []) $ fjoin3 ! $ nothing ! $ nothing ! $ fjoin ! $ nothing ! $ fjoin ! $ move ! (1 ∷ 0 ∷ []) $ fjoin ! $ done !))))))
+    nothing ! $ move ! (3 ∷ 0 ∷ []) $ join ! $ frame ! $ move ! (3 ∷ 0 ∷ 1 ∷ []) $ fjoin3 ! $ nothing ! $ nothing ! $ fjoin ! $ nothing ! $ fjoin ! $ move !
+    (1 ∷ 0 ∷ []) $ fjoin ! $ done !))))))

@@ -1,5 +1,6 @@
 -- Shows that `write` writes the room of a byte, which is here from now on. Assumes `Logic`.
-use Rattle.std.proofs.Common.{◌≡◌, ℕ, ◌+◌, ◌-◌, ◌^◌, ◌<◌, ◌≤◌, List, [], ◌∷◌, ◌++◌, length, take, drop as behind, refl, sym, ap, ◌∙◌, arith, length-append, length-take, length-drop, w8, w64}
+use Rattle.std.proofs.Common.{◌≡◌, ℕ, ◌+◌, ◌-◌, ◌^◌, ◌<◌, ◌≤◌, List, [], ◌∷◌, ◌++◌, length, take, drop as behind, refl, sym, ap, ◌∙◌}
+use Rattle.std.proofs.Common.{arith, length-append, length-take, length-drop, w8, w64}
 use Rattle.std.specs.List.{splice}
 use base.Fraction.{full_share}
 use mir.Syntax.{named, ty_int}
@@ -8,7 +9,8 @@ use base.Logic.{never, id⊢}
 use base.Fml.{Fml, ftrue, fat, froom, flft}
 use contract.Monad.{fact}
 use contract.Running.{tables}
-use types.Kit.{‵, raw, ◌⊛◌, at_ret, ◌$◌, ◌∵◌, !, qed, move, keep, drop, use1, use2, split, join, rewrite, suffices, frame, fsplit, fsplit3, fjoin, fjoin3, feq_i, flt_i, flt_l, done}
+use types.Kit.{‵, raw, ◌⊛◌, at_ret, ◌$◌, ◌∵◌, !, qed, move, keep, drop, use1, use2, split, join, rewrite, suffices, frame, fsplit, fsplit3, fjoin, fjoin3, feq_i}
+use types.Kit.{flt_i, flt_l, done}
 use types.Part.{whole, sub}
 use types.Run.{stop, fld, unit_lit, of_opd, bin, init, assigns_last, first, blocks, exec, returns, enter}
 use types.ByLocal.{alloc_all, pass_all, free_all, look_at, get, get_in, through, sets, take_at, give_at, env}
@@ -38,15 +40,30 @@ use Rattle.rlsf_base.proofs.memory.block.Bytes.write.Statement.{statement}
 use Rattle.rlsf_base.proofs.memory.block.Bytes.write.Code as code
 
 abbrev stayed : Stays f.ended.signature.params f.ended.kept
-stayed = (stay_ref (0 ∷ []) tt (plain (λ _. owner.the_row)), (stay_dropped (plain (λ _. base_type.the_row)) f.ended.kept.1.0, (stay_dropped (plain (λ _. usize)) f.ended.kept.1.1.0, (stay_dropped (plain (λ _. u8)) f.ended.kept.1.1.1.0, tt))))
+stayed = (
+  stay_ref (0 ∷ []) tt (plain (λ _. owner.the_row)),
+  (
+    stay_dropped (plain (λ _. base_type.the_row)) f.ended.kept.1.0,
+    (stay_dropped (plain (λ _. usize)) f.ended.kept.1.1.0, (stay_dropped (plain (λ _. u8)) f.ended.kept.1.1.1.0, tt)),
+  ),
+)
 
 pub write_spec : {M : Type 1} → statement M
 write_spec 𝓤 𝓛 𝓜 𝓡 wired =
     let c = f.clauses 𝓛 𝓜.mem 𝓡.returns in let W = walk_of 𝓛 f.ended stayed c in let 𝓣 = tables 𝓤 𝓛.H 𝓜 𝓡 𝓡.env in
-    proved 𝓛 f.ended stayed c 𝓜 𝓡
-    (Goes-ref 𝓛 1 0 tt (plain (λ _. owner.the_row)), (Goes-dropped 𝓛 1 (plain (λ _. base_type.the_row)) f.ended.kept.1.0 (λ κs x w. refl), (Goes-dropped 𝓛 1 (plain (λ _. usize)) f.ended.kept.1.1.0 (λ κs x w. refl), (Goes-dropped 𝓛 1 (plain (λ _. u8)) f.ended.kept.1.1.1.0 (λ κs x w. refl), tt))))
+    proved 𝓛 f.ended stayed c 𝓜 𝓡 (
+      Goes-ref 𝓛 1 0 tt (plain (λ _. owner.the_row)),
+      (
+        Goes-dropped 𝓛 1 (plain (λ _. base_type.the_row)) f.ended.kept.1.0 (λ κs x w. refl),
+        (
+          Goes-dropped 𝓛 1 (plain (λ _. usize)) f.ended.kept.1.1.0 (λ κs x w. refl),
+          (Goes-dropped 𝓛 1 (plain (λ _. u8)) f.ended.kept.1.1.1.0 (λ κs x w. refl), tt),
+        ),
+      ),
+    )
     f.Key.name code.function (code.unfolded 𝓤 𝓛.H 𝓜 𝓡 wired)
-    (λ κs. (mut_vals, (base_vals, (uint_vals w64, (uint_vals w8, tt))))) (λ κs. (mut_Tells (named 0) κs.0 owner.the_row, (base_Tells, (uint_Tells w64, (uint_Tells w8, tt))))) (λ κs qs bounds a g are.
+    (λ κs. (mut_vals, (base_vals, (uint_vals w64, (uint_vals w8, tt))))) (λ κs. (mut_Tells (named 0) κs.0 owner.the_row, (base_Tells, (uint_Tells w64, (uint_Tells w8, tt)))))
+    (λ κs qs bounds a g are.
     let rb = a.0.ref_ptr.0 in let ro = a.0.ref_ptr.1 in let d = a.0.now in let base = a.1.0 in let place = a.1.1.0 in let byte = a.1.1.1.0 in
     let vss : List Val × (List Val × (List Val × (List Val × Unit {0}))) = (mut_vals a.0, (base_vals base, (uint_vals w64 place, (uint_vals w8 byte, tt)))) in
     let Asked : Type 0 = (base.ptr ≡ d.at) × (d.skip ≤ place) × (place < d.skip + length d.bytes) × IsOwn d.out (place - d.skip) 1 in
@@ -62,10 +79,21 @@ write_spec 𝓤 𝓛 𝓜 𝓡 wired =
     let new : (owner.the_row).Denot = record { mark = d.mark; at = d.at; skip = d.skip; bytes = bs; out = cs; of = d.of; units = d.units } in
     let within : i + 1 ≤ length d.bytes = omega (arith, asked.1, asked.2) in
     let there : i + (d.skip + o) ≡ at = omega (arith, asked.1) in
-    let long : length bs ≡ length d.bytes = omega (arith, within, length-append (take i d.bytes) (one ++ behind (i + 1) d.bytes), length-append one (behind (i + 1) d.bytes), length-take i d.bytes, length-drop (i + 1) d.bytes) in
+    let long : length bs ≡ length d.bytes =
+    omega (
+      arith,
+      within,
+      length-append (take i d.bytes) (one ++ behind (i + 1) d.bytes),
+      length-append one (behind (i + 1) d.bytes),
+      length-take i d.bytes,
+      length-drop (i + 1) d.bytes,
+    ) in
     let kept : ways_of (own_unit d.out d.skip (length d.bytes)) 0 d.units b o ≡ ways_of (own_unit cs d.skip (length bs)) 0 d.units b o
-    = ways-same 𝓛 b (own_unit d.out d.skip (length d.bytes)) (own_unit cs d.skip (length bs)) 0 d.units o (λ u. unit-written d.out d.skip (length d.bytes) i 1 u asked.3 ∙ ap (λ k. own_unit cs d.skip k u) (sym long)) in
-    use1 𝓛 (‵ (froom (bytes_ty 1) b (i + (d.skip + o))) ⊛ ‵ (Around 𝓛 b (kept_at d.out) (d.skip + o) d.bytes i 1)) (room_out 𝓛 b d.out (d.skip + o) d.bytes i 1 within asked.3) $ split ! $
+    =
+    ways-same 𝓛 b (own_unit d.out d.skip (length d.bytes)) (own_unit cs d.skip (length bs)) 0 d.units o
+    (λ u. unit-written d.out d.skip (length d.bytes) i 1 u asked.3 ∙ ap (λ k. own_unit cs d.skip k u) (sym long)) in
+    use1 𝓛 (‵ (froom (bytes_ty 1) b (i + (d.skip + o))) ⊛ ‵ (Around 𝓛 b (kept_at d.out) (d.skip + o) d.bytes i 1))
+    (room_out 𝓛 b d.out (d.skip + o) d.bytes i 1 within asked.3) $ split ! $
     -- [the room; what lies around; the mark; its cell; the open borrow; ..]
     take_at ! 2 $ rewrite ! 0 (λ (p : Ptr). ‵ (fat full_share (layout base_type.the_row) (l 2) 0 (base_val p))) (asked.0 ∙ e) refl $ give_at ! 2 $
     first ! $ blocks ! $ sets ! (bin ! (get_in ! (fld ! refl (stop !)) (sub ! 0 refl (whole !))) (get ! refl) tt) refl (tt, tt) $
@@ -78,7 +106,10 @@ write_spec 𝓤 𝓛 𝓜 𝓡 wired =
     use2 𝓛 (‵ (held (kept_at cs) 0 bs b (d.skip + o))) (written 𝓛 b d.out (d.skip + o) d.bytes i 1 within one refl) $
     move ! (1 ∷ []) $ fsplit ! $ rewrite ! 0 (λ (F : Fml). ‵ F) kept refl $ move ! (2 ∷ 0 ∷ []) $ fjoin ! $
     flt_i ! (length bs) (2 ^ 63) (omega (arith, small, long)) $ fjoin ! $
-    rewrite ! 0 (λ (p : Ptr). ‵ (bytes_own p d.skip bs cs d.units)) (sym e) refl $ move ! (1 ∷ 0 ∷ []) $ fjoin ! $ move ! (1 ∷ 0 ∷ []) $ closes ! tt owner.the_row new us rb ro $
-    returns ! (look_at ! 0 refl) $ free_all ! refl $ keep ! (0 ∷ 1 ∷ 2 ∷ 3 ∷ []) $ feq_i ! (List Val) (vunit ∷ []) (vunit ∷ []) refl $ move ! (1 ∷ 2 ∷ 3 ∷ 0 ∷ 4 ∷ []) $
+    rewrite ! 0 (λ (p : Ptr). ‵ (bytes_own p d.skip bs cs d.units)) (sym e) refl $ move ! (1 ∷ 0 ∷ []) $ fjoin ! $ move ! (1 ∷ 0 ∷ []) $ closes ! tt owner.the_row new us
+    rb ro $
+    returns ! (look_at ! 0 refl) $ free_all ! refl $ keep ! (0 ∷ 1 ∷ 2 ∷ 3 ∷ []) $ feq_i ! (List Val) (vunit ∷ []) (vunit ∷ []) refl $ move !
+    (1 ∷ 2 ∷ 3 ∷ 0 ∷ 4 ∷ []) $
     suffices ! _ (ends_at 𝓛 f.ended stayed c y vunit tt (new, (tt, (tt, (tt, tt)))) (tt, (tt, (tt, (tt, tt))))) $ says ! (refl, refl, refl, refl, refl, refl) $
-    nothing ! $ move ! (3 ∷ 0 ∷ []) $ join ! $ frame ! $ move ! (3 ∷ 0 ∷ 1 ∷ []) $ fjoin3 ! $ nothing ! $ nothing ! $ fjoin ! $ nothing ! $ fjoin ! $ nothing ! $ fjoin ! $ move ! (1 ∷ 0 ∷ []) $ fjoin ! $ done !))))))
+    nothing ! $ move ! (3 ∷ 0 ∷ []) $ join ! $ frame ! $ move ! (3 ∷ 0 ∷ 1 ∷ []) $ fjoin3 ! $ nothing ! $ nothing ! $ fjoin ! $ nothing ! $ fjoin ! $ nothing ! $ fjoin !
+    $ move ! (1 ∷ 0 ∷ []) $ fjoin ! $ done !))))))

@@ -1,4 +1,4 @@
--- The right to give a block back may move to another thread, as its allocator may.
+-- The right to deallocate a block may move to another thread, as its allocator may.
 use denote.RattleType.{RattleType}
 use denote.Param.Send.{IsSend, Frees}
 use Rattle.core.specs.declared.alloc.Allocator.{Ghosts}

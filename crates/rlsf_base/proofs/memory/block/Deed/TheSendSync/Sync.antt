@@ -1,4 +1,4 @@
--- A `&` to the right to give a block back may go to another thread.
+-- A `&` to the right to deallocate a block may go to another thread.
 use denote.RattleType.{RattleType}
 use denote.Param.Send.{IsSync}
 use Rattle.core.specs.declared.alloc.Allocator.{Ghosts}

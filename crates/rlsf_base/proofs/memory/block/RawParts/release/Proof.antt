@@ -1,4 +1,4 @@
--- Shows that `release` hands out the bytes that it was given. Assumes `Logic`.
+-- Shows that `release` returns the bytes that it was given. Assumes `Logic`.
 use Rattle.std.proofs.Common.{◌≡◌, ℕ, List, [], ◌∷◌, length, refl}
 use mir.Val.{Val}
 use base.Fml.{ftrue, feq}
@@ -48,7 +48,10 @@ release_spec 𝓤 𝓛 𝓜 𝓡 wired =
     qed 𝓛 ((‵ ftrue ⊛ (‵ ((parts_type.the_row).own_val a.0 (parts_lowers.lowered a.0 ∷ [])) ⊛ ‵ ftrue)) ∷ raw (fact 𝓤 Asked) ∷ []) ∵
     move ! (1 ∷ []) $ heard ! Asked (λ asked. split ! $ drop ! $ split ! $
     peeks ! parts_type.the_row (Is parts_type.the_row) (shows 𝓛 parts_type.the_row) a.0 (parts_lowers.lowered a.0 ∷ []) (λ is.
-    use1 𝓛 (some (λ (us : Valss (base_type.the_row ∷ usize ∷ usize ∷ owner.the_row ∷ [])). ‵ (feq (List Val) (parts_lowers.lowered a.0 ∷ []) _) ⊛ (‵ ((base_type.the_row).own_val base us.0) ⊛ (‵ (usize.own_val a.0.start us.1.0) ⊛ (‵ (usize.own_val a.0.len us.1.1.0) ⊛ (‵ ((owner.the_row).own_val d us.1.1.1.0) ⊛ ‵ ftrue)))))) (id⊢ 𝓤 _) $ pick ! (λ us.
+    use1 𝓛 (some (λ (us : Valss (base_type.the_row ∷ usize ∷ usize ∷ owner.the_row ∷ [])). ‵ (feq (List Val) (parts_lowers.lowered a.0 ∷ []) _) ⊛
+    (‵ ((base_type.the_row).own_val base us.0) ⊛
+    (‵ (usize.own_val a.0.start us.1.0) ⊛ (‵ (usize.own_val a.0.len us.1.1.0) ⊛ (‵ ((owner.the_row).own_val d us.1.1.1.0) ⊛ ‵ ftrue)))))) (id⊢ 𝓤 _) $
+    pick ! (λ us.
     split ! $ drop ! $ split ! $ drop ! $ split ! $ drop ! $ split ! $ drop ! $ split ! $ fsplit ! $ keep ! (1 ∷ []) $
     enter ! _ _ _ _ _ $ alloc_all ! (λ l. pass_all ! refl ((parts_laws.the_row_laws.lawful 𝓛).typed a.0 _ is) $
     sets ! (of_opd ! (get_in ! (fld ! refl (stop !)) (sub ! 0 refl (whole !)))) refl (base_typed base.ptr) $

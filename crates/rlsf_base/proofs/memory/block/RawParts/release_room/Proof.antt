@@ -1,4 +1,4 @@
--- Shows that `release_room` hands out the room of the bytes that it was given. Assumes `Logic`.
+-- Shows that `release_room` returns the room of the bytes that it was given. Assumes `Logic`.
 use Rattle.std.proofs.Common.{◌≡◌, ℕ, ◌+◌, List, [], ◌∷◌, length, refl, sym, ap, ◌∙◌, arith}
 use mir.Val.{Val}
 use base.Fml.{Fml, ftrue, feq, froom}
@@ -49,10 +49,14 @@ release_room_spec 𝓤 𝓛 𝓜 𝓡 wired =
     let Asked : Type 0 = (d.at ≡ base.ptr) × (d.skip ≡ 0) × (length d.bytes ≡ a.0.len) × (d.units ≡ units_from a.0.start (length d.bytes)) in
     let Owned : Type 0 = IsOwn d.out 0 a.0.len in
     let y : W.Ghost = ((κs, qs, bounds, a, vss), g) in
-    qed 𝓛 ((‵ ftrue ⊛ (‵ ((parts_type.the_row).own_val a.0 (parts_lowers.lowered a.0 ∷ [])) ⊛ ‵ ftrue)) ∷ (raw (fact 𝓤 Asked) ⊛ raw (fact 𝓤 Owned)) ∷ []) ∵
+    qed 𝓛 ((‵ ftrue ⊛ (‵ ((parts_type.the_row).own_val a.0 (parts_lowers.lowered a.0 ∷ [])) ⊛ ‵ ftrue)) ∷ (raw (fact 𝓤 Asked) ⊛ raw (fact 𝓤 Owned)) ∷ [])
+    ∵
     move ! (1 ∷ []) $ split ! $ heard ! Asked (λ asked. heard ! Owned (λ own. split ! $ drop ! $ split ! $
     peeks ! parts_type.the_row (Is parts_type.the_row) (shows 𝓛 parts_type.the_row) a.0 (parts_lowers.lowered a.0 ∷ []) (λ is.
-    use1 𝓛 (some (λ (us : Valss (base_type.the_row ∷ usize ∷ usize ∷ owner.the_row ∷ [])). ‵ (feq (List Val) (parts_lowers.lowered a.0 ∷ []) _) ⊛ (‵ ((base_type.the_row).own_val base us.0) ⊛ (‵ (usize.own_val a.0.start us.1.0) ⊛ (‵ (usize.own_val a.0.len us.1.1.0) ⊛ (‵ ((owner.the_row).own_val d us.1.1.1.0) ⊛ ‵ ftrue)))))) (id⊢ 𝓤 _) $ pick ! (λ us.
+    use1 𝓛 (some (λ (us : Valss (base_type.the_row ∷ usize ∷ usize ∷ owner.the_row ∷ [])). ‵ (feq (List Val) (parts_lowers.lowered a.0 ∷ []) _) ⊛
+    (‵ ((base_type.the_row).own_val base us.0) ⊛
+    (‵ (usize.own_val a.0.start us.1.0) ⊛ (‵ (usize.own_val a.0.len us.1.1.0) ⊛ (‵ ((owner.the_row).own_val d us.1.1.1.0) ⊛ ‵ ftrue)))))) (id⊢ 𝓤 _) $
+    pick ! (λ us.
     split ! $ drop ! $ split ! $ drop ! $ split ! $ drop ! $ split ! $ drop ! $ split ! $ fsplit ! $ keep ! (1 ∷ []) $
     enter ! _ _ _ _ _ $ alloc_all ! (λ l. pass_all ! refl ((parts_laws.the_row_laws.lawful 𝓛).typed a.0 _ is) $
     sets ! (of_opd ! (get_in ! (fld ! refl (stop !)) (sub ! 0 refl (whole !)))) refl (base_typed base.ptr) $
@@ -64,7 +68,9 @@ release_room_spec 𝓤 𝓛 𝓜 𝓡 wired =
     in_a_block ! base.ptr (λ p. bytes_own p 0 d.bytes d.out units) (id⊢ 𝓤 (never 𝓤)) (λ b o e. fsplit ! $ flt_l ! (λ small. fsplit ! $
     -- [the bytes; the ways of their units]
     let first : 0 + o ≡ o = omega arith in
-    rewrite ! 1 (λ (F : Fml). ‵ F) (ways-same 𝓛 b (own_unit d.out 0 (length d.bytes)) (begins_in 0 a.0.len) 0 units o (λ u. ap (λ k. own_unit d.out 0 k u) asked.2 ∙ unit-all d.out 0 a.0.len u own)) refl $
+    rewrite ! 1 (λ (F : Fml). ‵ F)
+    (ways-same 𝓛 b (own_unit d.out 0 (length d.bytes)) (begins_in 0 a.0.len) 0 units o (λ u. ap (λ k. own_unit d.out 0 k u) asked.2 ∙ unit-all d.out 0 a.0.len u own))
+    refl $
     use1 𝓛 (‵ (froom (bytes_ty (length d.bytes)) b (0 + o))) (held-room 𝓛 b (kept_at d.out) 0 d.bytes (0 + o) (λ j lo hi. own j lo (omega (arith, hi, asked.2)))) $
     rewrite ! 0 (λ (u : ℕ × ℕ). ‵ (froom (bytes_ty u.0) b u.1)) {x = (a.0.len, o)} {y = (length d.bytes, 0 + o)} (λ i. (asked.2 i, first i)) refl $ fjoin ! $
     rewrite ! 0 (λ (p : Ptr). ‵ (room_at p a.0.start a.0.len)) (sym e) refl $

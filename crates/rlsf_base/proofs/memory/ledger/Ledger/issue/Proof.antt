@@ -27,15 +27,30 @@ use Rattle.rlsf_base.proofs.memory.ledger.Ledger.issue.Statement.{statement}
 use Rattle.rlsf_base.proofs.memory.ledger.Ledger.issue.Code as code
 
 abbrev stayed : Stays f.ended.signature.params f.ended.kept
-stayed = (stay_ref (0 ∷ []) tt (plain (λ _. ledger.the_row)), (stay_dropped (plain (λ _. usize)) f.ended.kept.1.0, (stay_dropped (plain (λ _. usize)) f.ended.kept.1.1.0, (stay_dropped (plain (λ _. usize)) f.ended.kept.1.1.1.0, tt))))
+stayed = (
+  stay_ref (0 ∷ []) tt (plain (λ _. ledger.the_row)),
+  (
+    stay_dropped (plain (λ _. usize)) f.ended.kept.1.0,
+    (stay_dropped (plain (λ _. usize)) f.ended.kept.1.1.0, (stay_dropped (plain (λ _. usize)) f.ended.kept.1.1.1.0, tt)),
+  ),
+)
 
 pub issue_spec : {M : Type 1} → statement M
 issue_spec 𝓤 𝓛 𝓜 𝓡 wired =
     let c = f.clauses 𝓛 𝓜.mem 𝓡.returns in let W = walk_of 𝓛 f.ended stayed c in let 𝓣 = tables 𝓤 𝓛.H 𝓜 𝓡 𝓡.env in
-    proved 𝓛 f.ended stayed c 𝓜 𝓡
-    (Goes-ref 𝓛 1 0 tt (plain (λ _. ledger.the_row)), (Goes-dropped 𝓛 1 (plain (λ _. usize)) f.ended.kept.1.0 (λ κs x w. refl), (Goes-dropped 𝓛 1 (plain (λ _. usize)) f.ended.kept.1.1.0 (λ κs x w. refl), (Goes-dropped 𝓛 1 (plain (λ _. usize)) f.ended.kept.1.1.1.0 (λ κs x w. refl), tt))))
+    proved 𝓛 f.ended stayed c 𝓜 𝓡 (
+      Goes-ref 𝓛 1 0 tt (plain (λ _. ledger.the_row)),
+      (
+        Goes-dropped 𝓛 1 (plain (λ _. usize)) f.ended.kept.1.0 (λ κs x w. refl),
+        (
+          Goes-dropped 𝓛 1 (plain (λ _. usize)) f.ended.kept.1.1.0 (λ κs x w. refl),
+          (Goes-dropped 𝓛 1 (plain (λ _. usize)) f.ended.kept.1.1.1.0 (λ κs x w. refl), tt),
+        ),
+      ),
+    )
     f.Key.name code.function (code.unfolded 𝓤 𝓛.H 𝓜 𝓡 wired)
-    (λ κs. (mut_vals, (uint_vals w64, (uint_vals w64, (uint_vals w64, tt))))) (λ κs. (mut_Tells (named 0) κs.0 ledger.the_row, (uint_Tells w64, (uint_Tells w64, (uint_Tells w64, tt))))) (λ κs qs bounds a g are.
+    (λ κs. (mut_vals, (uint_vals w64, (uint_vals w64, (uint_vals w64, tt)))))
+    (λ κs. (mut_Tells (named 0) κs.0 ledger.the_row, (uint_Tells w64, (uint_Tells w64, (uint_Tells w64, tt))))) (λ κs qs bounds a g are.
     let rb = a.0.ref_ptr.0 in let ro = a.0.ref_ptr.1 in let d = a.0.now in let v : Extent = extent a.1.0 a.1.1.0 a.1.1.1.0 in
     let vss : List Val × (List Val × (List Val × (List Val × Unit {0}))) = (mut_vals a.0, (uint_vals w64 a.1.0, (uint_vals w64 a.1.1.0, (uint_vals w64 a.1.1.1.0, tt)))) in
     let y : W.Ghost = ((κs, qs, bounds, a, vss), g) in
@@ -44,7 +59,8 @@ issue_spec 𝓤 𝓛 𝓜 𝓡 wired =
     let out : (ticket.the_row).Denot = record { mark = record {}; name = d.name; key = k; addr = a.1.0; len = a.1.1.0; align = a.1.1.1.0 } in
     qed 𝓛 (((‵ (flft κs.0 qs.0) ⊛ ‵ ftrue) ⊛ ‵ (owns (types_at f.signature.params κs) a vss)) ∷ ‵ ftrue ∷ []) ∵
     split ! $ split ! $ move ! (2 ∷ []) $ fsplit ! $ keep ! (0 ∷ 2 ∷ []) $
-    enter ! _ _ _ _ _ $ alloc_all ! (λ l. pass_all ! refl ((tt, tt), ((tt, record { fits = are.1.0.1 }), ((tt, record { fits = are.1.1.0.1 }), ((tt, record { fits = are.1.1.1.0.1 }), tt)))) $
+    enter ! _ _ _ _ _ $ alloc_all !
+    (λ l. pass_all ! refl ((tt, tt), ((tt, record { fits = are.1.0.1 }), ((tt, record { fits = are.1.1.0.1 }), ((tt, record { fits = are.1.1.1.0.1 }), tt)))) $
     fsplit3 ! $ move ! (1 ∷ 2 ∷ 3 ∷ []) $ opens ! tt ledger.the_row rb ro (λ us. move ! (1 ∷ []) $ fsplit ! $ move ! (1 ∷ []) $
     -- [the entries; the mark; its cell; the open borrow; ..]
     use1 𝓛 (later (‵ (ledger_owns d.name 0 new.entries) ⊛ ‵ (ticket_owns d.name k v))) (issues 𝓛 d.name d.entries 0 k v (omega arith)) $ await ! tt $ split ! $
@@ -52,5 +68,7 @@ issue_spec 𝓤 𝓛 𝓜 𝓡 wired =
     sets ! (agg ! (no_more !)) refl (tt, tt) $ sets ! (agg ! (and_then ! (get ! refl) (no_more !))) refl (tt, (tt, tt)) $
     returns ! (look_at ! 0 refl) $ free_all ! refl $ move ! (3 ∷ []) $
     use0 𝓛 (‵ (mark_own (mark_val ∷ []))) (mark_made 𝓛) $ fjoin ! $ move ! (1 ∷ 2 ∷ 3 ∷ 0 ∷ 4 ∷ []) $
-    suffices ! _ (ends_at 𝓛 f.ended stayed c y mark_val out (new, (tt, (tt, (tt, tt)))) (tt, (tt, (tt, (tt, tt))))) $ says_three ! ((refl, refl, refl, refl), (refl, refl), refl) $
-    nothing ! $ move ! (3 ∷ 0 ∷ []) $ join ! $ frame ! $ move ! (3 ∷ 0 ∷ 1 ∷ []) $ fjoin3 ! $ nothing ! $ nothing ! $ fjoin ! $ nothing ! $ fjoin ! $ nothing ! $ fjoin ! $ move ! (1 ∷ 0 ∷ []) $ fjoin ! $ done !)))
+    suffices ! _ (ends_at 𝓛 f.ended stayed c y mark_val out (new, (tt, (tt, (tt, tt)))) (tt, (tt, (tt, (tt, tt))))) $ says_three ! ((refl, refl, refl, refl), (refl, refl), refl)
+    $
+    nothing ! $ move ! (3 ∷ 0 ∷ []) $ join ! $ frame ! $ move ! (3 ∷ 0 ∷ 1 ∷ []) $ fjoin3 ! $ nothing ! $ nothing ! $ fjoin ! $ nothing ! $ fjoin ! $ nothing ! $ fjoin !
+    $ move ! (1 ∷ 0 ∷ []) $ fjoin ! $ done !)))

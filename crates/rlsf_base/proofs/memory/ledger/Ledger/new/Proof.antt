@@ -29,7 +29,8 @@ new_spec 𝓤 𝓛 𝓜 𝓡 wired =
     let y : W.Ghost = ((κs, qs, bounds, a, tt), g) in
     qed 𝓛 ((‵ ftrue ⊛ ‵ ftrue) ∷ ‵ ftrue ∷ []) ∵ keep ! [] $
     enter ! _ _ _ _ _ $ alloc_all ! (λ l. pass_all ! refl tt $
-    use0 𝓛 (later (some (λ (δ : ℕ). ‵ (ledger_owns δ 0 [])))) (via 𝓤 _ (entries_new entry_shares 𝓛 0 (λ _. (full_share, nowhere))) (basic 𝓛 _)) $ await ! tt $ pick ! (λ δ.
+    use0 𝓛 (later (some (λ (δ : ℕ). ‵ (ledger_owns δ 0 [])))) (via 𝓤 _ (entries_new entry_shares 𝓛 0 (λ _. (full_share, nowhere))) (basic 𝓛 _)) $ await ! tt $
+    pick ! (λ δ.
     let none : (ledger.the_row).Denot = record { mark = record {}; name = δ; entries = [] } in
     sets ! (agg ! (no_more !)) refl (tt, tt) $ sets ! (agg ! (and_then ! (get ! refl) (no_more !))) refl (tt, (tt, tt)) $ returns ! (look_at ! 0 refl) $ free_all ! refl $
     suffices ! _ (ends_at 𝓛 f.ended stayed c y mark_val none tt tt) $ says ! refl $

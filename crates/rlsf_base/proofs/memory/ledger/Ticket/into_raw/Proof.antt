@@ -1,4 +1,4 @@
--- Shows that `into_raw` hands out what the ticket owns. Assumes `Logic`.
+-- Shows that `into_raw` returns what the ticket owns. Assumes `Logic`.
 use Rattle.std.proofs.Common.{List, [], ◌∷◌, refl}
 use mir.Val.{Val, vunit}
 use base.Fml.{ftrue}

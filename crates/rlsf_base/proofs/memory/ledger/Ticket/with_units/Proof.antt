@@ -67,24 +67,63 @@ bytes_Tells : Tells bytes_type.the_row (Is bytes_type.the_row) bytes_vals
 bytes_Tells = bytes_lowers.val_is
 
 abbrev stayed : Stays f.ended.signature.params f.ended.kept
-stayed = (stay_dropped (plain (λ _. ticket_type.the_row)) f.ended.kept.0, (stay_dropped (plain (λ _. view_type.the_row)) f.ended.kept.1.0, (stay_dropped (plain (λ _. usize)) f.ended.kept.1.1.0, (stay_dropped (plain (λ _. usize)) f.ended.kept.1.1.1.0, (stay_dropped (plain (λ _. units_type.the_row)) f.ended.kept.1.1.1.1.0, (stay_dropped (plain (λ _. bytes_type.the_row)) f.ended.kept.1.1.1.1.1.0, tt))))))
+stayed = (
+  stay_dropped (plain (λ _. ticket_type.the_row)) f.ended.kept.0,
+  (
+    stay_dropped (plain (λ _. view_type.the_row)) f.ended.kept.1.0,
+    (
+      stay_dropped (plain (λ _. usize)) f.ended.kept.1.1.0,
+      (
+        stay_dropped (plain (λ _. usize)) f.ended.kept.1.1.1.0,
+        (stay_dropped (plain (λ _. units_type.the_row)) f.ended.kept.1.1.1.1.0, (stay_dropped (plain (λ _. bytes_type.the_row)) f.ended.kept.1.1.1.1.1.0, tt)),
+      ),
+    ),
+  ),
+)
 
 pub with_units_spec : {M : Type 1} → statement M
 with_units_spec 𝓤 𝓛 𝓜 𝓡 wired =
     let c = f.clauses 𝓛 𝓜.mem 𝓡.returns in let W = walk_of 𝓛 f.ended stayed c in let 𝓣 = tables 𝓤 𝓛.H 𝓜 𝓡 𝓡.env in
-    proved 𝓛 f.ended stayed c 𝓜 𝓡
-    (Goes-blank 𝓛 0 (plain (λ _. ticket_type.the_row)) f.ended.kept.0 (λ κs x w. tt), (Goes-dropped 𝓛 0 (plain (λ _. view_type.the_row)) f.ended.kept.1.0 (λ κs x w. refl), (Goes-dropped 𝓛 0 (plain (λ _. usize)) f.ended.kept.1.1.0 (λ κs x w. refl), (Goes-dropped 𝓛 0 (plain (λ _. usize)) f.ended.kept.1.1.1.0 (λ κs x w. refl), (Goes-blank 𝓛 0 (plain (λ _. units_type.the_row)) f.ended.kept.1.1.1.1.0 (λ κs x w. tt), (Goes-blank 𝓛 0 (plain (λ _. bytes_type.the_row)) f.ended.kept.1.1.1.1.1.0 (λ κs x w. tt), tt))))))
+    proved 𝓛 f.ended stayed c 𝓜 𝓡 (
+      Goes-blank 𝓛 0 (plain (λ _. ticket_type.the_row)) f.ended.kept.0 (λ κs x w. tt),
+      (
+        Goes-dropped 𝓛 0 (plain (λ _. view_type.the_row)) f.ended.kept.1.0 (λ κs x w. refl),
+        (
+          Goes-dropped 𝓛 0 (plain (λ _. usize)) f.ended.kept.1.1.0 (λ κs x w. refl),
+          (
+            Goes-dropped 𝓛 0 (plain (λ _. usize)) f.ended.kept.1.1.1.0 (λ κs x w. refl),
+            (
+              Goes-blank 𝓛 0 (plain (λ _. units_type.the_row)) f.ended.kept.1.1.1.1.0 (λ κs x w. tt),
+              (Goes-blank 𝓛 0 (plain (λ _. bytes_type.the_row)) f.ended.kept.1.1.1.1.1.0 (λ κs x w. tt), tt),
+            ),
+          ),
+        ),
+      ),
+    )
     f.Key.name code.function (code.unfolded 𝓤 𝓛.H 𝓜 𝓡 wired)
-    (λ κs. (ticket_vals, (view_vals, (uint_vals w64, (uint_vals w64, (units_vals, (bytes_vals, tt))))))) (λ κs. (ticket_Tells, (view_Tells, (uint_Tells w64, (uint_Tells w64, (units_Tells, (bytes_Tells, tt))))))) (λ κs qs bounds a g are.
-    let t = a.0 in let view = a.1.0 in let place = a.1.1.0 in let len = a.1.1.1.0 in let run = a.1.1.1.1.0 in let rest = a.1.1.1.1.1.0 in let home : Home = home_from view rest.of in
-    let vss : List Val × (List Val × (List Val × (List Val × (List Val × (List Val × Unit {0}))))) = (mark_val ∷ [], (view_vals view, (uint_vals w64 place, (uint_vals w64 len, (mark_val ∷ [], (mark_val ∷ [], tt)))))) in
-    let Asked : Type 0 = (run.at ≡ view.base.ptr) × (run.first * 16 ≡ place) × (run.count * 16 ≡ len) × (t.len ≡ len) × (t.align ≡ 16) × (place ≡ place_in view t.addr) in
+    (λ κs. (ticket_vals, (view_vals, (uint_vals w64, (uint_vals w64, (units_vals, (bytes_vals, tt)))))))
+    (λ κs. (ticket_Tells, (view_Tells, (uint_Tells w64, (uint_Tells w64, (units_Tells, (bytes_Tells, tt))))))) (λ κs qs bounds a g are.
+    let t = a.0 in let view = a.1.0 in let place = a.1.1.0 in let len = a.1.1.1.0 in let run = a.1.1.1.1.0 in let rest = a.1.1.1.1.1.0 in let home : Home =
+    home_from view rest.of in
+    let vss : List Val × (List Val × (List Val × (List Val × (List Val × (List Val × Unit {0}))))) =
+    (mark_val ∷ [], (view_vals view, (uint_vals w64 place, (uint_vals w64 len, (mark_val ∷ [], (mark_val ∷ [], tt)))))) in
+    let Asked : Type 0 =
+    (run.at ≡ view.base.ptr) × (run.first * 16 ≡ place) × (run.count * 16 ≡ len) × (t.len ≡ len) × (t.align ≡ 16) × (place ≡ place_in view t.addr) in
     let Lies : Type 0 = IsPlaced home (pointer_to view t.addr) t.addr t.len in
     let y : W.Ghost = ((κs, qs, bounds, a, vss), g) in
     qed 𝓛 ((‵ ftrue ⊛ ‵ (owns (types_at f.signature.params κs) a vss)) ∷ (raw (fact 𝓤 Asked) ⊛ raw (fact 𝓤 Lies)) ∷ []) ∵
-    move ! (1 ∷ []) $ split ! $ heard ! Asked (λ asked. heard ! Lies (λ lies. split ! $ drop ! $ fsplit ! $ fsplit ! $ drop ! $ move ! (1 ∷ []) $ fsplit ! $ drop ! $ fsplit ! $ drop ! $ fsplit ! $ drop ! $ fsplit ! $ fsplit ! $ keep ! (1 ∷ 3 ∷ []) $
+    move ! (1 ∷ []) $ split ! $ heard ! Asked
+    (λ asked. heard ! Lies (λ lies. split ! $ drop ! $ fsplit ! $ fsplit ! $ drop ! $ move ! (1 ∷ []) $ fsplit ! $ drop ! $ fsplit ! $ drop ! $ fsplit ! $ drop ! $ fsplit !
+    $ fsplit ! $ keep ! (1 ∷ 3 ∷ []) $
     -- [the units' room; the ticket]
-    enter ! _ _ _ _ _ $ alloc_all ! (λ l. pass_all ! refl ((tt, (tt, tt)), (view_typed view.base.ptr view.shift (view_told view.base.ptr view.shift (view_val view.base.ptr view.shift ∷ []) are.1.0), ((tt, record { fits = are.1.1.0.1 }), ((tt, record { fits = are.1.1.1.0.1 }), ((tt, (tt, tt)), ((tt, (tt, tt)), tt)))))) $
+    enter ! _ _ _ _ _ $ alloc_all !
+    (λ l. pass_all ! refl (
+      (tt, (tt, tt)),
+      (
+        view_typed view.base.ptr view.shift (view_told view.base.ptr view.shift (view_val view.base.ptr view.shift ∷ []) are.1.0),
+        ((tt, record { fits = are.1.1.0.1 }), ((tt, record { fits = are.1.1.1.0.1 }), ((tt, (tt, tt)), ((tt, (tt, tt)), tt)))),
+      ),
+    ) $
     in_a_block ! run.at (λ p. units_own p run.first run.count) (id⊢ 𝓤 (never 𝓤)) (λ b o e.
     let here : view.base.ptr ≡ block_ptr b o = sym asked.0 ∙ e in
     take_at ! 2 $ rewrite ! 0 (λ (p : Ptr). ‵ (fat full_share (layout view_type.the_row) (l 2) 0 (view_val p view.shift))) here refl $ give_at ! 2 $
@@ -93,12 +132,16 @@ with_units_spec 𝓤 𝓛 𝓜 𝓡 wired =
     sets ! (agg ! (and_then ! (get ! refl) (and_then ! (get ! refl) (no_more !)))) refl (tt, (tt, (record { fits = are.1.1.1.0.1 }, tt))) $
     returns ! (look_at ! 0 refl) $ free_all ! refl $
     let p : Ptr = block_ptr b (place + o) in
-    let swapped : place + o ≡ o + place = omega arith in let many : run.count ≡ len / 16 = omega (arith, asked.2) in let there : run.first * 16 + o ≡ place + o = omega (arith, asked.1) in
-    let pointed : pointer_to view t.addr ≡ p = ap (λ (k : ℕ). view.base.ptr +ₚ k) (sym asked.5) ∙ ap (λ (q : Ptr). q +ₚ place) here ∙ ap (λ (k : ℕ). block_ptr b k) (sym swapped) in
+    let swapped : place + o ≡ o + place = omega arith in let many : run.count ≡ len / 16 = omega (arith, asked.2) in let there : run.first * 16 + o ≡ place + o =
+    omega (arith, asked.1) in
+    let pointed : pointer_to view t.addr ≡ p =
+    ap (λ (k : ℕ). view.base.ptr +ₚ k) (sym asked.5) ∙ ap (λ (q : Ptr). q +ₚ place) here ∙ ap (λ (k : ℕ). block_ptr b k) (sym swapped) in
     let placed : IsPlaced home p t.addr len = subst (λ (u : Ptr × ℕ). IsPlaced home u.0 t.addr u.1) (λ i. (pointed i, asked.3 i)) lies in
     let x : (payload_type.the_row).Denot = record { ptr = p; len = len; home = home; name = t.name; key = t.key; start = t.addr; placed = placed } in
     rewrite ! 0 (λ (u : ℕ × ℕ). ‵ (froom (units_ty u.0) b u.1)) {x = (len / 16, place + o)} {y = (run.count, run.first * 16 + o)} (λ i. (many i, there i)) refl $
-    move ! (1 ∷ []) $ rewrite ! 0 (λ (u : ℕ × ℕ). ‵ (ticket_owns t.name t.key (extent t.addr u.0 u.1))) {x = (len, 16)} {y = (t.len, t.align)} (λ i. (asked.3 i, asked.4 i)) refl $ fjoin ! $
+    move ! (1 ∷ []) $ rewrite ! 0 (λ (u : ℕ × ℕ). ‵ (ticket_owns t.name t.key (extent t.addr u.0 u.1))) {x = (len, 16)} {y = (t.len, t.align)}
+    (λ i. (asked.3 i, asked.4 i)) refl $ fjoin ! $
     use0 𝓛 (‵ (spot_own p len (spot_val p len ∷ []))) (spot_made 𝓛 p len are.1.1.1.0.1) $ fjoin ! $
-    suffices ! _ (ends_at 𝓛 f.ended stayed c y (spot_val p len) x (tt, (tt, (tt, (tt, (tt, (tt, tt)))))) (tt, (tt, (tt, (tt, (tt, (tt, tt))))))) $ says ! (refl, refl, refl, refl, refl) $
+    suffices ! _ (ends_at 𝓛 f.ended stayed c y (spot_val p len) x (tt, (tt, (tt, (tt, (tt, (tt, tt)))))) (tt, (tt, (tt, (tt, (tt, (tt, tt))))))) $ says !
+    (refl, refl, refl, refl, refl) $
     nothing ! $ nothing ! $ join ! $ nothing ! $ join ! $ nothing ! $ join ! $ nothing ! $ join ! $ nothing ! $ join ! $ nothing ! $ join ! $ nothing ! $ done !)))))

@@ -31,7 +31,15 @@ copy_bytes-requires c =
 pub returns-clause-here : goal.returns-clause-here
 returns-clause-here c =
     let m = c.self.inside in let now = c.args.self.now in let there = range_at c.args.to c.args.range.len in
-    let n : Space = record { start = start_of m.shift m.len_and_skip; bytes = c.copy_bytes.new.bytes.bytes; touches = m.counters.touches; copied = m.counters.copied + c.args.range.len; view = view_of m.base m.shift; out = c.copy_bytes.new.bytes.out } in
+    let n : Space =
+    record {
+      start = start_of m.shift m.len_and_skip;
+      bytes = c.copy_bytes.new.bytes.bytes;
+      touches = m.counters.touches;
+      copied = m.counters.copied + c.args.range.len;
+      view = view_of m.base m.shift;
+      out = c.copy_bytes.new.bytes.out;
+    } in
     let start : n.start ≡ now.start = ap (λ (s : Space). s.start) c.self.view_is in
     let out : n.out ≡ out_with now there = search rules in
     with-here now n there c.requires.to.0 start out
@@ -39,7 +47,15 @@ returns-clause-here c =
 pub returns-clause-stays : goal.returns-clause-stays
 returns-clause-stays c =
     let m = c.self.inside in let now = c.args.self.now in let there = range_at c.args.to c.args.range.len in
-    let n : Space = record { start = start_of m.shift m.len_and_skip; bytes = c.copy_bytes.new.bytes.bytes; touches = m.counters.touches; copied = m.counters.copied + c.args.range.len; view = view_of m.base m.shift; out = c.copy_bytes.new.bytes.out } in
+    let n : Space =
+    record {
+      start = start_of m.shift m.len_and_skip;
+      bytes = c.copy_bytes.new.bytes.bytes;
+      touches = m.counters.touches;
+      copied = m.counters.copied + c.args.range.len;
+      view = view_of m.base m.shift;
+      out = c.copy_bytes.new.bytes.out;
+    } in
     let start : n.start ≡ now.start = ap (λ (s : Space). s.start) c.self.view_is in
     let out : n.out ≡ out_with now there = search rules in
     with-stays now n there c.requires.to.0 start out
@@ -47,7 +63,15 @@ returns-clause-stays c =
 pub returns-clause-own : goal.returns-clause-own
 returns-clause-own c =
     let m = c.self.inside in let now = c.args.self.now in let there = range_at c.args.to c.args.range.len in
-    let n : Space = record { start = start_of m.shift m.len_and_skip; bytes = c.copy_bytes.new.bytes.bytes; touches = m.counters.touches; copied = m.counters.copied + c.args.range.len; view = view_of m.base m.shift; out = c.copy_bytes.new.bytes.out } in
+    let n : Space =
+    record {
+      start = start_of m.shift m.len_and_skip;
+      bytes = c.copy_bytes.new.bytes.bytes;
+      touches = m.counters.touches;
+      copied = m.counters.copied + c.args.range.len;
+      view = view_of m.base m.shift;
+      out = c.copy_bytes.new.bytes.out;
+    } in
     let start : n.start ≡ now.start = ap (λ (s : Space). s.start) c.self.view_is in
     let out : n.out ≡ out_with now there = search rules in
     with-same_own now n there c.requires.to.0 start out c.requires.own

@@ -13,7 +13,8 @@ use Rattle.rlsf_base.proofs.memory.open_memory.OpenMemory.into_raw_parts.Goals a
 pub returns-clause-own : goal.returns-clause-own
 returns-clause-own c =
     let m = c.self.inside in
-    let here : IsOwn m.bytes.out 0 (length c.args.self.bytes) = own-in m.bytes.out c.args.self (range_of c.args.self) 0 (ap (λ (s : Space). s.out) c.self.view_is) (omega arith) (omega arith) c.requires.own in
+    let here : IsOwn m.bytes.out 0 (length c.args.self.bytes) =
+    own-in m.bytes.out c.args.self (range_of c.args.self) 0 (ap (λ (s : Space). s.out) c.self.view_is) (omega arith) (omega arith) c.requires.own in
     λ k lo hi. ap (λ cs. is_own (kept_at cs k)) c.from_first-bytes.ensures.4 ∙ here k lo (omega (arith, hi))
 
 -- where the first byte is not the block's first, the block is the system's, and the address of the byte no multiple of 16
@@ -32,6 +33,7 @@ returns-clause-block c =
           let aligned : m.shift % 16 ≡ 0 = is.grid systems in
           e.5 ∙ ap (λ t. if t then m.bytes.units else 0) (not-zero skip off) ∙ sym (units_in-elsewhere first 0 len (omega (arith, off, aligned, start)))
       | inr on ↦ let none : skip ≡ 0 = omega (arith, on) in
-          e.5 ∙ ap (λ t. if t then m.bytes.units else 0) (eq-eqb skip 0 none) ∙ is.lies.2 ∙ ap (λ k. units_in m.shift k len) none ∙ units_in-first m.shift first len (omega (arith, none, start))
+          e.5 ∙ ap (λ t. if t then m.bytes.units else 0) (eq-eqb skip 0 none) ∙ is.lies.2 ∙ ap (λ k. units_in m.shift k len) none
+          ∙ units_in-first m.shift first len (omega (arith, none, start))
     ] in
     (e.1, e.2, long ∙ size, units ∙ ap (λ n. units_from first n) (sym long))

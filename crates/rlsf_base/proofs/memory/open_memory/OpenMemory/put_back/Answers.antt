@@ -21,7 +21,8 @@ put_back-requires c =
     let long : length m.bytes.bytes ≡ length now.bytes = ap (λ (s : Space). length s.bytes) c.self.view_is in
     let home : start_of p.home.view.shift b.of.0 ≡ now.start = ap (λ (h : Home). h.start) (of ∙ c.requires.home) in
     let size : b.of.1 ≡ length now.bytes = ap (λ (h : Home). h.len) (of ∙ c.requires.home) in
-    let skip : b.of.0 ≡ m.len_and_skip % 16 = omega (arith, home, start, shift, is.first) in let all : b.of.1 ≡ m.len_and_skip / 32 = size ∙ sym long ∙ c.self.invariant.whole in
+    let skip : b.of.0 ≡ m.len_and_skip % 16 = omega (arith, home, start, shift, is.first) in let all : b.of.1 ≡ m.len_and_skip / 32 =
+    size ∙ sym long ∙ c.self.invariant.whole in
     let units : b.units ≡ m.bytes.units = is.place.2 ∙ (λ i. units_in (shift i) (skip i) (all i)) ∙ sym c.self.invariant.lies.2 in (
       sym is.place.0 ∙ ap (λ (v : View). v.base.ptr) view ∙ c.self.invariant.lies.0,
       omega (arith, is.place, is.lies, home, size, start, long, shift, is.whole, c.self.invariant.lies, c.self.invariant.whole, is.first, is.small),
@@ -33,7 +34,15 @@ put_back-requires c =
 pub returns-clause-here : goal.returns-clause-here
 returns-clause-here c =
     let m = c.self.inside in let p = c.args.part in let now = c.args.self.now in
-    let n : Space = record { start = start_of m.shift m.len_and_skip; bytes = c.put_back.new.self.bytes; touches = m.counters.touches; copied = m.counters.copied; view = view_of m.base m.shift; out = c.put_back.new.self.out } in
+    let n : Space =
+    record {
+      start = start_of m.shift m.len_and_skip;
+      bytes = c.put_back.new.self.bytes;
+      touches = m.counters.touches;
+      copied = m.counters.copied;
+      view = view_of m.base m.shift;
+      out = c.put_back.new.self.out;
+    } in
     let start : n.start ≡ now.start = ap (λ (s : Space). s.start) c.self.view_is in
     let out : n.out ≡ out_with now (piece_range p) = search rules in
     let lies : LiesIn (piece_range p) now.start (length now.bytes) = search rules in
@@ -42,7 +51,15 @@ returns-clause-here c =
 pub returns-clause-stays : goal.returns-clause-stays
 returns-clause-stays c =
     let m = c.self.inside in let p = c.args.part in let now = c.args.self.now in
-    let n : Space = record { start = start_of m.shift m.len_and_skip; bytes = c.put_back.new.self.bytes; touches = m.counters.touches; copied = m.counters.copied; view = view_of m.base m.shift; out = c.put_back.new.self.out } in
+    let n : Space =
+    record {
+      start = start_of m.shift m.len_and_skip;
+      bytes = c.put_back.new.self.bytes;
+      touches = m.counters.touches;
+      copied = m.counters.copied;
+      view = view_of m.base m.shift;
+      out = c.put_back.new.self.out;
+    } in
     let start : n.start ≡ now.start = ap (λ (s : Space). s.start) c.self.view_is in
     let out : n.out ≡ out_with now (piece_range p) = search rules in
     let lies : LiesIn (piece_range p) now.start (length now.bytes) = search rules in
@@ -54,7 +71,15 @@ returns-clause-own c a lo hi = ap is_own (returns-clause-here c a lo hi)
 pub returns-clause-own_beside : goal.returns-clause-own_beside
 returns-clause-own_beside c =
     let m = c.self.inside in let p = c.args.part in let now = c.args.self.now in
-    let n : Space = record { start = start_of m.shift m.len_and_skip; bytes = c.put_back.new.self.bytes; touches = m.counters.touches; copied = m.counters.copied; view = view_of m.base m.shift; out = c.put_back.new.self.out } in
+    let n : Space =
+    record {
+      start = start_of m.shift m.len_and_skip;
+      bytes = c.put_back.new.self.bytes;
+      touches = m.counters.touches;
+      copied = m.counters.copied;
+      view = view_of m.base m.shift;
+      out = c.put_back.new.self.out;
+    } in
     let start : n.start ≡ now.start = ap (λ (s : Space). s.start) c.self.view_is in
     let out : n.out ≡ out_with now (piece_range p) = search rules in
     let lies : LiesIn (piece_range p) now.start (length now.bytes) = search rules in
@@ -63,7 +88,15 @@ returns-clause-own_beside c =
 pub returns-clause-values : goal.returns-clause-values
 returns-clause-values c =
     let m = c.self.inside in let p = c.args.part in let now = c.args.self.now in
-    let n : Space = record { start = start_of m.shift m.len_and_skip; bytes = c.put_back.new.self.bytes; touches = m.counters.touches; copied = m.counters.copied; view = view_of m.base m.shift; out = c.put_back.new.self.out } in
+    let n : Space =
+    record {
+      start = start_of m.shift m.len_and_skip;
+      bytes = c.put_back.new.self.bytes;
+      touches = m.counters.touches;
+      copied = m.counters.copied;
+      view = view_of m.base m.shift;
+      out = c.put_back.new.self.out;
+    } in
     let start : n.start ≡ now.start = ap (λ (s : Space). s.start) c.self.view_is in
     let lies : LiesIn (piece_range p) now.start (length now.bytes) = search rules in
     let bytes : n.bytes ≡ with_bytes now p.start p.bytes = search rules in
@@ -72,7 +105,15 @@ returns-clause-values c =
 pub returns-clause-others : goal.returns-clause-others
 returns-clause-others c q from side =
     let m = c.self.inside in let p = c.args.part in let now = c.args.self.now in
-    let n : Space = record { start = start_of m.shift m.len_and_skip; bytes = c.put_back.new.self.bytes; touches = m.counters.touches; copied = m.counters.copied; view = view_of m.base m.shift; out = c.put_back.new.self.out } in
+    let n : Space =
+    record {
+      start = start_of m.shift m.len_and_skip;
+      bytes = c.put_back.new.self.bytes;
+      touches = m.counters.touches;
+      copied = m.counters.copied;
+      view = view_of m.base m.shift;
+      out = c.put_back.new.self.out;
+    } in
     let start : n.start ≡ now.start = ap (λ (s : Space). s.start) c.self.view_is in
     let lies : LiesIn (piece_range p) now.start (length now.bytes) = search rules in
     let bytes : n.bytes ≡ with_bytes now p.start p.bytes = search rules in

@@ -11,7 +11,15 @@ use Rattle.rlsf_base.proofs.memory.open_memory.OpenMemory.put_room.Goals as goal
 pub returns-clause-own : goal.returns-clause-own
 returns-clause-own c =
     let m = c.self.inside in let p = c.args.part in let now = c.args.self.now in
-    let n : Space = record { start = start_of m.shift m.len_and_skip; bytes = c.put_room.new.self.bytes; touches = m.counters.touches; copied = m.counters.copied; view = view_of m.base m.shift; out = c.put_room.new.self.out } in
+    let n : Space =
+    record {
+      start = start_of m.shift m.len_and_skip;
+      bytes = c.put_room.new.self.bytes;
+      touches = m.counters.touches;
+      copied = m.counters.copied;
+      view = view_of m.base m.shift;
+      out = c.put_room.new.self.out;
+    } in
     let start : n.start ≡ now.start = ap (λ (s : Space). s.start) c.self.view_is in
     let out : n.out ≡ out_raw now (piece_range p) = search rules in
     let lies : LiesIn (piece_range p) now.start (length now.bytes) = search rules in
@@ -20,7 +28,15 @@ returns-clause-own c =
 pub returns-clause-beside : goal.returns-clause-beside
 returns-clause-beside c =
     let m = c.self.inside in let p = c.args.part in let now = c.args.self.now in
-    let n : Space = record { start = start_of m.shift m.len_and_skip; bytes = c.put_room.new.self.bytes; touches = m.counters.touches; copied = m.counters.copied; view = view_of m.base m.shift; out = c.put_room.new.self.out } in
+    let n : Space =
+    record {
+      start = start_of m.shift m.len_and_skip;
+      bytes = c.put_room.new.self.bytes;
+      touches = m.counters.touches;
+      copied = m.counters.copied;
+      view = view_of m.base m.shift;
+      out = c.put_room.new.self.out;
+    } in
     let start : n.start ≡ now.start = ap (λ (s : Space). s.start) c.self.view_is in
     let out : n.out ≡ out_raw now (piece_range p) = search rules in
     let lies : LiesIn (piece_range p) now.start (length now.bytes) = search rules in
@@ -29,7 +45,15 @@ returns-clause-beside c =
 pub returns-clause-own_beside : goal.returns-clause-own_beside
 returns-clause-own_beside c =
     let m = c.self.inside in let p = c.args.part in let now = c.args.self.now in
-    let n : Space = record { start = start_of m.shift m.len_and_skip; bytes = c.put_room.new.self.bytes; touches = m.counters.touches; copied = m.counters.copied; view = view_of m.base m.shift; out = c.put_room.new.self.out } in
+    let n : Space =
+    record {
+      start = start_of m.shift m.len_and_skip;
+      bytes = c.put_room.new.self.bytes;
+      touches = m.counters.touches;
+      copied = m.counters.copied;
+      view = view_of m.base m.shift;
+      out = c.put_room.new.self.out;
+    } in
     let start : n.start ≡ now.start = ap (λ (s : Space). s.start) c.self.view_is in
     let out : n.out ≡ out_raw now (piece_range p) = search rules in
     let lies : LiesIn (piece_range p) now.start (length now.bytes) = search rules in

@@ -18,12 +18,14 @@ addr c = c.args.payload.start + (c.args.payload.len + c.args.behind)
 readable : (c : After-self) → IsReadable c.args.self.now (addr c)
 readable c =
     let e = c.into_parts-units.ensures in
-    c.requires.readable (subst (λ (u : ℕ × (ℕ × ℕ × ℕ)). IsIssued c.args.ledger.now.entries u.0 (extent u.1.0 u.1.1 u.1.2)) (λ i. (e.7 i, (e.8 i, e.9 i, e.10 i))) c.redeem.ensures.issued)
+    c.requires.readable (subst (λ (u : ℕ × (ℕ × ℕ × ℕ)). IsIssued c.args.ledger.now.entries u.0 (extent u.1.0 u.1.1 u.1.2)) (λ i. (e.7 i, (e.8 i, e.9 i, e.10 i)))
+    c.redeem.ensures.issued)
 
 -- where the units begin in the block, and the word behind them in the memory
 starts : (c : After-self) → c.into_parts-units.result.1.first * 16 ≡ (c.self.inside.shift + c.args.payload.start) % 2 ^ 64
 starts c =
-    let shift : c.args.payload.home.view.shift ≡ c.self.inside.shift = ap (λ (h : Home). h.view.shift) c.requires.home ∙ sym (ap (λ (s : Space). s.view.shift) c.self.view_is) in
+    let shift : c.args.payload.home.view.shift ≡ c.self.inside.shift =
+    ap (λ (h : Home). h.view.shift) c.requires.home ∙ sym (ap (λ (s : Space). s.view.shift) c.self.view_is) in
     c.into_parts-units.ensures.4 ∙ ap (λ k. (k + c.args.payload.start) % 2 ^ 64) shift
 
 record Lies (c : After-self) : Type 0 where
@@ -46,7 +48,8 @@ pub slice_ahead-requires : goal.slice_ahead-requires
 slice_ahead-requires c =
     let d = (goal.at.slice_ahead-requires c).After-self in
     let m = c.self.inside in let e = c.into_parts-units.ensures in let l = word_lies d in
-    let base : c.args.payload.home.view.base.ptr ≡ m.bytes.at = ap (λ (h : Home). h.view.base.ptr) c.requires.home ∙ ap (λ (s : Space). s.view.base.ptr) (sym c.self.view_is) ∙ c.self.invariant.lies.0 in (
+    let base : c.args.payload.home.view.base.ptr ≡ m.bytes.at =
+    ap (λ (h : Home). h.view.base.ptr) c.requires.home ∙ ap (λ (s : Space). s.view.base.ptr) (sym c.self.view_is) ∙ c.self.invariant.lies.0 in (
       c.at-from.ensures ∙ e.0 ∙ (λ i. base i +ₚ sym e.4 i),
       l.from,
       l.to,
@@ -59,5 +62,6 @@ returns-clause-word c =
     let m = c.self.inside in let now = c.args.self.now in let l = word_lies d in
     let start : start_of m.shift m.len_and_skip ≡ now.start = ap (λ (s : Space). s.start) c.self.view_is in
     let read : c.slice_ahead.result.now ≡ bytes_in now (word_range (addr d)) =
-    c.slice_ahead.ensures ∙ ap (λ n. take 8 (drop n m.bytes.bytes)) (l.at ∙ ap (λ n. addr d - n) (sym start)) ∙ ap (λ (s : Space). bytes_in s (word_range (addr d))) c.self.view_is in
+    c.slice_ahead.ensures ∙ ap (λ n. take 8 (drop n m.bytes.bytes)) (l.at ∙ ap (λ n. addr d - n) (sym start))
+    ∙ ap (λ (s : Space). bytes_in s (word_range (addr d))) c.self.view_is in
     c.word_of-word.ensures ∙ ap (λ bs. from_le_bytes w64 bs) read ∙ sym (word_at-is now (addr d) (readable d).1.0 (readable d).2)

@@ -17,8 +17,11 @@ take_out-bytes-requires c =
     let start : start_of m.shift m.len_and_skip ≡ c.args.self.now.start = ap (λ (s : Space). s.start) c.self.view_is in
     let shift : c.view-view.result.shift ≡ m.shift = ap (λ (v : View). v.shift) (c.view-view.ensures ∙ sym (ap (λ (s : Space). s.view) c.self.view_is)) in
     let long : length m.bytes.bytes ≡ length c.args.self.now.bytes = ap (λ (s : Space). length s.bytes) c.self.view_is in
-    let place : c.place.result - m.bytes.skip ≡ c.args.range.start - c.args.self.now.start = omega arith in
-    (omega arith, omega arith, own-in m.bytes.out c.args.self.now c.args.range (c.place.result - m.bytes.skip) (ap (λ (s : Space). s.out) c.self.view_is) c.requires.place.0 place c.requires.own)
+    let place : c.place.result - m.bytes.skip ≡ c.args.range.start - c.args.self.now.start = omega arith in (
+      omega arith,
+      omega arith,
+      own-in m.bytes.out c.args.self.now c.args.range (c.place.result - m.bytes.skip) (ap (λ (s : Space). s.out) c.self.view_is) c.requires.place.0 place c.requires.own,
+    )
 
 pub invariant_of-result : goal.invariant_of-result
 invariant_of-result c =
@@ -35,7 +38,11 @@ invariant_of-result c =
     record {
       lies = (omega arith, omega arith);
       first = omega arith;
-      place = (ap (λ (v : View). v.base.ptr) view ∙ c.self.invariant.lies.0 ∙ sym e.0, e.1 ∙ c.place.ensures, e.10 ∙ c.self.invariant.lies.2 ∙ (λ i. units_in (sym shift i) (sym (skip ∙ c.self.invariant.lies.1) i) (sym (size ∙ c.self.invariant.whole) i)));
+      place = (
+        ap (λ (v : View). v.base.ptr) view ∙ c.self.invariant.lies.0 ∙ sym e.0,
+        e.1 ∙ c.place.ensures,
+        e.10 ∙ c.self.invariant.lies.2 ∙ (λ i. units_in (sym shift i) (sym (skip ∙ c.self.invariant.lies.1) i) (sym (size ∙ c.self.invariant.whole) i)),
+      );
       whole = (taken, λ k lo hi. ap (λ cs. is_own (kept_at cs k)) e.3 ∙ shifted-own i m.bytes.out c.args.range.len own k lo (omega (arith, hi, taken)));
       small = omega arith;
     }
@@ -67,7 +74,15 @@ returns-clause-full c here k lo hi =
 pub returns-clause-beside : goal.returns-clause-beside
 returns-clause-beside c =
     let m = c.self.inside in let now = c.args.self.now in let new = c.take_out-bytes.new.self in
-    let n : Space = record { start = start_of m.shift m.len_and_skip; bytes = new.bytes; touches = m.counters.touches; copied = m.counters.copied; view = view_of m.base m.shift; out = new.out } in
+    let n : Space =
+    record {
+      start = start_of m.shift m.len_and_skip;
+      bytes = new.bytes;
+      touches = m.counters.touches;
+      copied = m.counters.copied;
+      view = view_of m.base m.shift;
+      out = new.out;
+    } in
     let start : n.start ≡ now.start = ap (λ (s : Space). s.start) c.self.view_is in
     let out : n.out ≡ out_without now c.args.range = search rules in
     changed-stays gone now n c.args.range c.requires.place.0 start out
@@ -75,7 +90,15 @@ returns-clause-beside c =
 pub returns-clause-own_beside : goal.returns-clause-own_beside
 returns-clause-own_beside c =
     let m = c.self.inside in let now = c.args.self.now in let new = c.take_out-bytes.new.self in
-    let n : Space = record { start = start_of m.shift m.len_and_skip; bytes = new.bytes; touches = m.counters.touches; copied = m.counters.copied; view = view_of m.base m.shift; out = new.out } in
+    let n : Space =
+    record {
+      start = start_of m.shift m.len_and_skip;
+      bytes = new.bytes;
+      touches = m.counters.touches;
+      copied = m.counters.copied;
+      view = view_of m.base m.shift;
+      out = new.out;
+    } in
     let start : n.start ≡ now.start = ap (λ (s : Space). s.start) c.self.view_is in
     let out : n.out ≡ out_without now c.args.range = search rules in
     changed-own_stays gone now n c.args.range c.requires.place.0 start out

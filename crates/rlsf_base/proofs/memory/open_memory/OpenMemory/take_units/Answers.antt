@@ -15,8 +15,10 @@ take_units-units-requires c =
     let shift : c.view-view.result.shift ≡ m.shift = ap (λ (v : View). v.shift) (c.view-view.ensures ∙ sym (ap (λ (s : Space). s.view) c.self.view_is)) in
     let long : length m.bytes.bytes ≡ length now.bytes = ap (λ (s : Space). length s.bytes) c.self.view_is in
     let aligned : m.shift % 16 ≡ 0 = ap (λ (s : Space). s.view.shift % 16) c.self.view_is ∙ c.requires.aligned in
-    let units : m.bytes.units ≡ units_for (m.len_and_skip % 16) (m.len_and_skip / 32) = c.self.invariant.lies.2 ∙ units_in-aligned m.shift (m.len_and_skip % 16) (m.len_and_skip / 32) aligned in
+    let units : m.bytes.units ≡ units_for (m.len_and_skip % 16) (m.len_and_skip / 32) =
+    c.self.invariant.lies.2 ∙ units_in-aligned m.shift (m.len_and_skip % 16) (m.len_and_skip / 32) aligned in
     let whole : c.place.result / 16 * 16 ≡ c.place.result = omega arith in let all : range.len / 16 * 16 ≡ range.len = omega arith in
     let place : c.place.result / 16 * 16 - m.bytes.skip ≡ range.start - now.start = omega arith in
-    let own : IsOwn m.bytes.out (c.place.result / 16 * 16 - m.bytes.skip) range.len = own-in m.bytes.out now range (c.place.result / 16 * 16 - m.bytes.skip) (ap (λ (s : Space). s.out) c.self.view_is) c.requires.place.0 place c.requires.own in
+    let own : IsOwn m.bytes.out (c.place.result / 16 * 16 - m.bytes.skip) range.len =
+    own-in m.bytes.out now range (c.place.result / 16 * 16 - m.bytes.skip) (ap (λ (s : Space). s.out) c.self.view_is) c.requires.place.0 place c.requires.own in
     (omega arith, omega arith, omega arith, λ k lo hi. own k lo (omega (arith, hi, all)))

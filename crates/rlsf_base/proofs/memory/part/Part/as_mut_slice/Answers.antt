@@ -1,4 +1,5 @@
-use Rattle.std.proofs.Common.{◌≡◌, ℕ, ◌+◌, ◌-◌, ◌≤◌, List, ◌++◌, length, take, drop, arith, ap, refl, sym, ◌∙◌, length-append, length-drop, length-take}
+use Rattle.std.proofs.Common.{◌≡◌, ℕ, ◌+◌, ◌-◌, ◌≤◌, List, ◌++◌, length, take, drop, arith, ap, refl, sym, ◌∙◌, length-append, length-drop}
+use Rattle.std.proofs.Common.{length-take}
 use Rattle.std.proofs.Math.Seq.{take-length}
 use Rattle.std.specs.List.{refill}
 use Rattle.rlsf_base.specs.Lends.{refilled}
@@ -10,12 +11,19 @@ use Rattle.rlsf_base.proofs.Words.Splices.{length-splice}
 use Rattle.rlsf_base.proofs.memory.part.Part.as_mut_slice.Goals as goal
 
 pub slice_mut-requires : goal.slice_mut-requires
-slice_mut-requires c = (c.self.invariant.place.0, omega arith, omega arith, λ k lo hi. ap (λ (q : Piece). kept_at q.out k) c.self.view_is ∙ c.requires k (omega arith) (omega (arith, hi, ap (λ (q : Piece). length q.bytes) c.self.view_is, c.self.invariant.whole.0)))
+slice_mut-requires c = (
+  c.self.invariant.place.0,
+  omega arith,
+  omega arith,
+  λ k lo hi. ap (λ (q : Piece). kept_at q.out k) c.self.view_is
+      ∙ c.requires k (omega arith) (omega (arith, hi, ap (λ (q : Piece). length q.bytes) c.self.view_is, c.self.invariant.whole.0)),
+)
 
 as_long : (bs w : List ℕ) (i len : ℕ) → i + len ≤ length bs → length (refilled bs i len w) ≡ length bs
 as_long bs w i len room =
     let old = drop i bs in
-    let filled : length (refill len old w) ≡ len = omega (arith, room, length-take len (w ++ drop (length w) old), length-append w (drop (length w) old), length-drop (length w) old, length-drop i bs) in
+    let filled : length (refill len old w) ≡ len =
+    omega (arith, room, length-take len (w ++ drop (length w) old), length-append w (drop (length w) old), length-drop (length w) old, length-drop i bs) in
     length-splice bs (refill len old w) i len room filled
 
 pub invariant_of-self-lent : goal.invariant_of-self-lent
@@ -25,12 +33,16 @@ invariant_of-self-lent c = λ w.
       lies = is.lies;
       first = is.first;
       place = is.place;
-      whole = (as_long p.bytes.bytes w (c.place.result - p.bytes.skip) p.range.len (omega arith) ∙ is.whole.0, λ k lo hi. is.whole.1 k lo (omega (arith, hi, as_long p.bytes.bytes w (c.place.result - p.bytes.skip) p.range.len (omega arith))));
+      whole = (
+        as_long p.bytes.bytes w (c.place.result - p.bytes.skip) p.range.len (omega arith) ∙ is.whole.0,
+        λ k lo hi. is.whole.1 k lo (omega (arith, hi, as_long p.bytes.bytes w (c.place.result - p.bytes.skip) p.range.len (omega arith))),
+      );
       small = is.small;
     }
 
 -- the part's bytes are those of the view
-lent : (p : Piece) (bytes : List ℕ) (i len : ℕ) → i ≡ 0 → len ≡ length p.bytes → bytes ≡ p.bytes → (w : List ℕ) → record { home = p.home; start = p.start; bytes = refilled bytes i len w; out = p.out } ≡ lent_piece p w
+lent : (p : Piece) (bytes : List ℕ) (i len : ℕ) → i ≡ 0 → len ≡ length p.bytes → bytes ≡ p.bytes → (w : List ℕ)
+    → record { home = p.home; start = p.start; bytes = refilled bytes i len w; out = p.out } ≡ lent_piece p w
 unfolding lent_piece
 lent p bytes i len first all same w = λ j. record { home = p.home; start = p.start; bytes = refilled (same j) (first j) (all j) w; out = p.out }
 
@@ -60,7 +72,11 @@ returns c =
     let first : c.place.result - p.bytes.skip ≡ 0 = omega arith in
     let all : p.range.len ≡ length now.bytes = sym c.self.invariant.whole.0 ∙ ap (λ (q : Piece). length q.bytes) is in
     let value = c.slice_mut.ensures.value ∙ (λ i. take (all i) (drop (first i) (is i).bytes)) ∙ take-length now.bytes in (
-      (refl, λ w. (λ i. record { home = (is i).home; start = (is i).start; bytes = refilled (is i).bytes (first i) (all i) w; out = (is i).out }) ∙ lent now now.bytes 0 (length now.bytes) refl refl refl w),
+      (
+        refl,
+        λ w. (λ i. record { home = (is i).home; start = (is i).start; bytes = refilled (is i).bytes (first i) (all i) w; out = (is i).out })
+            ∙ lent now now.bytes 0 (length now.bytes) refl refl refl w,
+      ),
       record {
         writes_back = tt;
         value = value;

@@ -8,15 +8,23 @@ use Rattle.rlsf_base.proofs.memory.part.Part.fill.Goals as goal
 
 pub fill_bytes-requires : goal.fill_bytes-requires
 fill_bytes-requires c =
-    let is = c.self.invariant in let p = c.self.inside in
-    (is.place.0, is.place.1 ∙ sym c.place-place.ensures, is.whole.0, λ k lo hi. is.whole.1 k lo (omega (arith, hi, is.whole.0)), omega (arith, is.small, is.place.1, c.place-place.ensures))
+    let is = c.self.invariant in let p = c.self.inside in (
+      is.place.0,
+      is.place.1 ∙ sym c.place-place.ensures,
+      is.whole.0,
+      λ k lo hi. is.whole.1 k lo (omega (arith, hi, is.whole.0)),
+      omega (arith, is.small, is.place.1, c.place-place.ensures),
+    )
 
 pub invariant_of-self : goal.invariant_of-self
 invariant_of-self c =
     let is = c.self.invariant in let p = c.self.inside in let e = c.fill_bytes.ensures in
     let long = ap length e.2 ∙ length-replicate p.range.len c.args.value in
     record {
-      lies = (omega (arith, is.lies, ap (λ (u : ℕ × ℕ). u.0) e.5, ap (λ (u : ℕ × ℕ). u.1) e.5), omega (arith, is.lies, ap (λ (u : ℕ × ℕ). u.0) e.5, ap (λ (u : ℕ × ℕ). u.1) e.5));
+      lies = (
+        omega (arith, is.lies, ap (λ (u : ℕ × ℕ). u.0) e.5, ap (λ (u : ℕ × ℕ). u.1) e.5),
+        omega (arith, is.lies, ap (λ (u : ℕ × ℕ). u.0) e.5, ap (λ (u : ℕ × ℕ). u.1) e.5),
+      );
       first = omega (arith, is.first, ap (λ (u : ℕ × ℕ). u.0) e.5);
       place = (is.place.0 ∙ sym e.0, e.1 ∙ c.place-place.ensures, e.4 ∙ is.place.2 ∙ (λ i. units_in p.view.shift (sym e.5 i).0 (sym e.5 i).1));
       whole = (long, λ k lo hi. ap (λ cs. is_own (kept_at cs k)) e.3 ∙ ap is_own (none-out k));

@@ -7,7 +7,8 @@ use base.Fml.{ftrue}
 use prog.Wp.{WpFn}
 use contract.Monad.{fact, fact_i}
 use contract.Running.{tables}
-use types.Kit.{‵, raw, ◌⊛◌, some, later, prop, ◌$◌, ◌∵◌, !, qed, done, move, drop, use0, use1, use2, split, join, keep, pick, await, rewrite, regoal, suffices, fsplit}
+use types.Kit.{‵, raw, ◌⊛◌, some, later, prop, ◌$◌, ◌∵◌, !, qed, done, move, drop, use0, use1, use2, split, join, keep, pick, await, rewrite, regoal, suffices}
+use types.Kit.{fsplit}
 use types.Run.{enter, of_opd, no_more, and_then, returns}
 use types.ByLocal.{alloc_all, pass_all, free_all, look_at, get, sets, lands_as}
 use denote.Exit.{rest, yes}
@@ -56,7 +57,9 @@ from_raw_spec 𝓤 𝓛 𝓜 𝓡 wired =
     let stays : Stays En₀.signature.params En₀.kept = (stay_dropped (plain (λ _. V)) En₀.kept.0, (stay_dropped (plain (λ _. R)) En₀.kept.1.0, tt)) in
     let C = (tables 𝓤 H 𝓜 𝓡 𝓡.env).C in
     let Λ = (tables 𝓤 H 𝓜 𝓡 𝓡.env).Λ in
-    proved_at 𝓛 En₀ stays c 𝓜 𝓡 (Goes-blank 𝓛 0 (plain (λ _. V)) En₀.kept.0 (λ κs x w. tt), (Goes-blank 𝓛 0 (plain (λ _. R)) En₀.kept.1.0 (λ κs x w. tt), tt)) f.Key.name fn (code.unfolded 𝓤 H 𝓜 𝓡 wired) (λ z are.
+    proved_at 𝓛 En₀ stays c 𝓜 𝓡
+    (Goes-blank 𝓛 0 (plain (λ _. V)) En₀.kept.0 (λ κs x w. tt), (Goes-blank 𝓛 0 (plain (λ _. R)) En₀.kept.1.0 (λ κs x w. tt), tt)) f.Key.name fn
+    (code.unfolded 𝓤 H 𝓜 𝓡 wired) (λ z are.
     let Post : Val → SProp 𝓤 = (walk_of 𝓛 En₀ stays c).post z in
     let a = z.0.3 in
     let vss = z.0.4 in
@@ -65,7 +68,8 @@ from_raw_spec 𝓤 𝓛 𝓜 𝓡 wired =
     let had_view = one (layout V) vss.0 (((view_laws.the_row_laws).lawful 𝓛).typed view vss.0 are.0) in
     let had_range = one (layout R) vss.1.0 (((range_laws.the_row_laws).lawful 𝓛).typed range vss.1.0 are.1.0) in
     let v : Val = had_view.0 in let r : Val = had_range.0 in
-    qed 𝓛 ((raw (alive 𝓛 En₀.signature z.0.0 z.0.1) ⊛ ‵ (owns (types_at En₀.signature.params z.0.0) a vss)) ∷ (‵ (piece_owns p) ⊛ raw (fact 𝓤 (CanCome p view range))) ∷ []) ∵
+    qed 𝓛 ((raw (alive 𝓛 En₀.signature z.0.0 z.0.1) ⊛ ‵ (owns (types_at En₀.signature.params z.0.0) a vss))
+    ∷ (‵ (piece_owns p) ⊛ raw (fact 𝓤 (CanCome p view range))) ∷ []) ∵
     split ! $ move ! (1 ∷ []) $ fsplit ! $ move ! (1 ∷ []) $ fsplit ! $ move ! (1 ∷ []) $ drop ! $
     -- [the range; the view; what is alive; what is handed and the fact]
     rewrite ! 0 (λ (us : List Val). ‵ (R.own_val range us)) had_range.1 refl $ rewrite ! 1 (λ (us : List Val). ‵ (V.own_val view us)) had_view.1 refl $
@@ -75,14 +79,25 @@ from_raw_spec 𝓤 𝓛 𝓜 𝓡 wired =
     alloc_all ! (λ l. pass_all ! refl (had_view.2, (had_range.2, tt)) $
     -- [what is handed; the range; the view; what is alive; the locals]
     let G = triple_of 𝓛 g.signature (g.spec 𝓛 𝓜.mem 𝓡.returns) in
-    let y : G.Ghost = ((tt, tt, tt, tt, tt), (p.home.view.base.ptr, place_in p.home.view p.start, p.bytes, p.out, (first_place p.home, p.home.len), units_in p.home.view.shift (first_place p.home) p.home.len)) in
+    let y : G.Ghost = (
+      (tt, tt, tt, tt, tt),
+      (
+        p.home.view.base.ptr,
+        place_in p.home.view p.start,
+        p.bytes,
+        p.out,
+        (first_place p.home, p.home.len),
+        units_in p.home.view.shift (first_place p.home) p.home.len,
+      ),
+    ) in
     nothing ! $ nothing ! $ join ! $ use2 𝓛 (raw (G.pre y)) (id⊢ 𝓤 _) $
     calls_at ! (framed 𝓤 H 𝓜 (tables 𝓤 H 𝓜 𝓡 𝓡.env)) G (raw_met 𝓤 𝓛 𝓜 𝓡 (code.calls-rlsf_base::memory::block::Bytes::from_raw 𝓡.env wired)) y
     (no_more !) (λ u.
     use1 𝓛 (later (some (λ (e : (owner.the_row).Denot). (‵ ftrue ⊛ ‵ ((owner.the_row).own_val e (u ∷ []))) ⊛
     some (λ (ws : Lasts g.ended tt tt). ‵ (lasts g.ended y.0.0 y.0.3 ws) ⊛ raw (fact 𝓤 (IsOwnerOf p e)))))) (id⊢ 𝓤 _) $
     await ! tt $ pick ! (λ e. split ! $ split ! $ drop ! $
-    peeks ! owner.the_row (Is owner.the_row) (shows 𝓛 owner.the_row) e (u ∷ []) (λ is_owner. let owner_typed = ((owner_laws.the_row_laws.lawful 𝓛).typed e _ is_owner).0 in lands_as ! refl refl owner_typed $
+    peeks ! owner.the_row (Is owner.the_row) (shows 𝓛 owner.the_row) e (u ∷ [])
+    (λ is_owner. let owner_typed = ((owner_laws.the_row_laws.lawful 𝓛).typed e _ is_owner).0 in lands_as ! refl refl owner_typed $
     move ! (1 ∷ []) $ pick ! (λ ws. split ! $ drop ! $ heard ! _ (λ is.
     -- [the owner; the range; the view; what is alive; the locals]
     let K = triple_of 𝓛 k.signature (k.spec 𝓛 𝓜.mem 𝓡.returns) in

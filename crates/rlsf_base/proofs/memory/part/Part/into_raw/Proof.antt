@@ -7,7 +7,8 @@ use base.Fml.{ftrue}
 use prog.Wp.{WpFn}
 use contract.Monad.{fact}
 use contract.Running.{tables}
-use types.Kit.{‵, raw, ◌⊛◌, some, later, prop, ◌$◌, ◌∵◌, !, qed, by, done, move, drop, use1, use2, split, join, keep, feq_i, feq_l, pick, await, rewrite, regoal, suffices, group, fsplit}
+use types.Kit.{‵, raw, ◌⊛◌, some, later, prop, ◌$◌, ◌∵◌, !, qed, by, done, frame, move, drop, use1, use2, split, join, keep, feq_i, feq_l, pick, await, rewrite}
+use types.Kit.{regoal, suffices, group, fsplit}
 use types.Run.{enter, of_opd, no_more, and_then, returns, unit_lit}
 use types.ByLocal.{alloc_all, pass_all, free_all, look_at, get, sets, lands_as}
 use denote.Builtin.{unit}
@@ -22,7 +23,7 @@ use denote.Triple.Call.{calls_at}
 use denote.Triple.Clauses.{lasts, Lasts}
 use denote.Triple.Entry.{alive}
 use denote.Triple.Spec.{triple_of}
-use denote.Triple.Walked.{Stays, walk_of, stay_dropped, ends_at}
+use denote.Triple.Walked.{says, Stays, walk_of, stay_dropped, ends_at}
 use denote.Triple.Table.{framed}
 use Rattle.core.proofs.alloc.Calls.{Goes-blank}
 use Rattle.core.proofs.cell.Inside.{one}
@@ -31,6 +32,7 @@ use Rattle.rlsf_base.specs.Out.{Change}
 use Rattle.rlsf_base.specs.OpenSpace.{Home}
 use Rattle.rlsf_base.specs.Piece.{HasBytes, first_place, piece_owns}
 use Rattle.rlsf_base.specs.Steps.Ownership.{bytes_own, units_in}
+use Rattle.rlsf_base.proofs.Pieces.{can_come}
 use Rattle.rlsf_base.specs.contracts.memory.block.Bytes as owner
 use Rattle.rlsf_base.proofs.memory.block.Bytes.TheLaws as owner_laws
 use Rattle.rlsf_base.specs.contracts.memory.block.Bytes.into_raw as k
@@ -61,7 +63,8 @@ into_raw_spec 𝓤 𝓛 𝓜 𝓡 wired =
     let got = one (layout P) vss.0 (((part_laws.the_row_laws).lawful 𝓛).typed p vss.0 are.0) in
     let w : Val = got.0 in
     let good = got.2 in
-    qed 𝓛 ((raw (alive 𝓛 En₀.signature z.0.0 z.0.1) ⊛ ‵ (owns (types_at En₀.signature.params z.0.0) a vss)) ∷ ‵ ftrue ∷ []) ∵ move ! (1 ∷ []) $ drop ! $ split ! $ move ! (1 ∷ []) $
+    qed 𝓛 ((raw (alive 𝓛 En₀.signature z.0.0 z.0.1) ⊛ ‵ (owns (types_at En₀.signature.params z.0.0) a vss)) ∷ ‵ ftrue ∷ []) ∵ move ! (1 ∷ []) $ drop ! $
+    split ! $ move ! (1 ∷ []) $
     fsplit ! $ move ! (1 ∷ []) $ drop ! $ rewrite ! 0 (λ (us : List Val). ‵ (P.own_val p us)) got.1 refl $
     regoal ! (λ (us : List Val). prop (WpFn 𝓤 H C Λ fn us Post)) (λ i. got.1 i ++ []) refl $
     enter ! C Λ fn (w ∷ []) Post $
@@ -76,7 +79,8 @@ into_raw_spec 𝓤 𝓛 𝓜 𝓡 wired =
     use1 𝓛 (later (some (λ (d : (owner.the_row).Denot). (‵ ftrue ⊛ ‵ ((owner.the_row).own_val d (u ∷ []))) ⊛
     some (λ (ws : Lasts g.ended tt (p, tt)). ‵ (lasts g.ended y.0.0 y.0.3 ws) ⊛ raw (fact 𝓤 (HasBytes p d)))))) (id⊢ 𝓤 _) $
     await ! tt $ pick ! (λ d. split ! $ split ! $ drop ! $
-    peeks ! owner.the_row (Is owner.the_row) (shows 𝓛 owner.the_row) d (u ∷ []) (λ is. let typed = ((owner_laws.the_row_laws.lawful 𝓛).typed d _ is).0 in lands_as ! refl refl typed $
+    peeks ! owner.the_row (Is owner.the_row) (shows 𝓛 owner.the_row) d (u ∷ [])
+    (λ is. let typed = ((owner_laws.the_row_laws.lawful 𝓛).typed d _ is).0 in lands_as ! refl refl typed $
     move ! (1 ∷ []) $ pick ! (λ ws. split ! $ drop ! $ heard ! _ (λ has.
     -- [the owner; nothing; the locals]
     let K = triple_of 𝓛 k.signature (k.spec 𝓛 𝓜.mem 𝓡.returns) in
@@ -91,8 +95,10 @@ into_raw_spec 𝓤 𝓛 𝓜 𝓡 wired =
     let first : d.of.0 ≡ first_place p.home = omega (arith, ap (λ (h : Home). h.start) has.1) in
     let long : d.of.1 ≡ p.home.len = ap (λ (h : Home). h.len) has.1 in
     let units : d.units ≡ units_in p.home.view.shift (first_place p.home) p.home.len = has.0.place.2 ∙ (λ i. units_in p.home.view.shift (first i) (long i)) in
-    rewrite ! 0 (λ (o : Ptr × ℕ × List ℕ × List Change × ℕ). ‵ (bytes_own o.0 o.1 o.2 o.3 o.4)) (λ i. (sym has.0.place.0 i, has.0.place.1 i, has.2 i, has.3 i, units i)) refl $
+    rewrite ! 0 (λ (o : Ptr × ℕ × List ℕ × List Change × ℕ). ‵ (bytes_own o.0 o.1 o.2 o.3 o.4))
+    (λ i. (sym has.0.place.0 i, has.0.place.1 i, has.2 i, has.3 i, units i)) refl $
     sets ! (of_opd ! (unit_lit !)) refl (tt, tt) $
     returns ! (look_at ! 0 refl) $ free_all ! refl $ keep ! (0 ∷ []) $
     suffices ! _ (ends_at 𝓛 En₀ stays c z vunit tt (rest (P.exit yes) p, tt) (tt, tt)) $
-    feq_i ! (List Val) (vunit ∷ []) (vunit ∷ []) refl $ nothing ! $ nothing ! $ join ! $ nothing ! $ group ! 3 $ done !)))))))))))
+    feq_i ! (List Val) (vunit ∷ []) (vunit ∷ []) refl $ nothing ! $ nothing ! $ join ! $ nothing ! $ group ! 3 $ frame ! $ says ! (can_come p d has.0 has.1 has.2 has.3) $
+    done !)))))))))))

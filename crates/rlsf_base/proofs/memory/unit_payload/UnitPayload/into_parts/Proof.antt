@@ -67,8 +67,11 @@ into_parts_spec 𝓤 𝓛 𝓜 𝓡 wired =
     let ticket : (ticket_type.the_row).Denot = record { mark = record {}; name = d.name; key = d.key; addr = d.start; len = len; align = 16 } in
     let v : Val = three_val (spot_val d.ptr len) mark_val mark_val in let Three : RattleType = Tuple (spot_type.the_row ∷ units_type.the_row ∷ ticket_type.the_row ∷ []) in
     use0 𝓛 (‵ (mark_own (mark_val ∷ []))) (mark_made 𝓛) $ fjoin ! $
-    move ! (1 ∷ []) $ rewrite ! 0 (λ (p : Ptr). ‵ (room_for (units_ty (len / 16)) p)) d.placed.at refl $ use1 𝓛 (‵ (units_own at (place / 16) (len / 16))) (units_at 𝓛 at (place / 16) (len / 16) place whole_place) $
+    move ! (1 ∷ []) $ rewrite ! 0 (λ (p : Ptr). ‵ (room_for (units_ty (len / 16)) p)) d.placed.at refl $ use1 𝓛 (‵ (units_own at (place / 16) (len / 16)))
+    (units_at 𝓛 at (place / 16) (len / 16) place whole_place) $
     use0 𝓛 (‵ (mark_own (mark_val ∷ []))) (mark_made 𝓛) $ fjoin ! $ use0 𝓛 (‵ (spot_own d.ptr len (spot_val d.ptr len ∷ []))) (spot_made 𝓛 d.ptr len fits) $
-    use3 𝓛 (‵ (Three.own_val (spot, run, ticket) (v ∷ []))) (three_of 𝓛 spot_type.the_row units_type.the_row ticket_type.the_row spot run ticket (spot_val d.ptr len) mark_val mark_val) $
-    suffices ! _ (ends_at 𝓛 f.ended stayed c y v (spot, run, ticket) (tt, tt) (tt, tt)) $ says ! (d.placed.at, refl, d.placed, refl, whole_place, whole_len, refl, refl, refl, refl, refl) $
+    use3 𝓛 (‵ (Three.own_val (spot, run, ticket) (v ∷ [])))
+    (three_of 𝓛 spot_type.the_row units_type.the_row ticket_type.the_row spot run ticket (spot_val d.ptr len) mark_val mark_val) $
+    suffices ! _ (ends_at 𝓛 f.ended stayed c y v (spot, run, ticket) (tt, tt) (tt, tt)) $ says !
+    (d.placed.at, refl, d.placed, refl, whole_place, whole_len, refl, refl, refl, refl, refl) $
     nothing ! $ nothing ! $ join ! $ nothing ! $ done !))

@@ -4,4 +4,6 @@ use Rattle.rlsf_int.proofs.Signed.{set_signed}
 use Rattle.rlsf_int.proofs.impls.i128.I128Bitmap.insert_within.Goals as goal
 
 pub returns : goal.returns
-returns c = set_signed w128 c.args.self.now c.cast_unsigned.result c.args.i c.cast_signed.result (Prim.search rules) (omega arith) (omega arith) c.cast_unsigned.ensures c.cast_signed.ensures
+returns c =
+    set_signed w128 c.args.self.now c.cast_unsigned.result c.args.i c.cast_signed.result (Prim.search rules) (omega arith) (omega arith) c.cast_unsigned.ensures
+    c.cast_signed.ensures
