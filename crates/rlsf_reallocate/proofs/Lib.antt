@@ -1,1 +1,2 @@
+-- Lemmas on a used block that gets another size.
 pub mod Reallocate

@@ -1,3 +1,3 @@
--- What the calls on a memory and its class table say to the allocator: no contract of its own cites these.
+-- Definitions for the calls on a memory and its class table. No contract of the allocator cites these.
 pub mod Previous
 pub mod Resize

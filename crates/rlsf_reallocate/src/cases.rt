@@ -26,7 +26,7 @@ use rlsf_table::ClassTable;
 /// refused, returns `None`, and no byte and no block changes.
 ///
 /// No byte leaves or comes back, and each byte that was here is here.
-// Out of line, since it is long: so the compiler keeps the memory's base in a register in the short calls.
+// Out of line, since it is long. So the compiler keeps the memory's base in a register in the short calls.
 #[inline(never)]
 pub fn reallocate_block<const FLLEN: usize, const SLLEN: usize, const WHOLE: usize>(
     memory: &mut OpenMemory,

@@ -1,4 +1,8 @@
 //! Reallocations: a payload gets another size, over a memory and its class table.
+//!
+//! Start with `src/cases`, which tries three cases in turn. `src/resize` stays in place, `src/previous` moves into the free block before the
+//! payload's own, and `src/elsewhere` moves into a newly allocated block. `src/copying` copies the bytes. All definitions are in
+//! `specs/Steps`: the contracts of the allocator cite the reference model instead.
 #![tactic(auto)]
 
 mod cases;
@@ -8,4 +12,4 @@ mod previous;
 mod resize;
 
 pub use cases::reallocate_block;
-pub use resize::resize_block;
+pub use resize::{resize_any_block, resize_block};

@@ -22,7 +22,7 @@ use rlsf_base::rounding::next_multiple_of_32;
 use rlsf_blocks::{GRANULARITY, HEADER, take_if_free, take_previous};
 use rlsf_table::{ClassTable, PAD, PREVIOUS_BLOCK, used_end};
 
-/// Where the free block before the used one at `block` begins, or `block` where none is before it.
+/// Returns the start of the free block before the used one at `block`, or `block` if none is before it.
 fn start_before(memory: &mut OpenMemory, view: View, block: usize) -> usize
     requires used { (fllen : ℕ) × (sllen : ℕ) × (t : Table) × (s : State) × (u : Used) × StandsFor fllen sllen (contents memory.old t) s × IsIn u s.used × (u.block.start ≡ block) }
     requires view { view ≡ memory.old.view }
@@ -37,9 +37,9 @@ fn start_before(memory: &mut OpenMemory, view: View, block: usize) -> usize
     }
 }
 
-/// Where the payload for the layout would lie, and how many bytes its block would take, if the used block from `block` to
-/// `end` began where the free block before it does. `None` if no free block is before it, or if the bytes of both and those
-/// of a free block behind it don't suffice.
+/// Returns the address of the payload for the layout, and the length of its block, if the block began where the free block before
+/// the used one does. Returns `None` if no free block is before it, or if the bytes don't suffice: those from there to `end`, and
+/// those of a free block behind.
 fn place_before(
     memory: &mut OpenMemory,
     view: View,
@@ -65,7 +65,7 @@ fn place_before(
     Some((payload, taken))
 }
 
-/// Moves the payload at `payload`, in the used block at `block`, into the free block before its own, if the bytes of both
+/// Moves the payload at `payload`, in the used block at `block`, into the free block before its own. It moves if the bytes of both
 /// and of a free block behind them suffice for `layout`. All bytes of the payload are kept. The rest becomes a free block.
 ///
 /// The used block must be too short for the size of `layout`, and `layout` must have the alignment of the payload. All
@@ -102,7 +102,7 @@ pub(crate) fn move_into_previous<const FLLEN: usize, const SLLEN: usize, const W
     let (moved, taken) = place_before(memory, view, block, end, layout)?;
     let start = take_previous(memory, view, table, block);
     let next = take_if_free(memory, view, table, end);
-    // Before any header is written: the bytes may lie where one will stand.
+    // Before any header is written: a header may overwrite these bytes.
     copy_payload::<WHOLE>(
         memory,
         Range {

@@ -1,6 +1,6 @@
 //! A used block gets another size in place.
 
-ghost use Rattle.std.specs.Prelude.{◌≡◌, ◌+◌, ◌%◌, ◌≤◌, ◌<◌, ℕ, List, None, true, false};
+ghost use Rattle.std.specs.Prelude.{◌≡◌, ◌+◌, ◌-◌, ◌^◌, ◌%◌, ◌≤◌, ◌<◌, ℕ, List, None, true, false};
 ghost use Rattle.rlsf_base.specs.declared.memory.range.Range.{Range};
 ghost use Rattle.rlsf_base.specs.Range.{range_at};
 ghost use Rattle.rlsf_base.specs.SizeClass.{IsValid};
@@ -11,7 +11,7 @@ ghost use Rattle.rlsf_blocks.specs.StandsFor.{contents, StandsFor};
 ghost use Rattle.rlsf_table.specs.Counts.{Costs, Counts};
 ghost use Rattle.rlsf_table.specs.FreeTable.{IsFreeTable};
 ghost use Rattle.rlsf_blocks.specs.Steps.Join.{IsMarked};
-ghost use Rattle.rlsf_reallocate.specs.Steps.Resize.{AtEachPayload, IsFreeLength, IsOccupied, IsResized, IsUsedAt};
+ghost use Rattle.rlsf_reallocate.specs.Steps.Resize.{AtEachAligned, AtEachPayload, IsFreeLength, IsOccupied, IsResized, IsUsedAt};
 ghost use Rattle.rlsf_blocks.specs.Steps.Rest.{AtEachInnerRoom, IsInnerRoom};
 ghost use Rattle.rlsf_table.specs.Table.{Table};
 
@@ -20,7 +20,7 @@ use rlsf_base::rounding::next_multiple_of_32;
 use rlsf_blocks::{leave_rest, take_if_free};
 use rlsf_table::{ClassTable, PREVIOUS_BLOCK, is_free, len_of_used, used_size_word};
 
-/// The bytes of the free block at `block`, or 0 where no free block begins.
+/// Returns the length of the free block at `block`, or 0 if no free block begins there.
 pub(crate) fn free_length(memory: &mut OpenMemory, view: View, block: usize) -> usize
     requires marked { (fllen : ℕ) × (sllen : ℕ) × (t : Table) × (free : List Range) × IsFreeTable fllen sllen memory.old t free × IsMarked memory.old free block }
     requires view { view ≡ memory.old.view }
@@ -31,7 +31,7 @@ pub(crate) fn free_length(memory: &mut OpenMemory, view: View, block: usize) -> 
     if is_free(size) { size as usize } else { 0 }
 }
 
-/// Makes a used block of the first `taken` of the `total` bytes at `block`, which are no block's; a rest becomes a free
+/// Makes a used block of the first `taken` of the `total` bytes at `block`, which belong to no block. The rest becomes a free
 /// block. The word that names the block before it stays, and so do the bytes of the used block behind its first 16.
 pub(crate) fn occupy<const FLLEN: usize, const SLLEN: usize>(
     memory: &mut OpenMemory,
@@ -56,12 +56,54 @@ pub(crate) fn occupy<const FLLEN: usize, const SLLEN: usize>(
     }
 }
 
+/// Gives the payload at `payload`, in the used block at `block`, the size of `layout` in bytes without moving it. It does so if the
+/// bytes of the block and of a free block behind it suffice. The rest of them becomes a free block.
+///
+/// Of `layout` only the size counts: the payload has any alignment. The length of its block has to fit in a word. No usable
+/// byte of the payload may be out.
+///
+/// Returns whether the bytes suffice. If not, no byte and no block changes.
+pub fn resize_any_block<const FLLEN: usize, const SLLEN: usize>(
+    memory: &mut OpenMemory,
+    view: View,
+    table: &mut ClassTable<FLLEN, SLLEN>,
+    block: usize,
+    payload: usize,
+    layout: Layout,
+) -> bool
+    requires parameters { IsValid 128 128 FLLEN SLLEN }
+    requires used { (s : State) × (u : Used) × StandsFor FLLEN SLLEN (contents memory.old table.old) s × IsUsedAt s u block payload u.align × IsOwned memory.old (usable u) }
+    requires view { view ≡ memory.old.view }
+    requires fits { payload - block + layout.size + 31 < 2 ^ 64 }
+    ensures done { AtEachAligned FLLEN SLLEN memory.old table.old block payload
+        (λ s u. IsOwned memory.old (usable u) → result ≡ true → IsResized FLLEN SLLEN memory.old memory.new table.new s u layout.size payload) }
+    ensures refused { AtEachAligned FLLEN SLLEN memory.old table.old block payload (λ s u. result ≡ false → unmoved_plan s u layout.size ≡ None) }
+    ensures unchanged { result ≡ false → Counts memory.old memory.new 2 × (table.new ≡ table.old) }
+    ensures costs { Costs memory.old memory.new 24 0 }
+    ensures own { SameOwn memory.old memory.new }
+    ensures here { StaysHere memory.old memory.new }
+{
+    let len = len_of_used(memory.load_at(view, block));
+    let taken = next_multiple_of_32(payload - block + layout.size());
+    if taken == len {
+        return true;
+    }
+    let end = block + len;
+    if taken > len + free_length(memory, view, end) {
+        return false;
+    }
+    let next = take_if_free(memory, view, table, end);
+    occupy(memory, view, table, block, len + next, taken);
+    true
+}
+
 /// Gives the payload at `payload`, in the used block at `block`, the size of `layout` in bytes without moving it, if the
 /// bytes of the block and of a free block behind it suffice. The rest of them becomes a free block.
 ///
 /// `layout` must have the alignment of the payload. No usable byte of the payload may be out.
 ///
 /// Returns whether the bytes suffice. If not, no byte and no block changes.
+#[inline(always)]
 pub fn resize_block<const FLLEN: usize, const SLLEN: usize>(
     memory: &mut OpenMemory,
     view: View,
@@ -81,16 +123,5 @@ pub fn resize_block<const FLLEN: usize, const SLLEN: usize>(
     ensures own { SameOwn memory.old memory.new }
     ensures here { StaysHere memory.old memory.new }
 {
-    let len = len_of_used(memory.load_at(view, block));
-    let taken = next_multiple_of_32(payload - block + layout.size());
-    if taken == len {
-        return true;
-    }
-    let end = block + len;
-    if taken > len + free_length(memory, view, end) {
-        return false;
-    }
-    let next = take_if_free(memory, view, table, end);
-    occupy(memory, view, table, block, len + next, taken);
-    true
+    resize_any_block(memory, view, table, block, payload, layout)
 }

@@ -18,7 +18,7 @@ use Rattle.rlsf_tlsf.specs.Allocator.{Allocator, allocator, IsAllocator, IsStand
 use Rattle.rlsf_tlsf.specs.Steps.Moves.{bare, bare_used, deallocated}
 use Rattle.rlsf_tlsf.proofs.Moved.{bare-bare, deallocated-bare}
 
--- a state that stands has the bytes that the memory has
+-- a represented state has the bytes that the memory has
 pub read_from-stands : {fllen sllen : ℕ} {m : Space} {x : Table} {s : State} → StandsFor fllen sllen (contents m x) s → read_from m s ≡ s
 read_from-stands {m = m} {s = s} v = ap (λ (used : List Used). record { chunks = s.chunks; used = used; free = s.free }) (go s.used (λ u i. v.payloads.bytes u i))
   where
@@ -45,13 +45,15 @@ pub bare-kept : {fl_bits sl_bits fllen sllen : ℕ} {m : Space} {x : Table} {s :
 bare-kept {m = m} {s = s} is = bare-read_from m s ∙ is.is_bare
 
 -- what is kept once a payload is gone is the state without it
-pub kept_without : {fl_bits sl_bits fllen sllen : ℕ} {m : Space} {x : Table} {s : State} → IsAllocator fl_bits sl_bits fllen sllen m x s → (addr : ℕ) {payload : ℕ} (u : Used) → Holds (read_from m s) addr u → payload ≡ addr
+pub kept_without : {fl_bits sl_bits fllen sllen : ℕ} {m : Space} {x : Table} {s : State} → IsAllocator fl_bits sl_bits fllen sllen m x s
+    → (addr : ℕ) {payload : ℕ} (u : Used) → Holds (read_from m s) addr u → payload ≡ addr
     → deallocated payload s ≡ bare (released (read_from m s) u)
 kept_without {m = m} {s = s} is addr u holds same =
-    (λ i. deallocated (same i) (sym (bare-kept is) i)) ∙ deallocated-bare is.stands.well_formed (released (read_from m s) u) addr (record { block = u; holds = holds; after = refl })
+    (λ i. deallocated (same i) (sym (bare-kept is) i))
+    ∙ deallocated-bare is.stands.well_formed (released (read_from m s) u) addr (record { block = u; holds = holds; after = refl })
 
 module _ {fllen sllen : ℕ} {n : Space} {x : Table} {t : State} (v : StandsFor fllen sllen (contents n x) t) (reached : State) (e : reached ≡ bare t) where
-  -- the state that is read is the one that stands
+  -- the state that is read is the represented one
   pub arrived : read_from n reached ≡ t
   arrived = ap (read_from n) e ∙ read_from-bare n t ∙ read_from-stands v
 
@@ -67,19 +69,21 @@ module _ {fllen sllen : ℕ} {n : Space} {x : Table} {t : State} (v : StandsFor 
     Stands-arrived = record { stands = stands; whole = whole }
 
     -- a step to it is the step that the call says
-    pub Steps-arrived : (old : Allocator) (m : Space) (y : Table) (s : State) → allocator m y s ≡ old → (step : State → State → Type 0) → step (read_from m s) t → KeepsSpare m (read_from m s) n t
+    pub Steps-arrived : (old : Allocator) (m : Space) (y : Table) (s : State) → allocator m y s ≡ old → (step : State → State → Type 0) → step (read_from m s) t
+        → KeepsSpare m (read_from m s) n t
         → Steps fllen sllen old (allocator n x reached) (step old.state)
     unfolding Steps
     Steps-arrived old m y s view step is spare =
         subst (λ (o : Allocator). step o.state (read_from n reached) × Stands fllen sllen (allocator n x reached) × KeepsSpare o.memory o.state n (read_from n reached)) view
         (subst (step (read_from m s)) (sym arrived) is, Stands-arrived, subst (KeepsSpare m (read_from m s) n) (sym arrived) spare)
 
--- what stands is well-formed
+-- a represented state is well-formed
 pub well_formed : {fllen sllen : ℕ} (v : Allocator) → Stands fllen sllen v → IsWellFormed fllen sllen (range_of v.memory) v.state
 unfolding Stands
 well_formed v is = is.stands.well_formed
 
-pub Stands-view : {fllen sllen : ℕ} (m : Space) (x : Table) (s : State) (v : Allocator) → allocator m x s ≡ v → StandsFor fllen sllen (contents m x) (read_from m s) → m.out ≡ [] → Stands fllen sllen v
+pub Stands-view : {fllen sllen : ℕ} (m : Space) (x : Table) (s : State) (v : Allocator) → allocator m x s ≡ v → StandsFor fllen sllen (contents m x) (read_from m s)
+    → m.out ≡ [] → Stands fllen sllen v
 unfolding Stands
 Stands-view {fllen} {sllen} m x s v view is whole = subst (λ (o : Allocator). IsStanding fllen sllen o.memory o.table o.state) view (record { stands = is; whole = whole })
 
@@ -91,7 +95,8 @@ opened fllen sllen before after step is = is
 
 -- ---- payloads of an allocator's fields
 
-module _ {fl_bits sl_bits fllen sllen : ℕ} {m : Space} {x : Table} {s : State} (is : IsAllocator fl_bits sl_bits fllen sllen m x s) (v : Allocator) (view : allocator m x s ≡ v) where
+module _ {fl_bits sl_bits fllen sllen : ℕ} {m : Space} {x : Table} {s : State} (is : IsAllocator fl_bits sl_bits fllen sllen m x s) (v : Allocator)
+    (view : allocator m x s ≡ v) where
   -- the state is well-formed
   pub view_well_formed : IsWellFormed fllen sllen (range_of v.memory) v.state
   view_well_formed = well_formed v (Stands-view m x s v view is.stands is.whole)
@@ -115,7 +120,8 @@ pub read_from-read_from : (n m : Space) (s : State) → read_from n (read_from m
 read_from-read_from n m s = sym (read_from-bare n (read_from m s)) ∙ ap (read_from n) (bare-read_from m s) ∙ read_from-bare n s
 
 -- what is kept of a state is kept of the same state with other bytes
-pub bare-reread : {fl_bits sl_bits fllen sllen : ℕ} {m : Space} {x : Table} {s : State} (n : Space) → IsAllocator fl_bits sl_bits fllen sllen m x s → s ≡ bare (read_from n (read_from m s))
+pub bare-reread : {fl_bits sl_bits fllen sllen : ℕ} {m : Space} {x : Table} {s : State} (n : Space) → IsAllocator fl_bits sl_bits fllen sllen m x s
+    → s ≡ bare (read_from n (read_from m s))
 bare-reread {m = m} {s = s} n is = sym (bare-kept is) ∙ sym (bare-read_from n (read_from m s))
 
 -- a fill changes bytes alone
@@ -128,7 +134,8 @@ bare-filled s t addr bytes step = ap bare step.after ∙ ap (λ (used : List Use
         (λ e. ap (λ b. bare_used (cond b (with_bytes u bytes) u) ∷ map bare_used (filled_at addr bytes us)) e ∙ ap (λ l. bare_used u ∷ l) (go us))
         (λ e. ap (λ b. bare_used (cond b (with_bytes u bytes) u) ∷ map bare_used (filled_at addr bytes us)) e ∙ ap (λ l. bare_used u ∷ l) (go us))
 
-module _ {fl_bits sl_bits fllen sllen : ℕ} {m : Space} {x : Table} {s : State} (is : IsAllocator fl_bits sl_bits fllen sllen m x s) (v : Allocator) (view : allocator m x s ≡ v) where
+module _ {fl_bits sl_bits fllen sllen : ℕ} {m : Space} {x : Table} {s : State} (is : IsAllocator fl_bits sl_bits fllen sllen m x s) (v : Allocator)
+    (view : allocator m x s ≡ v) where
   -- so many bytes of a payload are bytes of its block
   pub long_inside : (addr len : ℕ) (u : Used) → Holds (read_from m s) addr u → len ≤ length (bytes_at v.state addr) → len ≤ (usable u).len
   long_inside addr len u held long =

@@ -10,23 +10,25 @@ use Rattle.rlsf_blocks.specs.Steps.LiveBlock.{IsBlockOf}
 use Rattle.rlsf_blocks.proofs.Machine.Counted.{StandsFor-counted}
 use Rattle.rlsf_reallocate.specs.Steps.Resize.{IsUsedAt}
 
--- the used block of the payload at the address, in a state that the words stand for
+-- the used block of the payload at the address, in a state that the words represent
 pub record Found (fllen sllen : ℕ) (w : Contents) (s : State) (addr block payload align : ℕ) : Type 0 where
   pub used : Used
   pub holds : Holds s addr used
   pub used_at : IsUsedAt s used block payload align
   pub stands : StandsFor fllen sllen w s
 
-module _ {fllen sllen : ℕ} {m : Space} {t : Table} {s : State} {addr payload align told : ℕ} (v : StandsFor fllen sllen (contents m t) s) (same : payload ≡ addr) (aligned : told ≡ align) (live : IsLive s addr align) where
+module _ {fllen sllen : ℕ} {m : Space} {t : Table} {s : State} {addr payload align told : ℕ} (v : StandsFor fllen sllen (contents m t) s) (same : payload ≡ addr)
+    (aligned : told ≡ align) (live : IsLive s addr align) where
   sought : IsLive s payload told
   sought = subst (λ a. IsLive s payload a) (sym aligned) (subst (λ p. IsLive s p align) (sym same) live)
 
-  -- the payload is live where it is sought, in a state that the words stand for
+  -- the payload is live where it is sought, in a state that the words represent
   pub live_in : (fllen : ℕ) × (sllen : ℕ) × (t : Table) × (s : State) × StandsFor fllen sllen (contents m t) s × IsLive s payload told
   live_in = (fllen, sllen, t, s, v, sought)
 
-  -- the block that is found is the payload's, and the memory in which it was sought stands for the same state
-  pub payload_found : {n : Space} {block : ℕ} → Counts m n 1 → ((fllen sllen : ℕ) (t : Table) (s : State) → StandsFor fllen sllen (contents m t) s → IsLive s payload told → IsBlockOf s payload told block)
+  -- the block that is found is the payload's, and the memory in which it was sought represents the same state
+  pub payload_found : {n : Space} {block : ℕ} → Counts m n 1
+      → ((fllen sllen : ℕ) (t : Table) (s : State) → StandsFor fllen sllen (contents m t) s → IsLive s payload told → IsBlockOf s payload told block)
       → Found fllen sllen (contents n t) s addr block payload align
   payload_found {n} counts found =
       let (u, holds, is) = live in

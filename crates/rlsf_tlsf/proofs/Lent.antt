@@ -1,4 +1,4 @@
--- Bytes are left in a payload that was lent: nothing else changes, and the allocator stands for the state with these bytes.
+-- Bytes are left in a payload that was lent: nothing else changes, and the allocator represents the state with these bytes.
 use Rattle.std.proofs.Common.{◌≡◌, ◌≢◌, ℕ, List, length, refl, sym, ◌∙◌, ap, subst}
 use Rattle.rlsf_base.specs.declared.memory.range.Range.{Range}
 use Rattle.rlsf_base.specs.Lends.{lent_space}
@@ -22,12 +22,13 @@ use Rattle.rlsf_tlsf.specs.Lending.{LeavesRest, touched, written}
 use Rattle.rlsf_tlsf.proofs.Arrivals.{IsAllocator-arrived, bare-reread, read_from-read_from}
 
 -- nothing but a range changes that was lent once more touches were counted, whatever was left there
-pub IsSameOutside-lent : (m : Space) (more : ℕ) (r : Range) (w : List ℕ) → LiesIn r m.start (length m.bytes) → IsSameOutside m (lent_space (touched m more) r.start r.len w) r
+pub IsSameOutside-lent : (m : Space) (more : ℕ) (r : Range) (w : List ℕ) → LiesIn r m.start (length m.bytes)
+    → IsSameOutside m (lent_space (touched m more) r.start r.len w) r
 IsSameOutside-lent m more r w placed =
     let n = touched m more in
     record { start = refl; length = length-lent_space n r w placed; bytes = bytes_in-lent_space n r w placed; out = λ a from side. refl }
 
--- a range is that of u's payload, which is at the address, and the list is what stood there
+-- a range is that of u's payload, which is at the address, and the list is what was there
 pub record IsLent (addr : ℕ) (u : Used) (r : Range) (lent : List ℕ) : Type 0 where
   pub start : r.start ≡ addr
   pub len : r.len ≡ length lent
@@ -45,7 +46,8 @@ pub record IsLeft (fllen sllen : ℕ) (before : Allocator) (addr len : ℕ) (w :
   pub lengths : length (bytes_at after.state addr) ≡ length (bytes_at before.state addr)
   pub rest : LeavesRest fllen sllen before after
 
-module _ {fl_bits sl_bits fllen sllen : ℕ} {m : Space} {x : Table} {kept : State} (is : IsAllocator fl_bits sl_bits fllen sllen m x kept) (addr : ℕ) (u : Used) (holds : Holds (read_from m kept) addr u) where
+module _ {fl_bits sl_bits fllen sllen : ℕ} {m : Space} {x : Table} {kept : State} (is : IsAllocator fl_bits sl_bits fllen sllen m x kept) (addr : ℕ) (u : Used)
+    (holds : Holds (read_from m kept) addr u) where
   abbrev s : State
   s = read_from m kept
 
@@ -63,7 +65,8 @@ module _ {fl_bits sl_bits fllen sllen : ℕ} {m : Space} {x : Table} {kept : Sta
       × StandsFor fllen sllen (contents (left_in w) x) (read_from (left_in w) s) × KeepsSpare m s (left_in w) (read_from (left_in w) s)
   filling w = filled_in is.stands addr u holds (left_in w) (IsSameOutside-lent m 3 (usable u) w lies)
 
-  pub IsAllocator-lent : (n : Space) → n ≡ touched m 3 → (r : Range) → r ≡ usable u → (w : List ℕ) → IsAllocator fl_bits sl_bits fllen sllen (lent_space n r.start r.len w) x kept
+  pub IsAllocator-lent : (n : Space) → n ≡ touched m 3 → (r : Range) → r ≡ usable u → (w : List ℕ)
+      → IsAllocator fl_bits sl_bits fllen sllen (lent_space n r.start r.len w) x kept
   IsAllocator-lent n read r place w =
       subst (λ k. IsAllocator fl_bits sl_bits fllen sllen (lent_space k r.start r.len w) x kept) (sym read)
       (subst (λ q. IsAllocator fl_bits sl_bits fllen sllen (lent_space (touched m 3) q.start q.len w) x kept) (sym place)
@@ -76,7 +79,8 @@ module _ {fl_bits sl_bits fllen sllen : ℕ} {m : Space} {x : Table} {kept : Sta
       record { start = ap (λ q. q.start) place ∙ holds.1; len = ap (λ q. q.len) place ∙ sym long; whole = long; bytes = here }
 
   -- what the allocator is once the loan has ended
-  pub written-lent : (n : Space) → n ≡ touched m 3 → (r : Range) → r.start ≡ addr → (len : ℕ) → r.len ≡ len → (w : List ℕ) → allocator (lent_space n r.start r.len w) x kept ≡ written (allocator m x kept) addr len w
+  pub written-lent : (n : Space) → n ≡ touched m 3 → (r : Range) → r.start ≡ addr → (len : ℕ) → r.len ≡ len → (w : List ℕ)
+      → allocator (lent_space n r.start r.len w) x kept ≡ written (allocator m x kept) addr len w
   unfolding written
   written-lent n read r start len long w =
       (λ i. allocator (lent_space (read i) (start i) (long i) w) x kept)
@@ -95,7 +99,8 @@ module _ {fl_bits sl_bits fllen sllen : ℕ} {m : Space} {x : Table} {kept : Sta
         bytes = seen.bytes;
         aligns = λ i a. seen.aligns a i;
         count = count_filled is.stands.well_formed (read_from (left_in w) s) addr (bytes_in (left_in w) (usable u)) (u, holds) fills;
-        bounds = λ count size align sized. sized_filled is.stands.well_formed (read_from (left_in w) s) count size align sized addr (bytes_in (left_in w) (usable u)) (u, holds) fills;
+        bounds =
+            λ count size align sized. sized_filled is.stands.well_formed (read_from (left_in w) s) count size align sized addr (bytes_in (left_in w) (usable u)) (u, holds) fills;
         lengths = seen.lengths addr;
         rest = (refl, (refl, length-lent_space (touched m 3) (usable u) w lies, refl, λ none. none), standing, refl, refl);
       }

@@ -1,3 +1,4 @@
+-- Lemmas on the allocator over pools: its steps, lent bytes, and payloads that are written in place.
 mod Crossing
 mod Found
 pub mod Arrivals
@@ -8,3 +9,4 @@ pub mod OnePayload
 mod Opened
 pub mod Removed
 pub mod Standing
+pub mod UnknownAlign

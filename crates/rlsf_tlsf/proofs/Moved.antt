@@ -1,4 +1,4 @@
--- A call's step leads, but for the bytes of payloads, where the function for the call leads.
+-- A call's step leads, except for the bytes of payloads, where the function for the call leads.
 use Rattle.std.proofs.Common.{◌≡◌, ℕ, zero, suc, eqb, not, cond, map, find, List, [], ◌∷◌, Option, Some, None, true≢false, refl, sym, ◌∙◌, ap, subst, inr}
 use Rattle.std.proofs.lemmas.Bool.{eq-eqb, eqb-true}
 use Rattle.rlsf_base.specs.declared.memory.range.Range.{Range}
@@ -62,7 +62,7 @@ module _ {fllen sllen : ℕ} {memory : Range} {s : State} (w : IsWellFormed flle
   used_at-bare : (addr : ℕ) (u : Used) → Holds s addr u → used_at addr (bare s) ≡ Some (bare_used u)
   used_at-bare addr u held = find-bare addr s.used ∙ ap bare_if (used_at-held addr u held)
 
--- ---- ranges that are handed in
+-- ---- inserted ranges
 
 bare-with_chunks : (cs : List Range) (s : State) → with_chunks cs (bare s) ≡ bare (with_chunks cs s)
 bare-with_chunks [] s = refl
@@ -100,9 +100,11 @@ module _ {fllen sllen : ℕ} {memory : Range} {s : State} (w : IsWellFormed flle
       ap (released_if (bare s)) (used_at-bare w addr step.block step.holds) ∙ bare-released s step.block ∙ ap bare (sym step.after)
 
 module _ {fllen sllen : ℕ} {memory : Range} {s : State} (w : IsWellFormed fllen sllen memory s) where
-  moved_by-bare : (t : State) (u : Used) (size to : ℕ) (o : Option Plan) → IsIn u s.used → ReallocatesBy sllen s u size o (Some to) t → moved_by sllen (bare s) (bare_used u) size o ≡ bare t
+  moved_by-bare : (t : State) (u : Used) (size to : ℕ) (o : Option Plan) → IsIn u s.used → ReallocatesBy sllen s u size o (Some to) t
+      → moved_by sllen (bare s) (bare_used u) size o ≡ bare t
   moved_by-bare t u size to (Some p) i step =
-      ap (λ (used : List Used). record { chunks = s.chunks; used = record { block = p.block; payload = p.payload; align = u.align; bytes = [] } ∷ used; free = p.free }) (map-bare_others u.payload s.used)
+      ap (λ (used : List Used). record { chunks = s.chunks; used = record { block = p.block; payload = p.payload; align = u.align; bytes = [] } ∷ used; free = p.free })
+      (map-bare_others u.payload s.used)
       ∙ ap bare (sym step.after)
   moved_by-bare t u size to None i step =
       let kept = Allocates-keeps w size u.align (Some to) step.meanwhile (w.used u i).power step.allocated in

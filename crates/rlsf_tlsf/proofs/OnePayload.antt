@@ -1,5 +1,6 @@
 -- Of a memory's bytes that an allocator lends, those of one payload are taken out. Assumes `Logic`.
-use Rattle.std.proofs.Common.{◌≡◌, ℕ, ◌+◌, ◌-◌, ◌≤◌, List, [], ◌∷◌, ◌++◌, length, take, drop, refl, sym, arith, inl, inr, length-take, length-drop, take_at}
+use Rattle.std.proofs.Common.{◌≡◌, ℕ, ◌+◌, ◌-◌, ◌≤◌, List, [], ◌∷◌, ◌++◌, length, take, drop, refl, sym, arith, inl, inr, length-take, length-drop}
+use Rattle.std.proofs.Common.{take_at}
 use seplogic.Ra.Ura.{Ura}
 use base.Logic.{ent, all_e, wand, apply∗, never, id⊢}
 use base.Fml.{Fml}
@@ -48,7 +49,10 @@ module _ (fllen sllen : ℕ) (v : Allocator) (stands : StandsFor fllen sllen (co
       record {
         start = refl;
         length = length-lent_space m (usable u) w lies;
-        bytes = λ a from unlent. byte_at-same m n a (bytes_in-lent_space m (usable u) w lies (byte_range a) from (elim (unlent u used) [ inl before ↦ inl (omega (arith, before)) | inr behind ↦ inr (omega (arith, behind, is.within)) ]));
+        bytes =
+            λ a from unlent. byte_at-same m n a
+            (bytes_in-lent_space m (usable u) w lies (byte_range a) from
+            (elim (unlent u used) [ inl before ↦ inl (omega (arith, before)) | inr behind ↦ inr (omega (arith, behind, is.within)) ]));
         out = λ a from unlent. refl;
       }
 

@@ -1,4 +1,4 @@
--- A row of chunks of which no block is used may be taken out.
+-- Contiguous chunks without a used block may be removed.
 use Rattle.std.proofs.Common.{◌≡◌, ℕ, ◌+◌, ◌<◌, ◌≤◌, arith, inl, inr, ap}
 use Rattle.std.proofs.lemmas.Bool.{cases_lt}
 use Rattle.rlsf_base.specs.declared.memory.range.Range.{Range}
@@ -33,8 +33,10 @@ module _ {fllen sllen : ℕ} {memory : Range} {s : State} (w : IsWellFormed flle
         | inl some ↦
             let room = (w.chunks c i).has_room in
             elim (cases_lt c.start r.start) [
-              | inl earlier ↦ inl (chunk_whole c i r.start (omega (arith, covers-inside r r.start (omega arith) (omega arith))) (omega (arith, covers-inside c r.start (omega arith) (omega arith))))
-              | inr later ↦ inl (chunk_whole c i c.start (omega (arith, covers-inside r c.start (omega arith) (omega arith))) (omega (arith, covers-inside c c.start (omega arith) (omega arith))))
+              | inl earlier ↦ inl (chunk_whole c i r.start (omega (arith, covers-inside r r.start (omega arith) (omega arith)))
+                  (omega (arith, covers-inside c r.start (omega arith) (omega arith))))
+              | inr later ↦ inl (chunk_whole c i c.start (omega (arith, covers-inside r c.start (omega arith) (omega arith)))
+                  (omega (arith, covers-inside c c.start (omega arith) (omega arith))))
             ]
       ]
     ]

@@ -9,7 +9,7 @@ use Rattle.rlsf_machine.proofs.CallerWords.{align_at-held, bytes_at-held}
 use Rattle.rlsf_blocks.specs.Spare.{KeepsSpare}
 use Rattle.rlsf_tlsf.specs.Allocator.{Allocator, IsInState, Stands, Steps}
 
--- an allocator that stands is in its state
+-- an allocator that represents its state is in its state
 pub in_state : (fllen sllen : ℕ) (v : Allocator) → Stands fllen sllen v → IsInState fllen sllen v v.state
 unfolding Stands
 in_state fllen sllen v is = record { state = refl; stands = is.stands; whole = is.whole }
@@ -27,10 +27,15 @@ module _ {fllen sllen : ℕ} {v : Allocator} {s : State} (is : IsInState fllen s
   of_state P = subst P (sym is.state)
 
   -- a step from the allocator's state is one from that state
-  pub stepped : (after : Allocator) (step : State → State → Type 0) → Steps fllen sllen v after (step v.state) → (t : State) × step s t × IsInState fllen sllen after t × KeepsSpare v.memory s after.memory t
+  pub stepped : (after : Allocator) (step : State → State → Type 0) → Steps fllen sllen v after (step v.state)
+      → (t : State) × step s t × IsInState fllen sllen after t × KeepsSpare v.memory s after.memory t
   unfolding Steps Stands
-  stepped after step (did, stands, spare) =
-      (after.state, subst (λ x. step x after.state) is.state did, record { state = refl; stands = stands.stands; whole = stands.whole }, subst (λ x. KeepsSpare v.memory x after.memory after.state) is.state spare)
+  stepped after step (did, stands, spare) = (
+    after.state,
+    subst (λ x. step x after.state) is.state did,
+    record { state = refl; stands = stands.stands; whole = stands.whole },
+    subst (λ x. KeepsSpare v.memory x after.memory after.state) is.state spare,
+  )
 
   -- the alignment and the bytes of a payload of that state
   pub align_in : (addr : ℕ) (u : Used) → Holds s addr u → align_at v.state addr ≡ Some u.align

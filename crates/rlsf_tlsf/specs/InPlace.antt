@@ -50,4 +50,5 @@ payload_of m u ws = bytes_from m.view.base.ptr (place_in m.view m.start + (u.pay
 abbrev pub LendsPayload : Allocator → Used → (Allocator → Fml) → Fml
 LendsPayload v u Own =
     let m = v.memory in let r = usable u in
-    fsep (payload_of m u (bytes_in m r)) (fall ((ws : List ℕ) × (length ws ≡ r.len)) (λ w. fwand (payload_of m u w.0) (Own (rewritten v (refilled m.bytes (r.start - m.start) r.len w.0)))))
+    fsep (payload_of m u (bytes_in m r))
+    (fall ((ws : List ℕ) × (length ws ≡ r.len)) (λ w. fwand (payload_of m u w.0) (Own (rewritten v (refilled m.bytes (r.start - m.start) r.len w.0)))))

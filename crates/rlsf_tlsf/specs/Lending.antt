@@ -11,12 +11,12 @@ use Rattle.rlsf_tlsf.specs.contracts.tlsf.Tlsf.{the_row}
 abbrev pub touched : Space → ℕ → Space
 touched m more = record m { touches = m.touches + more }
 
--- the allocator, with w in the place of the len bytes from the address on: w is cut to len, or filled up from what stood
--- there. Three words are read that tell where these bytes end
+-- The allocator, with w in the place of the len bytes from the address on: w is cut to len, or filled up from the bytes that were
+-- there. Three words are read that show where these bytes end
 unfoldable pub written : Allocator → ℕ → ℕ → List ℕ → Allocator
 written v addr len w = allocator (lent_space (touched v.memory 3) addr len w) v.table v.state
 
--- whatever was left there, chunks and the memory's place stay, memory and table stand for the state, three touches are counted and no copy
+-- whatever was left there, chunks and the memory's place stay, memory and table represent the state, three touches are counted and no copy
 abbrev pub LeavesRest : ℕ → ℕ → Allocator → Allocator → Type 0
 LeavesRest fllen sllen before after =
     (after.state.chunks ≡ before.state.chunks) × SamePlace before.memory after.memory × Stands fllen sllen after

@@ -1,2 +1,2 @@
--- What private functions' contracts cite.
+-- Definitions for private functions.
 pub mod Moves

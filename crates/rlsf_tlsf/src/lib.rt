@@ -1,4 +1,8 @@
 //! The allocator over pools that its caller inserts: two-level segregated fit (Masmano and others, ECRTS 2004).
+//!
+//! Read `specs/Allocator` (the allocator as contracts see it, and its steps) first, then `src/tlsf`, which has all calls of `Tlsf`.
+//! `specs/Lending` is for calls that lend bytes, `specs/InPlace` for a caller that writes payloads itself. `src/bitmaps` gives read access
+//! to the class table, and `src/state` holds the ghost state. `specs/Steps` is for private functions.
 #![tactic(auto)]
 
 ghost use Rattle.rlsf_machine.specs.Laws.{SourceLaws, StepLaws};
@@ -8,6 +12,7 @@ ghost use Rattle.rlsf_blocks.specs.Laws.{WordsGiveBlock, WordsReadNoPayload};
 mod bitmaps;
 mod state;
 mod tlsf;
+mod unknown_align;
 
 pub use rlsf_blocks::{BlockInfo, Blocks, GRANULARITY};
 pub use tlsf::Tlsf;

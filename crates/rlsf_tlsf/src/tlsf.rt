@@ -1,7 +1,7 @@
 //! The allocator over pools that its caller inserts.
 
 ghost use Rattle.std.specs.Borrow.{sem};
-ghost use Rattle.std.specs.Prelude.{◌≡◌, ◌≢◌, ◌≤◌, ◌<◌, ◌+◌, ◌*◌, ◌%◌, ℕ, List, [], Option, Some, None, length, is_some, IfNone, IfSome, IsSome, if◌then◌else◌};
+ghost use Rattle.std.specs.Prelude.{◌≡◌, ◌≢◌, ◌≤◌, ◌<◌, ◌+◌, ◌*◌, ◌%◌, ℕ, List, [], Option, Some, None, length, is_some, IfNone, IfSome, IsSome, true, false, if◌then◌else◌};
 ghost use Rattle.std.specs.Map.Iter.{GivesInOrder};
 ghost use Rattle.rlsf_base.specs.Addr.{at, reply};
 ghost use Rattle.rlsf_base.specs.declared.memory.range.Range.{Range};
@@ -32,7 +32,7 @@ use rlsf_blocks::{
     load_block_of, load_usable_bytes, remove_chunks, usable_bytes, used_block, walk_blocks,
 };
 use rlsf_int::BitPattern;
-use rlsf_reallocate::{reallocate_block, resize_block};
+use rlsf_reallocate::{reallocate_block, resize_any_block, resize_block};
 use rlsf_table::ClassTable;
 use std::marker::{Model, PhantomData};
 use std::num::NonZeroUsize;
@@ -192,7 +192,7 @@ impl<FLBitmap: BitPattern, SLBitmap: BitPattern, const FLLEN: usize, const SLLEN
     /// rounded up to a multiple of 32, to its end. The other free blocks keep their order, and every used block is
     /// unchanged. Afterwards no chunk overlaps the removed part.
     ///
-    /// The removed part must be contiguous whole chunks, or empty. No block in it may be used.
+    /// The removed part must be complete contiguous chunks, or empty. No block in it may be used.
     pub fn remove_pool(&mut self, range: Range)
         requires row { IsRow self.old.state (walked range) }
         requires idle { IsIdle self.old.state (walked range) }
@@ -227,6 +227,8 @@ impl<FLBitmap: BitPattern, SLBitmap: BitPattern, const FLLEN: usize, const SLLEN
     ///
     /// Returns `None` if and only if no free block has a class that reaches the sought size; then nothing changes. Within
     /// bounds that the allocator is sized for (`IsSizedFor`), an allocation is never refused.
+    // In line, so that the tests of an alignment that is constant at the call go away.
+    #[inline(always)]
     pub fn allocate(&mut self, layout: Layout) -> Option<Addr>
         ensures step { Steps FLLEN SLLEN self.old self.new (Allocates SLLEN self.old.state layout.size layout.align (reply result)) }
         ensures live { IfSome result (λ addr. align_at self.new.state (at addr) ≡ Some layout.align) }
@@ -393,6 +395,46 @@ impl<FLBitmap: BitPattern, SLBitmap: BitPattern, const FLLEN: usize, const SLLEN
         Some(addr)
     }
 
+    /// Changes the size of the payload at `addr` without moving it, as `reallocate_no_move` does, if the caller does not know
+    /// its alignment. Of `layout` only the size counts.
+    ///
+    /// Returns whether the bytes suffice, and how many usable bytes the payload had.
+    ///
+    /// The payload at `addr` must be live, with any alignment.
+    pub(crate) fn resize_unknown_align(&mut self, addr: Addr, layout: Layout) -> (bool, usize)
+        requires { IsSome (align_at self.old.state (at addr)) }
+        ensures resized { result.0 ≡ true → Steps FLLEN SLLEN self.old self.new (ReallocatesWithoutMove self.old.state (at addr) layout.size (Some (at addr))) }
+        ensures refused { result.0 ≡ false → Steps FLLEN SLLEN self.old self.new (ReallocatesWithoutMove self.old.state (at addr) layout.size None) }
+        ensures unchanged { result.0 ≡ false → (self.new.memory.bytes ≡ self.old.memory.bytes) × (self.new.memory.touches ≤ self.old.memory.touches + 7) }
+        ensures len { result.1 ≡ length (bytes_at self.old.state (at addr)) }
+        ensures place { SamePlace self.old.memory self.new.memory }
+        ensures touches { self.new.memory.touches ≤ self.old.memory.touches + 29 }
+        ensures grow { self.old.memory.touches ≤ self.new.memory.touches }
+        ensures copied { self.new.memory.copied ≡ self.old.memory.copied }
+    {
+        let payload = addr.get();
+        let usable = load_usable_bytes(&mut self.memory.inner, payload);
+        let block = load_block_of(&mut self.memory.inner, payload);
+        let front = payload - block;
+        // A block whose length doesn't fit in a word is longer than the memory.
+        if layout.size() > usize::MAX - 31 - front {
+            return (false, usable.len);
+        }
+        let view = self.memory.inner.view();
+        if !resize_any_block(
+            &mut self.memory.inner,
+            view,
+            &mut self.table,
+            block,
+            payload,
+            layout,
+        ) {
+            return (false, usable.len);
+        }
+        self.state.reallocate(SLLEN, payload, layout.size());
+        (true, usable.len)
+    }
+
     /// Returns the number of usable bytes of the payload at `addr`: those from `addr` to the end of its block. They are
     /// the requested bytes and less than 32 more.
     ///
@@ -486,7 +528,7 @@ impl<FLBitmap: BitPattern, SLBitmap: BitPattern, const FLLEN: usize, const SLLEN
     /// Returns an iterator over the blocks of a range, used and free, in address order. It begins at the range's start,
     /// rounded up to a multiple of 32, and stops at the range's end. It skips the sentinels at the ends of chunks.
     ///
-    /// This part of the range must be contiguous whole chunks, or empty.
+    /// This part of the range must be complete contiguous chunks, or empty.
     pub fn iter_blocks(&self, range: Range) -> Blocks<'_>
         requires { IsRow self.now.state (walked range) }
         ensures blocks { AreBlocks self.now.state (walked range) result }

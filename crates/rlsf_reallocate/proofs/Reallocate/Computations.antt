@@ -22,7 +22,8 @@ use Rattle.rlsf_reallocate.proofs.Reallocate.Spans.{reach}
 use Rattle.rlsf_blocks.proofs.Words.Apart.{used_in_memory}
 use Rattle.rlsf_blocks.proofs.Words.NeverOut.{here_front}
 
-module _ {fllen sllen : ℕ} {m : Space} {t : Table} {s : State} (v : StandsFor fllen sllen (contents m t) s) (u : Used) {block payload align : ℕ} (at : IsUsedAt s u block payload align) where
+module _ {fllen sllen : ℕ} {m : Space} {t : Table} {s : State} (v : StandsFor fllen sllen (contents m t) s) (u : Used) {block payload align : ℕ}
+    (at : IsUsedAt s u block payload align) where
   -- its size word can be read
   pub IsReadable-size : IsReadable m block
   IsReadable-size =
@@ -34,7 +35,8 @@ module _ {fllen sllen : ℕ} {m : Space} {t : Table} {s : State} (v : StandsFor 
 
   -- the length of the block that it would be
   pub taken_computed : {wanted taken : ℕ} (size : ℕ) → wanted ≡ size → taken ≡ next_multiple_of (payload - block + wanted) 32 → taken ≡ (resized u size).len
-  taken_computed size same is = is ∙ ap (λ w. next_multiple_of (payload - block + w) 32) same ∙ ap₂ (λ p b. next_multiple_of (p - b + size) 32) (sym at.caller) (sym at.start)
+  taken_computed size same is =
+      is ∙ ap (λ w. next_multiple_of (payload - block + w) 32) same ∙ ap₂ (λ p b. next_multiple_of (p - b + size) 32) (sym at.caller) (sym at.start)
 
   pub IsTaken-len : (size : ℕ) → ((resized u size).len % 32 ≡ 0) × (0 < (resized u size).len)
   IsTaken-len size =
@@ -47,11 +49,12 @@ module _ {fllen sllen : ℕ} {m : Space} {t : Table} {s : State} (v : StandsFor 
     end_is = end_computed v u at.is_used at.start is ∙ ap (λ n. block + n) (sym long)
 
     module _ {n : Space} (start : n.start ≡ m.start) (bytes : n.bytes ≡ m.bytes) (out : n.out ≡ m.out) where
-      -- the word there tells if a free block is behind it
+      -- the word there shows whether a free block is behind it
       pub IsMarked-loaded_end : IsMarked n s.free (block + len)
       IsMarked-loaded_end = IsMarked-loaded m n start bytes out (IsMarked-end v u at.is_used (block + len) end_is)
 
-      pub IsNextOut-end : {o : Space} {x : Table} {next : ℕ} → IsNextOut fllen sllen n o x s.free (block + len) next → IsNextOut fllen sllen m o x s.free (end_of u.block) next
+      pub IsNextOut-end : {o : Space} {x : Table} {next : ℕ} → IsNextOut fllen sllen n o x s.free (block + len) next
+          → IsNextOut fllen sllen m o x s.free (end_of u.block) next
       IsNextOut-end {o} {x} {next} gone = IsNextOut-loaded m n start bytes out (subst (λ e. IsNextOut fllen sllen n o x s.free e next) (sym end_is) gone)
 
     pub reach_is : (next : ℕ) → block + len + next ≡ end_or (block + len) (find (starts_at (block + len)) s.free) → end_of u.block + next ≡ reach s u

@@ -1,4 +1,4 @@
--- A used block moves into the free block before it: what is computed on the way is as the machine's plan has it.
+-- A used block moves into the free block before it: what is computed on the way is as the reference model's plan has it.
 use Rattle.std.proofs.Common.{◌≡◌, ℕ, ◌+◌, ◌-◌, ◌%◌, ◌^◌, ◌≤◌, ◌<◌, List, Some, None, [], length, arith, sym, ◌∙◌, ap, subst}
 use mathlib.Core.Path.{ap₂}
 use Rattle.rlsf_base.specs.declared.memory.range.Range.{Range}
@@ -30,7 +30,8 @@ pub IsUsedBlock-from : {s : State} {u : Used} {block end payload align : ℕ} �
 IsUsedBlock-from is end = record { is_used = is.is_used; start = is.start; end_is = end; alignment = is.alignment }
 
 -- the payload of the used block from `block` to `end` fits before it, and its free neighbours are taken out
-pub record AreOut (fllen sllen : ℕ) (m : Space) (t : Table) (s : State) (u : Used) (block end payload align size to taken : ℕ) (m1 m2 : Space) (t1 t2 : Table) (start next : ℕ) : Type 0 where
+pub record AreOut (fllen sllen : ℕ) (m : Space) (t : Table) (s : State) (u : Used) (block end payload align size to taken : ℕ) (m1 m2 : Space) (t1 t2 : Table)
+    (start next : ℕ) : Type 0 where
   pub stands : StandsFor fllen sllen (contents m t) s
   pub used : IsUsedAt s u block payload align
   pub is_end : end_of u.block ≡ end
@@ -103,7 +104,8 @@ module _ {fllen sllen : ℕ} {m : Space} {t : Table} {s : State} {u : Used} {blo
   IsOwned-moved =
       let is = spans in
       let same : end - payload ≡ (usable u).len = ap (λ q. q.len) usable_is in
-      own-inside m2 (union u.block s.free) (range_at to (end - payload)) (omega (arith, are.plan.placed, is.start, is.after_start)) (omega (arith, same, are.plan.placed, is.end, is.enough, fits)) inner.room.placed.own
+      own-inside m2 (union u.block s.free) (range_at to (end - payload)) (omega (arith, are.plan.placed, is.start, is.after_start))
+      (omega (arith, same, are.plan.placed, is.end, is.enough, fits)) inner.room.placed.own
 
   -- ---- the bytes of all that was taken out
 
@@ -126,7 +128,8 @@ module _ {fllen sllen : ℕ} {m : Space} {t : Table} {s : State} {u : Used} {blo
 
   -- ---- the payload was copied
 
-  module _ {m3 : Space} (same_start : m3.start ≡ m2.start) (copied : m3.bytes ≡ with_bytes m2 to (bytes_in m2 (range_at payload (end - payload)))) (out : m3.out ≡ out_with m2 (range_at to (end - payload))) where
+  module _ {m3 : Space} (same_start : m3.start ≡ m2.start) (copied : m3.bytes ≡ with_bytes m2 to (bytes_in m2 (range_at payload (end - payload))))
+      (out : m3.out ≡ out_with m2 (range_at to (end - payload))) where
     IsCopied-computed : IsCopied m2 m3 (union u.block s.free) (usable u) (payload_of are.plan.previous.start u.align)
     IsCopied-computed =
         let is = spans in
@@ -144,7 +147,8 @@ module _ {fllen sllen : ℕ} {m : Space} {t : Table} {s : State} {u : Used} {blo
 
     -- and the block was made there
     module _ {m4 : Space} {t4 : Table}
-        (made : (free : List Range) (whole : Range) → whole.start ≡ start → whole.len ≡ end - start + next → IsInnerRoom fllen sllen m3 t2 free whole → IsOccupied fllen sllen m3 m4 t4 free whole (range_at start taken)) where
+        (made : (free : List Range) (whole : Range) → whole.start ≡ start → whole.len ≡ end - start + next → IsInnerRoom fllen sllen m3 t2 free whole
+        → IsOccupied fllen sllen m3 m4 t4 free whole (range_at start taken)) where
       occupied : IsOccupied fllen sllen m3 m4 t4 (untouched u.block s.free) (union u.block s.free) (range_at start taken)
       occupied = made (untouched u.block s.free) (union u.block s.free) union_begins total_is.1 room
 
@@ -187,7 +191,9 @@ module _ {fllen sllen : ℕ} {m : Space} {t : Table} {s : State} {u : Used} {blo
           let span = union u.block s.free in
           let low : span.start ≤ to - 8 = omega (arith, are.plan.placed, is.after_start, is.start) in
           let high : to - 8 + 8 ≤ end_of span = omega (arith, are.plan.placed, is.after_start, is.end, is.enough, fits) in
-          let own_there = own-there m2 m4 (word_range (to - 8)) (omega (arith, low, inside.0)) (λ a from. third.own a (omega (arith, second.start)) ∙ second.own a from) (own-word m2 span (to - 8) inner.room.placed.own low high) in
+          let own_there =
+          own-there m2 m4 (word_range (to - 8)) (omega (arith, low, inside.0)) (λ a from. third.own a (omega (arith, second.start)) ∙ second.own a from)
+          (own-word m2 span (to - 8) inner.room.placed.own low high) in
           let whole = is.wide (omega (arith, are.used.alignment)) in (
             omega (arith, are.plan.placed, whole, is.after_start),
             (

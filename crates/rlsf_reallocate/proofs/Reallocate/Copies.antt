@@ -31,7 +31,8 @@ pub record IsCopied (m n : Space) (hole from : Range) (to : ℕ) : Type 0 where
   pub bytes : n.bytes ≡ with_bytes m to (bytes_in m from)
   pub out : n.out ≡ out_with m (range_at to from.len)
 
-module _ {fllen sllen : ℕ} {m : Space} {t : Table} {free : List Range} (hole : Range) (inner : IsInnerRoom fllen sllen m t free hole) {n : Space} (from : Range) (to : ℕ) (copied : IsCopied m n hole from to) where
+module _ {fllen sllen : ℕ} {m : Space} {t : Table} {free : List Range} (hole : Range) (inner : IsInnerRoom fllen sllen m t free hole) {n : Space} (from : Range) (to : ℕ)
+    (copied : IsCopied m n hole from to) where
   -- what was written lies in the memory
   pub LiesIn-copied : (m.start ≤ to) × (to + from.len ≤ m.start + length m.bytes)
   LiesIn-copied = let inside = inner.room.placed.lies_in in (omega (arith, inside.0, copied.low), omega (arith, inside.1, copied.high))
@@ -51,7 +52,8 @@ module _ {fllen sllen : ℕ} {m : Space} {t : Table} {free : List Range} (hole :
     words = λ a whole inside other. word_at-with_bytes m n from to copied.placed LiesIn-copied copied.start copied.bytes copied.out a inside (word_side a whole other);
     bytes = λ r inside apart. elim (cases_lt 0 r.len) [
       | inl some ↦ bytes_in-with_bytes m n from to copied.placed LiesIn-copied copied.start copied.bytes copied.out r inside (side r some apart)
-      | inr none ↦ let empty : r.len ≡ 0 = omega arith in ap (λ k. take k (drop (r.start - n.start) n.bytes)) empty ∙ sym (ap (λ k. take k (drop (r.start - m.start) m.bytes)) empty)
+      | inr none ↦ let empty : r.len ≡ 0 = omega arith in
+          ap (λ k. take k (drop (r.start - n.start) n.bytes)) empty ∙ sym (ap (λ k. take k (drop (r.start - m.start) m.bytes)) empty)
     ];
   }
     where
@@ -75,10 +77,11 @@ module _ {fllen sllen : ℕ} {m : Space} {t : Table} {free : List Range} (hole :
       ]
 
       byte_side : (a : ℕ) → ((b : ℕ) → IsInside hole b → (a < b) ⊎ (b + 8 ≤ a)) → (a < to) ⊎ (to + from.len ≤ a)
-      byte_side a apart = elim (side (byte_range a) (omega arith) (λ b i. elim (apart b i) [ inl before ↦ inl (omega (arith, before)) | inr behind ↦ inr (omega (arith, behind)) ])) [
-        | inl before ↦ inl (omega (arith, before))
-        | inr behind ↦ inr (omega (arith, behind))
-      ]
+      byte_side a apart =
+          elim (side (byte_range a) (omega arith) (λ b i. elim (apart b i) [ inl before ↦ inl (omega (arith, before)) | inr behind ↦ inr (omega (arith, behind)) ])) [
+            | inl before ↦ inl (omega (arith, before))
+            | inr behind ↦ inr (omega (arith, behind))
+          ]
 
   -- the hole is room for a block as before
   pub IsInnerRoom-copied : IsInnerRoom fllen sllen n t free hole
@@ -105,7 +108,8 @@ module _ {fllen sllen : ℕ} {m : Space} {t : Table} {free : List Range} (hole :
       other f i = ((λ (low, high). none f i 0 (omega arith) (omega arith, omega arith)), none f i 16 (omega arith), none f i 24 (omega arith))
 
 -- what a copy costs
-pub Costs-copied : (m n : Space) (r : Range) → n.start ≡ m.start → length n.bytes ≡ length m.bytes → n.touches ≡ m.touches → n.copied ≡ m.copied + r.len → n.view ≡ m.view → n.out ≡ out_with m r → Costs m n 0 r.len
+pub Costs-copied : (m n : Space) (r : Range) → n.start ≡ m.start → length n.bytes ≡ length m.bytes → n.touches ≡ m.touches → n.copied ≡ m.copied + r.len
+    → n.view ≡ m.view → n.out ≡ out_with m r → Costs m n 0 r.len
 Costs-copied m n r start len touches copied view out =
     record { start = start; length = len; touches = omega (arith, touches); grow = omega (arith, touches); copied = copied; view = view; none = none-with m n r out }
 

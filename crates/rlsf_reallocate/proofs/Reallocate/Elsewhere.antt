@@ -1,4 +1,4 @@
--- The bytes of a payload are copied into one that is allocated for it, and then its block is given back.
+-- The bytes of a payload are copied into one that is allocated for it, and then its block is deallocated.
 use Rattle.std.proofs.Common.{◌≡◌, ℕ, ◌+◌, ◌-◌, ◌<◌, List, None, length, min, take, drop, arith, inl, inr, refl, sym, ◌∙◌, ap, subst}
 use Rattle.std.proofs.lemmas.List.{take-take, take_all}
 use Rattle.std.specs.List.{splice}
@@ -28,13 +28,14 @@ use Rattle.rlsf_blocks.proofs.Payloads.Filled.{IsSameOutside, stands_filled}
 use Rattle.rlsf_blocks.proofs.Words.Apart.{free_in_memory, used_in_memory}
 use Rattle.rlsf_blocks.proofs.Words.NeverOut.{here_free}
 
-module _ {fllen sllen : ℕ} {memory : Range} {m : Space} {table : Table} {s t : State} (w : IsWellFormed fllen sllen memory s) (u : Used) (i : IsIn u s.used) (size : ℕ) (short : in_place s u size ≡ None)
+module _ {fllen sllen : ℕ} {memory : Range} {m : Space} {table : Table} {s t : State} (w : IsWellFormed fllen sllen memory s) (u : Used) (i : IsIn u s.used) (size : ℕ)
+    (short : in_place s u size ≡ None)
     {addr : ℕ} (places : Places sllen s size u.align addr t) (v : StandsFor fllen sllen (contents m table) t) where
   -- the block that was allocated, with these bytes
   abbrev block_with : List ℕ → Used
   block_with bytes = placed places.range size u.align bytes
 
-  -- the state in which both blocks stand, with these bytes in the new one
+  -- the state in which both blocks are used, with these bytes in the new one
   abbrev pub both : List ℕ → State
   both bytes = given sllen s places.range (block_with bytes)
 
@@ -59,8 +60,10 @@ module _ {fllen sllen : ℕ} {memory : Range} {m : Space} {table : Table} {s t :
   -- as many bytes lie in the new payload
   pub LiesIn-new : LiesIn (range_at addr (usable u).len) m.start (length m.bytes)
   LiesIn-new =
-      let place = used_in_memory v.well_formed new Holds-new.0 in
-      (omega (arith, places.answer, place.0, payload_of-after places.range.start u.align), omega (arith, places.answer, place.1, shorter, payload_of-after places.range.start u.align))
+      let place = used_in_memory v.well_formed new Holds-new.0 in (
+        omega (arith, places.answer, place.0, payload_of-after places.range.start u.align),
+        omega (arith, places.answer, place.1, shorter, payload_of-after places.range.start u.align),
+      )
 
   -- which were a free block's, and so are the memory's own
   pub IsOwned-new : (l : Space) (old : Table) → StandsFor fllen sllen (contents l old) s → SameOwn l m → IsOwned m (range_at addr (usable u).len)
@@ -84,7 +87,8 @@ module _ {fllen sllen : ℕ} {memory : Range} {m : Space} {table : Table} {s t :
     pub stands : StandsFor fllen sllen (contents n table) (both bytes)
     pub spare : KeepsSpare m t n (both bytes)
 
-  module _ {r : Range} (is : r ≡ usable u) (n : Space) (start : n.start ≡ m.start) (copied : n.bytes ≡ with_bytes m addr (bytes_in m r)) (out : n.out ≡ out_with m (range_at addr r.len))
+  module _ {r : Range} (is : r ≡ usable u) (n : Space) (start : n.start ≡ m.start) (copied : n.bytes ≡ with_bytes m addr (bytes_in m r))
+      (out : n.out ≡ out_with m (range_at addr r.len))
       (own : IsOwned m (range_at addr (usable u).len)) where
     abbrev target : Range
     target = range_at addr (usable u).len
@@ -145,7 +149,7 @@ module _ {fllen sllen : ℕ} {memory : Range} {m : Space} {table : Table} {s t :
           },
         )
 
-  -- and then the old block was given back
+  -- and then the old block was deallocated
   module _ {n : Space} {bytes : List ℕ} (is : IsCopied n bytes) where
     pub MovesAway-copied : MovesAway sllen s u size addr (released (both bytes) u)
     MovesAway-copied = record {
@@ -157,7 +161,8 @@ module _ {fllen sllen : ℕ} {memory : Range} {m : Space} {table : Table} {s t :
       released = record { block = u; holds = (inr i, refl); after = refl };
     }
 
-    pub KeepsSpare-copied : (l o : Space) → (m.start ≡ l.start) × (length m.bytes ≡ length l.bytes) → KeepsSpare l s m t → KeepsSpare n (both bytes) o (released (both bytes) u) → KeepsSpare l s o (released (both bytes) u)
+    pub KeepsSpare-copied : (l o : Space) → (m.start ≡ l.start) × (length m.bytes ≡ length l.bytes) → KeepsSpare l s m t
+        → KeepsSpare n (both bytes) o (released (both bytes) u) → KeepsSpare l s o (released (both bytes) u)
     KeepsSpare-copied l o place first last a from to before after =
         let between : IsSpare t a = subst (λ x. IsSpare x a) (sym places.after) before in
         last a (omega (arith, place.0, is.place.0)) (omega (arith, place.0, place.1, is.place.0, is.place.1)) before after

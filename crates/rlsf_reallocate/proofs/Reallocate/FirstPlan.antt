@@ -46,13 +46,16 @@ module _ {fllen sllen : ℕ} (m n : Space) (table changed : Table) (s : State) w
 
   module _ (u : Used) (size : ℕ) where
     -- a plan was carried out
-    pub IsReallocated-planned : (p : Plan) (addr : ℕ) → plan s u size ≡ Some p → p.payload ≡ addr → IsCarriedOut fllen sllen (contents m table) (contents n changed) s u p → IsReallocated fllen sllen m n changed s u size (Some addr)
+    pub IsReallocated-planned : (p : Plan) (addr : ℕ) → plan s u size ≡ Some p → p.payload ≡ addr
+        → IsCarriedOut fllen sllen (contents m table) (contents n changed) s u p → IsReallocated fllen sllen m n changed s u size (Some addr)
     IsReallocated-planned p addr first at (t, replans, stands, spare) =
         (t, subst (λ o. ReallocatesBy sllen s u size o (Some addr) t) (sym first) (subst (λ a. Replans s u p a t) at replans), stands, spare)
 
     -- no plan can be
-    pub IsReallocated-elsewhere : (reply : Option ℕ) (most : ℕ) → plan s u size ≡ None → StandsFor fllen sllen (contents m table) s → IfNone reply (Counts m n most × (changed ≡ table))
-        → MatchOption reply (Allocates sllen s size u.align None s) (λ addr. (t : State) × MovesAway sllen s u size addr t × StandsFor fllen sllen (contents n changed) t × KeepsSpare m s n t)
+    pub IsReallocated-elsewhere : (reply : Option ℕ) (most : ℕ) → plan s u size ≡ None → StandsFor fllen sllen (contents m table) s
+        → IfNone reply (Counts m n most × (changed ≡ table))
+        → MatchOption reply (Allocates sllen s size u.align None s)
+        (λ addr. (t : State) × MovesAway sllen s u size addr t × StandsFor fllen sllen (contents n changed) t × KeepsSpare m s n t)
         → IsReallocated fllen sllen m n changed s u size reply
     IsReallocated-elsewhere None most none v unchanged refused = (
       s,
@@ -60,8 +63,10 @@ module _ {fllen sllen : ℕ} (m n : Space) (table changed : Table) (s : State) w
       StandsFor-unchanged most unchanged v,
       KeepsSpare-counted m n unchanged.0.start unchanged.0.bytes unchanged.0.out s s,
     )
-    IsReallocated-elsewhere (Some addr) most none v unchanged (t, moves, stands, spare) = (t, subst (λ o. ReallocatesBy sllen s u size o (Some addr) t) (sym none) moves, stands, spare)
+    IsReallocated-elsewhere (Some addr) most none v unchanged (t, moves, stands, spare) =
+        (t, subst (λ o. ReallocatesBy sllen s u size o (Some addr) t) (sym none) moves, stands, spare)
 
     -- something was refused before that
-    pub IsReallocated-counted_first : (l : Space) (most : ℕ) (reply : Option ℕ) → Counts l m most → IsReallocated fllen sllen m n changed s u size reply → IsReallocated fllen sllen l n changed s u size reply
+    pub IsReallocated-counted_first : (l : Space) (most : ℕ) (reply : Option ℕ) → Counts l m most → IsReallocated fllen sllen m n changed s u size reply
+        → IsReallocated fllen sllen l n changed s u size reply
     IsReallocated-counted_first l most reply counts (t, step, stands, spare) = (t, step, stands, KeepsSpare-counted_first l m counts.start counts.bytes counts.out s t n spare)

@@ -1,5 +1,6 @@
--- A used block moved into the free block before it: the value stands for the planned state.
-use Rattle.std.proofs.Common.{◌≡◌, ◌≢◌, ℕ, cond, leb, ◌+◌, ◌-◌, ◌%◌, ◌≤◌, ◌<◌, ◌⊎◌, List, ◌++◌, Some, None, find, true, length, take, drop, min, arith, inl, inr, refl, sym, ◌∙◌, ap, subst}
+-- A used block moved into the free block before it: the value represents the planned state.
+use Rattle.std.proofs.Common.{◌≡◌, ◌≢◌, ℕ, cond, leb, ◌+◌, ◌-◌, ◌%◌, ◌≤◌, ◌<◌, ◌⊎◌, List, ◌++◌, Some, None, find, true, length, take}
+use Rattle.std.proofs.Common.{drop, min, arith, inl, inr, refl, sym, ◌∙◌, ap, subst}
 use mathlib.Core.Path.{ap₂}
 use Rattle.std.proofs.lemmas.Bool.{leb-false}
 use Rattle.std.proofs.lemmas.List.{take-take, take_all}
@@ -43,7 +44,7 @@ use Rattle.rlsf_blocks.proofs.Words.Frames.{sides, wide_whole}
 use Rattle.rlsf_blocks.proofs.Words.NeverOut.{here_free-in, here_released}
 use Rattle.rlsf_blocks.proofs.Words.Refilled.{IsUsedStill, old_used, new_used, IsFreeStill, old_free, new_free, IsRefilled, StandsFor-refilled, KeepsSpare-refilled}
 
--- a block that is too short where it stands has fewer bytes than its payload is to have
+-- a block that is too short to grow in place has fewer bytes than its payload is to have
 in_place-short : (s : State) (u : Used) (size : ℕ) → u.block.len % 32 ≡ 0 → u.block.start ≤ u.payload → in_place s u size ≡ None → end_of u.block < u.payload + size
 in_place-short s u size whole after none =
     let plan : Plan = record { block = resized u size; payload = u.payload; free = tail_joined (resized u size) (end_of u.block) s.free } in
@@ -72,7 +73,8 @@ module _ {fllen sllen : ℕ} {m : Space} {t : Table} {s : State} (v : StandsFor 
       let is = v.well_formed.used u i in
       let base = IsSound-free v.well_formed in
       let left = left_of u.block.start s.free is.whole.start base in
-      let right = right_of (end_of u.block) (without (ends_at u.block.start) s.free) (omega (arith, is.whole.start, is.whole.len)) (IsSound-without (ends_at u.block.start) s.free base) in
+      let right =
+      right_of (end_of u.block) (without (ends_at u.block.start) s.free) (omega (arith, is.whole.start, is.whole.len)) (IsSound-without (ends_at u.block.start) s.free base) in
       let begin : start_or u.block.start (find (ends_at u.block.start) s.free) ≡ f.start = ap (start_or u.block.start) found in
       let after = IsUsed-after_start u is in
       let plan = sound in
@@ -100,7 +102,8 @@ module _ {fllen sllen : ℕ} {m : Space} {t : Table} {s : State} (v : StandsFor 
 
     -- which are here
     pub payload_here : IsHere m (usable u) → IsHere m2 (usable u)
-    payload_here here a lo hi = (gone v u i before behind).here a (omega (arith, (used_in_memory v.well_formed u i).0, IsUsed-after_start u (v.well_formed.used u i))) (here a lo hi)
+    payload_here here a lo hi =
+        (gone v u i before behind).here a (omega (arith, (used_in_memory v.well_formed u i).0, IsUsed-after_start u (v.well_formed.used u i))) (here a lo hi)
 
     payload_kept : bytes_in m2 (usable u) ≡ u.bytes
     payload_kept =
@@ -111,7 +114,8 @@ module _ {fllen sllen : ℕ} {m : Space} {t : Table} {s : State} (v : StandsFor 
         apart a (g, j, at) =
             let is = v.well_formed.used u i in
             let free = v.well_formed.free g j in
-            let inside : (g.start + 16 ≤ a) × (a + 8 ≤ end_of g) = elim at [ inl here ↦ (omega arith, omega (arith, free.some, free.whole.len)) | inr here ↦ (omega arith, omega (arith, free.some, free.whole.len)) ] in
+            let inside : (g.start + 16 ≤ a) × (a + 8 ≤ end_of g) =
+            elim at [ inl here ↦ (omega arith, omega (arith, free.some, free.whole.len)) | inr here ↦ (omega arith, omega (arith, free.some, free.whole.len)) ] in
             elim (sides u.block g (IsUsed-some u is) free.some (λ b hu hg. used_free v.well_formed u g b i j hu hg)) [
               | inl first ↦ inl (omega (arith, first, inside.0, is.within))
               | inr last ↦ inr (omega (arith, last, inside.1, IsUsed-after_start u is))
@@ -127,11 +131,13 @@ module _ {fllen sllen : ℕ} {m : Space} {t : Table} {s : State} (v : StandsFor 
           Rewrites-weaken joined (Rewrites-trans (gone v u i before behind) (Rewrites-trans copy (Rewrites-trans occupied.rewrites padded.rewrites)))
         where
           joined : (a : ℕ) → IsLink s.free a ⊎ (IsInside (union u.block s.free) a
-              ⊎ (Touched (untouched u.block s.free) (union u.block s.free) (end_of (union u.block s.free) + 8) a ⊎ ((32 ≤ u.align) × (a ≡ payload_of f.start u.align - 8))))
+              ⊎ (Touched (untouched u.block s.free) (union u.block s.free) (end_of (union u.block s.free) + 8) a
+              ⊎ ((32 ≤ u.align) × (a ≡ payload_of f.start u.align - 8))))
               → Touched s.free (union u.block s.free) (end_of (union u.block s.free) + 8) a
           joined a (inl l) = at_link l
           joined a (inr (inl (low, high))) = in_hole low high
-          joined a (inr (inr (inl (at_link (g, j, at))))) = at_link (g, IsIn-without (ends_at u.block.start) g s.free (IsIn-without (starts_at (end_of u.block)) g (without (ends_at u.block.start) s.free) j), at)
+          joined a (inr (inr (inl (at_link (g, j, at))))) =
+              at_link (g, IsIn-without (ends_at u.block.start) g s.free (IsIn-without (starts_at (end_of u.block)) g (without (ends_at u.block.start) s.free) j), at)
           joined a (inr (inr (inl (in_hole low high)))) = in_hole low high
           joined a (inr (inr (inl (at_other at)))) = at_other at
           joined a (inr (inr (inr (w, at)))) = let is = span in in_hole (omega (arith, is.start, is.after_start)) (omega (arith, is.end, is.after_start, is.enough, fits))
@@ -155,7 +161,8 @@ module _ {fllen sllen : ℕ} {m : Space} {t : Table} {s : State} (v : StandsFor 
           let there = LiesIn-copied (union u.block s.free) (IsInnerRoom-union v u i before behind own) (usable u) to copied in
           last a (omega (arith, is.start, is.whole)) (omega (arith, is.start)) (λ w at. omega (arith, is.start, is.wide w, is.whole, is.after_start))
           ∙ occupied.first
-          ∙ word_at-with_bytes m2 m3 (usable u) to copied.placed there copied.start copied.bytes copied.out a (omega (arith, is.start, same.start)) (inl (omega (arith, is.start, is.after_start)))
+          ∙ word_at-with_bytes m2 m3 (usable u) to copied.placed there copied.start copied.bytes copied.out a (omega (arith, is.start, same.start))
+          (inl (omega (arith, is.start, is.after_start)))
           ∙ same.words a (omega (arith, is.start, is.whole)) (omega (arith, is.start)) no_link
         where
           no_link : IsLink s.free ((union u.block s.free).start + 8) → ⊥
@@ -189,7 +196,8 @@ module _ {fllen sllen : ℕ} {m : Space} {t : Table} {s : State} (v : StandsFor 
           let same = gone v u i before behind in
           let to = payload_of f.start u.align in
           let there = LiesIn-copied (union u.block s.free) (IsInnerRoom-union v u i before behind own) (usable u) to copied in
-          padded.rewrites.bytes (range_at to (usable u).len) (omega (arith, occupied.rewrites.start, copied.start, same.start, is.after_start)) (λ a (w, at). inr (omega (arith, is.after_start)))
+          padded.rewrites.bytes (range_at to (usable u).len) (omega (arith, occupied.rewrites.start, copied.start, same.start, is.after_start))
+          (λ a (w, at). inr (omega (arith, is.after_start)))
           ∙ occupied.kept (range_at to (usable u).len) (omega (arith, is.start, is.after_start)) (omega (arith, is.enough))
           ∙ bytes_in-copied m2 m3 (usable u) to copied.placed there copied.start copied.bytes copied.out
           ∙ payload_kept
@@ -218,7 +226,8 @@ module _ {fllen sllen : ℕ} {m : Space} {t : Table} {s : State} (v : StandsFor 
 
       used_still : (y : Used) → IsIn y (replanned s u (planned s u size f) bytes).used → IsUsedStill n s (union u.block s.free) y
       used_still y (inl same) = subst (IsUsedStill n s (union u.block s.free)) (sym same) new_still
-      used_still y (inr j) = old_used (IsIn-others u.payload y s.used j).0 (λ a hy hu. used_free (IsWellFormed-released v.well_formed u i) y (union u.block s.free) a j (inl refl) hy hu)
+      used_still y (inr j) =
+          old_used (IsIn-others u.payload y s.used j).0 (λ a hy hu. used_free (IsWellFormed-released v.well_formed u i) y (union u.block s.free) a j (inl refl) hy hu)
 
       rest_still : (g : Range) → IsIn g (rest_behind (planned s u size f).block (reach s u)) → IsFreeStill n s (union u.block s.free) g
       rest_still g j =
@@ -248,7 +257,9 @@ module _ {fllen sllen : ℕ} {m : Space} {t : Table} {s : State} (v : StandsFor 
 
       -- the word before the payload is no link
       table : HasTable fllen sllen n t4 (planned s u size f).free
-      table = HasTable-Rewrites padded.rewrites placed other (subst (λ e. HasTable fllen sllen m4 t4 (rest_behind (planned s u size f).block e ++ untouched u.block s.free)) span.end occupied.table)
+      table =
+          HasTable-Rewrites padded.rewrites placed other
+          (subst (λ e. HasTable fllen sllen m4 t4 (rest_behind (planned s u size f).block e ++ untouched u.block s.free)) span.end occupied.table)
         where
           placed : (g : Range) → IsIn g (planned s u size f).free → CanBeBlock m4 g
           placed g k =
@@ -271,9 +282,11 @@ module _ {fllen sllen : ℕ} {m : Space} {t : Table} {s : State} (v : StandsFor 
               let is = span in
               let free = t_well_formed.free g j in
               used_free t_well_formed (moved u (planned s u size f) bytes) g (g.start + k) (inl refl) j
-              (record { from = omega (arith, is.after_start); to = omega (arith, is.after_start, is.enough) }) (record { from = omega arith; to = omega (arith, free.some, free.whole.len) })
+              (record { from = omega (arith, is.after_start); to = omega (arith, is.after_start, is.enough) })
+              (record { from = omega arith; to = omega (arith, free.some, free.whole.len) })
 
-          other : (g : Range) → IsIn g (planned s u size f).free → ¬ ((32 ≤ u.align) × (g.start + 16 ≡ payload_of f.start u.align - 8)) × ¬ ((32 ≤ u.align) × (g.start + 24 ≡ payload_of f.start u.align - 8))
+          other : (g : Range) → IsIn g (planned s u size f).free
+              → ¬ ((32 ≤ u.align) × (g.start + 16 ≡ payload_of f.start u.align - 8)) × ¬ ((32 ≤ u.align) × (g.start + 24 ≡ payload_of f.start u.align - 8))
           other g j = (none g j 16 (omega arith), none g j 24 (omega arith))
 
       pub IsCarriedOut-moved : IsCarriedOut fllen sllen (contents m t) (contents n t4) s u (planned s u size f)

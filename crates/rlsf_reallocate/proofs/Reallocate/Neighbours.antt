@@ -1,5 +1,6 @@
--- The free blocks before a used one and behind it, by the words that tell their lengths.
-use Rattle.std.proofs.Common.{◌≡◌, ◌≢◌, ◌↔◌, ℕ, Bool, true, false, cond, List, [], ◌∷◌, ◌+◌, ◌-◌, ◌%◌, ◌^◌, ◌≤◌, ◌<◌, Option, Some, None, find, arith, inl, inr, refl, sym, ◌∙◌, ap, subst}
+-- The free blocks before a used one and behind it, by the words that hold their lengths.
+use Rattle.std.proofs.Common.{◌≡◌, ◌≢◌, ◌↔◌, ℕ, Bool, true, false, cond, List, [], ◌∷◌, ◌+◌, ◌-◌, ◌%◌, ◌^◌, ◌≤◌, ◌<◌, Option}
+use Rattle.std.proofs.Common.{Some, None, find, arith, inl, inr, refl, sym, ◌∙◌, ap, subst}
 use Rattle.std.proofs.lemmas.Bool.{eqb-true, ne_eqb}
 use Rattle.rlsf_base.specs.declared.memory.range.Range.{Range}
 use Rattle.rlsf_base.specs.Range.{end_of, range_at}
@@ -69,7 +70,8 @@ module _ {fllen sllen : ℕ} {memory : Range} {s : State} (w : IsWellFormed flle
 
 module _ {fllen sllen : ℕ} {m : Space} {t : Table} {s : State} (v : StandsFor fllen sllen (contents m t) s) (u : Used) (i : IsIn u s.used) where
   -- the block before it begins its own length before it, if it is free
-  pub start_or-length : {b previous len : ℕ} → u.block.start ≡ b → previous ≡ word_at m (b + 8) → previous ≢ 0 → previous + len ≡ end_or previous (find (starts_at previous) s.free)
+  pub start_or-length : {b previous len : ℕ} → u.block.start ≡ b → previous ≡ word_at m (b + 8) → previous ≢ 0
+      → previous + len ≡ end_or previous (find (starts_at previous) s.free)
       → (len ≤ b) × (b - len ≡ start_or b (find (ends_at b) s.free))
   start_or-length {b} {previous} {len} at is some end = go (named v u i at is)
     where
@@ -94,7 +96,10 @@ module _ {fllen sllen : ℕ} {m : Space} {t : Table} {s : State} (v : StandsFor 
       let place = used_in_memory v.well_formed u i in
       let behind = subst (Behind s) end (behind_used v.well_formed u i) in
       let own = own-word m (range_at (end_of u.block) 16) e (here_behind_used v u i) (omega (arith, end)) (omega (arith, end)) in
-      record { word = is_word m e (omega (arith, end, is.whole.start, is.whole.len), (omega (arith, end, place.0), omega (arith, end, place.1)), own) (fits behind); mark = go behind }
+      record {
+        word = is_word m e (omega (arith, end, is.whole.start, is.whole.len), (omega (arith, end, place.0), omega (arith, end, place.1)), own) (fits behind);
+        mark = go behind;
+      }
     where
       fits : Behind s e → word_at m e < 2 ^ 64
       fits (free_behind f j begin) = subst (λ a. word_at m a < 2 ^ 64) begin (omega (arith, v.sizes.free f j, (free_in_memory v.well_formed f j).1, v.well_formed.addressable))

@@ -1,5 +1,6 @@
 -- Which plan a used block's new size has, where its own bytes and those of a free block behind it suffice.
-use Rattle.std.proofs.Common.{◌≡◌, ◌≢◌, ℕ, ◌-◌, ◌<◌, ◌≤◌, cond, List, [], ◌∷◌, ◌++◌, Option, Some, None, find, arith, inl, inr, sym, ◌∙◌, ap}
+use Rattle.std.proofs.Common.{◌≡◌, ◌≢◌, ℕ, ◌-◌, ◌<◌, ◌≤◌, cond, List, [], ◌∷◌, ◌++◌, Option, Some, None, find, arith, inl, inr, sym}
+use Rattle.std.proofs.Common.{◌∙◌, ap}
 use mathlib.Core.Path.{ap₂}
 use Rattle.std.proofs.lemmas.Bool.{cases_lt, eqb-true, le-leb, lt-leb, le-ltb, lt-ltb}
 use Rattle.rlsf_base.specs.declared.memory.range.Range.{Range}
@@ -88,4 +89,5 @@ module _ (s : State) (u : Used) (size : ℕ) where
     IsSound-kept same = IsSound-in_place w u i size (kept_whole s u size) (in_place-fits (omega arith))
 
   pub tail_joined-same : end_of (resized u size) ≡ end_of u.block → tail_joined (resized u size) (end_of u.block) s.free ≡ s.free
-  tail_joined-same same = ap (λ b. cond b (join (between (end_of (resized u size)) (end_of u.block)) s.free) s.free) (le-ltb (end_of (resized u size)) (end_of u.block) (omega arith))
+  tail_joined-same same =
+      ap (λ b. cond b (join (between (end_of (resized u size)) (end_of u.block)) s.free) s.free) (le-ltb (end_of (resized u size)) (end_of u.block) (omega arith))

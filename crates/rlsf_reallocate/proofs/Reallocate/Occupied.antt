@@ -1,5 +1,6 @@
 -- A used block takes the front of a span that is no block's.
-use Rattle.std.proofs.Common.{◌≡◌, ◌≢◌, ℕ, ◌+◌, ◌-◌, ◌%◌, ◌<◌, ◌≤◌, ◌⊎◌, List, [], ◌∷◌, ◌++◌, cond, arith, inl, inr, sym, ◌∙◌, ap, subst}
+use Rattle.std.proofs.Common.{◌≡◌, ◌≢◌, ℕ, ◌+◌, ◌-◌, ◌%◌, ◌<◌, ◌≤◌, ◌⊎◌, List, [], ◌∷◌, ◌++◌, cond, arith, inl, inr, sym}
+use Rattle.std.proofs.Common.{◌∙◌, ap, subst}
 use Rattle.std.proofs.lemmas.Bool.{le-ltb, lt-ltb}
 use Rattle.rlsf_base.specs.declared.memory.range.Range.{Range}
 use Rattle.rlsf_base.specs.Range.{end_of, range_at}
@@ -34,7 +35,8 @@ module _ {fllen sllen : ℕ} {m : Space} {table : Table} {free : List Range} {bl
     (span : Range) (start : span.start ≡ block) (long : span.len ≡ total) (inner : IsInnerRoom fllen sllen m table free span)
     (part : (taken % 32 ≡ 0) × (0 < taken) × (taken ≤ total)) where
   -- the size word was written
-  pub sized_from : {m1 : Space} → m1.start ≡ m.start → m1.bytes ≡ with_word m block (taken + 1) → m1.out ≡ out_with m (word_range block) → IsWrite m m1 block (taken + 1)
+  pub sized_from : {m1 : Space} → m1.start ≡ m.start → m1.bytes ≡ with_word m block (taken + 1) → m1.out ≡ out_with m (word_range block)
+      → IsWrite m m1 block (taken + 1)
   sized_from same written out =
       let placed = inner.room.placed in
       let inside = placed.lies_in in
@@ -96,7 +98,9 @@ module _ {fllen sllen : ℕ} {m : Space} {table : Table} {free : List Range} {bl
               whole = omega (arith, is.whole.start);
               room = omega (arith, is.whole.start, is.whole.len);
               lies_in = (omega (arith, moved.start, inside.0), omega (arith, moved.start, moved.length, inside.1));
-              own = own-there m m1 (rest_of block taken span) (omega (arith, inside.0)) moved.own (own-inside m span (rest_of block taken span) (omega arith) (omega arith) placed.own);
+              own =
+                  own-there m m1 (rest_of block taken span) (omega (arith, inside.0)) moved.own
+                  (own-inside m span (rest_of block taken span) (omega arith) (omega arith) placed.own);
             };
             apart = λ a. omega (arith, inner.room.apart a, covers-part (rest_of block taken span) span a (omega arith) (omega arith));
           };
@@ -116,12 +120,18 @@ module _ {fllen sllen : ℕ} {m : Space} {table : Table} {free : List Range} {bl
         ap (λ b. cond b (rest_of block taken span ∷ []) []) (lt-ltb (end_of (range_at block taken)) (end_of span) (omega arith)) in
         record {
           rewrites = Rewrites-weaken joined (Rewrites-trans moved left.rewrites);
-          size = left.rewrites.words span.start (omega arith) (omega (arith, moved.start, inside.0)) (early span.start (omega arith) (omega arith)) ∙ ap (word_at m1) start ∙ reads_of sized;
+          size =
+              left.rewrites.words span.start (omega arith) (omega (arith, moved.start, inside.0)) (early span.start (omega arith) (omega arith)) ∙ ap (word_at m1) start
+              ∙ reads_of sized;
           first = left.rewrites.words (span.start + 8) (omega arith) (omega (arith, moved.start, inside.0)) (early (span.start + 8) (omega arith) (omega (arith, part.0, part.1)))
               ∙ moved.words (span.start + 8) (omega arith) (omega (arith, inside.0)) (λ e. omega arith);
           behind = left.previous ∙ sym start;
-          rest = λ g i. subst (λ q. (word_at n q.start ≡ q.len) × (word_at n (end_of q + 8) ≡ q.start)) (sym (IsIn-rest_behind (range_at block taken) (end_of span) g i).0) (left.size, left.behind);
-          kept = λ q from to. left.rewrites.bytes q (omega (arith, moved.start, inside.0)) (outside q from to) ∙ moved.bytes q (omega (arith, inside.0)) (λ a at. inr (omega arith));
+          rest =
+              λ g i. subst (λ q. (word_at n q.start ≡ q.len) × (word_at n (end_of q + 8) ≡ q.start)) (sym (IsIn-rest_behind (range_at block taken) (end_of span) g i).0)
+              (left.size, left.behind);
+          kept =
+              λ q from to. left.rewrites.bytes q (omega (arith, moved.start, inside.0)) (outside q from to)
+              ∙ moved.bytes q (omega (arith, inside.0)) (λ a at. inr (omega arith));
           table = subst (λ l. HasTable fllen sllen n changed (l ++ free)) (sym some) left.table;
         }
       where
@@ -147,7 +157,8 @@ module _ {fllen sllen : ℕ} {m : Space} {table : Table} {free : List Range} {bl
     -- ---- nothing is left
 
     -- the word behind it was written
-    pub named_from : {n : Space} → n.start ≡ m1.start → n.bytes ≡ with_word m1 (block + total + 8) block → n.out ≡ out_with m1 (word_range (block + total + 8)) → IsWrite m1 n (block + total + 8) block
+    pub named_from : {n : Space} → n.start ≡ m1.start → n.bytes ≡ with_word m1 (block + total + 8) block → n.out ≡ out_with m1 (word_range (block + total + 8))
+        → IsWrite m1 n (block + total + 8) block
     named_from same written out =
         let whole = inner.room.block.whole in
         let inside = inner.room.placed.lies_in in
@@ -176,7 +187,9 @@ module _ {fllen sllen : ℕ} {m : Space} {table : Table} {free : List Range} {bl
                 ∙ moved.words (span.start + 8) (omega arith) (omega (arith, inside.0)) (λ e. omega arith);
             behind = ap (word_at n) end ∙ reads_of named ∙ sym start;
             rest = λ g i. absurd (subst (λ l. IsIn g l) none i);
-            kept = λ q from to. last.bytes q (omega (arith, moved.start, inside.0)) (λ a at. inl (omega arith)) ∙ moved.bytes q (omega (arith, inside.0)) (λ a at. inr (omega arith));
+            kept =
+                λ q from to. last.bytes q (omega (arith, moved.start, inside.0)) (λ a at. inl (omega arith))
+                ∙ moved.bytes q (omega (arith, inside.0)) (λ a at. inr (omega arith));
             table = subst (λ l. HasTable fllen sllen n table (l ++ free)) (sym none) (IsFreeTable-Rewrites last other list_sized).table;
           }
         where
@@ -187,5 +200,8 @@ module _ {fllen sllen : ℕ} {m : Space} {table : Table} {free : List Range} {bl
           other : (g : Range) → IsIn g free → ¬ (g.start ≡ block + total + 8) × ¬ (g.start + 16 ≡ block + total + 8) × ¬ (g.start + 24 ≡ block + total + 8)
           other g i =
               let placed = inner.room.list.placed g i in
-              let whole = inner.room.block.whole in
-              ((λ e. omega (arith, placed.whole, whole.start, whole.len)), (λ e. omega (arith, placed.whole, whole.start, whole.len)), (λ e. omega (arith, placed.whole, whole.start, whole.len)))
+              let whole = inner.room.block.whole in (
+                (λ e. omega (arith, placed.whole, whole.start, whole.len)),
+                (λ e. omega (arith, placed.whole, whole.start, whole.len)),
+                (λ e. omega (arith, placed.whole, whole.start, whole.len)),
+              )

@@ -47,11 +47,14 @@ module _ (s : State) (u : Used) (size : ℕ) where
   pub into_previous-no_range : find (ends_at u.block.start) s.free ≡ None → into_previous s u size ≡ None
   into_previous-no_range none = ap (into_previous_at s u size) none
 
-  pub into_previous-fits : (f : Range) → find (ends_at u.block.start) s.free ≡ Some f → end_of (planned s u size f).block ≤ reach s u → into_previous s u size ≡ Some (planned s u size f)
-  into_previous-fits f found fits = ap (into_previous_at s u size) found ∙ ap (λ b. cond b (Some (planned s u size f)) None) (le-leb (end_of (planned s u size f).block) (reach s u) fits)
+  pub into_previous-fits : (f : Range) → find (ends_at u.block.start) s.free ≡ Some f → end_of (planned s u size f).block ≤ reach s u
+      → into_previous s u size ≡ Some (planned s u size f)
+  into_previous-fits f found fits =
+      ap (into_previous_at s u size) found ∙ ap (λ b. cond b (Some (planned s u size f)) None) (le-leb (end_of (planned s u size f).block) (reach s u) fits)
 
   pub into_previous-too_long : (f : Range) → find (ends_at u.block.start) s.free ≡ Some f → reach s u < end_of (planned s u size f).block → into_previous s u size ≡ None
-  into_previous-too_long f found more = ap (into_previous_at s u size) found ∙ ap (λ b. cond b (Some (planned s u size f)) None) (lt-leb (end_of (planned s u size f).block) (reach s u) more)
+  into_previous-too_long f found more =
+      ap (into_previous_at s u size) found ∙ ap (λ b. cond b (Some (planned s u size f)) None) (lt-leb (end_of (planned s u size f).block) (reach s u) more)
 
 -- what the lengths of the blocks say, from where the free block before the used one begins, or the used one
 module _ {fllen sllen : ℕ} {memory : Range} {s : State} (w : IsWellFormed fllen sllen memory s) (u : Used) {block end align start : ℕ} (is : IsUsedBlock s u block end align)
@@ -83,7 +86,8 @@ module _ {fllen sllen : ℕ} {memory : Range} {s : State} (w : IsWellFormed flle
   none_before size same = into_previous-no_range s u size (find-ends_at-none w u.block.start at_start (same ∙ sym is.start))
 
   -- one is, and the lengths of all are known
-  module _ (other : start ≢ block) (more : ℕ) {size to wanted payload taken : ℕ} (long : end + more ≡ end_or end (find (starts_at end) s.free)) (to_is : to ≡ align) (wanted_is : wanted ≡ size)
+  module _ (other : start ≢ block) (more : ℕ) {size to wanted payload taken : ℕ} (long : end + more ≡ end_or end (find (starts_at end) s.free)) (to_is : to ≡ align)
+      (wanted_is : wanted ≡ size)
       (payload_is : payload ≡ next_multiple_of (start + 16) to) (taken_is : taken ≡ next_multiple_of (payload - start + wanted) 32) where
     before : (f : Range) × (find (ends_at u.block.start) s.free ≡ Some f) × (f.start ≡ start)
     before = find-ends_at-some w u.block.start at_start (λ same. other (same ∙ is.start))
@@ -92,7 +96,8 @@ module _ {fllen sllen : ℕ} {memory : Range} {s : State} (w : IsWellFormed flle
     reached =
         let some = IsUsed-some u (w.used u is.is_used) in
         let same = find-starts_at-without w u.block.start (end_of u.block) (omega arith) in
-        let whole : end_or (end_of u.block) (find (starts_at (end_of u.block)) s.free) ≡ end + more = subst (λ e. end_or e (find (starts_at e) s.free) ≡ end + more) (sym is.end_is) (sym long) in
+        let whole : end_or (end_of u.block) (find (starts_at (end_of u.block)) s.free) ≡ end + more =
+        subst (λ e. end_or e (find (starts_at e) s.free) ≡ end + more) (sym is.end_is) (sym long) in
         sym (ap (end_or (end_of u.block)) same ∙ whole)
 
     placed : payload ≡ payload_of before.0.start u.align

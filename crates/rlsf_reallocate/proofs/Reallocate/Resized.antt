@@ -1,5 +1,6 @@
--- A used block got another size where it stands: the value stands for the state with it.
-use Rattle.std.proofs.Common.{◌≡◌, ℕ, ◌+◌, ◌-◌, ◌%◌, ◌^◌, ◌<◌, ◌≤◌, ◌⊎◌, true, List, ◌∷◌, ◌++◌, length, drop, min, arith, inl, inr, refl, sym, ◌∙◌, ap, subst}
+-- A used block got another size in place: the value represents the state with it.
+use Rattle.std.proofs.Common.{◌≡◌, ℕ, ◌+◌, ◌-◌, ◌%◌, ◌^◌, ◌<◌, ◌≤◌, ◌⊎◌, true, List, ◌∷◌, ◌++◌, length, drop, min, arith, inl}
+use Rattle.std.proofs.Common.{inr, refl, sym, ◌∙◌, ap, subst}
 use mathlib.Core.Path.{ap₂}
 use Rattle.std.proofs.lemmas.List.{take-take}
 use Rattle.std.specs.Int.{w64, from_le_bytes}
@@ -52,17 +53,19 @@ Keeps-bytes_in m n at old new inside also same from to =
 abbrev pub resized_bytes : Space → Used → ℕ → List ℕ
 resized_bytes n u size = bytes_in n (between u.payload (end_of (resized u size)))
 
-module _ {fllen sllen : ℕ} {m : Space} {t : Table} {s : State} (v : StandsFor fllen sllen (contents m t) s) (u : Used) (i : IsIn u s.used) (size : ℕ) (own : IsOwned m (usable u)) where
+module _ {fllen sllen : ℕ} {m : Space} {t : Table} {s : State} (v : StandsFor fllen sllen (contents m t) s) (u : Used) (i : IsIn u s.used) (size : ℕ)
+    (own : IsOwned m (usable u)) where
   -- nothing is out but usable bytes of the other payloads
   own_replanned : (p : Plan) (bytes : List ℕ) (a : ℕ) → m.start ≤ a → IsUnlent (replanned s u p bytes) a → is_own (out_at m a) ≡ true
   own_replanned p bytes a from unlent = here_released v u i own a from (λ x j. unlent x (inr j))
 
   -- ---- its length is as it was
 
-  -- the value stands for the state with the used blocks in another order
+  -- the value represents the state with the used blocks in another order
   StandsFor-reordered : (used : List Used) (free : List Range) → ((x : Used) → IsIn x used → IsIn x s.used) → free ≡ s.free
       → ((a : ℕ) → m.start ≤ a → IsUnlent (record { chunks = s.chunks; used = used; free = free }) a → is_own (out_at m a) ≡ true)
-      → IsWellFormed fllen sllen (range_of m) (record { chunks = s.chunks; used = used; free = free }) → StandsFor fllen sllen (contents m t) (record { chunks = s.chunks; used = used; free = free })
+      → IsWellFormed fllen sllen (range_of m) (record { chunks = s.chunks; used = used; free = free })
+      → StandsFor fllen sllen (contents m t) (record { chunks = s.chunks; used = used; free = free })
   StandsFor-reordered used free among same own_after well_formed =
       let was_free = λ (f : Range) (j : IsIn f free). subst (IsIn f) same j in
       record {
@@ -89,7 +92,8 @@ module _ {fllen sllen : ℕ} {m : Space} {t : Table} {s : State} (v : StandsFor 
       λ x. elim [ inl e ↦ subst (λ y. IsIn y s.used) (sym (e ∙ unchanged)) i | inr j ↦ (IsIn-others u.payload x s.used j).0 ] in (
         after,
         record { bytes = u.bytes; answer = refl; length = long; kept = refl; after = refl },
-        StandsFor-counted m n start bytes out (StandsFor-reordered (moved u p u.bytes ∷ others u.payload s.used) p.free among (tail_joined-same s u size same) (own_replanned p u.bytes) well_formed),
+        StandsFor-counted m n start bytes out
+            (StandsFor-reordered (moved u p u.bytes ∷ others u.payload s.used) p.free among (tail_joined-same s u size same) (own_replanned p u.bytes) well_formed),
         KeepsSpare-counted m n start bytes out s after,
       )
 
@@ -110,7 +114,8 @@ module _ {fllen sllen : ℕ} {m : Space} {t : Table} {s : State} (v : StandsFor 
         apart a (g, j, at) =
             let free = v.well_formed.free g j in
             let more = free.some in
-            let inside : (g.start ≤ a) × (a + 8 ≤ end_of g) = elim at [ inl e ↦ (omega arith, omega (arith, free.whole.len)) | inr e ↦ (omega arith, omega (arith, free.whole.len)) ] in
+            let inside : (g.start ≤ a) × (a + 8 ≤ end_of g) =
+            elim at [ inl e ↦ (omega arith, omega (arith, free.whole.len)) | inr e ↦ (omega arith, omega (arith, free.whole.len)) ] in
             elim (sides u.block g (IsUsed-some u (v.well_formed.used u i)) more (λ b hu hg. used_free v.well_formed u g b i j hu hg)) [
               | inl before ↦ inl (omega arith)
               | inr behind ↦ inr (omega arith)

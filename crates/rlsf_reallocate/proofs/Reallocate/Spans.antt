@@ -57,14 +57,16 @@ module _ {fllen sllen : ℕ} {m : Space} {t : Table} {s : State} (v : StandsFor 
   span_parts : (a : ℕ) → covers (span_of s u) a ≡ covers u.block a + covers (between (end_of u.block) (reach s u)) a
   span_parts a =
       let order = reach-le in
-      covers-split u.block.start (end_of u.block) (reach s u) a (omega arith) order (span_of s u) u.block (between (end_of u.block) (reach s u)) refl (omega arith) refl refl refl (omega arith)
+      covers-split u.block.start (end_of u.block) (reach s u) a (omega arith) order (span_of s u) u.block (between (end_of u.block) (reach s u)) refl (omega arith) refl refl refl
+      (omega arith)
 
   -- no other used block and no other free block has an address of it
   pub span_alone : (a : ℕ) → covers (span_of s u) a + coverage block_of (others u.payload s.used) a + coverage itself (staying s u) a ≤ 1
   span_alone a = omega (arith, right.cover a, span_parts a, blocks-le s (tiling_of v.well_formed) a, coverage-others v.well_formed u.payload u (i, refl) a)
 
   pub used_apart : (y : Used) → IsIn y (others u.payload s.used) → (a : ℕ) → Has y.block a → Has (span_of s u) a → ⊥
-  used_apart y j a hy hs = omega (arith, span_alone a, covers-inside (span_of s u) a hs.from hs.to, covers-inside y.block a hy.from hy.to, coverage-IsIn block_of y (others u.payload s.used) a j)
+  used_apart y j a hy hs =
+      omega (arith, span_alone a, covers-inside (span_of s u) a hs.from hs.to, covers-inside y.block a hy.from hy.to, coverage-IsIn block_of y (others u.payload s.used) a j)
 
   pub free_apart : (g : Range) → IsIn g (staying s u) → (a : ℕ) → Has g a → Has (span_of s u) a → ⊥
   free_apart g j a hg hs = omega (arith, span_alone a, covers-inside (span_of s u) a hs.from hs.to, covers-inside g a hg.from hg.to, coverage-IsIn itself g (staying s u) a j)
@@ -103,12 +105,14 @@ module _ {fllen sllen : ℕ} {m : Space} {t : Table} {s : State} (v : StandsFor 
 
   pub IsOwned-span : IsOwned m (usable u) → IsOwned m (span_of s u)
   IsOwned-span own =
-      here_apart-in m released_well (here_released v u i own) (span_of s u) span_in_memory.0 (λ y j a low high h. used_apart y j a (record { from = omega (arith, deep y j); to = high }) h)
+      here_apart-in m released_well (here_released v u i own) (span_of s u) span_in_memory.0
+      (λ y j a low high h. used_apart y j a (record { from = omega (arith, deep y j); to = high }) h)
 
   pub IsOwned-behind_span : IsOwned m (usable u) → IsOwned m (range_at (end_of (span_of s u)) 16)
   IsOwned-behind_span own =
       let long = span-some in
-      here_apart-in m released_well (here_released v u i own) (range_at (end_of (span_of s u)) 16) (omega (arith, span_in_memory.0)) (λ y j a low high h. elim (cases_lt y.block.start (end_of (span_of s u))) [
+      here_apart-in m released_well (here_released v u i own) (range_at (end_of (span_of s u)) 16) (omega (arith, span_in_memory.0))
+      (λ y j a low high h. elim (cases_lt y.block.start (end_of (span_of s u))) [
         | inl before ↦ used_apart y j (end_of (span_of s u) - 1) (record { from = omega arith; to = omega (arith, h.from) }) (record { from = omega arith; to = omega arith })
         | inr past ↦ omega (arith, h.to, deep y j)
       ])

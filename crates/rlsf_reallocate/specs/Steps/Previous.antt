@@ -15,8 +15,8 @@ pub record IsUsedBlock (s : State) (u : Used) (block end align : ℕ) : Type 0 w
   pub end_is : end_of u.block ≡ end
   pub alignment : u.align ≡ align
 
--- a free range is before the used block, and with the block and a free range behind it they are long enough for a block of
--- `taken` bytes, whose payload of `size` bytes lies at `payload`
+-- A free range is before the used block. With the block and a free range behind it, it suffices for a block of `taken` bytes. The
+-- payload of `size` bytes of that block lies at `payload`
 pub record FitsBefore (s : State) (u : Used) (size payload taken : ℕ) : Type 0 where
   pub previous : Range
   pub found : find (ends_at u.block.start) s.free ≡ Some previous

@@ -1,4 +1,4 @@
--- A used block gets another size, where it stands or at another place.
+-- A used block gets another size, in place or at another place.
 use Rattle.std.specs.Prelude.{◌≡◌, ℕ, ◌+◌, ◌≤◌, List, ◌++◌, Option, None, Some, IfSome, MatchOption, find}
 use Rattle.rlsf_base.specs.declared.memory.layout.Layout.{Layout}
 use Rattle.rlsf_base.specs.declared.memory.range.Range.{Range}
@@ -25,9 +25,13 @@ pub record IsUsedAt (s : State) (u : Used) (block payload align : ℕ) : Type 0 
   pub caller : u.payload ≡ payload
   pub alignment : u.align ≡ align
 
--- this is true of the used block at `block` whose caller has `payload`, by the layout's alignment, in each state that memory and table stand for
+-- this is true of the used block at `block` whose caller has `payload`, by the layout's alignment, in each state that memory and table represent
 abbrev pub AtEachPayload : ℕ → ℕ → Space → Table → ℕ → ℕ → Layout → (State → Used → Type 0) → Type 0
 AtEachPayload fllen sllen m t block payload layout P = (s : State) (u : Used) → StandsFor fllen sllen (contents m t) s → IsUsedAt s u block payload layout.align → P s u
+
+-- the same whatever the payload's alignment
+abbrev pub AtEachAligned : ℕ → ℕ → Space → Table → ℕ → ℕ → (State → Used → Type 0) → Type 0
+AtEachAligned fllen sllen m t block payload P = (s : State) (u : Used) → StandsFor fllen sllen (contents m t) s → IsUsedAt s u block payload u.align → P s u
 
 -- the same where that block is too short for the layout
 abbrev pub AtEachShort : ℕ → ℕ → Space → Table → ℕ → ℕ → Layout → (State → Used → Type 0) → Type 0
@@ -38,7 +42,7 @@ AtEachShort fllen sllen m t block payload layout P = (s : State) (u : Used) → 
 abbrev pub IsFreeLength : List Range → ℕ → ℕ → Type 0
 IsFreeLength free block len = block + len ≡ end_or block (find (starts_at block) free)
 
--- the words once a used block took the front of a span that was no block's, and a rest of it became the newest free block.
+-- The words after a used block took the front of a span that was no block's. A rest of the span became the newest free block.
 -- Behind the first 16 bytes of the front no byte has changed, and the word that names the block before it stays
 pub record IsOccupied (fllen sllen : ℕ) (m n : Space) (t : Table) (free : List Range) (span front : Range) : Type 0 where
   pub rewrites : Rewrites m n (Touched free span (end_of span + 8))
@@ -49,7 +53,7 @@ pub record IsOccupied (fllen sllen : ℕ) (m n : Space) (t : Table) (free : List
   pub kept : (q : Range) → span.start + 16 ≤ q.start → end_of q ≤ end_of front → bytes_in n q ≡ bytes_in m q
   pub table : HasTable fllen sllen n t (rest_behind front (end_of span) ++ free)
 
--- a plan for the used block was carried out: a state stands that it leads to, and spare bytes are as they were
+-- a plan for the used block was carried out: it leads to a represented state, and spare bytes are as they were
 abbrev pub IsCarriedOut : ℕ → ℕ → Contents → Contents → State → Used → Plan → Type 0
 IsCarriedOut fllen sllen v w s u p = (t : State) × Replans s u p p.payload t × StandsFor fllen sllen w t × KeepsSpare v.memory s w.memory t
 
@@ -57,18 +61,18 @@ IsCarriedOut fllen sllen v w s u p = (t : State) × Replans s u p p.payload t ×
 abbrev pub IsPlanned : ℕ → ℕ → Space → Space → Table → State → Used → Option Plan → ℕ → Type 0
 IsPlanned fllen sllen m n t s u first addr = (p : Plan) × (first ≡ Some p) × (p.payload ≡ addr) × StepsTo fllen sllen m n t s (Replans s u p p.payload)
 
--- the payload at the address has the size where it stands
+-- the payload at the address has the size in place
 abbrev pub IsResized : ℕ → ℕ → Space → Space → Table → State → Used → ℕ → ℕ → Type 0
 IsResized fllen sllen m n t s u size addr = IsPlanned fllen sllen m n t s u (unmoved_plan s u size) addr
 
--- a reallocation of the used block, which answers a reply, leads to a state that stands
+-- a reallocation of the used block, with its reply, leads to a represented state
 abbrev pub IsReallocated : ℕ → ℕ → Space → Space → Table → State → Used → ℕ → Option ℕ → Type 0
 IsReallocated fllen sllen m n t s u size reply = StepsTo fllen sllen m n t s (ReallocatesBy sllen s u size (plan s u size) reply)
 
--- the payload lies in a block that was allocated for it, and its old block is given back; or the allocation is refused
+-- the payload lies in a block that was allocated for it, and its old block is deallocated; or the allocation is refused
 abbrev pub IsElsewhere : ℕ → ℕ → Space → Space → Table → State → Used → ℕ → Option ℕ → Type 0
 IsElsewhere fllen sllen m n t s u size reply = MatchOption reply (Allocates sllen s size u.align None s) (λ addr. StepsTo fllen sllen m n t s (MovesAway sllen s u size addr))
 
--- where the usable bytes of the used block were here, as many bytes are here from the address that answers the call, if it is answered
+-- if the usable bytes of the used block were here, as many bytes are here from the returned address on, if one is returned
 abbrev pub IsHereStill : Space → Space → Used → Option ℕ → Type 0
 IsHereStill m n u reply = IsHere m (usable u) → IfSome reply (λ addr. IsHere n (range_at addr (usable u).len))

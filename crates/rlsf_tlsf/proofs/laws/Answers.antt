@@ -1,4 +1,4 @@
--- The laws of the machine, and of the words.
+-- The laws of the reference model, and of the words.
 use Rattle.std.proofs.Common.{rules}
 use Rattle.rlsf_blocks.proofs.Payloads.UnknownAlignment.{words_give_block}
 use Rattle.rlsf_blocks.proofs.Payloads.Unlent.{words_read_no_payload}

@@ -1,4 +1,4 @@
--- Where the machine's calls lead, but for the bytes of payloads.
+-- Where the reference model's calls lead, except for the bytes of payloads.
 use Rattle.std.specs.Prelude.{ℕ, [], map, find, ◌==◌, Option, Some, None}
 use Rattle.rlsf_base.specs.declared.memory.range.Range.{Range}
 use Rattle.rlsf_base.specs.Sizes.{max_pool_size, request_size}
@@ -16,11 +16,11 @@ bare_used u = record { block = u.block; payload = u.payload; align = u.align; by
 abbrev pub bare : State → State
 bare s = record { chunks = s.chunks; used = map bare_used s.used; free = s.free }
 
--- the state once a range was handed in
+-- the state once a range was inserted
 abbrev pub inserted : ℕ → Range → State → State
 inserted fllen r s = with_chunks (cut (max_pool_size fllen) (aligned_part r)) s
 
--- the state once a range was handed in behind a chunk
+-- the state once a range was inserted behind a chunk
 abbrev pub appended_to : ℕ → Range → State → State
 appended_to fllen r s = appended (max_pool_size fllen) r s
 

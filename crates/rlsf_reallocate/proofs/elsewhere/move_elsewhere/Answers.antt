@@ -30,19 +30,21 @@ use Rattle.rlsf_reallocate.proofs.elsewhere.move_elsewhere.Given as given
 use Rattle.rlsf_reallocate.proofs.elsewhere.move_elsewhere.Goals as goal
 use Rattle.rlsf_reallocate.proofs.elsewhere.move_elsewhere.Goals.{After-deallocate_block, After-load_at, In_ok-moved}
 
--- what holds where nothing was answered
+-- what holds where nothing was returned
 on_none : {A P : Type 0} (Q : A → Type 0) (o : Option A) → o ≡ None → P → MatchOption o P Q
 on_none Q None e holds = holds
 on_none Q (Some x) e holds = absurd (cc)
 
--- the memory whose word was read stands for the same states
+-- the memory whose word was read represents the same states
 loaded : (g : given.Over) (c : After-load_at g) {s : State} → StandsFor g.row.FLLEN g.row.SLLEN (contents c.args.memory.now c.args.table.now) s
     → StandsFor g.row.FLLEN g.row.SLLEN (contents c.load_at.new.self c.args.table.now) s
 loaded g c v = StandsFor-counted c.args.memory.now c.load_at.new.self c.load_at.ensures.start c.load_at.ensures.bytes c.load_at.ensures.out v
 
 -- a block is allocated for it
-placing : (g : given.Over) (c : In_ok-moved g) (s : State) (u : Used) → StandsFor g.row.FLLEN g.row.SLLEN (contents c.args.memory.now c.args.table.now) s → IsUsedAt s u c.args.block c.args.payload c.args.layout.align
-    → (t : State) × Places g.row.SLLEN s c.args.layout.size u.align c.in_ok-moved.moved t × StandsFor g.row.FLLEN g.row.SLLEN (contents c.allocate_block.new.memory c.allocate_block.new.table) t × KeepsSpare c.args.memory.now s c.allocate_block.new.memory t
+placing : (g : given.Over) (c : In_ok-moved g) (s : State) (u : Used) → StandsFor g.row.FLLEN g.row.SLLEN (contents c.args.memory.now c.args.table.now) s
+    → IsUsedAt s u c.args.block c.args.payload c.args.layout.align
+    → (t : State) × Places g.row.SLLEN s c.args.layout.size u.align c.in_ok-moved.moved t
+    × StandsFor g.row.FLLEN g.row.SLLEN (contents c.allocate_block.new.memory c.allocate_block.new.table) t × KeepsSpare c.args.memory.now s c.allocate_block.new.memory t
 placing g c s u v is =
     let before = c.load_at.ensures in
     let (t, places, now, spare) = c.in_ok-moved.ensures.step s (StandsFor-counted c.args.memory.now c.load_at.new.self before.start before.bytes before.out v) in (
@@ -63,7 +65,8 @@ still g c =
     )
 
 -- what is copied is the old payload
-old_payload : (g : given.Over) (c : In_ok-moved g) {s : State} (u : Used) → StandsFor g.row.FLLEN g.row.SLLEN (contents c.args.memory.now c.args.table.now) s → IsUsedAt s u c.args.block c.args.payload c.args.layout.align
+old_payload : (g : given.Over) (c : In_ok-moved g) {s : State} (u : Used) → StandsFor g.row.FLLEN g.row.SLLEN (contents c.args.memory.now c.args.table.now) s
+    → IsUsedAt s u c.args.block c.args.payload c.args.layout.align
     → range_at c.args.payload (c.used_end-end.result - c.args.payload) ≡ usable u
 old_payload g c u v is = ap₂ (λ from to. between from to) (sym is.caller) (c.used_end-end.ensures ∙ sym (end_computed v u is.is_used is.start c.load_at.ensures.word))
 
@@ -73,7 +76,8 @@ payload_here : (g : given.Over) (c : In_ok-moved g) {s : State} (u : Used) → S
 payload_here g c u v i here a lo hi = (still g c).1 a (omega (arith, lo, (used_in_memory v.well_formed u i).0, IsUsed-after_start u (v.well_formed.used u i))) (here a lo hi)
 
 -- and the bytes that it is copied to are the memory's own
-new_own : (g : given.Over) (c : In_ok-moved g) {s : State} (u : Used) → StandsFor g.row.FLLEN g.row.SLLEN (contents c.args.memory.now c.args.table.now) s → IsUsedAt s u c.args.block c.args.payload c.args.layout.align
+new_own : (g : given.Over) (c : In_ok-moved g) {s : State} (u : Used) → StandsFor g.row.FLLEN g.row.SLLEN (contents c.args.memory.now c.args.table.now) s
+    → IsUsedAt s u c.args.block c.args.payload c.args.layout.align
     → in_place s u c.args.layout.size ≡ None → IsOwned c.allocate_block.new.memory (range_at c.in_ok-moved.moved (usable u).len)
 new_own g c {s} u v is short =
     let (t, places, now, spare) = placing g c s u v is in
@@ -129,7 +133,8 @@ copy_payload-requires-clause-to g c =
     let at = (goal.at.copy_payload-requires-clause-to g c).In_ok-moved in
     let m = c.allocate_block.new.memory in
     let (t, places, now, spare) = placing g at s u v is in
-    subst (λ (r : Range). LiesIn (range_at c.in_ok-moved.moved r.len) m.start (length m.bytes)) (sym (old_payload g at u v is)) (LiesIn-new v.well_formed u is.is_used c.args.layout.size short places now)
+    subst (λ (r : Range). LiesIn (range_at c.in_ok-moved.moved r.len) m.start (length m.bytes)) (sym (old_payload g at u v is))
+    (LiesIn-new v.well_formed u is.is_used c.args.layout.size short places now)
 
 pub deallocate_block-requires : goal.deallocate_block-requires
 deallocate_block-requires g c =
@@ -137,13 +142,33 @@ deallocate_block-requires g c =
     let at = (goal.at.deallocate_block-requires g c).In_ok-moved in
     let m = c.allocate_block.new.memory in
     let (t, places, now, spare) = placing g at s u v is in
-    let (bytes, copied) = copied_stands v.well_formed u is.is_used c.args.layout.size short places now (old_payload g at u v is) c.copy_payload.new.memory c.copy_payload.ensures.start c.copy_payload.ensures.bytes c.copy_payload.ensures.out (new_own g at u v is short) in
-    (omega arith, (c.requires.parameters, ((both v.well_formed u is.is_used c.args.layout.size short places now bytes, u, copied.stands, inr is.is_used, is.start, own-there m c.copy_payload.new.memory (usable u) (omega (arith, LiesIn-old v.well_formed u is.is_used c.args.layout.size short places now)) copied.own (own-here m (usable u) (payload_here g at u v is.is_used here))), search rules)))
+    let (bytes, copied) =
+    copied_stands v.well_formed u is.is_used c.args.layout.size short places now (old_payload g at u v is) c.copy_payload.new.memory c.copy_payload.ensures.start
+    c.copy_payload.ensures.bytes c.copy_payload.ensures.out (new_own g at u v is short) in (
+      omega arith,
+      (
+        c.requires.parameters,
+        (
+          (
+            both v.well_formed u is.is_used c.args.layout.size short places now bytes,
+            u,
+            copied.stands,
+            inr is.is_used,
+            is.start,
+            own-there m c.copy_payload.new.memory (usable u) (omega (arith, LiesIn-old v.well_formed u is.is_used c.args.layout.size short places now)) copied.own
+                (own-here m (usable u) (payload_here g at u v is.is_used here)),
+          ),
+          search rules,
+        ),
+      ),
+    )
 
 -- ---- what is counted: the word that is read first, and then the allocation
 
 read : (g : given.Over) (c : After-load_at g) → Counts c.args.memory.now c.load_at.new.self 1
-read g c = Counts-loaded c.args.memory.now c.load_at.new.self c.load_at.ensures.start c.load_at.ensures.bytes c.load_at.ensures.touches c.load_at.ensures.copied c.load_at.ensures.view c.load_at.ensures.out
+read g c =
+    Counts-loaded c.args.memory.now c.load_at.new.self c.load_at.ensures.start c.load_at.ensures.bytes c.load_at.ensures.touches c.load_at.ensures.copied c.load_at.ensures.view
+    c.load_at.ensures.out
 
 -- ---- where it is refused
 
@@ -187,30 +212,41 @@ returns-in_err-moved-clause-grow_copied g c =
 
 -- ---- where it moves: a payload that is allocated, a copy and a release
 
-moving : (g : given.Over) (c : After-deallocate_block g) → Costs c.load_at.new.self c.allocate_block.new.memory 27 0 → Costs c.args.memory.now c.deallocate_block.new.memory 59 (c.used_end-end.result - c.args.payload)
+moving : (g : given.Over) (c : After-deallocate_block g) → Costs c.load_at.new.self c.allocate_block.new.memory 27 0
+    → Costs c.args.memory.now c.deallocate_block.new.memory 59 (c.used_end-end.result - c.args.payload)
 moving g c placed =
     let len = c.used_end-end.result - c.args.payload in
-    let copied = Costs-copied c.allocate_block.new.memory c.copy_payload.new.memory (range_at c.in_ok-moved.moved len) c.copy_payload.ensures.start c.copy_payload.ensures.len c.copy_payload.ensures.touches c.copy_payload.ensures.copied c.copy_payload.ensures.view c.copy_payload.ensures.out in
-    Costs-moving (omega arith) (Costs-then (Costs-then (Costs-then (Costs-loaded c.args.memory.now c.load_at.new.self c.load_at.ensures.start c.load_at.ensures.bytes c.load_at.ensures.touches c.load_at.ensures.copied c.load_at.ensures.view c.load_at.ensures.out) placed) copied) c.deallocate_block.ensures.costs)
+    let copied =
+    Costs-copied c.allocate_block.new.memory c.copy_payload.new.memory (range_at c.in_ok-moved.moved len) c.copy_payload.ensures.start c.copy_payload.ensures.len
+    c.copy_payload.ensures.touches c.copy_payload.ensures.copied c.copy_payload.ensures.view c.copy_payload.ensures.out in
+    Costs-moving (omega arith)
+    (Costs-then (Costs-then (Costs-then
+    (Costs-loaded c.args.memory.now c.load_at.new.self c.load_at.ensures.start c.load_at.ensures.bytes c.load_at.ensures.touches c.load_at.ensures.copied
+    c.load_at.ensures.view c.load_at.ensures.out) placed) copied) c.deallocate_block.ensures.costs)
 
 pub returns-clause-step : goal.returns-clause-step
 returns-clause-step g c =
     λ s u v is short here.
     let at = (goal.at.returns-clause-step g c).In_ok-moved in
     let (t, places, now, spare) = placing g at s u v is in
-    let (bytes, copied) = copied_stands v.well_formed u is.is_used c.args.layout.size short places now (old_payload g at u v is) c.copy_payload.new.memory c.copy_payload.ensures.start c.copy_payload.ensures.bytes c.copy_payload.ensures.out (new_own g at u v is short) in
+    let (bytes, copied) =
+    copied_stands v.well_formed u is.is_used c.args.layout.size short places now (old_payload g at u v is) c.copy_payload.new.memory c.copy_payload.ensures.start
+    c.copy_payload.ensures.bytes c.copy_payload.ensures.out (new_own g at u v is short) in
     let w = v.well_formed in
     let i = is.is_used in
     let size = c.args.layout.size in
     let meanwhile = both w u i size short places now bytes in
     let m = c.allocate_block.new.memory in
-    let own = own-there m c.copy_payload.new.memory (usable u) (omega (arith, LiesIn-old w u i size short places now)) copied.own (own-here m (usable u) (payload_here g at u v i here)) in
+    let own =
+    own-there m c.copy_payload.new.memory (usable u) (omega (arith, LiesIn-old w u i size short places now)) copied.own
+    (own-here m (usable u) (payload_here g at u v i here)) in
     let (stands, last) = c.deallocate_block.ensures.step meanwhile u copied.stands (inr i) is.start own in
     let placed = c.in_ok-moved.ensures.costs in (
       released meanwhile u,
       MovesAway-copied w u i size short places now copied,
       stands,
-      KeepsSpare-copied w u i size short places now copied c.args.memory.now c.deallocate_block.new.memory (placed.start ∙ c.load_at.ensures.start, placed.length ∙ ap length c.load_at.ensures.bytes) spare last,
+      KeepsSpare-copied w u i size short places now copied c.args.memory.now c.deallocate_block.new.memory
+          (placed.start ∙ c.load_at.ensures.start, placed.length ∙ ap length c.load_at.ensures.bytes) spare last,
     )
 
 pub returns-clause-unchanged : goal.returns-clause-unchanged
@@ -226,7 +262,9 @@ pub returns-clause-grow : goal.returns-clause-grow
 returns-clause-grow g c = (moving g (goal.at.returns-clause-grow g c).After-deallocate_block c.in_ok-moved.ensures.costs).grow
 
 pub returns-clause-copied : goal.returns-clause-copied
-returns-clause-copied g c = λ s u v is. copied-costs (moving g (goal.at.returns-clause-copied g c).After-deallocate_block c.in_ok-moved.ensures.costs) (ap (λ (r : Range). r.len) (old_payload g (goal.at.returns-clause-copied g c).In_ok-moved u v is))
+returns-clause-copied g c =
+    λ s u v is. copied-costs (moving g (goal.at.returns-clause-copied g c).After-deallocate_block c.in_ok-moved.ensures.costs)
+    (ap (λ (r : Range). r.len) (old_payload g (goal.at.returns-clause-copied g c).In_ok-moved u v is))
 
 pub returns-clause-grow_copied : goal.returns-clause-grow_copied
 returns-clause-grow_copied g c = grow_copied-costs (moving g (goal.at.returns-clause-grow_copied g c).After-deallocate_block c.in_ok-moved.ensures.costs)
@@ -243,14 +281,16 @@ returns-in_err-moved-clause-here g c =
     let counts = counted g (goal.at.returns-in_err-moved-clause-here g c).After-load_at c.in_err-moved.ensures.unchanged.0 in
     (Stays-same c.args.memory.now c.allocate_block.new.memory counts.start counts.out).here
 
--- until the old block is given back
+-- until the old block is deallocated
 moved_stays : (g : given.Over) (c : After-deallocate_block g) → SameOwn c.args.memory.now c.allocate_block.new.memory × StaysHere c.args.memory.now c.allocate_block.new.memory
-    → SameOwn c.allocate_block.new.memory c.copy_payload.new.memory → StaysHere c.allocate_block.new.memory c.copy_payload.new.memory → c.allocate_block.new.memory.start ≡ c.args.memory.now.start
+    → SameOwn c.allocate_block.new.memory c.copy_payload.new.memory → StaysHere c.allocate_block.new.memory c.copy_payload.new.memory
+    → c.allocate_block.new.memory.start ≡ c.args.memory.now.start
     → Stays c.args.memory.now c.deallocate_block.new.memory
 moved_stays g c first own here start =
     let one : Stays c.args.memory.now c.allocate_block.new.memory = record { start = start; own = first.0; here = first.1 } in
     let two : Stays c.allocate_block.new.memory c.copy_payload.new.memory = record { start = c.copy_payload.ensures.start; own = own; here = here } in
-    let three : Stays c.copy_payload.new.memory c.deallocate_block.new.memory = record { start = c.deallocate_block.ensures.costs.start; own = c.deallocate_block.ensures.own; here = c.deallocate_block.ensures.here } in
+    let three : Stays c.copy_payload.new.memory c.deallocate_block.new.memory =
+    record { start = c.deallocate_block.ensures.costs.start; own = c.deallocate_block.ensures.own; here = c.deallocate_block.ensures.here } in
     Stays-then (Stays-then one two) three
 
 pub returns-clause-own : goal.returns-clause-own
@@ -258,7 +298,9 @@ returns-clause-own g c =
     let (s, u, v, is, short, here) = c.requires.used in
     let at = (goal.at.returns-clause-own g c).In_ok-moved in
     let (t, places, now, spare) = placing g at s u v is in
-    let (bytes, copied) = copied_stands v.well_formed u is.is_used c.args.layout.size short places now (old_payload g at u v is) c.copy_payload.new.memory c.copy_payload.ensures.start c.copy_payload.ensures.bytes c.copy_payload.ensures.out (new_own g at u v is short) in
+    let (bytes, copied) =
+    copied_stands v.well_formed u is.is_used c.args.layout.size short places now (old_payload g at u v is) c.copy_payload.new.memory c.copy_payload.ensures.start
+    c.copy_payload.ensures.bytes c.copy_payload.ensures.out (new_own g at u v is short) in
     (moved_stays g (goal.at.returns-clause-own g c).After-deallocate_block (still g at) copied.own copied.here (c.in_ok-moved.ensures.costs.start ∙ c.load_at.ensures.start)).own
 
 pub returns-clause-here : goal.returns-clause-here
@@ -266,8 +308,11 @@ returns-clause-here g c =
     let (s, u, v, is, short, here) = c.requires.used in
     let at = (goal.at.returns-clause-here g c).In_ok-moved in
     let (t, places, now, spare) = placing g at s u v is in
-    let (bytes, copied) = copied_stands v.well_formed u is.is_used c.args.layout.size short places now (old_payload g at u v is) c.copy_payload.new.memory c.copy_payload.ensures.start c.copy_payload.ensures.bytes c.copy_payload.ensures.out (new_own g at u v is short) in
-    (moved_stays g (goal.at.returns-clause-here g c).After-deallocate_block (still g at) copied.own copied.here (c.in_ok-moved.ensures.costs.start ∙ c.load_at.ensures.start)).here
+    let (bytes, copied) =
+    copied_stands v.well_formed u is.is_used c.args.layout.size short places now (old_payload g at u v is) c.copy_payload.new.memory c.copy_payload.ensures.start
+    c.copy_payload.ensures.bytes c.copy_payload.ensures.out (new_own g at u v is short) in
+    (moved_stays g (goal.at.returns-clause-here g c).After-deallocate_block (still g at) copied.own copied.here
+    (c.in_ok-moved.ensures.costs.start ∙ c.load_at.ensures.start)).here
 
 -- ---- as many bytes as the payload has are here at its new place
 
@@ -279,6 +324,8 @@ returns-clause-kept_here g c =
     λ s u v is short here.
     let at = (goal.at.returns-clause-kept_here g c).In_ok-moved in
     let (t, places, now, spare) = placing g at s u v is in
-    let (bytes, copied) = copied_stands v.well_formed u is.is_used c.args.layout.size short places now (old_payload g at u v is) c.copy_payload.new.memory c.copy_payload.ensures.start c.copy_payload.ensures.bytes c.copy_payload.ensures.out (new_own g at u v is short) in
+    let (bytes, copied) =
+    copied_stands v.well_formed u is.is_used c.args.layout.size short places now (old_payload g at u v is) c.copy_payload.new.memory c.copy_payload.ensures.start
+    c.copy_payload.ensures.bytes c.copy_payload.ensures.out (new_own g at u v is short) in
     let there = LiesIn-new v.well_formed u is.is_used c.args.layout.size short places now in
     λ a lo hi. c.deallocate_block.ensures.here a (omega (arith, there, c.copy_payload.ensures.start)) (copied.there a lo hi)

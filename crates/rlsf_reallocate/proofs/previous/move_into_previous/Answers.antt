@@ -14,7 +14,8 @@ use Rattle.rlsf_blocks.proofs.Deallocate.Releases.{end_computed, word_computed}
 use Rattle.rlsf_blocks.proofs.Machine.Counted.{KeepsSpare-counted_first, StandsFor-counted}
 use Rattle.rlsf_table.proofs.Words.Writes.{Writes-none, Writes-some}
 use Rattle.rlsf_reallocate.proofs.Reallocate.Computations.{IsReadable-size}
-use Rattle.rlsf_reallocate.proofs.Reallocate.Computed.{AreOut, here-occupied, IsHere-payload, IsOwned-moved, IsUsedBlock-from, IsWritable-pad, LiesIn-moved, LiesIn-payload, moved_to, part, payload_within, room, sixteen-le, start-fits, stays-occupied, total_is, total-fits, union_begins}
+use Rattle.rlsf_reallocate.proofs.Reallocate.Computed.{AreOut, here-occupied, IsHere-payload, IsOwned-moved, IsUsedBlock-from, IsWritable-pad, LiesIn-moved, LiesIn-payload}
+use Rattle.rlsf_reallocate.proofs.Reallocate.Computed.{moved_to, part, payload_within, room, sixteen-le, start-fits, stays-occupied, total_is, total-fits, union_begins}
 use Rattle.rlsf_blocks.proofs.Words.Apart.{used_in_memory}
 use Rattle.rlsf_blocks.proofs.Words.Stays.{Stays, Stays-same, Stays-then, Stays-written}
 use Rattle.rlsf_table.proofs.Words.Writing.{wrote, wrote_there}
@@ -27,14 +28,15 @@ use Rattle.rlsf_table.proofs.Costs.{Costs-counted, Costs-loaded, Costs-then, Cos
 use Rattle.rlsf_reallocate.proofs.Reallocate.Copies.{Costs-copied, Costs-moving, copied-costs, grow_copied-costs}
 use Rattle.rlsf_reallocate.proofs.previous.move_into_previous.Given as given
 use Rattle.rlsf_reallocate.proofs.previous.move_into_previous.Goals as goal
-use Rattle.rlsf_reallocate.proofs.previous.move_into_previous.Goals.{After-load_at, After-used_end-end, After-take_if_free-next, In_ok-moved, After-occupy, After-place_before, After-set_word_at}
+use Rattle.rlsf_reallocate.proofs.previous.move_into_previous.Goals.{After-load_at, After-used_end-end, After-take_if_free-next, In_ok-moved, After-occupy, After-place_before}
+use Rattle.rlsf_reallocate.proofs.previous.move_into_previous.Goals.{After-set_word_at}
 
 pub load_at-requires-clause-place : goal.load_at-requires-clause-place
 load_at-requires-clause-place g c =
     let (s, u, v, used, short, here) = c.requires.used in
     IsReadable-size v u used
 
--- where a used block ends, by the word that was read, and the state that stands in the memory then
+-- where a used block ends, by the word that was read, and the state that the memory represents then
 ends : (g : given.Over) (c : After-used_end-end g) {s : State} {u : Used} → StandsFor g.row.FLLEN g.row.SLLEN (contents c.args.memory.now c.args.table.now) s
     → IsUsedAt s u c.args.block c.args.payload c.args.layout.align → end_of u.block ≡ c.used_end-end.result
 ends g c {u = u} v used = end_computed v u used.is_used used.start c.load_at.ensures.word ∙ sym c.used_end-end.ensures
@@ -62,7 +64,10 @@ place_before-requires-clause-used g c =
 -- ---- what is counted
 
 sought : (g : given.Over) (c : After-place_before g) → Counts c.args.memory.now c.place_before.new.memory 4
-sought g c = Counts-counted_first c.args.memory.now c.load_at.new.self c.place_before.new.memory 1 3 (Counts-loaded c.args.memory.now c.load_at.new.self c.load_at.ensures.start c.load_at.ensures.bytes c.load_at.ensures.touches c.load_at.ensures.copied c.load_at.ensures.view c.load_at.ensures.out) c.place_before.ensures.counts
+sought g c =
+    Counts-counted_first c.args.memory.now c.load_at.new.self c.place_before.new.memory 1 3
+    (Counts-loaded c.args.memory.now c.load_at.new.self c.load_at.ensures.start c.load_at.ensures.bytes c.load_at.ensures.touches c.load_at.ensures.copied
+    c.load_at.ensures.view c.load_at.ensures.out) c.place_before.ensures.counts
 
 -- ---- the payload fits nowhere before it
 
@@ -74,7 +79,8 @@ returns-in_err-moved-clause-refused g c =
     λ s u v used short.
     let at = goal.at.returns-in_err-moved-clause-refused g c in
     let is = IsUsedBlock-from used (ends g at.After-used_end-end v used) in
-    none_none {P = into_previous s u c.args.layout.size ≡ None} c.from_residual.result (c.in_err-moved.ensures.place g.row.FLLEN g.row.SLLEN c.args.table.now s u (loaded g at.After-load_at v) is)
+    none_none {P = into_previous s u c.args.layout.size ≡ None} c.from_residual.result
+    (c.in_err-moved.ensures.place g.row.FLLEN g.row.SLLEN c.args.table.now s u (loaded g at.After-load_at v) is)
 
 pub returns-in_err-moved-clause-unchanged : goal.returns-in_err-moved-clause-unchanged
 returns-in_err-moved-clause-unchanged g c =
@@ -111,7 +117,8 @@ stood : (g : given.Over) (c : In_ok-moved g) {s : State} → StandsFor g.row.FLL
     → StandsFor g.row.FLLEN g.row.SLLEN (contents c.place_before.new.memory c.args.table.now) s
 stood g c v =
     let counts = c.place_before.ensures.counts in
-    StandsFor-counted c.load_at.new.self c.place_before.new.memory counts.start counts.bytes counts.out (StandsFor-counted c.args.memory.now c.load_at.new.self c.load_at.ensures.start c.load_at.ensures.bytes c.load_at.ensures.out v)
+    StandsFor-counted c.load_at.new.self c.place_before.new.memory counts.start counts.bytes counts.out
+    (StandsFor-counted c.args.memory.now c.load_at.new.self c.load_at.ensures.start c.load_at.ensures.bytes c.load_at.ensures.out v)
 
 pub take_previous-start-requires : goal.take_previous-start-requires
 take_previous-start-requires g c =
@@ -124,13 +131,19 @@ take_if_free-next-requires g c =
     let (s, u, v, used, short, here) = c.requires.used in
     let at = goal.at.take_if_free-next-requires g c in
     let v0 = stood g at.In_ok-moved v in
-    let out = c.take_previous-start.ensures.step s u v0 used.is_used used.start in
-    (omega arith, (c.requires.parameters, ((without (ends_at c.args.block) s.free, out.list, IsMarked-behind v0 u used.is_used used.start out _ (ends g at.After-used_end-end v used)), search rules)))
+    let out = c.take_previous-start.ensures.step s u v0 used.is_used used.start in (
+      omega arith,
+      (
+        c.requires.parameters,
+        ((without (ends_at c.args.block) s.free, out.list, IsMarked-behind v0 u used.is_used used.start out _ (ends g at.After-used_end-end v used)), search rules),
+      ),
+    )
 
 outs : (g : given.Over) (c : After-take_if_free-next g) {s : State} {u : Used} → StandsFor g.row.FLLEN g.row.SLLEN (contents c.args.memory.now c.args.table.now) s
     → IsUsedAt s u c.args.block c.args.payload c.args.layout.align → in_place s u c.args.layout.size ≡ None → IsHere c.args.memory.now (usable u)
     → AreOut g.row.FLLEN g.row.SLLEN c.place_before.new.memory c.args.table.now s u c.args.block c.used_end-end.result c.args.payload c.args.layout.align c.args.layout.size
-    c.in_ok-moved.moved c.in_ok-moved.taken c.take_previous-start.new.memory c.take_if_free-next.new.memory c.take_previous-start.new.table c.take_if_free-next.new.table c.take_previous-start.result c.take_if_free-next.result
+    c.in_ok-moved.moved c.in_ok-moved.taken c.take_previous-start.new.memory c.take_if_free-next.new.memory c.take_previous-start.new.table c.take_if_free-next.new.table
+    c.take_previous-start.result c.take_if_free-next.result
 outs g c {s} {u} v used short here =
     let read = StandsFor-counted c.args.memory.now c.load_at.new.self c.load_at.ensures.start c.load_at.ensures.bytes c.load_at.ensures.out v in
     let counts = c.place_before.ensures.counts in
@@ -142,7 +155,9 @@ outs g c {s} {u} v used short here =
       used = used;
       is_end = end;
       short = short;
-      here = here-same c.load_at.new.self c.place_before.new.memory (usable u) counts.start counts.out (here-same c.args.memory.now c.load_at.new.self (usable u) c.load_at.ensures.start c.load_at.ensures.out here);
+      here =
+          here-same c.load_at.new.self c.place_before.new.memory (usable u) counts.start counts.out
+          (here-same c.args.memory.now c.load_at.new.self (usable u) c.load_at.ensures.start c.load_at.ensures.out here);
       plan = c.in_ok-moved.ensures.place g.row.FLLEN g.row.SLLEN c.args.table.now s u read (IsUsedBlock-from used end);
       out = out;
       more = c.take_if_free-next.ensures.step (without (ends_at c.args.block) s.free) out.list (IsMarked-behind v0 u used.is_used used.start out _ end);
@@ -228,21 +243,29 @@ set_word_at-requires-clause-place g c =
     let (s, u, v, used, short, here) = c.requires.used in
     let at = goal.at.set_word_at-requires-clause-place g c in
     let are = outs g at.After-take_if_free-next v used short here in
-    IsWritable-pad are c.copy_payload.ensures.start c.copy_payload.ensures.bytes c.copy_payload.ensures.out c.occupy.ensures.step (omega (arith, c.align-wide.ensures.value, c.if-wide.true))
+    IsWritable-pad are c.copy_payload.ensures.start c.copy_payload.ensures.bytes c.copy_payload.ensures.out c.occupy.ensures.step
+    (omega (arith, c.align-wide.ensures.value, c.if-wide.true))
 
 -- ---- what it costs, until the block is made and then
 
 occupied : (g : given.Over) (c : After-occupy g) → Costs c.args.memory.now c.occupy.new.memory 36 (c.used_end-end.result - c.args.payload)
 occupied g c =
     let len = c.used_end-end.result - c.args.payload in
-    let searched = Costs-then (Costs-loaded c.args.memory.now c.load_at.new.self c.load_at.ensures.start c.load_at.ensures.bytes c.load_at.ensures.touches c.load_at.ensures.copied c.load_at.ensures.view c.load_at.ensures.out) (Costs-counted c.place_before.ensures.counts) in
+    let searched =
+    Costs-then (Costs-loaded c.args.memory.now c.load_at.new.self c.load_at.ensures.start c.load_at.ensures.bytes c.load_at.ensures.touches c.load_at.ensures.copied
+    c.load_at.ensures.view c.load_at.ensures.out) (Costs-counted c.place_before.ensures.counts) in
     let taken = Costs-then (Costs-then searched c.take_previous-start.ensures.costs) c.take_if_free-next.ensures.costs in
-    let copied = Costs-copied c.take_if_free-next.new.memory c.copy_payload.new.memory (range_at c.in_ok-moved.moved len) c.copy_payload.ensures.start c.copy_payload.ensures.len c.copy_payload.ensures.touches c.copy_payload.ensures.copied c.copy_payload.ensures.view c.copy_payload.ensures.out in
+    let copied =
+    Costs-copied c.take_if_free-next.new.memory c.copy_payload.new.memory (range_at c.in_ok-moved.moved len) c.copy_payload.ensures.start c.copy_payload.ensures.len
+    c.copy_payload.ensures.touches c.copy_payload.ensures.copied c.copy_payload.ensures.view c.copy_payload.ensures.out in
     Costs-moving (omega arith) (Costs-then (Costs-then taken copied) c.occupy.ensures.costs)
 
-padded : (g : given.Over) (c : After-set_word_at g) → Costs c.args.memory.now c.occupy.new.memory 36 (c.used_end-end.result - c.args.payload) → Costs c.args.memory.now c.set_word_at.new.self 37 (c.used_end-end.result - c.args.payload)
+padded : (g : given.Over) (c : After-set_word_at g) → Costs c.args.memory.now c.occupy.new.memory 36 (c.used_end-end.result - c.args.payload)
+    → Costs c.args.memory.now c.set_word_at.new.self 37 (c.used_end-end.result - c.args.payload)
 padded g c before =
-    Costs-moving (omega arith) (Costs-then before (Costs-written c.occupy.new.memory c.set_word_at.new.self (c.in_ok-moved.moved - 8) c.set_word_at.ensures.start c.set_word_at.ensures.len c.set_word_at.ensures.touches c.set_word_at.ensures.copied c.set_word_at.ensures.view c.set_word_at.ensures.out))
+    Costs-moving (omega arith)
+    (Costs-then before (Costs-written c.occupy.new.memory c.set_word_at.new.self (c.in_ok-moved.moved - 8) c.set_word_at.ensures.start c.set_word_at.ensures.len
+    c.set_word_at.ensures.touches c.set_word_at.ensures.copied c.set_word_at.ensures.view c.set_word_at.ensures.out))
 
 -- as many bytes are copied as the payload has
 long : (g : given.Over) (c : After-used_end-end g) {s : State} {u : Used} → StandsFor g.row.FLLEN g.row.SLLEN (contents c.args.memory.now c.args.table.now) s
@@ -257,11 +280,23 @@ returns-then-wide-clause-moved g c =
     let wide : 32 ≤ c.args.layout.align = omega (arith, c.align-wide.ensures.value, c.if-wide.true) in
     let written = wrote c.occupy.new.memory c.set_word_at.new.self (c.in_ok-moved.moved - 8) c.take_previous-start.result c.set_word_at.ensures.bytes (omega arith) (omega arith) in
     let there = wrote_there c.occupy.new.memory c.set_word_at.new.self (c.in_ok-moved.moved - 8) c.set_word_at.ensures.out (omega arith) in
-    let padded = Writes-some (32 ≤ c.args.layout.align) wide (IsWritable-pad are c.copy_payload.ensures.start c.copy_payload.ensures.bytes c.copy_payload.ensures.out c.occupy.ensures.step wide) (start-fits are) c.set_word_at.ensures.start written there in
+    let padded =
+    Writes-some (32 ≤ c.args.layout.align) wide
+    (IsWritable-pad are c.copy_payload.ensures.start c.copy_payload.ensures.bytes c.copy_payload.ensures.out c.occupy.ensures.step wide) (start-fits are)
+    c.set_word_at.ensures.start written there in
     let (p, is, to, (t, replans, stands, spare)) = moved_to are c.copy_payload.ensures.start c.copy_payload.ensures.bytes c.copy_payload.ensures.out c.occupy.ensures.step padded in
     let counts = c.place_before.ensures.counts in
-    let later = KeepsSpare-counted_first c.load_at.new.self c.place_before.new.memory counts.start counts.bytes counts.out s t c.set_word_at.new.self spare in
-    (p, is, to, (t, replans, stands, KeepsSpare-counted_first c.args.memory.now c.load_at.new.self c.load_at.ensures.start c.load_at.ensures.bytes c.load_at.ensures.out s t c.set_word_at.new.self later))
+    let later = KeepsSpare-counted_first c.load_at.new.self c.place_before.new.memory counts.start counts.bytes counts.out s t c.set_word_at.new.self spare in (
+      p,
+      is,
+      to,
+      (
+        t,
+        replans,
+        stands,
+        KeepsSpare-counted_first c.args.memory.now c.load_at.new.self c.load_at.ensures.start c.load_at.ensures.bytes c.load_at.ensures.out s t c.set_word_at.new.self later,
+      ),
+    )
 
 pub returns-then-wide-clause-refused : goal.returns-then-wide-clause-refused
 returns-then-wide-clause-refused g c = λ s u v used short. tt
@@ -275,26 +310,41 @@ returns-else-wide-clause-moved g c =
     let padded = Writes-none c.occupy.new.memory c.occupy.new.memory (32 ≤ c.args.layout.align) (c.in_ok-moved.moved - 8) c.take_previous-start.result refl narrow in
     let (p, is, to, (t, replans, stands, spare)) = moved_to are c.copy_payload.ensures.start c.copy_payload.ensures.bytes c.copy_payload.ensures.out c.occupy.ensures.step padded in
     let counts = c.place_before.ensures.counts in
-    let later = KeepsSpare-counted_first c.load_at.new.self c.place_before.new.memory counts.start counts.bytes counts.out s t c.occupy.new.memory spare in
-    (p, is, to, (t, replans, stands, KeepsSpare-counted_first c.args.memory.now c.load_at.new.self c.load_at.ensures.start c.load_at.ensures.bytes c.load_at.ensures.out s t c.occupy.new.memory later))
+    let later = KeepsSpare-counted_first c.load_at.new.self c.place_before.new.memory counts.start counts.bytes counts.out s t c.occupy.new.memory spare in (
+      p,
+      is,
+      to,
+      (
+        t,
+        replans,
+        stands,
+        KeepsSpare-counted_first c.args.memory.now c.load_at.new.self c.load_at.ensures.start c.load_at.ensures.bytes c.load_at.ensures.out s t c.occupy.new.memory later,
+      ),
+    )
 
 pub returns-else-wide-clause-refused : goal.returns-else-wide-clause-refused
 returns-else-wide-clause-refused g c = λ s u v used short. tt
 
 pub returns-then-wide-clause-place : goal.returns-then-wide-clause-place
-returns-then-wide-clause-place g c = SamePlace-costs (padded g (goal.at.returns-then-wide-clause-place g c).After-set_word_at (occupied g (goal.at.returns-then-wide-clause-place g c).After-occupy))
+returns-then-wide-clause-place g c =
+    SamePlace-costs (padded g (goal.at.returns-then-wide-clause-place g c).After-set_word_at (occupied g (goal.at.returns-then-wide-clause-place g c).After-occupy))
 
 pub returns-then-wide-clause-touches : goal.returns-then-wide-clause-touches
-returns-then-wide-clause-touches g c = (padded g (goal.at.returns-then-wide-clause-touches g c).After-set_word_at (occupied g (goal.at.returns-then-wide-clause-touches g c).After-occupy)).touches
+returns-then-wide-clause-touches g c =
+    (padded g (goal.at.returns-then-wide-clause-touches g c).After-set_word_at (occupied g (goal.at.returns-then-wide-clause-touches g c).After-occupy)).touches
 
 pub returns-then-wide-clause-grow : goal.returns-then-wide-clause-grow
-returns-then-wide-clause-grow g c = (padded g (goal.at.returns-then-wide-clause-grow g c).After-set_word_at (occupied g (goal.at.returns-then-wide-clause-grow g c).After-occupy)).grow
+returns-then-wide-clause-grow g c =
+    (padded g (goal.at.returns-then-wide-clause-grow g c).After-set_word_at (occupied g (goal.at.returns-then-wide-clause-grow g c).After-occupy)).grow
 
 pub returns-then-wide-clause-copied : goal.returns-then-wide-clause-copied
-returns-then-wide-clause-copied g c = λ s u v used. copied-costs (padded g (goal.at.returns-then-wide-clause-copied g c).After-set_word_at (occupied g (goal.at.returns-then-wide-clause-copied g c).After-occupy)) (long g (goal.at.returns-then-wide-clause-copied g c).After-used_end-end v used)
+returns-then-wide-clause-copied g c =
+    λ s u v used. copied-costs (padded g (goal.at.returns-then-wide-clause-copied g c).After-set_word_at (occupied g (goal.at.returns-then-wide-clause-copied g c).After-occupy))
+    (long g (goal.at.returns-then-wide-clause-copied g c).After-used_end-end v used)
 
 pub returns-then-wide-clause-grow_copied : goal.returns-then-wide-clause-grow_copied
-returns-then-wide-clause-grow_copied g c = grow_copied-costs (padded g (goal.at.returns-then-wide-clause-grow_copied g c).After-set_word_at (occupied g (goal.at.returns-then-wide-clause-grow_copied g c).After-occupy))
+returns-then-wide-clause-grow_copied g c =
+    grow_copied-costs (padded g (goal.at.returns-then-wide-clause-grow_copied g c).After-set_word_at (occupied g (goal.at.returns-then-wide-clause-grow_copied g c).After-occupy))
 
 pub returns-else-wide-clause-place : goal.returns-else-wide-clause-place
 returns-else-wide-clause-place g c = SamePlace-costs (occupied g (goal.at.returns-else-wide-clause-place g c).After-occupy)
@@ -306,7 +356,9 @@ pub returns-else-wide-clause-grow : goal.returns-else-wide-clause-grow
 returns-else-wide-clause-grow g c = (occupied g (goal.at.returns-else-wide-clause-grow g c).After-occupy).grow
 
 pub returns-else-wide-clause-copied : goal.returns-else-wide-clause-copied
-returns-else-wide-clause-copied g c = λ s u v used. copied-costs (occupied g (goal.at.returns-else-wide-clause-copied g c).After-occupy) (long g (goal.at.returns-else-wide-clause-copied g c).After-used_end-end v used)
+returns-else-wide-clause-copied g c =
+    λ s u v used. copied-costs (occupied g (goal.at.returns-else-wide-clause-copied g c).After-occupy)
+    (long g (goal.at.returns-else-wide-clause-copied g c).After-used_end-end v used)
 
 pub returns-else-wide-clause-grow_copied : goal.returns-else-wide-clause-grow_copied
 returns-else-wide-clause-grow_copied g c = grow_copied-costs (occupied g (goal.at.returns-else-wide-clause-grow_copied g c).After-occupy)
@@ -324,7 +376,8 @@ returns-else-wide-clause-own g c =
     let (s, u, v, used, short, here) = c.requires.used in
     let at = goal.at.returns-else-wide-clause-own g c in
     let are = outs g at.After-take_if_free-next v used short here in
-    (Stays-then (searched g at.After-place_before) (stays-occupied are c.copy_payload.ensures.start c.copy_payload.ensures.bytes c.copy_payload.ensures.out c.occupy.ensures.step)).own
+    (Stays-then (searched g at.After-place_before)
+    (stays-occupied are c.copy_payload.ensures.start c.copy_payload.ensures.bytes c.copy_payload.ensures.out c.occupy.ensures.step)).own
 
 pub returns-then-wide-clause-own : goal.returns-then-wide-clause-own
 returns-then-wide-clause-own g c =
@@ -336,7 +389,8 @@ returns-then-wide-clause-own g c =
     let written = wrote c.occupy.new.memory c.set_word_at.new.self (c.in_ok-moved.moved - 8) c.take_previous-start.result c.set_word_at.ensures.bytes (omega arith) (omega arith) in
     let there = wrote_there c.occupy.new.memory c.set_word_at.new.self (c.in_ok-moved.moved - 8) c.set_word_at.ensures.out (omega arith) in
     let padded = Stays-written c.occupy.new.memory c.set_word_at.new.self (c.in_ok-moved.moved - 8) c.take_previous-start.result place c.set_word_at.ensures.start written there in
-    (Stays-then (searched g at.After-place_before) (Stays-then (stays-occupied are c.copy_payload.ensures.start c.copy_payload.ensures.bytes c.copy_payload.ensures.out c.occupy.ensures.step) padded)).own
+    (Stays-then (searched g at.After-place_before)
+    (Stays-then (stays-occupied are c.copy_payload.ensures.start c.copy_payload.ensures.bytes c.copy_payload.ensures.out c.occupy.ensures.step) padded)).own
 
 pub returns-in_err-moved-clause-here : goal.returns-in_err-moved-clause-here
 returns-in_err-moved-clause-here g c = (searched g (goal.at.returns-in_err-moved-clause-here g c).After-place_before).here
@@ -346,7 +400,8 @@ returns-else-wide-clause-here g c =
     let (s, u, v, used, short, here) = c.requires.used in
     let at = goal.at.returns-else-wide-clause-here g c in
     let are = outs g at.After-take_if_free-next v used short here in
-    (Stays-then (searched g at.After-place_before) (stays-occupied are c.copy_payload.ensures.start c.copy_payload.ensures.bytes c.copy_payload.ensures.out c.occupy.ensures.step)).here
+    (Stays-then (searched g at.After-place_before)
+    (stays-occupied are c.copy_payload.ensures.start c.copy_payload.ensures.bytes c.copy_payload.ensures.out c.occupy.ensures.step)).here
 
 pub returns-then-wide-clause-here : goal.returns-then-wide-clause-here
 returns-then-wide-clause-here g c =
@@ -358,7 +413,8 @@ returns-then-wide-clause-here g c =
     let written = wrote c.occupy.new.memory c.set_word_at.new.self (c.in_ok-moved.moved - 8) c.take_previous-start.result c.set_word_at.ensures.bytes (omega arith) (omega arith) in
     let there = wrote_there c.occupy.new.memory c.set_word_at.new.self (c.in_ok-moved.moved - 8) c.set_word_at.ensures.out (omega arith) in
     let padded = Stays-written c.occupy.new.memory c.set_word_at.new.self (c.in_ok-moved.moved - 8) c.take_previous-start.result place c.set_word_at.ensures.start written there in
-    (Stays-then (searched g at.After-place_before) (Stays-then (stays-occupied are c.copy_payload.ensures.start c.copy_payload.ensures.bytes c.copy_payload.ensures.out c.occupy.ensures.step) padded)).here
+    (Stays-then (searched g at.After-place_before)
+    (Stays-then (stays-occupied are c.copy_payload.ensures.start c.copy_payload.ensures.bytes c.copy_payload.ensures.out c.occupy.ensures.step) padded)).here
 
 -- ---- as many bytes as the payload has are here at its new place
 
@@ -382,4 +438,5 @@ returns-then-wide-clause-kept_here g c =
     let written = wrote c.occupy.new.memory c.set_word_at.new.self (c.in_ok-moved.moved - 8) c.take_previous-start.result c.set_word_at.ensures.bytes (omega arith) (omega arith) in
     let there = wrote_there c.occupy.new.memory c.set_word_at.new.self (c.in_ok-moved.moved - 8) c.set_word_at.ensures.out (omega arith) in
     let padded = Stays-written c.occupy.new.memory c.set_word_at.new.self (c.in_ok-moved.moved - 8) c.take_previous-start.result place c.set_word_at.ensures.start written there in
-    λ a lo hi. padded.here a (omega (arith, place.1.0)) (here-occupied are c.copy_payload.ensures.start c.copy_payload.ensures.bytes c.copy_payload.ensures.out c.occupy.ensures.step a lo hi)
+    λ a lo hi. padded.here a (omega (arith, place.1.0))
+    (here-occupied are c.copy_payload.ensures.start c.copy_payload.ensures.bytes c.copy_payload.ensures.out c.occupy.ensures.step a lo hi)

@@ -21,8 +21,11 @@ pub load_at-previous-requires-clause-place : goal.load_at-previous-requires-clau
 load_at-previous-requires-clause-place c =
     let (fllen, sllen, t, s, u, v, i, at) = c.requires.used in
     let place = used_in_memory v.well_formed u i in
-    let own = own-word c.args.memory.now (between u.block.start u.payload) (c.args.block + 8) (here_front v u i) (omega (arith, at)) (omega (arith, at, IsUsed-after_start u (v.well_formed.used u i))) in
-    is_word c.args.memory.now (c.args.block + 8) (omega (arith, at, (v.well_formed.used u i).whole.start), (omega (arith, at, place.0), omega (arith, at, place.1)), own) (previous-fits v u i at refl)
+    let own =
+    own-word c.args.memory.now (between u.block.start u.payload) (c.args.block + 8) (here_front v u i) (omega (arith, at))
+    (omega (arith, at, IsUsed-after_start u (v.well_formed.used u i))) in
+    is_word c.args.memory.now (c.args.block + 8) (omega (arith, at, (v.well_formed.used u i).whole.start), (omega (arith, at, place.0), omega (arith, at, place.1)), own)
+    (previous-fits v u i at refl)
 
 pub free_length-requires-clause-marked : goal.free_length-requires-clause-marked
 free_length-requires-clause-marked c =
@@ -50,7 +53,8 @@ overflow_sub-result c =
 pub returns-then-previous-eq0 : goal.returns-then-previous-eq0
 returns-then-previous-eq0 c = record {
   start = λ fllen sllen t s u v i at.
-      (IsPreviousOut-none v u i at c.load_at-previous.ensures.word c.load_at-previous.new.self c.load_at-previous.ensures.start c.load_at-previous.ensures.bytes c.load_at-previous.ensures.out c.if-previous-eq0.true).begins;
+      (IsPreviousOut-none v u i at c.load_at-previous.ensures.word c.load_at-previous.new.self c.load_at-previous.ensures.start c.load_at-previous.ensures.bytes
+      c.load_at-previous.ensures.out c.if-previous-eq0.true).begins;
   counts = search rules;
 }
 

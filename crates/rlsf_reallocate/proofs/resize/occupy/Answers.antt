@@ -10,8 +10,15 @@ leave_rest-requires g c =
     let part = c.requires.part in
     let short : c.args.taken < c.args.total = omega (arith, c.if-taken-total.true) in
     let written = wrote c.args.memory.now c.set_word_at.new.self c.args.block (c.args.taken + 1) c.set_word_at.ensures.bytes (omega arith) (omega arith) in
-    let sized = sized_from span start len inner part {m1 = c.set_word_at.new.self} c.set_word_at.ensures.start written (wrote_there c.args.memory.now c.set_word_at.new.self c.args.block c.set_word_at.ensures.out (omega arith)) in
-    (omega arith, (c.requires.parameters, ((free, rest_of c.args.block c.args.taken span, refl, omega (arith, start, len, short), IsInnerRoom-rest span start len inner part sized short), search rules)))
+    let sized =
+    sized_from span start len inner part {m1 = c.set_word_at.new.self} c.set_word_at.ensures.start written
+    (wrote_there c.args.memory.now c.set_word_at.new.self c.args.block c.set_word_at.ensures.out (omega arith)) in (
+      omega arith,
+      (
+        c.requires.parameters,
+        ((free, rest_of c.args.block c.args.taken span, refl, omega (arith, start, len, short), IsInnerRoom-rest span start len inner part sized short), search rules),
+      ),
+    )
 
 pub returns-then-taken-total-clause-step : goal.returns-then-taken-total-clause-step
 returns-then-taken-total-clause-step g c =
@@ -19,7 +26,9 @@ returns-then-taken-total-clause-step g c =
     let part = c.requires.part in
     let short : c.args.taken < c.args.total = omega (arith, c.if-taken-total.true) in
     let written = wrote c.args.memory.now c.set_word_at.new.self c.args.block (c.args.taken + 1) c.set_word_at.ensures.bytes (omega arith) (omega arith) in
-    let sized = sized_from span start len inner part {m1 = c.set_word_at.new.self} c.set_word_at.ensures.start written (wrote_there c.args.memory.now c.set_word_at.new.self c.args.block c.set_word_at.ensures.out (omega arith)) in
+    let sized =
+    sized_from span start len inner part {m1 = c.set_word_at.new.self} c.set_word_at.ensures.start written
+    (wrote_there c.args.memory.now c.set_word_at.new.self c.args.block c.set_word_at.ensures.out (omega arith)) in
     let rest = rest_of c.args.block c.args.taken span in
     let left = c.leave_rest.ensures.step free rest refl (omega (arith, start, len, short)) (IsInnerRoom-rest span start len inner part sized short) in
     IsOccupied-rest span start len inner part sized short left
@@ -29,14 +38,28 @@ returns-else-taken-total-clause-step g c =
     λ free span start len inner.
     let part = c.requires.part in
     let written = wrote c.args.memory.now c.set_word_at.new.self c.args.block (c.args.taken + 1) c.set_word_at.ensures.bytes (omega arith) (omega arith) in
-    let sized = sized_from span start len inner part {m1 = c.set_word_at.new.self} c.set_word_at.ensures.start written (wrote_there c.args.memory.now c.set_word_at.new.self c.args.block c.set_word_at.ensures.out (omega arith)) in
-    let behind = wrote c.set_word_at.new.self c.set_word_at-else-taken-total.new.self (c.args.block + c.args.total + 8) c.args.block c.set_word_at-else-taken-total.ensures.bytes (omega arith) (omega arith) in
-    let named = named_from span start len inner part sized {n = c.set_word_at-else-taken-total.new.self} c.set_word_at-else-taken-total.ensures.start behind (wrote_there c.set_word_at.new.self c.set_word_at-else-taken-total.new.self (c.args.block + c.args.total + 8) c.set_word_at-else-taken-total.ensures.out (omega arith)) in
+    let sized =
+    sized_from span start len inner part {m1 = c.set_word_at.new.self} c.set_word_at.ensures.start written
+    (wrote_there c.args.memory.now c.set_word_at.new.self c.args.block c.set_word_at.ensures.out (omega arith)) in
+    let behind =
+    wrote c.set_word_at.new.self c.set_word_at-else-taken-total.new.self (c.args.block + c.args.total + 8) c.args.block c.set_word_at-else-taken-total.ensures.bytes
+    (omega arith) (omega arith) in
+    let named =
+    named_from span start len inner part sized {n = c.set_word_at-else-taken-total.new.self} c.set_word_at-else-taken-total.ensures.start behind
+    (wrote_there c.set_word_at.new.self c.set_word_at-else-taken-total.new.self (c.args.block + c.args.total + 8) c.set_word_at-else-taken-total.ensures.out
+    (omega arith)) in
     IsOccupied-whole_span span start len inner part sized (omega (arith, c.if-taken-total.false)) named
 
 pub returns-then-taken-total-clause-costs : goal.returns-then-taken-total-clause-costs
-returns-then-taken-total-clause-costs g c = Costs-then (Costs-written c.args.memory.now c.set_word_at.new.self c.args.block c.set_word_at.ensures.start c.set_word_at.ensures.len c.set_word_at.ensures.touches c.set_word_at.ensures.copied c.set_word_at.ensures.view c.set_word_at.ensures.out) c.leave_rest.ensures.costs
+returns-then-taken-total-clause-costs g c =
+    Costs-then (Costs-written c.args.memory.now c.set_word_at.new.self c.args.block c.set_word_at.ensures.start c.set_word_at.ensures.len c.set_word_at.ensures.touches
+    c.set_word_at.ensures.copied c.set_word_at.ensures.view c.set_word_at.ensures.out) c.leave_rest.ensures.costs
 
 pub returns-else-taken-total-clause-costs : goal.returns-else-taken-total-clause-costs
 returns-else-taken-total-clause-costs g c =
-    Costs-within (omega arith) (Costs-then (Costs-written c.args.memory.now c.set_word_at.new.self c.args.block c.set_word_at.ensures.start c.set_word_at.ensures.len c.set_word_at.ensures.touches c.set_word_at.ensures.copied c.set_word_at.ensures.view c.set_word_at.ensures.out) (Costs-written c.set_word_at.new.self c.set_word_at-else-taken-total.new.self (c.args.block + c.args.total + 8) c.set_word_at-else-taken-total.ensures.start c.set_word_at-else-taken-total.ensures.len c.set_word_at-else-taken-total.ensures.touches c.set_word_at-else-taken-total.ensures.copied c.set_word_at-else-taken-total.ensures.view c.set_word_at-else-taken-total.ensures.out))
+    Costs-within (omega arith)
+    (Costs-then (Costs-written c.args.memory.now c.set_word_at.new.self c.args.block c.set_word_at.ensures.start c.set_word_at.ensures.len c.set_word_at.ensures.touches
+    c.set_word_at.ensures.copied c.set_word_at.ensures.view c.set_word_at.ensures.out)
+    (Costs-written c.set_word_at.new.self c.set_word_at-else-taken-total.new.self (c.args.block + c.args.total + 8) c.set_word_at-else-taken-total.ensures.start
+    c.set_word_at-else-taken-total.ensures.len c.set_word_at-else-taken-total.ensures.touches c.set_word_at-else-taken-total.ensures.copied
+    c.set_word_at-else-taken-total.ensures.view c.set_word_at-else-taken-total.ensures.out))

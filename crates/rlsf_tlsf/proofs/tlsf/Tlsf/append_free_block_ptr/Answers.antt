@@ -24,8 +24,13 @@ use Rattle.rlsf_tlsf.proofs.tlsf.Tlsf.append_free_block_ptr.Goals.{After-append_
 
 pub append_chunks-taken-requires : goal.append_chunks-taken-requires
 append_chunks-taken-requires g c =
-    let is = IsAllocator-opened c.self-inside.view_is c.self.invariant in
-    (omega arith, (IsValid-widest g.FLBitmap.BitPattern.width_limit is.valid, (_, is.stands, subst (λ (o : Allocator). IsNext (range_of o.memory) o.state c.args.range) (sym (view-opened c.self-inside.view_is c.self.view_is)) c.requires)))
+    let is = IsAllocator-opened c.self-inside.view_is c.self.invariant in (
+      omega arith,
+      (
+        IsValid-widest g.FLBitmap.BitPattern.width_limit is.valid,
+        (_, is.stands, subst (λ (o : Allocator). IsNext (range_of o.memory) o.state c.args.range) (sym (view-opened c.self-inside.view_is c.self.view_is)) c.requires),
+      ),
+    )
 
 -- the range becomes chunks, or a chunk grows
 appending : (g : given.Over) (c : After-append_chunks-taken g)
@@ -33,11 +38,13 @@ appending : (g : given.Over) (c : After-append_chunks-taken g)
     × StandsFor g.row.FLLEN g.row.SLLEN (contents c.append_chunks-taken.new.memory c.append_chunks-taken.new.table) t
     × KeepsSpare c.self-inside.inside.0.0.inner (read_from c.self-inside.inside.0.0.inner c.self-inside.inside.0.1.1.0.state) c.append_chunks-taken.new.memory t
 appending g c =
-    c.append_chunks-taken.ensures.step (read_from c.self-inside.inside.0.0.inner c.self-inside.inside.0.1.1.0.state) (IsAllocator-opened c.self-inside.view_is c.self.invariant).stands
+    c.append_chunks-taken.ensures.step (read_from c.self-inside.inside.0.0.inner c.self-inside.inside.0.1.1.0.state)
+    (IsAllocator-opened c.self-inside.view_is c.self.invariant).stands
     (subst (λ (o : Allocator). IsNext (range_of o.memory) o.state c.args.range) (sym (view-opened c.self-inside.view_is c.self.view_is)) c.requires)
 
 -- what is kept of the state is the one with the range
-kept : (g : given.Over) (c : After-append g) (t : State) → Appends g.row.FLLEN (read_from c.self-inside.inside.0.0.inner c.self-inside.inside.0.1.1.0.state) c.args.range c.append_chunks-taken.result t
+kept : (g : given.Over) (c : After-append g) (t : State)
+    → Appends g.row.FLLEN (read_from c.self-inside.inside.0.0.inner c.self-inside.inside.0.1.1.0.state) c.args.range c.append_chunks-taken.result t
     → c.append.new.self.state ≡ bare t
 kept g c t step =
     c.append.ensures ∙ ap (appended_to g.row.FLLEN c.args.range) (sym (bare-kept (IsAllocator-opened c.self-inside.view_is c.self.invariant)))
@@ -58,10 +65,12 @@ invariant_of-self g c =
 abbrev after : (g : given.Over) (c : After-append g) → Allocator
 after g c = allocator c.append_chunks-taken.new.memory c.append_chunks-taken.new.table c.append.new.self.state
 
-done : (g : given.Over) (c : After-append g) → Steps g.row.FLLEN g.row.SLLEN c.args.self.now (after g c) (Appends g.row.FLLEN c.args.self.now.state c.args.range c.append_chunks-taken.result)
+done : (g : given.Over) (c : After-append g)
+    → Steps g.row.FLLEN g.row.SLLEN c.args.self.now (after g c) (Appends g.row.FLLEN c.args.self.now.state c.args.range c.append_chunks-taken.result)
 done g c =
     let (t, step, stands, spare) = appending g (goal.at.returns g c).After-append_chunks-taken in
-    Steps-arrived stands c.append.new.self.state (kept g c t step) (none g c) c.args.self.now c.self-inside.inside.0.0.inner c.self-inside.inside.0.1.0 c.self-inside.inside.0.1.1.0.state (view-opened c.self-inside.view_is c.self.view_is)
+    Steps-arrived stands c.append.new.self.state (kept g c t step) (none g c) c.args.self.now c.self-inside.inside.0.0.inner c.self-inside.inside.0.1.0
+    c.self-inside.inside.0.1.1.0.state (view-opened c.self-inside.view_is c.self.view_is)
     (λ old. Appends g.row.FLLEN old c.args.range c.append_chunks-taken.result) step spare
 
 stepped : (g : given.Over) (c : After-append g) → Appends g.row.FLLEN c.args.self.now.state c.args.range c.append_chunks-taken.result (after g c).state
@@ -84,11 +93,17 @@ returns g c =
           (opened g.row.FLLEN g.row.SLLEN c.args.self.now (after g c) (Appends g.row.FLLEN c.args.self.now.state c.args.range c.append_chunks-taken.result) (done g c)).0;
       aligns = (seen g c).aligns;
       bytes = (seen g c).bytes;
-      count = count_appended (view_well_formed c.self.invariant c.args.self.now c.self.view_is) (after g c).state c.args.range c.append_chunks-taken.result c.requires (stepped g c);
-      bounds = λ count size align sized. sized_appended (view_well_formed c.self.invariant c.args.self.now c.self.view_is) (after g c).state count size align sized c.args.range c.append_chunks-taken.result c.requires (stepped g c);
+      count =
+          count_appended (view_well_formed c.self.invariant c.args.self.now c.self.view_is) (after g c).state c.args.range c.append_chunks-taken.result c.requires (stepped g c);
+      bounds =
+          λ count size align sized. sized_appended (view_well_formed c.self.invariant c.args.self.now c.self.view_is) (after g c).state count size align sized c.args.range
+          c.append_chunks-taken.result c.requires (stepped g c);
       unchanged = λ zero. c.append_chunks-taken.ensures.unchanged zero ∙ ap (λ (o : Allocator). o.memory.bytes) view;
       place = subst (λ (o : Allocator). SamePlace o.memory c.append_chunks-taken.new.memory) view (SamePlace-costs c.append_chunks-taken.ensures.costs);
-      touches = subst (λ (o : Allocator). c.append_chunks-taken.new.memory.touches ≤ o.memory.touches + (if is_some (max_pool_size g.row.FLLEN) then 13 * length (cut (max_pool_size g.row.FLLEN) (aligned_part c.args.range)) else 34)) view c.append_chunks-taken.ensures.costs.touches;
+      touches =
+          subst (λ (o : Allocator). c.append_chunks-taken.new.memory.touches
+          ≤ o.memory.touches + (if is_some (max_pool_size g.row.FLLEN) then 13 * length (cut (max_pool_size g.row.FLLEN) (aligned_part c.args.range)) else 34)) view
+          c.append_chunks-taken.ensures.costs.touches;
       grow = subst (λ (o : Allocator). o.memory.touches ≤ c.append_chunks-taken.new.memory.touches) view c.append_chunks-taken.ensures.costs.grow;
       copied = copied_none c.append_chunks-taken.ensures.costs ∙ ap (λ (o : Allocator). o.memory.copied) view;
     }

@@ -7,5 +7,6 @@ use Rattle.rlsf_tlsf.proofs.tlsf.Tlsf.chunk_end.Goals as goal
 
 pub returns : goal.returns
 returns g c = λ k i at.
-    c.chunk_end.ensures g.row.FLLEN g.row.SLLEN c.self-inside.inside.0.1.0 (read_from c.self-inside.inside.0.0.inner c.self-inside.inside.0.1.1.0.state) k (IsAllocator-opened c.self-inside.view_is c.self.invariant).stands
+    c.chunk_end.ensures g.row.FLLEN g.row.SLLEN c.self-inside.inside.0.1.0 (read_from c.self-inside.inside.0.0.inner c.self-inside.inside.0.1.1.0.state) k
+    (IsAllocator-opened c.self-inside.view_is c.self.invariant).stands
     (subst (λ (o : Allocator). IsIn k o.state.chunks) (sym (view-opened c.self-inside.view_is c.self.view_is)) i) at

@@ -23,7 +23,8 @@ use Rattle.rlsf_tlsf.proofs.tlsf.Tlsf.copy_payload.Goals as goal
 use Rattle.rlsf_tlsf.proofs.tlsf.Tlsf.copy_payload.Goals.{After-copy_within}
 
 -- what was copied, by the addresses that the numbers are of
-copied : (m : Space) (bytes : List ℕ) {from from' to to' : ℕ} (len : ℕ) → from ≡ from' → to ≡ to' → bytes ≡ with_bytes m to (bytes_in m (range_at from len)) → bytes ≡ with_bytes m to' (bytes_in m (range_at from' len))
+copied : (m : Space) (bytes : List ℕ) {from from' to to' : ℕ} (len : ℕ) → from ≡ from' → to ≡ to' → bytes ≡ with_bytes m to (bytes_in m (range_at from len))
+    → bytes ≡ with_bytes m to' (bytes_in m (range_at from' len))
 copied m bytes len source target is = is ∙ λ i. with_bytes m (target i) (bytes_in m (range_at (source i) len))
 
 -- the allocator's state as the call begins
@@ -60,7 +61,9 @@ copy_within-requires-clause-own g c = own-none c.self-inside.inside.0.0.inner (r
 
 -- nothing is out after it
 none : (g : given.Over) (c : After-copy_within g) → c.copy_within.new.self.out ≡ []
-none g c = none-with c.self-inside.inside.0.0.inner c.copy_within.new.self (range_at c.get-2.result c.args.len) c.copy_within.ensures.out (IsAllocator-opened c.self-inside.view_is c.self.invariant).whole
+none g c =
+    none-with c.self-inside.inside.0.0.inner c.copy_within.new.self (range_at c.get-2.result c.args.len) c.copy_within.ensures.out
+    (IsAllocator-opened c.self-inside.view_is c.self.invariant).whole
 
 -- the front is copied
 copying : (g : given.Over) (c : After-copy_within g)
@@ -75,10 +78,15 @@ copying g c =
     let (u, source) = some_inside is v (view-opened c.self-inside.view_is c.self.view_is) (at c.args.from) c.requires.live.0 in
     let (w, target) = some_inside is v (view-opened c.self-inside.view_is c.self.view_is) (at c.args.to) c.requires.live.1 in
     let bytes = copied c.self-inside.inside.0.0.inner n.bytes len c.get.ensures.value c.get-2.ensures.value c.copy_within.ensures.bytes in
-    let step = stands_copied is.stands len (at c.args.from) (at c.args.to) u w source target (long_inside is v (view-opened c.self-inside.view_is c.self.view_is) (at c.args.from) len u source c.requires.long.0)
-    (long_inside is v (view-opened c.self-inside.view_is c.self.view_is) (at c.args.to) len w target c.requires.long.1) n c.copy_within.ensures.start bytes (none g c ∙ sym is.whole) in
-    subst (λ (front : List ℕ). (t : State) × Fills (state g c) (at c.args.to) front t × StandsFor g.row.FLLEN g.row.SLLEN (contents n c.self-inside.inside.0.1.0) t × KeepsSpare c.self-inside.inside.0.0.inner (state g c) n t)
-    (λ i. with_front len (sym (bytes_inside is v (view-opened c.self-inside.view_is c.self.view_is) (at c.args.from) u source) i) (sym (bytes_inside is v (view-opened c.self-inside.view_is c.self.view_is) (at c.args.to) w target) i)) step
+    let step =
+    stands_copied is.stands len (at c.args.from) (at c.args.to) u w source target
+    (long_inside is v (view-opened c.self-inside.view_is c.self.view_is) (at c.args.from) len u source c.requires.long.0)
+    (long_inside is v (view-opened c.self-inside.view_is c.self.view_is) (at c.args.to) len w target c.requires.long.1) n c.copy_within.ensures.start bytes
+    (none g c ∙ sym is.whole) in
+    subst (λ (front : List ℕ). (t : State) × Fills (state g c) (at c.args.to) front t × StandsFor g.row.FLLEN g.row.SLLEN (contents n c.self-inside.inside.0.1.0) t
+    × KeepsSpare c.self-inside.inside.0.0.inner (state g c) n t)
+    (λ i. with_front len (sym (bytes_inside is v (view-opened c.self-inside.view_is c.self.view_is) (at c.args.from) u source) i)
+    (sym (bytes_inside is v (view-opened c.self-inside.view_is c.self.view_is) (at c.args.to) w target) i)) step
 
 -- what is kept of the state is kept of the state after
 kept : (g : given.Over) (c : After-copy_within g) (t : State) (front : List ℕ) → Fills (state g c) (at c.args.to) front t → c.self-inside.inside.0.1.1.0.state ≡ bare t
@@ -102,7 +110,8 @@ front g c = with_front c.args.len (bytes_at c.args.self.now.state (at c.args.fro
 done : (g : given.Over) (c : After-copy_within g) → Steps g.row.FLLEN g.row.SLLEN c.args.self.now (after g c) (Fills c.args.self.now.state (at c.args.to) (front g c))
 done g c =
     let (t, fills, stands, spare) = copying g c in
-    Steps-arrived stands c.self-inside.inside.0.1.1.0.state (kept g c t (front g c) fills) (none g c) c.args.self.now c.self-inside.inside.0.0.inner c.self-inside.inside.0.1.0 c.self-inside.inside.0.1.1.0.state (view-opened c.self-inside.view_is c.self.view_is)
+    Steps-arrived stands c.self-inside.inside.0.1.1.0.state (kept g c t (front g c) fills) (none g c) c.args.self.now c.self-inside.inside.0.0.inner c.self-inside.inside.0.1.0
+    c.self-inside.inside.0.1.1.0.state (view-opened c.self-inside.view_is c.self.view_is)
     (λ old. Fills old (at c.args.to) (front g c)) fills spare
 
 stepped : (g : given.Over) (c : After-copy_within g) → Fills c.args.self.now.state (at c.args.to) (front g c) (after g c).state
@@ -130,12 +139,15 @@ returns g c =
           count_filled (view_well_formed c.self.invariant c.args.self.now c.self.view_is) (after g before).state (at c.args.to) (front g before) (live g before) (stepped g before);
       bounds = λ count size align sized.
           let before = (goal.at.returns g c).After-copy_within in
-          sized_filled (view_well_formed c.self.invariant c.args.self.now c.self.view_is) (after g before).state count size align sized (at c.args.to) (front g before) (live g before) (stepped g before);
+          sized_filled (view_well_formed c.self.invariant c.args.self.now c.self.view_is) (after g before).state count size align sized (at c.args.to) (front g before)
+          (live g before) (stepped g before);
       chunks =
           let before = (goal.at.returns g c).After-copy_within in
           chunks-filled c.args.self.now.state (after g before).state (at c.args.to) (front g before)
           (opened g.row.FLLEN g.row.SLLEN c.args.self.now (after g before) (Fills c.args.self.now.state (at c.args.to) (front g before)) (done g before)).0;
-      place = subst (λ (o : Allocator). SamePlace o.memory c.copy_within.new.self) view (c.copy_within.ensures.start, c.copy_within.ensures.len, c.copy_within.ensures.view, λ _. none g (goal.at.returns g c).After-copy_within);
+      place =
+          subst (λ (o : Allocator). SamePlace o.memory c.copy_within.new.self) view
+          (c.copy_within.ensures.start, c.copy_within.ensures.len, c.copy_within.ensures.view, λ _. none g (goal.at.returns g c).After-copy_within);
       touches = c.copy_within.ensures.touches ∙ ap (λ (o : Allocator). o.memory.touches) view;
       copied = c.copy_within.ensures.copied ∙ ap (λ (o : Allocator). o.memory.copied + c.args.len) view;
     }

@@ -29,23 +29,34 @@ state g c = read_from c.self-inside.inside.0.0.inner c.self-inside.inside.0.1.1.
 
 pub used_block-block-requires-clause-live : goal.used_block-block-requires-clause-live
 used_block-block-requires-clause-live g c =
-    let live = live_inside (IsAllocator-opened c.self-inside.view_is c.self.invariant) c.args.self.now (view-opened c.self-inside.view_is c.self.view_is) (at c.args.addr) c.args.align c.requires in
-    let s = read_from c.self-inside.inside.0.0.inner c.self-inside.inside.0.1.1.0.state in
-    (g.row.FLLEN, g.row.SLLEN, c.self-inside.inside.0.1.0, s, (IsAllocator-opened c.self-inside.view_is c.self.invariant).stands, subst (λ p. IsLive s p c.args.align) (sym c.get.ensures.value) live)
+    let live =
+    live_inside (IsAllocator-opened c.self-inside.view_is c.self.invariant) c.args.self.now (view-opened c.self-inside.view_is c.self.view_is) (at c.args.addr) c.args.align
+    c.requires in
+    let s = read_from c.self-inside.inside.0.0.inner c.self-inside.inside.0.1.1.0.state in (
+      g.row.FLLEN,
+      g.row.SLLEN,
+      c.self-inside.inside.0.1.0,
+      s,
+      (IsAllocator-opened c.self-inside.view_is c.self.invariant).stands,
+      subst (λ p. IsLive s p c.args.align) (sym c.get.ensures.value) live,
+    )
 
 -- the block that was found is that of the payload
 found : (g : given.Over) (c : After-used_block-block g) → (u : Used) × Holds (state g c) (at c.args.addr) u × (u.block.start ≡ c.used_block-block.result)
 found g c =
     let is = IsAllocator-opened c.self-inside.view_is c.self.invariant in
     let live = live_inside is c.args.self.now (view-opened c.self-inside.view_is c.self.view_is) (at c.args.addr) c.args.align c.requires in
-    let (u, (i, here), _, start) = c.used_block-block.ensures.block g.row.FLLEN g.row.SLLEN c.self-inside.inside.0.1.0 (state g c) is.stands (subst (λ p. IsLive (state g c) p c.args.align) (sym c.get.ensures.value) live) in
+    let (u, (i, here), _, start) =
+    c.used_block-block.ensures.block g.row.FLLEN g.row.SLLEN c.self-inside.inside.0.1.0 (state g c) is.stands
+    (subst (λ p. IsLive (state g c) p c.args.align) (sym c.get.ensures.value) live) in
     (u, (i, here ∙ c.get.ensures.value), start)
 
--- the memory in which it was sought stands for the same state
+-- the memory in which it was sought represents the same state
 read : (g : given.Over) (c : After-used_block-block g) → StandsFor g.row.FLLEN g.row.SLLEN (contents c.used_block-block.new.memory c.self-inside.inside.0.1.0) (state g c)
 read g c =
     let counts = c.used_block-block.ensures.counts in
-    StandsFor-counted c.self-inside.inside.0.0.inner c.used_block-block.new.memory counts.start counts.bytes counts.out (IsAllocator-opened c.self-inside.view_is c.self.invariant).stands
+    StandsFor-counted c.self-inside.inside.0.0.inner c.used_block-block.new.memory counts.start counts.bytes counts.out
+    (IsAllocator-opened c.self-inside.view_is c.self.invariant).stands
 
 -- nothing is out of it, and so neither are the payload's usable bytes
 whole : (g : given.Over) (c : After-used_block-block g) → c.used_block-block.new.memory.out ≡ []
@@ -57,8 +68,13 @@ own g c u = own-none c.used_block-block.new.memory (usable u) (whole g c)
 pub deallocate_block-requires : goal.deallocate_block-requires
 deallocate_block-requires g c =
     let before = (goal.at.deallocate_block-requires g c).After-used_block-block in
-    let (u, holds, start) = found g before in
-    (omega arith, (IsValid-widest g.FLBitmap.BitPattern.width_limit (IsAllocator-opened c.self-inside.view_is c.self.invariant).valid, ((state g before, u, read g before, holds.0, start, own g before u), search rules)))
+    let (u, holds, start) = found g before in (
+      omega arith,
+      (
+        IsValid-widest g.FLBitmap.BitPattern.width_limit (IsAllocator-opened c.self-inside.view_is c.self.invariant).valid,
+        ((state g before, u, read g before, holds.0, start, own g before u), search rules),
+      ),
+    )
 
 -- what is kept of the state is the one without the payload
 kept : (g : given.Over) (c : After-deallocate g) (u : Used) → Holds (read_from c.self-inside.inside.0.0.inner c.self-inside.inside.0.1.1.0.state) (at c.args.addr) u
@@ -76,7 +92,8 @@ pub invariant_of-self : goal.invariant_of-self
 invariant_of-self g c =
     let before = (goal.at.invariant_of-self g c).After-used_block-block in
     let (u, holds, start) = found g before in
-    IsAllocator-arrived (c.deallocate_block.ensures.step (state g before) u (read g before) holds.0 start (own g before u)).0 c.deallocate.new.self.state (kept g c u holds) (none g c) c.self.invariant.valid
+    IsAllocator-arrived (c.deallocate_block.ensures.step (state g before) u (read g before) holds.0 start (own g before u)).0 c.deallocate.new.self.state (kept g c u holds)
+    (none g c) c.self.invariant.valid
 
 abbrev after : (g : given.Over) (c : After-deallocate g) → Allocator
 after g c = allocator c.deallocate_block.new.memory c.deallocate_block.new.table c.deallocate.new.self.state
@@ -88,9 +105,11 @@ done g c =
     let s = state g before in
     let (u, holds, start) = found g before in
     let (stands, spare) = c.deallocate_block.ensures.step s u (read g before) holds.0 start (own g before u) in
-    Steps-arrived stands c.deallocate.new.self.state (kept g c u holds) (none g c) c.args.self.now c.self-inside.inside.0.0.inner c.self-inside.inside.0.1.0 c.self-inside.inside.0.1.1.0.state (view-opened c.self-inside.view_is c.self.view_is)
+    Steps-arrived stands c.deallocate.new.self.state (kept g c u holds) (none g c) c.args.self.now c.self-inside.inside.0.0.inner c.self-inside.inside.0.1.0
+    c.self-inside.inside.0.1.1.0.state (view-opened c.self-inside.view_is c.self.view_is)
     (λ old. Deallocates old (at c.args.addr)) (record { block = u; holds = holds; after = refl })
-    (KeepsSpare-counted_first c.self-inside.inside.0.0.inner c.used_block-block.new.memory counts.start counts.bytes counts.out s (released s u) c.deallocate_block.new.memory spare)
+    (KeepsSpare-counted_first c.self-inside.inside.0.0.inner c.used_block-block.new.memory counts.start counts.bytes counts.out s (released s u) c.deallocate_block.new.memory
+    spare)
 
 stepped : (g : given.Over) (c : After-deallocate g) → Deallocates c.args.self.now.state (at c.args.addr) (after g c).state
 stepped g c = (opened g.row.FLLEN g.row.SLLEN c.args.self.now (after g c) (Deallocates c.args.self.now.state (at c.args.addr)) (done g c)).0
@@ -113,9 +132,22 @@ returns g c =
       aligns = (seen g c).aligns;
       bytes = (seen g c).bytes;
       count = count_gone (view_well_formed c.self.invariant c.args.self.now c.self.view_is) (after g c).state (at c.args.addr) (live g c) (stepped g c);
-      bounds = λ count size align sized. sized_gone (view_well_formed c.self.invariant c.args.self.now c.self.view_is) (after g c).state count size align sized (at c.args.addr) (live g c) (stepped g c);
-      place = subst (λ (o : Allocator). SamePlace o.memory c.deallocate_block.new.memory) view (SamePlace-counted_first c.self-inside.inside.0.0.inner c.used_block-block.new.memory 1 c.used_block-block.ensures.counts c.deallocate_block.new.memory (SamePlace-costs c.deallocate_block.ensures.costs));
-      touches = subst (λ (o : Allocator). c.deallocate_block.new.memory.touches ≤ o.memory.touches + 32) view (touches-counted_first c.self-inside.inside.0.0.inner c.used_block-block.new.memory 1 c.used_block-block.ensures.counts c.deallocate_block.new.memory 31 c.deallocate_block.ensures.costs.touches);
-      grow = subst (λ (o : Allocator). o.memory.touches ≤ c.deallocate_block.new.memory.touches) view (grow-counted_first c.self-inside.inside.0.0.inner c.used_block-block.new.memory 1 c.used_block-block.ensures.counts c.deallocate_block.new.memory c.deallocate_block.ensures.costs.grow);
-      copied = copied-counted_first c.self-inside.inside.0.0.inner c.used_block-block.new.memory 1 c.used_block-block.ensures.counts c.deallocate_block.new.memory (copied_none c.deallocate_block.ensures.costs) ∙ ap (λ (o : Allocator). o.memory.copied) view;
+      bounds =
+          λ count size align sized. sized_gone (view_well_formed c.self.invariant c.args.self.now c.self.view_is) (after g c).state count size align sized (at c.args.addr)
+          (live g c) (stepped g c);
+      place =
+          subst (λ (o : Allocator). SamePlace o.memory c.deallocate_block.new.memory) view
+          (SamePlace-counted_first c.self-inside.inside.0.0.inner c.used_block-block.new.memory 1 c.used_block-block.ensures.counts c.deallocate_block.new.memory
+          (SamePlace-costs c.deallocate_block.ensures.costs));
+      touches =
+          subst (λ (o : Allocator). c.deallocate_block.new.memory.touches ≤ o.memory.touches + 32) view
+          (touches-counted_first c.self-inside.inside.0.0.inner c.used_block-block.new.memory 1 c.used_block-block.ensures.counts c.deallocate_block.new.memory 31
+          c.deallocate_block.ensures.costs.touches);
+      grow =
+          subst (λ (o : Allocator). o.memory.touches ≤ c.deallocate_block.new.memory.touches) view
+          (grow-counted_first c.self-inside.inside.0.0.inner c.used_block-block.new.memory 1 c.used_block-block.ensures.counts c.deallocate_block.new.memory
+          c.deallocate_block.ensures.costs.grow);
+      copied =
+          copied-counted_first c.self-inside.inside.0.0.inner c.used_block-block.new.memory 1 c.used_block-block.ensures.counts c.deallocate_block.new.memory
+          (copied_none c.deallocate_block.ensures.costs) ∙ ap (λ (o : Allocator). o.memory.copied) view;
     }

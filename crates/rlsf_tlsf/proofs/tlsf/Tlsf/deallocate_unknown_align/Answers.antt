@@ -26,8 +26,15 @@ pub load_block_of-block-requires : goal.load_block_of-block-requires
 load_block_of-block-requires g c =
     let is = IsAllocator-opened c.self-inside.view_is c.self.invariant in
     let (u, holds) = some_inside is c.args.self.now (view-opened c.self-inside.view_is c.self.view_is) (at c.args.addr) c.requires in
-    let fields = contents c.self-inside.inside.0.0.inner c.self-inside.inside.0.1.0 in
-    (g.row.FLLEN, g.row.SLLEN, fields, read_from c.self-inside.inside.0.0.inner c.self-inside.inside.0.1.1.0.state, refl, is.stands, (u, (holds.0, holds.1 ∙ sym c.get.ensures.value)))
+    let fields = contents c.self-inside.inside.0.0.inner c.self-inside.inside.0.1.0 in (
+      g.row.FLLEN,
+      g.row.SLLEN,
+      fields,
+      read_from c.self-inside.inside.0.0.inner c.self-inside.inside.0.1.1.0.state,
+      refl,
+      is.stands,
+      (u, (holds.0, holds.1 ∙ sym c.get.ensures.value)),
+    )
 
 -- the allocator's state as the call begins
 abbrev state : (g : given.Over) (c : After-load_block_of-block g) → State
@@ -38,12 +45,16 @@ found : (g : given.Over) (c : After-load_block_of-block g) → (u : Used) × Hol
 found g c =
     let is = IsAllocator-opened c.self-inside.view_is c.self.invariant in
     let (u, holds) = some_inside is c.args.self.now (view-opened c.self-inside.view_is c.self.view_is) (at c.args.addr) c.requires in
-    let start = c.load_block_of-block.ensures.block g.row.FLLEN g.row.SLLEN (contents c.self-inside.inside.0.0.inner c.self-inside.inside.0.1.0) (state g c) u refl is.stands (holds.0, holds.1 ∙ sym c.get.ensures.value) in
+    let start =
+    c.load_block_of-block.ensures.block g.row.FLLEN g.row.SLLEN (contents c.self-inside.inside.0.0.inner c.self-inside.inside.0.1.0) (state g c) u refl is.stands
+    (holds.0, holds.1 ∙ sym c.get.ensures.value) in
     (u, holds, sym start)
 
--- the memory in which it was sought stands for the same state
+-- the memory in which it was sought represents the same state
 read : (g : given.Over) (c : After-load_block_of-block g) → StandsFor g.row.FLLEN g.row.SLLEN (contents c.load_block_of-block.new.memory c.self-inside.inside.0.1.0) (state g c)
-read g c = StandsFor-touched c.self-inside.inside.0.0.inner c.load_block_of-block.new.memory 2 c.load_block_of-block.ensures.memory (IsAllocator-opened c.self-inside.view_is c.self.invariant).stands
+read g c =
+    StandsFor-touched c.self-inside.inside.0.0.inner c.load_block_of-block.new.memory 2 c.load_block_of-block.ensures.memory
+    (IsAllocator-opened c.self-inside.view_is c.self.invariant).stands
 
 -- nothing is out of it, and so neither are the payload's usable bytes
 whole : (g : given.Over) (c : After-load_block_of-block g) → c.load_block_of-block.new.memory.out ≡ []
@@ -55,8 +66,13 @@ own g c u = own-none c.load_block_of-block.new.memory (usable u) (whole g c)
 pub deallocate_block-requires : goal.deallocate_block-requires
 deallocate_block-requires g c =
     let before = (goal.at.deallocate_block-requires g c).After-load_block_of-block in
-    let (u, holds, start) = found g before in
-    (omega arith, (IsValid-widest g.FLBitmap.BitPattern.width_limit (IsAllocator-opened c.self-inside.view_is c.self.invariant).valid, ((state g before, u, read g before, holds.0, start, own g before u), search rules)))
+    let (u, holds, start) = found g before in (
+      omega arith,
+      (
+        IsValid-widest g.FLBitmap.BitPattern.width_limit (IsAllocator-opened c.self-inside.view_is c.self.invariant).valid,
+        ((state g before, u, read g before, holds.0, start, own g before u), search rules),
+      ),
+    )
 
 -- what is kept of the state is the one without the payload
 kept : (g : given.Over) (c : After-deallocate g) (u : Used) → Holds (read_from c.self-inside.inside.0.0.inner c.self-inside.inside.0.1.1.0.state) (at c.args.addr) u
@@ -74,7 +90,8 @@ pub invariant_of-self : goal.invariant_of-self
 invariant_of-self g c =
     let before = (goal.at.invariant_of-self g c).After-load_block_of-block in
     let (u, holds, start) = found g before in
-    IsAllocator-arrived (c.deallocate_block.ensures.step (state g before) u (read g before) holds.0 start (own g before u)).0 c.deallocate.new.self.state (kept g c u holds) (none g c) c.self.invariant.valid
+    IsAllocator-arrived (c.deallocate_block.ensures.step (state g before) u (read g before) holds.0 start (own g before u)).0 c.deallocate.new.self.state (kept g c u holds)
+    (none g c) c.self.invariant.valid
 
 abbrev after : (g : given.Over) (c : After-deallocate g) → Allocator
 after g c = allocator c.deallocate_block.new.memory c.deallocate_block.new.table c.deallocate.new.self.state
@@ -85,16 +102,19 @@ done g c =
     let s = state g before in
     let (u, holds, start) = found g before in
     let (stands, spare) = c.deallocate_block.ensures.step s u (read g before) holds.0 start (own g before u) in
-    Steps-arrived stands c.deallocate.new.self.state (kept g c u holds) (none g c) c.args.self.now c.self-inside.inside.0.0.inner c.self-inside.inside.0.1.0 c.self-inside.inside.0.1.1.0.state (view-opened c.self-inside.view_is c.self.view_is)
+    Steps-arrived stands c.deallocate.new.self.state (kept g c u holds) (none g c) c.args.self.now c.self-inside.inside.0.0.inner c.self-inside.inside.0.1.0
+    c.self-inside.inside.0.1.1.0.state (view-opened c.self-inside.view_is c.self.view_is)
     (λ old. Deallocates old (at c.args.addr)) (record { block = u; holds = holds; after = refl })
-    (KeepsSpare-touched_first c.self-inside.inside.0.0.inner c.load_block_of-block.new.memory 2 c.load_block_of-block.ensures.memory s (released s u) c.deallocate_block.new.memory spare)
+    (KeepsSpare-touched_first c.self-inside.inside.0.0.inner c.load_block_of-block.new.memory 2 c.load_block_of-block.ensures.memory s (released s u) c.deallocate_block.new.memory
+    spare)
 
 stepped : (g : given.Over) (c : After-deallocate g) → Deallocates c.args.self.now.state (at c.args.addr) (after g c).state
 stepped g c = (opened g.row.FLLEN g.row.SLLEN c.args.self.now (after g c) (Deallocates c.args.self.now.state (at c.args.addr)) (done g c)).0
 
 seen : (g : given.Over) (c : After-deallocate g) → SeesGone c.args.self.now.state (after g c).state (at c.args.addr)
 seen g c =
-    gone_seen (view_well_formed c.self.invariant c.args.self.now c.self.view_is) (after g c).state (at c.args.addr) (align_at-some c.args.self.now.state (at c.args.addr) c.requires) (stepped g c)
+    gone_seen (view_well_formed c.self.invariant c.args.self.now c.self.view_is) (after g c).state (at c.args.addr)
+    (align_at-some c.args.self.now.state (at c.args.addr) c.requires) (stepped g c)
 
 pub returns : goal.returns
 returns g c =
@@ -105,11 +125,29 @@ returns g c =
       gone = (seen g c).gone;
       aligns = (seen g c).aligns;
       bytes = (seen g c).bytes;
-      count = count_gone (view_well_formed c.self.invariant c.args.self.now c.self.view_is) (after g c).state (at c.args.addr) (align_at-some c.args.self.now.state (at c.args.addr) c.requires) (stepped g c);
+      count =
+          count_gone (view_well_formed c.self.invariant c.args.self.now c.self.view_is) (after g c).state (at c.args.addr)
+          (align_at-some c.args.self.now.state (at c.args.addr) c.requires) (stepped g c);
       bounds = λ count size align sized.
-          sized_gone (view_well_formed c.self.invariant c.args.self.now c.self.view_is) (after g c).state count size align sized (at c.args.addr) (align_at-some c.args.self.now.state (at c.args.addr) c.requires) (stepped g c);
-      place = subst (λ (o : Allocator). SamePlace o.memory c.deallocate_block.new.memory) view (SamePlace-counted_first c.self-inside.inside.0.0.inner c.load_block_of-block.new.memory 2 (Counts-touched c.self-inside.inside.0.0.inner c.load_block_of-block.new.memory 2 c.load_block_of-block.ensures.memory) c.deallocate_block.new.memory (SamePlace-costs c.deallocate_block.ensures.costs));
-      touches = subst (λ (o : Allocator). c.deallocate_block.new.memory.touches ≤ o.memory.touches + 33) view (touches-counted_first c.self-inside.inside.0.0.inner c.load_block_of-block.new.memory 2 (Counts-touched c.self-inside.inside.0.0.inner c.load_block_of-block.new.memory 2 c.load_block_of-block.ensures.memory) c.deallocate_block.new.memory 31 c.deallocate_block.ensures.costs.touches);
-      grow = subst (λ (o : Allocator). o.memory.touches ≤ c.deallocate_block.new.memory.touches) view (grow-counted_first c.self-inside.inside.0.0.inner c.load_block_of-block.new.memory 2 (Counts-touched c.self-inside.inside.0.0.inner c.load_block_of-block.new.memory 2 c.load_block_of-block.ensures.memory) c.deallocate_block.new.memory c.deallocate_block.ensures.costs.grow);
-      copied = copied-counted_first c.self-inside.inside.0.0.inner c.load_block_of-block.new.memory 2 (Counts-touched c.self-inside.inside.0.0.inner c.load_block_of-block.new.memory 2 c.load_block_of-block.ensures.memory) c.deallocate_block.new.memory (copied_none c.deallocate_block.ensures.costs) ∙ ap (λ (o : Allocator). o.memory.copied) view;
+          sized_gone (view_well_formed c.self.invariant c.args.self.now c.self.view_is) (after g c).state count size align sized (at c.args.addr)
+          (align_at-some c.args.self.now.state (at c.args.addr) c.requires) (stepped g c);
+      place =
+          subst (λ (o : Allocator). SamePlace o.memory c.deallocate_block.new.memory) view
+          (SamePlace-counted_first c.self-inside.inside.0.0.inner c.load_block_of-block.new.memory 2
+          (Counts-touched c.self-inside.inside.0.0.inner c.load_block_of-block.new.memory 2 c.load_block_of-block.ensures.memory) c.deallocate_block.new.memory
+          (SamePlace-costs c.deallocate_block.ensures.costs));
+      touches =
+          subst (λ (o : Allocator). c.deallocate_block.new.memory.touches ≤ o.memory.touches + 33) view
+          (touches-counted_first c.self-inside.inside.0.0.inner c.load_block_of-block.new.memory 2
+          (Counts-touched c.self-inside.inside.0.0.inner c.load_block_of-block.new.memory 2 c.load_block_of-block.ensures.memory) c.deallocate_block.new.memory 31
+          c.deallocate_block.ensures.costs.touches);
+      grow =
+          subst (λ (o : Allocator). o.memory.touches ≤ c.deallocate_block.new.memory.touches) view
+          (grow-counted_first c.self-inside.inside.0.0.inner c.load_block_of-block.new.memory 2
+          (Counts-touched c.self-inside.inside.0.0.inner c.load_block_of-block.new.memory 2 c.load_block_of-block.ensures.memory) c.deallocate_block.new.memory
+          c.deallocate_block.ensures.costs.grow);
+      copied =
+          copied-counted_first c.self-inside.inside.0.0.inner c.load_block_of-block.new.memory 2
+          (Counts-touched c.self-inside.inside.0.0.inner c.load_block_of-block.new.memory 2 c.load_block_of-block.ensures.memory) c.deallocate_block.new.memory
+          (copied_none c.deallocate_block.ensures.costs) ∙ ap (λ (o : Allocator). o.memory.copied) view;
     }

@@ -26,8 +26,13 @@ use Rattle.rlsf_tlsf.proofs.tlsf.Tlsf.insert_free_block_ptr.Goals.{After-insert_
 pub insert_chunks-taken-requires : goal.insert_chunks-taken-requires
 insert_chunks-taken-requires g c =
     let is = IsAllocator-opened c.self-inside.view_is c.self.invariant in
-    let fresh = IsFresh-untouched (range_of c.args.self.now.memory) c.args.self.now.state c.args.range c.requires.lies_in c.requires.untouched in
-    (omega arith, (IsValid-widest g.FLBitmap.BitPattern.width_limit is.valid, (_, is.stands, subst (λ (o : Allocator). IsFresh (range_of o.memory) o.state c.args.range) (sym (view-opened c.self-inside.view_is c.self.view_is)) fresh)))
+    let fresh = IsFresh-untouched (range_of c.args.self.now.memory) c.args.self.now.state c.args.range c.requires.lies_in c.requires.untouched in (
+      omega arith,
+      (
+        IsValid-widest g.FLBitmap.BitPattern.width_limit is.valid,
+        (_, is.stands, subst (λ (o : Allocator). IsFresh (range_of o.memory) o.state c.args.range) (sym (view-opened c.self-inside.view_is c.self.view_is)) fresh),
+      ),
+    )
 
 -- the range becomes chunks
 inserting : (g : given.Over) (c : After-insert_chunks-taken g)
@@ -35,12 +40,14 @@ inserting : (g : given.Over) (c : After-insert_chunks-taken g)
     × StandsFor g.row.FLLEN g.row.SLLEN (contents c.insert_chunks-taken.new.memory c.insert_chunks-taken.new.table) t
     × KeepsSpare c.self-inside.inside.0.0.inner (read_from c.self-inside.inside.0.0.inner c.self-inside.inside.0.1.1.0.state) c.insert_chunks-taken.new.memory t
 inserting g c =
-    c.insert_chunks-taken.ensures.step (read_from c.self-inside.inside.0.0.inner c.self-inside.inside.0.1.1.0.state) (IsAllocator-opened c.self-inside.view_is c.self.invariant).stands
+    c.insert_chunks-taken.ensures.step (read_from c.self-inside.inside.0.0.inner c.self-inside.inside.0.1.1.0.state)
+    (IsAllocator-opened c.self-inside.view_is c.self.invariant).stands
     (subst (λ (o : Allocator). IsFresh (range_of o.memory) o.state c.args.range) (sym (view-opened c.self-inside.view_is c.self.view_is))
     (IsFresh-untouched (range_of c.args.self.now.memory) c.args.self.now.state c.args.range c.requires.lies_in c.requires.untouched))
 
 -- what is kept of the state is the one with the chunks
-kept : (g : given.Over) (c : After-insert g) (t : State) → Inserts g.row.FLLEN (read_from c.self-inside.inside.0.0.inner c.self-inside.inside.0.1.1.0.state) c.args.range (reply c.insert_chunks-taken.result) t
+kept : (g : given.Over) (c : After-insert g) (t : State)
+    → Inserts g.row.FLLEN (read_from c.self-inside.inside.0.0.inner c.self-inside.inside.0.1.1.0.state) c.args.range (reply c.insert_chunks-taken.result) t
     → c.insert.new.self.state ≡ bare t
 kept g c t step =
     c.insert.ensures ∙ ap (inserted g.row.FLLEN c.args.range) (sym (bare-kept (IsAllocator-opened c.self-inside.view_is c.self.invariant)))
@@ -61,14 +68,17 @@ invariant_of-self g c =
 abbrev after : (g : given.Over) (c : After-insert g) → Allocator
 after g c = allocator c.insert_chunks-taken.new.memory c.insert_chunks-taken.new.table c.insert.new.self.state
 
-done : (g : given.Over) (c : After-insert g) → Steps g.row.FLLEN g.row.SLLEN c.args.self.now (after g c) (Inserts g.row.FLLEN c.args.self.now.state c.args.range (reply c.insert_chunks-taken.result))
+done : (g : given.Over) (c : After-insert g)
+    → Steps g.row.FLLEN g.row.SLLEN c.args.self.now (after g c) (Inserts g.row.FLLEN c.args.self.now.state c.args.range (reply c.insert_chunks-taken.result))
 done g c =
     let (t, step, stands, spare) = inserting g (goal.at.returns g c).After-insert_chunks-taken in
-    Steps-arrived stands c.insert.new.self.state (kept g c t step) (none g c) c.args.self.now c.self-inside.inside.0.0.inner c.self-inside.inside.0.1.0 c.self-inside.inside.0.1.1.0.state (view-opened c.self-inside.view_is c.self.view_is)
+    Steps-arrived stands c.insert.new.self.state (kept g c t step) (none g c) c.args.self.now c.self-inside.inside.0.0.inner c.self-inside.inside.0.1.0
+    c.self-inside.inside.0.1.1.0.state (view-opened c.self-inside.view_is c.self.view_is)
     (λ old. Inserts g.row.FLLEN old c.args.range (reply c.insert_chunks-taken.result)) step spare
 
 stepped : (g : given.Over) (c : After-insert g) → Inserts g.row.FLLEN c.args.self.now.state c.args.range (reply c.insert_chunks-taken.result) (after g c).state
-stepped g c = (opened g.row.FLLEN g.row.SLLEN c.args.self.now (after g c) (Inserts g.row.FLLEN c.args.self.now.state c.args.range (reply c.insert_chunks-taken.result)) (done g c)).0
+stepped g c =
+    (opened g.row.FLLEN g.row.SLLEN c.args.self.now (after g c) (Inserts g.row.FLLEN c.args.self.now.state c.args.range (reply c.insert_chunks-taken.result)) (done g c)).0
 
 fresh : (g : given.Over) (c : After-insert g) → IsFresh (range_of c.args.self.now.memory) c.args.self.now.state c.args.range
 fresh g c = IsFresh-untouched (range_of c.args.self.now.memory) c.args.self.now.state c.args.range c.requires.lies_in c.requires.untouched
@@ -91,13 +101,21 @@ returns g c =
           (opened g.row.FLLEN g.row.SLLEN c.args.self.now (after g c) (Inserts g.row.FLLEN c.args.self.now.state c.args.range (reply c.insert_chunks-taken.result)) (done g c)).0;
       aligns = (seen g c).aligns;
       bytes = (seen g c).bytes;
-      count = count_inserted (view_well_formed c.self.invariant c.args.self.now c.self.view_is) (after g c).state c.args.range (reply c.insert_chunks-taken.result) (fresh g c) (stepped g c);
-      bounds = λ count size align sized. sized_inserted (view_well_formed c.self.invariant c.args.self.now c.self.view_is) (after g c).state count size align sized c.args.range (reply c.insert_chunks-taken.result) (fresh g c) (stepped g c);
+      count =
+          count_inserted (view_well_formed c.self.invariant c.args.self.now c.self.view_is) (after g c).state c.args.range (reply c.insert_chunks-taken.result) (fresh g c)
+          (stepped g c);
+      bounds =
+          λ count size align sized. sized_inserted (view_well_formed c.self.invariant c.args.self.now c.self.view_is) (after g c).state count size align sized c.args.range
+          (reply c.insert_chunks-taken.result) (fresh g c) (stepped g c);
       pool = λ count size align len told at32 long idle.
-          sized_pool g.FLBitmap.BitPattern.width g.SLBitmap.BitPattern.width g.row.FLLEN g.row.SLLEN count size align len c.args.self.now.state (after g c).state c.args.range (reply c.insert_chunks-taken.result) (IsAllocator-opened c.self-inside.view_is c.self.invariant).valid told at32 long idle (stepped g c);
-      refused = subst (λ (o : Allocator). IfNone c.insert_chunks-taken.result (c.insert_chunks-taken.new.memory.bytes ≡ o.memory.bytes)) view c.insert_chunks-taken.ensures.refused;
+          sized_pool g.FLBitmap.BitPattern.width g.SLBitmap.BitPattern.width g.row.FLLEN g.row.SLLEN count size align len c.args.self.now.state (after g c).state c.args.range
+          (reply c.insert_chunks-taken.result) (IsAllocator-opened c.self-inside.view_is c.self.invariant).valid told at32 long idle (stepped g c);
+      refused =
+          subst (λ (o : Allocator). IfNone c.insert_chunks-taken.result (c.insert_chunks-taken.new.memory.bytes ≡ o.memory.bytes)) view c.insert_chunks-taken.ensures.refused;
       place = subst (λ (o : Allocator). SamePlace o.memory c.insert_chunks-taken.new.memory) view (SamePlace-costs c.insert_chunks-taken.ensures.costs);
-      touches = subst (λ (o : Allocator). c.insert_chunks-taken.new.memory.touches ≤ o.memory.touches + 13 * length (cut (max_pool_size g.row.FLLEN) (aligned_part c.args.range))) view c.insert_chunks-taken.ensures.costs.touches;
+      touches =
+          subst (λ (o : Allocator). c.insert_chunks-taken.new.memory.touches ≤ o.memory.touches + 13 * length (cut (max_pool_size g.row.FLLEN) (aligned_part c.args.range))) view
+          c.insert_chunks-taken.ensures.costs.touches;
       grow = subst (λ (o : Allocator). o.memory.touches ≤ c.insert_chunks-taken.new.memory.touches) view c.insert_chunks-taken.ensures.costs.grow;
       copied = copied_none c.insert_chunks-taken.ensures.costs ∙ ap (λ (o : Allocator). o.memory.copied) view;
     }

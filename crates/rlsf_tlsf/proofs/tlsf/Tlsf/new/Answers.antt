@@ -26,7 +26,7 @@ module _ (m n : Space) (same : m ≡ n) (none : m.out ≡ []) where
   bounds : (0 < m.start) × (m.start + length m.bytes < 2 ^ 64) → (0 < n.start) × (n.start + length n.bytes < 2 ^ 64)
   bounds = subst (λ (o : Space). (0 < o.start) × (o.start + length o.bytes < 2 ^ 64)) same
 
--- the empty state stands in it
+-- it represents the empty state
 standing : (g : given.Over) (c : goal.After-new-2 g) → StandsFor g.row.FLLEN g.row.SLLEN (contents c.args.memory c.new.result) empty
 standing g c =
     let m = c.memory.inside.inner in
@@ -34,7 +34,8 @@ standing g c =
     StandsFor-empty c.requires (bounds m n c.memory.view_is c.memory.invariant c.start.ensures.bounds) (c.new.ensures n) (own m n c.memory.view_is c.memory.invariant)
 
 pub invariant_of-result : goal.invariant_of-result
-invariant_of-result g c = IsAllocator-arrived (standing g c) c.new-2.result.state c.new-2.ensures (whole c.memory.inside.inner c.args.memory c.memory.view_is c.memory.invariant) c.requires
+invariant_of-result g c =
+    IsAllocator-arrived (standing g c) c.new-2.result.state c.new-2.ensures (whole c.memory.inside.inner c.args.memory c.memory.view_is c.memory.invariant) c.requires
 
 pub returns : goal.returns
 returns g c = record {

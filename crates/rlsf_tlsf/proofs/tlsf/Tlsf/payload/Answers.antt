@@ -12,15 +12,23 @@ pub usable_bytes-requires : goal.usable_bytes-requires
 usable_bytes-requires g c =
     let is = IsAllocator-opened c.self-inside.view_is c.self.invariant in
     let fields = contents c.self-inside.inside.0.0.inner c.self-inside.inside.0.1.0 in
-    let (u, holds) = some_inside is c.args.self.now (view-opened c.self-inside.view_is c.self.view_is) (at c.args.addr) c.requires in
-    (g.row.FLLEN, g.row.SLLEN, fields, read_from c.self-inside.inside.0.0.inner c.self-inside.inside.0.1.1.0.state, refl, is.stands, (u, (holds.0, holds.1 ∙ sym c.get.ensures.value)))
+    let (u, holds) = some_inside is c.args.self.now (view-opened c.self-inside.view_is c.self.view_is) (at c.args.addr) c.requires in (
+      g.row.FLLEN,
+      g.row.SLLEN,
+      fields,
+      read_from c.self-inside.inside.0.0.inner c.self-inside.inside.0.1.1.0.state,
+      refl,
+      is.stands,
+      (u, (holds.0, holds.1 ∙ sym c.get.ensures.value)),
+    )
 
 pub slice-requires-clause-place : goal.slice-requires-clause-place
 slice-requires-clause-place g c =
     let is = IsAllocator-opened c.self-inside.view_is c.self.invariant in
     let fields = contents c.self-inside.inside.0.0.inner c.self-inside.inside.0.1.0 in
     let (u, holds) = some_inside is c.args.self.now (view-opened c.self-inside.view_is c.self.view_is) (at c.args.addr) c.requires in
-    LiesIn-lent is (at c.args.addr) u holds c.usable_bytes.result (c.usable_bytes.ensures g.row.FLLEN g.row.SLLEN fields _ u refl is.stands (holds.0, holds.1 ∙ sym c.get.ensures.value))
+    LiesIn-lent is (at c.args.addr) u holds c.usable_bytes.result
+    (c.usable_bytes.ensures g.row.FLLEN g.row.SLLEN fields _ u refl is.stands (holds.0, holds.1 ∙ sym c.get.ensures.value))
 
 pub slice-requires-clause-here : goal.slice-requires-clause-here
 slice-requires-clause-here g c = here-none c.self-inside.inside.0.0.inner c.usable_bytes.result (IsAllocator-opened c.self-inside.view_is c.self.invariant).whole

@@ -14,8 +14,15 @@ pub load_usable_bytes-range-requires : goal.load_usable_bytes-range-requires
 load_usable_bytes-range-requires g c =
     let is = IsAllocator-opened c.self-inside.view_is c.self.invariant in
     let fields = contents c.self-inside.inside.0.0.inner c.self-inside.inside.0.1.0 in
-    let (u, holds) = some_inside is c.args.self.now (view-opened c.self-inside.view_is c.self.view_is) (at c.args.addr) c.requires in
-    (g.row.FLLEN, g.row.SLLEN, fields, read_from c.self-inside.inside.0.0.inner c.self-inside.inside.0.1.1.0.state, refl, is.stands, (u, (holds.0, holds.1 ∙ sym c.get.ensures.value)))
+    let (u, holds) = some_inside is c.args.self.now (view-opened c.self-inside.view_is c.self.view_is) (at c.args.addr) c.requires in (
+      g.row.FLLEN,
+      g.row.SLLEN,
+      fields,
+      read_from c.self-inside.inside.0.0.inner c.self-inside.inside.0.1.1.0.state,
+      refl,
+      is.stands,
+      (u, (holds.0, holds.1 ∙ sym c.get.ensures.value)),
+    )
 
 pub slice_mut-requires : goal.slice_mut-requires
 slice_mut-requires g c =
@@ -41,12 +48,18 @@ returns g c =
     let fields = contents c.self-inside.inside.0.0.inner c.self-inside.inside.0.1.0 in
     let (u, holds) = some_inside (IsAllocator-opened c.self-inside.view_is c.self.invariant) c.args.self.now (view-opened c.self-inside.view_is c.self.view_is) addr c.requires in
     let read = c.load_usable_bytes-range.ensures.memory in
-    let range = c.load_usable_bytes-range.ensures.range g.row.FLLEN g.row.SLLEN fields _ u refl (IsAllocator-opened c.self-inside.view_is c.self.invariant).stands (holds.0, holds.1 ∙ sym c.get.ensures.value) in
+    let range =
+    c.load_usable_bytes-range.ensures.range g.row.FLLEN g.row.SLLEN fields _ u refl (IsAllocator-opened c.self-inside.view_is c.self.invariant).stands
+    (holds.0, holds.1 ∙ sym c.get.ensures.value) in
     let value = c.slice_mut.ensures.value ∙ ap (λ (m : Space). bytes_in m c.load_usable_bytes-range.result) read in
     let is = is_lent (IsAllocator-opened c.self-inside.view_is c.self.invariant) addr u holds c.load_usable_bytes-range.result range c.slice_mut.result.now value in
     let left = is_left (IsAllocator-opened c.self-inside.view_is c.self.invariant) addr u holds (length c.slice_mut.result.now) is.whole in
     rw (← (view-opened c.self-inside.view_is c.self.view_is)) (
-      (refl, λ w. written-lent (IsAllocator-opened c.self-inside.view_is c.self.invariant) addr u holds c.load_usable_bytes-range.new.memory read c.load_usable_bytes-range.result is.start (length c.slice_mut.result.now) is.len w),
+      (
+        refl,
+        λ w. written-lent (IsAllocator-opened c.self-inside.view_is c.self.invariant) addr u holds c.load_usable_bytes-range.new.memory read c.load_usable_bytes-range.result
+            is.start (length c.slice_mut.result.now) is.len w,
+      ),
       record {
         writes_back = tt;
         value = is.bytes ∙ sym (bytes_at-held (IsAllocator-opened c.self-inside.view_is c.self.invariant).stands.well_formed addr u holds);
@@ -56,7 +69,9 @@ returns g c =
         aligns = λ w. (left w).aligns;
         count = λ w. (left w).count;
         bounds = λ w. (left w).bounds;
-        lengths = λ w. (left w).lengths ∙ ap length (bytes_at-held (IsAllocator-opened c.self-inside.view_is c.self.invariant).stands.well_formed addr u holds) ∙ ap length (sym is.bytes);
+        lengths =
+            λ w. (left w).lengths ∙ ap length (bytes_at-held (IsAllocator-opened c.self-inside.view_is c.self.invariant).stands.well_formed addr u holds)
+            ∙ ap length (sym is.bytes);
         rest = λ w. (left w).rest;
       },
     )

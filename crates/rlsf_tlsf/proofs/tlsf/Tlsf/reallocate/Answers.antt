@@ -39,7 +39,9 @@ abbrev state : (g : given.Over) (c : After-used_block-block g) → State
 state g c = read_from c.self-inside.inside.0.0.inner c.self-inside.inside.0.1.1.0.state
 
 -- the payload's block, once it was found
-found : (g : given.Over) (c : After-used_block-block g) → Found g.row.FLLEN g.row.SLLEN (contents c.used_block-block.new.memory c.self-inside.inside.0.1.0) (state g c) (at c.args.addr) c.used_block-block.result c.get-payload.result c.args.layout.align
+found : (g : given.Over) (c : After-used_block-block g)
+    → Found g.row.FLLEN g.row.SLLEN (contents c.used_block-block.new.memory c.self-inside.inside.0.1.0) (state g c) (at c.args.addr) c.used_block-block.result
+    c.get-payload.result c.args.layout.align
 found g c =
     let is = IsAllocator-opened c.self-inside.view_is c.self.invariant in
     let live = live_inside is c.args.self.now (view-opened c.self-inside.view_is c.self.view_is) (at c.args.addr) c.args.layout.align c.requires in
@@ -55,13 +57,20 @@ here g c u = here-none c.used_block-block.new.memory (usable u) (whole g c)
 
 pub used_block-block-requires-clause-live : goal.used_block-block-requires-clause-live
 used_block-block-requires-clause-live g c =
-    live_in (IsAllocator-opened c.self-inside.view_is c.self.invariant).stands c.get-payload.ensures.value c.align.ensures.value (live_inside (IsAllocator-opened c.self-inside.view_is c.self.invariant) c.args.self.now (view-opened c.self-inside.view_is c.self.view_is) (at c.args.addr) c.args.layout.align c.requires)
+    live_in (IsAllocator-opened c.self-inside.view_is c.self.invariant).stands c.get-payload.ensures.value c.align.ensures.value
+    (live_inside (IsAllocator-opened c.self-inside.view_is c.self.invariant) c.args.self.now (view-opened c.self-inside.view_is c.self.view_is) (at c.args.addr)
+    c.args.layout.align c.requires)
 
 pub reallocate_block-requires : goal.reallocate_block-requires
 reallocate_block-requires g c =
     let before = (goal.at.reallocate_block-requires g c).After-used_block-block in
-    let f = found g before in
-    (omega arith, (IsValid-widest g.FLBitmap.BitPattern.width_limit (IsAllocator-opened c.self-inside.view_is c.self.invariant).valid, ((state g before, f.used, f.stands, f.used_at, here g before f.used), (search rules, λ one. whole g before))))
+    let f = found g before in (
+      omega arith,
+      (
+        IsValid-widest g.FLBitmap.BitPattern.width_limit (IsAllocator-opened c.self-inside.view_is c.self.invariant).valid,
+        ((state g before, f.used, f.stands, f.used_at, here g before f.used), (search rules, λ one. whole g before)),
+      ),
+    )
 
 -- ---- the refusal
 
@@ -81,8 +90,13 @@ module _ (g : given.Over) (c : In_err-moved g) where
       let told : Reallocates g.row.SLLEN s (at c.args.addr) c.args.layout.size None t = record { block = f.used; holds = f.holds; step = step } in
       let same : t ≡ s = refusal_changes_nothing g.row.FLLEN g.row.SLLEN s t (reallocate (at c.args.addr) c.args.layout.size None) told refl in
       subst (λ (x : State). Reallocates g.row.SLLEN s (at c.args.addr) c.args.layout.size None x
-      × StandsFor g.row.FLLEN g.row.SLLEN (contents c.reallocate_block.new.memory c.reallocate_block.new.table) x × KeepsSpare c.self-inside.inside.0.0.inner s c.reallocate_block.new.memory x) same
-      (told, stands, KeepsSpare-counted_first c.self-inside.inside.0.0.inner c.used_block-block.new.memory counts.start counts.bytes counts.out s t c.reallocate_block.new.memory spare)
+      × StandsFor g.row.FLLEN g.row.SLLEN (contents c.reallocate_block.new.memory c.reallocate_block.new.table) x
+      × KeepsSpare c.self-inside.inside.0.0.inner s c.reallocate_block.new.memory x) same (
+        told,
+        stands,
+        KeepsSpare-counted_first c.self-inside.inside.0.0.inner c.used_block-block.new.memory counts.start counts.bytes counts.out s t c.reallocate_block.new.memory
+            spare,
+      )
 
 -- nothing is out after it
 none : (g : given.Over) (c : After-used_block-block g) (n : Space) → SamePlace c.used_block-block.new.memory n → n.out ≡ []
@@ -95,7 +109,9 @@ pub invariant_of-self-inside : goal.invariant_of-self-inside
 invariant_of-self-inside = none_refused
 
 pub invariant_of-self : goal.invariant_of-self
-invariant_of-self g c = IsAllocator-arrived (staying g c).1 c.self-inside.inside.0.1.1.0.state (sym (bare-kept (IsAllocator-opened c.self-inside.view_is c.self.invariant))) (none_refused g c) c.self.invariant.valid
+invariant_of-self g c =
+    IsAllocator-arrived (staying g c).1 c.self-inside.inside.0.1.1.0.state (sym (bare-kept (IsAllocator-opened c.self-inside.view_is c.self.invariant))) (none_refused g c)
+    c.self.invariant.valid
 
 -- ---- the bytes that are copied
 
@@ -124,8 +140,12 @@ module _ (g : given.Over) (c : After-reallocate g) where
       let f = found g early in
       let s = state g early in
       let counts = c.used_block-block.ensures.counts in
-      let (t, step, stands, spare) = c.in_ok-moved.ensures.step s f.used f.stands f.used_at (here g early f.used) in
-      (t, record { block = f.used; holds = f.holds; step = step }, stands, KeepsSpare-counted_first c.self-inside.inside.0.0.inner c.used_block-block.new.memory counts.start counts.bytes counts.out s t c.reallocate_block.new.memory spare)
+      let (t, step, stands, spare) = c.in_ok-moved.ensures.step s f.used f.stands f.used_at (here g early f.used) in (
+        t,
+        record { block = f.used; holds = f.holds; step = step },
+        stands,
+        KeepsSpare-counted_first c.self-inside.inside.0.0.inner c.used_block-block.new.memory counts.start counts.bytes counts.out s t c.reallocate_block.new.memory spare,
+      )
 
   -- what is kept of the state is the one after
   kept : (t : State) → Reallocates g.row.SLLEN (state g early) (at c.args.addr) c.args.layout.size (Some c.in_ok-moved.moved) t → c.reallocate.new.self.state ≡ bare t
@@ -148,7 +168,8 @@ module _ (g : given.Over) (c : After-new g) where
   done : Steps g.row.FLLEN g.row.SLLEN c.args.self.now after (Reallocates g.row.SLLEN c.args.self.now.state (at c.args.addr) c.args.layout.size (Some c.in_ok-moved.moved))
   done =
       let (t, step, stands, spare) = moving g before_new in
-      Steps-arrived stands c.reallocate.new.self.state (kept g before_new t step) (none_moved g before_new) c.args.self.now c.self-inside.inside.0.0.inner c.self-inside.inside.0.1.0 c.self-inside.inside.0.1.1.0.state (view-opened c.self-inside.view_is c.self.view_is)
+      Steps-arrived stands c.reallocate.new.self.state (kept g before_new t step) (none_moved g before_new) c.args.self.now c.self-inside.inside.0.0.inner
+      c.self-inside.inside.0.1.0 c.self-inside.inside.0.1.1.0.state (view-opened c.self-inside.view_is c.self.view_is)
       (λ old. Reallocates g.row.SLLEN old (at c.args.addr) c.args.layout.size (Some c.in_ok-moved.moved)) step spare
 
   seen : SeesResized c.args.self.now.state after.state (at c.args.addr) c.args.layout.size c.args.layout.align c.in_ok-moved.moved
@@ -160,7 +181,9 @@ module _ (g : given.Over) (c : After-new g) where
   -- no payload is at the address 0
   positive : 0 < c.in_ok-moved.moved
   positive =
-      let (_, stood, _) = opened g.row.FLLEN g.row.SLLEN c.args.self.now after (Reallocates g.row.SLLEN c.args.self.now.state (at c.args.addr) c.args.layout.size (Some c.in_ok-moved.moved)) done in
+      let (_, stood, _) =
+      opened g.row.FLLEN g.row.SLLEN c.args.self.now after (Reallocates g.row.SLLEN c.args.self.now.state (at c.args.addr) c.args.layout.size (Some c.in_ok-moved.moved))
+      done in
       let (u, (i, here), is) = align_at-live after.state c.in_ok-moved.moved c.args.layout.align seen.live in
       omega (arith, here, IsUsed-after_start u ((well_formed after stood).used u i))
 
@@ -168,7 +191,8 @@ pub invariant_of-self-inside-2 : goal.invariant_of-self-inside-2
 invariant_of-self-inside-2 = none_moved
 
 pub invariant_of-self-2 : goal.invariant_of-self-2
-invariant_of-self-2 g c = let (t, step, stands, spare) = moving g c in IsAllocator-arrived stands c.reallocate.new.self.state (kept g c t step) (none_moved g c) c.self.invariant.valid
+invariant_of-self-2 g c = let (t, step, stands, spare) = moving g c in
+    IsAllocator-arrived stands c.reallocate.new.self.state (kept g c t step) (none_moved g c) c.self.invariant.valid
 
 -- ---- what stays where it is refused
 
@@ -181,9 +205,11 @@ returns-in_err-moved g c =
     let view = view-opened c.self-inside.view_is c.self.view_is in
     record {
       step =
-          Steps-arrived (staying g (refused g c)).1 c.self-inside.inside.0.1.1.0.state (sym (bare-kept is)) (none_refused g (refused g c)) c.args.self.now c.self-inside.inside.0.0.inner c.self-inside.inside.0.1.0 c.self-inside.inside.0.1.1.0.state view
+          Steps-arrived (staying g (refused g c)).1 c.self-inside.inside.0.1.1.0.state (sym (bare-kept is)) (none_refused g (refused g c)) c.args.self.now
+          c.self-inside.inside.0.0.inner c.self-inside.inside.0.1.0 c.self-inside.inside.0.1.1.0.state view
           (λ old. Reallocates g.row.SLLEN old (at c.args.addr) c.args.layout.size (reply c.from_residual.result))
-          (subst (λ o. Reallocates g.row.SLLEN (read_from c.self-inside.inside.0.0.inner c.self-inside.inside.0.1.1.0.state) (at c.args.addr) c.args.layout.size (reply o) (read_from c.self-inside.inside.0.0.inner c.self-inside.inside.0.1.1.0.state)) (sym c.from_residual.ensures) (staying g (refused g c)).0)
+          (subst (λ o. Reallocates g.row.SLLEN (read_from c.self-inside.inside.0.0.inner c.self-inside.inside.0.1.1.0.state) (at c.args.addr) c.args.layout.size (reply o)
+          (read_from c.self-inside.inside.0.0.inner c.self-inside.inside.0.1.1.0.state)) (sym c.from_residual.ensures) (staying g (refused g c)).0)
           (staying g (refused g c)).2;
       live = none_some _ c.from_residual.result c.from_residual.ensures;
       sized = none_some _ c.from_residual.result c.from_residual.ensures;
@@ -193,17 +219,29 @@ returns-in_err-moved g c =
       aligns = none_some _ c.from_residual.result c.from_residual.ensures;
       bytes = none_some _ c.from_residual.result c.from_residual.ensures;
       room = λ count size align sized few short fits.
-          absurd (never_refused_again (view_well_formed c.self.invariant c.args.self.now c.self.view_is) c.args.self.now.state count size align sized (at c.args.addr) c.args.layout.size c.args.layout.align c.requires few short fits
+          absurd (never_refused_again (view_well_formed c.self.invariant c.args.self.now c.self.view_is) c.args.self.now.state count size align sized (at c.args.addr)
+          c.args.layout.size c.args.layout.align c.requires few short fits
           (subst (λ (o : Allocator). Reallocates g.row.SLLEN o.state (at c.args.addr) c.args.layout.size None o.state) view (staying g (refused g c)).0));
       count = ap live_count (arrived (staying g (refused g c)).1 c.self-inside.inside.0.1.1.0.state (sym (bare-kept is)) ∙ ap (λ (o : Allocator). o.state) view);
       bounds = λ count size align sized short fits.
-          subst (IsSizedFor g.row.SLLEN count size align) (sym (arrived (staying g (refused g c)).1 c.self-inside.inside.0.1.1.0.state (sym (bare-kept is)) ∙ ap (λ (o : Allocator). o.state) view)) sized;
+          subst (IsSizedFor g.row.SLLEN count size align)
+          (sym (arrived (staying g (refused g c)).1 c.self-inside.inside.0.1.1.0.state (sym (bare-kept is)) ∙ ap (λ (o : Allocator). o.state) view)) sized;
       chunks = ap (λ (o : Allocator). o.state.chunks) view;
-      same = none_none c.from_residual.result (arrived (staying g (refused g c)).1 c.self-inside.inside.0.1.1.0.state (sym (bare-kept is)) ∙ ap (λ (o : Allocator). o.state) view);
+      same =
+          none_none c.from_residual.result (arrived (staying g (refused g c)).1 c.self-inside.inside.0.1.1.0.state (sym (bare-kept is)) ∙ ap (λ (o : Allocator). o.state) view);
       refused = none_none c.from_residual.result (c.in_err-moved.ensures.refused ∙ c.used_block-block.ensures.counts.bytes ∙ ap (λ (o : Allocator). o.memory.bytes) view);
-      place = subst (λ (o : Allocator). SamePlace o.memory c.reallocate_block.new.memory) view (SamePlace-counted_first c.self-inside.inside.0.0.inner c.used_block-block.new.memory 1 c.used_block-block.ensures.counts c.reallocate_block.new.memory c.reallocate_block.ensures.place);
-      touches = subst (λ (o : Allocator). c.reallocate_block.new.memory.touches ≤ o.memory.touches + 66) view (touches-counted_first c.self-inside.inside.0.0.inner c.used_block-block.new.memory 1 c.used_block-block.ensures.counts c.reallocate_block.new.memory 65 c.reallocate_block.ensures.touches);
-      grow = subst (λ (o : Allocator). o.memory.touches ≤ c.reallocate_block.new.memory.touches) view (grow-counted_first c.self-inside.inside.0.0.inner c.used_block-block.new.memory 1 c.used_block-block.ensures.counts c.reallocate_block.new.memory c.reallocate_block.ensures.grow);
+      place =
+          subst (λ (o : Allocator). SamePlace o.memory c.reallocate_block.new.memory) view
+          (SamePlace-counted_first c.self-inside.inside.0.0.inner c.used_block-block.new.memory 1 c.used_block-block.ensures.counts c.reallocate_block.new.memory
+          c.reallocate_block.ensures.place);
+      touches =
+          subst (λ (o : Allocator). c.reallocate_block.new.memory.touches ≤ o.memory.touches + 66) view
+          (touches-counted_first c.self-inside.inside.0.0.inner c.used_block-block.new.memory 1 c.used_block-block.ensures.counts c.reallocate_block.new.memory 65
+          c.reallocate_block.ensures.touches);
+      grow =
+          subst (λ (o : Allocator). o.memory.touches ≤ c.reallocate_block.new.memory.touches) view
+          (grow-counted_first c.self-inside.inside.0.0.inner c.used_block-block.new.memory 1 c.used_block-block.ensures.counts c.reallocate_block.new.memory
+          c.reallocate_block.ensures.grow);
       copied =
           let before = (goal.at.returns-in_err-moved g c).After-used_block-block in
           let f = found g before in
@@ -211,12 +249,16 @@ returns-in_err-moved g c =
           let least = c.reallocate_block.ensures.copied (state g before) f.used f.stands f.used_at in
           let long = ap length (bytes_inside is c.args.self.now view (at c.args.addr) f.used f.holds) ∙ (is.stands.well_formed.used f.used f.holds.0).bytes in
           omega (arith, c.used_block-block.ensures.counts.copied, least, long, counted);
-      grow_copied = subst (λ (o : Allocator). o.memory.copied ≤ c.reallocate_block.new.memory.copied) view (grow_copied-counted_first c.self-inside.inside.0.0.inner c.used_block-block.new.memory 1 c.used_block-block.ensures.counts c.reallocate_block.new.memory c.reallocate_block.ensures.grow_copied);
+      grow_copied =
+          subst (λ (o : Allocator). o.memory.copied ≤ c.reallocate_block.new.memory.copied) view
+          (grow_copied-counted_first c.self-inside.inside.0.0.inner c.used_block-block.new.memory 1 c.used_block-block.ensures.counts c.reallocate_block.new.memory
+          c.reallocate_block.ensures.grow_copied);
       stays = λ room.
           let (u, p, held, first) = room in
           let before = (goal.at.returns-in_err-moved g c).After-used_block-block in
           let f = found g before in
-          c.reallocate_block.ensures.stays (state g before) f.used f.stands f.used_at p (stays g before u p held first) ∙ c.used_block-block.ensures.counts.copied ∙ ap (λ (o : Allocator). o.memory.copied) view;
+          c.reallocate_block.ensures.stays (state g before) f.used f.stands f.used_at p (stays g before u p held first) ∙ c.used_block-block.ensures.counts.copied
+          ∙ ap (λ (o : Allocator). o.memory.copied) view;
     }
 
 -- ---- the counts of a payload with another size
@@ -239,25 +281,44 @@ returns g c =
       live = on_some (λ to. align_at (after g c).state to ≡ Some c.args.layout.align) c.new.result c.in_ok-moved.moved c.new.ensures (seen g c).live;
       sized = on_some (λ to. c.args.layout.size ≤ length (bytes_at (after g c).state to)) c.new.result c.in_ok-moved.moved c.new.ensures (seen g c).sized;
       few = on_some (λ to. length (bytes_at (after g c).state to) < c.args.layout.size + 32) c.new.result c.in_ok-moved.moved c.new.ensures (seen g c).few;
-      kept = on_some (λ to. Keeps (bytes_at c.args.self.now.state (at c.args.addr)) (bytes_at (after g c).state to)) c.new.result c.in_ok-moved.moved c.new.ensures (seen g c).kept;
+      kept =
+          on_some (λ to. Keeps (bytes_at c.args.self.now.state (at c.args.addr)) (bytes_at (after g c).state to)) c.new.result c.in_ok-moved.moved c.new.ensures (seen g c).kept;
       new = on_some (λ to. to ≢ at c.args.addr → align_at c.args.self.now.state to ≡ None) c.new.result c.in_ok-moved.moved c.new.ensures (seen g c).new;
-      aligns = on_some (λ to. (a : ℕ) → a ≢ at c.args.addr → a ≢ to → align_at (after g c).state a ≡ align_at c.args.self.now.state a) c.new.result c.in_ok-moved.moved c.new.ensures (seen g c).aligns;
-      bytes = on_some (λ to. (a : ℕ) → a ≢ at c.args.addr → a ≢ to → bytes_at (after g c).state a ≡ bytes_at c.args.self.now.state a) c.new.result c.in_ok-moved.moved c.new.ensures (seen g c).bytes;
+      aligns =
+          on_some (λ to. (a : ℕ) → a ≢ at c.args.addr → a ≢ to → align_at (after g c).state a ≡ align_at c.args.self.now.state a) c.new.result c.in_ok-moved.moved
+          c.new.ensures (seen g c).aligns;
+      bytes =
+          on_some (λ to. (a : ℕ) → a ≢ at c.args.addr → a ≢ to → bytes_at (after g c).state a ≡ bytes_at c.args.self.now.state a) c.new.result c.in_ok-moved.moved
+          c.new.ensures (seen g c).bytes;
       room = λ count size align sized few short fits. some_answer c.new.result c.in_ok-moved.moved ((number c.new.result c.in_ok-moved.moved c.new.ensures).1 (positive g c));
       count =
-          count_resized (view_well_formed c.self.invariant c.args.self.now c.self.view_is) (after g c).state (at c.args.addr) c.args.layout.size (Some c.in_ok-moved.moved) (some_live g c)
-          (opened g.row.FLLEN g.row.SLLEN c.args.self.now (after g c) (Reallocates g.row.SLLEN c.args.self.now.state (at c.args.addr) c.args.layout.size (Some c.in_ok-moved.moved)) (done g c)).0;
+          count_resized (view_well_formed c.self.invariant c.args.self.now c.self.view_is) (after g c).state (at c.args.addr) c.args.layout.size (Some c.in_ok-moved.moved)
+          (some_live g c)
+          (opened g.row.FLLEN g.row.SLLEN c.args.self.now (after g c) (Reallocates g.row.SLLEN c.args.self.now.state (at c.args.addr) c.args.layout.size (Some c.in_ok-moved.moved))
+          (done g c)).0;
       bounds = λ count size align sized short fits.
-          sized_resized (view_well_formed c.self.invariant c.args.self.now c.self.view_is) (after g c).state count size align sized (at c.args.addr) c.args.layout.size c.args.layout.align (Some c.in_ok-moved.moved) c.requires short fits
-          (opened g.row.FLLEN g.row.SLLEN c.args.self.now (after g c) (Reallocates g.row.SLLEN c.args.self.now.state (at c.args.addr) c.args.layout.size (Some c.in_ok-moved.moved)) (done g c)).0;
+          sized_resized (view_well_formed c.self.invariant c.args.self.now c.self.view_is) (after g c).state count size align sized (at c.args.addr) c.args.layout.size
+          c.args.layout.align (Some c.in_ok-moved.moved) c.requires short fits
+          (opened g.row.FLLEN g.row.SLLEN c.args.self.now (after g c) (Reallocates g.row.SLLEN c.args.self.now.state (at c.args.addr) c.args.layout.size (Some c.in_ok-moved.moved))
+          (done g c)).0;
       chunks =
           chunks-reallocated g.row.SLLEN c.args.self.now.state (after g c).state (at c.args.addr) c.args.layout.size (Some c.in_ok-moved.moved)
-          (opened g.row.FLLEN g.row.SLLEN c.args.self.now (after g c) (Reallocates g.row.SLLEN c.args.self.now.state (at c.args.addr) c.args.layout.size (Some c.in_ok-moved.moved)) (done g c)).0;
+          (opened g.row.FLLEN g.row.SLLEN c.args.self.now (after g c) (Reallocates g.row.SLLEN c.args.self.now.state (at c.args.addr) c.args.layout.size (Some c.in_ok-moved.moved))
+          (done g c)).0;
       same = let some = positive g c in on_none c.new.result c.in_ok-moved.moved c.new.ensures (λ zero. absurd (omega arith));
       refused = let some = positive g c in on_none c.new.result c.in_ok-moved.moved c.new.ensures (λ zero. absurd (omega arith));
-      place = subst (λ (o : Allocator). SamePlace o.memory c.reallocate_block.new.memory) view (SamePlace-counted_first c.self-inside.inside.0.0.inner c.used_block-block.new.memory 1 c.used_block-block.ensures.counts c.reallocate_block.new.memory c.reallocate_block.ensures.place);
-      touches = subst (λ (o : Allocator). c.reallocate_block.new.memory.touches ≤ o.memory.touches + 66) view (touches-counted_first c.self-inside.inside.0.0.inner c.used_block-block.new.memory 1 c.used_block-block.ensures.counts c.reallocate_block.new.memory 65 c.reallocate_block.ensures.touches);
-      grow = subst (λ (o : Allocator). o.memory.touches ≤ c.reallocate_block.new.memory.touches) view (grow-counted_first c.self-inside.inside.0.0.inner c.used_block-block.new.memory 1 c.used_block-block.ensures.counts c.reallocate_block.new.memory c.reallocate_block.ensures.grow);
+      place =
+          subst (λ (o : Allocator). SamePlace o.memory c.reallocate_block.new.memory) view
+          (SamePlace-counted_first c.self-inside.inside.0.0.inner c.used_block-block.new.memory 1 c.used_block-block.ensures.counts c.reallocate_block.new.memory
+          c.reallocate_block.ensures.place);
+      touches =
+          subst (λ (o : Allocator). c.reallocate_block.new.memory.touches ≤ o.memory.touches + 66) view
+          (touches-counted_first c.self-inside.inside.0.0.inner c.used_block-block.new.memory 1 c.used_block-block.ensures.counts c.reallocate_block.new.memory 65
+          c.reallocate_block.ensures.touches);
+      grow =
+          subst (λ (o : Allocator). o.memory.touches ≤ c.reallocate_block.new.memory.touches) view
+          (grow-counted_first c.self-inside.inside.0.0.inner c.used_block-block.new.memory 1 c.used_block-block.ensures.counts c.reallocate_block.new.memory
+          c.reallocate_block.ensures.grow);
       copied =
           let before = (goal.at.returns g c).After-used_block-block in
           let f = found g before in
@@ -265,10 +326,14 @@ returns g c =
           let least = c.reallocate_block.ensures.copied (state g before) f.used f.stands f.used_at in
           let long = ap length (bytes_inside is c.args.self.now view (at c.args.addr) f.used f.holds) ∙ (is.stands.well_formed.used f.used f.holds.0).bytes in
           omega (arith, c.used_block-block.ensures.counts.copied, least, long, counted);
-      grow_copied = subst (λ (o : Allocator). o.memory.copied ≤ c.reallocate_block.new.memory.copied) view (grow_copied-counted_first c.self-inside.inside.0.0.inner c.used_block-block.new.memory 1 c.used_block-block.ensures.counts c.reallocate_block.new.memory c.reallocate_block.ensures.grow_copied);
+      grow_copied =
+          subst (λ (o : Allocator). o.memory.copied ≤ c.reallocate_block.new.memory.copied) view
+          (grow_copied-counted_first c.self-inside.inside.0.0.inner c.used_block-block.new.memory 1 c.used_block-block.ensures.counts c.reallocate_block.new.memory
+          c.reallocate_block.ensures.grow_copied);
       stays = λ room.
           let (u, p, held, first) = room in
           let before = (goal.at.returns g c).After-used_block-block in
           let f = found g before in
-          c.reallocate_block.ensures.stays (state g before) f.used f.stands f.used_at p (stays g before u p held first) ∙ c.used_block-block.ensures.counts.copied ∙ ap (λ (o : Allocator). o.memory.copied) view;
+          c.reallocate_block.ensures.stays (state g before) f.used f.stands f.used_at p (stays g before u p held first) ∙ c.used_block-block.ensures.counts.copied
+          ∙ ap (λ (o : Allocator). o.memory.copied) view;
     }

@@ -37,7 +37,9 @@ abbrev state : (g : given.Over) (c : After-used_block-block g) → State
 state g c = read_from c.self-inside.inside.0.0.inner c.self-inside.inside.0.1.1.0.state
 
 -- the payload's block, once it was found
-found : (g : given.Over) (c : After-used_block-block g) → Found g.row.FLLEN g.row.SLLEN (contents c.used_block-block.new.memory c.self-inside.inside.0.1.0) (state g c) (at c.args.addr) c.used_block-block.result c.get-payload.result c.args.layout.align
+found : (g : given.Over) (c : After-used_block-block g)
+    → Found g.row.FLLEN g.row.SLLEN (contents c.used_block-block.new.memory c.self-inside.inside.0.1.0) (state g c) (at c.args.addr) c.used_block-block.result
+    c.get-payload.result c.args.layout.align
 found g c =
     let is = IsAllocator-opened c.self-inside.view_is c.self.invariant in
     let live = live_inside is c.args.self.now (view-opened c.self-inside.view_is c.self.view_is) (at c.args.addr) c.args.layout.align c.requires in
@@ -53,13 +55,20 @@ own g c u = own-none c.used_block-block.new.memory (usable u) (whole g c)
 
 pub used_block-block-requires-clause-live : goal.used_block-block-requires-clause-live
 used_block-block-requires-clause-live g c =
-    live_in (IsAllocator-opened c.self-inside.view_is c.self.invariant).stands c.get-payload.ensures.value c.align.ensures.value (live_inside (IsAllocator-opened c.self-inside.view_is c.self.invariant) c.args.self.now (view-opened c.self-inside.view_is c.self.view_is) (at c.args.addr) c.args.layout.align c.requires)
+    live_in (IsAllocator-opened c.self-inside.view_is c.self.invariant).stands c.get-payload.ensures.value c.align.ensures.value
+    (live_inside (IsAllocator-opened c.self-inside.view_is c.self.invariant) c.args.self.now (view-opened c.self-inside.view_is c.self.view_is) (at c.args.addr)
+    c.args.layout.align c.requires)
 
 pub resize_block-requires : goal.resize_block-requires
 resize_block-requires g c =
     let before = (goal.at.resize_block-requires g c).After-used_block-block in
-    let f = found g before in
-    (omega arith, (IsValid-widest g.FLBitmap.BitPattern.width_limit (IsAllocator-opened c.self-inside.view_is c.self.invariant).valid, ((state g before, f.used, f.stands, f.used_at, own g before f.used), search rules)))
+    let f = found g before in (
+      omega arith,
+      (
+        IsValid-widest g.FLBitmap.BitPattern.width_limit (IsAllocator-opened c.self-inside.view_is c.self.invariant).valid,
+        ((state g before, f.used, f.stands, f.used_at, own g before f.used), search rules),
+      ),
+    )
 
 -- ---- the refusal
 
@@ -69,13 +78,16 @@ module _ (g : given.Over) (c : Then-not-resize_block g) where
   before = (goal.at.returns-then-not-resize_block g c).After-used_block-block
 
   stands : StandsFor g.row.FLLEN g.row.SLLEN (contents c.resize_block.new.memory c.resize_block.new.table) (state g before)
-  stands = StandsFor-unchanged c.used_block-block.new.memory c.resize_block.new.memory c.self-inside.inside.0.1.0 c.resize_block.new.table (state g before) 2 (c.resize_block.ensures.unchanged c.if-not-resize_block.true) (found g before).stands
+  stands =
+      StandsFor-unchanged c.used_block-block.new.memory c.resize_block.new.memory c.self-inside.inside.0.1.0 c.resize_block.new.table (state g before) 2
+      (c.resize_block.ensures.unchanged c.if-not-resize_block.true) (found g before).stands
 
   keeps : KeepsSpare c.self-inside.inside.0.0.inner (state g before) c.resize_block.new.memory (state g before)
   keeps =
       let counts = c.used_block-block.ensures.counts in
       let more = (c.resize_block.ensures.unchanged c.if-not-resize_block.true).0 in
-      KeepsSpare-counted c.self-inside.inside.0.0.inner c.resize_block.new.memory (more.start ∙ counts.start) (more.bytes ∙ counts.bytes) (more.out ∙ counts.out) (state g before) (state g before)
+      KeepsSpare-counted c.self-inside.inside.0.0.inner c.resize_block.new.memory (more.start ∙ counts.start) (more.bytes ∙ counts.bytes) (more.out ∙ counts.out)
+      (state g before) (state g before)
 
   refused : ReallocatesWithoutMove (state g before) (at c.args.addr) c.args.layout.size None (state g before)
   refused =
@@ -94,7 +106,9 @@ pub invariant_of-self-inside : goal.invariant_of-self-inside
 invariant_of-self-inside = none_refused
 
 pub invariant_of-self : goal.invariant_of-self
-invariant_of-self g c = IsAllocator-arrived (stands g c) c.self-inside.inside.0.1.1.0.state (sym (bare-kept (IsAllocator-opened c.self-inside.view_is c.self.invariant))) (none_refused g c) c.self.invariant.valid
+invariant_of-self g c =
+    IsAllocator-arrived (stands g c) c.self-inside.inside.0.1.1.0.state (sym (bare-kept (IsAllocator-opened c.self-inside.view_is c.self.invariant))) (none_refused g c)
+    c.self.invariant.valid
 
 -- ---- the payload with another size
 
@@ -113,15 +127,21 @@ module _ (g : given.Over) (c : After-reallocate g) where
       let (t, replans, stands, spare) = carried in
       let by = subst (λ a. Replans s f.used p a t) (there ∙ c.get-payload.ensures.value) replans in
       let told : ReallocatesWithoutMove s (at c.args.addr) c.args.layout.size (Some (at c.args.addr)) t =
-      record { block = f.used; holds = f.holds; step = subst (λ o. ReallocatesUnmovedBy s f.used o (Some (at c.args.addr)) t) (sym first) by } in
-      (t, told, stands, KeepsSpare-counted_first c.self-inside.inside.0.0.inner c.used_block-block.new.memory counts.start counts.bytes counts.out s t c.resize_block.new.memory spare)
+      record { block = f.used; holds = f.holds; step = subst (λ o. ReallocatesUnmovedBy s f.used o (Some (at c.args.addr)) t) (sym first) by } in (
+        t,
+        told,
+        stands,
+        KeepsSpare-counted_first c.self-inside.inside.0.0.inner c.used_block-block.new.memory counts.start counts.bytes counts.out s t c.resize_block.new.memory
+            spare,
+      )
 
   -- what is kept of the state is the one after
   kept : (t : State) → ReallocatesWithoutMove (state g early) (at c.args.addr) c.args.layout.size (Some (at c.args.addr)) t → c.reallocate.new.self.state ≡ bare t
   kept t step =
       let is = IsAllocator-opened c.self-inside.view_is c.self.invariant in
       c.reallocate.ensures ∙ (λ i. reallocated g.row.SLLEN (c.get-payload.ensures.value i) (c.size.ensures.value i) (sym (bare-kept is) i))
-      ∙ reallocated-bare is.stands.well_formed t (at c.args.addr) c.args.layout.size (at c.args.addr) (unmoved_is_reallocated g.row.SLLEN (state g early) t (at c.args.addr) c.args.layout.size (Some (at c.args.addr)) step).0.1
+      ∙ reallocated-bare is.stands.well_formed t (at c.args.addr) c.args.layout.size (at c.args.addr)
+      (unmoved_is_reallocated g.row.SLLEN (state g early) t (at c.args.addr) c.args.layout.size (Some (at c.args.addr)) step).0.1
 
   abbrev after : Allocator
   after = allocator c.resize_block.new.memory c.resize_block.new.table c.reallocate.new.self.state
@@ -133,12 +153,15 @@ module _ (g : given.Over) (c : After-reallocate g) where
   done : Steps g.row.FLLEN g.row.SLLEN c.args.self.now after (ReallocatesWithoutMove c.args.self.now.state (at c.args.addr) c.args.layout.size (Some (at c.args.addr)))
   done =
       let (t, step, stands, spare) = resized in
-      Steps-arrived stands c.reallocate.new.self.state (kept t step) none_resized c.args.self.now c.self-inside.inside.0.0.inner c.self-inside.inside.0.1.0 c.self-inside.inside.0.1.1.0.state (view-opened c.self-inside.view_is c.self.view_is)
+      Steps-arrived stands c.reallocate.new.self.state (kept t step) none_resized c.args.self.now c.self-inside.inside.0.0.inner c.self-inside.inside.0.1.0
+      c.self-inside.inside.0.1.1.0.state (view-opened c.self-inside.view_is c.self.view_is)
       (λ old. ReallocatesWithoutMove old (at c.args.addr) c.args.layout.size (Some (at c.args.addr))) step spare
 
   reached : Reallocates g.row.SLLEN c.args.self.now.state (at c.args.addr) c.args.layout.size (Some (at c.args.addr)) after.state
   reached =
-      let step = (opened g.row.FLLEN g.row.SLLEN c.args.self.now after (ReallocatesWithoutMove c.args.self.now.state (at c.args.addr) c.args.layout.size (Some (at c.args.addr))) done).0 in
+      let step =
+      (opened g.row.FLLEN g.row.SLLEN c.args.self.now after (ReallocatesWithoutMove c.args.self.now.state (at c.args.addr) c.args.layout.size (Some (at c.args.addr)))
+      done).0 in
       (unmoved_is_reallocated g.row.SLLEN c.args.self.now.state after.state (at c.args.addr) c.args.layout.size (Some (at c.args.addr)) step).0.1
 
   seen : SeesResized c.args.self.now.state after.state (at c.args.addr) c.args.layout.size c.args.layout.align (at c.args.addr)
@@ -156,12 +179,15 @@ pub invariant_of-self-inside-2 : goal.invariant_of-self-inside-2
 invariant_of-self-inside-2 = none_resized
 
 pub invariant_of-self-2 : goal.invariant_of-self-2
-invariant_of-self-2 g c = let (t, step, stands, spare) = resized g c in IsAllocator-arrived stands c.reallocate.new.self.state (kept g c t step) (none_resized g c) c.self.invariant.valid
+invariant_of-self-2 g c = let (t, step, stands, spare) = resized g c in
+    IsAllocator-arrived stands c.reallocate.new.self.state (kept g c t step) (none_resized g c) c.self.invariant.valid
 
 -- ---- what stays where it is refused
 
 same : (g : given.Over) (c : Then-not-resize_block g) → read_from c.resize_block.new.memory c.self-inside.inside.0.1.1.0.state ≡ c.args.self.now.state
-same g c = arrived (stands g c) c.self-inside.inside.0.1.1.0.state (sym (bare-kept (IsAllocator-opened c.self-inside.view_is c.self.invariant))) ∙ ap (λ (o : Allocator). o.state) (view-opened c.self-inside.view_is c.self.view_is)
+same g c =
+    arrived (stands g c) c.self-inside.inside.0.1.1.0.state (sym (bare-kept (IsAllocator-opened c.self-inside.view_is c.self.invariant)))
+    ∙ ap (λ (o : Allocator). o.state) (view-opened c.self-inside.view_is c.self.view_is)
 
 pub returns-then-not-resize_block : goal.returns-then-not-resize_block
 returns-then-not-resize_block g c =
@@ -169,7 +195,8 @@ returns-then-not-resize_block g c =
     let view = view-opened c.self-inside.view_is c.self.view_is in
     record {
       step =
-          Steps-arrived (stands g c) c.self-inside.inside.0.1.1.0.state (sym (bare-kept is)) (none_refused g c) c.args.self.now c.self-inside.inside.0.0.inner c.self-inside.inside.0.1.0 c.self-inside.inside.0.1.1.0.state view
+          Steps-arrived (stands g c) c.self-inside.inside.0.1.1.0.state (sym (bare-kept is)) (none_refused g c) c.args.self.now c.self-inside.inside.0.0.inner
+          c.self-inside.inside.0.1.0 c.self-inside.inside.0.1.1.0.state view
           (λ old. ReallocatesWithoutMove old (at c.args.addr) c.args.layout.size None) (refused g c) (keeps g c);
       there = tt;
       live = ap (λ s. align_at s (at c.args.addr)) (same g c) ∙ c.requires;
@@ -183,10 +210,21 @@ returns-then-not-resize_block g c =
       chunks = ap (λ (o : Allocator). o.state.chunks) view;
       same = same g c;
       refused = (c.resize_block.ensures.unchanged c.if-not-resize_block.true).0.bytes ∙ c.used_block-block.ensures.counts.bytes ∙ ap (λ (o : Allocator). o.memory.bytes) view;
-      place = subst (λ (o : Allocator). SamePlace o.memory c.resize_block.new.memory) view (SamePlace-counted_first c.self-inside.inside.0.0.inner c.used_block-block.new.memory 1 c.used_block-block.ensures.counts c.resize_block.new.memory (SamePlace-costs c.resize_block.ensures.costs));
-      touches = subst (λ (o : Allocator). c.resize_block.new.memory.touches ≤ o.memory.touches + 25) view (touches-counted_first c.self-inside.inside.0.0.inner c.used_block-block.new.memory 1 c.used_block-block.ensures.counts c.resize_block.new.memory 24 c.resize_block.ensures.costs.touches);
-      grow = subst (λ (o : Allocator). o.memory.touches ≤ c.resize_block.new.memory.touches) view (grow-counted_first c.self-inside.inside.0.0.inner c.used_block-block.new.memory 1 c.used_block-block.ensures.counts c.resize_block.new.memory c.resize_block.ensures.costs.grow);
-      copied = copied-counted_first c.self-inside.inside.0.0.inner c.used_block-block.new.memory 1 c.used_block-block.ensures.counts c.resize_block.new.memory (copied_none c.resize_block.ensures.costs) ∙ ap (λ (o : Allocator). o.memory.copied) view;
+      place =
+          subst (λ (o : Allocator). SamePlace o.memory c.resize_block.new.memory) view
+          (SamePlace-counted_first c.self-inside.inside.0.0.inner c.used_block-block.new.memory 1 c.used_block-block.ensures.counts c.resize_block.new.memory
+          (SamePlace-costs c.resize_block.ensures.costs));
+      touches =
+          subst (λ (o : Allocator). c.resize_block.new.memory.touches ≤ o.memory.touches + 25) view
+          (touches-counted_first c.self-inside.inside.0.0.inner c.used_block-block.new.memory 1 c.used_block-block.ensures.counts c.resize_block.new.memory 24
+          c.resize_block.ensures.costs.touches);
+      grow =
+          subst (λ (o : Allocator). o.memory.touches ≤ c.resize_block.new.memory.touches) view
+          (grow-counted_first c.self-inside.inside.0.0.inner c.used_block-block.new.memory 1 c.used_block-block.ensures.counts c.resize_block.new.memory
+          c.resize_block.ensures.costs.grow);
+      copied =
+          copied-counted_first c.self-inside.inside.0.0.inner c.used_block-block.new.memory 1 c.used_block-block.ensures.counts c.resize_block.new.memory
+          (copied_none c.resize_block.ensures.costs) ∙ ap (λ (o : Allocator). o.memory.copied) view;
     }
 
 -- ---- the counts of a payload with another size
@@ -203,14 +241,28 @@ returns g c =
       kept = (seen g c).kept;
       aligns = λ i a. aligned g c a i;
       bytes = λ a apart. (seen g c).bytes a apart apart;
-      count = let r = reached g c in count_resized (view_well_formed c.self.invariant c.args.self.now c.self.view_is) (after g c).state (at c.args.addr) c.args.layout.size (Some (at c.args.addr)) (r.block, r.holds) r;
+      count = let r = reached g c in
+          count_resized (view_well_formed c.self.invariant c.args.self.now c.self.view_is) (after g c).state (at c.args.addr) c.args.layout.size (Some (at c.args.addr))
+          (r.block, r.holds) r;
       bounds = λ count size align sized short fits.
-          sized_resized (view_well_formed c.self.invariant c.args.self.now c.self.view_is) (after g c).state count size align sized (at c.args.addr) c.args.layout.size c.args.layout.align (Some (at c.args.addr)) c.requires short fits (reached g c);
+          sized_resized (view_well_formed c.self.invariant c.args.self.now c.self.view_is) (after g c).state count size align sized (at c.args.addr) c.args.layout.size
+          c.args.layout.align (Some (at c.args.addr)) c.requires short fits (reached g c);
       chunks = chunks-reallocated g.row.SLLEN c.args.self.now.state (after g c).state (at c.args.addr) c.args.layout.size (Some (at c.args.addr)) (reached g c);
       same = tt;
       refused = tt;
-      place = subst (λ (o : Allocator). SamePlace o.memory c.resize_block.new.memory) view (SamePlace-counted_first c.self-inside.inside.0.0.inner c.used_block-block.new.memory 1 c.used_block-block.ensures.counts c.resize_block.new.memory (SamePlace-costs c.resize_block.ensures.costs));
-      touches = subst (λ (o : Allocator). c.resize_block.new.memory.touches ≤ o.memory.touches + 25) view (touches-counted_first c.self-inside.inside.0.0.inner c.used_block-block.new.memory 1 c.used_block-block.ensures.counts c.resize_block.new.memory 24 c.resize_block.ensures.costs.touches);
-      grow = subst (λ (o : Allocator). o.memory.touches ≤ c.resize_block.new.memory.touches) view (grow-counted_first c.self-inside.inside.0.0.inner c.used_block-block.new.memory 1 c.used_block-block.ensures.counts c.resize_block.new.memory c.resize_block.ensures.costs.grow);
-      copied = copied-counted_first c.self-inside.inside.0.0.inner c.used_block-block.new.memory 1 c.used_block-block.ensures.counts c.resize_block.new.memory (copied_none c.resize_block.ensures.costs) ∙ ap (λ (o : Allocator). o.memory.copied) view;
+      place =
+          subst (λ (o : Allocator). SamePlace o.memory c.resize_block.new.memory) view
+          (SamePlace-counted_first c.self-inside.inside.0.0.inner c.used_block-block.new.memory 1 c.used_block-block.ensures.counts c.resize_block.new.memory
+          (SamePlace-costs c.resize_block.ensures.costs));
+      touches =
+          subst (λ (o : Allocator). c.resize_block.new.memory.touches ≤ o.memory.touches + 25) view
+          (touches-counted_first c.self-inside.inside.0.0.inner c.used_block-block.new.memory 1 c.used_block-block.ensures.counts c.resize_block.new.memory 24
+          c.resize_block.ensures.costs.touches);
+      grow =
+          subst (λ (o : Allocator). o.memory.touches ≤ c.resize_block.new.memory.touches) view
+          (grow-counted_first c.self-inside.inside.0.0.inner c.used_block-block.new.memory 1 c.used_block-block.ensures.counts c.resize_block.new.memory
+          c.resize_block.ensures.costs.grow);
+      copied =
+          copied-counted_first c.self-inside.inside.0.0.inner c.used_block-block.new.memory 1 c.used_block-block.ensures.counts c.resize_block.new.memory
+          (copied_none c.resize_block.ensures.costs) ∙ ap (λ (o : Allocator). o.memory.copied) view;
     }

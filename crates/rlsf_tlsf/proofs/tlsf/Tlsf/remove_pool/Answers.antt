@@ -30,16 +30,20 @@ remove_chunks-requires g c =
 
 -- the chunks are taken out
 removing : (g : given.Over) (c : After-remove_chunks g)
-    → StandsFor g.row.FLLEN g.row.SLLEN (contents c.remove_chunks.new.memory c.remove_chunks.new.table) (removed (walked c.args.range) (read_from c.self-inside.inside.0.0.inner c.self-inside.inside.0.1.1.0.state))
-    × KeepsSpare c.self-inside.inside.0.0.inner (read_from c.self-inside.inside.0.0.inner c.self-inside.inside.0.1.1.0.state) c.remove_chunks.new.memory (read_from c.self-inside.inside.0.0.inner c.self-inside.inside.0.1.1.0.state)
+    → StandsFor g.row.FLLEN g.row.SLLEN (contents c.remove_chunks.new.memory c.remove_chunks.new.table)
+    (removed (walked c.args.range) (read_from c.self-inside.inside.0.0.inner c.self-inside.inside.0.1.1.0.state))
+    × KeepsSpare c.self-inside.inside.0.0.inner (read_from c.self-inside.inside.0.0.inner c.self-inside.inside.0.1.1.0.state) c.remove_chunks.new.memory
+    (read_from c.self-inside.inside.0.0.inner c.self-inside.inside.0.1.1.0.state)
 removing g c =
     let view = view-opened c.self-inside.view_is c.self.view_is in
     let row = subst (λ (o : Allocator). IsRow o.state (walked c.args.range)) (sym view) c.requires.row in
     let idle = subst (λ (o : Allocator). IsIdle o.state (walked c.args.range)) (sym view) c.requires.idle in
-    c.remove_chunks.ensures.step (read_from c.self-inside.inside.0.0.inner c.self-inside.inside.0.1.1.0.state) (IsAllocator-opened c.self-inside.view_is c.self.invariant).stands row idle
+    c.remove_chunks.ensures.step (read_from c.self-inside.inside.0.0.inner c.self-inside.inside.0.1.1.0.state) (IsAllocator-opened c.self-inside.view_is c.self.invariant).stands
+    row idle
 
 -- what is kept of the state is the one without them
-kept : (g : given.Over) (c : After-remove g) → c.remove.new.self.state ≡ bare (removed (walked c.args.range) (read_from c.self-inside.inside.0.0.inner c.self-inside.inside.0.1.1.0.state))
+kept : (g : given.Over) (c : After-remove g)
+    → c.remove.new.self.state ≡ bare (removed (walked c.args.range) (read_from c.self-inside.inside.0.0.inner c.self-inside.inside.0.1.1.0.state))
 kept g c = c.remove.ensures ∙ ap (removed (walked c.args.range)) (sym (bare-kept (IsAllocator-opened c.self-inside.view_is c.self.invariant)))
 
 -- nothing is out after it
@@ -60,7 +64,8 @@ after g c = allocator c.remove_chunks.new.memory c.remove_chunks.new.table c.rem
 done : (g : given.Over) (c : After-remove g) → Steps g.row.FLLEN g.row.SLLEN c.args.self.now (after g c) (Removes c.args.self.now.state (walked c.args.range))
 done g c =
     let (stands, spare) = removing g (goal.at.returns g c).After-remove_chunks in
-    Steps-arrived stands c.remove.new.self.state (kept g c) (none g c) c.args.self.now c.self-inside.inside.0.0.inner c.self-inside.inside.0.1.0 c.self-inside.inside.0.1.1.0.state (view-opened c.self-inside.view_is c.self.view_is)
+    Steps-arrived stands c.remove.new.self.state (kept g c) (none g c) c.args.self.now c.self-inside.inside.0.0.inner c.self-inside.inside.0.1.0 c.self-inside.inside.0.1.1.0.state
+    (view-opened c.self-inside.view_is c.self.view_is)
     (λ old. Removes old (walked c.args.range)) refl (λ a from to here there. spare a from to here here)
 
 stepped : (g : given.Over) (c : After-remove g) → Removes c.args.self.now.state (walked c.args.range) (after g c).state

@@ -10,5 +10,6 @@ use Rattle.rlsf_tlsf.proofs.tlsf.Tlsf.sl_bitmap.Goals as goal
 
 pub returns : goal.returns
 returns g c =
-    subst (λ (o : Allocator). (sl : ℕ) → bit (g.SLBitmap.BitPattern.pattern c.sl_bitmap.result) sl ≡ list_any (has_class g.row.SLLEN (class_at c.args.fl sl)) o.state.free) c.self.view_is
+    subst (λ (o : Allocator). (sl : ℕ) → bit (g.SLBitmap.BitPattern.pattern c.sl_bitmap.result) sl ≡ list_any (has_class g.row.SLLEN (class_at c.args.fl sl)) o.state.free)
+    c.self.view_is
     (λ sl. places_of-row g.row.FLLEN g.row.SLLEN _ _ c.self.invariant.stands c.args.fl c.requires _ c.sl_bitmap.ensures.within c.sl_bitmap.ensures.past sl)
