@@ -1,3 +1,4 @@
+-- The definitions that callers cite, re-exported. Read `Words` first.
 pub mod Live
 pub mod Sources
 pub mod Words

@@ -50,9 +50,11 @@ nothing_came (growth_came len) is = absurd (true≢false (sym is))
 nothing_came (range_came r) is = absurd (true≢false (sym is))
 
 -- so the state stays
-pub extended_none : {S : Type 0} {fllen sllen : ℕ} {terms : S → Terms} {owes : S → List Range → Type 0} {leads : S → Note → S → Type 0} {w after : FlexContents S} {e : ℕ} {more : Bool} → Extended fllen sllen terms owes leads w after e more → more ≡ false
+pub extended_none : {S : Type 0} {fllen sllen : ℕ} {terms : S → Terms} {owes : S → List Range → Type 0} {leads : S → Note → S → Type 0} {w after : FlexContents S}
+    {e : ℕ} {more : Bool} → Extended fllen sllen terms owes leads w after e more → more ≡ false
     → after.state ≡ w.state
-extended_none {fllen = fllen} {terms = terms} {w = w} {after = after} h is = subst (λ o. TakesIn fllen (terms w.source) w.state o after.state) (nothing_came h.outcome (sym is ∙ h.came)) h.extends.after
+extended_none {fllen = fllen} {terms = terms} {w = w} {after = after} h is =
+    subst (λ o. TakesIn fllen (terms w.source) w.state o after.state) (nothing_came h.outcome (sym is ∙ h.came)) h.extends.after
 
 -- a layout was tried in the room that there is, and found none; nothing has changed
 pub record Tried {S : Type 0} (fllen sllen : ℕ) (terms : S → Terms) (owes : S → List Range → Type 0) (size align : ℕ) (v w : FlexContents S) : Type 0 where
@@ -64,7 +66,7 @@ pub record Tried {S : Type 0} (fllen sllen : ℕ) (terms : S → Terms) (owes : 
   pub spare : KeepsSpare v.memory v.state.machine w.memory v.state.machine
 
 module _ {S : Type 0} {fllen sllen : ℕ} {terms : S → Terms} {owes : S → List Range → Type 0} (size align : ℕ) where
-  -- what a step of the machine over a source is, once its allocation was made
+  -- what a step of the reference model over a source is, once its allocation was made
   module _ {v : FlexContents S} (new : Allocator) (place : SamePlace v.memory new.memory) (h : FlexStandsFor fllen sllen terms owes v) (whole : v.memory.out ≡ []) where
     module _ (reply : Option ℕ) (did : Steps fllen sllen (allocator_of v) new (Allocates sllen v.state.machine size align reply)) where
       pub allocated_stands : FlexStandsFor fllen sllen terms owes (with_allocator v new)
@@ -103,24 +105,30 @@ module _ {S : Type 0} {fllen sllen : ℕ} {terms : S → Terms} {owes : S → Li
   -- there is no room, and the source is asked
   module _ {v w : FlexContents S} (tried : Tried fllen sllen terms owes size align v w) where
     -- no pool would do, so nothing is asked
-    pub nothing_asked : (leads : S → Note → S → Type 0) → pool_size_to_contain_allocation fllen sllen size align ≡ None → FlexSteps fllen sllen terms owes leads v w (FlexAllocates fllen sllen (terms v.source) v.state size align None)
+    pub nothing_asked : (leads : S → Note → S → Type 0) → pool_size_to_contain_allocation fllen sllen size align ≡ None
+        → FlexSteps fllen sllen terms owes leads v w (FlexAllocates fllen sllen (terms v.source) v.state size align None)
     unfolding FlexSteps
     nothing_asked leads none = (
       [],
-      record { full = tried.full; extends = subst (λ o. Extends fllen (terms v.source) v.state o refused [] w.state) (sym none) (record { possible = tt; asked = refl; after = tried.same }) },
+      record {
+        full = tried.full;
+        extends = subst (λ o. Extends fllen (terms v.source) v.state o refused [] w.state) (sym none) (record { possible = tt; asked = refl; after = tried.same });
+      },
       tried.source,
       λ n i. absurd i,
       subst (λ (s : FlexState). KeepsOutside v.memory v.state.pools [] w.memory s.pools) (sym tried.same) (KeepsOutside-alone v.memory w.memory v.state.pools tried.still),
       tried.stands,
-      subst (λ (s : FlexState). KeepsSpareButFooter (terms v.source) v.memory v.state w.memory s) (sym tried.same) (KeepsSpareButFooter-all (terms v.source) v.memory w.memory v.state v.state tried.spare),
+      subst (λ (s : FlexState). KeepsSpareButFooter (terms v.source) v.memory v.state w.memory s) (sym tried.same)
+          (KeepsSpareButFooter-all (terms v.source) v.memory w.memory v.state v.state tried.spare),
     )
 
-    module _ {leads : S → Note → S → Type 0} {e : ℕ} (wanted : pool_size_to_contain_allocation fllen sllen size align ≡ Some e) {after : FlexContents S} {more : Bool} (h : Extended fllen sllen terms owes leads w after e more) where
+    module _ {leads : S → Note → S → Type 0} {e : ℕ} (wanted : pool_size_to_contain_allocation fllen sllen size align ≡ Some e) {after : FlexContents S} {more : Bool}
+        (h : Extended fllen sllen terms owes leads w after e more) where
       asked_extends : Extends fllen (terms v.source) v.state (Some e) h.outcome h.notes after.state
       asked_extends = subst (λ (s : FlexState). Extends fllen (terms v.source) s (Some e) h.outcome h.notes after.state) tried.same
           (subst (λ x. Extends fllen (terms x) w.state (Some e) h.outcome h.notes after.state) tried.source h.extends)
 
-      -- what was asked is what the machine asks
+      -- what was asked is what the reference model asks
       pub asks : Asks fllen sllen (terms v.source) v.state size align h.outcome h.notes after.state
       asks = record { full = tried.full; extends = subst (λ o. Extends fllen (terms v.source) v.state o h.outcome h.notes after.state) (sym wanted) asked_extends }
 
@@ -128,24 +136,40 @@ module _ {S : Type 0} {fllen sllen : ℕ} {terms : S → Terms} {owes : S → Li
       asked_by = subst (λ x. LeadsBy leads x h.notes after.source) tried.source h.leads_by
 
       pub asked_answers : MayAnswerAll (terms v.source) v.state.pools h.notes
-      asked_answers = subst (λ (s : FlexState). MayAnswerAll (terms v.source) s.pools h.notes) tried.same (subst (λ x. MayAnswerAll (terms x) w.state.pools h.notes) tried.source h.answers)
+      asked_answers =
+          subst (λ (s : FlexState). MayAnswerAll (terms v.source) s.pools h.notes) tried.same (subst (λ x. MayAnswerAll (terms x) w.state.pools h.notes) tried.source h.answers)
 
       pub asked_outside : KeepsOutsideNow v.memory v.state.pools after.memory after.state.pools
-      asked_outside = KeepsOutsideNow-then v.memory w.memory after.memory v.state.pools v.state.pools after.state.pools tried.still (subst (λ (s : FlexState). KeepsOutsideNow w.memory s.pools after.memory after.state.pools) tried.same h.outside)
+      asked_outside =
+          KeepsOutsideNow-then v.memory w.memory after.memory v.state.pools v.state.pools after.state.pools tried.still
+          (subst (λ (s : FlexState). KeepsOutsideNow w.memory s.pools after.memory after.state.pools) tried.same h.outside)
 
       -- what keeps the bytes outside of the ranges keeps those outside of all that were outstanding
       pub asked_noted : (n : Space) → KeepsOutsideNow v.memory v.state.pools n after.state.pools → KeepsOutside v.memory v.state.pools h.notes n after.state.pools
-      asked_noted n = KeepsOutside-asked fllen (terms v.source) v.state after.state e (subst (λ (s : FlexState). IsNewest (terms v.source) s.kept s.pools s.machine.chunks) tried.same (subst (λ x. IsNewest (terms x) w.state.kept w.state.pools w.state.machine.chunks) tried.source tried.stands.well_formed.newest))
+      asked_noted n =
+          KeepsOutside-asked fllen (terms v.source) v.state after.state e
+          (subst (λ (s : FlexState). IsNewest (terms v.source) s.kept s.pools s.machine.chunks) tried.same
+          (subst (λ x. IsNewest (terms x) w.state.kept w.state.pools w.state.machine.chunks) tried.source tried.stands.well_formed.newest))
           v.memory n asked_extends
 
       pub asked_spare : KeepsSpareButFooter (terms v.source) v.memory v.state after.memory after.state
-      asked_spare = KeepsSpareButFooter-behind (terms v.source) v.memory w.memory after.memory v.state after.state tried.still.place tried.spare (subst (λ (s : FlexState). KeepsSpareButFooter (terms v.source) w.memory s after.memory after.state) tried.same
+      asked_spare =
+          KeepsSpareButFooter-behind (terms v.source) v.memory w.memory after.memory v.state after.state tried.still.place tried.spare
+          (subst (λ (s : FlexState). KeepsSpareButFooter (terms v.source) w.memory s after.memory after.state) tried.same
           (subst (λ x. KeepsSpareButFooter (terms x) w.memory w.state after.memory after.state) tried.source h.spare))
 
       -- nothing came
       pub nothing_more : more ≡ false → FlexSteps fllen sllen terms owes leads v after (FlexAllocates fllen sllen (terms v.source) v.state size align None)
       unfolding FlexSteps
-      nothing_more is = (h.notes, subst (λ o. Asks fllen sllen (terms v.source) v.state size align o h.notes after.state) (nothing_came h.outcome (sym is ∙ h.came)) asks, asked_by, asked_answers, asked_noted after.memory asked_outside, h.stands, asked_spare)
+      nothing_more is = (
+        h.notes,
+        subst (λ o. Asks fllen sllen (terms v.source) v.state size align o h.notes after.state) (nothing_came h.outcome (sym is ∙ h.came)) asks,
+        asked_by,
+        asked_answers,
+        asked_noted after.memory asked_outside,
+        h.stands,
+        asked_spare,
+      )
 
       module _ {fl_bits sl_bits : ℕ} (valid : IsValid fl_bits sl_bits fllen sllen) (is : more ≡ true) where
         came : is_more h.outcome ≡ true
@@ -155,7 +179,8 @@ module _ {S : Type 0} {fllen sllen : ℕ} {terms : S → Terms} {owes : S → Li
         pub more_is_found : {t : State} → Allocates sllen after.state.machine size align None t → ⊥
         more_is_found none = pool_has_a_choice fl_bits sl_bits fllen sllen size align e after.state.machine valid wanted (h.room came) none.0
 
-        pub allocated_in_more : (last : Allocator) → SamePlace after.memory last.memory → v.memory.out ≡ [] → (reply : Option ℕ) → Steps fllen sllen (allocator_of after) last (Allocates sllen after.state.machine size align reply)
+        pub allocated_in_more : (last : Allocator) → SamePlace after.memory last.memory → v.memory.out ≡ [] → (reply : Option ℕ)
+            → Steps fllen sllen (allocator_of after) last (Allocates sllen after.state.machine size align reply)
             → FlexSteps fllen sllen terms owes leads v (with_allocator after last) (FlexAllocates fllen sllen (terms v.source) v.state size align reply)
         unfolding FlexSteps
         allocated_in_more last place whole None did = absurd (more_is_found (opened _ _ _ did).0)
@@ -164,7 +189,9 @@ module _ {S : Type 0} {fllen sllen : ℕ} {terms : S → Terms} {owes : S → Li
           inr (record { outcome = h.outcome; meanwhile = after.state; asks = asks; more = came; machine = last.state; allocates = (opened _ _ _ did).0; after = refl }),
           asked_by,
           asked_answers,
-          asked_noted last.memory (KeepsOutsideNow-then v.memory after.memory last.memory v.state.pools after.state.pools after.state.pools asked_outside (allocated_outside last place h.stands (asked_outside.place.3 whole) (Some addr) did)),
+          asked_noted last.memory (KeepsOutsideNow-then v.memory after.memory last.memory v.state.pools after.state.pools after.state.pools asked_outside
+              (allocated_outside last place h.stands (asked_outside.place.3 whole) (Some addr) did)),
           allocated_stands last place h.stands (asked_outside.place.3 whole) (Some addr) did,
-          KeepsSpareButFooter-before (terms v.source) v.memory after.memory last.memory v.state after.state asked_outside.place asked_spare last.state (chunks-allocated sllen after.state.machine last.state size align (Some addr) (opened _ _ _ did).0) (opened _ _ _ did).2,
+          KeepsSpareButFooter-before (terms v.source) v.memory after.memory last.memory v.state after.state asked_outside.place asked_spare last.state
+              (chunks-allocated sllen after.state.machine last.state size align (Some addr) (opened _ _ _ did).0) (opened _ _ _ did).2,
         )

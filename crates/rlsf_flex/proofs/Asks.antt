@@ -1,5 +1,6 @@
 -- The questions of a growth, one after another.
-use Rattle.std.proofs.Common.{◌≡◌, ℕ, ◌+◌, ◌^◌, ◌<◌, Bool, true, false, true≢false, cond, List, [], ◌++◌, append-nil, ◌∷◌, Option, Some, None, IfNone, refl, sym, ◌∙◌, ap, subst, inl, inr}
+use Rattle.std.proofs.Common.{◌≡◌, ℕ, ◌+◌, ◌^◌, ◌<◌, Bool, true, false, true≢false, cond, List, [], ◌++◌, append-nil, ◌∷◌, Option, Some, None}
+use Rattle.std.proofs.Common.{IfNone, refl, sym, ◌∙◌, ap, subst, inl, inr}
 use Rattle.std.specs.Option.{is_some, SomeIff}
 use Rattle.std.proofs.lemmas.Bool.{cases_lt, false≢true, le-ltb, lt-ltb}
 use Rattle.std.proofs.lemmas.Option.{none-some, same_Some}
@@ -10,7 +11,8 @@ use Rattle.rlsf_flex.specs.StandsFor.{FlexContents, FlexStandsFor}
 use Rattle.rlsf_flex.specs.Steps.Growth.{AskedGrowth, AskedRange, Extended, MayCome, Took, outcome_of_growth, outcome_of_range}
 use Rattle.rlsf_machine.specs.Answers.{MayAnswer, MayAnswerAll}
 use Rattle.rlsf_machine.specs.FlexState.{FlexState, KeptPool}
-use Rattle.rlsf_machine.specs.Growth.{IsPossible, Questions, growth_came, growth_note, growth_question, if_fits, is_more, notes_of, nothing, questions, questions_for, questions_kept, range_length, range_note, refused, TakesIn}
+use Rattle.rlsf_machine.specs.Growth.{IsPossible, Questions, growth_came, growth_note, growth_question, if_fits, is_more, notes_of, nothing, questions, questions_for}
+use Rattle.rlsf_machine.specs.Growth.{questions_kept, range_length, range_note, refused, TakesIn}
 use Rattle.rlsf_machine.specs.Note.{Note, LeadsBy, alloc, grow}
 use Rattle.rlsf_machine.specs.Terms.{Terms}
 use Rattle.rlsf_machine.proofs.Coverage.{IsIn-append}
@@ -33,19 +35,22 @@ is_asked None some = absurd (some refl)
 is_asked (Some x) some = refl
 
 -- a range comes only where one was asked for
-range_possible : (growth : Option (Range × ℕ)) (range : Option ℕ) (answer : Option Range) → (range ≡ None → answer ≡ None) → IsPossible (record { growth = growth; range = range }) (outcome_of_range answer)
+range_possible : (growth : Option (Range × ℕ)) (range : Option ℕ) (answer : Option Range) → (range ≡ None → answer ≡ None)
+    → IsPossible (record { growth = growth; range = range }) (outcome_of_range answer)
 range_possible growth range None asked = tt
 range_possible growth range (Some r) asked = is_asked range (λ none. none-some r (sym (asked none)))
 
 -- the notes where no growth came
-range_notes : (growth : Option (Range × ℕ)) (range : Option ℕ) (answer : Option Range) → growth_note growth None ++ range_note range answer ≡ notes_of (record { growth = growth; range = range }) (outcome_of_range answer)
+range_notes : (growth : Option (Range × ℕ)) (range : Option ℕ) (answer : Option Range)
+    → growth_note growth None ++ range_note range answer ≡ notes_of (record { growth = growth; range = range }) (outcome_of_range answer)
 range_notes growth range None = refl
 range_notes growth range (Some r) = refl
 
 -- ---- the answers are such as a source may give
 
 -- the answer to the question for growth, if there is one
-growth_note-answers : (t : Terms) (owed : List Range) (k : KeptPool) (n : ℕ) (answer : Option ℕ) → MayAnswer t owed (grow k.range n answer) → MayAnswerAll t owed (growth_note (growth_question t k n) answer)
+growth_note-answers : (t : Terms) (owed : List Range) (k : KeptPool) (n : ℕ) (answer : Option ℕ) → MayAnswer t owed (grow k.range n answer)
+    → MayAnswerAll t owed (growth_note (growth_question t k n) answer)
 growth_note-answers t owed k n answer may = go t.grow
   where
     go : (b : Bool) → MayAnswerAll t owed (growth_note (cond b (Some (k.range, n)) None) answer)
@@ -53,7 +58,8 @@ growth_note-answers t owed k n answer may = go t.grow
     go false x i = absurd i
 
 -- the answer to the question for a range, if there is one
-range_note-answers : (t : Terms) (s : FlexState) (e : ℕ) (q : Option ℕ) → range_length t e ≡ q → (answer : Option Range) → MayCome t s e (outcome_of_range answer) → MayAnswerAll t s.pools (range_note q answer)
+range_note-answers : (t : Terms) (s : FlexState) (e : ℕ) (q : Option ℕ) → range_length t e ≡ q → (answer : Option Range) → MayCome t s e (outcome_of_range answer)
+    → MayAnswerAll t s.pools (range_note q answer)
 range_note-answers t s e None is answer may x i = absurd i
 range_note-answers t s e (Some n) is None may x i = elim i [ inl same ↦ subst (MayAnswer t s.pools) (sym same) tt | inr none ↦ absurd none ]
 range_note-answers t s e (Some n) is (Some r) may x i = elim i [ inl same ↦ subst (MayAnswer t s.pools) (sym same) (may n is) | inr none ↦ absurd none ]
@@ -101,8 +107,10 @@ sum_is None n past = sym (sum_past None n past refl)
 sum_is (Some m) n fits = sym (sum_fits (Some m) n m fits refl).0
 
 -- the pool that is kept would be too long, so nothing is asked
-pub extended_past : {S : Type 0} {fllen sllen : ℕ} {terms : S → Terms} {owes : S → List Range → Type 0} {leads : S → Note → S → Type 0} {before : FlexContents S} {e : ℕ} {k : KeptPool}
-    → before.state.kept ≡ Some k → if_fits (k.len + e) ≡ None → FlexStandsFor fllen sllen terms owes before → Extended fllen sllen terms owes leads before before e false
+pub extended_past : {S : Type 0} {fllen sllen : ℕ} {terms : S → Terms} {owes : S → List Range → Type 0} {leads : S → Note → S → Type 0} {before : FlexContents S}
+    {e : ℕ} {k : KeptPool}
+    → before.state.kept ≡ Some k → if_fits (k.len + e) ≡ None → FlexStandsFor fllen sllen terms owes before
+    → Extended fllen sllen terms owes leads before before e false
 extended_past {terms = terms} {before = before} {e = e} {k = k} is_kept past stands =
     let t = terms before.source in
     let q : questions t before.state.kept (Some e) ≡ nothing = ap (λ o. questions_for t o e) is_kept ∙ ap (λ o. questions_kept t k e o) past in
@@ -121,7 +129,8 @@ extended_past {terms = terms} {before = before} {e = e} {k = k} is_kept past sta
 
 module _ {S : Type 0} {fllen sllen : ℕ} {terms : S → Terms} {owes : S → List Range → Type 0} {leads : S → Note → S → Type 0} {e : ℕ} where
   -- no range was asked for
-  pub AskedRange-none : {v w : FlexContents S} → range_length (terms v.source) e ≡ None → w.source ≡ v.source → Took fllen sllen terms owes v w e refused → AskedRange fllen sllen terms owes leads v w e None
+  pub AskedRange-none : {v w : FlexContents S} → range_length (terms v.source) e ≡ None → w.source ≡ v.source → Took fllen sllen terms owes v w e refused
+      → AskedRange fllen sllen terms owes leads v w e None
   AskedRange-none {v} {w} none same took = record {
     notes = subst (λ q. LeadsBy leads v.source (range_note q None) w.source) (sym none) same;
     asked = λ _. refl;
@@ -129,7 +138,8 @@ module _ {S : Type 0} {fllen sllen : ℕ} {terms : S → Terms} {owes : S → Li
   }
 
   -- one was asked for
-  pub AskedRange-asked : {v w : FlexContents S} {n : ℕ} {answer : Option Range} → range_length (terms v.source) e ≡ Some n → leads v.source (alloc n answer) w.source → Took fllen sllen terms owes v w e (outcome_of_range answer)
+  pub AskedRange-asked : {v w : FlexContents S} {n : ℕ} {answer : Option Range} → range_length (terms v.source) e ≡ Some n → leads v.source (alloc n answer) w.source
+      → Took fllen sllen terms owes v w e (outcome_of_range answer)
       → AskedRange fllen sllen terms owes leads v w e answer
   AskedRange-asked {v} {w} {n} {answer} is led took = record {
     notes = subst (λ q. LeadsBy leads v.source (range_note q answer) w.source) (sym is) (one_note leads v.source w.source (alloc n answer) led);
@@ -139,7 +149,8 @@ module _ {S : Type 0} {fllen sllen : ℕ} {terms : S → Terms} {owes : S → Li
 
   module _ (k : KeptPool) (n : ℕ) where
     -- no growth was asked for
-    pub AskedGrowth-none : {v w : FlexContents S} → (terms v.source).grow ≡ false → w.source ≡ v.source → Took fllen sllen terms owes v w e refused → AskedGrowth fllen sllen terms owes leads v w k n e None
+    pub AskedGrowth-none : {v w : FlexContents S} → (terms v.source).grow ≡ false → w.source ≡ v.source → Took fllen sllen terms owes v w e refused
+        → AskedGrowth fllen sllen terms owes leads v w k n e None
     AskedGrowth-none {v} {w} fixed same took = record {
       notes = subst (λ (b : Bool). LeadsBy leads v.source (growth_note (cond b (Some (k.range, n)) None) None) w.source) (sym fixed) same;
       asked = λ _. refl;
@@ -147,7 +158,8 @@ module _ {S : Type 0} {fllen sllen : ℕ} {terms : S → Terms} {owes : S → Li
     }
 
     -- growth was asked for
-    pub AskedGrowth-asked : {v w : FlexContents S} {answer : Option ℕ} → (terms v.source).grow ≡ true → leads v.source (grow k.range n answer) w.source → Took fllen sllen terms owes v w e (outcome_of_growth answer)
+    pub AskedGrowth-asked : {v w : FlexContents S} {answer : Option ℕ} → (terms v.source).grow ≡ true → leads v.source (grow k.range n answer) w.source
+        → Took fllen sllen terms owes v w e (outcome_of_growth answer)
         → AskedGrowth fllen sllen terms owes leads v w k n e answer
     AskedGrowth-asked {v} {w} {answer} grows led took =
         let is : growth_question (terms v.source) k n ≡ Some (k.range, n) = ap (λ (b : Bool). cond b (Some (k.range, n)) None) grows in
@@ -157,9 +169,11 @@ module _ {S : Type 0} {fllen sllen : ℕ} {terms : S → Terms} {owes : S → Li
           took = took;
         }
 
-module _ {S : Type 0} {fllen sllen : ℕ} {terms : S → Terms} {owes : S → List Range → Type 0} {leads : S → Note → S → Type 0} {before after : FlexContents S} {e : ℕ} where
+module _ {S : Type 0} {fllen sllen : ℕ} {terms : S → Terms} {owes : S → List Range → Type 0} {leads : S → Note → S → Type 0} {before after : FlexContents S}
+    {e : ℕ} where
   -- no pool is kept
-  pub extended_first : {answer : Option Range} {more : Bool} → before.state.kept ≡ None → more ≡ is_some answer → AskedRange fllen sllen terms owes leads before after e answer → Extended fllen sllen terms owes leads before after e more
+  pub extended_first : {answer : Option Range} {more : Bool} → before.state.kept ≡ None → more ≡ is_some answer
+      → AskedRange fllen sllen terms owes leads before after e answer → Extended fllen sllen terms owes leads before after e more
   extended_first {answer} none told h =
       let t = terms before.source in
       let q = questions-first t before.state.kept e none in
@@ -180,8 +194,10 @@ module _ {S : Type 0} {fllen sllen : ℕ} {terms : S → Terms} {owes : S → Li
         room = h.took.room;
       }
 
-  module _ {k : KeptPool} {n : ℕ} (is_kept : before.state.kept ≡ Some k) (fits : if_fits (k.len + e) ≡ Some n) {answer : Option ℕ} (h : AskedGrowth fllen sllen terms owes leads before after k n e answer) where
-    asks : questions (terms before.source) before.state.kept (Some e) ≡ record { growth = growth_question (terms before.source) k n; range = cond (terms before.source).contiguous None (range_length (terms before.source) e) }
+  module _ {k : KeptPool} {n : ℕ} (is_kept : before.state.kept ≡ Some k) (fits : if_fits (k.len + e) ≡ Some n) {answer : Option ℕ}
+      (h : AskedGrowth fllen sllen terms owes leads before after k n e answer) where
+    asks : questions (terms before.source) before.state.kept (Some e)
+        ≡ record { growth = growth_question (terms before.source) k n; range = cond (terms before.source).contiguous None (range_length (terms before.source) e) }
     asks = questions-kept (terms before.source) before.state.kept k e n is_kept fits
 
     -- the question leaves the terms
@@ -198,7 +214,7 @@ module _ {S : Type 0} {fllen sllen : ℕ} {terms : S → Terms} {owes : S → Li
     refused_notes : is_some answer ≡ false → LeadsBy leads before.source (growth_note (growth_question (terms before.source) k n) None) after.source
     refused_notes no_more = subst (λ o. LeadsBy leads before.source (growth_note (growth_question (terms before.source) k n) o) after.source) (no_answer no_more) h.notes
 
-    -- nothing came, so the state stands still
+    -- nothing came, so the state stays
     stands_still : is_some answer ≡ false → after.state ≡ before.state
     stands_still no_more = subst (λ o. TakesIn fllen (terms before.source) before.state (outcome_of_growth o) after.state) (no_answer no_more) h.took.takes
 
@@ -212,13 +228,15 @@ module _ {S : Type 0} {fllen sllen : ℕ} {terms : S → Terms} {owes : S → Li
           outcome = growth_came l;
           notes = growth_note (growth_question (terms before.source) k n) (Some l);
           extends = record {
-            possible = subst (λ q. IsPossible q (growth_came l)) (sym asks) (is_asked (growth_question (terms before.source) k n) (λ none. none-some l (sym (h.asked none) ∙ is)));
+            possible =
+                subst (λ q. IsPossible q (growth_came l)) (sym asks) (is_asked (growth_question (terms before.source) k n) (λ none. none-some l (sym (h.asked none) ∙ is)));
             asked = ap (λ q. notes_of q (growth_came l)) (sym asks);
             after = subst (λ o. TakesIn fllen (terms before.source) before.state (outcome_of_growth o) after.state) is h.took.takes;
           };
           leads_by = subst (λ o. LeadsBy leads before.source (growth_note (growth_question (terms before.source) k n) o) after.source) is h.notes;
           answers = growth_note-answers (terms before.source) before.state.pools k n (Some l)
-              (subst (λ m. MayAnswer (terms before.source) before.state.pools (grow k.range m (Some l))) (sym (if_fits-some (k.len + e) n fits)) (subst (λ o. MayCome (terms before.source) before.state e (outcome_of_growth o)) is h.took.may k is_kept));
+              (subst (λ m. MayAnswer (terms before.source) before.state.pools (grow k.range m (Some l))) (sym (if_fits-some (k.len + e) n fits))
+              (subst (λ o. MayCome (terms before.source) before.state e (outcome_of_growth o)) is h.took.may k is_kept));
           outside = h.took.outside;
           spare = h.took.spare;
           stands = h.took.stands;
@@ -230,7 +248,8 @@ module _ {S : Type 0} {fllen sllen : ℕ} {terms : S → Terms} {owes : S → Li
     pub extended_refused : is_some answer ≡ false → (terms before.source).contiguous ≡ true → Extended fllen sllen terms owes leads before after e false
     extended_refused no_more one_range =
         let q : questions (terms before.source) before.state.kept (Some e) ≡ record { growth = growth_question (terms before.source) k n; range = None } =
-        asks ∙ ap (λ (c : Bool). let q : Questions = record { growth = growth_question (terms before.source) k n; range = cond c None (range_length (terms before.source) e) } in q) one_range in
+        asks ∙ ap (λ (c : Bool). let q : Questions = record { growth = growth_question (terms before.source) k n; range = cond c None (range_length (terms before.source) e) } in
+        q) one_range in
         record {
           outcome = refused;
           notes = growth_note (growth_question (terms before.source) k n) None;
@@ -245,30 +264,39 @@ module _ {S : Type 0} {fllen sllen : ℕ} {terms : S → Terms} {owes : S → Li
         }
 
     -- growth was refused, and a range was asked for
-    pub extended_second : {last : FlexContents S} {second : Option Range} {again : Bool} → is_some answer ≡ false → (terms before.source).contiguous ≡ false → terms after.source ≡ terms before.source
+    pub extended_second : {last : FlexContents S} {second : Option Range} {again : Bool} → is_some answer ≡ false → (terms before.source).contiguous ≡ false
+        → terms after.source ≡ terms before.source
         → again ≡ is_some second → AskedRange fllen sllen terms owes leads after last e second → Extended fllen sllen terms owes leads before last e again
     extended_second {last} {second} no_more many same told r =
         let t = terms before.source in
         let q : questions t before.state.kept (Some e) ≡ record { growth = growth_question t k n; range = range_length t e } =
         asks ∙ ap (λ (c : Bool). let q : Questions = record { growth = growth_question t k n; range = cond c None (range_length t e) } in q) many in
-        let notes : LeadsBy leads after.source (range_note (range_length t e) second) last.source = subst (λ t. LeadsBy leads after.source (range_note (range_length t e) second) last.source) same r.notes in
+        let notes : LeadsBy leads after.source (range_note (range_length t e) second) last.source =
+        subst (λ t. LeadsBy leads after.source (range_note (range_length t e) second) last.source) same r.notes in
         let asked : range_length t e ≡ None → second ≡ None = subst (λ t. range_length t e ≡ None → second ≡ None) same r.asked in
         let still : KeepsSpare before.memory before.state.machine after.memory before.state.machine =
-        KeepsSpare-room t before.memory after.memory before.state before.state refl (subst (λ s. KeepsSpareButFooter t before.memory before.state after.memory s) (stands_still no_more) h.took.spare) in
+        KeepsSpare-room t before.memory after.memory before.state before.state refl
+        (subst (λ s. KeepsSpareButFooter t before.memory before.state after.memory s) (stands_still no_more) h.took.spare) in
         let spare : KeepsSpareButFooter t after.memory before.state last.memory last.state =
-        subst (λ t. KeepsSpareButFooter t after.memory before.state last.memory last.state) same (subst (λ s. KeepsSpareButFooter (terms after.source) after.memory s last.memory last.state) (stands_still no_more) r.took.spare) in
+        subst (λ t. KeepsSpareButFooter t after.memory before.state last.memory last.state) same
+        (subst (λ s. KeepsSpareButFooter (terms after.source) after.memory s last.memory last.state) (stands_still no_more) r.took.spare) in
         let may : MayCome t before.state e (outcome_of_range second) =
-        subst (λ t. MayCome t before.state e (outcome_of_range second)) same (subst (λ s. MayCome (terms after.source) s e (outcome_of_range second)) (stands_still no_more) r.took.may) in
+        subst (λ t. MayCome t before.state e (outcome_of_range second)) same
+        (subst (λ s. MayCome (terms after.source) s e (outcome_of_range second)) (stands_still no_more) r.took.may) in
         record {
           outcome = outcome_of_range second;
           notes = growth_note (growth_question t k n) None ++ range_note (range_length t e) second;
           extends = record {
             possible = subst (λ q. IsPossible q (outcome_of_range second)) (sym q) (range_possible (growth_question t k n) (range_length t e) second asked);
             asked = range_notes (growth_question t k n) (range_length t e) second ∙ ap (λ q. notes_of q (outcome_of_range second)) (sym q);
-            after = subst (λ t. TakesIn fllen t before.state (outcome_of_range second) last.state) same (subst (λ s. TakesIn fllen (terms after.source) s (outcome_of_range second) last.state) (stands_still no_more) r.took.takes);
+            after =
+                subst (λ t. TakesIn fllen t before.state (outcome_of_range second) last.state) same
+                (subst (λ s. TakesIn fllen (terms after.source) s (outcome_of_range second) last.state) (stands_still no_more) r.took.takes);
           };
           leads_by = LeadsBy-append leads before.source after.source last.source _ _ (refused_notes no_more) notes;
-          answers = MayAnswerAll-append t before.state.pools (growth_note (growth_question t k n) None) (range_note (range_length t e) second) (growth_note-answers t before.state.pools k n None tt)
+          answers =
+              MayAnswerAll-append t before.state.pools (growth_note (growth_question t k n) None) (range_note (range_length t e) second)
+              (growth_note-answers t before.state.pools k n None tt)
               (range_note-answers t before.state e (range_length t e) refl second may);
           outside = KeepsOutsideNow-then before.memory after.memory last.memory before.state.pools after.state.pools last.state.pools h.took.outside r.took.outside;
           spare = KeepsSpareButFooter-behind t before.memory after.memory last.memory before.state last.state h.took.outside.place still spare;

@@ -10,12 +10,15 @@ use Rattle.rlsf_machine.specs.Terms.{Terms}
 use Rattle.rlsf_flex.proofs.Frames.{stands_stepped}
 use Rattle.rlsf_flex.proofs.Standing.{opened}
 
--- what leaves the state stands for it
-pub stays_in : {fllen sllen : ℕ} {v : Allocator} {s : State} → IsInState fllen sllen v s → (new : Allocator) → new.state ≡ v.state → Stands fllen sllen new → IsInState fllen sllen new s
+-- what leaves the state represents it
+pub stays_in : {fllen sllen : ℕ} {v : Allocator} {s : State} → IsInState fllen sllen v s → (new : Allocator) → new.state ≡ v.state → Stands fllen sllen new
+    → IsInState fllen sllen new s
 unfolding Stands
-stays_in {fllen} {sllen} is new same stands = record { state = same ∙ is.state; stands = subst (StandsFor fllen sllen (contents new.memory new.table)) (same ∙ is.state) stands.stands; whole = stands.whole }
+stays_in {fllen} {sllen} is new same stands =
+    record { state = same ∙ is.state; stands = subst (StandsFor fllen sllen (contents new.memory new.table)) (same ∙ is.state) stands.stands; whole = stands.whole }
 
-module _ {S : Type 0} {fllen sllen : ℕ} {terms : S → Terms} {owes : S → List Range → Type 0} {v : FlexContents S} (h : FlexStandsFor fllen sllen terms owes v) (new : Allocator) (step : State → Type 0) (place : SamePlace v.memory new.memory) (none : v.memory.out ≡ [])
+module _ {S : Type 0} {fllen sllen : ℕ} {terms : S → Terms} {owes : S → List Range → Type 0} {v : FlexContents S} (h : FlexStandsFor fllen sllen terms owes v)
+    (new : Allocator) (step : State → Type 0) (place : SamePlace v.memory new.memory) (none : v.memory.out ≡ [])
     (chunks : new.state.chunks ≡ v.state.machine.chunks) (did : Steps fllen sllen (allocator_of v) new step) where
   -- a step of the one over pools asks the source nothing
   pub stands_alone : FlexStandsFor fllen sllen terms owes (with_allocator v new)

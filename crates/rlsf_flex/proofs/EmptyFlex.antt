@@ -1,4 +1,4 @@
--- An allocator that asked for nothing yet stands for the empty state.
+-- An allocator that asked for nothing yet represents the empty state.
 use Rattle.std.proofs.Common.{◌≡◌, ℕ, List, [], length, sym, subst}
 use Rattle.rlsf_base.specs.declared.memory.range.Range.{Range}
 use Rattle.rlsf_base.specs.Range.{LiesIn}
@@ -13,10 +13,12 @@ use Rattle.rlsf_machine.specs.State as state
 use Rattle.rlsf_machine.specs.Terms.{Terms}
 use Rattle.rlsf_machine.proofs.FlexSteps.{flex_empty_is_well_formed}
 
-pub FlexStandsFor-empty : {S : Type 0} (fllen sllen : ℕ) (terms : S → Terms) (owes : S → List Range → Type 0) (v : Allocator) (m : Space) (x : S) → v.state ≡ state.empty → Stands fllen sllen v → v.memory ≡ m
+pub FlexStandsFor-empty : {S : Type 0} (fllen sllen : ℕ) (terms : S → Terms) (owes : S → List Range → Type 0) (v : Allocator) (m : Space) (x : S)
+    → v.state ≡ state.empty → Stands fllen sllen v → v.memory ≡ m
     → owes x [] → LiesIn (terms x).space m.start (length m.bytes) → FlexStandsFor fllen sllen terms owes (contents_at v x empty)
 FlexStandsFor-empty fllen sllen terms owes v m x start stands memory owed lies =
-    let is : StandsFor fllen sllen (contents v.memory v.table) state.empty = subst (StandsFor fllen sllen (contents v.memory v.table)) start (in_state fllen sllen v stands).stands in
+    let is : StandsFor fllen sllen (contents v.memory v.table) state.empty =
+    subst (StandsFor fllen sllen (contents v.memory v.table)) start (in_state fllen sllen v stands).stands in
     record {
       machine = is;
       well_formed = flex_empty_is_well_formed fllen sllen (range_of v.memory) (terms x) is.well_formed.rows is.well_formed.row_length is.well_formed.addressable

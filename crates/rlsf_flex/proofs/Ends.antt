@@ -1,5 +1,6 @@
--- The end: one footer after another is read, and its range given back.
-use Rattle.std.proofs.Common.{◌≡◌, ℕ, zero, suc, ◌+◌, ◌^◌, ◌<◌, ◌≤◌, List, [], ◌∷◌, ◌++◌, length, map, append_assoc, Option, Some, None, arith, true, false, ◌||◌, refl, sym, ◌∙◌, ap, subst, inl, inr, cond}
+-- The end: one footer after another is read, and its range returned.
+use Rattle.std.proofs.Common.{◌≡◌, ℕ, zero, suc, ◌+◌, ◌^◌, ◌<◌, ◌≤◌, List, [], ◌∷◌, ◌++◌, length, map, append_assoc, Option, Some, None, arith}
+use Rattle.std.proofs.Common.{true, false, ◌||◌, refl, sym, ◌∙◌, ap, subst, inl, inr, cond}
 use Rattle.std.proofs.lemmas.List.{map-append}
 use Rattle.std.proofs.lemmas.Option.{none-some, same_Some}
 use Rattle.std.specs.Option.{option_map}
@@ -33,7 +34,8 @@ ranges_from zero m next = 0
 ranges_from (suc most) m None = 0
 ranges_from (suc most) m (Some p) = suc (ranges_from most m (before m p))
 
-ranges_from-length : (most : ℕ) (m : Space) (ps : List Range) → Footers m ps → ((q : Range) → IsIn q ps → 0 < q.start) → length ps ≤ most → ranges_from most m (first ps) ≡ length ps
+ranges_from-length : (most : ℕ) (m : Space) (ps : List Range) → Footers m ps → ((q : Range) → IsIn q ps → 0 < q.start) → length ps ≤ most
+    → ranges_from most m (first ps) ≡ length ps
 unfolding ranges_from
 ranges_from-length zero m [] f some few = refl
 ranges_from-length zero m (p ∷ ps) f some few = absurd (omega arith)
@@ -71,8 +73,9 @@ AreSpelled-next m p (q ∷ qs) is =
       left = record { is_first = refl; footers = is.footers.2; placed = AreOutstanding-rest (range_of m) q qs is.placed; nonzero = is.nonzero; addressable = is.addressable };
     })
 
--- some ranges were given back, and the others follow
-pub record IsAt {S : Type 0} (owes : S → List Range → Type 0) (leads : S → Note → S → Type 0) (m : Space) (pools : List Range) (begin : S) (next : Option Range) (now : S) : Type 0 where
+-- some ranges were returned, and the others follow
+pub record IsAt {S : Type 0} (owes : S → List Range → Type 0) (leads : S → Note → S → Type 0) (m : Space) (pools : List Range) (begin : S) (next : Option Range)
+    (now : S) : Type 0 where
   pub gone : List Range
   pub rest : List Range
   pub split : pools ≡ gone ++ rest
@@ -81,10 +84,12 @@ pub record IsAt {S : Type 0} (owes : S → List Range → Type 0) (leads : S →
   pub notes : LeadsBy leads begin (map dealloc gone) now
 
 -- at the beginning, none was
-pub IsAt-begun : {S : Type 0} {owes : S → List Range → Type 0} {leads : S → Note → S → Type 0} {m : Space} {pools : List Range} {begin : S} {next : Option Range} → AreSpelled m next pools → owes begin pools → IsAt owes leads m pools begin next begin
+pub IsAt-begun : {S : Type 0} {owes : S → List Range → Type 0} {leads : S → Note → S → Type 0} {m : Space} {pools : List Range} {begin : S} {next : Option Range}
+    → AreSpelled m next pools → owes begin pools → IsAt owes leads m pools begin next begin
 IsAt-begun {pools = pools} is owed = record { gone = []; rest = pools; split = refl; spelled = is; owed = owed; notes = refl }
 
-module _ {S : Type 0} {owes : S → List Range → Type 0} {leads : S → Note → S → Type 0} {m : Space} {pools : List Range} {begin now : S} {next : Option Range} (at : IsAt owes leads m pools begin next now) {p : Range} (some : next ≡ Some p) where
+module _ {S : Type 0} {owes : S → List Range → Type 0} {leads : S → Note → S → Type 0} {m : Space} {pools : List Range} {begin now : S} {next : Option Range}
+    (at : IsAt owes leads m pools begin next now) {p : Range} (some : next ≡ Some p) where
   pub IsAt-front : IsNext m p at.rest
   IsAt-front = AreSpelled-next m p at.rest (subst (λ n. AreSpelled m n at.rest) some at.spelled)
 
@@ -97,7 +102,7 @@ module _ {S : Type 0} {owes : S → List Range → Type 0} {leads : S → Note �
   IsAt-owed = subst (owes now) IsAt-front.split at.owed
 
   module _ {later_next : Option Range} (follows : later_next ≡ first IsAt-front.rest) where
-    -- it is given back
+    -- it is returned
     pub IsAt-back : (later : S) → leads now (dealloc p) later → owes later IsAt-front.rest → IsAt owes leads m pools begin later_next later
     IsAt-back later led owed = record {
       gone = at.gone ++ p ∷ [];
@@ -105,7 +110,9 @@ module _ {S : Type 0} {owes : S → List Range → Type 0} {leads : S → Note �
       split = at.split ∙ ap (λ rest. at.gone ++ rest) IsAt-front.split ∙ sym (append_assoc at.gone (p ∷ []) IsAt-front.rest);
       spelled = subst (λ n. AreSpelled m n IsAt-front.rest) (sym follows) IsAt-front.left;
       owed = owed;
-      notes = subst (λ ns. LeadsBy leads begin ns later) (sym (map-append dealloc at.gone (p ∷ []))) (LeadsBy-append leads begin now later (map dealloc at.gone) (dealloc p ∷ []) at.notes (later, led, refl));
+      notes =
+          subst (λ ns. LeadsBy leads begin ns later) (sym (map-append dealloc at.gone (p ∷ [])))
+          (LeadsBy-append leads begin now later (map dealloc at.gone) (dealloc p ∷ []) at.notes (later, led, refl));
     }
 
     pub IsAt-fewer : ranges_from (length m.bytes) m later_next < ranges_from (length m.bytes) m next
@@ -117,7 +124,8 @@ module _ {S : Type 0} {owes : S → List Range → Type 0} {leads : S → Note �
 -- ---- the end
 
 -- where the source takes ranges back, those that are outstanding are spelled in the allocator's memory
-pub spelled : {S : Type 0} {fllen sllen : ℕ} {terms : S → Terms} {owes : S → List Range → Type 0} {x : S} {a : Allocator} (kept : Option Pool) {ranges : List Range} (newest : Option Range) → FlexStandsFor fllen sllen terms owes (flex_contents a kept x ranges)
+pub spelled : {S : Type 0} {fllen sllen : ℕ} {terms : S → Terms} {owes : S → List Range → Type 0} {x : S} {a : Allocator} (kept : Option Pool) {ranges : List Range}
+    (newest : Option Range) → FlexStandsFor fllen sllen terms owes (flex_contents a kept x ranges)
     → (terms x).dealloc ≡ true → newest ≡ option_map (λ (p : Pool). p.range) kept → AreSpelled a.memory newest ranges
 spelled {S} {fllen} {sllen} {terms} {owes} {x} {a} kept {ranges} newest v has is_newest = record {
   is_first = is_newest ∙ is_first kept v.well_formed.newest;
@@ -132,10 +140,14 @@ spelled {S} {fllen} {sllen} {terms} {owes} {x} {a} kept {ranges} newest v has is
     is_first (Some k) is = sym (ap first is.split)
 
 -- the end, by whether the source takes ranges back
-pub ends_with : {S : Type 0} (owes : S → List Range → Type 0) (leads : S → Note → S → Type 0) (t : Terms) (x y : S) (pools : List Range) → t.dealloc ≡ true → LeadsBy leads x (map dealloc pools) y × owes y []
+pub ends_with : {S : Type 0} (owes : S → List Range → Type 0) (leads : S → Note → S → Type 0) (t : Terms) (x y : S) (pools : List Range) → t.dealloc ≡ true
+    → LeadsBy leads x (map dealloc pools) y × owes y []
     → LeadsBy leads x (notes_at_end t pools) y × owes y (owed_at_end t pools)
-ends_with owes leads t x y pools has (led, owed) = (subst (λ b. LeadsBy leads x (cond b (map dealloc pools) []) y) (sym has) led, subst (λ b. owes y (cond b [] pools)) (sym has) owed)
+ends_with owes leads t x y pools has (led, owed) =
+    (subst (λ b. LeadsBy leads x (cond b (map dealloc pools) []) y) (sym has) led, subst (λ b. owes y (cond b [] pools)) (sym has) owed)
 
-pub ends_without : {S : Type 0} (owes : S → List Range → Type 0) (leads : S → Note → S → Type 0) (t : Terms) (x : S) (pools : List Range) → t.dealloc ≡ false → owes x pools
+pub ends_without : {S : Type 0} (owes : S → List Range → Type 0) (leads : S → Note → S → Type 0) (t : Terms) (x : S) (pools : List Range) → t.dealloc ≡ false
+    → owes x pools
     → LeadsBy leads x (notes_at_end t pools) x × owes x (owed_at_end t pools)
-ends_without owes leads t x pools lacks owed = (subst (λ b. LeadsBy leads x (cond b (map dealloc pools) []) x) (sym lacks) refl, subst (λ b. owes x (cond b [] pools)) (sym lacks) owed)
+ends_without owes leads t x pools lacks owed =
+    (subst (λ b. LeadsBy leads x (cond b (map dealloc pools) []) x) (sym lacks) refl, subst (λ b. owes x (cond b [] pools)) (sym lacks) owed)

@@ -1,5 +1,6 @@
 -- The two words of a footer, written and read.
-use Rattle.std.proofs.Common.{◌≡◌, ℕ, ◌+◌, ◌-◌, ◌^◌, ◌<◌, ◌≤◌, ◌⊎◌, List, [], ◌∷◌, Option, Some, None, arith, refl, sym, ◌∙◌, ap, inl, inr, cond, eqb}
+use Rattle.std.proofs.Common.{◌≡◌, ℕ, ◌+◌, ◌-◌, ◌^◌, ◌<◌, ◌≤◌, ◌⊎◌, List, [], ◌∷◌, Option, Some, None, arith, refl, sym, ◌∙◌, ap}
+use Rattle.std.proofs.Common.{inl, inr, cond, eqb}
 use Rattle.std.proofs.lemmas.Bool.{cases_lt, ne_eqb}
 use Rattle.rlsf_base.specs.declared.memory.range.Range.{Range}
 use Rattle.rlsf_base.specs.Range.{range_at}
@@ -24,7 +25,7 @@ IsSpareWord-place m n s a b place same (word, spare) =
 out-written : (m n : Space) (a : ℕ) → SamePlace m n → m.out ≡ [] → n.out ≡ out_with m (word_range a)
 out-written m n a place none = place.3 none ∙ sym (back-none m.out (a - m.start) 8 none)
 
--- a byte that a word doesn't have stands before it or behind it
+-- a byte that a word doesn't have is before it or behind it
 side : (a at : ℕ) → (at ≤ a → a < at + 8 → ⊥) → (a + 1 ≤ at) ⊎ (at + 8 ≤ a)
 side a at apart = elim (cases_lt a at) [
   | inl low ↦ inl (omega (arith, low))
@@ -32,20 +33,26 @@ side a at apart = elim (cases_lt a at) [
 ]
 
 -- the two words were written, one after the other
-pub writes_footer : (m k n : Space) (p : Range) (at start len : ℕ) → at ≡ footer_of p → m.out ≡ [] → IsWord m (footer_of p) → IsWord m (footer_of p + 8) → start < 2 ^ 64 → len < 2 ^ 64
+pub writes_footer : (m k n : Space) (p : Range) (at start len : ℕ) → at ≡ footer_of p → m.out ≡ [] → IsWord m (footer_of p) → IsWord m (footer_of p + 8)
+    → start < 2 ^ 64 → len < 2 ^ 64
     → SamePlace m k → k.bytes ≡ with_word m at start → SamePlace k n → n.bytes ≡ with_word k (at + 8) len → WritesFooter m n p start len
 writes_footer m k n p at start len is none has_first has_second start_fits len_fits place1 bytes1 place2 bytes2 =
     let first : IsWritable m at = (omega (arith, has_first.0), (omega (arith, has_first.1), omega (arith, has_first.1)), own-none m (word_range at) none) in
-    let second : IsWritable k (at + 8) = (omega (arith, has_second.0), (omega (arith, has_second.1, place1.0), omega (arith, has_second.1, place1.0, place1.1)), own-none k (word_range (at + 8)) (place1.3 none)) in
+    let second : IsWritable k (at + 8) =
+    (omega (arith, has_second.0), (omega (arith, has_second.1, place1.0), omega (arith, has_second.1, place1.0, place1.1)), own-none k (word_range (at + 8)) (place1.3 none)) in
     let out1 = out-written m k at place1 none in
     let out2 = out-written k n (at + 8) place2 (place1.3 none) in
     record {
       place = SamePlace-then m k n place1 place2;
-      reads_start = ap (word_at n) (sym is) ∙ word_at-other k n (at + 8) len second place2.0 bytes2 out2 at first.0 (omega (arith, first.1, place1.0)) (λ e. omega (arith, e)) ∙ word_at-same m k at start first place1.0 bytes1 out1 start_fits;
+      reads_start =
+          ap (word_at n) (sym is) ∙ word_at-other k n (at + 8) len second place2.0 bytes2 out2 at first.0 (omega (arith, first.1, place1.0)) (λ e. omega (arith, e))
+          ∙ word_at-same m k at start first place1.0 bytes1 out1 start_fits;
       reads_len = ap (λ a. word_at n (a + 8)) (sym is) ∙ word_at-same k n (at + 8) len second place2.0 bytes2 out2 len_fits;
       bytes = λ a from below apart.
-          byte_at-same k n a (bytes_in-with_word k n (at + 8) len second place2.0 bytes2 out2 (byte_range a) (omega (arith, from, place1.0)) (side a (at + 8) (λ low high. apart (omega (arith, is)) (omega (arith, is)))))
-          ∙ byte_at-same m k a (bytes_in-with_word m k at start first place1.0 bytes1 out1 (byte_range a) from (side a at (λ low high. apart (omega (arith, is)) (omega (arith, is)))));
+          byte_at-same k n a (bytes_in-with_word k n (at + 8) len second place2.0 bytes2 out2 (byte_range a) (omega (arith, from, place1.0))
+          (side a (at + 8) (λ low high. apart (omega (arith, is)) (omega (arith, is)))))
+          ∙ byte_at-same m k a (bytes_in-with_word m k at start first place1.0 bytes1 out1 (byte_range a) from
+          (side a at (λ low high. apart (omega (arith, is)) (omega (arith, is)))));
     }
 
 -- where no range begins at 0, the start that is 0 names none

@@ -1,5 +1,6 @@
 -- The footers are spare words, so what leaves chunks and spare bytes as they are leaves the footers.
-use Rattle.std.proofs.Common.{◌≡◌, ℕ, ◌+◌, ◌-◌, ◌^◌, ◌<◌, ◌≤◌, List, [], ◌∷◌, length, drop, slice_index, get_or-take, get_or-drop, arith, refl, sym, ◌∙◌, ap, subst, inl, inr}
+use Rattle.std.proofs.Common.{◌≡◌, ℕ, ◌+◌, ◌-◌, ◌^◌, ◌<◌, ◌≤◌, List, [], ◌∷◌, length, drop, slice_index, get_or-take, get_or-drop, arith, refl}
+use Rattle.std.proofs.Common.{sym, ◌∙◌, ap, subst, inl, inr}
 use Rattle.std.proofs.lemmas.Grind.{same_number_lists}
 use Rattle.rlsf_base.specs.declared.memory.range.Range.{Range}
 use Rattle.rlsf_base.specs.Range.{end_of, LiesIn}
@@ -38,7 +39,8 @@ outstanding_in m space pools lies placed = record {
 }
 
 -- where ranges house all chunks, the footer of each is spare, and ends below 2^64
-module _ {fllen sllen : ℕ} (m : Space) (s : State) (space : Range) (pools : List Range) (w : IsWellFormed fllen sllen (range_of m) s) (space_lies : LiesIn space m.start (length m.bytes)) (placed : AreOutstanding space pools) (housed : AreHoused pools s.chunks)
+module _ {fllen sllen : ℕ} (m : Space) (s : State) (space : Range) (pools : List Range) (w : IsWellFormed fllen sllen (range_of m) s)
+    (space_lies : LiesIn space m.start (length m.bytes)) (placed : AreOutstanding space pools) (housed : AreHoused pools s.chunks)
     (p : Range) (i : IsIn p pools) where
   long : 64 ≤ p.len
   long = placed.long p i
@@ -50,7 +52,8 @@ module _ {fllen sllen : ℕ} (m : Space) (s : State) (space : Range) (pools : Li
   apart a low high c j from to =
       let (q, k, begins, ends) = housed c j in
       let room = long in
-      let same : q ≡ p = coverage-unique itself q p pools a (placed.disjoint a) k i (covers-inside q a (omega arith) (omega arith)) (covers-inside p a (omega arith) (omega arith)) in
+      let same : q ≡ p =
+      coverage-unique itself q p pools a (placed.disjoint a) k i (covers-inside q a (omega arith) (omega arith)) (covers-inside p a (omega arith) (omega arith)) in
       let end : end_of q ≡ end_of p = ap end_of same in
       let chunk = w.chunks c j in
       let start32 = chunk.whole.start in
@@ -76,7 +79,8 @@ module _ {fllen sllen : ℕ} (m : Space) {t : Terms} {s : FlexState} (w : IsFlex
   ends_here = footer_ends m s.machine t.space s.pools w.machine w.space w.pools w.housed p i
 
 -- a word is as it was where its bytes are, and are kept as they were
-pub word_at-bytes : (m n : Space) (a : ℕ) → n.start ≡ m.start → length n.bytes ≡ length m.bytes → IsWord m a → ((b : ℕ) → a ≤ b → b < a + 8 → byte_at n b ≡ byte_at m b) → ((b : ℕ) → a ≤ b → b < a + 8 → out_at n b ≡ out_at m b)
+pub word_at-bytes : (m n : Space) (a : ℕ) → n.start ≡ m.start → length n.bytes ≡ length m.bytes → IsWord m a
+    → ((b : ℕ) → a ≤ b → b < a + 8 → byte_at n b ≡ byte_at m b) → ((b : ℕ) → a ≤ b → b < a + 8 → out_at n b ≡ out_at m b)
     → word_at n a ≡ word_at m a
 word_at-bytes m n a start len word same kept = word_at-kept m n a start word.1.0 (same_number_lists (bytes_in n (word_range a)) (bytes_in m (word_range a)) lengths elements) kept
   where
@@ -109,22 +113,31 @@ Footers-kept m n s t (p ∷ ps) keeps leaves start len spare (first, second, res
     stays a was is = word_at-bytes m n a start len was.0 (λ b low high. keeps b (omega (arith, was.0, low)) (omega (arith, was.0, high)) (was.1 b low high) (is.1 b low high))
         (λ b low high. leaves b (omega (arith, was.0, low)) (was.1 b low high) (is.1 b low high))
 
--- a step of the machine that leaves the chunks is one of the allocator over a source
-pub stands_kept : {S : Type 0} {fllen sllen : ℕ} {terms : S → Terms} {owes : S → List Range → Type 0} {v : FlexContents S} (h : FlexStandsFor fllen sllen terms owes v) (new : Allocator)
-    → StandsFor fllen sllen (contents new.memory new.table) new.state → new.state.chunks ≡ v.state.machine.chunks → KeepsSpare v.memory v.state.machine new.memory new.state → LeavesSpare v.memory v.state.machine new.memory new.state
+-- a step of the reference model that leaves the chunks is one of the allocator over a source
+pub stands_kept : {S : Type 0} {fllen sllen : ℕ} {terms : S → Terms} {owes : S → List Range → Type 0} {v : FlexContents S} (h : FlexStandsFor fllen sllen terms owes v)
+    (new : Allocator)
+    → StandsFor fllen sllen (contents new.memory new.table) new.state → new.state.chunks ≡ v.state.machine.chunks → KeepsSpare v.memory v.state.machine new.memory new.state
+    → LeavesSpare v.memory v.state.machine new.memory new.state
     → new.memory.start ≡ v.memory.start → length new.memory.bytes ≡ length v.memory.bytes → FlexStandsFor fllen sllen terms owes (with_allocator v new)
 stands_kept {fllen = fllen} {sllen = sllen} {terms = terms} {v = v} h new stands chunks keeps leaves start len = record {
   machine = stands;
   well_formed = well_formed;
   owed = h.owed;
-  footers = λ back. Footers-kept v.memory new.memory v.state.machine new.state v.state.pools keeps leaves start len (λ p i. (spare_here v.memory h.well_formed p i, spare_here new.memory well_formed p i)) (h.footers back);
+  footers =
+      λ back. Footers-kept v.memory new.memory v.state.machine new.state v.state.pools keeps leaves start len
+      (λ p i. (spare_here v.memory h.well_formed p i, spare_here new.memory well_formed p i)) (h.footers back);
 }
   where
     well_formed : IsFlexWellFormed fllen sllen (range_of new.memory) (terms v.source) (with_machine v.state new.state)
-    well_formed = with_machine_keeps (subst (λ m. IsFlexWellFormed fllen sllen m (terms v.source) v.state) (range_of-same v.memory new.memory start len) h.well_formed) new.state (with_machine v.state new.state) stands.well_formed chunks refl
+    well_formed =
+        with_machine_keeps (subst (λ m. IsFlexWellFormed fllen sllen m (terms v.source) v.state) (range_of-same v.memory new.memory start len) h.well_formed) new.state
+        (with_machine v.state new.state) stands.well_formed chunks refl
 
 -- the same, for a memory that stays at its place and of which nothing is out
-pub stands_stepped : {S : Type 0} {fllen sllen : ℕ} {terms : S → Terms} {owes : S → List Range → Type 0} {v : FlexContents S} (h : FlexStandsFor fllen sllen terms owes v) (new : Allocator)
-    → StandsFor fllen sllen (contents new.memory new.table) new.state → new.state.chunks ≡ v.state.machine.chunks → KeepsSpare v.memory v.state.machine new.memory new.state → SamePlace v.memory new.memory → v.memory.out ≡ []
+pub stands_stepped : {S : Type 0} {fllen sllen : ℕ} {terms : S → Terms} {owes : S → List Range → Type 0} {v : FlexContents S} (h : FlexStandsFor fllen sllen terms owes v)
+    (new : Allocator)
+    → StandsFor fllen sllen (contents new.memory new.table) new.state → new.state.chunks ≡ v.state.machine.chunks → KeepsSpare v.memory v.state.machine new.memory new.state
+    → SamePlace v.memory new.memory → v.memory.out ≡ []
     → FlexStandsFor fllen sllen terms owes (with_allocator v new)
-stands_stepped {v = v} h new stands chunks keeps place none = stands_kept h new stands chunks keeps (λ a from one two. out_at-place v.memory new.memory place none a) place.0 place.1
+stands_stepped {v = v} h new stands chunks keeps place none =
+    stands_kept h new stands chunks keeps (λ a from one two. out_at-place v.memory new.memory place none a) place.0 place.1

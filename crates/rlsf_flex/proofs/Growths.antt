@@ -1,4 +1,4 @@
--- The kept range has grown, and the new bytes are handed in, over plain values.
+-- The kept range has grown, and the new bytes are inserted, over plain values.
 use Rattle.std.proofs.Common.{◌≡◌, ℕ, ◌+◌, ◌^◌, ◌<◌, ◌≤◌, true, List, [], ◌∷◌, length, Some, arith, refl, sym, ◌∙◌, ap, subst, inl, inr}
 use Rattle.std.proofs.lemmas.Option.{same_Some}
 use Rattle.rlsf_base.specs.declared.memory.range.Range.{Range}
@@ -35,7 +35,8 @@ use Rattle.rlsf_flex.proofs.Rewritten.{Footers-written}
 use Rattle.rlsf_flex.proofs.Standing.{contents_at}
 
 -- a growth came that a source was asked for, in a state of an allocator over it
-pub record Grew {S : Type 0} (fllen sllen e : ℕ) (terms : S → Terms) (owes : S → List Range → Type 0) (v : FlexContents S) (y : S) (k : KeptPool) (asked len : ℕ) : Type 0 where
+pub record Grew {S : Type 0} (fllen sllen e : ℕ) (terms : S → Terms) (owes : S → List Range → Type 0) (v : FlexContents S) (y : S) (k : KeptPool)
+    (asked len : ℕ) : Type 0 where
   pub before : FlexStandsFor fllen sllen terms owes v
   pub whole : v.memory.out ≡ []
   pub size : IsPoolSize fllen sllen e
@@ -46,7 +47,8 @@ pub record Grew {S : Type 0} (fllen sllen e : ℕ) (terms : S → Terms) (owes :
   pub owed : owes y (with_len k.range len ∷ kept.rest)
   pub anywhere : MayAnswer (terms v.source) v.state.pools (grow k.range asked (Some len))
 
-module _ {S : Type 0} {fl_bits sl_bits fllen sllen e : ℕ} (valid : IsValid fl_bits sl_bits fllen sllen) {terms : S → Terms} {owes : S → List Range → Type 0} {v : FlexContents S} {y : S} {k : KeptPool} {asked len : ℕ}
+module _ {S : Type 0} {fl_bits sl_bits fllen sllen e : ℕ} (valid : IsValid fl_bits sl_bits fllen sllen) {terms : S → Terms} {owes : S → List Range → Type 0}
+    {v : FlexContents S} {y : S} {k : KeptPool} {asked len : ℕ}
     (c : Grew fllen sllen e terms owes v y k asked len) where
   -- it was asked for more than the range has
   more : k.len + 64 ≤ asked
@@ -54,36 +56,46 @@ module _ {S : Type 0} {fl_bits sl_bits fllen sllen e : ℕ} (valid : IsValid fl_
 
   -- there is room for the pool that is wanted behind the kept one
   pub Grew-longer : (k.len + e ≤ len) × (k.range.len < len) × (64 ≤ k.range.len)
-  Grew-longer = (omega (arith, c.is_asked, c.is_grown.long), omega (arith, more, c.is_grown.long, c.kept.nearly), (is_longer c.before.well_formed c.was asked len c.kept c.is_grown more).2)
+  Grew-longer =
+      (omega (arith, c.is_asked, c.is_grown.long), omega (arith, more, c.is_grown.long, c.kept.nearly), (is_longer c.before.well_formed c.was asked len c.kept c.is_grown more).2)
 
   -- the longer range is outstanding beside the others
   outstanding : AreOutstanding (terms v.source).space (with_len k.range len ∷ c.kept.rest)
   outstanding =
       let old = old_pools c.before.well_formed c.was asked len c.kept c.is_grown more in
       let (enough, grew, long) = Grew-longer in
-      AreOutstanding-more (terms v.source).space (with_len k.range len) c.kept.rest (AreOutstanding-rest (terms v.source).space k.range c.kept.rest old) c.is_grown.lies_in c.is_grown.apart (omega arith)
+      AreOutstanding-more (terms v.source).space (with_len k.range len) c.kept.rest (AreOutstanding-rest (terms v.source).space k.range c.kept.rest old) c.is_grown.lies_in
+      c.is_grown.apart (omega arith)
 
-  -- before the new bytes are handed in, footers can be written
-  pub Grew-footers : (m : Space) → IsWellFormed fllen sllen (range_of m) v.state.machine → SamePlace v.memory m → (p : Range) → IsIn p (with_len k.range len ∷ c.kept.rest) → ((16 ≤ end_of p) × (end_of p < 2 ^ 64)) × HasSpareFooter m v.state.machine p
+  -- before the new bytes are inserted, footers can be written
+  pub Grew-footers : (m : Space) → IsWellFormed fllen sllen (range_of m) v.state.machine → SamePlace v.memory m → (p : Range)
+      → IsIn p (with_len k.range len ∷ c.kept.rest) → ((16 ≤ end_of p) × (end_of p < 2 ^ 64)) × HasSpareFooter m v.state.machine p
   Grew-footers m w place p i =
-      let lies : LiesIn (terms v.source).space m.start (length m.bytes) = (omega (arith, c.before.well_formed.space, place.0), omega (arith, c.before.well_formed.space, place.0, place.1)) in
-      let housed = housed_before c.before.well_formed c.was asked len c.kept c.is_grown more in
-      (footer_ends m v.state.machine (terms v.source).space (with_len k.range len ∷ c.kept.rest) w lies outstanding housed p i, spare_footer m v.state.machine (terms v.source).space (with_len k.range len ∷ c.kept.rest) w lies outstanding housed p i)
+      let lies : LiesIn (terms v.source).space m.start (length m.bytes) =
+      (omega (arith, c.before.well_formed.space, place.0), omega (arith, c.before.well_formed.space, place.0, place.1)) in
+      let housed = housed_before c.before.well_formed c.was asked len c.kept c.is_grown more in (
+        footer_ends m v.state.machine (terms v.source).space (with_len k.range len ∷ c.kept.rest) w lies outstanding housed p i,
+        spare_footer m v.state.machine (terms v.source).space (with_len k.range len ∷ c.kept.rest) w lies outstanding housed p i,
+      )
 
   -- what is behind the kept pool may be appended
   pub Grew-next : (m : Space) → SamePlace v.memory m → IsNext (range_of m) v.state.machine (behind k len)
-  Grew-next m place = subst (λ r. IsNext r v.state.machine (behind k len)) (range_of-same v.memory m place.0 place.1) (behind_next c.before.well_formed c.was asked len c.kept c.is_grown more)
+  Grew-next m place =
+      subst (λ r. IsNext r v.state.machine (behind k len)) (range_of-same v.memory m place.0 place.1) (behind_next c.before.well_formed c.was asked len c.kept c.is_grown more)
 
   -- a pool of it is taken
   pub Grew-taken : (t : State) (n : ℕ) → Appends fllen v.state.machine (behind k len) n t → HasPool e t × IsTaken v.state.machine (behind k len) n t
   Grew-taken t n step =
       let (room, whole, short) = pool_size_is fl_bits sl_bits fllen sllen e valid c.size in
-      let (taken, pool) = appended_pool fllen sllen e (range_of v.memory) v.state.machine t (behind k len) n c.before.machine.well_formed (Grew-next v.memory (SamePlace-refl v.memory)) room whole short (omega (arith, Grew-longer.0)) step in
+      let (taken, pool) =
+      appended_pool fllen sllen e (range_of v.memory) v.state.machine t (behind k len) n c.before.machine.well_formed (Grew-next v.memory (SamePlace-refl v.memory)) room whole
+      short (omega (arith, Grew-longer.0)) step in
       (pool, taken)
 
   -- then the state is well-formed
   Grew-well_formed : (m : Space) (t : State) (n : ℕ) → Appends fllen v.state.machine (behind k len) n t → SamePlace v.memory m
-      → IsFlexWellFormed fllen sllen (range_of m) (terms v.source) (record { machine = t; pools = with_len k.range len ∷ c.kept.rest; kept = Some (record { range = with_len k.range len; len = k.len + n }) })
+      → IsFlexWellFormed fllen sllen (range_of m) (terms v.source)
+      (record { machine = t; pools = with_len k.range len ∷ c.kept.rest; kept = Some (record { range = with_len k.range len; len = k.len + n }) })
   Grew-well_formed m t n step place =
       let s : FlexState = record { machine = t; pools = with_len k.range len ∷ c.kept.rest; kept = Some (record { range = with_len k.range len; len = k.len + n }) } in
       subst (λ p. IsFlexWellFormed fllen sllen p (terms v.source) s) (range_of-same v.memory m place.0 place.1)
@@ -93,7 +105,9 @@ module _ {S : Type 0} {fl_bits sl_bits fllen sllen e : ℕ} (valid : IsValid fl_
   pub Grew-took : (d b : Allocator) (t : State) (n : ℕ) → terms y ≡ terms v.source → IsInState fllen sllen d v.state.machine
       → IsFooted (terms v.source).dealloc v.memory d.memory (with_len k.range len) (first_start c.kept.rest) (first_len c.kept.rest)
       → Appends fllen v.state.machine (behind k len) n t → IsInState fllen sllen b t → KeepsSpare d.memory v.state.machine b.memory t → SamePlace d.memory b.memory
-      → Took fllen sllen terms owes v (contents_at b y (record { machine = t; pools = with_len k.range len ∷ c.kept.rest; kept = Some (record { range = with_len k.range len; len = k.len + n }) })) e (growth_came len)
+      → Took fllen sllen terms owes v
+      (contents_at b y (record { machine = t; pools = with_len k.range len ∷ c.kept.rest; kept = Some (record { range = with_len k.range len; len = k.len + n }) })) e
+      (growth_came len)
   Grew-took d b t n same footed_stands foot step stands spare place =
       let now = with_len k.range len in
       let after = Grew-well_formed b.memory t n step (SamePlace-then v.memory d.memory b.memory foot.place place) in
@@ -105,8 +119,12 @@ module _ {S : Type 0} {fl_bits sl_bits fllen sllen e : ℕ} (valid : IsValid fl_
         spare = λ a low high one two none.
             spare a (omega (arith, foot.place.0, low)) (omega (arith, foot.place.0, foot.place.1, high)) one two
             ∙ foot.bytes a low high (λ takes from to. none (record { takes_back = takes; came = is_new; newest = now; rest = c.kept.rest; split = refl; from = from; to = to }));
-        stands = FlexStandsFor-answered v.source y b (record { machine = t; pools = now ∷ c.kept.rest; kept = Some (record { range = now; len = k.len + n }) }) stands.stands after same c.owed
-            (λ takes. Footers-kept d.memory b.memory v.state.machine t (now ∷ c.kept.rest) spare (λ a from one two. out_at-place d.memory b.memory place (foot.place.3 c.whole) a) place.0 place.1 (λ p i. ((Grew-footers d.memory footed_stands.stands.well_formed foot.place p i).1, spare_here b.memory after p i)) (footers takes));
+        stands =
+            FlexStandsFor-answered v.source y b (record { machine = t; pools = now ∷ c.kept.rest; kept = Some (record { range = now; len = k.len + n }) }) stands.stands after
+            same c.owed
+            (λ takes. Footers-kept d.memory b.memory v.state.machine t (now ∷ c.kept.rest) spare
+            (λ a from one two. out_at-place d.memory b.memory place (foot.place.3 c.whole) a) place.0 place.1
+            (λ p i. ((Grew-footers d.memory footed_stands.stands.well_formed foot.place p i).1, spare_here b.memory after p i)) (footers takes));
         room = λ came. (Grew-taken t n step).0;
       }
     where
@@ -131,8 +149,10 @@ module _ {S : Type 0} {fl_bits sl_bits fllen sllen e : ℕ} (valid : IsValid fl_
           let (enough, grew, long) = Grew-longer in
           let now = with_len k.range len in
           KeepsOutsideNow-then v.memory d.memory b.memory v.state.pools (now ∷ c.kept.rest) (now ∷ c.kept.rest)
-          (KeepsOutsideNow-footed (terms v.source).dealloc v.memory d.memory now (first_start c.kept.rest) (first_len c.kept.rest) v.state.pools (now ∷ c.kept.rest) (inl refl) (omega arith) only_more foot)
-          (KeepsOutsideNow-spare d.memory b.memory v.state.machine t (now ∷ c.kept.rest) (now ∷ c.kept.rest) (housed_before c.before.well_formed c.was asked len c.kept c.is_grown more) housed (λ a none. none) place spare)
+          (KeepsOutsideNow-footed (terms v.source).dealloc v.memory d.memory now (first_start c.kept.rest) (first_len c.kept.rest) v.state.pools (now ∷ c.kept.rest) (inl refl)
+          (omega arith) only_more foot)
+          (KeepsOutsideNow-spare d.memory b.memory v.state.machine t (now ∷ c.kept.rest) (now ∷ c.kept.rest)
+          (housed_before c.before.well_formed c.was asked len c.kept c.is_grown more) housed (λ a none. none) place spare)
 
       footers : (terms v.source).dealloc ≡ true → Footers d.memory (with_len k.range len ∷ c.kept.rest)
       footers takes =
@@ -140,5 +160,12 @@ module _ {S : Type 0} {fl_bits sl_bits fllen sllen e : ℕ} (valid : IsValid fl_
           let w = foot.written takes in
           let old = subst (Footers v.memory) c.kept.split (c.before.footers takes) in
           let placed : (p : Range) → IsIn p c.kept.rest → (64 ≤ p.len) × LiesIn p v.memory.start (length v.memory.bytes) =
-          λ p i. (outstanding.long p (inr i), (outstanding_in v.memory (terms v.source).space (with_len k.range len ∷ c.kept.rest) c.before.well_formed.space outstanding).in_space p (inr i)) in
-          (w.reads_start, w.reads_len, Footers-written v.memory d.memory (with_len k.range len) (first_start c.kept.rest) (first_len c.kept.rest) c.kept.rest c.whole w (omega arith) c.is_grown.apart placed old.2)
+          λ p i. (
+            outstanding.long p (inr i),
+            (outstanding_in v.memory (terms v.source).space (with_len k.range len ∷ c.kept.rest) c.before.well_formed.space outstanding).in_space p (inr i),
+          ) in (
+            w.reads_start,
+            w.reads_len,
+            Footers-written v.memory d.memory (with_len k.range len) (first_start c.kept.rest) (first_len c.kept.rest) c.kept.rest c.whole w (omega arith) c.is_grown.apart placed
+                old.2,
+          )

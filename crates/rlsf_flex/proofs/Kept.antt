@@ -11,7 +11,7 @@ use Rattle.rlsf_machine.specs.FlexWellFormed.{IsKeptPool, IsNewest}
 use Rattle.rlsf_machine.specs.Growth.{keeps}
 use Rattle.rlsf_machine.specs.Terms.{Terms}
 
--- where ranges go back, a pool is kept
+-- where ranges are returned, a pool is kept
 pub keeps-dealloc : (t : Terms) → t.dealloc ≡ true → keeps t ≡ true
 keeps-dealloc t takes = ap (λ b. b || t.grow) takes
 
@@ -21,13 +21,16 @@ kept_of-then_some true p = refl
 kept_of-then_some false p = refl
 
 -- the next footer names the newest range
-pub words-first : (t : Terms) (kept : Option Pool) (pools chunks : List Range) → IsNewest t (kept_of kept) pools chunks → keeps t ≡ true → (kept_start kept ≡ first_start pools) × (kept_len kept ≡ first_len pools)
+pub words-first : (t : Terms) (kept : Option Pool) (pools chunks : List Range) → IsNewest t (kept_of kept) pools chunks → keeps t ≡ true
+    → (kept_start kept ≡ first_start pools) × (kept_len kept ≡ first_len pools)
 words-first t None pools chunks is keep = (sym (ap first_start (is keep)), sym (ap first_len (is keep)))
 words-first t (Some k) pools chunks is keep = (sym (ap first_start is.split), sym (ap first_len is.split))
 
 -- the pool that is at hand is the kept one
-pub IsKeptPool-known : {S : Type 0} {fllen sllen : ℕ} {terms : S → Terms} {owes : S → List Range → Type 0} {tlsf : Allocator} {source : S} {kept : Option Pool} {ranges : List Range} {pool : Pool}
-    → FlexStandsFor fllen sllen terms owes (flex_contents tlsf kept source ranges) → kept ≡ Some pool → (kept_of kept ≡ Some (kept_pool pool)) × IsKeptPool (terms source) (kept_pool pool) ranges tlsf.state.chunks
+pub IsKeptPool-known : {S : Type 0} {fllen sllen : ℕ} {terms : S → Terms} {owes : S → List Range → Type 0} {tlsf : Allocator} {source : S} {kept : Option Pool}
+    {ranges : List Range} {pool : Pool}
+    → FlexStandsFor fllen sllen terms owes (flex_contents tlsf kept source ranges) → kept ≡ Some pool
+    → (kept_of kept ≡ Some (kept_pool pool)) × IsKeptPool (terms source) (kept_pool pool) ranges tlsf.state.chunks
 IsKeptPool-known {S} {fllen} {sllen} {terms} {owes} {tlsf} {source} {kept} {ranges} {pool} v is =
     let was = ap kept_of is in
     (was, subst (λ k. IsNewest (terms source) k ranges tlsf.state.chunks) was v.well_formed.newest)

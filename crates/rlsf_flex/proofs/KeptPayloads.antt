@@ -9,10 +9,12 @@ use Rattle.rlsf_flex.proofs.Places.{SamePlace-refl, SamePlace-then}
 
 -- nothing was done
 pub KeepsPayloads-refl : {sllen : ℕ} (v : Allocator) → KeepsPayloads sllen v v
-KeepsPayloads-refl v = record { aligns = refl; bytes = refl; count = refl; bounds = λ count size align sized. sized; place = SamePlace-refl v.memory; grow = omega arith; copied = refl }
+KeepsPayloads-refl v =
+    record { aligns = refl; bytes = refl; count = refl; bounds = λ count size align sized. sized; place = SamePlace-refl v.memory; grow = omega arith; copied = refl }
 
 -- the state stayed
-pub KeepsPayloads-same : {sllen : ℕ} (v w : Allocator) → w.state ≡ v.state → SamePlace v.memory w.memory → v.memory.touches ≤ w.memory.touches → w.memory.copied ≡ v.memory.copied → KeepsPayloads sllen v w
+pub KeepsPayloads-same : {sllen : ℕ} (v w : Allocator) → w.state ≡ v.state → SamePlace v.memory w.memory → v.memory.touches ≤ w.memory.touches
+    → w.memory.copied ≡ v.memory.copied → KeepsPayloads sllen v w
 KeepsPayloads-same {sllen} v w same place grow copied = record {
   aligns = ap align_at same;
   bytes = ap bytes_at same;

@@ -1,3 +1,4 @@
+-- Lemmas on the allocator over a source: growth, footers, the end, trims and lent bytes.
 pub mod Allocations
 pub mod Asks
 pub mod Calls

@@ -1,4 +1,4 @@
--- Bytes are left in a payload that was lent: whatever is left, the allocator over a source stands for its state.
+-- Bytes are left in a payload that was lent: whatever is left, the allocator over a source represents its state.
 use Rattle.std.proofs.Common.{◌≡◌, ℕ, List, [], length, IsSome, refl, sym, ◌∙◌, ap, subst}
 use Rattle.rlsf_base.specs.declared.memory.range.Range.{Range}
 use Rattle.rlsf_base.specs.Lends.{lent_space}
@@ -20,19 +20,22 @@ use Rattle.rlsf_tlsf.specs.Lending.{touched}
 use Rattle.rlsf_tlsf.proofs.Lent.{IsSameOutside-lent}
 use Rattle.rlsf_flex.proofs.Frames.{stands_stepped}
 
-module _ {S : Type 0} {fllen sllen : ℕ} {terms : S → Terms} {owes : S → List Range → Type 0} {v : FlexContents S} (h : FlexStandsFor fllen sllen terms owes v) (addr : ℕ) (w : List ℕ) where
-  -- what is told of another memory, with the payloads' bytes that stand there
+module _ {S : Type 0} {fllen sllen : ℕ} {terms : S → Terms} {owes : S → List Range → Type 0} {v : FlexContents S} (h : FlexStandsFor fllen sllen terms owes v) (addr : ℕ)
+    (w : List ℕ) where
+  -- what holds of another memory, with the payloads' bytes that are in it
   abbrev Left : Space → Type 0
   Left m = StandsFor fllen sllen (contents m v.table) (read_from m v.state.machine) × KeepsSpare v.memory v.state.machine m (read_from m v.state.machine)
 
   left_in : (u : Used) → Holds v.state.machine addr u → Left (lent_space (touched v.memory 3) (usable u).start (usable u).len w)
   left_in u holds =
       let lies : LiesIn (usable u) v.memory.start (length v.memory.bytes) = LiesIn-usable (IsPayloadOf-holds u refl h.machine holds) in
-      let (step, stands, spare) = filled_in h.machine addr u holds (lent_space (touched v.memory 3) (usable u).start (usable u).len w) (IsSameOutside-lent v.memory 3 (usable u) w lies) in
+      let (step, stands, spare) =
+      filled_in h.machine addr u holds (lent_space (touched v.memory 3) (usable u).start (usable u).len w) (IsSameOutside-lent v.memory 3 (usable u) w lies) in
       (stands, spare)
 
   -- what was left is the payload's, cut to it or filled up
-  pub left : IsSome (align_at v.state.machine addr) → (len : ℕ) → len ≡ length (bytes_at v.state.machine addr) → SamePlace v.memory (tlsf.written (allocator_of v) addr len w).memory → v.memory.out ≡ []
+  pub left : IsSome (align_at v.state.machine addr) → (len : ℕ) → len ≡ length (bytes_at v.state.machine addr)
+      → SamePlace v.memory (tlsf.written (allocator_of v) addr len w).memory → v.memory.out ≡ []
       → FlexStandsFor fllen sllen terms owes (written v addr len w)
   unfolding tlsf.written
   left live len whole place none =

@@ -1,4 +1,4 @@
--- A payload moves into a block that is allocated for it: its bytes are copied there, and its old block is given back.
+-- A payload moves into a block that is allocated for it: its bytes are copied there, and its old block is deallocated.
 use Rattle.std.proofs.Common.{◌≡◌, ℕ, ◌≤◌, List, Some, length, min, take, drop, arith, length-drop, inl, refl, sym, ◌∙◌, ap, subst}
 use Rattle.std.proofs.lemmas.List.{length-append, take_all, take_at}
 use Rattle.rlsf_base.specs.declared.memory.range.Range.{Range}
@@ -35,11 +35,14 @@ length-front n old new is short =
     omega (arith, length-append (take n old) (drop n new), length-drop n new, front, short)
 
 -- the bytes that were copied are those of the two payloads
-pub Fills-copied : {fllen sllen : ℕ} {memory : Range} {s t : State} → IsWellFormed fllen sllen memory s → (from to len : ℕ) (x y : Used) → Holds s from x → Holds s to y → Fills s to (with_front len (bytes_at s from) (bytes_at s to)) t
+pub Fills-copied : {fllen sllen : ℕ} {memory : Range} {s t : State} → IsWellFormed fllen sllen memory s → (from to len : ℕ) (x y : Used) → Holds s from x → Holds s to y
+    → Fills s to (with_front len (bytes_at s from) (bytes_at s to)) t
     → Fills s to (with_front len x.bytes y.bytes) t
-Fills-copied {s = s} {t = t} w from to len x y source target = subst (λ (l : List ℕ). Fills s to l t) (λ i. with_front len (bytes_at-held w from x source i) (bytes_at-held w to y target i))
+Fills-copied {s = s} {t = t} w from to len x y source target =
+    subst (λ (l : List ℕ). Fills s to l t) (λ i. with_front len (bytes_at-held w from x source i) (bytes_at-held w to y target i))
 
-module _ {fllen sllen : ℕ} {v w : Allocator} {s t : State} (stands : IsInState fllen sllen v s) (addr : ℕ) (u : Used) (holds : Holds s addr u) (size align to : ℕ) (is : u.align ≡ align) (short : (usable u).len ≤ size)
+module _ {fllen sllen : ℕ} {v w : Allocator} {s t : State} (stands : IsInState fllen sllen v s) (addr : ℕ) (u : Used) (holds : Holds s addr u) (size align to : ℕ)
+    (is : u.align ≡ align) (short : (usable u).len ≤ size)
     (step : Places sllen s size align to t) (now : IsInState fllen sllen w t) where
   power : IsPowerOfTwo align
   power = subst IsPowerOfTwo is (stands.stands.well_formed.used u holds.0).power
@@ -80,7 +83,7 @@ module _ {fllen sllen : ℕ} {v w : Allocator} {s t : State} (stands : IsInState
       after = filled;
     }
 
-  -- then the old block was given back
+  -- then the old block was deallocated
   module _ (x y : Allocator) (r q : State) (fills : Fills t to (with_front (usable u).len u.bytes step.bytes) r) (gone : Deallocates r addr q) where
     pub MovesAway-copied : MovesAway sllen s u size to q
     MovesAway-copied =
@@ -90,11 +93,14 @@ module _ {fllen sllen : ℕ} {v w : Allocator} {s t : State} (stands : IsInState
           allocated = subst (λ a. Allocates sllen s size a (Some to) r) (sym is) (Places-filled bytes r fills);
           block = placed step.range size align bytes;
           holds = subst (λ x. Holds x to (placed step.range size align bytes)) (sym (filled bytes r fills)) (inl refl, sym step.answer);
-          kept = Keeps-front (usable u).len u.bytes step.bytes (stands.stands.well_formed.used u holds.0).bytes (omega (arith, long, (now.stands.well_formed.used new Holds-new.0).bytes));
+          kept =
+              Keeps-front (usable u).len u.bytes step.bytes (stands.stands.well_formed.used u holds.0).bytes
+              (omega (arith, long, (now.stands.well_formed.used new Holds-new.0).bytes));
           released = subst (λ a. Deallocates r a q) (sym holds.1) gone;
         }
 
-    pub KeepsSpare-copied : SamePlace v.memory w.memory → SamePlace w.memory x.memory → KeepsSpare v.memory s w.memory t → KeepsSpare w.memory t x.memory r → KeepsSpare x.memory r y.memory q
+    pub KeepsSpare-copied : SamePlace v.memory w.memory → SamePlace w.memory x.memory → KeepsSpare v.memory s w.memory t → KeepsSpare w.memory t x.memory r
+        → KeepsSpare x.memory r y.memory q
         → KeepsSpare v.memory s y.memory q
     KeepsSpare-copied first second one two three =
         KeepsSpare-trans fllen sllen v.memory x.memory y.memory s r q (deallocate addr) (λ bad. bad) (SamePlace-then v.memory w.memory x.memory first second) gone

@@ -1,4 +1,4 @@
--- A new range that came is handed in, over plain values.
+-- A new range that came is inserted, over plain values.
 use Rattle.std.proofs.Common.{◌≡◌, ℕ, ◌^◌, ◌<◌, ◌≤◌, true, List, [], ◌∷◌, length, Option, Some, arith, refl, sym, ◌∙◌, ap, subst, inl, inr}
 use Rattle.std.specs.Bool.{then_some}
 use Rattle.std.proofs.lemmas.Option.{same_Some}
@@ -42,7 +42,8 @@ pub record Came {S : Type 0} (fllen sllen e : ℕ) (terms : S → Terms) (owes :
   pub is_given : IsGiven (terms v.source) v.state.pools len r
   pub owed : owes y (r ∷ v.state.pools)
 
-module _ {S : Type 0} {fl_bits sl_bits fllen sllen e : ℕ} (valid : IsValid fl_bits sl_bits fllen sllen) {terms : S → Terms} {owes : S → List Range → Type 0} {v : FlexContents S} {y : S} {len : ℕ} {r : Range}
+module _ {S : Type 0} {fl_bits sl_bits fllen sllen e : ℕ} (valid : IsValid fl_bits sl_bits fllen sllen) {terms : S → Terms} {owes : S → List Range → Type 0}
+    {v : FlexContents S} {y : S} {len : ℕ} {r : Range}
     (c : Came fllen sllen e terms owes v y len r) where
   -- a pool of it is taken
   pub Came-taken : (t : State) (taken : Option ℕ) → Inserts fllen v.state.machine r taken t → (n : ℕ) × (taken ≡ Some n) × IsTaken v.state.machine r n t × HasPool e t
@@ -51,13 +52,16 @@ module _ {S : Type 0} {fl_bits sl_bits fllen sllen e : ℕ} (valid : IsValid fl_
       inserted_pool fllen sllen e v.state.machine t r taken valid.some_rows room whole short (HasAlignedPart-given (terms v.source) v.state.pools e len r c.told c.is_given) step
 
   -- then the state is well-formed
-  Came-well_formed : (m : Space) (t : State) (n : ℕ) (later : Option KeptPool) → Inserts fllen v.state.machine r (Some n) t → SamePlace v.memory m → later ≡ then_some (keeps (terms v.source)) (record { range = r; len = n })
+  Came-well_formed : (m : Space) (t : State) (n : ℕ) (later : Option KeptPool) → Inserts fllen v.state.machine r (Some n) t → SamePlace v.memory m
+      → later ≡ then_some (keeps (terms v.source)) (record { range = r; len = n })
       → IsFlexWellFormed fllen sllen (range_of m) (terms v.source) (record { machine = t; pools = r ∷ v.state.pools; kept = later })
-  Came-well_formed m t n later step place is = subst (λ p. IsFlexWellFormed fllen sllen p (terms v.source) (record { machine = t; pools = r ∷ v.state.pools; kept = later })) (range_of-same v.memory m place.0 place.1)
+  Came-well_formed m t n later step place is =
+      subst (λ p. IsFlexWellFormed fllen sllen p (terms v.source) (record { machine = t; pools = r ∷ v.state.pools; kept = later })) (range_of-same v.memory m place.0 place.1)
       (given_keeps c.before.well_formed len n r (record { machine = t; pools = r ∷ v.state.pools; kept = later }) c.is_given step refl is)
 
   -- and the footer can be written
-  pub Came-footer : (m : Space) (t : State) (taken : Option ℕ) → Inserts fllen v.state.machine r taken t → SamePlace v.memory m → ((16 ≤ end_of r) × (end_of r < 2 ^ 64)) × HasSpareFooter m t r
+  pub Came-footer : (m : Space) (t : State) (taken : Option ℕ) → Inserts fllen v.state.machine r taken t → SamePlace v.memory m
+      → ((16 ≤ end_of r) × (end_of r < 2 ^ 64)) × HasSpareFooter m t r
   Came-footer m t taken step place =
       let (n, is, is_taken, pool) = Came-taken t taken step in
       let after = Came-well_formed m t n _ (subst (λ o. Inserts fllen v.state.machine r o t) is step) place refl in
@@ -86,17 +90,26 @@ module _ {S : Type 0} {fl_bits sl_bits fllen sllen e : ℕ} (valid : IsValid fl_
         room = λ more. pool;
       }
     where
-      outside : IsFlexWellFormed fllen sllen (range_of b.memory) (terms v.source) (record { machine = t; pools = r ∷ v.state.pools; kept = later }) → KeepsOutsideNow v.memory v.state.pools d.memory (r ∷ v.state.pools)
+      outside : IsFlexWellFormed fllen sllen (range_of b.memory) (terms v.source) (record { machine = t; pools = r ∷ v.state.pools; kept = later })
+          → KeepsOutsideNow v.memory v.state.pools d.memory (r ∷ v.state.pools)
       outside middle = KeepsOutsideNow-then v.memory b.memory d.memory v.state.pools (r ∷ v.state.pools) (r ∷ v.state.pools)
-          (KeepsOutsideNow-spare v.memory b.memory v.state.machine t v.state.pools (r ∷ v.state.pools) c.before.well_formed.housed middle.housed (λ a none. omega (arith, none)) place spare)
-          (KeepsOutsideNow-footed (terms v.source).dealloc b.memory d.memory r (kept_start kept) (kept_len kept) (r ∷ v.state.pools) (r ∷ v.state.pools) (inl refl) (middle.pools.long r (inl refl)) (λ a none. none) foot)
+          (KeepsOutsideNow-spare v.memory b.memory v.state.machine t v.state.pools (r ∷ v.state.pools) c.before.well_formed.housed middle.housed (λ a none. omega (arith, none))
+          place spare)
+          (KeepsOutsideNow-footed (terms v.source).dealloc b.memory d.memory r (kept_start kept) (kept_len kept) (r ∷ v.state.pools) (r ∷ v.state.pools) (inl refl)
+          (middle.pools.long r (inl refl)) (λ a none. none) foot)
 
-      footers : IsFlexWellFormed fllen sllen (range_of b.memory) (terms v.source) (record { machine = t; pools = r ∷ v.state.pools; kept = later }) → (terms v.source).dealloc ≡ true → Footers d.memory (r ∷ v.state.pools)
+      footers : IsFlexWellFormed fllen sllen (range_of b.memory) (terms v.source) (record { machine = t; pools = r ∷ v.state.pools; kept = later })
+          → (terms v.source).dealloc ≡ true → Footers d.memory (r ∷ v.state.pools)
       footers middle takes =
           let w = foot.written takes in
           let before = subst (λ k. IsNewest (terms v.source) k v.state.pools v.state.machine.chunks) was c.before.well_formed.newest in
           let words = words-first (terms v.source) kept v.state.pools v.state.machine.chunks before (keeps-dealloc (terms v.source) takes) in
-          let old = Footers-kept v.memory b.memory v.state.machine t v.state.pools spare (λ a from one two. out_at-place v.memory b.memory place c.whole a) place.0 place.1 (λ p i. (spare_here v.memory c.before.well_formed p i, spare_here b.memory middle p (inr i))) (c.before.footers takes) in
+          let old =
+          Footers-kept v.memory b.memory v.state.machine t v.state.pools spare (λ a from one two. out_at-place v.memory b.memory place c.whole a) place.0 place.1
+          (λ p i. (spare_here v.memory c.before.well_formed p i, spare_here b.memory middle p (inr i))) (c.before.footers takes) in
           let placed : (p : Range) → IsIn p v.state.pools → (64 ≤ p.len) × LiesIn p b.memory.start (length b.memory.bytes) =
-          λ p i. (middle.pools.long p (inr i), (outstanding_in b.memory (terms v.source).space (r ∷ v.state.pools) middle.space middle.pools).in_space p (inr i)) in
-          (w.reads_start ∙ words.0, w.reads_len ∙ words.1, Footers-written b.memory d.memory r (kept_start kept) (kept_len kept) v.state.pools (place.3 c.whole) w (middle.pools.long r (inl refl)) c.is_given.apart placed old)
+          λ p i. (middle.pools.long p (inr i), (outstanding_in b.memory (terms v.source).space (r ∷ v.state.pools) middle.space middle.pools).in_space p (inr i)) in (
+            w.reads_start ∙ words.0,
+            w.reads_len ∙ words.1,
+            Footers-written b.memory d.memory r (kept_start kept) (kept_len kept) v.state.pools (place.3 c.whole) w (middle.pools.long r (inl refl)) c.is_given.apart placed old,
+          )

@@ -1,5 +1,6 @@
--- The newest range goes back, over plain values.
-use Rattle.std.proofs.Common.{◌≡◌, ℕ, ◌+◌, ◌^◌, ◌<◌, ◌≤◌, true, List, [], ◌∷◌, Option, Some, None, IfSome, MatchOption, arith, refl, sym, ◌∙◌, ap, subst, inl, inr}
+-- The newest range is returned, over plain values.
+use Rattle.std.proofs.Common.{◌≡◌, ℕ, ◌+◌, ◌^◌, ◌<◌, ◌≤◌, true, List, [], ◌∷◌, Option, Some, None, IfSome, MatchOption, arith, refl, sym, ◌∙◌}
+use Rattle.std.proofs.Common.{ap, subst, inl, inr}
 use Rattle.rlsf_base.specs.declared.memory.range.Range.{Range}
 use Rattle.rlsf_base.specs.Range.{end_of, LiesIn}
 use Rattle.rlsf_base.specs.Space.{IsWord, range_of, SamePlace}
@@ -30,7 +31,8 @@ use Rattle.rlsf_flex.proofs.Places.{out_at-place}
 use Rattle.rlsf_flex.proofs.RangeRows.{idle_range, idle_row, removed-row, row_of}
 
 -- the newest of ranges that have pools has one
-first_pool : {fllen sllen : ℕ} {memory space : Range} (s : State) (rest : List Range) → LiesIn space memory.start memory.len → end_of memory < 2 ^ 64 → IsOver fllen sllen memory space s rest
+first_pool : {fllen sllen : ℕ} {memory space : Range} (s : State) (rest : List Range) → LiesIn space memory.start memory.len → end_of memory < 2 ^ 64
+    → IsOver fllen sllen memory space s rest
     → IfSome (first rest) (λ r. HasRoomForChunk r × ((len : ℕ) × IsPool s r len))
 first_pool s [] lies short over = tt
 first_pool s (r ∷ rest) lies short over =
@@ -38,8 +40,10 @@ first_pool s (r ∷ rest) lies short over =
     ((long, omega (arith, over.outstanding.in_space r (inl refl), lies, short)), over.pooled r (inl refl))
 
 -- and is the kept pool then
-kept_first : {fllen sllen : ℕ} {memory space : Range} (t : Terms) (s : State) (rest : List Range) (later : Option Pool) → t.dealloc ≡ true → IsOver fllen sllen memory space s rest
-    → MatchOption (first rest) (later ≡ None) (λ r. (len : ℕ) → IsPool s r len → later ≡ Some (record { range = r; len = len })) → IsNewest t (kept_of later) rest s.chunks
+kept_first : {fllen sllen : ℕ} {memory space : Range} (t : Terms) (s : State) (rest : List Range) (later : Option Pool) → t.dealloc ≡ true
+    → IsOver fllen sllen memory space s rest
+    → MatchOption (first rest) (later ≡ None) (λ r. (len : ℕ) → IsPool s r len → later ≡ Some (record { range = r; len = len }))
+    → IsNewest t (kept_of later) rest s.chunks
 kept_first t s [] later takes over told = subst (λ k. IsNewest t (kept_of k) [] s.chunks) (sym told) (λ keep. refl)
 kept_first t s (r ∷ rest) later takes over told =
     let (len, pool) = over.pooled r (inl refl) in
@@ -47,7 +51,8 @@ kept_first t s (r ∷ rest) later takes over told =
     subst (λ k. IsNewest t (kept_of k) (r ∷ rest) s.chunks) (sym (told len pool))
     (record { rest = rest; split = refl; keeping = keeps-dealloc t takes; within = pool.within; nearly = pool.nearly; last = (c, i, ends); unused = pool.unused })
 
-module _ {S : Type 0} {fllen sllen : ℕ} {terms : S → Terms} {owes : S → List Range → Type 0} {a : Allocator} {kept : Option Pool} {x : S} {ranges : List Range} {pool : Pool}
+module _ {S : Type 0} {fllen sllen : ℕ} {terms : S → Terms} {owes : S → List Range → Type 0} {a : Allocator} {kept : Option Pool} {x : S} {ranges : List Range}
+    {pool : Pool}
     (v : FlexStandsFor fllen sllen terms owes (flex_contents a kept x ranges)) (is : kept ≡ Some pool) where
   abbrev known : IsKeptPool (terms x) (kept_pool pool) ranges a.state.chunks
   known = (IsKeptPool-known v is).1
@@ -75,7 +80,9 @@ module _ {S : Type 0} {fllen sllen : ℕ} {terms : S → Terms} {owes : S → Li
   pub newest_idle : IsIdle a.state (walked (row_of pool.range pool.len)) → IsIdle a.state pool.range
   newest_idle idle = idle_range v.machine.well_formed pool.range pool.len newest_pool (λ c b i low high from to.
       let (p, j, begins, ends) = v.well_formed.housed c i in
-      let same : p ≡ pool.range = coverage-unique itself p pool.range ranges b (v.well_formed.pools.disjoint b) j is_newest (covers-inside p b (omega arith) (omega arith)) (covers-inside pool.range b low high) in
+      let same : p ≡ pool.range =
+      coverage-unique itself p pool.range ranges b (v.well_formed.pools.disjoint b) j is_newest (covers-inside p b (omega arith) (omega arith))
+      (covers-inside pool.range b low high) in
       let start : p.start ≡ pool.range.start = ap (λ q. q.start) {x = p} same in
       omega arith) idle
 
@@ -112,8 +119,10 @@ module _ {S : Type 0} {fllen sllen : ℕ} {terms : S → Terms} {owes : S → Li
     pub next_pool : IfSome (first others) (λ r. HasRoomForChunk r × ((len : ℕ) × IsPool b.state r len))
     next_pool = first_pool b.state others v.well_formed.space v.machine.well_formed.addressable over
 
-    module _ (stands : StandsFor fllen sllen (contents b.memory b.table) b.state) (spare : KeepsSpare a.memory a.state b.memory b.state) (place : SamePlace a.memory b.memory) (none : a.memory.out ≡ []) (takes : (terms x).dealloc ≡ true)
-        (later : Option Pool) (told : MatchOption (first others) (later ≡ None) (λ r. (len : ℕ) → IsPool b.state r len → later ≡ Some (record { range = r; len = len }))) where
+    module _ (stands : StandsFor fllen sllen (contents b.memory b.table) b.state) (spare : KeepsSpare a.memory a.state b.memory b.state) (place : SamePlace a.memory b.memory)
+        (none : a.memory.out ≡ []) (takes : (terms x).dealloc ≡ true)
+        (later : Option Pool) (told : MatchOption (first others) (later ≡ None)
+        (λ r. (len : ℕ) → IsPool b.state r len → later ≡ Some (record { range = r; len = len }))) where
       abbrev after : FlexState
       after = record { machine = b.state; pools = others; kept = kept_of later }
 
@@ -127,8 +136,9 @@ module _ {S : Type 0} {fllen sllen : ℕ} {terms : S → Terms} {owes : S → Li
         pooled = over.pooled;
       })
 
-      -- the newest range goes back
-      pub gave_newest : (leads : S → Note → S → Type 0) (y : S) (now : List Range) → leads x (dealloc pool.range) y → terms y ≡ terms x → owes y others → now ≡ older ranges
+      -- the newest range is returned
+      pub gave_newest : (leads : S → Note → S → Type 0) (y : S) (now : List Range) → leads x (dealloc pool.range) y → terms y ≡ terms x → owes y others
+          → now ≡ older ranges
           → GaveNewest fllen sllen terms owes leads (flex_contents a kept x ranges) (flex_contents b later y now)
       gave_newest leads y now led same owed is_older =
           let path : now ≡ others = is_older ∙ ap older newest_first in
@@ -143,6 +153,7 @@ module _ {S : Type 0} {fllen sllen : ℕ} {terms : S → Terms} {owes : S → Li
             place = place;
             spare = spare;
             stands = FlexStandsFor-answered x y b after stands left same owed
-                (λ back. Footers-kept a.memory b.memory a.state b.state others spare (λ c from one two. out_at-place a.memory b.memory place none c) place.0 place.1 (λ p i. (spare_here a.memory v.well_formed p (is_other p i), spare_here b.memory left p i)) (newest_footers back).2);
+                (λ back. Footers-kept a.memory b.memory a.state b.state others spare (λ c from one two. out_at-place a.memory b.memory place none c) place.0 place.1
+                (λ p i. (spare_here a.memory v.well_formed p (is_other p i), spare_here b.memory left p i)) (newest_footers back).2);
           } in
           subst (λ ps. GaveNewest fllen sllen terms owes leads (flex_contents a kept x ranges) (flex_contents b later y ps)) (sym path) all

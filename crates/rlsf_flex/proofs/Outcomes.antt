@@ -18,7 +18,8 @@ use Rattle.rlsf_flex.proofs.Standing.{contents_at}
 
 module _ {S : Type 0} {fllen sllen : ℕ} {terms : S → Terms} {owes : S → List Range → Type 0} where
   -- the source at another value, with the same terms
-  pub FlexStandsFor-answered : (x y : S) (d : Allocator) (s : FlexState) → StandsFor fllen sllen (contents d.memory d.table) s.machine → IsFlexWellFormed fllen sllen (range_of d.memory) (terms x) s → terms y ≡ terms x → owes y s.pools
+  pub FlexStandsFor-answered : (x y : S) (d : Allocator) (s : FlexState) → StandsFor fllen sllen (contents d.memory d.table) s.machine
+      → IsFlexWellFormed fllen sllen (range_of d.memory) (terms x) s → terms y ≡ terms x → owes y s.pools
       → ((terms x).dealloc ≡ true → Footers d.memory s.pools) → FlexStandsFor fllen sllen terms owes (contents_at d y s)
   FlexStandsFor-answered x y d s machine well_formed same owed footers = record {
     machine = machine;
@@ -34,12 +35,22 @@ module _ {S : Type 0} {fllen sllen : ℕ} {terms : S → Terms} {owes : S → Li
 
     -- nothing came
     pub Took-refused : (e : ℕ) → Took fllen sllen terms owes v (contents_at (allocator_of v) y v.state) e refused
-    Took-refused e = record { takes = refl; may = tt; outside = KeepsOutsideNow-refl v.memory v.state.pools; spare = λ a low high one two none. refl; stands = FlexStandsFor-refused; room = λ more. absurd (false≢true more) }
+    Took-refused e =
+        record {
+          takes = refl;
+          may = tt;
+          outside = KeepsOutsideNow-refl v.memory v.state.pools;
+          spare = λ a low high one two none. refl;
+          stands = FlexStandsFor-refused;
+          room = λ more. absurd (false≢true more);
+        }
 
   -- the state after, by its parts' names
-  pub Took-named : {v : FlexContents S} {d : Allocator} {y : S} {t : State} {pools ranges : List Range} {kept : Option KeptPool} {e : ℕ} {o : Outcome} → d.state ≡ t → ranges ≡ pools
+  pub Took-named : {v : FlexContents S} {d : Allocator} {y : S} {t : State} {pools ranges : List Range} {kept : Option KeptPool} {e : ℕ} {o : Outcome} → d.state ≡ t
+      → ranges ≡ pools
       → Took fllen sllen terms owes v (contents_at d y (record { machine = t; pools = pools; kept = kept })) e o
       → Took fllen sllen terms owes v (contents_at d y (record { machine = d.state; pools = ranges; kept = kept })) e o
   Took-named {v} {d} {y} {t} {pools} {ranges} {kept} {e} {o} state owed took =
-      let path : (let s : FlexState = record { machine = t; pools = pools; kept = kept } in s) ≡ record { machine = d.state; pools = ranges; kept = kept } = λ i. record { machine = sym state i; pools = sym owed i; kept = kept } in
+      let path : (let s : FlexState = record { machine = t; pools = pools; kept = kept } in s) ≡ record { machine = d.state; pools = ranges; kept = kept } =
+      λ i. record { machine = sym state i; pools = sym owed i; kept = kept } in
       subst (λ s. Took fllen sllen terms owes v (contents_at d y s) e o) path took

@@ -1,5 +1,6 @@
 -- What leaves the bytes outside of all ranges that were outstanding, through calls one after another.
-use Rattle.std.proofs.Common.{◌≡◌, ℕ, ◌+◌, cond, Bool, true, false, true≢false, List, [], ◌∷◌, ◌++◌, Option, Some, None, arith, refl, sym, ◌∙◌, ap, subst}
+use Rattle.std.proofs.Common.{◌≡◌, ℕ, ◌+◌, cond, Bool, true, false, true≢false, List, [], ◌∷◌, ◌++◌, Option, Some, None, arith, refl, sym, ◌∙◌, ap}
+use Rattle.std.proofs.Common.{subst}
 use Rattle.std.specs.Option.{is_some}
 use Rattle.std.proofs.lemmas.Option.{none-some, same_Some}
 use Rattle.rlsf_base.specs.declared.memory.range.Range.{Range}
@@ -9,7 +10,8 @@ use Rattle.rlsf_flex.specs.Outside.{IsOutside, KeepsOutside, NothingGoesBack, ev
 use Rattle.rlsf_flex.specs.Steps.Outside.{KeepsOutsideNow}
 use Rattle.rlsf_machine.specs.FlexState.{FlexState, KeptPool}
 use Rattle.rlsf_machine.specs.FlexWellFormed.{AreHoused, IsNewest}
-use Rattle.rlsf_machine.specs.Growth.{Extends, IsPossible, Outcome, range_came, growth_came, growth_note, if_fits, longer, notes_of, questions, questions_kept, range_note, refused, TakesIn}
+use Rattle.rlsf_machine.specs.Growth.{Extends, IsPossible, Outcome, range_came, growth_came, growth_note, if_fits, longer, notes_of, questions, questions_kept, range_note, refused}
+use Rattle.rlsf_machine.specs.Growth.{TakesIn}
 use Rattle.rlsf_machine.specs.Note.{Note, dealloc}
 use Rattle.rlsf_machine.specs.State.{State}
 use Rattle.rlsf_machine.specs.Terms.{Terms, with_len}
@@ -20,19 +22,21 @@ use Rattle.rlsf_flex.proofs.Places.{SamePlace-refl, SamePlace-then}
 
 -- ---- the ranges that ever were outstanding
 
--- what some answers handed out, and then more
+-- what some answers provided, and then more
 handed-append : (ms ns : List Note) (a : ℕ) → coverage itself (handed (ms ++ ns)) a ≡ coverage itself (handed ms) a + coverage itself (handed ns) a
 handed-append [] ns a = omega arith
 handed-append (m ∷ ms) ns a = omega (arith, handed-append ms ns a, coverage-append itself (handed_by m) (handed (ms ++ ns)) a, coverage-append itself (handed_by m) (handed ms) a)
 
--- an address counts as often as before, and once for each time that it was handed out
-pub ever_owed-coverage : (before : List Range) (notes : List Note) (a : ℕ) → coverage itself (ever_owed before notes) a ≡ coverage itself before a + coverage itself (handed notes) a
+-- an address counts as often as before, and once for each time that it was provided
+pub ever_owed-coverage : (before : List Range) (notes : List Note) (a : ℕ)
+    → coverage itself (ever_owed before notes) a ≡ coverage itself before a + coverage itself (handed notes) a
 ever_owed-coverage before notes a = coverage-append itself before (handed notes) a
 
-ever_owed-append : (before : List Range) (ms ns : List Note) (a : ℕ) → coverage itself (ever_owed before (ms ++ ns)) a ≡ coverage itself before a + coverage itself (handed ms) a + coverage itself (handed ns) a
+ever_owed-append : (before : List Range) (ms ns : List Note) (a : ℕ)
+    → coverage itself (ever_owed before (ms ++ ns)) a ≡ coverage itself before a + coverage itself (handed ms) a + coverage itself (handed ns) a
 ever_owed-append before ms ns a = omega (arith, ever_owed-coverage before (ms ++ ns) a, handed-append ms ns a)
 
--- nothing went back in a part of what went before and behind
+-- nothing was returned in a part of what went before and behind
 NothingGoesBack-parts : (ms ns : List Note) → NothingGoesBack (ms ++ ns) → NothingGoesBack ms × NothingGoesBack ns
 NothingGoesBack-parts ms ns none = (λ r i. none r (IsIn-append_left (dealloc r) ms ns i), λ r i. none r (IsIn-append_right (dealloc r) ms ns i))
 
@@ -48,7 +52,8 @@ KeepsOutside-refl m pools = record {
 }
 
 -- one after the other
-pub KeepsOutside-then : (m n o : Space) (first second third : List Range) (notes more : List Note) → KeepsOutside m first notes n second → KeepsOutside n second more o third → KeepsOutside m first (notes ++ more) o third
+pub KeepsOutside-then : (m n o : Space) (first second third : List Range) (notes more : List Note) → KeepsOutside m first notes n second → KeepsOutside n second more o third
+    → KeepsOutside m first (notes ++ more) o third
 KeepsOutside-then m n o first second third notes more one two = record {
   place = SamePlace-then m n o one.place two.place;
   among = λ a none. two.among a (middle a none);
@@ -66,20 +71,25 @@ KeepsOutside-then m n o first second third notes more one two = record {
     middle : (a : ℕ) → IsOutside (ever_owed first (notes ++ more)) a → IsOutside (ever_owed second more) a
     middle a none = omega (arith, ever_owed-append first notes more a, ever_owed-coverage second more a, one.among a (begin a none), none)
 
--- what keeps each byte outside of the ranges, where the answers handed out those that came
-pub KeepsOutside-now : (m n : Space) (before after : List Range) (notes : List Note) → KeepsOutsideNow m before n after → ((a : ℕ) → IsOutside (ever_owed before notes) a → IsOutside after a)
+-- what keeps each byte outside of the ranges, where the answers provided those that came
+pub KeepsOutside-now : (m n : Space) (before after : List Range) (notes : List Note) → KeepsOutsideNow m before n after
+    → ((a : ℕ) → IsOutside (ever_owed before notes) a → IsOutside after a)
     → ((a : ℕ) → IsOutside after a → IsOutside (ever_owed before notes) a) → KeepsOutside m before notes n after
-KeepsOutside-now m n before after notes now among all_owed = record { place = now.place; among = among; all_owed = λ kept. all_owed; bytes = λ a low high none. now.bytes a low high (among a none) }
+KeepsOutside-now m n before after notes now among all_owed =
+    record { place = now.place; among = among; all_owed = λ kept. all_owed; bytes = λ a low high none. now.bytes a low high (among a none) }
 
 -- nothing was asked
 pub KeepsOutside-alone : (m n : Space) (pools : List Range) → KeepsOutsideNow m pools n pools → KeepsOutside m pools [] n pools
-KeepsOutside-alone m n pools now = KeepsOutside-now m n pools pools [] now (λ a none. omega (arith, ever_owed-coverage pools [] a, none)) (λ a none. omega (arith, ever_owed-coverage pools [] a, none))
+KeepsOutside-alone m n pools now =
+    KeepsOutside-now m n pools pools [] now (λ a none. omega (arith, ever_owed-coverage pools [] a, none)) (λ a none. omega (arith, ever_owed-coverage pools [] a, none))
 
 -- what keeps spare bytes and asks nothing keeps those outside of the ranges, which house all chunks
-pub KeepsOutside-spare : (m n : Space) (s t : State) (pools : List Range) → AreHoused pools s.chunks → AreHoused pools t.chunks → SamePlace m n → KeepsSpare m s n t → KeepsOutside m pools [] n pools
-KeepsOutside-spare m n s t pools housed_before housed_after place keeps = KeepsOutside-alone m n pools (KeepsOutsideNow-spare m n s t pools pools housed_before housed_after (λ a none. none) place keeps)
+pub KeepsOutside-spare : (m n : Space) (s t : State) (pools : List Range) → AreHoused pools s.chunks → AreHoused pools t.chunks → SamePlace m n → KeepsSpare m s n t
+    → KeepsOutside m pools [] n pools
+KeepsOutside-spare m n s t pools housed_before housed_after place keeps =
+    KeepsOutside-alone m n pools (KeepsOutsideNow-spare m n s t pools pools housed_before housed_after (λ a none. none) place keeps)
 
--- ---- what the answers to the questions for more memory handed out
+-- ---- what the answers to the questions for more memory provided
 
 handed-refused : (growth : Option (Range × ℕ)) (range : Option ℕ) → handed (growth_note growth None ++ range_note range None) ≡ []
 handed-refused None None = refl
@@ -87,12 +97,14 @@ handed-refused None (Some n) = refl
 handed-refused (Some (r, n)) None = refl
 handed-refused (Some (r, n)) (Some m) = refl
 
-handed-given : (growth : Option (Range × ℕ)) (range : Option ℕ) (r : Range) → is_some range ≡ true → handed (growth_note growth None ++ range_note range (Some r)) ≡ r ∷ []
+handed-given : (growth : Option (Range × ℕ)) (range : Option ℕ) (r : Range) → is_some range ≡ true
+    → handed (growth_note growth None ++ range_note range (Some r)) ≡ r ∷ []
 handed-given growth None r some = absurd (true≢false (sym some))
 handed-given None (Some n) r some = refl
 handed-given (Some (q, m)) (Some n) r some = refl
 
-handed-grown : (growth : Option (Range × ℕ)) (len : ℕ) → is_some growth ≡ true → (r : Range) × (n : ℕ) × (growth ≡ Some (r, n)) × (handed (growth_note growth (Some len)) ≡ with_len r len ∷ [])
+handed-grown : (growth : Option (Range × ℕ)) (len : ℕ) → is_some growth ≡ true
+    → (r : Range) × (n : ℕ) × (growth ≡ Some (r, n)) × (handed (growth_note growth (Some len)) ≡ with_len r len ∷ [])
 handed-grown None len some = absurd (true≢false (sym some))
 handed-grown (Some (r, n)) len some = (r, n, refl, refl)
 
@@ -105,22 +117,27 @@ growth_of_kept t k e (Some m) r n is = go t.grow is
     go false is = absurd (none-some (r, n) is)
     go true is = ap (λ p. p.0) (sym (same_Some (k.range, m) (r, n) is))
 
--- the ranges after some answers have the addresses of those before and of what was handed out, and no others
+-- the ranges after some answers have the addresses of those before and of what was provided, and no others
 abbrev IsKnown : List Range → List Range → List Note → Type 0
-IsKnown before after notes = (a : ℕ) → (IsOutside (ever_owed before notes) a → IsOutside after a) × (IsOutside after a → IsOutside before a → IsOutside (ever_owed before notes) a)
+IsKnown before after notes = (a : ℕ)
+    → (IsOutside (ever_owed before notes) a → IsOutside after a) × (IsOutside after a → IsOutside before a → IsOutside (ever_owed before notes) a)
 
 module _ (fllen : ℕ) (t : Terms) (s u : FlexState) (e : ℕ) (newest : IsNewest t s.kept s.pools s.machine.chunks) where
   known : (o : Outcome) → IsPossible (questions t s.kept (Some e)) o → TakesIn fllen t s o u → IsKnown s.pools u.pools (notes_of (questions t s.kept (Some e)) o)
   known refused possible same a =
       let q = questions t s.kept (Some e) in
       let is = ap (λ rs. coverage itself rs a) (handed-refused q.growth q.range) in
-      let owed = ap (λ (v : FlexState). coverage itself v.pools a) {x = u} same in
-      (λ none. omega (arith, ever_owed-coverage s.pools (notes_of q refused) a, is, owed, none), λ none before. omega (arith, ever_owed-coverage s.pools (notes_of q refused) a, is, before))
+      let owed = ap (λ (v : FlexState). coverage itself v.pools a) {x = u} same in (
+        λ none. omega (arith, ever_owed-coverage s.pools (notes_of q refused) a, is, owed, none),
+        λ none before. omega (arith, ever_owed-coverage s.pools (notes_of q refused) a, is, before),
+      )
   known (range_came r) possible (len, inserts, pools, kept) a =
       let q = questions t s.kept (Some e) in
       let is = ap (λ rs. coverage itself rs a) (handed-given q.growth q.range r possible) in
-      let owed = ap (λ rs. coverage itself rs a) pools in
-      (λ none. omega (arith, ever_owed-coverage s.pools (notes_of q (range_came r)) a, is, owed, none), λ none before. omega (arith, ever_owed-coverage s.pools (notes_of q (range_came r)) a, is, owed, none, before))
+      let owed = ap (λ rs. coverage itself rs a) pools in (
+        λ none. omega (arith, ever_owed-coverage s.pools (notes_of q (range_came r)) a, is, owed, none),
+        λ none before. omega (arith, ever_owed-coverage s.pools (notes_of q (range_came r)) a, is, owed, none, before),
+      )
   known (growth_came len) possible (k, taken, was, appends, pools, kept) a =
       let q = questions t s.kept (Some e) in
       let (r, n, is_asked, handed_is) = handed-grown q.growth len possible in
@@ -128,11 +145,14 @@ module _ (fllen : ℕ) (t : Terms) (s u : FlexState) (e : ℕ) (newest : IsNewes
       let range : r ≡ k.range = growth_of_kept t k e (if_fits (k.len + e)) r n (sym (ap (λ o. (questions t o (Some e)).growth) was) ∙ is_asked) in
       let is = ap (λ rs. coverage itself rs a) (handed_is ∙ ap (λ q. with_len q len ∷ []) range) in
       let split = ap (λ rs. coverage itself rs a) kept_pool.split in
-      let owed = ap (λ rs. coverage itself rs a) (pools ∙ ap (longer len) kept_pool.split) in
-      (λ none. omega (arith, ever_owed-coverage s.pools (notes_of q (growth_came len)) a, is, split, owed, none), λ none before. omega (arith, ever_owed-coverage s.pools (notes_of q (growth_came len)) a, is, split, owed, none, before))
+      let owed = ap (λ rs. coverage itself rs a) (pools ∙ ap (longer len) kept_pool.split) in (
+        λ none. omega (arith, ever_owed-coverage s.pools (notes_of q (growth_came len)) a, is, split, owed, none),
+        λ none before. omega (arith, ever_owed-coverage s.pools (notes_of q (growth_came len)) a, is, split, owed, none, before),
+      )
 
   -- so what asks for memory keeps the bytes outside of the ranges
-  pub KeepsOutside-asked : {o : Outcome} {notes : List Note} (m n : Space) → Extends fllen t s (Some e) o notes u → KeepsOutsideNow m s.pools n u.pools → KeepsOutside m s.pools notes n u.pools
+  pub KeepsOutside-asked : {o : Outcome} {notes : List Note} (m n : Space) → Extends fllen t s (Some e) o notes u → KeepsOutsideNow m s.pools n u.pools
+      → KeepsOutside m s.pools notes n u.pools
   KeepsOutside-asked {o} {notes} m n extends now =
       let all : IsKnown s.pools u.pools notes = subst (IsKnown s.pools u.pools) (sym extends.asked) (known o extends.possible extends.after) in
       KeepsOutside-now m n s.pools u.pools notes now (λ a. (all a).0) (λ a none. (all a).1 none (now.only_more a none))

@@ -1,4 +1,4 @@
--- What leaves the bytes outside of the outstanding ranges, where no range is given back.
+-- What leaves the bytes outside of the outstanding ranges, where no range is returned.
 use Rattle.std.proofs.Common.{ℕ, ◌≤◌, Bool, List, arith, refl, ◌∙◌}
 use Rattle.rlsf_base.specs.declared.memory.range.Range.{Range}
 use Rattle.rlsf_base.specs.Space.{Space, SamePlace}
@@ -25,7 +25,8 @@ pub KeepsOutsideNow-refl : (m : Space) (pools : List Range) → KeepsOutsideNow 
 KeepsOutsideNow-refl m pools = record { place = SamePlace-refl m; only_more = λ a none. none; bytes = λ a low high none. refl }
 
 -- what keeps spare bytes keeps those outside of the ranges that house all chunks
-pub KeepsOutsideNow-spare : (m n : Space) (s t : State) (before after : List Range) → AreHoused before s.chunks → AreHoused after t.chunks → ((a : ℕ) → IsOutside after a → IsOutside before a)
+pub KeepsOutsideNow-spare : (m n : Space) (s t : State) (before after : List Range) → AreHoused before s.chunks → AreHoused after t.chunks
+    → ((a : ℕ) → IsOutside after a → IsOutside before a)
     → SamePlace m n → KeepsSpare m s n t → KeepsOutsideNow m before n after
 KeepsOutsideNow-spare m n s t before after housed_before housed_after more place keeps = record {
   place = place;
@@ -35,13 +36,15 @@ KeepsOutsideNow-spare m n s t before after housed_before housed_after more place
 
 -- so a step between states with the same ranges keeps them
 pub KeepsOutsideNow-stands : {S : Type 0} {fllen sllen : ℕ} {terms : S → Terms} {owes : S → List Range → Type 0} {v : FlexContents S} {new : Allocator}
-    → FlexStandsFor fllen sllen terms owes v → FlexStandsFor fllen sllen terms owes (with_allocator v new) → SamePlace v.memory new.memory → KeepsSpare v.memory v.state.machine new.memory new.state
+    → FlexStandsFor fllen sllen terms owes v → FlexStandsFor fllen sllen terms owes (with_allocator v new) → SamePlace v.memory new.memory
+    → KeepsSpare v.memory v.state.machine new.memory new.state
     → KeepsOutsideNow v.memory v.state.pools new.memory v.state.pools
 KeepsOutsideNow-stands {v = v} {new = new} before after place keeps =
     KeepsOutsideNow-spare v.memory new.memory v.state.machine new.state v.state.pools v.state.pools before.well_formed.housed after.well_formed.housed (λ a none. none) place keeps
 
 -- one after the other
-pub KeepsOutsideNow-then : (m n o : Space) (first second third : List Range) → KeepsOutsideNow m first n second → KeepsOutsideNow n second o third → KeepsOutsideNow m first o third
+pub KeepsOutsideNow-then : (m n o : Space) (first second third : List Range) → KeepsOutsideNow m first n second → KeepsOutsideNow n second o third
+    → KeepsOutsideNow m first o third
 KeepsOutsideNow-then m n o first second third one two = record {
   place = SamePlace-then m n o one.place two.place;
   only_more = λ a none. one.only_more a (two.only_more a none);
@@ -49,7 +52,8 @@ KeepsOutsideNow-then m n o first second third one two = record {
 }
 
 -- a footer that is written lies in its range
-pub KeepsOutsideNow-footed : (takes_back : Bool) (m n : Space) (r : Range) (start len : ℕ) (before after : List Range) → IsIn r after → 64 ≤ r.len → ((a : ℕ) → IsOutside after a → IsOutside before a)
+pub KeepsOutsideNow-footed : (takes_back : Bool) (m n : Space) (r : Range) (start len : ℕ) (before after : List Range) → IsIn r after → 64 ≤ r.len
+    → ((a : ℕ) → IsOutside after a → IsOutside before a)
     → IsFooted takes_back m n r start len → KeepsOutsideNow m before n after
 KeepsOutsideNow-footed takes_back m n r start len before after i long more foot = record {
   place = foot.place;

@@ -1,6 +1,7 @@
--- The row of chunks that a range has: what lies in the range lies in the row, and a walk over it tells whether a block there is used.
+-- The contiguous chunks of a range: what lies in the range lies in them, and an iteration over them shows whether a block there is used.
 use mathlib.Core.Path.{ap₂}
-use Rattle.std.proofs.Common.{◌≡◌, ℕ, ◌+◌, ◌-◌, ◌%◌, ◌<◌, ◌≤◌, cond, not, true, true≢false, List, [], ◌∷◌, arith, refl, sym, ◌∙◌, ap, inl, inr}
+use Rattle.std.proofs.Common.{◌≡◌, ℕ, ◌+◌, ◌-◌, ◌%◌, ◌<◌, ◌≤◌, cond, not, true, true≢false, List, [], ◌∷◌, arith, refl, sym, ◌∙◌, ap}
+use Rattle.std.proofs.Common.{inl, inr}
 use Rattle.std.proofs.lemmas.Bool.{cases_lt, false_from_ne_true}
 use Rattle.rlsf_base.specs.declared.memory.range.Range.{Range}
 use Rattle.rlsf_base.specs.Range.{end_of, range_at}
@@ -27,7 +28,8 @@ row_of r len = range_at r.start len
 outside_of-same : (q r : Range) (xs : List Range) → ((x : Range) → IsIn x xs → lies_within q x ≡ lies_within r x) → outside_of q xs ≡ outside_of r xs
 outside_of-same q r [] same = refl
 outside_of-same q r (x ∷ xs) same =
-    ap (λ b. cond (not b) (x ∷ outside_of q xs) (outside_of q xs)) (same x (inl refl)) ∙ ap (λ l. cond (not (lies_within r x)) (x ∷ l) l) (outside_of-same q r xs (λ y i. same y (inr i)))
+    ap (λ b. cond (not b) (x ∷ outside_of q xs) (outside_of q xs)) (same x (inl refl))
+    ∙ ap (λ l. cond (not (lies_within r x)) (x ∷ l) l) (outside_of-same q r xs (λ y i. same y (inr i)))
 
 -- no chunk of a range's row has bytes on both sides of an address there
 pub record IsEdge (s : State) (r : Range) (len a : ℕ) : Type 0 where
@@ -38,7 +40,8 @@ pub record IsEdge (s : State) (r : Range) (len a : ℕ) : Type 0 where
 module _ {fllen sllen : ℕ} {memory : Range} {s : State} (w : IsWellFormed fllen sllen memory s) where
   module _ (r : Range) (len : ℕ) (is : IsPool s r len) where
     -- what lies in a chunk and in the range ends in the row
-    ends_in_row : (x : Range) → 0 < x.len → (c : Range) → IsIn c s.chunks → c.start ≤ x.start → end_of x ≤ end_of c → r.start ≤ x.start → end_of x ≤ end_of r → end_of x ≤ r.start + len
+    ends_in_row : (x : Range) → 0 < x.len → (c : Range) → IsIn c s.chunks → c.start ≤ x.start → end_of x ≤ end_of c → r.start ≤ x.start → end_of x ≤ end_of r
+        → end_of x ≤ r.start + len
     ends_in_row x some c i from to low high = elim (cases_lt (r.start + len) (end_of x)) [
       | inl later ↦
           let a = end_of x - 1 in
@@ -48,7 +51,8 @@ module _ {fllen sllen : ℕ} {memory : Range} {s : State} (w : IsWellFormed flle
     ]
 
     -- and so lies in the row as it lies in the range
-    lies_same : (x : Range) → x.start % 32 ≡ 0 → 0 < x.len → (c : Range) → IsIn c s.chunks → c.start ≤ x.start → end_of x ≤ end_of c → lies_within (walked (row_of r len)) x ≡ lies_within r x
+    lies_same : (x : Range) → x.start % 32 ≡ 0 → 0 < x.len → (c : Range) → IsIn c s.chunks → c.start ≤ x.start → end_of x ≤ end_of c
+        → lies_within (walked (row_of r len)) x ≡ lies_within r x
     lies_same x whole some c i from to =
         let within = is.within in
         let begins = round32-le r.start in
@@ -64,7 +68,9 @@ module _ {fllen sllen : ℕ} {memory : Range} {s : State} (w : IsWellFormed flle
     -- with the row the range is taken out
     pub removed-row : removed (walked (row_of r len)) s ≡ removed r s
     removed-row =
-        let chunks = outside_of-same (walked (row_of r len)) r s.chunks (λ c i. lies_same c (w.chunks c i).whole.start (omega (arith, (w.chunks c i).has_room)) c i (omega arith) (omega arith)) in
+        let chunks =
+        outside_of-same (walked (row_of r len)) r s.chunks
+        (λ c i. lies_same c (w.chunks c i).whole.start (omega (arith, (w.chunks c i).has_room)) c i (omega arith) (omega arith)) in
         let free = outside_of-same (walked (row_of r len)) r s.free (λ f i.
         let home = lies_in_chunk s (tiling_of w) f (w.free f i).some (IsPart-free s (tiling_of w) f i) in
         lies_same f (w.free f i).whole.start (w.free f i).some home.chunk home.is_chunk home.from (omega (arith, home.to))) in
@@ -79,7 +85,8 @@ module _ {fllen sllen : ℕ} {memory : Range} {s : State} (w : IsWellFormed flle
         idle a (omega arith) (omega arith)
 
     -- and the other way round, where no chunk begins before the range and ends in it
-    pub idle_range : ((c : Range) (a : ℕ) → IsIn c s.chunks → r.start ≤ a → a < end_of r → c.start ≤ a → a < end_of c → r.start ≤ c.start) → IsIdle s (walked (row_of r len)) → IsIdle s r
+    pub idle_range : ((c : Range) (a : ℕ) → IsIn c s.chunks → r.start ≤ a → a < end_of r → c.start ≤ a → a < end_of c → r.start ≤ c.start)
+        → IsIdle s (walked (row_of r len)) → IsIdle s r
     idle_range housed idle a low high =
         let within = is.within in
         let begins = round32-le r.start in
@@ -96,10 +103,10 @@ module _ {fllen sllen : ℕ} {memory : Range} {s : State} (w : IsWellFormed flle
           ]
         ]
 
-  -- ---- walks
+  -- ---- iterations
 
   module _ (q : Range) (bs : List Block) (are : AreBlocks s q bs) where
-    -- where the walk gives a used block, the row isn't idle
+    -- where the iteration gives a used block, the row isn't idle
     pub occupied_held : (b : Block) → IsIn b bs → b.is_occupied ≡ true → IsIdle s q → ⊥
     occupied_held b i is idle =
         let (has, from, to) = (are.exactly b).0 i in
@@ -123,7 +130,9 @@ module _ {fllen sllen : ℕ} {memory : Range} {s : State} (w : IsWellFormed flle
           let (c, i, from, c_low, c_high, to) = row a low high in
           let home_from = home.from in
           let home_to = home.to in
-          let same : home.chunk ≡ c = coverage-unique itself home.chunk c s.chunks a (w.disjoint a) home.is_chunk i (covers-inside home.chunk a (omega arith) (omega arith)) (covers-inside c a c_low c_high) in
+          let same : home.chunk ≡ c =
+          coverage-unique itself home.chunk c s.chunks a (w.disjoint a) home.is_chunk i (covers-inside home.chunk a (omega arith) (omega arith))
+          (covers-inside c a c_low c_high) in
           let start : home.chunk.start ≡ c.start = ap (λ x. x.start) {x = home.chunk} same in
           let end : end_of home.chunk ≡ end_of c = ap end_of {x = home.chunk} same in
           let b : Block = record { range = u.block; is_occupied = true } in
@@ -161,7 +170,9 @@ module _ {fllen sllen : ℕ} {memory : Range} {s : State} (w : IsWellFormed flle
             parted = λ d j low high. elim (cases_lt d.start a) [
               | inl before ↦ omega (arith, edge.parted d j low before)
               | inr behind ↦
-                  let same : d ≡ c = coverage-unique itself d c s.chunks d.start (w.disjoint d.start) j i (covers-inside d d.start (omega arith) (omega (arith, (w.chunks d j).has_room))) (covers-inside c d.start (omega arith) high) in
+                  let same : d ≡ c =
+                  coverage-unique itself d c s.chunks d.start (w.disjoint d.start) j i (covers-inside d d.start (omega arith) (omega (arith, (w.chunks d j).has_room)))
+                  (covers-inside c d.start (omega arith) high) in
                   let end : end_of d ≡ end_of c = ap end_of {x = d} same in
                   omega arith
             ];

@@ -44,13 +44,15 @@ first_two-none None q r none = in_place-none q r none
 first_two-none (Some p) q r none = none
 
 -- a block that can't have the size neither stays where it is nor takes from the block behind
-pub stuck_moves : {fllen sllen : ℕ} {memory : Range} {s : State} → IsWellFormed fllen sllen memory s → (addr size : ℕ) (u v : Used) (p : Plan) → IsStuck s addr size v → Holds s addr u → or_else (in_place s u size) (into_next s u size) ≡ Some p → ⊥
+pub stuck_moves : {fllen sllen : ℕ} {memory : Range} {s : State} → IsWellFormed fllen sllen memory s → (addr size : ℕ) (u v : Used) (p : Plan) → IsStuck s addr size v
+    → Holds s addr u → or_else (in_place s u size) (into_next s u size) ≡ Some p → ⊥
 stuck_moves {s = s} w addr size u v p stuck holds some =
     let here = subst (λ x. or_else (in_place s x size) (into_next s x size) ≡ Some p) (Holds-unique w addr u v holds stuck.holds) some in
     none-some p (sym (first_two-none (in_place s v size) (into_next s v size) (into_previous s v size) stuck.no_plan) ∙ here)
 
 -- a block that can't have the size has fewer usable bytes
-pub stuck_short : {fllen sllen : ℕ} {memory : Range} {s : State} → IsWellFormed fllen sllen memory s → (addr size : ℕ) (u : Used) → IsStuck s addr size u → (usable u).len < size
+pub stuck_short : {fllen sllen : ℕ} {memory : Range} {s : State} → IsWellFormed fllen sllen memory s → (addr size : ℕ) (u : Used) → IsStuck s addr size u
+    → (usable u).len < size
 stuck_short {s = s} w addr size u stuck = usable-short w u stuck.holds.0 size (in_place-none (in_place s u size) _ stuck.no_plan)
 
 -- a refused reallocation had no plan, and an allocation is refused too
@@ -59,25 +61,36 @@ refused_by sllen size s t u None step = (refl, step)
 refused_by sllen size s t u (Some p) step = absurd step
 
 -- a reallocation isn't both refused and made
-pub refused_move_alone : {fllen sllen : ℕ} {memory : Range} {s : State} → IsWellFormed fllen sllen memory s → (addr size align to : ℕ) (u : Used) (m : State) → IsStuck s addr size u → u.align ≡ align
+pub refused_move_alone : {fllen sllen : ℕ} {memory : Range} {s : State} → IsWellFormed fllen sllen memory s → (addr size align to : ℕ) (u : Used) (m : State)
+    → IsStuck s addr size u → u.align ≡ align
     → Allocates sllen s size align None s → Reallocates sllen s addr size (Some to) m → ⊥
 refused_move_alone {sllen = sllen} {s = s} w addr size align to u m stuck is full some =
     let same : some.block ≡ u = Holds-unique w addr some.block u some.holds stuck.holds in
-    let step : ReallocatesBy sllen s u size None (Some to) m = subst (λ o. ReallocatesBy sllen s u size o (Some to) m) stuck.no_plan (subst (λ x. ReallocatesBy sllen s x size (plan s x size) (Some to) m) same some.step) in
+    let step : ReallocatesBy sllen s u size None (Some to) m =
+    subst (λ o. ReallocatesBy sllen s u size o (Some to) m) stuck.no_plan (subst (λ x. ReallocatesBy sllen s x size (plan s x size) (Some to) m) same some.step) in
     refused_alone sllen size align to s s step.meanwhile full (subst (λ a. Allocates sllen s size a (Some to) step.meanwhile) is step.allocated)
 
 -- a payload that moved isn't where it was
-moved_elsewhere : {fllen sllen : ℕ} {memory : Range} {s : State} → IsWellFormed fllen sllen memory s → (u : Used) → IsIn u s.used → (size to : ℕ) (t : State) → MovesAway sllen s u size to t → to ≢ u.payload
+moved_elsewhere : {fllen sllen : ℕ} {memory : Range} {s : State} → IsWellFormed fllen sllen memory s → (u : Used) → IsIn u s.used → (size to : ℕ) (t : State)
+    → MovesAway sllen s u size to t → to ≢ u.payload
 moved_elsewhere {fllen} {sllen} {memory} {s} w u i size to t moves same =
     (handed_out_is_new fllen sllen memory s moves.meanwhile size u.align to w (w.used u i).power moves.allocated).0 u.align (u, (i, sym same), refl)
 
 -- where an allocation over a source is refused, the reallocation is
-pub refused_too : {S : Type 0} (fllen sllen : ℕ) (terms : S → Terms) (owes : S → List Range → Type 0) (leads : S → Note → S → Type 0) (v after : FlexContents S) (addr size align : ℕ) {u : Used} → IsStuck v.state.machine addr size u → u.align ≡ align
+pub refused_too : {S : Type 0} (fllen sllen : ℕ) (terms : S → Terms) (owes : S → List Range → Type 0) (leads : S → Note → S → Type 0) (v after : FlexContents S)
+    (addr size align : ℕ) {u : Used} → IsStuck v.state.machine addr size u → u.align ≡ align
     → FlexSteps fllen sllen terms owes leads v after (FlexAllocates fllen sllen (terms v.source) v.state size align None)
     → FlexSteps fllen sllen terms owes leads v after (FlexReallocates fllen sllen (terms v.source) v.state addr size None)
 unfolding FlexSteps
-refused_too fllen sllen terms owes leads v after addr size align {u} stuck is (notes, step, leads_by, answers, outside, stands, spare) =
-    (notes, record { block = u; stuck = stuck; asks = subst (λ a. Asks fllen sllen (terms v.source) v.state size a refused notes after.state) (sym is) step }, leads_by, answers, outside, stands, spare)
+refused_too fllen sllen terms owes leads v after addr size align {u} stuck is (notes, step, leads_by, answers, outside, stands, spare) = (
+  notes,
+  record { block = u; stuck = stuck; asks = subst (λ a. Asks fllen sllen (terms v.source) v.state size a refused notes after.state) (sym is) step },
+  leads_by,
+  answers,
+  outside,
+  stands,
+  spare,
+)
 
 module _ {S : Type 0} {fllen sllen : ℕ} {terms : S → Terms} {owes : S → List Range → Type 0} (addr size align : ℕ) where
   module _ {v : FlexContents S} (new : Allocator) (place : SamePlace v.memory new.memory) (h : FlexStandsFor fllen sllen terms owes v) (whole : v.memory.out ≡ []) where
@@ -126,18 +139,25 @@ module _ {S : Type 0} {fllen sllen : ℕ} {terms : S → Terms} {owes : S → Li
   -- there is no room, and the source is asked
   module _ (leads : S → Note → S → Type 0) (v : FlexContents S) {u : Used} (stuck : IsStuck v.state.machine addr size u) (is : u.align ≡ align) where
     module _ {w : FlexContents S} (tried : Tried fllen sllen terms owes size align v w)
-        {e : ℕ} (wanted : pool_size_to_contain_allocation fllen sllen size align ≡ Some e) {after : FlexContents S} {more : Bool} (h : Extended fllen sllen terms owes leads w after e more) where
+        {e : ℕ} (wanted : pool_size_to_contain_allocation fllen sllen size align ≡ Some e) {after : FlexContents S} {more : Bool}
+        (h : Extended fllen sllen terms owes leads w after e more) where
       -- what came left the block
       pub Holds-came : Holds after.state.machine addr u
-      Holds-came = Holds-same w.state.machine after.state.machine addr u (used-taken fllen (terms w.source) w.state after.state h.outcome h.extends.after) (subst (λ (s : FlexState). Holds s.machine addr u) (sym tried.same) stuck.holds)
+      Holds-came =
+          Holds-same w.state.machine after.state.machine addr u (used-taken fllen (terms w.source) w.state after.state h.outcome h.extends.after)
+          (subst (λ (s : FlexState). Holds s.machine addr u) (sym tried.same) stuck.holds)
 
-      module _ (last : Allocator) (came : more ≡ true) (place : SamePlace after.memory last.memory) (whole : v.memory.out ≡ []) {to : ℕ} (moved : MovesTo fllen sllen (allocator_of after) last addr size to) where
+      module _ (last : Allocator) (came : more ≡ true) (place : SamePlace after.memory last.memory) (whole : v.memory.out ≡ []) {to : ℕ}
+          (moved : MovesTo fllen sllen (allocator_of after) last addr size to) where
         moves : MovesAway sllen after.state.machine u size to last.state
-        moves = subst (λ x. MovesAway sllen after.state.machine x size to last.state) (Holds-unique h.stands.machine.well_formed addr moved.block u moved.holds Holds-came) moved.moves
+        moves =
+            subst (λ x. MovesAway sllen after.state.machine x size to last.state) (Holds-unique h.stands.machine.well_formed addr moved.block u moved.holds Holds-came) moved.moves
 
         -- no chunk has changed
         moved_chunks : last.state.chunks ≡ after.state.machine.chunks
-        moved_chunks = chunks-deallocated moves.meanwhile last.state u.payload moves.released ∙ chunks-allocated sllen after.state.machine moves.meanwhile size u.align (Some to) moves.allocated
+        moved_chunks =
+            chunks-deallocated moves.meanwhile last.state u.payload moves.released
+            ∙ chunks-allocated sllen after.state.machine moves.meanwhile size u.align (Some to) moves.allocated
 
         pub moved_stands : FlexStandsFor fllen sllen terms owes (with_allocator after last)
         moved_stands = stands_stepped h.stands last (stood moved.stands) moved_chunks moved.spare place ((asked_outside size align tried wanted h).place.3 whole)
@@ -162,7 +182,9 @@ module _ {S : Type 0} {fllen sllen : ℕ} {terms : S → Terms} {owes : S → Li
           asked_by size align tried wanted h,
           asked_answers size align tried wanted h,
           asked_noted size align tried wanted h last.memory
-              (KeepsOutsideNow-then v.memory after.memory last.memory v.state.pools after.state.pools after.state.pools (asked_outside size align tried wanted h) (KeepsOutsideNow-stands h.stands moved_stands place moved.spare)),
+              (KeepsOutsideNow-then v.memory after.memory last.memory v.state.pools after.state.pools after.state.pools (asked_outside size align tried wanted h)
+              (KeepsOutsideNow-stands h.stands moved_stands place moved.spare)),
           moved_stands,
-          KeepsSpareButFooter-before (terms v.source) v.memory after.memory last.memory v.state after.state (asked_outside size align tried wanted h).place (asked_spare size align tried wanted h) last.state moved_chunks moved.spare,
+          KeepsSpareButFooter-before (terms v.source) v.memory after.memory last.memory v.state after.state (asked_outside size align tried wanted h).place
+              (asked_spare size align tried wanted h) last.state moved_chunks moved.spare,
         )

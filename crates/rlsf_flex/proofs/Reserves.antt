@@ -15,9 +15,11 @@ use Rattle.rlsf_machine.proofs.Payloads.{IsUsed-after_start, IsUsed-some}
 use Rattle.rlsf_machine.proofs.SizedWords.{count_gone, sized_chunk}
 use Rattle.rlsf_machine.proofs.Tiling.{IsPart-used, lies_in_chunk, tiling_of}
 
--- the payload that is given back was the only one, and its chunk has 16 bytes before its bytes and 32 behind them
-pub sized_behind : (fl_bits sl_bits fllen sllen : ℕ) (memory : Range) (s t : State) → IsValid fl_bits sl_bits fllen sllen → IsWellFormed fllen sllen memory s → (addr : ℕ) → Deallocates s addr t
-    → (count size align len : ℕ) → pool_size_for_payloads fllen sllen count size align ≡ Some len → len ≤ length (bytes_at s addr) + 48 → live_count s ≡ 1 → IsSizedFor sllen count size align t
+-- the payload that is deallocated was the only one, and its chunk has 16 bytes before its bytes and 32 behind them
+pub sized_behind : (fl_bits sl_bits fllen sllen : ℕ) (memory : Range) (s t : State) → IsValid fl_bits sl_bits fllen sllen → IsWellFormed fllen sllen memory s → (addr : ℕ)
+    → Deallocates s addr t
+    → (count size align len : ℕ) → pool_size_for_payloads fllen sllen count size align ≡ Some len → len ≤ length (bytes_at s addr) + 48 → live_count s ≡ 1
+    → IsSizedFor sllen count size align t
 sized_behind fl_bits sl_bits fllen sllen memory s t valid w addr step count size align len told long one =
     let u = step.block in
     let used = w.used u step.holds.0 in

@@ -1,4 +1,4 @@
--- What leaves the bytes that no block is made of, but for the footer of memory that came.
+-- What leaves the bytes that no block is made of, except for the footer of memory that came.
 use Rattle.std.proofs.Common.{◌≡◌, ℕ, List, arith, sym, ◌∙◌, subst}
 use Rattle.rlsf_base.specs.declared.memory.range.Range.{Range}
 use Rattle.rlsf_base.specs.Space.{Space, SamePlace}
@@ -29,7 +29,8 @@ module _ (t : Terms) (m n o : Space) (s u : FlexState) (place : SamePlace m n) w
       second a (omega (arith, place.0, low)) (omega (arith, place.0, place.1, high)) one two none ∙ first a low high one one
 
   -- what keeps them and the chunks comes behind the memory
-  pub KeepsSpareButFooter-before : KeepsSpareButFooter t m s n u → (x : State) → x.chunks ≡ u.machine.chunks → KeepsSpare n u.machine o x → KeepsSpareButFooter t m s o (with_machine u x)
+  pub KeepsSpareButFooter-before : KeepsSpareButFooter t m s n u → (x : State) → x.chunks ≡ u.machine.chunks → KeepsSpare n u.machine o x
+      → KeepsSpareButFooter t m s o (with_machine u x)
   KeepsSpareButFooter-before first x chunks second a low high one two none =
       let meanwhile = IsSpare-chunks u.machine x a chunks two in
       second a (omega (arith, place.0, low)) (omega (arith, place.0, place.1, high)) meanwhile two ∙ first a low high one meanwhile none

@@ -13,8 +13,9 @@ use Rattle.rlsf_machine.specs.Note.{LeadsBy, Note}
 use Rattle.rlsf_machine.specs.State.{State}
 use Rattle.rlsf_machine.specs.Terms.{Terms}
 
--- the one over pools is in the machine's state
-pub inner_in : {S : Type 0} {fllen sllen : ℕ} {terms : S → Terms} {owes : S → List Range → Type 0} {v : FlexContents S} → FlexStandsFor fllen sllen terms owes v → v.memory.out ≡ [] → IsInState fllen sllen (allocator_of v) v.state.machine
+-- the one over pools is in the reference model's state
+pub inner_in : {S : Type 0} {fllen sllen : ℕ} {terms : S → Terms} {owes : S → List Range → Type 0} {v : FlexContents S} → FlexStandsFor fllen sllen terms owes v
+    → v.memory.out ≡ [] → IsInState fllen sllen (allocator_of v) v.state.machine
 inner_in h whole = record { state = refl; stands = h.machine; whole = whole }
 
 -- what a step of the allocator over pools says
@@ -28,7 +29,7 @@ pub opened_whole : (fllen sllen : ℕ) (old new : Allocator) (step : State → T
 unfolding Steps Stands
 opened_whole fllen sllen old new step (is, standing, spare) = standing.whole
 
--- what stands of it
+-- what holds of it
 pub stood : {fllen sllen : ℕ} {v : Allocator} → Stands fllen sllen v → StandsFor fllen sllen (contents v.memory v.table) v.state
 unfolding Stands
 stood is = is.stands
@@ -37,35 +38,43 @@ pub stood_at : {fllen sllen : ℕ} {v : Allocator} → StandsFor fllen sllen (co
 unfolding Stands
 stood_at is whole = record { stands = is; whole = whole }
 
--- the parts of an allocator over a source stand for its state
-pub flex_stood_at : {S : Type 0} {fllen sllen : ℕ} {terms : S → Terms} {owes : S → List Range → Type 0} {v : FlexContents S} → FlexStandsFor fllen sllen terms owes v → FlexStands fllen sllen terms owes v
+-- the parts of an allocator over a source represent its state
+pub flex_stood_at : {S : Type 0} {fllen sllen : ℕ} {terms : S → Terms} {owes : S → List Range → Type 0} {v : FlexContents S} → FlexStandsFor fllen sllen terms owes v
+    → FlexStands fllen sllen terms owes v
 unfolding FlexStands
 flex_stood_at h = h
 
-pub flex_stood : {S : Type 0} {fllen sllen : ℕ} {terms : S → Terms} {owes : S → List Range → Type 0} (v : FlexContents S) → FlexStands fllen sllen terms owes v → FlexStandsFor fllen sllen terms owes v
+pub flex_stood : {S : Type 0} {fllen sllen : ℕ} {terms : S → Terms} {owes : S → List Range → Type 0} (v : FlexContents S) → FlexStands fllen sllen terms owes v
+    → FlexStandsFor fllen sllen terms owes v
 unfolding FlexStands
 flex_stood v h = h
 
 -- what a step says that asks the source nothing
-pub alone_opened : {S : Type 0} {fllen sllen : ℕ} {terms : S → Terms} {owes : S → List Range → Type 0} (v w : FlexContents S) (step : State → Type 0) → StepsAlone fllen sllen terms owes v w step
-    → step w.state.machine × (w.state ≡ with_machine v.state w.state.machine) × FlexStandsFor fllen sllen terms owes w × KeepsSpare v.memory v.state.machine w.memory w.state.machine
+pub alone_opened : {S : Type 0} {fllen sllen : ℕ} {terms : S → Terms} {owes : S → List Range → Type 0} (v w : FlexContents S) (step : State → Type 0)
+    → StepsAlone fllen sllen terms owes v w step
+    → step w.state.machine × (w.state ≡ with_machine v.state w.state.machine) × FlexStandsFor fllen sllen terms owes w
+    × KeepsSpare v.memory v.state.machine w.memory w.state.machine
 unfolding StepsAlone
 alone_opened v w step did = did
 
 -- what a step of an allocator over a source says
-pub flex_opened : {S : Type 0} {fllen sllen : ℕ} {terms : S → Terms} {owes : S → List Range → Type 0} {leads : S → Note → S → Type 0} (v w : FlexContents S) (step : List Note → FlexState → Type 0) → FlexSteps fllen sllen terms owes leads v w step
-    → (notes : List Note) × step notes w.state × LeadsBy leads v.source notes w.source × KeepsOutside v.memory v.state.pools notes w.memory w.state.pools × FlexStandsFor fllen sllen terms owes w
+pub flex_opened : {S : Type 0} {fllen sllen : ℕ} {terms : S → Terms} {owes : S → List Range → Type 0} {leads : S → Note → S → Type 0} (v w : FlexContents S)
+    (step : List Note → FlexState → Type 0) → FlexSteps fllen sllen terms owes leads v w step
+    → (notes : List Note) × step notes w.state × LeadsBy leads v.source notes w.source × KeepsOutside v.memory v.state.pools notes w.memory w.state.pools
+    × FlexStandsFor fllen sllen terms owes w
 unfolding FlexSteps
 flex_opened v w step (notes, is, leads_by, answers, outside, stands, spare) = (notes, is, leads_by, outside, stands)
 
 -- and of the answers
-pub flex_answered : {S : Type 0} (fllen sllen : ℕ) (terms : S → Terms) (owes : S → List Range → Type 0) {leads : S → Note → S → Type 0} (v w : FlexContents S) (step : List Note → FlexState → Type 0) → FlexSteps fllen sllen terms owes leads v w step
+pub flex_answered : {S : Type 0} (fllen sllen : ℕ) (terms : S → Terms) (owes : S → List Range → Type 0) {leads : S → Note → S → Type 0} (v w : FlexContents S)
+    (step : List Note → FlexState → Type 0) → FlexSteps fllen sllen terms owes leads v w step
     → (notes : List Note) × step notes w.state × LeadsBy leads v.source notes w.source × MayAnswerAll (terms v.source) v.state.pools notes
 unfolding FlexSteps
 flex_answered fllen sllen terms owes v w step (notes, is, leads_by, answers, outside, stands, spare) = (notes, is, leads_by, answers)
 
 -- and of the bytes that no block is made of
-pub flex_spare : {S : Type 0} (fllen sllen : ℕ) (terms : S → Terms) (owes : S → List Range → Type 0) (leads : S → Note → S → Type 0) (v w : FlexContents S) (step : List Note → FlexState → Type 0) → FlexSteps fllen sllen terms owes leads v w step
+pub flex_spare : {S : Type 0} (fllen sllen : ℕ) (terms : S → Terms) (owes : S → List Range → Type 0) (leads : S → Note → S → Type 0) (v w : FlexContents S)
+    (step : List Note → FlexState → Type 0) → FlexSteps fllen sllen terms owes leads v w step
     → KeepsSpareButFooter (terms v.source) v.memory v.state w.memory w.state
 unfolding FlexSteps
 flex_spare fllen sllen terms owes leads v w step (notes, is, leads_by, answers, outside, stands, spare) = spare

@@ -1,5 +1,6 @@
--- Some of the newest ranges went back, one after another.
-use Rattle.std.proofs.Common.{◌≡◌, ℕ, ◌+◌, ◌^◌, ◌<◌, ◌≤◌, true, false, List, [], ◌∷◌, ◌++◌, length, map, append_assoc, Option, Some, None, arith, refl, sym, ◌∙◌, ap, subst, inl, inr}
+-- Some of the newest ranges were returned, one after another.
+use Rattle.std.proofs.Common.{◌≡◌, ℕ, ◌+◌, ◌^◌, ◌<◌, ◌≤◌, true, false, List, [], ◌∷◌, ◌++◌, length, map, append_assoc, Option, Some, None}
+use Rattle.std.proofs.Common.{arith, refl, sym, ◌∙◌, ap, subst, inl, inr}
 use Rattle.std.proofs.lemmas.List.{map-append}
 use Rattle.std.proofs.lemmas.Option.{same_Some}
 use Rattle.rlsf_base.specs.declared.memory.range.Range.{Range}
@@ -31,7 +32,7 @@ use Rattle.rlsf_flex.proofs.OutsideNow.{outside_spare}
 use Rattle.rlsf_flex.proofs.Places.{SamePlace-refl, SamePlace-then}
 use Rattle.rlsf_flex.proofs.SpareBytes.{KeepsSpareButFooter-all}
 
--- ---- the machine's state
+-- ---- the reference model's state
 
 -- one range more is taken out
 all_removed-more : (gone : List Range) (r : Range) (s : State) → all_removed (gone ++ r ∷ []) s ≡ removed r (all_removed gone s)
@@ -47,7 +48,7 @@ all_removed-chunks (r ∷ gone) s c i = (IsIn-outside r c s.chunks (all_removed-
 all_removed-spare : (gone : List Range) (s t : State) (a : ℕ) → t ≡ all_removed gone s → IsSpare s a → IsSpare t a
 all_removed-spare gone s t a is spare c i = spare c (all_removed-chunks gone s c (subst (λ (u : State). IsIn c u.chunks) is i))
 
--- whether a range is idle is told by the used blocks
+-- the used blocks determine whether a range is idle
 IsIdle-used : (s t : State) (r : Range) → t.used ≡ s.used → IsIdle s r → IsIdle t r
 IsIdle-used s t r same = subst (λ (us : List Used). (a : ℕ) → r.start ≤ a → a < r.start + r.len → coverage (λ u. u.block) us a ≡ 0) (sym same)
 
@@ -59,7 +60,8 @@ used-gone : (gone : List Range) (s t : State) → t ≡ all_removed gone s → t
 used-gone gone s t is = ap (λ (u : State). u.used) is ∙ used-all_removed gone s
 
 -- the kept pool reaches as far as its range's last chunk
-kept_to_last : {fllen sllen : ℕ} {memory : Range} (t : Terms) (s : State) → IsWellFormed fllen sllen memory s → t.dealloc ≡ true → (kept : Option KeptPool) (pools : List Range) → IsNewest t kept pools s.chunks → ArePools s pools → IsKeptToLast s.chunks pools kept
+kept_to_last : {fllen sllen : ℕ} {memory : Range} (t : Terms) (s : State) → IsWellFormed fllen sllen memory s → t.dealloc ≡ true
+    → (kept : Option KeptPool) (pools : List Range) → IsNewest t kept pools s.chunks → ArePools s pools → IsKeptToLast s.chunks pools kept
 kept_to_last t s w takes None [] newest pooled = refl
 kept_to_last t s w takes None (r ∷ pools) newest pooled = absurd (omega (arith, ap length (newest (keeps-dealloc t takes))))
 kept_to_last t s w takes (Some k) [] newest pooled = absurd (omega (arith, ap length newest.split))
@@ -70,12 +72,12 @@ kept_to_last t s w takes (Some k) (r ∷ pools) newest pooled =
     let is : Range → Option KeptPool = λ q. Some (record { range = q; len = k.len }) in
     (k.len, subst (λ q. EndsLast s.chunks q k.len) same (subst (EndsLast s.chunks k.range) long (EndsLast-pool w k.range len pool)), ap is same)
 
--- what goes back isn't handed out
+-- what is returned isn't provided
 handed-back : (gone : List Range) (a : ℕ) → coverage itself (handed (map dealloc gone)) a ≡ 0
 handed-back [] a = refl
 handed-back (r ∷ gone) a = handed-back gone a
 
--- ---- ranges go back
+-- ---- ranges are returned
 
 module _ {S : Type 0} {fllen sllen : ℕ} {terms : S → Terms} {owes : S → List Range → Type 0} (leads : S → Note → S → Type 0) where
   -- none yet
@@ -93,7 +95,8 @@ module _ {S : Type 0} {fllen sllen : ℕ} {terms : S → Terms} {owes : S → Li
   }
 
   -- one more
-  pub GaveBack-next : (v w x : FlexContents S) (n : ℕ) → GaveBack fllen sllen terms owes leads v w n → GaveNewest fllen sllen terms owes leads w x → GaveBack fllen sllen terms owes leads v x (n + 1)
+  pub GaveBack-next : (v w x : FlexContents S) (n : ℕ) → GaveBack fllen sllen terms owes leads v w n → GaveNewest fllen sllen terms owes leads w x
+      → GaveBack fllen sllen terms owes leads v x (n + 1)
   GaveBack-next v w x n h one =
       let used = used-gone h.gone v.state.machine w.state.machine h.machine in
       record {
@@ -101,7 +104,10 @@ module _ {S : Type 0} {fllen sllen : ℕ} {terms : S → Terms} {owes : S → Li
         split = h.split ∙ ap (λ ps. h.gone ++ ps) (one.split ∙ ap (λ ps. one.newest ∷ ps) (sym one.pools)) ∙ sym (append_assoc h.gone (one.newest ∷ []) x.state.pools);
         idle = λ r i. elim (IsIn-append r h.gone (one.newest ∷ []) i) [
           | inl before ↦ h.idle r before
-          | inr now ↦ elim now [ inl same ↦ subst (IsIdle v.state.machine) (sym same) (IsIdle-used w.state.machine v.state.machine one.newest (sym used) one.idle) | inr none ↦ absurd none ]
+          | inr now ↦ elim now [
+            | inl same ↦ subst (IsIdle v.state.machine) (sym same) (IsIdle-used w.state.machine v.state.machine one.newest (sym used) one.idle)
+            | inr none ↦ absurd none
+          ]
         ];
         counted = ap (λ k. k + 1) h.counted ∙ sym (length-more h.gone one.newest);
         led = subst (λ ns. LeadsBy leads v.source ns x.source) (sym (map-append dealloc h.gone (one.newest ∷ [])))
@@ -123,7 +129,8 @@ module _ {S : Type 0} {fllen sllen : ℕ} {terms : S → Terms} {owes : S → Li
     pub GaveBack-few : FlexStandsFor fllen sllen terms owes v → n + length w.state.pools < 2 ^ 64
     GaveBack-few stands =
         let outstanding = outstanding_in v.memory (terms v.source).space v.state.pools stands.well_formed.space stands.well_formed.pools in
-        let few = length-disjoint v.state.pools v.memory.start (length v.memory.bytes) (λ p i. (omega (arith, outstanding.long p i), outstanding.in_space p i)) outstanding.disjoint in
+        let few =
+        length-disjoint v.state.pools v.memory.start (length v.memory.bytes) (λ p i. (omega (arith, outstanding.long p i), outstanding.in_space p i)) outstanding.disjoint in
         let short = stands.machine.well_formed.addressable in
         omega (arith, few, short, h.counted, ap length h.split, length-both h.gone w.state.pools)
       where
@@ -131,12 +138,15 @@ module _ {S : Type 0} {fllen sllen : ℕ} {terms : S → Terms} {owes : S → Li
         length-both [] ys = omega arith
         length-both (x ∷ xs) ys = omega (arith, length-both xs ys)
 
-    -- ---- as a step of the machine
+    -- ---- as a step of the reference model
 
-    module _ (constant : (x y : S) (m : Note) → leads x m y → terms y ≡ terms x) (stands : FlexStandsFor fllen sllen terms owes v) (takes : (terms v.source).dealloc ≡ true) (held : IsNewestHeld w.state.machine w.state.pools) where
+    module _ (constant : (x y : S) (m : Note) → leads x m y → terms y ≡ terms x) (stands : FlexStandsFor fllen sllen terms owes v) (takes : (terms v.source).dealloc ≡ true)
+        (held : IsNewestHeld w.state.machine w.state.pools) where
       gives_back : GivesBack v.state n (map dealloc h.gone) w.state
       gives_back =
-          let newest = subst (λ t. IsNewest t w.state.kept w.state.pools w.state.machine.chunks) (terms-led terms leads constant v.source w.source (map dealloc h.gone) h.led) h.stands.well_formed.newest in
+          let newest =
+          subst (λ t. IsNewest t w.state.kept w.state.pools w.state.machine.chunks) (terms-led terms leads constant v.source w.source (map dealloc h.gone) h.led)
+          h.stands.well_formed.newest in
           record {
             gone = h.gone;
             left = w.state.pools;
@@ -155,7 +165,9 @@ module _ {S : Type 0} {fllen sllen : ℕ} {terms : S → Terms} {owes : S → Li
         place = h.place;
         among = among;
         all_owed = λ kept a none. nothing_gone h.gone h.split kept a none;
-        bytes = λ a low high none. h.spare a low high (outside_spare v.state.pools v.state.machine stands.well_formed.housed a (before a none)) (outside_spare w.state.pools w.state.machine h.stands.well_formed.housed a (among a none));
+        bytes =
+            λ a low high none. h.spare a low high (outside_spare v.state.pools v.state.machine stands.well_formed.housed a (before a none))
+            (outside_spare w.state.pools w.state.machine h.stands.well_formed.housed a (among a none));
       }
         where
           before : (a : ℕ) → IsOutside (ever_owed v.state.pools (map dealloc h.gone)) a → IsOutside v.state.pools a
@@ -164,7 +176,8 @@ module _ {S : Type 0} {fllen sllen : ℕ} {terms : S → Terms} {owes : S → Li
           among : (a : ℕ) → IsOutside (ever_owed v.state.pools (map dealloc h.gone)) a → IsOutside w.state.pools a
           among a none = omega (arith, before a none, ap (λ ps. coverage itself ps a) h.split, coverage-append itself h.gone w.state.pools a)
 
-          nothing_gone : (gone : List Range) → v.state.pools ≡ gone ++ w.state.pools → NothingGoesBack (map dealloc gone) → (a : ℕ) → IsOutside w.state.pools a → IsOutside (ever_owed v.state.pools (map dealloc gone)) a
+          nothing_gone : (gone : List Range) → v.state.pools ≡ gone ++ w.state.pools → NothingGoesBack (map dealloc gone) → (a : ℕ) → IsOutside w.state.pools a
+              → IsOutside (ever_owed v.state.pools (map dealloc gone)) a
           nothing_gone [] split kept a none = omega (arith, ever_owed-coverage v.state.pools [] a, ap (λ ps. coverage itself ps a) split, none)
           nothing_gone (r ∷ gone) split kept a none = absurd (kept r (inl refl))
 
@@ -181,6 +194,7 @@ module _ {S : Type 0} {fllen sllen : ℕ} {terms : S → Terms} {owes : S → Li
       )
 
   -- a source that takes nothing back
-  pub not_trimmed : (v : FlexContents S) → FlexStandsFor fllen sllen terms owes v → (terms v.source).dealloc ≡ false → FlexSteps fllen sllen terms owes leads v v (Trims (terms v.source) v.state 0)
+  pub not_trimmed : (v : FlexContents S) → FlexStandsFor fllen sllen terms owes v → (terms v.source).dealloc ≡ false
+      → FlexSteps fllen sllen terms owes leads v v (Trims (terms v.source) v.state 0)
   unfolding FlexSteps
   not_trimmed v stands lacks = ([], inr (lacks, refl, refl, refl), refl, λ n i. absurd i, KeepsOutside-refl v.memory v.state.pools, stands, λ a low high one two none. refl)

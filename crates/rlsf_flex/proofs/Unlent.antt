@@ -1,4 +1,4 @@
--- Usable bytes of live payloads change, and no other byte: the allocator over a source stands for the state with the bytes that are there.
+-- Usable bytes of live payloads change, and no other byte: the allocator over a source represents the state with the bytes that are there.
 use Rattle.std.proofs.Common.{ℕ, List, arith, inl, inr, refl}
 use Rattle.std.proofs.lemmas.Bool.{cases_lt}
 use Rattle.rlsf_base.specs.declared.memory.range.Range.{Range}
@@ -35,5 +35,7 @@ module _ {S : Type 0} (terms : S → Terms) (owes : S → List Range → Type 0)
 
   pub flex_words_read_no_payload : FlexWordsReadNoPayload terms owes
   flex_words_read_no_payload fllen sllen v n h differs =
-      stands_kept h (record { memory = n; table = v.table; state = read_from n v.state.machine }) (words_read_no_payload fllen sllen v.memory n v.table v.state.machine h.machine differs) refl
-      (λ a low high spare again. differs.bytes a low (spare_unlent h.machine.well_formed a spare)) (λ a low spare again. differs.out a low (spare_unlent h.machine.well_formed a spare)) differs.start differs.length
+      stands_kept h (record { memory = n; table = v.table; state = read_from n v.state.machine })
+      (words_read_no_payload fllen sllen v.memory n v.table v.state.machine h.machine differs) refl
+      (λ a low high spare again. differs.bytes a low (spare_unlent h.machine.well_formed a spare))
+      (λ a low spare again. differs.out a low (spare_unlent h.machine.well_formed a spare)) differs.start differs.length

@@ -5,7 +5,7 @@ use Rattle.rlsf_base.specs.Range.{end_of}
 use Rattle.rlsf_base.specs.Space.{Space, byte_at, range_of, word_at, SamePlace}
 use Rattle.rlsf_machine.specs.FlexWellFormed.{AreOutstanding}
 
--- where a range's footer stands: the last multiple of 8 that leaves 16 bytes of the range
+-- where a range's footer is: the last multiple of 8 that leaves 16 bytes of the range
 abbrev pub footer_of : Range → ℕ
 footer_of p = (end_of p - 16) / 8 * 8
 

@@ -1,4 +1,4 @@
--- What holds of the states and of the words that an allocator over a source stands for.
+-- What holds of the states and of the words that an allocator over a source represents.
 use Rattle.std.specs.Prelude.{ℕ, List}
 use Rattle.rlsf_base.specs.declared.memory.range.Range.{Range}
 use Rattle.rlsf_base.specs.Space.{Space, range_of}
@@ -7,10 +7,11 @@ use Rattle.rlsf_flex.specs.StandsFor.{FlexContents, FlexStands, FlexStandsFor, w
 use Rattle.rlsf_machine.specs.FlexWellFormed.{IsFlexWellFormed}
 use Rattle.rlsf_machine.specs.Terms.{Terms}
 
--- The state of every allocator that stands is well-formed with its ranges and its kept pool, so the machine's laws over a source
--- speak of it.
+-- The state of every valid allocator is well-formed with its ranges and its kept pool. So the reference model's laws over a source
+-- apply to it.
 abbrev pub FlexStatesAreWellFormed : {S : Type 0} → (S → Terms) → (S → List Range → Type 0) → Type 0
-FlexStatesAreWellFormed {S} terms owes = (fllen sllen : ℕ) (v : FlexContents S) → FlexStands fllen sllen terms owes v → IsFlexWellFormed fllen sllen (range_of v.memory) (terms v.source) v.state
+FlexStatesAreWellFormed {S} terms owes = (fllen sllen : ℕ) (v : FlexContents S) → FlexStands fllen sllen terms owes v
+    → IsFlexWellFormed fllen sllen (range_of v.memory) (terms v.source) v.state
 
 -- the allocator with another memory, and with the bytes that this has in the payloads
 abbrev pub with_memory : {S : Type 0} → FlexContents S → Space → FlexContents S
@@ -19,4 +20,5 @@ with_memory v n = with_allocator v (record { memory = n; table = v.table; state 
 -- What is said of the words inside the pools, of the class table and of the footers reads no usable byte of a live payload:
 -- whatever callers write there, it holds of the state with these bytes.
 abbrev pub FlexWordsReadNoPayload : {S : Type 0} → (S → Terms) → (S → List Range → Type 0) → Type 0
-FlexWordsReadNoPayload {S} terms owes = (fllen sllen : ℕ) (v : FlexContents S) (n : Space) → FlexStandsFor fllen sllen terms owes v → DiffersInPayloads v.memory n v.state.machine → FlexStandsFor fllen sllen terms owes (with_memory v n)
+FlexWordsReadNoPayload {S} terms owes = (fllen sllen : ℕ) (v : FlexContents S) (n : Space) → FlexStandsFor fllen sllen terms owes v
+    → DiffersInPayloads v.memory n v.state.machine → FlexStandsFor fllen sllen terms owes (with_memory v n)

@@ -1,3 +1,4 @@
+-- Definitions for the allocator over a source. Read `StandsFor` and `Footers` first.
 pub mod Footers
 pub mod Heap
 pub mod HeapConstant

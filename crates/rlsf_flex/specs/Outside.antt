@@ -11,7 +11,7 @@ use Rattle.rlsf_machine.specs.WellFormed.{coverage, itself}
 abbrev pub IsOutside : List Range → ℕ → Type 0
 IsOutside pools a = coverage itself pools a ≡ 0
 
--- the range that an answer handed out or made longer, if any
+-- the range that an answer provided or made longer, if any
 abbrev pub handed_by : Note → List Range
 handed_by (alloc n None) = []
 handed_by (alloc n (Some r)) = r ∷ []
@@ -24,16 +24,16 @@ abbrev pub handed : List Note → List Range
 handed [] = []
 handed (n ∷ ns) = handed_by n ++ handed ns
 
--- the ranges that were outstanding before some answers, and those that the answers handed out or made longer
+-- the ranges that were outstanding before some answers, and those that the answers provided or made longer
 abbrev pub ever_owed : List Range → List Note → List Range
 ever_owed before notes = before ++ handed notes
 
--- no range was given back
+-- no range was returned to the source
 abbrev pub NothingGoesBack : List Note → Type 0
 NothingGoesBack notes = (r : Range) → IsIn (dealloc r) notes → ⊥
 
 -- The memory is where it was. The ranges that are outstanding after the answers are among those that ever were, and where nothing
--- was given back they have all addresses of these. Each byte of the memory that lies in none of these is as it was.
+-- was returned to the source they have all addresses of these. Each byte of the memory that lies in none of these is as it was.
 pub record KeepsOutside (m : Space) (before : List Range) (notes : List Note) (n : Space) (after : List Range) : Type 0 where
   pub place : SamePlace m n
   pub among : (a : ℕ) → IsOutside (ever_owed before notes) a → IsOutside after a

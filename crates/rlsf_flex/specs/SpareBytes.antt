@@ -17,7 +17,8 @@ pub record IsInNewFooter (t : Terms) (before after : List Range) (a : ℕ) : Typ
   pub from : footer_of newest ≤ a
   pub to : a < footer_of newest + 16
 
--- Each byte of the memory that no block is made of, before and after, is as it was, but for the newest range's footer where
+-- Each byte of the memory that no block is made of, before and after, is as it was. The one exception is the newest range's footer, if
 -- memory came and the source takes ranges back.
 abbrev pub KeepsSpareButFooter : Terms → Space → FlexState → Space → FlexState → Type 0
-KeepsSpareButFooter t m s n u = (a : ℕ) → m.start ≤ a → a < m.start + length m.bytes → IsSpare s.machine a → IsSpare u.machine a → (IsInNewFooter t s.pools u.pools a → ⊥) → byte_at n a ≡ byte_at m a
+KeepsSpareButFooter t m s n u = (a : ℕ) → m.start ≤ a → a < m.start + length m.bytes → IsSpare s.machine a → IsSpare u.machine a
+    → (IsInNewFooter t s.pools u.pools a → ⊥) → byte_at n a ≡ byte_at m a

@@ -1,4 +1,4 @@
--- What an allocator over a source stands for.
+-- What an allocator over a source represents.
 use Rattle.std.specs.Prelude.{◌≡◌, ℕ, true, List, [], Option}
 use Rattle.std.specs.Option.{option_map}
 use Rattle.rlsf_base.specs.declared.memory.range.Range.{Range}
@@ -20,8 +20,8 @@ use Rattle.rlsf_machine.specs.Run.{Fills}
 use Rattle.rlsf_machine.specs.State.{State}
 use Rattle.rlsf_machine.specs.Terms.{Terms}
 
--- The allocator as contracts see it: its memory, its class table, its source, and the state that it is in: that of the list
--- machine, the ranges that are outstanding at the source, and the kept pool.
+-- The allocator as contracts see it: its memory, its class table, its source, and its state. That is the state of the reference model,
+-- the ranges that are outstanding at the source, and the kept pool.
 pub record FlexContents (S : Type 0) : Type 0 where
   pub memory : Space
   pub table : Table
@@ -48,7 +48,7 @@ kept_of p = option_map kept_pool p
 abbrev pub flex_contents : {S : Type 0} → Allocator → Option Pool → S → List Range → FlexContents S
 flex_contents t k source ranges = record { memory = t.memory; table = t.table; source = source; state = record { machine = t.state; pools = ranges; kept = kept_of k } }
 
--- Memory and class table stand for the machine's state, which is well-formed with its ranges and its kept pool; the source owes
+-- Memory and class table represent the reference model's state, which is well-formed with its ranges and its kept pool; the source owes
 -- these ranges, and where it takes ranges back, their footers spell them.
 pub record FlexStandsFor {S : Type 0} (fllen sllen : ℕ) (terms : S → Terms) (owes : S → List Range → Type 0) (v : FlexContents S) : Type 0 where
   pub machine : StandsFor fllen sllen (contents v.memory v.table) v.state.machine
@@ -56,17 +56,17 @@ pub record FlexStandsFor {S : Type 0} (fllen sllen : ℕ) (terms : S → Terms) 
   pub owed : owes v.source v.state.pools
   pub footers : (terms v.source).dealloc ≡ true → Footers v.memory v.state.pools
 
--- what is true of every allocator's fields: the parameters are valid, the fields stand for its state, and no byte of its memory is out
+-- what is true of every allocator's fields: the parameters are valid, the fields represent its state, and no byte of its memory is out
 pub record IsFlexTlsf {S : Type 0} (fl_bits sl_bits fllen sllen : ℕ) (terms : S → Terms) (owes : S → List Range → Type 0) (v : FlexContents S) : Type 0 where
   pub valid : IsValid fl_bits sl_bits fllen sllen
   pub stands : FlexStandsFor fllen sllen terms owes v
   pub whole : v.memory.out ≡ []
 
--- the allocator's parts stand for its state
+-- the allocator's parts represent its state
 unfoldable pub FlexStands : {S : Type 0} → ℕ → ℕ → (S → Terms) → (S → List Range → Type 0) → FlexContents S → Type 0
 FlexStands fllen sllen terms owes v = FlexStandsFor fllen sllen terms owes v
 
--- A step of the machine that asks the source nothing leads to the state after, with the same ranges and the same kept pool. Each
+-- A step of the reference model that asks the source nothing leads to the state after, with the same ranges and the same kept pool. Each
 -- byte that no block is made of, before and after, is as it was.
 unfoldable pub StepsAlone : {S : Type 0} → ℕ → ℕ → (S → Terms) → (S → List Range → Type 0) → FlexContents S → FlexContents S → (State → Type 0) → Type 0
 StepsAlone fllen sllen terms owes before after step =
@@ -77,11 +77,12 @@ StepsAlone fllen sllen terms owes before after step =
 abbrev pub FillsAlone : {S : Type 0} → ℕ → ℕ → (S → Terms) → (S → List Range → Type 0) → FlexContents S → FlexContents S → ℕ → List ℕ → Type 0
 FillsAlone fllen sllen terms owes before after addr bytes = StepsAlone fllen sllen terms owes before after (Fills before.state.machine addr bytes)
 
--- A step of the machine that may ask the source for memory leads to the state after, with notes that, one by one and no others, lead
--- from the source's value before to the one after, and whose answers are such as a source may give. Bytes of the memory outside of
--- the ranges that ever were outstanding stay, and in them those that no block is made of, but for the newest range's footer where
--- memory came and the source takes ranges back.
-unfoldable pub FlexSteps : {S : Type 0} → ℕ → ℕ → (S → Terms) → (S → List Range → Type 0) → (S → Note → S → Type 0) → FlexContents S → FlexContents S → (List Note → FlexState → Type 0) → Type 0
+-- A step of the reference model that may ask the source for memory leads to the state after, with notes. One by one, these notes and no
+-- others lead from the source's value before to the one after. Their answers are such as a source may give. Bytes of the memory
+-- outside of all ranges that ever were outstanding stay. Inside, bytes that no block is made of stay. The one exception is the newest
+-- range's footer, if memory came and the source takes ranges back.
+unfoldable pub FlexSteps : {S : Type 0} → ℕ → ℕ → (S → Terms) → (S → List Range → Type 0) → (S → Note → S → Type 0) → FlexContents S → FlexContents S
+    → (List Note → FlexState → Type 0) → Type 0
 FlexSteps fllen sllen terms owes leads before after step =
     (notes : List Note) × step notes after.state × LeadsBy leads before.source notes after.source × MayAnswerAll (terms before.source) before.state.pools notes
     × KeepsOutside before.memory before.state.pools notes after.memory after.state.pools × FlexStandsFor fllen sllen terms owes after

@@ -1,4 +1,4 @@
--- What private functions' contracts cite.
+-- Definitions for private functions.
 pub mod Footing
 pub mod Growth
 pub mod Outside

@@ -1,4 +1,9 @@
 //! The allocator that asks a source for memory when it has no room, and an allocator of single allocations as such a source.
+//!
+//! Read `specs/StandsFor` (the represented state) and `specs/Footers` first, then `src/source` (the trait of sources) and `src/flex` (all
+//! calls). `src/growth` asks for memory, `src/trim` and `src/end` return it, and `src/footers` writes and reads the footers. `src/heap` with
+//! `specs/Heap` is the source of single allocations. `src/parts`, `src/pool` and `src/ranges` hold the fields. `specs/Outside` and
+//! `specs/SpareBytes` say which bytes stay. `specs/Steps` is for private functions.
 #![tactic(auto)]
 
 ghost use Rattle.rlsf_flex.specs.Laws.{FlexStatesAreWellFormed, FlexWordsReadNoPayload};

@@ -1,4 +1,4 @@
--- What tests tell of steps.
+-- What the results of tests show about steps.
 use Rattle.std.proofs.Common.{◌≡◌, ℕ, nat_eq, Bool, true, false, true≢false, MatchBool, length, take, drop, List, Some, Ok, Err, ap, refl, subst, sym}
 use Rattle.std.proofs.lemmas.Bool.{and_parts, eqb-true}
 use Rattle.rlsf_base.specs.declared.memory.layout.Layout.{Layout}
@@ -10,7 +10,7 @@ use Rattle.rlsf_placement.specs.Steps.{DeallocatesAsAt, Done, HeapReads, HeapUsa
 use Rattle.rlsf_global.proofs.Placements.{some_row}
 use Rattle.rlsf_global.specs.Steps.Table.{IsFound}
 
--- two answers are the same
+-- two answers are equal
 abbrev Is : Done → Done → Type 0
 Is a b = a ≡ b
 
@@ -22,7 +22,7 @@ pub when_false : (A B : Type 0) (b : Bool) → false ≡ b → B → MatchBool b
 when_false A B false e x = x
 when_false A B true e x = absurd (true≢false (sym e))
 
--- layouts that are the same have one alignment
+-- equal layouts have one alignment
 pub same_align : (a b : Layout) → true ≡ is_same a b → a.align ≡ b.align
 same_align a b e = eqb-true a.align b.align (and_parts (nat_eq a.size b.size) (nat_eq a.align b.align) (sym e)).1
 
@@ -39,17 +39,20 @@ module _ (h : Heap) (addr : ℕ) (layout : Layout) (row : Row) where
 
 module _ (h : Heap) (addr offset i : ℕ) (found : IsFound h.asked addr i) where
   module _ (lent : List ℕ) where
-    pub reads_in : (left : List ℕ) → true ≡ fits h addr offset (length lent) → left ≡ take (length lent) (drop offset (bytes_at h.flex.machine addr)) → HeapReads h addr offset lent (Ok tt) left
+    pub reads_in : (left : List ℕ) → true ≡ fits h addr offset (length lent) → left ≡ take (length lent) (drop offset (bytes_at h.flex.machine addr))
+        → HeapReads h addr offset lent (Ok tt) left
     reads_in left e same =
         let (row, there) = some_row h.asked addr i found in
         subst (λ o. ReadsAt h addr offset lent o (Ok tt) left) (sym there)
-        (when_true (Is (Ok tt) (Ok tt) × (left ≡ take (length lent) (drop offset (bytes_at h.flex.machine addr)))) (Is (Ok tt) (Err OutOfRange) × (left ≡ lent)) (fits h addr offset (length lent)) e (refl, same))
+        (when_true (Is (Ok tt) (Ok tt) × (left ≡ take (length lent) (drop offset (bytes_at h.flex.machine addr)))) (Is (Ok tt) (Err OutOfRange) × (left ≡ lent))
+        (fits h addr offset (length lent)) e (refl, same))
 
     pub reads_out : false ≡ fits h addr offset (length lent) → HeapReads h addr offset lent (Err OutOfRange) lent
     reads_out e =
         let (row, there) = some_row h.asked addr i found in
         subst (λ o. ReadsAt h addr offset lent o (Err OutOfRange) lent) (sym there)
-        (when_false (Is (Err OutOfRange) (Ok tt) × (lent ≡ take (length lent) (drop offset (bytes_at h.flex.machine addr)))) (Is (Err OutOfRange) (Err OutOfRange) × (lent ≡ lent)) (fits h addr offset (length lent)) e (refl, refl))
+        (when_false (Is (Err OutOfRange) (Ok tt) × (lent ≡ take (length lent) (drop offset (bytes_at h.flex.machine addr))))
+        (Is (Err OutOfRange) (Err OutOfRange) × (lent ≡ lent)) (fits h addr offset (length lent)) e (refl, refl))
 
   module _ (bytes : List ℕ) where
     pub writes_in : (g : Heap) → true ≡ fits h addr offset (length bytes) → WritesIn h addr offset bytes g → HeapWrites h addr offset bytes (Ok tt) g
@@ -62,9 +65,10 @@ module _ (h : Heap) (addr offset i : ℕ) (found : IsFound h.asked addr i) where
     writes_out e =
         let (row, there) = some_row h.asked addr i found in
         subst (λ o. WritesAt h addr offset bytes o (Err OutOfRange) h) (sym there)
-        (when_false (Is (Err OutOfRange) (Ok tt) × WritesIn h addr offset bytes h) (Is (Err OutOfRange) (Err OutOfRange) × (h ≡ h)) (fits h addr offset (length bytes)) e (refl, refl))
+        (when_false (Is (Err OutOfRange) (Ok tt) × WritesIn h addr offset bytes h) (Is (Err OutOfRange) (Err OutOfRange) × (h ≡ h)) (fits h addr offset (length bytes)) e
+        (refl, refl))
 
--- the usable length of a payload with a row
+-- the usable length of a payload with an entry
 pub usable_in : (h : Heap) (addr i n : ℕ) → IsFound h.asked addr i → n ≡ length (bytes_at h.flex.machine addr) → HeapUsable h addr (Ok n)
 usable_in h addr i n found same =
     let (row, there) = some_row h.asked addr i found in

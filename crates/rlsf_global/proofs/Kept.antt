@@ -1,4 +1,4 @@
--- The first bytes of a payload that gets another size.
+-- The first bytes of a payload that is resized.
 use Rattle.std.proofs.Common.{◌≡◌, ℕ, ◌≤◌, Bool, true, false, cond, length, min, take, Ok, arith, sym, ◌∙◌, ap, subst}
 use Rattle.std.proofs.lemmas.List.{take-take}
 use Rattle.std.specs.declared.num.NonZeroUsize.{NonZeroUsize}
@@ -34,7 +34,7 @@ module _ (v : LockedContents) (is : IsLocked v) (g : Heap) (to : NonZeroUsize) (
   kept_elsewhere wanted step = (reallocation_leaves (range_of v.memory) v.heap g addr wanted to heap step).1.bytes
 
   module _ (layout : Layout) (n : ℕ) where
-    -- another size, where the payload stands
+    -- another size in place
     pub kept_there : HeapReallocatesThere v.heap addr layout n (Ok to) g → KeepsFirst (in_both v.heap g addr (at to)) v.heap addr g (at to)
     kept_there step = (reallocation_there_leaves (range_of v.memory) v.heap g addr layout n to heap step).1.3.bytes
 
@@ -54,7 +54,8 @@ module _ (v : LockedContents) (is : IsLocked v) (g : Heap) (to : NonZeroUsize) (
 
           enough : n ≤ length (content_at g (at to))
           enough = subst (λ k. k ≤ length (content_at g (at to))) moved.1
-              (payloads_serve (range_of v.memory) g (at to) moved.0 (steps_keep_heap (range_of v.memory) v.heap g (reallocate_as enabled addr layout n (Ok to)) heap step) moved.3.layout).enough
+              (payloads_serve (range_of v.memory) g (at to) moved.0 (steps_keep_heap (range_of v.memory) v.heap g (reallocate_as enabled addr layout n (Ok to)) heap step)
+              moved.3.layout).enough
 
           by : (b : Bool) → KeepsFirst (cond b (in_both v.heap g addr (at to)) (min layout.size n)) v.heap addr g (at to) → KeepsFirst (min layout.size n) v.heap addr g (at to)
           by true kept = fewer (min layout.size n) (in_both v.heap g addr (at to)) v.heap g addr (at to) (omega (arith, usable, enough)) kept

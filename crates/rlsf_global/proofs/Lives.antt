@@ -18,12 +18,13 @@ is_unknown (Err UnknownAddress) = true
 is_unknown r = false
 
 module _ (f : FlexContents PageCursor) (rows : List Row) (addr i : ℕ) where
-  -- where a row would go, none has the address
+  -- where an entry would go, none has the address
   pub unknown : {A : Type 0} → IsPlaceFor rows addr i → IsErrOf {T = A} (Err UnknownAddress) UnknownAddress ↔ (layout_at (heap_of f rows) addr ≡ None)
   unknown gap = ((λ is. layout_at-none (heap_of f rows) addr gap.none), (λ none. refl))
 
-  -- a row that was found has it
-  pub known : {A : Type 0} → IsFound rows addr i → (r : Result A GlobalError) → is_unknown r ≡ false → IsErrOf r UnknownAddress ↔ (layout_at (heap_of f rows) addr ≡ None)
+  -- an entry that was found has it
+  pub known : {A : Type 0} → IsFound rows addr i → (r : Result A GlobalError) → is_unknown r ≡ false
+      → IsErrOf r UnknownAddress ↔ (layout_at (heap_of f rows) addr ≡ None)
   known found r other =
       let (row, there) = some_row rows addr i found in (
         (λ is. absurd (true≢false (sym (ap is_unknown is) ∙ other))),

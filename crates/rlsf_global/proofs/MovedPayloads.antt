@@ -1,4 +1,4 @@
--- A payload moves into another one, or gets another size as the allocator does.
+-- A payload moves into another one, or is resized as the allocator does.
 use Rattle.std.proofs.Common.{◌≡◌, ◌≢◌, ℕ, arith, length, Bool, true, false, List, Some, None, Ok, Err, refl, sym, ◌∙◌, ap, subst, inl, inr}
 use Rattle.std.proofs.lemmas.Bool.{cases_eq}
 use Rattle.std.proofs.lemmas.Option.{none-some}
@@ -34,23 +34,26 @@ use Rattle.rlsf_placement.specs.Moves.{MovesAway, ReallocatesAsAt, ReallocatesTo
 use Rattle.rlsf_placement.specs.Rows.{Row, put, row_at, without_row}
 use Rattle.rlsf_placement.specs.Steps.{Placed, is_same}
 
--- ---- the row decides
+-- ---- the entry decides
 
 module _ (enabled : Bool) (h : Heap) (addr : ℕ) (layout : Layout) (n : ℕ) (row : Row) where
-  pub reallocates_in : (wanted : Layout) (result : Placed) (g : Heap) → true ≡ is_same row.1 layout → wanted.size ≡ n → wanted.align ≡ layout.align → ReallocatesTo enabled h addr layout wanted result g
+  pub reallocates_in : (wanted : Layout) (result : Placed) (g : Heap) → true ≡ is_same row.1 layout → wanted.size ≡ n → wanted.align ≡ layout.align
+      → ReallocatesTo enabled h addr layout wanted result g
       → ReallocatesAsAt enabled h addr layout n (Some row) result g
   reallocates_in wanted result g e size align step =
       when_true (Wanted n layout.align (λ wanted. ReallocatesTo enabled h addr layout wanted result g)) ((result ≡ Err WrongLayout) × (g ≡ h)) (is_same row.1 layout) e
       (record { layout = wanted; size = size; align = align; made = step })
 
   pub reallocates_out : false ≡ is_same row.1 layout → ReallocatesAsAt enabled h addr layout n (Some row) (Err WrongLayout) h
-  reallocates_out e = when_false (Wanted n layout.align (λ wanted. ReallocatesTo enabled h addr layout wanted (Err WrongLayout) h)) (IsPlaced (Err WrongLayout) (Err WrongLayout) × (h ≡ h)) (is_same row.1 layout) e (refl, refl)
+  reallocates_out e =
+      when_false (Wanted n layout.align (λ wanted. ReallocatesTo enabled h addr layout wanted (Err WrongLayout) h)) (IsPlaced (Err WrongLayout) (Err WrongLayout) × (h ≡ h))
+      (is_same row.1 layout) e (refl, refl)
 
 -- ---- the table after a move
 
 module _ (f : FlexContents PageCursor) (rows : List Row) (v : IsLocked (locked_contents f rows)) (f' : FlexContents PageCursor) where
   module _ (addr : ℕ) (wanted : Layout) (to : NonZeroUsize) (is : IsGivenLayout f f' addr wanted (at to)) where
-    -- once the old row is gone, none has the new address
+    -- once the old entry is gone, none has the new address
     pub moved_row : row_at (at to) (without_row addr rows) ≡ None
     moved_row = elim (cases_eq (at to) addr) [
       | inl same ↦ none_left addr (at to) rows same
@@ -67,20 +70,27 @@ module _ (f : FlexContents PageCursor) (rows : List Row) (v : IsLocked (locked_c
   pub refused_locked : StaysRefused f f' → IsLocked (locked_contents f' rows)
   refused_locked is = record { flex = is.stands; sorted = v.sorted; lists = subst (λ (s : FlexState). Lists rows s.machine) (sym is.state) v.lists }
 
--- ---- nothing came of it
+-- ---- nothing changed
 
--- heaps that have the same state and the same cursor are the same
+-- heaps with equal states and equal cursors are equal
 pub same_heap : (f f' : FlexContents PageCursor) (rows : List Row) → f'.state ≡ f.state → f'.source ≡ f.source → heap_of f' rows ≡ heap_of f rows
 same_heap f f' rows same stays =
     ap (λ (s : FlexState). record { flex = s; source = f'.source; asked = rows }) same ∙ ap (λ (x : PageCursor). record { flex = f.state; source = x; asked = rows }) stays
 
 module _ (f f' : FlexContents PageCursor) (same : f'.state ≡ f.state) (kept : f'.memory.bytes ≡ f.memory.bytes) where
-  pub not_allocated_stays : (size align : ℕ) → FlexSteps 64 64 terms_of MayOwe PageLeads f f' (FlexAllocates 64 64 (terms_of f.source) f.state size align None) → StaysRefused f f'
+  pub not_allocated_stays : (size align : ℕ) → FlexSteps 64 64 terms_of MayOwe PageLeads f f' (FlexAllocates 64 64 (terms_of f.source) f.state size align None)
+      → StaysRefused f f'
   not_allocated_stays size align steps =
       let (notes, step, led, outside, stands) = flex_opened f f' (FlexAllocates 64 64 (terms_of f.source) f.state size align None) steps in
-      record { stands = stands; state = same; source = refused_notes f.source f'.source _ _ (subst (λ ns. LeadsBy PageLeads f.source ns f'.source) step.extends.asked led); bytes = kept }
+      record {
+        stands = stands;
+        state = same;
+        source = refused_notes f.source f'.source _ _ (subst (λ ns. LeadsBy PageLeads f.source ns f'.source) step.extends.asked led);
+        bytes = kept;
+      }
 
-  pub not_moved : (addr keep : ℕ) (wanted : Layout) → FlexSteps 64 64 terms_of MayOwe PageLeads f f' (FlexAllocates 64 64 (terms_of f.source) f.state wanted.size wanted.align None) → (rows : List Row)
+  pub not_moved : (addr keep : ℕ) (wanted : Layout)
+      → FlexSteps 64 64 terms_of MayOwe PageLeads f f' (FlexAllocates 64 64 (terms_of f.source) f.state wanted.size wanted.align None) → (rows : List Row)
       → MovesAway (heap_of f rows) addr keep wanted (Err NoRoom) (heap_of f' rows)
   not_moved addr keep wanted steps rows =
       let (notes, step, led, outside, stands) = flex_opened f f' (FlexAllocates 64 64 (terms_of f.source) f.state wanted.size wanted.align None) steps in
@@ -88,12 +98,19 @@ module _ (f f' : FlexContents PageCursor) (same : f'.state ≡ f.state) (kept : 
       let here = subst (λ (x : FlexState). FlexAllocates 64 64 (terms_of f.source) f.state wanted.size wanted.align None notes x) same step in
       ((notes, here, subst (λ (y : PageCursor). LeadsBy PageLeads f.source notes y) stays led), same_heap f f' rows same stays)
 
-  pub not_reallocated_stays : (addr size : ℕ) → FlexSteps 64 64 terms_of MayOwe PageLeads f f' (FlexReallocates 64 64 (terms_of f.source) f.state addr size None) → StaysRefused f f'
+  pub not_reallocated_stays : (addr size : ℕ) → FlexSteps 64 64 terms_of MayOwe PageLeads f f' (FlexReallocates 64 64 (terms_of f.source) f.state addr size None)
+      → StaysRefused f f'
   not_reallocated_stays addr size steps =
       let (notes, step, led, outside, stands) = flex_opened f f' (FlexReallocates 64 64 (terms_of f.source) f.state addr size None) steps in
-      record { stands = stands; state = same; source = refused_notes f.source f'.source _ _ (subst (λ ns. LeadsBy PageLeads f.source ns f'.source) step.asks.extends.asked led); bytes = kept }
+      record {
+        stands = stands;
+        state = same;
+        source = refused_notes f.source f'.source _ _ (subst (λ ns. LeadsBy PageLeads f.source ns f'.source) step.asks.extends.asked led);
+        bytes = kept;
+      }
 
-  pub not_reallocated : (addr : ℕ) (wanted : Layout) → FlexSteps 64 64 terms_of MayOwe PageLeads f f' (FlexReallocates 64 64 (terms_of f.source) f.state addr wanted.size None) → (rows : List Row)
+  pub not_reallocated : (addr : ℕ) (wanted : Layout) → FlexSteps 64 64 terms_of MayOwe PageLeads f f' (FlexReallocates 64 64 (terms_of f.source) f.state addr wanted.size None)
+      → (rows : List Row)
       → ResizesTo (heap_of f rows) addr wanted (Err NoRoom) (heap_of f' rows)
   not_reallocated addr wanted steps rows =
       let (notes, step, led, outside, stands) = flex_opened f f' (FlexReallocates 64 64 (terms_of f.source) f.state addr wanted.size None) steps in
@@ -120,7 +137,8 @@ module _ (f f' : FlexContents PageCursor) (addr : ℕ) (wanted : Layout) (to : N
   reallocated_left stood live apart =
       let (notes, step, led, outside, stands) = flex_opened f f' (FlexReallocates 64 64 (terms_of f.source) f.state addr wanted.size (Some (at to))) steps in
       let is : IsResized (payload_at f.state.machine) addr wanted.size (at to) (payload_at f'.state.machine) =
-      flex_callers_see_map 64 64 (terms_of f.source) (range_of f.memory) (range_of f'.memory) f.state f'.state (reallocate addr wanted.size (Some (at to))) notes stood.well_formed.machine stands.well_formed.machine live step in
+      flex_callers_see_map 64 64 (terms_of f.source) (range_of f.memory) (range_of f'.memory) f.state f'.state (reallocate addr wanted.size (Some (at to))) notes
+      stood.well_formed.machine stands.well_formed.machine live step in
       align_at-none f'.state.machine addr (is.left apart)
 
 -- ---- a payload that moves into another
@@ -129,10 +147,12 @@ module _ (f m k e : FlexContents PageCursor) (addr keep : ℕ) (wanted : Layout)
     (takes : FlexSteps 64 64 terms_of MayOwe PageLeads f m (FlexAllocates 64 64 (terms_of f.source) f.state wanted.size wanted.align (Some (at to))))
     (copies : StepsAlone 64 64 terms_of MayOwe m k (Fills m.state.machine (at to) (with_front keep (bytes_at m.state.machine addr) (bytes_at m.state.machine (at to)))))
     (frees : StepsAlone 64 64 terms_of MayOwe k e (Deallocates k.state.machine addr)) where
-  pub moved_away : k.source ≡ m.source → e.source ≡ k.source → (rows : List Row) → MovesAway (heap_of f rows) addr keep wanted (Ok to) (heap_of e (put (to, wanted) (without_row addr rows)))
+  pub moved_away : k.source ≡ m.source → e.source ≡ k.source → (rows : List Row)
+      → MovesAway (heap_of f rows) addr keep wanted (Ok to) (heap_of e (put (to, wanted) (without_row addr rows)))
   moved_away copy_stays free_stays rows =
       let (notes, step, led, outside, stands) = flex_opened f m (FlexAllocates 64 64 (terms_of f.source) f.state wanted.size wanted.align (Some (at to))) takes in
-      let (fills, copied, stands2, spare2) = alone_opened m k (Fills m.state.machine (at to) (with_front keep (bytes_at m.state.machine addr) (bytes_at m.state.machine (at to)))) copies in
+      let (fills, copied, stands2, spare2) =
+      alone_opened m k (Fills m.state.machine (at to) (with_front keep (bytes_at m.state.machine addr) (bytes_at m.state.machine (at to)))) copies in
       let (gone, freed, stands3, spare3) = alone_opened k e (Deallocates k.state.machine addr) frees in (
         record {
           meanwhile = m.state;
@@ -163,10 +183,12 @@ module _ (f m k e : FlexContents PageCursor) (addr keep : ℕ) (wanted : Layout)
     to_other same = none-some align (sym new ∙ ap (align_at f.state.machine) same ∙ live)
 
     pub moved_away_seen : IsServed m.state.machine (at to) wanted
-        → ((a : ℕ) → a ≢ at to → align_at m.state.machine a ≡ align_at f.state.machine a) → ((a : ℕ) → a ≢ at to → bytes_at m.state.machine a ≡ bytes_at f.state.machine a)
+        → ((a : ℕ) → a ≢ at to → align_at m.state.machine a ≡ align_at f.state.machine a)
+        → ((a : ℕ) → a ≢ at to → bytes_at m.state.machine a ≡ bytes_at f.state.machine a)
         → align_at k.state.machine ≡ align_at m.state.machine → ((a : ℕ) → a ≢ at to → bytes_at k.state.machine a ≡ bytes_at m.state.machine a)
         → align_at e.state.machine addr ≡ None
-        → ((a : ℕ) → a ≢ addr → align_at e.state.machine a ≡ align_at k.state.machine a) → ((a : ℕ) → a ≢ addr → bytes_at e.state.machine a ≡ bytes_at k.state.machine a)
+        → ((a : ℕ) → a ≢ addr → align_at e.state.machine a ≡ align_at k.state.machine a)
+        → ((a : ℕ) → a ≢ addr → bytes_at e.state.machine a ≡ bytes_at k.state.machine a)
         → IsGivenLayout f e addr wanted (at to)
     moved_away_seen is aligns bytes copy_aligns copy_bytes gone free_aligns free_bytes =
         let long : length (bytes_at e.state.machine (at to)) ≡ length (bytes_at m.state.machine (at to)) = ap length (free_bytes (at to) to_other) ∙ copied_length (at to) in

@@ -1,5 +1,6 @@
 -- How a heap goes on from step to step.
-use Rattle.std.proofs.Common.{◌≡◌, ◌≢◌, ℕ, ◌≤◌, arith, slice_index_or, length, List, [], ◌∷◌, Some, None, IsSome, Ok, Err, refl, sym, ◌∙◌, ap, subst}
+use Rattle.std.proofs.Common.{◌≡◌, ◌≢◌, ℕ, ◌≤◌, arith, slice_index_or, length, List, [], ◌∷◌, Some, None, IsSome, Ok, Err, refl, sym, ◌∙◌, ap}
+use Rattle.std.proofs.Common.{subst}
 use Rattle.std.specs.declared.num.NonZeroUsize.{NonZeroUsize}
 use Rattle.rlsf_base.specs.Addr.{at}
 use Rattle.rlsf_base.specs.declared.memory.layout.Layout.{Layout}
@@ -23,18 +24,18 @@ use Rattle.rlsf_placement.specs.Heap.{Agrees, Lists, with_state}
 use Rattle.rlsf_placement.specs.Rows.{Row, put, row_at, without_row}
 use Rattle.rlsf_placement.specs.Steps.{HeapAllocates, Releases}
 
--- a row that was found
+-- an entry that was found
 pub some_row : (rows : List Row) (addr i : ℕ) → IsFound rows addr i → (r : Row) × (row_at addr rows ≡ Some r)
 some_row [] addr i found = absurd (omega (arith, found.in_range))
 some_row (x ∷ rows) addr i found = (slice_index_or (x ∷ rows) i x, found.row x)
 
--- what is true of the value stands
+-- what is true of the value stays true
 pub locked_stands : (v : LockedContents) → IsLocked v → LockedStands v
 unfolding LockedStands
 locked_stands v is = is
 
 module _ (f : FlexContents PageCursor) (rows : List Row) (v : IsLocked (locked_contents f rows)) where
-  -- an address with a row is live, and its payload serves the row's layout
+  -- an address with an entry is live, and its payload serves the entry's layout
   pub live_row : (addr : ℕ) (r : Row) → row_at addr rows ≡ Some r → align_at f.state.machine addr ≡ Some r.1.align
   live_row addr r there = (subst (λ o. Agrees o (align_at f.state.machine addr) (bytes_at f.state.machine addr)) there (v.lists addr)).0
 
@@ -44,17 +45,20 @@ module _ (f : FlexContents PageCursor) (rows : List Row) (v : IsLocked (locked_c
   pub live_here : (addr i : ℕ) → IsFound rows addr i → IsSome (align_at f.state.machine addr)
   live_here addr i found = let (r, there) = some_row rows addr i found in subst IsSome (sym (live_row addr r there)) refl
 
-  -- an address where no payload is has no row
+  -- an address where no payload is has no entry
   pub no_row : (addr : ℕ) → align_at f.state.machine addr ≡ None → row_at addr rows ≡ None
   no_row addr none = agrees-none (row_at addr rows) (bytes_at f.state.machine addr) (subst (λ o. Agrees (row_at addr rows) o (bytes_at f.state.machine addr)) none (v.lists addr))
 
-  -- the allocator gave room
+  -- the allocator has room
   module _ (f' : FlexContents PageCursor) (layout : Layout) (addr : NonZeroUsize)
-      (steps : FlexSteps 64 64 terms_of MayOwe PageLeads f f' (FlexAllocates 64 64 (terms_of f.source) f.state layout.size layout.align (Some (at addr)))) (rows' : List Row) (there : rows' ≡ put (addr, layout) rows) where
+      (steps : FlexSteps 64 64 terms_of MayOwe PageLeads f f' (FlexAllocates 64 64 (terms_of f.source) f.state layout.size layout.align (Some (at addr)))) (rows' : List Row)
+      (there : rows' ≡ put (addr, layout) rows) where
     pub allocated : HeapAllocates (heap_of f rows) layout (Ok addr) (heap_of f' rows')
-    allocated = let (notes, step, led, outside, stands) = flex_opened f f' (FlexAllocates 64 64 (terms_of f.source) f.state layout.size layout.align (Some (at addr))) steps in ((notes, step, led), there)
+    allocated = let (notes, step, led, outside, stands) = flex_opened f f' (FlexAllocates 64 64 (terms_of f.source) f.state layout.size layout.align (Some (at addr))) steps in
+        ((notes, step, led), there)
 
-    pub allocated_locked : align_at f.state.machine (at addr) ≡ None → IsServed f'.state.machine (at addr) layout → ((a : ℕ) → a ≢ at addr → align_at f'.state.machine a ≡ align_at f.state.machine a)
+    pub allocated_locked : align_at f.state.machine (at addr) ≡ None → IsServed f'.state.machine (at addr) layout
+        → ((a : ℕ) → a ≢ at addr → align_at f'.state.machine a ≡ align_at f.state.machine a)
         → ((a : ℕ) → a ≢ at addr → bytes_at f'.state.machine a ≡ bytes_at f.state.machine a) → IsLocked (locked_contents f' rows')
     allocated_locked new is aligns bytes =
         let (notes, step, led, outside, stands) = flex_opened f f' (FlexAllocates 64 64 (terms_of f.source) f.state layout.size layout.align (Some (at addr))) steps in
@@ -73,7 +77,9 @@ module _ (f : FlexContents PageCursor) (rows : List Row) (v : IsLocked (locked_c
         refused_notes f.source f'.source _ _ (subst (λ ns. LeadsBy PageLeads f.source ns f'.source) step.extends.asked led)
 
     pub heap_stays : heap_of f' rows ≡ heap_of f rows
-    heap_stays = ap (λ (s : FlexState). record { flex = s; source = f'.source; asked = rows }) same ∙ ap (λ (x : PageCursor). record { flex = f.state; source = x; asked = rows }) cursor_stays
+    heap_stays =
+        ap (λ (s : FlexState). record { flex = s; source = f'.source; asked = rows }) same
+        ∙ ap (λ (x : PageCursor). record { flex = f.state; source = x; asked = rows }) cursor_stays
 
     pub not_allocated : HeapAllocates (heap_of f rows) layout (Err NoRoom) (heap_of f' rows)
     not_allocated =
@@ -86,8 +92,9 @@ module _ (f : FlexContents PageCursor) (rows : List Row) (v : IsLocked (locked_c
         let (notes, step, led, outside, stands) = flex_opened f f' (FlexAllocates 64 64 (terms_of f.source) f.state layout.size layout.align None) steps in
         record { flex = stands; sorted = v.sorted; lists = subst (λ (s : FlexState). Lists rows s.machine) (sym same) v.lists }
 
-  -- a payload was given back
-  module _ (f' : FlexContents PageCursor) (addr : ℕ) (steps : StepsAlone 64 64 terms_of MayOwe f f' (Deallocates f.state.machine addr)) (stays : f'.source ≡ f.source) (rows' : List Row) (there : rows' ≡ without_row addr rows) where
+  -- a payload was deallocated
+  module _ (f' : FlexContents PageCursor) (addr : ℕ) (steps : StepsAlone 64 64 terms_of MayOwe f f' (Deallocates f.state.machine addr)) (stays : f'.source ≡ f.source)
+      (rows' : List Row) (there : rows' ≡ without_row addr rows) where
     pub released : Releases (heap_of f rows) addr (heap_of f' rows')
     released =
         let (step, after, stands, spare) = alone_opened f f' (Deallocates f.state.machine addr) steps in (
@@ -109,7 +116,8 @@ module _ (f : FlexContents PageCursor) (rows : List Row) (v : IsLocked (locked_c
         })
 
   -- a payload was written
-  module _ (f' : FlexContents PageCursor) (addr : ℕ) (bytes : List ℕ) (steps : StepsAlone 64 64 terms_of MayOwe f f' (Fills f.state.machine addr bytes)) (stays : f'.source ≡ f.source) where
+  module _ (f' : FlexContents PageCursor) (addr : ℕ) (bytes : List ℕ) (steps : StepsAlone 64 64 terms_of MayOwe f f' (Fills f.state.machine addr bytes))
+      (stays : f'.source ≡ f.source) where
     pub filled : Fills f.state.machine addr bytes f'.state.machine × (heap_of f' rows ≡ with_state (heap_of f rows) f'.state.machine rows)
     filled =
         let (step, after, stands, spare) = alone_opened f f' (Fills f.state.machine addr bytes) steps in (

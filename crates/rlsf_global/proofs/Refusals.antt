@@ -30,31 +30,35 @@ pub deallocates_refuses : (h g : Heap) (addr : ℕ) (row : Option Row) (r : Done
 deallocates_refuses h g addr None r step = same (UnknownAddress ∷ []) r _ step.0 (inl refl)
 deallocates_refuses h g addr (Some row) r step = same (UnknownAddress ∷ []) r _ step.0 tt
 
--- what both answers of a test tell
+-- what both answers of a test show
 either : {A B X : Type 0} (b : Bool) → MatchBool b A B → (A → X) → (B → X) → X
 either true m f k = f m
 either false m f k = k m
 
-pub deallocates_as_refuses : (h g : Heap) (addr : ℕ) (layout : Layout) (row : Option Row) (r : Done) → DeallocatesAsAt h addr layout row r g → RefusesOnlyBy (UnknownAddress ∷ WrongLayout ∷ []) r
+pub deallocates_as_refuses : (h g : Heap) (addr : ℕ) (layout : Layout) (row : Option Row) (r : Done) → DeallocatesAsAt h addr layout row r g
+    → RefusesOnlyBy (UnknownAddress ∷ WrongLayout ∷ []) r
 deallocates_as_refuses h g addr layout None r step = same (UnknownAddress ∷ WrongLayout ∷ []) r _ step.0 (inl refl)
 deallocates_as_refuses h g addr layout (Some row) r step = either (is_same row.1 layout) step
     (λ m. same (UnknownAddress ∷ WrongLayout ∷ []) r _ m.0 tt)
     (λ m. same (UnknownAddress ∷ WrongLayout ∷ []) r _ m.0 (inr (inl refl)))
 
-pub reads_refuses : (h : Heap) (addr offset : ℕ) (lent : List ℕ) (row : Option Row) (r : Done) (left : List ℕ) → ReadsAt h addr offset lent row r left → RefusesOnlyBy (UnknownAddress ∷ OutOfRange ∷ []) r
+pub reads_refuses : (h : Heap) (addr offset : ℕ) (lent : List ℕ) (row : Option Row) (r : Done) (left : List ℕ) → ReadsAt h addr offset lent row r left
+    → RefusesOnlyBy (UnknownAddress ∷ OutOfRange ∷ []) r
 reads_refuses h addr offset lent None r left step = same (UnknownAddress ∷ OutOfRange ∷ []) r _ step.0 (inl refl)
 reads_refuses h addr offset lent (Some row) r left step = either (fits h addr offset (length lent)) step
     (λ m. same (UnknownAddress ∷ OutOfRange ∷ []) r _ m.0 tt)
     (λ m. same (UnknownAddress ∷ OutOfRange ∷ []) r _ m.0 (inr (inl refl)))
 
 -- a refused read leaves what was lent
-pub refused_read_leaves : (h : Heap) (addr offset : ℕ) (lent : List ℕ) (row : Option Row) (r : Done) (left : List ℕ) → ReadsAt h addr offset lent row r left → OnErr r (left ≡ lent)
+pub refused_read_leaves : (h : Heap) (addr offset : ℕ) (lent : List ℕ) (row : Option Row) (r : Done) (left : List ℕ) → ReadsAt h addr offset lent row r left
+    → OnErr r (left ≡ lent)
 refused_read_leaves h addr offset lent None r left step = on_err r step.1
 refused_read_leaves h addr offset lent (Some row) r left step = either (fits h addr offset (length lent)) step
     (λ m. subst (λ x. OnErr x (left ≡ lent)) (sym m.0) tt)
     (λ m. on_err r m.1)
 
-pub writes_refuses : (h g : Heap) (addr offset : ℕ) (bytes : List ℕ) (row : Option Row) (r : Done) → WritesAt h addr offset bytes row r g → RefusesOnlyBy (UnknownAddress ∷ OutOfRange ∷ []) r
+pub writes_refuses : (h g : Heap) (addr offset : ℕ) (bytes : List ℕ) (row : Option Row) (r : Done) → WritesAt h addr offset bytes row r g
+    → RefusesOnlyBy (UnknownAddress ∷ OutOfRange ∷ []) r
 writes_refuses h g addr offset bytes None r step = same (UnknownAddress ∷ OutOfRange ∷ []) r _ step.0 (inl refl)
 writes_refuses h g addr offset bytes (Some row) r step = either (fits h addr offset (length bytes)) step
     (λ m. same (UnknownAddress ∷ OutOfRange ∷ []) r _ m.0 tt)
@@ -73,7 +77,8 @@ moves_refuses h g addr keep wanted (Err OutOfRange) step = absurd step
 moves_refuses h g addr keep wanted (Err JournalMemory) step = absurd step
 moves_refuses h g addr keep wanted (Err TableMemory) step = absurd step
 
-pub reallocates_refuses : (h g : Heap) (addr : ℕ) (wanted : Layout) (row : Option Row) (r : Placed) → ReallocatesAt h addr wanted row r g → RefusesOnlyBy (UnknownAddress ∷ NoRoom ∷ []) r
+pub reallocates_refuses : (h g : Heap) (addr : ℕ) (wanted : Layout) (row : Option Row) (r : Placed) → ReallocatesAt h addr wanted row r g
+    → RefusesOnlyBy (UnknownAddress ∷ NoRoom ∷ []) r
 reallocates_refuses h g addr wanted None r step = same (UnknownAddress ∷ NoRoom ∷ []) r _ step.0 (inl refl)
 reallocates_refuses h g addr wanted (Some row) r step = moves_refuses h g addr _ wanted r step
 
@@ -93,11 +98,13 @@ resizes_refuses h g addr wanted (Err OutOfRange) step = absurd step
 resizes_refuses h g addr wanted (Err JournalMemory) step = absurd step
 resizes_refuses h g addr wanted (Err TableMemory) step = absurd step
 
-to_refuses : (enabled : Bool) (h g : Heap) (addr : ℕ) (old wanted : Layout) (r : Placed) → ReallocatesTo enabled h addr old wanted r g → RefusesOnlyBy (UnknownAddress ∷ WrongLayout ∷ NoRoom ∷ []) r
+to_refuses : (enabled : Bool) (h g : Heap) (addr : ℕ) (old wanted : Layout) (r : Placed) → ReallocatesTo enabled h addr old wanted r g
+    → RefusesOnlyBy (UnknownAddress ∷ WrongLayout ∷ NoRoom ∷ []) r
 to_refuses true h g addr old wanted r step = resizes_refuses h g addr wanted r step
 to_refuses false h g addr old wanted r step = more r (moves_refuses h g addr _ wanted r step)
 
-pub reallocates_as_refuses : (enabled : Bool) (h g : Heap) (addr : ℕ) (layout : Layout) (size : ℕ) (row : Option Row) (r : Placed) → ReallocatesAsAt enabled h addr layout size row r g
+pub reallocates_as_refuses : (enabled : Bool) (h g : Heap) (addr : ℕ) (layout : Layout) (size : ℕ) (row : Option Row) (r : Placed)
+    → ReallocatesAsAt enabled h addr layout size row r g
     → RefusesOnlyBy (UnknownAddress ∷ WrongLayout ∷ NoRoom ∷ []) r
 reallocates_as_refuses enabled h g addr layout size None r step = same (UnknownAddress ∷ WrongLayout ∷ NoRoom ∷ []) r _ step.0 (inl refl)
 reallocates_as_refuses enabled h g addr layout size (Some row) r step = either (is_same row.1 layout) step
@@ -113,7 +120,8 @@ there_refuses h g addr wanted (Err OutOfRange) step = absurd step
 there_refuses h g addr wanted (Err JournalMemory) step = absurd step
 there_refuses h g addr wanted (Err TableMemory) step = absurd step
 
-pub reallocates_there_refuses : (h g : Heap) (addr : ℕ) (layout : Layout) (size : ℕ) (row : Option Row) (r : Placed) → ReallocatesThereAt h addr layout size row r g → RefusesOnlyBy (UnknownAddress ∷ WrongLayout ∷ NoRoom ∷ []) r
+pub reallocates_there_refuses : (h g : Heap) (addr : ℕ) (layout : Layout) (size : ℕ) (row : Option Row) (r : Placed) → ReallocatesThereAt h addr layout size row r g
+    → RefusesOnlyBy (UnknownAddress ∷ WrongLayout ∷ NoRoom ∷ []) r
 reallocates_there_refuses h g addr layout size None r step = same (UnknownAddress ∷ WrongLayout ∷ NoRoom ∷ []) r _ step.0 (inl refl)
 reallocates_there_refuses h g addr layout size (Some row) r step = either (is_same row.1 layout) step
     (λ w. there_refuses h g addr w.layout r w.made)

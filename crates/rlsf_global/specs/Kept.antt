@@ -1,4 +1,4 @@
--- What a payload that gets another size keeps.
+-- What a payload that is resized keeps.
 use Rattle.std.specs.Prelude.{◌≡◌, ℕ, take}
 use Rattle.rlsf_placement.specs.Heap.{Heap, content_at}
 

@@ -1,3 +1,4 @@
+-- The definitions of the calls behind the lock. Read `Locked` first.
 pub mod Kept
 pub mod Locked
 pub mod Refusals

@@ -8,14 +8,14 @@ use Rattle.rlsf_placement.specs.Heap.{Heap, Lists}
 use Rattle.rlsf_placement.specs.Rows.{IsSorted, Row}
 use Rattle.rlsf_table.specs.Table.{Table}
 
--- its memory, its class table, and the heap that it is in: the machine's state with what the source handed out, the source's cursor,
--- and the rows of the live table
+-- Its memory, its class table, and its heap. The heap is the model's state with the ranges that the source provided, the source's
+-- cursor, and the entries of the table of live addresses.
 pub record LockedContents : Type 0 where
   pub memory : Space
   pub table : Table
   pub heap : Heap
 
--- the heap of an allocator over pages, and of rows
+-- the heap of an allocator over pages, with these entries
 abbrev pub heap_of : FlexContents PageCursor → List Row → Heap
 heap_of f rows = record { flex = f.state; source = f.source; asked = rows }
 
@@ -27,13 +27,13 @@ locked_contents f rows = record { memory = f.memory; table = f.table; heap = hea
 abbrev pub flex_of : LockedContents → FlexContents PageCursor
 flex_of v = record { memory = v.memory; table = v.table; source = v.heap.source; state = v.heap.flex }
 
--- what is true of every such value: memory, class table and source stand for the heap's state, which is well-formed, and the rows
--- list exactly the live payloads, in the order of their addresses
+-- What is true of every such value: memory, class table and source represent the heap's state, which is well-formed. The entries
+-- list exactly the live payloads, in the order of their addresses.
 pub record IsLocked (v : LockedContents) : Type 0 where
   pub flex : FlexStandsFor 64 64 terms_of MayOwe (flex_of v)
   pub sorted : IsSorted v.heap.asked
   pub lists : Lists v.heap.asked v.heap.flex.machine
 
--- the same, for contracts
+-- IsLocked, as contracts cite it
 unfoldable pub LockedStands : LockedContents → Type 0
 LockedStands v = IsLocked v

@@ -1,2 +1,3 @@
+-- The definitions of private functions: no public contract cites these.
 pub mod Table
 pub mod Moves

@@ -1,4 +1,8 @@
-//! The allocator behind one lock.
+//! An allocator for threads: `GlobalTlsf` is a TLSF allocator over whole pages behind one lock, with a table of its live addresses.
+//!
+//! Read `locked.rt` first: `Locked` is the value under the lock, with all calls. `shared.rt` puts it behind the lock. `table.rt`
+//! searches and changes the table, and `moves.rt` moves payloads.
+//! The contracts cite `specs/Locked.antt`, and the heap and its steps in `rlsf_placement`.
 #![tactic(auto)]
 
 mod locked;

@@ -45,7 +45,7 @@ impl<Options: GlobalTlsfOptions> Model for Locked<Options> {
 impl<Options: GlobalTlsfOptions> Locked<Options> {
     ghost use Rattle.rlsf_global.specs.Locked.{LockedStands};
 
-    /// Creates an allocator whose source has the whole memory as its space. Nothing is live.
+    /// Creates an allocator whose source has the complete memory as its space. Nothing is live.
     pub fn new(alloc: Global, memory: Memory) -> Self
         ensures heap { result.heap ≡ beginning (range_of memory) Options.COALESCE_POOLS }
         ensures memory { result.memory ≡ memory }
@@ -133,7 +133,7 @@ impl<Options: GlobalTlsfOptions> Locked<Options> {
         ensures grow { self.old.memory.touches ≤ self.new.memory.touches }
     {
         let Ok(index) = search(&self.rows, addr) else {
-            // Only a live address has a row, so nothing is given back twice.
+            // Only a live address has an entry, so nothing is deallocated twice.
             return Err(GlobalError::UnknownAddress);
         };
         let gone = self.rows.remove(index);
@@ -161,7 +161,7 @@ impl<Options: GlobalTlsfOptions> Locked<Options> {
         ensures grow { self.old.memory.touches ≤ self.new.memory.touches }
     {
         let Ok(index) = search(&self.rows, addr) else {
-            // Refused before the layout is looked at: an address without a row has none.
+            // Refused before the layout is compared: an address without an entry has none.
             return Err(GlobalError::UnknownAddress);
         };
         if self.rows[index].1 != layout {

@@ -25,7 +25,7 @@ pub struct GlobalTlsf<Options: GlobalTlsfOptions = ()> {
 pub type SmallGlobalTlsf = GlobalTlsf<SmallGlobalTlsfOptions>;
 
 impl<Options: GlobalTlsfOptions> GlobalTlsf<Options> {
-    /// Creates an allocator whose source has the whole memory as its space. Nothing is live.
+    /// Creates an allocator whose source has the complete memory as its space. Nothing is live.
     pub fn new(alloc: Global, memory: Memory) -> Self {
         GlobalTlsf {
             locked: Mutex::new(Locked::new(alloc, memory)),

@@ -1,4 +1,4 @@
--- What closing a book gives.
+-- The result of closing a book.
 use Rattle.std.proofs.Common.{◌≡◌, ◌↔◌, ◌<◌, ℕ, List, true, false, true≢false, Result, Ok, Err, IfOk, IsErrOf, refl, ◌∙◌, subst, sym}
 use Rattle.rlsf_journal.specs.declared.close.Closed.{Closed}
 use Rattle.rlsf_journal.specs.declared.close.CloseError.{CloseError}
@@ -10,9 +10,10 @@ use Rattle.rlsf_journal.specs.Replay.{BookContents, IsRun}
 use Rattle.rlsf_placement.specs.Heap.{Heap}
 use Rattle.rlsf_placement.specs.Rows.{IsSorted}
 
--- the journal that is given out is one run, and what is live is what it leads to
+-- the returned journal is one run, and what is live is what it leads to
 pub closed_history : (b : BookContents) (r : Result Closed CloseError) → IfOk r (λ c. (c.journal.items ≡ b.journal) × IsRun b.journal b.locked.heap)
-    → IfOk r (λ c. (c.live.items ≡ b.locked.heap.asked) × IsSorted c.live.items) → IfOk r (λ c. (h : Heap) × IsRun c.journal.items h × (c.live.items ≡ h.asked) × IsSorted c.live.items)
+    → IfOk r (λ c. (c.live.items ≡ b.locked.heap.asked) × IsSorted c.live.items)
+    → IfOk r (λ c. (h : Heap) × IsRun c.journal.items h × (c.live.items ≡ h.asked) × IsSorted c.live.items)
 closed_history b (Ok c) (same, replay) (live, sorted) = (b.locked.heap, subst (λ j. IsRun j b.locked.heap) (sym same) replay, live, sorted)
 closed_history b (Err e) journal live = tt
 
@@ -29,7 +30,7 @@ missing≢mismatch result is other = cc
 no_error : {closed : Closed} {e : CloseError} → Ok closed ≡ Err e → ⊥
 no_error same = cc
 
--- what a close tells of its passes and the journal
+-- what a close shows about its passes and the journal
 pub record IsTold (callers : ℕ) (passes : List PassContents) (journal : List Entry) (result : Result Closed CloseError) : Type 0 where
   pub strange : IsErrOf result StrangePass ↔ (is_strange callers passes ≡ true)
   pub missing : IsErrOf result MissingPass ↔ LacksOne callers passes
@@ -53,11 +54,15 @@ module _ (callers : ℕ) (passes : List PassContents) (journal : List Entry) whe
   pub told_mismatch : is_strange callers passes ≡ false → HasEach callers passes → (Agree callers passes journal → ⊥) → IsTold callers passes journal (Err Mismatch)
   told_mismatch none each apart = record {
     strange = ((λ told. absurd (strange≢mismatch _ told refl)), (λ is. absurd (true≢false (sym is ∙ none))));
-    missing = ((λ told. absurd (missing≢mismatch _ told refl)), (λ both. let (same, some) = both in let (n, below, lacks) = some in absurd (true≢false (sym (each n below) ∙ lacks))));
+    missing = (
+      (λ told. absurd (missing≢mismatch _ told refl)),
+      (λ both. let (same, some) = both in let (n, below, lacks) = some in absurd (true≢false (sym (each n below) ∙ lacks))),
+    );
     mismatch = ((λ told. ((none, each), apart)), (λ same. refl));
   }
 
-  pub told_closed : is_strange callers passes ≡ false → HasEach callers passes → Agree callers passes journal → (closed : Closed) → IsTold callers passes journal (Ok closed)
+  pub told_closed : is_strange callers passes ≡ false → HasEach callers passes → Agree callers passes journal → (closed : Closed)
+      → IsTold callers passes journal (Ok closed)
   told_closed none each agree closed = record {
     strange = ((λ told. absurd (no_error told)), (λ is. absurd (true≢false (sym is ∙ none))));
     missing = ((λ told. absurd (no_error told)), (λ both. let (same, some) = both in let (n, below, lacks) = some in absurd (true≢false (sym (each n below) ∙ lacks))));

@@ -31,7 +31,7 @@ same_call c d r q same = subst (λ (x : Call). IsSameCall (step_by c r) (step_by
     by (Deallocate addr) = refl
     by (Reallocate addr layout) = (refl, refl)
 
--- the reply by which a call that gives an address was answered
+-- the reply of a call that returns an address
 abbrev placed_reply : Answer → Reply
 placed_reply (Ok addr) = Placed addr
 placed_reply (Err error.NoRoom) = NoRoom
@@ -85,7 +85,8 @@ same_calls [] (f ∷ fs) same = absurd (omega (arith, ap length same))
 same_calls (e ∷ es) [] same = absurd (omega (arith, ap length same))
 same_calls (e ∷ es) (f ∷ fs) same = (same_call e.call f.call e.reply f.reply (ap (λ l. get_or l 0 e.call) same), same_calls es fs (ap (drop 1) same))
 
-same_replies : (es fs : List Entry) → calls_of es ≡ calls_of fs → All (λ e. IsReplyTo e.call e.reply) es → All (λ e. IsReplyTo e.call e.reply) fs → AreSameAnswers (map step_of es) (map step_of fs)
+same_replies : (es fs : List Entry) → calls_of es ≡ calls_of fs → All (λ e. IsReplyTo e.call e.reply) es → All (λ e. IsReplyTo e.call e.reply) fs
+    → AreSameAnswers (map step_of es) (map step_of fs)
     → replies_of es ≡ replies_of fs
 same_replies [] [] same fits fits' answers = refl
 same_replies [] (f ∷ fs) same fits fits' answers = absurd answers

@@ -1,3 +1,4 @@
+-- Lemmas about journals: entries, receipts and replays.
 pub mod Closings
 mod Determined
 mod Equal

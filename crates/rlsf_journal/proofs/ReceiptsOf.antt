@@ -1,5 +1,6 @@
 -- A caller's receipts, entry by entry.
-use Rattle.std.proofs.Common.{◌≡◌, ◌≢◌, ◌⊎◌, ◌↔◌, ℕ, suc, ◌+◌, ◌<◌, List, [], ◌∷◌, length, drop, get_or, drop-cons, refl, sym, ap, subst, inl, inr, ◌∙◌, arith, Bool, true, false, if◌then◌else◌, ◌==◌, IsTrue, true≢false, add-one}
+use Rattle.std.proofs.Common.{◌≡◌, ◌≢◌, ◌⊎◌, ◌↔◌, ℕ, suc, ◌+◌, ◌<◌, List, [], ◌∷◌, length, drop, get_or, drop-cons, refl, sym, ap, subst}
+use Rattle.std.proofs.Common.{inl, inr, ◌∙◌, arith, Bool, true, false, if◌then◌else◌, ◌==◌, IsTrue, true≢false, add-one}
 use Rattle.std.proofs.lemmas.Bool.Decides.{eqb_tells, nat_tests}
 use Rattle.rlsf_journal.specs.declared.entry.Entry.{Entry}
 use Rattle.rlsf_journal.specs.declared.entry.Receipt.{Receipt}
@@ -14,7 +15,8 @@ module _ (caller : ℕ) (journal : List Entry) (n : ℕ) (e : Entry) (in_range :
   parts : drop n journal ≡ e ∷ drop (n + 1) journal
   parts =
       let next : suc n ≡ n + 1 = omega arith in
-      subst (λ (x : Entry). drop n journal ≡ x ∷ drop (n + 1) journal) (sym here) (subst (λ (m : ℕ). drop n journal ≡ get_or journal n e ∷ drop m journal) next (drop-cons journal n e in_range))
+      subst (λ (x : Entry). drop n journal ≡ x ∷ drop (n + 1) journal) (sym here)
+      (subst (λ (m : ℕ). drop n journal ≡ get_or journal n e ∷ drop m journal) next (drop-cons journal n e in_range))
 
   pub own : e.caller ≡ caller → receipts_of caller n (drop n journal) ≡ receipt n e ∷ receipts_of caller (n + 1) (drop (n + 1) journal)
   own same = ap (receipts_of caller n) parts ∙ grind (arith, nat_tests)
@@ -22,7 +24,7 @@ module _ (caller : ℕ) (journal : List Entry) (n : ℕ) (e : Entry) (in_range :
   pub other : e.caller ≢ caller → receipts_of caller n (drop n journal) ≡ receipts_of caller (n + 1) (drop (n + 1) journal)
   other differs = ap (receipts_of caller n) parts ∙ grind (arith, nat_tests)
 
--- what is told where the receipts and the journal part
+-- the test is false where the receipts and the journal differ
 pub not_here : {A : Type 0} (P : Type 0) (x : A) (xs ys : List A) → P ↔ (xs ≡ ys) → (xs ≡ ys → ⊥) → IsTrue false ↔ P
 not_here P x xs ys iff differs = (λ h. absurd (true≢false (sym h)), λ p. absurd (differs (iff.0 p)))
 
@@ -53,7 +55,8 @@ source : (caller n : ℕ) (es : List Entry) (r : Receipt) → IsIn r (receipts_o
 source caller n [] r i = absurd i
 source caller n (e ∷ es) r i = by (source caller (n + 1) es r) (e.caller == caller) (eqb_tells e.caller caller) i
   where
-    by : (IsIn r (receipts_of caller (n + 1) es) → Source caller (n + 1) es r) → (eq : Bool) → ((eq ≡ true) × (e.caller ≡ caller)) ⊎ ((eq ≡ false) × (e.caller ≢ caller))
+    by : (IsIn r (receipts_of caller (n + 1) es) → Source caller (n + 1) es r) → (eq : Bool)
+        → ((eq ≡ true) × (e.caller ≡ caller)) ⊎ ((eq ≡ false) × (e.caller ≢ caller))
         → IsIn r (if eq then receipt n e ∷ receipts_of caller (n + 1) es else receipts_of caller (n + 1) es) → Source caller n (e ∷ es) r
     by rest true (inl (_, same)) (inl x) = record {
       place = 0;

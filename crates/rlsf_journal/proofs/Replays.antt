@@ -1,5 +1,6 @@
 -- A journal with one more entry, and a placement that is written to.
-use Rattle.std.proofs.Common.{◌≡◌, ◌≢◌, ◌<◌, ◌^◌, ℕ, Bool, true, false, List, [], ◌∷◌, ◌++◌, map, length, Option, Some, None, Ok, Err, MatchBool, refl, ◌∙◌, ap, sym, subst, arith, append-nil}
+use Rattle.std.proofs.Common.{◌≡◌, ◌≢◌, ◌<◌, ◌^◌, ℕ, Bool, true, false, List, [], ◌∷◌, ◌++◌, map, length, Option, Some, None, Ok, Err, MatchBool}
+use Rattle.std.proofs.Common.{refl, ◌∙◌, ap, sym, subst, arith, append-nil}
 use Rattle.std.proofs.lemmas.List.{map_push}
 use Rattle.std.proofs.lemmas.List.Elements.{All-push}
 use Rattle.rlsf_base.specs.Addr.{at}
@@ -43,7 +44,8 @@ leads-start : (ns : List Note) (x y : PageCursor) → LeadsBy PageLeads x ns y �
 leads-start [] x y led = ap start led
 leads-start (n ∷ ns) x y (z, one, rest) = leads-start ns z y rest ∙ lead-start x z n one
 
-takes-start : (h : Heap) (size align : ℕ) (reply : Option ℕ) (flex : FlexState) (source : PageCursor) → Takes h size align reply flex source → start source ≡ start h.source
+takes-start : (h : Heap) (size align : ℕ) (reply : Option ℕ) (flex : FlexState) (source : PageCursor) → Takes h size align reply flex source
+    → start source ≡ start h.source
 takes-start h size align reply flex source (notes, step, led) = leads-start notes h.source source led
 
 deallocates-start : (h g : Heap) (addr : ℕ) (o : Option Row) (result : Done) → DeallocatesAt h addr o result g → beginning_of g ≡ beginning_of h
@@ -68,7 +70,8 @@ either : {A B X : Type 0} (b : Bool) → MatchBool b A B → (A → X) → (B �
 either true m f k = f m
 either false m f k = k m
 
-writes-start : (h g : Heap) (addr offset : ℕ) (bytes : List ℕ) (o : Option Row) (result : Done) → WritesAt h addr offset bytes o result g → beginning_of g ≡ beginning_of h
+writes-start : (h g : Heap) (addr offset : ℕ) (bytes : List ℕ) (o : Option Row) (result : Done) → WritesAt h addr offset bytes o result g
+    → beginning_of g ≡ beginning_of h
 writes-start h g addr offset bytes None result step = ap beginning_of step.1
 writes-start h g addr offset bytes (Some row) result step = either (fits h addr offset (length bytes)) step
     (λ did. ap beginning_of did.1.2)
@@ -82,7 +85,8 @@ record IsEntered (h : Heap) (call : Call) (reply : Reply) (g : Heap) : Type 0 wh
   start : beginning_of g ≡ beginning_of h
 
 enters : (h g : Heap) (call : Call) (reply : Reply) → Leads h call reply g → IsEntered h call reply g
-enters h g (Allocate layout) (Placed addr) step = record { fits = tt; leads = step; kept = refl; start = takes-start h layout.size layout.align (Some (at addr)) g.flex g.source step.0 }
+enters h g (Allocate layout) (Placed addr) step =
+    record { fits = tt; leads = step; kept = refl; start = takes-start h layout.size layout.align (Some (at addr)) g.flex g.source step.0 }
 enters h g (Allocate layout) NoRoom step = record { fits = tt; leads = step; kept = refl; start = ap beginning_of step.1 }
 enters h g (Allocate layout) Freed step = absurd step
 enters h g (Allocate layout) UnknownAddress step = absurd step
@@ -94,9 +98,11 @@ enters h g (Deallocate addr) (Placed to) step = absurd step
 enters h g (Deallocate addr) NoRoom step = absurd step
 enters h g (Deallocate addr) TableMemory step = absurd step
 enters h g (Deallocate addr) JournalMemory step = absurd step
-enters h g (Reallocate addr layout) (Placed to) step = record { fits = tt; leads = step; kept = refl; start = reallocates-start h g (at addr) layout (row_at (at addr) h.asked) _ step }
+enters h g (Reallocate addr layout) (Placed to) step =
+    record { fits = tt; leads = step; kept = refl; start = reallocates-start h g (at addr) layout (row_at (at addr) h.asked) _ step }
 enters h g (Reallocate addr layout) NoRoom step = record { fits = tt; leads = step; kept = refl; start = reallocates-start h g (at addr) layout (row_at (at addr) h.asked) _ step }
-enters h g (Reallocate addr layout) UnknownAddress step = record { fits = tt; leads = step; kept = refl; start = reallocates-start h g (at addr) layout (row_at (at addr) h.asked) _ step }
+enters h g (Reallocate addr layout) UnknownAddress step =
+    record { fits = tt; leads = step; kept = refl; start = reallocates-start h g (at addr) layout (row_at (at addr) h.asked) _ step }
 enters h g (Reallocate addr layout) Freed step = absurd step
 enters h g (Reallocate addr layout) TableMemory step = absurd step
 enters h g (Reallocate addr layout) JournalMemory step = absurd step
@@ -111,7 +117,8 @@ begun space grows = record { fits = λ k d short. absurd (omega (arith, short));
 goes_on : (h g : Heap) (journal : List Step) (s : Step) → beginning_of g ≡ beginning_of h → placement.IsReplay h.source.space h.source.grows journal h → LeadsTo h s g
     → placement.IsReplay g.source.space g.source.grows (journal ++ journal_of (s ∷ [])) g
 goes_on h g journal s same run step =
-    subst (λ (b : Heap). (steps : List Step) × IsHistory b steps g × (journal_of steps ≡ journal ++ journal_of (s ∷ []))) (sym same) (replay_goes_on h.source.space h.source.grows journal h g s run step)
+    subst (λ (b : Heap). (steps : List Step) × IsHistory b steps g × (journal_of steps ≡ journal ++ journal_of (s ∷ []))) (sym same)
+    (replay_goes_on h.source.space h.source.grows journal h g s run step)
 
 -- with an entry of a step
 entered : (es : List Entry) (e : Entry) (h g : Heap) → IsReplay es h → Leads h e.call e.reply g → IsReplay (es ++ e ∷ []) g
@@ -119,15 +126,18 @@ entered es e h g run step =
     let is = enters h g e.call e.reply step in
     record {
       fits = All-push (λ (e : Entry). IsReplyTo e.call e.reply) es e run.fits is.fits;
-      replayed = subst (λ l. placement.IsReplay g.source.space g.source.grows l g) (ap (λ l. map step_of es ++ l) is.kept ∙ sym (map_push step_of es e)) (goes_on h g (map step_of es) (step_of e) is.start run.replayed is.leads);
+      replayed =
+          subst (λ l. placement.IsReplay g.source.space g.source.grows l g) (ap (λ l. map step_of es ++ l) is.kept ∙ sym (map_push step_of es e))
+          (goes_on h g (map step_of es) (step_of e) is.start run.replayed is.leads);
     }
 
 -- without one
 unentered : (es : List Entry) (h g : Heap) → IsReplay es h → g ≡ h → IsReplay (es ++ []) g
 unentered es h g run same = subst (λ l. IsReplay l g) (sym (append-nil es)) (subst (IsReplay es) (sym same) run)
 
--- a call that is not refused for want of memory has one entry
-pub one_entry : (caller : ℕ) (call : Call) (reply : Reply) → reply ≢ TableMemory → reply ≢ JournalMemory → entries_of caller call reply ≡ record { caller = caller; call = call; reply = reply } ∷ []
+-- a call that isn't out of memory has one entry
+pub one_entry : (caller : ℕ) (call : Call) (reply : Reply) → reply ≢ TableMemory → reply ≢ JournalMemory
+    → entries_of caller call reply ≡ record { caller = caller; call = call; reply = reply } ∷ []
 one_entry caller call TableMemory not_table not_journal = absurd (not_table refl)
 one_entry caller call JournalMemory not_table not_journal = absurd (not_journal refl)
 one_entry caller call (Placed to) not_table not_journal = refl
@@ -135,8 +145,9 @@ one_entry caller call Freed not_table not_journal = refl
 one_entry caller call NoRoom not_table not_journal = refl
 one_entry caller call UnknownAddress not_table not_journal = refl
 
--- whatever a call is answered, the journal with its entries replays to the heap after it
-pub recorded : (es : List Entry) (caller : ℕ) (call : Call) (reply : Reply) (h g : Heap) → IsReplay es h → LeadsOrRefused h call reply g → IsReplay (es ++ entries_of caller call reply) g
+-- whatever a call returns, the journal with its entries replays to the heap after it
+pub recorded : (es : List Entry) (caller : ℕ) (call : Call) (reply : Reply) (h g : Heap) → IsReplay es h → LeadsOrRefused h call reply g
+    → IsReplay (es ++ entries_of caller call reply) g
 recorded es caller call (Placed to) h g run step = entered es (record { caller = caller; call = call; reply = Placed to }) h g run step
 recorded es caller call Freed h g run step = entered es (record { caller = caller; call = call; reply = Freed }) h g run step
 recorded es caller call NoRoom h g run step = entered es (record { caller = caller; call = call; reply = NoRoom }) h g run step
@@ -167,7 +178,7 @@ run_begins h space new small = record {
   addressable = small;
 }
 
--- in the same space, over the same kind of source
+-- over one space and one kind of source
 stays_run : (es fs : List Entry) (h g : Heap) → IsRun es h → beginning_of g ≡ beginning_of h → IsReplay fs g → IsRun fs g
 stays_run es fs h g run same replay = record {
   replay = replay;
@@ -184,7 +195,8 @@ answered-start h g call TableMemory step = ap beginning_of step
 answered-start h g call JournalMemory step = ap beginning_of step
 
 -- a call goes on with a run
-pub run_goes_on : (es : List Entry) (caller : ℕ) (call : Call) (reply : Reply) (h g : Heap) → IsRun es h → LeadsOrRefused h call reply g → IsRun (es ++ entries_of caller call reply) g
+pub run_goes_on : (es : List Entry) (caller : ℕ) (call : Call) (reply : Reply) (h g : Heap) → IsRun es h → LeadsOrRefused h call reply g
+    → IsRun (es ++ entries_of caller call reply) g
 run_goes_on es caller call reply h g run step =
     stays_run es (es ++ entries_of caller call reply) h g run (answered-start h g call reply step) (recorded es caller call reply h g run.replay step)
 

@@ -13,13 +13,15 @@ use Rattle.rlsf_placement.specs.Heap.{Heap}
 use Rattle.rlsf_placement.specs.Steps.{HeapAllocates, Placed as Answer}
 
 -- an allocation that finds no room leads on by that reply
-pub no_room : (h g : Heap) {call : Call} {layout : Layout} {r : Answer} {e : GlobalError} → call ≡ Allocate layout → r ≡ Err e → e ≡ error.NoRoom → HeapAllocates h layout r g → Leads h call NoRoom g
+pub no_room : (h g : Heap) {call : Call} {layout : Layout} {r : Answer} {e : GlobalError} → call ≡ Allocate layout → r ≡ Err e → e ≡ error.NoRoom
+    → HeapAllocates h layout r g → Leads h call NoRoom g
 no_room h g {layout = layout} is_call is_err is_error step =
     subst (λ call. Leads h call NoRoom g) (sym is_call)
     (subst (λ e. HeapAllocates h layout (Err e) g) is_error (subst (λ r. HeapAllocates h layout r g) is_err step))
 
 -- and one that places a payload leads on by its address
-pub placed : (h g : Heap) {call : Call} {layout : Layout} {r : Answer} {addr : NonZeroUsize} → call ≡ Allocate layout → r ≡ Ok addr → HeapAllocates h layout r g → Leads h call (Placed addr) g
+pub placed : (h g : Heap) {call : Call} {layout : Layout} {r : Answer} {addr : NonZeroUsize} → call ≡ Allocate layout → r ≡ Ok addr → HeapAllocates h layout r g
+    → Leads h call (Placed addr) g
 placed h g {layout = layout} {addr = addr} is_call is_ok step =
     subst (λ call. Leads h call (Placed addr) g) (sym is_call) (subst (λ r. HeapAllocates h layout r g) is_ok step)
 

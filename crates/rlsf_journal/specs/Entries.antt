@@ -18,7 +18,7 @@ IsReplyTo (Reallocate addr layout) Freed = ⊥
 IsReplyTo (Reallocate addr layout) TableMemory = ⊥
 IsReplyTo call reply = Unit {0}
 
--- the entries of a call: one, or none for want of memory
+-- the entries of a call: one, or none if it is out of memory
 abbrev pub entries_of : ℕ → Call → Reply → List Entry
 entries_of caller call TableMemory = []
 entries_of caller call JournalMemory = []
@@ -28,7 +28,7 @@ entries_of caller call reply = record { caller = caller; call = call; reply = re
 abbrev pub receipt : ℕ → Call → Reply → Receipt
 receipt number call reply = record { number = number; call = call; reply = reply }
 
--- the receipts of a call: one, or none for want of memory
+-- the receipts of a call: one, or none if it is out of memory
 abbrev pub receipts_for : ℕ → Call → Reply → List Receipt
 receipts_for number call TableMemory = []
 receipts_for number call JournalMemory = []

@@ -27,21 +27,23 @@ ReceiptsAreEntries = (caller : ℕ) (journal : List Entry) (r : Receipt) → IsI
 abbrev pub calls_of : List Entry → List Call
 calls_of journal = map (λ e. e.call) journal
 
--- and what they were answered
+-- and their replies
 abbrev pub replies_of : List Entry → List Reply
 replies_of journal = map (λ e. e.reply) journal
 
 -- The calls of a journal, in their order, determine their replies and the placement at the end, whatever was read and written meanwhile.
 abbrev pub CallsDetermineReplies : Type 0
-CallsDetermineReplies = (journal other : List Entry) (h g : Heap) → end_of h.source.space < 2 ^ 64 → beginning_of h ≡ beginning_of g → IsReplay journal h → IsReplay other g
+CallsDetermineReplies = (journal other : List Entry) (h g : Heap) → end_of h.source.space < 2 ^ 64 → beginning_of h ≡ beginning_of g → IsReplay journal h
+    → IsReplay other g
     → calls_of journal ≡ calls_of other → (replies_of journal ≡ replies_of other) × HaveSamePlacement h g
 
 -- all heaps to which a journal replays have one placement, so what is live at its end is known by it
 abbrev pub ReplayDetermines : Type 0
-ReplayDetermines = (journal : List Entry) (h g : Heap) → end_of h.source.space < 2 ^ 64 → beginning_of h ≡ beginning_of g → IsReplay journal h → IsReplay journal g → HaveSamePlacement h g
+ReplayDetermines = (journal : List Entry) (h g : Heap) → end_of h.source.space < 2 ^ 64 → beginning_of h ≡ beginning_of g → IsReplay journal h → IsReplay journal g
+    → HaveSamePlacement h g
 
--- Two runs over the same space, as closing gives them, with the same calls in the same order have the same replies and the same placement
--- at the end.
+-- Two runs that closing returns are over one space and have the same calls in the same order. Then their replies and their
+-- placements at the end are equal.
 abbrev pub RunsDetermineReplies : Type 0
 RunsDetermineReplies = (journal other : List Entry) (h g : Heap) → h.source.space ≡ g.source.space → IsRun journal h → IsRun other g
     → calls_of journal ≡ calls_of other → (replies_of journal ≡ replies_of other) × HaveSamePlacement h g

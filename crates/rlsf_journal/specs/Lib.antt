@@ -1,3 +1,4 @@
+-- The definitions of journals, in reading order: `Entries`, `Passes`, `Replay`, `Close`, `Laws`.
 pub mod Close
 pub mod Entries
 pub mod Laws

@@ -8,7 +8,7 @@ use Rattle.rlsf_journal.specs.Entries.{IsReplyTo, receipts_for}
 use Rattle.rlsf_placement.specs.declared.error.GlobalError.TheVariants.{NoRoom, UnknownAddress, TableMemory, JournalMemory}
 use Rattle.rlsf_placement.specs.Steps.{Done, Placed}
 
--- a pass as contracts see it: its caller's number, and what that caller was told
+-- a pass as contracts see it: its caller's number, and the receipts of that caller's calls
 pub record PassContents : Type 0 where
   pub caller : ℕ
   pub receipts : List Receipt
@@ -21,7 +21,7 @@ unused caller = record { caller = caller; receipts = [] }
 abbrev pub AreFirst : ℕ → List PassContents → Type 0
 AreFirst n passes = (length passes ≡ n) × ((i : ℕ) (d : PassContents) → i < n → slice_index_or passes i d ≡ unused i)
 
--- what a call that gives an address answers by a reply
+-- what a call that may return an address returns by a reply
 abbrev pub placed_by : Reply → Placed
 placed_by (reply.Placed addr) = Ok addr
 placed_by reply.NoRoom = Err NoRoom
@@ -29,14 +29,14 @@ placed_by reply.TableMemory = Err TableMemory
 placed_by reply.JournalMemory = Err JournalMemory
 placed_by r = Err UnknownAddress
 
--- what a deallocation answers by a reply
+-- what a deallocation returns by a reply
 abbrev pub done_by : Reply → Done
 done_by reply.Freed = Ok tt
 done_by reply.JournalMemory = Err JournalMemory
 done_by r = Err UnknownAddress
 
--- the call answers by a reply of its own, and its pass has one receipt more, of that call and that reply, or none more for want of
--- memory
+-- The call returns by a reply of its own, and its pass has one more receipt, of that call and that reply. If it is out of memory,
+-- the pass has no more receipt.
 pub record Receipted {A : Type 0} (answer_by : Reply → A) (call : Call) (answer : A) (old new : PassContents) : Type 0 where
   pub reply : Reply
   pub fits : IsReplyTo call reply

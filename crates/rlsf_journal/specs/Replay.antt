@@ -17,7 +17,7 @@ use Rattle.rlsf_placement.specs.Moves.{HeapReallocates}
 use Rattle.rlsf_placement.specs.Replays as placement
 use Rattle.rlsf_placement.specs.Steps.{HeapAllocates, HeapDeallocates}
 
--- a call with its reply is a step of the machine, from one heap to another
+-- a call with its reply is a step from one heap to another
 abbrev pub Leads : Heap → Call → Reply → Heap → Type 0
 Leads h (Allocate layout) (Placed addr) g = HeapAllocates h layout (Ok addr) g
 Leads h (Allocate layout) NoRoom g = HeapAllocates h layout (Err error.NoRoom) g
@@ -28,13 +28,13 @@ Leads h (Reallocate addr layout) NoRoom g = HeapReallocates h (at addr) layout (
 Leads h (Reallocate addr layout) UnknownAddress g = HeapReallocates h (at addr) layout (Err error.UnknownAddress) g
 Leads h call reply g = ⊥
 
--- a call is answered by a step, or for want of memory, and then nothing changes
+-- a call is a step, or it is out of memory and changes nothing
 abbrev pub LeadsOrRefused : Heap → Call → Reply → Heap → Type 0
 LeadsOrRefused h call TableMemory g = g ≡ h
 LeadsOrRefused h call JournalMemory g = g ≡ h
 LeadsOrRefused h call reply g = Leads h call reply g
 
--- the step that a call with its reply is, in the machine's history
+-- the step of a call with its reply, as a value
 abbrev pub step_by : Call → Reply → Step
 step_by (Allocate layout) reply = allocate layout (placed_by reply)
 step_by (Deallocate addr) reply = deallocate (at addr) (done_by reply)
@@ -48,8 +48,8 @@ step_of e = step_by e.call e.reply
 abbrev pub beginning_of : Heap → Heap
 beginning_of h = beginning h.source.space h.source.grows
 
--- Each reply is one of its call's, and the entries' steps replay to the heap: with reads and writes among them, which have no entry, they
--- lead there from nothing placed, one after another.
+-- Each reply is one of its call's, and the entries' steps replay to the heap. With reads and writes among them, which have no
+-- entry, they lead there from nothing placed, one after another.
 pub record IsReplay (journal : List Entry) (h : Heap) : Type 0 where
   pub fits : All (λ e. IsReplyTo e.call e.reply) journal
   pub replayed : placement.IsReplay h.source.space h.source.grows (map step_of journal) h

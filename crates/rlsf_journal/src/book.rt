@@ -42,7 +42,7 @@ impl Model for Book {
 }
 
 impl Book {
-    /// Creates an allocator whose source has the whole memory as its space, with an empty journal. Nothing is live.
+    /// Creates an allocator whose source has the complete memory as its space, with an empty journal. Nothing is live.
     pub fn new(alloc: Global, memory: Memory) -> Book
         ensures heap { result.locked.heap ≡ beginning (range_of memory) true }
         ensures memory { result.locked.memory ≡ memory }

@@ -33,8 +33,8 @@ pub struct Journaled {
 }
 
 impl Journaled {
-    /// Creates an allocator whose source has the whole memory as its space, with the passes of the numbers below `callers`, in order.
-    /// Nothing is live, and no pass has a receipt.
+    /// Creates an allocator whose source has the complete memory as its space. It has the passes of the numbers below `callers`, in
+    /// order. Nothing is live, and no pass has a receipt.
     ///
     /// Returns `JournalMemory` if the system is out of memory for the passes. Then the memory is dropped.
     pub fn new(
@@ -193,7 +193,7 @@ impl Journaled {
     }
 }
 
-/// Returns the result that a reply gives for a call that returns an address.
+/// Returns the result of a reply for a call that returns an address.
 fn placed(reply: Reply) -> Result<Addr, GlobalError>
     ensures { result ≡ placed_by reply }
 {
@@ -206,7 +206,7 @@ fn placed(reply: Reply) -> Result<Addr, GlobalError>
     }
 }
 
-/// Returns the result that a reply gives for a deallocation.
+/// Returns the result of a reply for a deallocation.
 fn done(reply: Reply) -> Result<(), GlobalError>
     ensures { result ≡ done_by reply }
 {

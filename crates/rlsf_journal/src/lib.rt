@@ -5,6 +5,8 @@
 //!
 //! `close` takes the passes, and returns the journal if they agree with it. The journal is then one history that explains every reply.
 //!
+//! Read `src/` in this order: `entry.rt`, `receipts.rt`, `pass.rt`, `book.rt`, `checks.rt`, `close.rt`, `journaled.rt`, `text.rt`.
+//!
 //! Read `specs/` in this order: `Entries`, `Passes`, `Replay`, `Close`, `Laws`.
 #![tactic(auto)]
 

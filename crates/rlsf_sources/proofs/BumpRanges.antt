@@ -1,4 +1,4 @@
--- What a source that hands out its space from a cursor on gives, grows and takes back keeps a source's contract.
+-- What a source that provides its space from a cursor on gives, grows and takes back keeps a source's contract.
 use Rattle.std.proofs.Common.{◌≡◌, ℕ, ◌+◌, ◌%◌, ◌<◌, ◌≤◌, ◌^◌, List, [], ◌∷◌, ◌++◌, arith, inl, refl, subst, sym, ap, ◌∙◌}
 use Rattle.std.specs.Int.{next_multiple_of}
 use Rattle.rlsf_base.specs.declared.memory.range.Range.{Range}
@@ -24,7 +24,8 @@ pub bump_owes_none : (b : Bump) → BumpOwes b []
 bump_owes_none b = record { start = λ r i. absurd i; end = λ r i. absurd i; disjoint = λ a. omega arith }
 
 -- a range is given that begins at the first multiple of the least alignment behind the cursor, which moves to its end
-pub bump_gives : (t : Terms) (b : Bump) (space : Range) (at min_size start len end : ℕ) → bump_in space at ≡ b → IsBump (bump_in space at) → t.space ≡ b.space → IsPowerOfTwo t.min_align
+pub bump_gives : (t : Terms) (b : Bump) (space : Range) (at min_size start len end : ℕ) → bump_in space at ≡ b → IsBump (bump_in space at) → t.space ≡ b.space
+    → IsPowerOfTwo t.min_align
     → start ≡ next_multiple_of at t.min_align → min_size ≤ len → end ≡ start + len → end ≤ end_of b.space → (owed : List Range) → BumpOwes b owed
     → IsGiven t owed min_size (range_at start len) × BumpOwes (bump_in space end) (range_at start len ∷ owed)
 bump_gives t b space at min_size start len end here is in_space power rounded long ends within owed owes =
@@ -38,12 +39,19 @@ bump_gives t b space at min_size start len end here is in_space power rounded lo
     let low : space.start ≤ start = omega (arith, is.after_start, behind_cursor) in
     let high : start + len ≤ space.start + space.len = omega (arith, ends, fits) in
     let same : space ≡ t.space = ap (λ (x : Bump). x.space) here ∙ sym in_space in (
-      record { lies_in = subst (λ (s : Range). (s.start ≤ start) × (start + len ≤ s.start + s.len)) same (low, high); apart = λ a first last. LieApart-above lie a (omega (arith, first, behind_cursor)); long = long; power = power; aligned = aligned },
+      record {
+        lies_in = subst (λ (s : Range). (s.start ≤ start) × (start + len ≤ s.start + s.len)) same (low, high);
+        apart = λ a first last. LieApart-above lie a (omega (arith, first, behind_cursor));
+        long = long;
+        power = power;
+        aligned = aligned;
+      },
       subst (λ (to : ℕ). BumpOwes (bump_in space to) (range_at start len ∷ owed)) (sym ends) (may_owe space (start + len) more),
     )
 
 -- the range that ends at the cursor grows, and the cursor moves to its end
-pub bump_grows : (t : Terms) (b : Bump) (space : Range) (at : ℕ) (r : Range) (min_new_len len end : ℕ) → bump_in space at ≡ b → t.space ≡ b.space → end_of r ≡ at → min_new_len ≤ len → r.len ≤ min_new_len
+pub bump_grows : (t : Terms) (b : Bump) (space : Range) (at : ℕ) (r : Range) (min_new_len len end : ℕ) → bump_in space at ≡ b → t.space ≡ b.space → end_of r ≡ at
+    → min_new_len ≤ len → r.len ≤ min_new_len
     → end ≡ r.start + len → end ≤ end_of b.space → (xs ys : List Range) → BumpOwes b (xs ++ r ∷ ys)
     → IsGrown t (xs ++ ys) r min_new_len len × BumpOwes (bump_in space end) (xs ++ with_len r len ∷ ys)
 bump_grows t b space at r min_new_len len end here in_space last long longer ends within xs ys owes =
@@ -55,16 +63,21 @@ bump_grows t b space at r min_new_len len end here in_space last long longer end
     let low : space.start ≤ r.start = may.start r (IsIn-append_right r xs (r ∷ ys) (inl refl)) in
     let high : r.start + len ≤ space.start + space.len = omega (arith, ends, fits) in
     let same : space ≡ t.space = ap (λ (x : Bump). x.space) here ∙ sym in_space in (
-      record { lies_in = subst (λ (s : Range). (s.start ≤ r.start) × (r.start + len ≤ s.start + s.len)) same (low, high); apart = IsClear-grown r len xs ys last more lie; long = long },
+      record {
+        lies_in = subst (λ (s : Range). (s.start ≤ r.start) × (r.start + len ≤ s.start + s.len)) same (low, high);
+        apart = IsClear-grown r len xs ys last more lie;
+        long = long;
+      },
       subst (λ (to : ℕ). BumpOwes (bump_in space to) (xs ++ with_len r len ∷ ys)) (sym ends) (may_owe space (r.start + len) (LieApart-grown r len xs ys last more lie)),
     )
 
--- a range goes back
+-- a range is returned
 pub bump_takes : (b : Bump) (r : Range) (xs ys : List Range) → BumpOwes b (xs ++ r ∷ ys) → BumpOwes b (xs ++ ys)
 bump_takes b r xs ys may = may_owe b.space b.at (LieApart-less r xs ys (lie_apart b may))
 
 -- the end of an outstanding range fits in a word
-pub bump_end : (b : Bump) (space : Range) (at : ℕ) (r : Range) → bump_in space at ≡ b → IsBump (bump_in space at) → (xs : List Range) × (ys : List Range) × BumpOwes b (xs ++ r ∷ ys) → end_of r < 2 ^ 64
+pub bump_end : (b : Bump) (space : Range) (at : ℕ) (r : Range) → bump_in space at ≡ b → IsBump (bump_in space at)
+    → (xs : List Range) × (ys : List Range) × BumpOwes b (xs ++ r ∷ ys) → end_of r < 2 ^ 64
 bump_end b space at r here is (xs, ys, owes) =
     let may = subst (λ (x : Bump). BumpOwes x (xs ++ r ∷ ys)) (sym here) owes in
     omega (arith, may.end r (IsIn-append_right r xs (r ∷ ys) (inl refl)), is.before_end, is.addressable)

@@ -1,4 +1,4 @@
--- A source that hands out its space from a cursor on.
+-- A source that provides its space from a cursor on.
 use Rattle.std.specs.Prelude.{◌≡◌, ◌≢◌, ℕ, ◌+◌, ◌^◌, ◌≤◌, ◌<◌, ◌⊎◌, true, false, Some, None, List}
 use Rattle.rlsf_base.specs.declared.memory.range.Range.{Range}
 use Rattle.rlsf_base.specs.Range.{end_of, range_at}
@@ -35,7 +35,7 @@ pub record BumpOwes (b : Bump) (owed : List Range) : Type 0 where
 abbrev pub bump_terms : Bump → Terms
 bump_terms b = record { space = b.space; dealloc = false; grow = true; contiguous = true; min_align = 32 }
 
--- the bytes that are asked for are handed out from the first multiple of 32 behind the cursor on, which moves to their end; the range
+-- the bytes that are asked for are provided from the first multiple of 32 behind the cursor on, which moves to their end; the range
 -- that ends at the cursor grows in the same way; what doesn't fit is refused, and then nothing changes
 abbrev pub BumpLeads : Bump → Note → Bump → Type 0
 BumpLeads x (alloc size None) y = (end_of x.space < round32 x.at + size) × (y ≡ x)

@@ -8,4 +8,5 @@ use Rattle.rlsf_flex.specs.Footers.{footer_of, WritesFooter}
 pub record IsFooted (takes_back : Bool) (m n : Space) (r : Range) (start len : ℕ) : Type 0 where
   pub place : SamePlace m n
   pub written : takes_back ≡ true → WritesFooter m n r start len
-  pub bytes : (a : ℕ) → m.start ≤ a → a < m.start + length m.bytes → (takes_back ≡ true → footer_of r ≤ a → a < footer_of r + 16 → ⊥) → byte_at n a ≡ byte_at m a
+  pub bytes : (a : ℕ) → m.start ≤ a → a < m.start + length m.bytes → (takes_back ≡ true → footer_of r ≤ a → a < footer_of r + 16 → ⊥)
+      → byte_at n a ≡ byte_at m a

@@ -19,12 +19,12 @@ use Rattle.rlsf_machine.specs.State.{Used, Holds}
 use Rattle.rlsf_machine.specs.Terms.{Terms}
 use Rattle.rlsf_machine.specs.PoolLength.{HasPool}
 
--- what a range that was asked for came to
+-- the outcome of a question for a range
 abbrev pub outcome_of_range : Option Range → Outcome
 outcome_of_range None = refused
 outcome_of_range (Some r) = range_came r
 
--- what a growth that was asked for came to
+-- the outcome of a question for growth
 abbrev pub outcome_of_growth : Option ℕ → Outcome
 outcome_of_growth None = refused
 outcome_of_growth (Some len) = growth_came len
@@ -60,8 +60,9 @@ pub record KeepsPayloads (sllen : ℕ) (before after : Allocator) : Type 0 where
   pub grow : before.memory.touches ≤ after.memory.touches
   pub copied : after.memory.copied ≡ before.memory.copied
 
--- what came was handed in, and where something came there is room for a pool of e bytes
-pub record Took {S : Type 0} (fllen sllen : ℕ) (terms : S → Terms) (owes : S → List Range → Type 0) (before after : FlexContents S) (e : ℕ) (outcome : Outcome) : Type 0 where
+-- what came was inserted or appended, and where something came there is room for a pool of e bytes
+pub record Took {S : Type 0} (fllen sllen : ℕ) (terms : S → Terms) (owes : S → List Range → Type 0) (before after : FlexContents S) (e : ℕ)
+    (outcome : Outcome) : Type 0 where
   pub takes : TakesIn fllen (terms before.source) before.state outcome after.state
   pub may : MayCome (terms before.source) before.state e outcome
   pub outside : KeepsOutsideNow before.memory before.state.pools after.memory after.state.pools
@@ -95,7 +96,7 @@ module _ {S : Type 0} (fllen sllen : ℕ) (terms : S → Terms) (owes : S → Li
     pub came : more ≡ is_more outcome
     pub room : is_more outcome ≡ true → HasPool e after.state.machine
 
--- the payload at an address moved to another, and memory and class table stand for the state that came of it
+-- the payload at an address moved to another, and memory and class table represent the state that came of it
 pub record MovesTo (fllen sllen : ℕ) (before after : Allocator) (addr size to : ℕ) : Type 0 where
   pub block : Used
   pub holds : Holds before.state addr block

@@ -15,13 +15,13 @@ use Rattle.rlsf_machine.specs.Trim.{all_removed}
 abbrev pub HasRoomForChunk : Range → Type 0
 HasRoomForChunk r = (64 ≤ r.len) × (end_of r < 2 ^ 64)
 
--- the ranges but for the newest
+-- the ranges except for the newest
 abbrev pub older : List Range → List Range
 older [] = []
 older (r ∷ ranges) = ranges
 
 module _ {S : Type 0} (fllen sllen : ℕ) (terms : S → Terms) (owes : S → List Range → Type 0) (leads : S → Note → S → Type 0) (before after : FlexContents S) where
-  -- the newest range, which held no used block, went back with its chunks and free ranges, and the parts stand for the state after
+  -- the newest range, which held no used block, was returned with its chunks and free ranges, and the parts represent the state after
   pub record GaveNewest : Type 0 where
     pub newest : Range
     pub rest : List Range

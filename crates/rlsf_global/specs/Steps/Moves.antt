@@ -1,4 +1,4 @@
--- A payload that gets another size, as callers see it.
+-- A payload that is resized, as callers see it.
 use Rattle.std.specs.Prelude.{◌≡◌, ◌≢◌, ℕ, ◌+◌, ◌≤◌, ◌<◌, Bool, List, length, Some, None, Ok}
 use Rattle.std.specs.declared.num.NonZeroUsize.{NonZeroUsize}
 use Rattle.rlsf_base.specs.declared.memory.layout.Layout.{Layout}
@@ -21,7 +21,7 @@ pub record IsGivenLayout (before after : FlexContents PageCursor) (addr : ℕ) (
   pub aligns : (a : ℕ) → a ≢ addr → a ≢ to → align_at after.state.machine a ≡ align_at before.state.machine a
   pub bytes : (a : ℕ) → a ≢ addr → a ≢ to → bytes_at after.state.machine a ≡ bytes_at before.state.machine a
 
--- whatever rows the table has, the payload of a layout gets another size, and its row is the one at the address that was answered
+-- whatever entries the table has, the payload of a layout is resized, and its entry is the one at the returned address
 abbrev pub ResizesTo : Bool → FlexContents PageCursor → FlexContents PageCursor → ℕ → Layout → Layout → NonZeroUsize → Type 0
 ResizesTo enabled before after addr layout wanted to =
     (rows : List Row) → ReallocatesTo enabled (heap_of before rows) addr layout wanted (Ok to) (heap_of after (put (to, wanted) (without_row addr rows)))

@@ -3,7 +3,7 @@ use Rattle.std.specs.Prelude.{◌≡◌, ℕ, ◌<◌, ◌≤◌, List, length, 
 use Rattle.std.specs.List.{insert, remove}
 use Rattle.rlsf_placement.specs.Rows.{Row, key, put, row_at, without_row}
 
--- the row at place i has the address
+-- the entry at place i has the address
 pub record IsRowOf (rows : List Row) (addr i : ℕ) : Type 0 where
   pub in_range : i < length rows
   pub here : (d : Row) → key (slice_index_or rows i d) ≡ addr
@@ -14,14 +14,14 @@ pub record IsGapFor (rows : List Row) (addr i : ℕ) : Type 0 where
   pub smaller_before : (j : ℕ) (d : Row) → j < i → key (slice_index_or rows j d) < addr
   pub greater_after : (j : ℕ) (d : Row) → i ≤ j → j < length rows → addr < key (slice_index_or rows j d)
 
--- the row of the address stands at the place, and can be taken out there, or replaced by another of that address
+-- the entry of the address is at the place; it can be removed, or replaced by another of that address
 pub record IsFound (rows : List Row) (addr at : ℕ) : Type 0 where
   pub in_range : at < length rows
   pub row : (d : Row) → row_at addr rows ≡ Some (slice_index_or rows at d)
   pub taken_out : remove rows at ≡ without_row addr rows
   pub replaced : (row : Row) → key row ≡ addr → slice_set rows at row ≡ put row (without_row addr rows)
 
--- the address has no row, and one can be put at the place
+-- the address has no entry, and one can be inserted at the place
 pub record IsPlaceFor (rows : List Row) (addr at : ℕ) : Type 0 where
   pub in_range : at ≤ length rows
   pub none : row_at addr rows ≡ None

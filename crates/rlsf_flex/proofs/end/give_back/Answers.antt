@@ -21,7 +21,8 @@ loop-next-preserved g c = record {
   at = λ pools is owed.
       let at = c.loop-next.invariant.at pools is owed in
       let front = IsAt-front at c.in-Some.is in
-      IsAt-back at c.in-Some.is (c.range_before-next.ensures front.rest front.footers (IsAt-starts at c.in-Some.is)) c.dealloc.new.self c.dealloc.ensures.leads (c.dealloc.ensures.owes [] front.rest (IsAt-owed at c.in-Some.is));
+      IsAt-back at c.in-Some.is (c.range_before-next.ensures front.rest front.footers (IsAt-starts at c.in-Some.is)) c.dealloc.new.self c.dealloc.ensures.leads
+      (c.dealloc.ensures.owes [] front.rest (IsAt-owed at c.in-Some.is));
   terms = g.met.S.FlexSource.constant _ _ _ c.dealloc.ensures.leads ∙ c.loop-next.invariant.terms;
 }
 

@@ -22,7 +22,8 @@ returns g c = record {
       let one = c.set_spare_word.ensures in
       let two = c.set_spare_word-2.ensures in
       let (start, len) = c.requires.spare in
-      writes_footer c.args.tlsf.now.memory c.set_spare_word.new.self.memory c.set_spare_word-2.new.self.memory c.args.range c.footer_at-footer.result c.args.start c.args.len c.footer_at-footer.ensures c.requires.whole start.0 len.0 c.ranges.start.fits c.ranges.len.fits
+      writes_footer c.args.tlsf.now.memory c.set_spare_word.new.self.memory c.set_spare_word-2.new.self.memory c.args.range c.footer_at-footer.result c.args.start c.args.len
+      c.footer_at-footer.ensures c.requires.whole start.0 len.0 c.ranges.start.fits c.ranges.len.fits
       one.place one.bytes two.place two.bytes;
   state = c.set_spare_word-2.ensures.state ∙ c.set_spare_word.ensures.state;
   stands = c.set_spare_word-2.ensures.stands;

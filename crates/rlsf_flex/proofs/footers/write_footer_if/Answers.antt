@@ -13,7 +13,9 @@ returns-then-not-takes_back g c = record {
 
 pub returns : goal.returns
 returns g c = record {
-  footer = IsFooted-written c.args.takes_back c.args.tlsf.now.memory c.write_footer.new.tlsf.memory c.args.range c.args.start c.args.len c.args.start c.args.len c.if-not-takes_back.false c.write_footer.ensures.footer refl refl;
+  footer =
+      IsFooted-written c.args.takes_back c.args.tlsf.now.memory c.write_footer.new.tlsf.memory c.args.range c.args.start c.args.len c.args.start c.args.len
+      c.if-not-takes_back.false c.write_footer.ensures.footer refl refl;
   state = c.write_footer.ensures.state;
   stands = c.write_footer.ensures.stands;
   grow = c.write_footer.ensures.grow;

@@ -48,7 +48,7 @@ off g c = apart c.args.tlsf.now.state (at c.args.addr) (at c.in_ok-to.to) c.args
 off_from : (g : given.Over) (c : In_ok-to g) → at c.in_ok-to.to ≢ at c.args.addr
 off_from g c same = off g c (sym same)
 
--- the payload stands while the new one is allocated
+-- the payload is live while the new one is allocated
 stays_live : (g : given.Over) (c : In_ok-to g) → align_at c.allocate.new.self.state (at c.args.addr) ≡ Some c.args.layout.align
 stays_live g c = c.in_ok-to.ensures.aligns (at c.args.addr) (off g c) ∙ c.requires.live
 
@@ -57,25 +57,29 @@ stays g c = c.in_ok-to.ensures.bytes (at c.args.addr) (off g c)
 
 -- the new payload's bytes are the old one's, and then its own
 moved : (g : given.Over) (c : After-deallocate g)
-    → (bytes_at c.deallocate.new.self.state (at c.in_ok-to.to) ≡ with_front c.allocation_usable_size-len.result (bytes_at c.args.tlsf.now.state (at c.args.addr)) (bytes_at c.allocate.new.self.state (at c.in_ok-to.to)))
+    → (bytes_at c.deallocate.new.self.state (at c.in_ok-to.to)
+    ≡ with_front c.allocation_usable_size-len.result (bytes_at c.args.tlsf.now.state (at c.args.addr)) (bytes_at c.allocate.new.self.state (at c.in_ok-to.to)))
     × (length (bytes_at c.args.tlsf.now.state (at c.args.addr)) ≡ c.allocation_usable_size-len.result)
     × (c.allocation_usable_size-len.result ≤ length (bytes_at c.allocate.new.self.state (at c.in_ok-to.to)))
 moved g c =
     let here = (goal.at.returns g c).In_ok-to in
     let len = c.allocation_usable_size-len.ensures in
     let old = stays g here in (
-      c.deallocate.ensures.bytes _ (off_from g here) ∙ c.copy_payload.ensures.filled ∙ ap (λ l. with_front c.allocation_usable_size-len.result l (bytes_at c.allocate.new.self.state (at c.in_ok-to.to))) old,
+      c.deallocate.ensures.bytes _ (off_from g here) ∙ c.copy_payload.ensures.filled
+          ∙ ap (λ l. with_front c.allocation_usable_size-len.result l (bytes_at c.allocate.new.self.state (at c.in_ok-to.to))) old,
       sym (ap length old) ∙ sym len,
       omega (arith, len, ap length old, c.requires.short, c.in_ok-to.ensures.sized),
     )
 
 -- and as many as were allocated
-moved_length : (g : given.Over) (c : After-deallocate g) → length (bytes_at c.deallocate.new.self.state (at c.in_ok-to.to)) ≡ length (bytes_at c.allocate.new.self.state (at c.in_ok-to.to))
+moved_length : (g : given.Over) (c : After-deallocate g)
+    → length (bytes_at c.deallocate.new.self.state (at c.in_ok-to.to)) ≡ length (bytes_at c.allocate.new.self.state (at c.in_ok-to.to))
 moved_length g c =
     let (is, len, short) = moved g c in
-    ap length is ∙ length-front c.allocation_usable_size-len.result (bytes_at c.args.tlsf.now.state (at c.args.addr)) (bytes_at c.allocate.new.self.state (at c.in_ok-to.to)) len short
+    ap length is ∙ length-front c.allocation_usable_size-len.result (bytes_at c.args.tlsf.now.state (at c.args.addr)) (bytes_at c.allocate.new.self.state (at c.in_ok-to.to)) len
+    short
 
--- which is the machine's move
+-- which is the reference model's move
 moves : (g : given.Over) (c : After-deallocate g) → MovesTo g.row.FLLEN g.row.SLLEN c.args.tlsf.now c.deallocate.new.self (at c.args.addr) c.args.layout.size (at c.in_ok-to.to)
 moves g c =
     let addr = at c.args.addr in
@@ -90,7 +94,8 @@ moves g c =
     let (step, stands, spare) = opened _ _ _ c.in_ok-to.ensures.step in
     let (fills, stands_copied, spare_copied) = opened _ _ _ c.copy_payload.ensures.step in
     let (gone, last, spare_last) = opened _ _ _ c.deallocate.ensures.step in
-    let now : IsInState g.row.FLLEN g.row.SLLEN c.allocate.new.self c.allocate.new.self.state = record { state = refl; stands = stands; whole = opened_whole _ _ _ _ _ c.in_ok-to.ensures.step } in
+    let now : IsInState g.row.FLLEN g.row.SLLEN c.allocate.new.self c.allocate.new.self.state =
+    record { state = refl; stands = stands; whole = opened_whole _ _ _ _ _ c.in_ok-to.ensures.step } in
     let old = Holds-old v addr u holds size align to is short step now in
     let there = Holds-new v addr u holds size align to is short step now in
     let t = c.allocate.new.self.state in
@@ -103,7 +108,9 @@ moves g c =
       holds = holds;
       moves = MovesAway-copied v addr u holds size align to is short step now c.copy_payload.new.self c.deallocate.new.self r c.deallocate.new.self.state filled gone;
       stands = stood_at last (opened_whole _ _ _ _ _ c.deallocate.ensures.step);
-      spare = KeepsSpare-copied v addr u holds size align to is short step now c.copy_payload.new.self c.deallocate.new.self r c.deallocate.new.self.state filled gone c.in_ok-to.ensures.place c.copy_payload.ensures.place spare spare_copied spare_last;
+      spare =
+          KeepsSpare-copied v addr u holds size align to is short step now c.copy_payload.new.self c.deallocate.new.self r c.deallocate.new.self.state filled gone
+          c.in_ok-to.ensures.place c.copy_payload.ensures.place spare spare_copied spare_last;
     }
 
 pub returns : goal.returns
@@ -126,7 +133,9 @@ returns g c =
       bytes = λ a from to. three.bytes a from ∙ two.bytes a to ∙ one.bytes a to;
       count = omega (arith, one.count, two.count, three.count);
       bounds = λ count size align sized short fits. three.bounds count size align (two.bounds count size align (one.bounds count size align sized short fits));
-      place = SamePlace-then c.args.tlsf.now.memory c.copy_payload.new.self.memory c.deallocate.new.self.memory (SamePlace-then c.args.tlsf.now.memory c.allocate.new.self.memory c.copy_payload.new.self.memory one.place two.place) three.place;
+      place =
+          SamePlace-then c.args.tlsf.now.memory c.copy_payload.new.self.memory c.deallocate.new.self.memory
+          (SamePlace-then c.args.tlsf.now.memory c.allocate.new.self.memory c.copy_payload.new.self.memory one.place two.place) three.place;
       grow = omega (arith, one.grow, two.touches, three.grow);
       grow_copied = omega (arith, one.copied, two.copied, three.copied);
     }

@@ -8,4 +8,5 @@ pub returns-then-min_align-lt32 : goal.returns-then-min_align-lt32
 returns-then-min_align-lt32 g c =
     let t = g.S.FlexSource.terms c.args.source.now in
     let wanted = c.args.wanted in
-    sum_is c.checked_add.result (wanted + 32) c.checked_add.ensures ∙ sym (ap (λ b. cond b (if_fits (wanted + 32)) (Some wanted)) (lt-ltb t.min_align 32 (omega (arith, c.min_align.ensures, c.if-min_align-lt32.true))))
+    sum_is c.checked_add.result (wanted + 32) c.checked_add.ensures
+    ∙ sym (ap (λ b. cond b (if_fits (wanted + 32)) (Some wanted)) (lt-ltb t.min_align 32 (omega (arith, c.min_align.ensures, c.if-min_align-lt32.true))))

@@ -11,7 +11,8 @@ returns-then-is_occupied g c =
     let b : Block = c.in-Some.block in
     let i = subst (IsIn b) (sym c.in-Some.ensures.steps) (inl refl) in (
       λ never. absurd (false≢true never),
-      λ idle. absurd (occupied_held (stood c.requires.stands).well_formed (walked c.args.row) c.iter_blocks-blocks.result c.iter_blocks-blocks.ensures.blocks b (c.loop-block.invariant.2 b i) (sym c.is_occupied.ensures ∙ c.if-is_occupied.true) idle),
+      λ idle. absurd (occupied_held (stood c.requires.stands).well_formed (walked c.args.row) c.iter_blocks-blocks.result c.iter_blocks-blocks.ensures.blocks b
+          (c.loop-block.invariant.2 b i) (sym c.is_occupied.ensures ∙ c.if-is_occupied.true) idle),
     )
 
 pub loop-block-preserved : goal.loop-block-preserved

@@ -1,4 +1,4 @@
--- The used blocks of the walk are among those that are left of it.
+-- The used blocks of the iteration are among those that are left of it.
 use Rattle.std.proofs.Common.{◌≡◌, true}
 use Rattle.rlsf_blocks.specs.Blocks.{Block}
 use Rattle.rlsf_machine.specs.Lists.{IsIn}

@@ -1,4 +1,4 @@
--- The walk has come to an address where a chunk of the range begins, or to the end of the last.
+-- The iteration is at an address where a chunk of the range begins, or at the end of the last.
 use Rattle.std.proofs.Common.{ℕ, ◌-◌}
 use Rattle.rlsf_base.specs.Range.{end_of}
 use Rattle.rlsf_machine.specs.FlexWellFormed.{IsPool}

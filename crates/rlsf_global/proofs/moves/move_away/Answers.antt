@@ -20,14 +20,17 @@ returns-in_err-to g c =
 pub returns : goal.returns
 returns g c = record {
   step = λ rows.
-      moved_away c.args.flex.now c.allocate.new.self c.copy_payload.new.self c.deallocate.new.self (at c.args.addr) c.args.keep c.args.wanted c.in_ok-to.to c.in_ok-to.ensures.step c.copy_payload.ensures.step c.deallocate.ensures.step
+      moved_away c.args.flex.now c.allocate.new.self c.copy_payload.new.self c.deallocate.new.self (at c.args.addr) c.args.keep c.args.wanted c.in_ok-to.to c.in_ok-to.ensures.step
+      c.copy_payload.ensures.step c.deallocate.ensures.step
       c.copy_payload.ensures.source c.deallocate.ensures.source rows;
   moved =
       let first = c.in_ok-to.ensures in
       let second = c.copy_payload.ensures in
       let third = c.deallocate.ensures in
-      moved_away_seen c.args.flex.now c.allocate.new.self c.copy_payload.new.self c.deallocate.new.self (at c.args.addr) c.args.keep c.args.wanted c.in_ok-to.to first.step second.step third.step
-      c.args.align c.requires.live first.new (record { live = first.live; sized = first.sized; few = first.few }) first.aligns first.bytes second.aligns second.bytes third.gone third.aligns third.bytes;
+      moved_away_seen c.args.flex.now c.allocate.new.self c.copy_payload.new.self c.deallocate.new.self (at c.args.addr) c.args.keep c.args.wanted c.in_ok-to.to first.step
+      second.step third.step
+      c.args.align c.requires.live first.new (record { live = first.live; sized = first.sized; few = first.few }) first.aligns first.bytes second.aligns second.bytes third.gone
+      third.aligns third.bytes;
   none = tt;
   refused = tt;
   touches = λ some.

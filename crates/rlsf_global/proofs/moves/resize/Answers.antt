@@ -16,17 +16,20 @@ use Rattle.rlsf_placement.specs.Rows.{put, without_row}
 use Rattle.rlsf_global.proofs.moves.resize.Given as given
 use Rattle.rlsf_global.proofs.moves.resize.Goals as goal
 
--- the allocator's reallocation with what it answered
+-- the allocator's reallocation with its result
 steps_with : (g : given.Over) (c : goal.After-reallocate g) (o : Option NonZeroUsize) → c.reallocate.result ≡ o
-    → FlexSteps 64 64 terms_of MayOwe PageLeads c.args.flex.now c.reallocate.new.self (FlexReallocates 64 64 (terms_of c.args.flex.now.source) c.args.flex.now.state (at c.args.addr) c.args.wanted.size (reply o))
+    → FlexSteps 64 64 terms_of MayOwe PageLeads c.args.flex.now c.reallocate.new.self
+    (FlexReallocates 64 64 (terms_of c.args.flex.now.source) c.args.flex.now.state (at c.args.addr) c.args.wanted.size (reply o))
 steps_with g c o is = subst
-    (λ o. FlexSteps 64 64 terms_of MayOwe PageLeads c.args.flex.now c.reallocate.new.self (FlexReallocates 64 64 (terms_of c.args.flex.now.source) c.args.flex.now.state (at c.args.addr) c.args.wanted.size (reply o)))
+    (λ o. FlexSteps 64 64 terms_of MayOwe PageLeads c.args.flex.now c.reallocate.new.self
+    (FlexReallocates 64 64 (terms_of c.args.flex.now.source) c.args.flex.now.state (at c.args.addr) c.args.wanted.size (reply o)))
     is c.reallocate.ensures.step
 
 pub returns-then-ENABLE_REALLOCATION : goal.returns-then-ENABLE_REALLOCATION
 returns-then-ENABLE_REALLOCATION g c = record {
   step = for_some c.reallocate.result (λ to some rows. subst
-      (λ enabled. ReallocatesTo enabled (heap_of c.args.flex.now rows) (at c.args.addr) c.args.layout c.args.wanted (Ok to) (heap_of c.reallocate.new.self (put (to, c.args.wanted) (without_row (at c.args.addr) rows))))
+      (λ enabled. ReallocatesTo enabled (heap_of c.args.flex.now rows) (at c.args.addr) c.args.layout c.args.wanted (Ok to)
+      (heap_of c.reallocate.new.self (put (to, c.args.wanted) (without_row (at c.args.addr) rows))))
       c.if-ENABLE_REALLOCATION.ensures (reallocated c.args.flex.now c.reallocate.new.self (at c.args.addr) c.args.wanted to (steps_with g c (Some to) some) rows));
   moved = for_some c.reallocate.result (λ to some.
       let old = c.args.flex.now in
@@ -47,9 +50,12 @@ returns-then-ENABLE_REALLOCATION g c = record {
       });
   none = for_none c.reallocate.result (λ none rows. subst
       (λ enabled. ReallocatesTo enabled (heap_of c.args.flex.now rows) (at c.args.addr) c.args.layout c.args.wanted (Err NoRoom) (heap_of c.reallocate.new.self rows))
-      c.if-ENABLE_REALLOCATION.ensures (not_reallocated c.args.flex.now c.reallocate.new.self (none_of c.reallocate.result none c.reallocate.ensures.same) (none_of c.reallocate.result none c.reallocate.ensures.refused) (at c.args.addr) c.args.wanted (steps_with g c None none) rows));
+      c.if-ENABLE_REALLOCATION.ensures
+      (not_reallocated c.args.flex.now c.reallocate.new.self (none_of c.reallocate.result none c.reallocate.ensures.same)
+      (none_of c.reallocate.result none c.reallocate.ensures.refused) (at c.args.addr) c.args.wanted (steps_with g c None none) rows));
   refused = for_none c.reallocate.result (λ none.
-      not_reallocated_stays c.args.flex.now c.reallocate.new.self (none_of c.reallocate.result none c.reallocate.ensures.same) (none_of c.reallocate.result none c.reallocate.ensures.refused) (at c.args.addr) c.args.wanted.size (steps_with g c None none));
+      not_reallocated_stays c.args.flex.now c.reallocate.new.self (none_of c.reallocate.result none c.reallocate.ensures.same)
+      (none_of c.reallocate.result none c.reallocate.ensures.refused) (at c.args.addr) c.args.wanted.size (steps_with g c None none));
   touches = λ on room. c.reallocate.ensures.touches room;
   touches_elsewhere = λ off some. absurd (true≢false (c.if-ENABLE_REALLOCATION.ensures ∙ off));
   grow = search rules;

@@ -5,4 +5,5 @@ use Rattle.rlsf_placement.specs.Rows.{IsSorted}
 use Rattle.rlsf_global.proofs.table.move_row.Goals as goal
 
 pub place-requires-clause-sorted : goal.place-requires-clause-sorted
-place-requires-clause-sorted c = subst IsSorted (sym (c.remove.ensures.items ∙ c.requires.found.taken_out)) (without_row-sorted (at c.args.addr) c.args.rows.now.items c.requires.sorted)
+place-requires-clause-sorted c =
+    subst IsSorted (sym (c.remove.ensures.items ∙ c.requires.found.taken_out)) (without_row-sorted (at c.args.addr) c.args.rows.now.items c.requires.sorted)

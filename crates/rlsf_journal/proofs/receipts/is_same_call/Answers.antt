@@ -3,10 +3,13 @@ use Rattle.rlsf_journal.proofs.Equal.{told_asked, told_freed, told_resized}
 use Rattle.rlsf_journal.proofs.receipts.is_same_call.Goals as goal
 
 pub returns-in-Allocate-Allocate : goal.returns-in-Allocate-Allocate
-returns-in-Allocate-Allocate c = told_asked c.in-Allocate-Allocate.a c.in-Allocate-Allocate.b c.args.a c.args.b c.in-Allocate-Allocate.is-0 c.in-Allocate-Allocate.is-1 c.eq.result c.eq.ensures
+returns-in-Allocate-Allocate c =
+    told_asked c.in-Allocate-Allocate.a c.in-Allocate-Allocate.b c.args.a c.args.b c.in-Allocate-Allocate.is-0 c.in-Allocate-Allocate.is-1 c.eq.result c.eq.ensures
 
 pub returns-in-Deallocate-Deallocate : goal.returns-in-Deallocate-Deallocate
-returns-in-Deallocate-Deallocate c = told_freed c.in-Deallocate-Deallocate.a c.in-Deallocate-Deallocate.b c.args.a c.args.b c.in-Deallocate-Deallocate.is-0 c.in-Deallocate-Deallocate.is-1 c.get.result c.get-in-Deallocate-Deallocate.result c.get.ensures.value c.get-in-Deallocate-Deallocate.ensures.value
+returns-in-Deallocate-Deallocate c =
+    told_freed c.in-Deallocate-Deallocate.a c.in-Deallocate-Deallocate.b c.args.a c.args.b c.in-Deallocate-Deallocate.is-0 c.in-Deallocate-Deallocate.is-1 c.get.result
+    c.get-in-Deallocate-Deallocate.result c.get.ensures.value c.get-in-Deallocate-Deallocate.ensures.value
 
 pub returns-then-get : goal.returns-then-get
 returns-then-get c =

@@ -1,4 +1,5 @@
-use Rattle.std.proofs.Common.{rules, ◌≡◌, ◌≢◌, ◌≤◌, ◌+◌, ℕ, List, true≢false, Option, None, Some, IsSome, IfNone, IfSome, arith, refl, sym, ◌∙◌, ap, subst}
+use Rattle.std.proofs.Common.{rules, ◌≡◌, ◌≢◌, ◌≤◌, ◌+◌, ℕ, List, true≢false, Option, None, Some, IsSome, IfNone, IfSome, arith, refl, sym, ◌∙◌, ap}
+use Rattle.std.proofs.Common.{subst}
 use Rattle.rlsf_base.specs.Addr.{at, reply}
 use Rattle.rlsf_flex.specs.StandsFor.{flex_contents, FlexSteps}
 use Rattle.rlsf_flex.specs.Steps.Parts.{flex_over}
@@ -8,7 +9,8 @@ use Rattle.rlsf_machine.specs.FlexAllocate.{FlexAllocates}
 use Rattle.rlsf_machine.specs.Sized.{IsSizedFor, live_count}
 use Rattle.rlsf_table.proofs.Parameters.{IsValid-widest}
 use Rattle.rlsf_tlsf.specs.Allocator.{Allocator, Steps}
-use Rattle.rlsf_flex.proofs.Allocations.{Tried, allocated_in_more, allocated_in_room, allocated_stands, extended_none, more_is_found, no_room, not_none, nothing_asked, nothing_more}
+use Rattle.rlsf_flex.proofs.Allocations.{Tried, allocated_in_more, allocated_in_room, allocated_stands, extended_none, more_is_found, no_room, not_none, nothing_asked}
+use Rattle.rlsf_flex.proofs.Allocations.{nothing_more}
 use Rattle.rlsf_flex.proofs.Places.{SamePlace-then}
 use Rattle.rlsf_flex.proofs.Standing.{flex_opened, opened}
 use Rattle.rlsf_flex.proofs.flex.FlexTlsf.allocate.Given as given
@@ -18,7 +20,9 @@ use Rattle.rlsf_flex.proofs.flex.FlexTlsf.allocate.Goals.{In_default, After-allo
 pub invariant_of-self : goal.invariant_of-self
 invariant_of-self g c = record {
   valid = c.self.invariant.valid;
-  stands = allocated_stands c.args.layout.size c.args.layout.align c.allocate.new.self c.in-Some.ensures.place c.self.invariant.stands c.self.invariant.whole (Some (at c.in-Some.addr)) c.in-Some.ensures.step;
+  stands =
+      allocated_stands c.args.layout.size c.args.layout.align c.allocate.new.self c.in-Some.ensures.place c.self.invariant.stands c.self.invariant.whole (Some (at c.in-Some.addr))
+      c.in-Some.ensures.step;
   whole = c.in-Some.ensures.place.3 c.self.invariant.whole;
 }
 
@@ -26,7 +30,9 @@ pub returns-in-Some : goal.returns-in-Some
 returns-in-Some g c =
     let is = c.in-Some.ensures in
     rw (← c.self.view_is) (record {
-      step = allocated_in_room c.args.layout.size c.args.layout.align c.allocate.new.self is.place c.self.invariant.stands c.self.invariant.whole g.S.FlexSource.leads (at c.in-Some.addr) is.step;
+      step =
+          allocated_in_room c.args.layout.size c.args.layout.align c.allocate.new.self is.place c.self.invariant.stands c.self.invariant.whole g.S.FlexSource.leads
+          (at c.in-Some.addr) is.step;
       live = is.live;
       sized = is.sized;
       few = is.few;
@@ -51,10 +57,12 @@ tried : (g : given.Over) (c : In_default g) → Tried g.row.FLLEN g.row.SLLEN g.
 tried g c =
     let none : c.allocate.result ≡ None = search rules in
     no_room c.args.layout.size c.args.layout.align c.allocate.new.self c.allocate.ensures.place c.self.invariant.stands c.self.invariant.whole
-    (subst (λ o. Steps g.row.FLLEN g.row.SLLEN c.self.inside.parts.tlsf c.allocate.new.self (Allocates g.row.SLLEN c.self.inside.parts.tlsf.state c.args.layout.size c.args.layout.align (reply o))) none c.allocate.ensures.step)
+    (subst (λ o. Steps g.row.FLLEN g.row.SLLEN c.self.inside.parts.tlsf c.allocate.new.self
+    (Allocates g.row.SLLEN c.self.inside.parts.tlsf.state c.args.layout.size c.args.layout.align (reply o))) none c.allocate.ensures.step)
 
 -- which isn't so within bounds
-sure : (g : given.Over) (c : In_default g) (count size align : ℕ) → IsSizedFor g.row.SLLEN count size align c.self.inside.parts.tlsf.state → live_count c.self.inside.parts.tlsf.state ≤ count → c.args.layout.size ≤ size
+sure : (g : given.Over) (c : In_default g) (count size align : ℕ) → IsSizedFor g.row.SLLEN count size align c.self.inside.parts.tlsf.state
+    → live_count c.self.inside.parts.tlsf.state ≤ count → c.args.layout.size ≤ size
     → c.args.layout.align ≤ align → ⊥
 sure g c count size align sized few short fits =
     let none : c.allocate.result ≡ None = search rules in
@@ -67,7 +75,12 @@ bytes_stay g c =
     subst (λ o. IfNone o (c.allocate.new.self.memory.bytes ≡ c.self.inside.parts.tlsf.memory.bytes)) none c.allocate.ensures.refused
 
 pub invariant_of-self-in_err-wanted : goal.invariant_of-self-in_err-wanted
-invariant_of-self-in_err-wanted g c = record { valid = c.self.invariant.valid; stands = (tried g (goal.at.invariant_of-self-in_err-wanted g c).In_default).stands; whole = c.allocate.ensures.place.3 c.self.invariant.whole }
+invariant_of-self-in_err-wanted g c =
+    record {
+      valid = c.self.invariant.valid;
+      stands = (tried g (goal.at.invariant_of-self-in_err-wanted g c).In_default).stands;
+      whole = c.allocate.ensures.place.3 c.self.invariant.whole;
+    }
 
 pub returns-in_err-wanted : goal.returns-in_err-wanted
 returns-in_err-wanted g c =
@@ -96,15 +109,20 @@ returns-in_err-wanted g c =
 
 pub extend-requires : goal.extend-requires
 extend-requires g c =
-    let stands = (tried g (goal.at.extend-requires g c).In_default).stands in
-    (omega arith, ((IsValid-widest g.FLBitmap.BitPattern.width_limit c.self.invariant.valid), (record { size = c.args.layout.size; align = c.args.layout.align; is = sym c.in_ok-wanted.ensures }, (stands, c.allocate.ensures.place.3 c.self.invariant.whole))))
+    let stands = (tried g (goal.at.extend-requires g c).In_default).stands in (
+      omega arith,
+      (
+        (IsValid-widest g.FLBitmap.BitPattern.width_limit c.self.invariant.valid),
+        (record { size = c.args.layout.size; align = c.args.layout.align; is = sym c.in_ok-wanted.ensures }, (stands, c.allocate.ensures.place.3 c.self.invariant.whole)),
+      ),
+    )
 
 -- the first try, as the second sees it
 abbrev HasTried : (g : given.Over) → After-allocate-then-extend g → Type 0
 HasTried g c = Tried g.row.FLLEN g.row.SLLEN g.S.FlexSource.terms g.S.FlexSource.owes c.args.layout.size c.args.layout.align
     (flex_over c.self.inside.parts) (flex_contents c.allocate.new.self c.self.inside.parts.kept c.self.inside.parts.source c.self.inside.parts.owed.ranges)
 
--- the second try is the machine's step in what came
+-- the second try is the reference model's step in what came
 in_more : (g : given.Over) (c : After-allocate-then-extend g) → HasTried g c
     → FlexSteps g.row.FLLEN g.row.SLLEN g.S.FlexSource.terms g.S.FlexSource.owes g.S.FlexSource.leads (flex_over c.self.inside.parts)
     (flex_contents c.allocate-then-extend.new.self c.extend.new.self.kept c.extend.new.self.source c.extend.new.self.owed.ranges)
@@ -118,7 +136,11 @@ pub invariant_of-self-then-extend : goal.invariant_of-self-then-extend
 invariant_of-self-then-extend g c =
     let at = goal.at.invariant_of-self-then-extend g c in
     let (notes, step, leads_by, outside, stands) = flex_opened _ _ _ (in_more g at.After-allocate-then-extend (tried g at.In_default)) in
-    record { valid = c.self.invariant.valid; stands = stands; whole = c.allocate-then-extend.ensures.place.3 (c.extend.ensures.payloads.place.3 (c.allocate.ensures.place.3 c.self.invariant.whole)) }
+    record {
+      valid = c.self.invariant.valid;
+      stands = stands;
+      whole = c.allocate-then-extend.ensures.place.3 (c.extend.ensures.payloads.place.3 (c.allocate.ensures.place.3 c.self.invariant.whole));
+    }
 
 -- callers see in what came what they saw before
 aligns_before : (g : given.Over) (c : After-allocate-then-extend g) → HasTried g c → align_at c.extend.new.self.tlsf.state ≡ align_at c.self.inside.parts.tlsf.state
@@ -152,11 +174,17 @@ returns-then-extend g c =
       sized = is.sized;
       few = is.few;
       new = subst (λ (before : ℕ → Option ℕ). IfSome c.allocate-then-extend.result (λ addr. before (at addr) ≡ None)) (aligns_before g second first) is.new;
-      aligns = subst (λ (before : ℕ → Option ℕ). IfSome c.allocate-then-extend.result (λ addr. (a : ℕ) → a ≢ at addr → align_at c.allocate-then-extend.new.self.state a ≡ before a)) (aligns_before g second first) is.aligns;
-      bytes = subst (λ (before : ℕ → List ℕ). IfSome c.allocate-then-extend.result (λ addr. (a : ℕ) → a ≢ at addr → bytes_at c.allocate-then-extend.new.self.state a ≡ before a)) (bytes_before g second first) is.bytes;
+      aligns =
+          subst (λ (before : ℕ → Option ℕ). IfSome c.allocate-then-extend.result
+          (λ addr. (a : ℕ) → a ≢ at addr → align_at c.allocate-then-extend.new.self.state a ≡ before a)) (aligns_before g second first) is.aligns;
+      bytes =
+          subst (λ (before : ℕ → List ℕ). IfSome c.allocate-then-extend.result
+          (λ addr. (a : ℕ) → a ≢ at addr → bytes_at c.allocate-then-extend.new.self.state a ≡ before a)) (bytes_before g second first) is.bytes;
       room = λ count size align sized few short fits. absurd (sure g here.In_default count size align sized few short fits);
       unasked = λ count size align sized few short fits. absurd (sure g here.In_default count size align sized few short fits);
-      count = subst (λ (before : ℕ). IfSome c.allocate-then-extend.result (λ addr. live_count c.allocate-then-extend.new.self.state ≡ before + 1)) (came.count ∙ ap (λ s. live_count s.machine) first.same) is.count;
+      count =
+          subst (λ (before : ℕ). IfSome c.allocate-then-extend.result (λ addr. live_count c.allocate-then-extend.new.self.state ≡ before + 1))
+          (came.count ∙ ap (λ s. live_count s.machine) first.same) is.count;
       bounds = λ count size align sized short fits. is.bounds count size align (came.bounds count size align (did.bounds count size align sized short fits)) short fits;
       same = not_none _ c.allocate-then-extend.result (found g second first);
       refused = not_none _ c.allocate-then-extend.result (found g second first);
@@ -167,7 +195,12 @@ returns-then-extend g c =
     })
 
 pub invariant_of-self-else-extend : goal.invariant_of-self-else-extend
-invariant_of-self-else-extend g c = record { valid = c.self.invariant.valid; stands = c.if-extend.ensures.step.stands; whole = c.extend.ensures.payloads.place.3 (c.allocate.ensures.place.3 c.self.invariant.whole) }
+invariant_of-self-else-extend g c =
+    record {
+      valid = c.self.invariant.valid;
+      stands = c.if-extend.ensures.step.stands;
+      whole = c.extend.ensures.payloads.place.3 (c.allocate.ensures.place.3 c.self.invariant.whole);
+    }
 
 pub returns-else-extend : goal.returns-else-extend
 returns-else-extend g c =

@@ -8,12 +8,20 @@ use Rattle.rlsf_flex.proofs.flex.FlexTlsf.copy_payload.Goals as goal
 pub invariant_of-self : goal.invariant_of-self
 invariant_of-self g c =
     let is = c.copy_payload.ensures in
-    record { valid = c.self.invariant.valid; stands = stands_alone c.self.invariant.stands c.copy_payload.new.self _ is.place c.self.invariant.whole is.chunks is.step; whole = is.place.3 c.self.invariant.whole }
+    record {
+      valid = c.self.invariant.valid;
+      stands = stands_alone c.self.invariant.stands c.copy_payload.new.self _ is.place c.self.invariant.whole is.chunks is.step;
+      whole = is.place.3 c.self.invariant.whole;
+    }
 
 pub copy_payload-requires : goal.copy_payload-requires
 copy_payload-requires g c =
-    let live = subst (λ (old : FlexContents g.row.S.Denot). IsSome (align_at old.state.machine (at c.args.from)) × IsSome (align_at old.state.machine (at c.args.to))) (sym c.self.view_is) c.requires.live in
-    let long = subst (λ (old : FlexContents g.row.S.Denot). (c.args.len ≤ length (bytes_at old.state.machine (at c.args.from))) × (c.args.len ≤ length (bytes_at old.state.machine (at c.args.to)))) (sym c.self.view_is) c.requires.long in
+    let live =
+    subst (λ (old : FlexContents g.row.S.Denot). IsSome (align_at old.state.machine (at c.args.from)) × IsSome (align_at old.state.machine (at c.args.to)))
+    (sym c.self.view_is) c.requires.live in
+    let long =
+    subst (λ (old : FlexContents g.row.S.Denot). (c.args.len ≤ length (bytes_at old.state.machine (at c.args.from)))
+    × (c.args.len ≤ length (bytes_at old.state.machine (at c.args.to)))) (sym c.self.view_is) c.requires.long in
     (omega arith, (live, long))
 
 pub returns : goal.returns

@@ -9,7 +9,11 @@ use Rattle.rlsf_flex.proofs.flex.FlexTlsf.deallocate.Goals as goal
 pub invariant_of-self : goal.invariant_of-self
 invariant_of-self g c =
     let is = c.deallocate.ensures in
-    record { valid = c.self.invariant.valid; stands = stands_alone c.self.invariant.stands c.deallocate.new.self _ is.place c.self.invariant.whole is.chunks is.step; whole = is.place.3 c.self.invariant.whole }
+    record {
+      valid = c.self.invariant.valid;
+      stands = stands_alone c.self.invariant.stands c.deallocate.new.self _ is.place c.self.invariant.whole is.chunks is.step;
+      whole = is.place.3 c.self.invariant.whole;
+    }
 
 pub returns : goal.returns
 returns g c =
@@ -24,7 +28,8 @@ returns g c =
       bounds = is.bounds;
       pool =
           let (step, stands, spare) = opened _ _ _ is.step in
-          sized_behind g.FLBitmap.BitPattern.width g.SLBitmap.BitPattern.width g.row.FLLEN g.row.SLLEN (range_of c.self.inside.parts.tlsf.memory) c.self.inside.parts.tlsf.state c.deallocate.new.self.state c.self.invariant.valid
+          sized_behind g.FLBitmap.BitPattern.width g.SLBitmap.BitPattern.width g.row.FLLEN g.row.SLLEN (range_of c.self.inside.parts.tlsf.memory) c.self.inside.parts.tlsf.state
+          c.deallocate.new.self.state c.self.invariant.valid
           c.self.invariant.stands.machine.well_formed (at c.args.addr) step;
       source = refl;
       place = is.place;

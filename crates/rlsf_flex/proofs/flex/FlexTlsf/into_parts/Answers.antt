@@ -11,12 +11,17 @@ pub give_back-requires-clause-outstanding : goal.give_back-requires-clause-outst
 give_back-requires-clause-outstanding g c =
     let ranges = c.self.inside.parts.owed.ranges in
     let v = c.self.invariant.stands in
-    let has = sym c.supports_dealloc.ensures ∙ c.if-supports_dealloc.true in
-    (ranges, subst (λ m. AreSpelled m c.newest_range.result ranges) (sym c.into_memory-memory.ensures) (spelled c.self.inside.parts.kept c.newest_range.result v has c.newest_range.ensures), v.owed)
+    let has = sym c.supports_dealloc.ensures ∙ c.if-supports_dealloc.true in (
+      ranges,
+      subst (λ m. AreSpelled m c.newest_range.result ranges) (sym c.into_memory-memory.ensures)
+          (spelled c.self.inside.parts.kept c.newest_range.result v has c.newest_range.ensures),
+      v.owed,
+    )
 
 -- what the source is at the end
 ends : (g : given.Over) (c : Joined-supports_dealloc g)
-    → LeadsBy g.S.FlexSource.leads c.self.inside.parts.source (notes_at_end (g.S.FlexSource.terms c.self.inside.parts.source) c.self.inside.parts.owed.ranges) c.if-supports_dealloc.source
+    → LeadsBy g.S.FlexSource.leads c.self.inside.parts.source (notes_at_end (g.S.FlexSource.terms c.self.inside.parts.source) c.self.inside.parts.owed.ranges)
+    c.if-supports_dealloc.source
     × g.S.FlexSource.owes c.if-supports_dealloc.source (owed_at_end (g.S.FlexSource.terms c.self.inside.parts.source) c.self.inside.parts.owed.ranges)
 ends g c =
     let owes = g.S.FlexSource.owes in
@@ -28,7 +33,9 @@ ends g c =
     elim c.if-supports_dealloc.branch [
       | then-supports_dealloc w ↦
           let has = sym c.supports_dealloc.ensures ∙ w.if-supports_dealloc.true in
-          let are = subst (λ m. AreSpelled m w.newest_range.result ranges) (sym c.into_memory-memory.ensures) (spelled c.self.inside.parts.kept w.newest_range.result v has w.newest_range.ensures) in
+          let are =
+          subst (λ m. AreSpelled m w.newest_range.result ranges) (sym c.into_memory-memory.ensures)
+          (spelled c.self.inside.parts.kept w.newest_range.result v has w.newest_range.ensures) in
           rw w.source-is (ends_with owes leads t x w.give_back.new.source ranges has (w.give_back.ensures.end ranges are v.owed))
       | else-supports_dealloc w ↦ rw w.source-is (ends_without owes leads t x ranges (sym c.supports_dealloc.ensures ∙ w.if-supports_dealloc.false) v.owed)
     ]

@@ -8,12 +8,15 @@ use Rattle.rlsf_flex.proofs.flex.FlexTlsf.new.Given as given
 use Rattle.rlsf_flex.proofs.flex.FlexTlsf.new.Goals as goal
 use Rattle.rlsf_flex.proofs.flex.FlexTlsf.new.Goals.{After-new-2}
 
--- the allocator stands for its state, which is the empty one
-stands : (g : given.Over) (c : After-new-2 g) → FlexStandsFor g.row.FLLEN g.row.SLLEN g.S.FlexSource.terms g.S.FlexSource.owes (flex_contents c.new.result None c.args.source c.new-2.result.ranges)
+-- the allocator represents its state, which is the empty one
+stands : (g : given.Over) (c : After-new-2 g)
+    → FlexStandsFor g.row.FLLEN g.row.SLLEN g.S.FlexSource.terms g.S.FlexSource.owes (flex_contents c.new.result None c.args.source c.new-2.result.ranges)
 stands g c =
-    let is : (flex_contents c.new.result None c.args.source c.new-2.result.ranges).state ≡ empty = λ i. record { machine = c.new.ensures.state i; pools = c.new-2.ensures i; kept = None } in
+    let is : (flex_contents c.new.result None c.args.source c.new-2.result.ranges).state ≡ empty =
+    λ i. record { machine = c.new.ensures.state i; pools = c.new-2.ensures i; kept = None } in
     subst (λ (s : FlexState). FlexStandsFor g.row.FLLEN g.row.SLLEN g.S.FlexSource.terms g.S.FlexSource.owes (contents_at c.new.result c.args.source s)) (sym is)
-    (FlexStandsFor-empty g.row.FLLEN g.row.SLLEN g.S.FlexSource.terms g.S.FlexSource.owes c.new.result c.args.memory c.args.source c.new.ensures.state c.new.ensures.stands c.new.ensures.memory c.requires.nothing_owed c.requires.space)
+    (FlexStandsFor-empty g.row.FLLEN g.row.SLLEN g.S.FlexSource.terms g.S.FlexSource.owes c.new.result c.args.memory c.args.source c.new.ensures.state c.new.ensures.stands
+    c.new.ensures.memory c.requires.nothing_owed c.requires.space)
 
 pub invariant_of-result : goal.invariant_of-result
 invariant_of-result g c = record {

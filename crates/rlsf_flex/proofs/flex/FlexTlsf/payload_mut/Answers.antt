@@ -29,7 +29,9 @@ returns g c =
       record {
         writes_back = tt;
         value = is.value;
-        meaning = λ w long. steps_alone stands (written c.self.inside.parts.tlsf addr (length c.payload_mut.result.now) w) _ (is.rest w).1 c.self.invariant.whole (is.rest w).0 (is.meaning w long);
+        meaning =
+            λ w long. steps_alone stands (written c.self.inside.parts.tlsf addr (length c.payload_mut.result.now) w) _ (is.rest w).1 c.self.invariant.whole (is.rest w).0
+            (is.meaning w long);
         filled = is.filled;
         bytes = is.bytes;
         aligns = is.aligns;
@@ -37,7 +39,14 @@ returns g c =
         bounds = is.bounds;
         lengths = is.lengths;
         rest = λ w.
-            let (chunks, place, stood, touches, copied) = is.rest w in
-            (chunks, refl, refl, place, flex_stood_at (left stands addr w live (length c.payload_mut.result.now) (ap length is.value) place c.self.invariant.whole), touches, copied);
+            let (chunks, place, stood, touches, copied) = is.rest w in (
+              chunks,
+              refl,
+              refl,
+              place,
+              flex_stood_at (left stands addr w live (length c.payload_mut.result.now) (ap length is.value) place c.self.invariant.whole),
+              touches,
+              copied,
+            );
       },
     )

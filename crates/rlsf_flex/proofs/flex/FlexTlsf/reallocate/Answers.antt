@@ -1,5 +1,6 @@
 use Rattle.std.specs.declared.num.NonZeroUsize.{NonZeroUsize}
-use Rattle.std.proofs.Common.{rules, ◌≡◌, ◌≢◌, ◌≤◌, ℕ, List, true≢false, Option, Some, None, IfNone, IfSome, IsSome, length, arith, refl, sym, ◌∙◌, ap, subst}
+use Rattle.std.proofs.Common.{rules, ◌≡◌, ◌≢◌, ◌≤◌, ℕ, List, true≢false, Option, Some, None, IfNone, IfSome, IsSome, length, arith, refl, sym, ◌∙◌, ap}
+use Rattle.std.proofs.Common.{subst}
 use Rattle.rlsf_base.specs.Addr.{at, reply}
 use Rattle.rlsf_flex.specs.StandsFor.{FlexContents, flex_contents, FlexSteps}
 use Rattle.rlsf_flex.specs.Steps.Parts.{flex_over}
@@ -24,7 +25,9 @@ use Rattle.rlsf_flex.proofs.flex.FlexTlsf.reallocate.Goals.{In_default, After-ex
 pub invariant_of-self : goal.invariant_of-self
 invariant_of-self g c = record {
   valid = c.self.invariant.valid;
-  stands = reallocated_stands (at c.args.addr) c.args.layout.size c.args.layout.align c.reallocate.new.self c.in-Some.ensures.place c.self.invariant.stands c.self.invariant.whole (Some (at c.in-Some.moved)) c.in-Some.ensures.step;
+  stands =
+      reallocated_stands (at c.args.addr) c.args.layout.size c.args.layout.align c.reallocate.new.self c.in-Some.ensures.place c.self.invariant.stands c.self.invariant.whole
+      (Some (at c.in-Some.moved)) c.in-Some.ensures.step;
   whole = c.in-Some.ensures.place.3 c.self.invariant.whole;
 }
 
@@ -32,7 +35,9 @@ pub returns-in-Some : goal.returns-in-Some
 returns-in-Some g c =
     let is = c.in-Some.ensures in
     rw (← c.self.view_is) (record {
-      step = reallocated_in_room (at c.args.addr) c.args.layout.size c.args.layout.align c.reallocate.new.self is.place c.self.invariant.stands c.self.invariant.whole g.S.FlexSource.leads (at c.in-Some.moved) is.step;
+      step =
+          reallocated_in_room (at c.args.addr) c.args.layout.size c.args.layout.align c.reallocate.new.self is.place c.self.invariant.stands c.self.invariant.whole
+          g.S.FlexSource.leads (at c.in-Some.moved) is.step;
       live = is.live;
       sized = is.sized;
       few = is.few;
@@ -62,11 +67,14 @@ tried g c =
     let addr = at c.args.addr in
     let none : c.reallocate.result ≡ None = search rules in
     let live = subst (λ (old : FlexContents g.row.S.Denot). align_at old.state.machine addr ≡ Some c.args.layout.align) (sym c.self.view_is) c.requires in
-    no_room_to_move addr c.args.layout.size c.args.layout.align c.reallocate.new.self c.reallocate.ensures.place c.self.invariant.stands c.self.invariant.whole (align_at-live c.self.inside.parts.tlsf.state addr c.args.layout.align live)
-    (subst (λ o. Steps g.row.FLLEN g.row.SLLEN c.self.inside.parts.tlsf c.reallocate.new.self (Reallocates g.row.SLLEN c.self.inside.parts.tlsf.state addr c.args.layout.size (reply o))) none c.reallocate.ensures.step)
+    no_room_to_move addr c.args.layout.size c.args.layout.align c.reallocate.new.self c.reallocate.ensures.place c.self.invariant.stands c.self.invariant.whole
+    (align_at-live c.self.inside.parts.tlsf.state addr c.args.layout.align live)
+    (subst (λ o. Steps g.row.FLLEN g.row.SLLEN c.self.inside.parts.tlsf c.reallocate.new.self
+    (Reallocates g.row.SLLEN c.self.inside.parts.tlsf.state addr c.args.layout.size (reply o))) none c.reallocate.ensures.step)
 
 -- which isn't so within bounds
-sure : (g : given.Over) (c : In_default g) (count size align : ℕ) → IsSizedFor g.row.SLLEN count size align c.self.inside.parts.tlsf.state → live_count c.self.inside.parts.tlsf.state ≤ count → c.args.layout.size ≤ size
+sure : (g : given.Over) (c : In_default g) (count size align : ℕ) → IsSizedFor g.row.SLLEN count size align c.self.inside.parts.tlsf.state
+    → live_count c.self.inside.parts.tlsf.state ≤ count → c.args.layout.size ≤ size
     → c.args.layout.align ≤ align → ⊥
 sure g c count size align sized few short fits =
     let none : c.reallocate.result ≡ None = search rules in
@@ -78,7 +86,7 @@ bytes_stay g c =
     let none : c.reallocate.result ≡ None = search rules in
     subst (λ o. IfNone o (c.reallocate.new.self.memory.bytes ≡ c.self.inside.parts.tlsf.memory.bytes)) none c.reallocate.ensures.refused
 
--- so the machine's reallocation is refused in the room that there was
+-- so the reference model's reallocation is refused in the room that there was
 refused_in : (g : given.Over) (c : In_default g) → HasRoomToResize g.row.SLLEN c.self.inside.parts.tlsf.state (at c.args.addr) c.args.layout.size → ⊥
 refused_in g c (to, m, some) =
     let (u, stuck, is, first) = tried g c in
@@ -103,7 +111,8 @@ returns-in_err-wanted g c =
     let (u, stuck, is, first) = tried g here in
     let did = c.reallocate.ensures in
     rw (← c.self.view_is) (rw c.from_residual.ensures (record {
-      step = refused_too g.row.FLLEN g.row.SLLEN g.S.FlexSource.terms g.S.FlexSource.owes g.S.FlexSource.leads now new (at c.args.addr) c.args.layout.size c.args.layout.align stuck is
+      step =
+          refused_too g.row.FLLEN g.row.SLLEN g.S.FlexSource.terms g.S.FlexSource.owes g.S.FlexSource.leads now new (at c.args.addr) c.args.layout.size c.args.layout.align stuck is
           (nothing_asked c.args.layout.size c.args.layout.align first g.S.FlexSource.leads (sym c.in_err-wanted.ensures));
       live = tt;
       sized = tt;
@@ -128,8 +137,13 @@ returns-in_err-wanted g c =
 
 pub extend-requires : goal.extend-requires
 extend-requires g c =
-    let (u, stuck, is, first) = tried g (goal.at.extend-requires g c).In_default in
-    (omega arith, ((IsValid-widest g.FLBitmap.BitPattern.width_limit c.self.invariant.valid), (record { size = c.args.layout.size; align = c.args.layout.align; is = sym c.in_ok-wanted.ensures }, (first.stands, c.reallocate.ensures.place.3 c.self.invariant.whole))))
+    let (u, stuck, is, first) = tried g (goal.at.extend-requires g c).In_default in (
+      omega arith,
+      (
+        (IsValid-widest g.FLBitmap.BitPattern.width_limit c.self.invariant.valid),
+        (record { size = c.args.layout.size; align = c.args.layout.align; is = sym c.in_ok-wanted.ensures }, (first.stands, c.reallocate.ensures.place.3 c.self.invariant.whole)),
+      ),
+    )
 
 -- the first try, as what follows sees it
 abbrev HasTried : (g : given.Over) → After-extend g → Type 0
@@ -153,8 +167,14 @@ move_payload-requires g c =
     let bytes = bytes_before g here.After-extend (u, stuck, is, first) in
     let well_formed = c.self.invariant.stands.machine.well_formed in
     let live = subst (λ (old : FlexContents g.row.S.Denot). align_at old.state.machine addr ≡ Some c.args.layout.align) (sym c.self.view_is) c.requires in
-    let len : length (bytes_at c.extend.new.self.tlsf.state addr) ≡ (usable u).len = (λ i. length (bytes i addr)) ∙ ap length (bytes_at-held well_formed addr u stuck.holds) ∙ (well_formed.used u stuck.holds.0).bytes in
-    (omega arith, (stood_at c.if-extend.ensures.step.stands.machine (c.extend.ensures.payloads.place.3 (c.reallocate.ensures.place.3 c.self.invariant.whole)), ((λ i. aligns i addr) ∙ live, omega (arith, len, stuck_short well_formed addr c.args.layout.size u stuck))))
+    let len : length (bytes_at c.extend.new.self.tlsf.state addr) ≡ (usable u).len =
+    (λ i. length (bytes i addr)) ∙ ap length (bytes_at-held well_formed addr u stuck.holds) ∙ (well_formed.used u stuck.holds.0).bytes in (
+      omega arith,
+      (
+        stood_at c.if-extend.ensures.step.stands.machine (c.extend.ensures.payloads.place.3 (c.reallocate.ensures.place.3 c.self.invariant.whole)),
+        ((λ i. aligns i addr) ∙ live, omega (arith, len, stuck_short well_formed addr c.args.layout.size u stuck)),
+      ),
+    )
 
 -- the payload isn't refused what came for it
 found : (g : given.Over) (c : After-move_payload g) → Tried g.row.FLLEN g.row.SLLEN g.S.FlexSource.terms g.S.FlexSource.owes c.args.layout.size c.args.layout.align
@@ -165,8 +185,9 @@ found g c first none =
     more_is_found c.args.layout.size c.args.layout.align first (sym c.in_ok-wanted.ensures) c.if-extend.ensures.step c.self.invariant.valid refl
     (subst (λ o. IfNone o (Allocates g.row.SLLEN m c.args.layout.size c.args.layout.align None m)) none c.move_payload.ensures.refused)
 
--- it moves there, which is the machine's step
-in_more : (g : given.Over) (c : After-move_payload g) (u : Used) → IsStuck c.self.inside.parts.tlsf.state (at c.args.addr) c.args.layout.size u → u.align ≡ c.args.layout.align
+-- it moves there, which is the reference model's step
+in_more : (g : given.Over) (c : After-move_payload g) (u : Used) → IsStuck c.self.inside.parts.tlsf.state (at c.args.addr) c.args.layout.size u
+    → u.align ≡ c.args.layout.align
     → Tried g.row.FLLEN g.row.SLLEN g.S.FlexSource.terms g.S.FlexSource.owes c.args.layout.size c.args.layout.align
     (flex_over c.self.inside.parts) (flex_contents c.reallocate.new.self c.self.inside.parts.kept c.self.inside.parts.source c.self.inside.parts.owed.ranges)
     → (o : Option NonZeroUsize) → c.move_payload.result ≡ o
@@ -176,15 +197,22 @@ in_more : (g : given.Over) (c : After-move_payload g) (u : Used) → IsStuck c.s
 in_more g c u stuck is first None e = absurd (found g c first e)
 in_more g c u stuck is first (Some to) e =
     let now = flex_over c.self.inside.parts in
-    let moved = subst (λ o. IfSome o (λ to. MovesTo g.row.FLLEN g.row.SLLEN c.extend.new.self.tlsf c.move_payload.new.tlsf (at c.args.addr) c.args.layout.size (at to))) e c.move_payload.ensures.step in
-    reallocated_in_more (at c.args.addr) c.args.layout.size c.args.layout.align g.S.FlexSource.leads now stuck is first (sym c.in_ok-wanted.ensures) c.if-extend.ensures.step c.move_payload.new.tlsf refl c.move_payload.ensures.place c.self.invariant.whole moved
+    let moved =
+    subst (λ o. IfSome o (λ to. MovesTo g.row.FLLEN g.row.SLLEN c.extend.new.self.tlsf c.move_payload.new.tlsf (at c.args.addr) c.args.layout.size (at to))) e
+    c.move_payload.ensures.step in
+    reallocated_in_more (at c.args.addr) c.args.layout.size c.args.layout.align g.S.FlexSource.leads now stuck is first (sym c.in_ok-wanted.ensures) c.if-extend.ensures.step
+    c.move_payload.new.tlsf refl c.move_payload.ensures.place c.self.invariant.whole moved
 
 pub invariant_of-self-then-extend : goal.invariant_of-self-then-extend
 invariant_of-self-then-extend g c =
     let here = goal.at.invariant_of-self-then-extend g c in
     let (u, stuck, is, first) = tried g here.In_default in
     let (notes, step, leads_by, outside, stands) = flex_opened _ _ _ (in_more g here.After-move_payload u stuck is first c.move_payload.result refl) in
-    record { valid = c.self.invariant.valid; stands = stands; whole = c.move_payload.ensures.place.3 (c.extend.ensures.payloads.place.3 (c.reallocate.ensures.place.3 c.self.invariant.whole)) }
+    record {
+      valid = c.self.invariant.valid;
+      stands = stands;
+      whole = c.move_payload.ensures.place.3 (c.extend.ensures.payloads.place.3 (c.reallocate.ensures.place.3 c.self.invariant.whole));
+    }
 
 pub returns-then-extend : goal.returns-then-extend
 returns-then-extend g c =
@@ -205,12 +233,18 @@ returns-then-extend g c =
       live = is.live;
       sized = is.sized;
       few = is.few;
-      kept = subst (λ (before : ℕ → List ℕ). IfSome c.move_payload.result (λ to. Keeps (before (at c.args.addr)) (bytes_at c.move_payload.new.tlsf.state (at to)))) bytes is.kept;
+      kept =
+          subst (λ (before : ℕ → List ℕ). IfSome c.move_payload.result (λ to. Keeps (before (at c.args.addr)) (bytes_at c.move_payload.new.tlsf.state (at to)))) bytes
+          is.kept;
       new =
           let new = subst (λ (before : ℕ → Option ℕ). IfSome c.move_payload.result (λ to. before (at to) ≡ None)) aligns is.new in
           for_some c.move_payload.result (λ to some. λ off. subst (λ o. IfSome o (λ to. align_at c.self.inside.parts.tlsf.state (at to) ≡ None)) some new);
-      aligns = subst (λ (before : ℕ → Option ℕ). IfSome c.move_payload.result (λ to. (a : ℕ) → a ≢ at c.args.addr → a ≢ at to → align_at c.move_payload.new.tlsf.state a ≡ before a)) aligns is.aligns;
-      bytes = subst (λ (before : ℕ → List ℕ). IfSome c.move_payload.result (λ to. (a : ℕ) → a ≢ at c.args.addr → a ≢ at to → bytes_at c.move_payload.new.tlsf.state a ≡ before a)) bytes is.bytes;
+      aligns =
+          subst (λ (before : ℕ → Option ℕ). IfSome c.move_payload.result
+          (λ to. (a : ℕ) → a ≢ at c.args.addr → a ≢ at to → align_at c.move_payload.new.tlsf.state a ≡ before a)) aligns is.aligns;
+      bytes =
+          subst (λ (before : ℕ → List ℕ). IfSome c.move_payload.result
+          (λ to. (a : ℕ) → a ≢ at c.args.addr → a ≢ at to → bytes_at c.move_payload.new.tlsf.state a ≡ before a)) bytes is.bytes;
       room = λ count size align sized few short fits. absurd (sure g here.In_default count size align sized few short fits);
       unasked = λ count size align sized few short fits. absurd (sure g here.In_default count size align sized few short fits);
       count = is.count ∙ came.count ∙ did.count;
@@ -226,7 +260,12 @@ returns-then-extend g c =
     })
 
 pub invariant_of-self-else-extend : goal.invariant_of-self-else-extend
-invariant_of-self-else-extend g c = record { valid = c.self.invariant.valid; stands = c.if-extend.ensures.step.stands; whole = c.extend.ensures.payloads.place.3 (c.reallocate.ensures.place.3 c.self.invariant.whole) }
+invariant_of-self-else-extend g c =
+    record {
+      valid = c.self.invariant.valid;
+      stands = c.if-extend.ensures.step.stands;
+      whole = c.extend.ensures.payloads.place.3 (c.reallocate.ensures.place.3 c.self.invariant.whole);
+    }
 
 pub returns-else-extend : goal.returns-else-extend
 returns-else-extend g c =
@@ -238,7 +277,8 @@ returns-else-extend g c =
     let came = c.extend.ensures.payloads in
     let h = c.if-extend.ensures.step in
     rw (← c.self.view_is) (record {
-      step = refused_too g.row.FLLEN g.row.SLLEN g.S.FlexSource.terms g.S.FlexSource.owes g.S.FlexSource.leads now new (at c.args.addr) c.args.layout.size c.args.layout.align stuck is
+      step =
+          refused_too g.row.FLLEN g.row.SLLEN g.S.FlexSource.terms g.S.FlexSource.owes g.S.FlexSource.leads now new (at c.args.addr) c.args.layout.size c.args.layout.align stuck is
           (nothing_more c.args.layout.size c.args.layout.align first (sym c.in_ok-wanted.ensures) h refl);
       live = tt;
       sized = tt;

@@ -7,7 +7,11 @@ use Rattle.rlsf_flex.proofs.flex.FlexTlsf.reallocate_no_move.Goals as goal
 pub invariant_of-self : goal.invariant_of-self
 invariant_of-self g c =
     let is = c.reallocate_no_move.ensures in
-    record { valid = c.self.invariant.valid; stands = stands_alone c.self.invariant.stands c.reallocate_no_move.new.self _ is.place c.self.invariant.whole is.chunks is.step; whole = is.place.3 c.self.invariant.whole }
+    record {
+      valid = c.self.invariant.valid;
+      stands = stands_alone c.self.invariant.stands c.reallocate_no_move.new.self _ is.place c.self.invariant.whole is.chunks is.step;
+      whole = is.place.3 c.self.invariant.whole;
+    }
 
 -- what is true without an answer, by what is
 if_none : {A P Q : Type 0} (o : Option A) → (P → Q) → IfNone o P → IfNone o Q
@@ -29,7 +33,9 @@ returns g c =
       count = is.count;
       bounds = is.bounds;
       chunks = is.chunks;
-      same = if_none c.reallocate_no_move.result (ap (λ (s : State). record { machine = s; pools = c.self.inside.parts.owed.ranges; kept = kept_of c.self.inside.parts.kept })) is.same;
+      same =
+          if_none c.reallocate_no_move.result (ap (λ (s : State). record { machine = s; pools = c.self.inside.parts.owed.ranges; kept = kept_of c.self.inside.parts.kept }))
+          is.same;
       refused = is.refused;
       source = refl;
       place = is.place;

@@ -8,7 +8,11 @@ pub invariant_of-self : goal.invariant_of-self
 invariant_of-self g c =
     let v = flex_over c.self.inside.parts in
     let is = c.self.invariant.stands in
-    record { valid = c.self.invariant.valid; stands = FlexStandsFor-refused v c.change.new.source is c.change.ensures.terms (c.change.ensures.owes v.state.pools is.owed); whole = c.self.invariant.whole }
+    record {
+      valid = c.self.invariant.valid;
+      stands = FlexStandsFor-refused v c.change.new.source is c.change.ensures.terms (c.change.ensures.owes v.state.pools is.owed);
+      whole = c.self.invariant.whole;
+    }
 
 pub returns : goal.returns
 returns g c =

@@ -5,7 +5,8 @@ use Rattle.rlsf_flex.proofs.TrimmedRanges.{not_trimmed, trimmed}
 use Rattle.rlsf_flex.proofs.flex.FlexTlsf.trim.Goals as goal
 
 pub invariant_of-self : goal.invariant_of-self
-invariant_of-self g c = record { valid = c.self.invariant.valid; stands = c.give_idle_back.ensures.gone.stands; whole = c.give_idle_back.ensures.gone.place.3 c.self.invariant.whole }
+invariant_of-self g c =
+    record { valid = c.self.invariant.valid; stands = c.give_idle_back.ensures.gone.stands; whole = c.give_idle_back.ensures.gone.place.3 c.self.invariant.whole }
 
 pub returns-then-supports_dealloc : goal.returns-then-supports_dealloc
 returns-then-supports_dealloc g c =

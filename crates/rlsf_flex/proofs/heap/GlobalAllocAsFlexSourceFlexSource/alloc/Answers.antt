@@ -21,9 +21,14 @@ returns-in_err-addr-in-Ok g c =
     let layout = c.pad_to_align-layout in
     let (same_size, same_align) = c.in-Ok.ensures.layout in
     let aligned : layout.result.align ≡ align = layout.ensures.align ∙ same_align ∙ c.max.ensures in
-    let long : layout.result.size ≡ next_multiple_of c.args.min_size align = layout.ensures.size ∙ ap (λ n. next_multiple_of n c.in-Ok.least.align) same_size ∙ ap (next_multiple_of c.args.min_size) (same_align ∙ c.max.ensures) in
+    let long : layout.result.size ≡ next_multiple_of c.args.min_size align =
+    layout.ensures.size ∙ ap (λ n. next_multiple_of n c.in-Ok.least.align) same_size ∙ ap (next_multiple_of c.args.min_size) (same_align ∙ c.max.ensures) in
     rw c.from_residual.ensures (record {
-      leads = inr (subst (IsLayout c.args.min_size) c.max.ensures (c.in-Ok.ensures.succeeds.0 refl), asked_for g.T.GlobalAlloc.leads c.args.self.now.0 c.alloc.new.self None long aligned c.in_err-addr-in-Ok.ensures.leads);
+      leads =
+          inr (
+            subst (IsLayout c.args.min_size) c.max.ensures (c.in-Ok.ensures.succeeds.0 refl),
+            asked_for g.T.GlobalAlloc.leads c.args.self.now.0 c.alloc.new.self None long aligned c.in_err-addr-in-Ok.ensures.leads,
+          );
       owes = λ owed h. record { allocations = c.in_err-addr-in-Ok.ensures.owes (map (allocation_of align) owed) h.allocations; layouts = h.layouts };
     })
 
@@ -36,7 +41,9 @@ returns-in_ok-addr-in-Ok g c =
     let r : Range = range_at c.get.result size in
     let (same_size, same_align) = c.in-Ok.ensures.layout in
     let aligned : layout.result.align ≡ align = layout.ensures.align ∙ same_align ∙ c.max.ensures in
-    let long : size ≡ next_multiple_of c.args.min_size align = c.size.ensures.value ∙ layout.ensures.size ∙ ap (λ n. next_multiple_of n c.in-Ok.least.align) same_size ∙ ap (next_multiple_of c.args.min_size) (same_align ∙ c.max.ensures) in
+    let long : size ≡ next_multiple_of c.args.min_size align =
+    c.size.ensures.value ∙ layout.ensures.size ∙ ap (λ n. next_multiple_of n c.in-Ok.least.align) same_size
+    ∙ ap (next_multiple_of c.args.min_size) (same_align ∙ c.max.ensures) in
     let valid : IsLayout size align = subst (IsLayout size) aligned (subst (λ n. IsLayout n layout.result.align) (sym c.size.ensures.value) c.size.ensures.valid) in
     let answered : Allocation = allocation_at (non_zero_usize_get c.in_ok-addr-in-Ok.addr) layout.result.size layout.result.align in
     let same : answered ≡ allocation_of align r = Allocation-equal answered (sym c.get.ensures.value) (sym c.size.ensures.value) aligned in
@@ -45,7 +52,8 @@ returns-in_ok-addr-in-Ok g c =
         subst (IsLayout c.args.min_size) c.max.ensures (c.in-Ok.ensures.succeeds.0 refl),
         long,
         asked_for g.T.GlobalAlloc.leads c.args.self.now.0 c.alloc.new.self (Some c.get.result) (sym c.size.ensures.value ∙ long) aligned
-            (subst (λ n. g.T.GlobalAlloc.leads c.args.self.now.0 (allocate layout.result.size layout.result.align (Some n)) c.alloc.new.self) (sym c.get.ensures.value) c.in_ok-addr-in-Ok.ensures.leads),
+            (subst (λ n. g.T.GlobalAlloc.leads c.args.self.now.0 (allocate layout.result.size layout.result.align (Some n)) c.alloc.new.self) (sym c.get.ensures.value)
+            c.in_ok-addr-in-Ok.ensures.leads),
       );
       owes = λ owed h.
           let before = map (allocation_of align) owed in

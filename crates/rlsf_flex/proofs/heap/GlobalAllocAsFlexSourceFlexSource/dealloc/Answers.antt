@@ -22,7 +22,8 @@ returns-in-Some g c =
       owes = λ before after h.
           let xs = map (allocation_of align) before in
           let ys = map (allocation_of align) after in
-          let takes_back = subst (λ a. g.T.GlobalAlloc.owes c.args.self.now.0 (xs ++ a ∷ ys) → g.T.GlobalAlloc.owes c.dealloc.new.self (xs ++ ys)) same (c.dealloc.ensures.owes xs ys) in
+          let takes_back =
+          subst (λ a. g.T.GlobalAlloc.owes c.args.self.now.0 (xs ++ a ∷ ys) → g.T.GlobalAlloc.owes c.dealloc.new.self (xs ++ ys)) same (c.dealloc.ensures.owes xs ys) in
           HeapOwes-less g.T.GlobalAlloc.owes align c.args.self.now.0 c.dealloc.new.self c.args.range before after takes_back h;
     }
 

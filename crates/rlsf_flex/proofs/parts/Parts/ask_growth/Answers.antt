@@ -40,7 +40,8 @@ realloc_inplace_grow-requires-clause-longer g c =
 
 -- the growth that came
 grew : (g : given.Over) (c : In_ok-grown g)
-    → Grew g.row.FLLEN g.row.SLLEN c.args.wanted g.S.FlexSource.terms g.S.FlexSource.owes (flex_over c.args.self.now) c.realloc_inplace_grow.new.self (kept_pool c.args.pool) c.args.len c.in_ok-grown.grown
+    → Grew g.row.FLLEN g.row.SLLEN c.args.wanted g.S.FlexSource.terms g.S.FlexSource.owes (flex_over c.args.self.now) c.realloc_inplace_grow.new.self (kept_pool c.args.pool)
+    c.args.len c.in_ok-grown.grown
 grew g c =
     let v = c.requires.stands in
     let (was, kept) = IsKeptPool-known v c.requires.kept in
@@ -71,7 +72,9 @@ read_footer-start-requires-clause-words g c =
 pub write_footer-requires : goal.write_footer-requires
 write_footer-requires g c =
     let now = with_len c.args.pool.range c.in_ok-grown.grown in
-    let (ends, footer) = Grew-footers c.requires.valid (grew g (goal.at.write_footer-requires g c).In_ok-grown) c.args.self.now.tlsf.memory c.requires.stands.machine.well_formed (SamePlace-refl c.args.self.now.tlsf.memory) now (inl refl) in
+    let (ends, footer) =
+    Grew-footers c.requires.valid (grew g (goal.at.write_footer-requires g c).In_ok-grown) c.args.self.now.tlsf.memory c.requires.stands.machine.well_formed
+    (SamePlace-refl c.args.self.now.tlsf.memory) now (inl refl) in
     (omega arith, (ends, (footer, c.requires.whole)))
 
 pub overflow_add-pool : goal.overflow_add-pool
@@ -87,15 +90,21 @@ overflow_sub-grown g c =
 
 -- the footer was moved, or there is none
 moved : (g : given.Over) (c : Joined-supports_dealloc g)
-    → (h : Grew g.row.FLLEN g.row.SLLEN c.args.wanted g.S.FlexSource.terms g.S.FlexSource.owes (flex_over c.args.self.now) c.realloc_inplace_grow.new.self (kept_pool c.args.pool) c.args.len c.in_ok-grown.grown)
+    → (h : Grew g.row.FLLEN g.row.SLLEN c.args.wanted g.S.FlexSource.terms g.S.FlexSource.owes (flex_over c.args.self.now) c.realloc_inplace_grow.new.self (kept_pool c.args.pool)
+    c.args.len c.in_ok-grown.grown)
     → IsInState g.row.FLLEN g.row.SLLEN c.if-supports_dealloc.tlsf c.args.self.now.tlsf.state
-    × IsFooted (g.S.FlexSource.terms c.args.self.now.source).dealloc c.args.self.now.tlsf.memory c.if-supports_dealloc.tlsf.memory (with_len c.args.pool.range c.in_ok-grown.grown) (first_start h.kept.rest) (first_len h.kept.rest)
+    × IsFooted (g.S.FlexSource.terms c.args.self.now.source).dealloc c.args.self.now.tlsf.memory c.if-supports_dealloc.tlsf.memory (with_len c.args.pool.range c.in_ok-grown.grown)
+    (first_start h.kept.rest) (first_len h.kept.rest)
 moved g c h =
     let t = g.S.FlexSource.terms c.args.self.now.source in
     let a = c.args.self.now.tlsf in
     let now = with_len c.args.pool.range c.in_ok-grown.grown in
-    let takes : c.supports_dealloc.result ≡ t.dealloc = subst (λ (e : Terms). c.supports_dealloc.result ≡ e.dealloc) (g.met.S.FlexSource.constant c.args.self.now.source c.realloc_inplace_grow.new.self (grow c.args.pool.range c.args.len c.realloc_inplace_grow.result) c.realloc_inplace_grow.ensures.leads) c.supports_dealloc.ensures in
-    let Done : Allocator → Type 0 = λ d. IsInState g.row.FLLEN g.row.SLLEN d a.state × IsFooted t.dealloc a.memory d.memory now (first_start h.kept.rest) (first_len h.kept.rest) in
+    let takes : c.supports_dealloc.result ≡ t.dealloc =
+    subst (λ (e : Terms). c.supports_dealloc.result ≡ e.dealloc)
+    (g.met.S.FlexSource.constant c.args.self.now.source c.realloc_inplace_grow.new.self (grow c.args.pool.range c.args.len c.realloc_inplace_grow.result)
+    c.realloc_inplace_grow.ensures.leads) c.supports_dealloc.ensures in
+    let Done : Allocator → Type 0 =
+    λ d. IsInState g.row.FLLEN g.row.SLLEN d a.state × IsFooted t.dealloc a.memory d.memory now (first_start h.kept.rest) (first_len h.kept.rest) in
     elim c.if-supports_dealloc.branch [
       | then-supports_dealloc w ↦
           let f = subst (Footers a.memory) h.kept.split (h.before.footers (sym takes ∙ w.if-supports_dealloc.true)) in
@@ -111,15 +120,20 @@ moved g c h =
 pub append_free_block_ptr-taken-requires : goal.append_free_block_ptr-taken-requires
 append_free_block_ptr-taken-requires g c =
     let h = grew g (goal.at.append_free_block_ptr-taken-requires g c).In_ok-grown in
-    let (stands, footed) = moved g (goal.at.append_free_block_ptr-taken-requires g c).Joined-supports_dealloc h in
-    (omega arith, of_state stands (λ x. IsNext (range_of c.if-supports_dealloc.tlsf.memory) x (behind (kept_pool c.args.pool) c.in_ok-grown.grown)) (Grew-next c.requires.valid h c.if-supports_dealloc.tlsf.memory footed.place))
+    let (stands, footed) = moved g (goal.at.append_free_block_ptr-taken-requires g c).Joined-supports_dealloc h in (
+      omega arith,
+      of_state stands (λ x. IsNext (range_of c.if-supports_dealloc.tlsf.memory) x (behind (kept_pool c.args.pool) c.in_ok-grown.grown))
+          (Grew-next c.requires.valid h c.if-supports_dealloc.tlsf.memory footed.place),
+    )
 
 pub overflow_add-kept : goal.overflow_add-kept
 overflow_add-kept g c =
     let h = grew g (goal.at.overflow_add-kept g c).In_ok-grown in
     let (stands, footed) = moved g (goal.at.overflow_add-kept g c).Joined-supports_dealloc h in
     let d = c.if-supports_dealloc.tlsf in
-    let (t, step, after, spare) = stepped stands c.append_free_block_ptr-taken.new.self (λ x. Appends g.row.FLLEN x (behind (kept_pool c.args.pool) c.in_ok-grown.grown) c.append_free_block_ptr-taken.result) c.append_free_block_ptr-taken.ensures.step in
+    let (t, step, after, spare) =
+    stepped stands c.append_free_block_ptr-taken.new.self
+    (λ x. Appends g.row.FLLEN x (behind (kept_pool c.args.pool) c.in_ok-grown.grown) c.append_free_block_ptr-taken.result) c.append_free_block_ptr-taken.ensures.step in
     let (pool, taken) = Grew-taken c.requires.valid h t c.append_free_block_ptr-taken.result step in
     let (ends, footer) = Grew-footers c.requires.valid h d.memory stands.stands.well_formed footed.place (with_len c.args.pool.range c.in_ok-grown.grown) (inl refl) in
     let longer = Grew-longer c.requires.valid h in
@@ -147,9 +161,12 @@ returns-in_err-grown g c =
           let v = c.requires.stands in
           let before = flex_over c.args.self.now in
           let (was, kept) = IsKeptPool-known v c.requires.kept in
-          let same = g.met.S.FlexSource.constant c.args.self.now.source c.realloc_inplace_grow.new.self (grow c.args.pool.range c.args.len c.realloc_inplace_grow.result) c.realloc_inplace_grow.ensures.leads in
+          let same =
+          g.met.S.FlexSource.constant c.args.self.now.source c.realloc_inplace_grow.new.self (grow c.args.pool.range c.args.len c.realloc_inplace_grow.result)
+          c.realloc_inplace_grow.ensures.leads in
           let y = c.realloc_inplace_grow.new.self in
-          let owed = subst (g.S.FlexSource.owes y) (sym kept.split) (c.in_err-grown.ensures.owes [] kept.rest (subst (g.S.FlexSource.owes c.args.self.now.source) kept.split v.owed)) in
+          let owed =
+          subst (g.S.FlexSource.owes y) (sym kept.split) (c.in_err-grown.ensures.owes [] kept.rest (subst (g.S.FlexSource.owes c.args.self.now.source) kept.split v.owed)) in
           AskedGrowth-asked (kept_pool c.args.pool) c.args.len grows c.in_err-grown.ensures.leads (Took-refused before y v same owed c.args.wanted);
       payloads = KeepsPayloads-refl c.args.self.now.tlsf;
       refused = record { same = refl };
@@ -162,14 +179,20 @@ returns g c = record {
       let h = grew g (goal.at.returns g c).In_ok-grown in
       let (stands, footed) = moved g (goal.at.returns g c).Joined-supports_dealloc h in
       let d = c.if-supports_dealloc.tlsf in
-      let same = g.met.S.FlexSource.constant c.args.self.now.source c.realloc_inplace_grow.new.self (grow c.args.pool.range c.args.len c.realloc_inplace_grow.result) c.realloc_inplace_grow.ensures.leads in
-      let (t, step, after, spare) = stepped stands c.append_free_block_ptr-taken.new.self (λ x. Appends g.row.FLLEN x (behind (kept_pool c.args.pool) c.in_ok-grown.grown) c.append_free_block_ptr-taken.result) c.append_free_block_ptr-taken.ensures.step in
+      let same =
+      g.met.S.FlexSource.constant c.args.self.now.source c.realloc_inplace_grow.new.self (grow c.args.pool.range c.args.len c.realloc_inplace_grow.result)
+      c.realloc_inplace_grow.ensures.leads in
+      let (t, step, after, spare) =
+      stepped stands c.append_free_block_ptr-taken.new.self
+      (λ x. Appends g.row.FLLEN x (behind (kept_pool c.args.pool) c.in_ok-grown.grown) c.append_free_block_ptr-taken.result) c.append_free_block_ptr-taken.ensures.step in
       AskedGrowth-asked (kept_pool c.args.pool) c.args.len grows c.in_ok-grown.ensures.leads
       (Took-named after.state (c.grow.ensures ∙ ap (longer c.in_ok-grown.grown) h.kept.split)
-      (Grew-took c.requires.valid h d c.append_free_block_ptr-taken.new.self t c.append_free_block_ptr-taken.result same stands footed step after spare c.append_free_block_ptr-taken.ensures.place));
+      (Grew-took c.requires.valid h d c.append_free_block_ptr-taken.new.self t c.append_free_block_ptr-taken.result same stands footed step after spare
+      c.append_free_block_ptr-taken.ensures.place));
   payloads =
       let did = c.append_free_block_ptr-taken.ensures in
-      let taken : KeepsPayloads g.row.SLLEN c.if-supports_dealloc.tlsf c.append_free_block_ptr-taken.new.self = record { aligns = did.aligns; bytes = did.bytes; count = did.count; bounds = did.bounds; place = did.place; grow = did.grow; copied = did.copied } in
+      let taken : KeepsPayloads g.row.SLLEN c.if-supports_dealloc.tlsf c.append_free_block_ptr-taken.new.self =
+      record { aligns = did.aligns; bytes = did.bytes; count = did.count; bounds = did.bounds; place = did.place; grow = did.grow; copied = did.copied } in
       elim c.if-supports_dealloc.branch [
         | then-supports_dealloc w ↦
             let wrote = w.write_footer.ensures in

@@ -37,21 +37,27 @@ alloc-requires g c =
     (omega (arith, is.0, room), is.1)
 
 -- the range that came
-came : (g : given.Over) (c : In_ok-range g) → Came g.row.FLLEN g.row.SLLEN c.args.wanted g.S.FlexSource.terms g.S.FlexSource.owes (flex_over c.args.self.now) c.alloc.new.self c.in_ok-len.len c.in_ok-range.range
+came : (g : given.Over) (c : In_ok-range g)
+    → Came g.row.FLLEN g.row.SLLEN c.args.wanted g.S.FlexSource.terms g.S.FlexSource.owes (flex_over c.args.self.now) c.alloc.new.self c.in_ok-len.len c.in_ok-range.range
 came g c =
     let (is_given, owed) = c.in_ok-range.ensures.owes c.args.self.now.owed.ranges c.requires.stands.owed in
     record { before = c.requires.stands; whole = c.requires.whole; size = c.requires.wanted; told = sym c.in_ok-len.ensures; is_given = is_given; owed = owed }
 
 pub insert_free_block_ptr-requires : goal.insert_free_block_ptr-requires
 insert_free_block_ptr-requires g c =
-    let is_came = came g (goal.at.insert_free_block_ptr-requires g c).In_ok-range in
-    (omega arith, parts_of-IsFresh (range_of c.args.self.now.tlsf.memory) c.args.self.now.tlsf.state c.in_ok-range.range (given_fresh is_came.before.well_formed c.in_ok-len.len c.in_ok-range.range is_came.is_given))
+    let is_came = came g (goal.at.insert_free_block_ptr-requires g c).In_ok-range in (
+      omega arith,
+      parts_of-IsFresh (range_of c.args.self.now.tlsf.memory) c.args.self.now.tlsf.state c.in_ok-range.range
+          (given_fresh is_came.before.well_formed c.in_ok-len.len c.in_ok-range.range is_came.is_given),
+    )
 
 -- the range was taken
 taken : (g : given.Over) (c : After-insert_free_block_ptr g)
-    → Inserts g.row.FLLEN c.args.self.now.tlsf.state c.in_ok-range.range (reply c.insert_free_block_ptr.result) c.insert_free_block_ptr.new.self.state × IsInState g.row.FLLEN g.row.SLLEN c.insert_free_block_ptr.new.self c.insert_free_block_ptr.new.self.state
+    → Inserts g.row.FLLEN c.args.self.now.tlsf.state c.in_ok-range.range (reply c.insert_free_block_ptr.result) c.insert_free_block_ptr.new.self.state
+    × IsInState g.row.FLLEN g.row.SLLEN c.insert_free_block_ptr.new.self c.insert_free_block_ptr.new.self.state
     × KeepsSpare c.args.self.now.tlsf.memory c.args.self.now.tlsf.state c.insert_free_block_ptr.new.self.memory c.insert_free_block_ptr.new.self.state
-taken g c = let (step, stands, spare) = opened _ _ _ c.insert_free_block_ptr.ensures.step in (step, record { state = refl; stands = stands; whole = opened_whole _ _ _ _ _ c.insert_free_block_ptr.ensures.step }, spare)
+taken g c = let (step, stands, spare) = opened _ _ _ c.insert_free_block_ptr.ensures.step in
+    (step, record { state = refl; stands = stands; whole = opened_whole _ _ _ _ _ c.insert_free_block_ptr.ensures.step }, spare)
 
 pub write_footer_if-requires : goal.write_footer_if-requires
 write_footer_if-requires g c =
@@ -62,7 +68,8 @@ write_footer_if-requires g c =
     (omega arith, (ends, (footer, (place.3 c.requires.whole, stood_at stands.stands stands.whole))))
 
 -- how many bytes were taken
-taken_is : (o : Option NonZeroUsize) (taken n : ℕ) → MatchOption o (taken ≡ 0) (λ x. (taken ≡ non_zero_usize_get x) × (1 ≤ taken)) → option_map non_zero_usize_get o ≡ Some n → taken ≡ n
+taken_is : (o : Option NonZeroUsize) (taken n : ℕ) → MatchOption o (taken ≡ 0) (λ x. (taken ≡ non_zero_usize_get x) × (1 ≤ taken))
+    → option_map non_zero_usize_get o ≡ Some n → taken ≡ n
 taken_is None taken n counted is = absurd (cc)
 taken_is (Some x) taken n counted is = cc
 
@@ -102,14 +109,16 @@ returns g c = record {
       let (start, len) = c.words_of-start.ensures in
       let footed = IsFooted-named (c.supports_dealloc-takes_back.ensures ∙ ap (λ (e : Terms). e.dealloc) same) start len wrote.footer in
       AskedRange-asked (sym c.in_ok-len.ensures) c.in_ok-range.ensures.leads (Took-named wrote.state c.give.ensures
-      (Came-took c.requires.valid is_came b d b.state _ c.args.self.now.kept (kept_of c.then_some-self.result) same refl step stands spare c.insert_free_block_ptr.ensures.place (stays_in stands d wrote.state wrote.stands) footed
+      (Came-took c.requires.valid is_came b d b.state _ c.args.self.now.kept (kept_of c.then_some-self.result) same refl step stands spare c.insert_free_block_ptr.ensures.place
+      (stays_in stands d wrote.state wrote.stands) footed
       (λ n is. ap kept_of c.then_some-self.ensures ∙ kept_of-then_some c.keeps_pool.result (record { range = r; len = c.map_or-taken.result })
       ∙ ap (λ k. then_some k (kept_pool (record { range = r; len = c.map_or-taken.result }))) (c.keeps_pool.ensures ∙ ap keeps same)
       ∙ ap (λ m. then_some (keeps t) (record { range = r; len = m })) (taken_is c.insert_free_block_ptr.result c.map_or-taken.result n c.map_or-taken.ensures is))));
   payloads =
       let did = c.insert_free_block_ptr.ensures in
       let wrote = c.write_footer_if.ensures in
-      let taken : KeepsPayloads g.row.SLLEN c.args.self.now.tlsf c.insert_free_block_ptr.new.self = record { aligns = did.aligns; bytes = did.bytes; count = did.count; bounds = did.bounds; place = did.place; grow = did.grow; copied = did.copied } in
+      let taken : KeepsPayloads g.row.SLLEN c.args.self.now.tlsf c.insert_free_block_ptr.new.self =
+      record { aligns = did.aligns; bytes = did.bytes; count = did.count; bounds = did.bounds; place = did.place; grow = did.grow; copied = did.copied } in
       KeepsPayloads-trans _ _ _ taken (KeepsPayloads-same c.insert_free_block_ptr.new.self c.write_footer_if.new.tlsf wrote.state wrote.footer.place wrote.grow wrote.copied);
   refused = tt;
 }

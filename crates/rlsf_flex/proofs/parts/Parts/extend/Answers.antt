@@ -16,7 +16,8 @@ returns-in_default g c = record {
 pub returns-in_default-checked_add : goal.returns-in_default-checked_add
 returns-in_default-checked_add g c = record {
   step =
-      extended_past (ap kept_of c.in-Some.is) (sum_past c.checked_add.result (c.in-Some.pool.len + c.args.wanted) c.checked_add.ensures c.in_default-checked_add.is) c.requires.stands;
+      extended_past (ap kept_of c.in-Some.is) (sum_past c.checked_add.result (c.in-Some.pool.len + c.args.wanted) c.checked_add.ensures c.in_default-checked_add.is)
+      c.requires.stands;
   payloads = KeepsPayloads-refl c.args.self.now.tlsf;
   refused = λ none. record { same = refl };
 }
@@ -46,12 +47,14 @@ returns-then-is_contiguous g c = record {
 pub returns : goal.returns
 returns g c = record {
   step =
-      let many_ranges : (g.S.FlexSource.terms c.ask_growth.new.self.source).contiguous ≡ false = sym c.is_contiguous_growable-is_contiguous.ensures ∙ c.if-is_contiguous.false in
+      let many_ranges : (g.S.FlexSource.terms c.ask_growth.new.self.source).contiguous ≡ false =
+      sym c.is_contiguous_growable-is_contiguous.ensures ∙ c.if-is_contiguous.false in
       let fits = sum_fits c.checked_add.result (c.in-Some.pool.len + c.args.wanted) c.in-Some-checked_add.len c.checked_add.ensures c.in-Some-checked_add.is in
       let kept = ap kept_of c.in-Some.is in
       let h = c.ask_growth.ensures.step in
       let same = terms_stay kept fits.0 h g.met.S.FlexSource.constant in
-      extended_second kept fits.0 h (sym c.is_some-2.ensures ∙ c.if-is_some.false) (sym (ap (λ t. t.contiguous) same) ∙ many_ranges) same c.is_some-3.ensures c.ask_range-2.ensures.step;
+      extended_second kept fits.0 h (sym c.is_some-2.ensures ∙ c.if-is_some.false) (sym (ap (λ t. t.contiguous) same) ∙ many_ranges) same c.is_some-3.ensures
+      c.ask_range-2.ensures.step;
   payloads = KeepsPayloads-trans _ _ _ c.ask_growth.ensures.payloads c.ask_range-2.ensures.payloads;
   refused = λ none.
       let first = if_none c.ask_growth.result c.ask_growth.ensures.refused (sym c.is_some-2.ensures ∙ c.if-is_some.false) in

@@ -40,7 +40,8 @@ loop-count-preserved g c =
     let one = step.gone refl in
     record {
       gone = GaveBack-next g.S.FlexSource.leads begin meanwhile now c.loop-count.count h.gone one;
-      supported = ap (λ (t : Terms). t.dealloc) (g.met.S.FlexSource.constant c.loop-count.self.source c.give_newest_back.new.self.source (dealloc one.newest) one.led) ∙ h.supported;
+      supported =
+          ap (λ (t : Terms). t.dealloc) (g.met.S.FlexSource.constant c.loop-count.self.source c.give_newest_back.new.self.source (dealloc one.newest) one.led) ∙ h.supported;
       whole = one.place.3 h.whole;
       same = λ none. absurd (omega (arith, none));
       live = step.live ∙ h.live;
@@ -55,9 +56,11 @@ pub returns : goal.returns
 returns g c = record {
   gone =
       let begin = flex_over c.args.self.now in
-      subst (λ (now : FlexContents g.row.S.Denot). GaveBack g.row.FLLEN g.row.SLLEN g.S.FlexSource.terms g.S.FlexSource.owes g.S.FlexSource.leads begin now c.loop-count.count) (sym (ap flex_over (c.loop-count-test.ensures.same refl))) c.loop-count.invariant.gone;
+      subst (λ (now : FlexContents g.row.S.Denot). GaveBack g.row.FLLEN g.row.SLLEN g.S.FlexSource.terms g.S.FlexSource.owes g.S.FlexSource.leads begin now c.loop-count.count)
+      (sym (ap flex_over (c.loop-count-test.ensures.same refl))) c.loop-count.invariant.gone;
   held =
-      subst (λ (now : FlexContents g.row.S.Denot). IsNewestHeld now.state.machine now.state.pools) (sym (ap flex_over (c.loop-count-test.ensures.same refl))) (c.loop-count-test.ensures.held refl);
+      subst (λ (now : FlexContents g.row.S.Denot). IsNewestHeld now.state.machine now.state.pools) (sym (ap flex_over (c.loop-count-test.ensures.same refl)))
+      (c.loop-count-test.ensures.held refl);
   same = λ none. c.loop-count-test.ensures.same refl ∙ c.loop-count.invariant.same none;
   live = c.loop-count-test.ensures.live ∙ c.loop-count.invariant.live;
   aligns = c.loop-count-test.ensures.aligns ∙ c.loop-count.invariant.aligns;

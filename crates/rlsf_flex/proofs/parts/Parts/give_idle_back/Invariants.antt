@@ -1,4 +1,4 @@
--- So many of the newest ranges went back, and nothing else changed.
+-- So many of the newest ranges were returned, and nothing else changed.
 use Rattle.std.proofs.Common.{◌≡◌, ◌≤◌, ◌+◌, ◌*◌, true, [], length}
 use Rattle.rlsf_machine.specs.Callers.{align_at, bytes_at}
 use Rattle.rlsf_machine.specs.Sized.{live_count}

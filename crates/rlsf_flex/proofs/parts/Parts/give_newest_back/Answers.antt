@@ -36,7 +36,9 @@ before_is : (g : given.Over) (c : After-drop_newest g) → c.range_before-before
 before_is g c =
     let v = c.requires.stands in
     let rest = others v c.in-Some.is in
-    c.range_before-before.ensures rest (subst (λ m. Footers m (c.in-Some.pool.range ∷ rest)) (sym c.memory_ref.ensures.memory) (newest_footers v c.in-Some.is c.requires.supported)) (others_start v c.in-Some.is)
+    c.range_before-before.ensures rest
+    (subst (λ m. Footers m (c.in-Some.pool.range ∷ rest)) (sym c.memory_ref.ensures.memory) (newest_footers v c.in-Some.is c.requires.supported))
+    (others_start v c.in-Some.is)
 
 pub pool_of-next-requires : goal.pool_of-next-requires
 pool_of-next-requires g c =
@@ -46,7 +48,8 @@ pool_of-next-requires g c =
       omega arith,
       (
         stood_at stands (opened_whole _ _ _ _ _ c.remove_pool.ensures.step),
-        subst (λ o. IfSome o (λ r. HasRoomForChunk r × ((len : ℕ) × IsPool b.state r len))) (sym (before_is g (goal.at.pool_of-next-requires g c).After-drop_newest)) (next_pool c.requires.stands c.in-Some.is idle b step),
+        subst (λ o. IfSome o (λ r. HasRoomForChunk r × ((len : ℕ) × IsPool b.state r len))) (sym (before_is g (goal.at.pool_of-next-requires g c).After-drop_newest))
+            (next_pool c.requires.stands c.in-Some.is idle b step),
       ),
     )
 
@@ -57,11 +60,16 @@ returns g c =
     let is = c.in-Some.is in
     let (step, stands, spare) = opened _ _ _ c.remove_pool.ensures.step in
     let b = c.remove_pool.new.self in
-    let told = subst (λ o. MatchOption o (c.pool_of-next.result ≡ None) (λ r. (len : ℕ) → IsPool b.state r len → c.pool_of-next.result ≡ Some (record { range = r; len = len }))) (before_is g (goal.at.returns g c).After-drop_newest) c.pool_of-next.ensures in
+    let told =
+    subst (λ o. MatchOption o (c.pool_of-next.result ≡ None)
+    (λ r. (len : ℕ) → IsPool b.state r len → c.pool_of-next.result ≡ Some (record { range = r; len = len }))) (before_is g (goal.at.returns g c).After-drop_newest)
+    c.pool_of-next.ensures in
     record {
       gone = λ went.
-          gave_newest v is (c.is_idle.ensures.0 c.if-not-is_idle.false) b step stands spare c.remove_pool.ensures.place c.requires.whole c.requires.supported c.pool_of-next.result told g.S.FlexSource.leads c.dealloc.new.self c.drop_newest.new.self.ranges
-          c.dealloc.ensures.leads (g.met.S.FlexSource.constant _ _ _ c.dealloc.ensures.leads) (c.dealloc.ensures.owes [] (others v is) (subst (g.S.FlexSource.owes c.args.self.now.source) (newest_first v is) v.owed)) c.drop_newest.ensures;
+          gave_newest v is (c.is_idle.ensures.0 c.if-not-is_idle.false) b step stands spare c.remove_pool.ensures.place c.requires.whole c.requires.supported c.pool_of-next.result
+          told g.S.FlexSource.leads c.dealloc.new.self c.drop_newest.new.self.ranges
+          c.dealloc.ensures.leads (g.met.S.FlexSource.constant _ _ _ c.dealloc.ensures.leads)
+          (c.dealloc.ensures.owes [] (others v is) (subst (g.S.FlexSource.owes c.args.self.now.source) (newest_first v is) v.owed)) c.drop_newest.ensures;
       held = λ stayed. absurd (true≢false stayed);
       same = λ stayed. absurd (true≢false stayed);
       live = removed.count;

@@ -20,7 +20,9 @@ returns-then-is_err g c = record {
 }
 
 pub invariant_of-self-in_default : goal.invariant_of-self-in_default
-invariant_of-self-in_default g c = rw c.try_reserve.ensures.items (stays_locked c.self.inside.flex c.self.inside.rows.items c.self.invariant c.allocate.new.self c.args.layout c.in_default.ensures.step c.in_default.ensures.same)
+invariant_of-self-in_default g c =
+    rw c.try_reserve.ensures.items
+    (stays_locked c.self.inside.flex c.self.inside.rows.items c.self.invariant c.allocate.new.self c.args.layout c.in_default.ensures.step c.in_default.ensures.same)
 
 pub place-requires-clause-fresh : goal.place-requires-clause-fresh
 place-requires-clause-fresh g c = rw c.try_reserve.ensures.items (no_row c.self.inside.flex c.self.inside.rows.items c.self.invariant _ c.in-Some.ensures.new)
@@ -33,14 +35,18 @@ invariant_of-self-2 g c =
 
 pub returns-in_default : goal.returns-in_default
 returns-in_default g c = record {
-  step = rw (← c.self.view_is, c.try_reserve.ensures.items) (not_allocated c.self.inside.flex c.self.inside.rows.items c.self.invariant c.allocate.new.self c.args.layout c.in_default.ensures.step c.in_default.ensures.same);
+  step =
+      rw (← c.self.view_is, c.try_reserve.ensures.items)
+      (not_allocated c.self.inside.flex c.self.inside.rows.items c.self.invariant c.allocate.new.self c.args.layout c.in_default.ensures.step c.in_default.ensures.same);
   refused = search rules;
   live = tt;
   sized = tt;
   new = tt;
   layouts = tt;
   contents = tt;
-  same = rw (← c.self.view_is, c.try_reserve.ensures.items) (heap_stays c.self.inside.flex c.self.inside.rows.items c.self.invariant c.allocate.new.self c.args.layout c.in_default.ensures.step c.in_default.ensures.same);
+  same =
+      rw (← c.self.view_is, c.try_reserve.ensures.items)
+      (heap_stays c.self.inside.flex c.self.inside.rows.items c.self.invariant c.allocate.new.self c.args.layout c.in_default.ensures.step c.in_default.ensures.same);
   touches = rw (← c.self.view_is) c.in_default.ensures.touches;
   grow = rw (← c.self.view_is) c.in_default.ensures.grow;
 }
@@ -49,7 +55,8 @@ pub returns : goal.returns
 returns g c = record {
   step =
       let rows = rw c.try_reserve.ensures.items at c.place.ensures in
-      rw (← c.self.view_is) (allocated c.self.inside.flex c.self.inside.rows.items c.self.invariant c.allocate.new.self c.args.layout c.in-Some.addr c.in-Some.ensures.step _ rows);
+      rw (← c.self.view_is) (allocated c.self.inside.flex c.self.inside.rows.items c.self.invariant c.allocate.new.self c.args.layout c.in-Some.addr c.in-Some.ensures.step _
+      rows);
   refused = tt;
   live =
       let rows = rw c.try_reserve.ensures.items at c.place.ensures in
@@ -58,7 +65,8 @@ returns g c = record {
       layout_at-put_here before after (c.in-Some.addr, c.args.layout) c.self.inside.rows.items rows;
   sized = subst (λ l. c.args.layout.size ≤ length l) (sym (content_at-is (heap_of c.allocate.new.self c.place.new.rows.items) (at c.in-Some.addr))) c.in-Some.ensures.sized;
   new = rw (← c.self.view_is)
-      (layout_at-none (heap_of c.self.inside.flex c.self.inside.rows.items) (at c.in-Some.addr) (no_row c.self.inside.flex c.self.inside.rows.items c.self.invariant (at c.in-Some.addr) c.in-Some.ensures.new));
+      (layout_at-none (heap_of c.self.inside.flex c.self.inside.rows.items) (at c.in-Some.addr)
+      (no_row c.self.inside.flex c.self.inside.rows.items c.self.invariant (at c.in-Some.addr) c.in-Some.ensures.new));
   layouts = rw (← c.self.view_is) (
       let rows = rw c.try_reserve.ensures.items at c.place.ensures in
       let before = heap_of c.self.inside.flex c.self.inside.rows.items in

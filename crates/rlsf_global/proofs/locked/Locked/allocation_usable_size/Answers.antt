@@ -8,7 +8,8 @@ use Rattle.rlsf_global.proofs.Placements.{live_here}
 use Rattle.rlsf_global.proofs.locked.Locked.allocation_usable_size.Goals as goal
 
 pub allocation_usable_size-requires : goal.allocation_usable_size-requires
-allocation_usable_size-requires g c = (lit< tt, live_here c.self.inside.flex c.self.inside.rows.items c.self.invariant (at c.args.addr) _ (rw c.deref.ensures.value at c.in-Ok.ensures.found))
+allocation_usable_size-requires g c =
+    (lit< tt, live_here c.self.inside.flex c.self.inside.rows.items c.self.invariant (at c.args.addr) _ (rw c.deref.ensures.value at c.in-Ok.ensures.found))
 
 pub returns-in_default : goal.returns-in_default
 returns-in_default g c = record {
@@ -19,7 +20,11 @@ returns-in_default g c = record {
 
 pub returns : goal.returns
 returns g c = record {
-  step = rw (← c.self.view_is) (usable_in (heap_of c.self.inside.flex c.self.inside.rows.items) (at c.args.addr) _ c.allocation_usable_size.result (rw c.deref.ensures.value at c.in-Ok.ensures.found) c.allocation_usable_size.ensures);
-  unknown = rw (← c.self.view_is) (known c.self.inside.flex c.self.inside.rows.items (at c.args.addr) _ (rw c.deref.ensures.value at c.in-Ok.ensures.found) (Ok c.allocation_usable_size.result) refl);
+  step =
+      rw (← c.self.view_is) (usable_in (heap_of c.self.inside.flex c.self.inside.rows.items) (at c.args.addr) _ c.allocation_usable_size.result
+      (rw c.deref.ensures.value at c.in-Ok.ensures.found) c.allocation_usable_size.ensures);
+  unknown =
+      rw (← c.self.view_is) (known c.self.inside.flex c.self.inside.rows.items (at c.args.addr) _ (rw c.deref.ensures.value at c.in-Ok.ensures.found)
+      (Ok c.allocation_usable_size.result) refl);
   len = rw (← c.self.view_is) (c.allocation_usable_size.ensures ∙ ap length (sym (content_at-is (heap_of c.self.inside.flex c.self.inside.rows.items) (at c.args.addr))));
 }

@@ -12,7 +12,7 @@ use Rattle.rlsf_placement.specs.Rows.{without_row}
 use Rattle.rlsf_global.proofs.locked.Locked.dealloc.Given as given
 use Rattle.rlsf_global.proofs.locked.Locked.dealloc.Goals as goal
 
--- the row of the address is gone
+-- the entry of the address is gone
 taken_out : (g : given.Over) (c : goal.After-deallocate g) → c.remove-row.new.self.items ≡ without_row (at c.args.addr) c.self.inside.rows.items
 taken_out g c =
     let found = rw c.deref.ensures.value at c.in-Ok.ensures.found in
@@ -51,9 +51,11 @@ returns-then-ne g c = record {
       let h = heap_of c.self.inside.flex c.self.inside.rows.items in
       let found = rw c.deref.ensures.value at c.in-Ok.ensures.found in
       let row = found.row c.index.result.now ∙ ap Some (sym c.index.ensures) in
-      subst (λ o. DeallocatesAsAt h (at c.args.addr) c.args.layout o (Err WrongLayout) h) (sym row) (deallocates_out h (at c.args.addr) c.args.layout c.index.result.now (not-true _ c.if-ne.ensures)));
+      subst (λ o. DeallocatesAsAt h (at c.args.addr) c.args.layout o (Err WrongLayout) h) (sym row)
+      (deallocates_out h (at c.args.addr) c.args.layout c.index.result.now (not-true _ c.if-ne.ensures)));
   refused = refl;
-  unknown = rw (← c.self.view_is) (known c.self.inside.flex c.self.inside.rows.items (at c.args.addr) _ (rw c.deref.ensures.value at c.in-Ok.ensures.found) (Err WrongLayout) refl);
+  unknown =
+      rw (← c.self.view_is) (known c.self.inside.flex c.self.inside.rows.items (at c.args.addr) _ (rw c.deref.ensures.value at c.in-Ok.ensures.found) (Err WrongLayout) refl);
   gone = tt;
   layouts = tt;
   contents = tt;
@@ -69,9 +71,11 @@ returns g c = record {
       let after = heap_of c.deallocate.new.self c.remove-row.new.self.items in
       let found = rw c.deref.ensures.value at c.in-Ok.ensures.found in
       let row = found.row c.index.result.now ∙ ap Some (sym c.index.ensures) in
-      let gone = released c.self.inside.flex c.self.inside.rows.items c.self.invariant c.deallocate.new.self (at c.args.addr) c.deallocate.ensures.step c.deallocate.ensures.source _
+      let gone =
+      released c.self.inside.flex c.self.inside.rows.items c.self.invariant c.deallocate.new.self (at c.args.addr) c.deallocate.ensures.step c.deallocate.ensures.source _
       (taken_out g c) in
-      subst (λ o. DeallocatesAsAt h (at c.args.addr) c.args.layout o (Ok tt) after) (sym row) (deallocates_in h (at c.args.addr) c.args.layout c.index.result.now after (not-false _ c.if-ne.ensures) gone));
+      subst (λ o. DeallocatesAsAt h (at c.args.addr) c.args.layout o (Ok tt) after) (sym row)
+      (deallocates_in h (at c.args.addr) c.args.layout c.index.result.now after (not-false _ c.if-ne.ensures) gone));
   refused = tt;
   unknown = rw (← c.self.view_is) (known c.self.inside.flex c.self.inside.rows.items (at c.args.addr) _ (rw c.deref.ensures.value at c.in-Ok.ensures.found) (Ok tt) refl);
   gone =

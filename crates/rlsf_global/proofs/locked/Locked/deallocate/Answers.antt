@@ -10,7 +10,7 @@ use Rattle.rlsf_placement.specs.Rows.{without_row}
 use Rattle.rlsf_global.proofs.locked.Locked.deallocate.Given as given
 use Rattle.rlsf_global.proofs.locked.Locked.deallocate.Goals as goal
 
--- the row of the address is gone
+-- the entry of the address is gone
 taken_out : (g : given.Over) (c : goal.After-deallocate g) → c.remove-gone.new.self.items ≡ without_row (at c.args.addr) c.self.inside.rows.items
 taken_out g c =
     let found = rw c.deref.ensures.value at c.in-Ok.ensures.found in
@@ -48,9 +48,11 @@ returns g c = record {
   step = rw (← c.self.view_is) (
       let found = rw c.deref.ensures.value at c.in-Ok.ensures.found in
       let (row, there) = some_row c.self.inside.rows.items (at c.args.addr) _ found in
-      let gone = released c.self.inside.flex c.self.inside.rows.items c.self.invariant c.deallocate.new.self (at c.args.addr) c.deallocate.ensures.step c.deallocate.ensures.source _
+      let gone =
+      released c.self.inside.flex c.self.inside.rows.items c.self.invariant c.deallocate.new.self (at c.args.addr) c.deallocate.ensures.step c.deallocate.ensures.source _
       (taken_out g c) in
-      subst (λ o. DeallocatesAt (heap_of c.self.inside.flex c.self.inside.rows.items) (at c.args.addr) o (Ok tt) (heap_of c.deallocate.new.self c.remove-gone.new.self.items)) (sym there) (refl, gone));
+      subst (λ o. DeallocatesAt (heap_of c.self.inside.flex c.self.inside.rows.items) (at c.args.addr) o (Ok tt) (heap_of c.deallocate.new.self c.remove-gone.new.self.items))
+      (sym there) (refl, gone));
   refused = tt;
   unknown = rw (← c.self.view_is) (known c.self.inside.flex c.self.inside.rows.items (at c.args.addr) _ (rw c.deref.ensures.value at c.in-Ok.ensures.found) (Ok tt) refl);
   gone =

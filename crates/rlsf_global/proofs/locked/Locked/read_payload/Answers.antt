@@ -9,7 +9,8 @@ use Rattle.rlsf_placement.specs.declared.error.GlobalError.TheVariants.{OutOfRan
 use Rattle.rlsf_global.proofs.locked.Locked.read_payload.Goals as goal
 
 pub payload-payload-requires : goal.payload-payload-requires
-payload-payload-requires g c = (lit< tt, live_here c.self.inside.flex c.self.inside.rows.items c.self.invariant (at c.args.addr) _ (rw c.deref.ensures.value at c.in-Ok.ensures.found))
+payload-payload-requires g c =
+    (lit< tt, live_here c.self.inside.flex c.self.inside.rows.items c.self.invariant (at c.args.addr) _ (rw c.deref.ensures.value at c.in-Ok.ensures.found))
 
 pub returns-in_default : goal.returns-in_default
 returns-in_default g c = record {
@@ -24,8 +25,10 @@ returns-then-not-fits g c = record {
   step = rw (← c.self.view_is) (
       let h = heap_of c.self.inside.flex c.self.inside.rows.items in
       let lent = c.args.bytes.now in
-      reads_out h (at c.args.addr) c.args.offset _ (rw c.deref.ensures.value at c.in-Ok.ensures.found) lent (c.if-not-fits.ensures ∙ ap (λ l. nat_le (c.args.offset + length lent) (length l)) c.payload-payload.ensures));
-  unknown = rw (← c.self.view_is) (known c.self.inside.flex c.self.inside.rows.items (at c.args.addr) _ (rw c.deref.ensures.value at c.in-Ok.ensures.found) (Err OutOfRange) refl);
+      reads_out h (at c.args.addr) c.args.offset _ (rw c.deref.ensures.value at c.in-Ok.ensures.found) lent
+      (c.if-not-fits.ensures ∙ ap (λ l. nat_le (c.args.offset + length lent) (length l)) c.payload-payload.ensures));
+  unknown =
+      rw (← c.self.view_is) (known c.self.inside.flex c.self.inside.rows.items (at c.args.addr) _ (rw c.deref.ensures.value at c.in-Ok.ensures.found) (Err OutOfRange) refl);
   told = tt;
   refused = refl;
 }
@@ -38,7 +41,8 @@ returns g c = record {
       let offset = c.args.offset in
       let same = c.payload-payload.ensures in
       let n : offset + length lent - offset ≡ length lent = omega arith in
-      reads_in h (at c.args.addr) offset _ (rw c.deref.ensures.value at c.in-Ok.ensures.found) lent c.copy_from_slice.new.self (c.if-not-fits.ensures ∙ ap (λ l. nat_le (offset + length lent) (length l)) same)
+      reads_in h (at c.args.addr) offset _ (rw c.deref.ensures.value at c.in-Ok.ensures.found) lent c.copy_from_slice.new.self
+      (c.if-not-fits.ensures ∙ ap (λ l. nat_le (offset + length lent) (length l)) same)
       (c.copy_from_slice.ensures.after ∙ ap (λ k. take k (drop offset c.payload-payload.result.now)) n ∙ ap (λ l. take (length lent) (drop offset l)) same));
   unknown = rw (← c.self.view_is) (known c.self.inside.flex c.self.inside.rows.items (at c.args.addr) _ (rw c.deref.ensures.value at c.in-Ok.ensures.found) (Ok tt) refl);
   told = rw (← c.self.view_is) (

@@ -18,8 +18,9 @@ use Rattle.rlsf_placement.specs.Rows.{put, without_row}
 use Rattle.rlsf_global.proofs.locked.Locked.realloc.Given as given
 use Rattle.rlsf_global.proofs.locked.Locked.realloc.Goals as goal
 
--- the row of the address is that of the payload with the wanted layout now
-replaced : (g : given.Over) (c : goal.After-move_row g) → c.move_row.new.rows.items ≡ put (c.in-Some.moved, c.from_size_align_unchecked-wanted.result) (without_row (at c.args.addr) c.self.inside.rows.items)
+-- the entry of the address is now that of the payload with the wanted layout
+replaced : (g : given.Over) (c : goal.After-move_row g)
+    → c.move_row.new.rows.items ≡ put (c.in-Some.moved, c.from_size_align_unchecked-wanted.result) (without_row (at c.args.addr) c.self.inside.rows.items)
 replaced g c = c.move_row.ensures
 
 pub resize-requires : goal.resize-requires
@@ -27,8 +28,12 @@ resize-requires g c =
     let found = rw c.deref.ensures.value at c.in-Ok.ensures.found in
     let row = found.row c.index.result.now ∙ ap Some (sym c.index.ensures) in
     let same = not-false _ c.if-ne.ensures in
-    let live = live_row c.self.inside.flex c.self.inside.rows.items c.self.invariant (at c.args.addr) c.index.result.now row ∙ ap Some (same_align c.index.result.now.1 c.args.layout same) in
-    let sized = subst (λ n. n ≤ length (bytes_at c.self.inside.flex.state.machine (at c.args.addr))) (same_size c.index.result.now.1 c.args.layout same) (row_sized c.self.inside.flex c.self.inside.rows.items c.self.invariant (at c.args.addr) c.index.result.now row) in
+    let live =
+    live_row c.self.inside.flex c.self.inside.rows.items c.self.invariant (at c.args.addr) c.index.result.now row
+    ∙ ap Some (same_align c.index.result.now.1 c.args.layout same) in
+    let sized =
+    subst (λ n. n ≤ length (bytes_at c.self.inside.flex.state.machine (at c.args.addr))) (same_size c.index.result.now.1 c.args.layout same)
+    (row_sized c.self.inside.flex c.self.inside.rows.items c.self.invariant (at c.args.addr) c.index.result.now row) in
     (lit< tt, (live, (sized, (c.from_size_align_unchecked-wanted.ensures.1 ∙ c.align.ensures.value, c.self.invariant.flex))))
 
 pub move_row-requires-clause-sorted : goal.move_row-requires-clause-sorted
@@ -39,12 +44,14 @@ move_row-requires-clause-found g c = rw c.deref.ensures.value at c.in-Ok.ensures
 
 pub move_row-requires-clause-fresh : goal.move_row-requires-clause-fresh
 move_row-requires-clause-fresh g c =
-    moved_row c.self.inside.flex c.self.inside.rows.items c.self.invariant c.resize.new.flex (at c.args.addr) c.from_size_align_unchecked-wanted.result c.in-Some.moved c.in-Some.ensures.moved
+    moved_row c.self.inside.flex c.self.inside.rows.items c.self.invariant c.resize.new.flex (at c.args.addr) c.from_size_align_unchecked-wanted.result c.in-Some.moved
+    c.in-Some.ensures.moved
 
 pub invariant_of-self-2 : goal.invariant_of-self-2
 invariant_of-self-2 g c =
     let rows = replaced g c in
-    moved_locked c.self.inside.flex c.self.inside.rows.items c.self.invariant c.resize.new.flex (at c.args.addr) c.from_size_align_unchecked-wanted.result c.in-Some.moved c.in-Some.ensures.moved _ rows
+    moved_locked c.self.inside.flex c.self.inside.rows.items c.self.invariant c.resize.new.flex (at c.args.addr) c.from_size_align_unchecked-wanted.result c.in-Some.moved
+    c.in-Some.ensures.moved _ rows
 
 pub returns-clause-step : goal.returns-clause-step
 returns-clause-step g c = rw (← c.self.view_is) (
@@ -55,16 +62,23 @@ returns-clause-step g c = rw (← c.self.view_is) (
     let rows = replaced g c in
     let wanted = c.from_size_align_unchecked-wanted in
     let enabled = g.Options.GlobalTlsfOptions.ENABLE_REALLOCATION in
-    let step = subst (λ l. ReallocatesTo enabled h (at c.args.addr) c.args.layout wanted.result (Ok c.in-Some.moved) (heap_of c.resize.new.flex l)) (sym rows) (c.in-Some.ensures.step c.self.inside.rows.items) in
+    let step =
+    subst (λ l. ReallocatesTo enabled h (at c.args.addr) c.args.layout wanted.result (Ok c.in-Some.moved) (heap_of c.resize.new.flex l)) (sym rows)
+    (c.in-Some.ensures.step c.self.inside.rows.items) in
     subst (λ o. ReallocatesAsAt enabled h (at c.args.addr) c.args.layout c.args.new_size o (Ok c.in-Some.moved) after) (sym row)
-    (reallocates_in enabled h (at c.args.addr) c.args.layout c.args.new_size c.index.result.now wanted.result (Ok c.in-Some.moved) after (not-false _ c.if-ne.ensures) wanted.ensures.0 (wanted.ensures.1 ∙ c.align.ensures.value) step))
+    (reallocates_in enabled h (at c.args.addr) c.args.layout c.args.new_size c.index.result.now wanted.result (Ok c.in-Some.moved) after (not-false _ c.if-ne.ensures)
+    wanted.ensures.0 (wanted.ensures.1 ∙ c.align.ensures.value) step))
 
 pub returns-clause-live : goal.returns-clause-live
 returns-clause-live g c =
     let rows = replaced g c in
     let before = heap_of c.self.inside.flex c.self.inside.rows.items in
-    let after = heap_of c.resize.new.flex c.move_row.new.rows.items in
-    (c.from_size_align_unchecked-wanted.result, layout_at-put_here before after (c.in-Some.moved, c.from_size_align_unchecked-wanted.result) _ rows, c.from_size_align_unchecked-wanted.ensures.0, c.from_size_align_unchecked-wanted.ensures.1 ∙ c.align.ensures.value)
+    let after = heap_of c.resize.new.flex c.move_row.new.rows.items in (
+      c.from_size_align_unchecked-wanted.result,
+      layout_at-put_here before after (c.in-Some.moved, c.from_size_align_unchecked-wanted.result) _ rows,
+      c.from_size_align_unchecked-wanted.ensures.0,
+      c.from_size_align_unchecked-wanted.ensures.1 ∙ c.align.ensures.value,
+    )
 
 pub returns-clause-new : goal.returns-clause-new
 returns-clause-new g c = rw (← c.self.view_is) (
@@ -131,7 +145,8 @@ returns-then-ne g c = record {
       subst (λ o. ReallocatesAsAt enabled h (at c.args.addr) c.args.layout c.args.new_size o (Err WrongLayout) h) (sym row)
       (reallocates_out enabled h (at c.args.addr) c.args.layout c.args.new_size c.index.result.now (not-true _ c.if-ne.ensures)));
   refused = refl;
-  unknown = rw (← c.self.view_is) (known c.self.inside.flex c.self.inside.rows.items (at c.args.addr) _ (rw c.deref.ensures.value at c.in-Ok.ensures.found) (Err WrongLayout) refl);
+  unknown =
+      rw (← c.self.view_is) (known c.self.inside.flex c.self.inside.rows.items (at c.args.addr) _ (rw c.deref.ensures.value at c.in-Ok.ensures.found) (Err WrongLayout) refl);
   live = tt;
   new = tt;
   left = tt;
@@ -155,7 +170,8 @@ returns-in_default-resize g c = record {
       let wanted = c.from_size_align_unchecked-wanted in
       let enabled = g.Options.GlobalTlsfOptions.ENABLE_REALLOCATION in
       subst (λ o. ReallocatesAsAt enabled h (at c.args.addr) c.args.layout c.args.new_size o (Err NoRoom) after) (sym row)
-      (reallocates_in enabled h (at c.args.addr) c.args.layout c.args.new_size c.index.result.now wanted.result (Err NoRoom) after (not-false _ c.if-ne.ensures) wanted.ensures.0 (wanted.ensures.1 ∙ c.align.ensures.value)
+      (reallocates_in enabled h (at c.args.addr) c.args.layout c.args.new_size c.index.result.now wanted.result (Err NoRoom) after (not-false _ c.if-ne.ensures) wanted.ensures.0
+      (wanted.ensures.1 ∙ c.align.ensures.value)
       (c.in_default-resize.ensures.none c.self.inside.rows.items)));
   refused = search rules;
   unknown = rw (← c.self.view_is) (known c.self.inside.flex c.self.inside.rows.items (at c.args.addr) _ (rw c.deref.ensures.value at c.in-Ok.ensures.found) (Err NoRoom) refl);
@@ -181,7 +197,8 @@ returns-in_default-resize g c = record {
 }
 
 pub returns-clause-unknown : goal.returns-clause-unknown
-returns-clause-unknown g c = rw (← c.self.view_is) (known c.self.inside.flex c.self.inside.rows.items (at c.args.addr) _ (rw c.deref.ensures.value at c.in-Ok.ensures.found) (Ok c.in-Some.moved) refl)
+returns-clause-unknown g c =
+    rw (← c.self.view_is) (known c.self.inside.flex c.self.inside.rows.items (at c.args.addr) _ (rw c.deref.ensures.value at c.in-Ok.ensures.found) (Ok c.in-Some.moved) refl)
 
 pub returns-clause-kept : goal.returns-clause-kept
 returns-clause-kept g c = rw (← c.self.view_is) (
@@ -189,10 +206,12 @@ returns-clause-kept g c = rw (← c.self.view_is) (
     let row = found.row c.index.result.now ∙ ap Some (sym c.index.ensures) in
     let sized = subst (λ n. n ≤ length (bytes_at c.self.inside.flex.state.machine (at c.args.addr))) (same_size c.index.result.now.1 c.args.layout (not-false _ c.if-ne.ensures))
     (row_sized c.self.inside.flex c.self.inside.rows.items c.self.invariant (at c.args.addr) c.index.result.now row) in
-    kept_asked (locked_contents c.self.inside.flex c.self.inside.rows.items) c.self.invariant _ c.in-Some.moved (at c.args.addr) c.args.layout c.args.new_size g.Options.GlobalTlsfOptions.ENABLE_REALLOCATION
+    kept_asked (locked_contents c.self.inside.flex c.self.inside.rows.items) c.self.invariant _ c.in-Some.moved (at c.args.addr) c.args.layout c.args.new_size
+    g.Options.GlobalTlsfOptions.ENABLE_REALLOCATION
     (rw (← c.self.view_is) at (returns-clause-step g c)) sized)
 
 pub returns-clause-kept_usable : goal.returns-clause-kept_usable
 returns-clause-kept_usable g c = rw (← c.self.view_is) (λ on.
-    kept_usable (locked_contents c.self.inside.flex c.self.inside.rows.items) c.self.invariant _ c.in-Some.moved (at c.args.addr) c.args.layout c.args.new_size g.Options.GlobalTlsfOptions.ENABLE_REALLOCATION
+    kept_usable (locked_contents c.self.inside.flex c.self.inside.rows.items) c.self.invariant _ c.in-Some.moved (at c.args.addr) c.args.layout c.args.new_size
+    g.Options.GlobalTlsfOptions.ENABLE_REALLOCATION
     (rw (← c.self.view_is) at (returns-clause-step g c)) on)

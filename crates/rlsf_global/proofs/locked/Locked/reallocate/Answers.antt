@@ -13,14 +13,15 @@ use Rattle.rlsf_placement.specs.Rows.{IsSorted, put, row_at, without_row}
 use Rattle.rlsf_global.proofs.locked.Locked.reallocate.Given as given
 use Rattle.rlsf_global.proofs.locked.Locked.reallocate.Goals as goal
 
--- the row of the address is that of the payload with the new layout now
+-- the entry of the address is now that of the payload with the new layout
 replaced : (g : given.Over) (c : goal.After-place g) → c.place.new.rows.items ≡ put (c.in-Some.to, c.args.layout) (without_row (at c.args.addr) c.self.inside.rows.items)
 replaced g c =
     let found = rw c.deref.ensures.value at c.in-Ok.ensures.found in
     rw (c.remove.ensures.items, found.taken_out) at c.place.ensures
 
 pub allocation_usable_size-requires : goal.allocation_usable_size-requires
-allocation_usable_size-requires g c = (lit< tt, live_here c.self.inside.flex c.self.inside.rows.items c.self.invariant (at c.args.addr) _ (rw c.deref.ensures.value at c.in-Ok.ensures.found))
+allocation_usable_size-requires g c =
+    (lit< tt, live_here c.self.inside.flex c.self.inside.rows.items c.self.invariant (at c.args.addr) _ (rw c.deref.ensures.value at c.in-Ok.ensures.found))
 
 pub move_away-requires : goal.move_away-requires
 move_away-requires g c =
@@ -53,7 +54,9 @@ returns-clause-step g c = rw (← c.self.view_is) (
     let row = found.row c.index.result.now ∙ ap Some (sym c.index.ensures) in
     let rows = replaced g c in
     let keep = c.min-keep.ensures ∙ ap (λ n. min n c.allocation_usable_size.result) c.size.ensures.value ∙ ap (min c.args.layout.size) c.allocation_usable_size.ensures in
-    let step = subst (λ l. MovesAway h (at c.args.addr) c.min-keep.result c.args.layout (Ok c.in-Some.to) (heap_of c.move_away.new.flex l)) (sym rows) (c.in-Some.ensures.step c.self.inside.rows.items) in
+    let step =
+    subst (λ l. MovesAway h (at c.args.addr) c.min-keep.result c.args.layout (Ok c.in-Some.to) (heap_of c.move_away.new.flex l)) (sym rows)
+    (c.in-Some.ensures.step c.self.inside.rows.items) in
     subst (λ o. ReallocatesAt h (at c.args.addr) c.args.layout o (Ok c.in-Some.to) after) (sym row)
     (subst (λ n. MovesAway h (at c.args.addr) n c.args.layout (Ok c.in-Some.to) after) keep step))
 
@@ -134,8 +137,10 @@ returns-in_default-move_away g c = record {
 }
 
 pub returns-clause-unknown : goal.returns-clause-unknown
-returns-clause-unknown g c = rw (← c.self.view_is) (known c.self.inside.flex c.self.inside.rows.items (at c.args.addr) _ (rw c.deref.ensures.value at c.in-Ok.ensures.found) (Ok c.in-Some.to) refl)
+returns-clause-unknown g c =
+    rw (← c.self.view_is) (known c.self.inside.flex c.self.inside.rows.items (at c.args.addr) _ (rw c.deref.ensures.value at c.in-Ok.ensures.found) (Ok c.in-Some.to) refl)
 
 pub returns-clause-kept : goal.returns-clause-kept
 returns-clause-kept g c = rw (← c.self.view_is) (
-    kept_elsewhere (locked_contents c.self.inside.flex c.self.inside.rows.items) c.self.invariant _ c.in-Some.to (at c.args.addr) c.args.layout (rw (← c.self.view_is) at (returns-clause-step g c)))
+    kept_elsewhere (locked_contents c.self.inside.flex c.self.inside.rows.items) c.self.invariant _ c.in-Some.to (at c.args.addr) c.args.layout
+    (rw (← c.self.view_is) at (returns-clause-step g c)))

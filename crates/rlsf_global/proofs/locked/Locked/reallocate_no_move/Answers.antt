@@ -17,9 +17,11 @@ use Rattle.rlsf_placement.specs.Rows.{put, without_row}
 use Rattle.rlsf_global.proofs.locked.Locked.reallocate_no_move.Given as given
 use Rattle.rlsf_global.proofs.locked.Locked.reallocate_no_move.Goals as goal
 
--- the row of the address has the wanted layout now
-replaced : (g : given.Over) (c : goal.After-replace g) → c.replace.new.rows.items ≡ put (c.in-Some.to, c.from_size_align_unchecked-wanted.result) (without_row (at c.args.addr) c.self.inside.rows.items)
-replaced g c = row_there c.self.inside.rows.items c.replace.new.rows.items (at c.args.addr) c.in-Some.to c.from_size_align_unchecked-wanted.result c.in-Some.ensures.there c.replace.ensures
+-- the entry of the address now has the wanted layout
+replaced : (g : given.Over) (c : goal.After-replace g)
+    → c.replace.new.rows.items ≡ put (c.in-Some.to, c.from_size_align_unchecked-wanted.result) (without_row (at c.args.addr) c.self.inside.rows.items)
+replaced g c =
+    row_there c.self.inside.rows.items c.replace.new.rows.items (at c.args.addr) c.in-Some.to c.from_size_align_unchecked-wanted.result c.in-Some.ensures.there c.replace.ensures
 
 pub reallocate_no_move-requires : goal.reallocate_no_move-requires
 reallocate_no_move-requires g c =
@@ -31,7 +33,8 @@ reallocate_no_move-requires g c =
 pub invariant_of-self : goal.invariant_of-self
 invariant_of-self g c =
     let did = c.in_default-reallocate_no_move.ensures in
-    not_resized_locked c.self.inside.flex c.self.inside.rows.items c.self.invariant c.reallocate_no_move.new.self (at c.args.addr) c.from_size_align_unchecked-wanted.result did.source did.step did.same
+    not_resized_locked c.self.inside.flex c.self.inside.rows.items c.self.invariant c.reallocate_no_move.new.self (at c.args.addr) c.from_size_align_unchecked-wanted.result
+    did.source did.step did.same
 
 pub replace-requires : goal.replace-requires
 replace-requires g c = subst (λ a. IsFound c.self.inside.rows.items a c.in-Ok.index) (sym c.in-Some.ensures.there) (rw c.deref.ensures.value at c.in-Ok.ensures.found)
@@ -40,7 +43,8 @@ pub invariant_of-self-2 : goal.invariant_of-self-2
 invariant_of-self-2 g c =
     let did = c.in-Some.ensures in
     let rows = replaced g c in
-    resized_locked c.self.inside.flex c.self.inside.rows.items c.self.invariant c.reallocate_no_move.new.self (at c.args.addr) c.from_size_align_unchecked-wanted.result did.source c.in-Some.to did.there did.step _ rows
+    resized_locked c.self.inside.flex c.self.inside.rows.items c.self.invariant c.reallocate_no_move.new.self (at c.args.addr) c.from_size_align_unchecked-wanted.result did.source
+    c.in-Some.to did.there did.step _ rows
     (record { live = did.live; sized = did.sized; few = did.few }) did.aligns did.bytes
 
 pub returns-clause-step : goal.returns-clause-step
@@ -52,9 +56,12 @@ returns-clause-step g c = rw (← c.self.view_is) (
     let row = found.row c.index.result.now ∙ ap Some (sym c.index.ensures) in
     let rows = replaced g c in
     let wanted = c.from_size_align_unchecked-wanted in
-    let step = resized c.self.inside.flex c.self.inside.rows.items c.self.invariant c.reallocate_no_move.new.self (at c.args.addr) wanted.result did.source c.in-Some.to did.there did.step _ rows in
+    let step =
+    resized c.self.inside.flex c.self.inside.rows.items c.self.invariant c.reallocate_no_move.new.self (at c.args.addr) wanted.result did.source c.in-Some.to did.there did.step
+    _ rows in
     subst (λ o. ReallocatesThereAt h (at c.args.addr) c.args.layout c.args.new_size o (Ok c.in-Some.to) after) (sym row)
-    (resizes_in h (at c.args.addr) c.args.layout c.args.new_size c.index.result.now wanted.result (Ok c.in-Some.to) after (not-false _ c.if-ne.ensures) wanted.ensures.0 (wanted.ensures.1 ∙ c.align.ensures.value) step))
+    (resizes_in h (at c.args.addr) c.args.layout c.args.new_size c.index.result.now wanted.result (Ok c.in-Some.to) after (not-false _ c.if-ne.ensures) wanted.ensures.0
+    (wanted.ensures.1 ∙ c.align.ensures.value) step))
 
 pub returns-clause-live : goal.returns-clause-live
 returns-clause-live g c =
@@ -70,7 +77,8 @@ returns-clause-layouts g c = rw (← c.self.view_is) (
     let rows = replaced g c in
     let before = heap_of c.self.inside.flex c.self.inside.rows.items in
     let after = heap_of c.reallocate_no_move.new.self c.replace.new.rows.items in
-    λ a off. layout_at-moved_other before after (at c.args.addr) (c.in-Some.to, c.from_size_align_unchecked-wanted.result) rows a off (λ same. off (same ∙ c.in-Some.ensures.there)))
+    λ a off. layout_at-moved_other before after (at c.args.addr) (c.in-Some.to, c.from_size_align_unchecked-wanted.result) rows a off
+    (λ same. off (same ∙ c.in-Some.ensures.there)))
 
 pub returns-clause-contents : goal.returns-clause-contents
 returns-clause-contents g c = rw (← c.self.view_is) (
@@ -105,7 +113,8 @@ returns-then-ne g c = record {
       subst (λ o. ReallocatesThereAt h (at c.args.addr) c.args.layout c.args.new_size o (Err WrongLayout) h) (sym row)
       (resizes_out h (at c.args.addr) c.args.layout c.args.new_size c.index.result.now (not-true _ c.if-ne.ensures)));
   refused = refl;
-  unknown = rw (← c.self.view_is) (known c.self.inside.flex c.self.inside.rows.items (at c.args.addr) _ (rw c.deref.ensures.value at c.in-Ok.ensures.found) (Err WrongLayout) refl);
+  unknown =
+      rw (← c.self.view_is) (known c.self.inside.flex c.self.inside.rows.items (at c.args.addr) _ (rw c.deref.ensures.value at c.in-Ok.ensures.found) (Err WrongLayout) refl);
   there = tt;
   live = tt;
   kept = tt;
@@ -125,9 +134,11 @@ returns-in_default-reallocate_no_move g c = record {
       let found = rw c.deref.ensures.value at c.in-Ok.ensures.found in
       let row = found.row c.index.result.now ∙ ap Some (sym c.index.ensures) in
       let wanted = c.from_size_align_unchecked-wanted in
-      let step = not_resized c.self.inside.flex c.self.inside.rows.items c.self.invariant c.reallocate_no_move.new.self (at c.args.addr) wanted.result did.source did.step did.same in
+      let step =
+      not_resized c.self.inside.flex c.self.inside.rows.items c.self.invariant c.reallocate_no_move.new.self (at c.args.addr) wanted.result did.source did.step did.same in
       subst (λ o. ReallocatesThereAt h (at c.args.addr) c.args.layout c.args.new_size o (Err NoRoom) after) (sym row)
-      (resizes_in h (at c.args.addr) c.args.layout c.args.new_size c.index.result.now wanted.result (Err NoRoom) after (not-false _ c.if-ne.ensures) wanted.ensures.0 (wanted.ensures.1 ∙ c.align.ensures.value) step));
+      (resizes_in h (at c.args.addr) c.args.layout c.args.new_size c.index.result.now wanted.result (Err NoRoom) after (not-false _ c.if-ne.ensures) wanted.ensures.0
+      (wanted.ensures.1 ∙ c.align.ensures.value) step));
   refused = search rules;
   unknown = rw (← c.self.view_is) (known c.self.inside.flex c.self.inside.rows.items (at c.args.addr) _ (rw c.deref.ensures.value at c.in-Ok.ensures.found) (Err NoRoom) refl);
   there = tt;
@@ -143,8 +154,10 @@ returns-in_default-reallocate_no_move g c = record {
 }
 
 pub returns-clause-unknown : goal.returns-clause-unknown
-returns-clause-unknown g c = rw (← c.self.view_is) (known c.self.inside.flex c.self.inside.rows.items (at c.args.addr) _ (rw c.deref.ensures.value at c.in-Ok.ensures.found) (Ok c.in-Some.to) refl)
+returns-clause-unknown g c =
+    rw (← c.self.view_is) (known c.self.inside.flex c.self.inside.rows.items (at c.args.addr) _ (rw c.deref.ensures.value at c.in-Ok.ensures.found) (Ok c.in-Some.to) refl)
 
 pub returns-clause-kept : goal.returns-clause-kept
 returns-clause-kept g c = rw (← c.self.view_is) (
-    kept_there (locked_contents c.self.inside.flex c.self.inside.rows.items) c.self.invariant _ c.in-Some.to (at c.args.addr) c.args.layout c.args.new_size (rw (← c.self.view_is) at (returns-clause-step g c)))
+    kept_there (locked_contents c.self.inside.flex c.self.inside.rows.items) c.self.invariant _ c.in-Some.to (at c.args.addr) c.args.layout c.args.new_size
+    (rw (← c.self.view_is) at (returns-clause-step g c)))

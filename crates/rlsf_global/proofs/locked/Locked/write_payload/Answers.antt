@@ -12,7 +12,8 @@ use Rattle.rlsf_placement.specs.declared.error.GlobalError.TheVariants.{OutOfRan
 use Rattle.rlsf_global.proofs.locked.Locked.write_payload.Goals as goal
 
 pub allocation_usable_size-requires : goal.allocation_usable_size-requires
-allocation_usable_size-requires g c = (lit< tt, live_here c.self.inside.flex c.self.inside.rows.items c.self.invariant (at c.args.addr) _ (rw c.deref.ensures.value at c.in-Ok.ensures.found))
+allocation_usable_size-requires g c =
+    (lit< tt, live_here c.self.inside.flex c.self.inside.rows.items c.self.invariant (at c.args.addr) _ (rw c.deref.ensures.value at c.in-Ok.ensures.found))
 
 pub payload_mut-requires : goal.payload_mut-requires
 payload_mut-requires g c = (lit< tt, live_here c.self.inside.flex c.self.inside.rows.items c.self.invariant (at c.args.addr) _ (rw c.deref.ensures.value at c.in-Ok.ensures.found))
@@ -21,7 +22,8 @@ pub invariant_of-self : goal.invariant_of-self
 invariant_of-self g c =
     let w = c.write_at.new.payload in
     let did = c.payload_mut.ensures in
-    filled_locked c.self.inside.flex c.self.inside.rows.items c.self.invariant (written c.self.inside.flex (at c.args.addr) (length c.payload_mut.result.now) w) (at c.args.addr) w (did.meaning w c.write_at.ensures.len) refl
+    filled_locked c.self.inside.flex c.self.inside.rows.items c.self.invariant (written c.self.inside.flex (at c.args.addr) (length c.payload_mut.result.now) w) (at c.args.addr) w
+    (did.meaning w c.write_at.ensures.len) refl
     (did.aligns w) (did.lengths w ∙ ap length did.value) (did.bytes w)
 
 pub returns-in_default : goal.returns-in_default
@@ -42,9 +44,11 @@ returns-then-not-fits g c = record {
   step = rw (← c.self.view_is) (
       let h = heap_of c.self.inside.flex c.self.inside.rows.items in
       let bytes = c.args.bytes.now in
-      writes_out h (at c.args.addr) c.args.offset _ (rw c.deref.ensures.value at c.in-Ok.ensures.found) bytes (c.if-not-fits.ensures ∙ ap (nat_le (c.args.offset + length bytes)) c.allocation_usable_size.ensures));
+      writes_out h (at c.args.addr) c.args.offset _ (rw c.deref.ensures.value at c.in-Ok.ensures.found) bytes
+      (c.if-not-fits.ensures ∙ ap (nat_le (c.args.offset + length bytes)) c.allocation_usable_size.ensures));
   refused = refl;
-  unknown = rw (← c.self.view_is) (known c.self.inside.flex c.self.inside.rows.items (at c.args.addr) _ (rw c.deref.ensures.value at c.in-Ok.ensures.found) (Err OutOfRange) refl);
+  unknown =
+      rw (← c.self.view_is) (known c.self.inside.flex c.self.inside.rows.items (at c.args.addr) _ (rw c.deref.ensures.value at c.in-Ok.ensures.found) (Err OutOfRange) refl);
   written = tt;
   layouts = refl;
   contents = tt;
@@ -64,8 +68,10 @@ returns g c = record {
       let did = c.payload_mut.ensures in
       let after = written c.self.inside.flex addr (length c.payload_mut.result.now) w in
       let (fills, leads) = filled c.self.inside.flex c.self.inside.rows.items c.self.invariant after addr w (did.meaning w c.write_at.ensures.len) refl in
-      let spliced = subst (λ l. Fills h.flex.machine addr l after.state.machine) (c.write_at.ensures.bytes ∙ ap (λ l. splice l offset (offset + length bytes) bytes) did.value) fills in
-      writes_in h addr offset _ (rw c.deref.ensures.value at c.in-Ok.ensures.found) bytes (heap_of after c.self.inside.rows.items) (c.if-not-fits.ensures ∙ ap (nat_le (offset + length bytes)) c.allocation_usable_size.ensures) (after.state.machine, spliced, leads));
+      let spliced =
+      subst (λ l. Fills h.flex.machine addr l after.state.machine) (c.write_at.ensures.bytes ∙ ap (λ l. splice l offset (offset + length bytes) bytes) did.value) fills in
+      writes_in h addr offset _ (rw c.deref.ensures.value at c.in-Ok.ensures.found) bytes (heap_of after c.self.inside.rows.items)
+      (c.if-not-fits.ensures ∙ ap (nat_le (offset + length bytes)) c.allocation_usable_size.ensures) (after.state.machine, spliced, leads));
   refused = tt;
   unknown = rw (← c.self.view_is) (known c.self.inside.flex c.self.inside.rows.items (at c.args.addr) _ (rw c.deref.ensures.value at c.in-Ok.ensures.found) (Ok tt) refl);
   written = rw (← c.self.view_is) (

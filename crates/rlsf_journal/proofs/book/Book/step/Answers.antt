@@ -9,7 +9,8 @@ use Rattle.rlsf_journal.proofs.book.Book.step.Goals.{in-TableMemory, in_default}
 
 -- an entry is pushed only where the table had room
 has_table : (c : goal.After-push_reserved) → c.answer-reply.result ≢ TableMemory
-has_table c = elim c.match-matches.branch [ in-TableMemory w ↦ absurd (false≢true (sym c.if-not-matches.true ∙ w.matches-is)) | in_default w ↦ w.in_default.not-TableMemory ]
+has_table c =
+    elim c.match-matches.branch [ in-TableMemory w ↦ absurd (false≢true (sym c.if-not-matches.true ∙ w.matches-is)) | in_default w ↦ w.in_default.not-TableMemory ]
 
 -- and it is the call's
 pushed : (c : goal.After-push_reserved) → c.push_reserved.new.self.items ≡ c.self.inside.journal.items ++ entries_of c.args.caller c.args.call c.answer-reply.result
@@ -19,7 +20,8 @@ pushed c = c.push_reserved.ensures.items ∙ ap (λ l. l ++ record { caller = c.
 pub invariant_of-self-then-not-matches : goal.invariant_of-self-then-not-matches
 invariant_of-self-then-not-matches c =
     subst (λ l. IsRun l c.answer-reply.new.locked.heap) (sym (pushed c))
-    (run_goes_on c.self.inside.journal.items c.args.caller c.args.call c.answer-reply.result c.self.inside.locked.heap c.answer-reply.new.locked.heap c.self.invariant c.answer-reply.ensures.step)
+    (run_goes_on c.self.inside.journal.items c.args.caller c.args.call c.answer-reply.result c.self.inside.locked.heap c.answer-reply.new.locked.heap c.self.invariant
+    c.answer-reply.ensures.step)
 
 pub returns-then-not-matches : goal.returns-then-not-matches
 returns-then-not-matches c = record {

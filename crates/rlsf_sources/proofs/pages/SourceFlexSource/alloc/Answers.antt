@@ -13,7 +13,8 @@ invariant_of-self g c =
     let fields : PageCursor = page_cursor c.self.inside.space c.self.inside.at g.Options.GlobalTlsfOptions.COALESCE_POOLS in
     let end = c.in_ok-end.end in
     let (ends, fits) = subst (λ (v : PageCursor). (end ≡ fields.at + pages c.args.min_size) × (end ≤ end_of v.space)) (sym c.self.view_is) c.in_ok-end.ensures in
-    subst (λ (e : ℕ). IsPageCursor (moved_to fields e)) (sym ends) (IsPageCursor-given fields c.self.invariant c.args.min_size (pages c.args.min_size) c.requires.0 refl (omega (arith, ends, fits)))
+    subst (λ (e : ℕ). IsPageCursor (moved_to fields e)) (sym ends)
+    (IsPageCursor-given fields c.self.invariant c.args.min_size (pages c.args.min_size) c.requires.0 refl (omega (arith, ends, fits)))
 
 pub returns-clause-leads : goal.returns-clause-leads
 returns-clause-leads g c =
@@ -31,6 +32,10 @@ returns-clause-owes g c =
     let (ends, fits) = subst (λ (v : PageCursor). (end ≡ fields.at + pages c.args.min_size) × (end ≤ end_of v.space)) (sym c.self.view_is) c.in_ok-end.ensures in
     let len : end - fields.at ≡ pages c.args.min_size = omega (arith, ends) in
     let back : fields.at + (end - fields.at) ≡ end = omega (arith, ends) in
-    subst (λ (old : PageCursor). (owed : List Range) → MayOwe old owed → IsGiven (terms_of old) owed c.args.min_size (range_at fields.at (end - fields.at)) × MayOwe (moved_to fields end) (range_at fields.at (end - fields.at) ∷ owed)) c.self.view_is
-    (subst (λ (e : ℕ). (owed : List Range) → MayOwe fields owed → IsGiven (terms_of fields) owed c.args.min_size (range_at fields.at (end - fields.at)) × MayOwe (moved_to fields e) (range_at fields.at (end - fields.at) ∷ owed)) back
+    subst (λ (old : PageCursor). (owed : List Range) → MayOwe old owed
+    → IsGiven (terms_of old) owed c.args.min_size (range_at fields.at (end - fields.at)) × MayOwe (moved_to fields end) (range_at fields.at (end - fields.at) ∷ owed))
+    c.self.view_is
+    (subst (λ (e : ℕ). (owed : List Range) → MayOwe fields owed
+    → IsGiven (terms_of fields) owed c.args.min_size (range_at fields.at (end - fields.at)) × MayOwe (moved_to fields e) (range_at fields.at (end - fields.at) ∷ owed))
+    back
     (given_range fields c.self.invariant c.args.min_size (end - fields.at) c.requires.0 len (omega (arith, back, fits))))

@@ -24,7 +24,8 @@ invariant_of-self g c =
     let end = c.in_ok-end.end in
     let (ends, fits) = subst (λ (v : PageCursor). (end ≡ r.start + pages c.args.min_new_len) × (end ≤ end_of v.space)) (sym c.self.view_is) c.in_ok-end.ensures in
     let (before, after, may) = subst (λ (v : PageCursor). Owed v r) (sym c.self.view_is) c.requires.outstanding in
-    subst (λ (e : ℕ). IsPageCursor (moved_to fields e)) (sym ends) (IsPageCursor-grown fields c.self.invariant r c.args.min_new_len (pages c.args.min_new_len) refl (omega (arith, ends, fits)) before after may)
+    subst (λ (e : ℕ). IsPageCursor (moved_to fields e)) (sym ends)
+    (IsPageCursor-grown fields c.self.invariant r c.args.min_new_len (pages c.args.min_new_len) refl (omega (arith, ends, fits)) before after may)
 
 pub returns-clause-leads : goal.returns-clause-leads
 returns-clause-leads g c =
@@ -45,6 +46,9 @@ returns-clause-owes g c =
     let last : r.start + r.len ≡ fields.at = omega (arith, c.if-self-range.false) in
     let len : end - r.start ≡ pages c.args.min_new_len = omega (arith, ends) in
     let back : r.start + (end - r.start) ≡ end = omega (arith, ends) in
-    subst (λ (old : PageCursor). (before after : List Range) → MayOwe old (before ++ r ∷ after) → IsGrown (terms_of old) (before ++ after) r c.args.min_new_len (end - r.start) × MayOwe (moved_to fields end) (before ++ with_len r (end - r.start) ∷ after)) c.self.view_is
-    (subst (λ (e : ℕ). (before after : List Range) → MayOwe fields (before ++ r ∷ after) → IsGrown (terms_of fields) (before ++ after) r c.args.min_new_len (end - r.start) × MayOwe (moved_to fields e) (before ++ with_len r (end - r.start) ∷ after)) back
+    subst (λ (old : PageCursor). (before after : List Range) → MayOwe old (before ++ r ∷ after)
+    → IsGrown (terms_of old) (before ++ after) r c.args.min_new_len (end - r.start) × MayOwe (moved_to fields end) (before ++ with_len r (end - r.start) ∷ after))
+    c.self.view_is
+    (subst (λ (e : ℕ). (before after : List Range) → MayOwe fields (before ++ r ∷ after)
+    → IsGrown (terms_of fields) (before ++ after) r c.args.min_new_len (end - r.start) × MayOwe (moved_to fields e) (before ++ with_len r (end - r.start) ∷ after)) back
     (grown_range fields c.self.invariant r c.args.min_new_len (end - r.start) last len c.requires.longer (omega (arith, back, fits))))
