@@ -1,6 +1,7 @@
--- A payload was allocated, and its bytes leave the memory.
-use Rattle.std.proofs.Common.{◌≡◌, ℕ, ◌+◌, ◌-◌, ◌%◌, ◌^◌, ◌<◌, ◌⊎◌, true, false, List, [], ◌∷◌, ◌++◌, length, get_or, arith, inl, inr, refl, sym, ap, subst, ◌∙◌}
-use Rattle.rlsf_base.specs.Ledger.{Entry, Extent, entry_of, nowhere, IsIssued}
+-- Allocation: a payload is placed, and its bytes leave the memory.
+use Rattle.std.proofs.Common.{◌≡◌, ℕ, ◌+◌, ◌-◌, ◌%◌, ◌^◌, ◌<◌, true, List, [], ◌∷◌, ◌++◌, length, arith, inl, inr, refl, sym, ap, subst}
+use Rattle.std.proofs.Common.{◌∙◌}
+use Rattle.rlsf_base.specs.Ledger.{Entry, Extent, entry_of}
 use Rattle.rlsf_base.specs.OpenSpace.{IsOwned, SameOwn, out_without}
 use Rattle.rlsf_base.specs.PowerOfTwo.{IsPowerOfTwo}
 use Rattle.rlsf_base.specs.Range.{LiesIn}
@@ -27,7 +28,7 @@ use Rattle.rlsf_heap.proofs.LiveCounts.{live_fits}
 use Rattle.rlsf_heap.proofs.Read.{out-left, stands_same}
 use Rattle.rlsf_heap.proofs.Tickets.{issued-more}
 
--- a payload was placed: which states memory and table stood for, before and after, and that the memory has the same bytes as its own
+-- a payload was placed: the states that memory and table represent, before and after, and that the same bytes are the memory's own
 pub record Placing (fllen sllen : ℕ) (m n : Space) (table changed : Table) (s t : State) (size align addr : ℕ) : Type 0 where
   pub old : StandsFor fllen sllen (contents m table) s
   pub power : IsPowerOfTwo align
@@ -35,8 +36,9 @@ pub record Placing (fllen sllen : ℕ) (m n : Space) (table changed : Table) (s 
   pub now : StandsFor fllen sllen (contents n changed) t
   pub own : SameOwn m n
 
--- the same, once more touches were counted
-pub placing-touched : {fllen sllen : ℕ} {m n : Space} {table changed : Table} {s t : State} {size align addr : ℕ} (o : Space) (more : ℕ) → n.start ≡ m.start → o ≡ record n { touches = n.touches + more }
+-- a payload is still placed after more touches were counted
+pub placing-touched : {fllen sllen : ℕ} {m n : Space} {table changed : Table} {s t : State} {size align addr : ℕ} (o : Space) (more : ℕ) → n.start ≡ m.start
+    → o ≡ record n { touches = n.touches + more }
     → Placing fllen sllen m n table changed s t size align addr → Placing fllen sllen m o table changed s t size align addr
 placing-touched {n = n} o more start touched p = record {
   old = p.old;
@@ -64,11 +66,12 @@ module _ {fllen sllen : ℕ} {m n : Space} {table changed : Table} {s t : State}
   fit : IsFitting v places.range size align power places.chosen
   fit = fitting v places.range size align power places.chosen
 
-  -- the bytes were free ones
+  -- its bytes were free
   pub new-here : IsOwned n (usable new)
   new-here =
       let f = places.range in
-      own-there m n (usable new) (omega (arith, fit.after_start, (free_in_memory v.well_formed f (is_free v f size align power places.chosen)).0)) own (own-inside m f (usable new) (omega (arith, fit.after_start))
+      own-there m n (usable new) (omega (arith, fit.after_start, (free_in_memory v.well_formed f (is_free v f size align power places.chosen)).0)) own
+      (own-inside m f (usable new) (omega (arith, fit.after_start))
       (omega (arith, fit.after_start, fit.before_end, placed-fits v.well_formed f size align power places.chosen)) (here_free v f (is_free v f size align power places.chosen)))
 
   pub new-lies : LiesIn (usable new) n.start (length n.bytes)
@@ -83,7 +86,7 @@ module _ {fllen sllen : ℕ} {m n : Space} {table changed : Table} {s t : State}
       let at : new.payload % 8 ≡ 0 = omega (arith, at_new, q.word.0, q.in_block) in
       (at, omega (arith, at, is.whole.start, is.whole.len, is.within))
 
-  -- they are as many as the machine's payload has
+  -- there are as many as the payload of the reference model has
   pub new-long : length (bytes_at t addr) ≡ (usable new).len
   new-long = ap length (bytes_at-held now.well_formed addr new (is_new, at_new)) ∙ (now.well_formed.used new is_new).bytes
 
@@ -95,7 +98,7 @@ module _ {fllen sllen : ℕ} {m n : Space} {table changed : Table} {s t : State}
       (record { from = omega (arith, at, IsUsed-after_start u is); to = omega (arith, at, is.within, IsUsed-after_start u is) })
       (record { from = omega (arith, fit.after_start); to = omega (arith, fit.after_start, fit.before_end, placed-fits v.well_formed f size align power places.chosen) })
 
-  -- it is one payload more, and their number fits in a word
+  -- one payload more is live, and the number of live payloads fits in a word
   pub one_more : (count : ℕ) → count ≡ live_count s → (count + 1 ≡ live_count t) × (count + 1 < 2 ^ 64)
   one_more count counted =
       let more = count_new v.well_formed t size align addr power places in
@@ -110,7 +113,8 @@ module _ {fllen sllen : ℕ} {m n : Space} {table changed : Table} {s t : State}
   ]))
 
   -- and a ticket is issued for them
-  module _ (entries : List Entry) (tickets : AreIssued s entries) (shown : Extent) (address : shown.addr ≡ addr) (long : shown.len ≡ (usable new).len) (aligned : shown.align ≡ align) where
+  module _ (entries : List Entry) (tickets : AreIssued s entries) (shown : Extent) (address : shown.addr ≡ addr) (long : shown.len ≡ (usable new).len)
+      (aligned : shown.align ≡ align) where
     pub issued-new : AreIssued t (entries ++ entry_of shown true ∷ [])
     issued-new =
         let old : AreIssued t entries = record { issued = λ k w is. let (u, i, at, len, wide) = tickets.issued k w is in (u, still u i, at, len, wide); apart = tickets.apart } in

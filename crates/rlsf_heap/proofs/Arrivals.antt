@@ -1,4 +1,4 @@
--- A call arrives at the state that its step leads to: the bytes of payloads are read from the memory.
+-- The state after a call is the one that its step leads to. The bytes of payloads are read from the memory.
 use Rattle.std.proofs.Common.{◌≡◌, ℕ, ◌+◌, ◌-◌, ◌≤◌, true, map, List, [], ◌∷◌, length, refl, sym, ◌∙◌, ap, subst, arith}
 use Rattle.rlsf_base.specs.Ledger.{Entry}
 use Rattle.rlsf_base.specs.Changes.{IsAllOwn}
@@ -35,20 +35,21 @@ no_used t u none i = go t.used none i
     go (w ∷ ws) e i = omega (arith, e)
 
 module _ {fl_bits sl_bits fllen sllen : ℕ} {m : Space} {x : Table} {s : State} {es : List Entry} {count : ℕ} (is : IsHeap fl_bits sl_bits fllen sllen m x s es count) where
-  -- what is kept of a heap's state is the state without bytes
+  -- the ghost state of a heap is its state without bytes
   pub bare-kept : bare (read_from m s) ≡ s
   bare-kept = bare-read_from m s ∙ is.is_bare
 
-  -- what is kept once a payload is gone is the state without it
+  -- after a deallocation, the ghost state is the state without the payload
   pub kept_without : (addr : ℕ) {payload : ℕ} (u : Used) → Holds (read_from m s) addr u → payload ≡ addr → deallocated payload s ≡ bare (released (read_from m s) u)
   kept_without addr u holds same =
-      (λ i. deallocated (same i) (sym bare-kept i)) ∙ deallocated-bare is.stands.well_formed (released (read_from m s) u) addr (record { block = u; holds = holds; after = refl })
+      (λ i. deallocated (same i) (sym bare-kept i))
+      ∙ deallocated-bare is.stands.well_formed (released (read_from m s) u) addr (record { block = u; holds = holds; after = refl })
 
   -- the state that contracts see is well-formed
   pub view_well_formed : {ledger : ℕ} (v : HeapView) → heap_view m x s ledger ≡ v → IsWellFormed fllen sllen (range_of v.memory) v.state
   view_well_formed v view = subst (λ (o : HeapView). IsWellFormed fllen sllen (range_of o.memory) o.state) view is.stands.well_formed
 
-  -- memory and class table stand for it
+  -- memory and class table represent it
   pub Stands-view : {ledger : ℕ} (v : HeapView) → heap_view m x s ledger ≡ v → Stands fllen sllen v
   unfolding Stands
   Stands-view v view = subst (λ (o : HeapView). StandsFor fllen sllen (contents o.memory o.table) o.state) view is.stands
@@ -67,7 +68,8 @@ module _ {fllen sllen : ℕ} {n : Space} {x : Table} {t : State} (v : StandsFor 
   stands : StandsFor fllen sllen (contents n x) (read_from n reached)
   stands = subst (StandsFor fllen sllen (contents n x)) (sym (arrived v reached e)) v
 
-  pub IsHeap-arrived : {fl_bits sl_bits : ℕ} → IsValid fl_bits sl_bits fllen sllen → (es : List Entry) → AreIssued t es → (count : ℕ) → count ≡ live_count t → IsHeap fl_bits sl_bits fllen sllen n x reached es count
+  pub IsHeap-arrived : {fl_bits sl_bits : ℕ} → IsValid fl_bits sl_bits fllen sllen → (es : List Entry) → AreIssued t es → (count : ℕ) → count ≡ live_count t
+      → IsHeap fl_bits sl_bits fllen sllen n x reached es count
   IsHeap-arrived valid es tickets count counted = record {
     valid = valid;
     stands = stands;
@@ -81,7 +83,9 @@ module _ {fllen sllen : ℕ} {n : Space} {x : Table} {t : State} (v : StandsFor 
   Stands-arrived ledger = stands
 
   -- a step to it, from the state that contracts see
-  pub stepped : (m : Space) (s : State) (old : HeapView) {y : Table} {ledger : ℕ} → heap_view m y s ledger ≡ old → (step : State → State → Type 0) → step (read_from m s) t → step old.state (read_from n reached)
+  pub stepped : (m : Space) (s : State) (old : HeapView) {y : Table} {ledger : ℕ} → heap_view m y s ledger ≡ old → (step : State → State → Type 0)
+      → step (read_from m s) t
+      → step old.state (read_from n reached)
   stepped m s old view step is = subst (λ (o : HeapView). step o.state (read_from n reached)) view (subst (step (read_from m s)) (sym (arrived v reached e)) is)
 
   pub Steps-arrived : (ledger : ℕ) (step : State → Type 0) → step (read_from n reached) → Steps fllen sllen (heap_view n x reached ledger) step

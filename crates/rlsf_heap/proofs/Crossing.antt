@@ -1,4 +1,4 @@
--- The ghost state may cross threads.
+-- The ghost state is `Send` and `Sync`.
 use denote.Struct.Struct.{exits_of}
 use denote.Struct.Owning.{shape, fields, to}
 use denote.Param.Send.{IsSend, IsSync, AllSend, part_keyless, owning_send, struct_send}

@@ -1,7 +1,7 @@
 -- The bytes of a payload leave the memory, and no other.
-use Rattle.std.proofs.Common.{◌≡◌, ℕ, ◌+◌, ◌≤◌, length, arith, inl, inr}
+use Rattle.std.proofs.Common.{◌≡◌, ℕ, length, arith, inl, inr}
 use Rattle.rlsf_base.specs.OpenSpace.{out_without}
-use Rattle.rlsf_base.specs.Range.{LiesIn, end_of}
+use Rattle.rlsf_base.specs.Range.{LiesIn}
 use Rattle.rlsf_base.specs.Space.{Space}
 use Rattle.rlsf_machine.specs.Lists.{IsIn}
 use Rattle.rlsf_machine.specs.State.{State, Used, usable}
@@ -18,7 +18,7 @@ module _ {fllen sllen : ℕ} {m : Space} {table : Table} {s : State} (v : Stands
       let is = v.well_formed.used u i in let place = used_in_memory v.well_formed u i in
       (omega (arith, place.0, IsUsed-after_start u is), omega (arith, place.1, is.within))
 
-  -- once they left, the memory stands for the same state
+  -- after they left, the memory represents the same state
   pub stands-without : (n : Space) → n.start ≡ m.start → n.bytes ≡ m.bytes → n.out ≡ out_without m (usable u) → StandsFor fllen sllen (contents n table) s
   stands-without n start bytes gone = stands_same m n v start bytes (λ a from unlent. out-left m n (usable u) a start gone lies-usable.0 from (elim (unlent u i) [
     | inl before ↦ inl before

@@ -1,3 +1,4 @@
+-- Lemmas of the heap's calls, and what the manual proofs cite.
 pub mod Allocated
 pub mod Arrivals
 mod Crossing
@@ -6,6 +7,7 @@ pub mod PutBack
 pub mod IdleRows
 pub mod LiveCounts
 pub mod PayloadsApart
+pub mod RawPayloads
 pub mod Read
 pub mod Reallocated
 pub mod Reallocating
@@ -14,6 +16,8 @@ pub mod Resized
 pub mod Rewritten
 pub mod Settled
 pub mod Viewed
+pub mod ThinPayloads
+pub mod ThinValues
 pub mod Tickets
 pub mod Zeros
 pub mod ZeroedPayloads

@@ -1,4 +1,4 @@
--- How many payloads are live: fewer than there are addresses.
+-- The number of live payloads is below the number of addresses.
 use Rattle.std.proofs.Common.{◌≡◌, ℕ, zero, suc, ◌+◌, ◌-◌, ◌^◌, ◌<◌, ◌≤◌, List, [], ◌∷◌, length, arith, refl, ap, inl, inr}
 use Rattle.rlsf_base.specs.declared.memory.range.Range.{Range}
 use Rattle.rlsf_base.specs.Range.{end_of}
@@ -33,7 +33,7 @@ total-covers (suc n) r = let rest = total-covers n r in elim (where_is r n) [
   | behind none high ↦ omega arith
 ]
 
--- below an address past all of them, the first bytes of used blocks are as many as the blocks
+-- below an address past all used blocks, as many bytes are the first of a used block as there are used blocks
 total-first : (n : ℕ) (us : List Used) → ((u : Used) → IsIn u us → end_of (first u) ≤ n) → total n (coverage first us) ≡ length us
 total-first n [] below = total-zero n
 total-first n (u ∷ us) below =
@@ -52,7 +52,7 @@ module _ {fllen sllen : ℕ} {memory : Range} {s : State} (w : IsWellFormed flle
     ]),
   )
 
-  -- so their number is below that of the addresses
+  -- so their number is below the number of addresses
   pub live_fits : live_count s < 2 ^ 64
   unfolding live_count
   live_fits =
@@ -64,7 +64,7 @@ module _ {fllen sllen : ℕ} {memory : Range} {s : State} (w : IsWellFormed flle
         total-most n (coverage first s.used) first-le,
       )
 
--- it is that of the used blocks
+-- the number of live payloads is that of the used blocks
 pub live_count-same : (s t : State) → s.used ≡ t.used → live_count s ≡ live_count t
 unfolding live_count
 live_count-same s t used = ap length used

@@ -1,7 +1,6 @@
--- A payload came back with its values: the memory stands for the state in which it has these bytes.
-use Rattle.std.proofs.Common.{eqb, cond, ◌≡◌, ℕ, ◌+◌, ◌-◌, ◌≤◌, ◌<◌, ◌⊎◌, map, List, [], ◌∷◌, length, arith, inl, inr, refl, sym, ap, subst, ◌∙◌}
+-- A payload is back with its values: the memory represents the state in which it has these bytes.
+use Rattle.std.proofs.Common.{eqb, cond, ◌≡◌, ℕ, ◌-◌, map, List, [], ◌∷◌, length, arith, inl, inr, refl, sym, ap, ◌∙◌}
 use Rattle.std.specs.Prelude.{not}
-use Rattle.rlsf_base.specs.declared.memory.range.Range.{Range}
 use Rattle.rlsf_base.specs.Ledger.{Entry}
 use Rattle.rlsf_base.specs.OpenSpace.{IsHere, out_with}
 use Rattle.rlsf_base.specs.Out.{kept_at}
@@ -10,7 +9,6 @@ use Rattle.rlsf_base.specs.Range.{LiesIn, range_at}
 use Rattle.rlsf_base.specs.Space.{Space, bytes_in, with_bytes}
 use Rattle.rlsf_base.proofs.Changes.{back-before, back-behind, back-there}
 use Rattle.rlsf_base.proofs.Lending.Replaced.{bytes_in-there, bytes_in-with, length-with}
-use Rattle.rlsf_machine.specs.Lists.{IsIn}
 use Rattle.rlsf_machine.specs.Run.{Fills}
 use Rattle.rlsf_machine.specs.State.{State, Used, Holds, filled, filled_at, others, usable, with_bytes as with_these}
 use Rattle.rlsf_machine.proofs.Coverage.{IsIn-map, by_test}
@@ -23,7 +21,7 @@ use Rattle.rlsf_blocks.proofs.Words.Apart.{used_in_memory}
 use Rattle.rlsf_tlsf.specs.Steps.Moves.{bare, bare_used}
 use Rattle.rlsf_heap.specs.Heap.{AreIssued}
 
--- what is kept of a state is kept of it with other bytes
+-- the ghost state is the same for any bytes of payloads
 pub bare-reread : (n : Space) (s : State) → bare (read_from n s) ≡ bare s
 bare-reread n s = ap (λ (used : List Used). record { chunks = s.chunks; used = used; free = s.free }) (go s.used)
   where
@@ -31,7 +29,7 @@ bare-reread n s = ap (λ (used : List Used). record { chunks = s.chunks; used = 
     go [] = refl
     go (u ∷ us) = ap (λ l. bare_used u ∷ l) (go us)
 
--- the other used blocks are those before the bytes were left
+-- the other used blocks are unchanged
 pub others-filled : (addr : ℕ) (bytes : List ℕ) (us : List Used) → others addr (filled_at addr bytes us) ≡ others addr us
 others-filled addr bytes [] = refl
 others-filled addr bytes (u ∷ us) =
@@ -41,14 +39,15 @@ others-filled addr bytes (u ∷ us) =
     ∙ sym (ap (λ b. cond (not b) (u ∷ others addr us) (others addr us)) e))
     (λ e. ap (λ b. others addr (cond b (with_these u bytes) u ∷ filled_at addr bytes us)) e ∙ ap (λ l. cond (not (eqb u.payload addr)) (u ∷ l) l) rest)
 
--- the tickets are those of the same payloads, whatever bytes these have
+-- the tickets are those of the same payloads, for any bytes
 pub issued-reread : (n : Space) (s : State) (es : List Entry) → AreIssued s es → AreIssued (read_from n s) es
 issued-reread n s es tickets = record {
   issued = λ k v is. let (u, i, at, len, wide) = tickets.issued k v is in (with_bytes_of n u, IsIn-map (with_bytes_of n) u s.used i, at, len, wide);
   apart = tickets.apart;
 }
 
-module _ {fllen sllen : ℕ} {m : Space} {table : Table} {s : State} (v : StandsFor fllen sllen (contents m table) s) (p : Piece) (u : Used) (holds : Holds s p.start u) (long : (usable u).len ≡ length p.bytes)
+module _ {fllen sllen : ℕ} {m : Space} {table : Table} {s : State} (v : StandsFor fllen sllen (contents m table) s) (p : Piece) (u : Used) (holds : Holds s p.start u)
+    (long : (usable u).len ≡ length p.bytes)
     (n : Space) (start : n.start ≡ m.start) (bytes : n.bytes ≡ with_bytes m p.start p.bytes) (out : n.out ≡ out_with m (piece_range p)) where
   place : LiesIn (piece_range p) m.start (length m.bytes)
   place =
@@ -62,7 +61,8 @@ module _ {fllen sllen : ℕ} {m : Space} {table : Table} {s : State} (v : Stands
   same = record {
     start = start;
     length = length-with m n (piece_range p) p.bytes place refl start bytes;
-    bytes = λ q from side. bytes_in-with m n (piece_range p) p.bytes place refl start bytes q from (elim side [ inl before ↦ inl (omega (arith, before, holds.1)) | inr behind ↦ inr (omega (arith, behind, holds.1, long)) ]);
+    bytes = λ q from side. bytes_in-with m n (piece_range p) p.bytes place refl start bytes q from
+        (elim side [ inl before ↦ inl (omega (arith, before, holds.1)) | inr behind ↦ inr (omega (arith, behind, holds.1, long)) ]);
     out = λ a from side. (λ i. kept_at (out i) (a - start i)) ∙ elim side [
       | inl before ↦ back-before m.out (p.start - m.start) (length p.bytes) (a - m.start) (omega (arith, before, holds.1, place.0, from))
       | inr behind ↦ back-behind m.out (p.start - m.start) (length p.bytes) (a - m.start) (omega (arith, behind, holds.1, long, place.0))
@@ -74,7 +74,8 @@ module _ {fllen sllen : ℕ} {m : Space} {table : Table} {s : State} (v : Stands
   bytes_back = ap (bytes_in n) usable_is ∙ bytes_in-there m n (piece_range p) p.bytes place refl start bytes
 
   pub here_back : IsHere n (usable u)
-  here_back a lo hi = (λ i. kept_at (out i) (a - start i)) ∙ back-there m.out (p.start - m.start) (length p.bytes) (a - m.start) (omega (arith, lo, holds.1, place.0)) (omega (arith, hi, holds.1, long, place.0))
+  here_back a lo hi = (λ i. kept_at (out i) (a - start i)) ∙ back-there m.out (p.start - m.start) (length p.bytes) (a - m.start) (omega (arith, lo, holds.1, place.0))
+      (omega (arith, hi, holds.1, long, place.0))
 
   -- the state that is read from the memory is the one with these bytes
   pub stands_back : StandsFor fllen sllen (contents n table) (read_from n s)
@@ -84,7 +85,12 @@ module _ {fllen sllen : ℕ} {m : Space} {table : Table} {s : State} (v : Stands
   read_back = (filled_in v p.start u holds n same).0.after ∙ ap (filled s p.start) bytes_back
 
   pub fills_back : Fills s p.start p.bytes (filled s p.start p.bytes)
-  fills_back = let fills = (filled_in v p.start u holds n same).0 in record { block = fills.block; holds = fills.holds; length = ap length (sym bytes_back) ∙ fills.length; after = refl }
+  fills_back = let fills = (filled_in v p.start u holds n same).0 in record {
+    block = fills.block;
+    holds = fills.holds;
+    length = ap length (sym bytes_back) ∙ fills.length;
+    after = refl;
+  }
 
   -- the payload is one of that state
   pub holds_back : Holds (read_from n s) p.start (with_bytes_of n u)

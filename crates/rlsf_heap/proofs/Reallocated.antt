@@ -1,5 +1,6 @@
--- A payload with the bytes that its owner wrote gets another size: what callers see of it.
-use Rattle.std.proofs.Common.{arith, get_or-take, inl, inr, min, slice_index, ◌≡◌, ◌≢◌, ℕ, ◌+◌, ◌<◌, ◌≤◌, List, length, Option, Some, None, sym, ◌∙◌, ap, subst}
+-- Reallocation of a payload with the bytes that its owner wrote, as callers see it.
+use Rattle.std.proofs.Common.{arith, get_or-take, inl, inr, min, slice_index, ◌≡◌, ◌≢◌, ℕ, ◌+◌, ◌<◌, ◌≤◌, List, length, Option, Some, None, sym}
+use Rattle.std.proofs.Common.{◌∙◌, ap, subst}
 use Rattle.std.proofs.lemmas.Bool.{cases_eq}
 use Rattle.rlsf_base.specs.declared.memory.range.Range.{Range}
 use Rattle.rlsf_machine.specs.Callers.{align_at, bytes_at}
@@ -8,12 +9,12 @@ use Rattle.rlsf_machine.specs.Run.{Fills, IsSomeLive}
 use Rattle.rlsf_machine.specs.Sized.{IsSizedFor, live_count}
 use Rattle.rlsf_machine.specs.State.{State, filled}
 use Rattle.rlsf_machine.specs.WellFormed.{IsWellFormed}
-use Rattle.rlsf_machine.proofs.CallerWords.{SeesFilled, SeesResized, align_at-live, filled_seen, resized_seen}
+use Rattle.rlsf_machine.proofs.CallerWords.{SeesFilled, align_at-live, filled_seen, resized_seen}
 use Rattle.rlsf_machine.proofs.Chunks.{chunks-reallocated}
 use Rattle.rlsf_machine.proofs.SizedWords.{count_filled, count_resized, never_refused_again, sized_filled, sized_resized}
 use Rattle.rlsf_machine.proofs.Steps.{Fills-keeps}
 
--- a payload has another size, at an address where none was or at its own, and all others stay as they are
+-- a payload has another size, at a new address or at its own, and all others are unchanged
 pub record SeesReallocated (s t : State) (addr : ℕ) (old : List ℕ) (size align to : ℕ) : Type 0 where
   pub live : align_at t to ≡ Some align
   pub sized : size ≤ length (bytes_at t to)
@@ -22,7 +23,8 @@ pub record SeesReallocated (s t : State) (addr : ℕ) (old : List ℕ) (size ali
   pub new : to ≢ addr → align_at s to ≡ None
   pub aligns : (a : ℕ) → a ≢ addr → a ≢ to → align_at t a ≡ align_at s a
 
-module _ {fllen sllen : ℕ} {memory : Range} {s : State} (w : IsWellFormed fllen sllen memory s) (addr : ℕ) (bytes : List ℕ) (fills : Fills s addr bytes (filled s addr bytes)) where
+module _ {fllen sllen : ℕ} {memory : Range} {s : State} (w : IsWellFormed fllen sllen memory s) (addr : ℕ) (bytes : List ℕ)
+    (fills : Fills s addr bytes (filled s addr bytes)) where
   -- the state with these bytes
   abbrev now : State
   now = filled s addr bytes
@@ -51,9 +53,10 @@ module _ {fllen sllen : ℕ} {memory : Range} {s : State} (w : IsWellFormed flle
 
     module _ (count most wide : ℕ) (is_sized : IsSizedFor sllen count most wide s) (short : size ≤ most) (fits : align ≤ wide) where
       pub sized_reallocated : (reply : Option ℕ) → Reallocates sllen now addr size reply t → IsSizedFor sllen count most wide t
-      sized_reallocated reply step = sized_resized well_filled t count most wide (sized_filled w now count most wide is_sized addr bytes live_before fills) addr size align reply live_now short fits step
+      sized_reallocated reply step = sized_resized well_filled t count most wide (sized_filled w now count most wide is_sized addr bytes live_before fills) addr size align reply
+          live_now short fits step
 
-      -- within bounds it is never refused
+      -- within the bounds that the state is sized for, it is never refused
       pub never_refused_reallocation : live_count s ≤ count → Reallocates sllen now addr size None t → ⊥
       never_refused_reallocation few step =
           never_refused_again well_filled t count most wide (sized_filled w now count most wide is_sized addr bytes live_before fills) addr size align live_now
@@ -72,7 +75,8 @@ module _ {fllen sllen : ℕ} {memory : Range} {s : State} (w : IsWellFormed flle
         }
 
 -- at its own address, each payload has the alignment that it had
-pub aligns_stay : {s t : State} {addr size align to : ℕ} {old : List ℕ} → SeesReallocated s t addr old size align to → to ≡ addr → align_at s addr ≡ Some align → align_at t ≡ align_at s
+pub aligns_stay : {s t : State} {addr size align to : ℕ} {old : List ℕ} → SeesReallocated s t addr old size align to → to ≡ addr → align_at s addr ≡ Some align
+    → align_at t ≡ align_at s
 aligns_stay {s} {t} {addr} {align = align} seen there live i a = at a i
   where
     at : (a : ℕ) → align_at t a ≡ align_at s a

@@ -1,12 +1,11 @@
--- A payload came back, and gets another size or stays as it is: the state that memory and table stand for, and its tickets.
-use Rattle.std.proofs.Common.{◌≡◌, ◌≢◌, ℕ, ◌+◌, ◌-◌, ◌≤◌, ◌<◌, List, [], ◌∷◌, ◌++◌, true, false, set, length, Option, Some, None, arith, refl, sym, ap, subst, ◌∙◌}
+-- Reallocation: a payload is back in the memory, and has another size or is unchanged. The state that memory and table represent, and the tickets.
+use Rattle.std.proofs.Common.{◌≡◌, ◌≢◌, ℕ, List, [], ◌∷◌, ◌++◌, true, false, set, length, Option, Some, None, arith, refl, sym, ap, subst, ◌∙◌}
 use Rattle.rlsf_base.specs.Ledger.{Entry, Extent, IsIssued, entry_of, extent}
-use Rattle.rlsf_base.specs.OpenSpace.{IsHere, IsOwned, SameOwn, out_with}
+use Rattle.rlsf_base.specs.OpenSpace.{IsHere, out_with}
 use Rattle.rlsf_base.specs.Piece.{Piece, piece_range}
 use Rattle.rlsf_base.specs.Range.{range_at}
 use Rattle.rlsf_base.specs.Space.{Space, bytes_in, with_bytes}
-use Rattle.rlsf_base.proofs.Lending.Present.{here-same, own-here}
-use Rattle.rlsf_machine.specs.Lists.{IsIn}
+use Rattle.rlsf_base.proofs.Lending.Present.{here-same}
 use Rattle.rlsf_machine.specs.NoMove.{ReallocatesUnmovedBy, ReallocatesWithoutMove, unmoved_plan}
 use Rattle.rlsf_machine.specs.Reallocate.{Plan, Reallocates, ReallocatesBy, Replans, plan}
 use Rattle.rlsf_machine.specs.Join.{join}
@@ -42,8 +41,10 @@ pub record IsBackIn (fllen sllen : ℕ) (m n : Space) (x : Table) (s : State) (e
   pub bytes : n.bytes ≡ with_bytes m p.start p.bytes
   pub out : n.out ≡ out_with m (piece_range p)
 
-pub came : {fl_bits sl_bits fllen sllen : ℕ} {m n : Space} {x : Table} {k : State} {es : List Entry} {count key addr len wide align : ℕ} (p : Piece) → IsHeap fl_bits sl_bits fllen sllen m x k es count → IsTicketOf p align (extent addr len wide)
-    → IsIssued es key (extent addr len wide) → n.start ≡ m.start → n.bytes ≡ with_bytes m p.start p.bytes → n.out ≡ out_with m (piece_range p) → IsBackIn fllen sllen m n x (read_from m k) es key p align
+pub came : {fl_bits sl_bits fllen sllen : ℕ} {m n : Space} {x : Table} {k : State} {es : List Entry} {count key addr len wide align : ℕ} (p : Piece)
+    → IsHeap fl_bits sl_bits fllen sllen m x k es count → IsTicketOf p align (extent addr len wide)
+    → IsIssued es key (extent addr len wide) → n.start ≡ m.start → n.bytes ≡ with_bytes m p.start p.bytes → n.out ≡ out_with m (piece_range p)
+    → IsBackIn fllen sllen m n x (read_from m k) es key p align
 came {es = es} {key = key} p is ticket issued start bytes out = record {
   old = is.stands;
   tickets = is.tickets;
@@ -142,22 +143,25 @@ module _ {fllen sllen : ℕ} {m n : Space} {x : Table} {s : State} {es : List En
     pub counted_here : IsHere o (usable block)
     counted_here = here-same n o (usable block) same_start same_out here
 
-  -- its bytes are here as long as what is here stays so
+  -- its bytes are still here if bytes that are here stay here
   module _ {addr len : ℕ} (at : addr ≡ p.start) (as_long : len ≡ length p.bytes) where
     pub usable_is : range_at addr len ≡ usable block
     usable_is = λ i. range_at (let e : addr ≡ block.payload = at ∙ sym held.1 in e i) (let e : len ≡ (usable block).len = as_long ∙ sym long in e i)
 
     pub here_still : {o : Space} → Stays n o → IsHere o (range_at addr len)
-    here_still stays a lo hi = stays.here a (omega (arith, lo, at, held.1, (lies-usable stands block held.0).0)) (here a (omega (arith, lo, at, held.1)) (omega (arith, hi, at, as_long, held.1, long)))
+    here_still stays a lo hi = stays.here a (omega (arith, lo, at, held.1, (lies-usable stands block held.0).0))
+        (here a (omega (arith, lo, at, held.1)) (omega (arith, hi, at, as_long, held.1, long)))
 
-  -- ---- it gets another size, or not
+  -- ---- it is reallocated, or refused
 
-  pub reallocates : {asked size : ℕ} {reply : Option ℕ} {t : State} → asked ≡ size → ReallocatesBy sllen state block asked (plan state block asked) reply t → Reallocates sllen state block.payload size reply t
+  pub reallocates : {asked size : ℕ} {reply : Option ℕ} {t : State} → asked ≡ size → ReallocatesBy sllen state block asked (plan state block asked) reply t
+      → Reallocates sllen state block.payload size reply t
   reallocates {asked} {size} {reply} {t} same step =
       subst (λ k. Reallocates sllen state block.payload k reply t) same (record { block = block; holds = (held.0, refl); step = step })
 
-  -- or another size where it lies, or not
-  pub unmoved : {asked size addr : ℕ} {q : Plan} {t : State} → asked ≡ size → unmoved_plan state block asked ≡ Some q → q.payload ≡ addr → addr ≡ p.start → Replans state block q q.payload t → ReallocatesWithoutMove state block.payload size (Some block.payload) t
+  -- or it is reallocated without a move, or refused
+  pub unmoved : {asked size addr : ℕ} {q : Plan} {t : State} → asked ≡ size → unmoved_plan state block asked ≡ Some q → q.payload ≡ addr → addr ≡ p.start
+      → Replans state block q q.payload t → ReallocatesWithoutMove state block.payload size (Some block.payload) t
   unmoved {asked} {size} {addr} {q} {t} same first place at replans =
       let there : q.payload ≡ block.payload = place ∙ at ∙ sym held.1 in
       subst (λ k. ReallocatesWithoutMove state block.payload k (Some block.payload) t) same (record {
@@ -166,7 +170,8 @@ module _ {fllen sllen : ℕ} {m n : Space} {x : Table} {s : State} {es : List En
         step = subst (λ o. ReallocatesUnmovedBy state block o (Some block.payload) t) (sym first) (subst (λ a. Replans state block q a t) there replans);
       })
 
-  pub unmoved_moves : {size : ℕ} {t : State} → ReallocatesWithoutMove state block.payload size (Some block.payload) t → Reallocates sllen state block.payload size (Some block.payload) t
+  pub unmoved_moves : {size : ℕ} {t : State} → ReallocatesWithoutMove state block.payload size (Some block.payload) t
+      → Reallocates sllen state block.payload size (Some block.payload) t
   unmoved_moves {size} {t} step = (unmoved_is_reallocated sllen state t block.payload size (Some block.payload) step).0.1
 
   pub unmoved_refused : {asked size : ℕ} → asked ≡ size → unmoved_plan state block asked ≡ None → ReallocatesWithoutMove state block.payload size None state
@@ -174,10 +179,12 @@ module _ {fllen sllen : ℕ} {m n : Space} {x : Table} {s : State} {es : List En
       subst (λ k. ReallocatesWithoutMove state block.payload k None state) same
       (record { block = block; holds = (held.0, refl); step = subst (λ o. ReallocatesUnmovedBy state block o None state) (sym none) refl })
 
-  -- what is kept of the state
-  pub kept_moved : {addr size to : ℕ} {t k : State} → bare s ≡ k → addr ≡ p.start → Reallocates sllen state block.payload size (Some to) t → reallocated sllen addr size k ≡ bare t
+  -- the ghost state
+  pub kept_moved : {addr size to : ℕ} {t k : State} → bare s ≡ k → addr ≡ p.start → Reallocates sllen state block.payload size (Some to) t
+      → reallocated sllen addr size k ≡ bare t
   kept_moved {addr} {size} {to} {t} {k} kept at step =
-      (λ i. reallocated sllen (let e : addr ≡ block.payload = at ∙ sym held.1 in e i) size (sym (bare_state k kept) i)) ∙ reallocated-bare stands.well_formed t block.payload size to step
+      (λ i. reallocated sllen (let e : addr ≡ block.payload = at ∙ sym held.1 in e i) size (sym (bare_state k kept) i))
+      ∙ reallocated-bare stands.well_formed t block.payload size to step
 
   pub refused_same : {size : ℕ} {t : State} → Reallocates sllen state block.payload size None t → t ≡ state
   refused_same {size} {t} step = refusal_changes_nothing fllen sllen state t (reallocate block.payload size None) step refl
@@ -197,7 +204,8 @@ module _ {fllen sllen : ℕ} {m n : Space} {x : Table} {s : State} {es : List En
   apart_redeemed : (j : ℕ) (w : Extent) → IsIssued redeemed j w → w.addr ≢ block.payload
   apart_redeemed j w was = let (other, before) = redeemed_other es key shown b.known j w was in apart_from j w other before
 
-  pub issued_moved : {size to : ℕ} {t : State} (step : Reallocates sllen state block.payload size (Some to) t) (name : Extent) → name.addr ≡ to → name.len ≡ (usable (new stands block held.0 size to step)).len → name.align ≡ align
+  pub issued_moved : {size to : ℕ} {t : State} (step : Reallocates sllen state block.payload size (Some to) t) (name : Extent) → name.addr ≡ to
+      → name.len ≡ (usable (new stands block held.0 size to step)).len → name.align ≡ align
       → AreIssued t (set es key (entry_of shown false) ++ entry_of name true ∷ [])
   issued_moved {size} {to} {t} step name at len wide_name =
       let is_new = holds_new stands block held.0 size to step in
@@ -206,9 +214,11 @@ module _ {fllen sllen : ℕ} {m n : Space} {x : Table} {s : State} {es : List En
       (new stands block held.0 size to step, is_new.0, is_new.1 ∙ sym at, sym len, align_new stands block held.0 size to step ∙ wide ∙ sym wide_name)
       (λ j w was same. (others j w was).1 (same ∙ at))
 
-  pub issued_stayed : (name : Extent) → name.addr ≡ p.start → name.len ≡ length p.bytes → name.align ≡ align → AreIssued state (set es key (entry_of shown false) ++ entry_of name true ∷ [])
+  pub issued_stayed : (name : Extent) → name.addr ≡ p.start → name.len ≡ length p.bytes → name.align ≡ align
+      → AreIssued state (set es key (entry_of shown false) ++ entry_of name true ∷ [])
   issued_stayed name at len wide_name =
-      issued-more redeemed name state less (block, held.0, held.1 ∙ sym at, long ∙ sym len, wide ∙ sym wide_name) (λ j w was same. apart_redeemed j w was (same ∙ at ∙ sym held.1))
+      issued-more redeemed name state less (block, held.0, held.1 ∙ sym at, long ∙ sym len, wide ∙ sym wide_name)
+      (λ j w was same. apart_redeemed j w was (same ∙ at ∙ sym held.1))
 
   -- ---- as many payloads are live
 
@@ -218,7 +228,7 @@ module _ {fllen sllen : ℕ} {m n : Space} {x : Table} {s : State} {es : List En
   pub counted_moved : {size to : ℕ} {t : State} → Reallocates sllen state block.payload size (Some to) t → live_count t ≡ live_count s
   counted_moved {size} {to} {t} step = count_resized stands.well_formed t block.payload size (Some to) (block, (held.0, refl)) step ∙ counted_stayed
 
-  -- ---- it is gone
+  -- ---- the payload is deallocated
 
   pub released_back : released state block ≡ released s old_block
   released_back =

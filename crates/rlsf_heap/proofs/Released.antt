@@ -1,8 +1,6 @@
--- A payload came back: its bytes are in the memory again, and its block is released.
-use Rattle.std.proofs.Common.{◌≡◌, ◌≢◌, ℕ, ◌-◌, ◌<◌, ◌≤◌, ◌⊎◌, false, true≢false, List, length, get_or, set, arith, inl, inr, sym, ap, ◌∙◌}
-use Rattle.std.proofs.lemmas.Bool.{cases_eq}
-use Rattle.std.proofs.lemmas.List.{get_or-set_same, get_or-set_other, length-set}
-use Rattle.rlsf_base.specs.Ledger.{Entry, Extent, entry_of, extent, nowhere, IsIssued}
+-- Deallocation: the bytes of a payload are back in the memory, and its block is released.
+use Rattle.std.proofs.Common.{◌≡◌, ◌≢◌, ℕ, ◌-◌, ◌<◌, ◌≤◌, ◌⊎◌, false, List, length, set, arith, inl, inr, sym, ap, ◌∙◌}
+use Rattle.rlsf_base.specs.Ledger.{Entry, entry_of, extent, IsIssued}
 use Rattle.rlsf_base.specs.Out.{raw, is_own, kept_at}
 use Rattle.rlsf_base.specs.OpenSpace.{IsOwned, out_raw}
 use Rattle.rlsf_base.specs.Piece.{Piece, piece_range}
@@ -20,7 +18,9 @@ use Rattle.rlsf_heap.specs.Heap.{AreIssued, IsPayload}
 use Rattle.rlsf_heap.proofs.Read.{out-back, stands_same}
 use Rattle.rlsf_heap.proofs.Tickets.{redeemed_other}
 
-module _ {fllen sllen : ℕ} {m : Space} {table : Table} {s : State} {entries : List Entry} (v : StandsFor fllen sllen (contents m table) s) (tickets : AreIssued s entries) (k : ℕ) (p : Piece) (align : ℕ) (is : IsIssued entries k (extent p.start (length p.bytes) align)) where
+module _ {fllen sllen : ℕ} {m : Space} {table : Table} {s : State} {entries : List Entry} (v : StandsFor fllen sllen (contents m table) s) (tickets : AreIssued s entries)
+    (k : ℕ)
+    (p : Piece) (align : ℕ) (is : IsIssued entries k (extent p.start (length p.bytes) align)) where
   -- the payload
   pub found : IsPayload s (extent p.start (length p.bytes) align)
   found = tickets.issued k (extent p.start (length p.bytes) align) is
@@ -45,7 +45,9 @@ module _ {fllen sllen : ℕ} {m : Space} {table : Table} {s : State} {entries : 
     stands-back = stands_same m n v start bytes (λ a from unlent. out-back m n (piece_range p) a start back lies.0 from (side a (unlent u found.1)))
 
     pub back-here : IsOwned n (usable u)
-    back-here a lo hi = (λ i. is_own (kept_at (back i) (a - start i))) ∙ ap is_own (changed-there raw m.out (p.start - m.start) (length p.bytes) (a - m.start) (omega (arith, lo, found.2, lies.0)) (omega (arith, hi, found.2, found.3, lies.0)))
+    back-here a lo hi = (λ i. is_own (kept_at (back i) (a - start i)))
+        ∙ ap is_own (changed-there raw m.out (p.start - m.start) (length p.bytes) (a - m.start) (omega (arith, lo, found.2, lies.0))
+        (omega (arith, hi, found.2, found.3, lies.0)))
 
   -- its ticket is redeemed
   pub issued-released : AreIssued (released s u) (set entries k (entry_of (extent p.start (length p.bytes) align) false))
@@ -55,5 +57,6 @@ module _ {fllen sllen : ℕ} {m : Space} {table : Table} {s : State} {entries : 
         let (x, i, at, len, wide) = tickets.issued j w old in
         let differ : x.payload ≢ u.payload = λ same. apart (tickets.apart j k w (extent p.start (length p.bytes) align) old is (sym at ∙ same ∙ found.2)) in
         (x, IsIn-others_from u.payload x s.used i differ, at, len, wide);
-    apart = λ i j w x one two at. tickets.apart i j w x (redeemed_other entries k (extent p.start (length p.bytes) align) is i w one).1 (redeemed_other entries k (extent p.start (length p.bytes) align) is j x two).1 at;
+    apart = λ i j w x one two at. tickets.apart i j w x (redeemed_other entries k (extent p.start (length p.bytes) align) is i w one).1
+        (redeemed_other entries k (extent p.start (length p.bytes) align) is j x two).1 at;
   }

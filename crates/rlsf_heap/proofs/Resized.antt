@@ -1,5 +1,5 @@
--- A payload got another size: its bytes are the memory's own, and the other payloads are where they were.
-use Rattle.std.proofs.Common.{◌≡◌, ◌≢◌, ℕ, ◌+◌, ◌≤◌, ◌<◌, Some, arith, refl, sym, ap, ◌∙◌}
+-- A payload has another size: its bytes are the memory's own, and the other payloads are where they were.
+use Rattle.std.proofs.Common.{◌≡◌, ◌≢◌, ℕ, ◌≤◌, ◌<◌, Some, arith, refl, sym, ap, ◌∙◌}
 use Rattle.rlsf_base.specs.Ledger.{Extent}
 use Rattle.rlsf_base.specs.OpenSpace.{IsOwned, SameOwn}
 use Rattle.rlsf_base.specs.Range.{end_of}
@@ -20,7 +20,8 @@ use Rattle.rlsf_blocks.proofs.Words.Apart.{Has, used_in_memory, used_used}
 use Rattle.rlsf_blocks.proofs.Words.NeverOut.{here_apart-in, here_released}
 use Rattle.rlsf_heap.specs.Heap.{IsPayload}
 
-module _ {fllen sllen : ℕ} {m : Space} {table : Table} {s : State} (v : StandsFor fllen sllen (contents m table) s) (u : Used) (i : IsIn u s.used) (size to : ℕ) {t : State} (step : Reallocates sllen s u.payload size (Some to) t) where
+module _ {fllen sllen : ℕ} {m : Space} {table : Table} {s : State} (v : StandsFor fllen sllen (contents m table) s) (u : Used) (i : IsIn u s.used) (size to : ℕ) {t : State}
+    (step : Reallocates sllen s u.payload size (Some to) t) where
   live : IsLive t to u.align × ((other : ℕ) → IsLive s to other → to ≡ u.payload)
   live = reallocated_is_live fllen sllen (range_of m) s t u.payload size to u.align v.well_formed (u, (i, refl), refl) step
 
@@ -43,7 +44,7 @@ module _ {fllen sllen : ℕ} {m : Space} {table : Table} {s : State} (v : Stands
   stays : (y : Used) → IsIn y s.used → y.payload ≢ u.payload → IsIn y t.used
   stays y j apart = other_payloads_stay fllen sllen s t (reallocate u.payload size (Some to)) y step j (λ same. apart (sym same))
 
-  -- so the tickets of the others are theirs still
+  -- so the tickets of the other payloads are unchanged
   pub others_there : (w : Extent) → IsPayload s w → w.addr ≢ u.payload → IsPayload t w × (w.addr ≢ to)
   others_there w (y, j, at, len, wide) apart = ((y, stays y j (λ same. apart (sym at ∙ same)), at, len, wide), λ is_to. apart (sym at ∙ other_place y j (at ∙ is_to)))
 
@@ -58,7 +59,10 @@ module _ {fllen sllen : ℕ} {m : Space} {table : Table} {s : State} (v : Stands
         let there = stays y j other in
         let same_block = used_used w.well_formed y new a there holds_new.0
         (record { from = omega (arith, low, IsUsed-after_start y (v.well_formed.used y j)); to = high })
-        (record { from = omega (arith, has.from, IsUsed-after_start new (w.well_formed.used new holds_new.0)); to = omega (arith, has.to, has.from, (w.well_formed.used new holds_new.0).within) }) in
+        (record {
+          from = omega (arith, has.from, IsUsed-after_start new (w.well_formed.used new holds_new.0));
+          to = omega (arith, has.to, has.from, (w.well_formed.used new holds_new.0).within);
+        }) in
         other (other_place y j (ap (λ (z : Used). z.payload) same_block ∙ holds_new.1))
 
     pub own_new : IsOwned n (usable new)

@@ -1,4 +1,4 @@
--- A payload in which bytes were left: they are its bytes, and nothing else changes.
+-- A payload after a `&mut` to its bytes ended: it has the bytes that were written, and nothing else changes.
 use Rattle.std.proofs.Common.{◌≡◌, ℕ, List, length, refl, ap}
 use Rattle.rlsf_base.specs.Lends.{refilled}
 use Rattle.rlsf_base.specs.LendsPiece.{lent_piece}
@@ -35,4 +35,5 @@ rewritten-start p w = refl
 pub rewritten-part : (p : Piece) (align ledger : ℕ) (v : PayloadView) → payload_view p align ledger ≡ v → (w : List ℕ)
     → payload_view (lent_piece p w) align ledger ≡ rewritten v w
 unfolding rewritten lent_piece
-rewritten-part p align ledger v view w = ap (λ (q : PayloadView). record { identity = q.identity; start = q.start; align = q.align; bytes = refilled q.bytes 0 (length q.bytes) w; out = q.out }) view
+rewritten-part p align ledger v view w = ap
+    (λ (q : PayloadView). record { identity = q.identity; start = q.start; align = q.align; bytes = refilled q.bytes 0 (length q.bytes) w; out = q.out }) view

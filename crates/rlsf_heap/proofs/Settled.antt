@@ -1,5 +1,5 @@
--- A memory of which no byte is raw: what a call writes, takes out or puts back leaves that so.
-use Rattle.std.proofs.Common.{[], subst, ◌≡◌, ℕ, ◌+◌, ◌⊎◌, ◌-◌, ◌≤◌, ◌<◌, true, ap, arith, inl, inr, sym, ◌∙◌}
+-- A memory of which no byte is raw: after a write, or after bytes leave or come back, no byte is raw.
+use Rattle.std.proofs.Common.{[], subst, ◌≡◌, ℕ, ◌⊎◌, ◌-◌, ◌≤◌, ◌<◌, ap, arith, inl, inr, sym, ◌∙◌}
 use Rattle.std.proofs.lemmas.Bool.{cases_lt, false≢true}
 use Rattle.rlsf_base.specs.declared.memory.range.Range.{Range}
 use Rattle.rlsf_base.specs.OpenSpace.{IsHere, IsOwned, out_with, out_without}
@@ -39,7 +39,8 @@ module _ (m n : Space) (r : Range) (start : n.start ≡ m.start) (inside : m.sta
         elim (cases_lt a r.start) [
           | inl before ↦ beside_left a low (inl before) ∙ settled a low (ap is_own (sym (beside_left a low (inl before))) ∙ own)
           | inr behind ↦ elim (cases_lt a (end_of r)) [
-            | inl within ↦ absurd (false≢true (sym (ap is_own (left_at a ∙ changed-there out m.out (r.start - m.start) r.len (a - m.start) (omega (arith, behind)) (omega (arith, within, inside)))) ∙ own))
+            | inl within ↦ absurd (false≢true (sym (ap is_own (left_at a ∙ changed-there out m.out (r.start - m.start) r.len (a - m.start) (omega (arith, behind))
+                (omega (arith, within, inside)))) ∙ own))
             | inr past ↦ beside_left a low (inr past) ∙ settled a low (ap is_own (sym (beside_left a low (inr past))) ∙ own)
           ]
         ]
@@ -66,17 +67,17 @@ module _ (m n : Space) (r : Range) (start : n.start ≡ m.start) (inside : m.sta
           ]
         ]
 
--- what is the memory's own is then here
+-- bytes that are the memory's own are then here
 pub settled-here : (m : Space) (r : Range) → m.start ≤ r.start → IsOwned m r → IsSettled m → IsHere m r
 unfolding IsSettled
 settled-here m r inside own settled a lo hi = settled a (omega (arith, inside)) (own a lo hi)
 
--- a memory of which nothing is out or raw is one
+-- a memory of which nothing is out or raw is settled
 pub settled-none : (m : Space) → m.out ≡ [] → IsSettled m
 unfolding IsSettled
 settled-none m none a from own = here-none m (range_at a 1) none a (omega arith) (omega arith)
 
--- zeros were written
+-- a settled memory is settled after zeros are written
 pub settled-zeroed : (m n : Space) (r : Range) → IsZeroed m n r → IsSettled m → IsSettled n
 unfolding IsSettled
 settled-zeroed m n r z settled a from own =

@@ -1,5 +1,6 @@
 -- The live entries of a ledger, once a ticket is redeemed or issued.
-use Rattle.std.proofs.Common.{◌≡◌, ◌≢◌, ℕ, ◌+◌, ◌-◌, ◌<◌, ◌⊎◌, true, false, true≢false, List, [], ◌∷◌, ◌++◌, length, get_or, set, arith, inl, inr, refl, sym, ap, subst, ◌∙◌}
+use Rattle.std.proofs.Common.{◌≡◌, ◌≢◌, ℕ, ◌+◌, ◌-◌, ◌⊎◌, true, false, true≢false, List, [], ◌∷◌, ◌++◌, length, get_or, set, arith, inl}
+use Rattle.std.proofs.Common.{inr, refl, sym, ap, subst, ◌∙◌}
 use Rattle.std.proofs.lemmas.Bool.{cases_eq, cases_lt}
 use Rattle.std.proofs.lemmas.List.{get_or-set_same, get_or-set_other, get_or_append_left, get_or-append_right, length-set}
 use Rattle.rlsf_base.specs.Ledger.{Entry, Extent, entry_of, nowhere, IsIssued}
@@ -16,7 +17,13 @@ module _ (entries : List Entry) (k : ℕ) (shown : Extent) (is : IsIssued entrie
         let here = get_or-set_same entries k (entry_of shown false) (entry_of nowhere false) is.0 in
         let there = ap (λ i. get_or (set entries k (entry_of shown false)) i (entry_of nowhere false)) (sym same) in
         absurd (true≢false (ap (λ (e : Entry). e.live) (sym was.1 ∙ sym there ∙ here)))
-    | inr apart ↦ (apart, (omega (arith, was.0, length-set entries k (entry_of shown false)), sym (get_or-set_other entries k j (entry_of shown false) (entry_of nowhere false) apart) ∙ was.1))
+    | inr apart ↦ (
+      apart,
+      (
+        omega (arith, was.0, length-set entries k (entry_of shown false)),
+        sym (get_or-set_other entries k j (entry_of shown false) (entry_of nowhere false) apart) ∙ was.1,
+      ),
+    )
   ]
 
   module _ (s : State) (tickets : AreIssued s entries) where
@@ -47,14 +54,16 @@ module _ (entries : List Entry) (new : Extent) where
     | inr high ↦
         let last : j ≡ length entries = omega (arith, high, is.0, length-append1 entries (entry_of new true)) in
         let there : get_or (entries ++ entry_of new true ∷ []) j (entry_of nowhere false) ≡ entry_of new true =
-        ap (λ i. get_or (entries ++ entry_of new true ∷ []) i (entry_of nowhere false)) last ∙ get_or-append_right entries (entry_of new true ∷ []) (length entries) (length entries) (entry_of nowhere false) refl (omega arith)
+        ap (λ i. get_or (entries ++ entry_of new true ∷ []) i (entry_of nowhere false)) last
+        ∙ get_or-append_right entries (entry_of new true ∷ []) (length entries) (length entries) (entry_of nowhere false) refl (omega arith)
         ∙ ap (λ i. get_or (entry_of new true ∷ []) i (entry_of nowhere false)) (zero-of (length entries)) in
         let same_entry : entry_of w true ≡ entry_of new true = sym is.1 ∙ there in
         inr (last, λ i. record { addr = (same_entry i).addr; len = (same_entry i).len; align = (same_entry i).align })
   ]
 
-  -- it is that of a live payload, and no other one is at its address
-  pub issued-more : (s : State) → AreIssued s entries → IsPayload s new → ((j : ℕ) (w : Extent) → IsIssued entries j w → w.addr ≢ new.addr) → AreIssued s (entries ++ entry_of new true ∷ [])
+  -- the new entry is that of a live payload, and no other one is at its address
+  pub issued-more : (s : State) → AreIssued s entries → IsPayload s new → ((j : ℕ) (w : Extent) → IsIssued entries j w → w.addr ≢ new.addr)
+      → AreIssued s (entries ++ entry_of new true ∷ [])
   issued-more s tickets there others = record {
     issued = λ j w is. elim (issued_last j w is) [
       | inl old ↦ tickets.issued j w old
@@ -74,7 +83,8 @@ module _ (entries : List Entry) (new : Extent) where
 
 -- ---- two tickets were redeemed and issued again
 
-module _ (entries : List Entry) (s : State) (tickets : AreIssued s entries) (j k : ℕ) (v w : Extent) (first : IsIssued entries j v) (second : IsIssued (set entries j (entry_of v false)) k w) where
+module _ (entries : List Entry) (s : State) (tickets : AreIssued s entries) (j k : ℕ) (v w : Extent) (first : IsIssued entries j v)
+    (second : IsIssued (set entries j (entry_of v false)) k w) where
   -- the second one was live from the start
   pub both_issued : IsIssued entries k w
   both_issued = (redeemed_other entries j v first k w second).1

@@ -1,5 +1,6 @@
--- A payload of whole units: how long it is, and the word behind it, which names its block.
-use Rattle.std.proofs.Common.{◌≡◌, ℕ, ◌+◌, ◌-◌, ◌%◌, ◌^◌, ◌<◌, ◌≤◌, replicate, List, [], length, Some, set, false, arith, ap, inl, refl, sym, subst, ◌∙◌}
+-- Payloads of whole units: their length, and the word behind them, which names the block.
+use Rattle.std.proofs.Common.{◌≡◌, ℕ, ◌+◌, ◌-◌, ◌%◌, ◌^◌, ◌<◌, ◌≤◌, replicate, List, [], length, Some, set, false, arith, ap, inl, refl, sym}
+use Rattle.std.proofs.Common.{subst, ◌∙◌}
 use Rattle.std.proofs.lemmas.List.{length-replicate}
 use Rattle.rlsf_base.specs.declared.memory.range.Range.{Range}
 use Rattle.rlsf_base.specs.Ledger.{Entry, IsIssued, entry_of, extent}
@@ -31,11 +32,14 @@ use Rattle.rlsf_heap.proofs.Released as R
 pub payload-narrow : (start align : ℕ) → start % 32 ≡ 0 → IsPowerOfTwo align → align ≤ 16 → payload_of start align ≡ start + 16
 payload-narrow start align whole power few = omega (arith, payload_of-le start align whole power, payload_of-after start align)
 
-usable-narrow : (f : Range) (size align : ℕ) (bs : List ℕ) → f.start % 32 ≡ 0 → IsPowerOfTwo align → align ≤ 16 → (usable (placed f size align bs)).len ≡ payload_len size
+usable-narrow : (f : Range) (size align : ℕ) (bs : List ℕ) → f.start % 32 ≡ 0 → IsPowerOfTwo align → align ≤ 16
+    → (usable (placed f size align bs)).len ≡ payload_len size
 usable-narrow f size align bs whole power few =
-    ap (λ p. f.start + round32 (p - f.start + size) - p) (payload-narrow f.start align whole power few) ∙ (let e : f.start + round32 (f.start + 16 - f.start + size) - (f.start + 16) ≡ round32 (size + 16) - 16 = omega arith in e)
+    ap (λ p. f.start + round32 (p - f.start + size) - p) (payload-narrow f.start align whole power few)
+    ∙ (let e : f.start + round32 (f.start + 16 - f.start + size) - (f.start + 16) ≡ round32 (size + 16) - 16 = omega arith in e)
 
-pub units-long : (fllen sllen : ℕ) (v : HeapView) (s : State) (size addr : ℕ) → Steps fllen sllen v (Allocates sllen s size 16 (Some addr)) → length (bytes_at v.state addr) ≡ payload_len size
+pub units-long : (fllen sllen : ℕ) (v : HeapView) (s : State) (size addr : ℕ) → Steps fllen sllen v (Allocates sllen s size 16 (Some addr))
+    → length (bytes_at v.state addr) ≡ payload_len size
 unfolding Steps Stands
 units-long fllen sllen v s size addr (p, stands) =
     let u = placed p.range size 16 p.bytes in
@@ -47,7 +51,8 @@ pub payload_len-whole : (size : ℕ) → payload_len size % 16 ≡ 0
 payload_len-whole size = omega arith
 
 -- the payload that a live ticket of the alignment 16 shows
-module _ {fllen sllen : ℕ} {m : Space} {table : Table} {s : State} {entries : List Entry} (v : StandsFor fllen sllen (contents m table) s) (tickets : AreIssued s entries) (k start len : ℕ) (is : IsIssued entries k (extent start len 16)) where
+module _ {fllen sllen : ℕ} {m : Space} {table : Table} {s : State} {entries : List Entry} (v : StandsFor fllen sllen (contents m table) s) (tickets : AreIssued s entries)
+    (k start len : ℕ) (is : IsIssued entries k (extent start len 16)) where
   abbrev pub piece : Piece
   piece = record { home = home_of m; start = start; bytes = replicate len 0; out = [] }
 
@@ -79,14 +84,19 @@ module _ {fllen sllen : ℕ} {m : Space} {table : Table} {s : State} {entries : 
   pub readable : IsReadable m (start + (len + 8))
   readable =
       let of = v.well_formed.used block held.0 in let place = used_in_memory v.well_formed block held.0 in let at = behind in
-      is_word m (start + (len + 8)) (omega (arith, at, of.whole.start, of.whole.len), (omega (arith, at, place.0), omega (arith, at, place.1)), own-word m (range_at (end_of block.block) 16) (start + (len + 8)) (here_behind_used v block held.0) (omega (arith, at)) (omega (arith, at)))
+      is_word m (start + (len + 8)) (
+        omega (arith, at, of.whole.start, of.whole.len),
+        (omega (arith, at, place.0), omega (arith, at, place.1)),
+        own-word m (range_at (end_of block.block) 16) (start + (len + 8)) (here_behind_used v block held.0) (omega (arith, at)) (omega (arith, at)),
+      )
       (omega (arith, names-block, place.1, v.well_formed.addressable))
 
   -- its address fits in a word
   pub start-fits : start < 2 ^ 64
-  start-fits = let of = v.well_formed.used block held.0 in let place = used_in_memory v.well_formed block held.0 in omega (arith, held.1, of.within, place.1, v.well_formed.addressable)
+  start-fits = let of = v.well_formed.used block held.0 in let place = used_in_memory v.well_formed block held.0 in
+      omega (arith, held.1, of.within, place.1, v.well_formed.addressable)
 
-  -- its units come back
+  -- its units are back in the memory
   module _ (n : Space) (same : n.start ≡ m.start) (bytes : n.bytes ≡ m.bytes) (back : n.out ≡ out_raw m (range_at start len)) where
     returned : n.out ≡ out_raw m (range_at start (length piece.bytes))
     returned = back ∙ ap (λ l. out_raw m (range_at start l)) (sym many)

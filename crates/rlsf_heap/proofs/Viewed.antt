@@ -1,5 +1,5 @@
--- A payload came back, and gets another size or stays as it is: what contracts see of it.
-use Rattle.std.proofs.Common.{◌≡◌, ℕ, List, Option, Some, None, refl, sym, ap, subst, ◌∙◌}
+-- Reallocation as contracts see it: a payload is back in the memory, and has another size or is unchanged.
+use Rattle.std.proofs.Common.{◌≡◌, ℕ, List, Option, Some, sym, ap, subst, ◌∙◌}
 use Rattle.rlsf_base.specs.Ledger.{Entry}
 use Rattle.rlsf_base.specs.Piece.{Piece}
 use Rattle.rlsf_base.specs.Space.{Space, range_of}
@@ -39,24 +39,26 @@ module _ {fllen sllen : ℕ} {m n : Space} {x : Table} (k : State) {es : List En
   state_view = is_state b ∙ (λ i. filled (view i).state (is i).start (is i).bytes)
 
   -- a reallocation of its block is one of it
-  pub did_view : {size : ℕ} {reply : Option ℕ} {t : State} → Reallocates sllen (state b) (block b).payload size reply t → Reallocates sllen (owned_by old.state pay) pay.start size reply t
+  pub did_view : {size : ℕ} {reply : Option ℕ} {t : State} → Reallocates sllen (state b) (block b).payload size reply t
+      → Reallocates sllen (owned_by old.state pay) pay.start size reply t
   did_view {size} {reply} {t} step =
       let place : (block b).payload ≡ pay.start = (held b).1 ∙ ap (λ (q : PayloadView). q.start) is in
       subst (λ (o : State × ℕ). Reallocates sllen o.0 o.1 size reply t) (λ i. (state_view i, place i)) step
 
-  pub stayed_view : {size : ℕ} {reply : Option ℕ} {t : State} → ReallocatesWithoutMove (state b) (block b).payload size reply t → ReallocatesWithoutMove (owned_by old.state pay) pay.start size reply t
+  pub stayed_view : {size : ℕ} {reply : Option ℕ} {t : State} → ReallocatesWithoutMove (state b) (block b).payload size reply t
+      → ReallocatesWithoutMove (owned_by old.state pay) pay.start size reply t
   stayed_view {size} {reply} {t} step =
       let place : (block b).payload ≡ pay.start = (held b).1 ∙ ap (λ (q : PayloadView). q.start) is in
       subst (λ (o : State × ℕ). ReallocatesWithoutMove o.0 o.1 size reply t) (λ i. (state_view i, place i)) step
 
-  -- where it has room to stay, its block has a plan that doesn't move it
+  -- if it has room to stay, its block has a plan without a move
   pub room_view : (size : ℕ) → HasRoomToStay old.state pay.start size → (q : Plan) × (unmoved_plan (state b) (block b) size ≡ Some q)
   room_view size room =
       let (u, q, holds, first) = subst (λ (o : HeapView × PayloadView). HasRoomToStay o.0.state o.1.start size) (λ i. (sym view i, sym is i)) room in
       let one : u ≡ old_block b = Holds-unique b.old.well_formed p.start u (old_block b) holds (held_before b) in
       (q, subst (λ (y : Used). or_else (in_place (read_from m k) y size) (into_next (read_from m k) y size) ≡ Some q) one first)
 
-  -- ---- where it stays as it is
+  -- ---- where it is unchanged
 
   module _ (now : State) (same : now ≡ state b) where
     now_is : now ≡ owned_by old.state pay
@@ -72,4 +74,5 @@ module _ {fllen sllen : ℕ} {m n : Space} {x : Table} (k : State) {es : List En
     count_view = ap live_count now_is ∙ count_filled well (owned_by old.state pay) pay.start pay.bytes (fills_view.block, fills_view.holds) fills_view
 
     pub sized_view : (count most wide : ℕ) → IsSizedFor sllen count most wide old.state → IsSizedFor sllen count most wide now
-    sized_view count most wide sized = subst (IsSizedFor sllen count most wide) (sym now_is) (sized_filled well (owned_by old.state pay) count most wide sized pay.start pay.bytes (fills_view.block, fills_view.holds) fills_view)
+    sized_view count most wide sized = subst (IsSizedFor sllen count most wide) (sym now_is)
+        (sized_filled well (owned_by old.state pay) count most wide sized pay.start pay.bytes (fills_view.block, fills_view.holds) fills_view)

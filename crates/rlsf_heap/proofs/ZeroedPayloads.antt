@@ -1,4 +1,4 @@
--- A payload was placed, and its bytes are filled with zeros: the machine places it with these bytes.
+-- A payload is placed, and its bytes are filled with zeros: the reference model places it with these bytes.
 use Rattle.std.proofs.Common.{◌≡◌, ℕ, ◌-◌, eqb, cond, List, [], ◌∷◌, length, arith, inl, inr, refl, sym, ap, ◌∙◌}
 use Rattle.std.proofs.lemmas.Bool.{cases_lt, eq-eqb, eqb-true}
 use Rattle.std.proofs.lemmas.List.{length-replicate}
@@ -25,17 +25,19 @@ others-stay addr bytes (u ∷ us) apart = by_test (eqb u.payload addr)
     (λ e. absurd (apart u (inl refl) (eqb-true u.payload addr e)))
     (λ e. ap (λ b. cond b (with_bytes u bytes) u ∷ filled_at addr bytes us) e ∙ ap (λ l. u ∷ l) (others-stay addr bytes us (λ x i. apart x (inr i))))
 
-module _ {fllen sllen : ℕ} {m n : Space} {table changed : Table} {s t : State} {size align addr : ℕ} (p : Placing fllen sllen m n table changed s t size align addr) (o : Space) (start : n.start ≡ m.start) (z : IsZeroed n o (usable (new p))) where
+module _ {fllen sllen : ℕ} {m n : Space} {table changed : Table} {s t : State} {size align addr : ℕ} (p : Placing fllen sllen m n table changed s t size align addr) (o : Space)
+    (start : n.start ≡ m.start) (z : IsZeroed n o (usable (new p))) where
   same : IsSameOutside n o (usable (new p))
   same = record { start = z.start; length = z.length; bytes = z.bytes; out = z.out }
 
   filling : Fills t addr (bytes_in o (usable (new p))) (read_from o t) × StandsFor fllen sllen (contents o changed) (read_from o t)
   filling = let is = filled_in p.now addr (new p) (is_new p, at_new p) o same in (is.0, is.1)
 
-  -- the machine's payload with other bytes
+  -- the payload of the reference model with other bytes
   refilled : (bytes : List ℕ) → filled (given sllen s p.places.range (new p)) addr bytes ≡ given sllen s p.places.range (placed p.places.range size align bytes)
   refilled bytes =
-      let one : filled_if addr bytes (new p) ≡ placed p.places.range size align bytes = ap (λ b. cond b (with_bytes (new p) bytes) (new p)) (eq-eqb (new p).payload addr (at_new p)) in
+      let one : filled_if addr bytes (new p) ≡ placed p.places.range size align bytes =
+      ap (λ b. cond b (with_bytes (new p) bytes) (new p)) (eq-eqb (new p).payload addr (at_new p)) in
       let rest : filled_at addr bytes s.used ≡ s.used = others-stay addr bytes s.used (λ u i at. new-apart p u i (at ∙ sym (at_new p))) in
       λ i. record { chunks = s.chunks; used = one i ∷ rest i; free = (given sllen s p.places.range (new p)).free }
 

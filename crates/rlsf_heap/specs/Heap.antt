@@ -1,4 +1,4 @@
--- The heap and its payloads as contracts see them, and the steps that the calls make.
+-- The heap and its payloads, as contracts see them, and the steps that the calls make.
 use Rattle.std.specs.Prelude.{◌≡◌, ◌+◌, ◌≤◌, ℕ, List, length, Option, Some, None}
 use Rattle.rlsf_base.specs.Ledger.{Entry, Extent, IsIssued}
 use Rattle.rlsf_base.specs.Changes.{IsIn}
@@ -22,8 +22,8 @@ pub record Identity : Type 0 where
   pub home : Home
   pub ledger : ℕ
 
--- a heap: which one it is, its memory, its class table, and its state of the reference model; the bytes of a payload
--- that is out are those that the memory had there last
+-- a heap: which one it is, its memory, its class table, and its state of the reference model; the bytes of a payload that is out are
+-- the last ones that the memory had there
 pub record HeapView : Type 0 where
   pub identity : Identity
   pub memory : Space
@@ -46,7 +46,7 @@ pub record PayloadView : Type 0 where
 abbrev pub payload_view : Piece → ℕ → ℕ → PayloadView
 payload_view p align ledger = record { identity = record { home = p.home; ledger = ledger }; start = p.start; align = align; bytes = p.bytes; out = p.out }
 
--- what a ticket shows: the address and the length of a part, and an alignment
+-- a ticket shows the address and the length of a part, and an alignment
 abbrev pub IsTicketOf : Piece → ℕ → Extent → Type 0
 IsTicketOf p align shown = (p.start ≡ shown.addr) × (length p.bytes ≡ shown.len) × (align ≡ shown.align)
 
@@ -63,17 +63,17 @@ abbrev pub addr_of : Option PayloadView → Option ℕ
 addr_of None = None
 addr_of (Some p) = Some p.start
 
--- the payload of a state that a ticket shows: its address, how many bytes it has, and the alignment that was asked for
+-- a ticket shows a payload of the state: its address, its length, and the alignment that was requested
 abbrev pub IsPayload : State → Extent → Type 0
 IsPayload s v = (u : Used) × IsListed u s.used × (u.payload ≡ v.addr) × ((usable u).len ≡ v.len) × (u.align ≡ v.align)
 
--- each live entry is that of a live payload, and no two are at one address
+-- each live entry is that of a live payload, and no two of them have the same address
 pub record AreIssued (s : State) (es : List Entry) : Type 0 where
   pub issued : (k : ℕ) (v : Extent) → IsIssued es k v → IsPayload s v
   pub apart : (j k : ℕ) (v w : Extent) → IsIssued es j v → IsIssued es k w → v.addr ≡ w.addr → j ≡ k
 
--- what is true of every heap's fields: the parameters are valid, memory and table represent the state, what is kept of the state
--- has no bytes, the live entries of the ledger are live payloads, and the count is that of the live payloads
+-- what is true of every heap's fields: the parameters are valid, memory and table represent the state, the ghost state has no bytes of
+-- payloads, the live entries of the ledger are those of live payloads, and the count is that of the live payloads
 pub record IsHeap (fl_bits sl_bits fllen sllen : ℕ) (m : Space) (t : Table) (s : State) (es : List Entry) (count : ℕ) : Type 0 where
   pub valid : IsValid fl_bits sl_bits fllen sllen
   pub stands : StandsFor fllen sllen (contents m t) (read_from m s)

@@ -1,4 +1,4 @@
--- What a payload ends as, once a `&mut` to its bytes has ended.
+-- A payload after a `&mut` to its bytes ended.
 use Rattle.std.specs.Prelude.{ℕ, List, length}
 use Rattle.std.specs.Borrow.{Fml, MutBor, Array, Lends, u8}
 use Rattle.rlsf_base.specs.Lends.{refilled}
@@ -9,6 +9,6 @@ use Rattle.rlsf_heap.specs.contracts.payload.Payload as payload
 unfoldable pub rewritten : PayloadView → List ℕ → PayloadView
 rewritten p w = record { identity = p.identity; start = p.start; align = p.align; bytes = refilled p.bytes 0 (length p.bytes) w; out = p.out }
 
--- the payload ends with the bytes that r leaves, and else as it was
+-- the payload has the bytes that r ends with, and is otherwise unchanged
 abbrev pub LendsPayload : MutBor PayloadView → MutBor (List ℕ) → Fml
 LendsPayload p r = Lends payload.the_row (Array u8 0) p r (rewritten p.now)

@@ -2,7 +2,9 @@ pub mod Heap
 pub mod Lends
 pub mod Reallocation
 pub mod Pools
+pub mod Raw
 pub mod Renewed
 pub mod Settled
 pub mod Zeroed
+pub mod Thin
 pub mod Units

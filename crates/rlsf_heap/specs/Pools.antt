@@ -5,7 +5,7 @@ use Rattle.rlsf_machine.specs.Remove.{IsIdle, Removes}
 use Rattle.rlsf_machine.specs.State.{State}
 use Rattle.rlsf_blocks.specs.Blocks.{Block}
 
--- a range is removed if no used block has a byte of it, and only then; otherwise nothing changes
+-- a range is removed if and only if no used block has a byte of it; otherwise nothing changes
 abbrev pub RemovesIfIdle : State → Range → Bool → State → Type 0
 RemovesIfIdle s r true t = IsIdle s r × Removes s r t
 RemovesIfIdle s r false t = ¬ (IsIdle s r) × (t ≡ s)

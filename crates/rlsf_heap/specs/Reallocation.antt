@@ -1,5 +1,5 @@
--- Payloads that get another size, as contracts see them.
-use Rattle.std.specs.Prelude.{◌≡◌, ℕ, length, min, Option, Some, None, Result, Ok, Err}
+-- Reallocated payloads, as contracts see them.
+use Rattle.std.specs.Prelude.{ℕ, length, min, Option, Some, None, Result, Ok, Err}
 use Rattle.rlsf_base.specs.Changes.{IsIn}
 use Rattle.rlsf_machine.specs.State.{State, filled}
 use Rattle.rlsf_heap.specs.Heap.{PayloadView}
@@ -8,11 +8,11 @@ use Rattle.rlsf_heap.specs.Heap.{PayloadView}
 abbrev pub owned_by : State → PayloadView → State
 owned_by s p = filled s p.start p.bytes
 
--- the address of a payload that has another size, or none where that was refused
+-- the address of a reallocated payload, or none if the reallocation was refused
 abbrev pub moved_to : Result PayloadView PayloadView → Option ℕ
 moved_to (Ok p) = Some p.start
 moved_to (Err p) = None
 
--- as many bytes as both payloads have are here in the second
+-- the first bytes of the second payload are here, as many as both payloads have
 abbrev pub IsKeptHere : PayloadView → PayloadView → Type 0
 IsKeptHere old new = IsIn new.out 0 (min (length old.bytes) (length new.bytes))

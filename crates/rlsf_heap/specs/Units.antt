@@ -1,4 +1,4 @@
--- Payloads of whole units as contracts see them.
+-- Payloads of complete units, as contracts see them.
 use Rattle.std.specs.Prelude.{◌≡◌, ℕ, ◌+◌, ◌-◌, ◌%◌, Option, Some, None}
 use Rattle.rlsf_base.specs.declared.memory.unit_payload.UnitPayload.{UnitPayload}
 use Rattle.rlsf_base.specs.Rounding.{round32}

@@ -1,11 +1,11 @@
--- Bytes of a memory that were filled with zeros.
+-- A memory after some bytes were filled with zeros.
 use Rattle.std.specs.Prelude.{◌≡◌, ℕ, ◌+◌, ◌/◌, ◌<◌, ◌≤◌, ◌⊎◌, length, replicate}
 use Rattle.rlsf_base.specs.declared.memory.range.Range.{Range}
 use Rattle.rlsf_base.specs.OpenSpace.{IsHere}
 use Rattle.rlsf_base.specs.Range.{end_of}
 use Rattle.rlsf_base.specs.Space.{Space, bytes_in, out_at}
 
--- the bytes of a range are here and zero, and nothing else changes but one touch for each word
+-- the bytes of a range are here and zero, one touch is counted for each word, and nothing else changes
 pub record IsZeroed (m n : Space) (r : Range) : Type 0 where
   pub start : n.start ≡ m.start
   pub length : length n.bytes ≡ length m.bytes

@@ -113,10 +113,13 @@ impl<FLBitmap: BitPattern, SLBitmap: BitPattern, const FLLEN: usize, const SLLEN
     }
 
     /// Consumes the heap and returns its memory, as `into_memory` does, if no payload is live. Otherwise returns the heap
-    /// unchanged.
+    /// unchanged, as the error.
+    ///
+    /// The memory is the one that `new` was passed: it has the same start, length and block (`home`).
     pub fn try_into_memory(self) -> Result<OpenMemory, Self>
         ensures which { IsOk result ↔ (live_count self.state ≡ 0) }
         ensures memory { IfOk result (λ m. m ≡ self.memory) }
+        ensures home { IfOk result (λ m. home_of m ≡ self.identity.home) }
         ensures own { IfOk result (λ m. IsAllOwn m.out) }
         ensures free { IfOk result (λ m. IsOwned m (range_of m)) }
         ensures same { IfErr result (λ h. h ≡ self) }
@@ -129,8 +132,8 @@ impl<FLBitmap: BitPattern, SLBitmap: BitPattern, const FLLEN: usize, const SLLEN
     }
 
     /// Allocates a payload for `layout`. It leaves the memory. Its bytes may be raw; if no byte of the memory is raw, none of
-    /// them is. Its address is a multiple of the alignment. Its block is the front of the newest free block of the first class that has a free block and reaches the
-    /// sought size.
+    /// them is. Its address is a multiple of the alignment. Its block is the front of the newest free block of the first
+    /// class that has a free block and reaches the sought size.
     ///
     /// Returns `None` if and only if no free block has a class that reaches the sought size; then nothing changes. Within
     /// bounds that the heap is sized for (`IsSizedFor`), an allocation is never refused.

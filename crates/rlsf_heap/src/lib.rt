@@ -1,4 +1,9 @@
-//! An allocator whose payloads leave its memory: each owns its bytes.
+//! `Heap`, an allocator whose payloads leave its memory: a `Payload` owns its bytes, and can be kept, moved and written while
+//! other payloads are.
+//!
+//! Read `payload.rt` and `heap.rt` first, then `deallocation.rt`, `reallocation.rt`, `pools.rt` and `reading.rt`. `apart.rt`
+//! states the laws of payloads that are out together, `raw.rt` takes payloads apart, `thin.rt` has those of which a
+//! caller knows only the address, and `units.rt` has those of `rlsf_local`. `zeroed.rt` and `state.rt` are helpers. `specs/Heap.antt` defines what contracts see.
 #![tactic(auto)]
 
 mod apart;
@@ -6,11 +11,15 @@ mod deallocation;
 mod heap;
 mod payload;
 mod pools;
+mod raw;
 mod reading;
 mod reallocation;
 mod state;
+mod thin;
 mod units;
 mod zeroed;
 
 pub use heap::Heap;
 pub use payload::Payload;
+pub use raw::RawPayload;
+pub use thin::ThinPayload;

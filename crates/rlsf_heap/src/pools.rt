@@ -120,7 +120,7 @@ impl<FLBitmap: BitPattern, SLBitmap: BitPattern, const FLLEN: usize, const SLLEN
     /// rounded up to a multiple of 32, to its end. The other free blocks keep their order, and every used block is
     /// unchanged. Afterwards no chunk overlaps the removed part.
     ///
-    /// The removed part must be contiguous whole chunks, or empty. No block in it may be used, so none of its payloads is
+    /// The removed part must be complete contiguous chunks, or empty. No block in it may be used, so none of its payloads is
     /// live.
     pub fn remove_pool(&mut self, range: Range)
         requires row { IsRow self.old.state (walked range) }
@@ -139,10 +139,11 @@ impl<FLBitmap: BitPattern, SLBitmap: BitPattern, const FLLEN: usize, const SLLEN
         remove_chunks(&mut self.memory, &mut self.table, range);
         self.state.remove(range.start, range.len);
     }
+
     /// Removes an inserted range, as `remove_pool` does, if no block in it is used, and returns whether it did. Otherwise
-    /// nothing changes.
+    /// nothing changes. The iteration over the blocks is not counted as word accesses.
     ///
-    /// The range from its start, rounded up to a multiple of 32, to its end must be contiguous whole chunks, or empty.
+    /// The range from its start, rounded up to a multiple of 32, to its end must be complete contiguous chunks, or empty.
     pub fn try_remove_pool(&mut self, range: Range) -> bool
         requires { IsRow self.old.state (walked range) }
         ensures step { Steps FLLEN SLLEN self.new (RemovesIfIdle self.old.state (walked range) result) }
@@ -153,6 +154,7 @@ impl<FLBitmap: BitPattern, SLBitmap: BitPattern, const FLLEN: usize, const SLLEN
         ensures same { result ≡ false → self.new ≡ self.old }
         ensures aligns { align_at self.new.state ≡ align_at self.old.state }
         ensures count { live_count self.new.state ≡ live_count self.old.state }
+        ensures touches { self.new.memory.touches + 9 * length self.new.state.chunks ≤ self.old.memory.touches + 9 * length self.old.state.chunks }
         ensures grow { self.old.memory.touches ≤ self.new.memory.touches }
         ensures copied { self.new.memory.copied ≡ self.old.memory.copied }
     {

@@ -1,4 +1,4 @@
-//! Payloads of whole units, which a pointer alone shows: what an allocator of collections needs of a heap.
+//! Payloads of complete units, which a pointer alone shows: what an allocator of collections needs of a heap.
 ghost use Rattle.std.specs.Prelude.{◌≡◌, ◌≢◌, ◌≤◌, ◌<◌, ◌+◌, ◌-◌, ◌*◌, ◌/◌, ◌%◌, ◌^◌, ◌↔◌, IsTrue, ℕ, Some, None, length, IfNone, IfSome, IsSome};
 ghost use Rattle.rlsf_machine.specs.Allocate.{Allocates};
 ghost use Rattle.rlsf_machine.specs.Callers.{align_at};
@@ -39,7 +39,7 @@ impl<FLBitmap: BitPattern, SLBitmap: BitPattern, const FLLEN: usize, const SLLEN
         self.memory.has_units()
     }
 
-    /// Allocates a payload of whole units for `size` bytes, as `allocate` does for the alignment 16. A pointer and the length
+    /// Allocates a payload of complete units for `size` bytes, as `allocate` does for the alignment 16. A pointer and the length
     /// alone show it.
     ///
     /// Returns `None` if and only if `allocate` does; then nothing changes. The memory must have units.

@@ -1,4 +1,4 @@
-//! The calls of a heap that a shared heap makes, and the same behind the lock.
+//! The calls of `Heap` that a `SharedHeap` makes, first on the heap and then through the lock.
 ghost use Rattle.std.specs.Prelude.{◌≡◌, ◌+◌, ◌%◌, ◌<◌, ◌≤◌, length, replicate, IfErr, IfOk, IfSome, MatchResult};
 ghost use Rattle.rlsf_machine.specs.Reallocate.{Keeps};
 ghost use Rattle.rlsf_heap.specs.Heap.{IsWritten};
@@ -11,7 +11,7 @@ use rlsf_heap::{Heap, Payload};
 use rlsf_int::BitPattern;
 use std::sync::Wait;
 
-/// What a heap says of its calls without its memory and its state, which are unknown behind a lock.
+/// The calls of a heap, with only those clauses that don't name its memory or its state. Both are unknown behind a lock.
 pub(crate) trait Calls: Identified {
     fn allocate(&mut self, layout: Layout) -> Option<Payload>
         ensures identity { Self.identity self.new ≡ Self.identity self.old }

@@ -1,4 +1,4 @@
-//! The value under a lock. It keeps the identity that its lock is known by.
+//! The value under a lock. It keeps the identity by which its lock is known.
 ghost use Rattle.std.specs.Prelude.{◌≡◌};
 ghost use Rattle.rlsf_heap.specs.Heap.{Identity};
 
@@ -6,7 +6,7 @@ use rlsf_heap::Heap;
 use rlsf_int::BitPattern;
 use std::marker::{Brand, Model, PhantomData};
 
-/// A value with an identity, which each of its calls leaves as it is.
+/// A value with an identity. No call changes it.
 pub(crate) trait Identified {
     ghost identity: { Self → Identity };
 }
@@ -16,7 +16,7 @@ impl<FLBitmap: BitPattern, SLBitmap: BitPattern, const FLLEN: usize, const SLLEN
     ghost identity = { λ h. h.identity };
 }
 
-/// The identity that a lock is known by. A proof chooses it at each call that passes `Brand`.
+/// The identity by which a lock is known. A proof chooses it at each call that passes `Brand`.
 pub(crate) trait Named {
     ghost name: { Identity };
 }
@@ -27,7 +27,7 @@ impl Named for Brand {
     ghost name = { nameless };
 }
 
-/// A value under a lock that is known by the identity of `Name`.
+/// A value under a lock. The lock is known by the identity of `Name`.
 pub(crate) struct Held<T: Identified, Name: Named> {
     pub(crate) value: T,
     name: PhantomData<Name>,

@@ -11,8 +11,8 @@ use std::sync::Mutex;
 
 /// A mutex whose value keeps its identity. Contracts see it as that identity.
 ///
-/// Nothing is known of the value under a `Mutex` but what its type says, and no type can name an identity. So each call
-/// reads the lock as a mutex of a type whose parameter `Name` represents the identity.
+/// Of the value under a `Mutex` only the invariant of its type is known, and no type can name an identity. So each call reads
+/// the lock as a mutex of a type whose parameter `Name` represents the identity.
 pub(crate) struct Lock<T: Identified> {
     mutex: Mutex<Held<T, Brand>>,
 }
@@ -64,6 +64,7 @@ fn reopen<T: Identified, Name: Named>(
     unsafe { place.read() }
 }
 
+/// Returns a lock round a value that has the identity of `Name`.
 fn lock_named<T: Identified, Name: Named>(value: T) -> Lock<T>
     requires { T.identity value ≡ Name.name }
     ensures { result ≡ Name.name }
@@ -71,6 +72,7 @@ fn lock_named<T: Identified, Name: Named>(value: T) -> Lock<T>
     close::<T, Name>(unsafe { ManuallyDrop::new_unchecked(Mutex::new(Held::new(value))) })
 }
 
+/// Consumes a lock that has the identity of `Name`, and returns its value.
 fn unlock_named<T: Identified, Name: Named>(lock: Lock<T>) -> T
     requires { lock ≡ Name.name }
     ensures { T.identity result ≡ Name.name }

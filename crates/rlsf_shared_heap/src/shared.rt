@@ -12,7 +12,7 @@ use rlsf_int::BitPattern;
 use std::marker::{Brand, Model};
 use std::sync::Wait;
 
-/// A `Heap` that threads share. Each call takes one lock. Besides, it does what the call of `Heap` does.
+/// A `Heap` that threads share. Each call takes one lock, and makes the call of `Heap` with the same name.
 ///
 /// A payload owns its bytes, so its thread reads and writes them without the lock. Dropping a shared heap drops its heap.
 #[derive(Drop)]
@@ -40,7 +40,7 @@ impl<FLBitmap: BitPattern, SLBitmap: BitPattern, const FLLEN: usize, const SLLEN
     FLLEN,
     SLLEN,
 > {
-    /// Creates a shared heap of `heap`, whose payloads it takes back.
+    /// Creates a shared heap of `heap`. Payloads that `heap` allocated are payloads of the shared heap.
     pub fn new(heap: Heap<FLBitmap, SLBitmap, FLLEN, SLLEN>) -> Self
         ensures identity { result.identity ≡ heap.identity }
     {
@@ -49,7 +49,7 @@ impl<FLBitmap: BitPattern, SLBitmap: BitPattern, const FLLEN: usize, const SLLEN
         }
     }
 
-    /// Consumes the shared heap, and returns its heap.
+    /// Consumes the shared heap, and returns its heap. Payloads of the shared heap are payloads of that heap.
     pub fn into_inner(self) -> Heap<FLBitmap, SLBitmap, FLLEN, SLLEN>
         ensures identity { result.identity ≡ self.identity }
     {
@@ -57,8 +57,8 @@ impl<FLBitmap: BitPattern, SLBitmap: BitPattern, const FLLEN: usize, const SLLEN
         lock.into_inner()
     }
 
-    /// Allocates a payload for `layout`, as `Heap::allocate` does. Its bytes may be raw. Returns `None` if the heap refuses. No
-    /// clause says when: other threads may change the heap at any moment.
+    /// Allocates a payload for `layout`, as `Heap::allocate` does. Its bytes may be raw. Returns `None` if the heap does.
+    /// No clause says when: other threads may change the heap at any moment.
     pub fn allocate<R: Wait>(&self, rt: &R, layout: Layout) -> Option<Payload>
         ensures payload { IfSome result (λ p. p.identity ≡ self.now.identity) }
         ensures align { IfSome result (λ p. p.align ≡ layout.align) }
@@ -69,7 +69,7 @@ impl<FLBitmap: BitPattern, SLBitmap: BitPattern, const FLLEN: usize, const SLLEN
         calls::allocate::<Heap<FLBitmap, SLBitmap, FLLEN, SLLEN>, Brand, R>(&self.lock, rt, layout)
     }
 
-    /// Allocates a payload for `layout`, as `Heap::allocate_zeroed` does. Its bytes are zeros. Returns `None` if the heap refuses.
+    /// Allocates a payload for `layout`, as `Heap::allocate_zeroed` does. Its bytes are zeros. Returns `None` if the heap does.
     /// No clause says when.
     pub fn allocate_zeroed<R: Wait>(&self, rt: &R, layout: Layout) -> Option<Payload>
         ensures payload { IfSome result (λ p. p.identity ≡ self.now.identity) }
@@ -85,7 +85,9 @@ impl<FLBitmap: BitPattern, SLBitmap: BitPattern, const FLLEN: usize, const SLLEN
         )
     }
 
-    /// Deallocates a payload of this heap, as `Heap::deallocate` does.
+    /// Deallocates a payload, as `Heap::deallocate` does.
+    ///
+    /// The payload must be one of this heap.
     pub fn deallocate<R: Wait>(&self, rt: &R, payload: Payload)
         requires { payload.identity ≡ self.now.identity }
     {
@@ -94,10 +96,12 @@ impl<FLBitmap: BitPattern, SLBitmap: BitPattern, const FLLEN: usize, const SLLEN
         );
     }
 
-    /// Changes the size of a payload of this heap to `size` bytes, as `Heap::reallocate` does. Returns it with its alignment. The
-    /// first bytes are kept, as many as both sizes have, and are here. The address may be another.
+    /// Changes the size of a payload to `size` bytes, as `Heap::reallocate` does. Returns it with its alignment. The first bytes
+    /// are kept, as many as both sizes have, and are here. The payload may move to another address.
     ///
-    /// Returns the payload as it was, as the error, if the heap refuses. No clause says when.
+    /// Returns the payload as it was, as the error, if the heap does. No clause says when.
+    ///
+    /// The payload must be one of this heap, and its bytes must be here.
     pub fn reallocate<R: Wait>(
         &self,
         rt: &R,

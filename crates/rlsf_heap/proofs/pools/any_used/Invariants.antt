@@ -1,4 +1,4 @@
--- One of the blocks is used exactly if one of those that are left is.
+-- One of the blocks is used if and only if one of the blocks that are left is used.
 use Rattle.std.proofs.Common.{◌≡◌}
 use Rattle.rlsf_heap.specs.Pools.{has_used}
 use Rattle.rlsf_heap.proofs.pools.any_used.Given as goal

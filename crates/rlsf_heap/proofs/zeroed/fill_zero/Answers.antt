@@ -19,6 +19,11 @@ loop-addr-preserved c =
     let there : c.loop-addr.addr ≡ at + k = omega (arith, is.0) in
     let next : k + 8 ≡ c.loop-addr.addr + 8 - at = omega (arith, is.0) in
     let more : k + 8 ≤ c.args.range.len = omega (arith, is.0, is.1, is.2, c.requires.whole.0, c.requires.whole.1, c.loop-addr-test.true) in
-    let placed : IsWritable n (at + k) = (omega (arith, there, is.2), (omega (arith, z.start, c.requires.place.0), omega (arith, z.start, z.length, c.requires.place.1, more)), own-next m n c.args.range k c.requires.own c.requires.place.0 more z) in
-    let filled = zeroed-more m n o at k c.requires.place.0 (omega (arith, there, is.2, c.requires.whole.0)) z placed e.start (e.bytes ∙ ap (λ a. with_word n a 0) there) (e.out ∙ ap (λ a. out_with n (word_range a)) there) e.touches e.copied e.view in
+    let placed : IsWritable n (at + k) = (
+      omega (arith, there, is.2),
+      (omega (arith, z.start, c.requires.place.0), omega (arith, z.start, z.length, c.requires.place.1, more)),
+      own-next m n c.args.range k c.requires.own c.requires.place.0 more z,
+    ) in
+    let filled = zeroed-more m n o at k c.requires.place.0 (omega (arith, there, is.2, c.requires.whole.0)) z placed e.start (e.bytes ∙ ap (λ a. with_word n a 0) there)
+    (e.out ∙ ap (λ a. out_with n (word_range a)) there) e.touches e.copied e.view in
     (omega (arith, is.0), omega (arith, more, is.0), omega (arith, is.2), subst (λ j. IsZeroed m o (range_at at j)) next filled)

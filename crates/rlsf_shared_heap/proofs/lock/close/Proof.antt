@@ -47,7 +47,8 @@ close_spec 𝓤 𝓛 𝓜 𝓡 wired T B LT LB g d g' d' met met' =
     let stayed : Stays En.signature.params En.kept = (stay_dropped self no, tt) in
     let C = (tables 𝓤 𝓛.H 𝓜 𝓡 𝓡.env).C in
     let Λ = (tables 𝓤 𝓛.H 𝓜 𝓡 𝓡.env).Λ in
-    proved_at 𝓛 En stayed c 𝓜 𝓡 (Goes-blank 𝓛 2 self no (λ κs x w. tt), tt) (f.Key.name args) fn (code.unfolded 𝓤 𝓛.H 𝓜 𝓡 wired (T, (B, tt)) d d') (λ z are.
+    proved_at 𝓛 En stayed c 𝓜 𝓡 (Goes-blank 𝓛 2 self no (λ κs x w. tt), tt) (f.Key.name args) fn (code.unfolded 𝓤 𝓛.H 𝓜 𝓡 wired (T, (B, tt)) d d')
+    (λ z are.
     let Post : Val → SProp 𝓤 = (walk_of 𝓛 En stayed c).post z in
     let κs = z.0.0 in
     let a = z.0.3 in
@@ -56,7 +57,8 @@ close_spec 𝓤 𝓛 𝓜 𝓡 wired T B LT LB g d g' d' met met' =
     let v : Val = got.0 in
     let good = got.2 in
     let good' : T' (has_ty (layout L) v) × WT v = (subst T' (sym (has_ty-raw (layout R) v) ∙ has_ty-raw (layout L) v) good.0, good.1) in
-    qed 𝓛 ((raw (alive 𝓛 En.signature z.0.0 z.0.1) ⊛ ‵ (owns (types_at En.signature.params κs) a vss)) ∷ (raw (fact 𝓤 (κs.0 ⊑ T.lives)) ⊛ (raw (fact 𝓤 (κs.1.0 ⊑ B.lives)) ⊛ ‵ ftrue)) ∷ []) ∵
+    qed 𝓛 ((raw (alive 𝓛 En.signature z.0.0 z.0.1) ⊛ ‵ (owns (types_at En.signature.params κs) a vss))
+    ∷ (raw (fact 𝓤 (κs.0 ⊑ T.lives)) ⊛ (raw (fact 𝓤 (κs.1.0 ⊑ B.lives)) ⊛ ‵ ftrue)) ∷ []) ∵
     move ! (1 ∷ []) $ drop ! $ split ! $ move ! (1 ∷ []) $ fsplit ! $ move ! (1 ∷ []) $ drop ! $
     rewrite ! 0 (λ (us : List Val). ‵ (R.own_val a.0 us)) got.1 refl $
     regoal ! (λ (us : List Val). prop (WpFn 𝓤 𝓛.H C Λ fn us Post)) (λ i. got.1 i ++ []) refl $

@@ -51,13 +51,16 @@ open_spec 𝓤 𝓛 𝓜 𝓡 wired T B LT LB g d g' d' met met' =
     let vss : List Val × Unit {0} = (shr_vals a.0, tt) in
     let y : W.Ghost = ((κs, qs, bounds, a, vss), n) in
     let Named : Type 0 = a.0.now ≡ g'.name in
-    qed 𝓛 ((raw (alive 𝓛 En.signature κs qs) ⊛ ‵ (owns (types_at En.signature.params κs) a vss)) ∷ (raw (fact 𝓤 (κs.1.0 ⊑ T.lives)) ⊛ (raw (fact 𝓤 (κs.1.1.0 ⊑ B.lives)) ⊛ raw (fact 𝓤 Named))) ∷ []) ∵
+    qed 𝓛 ((raw (alive 𝓛 En.signature κs qs) ⊛ ‵ (owns (types_at En.signature.params κs) a vss))
+    ∷ (raw (fact 𝓤 (κs.1.0 ⊑ T.lives)) ⊛ (raw (fact 𝓤 (κs.1.1.0 ⊑ B.lives)) ⊛ raw (fact 𝓤 Named))) ∷ []) ∵
     move ! (1 ∷ []) $ split ! $ drop ! $ split ! $ drop ! $ heard ! Named (λ e.
     split ! $ move ! (1 ∷ []) $ fsplit ! $ fsplit ! $ keep ! (1 ∷ 3 ∷ []) $
-    rewrite ! 0 (λ (i : Identity). ‵ (hidden_shr (manually.the_row (mutex.the_row (held.the_row (param 0 T) (param 1 B) g (record { name = i })))) κ (record { value = tt }) b o)) e refl $
+    rewrite ! 0 (λ (i : Identity). ‵ (hidden_shr (manually.the_row (mutex.the_row (held.the_row (param 0 T) (param 1 B) g (record { name = i })))) κ
+    (record { value = tt }) b o)) e refl $
     enter ! 𝓣.C 𝓣.Λ fn (vptr b o ∷ []) (W.post y) $ alloc_all ! (λ l. pass_all ! refl ((tt, tt), tt) $
     let here : Env 𝓤 𝓛.H = env fn.locals l in
-    first ! $ blocks ! $ sets ! (addr ! (through ! refl (stop !))) refl (tt, tt) $ sets ! (of_opd ! (get ! refl)) refl (tt, tt) $ sets_last ! (addr ! (through ! refl (stop !))) refl (tt, tt) $
+    first ! $ blocks ! $ sets ! (addr ! (through ! refl (stop !))) refl (tt, tt) $ sets ! (of_opd ! (get ! refl)) refl (tt, tt) $ sets_last !
+    (addr ! (through ! refl (stop !))) refl (tt, tt) $
     exec ! 𝓣.C 𝓣.Λ here (after 1 fn.body) (at_ret here (W.post y)) $ sets ! (of_opd ! (get ! refl)) refl (tt, tt) $
     returns ! (look_at ! 0 refl) $ free_all ! refl $
     feq_i ! (List Val) (vptr b o ∷ []) (vptr b o ∷ []) refl $ fjoin ! $ nothing ! $ nothing ! $ fjoin ! $ nothing ! $ move ! (3 ∷ 1 ∷ 2 ∷ 0 ∷ []) $

@@ -54,13 +54,15 @@ reopen_spec 𝓤 𝓛 𝓜 𝓡 wired T B LT LB g d g' d' met met' =
     let stayed : Stays En.signature.params En.kept = (stay_dropped self no, tt) in
     let C = (tables 𝓤 𝓛.H 𝓜 𝓡 𝓡.env).C in
     let Λ = (tables 𝓤 𝓛.H 𝓜 𝓡 𝓡.env).Λ in
-    proved_at 𝓛 En stayed c 𝓜 𝓡 (Goes-blank 𝓛 2 self no (λ κs x w. tt), tt) (f.Key.name args) fn (code.unfolded 𝓤 𝓛.H 𝓜 𝓡 wired (T, (B, tt)) d d') (λ z are.
+    proved_at 𝓛 En stayed c 𝓜 𝓡 (Goes-blank 𝓛 2 self no (λ κs x w. tt), tt) (f.Key.name args) fn (code.unfolded 𝓤 𝓛.H 𝓜 𝓡 wired (T, (B, tt)) d d')
+    (λ z are.
     let Post : Val → SProp 𝓤 = (walk_of 𝓛 En stayed c).post z in
     let κs = z.0.0 in
     let a = z.0.3 in
     let vss = z.0.4 in
     let Named : Type 0 = a.0.value ≡ g'.name in
-    qed 𝓛 ((raw (alive 𝓛 En.signature z.0.0 z.0.1) ⊛ ‵ (owns (types_at En.signature.params κs) a vss)) ∷ (raw (fact 𝓤 (κs.0 ⊑ T.lives)) ⊛ (raw (fact 𝓤 (κs.1.0 ⊑ B.lives)) ⊛ raw (fact 𝓤 Named))) ∷ []) ∵
+    qed 𝓛 ((raw (alive 𝓛 En.signature z.0.0 z.0.1) ⊛ ‵ (owns (types_at En.signature.params κs) a vss))
+    ∷ (raw (fact 𝓤 (κs.0 ⊑ T.lives)) ⊛ (raw (fact 𝓤 (κs.1.0 ⊑ B.lives)) ⊛ raw (fact 𝓤 Named))) ∷ []) ∵
     move ! (1 ∷ []) $ split ! $ drop ! $ split ! $ drop ! $ heard ! Named (λ e. split ! $ move ! (1 ∷ []) $ fsplit ! $ move ! (1 ∷ []) $ drop ! $
     unwraps inside ! ((lock_laws.the_row_laws (param 0 T) g (param_laws 0 T LT)).lawful 𝓛) [] [] a.0.value vss.0 (λ v typed told.
     let v' : Val = round v in
@@ -74,7 +76,8 @@ reopen_spec 𝓤 𝓛 𝓜 𝓡 wired T B LT LB g d g' d' met met' =
     sets ! (of_opd ! (get ! refl)) refl good $ sets ! (addr ! (from ! (stop !))) refl (tt, tt) $
     take_at ! 2 $ use1 𝓛 (‵ (fat full_share (raw_ty (layout to_row)) (l 2) 0 v')) (𝓛.laws.at_raw full_share (layout from_row) (l 2) 0 v') $
     first ! $ blocks ! $ sets_last ! (of_opd ! (load ! (through ! refl (stop !)) (look_raw ! 0 refl))) refl good' $
-    exec ! C Λ here (after 3 fn.body) (at_ret here Post) $ use1 𝓛 (‵ (fat full_share (layout from_row) (l 2) 0 v')) (𝓛.laws.raw_at full_share (layout from_row) (l 2) 0 v') $ give_at ! 2 $
+    exec ! C Λ here (after 3 fn.body) (at_ret here Post) $ use1 𝓛 (‵ (fat full_share (layout from_row) (l 2) 0 v'))
+    (𝓛.laws.raw_at full_share (layout from_row) (l 2) 0 v') $ give_at ! 2 $
     sets ! (of_opd ! (get ! refl)) refl good' $
     returns ! (look_at ! 0 refl) $ free_all ! refl $
     nothing ! $ nothing ! $ nothing ! $ fjoin ! $ move ! (3 ∷ 0 ∷ 2 ∷ 1 ∷ []) $

@@ -7,10 +7,12 @@ use Rattle.rlsf_heap.proofs.heap.Heap.allocate_units.Given as given
 use Rattle.rlsf_heap.proofs.heap.Heap.allocate_units.Goals as goal
 use Rattle.rlsf_heap.proofs.heap.Heap.allocate_units.Goals.{In_ok-payload}
 
-asked : (g : given.Over) (c : In_ok-payload g) → Steps g.row.FLLEN g.row.SLLEN c.allocate.new.self (Allocates g.row.SLLEN c.args.self.now.state c.args.size 16 (Some c.in_ok-payload.payload.start))
+asked : (g : given.Over) (c : In_ok-payload g) → Steps g.row.FLLEN g.row.SLLEN c.allocate.new.self
+    (Allocates g.row.SLLEN c.args.self.now.state c.args.size 16 (Some c.in_ok-payload.payload.start))
 asked g c =
     let e = c.from_size_align_unchecked-layout.ensures in
-    subst (λ (u : ℕ × ℕ). Steps g.row.FLLEN g.row.SLLEN c.allocate.new.self (Allocates g.row.SLLEN c.args.self.now.state u.0 u.1 (Some c.in_ok-payload.payload.start))) (λ i. (e.0 i, e.1 i)) c.in_ok-payload.ensures.step
+    subst (λ (u : ℕ × ℕ). Steps g.row.FLLEN g.row.SLLEN c.allocate.new.self (Allocates g.row.SLLEN c.args.self.now.state u.0 u.1 (Some c.in_ok-payload.payload.start)))
+    (λ i. (e.0 i, e.1 i)) c.in_ok-payload.ensures.step
 
 long : (g : given.Over) (c : In_ok-payload g) → length c.in_ok-payload.payload.bytes ≡ payload_len c.args.size
 long g c = c.in_ok-payload.ensures.long ∙ units-long g.row.FLLEN g.row.SLLEN c.allocate.new.self c.args.self.now.state c.args.size c.in_ok-payload.payload.start (asked g c)

@@ -1,4 +1,4 @@
-use Rattle.std.proofs.Common.{◌≡◌, ◌+◌, ◌%◌, ◌<◌, ◌≤◌, List, length, None, Some, refl, sym, ap, subst, ◌∙◌, arith}
+use Rattle.std.proofs.Common.{◌≡◌, ◌+◌, ◌%◌, ◌<◌, ◌≤◌, length, None, Some, refl, sym, ap, subst, ◌∙◌, arith}
 use Rattle.std.proofs.lemmas.List.{length-replicate}
 use Rattle.rlsf_base.proofs.Lending.Present.{own-here}
 use Rattle.rlsf_base.specs.declared.memory.range.Range.{Range}
@@ -31,7 +31,7 @@ use Rattle.rlsf_heap.proofs.heap.Heap.allocate_zeroed.Given as given
 use Rattle.rlsf_heap.proofs.heap.Heap.allocate_zeroed.Goals as goal
 use Rattle.rlsf_heap.proofs.heap.Heap.allocate_zeroed.Goals.{After-issue-ticket, After-load_usable_bytes-range, In_err-addr, In_ok-addr}
 
--- ---- what stays where it is refused
+-- ---- a refused allocation changes nothing
 
 abbrev stayed : (g : given.Over) → In_err-addr g → State
 stayed g c = read_from c.self.inside.memory c.self.inside.state.state
@@ -40,26 +40,33 @@ refusing : (g : given.Over) (c : In_err-addr g) → Allocates g.row.SLLEN (staye
     × StandsFor g.row.FLLEN g.row.SLLEN (contents c.allocate_block.new.memory c.allocate_block.new.table) (stayed g c)
 refusing g c =
     let (t, step, stands, spare) = c.in_err-addr.ensures.step (stayed g c) c.self.invariant.stands in
-    subst (λ (x : State). Allocates g.row.SLLEN (stayed g c) c.args.layout.size c.args.layout.align None x × StandsFor g.row.FLLEN g.row.SLLEN (contents c.allocate_block.new.memory c.allocate_block.new.table) x) step.1 (step, stands)
+    subst (λ (x : State). Allocates g.row.SLLEN (stayed g c) c.args.layout.size c.args.layout.align None x
+    × StandsFor g.row.FLLEN g.row.SLLEN (contents c.allocate_block.new.memory c.allocate_block.new.table) x) step.1 (step, stands)
 
 pub invariant_of-self : goal.invariant_of-self
 invariant_of-self g c =
     let d = (goal.at.invariant_of-self g c).In_err-addr in
-    IsHeap-arrived (refusing g d).1 c.self.inside.state.state (sym (bare-kept c.self.invariant)) c.self.invariant.valid c.self.inside.ledger.entries c.self.invariant.tickets c.self.inside.live c.self.invariant.counted
+    IsHeap-arrived (refusing g d).1 c.self.inside.state.state (sym (bare-kept c.self.invariant)) c.self.invariant.valid c.self.inside.ledger.entries c.self.invariant.tickets
+    c.self.inside.live c.self.invariant.counted
 
-refused : (g : given.Over) (c : In_err-addr g) → Allocates g.row.SLLEN c.args.self.now.state c.args.layout.size c.args.layout.align None (read_from c.allocate_block.new.memory c.self.inside.state.state)
-refused g c = stepped (refusing g c).1 c.self.inside.state.state (sym (bare-kept c.self.invariant)) c.self.inside.memory c.self.inside.state.state c.args.self.now c.self.view_is (λ old. Allocates g.row.SLLEN old c.args.layout.size c.args.layout.align None) (refusing g c).0
+refused : (g : given.Over) (c : In_err-addr g) → Allocates g.row.SLLEN c.args.self.now.state c.args.layout.size c.args.layout.align None
+    (read_from c.allocate_block.new.memory c.self.inside.state.state)
+refused g c = stepped (refusing g c).1 c.self.inside.state.state (sym (bare-kept c.self.invariant)) c.self.inside.memory c.self.inside.state.state c.args.self.now c.self.view_is
+    (λ old. Allocates g.row.SLLEN old c.args.layout.size c.args.layout.align None) (refusing g c).0
 
 pub returns-in_err-addr-clause-step : goal.returns-in_err-addr-clause-step
 returns-in_err-addr-clause-step g c =
     let d = (goal.at.returns-in_err-addr-clause-step g c).In_err-addr in
-    Steps-arrived (refusing g d).1 c.self.inside.state.state (sym (bare-kept c.self.invariant)) c.self.inside.ledger.name (Allocates g.row.SLLEN c.args.self.now.state c.args.layout.size c.args.layout.align (addr_of c.from_residual.result))
-    (subst (λ o. Allocates g.row.SLLEN c.args.self.now.state c.args.layout.size c.args.layout.align (addr_of o) (read_from c.allocate_block.new.memory c.self.inside.state.state)) (sym c.from_residual.ensures) (refused g d))
+    Steps-arrived (refusing g d).1 c.self.inside.state.state (sym (bare-kept c.self.invariant)) c.self.inside.ledger.name
+    (Allocates g.row.SLLEN c.args.self.now.state c.args.layout.size c.args.layout.align (addr_of c.from_residual.result))
+    (subst (λ o. Allocates g.row.SLLEN c.args.self.now.state c.args.layout.size c.args.layout.align (addr_of o) (read_from c.allocate_block.new.memory c.self.inside.state.state))
+    (sym c.from_residual.ensures) (refused g d))
 
 pub returns-in_err-addr-clause-room : goal.returns-in_err-addr-clause-room
 returns-in_err-addr-clause-room g c = λ count size align sized few short fits.
     let d = (goal.at.returns-in_err-addr-clause-room g c).In_err-addr in
-    absurd (never_refused (view_well_formed c.self.invariant c.args.self.now c.self.view_is) (read_from c.allocate_block.new.memory c.self.inside.state.state) count size align sized c.args.layout.size c.args.layout.align few short fits (refused g d))
+    absurd (never_refused (view_well_formed c.self.invariant c.args.self.now c.self.view_is) (read_from c.allocate_block.new.memory c.self.inside.state.state) count size align
+    sized c.args.layout.size c.args.layout.align few short fits (refused g d))
 
 pub returns-in_err-addr-clause-bounds : goal.returns-in_err-addr-clause-bounds
 returns-in_err-addr-clause-bounds g c = λ count size align sized short fits.
@@ -68,7 +75,8 @@ returns-in_err-addr-clause-bounds g c = λ count size align sized short fits.
 
 -- ---- a payload is placed
 
-placing_first : (g : given.Over) (c : In_ok-addr g) → (t : State) × Placing g.row.FLLEN g.row.SLLEN c.self.inside.memory c.allocate_block.new.memory c.self.inside.table c.allocate_block.new.table
+placing_first : (g : given.Over) (c : In_ok-addr g) → (t : State)
+    × Placing g.row.FLLEN g.row.SLLEN c.self.inside.memory c.allocate_block.new.memory c.self.inside.table c.allocate_block.new.table
     (read_from c.self.inside.memory c.self.inside.state.state) t c.args.layout.size c.args.layout.align c.in_ok-addr.addr
 placing_first g c =
     let is = c.in_ok-addr.ensures.step (read_from c.self.inside.memory c.self.inside.state.state) c.self.invariant.stands in
@@ -91,22 +99,26 @@ before g c = read_from c.self.inside.memory c.self.inside.state.state
 after : (g : given.Over) → After-load_usable_bytes-range g → State
 after g c = (c.in_ok-addr.ensures.step (before g c) c.self.invariant.stands).0
 
-placing : (g : given.Over) (c : After-load_usable_bytes-range g) → Placing g.row.FLLEN g.row.SLLEN c.self.inside.memory c.allocate_block.new.memory c.self.inside.table c.allocate_block.new.table (before g c) (after g c) c.args.layout.size c.args.layout.align c.in_ok-addr.addr
+placing : (g : given.Over) (c : After-load_usable_bytes-range g)
+    → Placing g.row.FLLEN g.row.SLLEN c.self.inside.memory c.allocate_block.new.memory c.self.inside.table c.allocate_block.new.table (before g c) (after g c) c.args.layout.size
+    c.args.layout.align c.in_ok-addr.addr
 unfolding after
 placing g c =
     let is = c.in_ok-addr.ensures.step (before g c) c.self.invariant.stands in
     record { old = c.self.invariant.stands; power = c.args.layout.valid.aligned; places = is.1; now = is.2; own = c.in_ok-addr.ensures.own }
 
--- the payload, once its length was read
+-- the payload after its length is read
 reading : (g : given.Over) (c : After-load_usable_bytes-range g)
-    → Placing g.row.FLLEN g.row.SLLEN c.self.inside.memory c.load_usable_bytes-range.new.memory c.self.inside.table c.allocate_block.new.table (before g c) (after g c) c.args.layout.size c.args.layout.align c.in_ok-addr.addr
+    → Placing g.row.FLLEN g.row.SLLEN c.self.inside.memory c.load_usable_bytes-range.new.memory c.self.inside.table c.allocate_block.new.table (before g c) (after g c)
+    c.args.layout.size c.args.layout.align c.in_ok-addr.addr
 reading g c = placing-touched c.load_usable_bytes-range.new.memory 3 c.in_ok-addr.ensures.costs.start c.load_usable_bytes-range.ensures.memory (placing g c)
 
 -- the range is that of its bytes
 range : (g : given.Over) (c : After-load_usable_bytes-range g) → c.load_usable_bytes-range.result ≡ usable (new (reading g c))
 range g c =
     let p = reading g c in
-    c.load_usable_bytes-range.ensures.range g.row.FLLEN g.row.SLLEN (contents c.allocate_block.new.memory c.allocate_block.new.table) (after g c) (new p) refl (placing g c).now (is_new p, at_new p)
+    c.load_usable_bytes-range.ensures.range g.row.FLLEN g.row.SLLEN (contents c.allocate_block.new.memory c.allocate_block.new.table) (after g c) (new p) refl (placing g c).now
+    (is_new p, at_new p)
 
 pub fill_zero-requires-clause-place : goal.fill_zero-requires-clause-place
 fill_zero-requires-clause-place g c =
@@ -129,13 +141,14 @@ take_out-zeros-requires-clause-place g c =
     let d = (goal.at.take_out-zeros-requires-clause-place g c).After-load_usable_bytes-range in
     let m = c.load_usable_bytes-range.new.memory in
     let z = c.fill_zero.ensures in
-    let lies : LiesIn c.load_usable_bytes-range.result m.start (length m.bytes) = subst (λ (r : Range). LiesIn r m.start (length m.bytes)) (sym (range g d)) (new-lies (reading g d)) in
+    let lies : LiesIn c.load_usable_bytes-range.result m.start (length m.bytes) =
+    subst (λ (r : Range). LiesIn r m.start (length m.bytes)) (sym (range g d)) (new-lies (reading g d)) in
     (omega (arith, lies, z.start, z.length), omega (arith, lies, z.start, z.length))
 
 pub take_out-zeros-requires-clause-own : goal.take_out-zeros-requires-clause-own
 take_out-zeros-requires-clause-own g c = own-here c.fill_zero.new.memory c.load_usable_bytes-range.result c.fill_zero.ensures.here
 
--- ---- its bytes are filled, and leave
+-- ---- its bytes are filled with zeros, and leave
 
 abbrev read : (g : given.Over) → After-issue-ticket g → After-load_usable_bytes-range g
 read g c = (goal.at.invariant_of-self-2 g c).After-load_usable_bytes-range
@@ -150,7 +163,8 @@ zeros : (g : given.Over) (c : After-issue-ticket g) → IsZeroed c.load_usable_b
 zeros g c = subst (IsZeroed c.load_usable_bytes-range.new.memory c.fill_zero.new.memory) (range g (read g c)) c.fill_zero.ensures
 
 filling : (g : given.Over) (c : After-issue-ticket g)
-    → Placing g.row.FLLEN g.row.SLLEN c.self.inside.memory c.fill_zero.new.memory c.self.inside.table c.allocate_block.new.table (before g (read g c)) (reached g c) c.args.layout.size c.args.layout.align c.in_ok-addr.addr
+    → Placing g.row.FLLEN g.row.SLLEN c.self.inside.memory c.fill_zero.new.memory c.self.inside.table c.allocate_block.new.table (before g (read g c)) (reached g c)
+    c.args.layout.size c.args.layout.align c.in_ok-addr.addr
 filling g c = placing-zeroed (reading g (read g c)) c.fill_zero.new.memory (first g c) (zeros g c)
 
 filled : (g : given.Over) (c : After-issue-ticket g) → c.load_usable_bytes-range.result ≡ usable (new (filling g c))
@@ -162,7 +176,7 @@ standing g c =
     let e = c.take_out-zeros.ensures in
     stands-left (filling g c) c.take_out-zeros.new.self e.start e.bytes (e.out ∙ ap (out_without c.fill_zero.new.memory) (filled g c))
 
--- what is kept of the state is the one that the payload leads to
+-- the ghost state is the one with the payload
 kept : (g : given.Over) (c : After-issue-ticket g) → c.allocate.new.self.state ≡ bare (reached g c)
 kept g c =
     let p = filling g c in
@@ -179,7 +193,8 @@ invariant_of-self-2 g c =
     let r = c.load_usable_bytes-range.result in
     IsHeap-arrived (standing g d) c.allocate.new.self.state (kept g d) c.self.invariant.valid c.issue-ticket.new.self.entries
     (subst (AreIssued (reached g d)) (sym c.issue-ticket.ensures.entries)
-    (issued-new (filling g d) c.self.inside.ledger.entries c.self.invariant.tickets (extent r.start r.len c.align-align.result) (address g d) (ap (λ (q : Range). q.len) (filled g d)) c.align-align.ensures.value))
+    (issued-new (filling g d) c.self.inside.ledger.entries c.self.invariant.tickets (extent r.start r.len c.align-align.result) (address g d)
+    (ap (λ (q : Range). q.len) (filled g d)) c.align-align.ensures.value))
     (c.self.inside.live + 1) (one_more (filling g d) c.self.inside.live c.self.invariant.counted).0
 
 -- ---- what contracts see
@@ -195,7 +210,8 @@ did : (g : given.Over) (c : After-issue-ticket g) → Places g.row.SLLEN c.args.
 did g c =
     let p = filling g c in
     subst (λ addr. Places g.row.SLLEN c.args.self.now.state c.args.layout.size c.args.layout.align addr (now g c)) (at g c)
-    (stepped (standing g c) c.allocate.new.self.state (kept g c) c.self.inside.memory c.self.inside.state.state c.args.self.now c.self.view_is (λ old. Places g.row.SLLEN old c.args.layout.size c.args.layout.align c.in_ok-addr.addr) p.places)
+    (stepped (standing g c) c.allocate.new.self.state (kept g c) c.self.inside.memory c.self.inside.state.state c.args.self.now c.self.view_is
+    (λ old. Places g.row.SLLEN old c.args.layout.size c.args.layout.align c.in_ok-addr.addr) p.places)
 
 well : (g : given.Over) (c : After-issue-ticket g) → IsWellFormed g.row.FLLEN g.row.SLLEN (range_of c.args.self.now.memory) c.args.self.now.state
 well g c = view_well_formed c.self.invariant c.args.self.now c.self.view_is
@@ -203,7 +219,7 @@ well g c = view_well_formed c.self.invariant c.args.self.now c.self.view_is
 seen : (g : given.Over) (c : After-issue-ticket g) → SeesNew c.args.self.now.state (now g c) c.args.layout.size c.args.layout.align c.take_out-zeros.result.start
 seen g c = new_seen (well g c) (now g c) c.args.layout.size c.args.layout.align c.take_out-zeros.result.start c.args.layout.valid.aligned (did g c)
 
--- the part is as long as the machine's payload
+-- the part is as long as the payload of the reference model
 long : (g : given.Over) (c : After-issue-ticket g) → length c.take_out-zeros.result.bytes ≡ length (bytes_at (now g c) c.take_out-zeros.result.start)
 long g c =
     let e = c.take_out-zeros.ensures.part in
@@ -215,7 +231,8 @@ pub returns-clause-written : goal.returns-clause-written
 returns-clause-written g c = c.take_out-zeros.ensures.full c.fill_zero.ensures.here
 
 pub returns-clause-step : goal.returns-clause-step
-returns-clause-step g c = Steps-arrived (standing g c) c.allocate.new.self.state (kept g c) c.issue-ticket.new.self.name (Allocates g.row.SLLEN c.args.self.now.state c.args.layout.size c.args.layout.align (Some c.take_out-zeros.result.start)) (did g c)
+returns-clause-step g c = Steps-arrived (standing g c) c.allocate.new.self.state (kept g c) c.issue-ticket.new.self.name
+    (Allocates g.row.SLLEN c.args.self.now.state c.args.layout.size c.args.layout.align (Some c.take_out-zeros.result.start)) (did g c)
 
 pub returns-clause-live : goal.returns-clause-live
 returns-clause-live g c = (seen g c).live
@@ -224,7 +241,8 @@ pub returns-clause-long : goal.returns-clause-long
 returns-clause-long g c = long g c
 
 pub returns-clause-aligned : goal.returns-clause-aligned
-returns-clause-aligned g c = subst (λ a. a % c.args.layout.align ≡ 0) (sym (did g c).answer) (payload_of-aligned (did g c).range.start c.args.layout.align c.args.layout.valid.aligned)
+returns-clause-aligned g c = subst (λ a. a % c.args.layout.align ≡ 0) (sym (did g c).answer)
+    (payload_of-aligned (did g c).range.start c.args.layout.align c.args.layout.valid.aligned)
 
 pub returns-clause-sized : goal.returns-clause-sized
 returns-clause-sized g c = subst (λ n. c.args.layout.size ≤ n) (sym (long g c)) (seen g c).sized
@@ -243,7 +261,8 @@ returns-clause-count g c = count_new (well g c) (now g c) c.args.layout.size c.a
 
 pub returns-clause-bounds : goal.returns-clause-bounds
 returns-clause-bounds g c = λ count size align sized short fits.
-    sized_new (well g c) (now g c) count size align sized c.args.layout.size c.args.layout.align (Some c.take_out-zeros.result.start) c.args.layout.valid.aligned short fits (did g c)
+    sized_new (well g c) (now g c) count size align sized c.args.layout.size c.args.layout.align (Some c.take_out-zeros.result.start) c.args.layout.valid.aligned short fits
+    (did g c)
 
 -- ---- no byte is raw, if none was
 
@@ -268,5 +287,6 @@ low_range g c = subst (λ (r : Range). c.load_usable_bytes-range.new.memory.star
 pub returns-clause-settled : goal.returns-clause-settled
 returns-clause-settled g c = λ settled.
     let z = c.fill_zero.ensures in
-    settled-left c.fill_zero.new.memory c.take_out-zeros.new.self c.load_usable_bytes-range.result c.take_out-zeros.ensures.start (omega (arith, low_range g c, z.start)) c.take_out-zeros.ensures.out
+    settled-left c.fill_zero.new.memory c.take_out-zeros.new.self c.load_usable_bytes-range.result c.take_out-zeros.ensures.start (omega (arith, low_range g c, z.start))
+    c.take_out-zeros.ensures.out
     (settled-zeroed c.load_usable_bytes-range.new.memory c.fill_zero.new.memory c.load_usable_bytes-range.result z (settled_read g c settled))

@@ -1,4 +1,4 @@
-use Rattle.std.proofs.Common.{◌≡◌, ◌≢◌, ℕ, ◌%◌, ◌++◌, ◌∷◌, [], List, length, set, Some, true, false, sym, ap, subst, ◌∙◌}
+use Rattle.std.proofs.Common.{◌≡◌, ◌≢◌, ℕ, ◌++◌, ◌∷◌, [], List, length, set, Some, true, false, sym, ap, subst, ◌∙◌}
 use Rattle.rlsf_base.specs.Ledger.{Entry, Extent, entry_of, extent, IsIssued}
 use Rattle.rlsf_machine.specs.Callers.{align_at, bytes_at}
 use Rattle.rlsf_machine.specs.State.{State}
@@ -70,13 +70,15 @@ returns-clause-apart g c = shown_apart c.self.invariant.stands.well_formed (show
 pub returns-clause-live : goal.returns-clause-live
 returns-clause-live g c =
     let w = c.self.invariant.stands.well_formed in
-    subst (λ (o : HeapView). (align_at o.state c.args.first.start ≡ Some c.args.first.align) × (align_at o.state c.args.second.start ≡ Some c.args.second.align)) c.self.view_is
+    subst (λ (o : HeapView). (align_at o.state c.args.first.start ≡ Some c.args.first.align) × (align_at o.state c.args.second.start ≡ Some c.args.second.align))
+    c.self.view_is
     (shown_live w (shown c.args.first) (one g c), shown_live w (shown c.args.second) (other g c))
 
 pub returns-clause-long : goal.returns-clause-long
 returns-clause-long g c =
     let w = c.self.invariant.stands.well_formed in
-    subst (λ (o : HeapView). (length c.args.first.bytes ≡ length (bytes_at o.state c.args.first.start)) × (length c.args.second.bytes ≡ length (bytes_at o.state c.args.second.start))) c.self.view_is
+    subst (λ (o : HeapView). (length c.args.first.bytes ≡ length (bytes_at o.state c.args.first.start))
+    × (length c.args.second.bytes ≡ length (bytes_at o.state c.args.second.start))) c.self.view_is
     (shown_long w (shown c.args.first) (one g c), shown_long w (shown c.args.second) (other g c))
 
 pub returns-clause-aligned : goal.returns-clause-aligned

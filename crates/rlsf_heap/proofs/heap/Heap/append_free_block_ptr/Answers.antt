@@ -24,8 +24,13 @@ use Rattle.rlsf_heap.proofs.heap.Heap.append_free_block_ptr.Goals.{After-append}
 
 pub append_chunks-taken-requires : goal.append_chunks-taken-requires
 append_chunks-taken-requires g c =
-    let is = c.self.invariant in
-    (omega arith, (IsValid-widest g.FLBitmap.BitPattern.width_limit is.valid, (_, is.stands, subst (λ (o : HeapView). IsNext (range_of o.memory) o.state c.args.range) (sym c.self.view_is) c.requires)))
+    let is = c.self.invariant in (
+      omega arith,
+      (
+        IsValid-widest g.FLBitmap.BitPattern.width_limit is.valid,
+        (_, is.stands, subst (λ (o : HeapView). IsNext (range_of o.memory) o.state c.args.range) (sym c.self.view_is) c.requires),
+      ),
+    )
 
 -- the heap's state as the call begins
 abbrev before : (g : given.Over) (c : After-append g) → State
@@ -47,9 +52,10 @@ standing : (g : given.Over) (c : After-append g) → StandsFor g.row.FLLEN g.row
 unfolding after
 standing g c = (c.append_chunks-taken.ensures.step (before g c) c.self.invariant.stands (next g c)).2
 
--- what is kept of the state is the one with the range
+-- the ghost state is the one with the range
 kept : (g : given.Over) (c : After-append g) → c.append.new.self.state ≡ bare (after g c)
-kept g c = c.append.ensures ∙ ap (appended_to g.row.FLLEN c.args.range) (sym (bare-kept c.self.invariant)) ∙ appended_to-bare g.row.FLLEN (before g c) (after g c) c.args.range c.append_chunks-taken.result (appending g c)
+kept g c = c.append.ensures ∙ ap (appended_to g.row.FLLEN c.args.range) (sym (bare-kept c.self.invariant))
+    ∙ appended_to-bare g.row.FLLEN (before g c) (after g c) c.args.range c.append_chunks-taken.result (appending g c)
 
 pub invariant_of-self : goal.invariant_of-self
 invariant_of-self g c =
@@ -61,20 +67,23 @@ abbrev now : (g : given.Over) (c : After-append g) → State
 now g c = read_from c.append_chunks-taken.new.memory c.append.new.self.state
 
 did : (g : given.Over) (c : After-append g) → Appends g.row.FLLEN c.args.self.now.state c.args.range c.append_chunks-taken.result (now g c)
-did g c = stepped (standing g c) c.append.new.self.state (kept g c) c.self.inside.memory c.self.inside.state.state c.args.self.now c.self.view_is (λ old. Appends g.row.FLLEN old c.args.range c.append_chunks-taken.result) (appending g c)
+did g c = stepped (standing g c) c.append.new.self.state (kept g c) c.self.inside.memory c.self.inside.state.state c.args.self.now c.self.view_is
+    (λ old. Appends g.row.FLLEN old c.args.range c.append_chunks-taken.result) (appending g c)
 
 well : (g : given.Over) (c : After-append g) → IsWellFormed g.row.FLLEN g.row.SLLEN (range_of c.args.self.now.memory) c.args.self.now.state
 well g c = view_well_formed c.self.invariant c.args.self.now c.self.view_is
 
 pub returns-clause-step : goal.returns-clause-step
-returns-clause-step g c = Steps-arrived (standing g c) c.append.new.self.state (kept g c) c.self.inside.ledger.name (Appends g.row.FLLEN c.args.self.now.state c.args.range c.append_chunks-taken.result) (did g c)
+returns-clause-step g c = Steps-arrived (standing g c) c.append.new.self.state (kept g c) c.self.inside.ledger.name
+    (Appends g.row.FLLEN c.args.self.now.state c.args.range c.append_chunks-taken.result) (did g c)
 
 pub returns-clause-untouched : goal.returns-clause-untouched
 returns-clause-untouched g c = untouched_appended g.row.FLLEN c.args.self.now.state (now g c) c.args.range c.append_chunks-taken.result (did g c)
 
 pub returns-clause-aligns : goal.returns-clause-aligns
 returns-clause-aligns g c = (same_seen c.args.self.now.state (now g c)
-    (callers_see_map g.row.FLLEN g.row.SLLEN (range_of c.args.self.now.memory) c.args.self.now.state (now g c) (append c.args.range c.append_chunks-taken.result) (well g c) c.requires (did g c))).aligns
+    (callers_see_map g.row.FLLEN g.row.SLLEN (range_of c.args.self.now.memory) c.args.self.now.state (now g c) (append c.args.range c.append_chunks-taken.result) (well g c)
+    c.requires (did g c))).aligns
 
 pub returns-clause-count : goal.returns-clause-count
 returns-clause-count g c = count_appended (well g c) (now g c) c.args.range c.append_chunks-taken.result c.requires (did g c)

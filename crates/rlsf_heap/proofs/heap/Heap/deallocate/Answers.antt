@@ -29,22 +29,26 @@ use Rattle.rlsf_heap.proofs.heap.Heap.deallocate.Goals.{After-put_room, After-de
 abbrev before : (g : given.Over) (c : After-put_room g) → State
 before g c = read_from c.self.inside.memory c.self.inside.state.state
 
--- the ticket is that of the part
-known : (g : given.Over) (c : After-put_room g) → IsIssued c.self.inside.ledger.entries c.into_parts-part.result.1.key (extent c.into_parts-part.result.0.start (length c.into_parts-part.result.0.bytes) c.args.payload.align)
-known g c = subst (IsIssued c.self.inside.ledger.entries c.into_parts-part.result.1.key) (λ i. extent (sym c.into_parts-part.ensures.ticket.0 i) (sym c.into_parts-part.ensures.ticket.1 i) (sym c.into_parts-part.ensures.ticket.2 i)) c.redeem.ensures.issued
+-- the ticket is the part's
+known : (g : given.Over) (c : After-put_room g) → IsIssued c.self.inside.ledger.entries c.into_parts-part.result.1.key
+    (extent c.into_parts-part.result.0.start (length c.into_parts-part.result.0.bytes) c.args.payload.align)
+known g c = subst (IsIssued c.self.inside.ledger.entries c.into_parts-part.result.1.key)
+    (λ i. extent (sym c.into_parts-part.ensures.ticket.0 i) (sym c.into_parts-part.ensures.ticket.1 i) (sym c.into_parts-part.ensures.ticket.2 i)) c.redeem.ensures.issued
 
 -- the payload's block
 abbrev block : (g : given.Over) (c : After-put_room g) → Used
 block g c = u c.self.invariant.stands c.self.invariant.tickets c.into_parts-part.result.1.key c.into_parts-part.result.0 c.args.payload.align (known g c)
 
 held : (g : given.Over) (c : After-put_room g) → Holds (before g c) c.start-addr.result (block g c)
-held g c = let h = holds c.self.invariant.stands c.self.invariant.tickets c.into_parts-part.result.1.key c.into_parts-part.result.0 c.args.payload.align (known g c) in (h.0, h.1 ∙ sym c.start-addr.ensures)
+held g c = let h = holds c.self.invariant.stands c.self.invariant.tickets c.into_parts-part.result.1.key c.into_parts-part.result.0 c.args.payload.align (known g c) in
+    (h.0, h.1 ∙ sym c.start-addr.ensures)
 
--- with its bytes back, the memory stands for the same state
+-- with its bytes back, the memory represents the same state
 back : (g : given.Over) (c : After-put_room g) → StandsFor g.row.FLLEN g.row.SLLEN (contents c.put_room.new.self c.self.inside.table) (before g c)
 back g c =
     let e = c.put_room.ensures in
-    stands-back c.self.invariant.stands c.self.invariant.tickets c.into_parts-part.result.1.key c.into_parts-part.result.0 c.args.payload.align (known g c) c.put_room.new.self e.start e.bytes e.out
+    stands-back c.self.invariant.stands c.self.invariant.tickets c.into_parts-part.result.1.key c.into_parts-part.result.0 c.args.payload.align (known g c) c.put_room.new.self
+    e.start e.bytes e.out
 
 pub load_block_of-block-requires : goal.load_block_of-block-requires
 load_block_of-block-requires g c =
@@ -56,10 +60,12 @@ own : (g : given.Over) (d : After-put_room g) (n : Space) → n ≡ record d.put
 own g d n touched =
     let e = d.put_room.ensures in
     owned-same d.put_room.new.self n (usable (block g d)) (ap (λ (o : Space). o.start) touched) (ap (λ (o : Space). o.out) touched)
-    (back-here d.self.invariant.stands d.self.invariant.tickets d.into_parts-part.result.1.key d.into_parts-part.result.0 d.args.payload.align (known g d) d.put_room.new.self e.start e.bytes e.out)
+    (back-here d.self.invariant.stands d.self.invariant.tickets d.into_parts-part.result.1.key d.into_parts-part.result.0 d.args.payload.align (known g d) d.put_room.new.self
+    e.start e.bytes e.out)
 
 -- its block is the one that was found
-starts : (g : given.Over) (d : After-put_room g) (start : ℕ) → AtEachBlock d.put_room.new.self d.start-addr.result (λ u. start ≡ u.block.start) → (block g d).block.start ≡ start
+starts : (g : given.Over) (d : After-put_room g) (start : ℕ) → AtEachBlock d.put_room.new.self d.start-addr.result (λ u. start ≡ u.block.start)
+    → (block g d).block.start ≡ start
 starts g d start each = sym (each g.row.FLLEN g.row.SLLEN (contents d.put_room.new.self d.self.inside.table) (before g d) (block g d) refl (back g d) (held g d))
 
 pub deallocate_block-requires : goal.deallocate_block-requires
@@ -67,10 +73,15 @@ deallocate_block-requires g c =
     let d = (goal.at.deallocate_block-requires g c).After-put_room in
     let n = c.load_block_of-block.new.memory in
     let touched = c.load_block_of-block.ensures.memory in
-    let stands = StandsFor-touched c.put_room.new.self n 2 touched (back g d) in
-    (omega arith, (IsValid-widest g.FLBitmap.BitPattern.width_limit c.self.invariant.valid, ((before g d, block g d, stands, (held g d).0, starts g d c.load_block_of-block.result c.load_block_of-block.ensures.block, own g d n touched), search rules)))
+    let stands = StandsFor-touched c.put_room.new.self n 2 touched (back g d) in (
+      omega arith,
+      (
+        IsValid-widest g.FLBitmap.BitPattern.width_limit c.self.invariant.valid,
+        ((before g d, block g d, stands, (held g d).0, starts g d c.load_block_of-block.result c.load_block_of-block.ensures.block, own g d n touched), search rules),
+      ),
+    )
 
--- it is one payload less
+-- one payload less is live
 less : (g : given.Over) (d : After-put_room g) → live_count (before g d) ≡ live_count (released (before g d) (block g d)) + 1
 less g d =
     count_gone d.self.invariant.stands.well_formed (released (before g d) (block g d)) d.start-addr.result (block g d, held g d)
@@ -91,9 +102,10 @@ standing g c =
     let d = first g c in
     let n = c.load_block_of-block.new.memory in
     let touched = c.load_block_of-block.ensures.memory in
-    (c.deallocate_block.ensures.step (before g d) (block g d) (StandsFor-touched c.put_room.new.self n 2 touched (back g d)) (held g d).0 (starts g d c.load_block_of-block.result c.load_block_of-block.ensures.block) (own g d n touched)).0
+    (c.deallocate_block.ensures.step (before g d) (block g d) (StandsFor-touched c.put_room.new.self n 2 touched (back g d)) (held g d).0
+    (starts g d c.load_block_of-block.result c.load_block_of-block.ensures.block) (own g d n touched)).0
 
--- what is kept of the state is the one without the payload
+-- the ghost state is the one without the payload
 kept : (g : given.Over) (c : After-deallocate g) → c.deallocate.new.self.state ≡ bare (after g c)
 kept g c = c.deallocate.ensures ∙ kept_without c.self.invariant c.start-addr.result (block g (first g c)) (held g (first g c)) refl
 
@@ -101,14 +113,18 @@ pub invariant_of-self : goal.invariant_of-self
 invariant_of-self g c =
     let d = first g c in
     let k = c.into_parts-part.result.1.key in
-    let gone : set c.self.inside.ledger.entries k (entry_of (extent c.into_parts-part.result.0.start (length c.into_parts-part.result.0.bytes) c.args.payload.align) false) ≡ c.redeem.new.self.entries =
-    (λ i. set c.self.inside.ledger.entries k (entry_of (extent (c.into_parts-part.ensures.ticket.0 i) (c.into_parts-part.ensures.ticket.1 i) (c.into_parts-part.ensures.ticket.2 i)) false)) ∙ sym c.redeem.ensures.entries in
+    let gone : set c.self.inside.ledger.entries k (entry_of (extent c.into_parts-part.result.0.start (length c.into_parts-part.result.0.bytes) c.args.payload.align)
+    false) ≡ c.redeem.new.self.entries =
+    (λ i. set c.self.inside.ledger.entries k
+    (entry_of (extent (c.into_parts-part.ensures.ticket.0 i) (c.into_parts-part.ensures.ticket.1 i) (c.into_parts-part.ensures.ticket.2 i))
+    false)) ∙ sym c.redeem.ensures.entries in
     IsHeap-arrived (standing g c) c.deallocate.new.self.state (kept g c) c.self.invariant.valid c.redeem.new.self.entries
     (subst (AreIssued (after g c)) gone (issued-released c.self.invariant.stands c.self.invariant.tickets k c.into_parts-part.result.0 c.args.payload.align (known g d)))
     (c.self.inside.live - 1) (omega (arith, c.self.invariant.counted, less g d))
 
 -- the bytes of a payload that comes back were out
-owners : (m : Space) (t : Table) (s : State) (ledger : ℕ) (v : HeapView) (r : Range) (p : PayloadView) → heap_view m t s ledger ≡ v → r ≡ payload_range p → IsAway m r → IsOwners v p
+owners : (m : Space) (t : Table) (s : State) (ledger : ℕ) (v : HeapView) (r : Range) (p : PayloadView) → heap_view m t s ledger ≡ v → r ≡ payload_range p → IsAway m r
+    → IsOwners v p
 unfolding IsOwners
 owners m t s ledger v r p view same away = subst (λ (o : HeapView). IsAway o.memory (payload_range p)) view (subst (IsAway m) same away)
 
@@ -124,7 +140,8 @@ did : (g : given.Over) (c : After-deallocate g) → Deallocates c.args.self.now.
 did g c =
     let d = first g c in
     subst (λ addr. Deallocates c.args.self.now.state addr (now g c)) (at g c)
-    (stepped (standing g c) c.deallocate.new.self.state (kept g c) c.self.inside.memory c.self.inside.state.state c.args.self.now c.self.view_is (λ old. Deallocates old c.start-addr.result) (record { block = block g d; holds = held g d; after = refl }))
+    (stepped (standing g c) c.deallocate.new.self.state (kept g c) c.self.inside.memory c.self.inside.state.state c.args.self.now c.self.view_is
+    (λ old. Deallocates old c.start-addr.result) (record { block = block g d; holds = held g d; after = refl }))
 
 well : (g : given.Over) (c : After-deallocate g) → IsWellFormed g.row.FLLEN g.row.SLLEN (range_of c.args.self.now.memory) c.args.self.now.state
 well g c = view_well_formed c.self.invariant c.args.self.now c.self.view_is
@@ -133,10 +150,12 @@ live : (g : given.Over) (c : After-deallocate g) → IsSomeLive c.args.self.now.
 live g c = ((did g c).block, (did g c).holds)
 
 pub returns-clause-step : goal.returns-clause-step
-returns-clause-step g c = Steps-arrived (standing g c) c.deallocate.new.self.state (kept g c) c.redeem.new.self.name (Deallocates c.args.self.now.state c.args.payload.start) (did g c)
+returns-clause-step g c = Steps-arrived (standing g c) c.deallocate.new.self.state (kept g c) c.redeem.new.self.name (Deallocates c.args.self.now.state c.args.payload.start)
+    (did g c)
 
 pub returns-clause-owner : goal.returns-clause-owner
-returns-clause-owner g c = owners c.self.inside.memory c.self.inside.table c.self.inside.state.state c.self.inside.ledger.name c.args.self.now _ c.args.payload c.self.view_is (ap (λ (p : PayloadView). payload_range p) c.into_parts-part.ensures.parts) c.put_room.ensures.away
+returns-clause-owner g c = owners c.self.inside.memory c.self.inside.table c.self.inside.state.state c.self.inside.ledger.name c.args.self.now _ c.args.payload c.self.view_is
+    (ap (λ (p : PayloadView). payload_range p) c.into_parts-part.ensures.parts) c.put_room.ensures.away
 
 pub returns-clause-count : goal.returns-clause-count
 returns-clause-count g c = count_gone (well g c) (now g c) c.args.payload.start (live g c) (did g c)

@@ -1,7 +1,6 @@
-use Rattle.std.proofs.Common.{◌≡◌, ℕ, ◌+◌, ◌-◌, set, false, rules, arith, refl, sym, ap, subst, ◌∙◌}
-use Rattle.rlsf_base.specs.Ledger.{IsIssued, entry_of, extent}
+use Rattle.std.proofs.Common.{◌≡◌, ◌+◌, ◌-◌, rules, arith, refl, sym, ap, subst, ◌∙◌}
 use Rattle.rlsf_base.specs.OpenSpace.{IsOwned}
-use Rattle.rlsf_base.specs.Space.{Space, range_of}
+use Rattle.rlsf_base.specs.Space.{range_of}
 use Rattle.rlsf_machine.specs.Release.{Deallocates, released}
 use Rattle.rlsf_machine.specs.Run.{IsSomeLive}
 use Rattle.rlsf_machine.specs.Sized.{live_count}
@@ -21,7 +20,8 @@ use Rattle.rlsf_heap.proofs.heap.Heap.deallocate_units.Goals as goal
 use Rattle.rlsf_heap.proofs.heap.Heap.deallocate_units.Goals.{After-put_unit_payload-block, After-deallocate}
 
 pub put_unit_payload-block-requires-clause-readable : goal.put_unit_payload-block-requires-clause-readable
-put_unit_payload-block-requires-clause-readable g c = λ is. units.readable c.self.invariant.stands c.self.invariant.tickets c.args.payload.key c.args.payload.start c.args.payload.len is
+put_unit_payload-block-requires-clause-readable g c = λ is. units.readable c.self.invariant.stands c.self.invariant.tickets c.args.payload.key c.args.payload.start
+    c.args.payload.len is
 
 -- the heap's state as the call begins
 abbrev before : (g : given.Over) (c : After-put_unit_payload-block g) → State
@@ -36,32 +36,37 @@ held g c = units.held c.self.invariant.stands c.self.invariant.tickets c.args.pa
 
 -- its block is the one that was read
 starts : (g : given.Over) (c : After-put_unit_payload-block g) → (block g c).block.start ≡ c.put_unit_payload-block.result
-starts g c = sym (units.names-block c.self.invariant.stands c.self.invariant.tickets c.args.payload.key c.args.payload.start c.args.payload.len c.put_unit_payload-block.ensures.issued) ∙ sym c.put_unit_payload-block.ensures.word
+starts g c = sym (units.names-block c.self.invariant.stands c.self.invariant.tickets c.args.payload.key c.args.payload.start c.args.payload.len
+    c.put_unit_payload-block.ensures.issued) ∙ sym c.put_unit_payload-block.ensures.word
 
--- and begins 16 bytes before the payload
+-- it begins 16 bytes before the payload
 at : (g : given.Over) (c : After-put_unit_payload-block g) → c.put_unit_payload-block.result + 16 ≡ c.args.payload.start
-at g c = ap (λ b. b + 16) (sym (starts g c)) ∙ units.block-start c.self.invariant.stands c.self.invariant.tickets c.args.payload.key c.args.payload.start c.args.payload.len c.put_unit_payload-block.ensures.issued
+at g c = ap (λ b. b + 16) (sym (starts g c)) ∙ units.block-start c.self.invariant.stands c.self.invariant.tickets c.args.payload.key c.args.payload.start c.args.payload.len
+    c.put_unit_payload-block.ensures.issued
 
--- with its bytes back, the memory stands for the same state
+-- with its bytes back, the memory represents the same state
 back : (g : given.Over) (c : After-put_unit_payload-block g) → StandsFor g.row.FLLEN g.row.SLLEN (contents c.put_unit_payload-block.new.self c.self.inside.table) (before g c)
 back g c =
     let e = c.put_unit_payload-block.ensures in
-    units.units-back c.self.invariant.stands c.self.invariant.tickets c.args.payload.key c.args.payload.start c.args.payload.len e.issued c.put_unit_payload-block.new.self e.start e.bytes e.out
+    units.units-back c.self.invariant.stands c.self.invariant.tickets c.args.payload.key c.args.payload.start c.args.payload.len e.issued c.put_unit_payload-block.new.self e.start
+    e.bytes e.out
 
--- they are the memory's own again
+-- these bytes are the memory's own again
 own : (g : given.Over) (c : After-put_unit_payload-block g) → IsOwned c.put_unit_payload-block.new.self (usable (block g c))
 own g c =
     let e = c.put_unit_payload-block.ensures in
-    units.units-own c.self.invariant.stands c.self.invariant.tickets c.args.payload.key c.args.payload.start c.args.payload.len e.issued c.put_unit_payload-block.new.self e.start e.bytes e.out
+    units.units-own c.self.invariant.stands c.self.invariant.tickets c.args.payload.key c.args.payload.start c.args.payload.len e.issued c.put_unit_payload-block.new.self e.start
+    e.bytes e.out
 
 pub deallocate_block-requires : goal.deallocate_block-requires
 deallocate_block-requires g c =
     let d = (goal.at.deallocate_block-requires g c).After-put_unit_payload-block in
     (omega arith, (IsValid-widest g.FLBitmap.BitPattern.width_limit c.self.invariant.valid, ((before g d, block g d, back g d, (held g d).0, starts g d, own g d), search rules)))
 
--- it is one payload less
+-- one payload less is live
 less : (g : given.Over) (d : After-put_unit_payload-block g) → live_count (before g d) ≡ live_count (released (before g d) (block g d)) + 1
-less g d = count_gone d.self.invariant.stands.well_formed (released (before g d) (block g d)) d.args.payload.start (block g d, held g d) (record { block = block g d; holds = held g d; after = refl })
+less g d = count_gone d.self.invariant.stands.well_formed (released (before g d) (block g d)) d.args.payload.start (block g d, held g d)
+    (record { block = block g d; holds = held g d; after = refl })
 
 -- the block is released
 abbrev first : (g : given.Over) → After-deallocate g → After-put_unit_payload-block g
@@ -73,7 +78,7 @@ after g c = released (before g (first g c)) (block g (first g c))
 standing : (g : given.Over) (c : After-deallocate g) → StandsFor g.row.FLLEN g.row.SLLEN (contents c.deallocate_block.new.memory c.deallocate_block.new.table) (after g c)
 standing g c = let d = first g c in (c.deallocate_block.ensures.step (before g d) (block g d) (back g d) (held g d).0 (starts g d) (own g d)).0
 
--- what is kept of the state is the one without the payload
+-- the ghost state is the one without the payload
 kept : (g : given.Over) (c : After-deallocate g) → c.deallocate.new.self.state ≡ bare (after g c)
 kept g c = c.deallocate.ensures ∙ kept_without c.self.invariant c.args.payload.start (block g (first g c)) (held g (first g c)) (at g (first g c))
 
@@ -81,7 +86,8 @@ pub invariant_of-self : goal.invariant_of-self
 invariant_of-self g c =
     let d = first g c in let e = c.put_unit_payload-block.ensures in
     IsHeap-arrived (standing g c) c.deallocate.new.self.state (kept g c) c.self.invariant.valid c.put_unit_payload-block.new.ledger.entries
-    (subst (AreIssued (after g c)) (sym e.ledger.1) (units.issued-without c.self.invariant.stands c.self.invariant.tickets c.args.payload.key c.args.payload.start c.args.payload.len e.issued))
+    (subst (AreIssued (after g c)) (sym e.ledger.1) (units.issued-without c.self.invariant.stands c.self.invariant.tickets c.args.payload.key c.args.payload.start
+    c.args.payload.len e.issued))
     (c.self.inside.live - 1) (omega (arith, c.self.invariant.counted, less g d))
 
 pub overflow_sub-self : goal.overflow_sub-self
@@ -90,7 +96,8 @@ overflow_sub-self g c = let d = (goal.at.overflow_sub-self g c).After-put_unit_p
 pub overflow_add-block : goal.overflow_add-block
 overflow_add-block g c =
     let d = (goal.at.overflow_add-block g c).After-put_unit_payload-block in let same = at g d in
-    let fits = units.start-fits c.self.invariant.stands c.self.invariant.tickets c.args.payload.key c.args.payload.start c.args.payload.len d.put_unit_payload-block.ensures.issued in
+    let fits = units.start-fits c.self.invariant.stands c.self.invariant.tickets c.args.payload.key c.args.payload.start c.args.payload.len d.put_unit_payload-block.ensures.issued
+    in
     record { fits = omega (arith, same, fits) }
 
 -- the state that contracts see
@@ -100,7 +107,8 @@ now g c = read_from c.deallocate_block.new.memory c.deallocate.new.self.state
 did : (g : given.Over) (c : After-deallocate g) → Deallocates c.args.self.now.state c.args.payload.start (now g c)
 did g c =
     let d = first g c in
-    stepped (standing g c) c.deallocate.new.self.state (kept g c) c.self.inside.memory c.self.inside.state.state c.args.self.now c.self.view_is (λ old. Deallocates old c.args.payload.start) (record { block = block g d; holds = held g d; after = refl })
+    stepped (standing g c) c.deallocate.new.self.state (kept g c) c.self.inside.memory c.self.inside.state.state c.args.self.now c.self.view_is
+    (λ old. Deallocates old c.args.payload.start) (record { block = block g d; holds = held g d; after = refl })
 
 well : (g : given.Over) (c : After-deallocate g) → IsWellFormed g.row.FLLEN g.row.SLLEN (range_of c.args.self.now.memory) c.args.self.now.state
 well g c = view_well_formed c.self.invariant c.args.self.now c.self.view_is
@@ -109,7 +117,8 @@ live : (g : given.Over) (c : After-deallocate g) → IsSomeLive c.args.self.now.
 live g c = ((did g c).block, (did g c).holds)
 
 pub returns-clause-step : goal.returns-clause-step
-returns-clause-step g c = Steps-arrived (standing g c) c.deallocate.new.self.state (kept g c) c.put_unit_payload-block.new.ledger.name (Deallocates c.args.self.now.state c.args.payload.start) (did g c)
+returns-clause-step g c = Steps-arrived (standing g c) c.deallocate.new.self.state (kept g c) c.put_unit_payload-block.new.ledger.name
+    (Deallocates c.args.self.now.state c.args.payload.start) (did g c)
 
 pub returns-clause-count : goal.returns-clause-count
 returns-clause-count g c = count_gone (well g c) (now g c) c.args.payload.start (live g c) (did g c)

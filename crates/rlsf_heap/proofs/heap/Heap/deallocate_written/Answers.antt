@@ -1,5 +1,5 @@
 use Rattle.std.proofs.Common.{◌≤◌, ◌≡◌, ℕ, ◌+◌, ◌-◌, set, false, length, rules, arith, refl, sym, ap, subst, ◌∙◌}
-use Rattle.rlsf_base.specs.Ledger.{IsIssued, entry_of, extent}
+use Rattle.rlsf_base.specs.Ledger.{entry_of, extent}
 use Rattle.rlsf_base.specs.declared.memory.range.Range.{Range}
 use Rattle.rlsf_base.specs.OpenSpace.{IsAway, IsOwned}
 use Rattle.rlsf_base.specs.Piece.{piece_range}
@@ -34,9 +34,11 @@ use Rattle.rlsf_heap.proofs.heap.Heap.deallocate_written.Goals.{After-put_back, 
 abbrev before : (g : given.Over) (c : After-put_back g) → State
 before g c = read_from c.self.inside.memory c.self.inside.state.state
 
--- the payload came back
-back_in : (g : given.Over) (c : After-put_back g) → IsBackIn g.row.FLLEN g.row.SLLEN c.self.inside.memory c.put_back.new.self c.self.inside.table (before g c) c.self.inside.ledger.entries c.into_parts-part.result.1.key c.into_parts-part.result.0 c.args.payload.align
-back_in g c = came c.into_parts-part.result.0 c.self.invariant c.into_parts-part.ensures.ticket c.redeem.ensures.issued c.put_back.ensures.start c.put_back.ensures.bytes c.put_back.ensures.out
+-- the payload is back in the memory
+back_in : (g : given.Over) (c : After-put_back g) → IsBackIn g.row.FLLEN g.row.SLLEN c.self.inside.memory c.put_back.new.self c.self.inside.table (before g c)
+    c.self.inside.ledger.entries c.into_parts-part.result.1.key c.into_parts-part.result.0 c.args.payload.align
+back_in g c = came c.into_parts-part.result.0 c.self.invariant c.into_parts-part.ensures.ticket c.redeem.ensures.issued c.put_back.ensures.start c.put_back.ensures.bytes
+    c.put_back.ensures.out
 
 -- its block, without the bytes that came back
 abbrev block : (g : given.Over) → After-put_back g → Used
@@ -54,24 +56,42 @@ load_block_of-block-requires g c =
     (g.row.FLLEN, g.row.SLLEN, contents c.put_back.new.self c.self.inside.table, state (back_in g d), refl, stands (back_in g d), (filled_block (back_in g d), held_back g d))
 
 -- its bytes are the memory's own again, once more touches were counted
-own : (g : given.Over) (d : After-put_back g) (n : Space) → n ≡ record d.put_back.new.self { touches = d.put_back.new.self.touches + 2 } → IsOwned n (usable (filled_block (back_in g d)))
+own : (g : given.Over) (d : After-put_back g) (n : Space) → n ≡ record d.put_back.new.self { touches = d.put_back.new.self.touches + 2 }
+    → IsOwned n (usable (filled_block (back_in g d)))
 own g d n touched =
     owned-same d.put_back.new.self n (usable (filled_block (back_in g d))) (ap (λ (o : Space). o.start) touched) (ap (λ (o : Space). o.out) touched)
     (own-here d.put_back.new.self (usable (filled_block (back_in g d))) (here (back_in g d)))
 
 -- its block is the one that was found
-starts : (g : given.Over) (d : After-put_back g) (start : ℕ) → AtEachBlock d.put_back.new.self d.start-addr.result (λ u. start ≡ u.block.start) → (filled_block (back_in g d)).block.start ≡ start
-starts g d start each = sym (each g.row.FLLEN g.row.SLLEN (contents d.put_back.new.self d.self.inside.table) (state (back_in g d)) (filled_block (back_in g d)) refl (stands (back_in g d)) (held_back g d))
+starts : (g : given.Over) (d : After-put_back g) (start : ℕ) → AtEachBlock d.put_back.new.self d.start-addr.result (λ u. start ≡ u.block.start)
+    → (filled_block (back_in g d)).block.start ≡ start
+starts g d start each = sym (each g.row.FLLEN g.row.SLLEN (contents d.put_back.new.self d.self.inside.table) (state (back_in g d)) (filled_block (back_in g d)) refl
+    (stands (back_in g d)) (held_back g d))
 
 pub deallocate_block-requires : goal.deallocate_block-requires
 deallocate_block-requires g c =
     let d = (goal.at.deallocate_block-requires g c).After-put_back in
     let n = c.load_block_of-block.new.memory in
     let touched = c.load_block_of-block.ensures.memory in
-    let now_stands = StandsFor-touched c.put_back.new.self n 2 touched (stands (back_in g d)) in
-    (omega arith, (IsValid-widest g.FLBitmap.BitPattern.width_limit c.self.invariant.valid, ((state (back_in g d), filled_block (back_in g d), now_stands, (held_back g d).0, starts g d c.load_block_of-block.result c.load_block_of-block.ensures.block, own g d n touched), search rules)))
+    let now_stands = StandsFor-touched c.put_back.new.self n 2 touched (stands (back_in g d)) in (
+      omega arith,
+      (
+        IsValid-widest g.FLBitmap.BitPattern.width_limit c.self.invariant.valid,
+        (
+          (
+            state (back_in g d),
+            filled_block (back_in g d),
+            now_stands,
+            (held_back g d).0,
+            starts g d c.load_block_of-block.result c.load_block_of-block.ensures.block,
+            own g d n touched,
+          ),
+          search rules,
+        ),
+      ),
+    )
 
--- it is one payload less
+-- one payload less is live
 less : (g : given.Over) (d : After-put_back g) → live_count (before g d) ≡ live_count (released (before g d) (block g d)) + 1
 less g d =
     count_gone d.self.invariant.stands.well_formed (released (before g d) (block g d)) d.start-addr.result (block g d, held g d)
@@ -93,9 +113,10 @@ standing g c =
     let n = c.load_block_of-block.new.memory in
     let touched = c.load_block_of-block.ensures.memory in
     subst (StandsFor g.row.FLLEN g.row.SLLEN (contents c.deallocate_block.new.memory c.deallocate_block.new.table)) (released_back (back_in g d))
-    (c.deallocate_block.ensures.step (state (back_in g d)) (filled_block (back_in g d)) (StandsFor-touched c.put_back.new.self n 2 touched (stands (back_in g d))) (held_back g d).0 (starts g d c.load_block_of-block.result c.load_block_of-block.ensures.block) (own g d n touched)).0
+    (c.deallocate_block.ensures.step (state (back_in g d)) (filled_block (back_in g d)) (StandsFor-touched c.put_back.new.self n 2 touched (stands (back_in g d))) (held_back g d).0
+    (starts g d c.load_block_of-block.result c.load_block_of-block.ensures.block) (own g d n touched)).0
 
--- what is kept of the state is the one without the payload
+-- the ghost state is the one without the payload
 kept : (g : given.Over) (c : After-deallocate g) → c.deallocate.new.self.state ≡ bare (after g c)
 kept g c = c.deallocate.ensures ∙ kept_without c.self.invariant c.start-addr.result (block g (first g c)) (held g (first g c)) refl
 
@@ -103,14 +124,18 @@ pub invariant_of-self : goal.invariant_of-self
 invariant_of-self g c =
     let d = first g c in
     let k = c.into_parts-part.result.1.key in
-    let gone : set c.self.inside.ledger.entries k (entry_of (extent c.into_parts-part.result.0.start (length c.into_parts-part.result.0.bytes) c.args.payload.align) false) ≡ c.redeem.new.self.entries =
-    (λ i. set c.self.inside.ledger.entries k (entry_of (extent (c.into_parts-part.ensures.ticket.0 i) (c.into_parts-part.ensures.ticket.1 i) (c.into_parts-part.ensures.ticket.2 i)) false)) ∙ sym c.redeem.ensures.entries in
+    let gone : set c.self.inside.ledger.entries k (entry_of (extent c.into_parts-part.result.0.start (length c.into_parts-part.result.0.bytes) c.args.payload.align)
+    false) ≡ c.redeem.new.self.entries =
+    (λ i. set c.self.inside.ledger.entries k
+    (entry_of (extent (c.into_parts-part.ensures.ticket.0 i) (c.into_parts-part.ensures.ticket.1 i) (c.into_parts-part.ensures.ticket.2 i))
+    false)) ∙ sym c.redeem.ensures.entries in
     IsHeap-arrived (standing g c) c.deallocate.new.self.state (kept g c) c.self.invariant.valid c.redeem.new.self.entries
     (subst (AreIssued (after g c)) gone (issued_gone (back_in g d)))
     (c.self.inside.live - 1) (omega (arith, c.self.invariant.counted, less g d))
 
 -- the bytes of a payload that comes back were out
-owners : (m : Space) (t : Table) (s : State) (ledger : ℕ) (v : HeapView) (r : Range) (p : PayloadView) → heap_view m t s ledger ≡ v → r ≡ payload_range p → IsAway m r → IsOwners v p
+owners : (m : Space) (t : Table) (s : State) (ledger : ℕ) (v : HeapView) (r : Range) (p : PayloadView) → heap_view m t s ledger ≡ v → r ≡ payload_range p → IsAway m r
+    → IsOwners v p
 unfolding IsOwners
 owners m t s ledger v r p view same away = subst (λ (o : HeapView). IsAway o.memory (payload_range p)) view (subst (IsAway m) same away)
 
@@ -126,7 +151,8 @@ did : (g : given.Over) (c : After-deallocate g) → Deallocates c.args.self.now.
 did g c =
     let d = first g c in
     subst (λ addr. Deallocates c.args.self.now.state addr (now g c)) (at g c)
-    (stepped (standing g c) c.deallocate.new.self.state (kept g c) c.self.inside.memory c.self.inside.state.state c.args.self.now c.self.view_is (λ old. Deallocates old c.start-addr.result) (record { block = block g d; holds = held g d; after = refl }))
+    (stepped (standing g c) c.deallocate.new.self.state (kept g c) c.self.inside.memory c.self.inside.state.state c.args.self.now c.self.view_is
+    (λ old. Deallocates old c.start-addr.result) (record { block = block g d; holds = held g d; after = refl }))
 
 well : (g : given.Over) (c : After-deallocate g) → IsWellFormed g.row.FLLEN g.row.SLLEN (range_of c.args.self.now.memory) c.args.self.now.state
 well g c = view_well_formed c.self.invariant c.args.self.now c.self.view_is
@@ -135,10 +161,12 @@ live : (g : given.Over) (c : After-deallocate g) → IsSomeLive c.args.self.now.
 live g c = ((did g c).block, (did g c).holds)
 
 pub returns-clause-step : goal.returns-clause-step
-returns-clause-step g c = Steps-arrived (standing g c) c.deallocate.new.self.state (kept g c) c.redeem.new.self.name (Deallocates c.args.self.now.state c.args.payload.start) (did g c)
+returns-clause-step g c = Steps-arrived (standing g c) c.deallocate.new.self.state (kept g c) c.redeem.new.self.name (Deallocates c.args.self.now.state c.args.payload.start)
+    (did g c)
 
 pub returns-clause-owner : goal.returns-clause-owner
-returns-clause-owner g c = owners c.self.inside.memory c.self.inside.table c.self.inside.state.state c.self.inside.ledger.name c.args.self.now _ c.args.payload c.self.view_is (ap (λ (p : PayloadView). payload_range p) c.into_parts-part.ensures.parts) c.put_back.ensures.away
+returns-clause-owner g c = owners c.self.inside.memory c.self.inside.table c.self.inside.state.state c.self.inside.ledger.name c.args.self.now _ c.args.payload c.self.view_is
+    (ap (λ (p : PayloadView). payload_range p) c.into_parts-part.ensures.parts) c.put_back.ensures.away
 
 pub returns-clause-count : goal.returns-clause-count
 returns-clause-count g c = count_gone (well g c) (now g c) c.args.payload.start (live g c) (did g c)
@@ -158,10 +186,12 @@ returns-clause-settled g c = λ settled.
     let b = back_in g d in
     let touched = c.load_block_of-block.ensures.memory in
     let first_stays = Stays-same c.put_back.new.self c.load_block_of-block.new.memory (ap (λ (o : Space). o.start) touched) (ap (λ (o : Space). o.out) touched) in
-    let last : Stays c.load_block_of-block.new.memory c.deallocate_block.new.memory = record { start = c.deallocate_block.ensures.costs.start; own = c.deallocate_block.ensures.own; here = c.deallocate_block.ensures.here } in
+    let last : Stays c.load_block_of-block.new.memory c.deallocate_block.new.memory =
+    record { start = c.deallocate_block.ensures.costs.start; own = c.deallocate_block.ensures.own; here = c.deallocate_block.ensures.here } in
     let low : c.put_back.new.self.start ≤ c.into_parts-part.result.0.start = omega (arith, (lies-usable (stands b) (filled_block b) (held_of b).0).0, (held_of b).1) in
     settled-stays (Stays-then first_stays last)
-    (settled-back c.self.inside.memory c.put_back.new.self (piece_range c.into_parts-part.result.0) c.put_back.ensures.start (omega (arith, low, c.put_back.ensures.start)) c.put_back.ensures.out (settled-inside c.self.inside.state.state c.args.self.now c.self.view_is settled))
+    (settled-back c.self.inside.memory c.put_back.new.self (piece_range c.into_parts-part.result.0) c.put_back.ensures.start (omega (arith, low, c.put_back.ensures.start))
+    c.put_back.ensures.out (settled-inside c.self.inside.state.state c.args.self.now c.self.view_is settled))
 
 pub returns-clause-chunks : goal.returns-clause-chunks
 returns-clause-chunks g c = chunks-deallocated c.args.self.now.state (now g c) c.args.payload.start (did g c)

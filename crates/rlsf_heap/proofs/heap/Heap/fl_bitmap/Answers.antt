@@ -1,4 +1,4 @@
--- The first level has a one exactly where a row has a free block.
+-- The bit of a row is set if and only if the row has a free block.
 use Rattle.std.proofs.Common.{◌≡◌, ℕ, subst}
 use Rattle.std.specs.List.{list_any}
 use Rattle.rlsf_int.specs.Bits.{bit}

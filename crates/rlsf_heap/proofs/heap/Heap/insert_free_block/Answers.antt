@@ -7,7 +7,7 @@ use Rattle.rlsf_machine.specs.State.{State}
 use Rattle.rlsf_heap.specs.Heap.{HeapView, Steps}
 use Rattle.rlsf_heap.proofs.heap.Heap.insert_free_block.Goals as goal
 
--- what holds where nothing is returned
+-- a fact about refused inserts holds if nothing is returned
 where_none : (P : Type 0) (o : Option NonZeroUsize) → reply o ≡ None → IfNone o P → P
 where_none P None e holds = holds
 where_none P (Some x) e holds = absurd (none-some (at x) (sym e))
@@ -25,5 +25,6 @@ returns-clause-step g c =
 
 pub returns-clause-unchanged : goal.returns-clause-unchanged
 returns-clause-unchanged g c = λ none.
-    let step = step_of g.row.FLLEN g.row.SLLEN c.insert_free_block_ptr.new.self (Inserts g.row.FLLEN c.args.self.now.state c.args.range (reply c.insert_free_block_ptr.result)) c.insert_free_block_ptr.ensures.step in
+    let step = step_of g.row.FLLEN g.row.SLLEN c.insert_free_block_ptr.new.self (Inserts g.row.FLLEN c.args.self.now.state c.args.range (reply c.insert_free_block_ptr.result))
+    c.insert_free_block_ptr.ensures.step in
     where_none _ c.insert_free_block_ptr.result (step.answer ∙ ap (bytes_taken c.args.range.start) none) c.insert_free_block_ptr.ensures.refused

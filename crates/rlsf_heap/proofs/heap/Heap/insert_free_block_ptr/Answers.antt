@@ -28,8 +28,13 @@ use Rattle.rlsf_heap.proofs.heap.Heap.insert_free_block_ptr.Goals.{After-insert}
 pub insert_chunks-taken-requires : goal.insert_chunks-taken-requires
 insert_chunks-taken-requires g c =
     let is = c.self.invariant in
-    let fresh = IsFresh-untouched (range_of c.args.self.now.memory) c.args.self.now.state c.args.range c.requires.lies_in c.requires.untouched in
-    (omega arith, (IsValid-widest g.FLBitmap.BitPattern.width_limit is.valid, (_, is.stands, subst (λ (o : HeapView). IsFresh (range_of o.memory) o.state c.args.range) (sym c.self.view_is) fresh)))
+    let fresh = IsFresh-untouched (range_of c.args.self.now.memory) c.args.self.now.state c.args.range c.requires.lies_in c.requires.untouched in (
+      omega arith,
+      (
+        IsValid-widest g.FLBitmap.BitPattern.width_limit is.valid,
+        (_, is.stands, subst (λ (o : HeapView). IsFresh (range_of o.memory) o.state c.args.range) (sym c.self.view_is) fresh),
+      ),
+    )
 
 -- the heap's state as the call begins
 abbrev before : (g : given.Over) (c : After-insert g) → State
@@ -40,19 +45,23 @@ fresh g c = IsFresh-untouched (range_of c.args.self.now.memory) c.args.self.now.
 
 -- the state with the chunks
 after : (g : given.Over) (c : After-insert g) → State
-after g c = (c.insert_chunks-taken.ensures.step (before g c) c.self.invariant.stands (subst (λ (o : HeapView). IsFresh (range_of o.memory) o.state c.args.range) (sym c.self.view_is) (fresh g c))).0
+after g c = (c.insert_chunks-taken.ensures.step (before g c) c.self.invariant.stands
+    (subst (λ (o : HeapView). IsFresh (range_of o.memory) o.state c.args.range) (sym c.self.view_is) (fresh g c))).0
 
 inserting : (g : given.Over) (c : After-insert g) → Inserts g.row.FLLEN (before g c) c.args.range (reply c.insert_chunks-taken.result) (after g c)
 unfolding after
-inserting g c = (c.insert_chunks-taken.ensures.step (before g c) c.self.invariant.stands (subst (λ (o : HeapView). IsFresh (range_of o.memory) o.state c.args.range) (sym c.self.view_is) (fresh g c))).1
+inserting g c = (c.insert_chunks-taken.ensures.step (before g c) c.self.invariant.stands
+    (subst (λ (o : HeapView). IsFresh (range_of o.memory) o.state c.args.range) (sym c.self.view_is) (fresh g c))).1
 
 standing : (g : given.Over) (c : After-insert g) → StandsFor g.row.FLLEN g.row.SLLEN (contents c.insert_chunks-taken.new.memory c.insert_chunks-taken.new.table) (after g c)
 unfolding after
-standing g c = (c.insert_chunks-taken.ensures.step (before g c) c.self.invariant.stands (subst (λ (o : HeapView). IsFresh (range_of o.memory) o.state c.args.range) (sym c.self.view_is) (fresh g c))).2
+standing g c = (c.insert_chunks-taken.ensures.step (before g c) c.self.invariant.stands
+    (subst (λ (o : HeapView). IsFresh (range_of o.memory) o.state c.args.range) (sym c.self.view_is) (fresh g c))).2
 
--- what is kept of the state is the one with the chunks
+-- the ghost state is the one with the chunks
 kept : (g : given.Over) (c : After-insert g) → c.insert.new.self.state ≡ bare (after g c)
-kept g c = c.insert.ensures ∙ ap (inserted g.row.FLLEN c.args.range) (sym (bare-kept c.self.invariant)) ∙ inserted-bare g.row.FLLEN (before g c) (after g c) c.args.range (reply c.insert_chunks-taken.result) (inserting g c)
+kept g c = c.insert.ensures ∙ ap (inserted g.row.FLLEN c.args.range) (sym (bare-kept c.self.invariant))
+    ∙ inserted-bare g.row.FLLEN (before g c) (after g c) c.args.range (reply c.insert_chunks-taken.result) (inserting g c)
 
 pub invariant_of-self : goal.invariant_of-self
 invariant_of-self g c =
@@ -60,8 +69,10 @@ invariant_of-self g c =
     IsHeap-arrived (standing g c) c.insert.new.self.state (kept g c) c.self.invariant.valid c.self.inside.ledger.entries
     (issued-same (before g c) (after g c) used c.self.invariant.tickets) c.self.inside.live (c.self.invariant.counted ∙ live_count-same (before g c) (after g c) (sym used))
 
-did : (g : given.Over) (c : After-insert g) → Inserts g.row.FLLEN c.args.self.now.state c.args.range (reply c.insert_chunks-taken.result) (read_from c.insert_chunks-taken.new.memory c.insert.new.self.state)
-did g c = stepped (standing g c) c.insert.new.self.state (kept g c) c.self.inside.memory c.self.inside.state.state c.args.self.now c.self.view_is (λ old. Inserts g.row.FLLEN old c.args.range (reply c.insert_chunks-taken.result)) (inserting g c)
+did : (g : given.Over) (c : After-insert g) → Inserts g.row.FLLEN c.args.self.now.state c.args.range (reply c.insert_chunks-taken.result)
+    (read_from c.insert_chunks-taken.new.memory c.insert.new.self.state)
+did g c = stepped (standing g c) c.insert.new.self.state (kept g c) c.self.inside.memory c.self.inside.state.state c.args.self.now c.self.view_is
+    (λ old. Inserts g.row.FLLEN old c.args.range (reply c.insert_chunks-taken.result)) (inserting g c)
 
 well : (g : given.Over) (c : After-insert g) → IsWellFormed g.row.FLLEN g.row.SLLEN (range_of c.args.self.now.memory) c.args.self.now.state
 well g c = view_well_formed c.self.invariant c.args.self.now c.self.view_is
@@ -70,24 +81,28 @@ abbrev now : (g : given.Over) (c : After-insert g) → State
 now g c = read_from c.insert_chunks-taken.new.memory c.insert.new.self.state
 
 pub returns-clause-step : goal.returns-clause-step
-returns-clause-step g c = Steps-arrived (standing g c) c.insert.new.self.state (kept g c) c.self.inside.ledger.name (Inserts g.row.FLLEN c.args.self.now.state c.args.range (reply c.insert_chunks-taken.result)) (did g c)
+returns-clause-step g c = Steps-arrived (standing g c) c.insert.new.self.state (kept g c) c.self.inside.ledger.name
+    (Inserts g.row.FLLEN c.args.self.now.state c.args.range (reply c.insert_chunks-taken.result)) (did g c)
 
 pub returns-clause-untouched : goal.returns-clause-untouched
 returns-clause-untouched g c = untouched_inserted g.row.FLLEN c.args.self.now.state (now g c) c.args.range (reply c.insert_chunks-taken.result) (did g c)
 
 pub returns-clause-aligns : goal.returns-clause-aligns
 returns-clause-aligns g c = (same_seen c.args.self.now.state (now g c)
-    (callers_see_map g.row.FLLEN g.row.SLLEN (range_of c.args.self.now.memory) c.args.self.now.state (now g c) (insert c.args.range (reply c.insert_chunks-taken.result)) (well g c) (fresh g c) (did g c))).aligns
+    (callers_see_map g.row.FLLEN g.row.SLLEN (range_of c.args.self.now.memory) c.args.self.now.state (now g c) (insert c.args.range (reply c.insert_chunks-taken.result)) (well g c)
+    (fresh g c) (did g c))).aligns
 
 pub returns-clause-count : goal.returns-clause-count
 returns-clause-count g c = count_inserted (well g c) (now g c) c.args.range (reply c.insert_chunks-taken.result) (fresh g c) (did g c)
 
 pub returns-clause-bounds : goal.returns-clause-bounds
-returns-clause-bounds g c = λ count size align sized. sized_inserted (well g c) (now g c) count size align sized c.args.range (reply c.insert_chunks-taken.result) (fresh g c) (did g c)
+returns-clause-bounds g c = λ count size align sized. sized_inserted (well g c) (now g c) count size align sized c.args.range (reply c.insert_chunks-taken.result) (fresh g c)
+    (did g c)
 
 pub returns-clause-pool : goal.returns-clause-pool
 returns-clause-pool g c = λ count size align len told at32 long idle.
-    sized_pool g.FLBitmap.BitPattern.width g.SLBitmap.BitPattern.width g.row.FLLEN g.row.SLLEN count size align len c.args.self.now.state (now g c) c.args.range (reply c.insert_chunks-taken.result) c.self.invariant.valid told at32 long idle (did g c)
+    sized_pool g.FLBitmap.BitPattern.width g.SLBitmap.BitPattern.width g.row.FLLEN g.row.SLLEN count size align len c.args.self.now.state (now g c) c.args.range
+    (reply c.insert_chunks-taken.result) c.self.invariant.valid told at32 long idle (did g c)
 
 pub returns-clause-settled : goal.returns-clause-settled
 returns-clause-settled g c = λ settled.

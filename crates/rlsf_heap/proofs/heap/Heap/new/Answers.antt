@@ -13,7 +13,7 @@ use Rattle.rlsf_heap.proofs.Settled.{settled-none}
 use Rattle.rlsf_heap.proofs.heap.Heap.new.Given as given
 use Rattle.rlsf_heap.proofs.heap.Heap.new.Goals as goal
 
--- the empty state stands in the memory
+-- the memory represents the empty state
 standing : (g : given.Over) (c : goal.After-new-3 g) → StandsFor g.row.FLLEN g.row.SLLEN (contents c.args.memory c.new.result) empty
 standing g c = StandsFor-empty c.requires.valid c.start.ensures.bounds (c.new.ensures c.args.memory) (λ a from. c.requires.own (a - c.args.memory.start))
 

@@ -1,136 +1,183 @@
-use Rattle.std.proofs.Common.{◌%◌, inl, inr, ◌≡◌, ◌≢◌, ◌+◌, ◌-◌, ◌<◌, ◌≤◌, ℕ, List, ◌∷◌, [], ◌++◌, true, false, set, length, None, Some, arith, refl, rules, sym, ap, subst, ◌∙◌}
+use Rattle.std.proofs.Common.{◌≡◌, ◌+◌, ◌<◌, ◌≤◌, ℕ, List, ◌∷◌, [], ◌++◌, true, false, set, length, None, Some, arith, refl, rules, sym, ap, subst}
+use Rattle.std.proofs.Common.{◌∙◌}
 use Rattle.std.proofs.lemmas.Bool.{false≢true}
 use Rattle.rlsf_base.specs.declared.memory.range.Range.{Range}
-use Rattle.rlsf_base.specs.Ledger.{Entry, Extent, IsIssued, entry_of, extent}
-use Rattle.rlsf_base.specs.OpenSpace.{IsHere, IsOwned, SameOwn, out_without}
+use Rattle.rlsf_base.specs.Ledger.{Entry, entry_of, extent}
+use Rattle.rlsf_base.specs.OpenSpace.{IsHere, IsOwned, out_without}
 use Rattle.rlsf_base.specs.Range.{LiesIn, range_at}
 use Rattle.rlsf_base.specs.Space.{Space, bytes_in, out_at, range_of}
 use Rattle.rlsf_base.specs.Out.{here, kept_at}
 use Rattle.rlsf_base.specs.Piece.{HasStatesOf, piece_range}
-use Rattle.rlsf_base.proofs.Lending.Present.{out-same, own-here}
-use Rattle.rlsf_machine.specs.Reallocate.{Reallocates, ReallocatesBy, plan}
-use Rattle.rlsf_machine.specs.State.{State, Used, Holds, IsLive, filled, usable}
+use Rattle.rlsf_base.proofs.Lending.Present.{own-here}
+use Rattle.rlsf_machine.specs.Reallocate.{Reallocates}
+use Rattle.rlsf_machine.specs.State.{State, Used, Holds, filled, usable}
 use Rattle.rlsf_table.proofs.Parameters.{IsValid-widest}
-use Rattle.rlsf_blocks.specs.Laws.{read_from, with_bytes_of}
+use Rattle.rlsf_blocks.specs.Laws.{read_from}
 use Rattle.rlsf_blocks.specs.StandsFor.{contents, StandsFor}
-use Rattle.rlsf_blocks.proofs.Machine.Counted.{StandsFor-counted, StandsFor-touched}
+use Rattle.rlsf_blocks.proofs.Machine.Counted.{StandsFor-touched}
 use Rattle.rlsf_heap.proofs.Leaving.{lies-usable, stands-without}
-use Rattle.rlsf_heap.proofs.Reallocating.{asked, block, came, counted, counted_here, held, reallocates, stands, state, used_at}
+use Rattle.rlsf_heap.proofs.Reallocating.{asked, block, came, counted, counted_here, held, stands, state, used_at}
 use Rattle.rlsf_heap.proofs.Resized.{holds_new, new, own_new}
 use Rattle.rlsf_base.specs.Layout.{IsLayout}
 use Rattle.rlsf_machine.specs.Callers.{align_at, bytes_at}
 use Rattle.rlsf_machine.specs.NoMove.{ReallocatesWithoutMove}
 use Rattle.rlsf_machine.specs.Reallocate.{Keeps}
 use Rattle.rlsf_reallocate.specs.Steps.Resize.{IsUsedAt}
-use Rattle.rlsf_machine.specs.Sized.{IsSizedFor, live_count}
 use Rattle.rlsf_machine.specs.Run.{Fills}
 use Rattle.rlsf_machine.specs.WellFormed.{IsWellFormed}
 use Rattle.rlsf_machine.proofs.CallerWords.{align_at-live, bytes_at-held}
 use Rattle.rlsf_machine.proofs.Live.{live_addresses_are_aligned}
 use Rattle.rlsf_machine.proofs.NoMove.{unmoved_is_reallocated}
 use Rattle.rlsf_reallocate.proofs.Reallocate.FirstPlan.{StandsFor-unchanged}
-use Rattle.rlsf_machine.proofs.SizedWords.{count_filled, sized_filled}
-use Rattle.rlsf_table.specs.Counts.{Counts}
 use Rattle.rlsf_blocks.proofs.Words.Stays.{Stays, Stays-same, Stays-then}
 use Rattle.rlsf_tlsf.specs.Steps.Moves.{bare}
 use Rattle.rlsf_tlsf.proofs.Arrivals.{arrived}
 use Rattle.rlsf_heap.specs.Heap.{AreIssued, HeapView, PayloadView, Steps}
-use Rattle.rlsf_heap.specs.Reallocation.{IsKeptHere, owned_by}
+use Rattle.rlsf_heap.specs.Reallocation.{owned_by}
 use Rattle.rlsf_heap.specs.Settled.{IsSettled}
-use Rattle.rlsf_heap.proofs.Arrivals.{IsHeap-arrived, Steps-arrived, bare-kept, stepped}
-use Rattle.rlsf_heap.proofs.Reallocated.{Keeps-each, SeesReallocated, aligns_stay, chunks_reallocated, count_reallocated, never_refused_reallocation, reallocated_seen, sized_reallocated}
-use Rattle.rlsf_heap.proofs.Reallocating.{IsBackIn, bare_state, bytes_are, counted_moved, counted_stayed, here as here_of, here_still, issued_moved, issued_stayed, kept_moved, long, refused_same, unmoved, unmoved_moves, unmoved_refused, usable_is}
+use Rattle.rlsf_heap.proofs.Arrivals.{IsHeap-arrived, Steps-arrived, bare-kept}
+use Rattle.rlsf_heap.proofs.Reallocated.{Keeps-each, SeesReallocated, aligns_stay, chunks_reallocated, count_reallocated, reallocated_seen}
+use Rattle.rlsf_heap.proofs.Reallocated.{sized_reallocated}
+use Rattle.rlsf_heap.proofs.Reallocating.{IsBackIn, bare_state, bytes_are, counted_moved, counted_stayed, here as here_of, here_still, issued_moved, issued_stayed, kept_moved}
+use Rattle.rlsf_heap.proofs.Reallocating.{unmoved, unmoved_moves, unmoved_refused, usable_is}
 use Rattle.rlsf_heap.proofs.Settled.{settled-back, settled-here, settled-left, settled-stays}
-use Rattle.rlsf_heap.proofs.Viewed.{aligns_view, alike_view, count_view, sized_view, stayed_view, fills_view, live_view, room_view, well}
+use Rattle.rlsf_heap.proofs.Viewed.{aligns_view, alike_view, count_view, sized_view, stayed_view, fills_view, live_view, well}
 use Rattle.rlsf_heap.proofs.heap.Heap.reallocate_no_move.Goals.{After-issue-ticket, After-issue-ticket-2}
 use Rattle.rlsf_heap.proofs.heap.Heap.reallocate_no_move.Given as given
 use Rattle.rlsf_heap.proofs.heap.Heap.reallocate_no_move.Goals as goal
 
--- ---- the payload comes back, and its block is found
+-- ---- the payload is back in the memory, and its block is found
 
 pub used_block-block-requires-clause-live : goal.used_block-block-requires-clause-live
 used_block-block-requires-clause-live g c =
-    let b = came c.into_parts-part.result.0 c.self.invariant c.into_parts-part.ensures.ticket c.redeem.ensures.issued c.put_back.ensures.start c.put_back.ensures.bytes c.put_back.ensures.out in
+    let b = came c.into_parts-part.result.0 c.self.invariant c.into_parts-part.ensures.ticket c.redeem.ensures.issued c.put_back.ensures.start c.put_back.ensures.bytes
+    c.put_back.ensures.out in
     (g.row.FLLEN, g.row.SLLEN, c.self.inside.table, state b, stands b, asked b c.start-addr.ensures c.align-align.ensures)
 
 pub resize_block-requires : goal.resize_block-requires
 resize_block-requires g c =
-    let b = came c.into_parts-part.result.0 c.self.invariant c.into_parts-part.ensures.ticket c.redeem.ensures.issued c.put_back.ensures.start c.put_back.ensures.bytes c.put_back.ensures.out in
+    let b = came c.into_parts-part.result.0 c.self.invariant c.into_parts-part.ensures.ticket c.redeem.ensures.issued c.put_back.ensures.start c.put_back.ensures.bytes
+    c.put_back.ensures.out in
     let counts = c.used_block-block.ensures.counts in
     let m = c.used_block-block.new.memory in
-    let found = c.used_block-block.ensures.block g.row.FLLEN g.row.SLLEN c.self.inside.table (state b) (stands b) (asked b c.start-addr.ensures c.align-align.ensures) in
-    (omega arith, (IsValid-widest g.FLBitmap.BitPattern.width_limit c.self.invariant.valid, ((state b, block b, counted b m counts.start counts.bytes counts.out, used_at b c.start-addr.ensures found (c.in-Ok.ensures.layout.1 ∙ c.align-align.ensures), own-here m (usable (block b)) (counted_here b m counts.start counts.bytes counts.out)), search rules)))
+    let found = c.used_block-block.ensures.block g.row.FLLEN g.row.SLLEN c.self.inside.table (state b) (stands b) (asked b c.start-addr.ensures c.align-align.ensures) in (
+      omega arith,
+      (
+        IsValid-widest g.FLBitmap.BitPattern.width_limit c.self.invariant.valid,
+        (
+          (
+            state b,
+            block b,
+            counted b m counts.start counts.bytes counts.out,
+            used_at b c.start-addr.ensures found (c.in-Ok.ensures.layout.1 ∙ c.align-align.ensures),
+            own-here m (usable (block b)) (counted_here b m counts.start counts.bytes counts.out),
+          ),
+          search rules,
+        ),
+      ),
+    )
 
--- ---- it has the size
+-- ---- the payload has the new size
 
 pub load_usable_bytes-range-requires : goal.load_usable_bytes-range-requires
 load_usable_bytes-range-requires g c =
-    let b = came c.into_parts-part.result.0 c.self.invariant c.into_parts-part.ensures.ticket c.redeem.ensures.issued c.put_back.ensures.start c.put_back.ensures.bytes c.put_back.ensures.out in
+    let b = came c.into_parts-part.result.0 c.self.invariant c.into_parts-part.ensures.ticket c.redeem.ensures.issued c.put_back.ensures.start c.put_back.ensures.bytes
+    c.put_back.ensures.out in
     let counts = c.used_block-block.ensures.counts in
     let m = c.used_block-block.new.memory in
     let found = c.used_block-block.ensures.block g.row.FLLEN g.row.SLLEN c.self.inside.table (state b) (stands b) (asked b c.start-addr.ensures c.align-align.ensures) in
-    let (q, first, place, (t, replans, now, spare)) = c.resize_block.ensures.done (state b) (block b) (counted b m counts.start counts.bytes counts.out) (used_at b c.start-addr.ensures found (c.in-Ok.ensures.layout.1 ∙ c.align-align.ensures)) (own-here m (usable (block b)) (counted_here b m counts.start counts.bytes counts.out)) c.if-not-resize_block.false in
+    let (q, first, place, (t, replans, now, spare)) = c.resize_block.ensures.done (state b) (block b) (counted b m counts.start counts.bytes counts.out)
+    (used_at b c.start-addr.ensures found (c.in-Ok.ensures.layout.1 ∙ c.align-align.ensures))
+    (own-here m (usable (block b)) (counted_here b m counts.start counts.bytes counts.out)) c.if-not-resize_block.false in
     let moved = unmoved_moves b (unmoved b c.in-Ok.ensures.layout.0 first place c.start-addr.ensures replans) in
-    let one = holds_new (stands b) (block b) (held b).0 c.args.size (block b).payload moved in
-    (g.row.FLLEN, g.row.SLLEN, contents c.resize_block.new.memory c.resize_block.new.table, t, refl, now, (new (stands b) (block b) (held b).0 c.args.size (block b).payload moved, (one.0, one.1 ∙ (held b).1 ∙ sym c.start-addr.ensures)))
+    let one = holds_new (stands b) (block b) (held b).0 c.args.size (block b).payload moved in (
+      g.row.FLLEN,
+      g.row.SLLEN,
+      contents c.resize_block.new.memory c.resize_block.new.table,
+      t,
+      refl,
+      now,
+      (new (stands b) (block b) (held b).0 c.args.size (block b).payload moved, (one.0, one.1 ∙ (held b).1 ∙ sym c.start-addr.ensures)),
+    )
 
 pub take_out-part-requires-2-clause-place : goal.take_out-part-requires-2-clause-place
 take_out-part-requires-2-clause-place g c =
-    let b = came c.into_parts-part.result.0 c.self.invariant c.into_parts-part.ensures.ticket c.redeem.ensures.issued c.put_back.ensures.start c.put_back.ensures.bytes c.put_back.ensures.out in
+    let b = came c.into_parts-part.result.0 c.self.invariant c.into_parts-part.ensures.ticket c.redeem.ensures.issued c.put_back.ensures.start c.put_back.ensures.bytes
+    c.put_back.ensures.out in
     let counts = c.used_block-block.ensures.counts in
     let m = c.used_block-block.new.memory in
     let found = c.used_block-block.ensures.block g.row.FLLEN g.row.SLLEN c.self.inside.table (state b) (stands b) (asked b c.start-addr.ensures c.align-align.ensures) in
-    let (q, first, place, (t, replans, now, spare)) = c.resize_block.ensures.done (state b) (block b) (counted b m counts.start counts.bytes counts.out) (used_at b c.start-addr.ensures found (c.in-Ok.ensures.layout.1 ∙ c.align-align.ensures)) (own-here m (usable (block b)) (counted_here b m counts.start counts.bytes counts.out)) c.if-not-resize_block.false in
+    let (q, first, place, (t, replans, now, spare)) = c.resize_block.ensures.done (state b) (block b) (counted b m counts.start counts.bytes counts.out)
+    (used_at b c.start-addr.ensures found (c.in-Ok.ensures.layout.1 ∙ c.align-align.ensures))
+    (own-here m (usable (block b)) (counted_here b m counts.start counts.bytes counts.out)) c.if-not-resize_block.false in
     let moved = unmoved_moves b (unmoved b c.in-Ok.ensures.layout.0 first place c.start-addr.ensures replans) in
     let one = holds_new (stands b) (block b) (held b).0 c.args.size (block b).payload moved in
-    let range = c.load_usable_bytes-range.ensures.range g.row.FLLEN g.row.SLLEN (contents c.resize_block.new.memory c.resize_block.new.table) t (new (stands b) (block b) (held b).0 c.args.size (block b).payload moved) refl now (one.0, one.1 ∙ (held b).1 ∙ sym c.start-addr.ensures) in
+    let range = c.load_usable_bytes-range.ensures.range g.row.FLLEN g.row.SLLEN (contents c.resize_block.new.memory c.resize_block.new.table) t
+    (new (stands b) (block b) (held b).0 c.args.size (block b).payload moved) refl now (one.0, one.1 ∙ (held b).1 ∙ sym c.start-addr.ensures) in
     let n = c.load_usable_bytes-range.new.memory in
-    subst (λ (r : Range). LiesIn r n.start (length n.bytes)) (sym range) (lies-usable (StandsFor-touched c.resize_block.new.memory n 3 c.load_usable_bytes-range.ensures.memory now) (new (stands b) (block b) (held b).0 c.args.size (block b).payload moved) one.0)
+    subst (λ (r : Range). LiesIn r n.start (length n.bytes)) (sym range)
+    (lies-usable (StandsFor-touched c.resize_block.new.memory n 3 c.load_usable_bytes-range.ensures.memory now)
+    (new (stands b) (block b) (held b).0 c.args.size (block b).payload moved) one.0)
 
 pub take_out-part-requires-2-clause-own : goal.take_out-part-requires-2-clause-own
 take_out-part-requires-2-clause-own g c =
-    let b = came c.into_parts-part.result.0 c.self.invariant c.into_parts-part.ensures.ticket c.redeem.ensures.issued c.put_back.ensures.start c.put_back.ensures.bytes c.put_back.ensures.out in
+    let b = came c.into_parts-part.result.0 c.self.invariant c.into_parts-part.ensures.ticket c.redeem.ensures.issued c.put_back.ensures.start c.put_back.ensures.bytes
+    c.put_back.ensures.out in
     let counts = c.used_block-block.ensures.counts in
     let m = c.used_block-block.new.memory in
     let found = c.used_block-block.ensures.block g.row.FLLEN g.row.SLLEN c.self.inside.table (state b) (stands b) (asked b c.start-addr.ensures c.align-align.ensures) in
-    let (q, first, place, (t, replans, now, spare)) = c.resize_block.ensures.done (state b) (block b) (counted b m counts.start counts.bytes counts.out) (used_at b c.start-addr.ensures found (c.in-Ok.ensures.layout.1 ∙ c.align-align.ensures)) (own-here m (usable (block b)) (counted_here b m counts.start counts.bytes counts.out)) c.if-not-resize_block.false in
+    let (q, first, place, (t, replans, now, spare)) = c.resize_block.ensures.done (state b) (block b) (counted b m counts.start counts.bytes counts.out)
+    (used_at b c.start-addr.ensures found (c.in-Ok.ensures.layout.1 ∙ c.align-align.ensures))
+    (own-here m (usable (block b)) (counted_here b m counts.start counts.bytes counts.out)) c.if-not-resize_block.false in
     let moved = unmoved_moves b (unmoved b c.in-Ok.ensures.layout.0 first place c.start-addr.ensures replans) in
     let one = holds_new (stands b) (block b) (held b).0 c.args.size (block b).payload moved in
-    let range = c.load_usable_bytes-range.ensures.range g.row.FLLEN g.row.SLLEN (contents c.resize_block.new.memory c.resize_block.new.table) t (new (stands b) (block b) (held b).0 c.args.size (block b).payload moved) refl now (one.0, one.1 ∙ (held b).1 ∙ sym c.start-addr.ensures) in
+    let range = c.load_usable_bytes-range.ensures.range g.row.FLLEN g.row.SLLEN (contents c.resize_block.new.memory c.resize_block.new.table) t
+    (new (stands b) (block b) (held b).0 c.args.size (block b).payload moved) refl now (one.0, one.1 ∙ (held b).1 ∙ sym c.start-addr.ensures) in
     let n = c.load_usable_bytes-range.new.memory in
     let touched = c.load_usable_bytes-range.ensures.memory in
     let before = Stays-same c.put_back.new.self m counts.start counts.out in
     let across : Stays m c.resize_block.new.memory = record { start = c.resize_block.ensures.costs.start; own = c.resize_block.ensures.own; here = c.resize_block.ensures.here } in
     let behind = Stays-same c.resize_block.new.memory n (ap (λ (o : Space). o.start) touched) (ap (λ (o : Space). o.out) touched) in
     let all = Stays-then before (Stays-then across behind) in
-    subst (IsOwned n) (sym range) (own_new (stands b) (block b) (held b).0 c.args.size (block b).payload moved (own-here c.put_back.new.self (usable (block b)) (here_of b)) (StandsFor-touched c.resize_block.new.memory n 3 touched now) all.start all.own)
+    subst (IsOwned n) (sym range) (own_new (stands b) (block b) (held b).0 c.args.size (block b).payload moved (own-here c.put_back.new.self (usable (block b)) (here_of b))
+    (StandsFor-touched c.resize_block.new.memory n 3 touched now) all.start all.own)
 
--- ---- it is refused: its bytes leave again
+-- ---- the reallocation is refused: the bytes leave again
 
 pub take_out-part-requires-clause-own : goal.take_out-part-requires-clause-own
 take_out-part-requires-clause-own g c =
-    let b = came c.into_parts-part.result.0 c.self.invariant c.into_parts-part.ensures.ticket c.redeem.ensures.issued c.put_back.ensures.start c.put_back.ensures.bytes c.put_back.ensures.out in
+    let b = came c.into_parts-part.result.0 c.self.invariant c.into_parts-part.ensures.ticket c.redeem.ensures.issued c.put_back.ensures.start c.put_back.ensures.bytes
+    c.put_back.ensures.out in
     let counts = c.used_block-block.ensures.counts in
     let before = Stays-same c.put_back.new.self c.used_block-block.new.memory counts.start counts.out in
-    let across : Stays c.used_block-block.new.memory c.resize_block.new.memory = record { start = c.resize_block.ensures.costs.start; own = c.resize_block.ensures.own; here = c.resize_block.ensures.here } in
+    let across : Stays c.used_block-block.new.memory c.resize_block.new.memory =
+    record { start = c.resize_block.ensures.costs.start; own = c.resize_block.ensures.own; here = c.resize_block.ensures.here } in
     own-here c.resize_block.new.memory (range_at c.start-addr.result c.len-len.result) (here_still b c.start-addr.ensures c.len-len.ensures (Stays-then before across))
 
-came_back : (g : given.Over) (c : After-issue-ticket g) → IsBackIn g.row.FLLEN g.row.SLLEN c.self.inside.memory c.put_back.new.self c.self.inside.table (read_from c.self.inside.memory c.self.inside.state.state) c.self.inside.ledger.entries c.into_parts-part.result.1.key c.into_parts-part.result.0 c.args.payload.align
-came_back g c = came c.into_parts-part.result.0 c.self.invariant c.into_parts-part.ensures.ticket c.redeem.ensures.issued c.put_back.ensures.start c.put_back.ensures.bytes c.put_back.ensures.out
+came_back : (g : given.Over) (c : After-issue-ticket g) → IsBackIn g.row.FLLEN g.row.SLLEN c.self.inside.memory c.put_back.new.self c.self.inside.table
+    (read_from c.self.inside.memory c.self.inside.state.state) c.self.inside.ledger.entries c.into_parts-part.result.1.key c.into_parts-part.result.0 c.args.payload.align
+came_back g c = came c.into_parts-part.result.0 c.self.invariant c.into_parts-part.ensures.ticket c.redeem.ensures.issued c.put_back.ensures.start c.put_back.ensures.bytes
+    c.put_back.ensures.out
 
-refused_used : (g : given.Over) (c : After-issue-ticket g) → IsUsedAt (state (came_back g c)) (block (came_back g c)) c.used_block-block.result c.start-addr.result c.in-Ok.layout.align
+refused_used : (g : given.Over) (c : After-issue-ticket g) → IsUsedAt (state (came_back g c)) (block (came_back g c)) c.used_block-block.result c.start-addr.result
+    c.in-Ok.layout.align
 refused_used g c =
     let b = came_back g c in
-    used_at b c.start-addr.ensures (c.used_block-block.ensures.block g.row.FLLEN g.row.SLLEN c.self.inside.table (state b) (stands b) (asked b c.start-addr.ensures c.align-align.ensures)) (c.in-Ok.ensures.layout.1 ∙ c.align-align.ensures)
+    used_at b c.start-addr.ensures (c.used_block-block.ensures.block g.row.FLLEN g.row.SLLEN c.self.inside.table (state b) (stands b)
+    (asked b c.start-addr.ensures c.align-align.ensures)) (c.in-Ok.ensures.layout.1 ∙ c.align-align.ensures)
 
-refused_stands : (g : given.Over) (c : After-issue-ticket g) → StandsFor g.row.FLLEN g.row.SLLEN (contents c.used_block-block.new.memory c.self.inside.table) (state (came_back g c))
+refused_stands : (g : given.Over) (c : After-issue-ticket g) → StandsFor g.row.FLLEN g.row.SLLEN (contents c.used_block-block.new.memory c.self.inside.table)
+    (state (came_back g c))
 refused_stands g c = let counts = c.used_block-block.ensures.counts in counted (came_back g c) c.used_block-block.new.memory counts.start counts.bytes counts.out
 
 refusing : (g : given.Over) (c : After-issue-ticket g) → ReallocatesWithoutMove (state (came_back g c)) (block (came_back g c)).payload c.args.size None (state (came_back g c))
-refusing g c = unmoved_refused (came_back g c) c.in-Ok.ensures.layout.0 (c.resize_block.ensures.refused (state (came_back g c)) (block (came_back g c)) (refused_stands g c) (refused_used g c) c.if-not-resize_block.true)
+refusing g c = unmoved_refused (came_back g c) c.in-Ok.ensures.layout.0
+    (c.resize_block.ensures.refused (state (came_back g c)) (block (came_back g c)) (refused_stands g c) (refused_used g c) c.if-not-resize_block.true)
 
-same_stands : (g : given.Over) (c : After-issue-ticket g) → StandsFor g.row.FLLEN g.row.SLLEN (contents c.resize_block.new.memory c.resize_block.new.table) (state (came_back g c))
-same_stands g c = StandsFor-unchanged c.used_block-block.new.memory c.resize_block.new.memory c.self.inside.table c.resize_block.new.table (state (came_back g c)) 2 (c.resize_block.ensures.unchanged c.if-not-resize_block.true) (refused_stands g c)
+same_stands : (g : given.Over) (c : After-issue-ticket g)
+    → StandsFor g.row.FLLEN g.row.SLLEN (contents c.resize_block.new.memory c.resize_block.new.table) (state (came_back g c))
+same_stands g c = StandsFor-unchanged c.used_block-block.new.memory c.resize_block.new.memory c.self.inside.table c.resize_block.new.table (state (came_back g c)) 2
+    (c.resize_block.ensures.unchanged c.if-not-resize_block.true) (refused_stands g c)
 
 same_range : (g : given.Over) (c : After-issue-ticket g) → range_at c.start-addr.result c.len-len.result ≡ usable (block (came_back g c))
 same_range g c = usable_is (came_back g c) c.start-addr.ensures c.len-len.ensures
@@ -139,7 +186,8 @@ refused_stays : (g : given.Over) (c : After-issue-ticket g) → Stays c.put_back
 refused_stays g c =
     let counts = c.used_block-block.ensures.counts in
     let before = Stays-same c.put_back.new.self c.used_block-block.new.memory counts.start counts.out in
-    let across : Stays c.used_block-block.new.memory c.resize_block.new.memory = record { start = c.resize_block.ensures.costs.start; own = c.resize_block.ensures.own; here = c.resize_block.ensures.here } in
+    let across : Stays c.used_block-block.new.memory c.resize_block.new.memory =
+    record { start = c.resize_block.ensures.costs.start; own = c.resize_block.ensures.own; here = c.resize_block.ensures.here } in
     Stays-then before across
 
 refused_here : (g : given.Over) (c : After-issue-ticket g) → IsHere c.resize_block.new.memory (range_at c.start-addr.result c.len-len.result)
@@ -154,18 +202,20 @@ still g c =
 kept_still : (g : given.Over) (c : After-issue-ticket g) → c.self.inside.state.state ≡ bare (state (came_back g c))
 kept_still g c = sym (bare_state (came_back g c) c.self.inside.state.state (bare-kept c.self.invariant))
 
--- the entries, once the old ticket was redeemed and one like it issued
+-- the entries after the old ticket is redeemed and one like it is issued
 issued_still : (g : given.Over) (c : After-issue-ticket g) → AreIssued (state (came_back g c)) c.issue-ticket.new.self.entries
 issued_still g c =
     let ticket = c.into_parts-part.ensures.ticket in
     let name = extent c.start-addr.result c.len-len.result c.align-align.result in
-    let same : set c.self.inside.ledger.entries c.into_parts-part.result.1.key (entry_of (extent c.into_parts-part.result.0.start (length c.into_parts-part.result.0.bytes) c.args.payload.align) false) ≡ c.redeem.new.self.entries =
+    let same : set c.self.inside.ledger.entries c.into_parts-part.result.1.key
+    (entry_of (extent c.into_parts-part.result.0.start (length c.into_parts-part.result.0.bytes) c.args.payload.align) false) ≡ c.redeem.new.self.entries =
     (λ i. set c.self.inside.ledger.entries c.into_parts-part.result.1.key (entry_of (extent (ticket.0 i) (ticket.1 i) (ticket.2 i)) false)) ∙ sym c.redeem.ensures.entries in
     subst (AreIssued (state (came_back g c))) (ap (λ (es : List Entry). es ++ entry_of name true ∷ []) same ∙ sym c.issue-ticket.ensures.entries)
     (issued_stayed (came_back g c) name c.start-addr.ensures c.len-len.ensures c.align-align.ensures)
 
 pub invariant_of-self : goal.invariant_of-self
-invariant_of-self g c = IsHeap-arrived (still g c) c.self.inside.state.state (kept_still g c) c.self.invariant.valid c.issue-ticket.new.self.entries (issued_still g c) c.self.inside.live (c.self.invariant.counted ∙ sym (counted_stayed (came_back g c)))
+invariant_of-self g c = IsHeap-arrived (still g c) c.self.inside.state.state (kept_still g c) c.self.invariant.valid c.issue-ticket.new.self.entries (issued_still g c)
+    c.self.inside.live (c.self.invariant.counted ∙ sym (counted_stayed (came_back g c)))
 
 abbrev same_now : (g : given.Over) → After-issue-ticket g → State
 same_now g c = read_from c.take_out-part.new.self c.self.inside.state.state
@@ -188,17 +238,21 @@ returns-then-not-resize_block-clause-back g c =
     (as_before ∙ ap (λ (v : PayloadView). v.bytes) c.into_parts-part.ensures.parts, e.full (refused_here g c))
 
 pub returns-then-not-resize_block-clause-count : goal.returns-then-not-resize_block-clause-count
-returns-then-not-resize_block-clause-count g c = count_view c.self.inside.state.state (came_back g c) c.args.self.now c.self.view_is c.args.payload c.into_parts-part.ensures.parts (same_now g c) (same_state g c)
+returns-then-not-resize_block-clause-count g c = count_view c.self.inside.state.state (came_back g c) c.args.self.now c.self.view_is c.args.payload c.into_parts-part.ensures.parts
+    (same_now g c) (same_state g c)
 
 pub returns-then-not-resize_block-clause-bounds : goal.returns-then-not-resize_block-clause-bounds
 returns-then-not-resize_block-clause-bounds g c = λ count most align sized short fits.
-    sized_view c.self.inside.state.state (came_back g c) c.args.self.now c.self.view_is c.args.payload c.into_parts-part.ensures.parts (same_now g c) (same_state g c) count most align sized
+    sized_view c.self.inside.state.state (came_back g c) c.args.self.now c.self.view_is c.args.payload c.into_parts-part.ensures.parts (same_now g c) (same_state g c) count most
+    align sized
 
 pub returns-then-not-resize_block-clause-same : goal.returns-then-not-resize_block-clause-same
-returns-then-not-resize_block-clause-same g c = alike_view c.self.inside.state.state (came_back g c) c.args.self.now c.self.view_is c.args.payload c.into_parts-part.ensures.parts (same_now g c) (same_state g c)
+returns-then-not-resize_block-clause-same g c = alike_view c.self.inside.state.state (came_back g c) c.args.self.now c.self.view_is c.args.payload c.into_parts-part.ensures.parts
+    (same_now g c) (same_state g c)
 
 pub returns-then-not-resize_block-clause-aligns : goal.returns-then-not-resize_block-clause-aligns
-returns-then-not-resize_block-clause-aligns g c = aligns_view c.self.inside.state.state (came_back g c) c.args.self.now c.self.view_is c.args.payload c.into_parts-part.ensures.parts (same_now g c) (same_state g c)
+returns-then-not-resize_block-clause-aligns g c = aligns_view c.self.inside.state.state (came_back g c) c.args.self.now c.self.view_is c.args.payload
+    c.into_parts-part.ensures.parts (same_now g c) (same_state g c)
 
 pub returns-then-not-resize_block-clause-settled : goal.returns-then-not-resize_block-clause-settled
 returns-then-not-resize_block-clause-settled g c = λ settled.
@@ -206,36 +260,48 @@ returns-then-not-resize_block-clause-settled g c = λ settled.
     let m = c.self.inside.memory in
     let first = subst (λ (o : HeapView). IsSettled o.memory) (sym c.self.view_is) settled in
     let low : c.put_back.new.self.start ≤ c.start-addr.result = omega (arith, (lies-usable (stands b) (block b) (held b).0).0, c.start-addr.ensures, (held b).1) in
-    let second = settled-back m c.put_back.new.self (piece_range c.into_parts-part.result.0) c.put_back.ensures.start (omega (arith, low, c.start-addr.ensures, c.put_back.ensures.start)) c.put_back.ensures.out first in
-    settled-left c.resize_block.new.memory c.take_out-part.new.self (range_at c.start-addr.result c.len-len.result) c.take_out-part.ensures.start (omega (arith, low, (refused_stays g c).start)) c.take_out-part.ensures.out (settled-stays (refused_stays g c) second)
+    let second = settled-back m c.put_back.new.self (piece_range c.into_parts-part.result.0) c.put_back.ensures.start
+    (omega (arith, low, c.start-addr.ensures, c.put_back.ensures.start)) c.put_back.ensures.out first in
+    settled-left c.resize_block.new.memory c.take_out-part.new.self (range_at c.start-addr.result c.len-len.result) c.take_out-part.ensures.start
+    (omega (arith, low, (refused_stays g c).start)) c.take_out-part.ensures.out (settled-stays (refused_stays g c) second)
 
--- ---- it has the size
+-- ---- the payload has the new size
 
-back_in : (g : given.Over) (c : After-issue-ticket-2 g) → IsBackIn g.row.FLLEN g.row.SLLEN c.self.inside.memory c.put_back.new.self c.self.inside.table (read_from c.self.inside.memory c.self.inside.state.state) c.self.inside.ledger.entries c.into_parts-part.result.1.key c.into_parts-part.result.0 c.args.payload.align
-back_in g c = came c.into_parts-part.result.0 c.self.invariant c.into_parts-part.ensures.ticket c.redeem.ensures.issued c.put_back.ensures.start c.put_back.ensures.bytes c.put_back.ensures.out
+back_in : (g : given.Over) (c : After-issue-ticket-2 g) → IsBackIn g.row.FLLEN g.row.SLLEN c.self.inside.memory c.put_back.new.self c.self.inside.table
+    (read_from c.self.inside.memory c.self.inside.state.state) c.self.inside.ledger.entries c.into_parts-part.result.1.key c.into_parts-part.result.0 c.args.payload.align
+back_in g c = came c.into_parts-part.result.0 c.self.invariant c.into_parts-part.ensures.ticket c.redeem.ensures.issued c.put_back.ensures.start c.put_back.ensures.bytes
+    c.put_back.ensures.out
 
-moved_used : (g : given.Over) (c : After-issue-ticket-2 g) → IsUsedAt (state (back_in g c)) (block (back_in g c)) c.used_block-block.result c.start-addr.result c.in-Ok.layout.align
+moved_used : (g : given.Over) (c : After-issue-ticket-2 g)
+    → IsUsedAt (state (back_in g c)) (block (back_in g c)) c.used_block-block.result c.start-addr.result c.in-Ok.layout.align
 moved_used g c =
     let b = back_in g c in
-    used_at b c.start-addr.ensures (c.used_block-block.ensures.block g.row.FLLEN g.row.SLLEN c.self.inside.table (state b) (stands b) (asked b c.start-addr.ensures c.align-align.ensures)) (c.in-Ok.ensures.layout.1 ∙ c.align-align.ensures)
+    used_at b c.start-addr.ensures (c.used_block-block.ensures.block g.row.FLLEN g.row.SLLEN c.self.inside.table (state b) (stands b)
+    (asked b c.start-addr.ensures c.align-align.ensures)) (c.in-Ok.ensures.layout.1 ∙ c.align-align.ensures)
 
-moving : (g : given.Over) (c : After-issue-ticket-2 g) → (t : State) × ReallocatesWithoutMove (state (back_in g c)) (block (back_in g c)).payload c.args.size (Some (block (back_in g c)).payload) t
+moving : (g : given.Over) (c : After-issue-ticket-2 g) → (t : State) × ReallocatesWithoutMove (state (back_in g c)) (block (back_in g c)).payload c.args.size (Some
+    (block (back_in g c)).payload) t
     × StandsFor g.row.FLLEN g.row.SLLEN (contents c.resize_block.new.memory c.resize_block.new.table) t
 moving g c =
     let b = back_in g c in
     let counts = c.used_block-block.ensures.counts in
     let m = c.used_block-block.new.memory in
-    let (q, first, place, (t, replans, now, spare)) = c.resize_block.ensures.done (state b) (block b) (counted b m counts.start counts.bytes counts.out) (moved_used g c) (own-here m (usable (block b)) (counted_here b m counts.start counts.bytes counts.out)) c.if-not-resize_block.false in
+    let (q, first, place, (t, replans, now, spare)) = c.resize_block.ensures.done (state b) (block b) (counted b m counts.start counts.bytes counts.out) (moved_used g c)
+    (own-here m (usable (block b)) (counted_here b m counts.start counts.bytes counts.out)) c.if-not-resize_block.false in
     (t, unmoved b c.in-Ok.ensures.layout.0 first place c.start-addr.ensures replans, now)
 
 after : (g : given.Over) → After-issue-ticket-2 g → State
 after g c = (moving g c).0
 
-stayed : (g : given.Over) (c : After-issue-ticket-2 g) → ReallocatesWithoutMove (state (back_in g c)) (block (back_in g c)).payload c.args.size (Some (block (back_in g c)).payload) (after g c)
+stayed : (g : given.Over) (c : After-issue-ticket-2 g)
+    → ReallocatesWithoutMove (state (back_in g c)) (block (back_in g c)).payload c.args.size (Some (block (back_in g c)).payload)
+    (after g c)
 unfolding after
 stayed g c = (moving g c).1
 
-step : (g : given.Over) (c : After-issue-ticket-2 g) → Reallocates g.row.SLLEN (state (back_in g c)) (block (back_in g c)).payload c.args.size (Some (block (back_in g c)).payload) (after g c)
+step : (g : given.Over) (c : After-issue-ticket-2 g)
+    → Reallocates g.row.SLLEN (state (back_in g c)) (block (back_in g c)).payload c.args.size (Some (block (back_in g c)).payload)
+    (after g c)
 step g c = unmoved_moves (back_in g c) (stayed g c)
 
 reached : (g : given.Over) (c : After-issue-ticket-2 g) → StandsFor g.row.FLLEN g.row.SLLEN (contents c.resize_block.new.memory c.resize_block.new.table) (after g c)
@@ -248,12 +314,13 @@ fresh g c = new (stands (back_in g c)) (block (back_in g c)) (held (back_in g c)
 fresh_in : (g : given.Over) (c : After-issue-ticket-2 g) → Holds (after g c) (block (back_in g c)).payload (fresh g c)
 fresh_in g c = holds_new (stands (back_in g c)) (block (back_in g c)) (held (back_in g c)).0 c.args.size (block (back_in g c)).payload (step g c)
 
--- once its length was read
+-- after its length is read
 read : (g : given.Over) (c : After-issue-ticket-2 g) → StandsFor g.row.FLLEN g.row.SLLEN (contents c.load_usable_bytes-range.new.memory c.resize_block.new.table) (after g c)
 read g c = StandsFor-touched c.resize_block.new.memory c.load_usable_bytes-range.new.memory 3 c.load_usable_bytes-range.ensures.memory (reached g c)
 
 range : (g : given.Over) (c : After-issue-ticket-2 g) → c.load_usable_bytes-range.result ≡ usable (fresh g c)
-range g c = c.load_usable_bytes-range.ensures.range g.row.FLLEN g.row.SLLEN (contents c.resize_block.new.memory c.resize_block.new.table) (after g c) (fresh g c) refl (reached g c) ((fresh_in g c).0, (fresh_in g c).1 ∙ (held (back_in g c)).1 ∙ sym c.start-addr.ensures)
+range g c = c.load_usable_bytes-range.ensures.range g.row.FLLEN g.row.SLLEN (contents c.resize_block.new.memory c.resize_block.new.table) (after g c) (fresh g c) refl (reached g c)
+    ((fresh_in g c).0, (fresh_in g c).1 ∙ (held (back_in g c)).1 ∙ sym c.start-addr.ensures)
 
 -- its bytes leave
 standing : (g : given.Over) (c : After-issue-ticket-2 g) → StandsFor g.row.FLLEN g.row.SLLEN (contents c.take_out-part-2.new.self c.resize_block.new.table) (after g c)
@@ -274,7 +341,8 @@ now g c = read_from c.take_out-part-2.new.self c.reallocate.new.self.state
 bytes : (g : given.Over) (c : After-issue-ticket-2 g) → c.take_out-part-2.result.bytes ≡ bytes_at (now g c) c.take_out-part-2.result.start
 bytes g c =
     c.take_out-part-2.ensures.part.2 ∙ ap (bytes_in c.load_usable_bytes-range.new.memory) (range g c) ∙ (read g c).payloads.bytes (fresh g c) (fresh_in g c).0
-    ∙ sym (bytes_at-held (read g c).well_formed (block (back_in g c)).payload (fresh g c) (fresh_in g c)) ∙ (λ i. bytes_at (sym (arrived (standing g c) c.reallocate.new.self.state (kept g c)) i) (at g c i))
+    ∙ sym (bytes_at-held (read g c).well_formed (block (back_in g c)).payload (fresh g c) (fresh_in g c))
+    ∙ (λ i. bytes_at (sym (arrived (standing g c) c.reallocate.new.self.state (kept g c)) i) (at g c i))
 
 -- it is as long as its range
 part_long : (g : given.Over) (c : After-issue-ticket-2 g) → length c.take_out-part-2.result.bytes ≡ c.load_usable_bytes-range.result.len
@@ -287,50 +355,60 @@ invariant_of-result-2 g c =
     let ticket = c.issue-ticket-2.ensures.ticket in
     (c.take_out-part-2.ensures.part.1 ∙ sym ticket.1, part_long g c ∙ sym ticket.2, sym ticket.3)
 
--- the entries, once the old ticket was redeemed and the new one issued
+-- the entries after the old ticket is redeemed and the new one is issued
 issued : (g : given.Over) (c : After-issue-ticket-2 g) → AreIssued (after g c) c.issue-ticket-2.new.self.entries
 issued g c =
     let r = c.load_usable_bytes-range.result in
     let name = extent r.start r.len c.align-align.result in
     let ticket = c.into_parts-part.ensures.ticket in
-    let same : set c.self.inside.ledger.entries c.into_parts-part.result.1.key (entry_of (extent c.into_parts-part.result.0.start (length c.into_parts-part.result.0.bytes) c.args.payload.align) false) ≡ c.redeem.new.self.entries =
+    let same : set c.self.inside.ledger.entries c.into_parts-part.result.1.key
+    (entry_of (extent c.into_parts-part.result.0.start (length c.into_parts-part.result.0.bytes) c.args.payload.align) false) ≡ c.redeem.new.self.entries =
     (λ i. set c.self.inside.ledger.entries c.into_parts-part.result.1.key (entry_of (extent (ticket.0 i) (ticket.1 i) (ticket.2 i)) false)) ∙ sym c.redeem.ensures.entries in
     subst (AreIssued (after g c)) (ap (λ (es : List Entry). es ++ entry_of name true ∷ []) same ∙ sym c.issue-ticket-2.ensures.entries)
     (issued_moved (back_in g c) (step g c) name (ap (λ (q : Range). q.start) (range g c) ∙ (fresh_in g c).1) (ap (λ (q : Range). q.len) (range g c)) c.align-align.ensures)
 
 pub invariant_of-self-2 : goal.invariant_of-self-2
-invariant_of-self-2 g c = IsHeap-arrived (standing g c) c.reallocate.new.self.state (kept g c) c.self.invariant.valid c.issue-ticket-2.new.self.entries (issued g c) c.self.inside.live (c.self.invariant.counted ∙ sym (counted_moved (back_in g c) (step g c)))
+invariant_of-self-2 g c = IsHeap-arrived (standing g c) c.reallocate.new.self.state (kept g c) c.self.invariant.valid c.issue-ticket-2.new.self.entries (issued g c)
+    c.self.inside.live (c.self.invariant.counted ∙ sym (counted_moved (back_in g c) (step g c)))
 
--- ---- what contracts see of that
+-- ---- the payload as contracts see it
 
-did : (g : given.Over) (c : After-issue-ticket-2 g) → ReallocatesWithoutMove (owned_by c.args.self.now.state c.args.payload) c.args.payload.start c.args.size (Some c.take_out-part-2.result.start) (now g c)
+did : (g : given.Over) (c : After-issue-ticket-2 g) → ReallocatesWithoutMove (owned_by c.args.self.now.state c.args.payload) c.args.payload.start c.args.size
+    (Some c.take_out-part-2.result.start) (now g c)
 did g c =
     let view = stayed_view c.self.inside.state.state (back_in g c) c.args.self.now c.self.view_is c.args.payload c.into_parts-part.ensures.parts (stayed g c) in
     subst (λ (o : ℕ × State). ReallocatesWithoutMove (owned_by c.args.self.now.state c.args.payload) c.args.payload.start c.args.size (Some o.0) o.1)
     (λ i. (at g c i, sym (arrived (standing g c) c.reallocate.new.self.state (kept g c)) i)) view
 
 there : (g : given.Over) (c : After-issue-ticket-2 g) → c.take_out-part-2.result.start ≡ c.args.payload.start
-there g c = (unmoved_is_reallocated g.row.SLLEN (owned_by c.args.self.now.state c.args.payload) (now g c) c.args.payload.start c.args.size (Some c.take_out-part-2.result.start) (did g c)).0.0
+there g c = (unmoved_is_reallocated g.row.SLLEN (owned_by c.args.self.now.state c.args.payload) (now g c) c.args.payload.start c.args.size (Some c.take_out-part-2.result.start)
+    (did g c)).0.0
 
-moves : (g : given.Over) (c : After-issue-ticket-2 g) → Reallocates g.row.SLLEN (owned_by c.args.self.now.state c.args.payload) c.args.payload.start c.args.size (Some c.take_out-part-2.result.start) (now g c)
-moves g c = (unmoved_is_reallocated g.row.SLLEN (owned_by c.args.self.now.state c.args.payload) (now g c) c.args.payload.start c.args.size (Some c.take_out-part-2.result.start) (did g c)).0.1
+moves : (g : given.Over) (c : After-issue-ticket-2 g) → Reallocates g.row.SLLEN (owned_by c.args.self.now.state c.args.payload) c.args.payload.start c.args.size
+    (Some c.take_out-part-2.result.start) (now g c)
+moves g c = (unmoved_is_reallocated g.row.SLLEN (owned_by c.args.self.now.state c.args.payload) (now g c) c.args.payload.start c.args.size (Some c.take_out-part-2.result.start)
+    (did g c)).0.1
 
 is_well : (g : given.Over) (c : After-issue-ticket-2 g) → IsWellFormed g.row.FLLEN g.row.SLLEN (range_of c.args.self.now.memory) c.args.self.now.state
 is_well g c = well c.self.inside.state.state (back_in g c) c.args.self.now c.self.view_is c.args.payload c.into_parts-part.ensures.parts
 
-is_filled : (g : given.Over) (c : After-issue-ticket-2 g) → Fills c.args.self.now.state c.args.payload.start c.args.payload.bytes (filled c.args.self.now.state c.args.payload.start c.args.payload.bytes)
+is_filled : (g : given.Over) (c : After-issue-ticket-2 g) → Fills c.args.self.now.state c.args.payload.start c.args.payload.bytes
+    (filled c.args.self.now.state c.args.payload.start c.args.payload.bytes)
 is_filled g c = fills_view c.self.inside.state.state (back_in g c) c.args.self.now c.self.view_is c.args.payload c.into_parts-part.ensures.parts
 
 is_live : (g : given.Over) (c : After-issue-ticket-2 g) → align_at c.args.self.now.state c.args.payload.start ≡ Some c.args.payload.align
 is_live g c = live_view c.self.inside.state.state (back_in g c) c.args.self.now c.self.view_is c.args.payload c.into_parts-part.ensures.parts
 
-seen : (g : given.Over) (c : After-issue-ticket-2 g) → SeesReallocated c.args.self.now.state (now g c) c.args.payload.start c.args.payload.bytes c.args.size c.args.payload.align c.take_out-part-2.result.start
-seen g c = reallocated_seen (is_well g c) c.args.payload.start c.args.payload.bytes (is_filled g c) (now g c) c.args.size c.args.payload.align (is_live g c) c.take_out-part-2.result.start (moves g c)
+seen : (g : given.Over) (c : After-issue-ticket-2 g) → SeesReallocated c.args.self.now.state (now g c) c.args.payload.start c.args.payload.bytes c.args.size c.args.payload.align
+    c.take_out-part-2.result.start
+seen g c = reallocated_seen (is_well g c) c.args.payload.start c.args.payload.bytes (is_filled g c) (now g c) c.args.size c.args.payload.align (is_live g c)
+    c.take_out-part-2.result.start (moves g c)
 
 pub returns-clause-step : goal.returns-clause-step
 returns-clause-step g c =
     Steps-arrived (standing g c) c.reallocate.new.self.state (kept g c) c.issue-ticket-2.new.self.name
-    (λ t. IsLayout c.args.size c.args.payload.align → ReallocatesWithoutMove (owned_by c.args.self.now.state c.args.payload) c.args.payload.start c.args.size (Some c.take_out-part-2.result.start) t)
+    (λ t. IsLayout c.args.size c.args.payload.align → ReallocatesWithoutMove (owned_by c.args.self.now.state c.args.payload) c.args.payload.start c.args.size
+    (Some c.take_out-part-2.result.start) t)
     (λ fits. did g c)
 
 pub returns-clause-live : goal.returns-clause-live
@@ -343,7 +421,8 @@ pub returns-clause-aligned : goal.returns-clause-aligned
 returns-clause-aligned g c =
     let (u, holds, wide) = align_at-live (now g c) c.take_out-part-2.result.start c.args.payload.align (seen g c).live in
     live_addresses_are_aligned g.row.FLLEN g.row.SLLEN (range_of c.take_out-part-2.new.self) (now g c) c.take_out-part-2.result.start c.args.payload.align
-    (subst (IsWellFormed g.row.FLLEN g.row.SLLEN (range_of c.take_out-part-2.new.self)) (sym (arrived (standing g c) c.reallocate.new.self.state (kept g c))) (standing g c).well_formed) (u, holds, wide)
+    (subst (IsWellFormed g.row.FLLEN g.row.SLLEN (range_of c.take_out-part-2.new.self)) (sym (arrived (standing g c) c.reallocate.new.self.state (kept g c)))
+    (standing g c).well_formed) (u, holds, wide)
 
 pub returns-clause-each : goal.returns-clause-each
 returns-clause-each g c = Keeps-each c.args.payload.bytes c.take_out-part-2.result.bytes (subst (Keeps c.args.payload.bytes) (sym (bytes g c)) (seen g c).kept)
@@ -364,14 +443,17 @@ pub returns-clause-aligns : goal.returns-clause-aligns
 returns-clause-aligns g c = aligns_stay (seen g c) (there g c) (is_live g c)
 
 pub returns-clause-count : goal.returns-clause-count
-returns-clause-count g c = count_reallocated (is_well g c) c.args.payload.start c.args.payload.bytes (is_filled g c) (now g c) c.args.size c.args.payload.align (is_live g c) (Some c.take_out-part-2.result.start) (moves g c)
+returns-clause-count g c = count_reallocated (is_well g c) c.args.payload.start c.args.payload.bytes (is_filled g c) (now g c) c.args.size c.args.payload.align (is_live g c)
+    (Some c.take_out-part-2.result.start) (moves g c)
 
 pub returns-clause-bounds : goal.returns-clause-bounds
 returns-clause-bounds g c = λ count most align sized short fits.
-    sized_reallocated (is_well g c) c.args.payload.start c.args.payload.bytes (is_filled g c) (now g c) c.args.size c.args.payload.align (is_live g c) count most align sized short fits (Some c.take_out-part-2.result.start) (moves g c)
+    sized_reallocated (is_well g c) c.args.payload.start c.args.payload.bytes (is_filled g c) (now g c) c.args.size c.args.payload.align (is_live g c) count most align sized short
+    fits (Some c.take_out-part-2.result.start) (moves g c)
 
 pub returns-clause-chunks : goal.returns-clause-chunks
-returns-clause-chunks g c = chunks_reallocated (is_well g c) c.args.payload.start c.args.payload.bytes (is_filled g c) (now g c) c.args.size c.args.payload.align (is_live g c) (Some c.take_out-part-2.result.start) (moves g c)
+returns-clause-chunks g c = chunks_reallocated (is_well g c) c.args.payload.start c.args.payload.bytes (is_filled g c) (now g c) c.args.size c.args.payload.align (is_live g c)
+    (Some c.take_out-part-2.result.start) (moves g c)
 
 -- ---- which of its bytes are here
 
@@ -380,7 +462,8 @@ moved_stays g c =
     let counts = c.used_block-block.ensures.counts in
     let touched = c.load_usable_bytes-range.ensures.memory in
     let before = Stays-same c.put_back.new.self c.used_block-block.new.memory counts.start counts.out in
-    let across : Stays c.used_block-block.new.memory c.resize_block.new.memory = record { start = c.resize_block.ensures.costs.start; own = c.resize_block.ensures.own; here = c.resize_block.ensures.here } in
+    let across : Stays c.used_block-block.new.memory c.resize_block.new.memory =
+    record { start = c.resize_block.ensures.costs.start; own = c.resize_block.ensures.own; here = c.resize_block.ensures.here } in
     let behind = Stays-same c.resize_block.new.memory c.load_usable_bytes-range.new.memory (ap (λ (o : Space). o.start) touched) (ap (λ (o : Space). o.out) touched) in
     Stays-then before (Stays-then across behind)
 
@@ -388,14 +471,17 @@ fresh_own : (g : given.Over) (c : After-issue-ticket-2 g) → IsOwned c.load_usa
 fresh_own g c =
     let b = back_in g c in
     subst (IsOwned c.load_usable_bytes-range.new.memory) (sym (range g c))
-    (own_new (stands b) (block b) (held b).0 c.args.size (block (back_in g c)).payload (step g c) (own-here c.put_back.new.self (usable (block b)) (here_of b)) (read g c) (moved_stays g c).start (moved_stays g c).own)
+    (own_new (stands b) (block b) (held b).0 c.args.size (block (back_in g c)).payload (step g c) (own-here c.put_back.new.self (usable (block b)) (here_of b)) (read g c)
+    (moved_stays g c).start (moved_stays g c).own)
 
 -- the state of a byte of the part
-state_of : (g : given.Over) (c : After-issue-ticket-2 g) (k : ℕ) → k < length c.take_out-part-2.result.bytes → kept_at c.take_out-part-2.result.out k ≡ out_at c.load_usable_bytes-range.new.memory (c.load_usable_bytes-range.result.start + k)
+state_of : (g : given.Over) (c : After-issue-ticket-2 g) (k : ℕ) → k < length c.take_out-part-2.result.bytes
+    → kept_at c.take_out-part-2.result.out k ≡ out_at c.load_usable_bytes-range.new.memory (c.load_usable_bytes-range.result.start + k)
 unfolding HasStatesOf
 state_of g c k less = c.take_out-part-2.ensures.kept k (omega (arith, less, part_long g c))
 
-kept_here : (g : given.Over) (c : After-issue-ticket-2 g) (k : ℕ) → k < length c.args.payload.bytes → k < length c.take_out-part-2.result.bytes → kept_at c.take_out-part-2.result.out k ≡ here
+kept_here : (g : given.Over) (c : After-issue-ticket-2 g) (k : ℕ) → k < length c.args.payload.bytes → k < length c.take_out-part-2.result.bytes
+    → kept_at c.take_out-part-2.result.out k ≡ here
 kept_here g c k old less =
     let b = back_in g c in
     let r = c.load_usable_bytes-range.result in
@@ -415,22 +501,26 @@ settled_before g c settled =
     let b = back_in g c in
     let first = subst (λ (o : HeapView). IsSettled o.memory) (sym c.self.view_is) settled in
     let low : c.put_back.new.self.start ≤ c.into_parts-part.result.0.start = omega (arith, (lies-usable (stands b) (block b) (held b).0).0, (held b).1) in
-    settled-stays (moved_stays g c) (settled-back c.self.inside.memory c.put_back.new.self (piece_range c.into_parts-part.result.0) c.put_back.ensures.start (omega (arith, low, c.put_back.ensures.start)) c.put_back.ensures.out first)
+    settled-stays (moved_stays g c) (settled-back c.self.inside.memory c.put_back.new.self (piece_range c.into_parts-part.result.0) c.put_back.ensures.start
+    (omega (arith, low, c.put_back.ensures.start)) c.put_back.ensures.out first)
 
 low_range : (g : given.Over) (c : After-issue-ticket-2 g) → c.load_usable_bytes-range.new.memory.start ≤ c.load_usable_bytes-range.result.start
 low_range g c = subst (λ (r : Range). c.load_usable_bytes-range.new.memory.start ≤ r.start) (sym (range g c)) (lies-usable (read g c) (fresh g c) (fresh_in g c).0).0
 
 pub returns-clause-written : goal.returns-clause-written
-returns-clause-written g c = λ settled. c.take_out-part-2.ensures.full (settled-here c.load_usable_bytes-range.new.memory c.load_usable_bytes-range.result (low_range g c) (fresh_own g c) (settled_before g c settled))
+returns-clause-written g c = λ settled. c.take_out-part-2.ensures.full
+    (settled-here c.load_usable_bytes-range.new.memory c.load_usable_bytes-range.result (low_range g c) (fresh_own g c) (settled_before g c settled))
 
 pub returns-clause-settled : goal.returns-clause-settled
-returns-clause-settled g c = λ settled. settled-left c.load_usable_bytes-range.new.memory c.take_out-part-2.new.self c.load_usable_bytes-range.result c.take_out-part-2.ensures.start (low_range g c) c.take_out-part-2.ensures.out (settled_before g c settled)
+returns-clause-settled g c = λ settled. settled-left c.load_usable_bytes-range.new.memory c.take_out-part-2.new.self c.load_usable_bytes-range.result
+    c.take_out-part-2.ensures.start (low_range g c) c.take_out-part-2.ensures.out (settled_before g c settled)
 
 -- ---- no layout has the size
 
 pub returns-in_default-clause-step : goal.returns-in_default-clause-step
 returns-in_default-clause-step g c =
-    subst (λ (o : HeapView). Steps g.row.FLLEN g.row.SLLEN o (λ t. IsLayout c.args.size c.args.payload.align → ReallocatesWithoutMove (owned_by c.args.self.now.state c.args.payload) c.args.payload.start c.args.size None t)) c.self.view_is
+    subst (λ (o : HeapView). Steps g.row.FLLEN g.row.SLLEN o (λ t. IsLayout c.args.size c.args.payload.align
+    → ReallocatesWithoutMove (owned_by c.args.self.now.state c.args.payload) c.args.payload.start c.args.size None t)) c.self.view_is
     (Steps-arrived c.self.invariant.stands c.self.inside.state.state (sym (bare-kept c.self.invariant)) c.self.inside.ledger.name
     (λ t. IsLayout c.args.size c.args.payload.align → ReallocatesWithoutMove (owned_by c.args.self.now.state c.args.payload) c.args.payload.start c.args.size None t)
     (λ fits. absurd (false≢true (c.in_default.ensures.succeeds.1 (subst (IsLayout c.args.size) (sym c.align-align.ensures) fits)))))

@@ -42,7 +42,7 @@ standing g c =
     let idle = subst (λ (o : HeapView). IsIdle o.state (walked c.args.range)) (sym c.self.view_is) c.requires.idle in
     (c.remove_chunks.ensures.step (before g c) c.self.invariant.stands row idle).0
 
--- what is kept of the state is the one without them
+-- the ghost state is the one without them
 kept : (g : given.Over) (c : After-remove g) → c.remove.new.self.state ≡ bare (after g c)
 kept g c = c.remove.ensures ∙ ap (removed (walked c.args.range)) (sym (bare-kept c.self.invariant))
 
@@ -55,7 +55,8 @@ abbrev now : (g : given.Over) (c : After-remove g) → State
 now g c = read_from c.remove_chunks.new.memory c.remove.new.self.state
 
 did : (g : given.Over) (c : After-remove g) → Removes c.args.self.now.state (walked c.args.range) (now g c)
-did g c = stepped (standing g c) c.remove.new.self.state (kept g c) c.self.inside.memory c.self.inside.state.state c.args.self.now c.self.view_is (λ old. Removes old (walked c.args.range)) refl
+did g c = stepped (standing g c) c.remove.new.self.state (kept g c) c.self.inside.memory c.self.inside.state.state c.args.self.now c.self.view_is
+    (λ old. Removes old (walked c.args.range)) refl
 
 well : (g : given.Over) (c : After-remove g) → IsWellFormed g.row.FLLEN g.row.SLLEN (range_of c.args.self.now.memory) c.args.self.now.state
 well g c = view_well_formed c.self.invariant c.args.self.now c.self.view_is

@@ -1,4 +1,4 @@
-use Rattle.std.proofs.Common.{◌≡◌, ℕ, arith, refl, sym, ◌∙◌}
+use Rattle.std.proofs.Common.{ℕ, arith, refl, sym, ◌∙◌}
 use Rattle.rlsf_base.specs.Space.{range_of}
 use Rattle.rlsf_machine.specs.Remove.{Removes}
 use Rattle.rlsf_machine.specs.State.{State}
@@ -8,12 +8,12 @@ use Rattle.rlsf_heap.specs.Heap.{HeapView, Stands, Steps}
 use Rattle.rlsf_heap.proofs.IdleRows.{idle_if, used_if}
 use Rattle.rlsf_heap.proofs.heap.Heap.try_remove_pool.Goals as goal
 
--- what stands is well-formed
+-- the state that memory and table represent is well-formed
 well : (fllen sllen : ℕ) (v : HeapView) → Stands fllen sllen v → IsWellFormed fllen sllen (range_of v.memory) v.state
 unfolding Stands
 well fllen sllen v is = is.well_formed
 
--- a step and what stands after it
+-- a step, and the state that memory and table represent after it
 stepping : (fllen sllen : ℕ) (v : HeapView) (step : State → Type 0) → step v.state → Stands fllen sllen v → Steps fllen sllen v step
 unfolding Stands Steps
 stepping fllen sllen v step is stands = (is, stands)

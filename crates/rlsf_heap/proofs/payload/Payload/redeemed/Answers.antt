@@ -12,5 +12,6 @@ returns-clause-entries c =
     let ticket = c.into_parts-part.result.1 in
     let es = c.args.ledger.now.entries in
     let shown : extent ticket.addr ticket.len ticket.align ≡ extent part.start (length part.bytes) c.args.self.align = λ i. extent (sym is.0 i) (sym is.1 i) (sym is.2 i) in
-    subst (λ (p : PayloadView). (k : ℕ) × IsIssued es k (extent p.start (length p.bytes) p.align) × (c.redeem.new.self.entries ≡ set es k (entry_of (extent p.start (length p.bytes) p.align) false))) c.into_parts-part.ensures.parts
+    subst (λ (p : PayloadView). (k : ℕ) × IsIssued es k (extent p.start (length p.bytes) p.align)
+    × (c.redeem.new.self.entries ≡ set es k (entry_of (extent p.start (length p.bytes) p.align) false))) c.into_parts-part.ensures.parts
     (ticket.key, subst (IsIssued es ticket.key) shown c.redeem.ensures.issued, c.redeem.ensures.entries ∙ ap (λ (v : Extent). set es ticket.key (entry_of v false)) shown)

@@ -1,4 +1,4 @@
--- the state may move to another thread.
+-- The state can cross to another thread.
 use denote.Param.Send.{IsSend}
 use Rattle.rlsf_heap.proofs.Crossing.{GhostState-send}
 use Rattle.rlsf_heap.specs.contracts.state.GhostState.{the_row}

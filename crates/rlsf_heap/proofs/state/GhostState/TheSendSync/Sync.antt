@@ -1,4 +1,4 @@
--- A `&` to the state may go to another thread.
+-- A `&` to the state can cross to another thread.
 use denote.Param.Send.{IsSync}
 use Rattle.rlsf_heap.proofs.Crossing.{GhostState-sync}
 use Rattle.rlsf_heap.specs.contracts.state.GhostState.{the_row}

@@ -1,4 +1,4 @@
--- Shows that `new` makes the state of no bytes. Assumes `Logic`.
+-- Shows that `new` makes the state, which takes no bytes. Assumes `Logic`.
 use Rattle.std.proofs.Common.{[], ◌∷◌, refl}
 use mir.Val.{Val, vstruct, vnil}
 use base.Fml.{ftrue}
@@ -29,4 +29,6 @@ new_spec 𝓤 𝓛 𝓜 𝓡 wired =
     enter ! _ _ _ _ _ $ alloc_all ! (λ l. pass_all ! refl tt $
     sets ! (agg ! (no_more !)) refl (tt, tt) $ returns ! (look_at ! 0 refl) $ free_all ! refl $
     suffices ! _ (ends_at 𝓛 f.ended stayed c y v zero tt tt) $ says ! refl $
-    use0 𝓛 (‵ ((ghost_state.the_row).own_val zero (v ∷ []))) (makes_shadow 𝓛 ((ghost_state.the_row).own_val zero (v ∷ [])) ((λ _. (tt, tt)), tt) ((tt, (refl, tt)), tt)) $ nothing ! $ nothing ! $ done !))
+    use0 𝓛 (‵ ((ghost_state.the_row).own_val zero (v ∷ [])))
+    (makes_shadow 𝓛 ((ghost_state.the_row).own_val zero (v ∷ [])) ((λ _. (tt, tt)), tt) ((tt, (refl, tt)), tt)) $
+    nothing ! $ nothing ! $ done !))

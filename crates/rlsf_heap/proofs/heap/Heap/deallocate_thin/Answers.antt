@@ -1,0 +1,194 @@
+use Rattle.std.proofs.Common.{◌≡◌, ℕ, ◌+◌, ◌-◌, Some, rules, arith, refl, sym, ap, subst, ◌∙◌}
+use Rattle.rlsf_machine.specs.Callers.{align_at}
+use Rattle.rlsf_base.specs.declared.memory.ledger.Ticket.{Ticket}
+use Rattle.rlsf_base.specs.OpenSpace.{IsOwned, home_of}
+use Rattle.rlsf_base.specs.Piece.{Piece}
+use Rattle.rlsf_base.specs.Space.{Space, range_of}
+use Rattle.rlsf_base.proofs.Lending.Present.{owned-same}
+use Rattle.rlsf_machine.specs.Release.{Deallocates, released}
+use Rattle.rlsf_machine.specs.Run.{IsSomeLive}
+use Rattle.rlsf_machine.specs.Sized.{live_count}
+use Rattle.rlsf_machine.specs.State.{State, Used, Holds, usable}
+use Rattle.rlsf_machine.specs.WellFormed.{IsWellFormed}
+use Rattle.rlsf_machine.proofs.CallerWords.{align_at-held, gone_seen}
+use Rattle.rlsf_machine.proofs.SizedWords.{count_gone, sized_gone}
+use Rattle.rlsf_table.proofs.Parameters.{IsValid-widest}
+use Rattle.rlsf_blocks.specs.Laws.{read_from}
+use Rattle.rlsf_blocks.specs.Steps.LiveBlock.{AtEachBlock}
+use Rattle.rlsf_blocks.specs.StandsFor.{contents, StandsFor}
+use Rattle.rlsf_blocks.proofs.Machine.Counted.{StandsFor-touched}
+use Rattle.rlsf_tlsf.specs.Steps.Moves.{bare}
+use Rattle.rlsf_heap.specs.Heap.{HeapView, Identity}
+use Rattle.rlsf_heap.proofs.Arrivals.{IsHeap-arrived, Steps-arrived, kept_without, stepped, view_well_formed}
+use Rattle.rlsf_heap.proofs.ThinPayloads as P
+use Rattle.rlsf_heap.proofs.ThinPayloads.{IsTicketFor}
+use Rattle.rlsf_heap.proofs.heap.Heap.deallocate_thin.Given as given
+use Rattle.rlsf_heap.proofs.heap.Heap.deallocate_thin.Goals as goal
+use Rattle.rlsf_heap.proofs.heap.Heap.deallocate_thin.Goals.{After-load_usable_bytes-arg-1, After-load_block_of-arg-1, After-deallocate}
+
+-- the heap's state as the call begins
+abbrev before : (g : given.Over) (c : After-load_usable_bytes-arg-1 g) → State
+before g c = read_from c.self.inside.memory c.self.inside.state.state
+
+abbrev bytes : (g : given.Over) (c : After-load_usable_bytes-arg-1 g) → Piece
+bytes g c = c.into_parts.result.0.piece
+
+abbrev ticket : (g : given.Over) (c : After-load_usable_bytes-arg-1 g) → Ticket
+ticket g c = c.into_parts.result.1
+
+is_for : (g : given.Over) (c : After-load_usable_bytes-arg-1 g)
+    → IsTicketFor c.args.payload.heap c.args.payload.addr c.args.payload.len c.args.payload.align (bytes g c) (ticket g c)
+is_for g c = record { of = c.into_parts.ensures.bytes; shown = c.into_parts.ensures.ticket }
+
+-- the payload's block
+abbrev block : (g : given.Over) (c : After-load_usable_bytes-arg-1 g) → Used
+block g c =
+    P.block c.self.invariant.stands c.self.invariant.tickets c.args.payload.heap c.args.payload.addr c.args.addr c.args.payload.len c.args.payload.align (bytes g c) (ticket g c)
+    (is_for g c) c.requires.some.0 c.redeem.ensures.issued
+
+held : (g : given.Over) (c : After-load_usable_bytes-arg-1 g) → Holds (before g c) c.args.addr (block g c)
+held g c =
+    P.held c.self.invariant.stands c.self.invariant.tickets c.args.payload.heap c.args.payload.addr c.args.addr c.args.payload.len c.args.payload.align (bytes g c) (ticket g c)
+    (is_for g c) c.requires.some.0 c.redeem.ensures.issued
+
+pub load_usable_bytes-range-requires : goal.load_usable_bytes-range-requires
+load_usable_bytes-range-requires g c =
+    (g.row.FLLEN, g.row.SLLEN, contents c.self.inside.memory c.self.inside.table, before g c, refl, c.self.invariant.stands, (block g c, held g c))
+
+-- its bytes are those of the heap's memory
+pub into_part-part-requires : goal.into_part-part-requires
+into_part-part-requires g c =
+    let d = (goal.at.into_part-part-requires g c).After-load_usable_bytes-arg-1 in
+    P.comes c.self.invariant.stands c.self.invariant.tickets c.args.payload.heap c.args.payload.addr c.args.addr c.args.payload.len c.args.payload.align (bytes g d) (ticket g d)
+    (is_for g d) c.requires.some.0 c.redeem.ensures.issued
+    (c.into_parts.ensures.bytes.home ∙ ap (λ (h : Identity). h.home) c.requires.heap ∙ sym (ap (λ (v : HeapView). v.identity.home) c.self.view_is))
+    c.load_usable_bytes-range.new.memory c.load_usable_bytes-range.ensures.memory c.view-view.result c.view-view.ensures c.load_usable_bytes-range.result
+    c.load_usable_bytes-range.ensures.range
+
+pub put_room-requires : goal.put_room-requires
+put_room-requires g c =
+    ap (λ (p : Piece). p.home) c.into_part-part.ensures
+    ∙ (c.into_parts.ensures.bytes.home ∙ ap (λ (h : Identity). h.home) c.requires.heap ∙ sym (ap (λ (v : HeapView). v.identity.home) c.self.view_is))
+    ∙ sym (ap home_of c.load_usable_bytes-range.ensures.memory)
+
+-- as the length is sought
+abbrev sought : (g : given.Over) → After-load_block_of-arg-1 g → After-load_usable_bytes-arg-1 g
+sought g c = (goal.at.load_block_of-block-requires g c).After-load_usable_bytes-arg-1
+
+-- with its bytes back, the memory stands for the same state
+back : (g : given.Over) (c : After-load_block_of-arg-1 g) → StandsFor g.row.FLLEN g.row.SLLEN (contents c.put_room.new.self c.self.inside.table) (before g (sought g c))
+back g c =
+    let d = sought g c in let e = c.put_room.ensures in
+    P.back c.self.invariant.stands c.self.invariant.tickets c.args.payload.heap c.args.payload.addr c.args.addr c.args.payload.len c.args.payload.align (bytes g d) (ticket g d)
+    (is_for g d) c.requires.some.0 c.redeem.ensures.issued
+    c.load_usable_bytes-range.new.memory c.load_usable_bytes-range.ensures.memory c.into_part-part.result c.into_part-part.ensures c.put_room.new.self e.start e.bytes e.out
+
+pub load_block_of-block-requires : goal.load_block_of-block-requires
+load_block_of-block-requires g c =
+    let d = sought g c in
+    (g.row.FLLEN, g.row.SLLEN, contents c.put_room.new.self c.self.inside.table, before g d, refl, back g c, (block g d, held g d))
+
+-- its bytes are the memory's own again, once more touches were counted
+own : (g : given.Over) (c : After-load_block_of-arg-1 g) (n : Space) → n ≡ record c.put_room.new.self { touches = c.put_room.new.self.touches + 2 }
+    → IsOwned n (usable (block g (sought g c)))
+own g c n touched =
+    let d = sought g c in let e = c.put_room.ensures in
+    owned-same c.put_room.new.self n (usable (block g d)) (ap (λ (o : Space). o.start) touched) (ap (λ (o : Space). o.out) touched)
+    (P.own c.self.invariant.stands c.self.invariant.tickets c.args.payload.heap c.args.payload.addr c.args.addr c.args.payload.len c.args.payload.align (bytes g d) (ticket g d)
+    (is_for g d) c.requires.some.0 c.redeem.ensures.issued
+    c.load_usable_bytes-range.new.memory c.load_usable_bytes-range.ensures.memory c.into_part-part.result c.into_part-part.ensures c.put_room.new.self e.start e.bytes e.out)
+
+-- its block is the one that was found
+starts : (g : given.Over) (c : After-load_block_of-arg-1 g) (start : ℕ) → AtEachBlock c.put_room.new.self c.args.addr (λ u. start ≡ u.block.start)
+    → (block g (sought g c)).block.start ≡ start
+starts g c start each = let d = sought g c in
+    sym (each g.row.FLLEN g.row.SLLEN (contents c.put_room.new.self c.self.inside.table) (before g d) (block g d) refl (back g c) (held g d))
+
+pub deallocate_block-requires : goal.deallocate_block-requires
+deallocate_block-requires g c =
+    let b = (goal.at.deallocate_block-requires g c).After-load_block_of-arg-1 in let d = sought g b in
+    let n = c.load_block_of-block.new.memory in
+    let touched = c.load_block_of-block.ensures.memory in
+    let stands = StandsFor-touched c.put_room.new.self n 2 touched (back g b) in (
+      omega arith,
+      (
+        IsValid-widest g.FLBitmap.BitPattern.width_limit c.self.invariant.valid,
+        ((before g d, block g d, stands, (held g d).0, starts g b c.load_block_of-block.result c.load_block_of-block.ensures.block, own g b n touched), search rules),
+      ),
+    )
+
+-- it is one payload less
+less : (g : given.Over) (d : After-load_usable_bytes-arg-1 g) → live_count (before g d) ≡ live_count (released (before g d) (block g d)) + 1
+less g d =
+    count_gone d.self.invariant.stands.well_formed (released (before g d) (block g d)) d.args.addr (block g d, held g d)
+    (record { block = block g d; holds = held g d; after = refl })
+
+pub overflow_sub-self : goal.overflow_sub-self
+overflow_sub-self g c = let d = (goal.at.overflow_sub-self g c).After-load_usable_bytes-arg-1 in omega (arith, c.self.invariant.counted, less g d)
+
+-- the block is released
+abbrev first : (g : given.Over) → After-deallocate g → After-load_block_of-arg-1 g
+first g c = (goal.at.invariant_of-self g c).After-load_block_of-arg-1
+
+abbrev after : (g : given.Over) → After-deallocate g → State
+after g c = let d = sought g (first g c) in released (before g d) (block g d)
+
+standing : (g : given.Over) (c : After-deallocate g) → StandsFor g.row.FLLEN g.row.SLLEN (contents c.deallocate_block.new.memory c.deallocate_block.new.table) (after g c)
+standing g c =
+    let b = first g c in let d = sought g b in
+    let n = c.load_block_of-block.new.memory in
+    let touched = c.load_block_of-block.ensures.memory in
+    (c.deallocate_block.ensures.step (before g d) (block g d) (StandsFor-touched c.put_room.new.self n 2 touched (back g b)) (held g d).0
+    (starts g b c.load_block_of-block.result c.load_block_of-block.ensures.block) (own g b n touched)).0
+
+-- what is kept of the state is the one without the payload
+kept : (g : given.Over) (c : After-deallocate g) → c.deallocate.new.self.state ≡ bare (after g c)
+kept g c = let d = sought g (first g c) in c.deallocate.ensures ∙ kept_without c.self.invariant c.args.addr (block g d) (held g d) refl
+
+pub invariant_of-self : goal.invariant_of-self
+invariant_of-self g c =
+    let d = sought g (first g c) in
+    IsHeap-arrived (standing g c) c.deallocate.new.self.state (kept g c) c.self.invariant.valid c.redeem.new.self.entries
+    (P.left c.self.invariant.stands c.self.invariant.tickets c.args.payload.heap c.args.payload.addr c.args.addr c.args.payload.len c.args.payload.align (bytes g d) (ticket g d)
+    (is_for g d) c.requires.some.0 c.redeem.ensures.issued
+    c.redeem.new.self.entries c.redeem.ensures.entries)
+    (c.self.inside.live - 1) (omega (arith, c.self.invariant.counted, less g d))
+
+-- the state that contracts see
+abbrev now : (g : given.Over) → After-deallocate g → State
+now g c = read_from c.deallocate_block.new.memory c.deallocate.new.self.state
+
+did : (g : given.Over) (c : After-deallocate g) → Deallocates c.args.self.now.state c.args.addr (now g c)
+did g c =
+    let d = sought g (first g c) in
+    stepped (standing g c) c.deallocate.new.self.state (kept g c) c.self.inside.memory c.self.inside.state.state c.args.self.now c.self.view_is
+    (λ old. Deallocates old c.args.addr) (record { block = block g d; holds = held g d; after = refl })
+
+well : (g : given.Over) (c : After-deallocate g) → IsWellFormed g.row.FLLEN g.row.SLLEN (range_of c.args.self.now.memory) c.args.self.now.state
+well g c = view_well_formed c.self.invariant c.args.self.now c.self.view_is
+
+live : (g : given.Over) (c : After-deallocate g) → IsSomeLive c.args.self.now.state c.args.addr
+live g c = ((did g c).block, (did g c).holds)
+
+pub returns-clause-step : goal.returns-clause-step
+returns-clause-step g c = Steps-arrived (standing g c) c.deallocate.new.self.state (kept g c) c.redeem.new.self.name (Deallocates c.args.self.now.state c.args.addr) (did g c)
+
+pub returns-clause-live : goal.returns-clause-live
+returns-clause-live g c =
+    let d = sought g (first g c) in
+    subst (λ (v : HeapView). align_at v.state c.args.addr ≡ Some c.args.payload.align) c.self.view_is
+    (align_at-held c.self.invariant.stands.well_formed c.args.addr (block g d) (held g d) ∙ ap (λ n. Some n)
+    (P.wide c.self.invariant.stands c.self.invariant.tickets c.args.payload.heap c.args.payload.addr c.args.addr c.args.payload.len c.args.payload.align (bytes g d) (ticket g d)
+    (is_for g d) c.requires.some.0 c.redeem.ensures.issued))
+
+pub returns-clause-count : goal.returns-clause-count
+returns-clause-count g c = count_gone (well g c) (now g c) c.args.addr (live g c) (did g c)
+
+pub returns-clause-bounds : goal.returns-clause-bounds
+returns-clause-bounds g c = λ count size align sized. sized_gone (well g c) (now g c) count size align sized c.args.addr (live g c) (did g c)
+
+pub returns-clause-gone : goal.returns-clause-gone
+returns-clause-gone g c = (gone_seen (well g c) (now g c) c.args.addr (live g c) (did g c)).gone
+
+pub returns-clause-aligns : goal.returns-clause-aligns
+returns-clause-aligns g c = (gone_seen (well g c) (now g c) c.args.addr (live g c) (did g c)).aligns

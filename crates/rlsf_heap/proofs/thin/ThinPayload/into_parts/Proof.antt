@@ -1,0 +1,97 @@
+-- Shows that `into_parts` parts the bytes from the ticket. Assumes `Logic`.
+use Rattle.std.proofs.Common.{◌≡◌, ◌≢◌, ℕ, suc, ◌^◌, ◌<◌, List, [], ◌∷◌, refl, sym, ap, subst}
+use mir.Val.{Val}
+use base.Logic.{id⊢}
+use base.Fml.{ftrue}
+use contract.Monad.{fact}
+use contract.Running.{tables}
+use types.Kit.{‵, raw, ◌⊛◌, some, later, ◌$◌, ◌∵◌, !, qed, move, keep, drop, use0, use1, use2, split, join, fsplit, fjoin, pick, await, rewrite, suffices, done}
+use types.Part.{agg}
+use types.Run.{of_opd, no_more, and_then, returns, enter}
+use types.ByLocal.{alloc_all, pass_all, free_all, look_at, get, sets, lands_as}
+use denote.RattleType.{RattleType, owns}
+use denote.Laws.{Tells, Is, shows}
+use denote.Signature.{plain, types_at}
+use denote.Steps.{nothing, heard, peeks, only}
+use denote.Struct.Tuple.{Tuple}
+use denote.Triple.Call.{calls_at}
+use denote.Triple.Clauses.{lasts, Lasts}
+use denote.Triple.Spec.{triple_of}
+use denote.Triple.Walked.{Stays, walk_of, stay_dropped, ends_at}
+use denote.Triple.Table.{framed}
+use Rattle.core.proofs.alloc.Calls.{Goes-blank}
+use Rattle.core.proofs.mem.Facts.{says_two}
+use Rattle.std.proofs.raw_atomic.Walks.{proved}
+use Rattle.rlsf_base.specs.Ledger.{extent, ticket_owns}
+use Rattle.rlsf_base.specs.Piece.{piece_owns}
+use Rattle.rlsf_base.proofs.RawBlock.Values.{mark_val, mark_own, mark_made, two_val, two_of}
+use Rattle.rlsf_base.proofs.memory.ledger.Ticket.TheLaws.{lowers as ticket_lowers}
+use Rattle.rlsf_base.specs.contracts.memory.ledger.Ticket as ticket_type
+use Rattle.rlsf_base.specs.contracts.memory.ledger.Ticket.from_raw as g
+use Rattle.rlsf_base.proofs.memory.ledger.Ticket.from_raw.Met.{met as raw_met}
+use Rattle.rlsf_heap.specs.Thin.{Held, IsThinOf, owns_reply}
+use Rattle.rlsf_heap.proofs.ThinValues.{addr_val, addr_told, addr_typed, one_more_than}
+use Rattle.rlsf_heap.proofs.thin.ThinPayload.TheLaws.{lowers}
+use Rattle.rlsf_heap.specs.contracts.thin.ThinBytes as bytes_type
+use Rattle.rlsf_heap.specs.contracts.thin.ThinPayload as raw_payload
+use Rattle.rlsf_heap.specs.contracts.thin.ThinPayload.into_parts as f
+use Rattle.rlsf_heap.proofs.thin.ThinPayload.into_parts.Statement.{statement}
+use Rattle.rlsf_heap.proofs.thin.ThinPayload.into_parts.Code as code
+
+abbrev payload_vals : (raw_payload.the_row).Denot → List Val
+payload_vals d = addr_val d.addr ∷ []
+
+payload_Tells : Tells raw_payload.the_row (Is raw_payload.the_row) payload_vals
+payload_Tells = lowers.val_is
+
+abbrev stayed : Stays f.ended.signature.params f.ended.kept
+stayed = (stay_dropped (plain (λ _. raw_payload.the_row)) f.ended.kept.0, tt)
+
+pub into_parts_spec : {M : Type 1} → statement M
+into_parts_spec 𝓤 𝓛 𝓜 𝓡 wired =
+    let c = f.clauses 𝓛 𝓜.mem 𝓡.returns in let W = walk_of 𝓛 f.ended stayed c in
+    let B = bytes_type.the_row in let T = ticket_type.the_row in
+    proved 𝓛 f.ended stayed c 𝓜 𝓡
+    (Goes-blank 𝓛 0 (plain (λ _. raw_payload.the_row)) f.ended.kept.0 (λ κs x w. tt), tt)
+    f.Key.name code.function (code.unfolded 𝓤 𝓛.H 𝓜 𝓡 wired)
+    (λ κs. (payload_vals, tt)) (λ κs. (payload_Tells, tt)) (λ κs qs bounds a g₀ are.
+    let d = a.0 in
+    let vss : List Val × Unit {0} = (addr_val d.addr ∷ [], tt) in
+    let z : W.Ghost = ((κs, qs, bounds, a, vss), g₀) in
+    let fits : d.addr < 2 ^ 64 = addr_told d.addr (addr_val d.addr ∷ []) are.0.0 in
+    let Asked : Type 0 = d.addr ≢ 0 in
+    qed 𝓛 ((‵ ftrue ⊛ ‵ (owns (types_at f.signature.params κs) a vss)) ∷ raw (fact 𝓤 Asked) ∷ []) ∵
+    move ! (1 ∷ []) $ heard ! Asked (λ asked. split ! $ drop ! $ fsplit ! $ fsplit ! $ keep ! (1 ∷ []) $
+    let more = one_more_than d.addr asked in let k : ℕ = more.0 in let e : d.addr ≡ suc k = more.1 in
+    rewrite ! 0 (λ (n : ℕ). ‵ (owns_reply d.heap n d.len d.align)) e refl $
+    use1 𝓛 (some (λ (x : Held d.heap (suc k) d.len). ‵ (piece_owns x.0) ⊛ ‵ (ticket_owns d.heap.ledger x.1 (extent (suc k) d.len d.align)))) (id⊢ 𝓤 _) $
+    pick ! (λ x. split ! $
+    -- [the bytes; the ticket]
+    enter ! _ _ _ _ _ $ alloc_all ! (λ l. pass_all ! refl (addr_typed d.addr fits, tt) $
+    let G = triple_of 𝓛 g.signature (g.spec 𝓛 𝓜.mem 𝓡.returns) in
+    let y : G.Ghost = ((tt, tt, tt, tt, tt), (d.heap.ledger, x.1, extent (suc k) d.len d.align)) in
+    move ! (1 ∷ []) $ nothing ! $ nothing ! $ join ! $ use2 𝓛 (raw (G.pre y)) (id⊢ 𝓤 _) $
+    calls_at ! (framed 𝓤 𝓛.H 𝓜 (tables 𝓤 𝓛.H 𝓜 𝓡 𝓡.env)) G
+    (raw_met 𝓤 𝓛 𝓜 𝓡 (code.calls-rlsf_base::memory::ledger::Ticket::from_raw 𝓡.env wired)) y
+    (no_more !) (λ u.
+    let Shown : T.Denot → Type 0 = λ t. (t.addr ≡ suc k) × (t.len ≡ d.len) × (t.align ≡ d.align) in
+    let Named : T.Denot → Type 0 = λ t. (t.name ≡ d.heap.ledger) × (t.key ≡ x.1) in
+    use1 𝓛 (later (some (λ (t : T.Denot). (‵ ftrue ⊛ ‵ (T.own_val t (u ∷ []))) ⊛
+    some (λ (ws : Lasts g.ended tt tt). ‵ (lasts g.ended y.0.0 y.0.3 ws) ⊛ (raw (fact 𝓤 (Shown t)) ⊛ raw (fact 𝓤 (Named t))))))) (id⊢ 𝓤 _) $
+    await ! tt $ pick ! (λ t. split ! $ split ! $ drop ! $
+    peeks ! T (Is T) (shows 𝓛 T) t (u ∷ [])
+    (λ is. let told : u ∷ [] ≡ mark_val ∷ [] = ticket_lowers.val_is t (u ∷ []) is in lands_as ! (ap only told) refl (tt, (tt, tt)) $
+    rewrite ! 0 (λ (us : List Val). ‵ (T.own_val t us)) told refl $
+    move ! (1 ∷ []) $ pick ! (λ ws. split ! $ drop ! $ split ! $ heard ! (Shown t) (λ shown. heard ! (Named t) (λ named.
+    -- [the ticket; the bytes; the locals]
+    sets ! (agg ! (no_more !)) refl (tt, tt) $ sets ! (agg ! (and_then ! (get ! refl) (no_more !))) refl (tt, (tt, tt)) $ sets ! (of_opd ! (get ! refl)) refl (tt, (tt, tt)) $
+    sets ! (agg ! (and_then ! (get ! refl) (and_then ! (get ! refl) (no_more !)))) refl (tt, ((tt, tt), ((tt, tt), tt))) $
+    returns ! (look_at ! 0 refl) $ free_all ! refl $
+    let bytes : B.Denot = record { mark = record {}; piece = x.0 } in
+    let v : Val = two_val mark_val mark_val in let Two : RattleType = Tuple (B ∷ T ∷ []) in
+    let of : IsThinOf d.heap d.addr d.len x.0 = subst (λ (n : ℕ). IsThinOf d.heap n d.len x.0) (sym e) x.2 in
+    move ! (1 ∷ []) $ use0 𝓛 (‵ (mark_own (mark_val ∷ []))) (mark_made 𝓛) $ fjoin ! $
+    use2 𝓛 (‵ (Two.own_val (bytes, t) (v ∷ []))) (two_of 𝓛 B T bytes t mark_val mark_val) $
+    suffices ! _ (ends_at 𝓛 f.ended stayed c z v (bytes, t) (tt, tt) (tt, tt)) $
+    says_two ! (of, (named.0, subst (λ (n : ℕ). t.addr ≡ n) (sym e) shown.0, shown.1, shown.2)) $
+    nothing ! $ nothing ! $ join ! $ nothing ! $ done !))))))))))
