@@ -1,9 +1,13 @@
-//! Two tenants of one program, each with a heap of its own for its strings and maps. One fills its heap, and ends. The other
-//! goes on.
+//! Two tenants of one memory, each with strings and maps in a range of its own. One fills its range, and ends. The other goes
+//! on, and the range serves the next tenant.
 #![tactic(auto)]
 
+ghost use Rattle.std.specs.Prelude.{◌≡◌};
+ghost use Rattle.rlsf_local.specs.Tenants.{lessor};
+
+use rlsf_base::memory::{OpenMemory, Range};
 use rlsf_heap::Heap;
-use rlsf_local::LocalHeap;
+use rlsf_local::{LocalHeap, Tenant};
 use std::alloc::{AllocError, Global};
 use std::collections::BTreeMap;
 use std::io;
@@ -12,23 +16,37 @@ use std::process::ExitCode;
 /// Chunks of up to 131,072 bytes, in 12 rows of 16 classes.
 type Small = Heap<u16, u16, 12, 16>;
 
+/// A tenant's heap, over a range of the pool.
+type Room = Tenant<u16, u16, 12, 16>;
+
+/// The allocator of a tenant's collections.
+type Local = LocalHeap<Box<Small>>;
+
 /// The words of a text, and how often each occurs.
-type Counts<'a> = BTreeMap<String<&'a LocalHeap<Small>>, u64, &'a LocalHeap<Small>>;
+type Counts<'a> = BTreeMap<String<&'a Local>, u64, &'a Local>;
 
-/// The heaps of the tenants: each may use so many bytes, and no more.
-struct Tenants {
-    shop: LocalHeap<Small>,
-    blog: LocalHeap<Small>,
-}
+/// The addresses of the one memory. It has room for the two tenants, and for no third one.
+const POOL: Range = Range {
+    start: 4096,
+    len: 20480,
+};
 
-fn two_tenants(alloc: Global) -> Option<Tenants> {
-    let shop = LocalHeap::<Small>::new(alloc, 2048).ok()?;
-    let blog = LocalHeap::<Small>::new(alloc, 16384).ok()?;
-    Some(Tenants { shop, blog })
+/// How many bytes the shop may use. With its header that is a block of 2,048 bytes, which is free for a block of as many later.
+const SHOP: usize = 2032;
+
+/// How many bytes the blog may use.
+const BLOG: usize = 16384;
+
+/// The heap whose payloads are the ranges of the tenants.
+fn pool(alloc: Global) -> Option<Small> {
+    let memory = OpenMemory::reserve(alloc, POOL.start, POOL.len).ok()?;
+    let mut pool = Small::new(memory);
+    pool.insert_free_block_ptr(POOL);
+    Some(pool)
 }
 
 /// Counts the words of a text. Each word and each entry is in the tenant's heap.
-fn count<'a>(heap: &'a LocalHeap<Small>, text: &str) -> Result<Counts<'a>, AllocError> {
+fn count<'a>(heap: &'a Local, text: &str) -> Result<Counts<'a>, AllocError> {
     let mut counts = Counts::new(heap);
     for word in text.split(' ') {
         let before = counts.get(word).copied().unwrap_or(0);
@@ -41,7 +59,7 @@ fn count<'a>(heap: &'a LocalHeap<Small>, text: &str) -> Result<Counts<'a>, Alloc
 }
 
 /// Pushes numbers until the heap refuses one.
-fn fill(heap: &LocalHeap<Small>) {
+fn fill(heap: &Local) {
     let mut numbers = Vec::new(heap);
     for n in 0..100_000u64 {
         if numbers.push(n).is_err() {
@@ -50,25 +68,62 @@ fn fill(heap: &LocalHeap<Small>) {
     }
 }
 
+/// Whether the pool has room for another shop.
+fn has_room(pool: &mut Small, alloc: Global) -> bool
+    ensures { pool.new.identity ≡ pool.old.identity }
+{
+    match Room::new(pool, alloc, SHOP) {
+        Some(room) => room.end(pool),
+        None => false,
+    }
+}
+
+/// Counts the words for the blog, while the shop fills its range and ends.
+fn serve(
+    rt: &(impl Print + AllocGlobal),
+    pool: &mut Small,
+    shop: Room,
+    blog: &Room,
+) -> Result<(), io::Error>
+    requires { lessor shop.lease ≡ pool.old.identity }
+    ensures { pool.new.identity ≡ pool.old.identity }
+{
+    let Ok(counts) = count(blog.heap(), "the cat saw the dog") else {
+        return rt.println("the blog has no room");
+    };
+    fill(shop.heap());
+    println!(rt;
+        "blocks of the shop, once it filled its range: {}",
+        shop.heap().live()
+    )?;
+    let before = has_room(pool, rt.alloc());
+    let ended = shop.end(pool);
+    let after = has_room(pool, rt.alloc());
+    println!(rt; "the shop has ended: {ended}")?;
+    println!(rt; "room for another shop before and after: {before}, {after}")?;
+    println!(rt; "the blog has {} words", counts.len())?;
+    println!(rt;
+        "\"the\" occurs {} times",
+        counts.get("the").copied().unwrap_or(0)
+    )
+}
+
 fn show(rt: &(impl Print + AllocGlobal)) -> Result<(), io::Error> {
-    let Some(Tenants { shop, blog }) = two_tenants(rt.alloc()) else {
+    let Some(mut pool) = pool(rt.alloc()) else {
         return rt.println("no memory");
     };
-    match count(&blog, "the cat saw the dog") {
-        Ok(counts) => {
-            fill(&shop);
-            rt.println("the shop filled its heap, and gave all of it back")?;
-            let left = shop.live();
-            drop(shop);
-            println!(rt; "blocks of the shop: {left}")?;
-            println!(rt; "the blog has {} words", counts.len())?;
-            println!(rt;
-                "\"the\" occurs {} times",
-                counts.get("the").copied().unwrap_or(0)
-            )
-        }
-        Err(_) => rt.println("the blog has no room"),
-    }
+    let Some(shop) = Room::new(&mut pool, rt.alloc(), SHOP) else {
+        return rt.println("no room for the shop");
+    };
+    let Some(blog) = Room::new(&mut pool, rt.alloc(), BLOG) else {
+        return rt.println("no room for the blog");
+    };
+    serve(rt, &mut pool, shop, &blog)?;
+    let ended = blog.end(&mut pool);
+    println!(rt;
+        "the blog has ended: {ended}, and {} ranges are out",
+        pool.live()
+    )
 }
 
 fn main(rt: HostRuntime) -> ExitCode {

@@ -1,3 +1,4 @@
+pub mod LeasedRooms
 pub mod RoomForTypes
 pub mod SlotContents
 pub mod Taken

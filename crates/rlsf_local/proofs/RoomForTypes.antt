@@ -44,13 +44,17 @@ module _ {M : Type 1} {𝓤 : Ura M} (𝓛 : Logic 𝓤) (b : ℕ) where
       let ω : Ty = ty_struct [] (tcons τ tail) in
       let one : max (align τ) 1 ≡ align τ = omega (arith, align_pos τ) in
       let start : up (align τ) 0 ≡ 0 = flush (align τ) 0 (dv_zero (align τ)) in
-      let ends : end_of zero (tcons τ tail) ≡ n / 16 * 16 = ap (λ (k : ℕ). k + (n - size τ) * 1) (flush 1 (up (align τ) 0 + size τ) (dv_one (up (align τ) 0 + size τ)) ∙ ap (λ (k : ℕ). k + size τ) start) ∙ omega arith in
+      let ends : end_of zero (tcons τ tail) ≡ n / 16 * 16 =
+      ap (λ (k : ℕ). k + (n - size τ) * 1) (flush 1 (up (align τ) 0 + size τ) (dv_one (up (align τ) 0 + size τ)) ∙ ap (λ (k : ℕ). k + size τ) start)
+      ∙ omega arith in
       let same : size ω ≡ n / 16 * 16 = (λ i. up (one i) (ends i)) ∙ flush (align τ) (n / 16 * 16) (dv_mul (align τ) 16 (n / 16) dv) in
       let first : x + up (align τ) 0 ≡ x = ap (λ (k : ℕ). x + k) start ∙ omega arith in
       let Rest : Pr = rooms_at 𝓤 H tail (up (align τ) 0 + size τ) b x in
       let Head : Pr = H.room τ b (x + up (align τ) 0) in
       subst (λ (d : ℕ). bytes x n ⊢ H.room τ b d ∗ (H.room τ b d -∗ bytes x n)) first
       (qed 𝓛 (raw (bytes x n) ∷ []) ∵
-      use1 𝓛 (raw (H.room ω b x) ⊛ raw (H.room ω b x -∗ bytes x n)) (𝓛.laws.room_as (units_ty (n / 16)) ω b x same (subst (λ (k : ℕ). Dv k 16) (sym one) dv)) $ split ! $
-      use1 𝓛 ((raw Head ⊛ raw Rest) ⊛ raw ((Head ∗ Rest) -∗ H.room ω b x)) (𝓛.laws.room_fields [] (tcons τ tail) b x) $ split ! $ split ! $ frame ! $ assume ! (raw Head) $ join ! $
+      use1 𝓛 (raw (H.room ω b x) ⊛ raw (H.room ω b x -∗ bytes x n)) (𝓛.laws.room_as (units_ty (n / 16)) ω b x same (subst (λ (k : ℕ). Dv k 16) (sym one) dv)) $
+      split ! $
+      use1 𝓛 ((raw Head ⊛ raw Rest) ⊛ raw ((Head ∗ Rest) -∗ H.room ω b x)) (𝓛.laws.room_fields [] (tcons τ tail) b x) $ split ! $ split ! $ frame ! $
+      assume ! (raw Head) $ join ! $
       use2 𝓛 (raw (H.room ω b x)) (apply∗ 𝓤 (Head ∗ Rest) (H.room ω b x)) $ by ! (apply∗ 𝓤 (H.room ω b x) (bytes x n)))

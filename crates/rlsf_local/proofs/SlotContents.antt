@@ -69,25 +69,34 @@ module _ (T : RattleType) (g : Ghosts T.Denot) where
 
   abbrev pub Shut : {M : Type 1} {𝓤 : Ura M} (𝓛 : Logic 𝓤) → Identity → ℕ → ℕ → Lft → Share → Item 𝓤
   Shut {𝓤 = 𝓤} 𝓛 r b o κ q =
-      ‵ (ftok (less every (b, o))) ⊛ raw (wand 𝓤 (sep 𝓤 (sem 𝓛 (fields_with Fields (over r) b o)) (𝓛.A.tok (less every (b, o)))) (𝓛.H.⇛ (sep 𝓤 (𝓛.A.lft κ q) (𝓛.A.tok every))))
+      ‵ (ftok (less every (b, o))) ⊛ raw
+      (wand 𝓤 (sep 𝓤 (sem 𝓛 (fields_with Fields (over r) b o)) (𝓛.A.tok (less every (b, o)))) (𝓛.H.⇛ (sep 𝓤 (𝓛.A.lft κ q) (𝓛.A.tok every))))
 
-module _ (T : RattleType) (L : Laws T) (g : Ghosts T.Denot) {M : Type 1} {𝓤 : Ura M} {𝓛 : Logic 𝓤} {K : Type 0} {Γ : List (Item 𝓤)} {G : Goal 𝓤 𝓛.H} (r : Identity) where
+module _ (T : RattleType) (L : Laws T) (g : Ghosts T.Denot) {M : Type 1} {𝓤 : Ura M} {𝓛 : Logic 𝓤} {K : Type 0} {Γ : List (Item 𝓤)} {G : Goal 𝓤 𝓛.H}
+    (r : Identity) where
   open 𝓛 use {H, A}
 
-  pub contents_out : K → (vs : List Val) → ((x : (Held T).Denot) (v : Val) → Over T g r x → Good (layout (Held T)) v → vs ≡ round v ∷ [] → Seq K 𝓛 (‵ ((Held T).own_val x (v ∷ [])) ∷ Γ) G) → Seq K 𝓛 (‵ (contents T g r vs) ∷ Γ) G
-  contents_out t vs k = fpick t (λ i. fsplit t $ move t (1 ∷ []) $ fpick t (λ is. drop t $ unwraps (held T) t (held_Lawful T 𝓛 L) [] [] i.value vs (λ v typed e. k i.value v is typed e)))
+  pub contents_out : K → (vs : List Val)
+      → ((x : (Held T).Denot) (v : Val) → Over T g r x → Good (layout (Held T)) v → vs ≡ round v ∷ [] → Seq K 𝓛 (‵ ((Held T).own_val x (v ∷ [])) ∷ Γ) G)
+      → Seq K 𝓛 (‵ (contents T g r vs) ∷ Γ) G
+  contents_out t vs k =
+      fpick t (λ i. fsplit t $ move t (1 ∷ []) $ fpick t (λ is. drop t $ unwraps (held T) t (held_Lawful T 𝓛 L) [] [] i.value vs (λ v typed e. k i.value v is typed e)))
 
-  pub contents_in : K → (x : (Held T).Denot) (v : Val) → Over T g r x → Step K 𝓛 (‵ (contents T g r (round v ∷ [])) ∷ Γ) G (‵ ((Held T).own_val x (v ∷ [])) ∷ Γ) G
+  pub contents_in : K → (x : (Held T).Denot) (v : Val) → Over T g r x
+      → Step K 𝓛 (‵ (contents T g r (round v ∷ [])) ∷ Γ) G (‵ ((Held T).own_val x (v ∷ [])) ∷ Γ) G
   contents_in t x v is = step (λ s.
       let i : (Fields T g).Denot = record { value = x } in
-      use1 𝓛 (‵ ((Fields T g).own_val i (round v ∷ []))) (wraps (held T) 𝓛 [] [] x v) $ nothing t $ fpack t (Over T g r x) (λ _. ftrue) is $ move t (1 ∷ 0 ∷ []) $ fjoin t $
+      use1 𝓛 (‵ ((Fields T g).own_val i (round v ∷ []))) (wraps (held T) 𝓛 [] [] x v) $ nothing t $ fpack t (Over T g r x) (λ _. ftrue) is $ move t (1 ∷ 0 ∷ []) $
+      fjoin t $
       fpack t (Fields T g).Denot (λ j. fsep ((Fields T g).own_val j (round v ∷ [])) (over T g r j)) i $ s)
 
-module _ (T : RattleType) (L : Laws T) (g : Ghosts T.Denot) {M : Type 1} {𝓤 : Ura M} {𝓛 : Logic 𝓤} {K : Type 0} {Γ : List (Item 𝓤)} {G : Goal 𝓤 𝓛.H} (r : Identity) (b o : ℕ) where
+module _ (T : RattleType) (L : Laws T) (g : Ghosts T.Denot) {M : Type 1} {𝓤 : Ura M} {𝓛 : Logic 𝓤} {K : Type 0} {Γ : List (Item 𝓤)} {G : Goal 𝓤 𝓛.H}
+    (r : Identity) (b o : ℕ) where
   open 𝓛 use {H, A}
 
   pub opens_slot : K → Soaks G → {κ : Lft} {q : Share}
-      → ((x : (Held T).Denot) (v : Val) → Over T g r x → Good (layout (Held T)) v → Seq K 𝓛 (‵ (fat full_share (slot_type T g) b o (round v)) ∷ ‵ ((Held T).own_val x (v ∷ [])) ∷ Shut T g 𝓛 r b o κ q ∷ Γ) G)
+      → ((x : (Held T).Denot) (v : Val) → Over T g r x → Good (layout (Held T)) v
+      → Seq K 𝓛 (‵ (fat full_share (slot_type T g) b o (round v)) ∷ ‵ ((Held T).own_val x (v ∷ [])) ∷ Shut T g 𝓛 r b o κ q ∷ Γ) G)
       → Seq K 𝓛 (‵ (hidden_shr (slot.the_row (Value T) g) κ r b o) ∷ ‵ (flft κ q) ∷ ‵ (ftok every) ∷ Γ) G
   opens_slot t z {κ} {q} k =
       let P : Fml = fields_with (Fields T g) (over T g r) b o in
@@ -97,9 +106,13 @@ module _ (T : RattleType) (L : Laws T) (g : Ghosts T.Denot) {M : Type 1} {𝓤 :
       use1 𝓛 (‵ (fat full_share (slot_type T g) b o (round v))) (𝓛.laws.raw_at full_share (slot_type T g) b o (round v)) $ k x v is typed))
 
   pub shuts_slot : K → Soaks G → {κ : Lft} {q : Share} (x : (Held T).Denot) (v : Val) → Over T g r x
-      → Step K 𝓛 (‵ (flft κ q) ∷ ‵ (ftok every) ∷ Γ) G (‵ (fat full_share (slot_type T g) b o (round v)) ∷ ‵ ((Held T).own_val x (v ∷ [])) ∷ Shut T g 𝓛 r b o κ q ∷ Γ) G
+      → Step K 𝓛 (‵ (flft κ q) ∷ ‵ (ftok every) ∷ Γ) G
+      (‵ (fat full_share (slot_type T g) b o (round v)) ∷ ‵ ((Held T).own_val x (v ∷ [])) ∷ Shut T g 𝓛 r b o κ q ∷ Γ) G
   shuts_slot t z {κ} {q} x v is = step (λ s.
       let P : Fml = fields_with (Fields T g) (over T g r) b o in
-      use1 𝓛 (‵ (cell_at full_share (Fields T g).mir (round v ∷ []) b o)) (𝓛.laws.at_raw full_share (slot_type T g) b o (round v)) $ move t (1 ∷ []) $ contents_in T L g r t x v is $ move t (1 ∷ 0 ∷ []) $ fjoin t $
-      fpack t (List Val) (λ us. fsep (cell_at full_share (Fields T g).mir us b o) (contents T g r us)) (round v ∷ []) $ move t (1 ∷ []) $ split t $ move t (2 ∷ 0 ∷ []) $ join t $
-      use2 𝓛 (later (‵ (flft κ q) ⊛ ‵ (ftok every))) (apply∗ 𝓤 (sep 𝓤 (sem 𝓛 P) (A.tok (less every (b, o)))) (H.⇛ (sep 𝓤 (A.lft κ q) (A.tok every)))) $ await t z $ split t $ s)
+      use1 𝓛 (‵ (cell_at full_share (Fields T g).mir (round v ∷ []) b o)) (𝓛.laws.at_raw full_share (slot_type T g) b o (round v)) $ move t (1 ∷ []) $
+      contents_in T L g r t x v is $ move t (1 ∷ 0 ∷ []) $ fjoin t $
+      fpack t (List Val) (λ us. fsep (cell_at full_share (Fields T g).mir us b o) (contents T g r us)) (round v ∷ []) $ move t (1 ∷ []) $ split t $ move t (2 ∷ 0 ∷ []) $
+      join t $
+      use2 𝓛 (later (‵ (flft κ q) ⊛ ‵ (ftok every))) (apply∗ 𝓤 (sep 𝓤 (sem 𝓛 P) (A.tok (less every (b, o)))) (H.⇛ (sep 𝓤 (A.lft κ q) (A.tok every)))) $
+      await t z $ split t $ s)

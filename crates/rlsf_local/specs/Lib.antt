@@ -1,1 +1,3 @@
+pub mod Leases
 pub mod Ownership
+pub mod Tenants

@@ -48,10 +48,20 @@ allocate_spec 𝓤 𝓛 𝓜 𝓡 wired T L gU dU gI dI dd mU mI md =
     let En₀ = ended T gU dU gI dI dd in
     let c = clauses T gU dU gI dI dd 𝓛 𝓜.mem 𝓡.returns in
     let fn : Fn = inst_fn args compiled.function in
-    let stays : Stays En₀.signature.params En₀.kept = (stay_dropped (slot_at 0 En₀.signature.params) En₀.kept.0, (stay_dropped (slot_at 1 En₀.signature.params) En₀.kept.1.0, (stay_dropped (slot_at 2 En₀.signature.params) En₀.kept.1.1.0, tt))) in
+    let stays : Stays En₀.signature.params En₀.kept = (
+      stay_dropped (slot_at 0 En₀.signature.params) En₀.kept.0,
+      (stay_dropped (slot_at 1 En₀.signature.params) En₀.kept.1.0, (stay_dropped (slot_at 2 En₀.signature.params) En₀.kept.1.1.0, tt)),
+    ) in
     let C = (tables 𝓤 H 𝓜 𝓡 𝓡.env).C in
     let Λ = (tables 𝓤 H 𝓜 𝓡 𝓡.env).Λ in
-    proved_at 𝓛 En₀ stays c 𝓜 𝓡 (Goes-dropped 𝓛 2 (slot_at 0 En₀.signature.params) En₀.kept.0 (λ κs x f. refl), (Goes-dropped 𝓛 2 (slot_at 1 En₀.signature.params) En₀.kept.1.0 (λ κs x f. refl), (Goes-dropped 𝓛 2 (slot_at 2 En₀.signature.params) En₀.kept.1.1.0 (λ κs x f. refl), tt))) (#self args) fn (compiled.unfolded 𝓤 H 𝓜 𝓡 wired (T, tt) dU dI dd) (λ z are.
+    proved_at 𝓛 En₀ stays c 𝓜 𝓡 (
+      Goes-dropped 𝓛 2 (slot_at 0 En₀.signature.params) En₀.kept.0 (λ κs x f. refl),
+      (
+        Goes-dropped 𝓛 2 (slot_at 1 En₀.signature.params) En₀.kept.1.0 (λ κs x f. refl),
+        (Goes-dropped 𝓛 2 (slot_at 2 En₀.signature.params) En₀.kept.1.1.0 (λ κs x f. refl), tt),
+      ),
+    ) (#self args) fn
+    (compiled.unfolded 𝓤 H 𝓜 𝓡 wired (T, tt) dU dI dd) (λ z are.
     let Post : Val → SProp 𝓤 = (walk_of 𝓛 En₀ stays c).post z in
     let a = z.0.3 in
     let vss = z.0.4 in
@@ -66,31 +76,41 @@ allocate_spec 𝓤 𝓛 𝓜 𝓡 wired T L gU dU gI dI dd mU mI md =
     let told : k.args y ≡ vs = λ i. are.0.0 i ++ (are.1.0.0 i ++ (are.1.1.0.0 i ++ [])) in
     let Asked : Type 0 = (capped (size τ) ≡ n) × (capped (align τ) ≡ al) in
     let Lives : Type 0 = z.0.0.1.0 ⊑ T.lives in
-    qed 𝓛 ((raw (alive 𝓛 En₀.signature z.0.0 z.0.1) ⊛ ‵ (owns (types_at En₀.signature.params z.0.0) a vss)) ∷ (raw (fact 𝓤 Lives) ⊛ raw (fact 𝓤 Asked)) ∷ []) ∵ move ! (1 ∷ []) $ split ! $ heard ! Lives (λ lives. heard ! Asked (λ asked.
+    qed 𝓛 ((raw (alive 𝓛 En₀.signature z.0.0 z.0.1) ⊛ ‵ (owns (types_at En₀.signature.params z.0.0) a vss)) ∷ (raw (fact 𝓤 Lives) ⊛ raw (fact 𝓤 Asked))
+    ∷ []) ∵ move ! (1 ∷ []) $ split ! $ heard ! Lives (λ lives. heard ! Asked (λ asked.
     nothing ! $ use0 𝓛 (raw (fact 𝓤 Lives)) (fact_i 𝓤 Lives (emp 𝓤) lives) $ join ! $ move ! (1 ∷ 0 ∷ []) $ join ! $ use1 𝓛 (raw (k.pre y)) (id⊢ 𝓤 _) $
     regoal ! (λ (us : List Val). prop (WpFn 𝓤 H C Λ fn us Post)) told refl $
     enter ! C Λ fn vs Post $
     alloc_all ! (λ l. pass_all ! refl ((tt, tt), ((tt, record { fits = are.1.0.1 }), ((tt, record { fits = are.1.1.0.1 }), tt))) $ let En : Env 𝓤 𝓛.H = env fn.locals l in
-    calls_from ! (fm 𝓛 𝓜 𝓡) (raw (k.pre y)) vs (k.post y) (subst (λ (us : List Val). ent 𝓤 (k.pre y) (C (take_key.name args) us (k.post y))) told (takes 𝓤 𝓛 𝓜 𝓡 (compiled.calls-rlsf_local::local::LocalHeap::take 𝓡.env wired) T L gU dU gI dI dd mU mI md y)) (and_then ! (get ! refl) (and_then ! (get ! refl) (and_then ! (get ! refl) (no_more !)))) (λ v.
-    use1 𝓛 (later (some (λ (x : Taken.Denot). (raw (alive 𝓛 En₀.signature z.0.0 z.0.1) ⊛ ‵ (Taken.own_val x (v ∷ []))) ⊛ some (λ (ls : Lasts took z.0.0 a). ‵ (lasts took z.0.0 a ls) ⊛ raw (fact 𝓤 (Told r n al x)))))) (id⊢ 𝓤 (k.post y v)) $
+    calls_from ! (fm 𝓛 𝓜 𝓡) (raw (k.pre y)) vs (k.post y)
+    (subst (λ (us : List Val). ent 𝓤 (k.pre y) (C (take_key.name args) us (k.post y))) told
+    (takes 𝓤 𝓛 𝓜 𝓡 (compiled.calls-rlsf_local::local::LocalHeap::take 𝓡.env wired) T L gU dU gI dI dd mU mI md y))
+    (and_then ! (get ! refl) (and_then ! (get ! refl) (and_then ! (get ! refl) (no_more !)))) (λ v.
+    use1 𝓛 (later (some (λ (x : Taken.Denot). (raw (alive 𝓛 En₀.signature z.0.0 z.0.1) ⊛ ‵ (Taken.own_val x (v ∷ []))) ⊛ some
+    (λ (ls : Lasts took z.0.0 a). ‵ (lasts took z.0.0 a ls) ⊛ raw (fact 𝓤 (Told r n al x)))))) (id⊢ 𝓤 (k.post y v)) $
     await ! tt $ pick ! (λ x. split ! $ move ! (1 ∷ []) $ pick ! (λ _. split ! $ drop ! $ heard ! (Told r n al x) (λ said. split ! $ move ! (1 ∷ []) $
     taken ! r n al x v said
     (λ b o start key placed fits small slim e. let p : Ptr = block_ptr b o in
-    use2 𝓛 (‵ (froom τ b o) ⊛ ‵ (block_token r τ p)) (hands_out 𝓛 r τ b o start key n al asked.0 asked.1 placed small slim) $ lands_as ! (e) refl (tt, (record { fits = lit< tt }, ((tt, (record { fits = fits }, tt)), tt))) $
-    first ! $ switches_on ! (get_tag ! (vrt ! refl (fld ! refl (stop !))) (whole !)) $ exec ! C Λ En (arm_body 0 (head (after 1 fn.body))) (then_runs 𝓛 C Λ En (after 2 fn.body) (at_ret En Post)) $
+    use2 𝓛 (‵ (froom τ b o) ⊛ ‵ (block_token r τ p)) (hands_out 𝓛 r τ b o start key n al asked.0 asked.1 placed small slim) $
+    lands_as ! (e) refl (tt, (record { fits = lit< tt }, ((tt, (record { fits = fits }, tt)), tt))) $
+    first ! $ switches_on ! (get_tag ! (vrt ! refl (fld ! refl (stop !))) (whole !)) $
+    exec ! C Λ En (arm_body 0 (head (after 1 fn.body))) (then_runs 𝓛 C Λ En (after 2 fn.body) (at_ret En Post)) $
     sets ! (of_opd ! (get_in ! (vrt ! refl (fld ! refl (fld ! refl (stop !)))) (sub ! 0 refl (in_variant ! 1 0 refl refl (whole !))))) refl (tt, tt) $
     sets_last ! (agg ! (and_then ! (lit ! tt) (and_then ! (get ! refl) (no_more !)))) refl (tt, (record { fits = lit< tt }, (tt, tt))) $
     exec ! C Λ En (after 2 fn.body) (at_ret En Post) $
     sets ! (of_opd ! (get ! refl)) refl (tt, (record { fits = lit< tt }, (tt, tt))) $
     returns ! (look_at ! 0 refl) $ free_all ! refl $
-    use0 𝓛 (‵ (Answer.own_val (Ok p) (answer_val true b o ∷ []))) (Answer-Ok 𝓛 b o) $ nothing ! $ nothing ! $ fjoin ! $ nothing ! $ fjoin ! $ nothing ! $ fjoin ! $ move ! (3 ∷ 0 ∷ 1 ∷ 2 ∷ []) $
+    use0 𝓛 (‵ (Answer.own_val (Ok p) (answer_val true b o ∷ []))) (Answer-Ok 𝓛 b o) $ nothing ! $ nothing ! $ fjoin ! $ nothing ! $ fjoin ! $ nothing ! $ fjoin ! $
+    move ! (3 ∷ 0 ∷ 1 ∷ 2 ∷ []) $
     by ! (leaves 𝓛 En₀ stays c z (answer_val true b o) (Ok p) (tt, (tt, (tt, tt))) (tt, (tt, (tt, tt)))))
     (λ e. nothing ! $ lands_as ! (e) refl (tt, (record { fits = lit< tt }, tt)) $
-    first ! $ switches_on ! (get_tag ! (vrt ! refl (fld ! refl (stop !))) (whole !)) $ exec ! C Λ En (arm_body 1 (head (after 1 fn.body))) (then_runs 𝓛 C Λ En (after 2 fn.body) (at_ret En Post)) $
+    first ! $ switches_on ! (get_tag ! (vrt ! refl (fld ! refl (stop !))) (whole !)) $
+    exec ! C Λ En (arm_body 1 (head (after 1 fn.body))) (then_runs 𝓛 C Λ En (after 2 fn.body) (at_ret En Post)) $
     sets ! (agg ! (no_more !)) refl (tt, tt) $
     sets_last ! (agg ! (and_then ! (lit ! tt) (and_then ! (get ! refl) (no_more !)))) refl (tt, (record { fits = lit< tt }, (tt, tt))) $
     exec ! C Λ En (after 2 fn.body) (at_ret En Post) $
     sets ! (of_opd ! (get ! refl)) refl (tt, (record { fits = lit< tt }, (tt, tt))) $
     returns ! (look_at ! 0 refl) $ free_all ! refl $
-    use0 𝓛 (‵ (Answer.own_val (Err (record {})) (answer_val false 0 0 ∷ []))) (Answer-err 𝓛) $ nothing ! $ nothing ! $ fjoin ! $ nothing ! $ fjoin ! $ nothing ! $ fjoin ! $ move ! (3 ∷ 0 ∷ 1 ∷ 2 ∷ []) $
+    use0 𝓛 (‵ (Answer.own_val (Err (record {})) (answer_val false 0 0 ∷ []))) (Answer-err 𝓛) $ nothing ! $ nothing ! $ fjoin ! $ nothing ! $ fjoin ! $ nothing ! $
+    fjoin ! $ move ! (3 ∷ 0 ∷ 1 ∷ 2 ∷ []) $
     by ! (leaves 𝓛 En₀ stays c z (answer_val false 0 0) (Err (record {})) (tt, (tt, (tt, tt))) (tt, (tt, (tt, tt)))))))))))))

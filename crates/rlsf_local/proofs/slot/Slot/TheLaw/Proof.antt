@@ -19,5 +19,6 @@ shares T g L = record {
   shr_laws = λ d b o. guarded_shr_laws (b, o) (part_at (C.the_written T g) full_share d b o);
   shares = λ M 𝓤 𝓛 d κ ts b o inc sp.
       let P = part_at (C.the_written T g) full_share d b o in
-      qed 𝓛 (‵ (fbor κ P) ∷ raw (lfts 𝓛 ts) ∷ []) ∵ updating ! $ use1 𝓛 (later (‵ (na_bor κ (b, o) P))) (bor_na 𝓛 κ (b, o) P) $ await ! tt $ now ! $ done !;
+      qed 𝓛 (‵ (fbor κ P) ∷ raw (lfts 𝓛 ts) ∷ []) ∵ updating ! $ use1 𝓛 (later (‵ (na_bor κ (b, o) P))) (bor_na 𝓛 κ (b, o) P) $ await ! tt $ now ! $
+      done !;
 }

@@ -44,7 +44,8 @@ new_spec 𝓤 𝓛 𝓜 𝓡 wired T L g d met =
     let stays : Stays En₀.signature.params En₀.kept = (stay_dropped (slot_at 0 En₀.signature.params) En₀.kept.0, tt) in
     let C = (tables 𝓤 H 𝓜 𝓡 𝓡.env).C in
     let Λ = (tables 𝓤 H 𝓜 𝓡 𝓡.env).Λ in
-    proved_at 𝓛 En₀ stays c 𝓜 𝓡 (Goes-dropped 𝓛 1 (slot_at 0 En₀.signature.params) En₀.kept.0 (λ κs x f. refl), tt) (#self args) fn (compiled.unfolded 𝓤 H 𝓜 𝓡 wired (T, tt) d) (λ z are.
+    proved_at 𝓛 En₀ stays c 𝓜 𝓡 (Goes-dropped 𝓛 1 (slot_at 0 En₀.signature.params) En₀.kept.0 (λ κs x f. refl), tt) (#self args) fn
+    (compiled.unfolded 𝓤 H 𝓜 𝓡 wired (T, tt) d) (λ z are.
     let Post : Val → SProp 𝓤 = (walk_of 𝓛 En₀ stays c).post z in
     let a = z.0.3 in
     let vss = z.0.4 in
@@ -54,7 +55,8 @@ new_spec 𝓤 𝓛 𝓜 𝓡 wired T L g d met =
     let w : Val = got.0 in
     let good = got.2 in
     let v : Val = live 1 (vcons w vnil) in
-    qed 𝓛 ((raw (alive 𝓛 En₀.signature z.0.0 z.0.1) ⊛ ‵ (owns (types_at En₀.signature.params z.0.0) a vss)) ∷ (raw (fact 𝓤 (z.0.0.0 ⊑ T.lives)) ⊛ ‵ ftrue) ∷ []) ∵ move ! (1 ∷ []) $ drop ! $ split ! $ move ! (1 ∷ []) $
+    qed 𝓛 ((raw (alive 𝓛 En₀.signature z.0.0 z.0.1) ⊛ ‵ (owns (types_at En₀.signature.params z.0.0) a vss)) ∷ (raw (fact 𝓤 (z.0.0.0 ⊑ T.lives)) ⊛ ‵ ftrue)
+    ∷ []) ∵ move ! (1 ∷ []) $ drop ! $ split ! $ move ! (1 ∷ []) $
     fsplit ! $ move ! (1 ∷ []) $ drop ! $ rewrite ! 0 (λ (us : List Val). ‵ ((Value T).own_val x us)) got.1 refl $
     regoal ! (λ (us : List Val). prop (WpFn 𝓤 H C Λ fn us Post)) (λ i. got.1 i ++ []) refl $
     enter ! C Λ fn (w ∷ []) Post $
@@ -63,5 +65,7 @@ new_spec 𝓤 𝓛 𝓜 𝓡 wired T L g d met =
     sets ! (agg ! (and_then ! (lit ! tt) (and_then ! (get ! refl) (no_more !)))) refl (and_tt _ ((good).0), (record { fits = lit< tt }, ((good).1, tt))) $
     sets ! (agg ! (and_then ! (get ! refl) (no_more !))) refl (and_tt _ (and_tt _ ((good).0)), ((record { fits = lit< tt }, ((good).1, tt)), tt)) $
     returns ! (look_at ! 0 refl) $ free_all ! refl $
-    use1 𝓛 (‵ ((Held T).own_val (Some x) (v ∷ []))) (Some-of 𝓛 (Value T) x w) $ contents_in T L g r ! (Some x) v refl $ nothing ! $ fpack ! (Typed (Fields T g).mir (round v ∷ [])) (λ _. ftrue) ((and_tt _ (and_tt _ ((good).0)), ((record { fits = lit< tt }, ((good).1, tt)), tt)), tt) $ fjoin ! $ use0 𝓛 (raw (fact 𝓤 (r ≡ r))) (fact_i 𝓤 (r ≡ r) (emp 𝓤) (refl)) $ nothing ! $ nothing ! $ fjoin ! $ move ! (3 ∷ 0 ∷ 2 ∷ 1 ∷ []) $
+    use1 𝓛 (‵ ((Held T).own_val (Some x) (v ∷ []))) (Some-of 𝓛 (Value T) x w) $ contents_in T L g r ! (Some x) v refl $ nothing ! $
+    fpack ! (Typed (Fields T g).mir (round v ∷ [])) (λ _. ftrue) ((and_tt _ (and_tt _ ((good).0)), ((record { fits = lit< tt }, ((good).1, tt)), tt)), tt) $ fjoin ! $
+    use0 𝓛 (raw (fact 𝓤 (r ≡ r))) (fact_i 𝓤 (r ≡ r) (emp 𝓤) (refl)) $ nothing ! $ nothing ! $ fjoin ! $ move ! (3 ∷ 0 ∷ 2 ∷ 1 ∷ []) $
     by ! (leaves 𝓛 En₀ stays c z (round v) r (tt, tt) (tt, tt))))

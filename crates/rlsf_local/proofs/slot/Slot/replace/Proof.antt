@@ -39,9 +39,13 @@ replace_spec 𝓤 𝓛 𝓜 𝓡 wired T L g d met =
     let En₀ = ended T g d in
     let c₀ = clauses T g d 𝓛 𝓜.mem 𝓡.returns in
     let fn : Fn = inst_fn args compiled.function in
-    let stays : Stays En₀.signature.params En₀.kept = (stay_dropped (slot_at 0 En₀.signature.params) En₀.kept.0, (stay_dropped (slot_at 1 En₀.signature.params) En₀.kept.1.0, tt)) in
+    let stays : Stays En₀.signature.params En₀.kept =
+    (stay_dropped (slot_at 0 En₀.signature.params) En₀.kept.0, (stay_dropped (slot_at 1 En₀.signature.params) En₀.kept.1.0, tt)) in
     let c = with_token 𝓛 En₀ stays c₀ in
-    proved_with_token 𝓛 En₀ stays c₀ 𝓜 𝓡 (Goes-dropped 𝓛 2 (slot_at 0 En₀.signature.params) En₀.kept.0 (λ κs x f. refl), (Goes-blank 𝓛 2 (slot_at 1 En₀.signature.params) En₀.kept.1.0 (λ κs. quiet T), tt)) (#self args) fn (wired.0.0 (#self args) refl) (λ C Λ z are.
+    proved_with_token 𝓛 En₀ stays c₀ 𝓜 𝓡 (
+      Goes-dropped 𝓛 2 (slot_at 0 En₀.signature.params) En₀.kept.0 (λ κs x f. refl),
+      (Goes-blank 𝓛 2 (slot_at 1 En₀.signature.params) En₀.kept.1.0 (λ κs. quiet T), tt),
+    ) (#self args) fn (wired.0.0 (#self args) refl) (λ C Λ z are.
     let Post : Val → SProp 𝓤 = (walk_of 𝓛 En₀ stays c).post z in
     let a = z.0.3 in
     let vss = z.0.4 in
@@ -54,8 +58,12 @@ replace_spec 𝓤 𝓛 𝓜 𝓡 wired T L g d met =
     let got = one (layout (Held T)) vss.1.0 ((held_Lawful T 𝓛 L).typed new vss.1.0 are.1.0) in
     let w : Val = got.0 in
     let good = got.2 in
-    qed 𝓛 (((‵ (flft κ q) ⊛ (‵ (flft z.0.0.1.0 z.0.1.1.0) ⊛ ‵ ftrue)) ⊛ ‵ (owns (types_at En₀.signature.params z.0.0) a vss)) ∷ (‵ (ftok every) ⊛ (raw (fact 𝓤 (z.0.0.1.0 ⊑ T.lives)) ⊛ raw (fact 𝓤 (Over T g r new)))) ∷ []) ∵
-    move ! (1 ∷ []) $ split3 ! $ move ! (2 ∷ []) $ heard ! (Over T g r new) (λ asked. move ! (2 ∷ []) $ split ! $ split ! $ move ! (2 ∷ []) $ fsplit3 ! $ fsplit ! $ rewrite ! 2 (λ (us : List Val). ‵ ((Held T).own_val new us)) got.1 refl $ keep ! (1 ∷ 4 ∷ 6 ∷ 2 ∷ 5 ∷ []) $
+    qed 𝓛 (((‵ (flft κ q) ⊛ (‵ (flft z.0.0.1.0 z.0.1.1.0) ⊛ ‵ ftrue)) ⊛ ‵ (owns (types_at En₀.signature.params z.0.0) a vss))
+    ∷ (‵ (ftok every) ⊛ (raw (fact 𝓤 (z.0.0.1.0 ⊑ T.lives)) ⊛ raw (fact 𝓤 (Over T g r new)))) ∷ []) ∵
+    move ! (1 ∷ []) $ split3 ! $ move ! (2 ∷ []) $
+    heard ! (Over T g r new)
+    (λ asked. move ! (2 ∷ []) $ split ! $ split ! $ move ! (2 ∷ []) $ fsplit3 ! $ fsplit ! $ rewrite ! 2 (λ (us : List Val). ‵ ((Held T).own_val new us)) got.1 refl $
+    keep ! (1 ∷ 4 ∷ 6 ∷ 2 ∷ 5 ∷ []) $
     regoal ! (λ (us : List Val). prop (WpFn 𝓤 H C Λ fn us Post)) (λ i. are.0.0 i ++ (got.1 i ++ [])) refl $
     enter ! C Λ fn (vptr b o ∷ w ∷ []) Post $
     alloc_all ! (λ l. pass_all ! refl ((tt, tt), (good, tt)) $ let En : Env 𝓤 𝓛.H = env fn.locals l in
@@ -70,5 +78,6 @@ replace_spec 𝓤 𝓛 𝓜 𝓡 wired T L g d met =
     sets ! (of_opd ! (get ! refl)) refl typed $
     move ! (0 ∷ 3 ∷ 2 ∷ []) $ shuts_slot T L g r b o ! tt new w asked $
     returns ! (look_at ! 0 refl) $ free_all ! refl $
-    use0 𝓛 (raw (fact 𝓤 (Over T g r x))) (fact_i 𝓤 (Over T g r x) (emp 𝓤) over) $ move ! (2 ∷ 0 ∷ []) $ join ! $ nothing ! $ nothing ! $ fjoin ! $ nothing ! $ fjoin ! $ move ! (2 ∷ 4 ∷ []) $ join ! $ move ! (0 ∷ 1 ∷ 3 ∷ []) $
+    use0 𝓛 (raw (fact 𝓤 (Over T g r x))) (fact_i 𝓤 (Over T g r x) (emp 𝓤) over) $ move ! (2 ∷ 0 ∷ []) $ join ! $ nothing ! $ nothing ! $ fjoin ! $ nothing ! $
+    fjoin ! $ move ! (2 ∷ 4 ∷ []) $ join ! $ move ! (0 ∷ 1 ∷ 3 ∷ []) $
     by ! (leaves 𝓛 En₀ stays c z v x (tt, (ends T new, tt)) (tt, (tt, tt)))))))
