@@ -1,5 +1,6 @@
--- What is true of a checked allocator's fields once a range was handed in.
-use Rattle.std.proofs.Common.{◌≡◌, ℕ, zero, suc, ◌*◌, ◌/◌, find, ◌+◌, ◌-◌, ◌%◌, ◌^◌, ◌<◌, ◌≤◌, true, false, cond, nat_le, nat_lt, List, [], ◌∷◌, length, Option, None, Some, Ok, Err, arith, refl, sym, ◌∙◌, ap, subst, inl, inr}
+-- What is true of a checked allocator's fields once a range was inserted.
+use Rattle.std.proofs.Common.{◌≡◌, ℕ, zero, suc, ◌*◌, ◌/◌, find, ◌+◌, ◌-◌, ◌%◌, ◌^◌, ◌<◌, ◌≤◌, ◌⊎◌, true, false, cond, nat_le}
+use Rattle.std.proofs.Common.{nat_lt, List, [], ◌∷◌, length, Option, None, Some, Ok, Err, arith, refl, sym, ◌∙◌, ap, subst, inl, inr}
 use Rattle.std.proofs.lemmas.Bool.{and_parts, cases_lt, eqb-true, le-ltb, leb-true, lt-ltb, ltb-true}
 use Rattle.std.proofs.lemmas.Option.{none-some}
 use Rattle.std.specs.Prelude.{◌==◌}
@@ -32,7 +33,8 @@ use Rattle.rlsf_checked.specs.Steps.Marks.{HasMark, mark_at, mark_of}
 use Rattle.rlsf_checked.specs.Steps.Standing.{IsChecked}
 
 -- no chunk of a part ends behind the last one
-end_of-cut : (fllen : ℕ) (part c : Range) → IsIn c (cut (max_pool_size fllen) part) → (part.start ≤ c.start) × (end_of c ≤ end_of_last part.start (cut (max_pool_size fllen) part)) × (end_of c ≤ end_of part) × (0 < c.len)
+end_of-cut : (fllen : ℕ) (part c : Range) → IsIn c (cut (max_pool_size fllen) part)
+    → (part.start ≤ c.start) × (end_of c ≤ end_of_last part.start (cut (max_pool_size fllen) part)) × (end_of c ≤ end_of part) × (0 < c.len)
 end_of-cut fllen part c i =
     let cs = cut (max_pool_size fllen) part in
     let (from, to, some) = IsIn-cut_within fllen part c i in
@@ -43,7 +45,8 @@ end_of-cut fllen part c i =
     (from, omega arith, to, some)
 
 -- nor behind the bytes that are taken
-end_of-taken : (start n : ℕ) (at : ℕ) (cs : List Range) (c : Range) → bytes_taken start cs ≡ Some n → IsIn c cs → start ≤ end_of_last at cs → end_of c ≤ end_of_last at cs → end_of c ≤ start + n
+end_of-taken : (start n : ℕ) (at : ℕ) (cs : List Range) (c : Range) → bytes_taken start cs ≡ Some n → IsIn c cs → start ≤ end_of_last at cs
+    → end_of c ≤ end_of_last at cs → end_of c ≤ start + n
 end_of-taken start n at [] c e i from to = absurd i
 end_of-taken start n at (d ∷ ds) c e i from to =
     let taken : end_of_last (end_of d) ds - start ≡ n = cc in
@@ -55,7 +58,8 @@ end_of_some c [] = (c, inl refl, refl)
 end_of_some c (d ∷ ds) = let (x, i, ends) = end_of_some d ds in (x, inr i, ends)
 
 -- so that no more is taken than the range has, and more than is skipped
-taken-within : (fllen : ℕ) (r : Range) (n : ℕ) → bytes_taken r.start (cut (max_pool_size fllen) (aligned_part r)) ≡ Some n → (n ≤ r.len) × (round32 r.start < r.start + n)
+taken-within : (fllen : ℕ) (r : Range) (n : ℕ) → bytes_taken r.start (cut (max_pool_size fllen) (aligned_part r)) ≡ Some n
+    → (n ≤ r.len) × (round32 r.start < r.start + n)
 taken-within fllen r n e = go (cut (max_pool_size fllen) (aligned_part r)) refl e
   where
     go : (cs : List Range) → cut (max_pool_size fllen) (aligned_part r) ≡ cs → bytes_taken r.start cs ≡ Some n → (n ≤ r.len) × (round32 r.start < r.start + n)
@@ -67,7 +71,7 @@ taken-within fllen r n e = go (cut (max_pool_size fllen) (aligned_part r)) refl 
         (omega (arith, round32-le r.start, from, within, some, ends), omega (arith, taken, round32-le r.start, from, within, some, ends))
 
 module _ {fllen sllen : ℕ} {v : Allocator} {m : Marks} {pool : Range} (is : IsChecked fllen sllen v m pool) (r : Range) (behind : end_of pool ≤ r.start) where
-  -- no chunk has a byte behind what was handed in last
+  -- no chunk has a byte behind the last pool
   pub untouched : IsUntouched v.state.chunks r
   unfolding IsUntouched
   untouched a low high = elim (cases_lt (coverage itself v.state.chunks a) 1) [
@@ -75,8 +79,9 @@ module _ {fllen sllen : ℕ} {v : Allocator} {m : Marks} {pool : Range} (is : Is
     | inr some ↦ let (c, i, from, to) = coverage-some itself v.state.chunks a some in absurd (omega (arith, is.below c i, to, low, behind))
   ]
 
-  module _ (lies_in : LiesIn r v.memory.start (length v.memory.bytes)) (w : Allocator) (stands : Stands fllen sllen w) (place : SamePlace v.memory w.memory) (aligns : align_at w.state ≡ align_at v.state) where
-    -- what was taken of the range is what was handed in last
+  module _ (lies_in : LiesIn r v.memory.start (length v.memory.bytes)) (w : Allocator) (stands : Stands fllen sllen w) (place : SamePlace v.memory w.memory)
+      (aligns : align_at w.state ≡ align_at v.state) where
+    -- what was taken of the range is the last pool
     pub handed_in : (n : ℕ) → Inserts fllen v.state r (Some n) w.state → IsChecked fllen sllen w m (range_at r.start n)
     handed_in n step = record {
       stands = stands;
@@ -85,6 +90,7 @@ module _ {fllen sllen : ℕ} {v : Allocator} {m : Marks} {pool : Range} (is : Is
       low = omega (arith, lies_in.0, place.0);
       high = omega (arith, lies_in.1, place.0, place.1, (taken-within fllen r n (sym step.answer)).0);
       below = below;
+      apart = apart;
       room = λ more. (taken-within fllen r n (sym step.answer)).1;
       row = IsRow-inserted fllen v.state w.state r n step;
     }
@@ -99,9 +105,18 @@ module _ {fllen sllen : ℕ} {v : Allocator} {m : Marks} {pool : Range} (is : Is
               | inr old ↦ omega (arith, is.below c old, behind)
             ]
 
+        apart : (c : Range) → IsIn c w.state.chunks → (end_of c ≤ r.start) ⊎ (r.start ≤ c.start)
+        apart c i =
+            let cs = cut (max_pool_size fllen) (aligned_part r) in
+            elim (IsIn-with_chunks c cs v.state (subst (λ (s : State). IsIn c s.chunks) step.after i)) [
+              | inl made ↦ let (from, to, in_part, some) = end_of-cut fllen (aligned_part r) c made in inr (omega (arith, round32-le r.start, from))
+              | inr old ↦ inl (omega (arith, is.below c old, behind))
+            ]
+
 -- an allocator to which nothing was handed, with marks that are all 0
 pub made : {fllen sllen : ℕ} (heap : Allocator) (m : Marks) → Stands fllen sllen heap → heap.state ≡ empty → ((a : ℕ) → mark_at m a ≡ 0)
-    → ((a : ℕ) → a % 16 ≡ 0 → heap.memory.start ≤ a → a ≤ end_of (range_of heap.memory) → HasMark m a) → IsChecked fllen sllen heap m (range_at heap.memory.start 0)
+    → ((a : ℕ) → a % 16 ≡ 0 → heap.memory.start ≤ a → a ≤ end_of (range_of heap.memory) → HasMark m a)
+    → IsChecked fllen sllen heap m (range_at heap.memory.start 0)
 made heap m stands none zeros covers = record {
   stands = stands;
   marked = λ a. zeros a ∙ ap mark_of (sym (ap (λ s. align_at s a) none ∙ align_at-none empty a refl));
@@ -109,11 +124,12 @@ made heap m stands none zeros covers = record {
   low = omega arith;
   high = omega arith;
   below = λ c i. absurd (subst (λ (s : State). IsIn c s.chunks) none i);
+  apart = λ c i. absurd (subst (λ (s : State). IsIn c s.chunks) none i);
   room = λ more. absurd (omega (arith, more));
   row = λ a low high. absurd (omega (arith, round32-le heap.memory.start));
 }
 
--- every address of what was handed in last fits in a word
+-- every address of the last pool fits in a word
 pub pool_fits : {fllen sllen : ℕ} {v : Allocator} {m : Marks} {pool : Range} → IsChecked fllen sllen v m pool → end_of pool < 2 ^ 64
 unfolding Stands
 pool_fits is = omega (arith, is.high, is.stands.stands.well_formed.addressable)
@@ -132,12 +148,13 @@ within_is whole r e =
     let (from, to) = and_parts (nat_le whole.start r.start) (nat_le (end_of r) (end_of whole)) (sym e) in
     (leb-true whole.start r.start from, leb-true (end_of r) (end_of whole) to)
 
--- what is answered of a range in the memory that doesn't begin before the end of what was handed in last
+-- what is returned of a range in the memory that doesn't begin before the end of the last pool
 pub behind_answer : (fllen : ℕ) (v : Checked) (r : Range) → true ≡ is_within (range_of v.heap.memory) r → end_of v.pool ≤ r.start
     → insert_answer fllen v r ≡ if_taken (bytes_taken r.start (cut (max_pool_size fllen) (aligned_part r)))
 behind_answer fllen v r within behind =
     let told = if_taken (bytes_taken r.start (cut (max_pool_size fllen) (aligned_part r))) in
-    ap (λ t. cond t (cond (nat_lt r.start (end_of v.pool)) (Err NotBehind) told) (Err OutsideMemory)) (sym within) ∙ ap (λ t. cond t (Err NotBehind) told) (le-ltb r.start (end_of v.pool) behind)
+    ap (λ t. cond t (cond (nat_lt r.start (end_of v.pool)) (Err NotBehind) told) (Err OutsideMemory)) (sym within)
+    ∙ ap (λ t. cond t (Err NotBehind) told) (le-ltb r.start (end_of v.pool) behind)
 
 -- one outside of the memory is refused
 pub outside_answer : (fllen : ℕ) (v : Checked) (r : Range) → false ≡ is_within (range_of v.heap.memory) r → insert_answer fllen v r ≡ Err OutsideMemory
@@ -145,23 +162,27 @@ outside_answer fllen v r outside =
     let told = if_taken (bytes_taken r.start (cut (max_pool_size fllen) (aligned_part r))) in
     ap (λ t. cond t (cond (nat_lt r.start (end_of v.pool)) (Err NotBehind) told) (Err OutsideMemory)) (sym outside)
 
--- and so is one before the end of what was handed in last
-pub before_answer : (fllen : ℕ) (v : Checked) (r : Range) → true ≡ is_within (range_of v.heap.memory) r → r.start < end_of v.pool → insert_answer fllen v r ≡ Err NotBehind
+-- and so is one before the end of the last pool
+pub before_answer : (fllen : ℕ) (v : Checked) (r : Range) → true ≡ is_within (range_of v.heap.memory) r → r.start < end_of v.pool
+    → insert_answer fllen v r ≡ Err NotBehind
 before_answer fllen v r within before =
     let told = if_taken (bytes_taken r.start (cut (max_pool_size fllen) (aligned_part r))) in
-    ap (λ t. cond t (cond (nat_lt r.start (end_of v.pool)) (Err NotBehind) told) (Err OutsideMemory)) (sym within) ∙ ap (λ t. cond t (Err NotBehind) told) (lt-ltb r.start (end_of v.pool) before)
+    ap (λ t. cond t (cond (nat_lt r.start (end_of v.pool)) (Err NotBehind) told) (Err OutsideMemory)) (sym within)
+    ∙ ap (λ t. cond t (Err NotBehind) told) (lt-ltb r.start (end_of v.pool) before)
 
--- ---- a range behind what was handed in last
+-- ---- a range behind the last pool
 
--- what was handed in last ends with a chunk
-pub last_chunk : {fllen sllen : ℕ} {v : Allocator} {m : Marks} {pool : Range} → IsChecked fllen sllen v m pool → 0 < pool.len → (c : Range) × IsIn c v.state.chunks × (end_of c ≡ end_of pool)
+-- the last pool ends with a chunk
+pub last_chunk : {fllen sllen : ℕ} {v : Allocator} {m : Marks} {pool : Range} → IsChecked fllen sllen v m pool → 0 < pool.len
+    → (c : Range) × IsIn c v.state.chunks × (end_of c ≡ end_of pool)
 last_chunk {pool = pool} is some =
     let room = is.room some in
     let (c, i, from, low, high, to) = is.row (end_of pool - 1) (omega (arith, room)) (omega (arith, room)) in
     (c, i, omega (arith, room, high, to))
 
 -- the chunks of a range that begins where a chunk ends don't end behind what is appended of it
-appended-below : (fllen : ℕ) (s : State) (r : Range) → r.start % 32 ≡ 0 → (n : ℕ) → n ≡ appended_bytes (max_pool_size fllen) r → ((c : Range) → IsIn c s.chunks → end_of c ≤ r.start)
+appended-below : (fllen : ℕ) (s : State) (r : Range) → r.start % 32 ≡ 0 → (n : ℕ) → n ≡ appended_bytes (max_pool_size fllen) r
+    → ((c : Range) → IsIn c s.chunks → end_of c ≤ r.start)
     → (c : Range) → IsIn c (appended (max_pool_size fllen) r s).chunks → end_of c ≤ r.start + n
 appended-below fllen s r whole n told below = go (max_pool_size fllen) refl told
   where
@@ -191,6 +212,37 @@ appended-below fllen s r whole n told below = go (max_pool_size fllen) refl told
           | inr old ↦ omega (arith, below c old)
         ]
 
+-- and none of them crosses an address before it that no chunk crosses
+appended-apart : (fllen : ℕ) (s : State) (r : Range) (start : ℕ) → r.start % 32 ≡ 0 → start < r.start
+    → ((c : Range) → IsIn c s.chunks → (end_of c ≤ start) ⊎ (start ≤ c.start))
+    → (c : Range) → IsIn c (appended (max_pool_size fllen) r s).chunks → (end_of c ≤ start) ⊎ (start ≤ c.start)
+appended-apart fllen s r start whole before apart = go (max_pool_size fllen) refl
+  where
+    grown-apart : (k : ℕ) (o : Option Range) → find (ends_at r.start) s.chunks ≡ o → (c : Range) → IsIn c (grown_if o k s).chunks
+        → (end_of c ≤ start) ⊎ (start ≤ c.start)
+    grown-apart k None found c i = apart c i
+    grown-apart k (Some d) found c (inl same) =
+        let (held, passes) = find-some (ends_at r.start) d s.chunks found in
+        let ends : end_of d ≡ r.start = eqb-true (end_of d) r.start passes in
+        elim (apart d held) [
+          | inl low ↦ absurd (omega (arith, low, ends, before))
+          | inr high ↦ inr (omega (arith, high, ap (λ (x : Range). x.start) same))
+        ]
+    grown-apart k (Some d) found c (inr j) = apart c (IsIn-without (ends_at (end_of d)) c s.chunks j)
+
+    extended-apart : (k : ℕ) → (c : Range) → IsIn c (extended r.start k s).chunks → (end_of c ≤ start) ⊎ (start ≤ c.start)
+    extended-apart zero c i = apart c i
+    extended-apart (suc k) c i = grown-apart (suc k) (find (ends_at r.start) s.chunks) refl c i
+
+    go : (o : Option ℕ) → max_pool_size fllen ≡ o → (c : Range) → IsIn c (appended o r s).chunks → (end_of c ≤ start) ⊎ (start ≤ c.start)
+    go None same c i = extended-apart (r.len / 32 * 32) c i
+    go (Some most) same c i = elim (IsIn-with_chunks c (cut (Some most) (aligned_part r)) s i) [
+      | inl made ↦
+          let (from, to, within, some) = end_of-cut fllen (aligned_part r) c (subst (λ o. IsIn c (cut o (aligned_part r))) (sym same) made) in
+          inr (omega (arith, from, before, whole))
+      | inr old ↦ apart c old
+    ]
+
 -- no more is taken than the range has, and where nothing is, nothing changes
 appended-le : (fllen : ℕ) (s : State) (r : Range) → (appended_bytes (max_pool_size fllen) r ≤ r.len) × ((t : State) → Appends fllen s r 0 t → t ≡ s)
 appended-le fllen s r = go (max_pool_size fllen) refl
@@ -219,7 +271,8 @@ appended-le fllen s r = go (max_pool_size fllen) refl
 pub none_appended : (fllen : ℕ) (s t : State) (r : Range) → Appends fllen s r 0 t → t ≡ s
 none_appended fllen s t r step = (appended-le fllen s r).1 t step
 
-module _ {fllen sllen : ℕ} {v : Allocator} {m : Marks} {pool : Range} (is : IsChecked fllen sllen v m pool) (r : Range) (some : 0 < pool.len) (next : r.start ≡ end_of pool) (lies_in : LiesIn r v.memory.start (length v.memory.bytes)) where
+module _ {fllen sllen : ℕ} {v : Allocator} {m : Marks} {pool : Range} (is : IsChecked fllen sllen v m pool) (r : Range) (some : 0 < pool.len) (next : r.start ≡ end_of pool)
+    (lies_in : LiesIn r v.memory.start (length v.memory.bytes)) where
   pub next_range : IsNext (range_of v.memory) v.state r
   next_range =
       let (c, i, ends) = last_chunk is some in
@@ -241,8 +294,9 @@ module _ {fllen sllen : ℕ} {v : Allocator} {m : Marks} {pool : Range} (is : Is
       let long : p.len + n ≡ pool.start + (pool.len + n) - p.start = omega (arith, room) in
       subst (λ l. IsRow w.state (range_at p.start l)) long (IsRow-appended is.stands.stands.well_formed r p ends (omega (arith, room)) is.row n w.state step)
 
-  -- what was handed in last is longer by what was taken
-  pub handed_on : (w : Allocator) → Stands fllen sllen w → SamePlace v.memory w.memory → align_at w.state ≡ align_at v.state → (n : ℕ) → Appends fllen v.state r n w.state
+  -- the last pool is longer by what was taken
+  pub handed_on : (w : Allocator) → Stands fllen sllen w → SamePlace v.memory w.memory → align_at w.state ≡ align_at v.state → (n : ℕ)
+      → Appends fllen v.state r n w.state
       → IsChecked fllen sllen w m (range_at pool.start (pool.len + n))
   handed_on w stands place aligns n step = record {
     stands = stands;
@@ -255,12 +309,14 @@ module _ {fllen sllen : ℕ} {v : Allocator} {m : Marks} {pool : Range} (is : Is
       next,
       appended-below fllen v.state r whole_start n step.answer (λ d j. omega (arith, is.below d j, next)) c (subst (λ (s : State). IsIn c s.chunks) step.after i),
     );
+    apart = λ c i. appended-apart fllen v.state r pool.start whole_start (omega (arith, next, some)) is.apart c (subst (λ (s : State). IsIn c s.chunks) step.after i);
     room = λ more. omega (arith, is.room some);
     row = longer_row w n step;
   }
 
--- what is answered of a range in the memory that begins where what was handed in last ends
-pub next_answer : (fllen : ℕ) (v : Checked) (r : Range) → true ≡ is_within (range_of v.heap.memory) r → true ≡ is_next v.pool r.start → append_answer fllen v r ≡ if_appended (appended_bytes (max_pool_size fllen) r)
+-- what is returned of a range in the memory that begins where the last pool ends
+pub next_answer : (fllen : ℕ) (v : Checked) (r : Range) → true ≡ is_within (range_of v.heap.memory) r → true ≡ is_next v.pool r.start
+    → append_answer fllen v r ≡ if_appended (appended_bytes (max_pool_size fllen) r)
 next_answer fllen v r within next =
     let told = if_appended (appended_bytes (max_pool_size fllen) r) in
     ap (λ t. cond t (cond (is_next v.pool r.start) told (Err NotNext)) (Err OutsideMemory)) (sym within) ∙ ap (λ t. cond t told (Err NotNext)) (sym next)
@@ -272,7 +328,8 @@ none_outside fllen v r outside =
     ap (λ t. cond t (cond (is_next v.pool r.start) told (Err NotNext)) (Err OutsideMemory)) (sym outside)
 
 -- nor one that isn't next
-pub none_apart : (fllen : ℕ) (v : Checked) (r : Range) → true ≡ is_within (range_of v.heap.memory) r → false ≡ is_next v.pool r.start → append_answer fllen v r ≡ Err NotNext
+pub none_apart : (fllen : ℕ) (v : Checked) (r : Range) → true ≡ is_within (range_of v.heap.memory) r → false ≡ is_next v.pool r.start
+    → append_answer fllen v r ≡ Err NotNext
 none_apart fllen v r within apart =
     let told = if_appended (appended_bytes (max_pool_size fllen) r) in
     ap (λ t. cond t (cond (is_next v.pool r.start) told (Err NotNext)) (Err OutsideMemory)) (sym within) ∙ ap (λ t. cond t told (Err NotNext)) (sym apart)
@@ -283,7 +340,7 @@ next_is pool r e =
     let (some, ends) = and_parts (nat_lt 0 pool.len) (r.start == end_of pool) (sym e) in
     (ltb-true 0 pool.len some, eqb-true r.start (end_of pool) ends)
 
--- what is taken is told
+-- the number of taken bytes is returned
 pub some_appended : (n : ℕ) → (n ≡ 0 → ⊥) → if_appended n ≡ Ok n
 some_appended zero some = absurd (some refl)
 some_appended (suc n) some = refl

@@ -18,7 +18,8 @@ module _ (size : ℕ) (align : Option ℕ) (none : None ≡ align) where
 module _ (size align : ℕ) (known : Option ℕ) (is : Some align ≡ known) (power : IsPowerOfTwo align) (no_layout : IsLayout size align → ⊥) where
   pub past_is_refused : IsRefusedBy {A = NonZeroUsize} (size_refusal known size) (Err NoLayout)
   past_is_refused =
-      subst (λ o. IsRefusedBy {A = NonZeroUsize} (size_refusal o size) (Err NoLayout)) is (subst (λ o. IsRefusedBy {A = NonZeroUsize} o (Err NoLayout)) (sym (size_past size align power no_layout)) refl)
+      subst (λ o. IsRefusedBy {A = NonZeroUsize} (size_refusal o size) (Err NoLayout)) is
+      (subst (λ o. IsRefusedBy {A = NonZeroUsize} o (Err NoLayout)) (sym (size_past size align power no_layout)) refl)
 
   pub past_is_not_fine : size_refusal known size ≡ None → ⊥
   past_is_not_fine = subst (λ o. size_refusal o size ≡ None → ⊥) is (λ fine. none-some NoLayout (sym fine ∙ size_past size align power no_layout))

@@ -1,5 +1,6 @@
 -- What is true of a checked allocator's fields over the steps.
-use Rattle.std.proofs.Common.{◌≡◌, ◌≢◌, ℕ, zero, suc, ◌+◌, ◌-◌, ◌*◌, ◌/◌, ◌%◌, ◌^◌, ◌<◌, ◌≤◌, cond, Option, None, Some, arith, refl, sym, ◌∙◌, ap, subst, inl, inr}
+use Rattle.std.proofs.Common.{◌≡◌, ◌≢◌, ℕ, zero, suc, ◌+◌, ◌-◌, ◌*◌, ◌/◌, ◌%◌, ◌^◌, ◌<◌, ◌≤◌, cond, Option, None, Some, arith, refl}
+use Rattle.std.proofs.Common.{sym, ◌∙◌, ap, subst, inl, inr}
 use Rattle.std.proofs.lemmas.Bool.{cases_eq, cases_lt, le-leb, lt-leb}
 use Rattle.std.proofs.lemmas.Nat.{pow_pos, pow-add}
 use Rattle.std.proofs.Math.Nat.{div-add-mod', mod-eq_of_lt}
@@ -31,12 +32,12 @@ use Rattle.rlsf_checked.specs.declared.marks.Marks.{Marks}
 use Rattle.rlsf_checked.specs.Steps.Marks.{HasMark, mark_at, mark_of}
 use Rattle.rlsf_checked.specs.Steps.Standing.{IsChecked}
 
--- the allocator after a step stands
+-- the allocator after a step is valid
 pub stands_after : (fllen sllen : ℕ) (v w : Allocator) (step : State → Type 0) → Steps fllen sllen v w step → Stands fllen sllen w
 unfolding Steps
 stands_after fllen sllen v w step did = did.1
 
--- and the machine made the step
+-- and the reference model made the step
 pub step_of : (fllen sllen : ℕ) (v w : Allocator) (step : State → Type 0) → Steps fllen sllen v w step → step w.state
 unfolding Steps
 step_of fllen sllen v w step did = did.0
@@ -115,11 +116,13 @@ module _ {fllen sllen : ℕ} {v : Allocator} {m : Marks} {pool : Range} (is : Is
       go None e = refl
       go (Some align) e = absurd (omega (arith, e))
 
-  -- and a mark tells the alignment of one
-  pub marked_as : (addr : ℕ) → (mark_at m addr ≡ 0 → ⊥) → (align_at v.state addr ≡ Some (2 ^ (mark_at m addr - 1))) × (1 ≤ mark_at m addr) × (mark_at m addr ≤ 64) × IsPowerOfTwo (2 ^ (mark_at m addr - 1))
+  -- and a mark shows the alignment of one
+  pub marked_as : (addr : ℕ) → (mark_at m addr ≡ 0 → ⊥)
+      → (align_at v.state addr ≡ Some (2 ^ (mark_at m addr - 1))) × (1 ≤ mark_at m addr) × (mark_at m addr ≤ 64) × IsPowerOfTwo (2 ^ (mark_at m addr - 1))
   marked_as addr some = go (align_at v.state addr) refl
     where
-      go : (o : Option ℕ) → align_at v.state addr ≡ o → (align_at v.state addr ≡ Some (2 ^ (mark_at m addr - 1))) × (1 ≤ mark_at m addr) × (mark_at m addr ≤ 64) × IsPowerOfTwo (2 ^ (mark_at m addr - 1))
+      go : (o : Option ℕ) → align_at v.state addr ≡ o
+          → (align_at v.state addr ≡ Some (2 ^ (mark_at m addr - 1))) × (1 ≤ mark_at m addr) × (mark_at m addr ≤ 64) × IsPowerOfTwo (2 ^ (mark_at m addr - 1))
       go None e = absurd (some (is.marked addr ∙ ap mark_of e))
       go (Some align) e =
           let place = live_place fllen sllen v is.stands addr align e in
@@ -135,7 +138,8 @@ module _ {fllen sllen : ℕ} {v : Allocator} {m : Marks} {pool : Range} (is : Is
       is.covers addr there.even (omega (arith, there.low, place.0)) (omega (arith, there.high, place.0, place.1))
 
   -- a step that keeps place and chunks, with the marks of the payloads after it
-  pub kept : (w : Allocator) (n : Marks) → Stands fllen sllen w → SamePlace v.memory w.memory → w.state.chunks ≡ v.state.chunks → ((a : ℕ) → HasMark m a → HasMark n a)
+  pub kept : (w : Allocator) (n : Marks) → Stands fllen sllen w → SamePlace v.memory w.memory → w.state.chunks ≡ v.state.chunks
+      → ((a : ℕ) → HasMark m a → HasMark n a)
       → ((a : ℕ) → mark_at n a ≡ mark_of (align_at w.state a)) → IsChecked fllen sllen w n pool
   kept w n stands place chunks places marked = record {
     stands = stands;
@@ -144,13 +148,16 @@ module _ {fllen sllen : ℕ} {v : Allocator} {m : Marks} {pool : Range} (is : Is
     low = omega (arith, is.low, place.0);
     high = omega (arith, is.high, place.0, place.1);
     below = λ c i. is.below c (subst (IsIn c) chunks i);
+    apart = λ c i. is.apart c (subst (IsIn c) chunks i);
     room = is.room;
     row = IsRow-same v.state w.state (walked pool) chunks is.row;
   }
 
-  -- one mark was set, as the payload at its address tells, and no other payload changed its alignment
-  pub marked_at : (w : Allocator) (n : Marks) (addr : ℕ) → Stands fllen sllen w → SamePlace v.memory w.memory → w.state.chunks ≡ v.state.chunks → ((a : ℕ) → HasMark m a → HasMark n a)
-      → mark_at n addr ≡ mark_of (align_at w.state addr) → ((a : ℕ) → a ≢ addr → mark_at n a ≡ mark_at m a) → ((a : ℕ) → a ≢ addr → align_at w.state a ≡ align_at v.state a)
+  -- one mark was set, as the payload at its address shows, and no other payload changed its alignment
+  pub marked_at : (w : Allocator) (n : Marks) (addr : ℕ) → Stands fllen sllen w → SamePlace v.memory w.memory → w.state.chunks ≡ v.state.chunks
+      → ((a : ℕ) → HasMark m a → HasMark n a)
+      → mark_at n addr ≡ mark_of (align_at w.state addr) → ((a : ℕ) → a ≢ addr → mark_at n a ≡ mark_at m a)
+      → ((a : ℕ) → a ≢ addr → align_at w.state a ≡ align_at v.state a)
       → IsChecked fllen sllen w n pool
   marked_at w n addr stands place chunks places here marks aligns = kept w n stands place chunks places (λ a. elim (cases_eq a addr) [
     | inl same ↦ ap (mark_at n) same ∙ here ∙ ap (λ x. mark_of (align_at w.state x)) (sym same)
@@ -158,13 +165,15 @@ module _ {fllen sllen : ℕ} {v : Allocator} {m : Marks} {pool : Range} (is : Is
   ])
 
   -- no mark was set, and no payload changed its alignment
-  pub unchanged : (w : Allocator) → Stands fllen sllen w → SamePlace v.memory w.memory → w.state.chunks ≡ v.state.chunks → align_at w.state ≡ align_at v.state → IsChecked fllen sllen w m pool
+  pub unchanged : (w : Allocator) → Stands fllen sllen w → SamePlace v.memory w.memory → w.state.chunks ≡ v.state.chunks → align_at w.state ≡ align_at v.state
+      → IsChecked fllen sllen w m pool
   unchanged w stands place chunks aligns = kept w m stands place chunks (λ a has. has) (λ a. is.marked a ∙ ap (λ f. mark_of (f a)) (sym aligns))
 
   -- a payload got another size: no mark is left where it was, and then its mark was set where it is
   pub marked_moved : (w : Allocator) (left n : Marks) (addr to align : ℕ) → Stands fllen sllen w → SamePlace v.memory w.memory → w.state.chunks ≡ v.state.chunks
       → ((a : ℕ) → HasMark m a → HasMark n a) → ((a : ℕ) → a ≢ addr → mark_at left a ≡ mark_at m a) → mark_at left addr ≡ 0
-      → ((a : ℕ) → a ≢ to → mark_at n a ≡ mark_at left a) → mark_at n to ≡ suc (floor_log2 align) → align_at w.state to ≡ Some align → (to ≢ addr → align_at w.state addr ≡ None)
+      → ((a : ℕ) → a ≢ to → mark_at n a ≡ mark_at left a) → mark_at n to ≡ suc (floor_log2 align) → align_at w.state to ≡ Some align
+      → (to ≢ addr → align_at w.state addr ≡ None)
       → ((a : ℕ) → a ≢ addr → a ≢ to → align_at w.state a ≡ align_at v.state a) → IsChecked fllen sllen w n pool
   marked_moved w left n addr to align stands place chunks places others cleared new set live gone aligns = kept w n stands place chunks places (λ a. elim (cases_eq a to) [
     | inl there ↦ ap (mark_at n) there ∙ set ∙ sym (ap mark_of (ap (align_at w.state) there ∙ live))
@@ -175,7 +184,8 @@ module _ {fllen sllen : ℕ} {v : Allocator} {m : Marks} {pool : Range} (is : Is
   ])
 
 -- a payload that moved is not at its old address
-pub left_behind : (fllen sllen : ℕ) (v : Allocator) → Stands fllen sllen v → (t : State) (addr align size to : ℕ) → align_at v.state addr ≡ Some align → Reallocates sllen v.state addr size (Some to) t
+pub left_behind : (fllen sllen : ℕ) (v : Allocator) → Stands fllen sllen v → (t : State) (addr align size to : ℕ) → align_at v.state addr ≡ Some align
+    → Reallocates sllen v.state addr size (Some to) t
     → to ≢ addr → align_at t addr ≡ None
 unfolding Stands
 left_behind fllen sllen v stands t addr align size to is step apart =

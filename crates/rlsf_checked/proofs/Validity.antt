@@ -6,7 +6,7 @@ use Rattle.rlsf_base.specs.SizeClass.{IsValid, is_row_length}
 use Rattle.rlsf_int.specs.Bits.{IsFirstOne, bit, bit-zero}
 use Rattle.rlsf_checked.specs.Steps.Classes.{is_valid}
 
--- the test tells what it should
+-- the test is true exactly if the parameters are valid
 pub is_valid-iff : (fl_bits sl_bits fllen sllen : ℕ) → IsTrue (is_valid fl_bits sl_bits fllen sllen) ↔ IsValid fl_bits sl_bits fllen sllen
 is_valid-iff fl_bits sl_bits fllen sllen = (to, from)
   where

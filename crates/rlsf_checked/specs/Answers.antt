@@ -1,12 +1,14 @@
--- What the calls answer, and when each error comes.
-use Rattle.std.specs.Prelude.{◌≡◌, ◌==◌, ℕ, zero, suc, ◌+◌, ◌^◌, Bool, ◌&&◌, List, length, nat_le, nat_lt, Option, Some, None, Result, Ok, Err, IfErr, if◌then◌else◌}
+-- The results of the calls, and when each error is returned.
+use Rattle.std.specs.Prelude.{◌≡◌, ◌==◌, ℕ, zero, suc, ◌+◌, ◌^◌, Bool, false, ◌&&◌, ◌||◌, List, [], ◌∷◌, length, nat_le, nat_lt, Option, Some}
+use Rattle.std.specs.Prelude.{None, Result, Ok, Err, IfErr, if◌then◌else◌}
 use Rattle.std.specs.declared.num.NonZeroUsize.{NonZeroUsize}
 use Rattle.rlsf_base.specs.declared.memory.range.Range.{Range}
 use Rattle.rlsf_base.specs.Addr.{at}
 use Rattle.rlsf_base.specs.Range.{end_of}
 use Rattle.rlsf_base.specs.Sizes.{max_pool_size}
 use Rattle.rlsf_base.specs.Space.{range_of}
-use Rattle.rlsf_machine.specs.Callers.{align_at}
+use Rattle.rlsf_blocks.specs.Blocks.{Block}
+use Rattle.rlsf_machine.specs.Callers.{align_at, bytes_at}
 use Rattle.rlsf_machine.specs.Insert.{aligned_part, appended_bytes, bytes_taken, cut}
 use Rattle.rlsf_machine.specs.State.{State}
 use Rattle.rlsf_checked.specs.declared.error.CheckedError.{CheckedError}
@@ -23,6 +25,19 @@ abbrev pub if_in_range : Option ℕ → Bool → Result (Unit {0}) CheckedError
 if_in_range None fits = Err UnknownAddress
 if_in_range (Some align) fits = if fits then Ok tt else Err OutOfRange
 
+-- the result for two payloads with these alignments, if any: UnknownAddress unless both are live, else by whether the bytes fit
+abbrev pub if_both_in_range : Option ℕ → Option ℕ → Bool → Result (Unit {0}) CheckedError
+if_both_in_range None other fits = Err UnknownAddress
+if_both_in_range (Some align) other fits = if_in_range other fits
+
+-- both lists have so many bytes
+abbrev pub both_have : ℕ → List ℕ → List ℕ → Bool
+both_have len bytes others = nat_le len (length bytes) && nat_le len (length others)
+
+-- a copy is refused unless payloads are live at both addresses, and then unless both have so many bytes
+abbrev pub copy_answer : State → ℕ → ℕ → ℕ → Result (Unit {0}) CheckedError
+copy_answer s from to len = if_both_in_range (align_at s from) (align_at s to) (both_have len (bytes_at s from) (bytes_at s to))
+
 -- so many bytes from an offset on are among those of a payload
 abbrev pub fits : ℕ → ℕ → List ℕ → Bool
 fits offset len bytes = nat_le (offset + len) (length bytes)
@@ -36,17 +51,17 @@ size_refusal (Some align) size = if nat_le (size + align) (2 ^ 63) then None els
 abbrev pub refusal_at : State → ℕ → ℕ → Option CheckedError
 refusal_at s addr size = size_refusal (align_at s addr) size
 
--- the refusal that is told is the answer; where none is told, only room may lack
+-- a refusal that is returned is the answer; if none is returned, a refusal means that there is no room
 abbrev pub IsRefusedBy : {A : Type 0} → Option CheckedError → Result A CheckedError → Type 0
 IsRefusedBy (Some e) result = result ≡ Err e
 IsRefusedBy None result = IfErr result (λ e. e ≡ NoRoom)
 
--- the address that is answered, if there is one
+-- the address that is returned, if there is one
 abbrev pub addr_in : Result NonZeroUsize CheckedError → Option ℕ
 addr_in (Ok addr) = Some (at addr)
 addr_in (Err e) = None
 
--- the number that is answered, if there is one
+-- the number that is returned, if there is one
 abbrev pub taken : Result ℕ CheckedError → Option ℕ
 taken (Ok n) = Some n
 taken (Err e) = None
@@ -60,11 +75,12 @@ abbrev pub if_taken : Option ℕ → Result ℕ CheckedError
 if_taken None = Err TooShort
 if_taken (Some n) = Ok n
 
--- a range outside of the memory is refused, and one before the end of what was handed in last, and one of which no chunk is made; of
--- another it is told how many bytes are taken
+-- A range is refused if it is outside of the memory, begins before the end of the last pool, or holds no chunk. Otherwise
+-- the number of taken bytes is returned
 abbrev pub insert_answer : ℕ → Checked → Range → Result ℕ CheckedError
 insert_answer fllen v r =
-    if is_within (range_of v.heap.memory) r then (if nat_lt r.start (end_of v.pool) then Err NotBehind else if_taken (bytes_taken r.start (cut (max_pool_size fllen) (aligned_part r))))
+    if is_within (range_of v.heap.memory) r then
+    (if nat_lt r.start (end_of v.pool) then Err NotBehind else if_taken (bytes_taken r.start (cut (max_pool_size fllen) (aligned_part r))))
     else Err OutsideMemory
 
 -- a range that isn't empty ends at the address
@@ -76,8 +92,8 @@ abbrev pub if_appended : ℕ → Result ℕ CheckedError
 if_appended zero = Err TooShort
 if_appended (suc n) = Ok (suc n)
 
--- a range outside of the memory is refused, and one that doesn't begin at the end of what was handed in last, and one of which no byte is
--- taken; of another it is told how many bytes are
+-- A range is refused if it is outside of the memory, begins elsewhere than at the end of the last pool, or is too short. Otherwise
+-- the number of taken bytes is returned
 abbrev pub append_answer : ℕ → Checked → Range → Result ℕ CheckedError
 append_answer fllen v r =
     if is_within (range_of v.heap.memory) r then (if is_next v.pool r.start then if_appended (appended_bytes (max_pool_size fllen) r) else Err NotNext)

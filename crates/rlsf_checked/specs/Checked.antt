@@ -2,7 +2,7 @@
 use Rattle.rlsf_base.specs.declared.memory.range.Range.{Range}
 use Rattle.rlsf_tlsf.specs.Allocator.{Allocator}
 
--- the allocator, and what was handed in last: the range from its start to the end of its last chunk
+-- the allocator, and the last pool: the range from its start to the end of its last chunk
 pub record Checked : Type 0 where
   pub heap : Allocator
   pub pool : Range

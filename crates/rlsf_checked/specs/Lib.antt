@@ -1,3 +1,4 @@
+-- Definitions for the checked allocator. Read `Checked` and `Answers` first.
 pub mod Answers
 pub mod Checked
 pub mod Steps

@@ -1,4 +1,5 @@
--- What private functions' contracts and the type's invariant cite.
+-- Definitions for private functions and the type's invariant.
 pub mod Classes
 pub mod Marks
 pub mod Standing
+pub mod UsedBlocks

@@ -44,10 +44,10 @@ pub struct CheckedTlsf<
     const FLLEN: usize,
     const SLLEN: usize,
 > {
-    heap: Tlsf<FLBitmap, SLBitmap, FLLEN, SLLEN>,
-    marks: Marks,
-    // What was handed in last, up to the end of its last chunk.
-    pool: Range,
+    pub(crate) heap: Tlsf<FLBitmap, SLBitmap, FLLEN, SLLEN>,
+    pub(crate) marks: Marks,
+    // The last pool, up to the end of its last chunk.
+    pub(crate) pool: Range,
 }
 
 impl<FLBitmap: BitPattern, SLBitmap: BitPattern, const FLLEN: usize, const SLLEN: usize> Model
@@ -118,7 +118,7 @@ impl<
     }
 
     /// Returns the alignment of the payload at an address, or `None` if none is live there.
-    fn alignment(&self, addr: Addr) -> Option<usize>
+    pub(crate) fn alignment(&self, addr: Addr) -> Option<usize>
         ensures value { result ≡ align_at self.now.heap.state (at addr) }
         ensures power { IfSome result (λ align. IsPowerOfTwo align) }
     {

@@ -1,11 +1,17 @@
-//! An allocator that refuses what its caller may not do, in place of preconditions on its calls.
+//! An allocator that refuses each call that its caller may not make, in place of preconditions.
+//!
+//! Read `specs/Checked` (the allocator as contracts see it) and `specs/Answers` (when each error is returned) first, then `src/checked`, which
+//! has all calls. `src/error` has the errors. `src/marks` keeps a mark for each address at which a payload may be. `src/classes` and
+//! `src/lengths` test parameters and lengths. `specs/Steps` is for private functions.
 #![tactic(auto)]
 
+mod bytes;
 mod checked;
 mod classes;
 mod error;
 mod lengths;
 mod marks;
+mod removal;
 
 pub use checked::CheckedTlsf;
 pub use error::CheckedError;

@@ -51,6 +51,14 @@ impl Marks {
         let place = addr / 16 - self.first;
         self.bytes[place] = mark;
     }
+
+    /// Sets all marks to 0.
+    pub(crate) fn clear(&mut self)
+        ensures none { (a : ℕ) → mark_at self.new a ≡ 0 }
+        ensures places { (a : ℕ) → HasMark self.old a → HasMark self.new a }
+    {
+        self.bytes.fill(0);
+    }
 }
 
 /// Returns the mark of an alignment: one more than its logarithm.

@@ -1,5 +1,5 @@
 -- What is true of every checked allocator's fields.
-use Rattle.std.specs.Prelude.{◌≡◌, ℕ, ◌%◌, ◌<◌, ◌≤◌}
+use Rattle.std.specs.Prelude.{◌≡◌, ℕ, ◌%◌, ◌<◌, ◌≤◌, ◌⊎◌}
 use Rattle.rlsf_base.specs.declared.memory.range.Range.{Range}
 use Rattle.rlsf_base.specs.Range.{end_of}
 use Rattle.rlsf_base.specs.Rounding.{round32}
@@ -12,9 +12,9 @@ use Rattle.rlsf_tlsf.specs.Allocator.{Allocator, Stands}
 use Rattle.rlsf_checked.specs.declared.marks.Marks.{Marks}
 use Rattle.rlsf_checked.specs.Steps.Marks.{HasMark, mark_at, mark_of}
 
--- Memory and class table stand for the state. A mark is that of the payload's alignment exactly where a payload is live, and else 0; each
--- address at which one may be has a mark. What was handed in last lies in the memory, is a row of chunks, which has one if it isn't
--- empty, and no chunk ends behind it.
+-- Memory and class table represent the state. A mark is that of the payload's alignment exactly if a payload is live, and else 0. Each
+-- address at which a payload may be has a mark. The last pool lies in the memory and is contiguous chunks, at least one if it isn't
+-- empty. No chunk ends behind it, and none crosses its start.
 pub record IsChecked (fllen sllen : ℕ) (heap : Allocator) (marks : Marks) (pool : Range) : Type 0 where
   pub stands : Stands fllen sllen heap
   pub marked : (a : ℕ) → mark_at marks a ≡ mark_of (align_at heap.state a)
@@ -22,5 +22,6 @@ pub record IsChecked (fllen sllen : ℕ) (heap : Allocator) (marks : Marks) (poo
   pub low : heap.memory.start ≤ pool.start
   pub high : end_of pool ≤ end_of (range_of heap.memory)
   pub below : (c : Range) → IsIn c heap.state.chunks → end_of c ≤ end_of pool
+  pub apart : (c : Range) → IsIn c heap.state.chunks → (end_of c ≤ pool.start) ⊎ (pool.start ≤ c.start)
   pub room : 0 < pool.len → round32 pool.start < end_of pool
   pub row : IsRow heap.state (walked pool)

@@ -14,7 +14,8 @@ invariant_of-self g c =
 pub set-requires : goal.set-requires
 set-requires g c =
     let did = c.in-Some.ensures in
-    subst (HasMark c.self.inside.marks) (sym c.get.ensures.value) (has_mark c.self.invariant c.allocate.new.self (stands_after _ _ _ _ _ did.step) did.place (at c.in-Some.addr) c.args.layout.align did.live)
+    subst (HasMark c.self.inside.marks) (sym c.get.ensures.value)
+    (has_mark c.self.invariant c.allocate.new.self (stands_after _ _ _ _ _ did.step) did.place (at c.in-Some.addr) c.args.layout.align did.live)
 
 pub invariant_of-self-2 : goal.invariant_of-self-2
 invariant_of-self-2 g c =
@@ -23,8 +24,10 @@ invariant_of-self-2 g c =
     let marks = c.set.new.self in
     let addr = at c.in-Some.addr in
     let here : mark_at marks addr ≡ mark_of (align_at heap.state addr) =
-    subst (λ a. mark_at marks a ≡ suc (floor_log2 c.args.layout.align)) c.get.ensures.value (c.set.ensures.here ∙ c.mark_of.ensures ∙ ap (λ n. suc (floor_log2 n)) c.align.ensures.value) ∙ sym (ap mark_of did.live) in
-    marked_at c.self.invariant heap marks addr (stands_after _ _ _ _ _ did.step) did.place did.chunks c.set.ensures.places here (λ a apart. c.set.ensures.others a (λ same. apart (same ∙ c.get.ensures.value))) did.aligns
+    subst (λ a. mark_at marks a ≡ suc (floor_log2 c.args.layout.align)) c.get.ensures.value
+    (c.set.ensures.here ∙ c.mark_of.ensures ∙ ap (λ n. suc (floor_log2 n)) c.align.ensures.value) ∙ sym (ap mark_of did.live) in
+    marked_at c.self.invariant heap marks addr (stands_after _ _ _ _ _ did.step) did.place did.chunks c.set.ensures.places here
+    (λ a apart. c.set.ensures.others a (λ same. apart (same ∙ c.get.ensures.value))) did.aligns
 
 pub returns-in_default : goal.returns-in_default
 returns-in_default g c = record {

@@ -14,7 +14,8 @@ is_next-requires g c = pool_fits c.self.invariant
 
 pub append_free_block_ptr-taken-requires : goal.append_free_block_ptr-taken-requires
 append_free_block_ptr-taken-requires g c =
-    let within : true ≡ is_within (range_of c.self.inside.heap.memory) c.args.range = sym c.if-not-lies_in.false ∙ c.lies_in.ensures ∙ ap (λ m. is_within (range_of m) c.args.range) c.memory_ref.ensures.memory in
+    let within : true ≡ is_within (range_of c.self.inside.heap.memory) c.args.range =
+    sym c.if-not-lies_in.false ∙ c.lies_in.ensures ∙ ap (λ m. is_within (range_of m) c.args.range) c.memory_ref.ensures.memory in
     let lies = within_is (range_of c.self.inside.heap.memory) c.args.range within in
     let is : true ≡ is_next c.self.inside.pool c.args.range.start = sym c.if-not-is_next.false ∙ c.is_next.ensures in
     let (some, ends) = next_is c.self.inside.pool c.args.range is in
@@ -22,7 +23,8 @@ append_free_block_ptr-taken-requires g c =
 
 pub invariant_of-self : goal.invariant_of-self
 invariant_of-self g c =
-    let within : true ≡ is_within (range_of c.self.inside.heap.memory) c.args.range = sym c.if-not-lies_in.false ∙ c.lies_in.ensures ∙ ap (λ m. is_within (range_of m) c.args.range) c.memory_ref.ensures.memory in
+    let within : true ≡ is_within (range_of c.self.inside.heap.memory) c.args.range =
+    sym c.if-not-lies_in.false ∙ c.lies_in.ensures ∙ ap (λ m. is_within (range_of m) c.args.range) c.memory_ref.ensures.memory in
     let lies = within_is (range_of c.self.inside.heap.memory) c.args.range within in
     let is : true ≡ is_next c.self.inside.pool c.args.range.start = sym c.if-not-is_next.false ∙ c.is_next.ensures in
     let (some, ends) = next_is c.self.inside.pool c.args.range is in
@@ -31,11 +33,13 @@ invariant_of-self g c =
     let did = c.append_free_block_ptr-taken.ensures in
     let step : Appends g.row.FLLEN c.self.inside.heap.state c.args.range n heap.state = step_of _ _ _ _ _ did.step in
     let same : c.self.inside.pool.len + n ≡ c.self.inside.pool.len = omega (arith, c.if-taken-eq0.true) in
-    subst (λ l. IsChecked g.row.FLLEN g.row.SLLEN heap c.self.inside.marks (range_at c.self.inside.pool.start l)) same (handed_on c.self.invariant c.args.range some ends lies heap (stands_after _ _ _ _ _ did.step) did.place did.aligns n step)
+    subst (λ l. IsChecked g.row.FLLEN g.row.SLLEN heap c.self.inside.marks (range_at c.self.inside.pool.start l)) same
+    (handed_on c.self.invariant c.args.range some ends lies heap (stands_after _ _ _ _ _ did.step) did.place did.aligns n step)
 
 pub overflow_add-self : goal.overflow_add-self
 overflow_add-self g c =
-    let within : true ≡ is_within (range_of c.self.inside.heap.memory) c.args.range = sym c.if-not-lies_in.false ∙ c.lies_in.ensures ∙ ap (λ m. is_within (range_of m) c.args.range) c.memory_ref.ensures.memory in
+    let within : true ≡ is_within (range_of c.self.inside.heap.memory) c.args.range =
+    sym c.if-not-lies_in.false ∙ c.lies_in.ensures ∙ ap (λ m. is_within (range_of m) c.args.range) c.memory_ref.ensures.memory in
     let lies = within_is (range_of c.self.inside.heap.memory) c.args.range within in
     let is : true ≡ is_next c.self.inside.pool c.args.range.start = sym c.if-not-is_next.false ∙ c.is_next.ensures in
     let (some, ends) = next_is c.self.inside.pool c.args.range is in
@@ -48,7 +52,8 @@ overflow_add-self g c =
 
 pub invariant_of-self-2 : goal.invariant_of-self-2
 invariant_of-self-2 g c =
-    let within : true ≡ is_within (range_of c.self.inside.heap.memory) c.args.range = sym c.if-not-lies_in.false ∙ c.lies_in.ensures ∙ ap (λ m. is_within (range_of m) c.args.range) c.memory_ref.ensures.memory in
+    let within : true ≡ is_within (range_of c.self.inside.heap.memory) c.args.range =
+    sym c.if-not-lies_in.false ∙ c.lies_in.ensures ∙ ap (λ m. is_within (range_of m) c.args.range) c.memory_ref.ensures.memory in
     let lies = within_is (range_of c.self.inside.heap.memory) c.args.range within in
     let is : true ≡ is_next c.self.inside.pool c.args.range.start = sym c.if-not-is_next.false ∙ c.is_next.ensures in
     let (some, ends) = next_is c.self.inside.pool c.args.range is in
@@ -61,7 +66,8 @@ invariant_of-self-2 g c =
 pub returns-then-not-lies_in : goal.returns-then-not-lies_in
 returns-then-not-lies_in g c = record {
   answer = rw (← c.self.view_is) (
-      let outside : false ≡ is_within (range_of c.self.inside.heap.memory) c.args.range = sym c.if-not-lies_in.true ∙ c.lies_in.ensures ∙ ap (λ m. is_within (range_of m) c.args.range) c.memory_ref.ensures.memory in
+      let outside : false ≡ is_within (range_of c.self.inside.heap.memory) c.args.range =
+      sym c.if-not-lies_in.true ∙ c.lies_in.ensures ∙ ap (λ m. is_within (range_of m) c.args.range) c.memory_ref.ensures.memory in
       sym (none_outside g.row.FLLEN (checked c.self.inside.heap c.self.inside.pool) c.args.range outside));
   step = search rules;
   pool = search rules;
@@ -80,7 +86,8 @@ returns-then-not-lies_in g c = record {
 pub returns-then-not-is_next : goal.returns-then-not-is_next
 returns-then-not-is_next g c = record {
   answer = rw (← c.self.view_is) (
-      let within : true ≡ is_within (range_of c.self.inside.heap.memory) c.args.range = sym c.if-not-lies_in.false ∙ c.lies_in.ensures ∙ ap (λ m. is_within (range_of m) c.args.range) c.memory_ref.ensures.memory in
+      let within : true ≡ is_within (range_of c.self.inside.heap.memory) c.args.range =
+      sym c.if-not-lies_in.false ∙ c.lies_in.ensures ∙ ap (λ m. is_within (range_of m) c.args.range) c.memory_ref.ensures.memory in
       let apart : false ≡ is_next c.self.inside.pool c.args.range.start = sym c.if-not-is_next.true ∙ c.is_next.ensures in
       sym (none_apart g.row.FLLEN (checked c.self.inside.heap c.self.inside.pool) c.args.range within apart));
   step = search rules;
@@ -100,7 +107,8 @@ returns-then-not-is_next g c = record {
 pub returns-then-taken-eq0 : goal.returns-then-taken-eq0
 returns-then-taken-eq0 g c = record {
   answer = rw (← c.self.view_is) (
-      let within : true ≡ is_within (range_of c.self.inside.heap.memory) c.args.range = sym c.if-not-lies_in.false ∙ c.lies_in.ensures ∙ ap (λ m. is_within (range_of m) c.args.range) c.memory_ref.ensures.memory in
+      let within : true ≡ is_within (range_of c.self.inside.heap.memory) c.args.range =
+      sym c.if-not-lies_in.false ∙ c.lies_in.ensures ∙ ap (λ m. is_within (range_of m) c.args.range) c.memory_ref.ensures.memory in
       let lies = within_is (range_of c.self.inside.heap.memory) c.args.range within in
       let is : true ≡ is_next c.self.inside.pool c.args.range.start = sym c.if-not-is_next.false ∙ c.is_next.ensures in
       let (some, ends) = next_is c.self.inside.pool c.args.range is in
@@ -115,8 +123,11 @@ returns-then-taken-eq0 g c = record {
       let heap = c.append_free_block_ptr-taken.new.self in
       let n = c.append_free_block_ptr-taken.result in
       let did = c.append_free_block_ptr-taken.ensures in
-      let step : Appends g.row.FLLEN c.self.inside.heap.state c.args.range n heap.state = step_of _ _ _ _ _ did.step in
-      (none_appended g.row.FLLEN c.self.inside.heap.state heap.state c.args.range (subst (λ k. Appends g.row.FLLEN c.self.inside.heap.state c.args.range k heap.state) c.if-taken-eq0.true step), refl));
+      let step : Appends g.row.FLLEN c.self.inside.heap.state c.args.range n heap.state = step_of _ _ _ _ _ did.step in (
+        none_appended g.row.FLLEN c.self.inside.heap.state heap.state c.args.range
+            (subst (λ k. Appends g.row.FLLEN c.self.inside.heap.state c.args.range k heap.state) c.if-taken-eq0.true step),
+        refl,
+      ));
   refused = rw (← c.self.view_is) (c.append_free_block_ptr-taken.ensures.unchanged c.if-taken-eq0.true);
   aligns = rw (← c.self.view_is) c.append_free_block_ptr-taken.ensures.aligns;
   bytes = rw (← c.self.view_is) c.append_free_block_ptr-taken.ensures.bytes;
@@ -131,7 +142,8 @@ returns-then-taken-eq0 g c = record {
 pub returns : goal.returns
 returns g c = record {
   answer = rw (← c.self.view_is) (
-      let within : true ≡ is_within (range_of c.self.inside.heap.memory) c.args.range = sym c.if-not-lies_in.false ∙ c.lies_in.ensures ∙ ap (λ m. is_within (range_of m) c.args.range) c.memory_ref.ensures.memory in
+      let within : true ≡ is_within (range_of c.self.inside.heap.memory) c.args.range =
+      sym c.if-not-lies_in.false ∙ c.lies_in.ensures ∙ ap (λ m. is_within (range_of m) c.args.range) c.memory_ref.ensures.memory in
       let lies = within_is (range_of c.self.inside.heap.memory) c.args.range within in
       let is : true ≡ is_next c.self.inside.pool c.args.range.start = sym c.if-not-is_next.false ∙ c.is_next.ensures in
       let (some, ends) = next_is c.self.inside.pool c.args.range is in
@@ -139,7 +151,8 @@ returns g c = record {
       let n = c.append_free_block_ptr-taken.result in
       let did = c.append_free_block_ptr-taken.ensures in
       let step : Appends g.row.FLLEN c.self.inside.heap.state c.args.range n heap.state = step_of _ _ _ _ _ did.step in
-      sym (next_answer g.row.FLLEN (checked c.self.inside.heap c.self.inside.pool) c.args.range within is ∙ ap if_appended (sym step.answer) ∙ some_appended n c.if-taken-eq0.false));
+      sym (next_answer g.row.FLLEN (checked c.self.inside.heap c.self.inside.pool) c.args.range within is ∙ ap if_appended (sym step.answer)
+      ∙ some_appended n c.if-taken-eq0.false));
   step = rw (← c.self.view_is) c.append_free_block_ptr-taken.ensures.step;
   pool = rw (← c.self.view_is) refl;
   same = search rules;

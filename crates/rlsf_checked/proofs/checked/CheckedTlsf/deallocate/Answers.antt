@@ -9,7 +9,8 @@ use Rattle.rlsf_checked.proofs.checked.CheckedTlsf.deallocate.Goals as goal
 pub set-requires : goal.set-requires
 set-requires g c =
     let live : align_at c.self.inside.heap.state (at c.args.addr) ≡ Some c.in-Some.align = sym (rw (← c.self.view_is) at c.in-Some.ensures.value) in
-    subst (HasMark c.self.inside.marks) (sym c.get.ensures.value) (has_mark c.self.invariant c.self.inside.heap c.self.invariant.stands (refl, refl, refl, λ none. none) (at c.args.addr) c.in-Some.align live)
+    subst (HasMark c.self.inside.marks) (sym c.get.ensures.value)
+    (has_mark c.self.invariant c.self.inside.heap c.self.invariant.stands (refl, refl, refl, λ none. none) (at c.args.addr) c.in-Some.align live)
 
 pub invariant_of-self : goal.invariant_of-self
 invariant_of-self g c =
@@ -17,8 +18,10 @@ invariant_of-self g c =
     let heap = c.deallocate.new.self in
     let marks = c.set.new.self in
     let addr = at c.args.addr in
-    let here : mark_at marks addr ≡ mark_of (align_at heap.state addr) = subst (λ a. mark_at marks a ≡ 0) c.get.ensures.value c.set.ensures.here ∙ sym (ap mark_of did.gone) in
-    marked_at c.self.invariant heap marks addr (stands_after _ _ _ _ _ did.step) did.place did.chunks c.set.ensures.places here (λ a apart. c.set.ensures.others a (λ same. apart (same ∙ c.get.ensures.value))) did.aligns
+    let here : mark_at marks addr ≡ mark_of (align_at heap.state addr) =
+    subst (λ a. mark_at marks a ≡ 0) c.get.ensures.value c.set.ensures.here ∙ sym (ap mark_of did.gone) in
+    marked_at c.self.invariant heap marks addr (stands_after _ _ _ _ _ did.step) did.place did.chunks c.set.ensures.places here
+    (λ a apart. c.set.ensures.others a (λ same. apart (same ∙ c.get.ensures.value))) did.aligns
 
 pub returns-in-Some : goal.returns-in-Some
 returns-in-Some g c = record {

@@ -17,7 +17,8 @@ overflow_add-self-inside g c = record { fits = pool_fits c.self.invariant }
 
 pub insert_free_block_ptr-requires : goal.insert_free_block_ptr-requires
 insert_free_block_ptr-requires g c =
-    let within : true ≡ is_within (range_of c.self.inside.heap.memory) c.args.range = sym c.if-not-lies_in.false ∙ c.lies_in.ensures ∙ ap (λ m. is_within (range_of m) c.args.range) c.memory_ref.ensures.memory in
+    let within : true ≡ is_within (range_of c.self.inside.heap.memory) c.args.range =
+    sym c.if-not-lies_in.false ∙ c.lies_in.ensures ∙ ap (λ m. is_within (range_of m) c.args.range) c.memory_ref.ensures.memory in
     let behind : end_of c.self.inside.pool ≤ c.args.range.start = omega (arith, c.if-range-self.false) in
     (omega arith, (within_is (range_of c.self.inside.heap.memory) c.args.range within, untouched c.self.invariant c.args.range behind))
 
@@ -32,16 +33,19 @@ pub invariant_of-self-2 : goal.invariant_of-self-2
 invariant_of-self-2 g c =
     let did = c.in-Some.ensures in
     let heap = c.insert_free_block_ptr.new.self in
-    let within : true ≡ is_within (range_of c.self.inside.heap.memory) c.args.range = sym c.if-not-lies_in.false ∙ c.lies_in.ensures ∙ ap (λ m. is_within (range_of m) c.args.range) c.memory_ref.ensures.memory in
+    let within : true ≡ is_within (range_of c.self.inside.heap.memory) c.args.range =
+    sym c.if-not-lies_in.false ∙ c.lies_in.ensures ∙ ap (λ m. is_within (range_of m) c.args.range) c.memory_ref.ensures.memory in
     let behind : end_of c.self.inside.pool ≤ c.args.range.start = omega (arith, c.if-range-self.false) in
     let step : Inserts g.row.FLLEN c.self.inside.heap.state c.args.range (Some (at c.in-Some.taken)) heap.state = step_of _ _ _ _ _ did.step in
     subst (λ n. IsChecked g.row.FLLEN g.row.SLLEN heap c.self.inside.marks (range_at c.args.range.start n)) (sym c.get.ensures.value)
-    (handed_in c.self.invariant c.args.range behind (within_is (range_of c.self.inside.heap.memory) c.args.range within) heap (stands_after _ _ _ _ _ did.step) did.place did.aligns (at c.in-Some.taken) step)
+    (handed_in c.self.invariant c.args.range behind (within_is (range_of c.self.inside.heap.memory) c.args.range within) heap (stands_after _ _ _ _ _ did.step) did.place did.aligns
+    (at c.in-Some.taken) step)
 
 pub returns-then-not-lies_in : goal.returns-then-not-lies_in
 returns-then-not-lies_in g c = record {
   answer = rw (← c.self.view_is) (
-      let outside : false ≡ is_within (range_of c.self.inside.heap.memory) c.args.range = sym c.if-not-lies_in.true ∙ c.lies_in.ensures ∙ ap (λ m. is_within (range_of m) c.args.range) c.memory_ref.ensures.memory in
+      let outside : false ≡ is_within (range_of c.self.inside.heap.memory) c.args.range =
+      sym c.if-not-lies_in.true ∙ c.lies_in.ensures ∙ ap (λ m. is_within (range_of m) c.args.range) c.memory_ref.ensures.memory in
       sym (outside_answer g.row.FLLEN (checked c.self.inside.heap c.self.inside.pool) c.args.range outside));
   step = search rules;
   pool = search rules;
@@ -61,7 +65,8 @@ returns-then-not-lies_in g c = record {
 pub returns-then-range-self : goal.returns-then-range-self
 returns-then-range-self g c = record {
   answer = rw (← c.self.view_is) (
-      let within : true ≡ is_within (range_of c.self.inside.heap.memory) c.args.range = sym c.if-not-lies_in.false ∙ c.lies_in.ensures ∙ ap (λ m. is_within (range_of m) c.args.range) c.memory_ref.ensures.memory in
+      let within : true ≡ is_within (range_of c.self.inside.heap.memory) c.args.range =
+      sym c.if-not-lies_in.false ∙ c.lies_in.ensures ∙ ap (λ m. is_within (range_of m) c.args.range) c.memory_ref.ensures.memory in
       sym (before_answer g.row.FLLEN (checked c.self.inside.heap c.self.inside.pool) c.args.range within c.if-range-self.true));
   step = search rules;
   pool = search rules;
@@ -81,13 +86,18 @@ returns-then-range-self g c = record {
 pub returns-in_default : goal.returns-in_default
 returns-in_default g c = record {
   answer = rw (← c.self.view_is) (
-      let within : true ≡ is_within (range_of c.self.inside.heap.memory) c.args.range = sym c.if-not-lies_in.false ∙ c.lies_in.ensures ∙ ap (λ m. is_within (range_of m) c.args.range) c.memory_ref.ensures.memory in
+      let within : true ≡ is_within (range_of c.self.inside.heap.memory) c.args.range =
+      sym c.if-not-lies_in.false ∙ c.lies_in.ensures ∙ ap (λ m. is_within (range_of m) c.args.range) c.memory_ref.ensures.memory in
       let behind : end_of c.self.inside.pool ≤ c.args.range.start = omega (arith, c.if-range-self.false) in
       let step : Inserts g.row.FLLEN c.self.inside.heap.state c.args.range None c.insert_free_block_ptr.new.self.state = step_of _ _ _ _ _ c.in_default.ensures.step in
       sym (behind_answer g.row.FLLEN (checked c.self.inside.heap c.self.inside.pool) c.args.range within behind ∙ ap if_taken (sym step.answer)));
   step = search rules;
   pool = search rules;
-  same = rw (← c.self.view_is) (none_taken g.row.FLLEN c.self.inside.heap.state c.insert_free_block_ptr.new.self.state c.args.range (step_of _ _ _ _ _ c.in_default.ensures.step), refl);
+  same =
+      rw (← c.self.view_is) (
+        none_taken g.row.FLLEN c.self.inside.heap.state c.insert_free_block_ptr.new.self.state c.args.range (step_of _ _ _ _ _ c.in_default.ensures.step),
+        refl,
+      );
   refused = rw (← c.self.view_is) c.in_default.ensures.refused;
   aligns = rw (← c.self.view_is) c.in_default.ensures.aligns;
   bytes = rw (← c.self.view_is) c.in_default.ensures.bytes;
@@ -103,11 +113,15 @@ returns-in_default g c = record {
 pub returns : goal.returns
 returns g c = record {
   answer = rw (← c.self.view_is) (
-      let within : true ≡ is_within (range_of c.self.inside.heap.memory) c.args.range = sym c.if-not-lies_in.false ∙ c.lies_in.ensures ∙ ap (λ m. is_within (range_of m) c.args.range) c.memory_ref.ensures.memory in
+      let within : true ≡ is_within (range_of c.self.inside.heap.memory) c.args.range =
+      sym c.if-not-lies_in.false ∙ c.lies_in.ensures ∙ ap (λ m. is_within (range_of m) c.args.range) c.memory_ref.ensures.memory in
       let behind : end_of c.self.inside.pool ≤ c.args.range.start = omega (arith, c.if-range-self.false) in
-      let step : Inserts g.row.FLLEN c.self.inside.heap.state c.args.range (Some (at c.in-Some.taken)) c.insert_free_block_ptr.new.self.state = step_of _ _ _ _ _ c.in-Some.ensures.step in
+      let step : Inserts g.row.FLLEN c.self.inside.heap.state c.args.range (Some (at c.in-Some.taken)) c.insert_free_block_ptr.new.self.state =
+      step_of _ _ _ _ _ c.in-Some.ensures.step in
       ap Ok c.get-2.ensures.value ∙ sym (behind_answer g.row.FLLEN (checked c.self.inside.heap c.self.inside.pool) c.args.range within behind ∙ ap if_taken (sym step.answer)));
-  step = subst (λ n. Steps g.row.FLLEN g.row.SLLEN c.args.self.now.heap c.insert_free_block_ptr.new.self (Inserts g.row.FLLEN c.args.self.now.heap.state c.args.range (Some n))) (sym c.get-2.ensures.value)
+  step =
+      subst (λ n. Steps g.row.FLLEN g.row.SLLEN c.args.self.now.heap c.insert_free_block_ptr.new.self (Inserts g.row.FLLEN c.args.self.now.heap.state c.args.range (Some n)))
+      (sym c.get-2.ensures.value)
       (rw (← c.self.view_is) c.in-Some.ensures.step);
   pool = search rules;
   same = search rules;

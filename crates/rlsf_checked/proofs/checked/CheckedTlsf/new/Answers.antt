@@ -11,7 +11,9 @@ pub invariant_of-result : goal.invariant_of-result
 invariant_of-result g c =
     let heap = c.new-2.result in
     let marks = c.in-Some.marks in
-    let covers = subst (λ (x : Space). (a : ℕ) → a % 16 ≡ 0 → x.start ≤ a → a ≤ end_of (range_of x) → HasMark marks a) (sym c.new-2.ensures.memory) c.in-Some.ensures.covers in
+    let covers =
+    subst (λ (x : Space). (a : ℕ) → a % 16 ≡ 0 → x.start ≤ a → a ≤ end_of (range_of x) → HasMark marks a) (sym c.new-2.ensures.memory)
+    c.in-Some.ensures.covers in
     subst (λ n. IsChecked g.row.FLLEN g.row.SLLEN heap marks (range_at n 0)) (ap (λ (x : Space). x.start) c.new-2.ensures.memory ∙ sym c.start.ensures.value)
     (made heap marks c.new-2.ensures.stands c.new-2.ensures.state c.in-Some.ensures.none covers)
 

@@ -21,13 +21,15 @@ invariant_of-self g c =
 pub set-requires : goal.set-requires
 set-requires g c =
     let live : align_at c.self.inside.heap.state (at c.args.addr) ≡ Some c.in-Some.align = sym (rw (← c.self.view_is) at c.in-Some.ensures.value) in
-    subst (HasMark c.self.inside.marks) (sym c.get-left.ensures.value) (has_mark c.self.invariant c.self.inside.heap c.self.invariant.stands (refl, refl, refl, λ none. none) (at c.args.addr) c.in-Some.align live)
+    subst (HasMark c.self.inside.marks) (sym c.get-left.ensures.value)
+    (has_mark c.self.invariant c.self.inside.heap c.self.invariant.stands (refl, refl, refl, λ none. none) (at c.args.addr) c.in-Some.align live)
 
 pub set-requires-2 : goal.set-requires-2
 set-requires-2 g c =
     let did = c.in-Some-reallocate.ensures in
     c.set.ensures.places c.get.result
-    (subst (HasMark c.self.inside.marks) (sym c.get.ensures.value) (has_mark c.self.invariant c.reallocate.new.self (stands_after _ _ _ _ _ did.step) did.place (at c.in-Some-reallocate.moved) c.in-Ok.layout.align did.live))
+    (subst (HasMark c.self.inside.marks) (sym c.get.ensures.value)
+    (has_mark c.self.invariant c.reallocate.new.self (stands_after _ _ _ _ _ did.step) did.place (at c.in-Some-reallocate.moved) c.in-Ok.layout.align did.live))
 
 pub invariant_of-self-2 : goal.invariant_of-self-2
 invariant_of-self-2 g c =
@@ -40,9 +42,12 @@ invariant_of-self-2 g c =
     let step : Reallocates g.row.SLLEN c.self.inside.heap.state addr layout.size (Some to) heap.state = step_of _ _ _ _ _ did.step in
     let cleared : mark_at c.set.new.self addr ≡ 0 = subst (λ a. mark_at c.set.new.self a ≡ 0) c.get-left.ensures.value c.set.ensures.here in
     let set : mark_at c.set-2.new.self to ≡ suc (floor_log2 layout.align) =
-    subst (λ a. mark_at c.set-2.new.self a ≡ suc (floor_log2 layout.align)) c.get.ensures.value (c.set-2.ensures.here ∙ c.mark_of-mark.ensures ∙ ap (λ n. suc (floor_log2 n)) (sym c.in-Ok.ensures.layout.1)) in
-    marked_moved c.self.invariant heap c.set.new.self c.set-2.new.self addr to layout.align (stands_after _ _ _ _ _ did.step) did.place did.chunks (λ a has. c.set-2.ensures.places a (c.set.ensures.places a has))
-    (λ a apart. c.set.ensures.others a (λ same. apart (same ∙ c.get-left.ensures.value))) cleared (λ a apart. c.set-2.ensures.others a (λ same. apart (same ∙ c.get.ensures.value))) set did.live
+    subst (λ a. mark_at c.set-2.new.self a ≡ suc (floor_log2 layout.align)) c.get.ensures.value
+    (c.set-2.ensures.here ∙ c.mark_of-mark.ensures ∙ ap (λ n. suc (floor_log2 n)) (sym c.in-Ok.ensures.layout.1)) in
+    marked_moved c.self.invariant heap c.set.new.self c.set-2.new.self addr to layout.align (stands_after _ _ _ _ _ did.step) did.place did.chunks
+    (λ a has. c.set-2.ensures.places a (c.set.ensures.places a has))
+    (λ a apart. c.set.ensures.others a (λ same. apart (same ∙ c.get-left.ensures.value))) cleared
+    (λ a apart. c.set-2.ensures.others a (λ same. apart (same ∙ c.get.ensures.value))) set did.live
     (left_behind g.row.FLLEN g.row.SLLEN c.self.inside.heap c.self.invariant.stands heap.state addr c.in-Some.align layout.size to live step) did.aligns
 
 pub returns-in_default : goal.returns-in_default
@@ -74,7 +79,8 @@ pub returns-in_default-from_size_align : goal.returns-in_default-from_size_align
 returns-in_default-from_size_align g c = record {
   answer = past_is_refused c.args.size c.in-Some.align _ c.in-Some.ensures.value c.in-Some.ensures.power (λ is. false≢true (c.in_default-from_size_align.ensures.succeeds.1 is));
   step = λ fine.
-      absurd (past_is_not_fine c.args.size c.in-Some.align _ c.in-Some.ensures.value c.in-Some.ensures.power (λ is. false≢true (c.in_default-from_size_align.ensures.succeeds.1 is)) fine);
+      absurd (past_is_not_fine c.args.size c.in-Some.align _ c.in-Some.ensures.value c.in-Some.ensures.power
+      (λ is. false≢true (c.in_default-from_size_align.ensures.succeeds.1 is)) fine);
   live = search rules;
   sized = search rules;
   few = search rules;
@@ -84,7 +90,8 @@ returns-in_default-from_size_align g c = record {
   aligns = search rules;
   bytes = search rules;
   room = λ count most_size align sized few short fits fine.
-      absurd (past_is_not_fine c.args.size c.in-Some.align _ c.in-Some.ensures.value c.in-Some.ensures.power (λ is. false≢true (c.in_default-from_size_align.ensures.succeeds.1 is)) fine);
+      absurd (past_is_not_fine c.args.size c.in-Some.align _ c.in-Some.ensures.value c.in-Some.ensures.power
+      (λ is. false≢true (c.in_default-from_size_align.ensures.succeeds.1 is)) fine);
   count = rw (← c.self.view_is) refl;
   bounds = rw (← c.self.view_is) (λ count most_size align sized short fits. sized);
   same = search rules;
@@ -103,7 +110,9 @@ returns-in_default-reallocate g c = record {
       let (size, align) = c.in-Ok.ensures.layout in
       subst (λ o. IsRefusedBy {A = NonZeroUsize} (size_refusal o c.args.size) (Err NoRoom)) c.in-Some.ensures.value
       (subst (λ o. IsRefusedBy {A = NonZeroUsize} o (Err NoRoom)) (sym (size_fits c.in-Ok.layout c.args.size c.in-Some.align size align)) refl);
-  step = λ fits. subst (λ n. Steps g.row.FLLEN g.row.SLLEN c.args.self.now.heap c.reallocate.new.self (Reallocates g.row.SLLEN c.args.self.now.heap.state (at c.args.addr) n None)) c.in-Ok.ensures.layout.0
+  step =
+      λ fits. subst (λ n. Steps g.row.FLLEN g.row.SLLEN c.args.self.now.heap c.reallocate.new.self (Reallocates g.row.SLLEN c.args.self.now.heap.state (at c.args.addr) n None))
+      c.in-Ok.ensures.layout.0
       (rw (← c.self.view_is) c.in_default-reallocate.ensures.step);
   live = search rules;
   sized = search rules;
@@ -140,7 +149,9 @@ returns g c = record {
       let (size, align) = c.in-Ok.ensures.layout in
       subst (λ o. IsRefusedBy (size_refusal o c.args.size) (Ok c.in-Some-reallocate.moved)) c.in-Some.ensures.value
       (subst (λ o. IsRefusedBy o (Ok c.in-Some-reallocate.moved)) (sym (size_fits c.in-Ok.layout c.args.size c.in-Some.align size align)) tt);
-  step = λ fits. subst (λ n. Steps g.row.FLLEN g.row.SLLEN c.args.self.now.heap c.reallocate.new.self (Reallocates g.row.SLLEN c.args.self.now.heap.state (at c.args.addr) n (Some (at c.in-Some-reallocate.moved)))) c.in-Ok.ensures.layout.0
+  step =
+      λ fits. subst (λ n. Steps g.row.FLLEN g.row.SLLEN c.args.self.now.heap c.reallocate.new.self
+      (Reallocates g.row.SLLEN c.args.self.now.heap.state (at c.args.addr) n (Some (at c.in-Some-reallocate.moved)))) c.in-Ok.ensures.layout.0
       (rw (← c.self.view_is) c.in-Some-reallocate.ensures.step);
   live = c.in-Some-reallocate.ensures.live ∙ ap Some c.in-Ok.ensures.layout.1 ∙ c.in-Some.ensures.value;
   sized = subst (λ n. n ≤ length (bytes_at c.reallocate.new.self.state (at c.in-Some-reallocate.moved))) c.in-Ok.ensures.layout.0 c.in-Some-reallocate.ensures.sized;

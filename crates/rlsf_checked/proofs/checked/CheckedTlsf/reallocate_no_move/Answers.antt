@@ -13,14 +13,15 @@ use Rattle.rlsf_checked.proofs.checked.CheckedTlsf.reallocate_no_move.Given as g
 use Rattle.rlsf_checked.proofs.checked.CheckedTlsf.reallocate_no_move.Goals as goal
 use Rattle.rlsf_checked.proofs.checked.CheckedTlsf.reallocate_no_move.Goals.{After-reallocate_no_move}
 
--- the machine made the step for the size
+-- the reference model made the step for the size
 did_step : (g : given.Over) (c : After-reallocate_no_move g) (answer : Option NonZeroUsize) → c.reallocate_no_move.result ≡ answer
     → Steps g.row.FLLEN g.row.SLLEN c.self.inside.heap c.reallocate_no_move.new.self (ReallocatesWithoutMove c.self.inside.heap.state (at c.args.addr) c.args.size (reply answer))
 did_step g c answer is =
     let heap = c.self.inside.heap in
     let new = c.reallocate_no_move.new.self in
     subst (λ r. Steps g.row.FLLEN g.row.SLLEN heap new (ReallocatesWithoutMove heap.state (at c.args.addr) c.args.size (reply r))) is
-    (subst (λ n. Steps g.row.FLLEN g.row.SLLEN heap new (ReallocatesWithoutMove heap.state (at c.args.addr) n (reply c.reallocate_no_move.result))) c.in-Ok.ensures.layout.0 c.reallocate_no_move.ensures.step)
+    (subst (λ n. Steps g.row.FLLEN g.row.SLLEN heap new (ReallocatesWithoutMove heap.state (at c.args.addr) n (reply c.reallocate_no_move.result))) c.in-Ok.ensures.layout.0
+    c.reallocate_no_move.ensures.step)
 
 pub invariant_of-self : goal.invariant_of-self
 invariant_of-self g c =
@@ -57,7 +58,8 @@ pub returns-in_default-from_size_align : goal.returns-in_default-from_size_align
 returns-in_default-from_size_align g c = record {
   answer = past_is_refused c.args.size c.in-Some.align _ c.in-Some.ensures.value c.in-Some.ensures.power (λ is. false≢true (c.in_default-from_size_align.ensures.succeeds.1 is));
   step = λ fine.
-      absurd (past_is_not_fine c.args.size c.in-Some.align _ c.in-Some.ensures.value c.in-Some.ensures.power (λ is. false≢true (c.in_default-from_size_align.ensures.succeeds.1 is)) fine);
+      absurd (past_is_not_fine c.args.size c.in-Some.align _ c.in-Some.ensures.value c.in-Some.ensures.power
+      (λ is. false≢true (c.in_default-from_size_align.ensures.succeeds.1 is)) fine);
   there = search rules;
   sized = search rules;
   few = search rules;

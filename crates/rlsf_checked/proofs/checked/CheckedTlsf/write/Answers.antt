@@ -56,7 +56,8 @@ returns g c = record {
   step = rw (← c.self.view_is) (
       let heap = c.self.inside.heap in
       let addr = at c.args.addr in
-      subst (λ w. Steps g.row.FLLEN g.row.SLLEN heap (written heap addr (length c.payload_mut.result.now) c.write_at.new.payload) (Fills heap.state addr w)) (over g (goal.at.returns g c).After-write_at)
+      subst (λ w. Steps g.row.FLLEN g.row.SLLEN heap (written heap addr (length c.payload_mut.result.now) c.write_at.new.payload) (Fills heap.state addr w))
+      (over g (goal.at.returns g c).After-write_at)
       (c.payload_mut.ensures.meaning c.write_at.new.payload c.write_at.ensures.len));
   written = rw (← c.self.view_is) (c.payload_mut.ensures.filled c.write_at.new.payload c.write_at.ensures.len ∙ over g (goal.at.returns g c).After-write_at);
   aligns = rw (← c.self.view_is) (c.payload_mut.ensures.aligns c.write_at.new.payload);

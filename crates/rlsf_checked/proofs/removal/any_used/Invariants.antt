@@ -1,0 +1,7 @@
+-- One of the blocks is used exactly if one of those that are left is.
+use Rattle.std.proofs.Common.{◌≡◌}
+use Rattle.rlsf_checked.specs.Steps.UsedBlocks.{has_used}
+use Rattle.rlsf_checked.proofs.removal.any_used.Given as goal
+
+abbrev pub invariant-loop-block : goal.invariant-loop-block
+invariant-loop-block l = goal.iterator-loop-block.can_next l.blocks × goal.iterator-loop-block.is_finite l.blocks × (has_used l.blocks ≡ has_used l.initial.blocks)

@@ -1,0 +1,99 @@
+//! The bytes of payloads that the allocator itself writes.
+
+ghost use Rattle.std.specs.Prelude.{◌≡◌, ◌≢◌, ◌≤◌, ◌+◌, ◌&&◌, ℕ, length, nat_le, replicate, OnErr, OnOk};
+ghost use Rattle.rlsf_base.specs.Addr.{at};
+ghost use Rattle.rlsf_base.specs.Space.{SamePlace};
+ghost use Rattle.rlsf_machine.specs.Callers.{align_at, bytes_at, copied_over};
+ghost use Rattle.rlsf_machine.specs.Run.{Fills};
+ghost use Rattle.rlsf_machine.specs.Sized.{IsSizedFor, live_count};
+ghost use Rattle.rlsf_tlsf.specs.Allocator.{Steps};
+ghost use Rattle.rlsf_checked.specs.Answers.{copy_answer, if_live};
+
+use crate::checked::CheckedTlsf;
+use crate::error::CheckedError;
+use rlsf_base::memory::Addr;
+use rlsf_int::BitPattern;
+
+impl<
+    FLBitmap: BitPattern,
+    SLBitmap: BitPattern,
+    const FLLEN: usize,
+    const SLLEN: usize,
+> CheckedTlsf<FLBitmap, SLBitmap, FLLEN, SLLEN> {
+    /// Copies the first `len` bytes of the payload at `from` over the first `len` bytes of the payload at `to`. The other bytes of the
+    /// payload at `to` are unchanged, and so is everything else. `from` and `to` may be the same.
+    ///
+    /// Returns `UnknownAddress` exactly if no payload is live at one of the addresses, else `OutOfRange` exactly if one of the payloads has
+    /// fewer than `len` usable bytes. Then nothing changes.
+    pub fn copy(&mut self, from: Addr, to: Addr, len: usize) -> Result<(), CheckedError>
+        ensures answer { result ≡ copy_answer self.old.heap.state (at from) (at to) len }
+        ensures step { OnOk result (Steps FLLEN SLLEN self.old.heap self.new.heap (Fills self.old.heap.state (at to)
+            (copied_over self.old.heap.state (at from) (at to) len))) }
+        ensures filled { OnOk result (bytes_at self.new.heap.state (at to) ≡ copied_over self.old.heap.state (at from) (at to) len) }
+        ensures aligns { align_at self.new.heap.state ≡ align_at self.old.heap.state }
+        ensures bytes { (a : ℕ) → a ≢ at to → bytes_at self.new.heap.state a ≡ bytes_at self.old.heap.state a }
+        ensures count { live_count self.new.heap.state ≡ live_count self.old.heap.state }
+        ensures bounds { (count size align : ℕ) → IsSizedFor SLLEN count size align self.old.heap.state → IsSizedFor SLLEN count size align self.new.heap.state }
+        ensures same { OnErr result (self.new ≡ self.old) }
+        ensures pool { self.new.pool ≡ self.old.pool }
+        ensures place { SamePlace self.old.heap.memory self.new.heap.memory }
+        ensures touches { self.new.heap.memory.touches ≡ self.old.heap.memory.touches }
+        ensures copied { OnOk result (self.new.heap.memory.copied ≡ self.old.heap.memory.copied + len) }
+    {
+        let Some(_) = self.alignment(from) else {
+            return Err(CheckedError::UnknownAddress);
+        };
+        let Some(_) = self.alignment(to) else {
+            return Err(CheckedError::UnknownAddress);
+        };
+        let (first, second) = (
+            self.heap.allocation_usable_size(from),
+            self.heap.allocation_usable_size(to),
+        );
+        if !both_reach(len, first, second) {
+            return Err(CheckedError::OutOfRange);
+        }
+        self.heap.copy_payload(from, to, len);
+        Ok(())
+    }
+
+    /// Overwrites all usable bytes of a payload with a value. Everything else is unchanged.
+    ///
+    /// Returns `UnknownAddress` exactly if no payload is live at the address. Then nothing changes.
+    pub fn fill(&mut self, addr: Addr, value: u8) -> Result<(), CheckedError>
+        ensures answer { result ≡ if_live (align_at self.old.heap.state (at addr)) tt }
+        ensures step { OnOk result (Steps FLLEN SLLEN self.old.heap self.new.heap (Fills self.old.heap.state (at addr)
+            (replicate (length (bytes_at self.old.heap.state (at addr))) value))) }
+        ensures filled { OnOk result (bytes_at self.new.heap.state (at addr) ≡ replicate (length (bytes_at self.old.heap.state (at addr))) value) }
+        ensures aligns { align_at self.new.heap.state ≡ align_at self.old.heap.state }
+        ensures bytes { (a : ℕ) → a ≢ at addr → bytes_at self.new.heap.state a ≡ bytes_at self.old.heap.state a }
+        ensures count { live_count self.new.heap.state ≡ live_count self.old.heap.state }
+        ensures bounds { (count size align : ℕ) → IsSizedFor SLLEN count size align self.old.heap.state → IsSizedFor SLLEN count size align self.new.heap.state }
+        ensures same { OnErr result (self.new ≡ self.old) }
+        ensures pool { self.new.pool ≡ self.old.pool }
+        ensures place { SamePlace self.old.heap.memory self.new.heap.memory }
+        ensures touches { self.new.heap.memory.touches ≤ self.old.heap.memory.touches + 3 }
+        ensures grow { self.old.heap.memory.touches ≤ self.new.heap.memory.touches }
+        ensures copied { self.new.heap.memory.copied ≡ self.old.heap.memory.copied }
+    {
+        let Some(_) = self.alignment(addr) else {
+            return Err(CheckedError::UnknownAddress);
+        };
+        fill_all(self.heap.payload_mut(addr), value);
+        Ok(())
+    }
+}
+
+/// Returns whether two payloads both have `len` bytes.
+fn both_reach(len: usize, first: usize, second: usize) -> bool
+    ensures { result ≡ (nat_le len first && nat_le len second) }
+{
+    len <= first && len <= second
+}
+
+/// Overwrites all bytes with a value.
+fn fill_all(bytes: &mut [u8], value: u8)
+    ensures { bytes.new ≡ replicate (length bytes.old) value }
+{
+    bytes.fill(value);
+}
