@@ -43,6 +43,26 @@ static void numbers(void) {
     WANT(RLSF_ZERO_START, 12);
     WANT(RLSF_TOO_LONG, 13);
     WANT(RLSF_NO_BLOCK, 14);
+    WANT(RLSF_IN_USE, 15);
+    WANT(sizeof(rlsf_handle), RLSF_POOL_SIZE);
+    WANT(rlsf_size(), RLSF_POOL_SIZE);
+    WANT(sizeof(rlsf_span), 3 * sizeof(size_t));
+}
+_Static_assert(RLSF_POOL_SIZE % sizeof(size_t) == 0, "handles in an array are aligned");
+
+/* Each error has a text of its own, and no other number has one. */
+static void texts(void) {
+    static const size_t errors[] = {0, 2, 3, 4, 5, 6, 7, 8, 9, 10, 11, 12, 13, 14, 15};
+    enum { COUNT = sizeof errors / sizeof *errors };
+    for (size_t i = 0; i < COUNT; i++)
+        for (size_t j = 0; j <= i; j++) WANT(strcmp(rlsf_error_text(errors[i]), rlsf_error_text(errors[j])) == 0, i == j);
+    WANT(strcmp(rlsf_error_text(1), "unknown error"), 0);
+    WANT(strcmp(rlsf_error_text(16), "unknown error"), 0);
+    WANT(strcmp(rlsf_error_text((size_t)-1), "unknown error"), 0);
+    WANT(strcmp(rlsf_error_text(RLSF_NO_ROOM), "there is no room"), 0);
+    char version[16];
+    snprintf(version, sizeof version, "%d.%d.%d", RLSF_VERSION_MAJOR, RLSF_VERSION_MINOR, RLSF_VERSION_PATCH);
+    WANT(strcmp(version, RLSF_VERSION), 0);
 }
 
 /* A pool that wasn't made has no address, and its handle is ended like any. */
@@ -65,6 +85,152 @@ static void no_pool(size_t kind, size_t start, size_t len, size_t error) {
     rlsf_statistics s = rlsf_stats(p);
     WANT(s.payloads + s.used + s.free + s.longest, 0);
     WANT(rlsf_walk(p, 0).error, RLSF_NO_BLOCK);
+    rlsf_span span = {7, 7, 7};
+    WANT(rlsf_blocks(p, 0, &span, 1), 0);
+    WANT(span.start + span.len + span.used, 21);
+    ANSWER(rlsf_allocate_zeroed(p, 1, 3), RLSF_NO_LAYOUT, 0);
+    ANSWER(rlsf_allocate_zeroed(p, 1, 1), RLSF_NO_ROOM, 0);
+    WANT(rlsf_copy(p, 4112, 4112, 0), RLSF_UNKNOWN_ADDRESS);
+    WANT(rlsf_remove_last(p), RLSF_OK);
+    rlsf_reset(p);
+    WANT(rlsf_len(p), 0);
+    rlsf_destroy(p);
+    rlsf_destroy(p);
+    WANT(rlsf_len(p), 0);
+    free(p);
+}
+
+/* A pool that was ended has no address, and another end does nothing. A handle may be used again, and may be static. */
+static void ends(size_t kind) {
+    static rlsf_handle handle;
+    rlsf_pool *p = (rlsf_pool *)&handle;
+    if (kind == RLSF_SMALL) {                                   /* its bytes are zeros */
+        WANT(rlsf_len(p), 0);
+        rlsf_destroy(p);
+    }
+    for (int i = 0; i < 2; i++) {
+        WANT(rlsf_init(p, kind, 4096, 4096), RLSF_OK);
+        WANT(rlsf_insert(p, 4096, 4096).error, RLSF_OK);
+        WANT(rlsf_allocate(p, 16, 16).error, RLSF_OK);
+        rlsf_destroy(p);
+        WANT(rlsf_len(p), 0);
+        ANSWER(rlsf_allocate(p, 16, 16), RLSF_NO_ROOM, 0);
+        WANT(rlsf_free(p, 4112), RLSF_UNKNOWN_ADDRESS);
+        rlsf_destroy(p);
+        rlsf_reset(p);
+        rlsf_destroy(p);
+    }
+}
+
+/* All blocks in one call, in parts, and by rlsf_walk. */
+static void lists(size_t kind) {
+    enum { PAYLOADS = 100, MOST = 300 };
+    static rlsf_span spans[MOST + 1];
+    rlsf_pool *p = room();
+    size_t live[PAYLOADS], count = 0;
+    WANT(rlsf_init(p, kind, 4096, 1 << 20), RLSF_OK);
+    WANT(rlsf_insert(p, 4096, 1 << 20).error, RLSF_OK);
+    for (size_t i = 0; i < PAYLOADS; i++) live[i] = rlsf_allocate(p, 10 * i, 16).value;
+    for (size_t i = 0; i < PAYLOADS; i += 3) WANT(rlsf_free(p, live[i]), RLSF_OK);
+    memset(spans, 7, sizeof spans);
+    size_t all = rlsf_blocks(p, 0, spans, MOST);
+    for (rlsf_block b = rlsf_walk(p, 0); b.error == RLSF_OK; b = rlsf_walk(p, b.start + b.len), count++) {
+        WANT(spans[count].start, b.start);
+        WANT(spans[count].len, b.len);
+        WANT(spans[count].used, b.used);
+    }
+    WANT(all, count);
+    WANT(spans[count].start == 0x0707070707070707u && spans[count].used == 0x0707070707070707u, 1);
+    rlsf_span part[7];
+    size_t from = 0, found = 0, got;
+    do {
+        part[6].len = 5;
+        got = rlsf_blocks(p, from, part, 6);
+        WANT(part[6].len, 5);
+        for (size_t i = 0; i < got; i++) WANT(memcmp(&part[i], &spans[found + i], sizeof *part), 0);
+        found += got;
+        if (got) from = part[got - 1].start + part[got - 1].len;
+    } while (got == 6);
+    WANT(found, all);
+    WANT(rlsf_blocks(p, 0, part, 0), 0);
+    size_t numbers[5] = {1, 2, 3, 4, 5};
+    WANT(rlsf_list(p, 0, numbers, 5), 1);
+    WANT(numbers[0], spans[0].start);
+    WANT(numbers[3] == 4 && numbers[4] == 5, 1);
+    WANT(rlsf_list(p, spans[3].start + 1, numbers, 3), 1);
+    WANT(numbers[0], spans[4].start);
+    WANT(rlsf_list(p, (size_t)-1, numbers, 5), 0);
+    rlsf_destroy(p);
+    free(p);
+}
+
+/* Payloads of zeros where others were, and copies between payloads. */
+static void zeroed(size_t kind) {
+    rlsf_pool *p = room();
+    unsigned char in[64], out[64];
+    memset(in, 7, sizeof in);
+    WANT(rlsf_init(p, kind, 4096, 4096), RLSF_OK);
+    WANT(rlsf_insert(p, 4096, 4096).error, RLSF_OK);
+    size_t addr = rlsf_allocate(p, 60, 16).value, usable = rlsf_usable(p, addr).value;
+    WANT(usable >= 60 && usable <= 64 + 31, 1);
+    WANT(rlsf_write(p, addr, 0, in, 60), RLSF_OK);
+    WANT(rlsf_free(p, addr), RLSF_OK);
+    ANSWER(rlsf_allocate_zeroed(p, 60, 16), RLSF_OK, addr);
+    for (size_t i = 0; i < usable; i++) {
+        WANT(rlsf_read(p, addr, i, out, 1), RLSF_OK);
+        WANT(out[0], 0);
+    }
+    ANSWER(rlsf_allocate_zeroed(p, 60, 3), RLSF_NO_LAYOUT, 0);
+    ANSWER(rlsf_allocate_zeroed(p, 1 << 20, 16), RLSF_NO_ROOM, 0);
+    size_t other = rlsf_allocate(p, 32, 32).value, most = rlsf_usable(p, other).value;
+    WANT(rlsf_write(p, other, 0, in, 32), RLSF_OK);
+    WANT(rlsf_copy(p, other, addr, 20), RLSF_OK);
+    WANT(rlsf_read(p, addr, 0, out, 60), RLSF_OK);
+    for (size_t i = 0; i < 60; i++) WANT(out[i], i < 20 ? 7 : 0);
+    WANT(rlsf_copy(p, other, addr, most + 1), RLSF_OUT_OF_RANGE);
+    WANT(rlsf_copy(p, addr, other, most + 1), RLSF_OUT_OF_RANGE);
+    WANT(rlsf_copy(p, addr, other, (size_t)-1), RLSF_OUT_OF_RANGE);
+    WANT(rlsf_copy(p, addr, addr + 1, 1), RLSF_UNKNOWN_ADDRESS);
+    WANT(rlsf_copy(p, 0, addr, 1), RLSF_UNKNOWN_ADDRESS);
+    WANT(rlsf_copy(p, addr, 0, (size_t)-1), RLSF_UNKNOWN_ADDRESS);
+    WANT(rlsf_copy(p, other, other, most), RLSF_OK);
+    WANT(rlsf_copy(p, addr, other, 0), RLSF_OK);
+    WANT(rlsf_read(p, other, 0, out, 32), RLSF_OK);
+    WANT(memcmp(in, out, 32), 0);
+    rlsf_destroy(p);
+    free(p);
+}
+
+/* The last range is removed once no payload lives in it. A reset removes all. */
+static void removals(size_t kind) {
+    rlsf_pool *p = room();
+    WANT(rlsf_init(p, kind, 4096, 65536), RLSF_OK);
+    WANT(rlsf_remove_last(p), RLSF_OK);
+    ANSWER(rlsf_insert(p, 4096, 96), RLSF_OK, 96);
+    ANSWER(rlsf_allocate(p, 48, 16), RLSF_OK, 4112);
+    ANSWER(rlsf_insert(p, 8201, 4096), RLSF_OK, 4096 - 9);      /* from 8224 to 12288 */
+    size_t addr = rlsf_allocate(p, 1000, 16).value;
+    WANT(addr >= 8224, 1);
+    WANT(rlsf_remove_last(p), RLSF_IN_USE);
+    ANSWER(rlsf_usable(p, addr), RLSF_OK, rlsf_usable(p, addr).value);
+    WANT(rlsf_stats(p).payloads, 1);
+    WANT(rlsf_free(p, addr), RLSF_OK);
+    WANT(rlsf_remove_last(p), RLSF_OK);
+    WANT(rlsf_stats(p).free, 0);
+    ANSWER(rlsf_allocate(p, 1000, 16), RLSF_NO_ROOM, 0);
+    WANT(rlsf_remove_last(p), RLSF_OK);                          /* it is empty */
+    ANSWER(rlsf_append(p, 8201, 4096), RLSF_NOT_NEXT, 0);
+    ANSWER(rlsf_insert(p, 8200, 4096), RLSF_NOT_BEHIND, 0);
+    ANSWER(rlsf_insert(p, 8201, 4096), RLSF_OK, 4096 - 9);
+    WANT(rlsf_allocate(p, 1000, 16).error, RLSF_OK);
+    WANT(rlsf_usable(p, 4112).error, RLSF_OK);
+    rlsf_reset(p);
+    WANT(rlsf_len(p), 65536);
+    WANT(rlsf_usable(p, 4112).error, RLSF_UNKNOWN_ADDRESS);
+    WANT(rlsf_stats(p).used + rlsf_stats(p).free, 0);
+    ANSWER(rlsf_allocate(p, 1, 1), RLSF_NO_ROOM, 0);
+    ANSWER(rlsf_insert(p, 4096, 96), RLSF_OK, 96);
+    ANSWER(rlsf_allocate(p, 48, 16), RLSF_OK, 4112);
     rlsf_destroy(p);
     free(p);
 }
@@ -207,6 +373,7 @@ static void lengths(size_t kind) {
 
 int main(void) {
     numbers();
+    texts();
     no_pool(0, 4096, 4096, RLSF_NO_KIND);
     no_pool(3, 0, 0, RLSF_NO_KIND);
     no_pool(RLSF_SMALL, 0, 4096, RLSF_ZERO_START);
@@ -223,6 +390,14 @@ int main(void) {
     zeros(RLSF_LARGE);
     lengths(RLSF_SMALL);
     lengths(RLSF_LARGE);
+    ends(RLSF_SMALL);
+    ends(RLSF_LARGE);
+    lists(RLSF_SMALL);
+    lists(RLSF_LARGE);
+    zeroed(RLSF_SMALL);
+    zeroed(RLSF_LARGE);
+    removals(RLSF_SMALL);
+    removals(RLSF_LARGE);
     if (failures) return 1;
     puts("demo: all calls answered as the header says");
     return 0;

@@ -3,7 +3,8 @@
  * docs/C.md shows how to link it.
  *
  * Conditions on the caller, in each call. No call tests them:
- *   - The handle is one that rlsf_init was called with. rlsf_destroy wasn't called on it since, and nothing else wrote to it.
+ *   - The handle has RLSF_POOL_SIZE bytes, aligned as a pointer. rlsf_init was called with it, or its bytes are all 0 (tested). Since then
+ *     nothing but the library wrote to it.
  *   - One call on a handle runs at a time. Another thread may use the handle next, if a lock, or the thread's start or end, orders the two.
  *   - `bytes` and `into` aren't null, even if `len` is 0. They point to `len` bytes, less than 2^63, that may be read,
  *     and for `into` also written. These bytes are no part of a pool or of its handle, and no other call writes to them during the call.
@@ -22,6 +23,11 @@
 extern "C" {
 #endif
 
+#define RLSF_VERSION_MAJOR 0
+#define RLSF_VERSION_MINOR 1
+#define RLSF_VERSION_PATCH 0
+#define RLSF_VERSION "0.1.0"
+
 /* A pool at its handle. */
 typedef struct rlsf_pool rlsf_pool;
 
@@ -32,20 +38,46 @@ typedef struct rlsf_pool rlsf_pool;
 
 /* Errors. If more than one applies, a call returns the first that its comment lists. After an error nothing has changed.
  * The last range is the last inserted range with everything appended to it. */
-#define RLSF_OK ((size_t)0)
-#define RLSF_OUT_OF_MEMORY ((size_t)2)   /* the system is out of memory */
-#define RLSF_UNKNOWN_ADDRESS ((size_t)3) /* no payload is live at the address */
-#define RLSF_OUT_OF_RANGE ((size_t)4)    /* the bytes go past those of the payload */
-#define RLSF_OUTSIDE_MEMORY ((size_t)5)  /* the range doesn't lie in the memory */
-#define RLSF_NOT_BEHIND ((size_t)6)      /* the range begins before the end of the last range */
-#define RLSF_NOT_NEXT ((size_t)7)        /* the range doesn't begin at the end of the last range, or no range was inserted */
-#define RLSF_TOO_SHORT ((size_t)8)       /* no part of the range can be used */
-#define RLSF_NO_LAYOUT ((size_t)9)       /* the alignment is no power of two, or size and alignment together are above 2^63 */
-#define RLSF_NO_ROOM ((size_t)10)        /* there is no room */
-#define RLSF_NO_KIND ((size_t)11)        /* there is no such kind of pool */
-#define RLSF_ZERO_START ((size_t)12)     /* the start is 0, which is no address */
-#define RLSF_TOO_LONG ((size_t)13)       /* the end lies past the greatest address */
-#define RLSF_NO_BLOCK ((size_t)14)       /* no block begins at the address or behind it */
+typedef enum rlsf_error {
+    RLSF_OK = 0,
+    RLSF_OUT_OF_MEMORY = 2,   /* the system is out of memory */
+    RLSF_UNKNOWN_ADDRESS = 3, /* no payload is live at the address */
+    RLSF_OUT_OF_RANGE = 4,    /* the bytes go past those of the payload */
+    RLSF_OUTSIDE_MEMORY = 5,  /* the range doesn't lie in the memory */
+    RLSF_NOT_BEHIND = 6,      /* the range begins before the end of the last range */
+    RLSF_NOT_NEXT = 7,        /* the range doesn't begin at the end of the last range, or no range was inserted */
+    RLSF_TOO_SHORT = 8,       /* no part of the range can be used */
+    RLSF_NO_LAYOUT = 9,       /* the alignment is no power of two, or size and alignment together are above 2^63 */
+    RLSF_NO_ROOM = 10,        /* there is no room */
+    RLSF_NO_KIND = 11,        /* there is no such kind of pool */
+    RLSF_ZERO_START = 12,     /* the start is 0, which is no address */
+    RLSF_TOO_LONG = 13,       /* the end lies past the greatest address */
+    RLSF_NO_BLOCK = 14,       /* no block begins at the address or behind it */
+    RLSF_IN_USE = 15          /* a payload is live in the last range */
+} rlsf_error;
+
+/* Returns the text of an error, in lower case and without a full stop. Returns "unknown error" if no error has the number. The text is
+ * static. The function isn't proved. */
+static inline const char *rlsf_error_text(size_t error) {
+    switch (error) {
+    case RLSF_OK: return "success";
+    case RLSF_OUT_OF_MEMORY: return "the system is out of memory";
+    case RLSF_UNKNOWN_ADDRESS: return "no payload is live at the address";
+    case RLSF_OUT_OF_RANGE: return "the bytes go past those of the payload";
+    case RLSF_OUTSIDE_MEMORY: return "the range doesn't lie in the memory";
+    case RLSF_NOT_BEHIND: return "the range begins before the end of the last range";
+    case RLSF_NOT_NEXT: return "the range doesn't begin at the end of the last range";
+    case RLSF_TOO_SHORT: return "no part of the range can be used";
+    case RLSF_NO_LAYOUT: return "no layout has the size and the alignment";
+    case RLSF_NO_ROOM: return "there is no room";
+    case RLSF_NO_KIND: return "there is no such kind of pool";
+    case RLSF_ZERO_START: return "the start is 0, which is no address";
+    case RLSF_TOO_LONG: return "the end lies past the greatest address";
+    case RLSF_NO_BLOCK: return "no block begins at the address or behind it";
+    case RLSF_IN_USE: return "a payload is live in the last range";
+    default: return "unknown error";
+    }
+}
 
 /* A number, or an error. On an error, `value` is 0. */
 typedef struct {
@@ -69,7 +101,24 @@ typedef struct {
     size_t longest;  /* the bytes of the longest free block, or 0 if there is none */
 } rlsf_statistics;
 
-/* Returns the size of a handle in bytes: malloc(rlsf_size()) has room for one. It is about 33 KiB for each kind. */
+/* A block of a list. */
+typedef struct {
+    size_t start; /* the address at which it begins */
+    size_t len;   /* its length in bytes, with the header that the allocator uses */
+    size_t used;  /* 1 if it holds a live payload, else 0 */
+} rlsf_span;
+
+/* The size of a handle of either kind in bytes. */
+#define RLSF_POOL_SIZE 33888
+
+/* Room for a handle that is static or on the stack: pass (rlsf_pool *)&handle to each call. (tested) A handle whose bytes are all 0, as a
+ * static one begins, is that of an ended pool: rlsf_destroy does nothing there. */
+typedef union {
+    rlsf_pool *aligned; /* never used */
+    unsigned char pool[RLSF_POOL_SIZE];
+} rlsf_handle;
+
+/* Returns the size of a handle in bytes, which is RLSF_POOL_SIZE. */
 size_t rlsf_size(void);
 
 /* Returns the length in bytes of a range in which a pool of the kind refuses no payload within some bounds. Each payload has up to `size`
@@ -100,17 +149,32 @@ size_t rlsf_pool_length_for_allocation(size_t kind, size_t size, size_t align);
  * (tested) The call requests len + len / 16 bytes and a few more from malloc. No other call requests any. The memory begins as zeros. */
 size_t rlsf_init(rlsf_pool *pool, size_t kind, size_t start, size_t len);
 
-/* Drops a pool. The handle can be used for a new pool. (tested) The memory is freed. */
+/* Ends a pool. The handle can be used for a new pool. Until then all calls find a pool without an address, and another rlsf_destroy does
+ * nothing. (tested) The memory is freed. */
 void rlsf_destroy(rlsf_pool *pool);
 
+/* Does nothing. Call it only after rlsf_destroy, or not at all; no call tests that. It is for proofs: its contract says that the handle of an
+ * ended pool can be used for a new one. */
+void rlsf_room(rlsf_pool *pool);
+
+/* Frees all payloads and removes all ranges. The pool is as after rlsf_init, but (tested) the bytes of its memory stay. If rlsf_init made no
+ * pool or rlsf_destroy ended it, nothing changes. The time grows with the memory: one byte is written for each 16 addresses. */
+void rlsf_reset(rlsf_pool *pool);
+
 /* Returns the number of addresses of the memory: `len`, or 0 if rlsf_init made no memory. */
-size_t rlsf_len(rlsf_pool *pool);
+size_t rlsf_len(const rlsf_pool *pool);
 
 /* Inserts a range of the memory. Its aligned part becomes free, in chunks of at least 64 bytes. Returns the number of bytes from its start
  * to the end of its last chunk. Payloads and their bytes are unchanged.
  *
  * Returns RLSF_OUTSIDE_MEMORY, RLSF_NOT_BEHIND or RLSF_TOO_SHORT, each exactly if it applies. */
 rlsf_answer rlsf_insert(rlsf_pool *pool, size_t start, size_t len);
+
+/* Removes the last range. Then the last range is empty and has the same start, so the range can be inserted again. Payloads and their bytes
+ * are unchanged. If no range was inserted, nothing changes. The time grows with the number of blocks of the last range.
+ *
+ * Returns RLSF_IN_USE exactly if it applies. */
+size_t rlsf_remove_last(rlsf_pool *pool);
 
 /* Appends a range, which begins at the end of the last range, to that range. Returns the number of bytes taken. In a large pool these are
  * all but those past a multiple of 32; in a small pool it takes them as rlsf_insert does. Payloads and their bytes are unchanged.
@@ -124,6 +188,9 @@ rlsf_answer rlsf_append(rlsf_pool *pool, size_t start, size_t len);
  * Returns RLSF_NO_LAYOUT exactly if it applies, else RLSF_NO_ROOM exactly if no free block has a class that reaches the sought size
  * (docs/SIZING.md). */
 rlsf_answer rlsf_allocate(rlsf_pool *pool, size_t size, size_t align);
+
+/* Allocates a payload as rlsf_allocate does. All of its bytes are zeros. */
+rlsf_answer rlsf_allocate_zeroed(rlsf_pool *pool, size_t size, size_t align);
 
 /* Deallocates a payload. All other payloads and their bytes are unchanged.
  *
@@ -143,27 +210,47 @@ rlsf_answer rlsf_realloc_no_move(rlsf_pool *pool, size_t addr, size_t size);
 /* Returns the number of bytes of a payload that may be read and written.
  *
  * Returns RLSF_UNKNOWN_ADDRESS exactly if it applies. */
-rlsf_answer rlsf_usable(rlsf_pool *pool, size_t addr);
+rlsf_answer rlsf_usable(const rlsf_pool *pool, size_t addr);
 
 /* Reads `len` bytes of a payload into `into`, from an offset on.
  *
  * Returns RLSF_UNKNOWN_ADDRESS or RLSF_OUT_OF_RANGE, each exactly if it applies. Then `into` is unchanged. */
-size_t rlsf_read(rlsf_pool *pool, size_t addr, size_t offset, void *into, size_t len);
+size_t rlsf_read(const rlsf_pool *pool, size_t addr, size_t offset, void *into, size_t len);
 
 /* Overwrites `len` bytes of a payload, from an offset on. All other bytes of payloads are unchanged.
  *
  * Returns RLSF_UNKNOWN_ADDRESS or RLSF_OUT_OF_RANGE, each exactly if it applies. */
 size_t rlsf_write(rlsf_pool *pool, size_t addr, size_t offset, const void *bytes, size_t len);
 
+/* Copies the first `len` bytes of the payload at `from` over the first `len` bytes of the payload at `to`. All other bytes of payloads are
+ * unchanged. Both may be the same payload.
+ *
+ * Returns RLSF_UNKNOWN_ADDRESS exactly if it applies to one of the addresses, else RLSF_OUT_OF_RANGE exactly if one of the payloads has
+ * fewer bytes. */
+size_t rlsf_copy(rlsf_pool *pool, size_t from, size_t to, size_t len);
+
 /* Returns the totals of the blocks of the last range. These are all blocks if one range was inserted and all others were appended.
  * The time grows with the number of these blocks. */
-rlsf_statistics rlsf_stats(rlsf_pool *pool);
+rlsf_statistics rlsf_stats(const rlsf_pool *pool);
 
 /* Returns the first block of the last range that begins at `from` or behind it. To iterate, begin at 0 and continue at each block's
  * start + len. The time grows with the number of blocks up to that one.
  *
  * Returns RLSF_NO_BLOCK exactly if it applies. */
-rlsf_block rlsf_walk(rlsf_pool *pool, size_t from);
+rlsf_block rlsf_walk(const rlsf_pool *pool, size_t from);
+
+/* Lists the blocks of the last range that begin at `from` or behind it, in address order, as three numbers each: start, length, and 1 if
+ * used, else 0. Returns the number of listed blocks: all of them, or `len / 3` if there are more. The numbers behind those of the listed
+ * blocks are unchanged. The time grows with the number of blocks up to the last listed one.
+ *
+ * The condition for `into` applies to `numbers`, which has room for `len` numbers, less than 2^60. */
+size_t rlsf_list(const rlsf_pool *pool, size_t from, size_t *numbers, size_t len);
+
+/* Fills an array of `count` blocks as rlsf_list does, and returns the number of filled ones. To go on behind a full array, pass the last
+ * block's start + len as `from`. The function only calls rlsf_list. */
+static inline size_t rlsf_blocks(const rlsf_pool *pool, size_t from, rlsf_span *blocks, size_t count) {
+    return rlsf_list(pool, from, &blocks->start, 3 * count);
+}
 
 #ifdef __cplusplus
 }

@@ -1,5 +1,6 @@
--- What the calls of a checked allocator come to, as numbers.
-use Rattle.std.proofs.Common.{◌≡◌, ◌≢◌, ℕ, ◌+◌, ◌<◌, ◌≤◌, List, length, take, drop, Option, Some, None, Result, Ok, Err, arith, refl, sym, ◌∙◌, ap, subst, inl, inr}
+-- The outcomes of the calls of a checked allocator, as numbers.
+use Rattle.std.proofs.Common.{◌≡◌, ◌≢◌, ℕ, ◌+◌, ◌<◌, ◌≤◌, List, length, take, drop, Option, Some, None, Result, Ok, Err, arith, refl, sym, ◌∙◌}
+use Rattle.std.proofs.Common.{ap, subst, inl, inr}
 use mathlib.Core.Path.{ap₂}
 use Rattle.std.proofs.lemmas.Option.{none-some}
 use Rattle.std.specs.Prelude.{IfErr, IfOk, OnErr, OnOk}
@@ -19,7 +20,8 @@ use Rattle.rlsf_tlsf.specs.Allocator.{Allocator, Steps}
 use Rattle.rlsf_checked.specs.Answers.{IsRefusedBy, append_answer, fits, if_in_range, if_live, insert_answer, addr_in as addr_in_result, size_refusal}
 use Rattle.rlsf_checked.specs.Checked.{Checked}
 use Rattle.rlsf_checked.specs.declared.error.CheckedError.{CheckedError}
-use Rattle.rlsf_checked.specs.declared.error.CheckedError.TheVariants.{InvalidClasses, OutOfMemory, UnknownAddress, OutOfRange, OutsideMemory, NotBehind, NotNext, TooShort, NoLayout, NoRoom}
+use Rattle.rlsf_checked.specs.declared.error.CheckedError.TheVariants.{InvalidClasses, OutOfMemory, UnknownAddress, OutOfRange, OutsideMemory, NotBehind, NotNext, TooShort}
+use Rattle.rlsf_checked.specs.declared.error.CheckedError.TheVariants.{NoLayout, NoRoom}
 use Rattle.rlsf_c.specs.Answers.{answer_of, code_of, number_of, place_of, addr_in, refused_by}
 use Rattle.rlsf_c.specs.Calls.{Allocates, Appends, Frees, Inserts, IsKeptBut, IsResized, IsToldBy, Reads, Resizes, ResizesThere, Tells, Writes, reach}
 use Rattle.rlsf_c.specs.Seen.{Seen, nothing, seen_in}
@@ -65,16 +67,19 @@ same_range m n place = ap₂ range_at place.0 place.1
 abbrev seen_at : ℕ → State → Range → Range → Seen
 seen_at classes state memory pool = record { classes = classes; state = state; memory = memory; pool = pool }
 
-pub same_seen : (sllen : ℕ) (old new : Checked) → new.heap.state ≡ old.heap.state → new.pool ≡ old.pool → SamePlace old.heap.memory new.heap.memory → seen_in sllen new ≡ seen_in sllen old
+pub same_seen : (sllen : ℕ) (old new : Checked) → new.heap.state ≡ old.heap.state → new.pool ≡ old.pool → SamePlace old.heap.memory new.heap.memory
+    → seen_in sllen new ≡ seen_in sllen old
 same_seen sllen old new state pool place =
     ap (λ s. seen_at sllen s (range_of new.heap.memory) new.pool) state
     ∙ ap (λ r. seen_at sllen old.heap.state r new.pool) (same_range old.heap.memory new.heap.memory place)
     ∙ ap (λ p. seen_at sllen old.heap.state (range_of old.heap.memory) p) pool
 
 pub kept_but : (sllen : ℕ) (old new : Checked) (addr : ℕ) → SamePlace old.heap.memory new.heap.memory → new.pool ≡ old.pool
-    → ((a : ℕ) → a ≢ addr → align_at new.heap.state a ≡ align_at old.heap.state a) → ((a : ℕ) → a ≢ addr → bytes_at new.heap.state a ≡ bytes_at old.heap.state a)
+    → ((a : ℕ) → a ≢ addr → align_at new.heap.state a ≡ align_at old.heap.state a)
+    → ((a : ℕ) → a ≢ addr → bytes_at new.heap.state a ≡ bytes_at old.heap.state a)
     → IsKeptBut addr (seen_in sllen old) (seen_in sllen new)
-kept_but sllen old new addr place pool aligns bytes = record { classes = refl; memory = same_range old.heap.memory new.heap.memory place; pool = pool; aligns = aligns; bytes = bytes }
+kept_but sllen old new addr place pool aligns bytes =
+    record { classes = refl; memory = same_range old.heap.memory new.heap.memory place; pool = pool; aligns = aligns; bytes = bytes }
 
 pub kept_same : (addr : ℕ) (v : Seen) → IsKeptBut addr v v
 kept_same addr v = record { classes = refl; memory = refl; pool = refl; aligns = λ a apart. refl; bytes = λ a apart. refl }
@@ -84,26 +89,30 @@ pub none_in_empty : (addr : ℕ) → align_at empty addr ≡ None
 unfolding align_at
 none_in_empty addr = refl
 
--- the machine made the step
+-- the reference model made the step
 pub step_of : (fllen sllen : ℕ) (v w : Allocator) (step : State → Type 0) → Steps fllen sllen v w step → step w.state
 unfolding Steps
 step_of fllen sllen v w step did = did.0
 
 -- ---- ranges
 
--- what was handed in last, where an answer says how much it is
-pool_if : (old new pool : Range) (make : ℕ → Range) (r : Result ℕ CheckedError) → IfOk r (λ n. new ≡ make n) → (answer_of r).error ≡ 0 → new ≡ make (answer_of r).value
+-- the last range, of which an answer has the length
+pool_if : (old new pool : Range) (make : ℕ → Range) (r : Result ℕ CheckedError) → IfOk r (λ n. new ≡ make n) → (answer_of r).error ≡ 0
+    → new ≡ make (answer_of r).value
 pool_if old new pool make (Ok n) made none = made
 pool_if old new pool make (Err e) made none = absurd (number_of-some e none)
 
 -- and where it is an error
-same_if : (sllen : ℕ) (old new : Checked) (r : Result ℕ CheckedError) → OnErr r ((new.heap.state ≡ old.heap.state) × (new.pool ≡ old.pool)) → SamePlace old.heap.memory new.heap.memory
+same_if : (sllen : ℕ) (old new : Checked) (r : Result ℕ CheckedError) → OnErr r ((new.heap.state ≡ old.heap.state) × (new.pool ≡ old.pool))
+    → SamePlace old.heap.memory new.heap.memory
     → (answer_of r).error ≢ 0 → seen_in sllen new ≡ seen_in sllen old
 same_if sllen old new (Ok n) same place some = absurd (some refl)
 same_if sllen old new (Err e) (state, pool) place some = same_seen sllen old new state pool place
 
-pub inserted : (fllen sllen : ℕ) (old new : Checked) (range : Range) (r : Result ℕ CheckedError) → r ≡ insert_answer fllen old range → IfOk r (λ n. new.pool ≡ range_at range.start n)
-    → OnErr r ((new.heap.state ≡ old.heap.state) × (new.pool ≡ old.pool)) → align_at new.heap.state ≡ align_at old.heap.state → bytes_at new.heap.state ≡ bytes_at old.heap.state
+pub inserted : (fllen sllen : ℕ) (old new : Checked) (range : Range) (r : Result ℕ CheckedError) → r ≡ insert_answer fllen old range
+    → IfOk r (λ n. new.pool ≡ range_at range.start n)
+    → OnErr r ((new.heap.state ≡ old.heap.state) × (new.pool ≡ old.pool)) → align_at new.heap.state ≡ align_at old.heap.state
+    → bytes_at new.heap.state ≡ bytes_at old.heap.state
     → SamePlace old.heap.memory new.heap.memory → Inserts (insert_answer fllen old range) (seen_in sllen old) range.start (answer_of r) (seen_in sllen new)
 inserted fllen sllen old new range r told pool same aligns bytes place = record {
   told = ap answer_of told;
@@ -114,7 +123,8 @@ inserted fllen sllen old new range r told pool same aligns bytes place = record 
 
 pub appended : (fllen sllen : ℕ) (old new : Checked) (range : Range) (r : Result ℕ CheckedError) → r ≡ append_answer fllen old range
     → IfOk r (λ n. new.pool ≡ range_at old.pool.start (old.pool.len + n))
-    → OnErr r ((new.heap.state ≡ old.heap.state) × (new.pool ≡ old.pool)) → align_at new.heap.state ≡ align_at old.heap.state → bytes_at new.heap.state ≡ bytes_at old.heap.state
+    → OnErr r ((new.heap.state ≡ old.heap.state) × (new.pool ≡ old.pool)) → align_at new.heap.state ≡ align_at old.heap.state
+    → bytes_at new.heap.state ≡ bytes_at old.heap.state
     → SamePlace old.heap.memory new.heap.memory → Appends (append_answer fllen old range) (seen_in sllen old) (answer_of r) (seen_in sllen new)
 appended fllen sllen old new range r told pool same aligns bytes place = record {
   told = ap answer_of told;
@@ -142,7 +152,8 @@ none_appended = record {
 
 -- ---- payloads that are new
 
-module _ (sllen : ℕ) (old new : Checked) (size align : ℕ) (layout : IsLayout size align) (pool : new.pool ≡ old.pool) (place : SamePlace old.heap.memory new.heap.memory) where
+module _ (sllen : ℕ) (old new : Checked) (size align : ℕ) (layout : IsLayout size align) (pool : new.pool ≡ old.pool)
+    (place : SamePlace old.heap.memory new.heap.memory) where
   pub allocated : (r : Result NonZeroUsize CheckedError) → IfErr r (λ e. e ≡ NoRoom) → machine.Allocates sllen old.heap.state size align (addr_in_result r) new.heap.state
       → IfOk r (λ addr. align_at new.heap.state (at addr) ≡ Some align) → IfOk r (λ addr. size ≤ length (bytes_at new.heap.state (at addr)))
       → IfOk r (λ addr. length (bytes_at new.heap.state (at addr)) < size + 32) → IfOk r (λ addr. align_at old.heap.state (at addr) ≡ None)
@@ -182,8 +193,10 @@ pub same_unless : (sllen : ℕ) (old new : Checked) (r : Result (Unit {0}) Check
 same_unless sllen old new (Ok x) same some = absurd (some refl)
 same_unless sllen old new (Err e) same some = ap (seen_in sllen) same
 
-pub freed : (sllen : ℕ) (old new : Checked) (addr : ℕ) (r : Result (Unit {0}) CheckedError) → r ≡ if_live (align_at old.heap.state addr) tt → align_at new.heap.state addr ≡ None
-    → ((a : ℕ) → a ≢ addr → align_at new.heap.state a ≡ align_at old.heap.state a) → ((a : ℕ) → a ≢ addr → bytes_at new.heap.state a ≡ bytes_at old.heap.state a)
+pub freed : (sllen : ℕ) (old new : Checked) (addr : ℕ) (r : Result (Unit {0}) CheckedError) → r ≡ if_live (align_at old.heap.state addr) tt
+    → align_at new.heap.state addr ≡ None
+    → ((a : ℕ) → a ≢ addr → align_at new.heap.state a ≡ align_at old.heap.state a)
+    → ((a : ℕ) → a ≢ addr → bytes_at new.heap.state a ≡ bytes_at old.heap.state a)
     → OnErr r (new ≡ old) → new.pool ≡ old.pool → SamePlace old.heap.memory new.heap.memory → Frees (seen_in sllen old) addr (code_of r) (seen_in sllen new)
 freed sllen old new addr r told gone aligns bytes same pool place = record {
   told = ap code_of told;
@@ -228,7 +241,8 @@ module _ (sllen : ℕ) (old new : Checked) (addr size : ℕ) (pool : new.pool �
     same = same_placed r same;
   }
     where
-      moved : (r : Result NonZeroUsize CheckedError) → IfOk r (λ to. align_at new.heap.state (at to) ≡ align_at old.heap.state addr) → IfOk r (λ to. size ≤ length (bytes_at new.heap.state (at to)))
+      moved : (r : Result NonZeroUsize CheckedError) → IfOk r (λ to. align_at new.heap.state (at to) ≡ align_at old.heap.state addr)
+          → IfOk r (λ to. size ≤ length (bytes_at new.heap.state (at to)))
           → IfOk r (λ to. length (bytes_at new.heap.state (at to)) < size + 32) → IfOk r (λ to. Keeps (bytes_at old.heap.state addr) (bytes_at new.heap.state (at to)))
           → IfOk r (λ to. at to ≢ addr → align_at old.heap.state (at to) ≡ None) → IfOk r (λ to. at to ≢ addr → align_at new.heap.state addr ≡ None)
           → IfOk r (λ to. (a : ℕ) → a ≢ addr → a ≢ at to → align_at new.heap.state a ≡ align_at old.heap.state a)
@@ -267,8 +281,10 @@ module _ (sllen : ℕ) (old new : Checked) (addr size : ℕ) (pool : new.pool �
       stays (Ok to) there e = there
       stays (Err d) there e = absurd (number_of-some d e)
 
-      stayed : (r : Result NonZeroUsize CheckedError) → IfOk r (λ to. size ≤ length (bytes_at new.heap.state addr)) → IfOk r (λ to. length (bytes_at new.heap.state addr) < size + 32)
-          → IfOk r (λ to. Keeps (bytes_at old.heap.state addr) (bytes_at new.heap.state addr)) → (place_of r).error ≡ 0 → IsResized addr size addr (seen_in sllen old) (seen_in sllen new)
+      stayed : (r : Result NonZeroUsize CheckedError) → IfOk r (λ to. size ≤ length (bytes_at new.heap.state addr))
+          → IfOk r (λ to. length (bytes_at new.heap.state addr) < size + 32)
+          → IfOk r (λ to. Keeps (bytes_at old.heap.state addr) (bytes_at new.heap.state addr)) → (place_of r).error ≡ 0
+          → IsResized addr size addr (seen_in sllen old) (seen_in sllen new)
       stayed (Ok to) sized few kept e = record {
         live = ap (λ f. f addr) aligns;
         sized = sized;
@@ -340,7 +356,8 @@ pub written : (sllen : ℕ) (old new : Checked) (addr offset : ℕ) (bytes : Lis
     → r ≡ if_in_range (align_at old.heap.state addr) (fits offset (length bytes) (bytes_at old.heap.state addr))
     → OnOk r (bytes_at new.heap.state addr ≡ splice (bytes_at old.heap.state addr) offset (offset + length bytes) bytes)
     → align_at new.heap.state ≡ align_at old.heap.state → ((a : ℕ) → a ≢ addr → bytes_at new.heap.state a ≡ bytes_at old.heap.state a)
-    → OnErr r (new ≡ old) → new.pool ≡ old.pool → SamePlace old.heap.memory new.heap.memory → Writes (seen_in sllen old) addr offset bytes (code_of r) (seen_in sllen new)
+    → OnErr r (new ≡ old) → new.pool ≡ old.pool → SamePlace old.heap.memory new.heap.memory
+    → Writes (seen_in sllen old) addr offset bytes (code_of r) (seen_in sllen new)
 written sllen old new addr offset bytes r told did aligns others same pool place = record {
   told = ap code_of told;
   written = on_done (bytes_at new.heap.state addr ≡ splice (bytes_at old.heap.state addr) offset (offset + length bytes) bytes) r did;

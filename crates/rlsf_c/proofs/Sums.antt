@@ -1,4 +1,4 @@
--- What one block more comes to.
+-- The totals with one block more.
 use Rattle.std.proofs.Common.{◌≡◌, ℕ, ◌+◌, ◌≤◌, Bool, true, false, cond, not, List, ◌∷◌, length, map, arith, refl, sym, ◌∙◌, ap, inl}
 use Rattle.std.proofs.lemmas.List.Sums.{sum_by-cons}
 use Rattle.std.specs.Prelude.{max}
@@ -41,7 +41,9 @@ module _ (s : Statistics) (b : Block) (bs all : List Block) (is : IsCounted s (b
   below = is.behind b (inl refl)
 
   abbrev when : Bool → Statistics
-  when k = cond k (record { payloads = s.payloads + 1; used = s.used + b.range.len; free = s.free; longest = s.longest }) (record { payloads = s.payloads; used = s.used; free = s.free + b.range.len; longest = max s.longest b.range.len })
+  when k =
+      cond k (record { payloads = s.payloads + 1; used = s.used + b.range.len; free = s.free; longest = s.longest })
+      (record { payloads = s.payloads; used = s.used; free = s.free + b.range.len; longest = max s.longest b.range.len })
 
   by_use : (k : Bool) → b.is_occupied ≡ k → (when k).payloads ≤ (when k).used → IsCounted (when k) bs all
   by_use true e few = record {

@@ -1,9 +1,10 @@
--- What is answered as numbers.
+-- Results of the calls as numbers.
 use Rattle.std.specs.Prelude.{ℕ, zero, suc, Option, Some, None, Result, Ok, Err}
 use Rattle.std.specs.declared.num.NonZeroUsize.{NonZeroUsize}
 use Rattle.rlsf_base.specs.Addr.{at}
 use Rattle.rlsf_checked.specs.declared.error.CheckedError.{CheckedError}
-use Rattle.rlsf_checked.specs.declared.error.CheckedError.TheVariants.{InvalidClasses, OutOfMemory, UnknownAddress, OutOfRange, OutsideMemory, NotBehind, NotNext, TooShort, NoLayout, NoRoom}
+use Rattle.rlsf_checked.specs.declared.error.CheckedError.TheVariants.{InvalidClasses, OutOfMemory, UnknownAddress, OutOfRange, OutsideMemory, NotBehind, NotNext, TooShort}
+use Rattle.rlsf_checked.specs.declared.error.CheckedError.TheVariants.{NoLayout, NoRoom}
 use Rattle.rlsf_c.specs.declared.answers.Answer.{Answer}
 
 -- the number of an error
@@ -43,6 +44,6 @@ abbrev pub value_if : ℕ → ℕ → Option ℕ
 value_if zero value = Some value
 value_if (suc e) value = None
 
--- the value that is answered, if there is one
+-- the value that is returned, if there is one
 abbrev pub addr_in : Answer → Option ℕ
 addr_in a = value_if a.error a.value

@@ -1,13 +1,16 @@
--- What the calls answer and do, in the words of the callers' map.
-use Rattle.std.specs.Prelude.{◌≡◌, ◌≢◌, ◌⊎◌, ◌↔◌, ℕ, ◌+◌, ◌<◌, ◌≤◌, List, length, take, drop, Option, Some, None, Result}
+-- What the calls return, and what they do to the map of live payloads.
+use Rattle.std.specs.Prelude.{◌≡◌, ◌≢◌, ◌⊎◌, ◌↔◌, ℕ, ◌+◌, ◌<◌, ◌≤◌, List, length, take, drop, replicate, Option, Some, None, Result}
 use Rattle.std.specs.List.{splice}
 use Rattle.rlsf_base.specs.Range.{range_at}
 use Rattle.rlsf_base.specs.Layout.{IsLayout}
 use Rattle.rlsf_machine.specs.Allocate as machine
-use Rattle.rlsf_machine.specs.Callers.{align_at, bytes_at}
+use Rattle.rlsf_blocks.specs.Blocks.{walked}
+use Rattle.rlsf_machine.specs.Callers.{align_at, bytes_at, copied_over}
 use Rattle.rlsf_machine.specs.NoMove.{ReallocatesWithoutMove}
 use Rattle.rlsf_machine.specs.Reallocate.{Keeps, Reallocates}
-use Rattle.rlsf_checked.specs.Answers.{fits, if_in_range, if_live, size_refusal}
+use Rattle.rlsf_machine.specs.Remove.{IsIdle, Removes}
+use Rattle.rlsf_machine.specs.Run.{Fills}
+use Rattle.rlsf_checked.specs.Answers.{copy_answer, fits, if_in_range, if_live, size_refusal}
 use Rattle.rlsf_checked.specs.declared.error.CheckedError.{CheckedError}
 use Rattle.rlsf_c.specs.declared.answers.Answer.{Answer}
 use Rattle.rlsf_c.specs.Answers.{answer_of, code_of, number_of, addr_in}
@@ -20,7 +23,7 @@ pub record IsKept (before after : Seen) : Type 0 where
   pub aligns : align_at after.state ≡ align_at before.state
   pub bytes : bytes_at after.state ≡ bytes_at before.state
 
--- all payloads stay but for the one at an address, and so does what was handed in last
+-- all payloads except the one at an address stay, and so does the last range
 pub record IsKeptBut (addr : ℕ) (before after : Seen) : Type 0 where
   pub classes : after.classes ≡ before.classes
   pub memory : after.memory ≡ before.memory
@@ -28,14 +31,14 @@ pub record IsKeptBut (addr : ℕ) (before after : Seen) : Type 0 where
   pub aligns : (a : ℕ) → a ≢ addr → align_at after.state a ≡ align_at before.state a
   pub bytes : (a : ℕ) → a ≢ addr → bytes_at after.state a ≡ bytes_at before.state a
 
--- a range is inserted: what is answered, and what was handed in last then
+-- a range is inserted: what is returned, and the last range then
 pub record Inserts (expected : Result ℕ CheckedError) (before : Seen) (start : ℕ) (answer : Answer) (after : Seen) : Type 0 where
   pub told : answer ≡ answer_of expected
   pub kept : IsKept before after
   pub pool : answer.error ≡ 0 → after.pool ≡ range_at start answer.value
   pub same : answer.error ≢ 0 → after ≡ before
 
--- a range is appended: what is answered, and what was handed in last then
+-- a range is appended: what is returned, and the last range then
 pub record Appends (expected : Result ℕ CheckedError) (before : Seen) (answer : Answer) (after : Seen) : Type 0 where
   pub told : answer ≡ answer_of expected
   pub kept : IsKept before after
@@ -50,7 +53,7 @@ pub record IsNew (size align addr : ℕ) (before after : Seen) : Type 0 where
   pub few : length (bytes_at after.state addr) < size + 32
   pub kept : IsKeptBut addr before after
 
--- an allocation is refused exactly where there is no such layout, and else exactly where the machine refuses it
+-- an allocation is refused if there is no such layout; else it is refused if and only if the reference model refuses it
 pub record Allocates (before : Seen) (size align : ℕ) (answer : Answer) (after : Seen) : Type 0 where
   pub no_layout : (answer.error ≡ 9) ↔ (IsLayout size align → ⊥)
   pub errors : (answer.error ≡ 0) ⊎ ((answer.error ≡ 9) ⊎ (answer.error ≡ 10))
@@ -58,7 +61,7 @@ pub record Allocates (before : Seen) (size align : ℕ) (answer : Answer) (after
   pub new : answer.error ≡ 0 → IsNew size align answer.value before after
   pub same : answer.error ≢ 0 → after ≡ before
 
--- a payload is given back, if one lives at the address
+-- a payload is deallocated, if one lives at the address
 pub record Frees (before : Seen) (addr answer : ℕ) (after : Seen) : Type 0 where
   pub told : answer ≡ code_of (if_live (align_at before.state addr) tt)
   pub gone : align_at after.state addr ≡ None
@@ -79,7 +82,7 @@ pub record IsResized (addr size to : ℕ) (before after : Seen) : Type 0 where
   pub memory : after.memory ≡ before.memory
   pub pool : after.pool ≡ before.pool
 
--- the refusal that is told is the answer; where none is told, only room may lack
+-- the refusal that is reported is the answer; if none is, only room may be missing
 abbrev pub IsToldBy : Option CheckedError → ℕ → Type 0
 IsToldBy (Some e) error = error ≡ number_of e
 IsToldBy None error = (error ≡ 0) ⊎ (error ≡ 10)
@@ -119,4 +122,41 @@ pub record Writes (before : Seen) (addr offset : ℕ) (bytes : List ℕ) (answer
   pub written : answer ≡ 0 → bytes_at after.state addr ≡ splice (bytes_at before.state addr) offset (offset + length bytes) bytes
   pub aligns : align_at after.state ≡ align_at before.state
   pub kept : IsKeptBut addr before after
+  pub same : answer ≢ 0 → after ≡ before
+
+-- the first bytes of one payload are copied over those of another, if there are so many, and all else stays
+pub record Copies (before : Seen) (from to len answer : ℕ) (after : Seen) : Type 0 where
+  pub told : answer ≡ code_of (copy_answer before.state from to len)
+  pub copied : answer ≡ 0 → bytes_at after.state to ≡ copied_over before.state from to len
+  pub aligns : align_at after.state ≡ align_at before.state
+  pub kept : IsKeptBut to before after
+  pub same : answer ≢ 0 → after ≡ before
+
+-- as many zeros as the payload at an address has bytes
+abbrev pub zeros_for : Seen → ℕ → List ℕ
+zeros_for v addr = replicate (length (bytes_at v.state addr)) 0
+
+-- all bytes of a payload become zeros, and all else stays
+pub record Zeroes (before : Seen) (addr : ℕ) (after : Seen) : Type 0 where
+  pub step : Fills before.state addr (zeros_for before addr) after.state
+  pub zeros : bytes_at after.state addr ≡ zeros_for before addr
+  pub aligns : align_at after.state ≡ align_at before.state
+  pub kept : IsKeptBut addr before after
+
+-- an allocation, after which the payload's bytes become zeros
+pub record AllocatesZeroed (before : Seen) (size align : ℕ) (answer : Answer) (after : Seen) : Type 0 where
+  pub middle : Seen
+  pub allocated : Allocates before size align answer middle
+  pub zeroed : answer.error ≡ 0 → Zeroes middle answer.value after
+  pub new : answer.error ≡ 0 → IsNew size align answer.value before after
+  pub zeros : answer.error ≡ 0 → bytes_at after.state answer.value ≡ zeros_for after answer.value
+  pub same : answer.error ≢ 0 → after ≡ before
+
+-- the last range is removed exactly if no payload lives in it; then the last range is empty, at the same start
+pub record RemovesLast (before : Seen) (answer : ℕ) (after : Seen) : Type 0 where
+  pub errors : (answer ≡ 0) ⊎ (answer ≡ 15)
+  pub idle : (answer ≡ 0) ↔ IsIdle before.state (walked before.pool)
+  pub step : answer ≡ 0 → Removes before.state (walked before.pool) after.state
+  pub kept : IsKept before after
+  pub pool : answer ≡ 0 → after.pool ≡ range_at before.pool.start 0
   pub same : answer ≢ 0 → after ≡ before

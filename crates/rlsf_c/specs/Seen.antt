@@ -15,7 +15,7 @@ use Rattle.rlsf_c.specs.declared.pool.Pool.TheVariants.{Refused, Small, Large}
 abbrev pub PoolValue : Type 0
 PoolValue = Pool
 
--- how many classes each row has, the payloads and blocks, the addresses, and what was handed in last
+-- how many classes each row has, the payloads and blocks, the addresses, and the last range
 pub record Seen : Type 0 where
   pub classes : ℕ
   pub state : State
@@ -42,7 +42,7 @@ status_of (Refused e) = e
 status_of (Small v) = 0
 status_of (Large v) = 0
 
--- what is answered to a range that is inserted
+-- what is returned for a range that is inserted
 abbrev pub insert_result : PoolValue → Range → Result ℕ CheckedError
 insert_result (Refused e) r = Err OutsideMemory
 insert_result (Small v) r = insert_answer 12 v r
@@ -64,11 +64,11 @@ init_refusal kind start len =
 abbrev pub classes_of : ℕ → ℕ
 classes_of kind = if kind == 1 then 16 else 64
 
--- a pool of the kind, with the addresses, of which none was handed in yet
+-- a pool of the kind, with the addresses, into which no range was inserted yet
 abbrev pub fresh : ℕ → ℕ → ℕ → Seen
 fresh kind start len = record { classes = classes_of kind; state = empty; memory = range_at start len; pool = range_at start 0 }
 
--- why no pool was made; or the system refused memory, or there is a pool that is fresh
+-- why no pool was made; or the system is out of memory, or there is a pool that is fresh
 abbrev pub IsMadeBy : Option ℕ → ℕ → ℕ → ℕ → PoolValue → Type 0
 IsMadeBy (Some e) kind start len p = p ≡ Refused e
 IsMadeBy None kind start len p = (p ≡ Refused 2) ⊎ ((status_of p ≡ 0) × (seen p ≡ fresh kind start len))
@@ -76,3 +76,16 @@ IsMadeBy None kind start len p = (p ≡ Refused 2) ⊎ ((status_of p ≡ 0) × (
 -- what is made of a kind, a start and a length
 abbrev pub IsMade : ℕ → ℕ → ℕ → PoolValue → Type 0
 IsMade kind start len p = IsMadeBy (init_refusal kind start len) kind start len p
+
+-- a pool without payloads and without a range, over the same memory
+abbrev pub without_payloads : Seen → Seen
+without_payloads v = record { classes = v.classes; state = empty; memory = v.memory; pool = range_at v.memory.start 0 }
+
+-- what a pool becomes: its payloads and ranges are gone, and the error because of which there is none stays
+pub record IsReset (before after : PoolValue) : Type 0 where
+  pub status : status_of after ≡ status_of before
+  pub seen : seen after ≡ without_payloads (seen before)
+
+-- what is left of a pool that was ended: no allocator, and no error
+abbrev pub ended : PoolValue
+ended = Refused 0

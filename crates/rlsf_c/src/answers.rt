@@ -21,6 +21,9 @@ pub(crate) const TOO_LONG: usize = 13;
 /// No block begins at an address or behind it.
 pub(crate) const NO_BLOCK: usize = 14;
 
+/// A payload is live in the last range.
+pub(crate) const IN_USE: usize = 15;
+
 /// A number, or the error because of which there is none.
 #[repr(C)]
 #[derive(Clone, Copy)]

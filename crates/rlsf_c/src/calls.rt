@@ -1,12 +1,13 @@
 //! The calls of a checked allocator, over numbers.
 
-ghost use Rattle.std.specs.Prelude.{◌≡◌, length};
+ghost use Rattle.std.specs.Prelude.{◌≡◌, length, IsSome};
 ghost use Rattle.rlsf_base.specs.Addr.{at};
+ghost use Rattle.rlsf_machine.specs.Callers.{align_at};
 ghost use Rattle.rlsf_checked.specs.Answers.{append_answer, insert_answer};
-ghost use Rattle.rlsf_c.specs.Calls.{Allocates, Appends, Frees, Inserts, Reads, Resizes, ResizesThere, Tells, Writes};
+ghost use Rattle.rlsf_c.specs.Calls.{Allocates, AllocatesZeroed, Appends, Copies, Frees, Inserts, Reads, RemovesLast, Resizes, ResizesThere, Tells, Writes, Zeroes};
 ghost use Rattle.rlsf_c.specs.Seen.{nothing, seen_in};
 
-use crate::answers::{Answer, number, refused, to_answer, to_code, to_place};
+use crate::answers::{Answer, IN_USE, OK, number, refused, to_answer, to_code, to_place};
 use rlsf_base::memory::{Addr, Layout, Range};
 use rlsf_checked::{CheckedError, CheckedTlsf};
 use rlsf_int::BitPattern;
@@ -143,4 +144,61 @@ pub(crate) fn write<F: BitPattern, S: BitPattern, const FLLEN: usize, const SLLE
         Some(addr) => to_code(heap.write(addr, offset, bytes)),
         None => number(CheckedError::UnknownAddress),
     }
+}
+
+/// Copies the first bytes of a payload over those of another.
+pub(crate) fn copy<F: BitPattern, S: BitPattern, const FLLEN: usize, const SLLEN: usize>(
+    heap: &mut CheckedTlsf<F, S, FLLEN, SLLEN>,
+    from: usize,
+    to: usize,
+    len: usize,
+) -> usize
+    ensures { Copies (seen_in SLLEN heap.old) from to len result (seen_in SLLEN heap.new) }
+{
+    heap.memory_ref();
+    let Some(source) = Addr::new(from) else {
+        return number(CheckedError::UnknownAddress);
+    };
+    let Some(target) = Addr::new(to) else {
+        return number(CheckedError::UnknownAddress);
+    };
+    to_code(heap.copy(source, target, len))
+}
+
+/// Overwrites all bytes of a payload with zeros.
+fn zero<F: BitPattern, S: BitPattern, const FLLEN: usize, const SLLEN: usize>(
+    heap: &mut CheckedTlsf<F, S, FLLEN, SLLEN>,
+    addr: usize,
+)
+    requires { IsSome (align_at heap.old.heap.state addr) }
+    ensures { Zeroes (seen_in SLLEN heap.old) addr (seen_in SLLEN heap.new) }
+{
+    heap.memory_ref();
+    if let Some(addr) = Addr::new(addr) {
+        let _ = heap.fill(addr, 0);
+    }
+}
+
+/// Allocates a payload of zeros.
+pub(crate) fn allocate_zeroed<F: BitPattern, S: BitPattern, const FLLEN: usize, const SLLEN: usize>(
+    heap: &mut CheckedTlsf<F, S, FLLEN, SLLEN>,
+    size: usize,
+    align: usize,
+) -> Answer
+    ensures { AllocatesZeroed (seen_in SLLEN heap.old) size align result (seen_in SLLEN heap.new) }
+{
+    let answer = allocate(heap, size, align);
+    if answer.error == OK {
+        zero(heap, answer.value);
+    }
+    answer
+}
+
+/// Removes the last range if no payload lives in it.
+pub(crate) fn remove_last<F: BitPattern, S: BitPattern, const FLLEN: usize, const SLLEN: usize>(
+    heap: &mut CheckedTlsf<F, S, FLLEN, SLLEN>,
+) -> usize
+    ensures { RemovesLast (seen_in SLLEN heap.old) result (seen_in SLLEN heap.new) }
+{
+    if heap.remove_last() { OK } else { IN_USE }
 }

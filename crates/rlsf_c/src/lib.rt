@@ -4,11 +4,11 @@
 ghost use Rattle.std.specs.Borrow.{sem};
 ghost use Rattle.std.specs.Prelude.{◌≡◌};
 ghost use Rattle.rlsf_base.specs.Range.{range_at};
-ghost use Rattle.rlsf_c.specs.Calls.{Allocates, Appends, Frees, Inserts, Reads, Resizes, ResizesThere, Tells, Writes};
+ghost use Rattle.rlsf_c.specs.Calls.{Allocates, AllocatesZeroed, Appends, Copies, Frees, Inserts, Reads, RemovesLast, Resizes, ResizesThere, Tells, Writes};
 ghost use Rattle.rlsf_c.specs.Handle.{HasRoomForPool, Holds, HoldsSome, room_size};
 ghost use Rattle.rlsf_c.specs.Lengths.{IsLengthForAllocation, IsLengthForPayloads};
-ghost use Rattle.rlsf_c.specs.Seen.{IsMade, PoolValue, append_result, insert_result, seen, status_of};
-ghost use Rattle.rlsf_c.specs.Walks.{IsNext, IsSummary};
+ghost use Rattle.rlsf_c.specs.Seen.{IsMade, IsReset, PoolValue, append_result, ended, insert_result, seen, status_of};
+ghost use Rattle.rlsf_c.specs.Walks.{IsListing, IsNext, IsSummary};
 
 mod answers;
 mod calls;
@@ -17,7 +17,7 @@ mod pool;
 mod walks;
 
 use answers::{Answer, BlockAnswer, Statistics};
-use pool::{Pool, finish};
+use pool::{Pool, discard, finish, reset};
 use std::alloc::Global;
 use std::mem::size_of;
 
@@ -73,14 +73,40 @@ pub unsafe extern "C" fn rlsf_init(
     Pool::status(&mut *(pool as *mut Pool))
 }
 
-/// Drops a pool. Its handle is again room for a pool.
+/// Ends a pool: drops it. Afterwards all calls find a pool whose memory has no address, and another `rlsf_destroy` changes nothing.
 #[unsafe(no_mangle)]
 pub unsafe extern "C" fn rlsf_destroy(pool: *mut u8)
     ghost before: { PoolValue }
     requires* { sem 𝓛 (Holds pool before) }
+    ensures* { sem 𝓛 (HoldsSome pool (λ after. after ≡ ended)) }
+{
+    std::ptr::write(
+        pool as *mut Pool,
+        finish(std::ptr::read(pool as *const Pool)),
+    );
+}
+
+/// Does nothing. It is the law that the handle of an ended pool is room for another, which `rlsf_init` requires.
+#[unsafe(no_mangle)]
+pub unsafe extern "C" fn rlsf_room(pool: *mut u8)
+    ghost before: { PoolValue }
+    requires* { sem 𝓛 (Holds pool before) ∗ ⌜ before ≡ ended ⌝ }
     ensures* { sem 𝓛 (HasRoomForPool pool) }
 {
-    finish(std::ptr::read(pool as *const Pool));
+    discard(std::ptr::read(pool as *const Pool));
+}
+
+/// Frees all payloads and removes all ranges. The memory and its bytes stay.
+#[unsafe(no_mangle)]
+pub unsafe extern "C" fn rlsf_reset(pool: *mut u8)
+    ghost before: { PoolValue }
+    requires* { sem 𝓛 (Holds pool before) }
+    ensures* { sem 𝓛 (HoldsSome pool (λ after. IsReset before after)) }
+{
+    std::ptr::write(
+        pool as *mut Pool,
+        reset(std::ptr::read(pool as *const Pool)),
+    );
 }
 
 /// Returns the number of addresses of the memory. Nothing changes.
@@ -212,4 +238,46 @@ pub unsafe extern "C" fn rlsf_walk(pool: *mut u8, from: usize) -> BlockAnswer
     ensures* { sem 𝓛 (HoldsSome pool (λ after. IsNext (seen before) from result × (after ≡ before))) }
 {
     Pool::walk(&mut *(pool as *mut Pool), from)
+}
+
+/// Lists the blocks that begin at an address or behind it, three numbers for each: where it begins, its length, and 1 if it is used, else
+/// 0. It considers the blocks of the last inserted range, with everything appended to it. Returns how many are listed: all, or as many as
+/// there is room for. Nothing else changes.
+#[unsafe(no_mangle)]
+pub unsafe extern "C" fn rlsf_list(pool: *mut u8, from: usize, into: &mut [usize]) -> usize
+    ghost before: { PoolValue }
+    requires* { sem 𝓛 (Holds pool before) }
+    ensures* { sem 𝓛 (HoldsSome pool (λ after. IsListing (seen before) from into.old result into.new × (after ≡ before))) }
+{
+    Pool::list(&mut *(pool as *mut Pool), from, into)
+}
+
+/// Copies the first `len` bytes of a payload over those of another.
+#[unsafe(no_mangle)]
+pub unsafe extern "C" fn rlsf_copy(pool: *mut u8, from: usize, to: usize, len: usize) -> usize
+    ghost before: { PoolValue }
+    requires* { sem 𝓛 (Holds pool before) }
+    ensures* { sem 𝓛 (HoldsSome pool (λ after. Copies (seen before) from to len result (seen after))) }
+{
+    Pool::copy(&mut *(pool as *mut Pool), from, to, len)
+}
+
+/// Allocates a payload whose bytes are zeros. Returns its address.
+#[unsafe(no_mangle)]
+pub unsafe extern "C" fn rlsf_allocate_zeroed(pool: *mut u8, size: usize, align: usize) -> Answer
+    ghost before: { PoolValue }
+    requires* { sem 𝓛 (Holds pool before) }
+    ensures* { sem 𝓛 (HoldsSome pool (λ after. AllocatesZeroed (seen before) size align result (seen after))) }
+{
+    Pool::allocate_zeroed(&mut *(pool as *mut Pool), size, align)
+}
+
+/// Removes the last inserted range, with everything appended to it, if no payload lives in it. Returns 0, or the error.
+#[unsafe(no_mangle)]
+pub unsafe extern "C" fn rlsf_remove_last(pool: *mut u8) -> usize
+    ghost before: { PoolValue }
+    requires* { sem 𝓛 (Holds pool before) }
+    ensures* { sem 𝓛 (HoldsSome pool (λ after. RemovesLast (seen before) result (seen after))) }
+{
+    Pool::remove_last(&mut *(pool as *mut Pool))
 }

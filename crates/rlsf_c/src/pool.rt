@@ -2,9 +2,9 @@
 
 ghost use Rattle.std.specs.Prelude.{◌≡◌};
 ghost use Rattle.rlsf_base.specs.Range.{range_at};
-ghost use Rattle.rlsf_c.specs.Calls.{Allocates, Appends, Frees, Inserts, Reads, Resizes, ResizesThere, Tells, Writes};
-ghost use Rattle.rlsf_c.specs.Seen.{IsMade, append_result, init_refusal, insert_result, seen, status_of};
-ghost use Rattle.rlsf_c.specs.Walks.{IsNext, IsSummary};
+ghost use Rattle.rlsf_c.specs.Calls.{Allocates, AllocatesZeroed, Appends, Copies, Frees, Inserts, Reads, RemovesLast, Resizes, ResizesThere, Tells, Writes};
+ghost use Rattle.rlsf_c.specs.Seen.{IsMade, IsReset, append_result, ended, init_refusal, insert_result, seen, status_of};
+ghost use Rattle.rlsf_c.specs.Walks.{IsListing, IsNext, IsSummary};
 
 use crate::answers::{
     Answer, BlockAnswer, NO_KIND, OK, Statistics, TOO_LONG, ZERO_START, number, refused,
@@ -185,6 +185,39 @@ impl Pool {
         }
     }
 
+    /// Copies the first bytes of a payload over those of another.
+    pub fn copy(&mut self, from: usize, to: usize, len: usize) -> usize
+        ensures { Copies (seen self.old) from to len result (seen self.new) }
+    {
+        match self {
+            Pool::Refused(_) => number(CheckedError::UnknownAddress),
+            Pool::Small(heap) => calls::copy(heap, from, to, len),
+            Pool::Large(heap) => calls::copy(heap, from, to, len),
+        }
+    }
+
+    /// Allocates a payload of zeros.
+    pub fn allocate_zeroed(&mut self, size: usize, align: usize) -> Answer
+        ensures { AllocatesZeroed (seen self.old) size align result (seen self.new) }
+    {
+        match self {
+            Pool::Refused(_) => calls::allocate_nothing(size, align),
+            Pool::Small(heap) => calls::allocate_zeroed(heap, size, align),
+            Pool::Large(heap) => calls::allocate_zeroed(heap, size, align),
+        }
+    }
+
+    /// Removes the last range if no payload lives in it.
+    pub fn remove_last(&mut self) -> usize
+        ensures { RemovesLast (seen self.old) result (seen self.new) }
+    {
+        match self {
+            Pool::Refused(_) => OK,
+            Pool::Small(heap) => calls::remove_last(heap),
+            Pool::Large(heap) => calls::remove_last(heap),
+        }
+    }
+
     /// Returns the totals of the blocks of the last pool.
     pub fn stats(&mut self) -> Statistics
         ensures { IsSummary (seen self.old) result × (self.new ≡ self.old) }
@@ -206,6 +239,28 @@ impl Pool {
             Pool::Large(heap) => walks::next_block(heap.blocks(), from),
         }
     }
+
+    /// Lists the blocks of the last pool that begin at an address or behind it. Returns how many are listed.
+    pub fn list(&mut self, from: usize, into: &mut [usize]) -> usize
+        ensures { IsListing (seen self.old) from into.old result into.new × (self.new ≡ self.old) }
+    {
+        match self {
+            Pool::Refused(_) => 0,
+            Pool::Small(heap) => walks::list(heap.blocks(), from, into),
+            Pool::Large(heap) => walks::list(heap.blocks(), from, into),
+        }
+    }
+}
+
+/// Returns the pool without payloads and without a range.
+pub fn reset(pool: Pool) -> Pool
+    ensures { IsReset pool result }
+{
+    match pool {
+        Pool::Refused(error) => Pool::Refused(error),
+        Pool::Small(heap) => Pool::Small(heap.reset()),
+        Pool::Large(heap) => Pool::Large(heap.reset()),
+    }
 }
 
 /// Returns the pool unchanged. Its bound shows that everything a pool owns may move to another thread between two calls.
@@ -221,7 +276,15 @@ fn crosses<T: Send>(value: T) -> T
     value
 }
 
+/// Drops a pool. Returns what is left of it, where all calls find a memory without an address.
+pub fn finish(pool: Pool) -> Pool
+    ensures { result ≡ ended }
+{
+    let _ = pool;
+    Pool::Refused(OK)
+}
+
 /// Drops a pool.
-pub fn finish(pool: Pool) {
+pub fn discard(pool: Pool) {
     let _ = pool;
 }

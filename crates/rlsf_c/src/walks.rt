@@ -1,8 +1,9 @@
 //! Statistics and iteration over blocks.
 
-ghost use Rattle.std.specs.Prelude.{◌≡◌, ◌+◌, ◌≤◌};
+ghost use Rattle.std.specs.Prelude.{◌≡◌, ◌+◌, ◌*◌, ◌≤◌, length};
+ghost use Rattle.std.specs.List.{splice};
 ghost use Rattle.rlsf_blocks.specs.Blocks.{IsInOrder};
-ghost use Rattle.rlsf_c.specs.Walks.{IsSummaryOf, block_of, counted, first_from};
+ghost use Rattle.rlsf_c.specs.Walks.{IsListingOf, IsSummaryOf, all_from, block_of, counted, first_from, numbers_of};
 
 use crate::answers;
 use crate::answers::{BlockAnswer, OK, Statistics};
@@ -77,4 +78,33 @@ pub(crate) fn next_block(blocks: Blocks<'_>, from: usize) -> BlockAnswer
         }
     }
     NO_BLOCK
+}
+
+/// Writes three numbers of a block behind those of the `count` blocks before it.
+fn put(into: &mut [usize], count: usize, block: BlockInfo)
+    requires { 3 * count + 3 ≤ length into.old }
+    ensures { into.new ≡ splice into.old (3 * count) (3 * count + 3) (numbers_of block) }
+{
+    let range = block.as_ptr();
+    let numbers = [range.start, range.len, block.is_occupied() as usize];
+    into[3 * count..3 * count + 3].copy_from_slice(&numbers);
+}
+
+/// Lists the blocks that begin at an address or behind it, three numbers for each. Returns how many are listed.
+pub(crate) fn list(blocks: Blocks<'_>, from: usize, into: &mut [usize]) -> usize
+    ensures { IsListingOf (all_from from blocks.entry) into.old result into.new }
+{
+    let room = into.len() / 3;
+    let mut blocks = blocks;
+    let mut count = 0;
+    while let Some(block) = blocks.next() {
+        if block.as_ptr().start >= from {
+            if count == room {
+                return count;
+            }
+            put(into, count, block);
+            count += 1;
+        }
+    }
+    count
 }

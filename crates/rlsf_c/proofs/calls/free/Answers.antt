@@ -21,5 +21,6 @@ returns-in-Some g c =
 pub returns-in-None : goal.returns-in-None
 returns-in-None g c =
     let v = seen_in g.row.SLLEN c.args.heap.now in
-    let none : align_at v.state c.args.addr ≡ None = subst (λ a. align_at v.state a ≡ None) (sym c.in-None.ensures) (none_at_zero g.row.FLLEN g.row.SLLEN c.args.heap.now.heap c.memory_ref.ensures.stands) in
+    let none : align_at v.state c.args.addr ≡ None =
+    subst (λ a. align_at v.state a ≡ None) (sym c.in-None.ensures) (none_at_zero g.row.FLLEN g.row.SLLEN c.args.heap.now.heap c.memory_ref.ensures.stands) in
     subst (λ n. Frees v c.args.addr n v) (sym c.number.ensures) (none_freed v c.args.addr none)

@@ -22,5 +22,6 @@ pub returns-in-None : goal.returns-in-None
 returns-in-None g c =
     let v = seen_in g.row.SLLEN c.args.heap.now in
     let was = c.args.into.now in
-    let none : align_at v.state c.args.addr ≡ None = subst (λ a. align_at v.state a ≡ None) (sym c.in-None.ensures) (none_at_zero g.row.FLLEN g.row.SLLEN c.args.heap.now.heap c.memory_ref.ensures.stands) in
+    let none : align_at v.state c.args.addr ≡ None =
+    subst (λ a. align_at v.state a ≡ None) (sym c.in-None.ensures) (none_at_zero g.row.FLLEN g.row.SLLEN c.args.heap.now.heap c.memory_ref.ensures.stands) in
     subst (λ n. Reads v c.args.addr c.args.offset was n was) (sym c.number.ensures) (none_read v c.args.addr c.args.offset was none)

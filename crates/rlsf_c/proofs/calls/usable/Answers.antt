@@ -9,5 +9,6 @@ use Rattle.rlsf_c.proofs.calls.usable.Goals as goal
 pub returns-in-None : goal.returns-in-None
 returns-in-None g c =
     let v = seen_in g.row.SLLEN c.args.heap.now in
-    let none : align_at v.state c.args.addr ≡ None = subst (λ a. align_at v.state a ≡ None) (sym c.in-None.ensures) (none_at_zero g.row.FLLEN g.row.SLLEN c.args.heap.now.heap c.memory_ref.ensures.stands) in
+    let none : align_at v.state c.args.addr ≡ None =
+    subst (λ a. align_at v.state a ≡ None) (sym c.in-None.ensures) (none_at_zero g.row.FLLEN g.row.SLLEN c.args.heap.now.heap c.memory_ref.ensures.stands) in
     subst (λ r. Tells v c.args.addr r) (sym c.refused.ensures) (none_told v c.args.addr none)

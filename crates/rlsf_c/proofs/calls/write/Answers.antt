@@ -23,5 +23,6 @@ pub returns-in-None : goal.returns-in-None
 returns-in-None g c =
     let v = seen_in g.row.SLLEN c.args.heap.now in
     let bytes = c.args.bytes.now in
-    let none : align_at v.state c.args.addr ≡ None = subst (λ a. align_at v.state a ≡ None) (sym c.in-None.ensures) (none_at_zero g.row.FLLEN g.row.SLLEN c.args.heap.now.heap c.memory_ref.ensures.stands) in
+    let none : align_at v.state c.args.addr ≡ None =
+    subst (λ a. align_at v.state a ≡ None) (sym c.in-None.ensures) (none_at_zero g.row.FLLEN g.row.SLLEN c.args.heap.now.heap c.memory_ref.ensures.stands) in
     subst (λ n. Writes v c.args.addr c.args.offset bytes n v) (sym c.number.ensures) (none_written v c.args.addr c.args.offset bytes none)

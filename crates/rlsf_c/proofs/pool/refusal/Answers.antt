@@ -2,7 +2,7 @@ use Rattle.std.proofs.Common.{ℕ, ◌+◌, ◌^◌, Bool, cond, nat_le, ◌==�
 use Rattle.std.proofs.lemmas.Bool.{ne_eqb}
 use Rattle.rlsf_c.proofs.pool.refusal.Goals as goal
 
--- what is told of a start and a length
+-- what is reported of a start and a length
 told : ℕ → ℕ → Bool → Option ℕ
 told start len known = cond known (cond (start == 0) (Some 12) (cond (nat_le (2 ^ 64) (start + len)) (Some 13) None)) (Some 11)
 

@@ -7,7 +7,8 @@ use Rattle.rlsf_c.proofs.pool.Pool.read.Goals as goal
 pub returns-in-Refused : goal.returns-in-Refused
 returns-in-Refused c = (
   subst (λ p. Reads (seen p) c.args.addr c.args.offset c.args.into.now c.number.result c.args.into.now) (sym c.in-Refused.is)
-      (subst (λ r. Reads nothing c.args.addr c.args.offset c.args.into.now r c.args.into.now) (sym c.number.ensures) (none_read nothing c.args.addr c.args.offset c.args.into.now (none_in_empty c.args.addr))),
+      (subst (λ r. Reads nothing c.args.addr c.args.offset c.args.into.now r c.args.into.now) (sym c.number.ensures)
+      (none_read nothing c.args.addr c.args.offset c.args.into.now (none_in_empty c.args.addr))),
   refl,
 )
 

@@ -7,4 +7,5 @@ use Rattle.rlsf_c.proofs.pool.Pool.write.Goals as goal
 pub returns-in-Refused : goal.returns-in-Refused
 returns-in-Refused c =
     subst (λ p. Writes (seen p) c.args.addr c.args.offset c.args.bytes.now c.number.result (seen p)) (sym c.in-Refused.is)
-    (subst (λ r. Writes nothing c.args.addr c.args.offset c.args.bytes.now r nothing) (sym c.number.ensures) (none_written nothing c.args.addr c.args.offset c.args.bytes.now (none_in_empty c.args.addr)))
+    (subst (λ r. Writes nothing c.args.addr c.args.offset c.args.bytes.now r nothing) (sym c.number.ensures)
+    (none_written nothing c.args.addr c.args.offset c.args.bytes.now (none_in_empty c.args.addr)))

@@ -1,0 +1,84 @@
+/* Lists of the blocks of a heap: they agree with the payloads that the program holds, in each of several pools. */
+#include "rlsf_malloc.h"
+#include <stdio.h>
+#include <stdlib.h>
+#include <string.h>
+
+enum { PAYLOADS = 200, POOLS = 3, LEN = 1 << 16, MOST = 400 };
+_Static_assert(sizeof(rlsf_small_handle) == RLSF_SMALL_HEAP_SIZE && sizeof(rlsf_large_handle) == RLSF_LARGE_HEAP_SIZE, "sizes of handles");
+
+static _Alignas(64) unsigned char memory[POOLS * LEN];
+static rlsf_large_handle handle;
+static size_t taken[POOLS];
+static int failures;
+
+static void want(const char *what, size_t got, size_t wanted) {
+    if (got != wanted) {
+        printf("%s: %zu, wanted %zu\n", what, got, wanted);
+        failures++;
+    }
+}
+#define WANT(call, wanted) want(#call, (size_t)(call), (size_t)(wanted))
+
+static unsigned char *pool(size_t i) { return memory + i * LEN; }
+
+/* A heap with pools that don't touch each other. */
+static rlsf_heap *with_pools(size_t kind) {
+    rlsf_heap *heap = rlsf_heap_begin(&handle, kind, memory, sizeof memory);
+    for (size_t i = 0; i < POOLS; i++) taken[i] = rlsf_heap_add(heap, pool(i), LEN - 64);
+    return heap;
+}
+
+/* The blocks of all pools in arrays of `most`: each payload has one used block, and no other block is used. */
+static void lists(rlsf_heap *heap, void **live, size_t most) {
+    static rlsf_span spans[MOST + 1];
+    size_t found = 0, held = 0;
+    for (size_t i = 0; i < PAYLOADS; i++) held += live[i] != NULL;
+    for (size_t i = 0; i < POOLS; i++) {
+        size_t at = (size_t)pool(i), got;
+        do {
+            memset(spans, 7, sizeof spans);
+            got = rlsf_heap_walk(heap, pool(i), taken[i], (void *)at, spans, most);
+            WANT(spans[got].start, 0x0707070707070707u);
+            for (size_t j = 0; j < got; j++) {
+                WANT(spans[j].start >= at && spans[j].start + spans[j].len <= (size_t)pool(i) + taken[i], 1);
+                at = spans[j].start + spans[j].len;
+                size_t payloads = 0;
+                for (size_t k = 0; k < PAYLOADS; k++) payloads += live[k] && (size_t)live[k] >= spans[j].start && (size_t)live[k] < at;
+                WANT(spans[j].used, payloads);
+                found += payloads;
+            }
+        } while (got == most);
+    }
+    WANT(found, held);
+}
+
+static void run(size_t kind) {
+    rlsf_heap *heap = with_pools(kind);
+    static void *live[PAYLOADS];
+    srand(1);
+    for (size_t i = 0; i < PAYLOADS; i++) live[i] = rlsf_aligned_alloc(heap, (size_t)16 << (i % 4), (size_t)rand() % 1500);
+    for (size_t i = 0; i < PAYLOADS; i += 3) {
+        rlsf_free(heap, live[i]);
+        live[i] = NULL;
+    }
+    lists(heap, live, MOST);
+    lists(heap, live, 7);
+    lists(heap, live, 1);
+    rlsf_span last[MOST], same[MOST];
+    size_t count = rlsf_heap_walk(heap, NULL, 0, NULL, last, MOST);
+    WANT(rlsf_heap_walk(heap, pool(POOLS - 1), taken[POOLS - 1], NULL, same, MOST), count);
+    WANT(memcmp(last, same, count * sizeof *last), 0);
+    WANT(rlsf_heap_walk(heap, NULL, 0, NULL, last, 0), 0);
+    rlsf_heap_end(heap);
+}
+
+int main(void) {
+    WANT(rlsf_small_size() + sizeof(rlsf_heap), RLSF_SMALL_HEAP_SIZE);
+    WANT(rlsf_large_size() + sizeof(rlsf_heap), RLSF_LARGE_HEAP_SIZE);
+    run(RLSF_SMALL);
+    run(RLSF_LARGE);
+    if (failures) return 1;
+    puts("walks: the lists agree with the payloads");
+    return 0;
+}
